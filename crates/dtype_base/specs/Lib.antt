@@ -1,0 +1,5 @@
+pub mod Refusals
+pub mod Nullability
+pub mod Primitives
+pub mod FieldNames
+pub mod Escapes

@@ -1,0 +1,30 @@
+-- The numbers of the refusals, by which documents and tests name them.
+use Rattle.std.specs.Prelude.{ℕ}
+use Rattle.dtype_base.specs.declared.vortex_error.VortexError.{VortexError}
+use Rattle.dtype_base.specs.declared.vortex_error.VortexError.TheVariants.{OutOfMemory, PrecisionZero, PrecisionTooLarge, ScaleTooLarge, ScaleAbovePrecision, NotDecimal, NotPrimitive, NotDecimalPType, BytesLength, MapKeyNullable, UnionTypesLength, UnionTagsLength, UnionEmpty, UnionTagsRepeat, UnionTooMany, UnionNamesRepeat, FieldNotFound, IndexOutOfBounds, DuplicateNames, WidthOverflow, ExactRoot, AllMask, MetadataRefused, ExtensionIdDiffers}
+
+abbrev pub number_of : VortexError → ℕ
+number_of OutOfMemory = 0
+number_of (PrecisionZero max) = 1
+number_of (PrecisionTooLarge precision max) = 2
+number_of (ScaleTooLarge scale max) = 3
+number_of (ScaleAbovePrecision scale precision) = 4
+number_of NotDecimal = 5
+number_of NotPrimitive = 6
+number_of (NotDecimalPType ptype) = 7
+number_of BytesLength = 8
+number_of MapKeyNullable = 9
+number_of UnionTypesLength = 10
+number_of UnionTagsLength = 11
+number_of UnionEmpty = 12
+number_of UnionTagsRepeat = 13
+number_of UnionTooMany = 14
+number_of UnionNamesRepeat = 15
+number_of (FieldNotFound position) = 16
+number_of (IndexOutOfBounds index fields) = 17
+number_of DuplicateNames = 18
+number_of WidthOverflow = 19
+number_of ExactRoot = 20
+number_of AllMask = 21
+number_of MetadataRefused = 22
+number_of ExtensionIdDiffers = 23

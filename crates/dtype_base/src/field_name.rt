@@ -1,0 +1,163 @@
+ghost use Rattle.std.specs.Prelude.{◌≡◌, ◌↔◌, ℕ, IsTrue, IfOk, IsOkUnless, List, Some, nat_eq, string_bytes};
+ghost use Rattle.std.specs.Rc.{rc_str_bytes};
+ghost use Rattle.dtype_base.specs.Escapes.{escaped};
+ghost use Rattle.dtype_base.specs.declared.vortex_error.VortexError.TheVariants.{OutOfMemory};
+
+use crate::VortexResult;
+use std::alloc::Global;
+use std::cmp::Ordering;
+use std::fmt;
+use std::hash::{Hash, Hasher};
+use std::marker::Model;
+use std::rc::RcStr;
+
+/// The name of a field: a text, shared by its copies.
+#[derive(Debug, Drop)]
+pub struct FieldName {
+    inner: RcStr,
+}
+
+impl Model for FieldName {
+    ghost Value = { List ℕ };
+
+    ghost view = { λ n. rc_str_bytes n.inner };
+}
+
+impl FieldName {
+    /// The name with this text. Refuses 0 alone.
+    pub fn new(alloc: Global, text: &str) -> VortexResult<Self>
+        ensures ok { IfOk result (λ n. n ≡ text.now) }
+        ensures refused { IsOkUnless result OutOfMemory }
+    {
+        Ok(FieldName {
+            inner: RcStr::from_str(alloc, text)?,
+        })
+    }
+
+    /// The name with this text, which it keeps.
+    pub fn from_inner(text: RcStr) -> Self
+        ensures { result ≡ rc_str_bytes text }
+    {
+        FieldName { inner: text }
+    }
+
+    /// The shared text.
+    pub fn inner(&self) -> &RcStr
+        ensures { rc_str_bytes result.now ≡ self.now }
+    {
+        &self.inner
+    }
+
+    /// The shared text, given up.
+    pub fn into_inner(self) -> RcStr
+        ensures { rc_str_bytes result ≡ self }
+    {
+        self.inner
+    }
+
+    /// The text.
+    pub fn as_str(&self) -> &str
+        ensures { result.now ≡ self.now }
+    {
+        self.inner.as_str()
+    }
+
+    /// A copy of the text, not escaped. Refuses 0 alone.
+    pub fn to_text(&self, alloc: Global) -> VortexResult<String>
+        ensures ok { IfOk result (λ s. string_bytes s ≡ self.now) }
+        ensures refused { IsOkUnless result OutOfMemory }
+    {
+        Ok(String::from_str(alloc, self.as_str())?)
+    }
+
+    /// Whether the name is this text.
+    pub fn eq_str(&self, text: &str) -> bool
+        ensures { IsTrue result ↔ (self.now ≡ text.now) }
+    {
+        self.as_str() == text
+    }
+
+    /// A name with the same text, which the two share. Refuses 0 alone.
+    pub fn try_clone(&self, _alloc: Global) -> VortexResult<Self>
+        ensures ok { IfOk result (λ n. n ≡ self.now) }
+        ensures refused { IsOkUnless result OutOfMemory }
+    {
+        Ok(FieldName {
+            inner: self.inner.clone()?,
+        })
+    }
+}
+
+impl PartialEq for FieldName {
+    ghost use Rattle.std.specs.Cmp.Lexicographic.{pointwise, nat_list_eq_equiv};
+    ghost use Rattle.std.specs.Cmp.{partial_equiv_from_equiv};
+
+    ghost eq = { pointwise nat_eq };
+
+    ghost laws = { partial_equiv_from_equiv nat_list_eq_equiv };
+
+    fn eq(&self, other: &FieldName) -> bool {
+        self.as_str() == other.as_str()
+    }
+}
+
+impl Eq for FieldName {
+    ghost use Rattle.std.specs.Cmp.Lexicographic.{nat_list_eq_equiv};
+
+    ghost laws = { nat_list_eq_equiv };
+}
+
+/// By the bytes of the texts.
+impl PartialOrd for FieldName {
+    ghost use Rattle.std.specs.Ordering.{nat_cmp};
+    ghost use Rattle.std.specs.Cmp.Lexicographic.{slice_cmp, texts_po};
+
+    ghost partial_cmp = { λ x y. Some (slice_cmp nat_cmp x y) };
+
+    ghost laws = { texts_po };
+
+    fn partial_cmp(&self, other: &FieldName) -> Option<Ordering> {
+        Some(self.cmp(other))
+    }
+}
+
+impl Ord for FieldName {
+    ghost use Rattle.std.specs.Prelude.{refl};
+    ghost use Rattle.std.specs.Ordering.{nat_cmp};
+    ghost use Rattle.std.specs.Cmp.Lexicographic.{slice_cmp, nat_list_cmp_total, texts_ties};
+
+    ghost cmp = { slice_cmp nat_cmp };
+
+    ghost total = { nat_list_cmp_total };
+
+    ghost matches_partial_cmp = { λ x y. refl };
+
+    ghost matches_eq = { texts_ties };
+
+    fn cmp(&self, other: &FieldName) -> Ordering {
+        self.as_str().cmp(other.as_str())
+    }
+}
+
+impl Hash for FieldName {
+    ghost use Rattle.std.specs.Hash as fed;
+    ghost use Rattle.std.proofs.Common.{rules};
+    ghost use Rattle.std.specs.Cmp.Rules.{hashing};
+
+    ghost hash_input = { fed.str };
+
+    ghost respects_eq = { Prim.search (hashing, rules) };
+
+    fn hash<H: Hasher>(&self, state: &mut H) {
+        self.as_str().hash(state);
+    }
+}
+
+/// The text, with what would break a line, a quote or a terminal escaped.
+impl fmt::Display for FieldName {
+    ghost output = { λ n. Some (escaped n) };
+
+    fn fmt<W: fmt::Write>(&self, f: &mut fmt::Formatter<W>) -> fmt::Result {
+        self.as_str().fmt(f)
+    }
+}

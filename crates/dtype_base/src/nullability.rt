@@ -1,0 +1,98 @@
+ghost use Rattle.std.specs.Prelude.{◌≡◌, ◌↔◌, IsTrue, Some, codes, true, false, MatchBool};
+
+use std::fmt;
+use std::ops::{BitOr, BitOrAssign};
+
+/// Whether values of a type may be null.
+#[derive(Clone, Copy, Debug, Default, PartialEq, Eq, Hash)]
+pub enum Nullability {
+    /// No value is null.
+    #[default]
+    NonNullable,
+    /// A value may be null.
+    Nullable,
+}
+
+impl Nullability {
+    ghost use Rattle.dtype_base.specs.Nullability.{long_text};
+
+    /// Whether values may be null.
+    pub fn is_nullable(&self) -> bool
+        ensures { IsTrue result ↔ (self.now ≡ Nullability.Nullable) }
+    {
+        match self {
+            Nullability::NonNullable => false,
+            Nullability::Nullable => true,
+        }
+    }
+
+    /// The variant's name, for messages.
+    pub fn long_text(&self) -> &'static str
+        ensures { result.now ≡ long_text self.now }
+    {
+        match self {
+            Nullability::NonNullable => "NonNullable",
+            Nullability::Nullable => "Nullable",
+        }
+    }
+}
+
+impl BitOr for Nullability {
+    ghost use Rattle.dtype_base.specs.Nullability.{either};
+
+    type Output = Nullability;
+
+    ghost bitor_gives = { λ a b c. c ≡ either a b };
+
+    fn bitor(self, other: Nullability) -> Nullability {
+        match self {
+            Nullability::NonNullable => other,
+            Nullability::Nullable => Nullability::Nullable,
+        }
+    }
+}
+
+impl BitOrAssign for Nullability {
+    ghost use Rattle.dtype_base.specs.Nullability.{either};
+
+    fn bitor_assign(&mut self, other: Nullability) {
+        *self = *self | other;
+    }
+}
+
+impl From<bool> for Nullability {
+    ghost use Rattle.dtype_base.specs.Nullability.{nullability_of};
+
+    ghost from_gives = { λ b n. n ≡ nullability_of b };
+
+    fn from(nullable: bool) -> Nullability {
+        if nullable {
+            Nullability::Nullable
+        } else {
+            Nullability::NonNullable
+        }
+    }
+}
+
+impl From<Nullability> for bool {
+    ghost use Rattle.dtype_base.specs.Nullability.{nullability_of};
+
+    ghost from_gives = { λ n b. nullability_of b ≡ n };
+
+    fn from(nullability: Nullability) -> bool {
+        nullability.is_nullable()
+    }
+}
+
+impl fmt::Display for Nullability {
+    ghost use Rattle.dtype_base.specs.Nullability.{nullability_text};
+
+    ghost output = { λ n. Some (nullability_text n) };
+
+    fn fmt<W: fmt::Write>(&self, f: &mut fmt::Formatter<W>) -> fmt::Result {
+        match self {
+            Nullability::NonNullable => write!(f, ""),
+            Nullability::Nullable => write!(f, "?"),
+        }
+    }
+}

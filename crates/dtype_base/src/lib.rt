@@ -13,6 +13,8 @@ mod field_name;
 mod field_names;
 mod nullability;
 mod ptype;
+#[cfg(test)]
+mod tests;
 mod vortex_error;
 
 pub use field_name::FieldName;

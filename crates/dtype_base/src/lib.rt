@@ -9,6 +9,7 @@
 // of a name). What is proved, and what is only tested, is in the README.
 #![tactic(auto)]
 
+mod decimal;
 mod field_name;
 mod field_names;
 mod nullability;
@@ -17,6 +18,7 @@ mod ptype;
 mod tests;
 mod vortex_error;
 
+pub use decimal::DecimalDType;
 pub use field_name::FieldName;
 pub use field_names::FieldNames;
 pub use nullability::Nullability;

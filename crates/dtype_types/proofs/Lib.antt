@@ -1,0 +1,5 @@
+pub mod TreeLaws
+pub mod ValidLaws
+pub mod FieldLookups
+pub mod OtherKinds
+pub mod Turns

@@ -1,0 +1,9 @@
+pub mod Tree
+pub mod Nullable
+pub mod Valid
+pub mod Erase
+pub mod Lookups
+pub mod Text
+pub mod TreeOf
+pub mod Equality
+pub mod EqualityLaws

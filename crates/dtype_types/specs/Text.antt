@@ -1,0 +1,2 @@
+-- later
+use Rattle.std.specs.Prelude.{ℕ}

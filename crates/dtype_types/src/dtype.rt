@@ -1,0 +1,34 @@
+use crate::{ExtDTypeRef, MapDType, StructFields, UnionVariants};
+use dtype_base::{DecimalDType, Nullability, PType};
+
+/// A logical type: what values may be, whatever the layout in which they are stored.
+#[derive(Debug, Drop)]
+#[cycle(dtype)]
+pub enum DType {
+    /// Null alone; it is nullable.
+    Null,
+    /// Truth values.
+    Bool(Nullability),
+    /// Numbers of a primitive type.
+    Primitive(PType, Nullability),
+    /// Decimal numbers of a precision and a scale.
+    Decimal(DecimalDType, Nullability),
+    /// Texts.
+    Utf8(Nullability),
+    /// Bytes.
+    Binary(Nullability),
+    /// Lists of any length of an element type.
+    List(Box<DType>, Nullability),
+    /// Lists of one length of an element type.
+    FixedSizeList(Box<DType>, u32, Nullability),
+    /// Entries of a key type and a value type.
+    Map(MapDType, Nullability),
+    /// Fields in order, each of its type.
+    Struct(StructFields, Nullability),
+    /// One of several variants, told by its tag.
+    Union(UnionVariants, Nullability),
+    /// Values whose types they say themselves.
+    Variant(Nullability),
+    /// A type of another library, stored as a type of this one. It has its storage's nullability.
+    Extension(ExtDTypeRef),
+}

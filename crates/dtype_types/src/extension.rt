@@ -1,0 +1,138 @@
+ghost use Rattle.std.specs.Prelude.{◌≡◌, ◌↔◌, ℕ, IsTrue, IfOk, IsOkUnless, List, Some, nat_eq};
+ghost use Rattle.std.specs.Prelude.{◌&&◌};
+ghost use Rattle.std.specs.Str.{bytes_eq};
+ghost use Rattle.std.specs.Rc.{rc_str_bytes};
+ghost use Rattle.dtype_base.specs.declared.vortex_error.VortexError.TheVariants.{OutOfMemory};
+
+use crate::DType;
+use crate::equality::{Nullabilities, agree};
+use dtype_base::{Nullability, VortexResult};
+use std::alloc::Global;
+use std::fmt;
+use std::marker::Model;
+use std::rc::RcStr;
+
+/// The id of an extension type: a text.
+#[derive(Debug, Drop)]
+pub struct ExtId {
+    text: RcStr,
+}
+
+impl Model for ExtId {
+    ghost Value = { List ℕ };
+
+    ghost view = { λ id. rc_str_bytes id.text };
+}
+
+impl ExtId {
+    /// The id with this text. Refuses 0 (OutOfMemory) alone.
+    pub fn new(alloc: Global, text: &str) -> VortexResult<Self>
+        ensures ok { IfOk result (λ id. id ≡ text.now) }
+        ensures refused { IsOkUnless result OutOfMemory }
+    {
+        Ok(ExtId {
+            text: RcStr::from_str(alloc, text)?,
+        })
+    }
+
+    /// The text.
+    pub fn as_str(&self) -> &str
+        ensures { result.now ≡ self.now }
+    {
+        self.text.as_str()
+    }
+
+    /// An id with the same text, which the two share. Refuses 0 (OutOfMemory) alone.
+    pub fn try_clone(&self, _alloc: Global) -> VortexResult<Self>
+        ensures ok { IfOk result (λ id. id ≡ self.now) }
+        ensures refused { IsOkUnless result OutOfMemory }
+    {
+        Ok(ExtId {
+            text: self.text.clone()?,
+        })
+    }
+}
+
+impl PartialEq for ExtId {
+    ghost use Rattle.std.specs.Cmp.Lexicographic.{pointwise, nat_list_eq_equiv};
+    ghost use Rattle.std.specs.Cmp.{partial_equiv_from_equiv};
+
+    ghost eq = { pointwise nat_eq };
+
+    ghost laws = { partial_equiv_from_equiv nat_list_eq_equiv };
+
+    fn eq(&self, other: &ExtId) -> bool {
+        self.as_str() == other.as_str()
+    }
+}
+
+impl Eq for ExtId {
+    ghost use Rattle.std.specs.Cmp.Lexicographic.{nat_list_eq_equiv};
+
+    ghost laws = { nat_list_eq_equiv };
+}
+
+/// The text as it stands.
+impl fmt::Display for ExtId {
+    ghost output = { λ id. Some id };
+
+    fn fmt<W: fmt::Write>(&self, f: &mut fmt::Formatter<W>) -> fmt::Result {
+        self.as_str().fmt(f)
+    }
+}
+
+/// An extension type without its library: the id, the metadata as bytes, and the storage type.
+#[derive(Debug, Drop)]
+#[cycle(dtype)]
+pub struct ExtDTypeRef {
+    id: ExtId,
+    metadata: Vec<u8>,
+    storage: Box<DType>,
+}
+
+impl ExtDTypeRef {
+    ghost use Rattle.dtype_types.specs.Nullable.{nullability, IsNullable};
+    ghost use Rattle.dtype_types.specs.Equality.{agree};
+    ghost use Rattle.dtype_types.specs.TreeOf.{extension_metadata, extension_id, storage_tree, tree};
+
+    /// The id.
+    pub fn id(&self) -> &ExtId
+        ensures { result.now ≡ extension_id self.now }
+    {
+        &self.id
+    }
+
+    /// The outer nullability: the storage's.
+    #[cycle(nullability)]
+    pub fn nullability(&self) -> Nullability
+        ensures { result ≡ nullability (storage_tree self.now) }
+    {
+        self.storage.nullability()
+    }
+
+    /// Whether values may be null.
+    pub fn is_nullable(&self) -> bool
+        ensures { IsTrue result ↔ IsNullable (storage_tree self.now) }
+    {
+        self.nullability().is_nullable()
+    }
+
+    /// The storage type.
+    pub fn storage_dtype(&self) -> &DType
+        ensures { tree result.now ≡ storage_tree self.now }
+    {
+        &self.storage
+    }
+
+    // Whether the ids and the metadata are equal and the storages agree.
+    #[cycle(agree)]
+    pub(crate) fn agree(&self, other: &ExtDTypeRef, rule: Nullabilities) -> bool
+        ensures { result ≡ (bytes_eq (extension_id self.now) (extension_id other.now)
+            && bytes_eq (extension_metadata self.now) (extension_metadata other.now)
+            && agree rule (storage_tree self.now) (storage_tree other.now)) }
+    {
+        self.id == other.id
+            && self.metadata.as_slice() == other.metadata.as_slice()
+            && agree(&self.storage, &other.storage, rule)
+    }
+}

@@ -5,10 +5,9 @@ use Rattle.std.specs.declared.alloc.Global.{Global}
 use Rattle.std.proofs.Common.{ap, sym, ◌∙◌, rules}
 use Rattle.std.specs.List.{zip}
 use Rattle.dtype_base.specs.declared.nullability.Nullability.{Nullability}
-use Rattle.dtype_types.specs.Lookups.{struct_fields, list_element}
-use Rattle.dtype_types.specs.Tree.{null, map_of, Tree, Fields, Variants, pairs, fields, variants, struct, union}
-use Rattle.dtype_types.specs.TreeOf.{tree, children, choices, MapParts, ExtensionParts, type_step, extension_step, map_step, struct_step, union_step}
-use Rattle.dtype_types.specs.declared.dtype.DType.{DType, Map, Null, Bool, Primitive, Decimal, Utf8, Binary, Variant, List as list_of, List', FixedSizeList', Map', Struct, Struct', Union, Union', Extension', roll-out-DType, roll-DType}
+use Rattle.dtype_types.specs.Tree.{null, map_of, Tree, Fields, Variants, pairs, triples, fields, variants, struct, union}
+use Rattle.dtype_types.specs.TreeOf.{tree, extension_tree, children, choices, MapParts, ExtensionParts, type_step, extension_step, map_step, struct_step, union_step}
+use Rattle.dtype_types.specs.declared.dtype.DType.{DType, Map, Null, Bool, Primitive, Decimal, Utf8, Binary, Variant, List as list_of, List', FixedSizeList', Map', Struct, Struct', Union, Union', Extension, Extension', roll-out-DType, roll-DType}
 use Rattle.dtype_types.specs.declared.dtype.DType.TheViews.{rolls-Struct, outs-Struct', rolls-Union, outs-Union'}
 use denote.Hole.Carrier
 use Rattle.dtype_types.specs.declared.dtype.DType.{out-DType, fold_out-DType, fold-roll-DType, the_lemmas}
@@ -16,6 +15,7 @@ use Rattle.dtype_types.specs.declared.struct_fields.StructFields.{fold_out-Struc
 use Rattle.dtype_types.specs.declared.union_variants.UnionVariants.{fold_out-UnionVariants}
 use Rattle.dtype_types.specs.declared.struct_fields.StructFields.{StructFields}
 use Rattle.dtype_types.specs.declared.union_variants.UnionVariants.{UnionVariants}
+use Rattle.dtype_types.specs.declared.extension.ExtDTypeRef.{ExtDTypeRef, fold_out-ExtDTypeRef}
 use Rattle.dtype_types.specs.declared.map.MapDType.{MapDType, fold_out-MapDType}
 
 pub tree_null : tree Null ≡ null
@@ -30,12 +30,16 @@ tree_struct s n = search (rules, the_lemmas, fold_out-DType, fold-roll-DType, fo
 pub tree_union : (u : UnionVariants) (n : Nullability) → tree (Union u n) ≡ union (variants (choices u)) n
 tree_union u n = search (rules, the_lemmas, fold_out-DType, fold-roll-DType, fold_out-UnionVariants)
 
+pub tree_extension : (e : ExtDTypeRef) → tree (Extension e) ≡ extension_tree e
+tree_extension e = search (rules, the_lemmas, fold_out-DType, fold-roll-DType, fold_out-ExtDTypeRef)
+
 pub pairs_fields : (ps : List (List ℕ × Tree)) → pairs (fields ps) ≡ ps
 pairs_fields [] = refl
 pairs_fields (p ∷ ps) = ap (λ qs. p ∷ qs) (pairs_fields ps)
 
-pub struct_fields_struct : (s : StructFields) (n : Nullability) → struct_fields (tree (Struct s n)) ≡ Some (children s)
-struct_fields_struct s n = ap struct_fields (tree_struct s n) ∙ ap Some (pairs_fields (children s))
+pub triples_variants : (ps : List (List ℕ × Tree × ℕ)) → triples (variants ps) ≡ ps
+triples_variants [] = refl
+triples_variants (p ∷ ps) = ap (λ qs. p ∷ qs) (triples_variants ps)
 
 -- a row's struct is a struct of a list
 pub struct_is : (ns : _) (sh : _) (row : _) (n : Nullability) → (s : StructFields) × (Struct' ns sh row n ≡ Struct s n)
@@ -47,13 +51,3 @@ pub union_is : (ns : _) (sh : _) (row : _) (gs : _) (n : Nullability) → (u : U
 union_is ns sh row gs n =
     let d : DType = Union' ns sh row gs n in
     (_, sym (roll-out-DType d) ∙ ap roll-DType (outs-Union' ns sh row gs n) ∙ rolls-Union _ n)
-
-pub struct_fields_none : (d : DType) → ((s : StructFields) (n : Nullability) → d ≡ Struct s n → ⊥) → struct_fields (tree d) ≡ None
-unfolding out-DType Carrier.out
-struct_fields_none (Struct' ns sh row n) h = let e = struct_is ns sh row n in absurd (h e.0 n e.1)
-struct_fields_none d h = ap struct_fields (fold_out-DType Tree ExtensionParts MapParts Fields Variants type_step extension_step map_step struct_step union_step d)
-
-pub list_element_none : (d : DType) → ((b : Box DType Global) (n : Nullability) → d ≡ list_of b n → ⊥) → list_element (tree d) ≡ None
-unfolding out-DType Carrier.out
-list_element_none (List' b e n) h = absurd (h (record { ptr = b.ptr; alloc = b.alloc; value = e }) n refl)
-list_element_none d h = ap list_element (fold_out-DType Tree ExtensionParts MapParts Fields Variants type_step extension_step map_step struct_step union_step d)

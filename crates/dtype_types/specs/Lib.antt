@@ -3,6 +3,7 @@ pub mod Nullable
 pub mod Valid
 pub mod Erase
 pub mod Lookups
+pub mod Kinds
 pub mod Text
 pub mod TreeOf
 pub mod Equality

@@ -1,6 +1,6 @@
 -- Outer nullability, and a type with another. From the documentation of `DType::nullability` and
 -- `DType::with_nullability`: `Null` is nullable, and an extension has its storage's nullability.
-use Rattle.std.specs.Prelude.{◌≡◌, Option, Some, None, option_and_then}
+use Rattle.std.specs.Prelude.{◌≡◌, Option, Some, None, IsSome, option_and_then}
 use Rattle.dtype_base.specs.declared.nullability.Nullability.{Nullability}
 use Rattle.dtype_base.specs.declared.nullability.Nullability.TheVariants.{NonNullable, Nullable}
 use Rattle.dtype_types.specs.Tree.{Tree, null, bool, primitive, decimal, utf8, binary, list, fixed_size_list, map_of, struct, union, variant, extension}
@@ -44,3 +44,7 @@ set_null (extension id b s) n = option_and_then (λ x. Some (extension id b x)) 
 -- u is t with the outer nullability n
 abbrev pub SetNull : Tree → Nullability → Tree → Type 0
 SetNull t n u = set_null t n ≡ Some u
+
+-- the type can be made non-nullable
+abbrev pub CanBeNonNullable : Tree → Type 0
+CanBeNonNullable t = IsSome (set_null t NonNullable)

@@ -4,7 +4,9 @@ use Rattle.std.specs.Prelude.{◌≡◌, ℕ, List, [], ◌∷◌, map, Option, 
 use Rattle.std.specs.Borrow.{Bor}
 use Rattle.std.specs.List.{zip}
 use Rattle.dtype_types.specs.Tree.{Tree, Fields, fields, Variants, variants, null, bool, primitive, decimal, utf8, binary, list, fixed_size_list, map_of, struct, union, variant, extension}
-use Rattle.dtype_types.specs.Valid.{Valid, ValidFields, ValidVariants}
+use Rattle.dtype_types.specs.Nullable.{nullability}
+use Rattle.dtype_types.specs.Valid.{Valid, ValidFields, ValidVariants, HasVariant}
+use Rattle.dtype_base.specs.declared.nullability.Nullability.TheVariants.{NonNullable}
 use Rattle.dtype_types.specs.declared.dtype.DType.{DType}
 use Rattle.dtype_types.specs.declared.dtype.DType.TheOpen as o
 use Rattle.dtype_types.specs.declared.dtype.DType.TheOpen.{DType-F, ExtDTypeRef-F, MapDType-F, StructFields-F, UnionVariants-F}
@@ -115,12 +117,22 @@ abbrev pub option_children : Option (Bor StructFields) → Option (List (List �
 option_children None = None
 option_children (Some s) = Some (children s.now)
 
--- every field, or every variant, is of a valid type, and the variants keep a union's rules
-abbrev pub ValidStruct : StructFields → Type 0
-ValidStruct s = ValidFields (fields (children s))
-
+-- the fields of a struct and the variants of a union, as they stand in a tree
 abbrev pub struct_tree : StructFields → Fields
 struct_tree s = fields (children s)
 
 abbrev pub union_tree : UnionVariants → Variants
 union_tree u = variants (choices u)
+
+-- what holds of the parts of a valid type
+abbrev pub ValidStruct : StructFields → Type 0
+ValidStruct s = ValidFields (struct_tree s)
+
+abbrev pub ValidUnion : UnionVariants → Type 0
+ValidUnion u = HasVariant (union_tree u) × ValidVariants (union_tree u)
+
+abbrev pub ValidMap : MapDType → Type 0
+ValidMap m = (nullability (key_tree m) ≡ NonNullable) × Valid (key_tree m) × Valid (value_tree m)
+
+abbrev pub ValidExtension : ExtDTypeRef → Type 0
+ValidExtension e = Valid (extension_tree e)

@@ -70,9 +70,7 @@ pub(crate) fn agree(a: &DType, b: &DType, rule: Nullabilities) -> bool
             _ => false,
         },
         DType::FixedSizeList(t, j, m) => match b {
-            DType::FixedSizeList(u, k, n) => {
-                agree(t, u, rule) && *j == *k && rule.allow(*m, *n)
-            }
+            DType::FixedSizeList(u, k, n) => { agree(t, u, rule) && *j == *k && rule.allow(*m, *n) }
             _ => false,
         },
         DType::Map(t, m) => match b {

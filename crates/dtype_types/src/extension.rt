@@ -5,6 +5,7 @@ ghost use Rattle.std.specs.Rc.{rc_str_bytes};
 ghost use Rattle.dtype_base.specs.declared.vortex_error.VortexError.TheVariants.{OutOfMemory};
 
 use crate::DType;
+use crate::copies::boxed_copy;
 use crate::equality::{Nullabilities, agree};
 use dtype_base::{Nullability, VortexResult};
 use std::alloc::Global;
@@ -91,9 +92,9 @@ pub struct ExtDTypeRef {
 }
 
 impl ExtDTypeRef {
-    ghost use Rattle.dtype_types.specs.Nullable.{nullability, IsNullable};
+    ghost use Rattle.dtype_types.specs.Nullable.{nullability, IsNullable, CanBeNonNullable, SetNull};
     ghost use Rattle.dtype_types.specs.Equality.{agree};
-    ghost use Rattle.dtype_types.specs.TreeOf.{extension_metadata, extension_id, storage_tree, tree};
+    ghost use Rattle.dtype_types.specs.TreeOf.{extension_tree, ValidExtension, extension_metadata, extension_id, storage_tree, tree};
 
     /// The id.
     pub fn id(&self) -> &ExtId
@@ -134,5 +135,49 @@ impl ExtDTypeRef {
         self.id == other.id
             && self.metadata.as_slice() == other.metadata.as_slice()
             && agree(&self.storage, &other.storage, rule)
+    }
+
+    /// An extension type equal to this one. Refuses 0 (OutOfMemory) alone.
+    #[cycle(copy)]
+    pub fn try_clone(&self, alloc: Global) -> VortexResult<Self>
+        ensures same { IfOk result (λ e. extension_tree e ≡ extension_tree self.now) }
+        ensures valid { ValidExtension self.now → IfOk result (λ e. ValidExtension e) }
+        ensures refused { IsOkUnless result OutOfMemory }
+    {
+        let id = self.id.try_clone(alloc)?;
+        let metadata = Vec::from_slice(alloc, &self.metadata)?;
+        let storage = boxed_copy(alloc, &self.storage)?;
+        Ok(ExtDTypeRef {
+            id,
+            metadata,
+            storage,
+        })
+    }
+
+    // Whether the storage can be made non-nullable.
+    #[cycle(can_be_nonnullable)]
+    pub(crate) fn can_be_nonnullable(&self) -> bool
+        ensures { IsTrue result ↔ CanBeNonNullable (extension_tree self.now) }
+    {
+        self.storage.can_be_nonnullable()
+    }
+
+    /// The extension with the storage's outer nullability changed; the id and the metadata stay.
+    /// Where non-nullable is asked, the storage can be. Refuses 0 (OutOfMemory) alone.
+    #[cycle(with_nullability)]
+    pub fn with_nullability(&self, alloc: Global, n: Nullability) -> VortexResult<Self>
+        requires { n ≡ Nullability.NonNullable → CanBeNonNullable (extension_tree self.now) }
+        ensures set { IfOk result (λ e. SetNull (extension_tree self.now) n (extension_tree e)) }
+        ensures valid { ValidExtension self.now → IfOk result (λ e. ValidExtension e) }
+        ensures refused { IsOkUnless result OutOfMemory }
+    {
+        let storage = self.storage.with_nullability(alloc, n)?;
+        let id = self.id.try_clone(alloc)?;
+        let metadata = Vec::from_slice(alloc, &self.metadata)?;
+        Ok(ExtDTypeRef {
+            id,
+            metadata,
+            storage: Box::new(alloc, storage)?,
+        })
     }
 }

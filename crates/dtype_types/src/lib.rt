@@ -9,11 +9,13 @@
 // `Text`. What is proved, and what is only tested, is in the README.
 #![tactic(auto)]
 
+mod copies;
 mod dtype;
-mod dtype_impl;
 mod equality;
 mod extension;
+mod kind;
 mod map;
+mod nullable;
 mod struct_fields;
 mod union_variants;
 

@@ -1,8 +1,12 @@
-ghost use Rattle.std.specs.Prelude.{◌≡◌, ◌&&◌};
+ghost use Rattle.std.specs.Prelude.{◌≡◌, ◌&&◌, IfOk, IsOkUnless};
+ghost use Rattle.dtype_base.specs.declared.vortex_error.VortexError.TheVariants.{OutOfMemory};
 ghost use Rattle.std.proofs.Math.Bool.{beq};
 
 use crate::DType;
+use crate::copies::boxed_copy;
 use crate::equality::{Nullabilities, agree};
+use dtype_base::VortexResult;
+use std::alloc::Global;
 
 /// The type of a map's entries: keys, values, and whether the keys are sorted.
 #[derive(Debug, Drop)]
@@ -15,7 +19,7 @@ pub struct MapDType {
 
 impl MapDType {
     ghost use Rattle.dtype_types.specs.Equality.{agree};
-    ghost use Rattle.dtype_types.specs.TreeOf.{key_tree, value_tree, are_keys_sorted};
+    ghost use Rattle.dtype_types.specs.TreeOf.{key_tree, value_tree, are_keys_sorted, ValidMap};
 
     // Whether the parts of the two agree.
     #[cycle(agree)]
@@ -27,5 +31,23 @@ impl MapDType {
         agree(&self.key, &other.key, rule)
             && agree(&self.value, &other.value, rule)
             && self.keys_sorted == other.keys_sorted
+    }
+
+    /// A map type equal to this one. Refuses 0 (OutOfMemory) alone.
+    #[cycle(copy)]
+    pub fn try_clone(&self, alloc: Global) -> VortexResult<Self>
+        ensures key { IfOk result (λ m. key_tree m ≡ key_tree self.now) }
+        ensures value { IfOk result (λ m. value_tree m ≡ value_tree self.now) }
+        ensures sorted { IfOk result (λ m. are_keys_sorted m ≡ are_keys_sorted self.now) }
+        ensures valid { ValidMap self.now → IfOk result (λ m. ValidMap m) }
+        ensures refused { IsOkUnless result OutOfMemory }
+    {
+        let key = boxed_copy(alloc, &self.key)?;
+        let value = boxed_copy(alloc, &self.value)?;
+        Ok(MapDType {
+            key,
+            value,
+            keys_sorted: self.keys_sorted,
+        })
     }
 }

@@ -4,6 +4,7 @@ ghost use Rattle.dtype_base.specs.FieldNames.{FirstAt, IsAbsent};
 ghost use Rattle.dtype_base.specs.declared.vortex_error.VortexError.TheVariants.{OutOfMemory};
 
 use crate::DType;
+use crate::copies::copies_of;
 use crate::equality::{Nullabilities, agree};
 use dtype_base::{FieldName, FieldNames, VortexResult};
 use std::alloc::Global;
@@ -122,5 +123,18 @@ impl StructFields {
             }
         }
         true
+    }
+
+    /// Fields equal to these. Refuses 0 (OutOfMemory) alone.
+    #[cycle(copy)]
+    pub fn try_clone(&self, alloc: Global) -> VortexResult<Self>
+        ensures names { IfOk result (λ s. names_of s ≡ names_of self.now) }
+        ensures types { IfOk result (λ s. types_of s ≡ types_of self.now) }
+        ensures valid { ValidStruct self.now → IfOk result (λ s. ValidStruct s) }
+        ensures refused { IsOkUnless result OutOfMemory }
+    {
+        let names = self.names.try_clone(alloc)?;
+        let dtypes = copies_of(alloc, &self.dtypes)?;
+        Ok(StructFields { names, dtypes })
     }
 }

@@ -1,8 +1,11 @@
-ghost use Rattle.std.specs.Prelude.{◌≡◌, ◌≤◌, length};
+ghost use Rattle.std.specs.Prelude.{◌≡◌, ◌≤◌, length, IfOk, IsOkUnless};
+ghost use Rattle.dtype_base.specs.declared.vortex_error.VortexError.TheVariants.{OutOfMemory};
 
 use crate::DType;
+use crate::copies::copies_of;
 use crate::equality::{Nullabilities, agree};
-use dtype_base::FieldNames;
+use dtype_base::{FieldNames, VortexResult};
+use std::alloc::Global;
 
 /// The variants of a union in order, each a name, a type and a tag.
 #[derive(Debug, Drop)]
@@ -15,7 +18,7 @@ pub struct UnionVariants {
 
 impl UnionVariants {
     ghost use Rattle.dtype_types.specs.Equality.{agree_variants};
-    ghost use Rattle.dtype_types.specs.TreeOf.{union_tree, choices, variant_names, variant_types, variant_tags};
+    ghost use Rattle.dtype_types.specs.TreeOf.{union_tree, choices, variant_names, variant_types, variant_tags, ValidUnion};
 
     // How many variants there are: as far as all lists go.
     fn count(&self) -> usize
@@ -57,5 +60,24 @@ impl UnionVariants {
             }
         }
         true
+    }
+
+    /// Variants equal to these. Refuses 0 (OutOfMemory) alone.
+    #[cycle(copy)]
+    pub fn try_clone(&self, alloc: Global) -> VortexResult<Self>
+        ensures names { IfOk result (λ u. variant_names u ≡ variant_names self.now) }
+        ensures types { IfOk result (λ u. variant_types u ≡ variant_types self.now) }
+        ensures tags { IfOk result (λ u. variant_tags u ≡ variant_tags self.now) }
+        ensures valid { ValidUnion self.now → IfOk result (λ u. ValidUnion u) }
+        ensures refused { IsOkUnless result OutOfMemory }
+    {
+        let names = self.names.try_clone(alloc)?;
+        let dtypes = copies_of(alloc, &self.dtypes)?;
+        let type_ids = Vec::from_slice(alloc, &self.type_ids)?;
+        Ok(UnionVariants {
+            names,
+            dtypes,
+            type_ids,
+        })
     }
 }

@@ -3,4 +3,3 @@ pub mod Nullability
 pub mod Primitives
 pub mod FieldNames
 pub mod Escapes
-pub mod Decimals

@@ -9,7 +9,6 @@
 // of a name). What is proved, and what is only tested, is in the README.
 #![tactic(auto)]
 
-mod decimal;
 mod field_name;
 mod field_names;
 mod nullability;
@@ -18,7 +17,6 @@ mod ptype;
 mod tests;
 mod vortex_error;
 
-pub use decimal::DecimalDType;
 pub use field_name::FieldName;
 pub use field_names::FieldNames;
 pub use nullability::Nullability;

@@ -11,6 +11,7 @@
 
 mod field_name;
 mod field_names;
+pub mod laws;
 mod nullability;
 mod ptype;
 #[cfg(test)]

@@ -38,7 +38,7 @@ abbrev mutual
   text null = codes "null"
   text (bool n) = codes "bool" ++ nullability_text n
   text (primitive p n) = (row p).text ++ nullability_text n
-  text (decimal p s n) = decimal_text (p, s) ++ nullability_text n
+  text (decimal d n) = decimal_text d ++ nullability_text n
   text (utf8 n) = codes "utf8" ++ nullability_text n
   text (binary n) = codes "binary" ++ nullability_text n
   text (list t n) = codes "list(" ++ (text t ++ (codes ")" ++ nullability_text n))

@@ -11,16 +11,23 @@ use Rattle.dtype_types.specs.Tree.{Tree, null, bool, primitive, decimal, utf8, b
 use Rattle.dtype_types.specs.Lookups.{first_named}
 use Rattle.dtype_types.specs.Nullable.{set_null}
 use Rattle.dtype_types.specs.Valid.{Valid, ValidFields}
-use Rattle.dtype_types.specs.TreeOf.{tree, children, ValidStruct}
-use Rattle.dtype_types.proofs.TreeLaws.{tree_struct}
-use Rattle.dtype_types.specs.declared.dtype.DType.{DType, Struct}
+use Rattle.dtype_types.specs.TreeOf.{tree, children, ValidStruct, ValidUnion}
+use Rattle.dtype_types.proofs.TreeLaws.{tree_struct, tree_union}
+use Rattle.dtype_types.specs.declared.dtype.DType.{DType, Struct, Union}
 use Rattle.dtype_types.specs.declared.struct_fields.StructFields.{StructFields}
+use Rattle.dtype_types.specs.declared.union_variants.UnionVariants.{UnionVariants}
 
 pub valid_struct : (d : DType) (s : StructFields) (n : Nullability) → d ≡ Struct s n → Valid (tree d) → ValidStruct s
 valid_struct d s n e h = subst Valid (ap tree e ∙ tree_struct s n) h
 
 pub struct_valid : (s : StructFields) (n : Nullability) → ValidStruct s → Valid (tree (Struct s n))
 struct_valid s n h = subst Valid (sym (tree_struct s n)) h
+
+pub valid_union : (d : DType) (u : UnionVariants) (n : Nullability) → d ≡ Union u n → Valid (tree d) → ValidUnion u
+valid_union d u n e h = subst Valid (ap tree e ∙ tree_union u n) h
+
+pub union_valid : (u : UnionVariants) (n : Nullability) → ValidUnion u → Valid (tree (Union u n))
+union_valid u n h = subst Valid (sym (tree_union u n)) h
 
 some_is : {X : Type 0} (a b : X) → Some a ≡ Some b → a ≡ b
 some_is a b e = cc

@@ -92,6 +92,7 @@ pub struct ExtDTypeRef {
 }
 
 impl ExtDTypeRef {
+    ghost use Rattle.dtype_types.specs.Kinds.{is_nested};
     ghost use Rattle.dtype_types.specs.Nullable.{nullability, IsNullable, CanBeNonNullable, SetNull};
     ghost use Rattle.dtype_types.specs.Equality.{agree};
     ghost use Rattle.dtype_types.specs.TreeOf.{extension_tree, ValidExtension, extension_metadata, extension_id, storage_tree, tree};
@@ -152,6 +153,14 @@ impl ExtDTypeRef {
             metadata,
             storage,
         })
+    }
+
+    // Whether the storage is nested.
+    #[cycle(nested)]
+    pub(crate) fn is_nested(&self) -> bool
+        ensures { result ≡ is_nested (storage_tree self.now) }
+    {
+        self.storage.is_nested()
     }
 
     // Whether the storage can be made non-nullable.

@@ -7,3 +7,5 @@ pub mod Turns
 pub mod SameParts
 pub mod SetNullLaws
 pub mod Texts
+pub mod Zips
+pub mod Outcomes

@@ -9,3 +9,5 @@ pub mod TextOf
 pub mod TreeOf
 pub mod Equality
 pub mod EqualityLaws
+pub mod FieldTypes
+pub mod Building

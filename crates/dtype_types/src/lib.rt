@@ -14,6 +14,8 @@ mod copies;
 mod dtype;
 mod equality;
 mod extension;
+mod field_dtype;
+mod fields_builder;
 mod kind;
 mod map;
 mod nullable;
@@ -23,6 +25,7 @@ mod union_variants;
 
 pub use dtype::DType;
 pub use extension::{ExtDTypeRef, ExtId};
+pub use field_dtype::FieldDType;
 pub use map::MapDType;
 pub use struct_fields::StructFields;
 pub use union_variants::UnionVariants;

@@ -52,7 +52,7 @@ impl DecimalDType {
         ensures precision { result.precision ≡ precision }
         ensures scale { result.scale ≡ scale }
     {
-        DecimalDType { precision, scale }
+        Self { precision, scale }
     }
 
     /// How many digits a value has, 1 to 76.

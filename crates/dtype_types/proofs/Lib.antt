@@ -7,3 +7,4 @@ pub mod Turns
 pub mod SameParts
 pub mod SetNullLaws
 pub mod Texts
+pub mod DistinctItems

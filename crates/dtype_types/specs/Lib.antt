@@ -9,3 +9,4 @@ pub mod TextOf
 pub mod TreeOf
 pub mod Equality
 pub mod EqualityLaws
+pub mod Distinct

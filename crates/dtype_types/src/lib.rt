@@ -17,6 +17,7 @@ mod extension;
 mod kind;
 mod map;
 mod nullable;
+mod repeats;
 mod struct_fields;
 mod text;
 mod union_variants;

@@ -12,6 +12,7 @@
 mod conversions;
 mod copies;
 mod dtype;
+mod dtype_iter;
 mod equality;
 mod extension;
 mod kind;
@@ -23,6 +24,7 @@ mod text;
 mod union_variants;
 
 pub use dtype::DType;
+pub use dtype_iter::DTypeIter;
 pub use extension::{ExtDTypeRef, ExtId};
 pub use map::MapDType;
 pub use struct_fields::StructFields;

@@ -9,3 +9,4 @@ pub mod SetNullLaws
 pub mod Texts
 pub mod Zips
 pub mod Outcomes
+pub mod DistinctItems

@@ -11,3 +11,4 @@ pub mod Equality
 pub mod EqualityLaws
 pub mod FieldTypes
 pub mod Building
+pub mod Distinct

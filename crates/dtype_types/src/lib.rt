@@ -12,6 +12,7 @@
 mod conversions;
 mod copies;
 mod dtype;
+mod dtype_iter;
 mod equality;
 mod extension;
 mod field_dtype;
@@ -19,11 +20,13 @@ mod fields_builder;
 mod kind;
 mod map;
 mod nullable;
+mod repeats;
 mod struct_fields;
 mod text;
 mod union_variants;
 
 pub use dtype::DType;
+pub use dtype_iter::DTypeIter;
 pub use extension::{ExtDTypeRef, ExtId};
 pub use field_dtype::FieldDType;
 pub use map::MapDType;

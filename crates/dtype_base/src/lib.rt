@@ -4,21 +4,23 @@
 // and decimals hold, and that each refusal comes exactly when its rule says, by its number.
 //
 // Begin with `VortexError` (every refusal of the workspace), then `Nullability`, `PType`,
-// `FieldName` and `FieldNames`. The definitions that the contracts cite are in `specs/`: `Refusals`
-// (numbers), `Primitives` (the primitive table), `FieldNames` (`FirstAt`) and `Escapes` (the text
-// of a name). What is proved, and what is only tested, is in the README.
+// `DecimalDType`, `DecimalType`, `FieldName` and `FieldNames`. The definitions that the contracts cite
+// are in `specs/`: `Refusals` (numbers), `Primitives` and `Decimals` (the two tables), `FieldNames`
+// (`FirstAt`) and `Escapes` (the text of a name). `laws` states what ties the tables to their meaning.
+// What is proved, and what is only tested, is in the README.
 #![tactic(auto)]
 
 mod decimal;
 mod field_name;
 mod field_names;
+pub mod laws;
 mod nullability;
 mod ptype;
 #[cfg(test)]
 mod tests;
 mod vortex_error;
 
-pub use decimal::DecimalDType;
+pub use decimal::{DecimalDType, DecimalType, MAX_PRECISION, MAX_SCALE, check_precision_and_scale};
 pub use field_name::FieldName;
 pub use field_names::FieldNames;
 pub use nullability::Nullability;

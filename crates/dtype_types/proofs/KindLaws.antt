@@ -3,8 +3,9 @@ use Rattle.std.proofs.Common.{◌≡◌, ap, sym, ◌∙◌, ℕ, ℤ, Some, Non
 use Rattle.std.specs.declared.boxed.Box.{Box}
 use Rattle.std.specs.declared.alloc.Global.{Global}
 use Rattle.dtype_base.specs.declared.nullability.Nullability.{Nullability}
+use Rattle.dtype_base.specs.Decimals.{Decimal as DecimalOf}
 use Rattle.dtype_base.specs.declared.ptype.PType.{PType}
-use Rattle.dtype_types.specs.Kinds.{primitive_name, decimal_parts, struct_fields, union_variants, map_parts, extension_parts, list_element, fixed_size_list_element, any_size_list_element}
+use Rattle.dtype_types.specs.Kinds.{primitive_name, decimal_of, struct_fields, union_variants, map_parts, extension_parts, list_element, fixed_size_list_element, any_size_list_element}
 use Rattle.dtype_types.specs.Tree.{Tree, Fields, Variants}
 use Rattle.dtype_types.specs.TreeOf.{tree, children, choices, key_tree, value_tree, are_keys_sorted, extension_id, extension_metadata, storage_tree, MapParts, ExtensionParts, type_step, extension_step, map_step, struct_step, union_step}
 use denote.Hole.Carrier
@@ -21,10 +22,10 @@ unfolding out-DType Carrier.out
 primitive_name_none (Primitive p n) h = absurd (h p n refl)
 primitive_name_none d h = ap primitive_name (fold_out-DType Tree ExtensionParts MapParts Fields Variants type_step extension_step map_step struct_step union_step d)
 
-pub decimal_parts_none : (d : DType) → ((p : ℕ × ℤ) (n : Nullability) → d ≡ Decimal p n → ⊥) → decimal_parts (tree d) ≡ None
+pub decimal_of_none : (d : DType) → ((p : DecimalOf) (n : Nullability) → d ≡ Decimal p n → ⊥) → decimal_of (tree d) ≡ None
 unfolding out-DType Carrier.out
-decimal_parts_none (Decimal p n) h = absurd (h p n refl)
-decimal_parts_none d h = ap decimal_parts (fold_out-DType Tree ExtensionParts MapParts Fields Variants type_step extension_step map_step struct_step union_step d)
+decimal_of_none (Decimal p n) h = absurd (h p n refl)
+decimal_of_none d h = ap decimal_of (fold_out-DType Tree ExtensionParts MapParts Fields Variants type_step extension_step map_step struct_step union_step d)
 
 pub list_element_none : (d : DType) → ((b : Box DType Global) (n : Nullability) → d ≡ List_of b n → ⊥) → list_element (tree d) ≡ None
 unfolding out-DType Carrier.out

@@ -6,3 +6,4 @@ pub mod KindLaws
 pub mod Turns
 pub mod SameParts
 pub mod SetNullLaws
+pub mod Texts

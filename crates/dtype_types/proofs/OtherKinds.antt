@@ -3,6 +3,7 @@ use Rattle.std.proofs.Common.{◌≡◌, ◌&&◌, ap, ◌∙◌, ℕ, ℤ, List
 use Rattle.std.specs.declared.boxed.Box.{Box}
 use Rattle.std.specs.declared.alloc.Global.{Global}
 use Rattle.dtype_base.specs.declared.nullability.Nullability.{Nullability}
+use Rattle.dtype_base.specs.Decimals.{Decimal as DecimalOf}
 use Rattle.dtype_base.specs.declared.ptype.PType.{PType}
 use Rattle.dtype_types.specs.Tree.{Tree, Fields, Variants, fields, variants, null, bool, primitive, decimal, utf8, binary, list, fixed_size_list, map_of, struct, union, variant, extension}
 use Rattle.dtype_types.specs.TreeOf.{tree, children, choices, MapParts, ExtensionParts, type_step, extension_step, map_step, struct_step, union_step}
@@ -32,10 +33,10 @@ unfolding out-DType Carrier.out
 not_primitive s p m (Primitive q n) h = absurd (h q n refl)
 not_primitive s p m d h = ap (agree s (primitive p m)) (fold_out-DType Tree ExtensionParts MapParts Fields Variants type_step extension_step map_step struct_step union_step d)
 
-pub not_decimal : (s : Nullabilities) (p : ℕ) (a : ℤ) (m : Nullability) (d : DType) → ((q : ℕ × ℤ) (n : Nullability) → d ≡ Decimal q n → ⊥) → agree s (decimal p a m) (tree d) ≡ false
+pub not_decimal : (s : Nullabilities) (p : DecimalOf) (m : Nullability) (d : DType) → ((q : DecimalOf) (n : Nullability) → d ≡ Decimal q n → ⊥) → agree s (decimal p m) (tree d) ≡ false
 unfolding out-DType Carrier.out
-not_decimal s p a m (Decimal q n) h = absurd (h q n refl)
-not_decimal s p a m d h = ap (agree s (decimal p a m)) (fold_out-DType Tree ExtensionParts MapParts Fields Variants type_step extension_step map_step struct_step union_step d)
+not_decimal s p m (Decimal q n) h = absurd (h q n refl)
+not_decimal s p m d h = ap (agree s (decimal p m)) (fold_out-DType Tree ExtensionParts MapParts Fields Variants type_step extension_step map_step struct_step union_step d)
 
 pub not_utf8 : (s : Nullabilities) (m : Nullability) (d : DType) → ((n : Nullability) → d ≡ Utf8 n → ⊥) → agree s (utf8 m) (tree d) ≡ false
 unfolding out-DType Carrier.out

@@ -11,6 +11,7 @@ use Rattle.dtype_types.specs.Tree.{Tree, fields, variants}
 use Rattle.dtype_types.specs.declared.equality.Nullabilities.{Nullabilities}
 use Rattle.dtype_types.proofs.FieldLookups.{count_fields}
 use Rattle.dtype_types.specs.TreeOf.{tree, zip_tagged}
+use Rattle.dtype_types.specs.Text.{consecutive}
 use Rattle.dtype_types.specs.Equality.{agree, agree_fields, agree_variants}
 use Rattle.dtype_types.specs.declared.dtype.DType.{DType}
 
@@ -120,3 +121,16 @@ pub variants_turn : (s : Nullabilities) (ns ms : List (List ℕ)) (ds es : List 
     → (bytes_eq n m ≡ false → r ≡ false) × (agree s (tree d) (tree e) ≡ false → r ≡ false) × ((g == h) ≡ false → r ≡ false)
     × (bytes_eq n m ≡ true → agree s (tree d) (tree e) ≡ true → (g == h) ≡ true → agree_variants s (variants (drop (i + 1) (zip_tagged ns (map tree ds) gs))) (variants (drop (i + 1) (zip_tagged ms (map tree es) hs))) ≡ r)
 variants_turn s ns ms ds es gs hs i n m d e g h r inv l k en ed eg em ee eh = four (bytes_eq n m) (agree s (tree d) (tree e)) (g == h) _ r (sym inv ∙ turn_variants s ns ms ds es gs hs i n m d e g h l k en ed eg em ee eh)
+
+-- a tag, and those after it
+consecutive_turn_suc : (ns : List (List ℕ)) (ts : List Tree) (gs : List ℕ) (i k g : ℕ) → i < length (zip_tagged ns ts gs) → g ≡ get_or gs i g
+    → consecutive k (variants (drop i (zip_tagged ns ts gs))) ≡ ((g == k) && consecutive (k + 1) (variants (drop (suc i) (zip_tagged ns ts gs))))
+consecutive_turn_suc [] ts gs i k g h e = absurd (omega arith)
+consecutive_turn_suc (n ∷ ns) [] gs i k g h e = absurd (omega arith)
+consecutive_turn_suc (n ∷ ns) (t ∷ ts) [] i k g h e = absurd (omega arith)
+consecutive_turn_suc (n ∷ ns) (t ∷ ts) (f ∷ gs) zero k g h e = ap (λ z. (z == k) && consecutive (k + 1) (variants (zip_tagged ns ts gs))) (sym e)
+consecutive_turn_suc (n ∷ ns) (t ∷ ts) (f ∷ gs) (suc i) k g h e = consecutive_turn_suc ns ts gs i k g (omega arith) e
+
+pub consecutive_turn : (ns : List (List ℕ)) (ts : List Tree) (gs : List ℕ) (i g : ℕ) → i < length (zip_tagged ns ts gs) → g ≡ get_or gs i g
+    → consecutive i (variants (drop i (zip_tagged ns ts gs))) ≡ ((g == i) && consecutive (i + 1) (variants (drop (i + 1) (zip_tagged ns ts gs))))
+consecutive_turn ns ts gs i g h e = consecutive_turn_suc ns ts gs i i g h e ∙ ap (λ j. (g == i) && consecutive (i + 1) (variants (drop j (zip_tagged ns ts gs)))) (sym (add-one i))

@@ -28,7 +28,7 @@ abbrev mutual
   agree s null null = true
   agree s (bool m) (bool n) = allows s m n
   agree s (primitive p m) (primitive q n) = same_ptype p q && allows s m n
-  agree s (decimal p a m) (decimal q b n) = (p == q) && int_eq a b && allows s m n
+  agree s (decimal d m) (decimal e n) = (d.precision == e.precision) && int_eq d.scale e.scale && allows s m n
   agree s (utf8 m) (utf8 n) = allows s m n
   agree s (binary m) (binary n) = allows s m n
   agree s (list t m) (list u n) = agree s t u && allows s m n

@@ -12,6 +12,7 @@ use Rattle.std.proofs.lemmas.Bool.Decides.{Decides-eqb, same_from_decides}
 use Rattle.std.proofs.lemmas.Slice.Eq.{bytes_eq-Decides}
 use Rattle.dtype_base.specs.declared.nullability.Nullability.{Nullability}
 use Rattle.dtype_base.specs.declared.nullability.Nullability.TheVariants.{NonNullable, Nullable}
+use Rattle.dtype_base.specs.Decimals.{Decimal}
 use Rattle.dtype_base.specs.declared.ptype.PType.{PType}
 use Rattle.dtype_base.specs.declared.ptype.PType.TheVariants.{U8, U16, U32, U64, I8, I16, I32, I64, F16, F32, F64}
 use Rattle.dtype_types.specs.declared.equality.Nullabilities.{Nullabilities}
@@ -49,6 +50,12 @@ same_ptype-same _ _ e = absurd (false≢true e)
 pub same_ptype-Decides : (p q : PType) → Decides (same_ptype p q) (p ≡ q)
 same_ptype-Decides p q = (same_ptype-same p q, λ e. subst (λ x. same_ptype p x ≡ true) e ((Decides-eqb _ _).1 refl))
 
+same_decimal : (d e : Decimal) → d.precision ≡ e.precision → d.scale ≡ e.scale → d ≡ e
+same_decimal d e p s =
+    let first : d ≡ record { precision = e.precision; scale = d.scale } = ap (λ x. record { precision = x; scale = d.scale }) p in
+    let second : record { precision = e.precision; scale = d.scale } ≡ e = ap (λ x. record { precision = e.precision; scale = x }) s in
+    first ∙ second
+
 both : {x y : Bool} → (x && y) ≡ true → (x ≡ true) × (y ≡ true)
 both {x = true} e = (refl, e)
 both {x = false} e = absurd (false≢true e)
@@ -62,9 +69,9 @@ mutual
   agree-same (bool m) (bool n) e = ap bool (allows-same m n e)
   agree-same (primitive p m) (primitive q n) e =
       let h = both e in ap (λ r. primitive r m) (same_ptype-same p q h.0) ∙ ap (primitive q) (allows-same m n h.1)
-  agree-same (decimal p a m) (decimal q b n) e =
+  agree-same (decimal p m) (decimal q n) e =
       let h = both e in let g = both h.0 in
-      ap (λ r. decimal r a m) ((Decides-eqb p q).0 g.0) ∙ ap (λ r. decimal q r m) ((signed_Decides a b).0 g.1) ∙ ap (decimal q b) (allows-same m n h.1)
+      ap (λ r. decimal r m) (same_decimal p q ((Decides-eqb p.precision q.precision).0 g.0) ((signed_Decides p.scale q.scale).0 g.1)) ∙ ap (decimal q) (allows-same m n h.1)
   agree-same (utf8 m) (utf8 n) e = ap utf8 (allows-same m n e)
   agree-same (binary m) (binary n) e = ap binary (allows-same m n e)
   agree-same (variant m) (variant n) e = ap variant (allows-same m n e)
@@ -105,7 +112,7 @@ mutual
   agree_refl s null = refl
   agree_refl s (bool m) = allows_refl s m
   agree_refl s (primitive p m) = join ((same_ptype-Decides p p).1 refl) (allows_refl s m)
-  agree_refl s (decimal p a m) = join (join ((Decides-eqb p p).1 refl) ((signed_Decides a a).1 refl)) (allows_refl s m)
+  agree_refl s (decimal p m) = join (join ((Decides-eqb p.precision p.precision).1 refl) ((signed_Decides p.scale p.scale).1 refl)) (allows_refl s m)
   agree_refl s (utf8 m) = allows_refl s m
   agree_refl s (binary m) = allows_refl s m
   agree_refl s (variant m) = allows_refl s m
@@ -133,7 +140,7 @@ mutual
   agree-erase null null = refl
   agree-erase (bool m) (bool n) = refl
   agree-erase (primitive p m) (primitive q n) = refl
-  agree-erase (decimal p a m) (decimal q b n) = refl
+  agree-erase (decimal p m) (decimal q n) = refl
   agree-erase (utf8 m) (utf8 n) = refl
   agree-erase (binary m) (binary n) = refl
   agree-erase (variant m) (variant n) = refl

@@ -1,6 +1,7 @@
 -- The kind of a type, its outermost variant: what the tests of `DType` look at, and what each variant
 -- holds. An extension's kind is its own, whatever its storage.
-use Rattle.std.specs.Prelude.{◌≡◌, ◌⊎◌, ℕ, ℤ, List, Option, Some, None, Bool, true, false}
+use Rattle.std.specs.Prelude.{◌≡◌, ℕ, List, Option, Some, None, Bool, true, false}
+use Rattle.dtype_base.specs.Decimals.{Decimal}
 use Rattle.dtype_base.specs.declared.ptype.PType.{PType}
 use Rattle.dtype_types.specs.declared.kind.Kind.{Kind}
 use Rattle.dtype_types.specs.declared.kind.Kind.TheVariants as k
@@ -10,7 +11,7 @@ abbrev pub kind : Tree → Kind
 kind null = k.Null
 kind (bool n) = k.Bool
 kind (primitive p n) = k.Primitive
-kind (decimal p s n) = k.Decimal
+kind (decimal d n) = k.Decimal
 kind (utf8 n) = k.Utf8
 kind (binary n) = k.Binary
 kind (list t n) = k.List
@@ -27,9 +28,9 @@ primitive_name (primitive p n) = Some p
 primitive_name _ = None
 
 -- the precision and scale of a decimal
-abbrev pub decimal_parts : Tree → Option (ℕ × ℤ)
-decimal_parts (decimal p s n) = Some (p, s)
-decimal_parts _ = None
+abbrev pub decimal_of : Tree → Option Decimal
+decimal_of (decimal d n) = Some d
+decimal_of _ = None
 
 -- the fields of a struct
 abbrev pub struct_fields : Tree → Option (List (List ℕ × Tree))

@@ -5,6 +5,7 @@ pub mod Erase
 pub mod Lookups
 pub mod Kinds
 pub mod Text
+pub mod TextOf
 pub mod TreeOf
 pub mod Equality
 pub mod EqualityLaws

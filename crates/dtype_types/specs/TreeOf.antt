@@ -35,7 +35,7 @@ abbrev pub type_step : DType-F Tree ExtensionParts MapParts Fields Variants → 
 type_step o.Null = null
 type_step (o.Bool n) = bool n
 type_step (o.Primitive p n) = primitive p n
-type_step (o.Decimal d n) = decimal d.0 d.1 n
+type_step (o.Decimal d n) = decimal d n
 type_step (o.Utf8 n) = utf8 n
 type_step (o.Binary n) = binary n
 type_step (o.List b n) = list b.value n

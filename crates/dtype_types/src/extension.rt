@@ -181,3 +181,19 @@ impl ExtDTypeRef {
         })
     }
 }
+
+/// The id, the number of metadata bytes in brackets, and the storage in parentheses.
+impl fmt::Display for ExtDTypeRef {
+    ghost use Rattle.dtype_types.specs.TextOf.{extension_text};
+
+    ghost output = { λ e. Some (extension_text e) };
+
+    #[cycle(text)]
+    fn fmt<W: fmt::Write>(&self, f: &mut fmt::Formatter<W>) -> fmt::Result {
+        let id = &self.id;
+        let count = self.metadata.len();
+        write!(f, "{id}[{count}B](")?;
+        self.storage.fmt(f)?;
+        write!(f, ")")
+    }
+}

@@ -2,7 +2,7 @@
 // through an extension.
 ghost use Rattle.std.specs.Prelude.{◌≡◌, ◌↔◌, ◌⊎◌, IsTrue, IsSome, IfSome, Some, None};
 ghost use Rattle.std.specs.Option.{option_copied};
-ghost use Rattle.dtype_types.specs.Kinds.{kind, primitive_name, decimal_parts, struct_fields, union_variants, map_parts, extension_parts, list_element, fixed_size_list_element, any_size_list_element};
+ghost use Rattle.dtype_types.specs.Kinds.{kind, primitive_name, decimal_of, struct_fields, union_variants, map_parts, extension_parts, list_element, fixed_size_list_element, any_size_list_element};
 ghost use Rattle.dtype_types.specs.TreeOf.{tree, children, option_tree, option_children, ValidStruct};
 ghost use Rattle.dtype_types.specs.Valid.{Valid};
 

@@ -17,6 +17,7 @@ mod kind;
 mod map;
 mod nullable;
 mod struct_fields;
+mod text;
 mod union_variants;
 
 pub use dtype::DType;

@@ -1,4 +1,4 @@
-ghost use Rattle.std.specs.Prelude.{◌≡◌, ◌&&◌, IfOk, IsOkUnless};
+ghost use Rattle.std.specs.Prelude.{◌≡◌, ◌&&◌, IfOk, IsOkUnless, Some};
 ghost use Rattle.dtype_base.specs.declared.vortex_error.VortexError.TheVariants.{OutOfMemory};
 ghost use Rattle.std.proofs.Math.Bool.{beq};
 
@@ -7,6 +7,7 @@ use crate::copies::boxed_copy;
 use crate::equality::{Nullabilities, agree};
 use dtype_base::VortexResult;
 use std::alloc::Global;
+use std::fmt;
 
 /// The type of a map's entries: keys, values, and whether the keys are sorted.
 #[derive(Debug, Drop)]
@@ -49,5 +50,22 @@ impl MapDType {
             value,
             keys_sorted: self.keys_sorted,
         })
+    }
+}
+
+/// `map(`, the key, the value, and whether the keys are sorted.
+impl fmt::Display for MapDType {
+    ghost use Rattle.dtype_types.specs.TextOf.{map_text};
+
+    ghost output = { λ m. Some (map_text m) };
+
+    #[cycle(text)]
+    fn fmt<W: fmt::Write>(&self, f: &mut fmt::Formatter<W>) -> fmt::Result {
+        let sorted = self.keys_sorted;
+        write!(f, "map(")?;
+        self.key.fmt(f)?;
+        write!(f, ", ")?;
+        self.value.fmt(f)?;
+        write!(f, ", keys_sorted={sorted})")
     }
 }

@@ -1,4 +1,4 @@
-ghost use Rattle.std.specs.Prelude.{◌≡◌, ◌≤◌, List, [], length, map, vec_len, All, IfOk, IfSome, IsOkUnless, slice_get, IfNone};
+ghost use Rattle.std.specs.Prelude.{◌≡◌, ◌≤◌, List, [], length, map, vec_len, All, IfOk, IfSome, IsOkUnless, slice_get, IfNone, Some};
 ghost use Rattle.std.specs.Option.{option_copied};
 ghost use Rattle.dtype_base.specs.FieldNames.{FirstAt, IsAbsent};
 ghost use Rattle.dtype_base.specs.declared.vortex_error.VortexError.TheVariants.{OutOfMemory};
@@ -6,8 +6,10 @@ ghost use Rattle.dtype_base.specs.declared.vortex_error.VortexError.TheVariants.
 use crate::DType;
 use crate::copies::copies_of;
 use crate::equality::{Nullabilities, agree};
+use crate::text::separator;
 use dtype_base::{FieldName, FieldNames, VortexResult};
 use std::alloc::Global;
+use std::fmt;
 
 /// The fields of a struct in order, each a name and a type. Names may repeat: every access by name
 /// means the first.
@@ -49,7 +51,7 @@ impl StructFields {
     fn count(&self) -> usize
         ensures all { result ≡ length (children self.now) }
         ensures names { result ≤ length (names_of self.now) }
-        ensures types { result ≤ length (types_of self.now) }
+        ensures dtypes { result ≤ vec_len self.now.dtypes }
     {
         self.names.len().min(self.dtypes.len())
     }
@@ -136,5 +138,27 @@ impl StructFields {
         let names = self.names.try_clone(alloc)?;
         let dtypes = copies_of(alloc, &self.dtypes)?;
         Ok(StructFields { names, dtypes })
+    }
+}
+
+/// The fields in braces, each a name, `=` and a type.
+impl fmt::Display for StructFields {
+    ghost use Rattle.dtype_types.specs.TextOf.{struct_text};
+
+    ghost output = { λ s. Some (struct_text s) };
+
+    #[cycle(text)]
+    fn fmt<W: fmt::Write>(&self, f: &mut fmt::Formatter<W>) -> fmt::Result {
+        let count = self.count();
+        let names = self.names.as_slice();
+        write!(f, "{{")?;
+        for i in 0..count {
+            let name = &names[i];
+            let dtype = &self.dtypes[i];
+            let separator = separator(i);
+            write!(f, "{separator}{name}=")?;
+            dtype.fmt(f)?;
+        }
+        write!(f, "}}")
     }
 }

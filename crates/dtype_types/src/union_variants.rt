@@ -1,11 +1,13 @@
-ghost use Rattle.std.specs.Prelude.{◌≡◌, ◌≤◌, length, IfOk, IsOkUnless};
+ghost use Rattle.std.specs.Prelude.{◌≡◌, ◌≤◌, length, vec_len, IfOk, IsOkUnless, Some};
 ghost use Rattle.dtype_base.specs.declared.vortex_error.VortexError.TheVariants.{OutOfMemory};
 
 use crate::DType;
 use crate::copies::copies_of;
 use crate::equality::{Nullabilities, agree};
+use crate::text::separator;
 use dtype_base::{FieldNames, VortexResult};
 use std::alloc::Global;
+use std::fmt;
 
 /// The variants of a union in order, each a name, a type and a tag.
 #[derive(Debug, Drop)]
@@ -18,14 +20,15 @@ pub struct UnionVariants {
 
 impl UnionVariants {
     ghost use Rattle.dtype_types.specs.Equality.{agree_variants};
+    ghost use Rattle.dtype_types.specs.Text.{consecutive};
     ghost use Rattle.dtype_types.specs.TreeOf.{union_tree, choices, variant_names, variant_types, variant_tags, ValidUnion};
 
     // How many variants there are: as far as all lists go.
     fn count(&self) -> usize
         ensures all { result ≡ length (choices self.now) }
         ensures names { result ≤ length (variant_names self.now) }
-        ensures types { result ≤ length (variant_types self.now) }
-        ensures tags { result ≤ length (variant_tags self.now) }
+        ensures dtypes { result ≤ vec_len self.now.dtypes }
+        ensures tags { result ≤ vec_len self.now.type_ids }
     {
         self.names
             .len()
@@ -79,5 +82,67 @@ impl UnionVariants {
             dtypes,
             type_ids,
         })
+    }
+
+    /// Whether the tags are 0, 1, 2 and so on.
+    pub fn is_consecutive(&self) -> bool
+        ensures { result ≡ consecutive 0 (union_tree self.now) }
+    {
+        for i in 0..self.count() {
+            let tag = self.type_ids[i];
+            if usize::from(tag) != i {
+                return false;
+            }
+        }
+        true
+    }
+}
+
+/// The variants, each a name, `=` and a type, with `@` and the tag between where the tags aren't 0, 1,
+/// 2 and so on.
+impl fmt::Display for UnionVariants {
+    ghost use Rattle.dtype_types.specs.TextOf.{union_text};
+
+    ghost output = { λ u. Some (union_text u) };
+
+    #[cycle(text)]
+    fn fmt<W: fmt::Write>(&self, f: &mut fmt::Formatter<W>) -> fmt::Result {
+        let count = self.count();
+        let names = self.names.as_slice();
+        let consecutive = self.is_consecutive();
+        for i in 0..count {
+            let name = &names[i];
+            let dtype = &self.dtypes[i];
+            let separator = separator(i);
+            let tag = TagText {
+                tag: self.type_ids[i],
+                consecutive,
+            };
+            write!(f, "{separator}{name}{tag}=")?;
+            dtype.fmt(f)?;
+        }
+        Ok(())
+    }
+}
+
+// A tag as it is written: not at all where the tags are 0, 1, 2 and so on.
+#[derive(Clone, Copy)]
+struct TagText {
+    tag: u8,
+    consecutive: bool,
+}
+
+impl fmt::Display for TagText {
+    ghost use Rattle.dtype_types.specs.Text.{tag_text};
+
+    ghost output = { λ t. Some (tag_text t.consecutive t.tag) };
+
+    fn fmt<W: fmt::Write>(&self, f: &mut fmt::Formatter<W>) -> fmt::Result {
+        let tag = self.tag;
+        if self.consecutive {
+            write!(f, "")
+        } else {
+            write!(f, "@{tag}")
+        }
     }
 }

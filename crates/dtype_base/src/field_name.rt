@@ -158,6 +158,32 @@ impl fmt::Display for FieldName {
     ghost output = { λ n. Some (escaped n) };
 
     fn fmt<W: fmt::Write>(&self, f: &mut fmt::Formatter<W>) -> fmt::Result {
-        self.as_str().fmt(f)
+        for c in self.as_str().chars() {
+            EscapedChar(c).fmt(f)?;
+        }
+        Ok(())
+    }
+}
+
+/// A character of a name, as it is printed.
+#[derive(Clone, Copy)]
+struct EscapedChar(char);
+
+impl fmt::Display for EscapedChar {
+    ghost use Rattle.std.specs.Prelude.{encode_utf8};
+
+    ghost output = { λ c. Some (escaped (encode_utf8 c.0)) };
+
+    #[tactic(auto, unfolding(crate::specs::Escapes::escaped, crate::specs::Escapes::escaped_byte))]
+    fn fmt<W: fmt::Write>(&self, f: &mut fmt::Formatter<W>) -> fmt::Result {
+        match self.0 {
+            '\\' => f.write_str("\\\\"),
+            '"' => f.write_str("\\\""),
+            '\t' => f.write_str("\\t"),
+            '\n' => f.write_str("\\n"),
+            '\r' => f.write_str("\\r"),
+            c if c.is_ascii_control() => write!(f, "\\x{:02x}", u32::from(c)),
+            c => f.write_char(c),
+        }
     }
 }

@@ -11,8 +11,11 @@
 
 mod field_name;
 mod field_names;
+pub mod laws;
 mod nullability;
 mod ptype;
+#[cfg(test)]
+mod tests;
 mod vortex_error;
 
 pub use field_name::FieldName;

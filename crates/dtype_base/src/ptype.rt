@@ -1,4 +1,4 @@
-ghost use Rattle.std.specs.Prelude.{◌≡◌, Some};
+ghost use Rattle.std.specs.Prelude.{◌≡◌, ◌↔◌, ◌+◌, ◌-◌, ◌*◌, ◌^◌, ◌≤◌, IsTrue, Some};
 
 use std::fmt;
 
@@ -16,6 +16,170 @@ pub enum PType {
     F16,
     F32,
     F64,
+}
+
+/// The greatest finite value of a 16-bit float.
+const F16_MAX: u64 = 65504;
+
+impl PType {
+    ghost use Rattle.dtype_base.specs.Primitives.{primitive, IsUnsigned, IsSigned, IsInteger, IsFloat, HoldsUnsigned, HoldsSigned, IsNarrowest, wider};
+    ghost use Rattle.dtype_base.specs.Primitives.Kind.{Unsigned, Signed};
+
+    /// Whether values are unsigned integers.
+    pub fn is_unsigned_int(self) -> bool
+        ensures { IsTrue result ↔ IsUnsigned self }
+    {
+        matches!(self, PType::U8 | PType::U16 | PType::U32 | PType::U64)
+    }
+
+    /// Whether values are signed integers.
+    pub fn is_signed_int(self) -> bool
+        ensures { IsTrue result ↔ IsSigned self }
+    {
+        matches!(self, PType::I8 | PType::I16 | PType::I32 | PType::I64)
+    }
+
+    /// Whether values are integers.
+    pub fn is_int(self) -> bool
+        ensures { IsTrue result ↔ IsInteger self }
+    {
+        self.is_unsigned_int() || self.is_signed_int()
+    }
+
+    /// Whether values are floats.
+    pub fn is_float(self) -> bool
+        ensures { IsTrue result ↔ IsFloat self }
+    {
+        matches!(self, PType::F16 | PType::F32 | PType::F64)
+    }
+
+    /// How many bytes a value takes: 1, 2, 4 or 8.
+    pub fn byte_width(&self) -> usize
+        ensures width { result ≡ (primitive self.now).bytes }
+        ensures bound { result ≤ 8 }
+    {
+        match self {
+            PType::U8 | PType::I8 => 1,
+            PType::U16 | PType::I16 | PType::F16 => 2,
+            PType::U32 | PType::I32 | PType::F32 => 4,
+            PType::U64 | PType::I64 | PType::F64 => 8,
+        }
+    }
+
+    /// How many bits a value takes: 8, 16, 32 or 64.
+    pub fn bit_width(&self) -> usize
+        ensures { result ≡ 8 * (primitive self.now).bytes }
+    {
+        8 * self.byte_width()
+    }
+
+    /// The greatest value, or the greatest `u64` where a float's is above that.
+    pub fn max_value_as_u64(&self) -> u64
+        ensures value { result ≡ (primitive self.now).greatest }
+        ensures unsigned { IsUnsigned self.now → result + 1 ≡ 2 ^ (8 * (primitive self.now).bytes) }
+        ensures signed { IsSigned self.now → result + 1 ≡ 2 ^ (8 * (primitive self.now).bytes - 1) }
+    {
+        match self {
+            PType::U8 => u64::from(u8::MAX),
+            PType::U16 => u64::from(u16::MAX),
+            PType::U32 => u64::from(u32::MAX),
+            PType::U64 => u64::MAX,
+            PType::I8 => i8::MAX as u64,
+            PType::I16 => i16::MAX as u64,
+            PType::I32 => i32::MAX as u64,
+            PType::I64 => i64::MAX as u64,
+            PType::F16 => F16_MAX,
+            PType::F32 | PType::F64 => u64::MAX,
+        }
+    }
+
+    /// The signed integer of the same width. A float gives itself.
+    pub fn to_signed(self) -> PType
+        ensures value { result ≡ (primitive self).signed }
+        ensures same_width { (primitive result).bytes ≡ (primitive self).bytes }
+        ensures signed { IsInteger self → IsSigned result }
+    {
+        match self {
+            PType::U8 => PType::I8,
+            PType::U16 => PType::I16,
+            PType::U32 => PType::I32,
+            PType::U64 => PType::I64,
+            PType::I8 | PType::I16 | PType::I32 | PType::I64 => self,
+            PType::F16 | PType::F32 | PType::F64 => self,
+        }
+    }
+
+    /// The unsigned integer of the same width. A float gives itself.
+    pub fn to_unsigned(self) -> PType
+        ensures value { result ≡ (primitive self).unsigned }
+        ensures same_width { (primitive result).bytes ≡ (primitive self).bytes }
+        ensures unsigned { IsInteger self → IsUnsigned result }
+    {
+        match self {
+            PType::I8 => PType::U8,
+            PType::I16 => PType::U16,
+            PType::I32 => PType::U32,
+            PType::I64 => PType::U64,
+            PType::U8 | PType::U16 | PType::U32 | PType::U64 => self,
+            PType::F16 | PType::F32 | PType::F64 => self,
+        }
+    }
+
+    /// The narrowest unsigned integer that holds the value.
+    pub fn min_unsigned_ptype_for_value(value: u64) -> PType
+        ensures { IsNarrowest Unsigned (HoldsUnsigned value) result }
+    {
+        if value <= u64::from(u8::MAX) {
+            PType::U8
+        } else if value <= u64::from(u16::MAX) {
+            PType::U16
+        } else if value <= u64::from(u32::MAX) {
+            PType::U32
+        } else {
+            PType::U64
+        }
+    }
+
+    /// The narrowest signed integer that holds the value.
+    pub fn min_signed_ptype_for_value(value: i64) -> PType
+        ensures { IsNarrowest Signed (HoldsSigned value) result }
+    {
+        if i64::from(i8::MIN) <= value && value <= i64::from(i8::MAX) {
+            PType::I8
+        } else if i64::from(i16::MIN) <= value && value <= i64::from(i16::MAX) {
+            PType::I16
+        } else if i64::from(i32::MIN) <= value && value <= i64::from(i32::MAX) {
+            PType::I32
+        } else {
+            PType::I64
+        }
+    }
+
+    /// The wider of two unsigned integers, and `self` where they are equally wide.
+    pub fn max_unsigned_ptype(self, other: PType) -> PType
+        requires self_kind { IsUnsigned self }
+        requires other_kind { IsUnsigned other }
+        ensures { result ≡ wider self other }
+    {
+        if self.byte_width() >= other.byte_width() {
+            self
+        } else {
+            other
+        }
+    }
+
+    /// The wider of two signed integers, and `self` where they are equally wide.
+    pub fn max_signed_ptype(self, other: PType) -> PType
+        requires self_kind { IsSigned self }
+        requires other_kind { IsSigned other }
+        ensures { result ≡ wider self other }
+    {
+        if self.byte_width() >= other.byte_width() {
+            self
+        } else {
+            other
+        }
+    }
 }
 
 impl fmt::Display for PType {

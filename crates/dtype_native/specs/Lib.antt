@@ -1,2 +1,4 @@
 pub mod LittleEndian
 pub mod NumberLaws
+pub mod Integers
+pub mod Offsets

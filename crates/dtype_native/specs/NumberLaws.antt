@@ -1,9 +1,10 @@
 -- Proofs of the laws of the numeric traits, which the impls cite.
-use Rattle.std.specs.Prelude.{◌≡◌, ℕ, ℤ, zero, suc, pos, negsuc, ◌-◌, ◌*◌, ◌/◌, ◌%◌, ◌^◌, ◌<◌, FitsSigned}
-use Rattle.std.specs.Int.{Width, w8, w16, w32, w64, w128, byte_len, cast_signed, cast_unsigned}
+use Rattle.std.specs.Prelude.{◌≡◌, ◌↔◌, ℕ, ℤ, zero, suc, pos, negsuc, neg_ℤ, ◌-◌, ◌*◌, ◌/◌, ◌%◌, ◌^◌, ◌<◌, ◌≤ℤ◌, ◌<ℤ◌, FitsSigned}
+use Rattle.std.specs.Int.{Width, w8, w16, w32, w64, w128, byte_len, FitsUnsignedBits, cast_signed, cast_unsigned}
 use Rattle.std.proofs.Common.{refl, ap, sym, ◌∙◌, arith}
 use Rattle.std.proofs.Math.Nat.{pow-suc}
-use Rattle.std.proofs.lemmas.Int.{to_z-of_z}
+use Rattle.std.proofs.lemmas.Int.{ints, to_z-of_z}
+use mir.Val.{hbits}
 use Rattle.dtype_native.specs.LittleEndian.{little_endian}
 
 -- ---- bytes tell the numbers of a type apart
@@ -56,3 +57,22 @@ signed_injective w x y f g e =
     let same : little_endian (byte_len w) (pos (cast_unsigned w x)) ≡ little_endian (byte_len w) (pos (cast_unsigned w y)) = of_bits w x f ∙ e ∙ sym (of_bits w y g) in
     let bits_same : cast_unsigned w x ≡ cast_unsigned w y = injective (byte_len w) (cast_unsigned w x) (cast_unsigned w y) (bits_below w x f) (bits_below w y g) same in
     sym (to_z-of_z w x f) ∙ ap (cast_signed w) bits_same ∙ to_z-of_z w y g
+
+-- ---- the integers of a type
+
+pub unsigned_range : (k : ℕ) (z : ℤ) → FitsUnsignedBits k z ↔ ((pos 0 ≤ℤ z) × (z <ℤ pos (2 ^ k)))
+unsigned_range k (pos n) = ((λ f. (omega (arith, ints), omega (arith, ints))), (λ r. let below = r.1 in omega (arith, ints)))
+unsigned_range k (negsuc n) = ((λ f. absurd f), (λ r. let above = r.0 in absurd (omega (arith, ints))))
+
+pub signed_range : (w : Width) (z : ℤ) → FitsSigned w z ↔ ((neg_ℤ (pos (2 ^ hbits w)) ≤ℤ z) × (z <ℤ pos (2 ^ hbits w)))
+signed_range w (pos n) = (
+  (λ f. let small = f.sfits in (omega (arith, ints), omega (arith, ints))),
+  (λ r. let below = r.1 in record { sfits = omega (arith, ints) }),
+)
+signed_range w (negsuc n) = (
+  (λ f. let small = f.sfits in (omega (arith, ints), omega (arith, ints))),
+  (λ r. let above = r.0 in record { sfits = omega (arith, ints) }),
+)
+
+pub same_natural : (x y : ℕ) → pos x ≡ pos y → x ≡ y
+same_natural x y e = cc

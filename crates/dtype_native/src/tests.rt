@@ -1,0 +1,183 @@
+ghost use Rattle.std.specs.Prelude.{◌≡◌};
+
+use crate::{
+    IntegerPType, NativePType, OffsetBuilderPType, PTypeVisitor, PhysicalPType, ToBytes,
+    TryFromBytes, UnsignedPType, match_each_float_ptype, match_each_integer_ptype,
+    match_each_native_ptype, match_each_native_simd_ptype, match_each_signed_integer_ptype,
+    match_each_unsigned_integer_ptype, match_smallest_list_offset_type, match_smallest_offset_type,
+    written_bytes_read_back,
+};
+use dtype_base::{PType, VortexError, VortexResult};
+use std::cmp::Ordering;
+use std::process::Abort;
+use std::test::Fail;
+
+#[test]
+fn bytes_stand_least_first(rt: HostRuntime) {
+    assert_eq!(rt; u32::try_from_le_bytes(&[1, 2, 3, 4]), Ok(67305985));
+    assert_eq!(rt;
+        u32::try_from_le_bytes(&[1, 2, 3]),
+        Err(VortexError::BytesLength)
+    );
+    assert_eq!(rt; VortexError::BytesLength.number(), 8);
+    assert_eq!(rt; i32::try_from_le_bytes(&[0xFF, 0xFF, 0xFF, 0xFF]), Ok(-1));
+    assert_eq!(rt; ToBytes::to_le_bytes(&513u16), [1, 2]);
+    assert_eq!(rt; u16::bytes_of(&[1, 2]), [1, 2].as_slice());
+    assert_eq!(rt; ToBytes::to_le_bytes(&-2i16), [0xFE, 0xFF]);
+}
+
+// What holds of a native integer type, at two of its numbers, of which the first is less.
+fn test_integer<T: IntegerPType + PhysicalPType>(
+    rt: &impl Abort,
+    less: T,
+    greater: T,
+    ptype: PType,
+    greatest: u64,
+) -> VortexResult<()> {
+    assert_eq!(rt; T::PTYPE, ptype);
+    assert_eq!(rt; T::Physical::PTYPE, ptype.to_unsigned());
+    assert_eq!(rt; T::max_value_as_u64(), greatest);
+    assert!(rt; written_bytes_read_back(less)?.is_eq(less));
+    assert_eq!(rt; less.total_compare(greater), Ordering::Less);
+    assert!(rt; less.is_lt(greater) && less.is_le(greater) && less.is_le(less));
+    assert!(rt; greater.is_gt(less) && greater.is_ge(less) && less.is_ge(less));
+    assert!(rt; !less.is_eq(greater) && !less.is_nan() && !less.is_infinite());
+    Ok(())
+}
+
+#[test]
+fn native_integers_have_their_names_bytes_and_order(rt: HostRuntime) -> Result<(), Fail> {
+    test_integer(&rt, 0u8, 255, PType::U8, 255)?;
+    test_integer(&rt, 0u16, 65535, PType::U16, 65535)?;
+    test_integer(&rt, 0u32, 4294967295, PType::U32, 4294967295)?;
+    test_integer(&rt, 0u64, 1, PType::U64, 18446744073709551615)?;
+    test_integer(&rt, -128i8, 127, PType::I8, 127)?;
+    test_integer(&rt, -32768i16, 32767, PType::I16, 32767)?;
+    test_integer(&rt, -2147483648i32, -1, PType::I32, 2147483647)?;
+    test_integer(
+        &rt,
+        -9223372036854775808i64,
+        0,
+        PType::I64,
+        9223372036854775807,
+    )?;
+    Ok(())
+}
+
+fn name_of_unsigned<T: UnsignedPType>() -> PType {
+    T::PTYPE
+}
+
+fn name_of_offset<T: OffsetBuilderPType>() -> PType {
+    T::PTYPE
+}
+
+#[test]
+fn unsigned_and_offset_types(rt: HostRuntime) {
+    assert_eq!(rt; name_of_unsigned::<u8>(), PType::U8);
+    assert_eq!(rt; name_of_unsigned::<u16>(), PType::U16);
+    assert_eq!(rt; name_of_unsigned::<u32>(), PType::U32);
+    assert_eq!(rt; name_of_unsigned::<u64>(), PType::U64);
+    assert_eq!(rt; name_of_offset::<u32>(), PType::U32);
+    assert_eq!(rt; name_of_offset::<i32>(), PType::I32);
+    assert_eq!(rt; name_of_offset::<u64>(), PType::U64);
+    assert_eq!(rt; name_of_offset::<i64>(), PType::I64);
+}
+
+// A visitor that answers the name of the call that it gets.
+#[derive(Clone, Copy)]
+struct NameOfCall;
+
+impl PTypeVisitor for NameOfCall {
+    type Answer = PType;
+
+    ghost answers = { λ _ ptype answer. answer ≡ ptype };
+
+    fn visit_u8(self) -> PType {
+        PType::U8
+    }
+
+    fn visit_u16(self) -> PType {
+        PType::U16
+    }
+
+    fn visit_u32(self) -> PType {
+        PType::U32
+    }
+
+    fn visit_u64(self) -> PType {
+        PType::U64
+    }
+
+    fn visit_i8(self) -> PType {
+        PType::I8
+    }
+
+    fn visit_i16(self) -> PType {
+        PType::I16
+    }
+
+    fn visit_i32(self) -> PType {
+        PType::I32
+    }
+
+    fn visit_i64(self) -> PType {
+        PType::I64
+    }
+
+    fn visit_float(self, ptype: PType) -> PType {
+        ptype
+    }
+}
+
+#[test]
+fn a_name_is_visited_by_its_call(rt: HostRuntime) {
+    for ptype in [
+        PType::U8,
+        PType::U16,
+        PType::U32,
+        PType::U64,
+        PType::I8,
+        PType::I16,
+        PType::I32,
+        PType::I64,
+        PType::F16,
+        PType::F32,
+        PType::F64,
+    ] {
+        assert_eq!(rt; match_each_native_ptype(ptype, NameOfCall), ptype);
+    }
+    assert_eq!(rt; match_each_integer_ptype(PType::I8, NameOfCall), PType::I8);
+    assert_eq!(rt;
+        match_each_unsigned_integer_ptype(PType::U16, NameOfCall),
+        PType::U16
+    );
+    assert_eq!(rt;
+        match_each_signed_integer_ptype(PType::I64, NameOfCall),
+        PType::I64
+    );
+    assert_eq!(rt; match_each_float_ptype(PType::F16, NameOfCall), PType::F16);
+    assert_eq!(rt;
+        match_each_native_simd_ptype(PType::F64, NameOfCall),
+        PType::F64
+    );
+}
+
+#[test]
+fn least_offset_types_hold_the_value(rt: HostRuntime) {
+    for (n, ptype) in [
+        (255, PType::U8),
+        (256, PType::U16),
+        (65536, PType::U32),
+        (4294967296, PType::U64),
+    ] {
+        assert_eq!(rt; match_smallest_offset_type(n, NameOfCall), ptype, "at {n}");
+    }
+    for (n, ptype) in [(255, PType::U32), (4294967296, PType::U64)] {
+        assert_eq!(rt;
+            match_smallest_list_offset_type(n, NameOfCall),
+            ptype,
+            "at {n}"
+        );
+    }
+}

@@ -1,1 +1,2 @@
 pub mod EscapedChars
+pub mod BitWidths

@@ -3,3 +3,4 @@ pub mod Nullability
 pub mod Primitives
 pub mod FieldNames
 pub mod Escapes
+pub mod Decimals

@@ -4,13 +4,16 @@
 // and decimals hold, and that each refusal comes exactly when its rule says, by its number.
 //
 // Begin with `VortexError` (every refusal of the workspace), then `Nullability`, `PType`,
-// `FieldName` and `FieldNames`. The definitions that the contracts cite are in `specs/`: `Refusals`
-// (numbers), `Primitives` (the primitive table), `FieldNames` (`FirstAt`) and `Escapes` (the text
-// of a name). What is proved, and what is only tested, is in the README.
+// `DecimalDType`, `DecimalType`, `FieldName` and `FieldNames`. The definitions that the contracts cite
+// are in `specs/`: `Refusals` (numbers), `Primitives` and `Decimals` (the two tables), `FieldNames`
+// (`FirstAt`) and `Escapes` (the text of a name). `laws` states what ties the tables to their meaning.
+// What is proved, and what is only tested, is in the README.
 #![tactic(auto)]
 
+mod decimal;
 mod field_name;
 mod field_names;
+mod field_names_iter;
 pub mod laws;
 mod nullability;
 mod ptype;
@@ -18,8 +21,13 @@ mod ptype;
 mod tests;
 mod vortex_error;
 
+pub use decimal::{DecimalDType, DecimalType, MAX_PRECISION, MAX_SCALE, check_precision_and_scale};
 pub use field_name::FieldName;
 pub use field_names::FieldNames;
+pub use field_names_iter::{FieldNamesIntoIter, FieldNamesIter};
 pub use nullability::Nullability;
 pub use ptype::PType;
 pub use vortex_error::{VortexError, VortexResult};
+
+/// The name of the field that holds whether the values of a struct are null.
+pub const RESERVED_VALIDITY_FIELD_NAME: &str = "$__vortex_validity";

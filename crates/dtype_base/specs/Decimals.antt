@@ -1,0 +1,78 @@
+-- Decimal types and what stores their values. From the documentation of Vortex's `DecimalDType` and `DecimalType`.
+use Rattle.std.specs.Prelude.{◌≡◌, ℕ, ◌^◌, ◌<◌, ◌≤◌, ℤ, pos, neg_ℤ, ◌≤ℤ◌, ◌<ℤ◌, List, [], ◌∷◌, ◌++◌, codes, Option, Some, None, IsSomeAnd, find, nat_le}
+use Rattle.std.specs.Fmt.{decimal, signed_decimal}
+use Rattle.dtype_base.specs.declared.ptype.PType.{PType}
+use Rattle.dtype_base.specs.declared.ptype.PType.TheVariants as primitives
+use Rattle.dtype_base.specs.declared.decimal.DecimalType.{DecimalType}
+use Rattle.dtype_base.specs.declared.decimal.DecimalType.TheVariants.{I8, I16, I32, I64, I128, I256}
+use Rattle.dtype_base.specs.declared.vortex_error.VortexError.{VortexError}
+use Rattle.dtype_base.specs.declared.vortex_error.VortexError.TheVariants.{PrecisionZero, PrecisionTooLarge, ScaleTooLarge, ScaleAbovePrecision}
+
+-- a decimal type: how many digits its values have, and how many of these stand behind the point
+pub record Decimal : Type 0 where
+  pub precision : ℕ
+  pub scale : ℤ
+
+-- there is a digit, there are at most max, and no more behind the point than there are; a negative
+-- scale says how many zeros stand before the point, as far as 8 bits can say it
+pub record IsDecimalWithin (max precision : ℕ) (scale : ℤ) : Type 0 where
+  pub some_digits : 1 ≤ precision
+  pub precision_at_most : precision ≤ max
+  pub scale_at_least : neg_ℤ (pos 128) ≤ℤ scale
+  pub scale_at_most : scale ≤ℤ pos precision
+
+-- the decimals that 256 bits can hold
+abbrev pub IsValidDecimal : Decimal → Type 0
+IsValidDecimal d = IsDecimalWithin 76 d.precision d.scale
+
+-- e is the first of these refusals that the precision and the scale meet: no digits, more than max,
+-- a scale above max, and a scale above the precision
+abbrev pub IsDecimalRefusal : (max precision : ℕ) (scale : ℤ) → VortexError → Type 0
+IsDecimalRefusal max precision scale (PrecisionZero m) = (m ≡ max) × (precision ≡ 0)
+IsDecimalRefusal max precision scale (PrecisionTooLarge p m) = (p ≡ precision) × (m ≡ max) × (max < precision)
+IsDecimalRefusal max precision scale (ScaleTooLarge s m) = (s ≡ scale) × (m ≡ pos max) × (1 ≤ precision) × (precision ≤ max) × (pos max <ℤ scale)
+IsDecimalRefusal max precision scale (ScaleAbovePrecision s p) = (s ≡ scale) × (p ≡ precision) × (1 ≤ precision) × (precision ≤ max) × (scale ≤ℤ pos max) × (pos precision <ℤ scale)
+IsDecimalRefusal max precision scale _ = ⊥
+
+-- b is the least number of bits with room for every number of p digits
+pub record IsBitWidth (p b : ℕ) : Type 0 where
+  pub enough : 10 ^ p ≤ 2 ^ b
+  pub least : (c : ℕ) → c < b → 2 ^ c < 10 ^ p
+
+-- as `decimal(10,-5)`
+abbrev pub decimal_text : Decimal → List ℕ
+decimal_text d = codes "decimal(" ++ (decimal d.precision ++ (codes "," ++ (signed_decimal d.scale ++ codes ")")))
+
+-- what stores the values of a decimal type
+pub record Storage : Type 0 where
+  pub number : ℕ
+  pub text : List ℕ
+  -- the width of a value
+  pub bytes : ℕ
+  -- the greatest number of digits whose values it all has
+  pub digits : ℕ
+
+-- the table
+abbrev pub storage : DecimalType → Storage
+storage I8 = record { number = 0; text = codes "i8"; bytes = 1; digits = 2 }
+storage I16 = record { number = 1; text = codes "i16"; bytes = 2; digits = 4 }
+storage I32 = record { number = 2; text = codes "i32"; bytes = 4; digits = 9 }
+storage I64 = record { number = 3; text = codes "i64"; bytes = 8; digits = 18 }
+storage I128 = record { number = 4; text = codes "i128"; bytes = 16; digits = 38 }
+storage I256 = record { number = 5; text = codes "i256"; bytes = 32; digits = 76 }
+
+-- the narrowest that has all values of that many digits
+abbrev pub smallest_storage : ℕ → Option DecimalType
+smallest_storage digits = find (λ t. nat_le digits (storage t).digits) (I8 ∷ I16 ∷ I32 ∷ I64 ∷ I128 ∷ I256 ∷ [])
+
+-- t is the smallest storage of that many digits, or comes after it
+abbrev pub IsCompatible : DecimalType → ℕ → Type 0
+IsCompatible t digits = IsSomeAnd (smallest_storage digits) (λ s. (storage s).number ≤ (storage t).number)
+
+-- the storage type that is this primitive type, if there is one
+abbrev pub storage_of : PType → Option DecimalType
+storage_of primitives.I8 = Some I8
+storage_of primitives.I16 = Some I16
+storage_of primitives.I32 = Some I32
+storage_of primitives.I64 = Some I64
+storage_of _ = None

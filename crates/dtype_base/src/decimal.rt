@@ -1,0 +1,207 @@
+ghost use Rattle.std.specs.Prelude.{◌≡◌, ◌↔◌, ◌<◌, ◌≤◌, IfOk, IfErr, IsOk, IsTrue, Some};
+ghost use Rattle.std.specs.Option.{ok_or};
+ghost use Rattle.dtype_base.specs.declared.vortex_error.VortexError.TheVariants.{NotDecimalPType};
+ghost use Rattle.dtype_base.specs.Decimals.{IsValidDecimal, IsDecimalWithin, IsDecimalRefusal, IsBitWidth, storage, smallest_storage, IsCompatible, storage_of};
+
+use crate::{PType, VortexError, VortexResult};
+use std::fmt;
+use std::marker::Model;
+
+/// The greatest precision of a decimal type.
+pub const MAX_PRECISION: u8 = 76;
+/// The greatest scale of a decimal type.
+pub const MAX_SCALE: i8 = 76;
+
+/// A decimal type: its precision, 1 to 76, is how many digits its values have, and its scale, -128 to
+/// 76, how many of them stand behind the point. A negative scale says how many zeros stand before it.
+/// The scale is at most the precision.
+#[derive(Clone, Copy, Debug, PartialEq, Eq, Hash)]
+pub struct DecimalDType {
+    precision: u8,
+    scale: i8,
+}
+
+impl Model for DecimalDType {
+    ghost use Rattle.dtype_base.specs.Decimals.{Decimal, IsDecimalWithin};
+
+    ghost Value = { Decimal };
+
+    ghost view = { λ d. record { precision = d.precision; scale = d.scale } };
+
+    ghost invariant = { λ d. IsDecimalWithin 76 d.precision d.scale };
+
+    ghost inverse = { λ d. record { precision = d.precision; scale = d.scale } };
+}
+
+impl DecimalDType {
+    /// The decimal type of this precision and scale. Refuses the first that applies of 1
+    /// (PrecisionZero), 2 (PrecisionTooLarge, above 76), 3 (ScaleTooLarge, above 76) and 4
+    /// (ScaleAbovePrecision). Every negative scale is taken.
+    pub fn try_new(precision: u8, scale: i8) -> VortexResult<Self>
+        ensures ok { IfOk result (λ d. (d.precision ≡ precision) × (d.scale ≡ scale)) }
+        ensures valid { IsOk result ↔ IsDecimalWithin 76 precision scale }
+        ensures refused { IfErr result (IsDecimalRefusal 76 precision scale) }
+    {
+        check_precision_and_scale(precision, scale, MAX_PRECISION)?;
+        Ok(DecimalDType { precision, scale })
+    }
+
+    /// The decimal type of this precision and scale.
+    pub fn new(precision: u8, scale: i8) -> Self
+        requires { IsDecimalWithin 76 precision scale }
+        ensures precision { result.precision ≡ precision }
+        ensures scale { result.scale ≡ scale }
+    {
+        DecimalDType { precision, scale }
+    }
+
+    /// How many digits a value has, 1 to 76.
+    pub fn precision(&self) -> u8
+        ensures value { result ≡ self.now.precision }
+        ensures valid { IsValidDecimal self.now }
+    {
+        self.precision
+    }
+
+    /// How many digits stand behind the point, at most as many as there are.
+    pub fn scale(&self) -> i8
+        ensures value { result ≡ self.now.scale }
+        ensures valid { IsValidDecimal self.now }
+    {
+        self.scale
+    }
+
+    /// The least number of bits with room for every number of that many digits: 4 to 253.
+    pub fn required_bit_width(&self) -> usize
+        ensures { IsBitWidth self.now.precision result }
+    {
+        usize::from(BIT_WIDTHS[usize::from(self.precision) - 1])
+    }
+}
+
+/// The bit widths of the precisions from 1.
+const BIT_WIDTHS: [u8; 76] = [
+    4, 7, 10, 14, 17, 20, 24, 27, 30, 34, 37, 40, 44, 47, 50, 54, 57, 60, 64, 67, 70, 74, 77, 80,
+    84, 87, 90, 94, 97, 100, 103, 107, 110, 113, 117, 120, 123, 127, 130, 133, 137, 140, 143, 147,
+    150, 153, 157, 160, 163, 167, 170, 173, 177, 180, 183, 187, 190, 193, 196, 200, 203, 206, 210,
+    213, 216, 220, 223, 226, 230, 233, 236, 240, 243, 246, 250, 253,
+];
+
+impl fmt::Display for DecimalDType {
+    ghost use Rattle.dtype_base.specs.Decimals.{decimal_text};
+
+    ghost output = { λ d. Some (decimal_text d) };
+
+    fn fmt<W: fmt::Write>(&self, f: &mut fmt::Formatter<W>) -> fmt::Result {
+        write!(f, "decimal({},{})", self.precision, self.scale)
+    }
+}
+
+/// Tests what every decimal type has to meet, where this is the greatest precision and scale. Refuses
+/// the first that applies of 1 (PrecisionZero), 2 (PrecisionTooLarge), 3 (ScaleTooLarge) and 4
+/// (ScaleAbovePrecision).
+pub fn check_precision_and_scale(precision: u8, scale: i8, max: u8) -> VortexResult<()>
+    requires { max < 128 }
+    ensures valid { IsOk result ↔ IsDecimalWithin max precision scale }
+    ensures refused { IfErr result (IsDecimalRefusal max precision scale) }
+{
+    let max_scale = max as i8;
+    if precision == 0 {
+        return Err(VortexError::PrecisionZero { max });
+    }
+    if precision > max {
+        return Err(VortexError::PrecisionTooLarge { precision, max });
+    }
+    if scale > max_scale {
+        return Err(VortexError::ScaleTooLarge {
+            scale,
+            max: max_scale,
+        });
+    }
+    if scale > 0 && scale as u8 > precision {
+        return Err(VortexError::ScaleAbovePrecision { scale, precision });
+    }
+    Ok(())
+}
+
+/// What stores the values of a decimal type, narrowest first. The order is that of the numbers, 0 to 5.
+#[derive(Clone, Copy, Debug, PartialEq, Eq, Hash, PartialOrd, Ord)]
+pub enum DecimalType {
+    I8,
+    I16,
+    I32,
+    I64,
+    I128,
+    I256,
+}
+
+impl DecimalType {
+    /// The narrowest that has all values of the decimal type's precision: up to 2, 4, 9, 18, 38 and 76 digits.
+    pub fn smallest_decimal_value_type(decimal: &DecimalDType) -> DecimalType
+        ensures first { smallest_storage decimal.now.precision ≡ Some result }
+        ensures enough { decimal.now.precision ≤ (storage result).digits }
+    {
+        match decimal.precision() {
+            ..=2 => DecimalType::I8,
+            3..=4 => DecimalType::I16,
+            5..=9 => DecimalType::I32,
+            10..=18 => DecimalType::I64,
+            19..=38 => DecimalType::I128,
+            39.. => DecimalType::I256,
+        }
+    }
+
+    /// How many bytes a value takes: 1 to 32.
+    pub fn byte_width(&self) -> usize
+        ensures { result ≡ (storage self.now).bytes }
+    {
+        match self {
+            DecimalType::I8 => 1,
+            DecimalType::I16 => 2,
+            DecimalType::I32 => 4,
+            DecimalType::I64 => 8,
+            DecimalType::I128 => 16,
+            DecimalType::I256 => 32,
+        }
+    }
+
+    /// Whether it has all values of the decimal type's precision.
+    pub fn is_compatible_decimal_value_type(self, decimal: DecimalDType) -> bool
+        ensures order { IsTrue result ↔ IsCompatible self decimal.precision }
+        ensures enough { IsTrue result ↔ (decimal.precision ≤ (storage self).digits) }
+    {
+        self >= DecimalType::smallest_decimal_value_type(&decimal)
+    }
+}
+
+impl fmt::Display for DecimalType {
+    ghost output = { λ t. Some (storage t).text };
+
+    fn fmt<W: fmt::Write>(&self, f: &mut fmt::Formatter<W>) -> fmt::Result {
+        match self {
+            DecimalType::I8 => write!(f, "i8"),
+            DecimalType::I16 => write!(f, "i16"),
+            DecimalType::I32 => write!(f, "i32"),
+            DecimalType::I64 => write!(f, "i64"),
+            DecimalType::I128 => write!(f, "i128"),
+            DecimalType::I256 => write!(f, "i256"),
+        }
+    }
+}
+
+/// The storage type of the same name. Refuses 7 (NotDecimalPType) every name but `i8`, `i16`, `i32` and `i64`.
+impl TryFrom<PType> for DecimalType {
+    type Error = VortexError;
+
+    ghost try_from_gives = { λ p r. r ≡ ok_or (storage_of p) (NotDecimalPType p) };
+
+    fn try_from(ptype: PType) -> VortexResult<DecimalType> {
+        match ptype {
+            PType::I8 => Ok(DecimalType::I8),
+            PType::I16 => Ok(DecimalType::I16),
+            PType::I32 => Ok(DecimalType::I32),
+            PType::I64 => Ok(DecimalType::I64),
+            _ => Err(VortexError::NotDecimalPType { ptype }),
+        }
+    }
+}

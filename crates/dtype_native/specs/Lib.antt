@@ -2,3 +2,4 @@ pub mod LittleEndian
 pub mod NumberLaws
 pub mod Integers
 pub mod Offsets
+pub mod Digits

@@ -1,9 +1,9 @@
 -- Proofs of the laws of the numeric traits, which the impls cite.
-use Rattle.std.specs.Prelude.{◌≡◌, ◌↔◌, ℕ, ℤ, zero, suc, pos, negsuc, neg_ℤ, ◌-◌, ◌*◌, ◌/◌, ◌%◌, ◌^◌, ◌<◌, ◌≤ℤ◌, ◌<ℤ◌, FitsSigned}
+use Rattle.std.specs.Prelude.{◌≡◌, ◌↔◌, ℕ, ℤ, zero, suc, pos, negsuc, neg_ℤ, ◌-◌, ◌*◌, ◌/◌, ◌%◌, ◌^◌, ◌<◌, ◌≤◌, ◌≤ℤ◌, ◌<ℤ◌, unsigned_abs, FitsSigned}
 use Rattle.std.specs.Int.{Width, w8, w16, w32, w64, w128, byte_len, FitsUnsignedBits, cast_signed, cast_unsigned}
-use Rattle.std.proofs.Common.{refl, ap, sym, ◌∙◌, arith}
+use Rattle.std.proofs.Common.{refl, ap, sym, ◌∙◌, arith, lt_of_le_of_lt}
 use Rattle.std.proofs.Math.Nat.{pow-suc}
-use Rattle.std.proofs.lemmas.Int.{ints, to_z-of_z}
+use Rattle.std.proofs.lemmas.Int.{ints, fits_signed_from_abs, to_z-of_z}
 use mir.Val.{hbits}
 use Rattle.dtype_native.specs.LittleEndian.{little_endian}
 
@@ -76,3 +76,8 @@ signed_range w (negsuc n) = (
 
 pub same_natural : (x y : ℕ) → pos x ≡ pos y → x ≡ y
 same_natural x y e = cc
+
+-- ---- the numbers of so many digits
+
+pub digits_fit : (w : Width) (digits : ℕ) → 10 ^ digits < 2 ^ hbits w → (z : ℤ) → unsigned_abs z ≤ 10 ^ digits → FitsSigned w z
+digits_fit w digits below z few = fits_signed_from_abs w z (lt_of_le_of_lt few below)

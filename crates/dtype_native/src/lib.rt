@@ -2,8 +2,10 @@
 #![tactic(auto)]
 
 mod integer_ptype;
-mod laws;
+pub mod laws;
+mod native_decimal_type;
 mod native_ptype;
+mod precision_scale;
 mod ptype_visitor;
 #[cfg(test)]
 mod tests;
@@ -11,8 +13,9 @@ mod to_bytes;
 mod try_from_bytes;
 
 pub use integer_ptype::{IntegerPType, OffsetBuilderPType, PhysicalPType, UnsignedPType};
-pub use laws::written_bytes_read_back;
+pub use native_decimal_type::NativeDecimalType;
 pub use native_ptype::NativePType;
+pub use precision_scale::PrecisionScale;
 pub use ptype_visitor::{
     PTypeVisitor, match_each_float_ptype, match_each_integer_ptype, match_each_native_ptype,
     match_each_native_simd_ptype, match_each_signed_integer_ptype,

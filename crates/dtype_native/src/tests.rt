@@ -1,11 +1,11 @@
 ghost use Rattle.std.specs.Prelude.{◌≡◌};
 
+use crate::laws::written_bytes_read_back;
 use crate::{
     IntegerPType, NativePType, OffsetBuilderPType, PTypeVisitor, PhysicalPType, ToBytes,
     TryFromBytes, UnsignedPType, match_each_float_ptype, match_each_integer_ptype,
     match_each_native_ptype, match_each_native_simd_ptype, match_each_signed_integer_ptype,
     match_each_unsigned_integer_ptype, match_smallest_list_offset_type, match_smallest_offset_type,
-    written_bytes_read_back,
 };
 use dtype_base::{PType, VortexError, VortexResult};
 use std::cmp::Ordering;
@@ -180,4 +180,16 @@ fn least_offset_types_hold_the_value(rt: HostRuntime) {
             "at {n}"
         );
     }
+}
+
+#[test]
+fn precisions_bound_the_values(rt: HostRuntime) -> Result<(), Fail> {
+    let two_digits = PrecisionScale::<i8>::new(2, 1);
+    for (value, valid) in [(99, true), (-99, true), (100, false), (-100, false)] {
+        assert_eq!(rt; two_digits.is_valid(value), valid, "at {value}");
+    }
+    assert_eq!(rt; i128::max_by_precision(38), 99999999999999999999999999999999999999);
+    assert_eq!(rt; i64::min_by_precision(0), 0);
+    assert_eq!(rt; i32::min_by_precision(9), -999999999);
+    Ok(())
 }

@@ -9,7 +9,7 @@ use std::marker::{Model, PhantomData};
 
 /// A decimal type whose values the native type `D` keeps: its precision is 1 to `D::MAX_PRECISION`,
 /// and its scale -128 to the precision.
-#[derive(Clone, Copy, Debug, PartialEq, Eq, Hash)]
+#[derive_where(Clone, Copy, Debug, PartialEq, Eq, Hash)]
 pub struct PrecisionScale<D: NativeDecimalType> {
     precision: u8,
     scale: i8,

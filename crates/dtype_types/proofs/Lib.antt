@@ -10,3 +10,5 @@ pub mod Texts
 pub mod Zips
 pub mod Outcomes
 pub mod DistinctItems
+pub mod NameIndexes
+pub mod Projections

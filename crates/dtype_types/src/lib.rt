@@ -19,6 +19,7 @@ mod field_dtype;
 mod fields_builder;
 mod kind;
 mod map;
+mod name_index;
 mod nullable;
 mod repeats;
 mod struct_fields;

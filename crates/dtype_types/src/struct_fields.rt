@@ -6,10 +6,12 @@ ghost use Rattle.std.specs.Option.{option_copied};
 ghost use Rattle.dtype_base.specs.FieldNames.{FirstAt, IsAbsent};
 ghost use Rattle.dtype_base.specs.declared.vortex_error.VortexError.TheVariants.{OutOfMemory, IndexOutOfBounds};
 
-use crate::copies::copies_of;
+use crate::copies::{append_names, copies_of};
 use crate::equality::{Nullabilities, agree};
 use crate::field_dtype::into_dtypes;
 use crate::fields_builder::FieldsBuilder;
+use crate::name_index::NameIndex;
+use crate::repeats::has_repeats;
 use crate::text::separator;
 use crate::{DType, FieldDType};
 use dtype_base::{FieldName, FieldNames, VortexError, VortexResult};
@@ -29,7 +31,8 @@ impl StructFields {
     ghost use Rattle.dtype_types.specs.Building.{fields_so_far};
     ghost use Rattle.dtype_types.specs.Equality.{agree_fields};
     ghost use Rattle.dtype_types.specs.FieldTypes.{field_tree, HasFields};
-    ghost use Rattle.dtype_types.specs.Lookups.{first_named};
+    ghost use Rattle.dtype_types.specs.Lookups.{first_named, field_names, Projects, ProjectionRefusal, MergeRefusal};
+    ghost use Rattle.dtype_types.specs.Distinct.{Distinct};
     ghost use Rattle.dtype_types.specs.Tree.{Tree};
     ghost use Rattle.dtype_types.specs.TreeOf.{struct_tree, IsPaired, names_of, types_of, children, tree, option_tree, ValidStruct};
     ghost use Rattle.dtype_types.specs.Valid.{Valid};
@@ -167,6 +170,75 @@ impl StructFields {
             }
         }
         true
+    }
+
+    /// The first field of each name asked, in the order asked, repeats kept. Refuses 16 (FieldNotFound)
+    /// at the first name that no field has, with its position in the projection, else 0 (OutOfMemory)
+    /// alone.
+    pub fn project(&self, alloc: Global, projection: &[FieldName]) -> VortexResult<Self>
+        ensures fields { IfOk result (λ s. Projects (children self.now) projection.now (children s)) }
+        ensures paired { IfOk result IsPaired }
+        ensures valid { ValidStruct self.now → IfOk result ValidStruct }
+        ensures refused { IfErr result (ProjectionRefusal (children self.now) projection.now) }
+    {
+        let index = NameIndex::new(alloc, self.paired_names())?;
+        let mut fields = FieldsBuilder::with_capacity(alloc, projection.len())?;
+        for (position, name) in projection.iter().enumerate() {
+            match index.find(name) {
+                Some(i) => fields = self.push_copy(alloc, fields, i)?,
+                None => return Err(VortexError::FieldNotFound { position }),
+            }
+        }
+        fields.finish(alloc)
+    }
+
+    /// The fields of the one followed by those of the other. Refuses 18 (DuplicateNames) where a name
+    /// stands twice among them, on one side alone too, else 0 (OutOfMemory) alone.
+    pub fn disjoint_merge(&self, alloc: Global, other: &Self) -> VortexResult<Self>
+        ensures fields { IfOk result (λ s. children s ≡ children self.now ++ children other.now) }
+        ensures distinct { IsOk result → Distinct (field_names (children self.now ++ children other.now)) }
+        ensures paired { IfOk result IsPaired }
+        ensures valid { ValidStruct self.now → ValidStruct other.now → IfOk result ValidStruct }
+        ensures refused { IfErr result (MergeRefusal (field_names (children self.now ++ children other.now))) }
+    {
+        let names = self.joined_names(alloc, other)?;
+        if has_repeats(alloc, &names)? {
+            return Err(VortexError::DuplicateNames);
+        }
+        let fields = FieldsBuilder::with_capacity(alloc, names.len())?;
+        let fields = self.push_copies(alloc, fields)?;
+        other.push_copies(alloc, fields)?.finish(alloc)
+    }
+
+    // Puts copies of all fields behind those that are there.
+    fn push_copies(&self, alloc: Global, mut fields: FieldsBuilder) -> VortexResult<FieldsBuilder>
+        ensures ok { IfOk result (λ b. fields_so_far b ≡ fields_so_far fields ++ children self.now) }
+        ensures refused { IsOkUnless result OutOfMemory }
+    {
+        for i in 0..self.count() {
+            fields = self.push_copy(alloc, fields, i)?;
+        }
+        Ok(fields)
+    }
+
+    // The names that have a type, which are all of them in every struct that is made.
+    #[tactic(auto, using(crate::proofs::Zips::firsts_take))]
+    fn paired_names(&self) -> &[FieldName]
+        ensures { result.now ≡ field_names (children self.now) }
+    {
+        &self.names.as_slice()[..self.count()]
+    }
+
+    // The names of the one followed by those of the other.
+    #[tactic(auto, using(crate::proofs::Zips::firsts_append))]
+    fn joined_names(&self, alloc: Global, other: &Self) -> VortexResult<Vec<FieldName>>
+        ensures ok { IfOk result (λ v. v.items ≡ field_names (children self.now ++ children other.now)) }
+        ensures refused { IsOkUnless result OutOfMemory }
+    {
+        let mut names = Vec::new(alloc);
+        append_names(alloc, &mut names, self.paired_names())?;
+        append_names(alloc, &mut names, other.paired_names())?;
+        Ok(names)
     }
 
     /// The fields but for that at this position. Refuses 17 (IndexOutOfBounds) at or past the end, with

@@ -13,3 +13,4 @@ pub mod FieldTypes
 pub mod Building
 pub mod Distinct
 pub mod NameIndex
+pub mod IndentedText

@@ -1,11 +1,11 @@
 ghost use Rattle.std.specs.Prelude.{◌≡◌, ◌↔◌, ℕ, IsTrue, IfOk, IfSome, IfNone, IsOkUnless, List, [], ◌<◌, length, slice_get, map, Some, nat_eq};
 ghost use Rattle.std.specs.Option.{option_copied};
-ghost use Rattle.std.specs.Iterator.{IsFinite, Drains};
+ghost use Rattle.std.specs.Iterator.{IsFinite};
+ghost use Rattle.std.specs.Iterator.Runs.{WholeRun};
 ghost use Rattle.dtype_base.specs.FieldNames.{FirstAt, IsAbsent};
 ghost use Rattle.dtype_base.specs.declared.vortex_error.VortexError.TheVariants.{OutOfMemory};
 
-use crate::field_names_iter::{FieldNamesIntoIter, FieldNamesIter};
-use crate::{FieldName, VortexResult};
+use crate::{FieldName, FieldNamesIntoIter, FieldNamesIter, VortexResult};
 use std::alloc::Global;
 use std::fmt;
 use std::hash::{Hash, Hasher};
@@ -58,12 +58,14 @@ impl FieldNames {
         alloc: Global,
         names: I,
     ) -> VortexResult<Self>
-        requires { (it : I.IntoIter) → I.into_iter_gives names it → I.IntoIter.can_next it × IsFinite (I.IntoIter.remaining it) }
-        ensures ok { IfOk result (λ n. (it : I.IntoIter) × I.into_iter_gives names it × Drains I.IntoIter.next_gives it n) }
+        requires { (it : I.IntoIter) → I.into_iter_gives names it
+            → I.IntoIter.can_next it × IsFinite (I.IntoIter.remaining it) }
+        ensures ok { IfOk result (λ n. (it : I.IntoIter) × I.into_iter_gives names it
+            × WholeRun I.IntoIter.next_gives it (λ run. n ≡ run.items)) }
         ensures refused { IsOkUnless result OutOfMemory }
     {
         Ok(FieldNames {
-            items: Vec::from_iter(alloc, names)?,
+            items: names.into_iter().collect(alloc)?,
         })
     }
 
@@ -206,7 +208,7 @@ impl IntoIterator for FieldNames {
     ghost into_iter_gives = { λ names it. it ≡ names };
 
     fn into_iter(self) -> FieldNamesIntoIter {
-        FieldNamesIntoIter::new(self.items)
+        FieldNames::into_iter(self)
     }
 }
 

@@ -1,0 +1,80 @@
+use Rattle.std.proofs.Common.{◌≡◌, codes, cond, ◌==◌, [], ap, ◌∙◌, sym, ◌++◌, arith, List, ℕ, get_or, refl, take, length}
+use Rattle.dtype_base.specs.Escapes.{escaped}
+use Rattle.dtype_types.specs.Tree.{Tree}
+use Rattle.std.proofs.Output.{has_written_append, has_written_of_eq}
+use Rattle.std.proofs.lemmas.Grind.{common_steps}
+use Rattle.std.proofs.lemmas.List.{take_all}
+use Rattle.dtype_types.proofs.Texts.{map_all, struct_all, union_all, extension_all, joined_next, field_text_at, choice_text_at, length-field_texts, length-choice_texts, read_pair, read_triple}
+use Rattle.dtype_types.specs.Text.{text, joined, field_texts, choice_texts, consecutive, tag_text}
+use Rattle.dtype_types.specs.TreeOf.{children, choices, struct_tree, union_tree, tree}
+use Rattle.dtype_types.specs.TextOf.{map_text, struct_text, union_text, extension_text}
+use Rattle.dtype_types.proofs.+text.Goals as goal
+
+pub dtype::DTypeDisplay::fmt-returns-in_ok-fmt-in-Map-clause-writes : goal.dtype::DTypeDisplay::fmt-returns-in_ok-fmt-in-Map-clause-writes
+dtype::DTypeDisplay::fmt-returns-in_ok-fmt-in-Map-clause-writes g t c = λ plain ok.
+    let e = map_all c.in-Map.map c.in-Map.n c.args.self.now c.in-Map.is in grind (arith, common_steps)
+
+pub dtype::DTypeDisplay::fmt-returns-in_ok-fmt-in-Struct-clause-writes : goal.dtype::DTypeDisplay::fmt-returns-in_ok-fmt-in-Struct-clause-writes
+dtype::DTypeDisplay::fmt-returns-in_ok-fmt-in-Struct-clause-writes g t c = λ plain ok.
+    let e = struct_all c.in-Struct.fields c.in-Struct.n c.args.self.now c.in-Struct.is in grind (arith, common_steps)
+
+pub dtype::DTypeDisplay::fmt-returns-in_ok-fmt-in-Union-clause-writes : goal.dtype::DTypeDisplay::fmt-returns-in_ok-fmt-in-Union-clause-writes
+dtype::DTypeDisplay::fmt-returns-in_ok-fmt-in-Union-clause-writes g t c = λ plain ok.
+    let e = union_all c.in-Union.variants c.in-Union.n c.args.self.now c.in-Union.is in grind (arith, common_steps)
+
+pub dtype::DTypeDisplay::fmt-returns-in-Extension-clause-writes : goal.dtype::DTypeDisplay::fmt-returns-in-Extension-clause-writes
+dtype::DTypeDisplay::fmt-returns-in-Extension-clause-writes g t c = λ plain ok.
+    let e = extension_all c.in-Extension.extension c.args.self.now c.in-Extension.is in grind (arith, common_steps)
+
+pub extension::ExtDTypeRefDisplay::fmt-returns-clause-writes : goal.extension::ExtDTypeRefDisplay::fmt-returns-clause-writes
+unfolding extension_text
+extension::ExtDTypeRefDisplay::fmt-returns-clause-writes g t c = λ plain ok. grind (arith, common_steps)
+
+pub map::MapDTypeDisplay::fmt-returns-clause-writes : goal.map::MapDTypeDisplay::fmt-returns-clause-writes
+unfolding map_text
+map::MapDTypeDisplay::fmt-returns-clause-writes g t c = λ plain ok.
+    let w1 = c.in_ok-write.ensures.writes plain refl in
+    let w2 = c.in_ok-fmt.ensures.writes w1.plain refl in
+    let w3 = c.in_ok-write-2.ensures.writes w2.plain refl in
+    let w4 = c.in_ok-fmt-2.ensures.writes w3.plain refl in
+    let w5 = c.write-3.ensures.writes w4.plain ok in
+    has_written_append _ _ _ _ _ _ w1 (has_written_append _ _ _ _ _ _ w2 (has_written_append _ _ _ _ _ _ w3 (has_written_append _ _ _ _ _ _ w4 w5)))
+
+pub struct_fields::StructFieldsDisplay::fmt-loop-i-preserved : goal.struct_fields::StructFieldsDisplay::fmt-loop-i-preserved
+struct_fields::StructFieldsDisplay::fmt-loop-i-preserved g t c = λ plain.
+    let s = c.args.self.now in
+    let i = c.loop-i.i in
+    let n = c.index-names-i.result in
+    let d = c.index-dtype.result.now in
+    let x : List ℕ = escaped n ++ (codes "=" ++ text (tree d)) in
+    let p : List ℕ × Tree = (n, tree d) in
+    let read = read_pair s.names s.dtypes.items i n d (omega arith) (omega arith) (c.index-names-i.is ∙ ap (λ xs. get_or xs i n) c.as_slice-names.ensures) c.index-dtype.ensures in
+    let inv = c.loop-i.invariant plain in
+    has_written_of_eq _ _ _ _ _ (joined_next (codes ", ") (field_texts (struct_tree s)) i x (omega (arith, length-field_texts (children s))) (field_text_at (children s) i p (omega arith) read)) (has_written_append _ _ _ _ _ _ inv (grind (arith, common_steps)))
+
+pub struct_fields::StructFieldsDisplay::fmt-returns-clause-writes : goal.struct_fields::StructFieldsDisplay::fmt-returns-clause-writes
+unfolding struct_text
+struct_fields::StructFieldsDisplay::fmt-returns-clause-writes g t c = λ plain ok.
+    let s = c.args.self.now in
+    let e = take_all c.loop-i.i (field_texts (struct_tree s)) (omega (arith, length-field_texts (children s))) in grind (arith, common_steps)
+
+pub union_variants::UnionVariantsDisplay::fmt-loop-i-preserved : goal.union_variants::UnionVariantsDisplay::fmt-loop-i-preserved
+union_variants::UnionVariantsDisplay::fmt-loop-i-preserved g t c = λ plain.
+    let u = c.args.self.now in
+    let i = c.loop-i.i in
+    let k = consecutive 0 (union_tree u) in
+    let n = c.index-names-i.result in
+    let d = c.index-dtype.result.now in
+    let h = c.index.result.now in
+    let x : List ℕ = escaped n ++ (tag_text k h ++ (codes "=" ++ text (tree d))) in
+    let p : List ℕ × Tree × ℕ = (n, tree d, h) in
+    let read = read_triple u.names u.dtypes.items u.type_ids.items i n d h (omega arith) (omega arith) (omega arith) (c.index-names-i.is ∙ ap (λ xs. get_or xs i n) c.as_slice-names.ensures) c.index-dtype.ensures c.index.ensures in
+    let inv = c.loop-i.invariant plain in
+    has_written_of_eq _ _ _ _ _ (joined_next (codes ", ") (choice_texts k (union_tree u)) i x (omega (arith, length-choice_texts k (choices u))) (choice_text_at k (choices u) i p (omega arith) read)) (has_written_append _ _ _ _ _ _ inv (grind (arith, common_steps)))
+
+pub union_variants::UnionVariantsDisplay::fmt-returns-clause-writes : goal.union_variants::UnionVariantsDisplay::fmt-returns-clause-writes
+unfolding union_text
+union_variants::UnionVariantsDisplay::fmt-returns-clause-writes g t c = λ plain ok.
+    let u = c.args.self.now in
+    let k = consecutive 0 (union_tree u) in
+    let e = take_all c.loop-i.i (choice_texts k (union_tree u)) (omega (arith, length-choice_texts k (choices u))) in grind (arith, common_steps)

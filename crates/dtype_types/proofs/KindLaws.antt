@@ -1,0 +1,85 @@
+-- What a type of another kind doesn't hold, and what a struct holds.
+use Rattle.std.proofs.Common.{◌≡◌, ap, sym, ◌∙◌, ℕ, ℤ, Some, None, refl}
+use Rattle.std.specs.declared.boxed.Box.{Box}
+use Rattle.std.specs.declared.alloc.Global.{Global}
+use Rattle.dtype_base.specs.declared.nullability.Nullability.{Nullability}
+use Rattle.dtype_base.specs.Decimals.{Decimal as DecimalOf}
+use Rattle.dtype_base.specs.declared.ptype.PType.{PType}
+use Rattle.dtype_types.specs.declared.kind.Kind.TheVariants as k
+use Rattle.dtype_types.specs.Kinds.{kind, primitive_name, decimal_of, struct_fields, union_variants, map_parts, extension_parts, list_element, fixed_size_list_element, any_size_list_element}
+use Rattle.dtype_types.specs.Tree.{Tree, Fields, Variants, primitive, struct, extension}
+use Rattle.dtype_types.specs.TreeOf.{tree, children, choices, key_tree, value_tree, are_keys_sorted, extension_id, extension_metadata, storage_tree, MapParts, ExtensionParts, type_step, extension_step, map_step, struct_step, union_step}
+use denote.Hole.Carrier
+use Rattle.dtype_types.specs.declared.dtype.DType.{out-DType, fold_out-DType}
+use Rattle.dtype_types.proofs.TreeLaws.{struct_is, union_is, tree_struct, tree_union, tree_map, tree_extension, pairs_fields, triples_variants}
+use Rattle.dtype_types.specs.declared.dtype.DType.{DType, Primitive, Decimal, List as List_of, List', FixedSizeList, FixedSizeList', Map, Map', Struct, Struct', Union, Union', Extension, Extension'}
+use Rattle.dtype_types.specs.declared.struct_fields.StructFields.{StructFields}
+use Rattle.dtype_types.specs.declared.union_variants.UnionVariants.{UnionVariants}
+use Rattle.dtype_types.specs.declared.map.MapDType.{MapDType}
+use Rattle.dtype_types.specs.declared.extension.ExtDTypeRef.{ExtDTypeRef}
+
+pub primitive_name_none : (d : DType) → ((p : PType) (n : Nullability) → d ≡ Primitive p n → ⊥) → primitive_name (tree d) ≡ None
+unfolding out-DType Carrier.out
+primitive_name_none (Primitive p n) h = absurd (h p n refl)
+primitive_name_none d h = ap primitive_name (fold_out-DType Tree ExtensionParts MapParts Fields Variants type_step extension_step map_step struct_step union_step d)
+
+pub decimal_of_none : (d : DType) → ((p : DecimalOf) (n : Nullability) → d ≡ Decimal p n → ⊥) → decimal_of (tree d) ≡ None
+unfolding out-DType Carrier.out
+decimal_of_none (Decimal p n) h = absurd (h p n refl)
+decimal_of_none d h = ap decimal_of (fold_out-DType Tree ExtensionParts MapParts Fields Variants type_step extension_step map_step struct_step union_step d)
+
+pub list_element_none : (d : DType) → ((b : Box DType Global) (n : Nullability) → d ≡ List_of b n → ⊥) → list_element (tree d) ≡ None
+unfolding out-DType Carrier.out
+list_element_none (List' b e n) h = absurd (h (record { ptr = b.ptr; alloc = b.alloc; value = e }) n refl)
+list_element_none d h = ap list_element (fold_out-DType Tree ExtensionParts MapParts Fields Variants type_step extension_step map_step struct_step union_step d)
+
+pub fixed_size_list_element_none : (d : DType) → ((b : Box DType Global) (j : ℕ) (n : Nullability) → d ≡ FixedSizeList b j n → ⊥) → fixed_size_list_element (tree d) ≡ None
+unfolding out-DType Carrier.out
+fixed_size_list_element_none (FixedSizeList' b e j n) h = absurd (h (record { ptr = b.ptr; alloc = b.alloc; value = e }) j n refl)
+fixed_size_list_element_none d h = ap fixed_size_list_element (fold_out-DType Tree ExtensionParts MapParts Fields Variants type_step extension_step map_step struct_step union_step d)
+
+pub any_size_list_element_none : (d : DType) → ((b : Box DType Global) (n : Nullability) → d ≡ List_of b n → ⊥) → ((b : Box DType Global) (j : ℕ) (n : Nullability) → d ≡ FixedSizeList b j n → ⊥) → any_size_list_element (tree d) ≡ None
+unfolding out-DType Carrier.out
+any_size_list_element_none (List' b e n) h g = absurd (h (record { ptr = b.ptr; alloc = b.alloc; value = e }) n refl)
+any_size_list_element_none (FixedSizeList' b e j n) h g = absurd (g (record { ptr = b.ptr; alloc = b.alloc; value = e }) j n refl)
+any_size_list_element_none d h g = ap any_size_list_element (fold_out-DType Tree ExtensionParts MapParts Fields Variants type_step extension_step map_step struct_step union_step d)
+
+pub map_parts_none : (d : DType) → ((x : MapDType) (n : Nullability) → d ≡ Map x n → ⊥) → map_parts (tree d) ≡ None
+unfolding out-DType Carrier.out
+map_parts_none (Map' b k c v o n) h = absurd (h (record { key = record { ptr = b.ptr; alloc = b.alloc; value = k }; value = record { ptr = c.ptr; alloc = c.alloc; value = v }; keys_sorted = o }) n refl)
+map_parts_none d h = ap map_parts (fold_out-DType Tree ExtensionParts MapParts Fields Variants type_step extension_step map_step struct_step union_step d)
+
+pub struct_fields_none : (d : DType) → ((x : StructFields) (n : Nullability) → d ≡ Struct x n → ⊥) → struct_fields (tree d) ≡ None
+unfolding out-DType Carrier.out
+struct_fields_none (Struct' ns sh row n) h = let e = struct_is ns sh row n in absurd (h e.0 n e.1)
+struct_fields_none d h = ap struct_fields (fold_out-DType Tree ExtensionParts MapParts Fields Variants type_step extension_step map_step struct_step union_step d)
+
+pub union_variants_none : (d : DType) → ((x : UnionVariants) (n : Nullability) → d ≡ Union x n → ⊥) → union_variants (tree d) ≡ None
+unfolding out-DType Carrier.out
+union_variants_none (Union' ns sh row gs n) h = let e = union_is ns sh row gs n in absurd (h e.0 n e.1)
+union_variants_none d h = ap union_variants (fold_out-DType Tree ExtensionParts MapParts Fields Variants type_step extension_step map_step struct_step union_step d)
+
+pub extension_parts_none : (d : DType) → ((x : ExtDTypeRef) → d ≡ Extension x → ⊥) → extension_parts (tree d) ≡ None
+unfolding out-DType Carrier.out
+extension_parts_none (Extension' j b c e) h = absurd (h (record { id = j; metadata = b; storage = record { ptr = c.ptr; alloc = c.alloc; value = e } }) refl)
+extension_parts_none d h = ap extension_parts (fold_out-DType Tree ExtensionParts MapParts Fields Variants type_step extension_step map_step struct_step union_step d)
+
+-- what a struct, a union, a map and an extension hold
+pub struct_fields_some : (x : StructFields) (n : Nullability) (d : DType) → d ≡ Struct x n → struct_fields (tree d) ≡ Some (children x)
+struct_fields_some x n d e = ap (λ z. struct_fields (tree z)) e ∙ ap struct_fields (tree_struct x n) ∙ ap Some (pairs_fields (children x))
+
+pub union_variants_some : (x : UnionVariants) (n : Nullability) (d : DType) → d ≡ Union x n → union_variants (tree d) ≡ Some (choices x)
+union_variants_some x n d e = ap (λ z. union_variants (tree z)) e ∙ ap union_variants (tree_union x n) ∙ ap Some (triples_variants (choices x))
+
+-- a type of the kind holds what it holds
+pub is_primitive_named : (t : Tree) → kind t ≡ k.Primitive → primitive_name t ≡ None → ⊥
+is_primitive_named (primitive p n) e h = cc
+is_primitive_named _ e h = cc
+
+pub is_struct_with : (t : Tree) → kind t ≡ k.Struct → struct_fields t ≡ None → ⊥
+is_struct_with (struct fs n) e h = cc
+is_struct_with _ e h = cc
+
+pub is_extension_with : (t : Tree) → kind t ≡ k.Extension → extension_parts t ≡ None → ⊥
+is_extension_with (extension i b s) e h = cc
+is_extension_with _ e h = cc

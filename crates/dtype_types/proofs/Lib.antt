@@ -1,0 +1,14 @@
+pub mod TreeLaws
+pub mod ValidLaws
+pub mod FieldLookups
+pub mod OtherKinds
+pub mod KindLaws
+pub mod Turns
+pub mod SameParts
+pub mod SetNullLaws
+pub mod Texts
+pub mod Zips
+pub mod Outcomes
+pub mod DistinctItems
+pub mod NameIndexes
+pub mod Projections

@@ -1,0 +1,24 @@
+-- When a type can have another nullability.
+use Rattle.std.proofs.Common.{◌≡◌, ℕ, List, Option, Some, None, IsSome, option_and_then, refl, ap, sym, ◌∙◌, subst}
+use Rattle.dtype_base.specs.declared.nullability.Nullability.{Nullability}
+use Rattle.dtype_base.specs.declared.nullability.Nullability.TheVariants.{NonNullable, Nullable}
+use Rattle.dtype_types.specs.Nullable.{nullability, set_null, CanBeNonNullable}
+use Rattle.dtype_types.specs.Tree.{Tree, null, bool, primitive, decimal, utf8, binary, list, fixed_size_list, map_of, struct, union, variant, extension}
+
+-- a value passes through
+kept : (i b : List ℕ) (o : Option Tree) → IsSome o → IsSome (option_and_then (λ x. Some (extension i b x)) o)
+kept i b (Some x) h = refl
+kept i b None h = cc
+
+pub storage_can : (i b : List ℕ) (s : Tree) → CanBeNonNullable (extension i b s) → CanBeNonNullable s
+storage_can i b s h = go (set_null s NonNullable) h
+  where
+    go : (o : Option Tree) → IsSome (option_and_then (λ x. Some (extension i b x)) o) → IsSome o
+    go (Some x) h = refl
+    go None h = cc
+
+-- a non-nullable type can be non-nullable
+pub nonnullable_can : (t : Tree) → nullability t ≡ NonNullable → CanBeNonNullable t
+nonnullable_can null e = cc
+nonnullable_can (extension i b s) e = kept i b (set_null s NonNullable) (nonnullable_can s e)
+nonnullable_can _ e = refl

@@ -1,0 +1,53 @@
+-- The tree of a struct and of a union, by the lists that they hold; what a type of another kind lacks.
+use Rattle.std.specs.Prelude.{◌≡◌, ℕ, List, [], ◌∷◌, map, refl, Some, None}
+use Rattle.std.specs.declared.boxed.Box.{Box}
+use Rattle.std.specs.declared.alloc.Global.{Global}
+use Rattle.std.proofs.Common.{ap, sym, ◌∙◌, rules}
+use Rattle.std.specs.List.{zip}
+use Rattle.dtype_base.specs.declared.nullability.Nullability.{Nullability}
+use Rattle.dtype_types.specs.Tree.{null, map_of, Tree, Fields, Variants, pairs, triples, fields, variants, struct, union}
+use Rattle.dtype_types.specs.TreeOf.{tree, extension_tree, children, choices, MapParts, ExtensionParts, type_step, extension_step, map_step, struct_step, union_step}
+use Rattle.dtype_types.specs.declared.dtype.DType.{DType, Map, Null, Bool, Primitive, Decimal, Utf8, Binary, Variant, List as list_of, List', FixedSizeList', Map', Struct, Struct', Union, Union', Extension, Extension', roll-out-DType, roll-DType}
+use Rattle.dtype_types.specs.declared.dtype.DType.TheViews.{rolls-Struct, outs-Struct', rolls-Union, outs-Union'}
+use denote.Hole.Carrier
+use Rattle.dtype_types.specs.declared.dtype.DType.{out-DType, fold_out-DType, fold-roll-DType, the_lemmas}
+use Rattle.dtype_types.specs.declared.struct_fields.StructFields.{fold_out-StructFields}
+use Rattle.dtype_types.specs.declared.union_variants.UnionVariants.{fold_out-UnionVariants}
+use Rattle.dtype_types.specs.declared.struct_fields.StructFields.{StructFields}
+use Rattle.dtype_types.specs.declared.union_variants.UnionVariants.{UnionVariants}
+use Rattle.dtype_types.specs.declared.extension.ExtDTypeRef.{ExtDTypeRef, fold_out-ExtDTypeRef}
+use Rattle.dtype_types.specs.declared.map.MapDType.{MapDType, fold_out-MapDType}
+
+pub tree_null : tree Null ≡ null
+tree_null = search (rules, the_lemmas, fold_out-DType, fold-roll-DType)
+
+pub tree_map : (m : MapDType) (n : Nullability) → tree (Map m n) ≡ map_of (tree m.key.value) (tree m.value.value) m.keys_sorted n
+tree_map m n = search (rules, the_lemmas, fold_out-DType, fold-roll-DType, fold_out-MapDType)
+
+pub tree_struct : (s : StructFields) (n : Nullability) → tree (Struct s n) ≡ struct (fields (children s)) n
+tree_struct s n = search (rules, the_lemmas, fold_out-DType, fold-roll-DType, fold_out-StructFields)
+
+pub tree_union : (u : UnionVariants) (n : Nullability) → tree (Union u n) ≡ union (variants (choices u)) n
+tree_union u n = search (rules, the_lemmas, fold_out-DType, fold-roll-DType, fold_out-UnionVariants)
+
+pub tree_extension : (e : ExtDTypeRef) → tree (Extension e) ≡ extension_tree e
+tree_extension e = search (rules, the_lemmas, fold_out-DType, fold-roll-DType, fold_out-ExtDTypeRef)
+
+pub pairs_fields : (ps : List (List ℕ × Tree)) → pairs (fields ps) ≡ ps
+pairs_fields [] = refl
+pairs_fields (p ∷ ps) = ap (λ qs. p ∷ qs) (pairs_fields ps)
+
+pub triples_variants : (ps : List (List ℕ × Tree × ℕ)) → triples (variants ps) ≡ ps
+triples_variants [] = refl
+triples_variants (p ∷ ps) = ap (λ qs. p ∷ qs) (triples_variants ps)
+
+-- a row's struct is a struct of a list
+pub struct_is : (ns : _) (sh : _) (row : _) (n : Nullability) → (s : StructFields) × (Struct' ns sh row n ≡ Struct s n)
+struct_is ns sh row n =
+    let d : DType = Struct' ns sh row n in
+    (_, sym (roll-out-DType d) ∙ ap roll-DType (outs-Struct' ns sh row n) ∙ rolls-Struct _ n)
+
+pub union_is : (ns : _) (sh : _) (row : _) (gs : _) (n : Nullability) → (u : UnionVariants) × (Union' ns sh row gs n ≡ Union u n)
+union_is ns sh row gs n =
+    let d : DType = Union' ns sh row gs n in
+    (_, sym (roll-out-DType d) ∙ ap roll-DType (outs-Union' ns sh row gs n) ∙ rolls-Union _ n)

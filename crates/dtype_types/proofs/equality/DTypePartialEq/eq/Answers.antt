@@ -1,0 +1,9 @@
+use Rattle.std.proofs.Common.{sym, ◌∙◌}
+use Rattle.dtype_types.specs.EqualityLaws.{agree-Decides}
+use Rattle.dtype_types.specs.TreeOf.{tree}
+use Rattle.dtype_types.proofs.equality.DTypePartialEq.eq.Goals as goal
+
+pub returns-clause-exact : goal.returns-clause-exact
+returns-clause-exact c =
+    let d = agree-Decides (tree c.args.self.now) (tree c.args.other.now) in
+    (λ e. d.0 (sym c.agree.ensures ∙ e), λ e. c.agree.ensures ∙ d.1 e)

@@ -1,0 +1,17 @@
+use Rattle.std.proofs.Common.{◌≡◌, sym, ◌∙◌, arith, ap}
+use Rattle.std.proofs.lemmas.List.{drop_all}
+use Rattle.dtype_types.proofs.Turns.{consecutive_turn, tags_same, tags_differ, and_first, and_both}
+use Rattle.dtype_types.specs.TreeOf.{choices, variant_names, variant_types, variant_tags}
+use Rattle.dtype_types.proofs.union_variants.UnionVariants.is_consecutive.Goals as goal
+
+pub returns-then-from-i : goal.returns-then-from-i
+returns-then-from-i c =
+    let u = c.args.self.now in
+    let e = consecutive_turn (variant_names u) (variant_types u) (variant_tags u) c.loop-i.i c.index-tag.result.now (omega arith) c.index-tag.ensures in
+    sym (sym c.loop-i.invariant ∙ e ∙ and_first _ _ (tags_differ c.index-tag.result.now c.loop-i.i (omega arith)))
+
+pub loop-i-preserved : goal.loop-i-preserved
+loop-i-preserved c =
+    let u = c.args.self.now in
+    let e = consecutive_turn (variant_names u) (variant_types u) (variant_tags u) c.loop-i.i c.index-tag.result.now (omega arith) c.index-tag.ensures in
+    sym (e ∙ and_both _ _ (tags_same c.index-tag.result.now c.loop-i.i (omega arith))) ∙ c.loop-i.invariant

@@ -1,0 +1,8 @@
+use Rattle.std.proofs.Common.{◌≡◌, drop}
+use Rattle.dtype_types.specs.Text.{consecutive}
+use Rattle.dtype_types.specs.Tree.{variants}
+use Rattle.dtype_types.specs.TreeOf.{choices}
+use Rattle.dtype_types.proofs.union_variants.UnionVariants.is_consecutive.Given as goal
+
+abbrev pub invariant-loop-i : goal.invariant-loop-i
+invariant-loop-i l = consecutive l.i (variants (drop l.i (choices l.self))) ≡ consecutive 0 (variants (choices l.self))

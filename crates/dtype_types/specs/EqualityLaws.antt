@@ -1,0 +1,185 @@
+-- The test of equality is exact: trees agree exactly where they are equal, and with nullabilities ignored
+-- exactly where their erased trees are. Both are equivalences.
+use Rattle.std.specs.Prelude.{◌≡◌, ℕ, List, Bool, true, false, ◌&&◌, ◌==◌, refl}
+use Rattle.std.specs.Bool.{Decides}
+use Rattle.std.specs.Ordering.{int_eq}
+use Rattle.std.proofs.Common.{ap, sym, ◌∙◌, subst}
+use Rattle.std.proofs.Math.Bool.{beq}
+use Rattle.std.specs.Cmp.{booleans_Decides, signed_Decides, IsEquivalence, on_equiv}
+use Rattle.std.specs.Str.{bytes_eq}
+use Rattle.std.proofs.lemmas.Bool.{false≢true}
+use Rattle.std.proofs.lemmas.Bool.Decides.{Decides-eqb, same_from_decides}
+use Rattle.std.proofs.lemmas.Slice.Eq.{bytes_eq-Decides}
+use Rattle.dtype_base.specs.declared.nullability.Nullability.{Nullability}
+use Rattle.dtype_base.specs.declared.nullability.Nullability.TheVariants.{NonNullable, Nullable}
+use Rattle.dtype_base.specs.Decimals.{Decimal}
+use Rattle.dtype_base.specs.declared.ptype.PType.{PType}
+use Rattle.dtype_base.specs.declared.ptype.PType.TheVariants.{U8, U16, U32, U64, I8, I16, I32, I64, F16, F32, F64}
+use Rattle.dtype_types.specs.declared.equality.Nullabilities.{Nullabilities}
+use Rattle.dtype_types.specs.declared.equality.Nullabilities.TheVariants.{Compared, Ignored}
+use Rattle.dtype_types.specs.declared.dtype.DType.{DType}
+use Rattle.dtype_types.specs.Tree.{Tree, Fields, no_fields, field, Variants, no_variants, choice, null, bool, primitive, decimal, utf8, binary, list, fixed_size_list, map_of, struct, union, variant, extension}
+use Rattle.dtype_types.specs.Erase.{erase, erase_fields, erase_variants}
+use Rattle.dtype_types.specs.Equality.{agree, agree_fields, agree_variants, allows, same_ptype}
+use Rattle.dtype_types.specs.TreeOf.{tree}
+
+pub allows-same : (m n : Nullability) → allows Compared m n ≡ true → m ≡ n
+allows-same NonNullable NonNullable e = refl
+allows-same Nullable Nullable e = refl
+allows-same _ _ e = absurd (false≢true e)
+
+pub allows_refl : (s : Nullabilities) (m : Nullability) → allows s m m ≡ true
+allows_refl Ignored m = refl
+allows_refl Compared NonNullable = refl
+allows_refl Compared Nullable = refl
+
+pub same_ptype-same : (p q : PType) → same_ptype p q ≡ true → p ≡ q
+same_ptype-same U8 U8 e = refl
+same_ptype-same U16 U16 e = refl
+same_ptype-same U32 U32 e = refl
+same_ptype-same U64 U64 e = refl
+same_ptype-same I8 I8 e = refl
+same_ptype-same I16 I16 e = refl
+same_ptype-same I32 I32 e = refl
+same_ptype-same I64 I64 e = refl
+same_ptype-same F16 F16 e = refl
+same_ptype-same F32 F32 e = refl
+same_ptype-same F64 F64 e = refl
+same_ptype-same _ _ e = absurd (false≢true e)
+
+pub same_ptype-Decides : (p q : PType) → Decides (same_ptype p q) (p ≡ q)
+same_ptype-Decides p q = (same_ptype-same p q, λ e. subst (λ x. same_ptype p x ≡ true) e ((Decides-eqb _ _).1 refl))
+
+same_decimal : (d e : Decimal) → d.precision ≡ e.precision → d.scale ≡ e.scale → d ≡ e
+same_decimal d e p s =
+    let first : d ≡ record { precision = e.precision; scale = d.scale } = ap (λ x. record { precision = x; scale = d.scale }) p in
+    let second : record { precision = e.precision; scale = d.scale } ≡ e = ap (λ x. record { precision = e.precision; scale = x }) s in
+    first ∙ second
+
+both : {x y : Bool} → (x && y) ≡ true → (x ≡ true) × (y ≡ true)
+both {x = true} e = (refl, e)
+both {x = false} e = absurd (false≢true e)
+
+join : {x y : Bool} → x ≡ true → y ≡ true → (x && y) ≡ true
+join {y = y} p q = ap (λ b. b && y) p ∙ q
+
+mutual
+  pub agree-same : (a b : Tree) → agree Compared a b ≡ true → a ≡ b
+  agree-same null null e = refl
+  agree-same (bool m) (bool n) e = ap bool (allows-same m n e)
+  agree-same (primitive p m) (primitive q n) e =
+      let h = both e in ap (λ r. primitive r m) (same_ptype-same p q h.0) ∙ ap (primitive q) (allows-same m n h.1)
+  agree-same (decimal p m) (decimal q n) e =
+      let h = both e in let g = both h.0 in
+      ap (λ r. decimal r m) (same_decimal p q ((Decides-eqb p.precision q.precision).0 g.0) ((signed_Decides p.scale q.scale).0 g.1)) ∙ ap (decimal q) (allows-same m n h.1)
+  agree-same (utf8 m) (utf8 n) e = ap utf8 (allows-same m n e)
+  agree-same (binary m) (binary n) e = ap binary (allows-same m n e)
+  agree-same (variant m) (variant n) e = ap variant (allows-same m n e)
+  agree-same (list t m) (list u n) e = let h = both e in ap (λ r. list r m) (agree-same t u h.0) ∙ ap (list u) (allows-same m n h.1)
+  agree-same (fixed_size_list t j m) (fixed_size_list u k n) e =
+      let h = both e in let g = both h.0 in
+      ap (λ r. fixed_size_list r j m) (agree-same t u g.0) ∙ ap (λ r. fixed_size_list u r m) ((Decides-eqb j k).0 g.1) ∙ ap (fixed_size_list u k) (allows-same m n h.1)
+  agree-same (map_of t v a m) (map_of u w b n) e =
+      let h = both e in let g = both h.0 in let f = both g.0 in
+      ap (λ r. map_of r v a m) (agree-same t u f.0) ∙ ap (λ r. map_of u r a m) (agree-same v w f.1)
+      ∙ ap (λ r. map_of u w r m) ((booleans_Decides a b).0 g.1) ∙ ap (map_of u w b) (allows-same m n h.1)
+  agree-same (struct fs m) (struct gs n) e = let h = both e in ap (λ r. struct r m) (agree_fields-same fs gs h.0) ∙ ap (struct gs) (allows-same m n h.1)
+  agree-same (union fs m) (union gs n) e = let h = both e in ap (λ r. union r m) (agree_variants-same fs gs h.0) ∙ ap (union gs) (allows-same m n h.1)
+  agree-same (extension i a t) (extension j b u) e =
+      let h = both e in let g = both h.0 in
+      ap (λ r. extension r a t) ((bytes_eq-Decides i j).0 g.0) ∙ ap (λ r. extension j r t) ((bytes_eq-Decides a b).0 g.1) ∙ ap (extension j b) (agree-same t u h.1)
+  agree-same _ _ e = absurd (false≢true e)
+
+  agree_fields-same : (a b : Fields) → agree_fields Compared a b ≡ true → a ≡ b
+  agree_fields-same no_fields no_fields e = refl
+  agree_fields-same (field m t fs) (field n u gs) e =
+      let h = both e in let g = both h.0 in
+      ap (λ r. field r t fs) ((bytes_eq-Decides m n).0 g.0) ∙ ap (λ r. field n r fs) (agree-same t u g.1) ∙ ap (field n u) (agree_fields-same fs gs h.1)
+  agree_fields-same _ _ e = absurd (false≢true e)
+
+  agree_variants-same : (a b : Variants) → agree_variants Compared a b ≡ true → a ≡ b
+  agree_variants-same no_variants no_variants e = refl
+  agree_variants-same (choice m t g fs) (choice n u h gs) e =
+      let p = both e in let q = both p.0 in let r = both q.0 in
+      ap (λ z. choice z t g fs) ((bytes_eq-Decides m n).0 r.0) ∙ ap (λ z. choice n z g fs) (agree-same t u r.1) ∙ ap (λ z. choice n u z fs) ((Decides-eqb g h).0 q.1) ∙ ap (choice n u h) (agree_variants-same fs gs p.1)
+  agree_variants-same _ _ e = absurd (false≢true e)
+
+same_bytes : (xs : List ℕ) → bytes_eq xs xs ≡ true
+same_bytes xs = (bytes_eq-Decides xs xs).1 refl
+
+mutual
+  pub agree_refl : (s : Nullabilities) (a : Tree) → agree s a a ≡ true
+  agree_refl s null = refl
+  agree_refl s (bool m) = allows_refl s m
+  agree_refl s (primitive p m) = join ((same_ptype-Decides p p).1 refl) (allows_refl s m)
+  agree_refl s (decimal p m) = join (join ((Decides-eqb p.precision p.precision).1 refl) ((signed_Decides p.scale p.scale).1 refl)) (allows_refl s m)
+  agree_refl s (utf8 m) = allows_refl s m
+  agree_refl s (binary m) = allows_refl s m
+  agree_refl s (variant m) = allows_refl s m
+  agree_refl s (list t m) = join (agree_refl s t) (allows_refl s m)
+  agree_refl s (fixed_size_list t j m) = join (join (agree_refl s t) ((Decides-eqb j j).1 refl)) (allows_refl s m)
+  agree_refl s (map_of t v a m) = join (join (join (agree_refl s t) (agree_refl s v)) ((booleans_Decides a a).1 refl)) (allows_refl s m)
+  agree_refl s (struct fs m) = join (agree_fields_refl s fs) (allows_refl s m)
+  agree_refl s (union fs m) = join (agree_variants_refl s fs) (allows_refl s m)
+  agree_refl s (extension i a t) = join (join (same_bytes i) (same_bytes a)) (agree_refl s t)
+
+  agree_fields_refl : (s : Nullabilities) (a : Fields) → agree_fields s a a ≡ true
+  agree_fields_refl s no_fields = refl
+  agree_fields_refl s (field m t fs) = join (join (same_bytes m) (agree_refl s t)) (agree_fields_refl s fs)
+
+  agree_variants_refl : (s : Nullabilities) (a : Variants) → agree_variants s a a ≡ true
+  agree_variants_refl s no_variants = refl
+  agree_variants_refl s (choice m t g fs) = join (join (join (same_bytes m) (agree_refl s t)) ((Decides-eqb g g).1 refl)) (agree_variants_refl s fs)
+
+pub agree-Decides : (a b : Tree) → Decides (agree Compared a b) (a ≡ b)
+agree-Decides a b = (agree-same a b, λ e. subst (λ x. agree Compared a x ≡ true) e (agree_refl Compared a))
+
+-- ignoring nullabilities is comparing what erasing leaves
+mutual
+  pub agree-erase : (a b : Tree) → agree Ignored a b ≡ agree Compared (erase a) (erase b)
+  agree-erase null null = refl
+  agree-erase (bool m) (bool n) = refl
+  agree-erase (primitive p m) (primitive q n) = refl
+  agree-erase (decimal p m) (decimal q n) = refl
+  agree-erase (utf8 m) (utf8 n) = refl
+  agree-erase (binary m) (binary n) = refl
+  agree-erase (variant m) (variant n) = refl
+  agree-erase (list t m) (list u n) = ap (λ x. x && true) (agree-erase t u)
+  agree-erase (fixed_size_list t j m) (fixed_size_list u k n) = ap (λ x. x && (j == k) && true) (agree-erase t u)
+  agree-erase (map_of t v a m) (map_of u w b n) = ap (λ x. x && agree Ignored v w && beq a b && true) (agree-erase t u) ∙ ap (λ x. agree Compared (erase t) (erase u) && x && beq a b && true) (agree-erase v w)
+  agree-erase (struct fs m) (struct gs n) = ap (λ x. x && true) (agree_fields-erase fs gs)
+  agree-erase (union fs m) (union gs n) = ap (λ x. x && true) (agree_variants-erase fs gs)
+  agree-erase (extension i a t) (extension j b u) = ap (λ x. bytes_eq i j && bytes_eq a b && x) (agree-erase t u)
+  agree-erase _ _ = refl
+
+  agree_fields-erase : (a b : Fields) → agree_fields Ignored a b ≡ agree_fields Compared (erase_fields a) (erase_fields b)
+  agree_fields-erase no_fields no_fields = refl
+  agree_fields-erase (field m t fs) (field n u gs) = ap (λ x. bytes_eq m n && x && agree_fields Ignored fs gs) (agree-erase t u) ∙ ap (λ x. bytes_eq m n && agree Compared (erase t) (erase u) && x) (agree_fields-erase fs gs)
+  agree_fields-erase _ _ = refl
+
+  agree_variants-erase : (a b : Variants) → agree_variants Ignored a b ≡ agree_variants Compared (erase_variants a) (erase_variants b)
+  agree_variants-erase no_variants no_variants = refl
+  agree_variants-erase (choice m t g fs) (choice n u h gs) =
+      ap (λ x. bytes_eq m n && x && (g == h) && agree_variants Ignored fs gs) (agree-erase t u) ∙ ap (λ x. bytes_eq m n && agree Compared (erase t) (erase u) && (g == h) && x) (agree_variants-erase fs gs)
+  agree_variants-erase _ _ = refl
+
+pub agree_erased-Decides : (a b : Tree) → Decides (agree Ignored a b) (erase a ≡ erase b)
+agree_erased-Decides a b =
+    let d = agree-Decides (erase a) (erase b) in
+    (λ e. d.0 (sym (agree-erase a b) ∙ e), λ e. agree-erase a b ∙ d.1 e)
+
+-- ---- `==` of types and the equality that ignores nullabilities, as equivalences
+
+-- a test that decides whether two values have one view is an equivalence
+equiv_of_view : {A B : Type 0} (r : A → A → Bool) (view : A → B) → ((a b : A) → Decides (r a b) (view a ≡ view b)) → IsEquivalence r
+equiv_of_view r view d = record {
+  refl = λ x. (d x x).1 refl;
+  symm = λ x y. same_from_decides (r x y) (r y x) (d x y) (λ e. sym ((d y x).0 e), λ e. (d y x).1 (sym e));
+  congr = λ x y z e. same_from_decides (r x z) (r y z) (d x z) (λ h. (d x y).0 e ∙ (d y z).0 h, λ h. (d y z).1 (sym ((d x y).0 e) ∙ h));
+}
+
+abbrev pub same_dtype : DType → DType → Bool
+same_dtype a b = agree Compared (tree a) (tree b)
+
+pub same_dtype_equiv : IsEquivalence same_dtype
+same_dtype_equiv = on_equiv tree (equiv_of_view (agree Compared) (λ t. t) agree-Decides)

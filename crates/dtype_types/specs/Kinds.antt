@@ -1,0 +1,78 @@
+-- The kind of a type, its outermost variant: what the tests of `DType` look at, and what each variant
+-- holds. An extension's kind is its own, whatever its storage.
+use Rattle.std.specs.Prelude.{◌≡◌, ℕ, List, Option, Some, None, Bool, true, false}
+use Rattle.dtype_base.specs.Decimals.{Decimal}
+use Rattle.dtype_base.specs.declared.ptype.PType.{PType}
+use Rattle.dtype_types.specs.declared.kind.Kind.{Kind}
+use Rattle.dtype_types.specs.declared.kind.Kind.TheVariants as k
+use Rattle.dtype_types.specs.Tree.{Tree, Fields, Variants, null, bool, primitive, decimal, utf8, binary, list, fixed_size_list, map_of, struct, union, variant, extension, pairs, triples}
+
+abbrev pub kind : Tree → Kind
+kind null = k.Null
+kind (bool n) = k.Bool
+kind (primitive p n) = k.Primitive
+kind (decimal d n) = k.Decimal
+kind (utf8 n) = k.Utf8
+kind (binary n) = k.Binary
+kind (list t n) = k.List
+kind (fixed_size_list t size n) = k.FixedSizeList
+kind (map_of t u b n) = k.Map
+kind (struct fs n) = k.Struct
+kind (union vs n) = k.Union
+kind (variant n) = k.Variant
+kind (extension id b s) = k.Extension
+
+-- the name of a primitive type; of no other type
+abbrev pub primitive_name : Tree → Option PType
+primitive_name (primitive p n) = Some p
+primitive_name _ = None
+
+-- the precision and scale of a decimal
+abbrev pub decimal_of : Tree → Option Decimal
+decimal_of (decimal d n) = Some d
+decimal_of _ = None
+
+-- the fields of a struct
+abbrev pub struct_fields : Tree → Option (List (List ℕ × Tree))
+struct_fields (struct fs n) = Some (pairs fs)
+struct_fields _ = None
+
+-- the variants of a union
+abbrev pub union_variants : Tree → Option (List (List ℕ × Tree × ℕ))
+union_variants (union vs n) = Some (triples vs)
+union_variants _ = None
+
+-- a map's key, value, and whether its keys are sorted
+abbrev pub map_parts : Tree → Option (Tree × Tree × Bool)
+map_parts (map_of t u b n) = Some (t, u, b)
+map_parts _ = None
+
+-- an extension's id, metadata and storage
+abbrev pub extension_parts : Tree → Option (List ℕ × List ℕ × Tree)
+extension_parts (extension id b s) = Some (id, b, s)
+extension_parts _ = None
+
+-- the element of a list, of a fixed-size list, of either
+abbrev pub list_element : Tree → Option Tree
+list_element (list t n) = Some t
+list_element _ = None
+
+abbrev pub fixed_size_list_element : Tree → Option Tree
+fixed_size_list_element (fixed_size_list t size n) = Some t
+fixed_size_list_element _ = None
+
+abbrev pub any_size_list_element : Tree → Option Tree
+any_size_list_element (list t n) = Some t
+any_size_list_element (fixed_size_list t size n) = Some t
+any_size_list_element _ = None
+
+-- a list, a map, a struct, a union, a variant, or an extension over one of these
+abbrev pub is_nested : Tree → Bool
+is_nested (list t n) = true
+is_nested (fixed_size_list t size n) = true
+is_nested (map_of t u b n) = true
+is_nested (struct fs n) = true
+is_nested (union vs n) = true
+is_nested (variant n) = true
+is_nested (extension id b s) = is_nested s
+is_nested _ = false

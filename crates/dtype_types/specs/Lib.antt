@@ -1,0 +1,15 @@
+pub mod Tree
+pub mod Nullable
+pub mod Valid
+pub mod Erase
+pub mod Lookups
+pub mod Kinds
+pub mod Text
+pub mod TextOf
+pub mod TreeOf
+pub mod Equality
+pub mod EqualityLaws
+pub mod FieldTypes
+pub mod Building
+pub mod Distinct
+pub mod NameIndex

@@ -1,0 +1,60 @@
+-- The text of a type. A type is written by its kind, what it holds in brackets or braces, and `?` where
+-- it is nullable; names are escaped, ids stand as they are. From the `Display` of `DType`.
+use Rattle.std.specs.Prelude.{ℕ, ◌+◌, ◌==◌, List, [], ◌∷◌, ◌++◌, codes, decimal as digits, length, Bool, true, false, ◌&&◌, if◌then◌else◌}
+use Rattle.dtype_base.specs.Decimals.{decimal_text}
+use Rattle.dtype_base.specs.Escapes.{escaped}
+use Rattle.dtype_base.specs.Nullability.{nullability_text}
+use Rattle.dtype_base.specs.Primitives.{primitive as row}
+use Rattle.dtype_types.specs.Tree.{Tree, Fields, no_fields, field, Variants, no_variants, choice, null, bool, primitive, decimal, utf8, binary, list, fixed_size_list, map_of, struct, union, variant, extension}
+
+abbrev pub bool_text : Bool → List ℕ
+bool_text b = if b then codes "true" else codes "false"
+
+-- how many bytes of metadata an extension has
+abbrev pub metadata_text : List ℕ → List ℕ
+metadata_text bytes = digits (length bytes) ++ codes "B"
+
+-- the tags are n, n + 1 and so on
+abbrev pub consecutive : ℕ → Variants → Bool
+consecutive n no_variants = true
+consecutive n (choice m t g rest) = (g == n) && consecutive (n + 1) rest
+
+-- a tag, which isn't written where tags are consecutive
+abbrev pub tag_text : Bool → ℕ → List ℕ
+tag_text true g = []
+tag_text false g = codes "@" ++ digits g
+
+-- texts with a separator between them
+abbrev pub preceded : List ℕ → List (List ℕ) → List ℕ
+preceded sep [] = []
+preceded sep (x ∷ xs) = sep ++ (x ++ preceded sep xs)
+
+abbrev pub joined : List ℕ → List (List ℕ) → List ℕ
+joined sep [] = []
+joined sep (x ∷ xs) = x ++ preceded sep xs
+
+abbrev mutual
+  pub text : Tree → List ℕ
+  text null = codes "null"
+  text (bool n) = codes "bool" ++ nullability_text n
+  text (primitive p n) = (row p).text ++ nullability_text n
+  text (decimal d n) = decimal_text d ++ nullability_text n
+  text (utf8 n) = codes "utf8" ++ nullability_text n
+  text (binary n) = codes "binary" ++ nullability_text n
+  text (list t n) = codes "list(" ++ (text t ++ (codes ")" ++ nullability_text n))
+  text (fixed_size_list t k n) = codes "fixed_size_list(" ++ (text t ++ (codes ")[" ++ (digits k ++ (codes "]" ++ nullability_text n))))
+  text (map_of k v s n) = codes "map(" ++ (text k ++ (codes ", " ++ (text v ++ (codes ", keys_sorted=" ++ (bool_text s ++ (codes ")" ++ nullability_text n))))))
+  text (struct fs n) = codes "{" ++ (joined (codes ", ") (field_texts fs) ++ (codes "}" ++ nullability_text n))
+  text (union vs n) = codes "union(" ++ (joined (codes ", ") (choice_texts (consecutive 0 vs) vs) ++ (codes ")" ++ nullability_text n))
+  text (variant n) = codes "variant" ++ nullability_text n
+  text (extension id b s) = id ++ (codes "[" ++ (metadata_text b ++ (codes "](" ++ (text s ++ codes ")"))))
+
+  -- each field, as a=t
+  pub field_texts : Fields → List (List ℕ)
+  field_texts no_fields = []
+  field_texts (field n t rest) = (escaped n ++ (codes "=" ++ text t)) ∷ field_texts rest
+
+  -- each variant, as a=t where the tags are consecutive, else as a@tag=t
+  pub choice_texts : Bool → Variants → List (List ℕ)
+  choice_texts c no_variants = []
+  choice_texts c (choice n t g rest) = (escaped n ++ (tag_text c g ++ (codes "=" ++ text t))) ∷ choice_texts c rest

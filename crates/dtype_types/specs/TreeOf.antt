@@ -1,0 +1,155 @@
+-- The tree that a `DType` means, and what its parts show: a struct's names and types, a union's names,
+-- types and tags.
+use Rattle.std.specs.Prelude.{◌≡◌, ℕ, List, [], ◌∷◌, map, length, Option, Some, None, Bool as Flag}
+use Rattle.std.specs.Borrow.{Bor}
+use Rattle.std.specs.declared.boxed.Box.{Box}
+use Rattle.std.specs.declared.alloc.Global.{Global}
+use Rattle.std.specs.List.{zip}
+use Rattle.dtype_types.specs.Tree.{Tree, Fields, fields, Variants, variants, null, bool, primitive, decimal, utf8, binary, list, fixed_size_list, map_of, struct, union, variant, extension}
+use Rattle.dtype_types.specs.Nullable.{nullability}
+use Rattle.dtype_types.specs.Valid.{Valid, ValidFields, ValidVariants, HasVariant}
+use Rattle.dtype_base.specs.declared.nullability.Nullability.TheVariants.{NonNullable}
+use Rattle.dtype_types.specs.declared.dtype.DType.{DType}
+use Rattle.dtype_types.specs.declared.dtype.DType.TheOpen as o
+use Rattle.dtype_types.specs.declared.dtype.DType.TheOpen.{DType-F, ExtDTypeRef-F, MapDType-F, StructFields-F, UnionVariants-F}
+use Rattle.dtype_types.specs.declared.dtype.DType.TheFolds.{fold-DType}
+use Rattle.dtype_types.specs.declared.struct_fields.StructFields.{StructFields}
+use Rattle.dtype_types.specs.declared.union_variants.UnionVariants.{UnionVariants}
+use Rattle.dtype_types.specs.declared.map.MapDType.{MapDType}
+use Rattle.dtype_types.specs.declared.extension.ExtDTypeRef.{ExtDTypeRef}
+
+-- names, types and tags at the same places
+abbrev pub zip_tagged : List (List ℕ) → List Tree → List ℕ → List (List ℕ × Tree × ℕ)
+zip_tagged [] ts gs = []
+zip_tagged (n ∷ ns) [] gs = []
+zip_tagged (n ∷ ns) (t ∷ ts) [] = []
+zip_tagged (n ∷ ns) (t ∷ ts) (g ∷ gs) = (n, t, g) ∷ zip_tagged ns ts gs
+
+-- what a map and an extension hold, with the trees of their types
+abbrev pub MapParts : Type 0
+MapParts = Tree × Tree × Flag
+
+abbrev pub ExtensionParts : Type 0
+ExtensionParts = List ℕ × List ℕ × Tree
+
+-- one layer, over the trees of what it holds
+abbrev pub type_step : DType-F Tree ExtensionParts MapParts Fields Variants → Tree
+type_step o.Null = null
+type_step (o.Bool n) = bool n
+type_step (o.Primitive p n) = primitive p n
+type_step (o.Decimal d n) = decimal d n
+type_step (o.Utf8 n) = utf8 n
+type_step (o.Binary n) = binary n
+type_step (o.List b n) = list b.value n
+type_step (o.FixedSizeList b k n) = fixed_size_list b.value k n
+type_step (o.Map m n) = map_of m.0 m.1 m.2 n
+type_step (o.Struct fs n) = struct fs n
+type_step (o.Union vs n) = union vs n
+type_step (o.Variant n) = variant n
+type_step (o.Extension e) = extension e.0 e.1 e.2
+
+abbrev pub extension_step : ExtDTypeRef-F Tree ExtensionParts MapParts Fields Variants → ExtensionParts
+extension_step e = (e.id, e.metadata.items, e.storage.value)
+
+abbrev pub map_step : MapDType-F Tree ExtensionParts MapParts Fields Variants → MapParts
+map_step m = (m.key.value, m.value.value, m.keys_sorted)
+
+abbrev pub struct_step : StructFields-F Tree ExtensionParts MapParts Fields Variants → Fields
+struct_step s = fields (zip s.names s.dtypes.items)
+
+abbrev pub union_step : UnionVariants-F Tree ExtensionParts MapParts Fields Variants → Variants
+union_step u = variants (zip_tagged u.names u.dtypes.items u.type_ids.items)
+
+-- the tree of a type
+abbrev pub tree : DType → Tree
+tree = fold-DType Tree ExtensionParts MapParts Fields Variants type_step extension_step map_step struct_step union_step
+
+-- a struct's names, its types, and its fields as pairs of them
+abbrev pub names_of : StructFields → List (List ℕ)
+names_of s = s.names
+
+abbrev pub types_of : StructFields → List Tree
+types_of s = map tree s.dtypes.items
+
+abbrev pub children : StructFields → List (List ℕ × Tree)
+children s = zip (names_of s) (types_of s)
+
+-- as many names as types, as in every struct that the constructors make
+abbrev pub IsPaired : StructFields → Type 0
+IsPaired s = length (names_of s) ≡ length (types_of s)
+
+-- a union's names, types and tags, and its variants as triples of them
+abbrev pub variant_names : UnionVariants → List (List ℕ)
+variant_names u = u.names
+
+abbrev pub variant_types : UnionVariants → List Tree
+variant_types u = map tree u.dtypes.items
+
+abbrev pub variant_tags : UnionVariants → List ℕ
+variant_tags u = u.type_ids.items
+
+abbrev pub choices : UnionVariants → List (List ℕ × Tree × ℕ)
+choices u = zip_tagged (variant_names u) (variant_types u) (variant_tags u)
+
+-- a map's key, its value, and whether the keys are sorted
+abbrev pub key_tree : MapDType → Tree
+key_tree m = tree m.key.value
+
+abbrev pub value_tree : MapDType → Tree
+value_tree m = tree m.value.value
+
+abbrev pub are_keys_sorted : MapDType → Flag
+are_keys_sorted m = m.keys_sorted
+
+-- an extension's id, its metadata and its storage
+abbrev pub extension_id : ExtDTypeRef → List ℕ
+extension_id e = e.id
+
+abbrev pub extension_metadata : ExtDTypeRef → List ℕ
+extension_metadata e = e.metadata.items
+
+abbrev pub storage_tree : ExtDTypeRef → Tree
+storage_tree e = tree e.storage.value
+
+abbrev pub extension_tree : ExtDTypeRef → Tree
+extension_tree e = extension (extension_id e) (extension_metadata e) (storage_tree e)
+
+-- the tree behind a reference, if there is one
+abbrev pub option_tree : Option (Bor DType) → Option Tree
+option_tree None = None
+option_tree (Some d) = Some (tree d.now)
+
+-- what a value behind a reference, or one in hand, shows, if there is one
+abbrev pub shown : {A B : Type 0} → (A → B) → Option (Bor A) → Option B
+shown f None = None
+shown f (Some r) = Some (f r.now)
+
+abbrev pub option_boxed : Option (Box DType Global) → Option Tree
+option_boxed None = None
+option_boxed (Some b) = Some (tree b.value)
+
+abbrev pub map_shown : MapDType → Tree × Tree × Flag
+map_shown m = (key_tree m, value_tree m, are_keys_sorted m)
+
+abbrev pub extension_shown : ExtDTypeRef → List ℕ × List ℕ × Tree
+extension_shown e = (extension_id e, extension_metadata e, storage_tree e)
+
+-- the fields of a struct and the variants of a union, as they stand in a tree
+abbrev pub struct_tree : StructFields → Fields
+struct_tree s = fields (children s)
+
+abbrev pub union_tree : UnionVariants → Variants
+union_tree u = variants (choices u)
+
+-- what holds of the parts of a valid type
+abbrev pub ValidStruct : StructFields → Type 0
+ValidStruct s = ValidFields (struct_tree s)
+
+abbrev pub ValidUnion : UnionVariants → Type 0
+ValidUnion u = HasVariant (union_tree u) × ValidVariants (union_tree u)
+
+abbrev pub ValidMap : MapDType → Type 0
+ValidMap m = (nullability (key_tree m) ≡ NonNullable) × Valid (key_tree m) × Valid (value_tree m)
+
+abbrev pub ValidExtension : ExtDTypeRef → Type 0
+ValidExtension e = Valid (extension_tree e)

@@ -1,0 +1,78 @@
+// Copies of types: each takes memory for its nodes, and shares the texts of names and ids.
+ghost use Rattle.std.specs.Prelude.{◌≡◌, ◌++◌, IfOk, OnOk, IsOkUnless, map};
+ghost use Rattle.dtype_base.specs.declared.vortex_error.VortexError.TheVariants.{OutOfMemory};
+ghost use Rattle.dtype_types.specs.TreeOf.{tree};
+ghost use Rattle.dtype_types.specs.Valid.{Valid};
+
+use crate::DType;
+use dtype_base::{FieldName, VortexResult};
+use std::alloc::Global;
+
+impl DType {
+    /// A type equal to this one. Refuses 0 (OutOfMemory) alone.
+    #[cycle(copy)]
+    #[tactic(auto, using(crate::proofs::SameParts::same_structs, crate::proofs::SameParts::same_unions, crate::proofs::SameParts::same_maps, crate::proofs::SameParts::same_extensions))]
+    pub fn try_clone(&self, alloc: Global) -> VortexResult<DType>
+        ensures same { IfOk result (λ d. tree d ≡ tree self.now) }
+        ensures valid { Valid (tree self.now) → IfOk result (λ d. Valid (tree d)) }
+        ensures refused { IsOkUnless result OutOfMemory }
+    {
+        match self {
+            DType::Null => Ok(DType::Null),
+            DType::Bool(n) => Ok(DType::Bool(*n)),
+            DType::Primitive(ptype, n) => Ok(DType::Primitive(*ptype, *n)),
+            DType::Decimal(decimal, n) => Ok(DType::Decimal(*decimal, *n)),
+            DType::Utf8(n) => Ok(DType::Utf8(*n)),
+            DType::Binary(n) => Ok(DType::Binary(*n)),
+            DType::List(element, n) => Ok(DType::List(boxed_copy(alloc, element)?, *n)),
+            DType::FixedSizeList(element, size, n) => Ok(DType::FixedSizeList(
+                boxed_copy(alloc, element)?,
+                *size,
+                *n,
+            )),
+            DType::Map(map, n) => Ok(DType::Map(map.try_clone(alloc)?, *n)),
+            DType::Struct(fields, n) => Ok(DType::Struct(fields.try_clone(alloc)?, *n)),
+            DType::Union(variants, n) => Ok(DType::Union(variants.try_clone(alloc)?, *n)),
+            DType::Variant(n) => Ok(DType::Variant(*n)),
+            DType::Extension(extension) => Ok(DType::Extension(extension.try_clone(alloc)?)),
+        }
+    }
+}
+
+// A copy of the type in a box.
+#[cycle(copy)]
+pub(crate) fn boxed_copy(alloc: Global, dtype: &DType) -> VortexResult<Box<DType>>
+    ensures same { IfOk result (λ b. tree b.value ≡ tree dtype.now) }
+    ensures refused { IsOkUnless result OutOfMemory }
+{
+    let copy = dtype.try_clone(alloc)?;
+    Ok(Box::new(alloc, copy)?)
+}
+
+// Copies of the types, in order.
+#[cycle(copy)]
+pub(crate) fn copies_of(alloc: Global, dtypes: &[DType]) -> VortexResult<Vec<DType>>
+    ensures same { IfOk result (λ v. map tree v.items ≡ map tree dtypes.now) }
+    ensures refused { IsOkUnless result OutOfMemory }
+{
+    let mut copies = Vec::with_capacity(alloc, dtypes.len())?;
+    for dtype in dtypes {
+        copies.push(dtype.try_clone(alloc)?)?;
+    }
+    Ok(copies)
+}
+
+// Puts copies of the names behind those that are there; they share their texts.
+pub(crate) fn append_names(
+    alloc: Global,
+    copies: &mut Vec<FieldName>,
+    names: &[FieldName],
+) -> VortexResult<()>
+    ensures same { OnOk result (copies.new.items ≡ copies.old.items ++ names.now) }
+    ensures refused { IsOkUnless result OutOfMemory }
+{
+    for name in names {
+        copies.push(name.try_clone(alloc)?)?;
+    }
+    Ok(())
+}

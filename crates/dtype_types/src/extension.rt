@@ -1,0 +1,208 @@
+ghost use Rattle.std.specs.Prelude.{◌≡◌, ◌↔◌, ℕ, IsTrue, IfOk, IsOkUnless, List, Some, nat_eq};
+ghost use Rattle.std.specs.Prelude.{◌&&◌};
+ghost use Rattle.std.specs.Str.{bytes_eq};
+ghost use Rattle.std.specs.Rc.{rc_str_bytes};
+ghost use Rattle.dtype_base.specs.declared.vortex_error.VortexError.TheVariants.{OutOfMemory};
+
+use crate::DType;
+use crate::copies::boxed_copy;
+use crate::equality::{Nullabilities, agree};
+use dtype_base::{Nullability, VortexResult};
+use std::alloc::Global;
+use std::fmt;
+use std::marker::Model;
+use std::rc::RcStr;
+
+/// The id of an extension type: a text.
+#[derive(Debug, Drop)]
+pub struct ExtId {
+    text: RcStr,
+}
+
+impl Model for ExtId {
+    ghost Value = { List ℕ };
+
+    ghost view = { λ id. rc_str_bytes id.text };
+}
+
+impl ExtId {
+    /// The id with this text. Refuses 0 (OutOfMemory) alone.
+    pub fn new(alloc: Global, text: &str) -> VortexResult<Self>
+        ensures ok { IfOk result (λ id. id ≡ text.now) }
+        ensures refused { IsOkUnless result OutOfMemory }
+    {
+        Ok(ExtId {
+            text: RcStr::from_str(alloc, text)?,
+        })
+    }
+
+    /// The text.
+    pub fn as_str(&self) -> &str
+        ensures { result.now ≡ self.now }
+    {
+        self.text.as_str()
+    }
+
+    /// An id with the same text, which the two share. Refuses 0 (OutOfMemory) alone.
+    pub fn try_clone(&self, _alloc: Global) -> VortexResult<Self>
+        ensures ok { IfOk result (λ id. id ≡ self.now) }
+        ensures refused { IsOkUnless result OutOfMemory }
+    {
+        Ok(ExtId {
+            text: self.text.clone()?,
+        })
+    }
+}
+
+impl PartialEq for ExtId {
+    ghost use Rattle.std.specs.Cmp.Lexicographic.{pointwise, nat_list_eq_equiv};
+    ghost use Rattle.std.specs.Cmp.{partial_equiv_from_equiv};
+
+    ghost eq = { pointwise nat_eq };
+
+    ghost laws = { partial_equiv_from_equiv nat_list_eq_equiv };
+
+    fn eq(&self, other: &ExtId) -> bool {
+        self.as_str() == other.as_str()
+    }
+}
+
+impl Eq for ExtId {
+    ghost use Rattle.std.specs.Cmp.Lexicographic.{nat_list_eq_equiv};
+
+    ghost laws = { nat_list_eq_equiv };
+}
+
+/// The text as it stands.
+impl fmt::Display for ExtId {
+    ghost output = { λ id. Some id };
+
+    fn fmt<W: fmt::Write>(&self, f: &mut fmt::Formatter<W>) -> fmt::Result {
+        self.as_str().fmt(f)
+    }
+}
+
+/// An extension type without its library: the id, the metadata as bytes, and the storage type.
+#[derive(Debug, Drop)]
+#[cycle(dtype)]
+pub struct ExtDTypeRef {
+    id: ExtId,
+    metadata: Vec<u8>,
+    storage: Box<DType>,
+}
+
+impl ExtDTypeRef {
+    ghost use Rattle.dtype_types.specs.Kinds.{is_nested};
+    ghost use Rattle.dtype_types.specs.Nullable.{nullability, IsNullable, CanBeNonNullable, SetNull};
+    ghost use Rattle.dtype_types.specs.Equality.{agree};
+    ghost use Rattle.dtype_types.specs.TreeOf.{extension_tree, ValidExtension, extension_metadata, extension_id, storage_tree, tree};
+
+    /// The id.
+    pub fn id(&self) -> &ExtId
+        ensures { result.now ≡ extension_id self.now }
+    {
+        &self.id
+    }
+
+    /// The outer nullability: the storage's.
+    #[cycle(nullability)]
+    pub fn nullability(&self) -> Nullability
+        ensures { result ≡ nullability (storage_tree self.now) }
+    {
+        self.storage.nullability()
+    }
+
+    /// Whether values may be null.
+    pub fn is_nullable(&self) -> bool
+        ensures { IsTrue result ↔ IsNullable (storage_tree self.now) }
+    {
+        self.nullability().is_nullable()
+    }
+
+    /// The storage type.
+    pub fn storage_dtype(&self) -> &DType
+        ensures { tree result.now ≡ storage_tree self.now }
+    {
+        &self.storage
+    }
+
+    // Whether the ids and the metadata are equal and the storages agree.
+    #[cycle(agree)]
+    pub(crate) fn agree(&self, other: &ExtDTypeRef, rule: Nullabilities) -> bool
+        ensures { result ≡ (bytes_eq (extension_id self.now) (extension_id other.now)
+            && bytes_eq (extension_metadata self.now) (extension_metadata other.now)
+            && agree rule (storage_tree self.now) (storage_tree other.now)) }
+    {
+        self.id == other.id
+            && self.metadata.as_slice() == other.metadata.as_slice()
+            && agree(&self.storage, &other.storage, rule)
+    }
+
+    /// An extension type equal to this one. Refuses 0 (OutOfMemory) alone.
+    #[cycle(copy)]
+    pub fn try_clone(&self, alloc: Global) -> VortexResult<Self>
+        ensures same { IfOk result (λ e. extension_tree e ≡ extension_tree self.now) }
+        ensures valid { ValidExtension self.now → IfOk result (λ e. ValidExtension e) }
+        ensures refused { IsOkUnless result OutOfMemory }
+    {
+        let id = self.id.try_clone(alloc)?;
+        let metadata = Vec::from_slice(alloc, &self.metadata)?;
+        let storage = boxed_copy(alloc, &self.storage)?;
+        Ok(ExtDTypeRef {
+            id,
+            metadata,
+            storage,
+        })
+    }
+
+    // Whether the storage is nested.
+    #[cycle(nested)]
+    pub(crate) fn is_nested(&self) -> bool
+        ensures { result ≡ is_nested (storage_tree self.now) }
+    {
+        self.storage.is_nested()
+    }
+
+    // Whether the storage can be made non-nullable.
+    #[cycle(can_be_nonnullable)]
+    pub(crate) fn can_be_nonnullable(&self) -> bool
+        ensures { IsTrue result ↔ CanBeNonNullable (extension_tree self.now) }
+    {
+        self.storage.can_be_nonnullable()
+    }
+
+    /// The extension with the storage's outer nullability changed; the id and the metadata stay.
+    /// Where non-nullable is asked, the storage can be. Refuses 0 (OutOfMemory) alone.
+    #[cycle(with_nullability)]
+    pub fn with_nullability(&self, alloc: Global, n: Nullability) -> VortexResult<Self>
+        requires { n ≡ Nullability.NonNullable → CanBeNonNullable (extension_tree self.now) }
+        ensures set { IfOk result (λ e. SetNull (extension_tree self.now) n (extension_tree e)) }
+        ensures valid { ValidExtension self.now → IfOk result (λ e. ValidExtension e) }
+        ensures refused { IsOkUnless result OutOfMemory }
+    {
+        let storage = self.storage.with_nullability(alloc, n)?;
+        let id = self.id.try_clone(alloc)?;
+        let metadata = Vec::from_slice(alloc, &self.metadata)?;
+        Ok(ExtDTypeRef {
+            id,
+            metadata,
+            storage: Box::new(alloc, storage)?,
+        })
+    }
+}
+
+/// The id, the number of metadata bytes in brackets, and the storage in parentheses.
+impl fmt::Display for ExtDTypeRef {
+    ghost use Rattle.dtype_types.specs.TextOf.{extension_text};
+
+    ghost output = { λ e. Some (extension_text e) };
+
+    #[cycle(text)]
+    fn fmt<W: fmt::Write>(&self, f: &mut fmt::Formatter<W>) -> fmt::Result {
+        let id = &self.id;
+        let count = self.metadata.len();
+        write!(f, "{id}[{count}B](")?;
+        self.storage.fmt(f)?;
+        write!(f, ")")
+    }
+}

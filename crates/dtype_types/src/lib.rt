@@ -1,0 +1,35 @@
+// Struct, union and map types, erased extensions, and `DType`, the type that holds them.
+//
+// It promises that a `DType` means a finite tree (`tree` of `specs/TreeOf`), and that each call is
+// its definition on that tree: nullability, lookups, copies, comparisons, texts. Whatever a call
+// gives is `Valid` where what it took is.
+//
+// Begin with `DType` in `dtype.rt` and its calls in `dtype_impl.rt`, then `StructFields`. The
+// definitions are in `specs/`: `Tree` (the type tree), `Nullable`, `Valid`, `Erase`, `Lookups`,
+// `Text`. What is proved, and what is only tested, is in the README.
+#![tactic(auto)]
+
+mod conversions;
+mod copies;
+mod dtype;
+mod dtype_iter;
+mod equality;
+mod extension;
+mod field_dtype;
+mod fields_builder;
+mod kind;
+mod map;
+mod name_index;
+mod nullable;
+mod repeats;
+mod struct_fields;
+mod text;
+mod union_variants;
+
+pub use dtype::DType;
+pub use dtype_iter::DTypeIter;
+pub use extension::{ExtDTypeRef, ExtId};
+pub use field_dtype::FieldDType;
+pub use map::MapDType;
+pub use struct_fields::StructFields;
+pub use union_variants::UnionVariants;

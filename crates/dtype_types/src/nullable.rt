@@ -1,0 +1,127 @@
+// The outer nullability of a type, and types with another.
+ghost use Rattle.std.specs.Prelude.{◌≡◌, ◌↔◌, IsTrue, IfOk, IsOkUnless};
+ghost use Rattle.dtype_base.specs.Nullability.{either};
+ghost use Rattle.dtype_base.specs.declared.vortex_error.VortexError.TheVariants.{OutOfMemory};
+ghost use Rattle.dtype_types.specs.Nullable.{nullability, IsNullable, CanBeNonNullable, SetNull};
+ghost use Rattle.dtype_types.specs.TreeOf.{tree};
+ghost use Rattle.dtype_types.specs.Valid.{Valid};
+
+use crate::DType;
+use crate::copies::boxed_copy;
+use dtype_base::{Nullability, VortexResult};
+use std::alloc::Global;
+
+impl DType {
+    /// The outer nullability: nullable for `Null`, the storage's for an extension, else the stored one.
+    #[cycle(nullability)]
+    pub fn nullability(&self) -> Nullability
+        ensures { result ≡ nullability (tree self.now) }
+    {
+        match self {
+            DType::Null => Nullability::Nullable,
+            DType::Bool(n)
+            | DType::Primitive(_, n)
+            | DType::Decimal(_, n)
+            | DType::Utf8(n)
+            | DType::Binary(n)
+            | DType::List(_, n)
+            | DType::FixedSizeList(_, _, n)
+            | DType::Map(_, n)
+            | DType::Struct(_, n)
+            | DType::Union(_, n)
+            | DType::Variant(n) => *n,
+            DType::Extension(extension) => extension.nullability(),
+        }
+    }
+
+    /// Whether values may be null.
+    pub fn is_nullable(&self) -> bool
+        ensures { IsTrue result ↔ IsNullable (tree self.now) }
+    {
+        self.nullability().is_nullable()
+    }
+
+    /// Whether the type can be made non-nullable: false for `Null` and for an extension whose storage
+    /// can't be, else true.
+    #[cycle(can_be_nonnullable)]
+    pub fn can_be_nonnullable(&self) -> bool
+        ensures { IsTrue result ↔ CanBeNonNullable (tree self.now) }
+    {
+        match self {
+            DType::Null => false,
+            DType::Bool(_)
+            | DType::Primitive(_, _)
+            | DType::Decimal(_, _)
+            | DType::Utf8(_)
+            | DType::Binary(_)
+            | DType::List(_, _)
+            | DType::FixedSizeList(_, _, _)
+            | DType::Map(_, _)
+            | DType::Struct(_, _)
+            | DType::Union(_, _)
+            | DType::Variant(_) => true,
+            DType::Extension(extension) => extension.can_be_nonnullable(),
+        }
+    }
+
+    /// The type made non-nullable; it can be. Refuses 0 (OutOfMemory) alone.
+    pub fn as_nonnullable(&self, alloc: Global) -> VortexResult<DType>
+        requires { CanBeNonNullable (tree self.now) }
+        ensures set { IfOk result (λ d. SetNull (tree self.now) Nullability.NonNullable (tree d)) }
+        ensures valid { Valid (tree self.now) → IfOk result (λ d. Valid (tree d)) }
+        ensures refused { IsOkUnless result OutOfMemory }
+    {
+        self.with_nullability(alloc, Nullability::NonNullable)
+    }
+
+    /// The type made nullable. Refuses 0 (OutOfMemory) alone.
+    pub fn as_nullable(&self, alloc: Global) -> VortexResult<DType>
+        ensures set { IfOk result (λ d. SetNull (tree self.now) Nullability.Nullable (tree d)) }
+        ensures valid { Valid (tree self.now) → IfOk result (λ d. Valid (tree d)) }
+        ensures refused { IsOkUnless result OutOfMemory }
+    {
+        self.with_nullability(alloc, Nullability::Nullable)
+    }
+
+    /// The type with another outer nullability, for an extension that of its storage; `Null` stays
+    /// `Null`. Where non-nullable is asked, the type can be. Refuses 0 (OutOfMemory) alone.
+    #[cycle(with_nullability)]
+    #[tactic(auto, using(crate::proofs::SameParts::set_struct, crate::proofs::SameParts::set_union, crate::proofs::SameParts::set_map, crate::proofs::SameParts::set_extension))]
+    pub fn with_nullability(&self, alloc: Global, n: Nullability) -> VortexResult<DType>
+        requires { n ≡ Nullability.NonNullable → CanBeNonNullable (tree self.now) }
+        ensures set { IfOk result (λ d. SetNull (tree self.now) n (tree d)) }
+        ensures valid { Valid (tree self.now) → IfOk result (λ d. Valid (tree d)) }
+        ensures refused { IsOkUnless result OutOfMemory }
+    {
+        match self {
+            DType::Null => Ok(DType::Null),
+            DType::Bool(_) => Ok(DType::Bool(n)),
+            DType::Primitive(ptype, _) => Ok(DType::Primitive(*ptype, n)),
+            DType::Decimal(decimal, _) => Ok(DType::Decimal(*decimal, n)),
+            DType::Utf8(_) => Ok(DType::Utf8(n)),
+            DType::Binary(_) => Ok(DType::Binary(n)),
+            DType::List(element, _) => Ok(DType::List(boxed_copy(alloc, element)?, n)),
+            DType::FixedSizeList(element, size, _) => {
+                Ok(DType::FixedSizeList(boxed_copy(alloc, element)?, *size, n))
+            }
+            DType::Map(map, _) => Ok(DType::Map(map.try_clone(alloc)?, n)),
+            DType::Struct(fields, _) => Ok(DType::Struct(fields.try_clone(alloc)?, n)),
+            DType::Union(variants, _) => Ok(DType::Union(variants.try_clone(alloc)?, n)),
+            DType::Variant(_) => Ok(DType::Variant(n)),
+            DType::Extension(extension) => {
+                Ok(DType::Extension(extension.with_nullability(alloc, n)?))
+            }
+        }
+    }
+
+    /// The type with `nullability() | n`: nullable where it was or `n` is. Refuses 0 (OutOfMemory)
+    /// alone.
+    #[tactic(auto, using(crate::proofs::SetNullLaws::nonnullable_can))]
+    pub fn union_nullability(&self, alloc: Global, n: Nullability) -> VortexResult<DType>
+        ensures set { IfOk result (λ d. SetNull (tree self.now) (either (nullability (tree self.now)) n) (tree d)) }
+        ensures valid { Valid (tree self.now) → IfOk result (λ d. Valid (tree d)) }
+        ensures refused { IsOkUnless result OutOfMemory }
+    {
+        self.with_nullability(alloc, self.nullability() | n)
+    }
+}

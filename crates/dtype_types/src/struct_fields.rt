@@ -1,0 +1,319 @@
+ghost use Rattle.std.specs.Prelude.{◌≡◌, ◌≤◌, ◌<◌, ◌++◌, ◌∷◌, ℕ, nat_lt, List, [], slice_index_or, length, map, remove, vec_len, All, IfOk, IfErr, IfSome, IsOk, IsOkUnless, MatchBool, slice_get, IfNone, Some};
+ghost use Rattle.std.specs.Iterator.{IsFinite};
+ghost use Rattle.std.specs.Iterator.Runs.{WholeRun};
+ghost use Rattle.std.specs.List.{zip};
+ghost use Rattle.std.specs.Option.{option_copied};
+ghost use Rattle.dtype_base.specs.FieldNames.{FirstAt, IsAbsent};
+ghost use Rattle.dtype_base.specs.declared.vortex_error.VortexError.TheVariants.{OutOfMemory, IndexOutOfBounds};
+
+use crate::copies::{append_names, copies_of};
+use crate::equality::{Nullabilities, agree};
+use crate::field_dtype::into_dtypes;
+use crate::fields_builder::FieldsBuilder;
+use crate::name_index::NameIndex;
+use crate::repeats::has_repeats;
+use crate::text::separator;
+use crate::{DType, FieldDType};
+use dtype_base::{FieldName, FieldNames, VortexError, VortexResult};
+use std::alloc::Global;
+use std::fmt;
+
+/// The fields of a struct in order, each a name and a type. Names may repeat: every access by name
+/// means the first.
+#[derive(Debug, Drop)]
+#[cycle(dtype)]
+pub struct StructFields {
+    names: FieldNames,
+    dtypes: Vec<DType>,
+}
+
+impl StructFields {
+    ghost use Rattle.dtype_types.specs.Building.{fields_so_far};
+    ghost use Rattle.dtype_types.specs.Equality.{agree_fields};
+    ghost use Rattle.dtype_types.specs.FieldTypes.{field_tree, HasFields};
+    ghost use Rattle.dtype_types.specs.Lookups.{first_named, field_names, Projects, ProjectionRefusal, MergeRefusal};
+    ghost use Rattle.dtype_types.specs.Distinct.{Distinct};
+    ghost use Rattle.dtype_types.specs.Tree.{Tree};
+    ghost use Rattle.dtype_types.specs.TreeOf.{struct_tree, IsPaired, names_of, types_of, children, tree, option_tree, ValidStruct};
+    ghost use Rattle.dtype_types.specs.Valid.{Valid};
+
+    /// No fields. Refuses 0 (OutOfMemory) alone.
+    pub fn empty(alloc: Global) -> VortexResult<Self>
+        ensures names { IfOk result (λ s. names_of s ≡ []) }
+        ensures types { IfOk result (λ s. types_of s ≡ []) }
+        ensures valid { IfOk result ValidStruct }
+        ensures refused { IsOkUnless result OutOfMemory }
+    {
+        StructFields::new(alloc, FieldNames::empty(alloc), Vec::new(alloc))
+    }
+
+    /// The fields of these names and types, as many names as types. Refuses 0 (OutOfMemory) alone.
+    pub fn new(_alloc: Global, names: FieldNames, dtypes: Vec<DType>) -> VortexResult<Self>
+        requires { length names ≡ vec_len dtypes }
+        ensures names { IfOk result (λ s. names_of s ≡ names) }
+        ensures types { IfOk result (λ s. types_of s ≡ map tree dtypes.items) }
+        ensures paired { IfOk result IsPaired }
+        ensures valid { All (λ d. Valid (tree d)) dtypes.items → IfOk result ValidStruct }
+        ensures refused { IsOkUnless result OutOfMemory }
+    {
+        Ok(StructFields { names, dtypes })
+    }
+
+    /// The fields of these names and types, as many names as types. Refuses 0 (OutOfMemory) alone.
+    pub fn from_fields(
+        alloc: Global,
+        names: FieldNames,
+        dtypes: Vec<FieldDType>,
+    ) -> VortexResult<Self>
+        requires { length names ≡ vec_len dtypes }
+        ensures names { IfOk result (λ s. names_of s ≡ names) }
+        ensures types { IfOk result (λ s. types_of s ≡ map field_tree dtypes.items) }
+        ensures paired { IfOk result IsPaired }
+        ensures valid { All (λ f. Valid (field_tree f)) dtypes.items → IfOk result ValidStruct }
+        ensures refused { IsOkUnless result OutOfMemory }
+    {
+        let dtypes = into_dtypes(alloc, dtypes)?;
+        StructFields::new(alloc, names, dtypes)
+    }
+
+    /// The fields that an iterator gives, in order. Refuses 0 (OutOfMemory) alone.
+    pub fn from_iter<I: IntoIterator<Item = (FieldName, FieldDType)>>(
+        alloc: Global,
+        fields: I,
+    ) -> VortexResult<Self>
+        requires { (it : I.IntoIter) → I.into_iter_gives fields it
+            → I.IntoIter.can_next it × IsFinite (I.IntoIter.remaining it) }
+        ensures fields { IfOk result (λ s. (it : I.IntoIter) × I.into_iter_gives fields it
+            × WholeRun I.IntoIter.next_gives it (λ run. HasFields s run.items
+            × IsPaired s × (All (λ p. Valid (field_tree p.1)) run.items → ValidStruct s))) }
+        ensures refused { IsOkUnless result OutOfMemory }
+    {
+        let fields = fields.into_iter().collect(alloc)?;
+        FieldsBuilder::from_pairs(alloc, fields)?.finish(alloc)
+    }
+
+    // How many fields there are: as far as both lists go.
+    fn count(&self) -> usize
+        ensures all { result ≡ length (children self.now) }
+        ensures names { result ≤ length (names_of self.now) }
+        ensures dtypes { result ≤ vec_len self.now.dtypes }
+    {
+        self.names.len().min(self.dtypes.len())
+    }
+
+    /// The names, in order.
+    pub fn names(&self) -> &FieldNames
+        ensures { result.now ≡ names_of self.now }
+    {
+        &self.names
+    }
+
+    /// How many fields there are.
+    pub fn nfields(&self) -> usize
+        ensures { result ≡ length (names_of self.now) }
+    {
+        self.names.len()
+    }
+
+    /// The name of the field at this position, or `None` at or past the end.
+    pub fn field_name(&self, index: usize) -> Option<&FieldName>
+        ensures { option_copied result ≡ slice_get (names_of self.now) index }
+    {
+        self.names.get(index)
+    }
+
+    /// The position of the first field of the name, or `None` where no field has it.
+    pub fn find(&self, name: &str) -> Option<usize>
+        ensures found { IfSome result (FirstAt (names_of self.now) name.now) }
+        ensures none { IfNone result (IsAbsent (names_of self.now) name.now) }
+    {
+        self.names.find(name)
+    }
+
+    /// The type of the first field of the name, or `None` where no field has it.
+    pub fn field(&self, name: &str) -> Option<&DType>
+        ensures first { option_tree result ≡ first_named (children self.now) name.now }
+        ensures valid { ValidStruct self.now → IfSome result (λ d. Valid (tree d.now)) }
+    {
+        match self.names.find(name) {
+            Some(i) => self.dtypes.get(i),
+            None => None,
+        }
+    }
+
+    /// The type of the field at this position, or `None` at or past the end.
+    pub fn field_by_index(&self, index: usize) -> Option<&DType>
+        ensures { option_tree result ≡ slice_get (types_of self.now) index }
+    {
+        self.dtypes.get(index)
+    }
+
+    // Whether the fields of the two agree, one by one.
+    #[cycle(agree)]
+    pub(crate) fn agree(&self, other: &StructFields, rule: Nullabilities) -> bool
+        ensures { result ≡ agree_fields rule (struct_tree self.now) (struct_tree other.now) }
+    {
+        let count = self.count();
+        if other.count() != count {
+            return false;
+        }
+        let names = self.names.as_slice();
+        let others = other.names.as_slice();
+        for i in 0..count {
+            let t = &self.dtypes[i];
+            let u = &other.dtypes[i];
+            if names[i] != others[i] {
+                return false;
+            }
+            if !agree(t, u, rule) {
+                return false;
+            }
+        }
+        true
+    }
+
+    /// The first field of each name asked, in the order asked, repeats kept. Refuses 16 (FieldNotFound)
+    /// at the first name that no field has, with its position in the projection, else 0 (OutOfMemory)
+    /// alone.
+    pub fn project(&self, alloc: Global, projection: &[FieldName]) -> VortexResult<Self>
+        ensures fields { IfOk result (λ s. Projects (children self.now) projection.now (children s)) }
+        ensures paired { IfOk result IsPaired }
+        ensures valid { ValidStruct self.now → IfOk result ValidStruct }
+        ensures refused { IfErr result (ProjectionRefusal (children self.now) projection.now) }
+    {
+        let index = NameIndex::new(alloc, self.paired_names())?;
+        let mut fields = FieldsBuilder::with_capacity(alloc, projection.len())?;
+        for (position, name) in projection.iter().enumerate() {
+            match index.find(name) {
+                Some(i) => fields = self.push_copy(alloc, fields, i)?,
+                None => return Err(VortexError::FieldNotFound { position }),
+            }
+        }
+        fields.finish(alloc)
+    }
+
+    /// The fields of the one followed by those of the other. Refuses 18 (DuplicateNames) where a name
+    /// stands twice among them, on one side alone too, else 0 (OutOfMemory) alone.
+    pub fn disjoint_merge(&self, alloc: Global, other: &Self) -> VortexResult<Self>
+        ensures fields { IfOk result (λ s. children s ≡ children self.now ++ children other.now) }
+        ensures distinct { IsOk result → Distinct (field_names (children self.now ++ children other.now)) }
+        ensures paired { IfOk result IsPaired }
+        ensures valid { ValidStruct self.now → ValidStruct other.now → IfOk result ValidStruct }
+        ensures refused { IfErr result (MergeRefusal (field_names (children self.now ++ children other.now))) }
+    {
+        let names = self.joined_names(alloc, other)?;
+        if has_repeats(alloc, &names)? {
+            return Err(VortexError::DuplicateNames);
+        }
+        let fields = FieldsBuilder::with_capacity(alloc, names.len())?;
+        let fields = self.push_copies(alloc, fields)?;
+        other.push_copies(alloc, fields)?.finish(alloc)
+    }
+
+    // Puts copies of all fields behind those that are there.
+    fn push_copies(&self, alloc: Global, mut fields: FieldsBuilder) -> VortexResult<FieldsBuilder>
+        ensures ok { IfOk result (λ b. fields_so_far b ≡ fields_so_far fields ++ children self.now) }
+        ensures refused { IsOkUnless result OutOfMemory }
+    {
+        for i in 0..self.count() {
+            fields = self.push_copy(alloc, fields, i)?;
+        }
+        Ok(fields)
+    }
+
+    // The names that have a type, which are all of them in every struct that is made.
+    #[tactic(auto, using(crate::proofs::Zips::firsts_take))]
+    fn paired_names(&self) -> &[FieldName]
+        ensures { result.now ≡ field_names (children self.now) }
+    {
+        &self.names.as_slice()[..self.count()]
+    }
+
+    // The names of the one followed by those of the other.
+    #[tactic(auto, using(crate::proofs::Zips::firsts_append))]
+    fn joined_names(&self, alloc: Global, other: &Self) -> VortexResult<Vec<FieldName>>
+        ensures ok { IfOk result (λ v. v.items ≡ field_names (children self.now ++ children other.now)) }
+        ensures refused { IsOkUnless result OutOfMemory }
+    {
+        let mut names = Vec::new(alloc);
+        append_names(alloc, &mut names, self.paired_names())?;
+        append_names(alloc, &mut names, other.paired_names())?;
+        Ok(names)
+    }
+
+    /// The fields but for that at this position. Refuses 17 (IndexOutOfBounds) at or past the end, with
+    /// the position and how many fields there are, else 0 (OutOfMemory) alone.
+    pub fn without_field(&self, alloc: Global, index: usize) -> VortexResult<Self>
+        ensures fields { IfOk result (λ s. children s ≡ remove (children self.now) index) }
+        ensures paired { IfOk result IsPaired }
+        ensures valid { ValidStruct self.now → IfOk result ValidStruct }
+        ensures within { IsOk result → index < length (names_of self.now) }
+        ensures refused { IfErr result (λ e. MatchBool (nat_lt index (length (names_of self.now))) (e ≡ OutOfMemory) (e ≡ IndexOutOfBounds index (length (names_of self.now)))) }
+    {
+        let fields = self.nfields();
+        if index >= fields {
+            return Err(VortexError::IndexOutOfBounds { index, fields });
+        }
+        let count = self.count();
+        let mut kept = FieldsBuilder::with_capacity(alloc, count)?;
+        for i in 0..count {
+            if i != index {
+                kept = self.push_copy(alloc, kept, i)?;
+            }
+        }
+        kept.finish(alloc)
+    }
+
+    // Puts a copy of the field at this position behind those that are there.
+    fn push_copy(
+        &self,
+        alloc: Global,
+        fields: FieldsBuilder,
+        index: usize,
+    ) -> VortexResult<FieldsBuilder>
+        requires name { index < length self.now.names }
+        requires dtype { index < vec_len self.now.dtypes }
+        ensures ok { IfOk result (λ b. (p : List ℕ × Tree) × (p ≡ slice_index_or (children self.now) index p)
+            × (fields_so_far b ≡ fields_so_far fields ++ p ∷ [])) }
+        ensures refused { IsOkUnless result OutOfMemory }
+    {
+        let name = self.names.as_slice()[index].try_clone(alloc)?;
+        let dtype = self.dtypes[index].try_clone(alloc)?;
+        fields.push(name, dtype)
+    }
+
+    /// Fields equal to these. Refuses 0 (OutOfMemory) alone.
+    #[cycle(copy)]
+    pub fn try_clone(&self, alloc: Global) -> VortexResult<Self>
+        ensures names { IfOk result (λ s. names_of s ≡ names_of self.now) }
+        ensures types { IfOk result (λ s. types_of s ≡ types_of self.now) }
+        ensures valid { ValidStruct self.now → IfOk result ValidStruct }
+        ensures refused { IsOkUnless result OutOfMemory }
+    {
+        let names = self.names.try_clone(alloc)?;
+        let dtypes = copies_of(alloc, &self.dtypes)?;
+        Ok(StructFields { names, dtypes })
+    }
+}
+
+/// The fields in braces, each a name, `=` and a type.
+impl fmt::Display for StructFields {
+    ghost use Rattle.dtype_types.specs.TextOf.{struct_text};
+
+    ghost output = { λ s. Some (struct_text s) };
+
+    #[cycle(text)]
+    fn fmt<W: fmt::Write>(&self, f: &mut fmt::Formatter<W>) -> fmt::Result {
+        let count = self.count();
+        let names = self.names.as_slice();
+        write!(f, "{{")?;
+        for i in 0..count {
+            let name = &names[i];
+            let dtype = &self.dtypes[i];
+            let separator = separator(i);
+            write!(f, "{separator}{name}=")?;
+            dtype.fmt(f)?;
+        }
+        write!(f, "}}")
+    }
+}

@@ -8,3 +8,5 @@ pub mod SameParts
 pub mod SetNullLaws
 pub mod Texts
 pub mod DistinctItems
+pub mod UnionLaws
+pub mod VariantLookups

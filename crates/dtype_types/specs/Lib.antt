@@ -10,3 +10,5 @@ pub mod TreeOf
 pub mod Equality
 pub mod EqualityLaws
 pub mod Distinct
+pub mod Unions
+pub mod PartsEquality

@@ -5,8 +5,7 @@ ghost use Rattle.std.specs.Iterator.Runs.{WholeRun};
 ghost use Rattle.dtype_base.specs.FieldNames.{FirstAt, IsAbsent};
 ghost use Rattle.dtype_base.specs.declared.vortex_error.VortexError.TheVariants.{OutOfMemory};
 
-use crate::field_names_iter::{FieldNamesIntoIter, FieldNamesIter};
-use crate::{FieldName, VortexResult};
+use crate::{FieldName, FieldNamesIntoIter, FieldNamesIter, VortexResult};
 use std::alloc::Global;
 use std::fmt;
 use std::hash::{Hash, Hasher};
@@ -209,7 +208,7 @@ impl IntoIterator for FieldNames {
     ghost into_iter_gives = { λ names it. it ≡ names };
 
     fn into_iter(self) -> FieldNamesIntoIter {
-        FieldNamesIntoIter::new(self.items)
+        FieldNames::into_iter(self)
     }
 }
 

@@ -13,6 +13,7 @@
 mod decimal;
 mod field_name;
 mod field_names;
+mod field_names_into_iter;
 mod field_names_iter;
 pub mod laws;
 mod nullability;
@@ -24,7 +25,8 @@ mod vortex_error;
 pub use decimal::{DecimalDType, DecimalType, MAX_PRECISION, MAX_SCALE, check_precision_and_scale};
 pub use field_name::FieldName;
 pub use field_names::FieldNames;
-pub use field_names_iter::{FieldNamesIntoIter, FieldNamesIter};
+pub use field_names_into_iter::FieldNamesIntoIter;
+pub use field_names_iter::FieldNamesIter;
 pub use nullability::Nullability;
 pub use ptype::PType;
 pub use vortex_error::{VortexError, VortexResult};

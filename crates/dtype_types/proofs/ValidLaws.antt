@@ -1,6 +1,6 @@
 -- Validity of parts and of what is made of them.
-use Rattle.std.specs.Prelude.{◌≡◌, ◌≢◌, ℕ, List, [], ◌∷◌, Option, Some, None, Bool, true, false, All, map, length, slice_get, option_and_then, refl}
-use Rattle.std.proofs.Common.{sym, ap, ◌∙◌, subst, cond, get_or, ◌<◌, arith}
+use Rattle.std.specs.Prelude.{◌≡◌, ◌≢◌, ℕ, List, [], ◌∷◌, Option, Some, None, Bool, true, false, All, map, length, slice_get, option_and_then, refl, ◌++◌, remove, zero, suc}
+use Rattle.std.proofs.Common.{sym, ap, ◌∙◌, subst, cond, take, drop}
 use Rattle.std.specs.List.{zip}
 use Rattle.std.specs.Str.{bytes_eq}
 use Rattle.std.proofs.lemmas.List.Elements.{recursion_from_All}
@@ -11,7 +11,7 @@ use Rattle.dtype_types.specs.Tree.{Tree, null, bool, primitive, decimal, utf8, b
 use Rattle.dtype_types.specs.Lookups.{first_named}
 use Rattle.dtype_types.specs.Nullable.{set_null}
 use Rattle.dtype_types.specs.Valid.{Valid, ValidFields}
-use Rattle.dtype_types.specs.TreeOf.{tree, children, ValidStruct, ValidUnion}
+use Rattle.dtype_types.specs.TreeOf.{tree, children, names_of, types_of, ValidStruct, ValidUnion}
 use Rattle.dtype_types.proofs.TreeLaws.{tree_struct, tree_union}
 use Rattle.dtype_types.specs.declared.dtype.DType.{DType, Struct, Union}
 use Rattle.dtype_types.specs.declared.struct_fields.StructFields.{StructFields}
@@ -40,10 +40,37 @@ valid_first (p ∷ ps) m x h e = go (bytes_eq p.0 m) e (valid_first ps m x h.1)
     go true e' more = subst Valid (some_is p.1 x e') h.0
     go false e' more = more e'
 
-pub valid_zip : (ns : List (List ℕ)) (ds : List DType) → AllByRecursion (λ d. Valid (tree d)) ds → ValidFields (fields (zip ns (map tree ds)))
-valid_zip [] ds h = tt
-valid_zip (n ∷ ns) [] h = tt
-valid_zip (n ∷ ns) (d ∷ ds) h = (h.0, valid_zip ns ds h.1)
+-- fields of valid types, and the types of valid fields
+zip_valid : (ns : List (List ℕ)) (ts : List Tree) → AllByRecursion Valid ts → ValidFields (fields (zip ns ts))
+zip_valid [] ts h = tt
+zip_valid (n ∷ ns) [] h = tt
+zip_valid (n ∷ ns) (t ∷ ts) h = (h.0, zip_valid ns ts h.1)
+
+mapped : {X : Type 0} (f : X → Tree) (xs : List X) → AllByRecursion (λ x. Valid (f x)) xs → AllByRecursion Valid (map f xs)
+mapped f [] h = tt
+mapped f (x ∷ xs) h = (h.0, mapped f xs h.1)
+
+-- a struct is valid where its types are the trees of valid things
+pub valid_of_types : {X : Type 0} (s : StructFields) (f : X → Tree) (xs : List X) → types_of s ≡ map f xs → All (λ x. Valid (f x)) xs → ValidStruct s
+valid_of_types s f xs e h = subst (λ ts. ValidFields (fields (zip (names_of s) ts))) (sym e) (zip_valid (names_of s) (map f xs) (mapped f xs (recursion_from_All (λ x. Valid (f x)) xs h)))
+
+-- what is left of valid fields without one of them
+pub valid_append : (ps qs : List (List ℕ × Tree)) → ValidFields (fields ps) → ValidFields (fields qs) → ValidFields (fields (ps ++ qs))
+valid_append [] qs h g = g
+valid_append (p ∷ ps) qs h g = (h.0, valid_append ps qs h.1 g)
+
+valid_take : (i : ℕ) (ps : List (List ℕ × Tree)) → ValidFields (fields ps) → ValidFields (fields (take i ps))
+valid_take zero ps h = tt
+valid_take (suc i) [] h = tt
+valid_take (suc i) (p ∷ ps) h = (h.0, valid_take i ps h.1)
+
+valid_drop : (i : ℕ) (ps : List (List ℕ × Tree)) → ValidFields (fields ps) → ValidFields (fields (drop i ps))
+valid_drop zero ps h = h
+valid_drop (suc i) [] h = tt
+valid_drop (suc i) (p ∷ ps) h = valid_drop i ps h.1
+
+pub valid_remove : (ps : List (List ℕ × Tree)) (i : ℕ) → ValidFields (fields ps) → ValidFields (fields (remove ps i))
+valid_remove ps i h = valid_append (take i ps) (drop (suc i) ps) (valid_take i ps h) (valid_drop (suc i) ps h)
 
 pub valid_set_null : (t : Tree) (n : Nullability) (u : Tree) → set_null t n ≡ Some u → Valid t → Valid u
 valid_set_null null NonNullable u e h = cc
@@ -64,3 +91,11 @@ valid_set_null (extension i b s) n u e h = go (set_null s n) e (λ x is. valid_s
     go : (o : Option Tree) → option_and_then (λ x. Some (extension i b x)) o ≡ Some u → ((x : Tree) → set_null s n ≡ Some x → Valid x) → set_null s n ≡ o → Valid u
     go None e' more is = cc
     go (Some x) e' more is = subst Valid (some_is (extension i b x) u e') (h.0, more x is)
+
+-- pairs of names with the trees of valid types
+pub valid_of_pairs : {X : Type 0} (n : X → List ℕ) (f : X → Tree) (xs : List X) → All (λ x. Valid (f x)) xs → ValidFields (fields (map (λ x. (n x, f x)) xs))
+valid_of_pairs n f xs h = go xs (recursion_from_All (λ x. Valid (f x)) xs h)
+  where
+    go : (ys : _) → AllByRecursion (λ x. Valid (f x)) ys → ValidFields (fields (map (λ x. (n x, f x)) ys))
+    go [] g = tt
+    go (y ∷ ys) g = (g.0, go ys g.1)

@@ -9,6 +9,9 @@ pub mod TextOf
 pub mod TreeOf
 pub mod Equality
 pub mod EqualityLaws
+pub mod FieldTypes
+pub mod Building
 pub mod Distinct
 pub mod Unions
 pub mod PartsEquality
+pub mod NameIndex

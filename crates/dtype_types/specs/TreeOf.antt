@@ -1,6 +1,6 @@
 -- The tree that a `DType` means, and what its parts show: a struct's names and types, a union's names,
 -- types and tags.
-use Rattle.std.specs.Prelude.{◌≡◌, ℕ, List, [], ◌∷◌, map, Option, Some, None, Bool as Flag}
+use Rattle.std.specs.Prelude.{◌≡◌, ℕ, List, [], ◌∷◌, map, length, Option, Some, None, Bool as Flag}
 use Rattle.std.specs.Borrow.{Bor}
 use Rattle.std.specs.declared.boxed.Box.{Box}
 use Rattle.std.specs.declared.alloc.Global.{Global}
@@ -73,6 +73,10 @@ types_of s = map tree s.dtypes.items
 
 abbrev pub children : StructFields → List (List ℕ × Tree)
 children s = zip (names_of s) (types_of s)
+
+-- as many names as types, as in every struct that the constructors make
+abbrev pub IsPaired : StructFields → Type 0
+IsPaired s = length (names_of s) ≡ length (types_of s)
 
 -- a union's names, types and tags, and its variants as triples of them
 abbrev pub variant_names : UnionVariants → List (List ℕ)

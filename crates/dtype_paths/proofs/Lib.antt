@@ -1,0 +1,4 @@
+pub mod Along
+pub mod JoinedTexts
+pub mod PathLaws
+pub mod Steps

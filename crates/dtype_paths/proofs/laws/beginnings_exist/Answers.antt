@@ -1,0 +1,5 @@
+use Rattle.dtype_paths.proofs.PathLaws.{beginning_exists}
+use Rattle.dtype_paths.proofs.laws.beginnings_exist.Goals as goal
+
+pub returns : goal.returns
+returns c = beginning_exists

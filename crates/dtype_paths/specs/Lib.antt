@@ -1,0 +1,5 @@
+pub mod At
+pub mod Beginning
+pub mod Equality
+pub mod EqualityLaws
+pub mod Texts

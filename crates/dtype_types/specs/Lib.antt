@@ -12,5 +12,7 @@ pub mod EqualityLaws
 pub mod FieldTypes
 pub mod Building
 pub mod Distinct
+pub mod Unions
+pub mod PartsEquality
 pub mod NameIndex
 pub mod IndentedText

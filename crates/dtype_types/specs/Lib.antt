@@ -12,3 +12,5 @@ pub mod EqualityLaws
 pub mod FieldTypes
 pub mod Building
 pub mod Distinct
+pub mod Hashes
+pub mod HashesOf

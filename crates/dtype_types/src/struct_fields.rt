@@ -1,4 +1,4 @@
-ghost use Rattle.std.specs.Prelude.{◌≡◌, ◌≤◌, ◌<◌, ◌++◌, ◌∷◌, ℕ, nat_lt, List, [], slice_index_or, length, map, remove, vec_len, All, IfOk, IfErr, IfSome, IsOk, IsOkUnless, MatchBool, slice_get, IfNone, Some};
+ghost use Rattle.std.specs.Prelude.{fold, ◌≡◌, ◌≤◌, ◌<◌, ◌++◌, ◌∷◌, ℕ, nat_lt, List, [], slice_index_or, length, map, remove, vec_len, All, IfOk, IfErr, IfSome, IsOk, IsOkUnless, MatchBool, slice_get, IfNone, Some};
 ghost use Rattle.std.specs.Iterator.{IsFinite};
 ghost use Rattle.std.specs.Iterator.Runs.{WholeRun};
 ghost use Rattle.std.specs.List.{zip};
@@ -10,11 +10,13 @@ use crate::copies::copies_of;
 use crate::equality::{Nullabilities, agree};
 use crate::field_dtype::into_dtypes;
 use crate::fields_builder::FieldsBuilder;
+use crate::hashing::feed;
 use crate::text::separator;
 use crate::{DType, FieldDType};
 use dtype_base::{FieldName, FieldNames, VortexError, VortexResult};
 use std::alloc::Global;
 use std::fmt;
+use std::hash::{Hash, Hasher};
 
 /// The fields of a struct in order, each a name and a type. Names may repeat: every access by name
 /// means the first.
@@ -29,6 +31,7 @@ impl StructFields {
     ghost use Rattle.dtype_types.specs.Building.{fields_so_far};
     ghost use Rattle.dtype_types.specs.Equality.{agree_fields};
     ghost use Rattle.dtype_types.specs.FieldTypes.{field_tree, HasFields};
+    ghost use Rattle.dtype_types.specs.HashesOf.{struct_writes};
     ghost use Rattle.dtype_types.specs.Lookups.{first_named};
     ghost use Rattle.dtype_types.specs.Tree.{Tree};
     ghost use Rattle.dtype_types.specs.TreeOf.{struct_tree, IsPaired, names_of, types_of, children, tree, option_tree, ValidStruct};
@@ -167,6 +170,21 @@ impl StructFields {
             }
         }
         true
+    }
+
+    // Feeds a hasher how many fields there are, and each field.
+    #[cycle(hash)]
+    pub(crate) fn feed<H: Hasher>(&self, rule: Nullabilities, state: &mut H)
+        ensures { state.new ≡ fold H.write state.old (struct_writes rule self.now) }
+    {
+        let count = self.count();
+        let names = self.names.as_slice();
+        state.write_usize(count);
+        for i in 0..count {
+            let dtype = &self.dtypes[i];
+            names[i].hash(state);
+            feed(dtype, rule, state);
+        }
     }
 
     /// The fields but for that at this position. Refuses 17 (IndexOutOfBounds) at or past the end, with

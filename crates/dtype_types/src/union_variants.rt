@@ -1,13 +1,15 @@
-ghost use Rattle.std.specs.Prelude.{◌≡◌, ◌≤◌, length, vec_len, IfOk, IsOkUnless, Some};
+ghost use Rattle.std.specs.Prelude.{fold, ◌≡◌, ◌≤◌, length, vec_len, IfOk, IsOkUnless, Some};
 ghost use Rattle.dtype_base.specs.declared.vortex_error.VortexError.TheVariants.{OutOfMemory};
 
 use crate::DType;
 use crate::copies::copies_of;
 use crate::equality::{Nullabilities, agree};
+use crate::hashing::feed;
 use crate::text::separator;
 use dtype_base::{FieldNames, VortexResult};
 use std::alloc::Global;
 use std::fmt;
+use std::hash::{Hash, Hasher};
 
 /// The variants of a union in order, each a name, a type and a tag.
 #[derive(Debug, Drop)]
@@ -20,6 +22,7 @@ pub struct UnionVariants {
 
 impl UnionVariants {
     ghost use Rattle.dtype_types.specs.Equality.{agree_variants};
+    ghost use Rattle.dtype_types.specs.HashesOf.{union_writes};
     ghost use Rattle.dtype_types.specs.Text.{consecutive};
     ghost use Rattle.dtype_types.specs.TreeOf.{union_tree, choices, variant_names, variant_types, variant_tags, ValidUnion};
 
@@ -63,6 +66,23 @@ impl UnionVariants {
             }
         }
         true
+    }
+
+    // Feeds a hasher how many variants there are, and each variant.
+    #[cycle(hash)]
+    pub(crate) fn feed<H: Hasher>(&self, rule: Nullabilities, state: &mut H)
+        ensures { state.new ≡ fold H.write state.old (union_writes rule self.now) }
+    {
+        let count = self.count();
+        let names = self.names.as_slice();
+        state.write_usize(count);
+        for i in 0..count {
+            let dtype = &self.dtypes[i];
+            let tag = self.type_ids[i];
+            names[i].hash(state);
+            feed(dtype, rule, state);
+            state.write_u8(tag);
+        }
     }
 
     /// Variants equal to these. Refuses 0 (OutOfMemory) alone.

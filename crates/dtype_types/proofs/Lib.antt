@@ -14,3 +14,4 @@ pub mod UnionLaws
 pub mod VariantLookups
 pub mod NameIndexes
 pub mod Projections
+pub mod Feeding

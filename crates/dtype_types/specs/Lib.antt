@@ -16,3 +16,5 @@ pub mod Unions
 pub mod PartsEquality
 pub mod NameIndex
 pub mod IndentedText
+pub mod Hashes
+pub mod HashesOf

@@ -1,4 +1,4 @@
-ghost use Rattle.std.specs.Prelude.{◌≡◌, ◌↔◌, ℕ, IsTrue, IfOk, IsOkUnless, All, ◌<◌, List, Some, nat_eq};
+ghost use Rattle.std.specs.Prelude.{◌≡◌, ◌↔◌, ℕ, IsTrue, IfOk, IsOkUnless, All, ◌<◌, List, Some, nat_eq, fold};
 ghost use Rattle.std.specs.Prelude.{◌&&◌};
 ghost use Rattle.std.specs.Str.{bytes_eq};
 ghost use Rattle.std.specs.Rc.{rc_str_bytes};
@@ -7,9 +7,11 @@ ghost use Rattle.dtype_base.specs.declared.vortex_error.VortexError.TheVariants.
 use crate::DType;
 use crate::copies::boxed_copy;
 use crate::equality::{Nullabilities, agree};
+use crate::hashing::feed;
 use dtype_base::{Nullability, VortexResult};
 use std::alloc::Global;
 use std::fmt;
+use std::hash::{Hash, Hasher};
 use std::marker::Model;
 use std::rc::RcStr;
 
@@ -73,6 +75,20 @@ impl Eq for ExtId {
     ghost laws = { nat_list_eq_equiv };
 }
 
+impl Hash for ExtId {
+    ghost use Rattle.std.specs.Hash as fed;
+    ghost use Rattle.std.proofs.Common.{rules};
+    ghost use Rattle.std.specs.Cmp.Rules.{hashing};
+
+    ghost hash_input = { fed.str };
+
+    ghost respects_eq = { Prim.search (hashing, rules) };
+
+    fn hash<H: Hasher>(&self, state: &mut H) {
+        self.as_str().hash(state);
+    }
+}
+
 /// The text as it stands.
 impl fmt::Display for ExtId {
     ghost output = { λ id. Some id };
@@ -97,6 +113,7 @@ impl ExtDTypeRef {
     ghost use Rattle.dtype_types.specs.Equality.{agree};
     ghost use Rattle.dtype_types.specs.Erase.{erase};
     ghost use Rattle.dtype_types.specs.Valid.{Valid};
+    ghost use Rattle.dtype_types.specs.HashesOf.{extension_writes};
     ghost use Rattle.dtype_types.specs.TreeOf.{extension_tree, ValidExtension, extension_metadata, extension_id, storage_tree, tree};
 
     /// The id.
@@ -190,6 +207,16 @@ impl ExtDTypeRef {
         self.id == other.id
             && self.metadata.as_slice() == other.metadata.as_slice()
             && agree(&self.storage, &other.storage, rule)
+    }
+
+    // Feeds a hasher the id, the metadata and the storage.
+    #[cycle(hash)]
+    pub(crate) fn feed<H: Hasher>(&self, rule: Nullabilities, state: &mut H)
+        ensures { state.new ≡ fold H.write state.old (extension_writes rule self.now) }
+    {
+        self.id.hash(state);
+        self.metadata.hash(state);
+        feed(&self.storage, rule, state);
     }
 
     /// An extension type equal to this one. Refuses 0 (OutOfMemory) alone.

@@ -18,6 +18,7 @@ mod equality;
 mod extension;
 mod field_dtype;
 mod fields_builder;
+mod hashing;
 mod kind;
 mod map;
 mod name_index;

@@ -1,4 +1,4 @@
-ghost use Rattle.std.specs.Prelude.{◌≡◌, ◌≤◌, ◌<◌, ◌↔◌, ◌==◌, ◌⊎◌, IsTrue, List, [], length, map, vec_len, position, slice_get, All, IfOk, IfErr, IfSome, IfNone, OnOk, IsOkUnless, Err, Some};
+ghost use Rattle.std.specs.Prelude.{◌≡◌, ◌≤◌, ◌<◌, ◌↔◌, ◌==◌, ◌⊎◌, IsTrue, List, [], length, map, vec_len, position, slice_get, All, IfOk, IfErr, IfSome, IfNone, OnOk, IsOkUnless, Err, Some, fold};
 ghost use Rattle.std.specs.List.{range_with_len};
 ghost use Rattle.dtype_base.specs.FieldNames.{FirstAt, IsAbsent};
 ghost use Rattle.dtype_base.specs.declared.vortex_error.VortexError.TheVariants.{OutOfMemory, UnionTooMany};
@@ -7,11 +7,13 @@ ghost use Rattle.dtype_types.specs.Unions.{HasUnionLengths, MakesUnion, UnionRef
 use crate::copies::copies_of;
 use crate::equality::{Nullabilities, agree};
 use crate::repeats::has_repeats;
+use crate::hashing::feed;
 use crate::text::separator;
 use crate::{DType, DTypeIter};
 use dtype_base::{FieldNames, VortexError, VortexResult};
 use std::alloc::Global;
 use std::fmt;
+use std::hash::{Hash, Hasher};
 
 // How many tags there are.
 const MAX_VARIANTS: usize = 256;
@@ -70,6 +72,7 @@ impl UnionVariants {
     ghost use Rattle.dtype_types.specs.Equality.{agree_variants};
     ghost use Rattle.dtype_types.specs.Erase.{erase_variants};
     ghost use Rattle.dtype_types.specs.Lookups.{variant_named};
+    ghost use Rattle.dtype_types.specs.HashesOf.{union_writes};
     ghost use Rattle.dtype_types.specs.Text.{consecutive};
     ghost use Rattle.dtype_types.specs.TreeOf.{tree, option_tree, union_tree, choices, choice_types, variant_names, variant_types, variant_tags, ValidUnion};
     ghost use Rattle.dtype_types.specs.Valid.{Valid};
@@ -258,6 +261,23 @@ impl UnionVariants {
         ensures { IsTrue result ↔ (erase_variants (union_tree self.now) ≡ erase_variants (union_tree other.now)) }
     {
         self.agree(other, Nullabilities::Ignored)
+    }
+
+    // Feeds a hasher how many variants there are, and each variant.
+    #[cycle(hash)]
+    pub(crate) fn feed<H: Hasher>(&self, rule: Nullabilities, state: &mut H)
+        ensures { state.new ≡ fold H.write state.old (union_writes rule self.now) }
+    {
+        let count = self.count();
+        let names = self.names.as_slice();
+        state.write_usize(count);
+        for i in 0..count {
+            let dtype = &self.dtypes[i];
+            let tag = self.type_ids[i];
+            names[i].hash(state);
+            feed(dtype, rule, state);
+            state.write_u8(tag);
+        }
     }
 
     /// Variants equal to these. Refuses 0 (OutOfMemory) alone.

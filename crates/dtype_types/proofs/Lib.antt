@@ -10,3 +10,4 @@ pub mod Texts
 pub mod Zips
 pub mod Outcomes
 pub mod DistinctItems
+pub mod Widths

@@ -12,3 +12,4 @@ pub mod EqualityLaws
 pub mod FieldTypes
 pub mod Building
 pub mod Distinct
+pub mod Width

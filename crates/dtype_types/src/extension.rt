@@ -7,6 +7,7 @@ ghost use Rattle.dtype_base.specs.declared.vortex_error.VortexError.TheVariants.
 use crate::DType;
 use crate::copies::boxed_copy;
 use crate::equality::{Nullabilities, agree};
+use crate::width::Width;
 use dtype_base::{Nullability, VortexResult};
 use std::alloc::Global;
 use std::fmt;
@@ -96,6 +97,7 @@ impl ExtDTypeRef {
     ghost use Rattle.dtype_types.specs.Nullable.{nullability, IsNullable, CanBeNonNullable, SetNull};
     ghost use Rattle.dtype_types.specs.Equality.{agree};
     ghost use Rattle.dtype_types.specs.TreeOf.{extension_tree, ValidExtension, extension_metadata, extension_id, storage_tree, tree};
+    ghost use Rattle.dtype_types.specs.Width.{Measures};
 
     /// The id.
     pub fn id(&self) -> &ExtId
@@ -161,6 +163,14 @@ impl ExtDTypeRef {
         ensures { result ≡ is_nested (storage_tree self.now) }
     {
         self.storage.is_nested()
+    }
+
+    // The width of the storage.
+    #[cycle(width)]
+    pub(crate) fn width(&self) -> Width
+        ensures { Measures result (extension_tree self.now) }
+    {
+        self.storage.width()
     }
 
     // Whether the storage can be made non-nullable.

@@ -4,6 +4,7 @@ ghost use Rattle.std.specs.Iterator.Runs.{WholeRun};
 ghost use Rattle.std.specs.List.{zip};
 ghost use Rattle.std.specs.Option.{option_copied};
 ghost use Rattle.dtype_base.specs.FieldNames.{FirstAt, IsAbsent};
+ghost use Rattle.dtype_base.specs.declared.nullability.Nullability.{Nullability};
 ghost use Rattle.dtype_base.specs.declared.vortex_error.VortexError.TheVariants.{OutOfMemory, IndexOutOfBounds};
 
 use crate::copies::copies_of;
@@ -11,6 +12,7 @@ use crate::equality::{Nullabilities, agree};
 use crate::field_dtype::into_dtypes;
 use crate::fields_builder::FieldsBuilder;
 use crate::text::separator;
+use crate::width::Width;
 use crate::{DType, FieldDType};
 use dtype_base::{FieldName, FieldNames, VortexError, VortexResult};
 use std::alloc::Global;
@@ -30,9 +32,10 @@ impl StructFields {
     ghost use Rattle.dtype_types.specs.Equality.{agree_fields};
     ghost use Rattle.dtype_types.specs.FieldTypes.{field_tree, HasFields};
     ghost use Rattle.dtype_types.specs.Lookups.{first_named};
-    ghost use Rattle.dtype_types.specs.Tree.{Tree};
+    ghost use Rattle.dtype_types.specs.Tree.{Tree, struct};
     ghost use Rattle.dtype_types.specs.TreeOf.{struct_tree, IsPaired, names_of, types_of, children, tree, option_tree, ValidStruct};
     ghost use Rattle.dtype_types.specs.Valid.{Valid};
+    ghost use Rattle.dtype_types.specs.Width.{Measures};
 
     /// No fields. Refuses 0 (OutOfMemory) alone.
     pub fn empty(alloc: Global) -> VortexResult<Self>
@@ -167,6 +170,19 @@ impl StructFields {
             }
         }
         true
+    }
+
+    // The width of a struct of these fields.
+    #[cycle(width)]
+    pub(crate) fn width(&self) -> Width
+        ensures { (n : Nullability) → Measures result (struct (struct_tree self.now) n) }
+    {
+        let mut total = Width::Bytes(0);
+        for i in 0..self.count() {
+            let dtype = &self.dtypes[i];
+            total = total.plus(dtype.width());
+        }
+        total
     }
 
     /// The fields but for that at this position. Refuses 17 (IndexOutOfBounds) at or past the end, with

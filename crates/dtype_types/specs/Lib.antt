@@ -13,3 +13,5 @@ pub mod FieldTypes
 pub mod Building
 pub mod Distinct
 pub mod Width
+pub mod NameIndex
+pub mod IndentedText

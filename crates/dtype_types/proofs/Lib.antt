@@ -12,6 +12,7 @@ pub mod Outcomes
 pub mod DistinctItems
 pub mod UnionLaws
 pub mod VariantLookups
+pub mod Widths
 pub mod NameIndexes
 pub mod Projections
 pub mod Feeding

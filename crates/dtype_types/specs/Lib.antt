@@ -14,6 +14,7 @@ pub mod Building
 pub mod Distinct
 pub mod Unions
 pub mod PartsEquality
+pub mod Width
 pub mod NameIndex
 pub mod IndentedText
 pub mod Hashes

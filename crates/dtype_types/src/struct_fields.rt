@@ -4,6 +4,7 @@ ghost use Rattle.std.specs.Iterator.Runs.{WholeRun};
 ghost use Rattle.std.specs.List.{zip};
 ghost use Rattle.std.specs.Option.{option_copied};
 ghost use Rattle.dtype_base.specs.FieldNames.{FirstAt, IsAbsent};
+ghost use Rattle.dtype_base.specs.declared.nullability.Nullability.{Nullability};
 ghost use Rattle.dtype_base.specs.declared.vortex_error.VortexError.TheVariants.{OutOfMemory, IndexOutOfBounds};
 
 use crate::copies::{append_names, copies_of};
@@ -14,6 +15,7 @@ use crate::name_index::NameIndex;
 use crate::repeats::has_repeats;
 use crate::hashing::feed;
 use crate::text::separator;
+use crate::width::Width;
 use crate::{DType, DTypeIter, FieldDType};
 use dtype_base::{FieldName, FieldNames, VortexError, VortexResult};
 use std::alloc::Global;
@@ -37,9 +39,10 @@ impl StructFields {
     ghost use Rattle.dtype_types.specs.Lookups.{first_named, field_names, field_types, Projects, ProjectionRefusal, MergeRefusal};
     ghost use Rattle.dtype_types.specs.Distinct.{Distinct};
     ghost use Rattle.dtype_types.specs.HashesOf.{struct_writes};
-    ghost use Rattle.dtype_types.specs.Tree.{Tree};
+    ghost use Rattle.dtype_types.specs.Tree.{Tree, struct};
     ghost use Rattle.dtype_types.specs.TreeOf.{struct_tree, IsPaired, names_of, types_of, children, tree, option_tree, ValidStruct};
     ghost use Rattle.dtype_types.specs.Valid.{Valid};
+    ghost use Rattle.dtype_types.specs.Width.{Measures};
 
     /// No fields. Refuses 0 (OutOfMemory) alone.
     pub fn empty(alloc: Global) -> VortexResult<Self>
@@ -212,6 +215,19 @@ impl StructFields {
             }
         }
         true
+    }
+
+    // The width of a struct of these fields.
+    #[cycle(width)]
+    pub(crate) fn width(&self) -> Width
+        ensures { (n : Nullability) → Measures result (struct (struct_tree self.now) n) }
+    {
+        let mut total = Width::Bytes(0);
+        for i in 0..self.count() {
+            let dtype = &self.dtypes[i];
+            total = total.plus(dtype.width());
+        }
+        total
     }
 
     /// The first field of each name asked, in the order asked, repeats kept. Refuses 16 (FieldNotFound)

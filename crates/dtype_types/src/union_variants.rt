@@ -6,8 +6,8 @@ ghost use Rattle.dtype_types.specs.Unions.{HasUnionLengths, MakesUnion, UnionRef
 
 use crate::copies::copies_of;
 use crate::equality::{Nullabilities, agree};
-use crate::repeats::has_repeats;
 use crate::hashing::feed;
+use crate::repeats::has_repeats;
 use crate::text::separator;
 use crate::{DType, DTypeIter};
 use dtype_base::{FieldNames, VortexError, VortexResult};

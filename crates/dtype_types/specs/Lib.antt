@@ -15,3 +15,4 @@ pub mod Distinct
 pub mod Unions
 pub mod PartsEquality
 pub mod NameIndex
+pub mod Maps

@@ -19,3 +19,4 @@ pub mod NameIndex
 pub mod IndentedText
 pub mod Hashes
 pub mod HashesOf
+pub mod Maps

@@ -1,5 +1,5 @@
 -- The integers of a primitive type, by its name. From the documentation of `PType`.
-use Rattle.std.specs.Prelude.{◌≡◌, ◌⊎◌, ℕ, ◌*◌, ◌^◌, ℤ, pos, ◌≤ℤ◌, ◌<ℤ◌}
+use Rattle.std.specs.Prelude.{◌*◌, ◌^◌, ℤ, pos, ◌≤ℤ◌, ◌<ℤ◌}
 use Rattle.dtype_base.specs.declared.ptype.PType.{PType}
 use Rattle.dtype_base.specs.Primitives.{Kind, Unsigned, Signed, Floating, primitive, HoldsSigned}
 

@@ -8,7 +8,7 @@ use num_traits::PrimInt;
 /// A native integer type.
 pub trait IntegerPType: NativePType + PrimInt {
     /// The greatest value of the type.
-    fn max_value_as_u64() -> u64
+    final fn max_value_as_u64() -> u64
         ensures value { result ≡ (primitive Self.PTYPE).greatest }
         ensures greatest { pos result ≡ Self.high }
     {

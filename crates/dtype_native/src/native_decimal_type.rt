@@ -31,7 +31,7 @@ pub trait NativeDecimalType: PrimInt + Signed {
     const NAME: &'static str;
 
     /// The greatest number of that many digits, `10^precision - 1`, and 0 of none.
-    fn max_by_precision(precision: u8) -> Self
+    final fn max_by_precision(precision: u8) -> Self
         requires { precision ≤ MAX_PRECISION }
         ensures { Self.value result ≡ greatest_of_digits precision }
     {
@@ -39,7 +39,7 @@ pub trait NativeDecimalType: PrimInt + Signed {
     }
 
     /// The least number of that many digits, `-(10^precision - 1)`, and 0 of none.
-    fn min_by_precision(precision: u8) -> Self
+    final fn min_by_precision(precision: u8) -> Self
         requires { precision ≤ MAX_PRECISION }
         ensures { Self.value result ≡ least_of_digits precision }
     {

@@ -22,56 +22,56 @@ pub trait NativePType: Copy + Default + Display + Ord + Num + NumCast + ToBytes 
     ghost PTYPE: { PType };
 
     /// Whether the value is no number, which an integer never is.
-    fn is_nan(self) -> bool
+    final fn is_nan(self) -> bool
         ensures { IsFalse result }
     {
         false
     }
 
     /// Whether the value is infinite, which an integer never is.
-    fn is_infinite(self) -> bool
+    final fn is_infinite(self) -> bool
         ensures { IsFalse result }
     {
         false
     }
 
     /// How the two numbers are ordered.
-    fn total_compare(self, other: Self) -> Ordering
+    final fn total_compare(self, other: Self) -> Ordering
         ensures { result ≡ int_cmp (Self.value self) (Self.value other) }
     {
         self.cmp(&other)
     }
 
     /// Whether `self <= other`.
-    fn is_le(self, other: Self) -> bool
+    final fn is_le(self, other: Self) -> bool
         ensures { IsTrue result ↔ (Self.value self ≤ℤ Self.value other) }
     {
         self.total_compare(other).is_le()
     }
 
     /// Whether `self < other`.
-    fn is_lt(self, other: Self) -> bool
+    final fn is_lt(self, other: Self) -> bool
         ensures { IsTrue result ↔ (Self.value self <ℤ Self.value other) }
     {
         self.total_compare(other).is_lt()
     }
 
     /// Whether `self >= other`.
-    fn is_ge(self, other: Self) -> bool
+    final fn is_ge(self, other: Self) -> bool
         ensures { IsTrue result ↔ (Self.value other ≤ℤ Self.value self) }
     {
         self.total_compare(other).is_ge()
     }
 
     /// Whether `self > other`.
-    fn is_gt(self, other: Self) -> bool
+    final fn is_gt(self, other: Self) -> bool
         ensures { IsTrue result ↔ (Self.value other <ℤ Self.value self) }
     {
         self.total_compare(other).is_gt()
     }
 
     /// Whether the two numbers are the same.
-    fn is_eq(self, other: Self) -> bool
+    final fn is_eq(self, other: Self) -> bool
         ensures { IsTrue result ↔ (Self.value self ≡ Self.value other) }
     {
         self == other

@@ -15,10 +15,10 @@ use Rattle.dtype_types.specs.TreeOf.{tree, option_tree}
 use Rattle.dtype_types.specs.declared.dtype.DType.{DType}
 
 -- the test of a name, at a name that is equal and at one that is not
-same_name : {X : Type 0} (m n : List ℕ) (x y : X) → m ≡ n → cond (bytes_eq m n) x y ≡ x
+pub same_name : {X : Type 0} (m n : List ℕ) (x y : X) → m ≡ n → cond (bytes_eq m n) x y ≡ x
 same_name m n x y e = ap (λ b. cond b x y) ((bytes_eq-Decides m n).1 e)
 
-other_name : {X : Type 0} (m n : List ℕ) (x y : X) → m ≢ n → cond (bytes_eq m n) x y ≡ y
+pub other_name : {X : Type 0} (m n : List ℕ) (x y : X) → m ≢ n → cond (bytes_eq m n) x y ≡ y
 other_name m n x y ne = go (bytes_eq m n) refl
   where
     go : (b : Bool) → bytes_eq m n ≡ b → cond b x y ≡ y

@@ -11,3 +11,5 @@ pub mod Zips
 pub mod Outcomes
 pub mod DistinctItems
 pub mod Feeding
+pub mod NameIndexes
+pub mod Projections

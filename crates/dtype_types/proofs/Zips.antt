@@ -59,3 +59,24 @@ firsts_map n f (x ∷ xs) = ap (λ ys. n x ∷ ys) (firsts_map n f xs)
 pub seconds_map : {X : Type 0} (n : X → List ℕ) (f : X → Tree) (xs : List X) → map (λ (p : List ℕ × Tree). p.1) (map (λ x. (n x, f x)) xs) ≡ map f xs
 seconds_map n f [] = refl
 seconds_map n f (x ∷ xs) = ap (λ ys. f x ∷ ys) (seconds_map n f xs)
+
+pub firsts_append : (ps qs : List (List ℕ × Tree)) → map (λ (p : List ℕ × Tree). p.0) (ps ++ qs) ≡ map (λ (p : List ℕ × Tree). p.0) ps ++ map (λ (p : List ℕ × Tree). p.0) qs
+firsts_append [] qs = refl
+firsts_append (p ∷ ps) qs = ap (λ ns. p.0 ∷ ns) (firsts_append ps qs)
+
+-- the names of the pairs are those that have a type
+pub firsts_take : (ns : List (List ℕ)) (ts : List Tree) → map (λ (p : List ℕ × Tree). p.0) (zip ns ts) ≡ take (length (zip ns ts)) ns
+firsts_take [] ts = refl
+firsts_take (n ∷ ns) [] = refl
+firsts_take (n ∷ ns) (t ∷ ts) = ap (λ ms. n ∷ ms) (firsts_take ns ts)
+
+-- the types of the pairs are those that have a name
+pub seconds_take : (ns : List (List ℕ)) (ds : List DType) → map (λ (p : List ℕ × Tree). p.1) (zip ns (map tree ds)) ≡ map tree (take (length (zip ns (map tree ds))) ds)
+seconds_take [] ds = refl
+seconds_take (n ∷ ns) [] = refl
+seconds_take (n ∷ ns) (d ∷ ds) = ap (λ ts. tree d ∷ ts) (seconds_take ns ds)
+
+-- pairs of what two functions make of the same things
+pub zip_maps : {X : Type 0} (n : X → List ℕ) (f : X → Tree) (xs : List X) → zip (map n xs) (map f xs) ≡ map (λ x. (n x, f x)) xs
+zip_maps n f [] = refl
+zip_maps n f (x ∷ xs) = ap (λ ps. (n x, f x) ∷ ps) (zip_maps n f xs)

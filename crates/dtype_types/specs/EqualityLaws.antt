@@ -1,6 +1,6 @@
 -- The test of equality is exact: trees agree exactly where they are equal, and with nullabilities ignored
 -- exactly where their erased trees are. Both are equivalences.
-use Rattle.std.specs.Prelude.{◌≡◌, ℕ, List, Bool, true, false, ◌&&◌, ◌==◌, refl}
+use Rattle.std.specs.Prelude.{◌≡◌, ℕ, List, [], ◌∷◌, Bool, true, false, ◌&&◌, ◌==◌, refl}
 use Rattle.std.specs.Bool.{Decides}
 use Rattle.std.specs.Ordering.{int_eq}
 use Rattle.std.proofs.Common.{ap, sym, ◌∙◌, subst}
@@ -18,10 +18,12 @@ use Rattle.dtype_base.specs.declared.ptype.PType.TheVariants.{U8, U16, U32, U64,
 use Rattle.dtype_types.specs.declared.equality.Nullabilities.{Nullabilities}
 use Rattle.dtype_types.specs.declared.equality.Nullabilities.TheVariants.{Compared, Ignored}
 use Rattle.dtype_types.specs.declared.dtype.DType.{DType}
-use Rattle.dtype_types.specs.Tree.{Tree, Fields, no_fields, field, Variants, no_variants, choice, null, bool, primitive, decimal, utf8, binary, list, fixed_size_list, map_of, struct, union, variant, extension}
+use Rattle.dtype_types.specs.Tree.{Tree, Fields, fields, pairs, no_fields, field, Variants, no_variants, choice, null, bool, primitive, decimal, utf8, binary, list, fixed_size_list, map_of, struct, union, variant, extension}
 use Rattle.dtype_types.specs.Erase.{erase, erase_fields, erase_variants}
 use Rattle.dtype_types.specs.Equality.{agree, agree_fields, agree_variants, allows, same_ptype}
-use Rattle.dtype_types.specs.TreeOf.{tree}
+use Rattle.dtype_types.specs.TreeOf.{tree, struct_tree, extension_tree}
+use Rattle.dtype_types.specs.declared.struct_fields.StructFields.{StructFields}
+use Rattle.dtype_types.specs.declared.extension.ExtDTypeRef.{ExtDTypeRef}
 
 pub allows-same : (m n : Nullability) → allows Compared m n ≡ true → m ≡ n
 allows-same NonNullable NonNullable e = refl
@@ -183,3 +185,36 @@ same_dtype a b = agree Compared (tree a) (tree b)
 
 pub same_dtype_equiv : IsEquivalence same_dtype
 same_dtype_equiv = on_equiv tree (equiv_of_view (agree Compared) (λ t. t) agree-Decides)
+
+-- ---- `==` of the parts of types
+
+agree_fields-Decides : (a b : Fields) → Decides (agree_fields Compared a b) (a ≡ b)
+agree_fields-Decides a b = (agree_fields-same a b, λ e. subst (λ x. agree_fields Compared a x ≡ true) e (agree_fields_refl Compared a))
+
+pairs_of : (ps : List (List ℕ × Tree)) → pairs (fields ps) ≡ ps
+pairs_of [] = refl
+pairs_of (p ∷ ps) = ap (λ qs. p ∷ qs) (pairs_of ps)
+
+-- equal as fields of a tree is equal as lists of pairs
+pub same_fields-Decides : (ps qs : List (List ℕ × Tree)) → Decides (agree_fields Compared (fields ps) (fields qs)) (ps ≡ qs)
+same_fields-Decides ps qs =
+    let d = agree_fields-Decides (fields ps) (fields qs) in
+    (λ e. sym (pairs_of ps) ∙ ap pairs (d.0 e) ∙ pairs_of qs, λ e. d.1 (ap fields e))
+
+pub agree_fields_erased-Decides : (a b : Fields) → Decides (agree_fields Ignored a b) (erase_fields a ≡ erase_fields b)
+agree_fields_erased-Decides a b =
+    let d = agree_fields-Decides (erase_fields a) (erase_fields b) in
+    (λ e. d.0 (sym (agree_fields-erase a b) ∙ e), λ e. agree_fields-erase a b ∙ d.1 e)
+
+abbrev pub same_struct : StructFields → StructFields → Bool
+same_struct s t = agree_fields Compared (struct_tree s) (struct_tree t)
+
+pub same_struct_equiv : IsEquivalence same_struct
+same_struct_equiv = on_equiv struct_tree (equiv_of_view (agree_fields Compared) (λ fs. fs) agree_fields-Decides)
+
+-- equal as extensions is equal as trees
+abbrev pub same_extension : ExtDTypeRef → ExtDTypeRef → Bool
+same_extension e f = agree Compared (extension_tree e) (extension_tree f)
+
+pub same_extension_equiv : IsEquivalence same_extension
+same_extension_equiv = on_equiv extension_tree (equiv_of_view (agree Compared) (λ t. t) agree-Decides)

@@ -14,3 +14,6 @@ pub mod Building
 pub mod Distinct
 pub mod Hashes
 pub mod HashesOf
+pub mod HashLaws
+pub mod NameIndex
+pub mod IndentedText

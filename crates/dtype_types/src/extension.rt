@@ -1,4 +1,5 @@
-ghost use Rattle.std.specs.Prelude.{◌≡◌, ◌↔◌, ℕ, fold, IsTrue, IfOk, IsOkUnless, List, Some, nat_eq};
+ghost use Rattle.std.specs.Prelude.{◌≡◌, ◌↔◌, ℕ, IsTrue, IfOk, IsOkUnless, All, ◌<◌, List, Some, nat_eq};
+ghost use Rattle.std.specs.Prelude.{fold};
 ghost use Rattle.std.specs.Prelude.{◌&&◌};
 ghost use Rattle.std.specs.Str.{bytes_eq};
 ghost use Rattle.std.specs.Rc.{rc_str_bytes};
@@ -112,6 +113,8 @@ impl ExtDTypeRef {
     ghost use Rattle.dtype_types.specs.Nullable.{nullability, IsNullable, CanBeNonNullable, SetNull};
     ghost use Rattle.dtype_types.specs.Equality.{agree};
     ghost use Rattle.dtype_types.specs.HashesOf.{extension_writes};
+    ghost use Rattle.dtype_types.specs.Erase.{erase};
+    ghost use Rattle.dtype_types.specs.Valid.{Valid};
     ghost use Rattle.dtype_types.specs.TreeOf.{extension_tree, ValidExtension, extension_metadata, extension_id, storage_tree, tree};
 
     /// The id.
@@ -119,6 +122,58 @@ impl ExtDTypeRef {
         ensures { result.now ≡ extension_id self.now }
     {
         &self.id
+    }
+
+    /// The extension of this id, metadata and storage. Refuses 0 (OutOfMemory) alone.
+    pub fn from_parts(
+        alloc: Global,
+        id: ExtId,
+        metadata: Vec<u8>,
+        storage: DType,
+    ) -> VortexResult<Self>
+        ensures id { IfOk result (λ e. extension_id e ≡ id) }
+        ensures metadata { IfOk result (λ e. extension_metadata e ≡ metadata.items) }
+        ensures storage { IfOk result (λ e. storage_tree e ≡ tree storage) }
+        ensures valid { Valid (tree storage) → IfOk result ValidExtension }
+        ensures refused { IsOkUnless result OutOfMemory }
+    {
+        check_bytes(&metadata);
+        Ok(ExtDTypeRef {
+            id,
+            metadata,
+            storage: Box::new(alloc, storage)?,
+        })
+    }
+
+    /// The metadata, as bytes.
+    pub fn metadata_bytes(&self) -> &[u8]
+        ensures { result.now ≡ extension_metadata self.now }
+    {
+        &self.metadata
+    }
+
+    /// A copy of the metadata. Refuses 0 (OutOfMemory) alone.
+    pub fn serialize_metadata(&self, alloc: Global) -> VortexResult<Vec<u8>>
+        ensures ok { IfOk result (λ v. v.items ≡ extension_metadata self.now) }
+        ensures refused { IsOkUnless result OutOfMemory }
+    {
+        Ok(Vec::from_slice(alloc, &self.metadata)?)
+    }
+
+    /// What prints how many bytes of metadata there are.
+    pub fn display_metadata(&self) -> MetadataDisplay<'_>
+        ensures { result.bytes.now ≡ extension_metadata self.now }
+    {
+        MetadataDisplay {
+            bytes: &self.metadata,
+        }
+    }
+
+    /// Whether the extensions are equal with every nullability in their storages ignored.
+    pub fn eq_ignore_nullability(&self, other: &Self) -> bool
+        ensures { IsTrue result ↔ (erase (extension_tree self.now) ≡ erase (extension_tree other.now)) }
+    {
+        self.agree(other, Nullabilities::Ignored)
     }
 
     /// The outer nullability: the storage's.
@@ -215,6 +270,69 @@ impl ExtDTypeRef {
             metadata,
             storage: Box::new(alloc, storage)?,
         })
+    }
+}
+
+/// By id, metadata and storage.
+impl PartialEq for ExtDTypeRef {
+    ghost use Rattle.dtype_types.specs.EqualityLaws.{same_extension, same_extension_equiv};
+    ghost use Rattle.dtype_types.specs.TreeOf.{extension_tree};
+    ghost use Rattle.std.specs.Cmp.{partial_equiv_from_equiv};
+
+    ghost eq = { same_extension };
+
+    ghost laws = { partial_equiv_from_equiv same_extension_equiv };
+
+    fn eq(&self, other: &ExtDTypeRef) -> bool
+        ensures same { result ≡ same_extension self.now other.now }
+        ensures exact { IsTrue result ↔ (extension_tree self.now ≡ extension_tree other.now) }
+    {
+        self.agree(other, Nullabilities::Compared)
+    }
+}
+
+impl Eq for ExtDTypeRef {
+    ghost use Rattle.dtype_types.specs.EqualityLaws.{same_extension_equiv};
+
+    ghost laws = { same_extension_equiv };
+}
+
+impl Hash for ExtDTypeRef {
+    ghost use Rattle.dtype_types.specs.HashLaws.{extension_fed};
+    ghost use Rattle.dtype_types.specs.HashesOf.{extension_writes};
+    ghost use Rattle.dtype_types.specs.declared.equality.Nullabilities.TheVariants.{Compared};
+
+    ghost hash_input = { extension_writes Compared };
+
+    ghost respects_eq = { extension_fed };
+
+    fn hash<H: Hasher>(&self, state: &mut H) {
+        self.feed(Nullabilities::Compared, state);
+    }
+}
+
+// Nothing at run time: a proof learns that the items are bytes.
+fn check_bytes(bytes: &[u8])
+    ensures { All (λ x. x < 256) bytes.now }
+{
+    let _ = bytes;
+}
+
+/// How many bytes of metadata an extension has, to be printed.
+#[derive(Debug, Drop)]
+pub struct MetadataDisplay<'a> {
+    bytes: &'a [u8],
+}
+
+/// The number of bytes and `B`.
+impl fmt::Display for MetadataDisplay<'_> {
+    ghost use Rattle.dtype_types.specs.Text.{metadata_text};
+
+    ghost output = { λ m. Some (metadata_text m.bytes.now) };
+
+    fn fmt<W: fmt::Write>(&self, f: &mut fmt::Formatter<W>) -> fmt::Result {
+        let count = self.bytes.len();
+        write!(f, "{count}B")
     }
 }
 

@@ -12,6 +12,7 @@
 mod conversions;
 mod copies;
 mod dtype;
+mod dtype_impl;
 mod dtype_iter;
 mod equality;
 mod extension;
@@ -20,6 +21,7 @@ mod fields_builder;
 mod hashing;
 mod kind;
 mod map;
+mod name_index;
 mod nullable;
 mod repeats;
 mod struct_fields;
@@ -28,7 +30,7 @@ mod union_variants;
 
 pub use dtype::DType;
 pub use dtype_iter::DTypeIter;
-pub use extension::{ExtDTypeRef, ExtId};
+pub use extension::{ExtDTypeRef, ExtId, MetadataDisplay};
 pub use field_dtype::FieldDType;
 pub use map::MapDType;
 pub use struct_fields::StructFields;

@@ -17,3 +17,6 @@ pub mod NameIndexes
 pub mod Projections
 pub mod Feeding
 pub mod IndentedTexts
+pub mod Feeding
+pub mod NameIndexes
+pub mod Projections

@@ -20,3 +20,8 @@ pub mod IndentedText
 pub mod Hashes
 pub mod HashesOf
 pub mod Maps
+pub mod Hashes
+pub mod HashesOf
+pub mod HashLaws
+pub mod NameIndex
+pub mod IndentedText

@@ -306,6 +306,20 @@ impl Eq for ExtDTypeRef {
     ghost laws = { same_extension_equiv };
 }
 
+impl Hash for ExtDTypeRef {
+    ghost use Rattle.dtype_types.specs.HashLaws.{extension_fed};
+    ghost use Rattle.dtype_types.specs.HashesOf.{extension_writes};
+    ghost use Rattle.dtype_types.specs.declared.equality.Nullabilities.TheVariants.{Compared};
+
+    ghost hash_input = { extension_writes Compared };
+
+    ghost respects_eq = { extension_fed };
+
+    fn hash<H: Hasher>(&self, state: &mut H) {
+        self.feed(Nullabilities::Compared, state);
+    }
+}
+
 // Nothing at run time: a proof learns that the items are bytes.
 fn check_bytes(bytes: &[u8])
     ensures { All (λ x. x < 256) bytes.now }

@@ -109,3 +109,16 @@ impl DType {
         feed(self, Nullabilities::Ignored, state);
     }
 }
+
+impl Hash for DType {
+    ghost use Rattle.dtype_types.specs.HashLaws.{dtype_fed};
+    ghost use Rattle.dtype_types.specs.declared.equality.Nullabilities.TheVariants.{Compared};
+
+    ghost hash_input = { λ d. hash_of Compared (tree d) };
+
+    ghost respects_eq = { dtype_fed };
+
+    fn hash<H: Hasher>(&self, state: &mut H) {
+        feed(self, Nullabilities::Compared, state);
+    }
+}

@@ -230,6 +230,19 @@ impl StructFields {
             total = total.plus(dtype.width());
         }
         total
+    // Feeds a hasher how many fields there are, and each field.
+    #[cycle(hash)]
+    pub(crate) fn feed<H: Hasher>(&self, rule: Nullabilities, state: &mut H)
+        ensures { state.new ≡ fold H.write state.old (struct_writes rule self.now) }
+    {
+        let count = self.count();
+        let names = self.names.as_slice();
+        state.write_usize(count);
+        for i in 0..count {
+            let dtype = &self.dtypes[i];
+            names[i].hash(state);
+            feed(dtype, rule, state);
+        }
     }
 
     /// The first field of each name asked, in the order asked, repeats kept. Refuses 16 (FieldNotFound)
@@ -429,6 +442,20 @@ impl Eq for StructFields {
     ghost use Rattle.dtype_types.specs.EqualityLaws.{same_struct_equiv};
 
     ghost laws = { same_struct_equiv };
+}
+
+impl Hash for StructFields {
+    ghost use Rattle.dtype_types.specs.HashLaws.{struct_fed};
+    ghost use Rattle.dtype_types.specs.HashesOf.{struct_writes};
+    ghost use Rattle.dtype_types.specs.declared.equality.Nullabilities.TheVariants.{Compared};
+
+    ghost hash_input = { struct_writes Compared };
+
+    ghost respects_eq = { struct_fed };
+
+    fn hash<H: Hasher>(&self, state: &mut H) {
+        self.feed(Nullabilities::Compared, state);
+    }
 }
 
 /// The fields in braces, each a name, `=` and a type.

@@ -10,8 +10,8 @@ use Rattle.dtype_types.proofs.+hash.Goals as goal
 pub struct_fields::StructFields::feed-loop-i-preserved : goal.struct_fields::StructFields::feed-loop-i-preserved
 struct_fields::StructFields::feed-loop-i-preserved g t c =
     let s = c.args.self.now in
-    c.loop-i.invariant ∙ field_fed g.H.Hasher.write c.args.rule s.names s.dtypes.items c.loop-i.i c.index-names-i.result c.index-dtype.result.now c.loop-i.state c.hash.new.state c.feed.new.state (omega arith) (omega arith)
-    (c.index-names-i.is ∙ ap (λ xs. get_or xs c.loop-i.i c.index-names-i.result) c.as_slice-names.ensures) c.index-dtype.ensures c.hash.ensures c.feed.ensures
+    field_fed g.H.Hasher.write c.args.rule s.names s.dtypes.items c.loop-i.i c.index-names-i.result c.index-dtype.result.now _ c.loop-i.state c.hash.new.state c.feed.new.state (omega arith) (omega arith)
+    (c.index-names-i.is ∙ ap (λ xs. get_or xs c.loop-i.i c.index-names-i.result) c.as_slice-names.ensures) c.index-dtype.ensures c.loop-i.invariant c.hash.ensures c.feed.ensures
 
 pub struct_fields::StructFields::feed-returns : goal.struct_fields::StructFields::feed-returns
 struct_fields::StructFields::feed-returns g t c =
@@ -24,8 +24,8 @@ struct_fields::StructFields::feed-returns g t c =
 pub union_variants::UnionVariants::feed-loop-i-preserved : goal.union_variants::UnionVariants::feed-loop-i-preserved
 union_variants::UnionVariants::feed-loop-i-preserved g t c =
     let u = c.args.self.now in
-    c.loop-i.invariant ∙ variant_fed g.H.Hasher.write c.args.rule u.names u.dtypes.items u.type_ids.items c.loop-i.i c.index-names-i.result c.index-dtype.result.now c.index-tag.result.now c.loop-i.state c.hash.new.state c.feed.new.state c.write_u8.new.self (omega arith) (omega arith) (omega arith)
-    (c.index-names-i.is ∙ ap (λ xs. get_or xs c.loop-i.i c.index-names-i.result) c.as_slice-names.ensures) c.index-dtype.ensures c.index-tag.ensures c.hash.ensures c.feed.ensures c.write_u8.ensures
+    variant_fed g.H.Hasher.write c.args.rule u.names u.dtypes.items u.type_ids.items c.loop-i.i c.index-names-i.result c.index-dtype.result.now c.index-tag.result.now _ c.loop-i.state c.hash.new.state c.feed.new.state c.write_u8.new.self (omega arith) (omega arith) (omega arith)
+    (c.index-names-i.is ∙ ap (λ xs. get_or xs c.loop-i.i c.index-names-i.result) c.as_slice-names.ensures) c.index-dtype.ensures c.index-tag.ensures c.loop-i.invariant c.hash.ensures c.feed.ensures c.write_u8.ensures
 
 pub union_variants::UnionVariants::feed-returns : goal.union_variants::UnionVariants::feed-returns
 union_variants::UnionVariants::feed-returns g t c =

@@ -23,24 +23,25 @@ pub struct DecimalDType {
 
 impl Model for DecimalDType {
     ghost use Rattle.dtype_base.specs.Decimals.{Decimal, IsDecimalWithin};
+    ghost use Rattle.dtype_base.specs.declared.decimal.TheConstants.{MAX_PRECISION};
 
     ghost Value = { Decimal };
 
     ghost view = { λ d. record { precision = d.precision; scale = d.scale } };
 
-    ghost invariant = { λ d. IsDecimalWithin 76 d.precision d.scale };
+    ghost invariant = { λ d. IsDecimalWithin MAX_PRECISION d.precision d.scale };
 
     ghost inverse = { λ d. record { precision = d.precision; scale = d.scale } };
 }
 
 impl DecimalDType {
-    /// The decimal type of this precision and scale. Refuses the first that applies of 1
-    /// (PrecisionZero), 2 (PrecisionTooLarge, above 76), 3 (ScaleTooLarge, above 76) and 4
-    /// (ScaleAbovePrecision). Every negative scale is taken.
+    /// The decimal type of this precision and scale. Refuses, in this order, a precision of 0
+    /// (PrecisionZero, 1) or above 76 (PrecisionTooLarge, 2), and a scale above 76 (ScaleTooLarge, 3)
+    /// or above the precision (ScaleAbovePrecision, 4). Every negative scale is taken.
     pub fn try_new(precision: u8, scale: i8) -> VortexResult<Self>
         ensures ok { IfOk result (λ d. (d.precision ≡ precision) × (d.scale ≡ scale)) }
-        ensures valid { IsOk result ↔ IsDecimalWithin 76 precision scale }
-        ensures refused { IfErr result (IsDecimalRefusal 76 precision scale) }
+        ensures valid { IsOk result ↔ IsDecimalWithin MAX_PRECISION precision scale }
+        ensures refused { IfErr result (IsDecimalRefusal MAX_PRECISION precision scale) }
     {
         check_precision_and_scale(precision, scale, MAX_PRECISION)?;
         Ok(DecimalDType { precision, scale })
@@ -48,11 +49,11 @@ impl DecimalDType {
 
     /// The decimal type of this precision and scale.
     pub fn new(precision: u8, scale: i8) -> Self
-        requires { IsDecimalWithin 76 precision scale }
+        requires { IsDecimalWithin MAX_PRECISION precision scale }
         ensures precision { result.precision ≡ precision }
         ensures scale { result.scale ≡ scale }
     {
-        DecimalDType { precision, scale }
+        Self { precision, scale }
     }
 
     /// How many digits a value has, 1 to 76.
@@ -97,9 +98,9 @@ impl fmt::Display for DecimalDType {
     }
 }
 
-/// Tests what every decimal type has to meet, where this is the greatest precision and scale. Refuses
-/// the first that applies of 1 (PrecisionZero), 2 (PrecisionTooLarge), 3 (ScaleTooLarge) and 4
-/// (ScaleAbovePrecision).
+/// Tests what a decimal type has to meet whose greatest precision and scale are `max`. Refuses, in this
+/// order, a precision of 0 (PrecisionZero, 1) or above `max` (PrecisionTooLarge, 2), and a scale above
+/// `max` (ScaleTooLarge, 3) or above the precision (ScaleAbovePrecision, 4).
 pub fn check_precision_and_scale(precision: u8, scale: i8, max: u8) -> VortexResult<()>
     requires { max < 128 }
     ensures valid { IsOk result ↔ IsDecimalWithin max precision scale }

@@ -1,11 +1,16 @@
-ghost use Rattle.std.specs.Prelude.{◌≡◌, ◌↔◌, ℕ, IsTrue, IfOk, IfSome, IfNone, IsOkUnless, List, [], length, slice_get, map, Some, nat_eq};
+ghost use Rattle.std.specs.Prelude.{◌≡◌, ◌↔◌, ℕ, IsTrue, IfOk, IfSome, IfNone, IsOkUnless, List, [], ◌<◌, length, slice_get, map, Some, nat_eq};
 ghost use Rattle.std.specs.Option.{option_copied};
+ghost use Rattle.std.specs.Iterator.{IsFinite};
+ghost use Rattle.std.specs.Iterator.Runs.{WholeRun};
 ghost use Rattle.dtype_base.specs.FieldNames.{FirstAt, IsAbsent};
 ghost use Rattle.dtype_base.specs.declared.vortex_error.VortexError.TheVariants.{OutOfMemory};
 
-use crate::{FieldName, VortexResult};
+use crate::{FieldName, FieldNamesIntoIter, FieldNamesIter, VortexResult};
 use std::alloc::Global;
+use std::fmt;
+use std::hash::{Hash, Hasher};
 use std::marker::Model;
+use std::ops::Index;
 
 /// Names in order. A name may stand in it more than once.
 #[derive(Debug, Drop)]
@@ -36,6 +41,34 @@ impl FieldNames {
         FieldNames { items: names }
     }
 
+    /// The names with these texts, in order. Refuses 0 alone.
+    pub fn from_texts(alloc: Global, texts: &[&str]) -> VortexResult<Self>
+        ensures ok { IfOk result (λ n. n ≡ map (λ t. t.now) texts.now) }
+        ensures refused { IsOkUnless result OutOfMemory }
+    {
+        let mut items = Vec::with_capacity(alloc, texts.len())?;
+        for text in texts {
+            items.push(FieldName::new(alloc, text)?)?;
+        }
+        Ok(FieldNames { items })
+    }
+
+    /// The names that an iterator gives, in order. Refuses 0 alone.
+    pub fn from_iter<I: IntoIterator<Item = FieldName>>(
+        alloc: Global,
+        names: I,
+    ) -> VortexResult<Self>
+        requires { (it : I.IntoIter) → I.into_iter_gives names it
+            → I.IntoIter.can_next it × IsFinite (I.IntoIter.remaining it) }
+        ensures ok { IfOk result (λ n. (it : I.IntoIter) × I.into_iter_gives names it
+            × WholeRun I.IntoIter.next_gives it (λ run. n ≡ run.items)) }
+        ensures refused { IsOkUnless result OutOfMemory }
+    {
+        Ok(FieldNames {
+            items: names.into_iter().collect(alloc)?,
+        })
+    }
+
     /// How many names there are.
     pub fn len(&self) -> usize
         ensures { result ≡ length self.now }
@@ -55,6 +88,36 @@ impl FieldNames {
         ensures { option_copied result ≡ slice_get self.now index }
     {
         self.items.get(index)
+    }
+
+    /// The names in order, lent.
+    pub fn iter(&self) -> FieldNamesIter<'_>
+        ensures { result ≡ self.now }
+    {
+        FieldNamesIter::new(self.items.as_slice())
+    }
+
+    /// The names in order.
+    pub fn into_iter(self) -> FieldNamesIntoIter
+        ensures { result ≡ self }
+    {
+        FieldNamesIntoIter::new(self.items)
+    }
+
+    /// Whether the names are these texts, in this order.
+    pub fn eq_texts(&self, texts: &[&str]) -> bool
+        ensures { IsTrue result ↔ (self.now ≡ map (λ t. t.now) texts.now) }
+    {
+        let items = self.items.as_slice();
+        if items.len() != texts.len() {
+            return false;
+        }
+        for (i, text) in texts.iter().enumerate() {
+            if !items[i].eq_str(text) {
+                return false;
+            }
+        }
+        true
     }
 
     /// The first position of the name, or `None` where no name is equal to it.
@@ -108,4 +171,86 @@ impl Eq for FieldNames {
     ghost use Rattle.std.specs.Cmp.Lexicographic.{nat_list_eq_equiv, lists_equiv};
 
     ghost laws = { lists_equiv nat_list_eq_equiv };
+}
+
+impl Hash for FieldNames {
+    ghost use Rattle.std.specs.Hash as fed;
+    ghost use Rattle.std.specs.Hash.{items_Alike, same_Alike};
+    ghost use Rattle.std.specs.Cmp.Lexicographic.{bytes_decides};
+
+    ghost hash_input = { fed.slice fed.str };
+
+    ghost respects_eq = { (items_Alike (same_Alike fed.str bytes_decides)).fed };
+
+    fn hash<H: Hasher>(&self, state: &mut H) {
+        self.items.as_slice().hash(state);
+    }
+}
+
+/// The name at a position that there is.
+impl Index<usize> for FieldNames {
+    type Output = FieldName;
+
+    ghost can_index = { λ names i. i < length names };
+
+    ghost index_gives = { λ names i n. slice_get names i ≡ Some n };
+
+    fn index(&self, index: usize) -> &FieldName {
+        &self.items[index]
+    }
+}
+
+impl IntoIterator for FieldNames {
+    type Item = FieldName;
+
+    type IntoIter = FieldNamesIntoIter;
+
+    ghost into_iter_gives = { λ names it. it ≡ names };
+
+    fn into_iter(self) -> FieldNamesIntoIter {
+        FieldNames::into_iter(self)
+    }
+}
+
+impl<'a> IntoIterator for &'a FieldNames {
+    type Item = &'a FieldName;
+
+    type IntoIter = FieldNamesIter<'a>;
+
+    ghost into_iter_gives = { λ names it. it ≡ names.now };
+
+    fn into_iter(self) -> FieldNamesIter<'a> {
+        self.iter()
+    }
+}
+
+/// The names in brackets, each in double quotes and escaped, as `["a", "b"]`.
+impl fmt::Display for FieldNames {
+    ghost use Rattle.dtype_base.specs.FieldNames.{names_text};
+
+    ghost output = { λ names. Some (names_text names) };
+
+    fn fmt<W: fmt::Write>(&self, f: &mut fmt::Formatter<W>) -> fmt::Result {
+        match self.items.split_first() {
+            None => write!(f, "[]"),
+            Some((first, rest)) => write!(f, "[\"{first}\"{}]", LaterNames(rest)),
+        }
+    }
+}
+
+/// The names behind the first, as they are printed.
+#[derive(Clone, Copy)]
+struct LaterNames<'a>(&'a [FieldName]);
+
+impl fmt::Display for LaterNames<'_> {
+    ghost use Rattle.dtype_base.specs.FieldNames.{later_names};
+
+    ghost output = { λ names. Some (later_names names.0.now) };
+
+    fn fmt<W: fmt::Write>(&self, f: &mut fmt::Formatter<W>) -> fmt::Result {
+        for name in self.0 {
+            write!(f, ", \"{name}\"")?;
+        }
+        Ok(())
+    }
 }

@@ -13,6 +13,8 @@
 mod decimal;
 mod field_name;
 mod field_names;
+mod field_names_into_iter;
+mod field_names_iter;
 pub mod laws;
 mod nullability;
 mod ptype;
@@ -23,6 +25,11 @@ mod vortex_error;
 pub use decimal::{DecimalDType, DecimalType, MAX_PRECISION, MAX_SCALE, check_precision_and_scale};
 pub use field_name::FieldName;
 pub use field_names::FieldNames;
+pub use field_names_into_iter::FieldNamesIntoIter;
+pub use field_names_iter::FieldNamesIter;
 pub use nullability::Nullability;
 pub use ptype::PType;
 pub use vortex_error::{VortexError, VortexResult};
+
+/// The name of the field that holds whether the values of a struct are null.
+pub const RESERVED_VALIDITY_FIELD_NAME: &str = "$__vortex_validity";

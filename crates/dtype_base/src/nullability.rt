@@ -55,6 +55,8 @@ impl BitOr for Nullability {
 impl BitOrAssign for Nullability {
     ghost use Rattle.dtype_base.specs.Nullability.{either};
 
+    ghost bitor_assign_gives = { λ a b c. c ≡ either a b };
+
     fn bitor_assign(&mut self, other: Nullability) {
         *self = *self | other;
     }

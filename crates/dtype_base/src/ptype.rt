@@ -161,17 +161,19 @@ impl PType {
         requires other_kind { IsUnsigned other }
         ensures { result ≡ wider self other }
     {
-        if self.byte_width() >= other.byte_width() {
-            self
-        } else {
-            other
-        }
+        self.wider_of(other)
     }
 
     /// The wider of two signed integers, and `self` where they are equally wide.
     pub fn max_signed_ptype(self, other: PType) -> PType
         requires self_kind { IsSigned self }
         requires other_kind { IsSigned other }
+        ensures { result ≡ wider self other }
+    {
+        self.wider_of(other)
+    }
+
+    fn wider_of(self, other: PType) -> PType
         ensures { result ≡ wider self other }
     {
         if self.byte_width() >= other.byte_width() {

@@ -15,17 +15,17 @@ use Rattle.dtype_types.specs.TreeOf.{tree, option_tree}
 use Rattle.dtype_types.specs.declared.dtype.DType.{DType}
 
 -- the test of a name, at a name that is equal and at one that is not
-same_name : {X : Type 0} (m n : List ℕ) (x y : X) → m ≡ n → cond (bytes_eq m n) x y ≡ x
+pub same_name : {X : Type 0} (m n : List ℕ) (x y : X) → m ≡ n → cond (bytes_eq m n) x y ≡ x
 same_name m n x y e = ap (λ b. cond b x y) ((bytes_eq-Decides m n).1 e)
 
-other_name : {X : Type 0} (m n : List ℕ) (x y : X) → m ≢ n → cond (bytes_eq m n) x y ≡ y
+pub other_name : {X : Type 0} (m n : List ℕ) (x y : X) → m ≢ n → cond (bytes_eq m n) x y ≡ y
 other_name m n x y ne = go (bytes_eq m n) refl
   where
     go : (b : Bool) → bytes_eq m n ≡ b → cond b x y ≡ y
     go true e = absurd (ne ((bytes_eq-Decides m n).0 e))
     go false e = refl
 
-some_is : {X : Type 0} (a b : X) → Some a ≡ Some b → a ≡ b
+pub some_is : {X : Type 0} (a b : X) → Some a ≡ Some b → a ≡ b
 some_is a b e = cc
 
 pub first_named-at : (ns : List (List ℕ)) (ts : List Tree) (n : List ℕ) (i : ℕ) → slice_get ns i ≡ Some n → ((k : ℕ) → k < i → slice_get ns k ≢ Some n) → first_named (zip ns ts) n ≡ slice_get ts i

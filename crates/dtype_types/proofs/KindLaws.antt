@@ -5,8 +5,9 @@ use Rattle.std.specs.declared.alloc.Global.{Global}
 use Rattle.dtype_base.specs.declared.nullability.Nullability.{Nullability}
 use Rattle.dtype_base.specs.Decimals.{Decimal as DecimalOf}
 use Rattle.dtype_base.specs.declared.ptype.PType.{PType}
-use Rattle.dtype_types.specs.Kinds.{primitive_name, decimal_of, struct_fields, union_variants, map_parts, extension_parts, list_element, fixed_size_list_element, any_size_list_element}
-use Rattle.dtype_types.specs.Tree.{Tree, Fields, Variants}
+use Rattle.dtype_types.specs.declared.kind.Kind.TheVariants as k
+use Rattle.dtype_types.specs.Kinds.{kind, primitive_name, decimal_of, struct_fields, union_variants, map_parts, extension_parts, list_element, fixed_size_list_element, any_size_list_element}
+use Rattle.dtype_types.specs.Tree.{Tree, Fields, Variants, primitive, struct, extension}
 use Rattle.dtype_types.specs.TreeOf.{tree, children, choices, key_tree, value_tree, are_keys_sorted, extension_id, extension_metadata, storage_tree, MapParts, ExtensionParts, type_step, extension_step, map_step, struct_step, union_step}
 use denote.Hole.Carrier
 use Rattle.dtype_types.specs.declared.dtype.DType.{out-DType, fold_out-DType}
@@ -69,3 +70,16 @@ struct_fields_some x n d e = ap (λ z. struct_fields (tree z)) e ∙ ap struct_f
 
 pub union_variants_some : (x : UnionVariants) (n : Nullability) (d : DType) → d ≡ Union x n → union_variants (tree d) ≡ Some (choices x)
 union_variants_some x n d e = ap (λ z. union_variants (tree z)) e ∙ ap union_variants (tree_union x n) ∙ ap Some (triples_variants (choices x))
+
+-- a type of the kind holds what it holds
+pub is_primitive_named : (t : Tree) → kind t ≡ k.Primitive → primitive_name t ≡ None → ⊥
+is_primitive_named (primitive p n) e h = cc
+is_primitive_named _ e h = cc
+
+pub is_struct_with : (t : Tree) → kind t ≡ k.Struct → struct_fields t ≡ None → ⊥
+is_struct_with (struct fs n) e h = cc
+is_struct_with _ e h = cc
+
+pub is_extension_with : (t : Tree) → kind t ≡ k.Extension → extension_parts t ≡ None → ⊥
+is_extension_with (extension i b s) e h = cc
+is_extension_with _ e h = cc

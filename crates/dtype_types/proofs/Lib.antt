@@ -7,3 +7,12 @@ pub mod Turns
 pub mod SameParts
 pub mod SetNullLaws
 pub mod Texts
+pub mod Zips
+pub mod Outcomes
+pub mod DistinctItems
+pub mod UnionLaws
+pub mod VariantLookups
+pub mod Widths
+pub mod NameIndexes
+pub mod Projections
+pub mod Feeding

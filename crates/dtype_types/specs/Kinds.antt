@@ -65,3 +65,14 @@ abbrev pub any_size_list_element : Tree → Option Tree
 any_size_list_element (list t n) = Some t
 any_size_list_element (fixed_size_list t size n) = Some t
 any_size_list_element _ = None
+
+-- a list, a map, a struct, a union, a variant, or an extension over one of these
+abbrev pub is_nested : Tree → Bool
+is_nested (list t n) = true
+is_nested (fixed_size_list t size n) = true
+is_nested (map_of t u b n) = true
+is_nested (struct fs n) = true
+is_nested (union vs n) = true
+is_nested (variant n) = true
+is_nested (extension id b s) = is_nested s
+is_nested _ = false

@@ -9,3 +9,13 @@ pub mod TextOf
 pub mod TreeOf
 pub mod Equality
 pub mod EqualityLaws
+pub mod FieldTypes
+pub mod Building
+pub mod Distinct
+pub mod Unions
+pub mod PartsEquality
+pub mod Width
+pub mod NameIndex
+pub mod IndentedText
+pub mod Hashes
+pub mod HashesOf

@@ -1,7 +1,9 @@
 -- The tree that a `DType` means, and what its parts show: a struct's names and types, a union's names,
 -- types and tags.
-use Rattle.std.specs.Prelude.{◌≡◌, ℕ, List, [], ◌∷◌, map, Option, Some, None, Bool as Flag}
+use Rattle.std.specs.Prelude.{◌≡◌, ℕ, List, [], ◌∷◌, map, length, Option, Some, None, Bool as Flag}
 use Rattle.std.specs.Borrow.{Bor}
+use Rattle.std.specs.declared.boxed.Box.{Box}
+use Rattle.std.specs.declared.alloc.Global.{Global}
 use Rattle.std.specs.List.{zip}
 use Rattle.dtype_types.specs.Tree.{Tree, Fields, fields, Variants, variants, null, bool, primitive, decimal, utf8, binary, list, fixed_size_list, map_of, struct, union, variant, extension}
 use Rattle.dtype_types.specs.Nullable.{nullability}
@@ -72,6 +74,10 @@ types_of s = map tree s.dtypes.items
 abbrev pub children : StructFields → List (List ℕ × Tree)
 children s = zip (names_of s) (types_of s)
 
+-- as many names as types, as in every struct that the constructors make
+abbrev pub IsPaired : StructFields → Type 0
+IsPaired s = length (names_of s) ≡ length (types_of s)
+
 -- a union's names, types and tags, and its variants as triples of them
 abbrev pub variant_names : UnionVariants → List (List ℕ)
 variant_names u = u.names
@@ -84,6 +90,10 @@ variant_tags u = u.type_ids.items
 
 abbrev pub choices : UnionVariants → List (List ℕ × Tree × ℕ)
 choices u = zip_tagged (variant_names u) (variant_types u) (variant_tags u)
+
+-- the types of the variants, in order
+abbrev pub choice_types : UnionVariants → List Tree
+choice_types u = map (λ c. c.1) (choices u)
 
 -- a map's key, its value, and whether the keys are sorted
 abbrev pub key_tree : MapDType → Tree
@@ -108,14 +118,25 @@ storage_tree e = tree e.storage.value
 abbrev pub extension_tree : ExtDTypeRef → Tree
 extension_tree e = extension (extension_id e) (extension_metadata e) (storage_tree e)
 
--- the tree, or the fields, behind a reference, if there is one
+-- the tree behind a reference, if there is one
 abbrev pub option_tree : Option (Bor DType) → Option Tree
 option_tree None = None
 option_tree (Some d) = Some (tree d.now)
 
-abbrev pub option_children : Option (Bor StructFields) → Option (List (List ℕ × Tree))
-option_children None = None
-option_children (Some s) = Some (children s.now)
+-- what a value behind a reference, or one in hand, shows, if there is one
+abbrev pub shown : {A B : Type 0} → (A → B) → Option (Bor A) → Option B
+shown f None = None
+shown f (Some r) = Some (f r.now)
+
+abbrev pub option_boxed : Option (Box DType Global) → Option Tree
+option_boxed None = None
+option_boxed (Some b) = Some (tree b.value)
+
+abbrev pub map_shown : MapDType → Tree × Tree × Flag
+map_shown m = (key_tree m, value_tree m, are_keys_sorted m)
+
+abbrev pub extension_shown : ExtDTypeRef → List ℕ × List ℕ × Tree
+extension_shown e = (extension_id e, extension_metadata e, storage_tree e)
 
 -- the fields of a struct and the variants of a union, as they stand in a tree
 abbrev pub struct_tree : StructFields → Fields

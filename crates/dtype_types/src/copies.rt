@@ -1,11 +1,11 @@
 // Copies of types: each takes memory for its nodes, and shares the texts of names and ids.
-ghost use Rattle.std.specs.Prelude.{◌≡◌, IfOk, IsOkUnless, map};
+ghost use Rattle.std.specs.Prelude.{◌≡◌, ◌++◌, IfOk, OnOk, IsOkUnless, map};
 ghost use Rattle.dtype_base.specs.declared.vortex_error.VortexError.TheVariants.{OutOfMemory};
 ghost use Rattle.dtype_types.specs.TreeOf.{tree};
 ghost use Rattle.dtype_types.specs.Valid.{Valid};
 
 use crate::DType;
-use dtype_base::VortexResult;
+use dtype_base::{FieldName, VortexResult};
 use std::alloc::Global;
 
 impl DType {
@@ -60,4 +60,19 @@ pub(crate) fn copies_of(alloc: Global, dtypes: &[DType]) -> VortexResult<Vec<DTy
         copies.push(dtype.try_clone(alloc)?)?;
     }
     Ok(copies)
+}
+
+// Puts copies of the names behind those that are there; they share their texts.
+pub(crate) fn append_names(
+    alloc: Global,
+    copies: &mut Vec<FieldName>,
+    names: &[FieldName],
+) -> VortexResult<()>
+    ensures same { OnOk result (copies.new.items ≡ copies.old.items ++ names.now) }
+    ensures refused { IsOkUnless result OutOfMemory }
+{
+    for name in names {
+        copies.push(name.try_clone(alloc)?)?;
+    }
+    Ok(())
 }

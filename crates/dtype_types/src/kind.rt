@@ -1,12 +1,13 @@
 // The tests of a type's kind, and what each kind holds. They look at the outermost variant alone, not
 // through an extension.
-ghost use Rattle.std.specs.Prelude.{◌≡◌, ◌↔◌, ◌⊎◌, IsTrue, IsSome, IfSome, Some, None};
-ghost use Rattle.std.specs.Option.{option_copied};
-ghost use Rattle.dtype_types.specs.Kinds.{kind, primitive_name, decimal_of, struct_fields, union_variants, map_parts, extension_parts, list_element, fixed_size_list_element, any_size_list_element};
-ghost use Rattle.dtype_types.specs.TreeOf.{tree, children, option_tree, option_children, ValidStruct};
+ghost use Rattle.std.specs.Prelude.{◌≡◌, ◌↔◌, IsTrue, IsSomeAnd, IfSome, Some};
+ghost use Rattle.std.specs.Option.{option_copied, option_map};
+ghost use Rattle.dtype_base.specs.Primitives.{IsUnsigned, IsSigned, IsInteger, IsFloat};
+ghost use Rattle.dtype_types.specs.Kinds.{kind, primitive_name, decimal_of, struct_fields, union_variants, map_parts, extension_parts, list_element, fixed_size_list_element, any_size_list_element, is_nested};
+ghost use Rattle.dtype_types.specs.TreeOf.{tree, children, choices, map_shown, extension_shown, option_tree, option_boxed, shown, extension_tree, ValidStruct, ValidUnion, ValidMap, ValidExtension};
 ghost use Rattle.dtype_types.specs.Valid.{Valid};
 
-use crate::{DType, StructFields};
+use crate::{DType, ExtDTypeRef, MapDType, StructFields, UnionVariants};
 use dtype_base::{DecimalDType, PType};
 
 // The kinds of a type.
@@ -63,8 +64,152 @@ impl DType {
         self.kind() == Kind::Primitive
     }
 
-    /// The name of a primitive type; the type is one.
+    /// Whether this is `Decimal`.
+    pub fn is_decimal(&self) -> bool
+        ensures { IsTrue result ↔ (kind (tree self.now) ≡ Kind.Decimal) }
+    {
+        self.kind() == Kind::Decimal
+    }
+
+    /// Whether this is `Utf8`.
+    pub fn is_utf8(&self) -> bool
+        ensures { IsTrue result ↔ (kind (tree self.now) ≡ Kind.Utf8) }
+    {
+        self.kind() == Kind::Utf8
+    }
+
+    /// Whether this is `Binary`.
+    pub fn is_binary(&self) -> bool
+        ensures { IsTrue result ↔ (kind (tree self.now) ≡ Kind.Binary) }
+    {
+        self.kind() == Kind::Binary
+    }
+
+    /// Whether this is `List`.
+    pub fn is_list(&self) -> bool
+        ensures { IsTrue result ↔ (kind (tree self.now) ≡ Kind.List) }
+    {
+        self.kind() == Kind::List
+    }
+
+    /// Whether this is `FixedSizeList`.
+    pub fn is_fixed_size_list(&self) -> bool
+        ensures { IsTrue result ↔ (kind (tree self.now) ≡ Kind.FixedSizeList) }
+    {
+        self.kind() == Kind::FixedSizeList
+    }
+
+    /// Whether this is `Map`.
+    pub fn is_map(&self) -> bool
+        ensures { IsTrue result ↔ (kind (tree self.now) ≡ Kind.Map) }
+    {
+        self.kind() == Kind::Map
+    }
+
+    /// Whether this is `Struct`.
+    pub fn is_struct(&self) -> bool
+        ensures { IsTrue result ↔ (kind (tree self.now) ≡ Kind.Struct) }
+    {
+        self.kind() == Kind::Struct
+    }
+
+    /// Whether this is `Union`.
+    pub fn is_union(&self) -> bool
+        ensures { IsTrue result ↔ (kind (tree self.now) ≡ Kind.Union) }
+    {
+        self.kind() == Kind::Union
+    }
+
+    /// Whether this is `Variant`.
+    pub fn is_variant(&self) -> bool
+        ensures { IsTrue result ↔ (kind (tree self.now) ≡ Kind.Variant) }
+    {
+        self.kind() == Kind::Variant
+    }
+
+    /// Whether this is `Extension`, whatever its storage.
+    pub fn is_extension(&self) -> bool
+        ensures { IsTrue result ↔ (kind (tree self.now) ≡ Kind.Extension) }
+    {
+        self.kind() == Kind::Extension
+    }
+
+    /// Whether this is a `Primitive` whose name is an unsigned integer's.
+    pub fn is_unsigned_int(&self) -> bool
+        ensures { IsTrue result ↔ IsSomeAnd (primitive_name (tree self.now)) IsUnsigned }
+    {
+        match self.ptype() {
+            Some(ptype) => ptype.is_unsigned_int(),
+            None => false,
+        }
+    }
+
+    /// Whether this is a `Primitive` whose name is a signed integer's.
+    pub fn is_signed_int(&self) -> bool
+        ensures { IsTrue result ↔ IsSomeAnd (primitive_name (tree self.now)) IsSigned }
+    {
+        match self.ptype() {
+            Some(ptype) => ptype.is_signed_int(),
+            None => false,
+        }
+    }
+
+    /// Whether this is a `Primitive` whose name is an integer's.
+    pub fn is_int(&self) -> bool
+        ensures { IsTrue result ↔ IsSomeAnd (primitive_name (tree self.now)) IsInteger }
+    {
+        match self.ptype() {
+            Some(ptype) => ptype.is_int(),
+            None => false,
+        }
+    }
+
+    /// Whether this is a `Primitive` whose name is a floating-point number's.
+    pub fn is_float(&self) -> bool
+        ensures { IsTrue result ↔ IsSomeAnd (primitive_name (tree self.now)) IsFloat }
+    {
+        match self.ptype() {
+            Some(ptype) => ptype.is_float(),
+            None => false,
+        }
+    }
+
+    /// Whether this is `List`, `FixedSizeList`, `Map`, `Struct`, `Union`, `Variant`, or an extension over
+    /// one of these.
+    #[cycle(nested)]
+    pub fn is_nested(&self) -> bool
+        ensures { result ≡ is_nested (tree self.now) }
+    {
+        match self {
+            DType::Null
+            | DType::Bool(_)
+            | DType::Primitive(_, _)
+            | DType::Decimal(_, _)
+            | DType::Utf8(_)
+            | DType::Binary(_) => false,
+            DType::List(_, _)
+            | DType::FixedSizeList(_, _, _)
+            | DType::Map(_, _)
+            | DType::Struct(_, _)
+            | DType::Union(_, _)
+            | DType::Variant(_) => true,
+            DType::Extension(extension) => extension.is_nested(),
+        }
+    }
+
+    // The name of a `Primitive`, else `None`.
     #[tactic(auto, using(crate::proofs::KindLaws::primitive_name_none))]
+    pub(crate) fn ptype(&self) -> Option<PType>
+        ensures { result ≡ primitive_name (tree self.now) }
+    {
+        match self {
+            DType::Primitive(ptype, _) => Some(*ptype),
+            _ => None,
+        }
+    }
+
+    /// The name of the primitive type that this is.
+    #[tactic(auto, using(crate::proofs::KindLaws::primitive_name_none, crate::proofs::KindLaws::is_primitive_named))]
     pub fn as_ptype(&self) -> PType
         requires { kind (tree self.now) ≡ Kind.Primitive }
         ensures { primitive_name (tree self.now) ≡ Some result }
@@ -75,10 +220,21 @@ impl DType {
         }
     }
 
+    /// The precision and scale of a `Decimal`, else `None`.
+    #[tactic(auto, using(crate::proofs::KindLaws::decimal_of_none))]
+    pub fn as_decimal_opt(&self) -> Option<&DecimalDType>
+        ensures { option_copied result ≡ decimal_of (tree self.now) }
+    {
+        match self {
+            DType::Decimal(decimal, _) => Some(decimal),
+            _ => None,
+        }
+    }
+
     /// The element of a `List`, else `None`.
     #[tactic(auto, using(crate::proofs::KindLaws::list_element_none))]
     pub fn as_list_element_opt(&self) -> Option<&DType>
-        ensures element { option_tree result ≡ list_element (tree self.now) }
+        ensures held { option_tree result ≡ list_element (tree self.now) }
         ensures valid { Valid (tree self.now) → IfSome result (λ d. Valid (tree d.now)) }
     {
         match self {
@@ -87,15 +243,197 @@ impl DType {
         }
     }
 
+    /// The element of a `FixedSizeList`, else `None`.
+    #[tactic(auto, using(crate::proofs::KindLaws::fixed_size_list_element_none))]
+    pub fn as_fixed_size_list_element_opt(&self) -> Option<&DType>
+        ensures held { option_tree result ≡ fixed_size_list_element (tree self.now) }
+        ensures valid { Valid (tree self.now) → IfSome result (λ d. Valid (tree d.now)) }
+    {
+        match self {
+            DType::FixedSizeList(element, _, _) => Some(element),
+            _ => None,
+        }
+    }
+
+    /// The element of a `List` or of a `FixedSizeList`, else `None`.
+    #[tactic(auto, using(crate::proofs::KindLaws::any_size_list_element_none))]
+    pub fn as_any_size_list_element_opt(&self) -> Option<&DType>
+        ensures held { option_tree result ≡ any_size_list_element (tree self.now) }
+        ensures valid { Valid (tree self.now) → IfSome result (λ d. Valid (tree d.now)) }
+    {
+        match self {
+            DType::List(element, _) | DType::FixedSizeList(element, _, _) => Some(element),
+            _ => None,
+        }
+    }
+
+    /// What a `Map` holds, else `None`.
+    #[tactic(auto, using(crate::proofs::KindLaws::map_parts_none))]
+    pub fn as_map_opt(&self) -> Option<&MapDType>
+        ensures held { shown map_shown result ≡ map_parts (tree self.now) }
+        ensures valid { Valid (tree self.now) → IfSome result (λ m. ValidMap m.now) }
+    {
+        match self {
+            DType::Map(map, _) => Some(map),
+            _ => None,
+        }
+    }
+
     /// The fields of a `Struct`, else `None`.
     #[tactic(auto, using(crate::proofs::KindLaws::struct_fields_none, crate::proofs::KindLaws::struct_fields_some, crate::proofs::ValidLaws::valid_struct))]
     pub fn as_struct_fields_opt(&self) -> Option<&StructFields>
-        ensures fields { option_children result ≡ struct_fields (tree self.now) }
+        ensures held { shown children result ≡ struct_fields (tree self.now) }
         ensures valid { Valid (tree self.now) → IfSome result (λ s. ValidStruct s.now) }
     {
         match self {
             DType::Struct(fields, _) => Some(fields),
             _ => None,
+        }
+    }
+
+    /// The variants of a `Union`, else `None`.
+    #[tactic(auto, using(crate::proofs::KindLaws::union_variants_none, crate::proofs::KindLaws::union_variants_some, crate::proofs::ValidLaws::valid_union))]
+    pub fn as_union_variants_opt(&self) -> Option<&UnionVariants>
+        ensures held { shown choices result ≡ union_variants (tree self.now) }
+        ensures valid { Valid (tree self.now) → IfSome result (λ u. ValidUnion u.now) }
+    {
+        match self {
+            DType::Union(variants, _) => Some(variants),
+            _ => None,
+        }
+    }
+
+    /// The extension that this is, else `None`.
+    #[tactic(auto, using(crate::proofs::KindLaws::extension_parts_none))]
+    pub fn as_extension_opt(&self) -> Option<&ExtDTypeRef>
+        ensures held { shown extension_shown result ≡ extension_parts (tree self.now) }
+        ensures valid { Valid (tree self.now) → IfSome result (λ e. ValidExtension e.now) }
+    {
+        match self {
+            DType::Extension(extension) => Some(extension),
+            _ => None,
+        }
+    }
+
+    /// The precision and scale of a `Decimal`, else `None`.
+    #[tactic(auto, using(crate::proofs::KindLaws::decimal_of_none))]
+    pub fn into_decimal_opt(self) -> Option<DecimalDType>
+        ensures { result ≡ decimal_of (tree self) }
+    {
+        match self {
+            DType::Decimal(decimal, _) => Some(decimal),
+            _ => None,
+        }
+    }
+
+    /// The element of a `List`, given up, else `None`.
+    #[tactic(auto, using(crate::proofs::KindLaws::list_element_none))]
+    pub fn into_list_element_opt(self) -> Option<Box<DType>>
+        ensures held { option_boxed result ≡ list_element (tree self) }
+        ensures valid { Valid (tree self) → IfSome result (λ b. Valid (tree b.value)) }
+    {
+        match self {
+            DType::List(element, _) => Some(element),
+            _ => None,
+        }
+    }
+
+    /// The element of a `FixedSizeList`, given up, else `None`.
+    #[tactic(auto, using(crate::proofs::KindLaws::fixed_size_list_element_none))]
+    pub fn into_fixed_size_list_element_opt(self) -> Option<Box<DType>>
+        ensures held { option_boxed result ≡ fixed_size_list_element (tree self) }
+        ensures valid { Valid (tree self) → IfSome result (λ b. Valid (tree b.value)) }
+    {
+        match self {
+            DType::FixedSizeList(element, _, _) => Some(element),
+            _ => None,
+        }
+    }
+
+    /// The element of a `List` or of a `FixedSizeList`, given up, else `None`.
+    #[tactic(auto, using(crate::proofs::KindLaws::any_size_list_element_none))]
+    pub fn into_any_size_list_element_opt(self) -> Option<Box<DType>>
+        ensures held { option_boxed result ≡ any_size_list_element (tree self) }
+        ensures valid { Valid (tree self) → IfSome result (λ b. Valid (tree b.value)) }
+    {
+        match self {
+            DType::List(element, _) | DType::FixedSizeList(element, _, _) => Some(element),
+            _ => None,
+        }
+    }
+
+    /// What a `Map` holds, given up, else `None`.
+    #[tactic(auto, using(crate::proofs::KindLaws::map_parts_none))]
+    pub fn into_map_opt(self) -> Option<MapDType>
+        ensures held { option_map map_shown result ≡ map_parts (tree self) }
+        ensures valid { Valid (tree self) → IfSome result ValidMap }
+    {
+        match self {
+            DType::Map(map, _) => Some(map),
+            _ => None,
+        }
+    }
+
+    /// The fields of a `Struct`, given up, else `None`.
+    #[tactic(auto, using(crate::proofs::KindLaws::struct_fields_none, crate::proofs::KindLaws::struct_fields_some, crate::proofs::ValidLaws::valid_struct))]
+    pub fn into_struct_fields_opt(self) -> Option<StructFields>
+        ensures held { option_map children result ≡ struct_fields (tree self) }
+        ensures valid { Valid (tree self) → IfSome result ValidStruct }
+    {
+        match self {
+            DType::Struct(fields, _) => Some(fields),
+            _ => None,
+        }
+    }
+
+    /// The variants of a `Union`, given up, else `None`.
+    #[tactic(auto, using(crate::proofs::KindLaws::union_variants_none, crate::proofs::KindLaws::union_variants_some, crate::proofs::ValidLaws::valid_union))]
+    pub fn into_union_variants_opt(self) -> Option<UnionVariants>
+        ensures held { option_map choices result ≡ union_variants (tree self) }
+        ensures valid { Valid (tree self) → IfSome result ValidUnion }
+    {
+        match self {
+            DType::Union(variants, _) => Some(variants),
+            _ => None,
+        }
+    }
+
+    /// The fields of the struct that this is.
+    #[tactic(auto, using(crate::proofs::KindLaws::struct_fields_none, crate::proofs::KindLaws::struct_fields_some, crate::proofs::KindLaws::is_struct_with, crate::proofs::ValidLaws::valid_struct))]
+    pub fn as_struct_fields(&self) -> &StructFields
+        requires { kind (tree self.now) ≡ Kind.Struct }
+        ensures held { struct_fields (tree self.now) ≡ Some (children result.now) }
+        ensures valid { Valid (tree self.now) → ValidStruct result.now }
+    {
+        match self {
+            DType::Struct(fields, _) => fields,
+            _ => unreachable!(),
+        }
+    }
+
+    /// The fields of the struct that this is, given up.
+    #[tactic(auto, using(crate::proofs::KindLaws::struct_fields_none, crate::proofs::KindLaws::struct_fields_some, crate::proofs::KindLaws::is_struct_with, crate::proofs::ValidLaws::valid_struct))]
+    pub fn into_struct_fields(self) -> StructFields
+        requires { kind (tree self) ≡ Kind.Struct }
+        ensures held { struct_fields (tree self) ≡ Some (children result) }
+        ensures valid { Valid (tree self) → ValidStruct result }
+    {
+        match self {
+            DType::Struct(fields, _) => fields,
+            _ => unreachable!(),
+        }
+    }
+
+    /// The extension that this is.
+    #[tactic(auto, using(crate::proofs::KindLaws::extension_parts_none, crate::proofs::KindLaws::is_extension_with))]
+    pub fn as_extension(&self) -> &ExtDTypeRef
+        requires { kind (tree self.now) ≡ Kind.Extension }
+        ensures held { tree self.now ≡ extension_tree result.now }
+        ensures valid { Valid (tree self.now) → ValidExtension result.now }
+    {
+        match self {
+            DType::Extension(extension) => extension,
+            _ => unreachable!(),
         }
     }
 }

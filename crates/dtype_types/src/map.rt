@@ -1,13 +1,15 @@
-ghost use Rattle.std.specs.Prelude.{◌≡◌, ◌&&◌, IfOk, IsOkUnless, Some};
+ghost use Rattle.std.specs.Prelude.{◌≡◌, ◌&&◌, fold, IfOk, IsOkUnless, Some};
 ghost use Rattle.dtype_base.specs.declared.vortex_error.VortexError.TheVariants.{OutOfMemory};
 ghost use Rattle.std.proofs.Math.Bool.{beq};
 
 use crate::DType;
 use crate::copies::boxed_copy;
 use crate::equality::{Nullabilities, agree};
+use crate::hashing::feed;
 use dtype_base::VortexResult;
 use std::alloc::Global;
 use std::fmt;
+use std::hash::{Hash, Hasher};
 
 /// The type of a map's entries: keys, values, and whether the keys are sorted.
 #[derive(Debug, Drop)]
@@ -20,6 +22,7 @@ pub struct MapDType {
 
 impl MapDType {
     ghost use Rattle.dtype_types.specs.Equality.{agree};
+    ghost use Rattle.dtype_types.specs.HashesOf.{map_writes};
     ghost use Rattle.dtype_types.specs.TreeOf.{key_tree, value_tree, are_keys_sorted, ValidMap};
 
     // Whether the parts of the two agree.
@@ -32,6 +35,16 @@ impl MapDType {
         agree(&self.key, &other.key, rule)
             && agree(&self.value, &other.value, rule)
             && self.keys_sorted == other.keys_sorted
+    }
+
+    // Feeds a hasher the key, the value, and whether the keys are sorted.
+    #[cycle(hash)]
+    pub(crate) fn feed<H: Hasher>(&self, rule: Nullabilities, state: &mut H)
+        ensures { state.new ≡ fold H.write state.old (map_writes rule self.now) }
+    {
+        feed(&self.key, rule, state);
+        feed(&self.value, rule, state);
+        self.keys_sorted.hash(state);
     }
 
     /// A map type equal to this one. Refuses 0 (OutOfMemory) alone.

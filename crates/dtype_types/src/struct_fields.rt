@@ -1,15 +1,26 @@
-ghost use Rattle.std.specs.Prelude.{◌≡◌, ◌≤◌, List, [], length, map, vec_len, All, IfOk, IfSome, IsOkUnless, slice_get, IfNone, Some};
+ghost use Rattle.std.specs.Prelude.{◌≡◌, ◌↔◌, IsTrue, ◌≤◌, ◌<◌, ◌++◌, ◌∷◌, ℕ, nat_lt, List, [], slice_index_or, length, map, remove, vec_len, All, IfOk, IfErr, IfSome, IsOk, IsOkUnless, MatchBool, slice_get, IfNone, Some, fold};
+ghost use Rattle.std.specs.Iterator.{IsFinite};
+ghost use Rattle.std.specs.Iterator.Runs.{WholeRun};
+ghost use Rattle.std.specs.List.{zip};
 ghost use Rattle.std.specs.Option.{option_copied};
 ghost use Rattle.dtype_base.specs.FieldNames.{FirstAt, IsAbsent};
-ghost use Rattle.dtype_base.specs.declared.vortex_error.VortexError.TheVariants.{OutOfMemory};
+ghost use Rattle.dtype_base.specs.declared.nullability.Nullability.{Nullability};
+ghost use Rattle.dtype_base.specs.declared.vortex_error.VortexError.TheVariants.{OutOfMemory, IndexOutOfBounds};
 
-use crate::DType;
-use crate::copies::copies_of;
+use crate::copies::{append_names, copies_of};
 use crate::equality::{Nullabilities, agree};
+use crate::field_dtype::into_dtypes;
+use crate::fields_builder::FieldsBuilder;
+use crate::name_index::NameIndex;
+use crate::repeats::has_repeats;
+use crate::hashing::feed;
 use crate::text::separator;
-use dtype_base::{FieldName, FieldNames, VortexResult};
+use crate::width::Width;
+use crate::{DType, DTypeIter, FieldDType};
+use dtype_base::{FieldName, FieldNames, VortexError, VortexResult};
 use std::alloc::Global;
 use std::fmt;
+use std::hash::{Hash, Hasher};
 
 /// The fields of a struct in order, each a name and a type. Names may repeat: every access by name
 /// means the first.
@@ -21,16 +32,23 @@ pub struct StructFields {
 }
 
 impl StructFields {
+    ghost use Rattle.dtype_types.specs.Building.{fields_so_far};
     ghost use Rattle.dtype_types.specs.Equality.{agree_fields};
-    ghost use Rattle.dtype_types.specs.Lookups.{first_named};
-    ghost use Rattle.dtype_types.specs.TreeOf.{struct_tree, names_of, types_of, children, tree, option_tree, ValidStruct};
+    ghost use Rattle.dtype_types.specs.Erase.{erase_fields};
+    ghost use Rattle.dtype_types.specs.FieldTypes.{field_tree, HasFields};
+    ghost use Rattle.dtype_types.specs.Lookups.{first_named, field_names, field_types, Projects, ProjectionRefusal, MergeRefusal};
+    ghost use Rattle.dtype_types.specs.Distinct.{Distinct};
+    ghost use Rattle.dtype_types.specs.HashesOf.{struct_writes};
+    ghost use Rattle.dtype_types.specs.Tree.{Tree, struct};
+    ghost use Rattle.dtype_types.specs.TreeOf.{struct_tree, IsPaired, names_of, types_of, children, tree, option_tree, ValidStruct};
     ghost use Rattle.dtype_types.specs.Valid.{Valid};
+    ghost use Rattle.dtype_types.specs.Width.{Measures};
 
     /// No fields. Refuses 0 (OutOfMemory) alone.
     pub fn empty(alloc: Global) -> VortexResult<Self>
         ensures names { IfOk result (λ s. names_of s ≡ []) }
         ensures types { IfOk result (λ s. types_of s ≡ []) }
-        ensures valid { IfOk result (λ s. ValidStruct s) }
+        ensures valid { IfOk result ValidStruct }
         ensures refused { IsOkUnless result OutOfMemory }
     {
         StructFields::new(alloc, FieldNames::empty(alloc), Vec::new(alloc))
@@ -41,10 +59,44 @@ impl StructFields {
         requires { length names ≡ vec_len dtypes }
         ensures names { IfOk result (λ s. names_of s ≡ names) }
         ensures types { IfOk result (λ s. types_of s ≡ map tree dtypes.items) }
-        ensures valid { All (λ d. Valid (tree d)) dtypes.items → IfOk result (λ s. ValidStruct s) }
+        ensures paired { IfOk result IsPaired }
+        ensures valid { All (λ d. Valid (tree d)) dtypes.items → IfOk result ValidStruct }
         ensures refused { IsOkUnless result OutOfMemory }
     {
         Ok(StructFields { names, dtypes })
+    }
+
+    /// The fields of these names and types, as many names as types. Refuses 0 (OutOfMemory) alone.
+    pub fn from_fields(
+        alloc: Global,
+        names: FieldNames,
+        dtypes: Vec<FieldDType>,
+    ) -> VortexResult<Self>
+        requires { length names ≡ vec_len dtypes }
+        ensures names { IfOk result (λ s. names_of s ≡ names) }
+        ensures types { IfOk result (λ s. types_of s ≡ map field_tree dtypes.items) }
+        ensures paired { IfOk result IsPaired }
+        ensures valid { All (λ f. Valid (field_tree f)) dtypes.items → IfOk result ValidStruct }
+        ensures refused { IsOkUnless result OutOfMemory }
+    {
+        let dtypes = into_dtypes(alloc, dtypes)?;
+        StructFields::new(alloc, names, dtypes)
+    }
+
+    /// The fields that an iterator gives, in order. Refuses 0 (OutOfMemory) alone.
+    pub fn from_iter<I: IntoIterator<Item = (FieldName, FieldDType)>>(
+        alloc: Global,
+        fields: I,
+    ) -> VortexResult<Self>
+        requires { (it : I.IntoIter) → I.into_iter_gives fields it
+            → I.IntoIter.can_next it × IsFinite (I.IntoIter.remaining it) }
+        ensures fields { IfOk result (λ s. (it : I.IntoIter) × I.into_iter_gives fields it
+            × WholeRun I.IntoIter.next_gives it (λ run. HasFields s run.items
+            × IsPaired s × (All (λ p. Valid (field_tree p.1)) run.items → ValidStruct s))) }
+        ensures refused { IsOkUnless result OutOfMemory }
+    {
+        let fields = fields.into_iter().collect(alloc)?;
+        FieldsBuilder::from_pairs(alloc, fields)?.finish(alloc)
     }
 
     // How many fields there are: as far as both lists go.
@@ -65,24 +117,30 @@ impl StructFields {
 
     /// How many fields there are.
     pub fn nfields(&self) -> usize
-        ensures { result ≡ length (names_of self.now) }
+        ensures { result ≡ length (children self.now) }
     {
-        self.names.len()
+        self.count()
     }
 
     /// The name of the field at this position, or `None` at or past the end.
     pub fn field_name(&self, index: usize) -> Option<&FieldName>
-        ensures { option_copied result ≡ slice_get (names_of self.now) index }
+        ensures { option_copied result ≡ slice_get (field_names (children self.now)) index }
     {
-        self.names.get(index)
+        self.paired_names().get(index)
     }
 
     /// The position of the first field of the name, or `None` where no field has it.
     pub fn find(&self, name: &str) -> Option<usize>
-        ensures found { IfSome result (FirstAt (names_of self.now) name.now) }
-        ensures none { IfNone result (IsAbsent (names_of self.now) name.now) }
+        ensures found { IfSome result (FirstAt (field_names (children self.now)) name.now) }
+        ensures none { IfNone result (IsAbsent (field_names (children self.now)) name.now) }
     {
-        self.names.find(name)
+        let names = self.paired_names();
+        for (i, field) in names.iter().enumerate() {
+            if field.eq_str(name) {
+                return Some(i);
+            }
+        }
+        None
     }
 
     /// The type of the first field of the name, or `None` where no field has it.
@@ -90,17 +148,49 @@ impl StructFields {
         ensures first { option_tree result ≡ first_named (children self.now) name.now }
         ensures valid { ValidStruct self.now → IfSome result (λ d. Valid (tree d.now)) }
     {
-        match self.names.find(name) {
-            Some(i) => self.dtypes.get(i),
+        match self.find(name) {
+            Some(index) => self.field_by_index(index),
             None => None,
         }
     }
 
     /// The type of the field at this position, or `None` at or past the end.
     pub fn field_by_index(&self, index: usize) -> Option<&DType>
-        ensures { option_tree result ≡ slice_get (types_of self.now) index }
+        ensures at { option_tree result ≡ slice_get (field_types (children self.now)) index }
+        ensures valid { ValidStruct self.now → IfSome result (λ d. Valid (tree d.now)) }
     {
-        self.dtypes.get(index)
+        self.paired_dtypes().get(index)
+    }
+
+    /// The types, in order, lent.
+    pub fn fields(&self) -> DTypeIter<'_>
+        ensures all { map tree result ≡ field_types (children self.now) }
+        ensures valid { ValidStruct self.now → All (λ d. Valid (tree d)) result }
+    {
+        DTypeIter::new(self.paired_dtypes())
+    }
+
+    /// The types, in order, lent: the same as `fields`.
+    pub fn field_dtypes(&self) -> DTypeIter<'_>
+        ensures all { map tree result ≡ field_types (children self.now) }
+        ensures valid { ValidStruct self.now → All (λ d. Valid (tree d)) result }
+    {
+        self.fields()
+    }
+
+    // The types that have a name, which are all of them in every struct that is made.
+    fn paired_dtypes(&self) -> &[DType]
+        ensures all { map tree result.now ≡ field_types (children self.now) }
+        ensures valid { ValidStruct self.now → All (λ d. Valid (tree d)) result.now }
+    {
+        &self.dtypes[..self.count()]
+    }
+
+    /// Whether the fields are equal with every nullability in them ignored.
+    pub fn eq_ignore_nullability(&self, other: &Self) -> bool
+        ensures { IsTrue result ↔ (erase_fields (struct_tree self.now) ≡ erase_fields (struct_tree other.now)) }
+    {
+        self.agree(other, Nullabilities::Ignored)
     }
 
     // Whether the fields of the two agree, one by one.
@@ -127,18 +217,178 @@ impl StructFields {
         true
     }
 
+    // The width of a struct of these fields.
+    #[cycle(width)]
+    pub(crate) fn width(&self) -> Width
+        ensures { (n : Nullability) → Measures result (struct (struct_tree self.now) n) }
+    {
+        let mut total = Width::Bytes(0);
+        for i in 0..self.count() {
+            let dtype = &self.dtypes[i];
+            total = total.plus(dtype.width());
+        }
+        total
+    }
+
+    /// The first field of each name asked, in the order asked, repeats kept. Refuses 16 (FieldNotFound)
+    /// at the first name that no field has, with its position in the projection, else 0 (OutOfMemory)
+    /// alone.
+    pub fn project(&self, alloc: Global, projection: &[FieldName]) -> VortexResult<Self>
+        ensures fields { IfOk result (λ s. Projects (children self.now) projection.now (children s)) }
+        ensures paired { IfOk result IsPaired }
+        ensures valid { ValidStruct self.now → IfOk result ValidStruct }
+        ensures refused { IfErr result (ProjectionRefusal (children self.now) projection.now) }
+    {
+        let index = NameIndex::new(alloc, self.paired_names())?;
+        let mut fields = FieldsBuilder::with_capacity(alloc, projection.len())?;
+        for (position, name) in projection.iter().enumerate() {
+            match index.find(name) {
+                Some(i) => fields = self.push_copy(alloc, fields, i)?,
+                None => return Err(VortexError::FieldNotFound { position }),
+            }
+        }
+        fields.finish(alloc)
+    }
+
+    /// The fields of the one followed by those of the other. Refuses 18 (DuplicateNames) where a name
+    /// stands twice among them, on one side alone too, else 0 (OutOfMemory) alone.
+    pub fn disjoint_merge(&self, alloc: Global, other: &Self) -> VortexResult<Self>
+        ensures fields { IfOk result (λ s. children s ≡ children self.now ++ children other.now) }
+        ensures distinct { IsOk result → Distinct (field_names (children self.now ++ children other.now)) }
+        ensures paired { IfOk result IsPaired }
+        ensures valid { ValidStruct self.now → ValidStruct other.now → IfOk result ValidStruct }
+        ensures refused { IfErr result (MergeRefusal (field_names (children self.now ++ children other.now))) }
+    {
+        let names = self.joined_names(alloc, other)?;
+        if has_repeats(alloc, &names)? {
+            return Err(VortexError::DuplicateNames);
+        }
+        let fields = FieldsBuilder::with_capacity(alloc, names.len())?;
+        let fields = self.push_copies(alloc, fields)?;
+        other.push_copies(alloc, fields)?.finish(alloc)
+    }
+
+    // Puts copies of all fields behind those that are there.
+    fn push_copies(&self, alloc: Global, mut fields: FieldsBuilder) -> VortexResult<FieldsBuilder>
+        ensures ok { IfOk result (λ b. fields_so_far b ≡ fields_so_far fields ++ children self.now) }
+        ensures refused { IsOkUnless result OutOfMemory }
+    {
+        for i in 0..self.count() {
+            fields = self.push_copy(alloc, fields, i)?;
+        }
+        Ok(fields)
+    }
+
+    // The names that have a type, which are all of them in every struct that is made.
+    #[tactic(auto, using(crate::proofs::Zips::firsts_take))]
+    fn paired_names(&self) -> &[FieldName]
+        ensures { result.now ≡ field_names (children self.now) }
+    {
+        &self.names.as_slice()[..self.count()]
+    }
+
+    // The names of the one followed by those of the other.
+    #[tactic(auto, using(crate::proofs::Zips::firsts_append))]
+    fn joined_names(&self, alloc: Global, other: &Self) -> VortexResult<Vec<FieldName>>
+        ensures ok { IfOk result (λ v. v.items ≡ field_names (children self.now ++ children other.now)) }
+        ensures refused { IsOkUnless result OutOfMemory }
+    {
+        let mut names = Vec::new(alloc);
+        append_names(alloc, &mut names, self.paired_names())?;
+        append_names(alloc, &mut names, other.paired_names())?;
+        Ok(names)
+    }
+
+    // Feeds a hasher how many fields there are, and each field.
+    #[cycle(hash)]
+    pub(crate) fn feed<H: Hasher>(&self, rule: Nullabilities, state: &mut H)
+        ensures { state.new ≡ fold H.write state.old (struct_writes rule self.now) }
+    {
+        let count = self.count();
+        let names = self.names.as_slice();
+        state.write_usize(count);
+        for i in 0..count {
+            let dtype = &self.dtypes[i];
+            names[i].hash(state);
+            feed(dtype, rule, state);
+        }
+    }
+
+    /// The fields but for that at this position. Refuses 17 (IndexOutOfBounds) at or past the end, with
+    /// the position and how many fields there are, else 0 (OutOfMemory) alone.
+    pub fn without_field(&self, alloc: Global, index: usize) -> VortexResult<Self>
+        ensures fields { IfOk result (λ s. children s ≡ remove (children self.now) index) }
+        ensures paired { IfOk result IsPaired }
+        ensures valid { ValidStruct self.now → IfOk result ValidStruct }
+        ensures within { IsOk result → index < length (children self.now) }
+        ensures refused { IfErr result (λ e. MatchBool (nat_lt index (length (children self.now))) (e ≡ OutOfMemory) (e ≡ IndexOutOfBounds index (length (children self.now)))) }
+    {
+        let fields = self.count();
+        if index >= fields {
+            return Err(VortexError::IndexOutOfBounds { index, fields });
+        }
+        let mut kept = FieldsBuilder::with_capacity(alloc, fields)?;
+        for i in 0..fields {
+            if i != index {
+                kept = self.push_copy(alloc, kept, i)?;
+            }
+        }
+        kept.finish(alloc)
+    }
+
+    // Puts a copy of the field at this position behind those that are there.
+    fn push_copy(
+        &self,
+        alloc: Global,
+        fields: FieldsBuilder,
+        index: usize,
+    ) -> VortexResult<FieldsBuilder>
+        requires name { index < length self.now.names }
+        requires dtype { index < vec_len self.now.dtypes }
+        ensures ok { IfOk result (λ b. (p : List ℕ × Tree) × (p ≡ slice_index_or (children self.now) index p)
+            × (fields_so_far b ≡ fields_so_far fields ++ p ∷ [])) }
+        ensures refused { IsOkUnless result OutOfMemory }
+    {
+        let name = self.names.as_slice()[index].try_clone(alloc)?;
+        let dtype = self.dtypes[index].try_clone(alloc)?;
+        fields.push(name, dtype)
+    }
+
     /// Fields equal to these. Refuses 0 (OutOfMemory) alone.
     #[cycle(copy)]
     pub fn try_clone(&self, alloc: Global) -> VortexResult<Self>
         ensures names { IfOk result (λ s. names_of s ≡ names_of self.now) }
         ensures types { IfOk result (λ s. types_of s ≡ types_of self.now) }
-        ensures valid { ValidStruct self.now → IfOk result (λ s. ValidStruct s) }
+        ensures valid { ValidStruct self.now → IfOk result ValidStruct }
         ensures refused { IsOkUnless result OutOfMemory }
     {
         let names = self.names.try_clone(alloc)?;
         let dtypes = copies_of(alloc, &self.dtypes)?;
         Ok(StructFields { names, dtypes })
     }
+}
+
+impl PartialEq for StructFields {
+    ghost use Rattle.dtype_types.specs.EqualityLaws.{same_struct, same_struct_equiv};
+    ghost use Rattle.dtype_types.specs.TreeOf.{children};
+    ghost use Rattle.std.specs.Cmp.{partial_equiv_from_equiv};
+
+    ghost eq = { same_struct };
+
+    ghost laws = { partial_equiv_from_equiv same_struct_equiv };
+
+    fn eq(&self, other: &StructFields) -> bool
+        ensures same { result ≡ same_struct self.now other.now }
+        ensures exact { IsTrue result ↔ (children self.now ≡ children other.now) }
+    {
+        self.agree(other, Nullabilities::Compared)
+    }
+}
+
+impl Eq for StructFields {
+    ghost use Rattle.dtype_types.specs.EqualityLaws.{same_struct_equiv};
+
+    ghost laws = { same_struct_equiv };
 }
 
 /// The fields in braces, each a name, `=` and a type.

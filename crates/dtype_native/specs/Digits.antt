@@ -1,0 +1,27 @@
+-- The numbers of so many digits, and the text of a decimal type that is kept in a native one.
+use Rattle.std.specs.Prelude.{◌≡◌, ◌↔◌, ℕ, ◌-◌, ◌^◌, ℤ, pos, neg_ℤ, ◌≤ℤ◌, List, ◌++◌, codes, Result, IsOk, MatchResult}
+use Rattle.std.specs.Fmt.{decimal, signed_decimal}
+use Rattle.dtype_base.specs.declared.vortex_error.VortexError.{VortexError}
+use Rattle.dtype_base.specs.Decimals.{Decimal, IsDecimalWithin, IsDecimalRefusal}
+
+-- the greatest and the least number of that many digits; of none it is 0
+abbrev pub greatest_of_digits : ℕ → ℤ
+greatest_of_digits digits = pos (10 ^ digits - 1)
+
+abbrev pub least_of_digits : ℕ → ℤ
+least_of_digits digits = neg_ℤ (greatest_of_digits digits)
+
+-- z has at most that many digits
+abbrev pub HasDigits : ℕ → ℤ → Type 0
+HasDigits digits z = (least_of_digits digits ≤ℤ z) × (z ≤ℤ greatest_of_digits digits)
+
+-- as `decimal(i8, p=2, s=1)`
+abbrev pub precision_scale_text : List ℕ → Decimal → List ℕ
+precision_scale_text name d =
+    codes "decimal(" ++ (name ++ (codes ", p=" ++ (decimal d.precision ++ (codes ", s=" ++ (signed_decimal d.scale ++ codes ")")))))
+
+-- a native type with the values of max digits keeps the decimal type d: the same one, or refused
+abbrev pub KeepsDecimal : ℕ → Decimal → Result Decimal VortexError → Type 0
+KeepsDecimal max d r =
+    (IsOk r ↔ IsDecimalWithin max d.precision d.scale)
+    × MatchResult r (λ kept. kept ≡ d) (IsDecimalRefusal max d.precision d.scale)

@@ -1,0 +1,5 @@
+pub mod LittleEndian
+pub mod NumberLaws
+pub mod Integers
+pub mod Offsets
+pub mod Digits

@@ -1,0 +1,151 @@
+ghost use Rattle.std.specs.Prelude.{◌≡◌, ◌≤◌, pos};
+ghost use Rattle.std.proofs.Common.{refl, lit≤};
+ghost use Rattle.dtype_base.specs.Primitives.{primitive, IsUnsigned};
+
+use crate::NativePType;
+use num_traits::PrimInt;
+
+/// A native integer type.
+pub trait IntegerPType: NativePType + PrimInt {
+    /// The greatest value of the type.
+    final fn max_value_as_u64() -> u64
+        ensures value { result ≡ (primitive Self.PTYPE).greatest }
+        ensures greatest { pos result ≡ Self.high }
+    {
+        Self::PTYPE.max_value_as_u64()
+    }
+
+    // The greatest integer of the type is that of its name.
+    ghost greatest_law: { Self.high ≡ pos (primitive Self.PTYPE).greatest };
+}
+
+/// A native unsigned integer type.
+pub trait UnsignedPType: IntegerPType {
+    ghost unsigned_law: { IsUnsigned Self.PTYPE };
+}
+
+/// A native integer type that can hold the offsets of a list that is being built: `u32`, `i32`,
+/// `u64` or `i64`.
+pub trait OffsetBuilderPType: IntegerPType {
+    ghost wide_law: { 4 ≤ (primitive Self.PTYPE).bytes };
+}
+
+/// A native type and the unsigned type of the same width, in which its bits are kept.
+pub trait PhysicalPType: NativePType {
+    /// The unsigned type of the same width.
+    type Physical: UnsignedPType;
+
+    ghost physical_law: { Self.Physical.PTYPE ≡ (primitive Self.PTYPE).unsigned };
+}
+
+impl IntegerPType for u8 {
+    ghost greatest_law = { refl };
+}
+
+impl IntegerPType for u16 {
+    ghost greatest_law = { refl };
+}
+
+impl IntegerPType for u32 {
+    ghost greatest_law = { refl };
+}
+
+impl IntegerPType for u64 {
+    ghost greatest_law = { refl };
+}
+
+impl IntegerPType for i8 {
+    ghost greatest_law = { refl };
+}
+
+impl IntegerPType for i16 {
+    ghost greatest_law = { refl };
+}
+
+impl IntegerPType for i32 {
+    ghost greatest_law = { refl };
+}
+
+impl IntegerPType for i64 {
+    ghost greatest_law = { refl };
+}
+
+impl UnsignedPType for u8 {
+    ghost unsigned_law = { refl };
+}
+
+impl UnsignedPType for u16 {
+    ghost unsigned_law = { refl };
+}
+
+impl UnsignedPType for u32 {
+    ghost unsigned_law = { refl };
+}
+
+impl UnsignedPType for u64 {
+    ghost unsigned_law = { refl };
+}
+
+impl OffsetBuilderPType for u32 {
+    ghost wide_law = { lit≤ tt };
+}
+
+impl OffsetBuilderPType for u64 {
+    ghost wide_law = { lit≤ tt };
+}
+
+impl OffsetBuilderPType for i32 {
+    ghost wide_law = { lit≤ tt };
+}
+
+impl OffsetBuilderPType for i64 {
+    ghost wide_law = { lit≤ tt };
+}
+
+impl PhysicalPType for u8 {
+    type Physical = u8;
+
+    ghost physical_law = { refl };
+}
+
+impl PhysicalPType for u16 {
+    type Physical = u16;
+
+    ghost physical_law = { refl };
+}
+
+impl PhysicalPType for u32 {
+    type Physical = u32;
+
+    ghost physical_law = { refl };
+}
+
+impl PhysicalPType for u64 {
+    type Physical = u64;
+
+    ghost physical_law = { refl };
+}
+
+impl PhysicalPType for i8 {
+    type Physical = u8;
+
+    ghost physical_law = { refl };
+}
+
+impl PhysicalPType for i16 {
+    type Physical = u16;
+
+    ghost physical_law = { refl };
+}
+
+impl PhysicalPType for i32 {
+    type Physical = u32;
+
+    ghost physical_law = { refl };
+}
+
+impl PhysicalPType for i64 {
+    type Physical = u64;
+
+    ghost physical_law = { refl };
+}

@@ -1,0 +1,187 @@
+ghost use Rattle.std.specs.Prelude.{◌≡◌, ◌^◌, ◌≤◌, ℕ, ℤ, pos, unsigned_abs, List, codes};
+ghost use Rattle.std.specs.Int.{w8, w16, w32, w64, w128};
+ghost use Rattle.std.proofs.Common.{refl, lit<, lit≤};
+ghost use Rattle.dtype_base.specs.declared.decimal.DecimalType.{DecimalType};
+ghost use Rattle.dtype_base.specs.declared.decimal.DecimalType.TheVariants.{I8, I16, I32, I64, I128};
+ghost use Rattle.dtype_base.specs.Decimals.{storage};
+ghost use Rattle.dtype_native.specs.Digits.{greatest_of_digits, least_of_digits};
+ghost use Rattle.dtype_native.specs.NumberLaws.{digits_fit};
+
+use dtype_base::DecimalType;
+use num_traits::{PrimInt, Signed, cast};
+
+/// A native integer type that keeps the values of decimals.
+pub trait NativeDecimalType: PrimInt + Signed {
+    /// The storage type that this is.
+    const DECIMAL_TYPE: DecimalType;
+
+    ghost DECIMAL_TYPE: { DecimalType };
+
+    /// The greatest precision, of which the type has all values.
+    const MAX_PRECISION: u8;
+
+    ghost MAX_PRECISION: { ℕ };
+
+    /// The greatest scale, the same number.
+    const MAX_SCALE: i8;
+
+    ghost MAX_SCALE: { ℤ };
+
+    /// The text of `DECIMAL_TYPE`.
+    const NAME: &'static str;
+
+    /// The greatest number of that many digits, `10^precision - 1`, and 0 of none.
+    final fn max_by_precision(precision: u8) -> Self
+        requires { precision ≤ MAX_PRECISION }
+        ensures { Self.value result ≡ greatest_of_digits precision }
+    {
+        power_of_ten::<Self>(u32::from(precision)) - Self::one()
+    }
+
+    /// The least number of that many digits, `-(10^precision - 1)`, and 0 of none.
+    final fn min_by_precision(precision: u8) -> Self
+        requires { precision ≤ MAX_PRECISION }
+        ensures { Self.value result ≡ least_of_digits precision }
+    {
+        -Self::max_by_precision(precision)
+    }
+
+    // The greatest precision is that of the storage type, and no greater than a decimal's.
+    ghost digits_law: { MAX_PRECISION ≡ (storage DECIMAL_TYPE).digits };
+
+    ghost scale_law: { MAX_SCALE ≡ pos MAX_PRECISION };
+
+    ghost most_law: { MAX_PRECISION ≤ 76 };
+
+    // The type has the numbers of that many digits, and the next one.
+    ghost fits_law: { (z : ℤ) → unsigned_abs z ≤ 10 ^ MAX_PRECISION → Self.fits z };
+}
+
+// Ten to the power of `exponent`.
+fn power_of_ten<T: PrimInt>(exponent: u32) -> T
+    requires { T.fits (pos (10 ^ exponent)) }
+    ensures { T.value result ≡ pos (10 ^ exponent) }
+{
+    let ten: T = cast(10u8).unwrap();
+    ten.pow(exponent)
+}
+
+impl NativeDecimalType for i8 {
+    const DECIMAL_TYPE: DecimalType = DecimalType::I8;
+
+    ghost DECIMAL_TYPE = { I8 };
+
+    const MAX_PRECISION: u8 = 2;
+
+    ghost MAX_PRECISION = { 2 };
+
+    const MAX_SCALE: i8 = 2;
+
+    ghost MAX_SCALE = { pos 2 };
+
+    const NAME: &'static str = "i8";
+
+    ghost digits_law = { refl };
+
+    ghost scale_law = { refl };
+
+    ghost most_law = { lit≤ tt };
+
+    ghost fits_law = { digits_fit w8 2 (lit< tt) };
+}
+
+impl NativeDecimalType for i16 {
+    const DECIMAL_TYPE: DecimalType = DecimalType::I16;
+
+    ghost DECIMAL_TYPE = { I16 };
+
+    const MAX_PRECISION: u8 = 4;
+
+    ghost MAX_PRECISION = { 4 };
+
+    const MAX_SCALE: i8 = 4;
+
+    ghost MAX_SCALE = { pos 4 };
+
+    const NAME: &'static str = "i16";
+
+    ghost digits_law = { refl };
+
+    ghost scale_law = { refl };
+
+    ghost most_law = { lit≤ tt };
+
+    ghost fits_law = { digits_fit w16 4 (lit< tt) };
+}
+
+impl NativeDecimalType for i32 {
+    const DECIMAL_TYPE: DecimalType = DecimalType::I32;
+
+    ghost DECIMAL_TYPE = { I32 };
+
+    const MAX_PRECISION: u8 = 9;
+
+    ghost MAX_PRECISION = { 9 };
+
+    const MAX_SCALE: i8 = 9;
+
+    ghost MAX_SCALE = { pos 9 };
+
+    const NAME: &'static str = "i32";
+
+    ghost digits_law = { refl };
+
+    ghost scale_law = { refl };
+
+    ghost most_law = { lit≤ tt };
+
+    ghost fits_law = { digits_fit w32 9 (lit< tt) };
+}
+
+impl NativeDecimalType for i64 {
+    const DECIMAL_TYPE: DecimalType = DecimalType::I64;
+
+    ghost DECIMAL_TYPE = { I64 };
+
+    const MAX_PRECISION: u8 = 18;
+
+    ghost MAX_PRECISION = { 18 };
+
+    const MAX_SCALE: i8 = 18;
+
+    ghost MAX_SCALE = { pos 18 };
+
+    const NAME: &'static str = "i64";
+
+    ghost digits_law = { refl };
+
+    ghost scale_law = { refl };
+
+    ghost most_law = { lit≤ tt };
+
+    ghost fits_law = { digits_fit w64 18 (lit< tt) };
+}
+
+impl NativeDecimalType for i128 {
+    const DECIMAL_TYPE: DecimalType = DecimalType::I128;
+
+    ghost DECIMAL_TYPE = { I128 };
+
+    const MAX_PRECISION: u8 = 38;
+
+    ghost MAX_PRECISION = { 38 };
+
+    const MAX_SCALE: i8 = 38;
+
+    ghost MAX_SCALE = { pos 38 };
+
+    const NAME: &'static str = "i128";
+
+    ghost digits_law = { refl };
+
+    ghost scale_law = { refl };
+
+    ghost most_law = { lit≤ tt };
+
+    ghost fits_law = { digits_fit w128 38 (lit< tt) };
+}

@@ -1,0 +1,201 @@
+ghost use Rattle.std.specs.Prelude.{◌≡◌, ◌↔◌, ◌≤ℤ◌, ◌<ℤ◌, ℤ, IsTrue, IsFalse};
+ghost use Rattle.std.specs.Int.{w8, w16, w32, w64};
+ghost use Rattle.std.specs.Ordering.{int_cmp};
+ghost use Rattle.std.proofs.Common.{refl, ap};
+ghost use Rattle.dtype_base.specs.declared.ptype.PType.{PType};
+ghost use Rattle.dtype_base.specs.declared.ptype.PType.TheVariants.{U8, U16, U32, U64, I8, I16, I32, I64};
+ghost use Rattle.dtype_base.specs.Primitives.{primitive};
+ghost use Rattle.dtype_native.specs.Integers.{HoldsInteger};
+ghost use Rattle.dtype_native.specs.NumberLaws.{same_natural, signed_range, unsigned_range};
+
+use crate::{ToBytes, TryFromBytes};
+use dtype_base::PType;
+use num_traits::{Num, NumCast};
+use std::cmp::Ordering;
+use std::fmt::Display;
+
+/// The native type of a primitive name: here one of the eight integer types.
+pub trait NativePType: Copy + Default + Display + Ord + Num + NumCast + ToBytes + TryFromBytes {
+    /// The name of the type.
+    const PTYPE: PType;
+
+    ghost PTYPE: { PType };
+
+    /// Whether the value is no number, which an integer never is.
+    final fn is_nan(self) -> bool
+        ensures { IsFalse result }
+    {
+        false
+    }
+
+    /// Whether the value is infinite, which an integer never is.
+    final fn is_infinite(self) -> bool
+        ensures { IsFalse result }
+    {
+        false
+    }
+
+    /// How the two numbers are ordered.
+    final fn total_compare(self, other: Self) -> Ordering
+        ensures { result ≡ int_cmp (Self.value self) (Self.value other) }
+    {
+        self.cmp(&other)
+    }
+
+    /// Whether `self <= other`.
+    final fn is_le(self, other: Self) -> bool
+        ensures { IsTrue result ↔ (Self.value self ≤ℤ Self.value other) }
+    {
+        self.total_compare(other).is_le()
+    }
+
+    /// Whether `self < other`.
+    final fn is_lt(self, other: Self) -> bool
+        ensures { IsTrue result ↔ (Self.value self <ℤ Self.value other) }
+    {
+        self.total_compare(other).is_lt()
+    }
+
+    /// Whether `self >= other`.
+    final fn is_ge(self, other: Self) -> bool
+        ensures { IsTrue result ↔ (Self.value other ≤ℤ Self.value self) }
+    {
+        self.total_compare(other).is_ge()
+    }
+
+    /// Whether `self > other`.
+    final fn is_gt(self, other: Self) -> bool
+        ensures { IsTrue result ↔ (Self.value other <ℤ Self.value self) }
+    {
+        self.total_compare(other).is_gt()
+    }
+
+    /// Whether the two numbers are the same.
+    final fn is_eq(self, other: Self) -> bool
+        ensures { IsTrue result ↔ (Self.value self ≡ Self.value other) }
+    {
+        self == other
+    }
+
+    // Each value is a whole number, and no two values are the same one.
+    ghost whole_law: { Self.exact };
+
+    ghost value_law: { (x y : Self) → Self.value x ≡ Self.value y → x ≡ y };
+
+    // The type has the integers and the width that belong to its name.
+    ghost range_law: { (z : ℤ) → Self.fits z ↔ HoldsInteger PTYPE z };
+
+    ghost width_law: { Self.byte_width ≡ (primitive PTYPE).bytes };
+}
+
+impl NativePType for u8 {
+    const PTYPE: PType = PType::U8;
+
+    ghost PTYPE = { U8 };
+
+    ghost whole_law = { tt };
+
+    ghost value_law = { same_natural };
+
+    ghost range_law = { unsigned_range 8 };
+
+    ghost width_law = { refl };
+}
+
+impl NativePType for u16 {
+    const PTYPE: PType = PType::U16;
+
+    ghost PTYPE = { U16 };
+
+    ghost whole_law = { tt };
+
+    ghost value_law = { same_natural };
+
+    ghost range_law = { unsigned_range 16 };
+
+    ghost width_law = { refl };
+}
+
+impl NativePType for u32 {
+    const PTYPE: PType = PType::U32;
+
+    ghost PTYPE = { U32 };
+
+    ghost whole_law = { tt };
+
+    ghost value_law = { same_natural };
+
+    ghost range_law = { unsigned_range 32 };
+
+    ghost width_law = { refl };
+}
+
+impl NativePType for u64 {
+    const PTYPE: PType = PType::U64;
+
+    ghost PTYPE = { U64 };
+
+    ghost whole_law = { tt };
+
+    ghost value_law = { same_natural };
+
+    ghost range_law = { unsigned_range 64 };
+
+    ghost width_law = { refl };
+}
+
+impl NativePType for i8 {
+    const PTYPE: PType = PType::I8;
+
+    ghost PTYPE = { I8 };
+
+    ghost whole_law = { tt };
+
+    ghost value_law = { λ _ _ same. same };
+
+    ghost range_law = { signed_range w8 };
+
+    ghost width_law = { refl };
+}
+
+impl NativePType for i16 {
+    const PTYPE: PType = PType::I16;
+
+    ghost PTYPE = { I16 };
+
+    ghost whole_law = { tt };
+
+    ghost value_law = { λ _ _ same. same };
+
+    ghost range_law = { signed_range w16 };
+
+    ghost width_law = { refl };
+}
+
+impl NativePType for i32 {
+    const PTYPE: PType = PType::I32;
+
+    ghost PTYPE = { I32 };
+
+    ghost whole_law = { tt };
+
+    ghost value_law = { λ _ _ same. same };
+
+    ghost range_law = { signed_range w32 };
+
+    ghost width_law = { refl };
+}
+
+impl NativePType for i64 {
+    const PTYPE: PType = PType::I64;
+
+    ghost PTYPE = { I64 };
+
+    ghost whole_law = { tt };
+
+    ghost value_law = { λ _ _ same. same };
+
+    ghost range_law = { signed_range w64 };
+
+    ghost width_law = { refl };
+}

@@ -1,0 +1,120 @@
+ghost use Rattle.std.specs.Prelude.{◌≡◌, ◌↔◌, IsOk, IfOk, IfErr, IsTrue, Some};
+ghost use Rattle.dtype_base.specs.Decimals.{Decimal, IsDecimalWithin, IsDecimalRefusal, storage};
+ghost use Rattle.dtype_native.specs.Digits.{HasDigits, KeepsDecimal, precision_scale_text};
+
+use crate::NativeDecimalType;
+use dtype_base::{DecimalDType, VortexError, VortexResult, check_precision_and_scale};
+use std::fmt;
+use std::marker::{Model, PhantomData};
+
+/// A decimal type whose values the native type `D` keeps: its precision is 1 to `D::MAX_PRECISION`,
+/// and its scale -128 to the precision.
+#[derive_where(Clone, Copy, Debug, PartialEq, Eq, Hash)]
+pub struct PrecisionScale<D: NativeDecimalType> {
+    precision: u8,
+    scale: i8,
+    native: PhantomData<D>,
+}
+
+impl<D: NativeDecimalType> Model for PrecisionScale<D> {
+    ghost Value = { Decimal };
+
+    ghost view = { λ p. record { precision = p.precision; scale = p.scale } };
+
+    ghost invariant = { λ p. IsDecimalWithin D.MAX_PRECISION p.precision p.scale };
+
+    ghost inverse = { λ d. record { precision = d.precision; scale = d.scale; native = record {} } };
+}
+
+impl<D: NativeDecimalType> PrecisionScale<D> {
+    /// The decimal type of this precision and scale. Refuses the first that applies of 1
+    /// (PrecisionZero), 2 (PrecisionTooLarge, above `D::MAX_PRECISION`), 3 (ScaleTooLarge, above
+    /// that number) and 4 (ScaleAbovePrecision). Every negative scale is taken.
+    pub fn try_new(precision: u8, scale: i8) -> VortexResult<Self>
+        ensures ok { IfOk result (λ d. (d.precision ≡ precision) × (d.scale ≡ scale)) }
+        ensures valid { IsOk result ↔ IsDecimalWithin D.MAX_PRECISION precision scale }
+        ensures refused { IfErr result (IsDecimalRefusal D.MAX_PRECISION precision scale) }
+    {
+        check_precision_and_scale(precision, scale, D::MAX_PRECISION)?;
+        Ok(Self::new_unchecked(precision, scale))
+    }
+
+    /// The decimal type of this precision and scale.
+    pub fn new(precision: u8, scale: i8) -> Self
+        requires { IsDecimalWithin D.MAX_PRECISION precision scale }
+        ensures precision { result.precision ≡ precision }
+        ensures scale { result.scale ≡ scale }
+    {
+        Self::new_unchecked(precision, scale)
+    }
+
+    /// The decimal type of this precision and scale, as `new`.
+    pub fn new_unchecked(precision: u8, scale: i8) -> Self
+        requires { IsDecimalWithin D.MAX_PRECISION precision scale }
+        ensures precision { result.precision ≡ precision }
+        ensures scale { result.scale ≡ scale }
+    {
+        PrecisionScale {
+            precision,
+            scale,
+            native: PhantomData,
+        }
+    }
+
+    /// How many digits a value has, 1 to `D::MAX_PRECISION`.
+    pub fn precision(&self) -> u8
+        ensures value { result ≡ self.now.precision }
+        ensures valid { IsDecimalWithin D.MAX_PRECISION self.now.precision self.now.scale }
+    {
+        self.precision
+    }
+
+    /// How many digits stand behind the point, at most as many as there are.
+    pub fn scale(&self) -> i8
+        ensures value { result ≡ self.now.scale }
+        ensures valid { IsDecimalWithin D.MAX_PRECISION self.now.precision self.now.scale }
+    {
+        self.scale
+    }
+
+    /// Whether the value has no more digits than the precision allows.
+    pub fn is_valid(&self, value: D) -> bool
+        ensures { IsTrue result ↔ HasDigits self.now.precision (D.value value) }
+    {
+        D::min_by_precision(self.precision) <= value && value <= D::max_by_precision(self.precision)
+    }
+}
+
+impl<D: NativeDecimalType> fmt::Display for PrecisionScale<D> {
+    ghost output = { λ d. Some (precision_scale_text (storage D.DECIMAL_TYPE).text d) };
+
+    fn fmt<W: fmt::Write>(&self, f: &mut fmt::Formatter<W>) -> fmt::Result {
+        write!(
+            f,
+            "decimal({}, p={}, s={})",
+            D::DECIMAL_TYPE,
+            self.precision,
+            self.scale
+        )
+    }
+}
+
+impl<D: NativeDecimalType> From<PrecisionScale<D>> for DecimalDType {
+    ghost from_gives = { λ p d. d ≡ p };
+
+    fn from(kept: PrecisionScale<D>) -> DecimalDType {
+        DecimalDType::new(kept.precision, kept.scale)
+    }
+}
+
+/// The same decimal type, kept by `D`. Refuses 2 (PrecisionTooLarge) what `D` has not all values of,
+/// and else as `try_new`.
+impl<D: NativeDecimalType> TryFrom<&DecimalDType> for PrecisionScale<D> {
+    type Error = VortexError;
+
+    ghost try_from_gives = { λ d r. KeepsDecimal D.MAX_PRECISION d.now r };
+
+    fn try_from(decimal: &DecimalDType) -> VortexResult<PrecisionScale<D>> {
+        PrecisionScale::try_new(decimal.precision(), decimal.scale())
+    }
+}

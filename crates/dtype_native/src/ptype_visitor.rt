@@ -1,0 +1,152 @@
+ghost use Rattle.std.specs.Prelude.{◌≡◌, ◌≢◌, ◌≤◌, [], ◌∷◌, ⊤};
+ghost use Rattle.dtype_base.specs.declared.ptype.PType.{PType};
+ghost use Rattle.dtype_base.specs.declared.ptype.PType.TheVariants.{U8, U16, U32, U64, I8, I16, I32, I64, F16};
+ghost use Rattle.dtype_base.specs.Primitives.{IsFloat, IsInteger, IsSigned, IsUnsigned};
+ghost use Rattle.dtype_native.specs.Offsets.{AnswersLeast, list_offset_names, offset_names};
+
+use dtype_base::PType;
+
+/// What is to be done for a primitive name: one call for each native integer type, and one for the
+/// floats by name.
+pub trait PTypeVisitor: Sized {
+    /// What each call answers.
+    type Answer;
+
+    // The answer that is right for a visitor and a name.
+    ghost answers: { Self → PType → Self.Answer → Type 0 } = { λ _ _ _. ⊤ };
+
+    /// The answer for `u8`.
+    fn visit_u8(self) -> Self::Answer
+        ensures { answers self U8 result };
+
+    /// The answer for `u16`.
+    fn visit_u16(self) -> Self::Answer
+        ensures { answers self U16 result };
+
+    /// The answer for `u32`.
+    fn visit_u32(self) -> Self::Answer
+        ensures { answers self U32 result };
+
+    /// The answer for `u64`.
+    fn visit_u64(self) -> Self::Answer
+        ensures { answers self U64 result };
+
+    /// The answer for `i8`.
+    fn visit_i8(self) -> Self::Answer
+        ensures { answers self I8 result };
+
+    /// The answer for `i16`.
+    fn visit_i16(self) -> Self::Answer
+        ensures { answers self I16 result };
+
+    /// The answer for `i32`.
+    fn visit_i32(self) -> Self::Answer
+        ensures { answers self I32 result };
+
+    /// The answer for `i64`.
+    fn visit_i64(self) -> Self::Answer
+        ensures { answers self I64 result };
+
+    /// The answer for a float. Of another name nothing is promised.
+    fn visit_float(self, ptype: PType) -> Self::Answer
+        ensures { IsFloat ptype → answers self ptype result };
+}
+
+/// What the visitor answers for this name.
+pub fn match_each_native_ptype<V: PTypeVisitor>(ptype: PType, visitor: V) -> V::Answer
+    ensures { V.answers visitor ptype result }
+{
+    match ptype {
+        PType::U8 | PType::U16 | PType::U32 | PType::U64 => {
+            match_each_unsigned_integer_ptype(ptype, visitor)
+        }
+        PType::I8 | PType::I16 | PType::I32 | PType::I64 => {
+            match_each_signed_integer_ptype(ptype, visitor)
+        }
+        PType::F16 | PType::F32 | PType::F64 => match_each_float_ptype(ptype, visitor),
+    }
+}
+
+/// What the visitor answers for this integer's name.
+pub fn match_each_integer_ptype<V: PTypeVisitor>(ptype: PType, visitor: V) -> V::Answer
+    requires { IsInteger ptype }
+    ensures { V.answers visitor ptype result }
+{
+    if ptype.is_signed_int() {
+        match_each_signed_integer_ptype(ptype, visitor)
+    } else {
+        match_each_unsigned_integer_ptype(ptype, visitor)
+    }
+}
+
+/// What the visitor answers for this unsigned integer's name.
+pub fn match_each_unsigned_integer_ptype<V: PTypeVisitor>(ptype: PType, visitor: V) -> V::Answer
+    requires { IsUnsigned ptype }
+    ensures { V.answers visitor ptype result }
+{
+    match ptype {
+        PType::U8 => visitor.visit_u8(),
+        PType::U16 => visitor.visit_u16(),
+        PType::U32 => visitor.visit_u32(),
+        PType::U64 => visitor.visit_u64(),
+        _ => unreachable!(),
+    }
+}
+
+/// What the visitor answers for this signed integer's name.
+pub fn match_each_signed_integer_ptype<V: PTypeVisitor>(ptype: PType, visitor: V) -> V::Answer
+    requires { IsSigned ptype }
+    ensures { V.answers visitor ptype result }
+{
+    match ptype {
+        PType::I8 => visitor.visit_i8(),
+        PType::I16 => visitor.visit_i16(),
+        PType::I32 => visitor.visit_i32(),
+        PType::I64 => visitor.visit_i64(),
+        _ => unreachable!(),
+    }
+}
+
+/// What the visitor answers for this float's name.
+pub fn match_each_float_ptype<V: PTypeVisitor>(ptype: PType, visitor: V) -> V::Answer
+    requires { IsFloat ptype }
+    ensures { V.answers visitor ptype result }
+{
+    visitor.visit_float(ptype)
+}
+
+/// What the visitor answers for this name, which has lanes in SIMD registers: any but `F16`.
+pub fn match_each_native_simd_ptype<V: PTypeVisitor>(ptype: PType, visitor: V) -> V::Answer
+    requires { ptype ≢ F16 }
+    ensures { V.answers visitor ptype result }
+{
+    match_each_native_ptype(ptype, visitor)
+}
+
+/// What the visitor answers for the narrowest of `u8`, `u16`, `u32` and `u64` that holds the
+/// offset `n`.
+pub fn match_smallest_offset_type<V: PTypeVisitor>(n: usize, visitor: V) -> V::Answer
+    ensures { AnswersLeast (V.answers visitor) offset_names n result }
+{
+    if n <= usize::from(u8::MAX) {
+        visitor.visit_u8()
+    } else if n <= usize::from(u16::MAX) {
+        visitor.visit_u16()
+    } else if n <= u32::MAX as usize {
+        visitor.visit_u32()
+    } else {
+        visitor.visit_u64()
+    }
+}
+
+/// What the visitor answers for the narrower of `u32` and `u64` that holds the offset `n`, as the
+/// offsets of lists are kept.
+pub fn match_smallest_list_offset_type<V: PTypeVisitor>(n: usize, visitor: V) -> V::Answer
+    ensures { AnswersLeast (V.answers visitor) list_offset_names n result }
+{
+    if n <= u32::MAX as usize {
+        visitor.visit_u32()
+    } else {
+        visitor.visit_u64()
+    }
+}

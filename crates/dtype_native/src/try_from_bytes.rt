@@ -1,0 +1,74 @@
+#![tactic(auto, using(crate::proofs::Bytes::read))]
+
+ghost use Rattle.std.specs.Prelude.{◌≡◌, ◌↔◌, length, Ok, IsOk, IfOk, IsOkUnless};
+ghost use Rattle.dtype_base.specs.declared.vortex_error.VortexError.TheVariants.{BytesLength};
+ghost use Rattle.dtype_native.specs.LittleEndian.{ReadsBytes};
+
+use crate::ToBytes;
+use dtype_base::{VortexError, VortexResult};
+
+/// A number that is read from its bytes, least first.
+pub trait TryFromBytes: ToBytes {
+    /// The number that has these bytes, least first, in two's complement.
+    ///
+    /// Refuses 8 (`BytesLength`) bytes of another length than the type's width.
+    fn try_from_le_bytes(bytes: &[u8]) -> VortexResult<Self>
+        ensures { ReadsBytes Self.byte_width Self.value Self.fits bytes.now result };
+}
+
+// The bytes as an array.
+fn array_of<const N: usize>(bytes: &[u8]) -> VortexResult<[u8; N]>
+    ensures accepted { IsOk result ↔ (length bytes.now ≡ N) }
+    ensures refused { IsOkUnless result BytesLength }
+    ensures same { IfOk result (λ array. array ≡ bytes.now) }
+{
+    <[u8; N]>::try_from(bytes).map_err(|_| VortexError::BytesLength)
+}
+
+impl TryFromBytes for u8 {
+    fn try_from_le_bytes(bytes: &[u8]) -> VortexResult<u8> {
+        Ok(u8::from_le_bytes(array_of(bytes)?))
+    }
+}
+
+impl TryFromBytes for u16 {
+    fn try_from_le_bytes(bytes: &[u8]) -> VortexResult<u16> {
+        Ok(u16::from_le_bytes(array_of(bytes)?))
+    }
+}
+
+impl TryFromBytes for u32 {
+    fn try_from_le_bytes(bytes: &[u8]) -> VortexResult<u32> {
+        Ok(u32::from_le_bytes(array_of(bytes)?))
+    }
+}
+
+impl TryFromBytes for u64 {
+    fn try_from_le_bytes(bytes: &[u8]) -> VortexResult<u64> {
+        Ok(u64::from_le_bytes(array_of(bytes)?))
+    }
+}
+
+impl TryFromBytes for i8 {
+    fn try_from_le_bytes(bytes: &[u8]) -> VortexResult<i8> {
+        Ok(i8::from_le_bytes(array_of(bytes)?))
+    }
+}
+
+impl TryFromBytes for i16 {
+    fn try_from_le_bytes(bytes: &[u8]) -> VortexResult<i16> {
+        Ok(i16::from_le_bytes(array_of(bytes)?))
+    }
+}
+
+impl TryFromBytes for i32 {
+    fn try_from_le_bytes(bytes: &[u8]) -> VortexResult<i32> {
+        Ok(i32::from_le_bytes(array_of(bytes)?))
+    }
+}
+
+impl TryFromBytes for i64 {
+    fn try_from_le_bytes(bytes: &[u8]) -> VortexResult<i64> {
+        Ok(i64::from_le_bytes(array_of(bytes)?))
+    }
+}

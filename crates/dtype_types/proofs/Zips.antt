@@ -1,0 +1,82 @@
+-- Lists of pairs that are made of two lists of one length.
+use Rattle.std.proofs.Common.{◌≡◌, ℕ, zero, suc, ◌+◌, ◌<◌, take, get_or, List, [], ◌∷◌, ◌++◌, length, map, refl, ap, arith, sym, ◌∙◌}
+use Rattle.std.specs.List.{zip, remove}
+use Rattle.std.proofs.lemmas.List.{take_more, length-take}
+use Rattle.dtype_types.specs.Tree.{Tree}
+use Rattle.dtype_types.specs.TreeOf.{tree}
+use Rattle.dtype_types.specs.declared.dtype.DType.{DType}
+
+pub zip_push : (ns : List (List ℕ)) (ds : List DType) (n : List ℕ) (d : DType) → length ns ≡ length ds → zip (ns ++ n ∷ []) (map tree (ds ++ d ∷ [])) ≡ zip ns (map tree ds) ++ (n, tree d) ∷ []
+zip_push [] [] n d h = refl
+zip_push [] (e ∷ ds) n d h = absurd (omega arith)
+zip_push (m ∷ ns) [] n d h = absurd (omega arith)
+zip_push (m ∷ ns) (e ∷ ds) n d h = ap (λ ps. (m, tree e) ∷ ps) (zip_push ns ds n d (omega arith))
+
+pub firsts_zip : (ns : List (List ℕ)) (ts : List Tree) → length ns ≡ length ts → map (λ (p : List ℕ × Tree). p.0) (zip ns ts) ≡ ns
+firsts_zip [] [] h = refl
+firsts_zip [] (t ∷ ts) h = absurd (omega arith)
+firsts_zip (n ∷ ns) [] h = absurd (omega arith)
+firsts_zip (n ∷ ns) (t ∷ ts) h = ap (λ ms. n ∷ ms) (firsts_zip ns ts (omega arith))
+
+pub seconds_zip : (ns : List (List ℕ)) (ts : List Tree) → length ns ≡ length ts → map (λ (p : List ℕ × Tree). p.1) (zip ns ts) ≡ ts
+seconds_zip [] [] h = refl
+seconds_zip [] (t ∷ ts) h = absurd (omega arith)
+seconds_zip (n ∷ ns) [] h = absurd (omega arith)
+seconds_zip (n ∷ ns) (t ∷ ts) h = ap (λ us. t ∷ us) (seconds_zip ns ts (omega arith))
+
+-- ---- a list without one of its items, as it grows
+
+pub push_remove : {X : Type 0} (xs : List X) (x : X) (i : ℕ) → (length xs ≡ i → ⊥) → remove (xs ++ x ∷ []) i ≡ remove xs i ++ x ∷ []
+push_remove [] x zero ne = absurd (ne refl)
+push_remove [] x (suc zero) ne = refl
+push_remove [] x (suc (suc i)) ne = refl
+push_remove (y ∷ ys) x zero ne = refl
+push_remove (y ∷ ys) x (suc i) ne = ap (λ zs. y ∷ zs) (push_remove ys x i (λ e. ne (ap suc e)))
+
+pub push_removed : {X : Type 0} (xs : List X) (x : X) (i : ℕ) → length xs ≡ i → remove (xs ++ x ∷ []) i ≡ remove xs i
+push_removed [] x zero e = refl
+push_removed [] x (suc i) e = absurd (omega arith)
+push_removed (y ∷ ys) x zero e = absurd (omega arith)
+push_removed (y ∷ ys) x (suc i) e = ap (λ zs. y ∷ zs) (push_removed ys x i (omega arith))
+
+length_take_of : {X : Type 0} (ps : List X) (i : ℕ) → i < length ps → length (take i ps) ≡ i
+length_take_of ps i h = omega (arith, length-take i ps)
+
+-- one more item, which is kept unless it stands at the place left out
+pub keeps_next : {X : Type 0} (ps : List X) (i index : ℕ) (p : X) → i < length ps → p ≡ get_or ps i p → (i ≡ index → ⊥) → remove (take i ps) index ++ p ∷ [] ≡ remove (take (i + 1) ps) index
+keeps_next ps i index p h e ne =
+    sym (ap (λ xs. remove xs index) (take_more ps i p h ∙ ap (λ q. take i ps ++ q ∷ []) (sym e)) ∙ push_remove (take i ps) p index (λ l. ne (sym (length_take_of ps i h) ∙ l)))
+
+pub leaves_out : {X : Type 0} (ps : List X) (i index : ℕ) (d : X) → i < length ps → i ≡ index → remove (take i ps) index ≡ remove (take (i + 1) ps) index
+leaves_out ps i index d h same = sym (ap (λ xs. remove xs index) (take_more ps i d h) ∙ push_removed (take i ps) (get_or ps i d) index (length_take_of ps i h ∙ same))
+
+-- ---- the names and the types of pairs that are made of other things
+
+pub firsts_map : {X : Type 0} (n : X → List ℕ) (f : X → Tree) (xs : List X) → map (λ (p : List ℕ × Tree). p.0) (map (λ x. (n x, f x)) xs) ≡ map n xs
+firsts_map n f [] = refl
+firsts_map n f (x ∷ xs) = ap (λ ys. n x ∷ ys) (firsts_map n f xs)
+
+pub seconds_map : {X : Type 0} (n : X → List ℕ) (f : X → Tree) (xs : List X) → map (λ (p : List ℕ × Tree). p.1) (map (λ x. (n x, f x)) xs) ≡ map f xs
+seconds_map n f [] = refl
+seconds_map n f (x ∷ xs) = ap (λ ys. f x ∷ ys) (seconds_map n f xs)
+
+pub firsts_append : (ps qs : List (List ℕ × Tree)) → map (λ (p : List ℕ × Tree). p.0) (ps ++ qs) ≡ map (λ (p : List ℕ × Tree). p.0) ps ++ map (λ (p : List ℕ × Tree). p.0) qs
+firsts_append [] qs = refl
+firsts_append (p ∷ ps) qs = ap (λ ns. p.0 ∷ ns) (firsts_append ps qs)
+
+-- the names of the pairs are those that have a type
+pub firsts_take : (ns : List (List ℕ)) (ts : List Tree) → map (λ (p : List ℕ × Tree). p.0) (zip ns ts) ≡ take (length (zip ns ts)) ns
+firsts_take [] ts = refl
+firsts_take (n ∷ ns) [] = refl
+firsts_take (n ∷ ns) (t ∷ ts) = ap (λ ms. n ∷ ms) (firsts_take ns ts)
+
+-- the types of the pairs are those that have a name
+pub seconds_take : (ns : List (List ℕ)) (ds : List DType) → map (λ (p : List ℕ × Tree). p.1) (zip ns (map tree ds)) ≡ map tree (take (length (zip ns (map tree ds))) ds)
+seconds_take [] ds = refl
+seconds_take (n ∷ ns) [] = refl
+seconds_take (n ∷ ns) (d ∷ ds) = ap (λ ts. tree d ∷ ts) (seconds_take ns ds)
+
+-- pairs of what two functions make of the same things
+pub zip_maps : {X : Type 0} (n : X → List ℕ) (f : X → Tree) (xs : List X) → zip (map n xs) (map f xs) ≡ map (λ x. (n x, f x)) xs
+zip_maps n f [] = refl
+zip_maps n f (x ∷ xs) = ap (λ ps. (n x, f x) ∷ ps) (zip_maps n f xs)

@@ -1,0 +1,6 @@
+-- Lists in which nothing stands twice, as a union's names and tags must be.
+use Rattle.std.specs.Prelude.{◌≢◌, List, AllPairs}
+
+-- no two places hold the same
+abbrev pub Distinct : {X : Type 0} → List X → Type 0
+Distinct xs = AllPairs (λ x y. x ≢ y) xs

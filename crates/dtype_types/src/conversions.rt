@@ -1,0 +1,64 @@
+// Conversions between types and the names and parameters that they hold.
+ghost use Rattle.std.specs.Prelude.{◌≡◌};
+ghost use Rattle.std.specs.Option.{ok_or};
+ghost use Rattle.dtype_base.specs.declared.nullability.Nullability.TheVariants.{NonNullable};
+ghost use Rattle.dtype_base.specs.declared.vortex_error.VortexError.TheVariants.{NotDecimal, NotPrimitive};
+ghost use Rattle.dtype_types.specs.Kinds.{decimal_of, primitive_name};
+ghost use Rattle.dtype_types.specs.Tree.{primitive};
+ghost use Rattle.dtype_types.specs.TreeOf.{tree};
+
+use crate::DType;
+use dtype_base::{DecimalDType, Nullability, PType, VortexError, VortexResult};
+
+impl DType {
+    /// Bytes: the non-nullable `U8`.
+    pub const BYTES: DType = DType::Primitive(PType::U8, Nullability::NonNullable);
+}
+
+/// The non-nullable primitive of that name.
+impl From<PType> for DType {
+    ghost from_gives = { λ ptype d. tree d ≡ primitive ptype NonNullable };
+
+    fn from(ptype: PType) -> DType {
+        DType::Primitive(ptype, Nullability::NonNullable)
+    }
+}
+
+/// The name of a `Primitive`. Refuses 6 (NotPrimitive) for every other kind.
+impl TryFrom<&DType> for PType {
+    type Error = VortexError;
+
+    ghost try_from_gives = { λ d r. r ≡ ok_or (primitive_name (tree d.now)) NotPrimitive };
+
+    fn try_from(dtype: &DType) -> VortexResult<PType> {
+        match dtype.ptype() {
+            Some(ptype) => Ok(ptype),
+            None => Err(VortexError::NotPrimitive),
+        }
+    }
+}
+
+/// The precision and scale of a `Decimal`. Refuses 5 (NotDecimal) for every other kind.
+impl TryFrom<&DType> for DecimalDType {
+    type Error = VortexError;
+
+    ghost try_from_gives = { λ d r. r ≡ ok_or (decimal_of (tree d.now)) NotDecimal };
+
+    fn try_from(dtype: &DType) -> VortexResult<DecimalDType> {
+        match dtype.as_decimal_opt() {
+            Some(decimal) => Ok(*decimal),
+            None => Err(VortexError::NotDecimal),
+        }
+    }
+}
+
+/// The precision and scale of a `Decimal`. Refuses 5 (NotDecimal) for every other kind.
+impl TryFrom<DType> for DecimalDType {
+    type Error = VortexError;
+
+    ghost try_from_gives = { λ d r. r ≡ ok_or (decimal_of (tree d)) NotDecimal };
+
+    fn try_from(dtype: DType) -> VortexResult<DecimalDType> {
+        DecimalDType::try_from(&dtype)
+    }
+}

@@ -1,0 +1,62 @@
+ghost use Rattle.std.specs.Prelude.{◌≡◌};
+ghost use Rattle.std.specs.Iterator.{YieldsFirstRef, item_count};
+
+use crate::DType;
+use std::iter::FusedIterator;
+use std::marker::Model;
+use std::slice;
+
+/// Types in order, lent, seen as those that are left.
+#[derive(Debug, Drop)]
+pub struct DTypeIter<'a> {
+    inner: slice::Iter<'a, DType>,
+}
+
+impl<'a> Model for DTypeIter<'a> {
+    ghost use Rattle.std.specs.Prelude.{List};
+    ghost use Rattle.std.specs.Coded.{codes};
+    ghost use Rattle.std.specs.Slice.Iter.{iter_rest};
+    ghost use Rattle.dtype_types.specs.contracts.dtype.DType as dtype;
+    ghost use Rattle.dtype_types.specs.declared.dtype.DType.{DType};
+
+    ghost Value = { List DType };
+
+    ghost coded = { Prim.hlevel (codes, dtype.the_row.coded) };
+
+    ghost view = { λ it. iter_rest it.inner };
+}
+
+impl<'a> DTypeIter<'a> {
+    pub(crate) fn new(dtypes: &'a [DType]) -> Self
+        ensures { result ≡ dtypes.now }
+    {
+        DTypeIter {
+            inner: dtypes.iter(),
+        }
+    }
+}
+
+impl<'a> Iterator for DTypeIter<'a> {
+    type Item = &'a DType;
+
+    ghost next_gives = { YieldsFirstRef (λ left. left) };
+
+    ghost remaining = { item_count (λ left. left) };
+
+    fn next(&mut self) -> Option<&'a DType> {
+        self.inner.next()
+    }
+
+    fn size_hint(&self) -> (usize, Option<usize>) {
+        let left = self.len();
+        (left, Some(left))
+    }
+}
+
+impl<'a> ExactSizeIterator for DTypeIter<'a> {
+    fn len(&self) -> usize {
+        self.inner.len()
+    }
+}
+
+impl<'a> FusedIterator for DTypeIter<'a> {}

@@ -1,0 +1,95 @@
+ghost use Rattle.std.specs.Prelude.{◌≡◌, ◌↔◌, IsTrue, IfOk, IsOkUnless, map};
+ghost use Rattle.dtype_base.specs.declared.nullability.Nullability.TheVariants.{NonNullable};
+ghost use Rattle.dtype_base.specs.declared.vortex_error.VortexError.TheVariants.{OutOfMemory};
+ghost use Rattle.dtype_types.specs.FieldTypes.{field_tree};
+ghost use Rattle.dtype_types.specs.Tree.{primitive};
+ghost use Rattle.dtype_types.specs.TreeOf.{tree};
+
+use crate::DType;
+use dtype_base::{PType, VortexResult};
+use std::alloc::Global;
+
+/// The type of a field, from which structs are made.
+#[derive(Debug, Drop)]
+pub struct FieldDType {
+    dtype: DType,
+}
+
+impl FieldDType {
+    /// The type.
+    pub fn value(&self) -> &DType
+        ensures { tree result.now ≡ field_tree self.now }
+    {
+        &self.dtype
+    }
+
+    // The type, given up.
+    pub(crate) fn into_dtype(self) -> DType
+        ensures { tree result ≡ field_tree self }
+    {
+        self.dtype
+    }
+
+    /// A field's type equal to this one. Refuses 0 (OutOfMemory) alone.
+    pub fn try_clone(&self, alloc: Global) -> VortexResult<Self>
+        ensures same { IfOk result (λ f. field_tree f ≡ field_tree self.now) }
+        ensures refused { IsOkUnless result OutOfMemory }
+    {
+        Ok(FieldDType {
+            dtype: self.dtype.try_clone(alloc)?,
+        })
+    }
+}
+
+// The types of these fields, in order.
+pub(crate) fn into_dtypes(alloc: Global, fields: Vec<FieldDType>) -> VortexResult<Vec<DType>>
+    ensures same { IfOk result (λ v. map tree v.items ≡ map field_tree fields.items) }
+    ensures refused { IsOkUnless result OutOfMemory }
+{
+    let mut dtypes = Vec::with_capacity(alloc, fields.len())?;
+    for field in fields {
+        dtypes.push(field.into_dtype())?;
+    }
+    Ok(dtypes)
+}
+
+impl From<DType> for FieldDType {
+    ghost from_gives = { λ d f. field_tree f ≡ tree d };
+
+    fn from(dtype: DType) -> FieldDType {
+        FieldDType { dtype }
+    }
+}
+
+/// The non-nullable primitive of that name.
+impl From<PType> for FieldDType {
+    ghost from_gives = { λ ptype f. field_tree f ≡ primitive ptype NonNullable };
+
+    fn from(ptype: PType) -> FieldDType {
+        FieldDType {
+            dtype: DType::from(ptype),
+        }
+    }
+}
+
+impl PartialEq for FieldDType {
+    ghost use Rattle.dtype_types.specs.FieldTypes.{same_field_dtype, same_field_dtype_equiv};
+    ghost use Rattle.std.specs.Cmp.{partial_equiv_from_equiv};
+
+    ghost eq = { same_field_dtype };
+
+    ghost laws = { partial_equiv_from_equiv same_field_dtype_equiv };
+
+    fn eq(&self, other: &FieldDType) -> bool
+        ensures same { result ≡ same_field_dtype self.now other.now }
+        ensures exact { IsTrue result ↔ (field_tree self.now ≡ field_tree other.now) }
+    {
+        self.dtype == other.dtype
+    }
+}
+
+impl Eq for FieldDType {
+    ghost use Rattle.dtype_types.specs.FieldTypes.{same_field_dtype_equiv};
+
+    ghost laws = { same_field_dtype_equiv };
+}

@@ -17,6 +17,3 @@ pub mod NameIndexes
 pub mod Projections
 pub mod Feeding
 pub mod IndentedTexts
-pub mod Feeding
-pub mod NameIndexes
-pub mod Projections

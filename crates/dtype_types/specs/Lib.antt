@@ -20,8 +20,4 @@ pub mod IndentedText
 pub mod Hashes
 pub mod HashesOf
 pub mod Maps
-pub mod Hashes
-pub mod HashesOf
 pub mod HashLaws
-pub mod NameIndex
-pub mod IndentedText

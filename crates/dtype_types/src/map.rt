@@ -6,7 +6,6 @@ ghost use Rattle.std.proofs.Math.Bool.{beq};
 use crate::copies::boxed_copy;
 use crate::equality::{Nullabilities, agree};
 use crate::hashing::feed;
-use dtype_base::VortexResult;
 use crate::{DType, StructFields};
 use dtype_base::{FieldNames, Nullability, VortexError, VortexResult};
 use std::alloc::Global;
@@ -25,7 +24,6 @@ pub struct MapDType {
 impl MapDType {
     ghost use Rattle.dtype_types.specs.Equality.{agree};
     ghost use Rattle.dtype_types.specs.HashesOf.{map_writes};
-    ghost use Rattle.dtype_types.specs.TreeOf.{key_tree, value_tree, are_keys_sorted, ValidMap};
     ghost use Rattle.dtype_types.specs.Maps.{entries_of};
     ghost use Rattle.dtype_types.specs.Nullable.{nullability, IsNullable};
     ghost use Rattle.dtype_types.specs.TreeOf.{tree, key_tree, value_tree, are_keys_sorted, ValidMap};

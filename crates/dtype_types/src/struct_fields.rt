@@ -230,6 +230,8 @@ impl StructFields {
             total = total.plus(dtype.width());
         }
         total
+    }
+
     // Feeds a hasher how many fields there are, and each field.
     #[cycle(hash)]
     pub(crate) fn feed<H: Hasher>(&self, rule: Nullabilities, state: &mut H)
@@ -312,21 +314,6 @@ impl StructFields {
         append_names(alloc, &mut names, self.paired_names())?;
         append_names(alloc, &mut names, other.paired_names())?;
         Ok(names)
-    }
-
-    // Feeds a hasher how many fields there are, and each field.
-    #[cycle(hash)]
-    pub(crate) fn feed<H: Hasher>(&self, rule: Nullabilities, state: &mut H)
-        ensures { state.new ≡ fold H.write state.old (struct_writes rule self.now) }
-    {
-        let count = self.count();
-        let names = self.names.as_slice();
-        state.write_usize(count);
-        for i in 0..count {
-            let dtype = &self.dtypes[i];
-            names[i].hash(state);
-            feed(dtype, rule, state);
-        }
     }
 
     /// The fields but for that at this position. Refuses 17 (IndexOutOfBounds) at or past the end, with

@@ -25,6 +25,8 @@ mod map;
 mod name_index;
 mod nullable;
 mod repeats;
+#[cfg(test)]
+mod samples;
 mod struct_fields;
 mod text;
 mod union_variants;

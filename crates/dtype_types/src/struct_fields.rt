@@ -466,3 +466,6 @@ impl fmt::Display for StructFields {
         write!(f, "}}")
     }
 }
+
+#[cfg(test)]
+mod tests;

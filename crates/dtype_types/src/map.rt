@@ -10,6 +10,9 @@ use dtype_base::{FieldNames, Nullability, VortexError, VortexResult};
 use std::alloc::Global;
 use std::fmt;
 
+#[cfg(test)]
+mod tests;
+
 /// The type of a map's entries: keys, values, and whether the keys are sorted.
 #[derive(Debug, Drop)]
 #[cycle(dtype)]

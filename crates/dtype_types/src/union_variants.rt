@@ -13,6 +13,9 @@ use dtype_base::{FieldNames, VortexError, VortexResult};
 use std::alloc::Global;
 use std::fmt;
 
+#[cfg(test)]
+mod tests;
+
 // How many tags there are.
 const MAX_VARIANTS: usize = 256;
 

@@ -12,6 +12,9 @@ use std::alloc::Global;
 use std::fmt;
 use std::hash::{Hash, Hasher};
 
+#[cfg(test)]
+mod tests;
+
 /// The type of a map's entries: keys, values, and whether the keys are sorted.
 #[derive(Debug, Drop)]
 #[cycle(dtype)]

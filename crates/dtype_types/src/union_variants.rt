@@ -15,6 +15,9 @@ use std::alloc::Global;
 use std::fmt;
 use std::hash::{Hash, Hasher};
 
+#[cfg(test)]
+mod tests;
+
 // How many tags there are.
 const MAX_VARIANTS: usize = 256;
 

@@ -13,3 +13,4 @@ pub mod DistinctItems
 pub mod Widths
 pub mod NameIndexes
 pub mod Projections
+pub mod ComparisonLaws

@@ -15,3 +15,4 @@ pub mod Distinct
 pub mod Width
 pub mod NameIndex
 pub mod IndentedText
+pub mod Comparisons

@@ -30,3 +30,24 @@ impl DType {
         }
     }
 }
+
+#[cfg(test)]
+mod tests {
+    use crate::DType;
+    use dtype_base::{Nullability, PType};
+    use std::test::Fail;
+
+    #[test]
+    fn nullability_inside_is_ignored_by_subset_alone(rt: HostRuntime) -> Result<(), Fail> {
+        let alloc = rt.alloc();
+        let number = DType::Primitive(PType::I32, Nullability::NonNullable);
+        let one = DType::list(alloc, number, Nullability::NonNullable)?;
+        let number = DType::Primitive(PType::I32, Nullability::Nullable);
+        let other = DType::list(alloc, number, Nullability::NonNullable)?;
+        for (a, b) in [(&one, &other), (&other, &one)] {
+            assert!(rt; a.eq_with_nullability_subset(b));
+            assert!(rt; !a.eq_with_nullability_superset(b));
+        }
+        Ok(())
+    }
+}

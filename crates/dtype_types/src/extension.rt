@@ -1,4 +1,4 @@
-ghost use Rattle.std.specs.Prelude.{◌≡◌, ◌↔◌, ℕ, IsTrue, IfOk, IsOkUnless, All, ◌<◌, List, Some, nat_eq};
+ghost use Rattle.std.specs.Prelude.{◌≡◌, ◌↔◌, ℕ, IsTrue, IfOk, IsOkUnless, All, ◌<◌, List, Some, nat_eq, fold};
 ghost use Rattle.std.specs.Prelude.{◌&&◌};
 ghost use Rattle.std.specs.Str.{bytes_eq};
 ghost use Rattle.std.specs.Rc.{rc_str_bytes};
@@ -7,10 +7,12 @@ ghost use Rattle.dtype_base.specs.declared.vortex_error.VortexError.TheVariants.
 use crate::DType;
 use crate::copies::boxed_copy;
 use crate::equality::{Nullabilities, agree};
+use crate::hashing::feed;
 use crate::width::Width;
 use dtype_base::{Nullability, VortexResult};
 use std::alloc::Global;
 use std::fmt;
+use std::hash::{Hash, Hasher};
 use std::marker::Model;
 use std::rc::RcStr;
 
@@ -74,6 +76,20 @@ impl Eq for ExtId {
     ghost laws = { nat_list_eq_equiv };
 }
 
+impl Hash for ExtId {
+    ghost use Rattle.std.specs.Hash as fed;
+    ghost use Rattle.std.proofs.Common.{rules};
+    ghost use Rattle.std.specs.Cmp.Rules.{hashing};
+
+    ghost hash_input = { fed.str };
+
+    ghost respects_eq = { Prim.search (hashing, rules) };
+
+    fn hash<H: Hasher>(&self, state: &mut H) {
+        self.as_str().hash(state);
+    }
+}
+
 /// The text as it stands.
 impl fmt::Display for ExtId {
     ghost output = { λ id. Some id };
@@ -98,6 +114,7 @@ impl ExtDTypeRef {
     ghost use Rattle.dtype_types.specs.Equality.{agree};
     ghost use Rattle.dtype_types.specs.Erase.{erase};
     ghost use Rattle.dtype_types.specs.Valid.{Valid};
+    ghost use Rattle.dtype_types.specs.HashesOf.{extension_writes};
     ghost use Rattle.dtype_types.specs.TreeOf.{extension_tree, ValidExtension, extension_metadata, extension_id, storage_tree, tree};
     ghost use Rattle.dtype_types.specs.Width.{Measures};
 
@@ -194,6 +211,16 @@ impl ExtDTypeRef {
             && agree(&self.storage, &other.storage, rule)
     }
 
+    // Feeds a hasher the id, the metadata and the storage.
+    #[cycle(hash)]
+    pub(crate) fn feed<H: Hasher>(&self, rule: Nullabilities, state: &mut H)
+        ensures { state.new ≡ fold H.write state.old (extension_writes rule self.now) }
+    {
+        self.id.hash(state);
+        self.metadata.hash(state);
+        feed(&self.storage, rule, state);
+    }
+
     /// An extension type equal to this one. Refuses 0 (OutOfMemory) alone.
     #[cycle(copy)]
     pub fn try_clone(&self, alloc: Global) -> VortexResult<Self>
@@ -277,6 +304,20 @@ impl Eq for ExtDTypeRef {
     ghost use Rattle.dtype_types.specs.EqualityLaws.{same_extension_equiv};
 
     ghost laws = { same_extension_equiv };
+}
+
+impl Hash for ExtDTypeRef {
+    ghost use Rattle.dtype_types.specs.HashLaws.{extension_fed};
+    ghost use Rattle.dtype_types.specs.HashesOf.{extension_writes};
+    ghost use Rattle.dtype_types.specs.declared.equality.Nullabilities.TheVariants.{Compared};
+
+    ghost hash_input = { extension_writes Compared };
+
+    ghost respects_eq = { extension_fed };
+
+    fn hash<H: Hasher>(&self, state: &mut H) {
+        self.feed(Nullabilities::Compared, state);
+    }
 }
 
 // Nothing at run time: a proof learns that the items are bytes.

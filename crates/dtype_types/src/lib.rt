@@ -19,6 +19,8 @@ mod equality;
 mod extension;
 mod field_dtype;
 mod fields_builder;
+mod hashing;
+mod indented;
 mod kind;
 mod map;
 mod name_index;

@@ -15,5 +15,6 @@ pub mod VariantLookups
 pub mod Widths
 pub mod NameIndexes
 pub mod Projections
+pub mod ComparisonLaws
 pub mod Feeding
 pub mod IndentedTexts

@@ -17,6 +17,7 @@ pub mod PartsEquality
 pub mod Width
 pub mod NameIndex
 pub mod IndentedText
+pub mod Comparisons
 pub mod Hashes
 pub mod HashesOf
 pub mod Maps

@@ -9,6 +9,7 @@
 // `Text`. What is proved, and what is only tested, is in the README.
 #![tactic(auto)]
 
+mod comparisons;
 mod conversions;
 mod copies;
 mod dtype;

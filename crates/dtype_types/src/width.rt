@@ -100,3 +100,6 @@ impl DType {
         }
     }
 }
+
+#[cfg(test)]
+mod tests;

@@ -1,6 +1,5 @@
 ghost use Rattle.std.specs.Prelude.{◌≡◌};
 
-use crate::laws::written_bytes_read_back;
 use crate::{
     IntegerPType, NativeDecimalType, NativePType, OffsetBuilderPType, PTypeVisitor, PhysicalPType,
     PrecisionScale, ToBytes, TryFromBytes, UnsignedPType, match_each_float_ptype,
@@ -38,7 +37,7 @@ fn test_integer<T: IntegerPType + PhysicalPType>(
     assert_eq!(rt; T::PTYPE, ptype);
     assert_eq!(rt; T::Physical::PTYPE, ptype.to_unsigned());
     assert_eq!(rt; T::max_value_as_u64(), greatest);
-    assert!(rt; written_bytes_read_back(less)?.is_eq(less));
+    assert!(rt; T::try_from_le_bytes(T::bytes_of(&less.to_le_bytes()))?.is_eq(less));
     assert_eq!(rt; less.total_compare(greater), Ordering::Less);
     assert!(rt; less.is_lt(greater) && less.is_le(greater) && less.is_le(less));
     assert!(rt; greater.is_gt(less) && greater.is_ge(less) && less.is_ge(less));

@@ -2,7 +2,7 @@
 
 ghost use Rattle.std.specs.Prelude.{◌≡◌, ◌↔◌, length, Ok, IsOk, IfOk, IsOkUnless};
 ghost use Rattle.dtype_base.specs.declared.vortex_error.VortexError.TheVariants.{BytesLength};
-ghost use Rattle.dtype_native.specs.LittleEndian.{little_endian};
+ghost use Rattle.dtype_native.specs.LittleEndian.{ReadsBytes};
 
 use crate::ToBytes;
 use dtype_base::{VortexError, VortexResult};
@@ -13,10 +13,7 @@ pub trait TryFromBytes: ToBytes {
     ///
     /// Refuses 8 (`BytesLength`) bytes of another length than the type's width.
     fn try_from_le_bytes(bytes: &[u8]) -> VortexResult<Self>
-        ensures accepted { IsOk result ↔ (length bytes.now ≡ Self.byte_width) }
-        ensures refused { IsOkUnless result BytesLength }
-        ensures read { IfOk result (λ x. bytes.now ≡ little_endian Self.byte_width (Self.value x)) }
-        ensures in_range { IfOk result (λ x. Self.fits (Self.value x)) };
+        ensures { ReadsBytes Self.byte_width Self.value Self.fits bytes.now result };
 }
 
 // The bytes as an array.

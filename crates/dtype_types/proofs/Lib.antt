@@ -11,5 +11,8 @@ pub mod Zips
 pub mod Outcomes
 pub mod DistinctItems
 pub mod Feeding
+pub mod UnionLaws
+pub mod VariantLookups
+pub mod Widths
 pub mod NameIndexes
 pub mod Projections

@@ -99,7 +99,7 @@ mutual
       ap (λ r. field r t fs) ((bytes_eq-Decides m n).0 g.0) ∙ ap (λ r. field n r fs) (agree-same t u g.1) ∙ ap (field n u) (agree_fields-same fs gs h.1)
   agree_fields-same _ _ e = absurd (false≢true e)
 
-  agree_variants-same : (a b : Variants) → agree_variants Compared a b ≡ true → a ≡ b
+  pub agree_variants-same : (a b : Variants) → agree_variants Compared a b ≡ true → a ≡ b
   agree_variants-same no_variants no_variants e = refl
   agree_variants-same (choice m t g fs) (choice n u h gs) e =
       let p = both e in let q = both p.0 in let r = both q.0 in
@@ -129,7 +129,7 @@ mutual
   agree_fields_refl s no_fields = refl
   agree_fields_refl s (field m t fs) = join (join (same_bytes m) (agree_refl s t)) (agree_fields_refl s fs)
 
-  agree_variants_refl : (s : Nullabilities) (a : Variants) → agree_variants s a a ≡ true
+  pub agree_variants_refl : (s : Nullabilities) (a : Variants) → agree_variants s a a ≡ true
   agree_variants_refl s no_variants = refl
   agree_variants_refl s (choice m t g fs) = join (join (join (same_bytes m) (agree_refl s t)) ((Decides-eqb g g).1 refl)) (agree_variants_refl s fs)
 
@@ -159,7 +159,7 @@ mutual
   agree_fields-erase (field m t fs) (field n u gs) = ap (λ x. bytes_eq m n && x && agree_fields Ignored fs gs) (agree-erase t u) ∙ ap (λ x. bytes_eq m n && agree Compared (erase t) (erase u) && x) (agree_fields-erase fs gs)
   agree_fields-erase _ _ = refl
 
-  agree_variants-erase : (a b : Variants) → agree_variants Ignored a b ≡ agree_variants Compared (erase_variants a) (erase_variants b)
+  pub agree_variants-erase : (a b : Variants) → agree_variants Ignored a b ≡ agree_variants Compared (erase_variants a) (erase_variants b)
   agree_variants-erase no_variants no_variants = refl
   agree_variants-erase (choice m t g fs) (choice n u h gs) =
       ap (λ x. bytes_eq m n && x && (g == h) && agree_variants Ignored fs gs) (agree-erase t u) ∙ ap (λ x. bytes_eq m n && agree Compared (erase t) (erase u) && (g == h) && x) (agree_variants-erase fs gs)
@@ -173,7 +173,7 @@ agree_erased-Decides a b =
 -- ---- `==` of types and the equality that ignores nullabilities, as equivalences
 
 -- a test that decides whether two values have one view is an equivalence
-equiv_of_view : {A B : Type 0} (r : A → A → Bool) (view : A → B) → ((a b : A) → Decides (r a b) (view a ≡ view b)) → IsEquivalence r
+pub equiv_of_view : {A B : Type 0} (r : A → A → Bool) (view : A → B) → ((a b : A) → Decides (r a b) (view a ≡ view b)) → IsEquivalence r
 equiv_of_view r view d = record {
   refl = λ x. (d x x).1 refl;
   symm = λ x y. same_from_decides (r x y) (r y x) (d x y) (λ e. sym ((d y x).0 e), λ e. (d y x).1 (sym e));

@@ -12,8 +12,11 @@ pub mod EqualityLaws
 pub mod FieldTypes
 pub mod Building
 pub mod Distinct
+pub mod Unions
+pub mod PartsEquality
+pub mod Width
+pub mod NameIndex
+pub mod IndentedText
 pub mod Hashes
 pub mod HashesOf
 pub mod HashLaws
-pub mod NameIndex
-pub mod IndentedText

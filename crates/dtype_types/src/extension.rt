@@ -1,5 +1,4 @@
-ghost use Rattle.std.specs.Prelude.{◌≡◌, ◌↔◌, ℕ, IsTrue, IfOk, IsOkUnless, All, ◌<◌, List, Some, nat_eq};
-ghost use Rattle.std.specs.Prelude.{fold};
+ghost use Rattle.std.specs.Prelude.{◌≡◌, ◌↔◌, ℕ, IsTrue, IfOk, IsOkUnless, All, ◌<◌, List, Some, nat_eq, fold};
 ghost use Rattle.std.specs.Prelude.{◌&&◌};
 ghost use Rattle.std.specs.Str.{bytes_eq};
 ghost use Rattle.std.specs.Rc.{rc_str_bytes};
@@ -9,6 +8,7 @@ use crate::DType;
 use crate::copies::boxed_copy;
 use crate::equality::{Nullabilities, agree};
 use crate::hashing::feed;
+use crate::width::Width;
 use dtype_base::{Nullability, VortexResult};
 use std::alloc::Global;
 use std::fmt;
@@ -112,10 +112,11 @@ impl ExtDTypeRef {
     ghost use Rattle.dtype_types.specs.Kinds.{is_nested};
     ghost use Rattle.dtype_types.specs.Nullable.{nullability, IsNullable, CanBeNonNullable, SetNull};
     ghost use Rattle.dtype_types.specs.Equality.{agree};
-    ghost use Rattle.dtype_types.specs.HashesOf.{extension_writes};
     ghost use Rattle.dtype_types.specs.Erase.{erase};
     ghost use Rattle.dtype_types.specs.Valid.{Valid};
+    ghost use Rattle.dtype_types.specs.HashesOf.{extension_writes};
     ghost use Rattle.dtype_types.specs.TreeOf.{extension_tree, ValidExtension, extension_metadata, extension_id, storage_tree, tree};
+    ghost use Rattle.dtype_types.specs.Width.{Measures};
 
     /// The id.
     pub fn id(&self) -> &ExtId
@@ -243,6 +244,14 @@ impl ExtDTypeRef {
         ensures { result ≡ is_nested (storage_tree self.now) }
     {
         self.storage.is_nested()
+    }
+
+    // The width of the storage.
+    #[cycle(width)]
+    pub(crate) fn width(&self) -> Width
+        ensures { Measures result (extension_tree self.now) }
+    {
+        self.storage.width()
     }
 
     // Whether the storage can be made non-nullable.

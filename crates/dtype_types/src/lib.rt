@@ -27,6 +27,7 @@ mod repeats;
 mod struct_fields;
 mod text;
 mod union_variants;
+mod width;
 
 pub use dtype::DType;
 pub use dtype_iter::DTypeIter;

@@ -1,10 +1,10 @@
-ghost use Rattle.std.specs.Prelude.{◌≡◌, ◌↔◌, IsTrue, ◌≤◌, ◌<◌, ◌++◌, ◌∷◌, ℕ, nat_lt, List, [], slice_index_or, length, map, remove, vec_len, All, IfOk, IfErr, IfSome, IsOk, IsOkUnless, MatchBool, slice_get, IfNone, Some};
-ghost use Rattle.std.specs.Prelude.{fold};
+ghost use Rattle.std.specs.Prelude.{◌≡◌, ◌↔◌, IsTrue, ◌≤◌, ◌<◌, ◌++◌, ◌∷◌, ℕ, nat_lt, List, [], slice_index_or, length, map, remove, vec_len, All, IfOk, IfErr, IfSome, IsOk, IsOkUnless, MatchBool, slice_get, IfNone, Some, fold};
 ghost use Rattle.std.specs.Iterator.{IsFinite};
 ghost use Rattle.std.specs.Iterator.Runs.{WholeRun};
 ghost use Rattle.std.specs.List.{zip};
 ghost use Rattle.std.specs.Option.{option_copied};
 ghost use Rattle.dtype_base.specs.FieldNames.{FirstAt, IsAbsent};
+ghost use Rattle.dtype_base.specs.declared.nullability.Nullability.{Nullability};
 ghost use Rattle.dtype_base.specs.declared.vortex_error.VortexError.TheVariants.{OutOfMemory, IndexOutOfBounds};
 
 use crate::copies::{append_names, copies_of};
@@ -15,6 +15,7 @@ use crate::hashing::feed;
 use crate::name_index::NameIndex;
 use crate::repeats::has_repeats;
 use crate::text::separator;
+use crate::width::Width;
 use crate::{DType, DTypeIter, FieldDType};
 use dtype_base::{FieldName, FieldNames, VortexError, VortexResult};
 use std::alloc::Global;
@@ -35,12 +36,13 @@ impl StructFields {
     ghost use Rattle.dtype_types.specs.Equality.{agree_fields};
     ghost use Rattle.dtype_types.specs.Erase.{erase_fields};
     ghost use Rattle.dtype_types.specs.FieldTypes.{field_tree, HasFields};
-    ghost use Rattle.dtype_types.specs.HashesOf.{struct_writes};
     ghost use Rattle.dtype_types.specs.Lookups.{first_named, field_names, field_types, Projects, ProjectionRefusal, MergeRefusal};
     ghost use Rattle.dtype_types.specs.Distinct.{Distinct};
-    ghost use Rattle.dtype_types.specs.Tree.{Tree};
+    ghost use Rattle.dtype_types.specs.HashesOf.{struct_writes};
+    ghost use Rattle.dtype_types.specs.Tree.{Tree, struct};
     ghost use Rattle.dtype_types.specs.TreeOf.{struct_tree, IsPaired, names_of, types_of, children, tree, option_tree, ValidStruct};
     ghost use Rattle.dtype_types.specs.Valid.{Valid};
+    ghost use Rattle.dtype_types.specs.Width.{Measures};
 
     /// No fields. Refuses 0 (OutOfMemory) alone.
     pub fn empty(alloc: Global) -> VortexResult<Self>
@@ -215,19 +217,17 @@ impl StructFields {
         true
     }
 
-    // Feeds a hasher how many fields there are, and each field.
-    #[cycle(hash)]
-    pub(crate) fn feed<H: Hasher>(&self, rule: Nullabilities, state: &mut H)
-        ensures { state.new ≡ fold H.write state.old (struct_writes rule self.now) }
+    // The width of a struct of these fields.
+    #[cycle(width)]
+    pub(crate) fn width(&self) -> Width
+        ensures { (n : Nullability) → Measures result (struct (struct_tree self.now) n) }
     {
-        let count = self.count();
-        let names = self.names.as_slice();
-        state.write_usize(count);
-        for i in 0..count {
+        let mut total = Width::Bytes(0);
+        for i in 0..self.count() {
             let dtype = &self.dtypes[i];
-            names[i].hash(state);
-            feed(dtype, rule, state);
+            total = total.plus(dtype.width());
         }
+        total
     }
 
     /// The first field of each name asked, in the order asked, repeats kept. Refuses 16 (FieldNotFound)
@@ -297,6 +297,21 @@ impl StructFields {
         append_names(alloc, &mut names, self.paired_names())?;
         append_names(alloc, &mut names, other.paired_names())?;
         Ok(names)
+    }
+
+    // Feeds a hasher how many fields there are, and each field.
+    #[cycle(hash)]
+    pub(crate) fn feed<H: Hasher>(&self, rule: Nullabilities, state: &mut H)
+        ensures { state.new ≡ fold H.write state.old (struct_writes rule self.now) }
+    {
+        let count = self.count();
+        let names = self.names.as_slice();
+        state.write_usize(count);
+        for i in 0..count {
+            let dtype = &self.dtypes[i];
+            names[i].hash(state);
+            feed(dtype, rule, state);
+        }
     }
 
     /// The fields but for that at this position. Refuses 17 (IndexOutOfBounds) at or past the end, with

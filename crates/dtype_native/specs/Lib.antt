@@ -3,3 +3,4 @@ pub mod NumberLaws
 pub mod Integers
 pub mod Offsets
 pub mod Digits
+pub mod NativeTypes

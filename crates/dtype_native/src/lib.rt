@@ -1,9 +1,19 @@
-// Native integers: their bytes, order and names.
+// Native types under the primitive names and decimals: their bytes, order, names, bounds and types.
+//
+// It promises, for every native integer, that its name, its width and its integers are those of the
+// table of primitive names, that its bytes are little-endian and read back, and that it is compared
+// as a whole number; for every native decimal, that its bounds are those of its digits; and that
+// what is done for a name is what the visitor does for it.
+//
+// Begin with `NativePType`, `ToBytes` and `PTypeVisitor`, then `NativeDecimalType` and
+// `PrecisionScale`, and `NativeDType`. The definitions are in `specs/`: `LittleEndian`, `Integers`,
+// `Offsets`, `Digits`, `NativeTypes`; `NumberLaws` has the proofs of the traits' laws that the impls cite.
 #![tactic(auto)]
 
 mod integer_ptype;
 pub mod laws;
 mod native_decimal_type;
+mod native_dtype;
 mod native_ptype;
 mod precision_scale;
 mod ptype_visitor;
@@ -14,6 +24,7 @@ mod try_from_bytes;
 
 pub use integer_ptype::{IntegerPType, OffsetBuilderPType, PhysicalPType, UnsignedPType};
 pub use native_decimal_type::NativeDecimalType;
+pub use native_dtype::NativeDType;
 pub use native_ptype::NativePType;
 pub use precision_scale::PrecisionScale;
 pub use ptype_visitor::{

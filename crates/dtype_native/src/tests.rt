@@ -1,14 +1,16 @@
 ghost use Rattle.std.specs.Prelude.{◌≡◌};
 
 use crate::{
-    IntegerPType, NativeDecimalType, NativePType, OffsetBuilderPType, PTypeVisitor, PhysicalPType,
-    PrecisionScale, ToBytes, TryFromBytes, UnsignedPType, match_each_float_ptype,
+    IntegerPType, NativeDType, NativeDecimalType, NativePType, OffsetBuilderPType, PTypeVisitor,
+    PhysicalPType, PrecisionScale, ToBytes, TryFromBytes, UnsignedPType, match_each_float_ptype,
     match_each_integer_ptype, match_each_native_ptype, match_each_native_simd_ptype,
     match_each_signed_integer_ptype, match_each_unsigned_integer_ptype,
     match_smallest_list_offset_type, match_smallest_offset_type,
 };
 use dtype_base::{DecimalDType, DecimalType, PType, VortexError, VortexResult};
+use std::alloc::Global;
 use std::cmp::Ordering;
+use std::hash::{DefaultHasher, Hash, Hasher};
 use std::process::Abort;
 use std::test::Fail;
 
@@ -229,6 +231,12 @@ fn native_decimals_have_their_names_and_digits(rt: HostRuntime) -> Result<(), Fa
     Ok(())
 }
 
+fn hash_of<T: Hash>(value: &T) -> u64 {
+    let mut state = DefaultHasher::new();
+    value.hash(&mut state);
+    state.finish()
+}
+
 #[test]
 fn kept_decimals_are_refused_in_order(rt: HostRuntime) -> Result<(), Fail> {
     for (precision, scale, want) in [
@@ -266,5 +274,36 @@ fn kept_decimals_are_refused_in_order(rt: HostRuntime) -> Result<(), Fail> {
         "decimal(i8, p=2, s=1)"
     );
     assert_eq!(rt; DecimalDType::from(kept), DecimalDType::new(2, 1));
+    assert_eq!(rt; hash_of(&kept), hash_of(&PrecisionScale::<i8>::new(2, 1)));
+    Ok(())
+}
+
+// The text of the native type's logical type.
+fn test_dtype<T: NativeDType>(
+    rt: &impl Abort,
+    alloc: Global,
+    text: &'static str,
+) -> VortexResult<()> {
+    let dtype = T::dtype(alloc)?;
+    assert_eq!(rt; dtype.to_string(alloc)?.as_str(), text);
+    Ok(())
+}
+
+#[test]
+fn native_types_have_their_logical_types(rt: HostRuntime) -> Result<(), Fail> {
+    let alloc = rt.alloc();
+    test_dtype::<u8>(&rt, alloc, "u8")?;
+    test_dtype::<u16>(&rt, alloc, "u16")?;
+    test_dtype::<u32>(&rt, alloc, "u32")?;
+    test_dtype::<u64>(&rt, alloc, "u64")?;
+    test_dtype::<i8>(&rt, alloc, "i8")?;
+    test_dtype::<i16>(&rt, alloc, "i16")?;
+    test_dtype::<i32>(&rt, alloc, "i32")?;
+    test_dtype::<i64>(&rt, alloc, "i64")?;
+    test_dtype::<bool>(&rt, alloc, "bool")?;
+    test_dtype::<&str>(&rt, alloc, "utf8")?;
+    test_dtype::<&[u8]>(&rt, alloc, "binary")?;
+    test_dtype::<Vec<Option<i32>>>(&rt, alloc, "list(i32?)")?;
+    test_dtype::<Option<Vec<String>>>(&rt, alloc, "list(utf8)?")?;
     Ok(())
 }

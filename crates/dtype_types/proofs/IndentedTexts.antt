@@ -35,3 +35,6 @@ pub braces_of : (before indent : List ℕ) (ps : List (List ℕ × Tree)) (parts
     → ((before ++ codes "{\n") ++ joined (codes ",\n") parts) ++ (last ++ (indent ++ codes "}")) ≡ before ++ indented_braces indent (fields ps)
 unfolding indented_braces
 braces_of before indent ps parts last e f = simp append_assoc (ap (λ xs. before ++ (codes "{\n" ++ (joined (codes ",\n") xs ++ (last ++ (indent ++ codes "}"))))) e ∙ ap (λ l. before ++ (codes "{\n" ++ (joined (codes ",\n") (indented_fields (indent ++ codes "  ") (fields ps)) ++ (l ++ (indent ++ codes "}"))))) f)
+
+pub regroup : (a b c d e t : List ℕ) → (a ++ (b ++ (c ++ (d ++ e)))) ++ t ≡ a ++ (b ++ (c ++ (d ++ (e ++ t))))
+regroup a b c d e t = simp append_assoc

@@ -16,3 +16,4 @@ pub mod VariantLookups
 pub mod Widths
 pub mod NameIndexes
 pub mod Projections
+pub mod IndentedTexts

@@ -58,11 +58,11 @@ same_decimal d e p s =
     let second : record { precision = e.precision; scale = d.scale } ≡ e = ap (λ x. record { precision = e.precision; scale = x }) s in
     first ∙ second
 
-both : {x y : Bool} → (x && y) ≡ true → (x ≡ true) × (y ≡ true)
+pub both : {x y : Bool} → (x && y) ≡ true → (x ≡ true) × (y ≡ true)
 both {x = true} e = (refl, e)
 both {x = false} e = absurd (false≢true e)
 
-join : {x y : Bool} → x ≡ true → y ≡ true → (x && y) ≡ true
+pub join : {x y : Bool} → x ≡ true → y ≡ true → (x && y) ≡ true
 join {y = y} p q = ap (λ b. b && y) p ∙ q
 
 mutual

@@ -12,14 +12,25 @@ abbrev pub last_line : Fields → List ℕ
 last_line no_fields = []
 last_line (field n t rest) = codes "\n"
 
--- indent is what stands before the closing brace, and each field stands two spaces further
+-- fields that are written so, in braces; indent is what stands before the closing brace
+abbrev pub braces : List ℕ → List (List ℕ) → Fields → List ℕ
+braces indent parts fs = codes "{\n" ++ (joined (codes ",\n") parts ++ (last_line fs ++ (indent ++ codes "}")))
+
+-- each field stands two spaces further than the braces
 abbrev mutual
   pub indented : List ℕ → Tree → List ℕ
   indented indent (list t n) = codes "list(" ++ (indented indent t ++ (codes ")" ++ nullability_text n))
   indented indent (fixed_size_list t k n) = codes "fixed_size_list(" ++ (indented indent t ++ (codes ")[" ++ (digits k ++ (codes "]" ++ nullability_text n))))
-  indented indent (struct fs n) = codes "{\n" ++ (joined (codes ",\n") (indented_fields (indent ++ codes "  ") fs) ++ (last_line fs ++ (indent ++ (codes "}" ++ nullability_text n))))
+  indented indent (struct fs n) = braces indent (indented_fields (indent ++ codes "  ") fs) fs ++ nullability_text n
   indented indent t = text t
 
   pub indented_fields : List ℕ → Fields → List (List ℕ)
   indented_fields indent no_fields = []
   indented_fields indent (field n t rest) = (indent ++ (escaped n ++ (codes "=" ++ indented indent t))) ∷ indented_fields indent rest
+
+-- the indented text of fields
+unfoldable pub indented_braces : List ℕ → Fields → List ℕ
+indented_braces indent fs = braces indent (indented_fields (indent ++ codes "  ") fs) fs
+
+abbrev pub indented_text : Fields → List ℕ
+indented_text fs = indented_braces [] fs

@@ -19,4 +19,5 @@ pub mod NameIndex
 pub mod IndentedText
 pub mod Hashes
 pub mod HashesOf
+pub mod Maps
 pub mod HashLaws

@@ -19,6 +19,7 @@ mod extension;
 mod field_dtype;
 mod fields_builder;
 mod hashing;
+mod indented;
 mod kind;
 mod map;
 mod name_index;

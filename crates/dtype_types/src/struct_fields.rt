@@ -1,4 +1,4 @@
-ghost use Rattle.std.specs.Prelude.{◌≡◌, ◌↔◌, IsTrue, ◌≤◌, ◌<◌, ◌++◌, ◌∷◌, ℕ, nat_lt, List, [], slice_index_or, length, map, remove, vec_len, All, IfOk, IfErr, IfSome, IsOk, IsOkUnless, MatchBool, slice_get, IfNone, Some, fold};
+ghost use Rattle.std.specs.Prelude.{◌≡◌, ◌↔◌, IsTrue, ◌≤◌, ◌<◌, ◌++◌, ◌∷◌, ℕ, nat_lt, List, [], slice_index_or, length, map, remove, vec_len, All, IfOk, IfErr, IfSome, IsOk, IsOkUnless, MatchBool, slice_get, IfNone, Some, fold, OnOk, string_bytes};
 ghost use Rattle.std.specs.Iterator.{IsFinite};
 ghost use Rattle.std.specs.Iterator.Runs.{WholeRun};
 ghost use Rattle.std.specs.List.{zip};
@@ -12,6 +12,7 @@ use crate::equality::{Nullabilities, agree};
 use crate::field_dtype::into_dtypes;
 use crate::fields_builder::FieldsBuilder;
 use crate::hashing::feed;
+use crate::indented::{last_line, line_end};
 use crate::name_index::NameIndex;
 use crate::repeats::has_repeats;
 use crate::text::separator;
@@ -36,6 +37,7 @@ impl StructFields {
     ghost use Rattle.dtype_types.specs.Equality.{agree_fields};
     ghost use Rattle.dtype_types.specs.Erase.{erase_fields};
     ghost use Rattle.dtype_types.specs.FieldTypes.{field_tree, HasFields};
+    ghost use Rattle.dtype_types.specs.IndentedText.{indented_text, indented_braces};
     ghost use Rattle.dtype_types.specs.Lookups.{first_named, field_names, field_types, Projects, ProjectionRefusal, MergeRefusal};
     ghost use Rattle.dtype_types.specs.Distinct.{Distinct};
     ghost use Rattle.dtype_types.specs.HashesOf.{struct_writes};
@@ -230,6 +232,21 @@ impl StructFields {
         total
     }
 
+    // Feeds a hasher how many fields there are, and each field.
+    #[cycle(hash)]
+    pub(crate) fn feed<H: Hasher>(&self, rule: Nullabilities, state: &mut H)
+        ensures { state.new ≡ fold H.write state.old (struct_writes rule self.now) }
+    {
+        let count = self.count();
+        let names = self.names.as_slice();
+        state.write_usize(count);
+        for i in 0..count {
+            let dtype = &self.dtypes[i];
+            names[i].hash(state);
+            feed(dtype, rule, state);
+        }
+    }
+
     /// The first field of each name asked, in the order asked, repeats kept. Refuses 16 (FieldNotFound)
     /// at the first name that no field has, with its position in the projection, else 0 (OutOfMemory)
     /// alone.
@@ -299,21 +316,6 @@ impl StructFields {
         Ok(names)
     }
 
-    // Feeds a hasher how many fields there are, and each field.
-    #[cycle(hash)]
-    pub(crate) fn feed<H: Hasher>(&self, rule: Nullabilities, state: &mut H)
-        ensures { state.new ≡ fold H.write state.old (struct_writes rule self.now) }
-    {
-        let count = self.count();
-        let names = self.names.as_slice();
-        state.write_usize(count);
-        for i in 0..count {
-            let dtype = &self.dtypes[i];
-            names[i].hash(state);
-            feed(dtype, rule, state);
-        }
-    }
-
     /// The fields but for that at this position. Refuses 17 (IndexOutOfBounds) at or past the end, with
     /// the position and how many fields there are, else 0 (OutOfMemory) alone.
     pub fn without_field(&self, alloc: Global, index: usize) -> VortexResult<Self>
@@ -352,6 +354,44 @@ impl StructFields {
         let name = self.names.as_slice()[index].try_clone(alloc)?;
         let dtype = self.dtypes[index].try_clone(alloc)?;
         fields.push(name, dtype)
+    }
+
+    /// The fields over several lines, one a line, each two spaces deeper than the braces round it.
+    /// Refuses 0 (OutOfMemory) alone.
+    pub fn indented(&self, alloc: Global) -> VortexResult<String>
+        ensures ok { IfOk result (λ s. string_bytes s ≡ indented_text (struct_tree self.now)) }
+        ensures refused { IsOkUnless result OutOfMemory }
+    {
+        let mut text = String::new(alloc);
+        self.write_indented(alloc, &mut text, "")?;
+        Ok(text)
+    }
+
+    // The same behind what a text holds, where this stands before the closing brace.
+    #[cycle(indented)]
+    pub(crate) fn write_indented(
+        &self,
+        alloc: Global,
+        out: &mut String,
+        indent: &str,
+    ) -> VortexResult<()>
+        ensures ok { OnOk result (string_bytes out.new ≡ string_bytes out.old ++ indented_braces indent.now (struct_tree self.now)) }
+        ensures refused { IsOkUnless result OutOfMemory }
+    {
+        let inner = format!(in alloc; "{indent}  ")?;
+        let count = self.count();
+        let names = self.names.as_slice();
+        out.push_str("{\n")?;
+        for i in 0..count {
+            let line_end = line_end(i);
+            let name = &names[i];
+            let dtype = &self.dtypes[i];
+            write!(out, "{line_end}{inner}{name}=")?;
+            dtype.write_indented(alloc, out, inner.as_str())?;
+        }
+        let last_line = last_line(count);
+        write!(out, "{last_line}{indent}}}")?;
+        Ok(())
     }
 
     /// Fields equal to these. Refuses 0 (OutOfMemory) alone.

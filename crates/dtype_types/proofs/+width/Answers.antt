@@ -1,4 +1,4 @@
-use Rattle.std.proofs.Common.{◌≡◌, ◌+◌, ◌∷◌, [], ◌++◌, take, ap, subst, sym, get_or, ◌∙◌, List, ℕ, arith}
+use Rattle.std.proofs.Common.{◌∷◌, [], ◌++◌, take, ap, subst, sym, get_or, ◌∙◌, List, ℕ, arith}
 use Rattle.std.proofs.lemmas.List.{take_more, get_or_default}
 use Rattle.dtype_types.specs.Tree.{Tree, fields, struct}
 use Rattle.dtype_types.specs.TreeOf.{tree, children}

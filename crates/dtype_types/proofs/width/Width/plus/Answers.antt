@@ -1,5 +1,5 @@
 use Rattle.std.proofs.Common.{arith, inl, inr}
-use Rattle.dtype_types.specs.Width.{Measures, Fixed}
+use Rattle.dtype_types.specs.Width.{Fixed}
 use Rattle.dtype_types.proofs.Widths.{variable_before, variable_last, wide_before, wide_last, wide_sum, narrow_sum}
 use Rattle.dtype_types.proofs.width.Width.plus.Goals as goal
 

@@ -1,5 +1,3 @@
-use Rattle.std.proofs.Common.{arith}
-use Rattle.dtype_types.specs.Width.{Measures}
 use Rattle.dtype_types.proofs.Widths.{wide_list}
 use Rattle.dtype_types.proofs.width.Width.times.Goals as goal
 

@@ -1,0 +1,148 @@
+ghost use Rattle.std.specs.Prelude.{◌≡◌, IfOk, IsOkUnless};
+ghost use Rattle.dtype_base.specs.declared.nullability.Nullability.TheVariants.{NonNullable};
+ghost use Rattle.dtype_base.specs.declared.ptype.PType.TheVariants.{U8, U16, U32, U64, I8, I16, I32, I64};
+ghost use Rattle.dtype_base.specs.declared.vortex_error.VortexError.TheVariants.{OutOfMemory};
+ghost use Rattle.dtype_native.specs.NativeTypes.{nullable_form};
+ghost use Rattle.dtype_types.specs.Tree.{Tree, binary, bool, list, primitive, utf8};
+ghost use Rattle.dtype_types.specs.TreeOf.{tree};
+ghost use Rattle.dtype_types.specs.Valid.{Valid};
+
+use crate::NativePType;
+use dtype_base::{Nullability, VortexResult};
+use dtype_types::DType;
+use std::alloc::Global;
+
+/// A native type with a logical type, whose values it holds.
+pub trait NativeDType {
+    // The logical type, as a tree.
+    ghost native_tree: { Tree };
+
+    /// The logical type: non-nullable, but for an `Option`. Refuses 0 (OutOfMemory) alone.
+    fn dtype(alloc: Global) -> VortexResult<DType>
+        ensures meaning { IfOk result (λ d. tree d ≡ native_tree) }
+        ensures valid { IfOk result (λ d. Valid (tree d)) }
+        ensures refused { IsOkUnless result OutOfMemory };
+}
+
+impl NativeDType for u8 {
+    ghost native_tree = { primitive U8 NonNullable };
+
+    fn dtype(_alloc: Global) -> VortexResult<DType> {
+        Ok(DType::from(u8::PTYPE))
+    }
+}
+
+impl NativeDType for u16 {
+    ghost native_tree = { primitive U16 NonNullable };
+
+    fn dtype(_alloc: Global) -> VortexResult<DType> {
+        Ok(DType::from(u16::PTYPE))
+    }
+}
+
+impl NativeDType for u32 {
+    ghost native_tree = { primitive U32 NonNullable };
+
+    fn dtype(_alloc: Global) -> VortexResult<DType> {
+        Ok(DType::from(u32::PTYPE))
+    }
+}
+
+impl NativeDType for u64 {
+    ghost native_tree = { primitive U64 NonNullable };
+
+    fn dtype(_alloc: Global) -> VortexResult<DType> {
+        Ok(DType::from(u64::PTYPE))
+    }
+}
+
+impl NativeDType for i8 {
+    ghost native_tree = { primitive I8 NonNullable };
+
+    fn dtype(_alloc: Global) -> VortexResult<DType> {
+        Ok(DType::from(i8::PTYPE))
+    }
+}
+
+impl NativeDType for i16 {
+    ghost native_tree = { primitive I16 NonNullable };
+
+    fn dtype(_alloc: Global) -> VortexResult<DType> {
+        Ok(DType::from(i16::PTYPE))
+    }
+}
+
+impl NativeDType for i32 {
+    ghost native_tree = { primitive I32 NonNullable };
+
+    fn dtype(_alloc: Global) -> VortexResult<DType> {
+        Ok(DType::from(i32::PTYPE))
+    }
+}
+
+impl NativeDType for i64 {
+    ghost native_tree = { primitive I64 NonNullable };
+
+    fn dtype(_alloc: Global) -> VortexResult<DType> {
+        Ok(DType::from(i64::PTYPE))
+    }
+}
+
+impl NativeDType for bool {
+    ghost native_tree = { bool NonNullable };
+
+    fn dtype(_alloc: Global) -> VortexResult<DType> {
+        Ok(DType::Bool(Nullability::NonNullable))
+    }
+}
+
+impl NativeDType for String {
+    ghost native_tree = { utf8 NonNullable };
+
+    fn dtype(_alloc: Global) -> VortexResult<DType> {
+        Ok(DType::Utf8(Nullability::NonNullable))
+    }
+}
+
+impl NativeDType for &str {
+    ghost native_tree = { utf8 NonNullable };
+
+    fn dtype(_alloc: Global) -> VortexResult<DType>
+        ensures meaning { IfOk result (λ d. tree d ≡ utf8 NonNullable) }
+        ensures valid { IfOk result (λ d. Valid (tree d)) }
+        ensures refused { IsOkUnless result OutOfMemory }
+    {
+        Ok(DType::Utf8(Nullability::NonNullable))
+    }
+}
+
+impl NativeDType for &[u8] {
+    ghost native_tree = { binary NonNullable };
+
+    fn dtype(_alloc: Global) -> VortexResult<DType>
+        ensures meaning { IfOk result (λ d. tree d ≡ binary NonNullable) }
+        ensures valid { IfOk result (λ d. Valid (tree d)) }
+        ensures refused { IsOkUnless result OutOfMemory }
+    {
+        Ok(DType::Binary(Nullability::NonNullable))
+    }
+}
+
+/// The type of `T`, made nullable.
+impl<T: NativeDType> NativeDType for Option<T> {
+    ghost native_tree = { nullable_form T.native_tree };
+
+    fn dtype(alloc: Global) -> VortexResult<DType> {
+        T::dtype(alloc)?.as_nullable(alloc)
+    }
+}
+
+/// The non-nullable lists of values of `T`.
+impl<T: NativeDType> NativeDType for Vec<T> {
+    ghost native_tree = { list T.native_tree NonNullable };
+
+    fn dtype(alloc: Global) -> VortexResult<DType> {
+        let element = T::dtype(alloc)?;
+        Ok(DType::List(Box::new(alloc, element)?, Nullability::NonNullable))
+    }
+}

@@ -21,3 +21,4 @@ pub mod Hashes
 pub mod HashesOf
 pub mod Maps
 pub mod HashLaws
+pub mod Laws

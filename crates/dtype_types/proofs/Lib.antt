@@ -10,6 +10,7 @@ pub mod Texts
 pub mod Zips
 pub mod Outcomes
 pub mod DistinctItems
+pub mod Feeding
 pub mod UnionLaws
 pub mod VariantLookups
 pub mod Widths

@@ -4,14 +4,17 @@ use Rattle.std.specs.Prelude.{◌≡◌, suc, ◌++◌, drop, true, refl}
 use Rattle.std.proofs.Common.{ap, sym, ◌∙◌}
 use Rattle.std.specs.Hash as fed
 use Rattle.dtype_types.specs.Tree.{Tree, Fields, no_fields, field, Variants, no_variants, choice, null, bool, primitive, decimal, utf8, binary, list, fixed_size_list, map_of, struct, union, variant, extension, fields}
-use Rattle.dtype_types.specs.TreeOf.{tree, children, extension_tree}
+use Rattle.dtype_types.specs.TreeOf.{tree, children, union_tree, map_shown, extension_tree}
 use Rattle.dtype_types.specs.Erase.{erase, erase_fields, erase_variants}
 use Rattle.dtype_types.specs.EqualityLaws.{agree-Decides, same_fields-Decides, same_dtype, same_struct, same_extension}
+use Rattle.dtype_types.specs.PartsEquality.{agree_variants-Decides, agree_maps-Decides, same_union, same_map}
 use Rattle.dtype_types.specs.Hashes.{hash_of, nullability_writes, field_count, field_writes, variant_count, variant_writes}
-use Rattle.dtype_types.specs.HashesOf.{struct_writes, extension_writes}
+use Rattle.dtype_types.specs.HashesOf.{struct_writes, union_writes, map_writes, extension_writes}
 use Rattle.dtype_types.specs.declared.equality.Nullabilities.TheVariants.{Compared, Ignored}
 use Rattle.dtype_types.specs.declared.dtype.DType.{DType}
 use Rattle.dtype_types.specs.declared.struct_fields.StructFields.{StructFields}
+use Rattle.dtype_types.specs.declared.union_variants.UnionVariants.{UnionVariants}
+use Rattle.dtype_types.specs.declared.map.MapDType.{MapDType}
 use Rattle.dtype_types.specs.declared.extension.ExtDTypeRef.{ExtDTypeRef}
 
 pub dtype_fed : (x y : DType) → same_dtype x y ≡ true → hash_of Compared (tree x) ≡ hash_of Compared (tree y)
@@ -19,6 +22,12 @@ dtype_fed x y e = ap (hash_of Compared) ((agree-Decides (tree x) (tree y)).0 e)
 
 pub struct_fed : (x y : StructFields) → same_struct x y ≡ true → struct_writes Compared x ≡ struct_writes Compared y
 struct_fed x y e = ap (λ ps. fed.usize (field_count (fields ps)) ++ field_writes Compared (fields ps)) ((same_fields-Decides (children x) (children y)).0 e)
+
+pub union_fed : (x y : UnionVariants) → same_union x y ≡ true → union_writes Compared x ≡ union_writes Compared y
+union_fed x y e = ap (λ vs. fed.usize (variant_count vs) ++ variant_writes Compared vs) ((agree_variants-Decides (union_tree x) (union_tree y)).0 e)
+
+pub map_fed : (x y : MapDType) → same_map x y ≡ true → map_writes Compared x ≡ map_writes Compared y
+map_fed x y e = ap (λ m. hash_of Compared m.0 ++ (hash_of Compared m.1 ++ fed.bool m.2)) ((agree_maps-Decides (map_shown x) (map_shown y)).0 e)
 
 -- an extension's writes are those of its tree behind the number of the kind
 pub extension_fed : (x y : ExtDTypeRef) → same_extension x y ≡ true → extension_writes Compared x ≡ extension_writes Compared y

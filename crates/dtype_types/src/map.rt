@@ -155,6 +155,20 @@ impl Eq for MapDType {
     ghost laws = { same_map_equiv };
 }
 
+impl Hash for MapDType {
+    ghost use Rattle.dtype_types.specs.HashLaws.{map_fed};
+    ghost use Rattle.dtype_types.specs.HashesOf.{map_writes};
+    ghost use Rattle.dtype_types.specs.declared.equality.Nullabilities.TheVariants.{Compared};
+
+    ghost hash_input = { map_writes Compared };
+
+    ghost respects_eq = { map_fed };
+
+    fn hash<H: Hasher>(&self, state: &mut H) {
+        self.feed(Nullabilities::Compared, state);
+    }
+}
+
 /// `map(`, the key, the value, and whether the keys are sorted.
 impl fmt::Display for MapDType {
     ghost use Rattle.dtype_types.specs.TextOf.{map_text};

@@ -339,6 +339,20 @@ impl Eq for UnionVariants {
     ghost laws = { same_union_equiv };
 }
 
+impl Hash for UnionVariants {
+    ghost use Rattle.dtype_types.specs.HashLaws.{union_fed};
+    ghost use Rattle.dtype_types.specs.HashesOf.{union_writes};
+    ghost use Rattle.dtype_types.specs.declared.equality.Nullabilities.TheVariants.{Compared};
+
+    ghost hash_input = { union_writes Compared };
+
+    ghost respects_eq = { union_fed };
+
+    fn hash<H: Hasher>(&self, state: &mut H) {
+        self.feed(Nullabilities::Compared, state);
+    }
+}
+
 /// The variants, each a name, `=` and a type, with `@` and the tag between where the tags aren't 0, 1,
 /// 2 and so on.
 impl fmt::Display for UnionVariants {

@@ -17,5 +17,4 @@ pub mod Widths
 pub mod NameIndexes
 pub mod Projections
 pub mod ComparisonLaws
-pub mod Feeding
 pub mod IndentedTexts

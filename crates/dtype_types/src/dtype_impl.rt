@@ -1,14 +1,15 @@
 // Constructors of types that hold others.
-ghost use Rattle.std.specs.Prelude.{◌≡◌, All, IfOk, IfErr, IsOkUnless};
+ghost use Rattle.std.specs.Prelude.{◌≡◌, ◌↔◌, ◌⊎◌, All, Err, IfOk, IfErr, OnOk, IsOkUnless};
 ghost use Rattle.std.specs.Iterator.{IsFinite};
 ghost use Rattle.std.specs.Iterator.Runs.{WholeRun};
-ghost use Rattle.dtype_base.specs.declared.vortex_error.VortexError.TheVariants.{OutOfMemory};
+ghost use Rattle.dtype_base.specs.declared.vortex_error.VortexError.TheVariants.{OutOfMemory, MapKeyNullable};
 ghost use Rattle.dtype_types.specs.FieldTypes.{field_tree, given_fields};
-ghost use Rattle.dtype_types.specs.Tree.{fields, list, struct};
+ghost use Rattle.dtype_types.specs.Nullable.{nullability, IsNullable};
+ghost use Rattle.dtype_types.specs.Tree.{list, map_of, struct};
 ghost use Rattle.dtype_types.specs.TreeOf.{tree};
 ghost use Rattle.dtype_types.specs.Valid.{Valid};
 
-use crate::{DType, FieldDType, StructFields};
+use crate::{DType, FieldDType, MapDType, StructFields};
 use dtype_base::{FieldName, Nullability, VortexResult};
 use std::alloc::Global;
 
@@ -20,6 +21,25 @@ impl DType {
         ensures refused { IsOkUnless result OutOfMemory }
     {
         Ok(DType::List(Box::new(alloc, element)?, n))
+    }
+
+    /// Maps of this key and value; whether the keys are sorted is kept and not checked. Refuses 9
+    /// (MapKeyNullable) where the key's type is nullable, else 0 (OutOfMemory) alone.
+    pub fn map(
+        alloc: Global,
+        key: DType,
+        value: DType,
+        keys_sorted: bool,
+        n: Nullability,
+    ) -> VortexResult<DType>
+        ensures made { IfOk result (λ d. tree d ≡ map_of (tree key) (tree value) keys_sorted n) }
+        ensures valid { Valid (tree key) → Valid (tree value) → IfOk result (λ d. Valid (tree d)) }
+        ensures accepted { OnOk result (nullability (tree key) ≡ Nullability.NonNullable) }
+        ensures nullable { (result ≡ Err MapKeyNullable) ↔ IsNullable (tree key) }
+        ensures refused { IfErr result (λ e. (e ≡ OutOfMemory) ⊎ (e ≡ MapKeyNullable)) }
+    {
+        let map = MapDType::try_new(alloc, key, value, keys_sorted)?;
+        Ok(DType::Map(map, n))
     }
 
     /// The struct of the fields that an iterator gives, in order. Refuses 0 (OutOfMemory) alone.

@@ -16,7 +16,7 @@ fn extension(alloc: Global, byte: u8, storage: DType) -> VortexResult<DType> {
 
 // One type of most kinds, all of this nullability.
 fn kinds(alloc: Global, n: Nullability) -> VortexResult<Vec<DType>> {
-    let map = MapDType::try_new(alloc, DType::Utf8(NonNullable), DType::Null, true)?;
+    let map = DType::map(alloc, DType::Utf8(NonNullable), DType::Null, true, n)?;
     let element = Box::new(alloc, primitive(PType::F16, n))?;
     let mut all = vec![in alloc;
         DType::Bool(n),
@@ -28,7 +28,7 @@ fn kinds(alloc: Global, n: Nullability) -> VortexResult<Vec<DType>> {
     all.push(DType::Decimal(DecimalDType::try_new(10, -5)?, n))?;
     all.push(DType::list(alloc, DType::Null, n)?)?;
     all.push(DType::FixedSizeList(element, 0, n))?;
-    all.push(DType::Map(map, n))?;
+    all.push(map)?;
     all.push(DType::Struct(booleans(alloc, &["a"])?, n))?;
     all.push(extension(alloc, b'a', DType::Utf8(n))?)?;
     Ok(all)

@@ -9,6 +9,9 @@ use crate::equality::Nullabilities;
 use dtype_base::{Nullability, PType};
 use std::hash::{Hash, Hasher};
 
+#[cfg(test)]
+mod tests;
+
 impl Nullabilities {
     // Feeds a hasher the nullability where nullabilities count.
     fn feed<H: Hasher>(self, nullability: Nullability, state: &mut H)

@@ -80,7 +80,8 @@ impl MapDType {
     /// The type of the entries: the non-nullable struct of `key` and `value`. Refuses 0 (OutOfMemory)
     /// alone.
     pub fn entries_dtype(&self, alloc: Global) -> VortexResult<DType>
-        ensures entries { IfOk result (λ d. tree d ≡ entries_of (key_tree self.now) (value_tree self.now)) }
+        ensures entries { IfOk result
+            (λ d. tree d ≡ entries_of (key_tree self.now) (value_tree self.now)) }
         ensures valid { ValidMap self.now → IfOk result (λ d. Valid (tree d)) }
         ensures refused { IsOkUnless result OutOfMemory }
     {

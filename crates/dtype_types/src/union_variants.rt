@@ -41,7 +41,8 @@ fn validate_shape(
 ) -> VortexResult<()>
     ensures ok { OnOk result (MakesUnion names.now types type_ids.now) }
     ensures bytes { OnOk result (All (λ t. t < 256) type_ids.now) }
-    ensures refused { IfErr result (λ e. (e ≡ OutOfMemory) ⊎ UnionRefusal names.now types type_ids.now e) }
+    ensures refused { IfErr result (λ e. (e ≡ OutOfMemory)
+        ⊎ UnionRefusal names.now types type_ids.now e) }
     ensures memory { result ≡ Err OutOfMemory → HasUnionLengths names.now types type_ids.now }
 {
     if names.len() != types {
@@ -98,8 +99,10 @@ impl UnionVariants {
         ensures valid { All (λ d. Valid (tree d)) dtypes.items → IfOk result (λ u. ValidUnion u) }
 
         ensures accepted { OnOk result (MakesUnion names (vec_len dtypes) type_ids.items) }
-        ensures refused { IfErr result (λ e. (e ≡ OutOfMemory) ⊎ UnionRefusal names (vec_len dtypes) type_ids.items e) }
-        ensures memory { result ≡ Err OutOfMemory → HasUnionLengths names (vec_len dtypes) type_ids.items }
+        ensures refused { IfErr result (λ e. (e ≡ OutOfMemory)
+            ⊎ UnionRefusal names (vec_len dtypes) type_ids.items e) }
+        ensures memory { result ≡ Err OutOfMemory
+            → HasUnionLengths names (vec_len dtypes) type_ids.items }
     {
         validate_shape(alloc, &names, dtypes.len(), &type_ids)?;
         Ok(UnionVariants {
@@ -118,10 +121,11 @@ impl UnionVariants {
         ensures count { IfOk result (λ u. length (choices u) ≡ length names) }
         ensures valid { All (λ d. Valid (tree d)) dtypes.items → IfOk result (λ u. ValidUnion u) }
 
-        ensures accepted { OnOk result (MakesUnion names (vec_len dtypes) (range_with_len 0 (length names))) }
+        ensures accepted { OnOk result
+            (MakesUnion names (vec_len dtypes) (range_with_len 0 (length names))) }
         ensures too_many { (result ≡ Err UnionTooMany) ↔ (256 < length names) }
-        ensures refused { length names ≤ 256
-            → IfErr result (λ e. (e ≡ OutOfMemory) ⊎ UnionRefusal names (vec_len dtypes) (range_with_len 0 (length names)) e) }
+        ensures refused { length names ≤ 256 → IfErr result (λ e. (e ≡ OutOfMemory)
+            ⊎ UnionRefusal names (vec_len dtypes) (range_with_len 0 (length names)) e) }
     {
         if names.len() > MAX_VARIANTS {
             return Err(VortexError::UnionTooMany);
@@ -159,7 +163,7 @@ impl UnionVariants {
         self.count()
     }
 
-    /// Whether there are no variants, as in no union that a call makes.
+    /// Whether there are no variants. `try_new` and `new` make no such union.
     pub fn is_empty(&self) -> bool
         ensures { IsTrue result ↔ (choices self.now ≡ []) }
     {
@@ -186,7 +190,7 @@ impl UnionVariants {
         ensures named { option_tree result ≡ variant_named (choices self.now) name.now }
         ensures valid { ValidUnion self.now → IfSome result (λ d. Valid (tree d.now)) }
     {
-        match self.names.find(name) {
+        match self.find(name) {
             Some(i) => self.variant_by_index(i),
             None => None,
         }
@@ -261,7 +265,8 @@ impl UnionVariants {
 
     /// Whether the variants are equal with every nullability in them ignored. Names and tags count.
     pub fn eq_ignore_nullability(&self, other: &UnionVariants) -> bool
-        ensures { IsTrue result ↔ (erase_variants (union_tree self.now) ≡ erase_variants (union_tree other.now)) }
+        ensures { IsTrue result
+            ↔ (erase_variants (union_tree self.now) ≡ erase_variants (union_tree other.now)) }
     {
         self.agree(other, Nullabilities::Ignored)
     }

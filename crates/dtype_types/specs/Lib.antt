@@ -22,3 +22,4 @@ pub mod Hashes
 pub mod HashesOf
 pub mod Maps
 pub mod HashLaws
+pub mod Laws

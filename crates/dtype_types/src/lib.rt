@@ -22,6 +22,7 @@ mod fields_builder;
 mod hashing;
 mod indented;
 mod kind;
+pub mod laws;
 mod map;
 mod name_index;
 mod nullable;

@@ -18,3 +18,5 @@ pub mod NameIndexes
 pub mod Projections
 pub mod ComparisonLaws
 pub mod IndentedTexts
+pub mod SettingLaws
+pub mod TagLaws

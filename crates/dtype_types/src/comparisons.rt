@@ -4,6 +4,7 @@ ghost use Rattle.dtype_types.specs.Comparisons.{Subset, Superset};
 ghost use Rattle.dtype_types.specs.TreeOf.{tree};
 
 use crate::DType;
+use dtype_base::Nullability;
 
 impl DType {
     /// Whether the types are equal where this one is nullable, and else whether they are equal with
@@ -11,10 +12,9 @@ impl DType {
     pub fn eq_with_nullability_subset(&self, other: &DType) -> bool
         ensures { IsTrue result ↔ Subset (tree self.now) (tree other.now) }
     {
-        if self.is_nullable() {
-            self == other
-        } else {
-            self.eq_ignore_nullability(other)
+        match self.nullability() {
+            Nullability::Nullable => self == other,
+            Nullability::NonNullable => self.eq_ignore_nullability(other),
         }
     }
 
@@ -23,10 +23,9 @@ impl DType {
     pub fn eq_with_nullability_superset(&self, other: &DType) -> bool
         ensures { IsTrue result ↔ Superset (tree self.now) (tree other.now) }
     {
-        if self.is_nullable() {
-            self.eq_ignore_nullability(other)
-        } else {
-            self == other
+        match self.nullability() {
+            Nullability::Nullable => self.eq_ignore_nullability(other),
+            Nullability::NonNullable => self == other,
         }
     }
 }

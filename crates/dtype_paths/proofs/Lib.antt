@@ -1,4 +1,3 @@
-pub mod Along
 pub mod JoinedTexts
 pub mod PathLaws
 pub mod Steps

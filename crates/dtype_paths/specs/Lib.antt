@@ -1,3 +1,4 @@
+pub mod Along
 pub mod At
 pub mod Beginning
 pub mod Equality

@@ -25,7 +25,7 @@ other_name m n x y ne = go (bytes_eq m n) refl
     go true e = absurd (ne ((bytes_eq-Decides m n).0 e))
     go false e = refl
 
-some_is : {X : Type 0} (a b : X) → Some a ≡ Some b → a ≡ b
+pub some_is : {X : Type 0} (a b : X) → Some a ≡ Some b → a ≡ b
 some_is a b e = cc
 
 pub first_named-at : (ns : List (List ℕ)) (ts : List Tree) (n : List ℕ) (i : ℕ) → slice_get ns i ≡ Some n → ((k : ℕ) → k < i → slice_get ns k ≢ Some n) → first_named (zip ns ts) n ≡ slice_get ts i

@@ -10,5 +10,11 @@ pub mod Texts
 pub mod Zips
 pub mod Outcomes
 pub mod DistinctItems
+pub mod Feeding
+pub mod UnionLaws
+pub mod VariantLookups
+pub mod Widths
 pub mod NameIndexes
 pub mod Projections
+pub mod ComparisonLaws
+pub mod IndentedTexts

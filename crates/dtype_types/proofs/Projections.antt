@@ -5,7 +5,7 @@ use Rattle.std.proofs.lemmas.Option.{slice_get_read, slice_get_within}
 use Rattle.dtype_base.specs.FieldNames.{FirstAt, IsAbsent}
 use Rattle.dtype_types.proofs.FieldLookups.{same_name, other_name}
 use Rattle.dtype_types.proofs.ValidLaws.{valid_first}
-use Rattle.dtype_types.specs.Lookups.{first_named, field_names, Projects, IsFirstUnknown}
+use Rattle.dtype_types.specs.Lookups.{first_named, field_names, field_types, Projects, IsFirstUnknown}
 use Rattle.dtype_types.specs.Tree.{Tree, fields}
 use Rattle.dtype_types.specs.Valid.{ValidFields}
 
@@ -33,6 +33,13 @@ length-field_names (p ∷ ps) = ap suc (length-field_names ps)
 
 pub found_within : (ps : List (List ℕ × Tree)) (n : List ℕ) (i : ℕ) → FirstAt (field_names ps) n i → i < length ps
 found_within ps n i f = omega (arith, slice_get_within (field_names ps) i n f.here, length-field_names ps)
+
+-- and its type is the type at that position
+pub type_at : (ps : List (List ℕ × Tree)) (n : List ℕ) (i : ℕ) → FirstAt (field_names ps) n i → first_named ps n ≡ slice_get (field_types ps) i
+type_at [] n zero f = cc (f.here)
+type_at [] n (suc i) f = cc (f.here)
+type_at (q ∷ ps) n zero f = same_name q.0 n _ _ (some_is q.0 n f.here)
+type_at (q ∷ ps) n (suc i) f = other_name q.0 n _ _ (λ s. f.first 0 (omega arith) (ap Some s)) ∙ type_at ps n i (record { here = f.here; first = λ k l. f.first (suc k) (omega (arith, l)) })
 
 -- one name more
 map_push : {X Y : Type 0} (f : X → Y) (xs : List X) (x : X) → map f (xs ++ x ∷ []) ≡ map f xs ++ f x ∷ []

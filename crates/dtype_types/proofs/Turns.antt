@@ -24,7 +24,7 @@ and_second x y e = ap (λ b. x && b) e ∙ and-false x
 pub and_both : (x y : Bool) → x ≡ true → (x && y) ≡ y
 and_both x y e = ap (λ b. b && y) e
 
-drop_zip : (ns : List (List ℕ)) (ds : List DType) (i : ℕ) (n : List ℕ) (d : DType) → i < length ns → i < length ds → n ≡ get_or ns i n → d ≡ get_or ds i d
+pub drop_zip : (ns : List (List ℕ)) (ds : List DType) (i : ℕ) (n : List ℕ) (d : DType) → i < length ns → i < length ds → n ≡ get_or ns i n → d ≡ get_or ds i d
     → drop i (zip ns (map tree ds)) ≡ (n, tree d) ∷ drop (suc i) (zip ns (map tree ds))
 drop_zip [] ds i n d l k en ed = absurd (omega arith)
 drop_zip (x ∷ ns) [] i n d l k en ed = absurd (omega arith)
@@ -51,7 +51,7 @@ count_variants (n ∷ ns) [] gs = omega arith
 count_variants (n ∷ ns) (d ∷ ds) [] = omega arith
 count_variants (n ∷ ns) (d ∷ ds) (g ∷ gs) = omega (arith, count_variants ns ds gs)
 
-drop_choices : (ns : List (List ℕ)) (ds : List DType) (gs : List ℕ) (i : ℕ) (n : List ℕ) (d : DType) (g : ℕ) → i < length ns → i < length ds → i < length gs → n ≡ get_or ns i n → d ≡ get_or ds i d → g ≡ get_or gs i g
+pub drop_choices : (ns : List (List ℕ)) (ds : List DType) (gs : List ℕ) (i : ℕ) (n : List ℕ) (d : DType) (g : ℕ) → i < length ns → i < length ds → i < length gs → n ≡ get_or ns i n → d ≡ get_or ds i d → g ≡ get_or gs i g
     → drop i (zip_tagged ns (map tree ds) gs) ≡ (n, tree d, g) ∷ drop (suc i) (zip_tagged ns (map tree ds) gs)
 drop_choices [] ds gs i n d g l k j en ed eg = absurd (omega arith)
 drop_choices (x ∷ ns) [] gs i n d g l k j en ed eg = absurd (omega arith)

@@ -3,7 +3,7 @@ use Rattle.std.specs.Prelude.{◌≡◌, ◌≢◌, ℕ, List, [], ◌∷◌, Op
 use Rattle.std.proofs.Common.{sym, ap, ◌∙◌, subst, cond, take, drop}
 use Rattle.std.specs.List.{zip}
 use Rattle.std.specs.Str.{bytes_eq}
-use Rattle.std.proofs.lemmas.List.Elements.{recursion_from_All}
+use Rattle.std.proofs.lemmas.List.Elements.{recursion_from_All, All-from_recursion}
 use Rattle.std.specs.List.{AllByRecursion}
 use Rattle.dtype_base.specs.declared.nullability.Nullability.{Nullability}
 use Rattle.dtype_base.specs.declared.nullability.Nullability.TheVariants.{NonNullable, Nullable}
@@ -99,3 +99,20 @@ valid_of_pairs n f xs h = go xs (recursion_from_All (λ x. Valid (f x)) xs h)
     go : (ys : _) → AllByRecursion (λ x. Valid (f x)) ys → ValidFields (fields (map (λ x. (n x, f x)) ys))
     go [] g = tt
     go (y ∷ ys) g = (g.0, go ys g.1)
+
+-- the types of valid fields are valid
+pub valid_types : (ps : List (List ℕ × Tree)) → ValidFields (fields ps) → AllByRecursion Valid (map (λ (p : List ℕ × Tree). p.1) ps)
+valid_types [] h = tt
+valid_types (p ∷ ps) h = (h.0, valid_types ps h.1)
+
+all_of_trees : (ds : List DType) (ts : List Tree) → map tree ds ≡ ts → AllByRecursion Valid ts → AllByRecursion (λ d. Valid (tree d)) ds
+all_of_trees [] ts e h = tt
+all_of_trees (d ∷ ds) [] e h = cc
+all_of_trees (d ∷ ds) (t ∷ ts) e h =
+    let head : t ≡ tree d = cc in
+    let tail : map tree ds ≡ ts = cc in
+    (subst Valid head h.0, all_of_trees ds ts tail h.1)
+
+-- types whose trees are those of valid fields are valid
+pub valid_dtypes : (ds : List DType) (ps : List (List ℕ × Tree)) → map tree ds ≡ map (λ (p : List ℕ × Tree). p.1) ps → ValidFields (fields ps) → All (λ d. Valid (tree d)) ds
+valid_dtypes ds ps e h = All-from_recursion (λ d. Valid (tree d)) ds (all_of_trees ds _ e (valid_types ps h))

@@ -69,3 +69,14 @@ pub firsts_take : (ns : List (List ℕ)) (ts : List Tree) → map (λ (p : List 
 firsts_take [] ts = refl
 firsts_take (n ∷ ns) [] = refl
 firsts_take (n ∷ ns) (t ∷ ts) = ap (λ ms. n ∷ ms) (firsts_take ns ts)
+
+-- the types of the pairs are those that have a name
+pub seconds_take : (ns : List (List ℕ)) (ds : List DType) → map (λ (p : List ℕ × Tree). p.1) (zip ns (map tree ds)) ≡ map tree (take (length (zip ns (map tree ds))) ds)
+seconds_take [] ds = refl
+seconds_take (n ∷ ns) [] = refl
+seconds_take (n ∷ ns) (d ∷ ds) = ap (λ ts. tree d ∷ ts) (seconds_take ns ds)
+
+-- pairs of what two functions make of the same things
+pub zip_maps : {X : Type 0} (n : X → List ℕ) (f : X → Tree) (xs : List X) → zip (map n xs) (map f xs) ≡ map (λ x. (n x, f x)) xs
+zip_maps n f [] = refl
+zip_maps n f (x ∷ xs) = ap (λ ps. (n x, f x) ∷ ps) (zip_maps n f xs)

@@ -1,6 +1,6 @@
 -- The test of equality is exact: trees agree exactly where they are equal, and with nullabilities ignored
 -- exactly where their erased trees are. Both are equivalences.
-use Rattle.std.specs.Prelude.{◌≡◌, ℕ, List, Bool, true, false, ◌&&◌, ◌==◌, refl}
+use Rattle.std.specs.Prelude.{◌≡◌, ℕ, List, [], ◌∷◌, Bool, true, false, ◌&&◌, ◌==◌, refl}
 use Rattle.std.specs.Bool.{Decides}
 use Rattle.std.specs.Ordering.{int_eq}
 use Rattle.std.proofs.Common.{ap, sym, ◌∙◌, subst}
@@ -18,10 +18,12 @@ use Rattle.dtype_base.specs.declared.ptype.PType.TheVariants.{U8, U16, U32, U64,
 use Rattle.dtype_types.specs.declared.equality.Nullabilities.{Nullabilities}
 use Rattle.dtype_types.specs.declared.equality.Nullabilities.TheVariants.{Compared, Ignored}
 use Rattle.dtype_types.specs.declared.dtype.DType.{DType}
-use Rattle.dtype_types.specs.Tree.{Tree, Fields, no_fields, field, Variants, no_variants, choice, null, bool, primitive, decimal, utf8, binary, list, fixed_size_list, map_of, struct, union, variant, extension}
+use Rattle.dtype_types.specs.Tree.{Tree, Fields, fields, pairs, no_fields, field, Variants, no_variants, choice, null, bool, primitive, decimal, utf8, binary, list, fixed_size_list, map_of, struct, union, variant, extension}
 use Rattle.dtype_types.specs.Erase.{erase, erase_fields, erase_variants}
 use Rattle.dtype_types.specs.Equality.{agree, agree_fields, agree_variants, allows, same_ptype}
-use Rattle.dtype_types.specs.TreeOf.{tree}
+use Rattle.dtype_types.specs.TreeOf.{tree, struct_tree, extension_tree}
+use Rattle.dtype_types.specs.declared.struct_fields.StructFields.{StructFields}
+use Rattle.dtype_types.specs.declared.extension.ExtDTypeRef.{ExtDTypeRef}
 
 pub allows-same : (m n : Nullability) → allows Compared m n ≡ true → m ≡ n
 allows-same NonNullable NonNullable e = refl
@@ -56,11 +58,11 @@ same_decimal d e p s =
     let second : record { precision = e.precision; scale = d.scale } ≡ e = ap (λ x. record { precision = e.precision; scale = x }) s in
     first ∙ second
 
-both : {x y : Bool} → (x && y) ≡ true → (x ≡ true) × (y ≡ true)
+pub both : {x y : Bool} → (x && y) ≡ true → (x ≡ true) × (y ≡ true)
 both {x = true} e = (refl, e)
 both {x = false} e = absurd (false≢true e)
 
-join : {x y : Bool} → x ≡ true → y ≡ true → (x && y) ≡ true
+pub join : {x y : Bool} → x ≡ true → y ≡ true → (x && y) ≡ true
 join {y = y} p q = ap (λ b. b && y) p ∙ q
 
 mutual
@@ -97,7 +99,7 @@ mutual
       ap (λ r. field r t fs) ((bytes_eq-Decides m n).0 g.0) ∙ ap (λ r. field n r fs) (agree-same t u g.1) ∙ ap (field n u) (agree_fields-same fs gs h.1)
   agree_fields-same _ _ e = absurd (false≢true e)
 
-  agree_variants-same : (a b : Variants) → agree_variants Compared a b ≡ true → a ≡ b
+  pub agree_variants-same : (a b : Variants) → agree_variants Compared a b ≡ true → a ≡ b
   agree_variants-same no_variants no_variants e = refl
   agree_variants-same (choice m t g fs) (choice n u h gs) e =
       let p = both e in let q = both p.0 in let r = both q.0 in
@@ -127,7 +129,7 @@ mutual
   agree_fields_refl s no_fields = refl
   agree_fields_refl s (field m t fs) = join (join (same_bytes m) (agree_refl s t)) (agree_fields_refl s fs)
 
-  agree_variants_refl : (s : Nullabilities) (a : Variants) → agree_variants s a a ≡ true
+  pub agree_variants_refl : (s : Nullabilities) (a : Variants) → agree_variants s a a ≡ true
   agree_variants_refl s no_variants = refl
   agree_variants_refl s (choice m t g fs) = join (join (join (same_bytes m) (agree_refl s t)) ((Decides-eqb g g).1 refl)) (agree_variants_refl s fs)
 
@@ -157,7 +159,7 @@ mutual
   agree_fields-erase (field m t fs) (field n u gs) = ap (λ x. bytes_eq m n && x && agree_fields Ignored fs gs) (agree-erase t u) ∙ ap (λ x. bytes_eq m n && agree Compared (erase t) (erase u) && x) (agree_fields-erase fs gs)
   agree_fields-erase _ _ = refl
 
-  agree_variants-erase : (a b : Variants) → agree_variants Ignored a b ≡ agree_variants Compared (erase_variants a) (erase_variants b)
+  pub agree_variants-erase : (a b : Variants) → agree_variants Ignored a b ≡ agree_variants Compared (erase_variants a) (erase_variants b)
   agree_variants-erase no_variants no_variants = refl
   agree_variants-erase (choice m t g fs) (choice n u h gs) =
       ap (λ x. bytes_eq m n && x && (g == h) && agree_variants Ignored fs gs) (agree-erase t u) ∙ ap (λ x. bytes_eq m n && agree Compared (erase t) (erase u) && (g == h) && x) (agree_variants-erase fs gs)
@@ -171,7 +173,7 @@ agree_erased-Decides a b =
 -- ---- `==` of types and the equality that ignores nullabilities, as equivalences
 
 -- a test that decides whether two values have one view is an equivalence
-equiv_of_view : {A B : Type 0} (r : A → A → Bool) (view : A → B) → ((a b : A) → Decides (r a b) (view a ≡ view b)) → IsEquivalence r
+pub equiv_of_view : {A B : Type 0} (r : A → A → Bool) (view : A → B) → ((a b : A) → Decides (r a b) (view a ≡ view b)) → IsEquivalence r
 equiv_of_view r view d = record {
   refl = λ x. (d x x).1 refl;
   symm = λ x y. same_from_decides (r x y) (r y x) (d x y) (λ e. sym ((d y x).0 e), λ e. (d y x).1 (sym e));
@@ -183,3 +185,36 @@ same_dtype a b = agree Compared (tree a) (tree b)
 
 pub same_dtype_equiv : IsEquivalence same_dtype
 same_dtype_equiv = on_equiv tree (equiv_of_view (agree Compared) (λ t. t) agree-Decides)
+
+-- ---- `==` of the parts of types
+
+agree_fields-Decides : (a b : Fields) → Decides (agree_fields Compared a b) (a ≡ b)
+agree_fields-Decides a b = (agree_fields-same a b, λ e. subst (λ x. agree_fields Compared a x ≡ true) e (agree_fields_refl Compared a))
+
+pairs_of : (ps : List (List ℕ × Tree)) → pairs (fields ps) ≡ ps
+pairs_of [] = refl
+pairs_of (p ∷ ps) = ap (λ qs. p ∷ qs) (pairs_of ps)
+
+-- equal as fields of a tree is equal as lists of pairs
+pub same_fields-Decides : (ps qs : List (List ℕ × Tree)) → Decides (agree_fields Compared (fields ps) (fields qs)) (ps ≡ qs)
+same_fields-Decides ps qs =
+    let d = agree_fields-Decides (fields ps) (fields qs) in
+    (λ e. sym (pairs_of ps) ∙ ap pairs (d.0 e) ∙ pairs_of qs, λ e. d.1 (ap fields e))
+
+pub agree_fields_erased-Decides : (a b : Fields) → Decides (agree_fields Ignored a b) (erase_fields a ≡ erase_fields b)
+agree_fields_erased-Decides a b =
+    let d = agree_fields-Decides (erase_fields a) (erase_fields b) in
+    (λ e. d.0 (sym (agree_fields-erase a b) ∙ e), λ e. agree_fields-erase a b ∙ d.1 e)
+
+abbrev pub same_struct : StructFields → StructFields → Bool
+same_struct s t = agree_fields Compared (struct_tree s) (struct_tree t)
+
+pub same_struct_equiv : IsEquivalence same_struct
+same_struct_equiv = on_equiv struct_tree (equiv_of_view (agree_fields Compared) (λ fs. fs) agree_fields-Decides)
+
+-- equal as extensions is equal as trees
+abbrev pub same_extension : ExtDTypeRef → ExtDTypeRef → Bool
+same_extension e f = agree Compared (extension_tree e) (extension_tree f)
+
+pub same_extension_equiv : IsEquivalence same_extension
+same_extension_equiv = on_equiv extension_tree (equiv_of_view (agree Compared) (λ t. t) agree-Decides)

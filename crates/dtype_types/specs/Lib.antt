@@ -12,4 +12,14 @@ pub mod EqualityLaws
 pub mod FieldTypes
 pub mod Building
 pub mod Distinct
+pub mod Unions
+pub mod PartsEquality
+pub mod Width
 pub mod NameIndex
+pub mod IndentedText
+pub mod Comparisons
+pub mod Hashes
+pub mod HashesOf
+pub mod Maps
+pub mod HashLaws
+pub mod Laws

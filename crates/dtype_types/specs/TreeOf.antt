@@ -91,6 +91,10 @@ variant_tags u = u.type_ids.items
 abbrev pub choices : UnionVariants → List (List ℕ × Tree × ℕ)
 choices u = zip_tagged (variant_names u) (variant_types u) (variant_tags u)
 
+-- the types of the variants, in order
+abbrev pub choice_types : UnionVariants → List Tree
+choice_types u = map (λ c. c.1) (choices u)
+
 -- a map's key, its value, and whether the keys are sorted
 abbrev pub key_tree : MapDType → Tree
 key_tree m = tree m.key.value

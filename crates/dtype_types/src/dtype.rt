@@ -80,3 +80,6 @@ impl fmt::Display for DType {
         }
     }
 }
+
+#[cfg(test)]
+mod tests;

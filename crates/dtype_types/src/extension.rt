@@ -1,4 +1,4 @@
-ghost use Rattle.std.specs.Prelude.{◌≡◌, ◌↔◌, ℕ, IsTrue, IfOk, IsOkUnless, List, Some, nat_eq};
+ghost use Rattle.std.specs.Prelude.{◌≡◌, ◌↔◌, ℕ, IsTrue, IfOk, IsOkUnless, All, ◌<◌, List, Some, nat_eq, fold};
 ghost use Rattle.std.specs.Prelude.{◌&&◌};
 ghost use Rattle.std.specs.Str.{bytes_eq};
 ghost use Rattle.std.specs.Rc.{rc_str_bytes};
@@ -7,9 +7,12 @@ ghost use Rattle.dtype_base.specs.declared.vortex_error.VortexError.TheVariants.
 use crate::DType;
 use crate::copies::boxed_copy;
 use crate::equality::{Nullabilities, agree};
+use crate::hashing::feed;
+use crate::width::Width;
 use dtype_base::{Nullability, VortexResult};
 use std::alloc::Global;
 use std::fmt;
+use std::hash::{Hash, Hasher};
 use std::marker::Model;
 use std::rc::RcStr;
 
@@ -73,6 +76,20 @@ impl Eq for ExtId {
     ghost laws = { nat_list_eq_equiv };
 }
 
+impl Hash for ExtId {
+    ghost use Rattle.std.specs.Hash as fed;
+    ghost use Rattle.std.proofs.Common.{rules};
+    ghost use Rattle.std.specs.Cmp.Rules.{hashing};
+
+    ghost hash_input = { fed.str };
+
+    ghost respects_eq = { Prim.search (hashing, rules) };
+
+    fn hash<H: Hasher>(&self, state: &mut H) {
+        self.as_str().hash(state);
+    }
+}
+
 /// The text as it stands.
 impl fmt::Display for ExtId {
     ghost output = { λ id. Some id };
@@ -95,13 +112,69 @@ impl ExtDTypeRef {
     ghost use Rattle.dtype_types.specs.Kinds.{is_nested};
     ghost use Rattle.dtype_types.specs.Nullable.{nullability, IsNullable, CanBeNonNullable, SetNull};
     ghost use Rattle.dtype_types.specs.Equality.{agree};
+    ghost use Rattle.dtype_types.specs.Erase.{erase};
+    ghost use Rattle.dtype_types.specs.Valid.{Valid};
+    ghost use Rattle.dtype_types.specs.HashesOf.{extension_writes};
     ghost use Rattle.dtype_types.specs.TreeOf.{extension_tree, ValidExtension, extension_metadata, extension_id, storage_tree, tree};
+    ghost use Rattle.dtype_types.specs.Width.{Measures};
 
     /// The id.
     pub fn id(&self) -> &ExtId
         ensures { result.now ≡ extension_id self.now }
     {
         &self.id
+    }
+
+    /// The extension of this id, metadata and storage. Refuses 0 (OutOfMemory) alone.
+    pub fn from_parts(
+        alloc: Global,
+        id: ExtId,
+        metadata: Vec<u8>,
+        storage: DType,
+    ) -> VortexResult<Self>
+        ensures id { IfOk result (λ e. extension_id e ≡ id) }
+        ensures metadata { IfOk result (λ e. extension_metadata e ≡ metadata.items) }
+        ensures storage { IfOk result (λ e. storage_tree e ≡ tree storage) }
+        ensures valid { Valid (tree storage) → IfOk result ValidExtension }
+        ensures refused { IsOkUnless result OutOfMemory }
+    {
+        check_bytes(&metadata);
+        Ok(ExtDTypeRef {
+            id,
+            metadata,
+            storage: Box::new(alloc, storage)?,
+        })
+    }
+
+    /// The metadata, as bytes.
+    pub fn metadata_bytes(&self) -> &[u8]
+        ensures { result.now ≡ extension_metadata self.now }
+    {
+        &self.metadata
+    }
+
+    /// A copy of the metadata. Refuses 0 (OutOfMemory) alone.
+    pub fn serialize_metadata(&self, alloc: Global) -> VortexResult<Vec<u8>>
+        ensures ok { IfOk result (λ v. v.items ≡ extension_metadata self.now) }
+        ensures refused { IsOkUnless result OutOfMemory }
+    {
+        Ok(Vec::from_slice(alloc, &self.metadata)?)
+    }
+
+    /// What prints how many bytes of metadata there are.
+    pub fn display_metadata(&self) -> MetadataDisplay<'_>
+        ensures { result.bytes.now ≡ extension_metadata self.now }
+    {
+        MetadataDisplay {
+            bytes: &self.metadata,
+        }
+    }
+
+    /// Whether the extensions are equal with every nullability in their storages ignored.
+    pub fn eq_ignore_nullability(&self, other: &Self) -> bool
+        ensures { IsTrue result ↔ (erase (extension_tree self.now) ≡ erase (extension_tree other.now)) }
+    {
+        self.agree(other, Nullabilities::Ignored)
     }
 
     /// The outer nullability: the storage's.
@@ -138,6 +211,16 @@ impl ExtDTypeRef {
             && agree(&self.storage, &other.storage, rule)
     }
 
+    // Feeds a hasher the id, the metadata and the storage.
+    #[cycle(hash)]
+    pub(crate) fn feed<H: Hasher>(&self, rule: Nullabilities, state: &mut H)
+        ensures { state.new ≡ fold H.write state.old (extension_writes rule self.now) }
+    {
+        self.id.hash(state);
+        self.metadata.hash(state);
+        feed(&self.storage, rule, state);
+    }
+
     /// An extension type equal to this one. Refuses 0 (OutOfMemory) alone.
     #[cycle(copy)]
     pub fn try_clone(&self, alloc: Global) -> VortexResult<Self>
@@ -161,6 +244,14 @@ impl ExtDTypeRef {
         ensures { result ≡ is_nested (storage_tree self.now) }
     {
         self.storage.is_nested()
+    }
+
+    // The width of the storage.
+    #[cycle(width)]
+    pub(crate) fn width(&self) -> Width
+        ensures { Measures result (extension_tree self.now) }
+    {
+        self.storage.width()
     }
 
     // Whether the storage can be made non-nullable.
@@ -188,6 +279,69 @@ impl ExtDTypeRef {
             metadata,
             storage: Box::new(alloc, storage)?,
         })
+    }
+}
+
+/// By id, metadata and storage.
+impl PartialEq for ExtDTypeRef {
+    ghost use Rattle.dtype_types.specs.EqualityLaws.{same_extension, same_extension_equiv};
+    ghost use Rattle.dtype_types.specs.TreeOf.{extension_tree};
+    ghost use Rattle.std.specs.Cmp.{partial_equiv_from_equiv};
+
+    ghost eq = { same_extension };
+
+    ghost laws = { partial_equiv_from_equiv same_extension_equiv };
+
+    fn eq(&self, other: &ExtDTypeRef) -> bool
+        ensures same { result ≡ same_extension self.now other.now }
+        ensures exact { IsTrue result ↔ (extension_tree self.now ≡ extension_tree other.now) }
+    {
+        self.agree(other, Nullabilities::Compared)
+    }
+}
+
+impl Eq for ExtDTypeRef {
+    ghost use Rattle.dtype_types.specs.EqualityLaws.{same_extension_equiv};
+
+    ghost laws = { same_extension_equiv };
+}
+
+impl Hash for ExtDTypeRef {
+    ghost use Rattle.dtype_types.specs.HashLaws.{extension_fed};
+    ghost use Rattle.dtype_types.specs.HashesOf.{extension_writes};
+    ghost use Rattle.dtype_types.specs.declared.equality.Nullabilities.TheVariants.{Compared};
+
+    ghost hash_input = { extension_writes Compared };
+
+    ghost respects_eq = { extension_fed };
+
+    fn hash<H: Hasher>(&self, state: &mut H) {
+        self.feed(Nullabilities::Compared, state);
+    }
+}
+
+// Nothing at run time: a proof learns that the items are bytes.
+fn check_bytes(bytes: &[u8])
+    ensures { All (λ x. x < 256) bytes.now }
+{
+    let _ = bytes;
+}
+
+/// How many bytes of metadata an extension has, to be printed.
+#[derive(Debug, Drop)]
+pub struct MetadataDisplay<'a> {
+    bytes: &'a [u8],
+}
+
+/// The number of bytes and `B`.
+impl fmt::Display for MetadataDisplay<'_> {
+    ghost use Rattle.dtype_types.specs.Text.{metadata_text};
+
+    ghost output = { λ m. Some (metadata_text m.bytes.now) };
+
+    fn fmt<W: fmt::Write>(&self, f: &mut fmt::Formatter<W>) -> fmt::Result {
+        let count = self.bytes.len();
+        write!(f, "{count}B")
     }
 }
 

@@ -8,6 +8,7 @@ ghost use Rattle.dtype_types.specs.TreeOf.{tree};
 use crate::DType;
 use dtype_base::{PType, VortexResult};
 use std::alloc::Global;
+use std::hash::{Hash, Hasher};
 
 /// The type of a field, from which structs are made.
 #[derive(Debug, Drop)]
@@ -92,4 +93,18 @@ impl Eq for FieldDType {
     ghost use Rattle.dtype_types.specs.FieldTypes.{same_field_dtype_equiv};
 
     ghost laws = { same_field_dtype_equiv };
+}
+
+impl Hash for FieldDType {
+    ghost use Rattle.dtype_types.specs.HashLaws.{dtype_fed};
+    ghost use Rattle.dtype_types.specs.Hashes.{hash_of};
+    ghost use Rattle.dtype_types.specs.declared.equality.Nullabilities.TheVariants.{Compared};
+
+    ghost hash_input = { λ f. hash_of Compared (field_tree f) };
+
+    ghost respects_eq = { λ f g. dtype_fed f.dtype g.dtype };
+
+    fn hash<H: Hasher>(&self, state: &mut H) {
+        self.dtype.hash(state);
+    }
 }

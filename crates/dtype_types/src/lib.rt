@@ -9,26 +9,34 @@
 // `Text`. What is proved, and what is only tested, is in the README.
 #![tactic(auto)]
 
+mod comparisons;
 mod conversions;
 mod copies;
 mod dtype;
+mod dtype_impl;
 mod dtype_iter;
 mod equality;
 mod extension;
 mod field_dtype;
 mod fields_builder;
+mod hashing;
+mod indented;
 mod kind;
+pub mod laws;
 mod map;
 mod name_index;
 mod nullable;
 mod repeats;
+#[cfg(test)]
+mod samples;
 mod struct_fields;
 mod text;
 mod union_variants;
+mod width;
 
 pub use dtype::DType;
 pub use dtype_iter::DTypeIter;
-pub use extension::{ExtDTypeRef, ExtId};
+pub use extension::{ExtDTypeRef, ExtId, MetadataDisplay};
 pub use field_dtype::FieldDType;
 pub use map::MapDType;
 pub use struct_fields::StructFields;

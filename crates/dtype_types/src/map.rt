@@ -1,13 +1,19 @@
-ghost use Rattle.std.specs.Prelude.{◌≡◌, ◌&&◌, IfOk, IsOkUnless, Some};
-ghost use Rattle.dtype_base.specs.declared.vortex_error.VortexError.TheVariants.{OutOfMemory};
+ghost use Rattle.std.specs.Prelude.{◌≡◌, ◌&&◌, fold, IfOk, IsOkUnless, Some, ◌⊎◌, ◌↔◌, IsTrue, IfErr, OnOk, Err};
+ghost use Rattle.dtype_base.specs.declared.vortex_error.VortexError.TheVariants.{OutOfMemory, MapKeyNullable};
+ghost use Rattle.dtype_base.specs.declared.nullability.Nullability.TheVariants.{NonNullable};
 ghost use Rattle.std.proofs.Math.Bool.{beq};
 
-use crate::DType;
 use crate::copies::boxed_copy;
 use crate::equality::{Nullabilities, agree};
-use dtype_base::VortexResult;
+use crate::hashing::feed;
+use crate::{DType, StructFields};
+use dtype_base::{FieldNames, Nullability, VortexError, VortexResult};
 use std::alloc::Global;
 use std::fmt;
+use std::hash::{Hash, Hasher};
+
+#[cfg(test)]
+mod tests;
 
 /// The type of a map's entries: keys, values, and whether the keys are sorted.
 #[derive(Debug, Drop)]
@@ -20,7 +26,70 @@ pub struct MapDType {
 
 impl MapDType {
     ghost use Rattle.dtype_types.specs.Equality.{agree};
-    ghost use Rattle.dtype_types.specs.TreeOf.{key_tree, value_tree, are_keys_sorted, ValidMap};
+    ghost use Rattle.dtype_types.specs.HashesOf.{map_writes};
+    ghost use Rattle.dtype_types.specs.Maps.{entries_of};
+    ghost use Rattle.dtype_types.specs.Nullable.{nullability, IsNullable};
+    ghost use Rattle.dtype_types.specs.TreeOf.{tree, key_tree, value_tree, are_keys_sorted, ValidMap};
+    ghost use Rattle.dtype_types.specs.Valid.{Valid};
+
+    /// The type of a map with this key and value; whether its keys are sorted is kept and not checked.
+    /// Refuses 9 (MapKeyNullable) where the key's type is nullable, else 0 (OutOfMemory) alone.
+    pub fn try_new(alloc: Global, key: DType, value: DType, keys_sorted: bool) -> VortexResult<Self>
+        ensures key { IfOk result (λ m. key_tree m ≡ tree key) }
+        ensures value { IfOk result (λ m. value_tree m ≡ tree value) }
+        ensures sorted { IfOk result (λ m. are_keys_sorted m ≡ keys_sorted) }
+        ensures valid { Valid (tree key) → Valid (tree value) → IfOk result ValidMap }
+
+        ensures accepted { OnOk result (nullability (tree key) ≡ NonNullable) }
+        ensures nullable { (result ≡ Err MapKeyNullable) ↔ IsNullable (tree key) }
+        ensures refused { IfErr result (λ e. (e ≡ OutOfMemory) ⊎ (e ≡ MapKeyNullable)) }
+    {
+        if key.is_nullable() {
+            return Err(VortexError::MapKeyNullable);
+        }
+        Ok(MapDType {
+            key: Box::new(alloc, key)?,
+            value: Box::new(alloc, value)?,
+            keys_sorted,
+        })
+    }
+
+    /// The type of the keys.
+    pub fn key_dtype(&self) -> &DType
+        ensures key { tree result.now ≡ key_tree self.now }
+        ensures valid { ValidMap self.now → Valid (tree result.now) }
+    {
+        &self.key
+    }
+
+    /// The type of the values.
+    pub fn value_dtype(&self) -> &DType
+        ensures value { tree result.now ≡ value_tree self.now }
+        ensures valid { ValidMap self.now → Valid (tree result.now) }
+    {
+        &self.value
+    }
+
+    /// Whether the keys are sorted.
+    pub fn keys_sorted(&self) -> bool
+        ensures { result ≡ are_keys_sorted self.now }
+    {
+        self.keys_sorted
+    }
+
+    /// The type of the entries: the non-nullable struct of `key` and `value`. Refuses 0 (OutOfMemory)
+    /// alone.
+    pub fn entries_dtype(&self, alloc: Global) -> VortexResult<DType>
+        ensures entries { IfOk result (λ d. tree d ≡ entries_of (key_tree self.now) (value_tree self.now)) }
+        ensures valid { ValidMap self.now → IfOk result (λ d. Valid (tree d)) }
+        ensures refused { IsOkUnless result OutOfMemory }
+    {
+        let names = FieldNames::from_texts(alloc, &["key", "value"])?;
+        let key = self.key.try_clone(alloc)?;
+        let value = self.value.try_clone(alloc)?;
+        let fields = StructFields::new(alloc, names, vec![in alloc; key, value]?)?;
+        Ok(DType::Struct(fields, Nullability::NonNullable))
+    }
 
     // Whether the parts of the two agree.
     #[cycle(agree)]
@@ -32,6 +101,16 @@ impl MapDType {
         agree(&self.key, &other.key, rule)
             && agree(&self.value, &other.value, rule)
             && self.keys_sorted == other.keys_sorted
+    }
+
+    // Feeds a hasher the key, the value, and whether the keys are sorted.
+    #[cycle(hash)]
+    pub(crate) fn feed<H: Hasher>(&self, rule: Nullabilities, state: &mut H)
+        ensures { state.new ≡ fold H.write state.old (map_writes rule self.now) }
+    {
+        feed(&self.key, rule, state);
+        feed(&self.value, rule, state);
+        self.keys_sorted.hash(state);
     }
 
     /// A map type equal to this one. Refuses 0 (OutOfMemory) alone.
@@ -50,6 +129,43 @@ impl MapDType {
             value,
             keys_sorted: self.keys_sorted,
         })
+    }
+}
+
+impl PartialEq for MapDType {
+    ghost use Rattle.dtype_types.specs.PartsEquality.{same_map, same_map_equiv};
+    ghost use Rattle.dtype_types.specs.TreeOf.{map_shown};
+    ghost use Rattle.std.specs.Cmp.{partial_equiv_from_equiv};
+
+    ghost eq = { same_map };
+
+    ghost laws = { partial_equiv_from_equiv same_map_equiv };
+
+    fn eq(&self, other: &MapDType) -> bool
+        ensures same { result ≡ same_map self.now other.now }
+        ensures exact { IsTrue result ↔ (map_shown self.now ≡ map_shown other.now) }
+    {
+        self.agree(other, Nullabilities::Compared)
+    }
+}
+
+impl Eq for MapDType {
+    ghost use Rattle.dtype_types.specs.PartsEquality.{same_map_equiv};
+
+    ghost laws = { same_map_equiv };
+}
+
+impl Hash for MapDType {
+    ghost use Rattle.dtype_types.specs.HashLaws.{map_fed};
+    ghost use Rattle.dtype_types.specs.HashesOf.{map_writes};
+    ghost use Rattle.dtype_types.specs.declared.equality.Nullabilities.TheVariants.{Compared};
+
+    ghost hash_input = { map_writes Compared };
+
+    ghost respects_eq = { map_fed };
+
+    fn hash<H: Hasher>(&self, state: &mut H) {
+        self.feed(Nullabilities::Compared, state);
     }
 }
 

@@ -1,22 +1,27 @@
-ghost use Rattle.std.specs.Prelude.{◌≡◌, ◌≤◌, ◌<◌, ◌++◌, ◌∷◌, ℕ, nat_lt, List, [], slice_index_or, length, map, remove, vec_len, All, IfOk, IfErr, IfSome, IsOk, IsOkUnless, MatchBool, slice_get, IfNone, Some};
+ghost use Rattle.std.specs.Prelude.{◌≡◌, ◌↔◌, IsTrue, ◌≤◌, ◌<◌, ◌++◌, ◌∷◌, ℕ, nat_lt, List, [], slice_index_or, length, map, remove, vec_len, All, IfOk, IfErr, IfSome, IsOk, IsOkUnless, MatchBool, slice_get, IfNone, Some, fold, OnOk, string_bytes};
 ghost use Rattle.std.specs.Iterator.{IsFinite};
 ghost use Rattle.std.specs.Iterator.Runs.{WholeRun};
 ghost use Rattle.std.specs.List.{zip};
 ghost use Rattle.std.specs.Option.{option_copied};
 ghost use Rattle.dtype_base.specs.FieldNames.{FirstAt, IsAbsent};
+ghost use Rattle.dtype_base.specs.declared.nullability.Nullability.{Nullability};
 ghost use Rattle.dtype_base.specs.declared.vortex_error.VortexError.TheVariants.{OutOfMemory, IndexOutOfBounds};
 
 use crate::copies::{append_names, copies_of};
 use crate::equality::{Nullabilities, agree};
 use crate::field_dtype::into_dtypes;
 use crate::fields_builder::FieldsBuilder;
+use crate::hashing::feed;
+use crate::indented::{last_line, line_end};
 use crate::name_index::NameIndex;
 use crate::repeats::has_repeats;
 use crate::text::separator;
-use crate::{DType, FieldDType};
+use crate::width::Width;
+use crate::{DType, DTypeIter, FieldDType};
 use dtype_base::{FieldName, FieldNames, VortexError, VortexResult};
 use std::alloc::Global;
 use std::fmt;
+use std::hash::{Hash, Hasher};
 
 /// The fields of a struct in order, each a name and a type. Names may repeat: every access by name
 /// means the first.
@@ -30,12 +35,16 @@ pub struct StructFields {
 impl StructFields {
     ghost use Rattle.dtype_types.specs.Building.{fields_so_far};
     ghost use Rattle.dtype_types.specs.Equality.{agree_fields};
+    ghost use Rattle.dtype_types.specs.Erase.{erase_fields};
     ghost use Rattle.dtype_types.specs.FieldTypes.{field_tree, HasFields};
-    ghost use Rattle.dtype_types.specs.Lookups.{first_named, field_names, Projects, ProjectionRefusal, MergeRefusal};
+    ghost use Rattle.dtype_types.specs.IndentedText.{indented_text, indented_braces};
+    ghost use Rattle.dtype_types.specs.Lookups.{first_named, field_names, field_types, Projects, ProjectionRefusal, MergeRefusal};
     ghost use Rattle.dtype_types.specs.Distinct.{Distinct};
-    ghost use Rattle.dtype_types.specs.Tree.{Tree};
+    ghost use Rattle.dtype_types.specs.HashesOf.{struct_writes};
+    ghost use Rattle.dtype_types.specs.Tree.{Tree, struct};
     ghost use Rattle.dtype_types.specs.TreeOf.{struct_tree, IsPaired, names_of, types_of, children, tree, option_tree, ValidStruct};
     ghost use Rattle.dtype_types.specs.Valid.{Valid};
+    ghost use Rattle.dtype_types.specs.Width.{Measures};
 
     /// No fields. Refuses 0 (OutOfMemory) alone.
     pub fn empty(alloc: Global) -> VortexResult<Self>
@@ -110,24 +119,30 @@ impl StructFields {
 
     /// How many fields there are.
     pub fn nfields(&self) -> usize
-        ensures { result ≡ length (names_of self.now) }
+        ensures { result ≡ length (children self.now) }
     {
-        self.names.len()
+        self.count()
     }
 
     /// The name of the field at this position, or `None` at or past the end.
     pub fn field_name(&self, index: usize) -> Option<&FieldName>
-        ensures { option_copied result ≡ slice_get (names_of self.now) index }
+        ensures { option_copied result ≡ slice_get (field_names (children self.now)) index }
     {
-        self.names.get(index)
+        self.paired_names().get(index)
     }
 
     /// The position of the first field of the name, or `None` where no field has it.
     pub fn find(&self, name: &str) -> Option<usize>
-        ensures found { IfSome result (FirstAt (names_of self.now) name.now) }
-        ensures none { IfNone result (IsAbsent (names_of self.now) name.now) }
+        ensures found { IfSome result (FirstAt (field_names (children self.now)) name.now) }
+        ensures none { IfNone result (IsAbsent (field_names (children self.now)) name.now) }
     {
-        self.names.find(name)
+        let names = self.paired_names();
+        for (i, field) in names.iter().enumerate() {
+            if field.eq_str(name) {
+                return Some(i);
+            }
+        }
+        None
     }
 
     /// The type of the first field of the name, or `None` where no field has it.
@@ -135,17 +150,49 @@ impl StructFields {
         ensures first { option_tree result ≡ first_named (children self.now) name.now }
         ensures valid { ValidStruct self.now → IfSome result (λ d. Valid (tree d.now)) }
     {
-        match self.names.find(name) {
-            Some(i) => self.dtypes.get(i),
+        match self.find(name) {
+            Some(index) => self.field_by_index(index),
             None => None,
         }
     }
 
     /// The type of the field at this position, or `None` at or past the end.
     pub fn field_by_index(&self, index: usize) -> Option<&DType>
-        ensures { option_tree result ≡ slice_get (types_of self.now) index }
+        ensures at { option_tree result ≡ slice_get (field_types (children self.now)) index }
+        ensures valid { ValidStruct self.now → IfSome result (λ d. Valid (tree d.now)) }
     {
-        self.dtypes.get(index)
+        self.paired_dtypes().get(index)
+    }
+
+    /// The types, in order, lent.
+    pub fn fields(&self) -> DTypeIter<'_>
+        ensures all { map tree result ≡ field_types (children self.now) }
+        ensures valid { ValidStruct self.now → All (λ d. Valid (tree d)) result }
+    {
+        DTypeIter::new(self.paired_dtypes())
+    }
+
+    /// The types, in order, lent: the same as `fields`.
+    pub fn field_dtypes(&self) -> DTypeIter<'_>
+        ensures all { map tree result ≡ field_types (children self.now) }
+        ensures valid { ValidStruct self.now → All (λ d. Valid (tree d)) result }
+    {
+        self.fields()
+    }
+
+    // The types that have a name, which are all of them in every struct that is made.
+    fn paired_dtypes(&self) -> &[DType]
+        ensures all { map tree result.now ≡ field_types (children self.now) }
+        ensures valid { ValidStruct self.now → All (λ d. Valid (tree d)) result.now }
+    {
+        &self.dtypes[..self.count()]
+    }
+
+    /// Whether the fields are equal with every nullability in them ignored.
+    pub fn eq_ignore_nullability(&self, other: &Self) -> bool
+        ensures { IsTrue result ↔ (erase_fields (struct_tree self.now) ≡ erase_fields (struct_tree other.now)) }
+    {
+        self.agree(other, Nullabilities::Ignored)
     }
 
     // Whether the fields of the two agree, one by one.
@@ -170,6 +217,34 @@ impl StructFields {
             }
         }
         true
+    }
+
+    // The width of a struct of these fields.
+    #[cycle(width)]
+    pub(crate) fn width(&self) -> Width
+        ensures { (n : Nullability) → Measures result (struct (struct_tree self.now) n) }
+    {
+        let mut total = Width::Bytes(0);
+        for i in 0..self.count() {
+            let dtype = &self.dtypes[i];
+            total = total.plus(dtype.width());
+        }
+        total
+    }
+
+    // Feeds a hasher how many fields there are, and each field.
+    #[cycle(hash)]
+    pub(crate) fn feed<H: Hasher>(&self, rule: Nullabilities, state: &mut H)
+        ensures { state.new ≡ fold H.write state.old (struct_writes rule self.now) }
+    {
+        let count = self.count();
+        let names = self.names.as_slice();
+        state.write_usize(count);
+        for i in 0..count {
+            let dtype = &self.dtypes[i];
+            names[i].hash(state);
+            feed(dtype, rule, state);
+        }
     }
 
     /// The first field of each name asked, in the order asked, repeats kept. Refuses 16 (FieldNotFound)
@@ -247,16 +322,15 @@ impl StructFields {
         ensures fields { IfOk result (λ s. children s ≡ remove (children self.now) index) }
         ensures paired { IfOk result IsPaired }
         ensures valid { ValidStruct self.now → IfOk result ValidStruct }
-        ensures within { IsOk result → index < length (names_of self.now) }
-        ensures refused { IfErr result (λ e. MatchBool (nat_lt index (length (names_of self.now))) (e ≡ OutOfMemory) (e ≡ IndexOutOfBounds index (length (names_of self.now)))) }
+        ensures within { IsOk result → index < length (children self.now) }
+        ensures refused { IfErr result (λ e. MatchBool (nat_lt index (length (children self.now))) (e ≡ OutOfMemory) (e ≡ IndexOutOfBounds index (length (children self.now)))) }
     {
-        let fields = self.nfields();
+        let fields = self.count();
         if index >= fields {
             return Err(VortexError::IndexOutOfBounds { index, fields });
         }
-        let count = self.count();
-        let mut kept = FieldsBuilder::with_capacity(alloc, count)?;
-        for i in 0..count {
+        let mut kept = FieldsBuilder::with_capacity(alloc, fields)?;
+        for i in 0..fields {
             if i != index {
                 kept = self.push_copy(alloc, kept, i)?;
             }
@@ -282,6 +356,44 @@ impl StructFields {
         fields.push(name, dtype)
     }
 
+    /// The fields over several lines, one a line, each two spaces deeper than the braces round it.
+    /// Refuses 0 (OutOfMemory) alone.
+    pub fn indented(&self, alloc: Global) -> VortexResult<String>
+        ensures ok { IfOk result (λ s. string_bytes s ≡ indented_text (struct_tree self.now)) }
+        ensures refused { IsOkUnless result OutOfMemory }
+    {
+        let mut text = String::new(alloc);
+        self.write_indented(alloc, &mut text, "")?;
+        Ok(text)
+    }
+
+    // The same behind what a text holds, where this stands before the closing brace.
+    #[cycle(indented)]
+    pub(crate) fn write_indented(
+        &self,
+        alloc: Global,
+        out: &mut String,
+        indent: &str,
+    ) -> VortexResult<()>
+        ensures ok { OnOk result (string_bytes out.new ≡ string_bytes out.old ++ indented_braces indent.now (struct_tree self.now)) }
+        ensures refused { IsOkUnless result OutOfMemory }
+    {
+        let inner = format!(in alloc; "{indent}  ")?;
+        let count = self.count();
+        let names = self.names.as_slice();
+        out.push_str("{\n")?;
+        for i in 0..count {
+            let line_end = line_end(i);
+            let name = &names[i];
+            let dtype = &self.dtypes[i];
+            write!(out, "{line_end}{inner}{name}=")?;
+            dtype.write_indented(alloc, out, inner.as_str())?;
+        }
+        let last_line = last_line(count);
+        write!(out, "{last_line}{indent}}}")?;
+        Ok(())
+    }
+
     /// Fields equal to these. Refuses 0 (OutOfMemory) alone.
     #[cycle(copy)]
     pub fn try_clone(&self, alloc: Global) -> VortexResult<Self>
@@ -293,6 +405,43 @@ impl StructFields {
         let names = self.names.try_clone(alloc)?;
         let dtypes = copies_of(alloc, &self.dtypes)?;
         Ok(StructFields { names, dtypes })
+    }
+}
+
+impl PartialEq for StructFields {
+    ghost use Rattle.dtype_types.specs.EqualityLaws.{same_struct, same_struct_equiv};
+    ghost use Rattle.dtype_types.specs.TreeOf.{children};
+    ghost use Rattle.std.specs.Cmp.{partial_equiv_from_equiv};
+
+    ghost eq = { same_struct };
+
+    ghost laws = { partial_equiv_from_equiv same_struct_equiv };
+
+    fn eq(&self, other: &StructFields) -> bool
+        ensures same { result ≡ same_struct self.now other.now }
+        ensures exact { IsTrue result ↔ (children self.now ≡ children other.now) }
+    {
+        self.agree(other, Nullabilities::Compared)
+    }
+}
+
+impl Eq for StructFields {
+    ghost use Rattle.dtype_types.specs.EqualityLaws.{same_struct_equiv};
+
+    ghost laws = { same_struct_equiv };
+}
+
+impl Hash for StructFields {
+    ghost use Rattle.dtype_types.specs.HashLaws.{struct_fed};
+    ghost use Rattle.dtype_types.specs.HashesOf.{struct_writes};
+    ghost use Rattle.dtype_types.specs.declared.equality.Nullabilities.TheVariants.{Compared};
+
+    ghost hash_input = { struct_writes Compared };
+
+    ghost respects_eq = { struct_fed };
+
+    fn hash<H: Hasher>(&self, state: &mut H) {
+        self.feed(Nullabilities::Compared, state);
     }
 }
 
@@ -317,3 +466,6 @@ impl fmt::Display for StructFields {
         write!(f, "}}")
     }
 }
+
+#[cfg(test)]
+mod tests;

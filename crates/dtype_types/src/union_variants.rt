@@ -1,13 +1,25 @@
-ghost use Rattle.std.specs.Prelude.{◌≡◌, ◌≤◌, length, vec_len, IfOk, IsOkUnless, Some};
-ghost use Rattle.dtype_base.specs.declared.vortex_error.VortexError.TheVariants.{OutOfMemory};
+ghost use Rattle.std.specs.Prelude.{◌≡◌, ◌≤◌, ◌<◌, ◌↔◌, ◌==◌, ◌⊎◌, IsTrue, List, [], length, map, vec_len, position, slice_get, All, IfOk, IfErr, IfSome, IfNone, OnOk, IsOkUnless, Err, Some, fold};
+ghost use Rattle.std.specs.List.{range_with_len};
+ghost use Rattle.dtype_base.specs.FieldNames.{FirstAt, IsAbsent};
+ghost use Rattle.dtype_base.specs.declared.vortex_error.VortexError.TheVariants.{OutOfMemory, UnionTooMany};
+ghost use Rattle.dtype_types.specs.Unions.{HasUnionLengths, MakesUnion, UnionRefusal};
 
-use crate::DType;
 use crate::copies::copies_of;
 use crate::equality::{Nullabilities, agree};
+use crate::hashing::feed;
+use crate::repeats::has_repeats;
 use crate::text::separator;
-use dtype_base::{FieldNames, VortexResult};
+use crate::{DType, DTypeIter};
+use dtype_base::{FieldNames, VortexError, VortexResult};
 use std::alloc::Global;
 use std::fmt;
+use std::hash::{Hash, Hasher};
+
+#[cfg(test)]
+mod tests;
+
+// How many tags there are.
+const MAX_VARIANTS: usize = 256;
 
 /// The variants of a union in order, each a name, a type and a tag.
 #[derive(Debug, Drop)]
@@ -18,10 +30,105 @@ pub struct UnionVariants {
     type_ids: Vec<u8>,
 }
 
+// Refuses names, types and tags that make no union: 10 (UnionTypesLength), 11 (UnionTagsLength), 12
+// (UnionEmpty), 13 (UnionTagsRepeat), 15 (UnionNamesRepeat), the first that applies, or 0
+// (OutOfMemory), which comes of the search for repeats.
+fn validate_shape(
+    alloc: Global,
+    names: &FieldNames,
+    types: usize,
+    type_ids: &[u8],
+) -> VortexResult<()>
+    ensures ok { OnOk result (MakesUnion names.now types type_ids.now) }
+    ensures bytes { OnOk result (All (λ t. t < 256) type_ids.now) }
+    ensures refused { IfErr result (λ e. (e ≡ OutOfMemory) ⊎ UnionRefusal names.now types type_ids.now e) }
+    ensures memory { result ≡ Err OutOfMemory → HasUnionLengths names.now types type_ids.now }
+{
+    if names.len() != types {
+        return Err(VortexError::UnionTypesLength);
+    }
+    if names.len() != type_ids.len() {
+        return Err(VortexError::UnionTagsLength);
+    }
+    if names.is_empty() {
+        return Err(VortexError::UnionEmpty);
+    }
+    if has_repeats(alloc, type_ids)? {
+        return Err(VortexError::UnionTagsRepeat);
+    }
+    if has_repeats(alloc, names.as_slice())? {
+        return Err(VortexError::UnionNamesRepeat);
+    }
+    Ok(())
+}
+
+// The tags 0, 1, 2 and so on, this many.
+fn first_tags(alloc: Global, count: usize) -> VortexResult<Vec<u8>>
+    requires { count ≤ 256 }
+    ensures ok { IfOk result (λ tags. tags.items ≡ range_with_len 0 count) }
+    ensures refused { IsOkUnless result OutOfMemory }
+{
+    Ok((0..count).map(|tag| tag as u8).collect(alloc)?)
+}
+
 impl UnionVariants {
     ghost use Rattle.dtype_types.specs.Equality.{agree_variants};
+    ghost use Rattle.dtype_types.specs.Erase.{erase_variants};
+    ghost use Rattle.dtype_types.specs.Lookups.{variant_named};
+    ghost use Rattle.dtype_types.specs.HashesOf.{union_writes};
     ghost use Rattle.dtype_types.specs.Text.{consecutive};
-    ghost use Rattle.dtype_types.specs.TreeOf.{union_tree, choices, variant_names, variant_types, variant_tags, ValidUnion};
+    ghost use Rattle.dtype_types.specs.TreeOf.{tree, option_tree, union_tree, choices, choice_types, variant_names, variant_types, variant_tags, ValidUnion};
+    ghost use Rattle.dtype_types.specs.Valid.{Valid};
+
+    /// The union of these names, types and tags. Refuses, the first that applies: 10
+    /// (UnionTypesLength) where there are more or fewer types than names, 11 (UnionTagsLength) where
+    /// there are more or fewer tags than names, 12 (UnionEmpty) where there are none, 13
+    /// (UnionTagsRepeat) where a tag stands twice, 15 (UnionNamesRepeat) where a name stands twice; or
+    /// 0 (OutOfMemory), once the lengths are right.
+    pub fn try_new(
+        alloc: Global,
+        names: FieldNames,
+        dtypes: Vec<DType>,
+        type_ids: Vec<u8>,
+    ) -> VortexResult<Self>
+        ensures names { IfOk result (λ u. variant_names u ≡ names) }
+        ensures types { IfOk result (λ u. variant_types u ≡ map tree dtypes.items) }
+        ensures tags { IfOk result (λ u. variant_tags u ≡ type_ids.items) }
+        ensures count { IfOk result (λ u. length (choices u) ≡ length names) }
+        ensures valid { All (λ d. Valid (tree d)) dtypes.items → IfOk result (λ u. ValidUnion u) }
+
+        ensures accepted { OnOk result (MakesUnion names (vec_len dtypes) type_ids.items) }
+        ensures refused { IfErr result (λ e. (e ≡ OutOfMemory) ⊎ UnionRefusal names (vec_len dtypes) type_ids.items e) }
+        ensures memory { result ≡ Err OutOfMemory → HasUnionLengths names (vec_len dtypes) type_ids.items }
+    {
+        validate_shape(alloc, &names, dtypes.len(), &type_ids)?;
+        Ok(UnionVariants {
+            names,
+            dtypes,
+            type_ids,
+        })
+    }
+
+    /// The union of these names and types, with the tags 0, 1, 2 and so on. Refuses 14 (UnionTooMany)
+    /// where there are more than 256 names, else as `try_new` does with those tags.
+    pub fn new(alloc: Global, names: FieldNames, dtypes: Vec<DType>) -> VortexResult<Self>
+        ensures names { IfOk result (λ u. variant_names u ≡ names) }
+        ensures types { IfOk result (λ u. variant_types u ≡ map tree dtypes.items) }
+        ensures tags { IfOk result (λ u. variant_tags u ≡ range_with_len 0 (length names)) }
+        ensures count { IfOk result (λ u. length (choices u) ≡ length names) }
+        ensures valid { All (λ d. Valid (tree d)) dtypes.items → IfOk result (λ u. ValidUnion u) }
+
+        ensures accepted { OnOk result (MakesUnion names (vec_len dtypes) (range_with_len 0 (length names))) }
+        ensures too_many { (result ≡ Err UnionTooMany) ↔ (256 < length names) }
+        ensures refused { length names ≤ 256
+            → IfErr result (λ e. (e ≡ OutOfMemory) ⊎ UnionRefusal names (vec_len dtypes) (range_with_len 0 (length names)) e) }
+    {
+        if names.len() > MAX_VARIANTS {
+            return Err(VortexError::UnionTooMany);
+        }
+        let type_ids = first_tags(alloc, names.len())?;
+        UnionVariants::try_new(alloc, names, dtypes, type_ids)
+    }
 
     // How many variants there are: as far as all lists go.
     fn count(&self) -> usize
@@ -34,6 +141,93 @@ impl UnionVariants {
             .len()
             .min(self.dtypes.len())
             .min(self.type_ids.len())
+    }
+
+    /// The names, in order.
+    pub fn names(&self) -> &FieldNames
+        ensures { result.now ≡ variant_names self.now }
+    {
+        &self.names
+    }
+
+    /// How many variants there are.
+    pub fn len(&self) -> usize
+        ensures all { result ≡ length (choices self.now) }
+        ensures names { result ≤ length (variant_names self.now) }
+        ensures tags { result ≤ length (variant_tags self.now) }
+    {
+        self.count()
+    }
+
+    /// Whether there are no variants, as in no union that a call makes.
+    pub fn is_empty(&self) -> bool
+        ensures { IsTrue result ↔ (choices self.now ≡ []) }
+    {
+        self.count() == 0
+    }
+
+    /// The tags, in order of the variants.
+    pub fn type_ids(&self) -> &[u8]
+        ensures { result.now ≡ variant_tags self.now }
+    {
+        &self.type_ids
+    }
+
+    /// The position of the variant of the name, or `None` where no variant has it.
+    pub fn find(&self, name: &str) -> Option<usize>
+        ensures found { IfSome result (FirstAt (variant_names self.now) name.now) }
+        ensures none { IfNone result (IsAbsent (variant_names self.now) name.now) }
+    {
+        self.names.find(name)
+    }
+
+    /// The type of the variant of the name, or `None` where no variant has it.
+    pub fn variant(&self, name: &str) -> Option<&DType>
+        ensures named { option_tree result ≡ variant_named (choices self.now) name.now }
+        ensures valid { ValidUnion self.now → IfSome result (λ d. Valid (tree d.now)) }
+    {
+        match self.names.find(name) {
+            Some(i) => self.variant_by_index(i),
+            None => None,
+        }
+    }
+
+    /// The type of the variant at this position, or `None` at or past the end.
+    pub fn variant_by_index(&self, index: usize) -> Option<&DType>
+        ensures at { option_tree result ≡ slice_get (choice_types self.now) index }
+        ensures valid { ValidUnion self.now → IfSome result (λ d. Valid (tree d.now)) }
+    {
+        self.types().get(index)
+    }
+
+    /// The types of the variants, in order.
+    pub fn variants(&self) -> DTypeIter<'_>
+        ensures all { map tree result ≡ choice_types self.now }
+        ensures valid { ValidUnion self.now → All (λ d. Valid (tree d)) result }
+    {
+        DTypeIter::new(self.types())
+    }
+
+    // The types of the variants, in order.
+    fn types(&self) -> &[DType]
+        ensures { map tree result.now ≡ choice_types self.now }
+    {
+        &self.dtypes[..self.count()]
+    }
+
+    /// The position of the variant with this tag, or `None` where no variant has it.
+    pub fn tag_to_child_index(&self, tag: u8) -> Option<usize>
+        ensures { result ≡ position (λ t. t == tag) (variant_tags self.now) }
+    {
+        self.type_ids.iter().position(|t| *t == tag)
+    }
+
+    /// The tag of the variant at this position, which there is.
+    pub fn child_index_to_tag(&self, index: usize) -> u8
+        requires { index < length (variant_tags self.now) }
+        ensures { slice_get (variant_tags self.now) index ≡ Some result }
+    {
+        self.type_ids[index]
     }
 
     // Whether the variants of the two agree, one by one.
@@ -63,6 +257,30 @@ impl UnionVariants {
             }
         }
         true
+    }
+
+    /// Whether the variants are equal with every nullability in them ignored. Names and tags count.
+    pub fn eq_ignore_nullability(&self, other: &UnionVariants) -> bool
+        ensures { IsTrue result ↔ (erase_variants (union_tree self.now) ≡ erase_variants (union_tree other.now)) }
+    {
+        self.agree(other, Nullabilities::Ignored)
+    }
+
+    // Feeds a hasher how many variants there are, and each variant.
+    #[cycle(hash)]
+    pub(crate) fn feed<H: Hasher>(&self, rule: Nullabilities, state: &mut H)
+        ensures { state.new ≡ fold H.write state.old (union_writes rule self.now) }
+    {
+        let count = self.count();
+        let names = self.names.as_slice();
+        state.write_usize(count);
+        for i in 0..count {
+            let dtype = &self.dtypes[i];
+            let tag = self.type_ids[i];
+            names[i].hash(state);
+            feed(dtype, rule, state);
+            state.write_u8(tag);
+        }
     }
 
     /// Variants equal to these. Refuses 0 (OutOfMemory) alone.
@@ -95,6 +313,43 @@ impl UnionVariants {
             }
         }
         true
+    }
+}
+
+impl PartialEq for UnionVariants {
+    ghost use Rattle.dtype_types.specs.PartsEquality.{same_union, same_union_equiv};
+    ghost use Rattle.dtype_types.specs.TreeOf.{union_tree};
+    ghost use Rattle.std.specs.Cmp.{partial_equiv_from_equiv};
+
+    ghost eq = { same_union };
+
+    ghost laws = { partial_equiv_from_equiv same_union_equiv };
+
+    fn eq(&self, other: &UnionVariants) -> bool
+        ensures same { result ≡ same_union self.now other.now }
+        ensures exact { IsTrue result ↔ (union_tree self.now ≡ union_tree other.now) }
+    {
+        self.agree(other, Nullabilities::Compared)
+    }
+}
+
+impl Eq for UnionVariants {
+    ghost use Rattle.dtype_types.specs.PartsEquality.{same_union_equiv};
+
+    ghost laws = { same_union_equiv };
+}
+
+impl Hash for UnionVariants {
+    ghost use Rattle.dtype_types.specs.HashLaws.{union_fed};
+    ghost use Rattle.dtype_types.specs.HashesOf.{union_writes};
+    ghost use Rattle.dtype_types.specs.declared.equality.Nullabilities.TheVariants.{Compared};
+
+    ghost hash_input = { union_writes Compared };
+
+    ghost respects_eq = { union_fed };
+
+    fn hash<H: Hasher>(&self, state: &mut H) {
+        self.feed(Nullabilities::Compared, state);
     }
 }
 

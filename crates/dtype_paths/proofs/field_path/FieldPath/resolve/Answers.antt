@@ -3,7 +3,7 @@ use Rattle.std.proofs.lemmas.Grind.{common_steps}
 use Rattle.dtype_types.specs.Tree.{Tree}
 use Rattle.dtype_types.specs.TreeOf.{tree}
 use Rattle.dtype_paths.specs.At.{At}
-use Rattle.dtype_paths.proofs.Along.{along-At, At-along}
+use Rattle.dtype_paths.specs.Along.{along-At, At-along}
 use Rattle.dtype_paths.proofs.field_path.FieldPath.resolve.Goals as goal
 
 if_none : {T P : Type 0} (o : Option T) → P → IfNone o P

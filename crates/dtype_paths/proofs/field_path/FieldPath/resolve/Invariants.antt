@@ -1,7 +1,7 @@
 use Rattle.std.proofs.Common.{◌≡◌, drop}
 use Rattle.dtype_types.specs.TreeOf.{tree}
 use Rattle.dtype_types.specs.Valid.{Valid}
-use Rattle.dtype_paths.proofs.Along.{along}
+use Rattle.dtype_paths.specs.Along.{along}
 use Rattle.dtype_paths.proofs.field_path.FieldPath.resolve.Given as goal
 
 abbrev pub invariant-loop-field : goal.invariant-loop-field

@@ -1,0 +1,43 @@
+-- What is written for a line is its answer.
+use Rattle.std.proofs.Common.{◌≡◌, ℕ, List, [], ◌∷◌, ◌++◌, codes, Option, Result, Ok, Err, OnOk, map, append-nil, sym, ap, ◌∙◌, subst}
+use Rattle.std.specs.Borrow.{Bor}
+use Rattle.std.specs.Result.{is_ok}
+use Rattle.std.proofs.lemmas.List.{map-append}
+use Rattle.std.proofs.lemmas.Grind.{flat_map-append}
+use Rattle.std.proofs.lemmas.Bool.{false≢true}
+use Rattle.std.proofs.KnownBytes.{Appends-kept}
+use Rattle.std.specs.Io.KnownBytes.{Appends, Keeps}
+use Rattle.dtype_types.specs.Text.{text}
+use Rattle.dtype_types.specs.Tree.{Tree}
+use Rattle.dtype_paths.specs.Along.{along, At-along, along_none}
+use Rattle.dtype_paths.specs.At.{At}
+use Rattle.dtype_paths.specs.Texts.{path_text}
+use Rattle.dtype_paths.specs.declared.field.Field.{Field}
+use Rattle.dtype_demo.specs.Lines.{parts_of}
+use Rattle.dtype_demo.specs.Output.{answer_text, answers_to, found_text}
+
+answer_is : (t : Tree) (p : List Field) (o : Option Tree) → along t p ≡ o → path_text p ++ (codes " = " ++ (found_text o ++ 10 ∷ [])) ≡ answer_text t p
+answer_is t p o e = ap (λ x. path_text p ++ (codes " = " ++ (found_text x ++ 10 ∷ []))) (sym e)
+
+pub answer_found : (t : Tree) (p : List Field) (u : Tree) → At t p u → path_text p ++ (codes " = " ++ (text u ++ 10 ∷ [])) ≡ answer_text t p
+answer_found t p u a = answer_is t p _ (At-along t p u a)
+
+pub answer_none : (t : Tree) (p : List Field) → ((u : Tree) → At t p u → ⊥) → path_text p ++ codes " = none\n" ≡ answer_text t p
+answer_none t p none = answer_is t p _ (along_none t p none)
+
+-- where writing went well, so did the call that passes its error on
+pub written_on_ok : {E F : Type 0} (r : Result (Unit {0}) E) (q : Result (Unit {0}) F) (a b : Option (List ℕ)) (bs all : List ℕ) → OnOk r (Appends a b bs) → is_ok q ≡ is_ok r → bs ≡ all → OnOk q (Appends a b all)
+written_on_ok r (Err e) a b bs all wrote same is = tt
+written_on_ok (Ok x) (Ok y) a b bs all wrote same is = subst (Appends a b) is wrote
+written_on_ok (Err e) (Ok y) a b bs all wrote same is = absurd (false≢true (sym same))
+
+-- one more line is answered behind the others
+pub answers_more : (t : Tree) (lines : List (Bor (List ℕ))) (line : Bor (List ℕ)) → answers_to t (map (λ l. l.now) lines) ++ answer_text t (parts_of line.now) ≡ answers_to t (map (λ l. l.now) (lines ++ line ∷ []))
+answers_more t lines line =
+    ap (λ bs. answers_to t (map (λ l. l.now) lines) ++ bs) (sym (append-nil (answer_text t (parts_of line.now))))
+    ∙ sym (ap (answers_to t) (map-append (λ (l : Bor (List ℕ)). l.now) lines (line ∷ [])) ∙ flat_map-append (λ l. answer_text t (parts_of l)) (map (λ l. l.now) lines) (line.now ∷ []))
+
+-- where flushing went well, so did the call that passes its error on
+pub flushed_on_ok : {F : Type 0} (q : Result (Unit {0}) F) (a b c : Option (List ℕ)) (bs all : List ℕ) → Appends a b bs → Keeps b c → bs ≡ all → OnOk q (Appends a c all)
+flushed_on_ok (Ok x) a b c bs all wrote kept is = subst (Appends a c) is (Appends-kept a b c bs wrote kept)
+flushed_on_ok (Err e) a b c bs all wrote kept is = tt

@@ -1,0 +1,3 @@
+pub mod AnswerTexts
+pub mod LinesLaws
+pub mod TerminatedLines

@@ -1,0 +1,7 @@
+use Rattle.std.proofs.Common.{◌≡◌, map}
+use Rattle.dtype_demo.specs.Lines.{part_of}
+use Rattle.dtype_demo.proofs.lines.parse_line.Given as goal
+
+-- the parts so far, as steps
+abbrev pub invariant-loop-part : goal.invariant-loop-part
+invariant-loop-part l = l.parts.items ≡ map (λ part. part_of part.now) l.yielded

@@ -1,0 +1,11 @@
+-- How much the program reads.
+use Rattle.std.specs.Prelude.{ℕ, ◌≤◌, List, length, Option}
+use Rattle.std.specs.Io.KnownBytes.{Consumes}
+
+-- the greatest number of bytes of input
+abbrev pub input_limit : ℕ
+input_limit = 1048576
+
+-- a reader whose bytes are known gives up at most n of them, from the front
+abbrev pub TakesAtMost : ℕ → Option (List ℕ) → Option (List ℕ) → Type 0
+TakesAtMost n old new = (taken : List ℕ) × Consumes old new taken × (length taken ≤ n)

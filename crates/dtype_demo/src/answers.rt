@@ -1,0 +1,49 @@
+ghost use Rattle.std.specs.Prelude.{◌≡◌, ◌⊎◌, IfErr, OnOk};
+ghost use Rattle.std.specs.Io.KnownBytes.{Appends};
+ghost use Rattle.dtype_types.specs.TreeOf.{tree};
+ghost use Rattle.dtype_demo.specs.Lines.{parts_of};
+ghost use Rattle.dtype_demo.specs.Output.{answer_text, output_of};
+
+use crate::DemoFault;
+use crate::lines::parse_line;
+use dtype_types::DType;
+use std::alloc::Global;
+use std::io::Write;
+
+// Writes the answer to each line of the text, and flushes.
+pub fn write_answers<W: Write>(
+    alloc: Global,
+    dtype: &DType,
+    text: &str,
+    writer: &mut W,
+) -> Result<(), DemoFault>
+    ensures ok { OnOk result (Appends (W.contents writer.old) (W.contents writer.new)
+        (output_of (tree dtype.now) text.now)) }
+    ensures faults { IfErr result (λ fault.
+        (fault ≡ DemoFault.WriteFailed) ⊎ (fault ≡ DemoFault.OutOfMemory)) }
+{
+    for line in text.split_terminator('\n') {
+        answer(alloc, dtype, line, writer)?;
+    }
+    writer.flush().map_err(|_| DemoFault::WriteFailed)
+}
+
+// Writes the answer to one line: the path, and the type along it.
+fn answer<W: Write>(
+    alloc: Global,
+    dtype: &DType,
+    line: &str,
+    writer: &mut W,
+) -> Result<(), DemoFault>
+    ensures ok { OnOk result (Appends (W.contents writer.old) (W.contents writer.new)
+        (answer_text (tree dtype.now) (parts_of line.now))) }
+    ensures faults { IfErr result (λ fault.
+        (fault ≡ DemoFault.WriteFailed) ⊎ (fault ≡ DemoFault.OutOfMemory)) }
+{
+    let path = parse_line(alloc, line)?;
+    let written = match path.resolve(dtype) {
+        Some(found) => writeln!(writer, "{path} = {found}"),
+        None => writeln!(writer, "{path} = none"),
+    };
+    written.map_err(|_| DemoFault::WriteFailed)
+}

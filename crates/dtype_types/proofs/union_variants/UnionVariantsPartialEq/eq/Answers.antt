@@ -1,0 +1,9 @@
+use Rattle.std.proofs.Common.{sym, ◌∙◌}
+use Rattle.dtype_types.specs.PartsEquality.{agree_variants-Decides}
+use Rattle.dtype_types.specs.TreeOf.{union_tree}
+use Rattle.dtype_types.proofs.union_variants.UnionVariantsPartialEq.eq.Goals as goal
+
+pub returns-clause-exact : goal.returns-clause-exact
+returns-clause-exact c =
+    let d = agree_variants-Decides (union_tree c.args.self.now) (union_tree c.args.other.now) in
+    (λ e. d.0 (sym c.agree.ensures ∙ e), λ e. c.agree.ensures ∙ d.1 e)

@@ -1,0 +1,36 @@
+-- The indented text of fields: a field a line, two spaces deeper than the braces round it. A struct is
+-- written so, a list writes its element so, and every other type is on one line. From the alternate
+-- `Display` of `StructFields`.
+use Rattle.std.specs.Prelude.{ℕ, List, [], ◌∷◌, ◌++◌, codes, decimal as digits}
+use Rattle.dtype_base.specs.Escapes.{escaped}
+use Rattle.dtype_base.specs.Nullability.{nullability_text}
+use Rattle.dtype_types.specs.Text.{text, joined}
+use Rattle.dtype_types.specs.Tree.{Tree, Fields, no_fields, field, list, fixed_size_list, struct}
+
+-- the line that ends the last field, where there is one
+abbrev pub last_line : Fields → List ℕ
+last_line no_fields = []
+last_line (field n t rest) = codes "\n"
+
+-- fields that are written so, in braces; indent is what stands before the closing brace
+abbrev pub braces : List ℕ → List (List ℕ) → Fields → List ℕ
+braces indent parts fs = codes "{\n" ++ (joined (codes ",\n") parts ++ (last_line fs ++ (indent ++ codes "}")))
+
+-- each field stands two spaces further than the braces
+abbrev mutual
+  pub indented : List ℕ → Tree → List ℕ
+  indented indent (list t n) = codes "list(" ++ (indented indent t ++ (codes ")" ++ nullability_text n))
+  indented indent (fixed_size_list t k n) = codes "fixed_size_list(" ++ (indented indent t ++ (codes ")[" ++ (digits k ++ (codes "]" ++ nullability_text n))))
+  indented indent (struct fs n) = braces indent (indented_fields (indent ++ codes "  ") fs) fs ++ nullability_text n
+  indented indent t = text t
+
+  pub indented_fields : List ℕ → Fields → List (List ℕ)
+  indented_fields indent no_fields = []
+  indented_fields indent (field n t rest) = (indent ++ (escaped n ++ (codes "=" ++ indented indent t))) ∷ indented_fields indent rest
+
+-- the indented text of fields
+unfoldable pub indented_braces : List ℕ → Fields → List ℕ
+indented_braces indent fs = braces indent (indented_fields (indent ++ codes "  ") fs) fs
+
+abbrev pub indented_text : Fields → List ℕ
+indented_text fs = indented_braces [] fs

@@ -1,0 +1,23 @@
+-- Which names, types and tags make a union, and which refusal they earn where they don't. From the
+-- documentation of `UnionVariants::try_new` and `UnionVariants::new`.
+use Rattle.std.specs.Prelude.{◌≡◌, ◌≢◌, ℕ, List, [], length}
+use Rattle.dtype_base.specs.declared.vortex_error.VortexError.{VortexError}
+use Rattle.dtype_base.specs.declared.vortex_error.VortexError.TheVariants.{UnionTypesLength, UnionTagsLength, UnionEmpty, UnionTagsRepeat, UnionNamesRepeat}
+use Rattle.dtype_types.specs.Distinct.{Distinct}
+
+-- as many types as names, as many tags as names, and at least one
+abbrev pub HasUnionLengths : List (List ℕ) → ℕ → List ℕ → Type 0
+HasUnionLengths names types tags = (length names ≡ types) × (length names ≡ length tags) × (names ≢ [])
+
+-- these names, that many types and these tags make a union
+abbrev pub MakesUnion : List (List ℕ) → ℕ → List ℕ → Type 0
+MakesUnion names types tags = HasUnionLengths names types tags × Distinct tags × Distinct names
+
+-- they don't: the first thing that is wrong, in this order, says which refusal
+abbrev pub UnionRefusal : List (List ℕ) → ℕ → List ℕ → VortexError → Type 0
+UnionRefusal names types tags UnionTypesLength = length names ≢ types
+UnionRefusal names types tags UnionTagsLength = (length names ≡ types) × (length names ≢ length tags)
+UnionRefusal names types tags UnionEmpty = (length names ≡ types) × (length names ≡ length tags) × (names ≡ [])
+UnionRefusal names types tags UnionTagsRepeat = HasUnionLengths names types tags × (¬ Distinct tags)
+UnionRefusal names types tags UnionNamesRepeat = HasUnionLengths names types tags × Distinct tags × (¬ Distinct names)
+UnionRefusal names types tags _ = ⊥

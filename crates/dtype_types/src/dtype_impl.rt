@@ -1,0 +1,60 @@
+// Constructors of types that hold others.
+ghost use Rattle.std.specs.Prelude.{◌≡◌, ◌↔◌, ◌⊎◌, All, Err, IfOk, IfErr, OnOk, IsOkUnless};
+ghost use Rattle.std.specs.Iterator.{IsFinite};
+ghost use Rattle.std.specs.Iterator.Runs.{WholeRun};
+ghost use Rattle.dtype_base.specs.declared.vortex_error.VortexError.TheVariants.{OutOfMemory, MapKeyNullable};
+ghost use Rattle.dtype_types.specs.FieldTypes.{field_tree, given_fields};
+ghost use Rattle.dtype_types.specs.Nullable.{nullability, IsNullable};
+ghost use Rattle.dtype_types.specs.Tree.{list, map_of, struct};
+ghost use Rattle.dtype_types.specs.TreeOf.{tree};
+ghost use Rattle.dtype_types.specs.Valid.{Valid};
+
+use crate::{DType, FieldDType, MapDType, StructFields};
+use dtype_base::{FieldName, Nullability, VortexResult};
+use std::alloc::Global;
+
+impl DType {
+    /// Lists of this element. Refuses 0 (OutOfMemory) alone.
+    pub fn list(alloc: Global, element: DType, n: Nullability) -> VortexResult<DType>
+        ensures made { IfOk result (λ d. tree d ≡ list (tree element) n) }
+        ensures valid { Valid (tree element) → IfOk result (λ d. Valid (tree d)) }
+        ensures refused { IsOkUnless result OutOfMemory }
+    {
+        Ok(DType::List(Box::new(alloc, element)?, n))
+    }
+
+    /// Maps of this key and value; whether the keys are sorted is kept and not checked. Refuses 9
+    /// (MapKeyNullable) where the key's type is nullable, else 0 (OutOfMemory) alone.
+    pub fn map(
+        alloc: Global,
+        key: DType,
+        value: DType,
+        keys_sorted: bool,
+        n: Nullability,
+    ) -> VortexResult<DType>
+        ensures made { IfOk result (λ d. tree d ≡ map_of (tree key) (tree value) keys_sorted n) }
+        ensures valid { Valid (tree key) → Valid (tree value) → IfOk result (λ d. Valid (tree d)) }
+        ensures accepted { OnOk result (nullability (tree key) ≡ Nullability.NonNullable) }
+        ensures nullable { (result ≡ Err MapKeyNullable) ↔ IsNullable (tree key) }
+        ensures refused { IfErr result (λ e. (e ≡ OutOfMemory) ⊎ (e ≡ MapKeyNullable)) }
+    {
+        let map = MapDType::try_new(alloc, key, value, keys_sorted)?;
+        Ok(DType::Map(map, n))
+    }
+
+    /// The struct of the fields that an iterator gives, in order. Refuses 0 (OutOfMemory) alone.
+    pub fn struct_<I: IntoIterator<Item = (FieldName, FieldDType)>>(
+        alloc: Global,
+        fields: I,
+        n: Nullability,
+    ) -> VortexResult<DType>
+        requires { (it : I.IntoIter) → I.into_iter_gives fields it
+            → I.IntoIter.can_next it × IsFinite (I.IntoIter.remaining it) }
+        ensures made { IfOk result (λ d. (it : I.IntoIter) × I.into_iter_gives fields it
+            × WholeRun I.IntoIter.next_gives it (λ run. (tree d ≡ struct (given_fields run.items) n)
+            × (All (λ p. Valid (field_tree p.1)) run.items → Valid (tree d)))) }
+        ensures refused { IsOkUnless result OutOfMemory }
+    {
+        Ok(DType::Struct(StructFields::from_iter(alloc, fields)?, n))
+    }
+}

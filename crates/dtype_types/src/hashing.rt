@@ -1,0 +1,124 @@
+// Hashes of types: one walk that feeds a hasher, with the nullabilities compared or ignored.
+ghost use Rattle.std.specs.Prelude.{◌≡◌, fold};
+ghost use Rattle.dtype_base.specs.Primitives.{primitive};
+ghost use Rattle.dtype_types.specs.Hashes.{hash_of, nullability_writes};
+ghost use Rattle.dtype_types.specs.TreeOf.{tree};
+
+use crate::DType;
+use crate::equality::Nullabilities;
+use dtype_base::{Nullability, PType};
+use std::hash::{Hash, Hasher};
+
+impl Nullabilities {
+    // Feeds a hasher the nullability where nullabilities count.
+    fn feed<H: Hasher>(self, nullability: Nullability, state: &mut H)
+        ensures { state.new ≡ fold H.write state.old (nullability_writes self nullability) }
+    {
+        match self {
+            Nullabilities::Ignored => {}
+            Nullabilities::Compared => match nullability {
+                Nullability::NonNullable => state.write_u8(0),
+                Nullability::Nullable => state.write_u8(1),
+            },
+        }
+    }
+}
+
+// The number of the name: 0 to 10.
+fn ptype_number(ptype: PType) -> u8
+    ensures { result ≡ (primitive ptype).number }
+{
+    ptype as u8
+}
+
+// Feeds a hasher the type.
+#[cycle(hash)]
+pub(crate) fn feed<H: Hasher>(dtype: &DType, rule: Nullabilities, state: &mut H)
+    ensures { state.new ≡ fold H.write state.old (hash_of rule (tree dtype.now)) }
+{
+    match dtype {
+        DType::Null => state.write_u8(0),
+        DType::Bool(n) => {
+            state.write_u8(1);
+            rule.feed(*n, state);
+        }
+        DType::Primitive(ptype, n) => {
+            state.write_u8(2);
+            state.write_u8(ptype_number(*ptype));
+            rule.feed(*n, state);
+        }
+        DType::Decimal(decimal, n) => {
+            state.write_u8(3);
+            state.write_u8(decimal.precision());
+            state.write_i8(decimal.scale());
+            rule.feed(*n, state);
+        }
+        DType::Utf8(n) => {
+            state.write_u8(4);
+            rule.feed(*n, state);
+        }
+        DType::Binary(n) => {
+            state.write_u8(5);
+            rule.feed(*n, state);
+        }
+        DType::List(element, n) => {
+            state.write_u8(6);
+            feed(element, rule, state);
+            rule.feed(*n, state);
+        }
+        DType::FixedSizeList(element, size, n) => {
+            state.write_u8(7);
+            feed(element, rule, state);
+            state.write_u32(*size);
+            rule.feed(*n, state);
+        }
+        DType::Map(map, n) => {
+            state.write_u8(8);
+            map.feed(rule, state);
+            rule.feed(*n, state);
+        }
+        DType::Struct(fields, n) => {
+            state.write_u8(9);
+            fields.feed(rule, state);
+            rule.feed(*n, state);
+        }
+        DType::Union(variants, n) => {
+            state.write_u8(10);
+            variants.feed(rule, state);
+            rule.feed(*n, state);
+        }
+        DType::Variant(n) => {
+            state.write_u8(11);
+            rule.feed(*n, state);
+        }
+        DType::Extension(extension) => {
+            state.write_u8(12);
+            extension.feed(rule, state);
+        }
+    }
+}
+
+impl DType {
+    ghost use Rattle.dtype_types.specs.declared.equality.Nullabilities.TheVariants.{Ignored};
+
+    /// Feeds a hasher the type with every nullability in it left out. Types that are equal ignoring
+    /// nullability feed alike.
+    pub fn hash_ignore_nullability<H: Hasher>(&self, state: &mut H)
+        ensures { state.new ≡ fold H.write state.old (hash_of Ignored (tree self.now)) }
+    {
+        feed(self, Nullabilities::Ignored, state);
+    }
+}
+
+impl Hash for DType {
+    ghost use Rattle.dtype_types.specs.HashLaws.{dtype_fed};
+    ghost use Rattle.dtype_types.specs.declared.equality.Nullabilities.TheVariants.{Compared};
+
+    ghost hash_input = { λ d. hash_of Compared (tree d) };
+
+    ghost respects_eq = { dtype_fed };
+
+    fn hash<H: Hasher>(&self, state: &mut H) {
+        feed(self, Nullabilities::Compared, state);
+    }
+}

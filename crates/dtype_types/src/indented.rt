@@ -1,0 +1,65 @@
+// The indented text of a type, written behind what a text holds.
+ghost use Rattle.std.specs.Prelude.{◌≡◌, ◌++◌, ◌==◌, [], codes, IfOk, OnOk, IsOkUnless, string_bytes, if◌then◌else◌};
+ghost use Rattle.dtype_base.specs.declared.vortex_error.VortexError.TheVariants.{OutOfMemory};
+ghost use Rattle.dtype_types.specs.IndentedText.{indented};
+ghost use Rattle.dtype_types.specs.TreeOf.{tree};
+
+use crate::DType;
+use dtype_base::VortexResult;
+use std::alloc::Global;
+
+// What stands before the field at this place: nothing at the first, a comma and a new line at the others.
+pub(crate) fn line_end(i: usize) -> &'static str
+    ensures { result.now ≡ (if i == 0 then [] else codes ",\n") }
+{
+    if i == 0 { "" } else { ",\n" }
+}
+
+// What ends the last field's line, where there are fields.
+pub(crate) fn last_line(count: usize) -> &'static str
+    ensures { result.now ≡ (if count == 0 then [] else codes "\n") }
+{
+    if count == 0 { "" } else { "\n" }
+}
+
+impl DType {
+    // A struct over several lines, a list with its element so, every other type on one line.
+    #[cycle(indented)]
+    pub(crate) fn write_indented(
+        &self,
+        alloc: Global,
+        out: &mut String,
+        indent: &str,
+    ) -> VortexResult<()>
+        ensures ok { OnOk result (string_bytes out.new ≡ string_bytes out.old ++ indented indent.now (tree self.now)) }
+        ensures refused { IsOkUnless result OutOfMemory }
+    {
+        match self {
+            DType::List(element, n) => {
+                out.push_str("list(")?;
+                element.write_indented(alloc, out, indent)?;
+                write!(out, "){n}")?;
+            }
+            DType::FixedSizeList(element, size, n) => {
+                out.push_str("fixed_size_list(")?;
+                element.write_indented(alloc, out, indent)?;
+                write!(out, ")[{size}]{n}")?;
+            }
+            DType::Struct(fields, n) => {
+                fields.write_indented(alloc, out, indent)?;
+                write!(out, "{n}")?;
+            }
+            DType::Null
+            | DType::Bool(_)
+            | DType::Primitive(_, _)
+            | DType::Decimal(_, _)
+            | DType::Utf8(_)
+            | DType::Binary(_)
+            | DType::Map(_, _)
+            | DType::Union(_, _)
+            | DType::Variant(_)
+            | DType::Extension(_) => write!(out, "{self}")?,
+        }
+        Ok(())
+    }
+}

@@ -1,0 +1,105 @@
+// How many bytes the values of a type take, where all take as many.
+ghost use Rattle.std.specs.Prelude.{◌≡◌, ◌↔◌, ◌++◌, ◌∷◌, ℕ, List, [], None, IfOk, IfSome, IsErr, IsOkUnless};
+ghost use Rattle.dtype_base.specs.declared.nullability.Nullability.{Nullability};
+ghost use Rattle.dtype_base.specs.declared.vortex_error.VortexError.TheVariants.{WidthOverflow};
+ghost use Rattle.dtype_types.specs.Tree.{Tree, fields, fixed_size_list, struct};
+ghost use Rattle.dtype_types.specs.TreeOf.{tree};
+ghost use Rattle.dtype_types.specs.Width.{Fixed, HasWidePart, Measures, width};
+
+use crate::DType;
+use dtype_base::{DecimalType, VortexError, VortexResult};
+
+// What the width of a type comes to.
+#[derive(Clone, Copy)]
+pub(crate) enum Width {
+    // A part has values of several widths.
+    Variable,
+    // No part has, and one is wider than a `usize` can say.
+    TooWide,
+    Bytes(usize),
+}
+
+impl Width {
+    // The width of a list of that many elements of this width.
+    fn times(self, size: u32) -> Width
+        ensures { (t : Tree) (n : Nullability) → Measures self t → Measures result (fixed_size_list t size n) }
+    {
+        match self {
+            Width::Variable => Width::Variable,
+            Width::TooWide => Width::TooWide,
+            Width::Bytes(bytes) => match bytes.checked_mul(size as usize) {
+                Some(bytes) => Width::Bytes(bytes),
+                None => Width::TooWide,
+            },
+        }
+    }
+
+    // The width of a struct of fields of this width with a field of that width behind them.
+    pub(crate) fn plus(self, field: Width) -> Width
+        ensures { (ps : List (List ℕ × Tree)) (p : List ℕ × Tree) (n : Nullability) → Measures self (struct (fields ps) n) → Measures field p.1
+            → Measures result (struct (fields (ps ++ p ∷ [])) n) }
+    {
+        match self {
+            Width::Variable => Width::Variable,
+            Width::TooWide => match field {
+                Width::Variable => Width::Variable,
+                Width::TooWide | Width::Bytes(_) => Width::TooWide,
+            },
+            Width::Bytes(bytes) => match field {
+                Width::Variable => Width::Variable,
+                Width::TooWide => Width::TooWide,
+                Width::Bytes(more) => match bytes.checked_add(more) {
+                    Some(bytes) => Width::Bytes(bytes),
+                    None => Width::TooWide,
+                },
+            },
+        }
+    }
+}
+
+impl DType {
+    // The width of the type.
+    #[cycle(width)]
+    pub(crate) fn width(&self) -> Width
+        ensures { Measures result (tree self.now) }
+    {
+        match self {
+            DType::Null => Width::Bytes(0),
+            DType::Bool(_) => Width::Bytes(1),
+            DType::Primitive(ptype, _) => Width::Bytes(ptype.byte_width()),
+            DType::Decimal(decimal, _) => {
+                Width::Bytes(DecimalType::smallest_decimal_value_type(decimal).byte_width())
+            }
+            DType::FixedSizeList(element, size, _) => element.width().times(*size),
+            DType::Struct(fields, _) => fields.width(),
+            DType::Extension(extension) => extension.width(),
+            DType::Utf8(_)
+            | DType::Binary(_)
+            | DType::List(_, _)
+            | DType::Map(_, _)
+            | DType::Union(_, _)
+            | DType::Variant(_) => Width::Variable,
+        }
+    }
+
+    /// How many bytes a value takes, where all values take as many: 0 for `Null`, 1 for `Bool`, the
+    /// byte width of a number, that of a decimal's smallest storage type, the size times the element's
+    /// for `FixedSizeList`, the sum of the fields' for `Struct`, the storage's for an extension. `None`
+    /// where a part is variable, also under a list of size 0. Else refuses 19 (WidthOverflow) where a
+    /// part is wider than a `usize` can say.
+    pub fn element_size(&self) -> VortexResult<Option<usize>>
+        ensures variable { (result ≡ Ok None) ↔ ¬ Fixed (tree self.now) }
+        ensures too_wide { IsErr result ↔ (Fixed (tree self.now) × HasWidePart (tree self.now)) }
+        ensures width { IfOk result (λ size. IfSome size (λ bytes. bytes ≡ width (tree self.now))) }
+        ensures refused { IsOkUnless result WidthOverflow }
+    {
+        match self.width() {
+            Width::Variable => Ok(None),
+            Width::TooWide => Err(VortexError::WidthOverflow),
+            Width::Bytes(bytes) => Ok(Some(bytes)),
+        }
+    }
+}
+
+#[cfg(test)]
+mod tests;

@@ -1,6 +1,6 @@
 use crate::{Field, FieldPath};
 use dtype_base::{FieldName, FieldNames, Nullability, PType, VortexResult};
-use dtype_types::{DType, StructFields};
+use dtype_types::{DType, ExtDTypeRef, ExtId, MapDType, StructFields};
 use std::alloc::Global;
 use std::test::Fail;
 
@@ -60,7 +60,6 @@ fn a_child_keeps_its_own_nullability(rt: HostRuntime) -> Result<(), Fail> {
 #[test]
 fn nothing_else_steps(rt: HostRuntime) -> Result<(), Fail> {
     let alloc = rt.alloc();
-    // A name steps into no list, and the element into no struct.
     let dtype = list_of_nullable_numbers(alloc)?;
     let parts = vec![in alloc;
         name(alloc, "a")?,
@@ -71,12 +70,34 @@ fn nothing_else_steps(rt: HostRuntime) -> Result<(), Fail> {
     let path = FieldPath::from_vec(parts);
     assert_eq!(rt; path.resolve(&dtype), None);
     assert!(rt; !path.exists_in(&dtype));
+    Ok(())
+}
 
-    // Nor does the element into a list of one length.
+fn fixed_size_list(alloc: Global) -> VortexResult<DType> {
     let element = Box::new(alloc, DType::Utf8(REQUIRED))?;
-    let dtype = DType::FixedSizeList(element, 3, REQUIRED);
-    let path = FieldPath::from_vec(vec![in alloc; Field::ElementType]?);
-    assert_eq!(rt; path.resolve(&dtype), None);
+    Ok(DType::FixedSizeList(element, 3, REQUIRED))
+}
+
+fn extension_over_list(alloc: Global) -> VortexResult<DType> {
+    let storage = DType::List(Box::new(alloc, DType::Utf8(REQUIRED))?, REQUIRED);
+    let id = ExtId::new(alloc, "x.y")?;
+    let extension = ExtDTypeRef::from_parts(alloc, id, Vec::new(alloc), storage)?;
+    Ok(DType::Extension(extension))
+}
+
+fn map_of_texts(alloc: Global) -> VortexResult<DType> {
+    let map = MapDType::try_new(alloc, DType::Utf8(REQUIRED), DType::Utf8(REQUIRED), false)?;
+    Ok(DType::Map(map, REQUIRED))
+}
+
+#[test]
+fn other_kinds_are_not_entered(rt: HostRuntime) -> Result<(), Fail> {
+    let alloc = rt.alloc();
+    let element = FieldPath::from_vec(vec![in alloc; Field::ElementType]?);
+    assert_eq!(rt; element.resolve(&fixed_size_list(alloc)?), None);
+    assert_eq!(rt; element.resolve(&extension_over_list(alloc)?), None);
+    let key = FieldPath::from_vec(vec![in alloc; name(alloc, "key")?]?);
+    assert_eq!(rt; key.resolve(&map_of_texts(alloc)?), None);
     Ok(())
 }
 

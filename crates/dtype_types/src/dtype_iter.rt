@@ -1,5 +1,6 @@
-ghost use Rattle.std.specs.Prelude.{◌≡◌};
-ghost use Rattle.std.specs.Iterator.{YieldsFirstRef, item_count};
+ghost use Rattle.std.specs.Prelude.{◌≡◌, IfSome, Some, length};
+ghost use Rattle.std.specs.Iterator.{YieldsFirstRef, UpTo, item_count};
+ghost use Rattle.std.specs.Iterator.SizeHint.{IsWithinCount};
 
 use crate::DType;
 use std::iter::FusedIterator;
@@ -47,7 +48,11 @@ impl<'a> Iterator for DTypeIter<'a> {
         self.inner.next()
     }
 
-    fn size_hint(&self) -> (usize, Option<usize>) {
+    fn size_hint(&self) -> (usize, Option<usize>)
+        ensures lower { IsWithinCount result.0 (item_count (λ left. left) self.now) }
+        ensures upper { IfSome result.1 (UpTo (item_count (λ left. left) self.now)) }
+        ensures exact { result ≡ (length self.now, Some (length self.now)) }
+    {
         let left = self.len();
         (left, Some(left))
     }

@@ -1,2 +1,5 @@
 pub mod EscapedChars
 pub mod BitWidths
+pub mod Places
+pub mod Narrowest
+pub mod NameSearch

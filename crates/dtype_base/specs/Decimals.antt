@@ -3,7 +3,6 @@ use Rattle.std.specs.Prelude.{◌≡◌, ℕ, ◌^◌, ◌<◌, ◌≤◌, ℤ, 
 use Rattle.std.specs.Fmt.{decimal, signed_decimal}
 use Rattle.dtype_base.specs.declared.ptype.PType.{PType}
 use Rattle.dtype_base.specs.declared.ptype.PType.TheVariants as primitives
-use Rattle.dtype_base.specs.declared.decimal.TheConstants.{MAX_PRECISION}
 use Rattle.dtype_base.specs.declared.decimal.DecimalType.{DecimalType}
 use Rattle.dtype_base.specs.declared.decimal.DecimalType.TheVariants.{I8, I16, I32, I64, I128, I256}
 use Rattle.dtype_base.specs.declared.vortex_error.VortexError.{VortexError}
@@ -24,7 +23,7 @@ pub record IsDecimalWithin (max precision : ℕ) (scale : ℤ) : Type 0 where
 
 -- the decimals that 256 bits can hold
 abbrev pub IsValidDecimal : Decimal → Type 0
-IsValidDecimal d = IsDecimalWithin MAX_PRECISION d.precision d.scale
+IsValidDecimal d = IsDecimalWithin 76 d.precision d.scale
 
 -- e is the first of these refusals that the precision and the scale meet: no digits, more than max,
 -- a scale above max, and a scale above the precision

@@ -1,6 +1,7 @@
 -- Lists of names, a name being the bytes of its text. From the documentation of `FieldNames`.
-use Rattle.std.specs.Prelude.{◌≡◌, ◌≢◌, ℕ, ◌<◌, List, [], ◌∷◌, ◌++◌, Some, slice_get, codes}
-use Rattle.std.specs.List.{flat_map}
+use Rattle.std.specs.Prelude.{◌≡◌, ◌≢◌, ℕ, ◌<◌, List, [], ◌∷◌, ◌++◌, Option, Some, slice_get, codes}
+use Rattle.std.specs.List.{flat_map, position}
+use Rattle.std.specs.Str.{bytes_eq}
 use Rattle.dtype_base.specs.Escapes.{escaped}
 
 -- position i has the name n, and no position before it has
@@ -11,6 +12,10 @@ pub record FirstAt (names : List (List ℕ)) (n : List ℕ) (i : ℕ) : Type 0 w
 -- no position has the name n
 abbrev pub IsAbsent : List (List ℕ) → List ℕ → Type 0
 IsAbsent names n = (k : ℕ) → slice_get names k ≢ Some n
+
+-- the first position of the name n, if one has it
+abbrev pub first_place : List (List ℕ) → List ℕ → Option ℕ
+first_place names n = position (λ m. bytes_eq m n) names
 
 -- a name in double quotes
 abbrev pub quoted : List ℕ → List ℕ

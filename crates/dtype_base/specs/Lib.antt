@@ -4,3 +4,4 @@ pub mod Primitives
 pub mod FieldNames
 pub mod Escapes
 pub mod Decimals
+pub mod NameOrder

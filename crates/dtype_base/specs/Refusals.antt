@@ -1,7 +1,25 @@
 -- The numbers of the refusals, by which documents and tests name them.
 use Rattle.std.specs.Prelude.{ℕ}
 use Rattle.dtype_base.specs.declared.vortex_error.VortexError.{VortexError}
-use Rattle.dtype_base.specs.declared.vortex_error.VortexError.TheVariants.{OutOfMemory, PrecisionZero, PrecisionTooLarge, ScaleTooLarge, ScaleAbovePrecision, NotDecimal, NotPrimitive, NotDecimalPType, BytesLength, MapKeyNullable, UnionTypesLength, UnionTagsLength, UnionEmpty, UnionTagsRepeat, UnionTooMany, UnionNamesRepeat, FieldNotFound, IndexOutOfBounds, DuplicateNames, WidthOverflow, ExactRoot, AllMask, MetadataRefused, ExtensionIdDiffers}
+use Rattle.dtype_base.specs.declared.vortex_error.VortexError.TheVariants.{OutOfMemory, PrecisionZero, PrecisionTooLarge, ScaleTooLarge, ScaleAbovePrecision, NotDecimal, NotPrimitive, NotDecimalPType, BytesLength, MapKeyNullable, UnionTypesLength, UnionTagsLength, UnionEmpty, UnionTagsRepeat, UnionTooMany, UnionNamesRepeat, FieldNotFound, IndexOutOfBounds, DuplicateNames, WidthOverflow, ExactRoot, AllMask, MetadataRefused, ExtensionIdDiffers, Message}
+use Rattle.dtype_base.specs.declared.vortex_error.MessageFault.{MessageFault}
+use Rattle.dtype_base.specs.declared.vortex_error.MessageFault.TheVariants.{TypeMissing, PrimitiveNumber, PrecisionRange, ScaleRange, ListElementMissing, FixedElementMissing, MapKeyMissing, MapValueMissing, StructLengths, TypeIdRange, StorageMissing, ExtensionUnregistered, PathPartMissing}
+
+-- the faults of messages
+abbrev pub fault_number : MessageFault → ℕ
+fault_number TypeMissing = 24
+fault_number PrimitiveNumber = 25
+fault_number PrecisionRange = 26
+fault_number ScaleRange = 27
+fault_number ListElementMissing = 28
+fault_number FixedElementMissing = 29
+fault_number MapKeyMissing = 30
+fault_number MapValueMissing = 31
+fault_number StructLengths = 32
+fault_number TypeIdRange = 33
+fault_number StorageMissing = 34
+fault_number ExtensionUnregistered = 35
+fault_number PathPartMissing = 36
 
 abbrev pub number_of : VortexError → ℕ
 number_of OutOfMemory = 0
@@ -28,3 +46,4 @@ number_of ExactRoot = 20
 number_of AllMask = 21
 number_of MetadataRefused = 22
 number_of ExtensionIdDiffers = 23
+number_of (Message fault) = fault_number fault

@@ -23,13 +23,12 @@ pub struct DecimalDType {
 
 impl Model for DecimalDType {
     ghost use Rattle.dtype_base.specs.Decimals.{Decimal, IsDecimalWithin};
-    ghost use Rattle.dtype_base.specs.declared.decimal.TheConstants.{MAX_PRECISION};
 
     ghost Value = { Decimal };
 
     ghost view = { λ d. record { precision = d.precision; scale = d.scale } };
 
-    ghost invariant = { λ d. IsDecimalWithin MAX_PRECISION d.precision d.scale };
+    ghost invariant = { λ d. IsDecimalWithin 76 d.precision d.scale };
 
     ghost inverse = { λ d. record { precision = d.precision; scale = d.scale } };
 }
@@ -40,8 +39,8 @@ impl DecimalDType {
     /// or above the precision (ScaleAbovePrecision, 4). Every negative scale is taken.
     pub fn try_new(precision: u8, scale: i8) -> VortexResult<Self>
         ensures ok { IfOk result (λ d. (d.precision ≡ precision) × (d.scale ≡ scale)) }
-        ensures valid { IsOk result ↔ IsDecimalWithin MAX_PRECISION precision scale }
-        ensures refused { IfErr result (IsDecimalRefusal MAX_PRECISION precision scale) }
+        ensures valid { IsOk result ↔ IsDecimalWithin 76 precision scale }
+        ensures refused { IfErr result (IsDecimalRefusal 76 precision scale) }
     {
         check_precision_and_scale(precision, scale, MAX_PRECISION)?;
         Ok(DecimalDType { precision, scale })
@@ -49,7 +48,7 @@ impl DecimalDType {
 
     /// The decimal type of this precision and scale.
     pub fn new(precision: u8, scale: i8) -> Self
-        requires { IsDecimalWithin MAX_PRECISION precision scale }
+        requires { IsDecimalWithin 76 precision scale }
         ensures precision { result.precision ≡ precision }
         ensures scale { result.scale ≡ scale }
     {

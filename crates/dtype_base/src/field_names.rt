@@ -2,7 +2,7 @@ ghost use Rattle.std.specs.Prelude.{◌≡◌, ◌↔◌, ℕ, IsTrue, IfOk, IfS
 ghost use Rattle.std.specs.Option.{option_copied};
 ghost use Rattle.std.specs.Iterator.{IsFinite};
 ghost use Rattle.std.specs.Iterator.Runs.{WholeRun};
-ghost use Rattle.dtype_base.specs.FieldNames.{FirstAt, IsAbsent};
+ghost use Rattle.dtype_base.specs.FieldNames.{FirstAt, IsAbsent, first_place};
 ghost use Rattle.dtype_base.specs.declared.vortex_error.VortexError.TheVariants.{OutOfMemory};
 
 use crate::{FieldName, FieldNamesIntoIter, FieldNamesIter, VortexResult};
@@ -122,6 +122,15 @@ impl FieldNames {
 
     /// The first position of the name, or `None` where no name is equal to it.
     pub fn find(&self, name: &str) -> Option<usize>
+        ensures first { result ≡ first_place self.now name.now }
+        ensures found { IfSome result (FirstAt self.now name.now) }
+        ensures none { IfNone result (IsAbsent self.now name.now) }
+    {
+        self.scan(name)
+    }
+
+    // The first position of the name, by one comparison a name.
+    fn scan(&self, name: &str) -> Option<usize>
         ensures found { IfSome result (FirstAt self.now name.now) }
         ensures none { IfNone result (IsAbsent self.now name.now) }
     {

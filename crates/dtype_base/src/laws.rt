@@ -1,12 +1,16 @@
 // Laws of the definitions: each function does nothing, and its contract is the law.
-ghost use Rattle.std.specs.Prelude.{◌≡◌, ◌+◌, ◌-◌, ◌*◌, ◌^◌, ◌<◌, ◌≤◌};
+ghost use Rattle.std.specs.Prelude.{◌≡◌, ◌+◌, ◌-◌, ◌*◌, ◌^◌, ◌<◌, ◌≤◌, ℕ, ℤ, pos, codes};
 ghost use Rattle.std.specs.Ordering.{nat_cmp};
-ghost use Rattle.dtype_base.specs.Primitives.{primitive};
-ghost use Rattle.dtype_base.specs.Decimals.{storage};
+ghost use Rattle.dtype_base.specs.Primitives.{primitive, Unsigned, Signed, IsNarrowest, HoldsUnsigned, HoldsSigned};
+ghost use Rattle.dtype_base.specs.Decimals.{storage, IsBitWidth};
+ghost use Rattle.dtype_base.specs.declared.nullability.Nullability.{Nullability};
+ghost use Rattle.dtype_base.specs.declared.nullability.Nullability.TheVariants.{NonNullable};
 ghost use Rattle.dtype_base.specs.declared.ptype.PType.{PType};
 ghost use Rattle.dtype_base.specs.declared.decimal.DecimalType.{DecimalType};
 
-use crate::{DecimalType, PType};
+use crate::{
+    DecimalType, MAX_PRECISION, MAX_SCALE, Nullability, PType, RESERVED_VALIDITY_FIELD_NAME,
+};
 
 /// The order of the primitive names is that of their numbers.
 pub fn primitive_names_are_ordered_by_number()
@@ -24,4 +28,35 @@ pub fn storage_types_are_ordered_by_number()
 pub fn storage_types_have_the_most_digits_that_fit()
     ensures fit { (t : DecimalType) → 10 ^ (storage t).digits ≤ 2 ^ (8 * (storage t).bytes - 1) }
     ensures most { (t : DecimalType) → 2 ^ (8 * (storage t).bytes - 1) < 10 ^ ((storage t).digits + 1) }
+{}
+
+/// A narrowest type that holds a number is one, of either sign.
+#[tactic(auto, using(crate::proofs::Narrowest::one_unsigned, crate::proofs::Narrowest::one_signed))]
+pub fn narrowest_types_are_one()
+    ensures unsigned { (n : ℕ) (p q : PType) → IsNarrowest Unsigned (HoldsUnsigned n) p
+        → IsNarrowest Unsigned (HoldsUnsigned n) q → p ≡ q }
+    ensures signed { (z : ℤ) (p q : PType) → IsNarrowest Signed (HoldsSigned z) p
+        → IsNarrowest Signed (HoldsSigned z) q → p ≡ q }
+{}
+
+/// The bit width of a precision is one number.
+#[tactic(auto, using(crate::proofs::Narrowest::one_bit_width))]
+pub fn bit_widths_are_one()
+    ensures { (p b c : ℕ) → IsBitWidth p b → IsBitWidth p c → b ≡ c }
+{}
+
+/// The greatest precision and the greatest scale are 76.
+pub fn greatest_precision_and_scale_are_76()
+    ensures precision { MAX_PRECISION ≡ 76 }
+    ensures scale { MAX_SCALE ≡ pos 76 }
+{}
+
+/// The reserved name is its text.
+pub fn reserved_name_is_its_text()
+    ensures { RESERVED_VALIDITY_FIELD_NAME.now ≡ codes "$__vortex_validity" }
+{}
+
+/// The default nullability is non-nullable.
+pub fn default_nullability_is_non_nullable()
+    ensures { (n : Nullability) → ⟦<Nullability as Default>⟧.is_default n → n ≡ NonNullable }
 {}

@@ -4,10 +4,10 @@
 // and decimals hold, and that each refusal comes exactly when its rule says, by its number.
 //
 // Begin with `VortexError` (every refusal of the workspace), then `Nullability`, `PType`,
-// `DecimalDType`, `DecimalType`, `FieldName` and `FieldNames`. The definitions that the contracts cite
-// are in `specs/`: `Refusals` (numbers), `Primitives` and `Decimals` (the two tables), `FieldNames`
-// (`FirstAt`) and `Escapes` (the text of a name). `laws` states what ties the tables to their meaning.
-// What is proved, and what is only tested, is in the README.
+// `DecimalDType`, `DecimalType`, `FieldName`, `FieldNames` and `IndexedNames`. The definitions that the
+// contracts cite are in `specs/`: `Refusals` (numbers), `Primitives` and `Decimals` (the two tables),
+// `FieldNames` (`FirstAt`), `NameOrder` (the index of names) and `Escapes` (the text of a name). `laws`
+// states what ties the tables to their meaning. What is proved, and what is only tested, is in the README.
 #![tactic(auto)]
 
 mod decimal;
@@ -15,11 +15,11 @@ mod field_name;
 mod field_names;
 mod field_names_into_iter;
 mod field_names_iter;
+mod indexed_names;
 pub mod laws;
+mod name_order;
 mod nullability;
 mod ptype;
-#[cfg(test)]
-mod tests;
 mod vortex_error;
 
 pub use decimal::{DecimalDType, DecimalType, MAX_PRECISION, MAX_SCALE, check_precision_and_scale};
@@ -27,9 +27,10 @@ pub use field_name::FieldName;
 pub use field_names::FieldNames;
 pub use field_names_into_iter::FieldNamesIntoIter;
 pub use field_names_iter::FieldNamesIter;
+pub use indexed_names::IndexedNames;
 pub use nullability::Nullability;
 pub use ptype::PType;
-pub use vortex_error::{VortexError, VortexResult};
+pub use vortex_error::{MessageFault, VortexError, VortexResult};
 
 /// The name of the field that holds whether the values of a struct are null.
 pub const RESERVED_VALIDITY_FIELD_NAME: &str = "$__vortex_validity";

@@ -22,7 +22,7 @@ pub enum PType {
 const F16_MAX: u64 = 65504;
 
 impl PType {
-    ghost use Rattle.dtype_base.specs.Primitives.{primitive, IsUnsigned, IsSigned, IsInteger, IsFloat, HoldsUnsigned, HoldsSigned, IsNarrowest, wider};
+    ghost use Rattle.dtype_base.specs.Primitives.{primitive, IsUnsigned, IsSigned, IsInteger, IsFloat, HoldsUnsigned, HoldsSigned, IsNarrowest, narrowest_unsigned, wider};
     ghost use Rattle.dtype_base.specs.Primitives.Kind.{Unsigned, Signed};
 
     /// Whether values are unsigned integers.
@@ -127,7 +127,8 @@ impl PType {
 
     /// The narrowest unsigned integer that holds the value.
     pub fn min_unsigned_ptype_for_value(value: u64) -> PType
-        ensures { IsNarrowest Unsigned (HoldsUnsigned value) result }
+        ensures first { narrowest_unsigned value ≡ Some result }
+        ensures narrowest { IsNarrowest Unsigned (HoldsUnsigned value) result }
     {
         if value <= u64::from(u8::MAX) {
             PType::U8

@@ -1,5 +1,5 @@
 ghost use Rattle.std.specs.Prelude.{◌≡◌};
-ghost use Rattle.dtype_base.specs.Refusals.{number_of};
+ghost use Rattle.dtype_base.specs.Refusals.{number_of, fault_number};
 ghost use Rattle.dtype_base.specs.declared.vortex_error.VortexError.TheVariants.{OutOfMemory};
 
 use crate::PType;
@@ -85,10 +85,80 @@ pub enum VortexError {
     /// 23: an extension of another id.
     #[error("extension id differs")]
     ExtensionIdDiffers,
+    /// 24 to 36: a message that says no type, or no path.
+    #[error("{0}")]
+    Message(MessageFault),
+}
+
+/// What is wrong with a message. The numbers are 24 to 36, in the order of the kinds.
+#[derive(Debug, Drop, PartialEq, Eq, Error)]
+pub enum MessageFault {
+    /// 24: a type message without a kind.
+    #[error("Unrecognized DType")]
+    TypeMissing,
+    /// 25: a primitive number that no primitive type has.
+    #[error("unknown primitive number")]
+    PrimitiveNumber,
+    /// 26: a decimal precision above 255.
+    #[error("precision does not fit in u8")]
+    PrecisionRange,
+    /// 27: a decimal scale that 8 bits can't say.
+    #[error("scale does not fit in i8")]
+    ScaleRange,
+    /// 28: a list without an element.
+    #[error("Invalid list element type")]
+    ListElementMissing,
+    /// 29: a fixed-size list without an element.
+    #[error("Invalid fixed-size list element type")]
+    FixedElementMissing,
+    /// 30: a map without a key.
+    #[error("Invalid map key type")]
+    MapKeyMissing,
+    /// 31: a map without a value.
+    #[error("Invalid map value type")]
+    MapValueMissing,
+    /// 32: a struct with another number of types than of names.
+    #[error("struct names and dtypes length mismatch")]
+    StructLengths,
+    /// 33: a union tag that isn't from 0 to 255.
+    #[error("type_id does not fit in u8")]
+    TypeIdRange,
+    /// 34: an extension without a storage.
+    #[error("Extension DType missing storage proto")]
+    StorageMissing,
+    /// 35: an extension of an id that isn't registered, where unknown ids are refused.
+    #[error("Unregistered extension type ID")]
+    ExtensionUnregistered,
+    /// 36: a part of a path without its kind.
+    #[error("FieldPath part missing type")]
+    PathPartMissing,
+}
+
+impl MessageFault {
+    /// The refusal's number, from 24 to 36, in the order of the kinds.
+    pub fn number(&self) -> u8
+        ensures { result ≡ fault_number self.now }
+    {
+        match self {
+            MessageFault::TypeMissing => 24,
+            MessageFault::PrimitiveNumber => 25,
+            MessageFault::PrecisionRange => 26,
+            MessageFault::ScaleRange => 27,
+            MessageFault::ListElementMissing => 28,
+            MessageFault::FixedElementMissing => 29,
+            MessageFault::MapKeyMissing => 30,
+            MessageFault::MapValueMissing => 31,
+            MessageFault::StructLengths => 32,
+            MessageFault::TypeIdRange => 33,
+            MessageFault::StorageMissing => 34,
+            MessageFault::ExtensionUnregistered => 35,
+            MessageFault::PathPartMissing => 36,
+        }
+    }
 }
 
 impl VortexError {
-    /// The refusal's number, from 0 to 23, in the order of the kinds.
+    /// The refusal's number, from 0 to 36, in the order of the kinds.
     pub fn number(&self) -> u8
         ensures { result ≡ number_of self.now }
     {
@@ -117,6 +187,7 @@ impl VortexError {
             VortexError::AllMask => 21,
             VortexError::MetadataRefused => 22,
             VortexError::ExtensionIdDiffers => 23,
+            VortexError::Message(fault) => fault.number(),
         }
     }
 }

@@ -5,8 +5,7 @@ use Rattle.std.specs.Result.{is_ok}
 use Rattle.std.proofs.lemmas.List.{map-append}
 use Rattle.std.proofs.lemmas.Grind.{flat_map-append}
 use Rattle.std.proofs.lemmas.Bool.{false≢true}
-use Rattle.std.proofs.KnownBytes.{Appends-kept}
-use Rattle.std.specs.Io.KnownBytes.{Appends, Keeps}
+use Rattle.std.specs.Io.KnownBytes.{Appends}
 use Rattle.dtype_types.specs.Text.{text}
 use Rattle.dtype_types.specs.Tree.{Tree}
 use Rattle.dtype_paths.specs.Along.{along, At-along, along_none}
@@ -36,8 +35,3 @@ pub answers_more : (t : Tree) (lines : List (Bor (List ℕ))) (line : Bor (List 
 answers_more t lines line =
     ap (λ bs. answers_to t (map (λ l. l.now) lines) ++ bs) (sym (append-nil (answer_text t (parts_of line.now))))
     ∙ sym (ap (answers_to t) (map-append (λ (l : Bor (List ℕ)). l.now) lines (line ∷ [])) ∙ flat_map-append (λ l. answer_text t (parts_of l)) (map (λ l. l.now) lines) (line.now ∷ []))
-
--- where flushing went well, so did the call that passes its error on
-pub flushed_on_ok : {F : Type 0} (q : Result (Unit {0}) F) (a b c : Option (List ℕ)) (bs all : List ℕ) → Appends a b bs → Keeps b c → bs ≡ all → OnOk q (Appends a c all)
-flushed_on_ok (Ok x) a b c bs all wrote kept is = subst (Appends a c) is (Appends-kept a b c bs wrote kept)
-flushed_on_ok (Err e) a b c bs all wrote kept is = tt

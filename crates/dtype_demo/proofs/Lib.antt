@@ -1,3 +1,4 @@
 pub mod AnswerTexts
 pub mod LinesLaws
 pub mod TerminatedLines
+pub mod CoverTexts

@@ -1,8 +1,16 @@
--- The type whose paths the program tells: {a=list({b=u32})?}.
+-- The type whose paths the program tells: {a=list({b=u32})?, f=fixed_size_list(u8)[2]}.
 use Rattle.std.specs.Prelude.{codes}
 use Rattle.dtype_base.specs.declared.nullability.Nullability.TheVariants.{NonNullable, Nullable}
-use Rattle.dtype_base.specs.declared.ptype.PType.TheVariants.{U32}
-use Rattle.dtype_types.specs.Tree.{Tree, primitive, list, struct, field, no_fields}
+use Rattle.dtype_base.specs.declared.ptype.PType.TheVariants.{U8, U32}
+use Rattle.dtype_types.specs.Tree.{Tree, primitive, list, fixed_size_list, struct, field, no_fields}
+
+-- of the field a
+abbrev pub list_tree : Tree
+list_tree = list (struct (field (codes "b") (primitive U32 NonNullable) no_fields) NonNullable) Nullable
+
+-- of the field f
+abbrev pub pair_tree : Tree
+pair_tree = fixed_size_list (primitive U8 NonNullable) 2 NonNullable
 
 abbrev pub demo_tree : Tree
-demo_tree = struct (field (codes "a") (list (struct (field (codes "b") (primitive U32 NonNullable) no_fields) NonNullable) Nullable) no_fields) NonNullable
+demo_tree = struct (field (codes "a") list_tree (field (codes "f") pair_tree no_fields)) NonNullable

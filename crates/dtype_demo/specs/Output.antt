@@ -1,9 +1,15 @@
 -- What the program prints.
-use Rattle.std.specs.Prelude.{ℕ, List, [], ◌∷◌, ◌++◌, codes, Option, Some, None}
-use Rattle.std.specs.List.{flat_map}
+use Rattle.std.specs.Prelude.{◌↔◌, ℕ, List, [], ◌∷◌, ◌++◌, codes, map, Option, Some, None}
+use Rattle.std.specs.Cmp.Lexicographic.{slice_cmp}
+use Rattle.std.specs.Io.KnownBytes.{Appends}
+use Rattle.std.specs.List.{Contains, flat_map}
+use Rattle.std.specs.List.Sorted.{IsPermutation, IsSorted}
+use Rattle.std.specs.Ordering.{nat_cmp}
+use Rattle.dtype_types.specs.Distinct.{Distinct}
 use Rattle.dtype_types.specs.Text.{text}
 use Rattle.dtype_types.specs.Tree.{Tree}
 use Rattle.dtype_paths.specs.Along.{along}
+use Rattle.dtype_paths.specs.Cover.{Least}
 use Rattle.dtype_paths.specs.Texts.{path_text}
 use Rattle.dtype_paths.specs.declared.field.Field.{Field}
 use Rattle.dtype_demo.specs.Lines.{lines_of, parts_of}
@@ -21,6 +27,26 @@ answer_text t p = path_text p ++ (codes " = " ++ (found_text (along t p) ++ 10 �
 abbrev pub answers_to : Tree → List (List ℕ) → List ℕ
 answers_to t = flat_map (λ line. answer_text t (parts_of line))
 
--- what is printed for the whole input
-abbrev pub output_of : Tree → List ℕ → List ℕ
-output_of t bytes = answers_to t (lines_of bytes)
+-- these are the texts of the least of the paths, each once, in the order of their bytes
+pub record IsCover (paths : List (List Field)) (texts : List (List ℕ)) : Type 0 where
+  pub cover : List (List Field)
+  pub least : (p : List Field) → Contains cover p ↔ Least paths p
+  pub once : Distinct cover
+  pub printed : IsPermutation (map path_text cover) texts
+  pub sorted : IsSorted (slice_cmp nat_cmp) texts
+
+-- the last line, without its newline: each text behind a space (byte 32)
+abbrev pub cover_text : List (List ℕ) → List ℕ
+cover_text texts = codes "cover:" ++ flat_map (λ bytes. 32 ∷ bytes) texts
+
+-- the line of the cover of these paths is written
+pub record WritesCover (paths : List (List Field)) (old new : Option (List ℕ)) : Type 0 where
+  pub texts : List (List ℕ)
+  pub cover : IsCover paths texts
+  pub written : Appends old new (cover_text texts ++ 10 ∷ [])
+
+-- the answers to the lines of the input are written, and the line of their cover behind them
+pub record WritesOutput (t : Tree) (bytes : List ℕ) (old new : Option (List ℕ)) : Type 0 where
+  pub answered : Option (List ℕ)
+  pub answers : Appends old answered (answers_to t (lines_of bytes))
+  pub cover : WritesCover (map parts_of (lines_of bytes)) answered new

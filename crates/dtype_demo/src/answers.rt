@@ -2,29 +2,31 @@ ghost use Rattle.std.specs.Prelude.{◌≡◌, ◌⊎◌, IfErr, OnOk};
 ghost use Rattle.std.specs.Io.KnownBytes.{Appends};
 ghost use Rattle.dtype_types.specs.TreeOf.{tree};
 ghost use Rattle.dtype_demo.specs.Lines.{parts_of};
-ghost use Rattle.dtype_demo.specs.Output.{answer_text, output_of};
+ghost use Rattle.dtype_demo.specs.Output.{answer_text, WritesOutput};
 
 use crate::DemoFault;
+use crate::cover::write_cover;
 use crate::lines::parse_line;
 use dtype_types::DType;
 use std::alloc::Global;
 use std::io::Write;
 
-// Writes the answer to each line of the text, and flushes.
+// Writes the answer to each line of the text, then the line of their cover, and flushes.
 pub fn write_answers<W: Write>(
     alloc: Global,
     dtype: &DType,
     text: &str,
     writer: &mut W,
 ) -> Result<(), DemoFault>
-    ensures ok { OnOk result (Appends (W.contents writer.old) (W.contents writer.new)
-        (output_of (tree dtype.now) text.now)) }
+    ensures ok { OnOk result (WritesOutput (tree dtype.now) text.now
+        (W.contents writer.old) (W.contents writer.new)) }
     ensures faults { IfErr result (λ fault.
         (fault ≡ DemoFault.WriteFailed) ⊎ (fault ≡ DemoFault.OutOfMemory)) }
 {
     for line in text.split_terminator('\n') {
         answer(alloc, dtype, line, writer)?;
     }
+    write_cover(alloc, text, writer)?;
     writer.flush().map_err(|_| DemoFault::WriteFailed)
 }
 

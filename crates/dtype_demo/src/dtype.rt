@@ -8,7 +8,8 @@ use dtype_base::{FieldName, FieldNames, Nullability, PType, VortexResult};
 use dtype_types::{DType, StructFields};
 use std::alloc::Global;
 
-// The type whose paths the program tells: {a=list({b=u32})?}. Refuses 0 (OutOfMemory) alone.
+// The type whose paths the program tells: {a=list({b=u32})?, f=fixed_size_list(u8)[2]}. Refuses 0
+// (OutOfMemory) alone.
 pub fn demo_dtype(alloc: Global) -> VortexResult<DType>
     ensures ok { IfOk result (λ d. tree d ≡ demo_tree) }
     ensures refused { IsOkUnless result OutOfMemory }
@@ -16,7 +17,16 @@ pub fn demo_dtype(alloc: Global) -> VortexResult<DType>
     let number = DType::Primitive(PType::U32, Nullability::NonNullable);
     let element = one_field(alloc, "b", number)?;
     let list = DType::List(Box::new(alloc, element)?, Nullability::Nullable);
-    one_field(alloc, "a", list)
+    let byte = Box::new(alloc, DType::Primitive(PType::U8, Nullability::NonNullable))?;
+    let pair = DType::FixedSizeList(byte, 2, Nullability::NonNullable);
+    let mut names = Vec::new(alloc);
+    names.push(FieldName::new(alloc, "a")?)?;
+    names.push(FieldName::new(alloc, "f")?)?;
+    let mut dtypes = Vec::new(alloc);
+    dtypes.push(list)?;
+    dtypes.push(pair)?;
+    let fields = StructFields::new(alloc, FieldNames::from_vec(names), dtypes)?;
+    Ok(DType::Struct(fields, Nullability::NonNullable))
 }
 
 // The non-nullable struct of one field. Refuses 0 (OutOfMemory) alone.

@@ -6,7 +6,8 @@ use std::test::Fail;
 
 const LINES: &str = "a.[].b\na.[]\na.b\nx\n";
 
-const ANSWERS: &str = "$a.[].$b = u32\n$a.[] = {b=u32}\n$a.$b = none\n$x = none\n";
+const ANSWERS: &str =
+    "$a.[].$b = u32\n$a.[] = {b=u32}\n$a.$b = none\n$x = none\ncover: $a.$b $a.[] $x\n";
 
 // Gives its bytes one at a time.
 #[derive(Drop)]
@@ -59,6 +60,57 @@ impl Write for Unflushed {
     }
 }
 
+// Gives three bytes a read, and fails once it has been read so often.
+#[derive(Drop)]
+struct FailsToRead<'a> {
+    bytes: &'a [u8],
+    reads_left: usize,
+}
+
+impl Read for FailsToRead<'_> {
+    fn read(&mut self, buf: &mut [u8]) -> io::Result<usize> {
+        if self.reads_left == 0 {
+            return Err(io::Error::from(ErrorKind::Other));
+        }
+        self.reads_left -= 1;
+        let count = self.bytes.len().min(buf.len()).min(3);
+        let (given, rest) = self.bytes.split_at(count);
+        buf[..count].copy_from_slice(given);
+        self.bytes = rest;
+        Ok(count)
+    }
+}
+
+// Takes two bytes a write, and fails once it has been written or flushed so often.
+#[derive(Drop)]
+struct FailsToWrite {
+    taken: Vec<u8>,
+    writes_left: usize,
+}
+
+impl FailsToWrite {
+    fn count(&mut self) -> io::Result<()> {
+        if self.writes_left == 0 {
+            return Err(io::Error::from(ErrorKind::Other));
+        }
+        self.writes_left -= 1;
+        Ok(())
+    }
+}
+
+impl Write for FailsToWrite {
+    fn write(&mut self, buf: &[u8]) -> io::Result<usize> {
+        self.count()?;
+        let count = buf.len().min(2);
+        self.taken.extend_from_slice(&buf[..count])?;
+        Ok(count)
+    }
+
+    fn flush(&mut self) -> io::Result<()> {
+        self.count()
+    }
+}
+
 // What `run` answers, and what it wrote.
 fn outcome<R: Read + Drop>(alloc: Global, mut reader: R) -> (Result<(), DemoFault>, Vec<u8>) {
     let mut written = Vec::new(alloc);
@@ -69,10 +121,17 @@ fn outcome<R: Read + Drop>(alloc: Global, mut reader: R) -> (Result<(), DemoFaul
 #[test]
 fn each_line_is_answered(rt: HostRuntime) -> Result<(), Fail> {
     for (input, want) in [
-        ("", ""),
-        ("\n", " = {a=list({b=u32})?}\n"),
-        ("a..b", "$a.$.$b = none\n"),
-        ("a", "$a = list({b=u32})?\n"),
+        ("", "cover:\n"),
+        (
+            "\n",
+            " = {a=list({b=u32})?, f=fixed_size_list(u8)[2]}\ncover: \n",
+        ),
+        (
+            "f.[]\nf\n",
+            "$f.[] = u8\n$f = fixed_size_list(u8)[2]\ncover: $f\n",
+        ),
+        ("a..b", "$a.$.$b = none\ncover: $a.$.$b\n"),
+        ("a", "$a = list({b=u32})?\ncover: $a\n"),
         (LINES, ANSWERS),
     ] {
         let (result, written) = outcome(rt.alloc(), input.as_bytes());
@@ -117,6 +176,52 @@ fn each_failure_is_told(rt: HostRuntime) -> Result<(), Fail> {
         Err(DemoFault::WriteFailed)
     );
     Ok(())
+}
+
+// Each read but the last gives bytes, and the last finds the end.
+#[test]
+fn each_read_that_fails_is_told(rt: HostRuntime) -> Result<(), Fail> {
+    let alloc = rt.alloc();
+    let bytes = LINES.as_bytes();
+    let reads = bytes.len().div_ceil(3) + 1;
+    for reads_left in 0..reads {
+        let (result, written) = outcome(alloc, FailsToRead { bytes, reads_left });
+        assert_eq!(rt; result, Err(DemoFault::ReadFailed), "after {reads_left}");
+        assert!(rt; written.is_empty(), "after {reads_left}");
+    }
+    let reader = FailsToRead {
+        bytes,
+        reads_left: reads,
+    };
+    let (result, written) = outcome(alloc, reader);
+    assert_eq!(rt; result, Ok(()));
+    assert_eq!(rt; written.as_slice(), ANSWERS.as_bytes());
+    Ok(())
+}
+
+// The writes that occur are at least one for each two bytes, and the flush.
+#[test]
+fn each_write_that_fails_is_told(rt: HostRuntime) -> Result<(), Fail> {
+    let alloc = rt.alloc();
+    for writes_left in 0..1000 {
+        let mut writer = FailsToWrite {
+            taken: Vec::new(alloc),
+            writes_left,
+        };
+        let mut lines = LINES.as_bytes();
+        let result = run(alloc, &mut lines, &mut writer);
+        if result.is_ok() {
+            assert!(rt; writes_left > ANSWERS.len() / 2);
+            assert_eq!(rt; writer.taken.as_slice(), ANSWERS.as_bytes());
+            return Ok(());
+        }
+        assert_eq!(rt; result, Err(DemoFault::WriteFailed), "after {writes_left}");
+        assert!(rt;
+            ANSWERS.as_bytes().starts_with(&writer.taken),
+            "after {writes_left}"
+        );
+    }
+    panic!(rt; "no run ended")
 }
 
 #[test]

@@ -17,8 +17,6 @@ mod native_dtype;
 mod native_ptype;
 mod precision_scale;
 mod ptype_visitor;
-#[cfg(test)]
-mod tests;
 mod to_bytes;
 mod try_from_bytes;
 

@@ -3,9 +3,9 @@ ghost use Rattle.dtype_base.specs.declared.nullability.Nullability.TheVariants.{
 ghost use Rattle.dtype_base.specs.declared.ptype.PType.TheVariants.{U8, U16, U32, U64, I8, I16, I32, I64};
 ghost use Rattle.dtype_base.specs.declared.vortex_error.VortexError.TheVariants.{OutOfMemory};
 ghost use Rattle.dtype_native.specs.NativeTypes.{nullable_form};
+ghost use Rattle.dtype_types.specs.IsValid.{IsValid};
 ghost use Rattle.dtype_types.specs.Tree.{Tree, binary, bool, list, primitive, utf8};
 ghost use Rattle.dtype_types.specs.TreeOf.{tree};
-ghost use Rattle.dtype_types.specs.Valid.{Valid};
 
 use crate::NativePType;
 use dtype_base::{Nullability, VortexResult};
@@ -20,7 +20,7 @@ pub trait NativeDType {
     /// The logical type: non-nullable, but for an `Option`. Refuses 0 (OutOfMemory) alone.
     fn dtype(alloc: Global) -> VortexResult<DType>
         ensures meaning { IfOk result (λ d. tree d ≡ native_tree) }
-        ensures valid { IfOk result (λ d. Valid (tree d)) }
+        ensures valid { IfOk result IsValid }
         ensures refused { IsOkUnless result OutOfMemory };
 }
 
@@ -109,7 +109,7 @@ impl NativeDType for &str {
 
     fn dtype(_alloc: Global) -> VortexResult<DType>
         ensures meaning { IfOk result (λ d. tree d ≡ utf8 NonNullable) }
-        ensures valid { IfOk result (λ d. Valid (tree d)) }
+        ensures valid { IfOk result IsValid }
         ensures refused { IsOkUnless result OutOfMemory }
     {
         Ok(DType::Utf8(Nullability::NonNullable))
@@ -121,7 +121,7 @@ impl NativeDType for &[u8] {
 
     fn dtype(_alloc: Global) -> VortexResult<DType>
         ensures meaning { IfOk result (λ d. tree d ≡ binary NonNullable) }
-        ensures valid { IfOk result (λ d. Valid (tree d)) }
+        ensures valid { IfOk result IsValid }
         ensures refused { IsOkUnless result OutOfMemory }
     {
         Ok(DType::Binary(Nullability::NonNullable))

@@ -1,6 +1,6 @@
-#![tactic(auto, using(crate::proofs::Bytes::written))]
+#![tactic(auto, using(crate::proofs::Bytes::written, crate::proofs::Bytes::length_little_endian))]
 
-ghost use Rattle.std.specs.Prelude.{◌≡◌, ℕ, List};
+ghost use Rattle.std.specs.Prelude.{◌≡◌, ℕ, List, length};
 ghost use Rattle.std.specs.Int.{w8, w16, w32, w64};
 ghost use Rattle.dtype_native.specs.LittleEndian.{little_endian};
 ghost use Rattle.dtype_native.specs.NumberLaws.{injective, signed_injective};
@@ -21,6 +21,7 @@ pub trait ToBytes: Number {
     /// The number's bytes, least first, in two's complement.
     fn to_le_bytes(&self) -> Self::Bytes
         ensures written { bytes_in result ≡ little_endian byte_width (Self.value self.now) }
+        ensures count { length (bytes_in result) ≡ byte_width }
         ensures in_range { Self.fits (Self.value self.now) };
 
     /// The bytes in an array, as a slice.

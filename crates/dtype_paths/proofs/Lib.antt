@@ -1,3 +1,17 @@
 pub mod JoinedTexts
 pub mod PathLaws
 pub mod Steps
+pub mod Exact
+pub mod MaskLaws
+pub mod OverlapLaws
+pub mod PathTests
+pub mod CoverLaws
+pub mod CoverTestLaws
+pub mod NodeCounts
+pub mod NodeCovered
+pub mod NodeDistinct
+pub mod NodeInserts
+pub mod NodeLeast
+pub mod NodeLookups
+pub mod SetAnswers
+pub mod SetMembers

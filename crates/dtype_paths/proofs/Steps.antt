@@ -1,7 +1,7 @@
 -- One step, by what a type of each kind holds.
 use Rattle.std.proofs.Common.{◌≡◌, ℕ, List, Some, None, refl, ap}
-use Rattle.dtype_types.specs.Tree.{Tree, list, struct}
-use Rattle.dtype_types.specs.Kinds.{struct_fields, list_element}
+use Rattle.dtype_types.specs.Tree.{Tree, list, fixed_size_list, struct}
+use Rattle.dtype_types.specs.Kinds.{struct_fields, any_size_list_element}
 use Rattle.dtype_types.specs.Lookups.{first_named}
 use Rattle.dtype_paths.specs.At.{step}
 use Rattle.dtype_paths.specs.declared.field.Field.TheVariants.{Name, ElementType}
@@ -14,6 +14,7 @@ pub step_name_none : (t : Tree) (m : List ℕ) → struct_fields t ≡ None → 
 step_name_none (struct gs n) m e = cc
 step_name_none _ m e = refl
 
-pub step_element : (t : Tree) → step t ElementType ≡ list_element t
+pub step_element : (t : Tree) → step t ElementType ≡ any_size_list_element t
 step_element (list u n) = refl
+step_element (fixed_size_list u k n) = refl
 step_element _ = refl

@@ -4,3 +4,15 @@ pub mod Beginning
 pub mod Equality
 pub mod EqualityLaws
 pub mod Texts
+pub mod Found
+pub mod Around
+pub mod Hashes
+pub mod Fields
+pub mod In
+pub mod Overlaps
+pub mod Cover
+pub mod CoverTests
+pub mod NodeDepth
+pub mod PathSets
+pub mod Rows
+pub mod Meets

@@ -7,7 +7,7 @@ use Rattle.dtype_types.specs.Tree.{Tree, fields, variants}
 use Rattle.dtype_types.specs.Hashes.{hash_of, field_count, field_writes, variant_count, variant_writes}
 use Rattle.dtype_types.specs.TreeOf.{tree, zip_tagged}
 use Rattle.dtype_types.proofs.Turns.{drop_zip, drop_choices}
-use Rattle.dtype_types.specs.declared.equality.Nullabilities.{Nullabilities}
+use Rattle.dtype_types.specs.declared.hashing.Hashed.{Hashed}
 use Rattle.dtype_types.specs.declared.dtype.DType.{DType}
 
 pub count_of_fields : (ps : List (List ℕ × Tree)) → field_count (fields ps) ≡ length ps
@@ -18,7 +18,7 @@ pub count_of_variants : (ps : List (List ℕ × Tree × ℕ)) → variant_count 
 count_of_variants [] = refl
 count_of_variants (p ∷ ps) = ap suc (count_of_variants ps)
 
-module _ {S : Type 0} (write : S → List ℕ → S) (rule : Nullabilities) where
+module _ {S : Type 0} (write : S → List ℕ → S) (rule : Hashed) where
   -- r is the state after all fields, s that before the field at i, and u that behind it
   pub field_fed : (ns : List (List ℕ)) (ds : List DType) (i : ℕ) (n : List ℕ) (d : DType) (r s t u : S) → i < length ns → i < length ds → n ≡ get_or ns i n → d ≡ get_or ds i d
       → r ≡ fold write s (field_writes rule (fields (drop i (zip ns (map tree ds))))) → t ≡ fold write s (fed.str n) → u ≡ fold write t (hash_of rule (tree d))

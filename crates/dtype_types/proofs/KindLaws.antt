@@ -1,5 +1,5 @@
 -- What a type of another kind doesn't hold, and what a struct holds.
-use Rattle.std.proofs.Common.{◌≡◌, ap, sym, ◌∙◌, ℕ, ℤ, Some, None, refl}
+use Rattle.std.proofs.Common.{◌≡◌, ap, ◌∙◌, ℕ, Some, None, refl}
 use Rattle.std.specs.declared.boxed.Box.{Box}
 use Rattle.std.specs.declared.alloc.Global.{Global}
 use Rattle.dtype_base.specs.declared.nullability.Nullability.{Nullability}
@@ -8,10 +8,10 @@ use Rattle.dtype_base.specs.declared.ptype.PType.{PType}
 use Rattle.dtype_types.specs.declared.kind.Kind.TheVariants as k
 use Rattle.dtype_types.specs.Kinds.{kind, primitive_name, decimal_of, struct_fields, union_variants, map_parts, extension_parts, list_element, fixed_size_list_element, any_size_list_element}
 use Rattle.dtype_types.specs.Tree.{Tree, Fields, Variants, primitive, struct, extension}
-use Rattle.dtype_types.specs.TreeOf.{tree, children, choices, key_tree, value_tree, are_keys_sorted, extension_id, extension_metadata, storage_tree, MapParts, ExtensionParts, type_step, extension_step, map_step, struct_step, union_step}
+use Rattle.dtype_types.specs.TreeOf.{tree, children, choices, MapParts, ExtensionParts, type_step, extension_step, map_step, struct_step, union_step}
 use denote.Hole.Carrier
 use Rattle.dtype_types.specs.declared.dtype.DType.{out-DType, fold_out-DType}
-use Rattle.dtype_types.proofs.TreeLaws.{struct_is, union_is, tree_struct, tree_union, tree_map, tree_extension, pairs_fields, triples_variants}
+use Rattle.dtype_types.proofs.TreeLaws.{struct_is, union_is, tree_struct, tree_union, pairs_fields, triples_variants}
 use Rattle.dtype_types.specs.declared.dtype.DType.{DType, Primitive, Decimal, List as List_of, List', FixedSizeList, FixedSizeList', Map, Map', Struct, Struct', Union, Union', Extension, Extension'}
 use Rattle.dtype_types.specs.declared.struct_fields.StructFields.{StructFields}
 use Rattle.dtype_types.specs.declared.union_variants.UnionVariants.{UnionVariants}
@@ -46,17 +46,17 @@ any_size_list_element_none d h g = ap any_size_list_element (fold_out-DType Tree
 
 pub map_parts_none : (d : DType) → ((x : MapDType) (n : Nullability) → d ≡ Map x n → ⊥) → map_parts (tree d) ≡ None
 unfolding out-DType Carrier.out
-map_parts_none (Map' b k c v o n) h = absurd (h (record { key = record { ptr = b.ptr; alloc = b.alloc; value = k }; value = record { ptr = c.ptr; alloc = c.alloc; value = v }; keys_sorted = o }) n refl)
+map_parts_none (Map' b k c v o n) h = absurd (h (record { key = record { ptr = b.ptr; value = k }; value = record { ptr = c.ptr; value = v }; keys_sorted = o }) n refl)
 map_parts_none d h = ap map_parts (fold_out-DType Tree ExtensionParts MapParts Fields Variants type_step extension_step map_step struct_step union_step d)
 
 pub struct_fields_none : (d : DType) → ((x : StructFields) (n : Nullability) → d ≡ Struct x n → ⊥) → struct_fields (tree d) ≡ None
 unfolding out-DType Carrier.out
-struct_fields_none (Struct' ns sh row n) h = let e = struct_is ns sh row n in absurd (h e.0 n e.1)
+struct_fields_none (Struct' p ns sh row n) h = let e = struct_is p ns sh row n in absurd (h e.0 n e.1)
 struct_fields_none d h = ap struct_fields (fold_out-DType Tree ExtensionParts MapParts Fields Variants type_step extension_step map_step struct_step union_step d)
 
 pub union_variants_none : (d : DType) → ((x : UnionVariants) (n : Nullability) → d ≡ Union x n → ⊥) → union_variants (tree d) ≡ None
 unfolding out-DType Carrier.out
-union_variants_none (Union' ns sh row gs n) h = let e = union_is ns sh row gs n in absurd (h e.0 n e.1)
+union_variants_none (Union' p ns sh row gs n) h = let e = union_is p ns sh row gs n in absurd (h e.0 n e.1)
 union_variants_none d h = ap union_variants (fold_out-DType Tree ExtensionParts MapParts Fields Variants type_step extension_step map_step struct_step union_step d)
 
 pub extension_parts_none : (d : DType) → ((x : ExtDTypeRef) → d ≡ Extension x → ⊥) → extension_parts (tree d) ≡ None

@@ -1,5 +1,4 @@
 pub mod TreeLaws
-pub mod ValidLaws
 pub mod FieldLookups
 pub mod OtherKinds
 pub mod KindLaws
@@ -14,9 +13,18 @@ pub mod Feeding
 pub mod UnionLaws
 pub mod VariantLookups
 pub mod Widths
-pub mod NameIndexes
 pub mod Projections
-pub mod ComparisonLaws
+pub mod IndexedFields
 pub mod IndentedTexts
 pub mod SettingLaws
 pub mod TagLaws
+pub mod SampleLaws
+pub mod SubLaws
+pub mod SubValues
+pub mod SubTest
+pub mod TellLaws
+pub mod TellGiven
+pub mod NullValues
+pub mod SizeZero
+pub mod EvenLists
+pub mod OneLists

@@ -1,5 +1,5 @@
 -- A type of another kind doesn't agree.
-use Rattle.std.proofs.Common.{◌≡◌, ◌&&◌, ap, ◌∙◌, ℕ, ℤ, List, Bool, false, refl}
+use Rattle.std.proofs.Common.{◌≡◌, ◌&&◌, ap, ◌∙◌, ℕ, List, Bool, false, refl}
 use Rattle.std.specs.declared.boxed.Box.{Box}
 use Rattle.std.specs.declared.alloc.Global.{Global}
 use Rattle.dtype_base.specs.declared.nullability.Nullability.{Nullability}
@@ -65,17 +65,17 @@ not_fixed s t k m d h = ap (agree s (fixed_size_list t k m)) (fold_out-DType Tre
 
 pub not_map : (s : Nullabilities) (t u : Tree) (a : Bool) (m : Nullability) (d : DType) → ((x : MapDType) (n : Nullability) → d ≡ Map x n → ⊥) → agree s (map_of t u a m) (tree d) ≡ false
 unfolding out-DType Carrier.out
-not_map s t u a m (Map' b k c v o n) h = absurd (h (record { key = record { ptr = b.ptr; alloc = b.alloc; value = k }; value = record { ptr = c.ptr; alloc = c.alloc; value = v }; keys_sorted = o }) n refl)
+not_map s t u a m (Map' b k c v o n) h = absurd (h (record { key = record { ptr = b.ptr; value = k }; value = record { ptr = c.ptr; value = v }; keys_sorted = o }) n refl)
 not_map s t u a m d h = ap (agree s (map_of t u a m)) (fold_out-DType Tree ExtensionParts MapParts Fields Variants type_step extension_step map_step struct_step union_step d)
 
 pub not_struct : (s : Nullabilities) (fs : Fields) (m : Nullability) (d : DType) → ((x : StructFields) (n : Nullability) → d ≡ Struct x n → ⊥) → agree s (struct fs m) (tree d) ≡ false
 unfolding out-DType Carrier.out
-not_struct s fs m (Struct' ns sh row n) h = let e = struct_is ns sh row n in absurd (h e.0 n e.1)
+not_struct s fs m (Struct' p ns sh row n) h = let e = struct_is p ns sh row n in absurd (h e.0 n e.1)
 not_struct s fs m d h = ap (agree s (struct fs m)) (fold_out-DType Tree ExtensionParts MapParts Fields Variants type_step extension_step map_step struct_step union_step d)
 
 pub not_union : (s : Nullabilities) (vs : Variants) (m : Nullability) (d : DType) → ((x : UnionVariants) (n : Nullability) → d ≡ Union x n → ⊥) → agree s (union vs m) (tree d) ≡ false
 unfolding out-DType Carrier.out
-not_union s vs m (Union' ns sh row gs n) h = let e = union_is ns sh row gs n in absurd (h e.0 n e.1)
+not_union s vs m (Union' p ns sh row gs n) h = let e = union_is p ns sh row gs n in absurd (h e.0 n e.1)
 not_union s vs m d h = ap (agree s (union vs m)) (fold_out-DType Tree ExtensionParts MapParts Fields Variants type_step extension_step map_step struct_step union_step d)
 
 pub not_extension : (s : Nullabilities) (i a : List ℕ) (t : Tree) (d : DType) → ((x : ExtDTypeRef) → d ≡ Extension x → ⊥) → agree s (extension i a t) (tree d) ≡ false

@@ -1,13 +1,17 @@
 -- Looking up one name after another.
-use Rattle.std.proofs.Common.{◌≡◌, ◌≢◌, ℕ, zero, suc, ◌+◌, ◌<◌, List, [], ◌∷◌, ◌++◌, length, map, take, get_or, Option, Some, None, slice_get, refl, sym, ap, ◌∙◌, subst, arith}
+use Rattle.std.proofs.Common.{Bool, true, false, cond, ◌≡◌, ◌≢◌, ℕ, zero, suc, ◌+◌, ◌<◌, List, [], ◌∷◌, ◌++◌, length, map, take, get_or, Option, Some, None, IfSome, IfNone, option_and_then, slice_get, refl, sym, ap, ◌∙◌, arith}
 use Rattle.std.proofs.lemmas.List.{take_more}
-use Rattle.std.proofs.lemmas.Option.{slice_get_read, slice_get_within}
-use Rattle.dtype_base.specs.FieldNames.{FirstAt, IsAbsent}
+use Rattle.std.proofs.lemmas.Bool.{false≢true}
+use Rattle.std.proofs.lemmas.List.Elements.{recursion_from_All}
+use Rattle.std.proofs.lemmas.Option.{slice_get_read, slice_get_within, slice_get-get_or}
+use Rattle.std.proofs.lemmas.Slice.Eq.{bytes_eq-Decides}
+use Rattle.std.specs.List.{AllByRecursion}
+use Rattle.std.specs.Str.{bytes_eq}
+use Rattle.dtype_base.specs.FieldNames.{FirstAt, IsAbsent, first_place}
+use Rattle.dtype_base.proofs.Places.{place_found}
 use Rattle.dtype_types.proofs.FieldLookups.{same_name, other_name}
-use Rattle.dtype_types.proofs.ValidLaws.{valid_first}
 use Rattle.dtype_types.specs.Lookups.{first_named, field_names, field_types, Projects, IsFirstUnknown}
-use Rattle.dtype_types.specs.Tree.{Tree, fields}
-use Rattle.dtype_types.specs.Valid.{ValidFields}
+use Rattle.dtype_types.specs.Tree.{Tree}
 
 some_is : {X : Type 0} (a b : X) → Some a ≡ Some b → a ≡ b
 some_is a b e = cc
@@ -68,7 +72,7 @@ known_names fs (m ∷ ms) (g ∷ gs) e zero n here none =
 known_names fs (m ∷ ms) (g ∷ gs) e (suc k) n here none =
     let tail : map (λ (p : List ℕ × Tree). Some p.1) gs ≡ map (first_named fs) ms = cc in known_names fs ms gs tail k n here none
 
-slice_get_take : {X : Type 0} (xs : List X) (j k : ℕ) (x : X) → k < j → slice_get xs k ≡ Some x → slice_get (take j xs) k ≡ Some x
+pub slice_get_take : {X : Type 0} (xs : List X) (j k : ℕ) (x : X) → k < j → slice_get xs k ≡ Some x → slice_get (take j xs) k ≡ Some x
 slice_get_take [] zero k x h e = absurd (omega arith)
 slice_get_take [] (suc j) k x h e = e
 slice_get_take (y ∷ ys) zero k x h e = absurd (omega arith)
@@ -83,11 +87,32 @@ first_unknown fs names gs j n h read so_far none = record {
   known = λ k m l here. known_names fs (take j names) gs so_far.types_are k m (slice_get_take names j k m l here);
 }
 
--- what a projection gives of valid fields is valid
-pub projects_valid : (fs : List (List ℕ × Tree)) (ms : List (List ℕ)) (gs : List (List ℕ × Tree)) → ValidFields (fields fs) → map (λ (p : List ℕ × Tree). Some p.1) gs ≡ map (first_named fs) ms → ValidFields (fields gs)
-projects_valid fs ms [] h e = tt
-projects_valid fs [] (g ∷ gs) h e = cc
-projects_valid fs (m ∷ ms) (g ∷ gs) h e =
-    let head : first_named fs m ≡ Some g.1 = cc in
-    let tail : map (λ (p : List ℕ × Tree). Some p.1) gs ≡ map (first_named fs) ms = cc in
-    (valid_first fs m g.1 h head, projects_valid fs ms gs h tail)
+-- a name asked for leads in the projection to what it leads to in the whole
+leads_alike : (fs gs : List (List ℕ × Tree)) → map (λ (p : List ℕ × Tree). Some p.1) gs ≡ map (first_named fs) (field_names gs) → (n : List ℕ) (k : ℕ) → slice_get (field_names gs) k ≡ Some n → first_named gs n ≡ first_named fs n
+leads_alike fs [] e n k h = cc
+leads_alike fs (g ∷ gs) e n k h = go (bytes_eq g.0 n) refl k h (λ j at. leads_alike fs gs tail n j at)
+  where
+    head : Some g.1 ≡ first_named fs g.0
+    head = cc
+
+    tail : map (λ (p : List ℕ × Tree). Some p.1) gs ≡ map (first_named fs) (field_names gs)
+    tail = cc
+
+    go : (b : Bool) → bytes_eq g.0 n ≡ b → (j : ℕ) → slice_get (field_names (g ∷ gs)) j ≡ Some n → ((i : ℕ) → slice_get (field_names gs) i ≡ Some n → first_named gs n ≡ first_named fs n) → first_named (g ∷ gs) n ≡ first_named fs n
+    go true is j at more = let same = (bytes_eq-Decides g.0 n).0 is in same_name g.0 n _ _ same ∙ head ∙ ap (first_named fs) same
+    go false is zero at more = let same = (bytes_eq-Decides g.0 n).1 (some_is g.0 n at) in absurd (false≢true (sym is ∙ same))
+    go false is (suc j) at more = ap (λ b. cond b (Some g.1) (first_named gs n)) is ∙ more j at
+
+pub projected_alike : (fs : List (List ℕ × Tree)) (names : List (List ℕ)) (gs : List (List ℕ × Tree)) → Projects fs names gs → AllByRecursion (λ n. first_named gs n ≡ first_named fs n) names
+projected_alike fs names gs p =
+    let types : map (λ (q : List ℕ × Tree). Some q.1) gs ≡ map (first_named fs) (field_names gs) = p.types_are ∙ ap (map (first_named fs)) (sym p.names_are) in
+    recursion_from_All (λ n. first_named gs n ≡ first_named fs n) names
+    (λ k d h. leads_alike fs gs types (get_or names k d) k (ap (λ ns. slice_get ns k) p.names_are ∙ slice_get-get_or names k d h))
+
+-- an answer that is the first position of the name, or none where no field has it
+pub place_named : (ps : List (List ℕ × Tree)) (n : List ℕ) (r : Option ℕ) → IfSome r (FirstAt (field_names ps) n) → IfNone r (IsAbsent (field_names ps) n) → r ≡ first_place (field_names ps) n
+place_named ps n r some none = place_found (field_names ps) n r some none
+
+pub type_found : (ps : List (List ℕ × Tree)) (n : List ℕ) (r : Option ℕ) → IfSome r (FirstAt (field_names ps) n) → IfNone r (IsAbsent (field_names ps) n) → option_and_then (λ i. slice_get (field_types ps) i) r ≡ first_named ps n
+type_found ps n None some none = sym (absent_none ps n none)
+type_found ps n (Some i) some none = sym (type_at ps n i some)

@@ -1,8 +1,12 @@
 -- A type whose nullability was set.
-use Rattle.std.proofs.Common.{◌≡◌, ◌↔◌, ℕ, List, Option, Some, None, option_and_then, refl, ap, sym, ◌∙◌, subst}
+use Rattle.std.proofs.Common.{◌≡◌, ◌↔◌, ℕ, List, Option, Some, None, Result, IfOk, option_and_then, refl, ap, sym, ◌∙◌, subst}
+use Rattle.std.proofs.lemmas.Result.{IfOk-weaker}
 use Rattle.dtype_base.specs.declared.nullability.Nullability.{Nullability}
 use Rattle.dtype_base.specs.declared.nullability.Nullability.TheVariants.{NonNullable, Nullable}
+use Rattle.dtype_base.specs.declared.vortex_error.VortexError.{VortexError}
 use Rattle.dtype_types.specs.Erase.{erase}
+use Rattle.dtype_types.specs.TreeOf.{tree}
+use Rattle.dtype_types.specs.declared.dtype.DType.{DType}
 use Rattle.dtype_types.specs.Nullable.{nullability, set_null}
 use Rattle.dtype_types.specs.Tree.{Tree, null, bool, primitive, decimal, utf8, binary, list, fixed_size_list, map_of, struct, union, variant, extension}
 
@@ -64,3 +68,20 @@ set_again (extension i b s) u m n e = by_storage (λ v. set_null v n ≡ set_nul
 
 pub last_decides : (t u v : Tree) (m n : Nullability) → set_null t m ≡ Some u → (set_null u n ≡ Some v) ↔ (set_null t n ≡ Some v)
 last_decides t u v m n e = let same = set_again t u m n e in (λ h. sym same ∙ h, λ h. same ∙ h)
+
+-- a type set once is set alike afterwards, and set back it is what it was
+pub set_again-all : (t u : Tree) (n : Nullability) → set_null t n ≡ Some u → set_null u ≡ set_null t
+set_again-all t u n e = λ i m. set_again t u n m e i
+
+pub set_own : (t : Tree) → set_null t (nullability t) ≡ Some t
+set_own (extension i b s) = ap (option_and_then (λ x. Some (extension i b x))) (set_own s)
+set_own _ = refl
+
+pub set_back : (t u : Tree) (n : Nullability) → set_null t n ≡ Some u → set_null u (nullability t) ≡ Some t
+set_back t u n e = set_again t u n (nullability t) e ∙ set_own t
+
+pub ok_again : (t : Tree) (n : Nullability) (r : Result DType VortexError) → IfOk r (λ d. set_null t n ≡ Some (tree d)) → IfOk r (λ d. set_null (tree d) ≡ set_null t)
+ok_again t n r h = IfOk-weaker r _ _ (λ d e. set_again-all t (tree d) n e) h
+
+pub ok_back : (t : Tree) (n : Nullability) (r : Result DType VortexError) → IfOk r (λ d. set_null t n ≡ Some (tree d)) → IfOk r (λ d. set_null (tree d) (nullability t) ≡ Some t)
+ok_back t n r h = IfOk-weaker r _ _ (λ d e. set_back t (tree d) n e) h

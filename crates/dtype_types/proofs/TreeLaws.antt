@@ -1,16 +1,12 @@
 -- The tree of a struct and of a union, by the lists that they hold; what a type of another kind lacks.
-use Rattle.std.specs.Prelude.{◌≡◌, ℕ, List, [], ◌∷◌, map, refl, Some, None}
-use Rattle.std.specs.declared.boxed.Box.{Box}
-use Rattle.std.specs.declared.alloc.Global.{Global}
+use Rattle.std.specs.Prelude.{◌≡◌, ℕ, List, [], ◌∷◌, refl}
 use Rattle.std.proofs.Common.{ap, sym, ◌∙◌, rules}
-use Rattle.std.specs.List.{zip}
 use Rattle.dtype_base.specs.declared.nullability.Nullability.{Nullability}
-use Rattle.dtype_types.specs.Tree.{null, map_of, Tree, Fields, Variants, pairs, triples, fields, variants, struct, union}
-use Rattle.dtype_types.specs.TreeOf.{tree, extension_tree, children, choices, MapParts, ExtensionParts, type_step, extension_step, map_step, struct_step, union_step}
-use Rattle.dtype_types.specs.declared.dtype.DType.{DType, Map, Null, Bool, Primitive, Decimal, Utf8, Binary, Variant, List as list_of, List', FixedSizeList', Map', Struct, Struct', Union, Union', Extension, Extension', roll-out-DType, roll-DType}
+use Rattle.dtype_types.specs.Tree.{null, map_of, Tree, pairs, triples, fields, variants, struct, union}
+use Rattle.dtype_types.specs.TreeOf.{tree, extension_tree, children, choices}
+use Rattle.dtype_types.specs.declared.dtype.DType.{DType, Map, Null, Struct, Struct', Union, Union', Extension, roll-out-DType, roll-DType}
 use Rattle.dtype_types.specs.declared.dtype.DType.TheViews.{rolls-Struct, outs-Struct', rolls-Union, outs-Union'}
-use denote.Hole.Carrier
-use Rattle.dtype_types.specs.declared.dtype.DType.{out-DType, fold_out-DType, fold-roll-DType, the_lemmas}
+use Rattle.dtype_types.specs.declared.dtype.DType.{fold_out-DType, fold-roll-DType, the_lemmas}
 use Rattle.dtype_types.specs.declared.struct_fields.StructFields.{fold_out-StructFields}
 use Rattle.dtype_types.specs.declared.union_variants.UnionVariants.{fold_out-UnionVariants}
 use Rattle.dtype_types.specs.declared.struct_fields.StructFields.{StructFields}
@@ -42,12 +38,12 @@ triples_variants [] = refl
 triples_variants (p ∷ ps) = ap (λ qs. p ∷ qs) (triples_variants ps)
 
 -- a row's struct is a struct of a list
-pub struct_is : (ns : _) (sh : _) (row : _) (n : Nullability) → (s : StructFields) × (Struct' ns sh row n ≡ Struct s n)
-struct_is ns sh row n =
-    let d : DType = Struct' ns sh row n in
-    (_, sym (roll-out-DType d) ∙ ap roll-DType (outs-Struct' ns sh row n) ∙ rolls-Struct _ n)
+pub struct_is : (p : _) (ns : _) (sh : _) (row : _) (n : Nullability) → (s : StructFields) × (Struct' p ns sh row n ≡ Struct s n)
+struct_is p ns sh row n =
+    let d : DType = Struct' p ns sh row n in
+    (_, sym (roll-out-DType d) ∙ ap roll-DType (outs-Struct' p ns sh row n) ∙ rolls-Struct _ n)
 
-pub union_is : (ns : _) (sh : _) (row : _) (gs : _) (n : Nullability) → (u : UnionVariants) × (Union' ns sh row gs n ≡ Union u n)
-union_is ns sh row gs n =
-    let d : DType = Union' ns sh row gs n in
-    (_, sym (roll-out-DType d) ∙ ap roll-DType (outs-Union' ns sh row gs n) ∙ rolls-Union _ n)
+pub union_is : (p : _) (ns : _) (sh : _) (row : _) (gs : _) (n : Nullability) → (u : UnionVariants) × (Union' p ns sh row gs n ≡ Union u n)
+union_is p ns sh row gs n =
+    let d : DType = Union' p ns sh row gs n in
+    (_, sym (roll-out-DType d) ∙ ap roll-DType (outs-Union' p ns sh row gs n) ∙ rolls-Union _ n)

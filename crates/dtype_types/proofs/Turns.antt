@@ -5,8 +5,7 @@ use Rattle.std.specs.Str.{bytes_eq}
 use Rattle.std.proofs.Math.Bool.{and-false, and-true}
 use Rattle.std.proofs.lemmas.Bool.{false≢true}
 use Rattle.std.proofs.lemmas.Bool.Decides.{Decides-eqb}
-use Rattle.std.proofs.lemmas.List.{length-map}
-use Rattle.std.proofs.lemmas.Slice.Zip.{length-zip}
+use Rattle.std.proofs.lemmas.List.{get_or_default}
 use Rattle.dtype_types.specs.Tree.{Tree, fields, variants}
 use Rattle.dtype_types.specs.declared.equality.Nullabilities.{Nullabilities}
 use Rattle.dtype_types.proofs.FieldLookups.{count_fields}
@@ -96,6 +95,10 @@ not_true true e = absurd (false≢true (sym e))
 pub not_false : (x : Bool) → false ≡ not x → x ≡ true
 not_false false e = absurd (false≢true e)
 not_false true e = refl
+
+-- a tag that a slice of the tags gives
+pub tag_at : (gs hs : List ℕ) (i : ℕ) → hs ≡ gs → i < length gs → get_or hs i 0 ≡ get_or gs i (get_or hs i 0)
+tag_at gs hs i e w = ap (λ xs. get_or xs i 0) e ∙ get_or_default gs i 0 (get_or hs i 0) w
 
 pub tags_same : (x y : ℕ) → x ≡ y → (x == y) ≡ true
 tags_same x y e = (Decides-eqb x y).1 e

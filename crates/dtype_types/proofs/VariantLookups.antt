@@ -1,12 +1,9 @@
--- The variant of a name and the variant at a place, and their validity.
-use Rattle.std.proofs.Common.{◌≡◌, ◌≢◌, ℕ, zero, suc, ◌<◌, List, [], ◌∷◌, length, map, take, Option, Some, None, slice_get, IfSome, refl, sym, ◌∙◌, ap, subst, arith, Bor}
-use Rattle.std.specs.List.{All, AllByRecursion}
-use Rattle.std.proofs.lemmas.List.Elements.{All-from_recursion}
+-- The variant of a name and the variant at a place.
+use Rattle.std.proofs.Common.{◌≡◌, ◌≢◌, ℕ, zero, suc, ◌<◌, List, [], ◌∷◌, length, map, take, Some, None, slice_get, refl, ◌∙◌, ap, arith}
 use Rattle.dtype_types.proofs.FieldLookups.{some_is, same_name, other_name}
 use Rattle.dtype_types.specs.Tree.{Tree, variants}
 use Rattle.dtype_types.specs.Lookups.{variant_named}
-use Rattle.dtype_types.specs.TreeOf.{tree, option_tree, zip_tagged}
-use Rattle.dtype_types.specs.Valid.{Valid, ValidVariants}
+use Rattle.dtype_types.specs.TreeOf.{tree, zip_tagged}
 use Rattle.dtype_types.specs.declared.dtype.DType.{DType}
 
 pub variant_named-at : (ns : List (List ℕ)) (ts : List Tree) (gs : List ℕ) (n : List ℕ) (i : ℕ) → slice_get ns i ≡ Some n → ((k : ℕ) → k < i → slice_get ns k ≢ Some n)
@@ -34,26 +31,3 @@ types-take (n ∷ ns) (d ∷ ds) (g ∷ gs) = ap (λ ts. tree d ∷ ts) (types-t
 pub types_first : (ns : List (List ℕ)) (ds : List DType) (gs : List ℕ) (es : List DType) (k : ℕ) → es ≡ ds → k ≡ length (zip_tagged ns (map tree ds) gs)
     → map tree (take k es) ≡ map (λ c. c.1) (zip_tagged ns (map tree ds) gs)
 types_first ns ds gs es k e f = ap (λ xs. map tree (take k xs)) e ∙ ap (λ n. map tree (take n ds)) f ∙ types-take ns ds gs
-
-valid_types : (cs : List (List ℕ × Tree × ℕ)) → ValidVariants (variants cs) → AllByRecursion Valid (map (λ c. c.1) cs)
-valid_types [] h = tt
-valid_types (c ∷ cs) h = (h.0, valid_types cs h.4)
-
--- types whose trees are those of valid variants are valid
-all_valid : (ds : List DType) → AllByRecursion Valid (map tree ds) → AllByRecursion (λ d. Valid (tree d)) ds
-all_valid [] h = tt
-all_valid (d ∷ ds) h = (h.0, all_valid ds h.1)
-
-pub valid_dtypes : (cs : List (List ℕ × Tree × ℕ)) (ds : List DType) → map tree ds ≡ map (λ c. c.1) cs → ValidVariants (variants cs) → All (λ d. Valid (tree d)) ds
-valid_dtypes cs ds e h =
-    let each : List Tree → Type 0 = λ ts. AllByRecursion Valid ts in
-    All-from_recursion (λ d. Valid (tree d)) ds (all_valid ds (subst each (sym e) (valid_types cs h)))
-
-valid_place : (ts : List Tree) (i : ℕ) (t : Tree) → AllByRecursion Valid ts → Some t ≡ slice_get ts i → Valid t
-valid_place [] i t h e = cc
-valid_place (u ∷ ts) zero t h e = subst Valid (sym (some_is t u e)) h.0
-valid_place (u ∷ ts) (suc i) t h e = valid_place ts i t h.1 e
-
-pub valid_variant : (cs : List (List ℕ × Tree × ℕ)) (i : ℕ) (r : Option (Bor DType)) → option_tree r ≡ slice_get (map (λ c. c.1) cs) i → ValidVariants (variants cs) → IfSome r (λ d. Valid (tree d.now))
-valid_variant cs i None e h = tt
-valid_variant cs i (Some d) e h = valid_place (map (λ c. c.1) cs) i (tree d.now) (valid_types cs h) e

@@ -1,5 +1,5 @@
 -- Widths of a list of one length, and of a struct with one more field behind its fields.
-use Rattle.std.proofs.Common.{◌≡◌, ◌⊎◌, ℕ, ◌+◌, ◌*◌, ◌^◌, ◌<◌, ◌≤◌, List, [], ◌∷◌, ◌++◌, refl, sym, ap, ◌∙◌, inl, inr, arith, add_assoc}
+use Rattle.std.proofs.Common.{◌≡◌, ◌⊎◌, ℕ, zero, suc, ◌+◌, ◌*◌, ◌^◌, ◌<◌, ◌≤◌, List, [], ◌∷◌, ◌++◌, take, refl, sym, ap, ◌∙◌, inl, inr, arith, add_assoc}
 use Rattle.dtype_base.specs.declared.nullability.Nullability.{Nullability}
 use Rattle.dtype_types.specs.Tree.{Tree, fields, fixed_size_list, struct}
 use Rattle.dtype_types.specs.Width.{Fixed, FixedFields, width, total_width, Part, FieldPart, HasWidePart}
@@ -32,6 +32,13 @@ part_push u (q ∷ ps) p (inr later) = elim (part_push u ps p later) [ inl befor
 pub variable_before : (ps : List (List ℕ × Tree)) (p : List ℕ × Tree) → ¬ FixedFields (fields ps) → ¬ FixedFields (fields (ps ++ p ∷ []))
 variable_before [] p f g = f tt
 variable_before (q ∷ ps) p f g = variable_before ps p (λ h. f (g.0, h)) g.1
+
+-- a beginning of the fields has one already
+pub variable_beginning : (ps : List (List ℕ × Tree)) (k : ℕ) → ¬ FixedFields (fields (take k ps)) → ¬ FixedFields (fields ps)
+variable_beginning [] zero f g = f tt
+variable_beginning [] (suc k) f g = f tt
+variable_beginning (p ∷ ps) zero f g = f tt
+variable_beginning (p ∷ ps) (suc k) f g = variable_beginning ps k (λ h. f (g.0, h)) g.1
 
 pub variable_last : (ps : List (List ℕ × Tree)) (p : List ℕ × Tree) → ¬ Fixed p.1 → ¬ FixedFields (fields (ps ++ p ∷ []))
 variable_last [] p f g = f g.0

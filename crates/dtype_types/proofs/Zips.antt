@@ -1,7 +1,7 @@
 -- Lists of pairs that are made of two lists of one length.
 use Rattle.std.proofs.Common.{◌≡◌, ℕ, zero, suc, ◌+◌, ◌<◌, take, get_or, List, [], ◌∷◌, ◌++◌, length, map, refl, ap, arith, sym, ◌∙◌}
 use Rattle.std.specs.List.{zip, remove}
-use Rattle.std.proofs.lemmas.List.{take_more, length-take}
+use Rattle.std.proofs.lemmas.List.{append_assoc, take_more, length-take}
 use Rattle.dtype_types.specs.Tree.{Tree}
 use Rattle.dtype_types.specs.TreeOf.{tree}
 use Rattle.dtype_types.specs.declared.dtype.DType.{DType}
@@ -50,19 +50,10 @@ keeps_next ps i index p h e ne =
 pub leaves_out : {X : Type 0} (ps : List X) (i index : ℕ) (d : X) → i < length ps → i ≡ index → remove (take i ps) index ≡ remove (take (i + 1) ps) index
 leaves_out ps i index d h same = sym (ap (λ xs. remove xs index) (take_more ps i d h) ∙ push_removed (take i ps) (get_or ps i d) index (length_take_of ps i h ∙ same))
 
--- ---- the names and the types of pairs that are made of other things
-
-pub firsts_map : {X : Type 0} (n : X → List ℕ) (f : X → Tree) (xs : List X) → map (λ (p : List ℕ × Tree). p.0) (map (λ x. (n x, f x)) xs) ≡ map n xs
-firsts_map n f [] = refl
-firsts_map n f (x ∷ xs) = ap (λ ys. n x ∷ ys) (firsts_map n f xs)
-
-pub seconds_map : {X : Type 0} (n : X → List ℕ) (f : X → Tree) (xs : List X) → map (λ (p : List ℕ × Tree). p.1) (map (λ x. (n x, f x)) xs) ≡ map f xs
-seconds_map n f [] = refl
-seconds_map n f (x ∷ xs) = ap (λ ys. f x ∷ ys) (seconds_map n f xs)
-
-pub firsts_append : (ps qs : List (List ℕ × Tree)) → map (λ (p : List ℕ × Tree). p.0) (ps ++ qs) ≡ map (λ (p : List ℕ × Tree). p.0) ps ++ map (λ (p : List ℕ × Tree). p.0) qs
-firsts_append [] qs = refl
-firsts_append (p ∷ ps) qs = ap (λ ns. p.0 ∷ ns) (firsts_append ps qs)
+-- one more item behind those that were there before
+pub appends_next : {X : Type 0} (before ps xs ys : List X) (i : ℕ) (p : X) → i < length ps → p ≡ get_or ps i p → xs ≡ before ++ take i ps → ys ≡ xs ++ p ∷ [] → ys ≡ before ++ take (i + 1) ps
+appends_next before ps xs ys i p h here d e =
+    e ∙ ap (λ zs. zs ++ p ∷ []) d ∙ append_assoc before (take i ps) (p ∷ []) ∙ ap (λ zs. before ++ zs) (ap (λ q. take i ps ++ q ∷ []) here ∙ sym (take_more ps i p h))
 
 -- the names of the pairs are those that have a type
 pub firsts_take : (ns : List (List ℕ)) (ts : List Tree) → map (λ (p : List ℕ × Tree). p.0) (zip ns ts) ≡ take (length (zip ns ts)) ns

@@ -1,5 +1,5 @@
--- Types that are equal feed a hasher alike; types that are equal ignoring nullabilities do where those
--- are ignored.
+-- Types that are equal feed a hasher alike; types that are equal but for nullabilities do where those are
+-- forgotten.
 use Rattle.std.specs.Prelude.{◌≡◌, suc, ◌++◌, drop, true, refl}
 use Rattle.std.proofs.Common.{ap, sym, ◌∙◌}
 use Rattle.std.specs.Hash as fed
@@ -10,48 +10,48 @@ use Rattle.dtype_types.specs.EqualityLaws.{agree-Decides, same_fields-Decides, s
 use Rattle.dtype_types.specs.PartsEquality.{agree_variants-Decides, agree_maps-Decides, same_union, same_map}
 use Rattle.dtype_types.specs.Hashes.{hash_of, nullability_writes, field_count, field_writes, variant_count, variant_writes}
 use Rattle.dtype_types.specs.HashesOf.{struct_writes, union_writes, map_writes, extension_writes}
-use Rattle.dtype_types.specs.declared.equality.Nullabilities.TheVariants.{Compared, Ignored}
+use Rattle.dtype_types.specs.declared.hashing.Hashed.TheVariants.{Whole, Erased}
 use Rattle.dtype_types.specs.declared.dtype.DType.{DType}
 use Rattle.dtype_types.specs.declared.struct_fields.StructFields.{StructFields}
 use Rattle.dtype_types.specs.declared.union_variants.UnionVariants.{UnionVariants}
 use Rattle.dtype_types.specs.declared.map.MapDType.{MapDType}
 use Rattle.dtype_types.specs.declared.extension.ExtDTypeRef.{ExtDTypeRef}
 
-pub dtype_fed : (x y : DType) → same_dtype x y ≡ true → hash_of Compared (tree x) ≡ hash_of Compared (tree y)
-dtype_fed x y e = ap (hash_of Compared) ((agree-Decides (tree x) (tree y)).0 e)
+pub dtype_fed : (x y : DType) → same_dtype x y ≡ true → hash_of Whole (tree x) ≡ hash_of Whole (tree y)
+dtype_fed x y e = ap (hash_of Whole) ((agree-Decides (tree x) (tree y)).0 e)
 
-pub struct_fed : (x y : StructFields) → same_struct x y ≡ true → struct_writes Compared x ≡ struct_writes Compared y
-struct_fed x y e = ap (λ ps. fed.usize (field_count (fields ps)) ++ field_writes Compared (fields ps)) ((same_fields-Decides (children x) (children y)).0 e)
+pub struct_fed : (x y : StructFields) → same_struct x y ≡ true → struct_writes Whole x ≡ struct_writes Whole y
+struct_fed x y e = ap (λ ps. fed.usize (field_count (fields ps)) ++ field_writes Whole (fields ps)) ((same_fields-Decides (children x) (children y)).0 e)
 
-pub union_fed : (x y : UnionVariants) → same_union x y ≡ true → union_writes Compared x ≡ union_writes Compared y
-union_fed x y e = ap (λ vs. fed.usize (variant_count vs) ++ variant_writes Compared vs) ((agree_variants-Decides (union_tree x) (union_tree y)).0 e)
+pub union_fed : (x y : UnionVariants) → same_union x y ≡ true → union_writes Whole x ≡ union_writes Whole y
+union_fed x y e = ap (λ vs. fed.usize (variant_count vs) ++ variant_writes Whole vs) ((agree_variants-Decides (union_tree x) (union_tree y)).0 e)
 
-pub map_fed : (x y : MapDType) → same_map x y ≡ true → map_writes Compared x ≡ map_writes Compared y
-map_fed x y e = ap (λ m. hash_of Compared m.0 ++ (hash_of Compared m.1 ++ fed.bool m.2)) ((agree_maps-Decides (map_shown x) (map_shown y)).0 e)
+pub map_fed : (x y : MapDType) → same_map x y ≡ true → map_writes Whole x ≡ map_writes Whole y
+map_fed x y e = ap (λ m. hash_of Whole m.0 ++ (hash_of Whole m.1 ++ fed.bool m.2)) ((agree_maps-Decides (map_shown x) (map_shown y)).0 e)
 
 -- an extension's writes are those of its tree behind the number of the kind
-pub extension_fed : (x y : ExtDTypeRef) → same_extension x y ≡ true → extension_writes Compared x ≡ extension_writes Compared y
-extension_fed x y e = ap (λ t. drop 1 (hash_of Compared t)) ((agree-Decides (extension_tree x) (extension_tree y)).0 e)
+pub extension_fed : (x y : ExtDTypeRef) → same_extension x y ≡ true → extension_writes Whole x ≡ extension_writes Whole y
+extension_fed x y e = ap (λ t. drop 1 (hash_of Whole t)) ((agree-Decides (extension_tree x) (extension_tree y)).0 e)
 
 mutual
-  pub hash-erase : (t : Tree) → hash_of Ignored t ≡ hash_of Ignored (erase t)
+  pub hash-erase : (t : Tree) → hash_of Erased t ≡ hash_of Erased (erase t)
   hash-erase null = refl
   hash-erase (bool n) = refl
   hash-erase (primitive p n) = refl
   hash-erase (decimal d n) = refl
   hash-erase (utf8 n) = refl
   hash-erase (binary n) = refl
-  hash-erase (list t n) = ap (λ w. fed.u8 6 ++ (w ++ nullability_writes Ignored n)) (hash-erase t)
-  hash-erase (fixed_size_list t k n) = ap (λ w. fed.u8 7 ++ (w ++ (fed.u32 k ++ nullability_writes Ignored n))) (hash-erase t)
+  hash-erase (list t n) = ap (λ w. fed.u8 6 ++ (w ++ nullability_writes Erased n)) (hash-erase t)
+  hash-erase (fixed_size_list t k n) = ap (λ w. fed.u8 7 ++ (w ++ (fed.u32 k ++ nullability_writes Erased n))) (hash-erase t)
   hash-erase (map_of k v o n) =
-      ap (λ w. fed.u8 8 ++ (w ++ (hash_of Ignored v ++ (fed.bool o ++ nullability_writes Ignored n)))) (hash-erase k)
-      ∙ ap (λ w. fed.u8 8 ++ (hash_of Ignored (erase k) ++ (w ++ (fed.bool o ++ nullability_writes Ignored n)))) (hash-erase v)
+      ap (λ w. fed.u8 8 ++ (w ++ (hash_of Erased v ++ (fed.bool o ++ nullability_writes Erased n)))) (hash-erase k)
+      ∙ ap (λ w. fed.u8 8 ++ (hash_of Erased (erase k) ++ (w ++ (fed.bool o ++ nullability_writes Erased n)))) (hash-erase v)
   hash-erase (struct fs n) =
-      ap (λ k. fed.u8 9 ++ (fed.usize k ++ (field_writes Ignored fs ++ nullability_writes Ignored n))) (field_count-erase fs)
-      ∙ ap (λ w. fed.u8 9 ++ (fed.usize (field_count (erase_fields fs)) ++ (w ++ nullability_writes Ignored n))) (field_writes-erase fs)
+      ap (λ k. fed.u8 9 ++ (fed.usize k ++ (field_writes Erased fs ++ nullability_writes Erased n))) (field_count-erase fs)
+      ∙ ap (λ w. fed.u8 9 ++ (fed.usize (field_count (erase_fields fs)) ++ (w ++ nullability_writes Erased n))) (field_writes-erase fs)
   hash-erase (union vs n) =
-      ap (λ k. fed.u8 10 ++ (fed.usize k ++ (variant_writes Ignored vs ++ nullability_writes Ignored n))) (variant_count-erase vs)
-      ∙ ap (λ w. fed.u8 10 ++ (fed.usize (variant_count (erase_variants vs)) ++ (w ++ nullability_writes Ignored n))) (variant_writes-erase vs)
+      ap (λ k. fed.u8 10 ++ (fed.usize k ++ (variant_writes Erased vs ++ nullability_writes Erased n))) (variant_count-erase vs)
+      ∙ ap (λ w. fed.u8 10 ++ (fed.usize (variant_count (erase_variants vs)) ++ (w ++ nullability_writes Erased n))) (variant_writes-erase vs)
   hash-erase (variant n) = refl
   hash-erase (extension id b t) = ap (λ w. fed.u8 12 ++ (fed.str id ++ (fed.slice fed.u8 b ++ w))) (hash-erase t)
 
@@ -63,16 +63,16 @@ mutual
   variant_count-erase no_variants = refl
   variant_count-erase (choice n t g rest) = ap suc (variant_count-erase rest)
 
-  field_writes-erase : (fs : Fields) → field_writes Ignored fs ≡ field_writes Ignored (erase_fields fs)
+  field_writes-erase : (fs : Fields) → field_writes Erased fs ≡ field_writes Erased (erase_fields fs)
   field_writes-erase no_fields = refl
   field_writes-erase (field n t rest) =
-      ap (λ w. fed.str n ++ (w ++ field_writes Ignored rest)) (hash-erase t) ∙ ap (λ w. fed.str n ++ (hash_of Ignored (erase t) ++ w)) (field_writes-erase rest)
+      ap (λ w. fed.str n ++ (w ++ field_writes Erased rest)) (hash-erase t) ∙ ap (λ w. fed.str n ++ (hash_of Erased (erase t) ++ w)) (field_writes-erase rest)
 
-  variant_writes-erase : (vs : Variants) → variant_writes Ignored vs ≡ variant_writes Ignored (erase_variants vs)
+  variant_writes-erase : (vs : Variants) → variant_writes Erased vs ≡ variant_writes Erased (erase_variants vs)
   variant_writes-erase no_variants = refl
   variant_writes-erase (choice n t g rest) =
-      ap (λ w. fed.str n ++ (w ++ (fed.u8 g ++ variant_writes Ignored rest))) (hash-erase t)
-      ∙ ap (λ w. fed.str n ++ (hash_of Ignored (erase t) ++ (fed.u8 g ++ w))) (variant_writes-erase rest)
+      ap (λ w. fed.str n ++ (w ++ (fed.u8 g ++ variant_writes Erased rest))) (hash-erase t)
+      ∙ ap (λ w. fed.str n ++ (hash_of Erased (erase t) ++ (fed.u8 g ++ w))) (variant_writes-erase rest)
 
-pub erased_fed : (a b : Tree) → erase a ≡ erase b → hash_of Ignored a ≡ hash_of Ignored b
-erased_fed a b e = hash-erase a ∙ ap (hash_of Ignored) e ∙ sym (hash-erase b)
+pub erased_fed : (a b : Tree) → erase a ≡ erase b → hash_of Erased a ≡ hash_of Erased b
+erased_fed a b e = hash-erase a ∙ ap (hash_of Erased) e ∙ sym (hash-erase b)

@@ -1,21 +1,21 @@
 -- What a type feeds a hasher, as a list of writes: the number of its kind, all that it holds, and its
--- nullability where nullabilities are compared. Counts stand before lists, and a mark behind texts. It is
--- a function of the tree, so equal types feed alike.
+-- nullability, where nullabilities aren't forgotten. Counts stand before lists, and a mark behind texts.
+-- It is a function of the tree, so equal types feed alike.
 use Rattle.std.specs.Prelude.{ℕ, suc, List, [], ◌++◌}
 use Rattle.std.specs.Hash as fed
 use Rattle.std.specs.Hash.{HashWrites}
 use Rattle.dtype_base.specs.Primitives.{primitive as row}
 use Rattle.dtype_base.specs.declared.nullability.Nullability.{Nullability}
 use Rattle.dtype_base.specs.declared.nullability.Nullability.TheVariants.{NonNullable, Nullable}
-use Rattle.dtype_types.specs.declared.equality.Nullabilities.{Nullabilities}
-use Rattle.dtype_types.specs.declared.equality.Nullabilities.TheVariants.{Compared, Ignored}
+use Rattle.dtype_types.specs.declared.hashing.Hashed.{Hashed}
+use Rattle.dtype_types.specs.declared.hashing.Hashed.TheVariants.{Whole, Erased}
 use Rattle.dtype_types.specs.Tree.{Tree, Fields, no_fields, field, Variants, no_variants, choice, null, bool, primitive, decimal, utf8, binary, list, fixed_size_list, map_of, struct, union, variant, extension}
 
--- a nullability where they are compared, nothing where they are ignored
-abbrev pub nullability_writes : Nullabilities → Nullability → HashWrites
-nullability_writes Ignored n = []
-nullability_writes Compared NonNullable = fed.u8 0
-nullability_writes Compared Nullable = fed.u8 1
+-- a nullability, or nothing where nullabilities are forgotten
+abbrev pub nullability_writes : Hashed → Nullability → HashWrites
+nullability_writes Erased n = []
+nullability_writes Whole NonNullable = fed.u8 0
+nullability_writes Whole Nullable = fed.u8 1
 
 -- how many fields and how many variants there are
 abbrev pub field_count : Fields → ℕ
@@ -27,7 +27,7 @@ variant_count no_variants = 0
 variant_count (choice n t g rest) = suc (variant_count rest)
 
 abbrev mutual
-  pub hash_of : Nullabilities → Tree → HashWrites
+  pub hash_of : Hashed → Tree → HashWrites
   hash_of s null = fed.u8 0
   hash_of s (bool n) = fed.u8 1 ++ nullability_writes s n
   hash_of s (primitive p n) = fed.u8 2 ++ (fed.u8 (row p).number ++ nullability_writes s n)
@@ -43,11 +43,18 @@ abbrev mutual
   hash_of s (extension id b t) = fed.u8 12 ++ (fed.str id ++ (fed.slice fed.u8 b ++ hash_of s t))
 
   -- each field: its name and its type
-  pub field_writes : Nullabilities → Fields → HashWrites
+  pub field_writes : Hashed → Fields → HashWrites
   field_writes s no_fields = []
   field_writes s (field n t rest) = fed.str n ++ (hash_of s t ++ field_writes s rest)
 
   -- each variant: its name, its type and its tag
-  pub variant_writes : Nullabilities → Variants → HashWrites
+  pub variant_writes : Hashed → Variants → HashWrites
   variant_writes s no_variants = []
   variant_writes s (choice n t g rest) = fed.str n ++ (hash_of s t ++ (fed.u8 g ++ variant_writes s rest))
+
+-- what a type feeds a hasher through `Hash`, and through `hash_ignore_nullability`
+abbrev pub writes : Tree → HashWrites
+writes t = hash_of Whole t
+
+abbrev pub writes_ignoring_nullability : Tree → HashWrites
+writes_ignoring_nullability t = hash_of Erased t

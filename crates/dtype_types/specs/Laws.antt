@@ -1,20 +1,22 @@
 -- Laws of the definitions, as the functions of `laws.rt` promise them.
-use Rattle.std.specs.Prelude.{◌≡◌, ◌≢◌, ◌↔◌, ◌==◌, ℕ, List, map, slice_get, Some, IsTrue}
+use Rattle.std.specs.Prelude.{◌≡◌, ◌↔◌, ◌==◌, ℕ, List, map, slice_get, Some, IsTrue}
 use Rattle.std.specs.List.{position}
 use Rattle.dtype_base.specs.declared.nullability.Nullability.{Nullability}
-use Rattle.dtype_types.specs.Tree.{Tree, Variants, triples, union}
+use Rattle.dtype_types.specs.Tree.{Tree, Variants, triples}
 use Rattle.dtype_types.specs.Erase.{erase}
 use Rattle.dtype_types.specs.Nullable.{nullability, SetNull}
-use Rattle.dtype_types.specs.Valid.{Valid}
+use Rattle.dtype_types.specs.IsValid.{IsValidUnion}
+use Rattle.dtype_types.specs.Lookups.{field_names, field_types}
 use Rattle.dtype_types.specs.declared.dtype.DType.{DType}
-use Rattle.dtype_types.specs.declared.equality.Nullabilities.TheVariants.{Compared, Ignored}
 use Rattle.dtype_types.specs.EqualityLaws.{same_dtype}
-use Rattle.dtype_types.specs.Hashes.{hash_of}
-use Rattle.dtype_types.specs.TreeOf.{tree}
+use Rattle.dtype_types.specs.Hashes.{writes, writes_ignoring_nullability}
+use Rattle.dtype_types.specs.TreeOf.{tree, children, names_of, types_of, choices, choice_types, variant_names, variant_types, variant_tags}
+use Rattle.dtype_types.specs.declared.struct_fields.StructFields.{StructFields}
+use Rattle.dtype_types.specs.declared.union_variants.UnionVariants.{UnionVariants}
 
 -- `==` agrees with `Hash`: equal types feed a hasher alike
 abbrev pub EqualTypesFeedAlike : Type 0
-EqualTypesFeedAlike = (a b : DType) → IsTrue (same_dtype a b) → hash_of Compared (tree a) ≡ hash_of Compared (tree b)
+EqualTypesFeedAlike = (a b : DType) → IsTrue (same_dtype a b) → writes (tree a) ≡ writes (tree b)
 
 -- equal ignoring nullability
 abbrev pub SameIgnoring : Tree → Tree → Type 0
@@ -22,7 +24,7 @@ SameIgnoring a b = erase a ≡ erase b
 
 -- types that are equal ignoring nullability feed a hasher alike where nullabilities are ignored
 abbrev pub SameIgnoringFeedAlike : Type 0
-SameIgnoringFeedAlike = (a b : Tree) → SameIgnoring a b → hash_of Ignored a ≡ hash_of Ignored b
+SameIgnoringFeedAlike = (a b : Tree) → SameIgnoring a b → writes_ignoring_nullability a ≡ writes_ignoring_nullability b
 
 abbrev pub IsReflexive : (Tree → Tree → Type 0) → Type 0
 IsReflexive R = (a : Tree) → R a a
@@ -30,9 +32,8 @@ IsReflexive R = (a : Tree) → R a a
 abbrev pub IsTransitive : (Tree → Tree → Type 0) → Type 0
 IsTransitive R = (a b c : Tree) → R a b → R b c → R a c
 
--- two types that differ are related both ways
-abbrev pub RelatesTwoBothWays : (Tree → Tree → Type 0) → Type 0
-RelatesTwoBothWays R = (a : Tree) × (b : Tree) × R a b × R b a × (a ≢ b)
+abbrev pub IsAntisymmetric : (Tree → Tree → Type 0) → Type 0
+IsAntisymmetric R = (a b : Tree) → R a b → R b a → a ≡ b
 
 -- a type whose nullability was set has that nullability
 abbrev pub SetNullSets : Type 0
@@ -52,4 +53,15 @@ tags vs = map (λ v. v.2) (triples vs)
 
 -- in a valid union the first position of the tag that stands at i is i
 abbrev pub TagsTellPositions : Type 0
-TagsTellPositions = (vs : Variants) (n : Nullability) → Valid (union vs n) → (i tag : ℕ) → slice_get (tags vs) i ≡ Some tag → position (λ g. g == tag) (tags vs) ≡ Some i
+TagsTellPositions = (u : UnionVariants) → IsValidUnion u → (i tag : ℕ) → slice_get (variant_tags u) i ≡ Some tag → position (λ g. g == tag) (variant_tags u) ≡ Some i
+
+-- a valid struct's names and types are those of one list of fields
+pub record IsOneListOfFields (s : StructFields) : Type 0 where
+  pub names : field_names (children s) ≡ names_of s
+  pub types : field_types (children s) ≡ types_of s
+
+-- a valid union's names, types and tags are those of one list of variants
+pub record IsOneListOfVariants (u : UnionVariants) : Type 0 where
+  pub names : map (λ c. c.0) (choices u) ≡ variant_names u
+  pub types : choice_types u ≡ variant_types u
+  pub tags_are : map (λ c. c.2) (choices u) ≡ variant_tags u

@@ -7,6 +7,7 @@ pub mod Kinds
 pub mod Text
 pub mod TextOf
 pub mod TreeOf
+pub mod IsValid
 pub mod Equality
 pub mod EqualityLaws
 pub mod FieldTypes
@@ -15,11 +16,13 @@ pub mod Distinct
 pub mod Unions
 pub mod PartsEquality
 pub mod Width
-pub mod NameIndex
 pub mod IndentedText
-pub mod Comparisons
 pub mod Hashes
 pub mod HashesOf
 pub mod Maps
 pub mod HashLaws
 pub mod Laws
+pub mod Value
+pub mod Sample
+pub mod Sub
+pub mod Tell

@@ -6,9 +6,7 @@ use Rattle.std.specs.declared.boxed.Box.{Box}
 use Rattle.std.specs.declared.alloc.Global.{Global}
 use Rattle.std.specs.List.{zip}
 use Rattle.dtype_types.specs.Tree.{Tree, Fields, fields, Variants, variants, null, bool, primitive, decimal, utf8, binary, list, fixed_size_list, map_of, struct, union, variant, extension}
-use Rattle.dtype_types.specs.Nullable.{nullability}
-use Rattle.dtype_types.specs.Valid.{Valid, ValidFields, ValidVariants, HasVariant}
-use Rattle.dtype_base.specs.declared.nullability.Nullability.TheVariants.{NonNullable}
+use Rattle.dtype_types.specs.Valid.{ValidVariants, HasVariant}
 use Rattle.dtype_types.specs.declared.dtype.DType.{DType}
 use Rattle.dtype_types.specs.declared.dtype.DType.TheOpen as o
 use Rattle.dtype_types.specs.declared.dtype.DType.TheOpen.{DType-F, ExtDTypeRef-F, MapDType-F, StructFields-F, UnionVariants-F}
@@ -55,10 +53,10 @@ abbrev pub map_step : MapDType-F Tree ExtensionParts MapParts Fields Variants �
 map_step m = (m.key.value, m.value.value, m.keys_sorted)
 
 abbrev pub struct_step : StructFields-F Tree ExtensionParts MapParts Fields Variants → Fields
-struct_step s = fields (zip s.names s.dtypes.items)
+struct_step s = fields (zip s.shared.value.names s.shared.value.dtypes.items)
 
 abbrev pub union_step : UnionVariants-F Tree ExtensionParts MapParts Fields Variants → Variants
-union_step u = variants (zip_tagged u.names u.dtypes.items u.type_ids.items)
+union_step u = variants (zip_tagged u.shared.value.names u.shared.value.dtypes.items u.shared.value.type_ids.items)
 
 -- the tree of a type
 abbrev pub tree : DType → Tree
@@ -66,10 +64,13 @@ tree = fold-DType Tree ExtensionParts MapParts Fields Variants type_step extensi
 
 -- a struct's names, its types, and its fields as pairs of them
 abbrev pub names_of : StructFields → List (List ℕ)
-names_of s = s.names
+names_of s = s.shared.value.names
+
+abbrev pub dtypes_of : StructFields → List DType
+dtypes_of s = s.shared.value.dtypes.items
 
 abbrev pub types_of : StructFields → List Tree
-types_of s = map tree s.dtypes.items
+types_of s = map tree (dtypes_of s)
 
 abbrev pub children : StructFields → List (List ℕ × Tree)
 children s = zip (names_of s) (types_of s)
@@ -80,13 +81,16 @@ IsPaired s = length (names_of s) ≡ length (types_of s)
 
 -- a union's names, types and tags, and its variants as triples of them
 abbrev pub variant_names : UnionVariants → List (List ℕ)
-variant_names u = u.names
+variant_names u = u.shared.value.names
+
+abbrev pub variant_dtypes : UnionVariants → List DType
+variant_dtypes u = u.shared.value.dtypes.items
 
 abbrev pub variant_types : UnionVariants → List Tree
-variant_types u = map tree u.dtypes.items
+variant_types u = map tree (variant_dtypes u)
 
 abbrev pub variant_tags : UnionVariants → List ℕ
-variant_tags u = u.type_ids.items
+variant_tags u = u.shared.value.type_ids.items
 
 abbrev pub choices : UnionVariants → List (List ℕ × Tree × ℕ)
 choices u = zip_tagged (variant_names u) (variant_types u) (variant_tags u)
@@ -96,11 +100,17 @@ abbrev pub choice_types : UnionVariants → List Tree
 choice_types u = map (λ c. c.1) (choices u)
 
 -- a map's key, its value, and whether the keys are sorted
+abbrev pub map_key : MapDType → DType
+map_key m = m.key.value
+
+abbrev pub map_value : MapDType → DType
+map_value m = m.value.value
+
 abbrev pub key_tree : MapDType → Tree
-key_tree m = tree m.key.value
+key_tree m = tree (map_key m)
 
 abbrev pub value_tree : MapDType → Tree
-value_tree m = tree m.value.value
+value_tree m = tree (map_value m)
 
 abbrev pub are_keys_sorted : MapDType → Flag
 are_keys_sorted m = m.keys_sorted
@@ -112,8 +122,11 @@ extension_id e = e.id
 abbrev pub extension_metadata : ExtDTypeRef → List ℕ
 extension_metadata e = e.metadata.items
 
+abbrev pub extension_storage : ExtDTypeRef → DType
+extension_storage e = e.storage.value
+
 abbrev pub storage_tree : ExtDTypeRef → Tree
-storage_tree e = tree e.storage.value
+storage_tree e = tree (extension_storage e)
 
 abbrev pub extension_tree : ExtDTypeRef → Tree
 extension_tree e = extension (extension_id e) (extension_metadata e) (storage_tree e)
@@ -145,15 +158,6 @@ struct_tree s = fields (children s)
 abbrev pub union_tree : UnionVariants → Variants
 union_tree u = variants (choices u)
 
--- what holds of the parts of a valid type
-abbrev pub ValidStruct : StructFields → Type 0
-ValidStruct s = ValidFields (struct_tree s)
-
+-- at least one variant, and what holds of the variants of a valid union
 abbrev pub ValidUnion : UnionVariants → Type 0
 ValidUnion u = HasVariant (union_tree u) × ValidVariants (union_tree u)
-
-abbrev pub ValidMap : MapDType → Type 0
-ValidMap m = (nullability (key_tree m) ≡ NonNullable) × Valid (key_tree m) × Valid (value_tree m)
-
-abbrev pub ValidExtension : ExtDTypeRef → Type 0
-ValidExtension e = Valid (extension_tree e)

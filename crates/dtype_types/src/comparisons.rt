@@ -1,52 +1,25 @@
-// Comparisons of types that look at the outer nullability of the first alone.
+// Comparisons of types by their nullabilities, at every depth.
 ghost use Rattle.std.specs.Prelude.{◌↔◌, IsTrue};
-ghost use Rattle.dtype_types.specs.Comparisons.{Subset, Superset};
+ghost use Rattle.dtype_types.specs.Sub.{Sub};
 ghost use Rattle.dtype_types.specs.TreeOf.{tree};
 
 use crate::DType;
-use dtype_base::Nullability;
+use crate::equality::{Nullabilities, agree};
 
 impl DType {
-    /// Whether the types are equal where this one is nullable, and else whether they are equal with
-    /// every nullability in them ignored.
+    /// Whether the types are equal but for nullabilities, and the other is nullable wherever this one is,
+    /// at every depth. Then each value of this type is a value of the other. Takes no memory.
     pub fn eq_with_nullability_subset(&self, other: &DType) -> bool
-        ensures { IsTrue result ↔ Subset (tree self.now) (tree other.now) }
+        ensures { IsTrue result ↔ Sub (tree self.now) (tree other.now) }
     {
-        match self.nullability() {
-            Nullability::Nullable => self == other,
-            Nullability::NonNullable => self.eq_ignore_nullability(other),
-        }
+        agree(self, other, Nullabilities::Within)
     }
 
-    /// Whether the types are equal with every nullability in them ignored where this one is nullable,
-    /// and else whether they are equal.
+    /// Whether the types are equal but for nullabilities, and this one is nullable wherever the other is,
+    /// at every depth: the subset comparison the other way round. Takes no memory.
     pub fn eq_with_nullability_superset(&self, other: &DType) -> bool
-        ensures { IsTrue result ↔ Superset (tree self.now) (tree other.now) }
+        ensures { IsTrue result ↔ Sub (tree other.now) (tree self.now) }
     {
-        match self.nullability() {
-            Nullability::Nullable => self.eq_ignore_nullability(other),
-            Nullability::NonNullable => self == other,
-        }
-    }
-}
-
-#[cfg(test)]
-mod tests {
-    use crate::DType;
-    use dtype_base::{Nullability, PType};
-    use std::test::Fail;
-
-    #[test]
-    fn nullability_inside_is_ignored_by_subset_alone(rt: HostRuntime) -> Result<(), Fail> {
-        let alloc = rt.alloc();
-        let number = DType::Primitive(PType::I32, Nullability::NonNullable);
-        let one = DType::list(alloc, number, Nullability::NonNullable)?;
-        let number = DType::Primitive(PType::I32, Nullability::Nullable);
-        let other = DType::list(alloc, number, Nullability::NonNullable)?;
-        for (a, b) in [(&one, &other), (&other, &one)] {
-            assert!(rt; a.eq_with_nullability_subset(b));
-            assert!(rt; !a.eq_with_nullability_superset(b));
-        }
-        Ok(())
+        agree(other, self, Nullabilities::Within)
     }
 }

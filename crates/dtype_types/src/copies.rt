@@ -1,20 +1,21 @@
-// Copies of types: each takes memory for its nodes, and shares the texts of names and ids.
-ghost use Rattle.std.specs.Prelude.{◌≡◌, ◌++◌, IfOk, OnOk, IsOkUnless, map};
+// Copies of types: each takes memory for its boxes, and shares what its structs, unions and maps hold.
+ghost use Rattle.std.specs.Prelude.{◌≡◌, IfOk, IsOkUnless};
 ghost use Rattle.dtype_base.specs.declared.vortex_error.VortexError.TheVariants.{OutOfMemory};
 ghost use Rattle.dtype_types.specs.TreeOf.{tree};
-ghost use Rattle.dtype_types.specs.Valid.{Valid};
+ghost use Rattle.dtype_types.specs.IsValid.{IsValid, has_even_lists};
 
 use crate::DType;
-use dtype_base::{FieldName, VortexResult};
+use dtype_base::VortexResult;
 use std::alloc::Global;
 
 impl DType {
     /// A type equal to this one. Refuses 0 (OutOfMemory) alone.
     #[cycle(copy)]
-    #[tactic(auto, using(crate::proofs::SameParts::same_structs, crate::proofs::SameParts::same_unions, crate::proofs::SameParts::same_maps, crate::proofs::SameParts::same_extensions))]
+    #[tactic(auto, using(crate::proofs::SameParts::same_structs, crate::proofs::SameParts::same_unions, crate::proofs::SameParts::same_maps, crate::proofs::SameParts::same_extensions, crate::proofs::EvenLists::even_structs, crate::proofs::EvenLists::even_unions, crate::proofs::EvenLists::even_maps, crate::proofs::EvenLists::even_extensions))]
     pub fn try_clone(&self, alloc: Global) -> VortexResult<DType>
         ensures same { IfOk result (λ d. tree d ≡ tree self.now) }
-        ensures valid { Valid (tree self.now) → IfOk result (λ d. Valid (tree d)) }
+        ensures even { IfOk result (λ d. has_even_lists d ≡ has_even_lists self.now) }
+        ensures valid { IsValid self.now → IfOk result IsValid }
         ensures refused { IsOkUnless result OutOfMemory }
     {
         match self {
@@ -43,36 +44,9 @@ impl DType {
 #[cycle(copy)]
 pub(crate) fn boxed_copy(alloc: Global, dtype: &DType) -> VortexResult<Box<DType>>
     ensures same { IfOk result (λ b. tree b.value ≡ tree dtype.now) }
+    ensures even { IfOk result (λ b. has_even_lists b.value ≡ has_even_lists dtype.now) }
     ensures refused { IsOkUnless result OutOfMemory }
 {
     let copy = dtype.try_clone(alloc)?;
     Ok(Box::new(alloc, copy)?)
-}
-
-// Copies of the types, in order.
-#[cycle(copy)]
-pub(crate) fn copies_of(alloc: Global, dtypes: &[DType]) -> VortexResult<Vec<DType>>
-    ensures same { IfOk result (λ v. map tree v.items ≡ map tree dtypes.now) }
-    ensures refused { IsOkUnless result OutOfMemory }
-{
-    let mut copies = Vec::with_capacity(alloc, dtypes.len())?;
-    for dtype in dtypes {
-        copies.push(dtype.try_clone(alloc)?)?;
-    }
-    Ok(copies)
-}
-
-// Puts copies of the names behind those that are there; they share their texts.
-pub(crate) fn append_names(
-    alloc: Global,
-    copies: &mut Vec<FieldName>,
-    names: &[FieldName],
-) -> VortexResult<()>
-    ensures same { OnOk result (copies.new.items ≡ copies.old.items ++ names.now) }
-    ensures refused { IsOkUnless result OutOfMemory }
-{
-    for name in names {
-        copies.push(name.try_clone(alloc)?)?;
-    }
-    Ok(())
 }

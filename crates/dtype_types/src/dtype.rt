@@ -80,6 +80,3 @@ impl fmt::Display for DType {
         }
     }
 }
-
-#[cfg(test)]
-mod tests;

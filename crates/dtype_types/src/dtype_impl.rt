@@ -7,7 +7,7 @@ ghost use Rattle.dtype_types.specs.FieldTypes.{field_tree, given_fields};
 ghost use Rattle.dtype_types.specs.Nullable.{nullability, IsNullable};
 ghost use Rattle.dtype_types.specs.Tree.{list, map_of, struct};
 ghost use Rattle.dtype_types.specs.TreeOf.{tree};
-ghost use Rattle.dtype_types.specs.Valid.{Valid};
+ghost use Rattle.dtype_types.specs.IsValid.{IsValid, IsValidField};
 
 use crate::{DType, FieldDType, MapDType, StructFields};
 use dtype_base::{FieldName, Nullability, VortexResult};
@@ -17,7 +17,7 @@ impl DType {
     /// Lists of this element. Refuses 0 (OutOfMemory) alone.
     pub fn list(alloc: Global, element: DType, n: Nullability) -> VortexResult<DType>
         ensures made { IfOk result (λ d. tree d ≡ list (tree element) n) }
-        ensures valid { Valid (tree element) → IfOk result (λ d. Valid (tree d)) }
+        ensures valid { IsValid element → IfOk result IsValid }
         ensures refused { IsOkUnless result OutOfMemory }
     {
         Ok(DType::List(Box::new(alloc, element)?, n))
@@ -33,7 +33,7 @@ impl DType {
         n: Nullability,
     ) -> VortexResult<DType>
         ensures made { IfOk result (λ d. tree d ≡ map_of (tree key) (tree value) keys_sorted n) }
-        ensures valid { Valid (tree key) → Valid (tree value) → IfOk result (λ d. Valid (tree d)) }
+        ensures valid { IsValid key → IsValid value → IfOk result IsValid }
         ensures accepted { OnOk result (nullability (tree key) ≡ Nullability.NonNullable) }
         ensures nullable { (result ≡ Err MapKeyNullable) ↔ IsNullable (tree key) }
         ensures refused { IfErr result (λ e. (e ≡ OutOfMemory) ⊎ (e ≡ MapKeyNullable)) }
@@ -52,7 +52,7 @@ impl DType {
             → I.IntoIter.can_next it × IsFinite (I.IntoIter.remaining it) }
         ensures made { IfOk result (λ d. (it : I.IntoIter) × I.into_iter_gives fields it
             × WholeRun I.IntoIter.next_gives it (λ run. (tree d ≡ struct (given_fields run.items) n)
-            × (All (λ p. Valid (field_tree p.1)) run.items → Valid (tree d)))) }
+            × (All (λ p. IsValidField p.1) run.items → IsValid d))) }
         ensures refused { IsOkUnless result OutOfMemory }
     {
         Ok(DType::Struct(StructFields::from_iter(alloc, fields)?, n))

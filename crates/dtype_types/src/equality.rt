@@ -1,4 +1,5 @@
-// Equality of types: one comparison, with the nullabilities compared or ignored.
+// Equality of types and their order by nullability: one walk over two types, with the nullabilities
+// compared, ignored, or those of the first within those of the second.
 ghost use Rattle.std.specs.Prelude.{◌≡◌, ◌↔◌, IsTrue};
 ghost use Rattle.dtype_types.specs.Equality.{agree, allows, same_ptype};
 ghost use Rattle.dtype_types.specs.Erase.{erase};
@@ -7,11 +8,13 @@ ghost use Rattle.dtype_types.specs.TreeOf.{tree};
 use crate::DType;
 use dtype_base::{Nullability, PType};
 
-// Whether nullabilities count.
+// How the nullabilities at the same place of two types have to stand to one another.
 #[derive(Clone, Copy)]
 pub(crate) enum Nullabilities {
     Compared,
     Ignored,
+    // nullable in the second wherever in the first
+    Within,
 }
 
 impl Nullabilities {
@@ -22,6 +25,7 @@ impl Nullabilities {
         match self {
             Nullabilities::Ignored => true,
             Nullabilities::Compared => one.is_nullable() == other.is_nullable(),
+            Nullabilities::Within => !one.is_nullable() || other.is_nullable(),
         }
     }
 }
@@ -32,7 +36,7 @@ fn same_ptype(one: PType, other: PType) -> bool
     one == other
 }
 
-// Whether the types are equal, or equal but for nullabilities where those are ignored.
+// Whether the types are equal but for nullabilities, and those stand to one another as the rule says.
 #[cycle(agree)]
 #[tactic(auto, using(crate::proofs::OtherKinds::not_null, crate::proofs::OtherKinds::not_bool, crate::proofs::OtherKinds::not_primitive, crate::proofs::OtherKinds::not_decimal, crate::proofs::OtherKinds::not_utf8, crate::proofs::OtherKinds::not_binary, crate::proofs::OtherKinds::not_variant, crate::proofs::OtherKinds::not_list, crate::proofs::OtherKinds::not_fixed, crate::proofs::OtherKinds::not_map, crate::proofs::OtherKinds::not_struct, crate::proofs::OtherKinds::not_union, crate::proofs::OtherKinds::not_extension, crate::proofs::OtherKinds::struct_agree, crate::proofs::OtherKinds::union_agree))]
 pub(crate) fn agree(a: &DType, b: &DType, rule: Nullabilities) -> bool

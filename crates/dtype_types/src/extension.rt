@@ -7,7 +7,7 @@ ghost use Rattle.dtype_base.specs.declared.vortex_error.VortexError.TheVariants.
 use crate::DType;
 use crate::copies::boxed_copy;
 use crate::equality::{Nullabilities, agree};
-use crate::hashing::feed;
+use crate::hashing::{Hashed, feed};
 use crate::width::Width;
 use dtype_base::{Nullability, VortexResult};
 use std::alloc::Global;
@@ -113,9 +113,9 @@ impl ExtDTypeRef {
     ghost use Rattle.dtype_types.specs.Nullable.{nullability, IsNullable, CanBeNonNullable, SetNull};
     ghost use Rattle.dtype_types.specs.Equality.{agree};
     ghost use Rattle.dtype_types.specs.Erase.{erase};
-    ghost use Rattle.dtype_types.specs.Valid.{Valid};
+    ghost use Rattle.dtype_types.specs.IsValid.{IsValid, IsValidExtension, has_even_lists};
     ghost use Rattle.dtype_types.specs.HashesOf.{extension_writes};
-    ghost use Rattle.dtype_types.specs.TreeOf.{extension_tree, ValidExtension, extension_metadata, extension_id, storage_tree, tree};
+    ghost use Rattle.dtype_types.specs.TreeOf.{extension_tree, extension_metadata, extension_id, extension_storage, storage_tree, tree};
     ghost use Rattle.dtype_types.specs.Width.{Measures};
 
     /// The id.
@@ -135,7 +135,7 @@ impl ExtDTypeRef {
         ensures id { IfOk result (λ e. extension_id e ≡ id) }
         ensures metadata { IfOk result (λ e. extension_metadata e ≡ metadata.items) }
         ensures storage { IfOk result (λ e. storage_tree e ≡ tree storage) }
-        ensures valid { Valid (tree storage) → IfOk result ValidExtension }
+        ensures valid { IsValid storage → IfOk result IsValidExtension }
         ensures refused { IsOkUnless result OutOfMemory }
     {
         check_bytes(&metadata);
@@ -144,6 +144,21 @@ impl ExtDTypeRef {
             metadata,
             storage: Box::new(alloc, storage)?,
         })
+    }
+
+    /// The id, the metadata and the storage, given up.
+    pub fn into_parts(self) -> (ExtId, Vec<u8>, DType)
+        ensures id { result.0 ≡ extension_id self }
+        ensures metadata { result.1.items ≡ extension_metadata self }
+        ensures storage { tree result.2 ≡ storage_tree self }
+        ensures valid { IsValidExtension self → IsValid result.2 }
+    {
+        let ExtDTypeRef {
+            id,
+            metadata,
+            storage,
+        } = self;
+        (id, metadata, Box::into_inner(storage))
     }
 
     /// The metadata, as bytes.
@@ -194,7 +209,8 @@ impl ExtDTypeRef {
 
     /// The storage type.
     pub fn storage_dtype(&self) -> &DType
-        ensures { tree result.now ≡ storage_tree self.now }
+        ensures storage { tree result.now ≡ storage_tree self.now }
+        ensures valid { IsValidExtension self.now → IsValid result.now }
     {
         &self.storage
     }
@@ -213,7 +229,7 @@ impl ExtDTypeRef {
 
     // Feeds a hasher the id, the metadata and the storage.
     #[cycle(hash)]
-    pub(crate) fn feed<H: Hasher>(&self, rule: Nullabilities, state: &mut H)
+    pub(crate) fn feed<H: Hasher>(&self, rule: Hashed, state: &mut H)
         ensures { state.new ≡ fold H.write state.old (extension_writes rule self.now) }
     {
         self.id.hash(state);
@@ -225,7 +241,9 @@ impl ExtDTypeRef {
     #[cycle(copy)]
     pub fn try_clone(&self, alloc: Global) -> VortexResult<Self>
         ensures same { IfOk result (λ e. extension_tree e ≡ extension_tree self.now) }
-        ensures valid { ValidExtension self.now → IfOk result (λ e. ValidExtension e) }
+        ensures even { IfOk result
+            (λ e. has_even_lists (extension_storage e) ≡ has_even_lists (extension_storage self.now)) }
+        ensures valid { IsValidExtension self.now → IfOk result IsValidExtension }
         ensures refused { IsOkUnless result OutOfMemory }
     {
         let id = self.id.try_clone(alloc)?;
@@ -268,10 +286,12 @@ impl ExtDTypeRef {
     pub fn with_nullability(&self, alloc: Global, n: Nullability) -> VortexResult<Self>
         requires { n ≡ Nullability.NonNullable → CanBeNonNullable (extension_tree self.now) }
         ensures set { IfOk result (λ e. SetNull (extension_tree self.now) n (extension_tree e)) }
-        ensures valid { ValidExtension self.now → IfOk result (λ e. ValidExtension e) }
+        ensures even { IfOk result
+            (λ e. has_even_lists (extension_storage e) ≡ has_even_lists (extension_storage self.now)) }
+        ensures valid { IsValidExtension self.now → IfOk result IsValidExtension }
         ensures refused { IsOkUnless result OutOfMemory }
     {
-        let storage = self.storage.with_nullability(alloc, n)?;
+        let storage = self.storage.set_nullability(alloc, n)?;
         let id = self.id.try_clone(alloc)?;
         let metadata = Vec::from_slice(alloc, &self.metadata)?;
         Ok(ExtDTypeRef {
@@ -309,14 +329,14 @@ impl Eq for ExtDTypeRef {
 impl Hash for ExtDTypeRef {
     ghost use Rattle.dtype_types.specs.HashLaws.{extension_fed};
     ghost use Rattle.dtype_types.specs.HashesOf.{extension_writes};
-    ghost use Rattle.dtype_types.specs.declared.equality.Nullabilities.TheVariants.{Compared};
+    ghost use Rattle.dtype_types.specs.declared.hashing.Hashed.TheVariants.{Whole};
 
-    ghost hash_input = { extension_writes Compared };
+    ghost hash_input = { extension_writes Whole };
 
     ghost respects_eq = { extension_fed };
 
     fn hash<H: Hasher>(&self, state: &mut H) {
-        self.feed(Nullabilities::Compared, state);
+        self.feed(Hashed::Whole, state);
     }
 }
 

@@ -2,6 +2,7 @@ ghost use Rattle.std.specs.Prelude.{◌≡◌, ◌↔◌, IsTrue, IfOk, IsOkUnle
 ghost use Rattle.dtype_base.specs.declared.nullability.Nullability.TheVariants.{NonNullable};
 ghost use Rattle.dtype_base.specs.declared.vortex_error.VortexError.TheVariants.{OutOfMemory};
 ghost use Rattle.dtype_types.specs.FieldTypes.{field_tree};
+ghost use Rattle.dtype_types.specs.IsValid.{IsValid, IsValidField};
 ghost use Rattle.dtype_types.specs.Tree.{primitive};
 ghost use Rattle.dtype_types.specs.TreeOf.{tree};
 
@@ -19,14 +20,15 @@ pub struct FieldDType {
 impl FieldDType {
     /// The type.
     pub fn value(&self) -> &DType
-        ensures { tree result.now ≡ field_tree self.now }
+        ensures held { tree result.now ≡ field_tree self.now }
+        ensures valid { IsValidField self.now → IsValid result.now }
     {
         &self.dtype
     }
 
     // The type, given up.
     pub(crate) fn into_dtype(self) -> DType
-        ensures { tree result ≡ field_tree self }
+        ensures { result ≡ self.dtype }
     {
         self.dtype
     }
@@ -34,6 +36,7 @@ impl FieldDType {
     /// A field's type equal to this one. Refuses 0 (OutOfMemory) alone.
     pub fn try_clone(&self, alloc: Global) -> VortexResult<Self>
         ensures same { IfOk result (λ f. field_tree f ≡ field_tree self.now) }
+        ensures valid { IsValidField self.now → IfOk result IsValidField }
         ensures refused { IsOkUnless result OutOfMemory }
     {
         Ok(FieldDType {
@@ -44,7 +47,7 @@ impl FieldDType {
 
 // The types of these fields, in order.
 pub(crate) fn into_dtypes(alloc: Global, fields: Vec<FieldDType>) -> VortexResult<Vec<DType>>
-    ensures same { IfOk result (λ v. map tree v.items ≡ map field_tree fields.items) }
+    ensures same { IfOk result (λ v. v.items ≡ map (λ f. f.dtype) fields.items) }
     ensures refused { IsOkUnless result OutOfMemory }
 {
     let mut dtypes = Vec::with_capacity(alloc, fields.len())?;
@@ -55,7 +58,7 @@ pub(crate) fn into_dtypes(alloc: Global, fields: Vec<FieldDType>) -> VortexResul
 }
 
 impl From<DType> for FieldDType {
-    ghost from_gives = { λ d f. field_tree f ≡ tree d };
+    ghost from_gives = { λ d f. (field_tree f ≡ tree d) × (IsValid d → IsValidField f) };
 
     fn from(dtype: DType) -> FieldDType {
         FieldDType { dtype }
@@ -64,7 +67,7 @@ impl From<DType> for FieldDType {
 
 /// The non-nullable primitive of that name.
 impl From<PType> for FieldDType {
-    ghost from_gives = { λ ptype f. field_tree f ≡ primitive ptype NonNullable };
+    ghost from_gives = { λ ptype f. (field_tree f ≡ primitive ptype NonNullable) × IsValidField f };
 
     fn from(ptype: PType) -> FieldDType {
         FieldDType {
@@ -97,10 +100,9 @@ impl Eq for FieldDType {
 
 impl Hash for FieldDType {
     ghost use Rattle.dtype_types.specs.HashLaws.{dtype_fed};
-    ghost use Rattle.dtype_types.specs.Hashes.{hash_of};
-    ghost use Rattle.dtype_types.specs.declared.equality.Nullabilities.TheVariants.{Compared};
+    ghost use Rattle.dtype_types.specs.Hashes.{writes};
 
-    ghost hash_input = { λ f. hash_of Compared (field_tree f) };
+    ghost hash_input = { λ f. writes (field_tree f) };
 
     ghost respects_eq = { λ f g. dtype_fed f.dtype g.dtype };
 

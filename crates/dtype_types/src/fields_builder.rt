@@ -1,7 +1,7 @@
 // A struct's fields while they are put together.
 ghost use Rattle.std.specs.Prelude.{◌≡◌, vec_len};
 
-use crate::{DType, FieldDType, StructFields};
+use crate::{DType, StructFields};
 use dtype_base::{FieldName, FieldNames, VortexResult};
 use std::alloc::Global;
 
@@ -14,17 +14,16 @@ pub(crate) struct FieldsBuilder {
 }
 
 impl FieldsBuilder {
-    ghost use Rattle.std.specs.Prelude.{◌++◌, [], ◌∷◌, map, IfOk, IsOkUnless};
+    ghost use Rattle.std.specs.Prelude.{◌++◌, [], ◌∷◌, map, All, IfOk, IsOkUnless};
     ghost use Rattle.dtype_base.specs.declared.vortex_error.VortexError.TheVariants.{OutOfMemory};
-    ghost use Rattle.dtype_types.specs.Building.{fields_so_far};
-    ghost use Rattle.dtype_types.specs.FieldTypes.{field_tree};
-    ghost use Rattle.dtype_types.specs.Tree.{fields};
-    ghost use Rattle.dtype_types.specs.TreeOf.{IsPaired, ValidStruct, children, names_of, tree, types_of};
-    ghost use Rattle.dtype_types.specs.Valid.{ValidFields};
+    ghost use Rattle.dtype_types.specs.Building.{dtypes_so_far, fields_so_far};
+    ghost use Rattle.dtype_types.specs.IsValid.{IsValid, IsValidStruct};
+    ghost use Rattle.dtype_types.specs.TreeOf.{IsPaired, children, names_of, tree, types_of};
 
     // No fields yet, and room for some.
     pub(crate) fn with_capacity(alloc: Global, capacity: usize) -> VortexResult<Self>
         ensures ok { IfOk result (λ b. fields_so_far b ≡ []) }
+        ensures dtypes { IfOk result (λ b. dtypes_so_far b ≡ []) }
         ensures refused { IsOkUnless result OutOfMemory }
     {
         Ok(FieldsBuilder {
@@ -37,6 +36,7 @@ impl FieldsBuilder {
     #[tactic(auto, using(crate::proofs::Zips::zip_push))]
     pub(crate) fn push(self, name: FieldName, dtype: DType) -> VortexResult<Self>
         ensures ok { IfOk result (λ b. fields_so_far b ≡ fields_so_far self ++ (name, tree dtype) ∷ []) }
+        ensures dtypes { IfOk result (λ b. dtypes_so_far b ≡ dtypes_so_far self ++ dtype ∷ []) }
         ensures refused { IsOkUnless result OutOfMemory }
     {
         let FieldsBuilder {
@@ -48,21 +48,6 @@ impl FieldsBuilder {
         Ok(FieldsBuilder { names, dtypes })
     }
 
-    // The fields of these pairs.
-    pub(crate) fn from_pairs(
-        alloc: Global,
-        fields: Vec<(FieldName, FieldDType)>,
-    ) -> VortexResult<Self>
-        ensures ok { IfOk result (λ b. fields_so_far b ≡ map (λ p. (p.0, field_tree p.1)) fields.items) }
-        ensures refused { IsOkUnless result OutOfMemory }
-    {
-        let mut builder = FieldsBuilder::with_capacity(alloc, fields.len())?;
-        for (name, dtype) in fields {
-            builder = builder.push(name, dtype.into_dtype())?;
-        }
-        Ok(builder)
-    }
-
     // The struct of these fields.
     #[tactic(auto, using(crate::proofs::Zips::firsts_zip, crate::proofs::Zips::seconds_zip))]
     pub(crate) fn finish(self, alloc: Global) -> VortexResult<StructFields>
@@ -70,7 +55,7 @@ impl FieldsBuilder {
         ensures types { IfOk result (λ s. types_of s ≡ map (λ p. p.1) (fields_so_far self)) }
         ensures fields { IfOk result (λ s. children s ≡ fields_so_far self) }
         ensures paired { IfOk result IsPaired }
-        ensures valid { ValidFields (fields (fields_so_far self)) → IfOk result ValidStruct }
+        ensures valid { All IsValid (dtypes_so_far self) → IfOk result IsValidStruct }
         ensures refused { IsOkUnless result OutOfMemory }
     {
         StructFields::new(alloc, FieldNames::from_vec(self.names), self.dtypes)

@@ -1,25 +1,28 @@
-// Hashes of types: one walk that feeds a hasher, with the nullabilities compared or ignored.
+// Hashes of types: one walk that feeds a hasher, with the nullabilities or without them.
 ghost use Rattle.std.specs.Prelude.{◌≡◌, fold};
 ghost use Rattle.dtype_base.specs.Primitives.{primitive};
-ghost use Rattle.dtype_types.specs.Hashes.{hash_of, nullability_writes};
+ghost use Rattle.dtype_types.specs.Hashes.{hash_of, nullability_writes, writes_ignoring_nullability};
 ghost use Rattle.dtype_types.specs.TreeOf.{tree};
 
 use crate::DType;
-use crate::equality::Nullabilities;
 use dtype_base::{Nullability, PType};
 use std::hash::{Hash, Hasher};
 
-#[cfg(test)]
-mod tests;
+// What of a type a hasher is fed: all of it, or the type with every nullability forgotten.
+#[derive(Clone, Copy)]
+pub(crate) enum Hashed {
+    Whole,
+    Erased,
+}
 
-impl Nullabilities {
+impl Hashed {
     // Feeds a hasher the nullability where nullabilities count.
     fn feed<H: Hasher>(self, nullability: Nullability, state: &mut H)
         ensures { state.new ≡ fold H.write state.old (nullability_writes self nullability) }
     {
         match self {
-            Nullabilities::Ignored => {}
-            Nullabilities::Compared => match nullability {
+            Hashed::Erased => {}
+            Hashed::Whole => match nullability {
                 Nullability::NonNullable => state.write_u8(0),
                 Nullability::Nullable => state.write_u8(1),
             },
@@ -36,7 +39,7 @@ fn ptype_number(ptype: PType) -> u8
 
 // Feeds a hasher the type.
 #[cycle(hash)]
-pub(crate) fn feed<H: Hasher>(dtype: &DType, rule: Nullabilities, state: &mut H)
+pub(crate) fn feed<H: Hasher>(dtype: &DType, rule: Hashed, state: &mut H)
     ensures { state.new ≡ fold H.write state.old (hash_of rule (tree dtype.now)) }
 {
     match dtype {
@@ -102,26 +105,24 @@ pub(crate) fn feed<H: Hasher>(dtype: &DType, rule: Nullabilities, state: &mut H)
 }
 
 impl DType {
-    ghost use Rattle.dtype_types.specs.declared.equality.Nullabilities.TheVariants.{Ignored};
-
     /// Feeds a hasher the type with every nullability in it left out. Types that are equal ignoring
     /// nullability feed alike.
     pub fn hash_ignore_nullability<H: Hasher>(&self, state: &mut H)
-        ensures { state.new ≡ fold H.write state.old (hash_of Ignored (tree self.now)) }
+        ensures { state.new ≡ fold H.write state.old (writes_ignoring_nullability (tree self.now)) }
     {
-        feed(self, Nullabilities::Ignored, state);
+        feed(self, Hashed::Erased, state);
     }
 }
 
 impl Hash for DType {
     ghost use Rattle.dtype_types.specs.HashLaws.{dtype_fed};
-    ghost use Rattle.dtype_types.specs.declared.equality.Nullabilities.TheVariants.{Compared};
+    ghost use Rattle.dtype_types.specs.Hashes.{writes};
 
-    ghost hash_input = { λ d. hash_of Compared (tree d) };
+    ghost hash_input = { λ d. writes (tree d) };
 
     ghost respects_eq = { dtype_fed };
 
     fn hash<H: Hasher>(&self, state: &mut H) {
-        feed(self, Nullabilities::Compared, state);
+        feed(self, Hashed::Whole, state);
     }
 }

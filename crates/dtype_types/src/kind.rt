@@ -4,15 +4,16 @@ ghost use Rattle.std.specs.Prelude.{◌≡◌, ◌↔◌, IsTrue, IsSomeAnd, IfS
 ghost use Rattle.std.specs.Option.{option_copied, option_map};
 ghost use Rattle.dtype_base.specs.Primitives.{IsUnsigned, IsSigned, IsInteger, IsFloat};
 ghost use Rattle.dtype_types.specs.Kinds.{kind, primitive_name, decimal_of, struct_fields, union_variants, map_parts, extension_parts, list_element, fixed_size_list_element, any_size_list_element, is_nested};
-ghost use Rattle.dtype_types.specs.TreeOf.{tree, children, choices, map_shown, extension_shown, option_tree, option_boxed, shown, extension_tree, ValidStruct, ValidUnion, ValidMap, ValidExtension};
-ghost use Rattle.dtype_types.specs.Valid.{Valid};
+ghost use Rattle.dtype_types.specs.TreeOf.{tree, children, choices, map_shown, extension_shown, option_tree, option_boxed, shown, extension_tree};
+ghost use Rattle.dtype_types.specs.IsValid.{IsValid, IsValidStruct, IsValidUnion, IsValidMap, IsValidExtension};
 
 use crate::{DType, ExtDTypeRef, MapDType, StructFields, UnionVariants};
 use dtype_base::{DecimalDType, PType};
 
-// The kinds of a type.
-#[derive(Clone, Copy, PartialEq, Eq)]
-pub(crate) enum Kind {
+/// The kinds of a type, one for each variant of `DType`. The conditions of `as_struct_fields` and the like
+/// name them.
+#[derive(Clone, Copy, Debug, PartialEq, Eq)]
+pub enum Kind {
     Null,
     Bool,
     Primitive,
@@ -235,7 +236,7 @@ impl DType {
     #[tactic(auto, using(crate::proofs::KindLaws::list_element_none))]
     pub fn as_list_element_opt(&self) -> Option<&DType>
         ensures held { option_tree result ≡ list_element (tree self.now) }
-        ensures valid { Valid (tree self.now) → IfSome result (λ d. Valid (tree d.now)) }
+        ensures valid { IsValid self.now → IfSome result (λ d. IsValid d.now) }
     {
         match self {
             DType::List(element, _) => Some(element),
@@ -247,7 +248,7 @@ impl DType {
     #[tactic(auto, using(crate::proofs::KindLaws::fixed_size_list_element_none))]
     pub fn as_fixed_size_list_element_opt(&self) -> Option<&DType>
         ensures held { option_tree result ≡ fixed_size_list_element (tree self.now) }
-        ensures valid { Valid (tree self.now) → IfSome result (λ d. Valid (tree d.now)) }
+        ensures valid { IsValid self.now → IfSome result (λ d. IsValid d.now) }
     {
         match self {
             DType::FixedSizeList(element, _, _) => Some(element),
@@ -259,7 +260,7 @@ impl DType {
     #[tactic(auto, using(crate::proofs::KindLaws::any_size_list_element_none))]
     pub fn as_any_size_list_element_opt(&self) -> Option<&DType>
         ensures held { option_tree result ≡ any_size_list_element (tree self.now) }
-        ensures valid { Valid (tree self.now) → IfSome result (λ d. Valid (tree d.now)) }
+        ensures valid { IsValid self.now → IfSome result (λ d. IsValid d.now) }
     {
         match self {
             DType::List(element, _) | DType::FixedSizeList(element, _, _) => Some(element),
@@ -268,10 +269,10 @@ impl DType {
     }
 
     /// What a `Map` holds, else `None`.
-    #[tactic(auto, using(crate::proofs::KindLaws::map_parts_none))]
+    #[tactic(auto, using(crate::proofs::KindLaws::map_parts_none, crate::proofs::EvenLists::valid_map))]
     pub fn as_map_opt(&self) -> Option<&MapDType>
         ensures held { shown map_shown result ≡ map_parts (tree self.now) }
-        ensures valid { Valid (tree self.now) → IfSome result (λ m. ValidMap m.now) }
+        ensures valid { IsValid self.now → IfSome result (λ m. IsValidMap m.now) }
     {
         match self {
             DType::Map(map, _) => Some(map),
@@ -280,10 +281,10 @@ impl DType {
     }
 
     /// The fields of a `Struct`, else `None`.
-    #[tactic(auto, using(crate::proofs::KindLaws::struct_fields_none, crate::proofs::KindLaws::struct_fields_some, crate::proofs::ValidLaws::valid_struct))]
+    #[tactic(auto, using(crate::proofs::KindLaws::struct_fields_none, crate::proofs::KindLaws::struct_fields_some))]
     pub fn as_struct_fields_opt(&self) -> Option<&StructFields>
         ensures held { shown children result ≡ struct_fields (tree self.now) }
-        ensures valid { Valid (tree self.now) → IfSome result (λ s. ValidStruct s.now) }
+        ensures valid { IsValid self.now → IfSome result (λ s. IsValidStruct s.now) }
     {
         match self {
             DType::Struct(fields, _) => Some(fields),
@@ -292,10 +293,10 @@ impl DType {
     }
 
     /// The variants of a `Union`, else `None`.
-    #[tactic(auto, using(crate::proofs::KindLaws::union_variants_none, crate::proofs::KindLaws::union_variants_some, crate::proofs::ValidLaws::valid_union))]
+    #[tactic(auto, using(crate::proofs::KindLaws::union_variants_none, crate::proofs::KindLaws::union_variants_some))]
     pub fn as_union_variants_opt(&self) -> Option<&UnionVariants>
         ensures held { shown choices result ≡ union_variants (tree self.now) }
-        ensures valid { Valid (tree self.now) → IfSome result (λ u. ValidUnion u.now) }
+        ensures valid { IsValid self.now → IfSome result (λ u. IsValidUnion u.now) }
     {
         match self {
             DType::Union(variants, _) => Some(variants),
@@ -307,7 +308,7 @@ impl DType {
     #[tactic(auto, using(crate::proofs::KindLaws::extension_parts_none))]
     pub fn as_extension_opt(&self) -> Option<&ExtDTypeRef>
         ensures held { shown extension_shown result ≡ extension_parts (tree self.now) }
-        ensures valid { Valid (tree self.now) → IfSome result (λ e. ValidExtension e.now) }
+        ensures valid { IsValid self.now → IfSome result (λ e. IsValidExtension e.now) }
     {
         match self {
             DType::Extension(extension) => Some(extension),
@@ -330,7 +331,7 @@ impl DType {
     #[tactic(auto, using(crate::proofs::KindLaws::list_element_none))]
     pub fn into_list_element_opt(self) -> Option<Box<DType>>
         ensures held { option_boxed result ≡ list_element (tree self) }
-        ensures valid { Valid (tree self) → IfSome result (λ b. Valid (tree b.value)) }
+        ensures valid { IsValid self → IfSome result (λ b. IsValid b.value) }
     {
         match self {
             DType::List(element, _) => Some(element),
@@ -342,7 +343,7 @@ impl DType {
     #[tactic(auto, using(crate::proofs::KindLaws::fixed_size_list_element_none))]
     pub fn into_fixed_size_list_element_opt(self) -> Option<Box<DType>>
         ensures held { option_boxed result ≡ fixed_size_list_element (tree self) }
-        ensures valid { Valid (tree self) → IfSome result (λ b. Valid (tree b.value)) }
+        ensures valid { IsValid self → IfSome result (λ b. IsValid b.value) }
     {
         match self {
             DType::FixedSizeList(element, _, _) => Some(element),
@@ -354,7 +355,7 @@ impl DType {
     #[tactic(auto, using(crate::proofs::KindLaws::any_size_list_element_none))]
     pub fn into_any_size_list_element_opt(self) -> Option<Box<DType>>
         ensures held { option_boxed result ≡ any_size_list_element (tree self) }
-        ensures valid { Valid (tree self) → IfSome result (λ b. Valid (tree b.value)) }
+        ensures valid { IsValid self → IfSome result (λ b. IsValid b.value) }
     {
         match self {
             DType::List(element, _) | DType::FixedSizeList(element, _, _) => Some(element),
@@ -363,10 +364,10 @@ impl DType {
     }
 
     /// What a `Map` holds, given up, else `None`.
-    #[tactic(auto, using(crate::proofs::KindLaws::map_parts_none))]
+    #[tactic(auto, using(crate::proofs::KindLaws::map_parts_none, crate::proofs::EvenLists::valid_map))]
     pub fn into_map_opt(self) -> Option<MapDType>
         ensures held { option_map map_shown result ≡ map_parts (tree self) }
-        ensures valid { Valid (tree self) → IfSome result ValidMap }
+        ensures valid { IsValid self → IfSome result IsValidMap }
     {
         match self {
             DType::Map(map, _) => Some(map),
@@ -375,10 +376,10 @@ impl DType {
     }
 
     /// The fields of a `Struct`, given up, else `None`.
-    #[tactic(auto, using(crate::proofs::KindLaws::struct_fields_none, crate::proofs::KindLaws::struct_fields_some, crate::proofs::ValidLaws::valid_struct))]
+    #[tactic(auto, using(crate::proofs::KindLaws::struct_fields_none))]
     pub fn into_struct_fields_opt(self) -> Option<StructFields>
         ensures held { option_map children result ≡ struct_fields (tree self) }
-        ensures valid { Valid (tree self) → IfSome result ValidStruct }
+        ensures valid { IsValid self → IfSome result IsValidStruct }
     {
         match self {
             DType::Struct(fields, _) => Some(fields),
@@ -387,10 +388,10 @@ impl DType {
     }
 
     /// The variants of a `Union`, given up, else `None`.
-    #[tactic(auto, using(crate::proofs::KindLaws::union_variants_none, crate::proofs::KindLaws::union_variants_some, crate::proofs::ValidLaws::valid_union))]
+    #[tactic(auto, using(crate::proofs::KindLaws::union_variants_none, crate::proofs::KindLaws::union_variants_some))]
     pub fn into_union_variants_opt(self) -> Option<UnionVariants>
         ensures held { option_map choices result ≡ union_variants (tree self) }
-        ensures valid { Valid (tree self) → IfSome result ValidUnion }
+        ensures valid { IsValid self → IfSome result IsValidUnion }
     {
         match self {
             DType::Union(variants, _) => Some(variants),
@@ -399,11 +400,11 @@ impl DType {
     }
 
     /// The fields of the struct that this is.
-    #[tactic(auto, using(crate::proofs::KindLaws::struct_fields_none, crate::proofs::KindLaws::struct_fields_some, crate::proofs::KindLaws::is_struct_with, crate::proofs::ValidLaws::valid_struct))]
+    #[tactic(auto, using(crate::proofs::KindLaws::struct_fields_none, crate::proofs::KindLaws::struct_fields_some, crate::proofs::KindLaws::is_struct_with))]
     pub fn as_struct_fields(&self) -> &StructFields
         requires { kind (tree self.now) ≡ Kind.Struct }
         ensures held { struct_fields (tree self.now) ≡ Some (children result.now) }
-        ensures valid { Valid (tree self.now) → ValidStruct result.now }
+        ensures valid { IsValid self.now → IsValidStruct result.now }
     {
         match self {
             DType::Struct(fields, _) => fields,
@@ -412,11 +413,11 @@ impl DType {
     }
 
     /// The fields of the struct that this is, given up.
-    #[tactic(auto, using(crate::proofs::KindLaws::struct_fields_none, crate::proofs::KindLaws::struct_fields_some, crate::proofs::KindLaws::is_struct_with, crate::proofs::ValidLaws::valid_struct))]
+    #[tactic(auto, using(crate::proofs::KindLaws::struct_fields_none, crate::proofs::KindLaws::struct_fields_some, crate::proofs::KindLaws::is_struct_with))]
     pub fn into_struct_fields(self) -> StructFields
         requires { kind (tree self) ≡ Kind.Struct }
         ensures held { struct_fields (tree self) ≡ Some (children result) }
-        ensures valid { Valid (tree self) → ValidStruct result }
+        ensures valid { IsValid self → IsValidStruct result }
     {
         match self {
             DType::Struct(fields, _) => fields,
@@ -429,7 +430,7 @@ impl DType {
     pub fn as_extension(&self) -> &ExtDTypeRef
         requires { kind (tree self.now) ≡ Kind.Extension }
         ensures held { tree self.now ≡ extension_tree result.now }
-        ensures valid { Valid (tree self.now) → ValidExtension result.now }
+        ensures valid { IsValid self.now → IsValidExtension result.now }
     {
         match self {
             DType::Extension(extension) => extension,

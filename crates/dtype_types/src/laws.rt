@@ -1,8 +1,23 @@
 // What follows from the definitions of types alone. Each function's contract is the law, and its body is
 // empty.
-ghost use Rattle.dtype_types.specs.Comparisons.{Subset, Superset};
-ghost use Rattle.dtype_types.specs.Laws.{EqualTypesFeedAlike, IsReflexive, IsTransitive, LastSetNullDecides, RelatesTwoBothWays, SameIgnoring, SameIgnoringFeedAlike, SetNullKeepsErase, SetNullSets, TagsTellPositions};
-ghost use Rattle.dtype_types.specs.Tree.{Tree};
+ghost use Rattle.std.specs.Prelude.{◌≡◌, ◌↔◌, None};
+ghost use Rattle.dtype_base.specs.declared.nullability.Nullability.{Nullability};
+ghost use Rattle.dtype_base.specs.declared.nullability.Nullability.TheVariants.{NonNullable, Nullable};
+ghost use Rattle.dtype_base.specs.declared.ptype.PType.TheVariants.{U8};
+ghost use Rattle.dtype_types.specs.Laws.{EqualTypesFeedAlike, IsAntisymmetric, IsReflexive, IsTransitive, IsOneListOfFields, IsOneListOfVariants, LastSetNullDecides, SameIgnoring, SameIgnoringFeedAlike, SetNullKeepsErase, SetNullSets, TagsTellPositions};
+ghost use Rattle.dtype_types.specs.Nullable.{IsNullable, SetNull};
+ghost use Rattle.dtype_types.specs.Sample.{sample};
+ghost use Rattle.dtype_types.specs.Sub.{Sub};
+ghost use Rattle.dtype_types.specs.Tell.{HasNoSizeZero, TellsApart, tell};
+ghost use Rattle.dtype_types.specs.Valid.{Valid};
+ghost use Rattle.dtype_types.specs.Value.{AddsNull, IncludedIn, Of, null_value};
+ghost use Rattle.dtype_types.specs.IsValid.{IsValid, IsValidStruct, IsValidUnion};
+ghost use Rattle.dtype_types.specs.Tree.{Tree, primitive, struct, union};
+ghost use Rattle.dtype_types.specs.TreeOf.{struct_tree, tree, union_tree};
+ghost use Rattle.dtype_types.specs.declared.struct_fields.StructFields.{StructFields};
+ghost use Rattle.dtype_types.specs.declared.union_variants.UnionVariants.{UnionVariants};
+
+use crate::DType;
 
 /// Types that are equal feed every hasher alike.
 #[tactic(auto, using(crate::specs::HashLaws::dtype_fed))]
@@ -28,23 +43,89 @@ pub fn nullability_is_set_alone()
     ensures last_decides { LastSetNullDecides }
 {}
 
-/// The comparison that asks for equality of nullable types is reflexive and transitive, and not
-/// antisymmetric.
-pub fn subset_is_a_preorder()
-    ensures reflexive { IsReflexive Subset }
-    ensures transitive { IsTransitive Subset }
-    ensures not_antisymmetric { RelatesTwoBothWays Subset }
-{}
-
-/// The comparison that asks for equality of non-nullable types is reflexive and transitive, and not
-/// antisymmetric.
-pub fn superset_is_a_preorder()
-    ensures reflexive { IsReflexive Superset }
-    ensures transitive { IsTransitive Superset }
-    ensures not_antisymmetric { RelatesTwoBothWays Superset }
-{}
-
-/// In a valid union the position of the tag that stands at a position is that position.
+/// In a valid union the position that `tag_to_child_index` gives for the tag that stands at a position,
+/// which `child_index_to_tag` gives, is that position.
 pub fn tags_tell_positions()
     ensures { TagsTellPositions }
 {}
+
+/// What a valid struct's calls say, they say of one list of fields: `names` and `nfields`, as those that
+/// look up a field and `fields` do.
+pub fn valid_structs_are_one_list()
+    ensures { (s : StructFields) → IsValidStruct s → IsOneListOfFields s }
+{}
+
+/// What a valid union's calls say, they say of one list of variants: `names`, `type_ids`, `len` and the
+/// calls on tags, as those that look up a variant and `variants` do.
+pub fn valid_unions_are_one_list()
+    ensures { (u : UnionVariants) → IsValidUnion u → IsOneListOfVariants u }
+{}
+
+/// The tree of a valid struct, and of a valid union, is valid.
+pub fn valid_parts_make_valid_types()
+    ensures structs { (s : StructFields) (n : Nullability) → IsValidStruct s → Valid (struct (struct_tree s) n) }
+    ensures unions { (u : UnionVariants) (n : Nullability) → IsValidUnion u → Valid (union (union_tree u) n) }
+{}
+
+/// The sample of a valid type is a value of it, so each valid type has a value.
+#[tactic(auto, using(crate::proofs::SampleLaws::sample_of))]
+pub fn samples_are_values()
+    ensures { (t : Tree) → Valid t → Of (sample t) t }
+{}
+
+/// Null is a value of exactly the nullable types.
+#[tactic(auto, using(crate::proofs::NullValues::null_is_of_nullable))]
+pub fn null_is_a_value_of_nullable_types()
+    ensures { (t : Tree) → Of null_value t ↔ IsNullable t }
+{}
+
+/// The values of a type made nullable are those of the type, and null.
+pub fn nullable_types_have_null_besides()
+    ensures { (t u : Tree) → SetNull t Nullable u → AddsNull t u }
+{}
+
+/// The order of types by nullability, which both comparisons with nullability test, is an order: each
+/// type is below itself, what is below a type is below all that it is below, and two types that are
+/// below one another are equal.
+pub fn sub_is_an_order()
+    ensures reflexive { IsReflexive Sub }
+    ensures transitive { IsTransitive Sub }
+    ensures antisymmetric { IsAntisymmetric Sub }
+{}
+
+/// Each value of a type is a value of every type that it is below.
+#[tactic(auto, using(crate::proofs::SubValues::sub_values))]
+pub fn values_of_what_is_below_are_values()
+    ensures { (a b : Tree) → Sub a b → IncludedIn a b }
+{}
+
+/// Of two valid types that are equal but for nullabilities and in which no fixed size is 0, one is below
+/// the other exactly where each of its values is a value of the other.
+pub fn the_order_is_inclusion_of_values()
+    ensures { (a b : Tree) → Valid a → HasNoSizeZero a → SameIgnoring a b → (Sub a b ↔ IncludedIn a b) }
+{}
+
+/// Of two such types of which the first isn't below the second, `tell` gives a value of the first that is
+/// none of the second.
+pub fn tell_tells_apart()
+    ensures { (a b : Tree) → Valid a → HasNoSizeZero a → SameIgnoring a b → ¬ (Sub a b) → TellsApart a b }
+{}
+
+/// Of types that are equal but for nullabilities, also with a fixed size 0, `tell` gives nothing exactly
+/// where the first is below the second.
+pub fn tell_gives_exactly_where_not_below()
+    ensures { (a b : Tree) → SameIgnoring a b → ((tell a b ≡ None) ↔ Sub a b) }
+{}
+
+/// Through a fixed size 0 all values of one type may be values of another that it isn't below.
+pub fn a_size_of_zero_hides_nullability()
+    ensures { (a : Tree) × (b : Tree) × Valid a × Valid b × SameIgnoring a b × IncludedIn a b × ¬ (Sub a b) }
+{}
+
+/// `BYTES` is the non-nullable `U8`, and valid.
+pub fn bytes_are_non_nullable_u8() -> DType
+    ensures tree { tree result ≡ primitive U8 NonNullable }
+    ensures valid { IsValid result }
+{
+    DType::BYTES
+}

@@ -2,11 +2,13 @@
 //
 // It promises that a `DType` means a finite tree (`tree` of `specs/TreeOf`), and that each call is
 // its definition on that tree: nullability, lookups, copies, comparisons, texts. Whatever a call
-// gives is `Valid` where what it took is.
+// gives is valid where what it took is (`IsValid`): its tree is, and its lists are equally long.
 //
 // Begin with `DType` in `dtype.rt` and its calls in `dtype_impl.rt`, then `StructFields`. The
-// definitions are in `specs/`: `Tree` (the type tree), `Nullable`, `Valid`, `Erase`, `Lookups`,
-// `Text`. What is proved, and what is only tested, is in the README.
+// definitions are in `specs/`: `Tree` (the type tree), `Nullable`, `Valid`, `IsValid`, `Erase`, `Lookups`,
+// `Text`, `Value` (values, and which are of which type) and `Sub` (the order by nullability). `laws`
+// has what follows from the definitions alone. What is proved, and what is only tested, is in the
+// README.
 #![tactic(auto)]
 
 mod comparisons;
@@ -24,11 +26,8 @@ mod indented;
 mod kind;
 pub mod laws;
 mod map;
-mod name_index;
 mod nullable;
 mod repeats;
-#[cfg(test)]
-mod samples;
 mod struct_fields;
 mod text;
 mod union_variants;
@@ -38,6 +37,7 @@ pub use dtype::DType;
 pub use dtype_iter::DTypeIter;
 pub use extension::{ExtDTypeRef, ExtId, MetadataDisplay};
 pub use field_dtype::FieldDType;
+pub use kind::Kind;
 pub use map::MapDType;
 pub use struct_fields::StructFields;
 pub use union_variants::UnionVariants;

@@ -3,24 +3,21 @@ ghost use Rattle.dtype_base.specs.declared.vortex_error.VortexError.TheVariants.
 ghost use Rattle.dtype_base.specs.declared.nullability.Nullability.TheVariants.{NonNullable};
 ghost use Rattle.std.proofs.Math.Bool.{beq};
 
-use crate::copies::boxed_copy;
 use crate::equality::{Nullabilities, agree};
-use crate::hashing::feed;
+use crate::hashing::{Hashed, feed};
 use crate::{DType, StructFields};
 use dtype_base::{FieldNames, Nullability, VortexError, VortexResult};
 use std::alloc::Global;
 use std::fmt;
 use std::hash::{Hash, Hasher};
-
-#[cfg(test)]
-mod tests;
+use std::rc::Rc;
 
 /// The type of a map's entries: keys, values, and whether the keys are sorted.
 #[derive(Debug, Drop)]
 #[cycle(dtype)]
 pub struct MapDType {
-    key: Box<DType>,
-    value: Box<DType>,
+    key: Rc<DType>,
+    value: Rc<DType>,
     keys_sorted: bool,
 }
 
@@ -29,8 +26,8 @@ impl MapDType {
     ghost use Rattle.dtype_types.specs.HashesOf.{map_writes};
     ghost use Rattle.dtype_types.specs.Maps.{entries_of};
     ghost use Rattle.dtype_types.specs.Nullable.{nullability, IsNullable};
-    ghost use Rattle.dtype_types.specs.TreeOf.{tree, key_tree, value_tree, are_keys_sorted, ValidMap};
-    ghost use Rattle.dtype_types.specs.Valid.{Valid};
+    ghost use Rattle.dtype_types.specs.TreeOf.{tree, map_key, map_value, key_tree, value_tree, are_keys_sorted};
+    ghost use Rattle.dtype_types.specs.IsValid.{IsValid, IsValidMap};
 
     /// The type of a map with this key and value; whether its keys are sorted is kept and not checked.
     /// Refuses 9 (MapKeyNullable) where the key's type is nullable, else 0 (OutOfMemory) alone.
@@ -38,7 +35,7 @@ impl MapDType {
         ensures key { IfOk result (λ m. key_tree m ≡ tree key) }
         ensures value { IfOk result (λ m. value_tree m ≡ tree value) }
         ensures sorted { IfOk result (λ m. are_keys_sorted m ≡ keys_sorted) }
-        ensures valid { Valid (tree key) → Valid (tree value) → IfOk result ValidMap }
+        ensures valid { IsValid key → IsValid value → IfOk result IsValidMap }
 
         ensures accepted { OnOk result (nullability (tree key) ≡ NonNullable) }
         ensures nullable { (result ≡ Err MapKeyNullable) ↔ IsNullable (tree key) }
@@ -48,8 +45,8 @@ impl MapDType {
             return Err(VortexError::MapKeyNullable);
         }
         Ok(MapDType {
-            key: Box::new(alloc, key)?,
-            value: Box::new(alloc, value)?,
+            key: Rc::new(alloc, key)?,
+            value: Rc::new(alloc, value)?,
             keys_sorted,
         })
     }
@@ -57,7 +54,7 @@ impl MapDType {
     /// The type of the keys.
     pub fn key_dtype(&self) -> &DType
         ensures key { tree result.now ≡ key_tree self.now }
-        ensures valid { ValidMap self.now → Valid (tree result.now) }
+        ensures valid { IsValidMap self.now → IsValid result.now }
     {
         &self.key
     }
@@ -65,7 +62,7 @@ impl MapDType {
     /// The type of the values.
     pub fn value_dtype(&self) -> &DType
         ensures value { tree result.now ≡ value_tree self.now }
-        ensures valid { ValidMap self.now → Valid (tree result.now) }
+        ensures valid { IsValidMap self.now → IsValid result.now }
     {
         &self.value
     }
@@ -82,7 +79,7 @@ impl MapDType {
     pub fn entries_dtype(&self, alloc: Global) -> VortexResult<DType>
         ensures entries { IfOk result
             (λ d. tree d ≡ entries_of (key_tree self.now) (value_tree self.now)) }
-        ensures valid { ValidMap self.now → IfOk result (λ d. Valid (tree d)) }
+        ensures valid { IsValidMap self.now → IfOk result IsValid }
         ensures refused { IsOkUnless result OutOfMemory }
     {
         let names = FieldNames::from_texts(alloc, &["key", "value"])?;
@@ -106,7 +103,7 @@ impl MapDType {
 
     // Feeds a hasher the key, the value, and whether the keys are sorted.
     #[cycle(hash)]
-    pub(crate) fn feed<H: Hasher>(&self, rule: Nullabilities, state: &mut H)
+    pub(crate) fn feed<H: Hasher>(&self, rule: Hashed, state: &mut H)
         ensures { state.new ≡ fold H.write state.old (map_writes rule self.now) }
     {
         feed(&self.key, rule, state);
@@ -114,17 +111,17 @@ impl MapDType {
         self.keys_sorted.hash(state);
     }
 
-    /// A map type equal to this one. Refuses 0 (OutOfMemory) alone.
-    #[cycle(copy)]
-    pub fn try_clone(&self, alloc: Global) -> VortexResult<Self>
+    /// A map type equal to this one, which shares its key and value. Refuses 0 (OutOfMemory) alone.
+    pub fn try_clone(&self, _alloc: Global) -> VortexResult<Self>
         ensures key { IfOk result (λ m. key_tree m ≡ key_tree self.now) }
         ensures value { IfOk result (λ m. value_tree m ≡ value_tree self.now) }
         ensures sorted { IfOk result (λ m. are_keys_sorted m ≡ are_keys_sorted self.now) }
-        ensures valid { ValidMap self.now → IfOk result (λ m. ValidMap m) }
+        ensures shared { IfOk result (λ m. (map_key m ≡ map_key self.now) × (map_value m ≡ map_value self.now)) }
+        ensures valid { IsValidMap self.now → IfOk result IsValidMap }
         ensures refused { IsOkUnless result OutOfMemory }
     {
-        let key = boxed_copy(alloc, &self.key)?;
-        let value = boxed_copy(alloc, &self.value)?;
+        let key = self.key.clone()?;
+        let value = self.value.clone()?;
         Ok(MapDType {
             key,
             value,
@@ -159,14 +156,14 @@ impl Eq for MapDType {
 impl Hash for MapDType {
     ghost use Rattle.dtype_types.specs.HashLaws.{map_fed};
     ghost use Rattle.dtype_types.specs.HashesOf.{map_writes};
-    ghost use Rattle.dtype_types.specs.declared.equality.Nullabilities.TheVariants.{Compared};
+    ghost use Rattle.dtype_types.specs.declared.hashing.Hashed.TheVariants.{Whole};
 
-    ghost hash_input = { map_writes Compared };
+    ghost hash_input = { map_writes Whole };
 
     ghost respects_eq = { map_fed };
 
     fn hash<H: Hasher>(&self, state: &mut H) {
-        self.feed(Nullabilities::Compared, state);
+        self.feed(Hashed::Whole, state);
     }
 }
 

@@ -2,9 +2,10 @@
 ghost use Rattle.std.specs.Prelude.{◌≡◌, ◌↔◌, IsTrue, IfOk, IsOkUnless};
 ghost use Rattle.dtype_base.specs.Nullability.{either};
 ghost use Rattle.dtype_base.specs.declared.vortex_error.VortexError.TheVariants.{OutOfMemory};
-ghost use Rattle.dtype_types.specs.Nullable.{nullability, IsNullable, CanBeNonNullable, SetNull};
+ghost use Rattle.dtype_types.specs.Nullable.{nullability, IsNullable, CanBeNonNullable, SetNull, set_null};
 ghost use Rattle.dtype_types.specs.TreeOf.{tree};
-ghost use Rattle.dtype_types.specs.Valid.{Valid};
+ghost use Rattle.dtype_types.specs.IsValid.{IsValid, has_even_lists};
+ghost use Rattle.dtype_types.specs.Value.{AddsNull};
 
 use crate::DType;
 use crate::copies::boxed_copy;
@@ -68,16 +69,23 @@ impl DType {
     pub fn as_nonnullable(&self, alloc: Global) -> VortexResult<DType>
         requires { CanBeNonNullable (tree self.now) }
         ensures set { IfOk result (λ d. SetNull (tree self.now) Nullability.NonNullable (tree d)) }
-        ensures valid { Valid (tree self.now) → IfOk result (λ d. Valid (tree d)) }
+        ensures again { IfOk result (λ d. set_null (tree d) ≡ set_null (tree self.now)) }
+        ensures back { IfOk result
+            (λ d. SetNull (tree d) (nullability (tree self.now)) (tree self.now)) }
+        ensures valid { IsValid self.now → IfOk result IsValid }
         ensures refused { IsOkUnless result OutOfMemory }
     {
         self.with_nullability(alloc, Nullability::NonNullable)
     }
 
-    /// The type made nullable. Refuses 0 (OutOfMemory) alone.
+    /// The type made nullable: its values are those of this one, and null. Refuses 0 (OutOfMemory) alone.
     pub fn as_nullable(&self, alloc: Global) -> VortexResult<DType>
         ensures set { IfOk result (λ d. SetNull (tree self.now) Nullability.Nullable (tree d)) }
-        ensures valid { Valid (tree self.now) → IfOk result (λ d. Valid (tree d)) }
+        ensures values { IfOk result (λ d. AddsNull (tree self.now) (tree d)) }
+        ensures again { IfOk result (λ d. set_null (tree d) ≡ set_null (tree self.now)) }
+        ensures back { IfOk result
+            (λ d. SetNull (tree d) (nullability (tree self.now)) (tree self.now)) }
+        ensures valid { IsValid self.now → IfOk result IsValid }
         ensures refused { IsOkUnless result OutOfMemory }
     {
         self.with_nullability(alloc, Nullability::Nullable)
@@ -85,12 +93,27 @@ impl DType {
 
     /// The type with another outer nullability, for an extension that of its storage; `Null` stays
     /// `Null`. Where non-nullable is asked, the type can be. Refuses 0 (OutOfMemory) alone.
-    #[cycle(with_nullability)]
-    #[tactic(auto, using(crate::proofs::SameParts::set_struct, crate::proofs::SameParts::set_union, crate::proofs::SameParts::set_map, crate::proofs::SameParts::set_extension))]
     pub fn with_nullability(&self, alloc: Global, n: Nullability) -> VortexResult<DType>
         requires { n ≡ Nullability.NonNullable → CanBeNonNullable (tree self.now) }
         ensures set { IfOk result (λ d. SetNull (tree self.now) n (tree d)) }
-        ensures valid { Valid (tree self.now) → IfOk result (λ d. Valid (tree d)) }
+        ensures again { IfOk result (λ d. set_null (tree d) ≡ set_null (tree self.now)) }
+        ensures back { IfOk result
+            (λ d. SetNull (tree d) (nullability (tree self.now)) (tree self.now)) }
+        ensures even { IfOk result (λ d. has_even_lists d ≡ has_even_lists self.now) }
+        ensures valid { IsValid self.now → IfOk result IsValid }
+        ensures refused { IsOkUnless result OutOfMemory }
+    {
+        self.set_nullability(alloc, n)
+    }
+
+    // The same, in a cycle with the extensions.
+    #[cycle(with_nullability)]
+    #[tactic(auto, using(crate::proofs::SameParts::set_struct, crate::proofs::SameParts::set_union, crate::proofs::SameParts::set_map, crate::proofs::SameParts::set_extension, crate::proofs::EvenLists::even_structs, crate::proofs::EvenLists::even_unions, crate::proofs::EvenLists::even_maps, crate::proofs::EvenLists::even_extensions))]
+    pub(crate) fn set_nullability(&self, alloc: Global, n: Nullability) -> VortexResult<DType>
+        requires { n ≡ Nullability.NonNullable → CanBeNonNullable (tree self.now) }
+        ensures set { IfOk result (λ d. SetNull (tree self.now) n (tree d)) }
+        ensures even { IfOk result (λ d. has_even_lists d ≡ has_even_lists self.now) }
+        ensures valid { IsValid self.now → IfOk result IsValid }
         ensures refused { IsOkUnless result OutOfMemory }
     {
         match self {
@@ -119,7 +142,7 @@ impl DType {
     #[tactic(auto, using(crate::proofs::SetNullLaws::nonnullable_can))]
     pub fn union_nullability(&self, alloc: Global, n: Nullability) -> VortexResult<DType>
         ensures set { IfOk result (λ d. SetNull (tree self.now) (either (nullability (tree self.now)) n) (tree d)) }
-        ensures valid { Valid (tree self.now) → IfOk result (λ d. Valid (tree d)) }
+        ensures valid { IsValid self.now → IfOk result IsValid }
         ensures refused { IsOkUnless result OutOfMemory }
     {
         self.with_nullability(alloc, self.nullability() | n)

@@ -1,39 +1,44 @@
-ghost use Rattle.std.specs.Prelude.{◌≡◌, ◌↔◌, IsTrue, ◌≤◌, ◌<◌, ◌++◌, ◌∷◌, ℕ, nat_lt, List, [], slice_index_or, length, map, remove, vec_len, All, IfOk, IfErr, IfSome, IsOk, IsOkUnless, MatchBool, slice_get, IfNone, Some, fold, OnOk, string_bytes};
+ghost use Rattle.std.specs.Prelude.{◌≡◌, ◌↔◌, IsTrue, ◌≤◌, ◌<◌, ◌++◌, ◌∷◌, ℕ, nat_lt, List, [], slice_index_or, length, map, remove, vec_len, All, IfOk, IfErr, IfSome, IsOk, IsOkUnless, MatchBool, slice_get, IfNone, Some, fold, OnOk, string_bytes, option_and_then};
 ghost use Rattle.std.specs.Iterator.{IsFinite};
 ghost use Rattle.std.specs.Iterator.Runs.{WholeRun};
-ghost use Rattle.std.specs.List.{zip};
+ghost use Rattle.std.specs.List.{AllByRecursion, zip};
 ghost use Rattle.std.specs.Option.{option_copied};
-ghost use Rattle.dtype_base.specs.FieldNames.{FirstAt, IsAbsent};
+ghost use Rattle.dtype_base.specs.FieldNames.{FirstAt, IsAbsent, first_place};
+ghost use Rattle.dtype_base.specs.NameOrder.{IsWithinDigits};
 ghost use Rattle.dtype_base.specs.declared.nullability.Nullability.{Nullability};
 ghost use Rattle.dtype_base.specs.declared.vortex_error.VortexError.TheVariants.{OutOfMemory, IndexOutOfBounds};
 
-use crate::copies::{append_names, copies_of};
 use crate::equality::{Nullabilities, agree};
 use crate::field_dtype::into_dtypes;
 use crate::fields_builder::FieldsBuilder;
-use crate::hashing::feed;
+use crate::hashing::{Hashed, feed};
 use crate::indented::{last_line, line_end};
-use crate::name_index::NameIndex;
-use crate::repeats::has_repeats;
 use crate::text::separator;
 use crate::width::Width;
 use crate::{DType, DTypeIter, FieldDType};
-use dtype_base::{FieldName, FieldNames, VortexError, VortexResult};
+use dtype_base::{FieldName, FieldNames, IndexedNames, VortexError, VortexResult};
 use std::alloc::Global;
 use std::fmt;
 use std::hash::{Hash, Hasher};
+use std::rc::Rc;
 
 /// The fields of a struct in order, each a name and a type. Names may repeat: every access by name
 /// means the first.
 #[derive(Debug, Drop)]
 #[cycle(dtype)]
 pub struct StructFields {
-    names: FieldNames,
-    dtypes: Vec<DType>,
+    shared: Rc<Named<DType>>,
+}
+
+// Names and what they name, at the same places.
+#[derive(Debug, Drop)]
+struct Named<T> {
+    names: IndexedNames,
+    dtypes: Vec<T>,
 }
 
 impl StructFields {
-    ghost use Rattle.dtype_types.specs.Building.{fields_so_far};
+    ghost use Rattle.dtype_types.specs.Building.{dtypes_so_far, fields_so_far};
     ghost use Rattle.dtype_types.specs.Equality.{agree_fields};
     ghost use Rattle.dtype_types.specs.Erase.{erase_fields};
     ghost use Rattle.dtype_types.specs.FieldTypes.{field_tree, HasFields};
@@ -42,30 +47,32 @@ impl StructFields {
     ghost use Rattle.dtype_types.specs.Distinct.{Distinct};
     ghost use Rattle.dtype_types.specs.HashesOf.{struct_writes};
     ghost use Rattle.dtype_types.specs.Tree.{Tree, struct};
-    ghost use Rattle.dtype_types.specs.TreeOf.{struct_tree, IsPaired, names_of, types_of, children, tree, option_tree, ValidStruct};
-    ghost use Rattle.dtype_types.specs.Valid.{Valid};
+    ghost use Rattle.dtype_types.specs.TreeOf.{struct_tree, IsPaired, names_of, dtypes_of, types_of, children, tree, option_tree};
+    ghost use Rattle.dtype_types.specs.IsValid.{IsValid, IsValidField, IsValidStruct};
     ghost use Rattle.dtype_types.specs.Width.{Measures};
 
     /// No fields. Refuses 0 (OutOfMemory) alone.
     pub fn empty(alloc: Global) -> VortexResult<Self>
         ensures names { IfOk result (λ s. names_of s ≡ []) }
         ensures types { IfOk result (λ s. types_of s ≡ []) }
-        ensures valid { IfOk result ValidStruct }
+        ensures valid { IfOk result IsValidStruct }
         ensures refused { IsOkUnless result OutOfMemory }
     {
         StructFields::new(alloc, FieldNames::empty(alloc), Vec::new(alloc))
     }
 
     /// The fields of these names and types, as many names as types. Refuses 0 (OutOfMemory) alone.
-    pub fn new(_alloc: Global, names: FieldNames, dtypes: Vec<DType>) -> VortexResult<Self>
+    pub fn new(alloc: Global, names: FieldNames, dtypes: Vec<DType>) -> VortexResult<Self>
         requires { length names ≡ vec_len dtypes }
         ensures names { IfOk result (λ s. names_of s ≡ names) }
         ensures types { IfOk result (λ s. types_of s ≡ map tree dtypes.items) }
         ensures paired { IfOk result IsPaired }
-        ensures valid { All (λ d. Valid (tree d)) dtypes.items → IfOk result ValidStruct }
+        ensures valid { All IsValid dtypes.items → IfOk result IsValidStruct }
         ensures refused { IsOkUnless result OutOfMemory }
     {
-        Ok(StructFields { names, dtypes })
+        let names = IndexedNames::new(alloc, names)?;
+        let shared = Rc::new(alloc, Named { names, dtypes })?;
+        Ok(StructFields { shared })
     }
 
     /// The fields of these names and types, as many names as types. Refuses 0 (OutOfMemory) alone.
@@ -78,7 +85,7 @@ impl StructFields {
         ensures names { IfOk result (λ s. names_of s ≡ names) }
         ensures types { IfOk result (λ s. types_of s ≡ map field_tree dtypes.items) }
         ensures paired { IfOk result IsPaired }
-        ensures valid { All (λ f. Valid (field_tree f)) dtypes.items → IfOk result ValidStruct }
+        ensures valid { All IsValidField dtypes.items → IfOk result IsValidStruct }
         ensures refused { IsOkUnless result OutOfMemory }
     {
         let dtypes = into_dtypes(alloc, dtypes)?;
@@ -94,32 +101,46 @@ impl StructFields {
             → I.IntoIter.can_next it × IsFinite (I.IntoIter.remaining it) }
         ensures fields { IfOk result (λ s. (it : I.IntoIter) × I.into_iter_gives fields it
             × WholeRun I.IntoIter.next_gives it (λ run. HasFields s run.items
-            × IsPaired s × (All (λ p. Valid (field_tree p.1)) run.items → ValidStruct s))) }
+            × IsPaired s × (All (λ p. IsValidField p.1) run.items → IsValidStruct s))) }
         ensures refused { IsOkUnless result OutOfMemory }
     {
-        let fields = fields.into_iter().collect(alloc)?;
-        FieldsBuilder::from_pairs(alloc, fields)?.finish(alloc)
+        let mut names = Vec::new(alloc);
+        let mut dtypes = Vec::new(alloc);
+        for (name, dtype) in fields {
+            names.push(name)?;
+            dtypes.push(dtype.into_dtype())?;
+        }
+        StructFields::new(alloc, FieldNames::from_vec(names), dtypes)
     }
 
     // How many fields there are: as far as both lists go.
     fn count(&self) -> usize
         ensures all { result ≡ length (children self.now) }
         ensures names { result ≤ length (names_of self.now) }
-        ensures dtypes { result ≤ vec_len self.now.dtypes }
+        ensures dtypes { result ≤ length (dtypes_of self.now) }
     {
-        self.names.len().min(self.dtypes.len())
+        self.names().len().min(self.dtypes().len())
     }
 
     /// The names, in order.
     pub fn names(&self) -> &FieldNames
         ensures { result.now ≡ names_of self.now }
     {
-        &self.names
+        self.shared.names.names()
+    }
+
+    // The types, also of fields that have no name, which no struct that is made has.
+    fn dtypes(&self) -> &[DType]
+        ensures { result.now ≡ dtypes_of self.now }
+    {
+        &self.shared.dtypes
     }
 
     /// How many fields there are.
     pub fn nfields(&self) -> usize
-        ensures { result ≡ length (children self.now) }
+        ensures all { result ≡ length (children self.now) }
+        ensures names { result ≤ length (names_of self.now) }
+        ensures exact { IsValidStruct self.now → result ≡ length (names_of self.now) }
     {
         self.count()
     }
@@ -133,22 +154,34 @@ impl StructFields {
 
     /// The position of the first field of the name, or `None` where no field has it.
     pub fn find(&self, name: &str) -> Option<usize>
+        ensures first { result ≡ first_place (field_names (children self.now)) name.now }
+        ensures field { option_and_then (λ i. slice_get (field_types (children self.now)) i) result
+            ≡ first_named (children self.now) name.now }
         ensures found { IfSome result (FirstAt (field_names (children self.now)) name.now) }
         ensures none { IfNone result (IsAbsent (field_names (children self.now)) name.now) }
     {
-        let names = self.paired_names();
-        for (i, field) in names.iter().enumerate() {
-            if field.eq_str(name) {
-                return Some(i);
-            }
+        self.find_counted(name).0
+    }
+
+    /// What `find` gives, and how many names were compared for it: at most one more than the binary
+    /// digits of the number of fields, of which 0 has none. Takes no memory.
+    pub fn find_counted(&self, name: &str) -> (Option<usize>, u64)
+        ensures found { IfSome result.0 (FirstAt (field_names (children self.now)) name.now) }
+        ensures none { IfNone result.0 (IsAbsent (field_names (children self.now)) name.now) }
+        ensures most { IsPaired self.now → IsWithinDigits (length (children self.now)) result.1 }
+        ensures least { IfSome result.0 (λ _. 0 < result.1) }
+    {
+        let (found, compared) = self.shared.names.find_counted(name);
+        match found {
+            Some(position) if position < self.count() => (Some(position), compared),
+            _ => (None, compared),
         }
-        None
     }
 
     /// The type of the first field of the name, or `None` where no field has it.
     pub fn field(&self, name: &str) -> Option<&DType>
         ensures first { option_tree result ≡ first_named (children self.now) name.now }
-        ensures valid { ValidStruct self.now → IfSome result (λ d. Valid (tree d.now)) }
+        ensures valid { IsValidStruct self.now → IfSome result (λ d. IsValid d.now) }
     {
         match self.find(name) {
             Some(index) => self.field_by_index(index),
@@ -159,7 +192,7 @@ impl StructFields {
     /// The type of the field at this position, or `None` at or past the end.
     pub fn field_by_index(&self, index: usize) -> Option<&DType>
         ensures at { option_tree result ≡ slice_get (field_types (children self.now)) index }
-        ensures valid { ValidStruct self.now → IfSome result (λ d. Valid (tree d.now)) }
+        ensures valid { IsValidStruct self.now → IfSome result (λ d. IsValid d.now) }
     {
         self.paired_dtypes().get(index)
     }
@@ -167,7 +200,7 @@ impl StructFields {
     /// The types, in order, lent.
     pub fn fields(&self) -> DTypeIter<'_>
         ensures all { map tree result ≡ field_types (children self.now) }
-        ensures valid { ValidStruct self.now → All (λ d. Valid (tree d)) result }
+        ensures valid { IsValidStruct self.now → All IsValid result }
     {
         DTypeIter::new(self.paired_dtypes())
     }
@@ -175,7 +208,7 @@ impl StructFields {
     /// The types, in order, lent: the same as `fields`.
     pub fn field_dtypes(&self) -> DTypeIter<'_>
         ensures all { map tree result ≡ field_types (children self.now) }
-        ensures valid { ValidStruct self.now → All (λ d. Valid (tree d)) result }
+        ensures valid { IsValidStruct self.now → All IsValid result }
     {
         self.fields()
     }
@@ -183,9 +216,9 @@ impl StructFields {
     // The types that have a name, which are all of them in every struct that is made.
     fn paired_dtypes(&self) -> &[DType]
         ensures all { map tree result.now ≡ field_types (children self.now) }
-        ensures valid { ValidStruct self.now → All (λ d. Valid (tree d)) result.now }
+        ensures valid { IsValidStruct self.now → All IsValid result.now }
     {
-        &self.dtypes[..self.count()]
+        &self.dtypes()[..self.count()]
     }
 
     /// Whether the fields are equal with every nullability in them ignored.
@@ -204,11 +237,13 @@ impl StructFields {
         if other.count() != count {
             return false;
         }
-        let names = self.names.as_slice();
-        let others = other.names.as_slice();
+        let names = self.names().as_slice();
+        let others = other.names().as_slice();
+        let dtypes = self.dtypes();
+        let other_dtypes = other.dtypes();
         for i in 0..count {
-            let t = &self.dtypes[i];
-            let u = &other.dtypes[i];
+            let t = &dtypes[i];
+            let u = &other_dtypes[i];
             if names[i] != others[i] {
                 return false;
             }
@@ -219,29 +254,34 @@ impl StructFields {
         true
     }
 
-    // The width of a struct of these fields.
+    // The width of a struct of these fields, as far as the first variable one.
     #[cycle(width)]
     pub(crate) fn width(&self) -> Width
         ensures { (n : Nullability) → Measures result (struct (struct_tree self.now) n) }
     {
         let mut total = Width::Bytes(0);
+        let dtypes = self.dtypes();
         for i in 0..self.count() {
-            let dtype = &self.dtypes[i];
+            let dtype = &dtypes[i];
             total = total.plus(dtype.width());
+            if let Width::Variable = total {
+                return Width::Variable;
+            }
         }
         total
     }
 
     // Feeds a hasher how many fields there are, and each field.
     #[cycle(hash)]
-    pub(crate) fn feed<H: Hasher>(&self, rule: Nullabilities, state: &mut H)
+    pub(crate) fn feed<H: Hasher>(&self, rule: Hashed, state: &mut H)
         ensures { state.new ≡ fold H.write state.old (struct_writes rule self.now) }
     {
         let count = self.count();
-        let names = self.names.as_slice();
+        let names = self.names().as_slice();
+        let dtypes = self.dtypes();
         state.write_usize(count);
         for i in 0..count {
-            let dtype = &self.dtypes[i];
+            let dtype = &dtypes[i];
             names[i].hash(state);
             feed(dtype, rule, state);
         }
@@ -252,14 +292,15 @@ impl StructFields {
     /// alone.
     pub fn project(&self, alloc: Global, projection: &[FieldName]) -> VortexResult<Self>
         ensures fields { IfOk result (λ s. Projects (children self.now) projection.now (children s)) }
+        ensures each { IfOk result (λ s. AllByRecursion
+            (λ n. first_named (children s) n ≡ first_named (children self.now) n) projection.now) }
         ensures paired { IfOk result IsPaired }
-        ensures valid { ValidStruct self.now → IfOk result ValidStruct }
+        ensures valid { IsValidStruct self.now → IfOk result IsValidStruct }
         ensures refused { IfErr result (ProjectionRefusal (children self.now) projection.now) }
     {
-        let index = NameIndex::new(alloc, self.paired_names())?;
         let mut fields = FieldsBuilder::with_capacity(alloc, projection.len())?;
         for (position, name) in projection.iter().enumerate() {
-            match index.find(name) {
+            match self.find(name.as_str()) {
                 Some(i) => fields = self.push_copy(alloc, fields, i)?,
                 None => return Err(VortexError::FieldNotFound { position }),
             }
@@ -273,21 +314,24 @@ impl StructFields {
         ensures fields { IfOk result (λ s. children s ≡ children self.now ++ children other.now) }
         ensures distinct { IsOk result → Distinct (field_names (children self.now ++ children other.now)) }
         ensures paired { IfOk result IsPaired }
-        ensures valid { ValidStruct self.now → ValidStruct other.now → IfOk result ValidStruct }
+        ensures valid { IsValidStruct self.now → IsValidStruct other.now → IfOk result IsValidStruct }
         ensures refused { IfErr result (MergeRefusal (field_names (children self.now ++ children other.now))) }
     {
-        let names = self.joined_names(alloc, other)?;
-        if has_repeats(alloc, &names)? {
+        let count = self.count().saturating_add(other.count());
+        let fields = FieldsBuilder::with_capacity(alloc, count)?;
+        let fields = self.push_copies(alloc, fields)?;
+        let merged = other.push_copies(alloc, fields)?.finish(alloc)?;
+        if !merged.shared.names.are_distinct() {
             return Err(VortexError::DuplicateNames);
         }
-        let fields = FieldsBuilder::with_capacity(alloc, names.len())?;
-        let fields = self.push_copies(alloc, fields)?;
-        other.push_copies(alloc, fields)?.finish(alloc)
+        Ok(merged)
     }
 
     // Puts copies of all fields behind those that are there.
     fn push_copies(&self, alloc: Global, mut fields: FieldsBuilder) -> VortexResult<FieldsBuilder>
         ensures ok { IfOk result (λ b. fields_so_far b ≡ fields_so_far fields ++ children self.now) }
+        ensures valid { IsValidStruct self.now → All IsValid (dtypes_so_far fields)
+            → IfOk result (λ b. All IsValid (dtypes_so_far b)) }
         ensures refused { IsOkUnless result OutOfMemory }
     {
         for i in 0..self.count() {
@@ -301,19 +345,7 @@ impl StructFields {
     fn paired_names(&self) -> &[FieldName]
         ensures { result.now ≡ field_names (children self.now) }
     {
-        &self.names.as_slice()[..self.count()]
-    }
-
-    // The names of the one followed by those of the other.
-    #[tactic(auto, using(crate::proofs::Zips::firsts_append))]
-    fn joined_names(&self, alloc: Global, other: &Self) -> VortexResult<Vec<FieldName>>
-        ensures ok { IfOk result (λ v. v.items ≡ field_names (children self.now ++ children other.now)) }
-        ensures refused { IsOkUnless result OutOfMemory }
-    {
-        let mut names = Vec::new(alloc);
-        append_names(alloc, &mut names, self.paired_names())?;
-        append_names(alloc, &mut names, other.paired_names())?;
-        Ok(names)
+        &self.names().as_slice()[..self.count()]
     }
 
     /// The fields but for that at this position. Refuses 17 (IndexOutOfBounds) at or past the end, with
@@ -321,7 +353,7 @@ impl StructFields {
     pub fn without_field(&self, alloc: Global, index: usize) -> VortexResult<Self>
         ensures fields { IfOk result (λ s. children s ≡ remove (children self.now) index) }
         ensures paired { IfOk result IsPaired }
-        ensures valid { ValidStruct self.now → IfOk result ValidStruct }
+        ensures valid { IsValidStruct self.now → IfOk result IsValidStruct }
         ensures within { IsOk result → index < length (children self.now) }
         ensures refused { IfErr result (λ e. MatchBool (nat_lt index (length (children self.now))) (e ≡ OutOfMemory) (e ≡ IndexOutOfBounds index (length (children self.now)))) }
     {
@@ -345,14 +377,16 @@ impl StructFields {
         fields: FieldsBuilder,
         index: usize,
     ) -> VortexResult<FieldsBuilder>
-        requires name { index < length self.now.names }
-        requires dtype { index < vec_len self.now.dtypes }
+        requires name { index < length (names_of self.now) }
+        requires dtype { index < length (dtypes_of self.now) }
         ensures ok { IfOk result (λ b. (p : List ℕ × Tree) × (p ≡ slice_index_or (children self.now) index p)
             × (fields_so_far b ≡ fields_so_far fields ++ p ∷ [])) }
+        ensures valid { IsValidStruct self.now → All IsValid (dtypes_so_far fields)
+            → IfOk result (λ b. All IsValid (dtypes_so_far b)) }
         ensures refused { IsOkUnless result OutOfMemory }
     {
-        let name = self.names.as_slice()[index].try_clone(alloc)?;
-        let dtype = self.dtypes[index].try_clone(alloc)?;
+        let name = self.names().as_slice()[index].try_clone(alloc)?;
+        let dtype = self.dtypes()[index].try_clone(alloc)?;
         fields.push(name, dtype)
     }
 
@@ -380,12 +414,13 @@ impl StructFields {
     {
         let inner = format!(in alloc; "{indent}  ")?;
         let count = self.count();
-        let names = self.names.as_slice();
+        let names = self.names().as_slice();
+        let dtypes = self.dtypes();
         out.push_str("{\n")?;
         for i in 0..count {
             let line_end = line_end(i);
             let name = &names[i];
-            let dtype = &self.dtypes[i];
+            let dtype = &dtypes[i];
             write!(out, "{line_end}{inner}{name}=")?;
             dtype.write_indented(alloc, out, inner.as_str())?;
         }
@@ -394,17 +429,17 @@ impl StructFields {
         Ok(())
     }
 
-    /// Fields equal to these. Refuses 0 (OutOfMemory) alone.
-    #[cycle(copy)]
-    pub fn try_clone(&self, alloc: Global) -> VortexResult<Self>
+    /// Fields equal to these, which share them. Refuses 0 (OutOfMemory) alone.
+    #[tactic(auto, using(crate::proofs::EvenLists::struct_of_same))]
+    pub fn try_clone(&self, _alloc: Global) -> VortexResult<Self>
         ensures names { IfOk result (λ s. names_of s ≡ names_of self.now) }
         ensures types { IfOk result (λ s. types_of s ≡ types_of self.now) }
-        ensures valid { ValidStruct self.now → IfOk result ValidStruct }
+        ensures shared { IfOk result (λ s. dtypes_of s ≡ dtypes_of self.now) }
+        ensures valid { IsValidStruct self.now → IfOk result IsValidStruct }
         ensures refused { IsOkUnless result OutOfMemory }
     {
-        let names = self.names.try_clone(alloc)?;
-        let dtypes = copies_of(alloc, &self.dtypes)?;
-        Ok(StructFields { names, dtypes })
+        let shared = self.shared.clone()?;
+        Ok(StructFields { shared })
     }
 }
 
@@ -434,14 +469,14 @@ impl Eq for StructFields {
 impl Hash for StructFields {
     ghost use Rattle.dtype_types.specs.HashLaws.{struct_fed};
     ghost use Rattle.dtype_types.specs.HashesOf.{struct_writes};
-    ghost use Rattle.dtype_types.specs.declared.equality.Nullabilities.TheVariants.{Compared};
+    ghost use Rattle.dtype_types.specs.declared.hashing.Hashed.TheVariants.{Whole};
 
-    ghost hash_input = { struct_writes Compared };
+    ghost hash_input = { struct_writes Whole };
 
     ghost respects_eq = { struct_fed };
 
     fn hash<H: Hasher>(&self, state: &mut H) {
-        self.feed(Nullabilities::Compared, state);
+        self.feed(Hashed::Whole, state);
     }
 }
 
@@ -454,11 +489,12 @@ impl fmt::Display for StructFields {
     #[cycle(text)]
     fn fmt<W: fmt::Write>(&self, f: &mut fmt::Formatter<W>) -> fmt::Result {
         let count = self.count();
-        let names = self.names.as_slice();
+        let names = self.names().as_slice();
+        let dtypes = self.dtypes();
         write!(f, "{{")?;
         for i in 0..count {
             let name = &names[i];
-            let dtype = &self.dtypes[i];
+            let dtype = &dtypes[i];
             let separator = separator(i);
             write!(f, "{separator}{name}=")?;
             dtype.fmt(f)?;
@@ -466,6 +502,3 @@ impl fmt::Display for StructFields {
         write!(f, "}}")
     }
 }
-
-#[cfg(test)]
-mod tests;

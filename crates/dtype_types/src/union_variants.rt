@@ -4,9 +4,8 @@ ghost use Rattle.dtype_base.specs.FieldNames.{FirstAt, IsAbsent};
 ghost use Rattle.dtype_base.specs.declared.vortex_error.VortexError.TheVariants.{OutOfMemory, UnionTooMany};
 ghost use Rattle.dtype_types.specs.Unions.{HasUnionLengths, MakesUnion, UnionRefusal};
 
-use crate::copies::copies_of;
 use crate::equality::{Nullabilities, agree};
-use crate::hashing::feed;
+use crate::hashing::{Hashed, feed};
 use crate::repeats::has_repeats;
 use crate::text::separator;
 use crate::{DType, DTypeIter};
@@ -14,9 +13,7 @@ use dtype_base::{FieldNames, VortexError, VortexResult};
 use std::alloc::Global;
 use std::fmt;
 use std::hash::{Hash, Hasher};
-
-#[cfg(test)]
-mod tests;
+use std::rc::Rc;
 
 // How many tags there are.
 const MAX_VARIANTS: usize = 256;
@@ -25,8 +22,14 @@ const MAX_VARIANTS: usize = 256;
 #[derive(Debug, Drop)]
 #[cycle(dtype)]
 pub struct UnionVariants {
+    shared: Rc<Tagged<DType>>,
+}
+
+// Names, what they name, and their tags, at the same places.
+#[derive(Debug, Drop)]
+struct Tagged<T> {
     names: FieldNames,
-    dtypes: Vec<DType>,
+    dtypes: Vec<T>,
     type_ids: Vec<u8>,
 }
 
@@ -78,8 +81,8 @@ impl UnionVariants {
     ghost use Rattle.dtype_types.specs.Lookups.{variant_named};
     ghost use Rattle.dtype_types.specs.HashesOf.{union_writes};
     ghost use Rattle.dtype_types.specs.Text.{consecutive};
-    ghost use Rattle.dtype_types.specs.TreeOf.{tree, option_tree, union_tree, choices, choice_types, variant_names, variant_types, variant_tags, ValidUnion};
-    ghost use Rattle.dtype_types.specs.Valid.{Valid};
+    ghost use Rattle.dtype_types.specs.TreeOf.{tree, option_tree, union_tree, choices, choice_types, variant_names, variant_dtypes, variant_types, variant_tags};
+    ghost use Rattle.dtype_types.specs.IsValid.{IsValid, IsValidUnion};
 
     /// The union of these names, types and tags. Refuses, the first that applies: 10
     /// (UnionTypesLength) where there are more or fewer types than names, 11 (UnionTagsLength) where
@@ -96,7 +99,7 @@ impl UnionVariants {
         ensures types { IfOk result (λ u. variant_types u ≡ map tree dtypes.items) }
         ensures tags { IfOk result (λ u. variant_tags u ≡ type_ids.items) }
         ensures count { IfOk result (λ u. length (choices u) ≡ length names) }
-        ensures valid { All (λ d. Valid (tree d)) dtypes.items → IfOk result (λ u. ValidUnion u) }
+        ensures valid { All IsValid dtypes.items → IfOk result IsValidUnion }
 
         ensures accepted { OnOk result (MakesUnion names (vec_len dtypes) type_ids.items) }
         ensures refused { IfErr result (λ e. (e ≡ OutOfMemory)
@@ -105,11 +108,15 @@ impl UnionVariants {
             → HasUnionLengths names (vec_len dtypes) type_ids.items }
     {
         validate_shape(alloc, &names, dtypes.len(), &type_ids)?;
-        Ok(UnionVariants {
-            names,
-            dtypes,
-            type_ids,
-        })
+        let shared = Rc::new(
+            alloc,
+            Tagged {
+                names,
+                dtypes,
+                type_ids,
+            },
+        )?;
+        Ok(UnionVariants { shared })
     }
 
     /// The union of these names and types, with the tags 0, 1, 2 and so on. Refuses 14 (UnionTooMany)
@@ -119,7 +126,7 @@ impl UnionVariants {
         ensures types { IfOk result (λ u. variant_types u ≡ map tree dtypes.items) }
         ensures tags { IfOk result (λ u. variant_tags u ≡ range_with_len 0 (length names)) }
         ensures count { IfOk result (λ u. length (choices u) ≡ length names) }
-        ensures valid { All (λ d. Valid (tree d)) dtypes.items → IfOk result (λ u. ValidUnion u) }
+        ensures valid { All IsValid dtypes.items → IfOk result IsValidUnion }
 
         ensures accepted { OnOk result
             (MakesUnion names (vec_len dtypes) (range_with_len 0 (length names))) }
@@ -138,20 +145,27 @@ impl UnionVariants {
     fn count(&self) -> usize
         ensures all { result ≡ length (choices self.now) }
         ensures names { result ≤ length (variant_names self.now) }
-        ensures dtypes { result ≤ vec_len self.now.dtypes }
-        ensures tags { result ≤ vec_len self.now.type_ids }
+        ensures dtypes { result ≤ length (variant_dtypes self.now) }
+        ensures tags { result ≤ length (variant_tags self.now) }
     {
-        self.names
+        self.names()
             .len()
-            .min(self.dtypes.len())
-            .min(self.type_ids.len())
+            .min(self.dtypes().len())
+            .min(self.type_ids().len())
     }
 
     /// The names, in order.
     pub fn names(&self) -> &FieldNames
         ensures { result.now ≡ variant_names self.now }
     {
-        &self.names
+        &self.shared.names
+    }
+
+    // The types, also of variants that have no name or no tag, which no union that is made has.
+    fn dtypes(&self) -> &[DType]
+        ensures { result.now ≡ variant_dtypes self.now }
+    {
+        &self.shared.dtypes
     }
 
     /// How many variants there are.
@@ -159,6 +173,8 @@ impl UnionVariants {
         ensures all { result ≡ length (choices self.now) }
         ensures names { result ≤ length (variant_names self.now) }
         ensures tags { result ≤ length (variant_tags self.now) }
+        ensures exact { IsValidUnion self.now
+            → (result ≡ length (variant_names self.now)) × (result ≡ length (variant_tags self.now)) }
     {
         self.count()
     }
@@ -174,7 +190,7 @@ impl UnionVariants {
     pub fn type_ids(&self) -> &[u8]
         ensures { result.now ≡ variant_tags self.now }
     {
-        &self.type_ids
+        &self.shared.type_ids
     }
 
     /// The position of the variant of the name, or `None` where no variant has it.
@@ -182,13 +198,13 @@ impl UnionVariants {
         ensures found { IfSome result (FirstAt (variant_names self.now) name.now) }
         ensures none { IfNone result (IsAbsent (variant_names self.now) name.now) }
     {
-        self.names.find(name)
+        self.names().find(name)
     }
 
     /// The type of the variant of the name, or `None` where no variant has it.
     pub fn variant(&self, name: &str) -> Option<&DType>
         ensures named { option_tree result ≡ variant_named (choices self.now) name.now }
-        ensures valid { ValidUnion self.now → IfSome result (λ d. Valid (tree d.now)) }
+        ensures valid { IsValidUnion self.now → IfSome result (λ d. IsValid d.now) }
     {
         match self.find(name) {
             Some(i) => self.variant_by_index(i),
@@ -199,7 +215,7 @@ impl UnionVariants {
     /// The type of the variant at this position, or `None` at or past the end.
     pub fn variant_by_index(&self, index: usize) -> Option<&DType>
         ensures at { option_tree result ≡ slice_get (choice_types self.now) index }
-        ensures valid { ValidUnion self.now → IfSome result (λ d. Valid (tree d.now)) }
+        ensures valid { IsValidUnion self.now → IfSome result (λ d. IsValid d.now) }
     {
         self.types().get(index)
     }
@@ -207,31 +223,42 @@ impl UnionVariants {
     /// The types of the variants, in order.
     pub fn variants(&self) -> DTypeIter<'_>
         ensures all { map tree result ≡ choice_types self.now }
-        ensures valid { ValidUnion self.now → All (λ d. Valid (tree d)) result }
+        ensures valid { IsValidUnion self.now → All IsValid result }
     {
         DTypeIter::new(self.types())
     }
 
     // The types of the variants, in order.
     fn types(&self) -> &[DType]
-        ensures { map tree result.now ≡ choice_types self.now }
+        ensures all { map tree result.now ≡ choice_types self.now }
+        ensures valid { IsValidUnion self.now → All IsValid result.now }
     {
-        &self.dtypes[..self.count()]
+        &self.dtypes()[..self.count()]
     }
 
     /// The position of the variant with this tag, or `None` where no variant has it.
     pub fn tag_to_child_index(&self, tag: u8) -> Option<usize>
+        ensures first { result ≡ position (λ t. t == tag) (variant_tags self.now) }
+        ensures within { IsValidUnion self.now → IfSome result (λ i. i < length (choices self.now)) }
+    {
+        self.first_tagged(tag)
+    }
+
+    // The first position of the tag among the tags.
+    fn first_tagged(&self, tag: u8) -> Option<usize>
         ensures { result ≡ position (λ t. t == tag) (variant_tags self.now) }
     {
-        self.type_ids.iter().position(|t| *t == tag)
+        self.type_ids().iter().position(|t| *t == tag)
     }
 
     /// The tag of the variant at this position, which there is.
     pub fn child_index_to_tag(&self, index: usize) -> u8
         requires { index < length (variant_tags self.now) }
-        ensures { slice_get (variant_tags self.now) index ≡ Some result }
+        ensures at { slice_get (variant_tags self.now) index ≡ Some result }
+        ensures back { IsValidUnion self.now
+            → position (λ t. t == result) (variant_tags self.now) ≡ Some index }
     {
-        self.type_ids[index]
+        self.type_ids()[index]
     }
 
     // Whether the variants of the two agree, one by one.
@@ -243,13 +270,17 @@ impl UnionVariants {
         if other.count() != count {
             return false;
         }
-        let names = self.names.as_slice();
-        let others = other.names.as_slice();
+        let names = self.names().as_slice();
+        let others = other.names().as_slice();
+        let dtypes = self.dtypes();
+        let other_dtypes = other.dtypes();
+        let tags = self.type_ids();
+        let other_tags = other.type_ids();
         for i in 0..count {
-            let t = &self.dtypes[i];
-            let u = &other.dtypes[i];
-            let tag = self.type_ids[i];
-            let other_tag = other.type_ids[i];
+            let t = &dtypes[i];
+            let u = &other_dtypes[i];
+            let tag = tags[i];
+            let other_tag = other_tags[i];
             if names[i] != others[i] {
                 return false;
             }
@@ -273,46 +304,44 @@ impl UnionVariants {
 
     // Feeds a hasher how many variants there are, and each variant.
     #[cycle(hash)]
-    pub(crate) fn feed<H: Hasher>(&self, rule: Nullabilities, state: &mut H)
+    pub(crate) fn feed<H: Hasher>(&self, rule: Hashed, state: &mut H)
         ensures { state.new ≡ fold H.write state.old (union_writes rule self.now) }
     {
         let count = self.count();
-        let names = self.names.as_slice();
+        let names = self.names().as_slice();
+        let dtypes = self.dtypes();
+        let tags = self.type_ids();
         state.write_usize(count);
         for i in 0..count {
-            let dtype = &self.dtypes[i];
-            let tag = self.type_ids[i];
+            let dtype = &dtypes[i];
+            let tag = tags[i];
             names[i].hash(state);
             feed(dtype, rule, state);
             state.write_u8(tag);
         }
     }
 
-    /// Variants equal to these. Refuses 0 (OutOfMemory) alone.
-    #[cycle(copy)]
-    pub fn try_clone(&self, alloc: Global) -> VortexResult<Self>
+    /// Variants equal to these, which share them. Refuses 0 (OutOfMemory) alone.
+    #[tactic(auto, using(crate::proofs::EvenLists::union_of_same))]
+    pub fn try_clone(&self, _alloc: Global) -> VortexResult<Self>
         ensures names { IfOk result (λ u. variant_names u ≡ variant_names self.now) }
         ensures types { IfOk result (λ u. variant_types u ≡ variant_types self.now) }
         ensures tags { IfOk result (λ u. variant_tags u ≡ variant_tags self.now) }
-        ensures valid { ValidUnion self.now → IfOk result (λ u. ValidUnion u) }
+        ensures shared { IfOk result (λ u. variant_dtypes u ≡ variant_dtypes self.now) }
+        ensures valid { IsValidUnion self.now → IfOk result IsValidUnion }
         ensures refused { IsOkUnless result OutOfMemory }
     {
-        let names = self.names.try_clone(alloc)?;
-        let dtypes = copies_of(alloc, &self.dtypes)?;
-        let type_ids = Vec::from_slice(alloc, &self.type_ids)?;
-        Ok(UnionVariants {
-            names,
-            dtypes,
-            type_ids,
-        })
+        let shared = self.shared.clone()?;
+        Ok(UnionVariants { shared })
     }
 
     /// Whether the tags are 0, 1, 2 and so on.
     pub fn is_consecutive(&self) -> bool
         ensures { result ≡ consecutive 0 (union_tree self.now) }
     {
+        let tags = self.type_ids();
         for i in 0..self.count() {
-            let tag = self.type_ids[i];
+            let tag = tags[i];
             if usize::from(tag) != i {
                 return false;
             }
@@ -347,14 +376,14 @@ impl Eq for UnionVariants {
 impl Hash for UnionVariants {
     ghost use Rattle.dtype_types.specs.HashLaws.{union_fed};
     ghost use Rattle.dtype_types.specs.HashesOf.{union_writes};
-    ghost use Rattle.dtype_types.specs.declared.equality.Nullabilities.TheVariants.{Compared};
+    ghost use Rattle.dtype_types.specs.declared.hashing.Hashed.TheVariants.{Whole};
 
-    ghost hash_input = { union_writes Compared };
+    ghost hash_input = { union_writes Whole };
 
     ghost respects_eq = { union_fed };
 
     fn hash<H: Hasher>(&self, state: &mut H) {
-        self.feed(Nullabilities::Compared, state);
+        self.feed(Hashed::Whole, state);
     }
 }
 
@@ -368,14 +397,16 @@ impl fmt::Display for UnionVariants {
     #[cycle(text)]
     fn fmt<W: fmt::Write>(&self, f: &mut fmt::Formatter<W>) -> fmt::Result {
         let count = self.count();
-        let names = self.names.as_slice();
+        let names = self.names().as_slice();
+        let dtypes = self.dtypes();
+        let tags = self.type_ids();
         let consecutive = self.is_consecutive();
         for i in 0..count {
             let name = &names[i];
-            let dtype = &self.dtypes[i];
+            let dtype = &dtypes[i];
             let separator = separator(i);
             let tag = TagText {
-                tag: self.type_ids[i],
+                tag: tags[i],
                 consecutive,
             };
             write!(f, "{separator}{name}{tag}=")?;

@@ -100,6 +100,3 @@ impl DType {
         }
     }
 }
-
-#[cfg(test)]
-mod tests;

@@ -1,12 +1,10 @@
-use Rattle.std.proofs.Common.{◌≡◌, ◌&&◌, sym, ap, ◌∙◌, arith, false, drop, get_or}
-use Rattle.std.proofs.lemmas.Grind.{common_steps}
+use Rattle.std.proofs.Common.{sym, ap, ◌∙◌, arith, get_or}
 use Rattle.std.proofs.lemmas.List.{drop_all}
-use Rattle.dtype_types.specs.Equality.{agree, agree_fields, agree_variants}
-use Rattle.dtype_types.specs.Tree.{fields, variants}
-use Rattle.dtype_types.specs.TreeOf.{tree, children, choices}
+use Rattle.dtype_types.specs.Equality.{agree}
+use Rattle.dtype_types.specs.TreeOf.{tree, children, choices, names_of, dtypes_of, variant_names, variant_dtypes, variant_tags}
 use Rattle.dtype_types.proofs.TreeLaws.{tree_null}
-use Rattle.dtype_types.proofs.OtherKinds.{not_null, struct_agree, union_agree}
-use Rattle.dtype_types.proofs.Turns.{fields_turn, variants_turn, differ_fields, turn_variants, differ_variants, count_variants, and_first, and_second, and_both, three, four, not_true, not_false, tags_same, tags_differ}
+use Rattle.dtype_types.proofs.OtherKinds.{not_null}
+use Rattle.dtype_types.proofs.Turns.{fields_turn, variants_turn, differ_fields, differ_variants, not_true, not_false, tags_same, tags_differ, tag_at}
 use Rattle.dtype_types.proofs.+agree.Goals as goal
 
 pub equality::agree-returns-in_default : goal.equality::agree-returns-in_default
@@ -20,22 +18,22 @@ struct_fields::StructFields::agree-returns-then-count t c =
 pub struct_fields::StructFields::agree-returns-then-ne : goal.struct_fields::StructFields::agree-returns-then-ne
 struct_fields::StructFields::agree-returns-then-ne t c =
     let a = c.args.self.now in let b = c.args.other.now in
-    let e = fields_turn c.args.rule a.names b.names a.dtypes.items b.dtypes.items c.loop-i.i c.index-names-i.result c.index-others-i.result c.index-t.result.now c.index-u.result.now _ c.loop-i.invariant (omega arith) (omega arith)
-    (c.index-names-i.is ∙ ap (λ xs. get_or xs c.loop-i.i c.index-names-i.result) c.as_slice-names.ensures) c.index-t.ensures (c.index-others-i.is ∙ ap (λ xs. get_or xs c.loop-i.i c.index-others-i.result) c.as_slice-others.ensures) c.index-u.ensures in
+    let e = fields_turn c.args.rule (names_of a) (names_of b) (dtypes_of a) (dtypes_of b) c.loop-i.i c.index-names-i.result c.index-others-i.result c.index-dtypes-i.result c.index-other_dtypes-i.result _ c.loop-i.invariant (omega arith) (omega arith)
+    (c.index-names-i.is ∙ ap (λ xs. get_or xs c.loop-i.i c.index-names-i.result) (c.as_slice-names.ensures ∙ c.names.ensures)) (c.index-dtypes-i.is ∙ ap (λ xs. get_or xs c.loop-i.i c.index-dtypes-i.result) c.dtypes-dtypes.ensures) (c.index-others-i.is ∙ ap (λ xs. get_or xs c.loop-i.i c.index-others-i.result) (c.as_slice-others.ensures ∙ c.names-2.ensures)) (c.index-other_dtypes-i.is ∙ ap (λ xs. get_or xs c.loop-i.i c.index-other_dtypes-i.result) c.dtypes-other_dtypes.ensures) in
     sym (e.0 (not_true _ (c.if-ne.ensures)))
 
 pub struct_fields::StructFields::agree-returns-then-not-agree : goal.struct_fields::StructFields::agree-returns-then-not-agree
 struct_fields::StructFields::agree-returns-then-not-agree t c =
     let a = c.args.self.now in let b = c.args.other.now in
-    let e = fields_turn c.args.rule a.names b.names a.dtypes.items b.dtypes.items c.loop-i.i c.index-names-i.result c.index-others-i.result c.index-t.result.now c.index-u.result.now _ c.loop-i.invariant (omega arith) (omega arith)
-    (c.index-names-i.is ∙ ap (λ xs. get_or xs c.loop-i.i c.index-names-i.result) c.as_slice-names.ensures) c.index-t.ensures (c.index-others-i.is ∙ ap (λ xs. get_or xs c.loop-i.i c.index-others-i.result) c.as_slice-others.ensures) c.index-u.ensures in
+    let e = fields_turn c.args.rule (names_of a) (names_of b) (dtypes_of a) (dtypes_of b) c.loop-i.i c.index-names-i.result c.index-others-i.result c.index-dtypes-i.result c.index-other_dtypes-i.result _ c.loop-i.invariant (omega arith) (omega arith)
+    (c.index-names-i.is ∙ ap (λ xs. get_or xs c.loop-i.i c.index-names-i.result) (c.as_slice-names.ensures ∙ c.names.ensures)) (c.index-dtypes-i.is ∙ ap (λ xs. get_or xs c.loop-i.i c.index-dtypes-i.result) c.dtypes-dtypes.ensures) (c.index-others-i.is ∙ ap (λ xs. get_or xs c.loop-i.i c.index-others-i.result) (c.as_slice-others.ensures ∙ c.names-2.ensures)) (c.index-other_dtypes-i.is ∙ ap (λ xs. get_or xs c.loop-i.i c.index-other_dtypes-i.result) c.dtypes-other_dtypes.ensures) in
     sym (e.1 (sym c.if-not-agree.ensures))
 
 pub struct_fields::StructFields::agree-loop-i-preserved : goal.struct_fields::StructFields::agree-loop-i-preserved
 struct_fields::StructFields::agree-loop-i-preserved t c =
     let a = c.args.self.now in let b = c.args.other.now in
-    let e = fields_turn c.args.rule a.names b.names a.dtypes.items b.dtypes.items c.loop-i.i c.index-names-i.result c.index-others-i.result c.index-t.result.now c.index-u.result.now _ c.loop-i.invariant (omega arith) (omega arith)
-    (c.index-names-i.is ∙ ap (λ xs. get_or xs c.loop-i.i c.index-names-i.result) c.as_slice-names.ensures) c.index-t.ensures (c.index-others-i.is ∙ ap (λ xs. get_or xs c.loop-i.i c.index-others-i.result) c.as_slice-others.ensures) c.index-u.ensures in
+    let e = fields_turn c.args.rule (names_of a) (names_of b) (dtypes_of a) (dtypes_of b) c.loop-i.i c.index-names-i.result c.index-others-i.result c.index-dtypes-i.result c.index-other_dtypes-i.result _ c.loop-i.invariant (omega arith) (omega arith)
+    (c.index-names-i.is ∙ ap (λ xs. get_or xs c.loop-i.i c.index-names-i.result) (c.as_slice-names.ensures ∙ c.names.ensures)) (c.index-dtypes-i.is ∙ ap (λ xs. get_or xs c.loop-i.i c.index-dtypes-i.result) c.dtypes-dtypes.ensures) (c.index-others-i.is ∙ ap (λ xs. get_or xs c.loop-i.i c.index-others-i.result) (c.as_slice-others.ensures ∙ c.names-2.ensures)) (c.index-other_dtypes-i.is ∙ ap (λ xs. get_or xs c.loop-i.i c.index-other_dtypes-i.result) c.dtypes-other_dtypes.ensures) in
     e.2 (not_false _ c.if-ne.ensures) (sym c.if-not-agree.ensures)
 
 pub struct_fields::StructFields::agree-returns : goal.struct_fields::StructFields::agree-returns
@@ -52,29 +50,29 @@ union_variants::UnionVariants::agree-returns-then-count t c =
 pub union_variants::UnionVariants::agree-returns-then-ne : goal.union_variants::UnionVariants::agree-returns-then-ne
 union_variants::UnionVariants::agree-returns-then-ne t c =
     let a = c.args.self.now in let b = c.args.other.now in
-    let e = variants_turn c.args.rule a.names b.names a.dtypes.items b.dtypes.items a.type_ids.items b.type_ids.items c.loop-i.i c.index-names-i.result c.index-others-i.result c.index-t.result.now c.index-u.result.now c.index-tag.result.now c.index-other_tag.result.now _ c.loop-i.invariant (omega arith) (omega arith)
-    (c.index-names-i.is ∙ ap (λ xs. get_or xs c.loop-i.i c.index-names-i.result) c.as_slice-names.ensures) c.index-t.ensures c.index-tag.ensures (c.index-others-i.is ∙ ap (λ xs. get_or xs c.loop-i.i c.index-others-i.result) c.as_slice-others.ensures) c.index-u.ensures c.index-other_tag.ensures in
+    let e = variants_turn c.args.rule (variant_names a) (variant_names b) (variant_dtypes a) (variant_dtypes b) (variant_tags a) (variant_tags b) c.loop-i.i c.index-names-i.result c.index-others-i.result c.index-dtypes-i.result c.index-other_dtypes-i.result (get_or c.type_ids-tags.result.now c.loop-i.i 0) (get_or c.type_ids-other_tags.result.now c.loop-i.i 0) _ c.loop-i.invariant (omega arith) (omega arith)
+    (c.index-names-i.is ∙ ap (λ xs. get_or xs c.loop-i.i c.index-names-i.result) (c.as_slice-names.ensures ∙ c.names.ensures)) (c.index-dtypes-i.is ∙ ap (λ xs. get_or xs c.loop-i.i c.index-dtypes-i.result) c.dtypes-dtypes.ensures) (tag_at (variant_tags a) _ c.loop-i.i c.type_ids-tags.ensures (omega arith)) (c.index-others-i.is ∙ ap (λ xs. get_or xs c.loop-i.i c.index-others-i.result) (c.as_slice-others.ensures ∙ c.names-2.ensures)) (c.index-other_dtypes-i.is ∙ ap (λ xs. get_or xs c.loop-i.i c.index-other_dtypes-i.result) c.dtypes-other_dtypes.ensures) (tag_at (variant_tags b) _ c.loop-i.i c.type_ids-other_tags.ensures (omega arith)) in
     sym (e.0 (not_true _ (c.if-ne.ensures)))
 
 pub union_variants::UnionVariants::agree-returns-then-not-agree : goal.union_variants::UnionVariants::agree-returns-then-not-agree
 union_variants::UnionVariants::agree-returns-then-not-agree t c =
     let a = c.args.self.now in let b = c.args.other.now in
-    let e = variants_turn c.args.rule a.names b.names a.dtypes.items b.dtypes.items a.type_ids.items b.type_ids.items c.loop-i.i c.index-names-i.result c.index-others-i.result c.index-t.result.now c.index-u.result.now c.index-tag.result.now c.index-other_tag.result.now _ c.loop-i.invariant (omega arith) (omega arith)
-    (c.index-names-i.is ∙ ap (λ xs. get_or xs c.loop-i.i c.index-names-i.result) c.as_slice-names.ensures) c.index-t.ensures c.index-tag.ensures (c.index-others-i.is ∙ ap (λ xs. get_or xs c.loop-i.i c.index-others-i.result) c.as_slice-others.ensures) c.index-u.ensures c.index-other_tag.ensures in
+    let e = variants_turn c.args.rule (variant_names a) (variant_names b) (variant_dtypes a) (variant_dtypes b) (variant_tags a) (variant_tags b) c.loop-i.i c.index-names-i.result c.index-others-i.result c.index-dtypes-i.result c.index-other_dtypes-i.result (get_or c.type_ids-tags.result.now c.loop-i.i 0) (get_or c.type_ids-other_tags.result.now c.loop-i.i 0) _ c.loop-i.invariant (omega arith) (omega arith)
+    (c.index-names-i.is ∙ ap (λ xs. get_or xs c.loop-i.i c.index-names-i.result) (c.as_slice-names.ensures ∙ c.names.ensures)) (c.index-dtypes-i.is ∙ ap (λ xs. get_or xs c.loop-i.i c.index-dtypes-i.result) c.dtypes-dtypes.ensures) (tag_at (variant_tags a) _ c.loop-i.i c.type_ids-tags.ensures (omega arith)) (c.index-others-i.is ∙ ap (λ xs. get_or xs c.loop-i.i c.index-others-i.result) (c.as_slice-others.ensures ∙ c.names-2.ensures)) (c.index-other_dtypes-i.is ∙ ap (λ xs. get_or xs c.loop-i.i c.index-other_dtypes-i.result) c.dtypes-other_dtypes.ensures) (tag_at (variant_tags b) _ c.loop-i.i c.type_ids-other_tags.ensures (omega arith)) in
     sym (e.1 (sym c.if-not-agree.ensures))
 
 pub union_variants::UnionVariants::agree-returns-then-tag-other_tag : goal.union_variants::UnionVariants::agree-returns-then-tag-other_tag
 union_variants::UnionVariants::agree-returns-then-tag-other_tag t c =
     let a = c.args.self.now in let b = c.args.other.now in
-    let e = variants_turn c.args.rule a.names b.names a.dtypes.items b.dtypes.items a.type_ids.items b.type_ids.items c.loop-i.i c.index-names-i.result c.index-others-i.result c.index-t.result.now c.index-u.result.now c.index-tag.result.now c.index-other_tag.result.now _ c.loop-i.invariant (omega arith) (omega arith)
-    (c.index-names-i.is ∙ ap (λ xs. get_or xs c.loop-i.i c.index-names-i.result) c.as_slice-names.ensures) c.index-t.ensures c.index-tag.ensures (c.index-others-i.is ∙ ap (λ xs. get_or xs c.loop-i.i c.index-others-i.result) c.as_slice-others.ensures) c.index-u.ensures c.index-other_tag.ensures in
-    sym (e.2 (tags_differ c.index-tag.result.now c.index-other_tag.result.now c.if-tag-other_tag.true))
+    let e = variants_turn c.args.rule (variant_names a) (variant_names b) (variant_dtypes a) (variant_dtypes b) (variant_tags a) (variant_tags b) c.loop-i.i c.index-names-i.result c.index-others-i.result c.index-dtypes-i.result c.index-other_dtypes-i.result (get_or c.type_ids-tags.result.now c.loop-i.i 0) (get_or c.type_ids-other_tags.result.now c.loop-i.i 0) _ c.loop-i.invariant (omega arith) (omega arith)
+    (c.index-names-i.is ∙ ap (λ xs. get_or xs c.loop-i.i c.index-names-i.result) (c.as_slice-names.ensures ∙ c.names.ensures)) (c.index-dtypes-i.is ∙ ap (λ xs. get_or xs c.loop-i.i c.index-dtypes-i.result) c.dtypes-dtypes.ensures) (tag_at (variant_tags a) _ c.loop-i.i c.type_ids-tags.ensures (omega arith)) (c.index-others-i.is ∙ ap (λ xs. get_or xs c.loop-i.i c.index-others-i.result) (c.as_slice-others.ensures ∙ c.names-2.ensures)) (c.index-other_dtypes-i.is ∙ ap (λ xs. get_or xs c.loop-i.i c.index-other_dtypes-i.result) c.dtypes-other_dtypes.ensures) (tag_at (variant_tags b) _ c.loop-i.i c.type_ids-other_tags.ensures (omega arith)) in
+    sym (e.2 (tags_differ (get_or c.type_ids-tags.result.now c.loop-i.i 0) (get_or c.type_ids-other_tags.result.now c.loop-i.i 0) c.if-tag-other_tag.true))
 
 pub union_variants::UnionVariants::agree-loop-i-preserved : goal.union_variants::UnionVariants::agree-loop-i-preserved
 union_variants::UnionVariants::agree-loop-i-preserved t c =
     let a = c.args.self.now in let b = c.args.other.now in
-    let e = variants_turn c.args.rule a.names b.names a.dtypes.items b.dtypes.items a.type_ids.items b.type_ids.items c.loop-i.i c.index-names-i.result c.index-others-i.result c.index-t.result.now c.index-u.result.now c.index-tag.result.now c.index-other_tag.result.now _ c.loop-i.invariant (omega arith) (omega arith)
-    (c.index-names-i.is ∙ ap (λ xs. get_or xs c.loop-i.i c.index-names-i.result) c.as_slice-names.ensures) c.index-t.ensures c.index-tag.ensures (c.index-others-i.is ∙ ap (λ xs. get_or xs c.loop-i.i c.index-others-i.result) c.as_slice-others.ensures) c.index-u.ensures c.index-other_tag.ensures in
+    let e = variants_turn c.args.rule (variant_names a) (variant_names b) (variant_dtypes a) (variant_dtypes b) (variant_tags a) (variant_tags b) c.loop-i.i c.index-names-i.result c.index-others-i.result c.index-dtypes-i.result c.index-other_dtypes-i.result (get_or c.type_ids-tags.result.now c.loop-i.i 0) (get_or c.type_ids-other_tags.result.now c.loop-i.i 0) _ c.loop-i.invariant (omega arith) (omega arith)
+    (c.index-names-i.is ∙ ap (λ xs. get_or xs c.loop-i.i c.index-names-i.result) (c.as_slice-names.ensures ∙ c.names.ensures)) (c.index-dtypes-i.is ∙ ap (λ xs. get_or xs c.loop-i.i c.index-dtypes-i.result) c.dtypes-dtypes.ensures) (tag_at (variant_tags a) _ c.loop-i.i c.type_ids-tags.ensures (omega arith)) (c.index-others-i.is ∙ ap (λ xs. get_or xs c.loop-i.i c.index-others-i.result) (c.as_slice-others.ensures ∙ c.names-2.ensures)) (c.index-other_dtypes-i.is ∙ ap (λ xs. get_or xs c.loop-i.i c.index-other_dtypes-i.result) c.dtypes-other_dtypes.ensures) (tag_at (variant_tags b) _ c.loop-i.i c.type_ids-other_tags.ensures (omega arith)) in
     e.3 (not_false _ c.if-ne.ensures) (sym c.if-not-agree.ensures) (tags_same _ _ c.if-tag-other_tag.false)
 
 pub union_variants::UnionVariants::agree-returns : goal.union_variants::UnionVariants::agree-returns

@@ -1,6 +1,6 @@
-use Rattle.std.proofs.Common.{sym, ◌∙◌}
-use Rattle.dtype_types.proofs.ComparisonLaws.{subset_of_nullable}
+use Rattle.dtype_types.specs.TreeOf.{tree}
+use Rattle.dtype_types.proofs.SubTest.{sub_of_test}
 use Rattle.dtype_types.proofs.dtype.DType.eq_with_nullability_subset.Goals as goal
 
-pub returns-in-Nullable : goal.returns-in-Nullable
-returns-in-Nullable c = subset_of_nullable _ _ c.eq.result c.eq.ensures (sym c.nullability.ensures ∙ c.in-Nullable.is)
+pub returns : goal.returns
+returns c = sub_of_test (tree c.args.self.now) (tree c.args.other.now) c.agree.result c.agree.ensures

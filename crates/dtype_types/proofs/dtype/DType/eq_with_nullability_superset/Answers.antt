@@ -1,6 +1,6 @@
-use Rattle.std.proofs.Common.{sym, ◌∙◌}
-use Rattle.dtype_types.proofs.ComparisonLaws.{superset_of_non_nullable}
+use Rattle.dtype_types.specs.TreeOf.{tree}
+use Rattle.dtype_types.proofs.SubTest.{sub_of_test}
 use Rattle.dtype_types.proofs.dtype.DType.eq_with_nullability_superset.Goals as goal
 
-pub returns-in-NonNullable : goal.returns-in-NonNullable
-returns-in-NonNullable c = superset_of_non_nullable _ _ c.eq.result c.eq.ensures (sym c.nullability.ensures ∙ c.in-NonNullable.is)
+pub returns : goal.returns
+returns c = sub_of_test (tree c.args.other.now) (tree c.args.self.now) c.agree.result c.agree.ensures

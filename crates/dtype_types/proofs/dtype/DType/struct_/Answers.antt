@@ -2,7 +2,7 @@ use Rattle.std.proofs.Common.{List, ℕ, map, ap, ◌∙◌}
 use Rattle.std.specs.List.{zip}
 use Rattle.dtype_types.specs.declared.field_dtype.FieldDType.{FieldDType}
 use Rattle.dtype_types.proofs.TreeLaws.{tree_struct}
-use Rattle.dtype_types.proofs.ValidLaws.{struct_valid}
+use Rattle.dtype_types.proofs.EvenLists.{struct_valid}
 use Rattle.dtype_types.proofs.Zips.{zip_maps}
 use Rattle.dtype_types.specs.FieldTypes.{field_tree}
 use Rattle.dtype_types.specs.Tree.{fields, struct}

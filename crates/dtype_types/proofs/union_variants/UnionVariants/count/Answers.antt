@@ -1,6 +1,7 @@
-use Rattle.std.proofs.Common.{arith}
+use Rattle.std.proofs.Common.{arith, ap, length}
 use Rattle.dtype_types.proofs.Turns.{count_variants}
+use Rattle.dtype_types.specs.TreeOf.{variant_names, variant_dtypes, variant_tags}
 use Rattle.dtype_types.proofs.union_variants.UnionVariants.count.Goals as goal
 
 pub returns-clause-all : goal.returns-clause-all
-returns-clause-all c = let s = c.args.self.now in omega (arith, count_variants s.names s.dtypes.items s.type_ids.items, s.dtypes.ok.0, s.type_ids.ok.0)
+returns-clause-all c = let s = c.args.self.now in omega (arith, count_variants (variant_names s) (variant_dtypes s) (variant_tags s), ap length c.names.ensures, ap length c.dtypes.ensures, ap length c.type_ids.ensures)

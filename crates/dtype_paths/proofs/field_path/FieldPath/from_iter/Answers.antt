@@ -1,0 +1,7 @@
+use Rattle.dtype_paths.proofs.field_path.FieldPath.from_iter.Goals as goal
+
+-- the run that `collect` speaks of
+pub returns-clause-ok : goal.returns-clause-ok
+returns-clause-ok g c =
+    let run = c.in_ok-collect.ensures.runs tt in
+    (c.into_iter.result, c.into_iter.ensures.into_iter_gives, (run.0, run.1, run.2, run.3.0))

@@ -1,0 +1,22 @@
+use Rattle.std.proofs.Common.{List, subst, sym}
+use Rattle.std.proofs.lemmas.Result.{MatchResult-from_err}
+use Rattle.dtype_paths.specs.PathSets.{Gains}
+use Rattle.dtype_paths.specs.declared.field.Field.{Field}
+use Rattle.dtype_paths.proofs.SetMembers.{gains_more, gains_none}
+use Rattle.dtype_paths.proofs.field_path_set.FieldPathSet.extend.Goals as goal
+
+pub loop-path-init : goal.loop-path-init
+loop-path-init g c = gains_none c.args.self.now
+
+pub loop-path-preserved : goal.loop-path-preserved
+loop-path-preserved g c = gains_more c.args.self.now c.loop-path.self c.insert.new.self c.loop-path.yielded c.in-Some.path c.loop-path.invariant c.in_ok-insert.ensures.ok
+
+pub returns-in_err-insert-clause-items : goal.returns-in_err-insert-clause-items
+returns-in_err-insert-clause-items g c =
+    let kept = subst (λ (ps : List (List Field)). Gains c.args.self.now c.loop-path.yielded ps) (sym c.in_err-insert.ensures.err) c.loop-path.invariant in (
+      c.into_iter-path-iterator.result,
+      c.loop-path.yielded,
+      c.into_iter-path-iterator.ensures.into_iter_gives,
+      kept,
+      MatchResult-from_err _ _ _ c.from_residual.ensures.0 (λ _. (c.loop-path.path-iterator, c.loop-path.yielded_by)),
+    )

@@ -1,0 +1,11 @@
+use Rattle.std.proofs.Common.{List, subst}
+use Rattle.dtype_paths.specs.PathSets.{Gains}
+use Rattle.dtype_paths.specs.declared.field.Field.{Field}
+use Rattle.dtype_paths.proofs.SetMembers.{gained_all}
+use Rattle.dtype_paths.proofs.field_path_set.FieldPathSet.from_iter.Goals as goal
+
+pub returns-clause-ok : goal.returns-clause-ok
+returns-clause-ok g c =
+    let ran = c.in_ok-extend.ensures.items in
+    let all = gained_all ran.1 c.extend.new.self (subst (λ (ps : List (List Field)). Gains ps ran.1 c.extend.new.self) c.new-set.ensures ran.3) in
+    (ran.0, ran.1, ran.2, ran.4, all)

@@ -1,0 +1,24 @@
+-- Through a size 0 more values are shared than the order says.
+use Rattle.std.proofs.Common.{◌≡◌, refl}
+use Rattle.dtype_base.specs.declared.nullability.Nullability.TheVariants.{NonNullable, Nullable}
+use Rattle.dtype_types.specs.Sub.{Sub}
+use Rattle.dtype_types.specs.Tree.{Tree, bool, fixed_size_list}
+use Rattle.dtype_types.specs.Value.{Value, Values, Of, Each, count, no_values, value, null_value, row}
+
+abbrev pub wide : Tree
+wide = fixed_size_list (bool Nullable) 0 NonNullable
+
+abbrev pub narrow : Tree
+narrow = fixed_size_list (bool NonNullable) 0 NonNullable
+
+empty : (vs : Values) → count vs ≡ 0 → Each (λ v. Of v (bool NonNullable)) vs
+empty no_values e = tt
+empty (value v vs) e = absurd (cc e)
+
+pub all_shared : (v : Value) → Of v wide → Of v narrow
+all_shared null_value o = o
+all_shared (row vs) o = (o.0, empty vs o.0)
+all_shared _ o = o
+
+pub not_below : Sub wide narrow → ⊥
+not_below h = let never = h.nullable.1 refl in cc

@@ -1,0 +1,5 @@
+use Rattle.dtype_types.proofs.TellLaws.{tells_apart}
+use Rattle.dtype_types.proofs.laws.tell_tells_apart.Goals as goal
+
+pub returns : goal.returns
+returns c = tells_apart

@@ -1,0 +1,9 @@
+use Rattle.dtype_types.proofs.Projections.{place_named, type_found}
+use Rattle.dtype_types.specs.TreeOf.{children}
+use Rattle.dtype_types.proofs.struct_fields.StructFields.find.Goals as goal
+
+pub returns-clause-first : goal.returns-clause-first
+returns-clause-first c = place_named (children c.args.self.now) c.args.name.now c.find_counted.result.0 c.find_counted.ensures.found c.find_counted.ensures.none
+
+pub returns-clause-field : goal.returns-clause-field
+returns-clause-field c = type_found (children c.args.self.now) c.args.name.now c.find_counted.result.0 c.find_counted.ensures.found c.find_counted.ensures.none

@@ -1,0 +1,46 @@
+-- A value of each valid type, by recursion on the type: null where it may be, else a plain one.
+use Rattle.std.specs.Prelude.{ℕ, zero, suc, pos, [], false}
+use Rattle.dtype_base.specs.Primitives.{primitive as row_of, Kind}
+use Rattle.dtype_base.specs.Primitives.Kind.{Floating}
+use Rattle.dtype_base.specs.declared.nullability.Nullability.{Nullability}
+use Rattle.dtype_base.specs.declared.nullability.Nullability.TheVariants.{NonNullable, Nullable}
+use Rattle.dtype_types.specs.Tree.{Tree, Fields, no_fields, field, Variants, no_variants, choice, null, bool, primitive, decimal, utf8, binary, list, fixed_size_list, map_of, struct, union, variant, extension}
+use Rattle.dtype_types.specs.Value.{Value, Values, Named, null_value, truth, number, float_bits, digits, text, bytes, opaque, items, row, entries, record_of, tagged, no_values, value, no_entries, no_named, named}
+
+-- null where that is allowed
+abbrev pub null_or : Nullability → Value → Value
+null_or Nullable v = null_value
+null_or NonNullable v = v
+
+abbrev pub copies : ℕ → Value → Values
+copies zero v = no_values
+copies (suc k) v = value v (copies k v)
+
+abbrev pub zero_of : Kind → Value
+zero_of Floating = float_bits 0
+zero_of _ = number (pos 0)
+
+abbrev mutual
+  pub sample : Tree → Value
+  sample null = null_value
+  sample (bool n) = null_or n (truth false)
+  sample (primitive p n) = null_or n (zero_of (row_of p).kind)
+  sample (decimal d n) = null_or n (digits (pos 0))
+  sample (utf8 n) = null_or n (text [])
+  sample (binary n) = null_or n (bytes [])
+  sample (list t n) = null_or n (items no_values)
+  sample (fixed_size_list t k n) = null_or n (row (copies k (sample t)))
+  sample (map_of t u s n) = null_or n (entries no_entries)
+  sample (struct fs n) = null_or n (record_of (samples fs))
+  sample (union vs n) = null_or n (first_sample vs)
+  sample (variant n) = null_or n (opaque [])
+  sample (extension id b s) = sample s
+
+  pub samples : Fields → Named
+  samples no_fields = no_named
+  samples (field n t fs) = named n (sample t) (samples fs)
+
+  -- of the first variant; a valid union has one
+  pub first_sample : Variants → Value
+  first_sample no_variants = null_value
+  first_sample (choice n t g rest) = tagged g (sample t)

@@ -1,0 +1,69 @@
+-- A value that tells apart two types which differ in nullability alone.
+use Rattle.std.specs.Prelude.{ℕ, ◌<◌, Option, Some, None, IsSomeAnd, option_map}
+use Rattle.dtype_base.specs.declared.nullability.Nullability.{Nullability}
+use Rattle.dtype_base.specs.declared.nullability.Nullability.TheVariants.{NonNullable, Nullable}
+use Rattle.dtype_types.specs.Sample.{sample, samples, copies}
+use Rattle.dtype_types.specs.Tree.{Tree, Fields, no_fields, field, Variants, no_variants, choice, bool, primitive, decimal, utf8, binary, list, fixed_size_list, map_of, struct, union, variant, extension}
+use Rattle.dtype_types.specs.Value.{Value, Named, Of, null_value, items, row, entries, record_of, tagged, no_values, value, no_entries, entry, named}
+
+-- the first value that there is
+abbrev pub or_else : {X : Type 0} → Option X → Option X → Option X
+or_else (Some x) o = Some x
+or_else None o = o
+
+-- null where the first allows it and the second doesn't, else what the parts give
+abbrev pub null_else : Nullability → Nullability → Option Value → Option Value
+null_else Nullable NonNullable parts = Some null_value
+null_else _ _ parts = parts
+
+-- a value of a that isn't one of b: null at the first place where a is nullable and b isn't, in a list of
+-- one member, a row of equal members, a map of one entry, a struct, that variant of a union or the storage
+-- of an extension, with samples of a elsewhere; none where there is no such place
+abbrev mutual
+  pub tell : Tree → Tree → Option Value
+  tell (bool m) (bool n) = null_else m n None
+  tell (primitive p m) (primitive q n) = null_else m n None
+  tell (decimal d m) (decimal e n) = null_else m n None
+  tell (utf8 m) (utf8 n) = null_else m n None
+  tell (binary m) (binary n) = null_else m n None
+  tell (list t m) (list u n) = null_else m n (option_map (λ v. items (value v no_values)) (tell t u))
+  tell (fixed_size_list t j m) (fixed_size_list u k n) = null_else m n (option_map (λ v. row (copies j v)) (tell t u))
+  tell (map_of t v x m) (map_of u w y n) =
+      null_else m n (or_else (option_map (λ k. entries (entry k (sample v) no_entries)) (tell t u)) (option_map (λ z. entries (entry (sample t) z no_entries)) (tell v w)))
+  tell (struct fs m) (struct gs n) = null_else m n (option_map (λ nvs. record_of nvs) (tell_fields fs gs))
+  tell (union vs m) (union ws n) = null_else m n (option_map (λ c. tagged c.0 c.1) (tell_variants vs ws))
+  tell (variant m) (variant n) = null_else m n None
+  tell (extension i a t) (extension j b u) = tell t u
+  tell _ _ = None
+
+  pub tell_fields : Fields → Fields → Option Named
+  tell_fields (field m t fs) (field n u gs) = or_else (option_map (λ v. named m v (samples fs)) (tell t u)) (option_map (λ nvs. named m (sample t) nvs) (tell_fields fs gs))
+  tell_fields _ _ = None
+
+  -- a tag and a value
+  pub tell_variants : Variants → Variants → Option (ℕ × Value)
+  tell_variants (choice m t g vs) (choice n u h ws) = or_else (option_map (λ v. (g, v)) (tell t u)) (tell_variants vs ws)
+  tell_variants _ _ = None
+
+-- there is such a value, and it is one of a and not of b
+abbrev pub TellsApart : Tree → Tree → Type 0
+TellsApart a b = IsSomeAnd (tell a b) (λ v. Of v a × ¬ (Of v b))
+
+-- no fixed size in the type is 0
+abbrev mutual
+  pub HasNoSizeZero : Tree → Type 0
+  HasNoSizeZero (list t n) = HasNoSizeZero t
+  HasNoSizeZero (fixed_size_list t k n) = (0 < k) × HasNoSizeZero t
+  HasNoSizeZero (map_of t u s n) = HasNoSizeZero t × HasNoSizeZero u
+  HasNoSizeZero (struct fs n) = FieldsHaveNoSizeZero fs
+  HasNoSizeZero (union vs n) = VariantsHaveNoSizeZero vs
+  HasNoSizeZero (extension id b s) = HasNoSizeZero s
+  HasNoSizeZero _ = Unit {0}
+
+  pub FieldsHaveNoSizeZero : Fields → Type 0
+  FieldsHaveNoSizeZero no_fields = Unit {0}
+  FieldsHaveNoSizeZero (field n t fs) = HasNoSizeZero t × FieldsHaveNoSizeZero fs
+
+  pub VariantsHaveNoSizeZero : Variants → Type 0
+  VariantsHaveNoSizeZero no_variants = Unit {0}
+  VariantsHaveNoSizeZero (choice n t g vs) = HasNoSizeZero t × VariantsHaveNoSizeZero vs

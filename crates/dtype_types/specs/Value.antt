@@ -1,0 +1,120 @@
+-- Values as finite trees, and which of them are of which type. From the documentation of `DType`: null is
+-- of exactly the nullable types, and every other value is of a type by its kind. A list, a row, a map, a
+-- struct and a union value are five kinds, equal neither to one another nor to any other. Nothing here
+-- knows of stored data.
+use Rattle.std.specs.Prelude.{◌≡◌, ◌⊎◌, ◌↔◌, ℕ, suc, ◌-◌, ◌^◌, ◌<◌, ℤ, pos, negsuc, neg_ℤ, ◌≤ℤ◌, List, Bool, All, IsUtf8}
+use Rattle.dtype_base.specs.Primitives.{primitive as row_of, Kind, HoldsUnsigned, HoldsSigned, IsFloat}
+use Rattle.dtype_base.specs.Primitives.Kind.{Unsigned, Signed, Floating}
+use Rattle.dtype_base.specs.declared.ptype.PType.{PType}
+use Rattle.dtype_types.specs.Nullable.{IsNullable}
+use Rattle.dtype_types.specs.Tree.{Tree, Fields, no_fields, field, Variants, no_variants, choice, bool, primitive, decimal, utf8, binary, list, fixed_size_list, map_of, struct, union, variant, extension}
+
+mutual
+  pub data Value : Type 0 where
+    null_value : Value
+    truth : Bool → Value
+    -- an integer
+    number : ℤ → Value
+    -- a float's bit pattern
+    float_bits : ℕ → Value
+    -- a decimal, without its point
+    digits : ℤ → Value
+    text : List ℕ → Value
+    bytes : List ℕ → Value
+    -- of a variant type
+    opaque : List ℕ → Value
+    -- of a list
+    items : Values → Value
+    -- of a fixed-size list
+    row : Values → Value
+    -- of a map
+    entries : Entries → Value
+    -- of a struct
+    record_of : Named → Value
+    -- of a union: the variant's tag, and a value of its type
+    tagged : ℕ → Value → Value
+
+  pub data Values : Type 0 where
+    no_values : Values
+    value : Value → Values → Values
+
+  -- a key and a value each
+  pub data Entries : Type 0 where
+    no_entries : Entries
+    entry : Value → Value → Entries → Entries
+
+  -- a name and a value each
+  pub data Named : Type 0 where
+    no_named : Named
+    named : List ℕ → Value → Named → Named
+
+-- a whole number in the range of p, a type of that kind
+abbrev pub InRange : Kind → PType → ℤ → Type 0
+InRange Unsigned p (pos n) = HoldsUnsigned n p
+InRange Unsigned p (negsuc n) = ⊥
+InRange Signed p z = HoldsSigned z p
+InRange Floating p z = ⊥
+
+abbrev pub IntegerOf : PType → ℤ → Type 0
+IntegerOf p z = InRange (row_of p).kind p z
+
+-- p is a float, and k is a bit pattern of its width: below 2 ^ 16, 2 ^ 32 or 2 ^ 64
+abbrev pub FloatBitsOf : PType → ℕ → Type 0
+FloatBitsOf p k = IsFloat p × HoldsUnsigned k p
+
+-- at most p digits, of either sign: -(10 ^ p - 1) to 10 ^ p - 1
+abbrev pub HasDigits : ℕ → ℤ → Type 0
+HasDigits p z = (neg_ℤ (pos (10 ^ p - 1)) ≤ℤ z) × (z ≤ℤ pos (10 ^ p - 1))
+
+abbrev pub AreBytes : List ℕ → Type 0
+AreBytes bs = All (λ x. x < 256) bs
+
+abbrev pub Each : (Value → Type 0) → Values → Type 0
+Each P no_values = Unit {0}
+Each P (value v vs) = P v × Each P vs
+
+abbrev pub EachEntry : (Value → Type 0) → (Value → Type 0) → Entries → Type 0
+EachEntry P Q no_entries = Unit {0}
+EachEntry P Q (entry k v es) = P k × Q v × EachEntry P Q es
+
+abbrev pub count : Values → ℕ
+count no_values = 0
+count (value v vs) = suc (count vs)
+
+-- the value is of the type; an extension has exactly the values of its storage
+abbrev mutual
+  pub Of : Value → Tree → Type 0
+  Of v (extension id b s) = Of v s
+  Of null_value t = IsNullable t
+  Of (truth x) (bool n) = Unit {0}
+  Of (number z) (primitive p n) = IntegerOf p z
+  Of (float_bits k) (primitive p n) = FloatBitsOf p k
+  Of (digits z) (decimal d n) = HasDigits d.precision z
+  Of (text bs) (utf8 n) = IsUtf8 bs
+  Of (bytes bs) (binary n) = AreBytes bs
+  Of (opaque bs) (variant n) = AreBytes bs
+  Of (items vs) (list t n) = Each (λ v. Of v t) vs
+  Of (row vs) (fixed_size_list t k n) = (count vs ≡ k) × Each (λ v. Of v t) vs
+  Of (entries es) (map_of t u s n) = EachEntry (λ k. Of k t) (λ v. Of v u) es
+  Of (record_of nvs) (struct fs n) = NamedOf nvs fs
+  Of (tagged g v) (union vs n) = VariantOf g v vs
+  Of _ _ = ⊥
+
+  -- the same names in the same order, each with a value of its field
+  pub NamedOf : Named → Fields → Type 0
+  NamedOf no_named no_fields = Unit {0}
+  NamedOf (named m v rest) (field n t fs) = (m ≡ n) × Of v t × NamedOf rest fs
+  NamedOf _ _ = ⊥
+
+  -- some variant has the tag, and the value is of its type
+  pub VariantOf : ℕ → Value → Variants → Type 0
+  VariantOf g v no_variants = ⊥
+  VariantOf g v (choice n t h rest) = ((g ≡ h) × Of v t) ⊎ VariantOf g v rest
+
+-- each value of a is a value of b
+abbrev pub IncludedIn : Tree → Tree → Type 0
+IncludedIn a b = (v : Value) → Of v a → Of v b
+
+-- the values of u are those of t, and null
+abbrev pub AddsNull : Tree → Tree → Type 0
+AddsNull t u = (v : Value) → Of v u ↔ (Of v t ⊎ (v ≡ null_value))

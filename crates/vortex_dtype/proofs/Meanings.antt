@@ -1,0 +1,45 @@
+-- Facts on the meanings of sessions.
+use Rattle.std.proofs.Common.{◌≡◌, ℕ, List, [], ◌∷◌, Option, Some, None, Result, Ok, Err, IfOk, IfErr, Bool, true, false, bytes_eq, refl, ap, ◌∙◌, cond, subst}
+use Rattle.std.proofs.lemmas.Result.{IfErr-weaker}
+use Rattle.std.proofs.Common.{inl, inr}
+use Rattle.std.specs.Prelude.{option_map, string_bytes}
+use Rattle.std.specs.Map.{lookup}
+use Rattle.std.specs.declared.string.String.{String}
+use Rattle.std.specs.declared.alloc.Global.{Global}
+use Rattle.vortex_dtype.specs.Meaning.{Rewrites, Meaning, Lawful, Bytes}
+use Rattle.dtype_base.specs.declared.vortex_error.VortexError.{VortexError}
+use Rattle.dtype_types.specs.Tree.{Tree}
+use Rattle.dtype_types.specs.Valid.{Valid}
+use Rattle.vortex_dtype.specs.Refusals.{RefusedWhere}
+use Rattle.vortex_dtype.specs.Session.{meaning_of}
+
+pub same_entries : {B : Type 0} (r : B → Rewrites) (es fs : List (String Global × B)) (u : Bool) → es ≡ fs → meaning_of r es u ≡ meaning_of r fs u
+same_entries r es fs u e = ap (λ xs. meaning_of r xs u) e
+
+pub same_meaning : (f g : List ℕ → Option Rewrites) (u : Bool) → ((id : List ℕ) → f id ≡ g id) → ◌≡◌ {A = Meaning} (record { registered = f; unknown = u }) (record { registered = g; unknown = u })
+same_meaning f g u h = ap (λ (k : List ℕ → Option Rewrites). let m : Meaning = record { registered = k; unknown = u } in m) (λ i id. h id i)
+
+pub option_map-cond : {A B : Type 0} (r : A → B) (c : Bool) (x : A) (o p : Option A) → p ≡ cond c (Some x) o → option_map r p ≡ cond c (Some (r x)) (option_map r o)
+option_map-cond r true x o p e = ap (option_map r) e
+option_map-cond r false x o p e = ap (option_map r) e
+
+pub lawful_found : {B : Type 0} (r : B → Rewrites) → ((b : B) → Lawful (r b)) → (o : Option B) (q : Rewrites) → option_map r o ≡ Some q → Lawful q
+lawful_found r h None q e = cc
+lawful_found r h (Some b) q e = subst Lawful (some_is _ _ e) (h b)
+  where
+    some_is : (a b : Rewrites) → Some a ≡ Some b → a ≡ b
+    some_is a b e = cc
+
+-- what a lawful plugin writes back of bytes it writes back unchanged
+pub written_again : {X E : Type 0} (r : Rewrites) → Lawful r → (b : List ℕ) (s : Tree) (shown : X → List ℕ) (o : Result X E)
+    → Bytes b → Valid s → IfOk o (λ v. r b s ≡ Some (shown v)) → IfOk o (λ v. r (shown v) s ≡ Some (shown v))
+written_again r h b s shown (Ok v) bs valid e = (h.again b (shown v) s bs valid e).1
+written_again r h b s shown (Err x) bs valid e = e
+
+weaker : (P Q : Type 0) → (P → Q) → (e : VortexError) → RefusedWhere P e → RefusedWhere Q e
+weaker P Q f e (inl none) = inl none
+weaker P Q f e (inr both) = inr (both.0, f both.1)
+
+-- a refusal where P holds is one where Q holds, if Q follows
+pub refused_weaker : {X : Type 0} (P Q : Type 0) (o : Result X VortexError) → (P → Q) → IfErr o (RefusedWhere P) → IfErr o (RefusedWhere Q)
+refused_weaker P Q o f h = IfErr-weaker o (RefusedWhere P) (RefusedWhere Q) (weaker P Q f) h

@@ -1,0 +1,102 @@
+-- Laws of sessions: what is registered after a list of calls, what is kept, and what is admitted.
+use Rattle.std.specs.Prelude.{◌≡◌, ◌≢◌, ◌↔◌, ℕ, List, [], ◌∷◌, ◌++◌, Option, Some, None, Bool, true, false, if◌then◌else◌, bytes_eq, option_and_then, refl}
+use Rattle.std.specs.List.{list_any}
+use Rattle.std.proofs.Common.{sym, ap, ◌∙◌, subst}
+use Rattle.std.proofs.lemmas.Bool.{false_from_ne_true}
+use Rattle.std.proofs.lemmas.Slice.Eq.{bytes_eq-Decides}
+use Rattle.dtype_base.specs.declared.nullability.Nullability.{Nullability}
+use Rattle.dtype_base.specs.declared.nullability.Nullability.TheVariants.{NonNullable, Nullable}
+use Rattle.dtype_types.specs.Tree.{Tree, null, bool, primitive, decimal, utf8, binary, list, fixed_size_list, map_of, struct, union, variant, extension}
+use Rattle.dtype_types.specs.Valid.{Valid}
+use Rattle.dtype_types.specs.Nullable.{set_null}
+use Rattle.vortex_dtype.specs.Meaning.{Rewrites, Meaning, Lawful, LawfulSession, Bytes, kept, keeps, put, allowing, nothing, Admits}
+use Rattle.vortex_dtype.specs.Calls.{Call, register, allow, after, LeavesAlone, is_allow}
+
+some_is : {X : Type 0} (a b : X) → Some a ≡ Some b → a ≡ b
+some_is a b e = cc
+
+-- ---- lists of calls
+
+after-append : (before rest : List Call) (m : Meaning) → after (before ++ rest) m ≡ after rest (after before m)
+after-append [] rest m = refl
+after-append (register i r ∷ before) rest m = after-append before rest (put i r m)
+after-append (allow ∷ before) rest m = after-append before rest (allowing m)
+
+-- what is put under another id is not seen
+put-other : (i id : List ℕ) (r : Rewrites) (m : Meaning) → i ≢ id → (put i r m).registered id ≡ m.registered id
+put-other i id r m other =
+    ap (λ (b : Bool). if b then Some r else m.registered id) (false_from_ne_true (bytes_eq i id) (λ e. other ((bytes_eq-Decides i id).0 e)))
+
+put-same : (id : List ℕ) (r : Rewrites) (m : Meaning) → (put id r m).registered id ≡ Some r
+put-same id r m = ap (λ (b : Bool). if b then Some r else m.registered id) ((bytes_eq-Decides id id).1 refl)
+
+-- calls that leave an id alone leave what is registered under it
+pub after-left_alone : (calls : List Call) (m : Meaning) (id : List ℕ) → LeavesAlone id calls → (after calls m).registered id ≡ m.registered id
+after-left_alone [] m id h = refl
+after-left_alone (register i r ∷ calls) m id h = after-left_alone calls (put i r m) id h.1 ∙ put-other i id r m h.0
+after-left_alone (allow ∷ calls) m id h = after-left_alone calls (allowing m) id h
+
+pub after-last : (before rest : List Call) (m : Meaning) (id : List ℕ) (r : Rewrites) → LeavesAlone id rest
+    → (after (before ++ register id r ∷ rest) m).registered id ≡ Some r
+after-last before rest m id r h =
+    ap (λ (s : Meaning). s.registered id) (after-append before (register id r ∷ rest) m)
+    ∙ after-left_alone rest (put id r (after before m)) id h ∙ put-same id r (after before m)
+
+-- once unknown ids are kept, they stay so
+stays-unknown : (calls : List Call) (m : Meaning) → m.unknown ≡ true → (after calls m).unknown ≡ true
+stays-unknown [] m e = e
+stays-unknown (register i r ∷ calls) m e = stays-unknown calls (put i r m) e
+stays-unknown (allow ∷ calls) m e = stays-unknown calls (allowing m) refl
+
+pub after-unknown : (calls : List Call) (m : Meaning) → m.unknown ≡ false → (after calls m).unknown ≡ list_any is_allow calls
+after-unknown [] m e = e
+after-unknown (register i r ∷ calls) m e = after-unknown calls (put i r m) e
+after-unknown (allow ∷ calls) m e = stays-unknown calls (allowing m) refl
+
+-- ---- what is kept
+
+kept-again : (o : Option Rewrites) (u : Bool) (b c : List ℕ) (s : Tree) → ((r : Rewrites) → o ≡ Some r → Lawful r) → Bytes b → Valid s → kept o u b s ≡ Some c → Bytes c × (kept o u c s ≡ Some c)
+kept-again None true b c s h bs v e = let same : b ≡ c = some_is b c e in (subst Bytes same bs, refl)
+kept-again None false b c s h bs v e = cc
+kept-again (Some r) u b c s h bs v e = (h r refl).again b c s bs v e
+
+-- what a session keeps it keeps again, and it is bytes
+pub keeps-again : (m : Meaning) → LawfulSession m → (id b c : List ℕ) (s : Tree) → Bytes b → Valid s → keeps m id b s ≡ Some c → Bytes c × (keeps m id c s ≡ Some c)
+keeps-again m h id b c s bs v e = kept-again (m.registered id) m.unknown b c s (h.each id) bs v e
+
+kept-outer : (o : Option Rewrites) (u : Bool) (b : List ℕ) (s t : Tree) (n : Nullability) → ((r : Rewrites) → o ≡ Some r → Lawful r) → Bytes b → Valid s → set_null s n ≡ Some t → kept o u b t ≡ kept o u b s
+kept-outer None u b s t n h bs v e = refl
+kept-outer (Some r) u b s t n h bs v e = (h r refl).outer b s t n bs v e
+
+-- the storage's outer nullability doesn't count for what is kept
+pub keeps-outer : (m : Meaning) → LawfulSession m → (id b : List ℕ) (s t : Tree) (n : Nullability) → Bytes b → Valid s → set_null s n ≡ Some t → keeps m id b t ≡ keeps m id b s
+keeps-outer m h id b s t n bs v e = kept-outer (m.registered id) m.unknown b s t n (h.each id) bs v e
+
+-- ---- what is admitted
+
+same_by : (m : Meaning) (t u : Tree) → Some t ≡ Some u → Admits m t ↔ Admits m u
+same_by m t u e = let p = some_is t u e in (λ a. subst (Admits m) p a, λ a. subst (Admits m) (sym p) a)
+
+-- a session admits a type with another outer nullability exactly where it admits the type
+pub admits-set_null : (m : Meaning) → LawfulSession m → (t u : Tree) (n : Nullability) → Valid t → set_null t n ≡ Some u → Admits m t ↔ Admits m u
+admits-set_null m h null u NonNullable v e = cc
+admits-set_null m h null u Nullable v e = same_by m null u e
+admits-set_null m h (bool k) u n v e = same_by m (bool n) u e
+admits-set_null m h (primitive p k) u n v e = same_by m (primitive p n) u e
+admits-set_null m h (decimal d k) u n v e = same_by m (decimal d n) u e
+admits-set_null m h (utf8 k) u n v e = same_by m (utf8 n) u e
+admits-set_null m h (binary k) u n v e = same_by m (binary n) u e
+admits-set_null m h (variant k) u n v e = same_by m (variant n) u e
+admits-set_null m h (list t k) u n v e = same_by m (list t n) u e
+admits-set_null m h (fixed_size_list t size k) u n v e = same_by m (fixed_size_list t size n) u e
+admits-set_null m h (map_of t w s k) u n v e = same_by m (map_of t w s n) u e
+admits-set_null m h (struct fs k) u n v e = same_by m (struct fs n) u e
+admits-set_null m h (union vs k) u n v e = same_by m (union vs n) u e
+admits-set_null m h (extension id b s) u n v e = go (set_null s n) (λ x is. admits-set_null m h s x n v.1 is) (λ x is. keeps-outer m h id b s x n v.0 v.1 is) refl e
+  where
+    go : (o : Option Tree) → ((x : Tree) → set_null s n ≡ Some x → Admits m s ↔ Admits m x) → ((x : Tree) → set_null s n ≡ Some x → keeps m id b x ≡ keeps m id b s) → set_null s n ≡ o → option_and_then (λ x. Some (extension id b x)) o ≡ Some u → Admits m (extension id b s) ↔ Admits m u
+    go None ih ks is e' = cc
+    go (Some x) ih ks is e' =
+        let p = same_by m (extension id b x) u e' in
+        let k = ks x is in
+        (λ a. p.0 (k ∙ a.0, (ih x is).0 a.1), λ a. let b' = p.1 a in (sym k ∙ b'.0, (ih x is).1 b'.1))

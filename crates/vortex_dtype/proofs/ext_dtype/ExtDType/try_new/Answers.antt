@@ -1,0 +1,6 @@
+use Rattle.vortex_dtype.proofs.Meanings.{refused_weaker}
+use Rattle.vortex_dtype.proofs.ext_dtype.ExtDType.try_new.Goals as goal
+
+pub returns-clause-refused : goal.returns-clause-refused
+returns-clause-refused g c = λ valid.
+    refused_weaker _ _ _ (λ e. (c.default.result, c.default.ensures, e)) (c.try_with_vtable.ensures.refused valid)

@@ -1,0 +1,5 @@
+use Rattle.vortex_dtype.proofs.SessionLaws.{after-last}
+use Rattle.vortex_dtype.proofs.laws.last_registered_counts.Goals as goal
+
+pub returns : goal.returns
+returns c = λ before rest id r h. after-last before rest _ id r h

@@ -1,0 +1,10 @@
+use Rattle.vortex_dtype.specs.MessageOf.{message}
+use Rattle.vortex_dtype.specs.Session.{meaning}
+use Rattle.vortex_dtype.proofs.Public.{gives_accepts, gives_refused}
+use Rattle.vortex_dtype.proofs.proto.DTypeDTypeProto.from_proto.Goals as goal
+
+pub returns-clause-refused : goal.returns-clause-refused
+returns-clause-refused g c = gives_refused (meaning (λ b. (g.dyn-1.0.entry b.vtable).1.rewrites b.value) c.args.session.now) (message c.args.proto.now) c.read.result c.read.ensures.gives
+
+pub returns-clause-accepts : goal.returns-clause-accepts
+returns-clause-accepts g c = gives_accepts (meaning (λ b. (g.dyn-1.0.entry b.vtable).1.rewrites b.value) c.args.session.now) c.session_laws.ensures (message c.args.proto.now) c.read.result c.read.ensures.message c.read.ensures.gives

@@ -1,0 +1,11 @@
+-- What a session accepts: a message that reads as a type, which is then valid, and admitted.
+use Rattle.dtype_types.specs.Tree.{Tree}
+use Rattle.dtype_types.specs.Valid.{Valid}
+use Rattle.vortex_dtype.specs.Meaning.{Meaning, Admits}
+use Rattle.vortex_dtype.specs.Message.{Message}
+use Rattle.vortex_dtype.specs.Reads.{Reads}
+
+pub record Accepts (s : Meaning) (m : Message) (t : Tree) : Type 0 where
+  pub reads : Reads s m t
+  pub valid : Valid t
+  pub admitted : Admits s t

@@ -1,0 +1,25 @@
+-- A session after a list of calls, in words of the list alone.
+use Rattle.std.specs.Prelude.{◌≡◌, ◌≢◌, ℕ, List, [], ◌∷◌, Bool, true, false}
+use Rattle.vortex_dtype.specs.Meaning.{Rewrites, Meaning, put, allowing}
+
+-- the calls that change a session
+pub data Call : Type 0 where
+  register : List ℕ → Rewrites → Call
+  allow : Call
+
+-- the session after these calls, the first of them first
+abbrev pub after : List Call → Meaning → Meaning
+after [] m = m
+after (register i r ∷ calls) m = after calls (put i r m)
+after (allow ∷ calls) m = after calls (allowing m)
+
+-- no call of these registers the id
+abbrev pub LeavesAlone : List ℕ → List Call → Type 0
+LeavesAlone id [] = Unit {0}
+LeavesAlone id (register i r ∷ calls) = (i ≢ id) × LeavesAlone id calls
+LeavesAlone id (allow ∷ calls) = LeavesAlone id calls
+
+-- the call allows unknown ids
+abbrev pub is_allow : Call → Bool
+is_allow (register i r) = false
+is_allow allow = true

@@ -1,0 +1,86 @@
+-- What a plugin and a session mean. From the documentation of `ExtDTypePlugin` and `DTypeSession`: a
+-- plugin says which bytes it writes back for an extension's metadata, a session knows which plugin
+-- stands under an id, and whether an unknown id's metadata is kept.
+use Rattle.std.specs.Prelude.{◌≡◌, ℕ, ◌<◌, List, Option, Some, None, All, Bool, true, false, if◌then◌else◌, bytes_eq}
+use Rattle.dtype_base.specs.declared.nullability.Nullability.{Nullability}
+use Rattle.dtype_types.specs.Tree.{Tree, Fields, no_fields, field, Variants, no_variants, choice, null, bool, primitive, decimal, utf8, binary, list, fixed_size_list, map_of, struct, union, variant, extension}
+use Rattle.dtype_types.specs.Valid.{Valid}
+use Rattle.dtype_types.specs.Nullable.{SetNull}
+
+-- a plugin's meaning: the bytes that it writes back for these bytes over this storage, if it takes them
+abbrev pub Rewrites : Type 0
+Rewrites = List ℕ → Tree → Option (List ℕ)
+
+-- the numbers are bytes
+abbrev pub Bytes : List ℕ → Type 0
+Bytes b = All (λ x. x < 256) b
+
+-- the two laws of a plugin's meaning: what is written back is bytes and is written back unchanged, and the
+-- storage's outer nullability doesn't count
+pub record Lawful (r : Rewrites) : Type 0 where
+  pub again : (b c : List ℕ) (s : Tree) → Bytes b → Valid s → r b s ≡ Some c → Bytes c × (r c s ≡ Some c)
+  pub outer : (b : List ℕ) (s t : Tree) (n : Nullability) → Bytes b → Valid s → SetNull s n t → r b t ≡ r b s
+
+-- a session's meaning: what is registered under an id, and whether unknown ids are kept
+pub record Meaning : Type 0 where
+  pub registered : List ℕ → Option Rewrites
+  pub unknown : Bool
+
+-- a new session: nothing is registered, and unknown ids are refused
+abbrev pub nothing : Meaning
+nothing = record { registered = λ id. None; unknown = false }
+
+-- the session after r is registered under i, in place of what stood there
+abbrev pub put : List ℕ → Rewrites → Meaning → Meaning
+put i r m = record { registered = λ id. if bytes_eq i id then Some r else m.registered id; unknown = m.unknown }
+
+-- the session that keeps unknown ids from now on
+abbrev pub allowing : Meaning → Meaning
+allowing m = record { registered = m.registered; unknown = true }
+
+-- every plugin of the session is lawful
+pub record LawfulSession (m : Meaning) : Type 0 where
+  pub each : (id : List ℕ) (r : Rewrites) → m.registered id ≡ Some r → Lawful r
+
+-- the bytes that are kept of these bytes, if they are taken: what the registered plugin writes back, and
+-- where none is registered the bytes themselves, if unknown ids are kept
+abbrev pub kept : Option Rewrites → Bool → List ℕ → Tree → Option (List ℕ)
+kept None unknown b s = if unknown then Some b else None
+kept (Some r) unknown b s = r b s
+
+-- the bytes that the session keeps for an extension of this id with these bytes over this storage
+abbrev pub keeps : Meaning → List ℕ → List ℕ → Tree → Option (List ℕ)
+keeps m id b s = kept (m.registered id) m.unknown b s
+
+-- the number of the refusal where nothing is kept: 22 by the plugin, 35 where none is registered
+abbrev pub refusal_of : Option Rewrites → ℕ
+refusal_of None = 35
+refusal_of (Some r) = 22
+
+abbrev pub refusal : Meaning → List ℕ → ℕ
+refusal m id = refusal_of (m.registered id)
+
+-- the session admits a type: at every extension it keeps the very bytes that stand there
+abbrev mutual
+  pub Admits : Meaning → Tree → Type 0
+  Admits m null = Unit {0}
+  Admits m (bool n) = Unit {0}
+  Admits m (primitive p n) = Unit {0}
+  Admits m (decimal d n) = Unit {0}
+  Admits m (utf8 n) = Unit {0}
+  Admits m (binary n) = Unit {0}
+  Admits m (list t n) = Admits m t
+  Admits m (fixed_size_list t size n) = Admits m t
+  Admits m (map_of k v s n) = Admits m k × Admits m v
+  Admits m (struct fs n) = AdmitsFields m fs
+  Admits m (union vs n) = AdmitsVariants m vs
+  Admits m (variant n) = Unit {0}
+  Admits m (extension id b s) = (keeps m id b s ≡ Some b) × Admits m s
+
+  pub AdmitsFields : Meaning → Fields → Type 0
+  AdmitsFields m no_fields = Unit {0}
+  AdmitsFields m (field n t rest) = Admits m t × AdmitsFields m rest
+
+  pub AdmitsVariants : Meaning → Variants → Type 0
+  AdmitsVariants m no_variants = Unit {0}
+  AdmitsVariants m (choice n t g rest) = Admits m t × AdmitsVariants m rest

@@ -1,0 +1,37 @@
+-- When a vtable, a session and a downcast refuse, and by which error.
+use Rattle.std.specs.Prelude.{◌≡◌, ◌≢◌, ◌⊎◌, ℕ, List, Option, Some, None, Bool, false}
+use Rattle.dtype_base.specs.declared.vortex_error.VortexError.{VortexError}
+use Rattle.dtype_base.specs.declared.vortex_error.VortexError.TheVariants.{OutOfMemory, MetadataRefused, ExtensionIdDiffers, Message}
+use Rattle.dtype_base.specs.declared.vortex_error.MessageFault.TheVariants.{ExtensionUnregistered}
+use Rattle.dtype_types.specs.Tree.{Tree}
+use Rattle.vortex_dtype.specs.Meaning.{Meaning, Rewrites}
+
+-- 0, for want of memory; or 22, and then P holds
+abbrev pub RefusedWhere : Type 0 → VortexError → Type 0
+RefusedWhere P e = (e ≡ OutOfMemory) ⊎ ((e ≡ MetadataRefused) × P)
+
+-- the plugin that is registered takes no such bytes over such a storage
+abbrev pub Refuses : Option Rewrites → List ℕ → Tree → Type 0
+Refuses None b s = ⊥
+Refuses (Some r) b s = r b s ≡ None
+
+-- a session's refusals: 22 where the registered plugin refuses, 35 where none is registered and unknown ids
+-- are refused, 0 for want of memory, and no other
+abbrev pub RefusedBy : Meaning → List ℕ → List ℕ → Tree → VortexError → Type 0
+RefusedBy m id b s OutOfMemory = Unit {0}
+RefusedBy m id b s MetadataRefused = Refuses (m.registered id) b s
+RefusedBy m id b s (Message ExtensionUnregistered) = (m.registered id ≡ None) × (m.unknown ≡ false)
+RefusedBy m id b s _ = ⊥
+
+-- the bytes aren't read, or what is read doesn't fit
+abbrev pub Unfit : {M : Type 0} → Option M → (M → Bool) → Type 0
+Unfit None fits = Unit {0}
+Unfit (Some m) fits = fits m ≡ false
+
+-- a downcast's refusals, from the id that stands there and the vtable's: 23 where they differ; else 22 where
+-- the bytes aren't read or don't fit; 0 for want of memory, and no other
+abbrev pub NotOf : {M : Type 0} → List ℕ → List ℕ → Option M → (M → Bool) → VortexError → Type 0
+NotOf i j read fits OutOfMemory = Unit {0}
+NotOf i j read fits ExtensionIdDiffers = i ≢ j
+NotOf i j read fits MetadataRefused = (i ≡ j) × Unfit read fits
+NotOf i j read fits _ = ⊥

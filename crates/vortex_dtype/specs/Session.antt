@@ -1,0 +1,18 @@
+-- What a session means: its plugins by their ids, as far as they mean something, and its flag.
+use Rattle.std.specs.Prelude.{◌≡◌, ℕ, List, Option, Some, None, Bool, if◌then◌else◌, option_map, bytes_eq, string_bytes}
+use Rattle.std.specs.Map.{lookup}
+use Rattle.std.specs.declared.string.String.{String}
+use Rattle.std.specs.declared.alloc.Global.{Global}
+use Rattle.std.specs.declared.dyn_box.DynBox.{DynBox}
+use Rattle.vortex_dtype.specs.Meaning.{Rewrites, Meaning}
+use Rattle.vortex_dtype.specs.declared.session.DTypeSession.{DTypeSession}
+
+module _ {B : Type 0} (r : B → Rewrites) where
+  -- what is registered under an id, in a list of plugins by their ids
+  abbrev pub meaning_of : List (String Global × B) → Bool → Meaning
+  meaning_of entries unknown = record { registered = λ id. option_map r (lookup (λ k. bytes_eq id (string_bytes k)) entries); unknown = unknown }
+
+module _ {X : Type 0} {F : X → Type 0} where
+  -- the session as a map from ids to what the plugins mean, by what each boxed plugin means
+  abbrev pub meaning : (DynBox X Global F → Rewrites) → DTypeSession X F → Meaning
+  meaning r s = meaning_of r s.plugins.entries s.allow_unknown

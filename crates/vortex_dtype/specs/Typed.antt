@@ -1,0 +1,48 @@
+-- What a vtable of a typed extension means, and its laws. From the documentation of `ExtVTable`: it reads
+-- metadata from bytes, writes it as bytes, and says over which storage it may stand.
+use Rattle.std.specs.Prelude.{◌≡◌, ℕ, List, Option, Some, None, Bool, true, false, if◌then◌else◌, option_and_then, refl}
+use Rattle.std.proofs.Common.{sym, ap, ◌∙◌, subst}
+use Rattle.dtype_base.specs.declared.nullability.Nullability.{Nullability}
+use Rattle.dtype_types.specs.Tree.{Tree}
+use Rattle.dtype_types.specs.Valid.{Valid}
+use Rattle.dtype_types.specs.Nullable.{SetNull}
+use Rattle.vortex_dtype.specs.Meaning.{Rewrites, Lawful, Bytes}
+
+-- the two laws: written metadata is read back as the same metadata, and what is written of metadata that was
+-- read from bytes is bytes; whether it fits a storage doesn't depend on that storage's outer nullability
+pub record Typed {M : Type 0} (reads : List ℕ → Option M) (writes : M → Option (List ℕ)) (fits : M → Tree → Bool) : Type 0 where
+  pub read_back : (m : M) (c : List ℕ) → writes m ≡ Some c → reads c ≡ Some m
+  pub as_bytes : (b : List ℕ) (m : M) (c : List ℕ) → Bytes b → reads b ≡ Some m → writes m ≡ Some c → Bytes c
+  pub outer : (m : M) (s t : Tree) (n : Nullability) → Valid s → SetNull s n t → fits m t ≡ fits m s
+
+-- what a vtable makes of bytes over a storage, as a plugin: it reads, validates and writes
+abbrev pub rewritten : {M : Type 0} → (List ℕ → Option M) → (M → Option (List ℕ)) → (M → Tree → Bool) → Rewrites
+rewritten reads writes fits = λ b s. option_and_then (λ m. if fits m s then writes m else None) (reads b)
+
+module _ {M : Type 0} (reads : List ℕ → Option M) (writes : M → Option (List ℕ)) (fits : M → Tree → Bool) (laws : Typed reads writes fits) where
+  some_is : {X : Type 0} (a b : X) → Some a ≡ Some b → a ≡ b
+  some_is a b e = cc
+
+  chosen : (f : Bool) (o : Option (List ℕ)) (c : List ℕ) → (if f then o else None) ≡ Some c → (f ≡ true) × (o ≡ Some c)
+  chosen true o c e = (refl, e)
+  chosen false o c e = cc
+
+  then_some : (o : Option M) (s : Tree) (c : List ℕ) → option_and_then (λ m. if fits m s then writes m else None) o ≡ Some c → (m : M) × (o ≡ Some m) × (fits m s ≡ true) × (writes m ≡ Some c)
+  then_some None s c e = cc
+  then_some (Some m) s c e = let k = chosen (fits m s) (writes m) c e in (m, refl, k.0, k.1)
+
+  at_some : (m : M) (o : Option M) (s : Tree) (c : List ℕ) → o ≡ Some m → fits m s ≡ true → writes m ≡ Some c → option_and_then (λ m. if fits m s then writes m else None) o ≡ Some c
+  at_some m o s c is f w = subst (λ (x : Option M). option_and_then (λ m. if fits m s then writes m else None) x ≡ Some c) (sym is) (ap (λ (x : Bool). if x then writes m else None) f ∙ w)
+
+  outer_same : (o : Option M) (s t : Tree) → ((m : M) → fits m t ≡ fits m s) → option_and_then (λ m. if fits m t then writes m else None) o ≡ option_and_then (λ m. if fits m s then writes m else None) o
+  outer_same None s t h = refl
+  outer_same (Some m) s t h = ap (λ (x : Bool). if x then writes m else None) (h m)
+
+  -- so every vtable makes a lawful plugin
+  pub typed_laws : Lawful (rewritten reads writes fits)
+  typed_laws = record {
+    again = λ b c s bs v e.
+        let k = then_some (reads b) s c e in
+        (laws.as_bytes b k.0 c bs k.1 k.3, at_some k.0 (reads c) s c (laws.read_back k.0 c k.3) k.2 k.3);
+    outer = λ b s t n bs v e. outer_same (reads b) s t (λ m. laws.outer m s t n v e);
+  }

@@ -1,0 +1,19 @@
+-- What a typed extension shows: its vtable, its metadata, and the tree of its storage.
+use Rattle.dtype_types.specs.Tree.{Tree}
+use Rattle.dtype_types.specs.IsValid.{IsValid}
+use Rattle.dtype_types.specs.TreeOf.{tree}
+use Rattle.vortex_dtype.specs.declared.ext_dtype.ExtDType.{ExtDType}
+
+module _ {V M : Type 0} where
+  abbrev pub vtable_of : ExtDType V M → V
+  vtable_of x = x.vtable
+
+  abbrev pub metadata_of : ExtDType V M → M
+  metadata_of x = x.metadata
+
+  abbrev pub storage_of : ExtDType V M → Tree
+  storage_of x = tree x.storage
+
+  -- its storage is valid
+  abbrev pub IsValidTyped : ExtDType V M → Type 0
+  IsValidTyped x = IsValid x.storage

@@ -1,0 +1,218 @@
+// Typed extensions.
+ghost use Rattle.std.specs.Prelude.{◌≡◌, IfOk, IfErr, OnOk, Some, None, true, false};
+ghost use Rattle.dtype_base.specs.declared.nullability.Nullability.TheVariants.{NonNullable};
+ghost use Rattle.dtype_types.specs.Nullable.{CanBeNonNullable, SetNull};
+ghost use Rattle.dtype_types.specs.TreeOf.{extension_id, extension_metadata, storage_tree, tree};
+ghost use Rattle.dtype_types.specs.IsValid.{IsValid, IsValidExtension};
+ghost use Rattle.dtype_types.specs.Valid.{Valid};
+ghost use Rattle.vortex_dtype.specs.Refusals.{NotOf, RefusedWhere};
+ghost use Rattle.vortex_dtype.specs.TypedOf.{IsValidTyped, metadata_of, storage_of, vtable_of};
+
+use crate::ExtVTable;
+use dtype_base::{Nullability, VortexError, VortexResult};
+use dtype_types::{DType, ExtDTypeRef, ExtId};
+use std::alloc::Global;
+use std::fmt;
+
+/// An extension type with its library: a vtable, metadata that it writes, and a storage that the
+/// metadata fits.
+#[derive(Drop)]
+pub struct ExtDType<V: ExtVTable> {
+    vtable: V,
+    metadata: V::Metadata,
+    storage: DType,
+}
+
+impl<V: ExtVTable + Default> ExtDType<V> {
+    /// The extension of the default vtable with this metadata, over this storage. Refuses 22
+    /// (MetadataRefused) exactly where the metadata doesn't fit the storage, and 0 (OutOfMemory).
+    pub fn try_new(alloc: Global, metadata: V::Metadata, storage: DType) -> VortexResult<Self>
+        ensures vtable { IfOk result (λ x. V.is_default (vtable_of x)) }
+        ensures metadata { IfOk result (λ x. metadata_of x ≡ metadata) }
+        ensures storage { IfOk result (λ x. storage_of x ≡ tree storage) }
+        ensures valid { IsValid storage → IfOk result IsValidTyped }
+        ensures fits { Valid (tree storage)
+            → IfOk result (λ x. V.fits (vtable_of x) (V.meant metadata) (tree storage) ≡ true) }
+        // the vtable that doesn't take them is a default one
+        ensures refused { Valid (tree storage) → IfErr result (RefusedWhere
+            ((v : V) × V.is_default v × (V.fits v (V.meant metadata) (tree storage) ≡ false))) }
+    {
+        ExtDType::try_with_vtable(alloc, V::default(), metadata, storage)
+    }
+}
+
+impl<V: ExtVTable> ExtDType<V> {
+    /// The extension of this vtable with this metadata, over this storage. Refuses 22 (MetadataRefused)
+    /// exactly where the metadata doesn't fit the storage, and 0 (OutOfMemory).
+    pub fn try_with_vtable(
+        alloc: Global,
+        vtable: V,
+        metadata: V::Metadata,
+        storage: DType,
+    ) -> VortexResult<Self>
+        ensures vtable { IfOk result (λ x. vtable_of x ≡ vtable) }
+        ensures metadata { IfOk result (λ x. metadata_of x ≡ metadata) }
+        ensures storage { IfOk result (λ x. storage_of x ≡ tree storage) }
+        ensures valid { IsValid storage → IfOk result IsValidTyped }
+        ensures fits { Valid (tree storage)
+            → OnOk result (V.fits vtable (V.meant metadata) (tree storage) ≡ true) }
+        ensures refused { Valid (tree storage)
+            → IfErr result (RefusedWhere (V.fits vtable (V.meant metadata) (tree storage) ≡ false)) }
+    {
+        vtable.validate_dtype(alloc, &metadata, &storage)?;
+        Ok(ExtDType {
+            vtable,
+            metadata,
+            storage,
+        })
+    }
+
+    /// The vtable's id.
+    pub fn id(&self) -> &str
+        ensures { result.now ≡ V.id_text (vtable_of self.now) }
+    {
+        self.vtable.id()
+    }
+
+    /// The vtable.
+    pub fn vtable(&self) -> &V
+        ensures { result.now ≡ vtable_of self.now }
+    {
+        &self.vtable
+    }
+
+    /// The metadata.
+    pub fn metadata(&self) -> &V::Metadata
+        ensures { result.now ≡ metadata_of self.now }
+    {
+        &self.metadata
+    }
+
+    /// The storage type.
+    pub fn storage_dtype(&self) -> &DType
+        ensures storage { tree result.now ≡ storage_of self.now }
+        ensures valid { IsValidTyped self.now → IsValid result.now }
+    {
+        &self.storage
+    }
+
+    /// The metadata as bytes. Refuses 22 (MetadataRefused) exactly where the vtable doesn't write it, and
+    /// 0 (OutOfMemory).
+    pub fn serialize_metadata(&self, alloc: Global) -> VortexResult<Vec<u8>>
+        ensures ok { IfOk result
+            (λ v. V.writes (vtable_of self.now) (V.meant (metadata_of self.now)) ≡ Some v.items) }
+        ensures refused { IfErr result
+            (RefusedWhere (V.writes (vtable_of self.now) (V.meant (metadata_of self.now)) ≡ None)) }
+    {
+        self.vtable.serialize_metadata(alloc, &self.metadata)
+    }
+
+    /// The extension without its library, with the storage's outer nullability changed; the id and the
+    /// written metadata are those of this one. Where non-nullable is asked, the storage can be. Refuses 22
+    /// (MetadataRefused) exactly where the vtable doesn't write the metadata, and 0 (OutOfMemory).
+    pub fn with_nullability(&self, alloc: Global, n: Nullability) -> VortexResult<ExtDTypeRef>
+        requires { n ≡ NonNullable → CanBeNonNullable (storage_of self.now) }
+        ensures id { IfOk result (λ e. extension_id e ≡ V.id_text (vtable_of self.now)) }
+        ensures metadata { IfOk result (λ e.
+            V.writes (vtable_of self.now) (V.meant (metadata_of self.now)) ≡ Some (extension_metadata e)) }
+        ensures storage { IfOk result (λ e. SetNull (storage_of self.now) n (storage_tree e)) }
+        ensures valid { IsValidTyped self.now → IfOk result IsValidExtension }
+        ensures refused { IfErr result
+            (RefusedWhere (V.writes (vtable_of self.now) (V.meant (metadata_of self.now)) ≡ None)) }
+    {
+        let bytes = self.vtable.serialize_metadata(alloc, &self.metadata)?;
+        let id = ExtId::new(alloc, self.vtable.id())?;
+        let storage = self.storage.with_nullability(alloc, n)?;
+        ExtDTypeRef::from_parts(alloc, id, bytes, storage)
+    }
+
+    /// The extension without its library: the id, the written metadata and the storage. Refuses 22
+    /// (MetadataRefused) exactly where the vtable doesn't write the metadata, and 0 (OutOfMemory).
+    pub fn erased(self, alloc: Global) -> VortexResult<ExtDTypeRef>
+        ensures id { IfOk result (λ e. extension_id e ≡ V.id_text (vtable_of self)) }
+        ensures metadata { IfOk result (λ e.
+            V.writes (vtable_of self) (V.meant (metadata_of self)) ≡ Some (extension_metadata e)) }
+        ensures storage { IfOk result (λ e. storage_tree e ≡ storage_of self) }
+        ensures valid { IsValidTyped self → IfOk result IsValidExtension }
+        ensures refused { IfErr result
+            (RefusedWhere (V.writes (vtable_of self) (V.meant (metadata_of self)) ≡ None)) }
+    {
+        let ExtDType {
+            vtable,
+            metadata,
+            storage,
+        } = self;
+        let bytes = vtable.serialize_metadata(alloc, &metadata)?;
+        let id = ExtId::new(alloc, vtable.id())?;
+        ExtDTypeRef::from_parts(alloc, id, bytes, storage)
+    }
+
+    /// The extension with its library: the metadata is read from the bytes, and the storage stays. Refuses
+    /// 23 (ExtensionIdDiffers) exactly where the ids differ, then 22 (MetadataRefused) exactly where the
+    /// bytes aren't read or what is read doesn't fit the storage, and 0 (OutOfMemory); what was handed in
+    /// is then handed back as it was.
+    pub fn try_downcast(
+        alloc: Global,
+        erased: ExtDTypeRef,
+        vtable: V,
+    ) -> Result<ExtDType<V>, (ExtDTypeRef, VortexError)>
+        ensures vtable { IfOk result (λ x. vtable_of x ≡ vtable) }
+        ensures id { OnOk result (extension_id erased ≡ V.id_text vtable) }
+        ensures read { IfOk result
+            (λ x. V.reads vtable (extension_metadata erased) ≡ Some (V.meant (metadata_of x))) }
+        ensures fits { IsValidExtension erased → IfOk result
+            (λ x. V.fits vtable (V.meant (metadata_of x)) (storage_tree erased) ≡ true) }
+        ensures storage { IfOk result (λ x. storage_of x ≡ storage_tree erased) }
+        ensures valid { IsValidExtension erased → IfOk result IsValidTyped }
+        ensures handed_back { IfErr result (λ p. p.0 ≡ erased) }
+        ensures refused { IsValidExtension erased → IfErr result (λ p.
+            NotOf (extension_id erased) (V.id_text vtable) (V.reads vtable (extension_metadata erased))
+            (λ m. V.fits vtable m (storage_tree erased)) p.1) }
+    {
+        match ExtDType::read_lent(alloc, &erased, &vtable) {
+            Err(fault) => Err((erased, fault)),
+            Ok(metadata) => {
+                let (_, _, storage) = erased.into_parts();
+                Ok(ExtDType {
+                    vtable,
+                    metadata,
+                    storage,
+                })
+            }
+        }
+    }
+
+    // What the metadata is read as, tested over the storage; all is lent.
+    fn read_lent(alloc: Global, erased: &ExtDTypeRef, vtable: &V) -> VortexResult<V::Metadata>
+        ensures id { OnOk result (extension_id erased.now ≡ V.id_text vtable.now) }
+        ensures read { IfOk result
+            (λ m. V.reads vtable.now (extension_metadata erased.now) ≡ Some (V.meant m)) }
+        ensures fits { IsValidExtension erased.now → IfOk result
+            (λ m. V.fits vtable.now (V.meant m) (storage_tree erased.now) ≡ true) }
+        ensures refused { IsValidExtension erased.now → IfErr result
+            (NotOf (extension_id erased.now) (V.id_text vtable.now)
+            (V.reads vtable.now (extension_metadata erased.now))
+            (λ m. V.fits vtable.now m (storage_tree erased.now))) }
+    {
+        if erased.id().as_str() != vtable.id() {
+            return Err(VortexError::ExtensionIdDiffers);
+        }
+        let metadata = vtable.deserialize_metadata(alloc, erased.metadata_bytes())?;
+        vtable.validate_dtype(alloc, &metadata, erased.storage_dtype())?;
+        Ok(metadata)
+    }
+}
+
+/// The vtable, the metadata and the storage.
+impl<V: ExtVTable + fmt::Debug> fmt::Debug for ExtDType<V>
+where
+    V::Metadata: fmt::Debug,
+{
+    fn fmt<W: fmt::Write>(&self, f: &mut fmt::Formatter<W>) -> fmt::Result {
+        f.debug_struct("ExtDType")
+            .field("vtable", &self.vtable)
+            .field("metadata", &self.metadata)
+            .field("storage", &self.storage)
+            .finish()
+    }
+}

@@ -1,0 +1,141 @@
+// Extensions of which nothing is known: all bytes are kept.
+ghost use Rattle.std.specs.Prelude.{◌≡◌, IfOk, IsOkUnless, Some};
+ghost use Rattle.dtype_base.specs.declared.vortex_error.VortexError.TheVariants.{OutOfMemory};
+ghost use Rattle.dtype_types.specs.TreeOf.{extension_id, extension_metadata, storage_tree, tree};
+ghost use Rattle.dtype_types.specs.IsValid.{IsValid, IsValidExtension};
+
+use crate::ExtVTable;
+use dtype_base::VortexResult;
+use dtype_types::{DType, ExtDTypeRef, ExtId};
+use std::alloc::Global;
+use std::fmt;
+use std::marker::Model;
+
+/// The metadata of an extension of which nothing is known: its bytes.
+#[derive(Debug, Drop, PartialEq, Eq, Hash)]
+pub struct ForeignExtMetadata(pub Vec<u8>);
+
+impl ForeignExtMetadata {
+    /// The same bytes. Refuses 0 (OutOfMemory) alone.
+    pub fn try_clone(&self, alloc: Global) -> VortexResult<Self>
+        ensures same { IfOk result (λ m. m.0.items ≡ self.now.0.items) }
+        ensures refused { IsOkUnless result OutOfMemory }
+    {
+        Ok(ForeignExtMetadata(Vec::from_slice(alloc, &self.0)?))
+    }
+}
+
+/// The number of bytes and `B`.
+impl fmt::Display for ForeignExtMetadata {
+    ghost use Rattle.dtype_types.specs.Text.{metadata_text};
+
+    ghost output = { λ m. Some (metadata_text m.0.items) };
+
+    fn fmt<W: fmt::Write>(&self, f: &mut fmt::Formatter<W>) -> fmt::Result {
+        let count = self.0.len();
+        write!(f, "{count}B")
+    }
+}
+
+/// The vtable of an id of which nothing is known: it takes and writes all bytes unchanged, over every
+/// storage.
+#[derive(Debug, Drop, PartialEq, Eq, Hash)]
+pub struct ForeignExtDType {
+    id: ExtId,
+}
+
+/// It is its id, a text.
+impl Model for ForeignExtDType {
+    ghost use Rattle.std.specs.Prelude.{ℕ, List};
+
+    ghost Value = { List ℕ };
+
+    ghost view = { λ v. v.id };
+
+    ghost inverse = { λ id. record { id = id } };
+}
+
+impl ForeignExtDType {
+    /// The vtable of this id. Takes no memory.
+    pub fn new(id: ExtId) -> Self
+        ensures { result ≡ id }
+    {
+        ForeignExtDType { id }
+    }
+
+    /// The extension of this id, metadata and storage. Refuses 0 (OutOfMemory) alone.
+    pub fn from_parts(
+        alloc: Global,
+        id: ExtId,
+        metadata: Vec<u8>,
+        storage: DType,
+    ) -> VortexResult<ExtDTypeRef>
+        ensures id { IfOk result (λ e. extension_id e ≡ id) }
+        ensures metadata { IfOk result (λ e. extension_metadata e ≡ metadata.items) }
+        ensures storage { IfOk result (λ e. storage_tree e ≡ tree storage) }
+        ensures valid { IsValid storage → IfOk result IsValidExtension }
+        ensures refused { IsOkUnless result OutOfMemory }
+    {
+        ExtDTypeRef::from_parts(alloc, id, metadata, storage)
+    }
+
+    /// The vtable of the same id. Refuses 0 (OutOfMemory) alone.
+    pub fn try_clone(&self, alloc: Global) -> VortexResult<Self>
+        ensures same { IfOk result (λ v. v ≡ self.now) }
+        ensures refused { IsOkUnless result OutOfMemory }
+    {
+        Ok(ForeignExtDType {
+            id: self.id.try_clone(alloc)?,
+        })
+    }
+}
+
+impl ExtVTable for ForeignExtDType {
+    ghost use Rattle.std.specs.Prelude.{ℕ, List, Some, true};
+    ghost use Rattle.vortex_dtype.specs.Foreign.{foreign_typed};
+
+    type Metadata = ForeignExtMetadata;
+
+    ghost id_text = { λ v. v };
+
+    ghost Meant = { List ℕ };
+
+    ghost meant = { λ m. m.0.items };
+
+    ghost reads = { λ _ b. Some b };
+
+    ghost writes = { λ _ m. Some m };
+
+    ghost fits = { λ _ m s. true };
+
+    fn id(&self) -> &str {
+        self.id.as_str()
+    }
+
+    fn serialize_metadata(
+        &self,
+        alloc: Global,
+        metadata: &ForeignExtMetadata,
+    ) -> VortexResult<Vec<u8>> {
+        Ok(Vec::from_slice(alloc, &metadata.0)?)
+    }
+
+    fn deserialize_metadata(
+        &self,
+        alloc: Global,
+        bytes: &[u8],
+    ) -> VortexResult<ForeignExtMetadata> {
+        Ok(ForeignExtMetadata(Vec::from_slice(alloc, bytes)?))
+    }
+
+    fn validate_dtype(
+        &self,
+        _alloc: Global,
+        _metadata: &ForeignExtMetadata,
+        _storage: &DType,
+    ) -> VortexResult<()> {
+        Ok(())
+    }
+
+    ghost typed = { λ _. foreign_typed };
+}

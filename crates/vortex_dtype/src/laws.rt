@@ -1,0 +1,72 @@
+// Laws of sessions, of reading and of writing. They follow from the definitions alone: each function's
+// contract is the law, and its body is empty. `types`, `paths` and the others are the laws of the crates
+// below.
+ghost use Rattle.std.specs.Prelude.{◌≡◌, ◌↔◌, ◌++◌, ◌∷◌, ℕ, List, Some, None};
+ghost use Rattle.std.specs.List.{list_any};
+ghost use Rattle.dtype_base.specs.declared.nullability.Nullability.{Nullability};
+ghost use Rattle.dtype_types.specs.Nullable.{SetNull};
+ghost use Rattle.dtype_types.specs.Tree.{Tree};
+ghost use Rattle.dtype_types.specs.Valid.{Valid};
+ghost use Rattle.vortex_dtype.specs.Accepts.{Accepts};
+ghost use Rattle.vortex_dtype.specs.Calls.{Call, LeavesAlone, after, is_allow, register};
+ghost use Rattle.vortex_dtype.specs.IsMessage.{IsMessage};
+ghost use Rattle.vortex_dtype.specs.Meaning.{Admits, Bytes, LawfulSession, Meaning, Rewrites, keeps, nothing};
+ghost use Rattle.vortex_dtype.specs.Message.{Message};
+ghost use Rattle.vortex_dtype.specs.Reads.{Fault, Reads};
+ghost use Rattle.vortex_dtype.specs.Written.{Normal, written};
+
+pub use crate::plugin::plugin_laws;
+pub use crate::session::session_laws;
+pub use dtype_base::laws as base;
+pub use dtype_native::laws as native;
+pub use dtype_paths::laws as paths;
+pub use dtype_types::laws as types;
+
+/// After any calls the last plugin that was registered under an id counts.
+pub fn last_registered_counts()
+    ensures { (before rest : List Call) (id : List ℕ) (r : Rewrites) → LeavesAlone id rest
+        → (after (before ++ register id r ∷ rest) nothing).registered id ≡ Some r }
+{}
+
+/// After calls none of which registers an id, none is registered under it.
+pub fn none_registered_counts()
+    ensures { (calls : List Call) (id : List ℕ) → LeavesAlone id calls → (after calls nothing).registered id ≡ None }
+{}
+
+/// After any calls unknown ids are kept exactly where some call allowed it.
+pub fn unknown_once_allowed()
+    ensures { (calls : List Call) → (after calls nothing).unknown ≡ list_any is_allow calls }
+{}
+
+/// What a session keeps of bytes is bytes, and the session keeps it as it is.
+pub fn kept_again()
+    ensures { (s : Meaning) → LawfulSession s → (id b c : List ℕ) (t : Tree) → Bytes b → Valid t
+        → keeps s id b t ≡ Some c → Bytes c × (keeps s id c t ≡ Some c) }
+{}
+
+/// For a valid storage, setting its outer nullability doesn't change what a session keeps over it.
+pub fn keeps_set_null()
+    ensures { (s : Meaning) → LawfulSession s → (id b : List ℕ) (t u : Tree) (n : Nullability) → Bytes b → Valid t
+        → SetNull t n u → keeps s id b u ≡ keeps s id b t }
+{}
+
+/// For a valid type, setting its outer nullability doesn't change whether a session admits it.
+pub fn admits_set_null()
+    ensures { (s : Meaning) → LawfulSession s → (t u : Tree) (n : Nullability) → Valid t → SetNull t n u
+        → Admits s t ↔ Admits s u }
+{}
+
+/// Reading and writing are exact, under every session. A message reads as one type at most, and none where a
+/// fault stands in it. What reads is written as its normal form, and where the plugins are lawful it is
+/// accepted: valid and admitted. Accepted messages give equal types exactly where their normal forms are
+/// equal, and a normal form is its own normal form. An admitted type is read back from what is written of it.
+pub fn messages_are_exact()
+    ensures one_type { (s : Meaning) (m : Message) (t u : Tree) → Reads s m t → Reads s m u → t ≡ u }
+    ensures no_fault { (s : Meaning) (m : Message) (t : Tree) (k : ℕ) → Reads s m t → Fault s m k → ⊥ }
+    ensures accepted { (s : Meaning) (m : Message) (t : Tree) → LawfulSession s → IsMessage m → Reads s m t → Accepts s m t }
+    ensures normal { (s : Meaning) (m n : Message) (t : Tree) → Reads s m t → (Normal s m n ↔ (n ≡ written t)) }
+    ensures same { (s : Meaning) (m n : Message) (t u : Tree) (a b : Message) → Accepts s m t → Accepts s n u
+        → Normal s m a → Normal s n b → ((t ≡ u) ↔ (a ≡ b)) }
+    ensures twice { (s : Meaning) (m n : Message) (t : Tree) → Accepts s m t → Normal s m n → Normal s n n }
+    ensures read_back { (s : Meaning) (t : Tree) → Valid t → Admits s t → Accepts s (written t) t }
+{}

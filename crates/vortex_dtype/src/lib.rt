@@ -1,0 +1,50 @@
+// The logical types of Vortex, whole: all of the crates below given out again, and on top of them typed
+// extensions, plugins, sessions and message trees.
+//
+// It promises that a typed extension is its metadata and its storage under its vtable's meaning, that a
+// session answers by its plugins' meanings alone, with the last plugin under an id, and that a message
+// tree is read and written as the relation and the function of `specs/` say, under a session.
+//
+// Begin with `ExtVTable` and `ExtDType` (an extension with its library), `ExtDTypePlugin` and
+// `PluginOf`, and `DTypeSession`; then `pb` and `DTypeProto`. The definitions are in `specs/`: `Typed`
+// (what a vtable means), `Meaning` (what a plugin and a session mean: `keeps`, `Admits`), `Refusals`,
+// `Calls`, and for messages `Message`, `Reads` and `Written`. `laws` states what follows from them alone.
+#![tactic(auto)]
+
+mod ext_dtype;
+mod ext_vtable;
+mod foreign;
+pub mod laws;
+mod parts;
+pub mod pb;
+mod plugin;
+mod proto;
+mod same;
+mod session;
+mod writing;
+
+pub use dtype_base::{
+    DecimalDType, DecimalType, FieldName, FieldNames, FieldNamesIntoIter, FieldNamesIter,
+    IndexedNames, MAX_PRECISION, MAX_SCALE, MessageFault, Nullability, PType,
+    RESERVED_VALIDITY_FIELD_NAME, VortexError, VortexResult, check_precision_and_scale,
+};
+pub use dtype_native::{
+    IntegerPType, NativeDType, NativeDecimalType, NativePType, OffsetBuilderPType, PTypeVisitor,
+    PhysicalPType, PrecisionScale, ToBytes, TryFromBytes, UnsignedPType, match_each_float_ptype,
+    match_each_integer_ptype, match_each_native_ptype, match_each_native_simd_ptype,
+    match_each_signed_integer_ptype, match_each_unsigned_integer_ptype,
+    match_smallest_list_offset_type, match_smallest_offset_type,
+};
+pub use dtype_paths::{
+    Field, FieldMask, FieldPath, FieldPathSet, along_joined, beginnings_exist, field_path,
+};
+pub use dtype_types::{
+    DType, DTypeIter, ExtDTypeRef, ExtId, FieldDType, Kind, MapDType, MetadataDisplay,
+    StructFields, UnionVariants,
+};
+pub use ext_dtype::ExtDType;
+pub use ext_vtable::ExtVTable;
+pub use foreign::{ForeignExtDType, ForeignExtMetadata};
+pub use plugin::{ExtDTypePlugin, PluginOf};
+pub use proto::{DTypeProto, FieldPathProto};
+pub use session::DTypeSession;

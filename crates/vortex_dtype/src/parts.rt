@@ -1,0 +1,251 @@
+// The parts of a type, once they are read, made into the type through the checking constructors. Each function
+// gives what reading gives for that kind (`specs/Reading`), and none calls itself.
+ghost use Rattle.std.specs.Int.{w32};
+ghost use Rattle.std.specs.Prelude.{◌≡◌, ◌<◌, ◌^◌, All, FitsSigned, IfOk, IsOkUnless, map, string_bytes};
+ghost use Rattle.dtype_base.specs.declared.vortex_error.VortexError.TheVariants.{OutOfMemory};
+ghost use Rattle.dtype_base.specs.Decimals.{IsValidDecimal};
+ghost use Rattle.dtype_base.specs.Nullability.{nullability_of};
+ghost use Rattle.dtype_types.specs.Tree as of;
+ghost use Rattle.dtype_types.specs.TreeOf.{tree};
+ghost use Rattle.dtype_types.specs.IsValid.{IsValid};
+ghost use Rattle.vortex_dtype.specs.IsMessage.{OptionBytes};
+ghost use Rattle.vortex_dtype.specs.MessageOf.{bytes_of};
+ghost use Rattle.vortex_dtype.specs.Numbers.{byte_at, small_at, natural_byte};
+ghost use Rattle.vortex_dtype.specs.Reading.{primitive_read, decimal_made, decimal_read, map_read, struct_read, union_made, union_read, read_tags, extension_read, or_empty, Gives};
+ghost use Rattle.vortex_dtype.specs.Session.{meaning};
+
+use crate::pb;
+use crate::plugin::ExtDTypePlugin;
+use crate::session::DTypeSession;
+use dtype_base::{
+    DecimalDType, FieldName, FieldNames, MessageFault, Nullability, PType, VortexError,
+    VortexResult,
+};
+use dtype_types::{DType, MapDType, StructFields, UnionVariants};
+use std::alloc::Global;
+use std::string::String;
+
+// The primitive type of the number.
+#[tactic(auto, unfolding(crate::specs::Reading::primitive_read))]
+pub(crate) fn primitive_of(number: i32, nullable: bool) -> VortexResult<DType>
+    ensures gives { Gives tree result (primitive_read number (nullability_of nullable)) }
+    ensures number { FitsSigned w32 number }
+    ensures valid { IfOk result IsValid }
+{
+    match pb::PType::from_number(number) {
+        Some(ptype) => Ok(DType::Primitive(PType::from(ptype), Nullability::from(nullable))),
+        None => Err(VortexError::Message(MessageFault::PrimitiveNumber)),
+    }
+}
+
+// The number, where it fits.
+fn precision_of(precision: u32) -> Option<u8>
+    ensures { result ≡ natural_byte precision }
+{
+    match u8::try_from(precision) {
+        Ok(precision) => Some(precision),
+        Err(_) => None,
+    }
+}
+
+// The number, where it fits.
+fn scale_of(scale: i32) -> Option<i8>
+    ensures { result ≡ small_at scale }
+{
+    match i8::try_from(scale) {
+        Ok(scale) => Some(scale),
+        Err(_) => None,
+    }
+}
+
+// The number, where it fits.
+fn tag_of(tag: i32) -> Option<u8>
+    ensures { result ≡ byte_at tag }
+{
+    match u8::try_from(tag) {
+        Ok(tag) => Some(tag),
+        Err(_) => None,
+    }
+}
+
+// The decimal of the precision and the scale.
+#[tactic(auto, unfolding(crate::specs::Reading::decimal_read))]
+pub(crate) fn decimal_of(precision: u32, scale: i32, nullable: bool) -> VortexResult<DType>
+    ensures gives { Gives tree result (decimal_read precision scale (nullability_of nullable)) }
+    ensures numbers { (precision < 2 ^ 32) × FitsSigned w32 scale }
+    ensures valid { IfOk result IsValid }
+{
+    let Some(precision) = precision_of(precision) else {
+        return Err(VortexError::Message(MessageFault::PrecisionRange));
+    };
+    let Some(scale) = scale_of(scale) else {
+        return Err(VortexError::Message(MessageFault::ScaleRange));
+    };
+    let decimal = decimal_within(precision, scale)?;
+    Ok(DType::Decimal(decimal, Nullability::from(nullable)))
+}
+
+// The decimal of numbers that fit 8 bits.
+fn decimal_within(precision: u8, scale: i8) -> VortexResult<DecimalDType>
+    ensures gives { Gives (λ d. d) result (decimal_made precision scale) }
+    ensures valid { IfOk result (λ d. IsValidDecimal d) }
+{
+    DecimalDType::try_new(precision, scale)
+}
+
+// The list of the element.
+pub(crate) fn list_of(alloc: Global, element: DType, nullable: bool) -> VortexResult<DType>
+    ensures made { IfOk result (λ d. tree d ≡ of.list (tree element) (nullability_of nullable)) }
+    ensures valid { IsValid element → IfOk result IsValid }
+    ensures refused { IsOkUnless result OutOfMemory }
+{
+    Ok(DType::List(Box::new(alloc, element)?, Nullability::from(nullable)))
+}
+
+// The fixed-size list of the element.
+pub(crate) fn fixed_of(
+    alloc: Global,
+    element: DType,
+    size: u32,
+    nullable: bool,
+) -> VortexResult<DType>
+    ensures made { IfOk result (λ d. tree d ≡ of.fixed_size_list (tree element) size (nullability_of nullable)) }
+    ensures valid { IsValid element → IfOk result IsValid }
+    ensures refused { IsOkUnless result OutOfMemory }
+{
+    Ok(DType::FixedSizeList(Box::new(alloc, element)?, size, Nullability::from(nullable)))
+}
+
+// The map of the key and the value.
+#[tactic(auto, unfolding(crate::specs::Reading::map_read))]
+pub(crate) fn map_of(
+    alloc: Global,
+    key: DType,
+    value: DType,
+    keys_sorted: bool,
+    nullable: bool,
+) -> VortexResult<DType>
+    ensures gives { Gives tree result (map_read (tree key) (tree value) keys_sorted (nullability_of nullable)) }
+    ensures valid { IsValid key → IsValid value → IfOk result IsValid }
+{
+    let map = MapDType::try_new(alloc, key, value, keys_sorted)?;
+    Ok(DType::Map(map, Nullability::from(nullable)))
+}
+
+// Names of these texts, in order.
+fn names_of(alloc: Global, texts: &[String]) -> VortexResult<FieldNames>
+    ensures read { IfOk result (λ ns. ns ≡ map string_bytes texts.now) }
+    ensures refused { IsOkUnless result OutOfMemory }
+{
+    let mut names = Vec::with_capacity(alloc, texts.len())?;
+    for text in texts {
+        names.push(FieldName::new(alloc, text.as_str())?)?;
+    }
+    Ok(FieldNames::from_vec(names))
+}
+
+// The struct of the names and the types, of which there must be as many.
+#[tactic(auto, unfolding(crate::specs::Reading::struct_read))]
+pub(crate) fn struct_of(
+    alloc: Global,
+    names: &[String],
+    dtypes: Vec<DType>,
+    nullable: bool,
+) -> VortexResult<DType>
+    ensures gives { Gives tree result (struct_read (map string_bytes names.now) (map tree dtypes.items) (nullability_of nullable)) }
+    ensures valid { All IsValid dtypes.items → IfOk result IsValid }
+{
+    if names.len() != dtypes.len() {
+        return Err(VortexError::Message(MessageFault::StructLengths));
+    }
+    let names = names_of(alloc, names)?;
+    let fields = StructFields::new(alloc, names, dtypes)?;
+    Ok(DType::Struct(fields, Nullability::from(nullable)))
+}
+
+// The tags, each of which must be a byte.
+#[tactic(auto, unfolding(crate::specs::Reading::read_tags))]
+fn tags_of(alloc: Global, tags: &[i32]) -> VortexResult<Vec<u8>>
+    ensures gives { Gives (λ v. v.items) result (read_tags tags.now) }
+{
+    let mut bytes = Vec::with_capacity(alloc, tags.len())?;
+    for tag in tags {
+        match tag_of(*tag) {
+            Some(byte) => bytes.push(byte)?,
+            None => return Err(VortexError::Message(MessageFault::TypeIdRange)),
+        }
+    }
+    Ok(bytes)
+}
+
+// The union of the names, the types and the tags.
+#[tactic(auto, unfolding(crate::specs::Reading::union_read))]
+pub(crate) fn union_of(
+    alloc: Global,
+    names: &[String],
+    dtypes: Vec<DType>,
+    tags: &[i32],
+    nullable: bool,
+) -> VortexResult<DType>
+    ensures gives { Gives tree result (union_read (map string_bytes names.now) (map tree dtypes.items) tags.now (nullability_of nullable)) }
+    ensures valid { All IsValid dtypes.items → IfOk result IsValid }
+{
+    let tags = tags_of(alloc, tags)?;
+    let names = names_of(alloc, names)?;
+    union_within(alloc, names, dtypes, tags, Nullability::from(nullable))
+}
+
+// The union of tags that are bytes.
+fn union_within(
+    alloc: Global,
+    names: FieldNames,
+    dtypes: Vec<DType>,
+    tags: Vec<u8>,
+    n: Nullability,
+) -> VortexResult<DType>
+    ensures gives { Gives tree result (union_made names (map tree dtypes.items) tags.items n) }
+    ensures valid { All IsValid dtypes.items → IfOk result IsValid }
+{
+    match UnionVariants::try_new(alloc, names, dtypes, tags) {
+        Ok(variants) => Ok(DType::Union(variants, n)),
+        Err(e) => Err(e),
+    }
+}
+
+// The metadata, empty where it is missing.
+pub(crate) fn metadata_of(metadata: &Option<Vec<u8>>) -> &[u8]
+    ensures value { result.now ≡ or_empty (bytes_of metadata.now) }
+    ensures bytes { OptionBytes (bytes_of metadata.now) }
+{
+    match metadata {
+        Some(metadata) => {
+            let bytes = metadata.as_slice();
+            check_bytes(bytes);
+            bytes
+        }
+        None => &[],
+    }
+}
+
+// Nothing at run time: a proof learns that the items are bytes.
+fn check_bytes(bytes: &[u8])
+    ensures { All (λ x. x < 256) bytes.now }
+{
+    let _ = bytes;
+}
+
+// The extension of the storage, with the metadata that the session keeps.
+#[tactic(auto, unfolding(crate::specs::Reading::extension_read))]
+pub(crate) fn extension_of(
+    session: &DTypeSession,
+    id: &str,
+    metadata: &[u8],
+    storage: DType,
+) -> VortexResult<DType>
+    requires { IsValid storage }
+    ensures gives { Gives tree result (extension_read (meaning rewrites session.now) id.now metadata.now (tree storage)) }
+    ensures valid { IfOk result IsValid }
+{
+    let extension = session.deserialize(id, metadata, storage)?;
+    Ok(DType::Extension(extension))
+}

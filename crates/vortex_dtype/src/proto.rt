@@ -1,0 +1,174 @@
+// Types and paths from messages, and messages from types.
+//
+// Reading goes over the message once, in the order of its fields, and builds the type through the checking
+// constructors of the crates below: what is refused there is refused here by the same number.
+ghost use Rattle.std.specs.Prelude.{◌≡◌, ◌⊎◌, Some, None, IfOk, IfErr, IsOkUnless, All, Contains, map, string_bytes};
+ghost use Rattle.dtype_base.specs.declared.vortex_error.MessageFault.TheVariants.{PathPartMissing};
+ghost use Rattle.dtype_base.specs.declared.vortex_error.VortexError.TheVariants.{Message, OutOfMemory};
+ghost use Rattle.dtype_types.specs.TreeOf.{tree};
+ghost use Rattle.dtype_types.specs.IsValid.{IsValid};
+ghost use Rattle.vortex_dtype.specs.Accepts.{Accepts};
+ghost use Rattle.vortex_dtype.specs.MessageOf.{message};
+ghost use Rattle.vortex_dtype.specs.PathMessage.{step_of, steps_of};
+ghost use Rattle.vortex_dtype.specs.IsMessage.{IsMessage};
+ghost use Rattle.dtype_base.specs.Refusals.{number_of};
+ghost use Rattle.vortex_dtype.specs.Reading.{read, Gives};
+ghost use Rattle.vortex_dtype.specs.Reads.{Fault, ReadsAsNone};
+ghost use Rattle.vortex_dtype.specs.Written.{written};
+ghost use Rattle.vortex_dtype.specs.Session.{meaning};
+
+use crate::parts::{
+    decimal_of, extension_of, fixed_of, list_of, map_of, metadata_of, primitive_of, struct_of,
+    union_of,
+};
+use crate::pb;
+use crate::plugin::ExtDTypePlugin;
+use crate::session::{DTypeSession, session_laws};
+use crate::writing::write;
+use dtype_base::{FieldName, MessageFault, Nullability, VortexError, VortexResult};
+use dtype_paths::{Field, FieldPath};
+use dtype_types::DType;
+use std::alloc::Global;
+
+/// Types from messages, and messages from types.
+pub trait DTypeProto {
+    fn from_proto(alloc: Global, proto: &pb::DType, session: &DTypeSession) -> VortexResult<Self>
+    where
+        Self: Sized;
+
+    fn to_proto(&self, alloc: Global) -> VortexResult<pb::DType>;
+}
+
+impl DTypeProto for DType {
+    /// The type that the message says, under the session, which rewrites the metadata of each extension;
+    /// missing metadata is empty. Refuses at the first fault, a child before what its parent asks of it:
+    /// 24 (TypeMissing), 25 (PrimitiveNumber), 26 (PrecisionRange), 27 (ScaleRange), then 1 to 4 of
+    /// `DecimalDType::try_new`; 28 (ListElementMissing), 29 (FixedElementMissing); 30 (MapKeyMissing) and the
+    /// key's, 31 (MapValueMissing) and the value's, 9 (MapKeyNullable); 32 (StructLengths) after the fields';
+    /// 33 (TypeIdRange) after the variants', then 10 to 13 and 15 of `UnionVariants::try_new`;
+    /// 34 (StorageMissing), and after the storage's 22 (MetadataRefused) or 35 (ExtensionUnregistered).
+    fn from_proto(alloc: Global, proto: &pb::DType, session: &DTypeSession) -> VortexResult<DType>
+        ensures accepts { IfOk result (λ t. Accepts (meaning rewrites session.now)
+            (message proto.now) (tree t)) }
+        ensures valid { IfOk result IsValid }
+        ensures message { IfOk result (λ _. IsMessage (message proto.now)) }
+        ensures refused { IfErr result (λ e. (e ≡ OutOfMemory)
+            ⊎ (Fault (meaning rewrites session.now) (message proto.now) (number_of e)
+            × ReadsAsNone (meaning rewrites session.now) (message proto.now))) }
+    {
+        session_laws(session);
+        read(alloc, proto, session)
+    }
+
+    /// The message that says the type, with every child, every flag and the metadata. Refuses
+    /// 0 (OutOfMemory) alone.
+    fn to_proto(&self, alloc: Global) -> VortexResult<pb::DType>
+        ensures written { IfOk result (λ m. message m ≡ written (tree self.now)) }
+        ensures refused { IsOkUnless result OutOfMemory }
+    {
+        write(alloc, self)
+    }
+}
+
+/// Paths from messages.
+pub trait FieldPathProto {
+    fn from_proto(alloc: Global, proto: &pb::FieldPath) -> VortexResult<Self>
+    where
+        Self: Sized;
+}
+
+impl FieldPathProto for FieldPath {
+    /// The path of the names, in order; no parts give the root. Refuses 36 (PathPartMissing) at the first
+    /// part without a kind.
+    fn from_proto(alloc: Global, proto: &pb::FieldPath) -> VortexResult<FieldPath>
+        ensures names { IfOk result (λ p. steps_of proto.now ≡ map Some p) }
+        ensures refused { IfErr result (λ e. (e ≡ OutOfMemory)
+            ⊎ ((e ≡ Message PathPartMissing) × Contains (steps_of proto.now) None)) }
+    {
+        let mut steps = Vec::with_capacity(alloc, proto.path.len())?;
+        for part in &proto.path {
+            steps.push(read_part(alloc, part)?)?;
+        }
+        Ok(FieldPath::from_vec(steps))
+    }
+}
+
+// The step that a part says.
+fn read_part(alloc: Global, part: &pb::Field) -> VortexResult<Field>
+    ensures step { IfOk result (λ f. step_of part.now ≡ Some f) }
+    ensures refused { IfErr result (λ e. (e ≡ OutOfMemory) ⊎ ((e ≡ Message PathPartMissing) × (step_of part.now ≡ None))) }
+{
+    match &part.field_type {
+        Some(pb::FieldType::Name(name)) => Ok(Field::Name(FieldName::new(alloc, name.as_str())?)),
+        None => Err(VortexError::Message(MessageFault::PathPartMissing)),
+    }
+}
+
+// The type that the message reads as. It stands whole, with a loop for structs and one for unions, since it may
+// call itself alone: functions of one cycle can't share a parameter that holds a trait object.
+#[tactic(auto, unfolding(crate::specs::Reading::read))]
+fn read(alloc: Global, proto: &pb::DType, session: &DTypeSession) -> VortexResult<DType>
+    ensures gives { Gives tree result (read (meaning rewrites session.now) (message proto.now)) }
+    ensures valid { IfOk result IsValid }
+    ensures message { IfOk result (λ _. IsMessage (message proto.now)) }
+{
+    let Some(kind) = &proto.dtype_type else {
+        return Err(VortexError::Message(MessageFault::TypeMissing));
+    };
+    match kind {
+        pb::DtypeType::Null(_) => Ok(DType::Null),
+        pb::DtypeType::Bool(p) => Ok(DType::Bool(Nullability::from(p.nullable))),
+        pb::DtypeType::Primitive(p) => primitive_of(p.ptype, p.nullable),
+        pb::DtypeType::Decimal(p) => decimal_of(p.precision, p.scale, p.nullable),
+        pb::DtypeType::Utf8(p) => Ok(DType::Utf8(Nullability::from(p.nullable))),
+        pb::DtypeType::Binary(p) => Ok(DType::Binary(Nullability::from(p.nullable))),
+        pb::DtypeType::List(p) => {
+            let Some(element) = &p.element_type else {
+                return Err(VortexError::Message(MessageFault::ListElementMissing));
+            };
+            let element = read(alloc, element, session)?;
+            list_of(alloc, element, p.nullable)
+        }
+        pb::DtypeType::FixedSizeList(p) => {
+            let Some(element) = &p.element_type else {
+                return Err(VortexError::Message(MessageFault::FixedElementMissing));
+            };
+            let element = read(alloc, element, session)?;
+            fixed_of(alloc, element, p.size, p.nullable)
+        }
+        pb::DtypeType::Map(p) => {
+            let Some(key) = &p.key_type else {
+                return Err(VortexError::Message(MessageFault::MapKeyMissing));
+            };
+            let key = read(alloc, key, session)?;
+            let Some(value) = &p.value_type else {
+                return Err(VortexError::Message(MessageFault::MapValueMissing));
+            };
+            let value = read(alloc, value, session)?;
+            map_of(alloc, key, value, p.keys_sorted, p.nullable)
+        }
+        pb::DtypeType::Struct(p) => {
+            let mut dtypes = Vec::new(alloc);
+            for field in &p.dtypes {
+                dtypes.push(read(alloc, field, session)?)?;
+            }
+            struct_of(alloc, &p.names, dtypes, p.nullable)
+        }
+        pb::DtypeType::Union(p) => {
+            let mut dtypes = Vec::new(alloc);
+            for variant in &p.dtypes {
+                dtypes.push(read(alloc, variant, session)?)?;
+            }
+            union_of(alloc, &p.names, dtypes, &p.type_ids, p.nullable)
+        }
+        pb::DtypeType::Variant(p) => Ok(DType::Variant(Nullability::from(p.nullable))),
+        pb::DtypeType::Extension(p) => {
+            let Some(storage) = &p.storage_dtype else {
+                return Err(VortexError::Message(MessageFault::StorageMissing));
+            };
+            let storage = read(alloc, storage, session)?;
+            let metadata = metadata_of(&p.metadata);
+            extension_of(session, p.id.as_str(), metadata, storage)
+        }
+    }
+}

@@ -1,0 +1,235 @@
+// Messages of types: every child, every flag, names and tags in order, and the metadata, also where it is
+// empty. A kind's message is put together outside the recursion.
+ghost use Rattle.std.specs.Prelude.{◌≡◌, Some, IfOk, IsOkUnless, map, string_bytes};
+ghost use Rattle.dtype_base.specs.declared.vortex_error.VortexError.TheVariants.{OutOfMemory};
+ghost use Rattle.dtype_types.specs.Tree as of;
+ghost use Rattle.dtype_types.specs.TreeOf.{tree, struct_tree, union_tree, extension_id, extension_metadata};
+ghost use Rattle.vortex_dtype.specs.Message.{messages, list, fixed_size_list, map_of, struct, union, extension, present};
+ghost use Rattle.vortex_dtype.specs.MessageOf.{message, kind_message};
+ghost use Rattle.vortex_dtype.specs.Written.{written, is_nullable};
+
+use crate::pb;
+use dtype_base::{Nullability, VortexResult};
+use dtype_types::{DType, ExtDTypeRef, StructFields, UnionVariants};
+use std::alloc::Global;
+use std::string::String;
+
+// The message of the type.
+#[cycle(writing)]
+pub(crate) fn write(alloc: Global, dtype: &DType) -> VortexResult<pb::DType>
+    ensures written { IfOk result (λ m. message m ≡ written (tree dtype.now)) }
+    ensures refused { IsOkUnless result OutOfMemory }
+{
+    match dtype {
+        DType::Null => Ok(of_kind(pb::DtypeType::Null(pb::Null {}))),
+        DType::Bool(n) => Ok(of_kind(pb::DtypeType::Bool(pb::Bool {
+            nullable: flag_of(*n),
+        }))),
+        DType::Primitive(ptype, n) => Ok(of_kind(pb::DtypeType::Primitive(pb::Primitive {
+            ptype: pb::PType::from(*ptype).number(),
+            nullable: flag_of(*n),
+        }))),
+        DType::Decimal(decimal, n) => Ok(of_kind(pb::DtypeType::Decimal(pb::Decimal {
+            precision: u32::from(decimal.precision()),
+            scale: i32::from(decimal.scale()),
+            nullable: flag_of(*n),
+        }))),
+        DType::Utf8(n) => Ok(of_kind(pb::DtypeType::Utf8(pb::Utf8 {
+            nullable: flag_of(*n),
+        }))),
+        DType::Binary(n) => Ok(of_kind(pb::DtypeType::Binary(pb::Binary {
+            nullable: flag_of(*n),
+        }))),
+        DType::List(element, n) => {
+            let element = write_child(alloc, element)?;
+            list_proto(alloc, element, flag_of(*n))
+        }
+        DType::FixedSizeList(element, size, n) => {
+            let element = write_child(alloc, element)?;
+            fixed_proto(alloc, element, *size, flag_of(*n))
+        }
+        DType::Map(m, n) => {
+            let key = write_child(alloc, m.key_dtype())?;
+            let value = write_child(alloc, m.value_dtype())?;
+            map_proto(alloc, key, value, m.keys_sorted(), flag_of(*n))
+        }
+        DType::Struct(fields, n) => write_struct(alloc, fields, *n),
+        DType::Union(variants, n) => write_union(alloc, variants, *n),
+        DType::Variant(n) => Ok(of_kind(pb::DtypeType::Variant(pb::Variant {
+            nullable: flag_of(*n),
+        }))),
+        DType::Extension(extension) => {
+            let storage = write_child(alloc, extension.storage_dtype())?;
+            extension_proto(alloc, extension, storage)
+        }
+    }
+}
+
+// The message of a part, boxed.
+#[cycle(writing)]
+fn write_child(alloc: Global, dtype: &DType) -> VortexResult<Box<pb::DType>>
+    ensures written { IfOk result (λ b. message b.value ≡ written (tree dtype.now)) }
+    ensures refused { IsOkUnless result OutOfMemory }
+{
+    let proto = write(alloc, dtype)?;
+    Ok(Box::new(alloc, proto)?)
+}
+
+// The message of a struct of this nullability.
+#[cycle(writing)]
+fn write_struct(alloc: Global, fields: &StructFields, n: Nullability) -> VortexResult<pb::DType>
+    ensures written { IfOk result (λ m. message m ≡ written (of.struct (struct_tree fields.now) n)) }
+    ensures refused { IsOkUnless result OutOfMemory }
+{
+    let count = fields.nfields();
+    let mut names = Vec::with_capacity(alloc, count)?;
+    let mut dtypes = Vec::with_capacity(alloc, count)?;
+    for i in 0..count {
+        let Some(name) = fields.field_name(i) else {
+            unreachable!()
+        };
+        let Some(dtype) = fields.field_by_index(i) else {
+            unreachable!()
+        };
+        names.push(name.to_text(alloc)?)?;
+        dtypes.push(write(alloc, dtype)?)?;
+    }
+    Ok(struct_proto(names, dtypes, flag_of(n)))
+}
+
+// The message of a union of this nullability.
+#[cycle(writing)]
+fn write_union(alloc: Global, variants: &UnionVariants, n: Nullability) -> VortexResult<pb::DType>
+    ensures written { IfOk result (λ m. message m ≡ written (of.union (union_tree variants.now) n)) }
+    ensures refused { IsOkUnless result OutOfMemory }
+{
+    let count = variants.len();
+    let texts = variants.names().as_slice();
+    let type_ids = variants.type_ids();
+    let mut names = Vec::with_capacity(alloc, count)?;
+    let mut dtypes = Vec::with_capacity(alloc, count)?;
+    let mut tags = Vec::with_capacity(alloc, count)?;
+    for i in 0..count {
+        let Some(dtype) = variants.variant_by_index(i) else {
+            unreachable!()
+        };
+        names.push(texts[i].to_text(alloc)?)?;
+        dtypes.push(write(alloc, dtype)?)?;
+        tags.push(i32::from(type_ids[i]))?;
+    }
+    Ok(union_proto(names, dtypes, tags, flag_of(n)))
+}
+
+// A nullability as a flag.
+fn flag_of(n: Nullability) -> bool
+    ensures { result ≡ is_nullable n }
+{
+    match n {
+        Nullability::NonNullable => false,
+        Nullability::Nullable => true,
+    }
+}
+
+// The message of a kind.
+fn of_kind(kind: pb::DtypeType) -> pb::DType
+    ensures { message result ≡ kind_message kind }
+{
+    pb::DType {
+        dtype_type: Some(kind),
+    }
+}
+
+// The message of a list of the element.
+fn list_proto(alloc: Global, element: Box<pb::DType>, nullable: bool) -> VortexResult<pb::DType>
+    ensures made { IfOk result (λ m. message m ≡ list (present (message element.value)) nullable) }
+    ensures refused { IsOkUnless result OutOfMemory }
+{
+    let list = pb::List {
+        element_type: Some(element),
+        nullable,
+    };
+    Ok(of_kind(pb::DtypeType::List(Box::new(alloc, list)?)))
+}
+
+// The message of a fixed-size list of the element.
+fn fixed_proto(
+    alloc: Global,
+    element: Box<pb::DType>,
+    size: u32,
+    nullable: bool,
+) -> VortexResult<pb::DType>
+    ensures made { IfOk result (λ m. message m ≡ fixed_size_list (present (message element.value)) size nullable) }
+    ensures refused { IsOkUnless result OutOfMemory }
+{
+    let list = pb::FixedSizeList {
+        element_type: Some(element),
+        size,
+        nullable,
+    };
+    Ok(of_kind(pb::DtypeType::FixedSizeList(Box::new(alloc, list)?)))
+}
+
+// The message of a map of the key and the value.
+fn map_proto(
+    alloc: Global,
+    key: Box<pb::DType>,
+    value: Box<pb::DType>,
+    keys_sorted: bool,
+    nullable: bool,
+) -> VortexResult<pb::DType>
+    ensures made { IfOk result (λ m. message m ≡ map_of (present (message key.value)) (present (message value.value)) keys_sorted nullable) }
+    ensures refused { IsOkUnless result OutOfMemory }
+{
+    let map = pb::Map {
+        key_type: Some(key),
+        value_type: Some(value),
+        keys_sorted,
+        nullable,
+    };
+    Ok(of_kind(pb::DtypeType::Map(Box::new(alloc, map)?)))
+}
+
+// The message of a struct of these names and types.
+fn struct_proto(names: Vec<String>, dtypes: Vec<pb::DType>, nullable: bool) -> pb::DType
+    ensures { message result ≡ struct (map string_bytes names.items) (messages (map message dtypes.items)) nullable }
+{
+    of_kind(pb::DtypeType::Struct(pb::Struct {
+        names,
+        dtypes,
+        nullable,
+    }))
+}
+
+// The message of a union of these names, types and tags.
+fn union_proto(
+    names: Vec<String>,
+    dtypes: Vec<pb::DType>,
+    type_ids: Vec<i32>,
+    nullable: bool,
+) -> pb::DType
+    ensures { message result ≡ union (map string_bytes names.items) (messages (map message dtypes.items)) type_ids.items nullable }
+{
+    of_kind(pb::DtypeType::Union(pb::Union {
+        names,
+        dtypes,
+        type_ids,
+        nullable,
+    }))
+}
+
+// The message of an extension with the id and the metadata of this one.
+fn extension_proto(
+    alloc: Global,
+    source: &ExtDTypeRef,
+    storage: Box<pb::DType>,
+) -> VortexResult<pb::DType>
+    ensures made { IfOk result (λ m. message m ≡ extension (extension_id source.now) (present (message storage.value)) (Some (extension_metadata source.now))) }
+    ensures refused { IsOkUnless result OutOfMemory }
+{
+    let extension = pb::Extension {
+        id: String::from_str(alloc, source.id().as_str())?,
+        storage_dtype: Some(storage),
+        metadata: Some(Vec::from_slice(alloc, source.metadata_bytes())?),
+    };
+    Ok(of_kind(pb::DtypeType::Extension(Box::new(alloc, extension)?)))
+}

@@ -1,0 +1,71 @@
+//! A binder of expressions: the types of column references, of projections and of joins.
+ghost use Rattle.std.specs.Prelude.{◌≡◌, ◌↔◌, ◌++◌, ◌∷◌, [], IfNone, IfOk, IfSome, List, Some};
+ghost use Rattle.dtype_types.specs.Lookups.{Projects};
+ghost use Rattle.dtype_types.specs.Tree.{Tree};
+ghost use Rattle.dtype_types.specs.TreeOf.{children, tree};
+ghost use Rattle.dtype_types.specs.Value.{AddsNull, Of, Value};
+ghost use Rattle.dtype_paths.specs.At.{At};
+ghost use Rattle.dtype_paths.specs.Found.{FoundIn};
+ghost use Rattle.dtype_paths.specs.In.{In, first_part};
+ghost use Rattle.dtype_paths.specs.declared.field.Field.{Field};
+
+use dtype_base::{FieldName, VortexResult};
+use dtype_paths::{Field, FieldMask, FieldPath, field_path};
+use dtype_types::{DType, StructFields};
+use std::alloc::Global;
+
+/// A column of a table: what stands along its path, of which each value read there is.
+pub fn bind_column<'a>(column: &FieldPath, table: &'a DType) -> Option<&'a DType>
+    ensures bound { IfSome result (λ u. At (tree table.now) column.now (tree u.now)) }
+    ensures unbound { IfNone result ((u : Tree) → At (tree table.now) column.now u → ⊥) }
+    ensures values { IfSome result (λ u. (v : Value)
+        → FoundIn (tree table.now) column.now v → Of v (tree u.now)) }
+{
+    column.resolve(table)
+}
+
+/// The fields of `select names from source`.
+pub fn select(
+    alloc: Global,
+    source: &StructFields,
+    names: &[FieldName],
+) -> VortexResult<StructFields>
+    ensures { IfOk result (λ s. Projects (children source.now) names.now (children s)) }
+{
+    source.project(alloc, names)
+}
+
+/// The fields of a join: those of the one and then those of the other.
+pub fn join(alloc: Global, left: &StructFields, right: &StructFields) -> VortexResult<StructFields>
+    ensures { IfOk result (λ s. children s ≡ children left.now ++ children right.now) }
+{
+    left.disjoint_merge(alloc, right)
+}
+
+/// The type of a column of a table in a schema, if there is one.
+pub fn column_type<'a>(
+    alloc: Global,
+    schema: &'a DType,
+    table: &str,
+    column: &str,
+) -> VortexResult<Option<&'a DType>>
+    ensures { IfOk result (λ found. IfSome found (λ u.
+        At (tree schema.now) (Field.Name table.now ∷ Field.Name column.now ∷ []) (tree u.now))) }
+{
+    Ok(field_path!(alloc, table, column)?.resolve(schema))
+}
+
+/// What is asked below a column, of what is asked of its table.
+pub fn mask_below(mask: FieldMask) -> VortexResult<FieldMask>
+    ensures { IfOk result (λ m. (f : Field) (q : List Field) → first_part mask ≡ Some f
+        → (In m q ↔ In mask (f ∷ q))) }
+{
+    mask.step_into()
+}
+
+/// The type of a column in an outer join: its values, and null.
+pub fn nullable_column(alloc: Global, column: &DType) -> VortexResult<DType>
+    ensures { IfOk result (λ d. AddsNull (tree column.now) (tree d)) }
+{
+    column.as_nullable(alloc)
+}

@@ -1,0 +1,27 @@
+// Tests of kinds, and what a type of a known kind holds.
+ghost use Rattle.std.specs.Prelude.{◌≡◌, Some};
+ghost use Rattle.dtype_types.specs.Kinds.{kind, struct_fields};
+ghost use Rattle.dtype_types.specs.TreeOf.{children, tree};
+
+use dtype_types::{DType, Kind, StructFields};
+
+/// The fields of a type that the caller knows to be a struct.
+pub fn known_fields(dtype: &DType) -> &StructFields
+    requires { kind (tree dtype.now) ≡ Kind.Struct }
+    ensures { struct_fields (tree dtype.now) ≡ Some (children result.now) }
+{
+    dtype.as_struct_fields()
+}
+
+/// How many fields a struct has, and 0 for every other type.
+pub fn count_of_fields(dtype: &DType) -> usize
+    ensures { kind (tree dtype.now) ≡ Kind.Bool → result ≡ 0 }
+{
+    if dtype.is_boolean() {
+        return 0;
+    }
+    match dtype.as_struct_fields_opt() {
+        Some(fields) => fields.nfields(),
+        None => 0,
+    }
+}

@@ -1,0 +1,18 @@
+// Nullability set, and set again.
+ghost use Rattle.std.specs.Prelude.{◌≡◌, IfOk};
+ghost use Rattle.dtype_base.specs.declared.nullability.Nullability.TheVariants.{NonNullable};
+ghost use Rattle.dtype_types.specs.Nullable.{nullability};
+ghost use Rattle.dtype_types.specs.TreeOf.{tree};
+
+use dtype_base::VortexResult;
+use dtype_types::DType;
+use std::alloc::Global;
+
+/// A non-nullable type made nullable, and back, is what it was.
+pub fn there_and_back(dtype: &DType, alloc: Global) -> VortexResult<DType>
+    requires { nullability (tree dtype.now) ≡ NonNullable }
+    ensures { IfOk result (λ d. tree d ≡ tree dtype.now) }
+{
+    let nullable = dtype.as_nullable(alloc)?;
+    nullable.as_nonnullable(alloc)
+}

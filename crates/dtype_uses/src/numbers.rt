@@ -1,0 +1,20 @@
+// Names of numbers, and their bytes.
+ghost use Rattle.std.specs.Prelude.{◌≡◌};
+
+use dtype_base::PType;
+use dtype_native::ToBytes;
+
+/// The name of the offsets of 257 items.
+pub fn offsets_of_257_items() -> PType
+    ensures { result ≡ PType.U16 }
+{
+    PType::min_unsigned_ptype_for_value(256)
+}
+
+/// The bytes of a number, and how many they are.
+pub fn count_of_bytes(number: u32) -> usize
+    ensures { result ≡ 4 }
+{
+    let bytes = ToBytes::to_le_bytes(&number);
+    u32::bytes_of(&bytes).len()
+}

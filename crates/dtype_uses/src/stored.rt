@@ -1,0 +1,43 @@
+//! What a user of messages gets, from the contracts of the public calls and one law alone.
+ghost use Rattle.std.specs.Prelude.{◌≡◌, IfOk, IsOkUnless, IsTrue};
+ghost use Rattle.dtype_base.specs.declared.vortex_error.VortexError.TheVariants.{OutOfMemory};
+ghost use Rattle.dtype_types.specs.TreeOf.{tree};
+ghost use Rattle.dtype_types.specs.Valid.{Valid};
+ghost use Rattle.vortex_dtype.specs.Meaning.{Admits};
+ghost use Rattle.vortex_dtype.specs.Session.{meaning};
+
+use dtype_base::VortexResult;
+use dtype_types::DType;
+use std::alloc::Global;
+use vortex_dtype::laws::messages_are_exact;
+use vortex_dtype::{DTypeProto, DTypeSession, ExtDTypePlugin, pb};
+
+/// A type stored as a message and read back: the same type, where the session admits it. Refuses
+/// 0 (OutOfMemory) alone there.
+pub fn stored_and_read_back(
+    alloc: Global,
+    dtype: &DType,
+    session: &DTypeSession,
+) -> VortexResult<DType>
+    ensures same { Valid (tree dtype.now) → Admits (meaning (λ b. rewrites (b.vtable, b.value)) session.now) (tree dtype.now)
+        → IfOk result (λ t. tree t ≡ tree dtype.now) }
+    ensures refused { Valid (tree dtype.now) → Admits (meaning (λ b. rewrites (b.vtable, b.value)) session.now) (tree dtype.now)
+        → IsOkUnless result OutOfMemory }
+{
+    let stored = dtype.to_proto(alloc)?;
+    messages_are_exact();
+    DType::from_proto(alloc, &stored, session)
+}
+
+/// Whether the type of a message, stored once more and read back, is the same: it always is.
+pub fn is_kept_by_storing(
+    alloc: Global,
+    proto: &pb::DType,
+    session: &DTypeSession,
+) -> VortexResult<bool>
+    ensures kept { IfOk result (λ b. IsTrue b) }
+{
+    let dtype = DType::from_proto(alloc, proto, session)?;
+    let again = stored_and_read_back(alloc, &dtype, session)?;
+    Ok(again == dtype)
+}

@@ -1,0 +1,41 @@
+// What a caller has of a valid type.
+ghost use Rattle.std.specs.Prelude.{◌≡◌, ◌<◌, Some, IfSome, length, true};
+ghost use Rattle.dtype_types.specs.IsValid.{IsValid, IsValidStruct, IsValidUnion};
+ghost use Rattle.dtype_types.specs.TreeOf.{variant_tags};
+
+use dtype_types::{DType, StructFields, UnionVariants};
+
+/// The type of the only field of a valid struct of one, valid too.
+pub fn only_field(dtype: &DType) -> Option<&DType>
+    ensures { IsValid dtype.now → IfSome result (λ d. IsValid d.now) }
+{
+    let fields = dtype.as_struct_fields_opt()?;
+    fields.field_by_index(0)
+}
+
+/// As many names as fields.
+pub fn as_many_names_as_fields(fields: &StructFields) -> bool
+    ensures { IsValidStruct fields.now → result ≡ true }
+{
+    let count = fields.nfields();
+    fields.names().len() == count
+}
+
+/// A tag of a valid union leads back to its place.
+pub fn place_and_back(variants: &UnionVariants, place: usize) -> Option<usize>
+    requires { place < length (variant_tags variants.now) }
+    ensures { IsValidUnion variants.now → result ≡ Some place }
+{
+    let tag = variants.child_index_to_tag(place);
+    variants.tag_to_child_index(tag)
+}
+
+/// As many tags as names.
+pub fn as_many_tags_as_names(variants: &UnionVariants) -> bool
+    ensures { IsValidUnion variants.now → result ≡ true }
+{
+    let names = variants.names().len();
+    let tags = variants.type_ids().len();
+    let count = variants.len();
+    names == count && tags == count
+}

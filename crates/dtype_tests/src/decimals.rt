@@ -1,0 +1,65 @@
+use dtype_base::{DecimalDType, DecimalType, PType, VortexError};
+use std::test::Fail;
+
+#[test]
+fn decimals_are_refused_in_order(rt: HostRuntime) {
+    for (precision, scale, want) in [
+        (0, 0, 1),
+        (77, 0, 2),
+        (0, 100, 1),
+        (77, 100, 2),
+        (5, 77, 3),
+        (5, 127, 3),
+        (5, 6, 4),
+    ] {
+        match DecimalDType::try_new(precision, scale) {
+            Ok(decimal) => assert!(rt; false, "{decimal}"),
+            Err(error) => assert_eq!(rt; error.number(), want, "{error}"),
+        }
+    }
+}
+
+#[test]
+fn decimals_are_taken(rt: HostRuntime) -> Result<(), Fail> {
+    for (precision, scale, text) in [
+        (5, 5, "decimal(5,5)"),
+        (5, -128, "decimal(5,-128)"),
+        (76, 76, "decimal(76,76)"),
+        (10, -5, "decimal(10,-5)"),
+    ] {
+        let decimal = DecimalDType::try_new(precision, scale)?;
+        assert_eq!(rt; decimal.precision(), precision);
+        assert_eq!(rt; decimal.scale(), scale);
+        assert_eq!(rt; decimal.to_string(rt.alloc())?.as_str(), text);
+    }
+    Ok(())
+}
+
+#[test]
+fn decimals_have_bit_widths_and_storage(rt: HostRuntime) -> Result<(), Fail> {
+    for (precision, bits, storage) in [
+        (1, 4, DecimalType::I8),
+        (2, 7, DecimalType::I8),
+        (3, 10, DecimalType::I16),
+        (9, 30, DecimalType::I32),
+        (10, 34, DecimalType::I64),
+        (18, 60, DecimalType::I64),
+        (38, 127, DecimalType::I128),
+        (39, 130, DecimalType::I256),
+        (76, 253, DecimalType::I256),
+    ] {
+        let decimal = DecimalDType::try_new(precision, 0)?;
+        assert_eq!(rt; decimal.required_bit_width(), bits);
+        assert_eq!(rt; DecimalType::smallest_decimal_value_type(&decimal), storage);
+        assert!(rt; storage.is_compatible_decimal_value_type(decimal));
+    }
+    let three = DecimalDType::new(3, 0);
+    assert!(rt; !DecimalType::I8.is_compatible_decimal_value_type(three));
+    assert!(rt; DecimalType::I32.is_compatible_decimal_value_type(DecimalDType::new(4, 0)));
+    assert_eq!(rt; DecimalType::I256.byte_width(), 32);
+    assert_eq!(rt; DecimalType::I128.to_string(rt.alloc())?.as_str(), "i128");
+    assert_eq!(rt; DecimalType::try_from(PType::I64), Ok(DecimalType::I64));
+    let refused = VortexError::NotDecimalPType { ptype: PType::U8 };
+    assert_eq!(rt; DecimalType::try_from(PType::U8), Err(refused));
+    Ok(())
+}

@@ -1,0 +1,123 @@
+// What several topics make their types of.
+use dtype_base::Nullability::{NonNullable, Nullable};
+use dtype_base::{DecimalDType, FieldName, FieldNames, Nullability, PType, VortexResult};
+use dtype_types::{DType, ExtDTypeRef, ExtId, FieldDType, StructFields, UnionVariants};
+use std::alloc::Global;
+use std::hash::{DefaultHasher, Hash, Hasher};
+
+// What a fresh hasher answers that was fed this value.
+pub(crate) fn hash_of<T: Hash>(value: &T) -> u64 {
+    let mut state = DefaultHasher::new();
+    value.hash(&mut state);
+    state.finish()
+}
+
+// A primitive type.
+pub(crate) fn primitive(ptype: PType, n: Nullability) -> DType {
+    DType::Primitive(ptype, n)
+}
+
+// A field, from which a struct is made.
+pub(crate) fn field(
+    alloc: Global,
+    name: &str,
+    dtype: DType,
+) -> VortexResult<(FieldName, FieldDType)> {
+    Ok((FieldName::new(alloc, name)?, FieldDType::from(dtype)))
+}
+
+// Fields with these names, each of a boolean.
+pub(crate) fn booleans(alloc: Global, names: &[&str]) -> VortexResult<StructFields> {
+    let mut fields = Vec::new(alloc);
+    for name in names {
+        fields.push(field(alloc, name, DType::Bool(NonNullable))?)?;
+    }
+    StructFields::from_iter(alloc, fields)
+}
+
+// The struct type of one field.
+pub(crate) fn record(
+    alloc: Global,
+    name: &str,
+    dtype: DType,
+    n: Nullability,
+) -> VortexResult<DType> {
+    DType::struct_(alloc, vec![in alloc; field(alloc, name, dtype)?]?, n)
+}
+
+// The fixed-size list type of so many of this element.
+pub(crate) fn fixed_size_list(
+    alloc: Global,
+    element: DType,
+    size: u32,
+    n: Nullability,
+) -> VortexResult<DType> {
+    Ok(DType::FixedSizeList(Box::new(alloc, element)?, size, n))
+}
+
+// The extension type `x.y` over this storage, with this metadata.
+pub(crate) fn extension(alloc: Global, metadata: &[u8], storage: DType) -> VortexResult<DType> {
+    let id = ExtId::new(alloc, "x.y")?;
+    let metadata = Vec::from_slice(alloc, metadata)?;
+    Ok(DType::Extension(ExtDTypeRef::from_parts(alloc, id, metadata, storage)?))
+}
+
+// The variants `a`, an `I32`, and `b`, a nullable text, with the tags 5 and 9.
+fn variants(alloc: Global) -> VortexResult<UnionVariants> {
+    let names = FieldNames::from_texts(alloc, &["a", "b"])?;
+    let dtypes = vec![in alloc; DType::from(PType::I32), DType::Utf8(Nullable)]?;
+    UnionVariants::try_new(alloc, names, dtypes, vec![in alloc; 5, 9]?)
+}
+
+// A type of each kind but `Null`, of this nullability; what they hold is the same at both.
+pub(crate) fn kinds(alloc: Global, n: Nullability) -> VortexResult<Vec<DType>> {
+    let number = primitive(PType::I32, Nullable);
+    Ok(vec![in alloc;
+        DType::Bool(n),
+        primitive(PType::I8, n),
+        DType::Decimal(DecimalDType::try_new(10, -5)?, n),
+        DType::Utf8(n),
+        DType::Binary(n),
+        DType::list(alloc, number, n)?,
+        fixed_size_list(alloc, primitive(PType::F16, NonNullable), 3, n)?,
+        DType::map(alloc, DType::Utf8(NonNullable), DType::Null, true, n)?,
+        DType::Struct(booleans(alloc, &["a", "b"])?, n),
+        DType::Union(variants(alloc)?, n),
+        DType::Variant(n),
+        extension(alloc, b"a", DType::Utf8(n))?,
+    ]?)
+}
+
+// Their texts.
+pub(crate) fn kind_texts(n: Nullability) -> [&'static str; 12] {
+    match n {
+        NonNullable => [
+            "bool",
+            "i8",
+            "decimal(10,-5)",
+            "utf8",
+            "binary",
+            "list(i32?)",
+            "fixed_size_list(f16)[3]",
+            "map(utf8, null, keys_sorted=true)",
+            "{a=bool, b=bool}",
+            "union(a@5=i32, b@9=utf8?)",
+            "variant",
+            "x.y[1B](utf8)",
+        ],
+        Nullable => [
+            "bool?",
+            "i8?",
+            "decimal(10,-5)?",
+            "utf8?",
+            "binary?",
+            "list(i32?)?",
+            "fixed_size_list(f16)[3]?",
+            "map(utf8, null, keys_sorted=true)?",
+            "{a=bool, b=bool}?",
+            "union(a@5=i32, b@9=utf8?)?",
+            "variant?",
+            "x.y[1B](utf8?)",
+        ],
+    }
+}

@@ -1,0 +1,124 @@
+use crate::fixtures::hash_of;
+use dtype_base::{DecimalDType, FieldNames, Nullability, PType, VortexResult};
+use dtype_types::{DType, ExtDTypeRef, ExtId, FieldDType, MapDType, StructFields, UnionVariants};
+use std::alloc::Global;
+use std::hash::{DefaultHasher, Hasher};
+use std::test::Fail;
+
+const REQUIRED: Nullability = Nullability::NonNullable;
+
+const NULLABLE: Nullability = Nullability::Nullable;
+
+fn hash_ignoring_nullability(dtype: &DType) -> u64 {
+    let mut state = DefaultHasher::new();
+    dtype.hash_ignore_nullability(&mut state);
+    state.finish()
+}
+
+// An i32 and a text with the tags 5 and `tag`.
+fn union_of(
+    alloc: Global,
+    name: &str,
+    tag: u8,
+    int: Nullability,
+    text: Nullability,
+) -> VortexResult<UnionVariants> {
+    let names = FieldNames::from_texts(alloc, &["int", name])?;
+    let dtypes = vec![in alloc; DType::Primitive(PType::I32, int), DType::Utf8(text)]?;
+    UnionVariants::try_new(alloc, names, dtypes, vec![in alloc; 5, tag]?)
+}
+
+fn extension_of(alloc: Global, id: &str, byte: u8) -> VortexResult<ExtDTypeRef> {
+    let metadata = vec![in alloc; byte]?;
+    ExtDTypeRef::from_parts(
+        alloc,
+        ExtId::new(alloc, id)?,
+        metadata,
+        DType::Utf8(NULLABLE),
+    )
+}
+
+fn map_of(alloc: Global, value: DType, keys_sorted: bool) -> VortexResult<MapDType> {
+    MapDType::try_new(alloc, DType::Utf8(REQUIRED), value, keys_sorted)
+}
+
+// Two fields, the first of an extension.
+fn struct_of(alloc: Global, name: &str, second: DType) -> VortexResult<StructFields> {
+    let names = FieldNames::from_texts(alloc, &[name, "b"])?;
+    let first = DType::Extension(extension_of(alloc, "x.y", b'a')?);
+    StructFields::new(alloc, names, vec![in alloc; first, second]?)
+}
+
+#[test]
+fn unions_equal_ignoring_nullability_hash_alike(rt: HostRuntime) -> Result<(), Fail> {
+    let alloc = rt.alloc();
+    let one = DType::Union(union_of(alloc, "string", 9, NULLABLE, REQUIRED)?, REQUIRED);
+    let other = DType::Union(union_of(alloc, "string", 9, REQUIRED, NULLABLE)?, REQUIRED);
+    assert!(rt; one.eq_ignore_nullability(&other));
+    assert_eq!(rt;
+        hash_ignoring_nullability(&one),
+        hash_ignoring_nullability(&other)
+    );
+    assert!(rt; one != other);
+    assert!(rt; hash_of(&one) != hash_of(&other));
+    Ok(())
+}
+
+#[test]
+fn equal_types_hash_alike(rt: HostRuntime) -> Result<(), Fail> {
+    let alloc = rt.alloc();
+    let fields = struct_of(alloc, "a", DType::Variant(NULLABLE))?;
+    assert_eq!(rt; hash_of(&fields), hash_of(&fields.try_clone(alloc)?));
+    let map = map_of(alloc, DType::Struct(fields, NULLABLE), true)?;
+    assert_eq!(rt; hash_of(&map), hash_of(&map.try_clone(alloc)?));
+    let variants = union_of(alloc, "string", 9, NULLABLE, REQUIRED)?;
+    assert_eq!(rt; hash_of(&variants), hash_of(&variants.try_clone(alloc)?));
+    let extension = extension_of(alloc, "x.y", b'a')?;
+    assert_eq!(rt; hash_of(&extension), hash_of(&extension.try_clone(alloc)?));
+    assert_eq!(rt;
+        hash_of(extension.id()),
+        hash_of(&ExtId::new(alloc, "x.y")?)
+    );
+    let dtype = FieldDType::from(DType::Map(map, NULLABLE));
+    assert_eq!(rt; hash_of(&dtype), hash_of(dtype.value()));
+    Ok(())
+}
+
+#[test]
+fn types_that_differ_hash_differently(rt: HostRuntime) -> Result<(), Fail> {
+    let alloc = rt.alloc();
+    let sized = DType::FixedSizeList(Box::new(alloc, DType::Null)?, 2, REQUIRED);
+    let dtypes = vec![in alloc;
+        DType::Null,
+        DType::Bool(REQUIRED),
+        DType::Primitive(PType::U8, REQUIRED),
+        DType::Primitive(PType::U16, REQUIRED),
+        DType::Decimal(DecimalDType::new(5, 2), REQUIRED),
+        DType::Decimal(DecimalDType::new(5, -2), REQUIRED),
+        DType::Utf8(REQUIRED),
+        DType::Binary(REQUIRED),
+        DType::list(alloc, DType::Null, REQUIRED)?,
+        DType::FixedSizeList(Box::new(alloc, DType::Null)?, 1, REQUIRED),
+        sized,
+        DType::Map(map_of(alloc, DType::Null, true)?, REQUIRED),
+        DType::Map(map_of(alloc, DType::Null, false)?, REQUIRED),
+        DType::Struct(struct_of(alloc, "a", DType::Null)?, REQUIRED),
+        DType::Struct(struct_of(alloc, "b", DType::Null)?, REQUIRED),
+        DType::Union(union_of(alloc, "string", 9, REQUIRED, REQUIRED)?, REQUIRED),
+        DType::Union(union_of(alloc, "string", 8, REQUIRED, REQUIRED)?, REQUIRED),
+        DType::Variant(REQUIRED),
+        DType::Extension(extension_of(alloc, "x.y", b'a')?),
+        DType::Extension(extension_of(alloc, "x.y", b'b')?),
+        DType::Extension(extension_of(alloc, "x.z", b'a')?),
+    ]?;
+    for (i, one) in dtypes.iter().enumerate() {
+        for (j, other) in dtypes.iter().enumerate() {
+            assert_eq!(rt;
+                hash_ignoring_nullability(one) == hash_ignoring_nullability(other),
+                i == j,
+                "{one} and {other}"
+            );
+        }
+    }
+    Ok(())
+}

@@ -1,0 +1,70 @@
+// Lookups of names in structs.
+use dtype_base::{FieldName, FieldNames, IndexedNames, Nullability, VortexResult};
+use dtype_types::{DType, FieldDType, StructFields};
+use std::alloc::Global;
+use std::test::Fail;
+
+// Fields with these names, each of a boolean.
+fn booleans(alloc: Global, names: &[&str]) -> VortexResult<StructFields> {
+    let mut fields = Vec::new(alloc);
+    for name in names {
+        let dtype = DType::Bool(Nullability::NonNullable);
+        fields.push((FieldName::new(alloc, name)?, FieldDType::from(dtype)))?;
+    }
+    StructFields::from_iter(alloc, fields)
+}
+
+#[test]
+fn the_first_of_equal_names_is_found(rt: HostRuntime) -> Result<(), Fail> {
+    let alloc = rt.alloc();
+    let fields = booleans(alloc, &["b", "a", "b", "a"])?;
+    assert_eq!(rt; fields.find("a"), Some(1));
+    assert_eq!(rt; fields.find("b"), Some(0));
+    assert_eq!(rt; fields.find("c"), None);
+    assert_eq!(rt; fields.find(""), None);
+
+    let fields = fields.without_field(alloc, 0)?;
+    assert_eq!(rt; fields.find("b"), Some(1));
+    assert_eq!(rt; fields.find("a"), Some(0));
+    Ok(())
+}
+
+#[test]
+fn no_field_is_found_among_none(rt: HostRuntime) -> Result<(), Fail> {
+    let alloc = rt.alloc();
+    let fields = StructFields::empty(alloc)?;
+    assert_eq!(rt; fields.find_counted("a"), (None, 0));
+    Ok(())
+}
+
+#[test]
+fn the_last_of_a_thousand_is_found_in_eleven_comparisons(rt: HostRuntime) -> Result<(), Fail> {
+    let alloc = rt.alloc();
+    let mut fields = Vec::new(alloc);
+    for i in 0..1000 {
+        let name = format!(in alloc; "{i}")?;
+        let name = FieldName::new(alloc, name.as_str())?;
+        fields.push((name, FieldDType::from(DType::Null)))?;
+    }
+    let fields = StructFields::from_iter(alloc, fields)?;
+    let (position, compared) = fields.find_counted("999");
+    assert_eq!(rt; position, Some(999));
+    assert!(rt; 1 <= compared && compared <= 11, "{compared}");
+    assert_eq!(rt; fields.find("999"), Some(999));
+    assert_eq!(rt; fields.find("1000"), None);
+    Ok(())
+}
+
+#[test]
+fn names_know_whether_they_are_distinct(rt: HostRuntime) -> Result<(), Fail> {
+    let alloc = rt.alloc();
+    let repeated = FieldNames::from_texts(alloc, &["b", "a", "b"])?;
+    let repeated = IndexedNames::new(alloc, repeated)?;
+    assert!(rt; !repeated.are_distinct());
+    assert_eq!(rt; repeated.find("b"), Some(0));
+    let distinct = FieldNames::from_texts(alloc, &["b", "a", ""])?;
+    let distinct = IndexedNames::new(alloc, distinct)?;
+    assert!(rt; distinct.are_distinct());
+    assert_eq!(rt; distinct.find(""), Some(2));
+    Ok(())
+}

@@ -1,0 +1,95 @@
+use crate::fixtures::{extension, field, fixed_size_list};
+use dtype_base::{DecimalDType, Nullability, PType, VortexError, VortexResult};
+use dtype_types::DType;
+use std::alloc::Global;
+use std::test::Fail;
+
+const REQUIRED: Nullability = Nullability::NonNullable;
+
+fn number(ptype: PType) -> DType {
+    DType::Primitive(ptype, REQUIRED)
+}
+
+fn fixed(alloc: Global, element: DType, size: u32) -> VortexResult<DType> {
+    fixed_size_list(alloc, element, size, REQUIRED)
+}
+
+// The longest fixed list of the longest fixed lists of these numbers.
+fn longest(alloc: Global, ptype: PType) -> VortexResult<DType> {
+    let inner = fixed(alloc, number(ptype), u32::MAX)?;
+    fixed(alloc, inner, u32::MAX)
+}
+
+// The struct of fields of these types.
+fn struct_of(alloc: Global, dtypes: Vec<DType>) -> VortexResult<DType> {
+    let mut fields = Vec::new(alloc);
+    for dtype in dtypes {
+        fields.push(field(alloc, "a", dtype)?)?;
+    }
+    DType::struct_(alloc, fields, REQUIRED)
+}
+
+#[test]
+fn each_kind_has_its_width(rt: HostRuntime) -> Result<(), Fail> {
+    let alloc = rt.alloc();
+    assert_eq!(rt; DType::Null.element_size(), Ok(Some(0)));
+    assert_eq!(rt; DType::Bool(REQUIRED).element_size(), Ok(Some(1)));
+    let decimal = DType::Decimal(DecimalDType::new(10, 2), REQUIRED);
+    assert_eq!(rt; decimal.element_size(), Ok(Some(8)));
+    let matrix = fixed(alloc, fixed(alloc, number(PType::F64), 20)?, 1000)?;
+    assert_eq!(rt; matrix.element_size(), Ok(Some(160000)));
+    let pair = struct_of(
+        alloc,
+        vec![in alloc; number(PType::U8), DType::Bool(REQUIRED)]?,
+    )?;
+    assert_eq!(rt; pair.element_size(), Ok(Some(2)));
+    let empty = struct_of(alloc, Vec::new(alloc))?;
+    assert_eq!(rt; empty.element_size(), Ok(Some(0)));
+    let number_of = extension(alloc, b"", number(PType::I32))?;
+    assert_eq!(rt; number_of.element_size(), Ok(Some(4)));
+    let list = DType::list(alloc, number(PType::I32), REQUIRED)?;
+    assert_eq!(rt; list.element_size(), Ok(None));
+    let none = fixed(alloc, DType::Utf8(REQUIRED), 0)?;
+    assert_eq!(rt; none.element_size(), Ok(None));
+    Ok(())
+}
+
+#[test]
+fn lists_wider_than_64_bits_are_refused(rt: HostRuntime) -> Result<(), Fail> {
+    let alloc = rt.alloc();
+    let bytes = longest(alloc, PType::U8)?;
+    assert_eq!(rt; bytes.element_size(), Ok(Some(18446744065119617025)));
+    let numbers = longest(alloc, PType::U64)?;
+    assert_eq!(rt; numbers.element_size(), Err(VortexError::WidthOverflow));
+    let none = fixed(alloc, numbers, 0)?;
+    assert_eq!(rt; none.element_size(), Err(VortexError::WidthOverflow));
+    Ok(())
+}
+
+#[test]
+fn structs_wider_than_64_bits_are_refused(rt: HostRuntime) -> Result<(), Fail> {
+    let alloc = rt.alloc();
+    let long = longest(alloc, PType::U8)?;
+    let short = fixed(alloc, number(PType::U16), u32::MAX)?;
+    let wide = struct_of(
+        alloc,
+        vec![in alloc;
+            long.try_clone(alloc)?,
+            short.try_clone(alloc)?,
+            number(PType::U8),
+        ]?,
+    )?;
+    assert_eq!(rt; wide.element_size(), Err(VortexError::WidthOverflow));
+    let fits = struct_of(alloc, vec![in alloc; long, short]?)?;
+    assert_eq!(rt; fits.element_size(), Ok(Some(18446744073709551615)));
+    let variable = struct_of(
+        alloc,
+        vec![in alloc;
+            longest(alloc, PType::U8)?,
+            longest(alloc, PType::U8)?,
+            DType::Utf8(REQUIRED),
+        ]?,
+    )?;
+    assert_eq!(rt; variable.element_size(), Ok(None));
+    Ok(())
+}

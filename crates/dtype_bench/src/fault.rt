@@ -1,0 +1,42 @@
+use dtype_base::VortexError;
+use std::alloc::{AllocError, AllocFailed};
+use std::io;
+
+/// Why the program gave up.
+#[derive(Debug, Drop)]
+pub enum BenchFault {
+    /// Standard input, standard output or the clock failed.
+    Io(io::Error),
+    /// A call of the library refused.
+    Refused(VortexError),
+    /// A request for memory was refused.
+    OutOfMemory,
+    /// A fixture lacks a part that a case takes.
+    Missing,
+}
+
+pub type BenchResult<T> = Result<T, BenchFault>;
+
+impl From<io::Error> for BenchFault {
+    fn from(error: io::Error) -> BenchFault {
+        BenchFault::Io(error)
+    }
+}
+
+impl From<VortexError> for BenchFault {
+    fn from(error: VortexError) -> BenchFault {
+        BenchFault::Refused(error)
+    }
+}
+
+impl From<AllocError> for BenchFault {
+    fn from(_error: AllocError) -> BenchFault {
+        BenchFault::OutOfMemory
+    }
+}
+
+impl<T: Drop> From<AllocFailed<T>> for BenchFault {
+    fn from(_error: AllocFailed<T>) -> BenchFault {
+        BenchFault::OutOfMemory
+    }
+}

@@ -1,8 +1,10 @@
 // What several topics make their types of.
 use dtype_base::Nullability::{NonNullable, Nullable};
 use dtype_base::{DecimalDType, FieldName, FieldNames, Nullability, PType, VortexResult};
+use dtype_paths::{Field, FieldPath};
 use dtype_types::{DType, ExtDTypeRef, ExtId, FieldDType, StructFields, UnionVariants};
 use std::alloc::Global;
+use std::fmt::Display;
 use std::hash::{DefaultHasher, Hash, Hasher};
 
 // What a fresh hasher answers that was fed this value.
@@ -10,6 +12,11 @@ pub(crate) fn hash_of<T: Hash>(value: &T) -> u64 {
     let mut state = DefaultHasher::new();
     value.hash(&mut state);
     state.finish()
+}
+
+// Whether the value is printed so.
+pub(crate) fn is_printed<T: Display>(alloc: Global, value: &T, text: &str) -> VortexResult<bool> {
+    Ok(value.to_string(alloc)?.as_str() == text)
 }
 
 // A primitive type.
@@ -120,4 +127,20 @@ pub(crate) fn kind_texts(n: Nullability) -> [&'static str; 12] {
             "x.y[1B](utf8?)",
         ],
     }
+}
+
+// The path of a text: its parts between dots, `[]` for the element, and nothing for the root.
+pub(crate) fn path(alloc: Global, text: &str) -> VortexResult<FieldPath> {
+    let mut parts = Vec::new(alloc);
+    if !text.is_empty() {
+        for part in text.split('.') {
+            let field = if part == "[]" {
+                Field::ElementType
+            } else {
+                Field::from_text(alloc, part)?
+            };
+            parts.push(field)?;
+        }
+    }
+    Ok(FieldPath::from_vec(parts))
 }

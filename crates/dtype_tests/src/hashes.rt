@@ -1,8 +1,9 @@
-use crate::fixtures::hash_of;
+use crate::fixtures::{fixed_size_list, hash_of};
 use dtype_base::{DecimalDType, FieldNames, Nullability, PType, VortexResult};
 use dtype_types::{DType, ExtDTypeRef, ExtId, FieldDType, MapDType, StructFields, UnionVariants};
 use std::alloc::Global;
 use std::hash::{DefaultHasher, Hasher};
+use std::process::Abort;
 use std::test::Fail;
 
 const REQUIRED: Nullability = Nullability::NonNullable;
@@ -65,30 +66,36 @@ fn unions_equal_ignoring_nullability_hash_alike(rt: HostRuntime) -> Result<(), F
 }
 
 #[test]
-fn equal_types_hash_alike(rt: HostRuntime) -> Result<(), Fail> {
+fn equal_structs_and_maps_hash_alike(rt: HostRuntime) -> Result<(), Fail> {
     let alloc = rt.alloc();
     let fields = struct_of(alloc, "a", DType::Variant(NULLABLE))?;
-    assert_eq!(rt; hash_of(&fields), hash_of(&fields.try_clone(alloc)?));
+    let copy = fields.try_clone(alloc)?;
+    assert_eq!(rt; hash_of(&fields), hash_of(&copy));
     let map = map_of(alloc, DType::Struct(fields, NULLABLE), true)?;
-    assert_eq!(rt; hash_of(&map), hash_of(&map.try_clone(alloc)?));
-    let variants = union_of(alloc, "string", 9, NULLABLE, REQUIRED)?;
-    assert_eq!(rt; hash_of(&variants), hash_of(&variants.try_clone(alloc)?));
-    let extension = extension_of(alloc, "x.y", b'a')?;
-    assert_eq!(rt; hash_of(&extension), hash_of(&extension.try_clone(alloc)?));
-    assert_eq!(rt;
-        hash_of(extension.id()),
-        hash_of(&ExtId::new(alloc, "x.y")?)
-    );
+    let copy = map.try_clone(alloc)?;
+    assert_eq!(rt; hash_of(&map), hash_of(&copy));
     let dtype = FieldDType::from(DType::Map(map, NULLABLE));
     assert_eq!(rt; hash_of(&dtype), hash_of(dtype.value()));
     Ok(())
 }
 
 #[test]
-fn types_that_differ_hash_differently(rt: HostRuntime) -> Result<(), Fail> {
+fn equal_unions_and_extensions_hash_alike(rt: HostRuntime) -> Result<(), Fail> {
     let alloc = rt.alloc();
-    let sized = DType::FixedSizeList(Box::new(alloc, DType::Null)?, 2, REQUIRED);
-    let dtypes = vec![in alloc;
+    let variants = union_of(alloc, "string", 9, NULLABLE, REQUIRED)?;
+    let copy = variants.try_clone(alloc)?;
+    assert_eq!(rt; hash_of(&variants), hash_of(&copy));
+    let extension = extension_of(alloc, "x.y", b'a')?;
+    let copy = extension.try_clone(alloc)?;
+    assert_eq!(rt; hash_of(&extension), hash_of(&copy));
+    let id = ExtId::new(alloc, "x.y")?;
+    assert_eq!(rt; hash_of(extension.id()), hash_of(&id));
+    Ok(())
+}
+
+// Types without parts that differ from each other.
+fn plain_types(alloc: Global) -> VortexResult<Vec<DType>> {
+    Ok(vec![in alloc;
         DType::Null,
         DType::Bool(REQUIRED),
         DType::Primitive(PType::U8, REQUIRED),
@@ -97,28 +104,53 @@ fn types_that_differ_hash_differently(rt: HostRuntime) -> Result<(), Fail> {
         DType::Decimal(DecimalDType::new(5, -2), REQUIRED),
         DType::Utf8(REQUIRED),
         DType::Binary(REQUIRED),
+        DType::Variant(REQUIRED),
+    ]?)
+}
+
+// Lists, maps and extensions that differ from each other.
+fn lists_maps_extensions(alloc: Global) -> VortexResult<Vec<DType>> {
+    Ok(vec![in alloc;
         DType::list(alloc, DType::Null, REQUIRED)?,
-        DType::FixedSizeList(Box::new(alloc, DType::Null)?, 1, REQUIRED),
-        sized,
+        fixed_size_list(alloc, DType::Null, 1, REQUIRED)?,
+        fixed_size_list(alloc, DType::Null, 2, REQUIRED)?,
         DType::Map(map_of(alloc, DType::Null, true)?, REQUIRED),
         DType::Map(map_of(alloc, DType::Null, false)?, REQUIRED),
+        DType::Extension(extension_of(alloc, "x.y", b'a')?),
+        DType::Extension(extension_of(alloc, "x.y", b'b')?),
+        DType::Extension(extension_of(alloc, "x.z", b'a')?),
+    ]?)
+}
+
+// Structs and unions that differ from each other.
+fn structs_unions(alloc: Global) -> VortexResult<Vec<DType>> {
+    Ok(vec![in alloc;
         DType::Struct(struct_of(alloc, "a", DType::Null)?, REQUIRED),
         DType::Struct(struct_of(alloc, "b", DType::Null)?, REQUIRED),
         DType::Union(union_of(alloc, "string", 9, REQUIRED, REQUIRED)?, REQUIRED),
         DType::Union(union_of(alloc, "string", 8, REQUIRED, REQUIRED)?, REQUIRED),
-        DType::Variant(REQUIRED),
-        DType::Extension(extension_of(alloc, "x.y", b'a')?),
-        DType::Extension(extension_of(alloc, "x.y", b'b')?),
-        DType::Extension(extension_of(alloc, "x.z", b'a')?),
-    ]?;
+    ]?)
+}
+
+fn hash_differently(rt: &impl Abort, dtypes: &[DType]) {
     for (i, one) in dtypes.iter().enumerate() {
         for (j, other) in dtypes.iter().enumerate() {
-            assert_eq!(rt;
-                hash_ignoring_nullability(one) == hash_ignoring_nullability(other),
-                i == j,
-                "{one} and {other}"
-            );
+            let is_same = hash_ignoring_nullability(one) == hash_ignoring_nullability(other);
+            assert_eq!(rt; is_same, i == j, "{one} and {other}");
         }
     }
+}
+
+#[test]
+fn types_that_differ_hash_differently(rt: HostRuntime) -> Result<(), Fail> {
+    let alloc = rt.alloc();
+    let mut dtypes = plain_types(alloc)?;
+    for dtype in lists_maps_extensions(alloc)? {
+        dtypes.push(dtype)?;
+    }
+    for dtype in structs_unions(alloc)? {
+        dtypes.push(dtype)?;
+    }
+    hash_differently(&rt, dtypes.as_slice());
     Ok(())
 }

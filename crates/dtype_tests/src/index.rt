@@ -2,6 +2,7 @@
 use dtype_base::{FieldName, FieldNames, IndexedNames, Nullability, VortexResult};
 use dtype_types::{DType, FieldDType, StructFields};
 use std::alloc::Global;
+use std::process::Abort;
 use std::test::Fail;
 
 // Fields with these names, each of a boolean.
@@ -14,18 +15,20 @@ fn booleans(alloc: Global, names: &[&str]) -> VortexResult<StructFields> {
     StructFields::from_iter(alloc, fields)
 }
 
+fn finds_the_first(rt: &impl Abort, fields: &StructFields, a: usize, b: usize) {
+    assert_eq!(rt; fields.find("a"), Some(a));
+    assert_eq!(rt; fields.find("b"), Some(b));
+    assert_eq!(rt; fields.find("c"), None);
+    assert_eq!(rt; fields.find(""), None);
+}
+
 #[test]
 fn the_first_of_equal_names_is_found(rt: HostRuntime) -> Result<(), Fail> {
     let alloc = rt.alloc();
     let fields = booleans(alloc, &["b", "a", "b", "a"])?;
-    assert_eq!(rt; fields.find("a"), Some(1));
-    assert_eq!(rt; fields.find("b"), Some(0));
-    assert_eq!(rt; fields.find("c"), None);
-    assert_eq!(rt; fields.find(""), None);
-
+    finds_the_first(&rt, &fields, 1, 0);
     let fields = fields.without_field(alloc, 0)?;
-    assert_eq!(rt; fields.find("b"), Some(1));
-    assert_eq!(rt; fields.find("a"), Some(0));
+    finds_the_first(&rt, &fields, 0, 1);
     Ok(())
 }
 
@@ -37,16 +40,20 @@ fn no_field_is_found_among_none(rt: HostRuntime) -> Result<(), Fail> {
     Ok(())
 }
 
-#[test]
-fn the_last_of_a_thousand_is_found_in_eleven_comparisons(rt: HostRuntime) -> Result<(), Fail> {
-    let alloc = rt.alloc();
+// A thousand fields, named by their places.
+fn thousand(alloc: Global) -> VortexResult<StructFields> {
     let mut fields = Vec::new(alloc);
     for i in 0..1000 {
         let name = format!(in alloc; "{i}")?;
         let name = FieldName::new(alloc, name.as_str())?;
         fields.push((name, FieldDType::from(DType::Null)))?;
     }
-    let fields = StructFields::from_iter(alloc, fields)?;
+    StructFields::from_iter(alloc, fields)
+}
+
+#[test]
+fn the_last_of_a_thousand_is_found_in_eleven_comparisons(rt: HostRuntime) -> Result<(), Fail> {
+    let fields = thousand(rt.alloc())?;
     let (position, compared) = fields.find_counted("999");
     assert_eq!(rt; position, Some(999));
     assert!(rt; 1 <= compared && compared <= 11, "{compared}");
@@ -55,15 +62,17 @@ fn the_last_of_a_thousand_is_found_in_eleven_comparisons(rt: HostRuntime) -> Res
     Ok(())
 }
 
+fn indexed(alloc: Global, texts: &[&str]) -> VortexResult<IndexedNames> {
+    IndexedNames::new(alloc, FieldNames::from_texts(alloc, texts)?)
+}
+
 #[test]
 fn names_know_whether_they_are_distinct(rt: HostRuntime) -> Result<(), Fail> {
     let alloc = rt.alloc();
-    let repeated = FieldNames::from_texts(alloc, &["b", "a", "b"])?;
-    let repeated = IndexedNames::new(alloc, repeated)?;
+    let repeated = indexed(alloc, &["b", "a", "b"])?;
     assert!(rt; !repeated.are_distinct());
     assert_eq!(rt; repeated.find("b"), Some(0));
-    let distinct = FieldNames::from_texts(alloc, &["b", "a", ""])?;
-    let distinct = IndexedNames::new(alloc, distinct)?;
+    let distinct = indexed(alloc, &["b", "a", ""])?;
     assert!(rt; distinct.are_distinct());
     assert_eq!(rt; distinct.find(""), Some(2));
     Ok(())

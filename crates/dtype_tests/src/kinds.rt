@@ -1,7 +1,9 @@
-use crate::fixtures::{extension, kind_texts, kinds};
+use crate::fixtures::{extension, is_printed, kind_texts, kinds};
 use dtype_base::Nullability::{NonNullable, Nullable};
-use dtype_base::{DecimalDType, PType, VortexError};
+use dtype_base::{DecimalDType, PType, VortexError, VortexResult};
 use dtype_types::{DType, MapDType};
+use std::alloc::Global;
+use std::process::Abort;
 use std::test::Fail;
 
 #[test]
@@ -12,11 +14,28 @@ fn texts_of_each_kind(rt: HostRuntime) -> Result<(), Fail> {
         let texts = kind_texts(n);
         assert_eq!(rt; types.len(), texts.len());
         for (dtype, text) in types.iter().zip(texts.iter()) {
-            assert_eq!(rt; format!(in alloc; "{dtype}")?.as_str(), *text);
+            assert!(rt; is_printed(alloc, dtype, text)?, "{dtype}");
         }
     }
-    assert_eq!(rt; format!(in alloc; "{}", DType::Null)?.as_str(), "null");
-    assert_eq!(rt; format!(in alloc; "{}", DType::BYTES)?.as_str(), "u8");
+    assert!(rt; is_printed(alloc, &DType::Null, "null")?);
+    assert!(rt; is_printed(alloc, &DType::BYTES, "u8")?);
+    Ok(())
+}
+
+// That the copy of one of the types equals that one alone, and is printed as it is.
+fn equals_one_alone(
+    rt: &impl Abort,
+    alloc: Global,
+    types: &[DType],
+    place: usize,
+    one: &DType,
+) -> VortexResult<()> {
+    let copy = one.try_clone(alloc)?;
+    let text = one.to_string(alloc)?;
+    assert!(rt; is_printed(alloc, &copy, text.as_str())?);
+    for (i, other) in types.iter().enumerate() {
+        assert_eq!(rt; copy == *other, i == place, "{one} and {other}");
+    }
     Ok(())
 }
 
@@ -28,16 +47,26 @@ fn each_kind_equals_its_copy_alone(rt: HostRuntime) -> Result<(), Fail> {
         types.push(dtype)?;
     }
     types.push(DType::Null)?;
-    for (i, one) in types.iter().enumerate() {
-        let copy = one.try_clone(alloc)?;
-        assert_eq!(rt;
-            format!(in alloc; "{copy}")?.as_str(),
-            format!(in alloc; "{one}")?.as_str()
-        );
-        for (j, other) in types.iter().enumerate() {
-            assert_eq!(rt; copy == *other, i == j, "{one} and {other}");
-        }
+    for (place, one) in types.iter().enumerate() {
+        equals_one_alone(&rt, alloc, types.as_slice(), place, one)?;
     }
+    Ok(())
+}
+
+// What the type is made nullable, and back.
+fn is_set(rt: &impl Abort, alloc: Global, dtype: &DType, made: &DType) -> VortexResult<()> {
+    assert!(rt; !dtype.is_nullable() && made.is_nullable() && made.can_be_nonnullable());
+    assert!(rt; made.eq_ignore_nullability(dtype));
+    assert!(rt; dtype.as_nullable(alloc)? == *made);
+    assert!(rt; made.as_nonnullable(alloc)? == *dtype);
+    Ok(())
+}
+
+// What it is with the union of its nullability and another.
+fn is_joined(rt: &impl Abort, alloc: Global, dtype: &DType, made: &DType) -> VortexResult<()> {
+    assert!(rt; dtype.union_nullability(alloc, Nullable)? == *made);
+    assert!(rt; dtype.union_nullability(alloc, NonNullable)? == *dtype);
+    assert!(rt; made.with_nullability(alloc, NonNullable)? == *dtype);
     Ok(())
 }
 
@@ -46,17 +75,10 @@ fn each_kind_is_made_nullable_and_back(rt: HostRuntime) -> Result<(), Fail> {
     let alloc = rt.alloc();
     let texts = kind_texts(Nullable);
     for (dtype, text) in kinds(alloc, NonNullable)?.iter().zip(texts.iter()) {
-        assert!(rt; !dtype.is_nullable());
         let made = dtype.with_nullability(alloc, Nullable)?;
-        assert!(rt; made.is_nullable());
-        assert_eq!(rt; format!(in alloc; "{made}")?.as_str(), *text);
-        assert_eq!(rt; &dtype.as_nullable(alloc)?, &made);
-        assert_eq!(rt; &dtype.union_nullability(alloc, Nullable)?, &made);
-        assert_eq!(rt; &dtype.union_nullability(alloc, NonNullable)?, dtype);
-        assert!(rt; made.eq_ignore_nullability(dtype));
-        assert!(rt; made.can_be_nonnullable());
-        assert_eq!(rt; &made.with_nullability(alloc, NonNullable)?, dtype);
-        assert_eq!(rt; &made.as_nonnullable(alloc)?, dtype);
+        assert!(rt; is_printed(alloc, &made, text)?, "{made}");
+        is_set(&rt, alloc, dtype, &made)?;
+        is_joined(&rt, alloc, dtype, &made)?;
     }
     Ok(())
 }
@@ -105,16 +127,28 @@ fn metadata_counts_in_comparisons(rt: HostRuntime) -> Result<(), Fail> {
     let a = extension(alloc, b"a", DType::Utf8(Nullable))?;
     let b = extension(alloc, b"b", DType::Utf8(Nullable))?;
     assert!(rt; !a.eq_ignore_nullability(&b));
+    Ok(())
+}
+
+#[test]
+fn nullable_extensions_are_no_keys(rt: HostRuntime) -> Result<(), Fail> {
+    let alloc = rt.alloc();
     let none = extension(alloc, b"", DType::Utf8(Nullable))?;
-    assert_eq!(rt; format!(in alloc; "{none}")?.as_str(), "x.y[0B](utf8?)");
+    assert!(rt; is_printed(alloc, &none, "x.y[0B](utf8?)")?);
     let key = MapDType::try_new(alloc, none, DType::Null, false);
-    assert_eq!(rt; key.err(), Some(VortexError::MapKeyNullable));
+    assert!(rt; key.is_err_and(|refusal| refusal == VortexError::MapKeyNullable));
+    Ok(())
+}
+
+#[test]
+fn extensions_lend_their_parts(rt: HostRuntime) -> Result<(), Fail> {
+    let alloc = rt.alloc();
+    let a = extension(alloc, b"a", DType::Utf8(Nullable))?;
     let held = a.as_extension_opt().ok_or("none")?;
-    assert_eq!(rt; held.serialize_metadata(alloc)?.as_slice(), b"a".as_slice());
-    assert_eq!(rt;
-        format!(in alloc; "{}", held.display_metadata())?.as_str(),
-        "1B"
-    );
-    assert_eq!(rt; held.id().try_clone(alloc)?.as_str(), "x.y");
+    let metadata = held.serialize_metadata(alloc)?;
+    assert_eq!(rt; metadata.as_slice(), b"a".as_slice());
+    assert!(rt; is_printed(alloc, &held.display_metadata(), "1B")?);
+    let id = held.id().try_clone(alloc)?;
+    assert_eq!(rt; id.as_str(), "x.y");
     Ok(())
 }

@@ -1,3 +1,4 @@
+use crate::fixtures::is_printed;
 use dtype_base::Nullability::{NonNullable, Nullable};
 use dtype_base::PType;
 use dtype_types::{DType, MapDType};
@@ -7,18 +8,25 @@ use std::test::Fail;
 fn a_map_has_entries(rt: HostRuntime) -> Result<(), Fail> {
     let alloc = rt.alloc();
     let map = MapDType::try_new(alloc, DType::from(PType::I32), DType::Utf8(Nullable), true)?;
-    assert!(rt; map.key_dtype().is_int());
-    assert!(rt; map.value_dtype().is_utf8());
-    assert!(rt; map.keys_sorted());
-    assert_eq!(rt;
-        map.entries_dtype(alloc)?.to_string(alloc)?.as_str(),
-        "{key=i32, value=utf8?}"
+    assert!(rt; map.key_dtype().is_int() && map.value_dtype().is_utf8() && map.keys_sorted());
+    let entries = map.entries_dtype(alloc)?;
+    assert!(rt;
+        is_printed(alloc, &entries, "{key=i32, value=utf8?}")?,
+        "{entries}"
     );
+    Ok(())
+}
+
+#[test]
+fn a_copied_map_is_equal(rt: HostRuntime) -> Result<(), Fail> {
+    let alloc = rt.alloc();
+    let map = MapDType::try_new(alloc, DType::from(PType::I32), DType::Utf8(Nullable), true)?;
     let copy = map.try_clone(alloc)?;
     assert!(rt; copy == map);
-    assert_eq!(rt;
-        DType::Map(copy, NonNullable).to_string(alloc)?.as_str(),
-        "map(i32, utf8?, keys_sorted=true)"
+    let dtype = DType::Map(copy, NonNullable);
+    assert!(rt;
+        is_printed(alloc, &dtype, "map(i32, utf8?, keys_sorted=true)")?,
+        "{dtype}"
     );
     Ok(())
 }

@@ -1,7 +1,8 @@
 // Messages at work: worked examples, each refusal by a message that has that fault alone, and each call that
 // takes memory once with ample memory.
+use crate::fixtures::is_printed;
 use crate::sessions::tagging;
-use dtype_paths::{Field, FieldPath};
+use dtype_paths::FieldPath;
 use std::alloc::Global;
 use std::string::String;
 use std::test::Fail;
@@ -168,15 +169,19 @@ fn all_kinds(alloc: Global, metadata: &[u8]) -> VortexResult<pb::DType> {
 }
 
 // By which number the message is refused, if it is.
-fn refusal(alloc: Global, session: &DTypeSession, proto: &pb::DType) -> Option<u8> {
-    match DType::from_proto(alloc, proto, session) {
+fn refusal(
+    alloc: Global,
+    session: &DTypeSession,
+    proto: VortexResult<pb::DType>,
+) -> VortexResult<Option<u8>> {
+    Ok(match DType::from_proto(alloc, &proto?, session) {
         Ok(_) => None,
-        Err(e) => Some(e.number()),
-    }
+        Err(refused) => Some(refused.number()),
+    })
 }
 
 #[test]
-fn primitives_and_decimals_out_of_range_are_refused(rt: HostRuntime) -> Result<(), Fail> {
+fn primitives_out_of_range_are_refused(rt: HostRuntime) -> Result<(), Fail> {
     let alloc = rt.alloc();
     let session = tagging(alloc)?;
     for (ptype, number) in [
@@ -186,9 +191,17 @@ fn primitives_and_decimals_out_of_range_are_refused(rt: HostRuntime) -> Result<(
         (0, None),
         (10, None),
     ] {
-        assert_eq!(rt; refusal(alloc, &session, &primitive(ptype, false)), number);
+        let refused = refusal(alloc, &session, Ok(primitive(ptype, false)))?;
+        assert_eq!(rt; refused, number);
     }
-    let decimals = [
+    Ok(())
+}
+
+#[test]
+fn decimals_out_of_range_are_refused(rt: HostRuntime) -> Result<(), Fail> {
+    let alloc = rt.alloc();
+    let session = tagging(alloc)?;
+    for (precision, scale, number) in [
         (300, 0, Some(26)),
         (256, 0, Some(26)),
         (5, -129, Some(27)),
@@ -202,135 +215,146 @@ fn primitives_and_decimals_out_of_range_are_refused(rt: HostRuntime) -> Result<(
         (5, 5, None),
         (5, -128, None),
         (76, 76, None),
-    ];
-    for (precision, scale, number) in decimals {
-        assert_eq!(rt;
-            refusal(alloc, &session, &decimal(precision, scale, false)),
-            number
-        );
+    ] {
+        let refused = refusal(alloc, &session, Ok(decimal(precision, scale, false)))?;
+        assert_eq!(rt; refused, number);
     }
     Ok(())
 }
 
 #[test]
-fn messages_without_a_part_are_refused(rt: HostRuntime) -> Result<(), Fail> {
+fn lists_without_an_element_are_refused(rt: HostRuntime) -> Result<(), Fail> {
     let alloc = rt.alloc();
     let session = tagging(alloc)?;
-    assert_eq!(rt; refusal(alloc, &session, &nothing()), Some(24));
+    assert_eq!(rt; refusal(alloc, &session, Ok(nothing()))?, Some(24));
     assert_eq!(rt;
-        refusal(alloc, &session, &list(alloc, None, true)?),
+        refusal(alloc, &session, list(alloc, None, true))?,
         Some(28)
     );
-    assert_eq!(rt;
-        refusal(alloc, &session, &list(alloc, Some(nothing()), true)?),
-        Some(24)
-    );
-    assert_eq!(rt; refusal(alloc, &session, &fixed(alloc, None, 2)?), Some(29));
-    assert_eq!(rt;
-        refusal(alloc, &session, &map(alloc, None, Some(byte()), true)?),
-        Some(30)
-    );
-    assert_eq!(rt;
-        refusal(alloc, &session, &map(alloc, Some(byte()), None, true)?),
-        Some(31)
-    );
-    assert_eq!(rt;
-        refusal(alloc, &session, &map(alloc, Some(null()), None, true)?),
-        Some(31)
-    );
-    assert_eq!(rt;
-        refusal(
-            alloc,
-            &session,
-            &map(alloc, Some(null()), Some(byte()), true)?
-        ),
-        Some(9)
-    );
-    let nullable_key = map(alloc, Some(primitive(6, true)), Some(byte()), true)?;
-    assert_eq!(rt; refusal(alloc, &session, &nullable_key), Some(9));
-    let extended_key = map(
-        alloc,
-        Some(tagged(alloc, "x.tag", None)?),
-        Some(byte()),
-        true,
-    )?;
-    assert_eq!(rt; refusal(alloc, &session, &extended_key), Some(9));
-    assert_eq!(rt;
-        refusal(alloc, &session, &extension(alloc, "y", None, None)?),
-        Some(34)
-    );
-    assert_eq!(rt;
-        refusal(alloc, &session, &tagged(alloc, "y", Some(b"AB"))?),
-        Some(35)
-    );
-    assert_eq!(rt;
-        refusal(alloc, &session, &tagged(alloc, "x.tag", Some(b"a!"))?),
-        Some(22)
-    );
+    let of_nothing = list(alloc, Some(nothing()), true);
+    assert_eq!(rt; refusal(alloc, &session, of_nothing)?, Some(24));
+    assert_eq!(rt; refusal(alloc, &session, fixed(alloc, None, 2))?, Some(29));
     Ok(())
 }
 
 #[test]
-fn structs_and_unions_out_of_step_are_refused(rt: HostRuntime) -> Result<(), Fail> {
+fn maps_without_a_part_are_refused(rt: HostRuntime) -> Result<(), Fail> {
     let alloc = rt.alloc();
     let session = tagging(alloc)?;
-    assert_eq!(rt;
-        refusal(alloc, &session, &fields(alloc, &["a", "b"], 1)?),
-        Some(32)
-    );
-    assert_eq!(rt;
-        refusal(alloc, &session, &fields(alloc, &["a"], 2)?),
-        Some(32)
-    );
-    assert_eq!(rt;
-        refusal(alloc, &session, &union_of(alloc, &["d"], 1, &[256])?),
-        Some(33)
-    );
-    assert_eq!(rt;
-        refusal(alloc, &session, &union_of(alloc, &["d"], 1, &[-1])?),
-        Some(33)
-    );
-    assert_eq!(rt;
-        refusal(alloc, &session, &union_of(alloc, &["d"], 2, &[3])?),
-        Some(10)
-    );
-    assert_eq!(rt;
-        refusal(alloc, &session, &union_of(alloc, &["d"], 1, &[3, 4])?),
-        Some(11)
-    );
-    assert_eq!(rt;
-        refusal(alloc, &session, &union_of(alloc, &[], 0, &[])?),
-        Some(12)
-    );
-    assert_eq!(rt;
-        refusal(alloc, &session, &union_of(alloc, &["d", "e"], 2, &[3, 3])?),
-        Some(13)
-    );
-    assert_eq!(rt;
-        refusal(alloc, &session, &union_of(alloc, &["d", "d"], 2, &[3, 4])?),
-        Some(15)
-    );
-    assert_eq!(rt;
-        refusal(alloc, &session, &union_of(alloc, &["d", "e"], 2, &[3, 4])?),
-        None
-    );
+    let keyless = map(alloc, None, Some(byte()), true);
+    assert_eq!(rt; refusal(alloc, &session, keyless)?, Some(30));
+    let valueless = map(alloc, Some(byte()), None, true);
+    assert_eq!(rt; refusal(alloc, &session, valueless)?, Some(31));
+    let valueless = map(alloc, Some(null()), None, true);
+    assert_eq!(rt; refusal(alloc, &session, valueless)?, Some(31));
     Ok(())
+}
+
+#[test]
+fn maps_of_nullable_keys_are_refused(rt: HostRuntime) -> Result<(), Fail> {
+    let alloc = rt.alloc();
+    let session = tagging(alloc)?;
+    let of_null = map(alloc, Some(null()), Some(byte()), true);
+    assert_eq!(rt; refusal(alloc, &session, of_null)?, Some(9));
+    let of_nullable = map(alloc, Some(primitive(6, true)), Some(byte()), true);
+    assert_eq!(rt; refusal(alloc, &session, of_nullable)?, Some(9));
+    let of_extension = map(
+        alloc,
+        Some(tagged(alloc, "x.tag", None)?),
+        Some(byte()),
+        true,
+    );
+    assert_eq!(rt; refusal(alloc, &session, of_extension)?, Some(9));
+    Ok(())
+}
+
+#[test]
+fn extensions_without_a_storage_or_a_plugin_are_refused(rt: HostRuntime) -> Result<(), Fail> {
+    let alloc = rt.alloc();
+    let session = tagging(alloc)?;
+    let without_storage = extension(alloc, "y", None, None);
+    assert_eq!(rt; refusal(alloc, &session, without_storage)?, Some(34));
+    let unknown = tagged(alloc, "y", Some(b"AB"));
+    assert_eq!(rt; refusal(alloc, &session, unknown)?, Some(35));
+    let refused = tagged(alloc, "x.tag", Some(b"a!"));
+    assert_eq!(rt; refusal(alloc, &session, refused)?, Some(22));
+    Ok(())
+}
+
+#[test]
+fn structs_out_of_step_are_refused(rt: HostRuntime) -> Result<(), Fail> {
+    let alloc = rt.alloc();
+    let session = tagging(alloc)?;
+    let two_names = fields(alloc, &["a", "b"], 1);
+    assert_eq!(rt; refusal(alloc, &session, two_names)?, Some(32));
+    let two_types = fields(alloc, &["a"], 2);
+    assert_eq!(rt; refusal(alloc, &session, two_types)?, Some(32));
+    Ok(())
+}
+
+#[test]
+fn unions_out_of_step_are_refused(rt: HostRuntime) -> Result<(), Fail> {
+    let alloc = rt.alloc();
+    let session = tagging(alloc)?;
+    let cases: [(&[&str], usize, &[i32], Option<u8>); 8] = [
+        (&["d"], 1, &[256], Some(33)),
+        (&["d"], 1, &[-1], Some(33)),
+        (&["d"], 2, &[3], Some(10)),
+        (&["d"], 1, &[3, 4], Some(11)),
+        (&[], 0, &[], Some(12)),
+        (&["d", "e"], 2, &[3, 3], Some(13)),
+        (&["d", "d"], 2, &[3, 4], Some(15)),
+        (&["d", "e"], 2, &[3, 4], None),
+    ];
+    for (names, count, tags, number) in cases {
+        let refused = refusal(alloc, &session, union_of(alloc, names, count, tags))?;
+        assert_eq!(rt; refused, number);
+    }
+    Ok(())
+}
+
+fn read(
+    alloc: Global,
+    session: &DTypeSession,
+    proto: VortexResult<pb::DType>,
+) -> VortexResult<DType> {
+    DType::from_proto(alloc, &proto?, session)
+}
+
+// Whether the type is written as this message.
+fn is_written(alloc: Global, dtype: &DType, proto: VortexResult<pb::DType>) -> VortexResult<bool> {
+    Ok(dtype.to_proto(alloc)? == proto?)
+}
+
+// Whether what is written of the type is read as the type.
+fn is_read_back(alloc: Global, session: &DTypeSession, dtype: &DType) -> VortexResult<bool> {
+    Ok(read(alloc, session, dtype.to_proto(alloc))? == *dtype)
 }
 
 #[test]
 fn extensions_are_kept_as_the_plugin_writes_them(rt: HostRuntime) -> Result<(), Fail> {
     let alloc = rt.alloc();
     let session = tagging(alloc)?;
-    let read = DType::from_proto(alloc, &tagged(alloc, "x.tag", Some(b"AB"))?, &session)?;
-    assert_eq!(rt; format!(in alloc; "{read}")?.as_str(), "x.tag[2B](utf8?)");
-    assert_eq!(rt; kept_bytes(&read), Some(b"ab".as_slice()));
-    let written = read.to_proto(alloc)?;
-    assert!(rt; written == tagged(alloc, "x.tag", Some(b"ab"))?);
-    assert!(rt; DType::from_proto(alloc, &written, &session)? == read);
-    assert!(rt; DType::from_proto(alloc, &tagged(alloc, "x.tag", Some(b"ab"))?, &session)? == read);
-    let empty = DType::from_proto(alloc, &tagged(alloc, "x.tag", None)?, &session)?;
-    assert_eq!(rt; format!(in alloc; "{empty}")?.as_str(), "x.tag[0B](utf8?)");
-    assert!(rt; empty.to_proto(alloc)? == tagged(alloc, "x.tag", Some(b""))?);
+    let capitals = read(alloc, &session, tagged(alloc, "x.tag", Some(b"AB")))?;
+    assert!(rt;
+        is_printed(alloc, &capitals, "x.tag[2B](utf8?)")?,
+        "{capitals}"
+    );
+    assert_eq!(rt; kept_bytes(&capitals), Some(b"ab".as_slice()));
+    assert!(rt; is_written(alloc, &capitals, tagged(alloc, "x.tag", Some(b"ab")))?);
+    assert!(rt; is_read_back(alloc, &session, &capitals)?);
+    let lowered = read(alloc, &session, tagged(alloc, "x.tag", Some(b"ab")))?;
+    assert!(rt; lowered == capitals);
+    Ok(())
+}
+
+#[test]
+fn missing_metadata_is_empty(rt: HostRuntime) -> Result<(), Fail> {
+    let alloc = rt.alloc();
+    let session = tagging(alloc)?;
+    let empty = read(alloc, &session, tagged(alloc, "x.tag", None))?;
+    assert!(rt; is_printed(alloc, &empty, "x.tag[0B](utf8?)")?, "{empty}");
+    assert!(rt; is_written(alloc, &empty, tagged(alloc, "x.tag", Some(b"")))?);
     Ok(())
 }
 
@@ -347,9 +371,9 @@ fn unknown_ids_are_kept_where_they_are_allowed(rt: HostRuntime) -> Result<(), Fa
     let alloc = rt.alloc();
     let mut session = tagging(alloc)?;
     session.allow_unknown();
-    let unknown = DType::from_proto(alloc, &tagged(alloc, "y", Some(b"AB"))?, &session)?;
+    let unknown = read(alloc, &session, tagged(alloc, "y", Some(b"AB")))?;
     assert_eq!(rt; kept_bytes(&unknown), Some(b"AB".as_slice()));
-    assert!(rt; unknown.to_proto(alloc)? == tagged(alloc, "y", Some(b"AB"))?);
+    assert!(rt; is_written(alloc, &unknown, tagged(alloc, "y", Some(b"AB")))?);
     Ok(())
 }
 
@@ -357,19 +381,35 @@ fn unknown_ids_are_kept_where_they_are_allowed(rt: HostRuntime) -> Result<(), Fa
 fn every_kind_is_written_and_read_back(rt: HostRuntime) -> Result<(), Fail> {
     let alloc = rt.alloc();
     let session = tagging(alloc)?;
-    let read = DType::from_proto(alloc, &all_kinds(alloc, b"AB")?, &session)?;
-    assert_eq!(rt;
-        format!(in alloc; "{read}")?.as_str(),
-        "{n=null, b=bool?, p=f32, d=decimal(10,-5)?, t=utf8, y=binary?, l=list(u8)?, f=fixed_size_list(u8)[4294967295], m=map(u8, utf8?, keys_sorted=true)?, s={a=u8, a=u8}?, u=union(d@3=u8, e@255=u8), v=variant?, x=x.tag[2B](utf8?)}"
-    );
-    let written = read.to_proto(alloc)?;
-    assert!(rt; written == all_kinds(alloc, b"ab")?);
-    assert!(rt; DType::from_proto(alloc, &written, &session)? == read);
-    let copy = written.try_clone(alloc)?;
-    assert!(rt; copy == written);
-    assert!(rt; copy != all_kinds(alloc, b"AB")?);
-    assert!(rt; dtype_uses::stored::stored_and_read_back(alloc, &read, &session)? == read);
-    assert!(rt; dtype_uses::stored::is_kept_by_storing(alloc, &copy, &session)?);
+    let all = read(alloc, &session, all_kinds(alloc, b"AB"))?;
+    let text =
+        "{n=null, b=bool?, p=f32, d=decimal(10,-5)?, t=utf8, y=binary?, l=list(u8)?, f=fixed_size_list(u8)[4294967295], m=map(u8, utf8?, keys_sorted=true)?, s={a=u8, a=u8}?, u=union(d@3=u8, e@255=u8), v=variant?, x=x.tag[2B](utf8?)}";
+    assert!(rt; is_printed(alloc, &all, text)?, "{all}");
+    assert!(rt; is_written(alloc, &all, all_kinds(alloc, b"ab"))?);
+    assert!(rt; is_read_back(alloc, &session, &all)?);
+    Ok(())
+}
+
+#[test]
+fn a_copied_message_is_equal(rt: HostRuntime) -> Result<(), Fail> {
+    let alloc = rt.alloc();
+    let lowered = all_kinds(alloc, b"ab")?;
+    let copy = lowered.try_clone(alloc)?;
+    assert!(rt; copy == lowered);
+    let capitals = all_kinds(alloc, b"AB")?;
+    assert!(rt; copy != capitals);
+    Ok(())
+}
+
+#[test]
+fn every_kind_is_kept_by_storing(rt: HostRuntime) -> Result<(), Fail> {
+    let alloc = rt.alloc();
+    let session = tagging(alloc)?;
+    let lowered = all_kinds(alloc, b"ab")?;
+    assert!(rt; dtype_uses::stored::is_kept_by_storing(alloc, &lowered, &session)?);
+    let all = DType::from_proto(alloc, &lowered, &session)?;
+    let stored = dtype_uses::stored::stored_and_read_back(alloc, &all, &session)?;
+    assert!(rt; stored == all);
     Ok(())
 }
 
@@ -418,28 +458,34 @@ fn named(alloc: Global, name: &str) -> VortexResult<pb::Field> {
     })
 }
 
+fn message_of(alloc: Global, names: &[&str]) -> VortexResult<pb::FieldPath> {
+    let mut path = Vec::new(alloc);
+    for name in names {
+        path.push(named(alloc, name)?)?;
+    }
+    Ok(pb::FieldPath { path })
+}
+
 #[test]
 fn paths_are_read_by_their_names(rt: HostRuntime) -> Result<(), Fail> {
     let alloc = rt.alloc();
-    let mut path = Vec::new(alloc);
-    path.push(named(alloc, "a")?)?;
-    path.push(named(alloc, "b")?)?;
-    let proto = pb::FieldPath { path };
-    let mut parts = Vec::new(alloc);
-    parts.push(Field::Name(FieldName::new(alloc, "a")?))?;
-    parts.push(Field::Name(FieldName::new(alloc, "b")?))?;
-    assert!(rt; FieldPath::from_proto(alloc, &proto)? == FieldPath::from_vec(parts));
+    let path = FieldPath::from_proto(alloc, &message_of(alloc, &["a", "b"])?)?;
+    let names = FieldPath::from_texts(alloc, &["a", "b"])?;
+    assert!(rt; path == names);
+    let root = FieldPath::from_proto(alloc, &message_of(alloc, &[])?)?;
+    assert!(rt; root.is_root());
+    Ok(())
+}
+
+#[test]
+fn paths_without_a_part_are_refused(rt: HostRuntime) -> Result<(), Fail> {
+    let alloc = rt.alloc();
+    let proto = message_of(alloc, &["a", "b"])?;
     let mut copy = proto.try_clone(alloc)?;
     assert!(rt; copy == proto);
     copy.path.push(pb::Field { field_type: None })?;
     assert!(rt; copy != proto);
-    assert_eq!(rt;
-        FieldPath::from_proto(alloc, &copy).err(),
-        Some(VortexError::Message(MessageFault::PathPartMissing))
-    );
-    let root = pb::FieldPath {
-        path: Vec::new(alloc),
-    };
-    assert!(rt; FieldPath::from_proto(alloc, &root)?.is_root());
+    let refused = FieldPath::from_proto(alloc, &copy);
+    assert!(rt; refused.is_err_and(|it| it == VortexError::Message(MessageFault::PathPartMissing)));
     Ok(())
 }

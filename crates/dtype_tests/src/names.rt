@@ -1,57 +1,79 @@
+use crate::fixtures::is_printed;
 use dtype_base::{FieldName, FieldNames, RESERVED_VALIDITY_FIELD_NAME};
 use std::collections::HashSet;
+use std::process::Abort;
 use std::rc::RcStr;
 use std::test::Fail;
+
+fn is_the_reserved_name(rt: &impl Abort, name: FieldName) {
+    assert_eq!(rt; name.as_str(), "$__vortex_validity");
+    assert_eq!(rt; name.inner().as_str(), "$__vortex_validity");
+    assert_eq!(rt; name.into_inner().as_str(), "$__vortex_validity");
+}
 
 #[test]
 fn names_are_texts(rt: HostRuntime) -> Result<(), Fail> {
     let alloc = rt.alloc();
     let name = FieldName::new(alloc, "a\nb")?;
-    assert_eq!(rt; name.to_text(alloc)?.as_str(), "a\nb");
-    assert_eq!(rt; name.try_clone(alloc)?, name);
     assert!(rt; name.eq_str("a\nb") && !name.eq_str("a"));
-    assert!(rt; FieldName::new(alloc, "a")? < name);
-    let shared = FieldName::from_inner(RcStr::from_str(alloc, RESERVED_VALIDITY_FIELD_NAME)?);
-    assert_eq!(rt; shared.as_str(), "$__vortex_validity");
-    assert_eq!(rt; shared.inner().as_str(), "$__vortex_validity");
-    assert_eq!(rt; shared.into_inner().as_str(), "$__vortex_validity");
+    let text = name.to_text(alloc)?;
+    assert_eq!(rt; text.as_str(), "a\nb");
+    let copy = name.try_clone(alloc)?;
+    let beginning = FieldName::new(alloc, "a")?;
+    assert!(rt; copy == name && beginning < name);
+    let shared = RcStr::from_str(alloc, RESERVED_VALIDITY_FIELD_NAME)?;
+    is_the_reserved_name(&rt, FieldName::from_inner(shared));
     Ok(())
+}
+
+fn is_a_list(rt: &impl Abort, names: &FieldNames) {
+    assert_eq!(rt; names.len(), 3);
+    assert_eq!(rt; names.find("a"), Some(0));
+    assert_eq!(rt; names.find("c"), None);
+    assert!(rt; names.eq_texts(&["a", "b\"", "a"]) && !names.eq_texts(&["a", "a", "b\""]));
 }
 
 #[test]
 fn name_lists_are_lists(rt: HostRuntime) -> Result<(), Fail> {
     let alloc = rt.alloc();
     let names = FieldNames::from_texts(alloc, &["a", "b\"", "a"])?;
-    assert_eq!(rt; names.len(), 3);
+    is_a_list(&rt, &names);
     assert_eq!(rt; names[1].as_str(), "b\"");
-    assert_eq!(rt; names.find("a"), Some(0));
-    assert_eq!(rt; names.find("c"), None);
-    assert!(rt; names.eq_texts(&["a", "b\"", "a"]));
-    assert!(rt; !names.eq_texts(&["a", "a", "b\""]));
-    assert_eq!(rt;
-        names.to_string(alloc)?.as_str(),
-        "[\"a\", \"b\\\"\", \"a\"]"
+    assert!(rt;
+        is_printed(alloc, &names, "[\"a\", \"b\\\"\", \"a\"]")?,
+        "{names}"
     );
-    assert_eq!(rt; FieldNames::empty(alloc).to_string(alloc)?.as_str(), "[]");
-    let mut seen = HashSet::new(alloc);
-    assert!(rt; seen.insert(names.try_clone(alloc)?)?);
-    assert!(rt; seen.contains(&names));
+    assert!(rt; is_printed(alloc, &FieldNames::empty(alloc), "[]")?);
     Ok(())
+}
+
+#[test]
+fn name_lists_are_kept_in_hash_sets(rt: HostRuntime) -> Result<(), Fail> {
+    let alloc = rt.alloc();
+    let names = FieldNames::from_texts(alloc, &["a", "b"])?;
+    let mut seen = HashSet::new(alloc);
+    let is_new = seen.insert(names.try_clone(alloc)?)?;
+    assert!(rt; is_new && seen.contains(&names));
+    Ok(())
+}
+
+fn lends_two_names(rt: &impl Abort, names: &FieldNames) {
+    let mut lent = names.iter();
+    assert_eq!(rt; lent.size_hint(), (2, Some(2)));
+    assert!(rt; lent.next().is_some_and(|name| name.eq_str("a")));
+    assert_eq!(rt; lent.len(), 1);
 }
 
 #[test]
 fn names_are_iterated_in_order(rt: HostRuntime) -> Result<(), Fail> {
     let alloc = rt.alloc();
     let names = FieldNames::from_texts(alloc, &["a", "b"])?;
-    let mut lent = names.iter();
-    assert_eq!(rt; lent.size_hint(), (2, Some(2)));
-    assert!(rt; lent.next().is_some_and(|name| name.eq_str("a")));
-    assert_eq!(rt; lent.len(), 1);
+    lends_two_names(&rt, &names);
     let copy = FieldNames::from_iter(alloc, names.try_clone(alloc)?)?;
-    assert_eq!(rt; copy, names);
+    assert!(rt; copy == names);
     let mut owned = names.into_iter();
     assert_eq!(rt; owned.len(), 2);
-    assert_eq!(rt; owned.next(), Some(FieldName::new(alloc, "a")?));
+    assert!(rt; owned.next().is_some_and(|name| name.eq_str("a")));
     assert_eq!(rt; owned.size_hint(), (1, Some(1)));
     Ok(())
 }

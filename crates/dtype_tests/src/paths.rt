@@ -1,7 +1,7 @@
 ghost use Rattle.std.specs.Prelude.{◌≡◌, IfOk, [], ◌∷◌, codes};
 ghost use Rattle.dtype_paths.specs.declared.field.Field.{Field};
 
-use crate::fixtures::{extension, fixed_size_list, record};
+use crate::fixtures::{extension, fixed_size_list, is_printed, path, record};
 use dtype_base::{FieldName, FieldNames, Nullability, PType, VortexResult};
 use dtype_paths::{Field, FieldPath, field_path};
 use dtype_types::{DType, MapDType, StructFields};
@@ -11,10 +11,6 @@ use std::test::Fail;
 const REQUIRED: Nullability = Nullability::NonNullable;
 
 const NULLABLE: Nullability = Nullability::Nullable;
-
-fn name(alloc: Global, text: &str) -> VortexResult<Field> {
-    Ok(Field::Name(FieldName::new(alloc, text)?))
-}
 
 // The path of so many elements.
 fn elements(alloc: Global, count: usize) -> VortexResult<FieldPath> {
@@ -40,26 +36,28 @@ fn list_of_nullable_numbers(alloc: Global) -> VortexResult<DType> {
     record(alloc, "a", inner, REQUIRED)
 }
 
+// Whether the path leads to this type.
+fn leads_to(alloc: Global, text: &str, dtype: &DType, to: &DType) -> VortexResult<bool> {
+    let path = path(alloc, text)?;
+    Ok(path.resolve(dtype) == Some(to) && path.exists_in(dtype))
+}
+
+// Whether the path leads to nothing.
+fn leads_nowhere(alloc: Global, text: &str, dtype: &DType) -> VortexResult<bool> {
+    let path = path(alloc, text)?;
+    Ok(path.resolve(dtype).is_none() && !path.exists_in(dtype))
+}
+
 #[test]
 fn a_child_keeps_its_own_nullability(rt: HostRuntime) -> Result<(), Fail> {
     let alloc = rt.alloc();
     let dtype = list_of_records(alloc)?;
-    let parts = vec![in alloc; name(alloc, "a")?, Field::ElementType, name(alloc, "b")?]?;
-    let path = FieldPath::from_vec(parts);
     let number = DType::Primitive(PType::U32, REQUIRED);
-    assert_eq!(rt; path.resolve(&dtype), Some(&number));
-    assert!(rt; path.exists_in(&dtype));
-
+    assert!(rt; leads_to(alloc, "a.[].b", &dtype, &number)?);
     let dtype = list_of_nullable_numbers(alloc)?;
-    let parts = vec![in alloc;
-        name(alloc, "a")?,
-        name(alloc, "b")?,
-        Field::ElementType,
-        name(alloc, "c")?,
-    ]?;
     let number = DType::Primitive(PType::F64, NULLABLE);
-    assert_eq!(rt; FieldPath::from_vec(parts).resolve(&dtype), Some(&number));
-    assert_eq!(rt; FieldPath::root(alloc).resolve(&dtype), Some(&dtype));
+    assert!(rt; leads_to(alloc, "a.b.[].c", &dtype, &number)?);
+    assert!(rt; leads_to(alloc, "", &dtype, &dtype)?);
     Ok(())
 }
 
@@ -67,15 +65,7 @@ fn a_child_keeps_its_own_nullability(rt: HostRuntime) -> Result<(), Fail> {
 fn nothing_else_steps(rt: HostRuntime) -> Result<(), Fail> {
     let alloc = rt.alloc();
     let dtype = list_of_nullable_numbers(alloc)?;
-    let parts = vec![in alloc;
-        name(alloc, "a")?,
-        name(alloc, "b")?,
-        name(alloc, "c")?,
-        Field::ElementType,
-    ]?;
-    let path = FieldPath::from_vec(parts);
-    assert_eq!(rt; path.resolve(&dtype), None);
-    assert!(rt; !path.exists_in(&dtype));
+    assert!(rt; leads_nowhere(alloc, "a.b.c.[]", &dtype)?);
     Ok(())
 }
 
@@ -95,14 +85,10 @@ fn rows_of_records(alloc: Global) -> VortexResult<DType> {
 fn fixed_size_lists_are_entered(rt: HostRuntime) -> Result<(), Fail> {
     let alloc = rt.alloc();
     let dtype = rows_of_records(alloc)?;
-    let leaf = record(alloc, "b", DType::Primitive(PType::U32, REQUIRED), REQUIRED)?;
-    let element = field_path!(alloc, "a")?.push(Field::ElementType)?;
-    assert_eq!(rt; element.resolve(&dtype), Some(&leaf));
-    let field = element.push(name(alloc, "b")?)?;
-    assert_eq!(rt;
-        field.resolve(&dtype),
-        Some(&DType::Primitive(PType::U32, REQUIRED))
-    );
+    let number = DType::Primitive(PType::U32, REQUIRED);
+    assert!(rt; leads_to(alloc, "a.[].b", &dtype, &number)?);
+    let leaf = record(alloc, "b", number, REQUIRED)?;
+    assert!(rt; leads_to(alloc, "a.[]", &dtype, &leaf)?);
     Ok(())
 }
 
@@ -111,19 +97,19 @@ fn fixed_size_lists_of_none_are_entered(rt: HostRuntime) -> Result<(), Fail> {
     let alloc = rt.alloc();
     let number = DType::Primitive(PType::U32, REQUIRED);
     let empty = fixed_size_list(alloc, number.try_clone(alloc)?, 0, REQUIRED)?;
-    assert_eq!(rt; elements(alloc, 1)?.resolve(&empty), Some(&number));
+    assert!(rt; leads_to(alloc, "[]", &empty, &number)?);
     Ok(())
 }
 
 #[test]
 fn maps_and_extensions_are_not_entered(rt: HostRuntime) -> Result<(), Fail> {
     let alloc = rt.alloc();
-    let element = elements(alloc, 1)?;
     let list = DType::list(alloc, DType::Primitive(PType::U32, REQUIRED), REQUIRED)?;
-    assert_eq!(rt; element.resolve(&extension(alloc, b"", list)?), None);
-    assert_eq!(rt; element.resolve(&map_of_texts(alloc)?), None);
-    let key = FieldPath::from_vec(vec![in alloc; name(alloc, "key")?]?);
-    assert_eq!(rt; key.resolve(&map_of_texts(alloc)?), None);
+    let extension = extension(alloc, b"", list)?;
+    assert!(rt; leads_nowhere(alloc, "[]", &extension)?);
+    let map = map_of_texts(alloc)?;
+    assert!(rt; leads_nowhere(alloc, "[]", &map)?);
+    assert!(rt; leads_nowhere(alloc, "key", &map)?);
     Ok(())
 }
 
@@ -135,57 +121,45 @@ fn paths_reach_through_200_lists(rt: HostRuntime) -> Result<(), Fail> {
         dtype = DType::list(alloc, dtype, REQUIRED)?;
     }
     let last = DType::list(alloc, DType::BYTES, REQUIRED)?;
-    assert_eq!(rt; elements(alloc, 199)?.resolve(&dtype), Some(&last));
-    assert_eq!(rt; elements(alloc, 200)?.resolve(&dtype), Some(&DType::BYTES));
-    assert_eq!(rt; elements(alloc, 201)?.resolve(&dtype), None);
+    assert!(rt; elements(alloc, 199)?.resolve(&dtype) == Some(&last));
+    assert!(rt; elements(alloc, 200)?.resolve(&dtype) == Some(&DType::BYTES));
+    assert!(rt; elements(alloc, 201)?.resolve(&dtype).is_none());
     Ok(())
 }
 
 #[test]
 fn a_repeated_name_means_the_first_field(rt: HostRuntime) -> Result<(), Fail> {
     let alloc = rt.alloc();
-    let names = vec![in alloc; FieldName::new(alloc, "n")?, FieldName::new(alloc, "n")?]?;
+    let names = FieldNames::from_texts(alloc, &["n", "n"])?;
     let dtypes = vec![in alloc; DType::Bool(NULLABLE), DType::Utf8(REQUIRED)]?;
-    let fields = StructFields::new(alloc, FieldNames::from_vec(names), dtypes)?;
-    let dtype = DType::Struct(fields, REQUIRED);
-    let path = FieldPath::from_vec(vec![in alloc; name(alloc, "n")?]?);
-    assert_eq!(rt; path.resolve(&dtype), Some(&DType::Bool(NULLABLE)));
+    let dtype = DType::Struct(StructFields::new(alloc, names, dtypes)?, REQUIRED);
+    assert!(rt; leads_to(alloc, "n", &dtype, &DType::Bool(NULLABLE))?);
     Ok(())
 }
 
 #[test]
 fn paths_are_printed_by_their_parts(rt: HostRuntime) -> Result<(), Fail> {
     let alloc = rt.alloc();
-    let root = FieldPath::root(alloc);
-    let names = FieldPath::from_vec(vec![in alloc;
-        name(alloc, "A")?,
-        name(alloc, "B")?,
-        name(alloc, "C")?,
-    ]?);
-    let element = elements(alloc, 1)?;
-    let brackets = FieldPath::from_vec(vec![in alloc; name(alloc, "[]")?]?);
-    let escaped = FieldPath::from_vec(vec![in alloc;
-        Field::ElementType,
-        name(alloc, "")?,
-        name(alloc, "a\nb")?,
-    ]?);
-    for (path, want) in [
-        (&root, ""),
-        (&names, "$A.$B.$C"),
-        (&element, "[]"),
-        (&brackets, "$[]"),
-        (&escaped, "[].$.$a\\nb"),
+    for (text, want) in [
+        ("", ""),
+        ("A.B.C", "$A.$B.$C"),
+        ("[]", "[]"),
+        ("[]..a\nb", "[].$.$a\\nb"),
     ] {
-        assert_eq!(rt; path.to_string(alloc)?.as_str(), want);
+        assert!(rt; is_printed(alloc, &path(alloc, text)?, want)?, "{want}");
     }
-    assert!(rt; root.is_root());
-    assert!(rt; !element.is_root());
-    assert_eq!(rt; names.parts().len(), 3);
-    assert_ne!(rt; element, brackets);
-    assert_eq!(rt;
-        brackets,
-        FieldPath::from_vec(vec![in alloc; name(alloc, "[]")?]?)
-    );
+    Ok(())
+}
+
+#[test]
+fn the_element_is_no_name(rt: HostRuntime) -> Result<(), Fail> {
+    let alloc = rt.alloc();
+    let element = elements(alloc, 1)?;
+    let brackets = field_path!(alloc, "[]")?;
+    assert!(rt; is_printed(alloc, &brackets, "$[]")?);
+    assert!(rt; element != brackets);
+    assert!(rt; !element.is_root() && FieldPath::root(alloc).is_root());
+    assert_eq!(rt; brackets.parts().len(), 1);
     Ok(())
 }
 
@@ -199,27 +173,49 @@ fn path_of_a_and_b(alloc: Global) -> VortexResult<FieldPath>
 #[test]
 fn a_path_is_made_of_its_names(rt: HostRuntime) -> Result<(), Fail> {
     let alloc = rt.alloc();
-    let parts = vec![in alloc; name(alloc, "a")?, name(alloc, "b")?]?;
-    assert_eq!(rt; path_of_a_and_b(alloc)?, FieldPath::from_vec(parts));
-    let first = FieldName::new(alloc, "a")?;
-    assert_eq!(rt;
-        field_path!(alloc, "a")?,
-        FieldPath::from_name(alloc, first)?
-    );
+    let parts = vec![in alloc;
+        Field::from_text(alloc, "a")?,
+        Field::from_text(alloc, "b")?,
+    ]?;
+    let path = path_of_a_and_b(alloc)?;
+    assert!(rt; path == FieldPath::from_vec(parts));
+    let named = FieldPath::from_name(alloc, FieldName::new(alloc, "a")?)?;
+    assert!(rt; named == field_path!(alloc, "a")?);
     Ok(())
+}
+
+// The path of a field, and then another.
+fn pushed(alloc: Global, first: Field, second: Field) -> VortexResult<FieldPath> {
+    FieldPath::from_field(alloc, first)?.push(second)
 }
 
 #[test]
 fn paths_are_made_in_several_ways(rt: HostRuntime) -> Result<(), Fail> {
     let alloc = rt.alloc();
     let by_names = field_path!(alloc, "a", "b")?;
-    let pushed = FieldPath::from_field(alloc, name(alloc, "a")?)?.push(name(alloc, "b")?)?;
-    assert_eq!(rt; pushed, by_names);
-    let parts = vec![in alloc; name(alloc, "a")?, name(alloc, "b")?]?;
-    assert_eq!(rt; FieldPath::from_iter(alloc, parts)?, by_names);
-    assert_eq!(rt; by_names.try_clone()?, by_names);
-    let element = FieldPath::root(alloc).push(Field::ElementType)?;
-    assert_eq!(rt; element, FieldPath::from_field(alloc, Field::ElementType)?);
+    let pushed = pushed(
+        alloc,
+        Field::from_text(alloc, "a")?,
+        Field::from_text(alloc, "b")?,
+    )?;
+    assert!(rt; pushed == by_names);
+    let parts = vec![in alloc;
+        Field::from_text(alloc, "a")?,
+        Field::from_text(alloc, "b")?,
+    ]?;
+    let collected = FieldPath::from_iter(alloc, parts)?;
+    assert!(rt; collected == by_names);
+    let copy = by_names.try_clone()?;
+    assert!(rt; copy == by_names);
+    Ok(())
+}
+
+#[test]
+fn the_path_of_the_element(rt: HostRuntime) -> Result<(), Fail> {
+    let alloc = rt.alloc();
+    let pushed = FieldPath::root(alloc).push(Field::ElementType)?;
+    let element = FieldPath::from_field(alloc, Field::ElementType)?;
+    assert!(rt; pushed == element);
     Ok(())
 }
 
@@ -229,10 +225,11 @@ fn fields_by_their_names(rt: HostRuntime) -> Result<(), Fail> {
     let a = Field::from_text(alloc, "a")?;
     assert_eq!(rt; a.as_name(), Some("a"));
     assert_eq!(rt; Field::ElementType.as_name(), None);
-    assert!(rt; a.is_named());
-    assert!(rt; !Field::ElementType.is_named());
-    assert_eq!(rt; Field::from(FieldName::new(alloc, "a")?), a);
-    assert_eq!(rt; a.try_clone(alloc)?, a);
+    assert!(rt; a.is_named() && !Field::ElementType.is_named());
+    let named = Field::from(FieldName::new(alloc, "a")?);
+    assert!(rt; named == a);
+    let copy = a.try_clone(alloc)?;
+    assert!(rt; copy == a);
     Ok(())
 }
 
@@ -255,8 +252,9 @@ fn paths_overlap_where_one_begins_the_other(rt: HostRuntime) -> Result<(), Fail>
 #[test]
 fn a_path_steps_behind_its_first_part(rt: HostRuntime) -> Result<(), Fail> {
     let alloc = rt.alloc();
-    let path = field_path!(alloc, "a", "b")?;
-    assert_eq!(rt; path.step_into(), Some(field_path!(alloc, "b")?));
-    assert_eq!(rt; FieldPath::root(alloc).step_into(), None);
+    let rest = field_path!(alloc, "b")?;
+    let stepped = field_path!(alloc, "a", "b")?.step_into();
+    assert!(rt; stepped == Some(rest));
+    assert!(rt; FieldPath::root(alloc).step_into().is_none());
     Ok(())
 }

@@ -1,6 +1,8 @@
 // Sessions, plugins and typed extensions at work.
+use crate::fixtures::is_printed;
 use crate::plugins::{AllKept, Tag, TagName, TextAlone};
 use std::alloc::Global;
+use std::process::Abort;
 use std::test::Fail;
 use vortex_dtype::{
     DType, DTypeSession, ExtDType, ExtDTypePlugin, ExtDTypeRef, ExtId, ExtVTable, ForeignExtDType,
@@ -34,30 +36,33 @@ fn tag_name(alloc: Global, bytes: &[u8]) -> VortexResult<TagName> {
     Ok(TagName(Vec::from_slice(alloc, bytes)?))
 }
 
+// That the session refuses this metadata over this storage.
+fn is_refused(rt: &impl Abort, session: &DTypeSession, id: &str, metadata: &[u8], storage: DType) {
+    let made = session.deserialize(id, metadata, storage);
+    assert!(rt; made.is_err_and(|refusal| refusal == VortexError::MetadataRefused));
+}
+
 #[test]
 fn plugins_rewrite_metadata_or_refuse_it(rt: HostRuntime) -> Result<(), Fail> {
     let alloc = rt.alloc();
     let mut session = tagging(alloc)?;
     let read = session.deserialize("x.tag", b"AB", DType::Utf8(NULLABLE))?;
     assert_eq!(rt; read.metadata_bytes(), b"ab".as_slice());
-    assert_eq!(rt; format!(in alloc; "{read}")?.as_str(), "x.tag[2B](utf8?)");
+    assert!(rt; is_printed(alloc, &read, "x.tag[2B](utf8?)")?, "{read}");
     session.allow_unknown();
-    let refused = session.deserialize("x.tag", b"a!", DType::Utf8(NULLABLE));
-    assert_eq!(rt; refused.err(), Some(VortexError::MetadataRefused));
-    let refused = session.deserialize("x.text", b"", DType::Bool(REQUIRED));
-    assert_eq!(rt; refused.err(), Some(VortexError::MetadataRefused));
-    let refused = session.deserialize("x.text", b"a", DType::Utf8(REQUIRED));
-    assert_eq!(rt; refused.err(), Some(VortexError::MetadataRefused));
-    assert!(rt;
-        session
-            .deserialize("x.text", b"", DType::Utf8(REQUIRED))
-            .is_ok()
-    );
-    assert!(rt;
-        session
-            .deserialize("x.text", b"", DType::Utf8(NULLABLE))
-            .is_ok()
-    );
+    is_refused(&rt, &session, "x.tag", b"a!", DType::Utf8(NULLABLE));
+    is_refused(&rt, &session, "x.text", b"", DType::Bool(REQUIRED));
+    is_refused(&rt, &session, "x.text", b"a", DType::Utf8(REQUIRED));
+    Ok(())
+}
+
+#[test]
+fn texts_of_either_nullability_are_taken(rt: HostRuntime) -> Result<(), Fail> {
+    let session = tagging(rt.alloc())?;
+    for n in [REQUIRED, NULLABLE] {
+        let read = session.deserialize("x.text", b"", DType::Utf8(n))?;
+        assert_eq!(rt; read.nullability(), n);
+    }
     Ok(())
 }
 
@@ -120,66 +125,85 @@ fn a_refused_downcast_hands_back_an_equal_value(rt: HostRuntime) -> Result<(), F
     Ok(())
 }
 
+fn tag(alloc: Global, bytes: &[u8]) -> VortexResult<ExtDType<Tag>> {
+    ExtDType::try_with_vtable(alloc, Tag, tag_name(alloc, bytes)?, DType::Utf8(REQUIRED))
+}
+
 #[test]
-fn typed_extensions_are_erased_and_read_back(rt: HostRuntime) -> Result<(), Fail> {
+fn typed_extensions_have_their_parts(rt: HostRuntime) -> Result<(), Fail> {
     let alloc = rt.alloc();
     let typed = ExtDType::<Tag>::try_new(alloc, tag_name(alloc, b"ab")?, DType::Utf8(REQUIRED))?;
     assert_eq!(rt; typed.id(), "x.tag");
     assert_eq!(rt; typed.vtable().id(), "x.tag");
-    assert_eq!(rt;
-        typed.serialize_metadata(alloc)?.as_slice(),
-        b"ab".as_slice()
-    );
+    let metadata = typed.serialize_metadata(alloc)?;
+    assert_eq!(rt; metadata.as_slice(), b"ab".as_slice());
     let nullable = typed.with_nullability(alloc, NULLABLE)?;
-    assert_eq!(rt;
-        format!(in alloc; "{nullable}")?.as_str(),
-        "x.tag[2B](utf8?)"
+    assert!(rt;
+        is_printed(alloc, &nullable, "x.tag[2B](utf8?)")?,
+        "{nullable}"
     );
-    let bare = typed.erased(alloc)?;
-    assert!(rt; bare == erased(alloc, "x.tag", b"ab")?);
+    Ok(())
+}
+
+#[test]
+fn typed_extensions_are_erased_and_read_back(rt: HostRuntime) -> Result<(), Fail> {
+    let alloc = rt.alloc();
+    let bare = tag(alloc, b"ab")?.erased(alloc)?;
+    let same = erased(alloc, "x.tag", b"ab")?;
+    assert!(rt; bare == same);
     assert!(rt; ExtDType::try_downcast(alloc, bare, Tag).is_ok());
-    let typed = ExtDType::try_with_vtable(
-        alloc,
-        Tag,
-        tag_name(alloc, b"AB")?,
-        DType::Utf8(REQUIRED),
-    )?;
-    assert_eq!(rt;
-        typed.serialize_metadata(alloc).err(),
-        Some(VortexError::MetadataRefused)
-    );
-    assert_eq!(rt;
-        typed.erased(alloc).err(),
-        Some(VortexError::MetadataRefused)
-    );
+    Ok(())
+}
+
+#[test]
+fn metadata_that_cannot_be_written_is_refused(rt: HostRuntime) -> Result<(), Fail> {
+    let alloc = rt.alloc();
+    let capitals = tag(alloc, b"AB")?;
+    let written = capitals.serialize_metadata(alloc);
+    assert!(rt; written.is_err_and(|refusal| refusal == VortexError::MetadataRefused));
+    let erased = capitals.erased(alloc);
+    assert!(rt; erased.is_err_and(|refusal| refusal == VortexError::MetadataRefused));
+    Ok(())
+}
+
+fn foreign(alloc: Global) -> VortexResult<ForeignExtDType> {
+    Ok(ForeignExtDType::new(ExtId::new(alloc, "y")?))
+}
+
+fn foreign_bytes(alloc: Global) -> VortexResult<ForeignExtMetadata> {
+    Ok(ForeignExtMetadata(Vec::from_slice(alloc, b"a!B")?))
+}
+
+#[test]
+fn foreign_extensions_are_copied_and_printed(rt: HostRuntime) -> Result<(), Fail> {
+    let alloc = rt.alloc();
+    let vtable = foreign(alloc)?;
+    let again = vtable.try_clone(alloc)?;
+    assert!(rt; again == vtable);
+    let metadata = foreign_bytes(alloc)?;
+    let copy = metadata.try_clone(alloc)?;
+    assert!(rt; copy == metadata);
+    assert!(rt; is_printed(alloc, &metadata, "3B")?, "{metadata}");
     Ok(())
 }
 
 #[test]
 fn foreign_extensions_keep_all_bytes(rt: HostRuntime) -> Result<(), Fail> {
     let alloc = rt.alloc();
-    let vtable = ForeignExtDType::new(ExtId::new(alloc, "y")?);
-    let again = vtable.try_clone(alloc)?;
-    assert!(rt; again == vtable);
-    let metadata = ForeignExtMetadata(Vec::from_slice(alloc, b"a!B")?);
-    assert!(rt; metadata.try_clone(alloc)? == metadata);
-    assert_eq!(rt; format!(in alloc; "{metadata}")?.as_str(), "3B");
-    let id = ExtId::new(alloc, "y")?;
     let bare = ForeignExtDType::from_parts(
         alloc,
-        id,
+        ExtId::new(alloc, "y")?,
         Vec::from_slice(alloc, b"a!B")?,
         DType::Utf8(REQUIRED),
     )?;
-    match ExtDType::try_downcast(alloc, bare, vtable) {
-        Ok(typed) => assert!(rt; *typed.metadata() == metadata),
+    match ExtDType::try_downcast(alloc, bare, foreign(alloc)?) {
+        Ok(typed) => assert_eq!(rt; typed.metadata().0.as_slice(), b"a!B".as_slice()),
         Err(_) => panic!(rt; "refused"),
     }
-    let typed = ExtDType::try_with_vtable(alloc, again, metadata, DType::Bool(NULLABLE))?;
-    assert_eq!(rt;
-        format!(in alloc; "{}", typed.erased(alloc)?)?.as_str(),
-        "y[3B](bool?)"
-    );
+    let dtype = DType::Bool(NULLABLE);
+    let typed = ExtDType::try_with_vtable(alloc, foreign(alloc)?, foreign_bytes(alloc)?, dtype)?;
+    let bare = typed.erased(alloc)?;
+    assert!(rt; is_printed(alloc, &bare, "y[3B](bool?)")?, "{bare}");
     Ok(())
 }
 
@@ -187,20 +211,14 @@ fn foreign_extensions_keep_all_bytes(rt: HostRuntime) -> Result<(), Fail> {
 fn plugins_of_vtables_work_through_their_bound(rt: HostRuntime) -> Result<(), Fail> {
     let alloc = rt.alloc();
     let storage = DType::Utf8(NULLABLE);
-    assert_eq!(rt;
-        written_back(alloc, &PluginOf::new(Tag), b"AB", &storage)?.as_slice(),
-        b"ab".as_slice()
-    );
-    assert_eq!(rt;
-        written_back(alloc, &AllKept, b"AB", &storage)?.as_slice(),
-        b"AB".as_slice()
-    );
-    let foreign = PluginOf::new(ForeignExtDType::new(ExtId::new(alloc, "y")?));
-    assert_eq!(rt; foreign.id(), "y");
-    assert_eq!(rt;
-        written_back(alloc, &foreign, b"A!", &storage)?.as_slice(),
-        b"A!".as_slice()
-    );
+    let tag = written_back(alloc, &PluginOf::new(Tag), b"AB", &storage)?;
+    assert_eq!(rt; tag.as_slice(), b"ab".as_slice());
+    let kept = written_back(alloc, &AllKept, b"AB", &storage)?;
+    assert_eq!(rt; kept.as_slice(), b"AB".as_slice());
+    let plugin = PluginOf::new(foreign(alloc)?);
+    assert_eq!(rt; plugin.id(), "y");
+    let kept = written_back(alloc, &plugin, b"A!", &storage)?;
+    assert_eq!(rt; kept.as_slice(), b"A!".as_slice());
     Ok(())
 }
 

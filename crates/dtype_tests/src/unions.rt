@@ -1,7 +1,9 @@
+use crate::fixtures::is_printed;
 use dtype_base::Nullability::{NonNullable, Nullable};
 use dtype_base::{FieldName, FieldNames, PType, VortexResult};
 use dtype_types::{DType, UnionVariants};
 use std::alloc::Global;
+use std::process::Abort;
 use std::test::Fail;
 
 // This many truth values.
@@ -23,6 +25,13 @@ fn numbered(alloc: Global, count: usize) -> VortexResult<FieldNames> {
     Ok(FieldNames::from_vec(names))
 }
 
+fn tells_tags(rt: &impl Abort, union: &UnionVariants) {
+    assert_eq!(rt; union.tag_to_child_index(5), Some(1));
+    assert_eq!(rt; union.tag_to_child_index(1), None);
+    assert_eq!(rt; union.type_ids(), [0, 5, 7].as_slice());
+    assert!(rt; !union.is_consecutive());
+}
+
 #[test]
 fn tags_and_places_answer_one_another(rt: HostRuntime) -> Result<(), Fail> {
     let alloc = rt.alloc();
@@ -33,30 +42,25 @@ fn tags_and_places_answer_one_another(rt: HostRuntime) -> Result<(), Fail> {
         DType::Bool(NonNullable),
     ]?;
     let union = UnionVariants::try_new(alloc, names, dtypes, vec![in alloc; 0, 5, 7]?)?;
-    assert_eq!(rt; union.tag_to_child_index(5), Some(1));
-    assert_eq!(rt; union.tag_to_child_index(1), None);
+    tells_tags(&rt, &union);
     assert_eq!(rt; union.child_index_to_tag(2), 7);
-    assert_eq!(rt; union.type_ids(), [0, 5, 7].as_slice());
-    assert!(rt; !union.is_consecutive());
-    assert_eq!(rt;
-        DType::Union(union, NonNullable).to_string(alloc)?.as_str(),
-        "union(a@0=i32, b@5=utf8, c@7=bool)"
+    let dtype = DType::Union(union, NonNullable);
+    assert!(rt;
+        is_printed(alloc, &dtype, "union(a@0=i32, b@5=utf8, c@7=bool)")?,
+        "{dtype}"
     );
     Ok(())
 }
 
-#[test]
-fn consecutive_tags_are_not_printed(rt: HostRuntime) -> Result<(), Fail> {
-    let alloc = rt.alloc();
-    let names = FieldNames::from_texts(alloc, &["a", "b"])?;
-    let dtypes = vec![in alloc; DType::from(PType::I32), DType::Utf8(NonNullable)]?;
-    let union = UnionVariants::new(alloc, names, dtypes)?;
-    assert!(rt; union.is_consecutive());
+fn has_two_variants(rt: &impl Abort, union: &UnionVariants) {
+    assert!(rt; union.is_consecutive() && !union.is_empty());
     assert_eq!(rt; union.len(), 2);
-    assert!(rt; !union.is_empty());
     assert!(rt; union.names().eq_texts(&["a", "b"]));
     assert_eq!(rt; union.find("b"), Some(1));
     assert_eq!(rt; union.find("c"), None);
+}
+
+fn lends_two_variants(rt: &impl Abort, union: &UnionVariants) {
     assert!(rt; union.variant("b").is_some_and(|dtype| dtype.is_utf8()));
     assert!(rt; union.variant("c").is_none());
     assert!(rt;
@@ -69,11 +73,22 @@ fn consecutive_tags_are_not_printed(rt: HostRuntime) -> Result<(), Fail> {
     assert_eq!(rt; variants.size_hint(), (2, Some(2)));
     assert!(rt; variants.next().is_some_and(|dtype| dtype.is_int()));
     assert_eq!(rt; variants.len(), 1);
+}
+
+#[test]
+fn consecutive_tags_are_not_printed(rt: HostRuntime) -> Result<(), Fail> {
+    let alloc = rt.alloc();
+    let names = FieldNames::from_texts(alloc, &["a", "b"])?;
+    let dtypes = vec![in alloc; DType::from(PType::I32), DType::Utf8(NonNullable)]?;
+    let union = UnionVariants::new(alloc, names, dtypes)?;
+    has_two_variants(&rt, &union);
+    lends_two_variants(&rt, &union);
     let copy = union.try_clone(alloc)?;
     assert!(rt; copy == union);
-    assert_eq!(rt;
-        DType::Union(copy, NonNullable).to_string(alloc)?.as_str(),
-        "union(a=i32, b=utf8)"
+    let dtype = DType::Union(copy, NonNullable);
+    assert!(rt;
+        is_printed(alloc, &dtype, "union(a=i32, b=utf8)")?,
+        "{dtype}"
     );
     Ok(())
 }

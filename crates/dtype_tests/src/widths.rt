@@ -30,25 +30,35 @@ fn struct_of(alloc: Global, dtypes: Vec<DType>) -> VortexResult<DType> {
 }
 
 #[test]
-fn each_kind_has_its_width(rt: HostRuntime) -> Result<(), Fail> {
+fn each_plain_kind_has_its_width(rt: HostRuntime) -> Result<(), Fail> {
     let alloc = rt.alloc();
     assert_eq!(rt; DType::Null.element_size(), Ok(Some(0)));
     assert_eq!(rt; DType::Bool(REQUIRED).element_size(), Ok(Some(1)));
     let decimal = DType::Decimal(DecimalDType::new(10, 2), REQUIRED);
     assert_eq!(rt; decimal.element_size(), Ok(Some(8)));
-    let matrix = fixed(alloc, fixed(alloc, number(PType::F64), 20)?, 1000)?;
-    assert_eq!(rt; matrix.element_size(), Ok(Some(160000)));
-    let pair = struct_of(
-        alloc,
-        vec![in alloc; number(PType::U8), DType::Bool(REQUIRED)]?,
-    )?;
-    assert_eq!(rt; pair.element_size(), Ok(Some(2)));
-    let empty = struct_of(alloc, Vec::new(alloc))?;
-    assert_eq!(rt; empty.element_size(), Ok(Some(0)));
-    let number_of = extension(alloc, b"", number(PType::I32))?;
-    assert_eq!(rt; number_of.element_size(), Ok(Some(4)));
     let list = DType::list(alloc, number(PType::I32), REQUIRED)?;
     assert_eq!(rt; list.element_size(), Ok(None));
+    Ok(())
+}
+
+#[test]
+fn widths_are_those_of_the_parts(rt: HostRuntime) -> Result<(), Fail> {
+    let alloc = rt.alloc();
+    let matrix = fixed(alloc, fixed(alloc, number(PType::F64), 20)?, 1000)?;
+    assert_eq!(rt; matrix.element_size(), Ok(Some(160000)));
+    let dtypes = vec![in alloc; number(PType::U8), DType::Bool(REQUIRED)]?;
+    let pair = struct_of(alloc, dtypes)?;
+    assert_eq!(rt; pair.element_size(), Ok(Some(2)));
+    let number_of = extension(alloc, b"", number(PType::I32))?;
+    assert_eq!(rt; number_of.element_size(), Ok(Some(4)));
+    Ok(())
+}
+
+#[test]
+fn widths_of_nothing(rt: HostRuntime) -> Result<(), Fail> {
+    let alloc = rt.alloc();
+    let empty = struct_of(alloc, Vec::new(alloc))?;
+    assert_eq!(rt; empty.element_size(), Ok(Some(0)));
     let none = fixed(alloc, DType::Utf8(REQUIRED), 0)?;
     assert_eq!(rt; none.element_size(), Ok(None));
     Ok(())
@@ -66,30 +76,25 @@ fn lists_wider_than_64_bits_are_refused(rt: HostRuntime) -> Result<(), Fail> {
     Ok(())
 }
 
+// The struct of the longest bytes, a list of the longest length and perhaps one more type.
+fn wide(alloc: Global, second: DType, third: Option<DType>) -> VortexResult<DType> {
+    let mut dtypes = vec![in alloc; longest(alloc, PType::U8)?, second]?;
+    if let Some(third) = third {
+        dtypes.push(third)?;
+    }
+    struct_of(alloc, dtypes)
+}
+
 #[test]
 fn structs_wider_than_64_bits_are_refused(rt: HostRuntime) -> Result<(), Fail> {
     let alloc = rt.alloc();
-    let long = longest(alloc, PType::U8)?;
     let short = fixed(alloc, number(PType::U16), u32::MAX)?;
-    let wide = struct_of(
-        alloc,
-        vec![in alloc;
-            long.try_clone(alloc)?,
-            short.try_clone(alloc)?,
-            number(PType::U8),
-        ]?,
-    )?;
-    assert_eq!(rt; wide.element_size(), Err(VortexError::WidthOverflow));
-    let fits = struct_of(alloc, vec![in alloc; long, short]?)?;
+    let too_wide = wide(alloc, short.try_clone(alloc)?, Some(number(PType::U8)))?;
+    assert_eq!(rt; too_wide.element_size(), Err(VortexError::WidthOverflow));
+    let fits = wide(alloc, short, None)?;
     assert_eq!(rt; fits.element_size(), Ok(Some(18446744073709551615)));
-    let variable = struct_of(
-        alloc,
-        vec![in alloc;
-            longest(alloc, PType::U8)?,
-            longest(alloc, PType::U8)?,
-            DType::Utf8(REQUIRED),
-        ]?,
-    )?;
+    let long = longest(alloc, PType::U8)?;
+    let variable = wide(alloc, long, Some(DType::Utf8(REQUIRED)))?;
     assert_eq!(rt; variable.element_size(), Ok(None));
     Ok(())
 }

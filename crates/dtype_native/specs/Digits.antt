@@ -3,6 +3,7 @@ use Rattle.std.specs.Prelude.{◌≡◌, ◌↔◌, ℕ, ◌-◌, ◌^◌, ℤ, 
 use Rattle.std.specs.Fmt.{decimal, signed_decimal}
 use Rattle.dtype_base.specs.declared.vortex_error.VortexError.{VortexError}
 use Rattle.dtype_base.specs.Decimals.{Decimal, IsDecimalWithin, IsDecimalRefusal}
+pub use Rattle.dtype_types.specs.Value.{HasDigits}
 
 -- the greatest and the least number of that many digits; of none it is 0
 abbrev pub greatest_of_digits : ℕ → ℤ
@@ -10,10 +11,6 @@ greatest_of_digits digits = pos (10 ^ digits - 1)
 
 abbrev pub least_of_digits : ℕ → ℤ
 least_of_digits digits = neg_ℤ (greatest_of_digits digits)
-
--- z has at most that many digits
-abbrev pub HasDigits : ℕ → ℤ → Type 0
-HasDigits digits z = (least_of_digits digits ≤ℤ z) × (z ≤ℤ greatest_of_digits digits)
 
 -- as `decimal(i8, p=2, s=1)`
 abbrev pub precision_scale_text : List ℕ → Decimal → List ℕ

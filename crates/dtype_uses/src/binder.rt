@@ -42,19 +42,6 @@ pub fn join(alloc: Global, left: &StructFields, right: &StructFields) -> VortexR
     left.disjoint_merge(alloc, right)
 }
 
-/// The type of a column of a table in a schema, if there is one.
-pub fn column_type<'a>(
-    alloc: Global,
-    schema: &'a DType,
-    table: &str,
-    column: &str,
-) -> VortexResult<Option<&'a DType>>
-    ensures { IfOk result (λ found. IfSome found (λ u.
-        At (tree schema.now) (Field.Name table.now ∷ Field.Name column.now ∷ []) (tree u.now))) }
-{
-    Ok(field_path!(alloc, table, column)?.resolve(schema))
-}
-
 /// What is asked below a column, of what is asked of its table.
 pub fn mask_below(mask: FieldMask) -> VortexResult<FieldMask>
     ensures { IfOk result (λ m. (f : Field) (q : List Field) → first_part mask ≡ Some f

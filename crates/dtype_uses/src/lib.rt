@@ -6,13 +6,14 @@
 //!
 //! Begin with the user whom you are nearest to: `scalars` (which values a type has), `arrays` (how wide a
 //! row is, and what may be appended), `binder` (column references, projections, joins), `layout` (which
-//! columns to open) and `stored` (schemas written and read back). Then by topic: `kinds` opens types, `fields`
-//! looks up fields, `iterators` counts, `nullabilities` sets them, `paths` resolves, `numbers` has names and
+//! columns to open) and `stored` (schemas written and read back). Then by topic: `schemas` finds columns, `dates`
+//! makes an extension, `kinds` opens types, `fields` looks up fields, `iterators` counts, `nullabilities` sets them, `paths` resolves, `numbers` has names and
 //! bytes, `validity` what valid types have.
 #![tactic(auto)]
 
 pub mod arrays;
 pub mod binder;
+pub mod dates;
 pub mod fields;
 pub mod iterators;
 pub mod kinds;
@@ -21,5 +22,6 @@ pub mod nullabilities;
 pub mod numbers;
 pub mod paths;
 pub mod scalars;
+pub mod schemas;
 pub mod stored;
 pub mod validity;

@@ -1,7 +1,8 @@
 //! A scalar library: whether a number may stand as a value of a type.
 ghost use Rattle.std.specs.Prelude.{◌↔◌, IfSome, IsTrue};
 ghost use Rattle.dtype_types.specs.TreeOf.{tree};
-ghost use Rattle.dtype_types.specs.Value.{IntegerOf, Of, HasDigits, digits, number};
+ghost use Rattle.dtype_types.specs.Value.{IntegerOf, Of, digits, number};
+ghost use Rattle.dtype_native.specs.Digits.{HasDigits};
 
 use dtype_base::PType;
 use dtype_native::PrecisionScale;

@@ -1,0 +1,23 @@
+//! A schema, asked for the types of its columns.
+ghost use Rattle.std.specs.Prelude.{IfOk, IfSome, [], ◌∷◌};
+ghost use Rattle.dtype_types.specs.TreeOf.{tree};
+ghost use Rattle.dtype_paths.specs.At.{At};
+ghost use Rattle.dtype_paths.specs.declared.field.Field.{Field};
+
+use dtype_base::VortexResult;
+use dtype_paths::{Field, field_path};
+use dtype_types::DType;
+use std::alloc::Global;
+
+/// The type of a column of a table in a schema, if there is one.
+pub fn column_type<'a>(
+    alloc: Global,
+    schema: &'a DType,
+    table: &str,
+    column: &str,
+) -> VortexResult<Option<&'a DType>>
+    ensures { IfOk result (λ found. IfSome found (λ u.
+        At (tree schema.now) (Field.Name table.now ∷ Field.Name column.now ∷ []) (tree u.now))) }
+{
+    Ok(field_path!(alloc, table, column)?.resolve(schema))
+}

@@ -148,6 +148,8 @@ even_maps x y n m d is e f = even_map_is x n ∙ ap (λ v. has_even_lists v && h
 pub even_extensions : (x y : ExtDTypeRef) (d : DType) → d ≡ Extension y → has_even_lists (extension_storage x) ≡ has_even_lists (extension_storage y) → has_even_lists (Extension x) ≡ has_even_lists d
 even_extensions x y d is e = even_extension_is x ∙ e ∙ sym (even_extension_is y) ∙ sym (ap has_even_lists is)
 
+pub ruleset even_parts = (even_structs, even_unions, even_maps, even_extensions)
+
 pub struct_of_same : (x y : StructFields) → x.shared.value ≡ y.shared.value → IsValidStruct y → IsValidStruct x
 struct_of_same x y e h = record {
   paired = subst (λ v. length v.names ≡ length (map tree v.dtypes.items)) (sym e) h.paired;

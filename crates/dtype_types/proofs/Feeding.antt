@@ -7,7 +7,7 @@ use Rattle.dtype_types.specs.Tree.{Tree, fields, variants}
 use Rattle.dtype_types.specs.Hashes.{hash_of, field_count, field_writes, variant_count, variant_writes}
 use Rattle.dtype_types.specs.TreeOf.{tree, zip_tagged}
 use Rattle.dtype_types.proofs.Turns.{drop_zip, drop_choices}
-use Rattle.dtype_types.specs.declared.hashing.Hashed.{Hashed}
+use Rattle.dtype_types.specs.declared.dtype.hash.Hashed.{Hashed}
 use Rattle.dtype_types.specs.declared.dtype.DType.{DType}
 
 pub count_of_fields : (ps : List (List ℕ × Tree)) → field_count (fields ps) ≡ length ps

@@ -5,12 +5,13 @@ use Rattle.std.specs.declared.alloc.Global.{Global}
 use Rattle.dtype_base.specs.declared.nullability.Nullability.{Nullability}
 use Rattle.dtype_base.specs.Decimals.{Decimal as DecimalOf}
 use Rattle.dtype_base.specs.declared.ptype.PType.{PType}
-use Rattle.dtype_types.specs.declared.kind.Kind.TheVariants as k
+use Rattle.dtype_types.specs.declared.dtype.kinds.Kind.TheVariants as k
 use Rattle.dtype_types.specs.Kinds.{kind, primitive_name, decimal_of, struct_fields, union_variants, map_parts, extension_parts, list_element, fixed_size_list_element, any_size_list_element}
 use Rattle.dtype_types.specs.Tree.{Tree, Fields, Variants, primitive, struct, extension}
 use Rattle.dtype_types.specs.TreeOf.{tree, children, choices, MapParts, ExtensionParts, type_step, extension_step, map_step, struct_step, union_step}
 use denote.Hole.Carrier
 use Rattle.dtype_types.specs.declared.dtype.DType.{out-DType, fold_out-DType}
+use Rattle.dtype_types.proofs.EvenLists.{valid_map}
 use Rattle.dtype_types.proofs.TreeLaws.{struct_is, union_is, tree_struct, tree_union, pairs_fields, triples_variants}
 use Rattle.dtype_types.specs.declared.dtype.DType.{DType, Primitive, Decimal, List as List_of, List', FixedSizeList, FixedSizeList', Map, Map', Struct, Struct', Union, Union', Extension, Extension'}
 use Rattle.dtype_types.specs.declared.struct_fields.StructFields.{StructFields}
@@ -83,3 +84,14 @@ is_struct_with _ e h = cc
 pub is_extension_with : (t : Tree) → kind t ≡ k.Extension → extension_parts t ≡ None → ⊥
 is_extension_with (extension i b s) e h = cc
 is_extension_with _ e h = cc
+
+-- what is known of a kind and of what a type of it holds
+pub ruleset primitives = (primitive_name_none, is_primitive_named)
+
+pub ruleset structs = (struct_fields_none, struct_fields_some, is_struct_with)
+
+pub ruleset unions = (union_variants_none, union_variants_some)
+
+pub ruleset maps = (map_parts_none, valid_map)
+
+pub ruleset extensions = (extension_parts_none, is_extension_with)

@@ -10,7 +10,7 @@ use Rattle.dtype_types.specs.TreeOf.{tree, children, choices, MapParts, Extensio
 use denote.Hole.Carrier
 use Rattle.dtype_types.specs.declared.dtype.DType.{out-DType, fold_out-DType}
 use Rattle.dtype_types.proofs.TreeLaws.{struct_is, union_is, tree_struct, tree_union}
-use Rattle.dtype_types.specs.declared.equality.Nullabilities.{Nullabilities}
+use Rattle.dtype_types.specs.declared.dtype.equality.Nullabilities.{Nullabilities}
 use Rattle.dtype_types.specs.Equality.{agree, agree_fields, agree_variants, allows}
 use Rattle.dtype_types.specs.declared.dtype.DType.{DType, Null, Bool as Bool_of, Primitive, Decimal, Utf8, Binary, Variant, List as List_of, List', FixedSizeList, FixedSizeList', Map, Map', Struct, Struct', Union, Union', Extension, Extension'}
 use Rattle.dtype_types.specs.declared.struct_fields.StructFields.{StructFields}
@@ -90,3 +90,7 @@ struct_agree s d e x y m n p q =
 pub union_agree : (s : Nullabilities) (d e : DType) (x y : UnionVariants) (m n : Nullability) → d ≡ Union x m → e ≡ Union y n → agree s (tree d) (tree e) ≡ (agree_variants s (variants (choices x)) (variants (choices y)) && allows s m n)
 union_agree s d e x y m n p q =
     ap (λ z. agree s (tree z) (tree e)) p ∙ ap (λ z. agree s z (tree e)) (tree_union x m) ∙ ap (λ z. agree s (union (variants (choices x)) m) (tree z)) q ∙ ap (agree s (union (variants (choices x)) m)) (tree_union y n)
+
+pub ruleset other_kinds = (not_null, not_bool, not_primitive, not_decimal, not_utf8, not_binary, not_variant, not_list, not_fixed, not_map, not_struct, not_union, not_extension)
+
+pub ruleset agreements = (struct_agree, union_agree)

@@ -52,3 +52,7 @@ set_map x y m n d e p q r = ap (λ z. set_null (tree z) n) e ∙ ap (λ t. set_n
 
 pub set_extension : (x y : ExtDTypeRef) (n : Nullability) (d : DType) → d ≡ Extension y → set_null (extension_tree y) n ≡ Some (extension_tree x) → set_null (tree d) n ≡ Some (tree (Extension x))
 set_extension x y n d e p = ap (λ z. set_null (tree z) n) e ∙ ap (λ t. set_null t n) (tree_extension y) ∙ p ∙ ap Some (sym (tree_extension x))
+
+pub ruleset same_parts = (same_structs, same_unions, same_maps, same_extensions)
+
+pub ruleset set_parts = (set_struct, set_union, set_map, set_extension)

@@ -8,7 +8,7 @@ use Rattle.dtype_types.specs.Equality.{agree, agree_fields, agree_variants, allo
 use Rattle.dtype_types.specs.EqualityLaws.{agree_erased-Decides, both, join}
 use Rattle.dtype_types.specs.Sub.{Sub, Allows, NullableWherever, NullableWhereverFields, NullableWhereverVariants}
 use Rattle.dtype_types.specs.Tree.{Tree, Fields, no_fields, field, Variants, no_variants, choice, null, bool, primitive, decimal, utf8, binary, list, fixed_size_list, map_of, struct, union, variant, extension}
-use Rattle.dtype_types.specs.declared.equality.Nullabilities.TheVariants.{Ignored, Within}
+use Rattle.dtype_types.specs.declared.dtype.equality.Nullabilities.TheVariants.{Ignored, Within}
 
 allowed : (m n : Nullability) → allows Within m n ≡ true → Allows m n
 allowed Nullable Nullable e = λ h. refl

@@ -7,7 +7,7 @@ use Rattle.std.proofs.lemmas.Bool.{false≢true}
 use Rattle.std.proofs.lemmas.Bool.Decides.{Decides-eqb}
 use Rattle.std.proofs.lemmas.List.{get_or_default}
 use Rattle.dtype_types.specs.Tree.{Tree, fields, variants}
-use Rattle.dtype_types.specs.declared.equality.Nullabilities.{Nullabilities}
+use Rattle.dtype_types.specs.declared.dtype.equality.Nullabilities.{Nullabilities}
 use Rattle.dtype_types.proofs.FieldLookups.{count_fields}
 use Rattle.dtype_types.specs.TreeOf.{tree, zip_tagged}
 use Rattle.dtype_types.specs.Text.{consecutive}

@@ -15,8 +15,8 @@ use Rattle.dtype_base.specs.declared.nullability.Nullability.TheVariants.{NonNul
 use Rattle.dtype_base.specs.Decimals.{Decimal}
 use Rattle.dtype_base.specs.declared.ptype.PType.{PType}
 use Rattle.dtype_base.specs.declared.ptype.PType.TheVariants.{U8, U16, U32, U64, I8, I16, I32, I64, F16, F32, F64}
-use Rattle.dtype_types.specs.declared.equality.Nullabilities.{Nullabilities}
-use Rattle.dtype_types.specs.declared.equality.Nullabilities.TheVariants.{Compared, Ignored, Within}
+use Rattle.dtype_types.specs.declared.dtype.equality.Nullabilities.{Nullabilities}
+use Rattle.dtype_types.specs.declared.dtype.equality.Nullabilities.TheVariants.{Compared, Ignored, Within}
 use Rattle.dtype_types.specs.declared.dtype.DType.{DType}
 use Rattle.dtype_types.specs.Tree.{Tree, Fields, fields, pairs, no_fields, field, Variants, no_variants, choice, null, bool, primitive, decimal, utf8, binary, list, fixed_size_list, map_of, struct, union, variant, extension}
 use Rattle.dtype_types.specs.Erase.{erase, erase_fields, erase_variants}

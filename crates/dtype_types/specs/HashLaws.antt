@@ -10,7 +10,7 @@ use Rattle.dtype_types.specs.EqualityLaws.{agree-Decides, same_fields-Decides, s
 use Rattle.dtype_types.specs.PartsEquality.{agree_variants-Decides, agree_maps-Decides, same_union, same_map}
 use Rattle.dtype_types.specs.Hashes.{hash_of, nullability_writes, field_count, field_writes, variant_count, variant_writes}
 use Rattle.dtype_types.specs.HashesOf.{struct_writes, union_writes, map_writes, extension_writes}
-use Rattle.dtype_types.specs.declared.hashing.Hashed.TheVariants.{Whole, Erased}
+use Rattle.dtype_types.specs.declared.dtype.hash.Hashed.TheVariants.{Whole, Erased}
 use Rattle.dtype_types.specs.declared.dtype.DType.{DType}
 use Rattle.dtype_types.specs.declared.struct_fields.StructFields.{StructFields}
 use Rattle.dtype_types.specs.declared.union_variants.UnionVariants.{UnionVariants}

@@ -7,8 +7,8 @@ use Rattle.std.specs.Hash.{HashWrites}
 use Rattle.dtype_base.specs.Primitives.{primitive as row}
 use Rattle.dtype_base.specs.declared.nullability.Nullability.{Nullability}
 use Rattle.dtype_base.specs.declared.nullability.Nullability.TheVariants.{NonNullable, Nullable}
-use Rattle.dtype_types.specs.declared.hashing.Hashed.{Hashed}
-use Rattle.dtype_types.specs.declared.hashing.Hashed.TheVariants.{Whole, Erased}
+use Rattle.dtype_types.specs.declared.dtype.hash.Hashed.{Hashed}
+use Rattle.dtype_types.specs.declared.dtype.hash.Hashed.TheVariants.{Whole, Erased}
 use Rattle.dtype_types.specs.Tree.{Tree, Fields, no_fields, field, Variants, no_variants, choice, null, bool, primitive, decimal, utf8, binary, list, fixed_size_list, map_of, struct, union, variant, extension}
 
 -- a nullability, or nothing where nullabilities are forgotten

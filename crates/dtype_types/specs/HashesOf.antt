@@ -4,7 +4,7 @@ use Rattle.std.specs.Hash as fed
 use Rattle.std.specs.Hash.{HashWrites}
 use Rattle.dtype_types.specs.Hashes.{hash_of, field_count, field_writes, variant_count, variant_writes}
 use Rattle.dtype_types.specs.TreeOf.{struct_tree, union_tree, key_tree, value_tree, are_keys_sorted, extension_id, extension_metadata, storage_tree}
-use Rattle.dtype_types.specs.declared.hashing.Hashed.{Hashed}
+use Rattle.dtype_types.specs.declared.dtype.hash.Hashed.{Hashed}
 use Rattle.dtype_types.specs.declared.struct_fields.StructFields.{StructFields}
 use Rattle.dtype_types.specs.declared.union_variants.UnionVariants.{UnionVariants}
 use Rattle.dtype_types.specs.declared.map.MapDType.{MapDType}

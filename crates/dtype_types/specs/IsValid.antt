@@ -64,6 +64,10 @@ even_union u = even_variants u.shared.value.names u.shared.value.dtypes.items u.
 abbrev pub has_even_lists : DType → Bool
 has_even_lists = fold-DType Bool Bool Bool Bool Bool even_type even_extension even_map even_struct even_union
 
+-- the same of an extension's storage
+abbrev pub has_even_storage : ExtDTypeRef → Bool
+has_even_storage e = has_even_lists (extension_storage e)
+
 -- what every type has that the calls give
 abbrev pub IsValid : DType → Type 0
 IsValid d = Valid (tree d) × IsTrue (has_even_lists d)

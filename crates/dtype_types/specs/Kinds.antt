@@ -3,8 +3,8 @@
 use Rattle.std.specs.Prelude.{◌≡◌, ℕ, List, Option, Some, None, Bool, true, false}
 use Rattle.dtype_base.specs.Decimals.{Decimal}
 use Rattle.dtype_base.specs.declared.ptype.PType.{PType}
-use Rattle.dtype_types.specs.declared.kind.Kind.{Kind}
-use Rattle.dtype_types.specs.declared.kind.Kind.TheVariants as k
+use Rattle.dtype_types.specs.declared.dtype.kinds.Kind.{Kind}
+use Rattle.dtype_types.specs.declared.dtype.kinds.Kind.TheVariants as k
 use Rattle.dtype_types.specs.Tree.{Tree, Fields, Variants, null, bool, primitive, decimal, utf8, binary, list, fixed_size_list, map_of, struct, union, variant, extension, pairs, triples}
 
 abbrev pub kind : Tree → Kind

@@ -4,7 +4,7 @@ use Rattle.std.specs.Bool.{Decides}
 use Rattle.std.proofs.Common.{sym, ap, ◌∙◌, subst}
 use Rattle.std.proofs.Math.Bool.{beq}
 use Rattle.std.specs.Cmp.{IsEquivalence, booleans_Decides, on_equiv}
-use Rattle.dtype_types.specs.declared.equality.Nullabilities.TheVariants.{Compared, Ignored}
+use Rattle.dtype_types.specs.declared.dtype.equality.Nullabilities.TheVariants.{Compared, Ignored}
 use Rattle.dtype_types.specs.declared.map.MapDType.{MapDType}
 use Rattle.dtype_types.specs.declared.union_variants.UnionVariants.{UnionVariants}
 use Rattle.dtype_types.specs.Tree.{Variants}

@@ -1,13 +1,14 @@
 -- How many bytes a value takes, for the types whose values all take as many. From the documentation of
 -- `DType::element_size`: `Null` takes none, a truth value one, a number its own, a list of one length that
 -- many times its element's, a struct the sum of its fields', an extension its storage's.
-use Rattle.std.specs.Prelude.{◌≡◌, ◌⊎◌, ℕ, ◌+◌, ◌*◌, ◌^◌, ◌≤◌, Option, Some, None}
+use Rattle.std.specs.Prelude.{◌≡◌, ◌⊎◌, ℕ, ◌+◌, ◌*◌, ◌^◌, ◌≤◌, List, Option, Some, None}
 use Rattle.dtype_base.specs.Primitives.{primitive as row}
 use Rattle.dtype_base.specs.Decimals.{smallest_storage, storage}
+use Rattle.dtype_base.specs.declared.nullability.Nullability.{Nullability}
 use Rattle.dtype_base.specs.declared.decimal.DecimalType.{DecimalType}
-use Rattle.dtype_types.specs.Tree.{Tree, Fields, no_fields, field, null, bool, primitive, decimal, list, fixed_size_list, struct, extension}
-use Rattle.dtype_types.specs.declared.width.Width.{Width}
-use Rattle.dtype_types.specs.declared.width.Width.TheVariants.{Variable, TooWide, Bytes}
+use Rattle.dtype_types.specs.Tree.{Tree, Fields, no_fields, field, fields, null, bool, primitive, decimal, list, fixed_size_list, struct, extension}
+use Rattle.dtype_types.specs.declared.dtype.width.Width.{Width}
+use Rattle.dtype_types.specs.declared.dtype.width.Width.TheVariants.{Variable, TooWide, Bytes}
 
 -- all values of the type take as many bytes; so even a list of no elements is fixed only where its
 -- element is
@@ -69,3 +70,7 @@ abbrev pub Measures : Width → Tree → Type 0
 Measures Variable t = ¬ Fixed t
 Measures TooWide t = Fixed t × HasWidePart t
 Measures (Bytes n) t = Fixed t × (¬ HasWidePart t) × (n ≡ width t)
+
+-- what the width says of a struct of these fields
+abbrev pub MeasuresFields : Width → List (List ℕ × Tree) → Type 0
+MeasuresFields w fs = (n : Nullability) → Measures w (struct (fields fs) n)

@@ -1,8 +1,19 @@
-ghost use Rattle.std.specs.Prelude.{Some};
+// `DType`, the type, and its calls, in a file a topic.
+mod comparison;
+mod constructors;
+mod conversions;
+pub(crate) mod copies;
+pub(crate) mod equality;
+pub(crate) mod hash;
+pub(crate) mod indented_text;
+mod kinds;
+mod nullability;
+pub(crate) mod text;
+pub(crate) mod width;
 
 use crate::{ExtDTypeRef, MapDType, StructFields, UnionVariants};
 use dtype_base::{DecimalDType, Nullability, PType};
-use std::fmt;
+pub use kinds::Kind;
 
 /// A logical type: what values may be, whatever the layout in which they are stored.
 #[derive(Debug, Drop)]
@@ -34,49 +45,4 @@ pub enum DType {
     Variant(Nullability),
     /// A type of another library, stored as a type of this one. It has its storage's nullability.
     Extension(ExtDTypeRef),
-}
-
-/// The type's kind, what it holds in brackets or braces, and `?` where it is nullable.
-impl fmt::Display for DType {
-    ghost use Rattle.dtype_types.specs.Text.{text};
-    ghost use Rattle.dtype_types.specs.TreeOf.{tree};
-
-    ghost output = { λ d. Some (text (tree d)) };
-
-    #[cycle(text)]
-    fn fmt<W: fmt::Write>(&self, f: &mut fmt::Formatter<W>) -> fmt::Result {
-        match self {
-            DType::Null => write!(f, "null"),
-            DType::Bool(n) => write!(f, "bool{n}"),
-            DType::Primitive(ptype, n) => write!(f, "{ptype}{n}"),
-            DType::Decimal(decimal, n) => write!(f, "{decimal}{n}"),
-            DType::Utf8(n) => write!(f, "utf8{n}"),
-            DType::Binary(n) => write!(f, "binary{n}"),
-            DType::List(element, n) => {
-                write!(f, "list(")?;
-                (**element).fmt(f)?;
-                write!(f, "){n}")
-            }
-            DType::FixedSizeList(element, size, n) => {
-                write!(f, "fixed_size_list(")?;
-                (**element).fmt(f)?;
-                write!(f, ")[{size}]{n}")
-            }
-            DType::Map(map, n) => {
-                map.fmt(f)?;
-                write!(f, "{n}")
-            }
-            DType::Struct(fields, n) => {
-                fields.fmt(f)?;
-                write!(f, "{n}")
-            }
-            DType::Union(variants, n) => {
-                write!(f, "union(")?;
-                variants.fmt(f)?;
-                write!(f, "){n}")
-            }
-            DType::Variant(n) => write!(f, "variant{n}"),
-            DType::Extension(extension) => extension.fmt(f),
-        }
-    }
 }

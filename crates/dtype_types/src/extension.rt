@@ -5,10 +5,10 @@ ghost use Rattle.std.specs.Rc.{rc_str_bytes};
 ghost use Rattle.dtype_base.specs.declared.vortex_error.VortexError.TheVariants.{OutOfMemory};
 
 use crate::DType;
-use crate::copies::boxed_copy;
-use crate::equality::{Nullabilities, agree};
-use crate::hashing::{Hashed, feed};
-use crate::width::Width;
+use crate::dtype::copies::boxed_copy;
+use crate::dtype::equality::{Nullabilities, agree};
+use crate::dtype::hash::{Hashed, feed};
+use crate::dtype::width::Width;
 use dtype_base::{Nullability, VortexResult};
 use std::alloc::Global;
 use std::fmt;
@@ -113,9 +113,9 @@ impl ExtDTypeRef {
     ghost use Rattle.dtype_types.specs.Nullable.{nullability, IsNullable, CanBeNonNullable, SetNull};
     ghost use Rattle.dtype_types.specs.Equality.{agree};
     ghost use Rattle.dtype_types.specs.Erase.{erase};
-    ghost use Rattle.dtype_types.specs.IsValid.{IsValid, IsValidExtension, has_even_lists};
+    ghost use Rattle.dtype_types.specs.IsValid.{IsValid, IsValidExtension, has_even_storage};
     ghost use Rattle.dtype_types.specs.HashesOf.{extension_writes};
-    ghost use Rattle.dtype_types.specs.TreeOf.{extension_tree, extension_metadata, extension_id, extension_storage, storage_tree, tree};
+    ghost use Rattle.dtype_types.specs.TreeOf.{extension_tree, extension_metadata, extension_id, storage_tree, tree};
     ghost use Rattle.dtype_types.specs.Width.{Measures};
 
     /// The id.
@@ -187,7 +187,8 @@ impl ExtDTypeRef {
 
     /// Whether the extensions are equal with every nullability in their storages ignored.
     pub fn eq_ignore_nullability(&self, other: &Self) -> bool
-        ensures { IsTrue result ↔ (erase (extension_tree self.now) ≡ erase (extension_tree other.now)) }
+        ensures { IsTrue result
+            ↔ (erase (extension_tree self.now) ≡ erase (extension_tree other.now)) }
     {
         self.agree(other, Nullabilities::Ignored)
     }
@@ -241,8 +242,7 @@ impl ExtDTypeRef {
     #[cycle(copy)]
     pub fn try_clone(&self, alloc: Global) -> VortexResult<Self>
         ensures same { IfOk result (λ e. extension_tree e ≡ extension_tree self.now) }
-        ensures even { IfOk result
-            (λ e. has_even_lists (extension_storage e) ≡ has_even_lists (extension_storage self.now)) }
+        ensures even { IfOk result (λ e. has_even_storage e ≡ has_even_storage self.now) }
         ensures valid { IsValidExtension self.now → IfOk result IsValidExtension }
         ensures refused { IsOkUnless result OutOfMemory }
     {
@@ -286,8 +286,7 @@ impl ExtDTypeRef {
     pub fn with_nullability(&self, alloc: Global, n: Nullability) -> VortexResult<Self>
         requires { n ≡ Nullability.NonNullable → CanBeNonNullable (extension_tree self.now) }
         ensures set { IfOk result (λ e. SetNull (extension_tree self.now) n (extension_tree e)) }
-        ensures even { IfOk result
-            (λ e. has_even_lists (extension_storage e) ≡ has_even_lists (extension_storage self.now)) }
+        ensures even { IfOk result (λ e. has_even_storage e ≡ has_even_storage self.now) }
         ensures valid { IsValidExtension self.now → IfOk result IsValidExtension }
         ensures refused { IsOkUnless result OutOfMemory }
     {
@@ -329,7 +328,7 @@ impl Eq for ExtDTypeRef {
 impl Hash for ExtDTypeRef {
     ghost use Rattle.dtype_types.specs.HashLaws.{extension_fed};
     ghost use Rattle.dtype_types.specs.HashesOf.{extension_writes};
-    ghost use Rattle.dtype_types.specs.declared.hashing.Hashed.TheVariants.{Whole};
+    ghost use Rattle.dtype_types.specs.declared.dtype.hash.Hashed.TheVariants.{Whole};
 
     ghost hash_input = { extension_writes Whole };
 

@@ -35,7 +35,8 @@ impl FieldsBuilder {
     // One more field, behind the others.
     #[tactic(auto, using(crate::proofs::Zips::zip_push))]
     pub(crate) fn push(self, name: FieldName, dtype: DType) -> VortexResult<Self>
-        ensures ok { IfOk result (λ b. fields_so_far b ≡ fields_so_far self ++ (name, tree dtype) ∷ []) }
+        ensures ok { IfOk result
+            (λ b. fields_so_far b ≡ fields_so_far self ++ (name, tree dtype) ∷ []) }
         ensures dtypes { IfOk result (λ b. dtypes_so_far b ≡ dtypes_so_far self ++ dtype ∷ []) }
         ensures refused { IsOkUnless result OutOfMemory }
     {

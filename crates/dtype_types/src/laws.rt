@@ -63,8 +63,10 @@ pub fn valid_unions_are_one_list()
 
 /// The tree of a valid struct, and of a valid union, is valid.
 pub fn valid_parts_make_valid_types()
-    ensures structs { (s : StructFields) (n : Nullability) → IsValidStruct s → Valid (struct (struct_tree s) n) }
-    ensures unions { (u : UnionVariants) (n : Nullability) → IsValidUnion u → Valid (union (union_tree u) n) }
+    ensures structs { (s : StructFields) (n : Nullability) → IsValidStruct s
+        → Valid (struct (struct_tree s) n) }
+    ensures unions { (u : UnionVariants) (n : Nullability) → IsValidUnion u
+        → Valid (union (union_tree u) n) }
 {}
 
 /// The sample of a valid type is a value of it, so each valid type has a value.
@@ -102,13 +104,15 @@ pub fn values_of_what_is_below_are_values()
 /// Of two valid types that are equal but for nullabilities and in which no fixed size is 0, one is below
 /// the other exactly where each of its values is a value of the other.
 pub fn the_order_is_inclusion_of_values()
-    ensures { (a b : Tree) → Valid a → HasNoSizeZero a → SameIgnoring a b → (Sub a b ↔ IncludedIn a b) }
+    ensures { (a b : Tree) → Valid a → HasNoSizeZero a → SameIgnoring a b
+        → (Sub a b ↔ IncludedIn a b) }
 {}
 
 /// Of two such types of which the first isn't below the second, `tell` gives a value of the first that is
 /// none of the second.
 pub fn tell_tells_apart()
-    ensures { (a b : Tree) → Valid a → HasNoSizeZero a → SameIgnoring a b → ¬ (Sub a b) → TellsApart a b }
+    ensures { (a b : Tree) → Valid a → HasNoSizeZero a → SameIgnoring a b
+        → ¬ (Sub a b) → TellsApart a b }
 {}
 
 /// Of types that are equal but for nullabilities, also with a fixed size 0, `tell` gives nothing exactly
@@ -119,7 +123,8 @@ pub fn tell_gives_exactly_where_not_below()
 
 /// Through a fixed size 0 all values of one type may be values of another that it isn't below.
 pub fn a_size_of_zero_hides_nullability()
-    ensures { (a : Tree) × (b : Tree) × Valid a × Valid b × SameIgnoring a b × IncludedIn a b × ¬ (Sub a b) }
+    ensures { (a : Tree) × (b : Tree) × Valid a × Valid b × SameIgnoring a b
+        × IncludedIn a b × ¬ (Sub a b) }
 {}
 
 /// `BYTES` is the non-nullable `U8`, and valid.

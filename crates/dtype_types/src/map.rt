@@ -3,8 +3,8 @@ ghost use Rattle.dtype_base.specs.declared.vortex_error.VortexError.TheVariants.
 ghost use Rattle.dtype_base.specs.declared.nullability.Nullability.TheVariants.{NonNullable};
 ghost use Rattle.std.proofs.Math.Bool.{beq};
 
-use crate::equality::{Nullabilities, agree};
-use crate::hashing::{Hashed, feed};
+use crate::dtype::equality::{Nullabilities, agree};
+use crate::dtype::hash::{Hashed, feed};
 use crate::{DType, StructFields};
 use dtype_base::{FieldNames, Nullability, VortexError, VortexResult};
 use std::alloc::Global;
@@ -116,7 +116,8 @@ impl MapDType {
         ensures key { IfOk result (λ m. key_tree m ≡ key_tree self.now) }
         ensures value { IfOk result (λ m. value_tree m ≡ value_tree self.now) }
         ensures sorted { IfOk result (λ m. are_keys_sorted m ≡ are_keys_sorted self.now) }
-        ensures shared { IfOk result (λ m. (map_key m ≡ map_key self.now) × (map_value m ≡ map_value self.now)) }
+        ensures shared { IfOk result
+            (λ m. (map_key m ≡ map_key self.now) × (map_value m ≡ map_value self.now)) }
         ensures valid { IsValidMap self.now → IfOk result IsValidMap }
         ensures refused { IsOkUnless result OutOfMemory }
     {
@@ -156,7 +157,7 @@ impl Eq for MapDType {
 impl Hash for MapDType {
     ghost use Rattle.dtype_types.specs.HashLaws.{map_fed};
     ghost use Rattle.dtype_types.specs.HashesOf.{map_writes};
-    ghost use Rattle.dtype_types.specs.declared.hashing.Hashed.TheVariants.{Whole};
+    ghost use Rattle.dtype_types.specs.declared.dtype.hash.Hashed.TheVariants.{Whole};
 
     ghost hash_input = { map_writes Whole };
 

@@ -1,20 +1,18 @@
-ghost use Rattle.std.specs.Prelude.{◌≡◌, ◌↔◌, IsTrue, ◌≤◌, ◌<◌, ◌++◌, ◌∷◌, ℕ, nat_lt, List, [], slice_index_or, length, map, remove, vec_len, All, IfOk, IfErr, IfSome, IsOk, IsOkUnless, MatchBool, slice_get, IfNone, Some, fold, OnOk, string_bytes, option_and_then};
+ghost use Rattle.std.specs.Prelude.{◌≡◌, ◌↔◌, IsTrue, ◌≤◌, ◌<◌, ◌++◌, ◌∷◌, ℕ, List, [], slice_index_or, length, map, remove, vec_len, All, IfOk, IfErr, IfSome, IsOk, IsOkUnless, slice_get, IfNone, Some, fold, OnOk, string_bytes, option_and_then};
 ghost use Rattle.std.specs.Iterator.{IsFinite};
-ghost use Rattle.std.specs.Iterator.Runs.{WholeRun};
 ghost use Rattle.std.specs.List.{AllByRecursion, zip};
 ghost use Rattle.std.specs.Option.{option_copied};
 ghost use Rattle.dtype_base.specs.FieldNames.{FirstAt, IsAbsent, first_place};
 ghost use Rattle.dtype_base.specs.NameOrder.{IsWithinDigits};
-ghost use Rattle.dtype_base.specs.declared.nullability.Nullability.{Nullability};
-ghost use Rattle.dtype_base.specs.declared.vortex_error.VortexError.TheVariants.{OutOfMemory, IndexOutOfBounds};
+ghost use Rattle.dtype_base.specs.declared.vortex_error.VortexError.TheVariants.{OutOfMemory};
 
-use crate::equality::{Nullabilities, agree};
+use crate::dtype::equality::{Nullabilities, agree};
+use crate::dtype::hash::{Hashed, feed};
+use crate::dtype::indented_text::{last_line, line_end};
+use crate::dtype::text::separator;
+use crate::dtype::width::Width;
 use crate::field_dtype::into_dtypes;
 use crate::fields_builder::FieldsBuilder;
-use crate::hashing::{Hashed, feed};
-use crate::indented::{last_line, line_end};
-use crate::text::separator;
-use crate::width::Width;
 use crate::{DType, DTypeIter, FieldDType};
 use dtype_base::{FieldName, FieldNames, IndexedNames, VortexError, VortexResult};
 use std::alloc::Global;
@@ -41,15 +39,15 @@ impl StructFields {
     ghost use Rattle.dtype_types.specs.Building.{dtypes_so_far, fields_so_far};
     ghost use Rattle.dtype_types.specs.Equality.{agree_fields};
     ghost use Rattle.dtype_types.specs.Erase.{erase_fields};
-    ghost use Rattle.dtype_types.specs.FieldTypes.{field_tree, HasFields};
+    ghost use Rattle.dtype_types.specs.FieldTypes.{field_tree, IsMadeOf, MadeFrom};
     ghost use Rattle.dtype_types.specs.IndentedText.{indented_text, indented_braces};
-    ghost use Rattle.dtype_types.specs.Lookups.{first_named, field_names, field_types, Projects, ProjectionRefusal, MergeRefusal};
+    ghost use Rattle.dtype_types.specs.Lookups.{first_named, field_names, field_types, Projects, ProjectionRefusal, MergeRefusal, RemovalRefusal};
     ghost use Rattle.dtype_types.specs.Distinct.{Distinct};
     ghost use Rattle.dtype_types.specs.HashesOf.{struct_writes};
-    ghost use Rattle.dtype_types.specs.Tree.{Tree, struct};
+    ghost use Rattle.dtype_types.specs.Tree.{Tree};
     ghost use Rattle.dtype_types.specs.TreeOf.{struct_tree, IsPaired, names_of, dtypes_of, types_of, children, tree, option_tree};
     ghost use Rattle.dtype_types.specs.IsValid.{IsValid, IsValidField, IsValidStruct};
-    ghost use Rattle.dtype_types.specs.Width.{Measures};
+    ghost use Rattle.dtype_types.specs.Width.{MeasuresFields};
 
     /// No fields. Refuses 0 (OutOfMemory) alone.
     pub fn empty(alloc: Global) -> VortexResult<Self>
@@ -99,9 +97,8 @@ impl StructFields {
     ) -> VortexResult<Self>
         requires { (it : I.IntoIter) → I.into_iter_gives fields it
             → I.IntoIter.can_next it × IsFinite (I.IntoIter.remaining it) }
-        ensures fields { IfOk result (λ s. (it : I.IntoIter) × I.into_iter_gives fields it
-            × WholeRun I.IntoIter.next_gives it (λ run. HasFields s run.items
-            × IsPaired s × (All (λ p. IsValidField p.1) run.items → IsValidStruct s))) }
+        ensures fields { IfOk result (λ s.
+            MadeFrom (I.into_iter_gives fields) I.IntoIter.next_gives (IsMadeOf s)) }
         ensures refused { IsOkUnless result OutOfMemory }
     {
         let mut names = Vec::new(alloc);
@@ -223,7 +220,8 @@ impl StructFields {
 
     /// Whether the fields are equal with every nullability in them ignored.
     pub fn eq_ignore_nullability(&self, other: &Self) -> bool
-        ensures { IsTrue result ↔ (erase_fields (struct_tree self.now) ≡ erase_fields (struct_tree other.now)) }
+        ensures { IsTrue result
+            ↔ (erase_fields (struct_tree self.now) ≡ erase_fields (struct_tree other.now)) }
     {
         self.agree(other, Nullabilities::Ignored)
     }
@@ -257,7 +255,7 @@ impl StructFields {
     // The width of a struct of these fields, as far as the first variable one.
     #[cycle(width)]
     pub(crate) fn width(&self) -> Width
-        ensures { (n : Nullability) → Measures result (struct (struct_tree self.now) n) }
+        ensures { MeasuresFields result (children self.now) }
     {
         let mut total = Width::Bytes(0);
         let dtypes = self.dtypes();
@@ -291,7 +289,8 @@ impl StructFields {
     /// at the first name that no field has, with its position in the projection, else 0 (OutOfMemory)
     /// alone.
     pub fn project(&self, alloc: Global, projection: &[FieldName]) -> VortexResult<Self>
-        ensures fields { IfOk result (λ s. Projects (children self.now) projection.now (children s)) }
+        ensures fields { IfOk result
+            (λ s. Projects (children self.now) projection.now (children s)) }
         ensures each { IfOk result (λ s. AllByRecursion
             (λ n. first_named (children s) n ≡ first_named (children self.now) n) projection.now) }
         ensures paired { IfOk result IsPaired }
@@ -312,10 +311,13 @@ impl StructFields {
     /// stands twice among them, on one side alone too, else 0 (OutOfMemory) alone.
     pub fn disjoint_merge(&self, alloc: Global, other: &Self) -> VortexResult<Self>
         ensures fields { IfOk result (λ s. children s ≡ children self.now ++ children other.now) }
-        ensures distinct { IsOk result → Distinct (field_names (children self.now ++ children other.now)) }
+        ensures distinct { IsOk result
+            → Distinct (field_names (children self.now ++ children other.now)) }
         ensures paired { IfOk result IsPaired }
-        ensures valid { IsValidStruct self.now → IsValidStruct other.now → IfOk result IsValidStruct }
-        ensures refused { IfErr result (MergeRefusal (field_names (children self.now ++ children other.now))) }
+        ensures valid { IsValidStruct self.now → IsValidStruct other.now
+            → IfOk result IsValidStruct }
+        ensures refused { IfErr result
+            (MergeRefusal (field_names (children self.now ++ children other.now))) }
     {
         let count = self.count().saturating_add(other.count());
         let fields = FieldsBuilder::with_capacity(alloc, count)?;
@@ -329,7 +331,8 @@ impl StructFields {
 
     // Puts copies of all fields behind those that are there.
     fn push_copies(&self, alloc: Global, mut fields: FieldsBuilder) -> VortexResult<FieldsBuilder>
-        ensures ok { IfOk result (λ b. fields_so_far b ≡ fields_so_far fields ++ children self.now) }
+        ensures ok { IfOk result
+            (λ b. fields_so_far b ≡ fields_so_far fields ++ children self.now) }
         ensures valid { IsValidStruct self.now → All IsValid (dtypes_so_far fields)
             → IfOk result (λ b. All IsValid (dtypes_so_far b)) }
         ensures refused { IsOkUnless result OutOfMemory }
@@ -355,7 +358,7 @@ impl StructFields {
         ensures paired { IfOk result IsPaired }
         ensures valid { IsValidStruct self.now → IfOk result IsValidStruct }
         ensures within { IsOk result → index < length (children self.now) }
-        ensures refused { IfErr result (λ e. MatchBool (nat_lt index (length (children self.now))) (e ≡ OutOfMemory) (e ≡ IndexOutOfBounds index (length (children self.now)))) }
+        ensures refused { IfErr result (RemovalRefusal (children self.now) index) }
     {
         let fields = self.count();
         if index >= fields {
@@ -379,7 +382,8 @@ impl StructFields {
     ) -> VortexResult<FieldsBuilder>
         requires name { index < length (names_of self.now) }
         requires dtype { index < length (dtypes_of self.now) }
-        ensures ok { IfOk result (λ b. (p : List ℕ × Tree) × (p ≡ slice_index_or (children self.now) index p)
+        ensures ok { IfOk result (λ b. (p : List ℕ × Tree)
+            × (p ≡ slice_index_or (children self.now) index p)
             × (fields_so_far b ≡ fields_so_far fields ++ p ∷ [])) }
         ensures valid { IsValidStruct self.now → All IsValid (dtypes_so_far fields)
             → IfOk result (λ b. All IsValid (dtypes_so_far b)) }
@@ -409,7 +413,8 @@ impl StructFields {
         out: &mut String,
         indent: &str,
     ) -> VortexResult<()>
-        ensures ok { OnOk result (string_bytes out.new ≡ string_bytes out.old ++ indented_braces indent.now (struct_tree self.now)) }
+        ensures ok { OnOk result (string_bytes out.new
+            ≡ string_bytes out.old ++ indented_braces indent.now (struct_tree self.now)) }
         ensures refused { IsOkUnless result OutOfMemory }
     {
         let inner = format!(in alloc; "{indent}  ")?;
@@ -469,7 +474,7 @@ impl Eq for StructFields {
 impl Hash for StructFields {
     ghost use Rattle.dtype_types.specs.HashLaws.{struct_fed};
     ghost use Rattle.dtype_types.specs.HashesOf.{struct_writes};
-    ghost use Rattle.dtype_types.specs.declared.hashing.Hashed.TheVariants.{Whole};
+    ghost use Rattle.dtype_types.specs.declared.dtype.hash.Hashed.TheVariants.{Whole};
 
     ghost hash_input = { struct_writes Whole };
 

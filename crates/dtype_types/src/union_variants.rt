@@ -1,16 +1,16 @@
-ghost use Rattle.std.specs.Prelude.{◌≡◌, ◌≤◌, ◌<◌, ◌↔◌, ◌==◌, ◌⊎◌, IsTrue, List, [], length, map, vec_len, position, slice_get, All, IfOk, IfErr, IfSome, IfNone, OnOk, IsOkUnless, Err, Some, fold};
-ghost use Rattle.std.specs.List.{range_with_len};
+ghost use Rattle.std.specs.Prelude.{◌≡◌, ◌≤◌, ◌<◌, ◌↔◌, ◌==◌, ◌⊎◌, IsTrue, List, [], length, map, vec_len, position, slice_get, All, IfOk, IfErr, IfSome, IfNone, OnOk, IsOkUnless, Err, Some, false, fold};
+ghost use Rattle.std.specs.List.{IsDistinct, range_with_len};
 ghost use Rattle.dtype_base.specs.FieldNames.{FirstAt, IsAbsent};
 ghost use Rattle.dtype_base.specs.declared.vortex_error.VortexError.TheVariants.{OutOfMemory, UnionTooMany};
 ghost use Rattle.dtype_types.specs.Unions.{HasUnionLengths, MakesUnion, UnionRefusal};
 
-use crate::equality::{Nullabilities, agree};
-use crate::hashing::{Hashed, feed};
-use crate::repeats::has_repeats;
-use crate::text::separator;
+use crate::dtype::equality::{Nullabilities, agree};
+use crate::dtype::hash::{Hashed, feed};
+use crate::dtype::text::separator;
 use crate::{DType, DTypeIter};
 use dtype_base::{FieldNames, VortexError, VortexResult};
 use std::alloc::Global;
+use std::collections::HashSet;
 use std::fmt;
 use std::hash::{Hash, Hasher};
 use std::rc::Rc;
@@ -31,6 +31,15 @@ struct Tagged<T> {
     names: FieldNames,
     dtypes: Vec<T>,
     type_ids: Vec<u8>,
+}
+
+// Whether two of the items are equal.
+fn has_repeats<T: Eq + Hash>(alloc: Global, items: &[T]) -> VortexResult<bool>
+    ensures exact { IfOk result (λ b. (b ≡ false) ↔ IsDistinct T.eq items.now) }
+    ensures refused { IsOkUnless result OutOfMemory }
+{
+    let distinct: HashSet<&T> = items.iter().collect(alloc)?;
+    Ok(distinct.len() < items.len())
 }
 
 // Refuses names, types and tags that make no union: 10 (UnionTypesLength), 11 (UnionTagsLength), 12
@@ -174,7 +183,8 @@ impl UnionVariants {
         ensures names { result ≤ length (variant_names self.now) }
         ensures tags { result ≤ length (variant_tags self.now) }
         ensures exact { IsValidUnion self.now
-            → (result ≡ length (variant_names self.now)) × (result ≡ length (variant_tags self.now)) }
+            → (result ≡ length (variant_names self.now))
+            × (result ≡ length (variant_tags self.now)) }
     {
         self.count()
     }
@@ -239,7 +249,8 @@ impl UnionVariants {
     /// The position of the variant with this tag, or `None` where no variant has it.
     pub fn tag_to_child_index(&self, tag: u8) -> Option<usize>
         ensures first { result ≡ position (λ t. t == tag) (variant_tags self.now) }
-        ensures within { IsValidUnion self.now → IfSome result (λ i. i < length (choices self.now)) }
+        ensures within { IsValidUnion self.now
+            → IfSome result (λ i. i < length (choices self.now)) }
     {
         self.first_tagged(tag)
     }
@@ -376,7 +387,7 @@ impl Eq for UnionVariants {
 impl Hash for UnionVariants {
     ghost use Rattle.dtype_types.specs.HashLaws.{union_fed};
     ghost use Rattle.dtype_types.specs.HashesOf.{union_writes};
-    ghost use Rattle.dtype_types.specs.declared.hashing.Hashed.TheVariants.{Whole};
+    ghost use Rattle.dtype_types.specs.declared.dtype.hash.Hashed.TheVariants.{Whole};
 
     ghost hash_input = { union_writes Whole };
 

@@ -7,8 +7,8 @@ use Rattle.dtype_types.proofs.OtherKinds.{not_null}
 use Rattle.dtype_types.proofs.Turns.{fields_turn, variants_turn, differ_fields, differ_variants, not_true, not_false, tags_same, tags_differ, tag_at}
 use Rattle.dtype_types.proofs.+agree.Goals as goal
 
-pub equality::agree-returns-in_default : goal.equality::agree-returns-in_default
-equality::agree-returns-in_default t c =
+pub dtype::equality::agree-returns-in_default : goal.dtype::equality::agree-returns-in_default
+dtype::equality::agree-returns-in_default t c =
     sym (ap (λ d. agree c.args.rule (tree d) (tree c.args.b.now)) c.in-Null.is ∙ ap (λ x. agree c.args.rule x (tree c.args.b.now)) tree_null ∙ not_null c.args.rule c.args.b.now c.in_default.not-Null)
 
 pub struct_fields::StructFields::agree-returns-then-count : goal.struct_fields::StructFields::agree-returns-then-count

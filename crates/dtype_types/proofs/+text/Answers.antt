@@ -11,20 +11,20 @@ use Rattle.dtype_types.specs.TextOf.{map_text, struct_text, union_text, extensio
 use Rattle.dtype_types.proofs.Turns.{tag_at}
 use Rattle.dtype_types.proofs.+text.Goals as goal
 
-pub dtype::DTypeDisplay::fmt-returns-in_ok-fmt-in-Map-clause-writes : goal.dtype::DTypeDisplay::fmt-returns-in_ok-fmt-in-Map-clause-writes
-dtype::DTypeDisplay::fmt-returns-in_ok-fmt-in-Map-clause-writes g t c = λ plain ok.
+pub dtype::text::DTypeDisplay::fmt-returns-in_ok-fmt-in-Map-clause-writes : goal.dtype::text::DTypeDisplay::fmt-returns-in_ok-fmt-in-Map-clause-writes
+dtype::text::DTypeDisplay::fmt-returns-in_ok-fmt-in-Map-clause-writes g t c = λ plain ok.
     let e = map_all c.in-Map.map c.in-Map.n c.args.self.now c.in-Map.is in grind (arith, common_steps)
 
-pub dtype::DTypeDisplay::fmt-returns-in_ok-fmt-in-Struct-clause-writes : goal.dtype::DTypeDisplay::fmt-returns-in_ok-fmt-in-Struct-clause-writes
-dtype::DTypeDisplay::fmt-returns-in_ok-fmt-in-Struct-clause-writes g t c = λ plain ok.
+pub dtype::text::DTypeDisplay::fmt-returns-in_ok-fmt-in-Struct-clause-writes : goal.dtype::text::DTypeDisplay::fmt-returns-in_ok-fmt-in-Struct-clause-writes
+dtype::text::DTypeDisplay::fmt-returns-in_ok-fmt-in-Struct-clause-writes g t c = λ plain ok.
     let e = struct_all c.in-Struct.fields c.in-Struct.n c.args.self.now c.in-Struct.is in grind (arith, common_steps)
 
-pub dtype::DTypeDisplay::fmt-returns-in_ok-fmt-in-Union-clause-writes : goal.dtype::DTypeDisplay::fmt-returns-in_ok-fmt-in-Union-clause-writes
-dtype::DTypeDisplay::fmt-returns-in_ok-fmt-in-Union-clause-writes g t c = λ plain ok.
+pub dtype::text::DTypeDisplay::fmt-returns-in_ok-fmt-in-Union-clause-writes : goal.dtype::text::DTypeDisplay::fmt-returns-in_ok-fmt-in-Union-clause-writes
+dtype::text::DTypeDisplay::fmt-returns-in_ok-fmt-in-Union-clause-writes g t c = λ plain ok.
     let e = union_all c.in-Union.variants c.in-Union.n c.args.self.now c.in-Union.is in grind (arith, common_steps)
 
-pub dtype::DTypeDisplay::fmt-returns-in-Extension-clause-writes : goal.dtype::DTypeDisplay::fmt-returns-in-Extension-clause-writes
-dtype::DTypeDisplay::fmt-returns-in-Extension-clause-writes g t c = λ plain ok.
+pub dtype::text::DTypeDisplay::fmt-returns-in-Extension-clause-writes : goal.dtype::text::DTypeDisplay::fmt-returns-in-Extension-clause-writes
+dtype::text::DTypeDisplay::fmt-returns-in-Extension-clause-writes g t c = λ plain ok.
     let e = extension_all c.in-Extension.extension c.args.self.now c.in-Extension.is in grind (arith, common_steps)
 
 pub extension::ExtDTypeRefDisplay::fmt-returns-clause-writes : goal.extension::ExtDTypeRefDisplay::fmt-returns-clause-writes

@@ -17,7 +17,7 @@ struct_fields::StructFields::width-returns-in-Variable t c n =
     let read = read_pair (names_of s) (dtypes_of s) i m d (omega arith) (omega arith) (get_or_default (names_of s) i [] m (omega arith)) (c.index-dtypes-i.is ∙ ap (λ xs. get_or xs i d) c.dtypes-dtypes.ensures) in
     let grown = take_more (children s) i p (omega arith) ∙ ap (λ q. take i (children s) ++ q ∷ []) (sym read) in
     let P : List (List ℕ × Tree) → Type 0 = λ ps. Measures c.plus-total.result (struct (fields ps) n) in
-    let so_far = subst P (sym grown) (c.plus-total.ensures (take i (children s)) p n (c.loop-i.invariant n) c.width.ensures) in
+    let so_far = subst P (sym grown) (c.plus-total.ensures (take i (children s)) p c.loop-i.invariant c.width.ensures n) in
     variable_beginning (children s) (i + 1) (rw c.in-Variable.is at so_far)
 
 pub struct_fields::StructFields::width-loop-i-preserved : goal.struct_fields::StructFields::width-loop-i-preserved
@@ -30,4 +30,4 @@ struct_fields::StructFields::width-loop-i-preserved t c n =
     let read = read_pair (names_of s) (dtypes_of s) i m d (omega arith) (omega arith) (get_or_default (names_of s) i [] m (omega arith)) (c.index-dtypes-i.is ∙ ap (λ xs. get_or xs i d) c.dtypes-dtypes.ensures) in
     let grown = take_more (children s) i p (omega arith) ∙ ap (λ q. take i (children s) ++ q ∷ []) (sym read) in
     let P : List (List ℕ × Tree) → Type 0 = λ ps. Measures c.plus-total.result (struct (fields ps) n) in
-    subst P (sym grown) (c.plus-total.ensures (take i (children s)) p n (c.loop-i.invariant n) c.width.ensures)
+    subst P (sym grown) (c.plus-total.ensures (take i (children s)) p c.loop-i.invariant c.width.ensures n)

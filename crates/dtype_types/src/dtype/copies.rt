@@ -11,7 +11,7 @@ use std::alloc::Global;
 impl DType {
     /// A type equal to this one. Refuses 0 (OutOfMemory) alone.
     #[cycle(copy)]
-    #[tactic(auto, using(crate::proofs::SameParts::same_structs, crate::proofs::SameParts::same_unions, crate::proofs::SameParts::same_maps, crate::proofs::SameParts::same_extensions, crate::proofs::EvenLists::even_structs, crate::proofs::EvenLists::even_unions, crate::proofs::EvenLists::even_maps, crate::proofs::EvenLists::even_extensions))]
+    #[tactic(auto, using(crate::proofs::SameParts::same_parts, crate::proofs::EvenLists::even_parts))]
     pub fn try_clone(&self, alloc: Global) -> VortexResult<DType>
         ensures same { IfOk result (λ d. tree d ≡ tree self.now) }
         ensures even { IfOk result (λ d. has_even_lists d ≡ has_even_lists self.now) }

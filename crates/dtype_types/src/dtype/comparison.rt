@@ -4,7 +4,7 @@ ghost use Rattle.dtype_types.specs.Sub.{Sub};
 ghost use Rattle.dtype_types.specs.TreeOf.{tree};
 
 use crate::DType;
-use crate::equality::{Nullabilities, agree};
+use crate::dtype::equality::{Nullabilities, agree};
 
 impl DType {
     /// Whether the types are equal but for nullabilities, and the other is nullable wherever this one is,

@@ -38,7 +38,7 @@ fn same_ptype(one: PType, other: PType) -> bool
 
 // Whether the types are equal but for nullabilities, and those stand to one another as the rule says.
 #[cycle(agree)]
-#[tactic(auto, using(crate::proofs::OtherKinds::not_null, crate::proofs::OtherKinds::not_bool, crate::proofs::OtherKinds::not_primitive, crate::proofs::OtherKinds::not_decimal, crate::proofs::OtherKinds::not_utf8, crate::proofs::OtherKinds::not_binary, crate::proofs::OtherKinds::not_variant, crate::proofs::OtherKinds::not_list, crate::proofs::OtherKinds::not_fixed, crate::proofs::OtherKinds::not_map, crate::proofs::OtherKinds::not_struct, crate::proofs::OtherKinds::not_union, crate::proofs::OtherKinds::not_extension, crate::proofs::OtherKinds::struct_agree, crate::proofs::OtherKinds::union_agree))]
+#[tactic(auto, using(crate::proofs::OtherKinds::other_kinds, crate::proofs::OtherKinds::agreements))]
 pub(crate) fn agree(a: &DType, b: &DType, rule: Nullabilities) -> bool
     ensures { result ≡ agree rule (tree a.now) (tree b.now) }
 {

@@ -1,5 +1,5 @@
 use Rattle.dtype_types.proofs.Widths.{wide_list}
-use Rattle.dtype_types.proofs.width.Width.times.Goals as goal
+use Rattle.dtype_types.proofs.dtype.width.Width.times.Goals as goal
 
 pub returns-in-None : goal.returns-in-None
 returns-in-None c t n m =

@@ -1,7 +1,7 @@
 use Rattle.std.proofs.Common.{sym, ◌∙◌}
 use Rattle.dtype_types.specs.EqualityLaws.{agree-Decides}
 use Rattle.dtype_types.specs.TreeOf.{tree}
-use Rattle.dtype_types.proofs.equality.DTypePartialEq.eq.Goals as goal
+use Rattle.dtype_types.proofs.dtype.equality.DTypePartialEq.eq.Goals as goal
 
 pub returns-clause-exact : goal.returns-clause-exact
 returns-clause-exact c =

@@ -31,7 +31,8 @@ impl DType {
         out: &mut String,
         indent: &str,
     ) -> VortexResult<()>
-        ensures ok { OnOk result (string_bytes out.new ≡ string_bytes out.old ++ indented indent.now (tree self.now)) }
+        ensures ok { OnOk result (string_bytes out.new
+            ≡ string_bytes out.old ++ indented indent.now (tree self.now)) }
         ensures refused { IsOkUnless result OutOfMemory }
     {
         match self {

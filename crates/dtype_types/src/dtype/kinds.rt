@@ -210,7 +210,7 @@ impl DType {
     }
 
     /// The name of the primitive type that this is.
-    #[tactic(auto, using(crate::proofs::KindLaws::primitive_name_none, crate::proofs::KindLaws::is_primitive_named))]
+    #[tactic(auto, using(crate::proofs::KindLaws::primitives))]
     pub fn as_ptype(&self) -> PType
         requires { kind (tree self.now) ≡ Kind.Primitive }
         ensures { primitive_name (tree self.now) ≡ Some result }
@@ -269,7 +269,7 @@ impl DType {
     }
 
     /// What a `Map` holds, else `None`.
-    #[tactic(auto, using(crate::proofs::KindLaws::map_parts_none, crate::proofs::EvenLists::valid_map))]
+    #[tactic(auto, using(crate::proofs::KindLaws::maps))]
     pub fn as_map_opt(&self) -> Option<&MapDType>
         ensures held { shown map_shown result ≡ map_parts (tree self.now) }
         ensures valid { IsValid self.now → IfSome result (λ m. IsValidMap m.now) }
@@ -281,7 +281,7 @@ impl DType {
     }
 
     /// The fields of a `Struct`, else `None`.
-    #[tactic(auto, using(crate::proofs::KindLaws::struct_fields_none, crate::proofs::KindLaws::struct_fields_some))]
+    #[tactic(auto, using(crate::proofs::KindLaws::structs))]
     pub fn as_struct_fields_opt(&self) -> Option<&StructFields>
         ensures held { shown children result ≡ struct_fields (tree self.now) }
         ensures valid { IsValid self.now → IfSome result (λ s. IsValidStruct s.now) }
@@ -293,7 +293,7 @@ impl DType {
     }
 
     /// The variants of a `Union`, else `None`.
-    #[tactic(auto, using(crate::proofs::KindLaws::union_variants_none, crate::proofs::KindLaws::union_variants_some))]
+    #[tactic(auto, using(crate::proofs::KindLaws::unions))]
     pub fn as_union_variants_opt(&self) -> Option<&UnionVariants>
         ensures held { shown choices result ≡ union_variants (tree self.now) }
         ensures valid { IsValid self.now → IfSome result (λ u. IsValidUnion u.now) }
@@ -364,7 +364,7 @@ impl DType {
     }
 
     /// What a `Map` holds, given up, else `None`.
-    #[tactic(auto, using(crate::proofs::KindLaws::map_parts_none, crate::proofs::EvenLists::valid_map))]
+    #[tactic(auto, using(crate::proofs::KindLaws::maps))]
     pub fn into_map_opt(self) -> Option<MapDType>
         ensures held { option_map map_shown result ≡ map_parts (tree self) }
         ensures valid { IsValid self → IfSome result IsValidMap }
@@ -376,7 +376,7 @@ impl DType {
     }
 
     /// The fields of a `Struct`, given up, else `None`.
-    #[tactic(auto, using(crate::proofs::KindLaws::struct_fields_none))]
+    #[tactic(auto, using(crate::proofs::KindLaws::structs))]
     pub fn into_struct_fields_opt(self) -> Option<StructFields>
         ensures held { option_map children result ≡ struct_fields (tree self) }
         ensures valid { IsValid self → IfSome result IsValidStruct }
@@ -388,7 +388,7 @@ impl DType {
     }
 
     /// The variants of a `Union`, given up, else `None`.
-    #[tactic(auto, using(crate::proofs::KindLaws::union_variants_none, crate::proofs::KindLaws::union_variants_some))]
+    #[tactic(auto, using(crate::proofs::KindLaws::unions))]
     pub fn into_union_variants_opt(self) -> Option<UnionVariants>
         ensures held { option_map choices result ≡ union_variants (tree self) }
         ensures valid { IsValid self → IfSome result IsValidUnion }
@@ -400,7 +400,7 @@ impl DType {
     }
 
     /// The fields of the struct that this is.
-    #[tactic(auto, using(crate::proofs::KindLaws::struct_fields_none, crate::proofs::KindLaws::struct_fields_some, crate::proofs::KindLaws::is_struct_with))]
+    #[tactic(auto, using(crate::proofs::KindLaws::structs))]
     pub fn as_struct_fields(&self) -> &StructFields
         requires { kind (tree self.now) ≡ Kind.Struct }
         ensures held { struct_fields (tree self.now) ≡ Some (children result.now) }
@@ -413,7 +413,7 @@ impl DType {
     }
 
     /// The fields of the struct that this is, given up.
-    #[tactic(auto, using(crate::proofs::KindLaws::struct_fields_none, crate::proofs::KindLaws::struct_fields_some, crate::proofs::KindLaws::is_struct_with))]
+    #[tactic(auto, using(crate::proofs::KindLaws::structs))]
     pub fn into_struct_fields(self) -> StructFields
         requires { kind (tree self) ≡ Kind.Struct }
         ensures held { struct_fields (tree self) ≡ Some (children result) }
@@ -426,7 +426,7 @@ impl DType {
     }
 
     /// The extension that this is.
-    #[tactic(auto, using(crate::proofs::KindLaws::extension_parts_none, crate::proofs::KindLaws::is_extension_with))]
+    #[tactic(auto, using(crate::proofs::KindLaws::extensions))]
     pub fn as_extension(&self) -> &ExtDTypeRef
         requires { kind (tree self.now) ≡ Kind.Extension }
         ensures held { tree self.now ≡ extension_tree result.now }

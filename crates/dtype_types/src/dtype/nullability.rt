@@ -8,7 +8,7 @@ ghost use Rattle.dtype_types.specs.IsValid.{IsValid, has_even_lists};
 ghost use Rattle.dtype_types.specs.Value.{AddsNull};
 
 use crate::DType;
-use crate::copies::boxed_copy;
+use crate::dtype::copies::boxed_copy;
 use dtype_base::{Nullability, VortexResult};
 use std::alloc::Global;
 
@@ -108,7 +108,7 @@ impl DType {
 
     // The same, in a cycle with the extensions.
     #[cycle(with_nullability)]
-    #[tactic(auto, using(crate::proofs::SameParts::set_struct, crate::proofs::SameParts::set_union, crate::proofs::SameParts::set_map, crate::proofs::SameParts::set_extension, crate::proofs::EvenLists::even_structs, crate::proofs::EvenLists::even_unions, crate::proofs::EvenLists::even_maps, crate::proofs::EvenLists::even_extensions))]
+    #[tactic(auto, using(crate::proofs::SameParts::set_parts, crate::proofs::EvenLists::even_parts))]
     pub(crate) fn set_nullability(&self, alloc: Global, n: Nullability) -> VortexResult<DType>
         requires { n ≡ Nullability.NonNullable → CanBeNonNullable (tree self.now) }
         ensures set { IfOk result (λ d. SetNull (tree self.now) n (tree d)) }
@@ -141,7 +141,8 @@ impl DType {
     /// alone.
     #[tactic(auto, using(crate::proofs::SetNullLaws::nonnullable_can))]
     pub fn union_nullability(&self, alloc: Global, n: Nullability) -> VortexResult<DType>
-        ensures set { IfOk result (λ d. SetNull (tree self.now) (either (nullability (tree self.now)) n) (tree d)) }
+        ensures set { IfOk result
+            (λ d. SetNull (tree self.now) (either (nullability (tree self.now)) n) (tree d)) }
         ensures valid { IsValid self.now → IfOk result IsValid }
         ensures refused { IsOkUnless result OutOfMemory }
     {

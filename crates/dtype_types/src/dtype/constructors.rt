@@ -1,13 +1,12 @@
 // Constructors of types that hold others.
-ghost use Rattle.std.specs.Prelude.{◌≡◌, ◌↔◌, ◌⊎◌, All, Err, IfOk, IfErr, OnOk, IsOkUnless};
+ghost use Rattle.std.specs.Prelude.{◌≡◌, ◌↔◌, ◌⊎◌, Err, IfOk, IfErr, OnOk, IsOkUnless};
 ghost use Rattle.std.specs.Iterator.{IsFinite};
-ghost use Rattle.std.specs.Iterator.Runs.{WholeRun};
 ghost use Rattle.dtype_base.specs.declared.vortex_error.VortexError.TheVariants.{OutOfMemory, MapKeyNullable};
-ghost use Rattle.dtype_types.specs.FieldTypes.{field_tree, given_fields};
+ghost use Rattle.dtype_types.specs.FieldTypes.{IsStructOf, MadeFrom};
 ghost use Rattle.dtype_types.specs.Nullable.{nullability, IsNullable};
-ghost use Rattle.dtype_types.specs.Tree.{list, map_of, struct};
+ghost use Rattle.dtype_types.specs.Tree.{list, map_of};
 ghost use Rattle.dtype_types.specs.TreeOf.{tree};
-ghost use Rattle.dtype_types.specs.IsValid.{IsValid, IsValidField};
+ghost use Rattle.dtype_types.specs.IsValid.{IsValid};
 
 use crate::{DType, FieldDType, MapDType, StructFields};
 use dtype_base::{FieldName, Nullability, VortexResult};
@@ -50,9 +49,8 @@ impl DType {
     ) -> VortexResult<DType>
         requires { (it : I.IntoIter) → I.into_iter_gives fields it
             → I.IntoIter.can_next it × IsFinite (I.IntoIter.remaining it) }
-        ensures made { IfOk result (λ d. (it : I.IntoIter) × I.into_iter_gives fields it
-            × WholeRun I.IntoIter.next_gives it (λ run. (tree d ≡ struct (given_fields run.items) n)
-            × (All (λ p. IsValidField p.1) run.items → IsValid d))) }
+        ensures made { IfOk result (λ d.
+            MadeFrom (I.into_iter_gives fields) I.IntoIter.next_gives (IsStructOf n d)) }
         ensures refused { IsOkUnless result OutOfMemory }
     {
         Ok(DType::Struct(StructFields::from_iter(alloc, fields)?, n))

@@ -2,9 +2,9 @@
 ghost use Rattle.std.specs.Prelude.{◌≡◌, ◌↔◌, ◌++◌, ◌∷◌, ℕ, List, [], None, IfOk, IfSome, IsErr, IsOkUnless};
 ghost use Rattle.dtype_base.specs.declared.nullability.Nullability.{Nullability};
 ghost use Rattle.dtype_base.specs.declared.vortex_error.VortexError.TheVariants.{WidthOverflow};
-ghost use Rattle.dtype_types.specs.Tree.{Tree, fields, fixed_size_list, struct};
+ghost use Rattle.dtype_types.specs.Tree.{Tree, fixed_size_list};
 ghost use Rattle.dtype_types.specs.TreeOf.{tree};
-ghost use Rattle.dtype_types.specs.Width.{Fixed, HasWidePart, Measures, width};
+ghost use Rattle.dtype_types.specs.Width.{Fixed, HasWidePart, Measures, MeasuresFields, width};
 
 use crate::DType;
 use dtype_base::{DecimalType, VortexError, VortexResult};
@@ -22,7 +22,8 @@ pub(crate) enum Width {
 impl Width {
     // The width of a list of that many elements of this width.
     fn times(self, size: u32) -> Width
-        ensures { (t : Tree) (n : Nullability) → Measures self t → Measures result (fixed_size_list t size n) }
+        ensures { (t : Tree) (n : Nullability) → Measures self t
+            → Measures result (fixed_size_list t size n) }
     {
         match self {
             Width::Variable => Width::Variable,
@@ -36,8 +37,8 @@ impl Width {
 
     // The width of a struct of fields of this width with a field of that width behind them.
     pub(crate) fn plus(self, field: Width) -> Width
-        ensures { (ps : List (List ℕ × Tree)) (p : List ℕ × Tree) (n : Nullability) → Measures self (struct (fields ps) n) → Measures field p.1
-            → Measures result (struct (fields (ps ++ p ∷ [])) n) }
+        ensures { (ps : List (List ℕ × Tree)) (p : List ℕ × Tree) → MeasuresFields self ps
+            → Measures field p.1 → MeasuresFields result (ps ++ p ∷ []) }
     {
         match self {
             Width::Variable => Width::Variable,

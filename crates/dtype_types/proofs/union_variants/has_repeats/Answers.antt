@@ -1,6 +1,6 @@
 use Rattle.std.proofs.lemmas.Iterator.{YieldsList-from_slice, items_from_drains}
 use Rattle.dtype_types.proofs.DistinctItems.{shorter_set}
-use Rattle.dtype_types.proofs.repeats.has_repeats.Goals as goal
+use Rattle.dtype_types.proofs.union_variants.has_repeats.Goals as goal
 
 pub returns-clause-exact : goal.returns-clause-exact
 returns-clause-exact g c =

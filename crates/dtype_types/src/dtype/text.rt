@@ -1,0 +1,57 @@
+// The text of a type.
+ghost use Rattle.std.specs.Prelude.{◌≡◌, ◌==◌, [], Some, codes, if◌then◌else◌};
+
+use crate::DType;
+use std::fmt;
+
+/// The type's kind, what it holds in brackets or braces, and `?` where it is nullable.
+impl fmt::Display for DType {
+    ghost use Rattle.dtype_types.specs.Text.{text};
+    ghost use Rattle.dtype_types.specs.TreeOf.{tree};
+
+    ghost output = { λ d. Some (text (tree d)) };
+
+    #[cycle(text)]
+    fn fmt<W: fmt::Write>(&self, f: &mut fmt::Formatter<W>) -> fmt::Result {
+        match self {
+            DType::Null => write!(f, "null"),
+            DType::Bool(n) => write!(f, "bool{n}"),
+            DType::Primitive(ptype, n) => write!(f, "{ptype}{n}"),
+            DType::Decimal(decimal, n) => write!(f, "{decimal}{n}"),
+            DType::Utf8(n) => write!(f, "utf8{n}"),
+            DType::Binary(n) => write!(f, "binary{n}"),
+            DType::List(element, n) => {
+                write!(f, "list(")?;
+                (**element).fmt(f)?;
+                write!(f, "){n}")
+            }
+            DType::FixedSizeList(element, size, n) => {
+                write!(f, "fixed_size_list(")?;
+                (**element).fmt(f)?;
+                write!(f, ")[{size}]{n}")
+            }
+            DType::Map(map, n) => {
+                map.fmt(f)?;
+                write!(f, "{n}")
+            }
+            DType::Struct(fields, n) => {
+                fields.fmt(f)?;
+                write!(f, "{n}")
+            }
+            DType::Union(variants, n) => {
+                write!(f, "union(")?;
+                variants.fmt(f)?;
+                write!(f, "){n}")
+            }
+            DType::Variant(n) => write!(f, "variant{n}"),
+            DType::Extension(extension) => extension.fmt(f),
+        }
+    }
+}
+
+// What stands before the part at this place: nothing at the first, a comma and a space at the others.
+pub(crate) fn separator(i: usize) -> &'static str
+    ensures { result.now ≡ (if i == 0 then [] else codes ", ") }
+{
+    if i == 0 { "" } else { ", " }
+}

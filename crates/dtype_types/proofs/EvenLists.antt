@@ -6,6 +6,7 @@ use Rattle.dtype_base.specs.declared.nullability.Nullability.{Nullability}
 use Rattle.dtype_types.specs.Building.{dtypes_so_far}
 use Rattle.dtype_types.specs.declared.fields_builder.FieldsBuilder.{FieldsBuilder}
 use Rattle.dtype_types.specs.declared.field_dtype.FieldDType.{FieldDType}
+use Rattle.dtype_types.specs.EqualityLaws.{both, join}
 use Rattle.dtype_types.specs.FieldTypes.{field_tree}
 use Rattle.dtype_types.specs.IsValid.{IsValid, IsValidStruct, IsValidUnion, IsValidMap, even_fields, even_variants, has_even_lists}
 use Rattle.dtype_types.specs.Tree.{fields, struct, variants}
@@ -32,29 +33,19 @@ even_map_is m n = search (rules, the_lemmas, fold_out-DType, fold-roll-DType, fo
 pub even_extension_is : (e : ExtDTypeRef) → has_even_lists (Extension e) ≡ has_even_lists (extension_storage e)
 even_extension_is e = search (rules, the_lemmas, fold_out-DType, fold-roll-DType, fold_out-ExtDTypeRef)
 
--- ---- two tests at once
-
-pub both_hold : (a b : Bool) → (a && b) ≡ true → (a ≡ true) × (b ≡ true)
-both_hold true b e = (refl, e)
-both_hold false b e = cc
-
-pub hold_both : (a b : Bool) → a ≡ true → b ≡ true → (a && b) ≡ true
-hold_both true b e f = f
-hold_both false b e f = cc
-
 -- ---- fields
 
 even_lengths : (ns : List (List ℕ)) (ds : List DType) → even_fields ns (map has_even_lists ds) ≡ true → length ns ≡ length (map tree ds)
 even_lengths [] [] e = refl
 even_lengths [] (d ∷ ds) e = cc
 even_lengths (n ∷ ns) [] e = cc
-even_lengths (n ∷ ns) (d ∷ ds) e = let rest = even_lengths ns ds (both_hold (has_even_lists d) _ e).1 in omega (arith, rest)
+even_lengths (n ∷ ns) (d ∷ ds) e = let rest = even_lengths ns ds (both {x = (has_even_lists d)} e).1 in omega (arith, rest)
 
 valid_each : (ns : List (List ℕ)) (ds : List DType) → ValidFields (fields (zip ns (map tree ds))) → even_fields ns (map has_even_lists ds) ≡ true → AllByRecursion IsValid ds
 valid_each [] [] h e = tt
 valid_each [] (d ∷ ds) h e = cc
 valid_each (n ∷ ns) [] h e = cc
-valid_each (n ∷ ns) (d ∷ ds) h e = let e' = both_hold (has_even_lists d) _ e in ((h.0, e'.0), valid_each ns ds h.1 e'.1)
+valid_each (n ∷ ns) (d ∷ ds) h e = let e' = both {x = (has_even_lists d)} e in ((h.0, e'.0), valid_each ns ds h.1 e'.1)
 
 fields_valid : (ns : List (List ℕ)) (ds : List DType) → AllByRecursion IsValid ds → ValidFields (fields (zip ns (map tree ds)))
 fields_valid [] ds h = tt
@@ -65,7 +56,7 @@ fields_even : (ns : List (List ℕ)) (ds : List DType) → length ns ≡ length 
 fields_even [] [] k h = refl
 fields_even [] (d ∷ ds) k h = absurd (omega arith)
 fields_even (n ∷ ns) [] k h = absurd (omega arith)
-fields_even (n ∷ ns) (d ∷ ds) k h = hold_both (has_even_lists d) _ h.0.1 (fields_even ns ds (omega arith) h.1)
+fields_even (n ∷ ns) (d ∷ ds) k h = join {x = (has_even_lists d)} h.0.1 (fields_even ns ds (omega arith) h.1)
 
 pub valid_struct : (d : DType) (s : StructFields) (n : Nullability) → d ≡ Struct s n → IsValid d → IsValidStruct s
 valid_struct d s n is h =
@@ -92,14 +83,14 @@ even_lengths-variants [] [] (g ∷ gs) e = cc
 even_lengths-variants [] (d ∷ ds) gs e = cc
 even_lengths-variants (n ∷ ns) [] gs e = cc
 even_lengths-variants (n ∷ ns) (d ∷ ds) [] e = cc
-even_lengths-variants (n ∷ ns) (d ∷ ds) (g ∷ gs) e = let rest = even_lengths-variants ns ds gs (both_hold (has_even_lists d) _ e).1 in (omega (arith, rest.0), omega (arith, rest.1))
+even_lengths-variants (n ∷ ns) (d ∷ ds) (g ∷ gs) e = let rest = even_lengths-variants ns ds gs (both {x = (has_even_lists d)} e).1 in (omega (arith, rest.0), omega (arith, rest.1))
 
 valid_each-variant : (ns : List (List ℕ)) (ds : List DType) (gs : List ℕ) → ValidVariants (variants (zip_tagged ns (map tree ds) gs)) → even_variants ns (map has_even_lists ds) gs ≡ true → AllByRecursion IsValid ds
 valid_each-variant [] [] gs h e = tt
 valid_each-variant [] (d ∷ ds) gs h e = cc
 valid_each-variant (n ∷ ns) [] gs h e = cc
 valid_each-variant (n ∷ ns) (d ∷ ds) [] h e = cc
-valid_each-variant (n ∷ ns) (d ∷ ds) (g ∷ gs) h e = let e' = both_hold (has_even_lists d) _ e in ((h.0, e'.0), valid_each-variant ns ds gs h.4 e'.1)
+valid_each-variant (n ∷ ns) (d ∷ ds) (g ∷ gs) h e = let e' = both {x = (has_even_lists d)} e in ((h.0, e'.0), valid_each-variant ns ds gs h.4 e'.1)
 
 variants_even : (ns : List (List ℕ)) (ds : List DType) (gs : List ℕ) → length ns ≡ length (map tree ds) → length ns ≡ length gs → AllByRecursion IsValid ds → even_variants ns (map has_even_lists ds) gs ≡ true
 variants_even [] [] [] k l h = refl
@@ -107,7 +98,7 @@ variants_even [] [] (g ∷ gs) k l h = absurd (omega (arith, l))
 variants_even [] (d ∷ ds) gs k l h = absurd (omega (arith, k))
 variants_even (n ∷ ns) [] gs k l h = absurd (omega (arith, k))
 variants_even (n ∷ ns) (d ∷ ds) [] k l h = absurd (omega (arith, l))
-variants_even (n ∷ ns) (d ∷ ds) (g ∷ gs) k l h = hold_both (has_even_lists d) _ h.0.1 (variants_even ns ds gs (omega (arith, k)) (omega (arith, l)) h.1)
+variants_even (n ∷ ns) (d ∷ ds) (g ∷ gs) k l h = join {x = (has_even_lists d)} h.0.1 (variants_even ns ds gs (omega (arith, k)) (omega (arith, l)) h.1)
 
 pub valid_union : (d : DType) (u : UnionVariants) (n : Nullability) → d ≡ Union u n → IsValid d → IsValidUnion u
 valid_union d u n is h =
@@ -128,11 +119,11 @@ union_valid u n h =
 pub valid_map : (d : DType) (m : MapDType) (n : Nullability) → d ≡ Map m n → IsValid d → IsValidMap m
 valid_map d m n is h =
     let valid = subst Valid (ap tree is ∙ tree_map m n) h.0 in
-    let even = both_hold (has_even_lists (map_key m)) _ (sym (ap has_even_lists is ∙ even_map_is m n) ∙ h.1) in
+    let even = both {x = (has_even_lists (map_key m))} (sym (ap has_even_lists is ∙ even_map_is m n) ∙ h.1) in
     (valid.0, (valid.1, even.0), (valid.2, even.1))
 
 pub map_valid : (m : MapDType) (n : Nullability) → IsValidMap m → IsValid (Map m n)
-map_valid m n h = (subst Valid (sym (tree_map m n)) (h.0, h.1.0, h.2.0), even_map_is m n ∙ hold_both (has_even_lists (map_key m)) _ h.1.1 h.2.1)
+map_valid m n h = (subst Valid (sym (tree_map m n)) (h.0, h.1.0, h.2.0), even_map_is m n ∙ join {x = (has_even_lists (map_key m))} h.1.1 h.2.1)
 
 -- ---- types made of the same parts
 

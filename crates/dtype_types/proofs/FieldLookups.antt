@@ -4,7 +4,8 @@ use Rattle.std.specs.List.{zip}
 use Rattle.std.specs.Option.{is_some, option_map, option_copied}
 use Rattle.std.specs.Str.{bytes_eq}
 use Rattle.std.proofs.lemmas.Slice.Eq.{bytes_eq-Decides}
-use Rattle.std.proofs.lemmas.Option.{slice_get-map, slice_get_past, slice_get_read}
+use Rattle.std.proofs.lemmas.Option.{same_Some, slice_get-map, slice_get_past, slice_get_read}
+use Rattle.std.proofs.lemmas.Bool.{false_from_ne_true}
 use Rattle.std.proofs.lemmas.Bool.Decides.{nat_tests}
 use Rattle.std.proofs.lemmas.List.{length-map}
 use Rattle.std.proofs.lemmas.Slice.Zip.{length-zip}
@@ -19,19 +20,12 @@ pub same_name : {X : Type 0} (m n : List ℕ) (x y : X) → m ≡ n → cond (by
 same_name m n x y e = ap (λ b. cond b x y) ((bytes_eq-Decides m n).1 e)
 
 pub other_name : {X : Type 0} (m n : List ℕ) (x y : X) → m ≢ n → cond (bytes_eq m n) x y ≡ y
-other_name m n x y ne = go (bytes_eq m n) refl
-  where
-    go : (b : Bool) → bytes_eq m n ≡ b → cond b x y ≡ y
-    go true e = absurd (ne ((bytes_eq-Decides m n).0 e))
-    go false e = refl
-
-pub some_is : {X : Type 0} (a b : X) → Some a ≡ Some b → a ≡ b
-some_is a b e = cc
+other_name m n x y ne = ap (λ b. cond b x y) (false_from_ne_true (bytes_eq m n) (λ e. ne ((bytes_eq-Decides m n).0 e)))
 
 pub first_named-at : (ns : List (List ℕ)) (ts : List Tree) (n : List ℕ) (i : ℕ) → slice_get ns i ≡ Some n → ((k : ℕ) → k < i → slice_get ns k ≢ Some n) → first_named (zip ns ts) n ≡ slice_get ts i
 first_named-at [] ts n i here first = cc
 first_named-at (m ∷ ns) [] n i here first = refl
-first_named-at (m ∷ ns) (t ∷ ts) n zero here first = same_name m n _ _ (some_is m n here)
+first_named-at (m ∷ ns) (t ∷ ts) n zero here first = same_name m n _ _ (same_Some m n here)
 first_named-at (m ∷ ns) (t ∷ ts) n (suc i) here first =
     other_name m n _ _ (λ e. first 0 (omega arith) (ap Some e)) ∙ first_named-at ns ts n i here (λ k h. first (suc k) (omega (arith, h)))
 

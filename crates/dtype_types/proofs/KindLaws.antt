@@ -8,11 +8,12 @@ use Rattle.dtype_base.specs.declared.ptype.PType.{PType}
 use Rattle.dtype_types.specs.declared.dtype.kinds.Kind.TheVariants as k
 use Rattle.dtype_types.specs.Kinds.{kind, primitive_name, decimal_of, struct_fields, union_variants, map_parts, extension_parts, list_element, fixed_size_list_element, any_size_list_element}
 use Rattle.dtype_types.specs.Tree.{Tree, Fields, Variants, primitive, struct, extension}
+use Rattle.dtype_types.specs.PartsEquality.{pairs_of}
 use Rattle.dtype_types.specs.TreeOf.{tree, children, choices, MapParts, ExtensionParts, type_step, extension_step, map_step, struct_step, union_step}
 use denote.Hole.Carrier
 use Rattle.dtype_types.specs.declared.dtype.DType.{out-DType, fold_out-DType}
 use Rattle.dtype_types.proofs.EvenLists.{valid_map}
-use Rattle.dtype_types.proofs.TreeLaws.{struct_is, union_is, tree_struct, tree_union, pairs_fields, triples_variants}
+use Rattle.dtype_types.proofs.TreeLaws.{struct_is, union_is, tree_struct, tree_union, triples_variants}
 use Rattle.dtype_types.specs.declared.dtype.DType.{DType, Primitive, Decimal, List as List_of, List', FixedSizeList, FixedSizeList', Map, Map', Struct, Struct', Union, Union', Extension, Extension'}
 use Rattle.dtype_types.specs.declared.struct_fields.StructFields.{StructFields}
 use Rattle.dtype_types.specs.declared.union_variants.UnionVariants.{UnionVariants}
@@ -67,7 +68,7 @@ extension_parts_none d h = ap extension_parts (fold_out-DType Tree ExtensionPart
 
 -- what a struct, a union, a map and an extension hold
 pub struct_fields_some : (x : StructFields) (n : Nullability) (d : DType) → d ≡ Struct x n → struct_fields (tree d) ≡ Some (children x)
-struct_fields_some x n d e = ap (λ z. struct_fields (tree z)) e ∙ ap struct_fields (tree_struct x n) ∙ ap Some (pairs_fields (children x))
+struct_fields_some x n d e = ap (λ z. struct_fields (tree z)) e ∙ ap struct_fields (tree_struct x n) ∙ ap Some (pairs_of (children x))
 
 pub union_variants_some : (x : UnionVariants) (n : Nullability) (d : DType) → d ≡ Union x n → union_variants (tree d) ≡ Some (choices x)
 union_variants_some x n d e = ap (λ z. union_variants (tree z)) e ∙ ap union_variants (tree_union x n) ∙ ap Some (triples_variants (choices x))

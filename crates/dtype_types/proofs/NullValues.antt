@@ -1,15 +1,14 @@
 -- Which types have null, and what a type's values are once null is among them.
 use Rattle.std.proofs.Common.{◌≡◌, ◌⊎◌, ◌↔◌, ◌∙◌, ℕ, List, Option, Some, None, option_and_then, Result, Ok, Err, IfOk, refl, ap, sym, subst, inl, inr}
+use Rattle.std.proofs.lemmas.Option.{same_Some}
 use Rattle.dtype_base.specs.declared.nullability.Nullability.{Nullability}
 use Rattle.dtype_base.specs.declared.nullability.Nullability.TheVariants.{NonNullable, Nullable}
 use Rattle.dtype_types.specs.Nullable.{nullability, set_null, SetNull, IsNullable}
 use Rattle.dtype_types.specs.Tree.{Tree, null, bool, primitive, decimal, utf8, binary, list, fixed_size_list, map_of, struct, union, variant, extension}
 use Rattle.dtype_types.specs.TreeOf.{tree}
 use Rattle.dtype_types.specs.declared.dtype.DType.{DType}
+use Rattle.dtype_types.proofs.SettingLaws.{set_is}
 use Rattle.dtype_types.specs.Value.{Value, Of, AddsNull, null_value}
-
-some_is : (a b : Tree) → Some a ≡ Some b → a ≡ b
-some_is a b e = cc
 
 pub null_is_of_nullable : (t : Tree) → Of null_value t ↔ IsNullable t
 null_is_of_nullable (extension i b s) = null_is_of_nullable s
@@ -22,60 +21,44 @@ storage_set i b s u n e = go (set_null s n) refl e
   where
     go : (o : Option Tree) → set_null s n ≡ o → option_and_then (λ x. Some (extension i b x)) o ≡ Some u → (x : Tree) × (set_null s n ≡ Some x) × (extension i b x ≡ u)
     go None is e' = cc
-    go (Some x) is e' = (x, is, some_is (extension i b x) u e')
-
-set_sets : (t u : Tree) (n : Nullability) → SetNull t n u → nullability u ≡ n
-set_sets null u Nullable e = ap nullability (sym (some_is null u e))
-set_sets null u NonNullable e = cc
-set_sets (bool m) u n e = ap nullability (sym (some_is (bool n) u e))
-set_sets (primitive p m) u n e = ap nullability (sym (some_is (primitive p n) u e))
-set_sets (decimal d m) u n e = ap nullability (sym (some_is (decimal d n) u e))
-set_sets (utf8 m) u n e = ap nullability (sym (some_is (utf8 n) u e))
-set_sets (binary m) u n e = ap nullability (sym (some_is (binary n) u e))
-set_sets (list t m) u n e = ap nullability (sym (some_is (list t n) u e))
-set_sets (fixed_size_list t k m) u n e = ap nullability (sym (some_is (fixed_size_list t k n) u e))
-set_sets (map_of t v s m) u n e = ap nullability (sym (some_is (map_of t v s n) u e))
-set_sets (struct fs m) u n e = ap nullability (sym (some_is (struct fs n) u e))
-set_sets (union vs m) u n e = ap nullability (sym (some_is (union vs n) u e))
-set_sets (variant m) u n e = ap nullability (sym (some_is (variant n) u e))
-set_sets (extension i b s) u n e = let r = storage_set i b s u n e in ap nullability (sym r.2) ∙ set_sets s r.0 n r.1
+    go (Some x) is e' = (x, is, same_Some (extension i b x) u e')
 
 -- the other values don't depend on it
 abbrev NullOrSame : Value → Tree → Tree → Type 0
 NullOrSame v t u = (v ≡ null_value) ⊎ (Of v t ↔ Of v u)
 
 others : (t u : Tree) (n : Nullability) → SetNull t n u → (v : Value) → NullOrSame v t u
-others null u Nullable e v = let p = some_is null u e in inr (λ o. subst (Of v) p o, λ o. subst (Of v) (sym p) o)
+others null u Nullable e v = let p = same_Some null u e in inr (λ o. subst (Of v) p o, λ o. subst (Of v) (sym p) o)
 others null u NonNullable e v = cc
 others (bool m) u n e null_value = inl refl
-others (bool m) u n e v = let p = some_is (bool n) u e in inr (λ o. subst (Of v) p o, λ o. subst (Of v) (sym p) o)
+others (bool m) u n e v = let p = same_Some (bool n) u e in inr (λ o. subst (Of v) p o, λ o. subst (Of v) (sym p) o)
 others (primitive q m) u n e null_value = inl refl
-others (primitive q m) u n e v = let p = some_is (primitive q n) u e in inr (λ o. subst (Of v) p o, λ o. subst (Of v) (sym p) o)
+others (primitive q m) u n e v = let p = same_Some (primitive q n) u e in inr (λ o. subst (Of v) p o, λ o. subst (Of v) (sym p) o)
 others (decimal d m) u n e null_value = inl refl
-others (decimal d m) u n e v = let p = some_is (decimal d n) u e in inr (λ o. subst (Of v) p o, λ o. subst (Of v) (sym p) o)
+others (decimal d m) u n e v = let p = same_Some (decimal d n) u e in inr (λ o. subst (Of v) p o, λ o. subst (Of v) (sym p) o)
 others (utf8 m) u n e null_value = inl refl
-others (utf8 m) u n e v = let p = some_is (utf8 n) u e in inr (λ o. subst (Of v) p o, λ o. subst (Of v) (sym p) o)
+others (utf8 m) u n e v = let p = same_Some (utf8 n) u e in inr (λ o. subst (Of v) p o, λ o. subst (Of v) (sym p) o)
 others (binary m) u n e null_value = inl refl
-others (binary m) u n e v = let p = some_is (binary n) u e in inr (λ o. subst (Of v) p o, λ o. subst (Of v) (sym p) o)
+others (binary m) u n e v = let p = same_Some (binary n) u e in inr (λ o. subst (Of v) p o, λ o. subst (Of v) (sym p) o)
 others (list t m) u n e null_value = inl refl
-others (list t m) u n e v = let p = some_is (list t n) u e in inr (λ o. subst (Of v) p o, λ o. subst (Of v) (sym p) o)
+others (list t m) u n e v = let p = same_Some (list t n) u e in inr (λ o. subst (Of v) p o, λ o. subst (Of v) (sym p) o)
 others (fixed_size_list t k m) u n e null_value = inl refl
-others (fixed_size_list t k m) u n e v = let p = some_is (fixed_size_list t k n) u e in inr (λ o. subst (Of v) p o, λ o. subst (Of v) (sym p) o)
+others (fixed_size_list t k m) u n e v = let p = same_Some (fixed_size_list t k n) u e in inr (λ o. subst (Of v) p o, λ o. subst (Of v) (sym p) o)
 others (map_of t w s m) u n e null_value = inl refl
-others (map_of t w s m) u n e v = let p = some_is (map_of t w s n) u e in inr (λ o. subst (Of v) p o, λ o. subst (Of v) (sym p) o)
+others (map_of t w s m) u n e v = let p = same_Some (map_of t w s n) u e in inr (λ o. subst (Of v) p o, λ o. subst (Of v) (sym p) o)
 others (struct fs m) u n e null_value = inl refl
-others (struct fs m) u n e v = let p = some_is (struct fs n) u e in inr (λ o. subst (Of v) p o, λ o. subst (Of v) (sym p) o)
+others (struct fs m) u n e v = let p = same_Some (struct fs n) u e in inr (λ o. subst (Of v) p o, λ o. subst (Of v) (sym p) o)
 others (union vs m) u n e null_value = inl refl
-others (union vs m) u n e v = let p = some_is (union vs n) u e in inr (λ o. subst (Of v) p o, λ o. subst (Of v) (sym p) o)
+others (union vs m) u n e v = let p = same_Some (union vs n) u e in inr (λ o. subst (Of v) p o, λ o. subst (Of v) (sym p) o)
 others (variant m) u n e null_value = inl refl
-others (variant m) u n e v = let p = some_is (variant n) u e in inr (λ o. subst (Of v) p o, λ o. subst (Of v) (sym p) o)
+others (variant m) u n e v = let p = same_Some (variant n) u e in inr (λ o. subst (Of v) p o, λ o. subst (Of v) (sym p) o)
 others (extension i b s) u n e v = let r = storage_set i b s u n e in subst (NullOrSame v s) r.2 (others s r.0 n r.1 v)
 
 pub nullable_adds_null : (t u : Tree) → SetNull t Nullable u → AddsNull t u
 nullable_adds_null t u e v = go (others t u Nullable e v)
   where
     has_null : v ≡ null_value → Of v u
-    has_null is = subst (λ x. Of x u) (sym is) ((null_is_of_nullable u).1 (set_sets t u Nullable e))
+    has_null is = subst (λ x. Of x u) (sym is) ((null_is_of_nullable u).1 (set_is t u Nullable e))
 
     either : NullOrSame v t u → Of v t ⊎ (v ≡ null_value) → Of v u
     either (inl is) o = has_null is

@@ -3,6 +3,7 @@ use Rattle.std.proofs.Common.{◌≡◌, ◌==◌, ℕ, List, [], ◌∷◌, map
 use Rattle.std.specs.List.{position}
 use Rattle.std.proofs.lemmas.List.{length-map}
 use Rattle.std.proofs.lemmas.List.Quantifiers.{position-Some}
+use Rattle.std.proofs.lemmas.Slice.Zip.{firsts-zip, seconds-zip}
 use Rattle.std.proofs.lemmas.Option.{slice_get_read}
 use Rattle.dtype_types.specs.IsValid.{IsValidStruct, IsValidUnion}
 use Rattle.dtype_types.specs.Laws.{IsOneListOfFields, IsOneListOfVariants, tags}
@@ -11,14 +12,13 @@ use Rattle.dtype_types.specs.TreeOf.{children, names_of, types_of, choices, vari
 use Rattle.dtype_types.proofs.TagLaws.{tag_position}
 use Rattle.dtype_types.proofs.Turns.{tag_at}
 use Rattle.dtype_types.proofs.TreeLaws.{triples_variants}
-use Rattle.dtype_types.proofs.Zips.{firsts_zip, seconds_zip}
 use Rattle.dtype_types.specs.declared.struct_fields.StructFields.{StructFields}
 use Rattle.dtype_types.specs.declared.union_variants.UnionVariants.{UnionVariants}
 
 pub one_list_of_fields : (s : StructFields) → IsValidStruct s → IsOneListOfFields s
 one_list_of_fields s h = record {
-  names = firsts_zip (names_of s) (types_of s) h.paired;
-  types = seconds_zip (names_of s) (types_of s) h.paired;
+  names = firsts-zip (names_of s) (types_of s) (sym h.paired);
+  types = seconds-zip (names_of s) (types_of s) (sym h.paired);
 }
 
 -- as many fields as names

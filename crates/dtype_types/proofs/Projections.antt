@@ -1,9 +1,9 @@
 -- Looking up one name after another.
 use Rattle.std.proofs.Common.{Bool, true, false, cond, ◌≡◌, ◌≢◌, ℕ, zero, suc, ◌+◌, ◌<◌, List, [], ◌∷◌, ◌++◌, length, map, take, get_or, Option, Some, None, IfSome, IfNone, option_and_then, slice_get, refl, sym, ap, ◌∙◌, arith}
-use Rattle.std.proofs.lemmas.List.{take_more}
+use Rattle.std.proofs.lemmas.List.{map_push, take_more}
 use Rattle.std.proofs.lemmas.Bool.{false≢true}
 use Rattle.std.proofs.lemmas.List.Elements.{recursion_from_All}
-use Rattle.std.proofs.lemmas.Option.{slice_get_read, slice_get_within, slice_get-get_or}
+use Rattle.std.proofs.lemmas.Option.{same_Some, slice_get_read, slice_get_within, slice_get-get_or}
 use Rattle.std.proofs.lemmas.Slice.Eq.{bytes_eq-Decides}
 use Rattle.std.specs.List.{AllByRecursion}
 use Rattle.std.specs.Str.{bytes_eq}
@@ -13,14 +13,11 @@ use Rattle.dtype_types.proofs.FieldLookups.{same_name, other_name}
 use Rattle.dtype_types.specs.Lookups.{first_named, field_names, field_types, Projects, IsFirstUnknown}
 use Rattle.dtype_types.specs.Tree.{Tree}
 
-some_is : {X : Type 0} (a b : X) → Some a ≡ Some b → a ≡ b
-some_is a b e = cc
-
 -- the field at the first position of a name is the first of that name
 pub field_at : (ps : List (List ℕ × Tree)) (n : List ℕ) (i : ℕ) (p : List ℕ × Tree) → i < length ps → p ≡ get_or ps i p → FirstAt (field_names ps) n i → (p.0 ≡ n) × (first_named ps n ≡ Some p.1)
 field_at [] n i p h e f = absurd (omega arith)
 field_at (q ∷ ps) n zero p h e f =
-    let same : q.0 ≡ n = some_is q.0 n f.here in
+    let same : q.0 ≡ n = same_Some q.0 n f.here in
     (ap (λ (r : List ℕ × Tree). r.0) e ∙ same, same_name q.0 n _ _ same ∙ ap (λ (r : List ℕ × Tree). Some r.1) (sym e))
 field_at (q ∷ ps) n (suc i) p h e f =
     let rest = field_at ps n i p (omega arith) e (record { here = f.here; first = λ k l. f.first (suc k) (omega (arith, l)) }) in
@@ -42,14 +39,10 @@ found_within ps n i f = omega (arith, slice_get_within (field_names ps) i n f.he
 pub type_at : (ps : List (List ℕ × Tree)) (n : List ℕ) (i : ℕ) → FirstAt (field_names ps) n i → first_named ps n ≡ slice_get (field_types ps) i
 type_at [] n zero f = cc (f.here)
 type_at [] n (suc i) f = cc (f.here)
-type_at (q ∷ ps) n zero f = same_name q.0 n _ _ (some_is q.0 n f.here)
+type_at (q ∷ ps) n zero f = same_name q.0 n _ _ (same_Some q.0 n f.here)
 type_at (q ∷ ps) n (suc i) f = other_name q.0 n _ _ (λ s. f.first 0 (omega arith) (ap Some s)) ∙ type_at ps n i (record { here = f.here; first = λ k l. f.first (suc k) (omega (arith, l)) })
 
 -- one name more
-map_push : {X Y : Type 0} (f : X → Y) (xs : List X) (x : X) → map f (xs ++ x ∷ []) ≡ map f xs ++ f x ∷ []
-map_push f [] x = refl
-map_push f (y ∷ ys) x = ap (λ zs. f y ∷ zs) (map_push f ys x)
-
 pub projects_more : (fs : List (List ℕ × Tree)) (names : List (List ℕ)) (gs : List (List ℕ × Tree)) (j : ℕ) (n : List ℕ) (p : List ℕ × Tree)
     → j < length names → n ≡ get_or names j n → Projects fs (take j names) gs → p.0 ≡ n → first_named fs n ≡ Some p.1 → Projects fs (take (j + 1) names) (gs ++ p ∷ [])
 projects_more fs names gs j n p h read so_far named found =
@@ -67,7 +60,7 @@ known_names fs [] gs e (suc k) n here none = cc
 known_names fs (m ∷ ms) [] e k n here none = cc
 known_names fs (m ∷ ms) (g ∷ gs) e zero n here none =
     let head : Some g.1 ≡ first_named fs m = cc in
-    let same : m ≡ n = some_is m n here in
+    let same : m ≡ n = same_Some m n here in
     let gone : first_named fs m ≡ None = ap (first_named fs) same ∙ none in cc
 known_names fs (m ∷ ms) (g ∷ gs) e (suc k) n here none =
     let tail : map (λ (p : List ℕ × Tree). Some p.1) gs ≡ map (first_named fs) ms = cc in known_names fs ms gs tail k n here none
@@ -100,7 +93,7 @@ leads_alike fs (g ∷ gs) e n k h = go (bytes_eq g.0 n) refl k h (λ j at. leads
 
     go : (b : Bool) → bytes_eq g.0 n ≡ b → (j : ℕ) → slice_get (field_names (g ∷ gs)) j ≡ Some n → ((i : ℕ) → slice_get (field_names gs) i ≡ Some n → first_named gs n ≡ first_named fs n) → first_named (g ∷ gs) n ≡ first_named fs n
     go true is j at more = let same = (bytes_eq-Decides g.0 n).0 is in same_name g.0 n _ _ same ∙ head ∙ ap (first_named fs) same
-    go false is zero at more = let same = (bytes_eq-Decides g.0 n).1 (some_is g.0 n at) in absurd (false≢true (sym is ∙ same))
+    go false is zero at more = let same = (bytes_eq-Decides g.0 n).1 (same_Some g.0 n at) in absurd (false≢true (sym is ∙ same))
     go false is (suc j) at more = ap (λ b. cond b (Some g.1) (first_named gs n)) is ∙ more j at
 
 pub projected_alike : (fs : List (List ℕ × Tree)) (names : List (List ℕ)) (gs : List (List ℕ × Tree)) → Projects fs names gs → AllByRecursion (λ n. first_named gs n ≡ first_named fs n) names

@@ -2,7 +2,7 @@
 use Rattle.std.proofs.Common.{◌≡◌, ℕ, zero, suc, ◌+◌, ◌<◌, ◌==◌, List, [], ◌∷◌, ◌++◌, codes, length, take, get_or, cond, refl, sym, ap, ◌∙◌, arith, append_assoc, add-one, Bool, true, false, map}
 use Rattle.std.specs.List.{zip}
 use Rattle.std.proofs.lemmas.Slice.Zip.{get_or-zip}
-use Rattle.std.proofs.lemmas.List.{length-map, get_or-map}
+use Rattle.std.proofs.lemmas.List.{append-nil, length-map, get_or-map}
 use Rattle.dtype_types.proofs.Turns.{tags_differ}
 use Rattle.dtype_base.specs.Escapes.{escaped}
 use Rattle.dtype_base.specs.declared.nullability.Nullability.{Nullability}
@@ -38,13 +38,9 @@ extension_all x d e = sym (ap (λ z. text (tree z)) e ∙ ap text (tree_extensio
 
 -- ---- one more text behind those before it
 
-append_empty : (xs : List ℕ) → xs ++ [] ≡ xs
-append_empty [] = refl
-append_empty (x ∷ xs) = ap (λ ys. x ∷ ys) (append_empty xs)
-
 preceded_next : (sep : List ℕ) (xs : List (List ℕ)) (i : ℕ) (x : List ℕ) → i < length xs → x ≡ get_or xs i x → preceded sep (take (suc i) xs) ≡ preceded sep (take i xs) ++ (sep ++ x)
 preceded_next sep [] i x h e = absurd (omega arith)
-preceded_next sep (y ∷ ys) zero x h e = ap (λ z. sep ++ (z ++ [])) (sym e) ∙ ap (λ z. sep ++ z) (append_empty x)
+preceded_next sep (y ∷ ys) zero x h e = ap (λ z. sep ++ (z ++ [])) (sym e) ∙ ap (λ z. sep ++ z) (append-nil x)
 preceded_next sep (y ∷ ys) (suc i) x h e = ap (λ z. sep ++ (y ++ z)) (preceded_next sep ys i x (omega arith) e) ∙ simp append_assoc
 
 pub later : (i : ℕ) → (suc i == 0) ≡ false
@@ -53,7 +49,7 @@ later i = tags_differ (suc i) 0 (λ e. absurd (omega (arith, e)))
 pub joined_next : (sep : List ℕ) (xs : List (List ℕ)) (i : ℕ) (x : List ℕ) → i < length xs → x ≡ get_or xs i x
     → joined sep (take i xs) ++ (cond (i == 0) [] sep ++ x) ≡ joined sep (take (i + 1) xs)
 joined_next sep [] i x h e = absurd (omega arith)
-joined_next sep (y ∷ ys) zero x h e = sym (ap (λ z. z ++ []) (sym e) ∙ append_empty x)
+joined_next sep (y ∷ ys) zero x h e = sym (ap (λ z. z ++ []) (sym e) ∙ append-nil x)
 joined_next sep (y ∷ ys) (suc i) x h e = rw (add-one, later i) (sym (ap (λ z. y ++ z) (preceded_next sep ys i x (omega arith) e) ∙ simp append_assoc))
 
 -- ---- the text of the field, and of the variant, at a place

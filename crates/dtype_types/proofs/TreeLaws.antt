@@ -29,10 +29,6 @@ tree_union u n = search (rules, the_lemmas, fold_out-DType, fold-roll-DType, fol
 pub tree_extension : (e : ExtDTypeRef) → tree (Extension e) ≡ extension_tree e
 tree_extension e = search (rules, the_lemmas, fold_out-DType, fold-roll-DType, fold_out-ExtDTypeRef)
 
-pub pairs_fields : (ps : List (List ℕ × Tree)) → pairs (fields ps) ≡ ps
-pairs_fields [] = refl
-pairs_fields (p ∷ ps) = ap (λ qs. p ∷ qs) (pairs_fields ps)
-
 pub triples_variants : (ps : List (List ℕ × Tree × ℕ)) → triples (variants ps) ≡ ps
 triples_variants [] = refl
 triples_variants (p ∷ ps) = ap (λ qs. p ∷ qs) (triples_variants ps)

@@ -3,7 +3,7 @@ use Rattle.std.proofs.Common.{◌≡◌, ℕ, zero, suc, ◌+◌, ◌<◌, ◌&&
 use Rattle.std.specs.List.{zip}
 use Rattle.std.specs.Str.{bytes_eq}
 use Rattle.std.proofs.Math.Bool.{and-false, and-true}
-use Rattle.std.proofs.lemmas.Bool.{false≢true}
+use Rattle.std.proofs.lemmas.Bool.{false≢true, false_from_ne_true}
 use Rattle.std.proofs.lemmas.Bool.Decides.{Decides-eqb}
 use Rattle.std.proofs.lemmas.List.{get_or_default}
 use Rattle.dtype_types.specs.Tree.{Tree, fields, variants}
@@ -104,11 +104,7 @@ pub tags_same : (x y : ℕ) → x ≡ y → (x == y) ≡ true
 tags_same x y e = (Decides-eqb x y).1 e
 
 pub tags_differ : (x y : ℕ) → (x ≡ y → ⊥) → (x == y) ≡ false
-tags_differ x y ne = go (x == y) refl
-  where
-    go : (b : Bool) → (x == y) ≡ b → b ≡ false
-    go true e = absurd (ne ((Decides-eqb x y).0 e))
-    go false e = refl
+tags_differ x y ne = false_from_ne_true (x == y) (λ e. ne ((Decides-eqb x y).0 e))
 
 -- what a turn says of the whole, r, by its tests
 pub fields_turn : (s : Nullabilities) (ns ms : List (List ℕ)) (ds es : List DType) (i : ℕ) (n m : List ℕ) (d e : DType) (r : Bool) → agree_fields s (fields (drop i (zip ns (map tree ds)))) (fields (drop i (zip ms (map tree es)))) ≡ r

@@ -1,6 +1,7 @@
 -- The variant of a name and the variant at a place.
 use Rattle.std.proofs.Common.{◌≡◌, ◌≢◌, ℕ, zero, suc, ◌<◌, List, [], ◌∷◌, length, map, take, Some, None, slice_get, refl, ◌∙◌, ap, arith}
-use Rattle.dtype_types.proofs.FieldLookups.{some_is, same_name, other_name}
+use Rattle.std.proofs.lemmas.Option.{same_Some}
+use Rattle.dtype_types.proofs.FieldLookups.{same_name, other_name}
 use Rattle.dtype_types.specs.Tree.{Tree, variants}
 use Rattle.dtype_types.specs.Lookups.{variant_named}
 use Rattle.dtype_types.specs.TreeOf.{tree, zip_tagged}
@@ -11,7 +12,7 @@ pub variant_named-at : (ns : List (List ℕ)) (ts : List Tree) (gs : List ℕ) (
 variant_named-at [] ts gs n i here first = cc
 variant_named-at (m ∷ ns) [] gs n i here first = refl
 variant_named-at (m ∷ ns) (t ∷ ts) [] n i here first = refl
-variant_named-at (m ∷ ns) (t ∷ ts) (g ∷ gs) n zero here first = same_name m n _ _ (some_is m n here)
+variant_named-at (m ∷ ns) (t ∷ ts) (g ∷ gs) n zero here first = same_name m n _ _ (same_Some m n here)
 variant_named-at (m ∷ ns) (t ∷ ts) (g ∷ gs) n (suc i) here first =
     other_name m n _ _ (λ e. first 0 (omega arith) (ap Some e)) ∙ variant_named-at ns ts gs n i here (λ k h. first (suc k) (omega (arith, h)))
 

@@ -2,6 +2,7 @@
 use Rattle.std.proofs.Common.{◌≡◌, ℕ, zero, suc, ◌+◌, ◌<◌, take, get_or, List, [], ◌∷◌, ◌++◌, length, map, refl, ap, arith, sym, ◌∙◌}
 use Rattle.std.specs.List.{zip, remove}
 use Rattle.std.proofs.lemmas.List.{append_assoc, take_more, length-take}
+use Rattle.std.proofs.lemmas.Slice.Zip.{firsts-zip, seconds-zip}
 use Rattle.dtype_types.specs.Tree.{Tree}
 use Rattle.dtype_types.specs.TreeOf.{tree}
 use Rattle.dtype_types.specs.declared.dtype.DType.{DType}
@@ -12,17 +13,8 @@ zip_push [] (e ∷ ds) n d h = absurd (omega arith)
 zip_push (m ∷ ns) [] n d h = absurd (omega arith)
 zip_push (m ∷ ns) (e ∷ ds) n d h = ap (λ ps. (m, tree e) ∷ ps) (zip_push ns ds n d (omega arith))
 
-pub firsts_zip : (ns : List (List ℕ)) (ts : List Tree) → length ns ≡ length ts → map (λ (p : List ℕ × Tree). p.0) (zip ns ts) ≡ ns
-firsts_zip [] [] h = refl
-firsts_zip [] (t ∷ ts) h = absurd (omega arith)
-firsts_zip (n ∷ ns) [] h = absurd (omega arith)
-firsts_zip (n ∷ ns) (t ∷ ts) h = ap (λ ms. n ∷ ms) (firsts_zip ns ts (omega arith))
-
-pub seconds_zip : (ns : List (List ℕ)) (ts : List Tree) → length ns ≡ length ts → map (λ (p : List ℕ × Tree). p.1) (zip ns ts) ≡ ts
-seconds_zip [] [] h = refl
-seconds_zip [] (t ∷ ts) h = absurd (omega arith)
-seconds_zip (n ∷ ns) [] h = absurd (omega arith)
-seconds_zip (n ∷ ns) (t ∷ ts) h = ap (λ us. t ∷ us) (seconds_zip ns ts (omega arith))
+-- the names and the types of pairs made of as many of both
+pub ruleset unzipped = (firsts-zip, seconds-zip)
 
 -- ---- a list without one of its items, as it grows
 

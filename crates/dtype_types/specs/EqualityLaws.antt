@@ -5,10 +5,10 @@ use Rattle.std.specs.Bool.{Decides}
 use Rattle.std.specs.Ordering.{int_eq}
 use Rattle.std.proofs.Common.{ap, sym, ◌∙◌, subst}
 use Rattle.std.proofs.Math.Bool.{beq}
-use Rattle.std.specs.Cmp.{booleans_Decides, signed_Decides, IsEquivalence, on_equiv}
+use Rattle.std.specs.Cmp.{booleans_Decides, signed_Decides, IsEquivalence, decided, on_equiv}
 use Rattle.std.specs.Str.{bytes_eq}
 use Rattle.std.proofs.lemmas.Bool.{false≢true}
-use Rattle.std.proofs.lemmas.Bool.Decides.{Decides-eqb, same_from_decides}
+use Rattle.std.proofs.lemmas.Bool.Decides.{Decides-eqb}
 use Rattle.std.proofs.lemmas.Slice.Eq.{bytes_eq-Decides}
 use Rattle.dtype_base.specs.declared.nullability.Nullability.{Nullability}
 use Rattle.dtype_base.specs.declared.nullability.Nullability.TheVariants.{NonNullable, Nullable}
@@ -18,12 +18,10 @@ use Rattle.dtype_base.specs.declared.ptype.PType.TheVariants.{U8, U16, U32, U64,
 use Rattle.dtype_types.specs.declared.dtype.equality.Nullabilities.{Nullabilities}
 use Rattle.dtype_types.specs.declared.dtype.equality.Nullabilities.TheVariants.{Compared, Ignored, Within}
 use Rattle.dtype_types.specs.declared.dtype.DType.{DType}
-use Rattle.dtype_types.specs.Tree.{Tree, Fields, fields, pairs, no_fields, field, Variants, no_variants, choice, null, bool, primitive, decimal, utf8, binary, list, fixed_size_list, map_of, struct, union, variant, extension}
+use Rattle.dtype_types.specs.Tree.{Tree, Fields, no_fields, field, Variants, no_variants, choice, null, bool, primitive, decimal, utf8, binary, list, fixed_size_list, map_of, struct, union, variant, extension}
 use Rattle.dtype_types.specs.Erase.{erase, erase_fields, erase_variants}
 use Rattle.dtype_types.specs.Equality.{agree, agree_fields, agree_variants, allows, same_ptype}
-use Rattle.dtype_types.specs.TreeOf.{tree, struct_tree, extension_tree}
-use Rattle.dtype_types.specs.declared.struct_fields.StructFields.{StructFields}
-use Rattle.dtype_types.specs.declared.extension.ExtDTypeRef.{ExtDTypeRef}
+use Rattle.dtype_types.specs.TreeOf.{tree}
 
 pub allows-same : (m n : Nullability) → allows Compared m n ≡ true → m ≡ n
 allows-same NonNullable NonNullable e = refl
@@ -94,7 +92,7 @@ mutual
       ap (λ r. extension r a t) ((bytes_eq-Decides i j).0 g.0) ∙ ap (λ r. extension j r t) ((bytes_eq-Decides a b).0 g.1) ∙ ap (extension j b) (agree-same t u h.1)
   agree-same _ _ e = absurd (false≢true e)
 
-  agree_fields-same : (a b : Fields) → agree_fields Compared a b ≡ true → a ≡ b
+  pub agree_fields-same : (a b : Fields) → agree_fields Compared a b ≡ true → a ≡ b
   agree_fields-same no_fields no_fields e = refl
   agree_fields-same (field m t fs) (field n u gs) e =
       let h = both e in let g = both h.0 in
@@ -127,7 +125,7 @@ mutual
   agree_refl s (union fs m) = join (agree_variants_refl s fs) (allows_refl s m)
   agree_refl s (extension i a t) = join (join (same_bytes i) (same_bytes a)) (agree_refl s t)
 
-  agree_fields_refl : (s : Nullabilities) (a : Fields) → agree_fields s a a ≡ true
+  pub agree_fields_refl : (s : Nullabilities) (a : Fields) → agree_fields s a a ≡ true
   agree_fields_refl s no_fields = refl
   agree_fields_refl s (field m t fs) = join (join (same_bytes m) (agree_refl s t)) (agree_fields_refl s fs)
 
@@ -156,7 +154,7 @@ mutual
   agree-erase (extension i a t) (extension j b u) = ap (λ x. bytes_eq i j && bytes_eq a b && x) (agree-erase t u)
   agree-erase _ _ = refl
 
-  agree_fields-erase : (a b : Fields) → agree_fields Ignored a b ≡ agree_fields Compared (erase_fields a) (erase_fields b)
+  pub agree_fields-erase : (a b : Fields) → agree_fields Ignored a b ≡ agree_fields Compared (erase_fields a) (erase_fields b)
   agree_fields-erase no_fields no_fields = refl
   agree_fields-erase (field m t fs) (field n u gs) = ap (λ x. bytes_eq m n && x && agree_fields Ignored fs gs) (agree-erase t u) ∙ ap (λ x. bytes_eq m n && agree Compared (erase t) (erase u) && x) (agree_fields-erase fs gs)
   agree_fields-erase _ _ = refl
@@ -172,51 +170,10 @@ agree_erased-Decides a b =
     let d = agree-Decides (erase a) (erase b) in
     (λ e. d.0 (sym (agree-erase a b) ∙ e), λ e. agree-erase a b ∙ d.1 e)
 
--- ---- `==` of types and the equality that ignores nullabilities, as equivalences
-
--- a test that decides whether two values have one view is an equivalence
-pub equiv_of_view : {A B : Type 0} (r : A → A → Bool) (view : A → B) → ((a b : A) → Decides (r a b) (view a ≡ view b)) → IsEquivalence r
-equiv_of_view r view d = record {
-  refl = λ x. (d x x).1 refl;
-  symm = λ x y. same_from_decides (r x y) (r y x) (d x y) (λ e. sym ((d y x).0 e), λ e. (d y x).1 (sym e));
-  congr = λ x y z e. same_from_decides (r x z) (r y z) (d x z) (λ h. (d x y).0 e ∙ (d y z).0 h, λ h. (d y z).1 (sym ((d x y).0 e) ∙ h));
-}
+-- ---- `==` of types, as an equivalence
 
 abbrev pub same_dtype : DType → DType → Bool
 same_dtype a b = agree Compared (tree a) (tree b)
 
 pub same_dtype_equiv : IsEquivalence same_dtype
-same_dtype_equiv = on_equiv tree (equiv_of_view (agree Compared) (λ t. t) agree-Decides)
-
--- ---- `==` of the parts of types
-
-agree_fields-Decides : (a b : Fields) → Decides (agree_fields Compared a b) (a ≡ b)
-agree_fields-Decides a b = (agree_fields-same a b, λ e. subst (λ x. agree_fields Compared a x ≡ true) e (agree_fields_refl Compared a))
-
-pairs_of : (ps : List (List ℕ × Tree)) → pairs (fields ps) ≡ ps
-pairs_of [] = refl
-pairs_of (p ∷ ps) = ap (λ qs. p ∷ qs) (pairs_of ps)
-
--- equal as fields of a tree is equal as lists of pairs
-pub same_fields-Decides : (ps qs : List (List ℕ × Tree)) → Decides (agree_fields Compared (fields ps) (fields qs)) (ps ≡ qs)
-same_fields-Decides ps qs =
-    let d = agree_fields-Decides (fields ps) (fields qs) in
-    (λ e. sym (pairs_of ps) ∙ ap pairs (d.0 e) ∙ pairs_of qs, λ e. d.1 (ap fields e))
-
-pub agree_fields_erased-Decides : (a b : Fields) → Decides (agree_fields Ignored a b) (erase_fields a ≡ erase_fields b)
-agree_fields_erased-Decides a b =
-    let d = agree_fields-Decides (erase_fields a) (erase_fields b) in
-    (λ e. d.0 (sym (agree_fields-erase a b) ∙ e), λ e. agree_fields-erase a b ∙ d.1 e)
-
-abbrev pub same_struct : StructFields → StructFields → Bool
-same_struct s t = agree_fields Compared (struct_tree s) (struct_tree t)
-
-pub same_struct_equiv : IsEquivalence same_struct
-same_struct_equiv = on_equiv struct_tree (equiv_of_view (agree_fields Compared) (λ fs. fs) agree_fields-Decides)
-
--- equal as extensions is equal as trees
-abbrev pub same_extension : ExtDTypeRef → ExtDTypeRef → Bool
-same_extension e f = agree Compared (extension_tree e) (extension_tree f)
-
-pub same_extension_equiv : IsEquivalence same_extension
-same_extension_equiv = on_equiv extension_tree (equiv_of_view (agree Compared) (λ t. t) agree-Decides)
+same_dtype_equiv = on_equiv tree (decided (agree Compared) agree-Decides)

@@ -6,8 +6,8 @@ use Rattle.std.specs.Hash as fed
 use Rattle.dtype_types.specs.Tree.{Tree, Fields, no_fields, field, Variants, no_variants, choice, null, bool, primitive, decimal, utf8, binary, list, fixed_size_list, map_of, struct, union, variant, extension, fields}
 use Rattle.dtype_types.specs.TreeOf.{tree, children, union_tree, map_shown, extension_tree}
 use Rattle.dtype_types.specs.Erase.{erase, erase_fields, erase_variants}
-use Rattle.dtype_types.specs.EqualityLaws.{agree-Decides, same_fields-Decides, same_dtype, same_struct, same_extension}
-use Rattle.dtype_types.specs.PartsEquality.{agree_variants-Decides, agree_maps-Decides, same_union, same_map}
+use Rattle.dtype_types.specs.EqualityLaws.{agree-Decides, same_dtype}
+use Rattle.dtype_types.specs.PartsEquality.{same_fields-Decides, agree_variants-Decides, agree_maps-Decides, same_struct, same_union, same_map, same_extension}
 use Rattle.dtype_types.specs.Hashes.{hash_of, nullability_writes, field_count, field_writes, variant_count, variant_writes}
 use Rattle.dtype_types.specs.HashesOf.{struct_writes, union_writes, map_writes, extension_writes}
 use Rattle.dtype_types.specs.declared.dtype.hash.Hashed.TheVariants.{Whole, Erased}

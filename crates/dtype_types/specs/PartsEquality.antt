@@ -1,17 +1,47 @@
--- Equality of a union's variants and of a map's parts: exact, and an equivalence.
-use Rattle.std.specs.Prelude.{◌≡◌, ◌&&◌, Bool, true}
+-- Equality of structs, unions, maps and extensions: exact, and an equivalence.
+use Rattle.std.specs.Prelude.{◌≡◌, ◌&&◌, ℕ, List, [], ◌∷◌, Bool, true, refl}
 use Rattle.std.specs.Bool.{Decides}
 use Rattle.std.proofs.Common.{sym, ap, ◌∙◌, subst}
 use Rattle.std.proofs.Math.Bool.{beq}
-use Rattle.std.specs.Cmp.{IsEquivalence, booleans_Decides, on_equiv}
+use Rattle.std.specs.Cmp.{IsEquivalence, booleans_Decides, decided, on_equiv}
 use Rattle.dtype_types.specs.declared.dtype.equality.Nullabilities.TheVariants.{Compared, Ignored}
-use Rattle.dtype_types.specs.declared.map.MapDType.{MapDType}
+use Rattle.dtype_types.specs.declared.struct_fields.StructFields.{StructFields}
 use Rattle.dtype_types.specs.declared.union_variants.UnionVariants.{UnionVariants}
-use Rattle.dtype_types.specs.Tree.{Variants}
-use Rattle.dtype_types.specs.Equality.{agree, agree_variants}
-use Rattle.dtype_types.specs.EqualityLaws.{agree-Decides, agree_variants-same, agree_variants_refl, agree_variants-erase, both, join, equiv_of_view}
-use Rattle.dtype_types.specs.Erase.{erase_variants}
-use Rattle.dtype_types.specs.TreeOf.{union_tree, map_shown, MapParts}
+use Rattle.dtype_types.specs.declared.map.MapDType.{MapDType}
+use Rattle.dtype_types.specs.declared.extension.ExtDTypeRef.{ExtDTypeRef}
+use Rattle.dtype_types.specs.Tree.{Tree, Fields, Variants, fields, pairs}
+use Rattle.dtype_types.specs.Equality.{agree, agree_fields, agree_variants}
+use Rattle.dtype_types.specs.EqualityLaws.{agree-Decides, agree_fields-same, agree_fields_refl, agree_fields-erase, agree_variants-same, agree_variants_refl, agree_variants-erase, both, join}
+use Rattle.dtype_types.specs.Erase.{erase_fields, erase_variants}
+use Rattle.dtype_types.specs.TreeOf.{struct_tree, union_tree, map_shown, MapParts, extension_tree}
+
+-- ---- structs
+
+agree_fields-Decides : (a b : Fields) → Decides (agree_fields Compared a b) (a ≡ b)
+agree_fields-Decides a b = (agree_fields-same a b, λ e. subst (λ x. agree_fields Compared a x ≡ true) e (agree_fields_refl Compared a))
+
+pub pairs_of : (ps : List (List ℕ × Tree)) → pairs (fields ps) ≡ ps
+pairs_of [] = refl
+pairs_of (p ∷ ps) = ap (λ qs. p ∷ qs) (pairs_of ps)
+
+-- equal as fields of a tree is equal as lists of pairs
+pub same_fields-Decides : (ps qs : List (List ℕ × Tree)) → Decides (agree_fields Compared (fields ps) (fields qs)) (ps ≡ qs)
+same_fields-Decides ps qs =
+    let d = agree_fields-Decides (fields ps) (fields qs) in
+    (λ e. sym (pairs_of ps) ∙ ap pairs (d.0 e) ∙ pairs_of qs, λ e. d.1 (ap fields e))
+
+pub agree_fields_erased-Decides : (a b : Fields) → Decides (agree_fields Ignored a b) (erase_fields a ≡ erase_fields b)
+agree_fields_erased-Decides a b =
+    let d = agree_fields-Decides (erase_fields a) (erase_fields b) in
+    (λ e. d.0 (sym (agree_fields-erase a b) ∙ e), λ e. agree_fields-erase a b ∙ d.1 e)
+
+abbrev pub same_struct : StructFields → StructFields → Bool
+same_struct s t = agree_fields Compared (struct_tree s) (struct_tree t)
+
+pub same_struct_equiv : IsEquivalence same_struct
+same_struct_equiv = on_equiv struct_tree (decided (agree_fields Compared) agree_fields-Decides)
+
+-- ---- unions
 
 pub agree_variants-Decides : (a b : Variants) → Decides (agree_variants Compared a b) (a ≡ b)
 agree_variants-Decides a b = (agree_variants-same a b, λ e. subst (λ x. agree_variants Compared a x ≡ true) e (agree_variants_refl Compared a))
@@ -25,7 +55,9 @@ abbrev pub same_union : UnionVariants → UnionVariants → Bool
 same_union a b = agree_variants Compared (union_tree a) (union_tree b)
 
 pub same_union_equiv : IsEquivalence same_union
-same_union_equiv = on_equiv union_tree (equiv_of_view (agree_variants Compared) (λ t. t) agree_variants-Decides)
+same_union_equiv = on_equiv union_tree (decided (agree_variants Compared) agree_variants-Decides)
+
+-- ---- maps
 
 abbrev pub agree_maps : MapParts → MapParts → Bool
 agree_maps a b = agree Compared a.0 b.0 && agree Compared a.1 b.1 && beq a.2 b.2
@@ -41,4 +73,13 @@ abbrev pub same_map : MapDType → MapDType → Bool
 same_map a b = agree_maps (map_shown a) (map_shown b)
 
 pub same_map_equiv : IsEquivalence same_map
-same_map_equiv = on_equiv map_shown (equiv_of_view agree_maps (λ m. m) agree_maps-Decides)
+same_map_equiv = on_equiv map_shown (decided agree_maps agree_maps-Decides)
+
+-- ---- extensions
+
+-- equal as extensions is equal as trees
+abbrev pub same_extension : ExtDTypeRef → ExtDTypeRef → Bool
+same_extension e f = agree Compared (extension_tree e) (extension_tree f)
+
+pub same_extension_equiv : IsEquivalence same_extension
+same_extension_equiv = on_equiv extension_tree (decided (agree Compared) agree-Decides)

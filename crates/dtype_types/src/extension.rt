@@ -303,7 +303,7 @@ impl ExtDTypeRef {
 
 /// By id, metadata and storage.
 impl PartialEq for ExtDTypeRef {
-    ghost use Rattle.dtype_types.specs.EqualityLaws.{same_extension, same_extension_equiv};
+    ghost use Rattle.dtype_types.specs.PartsEquality.{same_extension, same_extension_equiv};
     ghost use Rattle.dtype_types.specs.TreeOf.{extension_tree};
     ghost use Rattle.std.specs.Cmp.{partial_equiv_from_equiv};
 
@@ -320,7 +320,7 @@ impl PartialEq for ExtDTypeRef {
 }
 
 impl Eq for ExtDTypeRef {
-    ghost use Rattle.dtype_types.specs.EqualityLaws.{same_extension_equiv};
+    ghost use Rattle.dtype_types.specs.PartsEquality.{same_extension_equiv};
 
     ghost laws = { same_extension_equiv };
 }

@@ -50,7 +50,7 @@ impl FieldsBuilder {
     }
 
     // The struct of these fields.
-    #[tactic(auto, using(crate::proofs::Zips::firsts_zip, crate::proofs::Zips::seconds_zip))]
+    #[tactic(auto, using(crate::proofs::Zips::unzipped))]
     pub(crate) fn finish(self, alloc: Global) -> VortexResult<StructFields>
         ensures names { IfOk result (λ s. names_of s ≡ map (λ p. p.0) (fields_so_far self)) }
         ensures types { IfOk result (λ s. types_of s ≡ map (λ p. p.1) (fields_so_far self)) }

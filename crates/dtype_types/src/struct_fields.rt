@@ -180,10 +180,7 @@ impl StructFields {
         ensures first { option_tree result ≡ first_named (children self.now) name.now }
         ensures valid { IsValidStruct self.now → IfSome result (λ d. IsValid d.now) }
     {
-        match self.find(name) {
-            Some(index) => self.field_by_index(index),
-            None => None,
-        }
+        self.field_by_index(self.find(name)?)
     }
 
     /// The type of the field at this position, or `None` at or past the end.
@@ -449,7 +446,7 @@ impl StructFields {
 }
 
 impl PartialEq for StructFields {
-    ghost use Rattle.dtype_types.specs.EqualityLaws.{same_struct, same_struct_equiv};
+    ghost use Rattle.dtype_types.specs.PartsEquality.{same_struct, same_struct_equiv};
     ghost use Rattle.dtype_types.specs.TreeOf.{children};
     ghost use Rattle.std.specs.Cmp.{partial_equiv_from_equiv};
 
@@ -466,7 +463,7 @@ impl PartialEq for StructFields {
 }
 
 impl Eq for StructFields {
-    ghost use Rattle.dtype_types.specs.EqualityLaws.{same_struct_equiv};
+    ghost use Rattle.dtype_types.specs.PartsEquality.{same_struct_equiv};
 
     ghost laws = { same_struct_equiv };
 }

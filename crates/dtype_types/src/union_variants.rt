@@ -216,10 +216,7 @@ impl UnionVariants {
         ensures named { option_tree result ≡ variant_named (choices self.now) name.now }
         ensures valid { IsValidUnion self.now → IfSome result (λ d. IsValid d.now) }
     {
-        match self.find(name) {
-            Some(i) => self.variant_by_index(i),
-            None => None,
-        }
+        self.variant_by_index(self.find(name)?)
     }
 
     /// The type of the variant at this position, or `None` at or past the end.

@@ -32,10 +32,7 @@ impl TryFrom<&DType> for PType {
     ghost try_from_gives = { λ d r. r ≡ ok_or (primitive_name (tree d.now)) NotPrimitive };
 
     fn try_from(dtype: &DType) -> VortexResult<PType> {
-        match dtype.ptype() {
-            Some(ptype) => Ok(ptype),
-            None => Err(VortexError::NotPrimitive),
-        }
+        dtype.ptype().ok_or(VortexError::NotPrimitive)
     }
 }
 
@@ -46,10 +43,10 @@ impl TryFrom<&DType> for DecimalDType {
     ghost try_from_gives = { λ d r. r ≡ ok_or (decimal_of (tree d.now)) NotDecimal };
 
     fn try_from(dtype: &DType) -> VortexResult<DecimalDType> {
-        match dtype.as_decimal_opt() {
-            Some(decimal) => Ok(*decimal),
-            None => Err(VortexError::NotDecimal),
-        }
+        dtype
+            .as_decimal_opt()
+            .copied()
+            .ok_or(VortexError::NotDecimal)
     }
 }
 

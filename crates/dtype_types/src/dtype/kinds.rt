@@ -139,40 +139,28 @@ impl DType {
     pub fn is_unsigned_int(&self) -> bool
         ensures { IsTrue result ↔ IsSomeAnd (primitive_name (tree self.now)) IsUnsigned }
     {
-        match self.ptype() {
-            Some(ptype) => ptype.is_unsigned_int(),
-            None => false,
-        }
+        self.ptype().is_some_and(|ptype| ptype.is_unsigned_int())
     }
 
     /// Whether this is a `Primitive` whose name is a signed integer's.
     pub fn is_signed_int(&self) -> bool
         ensures { IsTrue result ↔ IsSomeAnd (primitive_name (tree self.now)) IsSigned }
     {
-        match self.ptype() {
-            Some(ptype) => ptype.is_signed_int(),
-            None => false,
-        }
+        self.ptype().is_some_and(|ptype| ptype.is_signed_int())
     }
 
     /// Whether this is a `Primitive` whose name is an integer's.
     pub fn is_int(&self) -> bool
         ensures { IsTrue result ↔ IsSomeAnd (primitive_name (tree self.now)) IsInteger }
     {
-        match self.ptype() {
-            Some(ptype) => ptype.is_int(),
-            None => false,
-        }
+        self.ptype().is_some_and(|ptype| ptype.is_int())
     }
 
     /// Whether this is a `Primitive` whose name is a floating-point number's.
     pub fn is_float(&self) -> bool
         ensures { IsTrue result ↔ IsSomeAnd (primitive_name (tree self.now)) IsFloat }
     {
-        match self.ptype() {
-            Some(ptype) => ptype.is_float(),
-            None => false,
-        }
+        self.ptype().is_some_and(|ptype| ptype.is_float())
     }
 
     /// Whether this is `List`, `FixedSizeList`, `Map`, `Struct`, `Union`, `Variant`, or an extension over

@@ -1,5 +1,5 @@
 use Rattle.std.proofs.Common.{sym, ◌∙◌}
-use Rattle.dtype_types.specs.EqualityLaws.{agree_fields_erased-Decides}
+use Rattle.dtype_types.specs.PartsEquality.{agree_fields_erased-Decides}
 use Rattle.dtype_types.specs.TreeOf.{struct_tree}
 use Rattle.dtype_types.proofs.struct_fields.StructFields.eq_ignore_nullability.Goals as goal
 

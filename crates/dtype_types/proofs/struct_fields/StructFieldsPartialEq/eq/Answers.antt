@@ -1,5 +1,5 @@
 use Rattle.std.proofs.Common.{sym, ◌∙◌}
-use Rattle.dtype_types.specs.EqualityLaws.{same_fields-Decides}
+use Rattle.dtype_types.specs.PartsEquality.{same_fields-Decides}
 use Rattle.dtype_types.specs.TreeOf.{children}
 use Rattle.dtype_types.proofs.struct_fields.StructFieldsPartialEq.eq.Goals as goal
 

@@ -1,6 +1,7 @@
 -- The variant of a name and the variant at a place.
-use Rattle.std.proofs.Common.{◌≡◌, ◌≢◌, ℕ, zero, suc, ◌<◌, List, [], ◌∷◌, length, map, take, Some, None, slice_get, refl, ◌∙◌, ap, arith}
+use Rattle.std.proofs.Common.{◌≡◌, ◌≢◌, ℕ, zero, suc, ◌<◌, List, [], ◌∷◌, length, map, take, Option, Some, None, IfSome, IfNone, option_and_then, slice_get, refl, ◌∙◌, ap, arith, sym}
 use Rattle.std.proofs.lemmas.Option.{same_Some}
+use Rattle.dtype_base.specs.FieldNames.{FirstAt, IsAbsent}
 use Rattle.dtype_types.proofs.FieldLookups.{same_name, other_name}
 use Rattle.dtype_types.specs.Tree.{Tree, variants}
 use Rattle.dtype_types.specs.Lookups.{variant_named}
@@ -21,6 +22,12 @@ variant_named-none [] ts gs n none = refl
 variant_named-none (m ∷ ns) [] gs n none = refl
 variant_named-none (m ∷ ns) (t ∷ ts) [] n none = refl
 variant_named-none (m ∷ ns) (t ∷ ts) (g ∷ gs) n none = other_name m n _ _ (λ e. none 0 (ap Some e)) ∙ variant_named-none ns ts gs n (λ k. none (suc k))
+
+-- the type at an answer that is the first position of the name, or none where no variant has it
+pub variant_found : (ns : List (List ℕ)) (ts : List Tree) (gs : List ℕ) (n : List ℕ) (r : Option ℕ) → IfSome r (FirstAt ns n) → IfNone r (IsAbsent ns n)
+    → option_and_then (slice_get (map (λ c. c.1) (zip_tagged ns ts gs))) r ≡ variant_named (zip_tagged ns ts gs) n
+variant_found ns ts gs n None some none = sym (variant_named-none ns ts gs n none)
+variant_found ns ts gs n (Some i) some none = sym (variant_named-at ns ts gs n i some.here some.first)
 
 types-take : (ns : List (List ℕ)) (ds : List DType) (gs : List ℕ) → map tree (take (length (zip_tagged ns (map tree ds) gs)) ds) ≡ map (λ c. c.1) (zip_tagged ns (map tree ds) gs)
 types-take [] ds gs = refl

@@ -7,6 +7,8 @@ use Rattle.std.specs.Hash.{HashWrites}
 use Rattle.dtype_base.specs.Primitives.{primitive as row}
 use Rattle.dtype_base.specs.declared.nullability.Nullability.{Nullability}
 use Rattle.dtype_base.specs.declared.nullability.Nullability.TheVariants.{NonNullable, Nullable}
+use Rattle.dtype_types.specs.Kinds.{kind_number}
+use Rattle.dtype_types.specs.declared.dtype.kinds.Kind.TheVariants as kind
 use Rattle.dtype_types.specs.declared.dtype.hash.Hashed.{Hashed}
 use Rattle.dtype_types.specs.declared.dtype.hash.Hashed.TheVariants.{Whole, Erased}
 use Rattle.dtype_types.specs.Tree.{Tree, Fields, no_fields, field, Variants, no_variants, choice, null, bool, primitive, decimal, utf8, binary, list, fixed_size_list, map_of, struct, union, variant, extension}
@@ -28,19 +30,19 @@ variant_count (choice n t g rest) = suc (variant_count rest)
 
 abbrev mutual
   pub hash_of : Hashed → Tree → HashWrites
-  hash_of s null = fed.u8 0
-  hash_of s (bool n) = fed.u8 1 ++ nullability_writes s n
-  hash_of s (primitive p n) = fed.u8 2 ++ (fed.u8 (row p).number ++ nullability_writes s n)
-  hash_of s (decimal d n) = fed.u8 3 ++ (fed.u8 d.precision ++ (fed.i8 d.scale ++ nullability_writes s n))
-  hash_of s (utf8 n) = fed.u8 4 ++ nullability_writes s n
-  hash_of s (binary n) = fed.u8 5 ++ nullability_writes s n
-  hash_of s (list t n) = fed.u8 6 ++ (hash_of s t ++ nullability_writes s n)
-  hash_of s (fixed_size_list t k n) = fed.u8 7 ++ (hash_of s t ++ (fed.u32 k ++ nullability_writes s n))
-  hash_of s (map_of k v o n) = fed.u8 8 ++ (hash_of s k ++ (hash_of s v ++ (fed.bool o ++ nullability_writes s n)))
-  hash_of s (struct fs n) = fed.u8 9 ++ (fed.usize (field_count fs) ++ (field_writes s fs ++ nullability_writes s n))
-  hash_of s (union vs n) = fed.u8 10 ++ (fed.usize (variant_count vs) ++ (variant_writes s vs ++ nullability_writes s n))
-  hash_of s (variant n) = fed.u8 11 ++ nullability_writes s n
-  hash_of s (extension id b t) = fed.u8 12 ++ (fed.str id ++ (fed.slice fed.u8 b ++ hash_of s t))
+  hash_of s null = fed.u8 (kind_number kind.Null)
+  hash_of s (bool n) = fed.u8 (kind_number kind.Bool) ++ nullability_writes s n
+  hash_of s (primitive p n) = fed.u8 (kind_number kind.Primitive) ++ (fed.u8 (row p).number ++ nullability_writes s n)
+  hash_of s (decimal d n) = fed.u8 (kind_number kind.Decimal) ++ (fed.u8 d.precision ++ (fed.i8 d.scale ++ nullability_writes s n))
+  hash_of s (utf8 n) = fed.u8 (kind_number kind.Utf8) ++ nullability_writes s n
+  hash_of s (binary n) = fed.u8 (kind_number kind.Binary) ++ nullability_writes s n
+  hash_of s (list t n) = fed.u8 (kind_number kind.List) ++ (hash_of s t ++ nullability_writes s n)
+  hash_of s (fixed_size_list t k n) = fed.u8 (kind_number kind.FixedSizeList) ++ (hash_of s t ++ (fed.u32 k ++ nullability_writes s n))
+  hash_of s (map_of k v o n) = fed.u8 (kind_number kind.Map) ++ (hash_of s k ++ (hash_of s v ++ (fed.bool o ++ nullability_writes s n)))
+  hash_of s (struct fs n) = fed.u8 (kind_number kind.Struct) ++ (fed.usize (field_count fs) ++ (field_writes s fs ++ nullability_writes s n))
+  hash_of s (union vs n) = fed.u8 (kind_number kind.Union) ++ (fed.usize (variant_count vs) ++ (variant_writes s vs ++ nullability_writes s n))
+  hash_of s (variant n) = fed.u8 (kind_number kind.Variant) ++ nullability_writes s n
+  hash_of s (extension id b t) = fed.u8 (kind_number kind.Extension) ++ (fed.str id ++ (fed.slice fed.u8 b ++ hash_of s t))
 
   -- each field: its name and its type
   pub field_writes : Hashed → Fields → HashWrites

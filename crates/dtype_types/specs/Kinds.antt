@@ -22,6 +22,22 @@ kind (union vs n) = k.Union
 kind (variant n) = k.Variant
 kind (extension id b s) = k.Extension
 
+-- the number of a kind
+abbrev pub kind_number : Kind → ℕ
+kind_number k.Null = 0
+kind_number k.Bool = 1
+kind_number k.Primitive = 2
+kind_number k.Decimal = 3
+kind_number k.Utf8 = 4
+kind_number k.Binary = 5
+kind_number k.List = 6
+kind_number k.FixedSizeList = 7
+kind_number k.Map = 8
+kind_number k.Struct = 9
+kind_number k.Union = 10
+kind_number k.Variant = 11
+kind_number k.Extension = 12
+
 -- the name of a primitive type; of no other type
 abbrev pub primitive_name : Tree → Option PType
 primitive_name (primitive p n) = Some p

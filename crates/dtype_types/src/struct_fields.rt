@@ -152,7 +152,7 @@ impl StructFields {
     /// The position of the first field of the name, or `None` where no field has it.
     pub fn find(&self, name: &str) -> Option<usize>
         ensures first { result ≡ first_place (field_names (children self.now)) name.now }
-        ensures field { option_and_then (λ i. slice_get (field_types (children self.now)) i) result
+        ensures field { option_and_then (slice_get (field_types (children self.now))) result
             ≡ first_named (children self.now) name.now }
         ensures found { IfSome result (FirstAt (field_names (children self.now)) name.now) }
         ensures none { IfNone result (IsAbsent (field_names (children self.now)) name.now) }

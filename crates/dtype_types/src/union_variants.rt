@@ -1,4 +1,4 @@
-ghost use Rattle.std.specs.Prelude.{◌≡◌, ◌≤◌, ◌<◌, ◌↔◌, ◌==◌, ◌⊎◌, IsTrue, List, [], length, map, vec_len, position, slice_get, All, IfOk, IfErr, IfSome, IfNone, OnOk, IsOkUnless, Err, Some, false, fold};
+ghost use Rattle.std.specs.Prelude.{◌≡◌, ◌≤◌, ◌<◌, ◌↔◌, ◌==◌, ◌⊎◌, IsTrue, List, [], length, map, vec_len, position, slice_get, All, IfOk, IfErr, IfSome, IfNone, OnOk, IsOkUnless, Err, Some, false, fold, option_and_then};
 ghost use Rattle.std.specs.List.{IsDistinct, range_with_len};
 ghost use Rattle.dtype_base.specs.FieldNames.{FirstAt, IsAbsent};
 ghost use Rattle.dtype_base.specs.declared.vortex_error.VortexError.TheVariants.{OutOfMemory, UnionTooMany};
@@ -205,6 +205,8 @@ impl UnionVariants {
 
     /// The position of the variant of the name, or `None` where no variant has it.
     pub fn find(&self, name: &str) -> Option<usize>
+        ensures variant { option_and_then (slice_get (choice_types self.now)) result
+            ≡ variant_named (choices self.now) name.now }
         ensures found { IfSome result (FirstAt (variant_names self.now) name.now) }
         ensures none { IfNone result (IsAbsent (variant_names self.now) name.now) }
     {

@@ -42,65 +42,43 @@ fn ptype_number(ptype: PType) -> u8
 pub(crate) fn feed<H: Hasher>(dtype: &DType, rule: Hashed, state: &mut H)
     ensures { state.new ≡ fold H.write state.old (hash_of rule (tree dtype.now)) }
 {
+    state.write_u8(dtype.kind_number());
     match dtype {
-        DType::Null => state.write_u8(0),
-        DType::Bool(n) => {
-            state.write_u8(1);
-            rule.feed(*n, state);
+        DType::Null => {}
+        DType::Bool(n) | DType::Utf8(n) | DType::Binary(n) | DType::Variant(n) => {
+            rule.feed(*n, state)
         }
         DType::Primitive(ptype, n) => {
-            state.write_u8(2);
             state.write_u8(ptype_number(*ptype));
             rule.feed(*n, state);
         }
         DType::Decimal(decimal, n) => {
-            state.write_u8(3);
             state.write_u8(decimal.precision());
             state.write_i8(decimal.scale());
             rule.feed(*n, state);
         }
-        DType::Utf8(n) => {
-            state.write_u8(4);
-            rule.feed(*n, state);
-        }
-        DType::Binary(n) => {
-            state.write_u8(5);
-            rule.feed(*n, state);
-        }
         DType::List(element, n) => {
-            state.write_u8(6);
             feed(element, rule, state);
             rule.feed(*n, state);
         }
         DType::FixedSizeList(element, size, n) => {
-            state.write_u8(7);
             feed(element, rule, state);
             state.write_u32(*size);
             rule.feed(*n, state);
         }
         DType::Map(map, n) => {
-            state.write_u8(8);
             map.feed(rule, state);
             rule.feed(*n, state);
         }
         DType::Struct(fields, n) => {
-            state.write_u8(9);
             fields.feed(rule, state);
             rule.feed(*n, state);
         }
         DType::Union(variants, n) => {
-            state.write_u8(10);
             variants.feed(rule, state);
             rule.feed(*n, state);
         }
-        DType::Variant(n) => {
-            state.write_u8(11);
-            rule.feed(*n, state);
-        }
-        DType::Extension(extension) => {
-            state.write_u8(12);
-            extension.feed(rule, state);
-        }
+        DType::Extension(extension) => extension.feed(rule, state),
     }
 }
 

@@ -3,7 +3,7 @@
 ghost use Rattle.std.specs.Prelude.{◌≡◌, ◌↔◌, IsTrue, IsSomeAnd, IfSome, Some};
 ghost use Rattle.std.specs.Option.{option_copied, option_map};
 ghost use Rattle.dtype_base.specs.Primitives.{IsUnsigned, IsSigned, IsInteger, IsFloat};
-ghost use Rattle.dtype_types.specs.Kinds.{kind, primitive_name, decimal_of, struct_fields, union_variants, map_parts, extension_parts, list_element, fixed_size_list_element, any_size_list_element, is_nested};
+ghost use Rattle.dtype_types.specs.Kinds.{kind, kind_number, primitive_name, decimal_of, struct_fields, union_variants, map_parts, extension_parts, list_element, fixed_size_list_element, any_size_list_element, is_nested};
 ghost use Rattle.dtype_types.specs.TreeOf.{tree, children, choices, map_shown, extension_shown, option_tree, option_boxed, shown, extension_tree};
 ghost use Rattle.dtype_types.specs.IsValid.{IsValid, IsValidStruct, IsValidUnion, IsValidMap, IsValidExtension};
 
@@ -49,6 +49,13 @@ impl DType {
             DType::Variant(_) => Kind::Variant,
             DType::Extension(_) => Kind::Extension,
         }
+    }
+
+    // The number of the kind.
+    pub(crate) fn kind_number(&self) -> u8
+        ensures { result ≡ kind_number (kind (tree self.now)) }
+    {
+        self.kind() as u8
     }
 
     /// Whether this is `Bool`.

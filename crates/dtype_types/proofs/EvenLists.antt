@@ -10,7 +10,7 @@ use Rattle.dtype_types.specs.EqualityLaws.{both, join}
 use Rattle.dtype_types.specs.FieldTypes.{field_tree}
 use Rattle.dtype_types.specs.IsValid.{IsValid, IsValidStruct, IsValidUnion, IsValidMap, even_fields, even_variants, has_even_lists}
 use Rattle.dtype_types.specs.Tree.{fields, struct, variants}
-use Rattle.dtype_types.specs.TreeOf.{tree, children, names_of, dtypes_of, map_key, map_value, extension_storage, variant_names, variant_dtypes, variant_tags, zip_tagged, ValidUnion}
+use Rattle.dtype_types.specs.TreeOf.{tree, children, struct_names, struct_dtypes, map_key, map_value, extension_storage, union_names, union_dtypes, union_tags, zip_tagged, ValidUnion}
 use Rattle.dtype_types.specs.Valid.{HasVariant, Valid, ValidFields, ValidVariants}
 use Rattle.dtype_types.proofs.TreeLaws.{tree_struct, tree_union, tree_map}
 use Rattle.dtype_types.specs.declared.dtype.DType.{DType, Map, Struct, Union, Extension, fold_out-DType, fold-roll-DType, the_lemmas}
@@ -21,10 +21,10 @@ use Rattle.dtype_types.specs.declared.map.MapDType.{MapDType, fold_out-MapDType}
 
 -- ---- what a struct, a union, a map and an extension have
 
-pub even_struct_is : (s : StructFields) (n : Nullability) → has_even_lists (Struct s n) ≡ even_fields (names_of s) (map has_even_lists (dtypes_of s))
+pub even_struct_is : (s : StructFields) (n : Nullability) → has_even_lists (Struct s n) ≡ even_fields (struct_names s) (map has_even_lists (struct_dtypes s))
 even_struct_is s n = search (rules, the_lemmas, fold_out-DType, fold-roll-DType, fold_out-StructFields)
 
-pub even_union_is : (u : UnionVariants) (n : Nullability) → has_even_lists (Union u n) ≡ even_variants (variant_names u) (map has_even_lists (variant_dtypes u)) (variant_tags u)
+pub even_union_is : (u : UnionVariants) (n : Nullability) → has_even_lists (Union u n) ≡ even_variants (union_names u) (map has_even_lists (union_dtypes u)) (union_tags u)
 even_union_is u n = search (rules, the_lemmas, fold_out-DType, fold-roll-DType, fold_out-UnionVariants)
 
 pub even_map_is : (m : MapDType) (n : Nullability) → has_even_lists (Map m n) ≡ (has_even_lists (map_key m) && has_even_lists (map_value m))
@@ -63,17 +63,17 @@ valid_struct d s n is h =
     let valid = subst Valid (ap tree is ∙ tree_struct s n) h.0 in
     let even = sym (ap has_even_lists is ∙ even_struct_is s n) ∙ h.1 in
     record {
-      paired = even_lengths (names_of s) (dtypes_of s) even;
-      types = All-from_recursion IsValid (dtypes_of s) (valid_each (names_of s) (dtypes_of s) valid even);
+      paired = even_lengths (struct_names s) (struct_dtypes s) even;
+      types = All-from_recursion IsValid (struct_dtypes s) (valid_each (struct_names s) (struct_dtypes s) valid even);
     }
 
 pub struct_is_valid : (s : StructFields) (n : Nullability) → IsValidStruct s → Valid (struct (fields (children s)) n)
-struct_is_valid s n h = fields_valid (names_of s) (dtypes_of s) (recursion_from_All IsValid (dtypes_of s) h.types)
+struct_is_valid s n h = fields_valid (struct_names s) (struct_dtypes s) (recursion_from_All IsValid (struct_dtypes s) h.types)
 
 pub struct_valid : (s : StructFields) (n : Nullability) → IsValidStruct s → IsValid (Struct s n)
 struct_valid s n h =
-    let each = recursion_from_All IsValid (dtypes_of s) h.types in
-    (subst Valid (sym (tree_struct s n)) (fields_valid (names_of s) (dtypes_of s) each), even_struct_is s n ∙ fields_even (names_of s) (dtypes_of s) h.paired each)
+    let each = recursion_from_All IsValid (struct_dtypes s) h.types in
+    (subst Valid (sym (tree_struct s n)) (fields_valid (struct_names s) (struct_dtypes s) each), even_struct_is s n ∙ fields_even (struct_names s) (struct_dtypes s) h.paired each)
 
 -- ---- variants
 
@@ -106,13 +106,13 @@ valid_union d u n is h =
     let even = sym (ap has_even_lists is ∙ even_union_is u n) ∙ h.1 in
     record {
       variants = valid;
-      tagged = even_lengths-variants (variant_names u) (variant_dtypes u) (variant_tags u) even;
-      types = All-from_recursion IsValid (variant_dtypes u) (valid_each-variant (variant_names u) (variant_dtypes u) (variant_tags u) valid.1 even);
+      tagged = even_lengths-variants (union_names u) (union_dtypes u) (union_tags u) even;
+      types = All-from_recursion IsValid (union_dtypes u) (valid_each-variant (union_names u) (union_dtypes u) (union_tags u) valid.1 even);
     }
 
 pub union_valid : (u : UnionVariants) (n : Nullability) → IsValidUnion u → IsValid (Union u n)
 union_valid u n h =
-    (subst Valid (sym (tree_union u n)) h.variants, even_union_is u n ∙ variants_even (variant_names u) (variant_dtypes u) (variant_tags u) h.tagged.0 h.tagged.1 (recursion_from_All IsValid (variant_dtypes u) h.types))
+    (subst Valid (sym (tree_union u n)) h.variants, even_union_is u n ∙ variants_even (union_names u) (union_dtypes u) (union_tags u) h.tagged.0 h.tagged.1 (recursion_from_All IsValid (union_dtypes u) h.types))
 
 -- ---- maps and extensions
 
@@ -127,11 +127,11 @@ map_valid m n h = (subst Valid (sym (tree_map m n)) (h.0, h.1.0, h.2.0), even_ma
 
 -- ---- types made of the same parts
 
-pub even_structs : (x y : StructFields) (n m : Nullability) (d : DType) → d ≡ Struct y m → names_of x ≡ names_of y → dtypes_of x ≡ dtypes_of y → has_even_lists (Struct x n) ≡ has_even_lists d
-even_structs x y n m d is e f = even_struct_is x n ∙ ap (λ ns. even_fields ns (map has_even_lists (dtypes_of x))) e ∙ ap (λ ds. even_fields (names_of y) (map has_even_lists ds)) f ∙ sym (even_struct_is y m) ∙ sym (ap has_even_lists is)
+pub even_structs : (x y : StructFields) (n m : Nullability) (d : DType) → d ≡ Struct y m → struct_names x ≡ struct_names y → struct_dtypes x ≡ struct_dtypes y → has_even_lists (Struct x n) ≡ has_even_lists d
+even_structs x y n m d is e f = even_struct_is x n ∙ ap (λ ns. even_fields ns (map has_even_lists (struct_dtypes x))) e ∙ ap (λ ds. even_fields (struct_names y) (map has_even_lists ds)) f ∙ sym (even_struct_is y m) ∙ sym (ap has_even_lists is)
 
-pub even_unions : (x y : UnionVariants) (n m : Nullability) (d : DType) → d ≡ Union y m → variant_names x ≡ variant_names y → variant_dtypes x ≡ variant_dtypes y → variant_tags x ≡ variant_tags y → has_even_lists (Union x n) ≡ has_even_lists d
-even_unions x y n m d is e f g = even_union_is x n ∙ ap (λ ns. even_variants ns (map has_even_lists (variant_dtypes x)) (variant_tags x)) e ∙ ap (λ ds. even_variants (variant_names y) (map has_even_lists ds) (variant_tags x)) f ∙ ap (even_variants (variant_names y) (map has_even_lists (variant_dtypes y))) g ∙ sym (even_union_is y m) ∙ sym (ap has_even_lists is)
+pub even_unions : (x y : UnionVariants) (n m : Nullability) (d : DType) → d ≡ Union y m → union_names x ≡ union_names y → union_dtypes x ≡ union_dtypes y → union_tags x ≡ union_tags y → has_even_lists (Union x n) ≡ has_even_lists d
+even_unions x y n m d is e f g = even_union_is x n ∙ ap (λ ns. even_variants ns (map has_even_lists (union_dtypes x)) (union_tags x)) e ∙ ap (λ ds. even_variants (union_names y) (map has_even_lists ds) (union_tags x)) f ∙ ap (even_variants (union_names y) (map has_even_lists (union_dtypes y))) g ∙ sym (even_union_is y m) ∙ sym (ap has_even_lists is)
 
 pub even_maps : (x y : MapDType) (n m : Nullability) (d : DType) → d ≡ Map y m → map_key x ≡ map_key y → map_value x ≡ map_value y → has_even_lists (Map x n) ≡ has_even_lists d
 even_maps x y n m d is e f = even_map_is x n ∙ ap (λ v. has_even_lists v && has_even_lists (map_value x)) e ∙ ap (λ v. has_even_lists (map_key y) && has_even_lists v) f ∙ sym (even_map_is y m) ∙ sym (ap has_even_lists is)

@@ -8,7 +8,7 @@ use Rattle.dtype_types.proofs.Projections.{slice_get_take}
 use Rattle.dtype_types.proofs.Zips.{firsts_take}
 use Rattle.dtype_types.specs.Lookups.{field_names}
 use Rattle.dtype_types.specs.Tree.{Tree}
-use Rattle.dtype_types.specs.TreeOf.{names_of, types_of, children, IsPaired}
+use Rattle.dtype_types.specs.TreeOf.{struct_names, struct_types, children, IsPaired}
 use Rattle.dtype_types.specs.declared.struct_fields.StructFields.{StructFields}
 
 -- what stands in a beginning of a list
@@ -41,7 +41,7 @@ absent_paired ns ts n none =
     subst (λ ms. IsAbsent ms n) (sym (firsts_take ns ts)) (λ k e. none k (slice_get_of_take ns j k n e).1)
 
 -- where each name has a type, there are as many fields as names
-pub paired_digits : (s : StructFields) (count : ℕ) → IsPaired s → IsWithinDigits (length (names_of s)) count → IsWithinDigits (length (children s)) count
+pub paired_digits : (s : StructFields) (count : ℕ) → IsPaired s → IsWithinDigits (length (struct_names s)) count → IsWithinDigits (length (children s)) count
 paired_digits s count paired most =
-    let same : length (names_of s) ≡ length (children s) = omega (arith, length-zip (names_of s) (types_of s), paired) in
+    let same : length (struct_names s) ≡ length (children s) = omega (arith, length-zip (struct_names s) (struct_types s), paired) in
     subst (λ k. IsWithinDigits k count) same most

@@ -9,7 +9,7 @@ use Rattle.dtype_types.specs.declared.struct_fields.StructFields.{StructFields}
 use Rattle.dtype_types.specs.EqualityLaws.{same_dtype, same_dtype_equiv}
 use Rattle.dtype_types.specs.IsValid.{IsValid, IsValidField, IsValidStruct}
 use Rattle.dtype_types.specs.Tree.{Tree, Fields, fields, struct}
-use Rattle.dtype_types.specs.TreeOf.{tree, names_of, types_of, IsPaired}
+use Rattle.dtype_types.specs.TreeOf.{tree, struct_names, struct_types, IsPaired}
 
 -- the tree of a field's type
 abbrev pub field_tree : FieldDType → Tree
@@ -27,8 +27,8 @@ given_fields given = fields (map (λ p. (p.0, field_tree p.1)) given)
 
 -- the struct's fields are these names and types, in order
 pub record HasFields (s : StructFields) (fields : List (List ℕ × FieldDType)) : Type 0 where
-  pub names : names_of s ≡ map (λ p. p.0) fields
-  pub types : types_of s ≡ map (λ p. field_tree p.1) fields
+  pub names : struct_names s ≡ map (λ p. p.0) fields
+  pub types : struct_types s ≡ map (λ p. field_tree p.1) fields
 
 -- each field's type is valid
 abbrev pub AreValidFields : List (List ℕ × FieldDType) → Type 0

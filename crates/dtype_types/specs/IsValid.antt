@@ -5,7 +5,7 @@ use Rattle.std.specs.Prelude.{◌≡◌, ◌<◌, ◌&&◌, ℕ, List, [], ◌�
 use Rattle.dtype_base.specs.declared.nullability.Nullability.TheVariants.{NonNullable}
 use Rattle.dtype_types.specs.Nullable.{nullability}
 use Rattle.dtype_types.specs.Valid.{Valid}
-use Rattle.dtype_types.specs.TreeOf.{tree, key_tree, map_key, map_value, IsPaired, dtypes_of, ValidUnion, variant_names, variant_types, variant_tags, variant_dtypes, extension_metadata, extension_storage}
+use Rattle.dtype_types.specs.TreeOf.{tree, key_tree, map_key, map_value, IsPaired, struct_dtypes, ValidUnion, union_names, union_types, union_tags, union_dtypes, extension_metadata, extension_storage}
 use Rattle.dtype_types.specs.declared.dtype.DType.{DType}
 use Rattle.dtype_types.specs.declared.dtype.DType.TheOpen as o
 use Rattle.dtype_types.specs.declared.dtype.DType.TheOpen.{DType-F, ExtDTypeRef-F, MapDType-F, StructFields-F, UnionVariants-F}
@@ -78,16 +78,16 @@ IsValidField f = IsValid f.dtype
 
 pub record IsValidStruct (s : StructFields) : Type 0 where
   pub paired : IsPaired s
-  pub types : All IsValid (dtypes_of s)
+  pub types : All IsValid (struct_dtypes s)
 
 -- as many types and as many tags as names
 abbrev pub IsTagged : UnionVariants → Type 0
-IsTagged u = (length (variant_names u) ≡ length (variant_types u)) × (length (variant_names u) ≡ length (variant_tags u))
+IsTagged u = (length (union_names u) ≡ length (union_types u)) × (length (union_names u) ≡ length (union_tags u))
 
 pub record IsValidUnion (u : UnionVariants) : Type 0 where
   pub variants : ValidUnion u
   pub tagged : IsTagged u
-  pub types : All IsValid (variant_dtypes u)
+  pub types : All IsValid (union_dtypes u)
 
 abbrev pub IsValidMap : MapDType → Type 0
 IsValidMap m = (nullability (key_tree m) ≡ NonNullable) × IsValid (map_key m) × IsValid (map_value m)

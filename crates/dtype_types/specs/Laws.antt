@@ -2,15 +2,15 @@
 use Rattle.std.specs.Prelude.{◌≡◌, ◌↔◌, ◌==◌, ℕ, List, map, slice_get, Some, IsTrue}
 use Rattle.std.specs.List.{position}
 use Rattle.dtype_base.specs.declared.nullability.Nullability.{Nullability}
-use Rattle.dtype_types.specs.Tree.{Tree, Variants, triples}
+use Rattle.dtype_types.specs.Tree.{Tree}
 use Rattle.dtype_types.specs.Erase.{erase}
 use Rattle.dtype_types.specs.Nullable.{nullability, SetNull}
 use Rattle.dtype_types.specs.IsValid.{IsValidUnion}
-use Rattle.dtype_types.specs.Lookups.{field_names, field_types}
+use Rattle.dtype_types.specs.Lookups.{field_names, field_types, variant_names, variant_types, variant_tags}
 use Rattle.dtype_types.specs.declared.dtype.DType.{DType}
 use Rattle.dtype_types.specs.EqualityLaws.{same_dtype}
 use Rattle.dtype_types.specs.Hashes.{writes, writes_ignoring_nullability}
-use Rattle.dtype_types.specs.TreeOf.{tree, children, names_of, types_of, choices, choice_types, variant_names, variant_types, variant_tags}
+use Rattle.dtype_types.specs.TreeOf.{tree, children, struct_names, struct_types, choices, union_names, union_types, union_tags}
 use Rattle.dtype_types.specs.declared.struct_fields.StructFields.{StructFields}
 use Rattle.dtype_types.specs.declared.union_variants.UnionVariants.{UnionVariants}
 
@@ -47,21 +47,17 @@ SetNullKeepsErase = (t u : Tree) (n : Nullability) → SetNull t n u → erase u
 abbrev pub LastSetNullDecides : Type 0
 LastSetNullDecides = (t u v : Tree) (m n : Nullability) → SetNull t m u → (SetNull u n v ↔ SetNull t n v)
 
--- the tags of variants, in order
-abbrev pub tags : Variants → List ℕ
-tags vs = map (λ v. v.2) (triples vs)
-
 -- in a valid union the first position of the tag that stands at i is i
 abbrev pub TagsTellPositions : Type 0
-TagsTellPositions = (u : UnionVariants) → IsValidUnion u → (i tag : ℕ) → slice_get (variant_tags u) i ≡ Some tag → position (λ g. g == tag) (variant_tags u) ≡ Some i
+TagsTellPositions = (u : UnionVariants) → IsValidUnion u → (i tag : ℕ) → slice_get (union_tags u) i ≡ Some tag → position (λ g. g == tag) (union_tags u) ≡ Some i
 
 -- a valid struct's names and types are those of one list of fields
 pub record IsOneListOfFields (s : StructFields) : Type 0 where
-  pub names : field_names (children s) ≡ names_of s
-  pub types : field_types (children s) ≡ types_of s
+  pub names : field_names (children s) ≡ struct_names s
+  pub types : field_types (children s) ≡ struct_types s
 
 -- a valid union's names, types and tags are those of one list of variants
 pub record IsOneListOfVariants (u : UnionVariants) : Type 0 where
-  pub names : map (λ c. c.0) (choices u) ≡ variant_names u
-  pub types : choice_types u ≡ variant_types u
-  pub tags_are : map (λ c. c.2) (choices u) ≡ variant_tags u
+  pub names : variant_names (choices u) ≡ union_names u
+  pub types : variant_types (choices u) ≡ union_types u
+  pub tags : variant_tags (choices u) ≡ union_tags u

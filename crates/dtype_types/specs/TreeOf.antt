@@ -63,41 +63,37 @@ abbrev pub tree : DType → Tree
 tree = fold-DType Tree ExtensionParts MapParts Fields Variants type_step extension_step map_step struct_step union_step
 
 -- a struct's names, its types, and its fields as pairs of them
-abbrev pub names_of : StructFields → List (List ℕ)
-names_of s = s.shared.value.names
+abbrev pub struct_names : StructFields → List (List ℕ)
+struct_names s = s.shared.value.names
 
-abbrev pub dtypes_of : StructFields → List DType
-dtypes_of s = s.shared.value.dtypes.items
+abbrev pub struct_dtypes : StructFields → List DType
+struct_dtypes s = s.shared.value.dtypes.items
 
-abbrev pub types_of : StructFields → List Tree
-types_of s = map tree (dtypes_of s)
+abbrev pub struct_types : StructFields → List Tree
+struct_types s = map tree (struct_dtypes s)
 
 abbrev pub children : StructFields → List (List ℕ × Tree)
-children s = zip (names_of s) (types_of s)
+children s = zip (struct_names s) (struct_types s)
 
 -- as many names as types, as in every struct that the constructors make
 abbrev pub IsPaired : StructFields → Type 0
-IsPaired s = length (names_of s) ≡ length (types_of s)
+IsPaired s = length (struct_names s) ≡ length (struct_types s)
 
 -- a union's names, types and tags, and its variants as triples of them
-abbrev pub variant_names : UnionVariants → List (List ℕ)
-variant_names u = u.shared.value.names
+abbrev pub union_names : UnionVariants → List (List ℕ)
+union_names u = u.shared.value.names
 
-abbrev pub variant_dtypes : UnionVariants → List DType
-variant_dtypes u = u.shared.value.dtypes.items
+abbrev pub union_dtypes : UnionVariants → List DType
+union_dtypes u = u.shared.value.dtypes.items
 
-abbrev pub variant_types : UnionVariants → List Tree
-variant_types u = map tree (variant_dtypes u)
+abbrev pub union_types : UnionVariants → List Tree
+union_types u = map tree (union_dtypes u)
 
-abbrev pub variant_tags : UnionVariants → List ℕ
-variant_tags u = u.shared.value.type_ids.items
+abbrev pub union_tags : UnionVariants → List ℕ
+union_tags u = u.shared.value.type_ids.items
 
 abbrev pub choices : UnionVariants → List (List ℕ × Tree × ℕ)
-choices u = zip_tagged (variant_names u) (variant_types u) (variant_tags u)
-
--- the types of the variants, in order
-abbrev pub choice_types : UnionVariants → List Tree
-choice_types u = map (λ c. c.1) (choices u)
+choices u = zip_tagged (union_names u) (union_types u) (union_tags u)
 
 -- a map's key, its value, and whether the keys are sorted
 abbrev pub map_key : MapDType → DType

@@ -18,7 +18,7 @@ impl FieldsBuilder {
     ghost use Rattle.dtype_base.specs.declared.vortex_error.VortexError.TheVariants.{OutOfMemory};
     ghost use Rattle.dtype_types.specs.Building.{dtypes_so_far, fields_so_far};
     ghost use Rattle.dtype_types.specs.IsValid.{IsValid, IsValidStruct};
-    ghost use Rattle.dtype_types.specs.TreeOf.{IsPaired, children, names_of, tree, types_of};
+    ghost use Rattle.dtype_types.specs.TreeOf.{IsPaired, children, struct_names, tree, struct_types};
 
     // No fields yet, and room for some.
     pub(crate) fn with_capacity(alloc: Global, capacity: usize) -> VortexResult<Self>
@@ -52,8 +52,8 @@ impl FieldsBuilder {
     // The struct of these fields.
     #[tactic(auto, using(crate::proofs::Zips::unzipped))]
     pub(crate) fn finish(self, alloc: Global) -> VortexResult<StructFields>
-        ensures names { IfOk result (λ s. names_of s ≡ map (λ p. p.0) (fields_so_far self)) }
-        ensures types { IfOk result (λ s. types_of s ≡ map (λ p. p.1) (fields_so_far self)) }
+        ensures names { IfOk result (λ s. struct_names s ≡ map (λ p. p.0) (fields_so_far self)) }
+        ensures types { IfOk result (λ s. struct_types s ≡ map (λ p. p.1) (fields_so_far self)) }
         ensures fields { IfOk result (λ s. children s ≡ fields_so_far self) }
         ensures paired { IfOk result IsPaired }
         ensures valid { All IsValid (dtypes_so_far self) → IfOk result IsValidStruct }

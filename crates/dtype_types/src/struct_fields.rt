@@ -45,14 +45,14 @@ impl StructFields {
     ghost use Rattle.dtype_types.specs.Distinct.{Distinct};
     ghost use Rattle.dtype_types.specs.HashesOf.{struct_writes};
     ghost use Rattle.dtype_types.specs.Tree.{Tree};
-    ghost use Rattle.dtype_types.specs.TreeOf.{struct_tree, IsPaired, names_of, dtypes_of, types_of, children, tree, option_tree};
+    ghost use Rattle.dtype_types.specs.TreeOf.{struct_tree, IsPaired, struct_names, struct_dtypes, struct_types, children, tree, option_tree};
     ghost use Rattle.dtype_types.specs.IsValid.{IsValid, IsValidField, IsValidStruct};
     ghost use Rattle.dtype_types.specs.Width.{MeasuresFields};
 
     /// No fields. Refuses 0 (OutOfMemory) alone.
     pub fn empty(alloc: Global) -> VortexResult<Self>
-        ensures names { IfOk result (λ s. names_of s ≡ []) }
-        ensures types { IfOk result (λ s. types_of s ≡ []) }
+        ensures names { IfOk result (λ s. struct_names s ≡ []) }
+        ensures types { IfOk result (λ s. struct_types s ≡ []) }
         ensures valid { IfOk result IsValidStruct }
         ensures refused { IsOkUnless result OutOfMemory }
     {
@@ -62,8 +62,8 @@ impl StructFields {
     /// The fields of these names and types, as many names as types. Refuses 0 (OutOfMemory) alone.
     pub fn new(alloc: Global, names: FieldNames, dtypes: Vec<DType>) -> VortexResult<Self>
         requires { length names ≡ vec_len dtypes }
-        ensures names { IfOk result (λ s. names_of s ≡ names) }
-        ensures types { IfOk result (λ s. types_of s ≡ map tree dtypes.items) }
+        ensures names { IfOk result (λ s. struct_names s ≡ names) }
+        ensures types { IfOk result (λ s. struct_types s ≡ map tree dtypes.items) }
         ensures paired { IfOk result IsPaired }
         ensures valid { All IsValid dtypes.items → IfOk result IsValidStruct }
         ensures refused { IsOkUnless result OutOfMemory }
@@ -80,8 +80,8 @@ impl StructFields {
         dtypes: Vec<FieldDType>,
     ) -> VortexResult<Self>
         requires { length names ≡ vec_len dtypes }
-        ensures names { IfOk result (λ s. names_of s ≡ names) }
-        ensures types { IfOk result (λ s. types_of s ≡ map field_tree dtypes.items) }
+        ensures names { IfOk result (λ s. struct_names s ≡ names) }
+        ensures types { IfOk result (λ s. struct_types s ≡ map field_tree dtypes.items) }
         ensures paired { IfOk result IsPaired }
         ensures valid { All IsValidField dtypes.items → IfOk result IsValidStruct }
         ensures refused { IsOkUnless result OutOfMemory }
@@ -113,22 +113,22 @@ impl StructFields {
     // How many fields there are: as far as both lists go.
     fn count(&self) -> usize
         ensures all { result ≡ length (children self.now) }
-        ensures names { result ≤ length (names_of self.now) }
-        ensures dtypes { result ≤ length (dtypes_of self.now) }
+        ensures names { result ≤ length (struct_names self.now) }
+        ensures dtypes { result ≤ length (struct_dtypes self.now) }
     {
         self.names().len().min(self.dtypes().len())
     }
 
     /// The names, in order.
     pub fn names(&self) -> &FieldNames
-        ensures { result.now ≡ names_of self.now }
+        ensures { result.now ≡ struct_names self.now }
     {
         self.shared.names.names()
     }
 
     // The types, also of fields that have no name, which no struct that is made has.
     fn dtypes(&self) -> &[DType]
-        ensures { result.now ≡ dtypes_of self.now }
+        ensures { result.now ≡ struct_dtypes self.now }
     {
         &self.shared.dtypes
     }
@@ -136,8 +136,8 @@ impl StructFields {
     /// How many fields there are.
     pub fn nfields(&self) -> usize
         ensures all { result ≡ length (children self.now) }
-        ensures names { result ≤ length (names_of self.now) }
-        ensures exact { IsValidStruct self.now → result ≡ length (names_of self.now) }
+        ensures names { result ≤ length (struct_names self.now) }
+        ensures exact { IsValidStruct self.now → result ≡ length (struct_names self.now) }
     {
         self.count()
     }
@@ -377,8 +377,8 @@ impl StructFields {
         fields: FieldsBuilder,
         index: usize,
     ) -> VortexResult<FieldsBuilder>
-        requires name { index < length (names_of self.now) }
-        requires dtype { index < length (dtypes_of self.now) }
+        requires name { index < length (struct_names self.now) }
+        requires dtype { index < length (struct_dtypes self.now) }
         ensures ok { IfOk result (λ b. (p : List ℕ × Tree)
             × (p ≡ slice_index_or (children self.now) index p)
             × (fields_so_far b ≡ fields_so_far fields ++ p ∷ [])) }
@@ -434,9 +434,9 @@ impl StructFields {
     /// Fields equal to these, which share them. Refuses 0 (OutOfMemory) alone.
     #[tactic(auto, using(crate::proofs::EvenLists::struct_of_same))]
     pub fn try_clone(&self, _alloc: Global) -> VortexResult<Self>
-        ensures names { IfOk result (λ s. names_of s ≡ names_of self.now) }
-        ensures types { IfOk result (λ s. types_of s ≡ types_of self.now) }
-        ensures shared { IfOk result (λ s. dtypes_of s ≡ dtypes_of self.now) }
+        ensures names { IfOk result (λ s. struct_names s ≡ struct_names self.now) }
+        ensures types { IfOk result (λ s. struct_types s ≡ struct_types self.now) }
+        ensures shared { IfOk result (λ s. struct_dtypes s ≡ struct_dtypes self.now) }
         ensures valid { IsValidStruct self.now → IfOk result IsValidStruct }
         ensures refused { IsOkUnless result OutOfMemory }
     {

@@ -87,10 +87,10 @@ fn first_tags(alloc: Global, count: usize) -> VortexResult<Vec<u8>>
 impl UnionVariants {
     ghost use Rattle.dtype_types.specs.Equality.{agree_variants};
     ghost use Rattle.dtype_types.specs.Erase.{erase_variants};
-    ghost use Rattle.dtype_types.specs.Lookups.{variant_named};
+    ghost use Rattle.dtype_types.specs.Lookups.{variant_named, variant_types};
     ghost use Rattle.dtype_types.specs.HashesOf.{union_writes};
     ghost use Rattle.dtype_types.specs.Text.{consecutive};
-    ghost use Rattle.dtype_types.specs.TreeOf.{tree, option_tree, union_tree, choices, choice_types, variant_names, variant_dtypes, variant_types, variant_tags};
+    ghost use Rattle.dtype_types.specs.TreeOf.{tree, option_tree, union_tree, choices, union_names, union_dtypes, union_types, union_tags};
     ghost use Rattle.dtype_types.specs.IsValid.{IsValid, IsValidUnion};
 
     /// The union of these names, types and tags. Refuses, the first that applies: 10
@@ -104,9 +104,9 @@ impl UnionVariants {
         dtypes: Vec<DType>,
         type_ids: Vec<u8>,
     ) -> VortexResult<Self>
-        ensures names { IfOk result (λ u. variant_names u ≡ names) }
-        ensures types { IfOk result (λ u. variant_types u ≡ map tree dtypes.items) }
-        ensures tags { IfOk result (λ u. variant_tags u ≡ type_ids.items) }
+        ensures names { IfOk result (λ u. union_names u ≡ names) }
+        ensures types { IfOk result (λ u. union_types u ≡ map tree dtypes.items) }
+        ensures tags { IfOk result (λ u. union_tags u ≡ type_ids.items) }
         ensures count { IfOk result (λ u. length (choices u) ≡ length names) }
         ensures valid { All IsValid dtypes.items → IfOk result IsValidUnion }
 
@@ -131,9 +131,9 @@ impl UnionVariants {
     /// The union of these names and types, with the tags 0, 1, 2 and so on. Refuses 14 (UnionTooMany)
     /// where there are more than 256 names, else as `try_new` does with those tags.
     pub fn new(alloc: Global, names: FieldNames, dtypes: Vec<DType>) -> VortexResult<Self>
-        ensures names { IfOk result (λ u. variant_names u ≡ names) }
-        ensures types { IfOk result (λ u. variant_types u ≡ map tree dtypes.items) }
-        ensures tags { IfOk result (λ u. variant_tags u ≡ range_with_len 0 (length names)) }
+        ensures names { IfOk result (λ u. union_names u ≡ names) }
+        ensures types { IfOk result (λ u. union_types u ≡ map tree dtypes.items) }
+        ensures tags { IfOk result (λ u. union_tags u ≡ range_with_len 0 (length names)) }
         ensures count { IfOk result (λ u. length (choices u) ≡ length names) }
         ensures valid { All IsValid dtypes.items → IfOk result IsValidUnion }
 
@@ -153,9 +153,9 @@ impl UnionVariants {
     // How many variants there are: as far as all lists go.
     fn count(&self) -> usize
         ensures all { result ≡ length (choices self.now) }
-        ensures names { result ≤ length (variant_names self.now) }
-        ensures dtypes { result ≤ length (variant_dtypes self.now) }
-        ensures tags { result ≤ length (variant_tags self.now) }
+        ensures names { result ≤ length (union_names self.now) }
+        ensures dtypes { result ≤ length (union_dtypes self.now) }
+        ensures tags { result ≤ length (union_tags self.now) }
     {
         self.names()
             .len()
@@ -165,14 +165,14 @@ impl UnionVariants {
 
     /// The names, in order.
     pub fn names(&self) -> &FieldNames
-        ensures { result.now ≡ variant_names self.now }
+        ensures { result.now ≡ union_names self.now }
     {
         &self.shared.names
     }
 
     // The types, also of variants that have no name or no tag, which no union that is made has.
     fn dtypes(&self) -> &[DType]
-        ensures { result.now ≡ variant_dtypes self.now }
+        ensures { result.now ≡ union_dtypes self.now }
     {
         &self.shared.dtypes
     }
@@ -180,11 +180,11 @@ impl UnionVariants {
     /// How many variants there are.
     pub fn len(&self) -> usize
         ensures all { result ≡ length (choices self.now) }
-        ensures names { result ≤ length (variant_names self.now) }
-        ensures tags { result ≤ length (variant_tags self.now) }
+        ensures names { result ≤ length (union_names self.now) }
+        ensures tags { result ≤ length (union_tags self.now) }
         ensures exact { IsValidUnion self.now
-            → (result ≡ length (variant_names self.now))
-            × (result ≡ length (variant_tags self.now)) }
+            → (result ≡ length (union_names self.now))
+            × (result ≡ length (union_tags self.now)) }
     {
         self.count()
     }
@@ -198,17 +198,17 @@ impl UnionVariants {
 
     /// The tags, in order of the variants.
     pub fn type_ids(&self) -> &[u8]
-        ensures { result.now ≡ variant_tags self.now }
+        ensures { result.now ≡ union_tags self.now }
     {
         &self.shared.type_ids
     }
 
     /// The position of the variant of the name, or `None` where no variant has it.
     pub fn find(&self, name: &str) -> Option<usize>
-        ensures variant { option_and_then (slice_get (choice_types self.now)) result
+        ensures variant { option_and_then (slice_get (variant_types (choices self.now))) result
             ≡ variant_named (choices self.now) name.now }
-        ensures found { IfSome result (FirstAt (variant_names self.now) name.now) }
-        ensures none { IfNone result (IsAbsent (variant_names self.now) name.now) }
+        ensures found { IfSome result (FirstAt (union_names self.now) name.now) }
+        ensures none { IfNone result (IsAbsent (union_names self.now) name.now) }
     {
         self.names().find(name)
     }
@@ -223,7 +223,7 @@ impl UnionVariants {
 
     /// The type of the variant at this position, or `None` at or past the end.
     pub fn variant_by_index(&self, index: usize) -> Option<&DType>
-        ensures at { option_tree result ≡ slice_get (choice_types self.now) index }
+        ensures at { option_tree result ≡ slice_get (variant_types (choices self.now)) index }
         ensures valid { IsValidUnion self.now → IfSome result (λ d. IsValid d.now) }
     {
         self.types().get(index)
@@ -231,7 +231,7 @@ impl UnionVariants {
 
     /// The types of the variants, in order.
     pub fn variants(&self) -> DTypeIter<'_>
-        ensures all { map tree result ≡ choice_types self.now }
+        ensures all { map tree result ≡ variant_types (choices self.now) }
         ensures valid { IsValidUnion self.now → All IsValid result }
     {
         DTypeIter::new(self.types())
@@ -239,7 +239,7 @@ impl UnionVariants {
 
     // The types of the variants, in order.
     fn types(&self) -> &[DType]
-        ensures all { map tree result.now ≡ choice_types self.now }
+        ensures all { map tree result.now ≡ variant_types (choices self.now) }
         ensures valid { IsValidUnion self.now → All IsValid result.now }
     {
         &self.dtypes()[..self.count()]
@@ -247,7 +247,7 @@ impl UnionVariants {
 
     /// The position of the variant with this tag, or `None` where no variant has it.
     pub fn tag_to_child_index(&self, tag: u8) -> Option<usize>
-        ensures first { result ≡ position (λ t. t == tag) (variant_tags self.now) }
+        ensures first { result ≡ position (λ t. t == tag) (union_tags self.now) }
         ensures within { IsValidUnion self.now
             → IfSome result (λ i. i < length (choices self.now)) }
     {
@@ -256,17 +256,17 @@ impl UnionVariants {
 
     // The first position of the tag among the tags.
     fn first_tagged(&self, tag: u8) -> Option<usize>
-        ensures { result ≡ position (λ t. t == tag) (variant_tags self.now) }
+        ensures { result ≡ position (λ t. t == tag) (union_tags self.now) }
     {
         self.type_ids().iter().position(|t| *t == tag)
     }
 
     /// The tag of the variant at this position, which there is.
     pub fn child_index_to_tag(&self, index: usize) -> u8
-        requires { index < length (variant_tags self.now) }
-        ensures at { slice_get (variant_tags self.now) index ≡ Some result }
+        requires { index < length (union_tags self.now) }
+        ensures at { slice_get (union_tags self.now) index ≡ Some result }
         ensures back { IsValidUnion self.now
-            → position (λ t. t == result) (variant_tags self.now) ≡ Some index }
+            → position (λ t. t == result) (union_tags self.now) ≡ Some index }
     {
         self.type_ids()[index]
     }
@@ -334,10 +334,10 @@ impl UnionVariants {
     /// Variants equal to these, which share them. Refuses 0 (OutOfMemory) alone.
     #[tactic(auto, using(crate::proofs::EvenLists::union_of_same))]
     pub fn try_clone(&self, _alloc: Global) -> VortexResult<Self>
-        ensures names { IfOk result (λ u. variant_names u ≡ variant_names self.now) }
-        ensures types { IfOk result (λ u. variant_types u ≡ variant_types self.now) }
-        ensures tags { IfOk result (λ u. variant_tags u ≡ variant_tags self.now) }
-        ensures shared { IfOk result (λ u. variant_dtypes u ≡ variant_dtypes self.now) }
+        ensures names { IfOk result (λ u. union_names u ≡ union_names self.now) }
+        ensures types { IfOk result (λ u. union_types u ≡ union_types self.now) }
+        ensures tags { IfOk result (λ u. union_tags u ≡ union_tags self.now) }
+        ensures shared { IfOk result (λ u. union_dtypes u ≡ union_dtypes self.now) }
         ensures valid { IsValidUnion self.now → IfOk result IsValidUnion }
         ensures refused { IsOkUnless result OutOfMemory }
     {

@@ -1,7 +1,7 @@
 // What a caller has of a valid type.
 ghost use Rattle.std.specs.Prelude.{◌≡◌, ◌<◌, Some, IfSome, length, true};
 ghost use Rattle.dtype_types.specs.IsValid.{IsValid, IsValidStruct, IsValidUnion};
-ghost use Rattle.dtype_types.specs.TreeOf.{variant_tags};
+ghost use Rattle.dtype_types.specs.TreeOf.{union_tags};
 
 use dtype_types::{DType, StructFields, UnionVariants};
 
@@ -23,7 +23,7 @@ pub fn as_many_names_as_fields(fields: &StructFields) -> bool
 
 /// A tag of a valid union leads back to its place.
 pub fn place_and_back(variants: &UnionVariants, place: usize) -> Option<usize>
-    requires { place < length (variant_tags variants.now) }
+    requires { place < length (union_tags variants.now) }
     ensures { IsValidUnion variants.now → result ≡ Some place }
 {
     let tag = variants.child_index_to_tag(place);

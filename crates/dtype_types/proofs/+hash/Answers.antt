@@ -3,7 +3,7 @@ use Rattle.std.specs.Hash.{le_bytes}
 use Rattle.std.proofs.lemmas.List.{drop_all}
 use Rattle.dtype_types.specs.Hashes.{field_writes, variant_writes}
 use Rattle.dtype_types.specs.Tree.{fields, variants}
-use Rattle.dtype_types.specs.TreeOf.{children, choices, names_of, dtypes_of, variant_names, variant_dtypes, variant_tags}
+use Rattle.dtype_types.specs.TreeOf.{children, choices, struct_names, struct_dtypes, union_names, union_dtypes, union_tags}
 use Rattle.dtype_types.proofs.Feeding.{count_of_fields, count_of_variants, field_fed, variant_fed}
 use Rattle.dtype_types.proofs.Turns.{tag_at}
 use Rattle.dtype_types.proofs.+hash.Goals as goal
@@ -11,7 +11,7 @@ use Rattle.dtype_types.proofs.+hash.Goals as goal
 pub struct_fields::StructFields::feed-loop-i-preserved : goal.struct_fields::StructFields::feed-loop-i-preserved
 struct_fields::StructFields::feed-loop-i-preserved g t c =
     let s = c.args.self.now in
-    field_fed g.H.Hasher.write c.args.rule (names_of s) (dtypes_of s) c.loop-i.i c.index-names-i.result c.index-dtypes-i.result _ c.loop-i.state c.hash.new.state c.feed.new.state (omega arith) (omega arith)
+    field_fed g.H.Hasher.write c.args.rule (struct_names s) (struct_dtypes s) c.loop-i.i c.index-names-i.result c.index-dtypes-i.result _ c.loop-i.state c.hash.new.state c.feed.new.state (omega arith) (omega arith)
     (c.index-names-i.is ∙ ap (λ xs. get_or xs c.loop-i.i c.index-names-i.result) (c.as_slice-names.ensures ∙ c.names.ensures)) (c.index-dtypes-i.is ∙ ap (λ xs. get_or xs c.loop-i.i c.index-dtypes-i.result) c.dtypes-dtypes.ensures) c.loop-i.invariant c.hash.ensures c.feed.ensures
 
 pub struct_fields::StructFields::feed-returns : goal.struct_fields::StructFields::feed-returns
@@ -25,8 +25,8 @@ struct_fields::StructFields::feed-returns g t c =
 pub union_variants::UnionVariants::feed-loop-i-preserved : goal.union_variants::UnionVariants::feed-loop-i-preserved
 union_variants::UnionVariants::feed-loop-i-preserved g t c =
     let u = c.args.self.now in
-    variant_fed g.H.Hasher.write c.args.rule (variant_names u) (variant_dtypes u) (variant_tags u) c.loop-i.i c.index-names-i.result c.index-dtypes-i.result (get_or c.type_ids-tags.result.now c.loop-i.i 0) _ c.loop-i.state c.hash.new.state c.feed.new.state c.write_u8.new.self (omega arith) (omega arith) (omega arith)
-    (c.index-names-i.is ∙ ap (λ xs. get_or xs c.loop-i.i c.index-names-i.result) (c.as_slice-names.ensures ∙ c.names.ensures)) (c.index-dtypes-i.is ∙ ap (λ xs. get_or xs c.loop-i.i c.index-dtypes-i.result) c.dtypes-dtypes.ensures) (tag_at (variant_tags u) _ c.loop-i.i c.type_ids-tags.ensures (omega arith)) c.loop-i.invariant c.hash.ensures c.feed.ensures c.write_u8.ensures
+    variant_fed g.H.Hasher.write c.args.rule (union_names u) (union_dtypes u) (union_tags u) c.loop-i.i c.index-names-i.result c.index-dtypes-i.result (get_or c.type_ids-tags.result.now c.loop-i.i 0) _ c.loop-i.state c.hash.new.state c.feed.new.state c.write_u8.new.self (omega arith) (omega arith) (omega arith)
+    (c.index-names-i.is ∙ ap (λ xs. get_or xs c.loop-i.i c.index-names-i.result) (c.as_slice-names.ensures ∙ c.names.ensures)) (c.index-dtypes-i.is ∙ ap (λ xs. get_or xs c.loop-i.i c.index-dtypes-i.result) c.dtypes-dtypes.ensures) (tag_at (union_tags u) _ c.loop-i.i c.type_ids-tags.ensures (omega arith)) c.loop-i.invariant c.hash.ensures c.feed.ensures c.write_u8.ensures
 
 pub union_variants::UnionVariants::feed-returns : goal.union_variants::UnionVariants::feed-returns
 union_variants::UnionVariants::feed-returns g t c =

@@ -9,7 +9,7 @@ use Rattle.dtype_types.proofs.Texts.{joined_next, read_pair}
 use Rattle.dtype_types.specs.IndentedText.{indented, indented_braces, indented_fields}
 use Rattle.dtype_types.specs.Text.{joined}
 use Rattle.dtype_types.specs.Tree.{Tree}
-use Rattle.dtype_types.specs.TreeOf.{tree, children, struct_tree, names_of, dtypes_of}
+use Rattle.dtype_types.specs.TreeOf.{tree, children, struct_tree, struct_names, struct_dtypes}
 use Rattle.dtype_types.proofs.+indented.Goals as goal
 
 pub dtype::DType::write_indented-returns-in_ok-write-in-Struct-clause-ok : goal.dtype::DType::write_indented-returns-in_ok-write-in-Struct-clause-ok
@@ -27,7 +27,7 @@ struct_fields::StructFields::write_indented-loop-i-preserved t c =
     let d = c.index-dtypes-i.result in
     let x : List ℕ = inner ++ (escaped n ++ (codes "=" ++ indented inner (tree d))) in
     let p : List ℕ × Tree = (n, tree d) in
-    let read = read_pair (names_of s) (dtypes_of s) i n d (omega arith) (omega arith) (c.index-names-i.is ∙ ap (λ xs. get_or xs i n) (c.as_slice-names.ensures ∙ c.names.ensures)) (c.index-dtypes-i.is ∙ ap (λ xs. get_or xs i d) c.dtypes-dtypes.ensures) in
+    let read = read_pair (struct_names s) (struct_dtypes s) i n d (omega arith) (omega arith) (c.index-names-i.is ∙ ap (λ xs. get_or xs i n) (c.as_slice-names.ensures ∙ c.names.ensures)) (c.index-dtypes-i.is ∙ ap (λ xs. get_or xs i d) c.dtypes-dtypes.ensures) in
     let parts = indented_fields inner (struct_tree s) in
     let next = joined_next (codes ",\n") parts i x (omega (arith, length-indented_fields inner (children s))) (indented_field_at inner (children s) i p (omega arith) read) in
     let start = string_bytes c.loop-i.out in

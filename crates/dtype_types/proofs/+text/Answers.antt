@@ -6,7 +6,7 @@ use Rattle.std.proofs.lemmas.Grind.{common_steps}
 use Rattle.std.proofs.lemmas.List.{take_all}
 use Rattle.dtype_types.proofs.Texts.{map_all, struct_all, union_all, extension_all, joined_next, field_text_at, choice_text_at, length-field_texts, length-choice_texts, read_pair, read_triple}
 use Rattle.dtype_types.specs.Text.{text, field_texts, choice_texts, consecutive, tag_text}
-use Rattle.dtype_types.specs.TreeOf.{children, choices, struct_tree, union_tree, tree, names_of, dtypes_of, variant_names, variant_dtypes, variant_tags}
+use Rattle.dtype_types.specs.TreeOf.{children, choices, struct_tree, union_tree, tree, struct_names, struct_dtypes, union_names, union_dtypes, union_tags}
 use Rattle.dtype_types.specs.TextOf.{map_text, struct_text, union_text, extension_text}
 use Rattle.dtype_types.proofs.Turns.{tag_at}
 use Rattle.dtype_types.proofs.+text.Goals as goal
@@ -49,7 +49,7 @@ struct_fields::StructFieldsDisplay::fmt-loop-i-preserved g t c = λ plain.
     let d = c.index-dtypes-i.result in
     let x : List ℕ = escaped n ++ (codes "=" ++ text (tree d)) in
     let p : List ℕ × Tree = (n, tree d) in
-    let read = read_pair (names_of s) (dtypes_of s) i n d (omega arith) (omega arith) (c.index-names-i.is ∙ ap (λ xs. get_or xs i n) (c.as_slice-names.ensures ∙ c.names.ensures)) (c.index-dtypes-i.is ∙ ap (λ xs. get_or xs i d) c.dtypes-dtypes.ensures) in
+    let read = read_pair (struct_names s) (struct_dtypes s) i n d (omega arith) (omega arith) (c.index-names-i.is ∙ ap (λ xs. get_or xs i n) (c.as_slice-names.ensures ∙ c.names.ensures)) (c.index-dtypes-i.is ∙ ap (λ xs. get_or xs i d) c.dtypes-dtypes.ensures) in
     let inv = c.loop-i.invariant plain in
     has_written_of_eq _ _ _ _ _ (joined_next (codes ", ") (field_texts (struct_tree s)) i x (omega (arith, length-field_texts (children s))) (field_text_at (children s) i p (omega arith) read)) (has_written_append _ _ _ _ _ _ inv (grind (arith, common_steps)))
 
@@ -69,7 +69,7 @@ union_variants::UnionVariantsDisplay::fmt-loop-i-preserved g t c = λ plain.
     let h = get_or c.type_ids-tags.result.now i 0 in
     let x : List ℕ = escaped n ++ (tag_text k h ++ (codes "=" ++ text (tree d))) in
     let p : List ℕ × Tree × ℕ = (n, tree d, h) in
-    let read = read_triple (variant_names u) (variant_dtypes u) (variant_tags u) i n d h (omega arith) (omega arith) (omega arith) (c.index-names-i.is ∙ ap (λ xs. get_or xs i n) (c.as_slice-names.ensures ∙ c.names.ensures)) (c.index-dtypes-i.is ∙ ap (λ xs. get_or xs i d) c.dtypes-dtypes.ensures) (tag_at (variant_tags u) _ i c.type_ids-tags.ensures (omega arith)) in
+    let read = read_triple (union_names u) (union_dtypes u) (union_tags u) i n d h (omega arith) (omega arith) (omega arith) (c.index-names-i.is ∙ ap (λ xs. get_or xs i n) (c.as_slice-names.ensures ∙ c.names.ensures)) (c.index-dtypes-i.is ∙ ap (λ xs. get_or xs i d) c.dtypes-dtypes.ensures) (tag_at (union_tags u) _ i c.type_ids-tags.ensures (omega arith)) in
     let inv = c.loop-i.invariant plain in
     has_written_of_eq _ _ _ _ _ (joined_next (codes ", ") (choice_texts k (union_tree u)) i x (omega (arith, length-choice_texts k (choices u))) (choice_text_at k (choices u) i p (omega arith) read)) (has_written_append _ _ _ _ _ _ inv (grind (arith, common_steps)))
 

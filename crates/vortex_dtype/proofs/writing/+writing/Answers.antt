@@ -1,5 +1,5 @@
 use Rattle.std.proofs.Common.{◌≡◌, ℕ, pos, refl, sym, ap, ◌∙◌, ◌<◌, ◌≤◌, arith, get_or, rules, map, length, string_bytes, [], ◌∷◌, ◌++◌}
-use Rattle.dtype_types.specs.TreeOf.{tree, children, choices, variant_names, variant_types, variant_tags}
+use Rattle.dtype_types.specs.TreeOf.{tree, children, choices, union_names, union_types, union_tags}
 use Rattle.vortex_dtype.specs.MessageOf.{message}
 use Rattle.vortex_dtype.proofs.Weight.{weight_field, weight_variant}
 use Rattle.vortex_dtype.proofs.WrittenParts.{take_field, take_variant, step, step_plain, struct_done, union_done}
@@ -39,10 +39,10 @@ write_union-write-requires t c =
 pub write_union-loop-i-preserved : goal.write_union-loop-i-preserved
 write_union-loop-i-preserved t c =
     let v = c.args.variants.now in let i = c.loop-i.i in let n = c.index-texts-i.result in let x = tree c.in-Some.dtype.now in
-    let texts : c.as_slice-texts.result.now ≡ variant_names v = c.as_slice-texts.ensures ∙ c.names.ensures in
-    let tags : c.type_ids-type_ids.result.now ≡ variant_tags v = c.type_ids-type_ids.ensures in
+    let texts : c.as_slice-texts.result.now ≡ union_names v = c.as_slice-texts.ensures ∙ c.names.ensures in
+    let tags : c.type_ids-type_ids.result.now ≡ union_tags v = c.type_ids-type_ids.ensures in
     let g = get_or c.type_ids-type_ids.result.now i 0 in
-    let next = take_variant (variant_names v) (variant_types v) (variant_tags v) i n x g 0 (omega (arith, c.loop-i-test.true, c.len-count.ensures.names)) (omega (arith, c.loop-i-test.true, c.len-count.ensures.tags))
+    let next = take_variant (union_names v) (union_types v) (union_tags v) i n x g 0 (omega (arith, c.loop-i-test.true, c.len-count.ensures.names)) (omega (arith, c.loop-i-test.true, c.len-count.ensures.tags))
     (c.index-texts-i.is ∙ ap (λ xs. get_or xs i n) texts) c.in-Some.ensures.at (ap (λ xs. get_or xs i 0) tags) in
     let text : string_bytes c.in_ok-to_text.field-0 ≡ n = search rules in
     let pushed : c.push.new.self.items ≡ c.loop-i.names.items ++ c.in_ok-to_text.field-0 ∷ [] = search rules in

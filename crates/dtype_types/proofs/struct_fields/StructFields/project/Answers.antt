@@ -6,20 +6,20 @@ use Rattle.dtype_types.proofs.FieldLookups.{count_fields}
 use Rattle.dtype_types.proofs.Projections.{field_at, absent_none, found_within, projects_more, first_unknown, projected_alike}
 use Rattle.dtype_types.specs.Building.{fields_so_far}
 use Rattle.dtype_types.specs.Lookups.{Projects, field_names}
-use Rattle.dtype_types.specs.TreeOf.{children, names_of, dtypes_of}
+use Rattle.dtype_types.specs.TreeOf.{children, struct_names, struct_dtypes}
 use Rattle.dtype_types.proofs.struct_fields.StructFields.project.Goals as goal
 
 pub push_copy-requires-clause-name : goal.push_copy-requires-clause-name
 push_copy-requires-clause-name c =
     let s = c.args.self.now in
     let found = subst (λ m. FirstAt (field_names (children s)) m c.in-Some.i) c.as_str.ensures c.in-Some.ensures.found in
-    omega (arith, found_within (children s) _ c.in-Some.i found, count_fields (names_of s) (dtypes_of s))
+    omega (arith, found_within (children s) _ c.in-Some.i found, count_fields (struct_names s) (struct_dtypes s))
 
 pub push_copy-requires-clause-dtype : goal.push_copy-requires-clause-dtype
 push_copy-requires-clause-dtype c =
     let s = c.args.self.now in
     let found = subst (λ m. FirstAt (field_names (children s)) m c.in-Some.i) c.as_str.ensures c.in-Some.ensures.found in
-    omega (arith, found_within (children s) _ c.in-Some.i found, count_fields (names_of s) (dtypes_of s), s.shared.value.dtypes.ok.0)
+    omega (arith, found_within (children s) _ c.in-Some.i found, count_fields (struct_names s) (struct_dtypes s), s.shared.value.dtypes.ok.0)
 
 pub returns-in-None-clause-refused : goal.returns-in-None-clause-refused
 returns-in-None-clause-refused c =

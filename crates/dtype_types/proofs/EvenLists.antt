@@ -1,5 +1,5 @@
 -- Even lists of parts and of what is made of them, and validity with them.
-use Rattle.std.proofs.Common.{◌≡◌, ◌&&◌, ℕ, List, [], ◌∷◌, ◌++◌, Bool, true, false, map, length, refl, ap, sym, subst, ◌∙◌, rules, arith}
+use Rattle.std.proofs.Common.{◌≡◌, ◌&&◌, ℕ, List, [], ◌∷◌, ◌++◌, true, map, length, refl, ap, sym, subst, ◌∙◌, rules, arith}
 use Rattle.std.specs.List.{All, AllByRecursion, zip}
 use Rattle.std.proofs.lemmas.List.Elements.{recursion_from_All, All-cons, All-from_recursion, All-nil, All-push, All-same}
 use Rattle.dtype_base.specs.declared.nullability.Nullability.{Nullability}

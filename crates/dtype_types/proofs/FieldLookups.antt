@@ -1,7 +1,7 @@
 -- The first field of a name, by its place.
-use Rattle.std.proofs.Common.{◌≡◌, ◌≢◌, ℕ, zero, suc, ◌<◌, List, [], ◌∷◌, length, map, Option, Some, None, Bool, true, false, cond, slice_get, get_or, nat_eq, min, nat_lt, IfSome, refl, sym, ◌∙◌, ap, arith, rules, Bor}
+use Rattle.std.proofs.Common.{◌≡◌, ◌≢◌, ℕ, zero, suc, ◌<◌, List, [], ◌∷◌, length, map, Option, Some, None, cond, slice_get, get_or, min, nat_lt, IfSome, refl, sym, ◌∙◌, ap, arith, Bor}
 use Rattle.std.specs.List.{zip}
-use Rattle.std.specs.Option.{is_some, option_map, option_copied}
+use Rattle.std.specs.Option.{is_some, option_map}
 use Rattle.std.specs.Str.{bytes_eq}
 use Rattle.std.proofs.lemmas.Slice.Eq.{bytes_eq-Decides}
 use Rattle.std.proofs.lemmas.Option.{same_Some, slice_get-map, slice_get_past, slice_get_read}
@@ -9,7 +9,6 @@ use Rattle.std.proofs.lemmas.Bool.{false_from_ne_true}
 use Rattle.std.proofs.lemmas.Bool.Decides.{nat_tests}
 use Rattle.std.proofs.lemmas.List.{length-map}
 use Rattle.std.proofs.lemmas.Slice.Zip.{length-zip}
-use Rattle.dtype_base.specs.FieldNames.{FirstAt}
 use Rattle.dtype_types.specs.Tree.{Tree}
 use Rattle.dtype_types.specs.Lookups.{first_named}
 use Rattle.dtype_types.specs.TreeOf.{tree, option_tree}

@@ -1,5 +1,5 @@
 -- Several facts of one outcome.
-use Rattle.std.proofs.Common.{◌≡◌, Result, Ok, Err, IfOk}
+use Rattle.std.proofs.Common.{Result, Ok, Err, IfOk}
 
 pub ok_both : {X Y : Type 0} (r : Result X Y) (P Q : X → Type 0) → IfOk r P → IfOk r Q → IfOk r (λ x. P x × Q x)
 ok_both (Ok x) P Q p q = (p, q)

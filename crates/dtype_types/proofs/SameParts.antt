@@ -1,9 +1,9 @@
 -- Types made of the same parts are the same type, also with another nullability.
-use Rattle.std.proofs.Common.{◌≡◌, sym, ap, ◌∙◌, List, ℕ, Some}
+use Rattle.std.proofs.Common.{◌≡◌, sym, ap, ◌∙◌, Some}
 use Rattle.std.specs.List.{zip}
 use Rattle.dtype_base.specs.declared.nullability.Nullability.{Nullability}
 use Rattle.dtype_types.specs.Nullable.{set_null}
-use Rattle.dtype_types.specs.Tree.{Tree, map_of, struct, union, fields, variants}
+use Rattle.dtype_types.specs.Tree.{map_of, struct, union, fields, variants}
 use Rattle.dtype_types.specs.TreeOf.{tree, children, choices, zip_tagged, struct_names, struct_types, union_names, union_types, union_tags, key_tree, value_tree, are_keys_sorted, extension_tree}
 use Rattle.dtype_types.proofs.TreeLaws.{tree_struct, tree_union, tree_map, tree_extension}
 use Rattle.dtype_types.specs.declared.dtype.DType.{DType, Struct, Union, Map, Extension}

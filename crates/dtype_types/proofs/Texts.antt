@@ -1,5 +1,5 @@
 -- Texts in the form in which they are written.
-use Rattle.std.proofs.Common.{◌≡◌, ℕ, zero, suc, ◌+◌, ◌<◌, ◌==◌, List, [], ◌∷◌, ◌++◌, codes, length, take, get_or, cond, refl, sym, ap, ◌∙◌, arith, append_assoc, add-one, Bool, true, false, map}
+use Rattle.std.proofs.Common.{◌≡◌, ℕ, zero, suc, ◌+◌, ◌<◌, ◌==◌, List, [], ◌∷◌, ◌++◌, codes, length, take, get_or, cond, refl, sym, ap, ◌∙◌, arith, append_assoc, add-one, Bool, false, map}
 use Rattle.std.specs.List.{zip}
 use Rattle.std.proofs.lemmas.Slice.Zip.{get_or-zip}
 use Rattle.std.proofs.lemmas.List.{append-nil, length-map, get_or-map}
@@ -8,7 +8,7 @@ use Rattle.dtype_base.specs.Escapes.{escaped}
 use Rattle.dtype_base.specs.declared.nullability.Nullability.{Nullability}
 use Rattle.dtype_base.specs.Nullability.{nullability_text}
 use Rattle.dtype_types.specs.Tree.{Tree, fields, variants}
-use Rattle.dtype_types.specs.Text.{text, joined, preceded, field_texts, choice_texts, tag_text, consecutive}
+use Rattle.dtype_types.specs.Text.{text, joined, preceded, field_texts, choice_texts, tag_text}
 use Rattle.dtype_types.specs.TextOf.{map_text, struct_text, union_text, extension_text}
 use Rattle.dtype_types.specs.TreeOf.{tree, zip_tagged}
 use Rattle.dtype_types.proofs.TreeLaws.{tree_struct, tree_map, tree_union, tree_extension}

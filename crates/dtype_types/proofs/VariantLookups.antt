@@ -3,7 +3,7 @@ use Rattle.std.proofs.Common.{◌≡◌, ◌≢◌, ℕ, zero, suc, ◌<◌, Lis
 use Rattle.std.proofs.lemmas.Option.{same_Some}
 use Rattle.dtype_base.specs.FieldNames.{FirstAt, IsAbsent}
 use Rattle.dtype_types.proofs.FieldLookups.{same_name, other_name}
-use Rattle.dtype_types.specs.Tree.{Tree, variants}
+use Rattle.dtype_types.specs.Tree.{Tree}
 use Rattle.dtype_types.specs.Lookups.{variant_named}
 use Rattle.dtype_types.specs.TreeOf.{tree, zip_tagged}
 use Rattle.dtype_types.specs.declared.dtype.DType.{DType}

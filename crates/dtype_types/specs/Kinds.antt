@@ -1,11 +1,11 @@
 -- The kind of a type, its outermost variant: what the tests of `DType` look at, and what each variant
 -- holds. An extension's kind is its own, whatever its storage.
-use Rattle.std.specs.Prelude.{◌≡◌, ℕ, List, Option, Some, None, Bool, true, false}
+use Rattle.std.specs.Prelude.{ℕ, List, Option, Some, None, Bool, true, false}
 use Rattle.dtype_base.specs.Decimals.{Decimal}
 use Rattle.dtype_base.specs.declared.ptype.PType.{PType}
 use Rattle.dtype_types.specs.declared.dtype.kinds.Kind.{Kind}
 use Rattle.dtype_types.specs.declared.dtype.kinds.Kind.TheVariants as k
-use Rattle.dtype_types.specs.Tree.{Tree, Fields, Variants, null, bool, primitive, decimal, utf8, binary, list, fixed_size_list, map_of, struct, union, variant, extension, pairs, triples}
+use Rattle.dtype_types.specs.Tree.{Tree, null, bool, primitive, decimal, utf8, binary, list, fixed_size_list, map_of, struct, union, variant, extension, pairs, triples}
 
 abbrev pub kind : Tree → Kind
 kind null = k.Null

@@ -1,5 +1,5 @@
 -- Laws of the definitions, as the functions of `laws.rt` promise them.
-use Rattle.std.specs.Prelude.{◌≡◌, ◌↔◌, ◌==◌, ℕ, List, map, slice_get, Some, IsTrue}
+use Rattle.std.specs.Prelude.{◌≡◌, ◌↔◌, ◌==◌, ℕ, slice_get, Some, IsTrue}
 use Rattle.std.specs.List.{position}
 use Rattle.dtype_base.specs.declared.nullability.Nullability.{Nullability}
 use Rattle.dtype_types.specs.Tree.{Tree}

@@ -1,4 +1,4 @@
-ghost use Rattle.std.specs.Prelude.{◌≡◌, ◌≤◌, ◌<◌, ◌↔◌, ◌==◌, ◌⊎◌, IsTrue, List, [], length, map, vec_len, position, slice_get, All, IfOk, IfErr, IfSome, IfNone, OnOk, IsOkUnless, Err, Some, false, fold, option_and_then};
+ghost use Rattle.std.specs.Prelude.{◌≡◌, ◌≤◌, ◌<◌, ◌↔◌, ◌==◌, ◌⊎◌, IsTrue, [], length, map, vec_len, position, slice_get, All, IfOk, IfErr, IfSome, IfNone, OnOk, IsOkUnless, Err, Some, false, fold, option_and_then};
 ghost use Rattle.std.specs.List.{IsDistinct, range_with_len};
 ghost use Rattle.dtype_base.specs.FieldNames.{FirstAt, IsAbsent};
 ghost use Rattle.dtype_base.specs.declared.vortex_error.VortexError.TheVariants.{OutOfMemory, UnionTooMany};

@@ -42,12 +42,10 @@ fn ptype_number(ptype: PType) -> u8
 pub(crate) fn feed<H: Hasher>(dtype: &DType, rule: Hashed, state: &mut H)
     ensures { state.new ≡ fold H.write state.old (hash_of rule (tree dtype.now)) }
 {
-    state.write_u8(dtype.kind_number());
+    state.write_u8(dtype.kind().number());
     match dtype {
         DType::Null => {}
-        DType::Bool(n) | DType::Utf8(n) | DType::Binary(n) | DType::Variant(n) => {
-            rule.feed(*n, state)
-        }
+        DType::Bool(n) => rule.feed(*n, state),
         DType::Primitive(ptype, n) => {
             state.write_u8(ptype_number(*ptype));
             rule.feed(*n, state);
@@ -57,6 +55,8 @@ pub(crate) fn feed<H: Hasher>(dtype: &DType, rule: Hashed, state: &mut H)
             state.write_i8(decimal.scale());
             rule.feed(*n, state);
         }
+        DType::Utf8(n) => rule.feed(*n, state),
+        DType::Binary(n) => rule.feed(*n, state),
         DType::List(element, n) => {
             feed(element, rule, state);
             rule.feed(*n, state);
@@ -78,6 +78,7 @@ pub(crate) fn feed<H: Hasher>(dtype: &DType, rule: Hashed, state: &mut H)
             variants.feed(rule, state);
             rule.feed(*n, state);
         }
+        DType::Variant(n) => rule.feed(*n, state),
         DType::Extension(extension) => extension.feed(rule, state),
     }
 }

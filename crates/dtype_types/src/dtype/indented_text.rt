@@ -1,5 +1,5 @@
 // The indented text of a type, written behind what a text holds.
-ghost use Rattle.std.specs.Prelude.{◌≡◌, ◌++◌, ◌==◌, [], codes, IfOk, OnOk, IsOkUnless, string_bytes, if◌then◌else◌};
+ghost use Rattle.std.specs.Prelude.{◌≡◌, ◌++◌, ◌==◌, [], codes, OnOk, IsOkUnless, string_bytes, if◌then◌else◌};
 ghost use Rattle.dtype_base.specs.declared.vortex_error.VortexError.TheVariants.{OutOfMemory};
 ghost use Rattle.dtype_types.specs.IndentedText.{indented};
 ghost use Rattle.dtype_types.specs.TreeOf.{tree};

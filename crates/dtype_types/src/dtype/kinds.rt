@@ -29,9 +29,18 @@ pub enum Kind {
     Extension,
 }
 
+impl Kind {
+    // The number of the kind: 0 to 12.
+    pub(crate) fn number(self) -> u8
+        ensures { result ≡ kind_number self }
+    {
+        self as u8
+    }
+}
+
 impl DType {
     // The outermost variant.
-    fn kind(&self) -> Kind
+    pub(crate) fn kind(&self) -> Kind
         ensures { result ≡ kind (tree self.now) }
     {
         match self {
@@ -49,13 +58,6 @@ impl DType {
             DType::Variant(_) => Kind::Variant,
             DType::Extension(_) => Kind::Extension,
         }
-    }
-
-    // The number of the kind.
-    pub(crate) fn kind_number(&self) -> u8
-        ensures { result ≡ kind_number (kind (tree self.now)) }
-    {
-        self.kind() as u8
     }
 
     /// Whether this is `Bool`.

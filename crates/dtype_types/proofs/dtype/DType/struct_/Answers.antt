@@ -6,7 +6,7 @@ use Rattle.dtype_types.proofs.EvenLists.{struct_valid}
 use Rattle.dtype_types.proofs.Zips.{zip_maps}
 use Rattle.dtype_types.specs.FieldTypes.{field_tree}
 use Rattle.dtype_types.specs.Tree.{fields, struct}
-use Rattle.dtype_types.specs.TreeOf.{children, struct_names, struct_types}
+use Rattle.dtype_types.specs.TreeOf.{struct_types}
 use Rattle.dtype_types.proofs.dtype.DType.struct_.Goals as goal
 
 pub returns-clause-made : goal.returns-clause-made

@@ -1,6 +1,6 @@
 // Extension types as a user would write them: `x.tag` as a vtable that lowers ASCII letters and refuses an
-// exclamation mark, a second plugin under its id that keeps all bytes, and `x.text` as a plugin that takes
-// texts without metadata.
+// exclamation mark, a second plugin under its id that keeps all bytes, `x.text` as a plugin that takes
+// texts without metadata, and `x.word` as a vtable that takes texts with the metadata of `x.tag`.
 ghost use Rattle.std.specs.List.{list_any};
 ghost use Rattle.std.specs.Prelude.{◌≡◌, IfErr, IfOk, None, Some, map, nat_eq};
 ghost use Rattle.vortex_dtype.specs.Refusals.{RefusedWhere};
@@ -117,6 +117,57 @@ impl ExtDTypePlugin for TextAlone {
     }
 
     ghost lawful = { λ _. text_laws };
+}
+
+/// The library of `x.word`: the metadata of `x.tag`, over `utf8` of either nullability.
+#[derive(Debug, Default, Drop)]
+pub struct Word;
+
+impl ExtVTable for Word {
+    ghost use Rattle.std.specs.Prelude.{ℕ, List, codes};
+    ghost use Rattle.dtype_tests.specs.Tag.{lowered, if_unchanged};
+    ghost use Rattle.dtype_tests.specs.TextPlugin.{is_text, word_typed};
+
+    type Metadata = TagName;
+
+    ghost id_text = { λ _. codes "x.word" };
+
+    ghost Meant = { List ℕ };
+
+    ghost meant = { λ m. m.0.items };
+
+    ghost reads = { λ _ b. lowered b };
+
+    ghost writes = { λ _ m. if_unchanged m };
+
+    ghost fits = { λ _ m s. is_text s };
+
+    fn id(&self) -> &str {
+        "x.word"
+    }
+
+    fn serialize_metadata(&self, alloc: Global, metadata: &TagName) -> VortexResult<Vec<u8>> {
+        unchanged(alloc, &metadata.0)
+    }
+
+    fn deserialize_metadata(&self, alloc: Global, bytes: &[u8]) -> VortexResult<TagName> {
+        Ok(TagName(all_lowered(alloc, bytes)?))
+    }
+
+    fn validate_dtype(
+        &self,
+        _alloc: Global,
+        _metadata: &TagName,
+        storage: &DType,
+    ) -> VortexResult<()> {
+        if storage.is_utf8() {
+            Ok(())
+        } else {
+            Err(VortexError::MetadataRefused)
+        }
+    }
+
+    ghost typed = { λ _. word_typed };
 }
 
 fn lower_byte(byte: u8) -> u8

@@ -1,6 +1,6 @@
 // Sessions, plugins and typed extensions at work.
 use crate::fixtures::is_printed;
-use crate::plugins::{AllKept, Tag, TagName, TextAlone};
+use crate::plugins::{AllKept, Tag, TagName, TextAlone, Word};
 use std::alloc::Global;
 use std::process::Abort;
 use std::test::Fail;
@@ -127,6 +127,55 @@ fn a_refused_downcast_hands_back_an_equal_value(rt: HostRuntime) -> Result<(), F
 
 fn tag(alloc: Global, bytes: &[u8]) -> VortexResult<ExtDType<Tag>> {
     ExtDType::try_with_vtable(alloc, Tag, tag_name(alloc, bytes)?, DType::Utf8(REQUIRED))
+}
+
+#[test]
+fn a_downcast_over_a_storage_that_does_not_fit_is_handed_back(rt: HostRuntime) -> Result<(), Fail> {
+    let alloc = rt.alloc();
+    let id = ExtId::new(alloc, "x.word")?;
+    let metadata = Vec::from_slice(alloc, b"AB")?;
+    let handed_in = ExtDTypeRef::from_parts(alloc, id, metadata, DType::Bool(REQUIRED))?;
+    match ExtDType::try_downcast(alloc, handed_in.try_clone(alloc)?, Word) {
+        Ok(_) => panic!(rt; "taken"),
+        Err((back, fault)) => {
+            assert_eq!(rt; fault, VortexError::MetadataRefused);
+            assert!(rt; back == handed_in);
+        }
+    }
+    assert!(rt; ExtDType::try_downcast(alloc, erased(alloc, "x.word", b"AB")?, Word).is_ok());
+    Ok(())
+}
+
+#[test]
+fn metadata_that_does_not_fit_the_storage_is_refused(rt: HostRuntime) -> Result<(), Fail> {
+    let alloc = rt.alloc();
+    let metadata = tag_name(alloc, b"ab")?;
+    let over_bool = ExtDType::<Word>::try_new(alloc, metadata, DType::Bool(REQUIRED));
+    assert!(rt; over_bool.is_err_and(|refusal| refusal == VortexError::MetadataRefused));
+    let plugin = PluginOf::new(Word);
+    let over_bool = plugin.deserialize(alloc, b"AB", &DType::Bool(REQUIRED));
+    assert!(rt; over_bool.is_err_and(|refusal| refusal == VortexError::MetadataRefused));
+    let over_text = plugin.deserialize(alloc, b"AB", &DType::Utf8(NULLABLE))?;
+    assert_eq!(rt; over_text.as_slice(), b"ab".as_slice());
+    Ok(())
+}
+
+#[test]
+fn sessions_and_typed_extensions_have_debug_texts(rt: HostRuntime) -> Result<(), Fail> {
+    let alloc = rt.alloc();
+    let session = tagging(alloc)?;
+    let text = format!(in alloc; "{session:?}")?;
+    assert_eq!(rt;
+        text.as_str(),
+        "DTypeSession { plugins: 2, allow_unknown: false }"
+    );
+    let typed = ExtDType::<Tag>::try_new(alloc, tag_name(alloc, b"ab")?, DType::Null)?;
+    let text = format!(in alloc; "{typed:?}")?;
+    assert_eq!(rt;
+        text.as_str(),
+        "ExtDType { vtable: Tag, metadata: TagName([97, 98]), storage: Null }"
+    );
+    Ok(())
 }
 
 #[test]

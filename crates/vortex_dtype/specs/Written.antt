@@ -4,8 +4,10 @@ use Rattle.std.specs.Prelude.{◌≡◌, ℕ, ℤ, pos, List, [], ◌∷◌, Som
 use Rattle.dtype_base.specs.declared.nullability.Nullability.{Nullability}
 use Rattle.dtype_base.specs.declared.nullability.Nullability.TheVariants.{NonNullable, Nullable}
 use Rattle.dtype_base.specs.Primitives as base
+use Rattle.dtype_types.specs.declared.extension.ExtDTypeRef.{ExtDTypeRef}
 use Rattle.dtype_types.specs.Tree as of
 use Rattle.dtype_types.specs.Tree.{Tree, Fields, no_fields, field, Variants, no_variants, choice}
+use Rattle.dtype_types.specs.TreeOf.{extension_id, extension_metadata}
 use Rattle.vortex_dtype.specs.Message.{Message, Child, Messages, missing, null, bool, primitive, decimal, utf8, binary, list, fixed_size_list, map_of, struct, union, variant, extension, absent, present, no_message, more}
 use Rattle.vortex_dtype.specs.Meaning.{Meaning, keeps}
 use Rattle.vortex_dtype.specs.Reading.{or_empty}
@@ -50,6 +52,10 @@ abbrev mutual
   pub written_tags : Variants → List ℤ
   written_tags no_variants = []
   written_tags (choice n x g rest) = pos g ∷ written_tags rest
+
+-- the message of an extension over a storage of this message: its id, and its metadata, also where that is empty
+abbrev pub extension_message : ExtDTypeRef → Message → Message
+extension_message e storage = extension (extension_id e) (present storage) (Some (extension_metadata e))
 
 -- The message with the metadata of each extension replaced by the bytes that the session keeps, the storages inside first.
 abbrev mutual

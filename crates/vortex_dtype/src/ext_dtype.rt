@@ -56,8 +56,8 @@ impl<V: ExtVTable> ExtDType<V> {
         ensures valid { IsValid storage → IfOk result IsValidTyped }
         ensures fits { Valid (tree storage)
             → OnOk result (V.fits vtable (V.meant metadata) (tree storage) ≡ true) }
-        ensures refused { Valid (tree storage)
-            → IfErr result (RefusedWhere (V.fits vtable (V.meant metadata) (tree storage) ≡ false)) }
+        ensures refused { Valid (tree storage) → IfErr result
+            (RefusedWhere (V.fits vtable (V.meant metadata) (tree storage) ≡ false)) }
     {
         vtable.validate_dtype(alloc, &metadata, &storage)?;
         Ok(ExtDType {
@@ -114,7 +114,8 @@ impl<V: ExtVTable> ExtDType<V> {
         requires { n ≡ NonNullable → CanBeNonNullable (storage_of self.now) }
         ensures id { IfOk result (λ e. extension_id e ≡ V.id_text (vtable_of self.now)) }
         ensures metadata { IfOk result (λ e.
-            V.writes (vtable_of self.now) (V.meant (metadata_of self.now)) ≡ Some (extension_metadata e)) }
+            V.writes (vtable_of self.now) (V.meant (metadata_of self.now))
+            ≡ Some (extension_metadata e)) }
         ensures storage { IfOk result (λ e. SetNull (storage_of self.now) n (storage_tree e)) }
         ensures valid { IsValidTyped self.now → IfOk result IsValidExtension }
         ensures refused { IfErr result
@@ -166,7 +167,8 @@ impl<V: ExtVTable> ExtDType<V> {
         ensures valid { IsValidExtension erased → IfOk result IsValidTyped }
         ensures handed_back { IfErr result (λ p. p.0 ≡ erased) }
         ensures refused { IsValidExtension erased → IfErr result (λ p.
-            NotOf (extension_id erased) (V.id_text vtable) (V.reads vtable (extension_metadata erased))
+            NotOf (extension_id erased) (V.id_text vtable)
+            (V.reads vtable (extension_metadata erased))
             (λ m. V.fits vtable m (storage_tree erased)) p.1) }
     {
         match ExtDType::read_lent(alloc, &erased, &vtable) {

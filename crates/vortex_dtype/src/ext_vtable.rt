@@ -46,7 +46,8 @@ pub trait ExtVTable: Drop {
     /// (OutOfMemory).
     fn serialize_metadata(&self, alloc: Global, metadata: &Self::Metadata) -> VortexResult<Vec<u8>>
         ensures ok { IfOk result (λ v. writes self.now (meant metadata.now) ≡ Some v.items) }
-        ensures refused { IfErr result (RefusedWhere (writes self.now (meant metadata.now) ≡ None)) };
+        ensures refused { IfErr result
+            (RefusedWhere (writes self.now (meant metadata.now) ≡ None)) };
 
     /// The metadata that the bytes are read as. Refuses 22 (MetadataRefused) exactly where they aren't
     /// read, and 0 (OutOfMemory).
@@ -64,8 +65,8 @@ pub trait ExtVTable: Drop {
     ) -> VortexResult<()>
         ensures ok { Valid (tree storage.now)
             → OnOk result (fits self.now (meant metadata.now) (tree storage.now) ≡ true) }
-        ensures refused { Valid (tree storage.now)
-            → IfErr result (RefusedWhere (fits self.now (meant metadata.now) (tree storage.now) ≡ false)) };
+        ensures refused { Valid (tree storage.now) → IfErr result
+            (RefusedWhere (fits self.now (meant metadata.now) (tree storage.now) ≡ false)) };
 
     ghost typed: { (v : Self) → Typed (reads v) (writes v) (fits v) };
 }

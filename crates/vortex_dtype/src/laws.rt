@@ -30,7 +30,8 @@ pub fn last_registered_counts()
 
 /// After calls none of which registers an id, none is registered under it.
 pub fn none_registered_counts()
-    ensures { (calls : List Call) (id : List ℕ) → LeavesAlone id calls → (after calls nothing).registered id ≡ None }
+    ensures { (calls : List Call) (id : List ℕ) → LeavesAlone id calls
+        → (after calls nothing).registered id ≡ None }
 {}
 
 /// After any calls unknown ids are kept exactly where some call allowed it.
@@ -46,14 +47,14 @@ pub fn kept_again()
 
 /// For a valid storage, setting its outer nullability doesn't change what a session keeps over it.
 pub fn keeps_set_null()
-    ensures { (s : Meaning) → LawfulSession s → (id b : List ℕ) (t u : Tree) (n : Nullability) → Bytes b → Valid t
-        → SetNull t n u → keeps s id b u ≡ keeps s id b t }
+    ensures { (s : Meaning) → LawfulSession s → (id b : List ℕ) (t u : Tree) (n : Nullability)
+        → Bytes b → Valid t → SetNull t n u → keeps s id b u ≡ keeps s id b t }
 {}
 
 /// For a valid type, setting its outer nullability doesn't change whether a session admits it.
 pub fn admits_set_null()
-    ensures { (s : Meaning) → LawfulSession s → (t u : Tree) (n : Nullability) → Valid t → SetNull t n u
-        → Admits s t ↔ Admits s u }
+    ensures { (s : Meaning) → LawfulSession s → (t u : Tree) (n : Nullability)
+        → Valid t → SetNull t n u → Admits s t ↔ Admits s u }
 {}
 
 /// Reading and writing are exact, under every session. A message reads as one type at most, and none where a
@@ -61,12 +62,17 @@ pub fn admits_set_null()
 /// accepted: valid and admitted. Accepted messages give equal types exactly where their normal forms are
 /// equal, and a normal form is its own normal form. An admitted type is read back from what is written of it.
 pub fn messages_are_exact()
-    ensures one_type { (s : Meaning) (m : Message) (t u : Tree) → Reads s m t → Reads s m u → t ≡ u }
-    ensures no_fault { (s : Meaning) (m : Message) (t : Tree) (k : ℕ) → Reads s m t → Fault s m k → ⊥ }
-    ensures accepted { (s : Meaning) (m : Message) (t : Tree) → LawfulSession s → IsMessage m → Reads s m t → Accepts s m t }
-    ensures normal { (s : Meaning) (m n : Message) (t : Tree) → Reads s m t → (Normal s m n ↔ (n ≡ written t)) }
-    ensures same { (s : Meaning) (m n : Message) (t u : Tree) (a b : Message) → Accepts s m t → Accepts s n u
-        → Normal s m a → Normal s n b → ((t ≡ u) ↔ (a ≡ b)) }
-    ensures twice { (s : Meaning) (m n : Message) (t : Tree) → Accepts s m t → Normal s m n → Normal s n n }
+    ensures one_type { (s : Meaning) (m : Message) (t u : Tree)
+        → Reads s m t → Reads s m u → t ≡ u }
+    ensures no_fault { (s : Meaning) (m : Message) (t : Tree) (k : ℕ)
+        → Reads s m t → Fault s m k → ⊥ }
+    ensures accepted { (s : Meaning) (m : Message) (t : Tree)
+        → LawfulSession s → IsMessage m → Reads s m t → Accepts s m t }
+    ensures normal { (s : Meaning) (m n : Message) (t : Tree)
+        → Reads s m t → (Normal s m n ↔ (n ≡ written t)) }
+    ensures same { (s : Meaning) (m n : Message) (t u : Tree) (a b : Message)
+        → Accepts s m t → Accepts s n u → Normal s m a → Normal s n b → ((t ≡ u) ↔ (a ≡ b)) }
+    ensures twice { (s : Meaning) (m n : Message) (t : Tree)
+        → Accepts s m t → Normal s m n → Normal s n n }
     ensures read_back { (s : Meaning) (t : Tree) → Valid t → Admits s t → Accepts s (written t) t }
 {}

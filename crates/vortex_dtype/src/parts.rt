@@ -109,7 +109,8 @@ pub(crate) fn fixed_of(
     size: u32,
     nullable: bool,
 ) -> VortexResult<DType>
-    ensures made { IfOk result (λ d. tree d ≡ of.fixed_size_list (tree element) size (nullability_of nullable)) }
+    ensures made { IfOk result
+        (λ d. tree d ≡ of.fixed_size_list (tree element) size (nullability_of nullable)) }
     ensures valid { IsValid element → IfOk result IsValid }
     ensures refused { IsOkUnless result OutOfMemory }
 {
@@ -125,7 +126,8 @@ pub(crate) fn map_of(
     keys_sorted: bool,
     nullable: bool,
 ) -> VortexResult<DType>
-    ensures gives { Gives tree result (map_read (tree key) (tree value) keys_sorted (nullability_of nullable)) }
+    ensures gives { Gives tree result
+        (map_read (tree key) (tree value) keys_sorted (nullability_of nullable)) }
     ensures valid { IsValid key → IsValid value → IfOk result IsValid }
 {
     let map = MapDType::try_new(alloc, key, value, keys_sorted)?;
@@ -152,7 +154,8 @@ pub(crate) fn struct_of(
     dtypes: Vec<DType>,
     nullable: bool,
 ) -> VortexResult<DType>
-    ensures gives { Gives tree result (struct_read (map string_bytes names.now) (map tree dtypes.items) (nullability_of nullable)) }
+    ensures gives { let texts = map string_bytes names.now in
+        Gives tree result (struct_read texts (map tree dtypes.items) (nullability_of nullable)) }
     ensures valid { All IsValid dtypes.items → IfOk result IsValid }
 {
     if names.len() != dtypes.len() {
@@ -187,7 +190,8 @@ pub(crate) fn union_of(
     tags: &[i32],
     nullable: bool,
 ) -> VortexResult<DType>
-    ensures gives { Gives tree result (union_read (map string_bytes names.now) (map tree dtypes.items) tags.now (nullability_of nullable)) }
+    ensures gives { let texts = map string_bytes names.now in let trees = map tree dtypes.items in
+        Gives tree result (union_read texts trees tags.now (nullability_of nullable)) }
     ensures valid { All IsValid dtypes.items → IfOk result IsValid }
 {
     let tags = tags_of(alloc, tags)?;
@@ -243,7 +247,8 @@ pub(crate) fn extension_of(
     storage: DType,
 ) -> VortexResult<DType>
     requires { IsValid storage }
-    ensures gives { Gives tree result (extension_read (meaning rewrites session.now) id.now metadata.now (tree storage)) }
+    ensures gives { Gives tree result
+        (extension_read (meaning rewrites session.now) id.now metadata.now (tree storage)) }
     ensures valid { IfOk result IsValid }
 {
     let extension = session.deserialize(id, metadata, storage)?;

@@ -39,8 +39,8 @@ pub trait ExtDTypePlugin: Drop {
     fn deserialize(&self, alloc: Global, metadata: &[u8], storage: &DType) -> VortexResult<Vec<u8>>
         ensures ok { Valid (tree storage.now)
             → IfOk result (λ v. rewrites self.now metadata.now (tree storage.now) ≡ Some v.items) }
-        ensures refused { Valid (tree storage.now)
-            → IfErr result (RefusedWhere (rewrites self.now metadata.now (tree storage.now) ≡ None)) };
+        ensures refused { Valid (tree storage.now) → IfErr result
+            (RefusedWhere (rewrites self.now metadata.now (tree storage.now) ≡ None)) };
 
     ghost lawful: { (p : Self) → Lawful (rewrites p) };
 }

@@ -96,7 +96,8 @@ impl FieldPathProto for FieldPath {
 // The step that a part says.
 fn read_part(alloc: Global, part: &pb::Field) -> VortexResult<Field>
     ensures step { IfOk result (λ f. step_of part.now ≡ Some f) }
-    ensures refused { IfErr result (λ e. (e ≡ OutOfMemory) ⊎ ((e ≡ Message PathPartMissing) × (step_of part.now ≡ None))) }
+    ensures refused { IfErr result (λ e. (e ≡ OutOfMemory)
+        ⊎ ((e ≡ Message PathPartMissing) × (step_of part.now ≡ None))) }
 {
     match &part.field_type {
         Some(pb::FieldType::Name(name)) => Ok(Field::Name(FieldName::new(alloc, name.as_str())?)),

@@ -250,21 +250,24 @@ fn same_child(a: &Option<Box<DType>>, b: &Option<Box<DType>>) -> bool
 
 #[cycle(same)]
 fn same_list(a: &List, b: &List) -> bool
-    ensures { let p = list_parts a.now in let q = list_parts b.now in result ≡ same (list p.0 p.1) (list q.0 q.1) }
+    ensures { let p = list_parts a.now in let q = list_parts b.now in
+        result ≡ same (list p.0 p.1) (list q.0 q.1) }
 {
     same_child(&a.element_type, &b.element_type) && a.nullable == b.nullable
 }
 
 #[cycle(same)]
 fn same_fixed(a: &FixedSizeList, b: &FixedSizeList) -> bool
-    ensures { let p = fixed_parts a.now in let q = fixed_parts b.now in result ≡ same (fixed_size_list p.0 p.1 p.2) (fixed_size_list q.0 q.1 q.2) }
+    ensures { let p = fixed_parts a.now in let q = fixed_parts b.now in
+        result ≡ same (fixed_size_list p.0 p.1 p.2) (fixed_size_list q.0 q.1 q.2) }
 {
     same_child(&a.element_type, &b.element_type) && a.size == b.size && a.nullable == b.nullable
 }
 
 #[cycle(same)]
 fn same_map(a: &Map, b: &Map) -> bool
-    ensures { let p = map_parts a.now in let q = map_parts b.now in result ≡ same (map_of p.0 p.1 p.2 p.3) (map_of q.0 q.1 q.2 q.3) }
+    ensures { let p = map_parts a.now in let q = map_parts b.now in
+        result ≡ same (map_of p.0 p.1 p.2 p.3) (map_of q.0 q.1 q.2 q.3) }
 {
     same_child(&a.key_type, &b.key_type)
         && same_child(&a.value_type, &b.value_type)
@@ -289,7 +292,8 @@ fn same_metadata(a: &Option<Vec<u8>>, b: &Option<Vec<u8>>) -> bool
 
 #[cycle(same)]
 fn same_extension(a: &Extension, b: &Extension) -> bool
-    ensures { let p = extension_parts a.now in let q = extension_parts b.now in result ≡ same (extension p.0 p.1 p.2) (extension q.0 q.1 q.2) }
+    ensures { let p = extension_parts a.now in let q = extension_parts b.now in
+        result ≡ same (extension p.0 p.1 p.2) (extension q.0 q.1 q.2) }
 {
     a.id.as_str() == b.id.as_str()
         && same_child(&a.storage_dtype, &b.storage_dtype)
@@ -298,14 +302,16 @@ fn same_extension(a: &Extension, b: &Extension) -> bool
 
 #[cycle(same)]
 fn same_struct(a: &Struct, b: &Struct) -> bool
-    ensures { let p = struct_parts a.now in let q = struct_parts b.now in result ≡ same (struct p.0 p.1 p.2) (struct q.0 q.1 q.2) }
+    ensures { let p = struct_parts a.now in let q = struct_parts b.now in
+        result ≡ same (struct p.0 p.1 p.2) (struct q.0 q.1 q.2) }
 {
     same_texts(&a.names, &b.names) && same_all(&a.dtypes, &b.dtypes) && a.nullable == b.nullable
 }
 
 #[cycle(same)]
 fn same_union(a: &Union, b: &Union) -> bool
-    ensures { let p = union_parts a.now in let q = union_parts b.now in result ≡ same (union p.0 p.1 p.2 p.3) (union q.0 q.1 q.2 q.3) }
+    ensures { let p = union_parts a.now in let q = union_parts b.now in
+        result ≡ same (union p.0 p.1 p.2 p.3) (union q.0 q.1 q.2 q.3) }
 {
     same_texts(&a.names, &b.names)
         && same_all(&a.dtypes, &b.dtypes)

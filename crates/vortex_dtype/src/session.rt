@@ -87,13 +87,15 @@ impl DTypeSession {
     ) -> VortexResult<ExtDTypeRef>
         ensures id { IfOk result (λ e. extension_id e ≡ id.now) }
         ensures kept { Valid (tree storage) → IfOk result (λ e.
-            keeps (meaning rewrites self.now) id.now metadata.now (tree storage) ≡ Some (extension_metadata e)) }
+            keeps (meaning rewrites self.now) id.now metadata.now (tree storage)
+            ≡ Some (extension_metadata e)) }
         ensures again { Valid (tree storage) → IfOk result (λ e.
-            keeps (meaning rewrites self.now) id.now (extension_metadata e) (tree storage) ≡ Some (extension_metadata e)) }
+            keeps (meaning rewrites self.now) id.now (extension_metadata e) (tree storage)
+            ≡ Some (extension_metadata e)) }
         ensures storage { IfOk result (λ e. storage_tree e ≡ tree storage) }
         ensures valid { IsValid storage → IfOk result IsValidExtension }
-        ensures refused { Valid (tree storage)
-            → IfErr result (RefusedBy (meaning rewrites self.now) id.now metadata.now (tree storage)) }
+        ensures refused { Valid (tree storage) → IfErr result
+            (RefusedBy (meaning rewrites self.now) id.now metadata.now (tree storage)) }
     {
         let bytes = match self.plugins.get(id) {
             Some(plugin) => boxed_deserialize(plugin, self.alloc, metadata, &storage)?,

@@ -1,12 +1,12 @@
 // Messages of types: every child, every flag, names and tags in order, and the metadata, also where it is
 // empty. A kind's message is put together outside the recursion.
-ghost use Rattle.std.specs.Prelude.{◌≡◌, Some, IfOk, IsOkUnless, map, string_bytes};
+ghost use Rattle.std.specs.Prelude.{◌≡◌, IfOk, IsOkUnless, map, string_bytes};
 ghost use Rattle.dtype_base.specs.declared.vortex_error.VortexError.TheVariants.{OutOfMemory};
 ghost use Rattle.dtype_types.specs.Tree as of;
-ghost use Rattle.dtype_types.specs.TreeOf.{tree, struct_tree, union_tree, extension_id, extension_metadata};
-ghost use Rattle.vortex_dtype.specs.Message.{messages, list, fixed_size_list, map_of, struct, union, extension, present};
+ghost use Rattle.dtype_types.specs.TreeOf.{tree, struct_tree, union_tree};
+ghost use Rattle.vortex_dtype.specs.Message.{messages, list, fixed_size_list, map_of, struct, union, present};
 ghost use Rattle.vortex_dtype.specs.MessageOf.{message, kind_message};
-ghost use Rattle.vortex_dtype.specs.Written.{written, is_nullable};
+ghost use Rattle.vortex_dtype.specs.Written.{written, is_nullable, extension_message};
 
 use crate::pb;
 use dtype_base::{Nullability, VortexResult};
@@ -78,7 +78,8 @@ fn write_child(alloc: Global, dtype: &DType) -> VortexResult<Box<pb::DType>>
 // The message of a struct of this nullability.
 #[cycle(writing)]
 fn write_struct(alloc: Global, fields: &StructFields, n: Nullability) -> VortexResult<pb::DType>
-    ensures written { IfOk result (λ m. message m ≡ written (of.struct (struct_tree fields.now) n)) }
+    ensures written { IfOk result
+        (λ m. message m ≡ written (of.struct (struct_tree fields.now) n)) }
     ensures refused { IsOkUnless result OutOfMemory }
 {
     let count = fields.nfields();
@@ -100,7 +101,8 @@ fn write_struct(alloc: Global, fields: &StructFields, n: Nullability) -> VortexR
 // The message of a union of this nullability.
 #[cycle(writing)]
 fn write_union(alloc: Global, variants: &UnionVariants, n: Nullability) -> VortexResult<pb::DType>
-    ensures written { IfOk result (λ m. message m ≡ written (of.union (union_tree variants.now) n)) }
+    ensures written { IfOk result
+        (λ m. message m ≡ written (of.union (union_tree variants.now) n)) }
     ensures refused { IsOkUnless result OutOfMemory }
 {
     let count = variants.len();
@@ -158,7 +160,8 @@ fn fixed_proto(
     size: u32,
     nullable: bool,
 ) -> VortexResult<pb::DType>
-    ensures made { IfOk result (λ m. message m ≡ fixed_size_list (present (message element.value)) size nullable) }
+    ensures made { IfOk result
+        (λ m. message m ≡ fixed_size_list (present (message element.value)) size nullable) }
     ensures refused { IsOkUnless result OutOfMemory }
 {
     let list = pb::FixedSizeList {
@@ -177,7 +180,8 @@ fn map_proto(
     keys_sorted: bool,
     nullable: bool,
 ) -> VortexResult<pb::DType>
-    ensures made { IfOk result (λ m. message m ≡ map_of (present (message key.value)) (present (message value.value)) keys_sorted nullable) }
+    ensures made { let k = present (message key.value) in let v = present (message value.value) in
+        IfOk result (λ m. message m ≡ map_of k v keys_sorted nullable) }
     ensures refused { IsOkUnless result OutOfMemory }
 {
     let map = pb::Map {
@@ -191,7 +195,8 @@ fn map_proto(
 
 // The message of a struct of these names and types.
 fn struct_proto(names: Vec<String>, dtypes: Vec<pb::DType>, nullable: bool) -> pb::DType
-    ensures { message result ≡ struct (map string_bytes names.items) (messages (map message dtypes.items)) nullable }
+    ensures { let texts = map string_bytes names.items in
+        message result ≡ struct texts (messages (map message dtypes.items)) nullable }
 {
     of_kind(pb::DtypeType::Struct(pb::Struct {
         names,
@@ -207,7 +212,9 @@ fn union_proto(
     type_ids: Vec<i32>,
     nullable: bool,
 ) -> pb::DType
-    ensures { message result ≡ union (map string_bytes names.items) (messages (map message dtypes.items)) type_ids.items nullable }
+    ensures { let texts = map string_bytes names.items in
+        let types = messages (map message dtypes.items) in
+        message result ≡ union texts types type_ids.items nullable }
 {
     of_kind(pb::DtypeType::Union(pb::Union {
         names,
@@ -223,7 +230,8 @@ fn extension_proto(
     source: &ExtDTypeRef,
     storage: Box<pb::DType>,
 ) -> VortexResult<pb::DType>
-    ensures made { IfOk result (λ m. message m ≡ extension (extension_id source.now) (present (message storage.value)) (Some (extension_metadata source.now))) }
+    ensures made { IfOk result
+        (λ m. message m ≡ extension_message source.now (message storage.value)) }
     ensures refused { IsOkUnless result OutOfMemory }
 {
     let extension = pb::Extension {

@@ -34,30 +34,6 @@ gains_one old new p h q = (
 no_member : (q : List Field) → Contains [] q → ⊥
 no_member q c = let e = is_in [] q c in cc
 
--- nothing gained, nothing changed
-pub gains_none : (ps : List (List Field)) → Gains ps [] ps
-gains_none ps q = (λ c. inr c, λ c. ⊎_elim (λ e. absurd (no_member q e)) (λ e. e) c)
-
--- what is gained in two steps
-pub gains_more : (old mid new ps : List (List Field)) (p : List Field) → Gains old ps mid → Gains mid (p ∷ []) new → Gains old (ps ++ p ∷ []) new
-gains_more old mid new ps p a b q = (
-  λ c.
-      ⊎_elim
-      (λ e. inl (Contains-append_right ps (p ∷ []) q e))
-      (λ e. ⊎_elim (λ f. inl (Contains-append_left ps (p ∷ []) q f)) (λ f. inr f) ((a q).0 e))
-      ((b q).0 c),
-  λ c.
-      (b q).1
-      (⊎_elim
-      (λ e. ⊎_elim (λ f. inr ((a q).1 (inl f))) (λ f. inl f) (Contains-append_cases ps (p ∷ []) q e))
-      (λ e. inr ((a q).1 (inr e)))
-      c),
-)
-
--- what an empty set has gained is all that it has
-pub gained_all : (ps new : List (List Field)) → Gains [] ps new → SameMembers new ps
-gained_all ps new g q = (λ c. ⊎_elim (λ e. e) (λ e. absurd (no_member q e)) ((g q).0 c), λ c. (g q).1 (inl c))
-
 -- an empty set lacks exactly the members of a list
 pub gains_to : (copy items all : List (List Field)) → copy ≡ [] → SameMembers items all → Gains copy items all
 gains_to copy items all none same q = (

@@ -14,5 +14,6 @@ pub mod Cover
 pub mod CoverTests
 pub mod NodeDepth
 pub mod PathSets
+pub mod PathSetLaws
 pub mod Rows
 pub mod Meets

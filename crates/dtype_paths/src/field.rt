@@ -18,7 +18,7 @@ pub enum Field {
 impl Field {
     ghost use Rattle.dtype_paths.specs.Fields.{IsNamed};
 
-    /// The field of this name. Refuses 0 alone.
+    /// The field of this name. Refuses 0 (OutOfMemory) alone.
     pub fn from_text(alloc: Global, text: &str) -> VortexResult<Self>
         ensures ok { IfOk result (λ f. f ≡ Field.Name text.now) }
         ensures refused { IsOkUnless result OutOfMemory }
@@ -44,7 +44,7 @@ impl Field {
         matches!(self, Field::Name(_))
     }
 
-    /// An equal step; a name shares its text. Refuses 0 alone.
+    /// An equal step; a name shares its text. Refuses 0 (OutOfMemory) alone.
     pub fn try_clone(&self, alloc: Global) -> VortexResult<Self>
         ensures ok { IfOk result (λ f. f ≡ self.now) }
         ensures refused { IsOkUnless result OutOfMemory }

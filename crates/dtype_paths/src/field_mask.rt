@@ -84,7 +84,7 @@ impl FieldMask {
         }
     }
 
-    /// An equal mask. Refuses 0 alone.
+    /// An equal mask. Refuses 0 (OutOfMemory) alone.
     pub fn try_clone(&self, _alloc: Global) -> VortexResult<Self>
         ensures ok { IfOk result (λ m. m ≡ self.now) }
         ensures refused { IsOkUnless result OutOfMemory }

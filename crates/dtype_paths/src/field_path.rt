@@ -50,7 +50,7 @@ impl FieldPath {
         }
     }
 
-    /// The path of one name. Refuses 0 alone.
+    /// The path of one name. Refuses 0 (OutOfMemory) alone.
     pub fn from_name(alloc: Global, name: FieldName) -> VortexResult<Self>
         ensures ok { IfOk result (λ p. p ≡ Field.Name name ∷ []) }
         ensures refused { IsOkUnless result OutOfMemory }
@@ -58,7 +58,7 @@ impl FieldPath {
         FieldPath::from_field(alloc, Field::from(name))
     }
 
-    /// The path of one step. Refuses 0 alone.
+    /// The path of one step. Refuses 0 (OutOfMemory) alone.
     pub fn from_field(alloc: Global, field: Field) -> VortexResult<Self>
         ensures ok { IfOk result (λ p. p ≡ field ∷ []) }
         ensures refused { IsOkUnless result OutOfMemory }
@@ -68,7 +68,7 @@ impl FieldPath {
         })
     }
 
-    /// The path of the names with these texts, from the outside in. Refuses 0 alone.
+    /// The path of the names with these texts, from the outside in. Refuses 0 (OutOfMemory) alone.
     pub fn from_texts(alloc: Global, texts: &[&str]) -> VortexResult<Self>
         ensures ok { IfOk result (λ p. p ≡ map (λ t. Field.Name t.now) texts.now) }
         ensures refused { IsOkUnless result OutOfMemory }
@@ -80,7 +80,8 @@ impl FieldPath {
         Ok(FieldPath { steps })
     }
 
-    /// The path of the steps that an iterator gives, from the outside in. Refuses 0 alone.
+    /// The path of the steps that an iterator gives, from the outside in. Refuses 0 (OutOfMemory)
+    /// alone.
     pub fn from_iter<I: IntoIterator<Item = Field>>(alloc: Global, parts: I) -> VortexResult<Self>
         requires { (it : I.IntoIter) → I.into_iter_gives parts it
             → I.IntoIter.can_next it × IsFinite (I.IntoIter.remaining it) }
@@ -114,7 +115,8 @@ impl FieldPath {
         self.steps.is_empty()
     }
 
-    /// The path with one more step, behind the others. Refuses 0 alone; the path is then dropped.
+    /// The path with one more step, behind the others. Refuses 0 (OutOfMemory) alone; the path is then
+    /// dropped.
     pub fn push(mut self, field: Field) -> VortexResult<Self>
         ensures ok { IfOk result (λ p. p ≡ self ++ field ∷ []) }
         ensures refused { IsOkUnless result OutOfMemory }
@@ -192,7 +194,8 @@ impl FieldPath {
         self.resolve(dtype).is_some()
     }
 
-    /// An equal path, in memory of the same allocator; names share their texts. Refuses 0 alone.
+    /// An equal path, in memory of the same allocator; names share their texts. Refuses 0
+    /// (OutOfMemory) alone.
     pub fn try_clone(&self) -> VortexResult<Self>
         ensures ok { IfOk result (λ p. p ≡ self.now) }
         ensures refused { IsOkUnless result OutOfMemory }
@@ -290,7 +293,7 @@ impl fmt::Display for FieldPath {
 }
 
 /// The path of these names, from the outside in, as a `VortexResult`: `field_path!(alloc, "a", "b")`.
-/// Refuses 0 alone.
+/// Refuses 0 (OutOfMemory) alone.
 #[macro_export]
 macro_rules! field_path {
     ($alloc:expr, $($name:expr),+ $(,)?) => {

@@ -2,7 +2,7 @@ use Rattle.std.proofs.Common.{List, subst, sym}
 use Rattle.std.proofs.lemmas.Result.{MatchResult-from_err}
 use Rattle.dtype_paths.specs.PathSets.{Gains}
 use Rattle.dtype_paths.specs.declared.field.Field.{Field}
-use Rattle.dtype_paths.proofs.SetMembers.{gains_more, gains_none}
+use Rattle.dtype_paths.specs.PathSetLaws.{gains_more, gains_none}
 use Rattle.dtype_paths.proofs.field_path_set.FieldPathSet.extend.Goals as goal
 
 pub loop-path-init : goal.loop-path-init

@@ -1,7 +1,7 @@
 use Rattle.std.proofs.Common.{List, subst}
 use Rattle.dtype_paths.specs.PathSets.{Gains}
 use Rattle.dtype_paths.specs.declared.field.Field.{Field}
-use Rattle.dtype_paths.proofs.SetMembers.{gained_all}
+use Rattle.dtype_paths.specs.PathSetLaws.{gained_all}
 use Rattle.dtype_paths.proofs.field_path_set.FieldPathSet.from_iter.Goals as goal
 
 pub returns-clause-ok : goal.returns-clause-ok

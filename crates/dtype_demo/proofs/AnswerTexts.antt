@@ -6,12 +6,12 @@ use Rattle.std.proofs.lemmas.List.{map-append}
 use Rattle.std.proofs.lemmas.Grind.{flat_map-append}
 use Rattle.std.proofs.lemmas.Bool.{false≢true}
 use Rattle.std.specs.Io.KnownBytes.{Appends}
-use Rattle.dtype_types.specs.Text.{text}
-use Rattle.dtype_types.specs.Tree.{Tree}
-use Rattle.dtype_paths.specs.Along.{along, At-along, along_none}
-use Rattle.dtype_paths.specs.At.{At}
-use Rattle.dtype_paths.specs.Texts.{path_text}
-use Rattle.dtype_paths.specs.declared.field.Field.{Field}
+use Rattle.vortex_dtype.specs.Text.{text}
+use Rattle.vortex_dtype.specs.Tree.{Tree}
+use Rattle.vortex_dtype.specs.Along.{along, At-along, along_none}
+use Rattle.vortex_dtype.specs.At.{At}
+use Rattle.vortex_dtype.specs.Texts.{path_text}
+use Rattle.vortex_dtype.specs.Types.Field.{Field}
 use Rattle.dtype_demo.specs.Lines.{parts_of}
 use Rattle.dtype_demo.specs.Output.{answer_text, answers_to, found_text}
 

@@ -13,12 +13,11 @@ use Rattle.std.proofs.KnownBytes.{Appends-kept}
 use Rattle.std.proofs.lemmas.Bool.{false≢true}
 use Rattle.std.proofs.lemmas.Grind.{flat_map-append}
 use Rattle.std.proofs.lemmas.List.{get_or-map, length-map, map-append, take_more}
-use Rattle.dtype_types.specs.Tree.{Tree}
-use Rattle.dtype_paths.specs.Cover.{Least}
-use Rattle.dtype_paths.specs.PathSets.{Gains, SameMembers}
-use Rattle.dtype_paths.specs.declared.field.Field.{Field}
-use Rattle.dtype_paths.proofs.SetAnswers.{map-one}
-use Rattle.dtype_paths.proofs.SetMembers.{gains_more, gained_all}
+use Rattle.vortex_dtype.specs.Tree.{Tree}
+use Rattle.vortex_dtype.specs.Cover.{Least}
+use Rattle.vortex_dtype.specs.PathSets.{Gains, SameMembers}
+use Rattle.vortex_dtype.specs.Types.Field.{Field}
+use Rattle.vortex_dtype.specs.PathSetLaws.{gains_more, gained_all}
 use Rattle.dtype_demo.specs.Lines.{lines_of, parts_of}
 use Rattle.dtype_demo.specs.Output.{answers_to, cover_text, IsCover, WritesCover, WritesOutput}
 
@@ -51,7 +50,7 @@ least_given given set paths same h p = (λ c. least_of_same set paths same p ((h
 
 pub texts_next : {S X : Type 0} (f : S → List ℕ) (g : X → List ℕ) (done more : List S) (s : S) (x : X) (left rest : List X) (all : List (List ℕ)) → more ≡ done ++ s ∷ [] → left ≡ x ∷ rest → f s ≡ g x → map f done ++ map g left ≡ all → map f more ++ map g rest ≡ all
 texts_next f g done more s x left rest all m l t h =
-    ap (λ ys. map f ys ++ map g rest) m ∙ map-one f done s (map g rest) ∙ ap (λ b. map f done ++ (b ∷ map g rest)) t ∙ sym (ap (λ ys. map f done ++ map g ys) l) ∙ h
+    ap (λ ys. map f ys ++ map g rest) m ∙ ap (λ ys. ys ++ map g rest) (map-append f done (s ∷ [])) ∙ append_assoc (map f done) (f s ∷ []) (map g rest) ∙ ap (λ b. map f done ++ (b ∷ map g rest)) t ∙ sym (ap (λ ys. map f done ++ map g ys) l) ∙ h
 
 sorted_at : {Z : Type 0} (ss : List (String Z)) (s : String Z) (k : ℕ) (d : List ℕ) → IsSorted string_cmp ss → 0 ≤ k → k + 1 < length ss → is_lt (slice_cmp nat_cmp (get_or (map (λ t. string_bytes t) ss) (k + 1) d) (get_or (map (λ t. string_bytes t) ss) k d)) ≡ false
 sorted_at {Z} ss s k d h low high =

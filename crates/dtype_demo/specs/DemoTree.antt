@@ -1,8 +1,8 @@
 -- The type whose paths the program tells: {a=list({b=u32})?, f=fixed_size_list(u8)[2]}.
 use Rattle.std.specs.Prelude.{codes}
-use Rattle.dtype_base.specs.declared.nullability.Nullability.TheVariants.{NonNullable, Nullable}
-use Rattle.dtype_base.specs.declared.ptype.PType.TheVariants.{U8, U32}
-use Rattle.dtype_types.specs.Tree.{Tree, primitive, list, fixed_size_list, struct, field, no_fields}
+use Rattle.vortex_dtype.specs.Types.Nullability.TheVariants.{NonNullable, Nullable}
+use Rattle.vortex_dtype.specs.Types.PType.TheVariants.{U8, U32}
+use Rattle.vortex_dtype.specs.Tree.{Tree, primitive, list, fixed_size_list, struct, field, no_fields}
 
 -- of the field a
 abbrev pub list_tree : Tree

@@ -2,8 +2,8 @@
 use Rattle.std.specs.Prelude.{ℕ, ◌==◌, List, [], ◌∷◌, codes, map, if◌then◌else◌}
 use Rattle.std.specs.List.{slice_split}
 use Rattle.std.specs.Str.{bytes_eq}
-use Rattle.dtype_paths.specs.declared.field.Field.{Field}
-use Rattle.dtype_paths.specs.declared.field.Field.TheVariants.{Name, ElementType}
+use Rattle.vortex_dtype.specs.Types.Field.{Field}
+use Rattle.vortex_dtype.specs.Types.Field.TheVariants.{Name, ElementType}
 
 -- the last piece, where it is empty, is no line
 abbrev pub without_empty_end : List (List ℕ) → List (List ℕ)

@@ -5,13 +5,13 @@ use Rattle.std.specs.Io.KnownBytes.{Appends}
 use Rattle.std.specs.List.{Contains, flat_map}
 use Rattle.std.specs.List.Sorted.{IsPermutation, IsSorted}
 use Rattle.std.specs.Ordering.{nat_cmp}
-use Rattle.dtype_types.specs.Distinct.{Distinct}
-use Rattle.dtype_types.specs.Text.{text}
-use Rattle.dtype_types.specs.Tree.{Tree}
-use Rattle.dtype_paths.specs.Along.{along}
-use Rattle.dtype_paths.specs.Cover.{Least}
-use Rattle.dtype_paths.specs.Texts.{path_text}
-use Rattle.dtype_paths.specs.declared.field.Field.{Field}
+use Rattle.vortex_dtype.specs.Distinct.{Distinct}
+use Rattle.vortex_dtype.specs.Text.{text}
+use Rattle.vortex_dtype.specs.Tree.{Tree}
+use Rattle.vortex_dtype.specs.Along.{along}
+use Rattle.vortex_dtype.specs.Cover.{Least}
+use Rattle.vortex_dtype.specs.Texts.{path_text}
+use Rattle.vortex_dtype.specs.Types.Field.{Field}
 use Rattle.dtype_demo.specs.Lines.{lines_of, parts_of}
 
 -- the type found, or `none`

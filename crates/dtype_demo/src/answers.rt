@@ -1,15 +1,15 @@
 ghost use Rattle.std.specs.Prelude.{◌≡◌, ◌⊎◌, IfErr, OnOk};
 ghost use Rattle.std.specs.Io.KnownBytes.{Appends};
-ghost use Rattle.dtype_types.specs.TreeOf.{tree};
+ghost use Rattle.vortex_dtype.specs.TreeOf.{tree};
 ghost use Rattle.dtype_demo.specs.Lines.{parts_of};
 ghost use Rattle.dtype_demo.specs.Output.{answer_text, WritesOutput};
 
 use crate::DemoFault;
 use crate::cover::write_cover;
 use crate::lines::parse_line;
-use dtype_types::DType;
 use std::alloc::Global;
 use std::io::Write;
+use vortex_dtype::DType;
 
 // Writes the answer to each line of the text, then the line of their cover, and flushes.
 pub fn write_answers<W: Write>(
@@ -42,7 +42,7 @@ fn answer<W: Write>(
     ensures faults { IfErr result (λ fault.
         (fault ≡ DemoFault.WriteFailed) ⊎ (fault ≡ DemoFault.OutOfMemory)) }
 {
-    let path = parse_line(alloc, line)?;
+    let path = parse_line(alloc, line).map_err(|_| DemoFault::OutOfMemory)?;
     let written = match path.resolve(dtype) {
         Some(found) => writeln!(writer, "{path} = {found}"),
         None => writeln!(writer, "{path} = none"),

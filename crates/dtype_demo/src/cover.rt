@@ -1,15 +1,14 @@
 ghost use Rattle.std.specs.Prelude.{◌≡◌, ◌⊎◌, map, IfErr, IfOk, IsOkUnless, OnOk, string_bytes};
-ghost use Rattle.dtype_base.specs.declared.vortex_error.VortexError.TheVariants.{OutOfMemory};
-ghost use Rattle.dtype_paths.specs.PathSets.{SameMembers};
+ghost use Rattle.vortex_dtype.specs.Types.VortexError.TheVariants.{OutOfMemory};
+ghost use Rattle.vortex_dtype.specs.PathSets.{SameMembers};
 ghost use Rattle.dtype_demo.specs.Lines.{lines_of, parts_of};
 ghost use Rattle.dtype_demo.specs.Output.{cover_text, IsCover, WritesCover};
 
 use crate::DemoFault;
 use crate::lines::parse_line;
-use dtype_base::VortexResult;
-use dtype_paths::FieldPathSet;
 use std::alloc::Global;
 use std::io::Write;
+use vortex_dtype::{FieldPathSet, VortexResult};
 
 // Writes the line of the cover of the text's lines.
 pub fn write_cover<W: Write>(alloc: Global, text: &str, writer: &mut W) -> Result<(), DemoFault>
@@ -18,8 +17,8 @@ pub fn write_cover<W: Write>(alloc: Global, text: &str, writer: &mut W) -> Resul
     ensures faults { IfErr result (λ fault.
         (fault ≡ DemoFault.WriteFailed) ⊎ (fault ≡ DemoFault.OutOfMemory)) }
 {
-    let texts = cover_texts(alloc, text)?;
-    let line = spaced(alloc, &texts)?;
+    let texts = cover_texts(alloc, text).map_err(|_| DemoFault::OutOfMemory)?;
+    let line = spaced(alloc, &texts).map_err(|_| DemoFault::OutOfMemory)?;
     writeln!(writer, "{line}").map_err(|_| DemoFault::WriteFailed)
 }
 

@@ -1,12 +1,12 @@
 ghost use Rattle.std.specs.Prelude.{◌≡◌, IfOk, IsOkUnless};
-ghost use Rattle.dtype_base.specs.declared.vortex_error.VortexError.TheVariants.{OutOfMemory};
-ghost use Rattle.dtype_types.specs.Tree.{struct, field, no_fields};
-ghost use Rattle.dtype_types.specs.TreeOf.{tree};
+ghost use Rattle.vortex_dtype.specs.FieldTypes.{field_tree, given_fields};
+ghost use Rattle.vortex_dtype.specs.Tree.{struct};
+ghost use Rattle.vortex_dtype.specs.TreeOf.{tree};
+ghost use Rattle.vortex_dtype.specs.Types.VortexError.TheVariants.{OutOfMemory};
 ghost use Rattle.dtype_demo.specs.DemoTree.{demo_tree};
 
-use dtype_base::{FieldName, FieldNames, Nullability, PType, VortexResult};
-use dtype_types::{DType, StructFields};
 use std::alloc::Global;
+use vortex_dtype::{DType, FieldDType, FieldName, Nullability, PType, VortexResult};
 
 // The type whose paths the program tells: {a=list({b=u32})?, f=fixed_size_list(u8)[2]}. Refuses 0
 // (OutOfMemory) alone.
@@ -14,31 +14,30 @@ pub fn demo_dtype(alloc: Global) -> VortexResult<DType>
     ensures ok { IfOk result (λ d. tree d ≡ demo_tree) }
     ensures refused { IsOkUnless result OutOfMemory }
 {
-    let number = DType::Primitive(PType::U32, Nullability::NonNullable);
-    let element = one_field(alloc, "b", number)?;
-    let list = DType::List(Box::new(alloc, element)?, Nullability::Nullable);
-    let byte = Box::new(alloc, DType::Primitive(PType::U8, Nullability::NonNullable))?;
+    let number = field(alloc, "b", DType::from(PType::U32))?;
+    let element = struct_of(alloc, vec![in alloc; number]?)?;
+    let list = DType::list(alloc, element, Nullability::Nullable)?;
+    let byte = Box::new(alloc, DType::from(PType::U8))?;
     let pair = DType::FixedSizeList(byte, 2, Nullability::NonNullable);
-    let mut names = Vec::new(alloc);
-    names.push(FieldName::new(alloc, "a")?)?;
-    names.push(FieldName::new(alloc, "f")?)?;
-    let mut dtypes = Vec::new(alloc);
-    dtypes.push(list)?;
-    dtypes.push(pair)?;
-    let fields = StructFields::new(alloc, FieldNames::from_vec(names), dtypes)?;
-    Ok(DType::Struct(fields, Nullability::NonNullable))
+    struct_of(
+        alloc,
+        vec![in alloc; field(alloc, "a", list)?, field(alloc, "f", pair)?]?,
+    )
 }
 
-// The non-nullable struct of one field. Refuses 0 (OutOfMemory) alone.
-fn one_field(alloc: Global, name: &str, dtype: DType) -> VortexResult<DType>
-    ensures ok { IfOk result (λ d.
-        tree d ≡ struct (field name.now (tree dtype) no_fields) Nullability.NonNullable) }
+// A field of this name and type. Refuses 0 (OutOfMemory) alone.
+fn field(alloc: Global, name: &str, dtype: DType) -> VortexResult<(FieldName, FieldDType)>
+    ensures ok { IfOk result (λ f. (f.0 ≡ name.now) × (field_tree f.1 ≡ tree dtype)) }
     ensures refused { IsOkUnless result OutOfMemory }
 {
-    let mut names = Vec::new(alloc);
-    names.push(FieldName::new(alloc, name)?)?;
-    let mut dtypes = Vec::new(alloc);
-    dtypes.push(dtype)?;
-    let fields = StructFields::new(alloc, FieldNames::from_vec(names), dtypes)?;
-    Ok(DType::Struct(fields, Nullability::NonNullable))
+    Ok((FieldName::new(alloc, name)?, FieldDType::from(dtype)))
+}
+
+// The non-nullable struct of these fields. Refuses 0 (OutOfMemory) alone.
+fn struct_of(alloc: Global, fields: Vec<(FieldName, FieldDType)>) -> VortexResult<DType>
+    ensures ok { IfOk result (λ d.
+        tree d ≡ struct (given_fields fields.items) Nullability.NonNullable) }
+    ensures refused { IsOkUnless result OutOfMemory }
+{
+    DType::struct_(alloc, fields, Nullability::NonNullable)
 }

@@ -1,7 +1,6 @@
 ghost use Rattle.std.specs.Prelude.{◌≡◌, Some};
 ghost use Rattle.dtype_demo.specs.declared.fault.DemoFault.TheVariants.{OutOfMemory};
 
-use dtype_base::VortexError;
 use std::alloc::AllocError;
 use std::error::Error;
 use std::fmt;
@@ -43,15 +42,6 @@ impl From<AllocError> for DemoFault {
     ghost from_gives = { λ _ e. e ≡ OutOfMemory };
 
     fn from(_error: AllocError) -> DemoFault {
-        DemoFault::OutOfMemory
-    }
-}
-
-/// The program makes only calls that refuse 0 (OutOfMemory) alone.
-impl From<VortexError> for DemoFault {
-    ghost from_gives = { λ _ e. e ≡ OutOfMemory };
-
-    fn from(_error: VortexError) -> DemoFault {
         DemoFault::OutOfMemory
     }
 }

@@ -1,10 +1,9 @@
 ghost use Rattle.std.specs.Prelude.{◌≡◌, IfOk, IsOkUnless};
-ghost use Rattle.dtype_base.specs.declared.vortex_error.VortexError.TheVariants.{OutOfMemory};
+ghost use Rattle.vortex_dtype.specs.Types.VortexError.TheVariants.{OutOfMemory};
 ghost use Rattle.dtype_demo.specs.Lines.{part_of, parts_of};
 
-use dtype_base::{FieldName, VortexResult};
-use dtype_paths::{Field, FieldPath};
 use std::alloc::Global;
+use vortex_dtype::{Field, FieldName, FieldPath, VortexResult};
 
 // The path that a line means. Refuses 0 (OutOfMemory) alone.
 pub fn parse_line(alloc: Global, line: &str) -> VortexResult<FieldPath>

@@ -64,7 +64,7 @@ pub fn run<R: Read, W: Write>(
 {
     let bytes = read_all(alloc, reader)?;
     let text = str::from_utf8(&bytes).map_err(|_| DemoFault::NotUtf8)?;
-    let dtype = demo_dtype(alloc)?;
+    let dtype = demo_dtype(alloc).map_err(|_| DemoFault::OutOfMemory)?;
     write_answers(alloc, &dtype, text, writer)
 }
 

@@ -11,7 +11,7 @@ use dtype_base::{VortexError, VortexResult};
 pub trait TryFromBytes: ToBytes {
     /// The number that has these bytes, least first, in two's complement.
     ///
-    /// Refuses 8 (`BytesLength`) bytes of another length than the type's width.
+    /// Refuses 8 (BytesLength) bytes of another length than the type's width.
     fn try_from_le_bytes(bytes: &[u8]) -> VortexResult<Self>
         ensures { ReadsBytes Self.byte_width Self.value Self.fits bytes.now result };
 }

@@ -16,6 +16,7 @@ pub mod Reads
 pub mod Written
 pub mod Accepts
 pub mod PathMessage
+pub mod Types
 pub use Rattle.dtype_base.specs.Decimals
 pub use Rattle.dtype_base.specs.Escapes
 pub use Rattle.dtype_base.specs.FieldNames
@@ -52,3 +53,7 @@ pub use Rattle.dtype_paths.specs.In
 pub use Rattle.dtype_paths.specs.Cover
 pub use Rattle.dtype_paths.specs.PathSets
 pub use Rattle.dtype_types.specs.IsValid
+pub use Rattle.dtype_types.specs.Distinct
+pub use Rattle.dtype_types.specs.FieldTypes
+pub use Rattle.dtype_paths.specs.PathSetLaws
+pub use Rattle.dtype_paths.specs.Texts

@@ -2,7 +2,7 @@ use Rattle.std.proofs.Common.{ap, subst}
 use Rattle.std.proofs.KnownBytes.{Appends-trans}
 use Rattle.std.proofs.lemmas.Iterator.Consumers.{YieldsList-end}
 use Rattle.std.specs.Io.KnownBytes.{Appends}
-use Rattle.dtype_types.specs.TreeOf.{tree}
+use Rattle.vortex_dtype.specs.TreeOf.{tree}
 use Rattle.dtype_demo.specs.Output.{answers_to}
 use Rattle.dtype_demo.proofs.AnswerTexts.{answers_more}
 use Rattle.dtype_demo.proofs.CoverTexts.{output_on_ok}

@@ -1,6 +1,6 @@
 use Rattle.std.proofs.Common.{map}
 use Rattle.std.specs.Io.KnownBytes.{Appends}
-use Rattle.dtype_types.specs.TreeOf.{tree}
+use Rattle.vortex_dtype.specs.TreeOf.{tree}
 use Rattle.dtype_demo.specs.Output.{answers_to}
 use Rattle.dtype_demo.proofs.answers.write_answers.Given as goal
 

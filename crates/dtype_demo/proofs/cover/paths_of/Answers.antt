@@ -1,8 +1,8 @@
 use Rattle.std.proofs.Common.{[], ◌∷◌, List, subst}
 use Rattle.std.proofs.lemmas.Iterator.Consumers.{YieldsList-end}
-use Rattle.dtype_paths.specs.PathSets.{Gains}
-use Rattle.dtype_paths.specs.declared.field.Field.{Field}
-use Rattle.dtype_paths.proofs.SetMembers.{gains_none}
+use Rattle.vortex_dtype.specs.PathSets.{Gains}
+use Rattle.vortex_dtype.specs.Types.Field.{Field}
+use Rattle.vortex_dtype.specs.PathSetLaws.{gains_none}
 use Rattle.dtype_demo.proofs.CoverTexts.{gains_line, gained_lines}
 use Rattle.dtype_demo.proofs.TerminatedLines.{lines_from_terminators}
 use Rattle.dtype_demo.proofs.cover.paths_of.Goals as goal

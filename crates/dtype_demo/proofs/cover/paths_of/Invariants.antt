@@ -1,5 +1,5 @@
 use Rattle.std.proofs.Common.{map}
-use Rattle.dtype_paths.specs.PathSets.{Gains}
+use Rattle.vortex_dtype.specs.PathSets.{Gains}
 use Rattle.dtype_demo.specs.Lines.{parts_of}
 use Rattle.dtype_demo.proofs.cover.paths_of.Given as goal
 

@@ -1,0 +1,6 @@
+-- The types of the crates below that clauses name, each with its variants in `TheVariants`.
+pub use Rattle.dtype_base.specs.declared.nullability.Nullability
+pub use Rattle.dtype_base.specs.declared.ptype.PType
+pub use Rattle.dtype_base.specs.declared.vortex_error.MessageFault
+pub use Rattle.dtype_base.specs.declared.vortex_error.VortexError
+pub use Rattle.dtype_paths.specs.declared.field.Field

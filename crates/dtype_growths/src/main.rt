@@ -13,9 +13,14 @@
 
 use anyhow::{Result, bail};
 
+mod faulty_messages;
 mod fixtures;
+mod messages;
+mod path_sets;
 mod paths;
+mod plugins;
 mod report;
+mod sessions;
 mod structs;
 mod types;
 mod unions;
@@ -35,6 +40,9 @@ fn make(rt: &(impl Print + Eprint + AllocGlobal), call: &str) -> Result<()> {
         || unions::make(rt, call)?
         || types::make(rt, call)?
         || paths::make(rt, call)?
+        || path_sets::make(rt, call)?
+        || sessions::make(rt, call)?
+        || messages::make(rt, call)?
         || without_memory::make(rt, call)?;
     if !is_known {
         bail!("no call has this name: {call}");

@@ -3,6 +3,7 @@
 
 mod lookups;
 mod paths;
+mod sessions;
 mod types;
 mod values;
 
@@ -31,6 +32,10 @@ pub fn make(rt: &(impl Print + Eprint + AllocGlobal), call: &str) -> Result<bool
         "no memory: fields" => paths::fields(rt)?,
         "no memory: paths" => paths::paths(rt)?,
         "no memory: masks" => paths::masks(rt)?,
+        "no memory: path sets" => sessions::path_sets(rt)?,
+        "no memory: sessions" => sessions::sessions(rt)?,
+        "no memory: typed extensions" => sessions::typed_extensions(rt)?,
+        "no memory: messages" => sessions::messages(rt)?,
         _ => return Ok(false),
     }
     Ok(true)

@@ -16,9 +16,15 @@ mod index;
 #[cfg(test)]
 mod kinds;
 #[cfg(test)]
+mod malicious;
+#[cfg(test)]
 mod maps;
 #[cfg(test)]
 mod masks;
+#[cfg(test)]
+mod message_faults;
+#[cfg(test)]
+mod message_generator;
 #[cfg(test)]
 mod messages;
 #[cfg(test)]
@@ -39,6 +45,8 @@ mod paths;
 mod plugins;
 #[cfg(test)]
 mod ptypes;
+#[cfg(test)]
+mod random_messages;
 #[cfg(test)]
 mod refusals;
 #[cfg(test)]

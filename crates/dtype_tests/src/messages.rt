@@ -10,34 +10,34 @@ use vortex_dtype::*;
 
 const DEPTH: usize = 200;
 
-fn of(kind: pb::DtypeType) -> pb::DType {
+pub(crate) fn of(kind: pb::DtypeType) -> pb::DType {
     pb::DType {
         dtype_type: Some(kind),
     }
 }
 
 // A message without a kind.
-fn nothing() -> pb::DType {
+pub(crate) fn nothing() -> pb::DType {
     pb::DType { dtype_type: None }
 }
 
-fn null() -> pb::DType {
+pub(crate) fn null() -> pb::DType {
     of(pb::DtypeType::Null(pb::Null {}))
 }
 
-fn primitive(ptype: i32, nullable: bool) -> pb::DType {
+pub(crate) fn primitive(ptype: i32, nullable: bool) -> pb::DType {
     of(pb::DtypeType::Primitive(pb::Primitive { ptype, nullable }))
 }
 
-fn byte() -> pb::DType {
+pub(crate) fn byte() -> pb::DType {
     primitive(0, false)
 }
 
-fn text(nullable: bool) -> pb::DType {
+pub(crate) fn text(nullable: bool) -> pb::DType {
     of(pb::DtypeType::Utf8(pb::Utf8 { nullable }))
 }
 
-fn decimal(precision: u32, scale: i32, nullable: bool) -> pb::DType {
+pub(crate) fn decimal(precision: u32, scale: i32, nullable: bool) -> pb::DType {
     of(pb::DtypeType::Decimal(pb::Decimal {
         precision,
         scale,
@@ -52,7 +52,11 @@ fn boxed(alloc: Global, child: Option<pb::DType>) -> VortexResult<Option<Box<pb:
     }
 }
 
-fn list(alloc: Global, element: Option<pb::DType>, nullable: bool) -> VortexResult<pb::DType> {
+pub(crate) fn list(
+    alloc: Global,
+    element: Option<pb::DType>,
+    nullable: bool,
+) -> VortexResult<pb::DType> {
     let list = pb::List {
         element_type: boxed(alloc, element)?,
         nullable,
@@ -60,7 +64,11 @@ fn list(alloc: Global, element: Option<pb::DType>, nullable: bool) -> VortexResu
     Ok(of(pb::DtypeType::List(Box::new(alloc, list)?)))
 }
 
-fn fixed(alloc: Global, element: Option<pb::DType>, size: u32) -> VortexResult<pb::DType> {
+pub(crate) fn fixed(
+    alloc: Global,
+    element: Option<pb::DType>,
+    size: u32,
+) -> VortexResult<pb::DType> {
     let list = pb::FixedSizeList {
         element_type: boxed(alloc, element)?,
         size,
@@ -69,7 +77,7 @@ fn fixed(alloc: Global, element: Option<pb::DType>, size: u32) -> VortexResult<p
     Ok(of(pb::DtypeType::FixedSizeList(Box::new(alloc, list)?)))
 }
 
-fn map(
+pub(crate) fn map(
     alloc: Global,
     key: Option<pb::DType>,
     value: Option<pb::DType>,
@@ -92,7 +100,7 @@ fn texts(alloc: Global, items: &[&str]) -> VortexResult<Vec<String>> {
     Ok(all)
 }
 
-fn bytes(alloc: Global, count: usize) -> VortexResult<Vec<pb::DType>> {
+pub(crate) fn bytes(alloc: Global, count: usize) -> VortexResult<Vec<pb::DType>> {
     let mut all = Vec::new(alloc);
     for _ in 0..count {
         all.push(byte())?;
@@ -108,7 +116,12 @@ fn fields(alloc: Global, names: &[&str], count: usize) -> VortexResult<pb::DType
     })))
 }
 
-fn union_of(alloc: Global, names: &[&str], count: usize, tags: &[i32]) -> VortexResult<pb::DType> {
+pub(crate) fn union_of(
+    alloc: Global,
+    names: &[&str],
+    count: usize,
+    tags: &[i32],
+) -> VortexResult<pb::DType> {
     Ok(of(pb::DtypeType::Union(pb::Union {
         names: texts(alloc, names)?,
         dtypes: bytes(alloc, count)?,
@@ -117,7 +130,7 @@ fn union_of(alloc: Global, names: &[&str], count: usize, tags: &[i32]) -> Vortex
     })))
 }
 
-fn extension(
+pub(crate) fn extension(
     alloc: Global,
     id: &str,
     storage: Option<pb::DType>,
@@ -135,7 +148,7 @@ fn extension(
     Ok(of(pb::DtypeType::Extension(Box::new(alloc, extension)?)))
 }
 
-fn tagged(alloc: Global, id: &str, metadata: Option<&[u8]>) -> VortexResult<pb::DType> {
+pub(crate) fn tagged(alloc: Global, id: &str, metadata: Option<&[u8]>) -> VortexResult<pb::DType> {
     extension(alloc, id, Some(text(true)), metadata)
 }
 
@@ -169,7 +182,7 @@ fn all_kinds(alloc: Global, metadata: &[u8]) -> VortexResult<pb::DType> {
 }
 
 // By which number the message is refused, if it is.
-fn refusal(
+pub(crate) fn refusal(
     alloc: Global,
     session: &DTypeSession,
     proto: VortexResult<pb::DType>,

@@ -1,0 +1,283 @@
+// A source of random messages of all kinds, with faults put in at random places. The same seed gives the same
+// message.
+ghost use Rattle.std.specs.Prelude.{◌<◌, length};
+
+use crate::messages::{
+    byte, decimal, extension, fixed, list, map, nothing, null, of, primitive, text,
+};
+use std::alloc::Global;
+use std::mem;
+use std::string::String;
+use vortex_dtype::{VortexResult, pb};
+
+#[derive(Drop)]
+pub(crate) struct Generator {
+    alloc: Global,
+    // Of a 64-bit xorshift, never 0.
+    state: u64,
+    // One choice in so many is made a fault, and none where this is 0.
+    fault_rate: usize,
+    // What was made and stands in nothing yet.
+    made: Vec<pb::DType>,
+}
+
+impl Generator {
+    // A fault stands in about every third message.
+    pub(crate) fn new(alloc: Global, seed: u64) -> Self {
+        let mut generator = Generator {
+            alloc,
+            state: seed.wrapping_mul(0x9e3779b97f4a7c15) | 1,
+            fault_rate: 0,
+            made: Vec::new(alloc),
+        };
+        generator.fault_rate = generator.pick(&[0, 10, 30, 60]);
+        generator
+    }
+
+    // The upper half of a product, since the lower bits of a xorshift follow from one another.
+    fn draw(&mut self) -> u64 {
+        self.state ^= self.state >> 12;
+        self.state ^= self.state << 25;
+        self.state ^= self.state >> 27;
+        self.state.wrapping_mul(0x2545f4914f6cdd1d) >> 32
+    }
+
+    fn below(&mut self, count: usize) -> usize
+        requires { 0 < count }
+        ensures { result < count }
+    {
+        (self.draw() % count as u64) as usize
+    }
+
+    fn pick<T: Copy>(&mut self, items: &[T]) -> T
+        requires { 0 < length items.now }
+    {
+        let place = self.below(items.len());
+        items[place]
+    }
+
+    fn flag(&mut self) -> bool {
+        self.below(2) == 0
+    }
+
+    // Whether a fault is put in here.
+    fn is_faulty(&mut self) -> bool {
+        self.fault_rate > 0 && self.below(self.fault_rate) == 0
+    }
+
+    // The next message. It grows from its leaves: each step takes some of what was made into something new.
+    pub(crate) fn message(&mut self) -> VortexResult<pb::DType> {
+        let steps = self.below(24);
+        for _ in 0..steps {
+            let next = self.node()?;
+            self.made.push(next)?;
+        }
+        if self.below(4) == 0 {
+            return Ok(self.taken());
+        }
+        let dtypes = mem::replace(&mut self.made, Vec::new(self.alloc));
+        self.fields(dtypes)
+    }
+
+    fn node(&mut self) -> VortexResult<pb::DType> {
+        match self.below(14) {
+            0..=5 => Ok(self.leaf()),
+            6 => self.list(),
+            7 => self.fixed(),
+            8 | 9 => self.map(),
+            10 => {
+                let dtypes = self.several(0)?;
+                self.fields(dtypes)
+            }
+            11 | 12 => self.variants(),
+            _ => self.extension(),
+        }
+    }
+
+    fn leaf(&mut self) -> pb::DType {
+        if self.is_faulty() {
+            return nothing();
+        }
+        let nullable = self.flag();
+        match self.below(8) {
+            0 => null(),
+            1 => of(pb::DtypeType::Bool(pb::Bool { nullable })),
+            2 => self.primitive(),
+            3 | 4 => self.decimal(),
+            5 => text(nullable),
+            6 => of(pb::DtypeType::Binary(pb::Binary { nullable })),
+            _ => of(pb::DtypeType::Variant(pb::Variant { nullable })),
+        }
+    }
+
+    fn primitive(&mut self) -> pb::DType {
+        let ptype = if self.is_faulty() {
+            self.pick(&[i32::MIN, -1, 11, 256, i32::MAX])
+        } else {
+            self.pick(&[0, 1, 2, 3, 4, 5, 6, 7, 8, 9, 10])
+        };
+        primitive(ptype, self.flag())
+    }
+
+    fn decimal(&mut self) -> pb::DType {
+        let precision = if self.is_faulty() {
+            self.pick(&[0, 77, 255, 256, u32::MAX])
+        } else {
+            self.pick(&[5, 38, 76])
+        };
+        let scale = if self.is_faulty() {
+            self.pick(&[i32::MIN, -129, 6, 39, 77, 127, 128, i32::MAX])
+        } else {
+            self.pick(&[-128, -5, 0, 5])
+        };
+        decimal(precision, scale, self.flag())
+    }
+
+    // What was made last, to stand in another message.
+    fn taken(&mut self) -> pb::DType {
+        match self.made.pop() {
+            Some(proto) => proto,
+            None => byte(),
+        }
+    }
+
+    fn child(&mut self) -> Option<pb::DType> {
+        if self.is_faulty() {
+            None
+        } else {
+            Some(self.taken())
+        }
+    }
+
+    fn list(&mut self) -> VortexResult<pb::DType> {
+        let element = self.child();
+        list(self.alloc, element, self.flag())
+    }
+
+    fn fixed(&mut self) -> VortexResult<pb::DType> {
+        let element = self.child();
+        fixed(self.alloc, element, self.pick(&[0, 1, u32::MAX]))
+    }
+
+    fn map(&mut self) -> VortexResult<pb::DType> {
+        let key = self.key();
+        let value = self.child();
+        map(self.alloc, key, value, self.flag())
+    }
+
+    fn key(&mut self) -> Option<pb::DType> {
+        if self.is_faulty() {
+            return None;
+        }
+        if self.is_faulty() {
+            return Some(self.taken());
+        }
+        Some(text(false))
+    }
+
+    // At least so many messages, and up to three more.
+    fn several(&mut self, least: usize) -> VortexResult<Vec<pb::DType>> {
+        let mut several = Vec::new(self.alloc);
+        for _ in 0..least.saturating_add(self.below(4)) {
+            several.push(self.taken())?;
+        }
+        Ok(several)
+    }
+
+    // How long a list is that goes with one of this length.
+    fn beside(&mut self, length: usize) -> usize {
+        if !self.is_faulty() {
+            length
+        } else if self.flag() {
+            length.saturating_add(1)
+        } else {
+            length.saturating_sub(1)
+        }
+    }
+
+    fn names(&mut self, count: usize) -> VortexResult<Vec<String>> {
+        let mut names = Vec::new(self.alloc);
+        for i in 0..count {
+            let number = if self.is_faulty() { 0 } else { i };
+            names.push(number.to_string(self.alloc)?)?;
+        }
+        Ok(names)
+    }
+
+    fn tags(&mut self, count: usize) -> VortexResult<Vec<i32>> {
+        let known = [7, 0, 255, 3, 128, 1];
+        let mut tags = Vec::new(self.alloc);
+        for i in 0..count {
+            let tag = if self.is_faulty() {
+                self.pick(&[i32::MIN, -1, 0, 7, 256, i32::MAX])
+            } else {
+                known[i % 6]
+            };
+            tags.push(tag)?;
+        }
+        Ok(tags)
+    }
+
+    fn fields(&mut self, dtypes: Vec<pb::DType>) -> VortexResult<pb::DType> {
+        let count = self.beside(dtypes.len());
+        let names = self.names(count)?;
+        Ok(of(pb::DtypeType::Struct(pb::Struct {
+            names,
+            dtypes,
+            nullable: self.flag(),
+        })))
+    }
+
+    fn variants(&mut self) -> VortexResult<pb::DType> {
+        let least = if self.is_faulty() { 0 } else { 1 };
+        let dtypes = self.several(least)?;
+        let count = self.beside(dtypes.len());
+        let names = self.names(count)?;
+        let count = self.beside(names.len());
+        let type_ids = self.tags(count)?;
+        Ok(of(pb::DtypeType::Union(pb::Union {
+            names,
+            dtypes,
+            type_ids,
+            nullable: self.flag(),
+        })))
+    }
+
+    fn extension(&mut self) -> VortexResult<pb::DType> {
+        if self.is_faulty() {
+            let storage = self.child();
+            return extension(self.alloc, "y", storage, Some(b"AB"));
+        }
+        if self.flag() {
+            return self.text_extension();
+        }
+        let storage = self.child();
+        extension(self.alloc, "x.tag", storage, self.metadata())
+    }
+
+    fn text_extension(&mut self) -> VortexResult<pb::DType> {
+        let storage = if self.is_faulty() {
+            self.child()
+        } else {
+            Some(text(self.flag()))
+        };
+        let metadata = if self.is_faulty() {
+            self.metadata()
+        } else {
+            None
+        };
+        extension(self.alloc, "x.text", storage, metadata)
+    }
+
+    fn metadata(&mut self) -> Option<&'static [u8]> {
+        if self.is_faulty() {
+            return Some(b"a!");
+        }
+        match self.below(4) {
+            0 => None,
+            1 => Some(b""),
+            2 => Some(b"AB"),
+            _ => Some(b"ab"),
+        }
+    }
+}

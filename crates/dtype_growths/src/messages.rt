@@ -2,12 +2,14 @@
 
 use crate::faulty_messages::faulty;
 use crate::fixtures::nested;
+use crate::plugins::Tag;
 use crate::report::{answered, begin, end, tell};
-use crate::sessions::session;
 use anyhow::Result;
 use std::alloc::Global;
 use std::string::String;
-use vortex_dtype::{DType, DTypeProto, DTypeSession, FieldPath, FieldPathProto, VortexResult, pb};
+use vortex_dtype::{
+    DType, DTypeProto, DTypeSession, FieldPath, FieldPathProto, PluginOf, VortexResult, pb,
+};
 
 // Makes the call of this name, if it is one of these.
 pub fn make(rt: &(impl Print + Eprint + AllocGlobal), call: &str) -> Result<bool> {
@@ -23,16 +25,11 @@ pub fn make(rt: &(impl Print + Eprint + AllocGlobal), call: &str) -> Result<bool
     Ok(true)
 }
 
-// A session that keeps unknown ids.
-fn keeping(alloc: Global) -> DTypeSession {
-    let mut session = DTypeSession::new(alloc);
-    session.allow_unknown();
-    session
-}
-
 // The text of the type that a written message is read as.
 fn read_back(alloc: Global, proto: pb::DType) -> VortexResult<String> {
-    let dtype = DType::from_proto(alloc, &proto, &keeping(alloc))?;
+    let mut session = DTypeSession::new(alloc);
+    session.allow_unknown();
+    let dtype = DType::from_proto(alloc, &proto, &session)?;
     Ok(dtype.to_string(alloc)?)
 }
 
@@ -48,7 +45,8 @@ fn to_proto(rt: &(impl Print + Eprint + AllocGlobal)) -> Result<()> {
 fn from_proto(rt: &(impl Print + Eprint + AllocGlobal)) -> Result<()> {
     let alloc = rt.alloc();
     let proto = nested(alloc)?.to_proto(alloc)?;
-    let session = keeping(alloc);
+    let mut session = DTypeSession::new(alloc);
+    session.allow_unknown();
     begin(rt)?;
     let made = DType::from_proto(alloc, &proto, &session);
     Ok(answered(rt, made)?)
@@ -69,7 +67,8 @@ fn from_faulty_proto(rt: &(impl Print + Eprint + AllocGlobal), call: &str) -> Re
     let Some(proto) = faulty(alloc, call)? else {
         return Ok(false);
     };
-    let session = session(alloc)?;
+    let mut session = DTypeSession::new(alloc);
+    session.register(Box::new(alloc, PluginOf::new(Tag))?)?;
     begin(rt)?;
     let made = DType::from_proto(alloc, &proto, &session);
     answered(rt, made)?;

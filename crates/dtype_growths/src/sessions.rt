@@ -1,4 +1,5 @@
-// The calls of sessions and of typed extensions that take memory.
+// The calls of sessions and of typed extensions that take memory. Each call's session is made where it is
+// called: a function that gives a session with a plugin that it made would hide what the plugin means.
 
 use crate::fixtures::{NULLABLE, REQUIRED};
 use crate::plugins::{Tag, TagName};
@@ -39,22 +40,6 @@ fn make_typed(rt: &(impl Print + Eprint + AllocGlobal), call: &str) -> Result<bo
     Ok(true)
 }
 
-// A session with `x.tag`.
-pub fn session(alloc: Global) -> VortexResult<DTypeSession> {
-    let mut session = DTypeSession::new(alloc);
-    session.register(Box::new(alloc, PluginOf::new(Tag))?)?;
-    Ok(session)
-}
-
-// The same, which keeps unknown ids where that is asked.
-fn session_for(alloc: Global, allows_unknown: bool) -> VortexResult<DTypeSession> {
-    let mut session = session(alloc)?;
-    if allows_unknown {
-        session.allow_unknown();
-    }
-    Ok(session)
-}
-
 // Whether a plugin stands under the id, and what becomes of the metadata `a!`, which `x.tag` refuses.
 fn kept(alloc: Global, session: &DTypeSession, id: &str) -> VortexResult<String> {
     let stands = session.registry(id);
@@ -82,7 +67,11 @@ fn register(
     allows_unknown: bool,
 ) -> Result<()> {
     let alloc = rt.alloc();
-    let mut session = session_for(alloc, allows_unknown)?;
+    let mut session = DTypeSession::new(alloc);
+    session.register(Box::new(alloc, PluginOf::new(Tag))?)?;
+    if allows_unknown {
+        session.allow_unknown();
+    }
     let unchanged = shown(alloc, &session)?;
     let vtable = ForeignExtDType::new(ExtId::new(alloc, id)?);
     let plugin = Box::new(alloc, PluginOf::new(vtable))?;
@@ -99,7 +88,12 @@ fn deserialize(
     metadata: &[u8],
     allows_unknown: bool,
 ) -> Result<()> {
-    let session = session_for(rt.alloc(), allows_unknown)?;
+    let alloc = rt.alloc();
+    let mut session = DTypeSession::new(alloc);
+    session.register(Box::new(alloc, PluginOf::new(Tag))?)?;
+    if allows_unknown {
+        session.allow_unknown();
+    }
     begin(rt)?;
     let made = session.deserialize(id, metadata, DType::Utf8(REQUIRED));
     Ok(answered(rt, made)?)

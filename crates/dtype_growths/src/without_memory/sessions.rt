@@ -3,7 +3,6 @@
 use crate::fixtures::{REQUIRED, byte, nested};
 use crate::plugins::{Tag, TagName};
 use crate::report::{answered, begin};
-use crate::sessions::session;
 use anyhow::Result;
 use dtype_base::PType;
 use dtype_paths::{FieldPath, FieldPathSet, field_path};
@@ -26,7 +25,8 @@ pub fn path_sets(rt: &(impl Print + Eprint + AllocGlobal)) -> Result<()> {
 
 pub fn sessions(rt: &(impl Print + Eprint + AllocGlobal)) -> Result<()> {
     let alloc = rt.alloc();
-    let session = session(alloc)?;
+    let mut session = DTypeSession::new(alloc);
+    session.register(Box::new(alloc, PluginOf::new(Tag))?)?;
     let id = ExtId::new(alloc, "x.y")?;
     begin(rt)?;
     let mut other = DTypeSession::new(alloc);

@@ -11,8 +11,9 @@ use std::vec;
 // Makes the call of this name, if it is one of these.
 pub fn make(rt: &(impl Print + Eprint + AllocGlobal), call: &str) -> Result<bool> {
     match call {
-        "FieldPathSet::insert" => insert(rt, &["a.b"], "a.c")?,
+        "FieldPathSet::insert" => insert(rt, &["a.b"], "a.c.d")?,
         "FieldPathSet::insert into none" => insert(rt, &[], "a.b")?,
+        "FieldPathSet::insert beside many" => insert(rt, &["a", "b", "c"], "x.y")?,
         "FieldPathSet::insert a beginning" => insert(rt, &["a.b"], "a")?,
         "FieldPathSet::insert the root" => insert(rt, &["a.b"], "")?,
         "FieldPathSet::insert a repeat" => insert(rt, &["a.b"], "a.b")?,
@@ -132,7 +133,7 @@ fn try_clone(rt: &(impl Print + Eprint + AllocGlobal)) -> Result<()> {
 
 fn iter(rt: &(impl Print + Eprint + AllocGlobal)) -> Result<()> {
     let alloc = rt.alloc();
-    let set = set(alloc, &["a.b", "x", "a"])?;
+    let set = set(alloc, &["a.b", "x", "a", "b", "c"])?;
     begin(rt)?;
     let made = set.iter();
     end(rt)?;
@@ -141,7 +142,7 @@ fn iter(rt: &(impl Print + Eprint + AllocGlobal)) -> Result<()> {
 
 fn into_iter(rt: &(impl Print + Eprint + AllocGlobal)) -> Result<()> {
     let alloc = rt.alloc();
-    let set = set(alloc, &["a.b", "x", "a"])?;
+    let set = set(alloc, &["a.b", "x", "a.c", "a.c.d", "b", "c"])?;
     begin(rt)?;
     let made = set.into_iter();
     end(rt)?;

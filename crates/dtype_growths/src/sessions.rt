@@ -14,8 +14,9 @@ use vortex_dtype::{
 // Makes the call of this name, if it is one of these.
 pub fn make(rt: &(impl Print + Eprint + AllocGlobal), call: &str) -> Result<bool> {
     match call {
-        "DTypeSession::register" => register(rt, "x.y", false)?,
-        "DTypeSession::register in place of another" => register(rt, "x.tag", true)?,
+        "DTypeSession::register" => register(rt, &[], "x.y", false)?,
+        "DTypeSession::register beside many" => register(rt, &["x.a", "x.b"], "x.y", false)?,
+        "DTypeSession::register in place of another" => register(rt, &[], "x.tag", true)?,
         "DTypeSession::deserialize" => deserialize(rt, "x.tag", b"ab", false)?,
         "DTypeSession::deserialize refused metadata" => deserialize(rt, "x.tag", b"a!", false)?,
         "DTypeSession::deserialize an unknown id" => deserialize(rt, "x.y", b"ab", false)?,
@@ -60,21 +61,29 @@ fn shown(alloc: Global, session: &DTypeSession) -> VortexResult<String> {
     Ok(format!(in alloc; "{tag}, {other}, unknown {unknown}")?)
 }
 
-// A plugin that keeps all bytes is registered under the id.
+// A plugin that keeps all bytes.
+fn keeping(alloc: Global, id: &str) -> VortexResult<PluginOf<ForeignExtDType>> {
+    Ok(PluginOf::new(ForeignExtDType::new(ExtId::new(alloc, id)?)))
+}
+
+// Beside `x.tag` and these other ids one more is registered.
 fn register(
     rt: &(impl Print + Eprint + AllocGlobal),
+    others: &[&str],
     id: &str,
     allows_unknown: bool,
 ) -> Result<()> {
     let alloc = rt.alloc();
     let mut session = DTypeSession::new(alloc);
     session.register(Box::new(alloc, PluginOf::new(Tag))?)?;
+    for other in others {
+        session.register(Box::new(alloc, keeping(alloc, other)?)?)?;
+    }
     if allows_unknown {
         session.allow_unknown();
     }
     let unchanged = shown(alloc, &session)?;
-    let vtable = ForeignExtDType::new(ExtId::new(alloc, id)?);
-    let plugin = Box::new(alloc, PluginOf::new(vtable))?;
+    let plugin = Box::new(alloc, keeping(alloc, id)?)?;
     begin(rt)?;
     let made = session.register(plugin);
     end(rt)?;

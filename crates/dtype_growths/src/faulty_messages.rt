@@ -7,7 +7,7 @@ use vortex_dtype::{VortexResult, pb};
 
 // The message that is read by the call of this name, if it is one of these.
 pub fn faulty(alloc: Global, call: &str) -> VortexResult<Option<pb::DType>> {
-    let found = match number(call) {
+    let found = match without_children(call) {
         Some(proto) => Some(proto),
         None => with_parts(alloc, call)?,
     };
@@ -17,8 +17,8 @@ pub fn faulty(alloc: Global, call: &str) -> VortexResult<Option<pb::DType>> {
     }
 }
 
-// Messages without children.
-fn number(call: &str) -> Option<pb::DType> {
+// Kinds missing, and numbers out of range.
+fn without_children(call: &str) -> Option<pb::DType> {
     match call {
         "DType::from_proto without a kind" => Some(pb::DType { dtype_type: None }),
         "DType::from_proto of the number 11" => Some(primitive(11)),

@@ -1,5 +1,5 @@
 -- A type whose nullability was set.
-use Rattle.std.proofs.Common.{◌≡◌, ◌↔◌, ℕ, List, Option, Some, None, Result, IfOk, option_and_then, refl, ap, sym, ◌∙◌, subst}
+use Rattle.std.proofs.Common.{◌≡◌, ◌↔◌, ℕ, List, Option, Some, None, IsSome, Result, IfOk, option_and_then, refl, ap, sym, ◌∙◌, subst}
 use Rattle.std.proofs.lemmas.Option.{same_Some}
 use Rattle.std.proofs.lemmas.Result.{IfOk-weaker}
 use Rattle.dtype_base.specs.declared.nullability.Nullability.{Nullability}
@@ -8,7 +8,7 @@ use Rattle.dtype_base.specs.declared.vortex_error.VortexError.{VortexError}
 use Rattle.dtype_types.specs.Erase.{erase}
 use Rattle.dtype_types.specs.TreeOf.{tree}
 use Rattle.dtype_types.specs.declared.dtype.DType.{DType}
-use Rattle.dtype_types.specs.Nullable.{nullability, set_null}
+use Rattle.dtype_types.specs.Nullable.{CanBeNonNullable, SetNull, nullability, set_null}
 use Rattle.dtype_types.specs.Tree.{Tree, null, bool, primitive, decimal, utf8, binary, list, fixed_size_list, map_of, struct, union, variant, extension}
 
 -- what holds of an extension whose storage was set, if it holds of the storage's storage
@@ -83,3 +83,9 @@ ok_again t n r h = IfOk-weaker r _ _ (λ d e. set_again-all t (tree d) n e) h
 
 pub ok_back : (t : Tree) (n : Nullability) (r : Result DType VortexError) → IfOk r (λ d. set_null t n ≡ Some (tree d)) → IfOk r (λ d. set_null (tree d) (nullability t) ≡ Some t)
 ok_back t n r h = IfOk-weaker r _ _ (λ d e. set_back t (tree d) n e) h
+
+pub ok_can : (t : Tree) (n : Nullability) (r : Result DType VortexError) → IfOk r (λ d. set_null t n ≡ Some (tree d)) → IfOk r (λ d. CanBeNonNullable t → CanBeNonNullable (tree d))
+ok_can t n r h = IfOk-weaker r _ _ (λ d e c. subst (λ (f : Nullability → Option Tree). IsSome (f NonNullable)) (sym (set_again-all t (tree d) n e)) c) h
+
+pub ok_last : (t : Tree) (n : Nullability) (r : Result DType VortexError) → IfOk r (λ d. set_null t n ≡ Some (tree d)) → IfOk r (λ d. (m : Nullability) (u : Tree) → SetNull (tree d) m u → SetNull t m u)
+ok_last t n r h = IfOk-weaker r _ _ (λ d e m u s. subst (λ (f : Nullability → Option Tree). f m ≡ Some u) (set_again-all t (tree d) n e) s) h

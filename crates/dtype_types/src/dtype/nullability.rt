@@ -3,6 +3,7 @@ ghost use Rattle.std.specs.Prelude.{◌≡◌, ◌↔◌, IsTrue, IfOk, IsOkUnle
 ghost use Rattle.dtype_base.specs.Nullability.{either};
 ghost use Rattle.dtype_base.specs.declared.vortex_error.VortexError.TheVariants.{OutOfMemory};
 ghost use Rattle.dtype_types.specs.Nullable.{nullability, IsNullable, CanBeNonNullable, SetNull, set_null};
+ghost use Rattle.dtype_types.specs.Tree.{Tree};
 ghost use Rattle.dtype_types.specs.TreeOf.{tree};
 ghost use Rattle.dtype_types.specs.IsValid.{IsValid, has_even_lists};
 ghost use Rattle.dtype_types.specs.Value.{AddsNull};
@@ -99,6 +100,10 @@ impl DType {
         ensures again { IfOk result (λ d. set_null (tree d) ≡ set_null (tree self.now)) }
         ensures back { IfOk result
             (λ d. SetNull (tree d) (nullability (tree self.now)) (tree self.now)) }
+        ensures can { IfOk result
+            (λ d. CanBeNonNullable (tree self.now) → CanBeNonNullable (tree d)) }
+        ensures last { IfOk result (λ d. (m : Nullability) (u : Tree) → SetNull (tree d) m u
+            → SetNull (tree self.now) m u) }
         ensures even { IfOk result (λ d. has_even_lists d ≡ has_even_lists self.now) }
         ensures valid { IsValid self.now → IfOk result IsValid }
         ensures refused { IsOkUnless result OutOfMemory }

@@ -91,6 +91,7 @@ impl DType {
     pub fn element_size(&self) -> VortexResult<Option<usize>>
         ensures variable { (result ≡ Ok None) ↔ ¬ Fixed (tree self.now) }
         ensures too_wide { IsErr result ↔ (Fixed (tree self.now) × HasWidePart (tree self.now)) }
+        ensures fixed { IfOk result (λ size. IfSome size (λ _. Fixed (tree self.now))) }
         ensures width { IfOk result (λ size. IfSome size (λ bytes. bytes ≡ width (tree self.now))) }
         ensures refused { IsOkUnless result WidthOverflow }
     {

@@ -5,7 +5,7 @@ ghost use Rattle.dtype_base.specs.Primitives.Kind.{Unsigned};
 ghost use Rattle.dtype_types.specs.Sub.{Sub};
 ghost use Rattle.dtype_types.specs.TreeOf.{tree};
 ghost use Rattle.dtype_types.specs.Value.{IncludedIn};
-ghost use Rattle.dtype_types.specs.Width.{width};
+ghost use Rattle.dtype_types.specs.Width.{Fixed, width};
 
 use dtype_base::PType;
 use dtype_types::DType;
@@ -19,7 +19,8 @@ pub fn offset_ptype(items: u64) -> PType
 
 /// How many bytes a row of the type takes, where every row takes as many.
 pub fn row_bytes(dtype: &DType) -> Option<usize>
-    ensures { IfSome result (λ bytes. bytes ≡ width (tree dtype.now)) }
+    ensures fixed { IfSome result (λ _. Fixed (tree dtype.now)) }
+    ensures width { IfSome result (λ bytes. bytes ≡ width (tree dtype.now)) }
 {
     match dtype.element_size() {
         Ok(bytes) => bytes,

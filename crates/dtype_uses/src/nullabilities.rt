@@ -1,10 +1,10 @@
 // Nullability set, and set again.
 ghost use Rattle.std.specs.Prelude.{◌≡◌, IfOk};
 ghost use Rattle.dtype_base.specs.declared.nullability.Nullability.TheVariants.{NonNullable};
-ghost use Rattle.dtype_types.specs.Nullable.{nullability};
+ghost use Rattle.dtype_types.specs.Nullable.{CanBeNonNullable, SetNull, nullability};
 ghost use Rattle.dtype_types.specs.TreeOf.{tree};
 
-use dtype_base::VortexResult;
+use dtype_base::{Nullability, VortexResult};
 use dtype_types::DType;
 use std::alloc::Global;
 
@@ -15,4 +15,19 @@ pub fn there_and_back(dtype: &DType, alloc: Global) -> VortexResult<DType>
 {
     let nullable = dtype.as_nullable(alloc)?;
     nullable.as_nonnullable(alloc)
+}
+
+/// A nullability set twice: the last decides.
+pub fn set_twice(
+    dtype: &DType,
+    alloc: Global,
+    first: Nullability,
+    last: Nullability,
+) -> VortexResult<DType>
+    requires { CanBeNonNullable (tree dtype.now) }
+    ensures { IfOk result (λ d. SetNull (tree dtype.now) last (tree d)) }
+{
+    dtype
+        .with_nullability(alloc, first)?
+        .with_nullability(alloc, last)
 }

@@ -1,3 +1,4 @@
+use crate::fixtures::is_printed;
 use dtype_base::{DecimalDType, DecimalType, PType, VortexError};
 use std::test::Fail;
 
@@ -28,9 +29,8 @@ fn decimals_are_taken(rt: HostRuntime) -> Result<(), Fail> {
         (10, -5, "decimal(10,-5)"),
     ] {
         let decimal = DecimalDType::try_new(precision, scale)?;
-        assert_eq!(rt; decimal.precision(), precision);
-        assert_eq!(rt; decimal.scale(), scale);
-        assert_eq!(rt; decimal.to_string(rt.alloc())?.as_str(), text);
+        assert_eq!(rt; (decimal.precision(), decimal.scale()), (precision, scale));
+        assert!(rt; is_printed(rt.alloc(), &decimal, text)?, "{decimal}");
     }
     Ok(())
 }
@@ -53,11 +53,21 @@ fn decimals_have_bit_widths_and_storage(rt: HostRuntime) -> Result<(), Fail> {
         assert_eq!(rt; DecimalType::smallest_decimal_value_type(&decimal), storage);
         assert!(rt; storage.is_compatible_decimal_value_type(decimal));
     }
+    Ok(())
+}
+
+#[test]
+fn storage_types_are_compatible_from_a_width_on(rt: HostRuntime) {
     let three = DecimalDType::new(3, 0);
     assert!(rt; !DecimalType::I8.is_compatible_decimal_value_type(three));
-    assert!(rt; DecimalType::I32.is_compatible_decimal_value_type(DecimalDType::new(4, 0)));
+    let four = DecimalDType::new(4, 0);
+    assert!(rt; DecimalType::I32.is_compatible_decimal_value_type(four));
+}
+
+#[test]
+fn storage_types_have_widths_texts_and_primitive_names(rt: HostRuntime) -> Result<(), Fail> {
     assert_eq!(rt; DecimalType::I256.byte_width(), 32);
-    assert_eq!(rt; DecimalType::I128.to_string(rt.alloc())?.as_str(), "i128");
+    assert!(rt; is_printed(rt.alloc(), &DecimalType::I128, "i128")?);
     assert_eq!(rt; DecimalType::try_from(PType::I64), Ok(DecimalType::I64));
     let refused = VortexError::NotDecimalPType { ptype: PType::U8 };
     assert_eq!(rt; DecimalType::try_from(PType::U8), Err(refused));

@@ -1,24 +1,31 @@
-use crate::fixtures::hash_of;
+use crate::fixtures::{hash_of, is_printed};
 use dtype_base::{DecimalDType, DecimalType, VortexError, VortexResult};
 use dtype_native::{NativeDecimalType, PrecisionScale};
 use std::process::Abort;
 use std::test::Fail;
 
 #[test]
-fn precisions_bound_the_values(rt: HostRuntime) -> Result<(), Fail> {
+fn values_have_at_most_the_digits(rt: HostRuntime) {
     let two_digits = PrecisionScale::<i8>::new(2, 1);
     for (value, valid) in [(99, true), (-99, true), (100, false), (-100, false)] {
         assert_eq!(rt; two_digits.is_valid(value), valid, "at {value}");
     }
+}
+
+#[test]
+fn precisions_bound_the_values(rt: HostRuntime) {
     assert_eq!(rt; i8::min_by_precision(2), -99);
     assert_eq!(rt; i16::max_by_precision(4), 9999);
     assert_eq!(rt; i32::min_by_precision(9), -999999999);
+}
+
+#[test]
+fn extreme_precisions_bound_the_values(rt: HostRuntime) {
     assert_eq!(rt; i64::min_by_precision(0), 0);
     assert_eq!(rt;
         i128::max_by_precision(38),
         99999999999999999999999999999999999999
     );
-    Ok(())
 }
 
 // What holds of a native type that keeps decimals of at most that many digits.
@@ -32,6 +39,11 @@ fn test_decimal<D: NativeDecimalType>(
     assert_eq!(rt; D::NAME, name);
     assert_eq!(rt; D::MAX_PRECISION, digits);
     assert_eq!(rt; i32::from(D::MAX_SCALE), i32::from(digits));
+    test_widest::<D>(rt, digits)
+}
+
+// That the widest decimals of a native type have the greatest and the least value, and are kept.
+fn test_widest<D: NativeDecimalType>(rt: &impl Abort, digits: u8) -> VortexResult<()> {
     let widest = PrecisionScale::<D>::try_new(D::MAX_PRECISION, -128)?;
     assert!(rt; widest.is_valid(D::max_by_precision(D::MAX_PRECISION)));
     assert!(rt; widest.is_valid(D::min_by_precision(D::MAX_PRECISION)));
@@ -52,7 +64,7 @@ fn native_decimals_have_their_names_and_digits(rt: HostRuntime) -> Result<(), Fa
 }
 
 #[test]
-fn kept_decimals_are_refused_in_order(rt: HostRuntime) -> Result<(), Fail> {
+fn kept_decimals_are_refused_in_order(rt: HostRuntime) {
     for (precision, scale, want) in [
         (0, 3, VortexError::PrecisionZero { max: 2 }),
         (
@@ -75,18 +87,23 @@ fn kept_decimals_are_refused_in_order(rt: HostRuntime) -> Result<(), Fail> {
     ] {
         assert_eq!(rt; PrecisionScale::<i8>::try_new(precision, scale), Err(want));
     }
+}
+
+#[test]
+fn wide_decimals_are_not_kept(rt: HostRuntime) {
     let wide = DecimalDType::new(19, 0);
     let refused = VortexError::PrecisionTooLarge {
         precision: 19,
         max: 18,
     };
     assert_eq!(rt; PrecisionScale::<i64>::try_from(&wide), Err(refused));
+}
+
+#[test]
+fn kept_decimals_have_their_parts(rt: HostRuntime) -> Result<(), Fail> {
     let kept = PrecisionScale::<i8>::new_unchecked(2, 1);
     assert_eq!(rt; (kept.precision(), kept.scale()), (2, 1));
-    assert_eq!(rt;
-        kept.to_string(rt.alloc())?.as_str(),
-        "decimal(i8, p=2, s=1)"
-    );
+    assert!(rt; is_printed(rt.alloc(), &kept, "decimal(i8, p=2, s=1)")?);
     assert_eq!(rt; DecimalDType::from(kept), DecimalDType::new(2, 1));
     assert_eq!(rt; hash_of(&kept), hash_of(&PrecisionScale::<i8>::new(2, 1)));
     Ok(())

@@ -8,14 +8,22 @@ use std::process::Abort;
 use std::test::Fail;
 
 #[test]
-fn bytes_stand_least_first(rt: HostRuntime) {
+fn bytes_are_read_least_first(rt: HostRuntime) {
     assert_eq!(rt; u32::try_from_le_bytes(&[1, 2, 3, 4]), Ok(67305985));
+    assert_eq!(rt; i32::try_from_le_bytes(&[0xFF, 0xFF, 0xFF, 0xFF]), Ok(-1));
+}
+
+#[test]
+fn too_few_bytes_are_refused(rt: HostRuntime) {
     assert_eq!(rt;
         u32::try_from_le_bytes(&[1, 2, 3]),
         Err(VortexError::BytesLength)
     );
     assert_eq!(rt; VortexError::BytesLength.number(), 8);
-    assert_eq!(rt; i32::try_from_le_bytes(&[0xFF, 0xFF, 0xFF, 0xFF]), Ok(-1));
+}
+
+#[test]
+fn bytes_stand_least_first(rt: HostRuntime) {
     assert_eq!(rt; ToBytes::to_le_bytes(&513u16), [1, 2]);
     assert_eq!(rt; u16::bytes_of(&[1, 2]), [1, 2].as_slice());
     assert_eq!(rt; ToBytes::to_le_bytes(&-2i16), [0xFE, 0xFF]);
@@ -68,13 +76,23 @@ fn name_of_offset<T: OffsetBuilderPType>() -> PType {
 }
 
 #[test]
-fn unsigned_and_offset_types(rt: HostRuntime) {
-    assert_eq!(rt; name_of_unsigned::<u8>(), PType::U8);
-    assert_eq!(rt; name_of_unsigned::<u16>(), PType::U16);
-    assert_eq!(rt; name_of_unsigned::<u32>(), PType::U32);
-    assert_eq!(rt; name_of_unsigned::<u64>(), PType::U64);
-    assert_eq!(rt; name_of_offset::<u32>(), PType::U32);
-    assert_eq!(rt; name_of_offset::<i32>(), PType::I32);
-    assert_eq!(rt; name_of_offset::<u64>(), PType::U64);
-    assert_eq!(rt; name_of_offset::<i64>(), PType::I64);
+fn unsigned_types(rt: HostRuntime) {
+    let names = [
+        name_of_unsigned::<u8>(),
+        name_of_unsigned::<u16>(),
+        name_of_unsigned::<u32>(),
+        name_of_unsigned::<u64>(),
+    ];
+    assert_eq!(rt; names, [PType::U8, PType::U16, PType::U32, PType::U64]);
+}
+
+#[test]
+fn offset_types(rt: HostRuntime) {
+    let names = [
+        name_of_offset::<u32>(),
+        name_of_offset::<i32>(),
+        name_of_offset::<u64>(),
+        name_of_offset::<i64>(),
+    ];
+    assert_eq!(rt; names, [PType::U32, PType::I32, PType::U64, PType::I64]);
 }

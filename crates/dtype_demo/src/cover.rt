@@ -34,9 +34,11 @@ fn paths_of(alloc: Global, text: &str) -> VortexResult<FieldPathSet>
     Ok(paths)
 }
 
-// The texts of the cover of the text's lines, in the order of their bytes. Refuses 0 (OutOfMemory) alone.
+// The texts of the cover of the text's lines, in the order of their bytes. Refuses 0 (OutOfMemory)
+// alone.
 fn cover_texts(alloc: Global, text: &str) -> VortexResult<Vec<String>>
-    ensures ok { IfOk result (λ v. IsCover (map parts_of (lines_of text.now)) (map (λ s. string_bytes s) v.items)) }
+    ensures ok { IfOk result (λ v.
+        IsCover (map parts_of (lines_of text.now)) (map (λ s. string_bytes s) v.items)) }
     ensures refused { IsOkUnless result OutOfMemory }
 {
     let mut texts = Vec::new(alloc);
@@ -49,7 +51,8 @@ fn cover_texts(alloc: Global, text: &str) -> VortexResult<Vec<String>>
 
 // `cover:`, and each text behind a space. Refuses 0 (OutOfMemory) alone.
 fn spaced(alloc: Global, texts: &[String]) -> VortexResult<String>
-    ensures ok { IfOk result (λ s. string_bytes s ≡ cover_text (map (λ t. string_bytes t) texts.now)) }
+    ensures ok { IfOk result (λ s.
+        string_bytes s ≡ cover_text (map (λ t. string_bytes t) texts.now)) }
     ensures refused { IsOkUnless result OutOfMemory }
 {
     let mut line = String::from_str(alloc, "cover:")?;

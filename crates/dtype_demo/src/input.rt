@@ -19,7 +19,8 @@ pub fn read_all<R: Read>(alloc: Global, reader: &mut R) -> Result<Vec<u8>, DemoF
         TakesAtMost input_limit (R.remaining reader.old) (R.remaining reader.new) }
     ensures faults { IfErr result (λ fault. (fault ≡ DemoFault.ReadFailed)
         ⊎ (fault ≡ DemoFault.InputTooLong) ⊎ (fault ≡ DemoFault.OutOfMemory)) }
-    ensures no_more { TakesAtMost (input_limit + 1) (R.remaining reader.old) (R.remaining reader.new) }
+    ensures no_more { TakesAtMost (input_limit + 1)
+        (R.remaining reader.old) (R.remaining reader.new) }
 {
     let mut bytes = Vec::new(alloc);
     let mut buffer = [0; 4096];

@@ -35,9 +35,9 @@ mod tests;
 
 pub use fault::DemoFault;
 
-/// Answers each line that the reader gives, to the writer, then tells their cover, and flushes. It reads to the
-/// end first, at most 1,048,576 bytes and one that shows that there are more, in as many reads; then it
-/// tests the whole input for UTF-8, and only then does it write.
+/// Answers each line that the reader gives, to the writer, then tells their cover, and flushes. It
+/// reads to the end first, at most 1,048,576 bytes and one that shows that there are more, in as many
+/// reads; then it tests the whole input for UTF-8, and only then does it write.
 ///
 /// `ReadFailed` is any error of the reader, `InputTooLong` a byte past the limit, `NotUtf8` an input
 /// that isn't UTF-8: with these nothing is written. `WriteFailed` is any error of the writer, and
@@ -49,7 +49,8 @@ pub fn run<R: Read, W: Write>(
 ) -> Result<(), DemoFault>
     ensures answered { OnOk result (IfSome (R.remaining reader.old) (λ bytes.
         WritesOutput demo_tree bytes (W.contents writer.old) (W.contents writer.new))) }
-    ensures within { OnOk result (IfSome (R.remaining reader.old) (λ bytes. length bytes ≤ input_limit)) }
+    ensures within { OnOk result (IfSome (R.remaining reader.old) (λ bytes.
+        length bytes ≤ input_limit)) }
     ensures text { OnOk result (IfSome (R.remaining reader.old) (λ bytes. IsUtf8 bytes)) }
     ensures too_long { IsErrOf result DemoFault.InputTooLong →
         IfSome (R.remaining reader.old) (λ bytes. input_limit < length bytes) }
@@ -60,7 +61,8 @@ pub fn run<R: Read, W: Write>(
     ensures unread { IsErrOf result DemoFault.ReadFailed →
         TakesAtMost input_limit (R.remaining reader.old) (R.remaining reader.new) }
     ensures unwritten { IfErr result (λ fault. BeforeWriting fault → writer.new ≡ writer.old) }
-    ensures no_more { TakesAtMost (input_limit + 1) (R.remaining reader.old) (R.remaining reader.new) }
+    ensures no_more { TakesAtMost (input_limit + 1)
+        (R.remaining reader.old) (R.remaining reader.new) }
 {
     let bytes = read_all(alloc, reader)?;
     let text = str::from_utf8(&bytes).map_err(|_| DemoFault::NotUtf8)?;

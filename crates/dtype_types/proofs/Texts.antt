@@ -3,7 +3,7 @@ use Rattle.std.proofs.Common.{◌≡◌, ℕ, zero, suc, ◌+◌, ◌<◌, ◌==
 use Rattle.std.specs.List.{zip}
 use Rattle.std.proofs.lemmas.Slice.Zip.{get_or-zip}
 use Rattle.std.proofs.lemmas.List.{append-nil, length-map, get_or-map}
-use Rattle.dtype_types.proofs.Turns.{tags_differ}
+use Rattle.dtype_types.proofs.Turns.{tags_differ, tags_same}
 use Rattle.dtype_base.specs.Escapes.{escaped}
 use Rattle.dtype_base.specs.declared.nullability.Nullability.{Nullability}
 use Rattle.dtype_base.specs.Nullability.{nullability_text}
@@ -51,6 +51,18 @@ pub joined_next : (sep : List ℕ) (xs : List (List ℕ)) (i : ℕ) (x : List �
 joined_next sep [] i x h e = absurd (omega arith)
 joined_next sep (y ∷ ys) zero x h e = sym (ap (λ z. z ++ []) (sym e) ∙ append-nil x)
 joined_next sep (y ∷ ys) (suc i) x h e = rw (add-one, later i) (sym (ap (λ z. y ++ z) (preceded_next sep ys i x (omega arith) e) ∙ simp append_assoc))
+
+-- the first text stands alone, a later one behind the separator
+pub joined_first : (sep : List ℕ) (xs : List (List ℕ)) (i : ℕ) (x : List ℕ) → i < length xs → x ≡ get_or xs i x → i ≡ 0 → joined sep (take i xs) ++ x ≡ joined sep (take (i + 1) xs)
+joined_first sep xs i x h e none = sym (ap (λ (b : Bool). joined sep (take i xs) ++ (cond b [] sep ++ x)) (tags_same i 0 none)) ∙ joined_next sep xs i x h e
+
+pub joined_more : (sep : List ℕ) (xs : List (List ℕ)) (i : ℕ) (x : List ℕ) → i < length xs → x ≡ get_or xs i x → 0 < i → joined sep (take i xs) ++ (sep ++ x) ≡ joined sep (take (i + 1) xs)
+joined_more sep xs i x h e some = sym (ap (λ (b : Bool). joined sep (take i xs) ++ (cond b [] sep ++ x)) (tags_differ i 0 (λ z. absurd (omega (arith, z))))) ∙ joined_next sep xs i x h e
+
+-- a name, a tag and a type, put together
+pub tagged_text : (n t : List ℕ) (g : ℕ) (b k : Bool) → b ≡ k → (n ++ (tag_text b g ++ codes "=")) ++ t ≡ n ++ (tag_text k g ++ (codes "=" ++ t))
+tagged_text n t g b k e =
+    ap (λ (c : Bool). (n ++ (tag_text c g ++ codes "=")) ++ t) e ∙ append_assoc n (tag_text k g ++ codes "=") t ∙ ap (λ (z : List ℕ). n ++ z) (append_assoc (tag_text k g) (codes "=") t)
 
 -- ---- the text of the field, and of the variant, at a place
 

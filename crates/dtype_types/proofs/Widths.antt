@@ -1,7 +1,11 @@
 -- Widths of a list of one length, and of a struct with one more field behind its fields.
-use Rattle.std.proofs.Common.{◌≡◌, ◌⊎◌, ℕ, zero, suc, ◌+◌, ◌*◌, ◌^◌, ◌<◌, ◌≤◌, List, [], ◌∷◌, ◌++◌, take, refl, sym, ap, ◌∙◌, inl, inr, arith, add_assoc}
+use Rattle.std.proofs.Common.{◌≡◌, ◌⊎◌, ℕ, zero, suc, ◌+◌, ◌*◌, ◌^◌, ◌<◌, ◌≤◌, List, [], ◌∷◌, ◌++◌, length, map, get_or, take, refl, sym, ap, ◌∙◌, inl, inr, arith, add_assoc}
+use Rattle.std.proofs.lemmas.List.{get_or-map, length-map, take_more}
 use Rattle.dtype_base.specs.declared.nullability.Nullability.{Nullability}
-use Rattle.dtype_types.specs.Tree.{Tree, fields, fixed_size_list, struct}
+use Rattle.dtype_types.specs.Tree.{Tree, fields, fixed_size_list, null, struct}
+use Rattle.dtype_types.specs.TreeOf.{tree}
+use Rattle.dtype_types.specs.Lookups.{field_types}
+use Rattle.dtype_types.specs.declared.dtype.DType.{DType}
 use Rattle.dtype_types.specs.Width.{Fixed, FixedFields, width, total_width, Part, FieldPart, HasWidePart}
 
 push_fixed : (ps : List (List ℕ × Tree)) (p : List ℕ × Tree) → FixedFields (fields ps) → Fixed p.1 → FixedFields (fields (ps ++ p ∷ []))
@@ -77,3 +81,15 @@ at_least x y h = omega arith
 
 pub wide_list : (t : Tree) (k bytes : ℕ) (n : Nullability) → bytes ≡ width t → ¬ (bytes * k < 2 ^ 64) → HasWidePart (fixed_size_list t k n)
 wide_list t k bytes n e h = (fixed_size_list t k n, inl refl, omega (arith, at_least _ _ h, ap (λ w. w * k) e))
+
+-- ---- one more field
+
+pub next_field : (ps : List (List ℕ × Tree)) (ds : List DType) (i : ℕ) (d : DType) → map tree ds ≡ field_types ps → i < length ds → d ≡ get_or ds i d
+    → (p : List ℕ × Tree) × (tree d ≡ p.1) × (take i ps ++ p ∷ [] ≡ take (i + 1) ps)
+next_field ps ds i d same h e =
+    let first : List ℕ × Tree = ([], null) in
+    let within : i < length ps = omega (arith, h, length-map ds tree, length-map ps (λ (q : List ℕ × Tree). q.1), ap length same) in (
+      get_or ps i first,
+      ap tree e ∙ sym (get_or-map tree ds i d (tree d) h) ∙ ap (λ ts. get_or ts i (tree d)) same ∙ get_or-map (λ (q : List ℕ × Tree). q.1) ps i first (tree d) within,
+      sym (take_more ps i first within),
+    )

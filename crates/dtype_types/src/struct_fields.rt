@@ -1,4 +1,4 @@
-ghost use Rattle.std.specs.Prelude.{◌≡◌, ◌↔◌, IsTrue, ◌≤◌, ◌<◌, ◌++◌, ◌∷◌, ℕ, List, [], slice_index_or, length, map, remove, vec_len, All, IfOk, IfErr, IfSome, IsOk, IsOkUnless, slice_get, IfNone, Some, fold, OnOk, string_bytes, option_and_then};
+ghost use Rattle.std.specs.Prelude.{◌≡◌, ◌↔◌, IsTrue, ◌≤◌, ◌<◌, ◌++◌, ◌∷◌, ℕ, List, [], slice_index_or, length, map, remove, take, vec_len, All, IfOk, IfErr, IfSome, IsOk, IsOkUnless, slice_get, IfNone, Some, fold, OnOk, string_bytes, option_and_then};
 ghost use Rattle.std.specs.Iterator.{IsFinite};
 ghost use Rattle.std.specs.List.{AllByRecursion};
 ghost use Rattle.std.specs.Option.{option_copied};
@@ -9,7 +9,6 @@ ghost use Rattle.dtype_base.specs.declared.vortex_error.VortexError.TheVariants.
 use crate::dtype::equality::{Nullabilities, agree};
 use crate::dtype::hash::{Hashed, feed};
 use crate::dtype::indented_text::{last_line, line_end};
-use crate::dtype::text::separator;
 use crate::dtype::width::Width;
 use crate::field_dtype::into_dtypes;
 use crate::fields_builder::FieldsBuilder;
@@ -209,6 +208,7 @@ impl StructFields {
 
     // The types that have a name, which are all of them in every struct that is made.
     fn paired_dtypes(&self) -> &[DType]
+        ensures lent { result.now ≡ take (length (children self.now)) (struct_dtypes self.now) }
         ensures all { map tree result.now ≡ field_types (children self.now) }
         ensures valid { IsValidStruct self.now → All IsValid result.now }
     {
@@ -255,9 +255,7 @@ impl StructFields {
         ensures { MeasuresFields result (children self.now) }
     {
         let mut total = Width::Bytes(0);
-        let dtypes = self.dtypes();
-        for i in 0..self.count() {
-            let dtype = &dtypes[i];
+        for dtype in self.paired_dtypes() {
             total = total.plus(dtype.width());
             if let Width::Variable = total {
                 return Width::Variable;
@@ -497,8 +495,10 @@ impl fmt::Display for StructFields {
         for i in 0..count {
             let name = &names[i];
             let dtype = &dtypes[i];
-            let separator = separator(i);
-            write!(f, "{separator}{name}=")?;
+            if i > 0 {
+                f.write_str(", ")?;
+            }
+            write!(f, "{name}=")?;
             dtype.fmt(f)?;
         }
         write!(f, "}}")

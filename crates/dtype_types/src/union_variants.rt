@@ -6,7 +6,6 @@ ghost use Rattle.dtype_types.specs.Unions.{HasUnionLengths, MakesUnion, UnionRef
 
 use crate::dtype::equality::{Nullabilities, agree};
 use crate::dtype::hash::{Hashed, feed};
-use crate::dtype::text::separator;
 use crate::{DType, DTypeIter};
 use dtype_base::{FieldNames, VortexError, VortexResult};
 use std::alloc::Global;
@@ -414,12 +413,14 @@ impl fmt::Display for UnionVariants {
         for i in 0..count {
             let name = &names[i];
             let dtype = &dtypes[i];
-            let separator = separator(i);
             let tag = TagText {
                 tag: tags[i],
                 consecutive,
             };
-            write!(f, "{separator}{name}{tag}=")?;
+            if i > 0 {
+                f.write_str(", ")?;
+            }
+            write!(f, "{name}{tag}=")?;
             dtype.fmt(f)?;
         }
         Ok(())

@@ -1,12 +1,12 @@
 // Equality of types and their order by nullability: one walk over two types, with the nullabilities
 // compared, ignored, or those of the first within those of the second.
 ghost use Rattle.std.specs.Prelude.{◌≡◌, ◌↔◌, IsTrue};
-ghost use Rattle.dtype_types.specs.Equality.{agree, allows, same_ptype};
+ghost use Rattle.dtype_types.specs.Equality.{agree, allows};
 ghost use Rattle.dtype_types.specs.Erase.{erase};
 ghost use Rattle.dtype_types.specs.TreeOf.{tree};
 
 use crate::DType;
-use dtype_base::{Nullability, PType};
+use dtype_base::Nullability;
 
 // How the nullabilities at the same place of two types have to stand to one another.
 #[derive(Clone, Copy)]
@@ -30,12 +30,6 @@ impl Nullabilities {
     }
 }
 
-fn same_ptype(one: PType, other: PType) -> bool
-    ensures { result ≡ same_ptype one other }
-{
-    one == other
-}
-
 // Whether the types are equal but for nullabilities, and those stand to one another as the rule says.
 #[cycle(agree)]
 #[tactic(auto, using(crate::proofs::OtherKinds::other_kinds, crate::proofs::OtherKinds::agreements))]
@@ -52,7 +46,7 @@ pub(crate) fn agree(a: &DType, b: &DType, rule: Nullabilities) -> bool
             _ => false,
         },
         DType::Primitive(p, m) => match b {
-            DType::Primitive(q, n) => same_ptype(*p, *q) && rule.allow(*m, *n),
+            DType::Primitive(q, n) => *p == *q && rule.allow(*m, *n),
             _ => false,
         },
         DType::Decimal(p, m) => match b {

@@ -1,11 +1,10 @@
 // Hashes of types: one walk that feeds a hasher, with the nullabilities or without them.
 ghost use Rattle.std.specs.Prelude.{◌≡◌, fold};
-ghost use Rattle.dtype_base.specs.Primitives.{primitive};
 ghost use Rattle.dtype_types.specs.Hashes.{hash_of, nullability_writes, writes_ignoring_nullability};
 ghost use Rattle.dtype_types.specs.TreeOf.{tree};
 
 use crate::DType;
-use dtype_base::{Nullability, PType};
+use dtype_base::Nullability;
 use std::hash::{Hash, Hasher};
 
 // What of a type a hasher is fed: all of it, or the type with every nullability forgotten.
@@ -30,13 +29,6 @@ impl Hashed {
     }
 }
 
-// The number of the name: 0 to 10.
-fn ptype_number(ptype: PType) -> u8
-    ensures { result ≡ (primitive ptype).number }
-{
-    ptype as u8
-}
-
 // Feeds a hasher the type.
 #[cycle(hash)]
 pub(crate) fn feed<H: Hasher>(dtype: &DType, rule: Hashed, state: &mut H)
@@ -47,7 +39,7 @@ pub(crate) fn feed<H: Hasher>(dtype: &DType, rule: Hashed, state: &mut H)
         DType::Null => {}
         DType::Bool(n) => rule.feed(*n, state),
         DType::Primitive(ptype, n) => {
-            state.write_u8(ptype_number(*ptype));
+            state.write_u8(*ptype as u8);
             rule.feed(*n, state);
         }
         DType::Decimal(decimal, n) => {

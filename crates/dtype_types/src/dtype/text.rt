@@ -1,5 +1,5 @@
 // The text of a type.
-ghost use Rattle.std.specs.Prelude.{◌≡◌, ◌==◌, [], Some, codes, if◌then◌else◌};
+ghost use Rattle.std.specs.Prelude.{Some};
 
 use crate::DType;
 use std::fmt;
@@ -47,11 +47,4 @@ impl fmt::Display for DType {
             DType::Extension(extension) => extension.fmt(f),
         }
     }
-}
-
-// What stands before the part at this place: nothing at the first, a comma and a space at the others.
-pub(crate) fn separator(i: usize) -> &'static str
-    ensures { result.now ≡ (if i == 0 then [] else codes ", ") }
-{
-    if i == 0 { "" } else { ", " }
 }

@@ -1,9 +1,8 @@
 -- Indented texts in the form in which they are written.
-use Rattle.std.proofs.Common.{◌≡◌, ℕ, zero, suc, ◌<◌, ◌==◌, List, [], ◌∷◌, ◌++◌, codes, length, get_or, cond, refl, sym, ap, ◌∙◌, arith, append_assoc}
+use Rattle.std.proofs.Common.{◌≡◌, ℕ, zero, suc, ◌<◌, List, [], ◌∷◌, ◌++◌, codes, length, get_or, refl, sym, ap, ◌∙◌, arith, append_assoc}
 use Rattle.dtype_base.specs.Escapes.{escaped}
 use Rattle.dtype_base.specs.Nullability.{nullability_text}
 use Rattle.dtype_base.specs.declared.nullability.Nullability.{Nullability}
-use Rattle.dtype_types.proofs.Texts.{later}
 use Rattle.dtype_types.proofs.TreeLaws.{tree_struct}
 use Rattle.dtype_types.specs.IndentedText.{indented, indented_fields, indented_braces, last_line}
 use Rattle.dtype_types.specs.Text.{joined}
@@ -26,9 +25,14 @@ indented_field_at indent [] i p h e = absurd (omega arith)
 indented_field_at indent (q ∷ ps) zero p h e = ap (λ (r : List ℕ × Tree). indent ++ (escaped r.0 ++ (codes "=" ++ indented indent r.1))) e
 indented_field_at indent (q ∷ ps) (suc i) p h e = indented_field_at indent ps i p (omega arith) e
 
-pub last_line_of : (ps : List (List ℕ × Tree)) → cond (length ps == 0) [] (codes "\n") ≡ last_line (fields ps)
-last_line_of [] = refl
-last_line_of (p ∷ ps) = ap (λ b. cond b [] (codes "\n")) (later (length ps))
+-- the last line ends where there are fields
+pub ends_some : (ps : List (List ℕ × Tree)) → 0 < length ps → codes "\n" ≡ last_line (fields ps)
+ends_some [] h = absurd (omega arith)
+ends_some (p ∷ ps) h = refl
+
+pub ends_none : (ps : List (List ℕ × Tree)) → length ps ≡ 0 → [] ≡ last_line (fields ps)
+ends_none [] h = refl
+ends_none (p ∷ ps) h = absurd (omega arith)
 
 -- all that is written of fields, put together
 pub braces_of : (before indent : List ℕ) (ps : List (List ℕ × Tree)) (parts : List (List ℕ)) (last : List ℕ) → parts ≡ indented_fields (indent ++ codes "  ") (fields ps) → last ≡ last_line (fields ps)
@@ -36,5 +40,8 @@ pub braces_of : (before indent : List ℕ) (ps : List (List ℕ × Tree)) (parts
 unfolding indented_braces
 braces_of before indent ps parts last e f = simp append_assoc (ap (λ xs. before ++ (codes "{\n" ++ (joined (codes ",\n") xs ++ (last ++ (indent ++ codes "}"))))) e ∙ ap (λ l. before ++ (codes "{\n" ++ (joined (codes ",\n") (indented_fields (indent ++ codes "  ") (fields ps)) ++ (l ++ (indent ++ codes "}"))))) f)
 
-pub regroup : (a b c d e t : List ℕ) → (a ++ (b ++ (c ++ (d ++ e)))) ++ t ≡ a ++ (b ++ (c ++ (d ++ (e ++ t))))
-regroup a b c d e t = simp append_assoc
+pub regroup : (a b c d t : List ℕ) → (a ++ (b ++ (c ++ d))) ++ t ≡ a ++ (b ++ (c ++ (d ++ t)))
+regroup a b c d t = simp append_assoc
+
+pub separated : (a b c d : List ℕ) → ((a ++ b) ++ c) ++ d ≡ a ++ (b ++ (c ++ d))
+separated a b c d = simp append_assoc

@@ -5,10 +5,10 @@ mod conversions;
 pub(crate) mod copies;
 pub(crate) mod equality;
 pub(crate) mod hash;
-pub(crate) mod indented_text;
+mod indented_text;
 mod kinds;
 mod nullability;
-pub(crate) mod text;
+mod text;
 pub(crate) mod width;
 
 use crate::{ExtDTypeRef, MapDType, StructFields, UnionVariants};

@@ -8,7 +8,6 @@ ghost use Rattle.dtype_base.specs.declared.vortex_error.VortexError.TheVariants.
 
 use crate::dtype::equality::{Nullabilities, agree};
 use crate::dtype::hash::{Hashed, feed};
-use crate::dtype::indented_text::{last_line, line_end};
 use crate::dtype::width::Width;
 use crate::field_dtype::into_dtypes;
 use crate::fields_builder::FieldsBuilder;
@@ -418,14 +417,18 @@ impl StructFields {
         let dtypes = self.dtypes();
         out.push_str("{\n")?;
         for i in 0..count {
-            let line_end = line_end(i);
             let name = &names[i];
             let dtype = &dtypes[i];
-            write!(out, "{line_end}{inner}{name}=")?;
+            if i > 0 {
+                out.push_str(",\n")?;
+            }
+            write!(out, "{inner}{name}=")?;
             dtype.write_indented(alloc, out, inner.as_str())?;
         }
-        let last_line = last_line(count);
-        write!(out, "{last_line}{indent}}}")?;
+        if count > 0 {
+            out.push_str("\n")?;
+        }
+        write!(out, "{indent}}}")?;
         Ok(())
     }
 

@@ -1,5 +1,5 @@
 // The indented text of a type, written behind what a text holds.
-ghost use Rattle.std.specs.Prelude.{◌≡◌, ◌++◌, ◌==◌, [], codes, OnOk, IsOkUnless, string_bytes, if◌then◌else◌};
+ghost use Rattle.std.specs.Prelude.{◌≡◌, ◌++◌, OnOk, IsOkUnless, string_bytes};
 ghost use Rattle.dtype_base.specs.declared.vortex_error.VortexError.TheVariants.{OutOfMemory};
 ghost use Rattle.dtype_types.specs.IndentedText.{indented};
 ghost use Rattle.dtype_types.specs.TreeOf.{tree};
@@ -7,20 +7,6 @@ ghost use Rattle.dtype_types.specs.TreeOf.{tree};
 use crate::DType;
 use dtype_base::VortexResult;
 use std::alloc::Global;
-
-// What stands before the field at this place: nothing at the first, a comma and a new line at the others.
-pub(crate) fn line_end(i: usize) -> &'static str
-    ensures { result.now ≡ (if i == 0 then [] else codes ",\n") }
-{
-    if i == 0 { "" } else { ",\n" }
-}
-
-// What ends the last field's line, where there are fields.
-pub(crate) fn last_line(count: usize) -> &'static str
-    ensures { result.now ≡ (if count == 0 then [] else codes "\n") }
-{
-    if count == 0 { "" } else { "\n" }
-}
 
 impl DType {
     // A struct over several lines, a list with its element so, every other type on one line.

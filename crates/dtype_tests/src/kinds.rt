@@ -53,20 +53,25 @@ fn each_kind_equals_its_copy_alone(rt: HostRuntime) -> Result<(), Fail> {
     Ok(())
 }
 
-// What the type is made nullable, and back.
-fn is_set(rt: &impl Abort, alloc: Global, dtype: &DType, made: &DType) -> VortexResult<()> {
+// That the type was made nullable, and is made what it was.
+fn is_made_back(rt: &impl Abort, alloc: Global, dtype: &DType, made: &DType) -> VortexResult<()> {
     assert!(rt; !dtype.is_nullable() && made.is_nullable() && made.can_be_nonnullable());
     assert!(rt; made.eq_ignore_nullability(dtype));
-    assert!(rt; dtype.as_nullable(alloc)? == *made);
     assert!(rt; made.as_nonnullable(alloc)? == *dtype);
+    assert!(rt; made.with_nullability(alloc, NonNullable)? == *dtype);
     Ok(())
 }
 
-// What it is with the union of its nullability and another.
-fn is_joined(rt: &impl Abort, alloc: Global, dtype: &DType, made: &DType) -> VortexResult<()> {
+// That the type is made nullable by its other calls too.
+fn is_made_nullable(
+    rt: &impl Abort,
+    alloc: Global,
+    dtype: &DType,
+    made: &DType,
+) -> VortexResult<()> {
     assert!(rt; dtype.union_nullability(alloc, Nullable)? == *made);
     assert!(rt; dtype.union_nullability(alloc, NonNullable)? == *dtype);
-    assert!(rt; made.with_nullability(alloc, NonNullable)? == *dtype);
+    assert!(rt; dtype.as_nullable(alloc)? == *made);
     Ok(())
 }
 
@@ -77,8 +82,8 @@ fn each_kind_is_made_nullable_and_back(rt: HostRuntime) -> Result<(), Fail> {
     for (dtype, text) in kinds(alloc, NonNullable)?.iter().zip(texts.iter()) {
         let made = dtype.with_nullability(alloc, Nullable)?;
         assert!(rt; is_printed(alloc, &made, text)?, "{made}");
-        is_set(&rt, alloc, dtype, &made)?;
-        is_joined(&rt, alloc, dtype, &made)?;
+        is_made_back(&rt, alloc, dtype, &made)?;
+        is_made_nullable(&rt, alloc, dtype, &made)?;
     }
     Ok(())
 }

@@ -1,3 +1,4 @@
+pub mod JoinedTexts
 pub mod EscapedChars
 pub mod BitWidths
 pub mod Places

@@ -1,6 +1,6 @@
 -- Lists of names, a name being the bytes of its text. From the documentation of `FieldNames`.
-use Rattle.std.specs.Prelude.{◌≡◌, ◌≢◌, ℕ, ◌<◌, List, [], ◌∷◌, ◌++◌, Option, Some, slice_get, codes}
-use Rattle.std.specs.List.{flat_map, position}
+use Rattle.std.specs.Prelude.{◌≡◌, ◌≢◌, ℕ, ◌<◌, List, ◌++◌, Option, Some, slice_get, codes}
+use Rattle.std.specs.List.{join_by, position}
 use Rattle.std.specs.Str.{bytes_eq}
 use Rattle.dtype_base.specs.Escapes.{escaped}
 
@@ -21,11 +21,6 @@ first_place names n = position (λ m. bytes_eq m n) names
 abbrev pub quoted : List ℕ → List ℕ
 quoted n = codes "\"" ++ (escaped n ++ codes "\"")
 
--- each name in quotes behind a comma
-abbrev pub later_names : List (List ℕ) → List ℕ
-later_names = flat_map (λ n. codes ", " ++ quoted n)
-
--- as `["a", "b"]`
+-- the names in quotes, joined by commas, as `["a", "b"]`
 abbrev pub names_text : List (List ℕ) → List ℕ
-names_text [] = codes "[]"
-names_text (n ∷ ns) = codes "[" ++ (quoted n ++ (later_names ns ++ codes "]"))
+names_text names = codes "[" ++ (join_by quoted (codes ", ") names ++ codes "]")

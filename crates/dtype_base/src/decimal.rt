@@ -34,9 +34,9 @@ impl Model for DecimalDType {
 }
 
 impl DecimalDType {
-    /// The decimal type of this precision and scale. Refuses, in this order, a precision of 0
-    /// (PrecisionZero, 1) or above 76 (PrecisionTooLarge, 2), and a scale above 76 (ScaleTooLarge, 3)
-    /// or above the precision (ScaleAbovePrecision, 4). Every negative scale is taken.
+    /// The decimal type of this precision and scale. Refuses, in this order, 1 (PrecisionZero) a
+    /// precision of 0, 2 (PrecisionTooLarge) one above 76, 3 (ScaleTooLarge) a scale above 76, and 4
+    /// (ScaleAbovePrecision) one above the precision. Every negative scale is taken.
     pub fn try_new(precision: u8, scale: i8) -> VortexResult<Self>
         ensures ok { IfOk result (λ d. (d.precision ≡ precision) × (d.scale ≡ scale)) }
         ensures valid { IsOk result ↔ IsDecimalWithin 76 precision scale }
@@ -98,8 +98,8 @@ impl fmt::Display for DecimalDType {
 }
 
 /// Tests what a decimal type has to meet whose greatest precision and scale are `max`. Refuses, in this
-/// order, a precision of 0 (PrecisionZero, 1) or above `max` (PrecisionTooLarge, 2), and a scale above
-/// `max` (ScaleTooLarge, 3) or above the precision (ScaleAbovePrecision, 4).
+/// order, 1 (PrecisionZero) a precision of 0, 2 (PrecisionTooLarge) one above `max`, 3 (ScaleTooLarge) a
+/// scale above `max`, and 4 (ScaleAbovePrecision) one above the precision.
 pub fn check_precision_and_scale(precision: u8, scale: i8, max: u8) -> VortexResult<()>
     requires { max < 128 }
     ensures valid { IsOk result ↔ IsDecimalWithin max precision scale }

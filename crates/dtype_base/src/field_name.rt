@@ -24,7 +24,7 @@ impl Model for FieldName {
 }
 
 impl FieldName {
-    /// The name with this text. Refuses 0 alone.
+    /// The name with this text. Refuses 0 (OutOfMemory) alone.
     pub fn new(alloc: Global, text: &str) -> VortexResult<Self>
         ensures ok { IfOk result (λ n. n ≡ text.now) }
         ensures refused { IsOkUnless result OutOfMemory }
@@ -62,7 +62,7 @@ impl FieldName {
         self.inner.as_str()
     }
 
-    /// A copy of the text, not escaped. Refuses 0 alone.
+    /// A copy of the text, not escaped. Refuses 0 (OutOfMemory) alone.
     pub fn to_text(&self, alloc: Global) -> VortexResult<String>
         ensures ok { IfOk result (λ s. string_bytes s ≡ self.now) }
         ensures refused { IsOkUnless result OutOfMemory }
@@ -77,7 +77,7 @@ impl FieldName {
         self.as_str() == text
     }
 
-    /// A name with the same text, which the two share. Refuses 0 alone.
+    /// A name with the same text, which the two share. Refuses 0 (OutOfMemory) alone.
     pub fn try_clone(&self, _alloc: Global) -> VortexResult<Self>
         ensures ok { IfOk result (λ n. n ≡ self.now) }
         ensures refused { IsOkUnless result OutOfMemory }

@@ -41,7 +41,7 @@ impl FieldNames {
         FieldNames { items: names }
     }
 
-    /// The names with these texts, in order. Refuses 0 alone.
+    /// The names with these texts, in order. Refuses 0 (OutOfMemory) alone.
     pub fn from_texts(alloc: Global, texts: &[&str]) -> VortexResult<Self>
         ensures ok { IfOk result (λ n. n ≡ map (λ t. t.now) texts.now) }
         ensures refused { IsOkUnless result OutOfMemory }
@@ -53,7 +53,7 @@ impl FieldNames {
         Ok(FieldNames { items })
     }
 
-    /// The names that an iterator gives, in order. Refuses 0 alone.
+    /// The names that an iterator gives, in order. Refuses 0 (OutOfMemory) alone.
     pub fn from_iter<I: IntoIterator<Item = FieldName>>(
         alloc: Global,
         names: I,
@@ -150,7 +150,7 @@ impl FieldNames {
         self.items.as_slice()
     }
 
-    /// A list of the same names, which share their texts. Refuses 0 alone.
+    /// A list of the same names, which share their texts. Refuses 0 (OutOfMemory) alone.
     pub fn try_clone(&self, alloc: Global) -> VortexResult<Self>
         ensures ok { IfOk result (λ n. n ≡ self.now) }
         ensures refused { IsOkUnless result OutOfMemory }
@@ -240,26 +240,13 @@ impl fmt::Display for FieldNames {
     ghost output = { λ names. Some (names_text names) };
 
     fn fmt<W: fmt::Write>(&self, f: &mut fmt::Formatter<W>) -> fmt::Result {
-        match self.items.split_first() {
-            None => write!(f, "[]"),
-            Some((first, rest)) => write!(f, "[\"{first}\"{}]", LaterNames(rest)),
+        f.write_str("[")?;
+        for (i, name) in self.items.as_slice().iter().enumerate() {
+            if i > 0 {
+                f.write_str(", ")?;
+            }
+            write!(f, "\"{name}\"")?;
         }
-    }
-}
-
-/// The names behind the first, as they are printed.
-#[derive(Clone, Copy)]
-struct LaterNames<'a>(&'a [FieldName]);
-
-impl fmt::Display for LaterNames<'_> {
-    ghost use Rattle.dtype_base.specs.FieldNames.{later_names};
-
-    ghost output = { λ names. Some (later_names names.0.now) };
-
-    fn fmt<W: fmt::Write>(&self, f: &mut fmt::Formatter<W>) -> fmt::Result {
-        for name in self.0 {
-            write!(f, ", \"{name}\"")?;
-        }
-        Ok(())
+        f.write_str("]")
     }
 }

@@ -28,7 +28,7 @@ impl Model for IndexedNames {
 }
 
 impl IndexedNames {
-    /// These names, with their index. Refuses 0 alone.
+    /// These names, with their index. Refuses 0 (OutOfMemory) alone.
     pub fn new(alloc: Global, names: FieldNames) -> VortexResult<Self>
         ensures ok { IfOk result (λ n. n ≡ names) }
         ensures refused { IsOkUnless result OutOfMemory }

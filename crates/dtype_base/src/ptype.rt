@@ -22,7 +22,7 @@ pub enum PType {
 const F16_MAX: u64 = 65504;
 
 impl PType {
-    ghost use Rattle.dtype_base.specs.Primitives.{primitive, IsUnsigned, IsSigned, IsInteger, IsFloat, HoldsUnsigned, HoldsSigned, IsNarrowest, narrowest_unsigned, wider};
+    ghost use Rattle.dtype_base.specs.Primitives.{primitive, IsUnsigned, IsSigned, IsInteger, IsFloat, HoldsUnsigned, HoldsSigned, IsNarrowest, narrowest_signed, narrowest_unsigned, wider};
     ghost use Rattle.dtype_base.specs.Primitives.Kind.{Unsigned, Signed};
 
     /// Whether values are unsigned integers.
@@ -143,7 +143,8 @@ impl PType {
 
     /// The narrowest signed integer that holds the value.
     pub fn min_signed_ptype_for_value(value: i64) -> PType
-        ensures { IsNarrowest Signed (HoldsSigned value) result }
+        ensures first { narrowest_signed value ≡ Some result }
+        ensures narrowest { IsNarrowest Signed (HoldsSigned value) result }
     {
         if i64::from(i8::MIN) <= value && value <= i64::from(i8::MAX) {
             PType::I8

@@ -1,8 +1,9 @@
 // Types and names that the calls are made with.
 ghost use Rattle.std.specs.Prelude.{◌≡◌, length, IfOk};
 
-use dtype_base::{FieldName, FieldNames, Nullability, PType, VortexResult};
-use dtype_types::{DType, ExtDTypeRef, ExtId, FieldDType, MapDType, StructFields, UnionVariants};
+use dtype_base::{FieldNames, Nullability, PType, VortexResult};
+use dtype_fixtures::field;
+use dtype_types::{DType, ExtDTypeRef, ExtId, MapDType, StructFields, UnionVariants};
 use std::alloc::Global;
 
 pub const REQUIRED: Nullability = Nullability::NonNullable;
@@ -24,11 +25,6 @@ pub fn two_types(alloc: Global) -> VortexResult<Vec<DType>>
     ensures { IfOk result (λ v. length v.items ≡ 2) }
 {
     Ok(vec![in alloc; byte(), list(alloc)?]?)
-}
-
-// A field of this name and type.
-pub fn field(alloc: Global, name: &str, dtype: DType) -> VortexResult<(FieldName, FieldDType)> {
-    Ok((FieldName::new(alloc, name)?, FieldDType::from(dtype)))
 }
 
 // `{a=u8, b=list(utf8?)}`

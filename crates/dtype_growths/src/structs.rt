@@ -1,9 +1,10 @@
 // The calls of structs that take memory.
 
-use crate::fixtures::{REQUIRED, byte, field, list, two_fields, two_types};
+use crate::fixtures::{REQUIRED, byte, list, two_fields, two_types};
 use crate::report::{answered, answered_in_one_line, begin};
 use anyhow::Result;
 use dtype_base::FieldNames;
+use dtype_fixtures::field;
 use dtype_types::{DType, FieldDType, StructFields};
 
 // Makes the call of this name, if it is one of these.

@@ -1,5 +1,7 @@
-use crate::fixtures::is_printed;
-use dtype_base::{DecimalDType, DecimalType, PType, VortexError};
+use dtype_base::{DecimalDType, DecimalType, PType, VortexError, VortexResult};
+use dtype_fixtures::is_printed;
+use std::alloc::Global;
+use std::process::Abort;
 use std::test::Fail;
 
 #[test]
@@ -20,18 +22,35 @@ fn decimals_are_refused_in_order(rt: HostRuntime) {
     }
 }
 
+// That the decimal of these parts is made, has them, and is printed so.
+fn is_taken(rt: &impl Abort, alloc: Global, parts: (u8, i8), text: &str) -> VortexResult<()> {
+    let decimal = DecimalDType::try_new(parts.0, parts.1)?;
+    assert_eq!(rt; (decimal.precision(), decimal.scale()), parts);
+    assert!(rt; is_printed(alloc, &decimal, text)?, "{decimal}");
+    Ok(())
+}
+
 #[test]
 fn decimals_are_taken(rt: HostRuntime) -> Result<(), Fail> {
-    for (precision, scale, text) in [
-        (5, 5, "decimal(5,5)"),
-        (5, -128, "decimal(5,-128)"),
-        (76, 76, "decimal(76,76)"),
-        (10, -5, "decimal(10,-5)"),
-    ] {
-        let decimal = DecimalDType::try_new(precision, scale)?;
-        assert_eq!(rt; (decimal.precision(), decimal.scale()), (precision, scale));
-        assert!(rt; is_printed(rt.alloc(), &decimal, text)?, "{decimal}");
-    }
+    let alloc = rt.alloc();
+    is_taken(&rt, alloc, (5, 5), "decimal(5,5)")?;
+    is_taken(&rt, alloc, (5, -128), "decimal(5,-128)")?;
+    is_taken(&rt, alloc, (76, 76), "decimal(76,76)")?;
+    is_taken(&rt, alloc, (10, -5), "decimal(10,-5)")?;
+    Ok(())
+}
+
+// That the decimal of this precision takes so many bits, and which values store it.
+fn is_stored(
+    rt: &impl Abort,
+    precision: u8,
+    bits: usize,
+    storage: DecimalType,
+) -> VortexResult<()> {
+    let decimal = DecimalDType::try_new(precision, 0)?;
+    assert_eq!(rt; decimal.required_bit_width(), bits);
+    assert_eq!(rt; DecimalType::smallest_decimal_value_type(&decimal), storage);
+    assert!(rt; storage.is_compatible_decimal_value_type(decimal));
     Ok(())
 }
 
@@ -48,10 +67,7 @@ fn decimals_have_bit_widths_and_storage(rt: HostRuntime) -> Result<(), Fail> {
         (39, 130, DecimalType::I256),
         (76, 253, DecimalType::I256),
     ] {
-        let decimal = DecimalDType::try_new(precision, 0)?;
-        assert_eq!(rt; decimal.required_bit_width(), bits);
-        assert_eq!(rt; DecimalType::smallest_decimal_value_type(&decimal), storage);
-        assert!(rt; storage.is_compatible_decimal_value_type(decimal));
+        is_stored(&rt, precision, bits, storage)?;
     }
     Ok(())
 }

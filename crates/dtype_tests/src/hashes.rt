@@ -1,5 +1,5 @@
-use crate::fixtures::{fixed_size_list, hash_of};
 use dtype_base::{DecimalDType, FieldNames, Nullability, PType, VortexResult};
+use dtype_fixtures::{fixed_size_list, hash_of};
 use dtype_types::{DType, ExtDTypeRef, ExtId, FieldDType, MapDType, StructFields, UnionVariants};
 use std::alloc::Global;
 use std::hash::{DefaultHasher, Hasher};

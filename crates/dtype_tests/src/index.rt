@@ -1,19 +1,10 @@
 // Lookups of names in structs.
-use dtype_base::{FieldName, FieldNames, IndexedNames, Nullability, VortexResult};
+use dtype_base::{FieldName, FieldNames, IndexedNames, VortexResult};
+use dtype_fixtures::booleans;
 use dtype_types::{DType, FieldDType, StructFields};
 use std::alloc::Global;
 use std::process::Abort;
 use std::test::Fail;
-
-// Fields with these names, each of a boolean.
-fn booleans(alloc: Global, names: &[&str]) -> VortexResult<StructFields> {
-    let mut fields = Vec::new(alloc);
-    for name in names {
-        let dtype = DType::Bool(Nullability::NonNullable);
-        fields.push((FieldName::new(alloc, name)?, FieldDType::from(dtype)))?;
-    }
-    StructFields::from_iter(alloc, fields)
-}
 
 fn finds_the_first(rt: &impl Abort, fields: &StructFields, a: usize, b: usize) {
     assert_eq!(rt; fields.find("a"), Some(a));

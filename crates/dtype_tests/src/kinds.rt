@@ -1,6 +1,6 @@
-use crate::fixtures::{extension, is_printed, kind_texts, kinds};
 use dtype_base::Nullability::{NonNullable, Nullable};
 use dtype_base::{DecimalDType, PType, VortexError, VortexResult};
+use dtype_fixtures::{extension, is_printed, kind_texts, kinds};
 use dtype_types::{DType, MapDType};
 use std::alloc::Global;
 use std::process::Abort;

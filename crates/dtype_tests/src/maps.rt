@@ -1,6 +1,6 @@
-use crate::fixtures::is_printed;
 use dtype_base::Nullability::{NonNullable, Nullable};
 use dtype_base::PType;
+use dtype_fixtures::is_printed;
 use dtype_types::{DType, MapDType};
 use std::test::Fail;
 

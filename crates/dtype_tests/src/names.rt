@@ -1,5 +1,5 @@
-use crate::fixtures::is_printed;
 use dtype_base::{FieldName, FieldNames, RESERVED_VALIDITY_FIELD_NAME};
+use dtype_fixtures::is_printed;
 use std::collections::HashSet;
 use std::process::Abort;
 use std::rc::RcStr;

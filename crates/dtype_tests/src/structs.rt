@@ -1,6 +1,6 @@
-use crate::fixtures::{booleans, field, fixed_size_list, is_printed, primitive};
 use dtype_base::Nullability::{NonNullable, Nullable};
 use dtype_base::{FieldName, FieldNames, PType, VortexError, VortexResult};
+use dtype_fixtures::{booleans, field, fixed_size_list, is_printed, primitive};
 use dtype_types::{DType, FieldDType, StructFields};
 use std::alloc::Global;
 use std::process::Abort;

@@ -1,6 +1,6 @@
-use crate::fixtures::is_printed;
 use dtype_base::Nullability::{NonNullable, Nullable};
 use dtype_base::{FieldName, FieldNames, PType, VortexResult};
+use dtype_fixtures::is_printed;
 use dtype_types::{DType, UnionVariants};
 use std::alloc::Global;
 use std::process::Abort;

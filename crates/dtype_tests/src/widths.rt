@@ -1,5 +1,5 @@
-use crate::fixtures::{extension, field, fixed_size_list};
 use dtype_base::{DecimalDType, Nullability, PType, VortexError, VortexResult};
+use dtype_fixtures::{extension, field, fixed_size_list};
 use dtype_types::DType;
 use std::alloc::Global;
 use std::test::Fail;

@@ -1,156 +1,17 @@
 // Messages at work: worked examples, each refusal by a message that has that fault alone, and each call that
 // takes memory once with ample memory.
-use crate::fixtures::is_printed;
 use crate::sessions::tagging;
-use dtype_paths::FieldPath;
+use dtype_fixtures::is_printed;
 use std::alloc::Global;
 use std::string::String;
 use std::test::Fail;
 use vortex_dtype::*;
+use vortex_dtype_fixtures::{
+    byte, decimal, extension, fields, fixed, list, map, nothing, null, of, primitive, tagged, text,
+    texts, union_of,
+};
 
 const DEPTH: usize = 200;
-
-pub(crate) fn of(kind: pb::DtypeType) -> pb::DType {
-    pb::DType {
-        dtype_type: Some(kind),
-    }
-}
-
-// A message without a kind.
-pub(crate) fn nothing() -> pb::DType {
-    pb::DType { dtype_type: None }
-}
-
-pub(crate) fn null() -> pb::DType {
-    of(pb::DtypeType::Null(pb::Null {}))
-}
-
-pub(crate) fn primitive(ptype: i32, nullable: bool) -> pb::DType {
-    of(pb::DtypeType::Primitive(pb::Primitive { ptype, nullable }))
-}
-
-pub(crate) fn byte() -> pb::DType {
-    primitive(0, false)
-}
-
-pub(crate) fn text(nullable: bool) -> pb::DType {
-    of(pb::DtypeType::Utf8(pb::Utf8 { nullable }))
-}
-
-pub(crate) fn decimal(precision: u32, scale: i32, nullable: bool) -> pb::DType {
-    of(pb::DtypeType::Decimal(pb::Decimal {
-        precision,
-        scale,
-        nullable,
-    }))
-}
-
-fn boxed(alloc: Global, child: Option<pb::DType>) -> VortexResult<Option<Box<pb::DType>>> {
-    match child {
-        Some(child) => Ok(Some(Box::new(alloc, child)?)),
-        None => Ok(None),
-    }
-}
-
-pub(crate) fn list(
-    alloc: Global,
-    element: Option<pb::DType>,
-    nullable: bool,
-) -> VortexResult<pb::DType> {
-    let list = pb::List {
-        element_type: boxed(alloc, element)?,
-        nullable,
-    };
-    Ok(of(pb::DtypeType::List(Box::new(alloc, list)?)))
-}
-
-pub(crate) fn fixed(
-    alloc: Global,
-    element: Option<pb::DType>,
-    size: u32,
-) -> VortexResult<pb::DType> {
-    let list = pb::FixedSizeList {
-        element_type: boxed(alloc, element)?,
-        size,
-        nullable: false,
-    };
-    Ok(of(pb::DtypeType::FixedSizeList(Box::new(alloc, list)?)))
-}
-
-pub(crate) fn map(
-    alloc: Global,
-    key: Option<pb::DType>,
-    value: Option<pb::DType>,
-    keys_sorted: bool,
-) -> VortexResult<pb::DType> {
-    let map = pb::Map {
-        key_type: boxed(alloc, key)?,
-        value_type: boxed(alloc, value)?,
-        keys_sorted,
-        nullable: true,
-    };
-    Ok(of(pb::DtypeType::Map(Box::new(alloc, map)?)))
-}
-
-fn texts(alloc: Global, items: &[&str]) -> VortexResult<Vec<String>> {
-    let mut all = Vec::new(alloc);
-    for item in items {
-        all.push(String::from_str(alloc, item)?)?;
-    }
-    Ok(all)
-}
-
-pub(crate) fn bytes(alloc: Global, count: usize) -> VortexResult<Vec<pb::DType>> {
-    let mut all = Vec::new(alloc);
-    for _ in 0..count {
-        all.push(byte())?;
-    }
-    Ok(all)
-}
-
-fn fields(alloc: Global, names: &[&str], count: usize) -> VortexResult<pb::DType> {
-    Ok(of(pb::DtypeType::Struct(pb::Struct {
-        names: texts(alloc, names)?,
-        dtypes: bytes(alloc, count)?,
-        nullable: true,
-    })))
-}
-
-pub(crate) fn union_of(
-    alloc: Global,
-    names: &[&str],
-    count: usize,
-    tags: &[i32],
-) -> VortexResult<pb::DType> {
-    Ok(of(pb::DtypeType::Union(pb::Union {
-        names: texts(alloc, names)?,
-        dtypes: bytes(alloc, count)?,
-        type_ids: Vec::from_slice(alloc, tags)?,
-        nullable: false,
-    })))
-}
-
-pub(crate) fn extension(
-    alloc: Global,
-    id: &str,
-    storage: Option<pb::DType>,
-    metadata: Option<&[u8]>,
-) -> VortexResult<pb::DType> {
-    let metadata = match metadata {
-        Some(bytes) => Some(Vec::from_slice(alloc, bytes)?),
-        None => None,
-    };
-    let extension = pb::Extension {
-        id: String::from_str(alloc, id)?,
-        storage_dtype: boxed(alloc, storage)?,
-        metadata,
-    };
-    Ok(of(pb::DtypeType::Extension(Box::new(alloc, extension)?)))
-}
-
-pub(crate) fn tagged(alloc: Global, id: &str, metadata: Option<&[u8]>) -> VortexResult<pb::DType> {
-    extension(alloc, id, Some(text(true)), metadata)
-}
 
 // All thirteen kinds, an extension with this metadata among them, as fields of a struct.
 fn all_kinds(alloc: Global, metadata: &[u8]) -> VortexResult<pb::DType> {

@@ -1,15 +1,15 @@
 // Messages made to break their reader: several faults in one, more variants than there are tags, types 200
 // deep, and extensions inside extensions.
-use crate::fixtures::is_printed;
-use crate::messages::{
-    byte, bytes, decimal, extension, list, map, nothing, of, primitive, refusal, tagged, text,
-    union_of,
-};
+use crate::messages::refusal;
 use crate::sessions::tagging;
+use dtype_fixtures::is_printed;
 use std::alloc::Global;
 use std::string::String;
 use std::test::Fail;
 use vortex_dtype::{DType, DTypeProto, DTypeSession, VortexResult, pb};
+use vortex_dtype_fixtures::{
+    byte, bytes, decimal, extension, list, map, nothing, of, primitive, tagged, text, union_of,
+};
 
 const DEPTH: usize = 200;
 

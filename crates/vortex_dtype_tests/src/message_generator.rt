@@ -2,13 +2,13 @@
 // message.
 ghost use Rattle.std.specs.Prelude.{◌<◌, length};
 
-use crate::messages::{
-    byte, decimal, extension, fixed, list, map, nothing, null, of, primitive, text,
-};
 use std::alloc::Global;
 use std::mem;
 use std::string::String;
 use vortex_dtype::{VortexResult, pb};
+use vortex_dtype_fixtures::{
+    byte, decimal, extension, fixed, list, map, nothing, null, of, primitive, text,
+};
 
 #[derive(Drop)]
 pub(crate) struct Generator {

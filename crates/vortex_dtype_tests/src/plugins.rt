@@ -4,7 +4,7 @@
 ghost use Rattle.std.specs.List.{list_any};
 ghost use Rattle.std.specs.Prelude.{◌≡◌, IfErr, IfOk, None, Some, map, nat_eq};
 ghost use Rattle.vortex_dtype.specs.Refusals.{RefusedWhere};
-ghost use Rattle.dtype_tests.specs.Tag.{if_unchanged, is_changed, low, lowered};
+ghost use Rattle.vortex_dtype_tests.specs.Tag.{if_unchanged, is_changed, low, lowered};
 
 use std::alloc::{AllocError, Global};
 use vortex_dtype::{DType, ExtDTypePlugin, ExtVTable, VortexError, VortexResult};
@@ -19,7 +19,7 @@ pub struct Tag;
 
 impl ExtVTable for Tag {
     ghost use Rattle.std.specs.Prelude.{ℕ, List, codes, true};
-    ghost use Rattle.dtype_tests.specs.Tag.{lowered, if_unchanged, tag_typed};
+    ghost use Rattle.vortex_dtype_tests.specs.Tag.{lowered, if_unchanged, tag_typed};
 
     type Metadata = TagName;
 
@@ -65,7 +65,7 @@ pub struct AllKept;
 
 impl ExtDTypePlugin for AllKept {
     ghost use Rattle.std.specs.Prelude.{Some, codes};
-    ghost use Rattle.dtype_tests.specs.Tag.{all_kept_laws};
+    ghost use Rattle.vortex_dtype_tests.specs.Tag.{all_kept_laws};
 
     ghost id_text = { λ _. codes "x.tag" };
 
@@ -93,7 +93,7 @@ pub struct TextAlone;
 
 impl ExtDTypePlugin for TextAlone {
     ghost use Rattle.std.specs.Prelude.{codes};
-    ghost use Rattle.dtype_tests.specs.TextPlugin.{text_laws, text_only};
+    ghost use Rattle.vortex_dtype_tests.specs.TextPlugin.{text_laws, text_only};
 
     ghost id_text = { λ _. codes "x.text" };
 
@@ -125,8 +125,8 @@ pub struct Word;
 
 impl ExtVTable for Word {
     ghost use Rattle.std.specs.Prelude.{ℕ, List, codes};
-    ghost use Rattle.dtype_tests.specs.Tag.{lowered, if_unchanged};
-    ghost use Rattle.dtype_tests.specs.TextPlugin.{is_text, word_typed};
+    ghost use Rattle.vortex_dtype_tests.specs.Tag.{lowered, if_unchanged};
+    ghost use Rattle.vortex_dtype_tests.specs.TextPlugin.{is_text, word_typed};
 
     type Metadata = TagName;
 

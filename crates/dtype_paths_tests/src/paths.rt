@@ -1,8 +1,9 @@
 ghost use Rattle.std.specs.Prelude.{◌≡◌, IfOk, [], ◌∷◌, codes};
 ghost use Rattle.dtype_paths.specs.declared.field.Field.{Field};
 
-use crate::fixtures::{extension, fixed_size_list, is_printed, path, record};
+use crate::fixtures::path;
 use dtype_base::{FieldName, FieldNames, Nullability, PType, VortexResult};
+use dtype_fixtures::{extension, fixed_size_list, is_printed, record};
 use dtype_paths::{Field, FieldPath, field_path};
 use dtype_types::{DType, MapDType, StructFields};
 use std::alloc::Global;

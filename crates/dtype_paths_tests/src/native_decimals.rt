@@ -1,5 +1,5 @@
-use crate::fixtures::{hash_of, is_printed};
 use dtype_base::{DecimalDType, DecimalType, VortexError, VortexResult};
+use dtype_fixtures::{hash_of, is_printed};
 use dtype_native::{NativeDecimalType, PrecisionScale};
 use std::process::Abort;
 use std::test::Fail;

@@ -1,5 +1,5 @@
-use crate::fixtures::is_printed;
 use dtype_base::VortexResult;
+use dtype_fixtures::is_printed;
 use dtype_paths::{Field, FieldMask, FieldPath, field_path};
 use std::alloc::Global;
 use std::test::Fail;

@@ -6,7 +6,7 @@ use Rattle.dtype_base.specs.declared.nullability.Nullability.{Nullability}
 use Rattle.dtype_base.specs.declared.nullability.Nullability.TheVariants.{NonNullable, Nullable}
 use Rattle.dtype_types.specs.Tree.{Tree, null, bool, primitive, decimal, utf8, binary, list, fixed_size_list, map_of, struct, union, variant, extension}
 use Rattle.dtype_types.specs.Nullable.{set_null, SetNull}
-use Rattle.dtype_tests.specs.Tag.{lowered, if_unchanged, tag_typed}
+use Rattle.vortex_dtype_tests.specs.Tag.{lowered, if_unchanged, tag_typed}
 use Rattle.vortex_dtype.specs.Meaning.{Rewrites, Lawful, Bytes}
 use Rattle.vortex_dtype.specs.Typed.{Typed}
 

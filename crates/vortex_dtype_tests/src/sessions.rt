@@ -1,6 +1,6 @@
 // Sessions, plugins and typed extensions at work.
-use crate::fixtures::is_printed;
 use crate::plugins::{AllKept, Tag, TagName, TextAlone, Word};
+use dtype_fixtures::is_printed;
 use std::alloc::Global;
 use std::process::Abort;
 use std::test::Fail;

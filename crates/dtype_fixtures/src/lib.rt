@@ -1,40 +1,40 @@
-// What several topics make their types of.
+//! What the tests of several crates make their types of, and how they look at a value: its printed text, and its
+//! hash. They are made by the constructors that a user calls; nothing else is promised of them.
+//!
+//! Begin with `kinds`, a type of each kind.
+#![tactic(auto)]
+
 use dtype_base::Nullability::{NonNullable, Nullable};
 use dtype_base::{DecimalDType, FieldName, FieldNames, Nullability, PType, VortexResult};
-use dtype_paths::{Field, FieldPath};
 use dtype_types::{DType, ExtDTypeRef, ExtId, FieldDType, StructFields, UnionVariants};
 use std::alloc::Global;
 use std::fmt::Display;
 use std::hash::{DefaultHasher, Hash, Hasher};
 
-// What a fresh hasher answers that was fed this value.
-pub(crate) fn hash_of<T: Hash>(value: &T) -> u64 {
+/// What a fresh hasher answers that was fed this value.
+pub fn hash_of<T: Hash>(value: &T) -> u64 {
     let mut state = DefaultHasher::new();
     value.hash(&mut state);
     state.finish()
 }
 
-// Whether the value is printed so.
-pub(crate) fn is_printed<T: Display>(alloc: Global, value: &T, text: &str) -> VortexResult<bool> {
+/// Whether the value is printed so.
+pub fn is_printed<T: Display>(alloc: Global, value: &T, text: &str) -> VortexResult<bool> {
     Ok(value.to_string(alloc)?.as_str() == text)
 }
 
-// A primitive type.
-pub(crate) fn primitive(ptype: PType, n: Nullability) -> DType {
+/// A primitive type.
+pub fn primitive(ptype: PType, n: Nullability) -> DType {
     DType::Primitive(ptype, n)
 }
 
-// A field, from which a struct is made.
-pub(crate) fn field(
-    alloc: Global,
-    name: &str,
-    dtype: DType,
-) -> VortexResult<(FieldName, FieldDType)> {
+/// A field, from which a struct is made.
+pub fn field(alloc: Global, name: &str, dtype: DType) -> VortexResult<(FieldName, FieldDType)> {
     Ok((FieldName::new(alloc, name)?, FieldDType::from(dtype)))
 }
 
-// Fields with these names, each of a boolean.
-pub(crate) fn booleans(alloc: Global, names: &[&str]) -> VortexResult<StructFields> {
+/// Fields with these names, each of a boolean.
+pub fn booleans(alloc: Global, names: &[&str]) -> VortexResult<StructFields> {
     let mut fields = Vec::new(alloc);
     for name in names {
         fields.push(field(alloc, name, DType::Bool(NonNullable))?)?;
@@ -42,18 +42,13 @@ pub(crate) fn booleans(alloc: Global, names: &[&str]) -> VortexResult<StructFiel
     StructFields::from_iter(alloc, fields)
 }
 
-// The struct type of one field.
-pub(crate) fn record(
-    alloc: Global,
-    name: &str,
-    dtype: DType,
-    n: Nullability,
-) -> VortexResult<DType> {
+/// The struct type of one field.
+pub fn record(alloc: Global, name: &str, dtype: DType, n: Nullability) -> VortexResult<DType> {
     DType::struct_(alloc, vec![in alloc; field(alloc, name, dtype)?]?, n)
 }
 
-// The fixed-size list type of so many of this element.
-pub(crate) fn fixed_size_list(
+/// The fixed-size list type of so many of this element.
+pub fn fixed_size_list(
     alloc: Global,
     element: DType,
     size: u32,
@@ -62,8 +57,8 @@ pub(crate) fn fixed_size_list(
     Ok(DType::FixedSizeList(Box::new(alloc, element)?, size, n))
 }
 
-// The extension type `x.y` over this storage, with this metadata.
-pub(crate) fn extension(alloc: Global, metadata: &[u8], storage: DType) -> VortexResult<DType> {
+/// The extension type `x.y` over this storage, with this metadata.
+pub fn extension(alloc: Global, metadata: &[u8], storage: DType) -> VortexResult<DType> {
     let id = ExtId::new(alloc, "x.y")?;
     let metadata = Vec::from_slice(alloc, metadata)?;
     Ok(DType::Extension(ExtDTypeRef::from_parts(alloc, id, metadata, storage)?))
@@ -76,8 +71,8 @@ fn variants(alloc: Global) -> VortexResult<UnionVariants> {
     UnionVariants::try_new(alloc, names, dtypes, vec![in alloc; 5, 9]?)
 }
 
-// A type of each kind but `Null`, of this nullability; what they hold is the same at both.
-pub(crate) fn kinds(alloc: Global, n: Nullability) -> VortexResult<Vec<DType>> {
+/// A type of each kind but `Null`, of this nullability; what they hold is the same at both.
+pub fn kinds(alloc: Global, n: Nullability) -> VortexResult<Vec<DType>> {
     let number = primitive(PType::I32, Nullable);
     Ok(vec![in alloc;
         DType::Bool(n),
@@ -95,8 +90,8 @@ pub(crate) fn kinds(alloc: Global, n: Nullability) -> VortexResult<Vec<DType>> {
     ]?)
 }
 
-// Their texts.
-pub(crate) fn kind_texts(n: Nullability) -> [&'static str; 12] {
+/// Their texts.
+pub fn kind_texts(n: Nullability) -> [&'static str; 12] {
     match n {
         NonNullable => [
             "bool",
@@ -127,20 +122,4 @@ pub(crate) fn kind_texts(n: Nullability) -> [&'static str; 12] {
             "x.y[1B](utf8?)",
         ],
     }
-}
-
-// The path of a text: its parts between dots, `[]` for the element, and nothing for the root.
-pub(crate) fn path(alloc: Global, text: &str) -> VortexResult<FieldPath> {
-    let mut parts = Vec::new(alloc);
-    if !text.is_empty() {
-        for part in text.split('.') {
-            let field = if part == "[]" {
-                Field::ElementType
-            } else {
-                Field::from_text(alloc, part)?
-            };
-            parts.push(field)?;
-        }
-    }
-    Ok(FieldPath::from_vec(parts))
 }

@@ -1,0 +1,20 @@
+// What paths and path sets are written as here.
+use dtype_base::VortexResult;
+use dtype_paths::{Field, FieldPath};
+use std::alloc::Global;
+
+// The path of a text: its parts between dots, `[]` for the element, and nothing for the root.
+pub(crate) fn path(alloc: Global, text: &str) -> VortexResult<FieldPath> {
+    let mut parts = Vec::new(alloc);
+    if !text.is_empty() {
+        for part in text.split('.') {
+            let field = if part == "[]" {
+                Field::ElementType
+            } else {
+                Field::from_text(alloc, part)?
+            };
+            parts.push(field)?;
+        }
+    }
+    Ok(FieldPath::from_vec(parts))
+}

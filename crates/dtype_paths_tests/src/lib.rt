@@ -1,0 +1,21 @@
+// Tests of `dtype_native` and `dtype_paths`, a module a topic: worked examples, texts, and each call that takes
+// memory once with ample memory. They stand on what a user sees, the public items alone; what holds of every
+// value is proved in the crates themselves.
+#![tactic(auto)]
+
+#[cfg(test)]
+mod fixtures;
+#[cfg(test)]
+mod masks;
+#[cfg(test)]
+mod native_decimals;
+#[cfg(test)]
+mod native_dtypes;
+#[cfg(test)]
+mod native_integers;
+#[cfg(test)]
+mod path_sets;
+#[cfg(test)]
+mod paths;
+#[cfg(test)]
+mod visitors;

@@ -1,0 +1,19 @@
+// Tests of `vortex_dtype`, a module a topic: worked examples, messages that have one fault, malicious and random
+// ones, plugins and sessions at work, and each call that takes memory once with ample memory. They stand on what
+// a user sees, the public items alone; what holds of every value is proved in the crate itself.
+#![tactic(auto)]
+
+#[cfg(test)]
+mod malicious;
+#[cfg(test)]
+mod message_faults;
+#[cfg(test)]
+mod message_generator;
+#[cfg(test)]
+mod messages;
+#[cfg(test)]
+mod plugins;
+#[cfg(test)]
+mod random_messages;
+#[cfg(test)]
+mod sessions;

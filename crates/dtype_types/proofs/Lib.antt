@@ -7,6 +7,7 @@ pub mod SameParts
 pub mod SetNullLaws
 pub mod Texts
 pub mod Zips
+pub mod SideBySide
 pub mod Outcomes
 pub mod DistinctItems
 pub mod Feeding

@@ -1,7 +1,7 @@
 -- Lists of pairs that are made of two lists of one length.
 use Rattle.std.proofs.Common.{◌≡◌, ℕ, zero, suc, ◌+◌, ◌<◌, take, get_or, List, [], ◌∷◌, ◌++◌, length, map, refl, ap, arith, sym, ◌∙◌}
 use Rattle.std.specs.List.{zip, remove}
-use Rattle.std.proofs.lemmas.List.{append_assoc, take_more, length-take}
+use Rattle.std.proofs.lemmas.List.{take_more, length-take}
 use Rattle.std.proofs.lemmas.Slice.Zip.{firsts-zip, seconds-zip}
 use Rattle.dtype_types.specs.Tree.{Tree}
 use Rattle.dtype_types.specs.TreeOf.{tree}
@@ -41,11 +41,6 @@ keeps_next ps i index p h e ne =
 
 pub leaves_out : {X : Type 0} (ps : List X) (i index : ℕ) (d : X) → i < length ps → i ≡ index → remove (take i ps) index ≡ remove (take (i + 1) ps) index
 leaves_out ps i index d h same = sym (ap (λ xs. remove xs index) (take_more ps i d h) ∙ push_removed (take i ps) (get_or ps i d) index (length_take_of ps i h ∙ same))
-
--- one more item behind those that were there before
-pub appends_next : {X : Type 0} (before ps xs ys : List X) (i : ℕ) (p : X) → i < length ps → p ≡ get_or ps i p → xs ≡ before ++ take i ps → ys ≡ xs ++ p ∷ [] → ys ≡ before ++ take (i + 1) ps
-appends_next before ps xs ys i p h here d e =
-    e ∙ ap (λ zs. zs ++ p ∷ []) d ∙ append_assoc before (take i ps) (p ∷ []) ∙ ap (λ zs. before ++ zs) (ap (λ q. take i ps ++ q ∷ []) here ∙ sym (take_more ps i p h))
 
 -- the names of the pairs are those that have a type
 pub firsts_take : (ns : List (List ℕ)) (ts : List Tree) → map (λ (p : List ℕ × Tree). p.0) (zip ns ts) ≡ take (length (zip ns ts)) ns

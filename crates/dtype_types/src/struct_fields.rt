@@ -331,8 +331,8 @@ impl StructFields {
             → IfOk result (λ b. All IsValid (dtypes_so_far b)) }
         ensures refused { IsOkUnless result OutOfMemory }
     {
-        for i in 0..self.count() {
-            fields = self.push_copy(alloc, fields, i)?;
+        for (name, dtype) in self.names().as_slice().iter().zip(self.dtypes()) {
+            fields = fields.push(name.try_clone(alloc)?, dtype.try_clone(alloc)?)?;
         }
         Ok(fields)
     }

@@ -268,13 +268,9 @@ impl StructFields {
     pub(crate) fn feed<H: Hasher>(&self, rule: Hashed, state: &mut H)
         ensures { state.new ≡ fold H.write state.old (struct_writes rule self.now) }
     {
-        let count = self.count();
-        let names = self.names().as_slice();
-        let dtypes = self.dtypes();
-        state.write_usize(count);
-        for i in 0..count {
-            let dtype = &dtypes[i];
-            names[i].hash(state);
+        state.write_usize(self.count());
+        for (name, dtype) in self.names().as_slice().iter().zip(self.dtypes()) {
+            name.hash(state);
             feed(dtype, rule, state);
         }
     }

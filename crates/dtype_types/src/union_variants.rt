@@ -316,17 +316,12 @@ impl UnionVariants {
     pub(crate) fn feed<H: Hasher>(&self, rule: Hashed, state: &mut H)
         ensures { state.new ≡ fold H.write state.old (union_writes rule self.now) }
     {
-        let count = self.count();
-        let names = self.names().as_slice();
-        let dtypes = self.dtypes();
-        let tags = self.type_ids();
-        state.write_usize(count);
-        for i in 0..count {
-            let dtype = &dtypes[i];
-            let tag = tags[i];
-            names[i].hash(state);
+        let fields = self.names().as_slice().iter().zip(self.dtypes());
+        state.write_usize(self.count());
+        for ((name, dtype), tag) in fields.zip(self.type_ids()) {
+            name.hash(state);
             feed(dtype, rule, state);
-            state.write_u8(tag);
+            state.write_u8(*tag);
         }
     }
 

@@ -24,6 +24,10 @@ Pairs = Zip (Iter (List ℕ)) (Iter DType)
 abbrev pub pairs_left : Pairs → List (List ℕ × Tree)
 pairs_left it = zip (iter_rest (zip_first it)) (map tree (iter_rest (zip_second it)))
 
+-- before the first turn all are left
+pub all_pairs : (it : Pairs) (ns : List (List ℕ)) (ds : List DType) → iter_rest (zip_first it) ≡ ns → iter_rest (zip_second it) ≡ ds → pairs_left it ≡ zip ns (map tree ds)
+all_pairs it ns ds e f = ap (λ ms. zip ms (map tree (iter_rest (zip_second it)))) e ∙ ap (λ es. zip ns (map tree es)) f
+
 pub next_pair : (s t : Pairs) (r : Option (Bor (List ℕ) × Bor DType)) (n : Bor (List ℕ)) (d : Bor DType) → r ≡ Some (n, d) → zips fronts fronts s r t
     → pairs_left s ≡ (n.now, tree d.now) ∷ pairs_left t
 next_pair s t r n d e h =
@@ -78,6 +82,36 @@ no_triple s t r e h = by (subst (λ o. zips (zips fronts fronts) fronts s o t) e
     by : ((u : Pairs) × zips fronts fronts (zip_first s) None u) ⊎ ((u : Iter ℕ) × fronts (zip_second s) None u) → triples_left s ≡ []
     by (inl a) = pairs (either_empty_from_Zip (zip_first s) a.0 None refl a.1)
     by (inr b) = ap (λ gs. zip_tagged (iter_rest (zip_first (zip_first s))) (map tree (iter_rest (zip_second (zip_first s)))) gs) (nil_from_length _ b.1.0) ∙ no_tagged (iter_rest (zip_first (zip_first s))) (map tree (iter_rest (zip_second (zip_first s))))
+
+-- ---- two of them side by side
+
+pub next_pairs : (s t : Zip Pairs Pairs) (r : Option ((Bor (List ℕ) × Bor DType) × (Bor (List ℕ) × Bor DType))) (n m : Bor (List ℕ)) (d e : Bor DType) → r ≡ Some ((n, d), (m, e)) → zips (zips fronts fronts) (zips fronts fronts) s r t
+    → (pairs_left (zip_first s) ≡ (n.now, tree d.now) ∷ pairs_left (zip_first t)) × (pairs_left (zip_second s) ≡ (m.now, tree e.now) ∷ pairs_left (zip_second t))
+next_pairs s t r n m d e is h =
+    let each = subst (λ o. zips (zips fronts fronts) (zips fronts fronts) s o t) is h in
+    (next_pair (zip_first s) (zip_first t) (Some (n, d)) n d refl each.0, next_pair (zip_second s) (zip_second t) (Some (m, e)) m e refl each.1)
+
+pub next_triples : (s t : Zip Triples Triples) (r : Option (((Bor (List ℕ) × Bor DType) × Bor ℕ) × ((Bor (List ℕ) × Bor DType) × Bor ℕ))) (n m : Bor (List ℕ)) (d e : Bor DType) (g f : Bor ℕ) → r ≡ Some (((n, d), g), ((m, e), f)) → zips (zips (zips fronts fronts) fronts) (zips (zips fronts fronts) fronts) s r t
+    → (triples_left (zip_first s) ≡ (n.now, tree d.now, g.now) ∷ triples_left (zip_first t)) × (triples_left (zip_second s) ≡ (m.now, tree e.now, f.now) ∷ triples_left (zip_second t))
+next_triples s t r n m d e g f is h =
+    let each = subst (λ o. zips (zips (zips fronts fronts) fronts) (zips (zips fronts fronts) fronts) s o t) is h in
+    (next_triple (zip_first s) (zip_first t) (Some ((n, d), g)) n d g refl each.0, next_triple (zip_second s) (zip_second t) (Some ((m, e), f)) m e f refl each.1)
+
+pub no_pair_of_either : (s t : Zip Pairs Pairs) (r : Option ((Bor (List ℕ) × Bor DType) × (Bor (List ℕ) × Bor DType))) → r ≡ None → zips (zips fronts fronts) (zips fronts fronts) s r t
+    → (pairs_left (zip_first s) ≡ []) ⊎ (pairs_left (zip_second s) ≡ [])
+no_pair_of_either s t r e h = by (subst (λ o. zips (zips fronts fronts) (zips fronts fronts) s o t) e h)
+  where
+    by : ((u : Pairs) × zips fronts fronts (zip_first s) None u) ⊎ ((u : Pairs) × zips fronts fronts (zip_second s) None u) → (pairs_left (zip_first s) ≡ []) ⊎ (pairs_left (zip_second s) ≡ [])
+    by (inl a) = inl (no_pair (zip_first s) a.0 None refl a.1)
+    by (inr b) = inr (no_pair (zip_second s) b.0 None refl b.1)
+
+pub no_triple_of_either : (s t : Zip Triples Triples) (r : Option (((Bor (List ℕ) × Bor DType) × Bor ℕ) × ((Bor (List ℕ) × Bor DType) × Bor ℕ))) → r ≡ None → zips (zips (zips fronts fronts) fronts) (zips (zips fronts fronts) fronts) s r t
+    → (triples_left (zip_first s) ≡ []) ⊎ (triples_left (zip_second s) ≡ [])
+no_triple_of_either s t r e h = by (subst (λ o. zips (zips (zips fronts fronts) fronts) (zips (zips fronts fronts) fronts) s o t) e h)
+  where
+    by : ((u : Triples) × zips (zips fronts fronts) fronts (zip_first s) None u) ⊎ ((u : Triples) × zips (zips fronts fronts) fronts (zip_second s) None u) → (triples_left (zip_first s) ≡ []) ⊎ (triples_left (zip_second s) ≡ [])
+    by (inl a) = inl (no_triple (zip_first s) a.0 None refl a.1)
+    by (inr b) = inr (no_triple (zip_second s) b.0 None refl b.1)
 
 -- ---- what is done, and what is left, of a list
 

@@ -231,17 +231,13 @@ impl StructFields {
         if other.count() != count {
             return false;
         }
-        let names = self.names().as_slice();
-        let others = other.names().as_slice();
-        let dtypes = self.dtypes();
-        let other_dtypes = other.dtypes();
-        for i in 0..count {
-            let t = &dtypes[i];
-            let u = &other_dtypes[i];
-            if names[i] != others[i] {
+        let fields = self.names().as_slice().iter().zip(self.dtypes());
+        let others = other.names().as_slice().iter().zip(other.dtypes());
+        for ((name, dtype), (other_name, other_dtype)) in fields.zip(others) {
+            if name != other_name {
                 return false;
             }
-            if !agree(t, u, rule) {
+            if !agree(dtype, other_dtype, rule) {
                 return false;
             }
         }

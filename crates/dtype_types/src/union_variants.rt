@@ -280,23 +280,17 @@ impl UnionVariants {
             return false;
         }
         let names = self.names().as_slice();
-        let others = other.names().as_slice();
-        let dtypes = self.dtypes();
-        let other_dtypes = other.dtypes();
-        let tags = self.type_ids();
-        let other_tags = other.type_ids();
-        for i in 0..count {
-            let t = &dtypes[i];
-            let u = &other_dtypes[i];
-            let tag = tags[i];
-            let other_tag = other_tags[i];
-            if names[i] != others[i] {
+        let other_names = other.names().as_slice();
+        let variants = names.iter().zip(self.dtypes()).zip(self.type_ids());
+        let others = other_names.iter().zip(other.dtypes()).zip(other.type_ids());
+        for (((name, dtype), tag), ((other_name, other_dtype), other_tag)) in variants.zip(others) {
+            if name != other_name {
                 return false;
             }
-            if !agree(t, u, rule) {
+            if !agree(dtype, other_dtype, rule) {
                 return false;
             }
-            if tag != other_tag {
+            if *tag != *other_tag {
                 return false;
             }
         }

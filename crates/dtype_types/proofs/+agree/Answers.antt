@@ -1,10 +1,11 @@
-use Rattle.std.proofs.Common.{sym, ap, ◌∙◌, arith, get_or}
-use Rattle.std.proofs.lemmas.List.{drop_all}
+use Rattle.std.proofs.Common.{sym, ap, ◌∙◌}
+use Rattle.std.specs.Iterator.Adapters.{zip_first, zip_second}
 use Rattle.dtype_types.specs.Equality.{agree}
-use Rattle.dtype_types.specs.TreeOf.{tree, children, choices, struct_names, struct_dtypes, union_names, union_dtypes, union_tags}
+use Rattle.dtype_types.specs.TreeOf.{tree, children, choices}
 use Rattle.dtype_types.proofs.TreeLaws.{tree_null}
 use Rattle.dtype_types.proofs.OtherKinds.{not_null}
-use Rattle.dtype_types.proofs.Turns.{fields_turn, variants_turn, differ_fields, differ_variants, not_true, not_false, tags_same, tags_differ, tag_at}
+use Rattle.dtype_types.proofs.SideBySide.{pairs_left, triples_left, next_pairs, next_triples, no_pair_of_either, no_triple_of_either}
+use Rattle.dtype_types.proofs.Turns.{fields_turn, variants_turn, fields_end, variants_end, still_even, differ_fields, differ_variants, not_true, not_false, tags_same, tags_differ}
 use Rattle.dtype_types.proofs.+agree.Goals as goal
 
 pub dtype::equality::agree-returns-in_default : goal.dtype::equality::agree-returns-in_default
@@ -17,31 +18,32 @@ struct_fields::StructFields::agree-returns-then-count t c =
 
 pub struct_fields::StructFields::agree-returns-then-ne : goal.struct_fields::StructFields::agree-returns-then-ne
 struct_fields::StructFields::agree-returns-then-ne t c =
-    let a = c.args.self.now in let b = c.args.other.now in
-    let e = fields_turn c.args.rule (struct_names a) (struct_names b) (struct_dtypes a) (struct_dtypes b) c.loop-i.i c.index-names-i.result c.index-others-i.result c.index-dtypes-i.result c.index-other_dtypes-i.result _ c.loop-i.invariant (omega arith) (omega arith)
-    (c.index-names-i.is ∙ ap (λ xs. get_or xs c.loop-i.i c.index-names-i.result) (c.as_slice-names.ensures ∙ c.names.ensures)) (c.index-dtypes-i.is ∙ ap (λ xs. get_or xs c.loop-i.i c.index-dtypes-i.result) c.dtypes-dtypes.ensures) (c.index-others-i.is ∙ ap (λ xs. get_or xs c.loop-i.i c.index-others-i.result) (c.as_slice-others.ensures ∙ c.names-2.ensures)) (c.index-other_dtypes-i.is ∙ ap (λ xs. get_or xs c.loop-i.i c.index-other_dtypes-i.result) c.dtypes-other_dtypes.ensures) in
-    sym (e.0 (not_true _ (c.if-ne.ensures)))
+    let it = c.loop-name.name-iterator in let on = c.next.new.self in
+    let next = next_pairs it on c.next.result c.in-Some.name c.in-Some.other_name c.in-Some.dtype c.in-Some.other_dtype c.in-Some.is c.next.ensures.steps in
+    let turn = fields_turn c.args.rule (pairs_left (zip_first it)) (pairs_left (zip_second it)) (pairs_left (zip_first on)) (pairs_left (zip_second on)) c.in-Some.name.now c.in-Some.other_name.now (tree c.in-Some.dtype.now) (tree c.in-Some.other_dtype.now) _ c.loop-name.invariant.agrees next.0 next.1 in
+    sym (turn.0 (not_true _ c.if-ne.ensures))
 
 pub struct_fields::StructFields::agree-returns-then-not-agree : goal.struct_fields::StructFields::agree-returns-then-not-agree
 struct_fields::StructFields::agree-returns-then-not-agree t c =
-    let a = c.args.self.now in let b = c.args.other.now in
-    let e = fields_turn c.args.rule (struct_names a) (struct_names b) (struct_dtypes a) (struct_dtypes b) c.loop-i.i c.index-names-i.result c.index-others-i.result c.index-dtypes-i.result c.index-other_dtypes-i.result _ c.loop-i.invariant (omega arith) (omega arith)
-    (c.index-names-i.is ∙ ap (λ xs. get_or xs c.loop-i.i c.index-names-i.result) (c.as_slice-names.ensures ∙ c.names.ensures)) (c.index-dtypes-i.is ∙ ap (λ xs. get_or xs c.loop-i.i c.index-dtypes-i.result) c.dtypes-dtypes.ensures) (c.index-others-i.is ∙ ap (λ xs. get_or xs c.loop-i.i c.index-others-i.result) (c.as_slice-others.ensures ∙ c.names-2.ensures)) (c.index-other_dtypes-i.is ∙ ap (λ xs. get_or xs c.loop-i.i c.index-other_dtypes-i.result) c.dtypes-other_dtypes.ensures) in
-    sym (e.1 (sym c.if-not-agree.ensures))
+    let it = c.loop-name.name-iterator in let on = c.next.new.self in
+    let next = next_pairs it on c.next.result c.in-Some.name c.in-Some.other_name c.in-Some.dtype c.in-Some.other_dtype c.in-Some.is c.next.ensures.steps in
+    let turn = fields_turn c.args.rule (pairs_left (zip_first it)) (pairs_left (zip_second it)) (pairs_left (zip_first on)) (pairs_left (zip_second on)) c.in-Some.name.now c.in-Some.other_name.now (tree c.in-Some.dtype.now) (tree c.in-Some.other_dtype.now) _ c.loop-name.invariant.agrees next.0 next.1 in
+    sym (turn.1 (sym c.if-not-agree.ensures))
 
-pub struct_fields::StructFields::agree-loop-i-preserved : goal.struct_fields::StructFields::agree-loop-i-preserved
-struct_fields::StructFields::agree-loop-i-preserved t c =
-    let a = c.args.self.now in let b = c.args.other.now in
-    let e = fields_turn c.args.rule (struct_names a) (struct_names b) (struct_dtypes a) (struct_dtypes b) c.loop-i.i c.index-names-i.result c.index-others-i.result c.index-dtypes-i.result c.index-other_dtypes-i.result _ c.loop-i.invariant (omega arith) (omega arith)
-    (c.index-names-i.is ∙ ap (λ xs. get_or xs c.loop-i.i c.index-names-i.result) (c.as_slice-names.ensures ∙ c.names.ensures)) (c.index-dtypes-i.is ∙ ap (λ xs. get_or xs c.loop-i.i c.index-dtypes-i.result) c.dtypes-dtypes.ensures) (c.index-others-i.is ∙ ap (λ xs. get_or xs c.loop-i.i c.index-others-i.result) (c.as_slice-others.ensures ∙ c.names-2.ensures)) (c.index-other_dtypes-i.is ∙ ap (λ xs. get_or xs c.loop-i.i c.index-other_dtypes-i.result) c.dtypes-other_dtypes.ensures) in
-    e.2 (not_false _ c.if-ne.ensures) (sym c.if-not-agree.ensures)
+pub struct_fields::StructFields::agree-loop-name-preserved : goal.struct_fields::StructFields::agree-loop-name-preserved
+struct_fields::StructFields::agree-loop-name-preserved t c =
+    let it = c.loop-name.name-iterator in let on = c.next.new.self in
+    let next = next_pairs it on c.next.result c.in-Some.name c.in-Some.other_name c.in-Some.dtype c.in-Some.other_dtype c.in-Some.is c.next.ensures.steps in
+    let turn = fields_turn c.args.rule (pairs_left (zip_first it)) (pairs_left (zip_second it)) (pairs_left (zip_first on)) (pairs_left (zip_second on)) c.in-Some.name.now c.in-Some.other_name.now (tree c.in-Some.dtype.now) (tree c.in-Some.other_dtype.now) _ c.loop-name.invariant.agrees next.0 next.1 in
+    record {
+      agrees = turn.2 (not_false _ c.if-ne.ensures) (sym c.if-not-agree.ensures);
+      even = still_even (pairs_left (zip_first it)) (pairs_left (zip_second it)) _ _ _ _ c.loop-name.invariant.even next.0 next.1;
+    }
 
 pub struct_fields::StructFields::agree-returns : goal.struct_fields::StructFields::agree-returns
 struct_fields::StructFields::agree-returns t c =
-    let a = c.args.self.now in let b = c.args.other.now in
-    let p = drop_all c.loop-i.i (children a) (omega arith) in
-    let q = drop_all c.loop-i.i (children b) (omega arith) in
-    rw (p, q) at c.loop-i.invariant
+    let it = c.loop-name.name-iterator in
+    fields_end c.args.rule (pairs_left (zip_first it)) (pairs_left (zip_second it)) _ c.loop-name.invariant.agrees c.loop-name.invariant.even (no_pair_of_either it c.next.new.self c.next.result c.in-None.is c.next.ensures.steps)
 
 pub union_variants::UnionVariants::agree-returns-then-count : goal.union_variants::UnionVariants::agree-returns-then-count
 union_variants::UnionVariants::agree-returns-then-count t c =
@@ -49,35 +51,36 @@ union_variants::UnionVariants::agree-returns-then-count t c =
 
 pub union_variants::UnionVariants::agree-returns-then-ne : goal.union_variants::UnionVariants::agree-returns-then-ne
 union_variants::UnionVariants::agree-returns-then-ne t c =
-    let a = c.args.self.now in let b = c.args.other.now in
-    let e = variants_turn c.args.rule (union_names a) (union_names b) (union_dtypes a) (union_dtypes b) (union_tags a) (union_tags b) c.loop-i.i c.index-names-i.result c.index-others-i.result c.index-dtypes-i.result c.index-other_dtypes-i.result (get_or c.type_ids-tags.result.now c.loop-i.i 0) (get_or c.type_ids-other_tags.result.now c.loop-i.i 0) _ c.loop-i.invariant (omega arith) (omega arith)
-    (c.index-names-i.is ∙ ap (λ xs. get_or xs c.loop-i.i c.index-names-i.result) (c.as_slice-names.ensures ∙ c.names.ensures)) (c.index-dtypes-i.is ∙ ap (λ xs. get_or xs c.loop-i.i c.index-dtypes-i.result) c.dtypes-dtypes.ensures) (tag_at (union_tags a) _ c.loop-i.i c.type_ids-tags.ensures (omega arith)) (c.index-others-i.is ∙ ap (λ xs. get_or xs c.loop-i.i c.index-others-i.result) (c.as_slice-others.ensures ∙ c.names-2.ensures)) (c.index-other_dtypes-i.is ∙ ap (λ xs. get_or xs c.loop-i.i c.index-other_dtypes-i.result) c.dtypes-other_dtypes.ensures) (tag_at (union_tags b) _ c.loop-i.i c.type_ids-other_tags.ensures (omega arith)) in
-    sym (e.0 (not_true _ (c.if-ne.ensures)))
+    let it = c.loop-name.name-iterator in let on = c.next.new.self in
+    let next = next_triples it on c.next.result c.in-Some.name c.in-Some.other_name c.in-Some.dtype c.in-Some.other_dtype c.in-Some.tag c.in-Some.other_tag c.in-Some.is c.next.ensures.steps in
+    let turn = variants_turn c.args.rule (triples_left (zip_first it)) (triples_left (zip_second it)) (triples_left (zip_first on)) (triples_left (zip_second on)) c.in-Some.name.now c.in-Some.other_name.now (tree c.in-Some.dtype.now) (tree c.in-Some.other_dtype.now) c.in-Some.tag.now c.in-Some.other_tag.now _ c.loop-name.invariant.agrees next.0 next.1 in
+    sym (turn.0 (not_true _ c.if-ne.ensures))
 
 pub union_variants::UnionVariants::agree-returns-then-not-agree : goal.union_variants::UnionVariants::agree-returns-then-not-agree
 union_variants::UnionVariants::agree-returns-then-not-agree t c =
-    let a = c.args.self.now in let b = c.args.other.now in
-    let e = variants_turn c.args.rule (union_names a) (union_names b) (union_dtypes a) (union_dtypes b) (union_tags a) (union_tags b) c.loop-i.i c.index-names-i.result c.index-others-i.result c.index-dtypes-i.result c.index-other_dtypes-i.result (get_or c.type_ids-tags.result.now c.loop-i.i 0) (get_or c.type_ids-other_tags.result.now c.loop-i.i 0) _ c.loop-i.invariant (omega arith) (omega arith)
-    (c.index-names-i.is ∙ ap (λ xs. get_or xs c.loop-i.i c.index-names-i.result) (c.as_slice-names.ensures ∙ c.names.ensures)) (c.index-dtypes-i.is ∙ ap (λ xs. get_or xs c.loop-i.i c.index-dtypes-i.result) c.dtypes-dtypes.ensures) (tag_at (union_tags a) _ c.loop-i.i c.type_ids-tags.ensures (omega arith)) (c.index-others-i.is ∙ ap (λ xs. get_or xs c.loop-i.i c.index-others-i.result) (c.as_slice-others.ensures ∙ c.names-2.ensures)) (c.index-other_dtypes-i.is ∙ ap (λ xs. get_or xs c.loop-i.i c.index-other_dtypes-i.result) c.dtypes-other_dtypes.ensures) (tag_at (union_tags b) _ c.loop-i.i c.type_ids-other_tags.ensures (omega arith)) in
-    sym (e.1 (sym c.if-not-agree.ensures))
+    let it = c.loop-name.name-iterator in let on = c.next.new.self in
+    let next = next_triples it on c.next.result c.in-Some.name c.in-Some.other_name c.in-Some.dtype c.in-Some.other_dtype c.in-Some.tag c.in-Some.other_tag c.in-Some.is c.next.ensures.steps in
+    let turn = variants_turn c.args.rule (triples_left (zip_first it)) (triples_left (zip_second it)) (triples_left (zip_first on)) (triples_left (zip_second on)) c.in-Some.name.now c.in-Some.other_name.now (tree c.in-Some.dtype.now) (tree c.in-Some.other_dtype.now) c.in-Some.tag.now c.in-Some.other_tag.now _ c.loop-name.invariant.agrees next.0 next.1 in
+    sym (turn.1 (sym c.if-not-agree.ensures))
 
 pub union_variants::UnionVariants::agree-returns-then-tag-other_tag : goal.union_variants::UnionVariants::agree-returns-then-tag-other_tag
 union_variants::UnionVariants::agree-returns-then-tag-other_tag t c =
-    let a = c.args.self.now in let b = c.args.other.now in
-    let e = variants_turn c.args.rule (union_names a) (union_names b) (union_dtypes a) (union_dtypes b) (union_tags a) (union_tags b) c.loop-i.i c.index-names-i.result c.index-others-i.result c.index-dtypes-i.result c.index-other_dtypes-i.result (get_or c.type_ids-tags.result.now c.loop-i.i 0) (get_or c.type_ids-other_tags.result.now c.loop-i.i 0) _ c.loop-i.invariant (omega arith) (omega arith)
-    (c.index-names-i.is ∙ ap (λ xs. get_or xs c.loop-i.i c.index-names-i.result) (c.as_slice-names.ensures ∙ c.names.ensures)) (c.index-dtypes-i.is ∙ ap (λ xs. get_or xs c.loop-i.i c.index-dtypes-i.result) c.dtypes-dtypes.ensures) (tag_at (union_tags a) _ c.loop-i.i c.type_ids-tags.ensures (omega arith)) (c.index-others-i.is ∙ ap (λ xs. get_or xs c.loop-i.i c.index-others-i.result) (c.as_slice-others.ensures ∙ c.names-2.ensures)) (c.index-other_dtypes-i.is ∙ ap (λ xs. get_or xs c.loop-i.i c.index-other_dtypes-i.result) c.dtypes-other_dtypes.ensures) (tag_at (union_tags b) _ c.loop-i.i c.type_ids-other_tags.ensures (omega arith)) in
-    sym (e.2 (tags_differ (get_or c.type_ids-tags.result.now c.loop-i.i 0) (get_or c.type_ids-other_tags.result.now c.loop-i.i 0) c.if-tag-other_tag.true))
+    let it = c.loop-name.name-iterator in let on = c.next.new.self in
+    let next = next_triples it on c.next.result c.in-Some.name c.in-Some.other_name c.in-Some.dtype c.in-Some.other_dtype c.in-Some.tag c.in-Some.other_tag c.in-Some.is c.next.ensures.steps in
+    let turn = variants_turn c.args.rule (triples_left (zip_first it)) (triples_left (zip_second it)) (triples_left (zip_first on)) (triples_left (zip_second on)) c.in-Some.name.now c.in-Some.other_name.now (tree c.in-Some.dtype.now) (tree c.in-Some.other_dtype.now) c.in-Some.tag.now c.in-Some.other_tag.now _ c.loop-name.invariant.agrees next.0 next.1 in
+    sym (turn.2 (tags_differ c.in-Some.tag.now c.in-Some.other_tag.now c.if-tag-other_tag.true))
 
-pub union_variants::UnionVariants::agree-loop-i-preserved : goal.union_variants::UnionVariants::agree-loop-i-preserved
-union_variants::UnionVariants::agree-loop-i-preserved t c =
-    let a = c.args.self.now in let b = c.args.other.now in
-    let e = variants_turn c.args.rule (union_names a) (union_names b) (union_dtypes a) (union_dtypes b) (union_tags a) (union_tags b) c.loop-i.i c.index-names-i.result c.index-others-i.result c.index-dtypes-i.result c.index-other_dtypes-i.result (get_or c.type_ids-tags.result.now c.loop-i.i 0) (get_or c.type_ids-other_tags.result.now c.loop-i.i 0) _ c.loop-i.invariant (omega arith) (omega arith)
-    (c.index-names-i.is ∙ ap (λ xs. get_or xs c.loop-i.i c.index-names-i.result) (c.as_slice-names.ensures ∙ c.names.ensures)) (c.index-dtypes-i.is ∙ ap (λ xs. get_or xs c.loop-i.i c.index-dtypes-i.result) c.dtypes-dtypes.ensures) (tag_at (union_tags a) _ c.loop-i.i c.type_ids-tags.ensures (omega arith)) (c.index-others-i.is ∙ ap (λ xs. get_or xs c.loop-i.i c.index-others-i.result) (c.as_slice-others.ensures ∙ c.names-2.ensures)) (c.index-other_dtypes-i.is ∙ ap (λ xs. get_or xs c.loop-i.i c.index-other_dtypes-i.result) c.dtypes-other_dtypes.ensures) (tag_at (union_tags b) _ c.loop-i.i c.type_ids-other_tags.ensures (omega arith)) in
-    e.3 (not_false _ c.if-ne.ensures) (sym c.if-not-agree.ensures) (tags_same _ _ c.if-tag-other_tag.false)
+pub union_variants::UnionVariants::agree-loop-name-preserved : goal.union_variants::UnionVariants::agree-loop-name-preserved
+union_variants::UnionVariants::agree-loop-name-preserved t c =
+    let it = c.loop-name.name-iterator in let on = c.next.new.self in
+    let next = next_triples it on c.next.result c.in-Some.name c.in-Some.other_name c.in-Some.dtype c.in-Some.other_dtype c.in-Some.tag c.in-Some.other_tag c.in-Some.is c.next.ensures.steps in
+    let turn = variants_turn c.args.rule (triples_left (zip_first it)) (triples_left (zip_second it)) (triples_left (zip_first on)) (triples_left (zip_second on)) c.in-Some.name.now c.in-Some.other_name.now (tree c.in-Some.dtype.now) (tree c.in-Some.other_dtype.now) c.in-Some.tag.now c.in-Some.other_tag.now _ c.loop-name.invariant.agrees next.0 next.1 in
+    record {
+      agrees = turn.3 (not_false _ c.if-ne.ensures) (sym c.if-not-agree.ensures) (tags_same _ _ c.if-tag-other_tag.false);
+      even = still_even (triples_left (zip_first it)) (triples_left (zip_second it)) _ _ _ _ c.loop-name.invariant.even next.0 next.1;
+    }
 
 pub union_variants::UnionVariants::agree-returns : goal.union_variants::UnionVariants::agree-returns
 union_variants::UnionVariants::agree-returns t c =
-    let a = c.args.self.now in let b = c.args.other.now in
-    let p = drop_all c.loop-i.i (choices a) (omega arith) in
-    let q = drop_all c.loop-i.i (choices b) (omega arith) in
-    rw (p, q) at c.loop-i.invariant
+    let it = c.loop-name.name-iterator in
+    variants_end c.args.rule (triples_left (zip_first it)) (triples_left (zip_second it)) _ c.loop-name.invariant.agrees c.loop-name.invariant.even (no_triple_of_either it c.next.new.self c.next.result c.in-None.is c.next.ensures.steps)

@@ -404,20 +404,14 @@ impl StructFields {
         ensures refused { IsOkUnless result OutOfMemory }
     {
         let inner = format!(in alloc; "{indent}  ")?;
-        let count = self.count();
-        let names = self.names().as_slice();
-        let dtypes = self.dtypes();
         out.push_str("{\n")?;
-        for i in 0..count {
-            let name = &names[i];
-            let dtype = &dtypes[i];
-            if i > 0 {
-                out.push_str(",\n")?;
-            }
-            write!(out, "{inner}{name}=")?;
+        let mut separator = "";
+        for (name, dtype) in self.names().as_slice().iter().zip(self.dtypes()) {
+            write!(out, "{separator}{inner}{name}=")?;
             dtype.write_indented(alloc, out, inner.as_str())?;
+            separator = ",\n";
         }
-        if count > 0 {
+        if self.count() > 0 {
             out.push_str("\n")?;
         }
         write!(out, "{indent}}}")?;
@@ -483,18 +477,12 @@ impl fmt::Display for StructFields {
 
     #[cycle(text)]
     fn fmt<W: fmt::Write>(&self, f: &mut fmt::Formatter<W>) -> fmt::Result {
-        let count = self.count();
-        let names = self.names().as_slice();
-        let dtypes = self.dtypes();
         write!(f, "{{")?;
-        for i in 0..count {
-            let name = &names[i];
-            let dtype = &dtypes[i];
-            if i > 0 {
-                f.write_str(", ")?;
-            }
-            write!(f, "{name}=")?;
+        let mut separator = "";
+        for (name, dtype) in self.names().as_slice().iter().zip(self.dtypes()) {
+            write!(f, "{separator}{name}=")?;
             dtype.fmt(f)?;
+            separator = ", ";
         }
         write!(f, "}}")
     }

@@ -394,23 +394,17 @@ impl fmt::Display for UnionVariants {
 
     #[cycle(text)]
     fn fmt<W: fmt::Write>(&self, f: &mut fmt::Formatter<W>) -> fmt::Result {
-        let count = self.count();
-        let names = self.names().as_slice();
-        let dtypes = self.dtypes();
-        let tags = self.type_ids();
+        let fields = self.names().as_slice().iter().zip(self.dtypes());
         let consecutive = self.is_consecutive();
-        for i in 0..count {
-            let name = &names[i];
-            let dtype = &dtypes[i];
+        let mut separator = "";
+        for ((name, dtype), tag) in fields.zip(self.type_ids()) {
             let tag = TagText {
-                tag: tags[i],
+                tag: *tag,
                 consecutive,
             };
-            if i > 0 {
-                f.write_str(", ")?;
-            }
-            write!(f, "{name}{tag}=")?;
+            write!(f, "{separator}{name}{tag}=")?;
             dtype.fmt(f)?;
+            separator = ", ";
         }
         Ok(())
     }

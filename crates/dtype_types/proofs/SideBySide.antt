@@ -1,10 +1,11 @@
 -- Loops over names, types and tags side by side: what is left after a turn, and at the end.
-use Rattle.std.proofs.Common.{◌≡◌, ◌⊎◌, ℕ, List, [], ◌∷◌, ◌++◌, map, refl, sym, ap, ◌∙◌, inl, inr, subst, append_assoc}
+use Rattle.std.proofs.Common.{◌≡◌, ◌⊎◌, ℕ, ◌+◌, List, [], ◌∷◌, ◌++◌, map, refl, sym, ap, ◌∙◌, inl, inr, subst, append_assoc}
 use Rattle.std.specs.Prelude.{Option, Some, None}
 use Rattle.std.specs.Borrow.{Bor}
 use Rattle.std.specs.List.{zip}
-use Rattle.std.specs.Iterator.Adapters.{zip_first, zip_second}
+use Rattle.std.specs.Iterator.Adapters.{enumerate_count, enumerate_source, enumerate_steps, zip_first, zip_second}
 use Rattle.std.specs.Slice.Iter.{iter_rest}
+use Rattle.std.specs.declared.iter.Enumerate.{Enumerate}
 use Rattle.std.specs.declared.iter.Zip.{Zip}
 use Rattle.std.specs.declared.slice.Iter.{Iter}
 use Rattle.std.proofs.iter.Yields.{fronts}
@@ -44,6 +45,20 @@ no_pair s t r e h = by (either_empty_from_Zip s t r e h)
     by : (iter_rest (zip_first s) ≡ []) ⊎ (iter_rest (zip_second s) ≡ []) → pairs_left s ≡ []
     by (inl none) = ap (λ ns. zip ns (map tree (iter_rest (zip_second s)))) none
     by (inr none) = ap (λ ds. zip (iter_rest (zip_first s)) (map tree ds)) none ∙ no_types (iter_rest (zip_first s))
+
+-- ---- the same, numbered
+
+pub next_numbered : (s t : Enumerate Pairs) (r : Option (ℕ × (Bor (List ℕ) × Bor DType))) (i : ℕ) (n : Bor (List ℕ)) (d : Bor DType) → r ≡ Some (i, (n, d)) → enumerate_steps (zips fronts fronts) s r t
+    → (pairs_left (enumerate_source s) ≡ (n.now, tree d.now) ∷ pairs_left (enumerate_source t)) × (iter_rest (zip_second (enumerate_source s)) ≡ d.now ∷ iter_rest (zip_second (enumerate_source t)))
+    × (i ≡ enumerate_count s) × (enumerate_count t ≡ enumerate_count s + 1)
+next_numbered s t r i n d e h =
+    let step = subst (λ o. enumerate_steps (zips fronts fronts) s o t) e h in
+    (next_pair (enumerate_source s) (enumerate_source t) (Some (n, d)) n d refl step.0, (Zip-more (enumerate_source s) (enumerate_source t) (Some (n, d)) (n, d) refl step.0).1, step.1, step.2)
+
+pub no_numbered : (s t : Enumerate Pairs) (r : Option (ℕ × (Bor (List ℕ) × Bor DType))) → r ≡ None → enumerate_steps (zips fronts fronts) s r t → pairs_left (enumerate_source s) ≡ []
+no_numbered s t r e h =
+    let step = subst (λ o. enumerate_steps (zips fronts fronts) s o t) e h in
+    no_pair (enumerate_source s) (enumerate_source t) None refl step.0
 
 -- ---- names, types and tags
 

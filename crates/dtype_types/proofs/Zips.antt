@@ -1,7 +1,6 @@
 -- Lists of pairs that are made of two lists of one length.
-use Rattle.std.proofs.Common.{◌≡◌, ℕ, zero, suc, ◌+◌, ◌<◌, take, get_or, List, [], ◌∷◌, ◌++◌, length, map, refl, ap, arith, sym, ◌∙◌}
+use Rattle.std.proofs.Common.{◌≡◌, ℕ, zero, suc, take, List, [], ◌∷◌, ◌++◌, length, map, refl, ap, arith}
 use Rattle.std.specs.List.{zip, remove}
-use Rattle.std.proofs.lemmas.List.{take_more, length-take}
 use Rattle.std.proofs.lemmas.Slice.Zip.{firsts-zip, seconds-zip}
 use Rattle.dtype_types.specs.Tree.{Tree}
 use Rattle.dtype_types.specs.TreeOf.{tree}
@@ -30,17 +29,6 @@ push_removed [] x zero e = refl
 push_removed [] x (suc i) e = absurd (omega arith)
 push_removed (y ∷ ys) x zero e = absurd (omega arith)
 push_removed (y ∷ ys) x (suc i) e = ap (λ zs. y ∷ zs) (push_removed ys x i (omega arith))
-
-length_take_of : {X : Type 0} (ps : List X) (i : ℕ) → i < length ps → length (take i ps) ≡ i
-length_take_of ps i h = omega (arith, length-take i ps)
-
--- one more item, which is kept unless it stands at the place left out
-pub keeps_next : {X : Type 0} (ps : List X) (i index : ℕ) (p : X) → i < length ps → p ≡ get_or ps i p → (i ≡ index → ⊥) → remove (take i ps) index ++ p ∷ [] ≡ remove (take (i + 1) ps) index
-keeps_next ps i index p h e ne =
-    sym (ap (λ xs. remove xs index) (take_more ps i p h ∙ ap (λ q. take i ps ++ q ∷ []) (sym e)) ∙ push_remove (take i ps) p index (λ l. ne (sym (length_take_of ps i h) ∙ l)))
-
-pub leaves_out : {X : Type 0} (ps : List X) (i index : ℕ) (d : X) → i < length ps → i ≡ index → remove (take i ps) index ≡ remove (take (i + 1) ps) index
-leaves_out ps i index d h same = sym (ap (λ xs. remove xs index) (take_more ps i d h) ∙ push_removed (take i ps) (get_or ps i d) index (length_take_of ps i h ∙ same))
 
 -- the names of the pairs are those that have a type
 pub firsts_take : (ns : List (List ℕ)) (ts : List Tree) → map (λ (p : List ℕ × Tree). p.0) (zip ns ts) ≡ take (length (zip ns ts)) ns

@@ -351,9 +351,10 @@ impl StructFields {
             return Err(VortexError::IndexOutOfBounds { index, fields });
         }
         let mut kept = FieldsBuilder::with_capacity(alloc, fields)?;
-        for i in 0..fields {
+        let named = self.names().as_slice().iter().zip(self.dtypes());
+        for (i, (name, dtype)) in named.enumerate() {
             if i != index {
-                kept = self.push_copy(alloc, kept, i)?;
+                kept = kept.push(name.try_clone(alloc)?, dtype.try_clone(alloc)?)?;
             }
         }
         kept.finish(alloc)

@@ -7,13 +7,13 @@ use Rattle.dtype_base.specs.Decimals.{Decimal as DecimalOf}
 use Rattle.dtype_base.specs.declared.ptype.PType.{PType}
 use Rattle.dtype_types.specs.declared.dtype.kinds.Kind.TheVariants as k
 use Rattle.dtype_types.specs.Kinds.{kind, primitive_name, decimal_of, struct_fields, union_variants, map_parts, extension_parts, list_element, fixed_size_list_element, any_size_list_element}
-use Rattle.dtype_types.specs.Tree.{Tree, Fields, Variants, primitive, struct, extension}
+use Rattle.dtype_types.specs.Tree.{Tree, primitive, struct, extension}
 use Rattle.dtype_types.specs.PartsEquality.{pairs_of}
-use Rattle.dtype_types.specs.TreeOf.{tree, children, choices, MapParts, ExtensionParts, type_step, extension_step, map_step, struct_step, union_step}
+use Rattle.dtype_types.specs.TreeOf.{tree, children, choices}
 use denote.Hole.Carrier
-use Rattle.dtype_types.specs.declared.dtype.DType.{out-DType, fold_out-DType}
+use Rattle.dtype_types.specs.declared.dtype.DType.{out-DType}
 use Rattle.dtype_types.proofs.EvenLists.{valid_map}
-use Rattle.dtype_types.proofs.TreeLaws.{struct_is, union_is, tree_struct, tree_union, triples_variants}
+use Rattle.dtype_types.proofs.TreeLaws.{tree_out, struct_is, union_is, tree_struct, tree_union, triples_variants}
 use Rattle.dtype_types.specs.declared.dtype.DType.{DType, Primitive, Decimal, List as List_of, List', FixedSizeList, FixedSizeList', Map, Map', Struct, Struct', Union, Union', Extension, Extension'}
 use Rattle.dtype_types.specs.declared.struct_fields.StructFields.{StructFields}
 use Rattle.dtype_types.specs.declared.union_variants.UnionVariants.{UnionVariants}
@@ -23,48 +23,48 @@ use Rattle.dtype_types.specs.declared.extension.ExtDTypeRef.{ExtDTypeRef}
 pub primitive_name_none : (d : DType) → ((p : PType) (n : Nullability) → d ≡ Primitive p n → ⊥) → primitive_name (tree d) ≡ None
 unfolding out-DType Carrier.out
 primitive_name_none (Primitive p n) h = absurd (h p n refl)
-primitive_name_none d h = ap primitive_name (fold_out-DType Tree ExtensionParts MapParts Fields Variants type_step extension_step map_step struct_step union_step d)
+primitive_name_none d h = ap primitive_name (tree_out d)
 
 pub decimal_of_none : (d : DType) → ((p : DecimalOf) (n : Nullability) → d ≡ Decimal p n → ⊥) → decimal_of (tree d) ≡ None
 unfolding out-DType Carrier.out
 decimal_of_none (Decimal p n) h = absurd (h p n refl)
-decimal_of_none d h = ap decimal_of (fold_out-DType Tree ExtensionParts MapParts Fields Variants type_step extension_step map_step struct_step union_step d)
+decimal_of_none d h = ap decimal_of (tree_out d)
 
 pub list_element_none : (d : DType) → ((b : Box DType Global) (n : Nullability) → d ≡ List_of b n → ⊥) → list_element (tree d) ≡ None
 unfolding out-DType Carrier.out
 list_element_none (List' b e n) h = absurd (h (record { ptr = b.ptr; alloc = b.alloc; value = e }) n refl)
-list_element_none d h = ap list_element (fold_out-DType Tree ExtensionParts MapParts Fields Variants type_step extension_step map_step struct_step union_step d)
+list_element_none d h = ap list_element (tree_out d)
 
 pub fixed_size_list_element_none : (d : DType) → ((b : Box DType Global) (j : ℕ) (n : Nullability) → d ≡ FixedSizeList b j n → ⊥) → fixed_size_list_element (tree d) ≡ None
 unfolding out-DType Carrier.out
 fixed_size_list_element_none (FixedSizeList' b e j n) h = absurd (h (record { ptr = b.ptr; alloc = b.alloc; value = e }) j n refl)
-fixed_size_list_element_none d h = ap fixed_size_list_element (fold_out-DType Tree ExtensionParts MapParts Fields Variants type_step extension_step map_step struct_step union_step d)
+fixed_size_list_element_none d h = ap fixed_size_list_element (tree_out d)
 
 pub any_size_list_element_none : (d : DType) → ((b : Box DType Global) (n : Nullability) → d ≡ List_of b n → ⊥) → ((b : Box DType Global) (j : ℕ) (n : Nullability) → d ≡ FixedSizeList b j n → ⊥) → any_size_list_element (tree d) ≡ None
 unfolding out-DType Carrier.out
 any_size_list_element_none (List' b e n) h g = absurd (h (record { ptr = b.ptr; alloc = b.alloc; value = e }) n refl)
 any_size_list_element_none (FixedSizeList' b e j n) h g = absurd (g (record { ptr = b.ptr; alloc = b.alloc; value = e }) j n refl)
-any_size_list_element_none d h g = ap any_size_list_element (fold_out-DType Tree ExtensionParts MapParts Fields Variants type_step extension_step map_step struct_step union_step d)
+any_size_list_element_none d h g = ap any_size_list_element (tree_out d)
 
 pub map_parts_none : (d : DType) → ((x : MapDType) (n : Nullability) → d ≡ Map x n → ⊥) → map_parts (tree d) ≡ None
 unfolding out-DType Carrier.out
 map_parts_none (Map' b k c v o n) h = absurd (h (record { key = record { ptr = b.ptr; value = k }; value = record { ptr = c.ptr; value = v }; keys_sorted = o }) n refl)
-map_parts_none d h = ap map_parts (fold_out-DType Tree ExtensionParts MapParts Fields Variants type_step extension_step map_step struct_step union_step d)
+map_parts_none d h = ap map_parts (tree_out d)
 
 pub struct_fields_none : (d : DType) → ((x : StructFields) (n : Nullability) → d ≡ Struct x n → ⊥) → struct_fields (tree d) ≡ None
 unfolding out-DType Carrier.out
 struct_fields_none (Struct' p ns sh row n) h = let e = struct_is p ns sh row n in absurd (h e.0 n e.1)
-struct_fields_none d h = ap struct_fields (fold_out-DType Tree ExtensionParts MapParts Fields Variants type_step extension_step map_step struct_step union_step d)
+struct_fields_none d h = ap struct_fields (tree_out d)
 
 pub union_variants_none : (d : DType) → ((x : UnionVariants) (n : Nullability) → d ≡ Union x n → ⊥) → union_variants (tree d) ≡ None
 unfolding out-DType Carrier.out
 union_variants_none (Union' p ns sh row gs n) h = let e = union_is p ns sh row gs n in absurd (h e.0 n e.1)
-union_variants_none d h = ap union_variants (fold_out-DType Tree ExtensionParts MapParts Fields Variants type_step extension_step map_step struct_step union_step d)
+union_variants_none d h = ap union_variants (tree_out d)
 
 pub extension_parts_none : (d : DType) → ((x : ExtDTypeRef) → d ≡ Extension x → ⊥) → extension_parts (tree d) ≡ None
 unfolding out-DType Carrier.out
 extension_parts_none (Extension' j b c e) h = absurd (h (record { id = j; metadata = b; storage = record { ptr = c.ptr; alloc = c.alloc; value = e } }) refl)
-extension_parts_none d h = ap extension_parts (fold_out-DType Tree ExtensionParts MapParts Fields Variants type_step extension_step map_step struct_step union_step d)
+extension_parts_none d h = ap extension_parts (tree_out d)
 
 -- what a struct, a union, a map and an extension hold
 pub struct_fields_some : (x : StructFields) (n : Nullability) (d : DType) → d ≡ Struct x n → struct_fields (tree d) ≡ Some (children x)

@@ -8,7 +8,7 @@ use Rattle.std.proofs.lemmas.Option.{slice_get_read}
 use Rattle.dtype_types.specs.IsValid.{IsValidStruct, IsValidUnion}
 use Rattle.dtype_types.specs.Laws.{IsOneListOfFields, IsOneListOfVariants}
 use Rattle.dtype_types.specs.Lookups.{variant_tags}
-use Rattle.dtype_types.specs.Tree.{Tree, triples, variants}
+use Rattle.dtype_types.specs.Tree.{Tree, triples}
 use Rattle.dtype_types.specs.TreeOf.{children, struct_names, struct_types, choices, union_names, union_types, union_tags, zip_tagged, union_tree}
 use Rattle.dtype_types.proofs.TagLaws.{tag_position}
 use Rattle.dtype_types.proofs.Turns.{tag_at}

@@ -6,10 +6,10 @@ use Rattle.dtype_base.specs.declared.nullability.Nullability.{Nullability}
 use Rattle.dtype_base.specs.Decimals.{Decimal as DecimalOf}
 use Rattle.dtype_base.specs.declared.ptype.PType.{PType}
 use Rattle.dtype_types.specs.Tree.{Tree, Fields, Variants, fields, variants, null, bool, primitive, decimal, utf8, binary, list, fixed_size_list, map_of, struct, union, variant, extension}
-use Rattle.dtype_types.specs.TreeOf.{tree, children, choices, MapParts, ExtensionParts, type_step, extension_step, map_step, struct_step, union_step}
+use Rattle.dtype_types.specs.TreeOf.{tree, children, choices}
 use denote.Hole.Carrier
-use Rattle.dtype_types.specs.declared.dtype.DType.{out-DType, fold_out-DType}
-use Rattle.dtype_types.proofs.TreeLaws.{struct_is, union_is, tree_struct, tree_union}
+use Rattle.dtype_types.specs.declared.dtype.DType.{out-DType}
+use Rattle.dtype_types.proofs.TreeLaws.{tree_out, struct_is, union_is, tree_struct, tree_union}
 use Rattle.dtype_types.specs.declared.dtype.equality.Nullabilities.{Nullabilities}
 use Rattle.dtype_types.specs.Equality.{agree, agree_fields, agree_variants, allows}
 use Rattle.dtype_types.specs.declared.dtype.DType.{DType, Null, Bool as Bool_of, Primitive, Decimal, Utf8, Binary, Variant, List as List_of, List', FixedSizeList, FixedSizeList', Map, Map', Struct, Struct', Union, Union', Extension, Extension'}
@@ -21,67 +21,67 @@ use Rattle.dtype_types.specs.declared.extension.ExtDTypeRef.{ExtDTypeRef}
 pub not_null : (s : Nullabilities) (d : DType) → (d ≡ Null → ⊥) → agree s null (tree d) ≡ false
 unfolding out-DType Carrier.out
 not_null s Null h = absurd (h refl)
-not_null s d h = ap (agree s null) (fold_out-DType Tree ExtensionParts MapParts Fields Variants type_step extension_step map_step struct_step union_step d)
+not_null s d h = ap (agree s null) (tree_out d)
 
 pub not_bool : (s : Nullabilities) (m : Nullability) (d : DType) → ((n : Nullability) → d ≡ Bool_of n → ⊥) → agree s (bool m) (tree d) ≡ false
 unfolding out-DType Carrier.out
 not_bool s m (Bool_of n) h = absurd (h n refl)
-not_bool s m d h = ap (agree s (bool m)) (fold_out-DType Tree ExtensionParts MapParts Fields Variants type_step extension_step map_step struct_step union_step d)
+not_bool s m d h = ap (agree s (bool m)) (tree_out d)
 
 pub not_primitive : (s : Nullabilities) (p : PType) (m : Nullability) (d : DType) → ((q : PType) (n : Nullability) → d ≡ Primitive q n → ⊥) → agree s (primitive p m) (tree d) ≡ false
 unfolding out-DType Carrier.out
 not_primitive s p m (Primitive q n) h = absurd (h q n refl)
-not_primitive s p m d h = ap (agree s (primitive p m)) (fold_out-DType Tree ExtensionParts MapParts Fields Variants type_step extension_step map_step struct_step union_step d)
+not_primitive s p m d h = ap (agree s (primitive p m)) (tree_out d)
 
 pub not_decimal : (s : Nullabilities) (p : DecimalOf) (m : Nullability) (d : DType) → ((q : DecimalOf) (n : Nullability) → d ≡ Decimal q n → ⊥) → agree s (decimal p m) (tree d) ≡ false
 unfolding out-DType Carrier.out
 not_decimal s p m (Decimal q n) h = absurd (h q n refl)
-not_decimal s p m d h = ap (agree s (decimal p m)) (fold_out-DType Tree ExtensionParts MapParts Fields Variants type_step extension_step map_step struct_step union_step d)
+not_decimal s p m d h = ap (agree s (decimal p m)) (tree_out d)
 
 pub not_utf8 : (s : Nullabilities) (m : Nullability) (d : DType) → ((n : Nullability) → d ≡ Utf8 n → ⊥) → agree s (utf8 m) (tree d) ≡ false
 unfolding out-DType Carrier.out
 not_utf8 s m (Utf8 n) h = absurd (h n refl)
-not_utf8 s m d h = ap (agree s (utf8 m)) (fold_out-DType Tree ExtensionParts MapParts Fields Variants type_step extension_step map_step struct_step union_step d)
+not_utf8 s m d h = ap (agree s (utf8 m)) (tree_out d)
 
 pub not_binary : (s : Nullabilities) (m : Nullability) (d : DType) → ((n : Nullability) → d ≡ Binary n → ⊥) → agree s (binary m) (tree d) ≡ false
 unfolding out-DType Carrier.out
 not_binary s m (Binary n) h = absurd (h n refl)
-not_binary s m d h = ap (agree s (binary m)) (fold_out-DType Tree ExtensionParts MapParts Fields Variants type_step extension_step map_step struct_step union_step d)
+not_binary s m d h = ap (agree s (binary m)) (tree_out d)
 
 pub not_variant : (s : Nullabilities) (m : Nullability) (d : DType) → ((n : Nullability) → d ≡ Variant n → ⊥) → agree s (variant m) (tree d) ≡ false
 unfolding out-DType Carrier.out
 not_variant s m (Variant n) h = absurd (h n refl)
-not_variant s m d h = ap (agree s (variant m)) (fold_out-DType Tree ExtensionParts MapParts Fields Variants type_step extension_step map_step struct_step union_step d)
+not_variant s m d h = ap (agree s (variant m)) (tree_out d)
 
 pub not_list : (s : Nullabilities) (t : Tree) (m : Nullability) (d : DType) → ((b : Box DType Global) (n : Nullability) → d ≡ List_of b n → ⊥) → agree s (list t m) (tree d) ≡ false
 unfolding out-DType Carrier.out
 not_list s t m (List' b e n) h = absurd (h (record { ptr = b.ptr; alloc = b.alloc; value = e }) n refl)
-not_list s t m d h = ap (agree s (list t m)) (fold_out-DType Tree ExtensionParts MapParts Fields Variants type_step extension_step map_step struct_step union_step d)
+not_list s t m d h = ap (agree s (list t m)) (tree_out d)
 
 pub not_fixed : (s : Nullabilities) (t : Tree) (k : ℕ) (m : Nullability) (d : DType) → ((b : Box DType Global) (j : ℕ) (n : Nullability) → d ≡ FixedSizeList b j n → ⊥) → agree s (fixed_size_list t k m) (tree d) ≡ false
 unfolding out-DType Carrier.out
 not_fixed s t k m (FixedSizeList' b e j n) h = absurd (h (record { ptr = b.ptr; alloc = b.alloc; value = e }) j n refl)
-not_fixed s t k m d h = ap (agree s (fixed_size_list t k m)) (fold_out-DType Tree ExtensionParts MapParts Fields Variants type_step extension_step map_step struct_step union_step d)
+not_fixed s t k m d h = ap (agree s (fixed_size_list t k m)) (tree_out d)
 
 pub not_map : (s : Nullabilities) (t u : Tree) (a : Bool) (m : Nullability) (d : DType) → ((x : MapDType) (n : Nullability) → d ≡ Map x n → ⊥) → agree s (map_of t u a m) (tree d) ≡ false
 unfolding out-DType Carrier.out
 not_map s t u a m (Map' b k c v o n) h = absurd (h (record { key = record { ptr = b.ptr; value = k }; value = record { ptr = c.ptr; value = v }; keys_sorted = o }) n refl)
-not_map s t u a m d h = ap (agree s (map_of t u a m)) (fold_out-DType Tree ExtensionParts MapParts Fields Variants type_step extension_step map_step struct_step union_step d)
+not_map s t u a m d h = ap (agree s (map_of t u a m)) (tree_out d)
 
 pub not_struct : (s : Nullabilities) (fs : Fields) (m : Nullability) (d : DType) → ((x : StructFields) (n : Nullability) → d ≡ Struct x n → ⊥) → agree s (struct fs m) (tree d) ≡ false
 unfolding out-DType Carrier.out
 not_struct s fs m (Struct' p ns sh row n) h = let e = struct_is p ns sh row n in absurd (h e.0 n e.1)
-not_struct s fs m d h = ap (agree s (struct fs m)) (fold_out-DType Tree ExtensionParts MapParts Fields Variants type_step extension_step map_step struct_step union_step d)
+not_struct s fs m d h = ap (agree s (struct fs m)) (tree_out d)
 
 pub not_union : (s : Nullabilities) (vs : Variants) (m : Nullability) (d : DType) → ((x : UnionVariants) (n : Nullability) → d ≡ Union x n → ⊥) → agree s (union vs m) (tree d) ≡ false
 unfolding out-DType Carrier.out
 not_union s vs m (Union' p ns sh row gs n) h = let e = union_is p ns sh row gs n in absurd (h e.0 n e.1)
-not_union s vs m d h = ap (agree s (union vs m)) (fold_out-DType Tree ExtensionParts MapParts Fields Variants type_step extension_step map_step struct_step union_step d)
+not_union s vs m d h = ap (agree s (union vs m)) (tree_out d)
 
 pub not_extension : (s : Nullabilities) (i a : List ℕ) (t : Tree) (d : DType) → ((x : ExtDTypeRef) → d ≡ Extension x → ⊥) → agree s (extension i a t) (tree d) ≡ false
 unfolding out-DType Carrier.out
 not_extension s i a t (Extension' j b c e) h = absurd (h (record { id = j; metadata = b; storage = record { ptr = c.ptr; alloc = c.alloc; value = e } }) refl)
-not_extension s i a t d h = ap (agree s (extension i a t)) (fold_out-DType Tree ExtensionParts MapParts Fields Variants type_step extension_step map_step struct_step union_step d)
+not_extension s i a t d h = ap (agree s (extension i a t)) (tree_out d)
 
 pub struct_agree : (s : Nullabilities) (d e : DType) (x y : StructFields) (m n : Nullability) → d ≡ Struct x m → e ≡ Struct y n → agree s (tree d) (tree e) ≡ (agree_fields s (fields (children x)) (fields (children y)) && allows s m n)
 struct_agree s d e x y m n p q =

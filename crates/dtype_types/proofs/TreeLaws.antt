@@ -2,9 +2,10 @@
 use Rattle.std.specs.Prelude.{◌≡◌, ℕ, List, [], ◌∷◌, refl}
 use Rattle.std.proofs.Common.{ap, sym, ◌∙◌, rules}
 use Rattle.dtype_base.specs.declared.nullability.Nullability.{Nullability}
-use Rattle.dtype_types.specs.Tree.{null, map_of, Tree, triples, fields, variants, struct, union}
-use Rattle.dtype_types.specs.TreeOf.{tree, extension_tree, children, choices}
-use Rattle.dtype_types.specs.declared.dtype.DType.{DType, Map, Null, Struct, Struct', Union, Union', Extension, roll-out-DType, roll-DType}
+use Rattle.dtype_types.specs.Tree.{null, map_of, Tree, Fields, Variants, triples, fields, variants, struct, union}
+use Rattle.dtype_types.specs.TreeOf.{tree, extension_tree, children, choices, MapParts, ExtensionParts, type_step, extension_step, map_step, struct_step, union_step}
+use Rattle.dtype_types.specs.declared.dtype.DType.{DType, Map, Null, Struct, Struct', Union, Union', Extension, roll-out-DType, roll-DType, out-DType, map-DType}
+use Rattle.dtype_types.specs.declared.dtype.DType.TheFolds.{fold-ExtDTypeRef, fold-MapDType, fold-StructFields, fold-UnionVariants}
 use Rattle.dtype_types.specs.declared.dtype.DType.TheViews.{rolls-Struct, outs-Struct', rolls-Union, outs-Union'}
 use Rattle.dtype_types.specs.declared.dtype.DType.{fold_out-DType, fold-roll-DType, the_lemmas}
 use Rattle.dtype_types.specs.declared.struct_fields.StructFields.{fold_out-StructFields}
@@ -13,6 +14,23 @@ use Rattle.dtype_types.specs.declared.struct_fields.StructFields.{StructFields}
 use Rattle.dtype_types.specs.declared.union_variants.UnionVariants.{UnionVariants}
 use Rattle.dtype_types.specs.declared.extension.ExtDTypeRef.{ExtDTypeRef, fold_out-ExtDTypeRef}
 use Rattle.dtype_types.specs.declared.map.MapDType.{MapDType, fold_out-MapDType}
+
+-- what a part holds, with the trees of its types
+abbrev extension_held : ExtDTypeRef → ExtensionParts
+extension_held = fold-ExtDTypeRef Tree ExtensionParts MapParts Fields Variants type_step extension_step map_step struct_step union_step
+
+abbrev map_held : MapDType → MapParts
+map_held = fold-MapDType Tree ExtensionParts MapParts Fields Variants type_step extension_step map_step struct_step union_step
+
+abbrev struct_held : StructFields → Fields
+struct_held = fold-StructFields Tree ExtensionParts MapParts Fields Variants type_step extension_step map_step struct_step union_step
+
+abbrev union_held : UnionVariants → Variants
+union_held = fold-UnionVariants Tree ExtensionParts MapParts Fields Variants type_step extension_step map_step struct_step union_step
+
+-- the tree of a type is one layer over the trees of what it holds
+pub tree_out : (d : DType) → tree d ≡ type_step (map-DType DType ExtDTypeRef MapDType StructFields UnionVariants Tree ExtensionParts MapParts Fields Variants tree extension_held map_held struct_held union_held (out-DType d))
+tree_out d = fold_out-DType Tree ExtensionParts MapParts Fields Variants type_step extension_step map_step struct_step union_step d
 
 pub tree_null : tree Null ≡ null
 tree_null = search (rules, the_lemmas, fold_out-DType, fold-roll-DType)

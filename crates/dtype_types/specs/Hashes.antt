@@ -1,7 +1,7 @@
 -- What a type feeds a hasher, as a list of writes: the number of its kind, all that it holds, and its
 -- nullability, where nullabilities aren't forgotten. Counts stand before lists, and a mark behind texts.
 -- It is a function of the tree, so equal types feed alike.
-use Rattle.std.specs.Prelude.{ℕ, suc, List, [], ◌++◌}
+use Rattle.std.specs.Prelude.{ℕ, suc, [], ◌++◌}
 use Rattle.std.specs.Hash as fed
 use Rattle.std.specs.Hash.{HashWrites}
 use Rattle.dtype_base.specs.Primitives.{primitive as row}

@@ -34,200 +34,57 @@ fn same_kind(a: &DtypeType, b: &DtypeType) -> bool
     match a {
         DtypeType::Null(_) => match b {
             DtypeType::Null(_) => true,
-            DtypeType::Bool(_)
-            | DtypeType::Primitive(_)
-            | DtypeType::Decimal(_)
-            | DtypeType::Utf8(_)
-            | DtypeType::Binary(_)
-            | DtypeType::List(_)
-            | DtypeType::FixedSizeList(_)
-            | DtypeType::Map(_)
-            | DtypeType::Struct(_)
-            | DtypeType::Union(_)
-            | DtypeType::Variant(_)
-            | DtypeType::Extension(_) => false,
+            _ => false,
         },
         DtypeType::Bool(x) => match b {
             DtypeType::Bool(y) => x.nullable == y.nullable,
-            DtypeType::Null(_)
-            | DtypeType::Primitive(_)
-            | DtypeType::Decimal(_)
-            | DtypeType::Utf8(_)
-            | DtypeType::Binary(_)
-            | DtypeType::List(_)
-            | DtypeType::FixedSizeList(_)
-            | DtypeType::Map(_)
-            | DtypeType::Struct(_)
-            | DtypeType::Union(_)
-            | DtypeType::Variant(_)
-            | DtypeType::Extension(_) => false,
+            _ => false,
         },
         DtypeType::Primitive(x) => match b {
             DtypeType::Primitive(y) => x.ptype == y.ptype && x.nullable == y.nullable,
-            DtypeType::Null(_)
-            | DtypeType::Bool(_)
-            | DtypeType::Decimal(_)
-            | DtypeType::Utf8(_)
-            | DtypeType::Binary(_)
-            | DtypeType::List(_)
-            | DtypeType::FixedSizeList(_)
-            | DtypeType::Map(_)
-            | DtypeType::Struct(_)
-            | DtypeType::Union(_)
-            | DtypeType::Variant(_)
-            | DtypeType::Extension(_) => false,
+            _ => false,
         },
         DtypeType::Decimal(x) => match b {
             DtypeType::Decimal(y) => x.precision == y.precision
                 && x.scale == y.scale
                 && x.nullable == y.nullable,
-            DtypeType::Null(_)
-            | DtypeType::Bool(_)
-            | DtypeType::Primitive(_)
-            | DtypeType::Utf8(_)
-            | DtypeType::Binary(_)
-            | DtypeType::List(_)
-            | DtypeType::FixedSizeList(_)
-            | DtypeType::Map(_)
-            | DtypeType::Struct(_)
-            | DtypeType::Union(_)
-            | DtypeType::Variant(_)
-            | DtypeType::Extension(_) => false,
+            _ => false,
         },
         DtypeType::Utf8(x) => match b {
             DtypeType::Utf8(y) => x.nullable == y.nullable,
-            DtypeType::Null(_)
-            | DtypeType::Bool(_)
-            | DtypeType::Primitive(_)
-            | DtypeType::Decimal(_)
-            | DtypeType::Binary(_)
-            | DtypeType::List(_)
-            | DtypeType::FixedSizeList(_)
-            | DtypeType::Map(_)
-            | DtypeType::Struct(_)
-            | DtypeType::Union(_)
-            | DtypeType::Variant(_)
-            | DtypeType::Extension(_) => false,
+            _ => false,
         },
         DtypeType::Binary(x) => match b {
             DtypeType::Binary(y) => x.nullable == y.nullable,
-            DtypeType::Null(_)
-            | DtypeType::Bool(_)
-            | DtypeType::Primitive(_)
-            | DtypeType::Decimal(_)
-            | DtypeType::Utf8(_)
-            | DtypeType::List(_)
-            | DtypeType::FixedSizeList(_)
-            | DtypeType::Map(_)
-            | DtypeType::Struct(_)
-            | DtypeType::Union(_)
-            | DtypeType::Variant(_)
-            | DtypeType::Extension(_) => false,
+            _ => false,
         },
         DtypeType::List(x) => match b {
             DtypeType::List(y) => same_list(x, y),
-            DtypeType::Null(_)
-            | DtypeType::Bool(_)
-            | DtypeType::Primitive(_)
-            | DtypeType::Decimal(_)
-            | DtypeType::Utf8(_)
-            | DtypeType::Binary(_)
-            | DtypeType::FixedSizeList(_)
-            | DtypeType::Map(_)
-            | DtypeType::Struct(_)
-            | DtypeType::Union(_)
-            | DtypeType::Variant(_)
-            | DtypeType::Extension(_) => false,
+            _ => false,
         },
         DtypeType::FixedSizeList(x) => match b {
             DtypeType::FixedSizeList(y) => same_fixed(x, y),
-            DtypeType::Null(_)
-            | DtypeType::Bool(_)
-            | DtypeType::Primitive(_)
-            | DtypeType::Decimal(_)
-            | DtypeType::Utf8(_)
-            | DtypeType::Binary(_)
-            | DtypeType::List(_)
-            | DtypeType::Map(_)
-            | DtypeType::Struct(_)
-            | DtypeType::Union(_)
-            | DtypeType::Variant(_)
-            | DtypeType::Extension(_) => false,
+            _ => false,
         },
         DtypeType::Map(x) => match b {
             DtypeType::Map(y) => same_map(x, y),
-            DtypeType::Null(_)
-            | DtypeType::Bool(_)
-            | DtypeType::Primitive(_)
-            | DtypeType::Decimal(_)
-            | DtypeType::Utf8(_)
-            | DtypeType::Binary(_)
-            | DtypeType::List(_)
-            | DtypeType::FixedSizeList(_)
-            | DtypeType::Struct(_)
-            | DtypeType::Union(_)
-            | DtypeType::Variant(_)
-            | DtypeType::Extension(_) => false,
+            _ => false,
         },
         DtypeType::Struct(x) => match b {
             DtypeType::Struct(y) => same_struct(x, y),
-            DtypeType::Null(_)
-            | DtypeType::Bool(_)
-            | DtypeType::Primitive(_)
-            | DtypeType::Decimal(_)
-            | DtypeType::Utf8(_)
-            | DtypeType::Binary(_)
-            | DtypeType::List(_)
-            | DtypeType::FixedSizeList(_)
-            | DtypeType::Map(_)
-            | DtypeType::Union(_)
-            | DtypeType::Variant(_)
-            | DtypeType::Extension(_) => false,
+            _ => false,
         },
         DtypeType::Union(x) => match b {
             DtypeType::Union(y) => same_union(x, y),
-            DtypeType::Null(_)
-            | DtypeType::Bool(_)
-            | DtypeType::Primitive(_)
-            | DtypeType::Decimal(_)
-            | DtypeType::Utf8(_)
-            | DtypeType::Binary(_)
-            | DtypeType::List(_)
-            | DtypeType::FixedSizeList(_)
-            | DtypeType::Map(_)
-            | DtypeType::Struct(_)
-            | DtypeType::Variant(_)
-            | DtypeType::Extension(_) => false,
+            _ => false,
         },
         DtypeType::Variant(x) => match b {
             DtypeType::Variant(y) => x.nullable == y.nullable,
-            DtypeType::Null(_)
-            | DtypeType::Bool(_)
-            | DtypeType::Primitive(_)
-            | DtypeType::Decimal(_)
-            | DtypeType::Utf8(_)
-            | DtypeType::Binary(_)
-            | DtypeType::List(_)
-            | DtypeType::FixedSizeList(_)
-            | DtypeType::Map(_)
-            | DtypeType::Struct(_)
-            | DtypeType::Union(_)
-            | DtypeType::Extension(_) => false,
+            _ => false,
         },
         DtypeType::Extension(x) => match b {
             DtypeType::Extension(y) => same_extension(x, y),
-            DtypeType::Null(_)
-            | DtypeType::Bool(_)
-            | DtypeType::Primitive(_)
-            | DtypeType::Decimal(_)
-            | DtypeType::Utf8(_)
-            | DtypeType::Binary(_)
-            | DtypeType::List(_)
-            | DtypeType::FixedSizeList(_)
-            | DtypeType::Map(_)
-            | DtypeType::Struct(_)
-            | DtypeType::Union(_)
-            | DtypeType::Variant(_) => false,
+            _ => false,
         },
     }
 }

@@ -1,5 +1,5 @@
 -- The numbers of so many digits, and the text of a decimal type that is kept in a native one.
-use Rattle.std.specs.Prelude.{◌≡◌, ◌↔◌, ℕ, ◌-◌, ◌^◌, ℤ, pos, neg_ℤ, ◌≤ℤ◌, List, ◌++◌, codes, Result, IsOk, MatchResult}
+use Rattle.std.specs.Prelude.{◌≡◌, ◌↔◌, ℕ, ◌-◌, ◌^◌, ℤ, pos, neg_ℤ, List, ◌++◌, codes, Result, IsOk, MatchResult}
 use Rattle.std.specs.Fmt.{decimal, signed_decimal}
 use Rattle.dtype_base.specs.declared.vortex_error.VortexError.{VortexError}
 use Rattle.dtype_base.specs.Decimals.{Decimal, IsDecimalWithin, IsDecimalRefusal}

@@ -1,5 +1,5 @@
 -- What the words of `Cover` say of one another.
-use Rattle.std.proofs.Common.{◌≡◌, ◌↔◌, ◌⊎◌, true, not, List, [], ◌∷◌, ◌++◌, length, inl, inr, refl, sym, ap, subst, ◌∙◌, ⊎_elim, append-nil, append_assoc, length-append, arith}
+use Rattle.std.proofs.Common.{◌≡◌, ◌↔◌, true, not, List, [], ◌∷◌, ◌++◌, length, inl, inr, refl, sym, ap, subst, ◌∙◌, ⊎_elim, append-nil, append_assoc, length-append, arith}
 use Rattle.std.specs.List.{Contains, flat_map}
 use Rattle.std.specs.Set.{is_member, unique_keys}
 use Rattle.std.proofs.lemmas.Bool.{and_from, and_parts}

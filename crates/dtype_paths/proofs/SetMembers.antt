@@ -1,5 +1,5 @@
 -- How the members of a set change, step by step.
-use Rattle.std.proofs.Common.{◌≡◌, ◌↔◌, ◌⊎◌, ◌||◌, Bool, true, false, List, [], ◌∷◌, ◌++◌, inl, inr, refl, sym, subst, ◌∙◌, ⊎_elim}
+use Rattle.std.proofs.Common.{◌≡◌, ◌↔◌, ◌⊎◌, ◌||◌, Bool, true, false, List, [], ◌∷◌, inl, inr, refl, sym, subst, ◌∙◌, ⊎_elim}
 use Rattle.std.specs.List.{Contains}
 use Rattle.std.specs.Set.{is_member}
 use Rattle.std.proofs.lemmas.List.Elements.{Contains-append_cases, Contains-append_left, Contains-append_right}

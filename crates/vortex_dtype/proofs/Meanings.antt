@@ -1,9 +1,8 @@
 -- Facts on the meanings of sessions.
-use Rattle.std.proofs.Common.{◌≡◌, ℕ, List, [], ◌∷◌, Option, Some, None, Result, Ok, Err, IfOk, IfErr, Bool, true, false, bytes_eq, refl, ap, ◌∙◌, cond, subst}
+use Rattle.std.proofs.Common.{◌≡◌, ℕ, List, Option, Some, None, Result, Ok, Err, IfOk, IfErr, Bool, true, false, ap, cond, subst}
 use Rattle.std.proofs.lemmas.Result.{IfErr-weaker}
 use Rattle.std.proofs.Common.{inl, inr}
-use Rattle.std.specs.Prelude.{option_map, string_bytes}
-use Rattle.std.specs.Map.{lookup}
+use Rattle.std.specs.Prelude.{option_map}
 use Rattle.std.specs.declared.string.String.{String}
 use Rattle.std.specs.declared.alloc.Global.{Global}
 use Rattle.vortex_dtype.specs.Meaning.{Rewrites, Meaning, Lawful, Bytes}

@@ -1,7 +1,7 @@
 -- What the reading function gives is what reads, and its refusals are faults.
-use Rattle.std.proofs.Common.{◌≡◌, ◌≢◌, ◌⊎◌, ⊎_elim, inl, inr, ℕ, ℤ, pos, negsuc, neg_ℤ, ◌<◌, ◌≤◌, ◌≤ℤ◌, ◌<ℤ◌, ◌==◌, List, [], ◌∷◌, length, map, Option, Some, None, Bool, true, false, cond, Result, Ok, Err, nat_eq, nat_lt, refl, sym, ap, subst, ◌∙◌, arith}
+use Rattle.std.proofs.Common.{◌≡◌, ◌≢◌, ◌⊎◌, ⊎_elim, inl, inr, ℕ, ℤ, pos, ◌<◌, ◌≤◌, ◌==◌, List, [], ◌∷◌, length, map, Option, Some, None, Bool, true, false, cond, Result, Ok, Err, nat_eq, refl, sym, ap, subst, ◌∙◌, arith}
 use Rattle.std.specs.Int.{w32}
-use Rattle.std.specs.Prelude.{int_lt, FitsSigned, IfOk}
+use Rattle.std.specs.Prelude.{FitsSigned, IfOk}
 use Rattle.std.specs.List.{zip, IsDistinct, AllByRecursion}
 use Rattle.std.specs.Str.{bytes_eq}
 use Rattle.std.specs.Ordering.{int_eq}
@@ -16,7 +16,7 @@ use Rattle.std.proofs.lemmas.Map.Made.{IsDistinct-from_AllPairs, AllPairs-from_I
 use Rattle.dtype_base.specs.declared.nullability.Nullability.{Nullability}
 use Rattle.dtype_base.specs.declared.nullability.Nullability.TheVariants.{NonNullable, Nullable}
 use Rattle.dtype_base.specs.declared.ptype.PType.{PType}
-use Rattle.dtype_base.specs.Decimals.{Decimal, IsValidDecimal}
+use Rattle.dtype_base.specs.Decimals.{IsValidDecimal}
 use Rattle.dtype_base.specs.Nullability.{nullability_of}
 use Rattle.dtype_types.specs.Distinct.{Distinct}
 use Rattle.dtype_types.specs.Nullable.{nullability}

@@ -1,14 +1,13 @@
 -- Laws of reading, over message trees and types alone.
-use Rattle.std.proofs.Common.{◌≡◌, ◌≢◌, ⊎_elim, ℕ, ℤ, negsuc, ◌+◌, ◌<◌, ◌≤◌, List, [], ◌∷◌, length, Option, Some, None, Bool, true, false, cond, ◌==◌, pos, refl, sym, ap, ◌∙◌, subst, arith, All, nat_eq, nat_lt}
+use Rattle.std.proofs.Common.{◌≡◌, ◌≢◌, ⊎_elim, ℕ, ℤ, negsuc, ◌<◌, ◌≤◌, List, [], ◌∷◌, length, Option, Some, None, Bool, true, false, cond, ◌==◌, pos, refl, sym, ap, ◌∙◌, subst, arith, All, nat_lt}
 use Rattle.std.specs.List.{IsDistinct, AllByRecursion}
-use Rattle.std.specs.Cmp.{unsigned_Decides, signed_Decides}
+use Rattle.std.specs.Cmp.{signed_Decides}
 use Rattle.std.specs.Ordering.{int_eq}
 use Rattle.std.specs.Str.{bytes_eq}
 use Rattle.std.proofs.lemmas.Bool.{false≢true}
 use Rattle.std.proofs.lemmas.Bool.Decides.{Decides-eqb, nat_tests}
 use Rattle.std.proofs.lemmas.Slice.Eq.{bytes_eq-Decides}
 use Rattle.std.proofs.lemmas.Map.Made.{IsDistinct-from_AllPairs, AllPairs-from_IsDistinct}
-use Rattle.dtype_base.specs.Decimals.{Decimal, IsValidDecimal}
 use Rattle.dtype_base.specs.Primitives as base
 use Rattle.dtype_base.specs.Nullability.{nullability_of}
 use Rattle.dtype_base.specs.declared.nullability.Nullability.{Nullability}
@@ -21,10 +20,10 @@ use Rattle.dtype_types.specs.Tree as of
 use Rattle.dtype_types.specs.Tree.{Tree, Fields, no_fields, field, Variants, no_variants, choice}
 use Rattle.dtype_types.specs.Valid.{Valid, ValidFields, ValidVariants, HasVariant, LacksName, LacksTag}
 use Rattle.vortex_dtype.specs.Message.{Message, Child, Messages, missing, null, bool, primitive, decimal, utf8, binary, list, fixed_size_list, map_of, struct, union, variant, extension, absent, present, no_message, more}
-use Rattle.vortex_dtype.specs.Meaning.{Meaning, LawfulSession, Admits, AdmitsFields, AdmitsVariants, keeps, refusal}
+use Rattle.vortex_dtype.specs.Meaning.{Meaning, LawfulSession, Admits, AdmitsFields, AdmitsVariants, keeps}
 use Rattle.vortex_dtype.specs.Numbers.{ptype_at, ptype_from, byte_at}
 use Rattle.vortex_dtype.specs.Reading.{or_empty}
-use Rattle.vortex_dtype.specs.Reads.{Reads, ReadsChild, ReadsFields, ReadsVariants, Fault, ChildFault, SomeFault, SomeTagFault, UnionFault, DecimalFault, decimal_of, number, count}
+use Rattle.vortex_dtype.specs.Reads.{Reads, ReadsChild, ReadsFields, ReadsVariants, Fault, ChildFault, SomeFault, SomeTagFault, UnionFault, number, count}
 use Rattle.vortex_dtype.specs.Accepts.{Accepts}
 use Rattle.vortex_dtype.specs.Written.{is_nullable, written, field_names, written_fields, variant_names, written_variants, written_tags, Normal, NormalChild, NormalAll}
 use Rattle.vortex_dtype.specs.IsMessage.{OptionBytes, IsMessage, IsChild, AreMessages}

@@ -1,5 +1,5 @@
 -- A session after a list of calls, in words of the list alone.
-use Rattle.std.specs.Prelude.{◌≡◌, ◌≢◌, ℕ, List, [], ◌∷◌, Bool, true, false}
+use Rattle.std.specs.Prelude.{◌≢◌, ℕ, List, [], ◌∷◌, Bool, true, false}
 use Rattle.vortex_dtype.specs.Meaning.{Rewrites, Meaning, put, allowing}
 
 -- the calls that change a session

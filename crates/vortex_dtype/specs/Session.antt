@@ -1,5 +1,5 @@
 -- What a session means: its plugins by their ids, as far as they mean something, and its flag.
-use Rattle.std.specs.Prelude.{◌≡◌, ℕ, List, Option, Some, None, Bool, if◌then◌else◌, option_map, bytes_eq, string_bytes}
+use Rattle.std.specs.Prelude.{List, Bool, option_map, bytes_eq, string_bytes}
 use Rattle.std.specs.Map.{lookup}
 use Rattle.std.specs.declared.string.String.{String}
 use Rattle.std.specs.declared.alloc.Global.{Global}

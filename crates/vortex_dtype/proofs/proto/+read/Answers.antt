@@ -1,9 +1,9 @@
-use Rattle.std.proofs.Common.{◌≡◌, map, string_bytes, All, Ok, Err, ◌+◌, ◌<◌, List, ◌++◌, ◌∷◌, [], length, IfOk, sym, ap, subst, ◌∙◌, rules, arith}
+use Rattle.std.proofs.Common.{◌≡◌, map, string_bytes, Ok, Err, ◌+◌, ◌<◌, List, ◌++◌, ◌∷◌, [], length, sym, ap, subst, ◌∙◌, rules, arith}
 use Rattle.std.proofs.lemmas.List.{map-append}
 use Rattle.std.proofs.lemmas.Result.{IfOk-weaker}
 use Rattle.dtype_types.specs.TreeOf.{tree}
 use Rattle.vortex_dtype.specs.IsMessage.{AreTags, IsMessage}
-use Rattle.vortex_dtype.specs.Message.{Message, messages, struct, union}
+use Rattle.vortex_dtype.specs.Message.{Message}
 use Rattle.vortex_dtype.specs.MessageOf.{message, bytes_of}
 use Rattle.vortex_dtype.specs.Reading.{read, Fails, Gives, struct_read, union_read, or_empty}
 use Rattle.vortex_dtype.specs.Session.{meaning}

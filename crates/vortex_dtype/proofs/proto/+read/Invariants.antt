@@ -1,4 +1,4 @@
-use Rattle.std.proofs.Common.{◌≡◌, map, drop, All}
+use Rattle.std.proofs.Common.{map, drop, All}
 use Rattle.dtype_types.specs.IsValid.{IsValid}
 use Rattle.dtype_types.specs.TreeOf.{tree}
 use Rattle.vortex_dtype.specs.Message.{messages}

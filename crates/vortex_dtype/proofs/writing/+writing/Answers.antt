@@ -1,4 +1,4 @@
-use Rattle.std.proofs.Common.{◌≡◌, ℕ, pos, refl, sym, ap, ◌∙◌, ◌<◌, ◌≤◌, arith, get_or, rules, map, length, string_bytes, [], ◌∷◌, ◌++◌}
+use Rattle.std.proofs.Common.{◌≡◌, pos, refl, sym, ap, ◌∙◌, arith, get_or, rules, map, string_bytes, [], ◌∷◌, ◌++◌}
 use Rattle.dtype_types.specs.TreeOf.{tree, children, choices, union_names, union_types, union_tags}
 use Rattle.vortex_dtype.specs.MessageOf.{message}
 use Rattle.vortex_dtype.proofs.Weight.{weight_field, weight_variant}

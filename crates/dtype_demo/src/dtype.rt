@@ -19,10 +19,9 @@ pub fn demo_dtype(alloc: Global) -> VortexResult<DType>
     let list = DType::list(alloc, element, Nullability::Nullable)?;
     let byte = Box::new(alloc, DType::from(PType::U8))?;
     let pair = DType::FixedSizeList(byte, 2, Nullability::NonNullable);
-    struct_of(
-        alloc,
-        vec![in alloc; field(alloc, "a", list)?, field(alloc, "f", pair)?]?,
-    )
+    let list = field(alloc, "a", list)?;
+    let pair = field(alloc, "f", pair)?;
+    struct_of(alloc, vec![in alloc; list, pair]?)
 }
 
 // A field of this name and type. Refuses 0 (OutOfMemory) alone.

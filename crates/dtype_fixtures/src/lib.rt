@@ -44,7 +44,8 @@ pub fn booleans(alloc: Global, names: &[&str]) -> VortexResult<StructFields> {
 
 /// The struct type of one field.
 pub fn record(alloc: Global, name: &str, dtype: DType, n: Nullability) -> VortexResult<DType> {
-    DType::struct_(alloc, vec![in alloc; field(alloc, name, dtype)?]?, n)
+    let field = field(alloc, name, dtype)?;
+    DType::struct_(alloc, vec![in alloc; field]?, n)
 }
 
 /// The fixed-size list type of so many of this element.
@@ -73,20 +74,26 @@ fn variants(alloc: Global) -> VortexResult<UnionVariants> {
 
 /// A type of each kind but `Null`, of this nullability; what they hold is the same at both.
 pub fn kinds(alloc: Global, n: Nullability) -> VortexResult<Vec<DType>> {
-    let number = primitive(PType::I32, Nullable);
+    let decimal = DecimalDType::try_new(10, -5)?;
+    let list = DType::list(alloc, primitive(PType::I32, Nullable), n)?;
+    let fixed = fixed_size_list(alloc, primitive(PType::F16, NonNullable), 3, n)?;
+    let map = DType::map(alloc, DType::Utf8(NonNullable), DType::Null, true, n)?;
+    let fields = booleans(alloc, &["a", "b"])?;
+    let variants = variants(alloc)?;
+    let extension = extension(alloc, b"a", DType::Utf8(n))?;
     Ok(vec![in alloc;
         DType::Bool(n),
         primitive(PType::I8, n),
-        DType::Decimal(DecimalDType::try_new(10, -5)?, n),
+        DType::Decimal(decimal, n),
         DType::Utf8(n),
         DType::Binary(n),
-        DType::list(alloc, number, n)?,
-        fixed_size_list(alloc, primitive(PType::F16, NonNullable), 3, n)?,
-        DType::map(alloc, DType::Utf8(NonNullable), DType::Null, true, n)?,
-        DType::Struct(booleans(alloc, &["a", "b"])?, n),
-        DType::Union(variants(alloc)?, n),
+        list,
+        fixed,
+        map,
+        DType::Struct(fields, n),
+        DType::Union(variants, n),
         DType::Variant(n),
-        extension(alloc, b"a", DType::Utf8(n))?,
+        extension,
     ]?)
 }
 

@@ -104,8 +104,8 @@ fn a_path_is_kept_once(rt: HostRuntime) -> Result<(), Fail> {
     let alloc = rt.alloc();
     let mut twice = set(alloc, &["a", "a"])?;
     assert!(rt; lends(alloc, &twice, " $a")?);
-    let brackets = vec![in alloc; Field::from_text(alloc, "[]")?]?;
-    twice.insert(FieldPath::from_vec(brackets))?;
+    let brackets = Field::from_text(alloc, "[]")?;
+    twice.insert(FieldPath::from_field(alloc, brackets)?)?;
     twice.insert(path(alloc, "[]")?)?;
     assert!(rt; lends(alloc, &twice, " $[] $a []")?);
     assert!(rt; gives(alloc, twice, " $[] $a []")?);
@@ -128,11 +128,8 @@ fn thousand_below(alloc: Global) -> Result<FieldPathSet, Fail> {
     let mut covered = set(alloc, &["a"])?;
     for i in 0..1000u32 {
         let below = i.to_string(alloc)?;
-        let parts = vec![in alloc;
-            Field::from_text(alloc, "a")?,
-            Field::from_text(alloc, below.as_str())?,
-        ]?;
-        covered.insert(FieldPath::from_vec(parts))?;
+        let below = Field::from_text(alloc, below.as_str())?;
+        covered.insert(path(alloc, "a")?.push(below)?)?;
     }
     Ok(covered)
 }

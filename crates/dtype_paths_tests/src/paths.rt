@@ -174,10 +174,9 @@ fn path_of_a_and_b(alloc: Global) -> VortexResult<FieldPath>
 #[test]
 fn a_path_is_made_of_its_names(rt: HostRuntime) -> Result<(), Fail> {
     let alloc = rt.alloc();
-    let parts = vec![in alloc;
-        Field::from_text(alloc, "a")?,
-        Field::from_text(alloc, "b")?,
-    ]?;
+    let first = Field::from_text(alloc, "a")?;
+    let second = Field::from_text(alloc, "b")?;
+    let parts = vec![in alloc; first, second]?;
     let path = path_of_a_and_b(alloc)?;
     assert!(rt; path == FieldPath::from_vec(parts));
     let named = FieldPath::from_name(alloc, FieldName::new(alloc, "a")?)?;
@@ -194,17 +193,13 @@ fn pushed(alloc: Global, first: Field, second: Field) -> VortexResult<FieldPath>
 fn paths_are_made_in_several_ways(rt: HostRuntime) -> Result<(), Fail> {
     let alloc = rt.alloc();
     let by_names = field_path!(alloc, "a", "b")?;
-    let pushed = pushed(
-        alloc,
-        Field::from_text(alloc, "a")?,
-        Field::from_text(alloc, "b")?,
-    )?;
+    let first = Field::from_text(alloc, "a")?;
+    let second = Field::from_text(alloc, "b")?;
+    let pushed = pushed(alloc, first, second)?;
     assert!(rt; pushed == by_names);
-    let parts = vec![in alloc;
-        Field::from_text(alloc, "a")?,
-        Field::from_text(alloc, "b")?,
-    ]?;
-    let collected = FieldPath::from_iter(alloc, parts)?;
+    let first = Field::from_text(alloc, "a")?;
+    let second = Field::from_text(alloc, "b")?;
+    let collected = FieldPath::from_iter(alloc, vec![in alloc; first, second]?)?;
     assert!(rt; collected == by_names);
     let copy = by_names.try_clone()?;
     assert!(rt; copy == by_names);

@@ -110,26 +110,31 @@ fn plain_types(alloc: Global) -> VortexResult<Vec<DType>> {
 
 // Lists, maps and extensions that differ from each other.
 fn lists_maps_extensions(alloc: Global) -> VortexResult<Vec<DType>> {
-    Ok(vec![in alloc;
-        DType::list(alloc, DType::Null, REQUIRED)?,
-        fixed_size_list(alloc, DType::Null, 1, REQUIRED)?,
-        fixed_size_list(alloc, DType::Null, 2, REQUIRED)?,
-        DType::Map(map_of(alloc, DType::Null, true)?, REQUIRED),
-        DType::Map(map_of(alloc, DType::Null, false)?, REQUIRED),
-        DType::Extension(extension_of(alloc, "x.y", b'a')?),
-        DType::Extension(extension_of(alloc, "x.y", b'b')?),
-        DType::Extension(extension_of(alloc, "x.z", b'a')?),
-    ]?)
+    let mut dtypes = Vec::new(alloc);
+    dtypes.push(DType::list(alloc, DType::Null, REQUIRED)?)?;
+    for size in [1, 2] {
+        dtypes.push(fixed_size_list(alloc, DType::Null, size, REQUIRED)?)?;
+    }
+    for keys_sorted in [true, false] {
+        dtypes.push(DType::Map(map_of(alloc, DType::Null, keys_sorted)?, REQUIRED))?;
+    }
+    for (id, metadata) in [("x.y", b'a'), ("x.y", b'b'), ("x.z", b'a')] {
+        dtypes.push(DType::Extension(extension_of(alloc, id, metadata)?))?;
+    }
+    Ok(dtypes)
 }
 
 // Structs and unions that differ from each other.
 fn structs_unions(alloc: Global) -> VortexResult<Vec<DType>> {
-    Ok(vec![in alloc;
-        DType::Struct(struct_of(alloc, "a", DType::Null)?, REQUIRED),
-        DType::Struct(struct_of(alloc, "b", DType::Null)?, REQUIRED),
-        DType::Union(union_of(alloc, "string", 9, REQUIRED, REQUIRED)?, REQUIRED),
-        DType::Union(union_of(alloc, "string", 8, REQUIRED, REQUIRED)?, REQUIRED),
-    ]?)
+    let mut dtypes = Vec::new(alloc);
+    for name in ["a", "b"] {
+        dtypes.push(DType::Struct(struct_of(alloc, name, DType::Null)?, REQUIRED))?;
+    }
+    for tag in [9, 8] {
+        let variants = union_of(alloc, "string", tag, REQUIRED, REQUIRED)?;
+        dtypes.push(DType::Union(variants, REQUIRED))?;
+    }
+    Ok(dtypes)
 }
 
 fn hash_differently(rt: &impl Abort, dtypes: &[DType]) {

@@ -95,7 +95,8 @@ fn structs_are_made_of_names_and_types(rt: HostRuntime) -> Result<(), Fail> {
 fn structs_are_made_of_names_and_fields(rt: HostRuntime) -> Result<(), Fail> {
     let alloc = rt.alloc();
     let names = FieldNames::from_texts(alloc, &["a"])?;
-    let types = vec![in alloc; FieldDType::from(PType::U8).try_clone(alloc)?]?;
+    let copy = FieldDType::from(PType::U8).try_clone(alloc)?;
+    let types = vec![in alloc; copy]?;
     assert_eq!(rt; names.len(), types.len());
     let fields = StructFields::from_fields(alloc, names, types)?;
     assert!(rt; fields.field("a") == Some(&DType::BYTES));
@@ -135,12 +136,10 @@ fn no_fields_have_texts(rt: HostRuntime) -> Result<(), Fail> {
 
 // `{name=utf8, age=i32?, active=bool}?`
 fn person(alloc: Global) -> VortexResult<DType> {
-    let fields = vec![in alloc;
-        field(alloc, "name", DType::Utf8(NonNullable))?,
-        field(alloc, "age", primitive(PType::I32, Nullable))?,
-        field(alloc, "active", DType::Bool(NonNullable))?,
-    ]?;
-    DType::struct_(alloc, fields, Nullable)
+    let name = field(alloc, "name", DType::Utf8(NonNullable))?;
+    let age = field(alloc, "age", primitive(PType::I32, Nullable))?;
+    let active = field(alloc, "active", DType::Bool(NonNullable))?;
+    DType::struct_(alloc, vec![in alloc; name, age, active]?, Nullable)
 }
 
 #[test]
@@ -158,7 +157,8 @@ fn texts_of_fields(rt: HostRuntime) -> Result<(), Fail> {
 
 // The struct of one field.
 fn one_field(alloc: Global, name: &str, dtype: DType) -> VortexResult<StructFields> {
-    StructFields::from_iter(alloc, vec![in alloc; field(alloc, name, dtype)?]?)
+    let field = field(alloc, name, dtype)?;
+    StructFields::from_iter(alloc, vec![in alloc; field]?)
 }
 
 // `list({b=u32?})`

@@ -78,7 +78,8 @@ fn lists_wider_than_64_bits_are_refused(rt: HostRuntime) -> Result<(), Fail> {
 
 // The struct of the longest bytes, a list of the longest length and perhaps one more type.
 fn wide(alloc: Global, second: DType, third: Option<DType>) -> VortexResult<DType> {
-    let mut dtypes = vec![in alloc; longest(alloc, PType::U8)?, second]?;
+    let first = longest(alloc, PType::U8)?;
+    let mut dtypes = vec![in alloc; first, second]?;
     if let Some(third) = third {
         dtypes.push(third)?;
     }

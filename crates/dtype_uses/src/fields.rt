@@ -41,7 +41,8 @@ pub fn nullability_when_projected(
 ) -> VortexResult<Option<Nullability>>
     ensures { IfOk result (λ n. n ≡ option_map nullability (first_named (children fields.now) name.now)) }
 {
-    let projection = vec![in alloc; name.try_clone(alloc)?]?;
+    let name_alone = name.try_clone(alloc)?;
+    let projection = vec![in alloc; name_alone]?;
     let projected = fields.project(alloc, &projection)?;
     match projected.field(name.as_str()) {
         Some(dtype) => Ok(Some(dtype.nullability())),

@@ -4,34 +4,35 @@ use crate::messages::refusal;
 use crate::sessions::tagging;
 use dtype_fixtures::is_printed;
 use std::alloc::Global;
-use std::string::String;
 use std::test::Fail;
 use vortex_dtype::{DType, DTypeProto, DTypeSession, VortexResult, pb};
 use vortex_dtype_fixtures::{
-    byte, bytes, decimal, extension, list, map, nothing, of, primitive, tagged, text, union_of,
+    byte, bytes, decimal, extension, list, map, nothing, of, primitive, tagged, text, texts,
+    union_of,
 };
 
 const DEPTH: usize = 200;
 
 // A struct of two names and this one type.
 fn two_names(alloc: Global, dtype: pb::DType) -> VortexResult<pb::DType> {
-    let names = vec![in alloc;
-        String::from_str(alloc, "a")?,
-        String::from_str(alloc, "b")?,
-    ]?;
+    let names = texts(alloc, &["a", "b"])?;
+    let dtypes = vec![in alloc; dtype]?;
     Ok(of(pb::DtypeType::Struct(pb::Struct {
         names,
-        dtypes: vec![in alloc; dtype]?,
+        dtypes,
         nullable: false,
     })))
 }
 
 // A union of this one type.
 fn one_variant(alloc: Global, dtype: pb::DType, tag: i32) -> VortexResult<pb::DType> {
+    let names = texts(alloc, &["d"])?;
+    let dtypes = vec![in alloc; dtype]?;
+    let type_ids = vec![in alloc; tag]?;
     Ok(of(pb::DtypeType::Union(pb::Union {
-        names: vec![in alloc; String::from_str(alloc, "d")?]?,
-        dtypes: vec![in alloc; dtype]?,
-        type_ids: vec![in alloc; tag]?,
+        names,
+        dtypes,
+        type_ids,
         nullable: false,
     })))
 }

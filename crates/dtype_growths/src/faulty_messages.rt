@@ -82,7 +82,8 @@ fn with_children(alloc: Global, call: &str) -> VortexResult<Option<pb::DType>> {
 // The struct of a list and this.
 fn beside_a_list(alloc: Global, proto: pb::DType) -> VortexResult<pb::DType> {
     let names = texts(alloc, &["a", "b"])?;
-    let dtypes = vec![in alloc; list(alloc, Some(byte()), false)?, proto]?;
+    let first = list(alloc, Some(byte()), false)?;
+    let dtypes = vec![in alloc; first, proto]?;
     Ok(of(pb::DtypeType::Struct(pb::Struct {
         names,
         dtypes,

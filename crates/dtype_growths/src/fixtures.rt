@@ -1,9 +1,9 @@
 // Types and names that the calls are made with.
 ghost use Rattle.std.specs.Prelude.{◌≡◌, length, IfOk};
 
-use dtype_base::{FieldNames, Nullability, PType, VortexResult};
-use dtype_fixtures::field;
-use dtype_types::{DType, ExtDTypeRef, ExtId, MapDType, StructFields, UnionVariants};
+use dtype_base::{FieldName, FieldNames, Nullability, PType, VortexResult};
+use dtype_fixtures::{field, fixed_size_list};
+use dtype_types::{DType, ExtDTypeRef, ExtId, FieldDType, MapDType, StructFields, UnionVariants};
 use std::alloc::Global;
 
 pub const REQUIRED: Nullability = Nullability::NonNullable;
@@ -24,7 +24,15 @@ pub fn list(alloc: Global) -> VortexResult<DType> {
 pub fn two_types(alloc: Global) -> VortexResult<Vec<DType>>
     ensures { IfOk result (λ v. length v.items ≡ 2) }
 {
-    Ok(vec![in alloc; byte(), list(alloc)?]?)
+    let second = list(alloc)?;
+    Ok(vec![in alloc; byte(), second]?)
+}
+
+// `a=u8` and `b=list(utf8?)`
+pub fn named_fields(alloc: Global) -> VortexResult<Vec<(FieldName, FieldDType)>> {
+    let first = field(alloc, "a", byte())?;
+    let second = field(alloc, "b", list(alloc)?)?;
+    Ok(vec![in alloc; first, second]?)
 }
 
 // `{a=u8, b=list(utf8?)}`
@@ -47,20 +55,28 @@ pub fn map(alloc: Global) -> VortexResult<MapDType> {
 
 // `x.y[2B](list(utf8?))`
 pub fn extension(alloc: Global) -> VortexResult<ExtDTypeRef> {
+    extension_over(alloc, list(alloc)?)
+}
+
+// `x.y` over this storage, with the metadata `AB`.
+pub fn extension_over(alloc: Global, storage: DType) -> VortexResult<ExtDTypeRef> {
     let id = ExtId::new(alloc, "x.y")?;
     let metadata = Vec::from_slice(alloc, b"AB")?;
-    ExtDTypeRef::from_parts(alloc, id, metadata, list(alloc)?)
+    ExtDTypeRef::from_parts(alloc, id, metadata, storage)
 }
 
 // A struct in which every kind that holds another stands.
 pub fn nested(alloc: Global) -> VortexResult<DType> {
-    let fixed = DType::FixedSizeList(Box::new(alloc, list(alloc)?)?, 2, NULLABLE);
-    let fields = vec![in alloc;
-        field(alloc, "s", DType::Struct(two_fields(alloc)?, NULLABLE))?,
-        field(alloc, "u", DType::Union(two_variants(alloc)?, REQUIRED))?,
-        field(alloc, "m", DType::Map(map(alloc)?, NULLABLE))?,
-        field(alloc, "e", DType::Extension(extension(alloc)?))?,
-        field(alloc, "f", fixed)?,
-    ]?;
-    DType::struct_(alloc, fields, NULLABLE)
+    let fields = DType::Struct(two_fields(alloc)?, NULLABLE);
+    let variants = DType::Union(two_variants(alloc)?, REQUIRED);
+    let map = DType::Map(map(alloc)?, NULLABLE);
+    let extension = DType::Extension(extension(alloc)?);
+    let fixed = fixed_size_list(alloc, list(alloc)?, 2, NULLABLE)?;
+    let mut parts = Vec::new(alloc);
+    parts.push(field(alloc, "s", fields)?)?;
+    parts.push(field(alloc, "u", variants)?)?;
+    parts.push(field(alloc, "m", map)?)?;
+    parts.push(field(alloc, "e", extension)?)?;
+    parts.push(field(alloc, "f", fixed)?)?;
+    DType::struct_(alloc, parts, NULLABLE)
 }

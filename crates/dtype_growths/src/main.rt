@@ -4,7 +4,9 @@
 // Each line of standard input names a call. For each it prints a line: the name, what the call answered,
 // and, where the call changes a value, what that value shows afterwards and what it may show where the
 // call is refused for want of memory. Before the call it writes the line `begin` to standard error, and
-// after it the line `end`: `tools/refuse_allocation.c` counts and refuses the requests between them.
+// after it the line `end`: `tools/refuse_allocation.c` counts and refuses the requests between them. What
+// the call is made with and the text of its answer are made between them too, except where the requests
+// of the call alone count.
 // Without input it prints nothing.
 //
 // Begin with `structs.rt`; `report.rt` has the marks and the lines. `tools/growths` runs the program, and
@@ -12,13 +14,17 @@
 #![tactic(auto)]
 
 use anyhow::{Result, bail};
+use dtype_base::VortexResult;
+use std::alloc::Global;
 
+mod covers;
 mod faulty_messages;
 mod fixtures;
 mod messages;
 mod path_sets;
 mod paths;
 mod plugins;
+mod registrations;
 mod report;
 mod sessions;
 mod structs;
@@ -35,17 +41,58 @@ fn main(rt: HostRuntime) -> Result<()> {
 
 // Makes the call of this name, and prints its line.
 fn make(rt: &(impl Print + Eprint + AllocGlobal), call: &str) -> Result<()> {
-    print!(rt; "{call}")?;
-    let is_known = structs::make(rt, call)?
-        || unions::make(rt, call)?
-        || types::make(rt, call)?
-        || paths::make(rt, call)?
-        || path_sets::make(rt, call)?
-        || sessions::make(rt, call)?
-        || messages::make(rt, call)?
-        || without_memory::make(rt, call)?;
-    if !is_known {
-        bail!("no call has this name: {call}");
+    match counted_alone(rt, rt.alloc(), call) {
+        Ok(None) => {
+            report::begin(rt);
+            let made = answer(rt.alloc(), call);
+            report::end(rt);
+            tell(rt, call, made)
+        }
+        made => tell(rt, call, made),
+    }
+}
+
+// Calls between their own marks, so that their requests alone count.
+fn counted_alone(rt: &impl Eprint, alloc: Global, call: &str) -> VortexResult<Option<String>> {
+    if let Some(answer) = covers::answer(rt, alloc, call)? {
+        return Ok(Some(answer));
+    }
+    if let Some(answer) = registrations::answer(rt, alloc, call)? {
+        return Ok(Some(answer));
+    }
+    without_memory::answer(rt, alloc, call)
+}
+
+fn answer(alloc: Global, call: &str) -> VortexResult<Option<String>> {
+    if let Some(answer) = structs::answer(alloc, call)? {
+        return Ok(Some(answer));
+    }
+    if let Some(answer) = unions::answer(alloc, call)? {
+        return Ok(Some(answer));
+    }
+    if let Some(answer) = types::answer(alloc, call)? {
+        return Ok(Some(answer));
+    }
+    if let Some(answer) = paths::answer(alloc, call)? {
+        return Ok(Some(answer));
+    }
+    if let Some(answer) = path_sets::answer(alloc, call)? {
+        return Ok(Some(answer));
+    }
+    if let Some(answer) = sessions::answer(alloc, call)? {
+        return Ok(Some(answer));
+    }
+    messages::answer(alloc, call)
+}
+
+fn tell(rt: &impl Print, call: &str, made: VortexResult<Option<String>>) -> Result<()> {
+    match made {
+        Ok(Some(answer)) => println!(rt; "{call} | {answer}")?,
+        Ok(None) => bail!("no call has this name: {call}"),
+        Err(refusal) => {
+            let number = refusal.number();
+            println!(rt; "{call} | refused {number}")?
+        }
     }
     Ok(())
 }

@@ -3,8 +3,7 @@
 use crate::faulty_messages::faulty;
 use crate::fixtures::nested;
 use crate::plugins::Tag;
-use crate::report::{answered, begin, end, tell};
-use anyhow::Result;
+use crate::report::shown;
 use std::alloc::Global;
 use std::string::String;
 use vortex_dtype::{
@@ -12,67 +11,42 @@ use vortex_dtype::{
 };
 
 // Makes the call of this name, if it is one of these.
-pub fn make(rt: &(impl Print + Eprint + AllocGlobal), call: &str) -> Result<bool> {
-    match call {
-        "DType::to_proto" => to_proto(rt)?,
-        "DType::from_proto" => from_proto(rt)?,
-        "pb::DType::try_clone" => try_clone(rt)?,
-        "FieldPath::from_proto" => path_from_proto(rt, &[Some("a"), Some("b")])?,
-        "FieldPath::from_proto of the root" => path_from_proto(rt, &[])?,
-        "FieldPath::from_proto without a part" => path_from_proto(rt, &[Some("a"), None])?,
-        _ => return from_faulty_proto(rt, call),
-    }
-    Ok(true)
+pub fn answer(alloc: Global, call: &str) -> VortexResult<Option<String>> {
+    let answer = match call {
+        "DType::to_proto and DType::from_proto" => {
+            shown(alloc, read_back(alloc, nested(alloc)?.to_proto(alloc)?)?)
+        }
+        "pb::DType::try_clone" => try_clone(alloc),
+        "FieldPath::from_proto" => path_from_proto(alloc, &[Some("a"), Some("b")]),
+        "FieldPath::from_proto of the root" => path_from_proto(alloc, &[]),
+        "FieldPath::from_proto without a part" => path_from_proto(alloc, &[Some("a"), None]),
+        _ => return from_faulty_proto(alloc, call),
+    };
+    Ok(Some(answer?))
 }
 
-// The text of the type that a written message is read as.
-fn read_back(alloc: Global, proto: pb::DType) -> VortexResult<String> {
+// The type that a written message is read as.
+fn read_back(alloc: Global, proto: pb::DType) -> VortexResult<DType> {
     let mut session = DTypeSession::new(alloc);
     session.allow_unknown();
-    let dtype = DType::from_proto(alloc, &proto, &session)?;
-    Ok(dtype.to_string(alloc)?)
+    DType::from_proto(alloc, &proto, &session)
 }
 
-fn to_proto(rt: &(impl Print + Eprint + AllocGlobal)) -> Result<()> {
-    let alloc = rt.alloc();
-    let dtype = nested(alloc)?;
-    begin(rt)?;
-    let made = dtype.to_proto(alloc);
-    end(rt)?;
-    Ok(tell(rt, made.and_then(|proto| read_back(alloc, proto)))?)
-}
-
-fn from_proto(rt: &(impl Print + Eprint + AllocGlobal)) -> Result<()> {
-    let alloc = rt.alloc();
+fn try_clone(alloc: Global) -> VortexResult<String> {
     let proto = nested(alloc)?.to_proto(alloc)?;
-    let mut session = DTypeSession::new(alloc);
-    session.allow_unknown();
-    begin(rt)?;
-    let made = DType::from_proto(alloc, &proto, &session);
-    Ok(answered(rt, made)?)
-}
-
-fn try_clone(rt: &(impl Print + Eprint + AllocGlobal)) -> Result<()> {
-    let alloc = rt.alloc();
-    let proto = nested(alloc)?.to_proto(alloc)?;
-    begin(rt)?;
-    let made = proto.try_clone(alloc);
-    end(rt)?;
-    Ok(tell(rt, made.map(|copy| copy == proto))?)
+    let copy = proto.try_clone(alloc)?;
+    shown(alloc, copy == proto)
 }
 
 // Reads the message with the fault of this name, if it is one of these.
-fn from_faulty_proto(rt: &(impl Print + Eprint + AllocGlobal), call: &str) -> Result<bool> {
-    let alloc = rt.alloc();
+fn from_faulty_proto(alloc: Global, call: &str) -> VortexResult<Option<String>> {
     let Some(proto) = faulty(alloc, call)? else {
-        return Ok(false);
+        return Ok(None);
     };
     let mut session = DTypeSession::new(alloc);
     session.register(Box::new(alloc, PluginOf::new(Tag))?)?;
-    begin(rt)?;
-    let made = DType::from_proto(alloc, &proto, &session);
-    answered(rt, made)?;
-    Ok(true)
+    let read = DType::from_proto(alloc, &proto, &session)?;
+    Ok(Some(shown(alloc, read)?))
 }
 
 // A part of a path, without its kind where there is no name.
@@ -92,10 +66,7 @@ fn path_proto(alloc: Global, names: &[Option<&str>]) -> VortexResult<pb::FieldPa
     Ok(pb::FieldPath { path })
 }
 
-fn path_from_proto(rt: &(impl Print + Eprint + AllocGlobal), names: &[Option<&str>]) -> Result<()> {
-    let alloc = rt.alloc();
+fn path_from_proto(alloc: Global, names: &[Option<&str>]) -> VortexResult<String> {
     let proto = path_proto(alloc, names)?;
-    begin(rt)?;
-    let made = FieldPath::from_proto(alloc, &proto);
-    Ok(answered(rt, made)?)
+    shown(alloc, FieldPath::from_proto(alloc, &proto)?)
 }

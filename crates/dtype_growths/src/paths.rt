@@ -1,69 +1,38 @@
 // The calls of fields and paths that take memory.
 
-use crate::report::{answered, begin};
-use anyhow::Result;
-use dtype_base::FieldName;
+use crate::report::shown;
+use dtype_base::{FieldName, VortexResult};
 use dtype_paths::{Field, FieldPath, field_path};
+use std::alloc::Global;
 
 // Makes the call of this name, if it is one of these.
-pub fn make(rt: &(impl Print + Eprint + AllocGlobal), call: &str) -> Result<bool> {
-    match call {
-        "Field::from_text" => field_from_text(rt)?,
-        "FieldPath::from_name" => from_name(rt)?,
-        "FieldPath::from_field" => from_field(rt)?,
-        "FieldPath::from_iter" => from_iter(rt)?,
-        "FieldPath::push" => push(rt)?,
-        "FieldPath::try_clone" => try_clone(rt)?,
-        "field_path!" => names(rt)?,
-        _ => return Ok(false),
-    }
-    Ok(true)
+pub fn answer(alloc: Global, call: &str) -> VortexResult<Option<String>> {
+    let answer = match call {
+        "Field::from_text" => shown(alloc, Field::from_text(alloc, "a")?),
+        "FieldPath::from_name" => from_name(alloc),
+        "FieldPath::from_field" => {
+            shown(alloc, FieldPath::from_field(alloc, Field::ElementType)?)
+        }
+        "FieldPath::from_iter" => from_iter(alloc),
+        "FieldPath::push" => shown(alloc, names(alloc)?.push(Field::ElementType)?),
+        "FieldPath::try_clone" => shown(alloc, names(alloc)?.try_clone()?),
+        "field_path!" => shown(alloc, names(alloc)?),
+        _ => return Ok(None),
+    };
+    Ok(Some(answer?))
 }
 
-fn field_from_text(rt: &(impl Print + Eprint + AllocGlobal)) -> Result<()> {
-    begin(rt)?;
-    let made = Field::from_text(rt.alloc(), "a");
-    Ok(answered(rt, made)?)
-}
-
-fn from_name(rt: &(impl Print + Eprint + AllocGlobal)) -> Result<()> {
-    let alloc = rt.alloc();
+fn from_name(alloc: Global) -> VortexResult<String> {
     let name = FieldName::new(alloc, "a")?;
-    begin(rt)?;
-    let made = FieldPath::from_name(alloc, name);
-    Ok(answered(rt, made)?)
+    shown(alloc, FieldPath::from_name(alloc, name)?)
 }
 
-fn from_field(rt: &(impl Print + Eprint + AllocGlobal)) -> Result<()> {
-    begin(rt)?;
-    let made = FieldPath::from_field(rt.alloc(), Field::ElementType);
-    Ok(answered(rt, made)?)
+fn from_iter(alloc: Global) -> VortexResult<String> {
+    let first = Field::from_text(alloc, "a")?;
+    let parts = vec![in alloc; first, Field::ElementType]?;
+    shown(alloc, FieldPath::from_iter(alloc, parts)?)
 }
 
-fn from_iter(rt: &(impl Print + Eprint + AllocGlobal)) -> Result<()> {
-    let alloc = rt.alloc();
-    let parts = vec![in alloc; Field::from_text(alloc, "a")?, Field::ElementType]?;
-    begin(rt)?;
-    let made = FieldPath::from_iter(alloc, parts);
-    Ok(answered(rt, made)?)
-}
-
-fn push(rt: &(impl Print + Eprint + AllocGlobal)) -> Result<()> {
-    let path = field_path!(rt.alloc(), "a", "b")?;
-    begin(rt)?;
-    let made = path.push(Field::ElementType);
-    Ok(answered(rt, made)?)
-}
-
-fn try_clone(rt: &(impl Print + Eprint + AllocGlobal)) -> Result<()> {
-    let path = field_path!(rt.alloc(), "a", "b")?;
-    begin(rt)?;
-    let made = path.try_clone();
-    Ok(answered(rt, made)?)
-}
-
-fn names(rt: &(impl Print + Eprint + AllocGlobal)) -> Result<()> {
-    begin(rt)?;
-    let made = field_path!(rt.alloc(), "a", "b");
-    Ok(answered(rt, made)?)
+fn names(alloc: Global) -> VortexResult<FieldPath> {
+    field_path!(alloc, "a", "b")
 }

@@ -1,71 +1,42 @@
-// The marks round a call, and its line.
+// The marks round a call, and what its line says of it.
 
 use dtype_base::VortexResult;
+use std::alloc::Global;
 use std::fmt::{Debug, Display};
-use std::io;
 
-// Begins the call.
-pub fn begin(rt: &impl Eprint) -> io::Result<()> {
-    eprintln!(rt; "begin")
+// Begins the call. Where the mark can't be written, `tools/growths` misses the call's count.
+pub fn begin(rt: &impl Eprint) {
+    let _ = eprintln!(rt; "begin");
 }
 
 // Ends the call.
-pub fn end(rt: &impl Eprint) -> io::Result<()> {
-    eprintln!(rt; "end")
+pub fn end(rt: &impl Eprint) {
+    let _ = eprintln!(rt; "end");
 }
 
-// Ends the call, and prints what it answered.
-pub fn answered<T: Display + Drop>(
-    rt: &(impl Print + Eprint),
-    answer: VortexResult<T>,
-) -> io::Result<()> {
-    end(rt)?;
-    tell(rt, answer)
+// What a call gave.
+pub fn shown<T: Display + Drop>(alloc: Global, value: T) -> VortexResult<String> {
+    Ok(format!(in alloc; "ok {value}")?)
 }
 
-// The same of an answer that takes more than one line, as its `Debug`.
-pub fn answered_in_one_line<T: Debug + Drop>(
-    rt: &(impl Print + Eprint),
-    answer: VortexResult<T>,
-) -> io::Result<()> {
-    end(rt)?;
-    match answer {
-        Ok(value) => println!(rt; " | ok {value:?}"),
-        Err(refusal) => {
-            let number = refusal.number();
-            println!(rt; " | refused {number}")
-        }
-    }
+// The same of a value that takes more than one line, as its `Debug`.
+pub fn shown_in_one_line<T: Debug + Drop>(alloc: Global, value: T) -> VortexResult<String> {
+    Ok(format!(in alloc; "ok {value:?}")?)
 }
 
-// Prints what a call that has ended answered.
-pub fn tell<T: Display + Drop>(rt: &impl Print, answer: VortexResult<T>) -> io::Result<()> {
-    match answer {
-        Ok(value) => println!(rt; " | ok {value}"),
-        Err(refusal) => {
-            let number = refusal.number();
-            println!(rt; " | refused {number}")
-        }
-    }
-}
-
-// Prints whether a call that has ended was refused, what stands then, and what may stand where it was
-// refused for want of memory.
-pub fn tell_change(
-    rt: &impl Print,
-    answer: VortexResult<()>,
+// Whether a call was refused, what stands then, and what may stand where it was refused for want of
+// memory.
+pub fn changed(
+    alloc: Global,
+    made: VortexResult<()>,
     stands: &str,
-    may_stand: &[&str],
-) -> io::Result<()> {
-    match answer {
-        Ok(()) => print!(rt; " | ok | {stands}")?,
+    may_stand: &str,
+) -> VortexResult<String> {
+    match made {
+        Ok(()) => Ok(format!(in alloc; "ok | {stands} | {may_stand}")?),
         Err(refusal) => {
             let number = refusal.number();
-            print!(rt; " | refused {number} | {stands}")?
+            Ok(format!(in alloc; "refused {number} | {stands} | {may_stand}")?)
         }
     }
-    for text in may_stand {
-        print!(rt; " | {text}")?;
-    }
-    println!(rt)
 }

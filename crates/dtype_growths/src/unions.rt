@@ -1,65 +1,46 @@
 // The calls of unions and maps that take memory.
 
 use crate::fixtures::{NULLABLE, REQUIRED, byte, list, map, two_types};
-use crate::report::{answered, begin};
-use anyhow::Result;
-use dtype_base::FieldNames;
-use dtype_types::{DType, MapDType, UnionVariants};
+use crate::report::shown;
+use dtype_base::{FieldNames, VortexResult};
+use dtype_types::{DType, UnionVariants};
+use std::alloc::Global;
 
 // Makes the call of this name, if it is one of these.
-pub fn make(rt: &(impl Print + Eprint + AllocGlobal), call: &str) -> Result<bool> {
-    match call {
-        "UnionVariants::new" => new(rt, &["a", "b"])?,
-        "UnionVariants::new with a repeat" => new(rt, &["a", "a"])?,
-        "UnionVariants::try_new" => try_new(rt, &[3, 7])?,
-        "UnionVariants::try_new with a repeat" => try_new(rt, &[3, 3])?,
-        "MapDType::try_new" => map_try_new(rt)?,
-        "DType::map" => type_map(rt)?,
-        "MapDType::entries_dtype" => entries_dtype(rt)?,
-        _ => return Ok(false),
-    }
-    Ok(true)
+pub fn answer(alloc: Global, call: &str) -> VortexResult<Option<String>> {
+    let answer = match call {
+        "UnionVariants::new" => new(alloc, &["a", "b"]),
+        "UnionVariants::new with a repeat" => new(alloc, &["a", "a"]),
+        "UnionVariants::try_new" => try_new(alloc, &[3, 7]),
+        "UnionVariants::try_new with a repeat" => try_new(alloc, &[3, 3]),
+        "MapDType::try_new" => shown(alloc, map(alloc)?),
+        "DType::map" => type_map(alloc),
+        "MapDType::entries_dtype" => shown(alloc, map(alloc)?.entries_dtype(alloc)?),
+        _ => return Ok(None),
+    };
+    Ok(Some(answer?))
 }
 
-fn new(rt: &(impl Print + Eprint + AllocGlobal), names: &[&str]) -> Result<()> {
-    let alloc = rt.alloc();
+fn new(alloc: Global, names: &[&str]) -> VortexResult<String> {
     let names = FieldNames::from_texts(alloc, names)?;
     let dtypes = two_types(alloc)?;
-    begin(rt)?;
-    let made = UnionVariants::new(alloc, names, dtypes);
-    Ok(answered(rt, made)?)
+    shown(alloc, UnionVariants::new(alloc, names, dtypes)?)
 }
 
-fn try_new(rt: &(impl Print + Eprint + AllocGlobal), tags: &[u8]) -> Result<()> {
-    let alloc = rt.alloc();
+fn try_new(alloc: Global, tags: &[u8]) -> VortexResult<String> {
     let names = FieldNames::from_texts(alloc, &["a", "b"])?;
     let dtypes = two_types(alloc)?;
     let type_ids = Vec::from_slice(alloc, tags)?;
-    begin(rt)?;
-    let made = UnionVariants::try_new(alloc, names, dtypes, type_ids);
-    Ok(answered(rt, made)?)
+    shown(
+        alloc,
+        UnionVariants::try_new(alloc, names, dtypes, type_ids)?,
+    )
 }
 
-fn map_try_new(rt: &(impl Print + Eprint + AllocGlobal)) -> Result<()> {
-    let alloc = rt.alloc();
+fn type_map(alloc: Global) -> VortexResult<String> {
     let value = list(alloc)?;
-    begin(rt)?;
-    let made = MapDType::try_new(alloc, byte(), value, true);
-    Ok(answered(rt, made)?)
-}
-
-fn type_map(rt: &(impl Print + Eprint + AllocGlobal)) -> Result<()> {
-    let alloc = rt.alloc();
-    let value = list(alloc)?;
-    begin(rt)?;
-    let made = DType::map(alloc, DType::Utf8(REQUIRED), value, false, NULLABLE);
-    Ok(answered(rt, made)?)
-}
-
-fn entries_dtype(rt: &(impl Print + Eprint + AllocGlobal)) -> Result<()> {
-    let alloc = rt.alloc();
-    let map = map(alloc)?;
-    begin(rt)?;
-    let made = map.entries_dtype(alloc);
-    Ok(answered(rt, made)?)
+    shown(
+        alloc,
+        DType::map(alloc, DType::Utf8(REQUIRED), value, false, NULLABLE)?,
+    )
 }

@@ -7,36 +7,39 @@ mod sessions;
 mod types;
 mod values;
 
-use anyhow::Result;
+use crate::report::{end, shown};
+use dtype_base::VortexResult;
+use std::alloc::Global;
 
 // Makes the calls of this name, if they are of these.
-pub fn make(rt: &(impl Print + Eprint + AllocGlobal), call: &str) -> Result<bool> {
-    match call {
-        "no memory: nullability and primitives" => values::primitives(rt)?,
-        "no memory: decimals" => values::decimals(rt)?,
-        "no memory: native integers" => values::native_integers(rt)?,
-        "no memory: native decimals" => values::native_decimals(rt)?,
-        "no memory: names" => lookups::names(rt)?,
-        "no memory: fields of structs" => lookups::fields(rt)?,
-        "no memory: variants of unions" => lookups::variants(rt)?,
-        "no memory: parts of maps and extensions" => lookups::parts(rt)?,
-        "no memory: nullability of types" => types::nullability(rt)?,
-        "no memory: kinds of types" => types::kinds(rt)?,
-        "no memory: what types hold, lent" => types::lent(rt)?,
-        "no memory: what types hold, owned" => types::owned(rt)?,
-        "no memory: comparisons" => types::comparisons(rt)?,
-        "no memory: hashes" => types::hashes(rt)?,
-        "no memory: texts" => types::texts(rt)?,
-        "no memory: widths" => types::widths(rt)?,
-        "no memory: conversions" => types::conversions(rt)?,
-        "no memory: fields" => paths::fields(rt)?,
-        "no memory: paths" => paths::paths(rt)?,
-        "no memory: masks" => paths::masks(rt)?,
-        "no memory: path sets" => sessions::path_sets(rt)?,
-        "no memory: sessions" => sessions::sessions(rt)?,
-        "no memory: typed extensions" => sessions::typed_extensions(rt)?,
-        "no memory: messages" => sessions::messages(rt)?,
-        _ => return Ok(false),
-    }
-    Ok(true)
+pub fn answer(rt: &impl Eprint, alloc: Global, call: &str) -> VortexResult<Option<String>> {
+    let holds = match call {
+        "no memory: nullability and primitives" => values::primitives(rt),
+        "no memory: decimals" => values::decimals(rt),
+        "no memory: native integers" => values::native_integers(rt),
+        "no memory: native decimals" => values::native_decimals(rt),
+        "no memory: names" => lookups::names(rt, alloc),
+        "no memory: fields of structs" => lookups::fields(rt, alloc),
+        "no memory: variants of unions" => lookups::variants(rt, alloc),
+        "no memory: parts of maps and extensions" => lookups::parts(rt, alloc),
+        "no memory: nullability of types" => types::nullability(rt, alloc),
+        "no memory: kinds of types" => types::kinds(rt, alloc),
+        "no memory: what types hold, lent" => types::lent(rt, alloc),
+        "no memory: what types hold, owned" => types::owned(rt, alloc),
+        "no memory: comparisons" => types::comparisons(rt, alloc),
+        "no memory: hashes" => types::hashes(rt, alloc),
+        "no memory: texts" => types::texts(rt, alloc),
+        "no memory: widths" => types::widths(rt, alloc),
+        "no memory: conversions" => types::conversions(rt, alloc),
+        "no memory: fields" => paths::fields(rt, alloc),
+        "no memory: paths" => paths::paths(rt, alloc),
+        "no memory: masks" => paths::masks(rt, alloc),
+        "no memory: path sets" => sessions::path_sets(rt, alloc),
+        "no memory: sessions" => sessions::sessions(rt, alloc),
+        "no memory: typed extensions" => sessions::typed_extensions(rt, alloc),
+        "no memory: messages" => sessions::messages(rt, alloc),
+        _ => return Ok(None),
+    };
+    end(rt);
+    Ok(Some(shown(alloc, holds?)?))
 }

@@ -1,17 +1,17 @@
 // Lookups in names, structs, unions, maps and extensions.
 
 use crate::fixtures::{byte, extension, list, map, two_fields, two_variants};
-use crate::report::{answered, begin};
-use anyhow::Result;
-use dtype_base::{FieldName, FieldNames};
+use crate::report::begin;
+use dtype_base::{FieldName, FieldNames, VortexResult};
+use std::alloc::Global;
 use std::rc::RcStr;
 
-pub fn names(rt: &(impl Print + Eprint + AllocGlobal)) -> Result<()> {
-    let alloc = rt.alloc();
+pub fn names(rt: &impl Eprint, alloc: Global) -> VortexResult<bool> {
     let names = FieldNames::from_texts(alloc, &["a", "b"])?;
     let text = RcStr::from_str(alloc, "a")?;
-    let all = vec![in alloc; FieldName::new(alloc, "a")?]?;
-    begin(rt)?;
+    let alone = FieldName::new(alloc, "a")?;
+    let all = vec![in alloc; alone]?;
+    begin(rt);
     let name = FieldName::from_inner(text);
     let holds = names.len() == 2
         && !names.is_empty()
@@ -27,14 +27,13 @@ pub fn names(rt: &(impl Print + Eprint + AllocGlobal)) -> Result<()> {
         && names.into_iter().len() == 2
         && FieldNames::from_vec(all).len() == 1
         && FieldNames::empty(alloc).is_empty();
-    Ok(answered(rt, Ok(holds))?)
+    Ok(holds)
 }
 
-pub fn fields(rt: &(impl Print + Eprint + AllocGlobal)) -> Result<()> {
-    let alloc = rt.alloc();
+pub fn fields(rt: &impl Eprint, alloc: Global) -> VortexResult<bool> {
     let fields = two_fields(alloc)?;
     let list = list(alloc)?;
-    begin(rt)?;
+    begin(rt);
     let holds = fields.nfields() == 2
         && fields.names().len() == 2
         && fields.find("b") == Some(1)
@@ -44,12 +43,12 @@ pub fn fields(rt: &(impl Print + Eprint + AllocGlobal)) -> Result<()> {
         && fields.field_name(2).is_none()
         && fields.fields().len() == 2
         && fields.field_dtypes().len() == 2;
-    Ok(answered(rt, Ok(holds))?)
+    Ok(holds)
 }
 
-pub fn variants(rt: &(impl Print + Eprint + AllocGlobal)) -> Result<()> {
-    let variants = two_variants(rt.alloc())?;
-    begin(rt)?;
+pub fn variants(rt: &impl Eprint, alloc: Global) -> VortexResult<bool> {
+    let variants = two_variants(alloc)?;
+    begin(rt);
     let holds = variants.len() == 2
         && !variants.is_empty()
         && variants.names().len() == 2
@@ -60,14 +59,13 @@ pub fn variants(rt: &(impl Print + Eprint + AllocGlobal)) -> Result<()> {
         && variants.variant_by_index(2).is_none()
         && variants.variants().len() == 2
         && variants.tag_to_child_index(7) == Some(1);
-    Ok(answered(rt, Ok(holds))?)
+    Ok(holds)
 }
 
-pub fn parts(rt: &(impl Print + Eprint + AllocGlobal)) -> Result<()> {
-    let alloc = rt.alloc();
+pub fn parts(rt: &impl Eprint, alloc: Global) -> VortexResult<bool> {
     let map = map(alloc)?;
     let extension = extension(alloc)?;
-    begin(rt)?;
+    begin(rt);
     let holds = map.keys_sorted()
         && map.key_dtype() == &byte()
         && map.value_dtype().is_list()
@@ -76,5 +74,5 @@ pub fn parts(rt: &(impl Print + Eprint + AllocGlobal)) -> Result<()> {
         && extension.storage_dtype().is_list()
         && !extension.is_nullable();
     let (_, metadata, _) = extension.into_parts();
-    Ok(answered(rt, Ok(holds && metadata.len() == 2))?)
+    Ok(holds && metadata.len() == 2)
 }

@@ -1,30 +1,30 @@
 // What is asked of fields, paths and masks.
 
 use crate::fixtures::nested;
-use crate::report::{answered, begin};
-use anyhow::Result;
-use dtype_base::FieldName;
+use crate::report::begin;
+use dtype_base::{FieldName, VortexResult};
 use dtype_paths::{Field, FieldMask, FieldPath, field_path};
+use std::alloc::Global;
 
-pub fn fields(rt: &(impl Print + Eprint + AllocGlobal)) -> Result<()> {
-    let name = FieldName::new(rt.alloc(), "a")?;
-    let other = Field::from_text(rt.alloc(), "a")?;
-    begin(rt)?;
+pub fn fields(rt: &impl Eprint, alloc: Global) -> VortexResult<bool> {
+    let name = FieldName::new(alloc, "a")?;
+    let other = Field::from_text(alloc, "a")?;
+    begin(rt);
     let field = Field::from(name);
     let holds = field.is_named()
         && field.as_name() == Some("a")
         && field == other
         && !Field::ElementType.is_named();
-    Ok(answered(rt, Ok(holds))?)
+    Ok(holds)
 }
 
-pub fn paths(rt: &(impl Print + Eprint + AllocGlobal)) -> Result<()> {
-    let alloc = rt.alloc();
+pub fn paths(rt: &impl Eprint, alloc: Global) -> VortexResult<bool> {
     let dtype = nested(alloc)?;
     let first = Field::from_text(alloc, "s")?;
-    let parts = vec![in alloc; Field::from_text(alloc, "s")?]?;
+    let outer = Field::from_text(alloc, "s")?;
+    let parts = vec![in alloc; outer]?;
     let inner = field_path!(alloc, "s", "b")?;
-    begin(rt)?;
+    begin(rt);
     let path = FieldPath::from_vec(parts);
     let root = FieldPath::root(alloc);
     let holds = root.is_root()
@@ -36,14 +36,14 @@ pub fn paths(rt: &(impl Print + Eprint + AllocGlobal)) -> Result<()> {
         && inner.parts().first() == Some(&first)
         && inner.step_into().is_some()
         && root.step_into().is_none();
-    Ok(answered(rt, Ok(holds))?)
+    Ok(holds)
 }
 
-pub fn masks(rt: &(impl Print + Eprint + AllocGlobal)) -> Result<()> {
-    let path = field_path!(rt.alloc(), "a", "b")?;
+pub fn masks(rt: &impl Eprint, alloc: Global) -> VortexResult<bool> {
+    let path = field_path!(alloc, "a", "b")?;
     let prefix = FieldMask::Prefix(path.try_clone()?);
     let exact = FieldMask::Exact(path);
-    begin(rt)?;
+    begin(rt);
     let all = FieldMask::All;
     let holds = all.matches_all()
         && !exact.matches_root()
@@ -53,5 +53,5 @@ pub fn masks(rt: &(impl Print + Eprint + AllocGlobal)) -> Result<()> {
         && all.step_into().is_ok()
         && prefix.step_into().is_ok()
         && exact.step_into().is_ok();
-    Ok(answered(rt, Ok(holds))?)
+    Ok(holds)
 }

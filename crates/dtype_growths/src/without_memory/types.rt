@@ -3,26 +3,26 @@
 use crate::fixtures::{
     NULLABLE, REQUIRED, byte, extension, list, map, nested, two_fields, two_variants,
 };
-use crate::report::{answered, begin};
-use anyhow::Result;
-use dtype_base::{DecimalDType, Nullability, PType};
+use crate::report::begin;
+use dtype_base::{DecimalDType, Nullability, PType, VortexResult};
 use dtype_types::{DType, FieldDType};
+use std::alloc::Global;
 use std::fmt::{self, Write};
 use std::hash::{DefaultHasher, Hash, Hasher};
 
-pub fn nullability(rt: &(impl Print + Eprint + AllocGlobal)) -> Result<()> {
-    let dtype = nested(rt.alloc())?;
-    begin(rt)?;
+pub fn nullability(rt: &impl Eprint, alloc: Global) -> VortexResult<bool> {
+    let dtype = nested(alloc)?;
+    begin(rt);
     let holds = dtype.nullability() == NULLABLE
         && dtype.is_nullable()
         && dtype.can_be_nonnullable()
         && !DType::Null.can_be_nonnullable();
-    Ok(answered(rt, Ok(holds))?)
+    Ok(holds)
 }
 
-pub fn kinds(rt: &(impl Print + Eprint + AllocGlobal)) -> Result<()> {
-    let dtype = nested(rt.alloc())?;
-    begin(rt)?;
+pub fn kinds(rt: &impl Eprint, alloc: Global) -> VortexResult<bool> {
+    let dtype = nested(alloc)?;
+    begin(rt);
     let is_one = dtype.is_struct() && dtype.is_nested() && byte().is_unsigned_int();
     let is_other = dtype.is_boolean()
         || dtype.is_primitive()
@@ -38,12 +38,12 @@ pub fn kinds(rt: &(impl Print + Eprint + AllocGlobal)) -> Result<()> {
         || dtype.is_union()
         || dtype.is_variant()
         || dtype.is_extension();
-    Ok(answered(rt, Ok(is_one && !is_other))?)
+    Ok(is_one && !is_other)
 }
 
-pub fn lent(rt: &(impl Print + Eprint + AllocGlobal)) -> Result<()> {
-    let dtype = nested(rt.alloc())?;
-    begin(rt)?;
+pub fn lent(rt: &impl Eprint, alloc: Global) -> VortexResult<bool> {
+    let dtype = nested(alloc)?;
+    begin(rt);
     let is_one = dtype.as_struct_fields_opt().is_some();
     let is_other = dtype.as_decimal_opt().is_some()
         || dtype.as_list_element_opt().is_some()
@@ -52,18 +52,17 @@ pub fn lent(rt: &(impl Print + Eprint + AllocGlobal)) -> Result<()> {
         || dtype.as_map_opt().is_some()
         || dtype.as_union_variants_opt().is_some()
         || dtype.as_extension_opt().is_some();
-    Ok(answered(rt, Ok(is_one && !is_other))?)
+    Ok(is_one && !is_other)
 }
 
-pub fn owned(rt: &(impl Print + Eprint + AllocGlobal)) -> Result<()> {
-    let alloc = rt.alloc();
+pub fn owned(rt: &impl Eprint, alloc: Global) -> VortexResult<bool> {
     let list = list(alloc)?;
     let fixed = DType::FixedSizeList(Box::new(alloc, byte())?, 2, REQUIRED);
     let any = DType::list(alloc, byte(), NULLABLE)?;
     let map = DType::Map(map(alloc)?, REQUIRED);
     let fields = DType::Struct(two_fields(alloc)?, REQUIRED);
     let variants = DType::Union(two_variants(alloc)?, REQUIRED);
-    begin(rt)?;
+    begin(rt);
     let holds = list.into_list_element_opt().is_some()
         && fixed.into_fixed_size_list_element_opt().is_some()
         && any.into_any_size_list_element_opt().is_some()
@@ -71,17 +70,16 @@ pub fn owned(rt: &(impl Print + Eprint + AllocGlobal)) -> Result<()> {
         && fields.into_struct_fields_opt().is_some()
         && variants.into_union_variants_opt().is_some()
         && byte().into_decimal_opt().is_none();
-    Ok(answered(rt, Ok(holds))?)
+    Ok(holds)
 }
 
-pub fn comparisons(rt: &(impl Print + Eprint + AllocGlobal)) -> Result<()> {
-    let alloc = rt.alloc();
+pub fn comparisons(rt: &impl Eprint, alloc: Global) -> VortexResult<bool> {
     let dtype = nested(alloc)?;
     let same = nested(alloc)?;
     let fields = two_fields(alloc)?;
     let variants = two_variants(alloc)?;
     let extension = extension(alloc)?;
-    begin(rt)?;
+    begin(rt);
     let holds = dtype == same
         && dtype.eq_ignore_nullability(&same)
         && dtype.eq_with_nullability_subset(&same)
@@ -90,18 +88,18 @@ pub fn comparisons(rt: &(impl Print + Eprint + AllocGlobal)) -> Result<()> {
         && fields.eq_ignore_nullability(&fields)
         && variants.eq_ignore_nullability(&variants)
         && extension.eq_ignore_nullability(&extension);
-    Ok(answered(rt, Ok(holds))?)
+    Ok(holds)
 }
 
-pub fn hashes(rt: &(impl Print + Eprint + AllocGlobal)) -> Result<()> {
-    let dtype = nested(rt.alloc())?;
-    begin(rt)?;
+pub fn hashes(rt: &impl Eprint, alloc: Global) -> VortexResult<bool> {
+    let dtype = nested(alloc)?;
+    begin(rt);
     let mut state = DefaultHasher::new();
     dtype.hash(&mut state);
     let mut other = DefaultHasher::new();
     dtype.hash_ignore_nullability(&mut other);
     let holds = state.finish() != other.finish();
-    Ok(answered(rt, Ok(holds))?)
+    Ok(holds)
 }
 
 // Takes texts, and keeps how many bytes they have.
@@ -115,29 +113,28 @@ impl fmt::Write for Length {
     }
 }
 
-pub fn texts(rt: &(impl Print + Eprint + AllocGlobal)) -> Result<()> {
-    let alloc = rt.alloc();
+pub fn texts(rt: &impl Eprint, alloc: Global) -> VortexResult<bool> {
     let dtype = nested(alloc)?;
     let extension = extension(alloc)?;
     let mut length = Length(0);
-    begin(rt)?;
+    begin(rt);
     let metadata = extension.display_metadata();
     let written = write!(length, "{dtype} {metadata}");
     let holds = written.is_ok() && length.0 == 167;
-    Ok(answered(rt, Ok(holds))?)
+    Ok(holds)
 }
 
-pub fn widths(rt: &(impl Print + Eprint + AllocGlobal)) -> Result<()> {
-    let dtype = nested(rt.alloc())?;
-    let fixed = DType::FixedSizeList(Box::new(rt.alloc(), byte())?, 2, REQUIRED);
-    begin(rt)?;
+pub fn widths(rt: &impl Eprint, alloc: Global) -> VortexResult<bool> {
+    let dtype = nested(alloc)?;
+    let fixed = DType::FixedSizeList(Box::new(alloc, byte())?, 2, REQUIRED);
+    begin(rt);
     let holds = dtype.element_size() == Ok(None) && fixed.element_size() == Ok(Some(2));
-    Ok(answered(rt, Ok(holds))?)
+    Ok(holds)
 }
 
-pub fn conversions(rt: &(impl Print + Eprint + AllocGlobal)) -> Result<()> {
-    let dtype = nested(rt.alloc())?;
-    begin(rt)?;
+pub fn conversions(rt: &impl Eprint, alloc: Global) -> VortexResult<bool> {
+    let dtype = nested(alloc)?;
+    begin(rt);
     let holds = DType::from(PType::U8) == byte()
         && FieldDType::from(PType::U8).value() == &byte()
         && PType::try_from(&byte()) == Ok(PType::U8)
@@ -145,5 +142,5 @@ pub fn conversions(rt: &(impl Print + Eprint + AllocGlobal)) -> Result<()> {
         && DecimalDType::try_from(&dtype).is_err()
         && DecimalDType::try_from(dtype).is_err()
         && Nullability::from(false) == REQUIRED;
-    Ok(answered(rt, Ok(holds))?)
+    Ok(holds)
 }

@@ -10,7 +10,7 @@ use Rattle.dtype_types.proofs.+agree.Goals as goal
 
 pub dtype::equality::agree-returns-in_default : goal.dtype::equality::agree-returns-in_default
 dtype::equality::agree-returns-in_default t c =
-    sym (ap (λ d. agree c.args.rule (tree d) (tree c.args.b.now)) c.in-Null.is ∙ ap (λ x. agree c.args.rule x (tree c.args.b.now)) tree_null ∙ not_null c.args.rule c.args.b.now c.in_default.not-Null)
+    sym (ap (λ d. agree c.args.rule (tree d) (tree c.args.b.now)) c.in_default.is-0 ∙ ap (λ x. agree c.args.rule x (tree c.args.b.now)) tree_null ∙ not_null c.args.rule c.args.b.now c.in_default.not-Null-1)
 
 pub struct_fields::StructFields::agree-returns-then-count : goal.struct_fields::StructFields::agree-returns-then-count
 struct_fields::StructFields::agree-returns-then-count t c =

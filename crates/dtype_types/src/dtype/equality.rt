@@ -36,61 +36,25 @@ impl Nullabilities {
 pub(crate) fn agree(a: &DType, b: &DType, rule: Nullabilities) -> bool
     ensures { result ≡ agree rule (tree a.now) (tree b.now) }
 {
-    match a {
-        DType::Null => match b {
-            DType::Null => true,
-            _ => false,
-        },
-        DType::Bool(m) => match b {
-            DType::Bool(n) => rule.allow(*m, *n),
-            _ => false,
-        },
-        DType::Primitive(p, m) => match b {
-            DType::Primitive(q, n) => *p == *q && rule.allow(*m, *n),
-            _ => false,
-        },
-        DType::Decimal(p, m) => match b {
-            DType::Decimal(q, n) => {
-                p.precision() == q.precision() && p.scale() == q.scale() && rule.allow(*m, *n)
-            }
-            _ => false,
-        },
-        DType::Utf8(m) => match b {
-            DType::Utf8(n) => rule.allow(*m, *n),
-            _ => false,
-        },
-        DType::Binary(m) => match b {
-            DType::Binary(n) => rule.allow(*m, *n),
-            _ => false,
-        },
-        DType::List(t, m) => match b {
-            DType::List(u, n) => agree(t, u, rule) && rule.allow(*m, *n),
-            _ => false,
-        },
-        DType::FixedSizeList(t, j, m) => match b {
-            DType::FixedSizeList(u, k, n) => { agree(t, u, rule) && *j == *k && rule.allow(*m, *n) }
-            _ => false,
-        },
-        DType::Map(t, m) => match b {
-            DType::Map(u, n) => t.agree(u, rule) && rule.allow(*m, *n),
-            _ => false,
-        },
-        DType::Struct(t, m) => match b {
-            DType::Struct(u, n) => t.agree(u, rule) && rule.allow(*m, *n),
-            _ => false,
-        },
-        DType::Union(t, m) => match b {
-            DType::Union(u, n) => t.agree(u, rule) && rule.allow(*m, *n),
-            _ => false,
-        },
-        DType::Variant(m) => match b {
-            DType::Variant(n) => rule.allow(*m, *n),
-            _ => false,
-        },
-        DType::Extension(t) => match b {
-            DType::Extension(u) => t.agree(u, rule),
-            _ => false,
-        },
+    match (a, b) {
+        (DType::Null, DType::Null) => true,
+        (DType::Bool(m), DType::Bool(n)) => rule.allow(*m, *n),
+        (DType::Primitive(p, m), DType::Primitive(q, n)) => *p == *q && rule.allow(*m, *n),
+        (DType::Decimal(p, m), DType::Decimal(q, n)) => {
+            p.precision() == q.precision() && p.scale() == q.scale() && rule.allow(*m, *n)
+        }
+        (DType::Utf8(m), DType::Utf8(n)) => rule.allow(*m, *n),
+        (DType::Binary(m), DType::Binary(n)) => rule.allow(*m, *n),
+        (DType::List(t, m), DType::List(u, n)) => agree(t, u, rule) && rule.allow(*m, *n),
+        (DType::FixedSizeList(t, j, m), DType::FixedSizeList(u, k, n)) => {
+            agree(t, u, rule) && *j == *k && rule.allow(*m, *n)
+        }
+        (DType::Map(t, m), DType::Map(u, n)) => t.agree(u, rule) && rule.allow(*m, *n),
+        (DType::Struct(t, m), DType::Struct(u, n)) => t.agree(u, rule) && rule.allow(*m, *n),
+        (DType::Union(t, m), DType::Union(u, n)) => t.agree(u, rule) && rule.allow(*m, *n),
+        (DType::Variant(m), DType::Variant(n)) => rule.allow(*m, *n),
+        (DType::Extension(t), DType::Extension(u)) => t.agree(u, rule),
+        _ => false,
     }
 }
 

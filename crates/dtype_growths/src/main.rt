@@ -5,8 +5,8 @@
 // and, where the call changes a value, what that value shows afterwards and what it may show where the
 // call is refused for want of memory. Before the call it writes the line `begin` to standard error, and
 // after it the line `end`: `tools/refuse_allocation.c` counts and refuses the requests between them. What
-// the call is made with and the text of its answer are made between them too, except where the requests
-// of the call alone count.
+// the call is made with and the text of its answer are made between them too, except where the call shows
+// what it left, or the number of its requests matters.
 // Without input it prints nothing.
 //
 // Begin with `structs.rt`; `report.rt` has the marks and the lines. `tools/growths` runs the program, and
@@ -18,6 +18,7 @@ use dtype_base::VortexResult;
 use std::alloc::Global;
 
 mod covers;
+mod downcasts;
 mod faulty_messages;
 mod fixtures;
 mod messages;
@@ -57,7 +58,13 @@ fn counted_alone(rt: &impl Eprint, alloc: Global, call: &str) -> VortexResult<Op
     if let Some(answer) = covers::answer(rt, alloc, call)? {
         return Ok(Some(answer));
     }
+    if let Some(answer) = path_sets::change(rt, alloc, call)? {
+        return Ok(Some(answer));
+    }
     if let Some(answer) = registrations::answer(rt, alloc, call)? {
+        return Ok(Some(answer));
+    }
+    if let Some(answer) = downcasts::answer(rt, alloc, call)? {
         return Ok(Some(answer));
     }
     without_memory::answer(rt, alloc, call)

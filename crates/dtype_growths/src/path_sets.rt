@@ -1,6 +1,6 @@
 // The calls of path sets that take memory.
 
-use crate::report::{changed, shown};
+use crate::report::{begin, changed, end, shown};
 use dtype_base::VortexResult;
 use dtype_paths::{Field, FieldPath, FieldPathSet};
 use std::alloc::Global;
@@ -10,17 +10,25 @@ use std::vec;
 // Makes the call of this name, if it is one of these.
 pub fn answer(alloc: Global, call: &str) -> VortexResult<Option<String>> {
     let answer = match call {
-        "FieldPathSet::insert" => insert(alloc, &["a.b"], "a.c.d"),
-        "FieldPathSet::insert into none" => insert(alloc, &[], "a.b"),
-        "FieldPathSet::insert beside many" => insert(alloc, &["a", "b", "c"], "x.y"),
-        "FieldPathSet::insert a beginning" => insert(alloc, &["a.b"], "a"),
-        "FieldPathSet::insert the root" => insert(alloc, &["a.b"], ""),
-        "FieldPathSet::insert a repeat" => insert(alloc, &["a.b"], "a.b"),
-        "FieldPathSet::extend" => extend(alloc),
         "FieldPathSet::from_iter" => shown(alloc, lent(alloc, &three(alloc)?)?),
         "FieldPathSet::try_clone" => shown(alloc, lent(alloc, &three(alloc)?.try_clone()?)?),
         "FieldPathSet::iter" => iter(alloc),
         "FieldPathSet::into_iter" => into_iter(alloc),
+        _ => return Ok(None),
+    };
+    Ok(Some(answer?))
+}
+
+// The same of the calls that change a set: their requests alone are counted.
+pub fn change(rt: &impl Eprint, alloc: Global, call: &str) -> VortexResult<Option<String>> {
+    let answer = match call {
+        "FieldPathSet::insert" => insert(rt, alloc, &["a.b"], "a.c.d"),
+        "FieldPathSet::insert into none" => insert(rt, alloc, &[], "a.b"),
+        "FieldPathSet::insert beside many" => insert(rt, alloc, &["a", "b", "c"], "x.y"),
+        "FieldPathSet::insert a beginning" => insert(rt, alloc, &["a.b"], "a"),
+        "FieldPathSet::insert the root" => insert(rt, alloc, &["a.b"], ""),
+        "FieldPathSet::insert a repeat" => insert(rt, alloc, &["a.b"], "a.b"),
+        "FieldPathSet::extend" => extend(rt, alloc),
         _ => return Ok(None),
     };
     Ok(Some(answer?))
@@ -70,20 +78,29 @@ fn paths_of(alloc: Global, set: &FieldPathSet, path: &FieldPath) -> VortexResult
     Ok(format!(in alloc; "{paths}, contains it: {holds}")?)
 }
 
-fn insert(alloc: Global, before: &[&str], inserted: &str) -> VortexResult<String> {
+fn insert(
+    rt: &impl Eprint,
+    alloc: Global,
+    before: &[&str],
+    inserted: &str,
+) -> VortexResult<String> {
     let mut set = set(alloc, before)?;
     let path = path(alloc, inserted)?;
     let copy = path.try_clone()?;
     let unchanged = paths_of(alloc, &set, &copy)?;
+    begin(rt);
     let made = set.insert(path);
+    end(rt);
     let stands = paths_of(alloc, &set, &copy)?;
     changed(alloc, made, stands.as_str(), unchanged.as_str())
 }
 
-fn extend(alloc: Global) -> VortexResult<String> {
+fn extend(rt: &impl Eprint, alloc: Global) -> VortexResult<String> {
     let mut set = FieldPathSet::new(alloc);
     let more = paths(alloc, &["a.b", "x", "a"])?;
+    begin(rt);
     let made = set.extend(more);
+    end(rt);
     let stands = lent(alloc, &set)?;
     let beginnings = r#"[] | ["$a.$b"] | ["$a.$b", "$x"]"#;
     changed(alloc, made, stands.as_str(), beginnings)

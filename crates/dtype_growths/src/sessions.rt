@@ -3,9 +3,9 @@
 
 use crate::fixtures::{NULLABLE, REQUIRED};
 use crate::plugins::{Tag, TagName};
-use crate::report::{changed, shown, shown_in_one_line};
+use crate::report::{shown, shown_in_one_line};
 use std::alloc::Global;
-use vortex_dtype::{DType, DTypeSession, ExtDType, ExtDTypeRef, ExtId, PluginOf, VortexResult};
+use vortex_dtype::{DType, DTypeSession, ExtDType, PluginOf, VortexResult};
 
 // Makes the call of this name, if it is one of these.
 pub fn answer(alloc: Global, call: &str) -> VortexResult<Option<String>> {
@@ -34,12 +34,6 @@ fn typed_answer(alloc: Global, call: &str) -> VortexResult<Option<String>> {
         "ExtDType::serialize_metadata" => {
             shown_in_one_line(alloc, typed(alloc, b"ab")?.serialize_metadata(alloc)?)
         }
-        "ExtDType::try_downcast" => try_downcast(alloc, "x.tag", b"ab"),
-        "ExtDType::try_downcast of another id" => try_downcast(alloc, "x.y", b"ab"),
-        "ExtDType::try_downcast of refused metadata" => try_downcast(alloc, "x.tag", b"a!"),
-        "ExtDType::try_downcast of what doesn't fit" => {
-            try_downcast(alloc, "x.tag", b"123456789")
-        }
         _ => return Ok(None),
     };
     Ok(Some(answer?))
@@ -65,27 +59,4 @@ fn deserialize(
 fn typed(alloc: Global, metadata: &[u8]) -> VortexResult<ExtDType<Tag>> {
     let metadata = TagName(Vec::from_slice(alloc, metadata)?);
     ExtDType::try_with_vtable(alloc, Tag, metadata, DType::Utf8(REQUIRED))
-}
-
-fn bare(alloc: Global, id: &str, metadata: &[u8]) -> VortexResult<ExtDTypeRef> {
-    let id = ExtId::new(alloc, id)?;
-    let metadata = Vec::from_slice(alloc, metadata)?;
-    ExtDTypeRef::from_parts(alloc, id, metadata, DType::Utf8(REQUIRED))
-}
-
-// The typed extension, or whether what is handed back equals what was handed in.
-fn try_downcast(alloc: Global, id: &str, metadata: &[u8]) -> VortexResult<String> {
-    let handed_in = bare(alloc, id, metadata)?;
-    let copy = handed_in.try_clone(alloc)?;
-    match ExtDType::try_downcast(alloc, handed_in, Tag) {
-        Ok(typed) => {
-            let metadata = &typed.metadata().0;
-            let storage = typed.storage_dtype();
-            Ok(format!(in alloc; "ok {metadata:?} {storage}")?)
-        }
-        Err((back, refusal)) => {
-            let stands = if back == copy { "equal" } else { "another" };
-            changed(alloc, Err(refusal), stands, "equal")
-        }
-    }
 }

@@ -7,12 +7,12 @@ use Rattle.dtype_base.specs.declared.vortex_error.VortexError.TheVariants.{OutOf
 use Rattle.dtype_types.specs.Tree.{Tree}
 use Rattle.dtype_types.specs.TreeOf.{tree}
 use Rattle.dtype_types.specs.declared.dtype.DType.{DType as Logical}
-use Rattle.vortex_dtype.specs.Message.{Message, Messages, messages, struct, union, extension, present}
-use Rattle.vortex_dtype.specs.MessageOf.{message}
+use Rattle.dtype_messages.specs.Message.{Message, Messages, messages, struct, union, extension, present}
+use Rattle.dtype_messages.specs.MessageOf.{message}
 use Rattle.vortex_dtype.specs.IsMessage.{IsMessage, AreMessages}
 use Rattle.vortex_dtype.specs.Meaning.{Meaning}
 use Rattle.vortex_dtype.specs.Reading.{read, read_all, struct_read, union_read, extension_read, or_empty, ◌>>=◌, Gives, Fails}
-use Rattle.vortex_dtype.specs.declared.pb.DType.{DType}
+use Rattle.dtype_messages.specs.declared.pb.DType.{DType}
 
 -- the types so far, and those that are left, are all
 abbrev pub Rest : Meaning → List DType → ℕ → List Tree → Type 0

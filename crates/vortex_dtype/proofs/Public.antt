@@ -5,7 +5,7 @@ use Rattle.dtype_base.specs.declared.vortex_error.VortexError.{VortexError}
 use Rattle.dtype_base.specs.declared.vortex_error.VortexError.TheVariants.{OutOfMemory}
 use Rattle.dtype_types.specs.TreeOf.{tree}
 use Rattle.dtype_types.specs.declared.dtype.DType.{DType}
-use Rattle.vortex_dtype.specs.Message.{Message}
+use Rattle.dtype_messages.specs.Message.{Message}
 use Rattle.vortex_dtype.specs.Accepts.{Accepts}
 use Rattle.vortex_dtype.specs.Meaning.{Meaning, LawfulSession}
 use Rattle.vortex_dtype.specs.IsMessage.{IsMessage}

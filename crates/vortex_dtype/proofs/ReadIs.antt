@@ -26,9 +26,10 @@ use Rattle.dtype_base.specs.declared.vortex_error.VortexError.{VortexError}
 use Rattle.dtype_types.specs.TreeOf.{tree, zip_tagged}
 use Rattle.dtype_types.specs.declared.dtype.DType.{DType}
 use Rattle.vortex_dtype.specs.IsMessage.{AreTags}
-use Rattle.vortex_dtype.specs.Message.{Message, Child, Messages, missing, null, bool, primitive, decimal, utf8, binary, list, fixed_size_list, map_of, struct, union, variant, extension, absent, present, no_message, more}
+use Rattle.dtype_messages.specs.Message.{Message, Child, Messages, missing, null, bool, primitive, decimal, utf8, binary, list, fixed_size_list, map_of, struct, union, variant, extension, absent, present, no_message, more}
 use Rattle.vortex_dtype.specs.Meaning.{Meaning, keeps, refusal}
-use Rattle.vortex_dtype.specs.Numbers.{ptype_at, byte_at, small_at, natural_byte}
+use Rattle.dtype_messages.specs.PTypeNumbers.{ptype_at}
+use Rattle.vortex_dtype.specs.Numbers.{byte_at, small_at, natural_byte}
 use Rattle.vortex_dtype.specs.Reads.{Reads, ReadsChild, ReadsFields, ReadsVariants, Fault, ChildFault, SomeFault, SomeTagFault, UnionFault, DecimalFault, decimal_of, number, count}
 use Rattle.vortex_dtype.specs.Reading.{Gives, read, read_child, read_all, read_tags, primitive_read, decimal_made, decimal_read, map_read, when_required, struct_read, union_made, union_read, extension_read, repeats, ◌>>=◌, or_fault, or_empty}
 use Rattle.vortex_dtype.proofs.Decimals.{made_ok, made_err, fits_byte, fits_small, no_byte, no_small}

@@ -19,9 +19,10 @@ use Rattle.dtype_types.specs.Nullable.{nullability}
 use Rattle.dtype_types.specs.Tree as of
 use Rattle.dtype_types.specs.Tree.{Tree, Fields, no_fields, field, Variants, no_variants, choice}
 use Rattle.dtype_types.specs.Valid.{Valid, ValidFields, ValidVariants, HasVariant, LacksName, LacksTag}
-use Rattle.vortex_dtype.specs.Message.{Message, Child, Messages, missing, null, bool, primitive, decimal, utf8, binary, list, fixed_size_list, map_of, struct, union, variant, extension, absent, present, no_message, more}
+use Rattle.dtype_messages.specs.Message.{Message, Child, Messages, missing, null, bool, primitive, decimal, utf8, binary, list, fixed_size_list, map_of, struct, union, variant, extension, absent, present, no_message, more}
 use Rattle.vortex_dtype.specs.Meaning.{Meaning, LawfulSession, Admits, AdmitsFields, AdmitsVariants, keeps}
-use Rattle.vortex_dtype.specs.Numbers.{ptype_at, ptype_from, byte_at}
+use Rattle.dtype_messages.specs.PTypeNumbers.{ptype_at, ptype_from}
+use Rattle.vortex_dtype.specs.Numbers.{byte_at}
 use Rattle.vortex_dtype.specs.Reading.{or_empty}
 use Rattle.vortex_dtype.specs.Reads.{Reads, ReadsChild, ReadsFields, ReadsVariants, Fault, ChildFault, SomeFault, SomeTagFault, UnionFault, number, count}
 use Rattle.vortex_dtype.specs.Accepts.{Accepts}

@@ -2,7 +2,7 @@
 use Rattle.dtype_types.specs.Tree.{Tree}
 use Rattle.dtype_types.specs.Valid.{Valid}
 use Rattle.vortex_dtype.specs.Meaning.{Meaning, Admits}
-use Rattle.vortex_dtype.specs.Message.{Message}
+use Rattle.dtype_messages.specs.Message.{Message}
 use Rattle.vortex_dtype.specs.Reads.{Reads}
 
 pub record Accepts (s : Meaning) (m : Message) (t : Tree) : Type 0 where

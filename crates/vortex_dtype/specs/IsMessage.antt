@@ -2,7 +2,7 @@
 -- field's type, 32 bits with or without a sign. Only code that reads a message can know it.
 use Rattle.std.specs.Prelude.{ℕ, ◌<◌, ◌^◌, ℤ, List, Option, Some, None, All, FitsSigned}
 use Rattle.std.specs.Int.{w32}
-use Rattle.vortex_dtype.specs.Message.{Message, Child, Messages, missing, null, bool, primitive, decimal, utf8, binary, list, fixed_size_list, map_of, struct, union, variant, extension, absent, present, no_message, more}
+use Rattle.dtype_messages.specs.Message.{Message, Child, Messages, missing, null, bool, primitive, decimal, utf8, binary, list, fixed_size_list, map_of, struct, union, variant, extension, absent, present, no_message, more}
 
 abbrev pub OptionBytes : Option (List ℕ) → Type 0
 OptionBytes None = Unit {0}

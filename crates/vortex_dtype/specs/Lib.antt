@@ -1,5 +1,3 @@
-pub mod Message
-pub mod MessageOf
 pub mod Numbers
 pub mod Meaning
 pub mod Typed
@@ -10,8 +8,6 @@ pub mod Refusals
 pub mod Foreign
 pub mod Reading
 pub mod IsMessage
-pub mod Same
-pub mod SameLaws
 pub mod Reads
 pub mod Written
 pub mod Accepts
@@ -57,3 +53,9 @@ pub use Rattle.dtype_types.specs.Distinct
 pub use Rattle.dtype_types.specs.FieldTypes
 pub use Rattle.dtype_paths.specs.PathSetLaws
 pub use Rattle.dtype_paths.specs.Texts
+pub use Rattle.dtype_messages.specs.Message
+pub use Rattle.dtype_messages.specs.MessageOf
+pub use Rattle.dtype_messages.specs.PathNames
+pub use Rattle.dtype_messages.specs.PTypeNumbers
+pub use Rattle.dtype_messages.specs.Same
+pub use Rattle.dtype_messages.specs.SameLaws

@@ -14,9 +14,10 @@ use Rattle.dtype_types.specs.Tree as of
 use Rattle.dtype_types.specs.Tree.{Tree, fields, variants}
 use Rattle.dtype_types.specs.TreeOf.{zip_tagged}
 use Rattle.dtype_types.specs.Nullable.{nullability}
-use Rattle.vortex_dtype.specs.Message.{Message, Child, Messages, missing, null, bool, primitive, decimal, utf8, binary, list, fixed_size_list, map_of, struct, union, variant, extension, absent, present, no_message, more}
+use Rattle.dtype_messages.specs.Message.{Message, Child, Messages, missing, null, bool, primitive, decimal, utf8, binary, list, fixed_size_list, map_of, struct, union, variant, extension, absent, present, no_message, more}
 use Rattle.vortex_dtype.specs.Meaning.{Meaning, keeps, refusal}
-use Rattle.vortex_dtype.specs.Numbers.{ptype_at, byte_at, small_at, natural_byte}
+use Rattle.dtype_messages.specs.PTypeNumbers.{ptype_at}
+use Rattle.vortex_dtype.specs.Numbers.{byte_at, small_at, natural_byte}
 
 infixl 10 ◌>>=◌
 abbrev pub ◌>>=◌ : {A B : Type 0} → Result A ℕ → (A → Result B ℕ) → Result B ℕ

@@ -11,7 +11,10 @@ ghost use Rattle.vortex_dtype.specs.Accepts.{Accepts};
 ghost use Rattle.vortex_dtype.specs.Calls.{Call, LeavesAlone, after, is_allow, register};
 ghost use Rattle.vortex_dtype.specs.IsMessage.{IsMessage};
 ghost use Rattle.vortex_dtype.specs.Meaning.{Admits, Bytes, LawfulSession, Meaning, Rewrites, keeps, nothing};
-ghost use Rattle.vortex_dtype.specs.Message.{Message};
+ghost use Rattle.dtype_messages.specs.declared.pb.FieldPath.{FieldPath};
+ghost use Rattle.dtype_messages.specs.Message.{Message};
+ghost use Rattle.dtype_messages.specs.PathNames.{part_names};
+ghost use Rattle.vortex_dtype.specs.PathMessage.{steps_of};
 ghost use Rattle.vortex_dtype.specs.Reads.{Fault, Reads};
 ghost use Rattle.vortex_dtype.specs.Written.{Normal, written};
 
@@ -75,4 +78,9 @@ pub fn messages_are_exact()
     ensures twice { (s : Meaning) (m n : Message) (t : Tree)
         → Accepts s m t → Normal s m n → Normal s n n }
     ensures read_back { (s : Meaning) (t : Tree) → Valid t → Admits s t → Accepts s (written t) t }
+{}
+
+/// Path messages whose parts hold the same names, as a copy has them, say the same steps.
+pub fn same_names_same_steps()
+    ensures { (p q : FieldPath) → part_names p ≡ part_names q → steps_of p ≡ steps_of q }
 {}

@@ -16,10 +16,8 @@ mod ext_vtable;
 mod foreign;
 pub mod laws;
 mod parts;
-pub mod pb;
 mod plugin;
 mod proto;
-mod same;
 mod session;
 mod writing;
 
@@ -28,6 +26,7 @@ pub use dtype_base::{
     IndexedNames, MAX_PRECISION, MAX_SCALE, MessageFault, Nullability, PType,
     RESERVED_VALIDITY_FIELD_NAME, VortexError, VortexResult, check_precision_and_scale,
 };
+pub use dtype_messages::pb;
 pub use dtype_native::{
     IntegerPType, NativeDType, NativeDecimalType, NativePType, OffsetBuilderPType, PTypeVisitor,
     PhysicalPType, PrecisionScale, ToBytes, TryFromBytes, UnsignedPType, match_each_float_ptype,

@@ -9,18 +9,18 @@ ghost use Rattle.dtype_types.specs.Tree as of;
 ghost use Rattle.dtype_types.specs.TreeOf.{tree};
 ghost use Rattle.dtype_types.specs.IsValid.{IsValid};
 ghost use Rattle.vortex_dtype.specs.IsMessage.{OptionBytes};
-ghost use Rattle.vortex_dtype.specs.MessageOf.{bytes_of};
+ghost use Rattle.dtype_messages.specs.MessageOf.{bytes_of};
 ghost use Rattle.vortex_dtype.specs.Numbers.{byte_at, small_at, natural_byte};
 ghost use Rattle.vortex_dtype.specs.Reading.{primitive_read, decimal_made, decimal_read, map_read, struct_read, union_made, union_read, read_tags, extension_read, or_empty, Gives};
 ghost use Rattle.vortex_dtype.specs.Session.{meaning};
 
-use crate::pb;
 use crate::plugin::ExtDTypePlugin;
 use crate::session::DTypeSession;
 use dtype_base::{
     DecimalDType, FieldName, FieldNames, MessageFault, Nullability, PType, VortexError,
     VortexResult,
 };
+use dtype_messages::pb;
 use dtype_types::{DType, MapDType, StructFields, UnionVariants};
 use std::alloc::Global;
 use std::string::String;

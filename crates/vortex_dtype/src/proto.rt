@@ -8,7 +8,7 @@ ghost use Rattle.dtype_base.specs.declared.vortex_error.VortexError.TheVariants.
 ghost use Rattle.dtype_types.specs.TreeOf.{tree};
 ghost use Rattle.dtype_types.specs.IsValid.{IsValid};
 ghost use Rattle.vortex_dtype.specs.Accepts.{Accepts};
-ghost use Rattle.vortex_dtype.specs.MessageOf.{message};
+ghost use Rattle.dtype_messages.specs.MessageOf.{message};
 ghost use Rattle.vortex_dtype.specs.PathMessage.{step_of, steps_of};
 ghost use Rattle.vortex_dtype.specs.IsMessage.{IsMessage};
 ghost use Rattle.dtype_base.specs.Refusals.{number_of};
@@ -21,11 +21,11 @@ use crate::parts::{
     decimal_of, extension_of, fixed_of, list_of, map_of, metadata_of, primitive_of, struct_of,
     union_of,
 };
-use crate::pb;
 use crate::plugin::ExtDTypePlugin;
 use crate::session::{DTypeSession, session_laws};
 use crate::writing::write;
 use dtype_base::{FieldName, MessageFault, Nullability, VortexError, VortexResult};
+use dtype_messages::pb;
 use dtype_paths::{Field, FieldPath};
 use dtype_types::DType;
 use std::alloc::Global;

@@ -4,12 +4,12 @@ ghost use Rattle.std.specs.Prelude.{◌≡◌, IfOk, IsOkUnless, map, string_byt
 ghost use Rattle.dtype_base.specs.declared.vortex_error.VortexError.TheVariants.{OutOfMemory};
 ghost use Rattle.dtype_types.specs.Tree as of;
 ghost use Rattle.dtype_types.specs.TreeOf.{tree, struct_tree, union_tree};
-ghost use Rattle.vortex_dtype.specs.Message.{messages, list, fixed_size_list, map_of, struct, union, present};
-ghost use Rattle.vortex_dtype.specs.MessageOf.{message, kind_message};
+ghost use Rattle.dtype_messages.specs.Message.{messages, list, fixed_size_list, map_of, struct, union, present};
+ghost use Rattle.dtype_messages.specs.MessageOf.{message, kind_message};
 ghost use Rattle.vortex_dtype.specs.Written.{written, is_nullable, extension_message};
 
-use crate::pb;
 use dtype_base::{Nullability, VortexResult};
+use dtype_messages::pb;
 use dtype_types::{DType, ExtDTypeRef, StructFields, UnionVariants};
 use std::alloc::Global;
 use std::string::String;

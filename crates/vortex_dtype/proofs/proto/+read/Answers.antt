@@ -3,14 +3,14 @@ use Rattle.std.proofs.lemmas.List.{map-append}
 use Rattle.std.proofs.lemmas.Result.{IfOk-weaker}
 use Rattle.dtype_types.specs.TreeOf.{tree}
 use Rattle.vortex_dtype.specs.IsMessage.{AreTags, IsMessage}
-use Rattle.vortex_dtype.specs.Message.{Message}
-use Rattle.vortex_dtype.specs.MessageOf.{message, bytes_of}
+use Rattle.dtype_messages.specs.Message.{Message}
+use Rattle.dtype_messages.specs.MessageOf.{message, bytes_of}
 use Rattle.vortex_dtype.specs.Reading.{read, Fails, Gives, struct_read, union_read, or_empty}
 use Rattle.vortex_dtype.specs.Session.{meaning}
 use Rattle.dtype_base.specs.Nullability.{nullability_of}
 use Rattle.dtype_types.specs.Tree.{Tree}
 use Rattle.dtype_types.specs.declared.dtype.DType.{DType as Logical}
-use Rattle.vortex_dtype.specs.declared.pb.DtypeType.TheViews.{out-Struct, out-Union, out-Extension}
+use Rattle.dtype_messages.specs.declared.pb.DtypeType.TheViews.{out-Struct, out-Union, out-Extension}
 use Rattle.vortex_dtype.proofs.Loops.{Rest, step, stops, done, struct_stops, struct_done, union_stops, union_done, extension_done, more_messages, all_messages, any_ok}
 use Rattle.vortex_dtype.proofs.ReadIs.{union_tags_fit}
 use Rattle.vortex_dtype.proofs.Shapes.{struct_shape, union_shape, extension_shape}

@@ -1,8 +1,8 @@
 use Rattle.std.proofs.Common.{map, drop, All}
 use Rattle.dtype_types.specs.IsValid.{IsValid}
 use Rattle.dtype_types.specs.TreeOf.{tree}
-use Rattle.vortex_dtype.specs.Message.{messages}
-use Rattle.vortex_dtype.specs.MessageOf.{message}
+use Rattle.dtype_messages.specs.Message.{messages}
+use Rattle.dtype_messages.specs.MessageOf.{message}
 use Rattle.vortex_dtype.specs.IsMessage.{AreMessages}
 use Rattle.vortex_dtype.proofs.Loops.{Rest}
 use Rattle.vortex_dtype.specs.Session.{meaning}

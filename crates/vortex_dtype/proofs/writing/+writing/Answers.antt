@@ -1,6 +1,6 @@
 use Rattle.std.proofs.Common.{◌≡◌, pos, refl, sym, ap, ◌∙◌, arith, get_or, rules, map, string_bytes, [], ◌∷◌, ◌++◌}
 use Rattle.dtype_types.specs.TreeOf.{tree, children, choices, union_names, union_types, union_tags}
-use Rattle.vortex_dtype.specs.MessageOf.{message}
+use Rattle.dtype_messages.specs.MessageOf.{message}
 use Rattle.vortex_dtype.proofs.Weight.{weight_field, weight_variant}
 use Rattle.vortex_dtype.proofs.WrittenParts.{take_field, take_variant, step, step_plain, struct_done, union_done}
 use Rattle.vortex_dtype.proofs.writing.+writing.Goals as goal

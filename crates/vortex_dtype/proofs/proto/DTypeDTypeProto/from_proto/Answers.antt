@@ -1,4 +1,4 @@
-use Rattle.vortex_dtype.specs.MessageOf.{message}
+use Rattle.dtype_messages.specs.MessageOf.{message}
 use Rattle.vortex_dtype.specs.Session.{meaning}
 use Rattle.vortex_dtype.proofs.Public.{gives_accepts, gives_refused}
 use Rattle.vortex_dtype.proofs.proto.DTypeDTypeProto.from_proto.Goals as goal

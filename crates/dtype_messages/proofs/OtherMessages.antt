@@ -3,24 +3,24 @@ use Rattle.std.proofs.Common.{◌≡◌, ap, ◌∙◌, false, refl}
 use Rattle.std.specs.declared.boxed.Box.{Box}
 use Rattle.std.specs.declared.alloc.Global.{Global}
 use denote.Hole.Carrier
-use Rattle.vortex_dtype.specs.Message.{Message}
-use Rattle.vortex_dtype.specs.MessageOf.{message, kind_message, list_parts, fixed_parts, map_parts, struct_parts, union_parts, extension_parts, ExtensionOf, FixedOf, ListOf, MapOf, StructOf, UnionOf, kind_step, dtype_step, extension_step, fixed_step, list_step, map_step, struct_step, union_step}
-use Rattle.vortex_dtype.specs.Same.{same}
-use Rattle.vortex_dtype.specs.declared.pb.DtypeType.{DtypeType, out-DtypeType, map-DtypeType, fold_out-DtypeType, Null, Bool as Bool_of, Primitive, Decimal, Utf8, Binary, List as List_of, List', FixedSizeList, FixedSizeList', Map, Map', Struct, Union, Variant, Extension, Extension'}
-use Rattle.vortex_dtype.specs.declared.pb.DType.{DType}
-use Rattle.vortex_dtype.specs.declared.pb.Null.{Null as NullMessage}
-use Rattle.vortex_dtype.specs.declared.pb.Bool.{Bool as BoolMessage}
-use Rattle.vortex_dtype.specs.declared.pb.Primitive.{Primitive as PrimitiveMessage}
-use Rattle.vortex_dtype.specs.declared.pb.Decimal.{Decimal as DecimalMessage}
-use Rattle.vortex_dtype.specs.declared.pb.Utf8.{Utf8 as Utf8Message}
-use Rattle.vortex_dtype.specs.declared.pb.Binary.{Binary as BinaryMessage}
-use Rattle.vortex_dtype.specs.declared.pb.Variant.{Variant as VariantMessage}
-use Rattle.vortex_dtype.specs.declared.pb.List.{List as ListMessage}
-use Rattle.vortex_dtype.specs.declared.pb.FixedSizeList.{FixedSizeList as FixedMessage}
-use Rattle.vortex_dtype.specs.declared.pb.Map.{Map as MapMessage}
-use Rattle.vortex_dtype.specs.declared.pb.Struct.{Struct as StructMessage}
-use Rattle.vortex_dtype.specs.declared.pb.Union.{Union as UnionMessage}
-use Rattle.vortex_dtype.specs.declared.pb.Extension.{Extension as ExtensionMessage}
+use Rattle.dtype_messages.specs.Message.{Message}
+use Rattle.dtype_messages.specs.MessageOf.{message, kind_message, list_parts, fixed_parts, map_parts, struct_parts, union_parts, extension_parts, ExtensionOf, FixedOf, ListOf, MapOf, StructOf, UnionOf, kind_step, dtype_step, extension_step, fixed_step, list_step, map_step, struct_step, union_step}
+use Rattle.dtype_messages.specs.Same.{same}
+use Rattle.dtype_messages.specs.declared.pb.DtypeType.{DtypeType, out-DtypeType, map-DtypeType, fold_out-DtypeType, Null, Bool as Bool_of, Primitive, Decimal, Utf8, Binary, List as List_of, List', FixedSizeList, FixedSizeList', Map, Map', Struct, Union, Variant, Extension, Extension'}
+use Rattle.dtype_messages.specs.declared.pb.DType.{DType}
+use Rattle.dtype_messages.specs.declared.pb.Null.{Null as NullMessage}
+use Rattle.dtype_messages.specs.declared.pb.Bool.{Bool as BoolMessage}
+use Rattle.dtype_messages.specs.declared.pb.Primitive.{Primitive as PrimitiveMessage}
+use Rattle.dtype_messages.specs.declared.pb.Decimal.{Decimal as DecimalMessage}
+use Rattle.dtype_messages.specs.declared.pb.Utf8.{Utf8 as Utf8Message}
+use Rattle.dtype_messages.specs.declared.pb.Binary.{Binary as BinaryMessage}
+use Rattle.dtype_messages.specs.declared.pb.Variant.{Variant as VariantMessage}
+use Rattle.dtype_messages.specs.declared.pb.List.{List as ListMessage}
+use Rattle.dtype_messages.specs.declared.pb.FixedSizeList.{FixedSizeList as FixedMessage}
+use Rattle.dtype_messages.specs.declared.pb.Map.{Map as MapMessage}
+use Rattle.dtype_messages.specs.declared.pb.Struct.{Struct as StructMessage}
+use Rattle.dtype_messages.specs.declared.pb.Union.{Union as UnionMessage}
+use Rattle.dtype_messages.specs.declared.pb.Extension.{Extension as ExtensionMessage}
 
 -- a message's tree, by one look at its kind
 abbrev shown : DtypeType → Message

@@ -5,18 +5,18 @@ use Rattle.std.specs.declared.string.String.{String}
 use Rattle.std.specs.declared.vec.Vec.{Vec}
 use Rattle.std.specs.declared.boxed.Box.{Box}
 use Rattle.std.specs.declared.alloc.Global.{Global}
-use Rattle.vortex_dtype.specs.Message.{Message, Child, Messages, messages, missing, null, bool, primitive, decimal, utf8, binary, list, fixed_size_list, map_of, struct, union, variant, extension, absent, present}
-use Rattle.vortex_dtype.specs.declared.pb.DtypeType.{DtypeType}
-use Rattle.vortex_dtype.specs.declared.pb.DtypeType.TheFolds.{fold-DtypeType, fold-DType, fold-List, fold-FixedSizeList, fold-Map, fold-Struct, fold-Union, fold-Extension}
-use Rattle.vortex_dtype.specs.declared.pb.DtypeType.TheOpen as o
-use Rattle.vortex_dtype.specs.declared.pb.DtypeType.TheOpen.{DtypeType-F, DType-F, Extension-F, FixedSizeList-F, List-F, Map-F, Struct-F, Union-F}
-use Rattle.vortex_dtype.specs.declared.pb.DType.{DType}
-use Rattle.vortex_dtype.specs.declared.pb.List.{List as ListMessage}
-use Rattle.vortex_dtype.specs.declared.pb.FixedSizeList.{FixedSizeList as FixedMessage}
-use Rattle.vortex_dtype.specs.declared.pb.Map.{Map as MapMessage}
-use Rattle.vortex_dtype.specs.declared.pb.Struct.{Struct as StructMessage}
-use Rattle.vortex_dtype.specs.declared.pb.Union.{Union as UnionMessage}
-use Rattle.vortex_dtype.specs.declared.pb.Extension.{Extension as ExtensionMessage}
+use Rattle.dtype_messages.specs.Message.{Message, Child, Messages, messages, missing, null, bool, primitive, decimal, utf8, binary, list, fixed_size_list, map_of, struct, union, variant, extension, absent, present}
+use Rattle.dtype_messages.specs.declared.pb.DtypeType.{DtypeType}
+use Rattle.dtype_messages.specs.declared.pb.DtypeType.TheFolds.{fold-DtypeType, fold-DType, fold-List, fold-FixedSizeList, fold-Map, fold-Struct, fold-Union, fold-Extension}
+use Rattle.dtype_messages.specs.declared.pb.DtypeType.TheOpen as o
+use Rattle.dtype_messages.specs.declared.pb.DtypeType.TheOpen.{DtypeType-F, DType-F, Extension-F, FixedSizeList-F, List-F, Map-F, Struct-F, Union-F}
+use Rattle.dtype_messages.specs.declared.pb.DType.{DType}
+use Rattle.dtype_messages.specs.declared.pb.List.{List as ListMessage}
+use Rattle.dtype_messages.specs.declared.pb.FixedSizeList.{FixedSizeList as FixedMessage}
+use Rattle.dtype_messages.specs.declared.pb.Map.{Map as MapMessage}
+use Rattle.dtype_messages.specs.declared.pb.Struct.{Struct as StructMessage}
+use Rattle.dtype_messages.specs.declared.pb.Union.{Union as UnionMessage}
+use Rattle.dtype_messages.specs.declared.pb.Extension.{Extension as ExtensionMessage}
 
 -- what the structs give: their fields, in order
 abbrev pub ExtensionOf : Type 0

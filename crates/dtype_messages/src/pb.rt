@@ -1,14 +1,11 @@
-// The messages that stand for types and for paths, as plain data: what a protobuf decoder gives, and what
-// an encoder takes. Nothing is checked here; `DTypeProto` and `FieldPathProto` read them.
-//
-// A contract sees a message as its tree (`message` of `specs/MessageOf`), the other structs as their
-// fields by those trees, and a path as the steps that its parts say.
+// The messages themselves. A contract sees a type's message as its tree (`message` of `specs/MessageOf`), the other
+// structs as their fields by those trees, and a path as the names that its parts hold.
 ghost use Rattle.std.specs.Prelude.{◌≡◌, pos, Ok, IfOk, IfSome, IsOkUnless, map, option_map, string_bytes};
 ghost use Rattle.dtype_base.specs.declared.vortex_error.VortexError.TheVariants.{OutOfMemory};
 ghost use Rattle.dtype_base.specs.Primitives.{primitive};
-ghost use Rattle.vortex_dtype.specs.MessageOf.{message, kind_message, child, list_parts, fixed_parts, map_parts, struct_parts, union_parts, extension_parts, bytes_of};
-ghost use Rattle.vortex_dtype.specs.Numbers.{plain, ptype_at};
-ghost use Rattle.vortex_dtype.specs.PathMessage.{name_of, steps_of, step_of};
+ghost use Rattle.dtype_messages.specs.MessageOf.{message, kind_message, child, list_parts, fixed_parts, map_parts, struct_parts, union_parts, extension_parts, bytes_of};
+ghost use Rattle.dtype_messages.specs.PTypeNumbers.{plain, ptype_at};
+ghost use Rattle.dtype_messages.specs.PathNames.{name_of, part_name, part_names};
 
 use dtype_base::VortexResult;
 use std::alloc::Global;
@@ -339,7 +336,7 @@ impl Variant {
 impl FieldPath {
     /// An equal message. Refuses 0 (OutOfMemory) alone.
     pub fn try_clone(&self, alloc: Global) -> VortexResult<FieldPath>
-        ensures same { IfOk result (λ p. steps_of p ≡ steps_of self.now) }
+        ensures same { IfOk result (λ p. part_names p ≡ part_names self.now) }
         ensures refused { IsOkUnless result OutOfMemory }
     {
         let mut path = Vec::with_capacity(alloc, self.path.len())?;
@@ -353,7 +350,7 @@ impl FieldPath {
 impl Field {
     /// An equal message. Refuses 0 (OutOfMemory) alone.
     pub fn try_clone(&self, alloc: Global) -> VortexResult<Field>
-        ensures same { IfOk result (λ p. step_of p ≡ step_of self.now) }
+        ensures same { IfOk result (λ p. part_name p ≡ part_name self.now) }
         ensures refused { IsOkUnless result OutOfMemory }
     {
         match &self.field_type {

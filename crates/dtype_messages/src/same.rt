@@ -4,9 +4,9 @@ ghost use Rattle.std.specs.Prelude.{◌≡◌, ◌↔◌, IsTrue, map, string_by
 ghost use Rattle.std.specs.Str.{bytes_eq};
 ghost use Rattle.std.specs.Ordering.{int_eq};
 ghost use Rattle.std.specs.Cmp.Lexicographic.{pointwise};
-ghost use Rattle.vortex_dtype.specs.Same.{same, same_child, same_all, same_bytes};
-ghost use Rattle.vortex_dtype.specs.Message.{messages, list, fixed_size_list, map_of, struct, union, extension};
-ghost use Rattle.vortex_dtype.specs.MessageOf.{message, kind_message, child, bytes_of, list_parts, fixed_parts, map_parts, struct_parts, union_parts, extension_parts};
+ghost use Rattle.dtype_messages.specs.Same.{same, same_child, same_all, same_bytes};
+ghost use Rattle.dtype_messages.specs.Message.{messages, list, fixed_size_list, map_of, struct, union, extension};
+ghost use Rattle.dtype_messages.specs.MessageOf.{message, kind_message, child, bytes_of, list_parts, fixed_parts, map_parts, struct_parts, union_parts, extension_parts};
 
 use crate::pb::{DType, DtypeType, Extension, FixedSizeList, List, Map, Struct, Union};
 
@@ -214,7 +214,7 @@ fn same_all(a: &[DType], b: &[DType]) -> bool
 }
 
 impl PartialEq for DType {
-    ghost use Rattle.vortex_dtype.specs.SameLaws.{same_dtype, same_dtype_equiv};
+    ghost use Rattle.dtype_messages.specs.SameLaws.{same_dtype, same_dtype_equiv};
     ghost use Rattle.std.specs.Cmp.{partial_equiv_from_equiv};
 
     ghost eq = { same_dtype };
@@ -231,7 +231,7 @@ impl PartialEq for DType {
 }
 
 impl Eq for DType {
-    ghost use Rattle.vortex_dtype.specs.SameLaws.{same_dtype_equiv};
+    ghost use Rattle.dtype_messages.specs.SameLaws.{same_dtype_equiv};
 
     ghost laws = { same_dtype_equiv };
 }

@@ -1,0 +1,19 @@
+-- What a path message names: for each part the name that it holds, or nothing where the part has no kind. From the
+-- documentation of the protobuf message `FieldPath`.
+use Rattle.std.specs.Prelude.{ℕ, List, map, Option, option_map}
+use Rattle.std.specs.String.{string_bytes}
+use Rattle.dtype_messages.specs.declared.pb.Field.{Field}
+use Rattle.dtype_messages.specs.declared.pb.FieldPath.{FieldPath}
+use Rattle.dtype_messages.specs.declared.pb.FieldType.{FieldType}
+use Rattle.dtype_messages.specs.declared.pb.FieldType.TheVariants.{Name}
+
+-- the name that a kind holds
+abbrev pub name_of : FieldType → List ℕ
+name_of (Name name) = string_bytes name
+
+-- the name that a part holds
+abbrev pub part_name : Field → Option (List ℕ)
+part_name part = option_map name_of part.field_type
+
+abbrev pub part_names : FieldPath → List (Option (List ℕ))
+part_names p = map part_name p.path.items

@@ -1,0 +1,5 @@
+use Rattle.vortex_dtype.proofs.PathNames.{steps_by_names}
+use Rattle.vortex_dtype.proofs.laws.same_names_same_steps.Goals as goal
+
+pub returns : goal.returns
+returns c = steps_by_names

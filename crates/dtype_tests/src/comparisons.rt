@@ -10,28 +10,34 @@ fn int(n: Nullability) -> DType {
     primitive(PType::I32, n)
 }
 
-fn list(alloc: Global, element: DType) -> VortexResult<DType> {
-    DType::list(alloc, element, NonNullable)
+// A list of integers, which alone are of this nullability.
+fn ints(alloc: Global, n: Nullability) -> VortexResult<DType> {
+    DType::list(alloc, int(n), NonNullable)
 }
 
 // list({a=list(..)}) of integers.
 fn nested(alloc: Global, n: Nullability) -> VortexResult<DType> {
-    let inner = list(alloc, int(n))?;
-    list(alloc, record(alloc, "a", inner, NonNullable)?)
+    DType::list(
+        alloc,
+        record(alloc, "a", ints(alloc, n)?, NonNullable)?,
+        NonNullable,
+    )
 }
 
-// Whether the one is within the other, and so whether the other is around it.
+fn in_map(alloc: Global, n: Nullability) -> VortexResult<DType> {
+    DType::map(alloc, DType::Utf8(NonNullable), int(n), false, NonNullable)
+}
+
+fn in_extension(alloc: Global, n: Nullability) -> VortexResult<DType> {
+    extension(alloc, b"a", ints(alloc, n)?)
+}
+
+// That the one is within the other, and so the other around it, or isn't.
 fn test_within(rt: &impl Abort, one: &DType, other: &DType, want: bool) {
-    assert_eq!(rt;
-        one.eq_with_nullability_subset(other),
-        want,
-        "{one} in {other}"
-    );
-    assert_eq!(rt;
-        other.eq_with_nullability_superset(one),
-        want,
-        "{other} around {one}"
-    );
+    let within = one.eq_with_nullability_subset(other);
+    assert_eq!(rt; within, want, "{one} in {other}");
+    let around = other.eq_with_nullability_superset(one);
+    assert_eq!(rt; around, want, "{other} around {one}");
 }
 
 // Whether each is within the other.
@@ -40,42 +46,56 @@ fn test_pair(rt: &impl Abort, one: &DType, other: &DType, within: bool, around: 
     test_within(rt, other, one, around);
 }
 
+// That the one is within the other alone.
+fn test_narrower(rt: &impl Abort, one: DType, other: DType) {
+    test_pair(rt, &one, &other, true, false);
+}
+
 #[test]
-fn outer_and_inner_nullability_count(rt: HostRuntime) -> Result<(), Fail> {
-    let alloc = rt.alloc();
-    let one = record(alloc, "a", int(NonNullable), Nullable)?;
-    let other = record(alloc, "a", int(Nullable), Nullable)?;
-    test_pair(&rt, &one, &other, true, false);
-    test_pair(&rt, &int(Nullable), &int(NonNullable), false, true);
-    let one = list(alloc, int(Nullable))?;
-    let other = DType::list(alloc, int(NonNullable), Nullable)?;
-    test_pair(&rt, &one, &other, false, false);
-    test_pair(&rt, &list(alloc, int(NonNullable))?, &one, true, false);
+fn outer_nullability_counts(rt: HostRuntime) -> Result<(), Fail> {
+    test_narrower(&rt, int(NonNullable), int(Nullable));
     test_pair(&rt, &int(NonNullable), &DType::BYTES, false, false);
     Ok(())
 }
 
 #[test]
-fn nullability_counts_at_every_depth(rt: HostRuntime) -> Result<(), Fail> {
+fn nullability_counts_in_fields_and_entries(rt: HostRuntime) -> Result<(), Fail> {
     let alloc = rt.alloc();
-    let one = fixed_size_list(alloc, int(Nullable), 0, NonNullable)?;
-    let other = fixed_size_list(alloc, int(NonNullable), 0, NonNullable)?;
-    test_pair(&rt, &one, &other, false, true);
-    test_pair(
+    let one = record(alloc, "a", int(NonNullable), Nullable)?;
+    test_narrower(&rt, one, record(alloc, "a", int(Nullable), Nullable)?);
+    let one = in_map(alloc, NonNullable)?;
+    test_narrower(&rt, one, in_map(alloc, Nullable)?);
+    Ok(())
+}
+
+#[test]
+fn nullability_counts_in_lists(rt: HostRuntime) -> Result<(), Fail> {
+    let alloc = rt.alloc();
+    let one = nested(alloc, NonNullable)?;
+    test_narrower(&rt, one, nested(alloc, Nullable)?);
+    let one = fixed_size_list(alloc, int(NonNullable), 0, NonNullable)?;
+    test_narrower(
         &rt,
-        &nested(alloc, Nullable)?,
-        &nested(alloc, NonNullable)?,
-        false,
-        true,
+        one,
+        fixed_size_list(alloc, int(Nullable), 0, NonNullable)?,
     );
-    let key = DType::Utf8(NonNullable);
-    let one = DType::map(alloc, key, int(Nullable), false, NonNullable)?;
-    let key = DType::Utf8(NonNullable);
-    let other = DType::map(alloc, key, int(NonNullable), false, NonNullable)?;
-    test_pair(&rt, &one, &other, false, true);
-    let one = extension(alloc, b"a", list(alloc, int(Nullable))?)?;
-    let other = extension(alloc, b"a", list(alloc, int(NonNullable))?)?;
-    test_pair(&rt, &one, &other, false, true);
+    Ok(())
+}
+
+#[test]
+fn nullability_counts_in_storage(rt: HostRuntime) -> Result<(), Fail> {
+    let alloc = rt.alloc();
+    let one = in_extension(alloc, NonNullable)?;
+    test_narrower(&rt, one, in_extension(alloc, Nullable)?);
+    Ok(())
+}
+
+#[test]
+fn outer_and_inner_nullability_are_held_apart(rt: HostRuntime) -> Result<(), Fail> {
+    let alloc = rt.alloc();
+    let one = ints(alloc, Nullable)?;
+    let other = DType::list(alloc, int(NonNullable), Nullable)?;
+    test_pair(&rt, &one, &other, false, false);
     Ok(())
 }
 

@@ -5,7 +5,7 @@ mod conversions;
 pub(crate) mod copies;
 pub(crate) mod equality;
 pub(crate) mod hash;
-mod indented_text;
+pub(crate) mod indented_text;
 mod kinds;
 mod nullability;
 mod text;

@@ -8,6 +8,7 @@ ghost use Rattle.dtype_base.specs.declared.vortex_error.VortexError.TheVariants.
 
 use crate::dtype::equality::{Nullabilities, agree};
 use crate::dtype::hash::{Hashed, feed};
+use crate::dtype::indented_text::start_field;
 use crate::dtype::width::Width;
 use crate::field_dtype::into_dtypes;
 use crate::fields_builder::FieldsBuilder;
@@ -408,7 +409,7 @@ impl StructFields {
         out.push_str("{\n")?;
         let mut separator = "";
         for (name, dtype) in self.names().as_slice().iter().zip(self.dtypes()) {
-            write!(out, "{separator}{inner}{name}=")?;
+            start_field(out, separator, inner.as_str(), name)?;
             dtype.write_indented(alloc, out, inner.as_str())?;
             separator = ",\n";
         }

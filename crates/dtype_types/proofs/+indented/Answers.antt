@@ -29,8 +29,8 @@ struct_fields::StructFields::write_indented-loop-name-preserved t c =
     let next = next_pair c.loop-name.name-iterator c.next.new.self c.next.result c.in-Some.name c.in-Some.dtype c.in-Some.is c.next.ensures.steps in
     let ended : string_bytes c.write_indented.new.out ≡ start ++ (separator ++ x) =
     c.in_ok-write_indented.ensures.ok
-    ∙ ap (λ a. string_bytes c.write.new.self ++ indented a (tree c.in-Some.dtype.now)) (c.as_str.ensures.value ∙ c.in_ok-inner.ensures.ok)
-    ∙ ap (λ xs. xs ++ d) (c.in_ok-write.ensures.bytes ∙ ap (λ xs. start ++ (separator ++ (xs ++ (n ++ codes "=")))) c.in_ok-inner.ensures.ok)
+    ∙ ap (λ a. string_bytes c.start_field.new.out ++ indented a (tree c.in-Some.dtype.now)) (c.as_str-in-loop-name.ensures.value ∙ c.in_ok-inner.ensures.ok)
+    ∙ ap (λ xs. xs ++ d) (c.in_ok-start_field.ensures.ok ∙ ap (λ xs. start ++ (separator ++ (xs ++ (n ++ codes "=")))) (c.as_str.ensures.value ∙ c.in_ok-inner.ensures.ok))
     ∙ indented_named start separator inner n d in
     let rest = indented_fields inner (fields (pairs_left c.next.new.self)) in (
       search rules,
@@ -48,7 +48,7 @@ struct_fields::StructFields::write_indented-returns-clause-ok t c =
     let none = no_pair c.loop-name.name-iterator c.next.new.self c.next.result c.in-None.is c.next.ensures.steps in
     let so_far = all_written (codes ",\n") c.loop-name.separator.now (string_bytes c.loop-name.out) _ _ c.loop-name.invariant.1 (ap (λ qs. indented_fields (indent ++ codes "  ") (fields qs)) none)
     ∙ ap (λ xs. string_bytes c.push_str.new.self ++ xs) (leading_all (codes ",\n") parts) ∙ ap (λ xs. xs ++ joined (codes ",\n") parts) c.in_ok-push_str.ensures.bytes in
-    let written = c.in_ok-write-2.ensures.bytes in
+    let written = c.in_ok-write.ensures.bytes in
     elim c.if-count-gt0.branch [
       | struct_fields::StructFields::write_indented-then-count-gt0+in_ok-push_str-2 w ↦
           written ∙ ap (λ xs. xs ++ close) (ap (λ z. string_bytes z) w.out-is ∙ w.in_ok-push_str-2.ensures.bytes)

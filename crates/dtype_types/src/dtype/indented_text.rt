@@ -1,12 +1,28 @@
 // The indented text of a type, written behind what a text holds.
-ghost use Rattle.std.specs.Prelude.{◌≡◌, ◌++◌, OnOk, IsOkUnless, string_bytes};
+ghost use Rattle.std.specs.Prelude.{◌≡◌, ◌++◌, OnOk, IsOkUnless, codes, string_bytes};
+ghost use Rattle.dtype_base.specs.Escapes.{escaped};
 ghost use Rattle.dtype_base.specs.declared.vortex_error.VortexError.TheVariants.{OutOfMemory};
 ghost use Rattle.dtype_types.specs.IndentedText.{indented};
 ghost use Rattle.dtype_types.specs.TreeOf.{tree};
 
 use crate::DType;
-use dtype_base::VortexResult;
+use dtype_base::{FieldName, VortexResult};
 use std::alloc::Global;
+
+// What stands before a field's type, written behind what a text holds.
+pub(crate) fn start_field(
+    out: &mut String,
+    separator: &str,
+    indent: &str,
+    name: &FieldName,
+) -> VortexResult<()>
+    ensures ok { OnOk result (string_bytes out.new
+        ≡ string_bytes out.old ++ (separator.now ++ (indent.now ++ (escaped name.now ++ codes "=")))) }
+    ensures refused { IsOkUnless result OutOfMemory }
+{
+    write!(out, "{separator}{indent}{name}=")?;
+    Ok(())
+}
 
 impl DType {
     // A struct over several lines, a list with its element so, every other type on one line.

@@ -1,4 +1,4 @@
--- A message of another kind isn't the same: what the default arms of `same_kind` answer.
+-- A message of another kind isn't the same: what the default arm of `same_kind` answers.
 use Rattle.std.proofs.Common.{◌≡◌, ap, ◌∙◌, false, refl}
 use Rattle.std.specs.declared.boxed.Box.{Box}
 use Rattle.std.specs.declared.alloc.Global.{Global}

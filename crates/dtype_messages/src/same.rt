@@ -15,15 +15,10 @@ use crate::pb::{DType, DtypeType, Extension, FixedSizeList, List, Map, Struct, U
 pub(crate) fn same(a: &DType, b: &DType) -> bool
     ensures { result ≡ same (message a.now) (message b.now) }
 {
-    match &a.dtype_type {
-        Some(x) => match &b.dtype_type {
-            Some(y) => same_kind(x, y),
-            None => false,
-        },
-        None => match &b.dtype_type {
-            Some(_) => false,
-            None => true,
-        },
+    match (&a.dtype_type, &b.dtype_type) {
+        (Some(x), Some(y)) => same_kind(x, y),
+        (None, None) => true,
+        _ => false,
     }
 }
 
@@ -31,61 +26,25 @@ pub(crate) fn same(a: &DType, b: &DType) -> bool
 fn same_kind(a: &DtypeType, b: &DtypeType) -> bool
     ensures { result ≡ same (kind_message a.now) (kind_message b.now) }
 {
-    match a {
-        DtypeType::Null(_) => match b {
-            DtypeType::Null(_) => true,
-            _ => false,
-        },
-        DtypeType::Bool(x) => match b {
-            DtypeType::Bool(y) => x.nullable == y.nullable,
-            _ => false,
-        },
-        DtypeType::Primitive(x) => match b {
-            DtypeType::Primitive(y) => x.ptype == y.ptype && x.nullable == y.nullable,
-            _ => false,
-        },
-        DtypeType::Decimal(x) => match b {
-            DtypeType::Decimal(y) => x.precision == y.precision
-                && x.scale == y.scale
-                && x.nullable == y.nullable,
-            _ => false,
-        },
-        DtypeType::Utf8(x) => match b {
-            DtypeType::Utf8(y) => x.nullable == y.nullable,
-            _ => false,
-        },
-        DtypeType::Binary(x) => match b {
-            DtypeType::Binary(y) => x.nullable == y.nullable,
-            _ => false,
-        },
-        DtypeType::List(x) => match b {
-            DtypeType::List(y) => same_list(x, y),
-            _ => false,
-        },
-        DtypeType::FixedSizeList(x) => match b {
-            DtypeType::FixedSizeList(y) => same_fixed(x, y),
-            _ => false,
-        },
-        DtypeType::Map(x) => match b {
-            DtypeType::Map(y) => same_map(x, y),
-            _ => false,
-        },
-        DtypeType::Struct(x) => match b {
-            DtypeType::Struct(y) => same_struct(x, y),
-            _ => false,
-        },
-        DtypeType::Union(x) => match b {
-            DtypeType::Union(y) => same_union(x, y),
-            _ => false,
-        },
-        DtypeType::Variant(x) => match b {
-            DtypeType::Variant(y) => x.nullable == y.nullable,
-            _ => false,
-        },
-        DtypeType::Extension(x) => match b {
-            DtypeType::Extension(y) => same_extension(x, y),
-            _ => false,
-        },
+    match (a, b) {
+        (DtypeType::Null(_), DtypeType::Null(_)) => true,
+        (DtypeType::Bool(x), DtypeType::Bool(y)) => x.nullable == y.nullable,
+        (DtypeType::Primitive(x), DtypeType::Primitive(y)) => {
+            x.ptype == y.ptype && x.nullable == y.nullable
+        }
+        (DtypeType::Decimal(x), DtypeType::Decimal(y)) => {
+            x.precision == y.precision && x.scale == y.scale && x.nullable == y.nullable
+        }
+        (DtypeType::Utf8(x), DtypeType::Utf8(y)) => x.nullable == y.nullable,
+        (DtypeType::Binary(x), DtypeType::Binary(y)) => x.nullable == y.nullable,
+        (DtypeType::List(x), DtypeType::List(y)) => same_list(x, y),
+        (DtypeType::FixedSizeList(x), DtypeType::FixedSizeList(y)) => same_fixed(x, y),
+        (DtypeType::Map(x), DtypeType::Map(y)) => same_map(x, y),
+        (DtypeType::Struct(x), DtypeType::Struct(y)) => same_struct(x, y),
+        (DtypeType::Union(x), DtypeType::Union(y)) => same_union(x, y),
+        (DtypeType::Variant(x), DtypeType::Variant(y)) => x.nullable == y.nullable,
+        (DtypeType::Extension(x), DtypeType::Extension(y)) => same_extension(x, y),
+        _ => false,
     }
 }
 
@@ -93,15 +52,10 @@ fn same_kind(a: &DtypeType, b: &DtypeType) -> bool
 fn same_child(a: &Option<Box<DType>>, b: &Option<Box<DType>>) -> bool
     ensures { result ≡ same_child (child a.now) (child b.now) }
 {
-    match a {
-        Some(x) => match b {
-            Some(y) => same(x, y),
-            None => false,
-        },
-        None => match b {
-            Some(_) => false,
-            None => true,
-        },
+    match (a, b) {
+        (Some(x), Some(y)) => same(x, y),
+        (None, None) => true,
+        _ => false,
     }
 }
 
@@ -135,15 +89,10 @@ fn same_map(a: &Map, b: &Map) -> bool
 fn same_metadata(a: &Option<Vec<u8>>, b: &Option<Vec<u8>>) -> bool
     ensures { result ≡ same_bytes (bytes_of a.now) (bytes_of b.now) }
 {
-    match a {
-        Some(x) => match b {
-            Some(y) => x.as_slice() == y.as_slice(),
-            None => false,
-        },
-        None => match b {
-            Some(_) => false,
-            None => true,
-        },
+    match (a, b) {
+        (Some(x), Some(y)) => x.as_slice() == y.as_slice(),
+        (None, None) => true,
+        _ => false,
     }
 }
 

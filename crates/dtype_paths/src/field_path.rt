@@ -216,10 +216,7 @@ fn one_step<'a>(dtype: &'a DType, field: &Field) -> Option<&'a DType>
     ensures valid { IsValid dtype.now → IfSome result (λ u. IsValid u.now) }
 {
     match field {
-        Field::Name(name) => match dtype.as_struct_fields_opt() {
-            Some(fields) => fields.field(name.as_str()),
-            None => None,
-        },
+        Field::Name(name) => dtype.as_struct_fields_opt()?.field(name.as_str()),
         Field::ElementType => dtype.as_any_size_list_element_opt(),
     }
 }

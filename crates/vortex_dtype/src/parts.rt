@@ -14,7 +14,7 @@ ghost use Rattle.vortex_dtype.specs.Numbers.{byte_at, small_at, natural_byte};
 ghost use Rattle.vortex_dtype.specs.Reading.{primitive_read, decimal_made, decimal_read, map_read, struct_read, union_made, union_read, read_tags, extension_read, or_empty, Gives};
 ghost use Rattle.vortex_dtype.specs.Session.{meaning};
 
-use crate::plugin::ExtDTypePlugin;
+use crate::plugin::{ExtDTypePlugin, check_bytes};
 use crate::session::DTypeSession;
 use dtype_base::{
     DecimalDType, FieldName, FieldNames, MessageFault, Nullability, PType, VortexError,
@@ -42,30 +42,21 @@ pub(crate) fn primitive_of(number: i32, nullable: bool) -> VortexResult<DType>
 fn precision_of(precision: u32) -> Option<u8>
     ensures { result ≡ natural_byte precision }
 {
-    match u8::try_from(precision) {
-        Ok(precision) => Some(precision),
-        Err(_) => None,
-    }
+    u8::try_from(precision).ok()
 }
 
 // The number, where it fits.
 fn scale_of(scale: i32) -> Option<i8>
     ensures { result ≡ small_at scale }
 {
-    match i8::try_from(scale) {
-        Ok(scale) => Some(scale),
-        Err(_) => None,
-    }
+    i8::try_from(scale).ok()
 }
 
 // The number, where it fits.
 fn tag_of(tag: i32) -> Option<u8>
     ensures { result ≡ byte_at tag }
 {
-    match u8::try_from(tag) {
-        Ok(tag) => Some(tag),
-        Err(_) => None,
-    }
+    u8::try_from(tag).ok()
 }
 
 // The decimal of the precision and the scale.
@@ -210,10 +201,8 @@ fn union_within(
     ensures gives { Gives tree result (union_made names (map tree dtypes.items) tags.items n) }
     ensures valid { All IsValid dtypes.items → IfOk result IsValid }
 {
-    match UnionVariants::try_new(alloc, names, dtypes, tags) {
-        Ok(variants) => Ok(DType::Union(variants, n)),
-        Err(e) => Err(e),
-    }
+    let variants = UnionVariants::try_new(alloc, names, dtypes, tags)?;
+    Ok(DType::Union(variants, n))
 }
 
 // The metadata, empty where it is missing.
@@ -229,13 +218,6 @@ pub(crate) fn metadata_of(metadata: &Option<Vec<u8>>) -> &[u8]
         }
         None => &[],
     }
-}
-
-// Nothing at run time: a proof learns that the items are bytes.
-fn check_bytes(bytes: &[u8])
-    ensures { All (λ x. x < 256) bytes.now }
-{
-    let _ = bytes;
 }
 
 // The extension of the storage, with the metadata that the session keeps.

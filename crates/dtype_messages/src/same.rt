@@ -134,15 +134,7 @@ fn same_tags(a: &[i32], b: &[i32]) -> bool
 fn same_texts(a: &[String], b: &[String]) -> bool
     ensures { result ≡ pointwise bytes_eq (map string_bytes a.now) (map string_bytes b.now) }
 {
-    if a.len() != b.len() {
-        return false;
-    }
-    for i in 0..a.len() {
-        if a[i].as_str() != b[i].as_str() {
-            return false;
-        }
-    }
-    true
+    a == b
 }
 
 #[cycle(same)]

@@ -13,8 +13,5 @@ use dtype_types::DType;
 pub fn nullability_along(path: &FieldPath, dtype: &DType) -> Option<Nullability>
     ensures { result ≡ option_map nullability (along (tree dtype.now) path.now) }
 {
-    match path.resolve(dtype) {
-        Some(found) => Some(found.nullability()),
-        None => None,
-    }
+    Some(path.resolve(dtype)?.nullability())
 }

@@ -1,16 +1,17 @@
-//! What a user of messages gets, from the contracts of the public calls and one law alone.
-ghost use Rattle.std.specs.Prelude.{◌≡◌, IfOk, IsOkUnless, IsTrue};
+//! What a user of messages gets, from the contracts of the public calls and two laws alone.
+ghost use Rattle.std.specs.Prelude.{◌≡◌, IfOk, IsOkUnless, IsTrue, Some, map};
 ghost use Rattle.dtype_base.specs.declared.vortex_error.VortexError.TheVariants.{OutOfMemory};
 ghost use Rattle.dtype_types.specs.TreeOf.{tree};
 ghost use Rattle.dtype_types.specs.Valid.{Valid};
 ghost use Rattle.vortex_dtype.specs.Meaning.{Admits};
+ghost use Rattle.vortex_dtype.specs.PathMessage.{steps_of};
 ghost use Rattle.vortex_dtype.specs.Session.{meaning};
 
 use dtype_base::VortexResult;
 use dtype_types::DType;
 use std::alloc::Global;
-use vortex_dtype::laws::messages_are_exact;
-use vortex_dtype::{DTypeProto, DTypeSession, ExtDTypePlugin, pb};
+use vortex_dtype::laws::{messages_are_exact, same_names_same_steps};
+use vortex_dtype::{DTypeProto, DTypeSession, ExtDTypePlugin, FieldPath, FieldPathProto, pb};
 
 /// A type stored as a message and read back: the same type, where the session admits it. Refuses
 /// 0 (OutOfMemory) alone there.
@@ -40,4 +41,20 @@ pub fn is_kept_by_storing(
     let dtype = DType::from_proto(alloc, proto, session)?;
     let again = stored_and_read_back(alloc, &dtype, session)?;
     Ok(again == dtype)
+}
+
+/// Whether a copy of a message equals it: it always does.
+pub fn is_kept_by_copying(alloc: Global, proto: &pb::DType) -> VortexResult<bool>
+    ensures kept { IfOk result (λ b. IsTrue b) }
+{
+    Ok(proto.try_clone(alloc)? == *proto)
+}
+
+/// The path that a message says, read from a copy of it.
+pub fn path_of_copy(alloc: Global, proto: &pb::FieldPath) -> VortexResult<FieldPath>
+    ensures names { IfOk result (λ p. steps_of proto.now ≡ map Some p) }
+{
+    let copy = proto.try_clone(alloc)?;
+    same_names_same_steps();
+    FieldPath::from_proto(alloc, &copy)
 }

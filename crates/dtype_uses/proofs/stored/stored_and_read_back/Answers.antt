@@ -1,4 +1,4 @@
-use Rattle.std.proofs.Common.{◌≡◌, ◌⊎◌, ⊎_elim, sym, subst}
+use Rattle.std.proofs.Common.{⊎_elim, sym, subst}
 use Rattle.std.proofs.lemmas.Result.{IfErr-weaker, IfOk-weaker}
 use Rattle.dtype_types.specs.TreeOf.{tree}
 use Rattle.vortex_dtype.specs.Message.{Message}

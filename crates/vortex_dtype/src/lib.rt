@@ -1,5 +1,5 @@
 // The logical types of Vortex, whole: all of the crates below given out again, and on top of them typed
-// extensions, plugins, sessions and message trees.
+// extensions, plugins, sessions, and messages read and written.
 //
 // It promises that a typed extension is its metadata and its storage under its vtable's meaning, that a
 // session answers by its plugins' meanings alone, with the last plugin under an id, and that a message
@@ -8,7 +8,8 @@
 // Begin with `ExtVTable` and `ExtDType` (an extension with its library), `ExtDTypePlugin` and
 // `PluginOf`, and `DTypeSession`; then `pb` and `DTypeProto`. The definitions are in `specs/`: `Typed`
 // (what a vtable means), `Meaning` (what a plugin and a session mean: `keeps`, `Admits`), `Refusals`,
-// `Calls`, and for messages `Message`, `Reads` and `Written`. `laws` states what follows from them alone.
+// `Calls`, and for messages `Reads` and `Written`, over the trees of `dtype_messages`. `laws` states
+// what follows from them alone.
 #![tactic(auto)]
 
 mod ext_dtype;

@@ -1,8 +1,8 @@
 // The protobuf messages that stand for types and for paths, as plain data: what a decoder gives, and what an
 // encoder takes.
 //
-// It promises that a copy is an equal message, that two messages are equal where all their fields are, at every
-// depth, and that each primitive type has one number.
+// It promises that a copy is an equal message, that two messages of types are equal exactly where their trees are,
+// at every depth, and that each primitive type has one number.
 //
 // Begin with `pb`: `DType` and its thirteen kinds, `FieldPath` and its parts. The definitions are in `specs/`:
 // `Message` (a message's tree) and `MessageOf` (the tree of a `pb::DType`), `PathNames` (what the parts of a path

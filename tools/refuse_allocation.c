@@ -1,8 +1,14 @@
-// Refuses one request for memory, and counts the requests.
+// SPDX-License-Identifier: Apache-2.0
+// SPDX-FileCopyrightText: Copyright the Vortex contributors
+
+// Refuses requests for memory, counts them, and tells which of the blocks that were taken are still held.
 //
-// Loaded before the C library (LD_PRELOAD), it counts what is asked for between the lines `begin` and
-// `end` on standard error, or, where WHOLE is set, from the start of the program to its end. REFUSED=N
-// refuses the Nth of these. At each end the count is appended, as a line, to the file that COUNTS names.
+// Loaded before the C library (LD_PRELOAD), it looks at the stretches of the program between the lines `begin`
+// and `end` on standard error, or, where WHOLE is set, at the program from its start to its end. REFUSED=N
+// refuses the Nth request of each stretch, and, where ONWARD is set, all behind it. When the program has ended,
+// the file that COUNTS names has a line for each stretch: how many requests were made in it, how many of them
+// were refused, and how many of the blocks that were taken in it were never given back. The last line is that of
+// the rest of the program, where nothing is refused.
 #include <fcntl.h>
 #include <stdio.h>
 #include <stdlib.h>
@@ -10,31 +16,90 @@
 #include <sys/syscall.h>
 #include <unistd.h>
 
+enum { MOST_STRETCHES = 1 << 10, MOST_BLOCKS = 1 << 16 };
+
 void *__libc_malloc(size_t), *__libc_calloc(size_t, size_t), *__libc_realloc(void *, size_t);
+void __libc_free(void *);
 
-static int counting;
-static long requests, refused;
+// How many requests were made, how many were refused, and how many blocks are held.
+static struct stretch {
+    long requests, refused, held;
+} stretches[MOST_STRETCHES], rest, *now = &rest;
+static int stretch_count;
 
-static int refuses(void) { return counting && ++requests == refused; }
+// The blocks that are held.
+static struct block {
+    void *start;
+    struct stretch *taken_in;
+} blocks[MOST_BLOCKS];
+static int block_count;
 
-void *malloc(size_t size) { return refuses() ? NULL : __libc_malloc(size); }
+static long first_refused;
+static int is_onward;
 
-void *calloc(size_t count, size_t size) { return refuses() ? NULL : __libc_calloc(count, size); }
+static int refuses(void) {
+    now->requests++;
+    if (now == &rest || first_refused <= 0)
+        return 0;
+    int refused = is_onward ? now->requests >= first_refused : now->requests == first_refused;
+    now->refused += refused;
+    return refused;
+}
 
-void *realloc(void *old, size_t size) { return refuses() ? NULL : __libc_realloc(old, size); }
+static void *taken(void *start) {
+    if (start) {
+        if (block_count == MOST_BLOCKS)
+            abort();
+        blocks[block_count++] = (struct block){start, now};
+        now->held++;
+    }
+    return start;
+}
 
-static void begin(void) { requests = 0, counting = 1; }
+static struct block *held(void *start) {
+    for (int i = block_count; start && i-- > 0;)
+        if (blocks[i].start == start)
+            return &blocks[i];
+    return NULL;
+}
 
-static void end(void) {
-    if (!counting)
-        return;
-    counting = 0;
-    char line[32];
-    int length = snprintf(line, sizeof line, "%ld\n", requests);
-    int file = open(getenv("COUNTS"), O_WRONLY | O_CREAT | O_APPEND, 0666);
-    if (file < 0 || syscall(SYS_write, file, line, length) != length)
+void *malloc(size_t size) { return refuses() ? NULL : taken(__libc_malloc(size)); }
+
+void *calloc(size_t count, size_t size) { return refuses() ? NULL : taken(__libc_calloc(count, size)); }
+
+void free(void *start) {
+    struct block *block = held(start);
+    if (block) {
+        block->taken_in->held--;
+        *block = blocks[--block_count];
+    }
+    __libc_free(start);
+}
+
+void *realloc(void *old, size_t size) {
+    if (refuses())
+        return NULL;
+    struct block *block = held(old);
+    void *start = __libc_realloc(old, size);
+    if (!start)
+        return NULL;
+    if (!block)
+        return taken(start);
+    block->start = start;
+    return start;
+}
+
+static void begin(void) {
+    if (stretch_count == MOST_STRETCHES)
         abort();
-    close(file);
+    now = &stretches[stretch_count++];
+}
+
+static void end(void) { now = &rest; }
+
+static void tell(int file, const struct stretch *one) {
+    if (dprintf(file, "%ld %ld %ld\n", one->requests, one->refused, one->held) < 0)
+        abort();
 }
 
 ssize_t write(int file, const void *bytes, size_t length) {
@@ -47,9 +112,19 @@ ssize_t write(int file, const void *bytes, size_t length) {
 
 __attribute__((constructor)) static void load(void) {
     const char *text = getenv("REFUSED");
-    refused = text ? atol(text) : 0;
+    first_refused = text ? atol(text) : 0;
+    is_onward = getenv("ONWARD") != NULL;
     if (getenv("WHOLE"))
         begin();
 }
 
-__attribute__((destructor)) static void unload(void) { end(); }
+__attribute__((destructor)) static void unload(void) {
+    end();
+    int file = open(getenv("COUNTS"), O_WRONLY | O_CREAT | O_TRUNC, 0666);
+    if (file < 0)
+        abort();
+    for (int i = 0; i < stretch_count; i++)
+        tell(file, &stretches[i]);
+    tell(file, &rest);
+    close(file);
+}

@@ -1,5 +1,10 @@
--- What a name's characters are printed as, and that escaping goes character by character.
-use Rattle.std.proofs.Common.{◌≡◌, ◌≢◌, ℕ, ◌<◌, ◌≤◌, ◌-◌, ◌/◌, ◌%◌, ◌^◌, false, true, List, [], ◌∷◌, ◌++◌, Some, refl, ap, sym, append-nil, append_assoc, length, ◌∙◌, arith}
+-- SPDX-License-Identifier: Apache-2.0
+-- SPDX-FileCopyrightText: Copyright the Vortex contributors
+
+-- What the characters of a name are printed as, and runs of those that stand as they are.
+use Rattle.std.proofs.Common.{◌≡◌, ◌≢◌, ℕ, ◌+◌, ◌<◌, ◌≤◌, ◌-◌, ◌/◌, ◌%◌, ◌^◌, false, true, true≢false, List, [], ◌∷◌, ◌++◌, Some, refl, ap, sym, append-nil, append_assoc, length, take, drop, get_or, subst, ◌∙◌, arith, length-drop, take_all}
+use Rattle.std.proofs.Math.Seq.{take-add}
+use Rattle.std.proofs.lemmas.List.{take_more, get_or-drop}
 use Rattle.std.specs.Char.{is_ascii_control}
 use Rattle.std.specs.Option.{option_map}
 use Rattle.std.specs.Fmt.{digits, digits_output, styled_digits_output, padded_integral, format_spec, ◌++?◌}
@@ -32,6 +37,12 @@ escaped_byte_plain : (b : ℕ) → IsNoEscape b → is_ascii_control b ≡ false
 unfolding escaped_byte
 escaped_byte_plain b n e = grind (arith, nat_tests)
 
+-- a byte that is no quote, no backslash and no control character stands as it is
+pub escaped_byte_printed : (b : ℕ) → b ≢ 34 → b ≢ 92 → is_ascii_control b ≡ false → escaped_byte b ≡ b ∷ []
+escaped_byte_printed b quote backslash printed =
+    let no = λ (k : ℕ) (control : is_ascii_control k ≡ true) (e : b ≡ k). true≢false (sym control ∙ sym (ap is_ascii_control e) ∙ printed) in
+    escaped_byte_plain b (record { backslash = backslash; quote = quote; tab = no 9 refl; newline = no 10 refl; return = no 13 refl }) printed
+
 escaped_byte_high : (b : ℕ) → 128 ≤ b → escaped_byte b ≡ b ∷ []
 unfolding escaped_byte
 escaped_byte_high b h = grind (arith, nat_tests)
@@ -46,7 +57,7 @@ hex_escape d s n small shown spec =
     ∙ ap (λ o. Some (92 ∷ 120 ∷ []) ++? option_map (padded_integral (format_spec 32 0 4 2 (2 ^ 64 - 1)) false []) o) shown
     ∙ ap (λ bs. Some (92 ∷ 120 ∷ bs)) (hex_byte false n small)
 
-abbrev IsUnchanged : List ℕ → Type 0
+abbrev pub IsUnchanged : List ℕ → Type 0
 IsUnchanged bs = escaped bs ≡ bs
 
 unchanged_cons : (b : ℕ) (bs : List ℕ) → escaped_byte b ≡ b ∷ [] → IsUnchanged bs → IsUnchanged (b ∷ bs)
@@ -56,7 +67,7 @@ unchanged_cons b bs e h = λ i. e i ++ h i
 unchanged_high : (b : ℕ) (bs : List ℕ) → 128 ≤ b → IsUnchanged bs → IsUnchanged (b ∷ bs)
 unchanged_high b bs h = unchanged_cons b bs (escaped_byte_high b h)
 
-unchanged_none : IsUnchanged []
+pub unchanged_none : IsUnchanged []
 unfolding escaped
 unchanged_none = refl
 
@@ -84,15 +95,48 @@ escaped_control d s c n e shown spec =
 pub escaped_plain : (c : ℕ) → IsNoEscape c → is_ascii_control c ≡ false → encode c ≡ escaped (encode c)
 escaped_plain c n e = sym (escaped_encode_plain c (escaped_byte_plain c n e))
 
--- the next piece of the rest, escaped, goes behind what is written
-pub escaped_step : (written rest piece later whole : List ℕ) → written ++ escaped rest ≡ whole → rest ≡ piece ++ later → (written ++ escaped piece) ++ escaped later ≡ whole
-escaped_step written rest piece later whole so_far split =
-    append_assoc written (escaped piece) (escaped later)
-    ∙ ap (λ bs. written ++ bs) (sym (escaped-append piece later) ∙ ap escaped (sym split))
-    ∙ so_far
+-- ---- runs of what stands as it is
 
--- with nothing left, all is written
-pub escaped_end : (written rest whole : List ℕ) → written ++ escaped rest ≡ whole → length rest ≡ 0 → written ≡ whole
-unfolding escaped
-escaped_end written [] whole so_far none = sym (append-nil written) ∙ so_far
-escaped_end written (b ∷ bs) whole so_far none = cc
+unchanged_append : (xs ys : List ℕ) → IsUnchanged xs → IsUnchanged ys → IsUnchanged (xs ++ ys)
+unchanged_append xs ys a b = escaped-append xs ys ∙ (λ i. a i ++ b i)
+
+module _ (bs : List ℕ) (start i : ℕ) (begun : start ≤ i) where
+  -- the text up to here is what is before the run, and the run
+  split : take i bs ≡ take start bs ++ take (i - start) (drop start bs)
+  split =
+      let whole : start + (i - start) ≡ i = omega arith in
+      ap (λ n. take n bs) (sym whole) ∙ take-add start (i - start) bs
+
+  -- a run of no bytes
+  pub run_none : start ≡ i → IsUnchanged (take (i - start) (drop start bs))
+  run_none same =
+      let none : i - start ≡ 0 = omega arith in
+      subst (λ n. IsUnchanged (take n (drop start bs))) (sym none) unchanged_none
+
+  -- one more byte that stands as it is
+  pub run_more : i < length bs → IsUnchanged (take (i - start) (drop start bs)) → escaped_byte (get_or bs i 0) ≡ get_or bs i 0 ∷ [] → IsUnchanged (take (i + 1 - start) (drop start bs))
+  run_more within run plain =
+      let next : i + 1 - start ≡ i - start + 1 = omega arith in
+      let place : start + (i - start) ≡ i = omega arith in
+      let byte : get_or (drop start bs) (i - start) 0 ≡ get_or bs i 0 = get_or-drop start bs (i - start) 0 ∙ ap (λ n. get_or bs n 0) place in
+      let more : take (i + 1 - start) (drop start bs) ≡ take (i - start) (drop start bs) ++ get_or bs i 0 ∷ [] =
+      ap (λ n. take n (drop start bs)) next ∙ take_more (drop start bs) (i - start) 0 (omega (arith, length-drop start bs)) ∙ ap (λ b. take (i - start) (drop start bs) ++ b ∷ []) byte in
+      subst IsUnchanged (sym more) (unchanged_append _ _ run (unchanged_cons (get_or bs i 0) [] plain unchanged_none))
+
+  -- the run and the escape of the byte behind it go behind what is written
+  pub run_written : (piece : List ℕ) → i < length bs → IsUnchanged (take (i - start) (drop start bs)) → piece ≡ escaped (get_or bs i 0 ∷ []) → escaped (take start bs) ++ (take (i - start) (drop start bs) ++ piece) ≡ escaped (take (i + 1) bs)
+  run_written piece within run is =
+      let front = take start bs in
+      let between = take (i - start) (drop start bs) in
+      let byte = get_or bs i 0 ∷ [] in
+      ap (λ text. escaped front ++ (text ++ piece)) (sym run) ∙ ap (λ rest. escaped front ++ (escaped between ++ rest)) is
+      ∙ ap (λ rest. escaped front ++ rest) (sym (escaped-append between byte))
+      ∙ sym (escaped-append front (between ++ byte))
+      ∙ ap escaped (sym (append_assoc front between byte) ∙ ap (λ text. text ++ byte) (sym split) ∙ sym (take_more bs i 0 within))
+
+  -- and the last run makes it whole
+  pub run_end : i ≡ length bs → IsUnchanged (take (i - start) (drop start bs)) → escaped (take start bs) ++ take (i - start) (drop start bs) ≡ escaped bs
+  run_end all run =
+      ap (λ rest. escaped (take start bs) ++ rest) (sym run)
+      ∙ sym (escaped-append (take start bs) (take (i - start) (drop start bs)))
+      ∙ ap escaped (sym split ∙ take_all i bs (omega (arith, all)))

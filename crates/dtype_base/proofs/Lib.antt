@@ -1,6 +1,9 @@
+-- SPDX-License-Identifier: Apache-2.0
+-- SPDX-FileCopyrightText: Copyright the Vortex contributors
+
 pub mod JoinedTexts
 pub mod EscapedChars
 pub mod BitWidths
-pub mod Places
 pub mod Narrowest
 pub mod NameSearch
+pub mod KeyOrder

@@ -1,10 +1,12 @@
+-- SPDX-License-Identifier: Apache-2.0
+-- SPDX-FileCopyrightText: Copyright the Vortex contributors
+
 -- What the order of positions says of a search by halves, and of names that stand twice.
-use Rattle.std.proofs.Common.{◌≡◌, ℕ, zero, suc, ◌+◌, ◌-◌, ◌/◌, ◌<◌, ◌≤◌, ◌^◌, List, [], ◌∷◌, ◌++◌, true, false, Option, Some, None, length, get_or, refl, sym, ap, subst, ◌∙◌, inl, inr, arith, ⊎_elim, pow-suc}
+use Rattle.std.proofs.Common.{◌≡◌, ℕ, zero, Bool, pow_mono, IfSome, IfNone, suc, ◌+◌, ◌-◌, ◌/◌, ◌<◌, ◌≤◌, ◌^◌, List, [], ◌∷◌, ◌++◌, true, false, Option, Some, None, length, get_or, refl, sym, ap, subst, ◌∙◌, inl, inr, arith, ⊎_elim, pow-suc}
 use Rattle.std.specs.Prelude.{◌≢◌, slice_get}
 use Rattle.std.specs.List.{range_with_len, AllPairs, Contains}
 use Rattle.std.specs.List.Sorted.{IsNonDecreasingBy}
-use Rattle.std.specs.Option.{option_cmp, option_copied}
-use Rattle.std.specs.Borrow.{Bor}
+use Rattle.std.specs.Bool.{then_some}
 use Rattle.std.specs.declared.cmp.Ordering.{Ordering}
 use Rattle.std.specs.declared.cmp.Ordering.TheVariants.{Less, Equal, Greater}
 use Rattle.std.specs.Ordering.{is_lt, is_eq, ordering_index, ordering_then, nat_cmp}
@@ -15,26 +17,20 @@ use Rattle.std.proofs.lemmas.Bool.{false≢true, cases_lt, cases_order}
 use Rattle.std.proofs.lemmas.Bool.Decides.{Decides-eqb}
 use Rattle.std.proofs.lemmas.Map.Keys.{ge_from_not_lt, IsDistinct-IsPermutation}
 use Rattle.std.proofs.lemmas.Map.Made.{AllPairs-from_IsDistinct, IsDistinct-from_AllPairs}
-use Rattle.std.proofs.lemmas.List.{get_or_default}
+use Rattle.std.proofs.lemmas.List.{get_or_default, get_or-map, length-map}
 use Rattle.std.proofs.lemmas.List.Elements.{All-from_get_or}
 use Rattle.std.proofs.lemmas.List.FromFn.{length-range_with_len, get_or-range_with_len}
 use Rattle.std.proofs.lemmas.List.Sorted.{ranks_by, sorted_far, searchable_from_sorted, length_permutation, Contains-permutation, All-permutation}
 use Rattle.std.proofs.lemmas.Option.{slice_get_within, slice_get_read, get_or_from_slice_get}
 use Rattle.dtype_base.specs.FieldNames.{FirstAt, IsAbsent}
-use Rattle.dtype_base.specs.NameOrder.{bytes_cmp, name_cmp, position_cmp, IsOrderOf}
+use Rattle.dtype_base.specs.NameOrder.{bytes_cmp, name_cmp, position_cmp, IsOrderOf, positions}
+use Rattle.dtype_base.specs.declared.name_order.Place.{Place}
 
 bytes_total : IsTotalOrder bytes_cmp
 bytes_total = options_total nat_list_cmp_total
 
 pub position_total : (names : List (List ℕ)) → IsTotalOrder (position_cmp names)
 position_total names = then_total (on_total (slice_get names) bytes_total) nat_cmp_total
-
--- `cmp` of two options of references
-pub by_shown : (x y : Option (Bor (List ℕ))) → option_cmp (λ a b. slice_cmp nat_cmp a.now b.now) x y ≡ bytes_cmp (option_copied x) (option_copied y)
-by_shown None None = refl
-by_shown None (Some y) = refl
-by_shown (Some x) None = refl
-by_shown (Some x) (Some y) = refl
 
 not_less : (r o : Ordering) → is_lt (ordering_then r o) ≡ false → is_lt r ≡ false
 not_less Less o e = e
@@ -59,11 +55,12 @@ half_fits s t (suc i) a b c =
     let e : suc i - 1 ≡ i = omega arith in
     (omega arith, subst (λ k. t < 2 ^ k) (sym e) (omega (arith, pow-suc 2 i)))
 
-pub tick : (ticks ticked s t b : ℕ) → ticked ≡ ticks + 1 → 0 < s → t ≤ s / 2 → (ticks ≤ b) × (s < 2 ^ (b - ticks)) → (ticked ≤ b) × (t < 2 ^ (b - ticked))
+-- a tick at most
+pub tick : (ticks ticked s t b : ℕ) → ticked ≤ ticks + 1 → 0 < s → t ≤ s / 2 → (ticks ≤ b) × (s < 2 ^ (b - ticks)) → (ticked ≤ b) × (t < 2 ^ (b - ticked))
 tick ticks ticked s t b e a c h =
     let half = half_fits s t (b - ticks) a h.1 c in
-    let same : b - ticks - 1 ≡ b - ticked = omega arith in
-    (omega (arith, half.0), subst (λ k. t < 2 ^ k) same half.1)
+    let more : 2 ^ (b - ticks - 1) ≤ 2 ^ (b - ticked) = pow_mono (omega (arith, half.0)) in
+    (omega (arith, half.0), omega (arith, half.1, more))
 
 pub spare : (ticks s b : ℕ) → 0 < s → (ticks ≤ b) × (s < 2 ^ (b - ticks)) → ticks + 1 ≤ b
 spare ticks s b a h = let half = half_fits s 0 (b - ticks) a h.1 (omega arith) in omega (arith, half.0)
@@ -91,6 +88,10 @@ AllBelow names order n low = (k : ℕ) → k < low → name_cmp names n (get_or 
 
 abbrev pub NoneBelow : List (List ℕ) → List ℕ → List ℕ → ℕ → Type 0
 NoneBelow names order n high = (k : ℕ) → high ≤ k → k < length order → is_lt (name_cmp names n (get_or order k 0)) ≡ false
+
+-- the position at this place, if the name there is n
+abbrev pub FoundAt : List (List ℕ) → List ℕ → List ℕ → ℕ → Option ℕ → Type 0
+FoundAt names order n p found = (p < length order → found ≡ then_some (is_eq (name_cmp names n (get_or order p 0))) (get_or order p 0)) × (length order ≤ p → found ≡ None)
 
 -- the name at each place before this one is above all names before it
 abbrev pub AllRise : List (List ℕ) → List ℕ → ℕ → Type 0
@@ -189,6 +190,22 @@ module _ (names : List (List ℕ)) (order : List ℕ) (h : IsOrderOf names order
         (λ after. not_above (ranked n p s.0 0 after s.1) e same)
         (cases_lt s.0 p)
 
+    at_end : (p : ℕ) (o : Option ℕ) (b : Bool) → p < length order → AllBelow names order n p → NoneBelow names order n p → is_eq (name_cmp names n (get_or order p 0)) ≡ b → o ≡ then_some b (get_or order p 0) → IfSome o (FirstAt names n) × IfNone o (IsAbsent names n)
+    at_end p o true within below none e is =
+        subst (λ r. IfSome r (FirstAt names n) × IfNone r (IsAbsent names n)) (sym is) (found p within below (is_equal _ (sym e)), tt)
+    at_end p o false within below none e is =
+        subst (λ r. IfSome r (FirstAt names n) × IfNone r (IsAbsent names n)) (sym is) (tt, absent_at p within below (is_greater _ (none p (omega arith) within) (sym e)))
+
+    -- what was found where the search ends
+    pub ends : (p : ℕ) (o : Option ℕ) → p ≤ length order → AllBelow names order n p → NoneBelow names order n p → FoundAt names order n p o → IfSome o (FirstAt names n) × IfNone o (IsAbsent names n)
+    ends p o most below none is =
+        elim (cases_lt p (length order)) [
+          | inl within ↦ at_end p o _ within below none refl (is.0 within)
+          | inr past ↦
+              let last : p ≡ length order = omega (arith, most, past) in
+              subst (λ r. IfSome r (FirstAt names n) × IfNone r (IsAbsent names n)) (sym (is.1 past)) (tt, absent_past (subst (AllBelow names order n) last below))
+        ]
+
     at_most_equal : (r s : Ordering) → ordering_index r ≤ ordering_index s → s ≡ Equal → r ≢ Equal → r ≡ Less
     at_most_equal Less s le e ne = refl
     at_most_equal Equal s le e ne = absurd (ne refl)
@@ -249,3 +266,22 @@ module _ (names : List (List ℕ)) (order : List ℕ) (h : IsOrderOf names order
         | inr (inl before) ↦ distinct i j n before (slice_get_within names j n next) (at_i ∙ sym at_j)
         | inr (inr later) ↦ distinct j i n later (slice_get_within names i n here) (at_j ∙ sym at_i)
       ]
+
+-- ---- the positions that places have
+
+pub as_many_positions : (places : List Place) → length (positions places) ≡ length places
+as_many_positions places = length-map places (λ p. p.position)
+
+pub position_at : (places : List Place) (k : ℕ) (d : Place) → k < length places → get_or (positions places) k 0 ≡ (get_or places k d).position
+position_at places k d within = get_or-map (λ p. p.position) places k d 0 within
+
+pub stands_within : (names : List (List ℕ)) (places : List Place) → IsOrderOf names (positions places) → (k : ℕ) (d : Place) → k < length places → (get_or places k d).position < length names
+stands_within names places h k d within =
+    omega (arith, position_at places k d within, is_position names (positions places) h k (omega (arith, within, as_many_positions places)))
+
+-- how many names are compared where each of a few is
+pub few_within : (n count digits : ℕ) → n ≤ 4 → count ≤ n → n < 2 ^ digits → count ≤ digits + 1
+few_within n count zero few most fits = omega arith
+few_within n count (suc zero) few most fits = omega arith
+few_within n count (suc (suc zero)) few most fits = omega arith
+few_within n count (suc (suc (suc digits))) few most fits = omega arith

@@ -1,3 +1,6 @@
+-- SPDX-License-Identifier: Apache-2.0
+-- SPDX-FileCopyrightText: Copyright the Vortex contributors
+
 -- Decimal types and what stores their values. From the documentation of Vortex's `DecimalDType` and `DecimalType`.
 use Rattle.std.specs.Prelude.{◌≡◌, ℕ, ◌^◌, ◌<◌, ◌≤◌, ℤ, pos, neg_ℤ, ◌≤ℤ◌, ◌<ℤ◌, List, [], ◌∷◌, ◌++◌, codes, Option, Some, None, IsSomeAnd, find, nat_le}
 use Rattle.std.specs.Fmt.{decimal, signed_decimal}

@@ -1,7 +1,12 @@
+-- SPDX-License-Identifier: Apache-2.0
+-- SPDX-FileCopyrightText: Copyright the Vortex contributors
+
 pub mod Refusals
 pub mod Nullability
 pub mod Primitives
 pub mod FieldNames
+pub mod Places
 pub mod Escapes
 pub mod Decimals
 pub mod NameOrder
+pub mod NameKeys

@@ -1,3 +1,6 @@
+-- SPDX-License-Identifier: Apache-2.0
+-- SPDX-FileCopyrightText: Copyright the Vortex contributors
+
 -- Nullability: whether a type's values may be null. From the documentation of `Nullability`.
 use Rattle.std.specs.Prelude.{ℕ, List, [], codes, Bool, true, false}
 use Rattle.dtype_base.specs.declared.nullability.Nullability.{Nullability}

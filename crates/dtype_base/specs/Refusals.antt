@@ -1,3 +1,6 @@
+-- SPDX-License-Identifier: Apache-2.0
+-- SPDX-FileCopyrightText: Copyright the Vortex contributors
+
 -- The numbers of the refusals, by which documents and tests name them.
 use Rattle.std.specs.Prelude.{ℕ}
 use Rattle.dtype_base.specs.declared.vortex_error.VortexError.{VortexError}

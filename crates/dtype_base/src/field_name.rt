@@ -1,6 +1,10 @@
-ghost use Rattle.std.specs.Prelude.{◌≡◌, ◌↔◌, ℕ, IsTrue, IfOk, IsOkUnless, List, Some, nat_eq, string_bytes};
+// SPDX-License-Identifier: Apache-2.0
+// SPDX-FileCopyrightText: Copyright the Vortex contributors
+
+ghost use Rattle.std.specs.Prelude.{◌≡◌, ◌↔◌, ℕ, ◌<◌, IsTrue, IfOk, IsOkUnless, List, [], ◌∷◌, Some, nat_eq, string_bytes};
+ghost use Rattle.std.specs.Bool.{OnFalse};
 ghost use Rattle.std.specs.Rc.{rc_str_bytes};
-ghost use Rattle.dtype_base.specs.Escapes.{escaped};
+ghost use Rattle.dtype_base.specs.Escapes.{escaped, escaped_byte};
 ghost use Rattle.dtype_base.specs.declared.vortex_error.VortexError.TheVariants.{OutOfMemory};
 
 use crate::VortexResult;
@@ -153,16 +157,36 @@ impl Hash for FieldName {
     }
 }
 
-/// The text, with what would break a line, a quote or a terminal escaped.
+/// The text, with what would break a line, a quote or a terminal escaped. What stands as it is between
+/// two escapes is written at once.
 impl fmt::Display for FieldName {
     ghost output = { λ n. Some (escaped n) };
 
     fn fmt<W: fmt::Write>(&self, f: &mut fmt::Formatter<W>) -> fmt::Result {
-        for c in self.as_str().chars() {
-            EscapedChar(c).fmt(f)?;
+        let text = self.as_str();
+        let bytes = text.as_bytes();
+        let mut start = 0;
+        for i in 0..bytes.len() {
+            if !has_escape(bytes[i]) {
+                continue;
+            }
+            f.write_str(&text[start..i])?;
+            EscapedChar(char::from(bytes[i])).fmt(f)?;
+            start = i + 1;
         }
-        Ok(())
+        f.write_str(&text[start..])
     }
+}
+
+// Whether a byte may not be printed as it stands; one that may not is a character of its own.
+fn has_escape(byte: u8) -> bool
+    ensures plain { OnFalse result (escaped_byte byte ≡ byte ∷ []) }
+    ensures ascii { IsTrue result → byte < 128 }
+{
+    if byte == b'"' || byte == b'\\' {
+        return true;
+    }
+    byte.is_ascii_control()
 }
 
 /// A character of a name, as it is printed.

@@ -1,13 +1,17 @@
-// Errors, nullability, primitive names, decimals and field names: what every type of Vortex stands on.
-//
-// It promises that names are texts and name lists are lists, that the tables of primitive names
-// and decimals hold, and that each refusal comes exactly when its rule says, by its number.
-//
-// Begin with `VortexError` (every refusal of the workspace), then `Nullability`, `PType`,
-// `DecimalDType`, `DecimalType`, `FieldName`, `FieldNames` and `IndexedNames`. The definitions that the
-// contracts cite are in `specs/`: `Refusals` (numbers), `Primitives` and `Decimals` (the two tables),
-// `FieldNames` (`FirstAt`), `NameOrder` (the index of names) and `Escapes` (the text of a name). `laws`
-// states what ties the tables to their meaning. What is proved, and what is only tested, is in the README.
+// SPDX-License-Identifier: Apache-2.0
+// SPDX-FileCopyrightText: Copyright the Vortex contributors
+
+//! Errors, nullability, primitive names, decimals and field names: what every type of Vortex stands on.
+//!
+//! It promises that names are texts and name lists are lists, that the tables of primitive names
+//! and decimals hold, and that each refusal comes exactly when its rule says, by its number.
+//!
+//! Begin with `VortexError` (every refusal of the workspace), then `Nullability`, `PType`,
+//! `DecimalDType`, `DecimalType`, `FieldName`, `FieldNames` and `IndexedNames`. The definitions that the
+//! contracts cite are in `specs/`: `Refusals` (numbers), `Primitives` and `Decimals` (the two tables),
+//! `FieldNames` (`FirstAt`), `NameOrder` (the index of names), `NameKeys` (their keys) and `Escapes` (the
+//! text of a name). `laws` states what ties the tables to their meaning. What is proved, and what is only
+//! tested, is in `docs/SPECIFICATION.md`.
 #![tactic(auto)]
 
 mod decimal;
@@ -17,7 +21,9 @@ mod field_names_into_iter;
 mod field_names_iter;
 mod indexed_names;
 pub mod laws;
+mod name_key;
 mod name_order;
+mod name_scan;
 mod nullability;
 mod ptype;
 mod vortex_error;

@@ -1,3 +1,6 @@
+// SPDX-License-Identifier: Apache-2.0
+// SPDX-FileCopyrightText: Copyright the Vortex contributors
+
 // The cases, and what a run of each does.
 use crate::fault::{BenchFault, BenchResult};
 use crate::fixture::{Fixture, deep_type, leaves, turn};

@@ -1,3 +1,6 @@
+// SPDX-License-Identifier: Apache-2.0
+// SPDX-FileCopyrightText: Copyright the Vortex contributors
+
 // What the cases work on.
 use crate::fault::{BenchFault, BenchResult};
 use dtype_base::{FieldName, FieldNames, Nullability, PType};

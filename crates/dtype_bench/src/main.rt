@@ -1,12 +1,15 @@
-// Measures the library: for each case whose name begins with a line of standard input, how many
-// nanoseconds of processor time one operation takes, a case a line, as `find/last/1000 150`. An empty
-// line asks for every case. Without input nothing is measured and nothing is printed.
-//
-// A case is named for what is done, and behind the last stroke for what it is done to: a struct of so
-// many fields, a type nested so deep (structs and lists by turns), or `deep` so many structs of one field
-// inside one another. It is done in rounds of many runs, and the median round is told. What a run takes
-// is made before the clock starts, and what it gives is let go after it stops, but for the cases
-// `.._and_drop`. `size_of/dtype` tells how many bytes a `DType` takes, and no time.
+// SPDX-License-Identifier: Apache-2.0
+// SPDX-FileCopyrightText: Copyright the Vortex contributors
+
+//! Measures the library: for each case whose name begins with a line of standard input, how many
+//! nanoseconds of processor time one operation takes, a case a line, as `find/last/1000 150`. An empty
+//! line asks for every case. Without input nothing is measured and nothing is printed.
+//!
+//! A case is named for what is done, and behind the last stroke for what it is done to: a struct of so
+//! many fields, a type nested so deep (structs and lists by turns), or `deep` so many structs of one field
+//! inside one another. It is done in rounds of many runs, and the median round is told. What a run takes
+//! is made before the clock starts, and what it gives is let go after it stops, but for the cases
+//! `.._and_drop`. `size_of/dtype` tells how many bytes a `DType` takes, and no time.
 #![tactic(auto)]
 
 use case::{Case, Given, Taken, prepare, run};

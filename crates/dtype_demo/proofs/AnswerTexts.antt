@@ -1,9 +1,9 @@
+-- SPDX-License-Identifier: Apache-2.0
+-- SPDX-FileCopyrightText: Copyright the Vortex contributors
+
 -- What is written for a line is its answer.
-use Rattle.std.proofs.Common.{◌≡◌, ℕ, List, [], ◌∷◌, ◌++◌, codes, Option, Result, Ok, Err, OnOk, map, append-nil, sym, ap, ◌∙◌, subst}
-use Rattle.std.specs.Borrow.{Bor}
+use Rattle.std.proofs.Common.{◌≡◌, ℕ, List, [], ◌∷◌, ◌++◌, codes, Option, Result, Ok, Err, OnOk, sym, ap, subst}
 use Rattle.std.specs.Result.{is_ok}
-use Rattle.std.proofs.lemmas.List.{map-append}
-use Rattle.std.proofs.lemmas.Grind.{flat_map-append}
 use Rattle.std.proofs.lemmas.Bool.{false≢true}
 use Rattle.std.specs.Io.KnownBytes.{Appends}
 use Rattle.vortex_dtype.specs.Text.{text}
@@ -12,8 +12,7 @@ use Rattle.vortex_dtype.specs.Along.{along, At-along, along_none}
 use Rattle.vortex_dtype.specs.At.{At}
 use Rattle.vortex_dtype.specs.Texts.{path_text}
 use Rattle.vortex_dtype.specs.Types.Field.{Field}
-use Rattle.dtype_demo.specs.Lines.{parts_of}
-use Rattle.dtype_demo.specs.Output.{answer_text, answers_to, found_text}
+use Rattle.dtype_demo.specs.Output.{answer_text, found_text}
 
 answer_is : (t : Tree) (p : List Field) (o : Option Tree) → along t p ≡ o → path_text p ++ (codes " = " ++ (found_text o ++ 10 ∷ [])) ≡ answer_text t p
 answer_is t p o e = ap (λ x. path_text p ++ (codes " = " ++ (found_text x ++ 10 ∷ []))) (sym e)
@@ -29,9 +28,3 @@ pub written_on_ok : {E F : Type 0} (r : Result (Unit {0}) E) (q : Result (Unit {
 written_on_ok r (Err e) a b bs all wrote same is = tt
 written_on_ok (Ok x) (Ok y) a b bs all wrote same is = subst (Appends a b) is wrote
 written_on_ok (Err e) (Ok y) a b bs all wrote same is = absurd (false≢true (sym same))
-
--- one more line is answered behind the others
-pub answers_more : (t : Tree) (lines : List (Bor (List ℕ))) (line : Bor (List ℕ)) → answers_to t (map (λ l. l.now) lines) ++ answer_text t (parts_of line.now) ≡ answers_to t (map (λ l. l.now) (lines ++ line ∷ []))
-answers_more t lines line =
-    ap (λ bs. answers_to t (map (λ l. l.now) lines) ++ bs) (sym (append-nil (answer_text t (parts_of line.now))))
-    ∙ sym (ap (answers_to t) (map-append (λ (l : Bor (List ℕ)). l.now) lines (line ∷ [])) ∙ flat_map-append (λ l. answer_text t (parts_of l)) (map (λ l. l.now) lines) (line.now ∷ []))

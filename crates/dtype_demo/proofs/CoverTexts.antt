@@ -1,15 +1,18 @@
--- The line of the cover: the paths of the lines, the texts of the cover, and what is written of them.
-use Rattle.std.proofs.Common.{◌≡◌, ◌↔◌, ℕ, ◌+◌, ◌<◌, ◌≤◌, List, [], ◌∷◌, ◌++◌, length, take, get_or, codes, map, Option, Result, Ok, Err, OnOk, append-nil, append_assoc, false, refl, sym, ap, subst, ◌∙◌, arith}
+-- SPDX-License-Identifier: Apache-2.0
+-- SPDX-FileCopyrightText: Copyright the Vortex contributors
+
+-- What is written of the lines so far, and of the cover of their paths.
+use Rattle.std.proofs.Common.{◌≡◌, ℕ, ◌+◌, ◌<◌, ◌≤◌, List, [], ◌∷◌, ◌++◌, length, take, get_or, codes, map, Option, Result, Ok, Err, OnOk, append-nil, append_assoc, true, false, sym, ap, subst, ◌∙◌, arith}
 use Rattle.std.specs.Borrow.{Bor}
 use Rattle.std.specs.Cmp.Lexicographic.{slice_cmp}
 use Rattle.std.specs.Io.KnownBytes.{Appends, Keeps}
-use Rattle.std.specs.List.{Contains, flat_map}
+use Rattle.std.specs.List.{flat_map}
 use Rattle.std.specs.List.Sorted.{IsSorted}
 use Rattle.std.specs.Ordering.{nat_cmp, is_lt}
 use Rattle.std.specs.Result.{is_ok}
 use Rattle.std.specs.String.{string_bytes, string_cmp}
 use Rattle.std.specs.declared.string.String.{String}
-use Rattle.std.proofs.KnownBytes.{Appends-kept}
+use Rattle.std.proofs.KnownBytes.{Appends-kept, Appends-nil, Appends-trans}
 use Rattle.std.proofs.lemmas.Bool.{false≢true}
 use Rattle.std.proofs.lemmas.Grind.{flat_map-append}
 use Rattle.std.proofs.lemmas.List.{get_or-map, length-map, map-append, take_more}
@@ -17,34 +20,48 @@ use Rattle.vortex_dtype.specs.Tree.{Tree}
 use Rattle.vortex_dtype.specs.Cover.{Least}
 use Rattle.vortex_dtype.specs.PathSets.{Gains, SameMembers}
 use Rattle.vortex_dtype.specs.Types.Field.{Field}
-use Rattle.vortex_dtype.specs.PathSetLaws.{gains_more, gained_all}
+use Rattle.vortex_dtype.specs.PathSetLaws.{gains_more, gains_none, gained_all}
 use Rattle.dtype_demo.specs.Lines.{lines_of, parts_of}
-use Rattle.dtype_demo.specs.Output.{answers_to, cover_text, IsCover, WritesCover, WritesOutput}
+use Rattle.dtype_demo.specs.Output.{answer_text, answers_to, cover_text, IsCover, WritesCover, WritesOutput}
 
--- ---- the paths of the lines
+-- ---- the lines so far
 
-pub gains_line : (old mid new : List (List Field)) (lines : List (Bor (List ℕ))) (line : Bor (List ℕ)) → Gains old (map (λ l. parts_of l.now) lines) mid → Gains mid (parts_of line.now ∷ []) new → Gains old (map (λ l. parts_of l.now) (lines ++ line ∷ [])) new
-gains_line old mid new lines line a b =
-    subst (λ (ps : List (List Field)). Gains old ps new) (sym (map-append (λ (l : Bor (List ℕ)). parts_of l.now) lines (line ∷ []))) (gains_more old mid new (map (λ (l : Bor (List ℕ)). parts_of l.now) lines) (parts_of line.now) a b)
+-- they are answered, and their paths are kept
+pub record Answered (t : Tree) (old now : Option (List ℕ)) (kept : List (List Field)) (lines : List (List ℕ)) : Type 0 where
+  pub written : Appends old now (answers_to t lines)
+  pub gained : Gains [] (map parts_of lines) kept
 
-lines_now : (lines : List (Bor (List ℕ))) → map (λ l. parts_of l.now) lines ≡ map parts_of (map (λ l. l.now) lines)
-lines_now [] = refl
-lines_now (line ∷ lines) = ap (λ ps. parts_of line.now ∷ ps) (lines_now lines)
+pub answered_none : (t : Tree) (old : Option (List ℕ)) (kept : List (List Field)) → kept ≡ [] → Answered t old old kept []
+answered_none t old kept none = record { written = Appends-nil old; gained = subst (Gains [] []) (sym none) (gains_none []) }
 
-pub gained_lines : (old new : List (List Field)) (lines : List (Bor (List ℕ))) (bytes : List ℕ) → old ≡ [] → map (λ l. l.now) lines ≡ lines_of bytes → Gains old (map (λ l. parts_of l.now) lines) new → SameMembers new (map parts_of (lines_of bytes))
-gained_lines old new lines bytes none all g =
-    let from = subst (λ (ps : List (List Field)). Gains ps (map (λ (l : Bor (List ℕ)). parts_of l.now) lines) new) none g in
-    subst (λ (ps : List (List Field)). SameMembers new ps) (lines_now lines ∙ ap (map parts_of) all) (gained_all (map (λ (l : Bor (List ℕ)). parts_of l.now) lines) new from)
+pub answered_more : (t : Tree) (a b c : Option (List ℕ)) (kept new : List (List Field)) (lines : List (Bor (List ℕ))) (line : Bor (List ℕ)) → Answered t a b kept (map (λ l. l.now) lines) → Appends b c (answer_text t (parts_of line.now)) → Gains kept (parts_of line.now ∷ []) new
+    → Answered t a c new (map (λ l. l.now) (lines ++ line ∷ []))
+answered_more t a b c kept new lines line done wrote put =
+    let so_far = map (λ (l : Bor (List ℕ)). l.now) lines in
+    let texts : answers_to t so_far ++ answer_text t (parts_of line.now) ≡ answers_to t (so_far ++ line.now ∷ []) =
+    sym (flat_map-append (λ l. answer_text t (parts_of l)) so_far (line.now ∷ []) ∙ ap (λ bs. answers_to t so_far ++ bs) (append-nil (answer_text t (parts_of line.now)))) in
+    subst (Answered t a c new) (sym (map-append (λ (l : Bor (List ℕ)). l.now) lines (line ∷ []))) (record {
+      written = subst (Appends a c) texts (Appends-trans a b c (answers_to t so_far) (answer_text t (parts_of line.now)) done.written wrote);
+      gained = subst (λ (ps : List (List Field)). Gains [] ps new) (sym (map-append parts_of so_far (line.now ∷ []))) (gains_more [] kept new (map parts_of so_far) (parts_of line.now) done.gained put);
+    })
 
-least_of_same : (ps qs : List (List Field)) → SameMembers ps qs → (p : List Field) → Least ps p → Least qs p
-least_of_same ps qs same p h = ((same p).0 h.0, λ q c b. h.1 q ((same q).1 c) b)
+-- where the call that passes an error on went well, so did the one before it
+pub from_ok : {E F P : Type 0} (r : Result (Unit {0}) E) (q : Result (Unit {0}) F) → OnOk r P → is_ok q ≡ is_ok r → is_ok q ≡ true → P
+from_ok (Ok x) q p same ok = p
+from_ok (Err e) q p same ok = absurd (false≢true (sym same ∙ ok))
 
-flip_members : (ps qs : List (List Field)) → SameMembers ps qs → SameMembers qs ps
-flip_members ps qs same q = ((same q).1, (same q).0)
-
--- what is given is least among the lines' paths
-pub least_given : (given set paths : List (List Field)) → SameMembers set paths → ((p : List Field) → Contains given p ↔ Least set p) → (p : List Field) → Contains given p ↔ Least paths p
-least_given given set paths same h p = (λ c. least_of_same set paths same p ((h p).0 c), λ l. (h p).1 (least_of_same paths set (flip_members set paths same) p l))
+-- the least of what is kept are the least of the lines' paths
+cover_of_same : (kept paths : List (List Field)) (texts : List (List ℕ)) → SameMembers kept paths → IsCover kept texts → IsCover paths texts
+cover_of_same kept paths texts alike c = record {
+  cover = c.cover;
+  least = λ p. (λ h. least_of_same kept paths alike p ((c.least p).0 h), λ h. (c.least p).1 (least_of_same paths kept (record { same = λ q. ((alike.same q).1, (alike.same q).0) }) p h));
+  once = c.once;
+  printed = c.printed;
+  sorted = c.sorted;
+}
+  where
+    least_of_same : (ps qs : List (List Field)) → SameMembers ps qs → (p : List Field) → Least ps p → Least qs p
+    least_of_same ps qs a p h = record { member = (a.same p).0 h.member; first = λ q m b. h.first q ((a.same q).1 m) b }
 
 -- ---- the texts
 
@@ -82,10 +99,16 @@ cover_on_ok r (Err e) a b bs paths texts k wrote same is = tt
 cover_on_ok (Ok x) (Ok y) a b bs paths texts k wrote same is = record { texts = texts; cover = k; written = subst (Appends a b) is wrote }
 cover_on_ok (Err e) (Ok y) a b bs paths texts k wrote same is = absurd (false≢true (sym same))
 
-cover_kept : (paths : List (List Field)) (a b c : Option (List ℕ)) → WritesCover paths a b → Keeps b c → WritesCover paths a c
-cover_kept paths a b c w kept = record { texts = w.texts; cover = w.cover; written = Appends-kept a b c (cover_text w.texts ++ 10 ∷ []) w.written kept }
-
 -- where flushing went well, so did the call that passes its error on
-pub output_on_ok : {F : Type 0} (q : Result (Unit {0}) F) (t : Tree) (bytes : List ℕ) (a b c d : Option (List ℕ)) → Appends a b (answers_to t (lines_of bytes)) → WritesCover (map parts_of (lines_of bytes)) b c → Keeps c d → OnOk q (WritesOutput t bytes a d)
-output_on_ok (Ok x) t bytes a b c d wrote w kept = record { answered = b; answers = wrote; cover = cover_kept (map parts_of (lines_of bytes)) b c d w kept }
-output_on_ok (Err e) t bytes a b c d wrote w kept = tt
+pub output_on_ok : {F : Type 0} (q : Result (Unit {0}) F) (t : Tree) (bytes : List ℕ) (a b c d : Option (List ℕ)) (kept : List (List Field)) → Answered t a b kept (lines_of bytes) → WritesCover kept b c → Keeps c d → OnOk q (WritesOutput t bytes a d)
+output_on_ok (Ok x) t bytes a b c d kept done w flushed =
+    let paths = map parts_of (lines_of bytes) in record {
+      answered = b;
+      answers = done.written;
+      cover = record {
+        texts = w.texts;
+        cover = cover_of_same kept paths w.texts (gained_all paths kept done.gained) w.cover;
+        written = Appends-kept b c d (cover_text w.texts ++ 10 ∷ []) w.written flushed;
+      };
+    }
+output_on_ok (Err e) t bytes a b c d kept done w flushed = tt

@@ -1,3 +1,6 @@
+-- SPDX-License-Identifier: Apache-2.0
+-- SPDX-FileCopyrightText: Copyright the Vortex contributors
+
 -- What a line means, once it is split.
 use Rattle.std.proofs.Common.{◌≡◌, ℕ, ◌==◌, List, [], ◌∷◌, map, length, refl, ap, ◌∙◌, sym, true, false, arith}
 use Rattle.std.specs.Borrow.{Bor}

@@ -1,3 +1,6 @@
+-- SPDX-License-Identifier: Apache-2.0
+-- SPDX-FileCopyrightText: Copyright the Vortex contributors
+
 -- The program's faults: what is printed of each, and which come before anything is written.
 use Rattle.std.specs.Prelude.{ℕ, List, codes}
 use Rattle.dtype_demo.specs.declared.fault.DemoFault.{DemoFault}

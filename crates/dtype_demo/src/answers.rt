@@ -1,7 +1,9 @@
+// SPDX-License-Identifier: Apache-2.0
+// SPDX-FileCopyrightText: Copyright the Vortex contributors
+
 ghost use Rattle.std.specs.Prelude.{◌≡◌, ◌⊎◌, IfErr, OnOk};
 ghost use Rattle.std.specs.Io.KnownBytes.{Appends};
 ghost use Rattle.vortex_dtype.specs.TreeOf.{tree};
-ghost use Rattle.dtype_demo.specs.Lines.{parts_of};
 ghost use Rattle.dtype_demo.specs.Output.{answer_text, WritesOutput};
 
 use crate::DemoFault;
@@ -9,9 +11,9 @@ use crate::cover::write_cover;
 use crate::lines::parse_line;
 use std::alloc::Global;
 use std::io::Write;
-use vortex_dtype::DType;
+use vortex_dtype::{DType, FieldPath, FieldPathSet};
 
-// Writes the answer to each line of the text, then the line of their cover, and flushes.
+// Writes the answer to each line of the text, then the line of the cover of their paths, and flushes.
 pub fn write_answers<W: Write>(
     alloc: Global,
     dtype: &DType,
@@ -23,26 +25,22 @@ pub fn write_answers<W: Write>(
     ensures faults { IfErr result (λ fault.
         (fault ≡ DemoFault.WriteFailed) ⊎ (fault ≡ DemoFault.OutOfMemory)) }
 {
+    let mut paths = FieldPathSet::new(alloc);
     for line in text.split_terminator('\n') {
-        answer(alloc, dtype, line, writer)?;
+        let path = parse_line(alloc, line).map_err(|_| DemoFault::OutOfMemory)?;
+        answer(dtype, &path, writer)?;
+        paths.insert(path).map_err(|_| DemoFault::OutOfMemory)?;
     }
-    write_cover(alloc, text, writer)?;
+    write_cover(alloc, paths, writer)?;
     writer.flush().map_err(|_| DemoFault::WriteFailed)
 }
 
-// Writes the answer to one line: the path, and the type along it.
-fn answer<W: Write>(
-    alloc: Global,
-    dtype: &DType,
-    line: &str,
-    writer: &mut W,
-) -> Result<(), DemoFault>
+// Writes the answer to one line: its path, and the type along it.
+fn answer<W: Write>(dtype: &DType, path: &FieldPath, writer: &mut W) -> Result<(), DemoFault>
     ensures ok { OnOk result (Appends (W.contents writer.old) (W.contents writer.new)
-        (answer_text (tree dtype.now) (parts_of line.now))) }
-    ensures faults { IfErr result (λ fault.
-        (fault ≡ DemoFault.WriteFailed) ⊎ (fault ≡ DemoFault.OutOfMemory)) }
+        (answer_text (tree dtype.now) path.now)) }
+    ensures faults { IfErr result (λ fault. fault ≡ DemoFault.WriteFailed) }
 {
-    let path = parse_line(alloc, line).map_err(|_| DemoFault::OutOfMemory)?;
     let written = match path.resolve(dtype) {
         Some(found) => writeln!(writer, "{path} = {found}"),
         None => writeln!(writer, "{path} = none"),

@@ -1,3 +1,6 @@
+// SPDX-License-Identifier: Apache-2.0
+// SPDX-FileCopyrightText: Copyright the Vortex contributors
+
 ghost use Rattle.std.specs.Prelude.{◌≡◌, IfOk, IsOkUnless};
 ghost use Rattle.vortex_dtype.specs.FieldTypes.{field_tree, given_fields};
 ghost use Rattle.vortex_dtype.specs.Tree.{struct};

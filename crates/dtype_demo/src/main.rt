@@ -1,14 +1,17 @@
-// A program that tells, for each path on standard input, the type that stands along it in one type.
-//
-// Each line is a path: its parts are split at `.`, the part `[]` is the element of a list, every other
-// part is a name, and the empty line is the root. The type is
-// `{a=list({b=u32})?, f=fixed_size_list(u8)[2]}`. For each line it prints the path, ` = `, and the type
-// found or `none`. The last line is `cover:` and, each behind a space, the paths that no other path
-// begins, in the order of their texts' bytes.
-//
-// Begin with `run`, which does the work over any reader and writer. The definitions are in `specs/`:
-// `Lines` (what a line means), `DemoTree` (the type), `Output` (what is printed), `Faults`. What is
-// proved, and what is only tested, is in the README.
+// SPDX-License-Identifier: Apache-2.0
+// SPDX-FileCopyrightText: Copyright the Vortex contributors
+
+//! A program that tells, for each path on standard input, the type that stands along it in one type.
+//!
+//! Each line is a path: its parts are split at `.`, the part `[]` is the element of a list, every other
+//! part is a name, and the empty line is the root. The type is
+//! `{a=list({b=u32})?, f=fixed_size_list(u8)[2]}`. For each line it prints the path, ` = `, and the type
+//! found or `none`. The last line is `cover:` and, each behind a space, the paths that no other path
+//! begins, in the order of their texts' bytes.
+//!
+//! Begin with `run`, which does the work over any reader and writer. The definitions are in `specs/`:
+//! `Lines` (what a line means), `DemoTree` (the type), `Output` (what is printed), `Faults`. What is
+//! proved, and what is only tested, is in `docs/SPECIFICATION.md`.
 #![tactic(auto)]
 
 ghost use Rattle.std.specs.Prelude.{◌≡◌, ◌+◌, ◌<◌, ◌≤◌, length, IsUtf8, IfErr, IfSome, IsErrOf, OnOk};

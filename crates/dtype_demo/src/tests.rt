@@ -1,3 +1,6 @@
+// SPDX-License-Identifier: Apache-2.0
+// SPDX-FileCopyrightText: Copyright the Vortex contributors
+
 use crate::input::INPUT_LIMIT;
 use crate::{DemoFault, run};
 use std::alloc::Global;

@@ -1,5 +1,9 @@
-//! What the tests of several crates make their types of, and how they look at a value: its printed text, and its
-//! hash. They are made by the constructors that a user calls; nothing else is promised of them.
+// SPDX-License-Identifier: Apache-2.0
+// SPDX-FileCopyrightText: Copyright the Vortex contributors
+
+//! What the tests of several crates make their types of, how they look at a value, by its printed text and its
+//! hash, and where they take random choices from. The types are made by the constructors that a user calls;
+//! nothing else is promised of them.
 //!
 //! Begin with `kinds`, a type of each kind.
 #![tactic(auto)]
@@ -10,6 +14,10 @@ use dtype_types::{DType, ExtDTypeRef, ExtId, FieldDType, StructFields, UnionVari
 use std::alloc::Global;
 use std::fmt::Display;
 use std::hash::{DefaultHasher, Hash, Hasher};
+
+mod random;
+
+pub use random::Random;
 
 /// What a fresh hasher answers that was fed this value.
 pub fn hash_of<T: Hash>(value: &T) -> u64 {

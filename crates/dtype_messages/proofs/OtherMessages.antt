@@ -1,3 +1,6 @@
+-- SPDX-License-Identifier: Apache-2.0
+-- SPDX-FileCopyrightText: Copyright the Vortex contributors
+
 -- A message of another kind isn't the same: what the default arm of `same_kind` answers.
 use Rattle.std.proofs.Common.{◌≡◌, ap, ◌∙◌, false, refl}
 use Rattle.std.specs.declared.boxed.Box.{Box}

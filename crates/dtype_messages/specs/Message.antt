@@ -1,3 +1,6 @@
+-- SPDX-License-Identifier: Apache-2.0
+-- SPDX-FileCopyrightText: Copyright the Vortex contributors
+
 -- Message trees: the protobuf messages of types, of thirteen kinds, with the fields of their definition. A child
 -- may be missing. They know nothing of the code's data.
 use Rattle.std.specs.Prelude.{ℕ, ℤ, List, [], ◌∷◌, Option, Bool as Flag}

@@ -1,3 +1,6 @@
+-- SPDX-License-Identifier: Apache-2.0
+-- SPDX-FileCopyrightText: Copyright the Vortex contributors
+
 -- The numbers that messages have for the primitive types, from the table of `PType`.
 use Rattle.std.specs.Prelude.{ℕ, ℤ, pos, negsuc, Option, Some, None, ◌==◌, if◌then◌else◌}
 use Rattle.dtype_base.specs.declared.ptype.PType.{PType}

@@ -1,9 +1,13 @@
+-- SPDX-License-Identifier: Apache-2.0
+-- SPDX-FileCopyrightText: Copyright the Vortex contributors
+
 -- Equality of message trees, as a test field by field.
 use Rattle.std.specs.Prelude.{ℕ, List, Option, Some, None, Bool as Flag, true, false, ◌&&◌, nat_eq}
 use Rattle.std.specs.Ordering.{int_eq}
 use Rattle.std.specs.Str.{bytes_eq}
 use Rattle.std.proofs.Math.Bool.{beq}
 use Rattle.std.specs.Cmp.Lexicographic.{pointwise}
+use Rattle.dtype_messages.specs.MessageOf.{ListOf, FixedOf, MapOf, StructOf, UnionOf, ExtensionOf}
 use Rattle.dtype_messages.specs.Message.{Message, Child, Messages, missing, null, bool, primitive, decimal, utf8, binary, list, fixed_size_list, map_of, struct, union, variant, extension, absent, present, no_message, more}
 
 abbrev pub same_bytes : Option (List ℕ) → Option (List ℕ) → Flag
@@ -38,3 +42,22 @@ abbrev mutual
   same_all no_message no_message = true
   same_all (more m ms) (more n ns) = same m n && same_all ms ns
   same_all _ _ = false
+
+-- of the fields of the structs that hold messages: that the messages of their kind are the same
+abbrev pub same_lists : ListOf → ListOf → Flag
+same_lists p q = same (list p.0 p.1) (list q.0 q.1)
+
+abbrev pub same_fixed_lists : FixedOf → FixedOf → Flag
+same_fixed_lists p q = same (fixed_size_list p.0 p.1 p.2) (fixed_size_list q.0 q.1 q.2)
+
+abbrev pub same_maps : MapOf → MapOf → Flag
+same_maps p q = same (map_of p.0 p.1 p.2 p.3) (map_of q.0 q.1 q.2 q.3)
+
+abbrev pub same_structs : StructOf → StructOf → Flag
+same_structs p q = same (struct p.0 p.1 p.2) (struct q.0 q.1 q.2)
+
+abbrev pub same_unions : UnionOf → UnionOf → Flag
+same_unions p q = same (union p.0 p.1 p.2 p.3) (union q.0 q.1 q.2 q.3)
+
+abbrev pub same_extensions : ExtensionOf → ExtensionOf → Flag
+same_extensions p q = same (extension p.0 p.1 p.2) (extension q.0 q.1 q.2)

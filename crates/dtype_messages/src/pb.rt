@@ -1,3 +1,6 @@
+// SPDX-License-Identifier: Apache-2.0
+// SPDX-FileCopyrightText: Copyright the Vortex contributors
+
 // The messages themselves. A contract sees a type's message as its tree (`message` of `specs/MessageOf`), the other
 // structs as their fields by those trees, and a path as the names that its parts hold.
 ghost use Rattle.std.specs.Prelude.{◌≡◌, pos, Ok, IfOk, IfSome, IsOkUnless, map, option_map, string_bytes};
@@ -20,21 +23,34 @@ pub struct DType {
 }
 
 /// The thirteen kinds of a type, each with the struct of its name.
-#[derive(Debug, PartialEq, Eq, Drop)]
+#[derive(Debug, Drop)]
 #[cycle(message)]
 pub enum DtypeType {
+    /// Null alone.
     Null(Null),
+    /// Truth values.
     Bool(Bool),
+    /// Numbers of a primitive type.
     Primitive(Primitive),
+    /// Decimal numbers.
     Decimal(Decimal),
+    /// Texts.
     Utf8(Utf8),
+    /// Bytes.
     Binary(Binary),
+    /// Lists of any length.
     List(Box<List>),
+    /// Lists of one length.
     FixedSizeList(Box<FixedSizeList>),
+    /// Keys with their values.
     Map(Box<Map>),
+    /// Fields.
     Struct(Struct),
+    /// One of several variants.
     Union(Union),
+    /// Values of any type.
     Variant(Variant),
+    /// A type of another library.
     Extension(Box<Extension>),
 }
 
@@ -45,6 +61,7 @@ pub struct Null {}
 /// Truth values.
 #[derive(Debug, PartialEq, Eq, Drop)]
 pub struct Bool {
+    /// Whether null is a value.
     pub nullable: bool,
 }
 
@@ -53,123 +70,161 @@ pub struct Bool {
 pub struct Primitive {
     /// The number of a `PType`.
     pub ptype: i32,
+    /// Whether null is a value.
     pub nullable: bool,
 }
 
 /// Decimal numbers.
 #[derive(Debug, PartialEq, Eq, Drop)]
 pub struct Decimal {
+    /// The digits; reading takes 1 to 76.
     pub precision: u32,
+    /// Those behind the point; reading takes -128 to 76, and no more than there are digits.
     pub scale: i32,
+    /// Whether null is a value.
     pub nullable: bool,
 }
 
 /// Texts.
 #[derive(Debug, PartialEq, Eq, Drop)]
 pub struct Utf8 {
+    /// Whether null is a value.
     pub nullable: bool,
 }
 
 /// Bytes.
 #[derive(Debug, PartialEq, Eq, Drop)]
 pub struct Binary {
+    /// Whether null is a value.
     pub nullable: bool,
 }
 
 /// Lists of any length.
-#[derive(Debug, PartialEq, Eq, Drop)]
+#[derive(Debug, Drop)]
 #[cycle(message)]
 pub struct List {
+    /// The element's type; reading refuses a list without one.
     pub element_type: Option<Box<DType>>,
+    /// Whether null is a value.
     pub nullable: bool,
 }
 
 /// Lists of one length.
-#[derive(Debug, PartialEq, Eq, Drop)]
+#[derive(Debug, Drop)]
 #[cycle(message)]
 pub struct FixedSizeList {
+    /// The element's type; reading refuses a list without one.
     pub element_type: Option<Box<DType>>,
+    /// How many elements each list has.
     pub size: u32,
+    /// Whether null is a value.
     pub nullable: bool,
 }
 
 /// Lists of keys with their values.
-#[derive(Debug, PartialEq, Eq, Drop)]
+#[derive(Debug, Drop)]
 #[cycle(message)]
 pub struct Map {
+    /// The keys' type; reading refuses a map without one, and one that is nullable.
     pub key_type: Option<Box<DType>>,
+    /// The values' type; reading refuses a map without one.
     pub value_type: Option<Box<DType>>,
+    /// Whether the keys are said to be sorted; nothing checks it.
     pub keys_sorted: bool,
+    /// Whether null is a value.
     pub nullable: bool,
 }
 
 /// Fields: their names, and their types at the same places.
-#[derive(Debug, PartialEq, Eq, Drop)]
+#[derive(Debug, Drop)]
 #[cycle(message)]
 pub struct Struct {
+    /// The names, in order.
     pub names: Vec<String>,
+    /// The types; reading refuses more or fewer than names.
     pub dtypes: Vec<DType>,
+    /// Whether null is a value.
     pub nullable: bool,
 }
 
 /// Variants: their names, and their types and tags at the same places.
-#[derive(Debug, PartialEq, Eq, Drop)]
+#[derive(Debug, Drop)]
 #[cycle(message)]
 pub struct Union {
+    /// The names, in order.
     pub names: Vec<String>,
+    /// The types; reading refuses more or fewer than names.
     pub dtypes: Vec<DType>,
+    /// The tags; reading takes 0 to 255.
     pub type_ids: Vec<i32>,
+    /// Whether null is a value.
     pub nullable: bool,
 }
 
 /// Values of any type.
 #[derive(Debug, PartialEq, Eq, Drop)]
 pub struct Variant {
+    /// Whether null is a value.
     pub nullable: bool,
 }
 
 /// An extension of a storage type.
-#[derive(Debug, PartialEq, Eq, Drop)]
+#[derive(Debug, Drop)]
 #[cycle(message)]
 pub struct Extension {
+    /// The id, under which a session knows the extension.
     pub id: String,
+    /// The type that it is stored as; reading refuses an extension without one.
     pub storage_dtype: Option<Box<DType>>,
     /// The metadata; reading takes missing metadata as empty.
     pub metadata: Option<Vec<u8>>,
 }
 
 /// A path: its parts, from the outside in.
-#[derive(Debug, PartialEq, Eq, Drop)]
+#[derive(Debug, Drop)]
 pub struct FieldPath {
+    /// The parts.
     pub path: Vec<Field>,
 }
 
 /// A part of a path.
-#[derive(Debug, PartialEq, Eq, Drop)]
+#[derive(Debug, Drop)]
 pub struct Field {
     /// The kind; reading refuses a part without one.
     pub field_type: Option<FieldType>,
 }
 
 /// The kind of a part of a path.
-#[derive(Debug, PartialEq, Eq, Drop)]
+#[derive(Debug, Drop)]
 pub enum FieldType {
+    /// A field's name.
     Name(String),
 }
 
 /// The primitive types, by the numbers that messages have.
 #[derive(Clone, Copy, Debug, PartialEq, Eq)]
 pub enum PType {
+    /// 0: unsigned integers of 8 bits.
     U8,
+    /// 1: unsigned integers of 16 bits.
     U16,
+    /// 2: unsigned integers of 32 bits.
     U32,
+    /// 3: unsigned integers of 64 bits.
     U64,
+    /// 4: signed integers of 8 bits.
     I8,
+    /// 5: signed integers of 16 bits.
     I16,
+    /// 6: signed integers of 32 bits.
     I32,
+    /// 7: signed integers of 64 bits.
     I64,
+    /// 8: floats of 16 bits.
     F16,
+    /// 9: floats of 32 bits.
     F32,
+    /// 10: floats of 64 bits.
     F64,
 }
 

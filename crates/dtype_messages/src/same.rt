@@ -1,11 +1,13 @@
-// Equality of messages: two are equal where their trees are, which is where all their fields are. The derives
-// of `pb` compare the fields of the other structs in the same way.
-ghost use Rattle.std.specs.Prelude.{◌≡◌, ◌↔◌, IsTrue, map, string_bytes};
+// SPDX-License-Identifier: Apache-2.0
+// SPDX-FileCopyrightText: Copyright the Vortex contributors
+
+// The walk over two messages at once: whether they have the same tree.
+ghost use Rattle.std.specs.Prelude.{◌≡◌, map, string_bytes};
 ghost use Rattle.std.specs.Str.{bytes_eq};
 ghost use Rattle.std.specs.Ordering.{int_eq};
 ghost use Rattle.std.specs.Cmp.Lexicographic.{pointwise};
-ghost use Rattle.dtype_messages.specs.Same.{same, same_child, same_all, same_bytes};
-ghost use Rattle.dtype_messages.specs.Message.{messages, list, fixed_size_list, map_of, struct, union, extension};
+ghost use Rattle.dtype_messages.specs.Same.{same, same_child, same_all, same_bytes, same_lists, same_fixed_lists, same_maps, same_structs, same_unions, same_extensions};
+ghost use Rattle.dtype_messages.specs.Message.{messages};
 ghost use Rattle.dtype_messages.specs.MessageOf.{message, kind_message, child, bytes_of, list_parts, fixed_parts, map_parts, struct_parts, union_parts, extension_parts};
 
 use crate::pb::{DType, DtypeType, Extension, FixedSizeList, List, Map, Struct, Union};
@@ -23,7 +25,7 @@ pub(crate) fn same(a: &DType, b: &DType) -> bool
 }
 
 #[cycle(same)]
-fn same_kind(a: &DtypeType, b: &DtypeType) -> bool
+pub(crate) fn same_kind(a: &DtypeType, b: &DtypeType) -> bool
     ensures { result ≡ same (kind_message a.now) (kind_message b.now) }
 {
     match (a, b) {
@@ -60,25 +62,22 @@ fn same_child(a: &Option<Box<DType>>, b: &Option<Box<DType>>) -> bool
 }
 
 #[cycle(same)]
-fn same_list(a: &List, b: &List) -> bool
-    ensures { let p = list_parts a.now in let q = list_parts b.now in
-        result ≡ same (list p.0 p.1) (list q.0 q.1) }
+pub(crate) fn same_list(a: &List, b: &List) -> bool
+    ensures { result ≡ same_lists (list_parts a.now) (list_parts b.now) }
 {
     same_child(&a.element_type, &b.element_type) && a.nullable == b.nullable
 }
 
 #[cycle(same)]
-fn same_fixed(a: &FixedSizeList, b: &FixedSizeList) -> bool
-    ensures { let p = fixed_parts a.now in let q = fixed_parts b.now in
-        result ≡ same (fixed_size_list p.0 p.1 p.2) (fixed_size_list q.0 q.1 q.2) }
+pub(crate) fn same_fixed(a: &FixedSizeList, b: &FixedSizeList) -> bool
+    ensures { result ≡ same_fixed_lists (fixed_parts a.now) (fixed_parts b.now) }
 {
     same_child(&a.element_type, &b.element_type) && a.size == b.size && a.nullable == b.nullable
 }
 
 #[cycle(same)]
-fn same_map(a: &Map, b: &Map) -> bool
-    ensures { let p = map_parts a.now in let q = map_parts b.now in
-        result ≡ same (map_of p.0 p.1 p.2 p.3) (map_of q.0 q.1 q.2 q.3) }
+pub(crate) fn same_map(a: &Map, b: &Map) -> bool
+    ensures { result ≡ same_maps (map_parts a.now) (map_parts b.now) }
 {
     same_child(&a.key_type, &b.key_type)
         && same_child(&a.value_type, &b.value_type)
@@ -97,9 +96,8 @@ fn same_metadata(a: &Option<Vec<u8>>, b: &Option<Vec<u8>>) -> bool
 }
 
 #[cycle(same)]
-fn same_extension(a: &Extension, b: &Extension) -> bool
-    ensures { let p = extension_parts a.now in let q = extension_parts b.now in
-        result ≡ same (extension p.0 p.1 p.2) (extension q.0 q.1 q.2) }
+pub(crate) fn same_extension(a: &Extension, b: &Extension) -> bool
+    ensures { result ≡ same_extensions (extension_parts a.now) (extension_parts b.now) }
 {
     a.id.as_str() == b.id.as_str()
         && same_child(&a.storage_dtype, &b.storage_dtype)
@@ -107,17 +105,15 @@ fn same_extension(a: &Extension, b: &Extension) -> bool
 }
 
 #[cycle(same)]
-fn same_struct(a: &Struct, b: &Struct) -> bool
-    ensures { let p = struct_parts a.now in let q = struct_parts b.now in
-        result ≡ same (struct p.0 p.1 p.2) (struct q.0 q.1 q.2) }
+pub(crate) fn same_struct(a: &Struct, b: &Struct) -> bool
+    ensures { result ≡ same_structs (struct_parts a.now) (struct_parts b.now) }
 {
     same_texts(&a.names, &b.names) && same_all(&a.dtypes, &b.dtypes) && a.nullable == b.nullable
 }
 
 #[cycle(same)]
-fn same_union(a: &Union, b: &Union) -> bool
-    ensures { let p = union_parts a.now in let q = union_parts b.now in
-        result ≡ same (union p.0 p.1 p.2 p.3) (union q.0 q.1 q.2 q.3) }
+pub(crate) fn same_union(a: &Union, b: &Union) -> bool
+    ensures { result ≡ same_unions (union_parts a.now) (union_parts b.now) }
 {
     same_texts(&a.names, &b.names)
         && same_all(&a.dtypes, &b.dtypes)
@@ -152,27 +148,4 @@ fn same_all(a: &[DType], b: &[DType]) -> bool
         }
     }
     true
-}
-
-impl PartialEq for DType {
-    ghost use Rattle.dtype_messages.specs.SameLaws.{same_dtype, same_dtype_equiv};
-    ghost use Rattle.std.specs.Cmp.{partial_equiv_from_equiv};
-
-    ghost eq = { same_dtype };
-
-    ghost laws = { partial_equiv_from_equiv same_dtype_equiv };
-
-    #[tactic(auto, using(crate::specs::SameLaws::same_Decides))]
-    fn eq(&self, other: &DType) -> bool
-        ensures same { result ≡ same_dtype self.now other.now }
-        ensures exact { IsTrue result ↔ (message self.now ≡ message other.now) }
-    {
-        same(self, other)
-    }
-}
-
-impl Eq for DType {
-    ghost use Rattle.dtype_messages.specs.SameLaws.{same_dtype_equiv};
-
-    ghost laws = { same_dtype_equiv };
 }

@@ -1,3 +1,6 @@
+-- SPDX-License-Identifier: Apache-2.0
+-- SPDX-FileCopyrightText: Copyright the Vortex contributors
+
 -- What `<=` answers, at numbers that are ordered as their integers are.
 use Rattle.std.proofs.Common.{◌≡◌, ◌↔◌, ℕ, ℤ, ◌≤ℤ◌, Bool, true, false, IsTrue, Option, Some, Ordering, ap, sym, ◌∙◌, subst, refl, arith}
 use Rattle.std.specs.Ordering.{int_cmp, is_le, is_some_and, partial_le}

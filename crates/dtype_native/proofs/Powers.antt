@@ -1,3 +1,6 @@
+-- SPDX-License-Identifier: Apache-2.0
+-- SPDX-FileCopyrightText: Copyright the Vortex contributors
+
 -- Powers of ten, and what of them a type has that has each number up to one of them.
 use Rattle.std.proofs.Common.{◌≡◌, ℕ, ℤ, zero, suc, pos, neg_ℤ, unsigned_abs, ◌-◌, ◌^◌, ◌≤◌, ◌-ℤ◌, subst, sym, arith, lit<}
 use Rattle.std.proofs.Math.Nat.{one-le-pow, pow-le-pow_right}

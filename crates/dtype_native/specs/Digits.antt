@@ -1,3 +1,6 @@
+-- SPDX-License-Identifier: Apache-2.0
+-- SPDX-FileCopyrightText: Copyright the Vortex contributors
+
 -- The numbers of so many digits, and the text of a decimal type that is kept in a native one.
 use Rattle.std.specs.Prelude.{◌≡◌, ◌↔◌, ℕ, ◌-◌, ◌^◌, ℤ, pos, neg_ℤ, List, ◌++◌, codes, Result, IsOk, MatchResult}
 use Rattle.std.specs.Fmt.{decimal, signed_decimal}

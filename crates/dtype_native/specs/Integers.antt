@@ -1,3 +1,6 @@
+-- SPDX-License-Identifier: Apache-2.0
+-- SPDX-FileCopyrightText: Copyright the Vortex contributors
+
 -- The integers of a primitive type, by its name. From the documentation of `PType`.
 use Rattle.std.specs.Prelude.{◌*◌, ◌^◌, ℤ, pos, ◌≤ℤ◌, ◌<ℤ◌}
 use Rattle.dtype_base.specs.declared.ptype.PType.{PType}

@@ -1,3 +1,6 @@
+-- SPDX-License-Identifier: Apache-2.0
+-- SPDX-FileCopyrightText: Copyright the Vortex contributors
+
 -- The bytes of a whole number, as memory and files hold it.
 use Rattle.std.specs.Prelude.{◌≡◌, ◌↔◌, ℕ, ℤ, zero, suc, pos, negsuc, ◌-◌, ◌/◌, ◌%◌, List, [], ◌∷◌, length, Result, IsOk, IfOk, IsOkUnless}
 use Rattle.dtype_base.specs.declared.vortex_error.VortexError.{VortexError}

@@ -1,3 +1,6 @@
+-- SPDX-License-Identifier: Apache-2.0
+-- SPDX-FileCopyrightText: Copyright the Vortex contributors
+
 -- The logical type of a native type. From the documentation of `NativeDType`.
 use Rattle.std.specs.Prelude.{unwrap_or}
 use Rattle.dtype_base.specs.declared.nullability.Nullability.TheVariants.{Nullable}

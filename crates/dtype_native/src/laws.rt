@@ -1,12 +1,15 @@
+// SPDX-License-Identifier: Apache-2.0
+// SPDX-FileCopyrightText: Copyright the Vortex contributors
+
 // What follows from the contracts of the numeric traits, for every type that has them: the contract of
-// a function with no body.
+// a function with no body. And what the constants of native types are, of a function that gives them.
 #![tactic(auto, using(crate::proofs::Bytes::length_little_endian))]
 
-ghost use Rattle.std.specs.Prelude.{◌≡◌, Ok, Result};
+ghost use Rattle.std.specs.Prelude.{◌≡◌, Ok, Result, codes};
 ghost use Rattle.dtype_base.specs.declared.vortex_error.VortexError.{VortexError};
 ghost use Rattle.dtype_native.specs.LittleEndian.{ReadsBytes, little_endian};
 
-use crate::TryFromBytes;
+use crate::{NativeDecimalType, TryFromBytes};
 
 /// Reading the bytes of a number gives the number back.
 pub fn written_bytes_read_back<T: TryFromBytes>()
@@ -14,3 +17,26 @@ pub fn written_bytes_read_back<T: TryFromBytes>()
         → ReadsBytes T.byte_width T.value T.fits (little_endian T.byte_width (T.value x)) r
         → r ≡ Ok x }
 {}
+
+/// The names of the native decimals are their texts.
+pub fn names_of_native_decimals_are_their_texts() -> (
+    &'static str,
+    &'static str,
+    &'static str,
+    &'static str,
+    &'static str,
+)
+    ensures of_i8 { result.0.now ≡ codes "i8" }
+    ensures of_i16 { result.1.now ≡ codes "i16" }
+    ensures of_i32 { result.2.now ≡ codes "i32" }
+    ensures of_i64 { result.3.now ≡ codes "i64" }
+    ensures of_i128 { result.4.now ≡ codes "i128" }
+{
+    (
+        <i8 as NativeDecimalType>::NAME,
+        <i16 as NativeDecimalType>::NAME,
+        <i32 as NativeDecimalType>::NAME,
+        <i64 as NativeDecimalType>::NAME,
+        <i128 as NativeDecimalType>::NAME,
+    )
+}

@@ -1,3 +1,6 @@
+// SPDX-License-Identifier: Apache-2.0
+// SPDX-FileCopyrightText: Copyright the Vortex contributors
+
 #![tactic(auto, using(crate::proofs::Bytes::written, crate::proofs::Bytes::length_little_endian))]
 
 ghost use Rattle.std.specs.Prelude.{◌≡◌, ℕ, List, length};

@@ -1,3 +1,6 @@
+// SPDX-License-Identifier: Apache-2.0
+// SPDX-FileCopyrightText: Copyright the Vortex contributors
+
 #![tactic(auto, using(crate::proofs::Bytes::read))]
 
 ghost use Rattle.std.specs.Prelude.{◌≡◌, ◌↔◌, length, Ok, IsOk, IfOk, IsOkUnless};

@@ -1,9 +1,12 @@
+-- SPDX-License-Identifier: Apache-2.0
+-- SPDX-FileCopyrightText: Copyright the Vortex contributors
+
 -- The tests of `CoverTests`: the least paths of a list cover what the list covers.
 use Rattle.std.proofs.Common.{ℕ, suc, zero, ◌<◌, length, ◌≡◌, Bool, true, false, not, ◌||◌, List, [], ◌∷◌, ◌⊎◌, inl, inr, refl, ◌∙◌, arith, Decides, filter, ⊎_elim}
 use Rattle.std.specs.List.{list_any}
 use Rattle.std.proofs.lemmas.Bool.{and_from, and_parts}
 use Rattle.dtype_paths.specs.CoverTests.{is_beginning, is_proper_beginning, covers, extends, least}
-use Rattle.dtype_paths.proofs.NodeLookups.{by_bool}
+use Rattle.dtype_paths.proofs.Cases.{by_bool}
 
 -- x is one of these
 abbrev pub Among : {A : Type 0} → A → List A → Type 0

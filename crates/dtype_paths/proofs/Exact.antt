@@ -1,3 +1,6 @@
+-- SPDX-License-Identifier: Apache-2.0
+-- SPDX-FileCopyrightText: Copyright the Vortex contributors
+
 -- What lies along a path in values of a type.
 use Rattle.std.proofs.Common.{◌≡◌, ◌↔◌, ◌∙◌, ◌<◌, ℕ, zero, suc, List, [], ◌∷◌, Bool, true, false, cond, Option, Some, None, refl, sym, ap, subst, inl, inr, arith}
 use Rattle.std.specs.Prelude.{bytes_eq}
@@ -7,7 +10,8 @@ use Rattle.dtype_types.specs.Sample.{sample, samples, copies}
 use Rattle.dtype_types.specs.Tree.{Tree, Fields, no_fields, field, null, list, fixed_size_list, struct, extension, pairs}
 use Rattle.dtype_types.specs.Valid.{Valid, ValidFields}
 use Rattle.dtype_types.specs.Value.{Value, Values, Named, Of, NamedOf, Each, count, null_value, items, row, record_of, no_values, value, no_named, named}
-use Rattle.dtype_types.proofs.SampleLaws.{sample_of, samples_of, count-copies, each_copy}
+use Rattle.dtype_types.specs.SampleLaws.{sample_of, samples_of, count-copies, each_copy}
+use Rattle.dtype_paths.specs.Along.{along, along-At, At-along}
 use Rattle.dtype_paths.specs.At.{At, step}
 use Rattle.dtype_paths.specs.Around.{around, around_first}
 use Rattle.dtype_paths.specs.Found.{Found, FoundIn, Reaches, Member, first_value}
@@ -165,3 +169,26 @@ pub nothing_inside : (w : Value) → Of w none_in → Found w (ElementType ∷ [
 nothing_inside (row vs) o f = no_member vs f.0 o.0 f.1
 nothing_inside (items vs) o f = o
 nothing_inside _ o f = f.1
+
+-- ---- where a type is given, something is found
+
+valid_along : (t : Tree) (p : List Field) (u : Tree) → Valid t → At t p u → Valid u
+valid_along t [] u h a = subst Valid a h
+valid_along (struct fs n) (Name m ∷ p) u h a = valid_along a.0 p u (valid_named fs m a.0 h a.1) a.2
+valid_along (list t n) (ElementType ∷ p) u h a =
+    let e : t ≡ a.0 = some_is t a.0 a.1 in valid_along t p u h (subst (λ x. At x p u) (sym e) a.2)
+valid_along (fixed_size_list t k n) (ElementType ∷ p) u h a =
+    let e : t ≡ a.0 = some_is t a.0 a.1 in valid_along t p u h.1 (subst (λ x. At x p u) (sym e) a.2)
+valid_along _ (_ ∷ p) u h a = cc
+
+pub some_found : (t : Tree) (p : List Field) (u : Tree) → Valid t → MeetsNoSizeZero t p → At t p u → (v : Value) × FoundIn t p v
+some_found t p u h z a =
+    let r = around_of t p u (sample u) h z a (sample_of u (valid_along t p u h a)) in
+    (sample u, (around t p (sample u), r.0, r.1))
+
+pub given_where_found : (t : Tree) (p : List Field) → Valid t → MeetsNoSizeZero t p → MeetsNoExtension t p → (((u : Tree) × At t p u) ↔ ((v : Value) × FoundIn t p v))
+given_where_found t p h z x = (λ g. some_found t p g.0 h z g.1, λ f. go f (along t p) refl)
+  where
+    go : ((v : Value) × FoundIn t p v) → (o : Option Tree) → along t p ≡ o → (u : Tree) × At t p u
+    go f (Some u) e = (u, along-At t p u e)
+    go f None e = absurd (none_found_in t p (λ u a. let s = At-along t p u a in cc) x f.0 f.1)

@@ -1,3 +1,6 @@
+-- SPDX-License-Identifier: Apache-2.0
+-- SPDX-FileCopyrightText: Copyright the Vortex contributors
+
 pub mod JoinedTexts
 pub mod PathLaws
 pub mod Steps
@@ -6,12 +9,16 @@ pub mod MaskLaws
 pub mod OverlapLaws
 pub mod PathTests
 pub mod CoverLaws
+pub mod SetLaws
+pub mod BegunBounds
 pub mod CoverTestLaws
-pub mod NodeCounts
-pub mod NodeCovered
-pub mod NodeDistinct
-pub mod NodeInserts
-pub mod NodeLeast
-pub mod NodeLookups
-pub mod SetAnswers
-pub mod SetMembers
+pub mod ApartLists
+pub mod Cases
+pub mod KeptNodes
+pub mod NodeCopies
+pub mod NodeGrowth
+pub mod NodePlaces
+pub mod Opening
+pub mod TrieGrowth
+pub mod ChildCopies
+pub mod NodeUpdates

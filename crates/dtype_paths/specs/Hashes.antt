@@ -1,3 +1,6 @@
+-- SPDX-License-Identifier: Apache-2.0
+-- SPDX-FileCopyrightText: Copyright the Vortex contributors
+
 -- What a step and a path feed a hasher, as lists of writes. Both are functions of the value, so equal
 -- steps and equal paths feed alike.
 use Rattle.std.specs.Prelude.{List, ◌++◌}

@@ -1,3 +1,6 @@
+-- SPDX-License-Identifier: Apache-2.0
+-- SPDX-FileCopyrightText: Copyright the Vortex contributors
+
 pub mod Along
 pub mod At
 pub mod Beginning
@@ -12,8 +15,8 @@ pub mod In
 pub mod Overlaps
 pub mod Cover
 pub mod CoverTests
-pub mod NodeDepth
 pub mod PathSets
 pub mod PathSetLaws
-pub mod Rows
+pub mod Trie
 pub mod Meets
+pub mod Children

@@ -1,5 +1,8 @@
+// SPDX-License-Identifier: Apache-2.0
+// SPDX-FileCopyrightText: Copyright the Vortex contributors
+
 ghost use Rattle.std.specs.Prelude.{◌≡◌, ◌≢◌, ◌↔◌, IsTrue, IfOk, IsOkUnless, List, [], ◌∷◌, Some, Ok, Err};
-ghost use Rattle.std.specs.Option.{option_copied};
+ghost use Rattle.std.specs.Option.{ok_or, option_copied};
 ghost use Rattle.dtype_base.specs.declared.vortex_error.VortexError.TheVariants.{OutOfMemory, ExactRoot, AllMask};
 ghost use Rattle.dtype_paths.specs.declared.field.Field.{Field};
 
@@ -8,7 +11,10 @@ use dtype_base::{VortexError, VortexResult};
 use std::alloc::Global;
 
 /// Which paths are asked for.
-#[derive(Debug, Drop, PartialEq, Eq)]
+///
+/// `Prefix` of `a.b`, stepped into, is `Prefix` of `b`, and then `All`: everything below is asked for.
+/// `Exact` of `a` becomes `Exact` of the root, and that can't be stepped into.
+#[derive(Debug, Drop)]
 pub enum FieldMask {
     /// Every path.
     All,
@@ -19,7 +25,7 @@ pub enum FieldMask {
 }
 
 impl FieldMask {
-    ghost use Rattle.dtype_paths.specs.In.{In, first_part};
+    ghost use Rattle.dtype_paths.specs.In.{In, first_part, mask_behind};
 
     /// The mask of what stands behind the first step of its path: it holds a path where the mask holds
     /// that step and the path behind it. `All` and the prefix of the root step into `All`. Takes no
@@ -27,6 +33,7 @@ impl FieldMask {
     ///
     /// Refuses the exact root, 20 (ExactRoot).
     pub fn step_into(self) -> VortexResult<Self>
+        ensures behind { result ≡ ok_or (mask_behind self) ExactRoot }
         ensures holds { IfOk result (λ m. (f : Field) (q : List Field) → first_part self ≡ Some f
             → (In m q ↔ In self (f ∷ q))) }
         ensures all { self ≡ FieldMask.All → result ≡ Ok FieldMask.All }
@@ -95,4 +102,34 @@ impl FieldMask {
             FieldMask::Exact(path) => Ok(FieldMask::Exact(path.try_clone()?)),
         }
     }
+}
+
+impl PartialEq for FieldMask {
+    ghost use Rattle.std.specs.Cmp.{partial_equiv_from_equiv};
+    ghost use Rattle.dtype_paths.specs.Equality.{same_mask};
+    ghost use Rattle.dtype_paths.specs.EqualityLaws.{same_mask_equiv};
+
+    ghost eq = { same_mask };
+
+    ghost laws = { partial_equiv_from_equiv same_mask_equiv };
+
+    fn eq(&self, other: &FieldMask) -> bool
+        ensures same { result ≡ same_mask self.now other.now }
+        ensures exact { IsTrue result ↔ (self.now ≡ other.now) }
+    {
+        match (self, other) {
+            (FieldMask::All, FieldMask::All) => true,
+            (FieldMask::Prefix(path), FieldMask::Prefix(other_path)) => path == other_path,
+            (FieldMask::Exact(path), FieldMask::Exact(other_path)) => path == other_path,
+            (FieldMask::All, FieldMask::Prefix(_) | FieldMask::Exact(_))
+            | (FieldMask::Prefix(_), FieldMask::All | FieldMask::Exact(_))
+            | (FieldMask::Exact(_), FieldMask::All | FieldMask::Prefix(_)) => false,
+        }
+    }
+}
+
+impl Eq for FieldMask {
+    ghost use Rattle.dtype_paths.specs.EqualityLaws.{same_mask_equiv};
+
+    ghost laws = { same_mask_equiv };
 }

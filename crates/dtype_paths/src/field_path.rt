@@ -1,3 +1,6 @@
+// SPDX-License-Identifier: Apache-2.0
+// SPDX-FileCopyrightText: Copyright the Vortex contributors
+
 ghost use Rattle.std.specs.Prelude.{◌≡◌, ◌↔◌, IsTrue, IfOk, IfSome, IfNone, IsOkUnless, [], ◌∷◌, ◌++◌, map, slice_get, Some};
 ghost use Rattle.std.specs.Iterator.{IsFinite};
 ghost use Rattle.std.specs.Iterator.Runs.{WholeRun};
@@ -26,6 +29,9 @@ use std::hash::{Hash, Hasher};
 use std::marker::Model;
 
 /// A path into a type: its steps, from the outside in. The path with no step is the root.
+///
+/// In `{a=list({b=u32})?}` along `a.[].b` stands `u32`: `a` is a name, `[]` the element of a list. Along
+/// `a.b` stands nothing.
 #[derive(Debug, Drop)]
 pub struct FieldPath {
     steps: Vec<Field>,

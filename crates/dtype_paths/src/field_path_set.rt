@@ -1,43 +1,44 @@
-ghost use Rattle.std.specs.Prelude.{◌≡◌, ◌↔◌, ◌+◌, ◌++◌, [], ◌∷◌, ℕ, List, map, min, IfOk, IsOkUnless, IsTrue, OnErr, OnOk};
+// SPDX-License-Identifier: Apache-2.0
+// SPDX-FileCopyrightText: Copyright the Vortex contributors
+
+ghost use Rattle.std.specs.Prelude.{◌≡◌, ◌↔◌, ◌+◌, ◌<◌, ◌≤◌, [], ◌∷◌, ℕ, List, length, map, min, IfOk, IsOkUnless, IsTrue, OnErr, OnOk};
 ghost use Rattle.std.specs.Iterator.{Drains, ExtendsWithItems, IsFinite};
-ghost use Rattle.std.specs.List.{Contains};
-ghost use Rattle.std.specs.Map.{keys_of, values_of};
+ghost use Rattle.std.specs.Iterator.Runs.{WholeRun};
+ghost use Rattle.std.specs.List.{Contains, sum_by};
 ghost use Rattle.std.specs.Vec.Iter.{into_iter_items};
 ghost use Rattle.dtype_base.specs.declared.vortex_error.VortexError.TheVariants.{OutOfMemory};
 ghost use Rattle.dtype_types.specs.Distinct.{Distinct};
-ghost use Rattle.dtype_paths.specs.Cover.{Begun, IsCountOf, Least, SameCoverage};
-ghost use Rattle.dtype_paths.specs.CoverTests.{begun_count};
-ghost use Rattle.dtype_paths.specs.Equality.{same_field};
-ghost use Rattle.dtype_paths.specs.PathSets.{Gains, SameMembers};
-ghost use Rattle.dtype_paths.specs.Rows.{least_rows};
+ghost use Rattle.dtype_paths.specs.Cover.{Begun, Covers, IsCountOf, IsCover, Least, SameCoverage};
+ghost use Rattle.dtype_paths.specs.PathSets.{Gains, IsWithin, SameMembers};
 ghost use Rattle.dtype_paths.specs.declared.field.Field.{Field};
 
 use crate::node::Node;
-use crate::{Field, FieldPath};
+use crate::{FieldPath, trie};
 use dtype_base::VortexResult;
 use std::alloc::Global;
 use std::marker::Model;
 use std::{fmt, vec};
 
 /// A set of paths, seen as the list of its members, each once. No order of them is promised.
+///
+/// With `a.b`, `x`, `a` and `a.c` put in, it has four members, and the fewest that cover them are `a` and
+/// `x`.
 #[derive(Drop)]
 pub struct FieldPathSet {
     alloc: Global,
-    root: Node,
+    nodes: Vec<Node>,
 }
 
 impl Model for FieldPathSet {
-    ghost use Rattle.std.specs.Prelude.{List};
-    ghost use Rattle.std.specs.Map.{keys_of};
-    ghost use Rattle.dtype_paths.specs.Equality.{same_field};
-    ghost use Rattle.dtype_paths.specs.Rows.{IsSet};
+    ghost use Rattle.std.specs.Prelude.{List, ◌<◌, length};
+    ghost use Rattle.dtype_paths.specs.Trie.{ends, IsTrie};
     ghost use Rattle.dtype_paths.specs.declared.field.Field.{Field};
 
     ghost Value = { List (List Field) };
 
-    ghost view = { λ s. keys_of s.root.rows };
+    ghost view = { λ s. ends s.nodes.items };
 
-    ghost invariant = { λ s. IsSet same_field s.root.rows };
+    ghost invariant = { λ s. 0 < length s.nodes.items → IsTrie s.nodes.items };
 }
 
 impl FieldPathSet {
@@ -47,7 +48,7 @@ impl FieldPathSet {
     {
         FieldPathSet {
             alloc,
-            root: Node::new(alloc),
+            nodes: Vec::new(alloc),
         }
     }
 
@@ -60,6 +61,8 @@ impl FieldPathSet {
             → I.IntoIter.can_next it × IsFinite (I.IntoIter.remaining it) }
         ensures ok { IfOk result (λ s. (it : I.IntoIter) × (ps : List (List Field)) × I.into_iter_gives paths it
             × Drains I.IntoIter.next_gives it ps × SameMembers s ps) }
+        ensures listed { IfOk result (λ s. (it : I.IntoIter) × I.into_iter_gives paths it
+            × WholeRun I.IntoIter.next_gives it (λ run. SameMembers s run.items)) }
         ensures refused { IsOkUnless result OutOfMemory }
     {
         let mut set = FieldPathSet::new(alloc);
@@ -69,19 +72,26 @@ impl FieldPathSet {
 
     /// Whether the path is in the set. Takes no memory.
     pub fn contains(&self, path: &FieldPath) -> bool
-        ensures { IsTrue result ↔ Contains self.now path.now }
+        ensures exact { IsTrue result ↔ Contains self.now path.now }
+        ensures alike { (ps : List (List Field)) → SameMembers self.now ps
+            → (IsTrue result ↔ Contains ps path.now) }
+        ensures member { (ps : List (List Field)) → Contains ps path.now → IsWithin ps self.now
+            → IsTrue result }
     {
-        self.root.contains(path.parts())
+        trie::contains(&self.nodes, path.parts())
     }
 
     /// Puts the path into the set, where it isn't in it yet. Refuses 0 (OutOfMemory) alone: the set is as
     /// it was then, and the path is dropped.
     pub fn insert(&mut self, path: FieldPath) -> VortexResult<()>
         ensures ok { OnOk result (Gains self.old (path ∷ []) self.new) }
+        ensures there { OnOk result (Contains self.new path) }
+        ensures kept { OnOk result (IsWithin self.old self.new) }
+        ensures again { Contains self.old path → OnOk result (SameMembers self.new self.old) }
         ensures err { OnErr result (self.new ≡ self.old) }
         ensures refused { IsOkUnless result OutOfMemory }
     {
-        self.root.insert(self.alloc, path, 0)
+        trie::insert(self.alloc, &mut self.nodes, path)
     }
 
     /// Puts the paths that an iterator gives into the set, in order. Refuses 0 (OutOfMemory) alone: those
@@ -91,6 +101,8 @@ impl FieldPathSet {
             → I.IntoIter.can_next it × IsFinite (I.IntoIter.remaining it) }
         ensures items { ExtendsWithItems I.into_iter_gives I.IntoIter.next_gives Gains
             paths self.old self.new result }
+        ensures listed { OnOk result ((it : I.IntoIter) × I.into_iter_gives paths it
+            × WholeRun I.IntoIter.next_gives it (λ run. Gains self.old run.items self.new)) }
         ensures refused { IsOkUnless result OutOfMemory }
     {
         for path in paths {
@@ -105,8 +117,7 @@ impl FieldPathSet {
         ensures once { IfOk result (λ r. Distinct (map (λ x. x.now) (into_iter_items r))) }
         ensures refused { IsOkUnless result OutOfMemory }
     {
-        let mut found = Vec::new(self.alloc);
-        self.root.gather(&mut found)?;
+        let found = trie::gather(self.alloc, &self.nodes)?;
         Ok(found.into_iter())
     }
 
@@ -116,6 +127,11 @@ impl FieldPathSet {
         ensures least { IfOk result (λ r. (p : List Field) → Contains (into_iter_items r) p ↔ Least self p) }
         ensures once { IfOk result (λ r. Distinct (into_iter_items r)) }
         ensures covers { IfOk result (λ r. SameCoverage (into_iter_items r) self) }
+        ensures cover { (ps : List (List Field)) → SameMembers self ps
+            → IfOk result (λ r. IsCover (into_iter_items r) ps) }
+        ensures asked { (ps : List (List Field)) (q : List Field) → SameMembers self ps → Contains ps q
+            → IfOk result (λ r. Covers (into_iter_items r) q) }
+        ensures wanted { (q : List Field) → Covers self q → IfOk result (λ r. Covers (into_iter_items r) q) }
         ensures within { IfOk result (λ r. (ps : List (List Field)) → SameCoverage ps self
             → (p : List Field) → Contains (into_iter_items r) p → Contains ps p) }
         ensures refused { IsOkUnless result OutOfMemory }
@@ -134,11 +150,12 @@ impl FieldPathSet {
         ensures within { IfOk result (λ r. (ps : List (List Field)) → SameCoverage ps self
             → (p : List Field) → Contains (into_iter_items r.0) p → Contains ps p) }
         ensures visits { IfOk result (λ r. (n : ℕ) × IsCountOf (Begun self) n × (r.1 ≡ min n u64.MAX)) }
+        ensures some { IfOk result (λ r. 0 < r.1) }
+        ensures root_alone { self ≡ [] → IfOk result (λ r. r.1 ≡ 1) }
+        ensures at_most { IfOk result (λ r. r.1 ≤ 1 + sum_by length (into_iter_items r.0)) }
         ensures refused { IsOkUnless result OutOfMemory }
     {
-        let mut found = Vec::new(self.alloc);
-        let mut visits = 0;
-        cover(self.root, &mut found, &mut visits)?;
+        let (found, visits) = trie::cover(self.alloc, self.nodes)?;
         Ok((found.into_iter(), visits))
     }
 
@@ -147,11 +164,10 @@ impl FieldPathSet {
         ensures ok { IfOk result (λ s. SameMembers s self.now) }
         ensures refused { IsOkUnless result OutOfMemory }
     {
-        let mut copy = FieldPathSet::new(self.alloc);
-        for path in self.iter()? {
-            copy.insert(path.try_clone()?)?;
-        }
-        Ok(copy)
+        Ok(FieldPathSet {
+            alloc: self.alloc,
+            nodes: trie::copied(self.alloc, &self.nodes)?,
+        })
     }
 }
 
@@ -160,25 +176,4 @@ impl fmt::Debug for FieldPathSet {
     fn fmt<W: fmt::Write>(&self, f: &mut fmt::Formatter<W>) -> fmt::Result {
         f.write_str("FieldPathSet { .. }")
     }
-}
-
-// Gives the least paths that end in the node or below it, and counts the nodes that it opens. Refuses 0
-// (OutOfMemory) alone.
-fn cover(node: Node, found: &mut Vec<FieldPath>, visits: &mut u64) -> VortexResult<()>
-    ensures paths { OnOk result (found.new.items
-        ≡ found.old.items ++ values_of (least_rows same_field node.rows)) }
-    ensures count { OnOk result (visits.new
-        ≡ min (visits.old + begun_count same_field (keys_of node.rows)) u64.MAX) }
-    ensures refused { IsOkUnless result OutOfMemory }
-{
-    let (end, children) = node.open(visits);
-    match end {
-        Some(path) => found.push(path)?,
-        None => {
-            for (_, child) in children {
-                cover(child, found, visits)?;
-            }
-        }
-    }
-    Ok(())
 }

@@ -1,19 +1,28 @@
+// SPDX-License-Identifier: Apache-2.0
+// SPDX-FileCopyrightText: Copyright the Vortex contributors
+
 // What follows from the definitions of paths alone. Each function's contract is the law, and its body
 // is empty.
-ghost use Rattle.std.specs.Prelude.{◌≡◌, ◌↔◌, IsTrue, List, ◌++◌};
-ghost use Rattle.dtype_types.specs.Tree.{Tree};
+ghost use Rattle.std.specs.Prelude.{◌≡◌, ◌⊎◌, ◌↔◌, ℕ, Bool, IsTrue, List, [], ◌∷◌, ◌++◌};
+ghost use Rattle.std.specs.List.{Contains, list_any, starts_with};
+ghost use Rattle.dtype_base.specs.declared.nullability.Nullability.{Nullability};
+ghost use Rattle.dtype_types.specs.Lookups.{first_named};
+ghost use Rattle.dtype_types.specs.Tree.{Fields, Tree, pairs, struct};
 ghost use Rattle.dtype_types.specs.Valid.{Valid};
 ghost use Rattle.dtype_types.specs.Value.{Of, Value};
 ghost use Rattle.dtype_paths.specs.Around.{around};
-ghost use Rattle.dtype_paths.specs.At.{At};
+ghost use Rattle.dtype_paths.specs.Along.{along};
+ghost use Rattle.dtype_paths.specs.At.{At, step};
 ghost use Rattle.dtype_paths.specs.Beginning.{Beginning};
 ghost use Rattle.dtype_paths.specs.Equality.{same_field, same_path};
 ghost use Rattle.dtype_paths.specs.Hashes.{field_writes, path_writes};
 ghost use Rattle.dtype_paths.specs.Overlaps.{Overlaps};
-ghost use Rattle.dtype_paths.specs.Cover.{Least, SameCoverage};
+ghost use Rattle.dtype_paths.specs.PathSets.{Gains, IsWithin, SameMembers};
+ghost use Rattle.dtype_paths.specs.Cover.{Covers, IsCover, Least, SameCoverage};
 ghost use Rattle.dtype_paths.specs.Found.{Found, FoundIn};
 ghost use Rattle.dtype_paths.specs.Meets.{MeetsNoExtension, MeetsNoSizeZero};
 ghost use Rattle.dtype_paths.specs.declared.field.Field.{Field};
+ghost use Rattle.dtype_paths.specs.declared.field.Field.TheVariants.{Name};
 
 /// Along one path followed by another stands what stands along the second in what stands along the first.
 #[tactic(auto, using(crate::proofs::PathLaws::at_joined))]
@@ -21,9 +30,123 @@ pub fn along_joined()
     ensures { (t u : Tree) (p q : List Field) → At t (p ++ q) u ↔ ((x : Tree) × At t p x × At x q u) }
 {}
 
+/// One step by a name leads where the first field of that name does.
+#[tactic(auto, using(crate::proofs::PathLaws::one_name))]
+pub fn a_step_by_a_name_is_a_field()
+    ensures step { (fs : Fields) (n : Nullability) (m : List ℕ)
+        → step (struct fs n) (Name m) ≡ first_named (pairs fs) m }
+    ensures path { (fs : Fields) (n : Nullability) (m : List ℕ)
+        → along (struct fs n) (Name m ∷ []) ≡ first_named (pairs fs) m }
+{}
+
 /// Every beginning of a path that exists in a type exists in it.
 pub fn beginnings_exist()
     ensures { (t u : Tree) (p q : List Field) → Beginning p q → At t q u → ((x : Tree) × At t p x) }
+{}
+
+/// To have the same members is an equivalence of lists of paths.
+#[tactic(auto, using(crate::proofs::SetLaws::members_same, crate::proofs::SetLaws::members_flipped, crate::proofs::SetLaws::members_joined))]
+pub fn same_members_is_an_equivalence()
+    ensures reflexive { (ps : List (List Field)) → SameMembers ps ps }
+    ensures symmetric { (ps qs : List (List Field)) → SameMembers ps qs → SameMembers qs ps }
+    ensures transitive { (ps qs rs : List (List Field)) → SameMembers ps qs → SameMembers qs rs
+        → SameMembers ps rs }
+{}
+
+/// Lists of paths are ordered by what they have: two that are within one another have the same members.
+#[tactic(auto, using(crate::proofs::SetLaws::within_same, crate::proofs::SetLaws::within_joined, crate::proofs::SetLaws::members_within))]
+pub fn being_within_is_an_order()
+    ensures reflexive { (ps qs : List (List Field)) → SameMembers ps qs → IsWithin ps qs }
+    ensures transitive { (ps qs rs : List (List Field)) → IsWithin ps qs → IsWithin qs rs → IsWithin ps rs }
+    ensures antisymmetric { (ps qs : List (List Field)) → IsWithin ps qs → IsWithin qs ps → SameMembers ps qs }
+    ensures member { (ps qs : List (List Field)) (q : List Field) → IsWithin ps qs → Contains ps q → Contains qs q }
+{}
+
+/// What a set gains is in it, what was there stays, and both are all that it has; a path that was there
+/// changes no member.
+#[tactic(auto, using(crate::proofs::SetLaws::gained_is_there, crate::proofs::SetLaws::old_is_kept, crate::proofs::SetLaws::gained_union, crate::proofs::SetLaws::member_adds_nothing))]
+pub fn sets_gain_members_and_lose_none()
+    ensures gained { (old ps new : List (List Field)) → Gains old ps new → IsWithin ps new }
+    ensures kept { (old ps new : List (List Field)) → Gains old ps new → IsWithin old new }
+    ensures all { (old ps new : List (List Field)) → Gains old ps new → SameMembers new (old ++ ps) }
+    ensures again { (old new : List (List Field)) (p : List Field) → Gains old (p ∷ []) new → Contains old p
+        → SameMembers new old }
+{}
+
+/// To cover the same is an equivalence of lists of paths.
+#[tactic(auto, using(crate::proofs::SetLaws::coverage_same, crate::proofs::CoverLaws::flipped, crate::proofs::SetLaws::coverage_joined))]
+pub fn same_coverage_is_an_equivalence()
+    ensures reflexive { (ps : List (List Field)) → SameCoverage ps ps }
+    ensures symmetric { (ps qs : List (List Field)) → SameCoverage ps qs → SameCoverage qs ps }
+    ensures transitive { (ps qs rs : List (List Field)) → SameCoverage ps qs → SameCoverage qs rs
+        → SameCoverage ps rs }
+{}
+
+/// A list covers its members, and what is below what it covers; a list within another covers no more than
+/// that one.
+#[tactic(auto, using(crate::proofs::CoverLaws::covers_member, crate::proofs::SetLaws::covers_below, crate::proofs::SetLaws::covers_within, crate::proofs::SetLaws::covers_same))]
+pub fn lists_cover_their_members_and_what_is_below()
+    ensures member { (ps : List (List Field)) (p : List Field) → Contains ps p → Covers ps p }
+    ensures below { (ps : List (List Field)) (p q : List Field) → Covers ps p → Beginning p q → Covers ps q }
+    ensures within { (ps qs : List (List Field)) (q : List Field) → IsWithin ps qs → Covers ps q → Covers qs q }
+    ensures same { (ps qs : List (List Field)) (q : List Field) → SameCoverage ps qs → Covers qs q → Covers ps q }
+{}
+
+/// Lists with the same members cover the same, and have the same least paths.
+#[tactic(auto, using(crate::proofs::SetLaws::coverage_of_members, crate::proofs::SetLaws::least_of_members))]
+pub fn same_members_have_the_same_cover()
+    ensures coverage { (ps qs : List (List Field)) → SameMembers ps qs → SameCoverage ps qs }
+    ensures least { (ps qs : List (List Field)) (p : List Field) → SameMembers ps qs → (Least ps p ↔ Least qs p) }
+{}
+
+/// A list of the least paths of another covers what that one covers, and is its own cover.
+#[tactic(auto, using(crate::proofs::SetLaws::coverage_of_cover, crate::proofs::SetLaws::cover_of_cover))]
+pub fn a_cover_is_its_own_cover()
+    ensures coverage { (cover ps : List (List Field)) → ((p : List Field) → Contains cover p ↔ Least ps p)
+        → SameCoverage cover ps }
+    ensures least { (cover ps : List (List Field)) → ((p : List Field) → Contains cover p ↔ Least ps p)
+        → (p : List Field) → Contains cover p ↔ Least cover p }
+{}
+
+/// What has exactly the least paths of a list has them one by one, and where two lists cover the same, their
+/// covers have the same members.
+#[tactic(auto, using(crate::proofs::SetLaws::covers_of_same))]
+pub fn covers_of_the_same_have_the_same_members()
+    ensures least { (cover ps : List (List Field)) (p : List Field) → IsCover cover ps
+        → (Contains cover p ↔ Least ps p) }
+    ensures members { (cover other ps qs : List (List Field)) → IsCover cover ps → IsCover other qs
+        → SameCoverage ps qs → SameMembers cover other }
+{}
+
+/// A path is covered exactly where one of the paths, asked one by one, begins it.
+pub fn what_is_covered_is_told_one_by_one()
+    ensures { (ps qs : List (List Field)) (q : List Field) (b : Bool) → SameCoverage ps qs
+        → b ≡ list_any (λ p. starts_with same_field q p) ps → (IsTrue b ↔ Covers qs q) }
+{}
+
+/// Two lists together cover what either covers, and so do lists that cover the same as they do.
+#[tactic(auto, using(crate::proofs::SetLaws::covers_union, crate::proofs::SetLaws::coverage_of_unions))]
+pub fn two_lists_together_cover_what_either_covers()
+    ensures covers { (ps qs : List (List Field)) (q : List Field)
+        → Covers (ps ++ qs) q ↔ (Covers ps q ⊎ Covers qs q) }
+    ensures coverage { (ps qs rs ts : List (List Field)) → SameCoverage ps qs → SameCoverage rs ts
+        → SameCoverage (ps ++ rs) (qs ++ ts) }
+{}
+
+/// A path that is covered already adds nothing to what is covered.
+#[tactic(auto, using(crate::proofs::SetLaws::covered_adds_nothing))]
+pub fn a_covered_path_adds_nothing()
+    ensures { (old new : List (List Field)) (p : List Field) → Gains old (p ∷ []) new → Covers old p
+        → SameCoverage new old }
+{}
+
+/// Of each path that is covered, one of the least paths is a beginning, and one alone.
+#[tactic(auto, using(crate::proofs::CoverLaws::least_covers, crate::proofs::SetLaws::least_begins_once))]
+pub fn a_cover_has_one_beginning_of_each_covered_path()
+    ensures some { (ps : List (List Field)) (q : List Field) → Covers ps q
+        → ((p : List Field) × Least ps p × Beginning p q) }
+    ensures once { (ps : List (List Field)) (p r q : List Field) → Least ps p → Least ps r → Beginning p q
+        → Beginning r q → p ≡ r }
 {}
 
 /// Two lists of paths have the same least paths exactly where they cover the same.
@@ -56,6 +179,20 @@ pub fn nothing_is_found_where_no_type_is_given()
 pub fn resolution_is_exact_for_values()
     ensures { (t : Tree) (p : List Field) (u : Tree) (v : Value) → Valid t → MeetsNoSizeZero t p
         → At t p u → (Of v u ↔ FoundIn t p v) }
+{}
+
+/// Where a path leads to a type in a valid one, through no fixed size 0, some value lies along it in some
+/// value of the whole.
+pub fn something_is_found_where_a_type_is_given()
+    ensures { (t : Tree) (p : List Field) (u : Tree) → Valid t → MeetsNoSizeZero t p → At t p u
+        → ((v : Value) × FoundIn t p v) }
+{}
+
+/// A type is given exactly where something is found, where the path steps through no fixed size 0 and leads
+/// to no extension on its way.
+pub fn a_type_is_given_exactly_where_something_is_found()
+    ensures { (t : Tree) (p : List Field) → Valid t → MeetsNoSizeZero t p → MeetsNoExtension t p
+        → (((u : Tree) × At t p u) ↔ ((v : Value) × FoundIn t p v)) }
 {}
 
 /// Through a fixed size 0 a value of the type given may lie along the path in no value of the whole.

@@ -1,3 +1,6 @@
+// SPDX-License-Identifier: Apache-2.0
+// SPDX-FileCopyrightText: Copyright the Vortex contributors
+
 //! Field paths, lists of steps into a type; sets of paths, kept as a trie; and masks, which ask for some
 //! paths.
 //!
@@ -10,17 +13,19 @@
 //! definitions are in `specs/`: `At` (what stands along a path in a type), `Found` and `Around` (what lies
 //! along it in a value), `Meets` (what a path meets on its way), `Beginning` (one path begins another),
 //! `Overlaps`, `Cover` (`Covers`, `Least`, `Begun`), `PathSets` (how a set's members change), `In` (a mask
-//! holds a path), `Equality`, `Hashes` and `Texts`; `Rows`, what the trie's own node shows, is for the
+//! holds a path), `Equality`, `Hashes` and `Texts`; `Trie`, what a list of nodes is as a trie, is for the
 //! private contracts alone. `laws` has what follows from the definitions alone. What is proved, and what is
-//! only tested, is in the README.
+//! only tested, is in `docs/SPECIFICATION.md`.
 #![tactic(auto)]
 
+mod children;
 mod field;
 mod field_mask;
 mod field_path;
 mod field_path_set;
 pub mod laws;
 mod node;
+mod trie;
 
 pub use field::Field;
 pub use field_mask::FieldMask;

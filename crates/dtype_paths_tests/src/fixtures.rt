@@ -1,3 +1,6 @@
+// SPDX-License-Identifier: Apache-2.0
+// SPDX-FileCopyrightText: Copyright the Vortex contributors
+
 // What paths and path sets are written as here.
 use dtype_base::VortexResult;
 use dtype_paths::{Field, FieldPath};

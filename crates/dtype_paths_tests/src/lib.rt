@@ -1,6 +1,9 @@
-// Tests of `dtype_native` and `dtype_paths`, a module a topic: worked examples, texts, and each call that takes
-// memory once with ample memory. They stand on what a user sees, the public items alone; what holds of every
-// value is proved in the crates themselves.
+// SPDX-License-Identifier: Apache-2.0
+// SPDX-FileCopyrightText: Copyright the Vortex contributors
+
+//! Tests of `dtype_native` and `dtype_paths`, a module a topic: worked examples, texts, and each call that takes
+//! memory once with ample memory. They stand on what a user sees, the public items alone; what holds of every
+//! value is proved in the crates themselves.
 #![tactic(auto)]
 
 #[cfg(test)]
@@ -14,8 +17,14 @@ mod native_dtypes;
 #[cfg(test)]
 mod native_integers;
 #[cfg(test)]
+mod path_model;
+#[cfg(test)]
 mod path_sets;
 #[cfg(test)]
 mod paths;
+#[cfg(test)]
+mod random_masks;
+#[cfg(test)]
+mod random_path_sets;
 #[cfg(test)]
 mod visitors;

@@ -1,3 +1,6 @@
+// SPDX-License-Identifier: Apache-2.0
+// SPDX-FileCopyrightText: Copyright the Vortex contributors
+
 use dtype_base::VortexResult;
 use dtype_fixtures::is_printed;
 use dtype_paths::{Field, FieldMask, FieldPath, field_path};
@@ -101,5 +104,27 @@ fn what_masks_match(rt: HostRuntime) -> Result<(), Fail> {
     }
     assert_ne!(rt; prefix, exact);
     assert_ne!(rt; prefix_root, FieldMask::All);
+    Ok(())
+}
+
+// One mask of each form, and one more of each form with a path: each differs from all others.
+fn all_forms(alloc: Global) -> VortexResult<Vec<FieldMask>> {
+    let prefix = FieldMask::Prefix(f1(alloc)?);
+    let other_prefix = FieldMask::Prefix(f2(alloc)?);
+    let exact = FieldMask::Exact(f1(alloc)?);
+    let other_exact = FieldMask::Exact(f2(alloc)?);
+    Ok(vec![in alloc; FieldMask::All, prefix, other_prefix, exact, other_exact]?)
+}
+
+#[test]
+fn masks_are_equal_in_form_and_path(rt: HostRuntime) -> Result<(), Fail> {
+    let alloc = rt.alloc();
+    let masks = all_forms(alloc)?;
+    let others = all_forms(alloc)?;
+    for (i, mask) in masks.iter().enumerate() {
+        for (j, other) in others.iter().enumerate() {
+            assert_eq!(rt; mask == other, i == j, "{mask:?} {other:?}");
+        }
+    }
     Ok(())
 }

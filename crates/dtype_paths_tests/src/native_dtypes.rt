@@ -1,3 +1,6 @@
+// SPDX-License-Identifier: Apache-2.0
+// SPDX-FileCopyrightText: Copyright the Vortex contributors
+
 use dtype_base::VortexResult;
 use dtype_native::NativeDType;
 use std::alloc::Global;

@@ -1,3 +1,6 @@
+// SPDX-License-Identifier: Apache-2.0
+// SPDX-FileCopyrightText: Copyright the Vortex contributors
+
 use dtype_base::{PType, VortexError, VortexResult};
 use dtype_native::{
     IntegerPType, NativePType, OffsetBuilderPType, PhysicalPType, ToBytes, TryFromBytes,

@@ -1,3 +1,6 @@
+// SPDX-License-Identifier: Apache-2.0
+// SPDX-FileCopyrightText: Copyright the Vortex contributors
+
 use crate::fixtures::path;
 use dtype_paths::{Field, FieldPath, FieldPathSet};
 use std::alloc::Global;
@@ -179,13 +182,21 @@ fn many_paths(rt: HostRuntime) -> Result<(), Fail> {
     Ok(())
 }
 
+// Nothing goes down a path by the stack.
 #[test]
 fn a_long_path(rt: HostRuntime) -> Result<(), Fail> {
     let alloc = rt.alloc();
-    let long = elements(alloc, 1000)?;
+    let steps = 500_000;
+    let long = elements(alloc, steps)?;
     let mut deep = FieldPathSet::new(alloc);
     deep.insert(long.try_clone()?)?;
     assert!(rt; deep.contains(&long));
-    assert_eq!(rt; counted(deep)?, (1, 1001));
+    assert!(rt; !deep.contains(&elements(alloc, steps - 1)?));
+    assert!(rt; !deep.contains(&elements(alloc, steps + 1)?));
+    deep.insert(elements(alloc, steps + 1)?)?;
+    let copy = deep.try_clone()?;
+    assert!(rt; copy.contains(&long));
+    assert_eq!(rt; copy.iter()?.count(), 2);
+    assert_eq!(rt; counted(copy)?, (1, 500_001));
     Ok(())
 }

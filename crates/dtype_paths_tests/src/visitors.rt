@@ -1,3 +1,6 @@
+// SPDX-License-Identifier: Apache-2.0
+// SPDX-FileCopyrightText: Copyright the Vortex contributors
+
 ghost use Rattle.std.specs.Prelude.{◌≡◌};
 
 use dtype_base::PType;

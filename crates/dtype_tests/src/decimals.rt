@@ -1,3 +1,6 @@
+// SPDX-License-Identifier: Apache-2.0
+// SPDX-FileCopyrightText: Copyright the Vortex contributors
+
 use dtype_base::{DecimalDType, DecimalType, PType, VortexError, VortexResult};
 use dtype_fixtures::is_printed;
 use std::alloc::Global;

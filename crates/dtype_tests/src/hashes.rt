@@ -1,3 +1,6 @@
+// SPDX-License-Identifier: Apache-2.0
+// SPDX-FileCopyrightText: Copyright the Vortex contributors
+
 use dtype_base::{DecimalDType, FieldNames, Nullability, PType, VortexResult};
 use dtype_fixtures::{fixed_size_list, hash_of};
 use dtype_types::{DType, ExtDTypeRef, ExtId, FieldDType, MapDType, StructFields, UnionVariants};

@@ -1,3 +1,6 @@
+// SPDX-License-Identifier: Apache-2.0
+// SPDX-FileCopyrightText: Copyright the Vortex contributors
+
 // Lookups of names in structs.
 use dtype_base::{FieldName, FieldNames, IndexedNames, VortexResult};
 use dtype_fixtures::booleans;

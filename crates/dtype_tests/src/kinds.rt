@@ -1,3 +1,6 @@
+// SPDX-License-Identifier: Apache-2.0
+// SPDX-FileCopyrightText: Copyright the Vortex contributors
+
 use dtype_base::Nullability::{NonNullable, Nullable};
 use dtype_base::{DecimalDType, PType, VortexError, VortexResult};
 use dtype_fixtures::{extension, is_printed, kind_texts, kinds};

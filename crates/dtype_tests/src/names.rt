@@ -1,3 +1,6 @@
+// SPDX-License-Identifier: Apache-2.0
+// SPDX-FileCopyrightText: Copyright the Vortex contributors
+
 use dtype_base::{FieldName, FieldNames, RESERVED_VALIDITY_FIELD_NAME};
 use dtype_fixtures::is_printed;
 use std::collections::HashSet;

@@ -1,4 +1,7 @@
-use dtype_base::{PType, VortexError};
+// SPDX-License-Identifier: Apache-2.0
+// SPDX-FileCopyrightText: Copyright the Vortex contributors
+
+use dtype_base::{MessageFault, PType, VortexError};
 use std::test::Fail;
 
 #[test]
@@ -99,6 +102,49 @@ fn refusals_have_numbers_and_texts(rt: HostRuntime) -> Result<(), Fail> {
     for (number, (error, text)) in refusals.iter().enumerate() {
         assert_eq!(rt; usize::from(error.number()), number);
         assert_eq!(rt; error.to_string(rt.alloc())?.as_str(), *text);
+    }
+    Ok(())
+}
+
+#[test]
+fn faults_of_messages_have_numbers_and_texts(rt: HostRuntime) -> Result<(), Fail> {
+    let faults = [
+        (MessageFault::TypeMissing, "Unrecognized DType"),
+        (MessageFault::PrimitiveNumber, "unknown primitive number"),
+        (MessageFault::PrecisionRange, "precision does not fit in u8"),
+        (MessageFault::ScaleRange, "scale does not fit in i8"),
+        (
+            MessageFault::ListElementMissing,
+            "Invalid list element type",
+        ),
+        (
+            MessageFault::FixedElementMissing,
+            "Invalid fixed-size list element type",
+        ),
+        (MessageFault::MapKeyMissing, "Invalid map key type"),
+        (MessageFault::MapValueMissing, "Invalid map value type"),
+        (
+            MessageFault::StructLengths,
+            "struct names and dtypes length mismatch",
+        ),
+        (MessageFault::TypeIdRange, "type_id does not fit in u8"),
+        (
+            MessageFault::StorageMissing,
+            "Extension DType missing storage proto",
+        ),
+        (
+            MessageFault::ExtensionUnregistered,
+            "Unregistered extension type ID",
+        ),
+        (MessageFault::PathPartMissing, "FieldPath part missing type"),
+    ];
+    assert_eq!(rt; faults.len(), 13);
+    for (place, (fault, text)) in faults.into_iter().enumerate() {
+        assert_eq!(rt; usize::from(fault.number()), 24 + place);
+        assert_eq!(rt; fault.to_string(rt.alloc())?.as_str(), text);
+        let refusal = VortexError::Message(fault);
+        assert_eq!(rt; usize::from(refusal.number()), 24 + place);
+        assert_eq!(rt; refusal.to_string(rt.alloc())?.as_str(), text);
     }
     Ok(())
 }

@@ -1,3 +1,6 @@
+// SPDX-License-Identifier: Apache-2.0
+// SPDX-FileCopyrightText: Copyright the Vortex contributors
+
 use dtype_base::{DecimalDType, Nullability, PType, VortexError, VortexResult};
 use dtype_fixtures::{extension, field, fixed_size_list};
 use dtype_types::DType;

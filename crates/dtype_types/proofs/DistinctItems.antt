@@ -1,3 +1,6 @@
+-- SPDX-License-Identifier: Apache-2.0
+-- SPDX-FileCopyrightText: Copyright the Vortex contributors
+
 -- A set made of a list's items is as long as the list exactly where no two items are equal.
 use Rattle.std.specs.HashSet as bag
 use Rattle.std.proofs.Common.{◌≡◌, ◌≤◌, ℕ, Bool, false, List, [], ◌∷◌, map, length, Bor, nat_eq, nat_lt, sym, ap, ◌∙◌, subst, arith}

@@ -1,3 +1,6 @@
+-- SPDX-License-Identifier: Apache-2.0
+-- SPDX-FileCopyrightText: Copyright the Vortex contributors
+
 -- All that is fed to a hasher of a struct's fields, or of a union's variants: how many there are, and each.
 use Rattle.std.proofs.Common.{◌≡◌, ℕ, suc, List, [], ◌∷◌, length, fold, refl, sym, ap, ◌∙◌}
 use Rattle.std.specs.Hash.{le_bytes}

@@ -1,3 +1,6 @@
+-- SPDX-License-Identifier: Apache-2.0
+-- SPDX-FileCopyrightText: Copyright the Vortex contributors
+
 -- What a type of another kind doesn't hold, and what a struct holds.
 use Rattle.std.proofs.Common.{◌≡◌, ap, ◌∙◌, ℕ, Some, None, refl}
 use Rattle.std.specs.declared.boxed.Box.{Box}
@@ -12,7 +15,7 @@ use Rattle.dtype_types.specs.PartsEquality.{pairs_of}
 use Rattle.dtype_types.specs.TreeOf.{tree, children, choices}
 use denote.Hole.Carrier
 use Rattle.dtype_types.specs.declared.dtype.DType.{out-DType}
-use Rattle.dtype_types.proofs.EvenLists.{valid_map}
+use Rattle.dtype_types.proofs.Validity.{valid_map}
 use Rattle.dtype_types.proofs.TreeLaws.{tree_out, struct_is, union_is, tree_struct, tree_union, triples_variants}
 use Rattle.dtype_types.specs.declared.dtype.DType.{DType, Primitive, Decimal, List as List_of, List', FixedSizeList, FixedSizeList', Map, Map', Struct, Struct', Union, Union', Extension, Extension'}
 use Rattle.dtype_types.specs.declared.struct_fields.StructFields.{StructFields}
@@ -53,12 +56,12 @@ map_parts_none d h = ap map_parts (tree_out d)
 
 pub struct_fields_none : (d : DType) → ((x : StructFields) (n : Nullability) → d ≡ Struct x n → ⊥) → struct_fields (tree d) ≡ None
 unfolding out-DType Carrier.out
-struct_fields_none (Struct' p ns sh row n) h = let e = struct_is p ns sh row n in absurd (h e.0 n e.1)
+struct_fields_none (Struct' p sh row n) h = let e = struct_is p sh row n in absurd (h e.0 n e.1)
 struct_fields_none d h = ap struct_fields (tree_out d)
 
 pub union_variants_none : (d : DType) → ((x : UnionVariants) (n : Nullability) → d ≡ Union x n → ⊥) → union_variants (tree d) ≡ None
 unfolding out-DType Carrier.out
-union_variants_none (Union' p ns sh row gs n) h = let e = union_is p ns sh row gs n in absurd (h e.0 n e.1)
+union_variants_none (Union' p sh row n) h = let e = union_is p sh row n in absurd (h e.0 n e.1)
 union_variants_none d h = ap union_variants (tree_out d)
 
 pub extension_parts_none : (d : DType) → ((x : ExtDTypeRef) → d ≡ Extension x → ⊥) → extension_parts (tree d) ≡ None

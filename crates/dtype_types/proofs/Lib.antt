@@ -1,4 +1,12 @@
+-- SPDX-License-Identifier: Apache-2.0
+-- SPDX-FileCopyrightText: Copyright the Vortex contributors
+
 pub mod TreeLaws
+pub mod Sides
+pub mod Parts
+pub mod Validity
+pub mod Walks
+pub mod Depths
 pub mod FieldLookups
 pub mod OtherKinds
 pub mod KindLaws
@@ -6,8 +14,7 @@ pub mod Turns
 pub mod SameParts
 pub mod SetNullLaws
 pub mod Texts
-pub mod Zips
-pub mod SideBySide
+pub mod PutTogether
 pub mod Outcomes
 pub mod DistinctItems
 pub mod Feeding
@@ -15,11 +22,9 @@ pub mod UnionLaws
 pub mod VariantLookups
 pub mod Widths
 pub mod Projections
-pub mod IndexedFields
 pub mod IndentedTexts
 pub mod SettingLaws
 pub mod TagLaws
-pub mod SampleLaws
 pub mod SubLaws
 pub mod SubValues
 pub mod SubTest
@@ -27,5 +32,3 @@ pub mod TellLaws
 pub mod TellGiven
 pub mod NullValues
 pub mod SizeZero
-pub mod EvenLists
-pub mod OneLists

@@ -1,3 +1,6 @@
+-- SPDX-License-Identifier: Apache-2.0
+-- SPDX-FileCopyrightText: Copyright the Vortex contributors
+
 -- A type of another kind doesn't agree.
 use Rattle.std.proofs.Common.{◌≡◌, ◌&&◌, ap, ◌∙◌, ℕ, List, Bool, false, refl}
 use Rattle.std.specs.declared.boxed.Box.{Box}
@@ -70,12 +73,12 @@ not_map s t u a m d h = ap (agree s (map_of t u a m)) (tree_out d)
 
 pub not_struct : (s : Nullabilities) (fs : Fields) (m : Nullability) (d : DType) → ((x : StructFields) (n : Nullability) → d ≡ Struct x n → ⊥) → agree s (struct fs m) (tree d) ≡ false
 unfolding out-DType Carrier.out
-not_struct s fs m (Struct' p ns sh row n) h = let e = struct_is p ns sh row n in absurd (h e.0 n e.1)
+not_struct s fs m (Struct' p sh row n) h = let e = struct_is p sh row n in absurd (h e.0 n e.1)
 not_struct s fs m d h = ap (agree s (struct fs m)) (tree_out d)
 
 pub not_union : (s : Nullabilities) (vs : Variants) (m : Nullability) (d : DType) → ((x : UnionVariants) (n : Nullability) → d ≡ Union x n → ⊥) → agree s (union vs m) (tree d) ≡ false
 unfolding out-DType Carrier.out
-not_union s vs m (Union' p ns sh row gs n) h = let e = union_is p ns sh row gs n in absurd (h e.0 n e.1)
+not_union s vs m (Union' p sh row n) h = let e = union_is p sh row n in absurd (h e.0 n e.1)
 not_union s vs m d h = ap (agree s (union vs m)) (tree_out d)
 
 pub not_extension : (s : Nullabilities) (i a : List ℕ) (t : Tree) (d : DType) → ((x : ExtDTypeRef) → d ≡ Extension x → ⊥) → agree s (extension i a t) (tree d) ≡ false

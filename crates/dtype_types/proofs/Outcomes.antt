@@ -1,3 +1,6 @@
+-- SPDX-License-Identifier: Apache-2.0
+-- SPDX-FileCopyrightText: Copyright the Vortex contributors
+
 -- Several facts of one outcome.
 use Rattle.std.proofs.Common.{Result, Ok, Err, IfOk}
 

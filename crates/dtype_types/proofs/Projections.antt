@@ -1,3 +1,6 @@
+-- SPDX-License-Identifier: Apache-2.0
+-- SPDX-FileCopyrightText: Copyright the Vortex contributors
+
 -- Looking up one name after another.
 use Rattle.std.proofs.Common.{Bool, true, false, cond, ◌≡◌, ◌≢◌, ℕ, zero, suc, ◌+◌, ◌<◌, List, [], ◌∷◌, ◌++◌, length, map, take, get_or, Option, Some, None, IfSome, IfNone, option_and_then, slice_get, refl, sym, ap, ◌∙◌, arith}
 use Rattle.std.proofs.lemmas.List.{map_push, take_more}
@@ -8,7 +11,7 @@ use Rattle.std.proofs.lemmas.Slice.Eq.{bytes_eq-Decides}
 use Rattle.std.specs.List.{AllByRecursion}
 use Rattle.std.specs.Str.{bytes_eq}
 use Rattle.dtype_base.specs.FieldNames.{FirstAt, IsAbsent, first_place}
-use Rattle.dtype_base.proofs.Places.{place_found}
+use Rattle.dtype_base.specs.Places.{place_found}
 use Rattle.dtype_types.proofs.FieldLookups.{same_name, other_name}
 use Rattle.dtype_types.specs.Lookups.{first_named, field_names, field_types, Projects, IsFirstUnknown}
 use Rattle.dtype_types.specs.Tree.{Tree}

@@ -1,3 +1,6 @@
+-- SPDX-License-Identifier: Apache-2.0
+-- SPDX-FileCopyrightText: Copyright the Vortex contributors
+
 -- When a type can have another nullability.
 use Rattle.std.proofs.Common.{◌≡◌, ℕ, List, Option, Some, None, IsSome, option_and_then, refl}
 use Rattle.dtype_base.specs.declared.nullability.Nullability.TheVariants.{NonNullable}

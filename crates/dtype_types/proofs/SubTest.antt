@@ -1,3 +1,6 @@
+-- SPDX-License-Identifier: Apache-2.0
+-- SPDX-FileCopyrightText: Copyright the Vortex contributors
+
 -- The test of equality with nullabilities of the first within those of the second decides `Sub`.
 use Rattle.std.proofs.Common.{◌≡◌, ◌↔◌, IsTrue, Bool, sym, ◌∙◌, true, refl}
 use Rattle.std.specs.Bool.{Decides}

@@ -1,3 +1,6 @@
+-- SPDX-License-Identifier: Apache-2.0
+-- SPDX-FileCopyrightText: Copyright the Vortex contributors
+
 -- Where one type is below another, its values are values of the other.
 use Rattle.std.proofs.Common.{◌≡◌, ◌∙◌, ℕ, subst, inl, inr}
 use Rattle.dtype_base.specs.Decimals.{Decimal}

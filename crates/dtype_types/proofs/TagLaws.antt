@@ -1,13 +1,22 @@
+-- SPDX-License-Identifier: Apache-2.0
+-- SPDX-FileCopyrightText: Copyright the Vortex contributors
+
 -- The tags of a valid union: none stands at two positions.
-use Rattle.std.proofs.Common.{◌≡◌, ℕ, zero, suc, ◌<◌, ◌==◌, length, get_or, slice_get, Some, None, cond, ap, sym, ◌∙◌, arith}
+use Rattle.std.proofs.Common.{◌≡◌, ℕ, zero, suc, ◌<◌, ◌==◌, Bool, List, length, get_or, slice_get, Option, Some, None, IfSome, cond, refl, ap, sym, subst, ◌∙◌, arith}
 use Rattle.std.specs.List.{position}
 use Rattle.std.proofs.lemmas.Bool.{lt-ltb}
+use Rattle.std.proofs.lemmas.List.{length-map}
+use Rattle.std.proofs.lemmas.List.Quantifiers.{position-Some}
 use Rattle.std.proofs.lemmas.List.Sums.{position_or_len_is}
-use Rattle.std.proofs.lemmas.Option.{slice_get_within, get_or_from_slice_get}
+use Rattle.std.proofs.lemmas.Option.{slice_get_within, slice_get_read, get_or_from_slice_get}
 use Rattle.dtype_types.specs.Tree.{Variants, no_variants, choice, triples}
 use Rattle.dtype_types.specs.Valid.{LacksTag, ValidVariants}
 use Rattle.dtype_types.specs.Lookups.{variant_tags}
-use Rattle.dtype_types.proofs.Turns.{tags_same, tags_differ}
+use Rattle.dtype_types.specs.IsValid.{IsValidUnion}
+use Rattle.dtype_types.specs.TreeOf.{choices, union_tags, union_tree}
+use Rattle.dtype_types.proofs.TreeLaws.{triples_variants}
+use Rattle.dtype_types.proofs.Turns.{tag_at, tags_same, tags_differ}
+use Rattle.dtype_types.specs.declared.union_variants.UnionVariants.{UnionVariants}
 
 lacks_at : (h : ℕ) (vs : Variants) (i : ℕ) → LacksTag h vs → i < length (variant_tags (triples vs)) → ¬ (get_or (variant_tags (triples vs)) i 0 ≡ h)
 lacks_at h no_variants i l within = absurd (omega arith)
@@ -20,7 +29,7 @@ tags_distinct (choice n t g rest) k zero v before within = absurd (omega arith)
 tags_distinct (choice n t g rest) zero (suc i) v before within = λ e. lacks_at g rest i v.3 (omega arith) (sym e)
 tags_distinct (choice n t g rest) (suc k) (suc i) v before within = tags_distinct rest k i v.4 (omega arith) (omega arith)
 
-pub tag_position : (vs : Variants) (i tag : ℕ) → ValidVariants vs → slice_get (variant_tags (triples vs)) i ≡ Some tag → position (λ g. g == tag) (variant_tags (triples vs)) ≡ Some i
+tag_position : (vs : Variants) (i tag : ℕ) → ValidVariants vs → slice_get (variant_tags (triples vs)) i ≡ Some tag → position (λ g. g == tag) (variant_tags (triples vs)) ≡ Some i
 tag_position vs i tag v here =
     let within = slice_get_within (variant_tags (triples vs)) i tag here in
     let is = get_or_from_slice_get (variant_tags (triples vs)) i tag 0 here in
@@ -28,3 +37,19 @@ tag_position vs i tag v here =
     (λ k before. tags_differ _ _ (λ e. tags_distinct vs k i v before within (e ∙ sym is)))
     (λ _. tags_same _ _ is) in
     rw first (ap (λ b. cond b (Some i) None) (lt-ltb i (length (variant_tags (triples vs))) within))
+
+all_tags : (u : UnionVariants) → variant_tags (triples (union_tree u)) ≡ union_tags u
+all_tags u = ap variant_tags (triples_variants (choices u))
+
+pub position_of_tag : (u : UnionVariants) → IsValidUnion u → (i tag : ℕ) → slice_get (union_tags u) i ≡ Some tag → position (λ g. g == tag) (union_tags u) ≡ Some i
+position_of_tag u h i tag here =
+    subst (λ gs. position (λ g. g == tag) gs ≡ Some i) (all_tags u)
+    (tag_position (union_tree u) i tag h.1 (subst (λ gs. slice_get gs i ≡ Some tag) (sym (all_tags u)) here))
+
+pub position_within : (u : UnionVariants) (f : ℕ → Bool) (r : Option ℕ) → r ≡ position f (union_tags u) → IfSome r (λ i. i < length (choices u))
+position_within u f None e = tt
+position_within u f (Some i) e = omega (arith, (position-Some f (union_tags u) i 0 (sym e)).0, length-map (choices u) (λ c. c.2))
+
+-- the tag read at a place
+pub tag_read : (gs hs : List ℕ) (i : ℕ) → hs ≡ gs → i < length gs → slice_get gs i ≡ Some (get_or hs i 0)
+tag_read gs hs i e w = slice_get_read gs (length gs) i (get_or hs i 0) refl w (tag_at gs hs i e w)

@@ -1,3 +1,6 @@
+-- SPDX-License-Identifier: Apache-2.0
+-- SPDX-FileCopyrightText: Copyright the Vortex contributors
+
 -- What `tell` gives is a value of the first type and not of the second.
 use Rattle.std.proofs.Common.{◌≡◌, ◌∙◌, ℕ, List, zero, suc, ◌<◌, Option, Some, None, refl, sym, subst, inl, inr, arith}
 use Rattle.std.specs.Prelude.{option_map, IsSomeAnd}
@@ -10,7 +13,7 @@ use Rattle.dtype_types.specs.Tree.{Tree, Fields, no_fields, field, Variants, no_
 use Rattle.dtype_types.specs.Value.{Value, Of, IncludedIn, NamedOf, VariantOf, Each, null_value, items, row, entries, record_of, tagged, no_values, value, no_entries, entry, named}
 use Rattle.dtype_types.specs.Sample.{sample, samples, copies}
 use Rattle.dtype_types.specs.Tell.{TellsApart, or_else, null_else, tell, tell_fields, tell_variants, HasNoSizeZero, FieldsHaveNoSizeZero, VariantsHaveNoSizeZero}
-use Rattle.dtype_types.proofs.SampleLaws.{sample_of, samples_of, count-copies, each_copy}
+use Rattle.dtype_types.specs.SampleLaws.{sample_of, samples_of, count-copies, each_copy}
 
 -- ---- an answer that says why there is none, or tells P from Q
 

@@ -1,11 +1,11 @@
+-- SPDX-License-Identifier: Apache-2.0
+-- SPDX-FileCopyrightText: Copyright the Vortex contributors
+
 -- Texts in the form in which they are written.
-use Rattle.std.proofs.Common.{◌≡◌, ℕ, ◌<◌, List, [], ◌∷◌, ◌++◌, codes, length, get_or, refl, sym, ap, ◌∙◌, arith, append_assoc, Bool, map}
-use Rattle.std.specs.List.{zip}
-use Rattle.std.proofs.lemmas.Slice.Zip.{get_or-zip}
-use Rattle.std.proofs.lemmas.List.{append-nil, length-map, get_or-map}
+use Rattle.std.proofs.Common.{◌≡◌, ℕ, List, [], ◌∷◌, ◌++◌, codes, refl, sym, ap, ◌∙◌, append_assoc, Bool}
+use Rattle.std.proofs.lemmas.List.{append-nil}
 use Rattle.dtype_base.specs.declared.nullability.Nullability.{Nullability}
 use Rattle.dtype_base.specs.Nullability.{nullability_text}
-use Rattle.dtype_types.specs.Tree.{Tree}
 use Rattle.dtype_types.specs.Text.{text, joined, preceded, tag_text}
 use Rattle.dtype_types.specs.TextOf.{map_text, struct_text, union_text, extension_text}
 use Rattle.dtype_types.specs.TreeOf.{tree}
@@ -67,9 +67,3 @@ pub tagged_text : (done first n t : List ℕ) (g : ℕ) (b k : Bool) → b ≡ k
     → done ++ ((first ++ (n ++ (tag_text b g ++ codes "="))) ++ t) ≡ done ++ (first ++ (n ++ (tag_text k g ++ (codes "=" ++ t))))
 tagged_text done first n t g b k e =
     ap (λ (c : Bool). done ++ ((first ++ (n ++ (tag_text c g ++ codes "="))) ++ t)) e ∙ simp append_assoc
-
--- ---- a pair of what two lists have at a place
-
-pub read_pair : (ns : List (List ℕ)) (ds : List DType) (i : ℕ) (n : List ℕ) (d : DType) → i < length ns → i < length ds → n ≡ get_or ns i n → d ≡ get_or ds i d
-    → (let p : List ℕ × Tree = (n, tree d) in p ≡ get_or (zip ns (map tree ds)) i p)
-read_pair ns ds i n d h k en ed = sym (get_or-zip ns (map tree ds) i (n, tree d) h (omega (arith, length-map ds tree)) ∙ (ap (λ m. (m, get_or (map tree ds) i (tree d))) (sym en) ∙ ap (λ t. (n, t)) (get_or-map tree ds i d (tree d) k ∙ ap tree (sym ed))))

@@ -1,3 +1,6 @@
+-- SPDX-License-Identifier: Apache-2.0
+-- SPDX-FileCopyrightText: Copyright the Vortex contributors
+
 -- The tree of a struct and of a union, by the lists that they hold; what a type of another kind lacks.
 use Rattle.std.specs.Prelude.{◌≡◌, ℕ, List, [], ◌∷◌, refl}
 use Rattle.std.proofs.Common.{ap, sym, ◌∙◌, rules}
@@ -52,12 +55,12 @@ triples_variants [] = refl
 triples_variants (p ∷ ps) = ap (λ qs. p ∷ qs) (triples_variants ps)
 
 -- a row's struct is a struct of a list
-pub struct_is : (p : _) (ns : _) (sh : _) (row : _) (n : Nullability) → (s : StructFields) × (Struct' p ns sh row n ≡ Struct s n)
-struct_is p ns sh row n =
-    let d : DType = Struct' p ns sh row n in
-    (_, sym (roll-out-DType d) ∙ ap roll-DType (outs-Struct' p ns sh row n) ∙ rolls-Struct _ n)
+pub struct_is : (p : _) (sh : _) (row : _) (n : Nullability) → (s : StructFields) × (Struct' p sh row n ≡ Struct s n)
+struct_is p sh row n =
+    let d : DType = Struct' p sh row n in
+    (_, sym (roll-out-DType d) ∙ ap roll-DType (outs-Struct' p sh row n) ∙ rolls-Struct _ n)
 
-pub union_is : (p : _) (ns : _) (sh : _) (row : _) (gs : _) (n : Nullability) → (u : UnionVariants) × (Union' p ns sh row gs n ≡ Union u n)
-union_is p ns sh row gs n =
-    let d : DType = Union' p ns sh row gs n in
-    (_, sym (roll-out-DType d) ∙ ap roll-DType (outs-Union' p ns sh row gs n) ∙ rolls-Union _ n)
+pub union_is : (p : _) (sh : _) (row : _) (n : Nullability) → (u : UnionVariants) × (Union' p sh row n ≡ Union u n)
+union_is p sh row n =
+    let d : DType = Union' p sh row n in
+    (_, sym (roll-out-DType d) ∙ ap roll-DType (outs-Union' p sh row n) ∙ rolls-Union _ n)

@@ -1,5 +1,8 @@
+-- SPDX-License-Identifier: Apache-2.0
+-- SPDX-FileCopyrightText: Copyright the Vortex contributors
+
 -- Going over two lists of fields, or of variants, at once.
-use Rattle.std.proofs.Common.{◌≡◌, ◌⊎◌, ℕ, zero, suc, ◌+◌, ◌<◌, ◌&&◌, ◌==◌, min, List, [], ◌∷◌, length, map, get_or, drop, Bool, true, false, not, refl, sym, ap, ◌∙◌, inl, inr, arith, add-one}
+use Rattle.std.proofs.Common.{◌≡◌, ◌⊎◌, ℕ, zero, suc, ◌+◌, ◌<◌, ◌&&◌, ◌==◌, List, [], ◌∷◌, length, get_or, drop, Bool, true, false, not, refl, sym, ap, ◌∙◌, inl, inr, arith, add-one}
 use Rattle.std.specs.Str.{bytes_eq}
 use Rattle.std.proofs.Math.Bool.{and-false, and-true}
 use Rattle.std.proofs.lemmas.Bool.{false≢true, false_from_ne_true}
@@ -7,10 +10,9 @@ use Rattle.std.proofs.lemmas.Bool.Decides.{Decides-eqb}
 use Rattle.std.proofs.lemmas.List.{get_or_default}
 use Rattle.dtype_types.specs.Tree.{Tree, fields, variants}
 use Rattle.dtype_types.specs.declared.dtype.equality.Nullabilities.{Nullabilities}
-use Rattle.dtype_types.specs.TreeOf.{tree, zip_tagged}
+use Rattle.dtype_types.specs.Lookups.{variant_tags}
 use Rattle.dtype_types.specs.Text.{consecutive}
 use Rattle.dtype_types.specs.Equality.{agree, agree_fields, agree_variants}
-use Rattle.dtype_types.specs.declared.dtype.DType.{DType}
 
 pub and_first : (x y : Bool) → x ≡ false → (x && y) ≡ false
 and_first x y e = ap (λ b. b && y) e
@@ -26,12 +28,6 @@ differ_fields s [] [] h = absurd (h refl)
 differ_fields s [] (q ∷ qs) h = refl
 differ_fields s (p ∷ ps) [] h = refl
 differ_fields s (p ∷ ps) (q ∷ qs) h = and_second (bytes_eq p.0 q.0 && agree s p.1 q.1) _ (differ_fields s ps qs (λ e. h (ap suc e)))
-
-pub count_variants : (ns : List (List ℕ)) (ds : List DType) (gs : List ℕ) → length (zip_tagged ns (map tree ds) gs) ≡ min (min (length ns) (length ds)) (length gs)
-count_variants [] ds gs = omega arith
-count_variants (n ∷ ns) [] gs = omega arith
-count_variants (n ∷ ns) (d ∷ ds) [] = omega arith
-count_variants (n ∷ ns) (d ∷ ds) (g ∷ gs) = omega (arith, count_variants ns ds gs)
 
 pub differ_variants : (s : Nullabilities) (ps qs : List (List ℕ × Tree × ℕ)) → (length ps ≡ length qs → ⊥) → agree_variants s (variants ps) (variants qs) ≡ false
 differ_variants s [] [] h = absurd (h refl)
@@ -105,14 +101,12 @@ pub still_even : {X : Type 0} (ps qs ps' qs' : List X) (p q : X) → length ps �
 still_even ps qs ps' qs' p q even e f = omega (arith, ap length e, ap length f)
 
 -- a tag, and those after it
-consecutive_turn_suc : (ns : List (List ℕ)) (ts : List Tree) (gs : List ℕ) (i k g : ℕ) → i < length (zip_tagged ns ts gs) → g ≡ get_or gs i g
-    → consecutive k (variants (drop i (zip_tagged ns ts gs))) ≡ ((g == k) && consecutive (k + 1) (variants (drop (suc i) (zip_tagged ns ts gs))))
-consecutive_turn_suc [] ts gs i k g h e = absurd (omega arith)
-consecutive_turn_suc (n ∷ ns) [] gs i k g h e = absurd (omega arith)
-consecutive_turn_suc (n ∷ ns) (t ∷ ts) [] i k g h e = absurd (omega arith)
-consecutive_turn_suc (n ∷ ns) (t ∷ ts) (f ∷ gs) zero k g h e = ap (λ z. (z == k) && consecutive (k + 1) (variants (zip_tagged ns ts gs))) (sym e)
-consecutive_turn_suc (n ∷ ns) (t ∷ ts) (f ∷ gs) (suc i) k g h e = consecutive_turn_suc ns ts gs i k g (omega arith) e
+consecutive_turn_suc : (vs : List (List ℕ × Tree × ℕ)) (i k g : ℕ) → i < length vs → g ≡ get_or (variant_tags vs) i g
+    → consecutive k (variants (drop i vs)) ≡ ((g == k) && consecutive (k + 1) (variants (drop (suc i) vs)))
+consecutive_turn_suc [] i k g h e = absurd (omega arith)
+consecutive_turn_suc (v ∷ vs) zero k g h e = ap (λ z. (z == k) && consecutive (k + 1) (variants vs)) (sym e)
+consecutive_turn_suc (v ∷ vs) (suc i) k g h e = consecutive_turn_suc vs i k g (omega arith) e
 
-pub consecutive_turn : (ns : List (List ℕ)) (ts : List Tree) (gs : List ℕ) (i g : ℕ) → i < length (zip_tagged ns ts gs) → g ≡ get_or gs i g
-    → consecutive i (variants (drop i (zip_tagged ns ts gs))) ≡ ((g == i) && consecutive (i + 1) (variants (drop (i + 1) (zip_tagged ns ts gs))))
-consecutive_turn ns ts gs i g h e = consecutive_turn_suc ns ts gs i i g h e ∙ ap (λ j. (g == i) && consecutive (i + 1) (variants (drop j (zip_tagged ns ts gs)))) (sym (add-one i))
+pub consecutive_turn : (vs : List (List ℕ × Tree × ℕ)) (i g : ℕ) → i < length vs → g ≡ get_or (variant_tags vs) i g
+    → consecutive i (variants (drop i vs)) ≡ ((g == i) && consecutive (i + 1) (variants (drop (i + 1) vs)))
+consecutive_turn vs i g h e = consecutive_turn_suc vs i i g h e ∙ ap (λ j. (g == i) && consecutive (i + 1) (variants (drop j vs))) (sym (add-one i))

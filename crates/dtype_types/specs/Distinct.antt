@@ -1,3 +1,6 @@
+-- SPDX-License-Identifier: Apache-2.0
+-- SPDX-FileCopyrightText: Copyright the Vortex contributors
+
 -- Lists in which nothing stands twice, as a union's names and tags must be.
 use Rattle.std.specs.Prelude.{◌≢◌, List, AllPairs}
 

@@ -1,3 +1,6 @@
+-- SPDX-License-Identifier: Apache-2.0
+-- SPDX-FileCopyrightText: Copyright the Vortex contributors
+
 -- The type of a field, before it stands in a struct.
 use Rattle.std.specs.Prelude.{◌≡◌, ℕ, All, List, Option, map, Bool}
 use Rattle.std.specs.Iterator.Runs.{WholeRun}
@@ -9,7 +12,7 @@ use Rattle.dtype_types.specs.declared.struct_fields.StructFields.{StructFields}
 use Rattle.dtype_types.specs.EqualityLaws.{same_dtype, same_dtype_equiv}
 use Rattle.dtype_types.specs.IsValid.{IsValid, IsValidField, IsValidStruct}
 use Rattle.dtype_types.specs.Tree.{Tree, Fields, fields, struct}
-use Rattle.dtype_types.specs.TreeOf.{tree, struct_names, struct_types, IsPaired}
+use Rattle.dtype_types.specs.TreeOf.{tree, children}
 
 -- the tree of a field's type
 abbrev pub field_tree : FieldDType → Tree
@@ -26,9 +29,8 @@ abbrev pub given_fields : List (List ℕ × FieldDType) → Fields
 given_fields given = fields (map (λ p. (p.0, field_tree p.1)) given)
 
 -- the struct's fields are these names and types, in order
-pub record HasFields (s : StructFields) (fields : List (List ℕ × FieldDType)) : Type 0 where
-  pub names : struct_names s ≡ map (λ p. p.0) fields
-  pub types : struct_types s ≡ map (λ p. field_tree p.1) fields
+abbrev pub HasFields : StructFields → List (List ℕ × FieldDType) → Type 0
+HasFields s given = children s ≡ map (λ p. (p.0, field_tree p.1)) given
 
 -- each field's type is valid
 abbrev pub AreValidFields : List (List ℕ × FieldDType) → Type 0
@@ -40,7 +42,7 @@ MadeFrom {I = I} gives next P = (it : I) × gives it × WholeRun next it (λ run
 
 -- the struct is made of these fields: it has them, and is valid where their types are
 abbrev pub IsMadeOf : StructFields → List (List ℕ × FieldDType) → Type 0
-IsMadeOf s given = HasFields s given × IsPaired s × (AreValidFields given → IsValidStruct s)
+IsMadeOf s given = HasFields s given × (AreValidFields given → IsValidStruct s)
 
 -- the type is the struct of these fields, and is valid where their types are
 abbrev pub IsStructOf : Nullability → DType → List (List ℕ × FieldDType) → Type 0

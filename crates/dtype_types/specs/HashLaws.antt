@@ -1,3 +1,6 @@
+-- SPDX-License-Identifier: Apache-2.0
+-- SPDX-FileCopyrightText: Copyright the Vortex contributors
+
 -- Types that are equal feed a hasher alike; types that are equal but for nullabilities do where those are
 -- forgotten.
 use Rattle.std.specs.Prelude.{◌≡◌, suc, ◌++◌, drop, true, refl}

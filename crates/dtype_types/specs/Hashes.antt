@@ -1,3 +1,6 @@
+-- SPDX-License-Identifier: Apache-2.0
+-- SPDX-FileCopyrightText: Copyright the Vortex contributors
+
 -- What a type feeds a hasher, as a list of writes: the number of its kind, all that it holds, and its
 -- nullability, where nullabilities aren't forgotten. Counts stand before lists, and a mark behind texts.
 -- It is a function of the tree, so equal types feed alike.

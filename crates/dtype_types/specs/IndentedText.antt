@@ -1,3 +1,6 @@
+-- SPDX-License-Identifier: Apache-2.0
+-- SPDX-FileCopyrightText: Copyright the Vortex contributors
+
 -- The indented text of fields: a field a line, two spaces deeper than the braces round it. A struct is
 -- written so, a list writes its element so, and every other type is on one line. From the alternate
 -- `Display` of `StructFields`.

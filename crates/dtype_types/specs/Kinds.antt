@@ -1,3 +1,6 @@
+-- SPDX-License-Identifier: Apache-2.0
+-- SPDX-FileCopyrightText: Copyright the Vortex contributors
+
 -- The kind of a type, its outermost variant: what the tests of `DType` look at, and what each variant
 -- holds. An extension's kind is its own, whatever its storage.
 use Rattle.std.specs.Prelude.{ℕ, List, Option, Some, None, Bool, true, false}

@@ -1,3 +1,6 @@
+-- SPDX-License-Identifier: Apache-2.0
+-- SPDX-FileCopyrightText: Copyright the Vortex contributors
+
 -- Laws of the definitions, as the functions of `laws.rt` promise them.
 use Rattle.std.specs.Prelude.{◌≡◌, ◌↔◌, ◌==◌, ℕ, slice_get, Some, IsTrue}
 use Rattle.std.specs.List.{position}
@@ -6,12 +9,10 @@ use Rattle.dtype_types.specs.Tree.{Tree}
 use Rattle.dtype_types.specs.Erase.{erase}
 use Rattle.dtype_types.specs.Nullable.{nullability, SetNull}
 use Rattle.dtype_types.specs.IsValid.{IsValidUnion}
-use Rattle.dtype_types.specs.Lookups.{field_names, field_types, variant_names, variant_types, variant_tags}
 use Rattle.dtype_types.specs.declared.dtype.DType.{DType}
 use Rattle.dtype_types.specs.EqualityLaws.{same_dtype}
 use Rattle.dtype_types.specs.Hashes.{writes, writes_ignoring_nullability}
-use Rattle.dtype_types.specs.TreeOf.{tree, children, struct_names, struct_types, choices, union_names, union_types, union_tags}
-use Rattle.dtype_types.specs.declared.struct_fields.StructFields.{StructFields}
+use Rattle.dtype_types.specs.TreeOf.{tree, union_tags}
 use Rattle.dtype_types.specs.declared.union_variants.UnionVariants.{UnionVariants}
 
 -- `==` agrees with `Hash`: equal types feed a hasher alike
@@ -50,14 +51,3 @@ LastSetNullDecides = (t u v : Tree) (m n : Nullability) → SetNull t m u → (S
 -- in a valid union the first position of the tag that stands at i is i
 abbrev pub TagsTellPositions : Type 0
 TagsTellPositions = (u : UnionVariants) → IsValidUnion u → (i tag : ℕ) → slice_get (union_tags u) i ≡ Some tag → position (λ g. g == tag) (union_tags u) ≡ Some i
-
--- a valid struct's names and types are those of one list of fields
-pub record IsOneListOfFields (s : StructFields) : Type 0 where
-  pub names : field_names (children s) ≡ struct_names s
-  pub types : field_types (children s) ≡ struct_types s
-
--- a valid union's names, types and tags are those of one list of variants
-pub record IsOneListOfVariants (u : UnionVariants) : Type 0 where
-  pub names : variant_names (choices u) ≡ union_names u
-  pub types : variant_types (choices u) ≡ union_types u
-  pub tags : variant_tags (choices u) ≡ union_tags u

@@ -1,3 +1,7 @@
+-- SPDX-License-Identifier: Apache-2.0
+-- SPDX-FileCopyrightText: Copyright the Vortex contributors
+
+pub mod Lists
 pub mod Tree
 pub mod Nullable
 pub mod Valid
@@ -24,5 +28,7 @@ pub mod HashLaws
 pub mod Laws
 pub mod Value
 pub mod Sample
+pub mod SampleLaws
 pub mod Sub
 pub mod Tell
+pub mod formers

@@ -1,3 +1,6 @@
+-- SPDX-License-Identifier: Apache-2.0
+-- SPDX-FileCopyrightText: Copyright the Vortex contributors
+
 -- The type of a map's entries. From the documentation of `MapDType::entries_dtype`.
 use Rattle.std.specs.Prelude.{codes}
 use Rattle.dtype_base.specs.declared.nullability.Nullability.TheVariants.{NonNullable}

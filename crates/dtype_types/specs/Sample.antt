@@ -1,3 +1,6 @@
+-- SPDX-License-Identifier: Apache-2.0
+-- SPDX-FileCopyrightText: Copyright the Vortex contributors
+
 -- A value of each valid type, by recursion on the type: null where it may be, else a plain one.
 use Rattle.std.specs.Prelude.{ℕ, zero, suc, pos, [], false}
 use Rattle.dtype_base.specs.Primitives.{primitive as row_of, Kind}

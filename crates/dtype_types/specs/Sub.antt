@@ -1,3 +1,6 @@
+-- SPDX-License-Identifier: Apache-2.0
+-- SPDX-FileCopyrightText: Copyright the Vortex contributors
+
 -- The order of types by nullability: a is below b where the two are equal but for nullabilities, and b is
 -- nullable wherever a is, at every depth, also in a map's value and in an extension's storage. Then an
 -- array of type a may stand where one of type b is asked, since each value of a is a value of b.

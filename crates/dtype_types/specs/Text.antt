@@ -1,3 +1,6 @@
+-- SPDX-License-Identifier: Apache-2.0
+-- SPDX-FileCopyrightText: Copyright the Vortex contributors
+
 -- The text of a type. A type is written by its kind, what it holds in brackets or braces, and `?` where
 -- it is nullable; names are escaped, ids stand as they are. From the `Display` of `DType`.
 use Rattle.std.specs.Prelude.{ℕ, ◌+◌, ◌==◌, List, [], ◌∷◌, ◌++◌, codes, decimal as digits, length, Bool, true, false, ◌&&◌, if◌then◌else◌}

@@ -1,3 +1,6 @@
+-- SPDX-License-Identifier: Apache-2.0
+-- SPDX-FileCopyrightText: Copyright the Vortex contributors
+
 -- The texts of a type's parts: fields, variants, a map, an extension, its metadata.
 use Rattle.std.specs.Prelude.{ℕ, List, ◌++◌, codes}
 use Rattle.dtype_types.specs.Text.{text, bool_text, joined, field_texts, choice_texts, consecutive, metadata_text}

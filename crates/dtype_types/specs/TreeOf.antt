@@ -1,12 +1,15 @@
--- The tree that a `DType` means, and what its parts show: a struct's names and types, a union's names,
--- types and tags.
-use Rattle.std.specs.Prelude.{◌≡◌, ℕ, List, [], ◌∷◌, map, length, Option, Some, None, Bool as Flag}
+-- SPDX-License-Identifier: Apache-2.0
+-- SPDX-FileCopyrightText: Copyright the Vortex contributors
+
+-- The tree that a `DType` means, and what its parts show: a struct's fields as pairs of a name and a type,
+-- a union's variants as triples of a name, a type and a tag.
+use Rattle.std.specs.Prelude.{ℕ, List, [], ◌∷◌, map, Option, Some, None, Bool as Flag}
 use Rattle.std.specs.Borrow.{Bor}
 use Rattle.std.specs.declared.boxed.Box.{Box}
 use Rattle.std.specs.declared.alloc.Global.{Global}
-use Rattle.std.specs.List.{zip}
+use Rattle.dtype_types.specs.Lists.{seconds, types_of}
+use Rattle.dtype_types.specs.Lookups.{field_names, field_types, variant_names, variant_types, variant_tags}
 use Rattle.dtype_types.specs.Tree.{Tree, Fields, fields, Variants, variants, null, bool, primitive, decimal, utf8, binary, list, fixed_size_list, map_of, struct, union, variant, extension}
-use Rattle.dtype_types.specs.Valid.{ValidVariants, HasVariant}
 use Rattle.dtype_types.specs.declared.dtype.DType.{DType}
 use Rattle.dtype_types.specs.declared.dtype.DType.TheOpen as o
 use Rattle.dtype_types.specs.declared.dtype.DType.TheOpen.{DType-F, ExtDTypeRef-F, MapDType-F, StructFields-F, UnionVariants-F}
@@ -22,6 +25,10 @@ zip_tagged [] ts gs = []
 zip_tagged (n ∷ ns) [] gs = []
 zip_tagged (n ∷ ns) (t ∷ ts) [] = []
 zip_tagged (n ∷ ns) (t ∷ ts) (g ∷ gs) = (n, t, g) ∷ zip_tagged ns ts gs
+
+-- a name, a type and a tag as a triple
+abbrev pub flat : {X : Type 0} → List ℕ × (X × ℕ) → List ℕ × X × ℕ
+flat p = (p.0, p.1.0, p.1.1)
 
 -- what a map and an extension hold, with the trees of their types
 abbrev pub MapParts : Type 0
@@ -53,47 +60,57 @@ abbrev pub map_step : MapDType-F Tree ExtensionParts MapParts Fields Variants �
 map_step m = (m.key.value, m.value.value, m.keys_sorted)
 
 abbrev pub struct_step : StructFields-F Tree ExtensionParts MapParts Fields Variants → Fields
-struct_step s = fields (zip s.shared.value.names s.shared.value.dtypes.items)
+struct_step s = fields s.shared.value
 
 abbrev pub union_step : UnionVariants-F Tree ExtensionParts MapParts Fields Variants → Variants
-union_step u = variants (zip_tagged u.shared.value.names u.shared.value.dtypes.items u.shared.value.type_ids.items)
+union_step u = variants (map flat u.shared.value)
 
 -- the tree of a type
 abbrev pub tree : DType → Tree
 tree = fold-DType Tree ExtensionParts MapParts Fields Variants type_step extension_step map_step struct_step union_step
 
--- a struct's names, its types, and its fields as pairs of them
-abbrev pub struct_names : StructFields → List (List ℕ)
-struct_names s = s.shared.value.names
+-- a struct's fields, as it holds them and with the trees of their types
+abbrev pub struct_pairs : StructFields → List (List ℕ × DType)
+struct_pairs s = s.shared.value
 
-abbrev pub struct_dtypes : StructFields → List DType
-struct_dtypes s = s.shared.value.dtypes.items
-
-abbrev pub struct_types : StructFields → List Tree
-struct_types s = map tree (struct_dtypes s)
+abbrev pub with_trees : List (List ℕ × DType) → List (List ℕ × Tree)
+with_trees ps = map (λ p. (p.0, tree p.1)) ps
 
 abbrev pub children : StructFields → List (List ℕ × Tree)
-children s = zip (struct_names s) (struct_types s)
+children s = with_trees (struct_pairs s)
 
--- as many names as types, as in every struct that the constructors make
-abbrev pub IsPaired : StructFields → Type 0
-IsPaired s = length (struct_names s) ≡ length (struct_types s)
+-- the names and the types of a struct's fields
+abbrev pub struct_names : StructFields → List (List ℕ)
+struct_names s = field_names (children s)
 
--- a union's names, types and tags, and its variants as triples of them
-abbrev pub union_names : UnionVariants → List (List ℕ)
-union_names u = u.shared.value.names
+abbrev pub struct_types : StructFields → List Tree
+struct_types s = field_types (children s)
 
-abbrev pub union_dtypes : UnionVariants → List DType
-union_dtypes u = u.shared.value.dtypes.items
+abbrev pub struct_dtypes : StructFields → List DType
+struct_dtypes s = seconds (struct_pairs s)
 
-abbrev pub union_types : UnionVariants → List Tree
-union_types u = map tree (union_dtypes u)
+-- a union's variants, as it holds them and with the trees of their types
+abbrev pub union_triples : UnionVariants → List (List ℕ × (DType × ℕ))
+union_triples u = u.shared.value
 
-abbrev pub union_tags : UnionVariants → List ℕ
-union_tags u = u.shared.value.type_ids.items
+abbrev pub with_tagged_trees : List (List ℕ × (DType × ℕ)) → List (List ℕ × Tree × ℕ)
+with_tagged_trees ps = map flat (map (λ p. (p.0, (tree p.1.0, p.1.1))) ps)
 
 abbrev pub choices : UnionVariants → List (List ℕ × Tree × ℕ)
-choices u = zip_tagged (union_names u) (union_types u) (union_tags u)
+choices u = with_tagged_trees (union_triples u)
+
+-- the names, the types and the tags of a union's variants
+abbrev pub union_names : UnionVariants → List (List ℕ)
+union_names u = variant_names (choices u)
+
+abbrev pub union_types : UnionVariants → List Tree
+union_types u = variant_types (choices u)
+
+abbrev pub union_dtypes : UnionVariants → List DType
+union_dtypes u = types_of (union_triples u)
+
+abbrev pub union_tags : UnionVariants → List ℕ
+union_tags u = variant_tags (choices u)
 
 -- a map's key, its value, and whether the keys are sorted
 abbrev pub map_key : MapDType → DType
@@ -153,7 +170,3 @@ struct_tree s = fields (children s)
 
 abbrev pub union_tree : UnionVariants → Variants
 union_tree u = variants (choices u)
-
--- at least one variant, and what holds of the variants of a valid union
-abbrev pub ValidUnion : UnionVariants → Type 0
-ValidUnion u = HasVariant (union_tree u) × ValidVariants (union_tree u)

@@ -1,3 +1,6 @@
+-- SPDX-License-Identifier: Apache-2.0
+-- SPDX-FileCopyrightText: Copyright the Vortex contributors
+
 -- Which names, types and tags make a union, and which refusal they earn where they don't. From the
 -- documentation of `UnionVariants::try_new` and `UnionVariants::new`.
 use Rattle.std.specs.Prelude.{◌≡◌, ◌≢◌, ℕ, List, [], length}

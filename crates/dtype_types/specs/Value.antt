@@ -1,3 +1,6 @@
+-- SPDX-License-Identifier: Apache-2.0
+-- SPDX-FileCopyrightText: Copyright the Vortex contributors
+
 -- Values as finite trees, and which of them are of which type. From the documentation of `DType`: null is
 -- of exactly the nullable types, and every other value is of a type by its kind. A list, a row, a map, a
 -- struct and a union value are five kinds, equal neither to one another nor to any other. Nothing here

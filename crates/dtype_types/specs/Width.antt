@@ -1,3 +1,6 @@
+-- SPDX-License-Identifier: Apache-2.0
+-- SPDX-FileCopyrightText: Copyright the Vortex contributors
+
 -- How many bytes a value takes, for the types whose values all take as many. From the documentation of
 -- `DType::element_size`: `Null` takes none, a truth value one, a number its own, a list of one length that
 -- many times its element's, a struct the sum of its fields', an extension its storage's.

@@ -1,3 +1,6 @@
+// SPDX-License-Identifier: Apache-2.0
+// SPDX-FileCopyrightText: Copyright the Vortex contributors
+
 // `DType`, the type, and its calls, in a file a topic.
 mod comparison;
 mod constructors;
@@ -16,6 +19,10 @@ use dtype_base::{DecimalDType, Nullability, PType};
 pub use kinds::Kind;
 
 /// A logical type: what values may be, whatever the layout in which they are stored.
+///
+/// `{id=u64, tags=list(utf8)?}` is a non-nullable struct of two fields, the second a nullable list of texts:
+/// made by `DType::struct_` of `DType::from(PType::U64)` and of `DType::list` over `DType::Utf8`, and printed
+/// so.
 #[derive(Debug, Drop)]
 #[cycle(dtype)]
 pub enum DType {

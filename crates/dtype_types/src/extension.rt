@@ -1,3 +1,6 @@
+// SPDX-License-Identifier: Apache-2.0
+// SPDX-FileCopyrightText: Copyright the Vortex contributors
+
 ghost use Rattle.std.specs.Prelude.{◌≡◌, ◌↔◌, ℕ, IsTrue, IfOk, IsOkUnless, All, ◌<◌, List, Some, nat_eq, fold};
 ghost use Rattle.std.specs.Prelude.{◌&&◌};
 ghost use Rattle.std.specs.Str.{bytes_eq};
@@ -113,7 +116,7 @@ impl ExtDTypeRef {
     ghost use Rattle.dtype_types.specs.Nullable.{nullability, IsNullable, CanBeNonNullable, SetNull};
     ghost use Rattle.dtype_types.specs.Equality.{agree};
     ghost use Rattle.dtype_types.specs.Erase.{erase};
-    ghost use Rattle.dtype_types.specs.IsValid.{IsValid, IsValidExtension, has_even_storage};
+    ghost use Rattle.dtype_types.specs.IsValid.{IsValid, IsValidExtension};
     ghost use Rattle.dtype_types.specs.HashesOf.{extension_writes};
     ghost use Rattle.dtype_types.specs.TreeOf.{extension_tree, extension_metadata, extension_id, storage_tree, tree};
     ghost use Rattle.dtype_types.specs.Width.{Measures};
@@ -242,7 +245,6 @@ impl ExtDTypeRef {
     #[cycle(copy)]
     pub fn try_clone(&self, alloc: Global) -> VortexResult<Self>
         ensures same { IfOk result (λ e. extension_tree e ≡ extension_tree self.now) }
-        ensures even { IfOk result (λ e. has_even_storage e ≡ has_even_storage self.now) }
         ensures valid { IsValidExtension self.now → IfOk result IsValidExtension }
         ensures refused { IsOkUnless result OutOfMemory }
     {
@@ -286,7 +288,6 @@ impl ExtDTypeRef {
     pub fn with_nullability(&self, alloc: Global, n: Nullability) -> VortexResult<Self>
         requires { n ≡ Nullability.NonNullable → CanBeNonNullable (extension_tree self.now) }
         ensures set { IfOk result (λ e. SetNull (extension_tree self.now) n (extension_tree e)) }
-        ensures even { IfOk result (λ e. has_even_storage e ≡ has_even_storage self.now) }
         ensures valid { IsValidExtension self.now → IfOk result IsValidExtension }
         ensures refused { IsOkUnless result OutOfMemory }
     {

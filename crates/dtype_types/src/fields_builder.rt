@@ -1,3 +1,6 @@
+// SPDX-License-Identifier: Apache-2.0
+// SPDX-FileCopyrightText: Copyright the Vortex contributors
+
 // A struct's fields while they are put together.
 ghost use Rattle.std.specs.Prelude.{◌≡◌, vec_len};
 
@@ -14,16 +17,14 @@ pub(crate) struct FieldsBuilder {
 }
 
 impl FieldsBuilder {
-    ghost use Rattle.std.specs.Prelude.{◌++◌, [], ◌∷◌, map, All, IfOk, IsOkUnless};
+    ghost use Rattle.std.specs.Prelude.{◌++◌, [], ◌∷◌, IfOk, IsOkUnless};
     ghost use Rattle.dtype_base.specs.declared.vortex_error.VortexError.TheVariants.{OutOfMemory};
-    ghost use Rattle.dtype_types.specs.Building.{dtypes_so_far, fields_so_far};
-    ghost use Rattle.dtype_types.specs.IsValid.{IsValid, IsValidStruct};
-    ghost use Rattle.dtype_types.specs.TreeOf.{IsPaired, children, struct_names, tree, struct_types};
+    ghost use Rattle.dtype_types.specs.Building.{fields_so_far};
+    ghost use Rattle.dtype_types.specs.TreeOf.{children, tree};
 
     // No fields yet, and room for some.
     pub(crate) fn with_capacity(alloc: Global, capacity: usize) -> VortexResult<Self>
         ensures ok { IfOk result (λ b. fields_so_far b ≡ []) }
-        ensures dtypes { IfOk result (λ b. dtypes_so_far b ≡ []) }
         ensures refused { IsOkUnless result OutOfMemory }
     {
         Ok(FieldsBuilder {
@@ -33,11 +34,10 @@ impl FieldsBuilder {
     }
 
     // One more field, behind the others.
-    #[tactic(auto, using(crate::proofs::Zips::zip_push))]
+    #[tactic(auto, using(crate::proofs::PutTogether::zip_push))]
     pub(crate) fn push(self, name: FieldName, dtype: DType) -> VortexResult<Self>
         ensures ok { IfOk result
             (λ b. fields_so_far b ≡ fields_so_far self ++ (name, tree dtype) ∷ []) }
-        ensures dtypes { IfOk result (λ b. dtypes_so_far b ≡ dtypes_so_far self ++ dtype ∷ []) }
         ensures refused { IsOkUnless result OutOfMemory }
     {
         let FieldsBuilder {
@@ -50,13 +50,8 @@ impl FieldsBuilder {
     }
 
     // The struct of these fields.
-    #[tactic(auto, using(crate::proofs::Zips::unzipped))]
     pub(crate) fn finish(self, alloc: Global) -> VortexResult<StructFields>
-        ensures names { IfOk result (λ s. struct_names s ≡ map (λ p. p.0) (fields_so_far self)) }
-        ensures types { IfOk result (λ s. struct_types s ≡ map (λ p. p.1) (fields_so_far self)) }
         ensures fields { IfOk result (λ s. children s ≡ fields_so_far self) }
-        ensures paired { IfOk result IsPaired }
-        ensures valid { All IsValid (dtypes_so_far self) → IfOk result IsValidStruct }
         ensures refused { IsOkUnless result OutOfMemory }
     {
         StructFields::new(alloc, FieldNames::from_vec(self.names), self.dtypes)

@@ -1,19 +1,25 @@
-// What follows from the definitions of types alone. Each function's contract is the law, and its body is
-// empty.
+// SPDX-License-Identifier: Apache-2.0
+// SPDX-FileCopyrightText: Copyright the Vortex contributors
+
+// What follows from the definitions of types alone. Each function's contract is the law; one gives the
+// constant that its law is on, and every other body is empty.
 ghost use Rattle.std.specs.Prelude.{◌≡◌, ◌↔◌, None};
 ghost use Rattle.dtype_base.specs.declared.nullability.Nullability.{Nullability};
 ghost use Rattle.dtype_base.specs.declared.nullability.Nullability.TheVariants.{NonNullable, Nullable};
 ghost use Rattle.dtype_base.specs.declared.ptype.PType.TheVariants.{U8};
-ghost use Rattle.dtype_types.specs.Laws.{EqualTypesFeedAlike, IsAntisymmetric, IsReflexive, IsTransitive, IsOneListOfFields, IsOneListOfVariants, LastSetNullDecides, SameIgnoring, SameIgnoringFeedAlike, SetNullKeepsErase, SetNullSets, TagsTellPositions};
+ghost use Rattle.dtype_types.specs.Laws.{EqualTypesFeedAlike, IsAntisymmetric, IsReflexive, IsTransitive, LastSetNullDecides, SameIgnoring, SameIgnoringFeedAlike, SetNullKeepsErase, SetNullSets, TagsTellPositions};
 ghost use Rattle.dtype_types.specs.Nullable.{IsNullable, SetNull};
 ghost use Rattle.dtype_types.specs.Sample.{sample};
 ghost use Rattle.dtype_types.specs.Sub.{Sub};
 ghost use Rattle.dtype_types.specs.Tell.{HasNoSizeZero, TellsApart, tell};
 ghost use Rattle.dtype_types.specs.Valid.{Valid};
 ghost use Rattle.dtype_types.specs.Value.{AddsNull, IncludedIn, Of, null_value};
-ghost use Rattle.dtype_types.specs.IsValid.{IsValid, IsValidStruct, IsValidUnion};
-ghost use Rattle.dtype_types.specs.Tree.{Tree, primitive, struct, union};
-ghost use Rattle.dtype_types.specs.TreeOf.{struct_tree, tree, union_tree};
+ghost use Rattle.dtype_types.specs.IsValid.{IsValid, IsValidExtension, IsValidMap, IsValidStruct, IsValidUnion};
+ghost use Rattle.dtype_types.specs.Tree.{Tree, primitive};
+ghost use Rattle.dtype_types.specs.TreeOf.{tree};
+ghost use Rattle.dtype_types.specs.declared.dtype.DType.{Extension, Map, Struct, Union};
+ghost use Rattle.dtype_types.specs.declared.extension.ExtDTypeRef.{ExtDTypeRef};
+ghost use Rattle.dtype_types.specs.declared.map.MapDType.{MapDType};
 ghost use Rattle.dtype_types.specs.declared.struct_fields.StructFields.{StructFields};
 ghost use Rattle.dtype_types.specs.declared.union_variants.UnionVariants.{UnionVariants};
 
@@ -49,28 +55,25 @@ pub fn tags_tell_positions()
     ensures { TagsTellPositions }
 {}
 
-/// What a valid struct's calls say, they say of one list of fields: `names` and `nfields`, as those that
-/// look up a field and `fields` do.
-pub fn valid_structs_are_one_list()
-    ensures { (s : StructFields) → IsValidStruct s → IsOneListOfFields s }
-{}
-
-/// What a valid union's calls say, they say of one list of variants: `names`, `type_ids`, `len` and the
-/// calls on tags, as those that look up a variant and `variants` do.
-pub fn valid_unions_are_one_list()
-    ensures { (u : UnionVariants) → IsValidUnion u → IsOneListOfVariants u }
-{}
-
-/// The tree of a valid struct, and of a valid union, is valid.
+/// The type that a public variant of `DType` makes of a valid struct, union, map or extension is valid.
+#[tactic(auto, using(crate::proofs::Validity::parts_make_types))]
 pub fn valid_parts_make_valid_types()
-    ensures structs { (s : StructFields) (n : Nullability) → IsValidStruct s
-        → Valid (struct (struct_tree s) n) }
-    ensures unions { (u : UnionVariants) (n : Nullability) → IsValidUnion u
-        → Valid (union (union_tree u) n) }
+    ensures structs { (s : StructFields) (n : Nullability) → IsValidStruct s → IsValid (Struct s n) }
+    ensures unions { (u : UnionVariants) (n : Nullability) → IsValidUnion u → IsValid (Union u n) }
+    ensures maps { (m : MapDType) (n : Nullability) → IsValidMap m → IsValid (Map m n) }
+    ensures extensions { (e : ExtDTypeRef) → IsValidExtension e → IsValid (Extension e) }
+{}
+
+/// What a public variant of `DType` holds is valid where the type is.
+pub fn valid_types_have_valid_parts()
+    ensures structs { (s : StructFields) (n : Nullability) → IsValid (Struct s n) → IsValidStruct s }
+    ensures unions { (u : UnionVariants) (n : Nullability) → IsValid (Union u n) → IsValidUnion u }
+    ensures maps { (m : MapDType) (n : Nullability) → IsValid (Map m n) → IsValidMap m }
+    ensures extensions { (e : ExtDTypeRef) → IsValid (Extension e) → IsValidExtension e }
 {}
 
 /// The sample of a valid type is a value of it, so each valid type has a value.
-#[tactic(auto, using(crate::proofs::SampleLaws::sample_of))]
+#[tactic(auto, using(crate::specs::SampleLaws::sample_of))]
 pub fn samples_are_values()
     ensures { (t : Tree) → Valid t → Of (sample t) t }
 {}

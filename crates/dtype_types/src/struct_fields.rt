@@ -1,6 +1,9 @@
-ghost use Rattle.std.specs.Prelude.{◌≡◌, ◌↔◌, IsTrue, ◌≤◌, ◌<◌, ◌++◌, ◌∷◌, ℕ, List, [], slice_index_or, length, map, remove, take, vec_len, All, IfOk, IfErr, IfSome, IsOk, IsOkUnless, slice_get, IfNone, Some, fold, OnOk, string_bytes, option_and_then};
+// SPDX-License-Identifier: Apache-2.0
+// SPDX-FileCopyrightText: Copyright the Vortex contributors
+
+ghost use Rattle.std.specs.Prelude.{◌≡◌, ◌↔◌, IsTrue, ◌<◌, ◌++◌, ◌∷◌, ℕ, List, [], slice_index_or, length, map, remove, vec_len, All, IfOk, IfErr, IfSome, IsOk, IsOkUnless, slice_get, IfNone, Some, fold, OnOk, string_bytes, option_and_then};
 ghost use Rattle.std.specs.Iterator.{IsFinite};
-ghost use Rattle.std.specs.List.{AllByRecursion};
+ghost use Rattle.std.specs.List.{AllByRecursion, zip};
 ghost use Rattle.std.specs.Option.{option_copied};
 ghost use Rattle.dtype_base.specs.FieldNames.{FirstAt, IsAbsent, first_place};
 ghost use Rattle.dtype_base.specs.NameOrder.{IsWithinDigits};
@@ -12,7 +15,8 @@ use crate::dtype::indented_text::start_field;
 use crate::dtype::width::Width;
 use crate::field_dtype::into_dtypes;
 use crate::fields_builder::FieldsBuilder;
-use crate::{DType, DTypeIter, FieldDType};
+use crate::named::Named;
+use crate::{DType, DTypeIter, FieldDType, FieldIter};
 use dtype_base::{FieldName, FieldNames, IndexedNames, VortexError, VortexResult};
 use std::alloc::Global;
 use std::fmt;
@@ -21,21 +25,17 @@ use std::rc::Rc;
 
 /// The fields of a struct in order, each a name and a type. Names may repeat: every access by name
 /// means the first.
+///
+/// Of the fields `int_col=i32?, int_col=i64?`, `field("int_col")` is `i32?` and `find` is 0; a projection to
+/// `int_col, int_col` has `i32?` twice.
 #[derive(Debug, Drop)]
 #[cycle(dtype)]
 pub struct StructFields {
     shared: Rc<Named<DType>>,
 }
 
-// Names and what they name, at the same places.
-#[derive(Debug, Drop)]
-struct Named<T> {
-    names: IndexedNames,
-    dtypes: Vec<T>,
-}
-
 impl StructFields {
-    ghost use Rattle.dtype_types.specs.Building.{dtypes_so_far, fields_so_far};
+    ghost use Rattle.dtype_types.specs.Building.{fields_so_far};
     ghost use Rattle.dtype_types.specs.Equality.{agree_fields};
     ghost use Rattle.dtype_types.specs.Erase.{erase_fields};
     ghost use Rattle.dtype_types.specs.FieldTypes.{field_tree, IsMadeOf, MadeFrom};
@@ -44,7 +44,7 @@ impl StructFields {
     ghost use Rattle.dtype_types.specs.Distinct.{Distinct};
     ghost use Rattle.dtype_types.specs.HashesOf.{struct_writes};
     ghost use Rattle.dtype_types.specs.Tree.{Tree};
-    ghost use Rattle.dtype_types.specs.TreeOf.{struct_tree, IsPaired, struct_names, struct_dtypes, struct_types, children, tree, option_tree};
+    ghost use Rattle.dtype_types.specs.TreeOf.{struct_tree, struct_names, struct_dtypes, struct_pairs, struct_types, children, tree, option_tree, with_trees};
     ghost use Rattle.dtype_types.specs.IsValid.{IsValid, IsValidField, IsValidStruct};
     ghost use Rattle.dtype_types.specs.Width.{MeasuresFields};
 
@@ -59,16 +59,17 @@ impl StructFields {
     }
 
     /// The fields of these names and types, as many names as types. Refuses 0 (OutOfMemory) alone.
+    #[tactic(auto, using(crate::proofs::Sides::pairs, crate::proofs::Parts::fields))]
     pub fn new(alloc: Global, names: FieldNames, dtypes: Vec<DType>) -> VortexResult<Self>
         requires { length names ≡ vec_len dtypes }
         ensures names { IfOk result (λ s. struct_names s ≡ names) }
         ensures types { IfOk result (λ s. struct_types s ≡ map tree dtypes.items) }
-        ensures paired { IfOk result IsPaired }
+        ensures fields { IfOk result (λ s. children s ≡ zip names (map tree dtypes.items)) }
         ensures valid { All IsValid dtypes.items → IfOk result IsValidStruct }
         ensures refused { IsOkUnless result OutOfMemory }
     {
         let names = IndexedNames::new(alloc, names)?;
-        let shared = Rc::new(alloc, Named { names, dtypes })?;
+        let shared = Rc::new(alloc, Named::new(names, dtypes))?;
         Ok(StructFields { shared })
     }
 
@@ -81,7 +82,6 @@ impl StructFields {
         requires { length names ≡ vec_len dtypes }
         ensures names { IfOk result (λ s. struct_names s ≡ names) }
         ensures types { IfOk result (λ s. struct_types s ≡ map field_tree dtypes.items) }
-        ensures paired { IfOk result IsPaired }
         ensures valid { All IsValidField dtypes.items → IfOk result IsValidStruct }
         ensures refused { IsOkUnless result OutOfMemory }
     {
@@ -109,43 +109,48 @@ impl StructFields {
         StructFields::new(alloc, FieldNames::from_vec(names), dtypes)
     }
 
-    // How many fields there are: as far as both lists go.
-    fn count(&self) -> usize
-        ensures all { result ≡ length (children self.now) }
-        ensures names { result ≤ length (struct_names self.now) }
-        ensures dtypes { result ≤ length (struct_dtypes self.now) }
-    {
-        self.names().len().min(self.dtypes().len())
-    }
-
     /// The names, in order.
+    #[tactic(auto, using(crate::proofs::Parts::fields))]
     pub fn names(&self) -> &FieldNames
         ensures { result.now ≡ struct_names self.now }
     {
-        self.shared.names.names()
+        self.shared.names()
     }
 
-    // The types, also of fields that have no name, which no struct that is made has.
+    // The types, in order.
+    #[tactic(auto, using(crate::proofs::Parts::fields))]
     fn dtypes(&self) -> &[DType]
-        ensures { result.now ≡ struct_dtypes self.now }
+        ensures lent { result.now ≡ struct_dtypes self.now }
+        ensures all { map tree result.now ≡ field_types (children self.now) }
+        ensures valid { IsValidStruct self.now → All IsValid result.now }
     {
-        &self.shared.dtypes
+        self.shared.dtypes()
+    }
+
+    /// The fields, in order, each its name and its type, lent.
+    #[tactic(auto, using(crate::proofs::Sides::pairs))]
+    pub fn pairs(&self) -> FieldIter<'_>
+        ensures lent { result ≡ struct_pairs self.now }
+        ensures all { with_trees result ≡ children self.now }
+        ensures valid { IsValidStruct self.now → All (λ p. IsValid p.1) result }
+    {
+        FieldIter::new(self.shared.names().as_slice(), self.shared.dtypes())
     }
 
     /// How many fields there are.
+    #[tactic(auto, using(crate::proofs::Parts::fields))]
     pub fn nfields(&self) -> usize
         ensures all { result ≡ length (children self.now) }
-        ensures names { result ≤ length (struct_names self.now) }
-        ensures exact { IsValidStruct self.now → result ≡ length (struct_names self.now) }
+        ensures names { result ≡ length (struct_names self.now) }
     {
-        self.count()
+        self.shared.len()
     }
 
     /// The name of the field at this position, or `None` at or past the end.
     pub fn field_name(&self, index: usize) -> Option<&FieldName>
         ensures { option_copied result ≡ slice_get (field_names (children self.now)) index }
     {
-        self.paired_names().get(index)
+        self.names().as_slice().get(index)
     }
 
     /// The position of the first field of the name, or `None` where no field has it.
@@ -161,17 +166,14 @@ impl StructFields {
 
     /// What `find` gives, and how many names were compared for it: at most one more than the binary
     /// digits of the number of fields, of which 0 has none. Takes no memory.
+    #[tactic(auto, using(crate::proofs::Parts::fields))]
     pub fn find_counted(&self, name: &str) -> (Option<usize>, u64)
         ensures found { IfSome result.0 (FirstAt (field_names (children self.now)) name.now) }
         ensures none { IfNone result.0 (IsAbsent (field_names (children self.now)) name.now) }
-        ensures most { IsPaired self.now → IsWithinDigits (length (children self.now)) result.1 }
+        ensures most { IsWithinDigits (length (children self.now)) result.1 }
         ensures least { IfSome result.0 (λ _. 0 < result.1) }
     {
-        let (found, compared) = self.shared.names.find_counted(name);
-        match found {
-            Some(position) if position < self.count() => (Some(position), compared),
-            _ => (None, compared),
-        }
+        self.shared.find_counted(name)
     }
 
     /// The type of the first field of the name, or `None` where no field has it.
@@ -187,7 +189,7 @@ impl StructFields {
         ensures at { option_tree result ≡ slice_get (field_types (children self.now)) index }
         ensures valid { IsValidStruct self.now → IfSome result (λ d. IsValid d.now) }
     {
-        self.paired_dtypes().get(index)
+        self.dtypes().get(index)
     }
 
     /// The types, in order, lent.
@@ -195,7 +197,7 @@ impl StructFields {
         ensures all { map tree result ≡ field_types (children self.now) }
         ensures valid { IsValidStruct self.now → All IsValid result }
     {
-        DTypeIter::new(self.paired_dtypes())
+        DTypeIter::new(self.dtypes())
     }
 
     /// The types, in order, lent: the same as `fields`.
@@ -204,15 +206,6 @@ impl StructFields {
         ensures valid { IsValidStruct self.now → All IsValid result }
     {
         self.fields()
-    }
-
-    // The types that have a name, which are all of them in every struct that is made.
-    fn paired_dtypes(&self) -> &[DType]
-        ensures lent { result.now ≡ take (length (children self.now)) (struct_dtypes self.now) }
-        ensures all { map tree result.now ≡ field_types (children self.now) }
-        ensures valid { IsValidStruct self.now → All IsValid result.now }
-    {
-        &self.dtypes()[..self.count()]
     }
 
     /// Whether the fields are equal with every nullability in them ignored.
@@ -228,13 +221,11 @@ impl StructFields {
     pub(crate) fn agree(&self, other: &StructFields, rule: Nullabilities) -> bool
         ensures { result ≡ agree_fields rule (struct_tree self.now) (struct_tree other.now) }
     {
-        let count = self.count();
-        if other.count() != count {
+        let count = self.nfields();
+        if other.nfields() != count {
             return false;
         }
-        let fields = self.names().as_slice().iter().zip(self.dtypes());
-        let others = other.names().as_slice().iter().zip(other.dtypes());
-        for ((name, dtype), (other_name, other_dtype)) in fields.zip(others) {
+        for ((name, dtype), (other_name, other_dtype)) in self.pairs().zip(other.pairs()) {
             if name != other_name {
                 return false;
             }
@@ -251,7 +242,7 @@ impl StructFields {
         ensures { MeasuresFields result (children self.now) }
     {
         let mut total = Width::Bytes(0);
-        for dtype in self.paired_dtypes() {
+        for dtype in self.dtypes() {
             total = total.plus(dtype.width());
             if let Width::Variable = total {
                 return Width::Variable;
@@ -265,8 +256,8 @@ impl StructFields {
     pub(crate) fn feed<H: Hasher>(&self, rule: Hashed, state: &mut H)
         ensures { state.new ≡ fold H.write state.old (struct_writes rule self.now) }
     {
-        state.write_usize(self.count());
-        for (name, dtype) in self.names().as_slice().iter().zip(self.dtypes()) {
+        state.write_usize(self.nfields());
+        for (name, dtype) in self.pairs() {
             name.hash(state);
             feed(dtype, rule, state);
         }
@@ -280,7 +271,6 @@ impl StructFields {
             (λ s. Projects (children self.now) projection.now (children s)) }
         ensures each { IfOk result (λ s. AllByRecursion
             (λ n. first_named (children s) n ≡ first_named (children self.now) n) projection.now) }
-        ensures paired { IfOk result IsPaired }
         ensures valid { IsValidStruct self.now → IfOk result IsValidStruct }
         ensures refused { IfErr result (ProjectionRefusal (children self.now) projection.now) }
     {
@@ -300,17 +290,16 @@ impl StructFields {
         ensures fields { IfOk result (λ s. children s ≡ children self.now ++ children other.now) }
         ensures distinct { IsOk result
             → Distinct (field_names (children self.now ++ children other.now)) }
-        ensures paired { IfOk result IsPaired }
         ensures valid { IsValidStruct self.now → IsValidStruct other.now
             → IfOk result IsValidStruct }
         ensures refused { IfErr result
             (MergeRefusal (field_names (children self.now ++ children other.now))) }
     {
-        let count = self.count().saturating_add(other.count());
+        let count = self.nfields().saturating_add(other.nfields());
         let fields = FieldsBuilder::with_capacity(alloc, count)?;
         let fields = self.push_copies(alloc, fields)?;
         let merged = other.push_copies(alloc, fields)?.finish(alloc)?;
-        if !merged.shared.names.are_distinct() {
+        if !merged.shared.are_distinct() {
             return Err(VortexError::DuplicateNames);
         }
         Ok(merged)
@@ -320,40 +309,28 @@ impl StructFields {
     fn push_copies(&self, alloc: Global, mut fields: FieldsBuilder) -> VortexResult<FieldsBuilder>
         ensures ok { IfOk result
             (λ b. fields_so_far b ≡ fields_so_far fields ++ children self.now) }
-        ensures valid { IsValidStruct self.now → All IsValid (dtypes_so_far fields)
-            → IfOk result (λ b. All IsValid (dtypes_so_far b)) }
         ensures refused { IsOkUnless result OutOfMemory }
     {
-        for (name, dtype) in self.names().as_slice().iter().zip(self.dtypes()) {
+        for (name, dtype) in self.pairs() {
             fields = fields.push(name.try_clone(alloc)?, dtype.try_clone(alloc)?)?;
         }
         Ok(fields)
-    }
-
-    // The names that have a type, which are all of them in every struct that is made.
-    #[tactic(auto, using(crate::proofs::Zips::firsts_take))]
-    fn paired_names(&self) -> &[FieldName]
-        ensures { result.now ≡ field_names (children self.now) }
-    {
-        &self.names().as_slice()[..self.count()]
     }
 
     /// The fields but for that at this position. Refuses 17 (IndexOutOfBounds) at or past the end, with
     /// the position and how many fields there are, else 0 (OutOfMemory) alone.
     pub fn without_field(&self, alloc: Global, index: usize) -> VortexResult<Self>
         ensures fields { IfOk result (λ s. children s ≡ remove (children self.now) index) }
-        ensures paired { IfOk result IsPaired }
         ensures valid { IsValidStruct self.now → IfOk result IsValidStruct }
         ensures within { IsOk result → index < length (children self.now) }
         ensures refused { IfErr result (RemovalRefusal (children self.now) index) }
     {
-        let fields = self.count();
+        let fields = self.nfields();
         if index >= fields {
             return Err(VortexError::IndexOutOfBounds { index, fields });
         }
         let mut kept = FieldsBuilder::with_capacity(alloc, fields)?;
-        let named = self.names().as_slice().iter().zip(self.dtypes());
-        for (i, (name, dtype)) in named.enumerate() {
+        for (i, (name, dtype)) in self.pairs().enumerate() {
             if i != index {
                 kept = kept.push(name.try_clone(alloc)?, dtype.try_clone(alloc)?)?;
             }
@@ -368,13 +345,10 @@ impl StructFields {
         fields: FieldsBuilder,
         index: usize,
     ) -> VortexResult<FieldsBuilder>
-        requires name { index < length (struct_names self.now) }
-        requires dtype { index < length (struct_dtypes self.now) }
+        requires { index < length (children self.now) }
         ensures ok { IfOk result (λ b. (p : List ℕ × Tree)
             × (p ≡ slice_index_or (children self.now) index p)
             × (fields_so_far b ≡ fields_so_far fields ++ p ∷ [])) }
-        ensures valid { IsValidStruct self.now → All IsValid (dtypes_so_far fields)
-            → IfOk result (λ b. All IsValid (dtypes_so_far b)) }
         ensures refused { IsOkUnless result OutOfMemory }
     {
         let name = self.names().as_slice()[index].try_clone(alloc)?;
@@ -408,12 +382,12 @@ impl StructFields {
         let inner = format!(in alloc; "{indent}  ")?;
         out.push_str("{\n")?;
         let mut separator = "";
-        for (name, dtype) in self.names().as_slice().iter().zip(self.dtypes()) {
+        for (name, dtype) in self.pairs() {
             start_field(out, separator, inner.as_str(), name)?;
             dtype.write_indented(alloc, out, inner.as_str())?;
             separator = ",\n";
         }
-        if self.count() > 0 {
+        if self.nfields() > 0 {
             out.push_str("\n")?;
         }
         write!(out, "{indent}}}")?;
@@ -421,10 +395,10 @@ impl StructFields {
     }
 
     /// Fields equal to these, which share them. Refuses 0 (OutOfMemory) alone.
-    #[tactic(auto, using(crate::proofs::EvenLists::struct_of_same))]
     pub fn try_clone(&self, _alloc: Global) -> VortexResult<Self>
         ensures names { IfOk result (λ s. struct_names s ≡ struct_names self.now) }
         ensures types { IfOk result (λ s. struct_types s ≡ struct_types self.now) }
+        ensures fields { IfOk result (λ s. children s ≡ children self.now) }
         ensures shared { IfOk result (λ s. struct_dtypes s ≡ struct_dtypes self.now) }
         ensures valid { IsValidStruct self.now → IfOk result IsValidStruct }
         ensures refused { IsOkUnless result OutOfMemory }
@@ -481,7 +455,7 @@ impl fmt::Display for StructFields {
     fn fmt<W: fmt::Write>(&self, f: &mut fmt::Formatter<W>) -> fmt::Result {
         write!(f, "{{")?;
         let mut separator = "";
-        for (name, dtype) in self.names().as_slice().iter().zip(self.dtypes()) {
+        for (name, dtype) in self.pairs() {
             write!(f, "{separator}{name}=")?;
             dtype.fmt(f)?;
             separator = ", ";

@@ -1,3 +1,6 @@
+// SPDX-License-Identifier: Apache-2.0
+// SPDX-FileCopyrightText: Copyright the Vortex contributors
+
 ghost use Rattle.std.specs.Prelude.{◌≡◌, ◌≤◌, ◌<◌, ◌↔◌, ◌==◌, ◌⊎◌, IsTrue, [], length, map, vec_len, position, slice_get, All, IfOk, IfErr, IfSome, IfNone, OnOk, IsOkUnless, Err, Some, false, fold, option_and_then};
 ghost use Rattle.std.specs.List.{IsDistinct, range_with_len};
 ghost use Rattle.dtype_base.specs.FieldNames.{FirstAt, IsAbsent};
@@ -6,7 +9,8 @@ ghost use Rattle.dtype_types.specs.Unions.{HasUnionLengths, MakesUnion, UnionRef
 
 use crate::dtype::equality::{Nullabilities, agree};
 use crate::dtype::hash::{Hashed, feed};
-use crate::{DType, DTypeIter};
+use crate::tagged::Tagged;
+use crate::{DType, DTypeIter, VariantIter};
 use dtype_base::{FieldNames, VortexError, VortexResult};
 use std::alloc::Global;
 use std::collections::HashSet;
@@ -22,14 +26,6 @@ const MAX_VARIANTS: usize = 256;
 #[cycle(dtype)]
 pub struct UnionVariants {
     shared: Rc<Tagged<DType>>,
-}
-
-// Names, what they name, and their tags, at the same places.
-#[derive(Debug, Drop)]
-struct Tagged<T> {
-    names: FieldNames,
-    dtypes: Vec<T>,
-    type_ids: Vec<u8>,
 }
 
 // Whether two of the items are equal.
@@ -89,7 +85,7 @@ impl UnionVariants {
     ghost use Rattle.dtype_types.specs.Lookups.{variant_named, variant_types};
     ghost use Rattle.dtype_types.specs.HashesOf.{union_writes};
     ghost use Rattle.dtype_types.specs.Text.{consecutive};
-    ghost use Rattle.dtype_types.specs.TreeOf.{tree, option_tree, union_tree, choices, union_names, union_dtypes, union_types, union_tags};
+    ghost use Rattle.dtype_types.specs.TreeOf.{tree, option_tree, union_tree, choices, union_names, union_dtypes, union_triples, union_types, union_tags, with_tagged_trees, zip_tagged};
     ghost use Rattle.dtype_types.specs.IsValid.{IsValid, IsValidUnion};
 
     /// The union of these names, types and tags. Refuses, the first that applies: 10
@@ -97,6 +93,7 @@ impl UnionVariants {
     /// there are more or fewer tags than names, 12 (UnionEmpty) where there are none, 13
     /// (UnionTagsRepeat) where a tag stands twice, 15 (UnionNamesRepeat) where a name stands twice; or
     /// 0 (OutOfMemory), once the lengths are right.
+    #[tactic(auto, using(crate::proofs::Sides::triples, crate::proofs::Parts::variants))]
     pub fn try_new(
         alloc: Global,
         names: FieldNames,
@@ -106,6 +103,8 @@ impl UnionVariants {
         ensures names { IfOk result (λ u. union_names u ≡ names) }
         ensures types { IfOk result (λ u. union_types u ≡ map tree dtypes.items) }
         ensures tags { IfOk result (λ u. union_tags u ≡ type_ids.items) }
+        ensures variants { IfOk result
+            (λ u. choices u ≡ zip_tagged names (map tree dtypes.items) type_ids.items) }
         ensures count { IfOk result (λ u. length (choices u) ≡ length names) }
         ensures valid { All IsValid dtypes.items → IfOk result IsValidUnion }
 
@@ -116,14 +115,7 @@ impl UnionVariants {
             → HasUnionLengths names (vec_len dtypes) type_ids.items }
     {
         validate_shape(alloc, &names, dtypes.len(), &type_ids)?;
-        let shared = Rc::new(
-            alloc,
-            Tagged {
-                names,
-                dtypes,
-                type_ids,
-            },
-        )?;
+        let shared = Rc::new(alloc, Tagged::new(names, dtypes, type_ids))?;
         Ok(UnionVariants { shared })
     }
 
@@ -149,57 +141,61 @@ impl UnionVariants {
         UnionVariants::try_new(alloc, names, dtypes, type_ids)
     }
 
-    // How many variants there are: as far as all lists go.
-    fn count(&self) -> usize
-        ensures all { result ≡ length (choices self.now) }
-        ensures names { result ≤ length (union_names self.now) }
-        ensures dtypes { result ≤ length (union_dtypes self.now) }
-        ensures tags { result ≤ length (union_tags self.now) }
-    {
-        self.names()
-            .len()
-            .min(self.dtypes().len())
-            .min(self.type_ids().len())
-    }
-
     /// The names, in order.
+    #[tactic(auto, using(crate::proofs::Parts::variants))]
     pub fn names(&self) -> &FieldNames
         ensures { result.now ≡ union_names self.now }
     {
-        &self.shared.names
+        self.shared.names()
     }
 
-    // The types, also of variants that have no name or no tag, which no union that is made has.
+    // The types, in order.
+    #[tactic(auto, using(crate::proofs::Parts::variants))]
     fn dtypes(&self) -> &[DType]
-        ensures { result.now ≡ union_dtypes self.now }
+        ensures lent { result.now ≡ union_dtypes self.now }
+        ensures all { map tree result.now ≡ variant_types (choices self.now) }
+        ensures valid { IsValidUnion self.now → All IsValid result.now }
     {
-        &self.shared.dtypes
+        self.shared.dtypes()
+    }
+
+    /// The variants, in order, each its name, its tag and its type, lent.
+    #[tactic(auto, using(crate::proofs::Sides::triples))]
+    pub fn triples(&self) -> VariantIter<'_>
+        ensures lent { result ≡ union_triples self.now }
+        ensures all { with_tagged_trees result ≡ choices self.now }
+        ensures valid { IsValidUnion self.now → All (λ p. IsValid p.1.0) result }
+    {
+        VariantIter::new(
+            self.shared.names().as_slice(),
+            self.shared.dtypes(),
+            self.shared.tags(),
+        )
     }
 
     /// How many variants there are.
+    #[tactic(auto, using(crate::proofs::Parts::variants))]
     pub fn len(&self) -> usize
         ensures all { result ≡ length (choices self.now) }
-        ensures names { result ≤ length (union_names self.now) }
-        ensures tags { result ≤ length (union_tags self.now) }
-        ensures exact { IsValidUnion self.now
-            → (result ≡ length (union_names self.now))
-            × (result ≡ length (union_tags self.now)) }
+        ensures names { result ≡ length (union_names self.now) }
+        ensures tags { result ≡ length (union_tags self.now) }
     {
-        self.count()
+        self.shared.len()
     }
 
     /// Whether there are no variants. `try_new` and `new` make no such union.
     pub fn is_empty(&self) -> bool
         ensures { IsTrue result ↔ (choices self.now ≡ []) }
     {
-        self.count() == 0
+        self.len() == 0
     }
 
     /// The tags, in order of the variants.
+    #[tactic(auto, using(crate::proofs::Parts::variants))]
     pub fn type_ids(&self) -> &[u8]
         ensures { result.now ≡ union_tags self.now }
     {
-        &self.shared.type_ids
+        self.shared.tags()
     }
 
     /// The position of the variant of the name, or `None` where no variant has it.
@@ -225,7 +221,7 @@ impl UnionVariants {
         ensures at { option_tree result ≡ slice_get (variant_types (choices self.now)) index }
         ensures valid { IsValidUnion self.now → IfSome result (λ d. IsValid d.now) }
     {
-        self.types().get(index)
+        self.dtypes().get(index)
     }
 
     /// The types of the variants, in order.
@@ -233,22 +229,13 @@ impl UnionVariants {
         ensures all { map tree result ≡ variant_types (choices self.now) }
         ensures valid { IsValidUnion self.now → All IsValid result }
     {
-        DTypeIter::new(self.types())
-    }
-
-    // The types of the variants, in order.
-    fn types(&self) -> &[DType]
-        ensures all { map tree result.now ≡ variant_types (choices self.now) }
-        ensures valid { IsValidUnion self.now → All IsValid result.now }
-    {
-        &self.dtypes()[..self.count()]
+        DTypeIter::new(self.dtypes())
     }
 
     /// The position of the variant with this tag, or `None` where no variant has it.
     pub fn tag_to_child_index(&self, tag: u8) -> Option<usize>
         ensures first { result ≡ position (λ t. t == tag) (union_tags self.now) }
-        ensures within { IsValidUnion self.now
-            → IfSome result (λ i. i < length (choices self.now)) }
+        ensures within { IfSome result (λ i. i < length (choices self.now)) }
     {
         self.first_tagged(tag)
     }
@@ -275,22 +262,21 @@ impl UnionVariants {
     pub(crate) fn agree(&self, other: &UnionVariants, rule: Nullabilities) -> bool
         ensures { result ≡ agree_variants rule (union_tree self.now) (union_tree other.now) }
     {
-        let count = self.count();
-        if other.count() != count {
+        let count = self.len();
+        if other.len() != count {
             return false;
         }
-        let names = self.names().as_slice();
-        let other_names = other.names().as_slice();
-        let variants = names.iter().zip(self.dtypes()).zip(self.type_ids());
-        let others = other_names.iter().zip(other.dtypes()).zip(other.type_ids());
-        for (((name, dtype), tag), ((other_name, other_dtype), other_tag)) in variants.zip(others) {
+        for ((name, tag, dtype), (other_name, other_tag, other_dtype)) in self
+            .triples()
+            .zip(other.triples())
+        {
             if name != other_name {
                 return false;
             }
             if !agree(dtype, other_dtype, rule) {
                 return false;
             }
-            if *tag != *other_tag {
+            if tag != other_tag {
                 return false;
             }
         }
@@ -310,21 +296,20 @@ impl UnionVariants {
     pub(crate) fn feed<H: Hasher>(&self, rule: Hashed, state: &mut H)
         ensures { state.new ≡ fold H.write state.old (union_writes rule self.now) }
     {
-        let fields = self.names().as_slice().iter().zip(self.dtypes());
-        state.write_usize(self.count());
-        for ((name, dtype), tag) in fields.zip(self.type_ids()) {
+        state.write_usize(self.len());
+        for (name, tag, dtype) in self.triples() {
             name.hash(state);
             feed(dtype, rule, state);
-            state.write_u8(*tag);
+            state.write_u8(tag);
         }
     }
 
     /// Variants equal to these, which share them. Refuses 0 (OutOfMemory) alone.
-    #[tactic(auto, using(crate::proofs::EvenLists::union_of_same))]
     pub fn try_clone(&self, _alloc: Global) -> VortexResult<Self>
         ensures names { IfOk result (λ u. union_names u ≡ union_names self.now) }
         ensures types { IfOk result (λ u. union_types u ≡ union_types self.now) }
         ensures tags { IfOk result (λ u. union_tags u ≡ union_tags self.now) }
+        ensures variants { IfOk result (λ u. choices u ≡ choices self.now) }
         ensures shared { IfOk result (λ u. union_dtypes u ≡ union_dtypes self.now) }
         ensures valid { IsValidUnion self.now → IfOk result IsValidUnion }
         ensures refused { IsOkUnless result OutOfMemory }
@@ -338,7 +323,7 @@ impl UnionVariants {
         ensures { result ≡ consecutive 0 (union_tree self.now) }
     {
         let tags = self.type_ids();
-        for i in 0..self.count() {
+        for i in 0..self.len() {
             let tag = tags[i];
             if usize::from(tag) != i {
                 return false;
@@ -394,14 +379,10 @@ impl fmt::Display for UnionVariants {
 
     #[cycle(text)]
     fn fmt<W: fmt::Write>(&self, f: &mut fmt::Formatter<W>) -> fmt::Result {
-        let fields = self.names().as_slice().iter().zip(self.dtypes());
         let consecutive = self.is_consecutive();
         let mut separator = "";
-        for ((name, dtype), tag) in fields.zip(self.type_ids()) {
-            let tag = TagText {
-                tag: *tag,
-                consecutive,
-            };
+        for (name, tag, dtype) in self.triples() {
+            let tag = TagText { tag, consecutive };
             write!(f, "{separator}{name}{tag}=")?;
             dtype.fmt(f)?;
             separator = ", ";

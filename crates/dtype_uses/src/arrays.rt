@@ -1,3 +1,6 @@
+// SPDX-License-Identifier: Apache-2.0
+// SPDX-FileCopyrightText: Copyright the Vortex contributors
+
 //! A builder of arrays: how wide its offsets and rows are, and which arrays it may append.
 ghost use Rattle.std.specs.Prelude.{◌≡◌, ◌↔◌, IsTrue, IfSome};
 ghost use Rattle.dtype_base.specs.Primitives.{HoldsUnsigned, IsNarrowest};

@@ -1,3 +1,6 @@
+// SPDX-License-Identifier: Apache-2.0
+// SPDX-FileCopyrightText: Copyright the Vortex contributors
+
 //! A binder of expressions: the types of column references, of projections and of joins.
 ghost use Rattle.std.specs.Prelude.{◌≡◌, ◌↔◌, ◌++◌, ◌∷◌, [], IfNone, IfOk, IfSome, List, Some};
 ghost use Rattle.dtype_types.specs.Lookups.{Projects};

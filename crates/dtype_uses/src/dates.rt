@@ -1,3 +1,6 @@
+// SPDX-License-Identifier: Apache-2.0
+// SPDX-FileCopyrightText: Copyright the Vortex contributors
+
 //! An extension without metadata, made by a session.
 ghost use Rattle.std.specs.Prelude.{◌≡◌, IfOk, Some, [], codes};
 ghost use Rattle.vortex_dtype.specs.Meaning.{keeps};

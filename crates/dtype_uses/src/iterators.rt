@@ -1,3 +1,6 @@
+// SPDX-License-Identifier: Apache-2.0
+// SPDX-FileCopyrightText: Copyright the Vortex contributors
+
 // Iterators end, and give as many items as they announced.
 ghost use Rattle.std.specs.Prelude.{◌≡◌, true};
 

@@ -1,3 +1,6 @@
+// SPDX-License-Identifier: Apache-2.0
+// SPDX-FileCopyrightText: Copyright the Vortex contributors
+
 //! A reader of layouts: which columns it opens.
 ghost use Rattle.std.specs.Prelude.{◌↔◌, IfOk, List};
 ghost use Rattle.std.specs.List.{Contains};

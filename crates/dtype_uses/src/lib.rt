@@ -1,3 +1,6 @@
+// SPDX-License-Identifier: Apache-2.0
+// SPDX-FileCopyrightText: Copyright the Vortex contributors
+
 //! What a caller does with the library: functions as a user would write them, each with a contract of its
 //! own that is proved from the clauses of the calls that it makes, and from the public laws.
 //!
@@ -6,9 +9,12 @@
 //!
 //! Begin with the user whom you are nearest to: `scalars` (which values a type has), `arrays` (how wide a
 //! row is, and what may be appended), `binder` (column references, projections, joins), `layout` (which
-//! columns to open) and `stored` (schemas written and read back). Then by topic: `schemas` finds columns, `dates`
-//! makes an extension, `kinds` opens types, `fields` looks up fields, `iterators` counts, `nullabilities` sets them, `paths` resolves, `numbers` has names and
-//! bytes, `validity` what valid types have.
+//! columns to open), `path_sets` (what is asked for, and what is opened for it), `masks` (what is asked further
+//! down), `rows` (what is found) and `stored` (schemas written and read back). Then by topic: `schemas` finds
+//! columns, `dates` makes an extension, `kinds` opens types, `fields` looks up fields, `iterators` counts,
+//! `nullabilities` sets them, `paths` resolves, `path_messages` compares and copies messages, `messages` writes
+//! and reads types, `sessions` makes sessions, `plugins` has one that looks at its storage, `numbers` has names
+//! and bytes, `validity` what valid types have. `orders` is the code of `docs/TUTORIAL.md`.
 #![tactic(auto)]
 
 pub mod arrays;
@@ -18,10 +24,18 @@ pub mod fields;
 pub mod iterators;
 pub mod kinds;
 pub mod layout;
+pub mod masks;
+pub mod messages;
 pub mod nullabilities;
 pub mod numbers;
+pub mod orders;
+pub mod path_messages;
+pub mod path_sets;
 pub mod paths;
+pub mod plugins;
+pub mod rows;
 pub mod scalars;
 pub mod schemas;
+pub mod sessions;
 pub mod stored;
 pub mod validity;

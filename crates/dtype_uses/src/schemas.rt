@@ -1,3 +1,6 @@
+// SPDX-License-Identifier: Apache-2.0
+// SPDX-FileCopyrightText: Copyright the Vortex contributors
+
 //! A schema, asked for the types of its columns.
 ghost use Rattle.std.specs.Prelude.{IfOk, IfSome, [], ◌∷◌};
 ghost use Rattle.dtype_types.specs.TreeOf.{tree};

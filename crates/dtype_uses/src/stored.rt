@@ -1,3 +1,6 @@
+// SPDX-License-Identifier: Apache-2.0
+// SPDX-FileCopyrightText: Copyright the Vortex contributors
+
 //! What a user of messages gets, from the contracts of the public calls and two laws alone.
 ghost use Rattle.std.specs.Prelude.{◌≡◌, IfOk, IsOkUnless, IsTrue, Some, map};
 ghost use Rattle.dtype_base.specs.declared.vortex_error.VortexError.TheVariants.{OutOfMemory};
@@ -8,10 +11,11 @@ ghost use Rattle.vortex_dtype.specs.PathMessage.{steps_of};
 ghost use Rattle.vortex_dtype.specs.Session.{meaning};
 
 use dtype_base::VortexResult;
+use dtype_messages::pb;
 use dtype_types::DType;
 use std::alloc::Global;
 use vortex_dtype::laws::{messages_are_exact, same_names_same_steps};
-use vortex_dtype::{DTypeProto, DTypeSession, ExtDTypePlugin, FieldPath, FieldPathProto, pb};
+use vortex_dtype::{DTypeProto, DTypeSession, ExtDTypePlugin, FieldPath, FieldPathProto};
 
 /// A type stored as a message and read back: the same type, where the session admits it. Refuses
 /// 0 (OutOfMemory) alone there.

@@ -1,8 +1,12 @@
+// SPDX-License-Identifier: Apache-2.0
+// SPDX-FileCopyrightText: Copyright the Vortex contributors
+
 // What a caller has of a valid type.
 ghost use Rattle.std.specs.Prelude.{◌≡◌, ◌<◌, Some, IfSome, length, true};
 ghost use Rattle.dtype_types.specs.IsValid.{IsValid, IsValidStruct, IsValidUnion};
 ghost use Rattle.dtype_types.specs.TreeOf.{union_tags};
 
+use dtype_base::{FieldName, Nullability};
 use dtype_types::{DType, StructFields, UnionVariants};
 
 /// The type of the only field of a valid struct of one, valid too.
@@ -13,9 +17,23 @@ pub fn only_field(dtype: &DType) -> Option<&DType>
     fields.field_by_index(0)
 }
 
+/// The struct type of valid fields is valid.
+pub fn struct_of_valid_fields(fields: StructFields, nullability: Nullability) -> DType
+    ensures { IsValidStruct fields → IsValid result }
+{
+    DType::Struct(fields, nullability)
+}
+
+/// The name and the type of the first field, valid where the struct is.
+pub fn first_field(fields: &StructFields) -> Option<(&FieldName, &DType)>
+    ensures { IsValidStruct fields.now → IfSome result (λ p. IsValid p.1.now) }
+{
+    fields.pairs().next()
+}
+
 /// As many names as fields.
 pub fn as_many_names_as_fields(fields: &StructFields) -> bool
-    ensures { IsValidStruct fields.now → result ≡ true }
+    ensures { result ≡ true }
 {
     let count = fields.nfields();
     fields.names().len() == count
@@ -32,7 +50,7 @@ pub fn place_and_back(variants: &UnionVariants, place: usize) -> Option<usize>
 
 /// As many tags as names.
 pub fn as_many_tags_as_names(variants: &UnionVariants) -> bool
-    ensures { IsValidUnion variants.now → result ≡ true }
+    ensures { result ≡ true }
 {
     let names = variants.names().len();
     let tags = variants.type_ids().len();

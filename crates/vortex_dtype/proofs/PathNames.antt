@@ -1,13 +1,43 @@
+-- SPDX-License-Identifier: Apache-2.0
+-- SPDX-FileCopyrightText: Copyright the Vortex contributors
+
 -- The steps that a path message says are those of the names that it holds.
-use Rattle.std.proofs.Common.{◌≡◌, ◌∙◌, ap, sym, map, option_map}
+use Rattle.std.proofs.Common.{◌≡◌, ◌∙◌, ℕ, List, [], ◌∷◌, ◌++◌, Option, Some, None, ap, refl, sym, map, option_map}
 use Rattle.std.proofs.lemmas.Simd.{map-map}
+use Rattle.dtype_paths.specs.declared.field.Field.{Field as Step}
 use Rattle.dtype_paths.specs.declared.field.Field.TheVariants.{Name}
+use Rattle.dtype_messages.specs.declared.pb.Field.{Field}
 use Rattle.dtype_messages.specs.declared.pb.FieldPath.{FieldPath}
 use Rattle.dtype_messages.specs.PathNames.{part_name, part_names}
-use Rattle.vortex_dtype.specs.PathMessage.{steps_of}
+use Rattle.vortex_dtype.specs.PathMessage.{path_of, step_of, steps_of}
 
 by_names : (p : FieldPath) → map (option_map Name) (part_names p) ≡ steps_of p
 by_names p = map-map (option_map Name) part_name p.path.items
 
 pub steps_by_names : (p q : FieldPath) → part_names p ≡ part_names q → steps_of p ≡ steps_of q
 steps_by_names p q e = sym (by_names p) ∙ ap (map (option_map Name)) e ∙ by_names q
+
+path_of_steps : (ns : List (Option (List ℕ))) (p : List Step) → map (option_map Name) ns ≡ map Some p → path_of ns ≡ Some p
+path_of_steps [] [] e = refl
+path_of_steps [] (x ∷ p) e = cc
+path_of_steps (None ∷ ns) [] e = cc
+path_of_steps (None ∷ ns) (x ∷ p) e = cc
+path_of_steps (Some n ∷ ns) [] e = cc
+path_of_steps (Some n ∷ ns) (x ∷ p) e =
+    let h : Name n ≡ x = cc in
+    let t : map (option_map Name) ns ≡ map Some p = cc in
+    ap (option_map (λ q. Name n ∷ q)) (path_of_steps ns p t) ∙ ap (λ s. Some (s ∷ p)) h
+
+-- where each part says a step, the steps are the path
+pub path_by_steps : (parts : List Field) (p : List Step) → map step_of parts ≡ map Some p → path_of (map part_name parts) ≡ Some p
+path_by_steps parts p e = path_of_steps (map part_name parts) p (map-map (option_map Name) part_name parts ∙ e)
+
+-- and then there is one
+pub path_there : (parts : List Field) (p : List Step) → map step_of parts ≡ map Some p → path_of (map part_name parts) ≡ None → ⊥
+path_there parts p e none = let s = path_by_steps parts p e in cc
+
+-- parts one of which has no kind make no path
+pub no_path : (before rest : List (Option (List ℕ))) → path_of (before ++ None ∷ rest) ≡ None
+no_path [] rest = refl
+no_path (None ∷ before) rest = refl
+no_path (Some n ∷ before) rest = ap (option_map (λ q. Name n ∷ q)) (no_path before rest)

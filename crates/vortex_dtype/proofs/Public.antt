@@ -1,27 +1,53 @@
+-- SPDX-License-Identifier: Apache-2.0
+-- SPDX-FileCopyrightText: Copyright the Vortex contributors
+
 -- From the reading function to the relations.
-use Rattle.std.proofs.Common.{◌≡◌, ◌⊎◌, inl, inr, ℕ, Result, Ok, Err, IfOk, IfErr, refl}
-use Rattle.dtype_base.specs.Refusals.{number_of}
+use Rattle.std.proofs.Common.{◌≡◌, ◌⊎◌, inl, inr, Result, Ok, Err, IfOk, IfErr, IsErr, IsOkUnless, refl, sym, subst}
 use Rattle.dtype_base.specs.declared.vortex_error.VortexError.{VortexError}
 use Rattle.dtype_base.specs.declared.vortex_error.VortexError.TheVariants.{OutOfMemory}
+use Rattle.dtype_types.specs.Tree.{Tree}
 use Rattle.dtype_types.specs.TreeOf.{tree}
+use Rattle.dtype_types.specs.Valid.{Valid}
 use Rattle.dtype_types.specs.declared.dtype.DType.{DType}
 use Rattle.dtype_messages.specs.Message.{Message}
 use Rattle.vortex_dtype.specs.Accepts.{Accepts}
-use Rattle.vortex_dtype.specs.Meaning.{Meaning, LawfulSession}
+use Rattle.vortex_dtype.specs.Meaning.{Meaning, Admits, LawfulSession}
 use Rattle.vortex_dtype.specs.IsMessage.{IsMessage}
-use Rattle.vortex_dtype.specs.Reads.{Fault, ReadsAsNone}
+use Rattle.vortex_dtype.specs.Reads.{Fault, Reads, ReadsAsNone}
 use Rattle.vortex_dtype.specs.Reading.{read, Gives}
-use Rattle.vortex_dtype.proofs.ReadLaws.{fault_none, reads_accepted}
+use Rattle.vortex_dtype.specs.Written.{written}
+use Rattle.vortex_dtype.proofs.ReadLaws.{fault_none, reads_accepted, reads_once, written_reads}
 use Rattle.vortex_dtype.proofs.ReadIs.{read_reads, read_fault}
 
-faulty : (s : Meaning) (m : Message) (k : ℕ) → read s m ≡ Err k → Fault s m k × ReadsAsNone s m
-faulty s m k e = let f = read_fault s m k e in (f, λ t h. fault_none s m k t f h)
+faulty : (s : Meaning) (m : Message) (e : VortexError) → read s m ≡ Err e → Fault s m e × ReadsAsNone s m
+faulty s m e is = let f = read_fault s m e is in (f, λ t h. fault_none s m e t f h)
 
-pub gives_refused : (s : Meaning) (m : Message) (r : Result DType VortexError) → Gives tree r (read s m) → IfErr r (λ e. (e ≡ OutOfMemory) ⊎ (Fault s m (number_of e) × ReadsAsNone s m))
+pub gives_refused : (s : Meaning) (m : Message) (r : Result DType VortexError) → Gives tree r (read s m) → IfErr r (λ e. (e ≡ OutOfMemory) ⊎ (Fault s m e × ReadsAsNone s m))
 gives_refused s m (Ok d) g = tt
 gives_refused s m (Err OutOfMemory) g = inl refl
-gives_refused s m (Err e) g = inr (faulty s m (number_of e) g)
+gives_refused s m (Err e) g = inr (faulty s m e g)
 
 pub gives_accepts : (s : Meaning) → LawfulSession s → (m : Message) (r : Result DType VortexError) → IfOk r (λ _. IsMessage m) → Gives tree r (read s m) → IfOk r (λ t. Accepts s m (tree t))
 gives_accepts s l m (Ok d) i g = reads_accepted s m (tree d) l i (read_reads s m (tree d) g)
 gives_accepts s l m (Err e) i g = tt
+
+-- a message that reads as no type is refused, and so is one in which a fault stands
+pub gives_unread : (s : Meaning) (m : Message) (r : Result DType VortexError) → Gives tree r (read s m) → ReadsAsNone s m → IsErr r
+gives_unread s m (Ok d) g none = absurd (none (tree d) (read_reads s m (tree d) g))
+gives_unread s m (Err e) g none = refl
+
+pub gives_faulty : (s : Meaning) (m : Message) (r : Result DType VortexError) → Gives tree r (read s m) → (e : VortexError) → Fault s m e → IsErr r
+gives_faulty s m r g e f = gives_unread s m r g (λ t h. fault_none s m e t f h)
+
+-- what is written of an admitted type reads as that type
+written_is_read : (s : Meaning) (m : Message) (t : Tree) → Valid t → Admits s t → m ≡ written t → Reads s m t
+written_is_read s m t v a e = subst (λ (x : Message). Reads s x t) (sym e) (written_reads s t v a)
+
+pub gives_back : (s : Meaning) (m : Message) (r : Result DType VortexError) → Gives tree r (read s m) → (t : Tree) → Valid t → Admits s t → m ≡ written t → IfOk r (λ u. tree u ≡ t)
+gives_back s m (Ok d) g t v a e = reads_once s m (tree d) t (read_reads s m (tree d) g) (written_is_read s m t v a e)
+gives_back s m (Err x) g t v a e = tt
+
+pub gives_back_refused : (s : Meaning) (m : Message) (r : Result DType VortexError) → Gives tree r (read s m) → (t : Tree) → Valid t → Admits s t → m ≡ written t → IsOkUnless r OutOfMemory
+gives_back_refused s m (Ok d) g t v a e = tt
+gives_back_refused s m (Err OutOfMemory) g t v a e = refl
+gives_back_refused s m (Err x) g t v a e = absurd (fault_none s m x t (read_fault s m x g) (written_is_read s m t v a e))

@@ -1,3 +1,6 @@
+-- SPDX-License-Identifier: Apache-2.0
+-- SPDX-FileCopyrightText: Copyright the Vortex contributors
+
 -- What the reading function gives is what reads, and its refusals are faults.
 use Rattle.std.proofs.Common.{◌≡◌, ◌≢◌, ◌⊎◌, ⊎_elim, inl, inr, ℕ, ℤ, pos, ◌<◌, ◌≤◌, ◌==◌, List, [], ◌∷◌, length, map, Option, Some, None, Bool, true, false, cond, Result, Ok, Err, nat_eq, refl, sym, ap, subst, ◌∙◌, arith}
 use Rattle.std.specs.Int.{w32}
@@ -23,6 +26,9 @@ use Rattle.dtype_types.specs.Nullable.{nullability}
 use Rattle.dtype_types.specs.Tree as of
 use Rattle.dtype_types.specs.Tree.{Tree, Fields, no_fields, field, fields, Variants, no_variants, choice, variants}
 use Rattle.dtype_base.specs.declared.vortex_error.VortexError.{VortexError}
+use Rattle.dtype_base.specs.declared.vortex_error.VortexError.TheVariants.{MapKeyNullable, UnionTypesLength, UnionTagsLength, UnionEmpty, UnionTagsRepeat, UnionNamesRepeat, Message as Faulty}
+use Rattle.dtype_base.specs.declared.vortex_error.MessageFault.{MessageFault}
+use Rattle.dtype_base.specs.declared.vortex_error.MessageFault.TheVariants.{TypeMissing, PrimitiveNumber, PrecisionRange, ScaleRange, ListElementMissing, FixedElementMissing, MapKeyMissing, MapValueMissing, StructLengths, TypeIdRange, StorageMissing}
 use Rattle.dtype_types.specs.TreeOf.{tree, zip_tagged}
 use Rattle.dtype_types.specs.declared.dtype.DType.{DType}
 use Rattle.vortex_dtype.specs.IsMessage.{AreTags}
@@ -33,41 +39,41 @@ use Rattle.vortex_dtype.specs.Numbers.{byte_at, small_at, natural_byte}
 use Rattle.vortex_dtype.specs.Reads.{Reads, ReadsChild, ReadsFields, ReadsVariants, Fault, ChildFault, SomeFault, SomeTagFault, UnionFault, DecimalFault, decimal_of, number, count}
 use Rattle.vortex_dtype.specs.Reading.{Gives, read, read_child, read_all, read_tags, primitive_read, decimal_made, decimal_read, map_read, when_required, struct_read, union_made, union_read, extension_read, repeats, ◌>>=◌, or_fault, or_empty}
 use Rattle.vortex_dtype.proofs.Decimals.{made_ok, made_err, fits_byte, fits_small, no_byte, no_small}
-use Rattle.vortex_dtype.proofs.Unions.{apart, no_repeats}
+use Rattle.vortex_dtype.proofs.Unions.{apart, has_names, tags_up, union_refused}
 use Rattle.vortex_dtype.proofs.ReadLaws.{byte_is, none_is, number-ptype_at, ptype_at-number}
 
-abbrev ok : {A : Type 0} → A → Result A ℕ
+abbrev ok : {A : Type 0} → A → Result A VortexError
 ok x = Ok x
 
-abbrev err : {A : Type 0} → ℕ → Result A ℕ
+abbrev err : {A : Type 0} → VortexError → Result A VortexError
 err k = Err k
 
-err_same : {A : Type 0} (j k : ℕ) → err {A = A} j ≡ Err k → j ≡ k
+err_same : {A : Type 0} (j k : VortexError) → err {A = A} j ≡ Err k → j ≡ k
 err_same j k e = cc
 
-bind_ok : {A B : Type 0} (r : Result A ℕ) (f : A → Result B ℕ) (y : B) → (r >>= f) ≡ Ok y → (x : A) × (r ≡ Ok x) × (f x ≡ Ok y)
+bind_ok : {A B : Type 0} (r : Result A VortexError) (f : A → Result B VortexError) (y : B) → (r >>= f) ≡ Ok y → (x : A) × (r ≡ Ok x) × (f x ≡ Ok y)
 bind_ok (Ok x) f y e = (x, refl, e)
 bind_ok (Err k) f y e = cc
 
-bind_err : {A B : Type 0} (r : Result A ℕ) (f : A → Result B ℕ) (k : ℕ) → (r >>= f) ≡ Err k → (r ≡ Err k) ⊎ ((x : A) × (r ≡ Ok x) × (f x ≡ Err k))
+bind_err : {A B : Type 0} (r : Result A VortexError) (f : A → Result B VortexError) (k : VortexError) → (r >>= f) ≡ Err k → (r ≡ Err k) ⊎ ((x : A) × (r ≡ Ok x) × (f x ≡ Err k))
 bind_err (Ok x) f k e = inr (x, refl, e)
 bind_err {A} {B} (Err j) f k e = inl (ap (err {A = A}) (err_same {A = B} j k e))
 
 ok_is : {A : Type 0} (a b : A) → ok a ≡ Ok b → b ≡ a
 ok_is a b e = cc
 
-err_is : {A : Type 0} (a b : ℕ) → err {A = A} a ≡ Err b → b ≡ a
+err_is : {A : Type 0} (a b : VortexError) → err {A = A} a ≡ Err b → b ≡ a
 err_is a b e = cc
 
-fault_is_some : {A : Type 0} (k : ℕ) (o : Option A) (x : A) → or_fault k o ≡ Ok x → o ≡ Some x
+fault_is_some : {A : Type 0} (k : VortexError) (o : Option A) (x : A) → or_fault k o ≡ Ok x → o ≡ Some x
 fault_is_some k None x e = cc
 fault_is_some k (Some y) x e = ap Some (sym (ok_is y x e))
 
-fault_is_none : {A : Type 0} (k j : ℕ) (o : Option A) → or_fault k o ≡ Err j → (j ≡ k) × (o ≡ None)
+fault_is_none : {A : Type 0} (k j : VortexError) (o : Option A) → or_fault k o ≡ Err j → (j ≡ k) × (o ≡ None)
 fault_is_none k j None e = (err_is {A = _} k j e, refl)
 fault_is_none k j (Some y) e = cc
 
-ok_err : {A : Type 0} {x : A} {k : ℕ} → ok x ≡ Err k → ⊥
+ok_err : {A : Type 0} {x : A} {k : VortexError} → ok x ≡ Err k → ⊥
 ok_err e = cc
 
 -- ---- the parts
@@ -75,44 +81,44 @@ ok_err e = cc
 primitive_reads : (k : ℤ) (n : Nullability) (t : Tree) → primitive_read k n ≡ Ok t → (p : PType) × (k ≡ number p) × (t ≡ of.primitive p n)
 unfolding primitive_read
 primitive_reads k n t e =
-    let b = bind_ok {A = PType} {B = Tree} (or_fault 25 (ptype_at k)) _ t e in
-    (b.0, number-ptype_at k b.0 (fault_is_some 25 (ptype_at k) b.0 b.1), ok_is (of.primitive b.0 n) t b.2)
+    let b = bind_ok {A = PType} {B = Tree} (or_fault (Faulty PrimitiveNumber) (ptype_at k)) _ t e in
+    (b.0, number-ptype_at k b.0 (fault_is_some (Faulty PrimitiveNumber) (ptype_at k) b.0 b.1), ok_is (of.primitive b.0 n) t b.2)
 
 no_number : (k : ℤ) → ptype_at k ≡ None → (p : PType) → k ≢ number p
 no_number k e p is = none_is p (sym (ptype_at-number p) ∙ ap ptype_at (sym is) ∙ e)
 
-primitive_fault : (k : ℤ) (n : Nullability) (j : ℕ) → primitive_read k n ≡ Err j → (j ≡ 25) × ((p : PType) → k ≢ number p)
+primitive_fault : (k : ℤ) (n : Nullability) (j : VortexError) → primitive_read k n ≡ Err j → (j ≡ Faulty PrimitiveNumber) × ((p : PType) → k ≢ number p)
 unfolding primitive_read
 primitive_fault k n j e =
     ⊎_elim
-    (λ a. let f = fault_is_none 25 j (ptype_at k) a in (f.0, no_number k f.1))
+    (λ a. let f = fault_is_none (Faulty PrimitiveNumber) j (ptype_at k) a in (f.0, no_number k f.1))
     (λ b. absurd (ok_err b.2))
-    (bind_err {A = PType} {B = Tree} (or_fault 25 (ptype_at k)) _ j e)
+    (bind_err {A = PType} {B = Tree} (or_fault (Faulty PrimitiveNumber) (ptype_at k)) _ j e)
 
 decimal_reads : (p : ℕ) (k : ℤ) (n : Nullability) (t : Tree) → decimal_read p k n ≡ Ok t → IsValidDecimal (decimal_of p k) × (t ≡ of.decimal (decimal_of p k) n)
 unfolding decimal_read
 decimal_reads p k n t e =
-    let a = bind_ok (or_fault 26 (natural_byte p)) _ t e in
-    let b = bind_ok (or_fault 27 (small_at k)) _ t a.2 in
+    let a = bind_ok (or_fault (Faulty PrecisionRange) (natural_byte p)) _ t e in
+    let b = bind_ok (or_fault (Faulty ScaleRange) (small_at k)) _ t a.2 in
     let c = bind_ok (decimal_made a.0 b.0) _ t b.2 in
-    let q = fits_byte p a.0 (fault_is_some 26 (natural_byte p) a.0 a.1) in
-    let r = fits_small k b.0 (fault_is_some 27 (small_at k) b.0 b.1) in
+    let q = fits_byte p a.0 (fault_is_some (Faulty PrecisionRange) (natural_byte p) a.0 a.1) in
+    let r = fits_small k b.0 (fault_is_some (Faulty ScaleRange) (small_at k) b.0 b.1) in
     let d = made_ok a.0 b.0 c.0 r.1 c.1 in
     let same : c.0 ≡ decimal_of p k = d.1 ∙ ap (λ x. decimal_of x b.0) q ∙ ap (decimal_of p) r.0 in
     (subst IsValidDecimal (sym d.1 ∙ same) d.0, ok_is (of.decimal c.0 n) t c.2 ∙ ap (λ x. of.decimal x n) same)
 
-decimal_fault : (p : ℕ) (k : ℤ) (n : Nullability) (j : ℕ) → decimal_read p k n ≡ Err j → DecimalFault p k j
+decimal_fault : (p : ℕ) (k : ℤ) (n : Nullability) (j : VortexError) → decimal_read p k n ≡ Err j → DecimalFault p k j
 unfolding decimal_read
 decimal_fault p k n j e =
     ⊎_elim
-    (λ a. let f = fault_is_none 26 j (natural_byte p) a in inl (f.0, no_byte p f.1))
-    (λ a. let q = fits_byte p a.0 (fault_is_some 26 (natural_byte p) a.0 a.1) in
+    (λ a. let f = fault_is_none (Faulty PrecisionRange) j (natural_byte p) a in inl (f.0, no_byte p f.1))
+    (λ a. let q = fits_byte p a.0 (fault_is_some (Faulty PrecisionRange) (natural_byte p) a.0 a.1) in
     ⊎_elim
-    (λ b. let f = fault_is_none 27 j (small_at k) b in inr (inl (f.0, no_small k f.1)))
-    (λ b. let r = fits_small k b.0 (fault_is_some 27 (small_at k) b.0 b.1) in
+    (λ b. let f = fault_is_none (Faulty ScaleRange) j (small_at k) b in inr (inl (f.0, no_small k f.1)))
+    (λ b. let r = fits_small k b.0 (fault_is_some (Faulty ScaleRange) (small_at k) b.0 b.1) in
     ⊎_elim (λ c. inr (inr (made_err p k j (ap (λ x. decimal_made x k) (sym q) ∙ ap (decimal_made a.0) (sym r.0) ∙ c)))) (λ c. absurd (ok_err c.2)) (bind_err (decimal_made a.0 b.0) _ j b.2))
-    (bind_err (or_fault 27 (small_at k)) _ j a.2))
-    (bind_err (or_fault 26 (natural_byte p)) _ j e)
+    (bind_err (or_fault (Faulty ScaleRange) (small_at k)) _ j a.2))
+    (bind_err (or_fault (Faulty PrecisionRange) (natural_byte p)) _ j e)
 
 map_reads : (x y : Tree) (o : Bool) (n : Nullability) (t : Tree) → map_read x y o n ≡ Ok t → (nullability x ≡ NonNullable) × (t ≡ of.map_of x y o n)
 unfolding map_read
@@ -122,19 +128,19 @@ map_reads x y o n t e = go (nullability x) refl e
     go NonNullable is f = (is, ok_is (of.map_of x y o n) t f)
     go Nullable is f = cc
 
-map_fault : (x y : Tree) (o : Bool) (n : Nullability) (k : ℕ) → map_read x y o n ≡ Err k → (nullability x ≡ Nullable) × (k ≡ 9)
+map_fault : (x y : Tree) (o : Bool) (n : Nullability) (k : VortexError) → map_read x y o n ≡ Err k → (nullability x ≡ Nullable) × (k ≡ MapKeyNullable)
 unfolding map_read
 map_fault x y o n k e = go (nullability x) refl e
   where
-    go : (m : Nullability) → nullability x ≡ m → when_required m (of.map_of x y o n) ≡ Err k → (nullability x ≡ Nullable) × (k ≡ 9)
+    go : (m : Nullability) → nullability x ≡ m → when_required m (of.map_of x y o n) ≡ Err k → (nullability x ≡ Nullable) × (k ≡ MapKeyNullable)
     go NonNullable is f = cc
-    go Nullable is f = (is, err_is {A = Tree} 9 k f)
+    go Nullable is f = (is, err_is {A = Tree} MapKeyNullable k f)
 
-test_ok : {A : Type 0} (b : Bool) (x : A) (j : ℕ) (t : A) → cond b (ok x) (err j) ≡ Ok t → (b ≡ true) × (t ≡ x)
+test_ok : {A : Type 0} (b : Bool) (x : A) (j : VortexError) (t : A) → cond b (ok x) (err j) ≡ Ok t → (b ≡ true) × (t ≡ x)
 test_ok true x j t e = (refl, ok_is x t e)
 test_ok false x j t e = cc
 
-test_err : {A : Type 0} (b : Bool) (x : A) (j k : ℕ) → cond b (ok x) (err j) ≡ Err k → (b ≡ false) × (k ≡ j)
+test_err : {A : Type 0} (b : Bool) (x : A) (j k : VortexError) → cond b (ok x) (err j) ≡ Err k → (b ≡ false) × (k ≡ j)
 test_err true x j k e = cc
 test_err {A} false x j k e = (refl, err_is {A = A} j k e)
 
@@ -143,12 +149,12 @@ not_both b e f = let g : true ≡ false = sym e ∙ f in cc
 
 struct_reads : (ns : List (List ℕ)) (ts : List Tree) (n : Nullability) (t : Tree) → struct_read ns ts n ≡ Ok t → (length ns ≡ length ts) × (t ≡ of.struct (fields (zip ns ts)) n)
 unfolding struct_read
-struct_reads ns ts n t e = let g = test_ok (length ns == length ts) (of.struct (fields (zip ns ts)) n) 32 t e in ((Decides-eqb (length ns) (length ts)).0 g.0, g.1)
+struct_reads ns ts n t e = let g = test_ok (length ns == length ts) (of.struct (fields (zip ns ts)) n) (Faulty StructLengths) t e in ((Decides-eqb (length ns) (length ts)).0 g.0, g.1)
 
-struct_fault : (ns : List (List ℕ)) (ts : List Tree) (n : Nullability) (k : ℕ) → struct_read ns ts n ≡ Err k → (k ≡ 32) × (length ns ≢ length ts)
+struct_fault : (ns : List (List ℕ)) (ts : List Tree) (n : Nullability) (k : VortexError) → struct_read ns ts n ≡ Err k → (k ≡ Faulty StructLengths) × (length ns ≢ length ts)
 unfolding struct_read
 struct_fault ns ts n k e =
-    let g = test_err (length ns == length ts) (of.struct (fields (zip ns ts)) n) 32 k e in
+    let g = test_err (length ns == length ts) (of.struct (fields (zip ns ts)) n) (Faulty StructLengths) k e in
     (g.1, λ h. not_both (length ns == length ts) ((Decides-eqb (length ns) (length ts)).1 h) g.0)
 
 -- ---- tags
@@ -157,17 +163,17 @@ tags_are : (gs : List ℤ) (tags : List ℕ) → read_tags gs ≡ Ok tags → gs
 unfolding read_tags
 tags_are [] tags e = ap (map pos) (sym (ok_is [] tags e))
 tags_are (g ∷ gs) tags e =
-    let a = bind_ok (or_fault 33 (byte_at g)) _ tags e in
+    let a = bind_ok (or_fault (Faulty TypeIdRange) (byte_at g)) _ tags e in
     let b = bind_ok (read_tags gs) _ tags a.2 in
-    ap (λ x. x ∷ gs) (byte_is g a.0 (fault_is_some 33 (byte_at g) a.0 a.1)).0 ∙ ap (λ ys. pos a.0 ∷ ys) (tags_are gs b.0 b.1) ∙ ap (map pos) (sym (ok_is (a.0 ∷ b.0) tags b.2))
+    ap (λ x. x ∷ gs) (byte_is g a.0 (fault_is_some (Faulty TypeIdRange) (byte_at g) a.0 a.1)).0 ∙ ap (λ ys. pos a.0 ∷ ys) (tags_are gs b.0 b.1) ∙ ap (map pos) (sym (ok_is (a.0 ∷ b.0) tags b.2))
 
-tags_fault : (gs : List ℤ) (k : ℕ) → read_tags gs ≡ Err k → (k ≡ 33) × SomeTagFault gs
+tags_fault : (gs : List ℤ) (k : VortexError) → read_tags gs ≡ Err k → (k ≡ Faulty TypeIdRange) × SomeTagFault gs
 unfolding read_tags
 tags_fault [] k e = absurd (ok_err e)
 tags_fault (g ∷ gs) k e =
-    ⊎_elim (λ a. let f = fault_is_none 33 k (byte_at g) a in (f.0, inl f.1))
+    ⊎_elim (λ a. let f = fault_is_none (Faulty TypeIdRange) k (byte_at g) a in (f.0, inl f.1))
     (λ a. ⊎_elim (λ b. let f = tags_fault gs k b in (f.0, inr f.1)) (λ b. absurd (ok_err b.2)) (bind_err (read_tags gs) _ k a.2))
-    (bind_err (or_fault 33 (byte_at g)) _ k e)
+    (bind_err (or_fault (Faulty TypeIdRange) (byte_at g)) _ k e)
 
 byte_fits : (g : ℤ) (k : ℕ) → g ≡ pos k → k < 256 → FitsSigned w32 g
 byte_fits g k e h = subst (λ (x : ℤ). FitsSigned w32 x) (sym e) (natural_fits k h)
@@ -179,9 +185,9 @@ tags_fit : (gs : List ℤ) (tags : List ℕ) → read_tags gs ≡ Ok tags → Ar
 unfolding read_tags
 tags_fit [] tags e = All-nil (λ g. FitsSigned w32 g)
 tags_fit (g ∷ gs) tags e =
-    let a = bind_ok (or_fault 33 (byte_at g)) _ tags e in
+    let a = bind_ok (or_fault (Faulty TypeIdRange) (byte_at g)) _ tags e in
     let b = bind_ok (read_tags gs) _ tags a.2 in
-    let is = byte_is g a.0 (fault_is_some 33 (byte_at g) a.0 a.1) in
+    let is = byte_is g a.0 (fault_is_some (Faulty TypeIdRange) (byte_at g) a.0 a.1) in
     All-cons (λ g. FitsSigned w32 g) g gs (byte_fits g a.0 is.0 is.1) (tags_fit gs b.0 b.1)
 
 -- the tags of a union that was read fit
@@ -193,54 +199,10 @@ union_tags_fit (Err e) ns ts gs n g = tt
 tags_count : (gs : List ℤ) (tags : List ℕ) → read_tags gs ≡ Ok tags → length gs ≡ length tags
 tags_count gs tags e = ap length (tags_are gs tags e) ∙ length-map tags pos
 
-pos_is : (g k : ℕ) → pos g ≡ pos k → g ≡ k
-pos_is g k e = cc
-
-untrue : (b : Bool) → (b ≡ true → ⊥) → b ≡ false
-untrue true h = absurd (h refl)
-untrue false h = refl
-
-others_up : (g : ℕ) (tags : List ℕ) → AllByRecursion (λ h. nat_eq g h ≡ false) tags → AllByRecursion (λ h. int_eq (pos g) h ≡ false) (map pos tags)
-others_up g [] h = tt
-others_up g (k ∷ tags) h =
-    (untrue (int_eq (pos g) (pos k)) (λ e. false≢true (sym h.0 ∙ (unsigned_Decides g k).1 (pos_is g k ((signed_Decides (pos g) (pos k)).0 e)))), others_up g tags h.1)
-
-others_down : (g : ℕ) (tags : List ℕ) → AllByRecursion (λ h. int_eq (pos g) h ≡ false) (map pos tags) → AllByRecursion (λ h. nat_eq g h ≡ false) tags
-others_down g [] h = tt
-others_down g (k ∷ tags) h =
-    (untrue (nat_eq g k) (λ e. false≢true (sym h.0 ∙ (signed_Decides (pos g) (pos k)).1 (ap pos ((unsigned_Decides g k).0 e)))), others_down g tags h.1)
-
-distinct_up : (tags : List ℕ) → IsDistinct nat_eq tags → IsDistinct int_eq (map pos tags)
-unfolding IsDistinct
-distinct_up [] h = tt
-distinct_up (g ∷ tags) h = (others_up g tags h.0, distinct_up tags h.1)
-
-distinct_down : (tags : List ℕ) → IsDistinct int_eq (map pos tags) → IsDistinct nat_eq tags
-unfolding IsDistinct
-distinct_down [] h = tt
-distinct_down (g ∷ tags) h = (others_down g tags h.0, distinct_down tags h.1)
-
-tags_distinct : (gs : List ℤ) (tags : List ℕ) → read_tags gs ≡ Ok tags → repeats nat_eq tags ≡ false → Distinct gs
-tags_distinct gs tags e r = subst (λ (x : List ℤ). Distinct x) (sym (tags_are gs tags e)) (AllPairs-from_IsDistinct signed_Decides (map pos tags) (distinct_up tags (apart nat_eq tags r)))
-
-tags_repeat : (gs : List ℤ) (tags : List ℕ) → read_tags gs ≡ Ok tags → repeats nat_eq tags ≡ true → ¬ Distinct gs
-tags_repeat gs tags e r = λ d.
-    not_both (repeats nat_eq tags) r (no_repeats nat_eq tags (distinct_down tags (subst (λ (x : List ℤ). IsDistinct int_eq x) (tags_are gs tags e) (IsDistinct-from_AllPairs signed_Decides gs d))))
-
-names_repeat : (ns : List (List ℕ)) → repeats bytes_eq ns ≡ true → ¬ Distinct ns
-names_repeat ns r = λ d. not_both (repeats bytes_eq ns) r (no_repeats bytes_eq ns (IsDistinct-from_AllPairs bytes_eq-Decides ns d))
-
 -- ---- unions
 
-no_names : (ns : List (List ℕ)) → nat_eq (length ns) 0 ≡ true → ns ≡ []
-no_names [] e = refl
-no_names (n ∷ ns) e = let l : 1 ≤ length (n ∷ ns) = omega arith in absurd (grind (arith, nat_tests))
-
-some_names : (ns : List (List ℕ)) → nat_eq (length ns) 0 ≡ false → ns ≢ []
-some_names ns e = λ is. not_both (nat_eq (length ns) 0) (ap (λ (x : List (List ℕ)). nat_eq (length x) 0) is) e
-
 -- the tests of a union, one after the other
-chain_ok : {A : Type 0} (a b c d e : Bool) (x t : A) → cond a (cond b (cond c (err 12) (cond d (err 13) (cond e (err 15) (ok x)))) (err 11)) (err 10) ≡ Ok t
+chain_ok : {A : Type 0} (a b c d e : Bool) (x t : A) → cond a (cond b (cond c (err UnionEmpty) (cond d (err UnionTagsRepeat) (cond e (err UnionNamesRepeat) (ok x)))) (err UnionTagsLength)) (err UnionTypesLength) ≡ Ok t
     → (a ≡ true) × (b ≡ true) × (c ≡ false) × (d ≡ false) × (e ≡ false) × (t ≡ x)
 chain_ok false b c d e x t h = cc
 chain_ok true false c d e x t h = cc
@@ -248,15 +210,6 @@ chain_ok true true true d e x t h = cc
 chain_ok true true false true e x t h = cc
 chain_ok true true false false true x t h = cc
 chain_ok true true false false false x t h = (refl, refl, refl, refl, refl, ok_is x t h)
-
-chain_err : {A : Type 0} (a b c d e : Bool) (x : A) (k : ℕ) → cond a (cond b (cond c (err 12) (cond d (err 13) (cond e (err 15) (ok x)))) (err 11)) (err 10) ≡ Err k
-    → ((k ≡ 10) × (a ≡ false)) ⊎ (((k ≡ 11) × (b ≡ false)) ⊎ (((k ≡ 12) × (c ≡ true)) ⊎ (((k ≡ 13) × (d ≡ true)) ⊎ ((k ≡ 15) × (e ≡ true)))))
-chain_err {A} false b c d e x k h = inl (err_is {A = A} 10 k h, refl)
-chain_err {A} true false c d e x k h = inr (inl (err_is {A = A} 11 k h, refl))
-chain_err {A} true true true d e x k h = inr (inr (inl (err_is {A = A} 12 k h, refl)))
-chain_err {A} true true false true e x k h = inr (inr (inr (inl (err_is {A = A} 13 k h, refl))))
-chain_err {A} true true false false true x k h = inr (inr (inr (inr (err_is {A = A} 15 k h, refl))))
-chain_err true true false false false x k h = absurd (ok_err h)
 
 record MadeUnion (ns : List (List ℕ)) (ts : List Tree) (gs : List ℤ) (tags : List ℕ) (n : Nullability) (t : Tree) : Type 0 where
   read : read_tags gs ≡ Ok tags
@@ -277,22 +230,17 @@ union_reads ns ts gs n t e =
         read = a.1;
         types_count = (Decides-eqb (length ns) (length ts)).0 c.0;
         tags_count = (Decides-eqb (length ns) (length a.0)).0 c.1;
-        some = some_names ns c.2;
-        apart_tags = tags_distinct gs a.0 a.1 c.3;
+        some = has_names ns c.2;
+        apart_tags = tags_up gs a.0 (tags_are gs a.0 a.1) c.3;
         apart_names = AllPairs-from_IsDistinct bytes_eq-Decides ns (apart bytes_eq ns c.4);
         is = c.5;
       },
     )
 
-union_fault : (ns : List (List ℕ)) (ts : List Tree) (gs : List ℤ) (n : Nullability) (k : ℕ) → union_read ns ts gs n ≡ Err k → UnionFault ns (length ts) gs k
-unfolding union_read union_made
+union_fault : (ns : List (List ℕ)) (ts : List Tree) (gs : List ℤ) (n : Nullability) (k : VortexError) → union_read ns ts gs n ≡ Err k → UnionFault ns (length ts) gs k
+unfolding union_read
 union_fault ns ts gs n k e =
-    ⊎_elim (λ a. inl (tags_fault gs k a))
-    (λ a. inr (⊎_elim (λ x. inl (x.0, λ h. not_both (length ns == length ts) ((Decides-eqb (length ns) (length ts)).1 h) x.1))
-    (λ x. inr (⊎_elim (λ y. inl (y.0, λ h. not_both (length ns == length a.0) ((Decides-eqb (length ns) (length a.0)).1 (h ∙ tags_count gs a.0 a.1)) y.1))
-    (λ y. inr (⊎_elim (λ z. inl (z.0, no_names ns z.1)) (λ z. inr (⊎_elim (λ w. inl (w.0, tags_repeat gs a.0 a.1 w.1)) (λ w. inr (w.0, names_repeat ns w.1)) z)) y)) x))
-    (chain_err (length ns == length ts) (length ns == length a.0) (nat_eq (length ns) 0) (repeats nat_eq a.0) (repeats bytes_eq ns) (of.union (variants (zip_tagged ns ts a.0)) n) k a.2)))
-    (bind_err (read_tags gs) _ k e)
+    ⊎_elim (λ a. inl (tags_fault gs k a)) (λ a. inr (a.0, tags_are gs a.0 a.1, union_refused ns ts a.0 n k a.2)) (bind_err (read_tags gs) _ k e)
 
 extension_reads : (s : Meaning) (id b : List ℕ) (x t : Tree) → extension_read s id b x ≡ Ok t → (c : List ℕ) × (keeps s id b x ≡ Some c) × (t ≡ of.extension id c x)
 unfolding extension_read
@@ -300,7 +248,7 @@ extension_reads s id b x t e =
     let d = bind_ok (or_fault (refusal s id) (keeps s id b x)) _ t e in
     (d.0, fault_is_some (refusal s id) (keeps s id b x) d.0 d.1, ok_is (of.extension id d.0 x) t d.2)
 
-extension_fault : (s : Meaning) (id b : List ℕ) (x : Tree) (k : ℕ) → extension_read s id b x ≡ Err k → (k ≡ refusal s id) × (keeps s id b x ≡ None)
+extension_fault : (s : Meaning) (id b : List ℕ) (x : Tree) (k : VortexError) → extension_read s id b x ≡ Err k → (k ≡ refusal s id) × (keeps s id b x ≡ None)
 unfolding extension_read
 extension_fault s id b x k e =
     ⊎_elim (λ a. fault_is_none (refusal s id) k (keeps s id b x) a) (λ d. absurd (ok_err d.2)) (bind_err (or_fault (refusal s id) (keeps s id b x)) _ k e)
@@ -321,14 +269,14 @@ unfolding read_tags
 more_variants s [] m ms gs ts tags x xs e r f h l rest = absurd (omega (arith, h, ap length e))
 more_variants s (n ∷ ns) m ms [] ts tags x xs e r f h l rest = absurd (omega (arith, l, ap length (ok_is [] tags f)))
 more_variants s (n ∷ ns) m ms (g ∷ gs) ts tags x xs e r f h l rest =
-    let a = bind_ok (or_fault 33 (byte_at g)) _ tags f in
+    let a = bind_ok (or_fault (Faulty TypeIdRange) (byte_at g)) _ tags f in
     let b = bind_ok (read_tags gs) _ tags a.2 in
     let is : tags ≡ a.0 ∷ b.0 = ok_is (a.0 ∷ b.0) tags b.2 in (
       x,
       a.0,
       variants (zip_tagged ns xs b.0),
       r,
-      fault_is_some 33 (byte_at g) a.0 a.1,
+      fault_is_some (Faulty TypeIdRange) (byte_at g) a.0 a.1,
       rest ns gs b.0 b.1 (omega (arith, h, ap length e)) (omega (arith, l, ap length is)),
       ap (λ us. variants (zip_tagged (n ∷ ns) us tags)) e ∙ ap (λ us. variants (zip_tagged (n ∷ ns) (x ∷ xs) us)) is,
     )
@@ -345,16 +293,16 @@ mutual
   read_reads s (utf8 f) t e = ok_is (of.utf8 (nullability_of f)) t e
   read_reads s (binary f) t e = ok_is (of.binary (nullability_of f)) t e
   read_reads s (list c f) t e =
-      let b = bind_ok (read_child s 28 c) _ t e in
-      (b.0, child_reads s 28 c b.0 b.1, ok_is (of.list b.0 (nullability_of f)) t b.2)
+      let b = bind_ok (read_child s ListElementMissing c) _ t e in
+      (b.0, child_reads s ListElementMissing c b.0 b.1, ok_is (of.list b.0 (nullability_of f)) t b.2)
   read_reads s (fixed_size_list c k f) t e =
-      let b = bind_ok (read_child s 29 c) _ t e in
-      (b.0, child_reads s 29 c b.0 b.1, ok_is (of.fixed_size_list b.0 k (nullability_of f)) t b.2)
+      let b = bind_ok (read_child s FixedElementMissing c) _ t e in
+      (b.0, child_reads s FixedElementMissing c b.0 b.1, ok_is (of.fixed_size_list b.0 k (nullability_of f)) t b.2)
   read_reads s (map_of c v o f) t e =
-      let a = bind_ok (read_child s 30 c) _ t e in
-      let b = bind_ok (read_child s 31 v) _ t a.2 in
+      let a = bind_ok (read_child s MapKeyMissing c) _ t e in
+      let b = bind_ok (read_child s MapValueMissing v) _ t a.2 in
       let g = map_reads a.0 b.0 o (nullability_of f) t b.2 in
-      (a.0, b.0, child_reads s 30 c a.0 a.1, child_reads s 31 v b.0 b.1, g.0, g.1)
+      (a.0, b.0, child_reads s MapKeyMissing c a.0 a.1, child_reads s MapValueMissing v b.0 b.1, g.0, g.1)
   read_reads s (struct ns ms f) t e =
       let b = bind_ok (read_all s ms) _ t e in
       let g = struct_reads ns b.0 (nullability_of f) t b.2 in
@@ -366,11 +314,11 @@ mutual
       (variants (zip_tagged ns b.0 g.0), all_variants s ns ms gs b.0 g.0 b.1 u.read u.types_count u.tags_count, u.some, u.apart_tags, u.apart_names, u.is)
   read_reads s (variant f) t e = ok_is (of.variant (nullability_of f)) t e
   read_reads s (extension id c b) t e =
-      let a = bind_ok (read_child s 34 c) _ t e in
+      let a = bind_ok (read_child s StorageMissing c) _ t e in
       let d = extension_reads s id (or_empty b) a.0 t a.2 in
-      (a.0, d.0, child_reads s 34 c a.0 a.1, d.1, d.2)
+      (a.0, d.0, child_reads s StorageMissing c a.0 a.1, d.1, d.2)
 
-  child_reads : (s : Meaning) (j : ℕ) (c : Child) (t : Tree) → read_child s j c ≡ Ok t → ReadsChild s c t
+  child_reads : (s : Meaning) (j : MessageFault) (c : Child) (t : Tree) → read_child s j c ≡ Ok t → ReadsChild s c t
   child_reads s j absent t e = cc
   child_reads s j (present m) t e = read_reads s m t e
 
@@ -401,48 +349,56 @@ count_all s (more m ms) ts e =
     let h = count_all s ms b.0 b.1 in
     ap length (ok_is (a.0 ∷ b.0) ts b.2) ∙ omega (arith, h)
 
-key_fault : (s : Meaning) (c : Child) (k : ℕ) (x y : Tree) (o : Bool) (n : Nullability) → read_child s 30 c ≡ Ok x → map_read x y o n ≡ Err k → (k ≡ 9) × (x' : Tree) × ReadsChild s c x' × (nullability x' ≡ Nullable)
-key_fault s c k x y o n r e = let g = map_fault x y o n k e in (g.1, x, child_reads s 30 c x r, g.0)
+key_fault : (s : Meaning) (c : Child) (k : VortexError) (x y : Tree) (o : Bool) (n : Nullability) → read_child s MapKeyMissing c ≡ Ok x → map_read x y o n ≡ Err k → (k ≡ MapKeyNullable) × (x' : Tree) × ReadsChild s c x' × (nullability x' ≡ Nullable)
+key_fault s c k x y o n r e = let g = map_fault x y o n k e in (g.1, x, child_reads s MapKeyMissing c x r, g.0)
 
-kept_fault : (s : Meaning) (id : List ℕ) (c : Child) (b : List ℕ) (k : ℕ) (x : Tree) → read_child s 34 c ≡ Ok x → extension_read s id b x ≡ Err k
+kept_fault : (s : Meaning) (id : List ℕ) (c : Child) (b : List ℕ) (k : VortexError) (x : Tree) → read_child s StorageMissing c ≡ Ok x → extension_read s id b x ≡ Err k
     → (k ≡ refusal s id) × (x' : Tree) × ReadsChild s c x' × (keeps s id b x' ≡ None)
-kept_fault s id c b k x r e = let g = extension_fault s id b x k e in (g.0, x, child_reads s 34 c x r, g.1)
+kept_fault s id c b k x r e = let g = extension_fault s id b x k e in (g.0, x, child_reads s StorageMissing c x r, g.1)
 
-struct_counts : (s : Meaning) (ns : List (List ℕ)) (ms : Messages) (ts : List Tree) (k : ℕ) → read_all s ms ≡ Ok ts → (k ≡ 32) × (length ns ≢ length ts) → (k ≡ 32) × (length ns ≢ count ms)
+struct_counts : (s : Meaning) (ns : List (List ℕ)) (ms : Messages) (ts : List Tree) (k : VortexError) → read_all s ms ≡ Ok ts → (k ≡ Faulty StructLengths) × (length ns ≢ length ts) → (k ≡ Faulty StructLengths) × (length ns ≢ count ms)
 struct_counts s ns ms ts k r g = (g.0, λ h. g.1 (h ∙ sym (count_all s ms ts r)))
 
-union_counts : (s : Meaning) (ns : List (List ℕ)) (ms : Messages) (gs : List ℤ) (ts : List Tree) (k : ℕ) → read_all s ms ≡ Ok ts → UnionFault ns (length ts) gs k → UnionFault ns (count ms) gs k
+union_counts : (s : Meaning) (ns : List (List ℕ)) (ms : Messages) (gs : List ℤ) (ts : List Tree) (k : VortexError) → read_all s ms ≡ Ok ts → UnionFault ns (length ts) gs k → UnionFault ns (count ms) gs k
 union_counts s ns ms gs ts k r g = subst (λ (c : ℕ). UnionFault ns c gs k) (count_all s ms ts r) g
 
 -- ---- a refusal is a fault that stands in the message
 mutual
   unfolding read read_child read_all
 
-  pub read_fault : (s : Meaning) (m : Message) (k : ℕ) → read s m ≡ Err k → Fault s m k
-  read_fault s missing k e = err_is {A = Tree} 24 k e
+  pub read_fault : (s : Meaning) (m : Message) (k : VortexError) → read s m ≡ Err k → Fault s m k
+  read_fault s missing k e = err_is {A = Tree} (Faulty TypeMissing) k e
   read_fault s null k e = absurd (ok_err e)
   read_fault s (bool f) k e = absurd (ok_err e)
   read_fault s (primitive p f) k e = primitive_fault p (nullability_of f) k e
   read_fault s (decimal p c f) k e = decimal_fault p c (nullability_of f) k e
   read_fault s (utf8 f) k e = absurd (ok_err e)
   read_fault s (binary f) k e = absurd (ok_err e)
-  read_fault s (list c f) k e = ⊎_elim (λ a. child_fault s 28 c k a) (λ b. absurd (ok_err b.2)) (bind_err (read_child s 28 c) _ k e)
-  read_fault s (fixed_size_list c n f) k e = ⊎_elim (λ a. child_fault s 29 c k a) (λ b. absurd (ok_err b.2)) (bind_err (read_child s 29 c) _ k e)
+  read_fault s (list c f) k e = ⊎_elim (λ a. child_fault s ListElementMissing c k a) (λ b. absurd (ok_err b.2)) (bind_err (read_child s ListElementMissing c) _ k e)
+  read_fault s (fixed_size_list c n f) k e = ⊎_elim (λ a. child_fault s FixedElementMissing c k a) (λ b. absurd (ok_err b.2)) (bind_err (read_child s FixedElementMissing c) _ k e)
   read_fault s (map_of c v o f) k e =
-      ⊎_elim (λ a. inl (child_fault s 30 c k a)) (λ a. inr (⊎_elim (λ b. inl (child_fault s 31 v k b)) (λ b. inr (key_fault s c k a.0 b.0 o (nullability_of f) a.1 b.2)) (bind_err (read_child s 31 v) _ k a.2))) (bind_err (read_child s 30 c) _ k e)
+      ⊎_elim (λ a. inl (child_fault s MapKeyMissing c k a)) (λ a. inr (⊎_elim (λ b. inl (child_fault s MapValueMissing v k b)) (λ b. inr (key_fault s c k a.0 b.0 o (nullability_of f) a.1 b.2)) (bind_err (read_child s MapValueMissing v) _ k a.2))) (bind_err (read_child s MapKeyMissing c) _ k e)
   read_fault s (struct ns ms f) k e =
       ⊎_elim (λ a. inl (all_fault s ms k a)) (λ a. inr (struct_counts s ns ms a.0 k a.1 (struct_fault ns a.0 (nullability_of f) k a.2))) (bind_err (read_all s ms) _ k e)
   read_fault s (union ns ms gs f) k e =
       ⊎_elim (λ a. inl (all_fault s ms k a)) (λ a. inr (union_counts s ns ms gs a.0 k a.1 (union_fault ns a.0 gs (nullability_of f) k a.2))) (bind_err (read_all s ms) _ k e)
   read_fault s (variant f) k e = absurd (ok_err e)
   read_fault s (extension id c b) k e =
-      ⊎_elim (λ a. inl (child_fault s 34 c k a)) (λ a. inr (kept_fault s id c (or_empty b) k a.0 a.1 a.2)) (bind_err (read_child s 34 c) _ k e)
+      ⊎_elim (λ a. inl (child_fault s StorageMissing c k a)) (λ a. inr (kept_fault s id c (or_empty b) k a.0 a.1 a.2)) (bind_err (read_child s StorageMissing c) _ k e)
 
-  child_fault : (s : Meaning) (j : ℕ) (c : Child) (k : ℕ) → read_child s j c ≡ Err k → ChildFault s j c k
-  child_fault s j absent k e = err_is {A = Tree} j k e
+  child_fault : (s : Meaning) (j : MessageFault) (c : Child) (k : VortexError) → read_child s j c ≡ Err k → ChildFault s j c k
+  child_fault s j absent k e = err_is {A = Tree} (Faulty j) k e
   child_fault s j (present m) k e = read_fault s m k e
 
-  all_fault : (s : Meaning) (ms : Messages) (k : ℕ) → read_all s ms ≡ Err k → SomeFault s ms k
+  all_fault : (s : Meaning) (ms : Messages) (k : VortexError) → read_all s ms ≡ Err k → SomeFault s ms k
   all_fault s no_message k e = absurd (ok_err e)
   all_fault s (more m ms) k e =
       ⊎_elim (λ a. inl (read_fault s m k a)) (λ a. inr (⊎_elim (λ b. all_fault s ms k b) (λ b. absurd (ok_err b.2)) (bind_err (read_all s ms) _ k a.2))) (bind_err (read s m) _ k e)
+
+-- every message reads as a type or has a fault
+pub reads_or_faulty : (s : Meaning) (m : Message) → ((t : Tree) × Reads s m t) ⊎ ((e : VortexError) × Fault s m e)
+reads_or_faulty s m = go (read s m) refl
+  where
+    go : (r : Result Tree VortexError) → read s m ≡ r → ((t : Tree) × Reads s m t) ⊎ ((e : VortexError) × Fault s m e)
+    go (Ok t) is = inl (t, read_reads s m t is)
+    go (Err e) is = inr (e, read_fault s m e is)

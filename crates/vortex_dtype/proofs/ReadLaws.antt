@@ -1,3 +1,6 @@
+-- SPDX-License-Identifier: Apache-2.0
+-- SPDX-FileCopyrightText: Copyright the Vortex contributors
+
 -- Laws of reading, over message trees and types alone.
 use Rattle.std.proofs.Common.{◌≡◌, ◌≢◌, ⊎_elim, ℕ, ℤ, negsuc, ◌<◌, ◌≤◌, List, [], ◌∷◌, length, Option, Some, None, Bool, true, false, cond, ◌==◌, pos, refl, sym, ap, ◌∙◌, subst, arith, All, nat_lt}
 use Rattle.std.specs.List.{IsDistinct, AllByRecursion}
@@ -6,6 +9,7 @@ use Rattle.std.specs.Ordering.{int_eq}
 use Rattle.std.specs.Str.{bytes_eq}
 use Rattle.std.proofs.lemmas.Bool.{false≢true}
 use Rattle.std.proofs.lemmas.Bool.Decides.{Decides-eqb, nat_tests}
+use Rattle.std.proofs.lemmas.List.{length-map}
 use Rattle.std.proofs.lemmas.Slice.Eq.{bytes_eq-Decides}
 use Rattle.std.proofs.lemmas.Map.Made.{IsDistinct-from_AllPairs, AllPairs-from_IsDistinct}
 use Rattle.dtype_base.specs.Primitives as base
@@ -13,6 +17,9 @@ use Rattle.dtype_base.specs.Nullability.{nullability_of}
 use Rattle.dtype_base.specs.declared.nullability.Nullability.{Nullability}
 use Rattle.dtype_base.specs.declared.nullability.Nullability.TheVariants.{NonNullable, Nullable}
 use Rattle.dtype_base.specs.declared.ptype.PType.{PType}
+use Rattle.dtype_base.specs.declared.vortex_error.VortexError.{VortexError}
+use Rattle.dtype_base.specs.declared.vortex_error.MessageFault.{MessageFault}
+use Rattle.dtype_base.specs.declared.vortex_error.MessageFault.TheVariants.{ListElementMissing, FixedElementMissing, MapKeyMissing, MapValueMissing, StorageMissing}
 use Rattle.dtype_base.specs.declared.ptype.PType.TheVariants.{U8, U16, U32, U64, I8, I16, I32, I64, F16, F32, F64}
 use Rattle.dtype_types.specs.Distinct.{Distinct}
 use Rattle.dtype_types.specs.Nullable.{nullability}
@@ -30,6 +37,7 @@ use Rattle.vortex_dtype.specs.Written.{is_nullable, written, field_names, writte
 use Rattle.vortex_dtype.specs.IsMessage.{OptionBytes, IsMessage, IsChild, AreMessages}
 use Rattle.vortex_dtype.proofs.SessionLaws.{keeps-again}
 use Rattle.vortex_dtype.proofs.Decimals.{fault_invalid}
+use Rattle.vortex_dtype.proofs.Unions.{makes_unrefused, tags_down}
 
 some_is : {X : Type 0} (a b : X) → Some a ≡ Some b → a ≡ b
 some_is a b e = cc
@@ -51,7 +59,7 @@ ptype_at-number F32 = refl
 ptype_at-number F64 = refl
 
 -- two primitive types of one number are one
-number_once : (p q : PType) → number p ≡ number q → p ≡ q
+pub number_once : (p q : PType) → number p ≡ number q → p ≡ q
 number_once p q e = some_is p q (sym (ptype_at-number p) ∙ ap ptype_at e ∙ ptype_at-number q)
 
 -- a message reads as one type at most
@@ -115,10 +123,11 @@ no_tag_fault s (n ∷ ns) no_message gs vs h f = h
 no_tag_fault s (n ∷ ns) (more m ms) [] vs h f = h
 no_tag_fault s (n ∷ ns) (more m ms) (g ∷ gs) vs h f = ⊎_elim (λ a. none_is h.1 (sym h.4 ∙ a)) (λ a. no_tag_fault s ns ms gs h.2 h.5 a) f
 
-union_fault : (s : Meaning) (ns : List (List ℕ)) (ms : Messages) (gs : List ℤ) (vs : Variants) (k : ℕ) → ReadsVariants s ns ms gs vs → ns ≢ [] → Distinct gs → Distinct ns → UnionFault ns (count ms) gs k → ⊥
-union_fault s ns ms gs vs k h some tags names f =
+union_fault : (s : Meaning) (ns : List (List ℕ)) (ms : Messages) (gs : List ℤ) (vs : Variants) (e : VortexError) → ReadsVariants s ns ms gs vs → ns ≢ [] → Distinct gs → Distinct ns → UnionFault ns (count ms) gs e → ⊥
+union_fault s ns ms gs vs e h some tags names f =
     let c = count_variants s ns ms gs vs h in
-    ⊎_elim (λ a. no_tag_fault s ns ms gs vs h a.1) (⊎_elim (λ a. a.1 c.0) (⊎_elim (λ a. a.1 c.1) (⊎_elim (λ a. some a.1) (⊎_elim (λ a. a.1 tags) (λ a. a.1 names))))) f
+    ⊎_elim (λ a. no_tag_fault s ns ms gs vs h a.1)
+    (λ a. makes_unrefused ns (count ms) a.0 e ((c.0, c.1 ∙ ap length a.1 ∙ length-map a.0 pos, some), tags_down gs a.0 a.1 tags, names) a.2) f
 
 count_fields : (s : Meaning) (ns : List (List ℕ)) (ms : Messages) (fs : Fields) → ReadsFields s ns ms fs → length ns ≡ count ms
 count_fields s [] no_message fs h = refl
@@ -131,7 +140,7 @@ two n e f = let g : Nullable ≡ NonNullable = sym e ∙ f in cc
 
 -- a message with a fault reads as no type
 mutual
-  pub fault_none : (s : Meaning) (m : Message) (k : ℕ) (t : Tree) → Fault s m k → Reads s m t → ⊥
+  pub fault_none : (s : Meaning) (m : Message) (k : VortexError) (t : Tree) → Fault s m k → Reads s m t → ⊥
   fault_none s missing k t f h = h
   fault_none s null k t f h = f
   fault_none s (bool x) k t f h = f
@@ -140,26 +149,26 @@ mutual
   fault_none s (utf8 x) k t f h = f
   fault_none s (binary x) k t f h = f
   fault_none s (variant x) k t f h = f
-  fault_none s (fixed_size_list c n x) k t f h = child_none s 29 c k h.0 f h.1
+  fault_none s (fixed_size_list c n x) k t f h = child_none s FixedElementMissing c k h.0 f h.1
   fault_none s (union ns ms gs x) k t f h = ⊎_elim (λ a. variants_none s ns ms gs k h.0 a h.1) (λ a. union_fault s ns ms gs h.0 k h.1 h.2 h.3 h.4 a) f
-  fault_none s (list c x) k t f h = child_none s 28 c k h.0 f h.1
+  fault_none s (list c x) k t f h = child_none s ListElementMissing c k h.0 f h.1
   fault_none s (map_of c v o x) k t f h =
-      ⊎_elim (λ a. child_none s 30 c k h.0 a h.2) (⊎_elim (λ a. child_none s 31 v k h.1 a h.3) (λ a. two (nullability h.0) (ap nullability (child_once s c h.0 a.1 h.2 a.2) ∙ a.3) h.4)) f
+      ⊎_elim (λ a. child_none s MapKeyMissing c k h.0 a h.2) (⊎_elim (λ a. child_none s MapValueMissing v k h.1 a h.3) (λ a. two (nullability h.0) (ap nullability (child_once s c h.0 a.1 h.2 a.2) ∙ a.3) h.4)) f
   fault_none s (struct ns ms x) k t f h = ⊎_elim (λ a. some_none s ns ms k h.0 a h.1) (λ a. a.1 (count_fields s ns ms h.0 h.1)) f
   fault_none s (extension id c b) k t f h =
-      ⊎_elim (λ a. child_none s 34 c k h.0 a h.2) (λ a. none_is h.1 (sym h.3 ∙ ap (keeps s id (or_empty b)) (child_once s c h.0 a.1 h.2 a.2) ∙ a.3)) f
+      ⊎_elim (λ a. child_none s StorageMissing c k h.0 a h.2) (λ a. none_is h.1 (sym h.3 ∙ ap (keeps s id (or_empty b)) (child_once s c h.0 a.1 h.2 a.2) ∙ a.3)) f
 
-  child_none : (s : Meaning) (j : ℕ) (c : Child) (k : ℕ) (t : Tree) → ChildFault s j c k → ReadsChild s c t → ⊥
+  child_none : (s : Meaning) (j : MessageFault) (c : Child) (k : VortexError) (t : Tree) → ChildFault s j c k → ReadsChild s c t → ⊥
   child_none s j absent k t f h = h
   child_none s j (present m) k t f h = fault_none s m k t f h
 
-  some_none : (s : Meaning) (ns : List (List ℕ)) (ms : Messages) (k : ℕ) (fs : Fields) → SomeFault s ms k → ReadsFields s ns ms fs → ⊥
+  some_none : (s : Meaning) (ns : List (List ℕ)) (ms : Messages) (k : VortexError) (fs : Fields) → SomeFault s ms k → ReadsFields s ns ms fs → ⊥
   some_none s [] no_message k fs f h = f
   some_none s [] (more m ms) k fs f h = h
   some_none s (n ∷ ns) no_message k fs f h = h
   some_none s (n ∷ ns) (more m ms) k fs f h = ⊎_elim (λ a. fault_none s m k h.0 a h.2) (λ a. some_none s ns ms k h.1 a h.3) f
 
-  variants_none : (s : Meaning) (ns : List (List ℕ)) (ms : Messages) (gs : List ℤ) (k : ℕ) (vs : Variants) → SomeFault s ms k → ReadsVariants s ns ms gs vs → ⊥
+  variants_none : (s : Meaning) (ns : List (List ℕ)) (ms : Messages) (gs : List ℤ) (k : VortexError) (vs : Variants) → SomeFault s ms k → ReadsVariants s ns ms gs vs → ⊥
   variants_none s [] no_message [] k vs f h = f
   variants_none s [] no_message (g ∷ gs) k vs f h = f
   variants_none s [] (more m ms) gs k vs f h = h
@@ -171,7 +180,7 @@ is_nullable-of : (f : Bool) → is_nullable (nullability_of f) ≡ f
 is_nullable-of true = refl
 is_nullable-of false = refl
 
-nullability_of-is : (n : Nullability) → nullability_of (is_nullable n) ≡ n
+pub nullability_of-is : (n : Nullability) → nullability_of (is_nullable n) ≡ n
 nullability_of-is Nullable = refl
 nullability_of-is NonNullable = refl
 
@@ -486,3 +495,10 @@ pub normal_again : (s : Meaning) (m n : Message) (t : Tree) → Accepts s m t �
 normal_again s m n t h k =
     let e = (written_normal s m n t h.reads).0 k in
     subst (λ (x : Message). Normal s x x) (sym e) (reads_normal s (written t) t (written_reads s t h.valid h.admitted))
+
+-- equal messages read alike
+pub read_alike : (s : Meaning) (m n : Message) (t u : Tree) → m ≡ n → Accepts s m t → Accepts s n u → t ≡ u
+read_alike s m n t u e a b = reads_once s n t u (subst (λ (x : Message). Reads s x t) e a.reads) b.reads
+
+pub copy_accepted : (s : Meaning) (m n : Message) (t : Tree) → m ≡ n → Accepts s m t → Accepts s n t
+copy_accepted s m n t e a = subst (λ (x : Message). Accepts s x t) e a

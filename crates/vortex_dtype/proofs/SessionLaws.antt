@@ -1,3 +1,6 @@
+-- SPDX-License-Identifier: Apache-2.0
+-- SPDX-FileCopyrightText: Copyright the Vortex contributors
+
 -- Laws of sessions: what is registered after a list of calls, what is kept, and what is admitted.
 use Rattle.std.specs.Prelude.{◌≡◌, ◌≢◌, ◌↔◌, ℕ, List, [], ◌∷◌, ◌++◌, Option, Some, None, Bool, true, false, if◌then◌else◌, bytes_eq, option_and_then, refl}
 use Rattle.std.specs.List.{list_any}
@@ -6,10 +9,10 @@ use Rattle.std.proofs.lemmas.Bool.{false_from_ne_true}
 use Rattle.std.proofs.lemmas.Slice.Eq.{bytes_eq-Decides}
 use Rattle.dtype_base.specs.declared.nullability.Nullability.{Nullability}
 use Rattle.dtype_base.specs.declared.nullability.Nullability.TheVariants.{NonNullable, Nullable}
-use Rattle.dtype_types.specs.Tree.{Tree, null, bool, primitive, decimal, utf8, binary, list, fixed_size_list, map_of, struct, union, variant, extension}
+use Rattle.dtype_types.specs.Tree.{Tree, Fields, no_fields, field, Variants, no_variants, choice, null, bool, primitive, decimal, utf8, binary, list, fixed_size_list, map_of, struct, union, variant, extension}
 use Rattle.dtype_types.specs.Valid.{Valid}
 use Rattle.dtype_types.specs.Nullable.{set_null}
-use Rattle.vortex_dtype.specs.Meaning.{Rewrites, Meaning, Lawful, LawfulSession, Bytes, kept, keeps, put, allowing, Admits}
+use Rattle.vortex_dtype.specs.Meaning.{Rewrites, Meaning, Lawful, LawfulSession, Bytes, kept, keeps, nothing, put, allowing, Admits, AdmitsFields, AdmitsVariants}
 use Rattle.vortex_dtype.specs.Calls.{Call, register, allow, after, LeavesAlone, is_allow}
 
 some_is : {X : Type 0} (a b : X) → Some a ≡ Some b → a ≡ b
@@ -23,15 +26,18 @@ after-append (register i r ∷ before) rest m = after-append before rest (put i 
 after-append (allow ∷ before) rest m = after-append before rest (allowing m)
 
 -- what is put under another id is not seen
-put-other : (i id : List ℕ) (r : Rewrites) (m : Meaning) → i ≢ id → (put i r m).registered id ≡ m.registered id
+pub put-other : (i id : List ℕ) (r : Rewrites) (m : Meaning) → i ≢ id → (put i r m).registered id ≡ m.registered id
+unfolding put
 put-other i id r m other =
     ap (λ (b : Bool). if b then Some r else m.registered id) (false_from_ne_true (bytes_eq i id) (λ e. other ((bytes_eq-Decides i id).0 e)))
 
-put-same : (id : List ℕ) (r : Rewrites) (m : Meaning) → (put id r m).registered id ≡ Some r
+pub put-same : (id : List ℕ) (r : Rewrites) (m : Meaning) → (put id r m).registered id ≡ Some r
+unfolding put
 put-same id r m = ap (λ (b : Bool). if b then Some r else m.registered id) ((bytes_eq-Decides id id).1 refl)
 
 -- calls that leave an id alone leave what is registered under it
 pub after-left_alone : (calls : List Call) (m : Meaning) (id : List ℕ) → LeavesAlone id calls → (after calls m).registered id ≡ m.registered id
+unfolding allowing
 after-left_alone [] m id h = refl
 after-left_alone (register i r ∷ calls) m id h = after-left_alone calls (put i r m) id h.1 ∙ put-other i id r m h.0
 after-left_alone (allow ∷ calls) m id h = after-left_alone calls (allowing m) id h
@@ -44,11 +50,13 @@ after-last before rest m id r h =
 
 -- once unknown ids are kept, they stay so
 stays-unknown : (calls : List Call) (m : Meaning) → m.unknown ≡ true → (after calls m).unknown ≡ true
+unfolding put allowing
 stays-unknown [] m e = e
 stays-unknown (register i r ∷ calls) m e = stays-unknown calls (put i r m) e
 stays-unknown (allow ∷ calls) m e = stays-unknown calls (allowing m) refl
 
 pub after-unknown : (calls : List Call) (m : Meaning) → m.unknown ≡ false → (after calls m).unknown ≡ list_any is_allow calls
+unfolding put allowing
 after-unknown [] m e = e
 after-unknown (register i r ∷ calls) m e = after-unknown calls (put i r m) e
 after-unknown (allow ∷ calls) m e = stays-unknown calls (allowing m) refl
@@ -100,3 +108,63 @@ admits-set_null m h (extension id b s) u n v e = go (set_null s n) (λ x is. adm
         let p = same_by m (extension id b x) u e' in
         let k = ks x is in
         (λ a. p.0 (k ∙ a.0, (ih x is).0 a.1), λ a. let b' = p.1 a in (sym k ∙ b'.0, (ih x is).1 b'.1))
+
+-- a session without plugins that keeps unknown ids admits every type
+kept_all : (m : Meaning) → ((id : List ℕ) → m.registered id ≡ None) → m.unknown ≡ true → (id b : List ℕ) (s : Tree) → keeps m id b s ≡ Some b
+kept_all m none all id b s = ap (λ o. kept o m.unknown b s) (none id) ∙ ap (λ (u : Bool). kept None u b s) all
+
+mutual
+  pub admits-all : (m : Meaning) → ((id : List ℕ) → m.registered id ≡ None) → m.unknown ≡ true → (t : Tree) → Admits m t
+  admits-all m none all null = tt
+  admits-all m none all (bool n) = tt
+  admits-all m none all (primitive p n) = tt
+  admits-all m none all (decimal d n) = tt
+  admits-all m none all (utf8 n) = tt
+  admits-all m none all (binary n) = tt
+  admits-all m none all (variant n) = tt
+  admits-all m none all (list t n) = admits-all m none all t
+  admits-all m none all (fixed_size_list t k n) = admits-all m none all t
+  admits-all m none all (map_of t u o n) = (admits-all m none all t, admits-all m none all u)
+  admits-all m none all (struct fs n) = admits-fields m none all fs
+  admits-all m none all (union vs n) = admits-variants m none all vs
+  admits-all m none all (extension id b s) = (kept_all m none all id b s, admits-all m none all s)
+
+  admits-fields : (m : Meaning) → ((id : List ℕ) → m.registered id ≡ None) → m.unknown ≡ true → (fs : Fields) → AdmitsFields m fs
+  admits-fields m none all no_fields = tt
+  admits-fields m none all (field n t rest) = (admits-all m none all t, admits-fields m none all rest)
+
+  admits-variants : (m : Meaning) → ((id : List ℕ) → m.registered id ≡ None) → m.unknown ≡ true → (vs : Variants) → AdmitsVariants m vs
+  admits-variants m none all no_variants = tt
+  admits-variants m none all (choice n t g rest) = (admits-all m none all t, admits-variants m none all rest)
+
+-- ---- what calls change, and what they leave alone
+
+pub registered_put : (m n : Meaning) (i : List ℕ) (r : Rewrites) → n ≡ put i r m → n.registered i ≡ Some r
+registered_put m n i r e = ap (λ (s : Meaning). s.registered i) e ∙ put-same i r m
+
+pub others_put : (m n : Meaning) (i id : List ℕ) (r : Rewrites) → n ≡ put i r m → i ≢ id → n.registered id ≡ m.registered id
+others_put m n i id r e other = ap (λ (s : Meaning). s.registered id) e ∙ put-other i id r m other
+
+pub unknown_put : (m n : Meaning) (i : List ℕ) (r : Rewrites) → n ≡ put i r m → n.unknown ≡ m.unknown
+unfolding put
+unknown_put m n i r e = ap (λ (s : Meaning). s.unknown) e
+
+pub unknown_allowing : (m n : Meaning) → n ≡ allowing m → n.unknown ≡ true
+unfolding allowing
+unknown_allowing m n e = ap (λ (s : Meaning). s.unknown) e
+
+pub registered_allowing : (m n : Meaning) (id : List ℕ) → n ≡ allowing m → n.registered id ≡ m.registered id
+unfolding allowing
+registered_allowing m n id e = ap (λ (s : Meaning). s.registered id) e
+
+pub registered_nothing : (n : Meaning) (id : List ℕ) → n ≡ nothing → n.registered id ≡ None
+unfolding nothing
+registered_nothing n id e = ap (λ (s : Meaning). s.registered id) e
+
+pub unknown_nothing : (n : Meaning) → n ≡ nothing → n.unknown ≡ false
+unfolding nothing
+unknown_nothing n e = ap (λ (s : Meaning). s.unknown) e
+
+pub admits_allowing : (n : Meaning) (t : Tree) → n ≡ allowing nothing → Admits n t
+admits_allowing n t e =
+    admits-all n (λ id. registered_allowing nothing n id e ∙ registered_nothing nothing id refl) (unknown_allowing nothing n e) t

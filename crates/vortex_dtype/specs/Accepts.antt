@@ -1,3 +1,6 @@
+-- SPDX-License-Identifier: Apache-2.0
+-- SPDX-FileCopyrightText: Copyright the Vortex contributors
+
 -- What a session accepts: a message that reads as a type, which is then valid, and admitted.
 use Rattle.dtype_types.specs.Tree.{Tree}
 use Rattle.dtype_types.specs.Valid.{Valid}

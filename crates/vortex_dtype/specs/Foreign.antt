@@ -1,3 +1,6 @@
+-- SPDX-License-Identifier: Apache-2.0
+-- SPDX-FileCopyrightText: Copyright the Vortex contributors
+
 -- Extensions of which nothing is known: all bytes are taken, and written unchanged, over every storage.
 use Rattle.std.specs.Prelude.{◌≡◌, ℕ, List, Some, true, refl}
 use Rattle.std.proofs.Common.{sym, ap, ◌∙◌, subst}

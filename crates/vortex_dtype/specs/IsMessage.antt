@@ -1,3 +1,6 @@
+-- SPDX-License-Identifier: Apache-2.0
+-- SPDX-FileCopyrightText: Copyright the Vortex contributors
+
 -- A message tree as a message can hold it: its bytes are below 256, and each number is in the range of its
 -- field's type, 32 bits with or without a sign. Only code that reads a message can know it.
 use Rattle.std.specs.Prelude.{ℕ, ◌<◌, ◌^◌, ℤ, List, Option, Some, None, All, FitsSigned}

@@ -1,3 +1,6 @@
+-- SPDX-License-Identifier: Apache-2.0
+-- SPDX-FileCopyrightText: Copyright the Vortex contributors
+
 pub mod Numbers
 pub mod Meaning
 pub mod Typed
@@ -12,6 +15,7 @@ pub mod Reads
 pub mod Written
 pub mod Accepts
 pub mod PathMessage
+pub mod StorageKinds
 pub mod Types
 pub use Rattle.dtype_base.specs.Decimals
 pub use Rattle.dtype_base.specs.Escapes

@@ -1,8 +1,14 @@
+-- SPDX-License-Identifier: Apache-2.0
+-- SPDX-FileCopyrightText: Copyright the Vortex contributors
+
 -- What a plugin and a session mean. From the documentation of `ExtDTypePlugin` and `DTypeSession`: a
 -- plugin says which bytes it writes back for an extension's metadata, a session knows which plugin
 -- stands under an id, and whether an unknown id's metadata is kept.
 use Rattle.std.specs.Prelude.{◌≡◌, ℕ, ◌<◌, List, Option, Some, None, All, Bool, true, false, if◌then◌else◌, bytes_eq}
 use Rattle.dtype_base.specs.declared.nullability.Nullability.{Nullability}
+use Rattle.dtype_base.specs.declared.vortex_error.VortexError.{VortexError}
+use Rattle.dtype_base.specs.declared.vortex_error.VortexError.TheVariants.{MetadataRefused, Message as Faulty}
+use Rattle.dtype_base.specs.declared.vortex_error.MessageFault.TheVariants.{ExtensionUnregistered}
 use Rattle.dtype_types.specs.Tree.{Tree, Fields, no_fields, field, Variants, no_variants, choice, null, bool, primitive, decimal, utf8, binary, list, fixed_size_list, map_of, struct, union, variant, extension}
 use Rattle.dtype_types.specs.Valid.{Valid}
 use Rattle.dtype_types.specs.Nullable.{SetNull}
@@ -27,15 +33,15 @@ pub record Meaning : Type 0 where
   pub unknown : Bool
 
 -- a new session: nothing is registered, and unknown ids are refused
-abbrev pub nothing : Meaning
+unfoldable pub nothing : Meaning
 nothing = record { registered = λ id. None; unknown = false }
 
 -- the session after r is registered under i, in place of what stood there
-abbrev pub put : List ℕ → Rewrites → Meaning → Meaning
+unfoldable pub put : List ℕ → Rewrites → Meaning → Meaning
 put i r m = record { registered = λ id. if bytes_eq i id then Some r else m.registered id; unknown = m.unknown }
 
 -- the session that keeps unknown ids from now on
-abbrev pub allowing : Meaning → Meaning
+unfoldable pub allowing : Meaning → Meaning
 allowing m = record { registered = m.registered; unknown = true }
 
 -- every plugin of the session is lawful
@@ -52,12 +58,12 @@ kept (Some r) unknown b s = r b s
 abbrev pub keeps : Meaning → List ℕ → List ℕ → Tree → Option (List ℕ)
 keeps m id b s = kept (m.registered id) m.unknown b s
 
--- the number of the refusal where nothing is kept: 22 by the plugin, 35 where none is registered
-abbrev pub refusal_of : Option Rewrites → ℕ
-refusal_of None = 35
-refusal_of (Some r) = 22
+-- the refusal where nothing is kept: by the plugin, or because none is registered
+abbrev pub refusal_of : Option Rewrites → VortexError
+refusal_of None = Faulty ExtensionUnregistered
+refusal_of (Some r) = MetadataRefused
 
-abbrev pub refusal : Meaning → List ℕ → ℕ
+abbrev pub refusal : Meaning → List ℕ → VortexError
 refusal m id = refusal_of (m.registered id)
 
 -- the session admits a type: at every extension it keeps the very bytes that stand there

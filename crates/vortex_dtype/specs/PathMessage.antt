@@ -1,6 +1,9 @@
+-- SPDX-License-Identifier: Apache-2.0
+-- SPDX-FileCopyrightText: Copyright the Vortex contributors
+
 -- What a path message says: for each part the step to the field of its name, or nothing where the part has no
 -- kind. From the documentation of the protobuf message `FieldPath`.
-use Rattle.std.specs.Prelude.{List, map, Option, option_map}
+use Rattle.std.specs.Prelude.{ℕ, List, [], ◌∷◌, map, Option, Some, None, option_map}
 use Rattle.dtype_paths.specs.declared.field.Field.{Field as Step}
 use Rattle.dtype_paths.specs.declared.field.Field.TheVariants.{Name}
 use Rattle.dtype_messages.specs.declared.pb.Field.{Field}
@@ -13,3 +16,9 @@ step_of part = option_map Name (part_name part)
 
 abbrev pub steps_of : FieldPath → List (Option Step)
 steps_of p = map step_of p.path.items
+
+-- the path of parts that hold these names, in order; none where a part has no kind
+abbrev pub path_of : List (Option (List ℕ)) → Option (List Step)
+path_of [] = Some []
+path_of (None ∷ parts) = None
+path_of (Some name ∷ parts) = option_map (λ path. Name name ∷ path) (path_of parts)

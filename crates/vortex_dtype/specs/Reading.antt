@@ -1,4 +1,7 @@
--- Reading as a function on message trees: the type, or the number of the first fault, where a child comes before
+-- SPDX-License-Identifier: Apache-2.0
+-- SPDX-FileCopyrightText: Copyright the Vortex contributors
+
+-- Reading as a function on message trees: the type, or the first refusal with its values, where a child comes before
 -- what its parent asks of it. From the documentation of the refusals. The relations of `Reads` don't look at the
 -- order; two lemmas lead from here to them.
 use Rattle.std.specs.Prelude.{◌≡◌, ℕ, ℤ, pos, Bool, true, false, List, [], ◌∷◌, length, Option, Some, None, Result, Ok, Err, if◌then◌else◌, ◌==◌, nat_eq, nat_lt, int_lt, bytes_eq}
@@ -6,8 +9,9 @@ use Rattle.std.specs.List.{zip, list_any}
 use Rattle.dtype_base.specs.declared.nullability.Nullability.{Nullability}
 use Rattle.dtype_base.specs.declared.nullability.Nullability.TheVariants.{NonNullable, Nullable}
 use Rattle.dtype_base.specs.declared.vortex_error.VortexError.{VortexError}
-use Rattle.dtype_base.specs.declared.vortex_error.VortexError.TheVariants.{OutOfMemory}
-use Rattle.dtype_base.specs.Refusals.{number_of}
+use Rattle.dtype_base.specs.declared.vortex_error.VortexError.TheVariants.{OutOfMemory, PrecisionZero, PrecisionTooLarge, ScaleTooLarge, ScaleAbovePrecision, MapKeyNullable, UnionTypesLength, UnionTagsLength, UnionEmpty, UnionTagsRepeat, UnionNamesRepeat, Message as Faulty}
+use Rattle.dtype_base.specs.declared.vortex_error.MessageFault.{MessageFault}
+use Rattle.dtype_base.specs.declared.vortex_error.MessageFault.TheVariants.{TypeMissing, PrimitiveNumber, PrecisionRange, ScaleRange, ListElementMissing, FixedElementMissing, MapKeyMissing, MapValueMissing, StructLengths, TypeIdRange, StorageMissing}
 use Rattle.dtype_base.specs.Nullability.{nullability_of}
 use Rattle.dtype_base.specs.Decimals.{Decimal}
 use Rattle.dtype_types.specs.Tree as of
@@ -20,11 +24,11 @@ use Rattle.dtype_messages.specs.PTypeNumbers.{ptype_at}
 use Rattle.vortex_dtype.specs.Numbers.{byte_at, small_at, natural_byte}
 
 infixl 10 ◌>>=◌
-abbrev pub ◌>>=◌ : {A B : Type 0} → Result A ℕ → (A → Result B ℕ) → Result B ℕ
+abbrev pub ◌>>=◌ : {A B : Type 0} → Result A VortexError → (A → Result B VortexError) → Result B VortexError
 (Ok x) >>= f = f x
 (Err e) >>= f = Err e
 
-abbrev pub or_fault : {A : Type 0} → ℕ → Option A → Result A ℕ
+abbrev pub or_fault : {A : Type 0} → VortexError → Option A → Result A VortexError
 or_fault k None = Err k
 or_fault k (Some x) = Ok x
 
@@ -34,78 +38,78 @@ or_empty None = []
 or_empty (Some b) = b
 
 -- the parts of a type, made into it
-unfoldable pub primitive_read : ℤ → Nullability → Result Tree ℕ
-primitive_read k n = or_fault 25 (ptype_at k) >>= λ p. Ok (of.primitive p n)
+unfoldable pub primitive_read : ℤ → Nullability → Result Tree VortexError
+primitive_read k n = or_fault (Faulty PrimitiveNumber) (ptype_at k) >>= λ p. Ok (of.primitive p n)
 
-unfoldable pub decimal_made : ℕ → ℤ → Result Decimal ℕ
+unfoldable pub decimal_made : ℕ → ℤ → Result Decimal VortexError
 decimal_made p k =
-    if nat_eq p 0 then Err 1 else (if nat_lt 76 p then Err 2 else (if int_lt (pos 76) k then Err 3 else (if int_lt (pos p) k then Err 4 else
+    if nat_eq p 0 then Err (PrecisionZero 76) else (if nat_lt 76 p then Err (PrecisionTooLarge p 76) else (if int_lt (pos 76) k then Err (ScaleTooLarge k (pos 76)) else (if int_lt (pos p) k then Err (ScaleAbovePrecision k p) else
     Ok (record { precision = p; scale = k }))))
 
-unfoldable pub decimal_read : ℕ → ℤ → Nullability → Result Tree ℕ
-decimal_read p k n = or_fault 26 (natural_byte p) >>= λ q. (or_fault 27 (small_at k) >>= λ c. (decimal_made q c >>= λ d. Ok (of.decimal d n)))
+unfoldable pub decimal_read : ℕ → ℤ → Nullability → Result Tree VortexError
+decimal_read p k n = or_fault (Faulty PrecisionRange) (natural_byte p) >>= λ q. (or_fault (Faulty ScaleRange) (small_at k) >>= λ c. (decimal_made q c >>= λ d. Ok (of.decimal d n)))
 
-abbrev pub when_required : Nullability → Tree → Result Tree ℕ
+abbrev pub when_required : Nullability → Tree → Result Tree VortexError
 when_required NonNullable t = Ok t
-when_required Nullable t = Err 9
+when_required Nullable t = Err MapKeyNullable
 
-unfoldable pub map_read : Tree → Tree → Bool → Nullability → Result Tree ℕ
+unfoldable pub map_read : Tree → Tree → Bool → Nullability → Result Tree VortexError
 map_read x y o n = when_required (nullability x) (of.map_of x y o n)
 
-unfoldable pub struct_read : List (List ℕ) → List Tree → Nullability → Result Tree ℕ
-struct_read ns ts n = if length ns == length ts then Ok (of.struct (fields (zip ns ts)) n) else Err 32
+unfoldable pub struct_read : List (List ℕ) → List Tree → Nullability → Result Tree VortexError
+struct_read ns ts n = if length ns == length ts then Ok (of.struct (fields (zip ns ts)) n) else Err (Faulty StructLengths)
 
 -- the tags, each a byte, or the first fault
-unfoldable pub read_tags : List ℤ → Result (List ℕ) ℕ
+unfoldable pub read_tags : List ℤ → Result (List ℕ) VortexError
 read_tags [] = Ok []
-read_tags (t ∷ ts) = or_fault 33 (byte_at t) >>= λ x. (read_tags ts >>= λ xs. Ok (x ∷ xs))
+read_tags (t ∷ ts) = or_fault (Faulty TypeIdRange) (byte_at t) >>= λ x. (read_tags ts >>= λ xs. Ok (x ∷ xs))
 
 -- something stands twice
 abbrev pub repeats : {X : Type 0} → (X → X → Bool) → List X → Bool
 repeats eq [] = false
 repeats eq (x ∷ xs) = if list_any (eq x) xs then true else repeats eq xs
 
-unfoldable pub union_made : List (List ℕ) → List Tree → List ℕ → Nullability → Result Tree ℕ
+unfoldable pub union_made : List (List ℕ) → List Tree → List ℕ → Nullability → Result Tree VortexError
 union_made ns ts gs n =
-    if length ns == length ts then (if length ns == length gs then (if nat_eq (length ns) 0 then Err 12 else (if repeats nat_eq gs then Err 13 else (if repeats bytes_eq ns then Err 15 else
-    Ok (of.union (variants (zip_tagged ns ts gs)) n)))) else Err 11) else Err 10
+    if length ns == length ts then (if length ns == length gs then (if nat_eq (length ns) 0 then Err UnionEmpty else (if repeats nat_eq gs then Err UnionTagsRepeat else (if repeats bytes_eq ns then Err UnionNamesRepeat else
+    Ok (of.union (variants (zip_tagged ns ts gs)) n)))) else Err UnionTagsLength) else Err UnionTypesLength
 
-unfoldable pub union_read : List (List ℕ) → List Tree → List ℤ → Nullability → Result Tree ℕ
+unfoldable pub union_read : List (List ℕ) → List Tree → List ℤ → Nullability → Result Tree VortexError
 union_read ns ts gs n = read_tags gs >>= λ tags. union_made ns ts tags n
 
-unfoldable pub extension_read : Meaning → List ℕ → List ℕ → Tree → Result Tree ℕ
+unfoldable pub extension_read : Meaning → List ℕ → List ℕ → Tree → Result Tree VortexError
 extension_read s id b x = or_fault (refusal s id) (keeps s id b x) >>= λ c. Ok (of.extension id c x)
 
 unfoldable mutual
-  pub read : Meaning → Message → Result Tree ℕ
-  read s missing = Err 24
+  pub read : Meaning → Message → Result Tree VortexError
+  read s missing = Err (Faulty TypeMissing)
   read s null = Ok of.null
   read s (bool f) = Ok (of.bool (nullability_of f))
   read s (primitive k f) = primitive_read k (nullability_of f)
   read s (decimal p k f) = decimal_read p k (nullability_of f)
   read s (utf8 f) = Ok (of.utf8 (nullability_of f))
   read s (binary f) = Ok (of.binary (nullability_of f))
-  read s (list c f) = read_child s 28 c >>= λ x. Ok (of.list x (nullability_of f))
-  read s (fixed_size_list c k f) = read_child s 29 c >>= λ x. Ok (of.fixed_size_list x k (nullability_of f))
-  read s (map_of c v o f) = read_child s 30 c >>= λ x. (read_child s 31 v >>= λ y. map_read x y o (nullability_of f))
+  read s (list c f) = read_child s ListElementMissing c >>= λ x. Ok (of.list x (nullability_of f))
+  read s (fixed_size_list c k f) = read_child s FixedElementMissing c >>= λ x. Ok (of.fixed_size_list x k (nullability_of f))
+  read s (map_of c v o f) = read_child s MapKeyMissing c >>= λ x. (read_child s MapValueMissing v >>= λ y. map_read x y o (nullability_of f))
   read s (struct ns ms f) = read_all s ms >>= λ ts. struct_read ns ts (nullability_of f)
   read s (union ns ms gs f) = read_all s ms >>= λ ts. union_read ns ts gs (nullability_of f)
   read s (variant f) = Ok (of.variant (nullability_of f))
-  read s (extension id c b) = read_child s 34 c >>= λ x. extension_read s id (or_empty b) x
+  read s (extension id c b) = read_child s StorageMissing c >>= λ x. extension_read s id (or_empty b) x
 
-  pub read_child : Meaning → ℕ → Child → Result Tree ℕ
-  read_child s j absent = Err j
+  pub read_child : Meaning → MessageFault → Child → Result Tree VortexError
+  read_child s j absent = Err (Faulty j)
   read_child s j (present m) = read s m
 
-  pub read_all : Meaning → Messages → Result (List Tree) ℕ
+  pub read_all : Meaning → Messages → Result (List Tree) VortexError
   read_all s no_message = Ok []
   read_all s (more m ms) = read s m >>= λ x. (read_all s ms >>= λ xs. Ok (x ∷ xs))
 
 -- What a call gave, seen by view, is what reading gives, unless memory ran out.
-abbrev pub Fails : {Y : Type 0} → VortexError → Result Y ℕ → Type 0
+abbrev pub Fails : {Y : Type 0} → VortexError → Result Y VortexError → Type 0
 Fails OutOfMemory r = Unit {0}
-Fails e r = r ≡ Err (number_of e)
+Fails e r = r ≡ Err e
 
-abbrev pub Gives : {X Y : Type 0} → (X → Y) → Result X VortexError → Result Y ℕ → Type 0
+abbrev pub Gives : {X Y : Type 0} → (X → Y) → Result X VortexError → Result Y VortexError → Type 0
 Gives view (Ok x) r = r ≡ Ok (view x)
 Gives view (Err e) r = Fails e r

@@ -1,12 +1,20 @@
+-- SPDX-License-Identifier: Apache-2.0
+-- SPDX-FileCopyrightText: Copyright the Vortex contributors
+
 -- Which type a message tree reads as, under a session; from the documentation of `DType` and of its messages.
-use Rattle.std.specs.Prelude.{◌≡◌, ◌≢◌, ◌⊎◌, ℕ, ◌+◌, ◌<◌, ◌≤◌, ℤ, pos, neg_ℤ, ◌<ℤ◌, List, [], ◌∷◌, length, Some, None}
+use Rattle.std.specs.Prelude.{◌≡◌, ◌≢◌, ◌⊎◌, ℕ, ◌+◌, ◌<◌, ◌≤◌, ℤ, pos, neg_ℤ, ◌<ℤ◌, List, [], ◌∷◌, length, map, Some, None}
 use Rattle.dtype_base.specs.declared.nullability.Nullability.TheVariants.{NonNullable, Nullable}
 use Rattle.dtype_base.specs.declared.ptype.PType.{PType}
+use Rattle.dtype_base.specs.declared.vortex_error.VortexError.{VortexError}
+use Rattle.dtype_base.specs.declared.vortex_error.VortexError.TheVariants.{MapKeyNullable, Message as Faulty}
+use Rattle.dtype_base.specs.declared.vortex_error.MessageFault.{MessageFault}
+use Rattle.dtype_base.specs.declared.vortex_error.MessageFault.TheVariants.{TypeMissing, PrimitiveNumber, PrecisionRange, ScaleRange, ListElementMissing, FixedElementMissing, MapKeyMissing, MapValueMissing, StructLengths, TypeIdRange, StorageMissing}
 use Rattle.dtype_base.specs.Primitives as base
-use Rattle.dtype_base.specs.Decimals.{Decimal, IsValidDecimal}
+use Rattle.dtype_base.specs.Decimals.{Decimal, IsValidDecimal, IsDecimalRefusal}
 use Rattle.dtype_base.specs.Nullability.{nullability_of}
 use Rattle.dtype_types.specs.Distinct.{Distinct}
 use Rattle.dtype_types.specs.Nullable.{nullability}
+use Rattle.dtype_types.specs.Unions.{UnionRefusal}
 use Rattle.dtype_types.specs.Tree as of
 use Rattle.dtype_types.specs.Tree.{Tree, Fields, no_fields, field, Variants, no_variants, choice}
 use Rattle.dtype_messages.specs.Message.{Message, Child, Messages, missing, null, bool, primitive, decimal, utf8, binary, list, fixed_size_list, map_of, struct, union, variant, extension, absent, present, no_message, more}
@@ -78,42 +86,40 @@ SomeTagFault [] = ⊥
 SomeTagFault (g ∷ gs) = (byte_at g ≡ None) ⊎ SomeTagFault gs
 
 -- what is wrong with a decimal's numbers
-abbrev pub DecimalFault : ℕ → ℤ → ℕ → Type 0
-DecimalFault p k f =
-    ((f ≡ 26) × (256 ≤ p)) ⊎ (((f ≡ 27) × ((k <ℤ neg_ℤ (pos 128)) ⊎ (pos 127 <ℤ k))) ⊎ (((f ≡ 1) × (p ≡ 0)) ⊎ (((f ≡ 2) × (76 < p)) ⊎
-    (((f ≡ 3) × (pos 76 <ℤ k)) ⊎ ((f ≡ 4) × (pos p <ℤ k))))))
+abbrev pub DecimalFault : ℕ → ℤ → VortexError → Type 0
+DecimalFault p k e =
+    ((e ≡ Faulty PrecisionRange) × (256 ≤ p)) ⊎ (((e ≡ Faulty ScaleRange) × ((k <ℤ neg_ℤ (pos 128)) ⊎ (pos 127 <ℤ k))) ⊎ IsDecimalRefusal 76 p k e)
 
 -- what is wrong with a union's names, types and tags
-abbrev pub UnionFault : List (List ℕ) → ℕ → List ℤ → ℕ → Type 0
-UnionFault ns types gs k =
-    ((k ≡ 33) × SomeTagFault gs) ⊎ (((k ≡ 10) × (length ns ≢ types)) ⊎ (((k ≡ 11) × (length ns ≢ length gs)) ⊎ (((k ≡ 12) × (ns ≡ [])) ⊎
-    (((k ≡ 13) × (¬ Distinct gs)) ⊎ ((k ≡ 15) × (¬ Distinct ns))))))
+abbrev pub UnionFault : List (List ℕ) → ℕ → List ℤ → VortexError → Type 0
+UnionFault ns types gs e =
+    ((e ≡ Faulty TypeIdRange) × SomeTagFault gs) ⊎ ((tags : List ℕ) × (gs ≡ map pos tags) × UnionRefusal ns types tags e)
 
--- The fault of this number stands at the message or inside it.
+-- The fault that this refusal tells stands at the message or inside it.
 abbrev mutual
-  pub Fault : Meaning → Message → ℕ → Type 0
-  Fault s missing k = k ≡ 24
-  Fault s null k = ⊥
-  Fault s (bool f) k = ⊥
-  Fault s (primitive n f) k = (k ≡ 25) × ((p : PType) → n ≢ number p)
-  Fault s (decimal p c f) k = DecimalFault p c k
-  Fault s (utf8 f) k = ⊥
-  Fault s (binary f) k = ⊥
-  Fault s (list c f) k = ChildFault s 28 c k
-  Fault s (fixed_size_list c n f) k = ChildFault s 29 c k
-  Fault s (map_of c v o f) k =
-      ChildFault s 30 c k ⊎ (ChildFault s 31 v k ⊎ ((k ≡ 9) × (x : Tree) × ReadsChild s c x × (nullability x ≡ Nullable)))
-  Fault s (struct ns ms f) k = SomeFault s ms k ⊎ ((k ≡ 32) × (length ns ≢ count ms))
-  Fault s (union ns ms gs f) k = SomeFault s ms k ⊎ UnionFault ns (count ms) gs k
-  Fault s (variant f) k = ⊥
-  Fault s (extension id c b) k =
-      ChildFault s 34 c k ⊎ ((k ≡ refusal s id) × (x : Tree) × ReadsChild s c x × (keeps s id (or_empty b) x ≡ None))
+  pub Fault : Meaning → Message → VortexError → Type 0
+  Fault s missing e = e ≡ Faulty TypeMissing
+  Fault s null e = ⊥
+  Fault s (bool f) e = ⊥
+  Fault s (primitive n f) e = (e ≡ Faulty PrimitiveNumber) × ((p : PType) → n ≢ number p)
+  Fault s (decimal p c f) e = DecimalFault p c e
+  Fault s (utf8 f) e = ⊥
+  Fault s (binary f) e = ⊥
+  Fault s (list c f) e = ChildFault s ListElementMissing c e
+  Fault s (fixed_size_list c n f) e = ChildFault s FixedElementMissing c e
+  Fault s (map_of c v o f) e =
+      ChildFault s MapKeyMissing c e ⊎ (ChildFault s MapValueMissing v e ⊎ ((e ≡ MapKeyNullable) × (x : Tree) × ReadsChild s c x × (nullability x ≡ Nullable)))
+  Fault s (struct ns ms f) e = SomeFault s ms e ⊎ ((e ≡ Faulty StructLengths) × (length ns ≢ count ms))
+  Fault s (union ns ms gs f) e = SomeFault s ms e ⊎ UnionFault ns (count ms) gs e
+  Fault s (variant f) e = ⊥
+  Fault s (extension id c b) e =
+      ChildFault s StorageMissing c e ⊎ ((e ≡ refusal s id) × (x : Tree) × ReadsChild s c x × (keeps s id (or_empty b) x ≡ None))
 
   -- a child that is missing, which is the fault j, or a fault in it
-  pub ChildFault : Meaning → ℕ → Child → ℕ → Type 0
-  ChildFault s j absent k = k ≡ j
-  ChildFault s j (present m) k = Fault s m k
+  pub ChildFault : Meaning → MessageFault → Child → VortexError → Type 0
+  ChildFault s j absent e = e ≡ Faulty j
+  ChildFault s j (present m) e = Fault s m e
 
-  pub SomeFault : Meaning → Messages → ℕ → Type 0
-  SomeFault s no_message k = ⊥
-  SomeFault s (more m ms) k = Fault s m k ⊎ SomeFault s ms k
+  pub SomeFault : Meaning → Messages → VortexError → Type 0
+  SomeFault s no_message e = ⊥
+  SomeFault s (more m ms) e = Fault s m e ⊎ SomeFault s ms e

@@ -1,3 +1,6 @@
+-- SPDX-License-Identifier: Apache-2.0
+-- SPDX-FileCopyrightText: Copyright the Vortex contributors
+
 -- What a session means: its plugins by their ids, as far as they mean something, and its flag.
 use Rattle.std.specs.Prelude.{List, Bool, option_map, bytes_eq, string_bytes}
 use Rattle.std.specs.Map.{lookup}
@@ -13,6 +16,7 @@ module _ {B : Type 0} (r : B → Rewrites) where
   meaning_of entries unknown = record { registered = λ id. option_map r (lookup (λ k. bytes_eq id (string_bytes k)) entries); unknown = unknown }
 
 module _ {X : Type 0} {F : X → Type 0} where
-  -- the session as a map from ids to what the plugins mean, by what each boxed plugin means
-  abbrev pub meaning : (DynBox X Global F → Rewrites) → DTypeSession X F → Meaning
+  -- the session as a map from ids to what the plugins mean, by what each boxed plugin means; calls say how it
+  -- changes, so a session that a function makes is spoken of without its fields
+  unfoldable pub meaning : (DynBox X Global F → Rewrites) → DTypeSession X F → Meaning
   meaning r s = meaning_of r s.plugins.entries s.allow_unknown

@@ -1,3 +1,6 @@
+-- SPDX-License-Identifier: Apache-2.0
+-- SPDX-FileCopyrightText: Copyright the Vortex contributors
+
 -- What a vtable of a typed extension means, and its laws. From the documentation of `ExtVTable`: it reads
 -- metadata from bytes, writes it as bytes, and says over which storage it may stand.
 use Rattle.std.specs.Prelude.{◌≡◌, ℕ, List, Option, Some, None, Bool, true, false, if◌then◌else◌, option_and_then, refl}

@@ -1,3 +1,6 @@
+-- SPDX-License-Identifier: Apache-2.0
+-- SPDX-FileCopyrightText: Copyright the Vortex contributors
+
 -- What a typed extension shows: its vtable, its metadata, and the tree of its storage.
 use Rattle.dtype_types.specs.Tree.{Tree}
 use Rattle.dtype_types.specs.IsValid.{IsValid}

@@ -1,3 +1,6 @@
+-- SPDX-License-Identifier: Apache-2.0
+-- SPDX-FileCopyrightText: Copyright the Vortex contributors
+
 -- The types of the crates below that clauses name, each with its variants in `TheVariants`.
 pub use Rattle.dtype_base.specs.declared.nullability.Nullability
 pub use Rattle.dtype_base.specs.declared.ptype.PType

@@ -1,3 +1,6 @@
+-- SPDX-License-Identifier: Apache-2.0
+-- SPDX-FileCopyrightText: Copyright the Vortex contributors
+
 -- The message of a type, with every child, flag and metadata, from the documentation of `to_proto`; and the normal
 -- form of a message, in which each extension has the metadata that the session keeps.
 use Rattle.std.specs.Prelude.{◌≡◌, ℕ, ℤ, pos, List, [], ◌∷◌, Some, Bool, true, false}

@@ -1,6 +1,10 @@
+// SPDX-License-Identifier: Apache-2.0
+// SPDX-FileCopyrightText: Copyright the Vortex contributors
+
 // Typed extensions.
-ghost use Rattle.std.specs.Prelude.{◌≡◌, IfOk, IfErr, OnOk, Some, None, true, false};
+ghost use Rattle.std.specs.Prelude.{◌≡◌, ◌≢◌, ◌⊎◌, IfOk, IfErr, OnOk, Some, None, true, false};
 ghost use Rattle.dtype_base.specs.declared.nullability.Nullability.TheVariants.{NonNullable};
+ghost use Rattle.dtype_base.specs.declared.vortex_error.VortexError.TheVariants.{ExtensionIdDiffers, MetadataRefused, OutOfMemory};
 ghost use Rattle.dtype_types.specs.Nullable.{CanBeNonNullable, SetNull};
 ghost use Rattle.dtype_types.specs.TreeOf.{extension_id, extension_metadata, storage_tree, tree};
 ghost use Rattle.dtype_types.specs.IsValid.{IsValid, IsValidExtension};
@@ -161,12 +165,15 @@ impl<V: ExtVTable> ExtDType<V> {
         ensures id { OnOk result (extension_id erased ≡ V.id_text vtable) }
         ensures read { IfOk result
             (λ x. V.reads vtable (extension_metadata erased) ≡ Some (V.meant (metadata_of x))) }
-        ensures fits { IsValidExtension erased → IfOk result
+        ensures fits { Valid (storage_tree erased) → IfOk result
             (λ x. V.fits vtable (V.meant (metadata_of x)) (storage_tree erased) ≡ true) }
         ensures storage { IfOk result (λ x. storage_of x ≡ storage_tree erased) }
         ensures valid { IsValidExtension erased → IfOk result IsValidTyped }
         ensures handed_back { IfErr result (λ p. p.0 ≡ erased) }
-        ensures refused { IsValidExtension erased → IfErr result (λ p.
+        // 23 only where the ids differ, whatever the storage
+        ensures differs { IfErr result (λ p. p.1 ≡ ExtensionIdDiffers
+            → extension_id erased ≢ V.id_text vtable) }
+        ensures refused { Valid (storage_tree erased) → IfErr result (λ p.
             NotOf (extension_id erased) (V.id_text vtable)
             (V.reads vtable (extension_metadata erased))
             (λ m. V.fits vtable m (storage_tree erased)) p.1) }
@@ -189,9 +196,11 @@ impl<V: ExtVTable> ExtDType<V> {
         ensures id { OnOk result (extension_id erased.now ≡ V.id_text vtable.now) }
         ensures read { IfOk result
             (λ m. V.reads vtable.now (extension_metadata erased.now) ≡ Some (V.meant m)) }
-        ensures fits { IsValidExtension erased.now → IfOk result
+        ensures fits { Valid (storage_tree erased.now) → IfOk result
             (λ m. V.fits vtable.now (V.meant m) (storage_tree erased.now) ≡ true) }
-        ensures refused { IsValidExtension erased.now → IfErr result
+        ensures differs { IfErr result (λ e. e ≡ ExtensionIdDiffers
+            → extension_id erased.now ≢ V.id_text vtable.now) }
+        ensures refused { Valid (storage_tree erased.now) → IfErr result
             (NotOf (extension_id erased.now) (V.id_text vtable.now)
             (V.reads vtable.now (extension_metadata erased.now))
             (λ m. V.fits vtable.now m (storage_tree erased.now))) }
@@ -200,8 +209,29 @@ impl<V: ExtVTable> ExtDType<V> {
             return Err(VortexError::ExtensionIdDiffers);
         }
         let metadata = vtable.deserialize_metadata(alloc, erased.metadata_bytes())?;
-        vtable.validate_dtype(alloc, &metadata, erased.storage_dtype())?;
+        ExtDType::validate(alloc, vtable, &metadata, erased.storage_dtype())?;
         Ok(metadata)
+    }
+
+    // Whether the vtable takes the metadata over the storage: whatever it refuses by is 0 or 22 here, also over a
+    // storage that isn't valid, of which a vtable promises nothing.
+    fn validate(
+        alloc: Global,
+        vtable: &V,
+        metadata: &V::Metadata,
+        storage: &DType,
+    ) -> VortexResult<()>
+        ensures ok { Valid (tree storage.now)
+            → OnOk result (V.fits vtable.now (V.meant metadata.now) (tree storage.now) ≡ true) }
+        ensures refused { Valid (tree storage.now) → IfErr result
+            (RefusedWhere (V.fits vtable.now (V.meant metadata.now) (tree storage.now) ≡ false)) }
+        ensures kinds { IfErr result (λ e. (e ≡ OutOfMemory) ⊎ (e ≡ MetadataRefused)) }
+    {
+        match vtable.validate_dtype(alloc, metadata, storage) {
+            Ok(()) => Ok(()),
+            Err(VortexError::OutOfMemory) => Err(VortexError::OutOfMemory),
+            Err(_) => Err(VortexError::MetadataRefused),
+        }
     }
 }
 

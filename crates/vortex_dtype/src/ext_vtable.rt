@@ -1,3 +1,6 @@
+// SPDX-License-Identifier: Apache-2.0
+// SPDX-FileCopyrightText: Copyright the Vortex contributors
+
 // Vtables of typed extensions.
 use dtype_base::VortexResult;
 use dtype_types::DType;

@@ -1,20 +1,24 @@
+// SPDX-License-Identifier: Apache-2.0
+// SPDX-FileCopyrightText: Copyright the Vortex contributors
+
 // Laws of sessions, of reading and of writing. They follow from the definitions alone: each function's
 // contract is the law, and its body is empty. `types`, `paths` and the others are the laws of the crates
 // below.
-ghost use Rattle.std.specs.Prelude.{◌≡◌, ◌↔◌, ◌++◌, ◌∷◌, ℕ, List, Some, None};
+ghost use Rattle.std.specs.Prelude.{◌≡◌, ◌≢◌, ◌↔◌, ◌⊎◌, ◌++◌, ◌∷◌, ℕ, List, Option, Some, None, false, true};
 ghost use Rattle.std.specs.List.{list_any};
 ghost use Rattle.dtype_base.specs.declared.nullability.Nullability.{Nullability};
+ghost use Rattle.dtype_base.specs.declared.vortex_error.VortexError.{VortexError};
 ghost use Rattle.dtype_types.specs.Nullable.{SetNull};
 ghost use Rattle.dtype_types.specs.Tree.{Tree};
 ghost use Rattle.dtype_types.specs.Valid.{Valid};
 ghost use Rattle.vortex_dtype.specs.Accepts.{Accepts};
 ghost use Rattle.vortex_dtype.specs.Calls.{Call, LeavesAlone, after, is_allow, register};
 ghost use Rattle.vortex_dtype.specs.IsMessage.{IsMessage};
-ghost use Rattle.vortex_dtype.specs.Meaning.{Admits, Bytes, LawfulSession, Meaning, Rewrites, keeps, nothing};
+ghost use Rattle.vortex_dtype.specs.Meaning.{Admits, Bytes, LawfulSession, Meaning, Rewrites, allowing, keeps, nothing, put};
 ghost use Rattle.dtype_messages.specs.declared.pb.FieldPath.{FieldPath};
 ghost use Rattle.dtype_messages.specs.Message.{Message};
 ghost use Rattle.dtype_messages.specs.PathNames.{part_names};
-ghost use Rattle.vortex_dtype.specs.PathMessage.{steps_of};
+ghost use Rattle.vortex_dtype.specs.PathMessage.{path_of, steps_of};
 ghost use Rattle.vortex_dtype.specs.Reads.{Fault, Reads};
 ghost use Rattle.vortex_dtype.specs.Written.{Normal, written};
 
@@ -42,6 +46,25 @@ pub fn unknown_once_allowed()
     ensures { (calls : List Call) → (after calls nothing).unknown ≡ list_any is_allow calls }
 {}
 
+/// A registration puts a plugin under its id and changes nothing else.
+pub fn registering_changes_one_id()
+    ensures registered { (m n : Meaning) (i : List ℕ) (r : Rewrites)
+        → n ≡ put i r m → n.registered i ≡ Some r }
+    ensures others { (m n : Meaning) (i id : List ℕ) (r : Rewrites)
+        → n ≡ put i r m → i ≢ id → n.registered id ≡ m.registered id }
+    ensures unknown { (m n : Meaning) (i : List ℕ) (r : Rewrites)
+        → n ≡ put i r m → n.unknown ≡ m.unknown }
+{}
+
+/// Keeping unknown ids changes nothing of what is registered, and a new session knows nothing.
+pub fn allowing_changes_no_id()
+    ensures registered { (m n : Meaning) (id : List ℕ)
+        → n ≡ allowing m → n.registered id ≡ m.registered id }
+    ensures unknown { (m n : Meaning) → n ≡ allowing m → n.unknown ≡ true }
+    ensures none { (n : Meaning) (id : List ℕ) → n ≡ nothing → n.registered id ≡ None }
+    ensures refused { (n : Meaning) → n ≡ nothing → n.unknown ≡ false }
+{}
+
 /// What a session keeps of bytes is bytes, and the session keeps it as it is.
 pub fn kept_again()
     ensures { (s : Meaning) → LawfulSession s → (id b c : List ℕ) (t : Tree) → Bytes b → Valid t
@@ -67,8 +90,8 @@ pub fn admits_set_null()
 pub fn messages_are_exact()
     ensures one_type { (s : Meaning) (m : Message) (t u : Tree)
         → Reads s m t → Reads s m u → t ≡ u }
-    ensures no_fault { (s : Meaning) (m : Message) (t : Tree) (k : ℕ)
-        → Reads s m t → Fault s m k → ⊥ }
+    ensures no_fault { (s : Meaning) (m : Message) (t : Tree) (e : VortexError)
+        → Reads s m t → Fault s m e → ⊥ }
     ensures accepted { (s : Meaning) (m : Message) (t : Tree)
         → LawfulSession s → IsMessage m → Reads s m t → Accepts s m t }
     ensures normal { (s : Meaning) (m n : Message) (t : Tree)
@@ -80,7 +103,41 @@ pub fn messages_are_exact()
     ensures read_back { (s : Meaning) (t : Tree) → Valid t → Admits s t → Accepts s (written t) t }
 {}
 
+/// Messages that are equal read as equal types, so a copy of a message reads as the message does, and types of which
+/// the messages are equal are equal.
+pub fn equal_messages_read_alike()
+    ensures types { (s : Meaning) (m n : Message) (t u : Tree)
+        → m ≡ n → Accepts s m t → Accepts s n u → t ≡ u }
+    ensures copies { (s : Meaning) (m n : Message) (t : Tree)
+        → m ≡ n → Accepts s m t → Accepts s n t }
+    ensures written { (t u : Tree) → written t ≡ written u → t ≡ u }
+{}
+
+/// Every message reads as a type or has a fault.
+pub fn messages_read_or_have_a_fault()
+    ensures { (s : Meaning) (m : Message)
+        → ((t : Tree) × Reads s m t) ⊎ ((e : VortexError) × Fault s m e) }
+{}
+
+/// A type that a session admits, with another outer nullability, is read back from what is written of it.
+pub fn other_nullabilities_are_read_back()
+    ensures { (s : Meaning) → LawfulSession s → (t u : Tree) (n : Nullability)
+        → Valid t → Admits s t → SetNull t n u → Valid u × Admits s u × Accepts s (written u) u }
+{}
+
+/// A session without plugins that keeps unknown ids admits every type.
+pub fn unknown_ids_are_all_admitted()
+    ensures all { (s : Meaning) → ((id : List ℕ) → s.registered id ≡ None) → s.unknown ≡ true
+        → (t : Tree) → Admits s t }
+    ensures new { (s : Meaning) (t : Tree) → s ≡ allowing nothing → Admits s t }
+{}
+
 /// Path messages whose parts hold the same names, as a copy has them, say the same steps.
 pub fn same_names_same_steps()
     ensures { (p q : FieldPath) → part_names p ≡ part_names q → steps_of p ≡ steps_of q }
+{}
+
+/// Parts one of which has no kind make no path.
+pub fn no_path_without_a_kind()
+    ensures { (before rest : List (Option (List ℕ))) → path_of (before ++ None ∷ rest) ≡ None }
 {}

@@ -1,15 +1,18 @@
-// The logical types of Vortex, whole: all of the crates below given out again, and on top of them typed
-// extensions, plugins, sessions, and messages read and written.
-//
-// It promises that a typed extension is its metadata and its storage under its vtable's meaning, that a
-// session answers by its plugins' meanings alone, with the last plugin under an id, and that a message
-// tree is read and written as the relation and the function of `specs/` say, under a session.
-//
-// Begin with `ExtVTable` and `ExtDType` (an extension with its library), `ExtDTypePlugin` and
-// `PluginOf`, and `DTypeSession`; then `pb` and `DTypeProto`. The definitions are in `specs/`: `Typed`
-// (what a vtable means), `Meaning` (what a plugin and a session mean: `keeps`, `Admits`), `Refusals`,
-// `Calls`, and for messages `Reads` and `Written`, over the trees of `dtype_messages`. `laws` states
-// what follows from them alone.
+// SPDX-License-Identifier: Apache-2.0
+// SPDX-FileCopyrightText: Copyright the Vortex contributors
+
+//! The logical types of Vortex, whole: all of the crates below given out again, and on top of them typed
+//! extensions, plugins, sessions, and messages read and written.
+//!
+//! It promises that a typed extension is its metadata and its storage under its vtable's meaning, that a
+//! session answers by its plugins' meanings alone, with the last plugin under an id, and that a message
+//! tree is read and written as the relation and the function of `specs/` say, under a session.
+//!
+//! Begin with `ExtVTable` and `ExtDType` (an extension with its library), `ExtDTypePlugin` and
+//! `PluginOf`, and `DTypeSession`; then `pb` and `DTypeProto`. The definitions are in `specs/`: `Typed`
+//! (what a vtable means), `Meaning` (what a plugin and a session mean: `keeps`, `Admits`), `Refusals`,
+//! `Calls`, and for messages `Reads` and `Written`, over the trees of `dtype_messages`. `laws` states
+//! what follows from them alone.
 #![tactic(auto)]
 
 mod ext_dtype;
@@ -35,12 +38,10 @@ pub use dtype_native::{
     match_each_signed_integer_ptype, match_each_unsigned_integer_ptype,
     match_smallest_list_offset_type, match_smallest_offset_type,
 };
-pub use dtype_paths::{
-    Field, FieldMask, FieldPath, FieldPathSet, along_joined, beginnings_exist, field_path,
-};
+pub use dtype_paths::{Field, FieldMask, FieldPath, FieldPathSet, along_joined, beginnings_exist};
 pub use dtype_types::{
-    DType, DTypeIter, ExtDTypeRef, ExtId, FieldDType, Kind, MapDType, MetadataDisplay,
-    StructFields, UnionVariants,
+    DType, DTypeIter, ExtDTypeRef, ExtId, FieldDType, FieldIter, Kind, MapDType, MetadataDisplay,
+    StructFields, UnionVariants, VariantIter,
 };
 pub use ext_dtype::ExtDType;
 pub use ext_vtable::ExtVTable;
@@ -48,3 +49,12 @@ pub use foreign::{ForeignExtDType, ForeignExtMetadata};
 pub use plugin::{ExtDTypePlugin, PluginOf};
 pub use proto::{DTypeProto, FieldPathProto};
 pub use session::DTypeSession;
+
+/// The path of these names, from the outside in, as a `VortexResult`: `field_path!(alloc, "a", "b")`.
+/// Refuses 0 (OutOfMemory) alone.
+#[macro_export]
+macro_rules! field_path {
+    ($alloc:expr, $($name:expr),+ $(,)?) => {
+        $crate::FieldPath::from_texts($alloc, &[$($name),+])
+    };
+}

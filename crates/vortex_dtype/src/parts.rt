@@ -1,3 +1,6 @@
+// SPDX-License-Identifier: Apache-2.0
+// SPDX-FileCopyrightText: Copyright the Vortex contributors
+
 // The parts of a type, once they are read, made into the type through the checking constructors. Each function
 // gives what reading gives for that kind (`specs/Reading`), and none calls itself.
 ghost use Rattle.std.specs.Int.{w32};

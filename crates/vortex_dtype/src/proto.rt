@@ -1,17 +1,24 @@
+// SPDX-License-Identifier: Apache-2.0
+// SPDX-FileCopyrightText: Copyright the Vortex contributors
+
 // Types and paths from messages, and messages from types.
 //
 // Reading goes over the message once, in the order of its fields, and builds the type through the checking
-// constructors of the crates below: what is refused there is refused here by the same number.
-ghost use Rattle.std.specs.Prelude.{◌≡◌, ◌⊎◌, Some, None, IfOk, IfErr, IsOkUnless, All, Contains, map, string_bytes};
+// constructors of the crates below: what is refused there is refused here, with the same values.
+ghost use Rattle.std.specs.Prelude.{◌≡◌, ◌⊎◌, Some, None, IfOk, IfErr, IsErr, IsOkUnless, All, Contains, map, string_bytes};
 ghost use Rattle.dtype_base.specs.declared.vortex_error.MessageFault.TheVariants.{PathPartMissing};
 ghost use Rattle.dtype_base.specs.declared.vortex_error.VortexError.TheVariants.{Message, OutOfMemory};
+ghost use Rattle.dtype_base.specs.declared.vortex_error.VortexError.{VortexError};
+ghost use Rattle.dtype_types.specs.Tree.{Tree};
 ghost use Rattle.dtype_types.specs.TreeOf.{tree};
+ghost use Rattle.dtype_types.specs.Valid.{Valid};
+ghost use Rattle.vortex_dtype.specs.Meaning.{Admits};
 ghost use Rattle.dtype_types.specs.IsValid.{IsValid};
 ghost use Rattle.vortex_dtype.specs.Accepts.{Accepts};
 ghost use Rattle.dtype_messages.specs.MessageOf.{message};
-ghost use Rattle.vortex_dtype.specs.PathMessage.{step_of, steps_of};
+ghost use Rattle.dtype_messages.specs.PathNames.{part_names};
+ghost use Rattle.vortex_dtype.specs.PathMessage.{path_of, step_of, steps_of};
 ghost use Rattle.vortex_dtype.specs.IsMessage.{IsMessage};
-ghost use Rattle.dtype_base.specs.Refusals.{number_of};
 ghost use Rattle.vortex_dtype.specs.Reading.{read, Gives};
 ghost use Rattle.vortex_dtype.specs.Reads.{Fault, ReadsAsNone};
 ghost use Rattle.vortex_dtype.specs.Written.{written};
@@ -31,11 +38,16 @@ use dtype_types::DType;
 use std::alloc::Global;
 
 /// Types from messages, and messages from types.
+///
+/// `DType::from_proto(alloc, &dtype.to_proto(alloc)?, &session)?` is `dtype` again, where the session would
+/// write each extension's metadata as it stands there.
 pub trait DTypeProto {
+    /// The type that the message says, under the session. The impl for `DType` says when it refuses.
     fn from_proto(alloc: Global, proto: &pb::DType, session: &DTypeSession) -> VortexResult<Self>
     where
         Self: Sized;
 
+    /// The message that says the type. Refuses 0 (OutOfMemory) alone.
     fn to_proto(&self, alloc: Global) -> VortexResult<pb::DType>;
 }
 
@@ -53,8 +65,20 @@ impl DTypeProto for DType {
         ensures valid { IfOk result IsValid }
         ensures message { IfOk result (λ _. IsMessage (message proto.now)) }
         ensures refused { IfErr result (λ e. (e ≡ OutOfMemory)
-            ⊎ (Fault (meaning rewrites session.now) (message proto.now) (number_of e)
+            ⊎ (Fault (meaning rewrites session.now) (message proto.now) e
             × ReadsAsNone (meaning rewrites session.now) (message proto.now))) }
+
+        // what reads as no type is refused, and so is what has a fault
+        ensures unread { ReadsAsNone (meaning rewrites session.now) (message proto.now)
+            → IsErr result }
+        ensures faulty { (e : VortexError)
+            → Fault (meaning rewrites session.now) (message proto.now) e → IsErr result }
+
+        // what is written of an admitted type reads as that type
+        ensures back { (t : Tree) → Valid t → Admits (meaning rewrites session.now) t
+            → message proto.now ≡ written t → IfOk result (λ u. tree u ≡ t) }
+        ensures back_refused { (t : Tree) → Valid t → Admits (meaning rewrites session.now) t
+            → message proto.now ≡ written t → IsOkUnless result OutOfMemory }
     {
         session_laws(session);
         read(alloc, proto, session)
@@ -72,6 +96,7 @@ impl DTypeProto for DType {
 
 /// Paths from messages.
 pub trait FieldPathProto {
+    /// The path that the message says. The impl for `FieldPath` says when it refuses.
     fn from_proto(alloc: Global, proto: &pb::FieldPath) -> VortexResult<Self>
     where
         Self: Sized;
@@ -80,17 +105,29 @@ pub trait FieldPathProto {
 impl FieldPathProto for FieldPath {
     /// The path of the names, in order; no parts give the root. Refuses 36 (PathPartMissing) at the first
     /// part without a kind.
+    #[tactic(auto, using(crate::proofs::PathNames::path_by_steps, crate::proofs::PathNames::path_there))]
     fn from_proto(alloc: Global, proto: &pb::FieldPath) -> VortexResult<FieldPath>
         ensures names { IfOk result (λ p. steps_of proto.now ≡ map Some p) }
+        ensures path { IfOk result (λ p. path_of (part_names proto.now) ≡ Some p) }
+        ensures missing { (path_of (part_names proto.now) ≡ None) → IsErr result }
         ensures refused { IfErr result (λ e. (e ≡ OutOfMemory)
             ⊎ ((e ≡ Message PathPartMissing) × Contains (steps_of proto.now) None)) }
     {
-        let mut steps = Vec::with_capacity(alloc, proto.path.len())?;
-        for part in &proto.path {
-            steps.push(read_part(alloc, part)?)?;
-        }
-        Ok(FieldPath::from_vec(steps))
+        Ok(FieldPath::from_vec(read_parts(alloc, &proto.path)?))
     }
+}
+
+// The steps that the parts say, in order.
+fn read_parts(alloc: Global, parts: &[pb::Field]) -> VortexResult<Vec<Field>>
+    ensures steps { IfOk result (λ v. map step_of parts.now ≡ map Some v.items) }
+    ensures refused { IfErr result (λ e. (e ≡ OutOfMemory)
+        ⊎ ((e ≡ Message PathPartMissing) × Contains (map step_of parts.now) None)) }
+{
+    let mut steps = Vec::with_capacity(alloc, parts.len())?;
+    for part in parts {
+        steps.push(read_part(alloc, part)?)?;
+    }
+    Ok(steps)
 }
 
 // The step that a part says.
@@ -149,14 +186,14 @@ fn read(alloc: Global, proto: &pb::DType, session: &DTypeSession) -> VortexResul
             map_of(alloc, key, value, p.keys_sorted, p.nullable)
         }
         pb::DtypeType::Struct(p) => {
-            let mut dtypes = Vec::new(alloc);
+            let mut dtypes = Vec::with_capacity(alloc, p.dtypes.len())?;
             for field in &p.dtypes {
                 dtypes.push(read(alloc, field, session)?)?;
             }
             struct_of(alloc, &p.names, dtypes, p.nullable)
         }
         pb::DtypeType::Union(p) => {
-            let mut dtypes = Vec::new(alloc);
+            let mut dtypes = Vec::with_capacity(alloc, p.dtypes.len())?;
             for variant in &p.dtypes {
                 dtypes.push(read(alloc, variant, session)?)?;
             }

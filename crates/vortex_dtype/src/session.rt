@@ -1,3 +1,6 @@
+// SPDX-License-Identifier: Apache-2.0
+// SPDX-FileCopyrightText: Copyright the Vortex contributors
+
 // The session: the plugins that are registered, and whether unknown ids are kept.
 ghost use Rattle.std.specs.Prelude.{◌≡◌, ◌↔◌, IfOk, IfErr, IsOkUnless, IsSome, IsTrue, OnErr, OnOk, Some};
 ghost use Rattle.dtype_base.specs.declared.vortex_error.VortexError.TheVariants.{OutOfMemory};
@@ -19,6 +22,9 @@ use std::fmt;
 ///
 /// `meaning rewrites session` is what it means: a map from ids to what the plugins mean, and the flag.
 /// After any calls the last plugin under an id counts (`laws::last_registered_counts`).
+///
+/// With `x.tag` registered, whose plugin lowers letters, `deserialize("x.tag", b"AB", ..)` keeps `ab`; under
+/// an id that nobody registered it refuses 35, and after `allow_unknown` it keeps `AB`.
 #[derive(Drop)]
 pub struct DTypeSession {
     alloc: Global,
@@ -29,6 +35,7 @@ pub struct DTypeSession {
 impl DTypeSession {
     /// A session without plugins, which refuses unknown ids. It keeps the allocator for its later calls,
     /// and takes no memory itself.
+    #[tactic(auto, unfolding(crate::specs::Session::meaning, crate::specs::Meaning::nothing))]
     pub fn new(alloc: Global) -> Self
         ensures { meaning rewrites result ≡ nothing }
     {
@@ -41,6 +48,7 @@ impl DTypeSession {
 
     /// Registers a plugin under its id, in place of the one that stood there. Refuses 0 (OutOfMemory)
     /// alone; the session is then as it was, and the plugin is dropped.
+    #[tactic(auto, unfolding(crate::specs::Session::meaning, crate::specs::Meaning::put))]
     pub fn register(&mut self, plugin: Box<dyn ExtDTypePlugin>) -> VortexResult<()>
         ensures last { OnOk result (meaning rewrites self.new
             ≡ put (id_text plugin) (rewrites plugin) (meaning rewrites self.old)) }
@@ -53,6 +61,7 @@ impl DTypeSession {
     }
 
     /// From now on extensions of unknown ids are kept as they stand.
+    #[tactic(auto, unfolding(crate::specs::Session::meaning, crate::specs::Meaning::allowing))]
     pub fn allow_unknown(&mut self)
         ensures { meaning rewrites self.new ≡ allowing (meaning rewrites self.old) }
     {
@@ -60,6 +69,7 @@ impl DTypeSession {
     }
 
     /// Whether extensions of unknown ids are kept.
+    #[tactic(auto, unfolding(crate::specs::Session::meaning))]
     pub fn allows_unknown(&self) -> bool
         ensures { result ≡ (meaning rewrites self.now).unknown }
     {
@@ -67,6 +77,7 @@ impl DTypeSession {
     }
 
     /// Whether a plugin is registered under the id. Takes no memory.
+    #[tactic(auto, unfolding(crate::specs::Session::meaning))]
     pub fn registry(&self, id: &str) -> bool
         ensures { IsTrue result ↔ IsSome ((meaning rewrites self.now).registered id.now) }
     {
@@ -79,6 +90,7 @@ impl DTypeSession {
     /// exactly where the registered plugin takes no such metadata over such a storage, 35
     /// (ExtensionUnregistered) exactly where none is registered and unknown ids are refused, and 0
     /// (OutOfMemory).
+    #[tactic(auto, unfolding(crate::specs::Session::meaning))]
     pub fn deserialize(
         &self,
         id: &str,

@@ -1,3 +1,6 @@
+// SPDX-License-Identifier: Apache-2.0
+// SPDX-FileCopyrightText: Copyright the Vortex contributors
+
 //! Messages that tests and programs read, made by hand: each function gives the message of one kind, with the
 //! parts that it is handed, faulty ones too. Nothing else is promised of them.
 //!

@@ -1,3 +1,6 @@
+-- SPDX-License-Identifier: Apache-2.0
+-- SPDX-FileCopyrightText: Copyright the Vortex contributors
+
 -- The extensions of the tests that stand over texts alone: the plugin under the id `x.text`, which takes `utf8` of
 -- either nullability with no metadata, and the library of `x.word`, whose metadata is that of `x.tag`.
 use Rattle.std.specs.Prelude.{◌≡◌, ℕ, List, [], ◌∷◌, Option, Some, None, Bool, true, false, if◌then◌else◌, option_and_then, refl}

@@ -1,3 +1,6 @@
+// SPDX-License-Identifier: Apache-2.0
+// SPDX-FileCopyrightText: Copyright the Vortex contributors
+
 // Messages made to break their reader: several faults in one, more variants than there are tags, types 200
 // deep, and extensions inside extensions.
 use crate::messages::refusal;

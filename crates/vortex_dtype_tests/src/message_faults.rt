@@ -1,3 +1,6 @@
+// SPDX-License-Identifier: Apache-2.0
+// SPDX-FileCopyrightText: Copyright the Vortex contributors
+
 // The faults of a message, found by a walk over it that knows nothing of the library's reading: their
 // numbers, in the order in which a reader meets them.
 use std::alloc::{AllocError, Global};

@@ -1,7 +1,9 @@
-// A source of random messages of all kinds, with faults put in at random places. The same seed gives the same
-// message.
-ghost use Rattle.std.specs.Prelude.{◌<◌, length};
+// SPDX-License-Identifier: Apache-2.0
+// SPDX-FileCopyrightText: Copyright the Vortex contributors
 
+// A source of random messages of all kinds, with faults put in at random places. The same random choices give the
+// same message.
+use dtype_fixtures::Random;
 use std::alloc::Global;
 use std::mem;
 use std::string::String;
@@ -13,8 +15,10 @@ use vortex_dtype_fixtures::{
 #[derive(Drop)]
 pub(crate) struct Generator {
     alloc: Global,
-    // Of a 64-bit xorshift, never 0.
-    state: u64,
+    // What everything is chosen by but nullability and metadata.
+    shape: Random,
+    // What these two are chosen by.
+    detail: Random,
     // One choice in so many is made a fault, and none where this is 0.
     fault_rate: usize,
     // What was made and stands in nothing yet.
@@ -23,56 +27,35 @@ pub(crate) struct Generator {
 
 impl Generator {
     // A fault stands in about every third message.
-    pub(crate) fn new(alloc: Global, seed: u64) -> Self {
+    pub(crate) fn new(alloc: Global, shape: Random, detail: Random) -> Self {
         let mut generator = Generator {
             alloc,
-            state: seed.wrapping_mul(0x9e3779b97f4a7c15) | 1,
+            shape,
+            detail,
             fault_rate: 0,
             made: Vec::new(alloc),
         };
-        generator.fault_rate = generator.pick(&[0, 10, 30, 60]);
+        generator.fault_rate = generator.shape.pick(&[0, 10, 30, 60]);
         generator
     }
 
-    // The upper half of a product, since the lower bits of a xorshift follow from one another.
-    fn draw(&mut self) -> u64 {
-        self.state ^= self.state >> 12;
-        self.state ^= self.state << 25;
-        self.state ^= self.state >> 27;
-        self.state.wrapping_mul(0x2545f4914f6cdd1d) >> 32
-    }
-
-    fn below(&mut self, count: usize) -> usize
-        requires { 0 < count }
-        ensures { result < count }
-    {
-        (self.draw() % count as u64) as usize
-    }
-
-    fn pick<T: Copy>(&mut self, items: &[T]) -> T
-        requires { 0 < length items.now }
-    {
-        let place = self.below(items.len());
-        items[place]
-    }
-
-    fn flag(&mut self) -> bool {
-        self.below(2) == 0
+    fn nullable(&mut self) -> bool {
+        self.detail.flag()
     }
 
     // Whether a fault is put in here.
     fn is_faulty(&mut self) -> bool {
-        self.fault_rate > 0 && self.below(self.fault_rate) == 0
+        self.fault_rate > 0 && self.shape.below(self.fault_rate) == 0
     }
 
     // The next message. It grows from its leaves: each step takes some of what was made into something new.
     pub(crate) fn message(&mut self) -> VortexResult<pb::DType> {
-        let steps = self.below(24);
+        let steps = self.shape.below(24);
         for _ in 0..steps {
             let next = self.node()?;
             self.made.push(next)?;
         }
-        if self.below(4) == 0 {
+        if self.shape.below(4) == 0 {
             return Ok(self.taken());
         }
         let dtypes = mem::replace(&mut self.made, Vec::new(self.alloc));
@@ -80,7 +63,7 @@ impl Generator {
     }
 
     fn node(&mut self) -> VortexResult<pb::DType> {
-        match self.below(14) {
+        match self.shape.below(14) {
             0..=5 => Ok(self.leaf()),
             6 => self.list(),
             7 => self.fixed(),
@@ -98,8 +81,8 @@ impl Generator {
         if self.is_faulty() {
             return nothing();
         }
-        let nullable = self.flag();
-        match self.below(8) {
+        let nullable = self.nullable();
+        match self.shape.below(8) {
             0 => null(),
             1 => of(pb::DtypeType::Bool(pb::Bool { nullable })),
             2 => self.primitive(),
@@ -112,25 +95,26 @@ impl Generator {
 
     fn primitive(&mut self) -> pb::DType {
         let ptype = if self.is_faulty() {
-            self.pick(&[i32::MIN, -1, 11, 256, i32::MAX])
+            self.shape.pick(&[i32::MIN, -1, 11, 256, i32::MAX])
         } else {
-            self.pick(&[0, 1, 2, 3, 4, 5, 6, 7, 8, 9, 10])
+            self.shape.pick(&[0, 1, 2, 3, 4, 5, 6, 7, 8, 9, 10])
         };
-        primitive(ptype, self.flag())
+        primitive(ptype, self.nullable())
     }
 
     fn decimal(&mut self) -> pb::DType {
         let precision = if self.is_faulty() {
-            self.pick(&[0, 77, 255, 256, u32::MAX])
+            self.shape.pick(&[0, 77, 255, 256, u32::MAX])
         } else {
-            self.pick(&[5, 38, 76])
+            self.shape.pick(&[5, 38, 76])
         };
         let scale = if self.is_faulty() {
-            self.pick(&[i32::MIN, -129, 6, 39, 77, 127, 128, i32::MAX])
+            self.shape
+                .pick(&[i32::MIN, -129, 6, 39, 77, 127, 128, i32::MAX])
         } else {
-            self.pick(&[-128, -5, 0, 5])
+            self.shape.pick(&[-128, -5, 0, 5])
         };
-        decimal(precision, scale, self.flag())
+        decimal(precision, scale, self.nullable())
     }
 
     // What was made last, to stand in another message.
@@ -151,18 +135,18 @@ impl Generator {
 
     fn list(&mut self) -> VortexResult<pb::DType> {
         let element = self.child();
-        list(self.alloc, element, self.flag())
+        list(self.alloc, element, self.nullable())
     }
 
     fn fixed(&mut self) -> VortexResult<pb::DType> {
         let element = self.child();
-        fixed(self.alloc, element, self.pick(&[0, 1, u32::MAX]))
+        fixed(self.alloc, element, self.shape.pick(&[0, 1, u32::MAX]))
     }
 
     fn map(&mut self) -> VortexResult<pb::DType> {
         let key = self.key();
         let value = self.child();
-        map(self.alloc, key, value, self.flag())
+        map(self.alloc, key, value, self.shape.flag())
     }
 
     fn key(&mut self) -> Option<pb::DType> {
@@ -178,7 +162,7 @@ impl Generator {
     // At least so many messages, and up to three more.
     fn several(&mut self, least: usize) -> VortexResult<Vec<pb::DType>> {
         let mut several = Vec::new(self.alloc);
-        for _ in 0..least.saturating_add(self.below(4)) {
+        for _ in 0..least.saturating_add(self.shape.below(4)) {
             several.push(self.taken())?;
         }
         Ok(several)
@@ -188,7 +172,7 @@ impl Generator {
     fn beside(&mut self, length: usize) -> usize {
         if !self.is_faulty() {
             length
-        } else if self.flag() {
+        } else if self.shape.flag() {
             length.saturating_add(1)
         } else {
             length.saturating_sub(1)
@@ -209,7 +193,7 @@ impl Generator {
         let mut tags = Vec::new(self.alloc);
         for i in 0..count {
             let tag = if self.is_faulty() {
-                self.pick(&[i32::MIN, -1, 0, 7, 256, i32::MAX])
+                self.shape.pick(&[i32::MIN, -1, 0, 7, 256, i32::MAX])
             } else {
                 known[i % 6]
             };
@@ -224,7 +208,7 @@ impl Generator {
         Ok(of(pb::DtypeType::Struct(pb::Struct {
             names,
             dtypes,
-            nullable: self.flag(),
+            nullable: self.nullable(),
         })))
     }
 
@@ -239,7 +223,7 @@ impl Generator {
             names,
             dtypes,
             type_ids,
-            nullable: self.flag(),
+            nullable: self.nullable(),
         })))
     }
 
@@ -248,7 +232,7 @@ impl Generator {
             let storage = self.child();
             return extension(self.alloc, "y", storage, Some(b"AB"));
         }
-        if self.flag() {
+        if self.shape.flag() {
             return self.text_extension();
         }
         let storage = self.child();
@@ -259,7 +243,7 @@ impl Generator {
         let storage = if self.is_faulty() {
             self.child()
         } else {
-            Some(text(self.flag()))
+            Some(text(self.nullable()))
         };
         let metadata = if self.is_faulty() {
             self.metadata()
@@ -273,7 +257,7 @@ impl Generator {
         if self.is_faulty() {
             return Some(b"a!");
         }
-        match self.below(4) {
+        match self.detail.below(4) {
             0 => None,
             1 => Some(b""),
             2 => Some(b"AB"),

@@ -1,3 +1,6 @@
+// SPDX-License-Identifier: Apache-2.0
+// SPDX-FileCopyrightText: Copyright the Vortex contributors
+
 // Messages at work: worked examples, each refusal by a message that has that fault alone, and each call that
 // takes memory once with ample memory.
 use crate::sessions::tagging;
@@ -348,6 +351,20 @@ fn paths_are_read_by_their_names(rt: HostRuntime) -> Result<(), Fail> {
     assert!(rt; path == names);
     let root = FieldPath::from_proto(alloc, &message_of(alloc, &[])?)?;
     assert!(rt; root.is_root());
+    Ok(())
+}
+
+#[test]
+fn paths_of_equal_length_are_told_apart(rt: HostRuntime) -> Result<(), Fail> {
+    let alloc = rt.alloc();
+    let proto = message_of(alloc, &["a", "b"])?;
+    assert!(rt; proto == message_of(alloc, &["a", "b"])?);
+    for names in [["a", "c"], ["c", "b"], ["b", "a"], ["a", "bb"], ["a", ""]] {
+        assert!(rt; proto != message_of(alloc, &names)?);
+    }
+    let mut unfinished = message_of(alloc, &["a"])?;
+    unfinished.path.push(pb::Field { field_type: None })?;
+    assert!(rt; proto != unfinished);
     Ok(())
 }
 

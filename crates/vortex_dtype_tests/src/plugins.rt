@@ -1,3 +1,6 @@
+// SPDX-License-Identifier: Apache-2.0
+// SPDX-FileCopyrightText: Copyright the Vortex contributors
+
 // Extension types as a user would write them: `x.tag` as a vtable that lowers ASCII letters and refuses an
 // exclamation mark, a second plugin under its id that keeps all bytes, `x.text` as a plugin that takes
 // texts without metadata, and `x.word` as a vtable that takes texts with the metadata of `x.tag`.

@@ -1,3 +1,6 @@
+// SPDX-License-Identifier: Apache-2.0
+// SPDX-FileCopyrightText: Copyright the Vortex contributors
+
 // Sessions, plugins and typed extensions at work.
 use crate::plugins::{AllKept, Tag, TagName, TextAlone, Word};
 use dtype_fixtures::is_printed;

@@ -1,20 +1,27 @@
-use Rattle.std.proofs.Common.{◌≡◌, length}
+-- SPDX-License-Identifier: Apache-2.0
+-- SPDX-FileCopyrightText: Copyright the Vortex contributors
+
+use Rattle.std.proofs.Common.{◌≡◌, ◌≤◌, length}
 use Rattle.std.specs.Iterator.Adapters.{zip_first, zip_second}
+use denote.Param.Weighed.{most}
 use Rattle.dtype_types.specs.Equality.{agree_fields, agree_variants}
+use Rattle.dtype_types.specs.Lists.{seconds, types_of}
 use Rattle.dtype_types.specs.Tree.{fields, variants}
-use Rattle.dtype_types.specs.TreeOf.{children, choices}
-use Rattle.dtype_types.proofs.SideBySide.{pairs_left, triples_left}
+use Rattle.dtype_types.specs.TreeOf.{struct_dtypes, struct_tree, union_dtypes, union_tree, with_trees, with_tagged_trees}
+use Rattle.dtype_types.specs.declared.dtype.DType.{size-DType}
 use Rattle.dtype_types.proofs.+agree.Given as goal
 
--- what is left of the two agrees as all of them do, and is equally long
+-- what is left of the two agrees as all of them do, is equally long, and is no deeper
 abbrev pub invariant-struct_fields::StructFields::agree-loop-name : goal.invariant-struct_fields::StructFields::agree-loop-name
 invariant-struct_fields::StructFields::agree-loop-name l = record {
-  agrees : agree_fields l.rule (fields (pairs_left (zip_first l.name-iterator))) (fields (pairs_left (zip_second l.name-iterator))) ≡ agree_fields l.rule (fields (children l.self)) (fields (children l.other));
-  even : length (pairs_left (zip_first l.name-iterator)) ≡ length (pairs_left (zip_second l.name-iterator));
+  agrees : agree_fields l.rule (fields (with_trees (zip_first l.name-iterator))) (fields (with_trees (zip_second l.name-iterator))) ≡ agree_fields l.rule (struct_tree l.self) (struct_tree l.other);
+  even : length (zip_first l.name-iterator) ≡ length (zip_second l.name-iterator);
+  within : most size-DType (seconds (zip_first l.name-iterator)) ≤ most size-DType (struct_dtypes l.self);
 }
 
 abbrev pub invariant-union_variants::UnionVariants::agree-loop-name : goal.invariant-union_variants::UnionVariants::agree-loop-name
 invariant-union_variants::UnionVariants::agree-loop-name l = record {
-  agrees : agree_variants l.rule (variants (triples_left (zip_first l.name-iterator))) (variants (triples_left (zip_second l.name-iterator))) ≡ agree_variants l.rule (variants (choices l.self)) (variants (choices l.other));
-  even : length (triples_left (zip_first l.name-iterator)) ≡ length (triples_left (zip_second l.name-iterator));
+  agrees : agree_variants l.rule (variants (with_tagged_trees (zip_first l.name-iterator))) (variants (with_tagged_trees (zip_second l.name-iterator))) ≡ agree_variants l.rule (union_tree l.self) (union_tree l.other);
+  even : length (zip_first l.name-iterator) ≡ length (zip_second l.name-iterator);
+  within : most size-DType (types_of (zip_first l.name-iterator)) ≤ most size-DType (union_dtypes l.self);
 }

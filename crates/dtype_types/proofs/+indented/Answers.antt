@@ -1,16 +1,23 @@
+-- SPDX-License-Identifier: Apache-2.0
+-- SPDX-FileCopyrightText: Copyright the Vortex contributors
+
 use Rattle.std.proofs.Common.{◌≡◌, ◌++◌, codes, [], ap, ◌∙◌, arith, append_assoc, rules}
 use Rattle.std.specs.Prelude.{string_bytes}
+use denote.Param.Weighed.{most}
 use Rattle.dtype_base.specs.Escapes.{escaped}
 use Rattle.dtype_base.specs.Nullability.{nullability_text}
 use Rattle.dtype_types.proofs.IndentedTexts.{indented_struct, ends_some, ends_none, braces_of, indented_named}
-use Rattle.dtype_types.proofs.SideBySide.{pairs_left, next_pair, no_pair}
+use Rattle.dtype_types.proofs.Depths.{no_deeper}
+use Rattle.dtype_types.proofs.Walks.{next_of, none_of}
 use Rattle.dtype_types.proofs.Texts.{leading, leading_all, one_written, all_written}
 use Rattle.dtype_types.specs.IndentedText.{indented, indented_braces, indented_fields}
 use Rattle.dtype_types.specs.Text.{joined}
 use Rattle.dtype_types.specs.Tree.{fields}
-use Rattle.dtype_types.specs.TreeOf.{tree, children, struct_tree}
+use Rattle.dtype_types.specs.TreeOf.{tree, children, struct_dtypes, struct_tree, with_trees}
+use Rattle.dtype_types.specs.Lists.{seconds, lent_pair}
+use Rattle.dtype_types.specs.declared.dtype.DType.{size-DType}
 use Rattle.dtype_types.proofs.+indented.Goals as goal
-use Rattle.dtype_types.proofs.+indented.Goals.{struct_fields::StructFields::write_indented-then-count-gt0+in_ok-push_str-2, struct_fields::StructFields::write_indented-else-count-gt0}
+use Rattle.dtype_types.proofs.+indented.Goals.{struct_fields::StructFields::write_indented-then-nfields-gt0+in_ok-push_str-2, struct_fields::StructFields::write_indented-else-nfields-gt0}
 
 pub dtype::DType::write_indented-returns-in_ok-write-in-Struct-clause-ok : goal.dtype::DType::write_indented-returns-in_ok-write-in-Struct-clause-ok
 dtype::DType::write_indented-returns-in_ok-write-in-Struct-clause-ok t c =
@@ -26,15 +33,16 @@ struct_fields::StructFields::write_indented-loop-name-preserved t c =
     let separator = c.loop-name.separator.now in
     let start = string_bytes c.loop-name.out in
     let x = inner ++ (n ++ (codes "=" ++ d)) in
-    let next = next_pair c.loop-name.name-iterator c.next.new.self c.next.result c.in-Some.name c.in-Some.dtype c.in-Some.is c.next.ensures.steps in
+    let next = next_of lent_pair c.loop-name.name-iterator c.next.new.self c.next.result (c.in-Some.name, c.in-Some.dtype) c.in-Some.is c.next.ensures.steps in
     let ended : string_bytes c.write_indented.new.out ≡ start ++ (separator ++ x) =
     c.in_ok-write_indented.ensures.ok
     ∙ ap (λ a. string_bytes c.start_field.new.out ++ indented a (tree c.in-Some.dtype.now)) (c.as_str-in-loop-name.ensures.value ∙ c.in_ok-inner.ensures.ok)
     ∙ ap (λ xs. xs ++ d) (c.in_ok-start_field.ensures.ok ∙ ap (λ xs. start ++ (separator ++ (xs ++ (n ++ codes "=")))) (c.as_str.ensures.value ∙ c.in_ok-inner.ensures.ok))
     ∙ indented_named start separator inner n d in
-    let rest = indented_fields inner (fields (pairs_left c.next.new.self)) in (
+    let rest = indented_fields inner (fields (with_trees c.next.new.self)) in (
       search rules,
-      ap (λ xs. xs ++ leading (codes ",\n") (codes ",\n") rest) ended ∙ one_written (codes ",\n") separator start _ x _ rest c.loop-name.invariant.1 (ap (λ ps. indented_fields inner (fields ps)) next),
+      no_deeper (most size-DType (struct_dtypes c.args.self.now)) (seconds c.loop-name.name-iterator) (seconds c.next.new.self) c.in-Some.dtype.now (ap seconds next) c.loop-name.invariant.1,
+      ap (λ xs. xs ++ leading (codes ",\n") (codes ",\n") rest) ended ∙ one_written (codes ",\n") separator start _ x _ rest c.loop-name.invariant.2 (ap (λ ps. indented_fields inner (fields (with_trees ps))) next),
     )
 
 pub struct_fields::StructFields::write_indented-returns-clause-ok : goal.struct_fields::StructFields::write_indented-returns-clause-ok
@@ -45,16 +53,16 @@ struct_fields::StructFields::write_indented-returns-clause-ok t c =
     let indent = c.args.indent.now in
     let parts = indented_fields (indent ++ codes "  ") (struct_tree s) in
     let close = indent ++ codes "}" in
-    let none = no_pair c.loop-name.name-iterator c.next.new.self c.next.result c.in-None.is c.next.ensures.steps in
-    let so_far = all_written (codes ",\n") c.loop-name.separator.now (string_bytes c.loop-name.out) _ _ c.loop-name.invariant.1 (ap (λ qs. indented_fields (indent ++ codes "  ") (fields qs)) none)
+    let none = none_of lent_pair c.loop-name.name-iterator c.next.new.self c.next.result c.in-None.is c.next.ensures.steps in
+    let so_far = all_written (codes ",\n") c.loop-name.separator.now (string_bytes c.loop-name.out) _ _ c.loop-name.invariant.2 (ap (λ qs. indented_fields (indent ++ codes "  ") (fields (with_trees qs))) none)
     ∙ ap (λ xs. string_bytes c.push_str.new.self ++ xs) (leading_all (codes ",\n") parts) ∙ ap (λ xs. xs ++ joined (codes ",\n") parts) c.in_ok-push_str.ensures.bytes in
     let written = c.in_ok-write.ensures.bytes in
-    elim c.if-count-gt0.branch [
-      | struct_fields::StructFields::write_indented-then-count-gt0+in_ok-push_str-2 w ↦
+    elim c.if-nfields-gt0.branch [
+      | struct_fields::StructFields::write_indented-then-nfields-gt0+in_ok-push_str-2 w ↦
           written ∙ ap (λ xs. xs ++ close) (ap (λ z. string_bytes z) w.out-is ∙ w.in_ok-push_str-2.ensures.bytes)
           ∙ append_assoc (string_bytes c.loop-name.out) (codes "\n") close ∙ ap (λ xs. xs ++ (codes "\n" ++ close)) so_far
           ∙ braces_of before indent ps (codes "\n") (ends_some ps (omega arith))
-      | struct_fields::StructFields::write_indented-else-count-gt0 w ↦
+      | struct_fields::StructFields::write_indented-else-nfields-gt0 w ↦
           written ∙ ap (λ xs. xs ++ close) (ap (λ z. string_bytes z) w.out-is) ∙ ap (λ xs. xs ++ close) so_far
           ∙ braces_of before indent ps [] (ends_none ps (omega arith))
     ]

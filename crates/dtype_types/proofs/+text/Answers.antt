@@ -1,13 +1,20 @@
+-- SPDX-License-Identifier: Apache-2.0
+-- SPDX-FileCopyrightText: Copyright the Vortex contributors
+
 use Rattle.std.proofs.Common.{codes, ap, ◌∙◌, ◌++◌, [], arith, refl, rules}
 use Rattle.dtype_base.specs.Escapes.{escaped}
 use Rattle.std.specs.Fmt.{HasWritten}
+use denote.Param.Weighed.{most}
 use Rattle.std.proofs.Output.{has_written_append, has_written_of_eq}
 use Rattle.std.proofs.lemmas.Grind.{common_steps, put_three}
-use Rattle.dtype_types.proofs.SideBySide.{all_pairs, next_pair, no_pair, next_triple, no_triple}
+use Rattle.dtype_types.proofs.Depths.{no_deeper}
+use Rattle.dtype_types.proofs.Walks.{next_of, none_of}
 use Rattle.dtype_types.proofs.Texts.{map_all, struct_all, union_all, extension_all, leading, leading_all, one_written, all_written, named_text, tagged_text}
 use Rattle.dtype_types.specs.Tree.{fields, variants}
 use Rattle.dtype_types.specs.Text.{text, field_texts, choice_texts, consecutive, tag_text}
-use Rattle.dtype_types.specs.TreeOf.{struct_names, struct_dtypes, struct_tree, union_tree, tree}
+use Rattle.dtype_types.specs.Lists.{seconds, types_of, lent_pair, lent_triple}
+use Rattle.dtype_types.specs.TreeOf.{struct_dtypes, struct_tree, union_dtypes, union_tree, tree, with_trees, with_tagged_trees}
+use Rattle.dtype_types.specs.declared.dtype.DType.{size-DType}
 use Rattle.dtype_types.specs.TextOf.{map_text, struct_text, union_text, extension_text}
 use Rattle.dtype_types.proofs.+text.Goals as goal
 
@@ -44,28 +51,28 @@ map::MapDTypeDisplay::fmt-returns-clause-writes g t c = λ plain ok.
 pub struct_fields::StructFieldsDisplay::fmt-loop-name-init : goal.struct_fields::StructFieldsDisplay::fmt-loop-name-init
 struct_fields::StructFieldsDisplay::fmt-loop-name-init g t c = (
   search rules,
+  search rules,
   λ plain.
-      let it = c.into_iter-name-iterator.result in
-      let s = c.args.self.now in
       let nothing : HasWritten g.W.Write.write_str_gives c.write.new.self [] c.write.new.self = search rules in
-      ([], nothing, ap (λ ps. leading [] (codes ", ") (field_texts (fields ps))) (all_pairs it (struct_names s) (struct_dtypes s) (search rules) (search rules))),
+      ([], nothing, ap (λ ps. leading [] (codes ", ") (field_texts (fields (with_trees ps)))) (search rules)),
 )
 
 pub struct_fields::StructFieldsDisplay::fmt-loop-name-preserved : goal.struct_fields::StructFieldsDisplay::fmt-loop-name-preserved
 struct_fields::StructFieldsDisplay::fmt-loop-name-preserved g t c = (
   search rules,
+  no_deeper (most size-DType (struct_dtypes c.args.self.now)) (seconds c.loop-name.name-iterator) (seconds c.next.new.self) c.in-Some.dtype.now (ap seconds (next_of lent_pair c.loop-name.name-iterator c.next.new.self c.next.result (c.in-Some.name, c.in-Some.dtype) c.in-Some.is c.next.ensures.steps)) c.loop-name.invariant.1,
   λ plain.
       let n = escaped c.in-Some.name.now in
       let d = text (tree c.in-Some.dtype.now) in
       let separator = c.loop-name.separator.now in
-      let so_far = c.loop-name.invariant.1 plain in
+      let so_far = c.loop-name.invariant.2 plain in
       let named = c.in_ok-write-2.ensures.writes so_far.1.plain refl in
       let typed = c.in_ok-fmt.ensures.writes named.plain refl in
-      let next = next_pair c.loop-name.name-iterator c.next.new.self c.next.result c.in-Some.name c.in-Some.dtype c.in-Some.is c.next.ensures.steps in
+      let next = next_of lent_pair c.loop-name.name-iterator c.next.new.self c.next.result (c.in-Some.name, c.in-Some.dtype) c.in-Some.is c.next.ensures.steps in
       let x = n ++ (codes "=" ++ d) in (
         so_far.0 ++ (separator ++ x),
         put_three _ _ c.loop-name.f _ _ so_far.0 (separator ++ (n ++ codes "=")) d _ so_far.1 named typed (named_text so_far.0 separator n d),
-        one_written (codes ", ") separator so_far.0 _ x _ _ so_far.2 (ap (λ ps. field_texts (fields ps)) next),
+        one_written (codes ", ") separator so_far.0 _ x _ _ so_far.2 (ap (λ ps. field_texts (fields (with_trees ps))) next),
       ),
 )
 
@@ -73,30 +80,41 @@ pub struct_fields::StructFieldsDisplay::fmt-returns-clause-writes : goal.struct_
 unfolding struct_text
 struct_fields::StructFieldsDisplay::fmt-returns-clause-writes g t c = λ plain ok.
     let opened = c.in_ok-write.ensures.writes plain refl in
-    let so_far = c.loop-name.invariant.1 opened.plain in
+    let so_far = c.loop-name.invariant.2 opened.plain in
     let closed = c.write-2.ensures.writes so_far.1.plain ok in
-    let none = no_pair c.loop-name.name-iterator c.next.new.self c.next.result c.in-None.is c.next.ensures.steps in
-    let all = all_written (codes ", ") c.loop-name.separator.now so_far.0 _ _ so_far.2 (ap (λ ps. field_texts (fields ps)) none) ∙ leading_all (codes ", ") (field_texts (struct_tree c.args.self.now)) in
+    let none = none_of lent_pair c.loop-name.name-iterator c.next.new.self c.next.result c.in-None.is c.next.ensures.steps in
+    let all = all_written (codes ", ") c.loop-name.separator.now so_far.0 _ _ so_far.2 (ap (λ ps. field_texts (fields (with_trees ps))) none) ∙ leading_all (codes ", ") (field_texts (struct_tree c.args.self.now)) in
     put_three _ _ c.write.new.self c.loop-name.f _ (codes "{") so_far.0 (codes "}") _ opened so_far.1 closed (ap (λ xs. codes "{" ++ (xs ++ codes "}")) all)
+
+pub union_variants::UnionVariantsDisplay::fmt-loop-name-init : goal.union_variants::UnionVariantsDisplay::fmt-loop-name-init
+union_variants::UnionVariantsDisplay::fmt-loop-name-init g t c = (
+  search rules,
+  search rules,
+  λ plain.
+      let k = consecutive 0 (union_tree c.args.self.now) in
+      let nothing : HasWritten g.W.Write.write_str_gives c.args.f.now [] c.args.f.now = search rules in
+      ([], nothing, ap (λ ps. leading [] (codes ", ") (choice_texts k (variants (with_tagged_trees ps)))) (search rules)),
+)
 
 pub union_variants::UnionVariantsDisplay::fmt-loop-name-preserved : goal.union_variants::UnionVariantsDisplay::fmt-loop-name-preserved
 union_variants::UnionVariantsDisplay::fmt-loop-name-preserved g t c = (
   search rules,
+  no_deeper (most size-DType (union_dtypes c.args.self.now)) (types_of c.loop-name.name-iterator) (types_of c.next.new.self) c.in-Some.dtype.now (ap types_of (next_of lent_triple c.loop-name.name-iterator c.next.new.self c.next.result (c.in-Some.name, c.in-Some.tag, c.in-Some.dtype) c.in-Some.is c.next.ensures.steps)) c.loop-name.invariant.1,
   λ plain.
       let k = consecutive 0 (union_tree c.args.self.now) in
       let n = escaped c.in-Some.name.now in
       let d = text (tree c.in-Some.dtype.now) in
-      let tag = c.in-Some.tag.now in
+      let tag = c.in-Some.tag in
       let separator = c.loop-name.separator.now in
-      let so_far = c.loop-name.invariant.1 plain in
+      let so_far = c.loop-name.invariant.2 plain in
       let named = c.in_ok-write.ensures.writes so_far.1.plain refl in
       let typed = c.in_ok-fmt.ensures.writes named.plain refl in
-      let next = next_triple c.loop-name.name-iterator c.next.new.self c.next.result c.in-Some.name c.in-Some.dtype c.in-Some.tag c.in-Some.is c.next.ensures.steps in
+      let next = next_of lent_triple c.loop-name.name-iterator c.next.new.self c.next.result (c.in-Some.name, c.in-Some.tag, c.in-Some.dtype) c.in-Some.is c.next.ensures.steps in
       let x = n ++ (tag_text k tag ++ (codes "=" ++ d)) in
       let known = c.is_consecutive-consecutive.result in (
         so_far.0 ++ (separator ++ x),
         put_three _ _ c.loop-name.f _ _ so_far.0 (separator ++ (n ++ (tag_text known tag ++ codes "="))) d _ so_far.1 named typed (tagged_text so_far.0 separator n d tag known k c.is_consecutive-consecutive.ensures),
-        one_written (codes ", ") separator so_far.0 _ x _ _ so_far.2 (ap (λ ps. choice_texts k (variants ps)) next),
+        one_written (codes ", ") separator so_far.0 _ x _ _ so_far.2 (ap (λ ps. choice_texts k (variants (with_tagged_trees ps))) next),
       ),
 )
 
@@ -104,7 +122,7 @@ pub union_variants::UnionVariantsDisplay::fmt-returns-clause-writes : goal.union
 unfolding union_text
 union_variants::UnionVariantsDisplay::fmt-returns-clause-writes g t c = λ plain ok.
     let k = consecutive 0 (union_tree c.args.self.now) in
-    let so_far = c.loop-name.invariant.1 plain in
-    let none = no_triple c.loop-name.name-iterator c.next.new.self c.next.result c.in-None.is c.next.ensures.steps in
-    let all = all_written (codes ", ") c.loop-name.separator.now so_far.0 _ _ so_far.2 (ap (λ ps. choice_texts k (variants ps)) none) ∙ leading_all (codes ", ") (choice_texts k (union_tree c.args.self.now)) in
+    let so_far = c.loop-name.invariant.2 plain in
+    let none = none_of lent_triple c.loop-name.name-iterator c.next.new.self c.next.result c.in-None.is c.next.ensures.steps in
+    let all = all_written (codes ", ") c.loop-name.separator.now so_far.0 _ _ so_far.2 (ap (λ ps. choice_texts k (variants (with_tagged_trees ps))) none) ∙ leading_all (codes ", ") (choice_texts k (union_tree c.args.self.now)) in
     has_written_of_eq _ _ _ _ _ all so_far.1

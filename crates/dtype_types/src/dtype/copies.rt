@@ -1,8 +1,11 @@
+// SPDX-License-Identifier: Apache-2.0
+// SPDX-FileCopyrightText: Copyright the Vortex contributors
+
 // Copies of types: each takes memory for its boxes, and shares what its structs, unions and maps hold.
 ghost use Rattle.std.specs.Prelude.{◌≡◌, IfOk, IsOkUnless};
 ghost use Rattle.dtype_base.specs.declared.vortex_error.VortexError.TheVariants.{OutOfMemory};
 ghost use Rattle.dtype_types.specs.TreeOf.{tree};
-ghost use Rattle.dtype_types.specs.IsValid.{IsValid, has_even_lists};
+ghost use Rattle.dtype_types.specs.IsValid.{IsValid};
 
 use crate::DType;
 use dtype_base::VortexResult;
@@ -11,10 +14,9 @@ use std::alloc::Global;
 impl DType {
     /// A type equal to this one. Refuses 0 (OutOfMemory) alone.
     #[cycle(copy)]
-    #[tactic(auto, using(crate::proofs::SameParts::same_parts, crate::proofs::EvenLists::even_parts))]
+    #[tactic(auto, using(crate::proofs::SameParts::same_parts))]
     pub fn try_clone(&self, alloc: Global) -> VortexResult<DType>
         ensures same { IfOk result (λ d. tree d ≡ tree self.now) }
-        ensures even { IfOk result (λ d. has_even_lists d ≡ has_even_lists self.now) }
         ensures valid { IsValid self.now → IfOk result IsValid }
         ensures refused { IsOkUnless result OutOfMemory }
     {
@@ -44,7 +46,6 @@ impl DType {
 #[cycle(copy)]
 pub(crate) fn boxed_copy(alloc: Global, dtype: &DType) -> VortexResult<Box<DType>>
     ensures same { IfOk result (λ b. tree b.value ≡ tree dtype.now) }
-    ensures even { IfOk result (λ b. has_even_lists b.value ≡ has_even_lists dtype.now) }
     ensures refused { IsOkUnless result OutOfMemory }
 {
     let copy = dtype.try_clone(alloc)?;

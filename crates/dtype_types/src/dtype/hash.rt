@@ -1,3 +1,6 @@
+// SPDX-License-Identifier: Apache-2.0
+// SPDX-FileCopyrightText: Copyright the Vortex contributors
+
 // Hashes of types: one walk that feeds a hasher, with the nullabilities or without them.
 ghost use Rattle.std.specs.Prelude.{◌≡◌, fold};
 ghost use Rattle.dtype_types.specs.Hashes.{hash_of, nullability_writes, writes_ignoring_nullability};

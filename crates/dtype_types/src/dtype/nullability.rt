@@ -1,3 +1,6 @@
+// SPDX-License-Identifier: Apache-2.0
+// SPDX-FileCopyrightText: Copyright the Vortex contributors
+
 // The outer nullability of a type, and types with another.
 ghost use Rattle.std.specs.Prelude.{◌≡◌, ◌↔◌, IsTrue, IfOk, IsOkUnless};
 ghost use Rattle.dtype_base.specs.Nullability.{either};
@@ -5,7 +8,7 @@ ghost use Rattle.dtype_base.specs.declared.vortex_error.VortexError.TheVariants.
 ghost use Rattle.dtype_types.specs.Nullable.{nullability, IsNullable, CanBeNonNullable, SetNull, set_null};
 ghost use Rattle.dtype_types.specs.Tree.{Tree};
 ghost use Rattle.dtype_types.specs.TreeOf.{tree};
-ghost use Rattle.dtype_types.specs.IsValid.{IsValid, has_even_lists};
+ghost use Rattle.dtype_types.specs.IsValid.{IsValid};
 ghost use Rattle.dtype_types.specs.Value.{AddsNull};
 
 use crate::DType;
@@ -104,7 +107,6 @@ impl DType {
             (λ d. CanBeNonNullable (tree self.now) → CanBeNonNullable (tree d)) }
         ensures last { IfOk result (λ d. (m : Nullability) (u : Tree) → SetNull (tree d) m u
             → SetNull (tree self.now) m u) }
-        ensures even { IfOk result (λ d. has_even_lists d ≡ has_even_lists self.now) }
         ensures valid { IsValid self.now → IfOk result IsValid }
         ensures refused { IsOkUnless result OutOfMemory }
     {
@@ -113,11 +115,10 @@ impl DType {
 
     // The same, in a cycle with the extensions.
     #[cycle(with_nullability)]
-    #[tactic(auto, using(crate::proofs::SameParts::set_parts, crate::proofs::EvenLists::even_parts))]
+    #[tactic(auto, using(crate::proofs::SameParts::set_parts))]
     pub(crate) fn set_nullability(&self, alloc: Global, n: Nullability) -> VortexResult<DType>
         requires { n ≡ Nullability.NonNullable → CanBeNonNullable (tree self.now) }
         ensures set { IfOk result (λ d. SetNull (tree self.now) n (tree d)) }
-        ensures even { IfOk result (λ d. has_even_lists d ≡ has_even_lists self.now) }
         ensures valid { IsValid self.now → IfOk result IsValid }
         ensures refused { IsOkUnless result OutOfMemory }
     {

@@ -1,3 +1,6 @@
+// SPDX-License-Identifier: Apache-2.0
+// SPDX-FileCopyrightText: Copyright the Vortex contributors
+
 // How many bytes the values of a type take, where all take as many.
 ghost use Rattle.std.specs.Prelude.{◌≡◌, ◌↔◌, ◌++◌, ◌∷◌, ℕ, List, [], None, IfOk, IfSome, IsErr, IsOkUnless};
 ghost use Rattle.dtype_base.specs.declared.nullability.Nullability.{Nullability};

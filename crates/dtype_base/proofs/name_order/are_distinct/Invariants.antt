@@ -1,6 +1,10 @@
+-- SPDX-License-Identifier: Apache-2.0
+-- SPDX-FileCopyrightText: Copyright the Vortex contributors
+
+use Rattle.dtype_base.specs.NameOrder.{positions}
 use Rattle.dtype_base.proofs.NameSearch.{AllRise}
 use Rattle.dtype_base.proofs.name_order.are_distinct.Given as goal
 
 -- the name at each place before this one is above all names before it
 abbrev pub invariant-loop-place : goal.invariant-loop-place
-invariant-loop-place l = AllRise l.names l.order l.place
+invariant-loop-place l = AllRise l.names (positions l.places) l.place

@@ -1,83 +1,23 @@
-use Rattle.std.proofs.Common.{◌+◌, ◌-◌, ◌/◌, ◌<◌, sym, ap, subst, ◌∙◌, arith, length, is_lt}
-use Rattle.dtype_base.proofs.NameSearch.{as_many, is_position, below_more, above_more, found, absent_past, absent_at, AllBelow, tick, spare, is_less, is_equal, is_greater}
+-- SPDX-License-Identifier: Apache-2.0
+-- SPDX-FileCopyrightText: Copyright the Vortex contributors
+
+use Rattle.std.proofs.Common.{◌≡◌, ◌≤◌, get_or, [], take, sym, ap, subst, ◌∙◌, arith, rules}
+use Rattle.std.proofs.lemmas.Option.{get_or_from_slice_get}
+use Rattle.dtype_base.specs.NameKeys.{name_key}
+use Rattle.dtype_base.proofs.KeyOrder.{AreBytes, all_told}
 use Rattle.dtype_base.proofs.name_order.search.Goals as goal
 
-pub compare-side-requires-clause-within : goal.compare-side-requires-clause-within
-compare-side-requires-clause-within c =
-    let inv = c.loop-low.invariant in
-    is_position c.args.names.now c.args.order.now c.requires _ (omega (arith, inv.0, inv.1, c.loop-low-test.true))
+pub halve-found-requires-clause-told : goal.halve-found-requires-clause-told
+halve-found-requires-clause-told c =
+    let names = c.args.names.now in
+    let n = c.args.name.now in
+    let shared = c.args.shared in
+    let text = c.as_bytes-text.ensures.value in
+    let first : get_or names 0 [] ≡ c.as_bytes.result.now = get_or_from_slice_get names 0 _ [] (sym c.in-Some.ensures.value) ∙ sym (c.as_bytes.ensures.value ∙ c.as_str.ensures) in
+    let begin : take shared (get_or names 0 []) ≡ take shared n = ap (take shared) first ∙ c.begin_alike.ensures.0 c.if-not-begin_alike.false ∙ ap (take shared) text in
+    all_told names shared c.requires.alike c.args.places.now n c.key_of.result c.requires.keyed (subst AreBytes text c.key_of.ensures.bytes) begin (c.key_of.ensures.key ∙ ap (name_key shared) text)
 
-pub compare-side-requires-clause-room : goal.compare-side-requires-clause-room
-compare-side-requires-clause-room c =
-    let inv = c.loop-low.invariant in
-    let few = spare c.loop-low.ticks (c.loop-low.high - c.loop-low.low) 64 (omega (arith, c.loop-low-test.true)) (inv.4 64 (omega arith)) in
-    omega (arith, few)
-
-pub loop-low-preserved-then-is_lt : goal.loop-low-preserved-then-is_lt
-loop-low-preserved-then-is_lt c =
-    let inv = c.loop-low.invariant in
-    let low = c.loop-low.low in
-    let high = c.loop-low.high in
-    let m = low + (high - low) / 2 in
-    let within : m < length c.args.order.now = omega (arith, inv.0, inv.1, c.loop-low-test.true) in
-    let less = sym c.compare-side.ensures.side ∙ is_less _ c.if-is_lt.ensures in (
-      omega (arith, c.loop-low-test.true),
-      inv.1,
-      below_more c.args.names.now c.args.order.now c.requires c.args.name.now m within less,
-      inv.3,
-      λ b l. tick c.loop-low.ticks _ (high - low) _ b c.compare-side.ensures.ticked (omega (arith, c.loop-low-test.true)) (omega arith) (inv.4 b l),
-    )
-
-pub loop-low-preserved : goal.loop-low-preserved
-loop-low-preserved c =
-    let inv = c.loop-low.invariant in
-    let low = c.loop-low.low in
-    let high = c.loop-low.high in
-    let m = low + (high - low) / 2 in
-    let within : m < length c.args.order.now = omega (arith, inv.0, inv.1, c.loop-low-test.true) in
-    let not_less = ap is_lt (sym c.compare-side.ensures.side) ∙ sym c.if-is_lt.ensures in (
-      omega arith,
-      omega (arith, within),
-      inv.2,
-      above_more c.args.names.now c.args.order.now c.requires c.args.name.now m within not_less,
-      λ b l. tick c.loop-low.ticks _ (high - low) _ b c.compare-side.ensures.ticked (omega (arith, c.loop-low-test.true)) (omega arith) (inv.4 b l),
-    )
-
-pub returns-then-low-order-clause-none : goal.returns-then-low-order-clause-none
-returns-then-low-order-clause-none c =
-    absent_past c.args.names.now c.args.order.now c.requires c.args.name.now (subst (AllBelow c.args.names.now c.args.order.now c.args.name.now) c.if-low-order.true c.loop-low.invariant.2)
-
-pub returns-then-low-order-clause-most : goal.returns-then-low-order-clause-most
-returns-then-low-order-clause-most c = λ b l.
-    let few = c.loop-low.invariant.4 b (omega (arith, l, as_many c.args.names.now c.args.order.now c.requires)) in omega (arith, few.0)
-
-pub compare-side-requires-2-clause-within : goal.compare-side-requires-2-clause-within
-compare-side-requires-2-clause-within c =
-    let inv = c.loop-low.invariant in
-    is_position c.args.names.now c.args.order.now c.requires _ (omega (arith, inv.0, inv.1, c.if-low-order.false))
-
-pub compare-side-requires-2-clause-room : goal.compare-side-requires-2-clause-room
-compare-side-requires-2-clause-room c =
-    let few = c.loop-low.invariant.4 64 (omega arith) in omega (arith, few.0)
-
-pub returns-then-is_eq-clause-found : goal.returns-then-is_eq-clause-found
-returns-then-is_eq-clause-found c =
-    let inv = c.loop-low.invariant in
-    found c.args.names.now c.args.order.now c.requires c.args.name.now c.loop-low.low (omega (arith, inv.0, inv.1, c.if-low-order.false)) inv.2
-    (sym c.compare-side-2.ensures.side ∙ is_equal _ c.if-is_eq.ensures)
-
-pub returns-then-is_eq-clause-most : goal.returns-then-is_eq-clause-most
-returns-then-is_eq-clause-most c = λ b l.
-    let few = c.loop-low.invariant.4 b (omega (arith, l, as_many c.args.names.now c.args.order.now c.requires)) in omega (arith, few.0, c.compare-side-2.ensures.ticked)
-
-pub returns-else-is_eq-clause-none : goal.returns-else-is_eq-clause-none
-returns-else-is_eq-clause-none c =
-    let inv = c.loop-low.invariant in
-    let within : c.loop-low.low < length c.args.order.now = omega (arith, inv.0, inv.1, c.if-low-order.false) in
-    let not_less = inv.3 c.loop-low.low (omega (arith, c.loop-low-test.false)) within in
-    absent_at c.args.names.now c.args.order.now c.requires c.args.name.now c.loop-low.low within inv.2
-    (sym c.compare-side-2.ensures.side ∙ is_greater _ (ap is_lt c.compare-side-2.ensures.side ∙ not_less) c.if-is_eq.ensures)
-
-pub returns-else-is_eq-clause-most : goal.returns-else-is_eq-clause-most
-returns-else-is_eq-clause-most c = λ b l.
-    let few = c.loop-low.invariant.4 b (omega (arith, l, as_many c.args.names.now c.args.order.now c.requires)) in omega (arith, few.0, c.compare-side-2.ensures.ticked)
+pub overflow_add-result : goal.overflow_add-result
+overflow_add-result c =
+    let few : c.halve-found.result.1 ≤ 64 = c.halve-found.ensures.most 64 (omega arith) in
+    search rules

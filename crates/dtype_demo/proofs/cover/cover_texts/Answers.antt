@@ -1,3 +1,6 @@
+-- SPDX-License-Identifier: Apache-2.0
+-- SPDX-FileCopyrightText: Copyright the Vortex contributors
+
 use Rattle.std.proofs.Common.{◌≡◌, ◌++◌, length, map, append-nil, sym, ap, subst, ◌∙◌, arith}
 use Rattle.std.specs.List.Sorted.{IsPermutation}
 use Rattle.std.specs.String.{string_bytes}
@@ -5,7 +8,7 @@ use Rattle.std.specs.Vec.Iter.{into_iter_items}
 use Rattle.std.proofs.lemmas.List.{nil_from_length}
 use Rattle.std.proofs.lemmas.List.Sorted.{IsPermutation-map}
 use Rattle.vortex_dtype.specs.Texts.{path_text}
-use Rattle.dtype_demo.proofs.CoverTexts.{texts_next, sorted_texts, least_given}
+use Rattle.dtype_demo.proofs.CoverTexts.{texts_next, sorted_texts}
 use Rattle.dtype_demo.proofs.cover.cover_texts.Goals as goal
 
 pub loop-path-preserved : goal.loop-path-preserved
@@ -22,7 +25,7 @@ returns-clause-ok c =
     sym (append-nil (map (λ s. string_bytes s) texts)) ∙ sym (ap (λ ps. map (λ s. string_bytes s) texts ++ map path_text ps) none) ∙ c.loop-path.invariant ∙ ap (λ it. map path_text (into_iter_items it)) c.into_iter-path-iterator.ensures.into_iter_gives in
     record {
       cover = given;
-      least = least_given given c.in_ok-paths_of.field-0 _ c.in_ok-paths_of.ensures.ok c.in_ok-path-items.ensures.least;
+      least = c.in_ok-path-items.ensures.least;
       once = c.in_ok-path-items.ensures.once;
       printed = subst (λ ts. IsPermutation ts (map (λ s. string_bytes s) c.sort.new.self.items)) all (IsPermutation-map (λ s. string_bytes s) texts c.sort.new.self.items c.sort.ensures.permutation);
       sorted = sorted_texts c.sort.new.self.items c.in_ok-sort.ensures.sorted;

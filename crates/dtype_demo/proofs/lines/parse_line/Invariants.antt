@@ -1,3 +1,6 @@
+-- SPDX-License-Identifier: Apache-2.0
+-- SPDX-FileCopyrightText: Copyright the Vortex contributors
+
 use Rattle.std.proofs.Common.{◌≡◌, map}
 use Rattle.dtype_demo.specs.Lines.{part_of}
 use Rattle.dtype_demo.proofs.lines.parse_line.Given as goal

@@ -1,3 +1,6 @@
+-- SPDX-License-Identifier: Apache-2.0
+-- SPDX-FileCopyrightText: Copyright the Vortex contributors
+
 use Rattle.std.proofs.Common.{rules, ◌≡◌, ℤ, pos, ap, sym, subst, ◌∙◌}
 use Rattle.std.specs.Int.{int_pow}
 use Rattle.dtype_native.proofs.native_decimal_type.power_of_ten.Goals as goal

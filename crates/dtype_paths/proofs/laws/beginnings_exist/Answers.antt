@@ -1,3 +1,6 @@
+-- SPDX-License-Identifier: Apache-2.0
+-- SPDX-FileCopyrightText: Copyright the Vortex contributors
+
 use Rattle.dtype_paths.proofs.PathLaws.{beginning_exists}
 use Rattle.dtype_paths.proofs.laws.beginnings_exist.Goals as goal
 

@@ -1,3 +1,6 @@
+-- SPDX-License-Identifier: Apache-2.0
+-- SPDX-FileCopyrightText: Copyright the Vortex contributors
+
 use Rattle.std.proofs.Common.{◌≡◌, map}
 use Rattle.dtype_types.proofs.field_dtype.into_dtypes.Given as goal
 

@@ -1,3 +1,6 @@
+-- SPDX-License-Identifier: Apache-2.0
+-- SPDX-FileCopyrightText: Copyright the Vortex contributors
+
 use Rattle.std.proofs.lemmas.Iterator.{YieldsList-from_slice, items_from_drains}
 use Rattle.dtype_types.proofs.DistinctItems.{shorter_set}
 use Rattle.dtype_types.proofs.union_variants.has_repeats.Goals as goal

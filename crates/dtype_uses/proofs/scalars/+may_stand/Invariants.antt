@@ -1,6 +1,15 @@
+-- SPDX-License-Identifier: Apache-2.0
+-- SPDX-FileCopyrightText: Copyright the Vortex contributors
+
+use Rattle.std.proofs.Common.{ℕ, ◌+◌}
+use Rattle.dtype_types.specs.Tree.{Tree, extension}
 use Rattle.dtype_types.specs.TreeOf.{tree}
-use Rattle.vortex_dtype.proofs.Weight.{weight}
 use Rattle.dtype_uses.proofs.scalars.+may_stand.Given as goal
 
+-- how many extensions stand over the storage that is none
+abbrev pub extensions_over : Tree → ℕ
+extensions_over (extension id b s) = extensions_over s + 1
+extensions_over _ = 0
+
 abbrev pub decreases-may_stand : goal.decreases-may_stand
-decreases-may_stand l = weight (tree l.dtype.now)
+decreases-may_stand l = extensions_over (tree l.dtype.now)

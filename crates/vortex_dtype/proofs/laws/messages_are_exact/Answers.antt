@@ -1,3 +1,6 @@
+-- SPDX-License-Identifier: Apache-2.0
+-- SPDX-FileCopyrightText: Copyright the Vortex contributors
+
 use Rattle.vortex_dtype.proofs.ReadLaws.{fault_none, normal_again, reads_accepted, reads_once, same_normal, written_accepted, written_normal}
 use Rattle.vortex_dtype.proofs.laws.messages_are_exact.Goals as goal
 

@@ -1,5 +1,9 @@
-use Rattle.vortex_dtype.proofs.SessionLaws.{after-left_alone}
+-- SPDX-License-Identifier: Apache-2.0
+-- SPDX-FileCopyrightText: Copyright the Vortex contributors
+
+use Rattle.std.proofs.Common.{◌∙◌, refl}
+use Rattle.vortex_dtype.proofs.SessionLaws.{after-left_alone, registered_nothing}
 use Rattle.vortex_dtype.proofs.laws.none_registered_counts.Goals as goal
 
 pub returns : goal.returns
-returns c = λ calls id h. after-left_alone calls _ id h
+returns c = λ calls id h. after-left_alone calls _ id h ∙ registered_nothing _ id refl

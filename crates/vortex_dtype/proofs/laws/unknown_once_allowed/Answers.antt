@@ -1,6 +1,9 @@
+-- SPDX-License-Identifier: Apache-2.0
+-- SPDX-FileCopyrightText: Copyright the Vortex contributors
+
 use Rattle.std.proofs.Common.{refl}
-use Rattle.vortex_dtype.proofs.SessionLaws.{after-unknown}
+use Rattle.vortex_dtype.proofs.SessionLaws.{after-unknown, unknown_nothing}
 use Rattle.vortex_dtype.proofs.laws.unknown_once_allowed.Goals as goal
 
 pub returns : goal.returns
-returns c = λ calls. after-unknown calls _ refl
+returns c = λ calls. after-unknown calls _ (unknown_nothing _ refl)

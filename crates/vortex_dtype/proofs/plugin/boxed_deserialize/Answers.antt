@@ -1,3 +1,6 @@
+-- SPDX-License-Identifier: Apache-2.0
+-- SPDX-FileCopyrightText: Copyright the Vortex contributors
+
 use Rattle.dtype_types.specs.TreeOf.{tree}
 use Rattle.vortex_dtype.proofs.Meanings.{written_again}
 use Rattle.vortex_dtype.proofs.plugin.boxed_deserialize.Goals as goal

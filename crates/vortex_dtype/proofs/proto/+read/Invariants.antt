@@ -1,3 +1,6 @@
+-- SPDX-License-Identifier: Apache-2.0
+-- SPDX-FileCopyrightText: Copyright the Vortex contributors
+
 use Rattle.std.proofs.Common.{map, drop, All}
 use Rattle.dtype_types.specs.IsValid.{IsValid}
 use Rattle.dtype_types.specs.TreeOf.{tree}

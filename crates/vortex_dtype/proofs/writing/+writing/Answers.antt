@@ -1,5 +1,8 @@
+-- SPDX-License-Identifier: Apache-2.0
+-- SPDX-FileCopyrightText: Copyright the Vortex contributors
+
 use Rattle.std.proofs.Common.{◌≡◌, pos, refl, sym, ap, ◌∙◌, arith, get_or, rules, map, string_bytes, [], ◌∷◌, ◌++◌}
-use Rattle.dtype_types.specs.TreeOf.{tree, children, choices, union_names, union_types, union_tags}
+use Rattle.dtype_types.specs.TreeOf.{tree, children, choices, union_names, union_tags}
 use Rattle.dtype_messages.specs.MessageOf.{message}
 use Rattle.vortex_dtype.proofs.Weight.{weight_field, weight_variant}
 use Rattle.vortex_dtype.proofs.WrittenParts.{take_field, take_variant, step, step_plain, struct_done, union_done}
@@ -42,7 +45,7 @@ write_union-loop-i-preserved t c =
     let texts : c.as_slice-texts.result.now ≡ union_names v = c.as_slice-texts.ensures ∙ c.names.ensures in
     let tags : c.type_ids-type_ids.result.now ≡ union_tags v = c.type_ids-type_ids.ensures in
     let g = get_or c.type_ids-type_ids.result.now i 0 in
-    let next = take_variant (union_names v) (union_types v) (union_tags v) i n x g 0 (omega (arith, c.loop-i-test.true, c.len-count.ensures.names)) (omega (arith, c.loop-i-test.true, c.len-count.ensures.tags))
+    let next = take_variant (choices v) i n x g 0 (omega (arith, c.loop-i-test.true, c.len-count.ensures.all))
     (c.index-texts-i.is ∙ ap (λ xs. get_or xs i n) texts) c.in-Some.ensures.at (ap (λ xs. get_or xs i 0) tags) in
     let text : string_bytes c.in_ok-to_text.field-0 ≡ n = search rules in
     let pushed : c.push.new.self.items ≡ c.loop-i.names.items ++ c.in_ok-to_text.field-0 ∷ [] = search rules in

@@ -1,3 +1,6 @@
+-- SPDX-License-Identifier: Apache-2.0
+-- SPDX-FileCopyrightText: Copyright the Vortex contributors
+
 use Rattle.std.proofs.Common.{◌-◌, arith}
 use Rattle.dtype_base.proofs.BitWidths.{bit_width-of}
 use Rattle.dtype_base.proofs.decimal.DecimalDType.required_bit_width.Goals as goal

@@ -1,3 +1,6 @@
+-- SPDX-License-Identifier: Apache-2.0
+-- SPDX-FileCopyrightText: Copyright the Vortex contributors
+
 use Rattle.std.proofs.Common.{arith, sym}
 use Rattle.std.proofs.Output.{displays_on_ok_of_eq}
 use Rattle.dtype_base.proofs.EscapedChars.{IsNoEscape, escaped_control, escaped_plain}

@@ -1,12 +1,16 @@
-use Rattle.std.proofs.Common.{◌≡◌, ◌++◌, ℕ, List}
+-- SPDX-License-Identifier: Apache-2.0
+-- SPDX-FileCopyrightText: Copyright the Vortex contributors
+
+use Rattle.std.proofs.Common.{◌-◌, ◌≤◌, take, drop}
 use Rattle.std.specs.Fmt.{HasWritten, IsPlainFormatter}
-use Rattle.std.specs.Str.Iter.{chars_rest}
+use Rattle.std.specs.Str.{IsCharBoundary}
 use Rattle.dtype_base.specs.Escapes.{escaped}
+use Rattle.dtype_base.proofs.EscapedChars.{IsUnchanged}
 use Rattle.dtype_base.proofs.field_name.FieldNameDisplay.fmt.Given as goal
 
--- what is written, with what is left escaped behind it, is the whole text escaped
-abbrev pub invariant-loop-c : goal.invariant-loop-c
-invariant-loop-c g l =
-    IsPlainFormatter l.initial.f → (written : List ℕ)
-    × HasWritten g.W.Write.write_str_gives l.initial.f written l.f
-    × (written ++ escaped (chars_rest l.c-iterator) ≡ escaped l.self)
+-- the text before `start` is written, escaped; what is between it and `i` stands as it is
+abbrev pub invariant-loop-i : goal.invariant-loop-i
+invariant-loop-i g l =
+    (l.start ≤ l.i) × IsCharBoundary l.text l.start
+    × IsUnchanged (take (l.i - l.start) (drop l.start l.text))
+    × (IsPlainFormatter l.initial.f → HasWritten g.W.Write.write_str_gives l.initial.f (escaped (take l.start l.text)) l.f)

@@ -1,4 +1,7 @@
-use Rattle.dtype_base.proofs.Places.{place_found}
+-- SPDX-License-Identifier: Apache-2.0
+-- SPDX-FileCopyrightText: Copyright the Vortex contributors
+
+use Rattle.dtype_base.specs.Places.{place_found}
 use Rattle.dtype_base.proofs.field_names.FieldNames.find.Goals as goal
 
 pub returns-clause-first : goal.returns-clause-first

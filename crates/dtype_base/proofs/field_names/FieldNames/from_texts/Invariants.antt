@@ -1,3 +1,6 @@
+-- SPDX-License-Identifier: Apache-2.0
+-- SPDX-FileCopyrightText: Copyright the Vortex contributors
+
 use Rattle.std.proofs.Common.{◌≡◌, map, take}
 use Rattle.dtype_base.proofs.field_names.FieldNames.from_texts.Given as goal
 

@@ -1,3 +1,6 @@
+-- SPDX-License-Identifier: Apache-2.0
+-- SPDX-FileCopyrightText: Copyright the Vortex contributors
+
 use Rattle.std.proofs.Common.{arith, rules, codes}
 use Rattle.std.proofs.lemmas.Grind.{put_two, put_three}
 use Rattle.dtype_base.specs.FieldNames.{quoted}

@@ -1,3 +1,6 @@
+-- SPDX-License-Identifier: Apache-2.0
+-- SPDX-FileCopyrightText: Copyright the Vortex contributors
+
 use Rattle.std.proofs.Common.{ℕ, pos, ◌-◌, ◌^◌, ap, ◌∙◌, arith}
 use Rattle.dtype_native.proofs.Powers.{power_fits, less_one, greatest_fits}
 use Rattle.dtype_native.proofs.native_decimal_type.NativeDecimalType.max_by_precision.Goals as goal

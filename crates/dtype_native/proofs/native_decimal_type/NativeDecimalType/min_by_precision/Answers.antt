@@ -1,3 +1,6 @@
+-- SPDX-License-Identifier: Apache-2.0
+-- SPDX-FileCopyrightText: Copyright the Vortex contributors
+
 use Rattle.std.proofs.Common.{neg_ℤ, ap, ◌∙◌}
 use Rattle.dtype_native.proofs.Powers.{least_fits}
 use Rattle.dtype_native.proofs.native_decimal_type.NativeDecimalType.min_by_precision.Goals as goal

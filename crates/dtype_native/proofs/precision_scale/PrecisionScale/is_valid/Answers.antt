@@ -1,3 +1,6 @@
+-- SPDX-License-Identifier: Apache-2.0
+-- SPDX-FileCopyrightText: Copyright the Vortex contributors
+
 use Rattle.dtype_native.proofs.Order.{le_is, within_then, within_else}
 use Rattle.dtype_native.proofs.precision_scale.PrecisionScale.is_valid.Goals as goal
 

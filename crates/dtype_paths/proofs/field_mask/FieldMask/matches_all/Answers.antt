@@ -1,3 +1,6 @@
+-- SPDX-License-Identifier: Apache-2.0
+-- SPDX-FileCopyrightText: Copyright the Vortex contributors
+
 use Rattle.dtype_paths.proofs.MaskLaws.{prefix_holds_all, exact_holds_not_all}
 use Rattle.dtype_paths.proofs.field_mask.FieldMask.matches_all.Goals as goal
 

@@ -1,3 +1,6 @@
+-- SPDX-License-Identifier: Apache-2.0
+-- SPDX-FileCopyrightText: Copyright the Vortex contributors
+
 use Rattle.dtype_paths.proofs.PathTests.{starts_with-Decides}
 use Rattle.dtype_paths.proofs.field_path.FieldPath.begins.Goals as goal
 

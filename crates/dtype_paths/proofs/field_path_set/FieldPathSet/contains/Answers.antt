@@ -1,11 +1,23 @@
-use Rattle.std.proofs.Common.{ap, ◌∙◌}
-use Rattle.std.specs.Set.{is_member}
-use Rattle.std.proofs.lemmas.Map.Made.{is_some-lookup, is_member-Decides}
-use Rattle.dtype_paths.specs.Equality.{same_path}
-use Rattle.dtype_paths.specs.EqualityLaws.{same_path-Decides}
+-- SPDX-License-Identifier: Apache-2.0
+-- SPDX-FileCopyrightText: Copyright the Vortex contributors
+
+use Rattle.std.proofs.Common.{◌≡◌, ◌↔◌, ◌∙◌, IsTrue, List, ap, subst}
+use Rattle.std.specs.List.{Contains}
+use Rattle.dtype_paths.specs.Trie.{ends}
+use Rattle.dtype_paths.specs.declared.field.Field.{Field}
+use Rattle.dtype_paths.proofs.SetLaws.{told_alike, told_within}
 use Rattle.dtype_paths.proofs.field_path_set.FieldPathSet.contains.Goals as goal
 
-pub returns : goal.returns
-returns c =
-    let is = rw c.parts.ensures at c.contains.ensures ∙ is_some-lookup (same_path c.args.path.now) c.self.inside.root.rows ∙ ap (λ ps. is_member same_path ps c.args.path.now) c.self.view_is in
-    rw is (is_member-Decides same_path-Decides c.args.self.now c.args.path.now)
+pub returns-clause-exact : goal.returns-clause-exact
+returns-clause-exact c =
+    let same : ends c.deref.result.now ≡ c.args.self.now = ap ends c.deref.ensures.value ∙ c.self.view_is in
+    subst
+    (λ (p : List Field). IsTrue c.contains.result ↔ Contains c.args.self.now p)
+    c.parts.ensures
+    (subst (λ (ps : List (List Field)). IsTrue c.contains.result ↔ Contains ps c.parts.result.now) same c.contains.ensures)
+
+pub returns-clause-alike : goal.returns-clause-alike
+returns-clause-alike c = λ ps s. told_alike c.contains.result c.args.self.now ps c.args.path.now (returns-clause-exact c) s
+
+pub returns-clause-member : goal.returns-clause-member
+returns-clause-member c = λ ps m s. told_within c.contains.result ps c.args.self.now c.args.path.now (returns-clause-exact c) m s

@@ -1,4 +1,8 @@
+-- SPDX-License-Identifier: Apache-2.0
+-- SPDX-FileCopyrightText: Copyright the Vortex contributors
+
 use Rattle.std.proofs.Common.{List, subst, sym}
+use Rattle.std.proofs.iter.runs.Made.{run_of_exit}
 use Rattle.std.proofs.lemmas.Result.{MatchResult-from_err}
 use Rattle.dtype_paths.specs.PathSets.{Gains}
 use Rattle.dtype_paths.specs.declared.field.Field.{Field}
@@ -20,3 +24,10 @@ returns-in_err-insert-clause-items g c =
       kept,
       MatchResult-from_err _ _ _ c.from_residual.ensures.0 (λ _. (c.loop-path.path-iterator, c.loop-path.yielded_by)),
     )
+
+-- the list that was taken, as a run
+pub returns-clause-listed : goal.returns-clause-listed
+returns-clause-listed g c =
+    let whole = run_of_exit g.I.IntoIter.Iterator.next_gives _ c.loop-path.yielded _ c.loop-path.yielded_by _ (rw c.in-None.is at c.next.ensures.steps) in
+    let gained = subst (λ (ps : List (List Field)). Gains c.args.self.now ps c.loop-path.self) (sym whole.3.0) c.loop-path.invariant in
+    (c.into_iter-path-iterator.result, c.into_iter-path-iterator.ensures.into_iter_gives, (whole.0, whole.1, whole.2, gained))

@@ -1,3 +1,6 @@
+-- SPDX-License-Identifier: Apache-2.0
+-- SPDX-FileCopyrightText: Copyright the Vortex contributors
+
 use Rattle.dtype_paths.specs.PathSets.{Gains}
 use Rattle.dtype_paths.proofs.field_path_set.FieldPathSet.extend.Given as goal
 

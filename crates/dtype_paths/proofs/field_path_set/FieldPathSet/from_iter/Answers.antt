@@ -1,4 +1,8 @@
-use Rattle.std.proofs.Common.{List, subst}
+-- SPDX-License-Identifier: Apache-2.0
+-- SPDX-FileCopyrightText: Copyright the Vortex contributors
+
+use Rattle.std.proofs.Common.{List, refl, subst, true}
+use Rattle.std.proofs.iter.runs.Made.{run, to_end}
 use Rattle.dtype_paths.specs.PathSets.{Gains}
 use Rattle.dtype_paths.specs.declared.field.Field.{Field}
 use Rattle.dtype_paths.specs.PathSetLaws.{gained_all}
@@ -9,3 +13,10 @@ returns-clause-ok g c =
     let ran = c.in_ok-extend.ensures.items in
     let all = gained_all ran.1 c.extend.new.self (subst (λ (ps : List (List Field)). Gains ps ran.1 c.extend.new.self) c.new-set.ensures ran.3) in
     (ran.0, ran.1, ran.2, ran.4, all)
+
+-- the list that was taken, as a run
+pub returns-clause-listed : goal.returns-clause-listed
+returns-clause-listed g c =
+    let all = returns-clause-ok g c in
+    let steps = g.I.IntoIter.Iterator.next_gives in
+    (all.0, all.2, (run steps all.0 all.1 true (to_end steps all.0 all.1 all.3), refl, refl, all.4))

@@ -1,14 +1,22 @@
-use Rattle.dtype_paths.specs.Equality.{same_field}
-use Rattle.dtype_paths.specs.EqualityLaws.{same_field-Decides}
-use Rattle.dtype_paths.proofs.NodeInserts.{added-members, set-after, on-ok}
-use Rattle.dtype_paths.proofs.SetMembers.{gains_one}
+-- SPDX-License-Identifier: Apache-2.0
+-- SPDX-FileCopyrightText: Copyright the Vortex contributors
+
+use Rattle.std.proofs.Common.{[], ◌∷◌, List, OnOk, subst}
+use Rattle.std.proofs.lemmas.Result.{on_ok_weaker}
+use Rattle.dtype_paths.specs.PathSets.{Gains}
+use Rattle.dtype_paths.specs.declared.field.Field.{Field}
+use Rattle.dtype_paths.specs.Trie.{ends}
+use Rattle.dtype_paths.proofs.SetLaws.{path_is_there, old_is_kept, member_adds_nothing}
 use Rattle.dtype_paths.proofs.field_path_set.FieldPathSet.insert.Goals as goal
 
 pub returns-clause-ok : goal.returns-clause-ok
-returns-clause-ok c =
-    on-ok c.insert.result
-    (added-members same_field c.insert.result c.args.path c.self.inside.root c.insert.new.self c.self.view_is c.insert.ensures.ok)
-    (gains_one _ _ c.args.path)
+returns-clause-ok c = subst (λ (ps : List (List Field)). OnOk c.insert.result (Gains ps (c.args.path ∷ []) (ends c.insert.new.nodes.items))) c.self.view_is c.insert.ensures.ok
 
-pub invariant_of-self : goal.invariant_of-self
-invariant_of-self c = set-after same_field same_field-Decides c.insert.result c.args.path c.self.inside.root c.insert.new.self c.self.invariant c.insert.ensures.ok c.insert.ensures.err c.insert.ensures.distinct
+pub returns-clause-there : goal.returns-clause-there
+returns-clause-there c = on_ok_weaker c.insert.result (path_is_there c.args.self.now (ends c.insert.new.nodes.items) c.args.path) (returns-clause-ok c)
+
+pub returns-clause-kept : goal.returns-clause-kept
+returns-clause-kept c = on_ok_weaker c.insert.result (old_is_kept c.args.self.now (c.args.path ∷ []) (ends c.insert.new.nodes.items)) (returns-clause-ok c)
+
+pub returns-clause-again : goal.returns-clause-again
+returns-clause-again c = λ m. on_ok_weaker c.insert.result (λ g. member_adds_nothing c.args.self.now (ends c.insert.new.nodes.items) c.args.path g m) (returns-clause-ok c)

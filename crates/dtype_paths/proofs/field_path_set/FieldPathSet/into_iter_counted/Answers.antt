@@ -1,33 +1,28 @@
-use Rattle.std.proofs.Common.{◌≡◌, ap, ◌∙◌, min, not, zero-add}
-use Rattle.std.specs.Map.{keys_of}
-use Rattle.std.specs.Vec.Iter.{into_iter_items}
-use Rattle.std.proofs.lemmas.Map.Made.{AllPairs-from_IsDistinct}
-use Rattle.dtype_paths.specs.CoverTests.{extends, least, begun_count}
-use Rattle.dtype_paths.specs.Equality.{same_field, same_path}
-use Rattle.dtype_paths.specs.EqualityLaws.{same_field-Decides, same_path-Decides}
-use Rattle.dtype_paths.proofs.CoverLaws.{least_exact, least_coverage, least_within, begun_counts}
-use Rattle.dtype_paths.proofs.SetAnswers.{least-given, distinct-filter}
+-- SPDX-License-Identifier: Apache-2.0
+-- SPDX-FileCopyrightText: Copyright the Vortex contributors
+
+use Rattle.dtype_paths.specs.Trie.{ends}
+use Rattle.std.proofs.Common.{◌∙◌}
+use Rattle.dtype_paths.proofs.Opening.{within}
+use Rattle.dtype_paths.proofs.SetLaws.{coverage_of_cover}
+use Rattle.dtype_paths.proofs.BegunBounds.{begun_some, begun_none, begun_at_most}
 use Rattle.dtype_paths.proofs.field_path_set.FieldPathSet.into_iter_counted.Goals as goal
 
--- what is given is the list of the least paths
-given : (c : goal.After-into_iter) → into_iter_items c.into_iter.result ≡ least same_field c.args.self
-given c =
-    c.into_iter.ensures.rest ∙ rw c.new-found.ensures.items at c.in_ok-cover.ensures.paths ∙ least-given same_field same_field-Decides c.self.inside.root.rows c.self.invariant c.self.view_is
-
 pub returns-clause-least : goal.returns-clause-least
-returns-clause-least c = rw (given c) (least_exact c.args.self)
-
-pub returns-clause-once : goal.returns-clause-once
-returns-clause-once c =
-    rw (given c) (AllPairs-from_IsDistinct same_path-Decides (least same_field c.args.self) (distinct-filter same_path (λ p. not (extends same_field c.args.self p)) c.args.self (rw c.self.view_is at c.self.invariant.distinct)))
+returns-clause-least c = rw (c.into_iter.ensures.rest, ← c.self.view_is) c.in_ok-found.ensures.least
 
 pub returns-clause-covers : goal.returns-clause-covers
-returns-clause-covers c = rw (given c) (least_coverage c.args.self)
+returns-clause-covers c = rw (c.into_iter.ensures.rest, ← c.self.view_is) (coverage_of_cover c.in_ok-found.found.items (ends c.self.inside.nodes.items) c.in_ok-found.ensures.least)
 
 pub returns-clause-within : goal.returns-clause-within
-returns-clause-within c = λ ps alike p m. least_within c.args.self ps alike p ((least_exact c.args.self p).0 (rw (given c) at m))
+returns-clause-within c = rw (c.into_iter.ensures.rest, ← c.self.view_is) (within (ends c.self.inside.nodes.items) c.in_ok-found.found.items c.in_ok-found.ensures.least)
 
-pub returns-clause-visits : goal.returns-clause-visits
-returns-clause-visits c =
-    let counted = zero-add (begun_count same_field (keys_of c.self.inside.root.rows)) ∙ ap (begun_count same_field) c.self.view_is in
-    (begun_count same_field c.args.self, begun_counts c.args.self, c.in_ok-cover.ensures.count ∙ ap (λ n. min n 18446744073709551615) counted)
+pub returns-clause-some : goal.returns-clause-some
+returns-clause-some c = begun_some (ends c.self.inside.nodes.items) _ c.in_ok-found.ensures.visits
+
+pub returns-clause-root_alone : goal.returns-clause-root_alone
+returns-clause-root_alone c = λ none. begun_none (ends c.self.inside.nodes.items) _ (c.self.view_is ∙ none) c.in_ok-found.ensures.visits
+
+pub returns-clause-at_most : goal.returns-clause-at_most
+returns-clause-at_most c =
+    rw c.into_iter.ensures.rest (begun_at_most (ends c.self.inside.nodes.items) c.in_ok-found.found.items _ c.in_ok-found.ensures.visits (λ p l. (c.in_ok-found.ensures.least p).1 l))

@@ -1,3 +1,6 @@
+-- SPDX-License-Identifier: Apache-2.0
+-- SPDX-FileCopyrightText: Copyright the Vortex contributors
+
 use Rattle.dtype_types.specs.TreeOf.{tree}
 use Rattle.dtype_types.proofs.NullValues.{made_nullable}
 use Rattle.dtype_types.proofs.dtype.DType.as_nullable.Goals as goal

@@ -1,4 +1,7 @@
-use Rattle.dtype_types.proofs.EvenLists.{valid_struct}
+-- SPDX-License-Identifier: Apache-2.0
+-- SPDX-FileCopyrightText: Copyright the Vortex contributors
+
+use Rattle.dtype_types.proofs.Validity.{valid_struct}
 use Rattle.dtype_types.proofs.dtype.DType.as_struct_fields_opt.Goals as goal
 
 pub returns-in-Struct-clause-valid : goal.returns-in-Struct-clause-valid

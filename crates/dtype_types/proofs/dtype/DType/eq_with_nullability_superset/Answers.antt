@@ -1,3 +1,6 @@
+-- SPDX-License-Identifier: Apache-2.0
+-- SPDX-FileCopyrightText: Copyright the Vortex contributors
+
 use Rattle.dtype_types.specs.TreeOf.{tree}
 use Rattle.dtype_types.proofs.SubTest.{sub_of_test}
 use Rattle.dtype_types.proofs.dtype.DType.eq_with_nullability_superset.Goals as goal

@@ -1,5 +1,8 @@
+-- SPDX-License-Identifier: Apache-2.0
+-- SPDX-FileCopyrightText: Copyright the Vortex contributors
+
 use Rattle.std.proofs.Common.{subst, sym}
-use Rattle.dtype_types.proofs.EvenLists.{struct_valid, two_types}
+use Rattle.dtype_types.proofs.Validity.{struct_valid, two_types}
 use Rattle.dtype_types.specs.IsValid.{IsValid}
 use Rattle.dtype_base.specs.declared.nullability.Nullability.TheVariants.{NonNullable}
 use Rattle.dtype_types.proofs.map.MapDType.entries_dtype.Goals as goal

@@ -1,5 +1,32 @@
-use Rattle.dtype_types.proofs.EvenLists.{no_types}
+-- SPDX-License-Identifier: Apache-2.0
+-- SPDX-FileCopyrightText: Copyright the Vortex contributors
+
+use Rattle.std.proofs.Common.{sym, ap, subst, ◌∙◌}
+use Rattle.std.proofs.lemmas.Bool.{false≢true}
+use Rattle.dtype_types.specs.Distinct.{Distinct}
+use Rattle.dtype_types.specs.Lists.{firsts}
+use Rattle.dtype_types.specs.Lookups.{field_names}
+use Rattle.dtype_types.specs.Tree.{fields}
+use Rattle.dtype_types.specs.TreeOf.{children, struct_pairs}
+use Rattle.dtype_types.specs.Valid.{ValidFields}
+use Rattle.dtype_types.proofs.Parts.{names_shown}
+use Rattle.dtype_types.proofs.Validity.{valid_joined}
+use Rattle.dtype_types.proofs.PutTogether.{both_put}
 use Rattle.dtype_types.proofs.struct_fields.StructFields.disjoint_merge.Goals as goal
 
+pub returns-then-not-are_distinct-clause-refused : goal.returns-then-not-are_distinct-clause-refused
+returns-then-not-are_distinct-clause-refused c = λ d.
+    let made = c.in_ok-merged.ensures.fields ∙ both_put (children c.args.self.now) (children c.args.other.now) _ _ _ c.in_ok-fields.ensures.ok c.in_ok-fields-2.ensures.ok c.in_ok-push_copies.ensures.ok in
+    let names = ap field_names (sym made) ∙ names_shown (struct_pairs c.in_ok-merged.merged) ∙ ap firsts (sym c.deref.ensures) in
+    false≢true (c.if-not-are_distinct.ensures.1 (subst (λ ns. Distinct ns) names d))
+
+pub returns-clause-distinct : goal.returns-clause-distinct
+returns-clause-distinct c = λ yes.
+    let made = c.in_ok-merged.ensures.fields ∙ both_put (children c.args.self.now) (children c.args.other.now) _ _ _ c.in_ok-fields.ensures.ok c.in_ok-fields-2.ensures.ok c.in_ok-push_copies.ensures.ok in
+    let names = ap field_names (sym made) ∙ names_shown (struct_pairs c.in_ok-merged.merged) ∙ ap firsts (sym c.deref.ensures) in
+    subst (λ ns. Distinct ns) (sym names) (c.if-not-are_distinct.ensures.0 yes)
+
 pub returns-clause-valid : goal.returns-clause-valid
-returns-clause-valid c = λ h g. c.in_ok-merged.ensures.valid (c.in_ok-push_copies.ensures.valid g (c.in_ok-fields-2.ensures.valid h (no_types c.in_ok-fields.ensures.dtypes)))
+returns-clause-valid c = λ h k.
+    let made = c.in_ok-merged.ensures.fields ∙ both_put (children c.args.self.now) (children c.args.other.now) _ _ _ c.in_ok-fields.ensures.ok c.in_ok-fields-2.ensures.ok c.in_ok-push_copies.ensures.ok in
+    subst (λ ps. ValidFields (fields ps)) (sym made) (valid_joined (children c.args.self.now) (children c.args.other.now) h k)

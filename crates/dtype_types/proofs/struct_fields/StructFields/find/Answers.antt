@@ -1,3 +1,6 @@
+-- SPDX-License-Identifier: Apache-2.0
+-- SPDX-FileCopyrightText: Copyright the Vortex contributors
+
 use Rattle.dtype_types.proofs.Projections.{place_named, type_found}
 use Rattle.dtype_types.specs.TreeOf.{children}
 use Rattle.dtype_types.proofs.struct_fields.StructFields.find.Goals as goal

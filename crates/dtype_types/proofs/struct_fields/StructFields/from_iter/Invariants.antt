@@ -1,3 +1,6 @@
+-- SPDX-License-Identifier: Apache-2.0
+-- SPDX-FileCopyrightText: Copyright the Vortex contributors
+
 use Rattle.std.proofs.Common.{◌≡◌, map}
 use Rattle.dtype_types.proofs.struct_fields.StructFields.from_iter.Given as goal
 

@@ -1,15 +1,16 @@
-use Rattle.std.proofs.Common.{◌≡◌, ap, sym, subst, map, length, arith}
-use Rattle.std.proofs.lemmas.List.{length-map}
-use Rattle.std.proofs.lemmas.List.Elements.{All-same}
+-- SPDX-License-Identifier: Apache-2.0
+-- SPDX-FileCopyrightText: Copyright the Vortex contributors
+
+use Rattle.std.proofs.Common.{◌≡◌, ap, ◌∙◌, arith, length}
+use Rattle.std.proofs.lemmas.List.Elements.{All-same, recursion_from_All}
+use Rattle.std.proofs.lemmas.Slice.Zip.{seconds-zip}
 use Rattle.dtype_types.specs.IsValid.{IsValid}
-use Rattle.dtype_types.specs.TreeOf.{tree}
+use Rattle.dtype_types.specs.Lists.{seconds}
+use Rattle.dtype_types.proofs.Validity.{fields_of_types}
 use Rattle.dtype_types.proofs.struct_fields.StructFields.new.Goals as goal
 
-pub returns-clause-paired : goal.returns-clause-paired
-returns-clause-paired c = subst (λ v. length v.names ≡ length (map tree v.dtypes.items)) (sym c.in_ok-shared.ensures.ok) (omega (arith, ap length c.in_ok-names.ensures.ok, length-map c.args.dtypes.items tree, c.args.dtypes.ok.0))
-
 pub returns-clause-valid : goal.returns-clause-valid
-returns-clause-valid c = λ h. record {
-  paired = returns-clause-paired c;
-  types = All-same IsValid _ _ (ap (λ v. v.dtypes.items) c.in_ok-shared.ensures.ok) h;
-}
+returns-clause-valid c = λ h.
+    let even : length c.args.dtypes.items ≡ length c.in_ok-names.names = omega (arith, c.requires, c.args.dtypes.ok.0, ap length c.in_ok-names.ensures.ok) in
+    let types = ap seconds (c.in_ok-shared.ensures.ok ∙ c.new-2.ensures) ∙ seconds-zip c.in_ok-names.names c.args.dtypes.items even in
+    fields_of_types c.in_ok-shared.shared.value (recursion_from_All IsValid _ (All-same IsValid _ _ types h))

@@ -1,32 +1,30 @@
+-- SPDX-License-Identifier: Apache-2.0
+-- SPDX-FileCopyrightText: Copyright the Vortex contributors
+
 use Rattle.std.proofs.Common.{sym, subst, arith}
 use Rattle.std.proofs.lemmas.List.{take_all}
 use Rattle.std.proofs.lemmas.Result.{IfOk-weaker}
 use Rattle.dtype_base.specs.FieldNames.{FirstAt, IsAbsent}
-use Rattle.dtype_types.proofs.FieldLookups.{count_fields}
+use Rattle.dtype_types.proofs.Validity.{valid_projected}
 use Rattle.dtype_types.proofs.Projections.{field_at, absent_none, found_within, projects_more, first_unknown, projected_alike}
 use Rattle.dtype_types.specs.Building.{fields_so_far}
 use Rattle.dtype_types.specs.Lookups.{Projects, field_names}
-use Rattle.dtype_types.specs.TreeOf.{children, struct_names, struct_dtypes}
+use Rattle.dtype_types.specs.Tree.{fields}
+use Rattle.dtype_types.specs.TreeOf.{children}
+use Rattle.dtype_types.specs.Valid.{ValidFields}
 use Rattle.dtype_types.proofs.struct_fields.StructFields.project.Goals as goal
 
-pub push_copy-requires-clause-name : goal.push_copy-requires-clause-name
-push_copy-requires-clause-name c =
+pub push_copy-requires : goal.push_copy-requires
+push_copy-requires c =
     let s = c.args.self.now in
-    let found = subst (λ m. FirstAt (field_names (children s)) m c.in-Some.i) c.as_str.ensures c.in-Some.ensures.found in
-    omega (arith, found_within (children s) _ c.in-Some.i found, count_fields (struct_names s) (struct_dtypes s))
-
-pub push_copy-requires-clause-dtype : goal.push_copy-requires-clause-dtype
-push_copy-requires-clause-dtype c =
-    let s = c.args.self.now in
-    let found = subst (λ m. FirstAt (field_names (children s)) m c.in-Some.i) c.as_str.ensures c.in-Some.ensures.found in
-    omega (arith, found_within (children s) _ c.in-Some.i found, count_fields (struct_names s) (struct_dtypes s), s.shared.value.dtypes.ok.0)
+    found_within (children s) _ c.in-Some.i (subst (λ m. FirstAt (field_names (children s)) m c.in-Some.i) c.as_str.ensures c.in-Some.ensures.found)
 
 pub returns-in-None-clause-refused : goal.returns-in-None-clause-refused
 returns-in-None-clause-refused c =
     let fs = children c.args.self.now in
     let n = c.index-projection-position.result in
     let absent = subst (IsAbsent (field_names fs)) c.as_str.ensures c.in-None.ensures.none in
-    first_unknown fs c.args.projection.now (fields_so_far c.loop-position.fields) c.loop-position.position n (omega arith) c.index-projection-position.is c.loop-position.invariant.projects (absent_none fs n absent)
+    first_unknown fs c.args.projection.now (fields_so_far c.loop-position.fields) c.loop-position.position n (omega arith) c.index-projection-position.is c.loop-position.invariant (absent_none fs n absent)
 
 pub loop-position-preserved : goal.loop-position-preserved
 loop-position-preserved c =
@@ -35,18 +33,18 @@ loop-position-preserved c =
     let found = subst (λ m. FirstAt (field_names fs) m c.in-Some.i) c.as_str.ensures c.in-Some.ensures.found in
     let copied = c.in_ok-fields-in-Some.ensures.ok in
     let here = field_at fs n c.in-Some.i copied.0 (found_within fs n c.in-Some.i found) copied.1 found in
-    record {
-      projects = subst (Projects fs _) (sym copied.2)
-          (projects_more fs c.args.projection.now (fields_so_far c.loop-position.fields) c.loop-position.position n copied.0 (omega arith) c.index-projection-position.is c.loop-position.invariant.projects here.0 here.1);
-      valid = λ h. c.in_ok-fields-in-Some.ensures.valid h (c.loop-position.invariant.valid h);
-    }
+    subst (Projects fs _) (sym copied.2)
+    (projects_more fs c.args.projection.now (fields_so_far c.loop-position.fields) c.loop-position.position n copied.0 (omega arith) c.index-projection-position.is c.loop-position.invariant here.0 here.1)
 
 pub returns-clause-valid : goal.returns-clause-valid
-returns-clause-valid c = λ h. c.finish.ensures.valid (c.loop-position.invariant.valid h)
+returns-clause-valid c = λ h.
+    let ps = fields_so_far c.loop-position.fields in
+    let valid = valid_projected (children c.args.self.now) ps _ h c.loop-position.invariant.types_are in
+    IfOk-weaker c.finish.result _ _ (λ s e. subst (λ qs. ValidFields (fields qs)) (sym e) valid) c.finish.ensures.fields
 
 pub returns-clause-each : goal.returns-clause-each
 returns-clause-each c =
     let fs = children c.args.self.now in
     let names = c.args.projection.now in
-    let all = subst (λ ns. Projects fs ns (fields_so_far c.loop-position.fields)) (take_all c.loop-position.position names (omega arith)) c.loop-position.invariant.projects in
+    let all = subst (λ ns. Projects fs ns (fields_so_far c.loop-position.fields)) (take_all c.loop-position.position names (omega arith)) c.loop-position.invariant in
     IfOk-weaker c.finish.result _ _ (λ s e. projected_alike fs names (children s) (subst (Projects fs names) (sym e) all)) c.finish.ensures.fields

@@ -1,4 +1,7 @@
-use Rattle.dtype_types.proofs.OneLists.{position_of_tag, tag_read}
+-- SPDX-License-Identifier: Apache-2.0
+-- SPDX-FileCopyrightText: Copyright the Vortex contributors
+
+use Rattle.dtype_types.proofs.TagLaws.{position_of_tag, tag_read}
 use Rattle.dtype_types.specs.TreeOf.{union_tags}
 use Rattle.dtype_types.proofs.union_variants.UnionVariants.child_index_to_tag.Goals as goal
 

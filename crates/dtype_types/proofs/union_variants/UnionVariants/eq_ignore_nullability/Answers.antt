@@ -1,3 +1,6 @@
+-- SPDX-License-Identifier: Apache-2.0
+-- SPDX-FileCopyrightText: Copyright the Vortex contributors
+
 use Rattle.std.proofs.Common.{sym, ◌∙◌}
 use Rattle.dtype_types.specs.PartsEquality.{agree_erased_variants-Decides}
 use Rattle.dtype_types.specs.TreeOf.{union_tree}

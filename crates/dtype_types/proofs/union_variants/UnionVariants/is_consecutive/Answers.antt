@@ -1,16 +1,19 @@
+-- SPDX-License-Identifier: Apache-2.0
+-- SPDX-FileCopyrightText: Copyright the Vortex contributors
+
 use Rattle.std.proofs.Common.{sym, ◌∙◌, arith, get_or}
 use Rattle.dtype_types.proofs.Turns.{consecutive_turn, tags_same, tags_differ, and_first, and_both, tag_at}
-use Rattle.dtype_types.specs.TreeOf.{union_names, union_types, union_tags}
+use Rattle.dtype_types.specs.TreeOf.{choices, union_tags}
 use Rattle.dtype_types.proofs.union_variants.UnionVariants.is_consecutive.Goals as goal
 
 pub returns-then-from-i : goal.returns-then-from-i
 returns-then-from-i c =
     let u = c.args.self.now in
-    let e = consecutive_turn (union_names u) (union_types u) (union_tags u) c.loop-i.i (get_or c.type_ids-tags.result.now c.loop-i.i 0) (omega arith) (tag_at (union_tags u) _ c.loop-i.i c.type_ids-tags.ensures (omega arith)) in
+    let e = consecutive_turn (choices u) c.loop-i.i (get_or c.type_ids-tags.result.now c.loop-i.i 0) (omega arith) (tag_at (union_tags u) _ c.loop-i.i c.type_ids-tags.ensures (omega arith)) in
     sym (sym c.loop-i.invariant ∙ e ∙ and_first _ _ (tags_differ (get_or c.type_ids-tags.result.now c.loop-i.i 0) c.loop-i.i (omega arith)))
 
 pub loop-i-preserved : goal.loop-i-preserved
 loop-i-preserved c =
     let u = c.args.self.now in
-    let e = consecutive_turn (union_names u) (union_types u) (union_tags u) c.loop-i.i (get_or c.type_ids-tags.result.now c.loop-i.i 0) (omega arith) (tag_at (union_tags u) _ c.loop-i.i c.type_ids-tags.ensures (omega arith)) in
+    let e = consecutive_turn (choices u) c.loop-i.i (get_or c.type_ids-tags.result.now c.loop-i.i 0) (omega arith) (tag_at (union_tags u) _ c.loop-i.i c.type_ids-tags.ensures (omega arith)) in
     sym (e ∙ and_both _ _ (tags_same (get_or c.type_ids-tags.result.now c.loop-i.i 0) c.loop-i.i (omega arith))) ∙ c.loop-i.invariant

@@ -1,3 +1,6 @@
+-- SPDX-License-Identifier: Apache-2.0
+-- SPDX-FileCopyrightText: Copyright the Vortex contributors
+
 use Rattle.std.proofs.Common.{◌≡◌, drop}
 use Rattle.dtype_types.specs.Text.{consecutive}
 use Rattle.dtype_types.specs.Tree.{variants}

@@ -1,6 +1,9 @@
+-- SPDX-License-Identifier: Apache-2.0
+-- SPDX-FileCopyrightText: Copyright the Vortex contributors
+
 use Rattle.dtype_messages.specs.MessageOf.{message}
 use Rattle.vortex_dtype.specs.Session.{meaning}
-use Rattle.vortex_dtype.proofs.Public.{gives_accepts, gives_refused}
+use Rattle.vortex_dtype.proofs.Public.{gives_accepts, gives_back, gives_back_refused, gives_faulty, gives_refused, gives_unread}
 use Rattle.vortex_dtype.proofs.proto.DTypeDTypeProto.from_proto.Goals as goal
 
 pub returns-clause-refused : goal.returns-clause-refused
@@ -8,3 +11,15 @@ returns-clause-refused g c = gives_refused (meaning (λ b. (g.dyn-1.0.entry b.vt
 
 pub returns-clause-accepts : goal.returns-clause-accepts
 returns-clause-accepts g c = gives_accepts (meaning (λ b. (g.dyn-1.0.entry b.vtable).1.rewrites b.value) c.args.session.now) c.session_laws.ensures (message c.args.proto.now) c.read.result c.read.ensures.message c.read.ensures.gives
+
+pub returns-clause-unread : goal.returns-clause-unread
+returns-clause-unread g c = gives_unread (meaning (λ b. (g.dyn-1.0.entry b.vtable).1.rewrites b.value) c.args.session.now) (message c.args.proto.now) c.read.result c.read.ensures.gives
+
+pub returns-clause-faulty : goal.returns-clause-faulty
+returns-clause-faulty g c = gives_faulty (meaning (λ b. (g.dyn-1.0.entry b.vtable).1.rewrites b.value) c.args.session.now) (message c.args.proto.now) c.read.result c.read.ensures.gives
+
+pub returns-clause-back : goal.returns-clause-back
+returns-clause-back g c = gives_back (meaning (λ b. (g.dyn-1.0.entry b.vtable).1.rewrites b.value) c.args.session.now) (message c.args.proto.now) c.read.result c.read.ensures.gives
+
+pub returns-clause-back_refused : goal.returns-clause-back_refused
+returns-clause-back_refused g c = gives_back_refused (meaning (λ b. (g.dyn-1.0.entry b.vtable).1.rewrites b.value) c.args.session.now) (message c.args.proto.now) c.read.result c.read.ensures.gives

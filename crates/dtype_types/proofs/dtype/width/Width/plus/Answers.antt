@@ -1,3 +1,6 @@
+-- SPDX-License-Identifier: Apache-2.0
+-- SPDX-FileCopyrightText: Copyright the Vortex contributors
+
 use Rattle.std.proofs.Common.{arith, inl, inr}
 use Rattle.dtype_types.specs.Width.{Fixed}
 use Rattle.dtype_types.proofs.Widths.{variable_before, variable_last, wide_before, wide_last, wide_sum, narrow_sum}

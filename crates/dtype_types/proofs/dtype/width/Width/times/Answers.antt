@@ -1,3 +1,6 @@
+-- SPDX-License-Identifier: Apache-2.0
+-- SPDX-FileCopyrightText: Copyright the Vortex contributors
+
 use Rattle.dtype_types.proofs.Widths.{wide_list}
 use Rattle.dtype_types.proofs.dtype.width.Width.times.Goals as goal
 

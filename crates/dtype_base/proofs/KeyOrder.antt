@@ -1,0 +1,162 @@
+-- SPDX-License-Identifier: Apache-2.0
+-- SPDX-FileCopyrightText: Copyright the Vortex contributors
+
+-- Keys that differ are in the order of the names, where these begin alike; and the index that is sorted by them.
+use Rattle.std.proofs.Common.{◌≡◌, ◌≢◌, ℕ, zero, suc, ◌+◌, ◌*◌, ◌<◌, ◌≤◌, ◌^◌, List, [], ◌∷◌, ◌++◌, length, get_or, take, drop, Some, false, refl, sym, ap, subst, ◌∙◌, inl, inr, arith, pow-suc, mul-le-mul_right, add-mul, true≢false}
+use Rattle.std.specs.Prelude.{slice_get}
+use Rattle.std.specs.List.{All, range_with_len}
+use Rattle.std.specs.List.Sorted.{IsPermutation, IsSorted}
+use Rattle.std.specs.Int.{w64, from_be_bytes}
+use Rattle.std.specs.declared.cmp.Ordering.TheVariants.{Less, Equal, Greater}
+use Rattle.std.specs.Ordering.{is_lt, ordering_then, ordering_reverse, nat_cmp}
+use Rattle.std.specs.Cmp.{IsTotalOrder, then_total, on_total, nat_cmp_is, nat_cmp_total}
+use Rattle.std.specs.Cmp.Lexicographic.{slice_cmp, nat_list_cmp_total}
+use Rattle.std.proofs.lemmas.Bool.{cases_order}
+use Rattle.std.proofs.lemmas.List.{length-map, get_or-map, map-append}
+use Rattle.std.proofs.lemmas.List.Elements.{All-tail, All-cons, All-append}
+use Rattle.std.proofs.lemmas.List.Sorted.{All-permutation, IsPermutation-map}
+use Rattle.std.proofs.lemmas.Option.{slice_get-get_or}
+use Rattle.dtype_base.specs.NameKeys.{high_first, name_key, BeginAlike}
+use Rattle.dtype_base.specs.NameOrder.{IsKeyed, IsIndexOf, KeysTell, bytes_cmp, name_cmp, position_cmp, place_cmp, positions}
+use Rattle.dtype_base.specs.declared.name_order.Place.{Place}
+use Rattle.dtype_base.proofs.NameSearch.{counted_more, position_total}
+
+abbrev pub AreBytes : List ℕ → Type 0
+AreBytes bs = All (λ b. b < 256) bs
+
+positive : (k : ℕ) → 0 < 256 ^ k
+positive zero = omega arith
+positive (suc k) = omega (arith, positive k, pow-suc 256 k)
+
+high_bound : (k : ℕ) (bs : List ℕ) → AreBytes bs → high_first k bs < 256 ^ k
+unfolding high_first
+high_bound zero bs h = omega arith
+high_bound (suc k) [] h = positive (suc k)
+high_bound (suc k) (b ∷ bs) h =
+    let first : b + 1 ≤ 256 = omega (arith, h 0 b (omega arith)) in
+    let whole : (b + 1) * 256 ^ k ≤ 256 * 256 ^ k = mul-le-mul_right (256 ^ k) first in
+    omega (arith, high_bound k bs (All-tail (λ c. c < 256) b bs h), whole, add-mul b 1 (256 ^ k), pow-suc 256 k)
+
+-- a smaller number is that of a text which comes before
+less : (k : ℕ) (xs ys : List ℕ) → AreBytes xs → AreBytes ys → high_first k xs < high_first k ys → slice_cmp nat_cmp xs ys ≡ Less
+unfolding high_first
+less zero xs ys a b h = absurd (omega arith)
+less (suc k) [] [] a b h = absurd (omega arith)
+less (suc k) [] (y ∷ ys) a b h = refl
+less (suc k) (x ∷ xs) [] a b h = absurd (omega arith)
+less (suc k) (x ∷ xs) (y ∷ ys) a b h =
+    elim (cases_order x y) [
+      | inl same ↦
+          let rest : high_first k xs < high_first k ys = omega (arith, h, ap (λ z. z * 256 ^ k) same) in
+          ap (λ r. ordering_then r (slice_cmp nat_cmp xs ys)) (sym (nat_cmp_is x y Equal same))
+          ∙ less k xs ys (All-tail (λ c. c < 256) x xs a) (All-tail (λ c. c < 256) y ys b) rest
+      | inr (inl lower) ↦ ap (λ r. ordering_then r (slice_cmp nat_cmp xs ys)) (sym (nat_cmp_is x y Less lower))
+      | inr (inr higher) ↦
+          let apart : (y + 1) * 256 ^ k ≤ x * 256 ^ k = mul-le-mul_right (256 ^ k) (omega (arith, higher)) in
+          absurd (omega (arith, h, apart, add-mul y 1 (256 ^ k), high_bound k ys (All-tail (λ c. c < 256) y ys b)))
+    ]
+
+-- texts that begin alike compare as what is behind does
+behind : (s : ℕ) (xs ys : List ℕ) → take s xs ≡ take s ys → slice_cmp nat_cmp xs ys ≡ slice_cmp nat_cmp (drop s xs) (drop s ys)
+behind zero xs ys e = refl
+behind (suc s) [] [] e = refl
+behind (suc s) [] (y ∷ ys) e = cc
+behind (suc s) (x ∷ xs) [] e = cc
+behind (suc s) (x ∷ xs) (y ∷ ys) e =
+    let same : x ≡ y = cc in
+    let rest : take s xs ≡ take s ys = cc in
+    ap (λ r. ordering_then r (slice_cmp nat_cmp xs ys)) (sym (nat_cmp_is x y Equal same)) ∙ behind s xs ys rest
+
+bytes_behind : (s : ℕ) (bs : List ℕ) → AreBytes bs → AreBytes (drop s bs)
+bytes_behind zero bs h = h
+bytes_behind (suc s) [] h = h
+bytes_behind (suc s) (b ∷ bs) h = bytes_behind s bs (All-tail (λ c. c < 256) b bs h)
+
+-- names that begin alike compare as their keys do, where these differ
+keys_tell : (s : ℕ) (m n : List ℕ) → AreBytes m → AreBytes n → take s m ≡ take s n → name_key s m ≢ name_key s n → nat_cmp (name_key s m) (name_key s n) ≡ slice_cmp nat_cmp m n
+unfolding name_key
+keys_tell s m n a b alike differ =
+    let a_behind = bytes_behind s m a in
+    let b_behind = bytes_behind s n b in
+    elim (cases_order (high_first 8 (drop s m)) (high_first 8 (drop s n))) [
+      | inl same ↦ absurd (differ same)
+      | inr (inl lower) ↦ sym (nat_cmp_is _ _ Less lower) ∙ sym (behind s m n alike ∙ less 8 (drop s m) (drop s n) a_behind b_behind lower)
+      | inr (inr higher) ↦
+          sym (nat_cmp_is _ _ Greater higher)
+          ∙ sym (behind s m n alike ∙ nat_list_cmp_total.antisymm (drop s m) (drop s n) ∙ ap ordering_reverse (less 8 (drop s n) (drop s m) b_behind a_behind higher))
+    ]
+
+-- ---- places
+
+module _ (names : List (List ℕ)) (shared : ℕ) (alike : BeginAlike names shared) where
+  begins : (p : Place) → IsKeyed names shared p → take shared (get_or names p.position []) ≡ take shared (get_or names 0 [])
+  begins p h = alike p.position [] h.within
+
+  -- the key of a place tells how the name there compares to one that begins as all do
+  told : (p : Place) (n : List ℕ) (key : ℕ) → IsKeyed names shared p → AreBytes n → take shared (get_or names 0 []) ≡ take shared n → key ≡ name_key shared n → p.key ≢ key → nat_cmp p.key key ≡ name_cmp names n p.position
+  told p n key h bytes begin is differ =
+      ap (λ k. nat_cmp k key) h.key
+      ∙ ap (nat_cmp (name_key shared (get_or names p.position []))) is
+      ∙ keys_tell shared (get_or names p.position []) n h.bytes bytes (begins p h ∙ begin) (λ e. differ (h.key ∙ e ∙ sym is))
+      ∙ ap (λ o. bytes_cmp o (Some n)) (sym (slice_get-get_or names p.position [] h.within))
+
+  pub all_told : (places : List Place) (n : List ℕ) (key : ℕ) → All (IsKeyed names shared) places → AreBytes n → take shared (get_or names 0 []) ≡ take shared n → key ≡ name_key shared n → KeysTell names n places key
+  all_told places n key h bytes begin is k d within = told (get_or places k d) n key (h k d within) bytes begin is
+
+  -- places that are in order by their keys first are in order as positions
+  not_below : (p q : Place) → IsKeyed names shared p → IsKeyed names shared q → is_lt (place_cmp names p q) ≡ false → is_lt (position_cmp names p.position q.position) ≡ false
+  not_below p q a b h =
+      let later = position_cmp names p.position q.position in
+      elim (cases_order p.key q.key) [
+        | inl same ↦ ap (λ r. is_lt (ordering_then r later)) (nat_cmp_is p.key q.key Equal same) ∙ h
+        | inr (inl lower) ↦ absurd (true≢false (ap (λ r. is_lt (ordering_then r later)) (nat_cmp_is p.key q.key Less lower) ∙ h))
+        | inr (inr higher) ↦
+            let greater : name_cmp names (get_or names q.position []) p.position ≡ Greater =
+            sym (told p (get_or names q.position []) q.key a b.bytes (sym (begins q b)) b.key (λ e. omega (arith, e, higher))) ∙ sym (nat_cmp_is p.key q.key Greater higher) in
+            ap (λ o. is_lt (ordering_then (bytes_cmp (slice_get names p.position) o) (nat_cmp p.position q.position))) (slice_get-get_or names q.position [] b.within)
+            ∙ ap (λ r. is_lt (ordering_then r (nat_cmp p.position q.position))) greater
+      ]
+
+  rising : (places : List Place) → All (IsKeyed names shared) places → IsSorted (place_cmp names) places → IsSorted (position_cmp names) (positions places)
+  rising [] h sorted k d low high = absurd (omega arith)
+  rising (p ∷ ps) h sorted k d low high =
+      let within : k + 1 < length (p ∷ ps) = rw length-map at high in
+      rw (get_or-map (λ q. q.position) (p ∷ ps) (k + 1) p d within, get_or-map (λ q. q.position) (p ∷ ps) k p d (omega arith))
+      (not_below (get_or (p ∷ ps) (k + 1) p) (get_or (p ∷ ps) k p) (h (k + 1) p within) (h k p (omega arith)) (sorted k p low within))
+
+  -- places in any order that are sorted by their keys first are an index
+  pub index_of : (made sorted : List Place) → positions made ≡ range_with_len 0 (length names) → All (IsKeyed names shared) made → IsPermutation made sorted → IsSorted (place_cmp names) sorted → IsIndexOf names shared sorted
+  index_of made sorted each keyed moved up =
+      let still = All-permutation (IsKeyed names shared) made sorted moved keyed in
+      record {
+        alike = alike;
+        keyed = still;
+        order = record {
+          each = subst (λ is. IsPermutation is (positions sorted)) each (IsPermutation-map (λ p. p.position) made sorted moved);
+          rising = rising sorted still up;
+        };
+      }
+
+-- one place more
+pub positions_push : (places : List Place) (key n : ℕ) → positions places ≡ range_with_len 0 n → positions (places ++ record { key = key; position = n } ∷ []) ≡ range_with_len 0 (n + 1)
+positions_push places key n so_far = map-append (λ p. p.position) places _ ∙ ap (λ is. is ++ n ∷ []) so_far ∙ sym (counted_more n)
+
+pub keyed_push : (names : List (List ℕ)) (shared : ℕ) (places : List Place) (p : Place) → All (IsKeyed names shared) places → IsKeyed names shared p → All (IsKeyed names shared) (places ++ p ∷ [])
+keyed_push names shared places p so_far next = All-append (IsKeyed names shared) places (p ∷ []) so_far (All-cons (IsKeyed names shared) p [] next (λ k d within. absurd (omega arith)))
+
+-- the order of places is total
+pub place_total : (names : List (List ℕ)) → IsTotalOrder (place_cmp names)
+place_total names = then_total (on_total (λ p. p.key) nat_cmp_total) (on_total (λ p. p.position) (position_total names))
+
+-- the first eight bytes, read one by one
+pub first_eight : (bs : List ℕ) → high_first 8 bs ≡ from_be_bytes w64 (get_or bs 0 0 ∷ get_or bs 1 0 ∷ get_or bs 2 0 ∷ get_or bs 3 0 ∷ get_or bs 4 0 ∷ get_or bs 5 0 ∷ get_or bs 6 0 ∷ get_or bs 7 0 ∷ [])
+unfolding high_first
+first_eight [] = omega arith
+first_eight (a ∷ []) = omega arith
+first_eight (a ∷ b ∷ []) = omega arith
+first_eight (a ∷ b ∷ c ∷ []) = omega arith
+first_eight (a ∷ b ∷ c ∷ d ∷ []) = omega arith
+first_eight (a ∷ b ∷ c ∷ d ∷ e ∷ []) = omega arith
+first_eight (a ∷ b ∷ c ∷ d ∷ e ∷ f ∷ []) = omega arith
+first_eight (a ∷ b ∷ c ∷ d ∷ e ∷ f ∷ g ∷ []) = omega arith
+first_eight (a ∷ b ∷ c ∷ d ∷ e ∷ f ∷ g ∷ h ∷ rest) = omega arith

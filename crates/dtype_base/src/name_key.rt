@@ -1,0 +1,88 @@
+// SPDX-License-Identifier: Apache-2.0
+// SPDX-FileCopyrightText: Copyright the Vortex contributors
+
+// What names begin with alike, and the keys behind it, by which most names are told apart.
+ghost use Rattle.std.specs.Prelude.{◌≡◌, ◌↔◌, ℕ, ◌<◌, ◌≤◌, IsTrue, length, take, drop, slice_index};
+ghost use Rattle.std.specs.List.{All};
+ghost use Rattle.dtype_base.specs.NameKeys.{name_key, BeginAlike};
+
+use crate::FieldName;
+
+// How many bytes all names begin with alike.
+pub(crate) fn shared_beginning(names: &[FieldName]) -> usize
+    ensures { BeginAlike names.now result }
+{
+    let Some(first) = names.first() else {
+        return 0;
+    };
+    let first = first.as_str().as_bytes();
+    let mut shared = first.len();
+    for name in names {
+        shared = alike(name.as_str().as_bytes(), first, shared);
+    }
+    shared
+}
+
+// How many bytes two texts begin with alike, so many at most.
+fn alike(a: &[u8], b: &[u8], most: usize) -> usize
+    ensures most { result ≤ most }
+    ensures same { take result a.now ≡ take result b.now }
+{
+    if begin_alike(a, b, most) {
+        return most;
+    }
+    let end = most.min(a.len()).min(b.len());
+    for i in 0..end {
+        if a[i] != b[i] {
+            return i;
+        }
+    }
+    end
+}
+
+// Whether two texts begin with the same bytes, so many of them.
+pub(crate) fn begin_alike(a: &[u8], b: &[u8], count: usize) -> bool
+    ensures { IsTrue result ↔ (take count a.now ≡ take count b.now) }
+{
+    beginning(a, count) == beginning(b, count)
+}
+
+// The first so many bytes, or all.
+fn beginning(text: &[u8], count: usize) -> &[u8]
+    ensures { result.now ≡ take count text.now }
+{
+    &text[..count.min(text.len())]
+}
+
+// What is behind the first so many bytes.
+fn behind(text: &[u8], count: usize) -> &[u8]
+    ensures { result.now ≡ drop count text.now }
+{
+    &text[count.min(text.len())..]
+}
+
+// The key of a text: the eight bytes behind the first so many as one number, the first the highest,
+// with zeros where it ends.
+pub(crate) fn key_of(text: &[u8], shared: usize) -> u64
+    ensures key { result ≡ name_key shared text.now }
+    ensures bytes { All (λ b. b < 256) text.now }
+{
+    let rest = behind(text, shared);
+    u64::from_be_bytes([
+        byte_at(rest, 0),
+        byte_at(rest, 1),
+        byte_at(rest, 2),
+        byte_at(rest, 3),
+        byte_at(rest, 4),
+        byte_at(rest, 5),
+        byte_at(rest, 6),
+        byte_at(rest, 7),
+    ])
+}
+
+// The byte there, or 0 past the end.
+fn byte_at(text: &[u8], i: usize) -> u8
+    ensures { result ≡ slice_index text.now i }
+{
+    if i < text.len() { text[i] } else { 0 }
+}

@@ -1,0 +1,275 @@
+-- SPDX-License-Identifier: Apache-2.0
+-- SPDX-FileCopyrightText: Copyright the Vortex contributors
+
+-- A list of nodes after a path is added to it.
+use Rattle.std.proofs.Common.{ℕ, suc, zero, ◌+◌, ◌-◌, ◌<◌, ◌≤◌, length, take, drop, get_or, subst, ◌≡◌, false, ◌&&◌, ◌==◌, cond, List, [], ◌∷◌, ◌++◌, Option, Some, None, inl, inr, refl, sym, ap, ◌∙◌, arith, ⊎_elim, length-append}
+use Rattle.std.specs.List.{slice_get}
+use Rattle.std.specs.Map.{lookup}
+use Rattle.std.proofs.lemmas.Bool.{cases_lt, and_from, and_parts}
+use Rattle.std.proofs.lemmas.Bool.Decides.{Decides-eqb}
+use Rattle.std.proofs.lemmas.List.{take_all, take_more}
+use Rattle.std.proofs.lemmas.Option.{same_Some, option_and_then_some, slice_get_within, slice_get_past, slice_get_read}
+use Rattle.dtype_paths.proofs.Cases.{by_bool}
+use Rattle.dtype_paths.specs.Children.{child, steps_of}
+use Rattle.dtype_paths.specs.Equality.{same_field}
+use Rattle.dtype_paths.specs.EqualityLaws.{same_field-Decides}
+use Rattle.dtype_paths.specs.declared.field.Field.{Field}
+use Rattle.dtype_paths.specs.declared.node.Node.{Node}
+use Rattle.dtype_paths.specs.Trie.{child_at, end_at, chain_step, walk, IsAlike, IsChain, IsTrie, IsTrieBy}
+use Rattle.dtype_paths.proofs.NodePlaces.{child-left, child-right, end-left, end-right, split}
+use Rattle.dtype_paths.proofs.TrieGrowth.{Ends, Grows, Leads, trie-grown, trie-first, trie-finish, walk-mono}
+
+-- ---- parts of a list
+
+pub take-step : {A : Type 0} (xs : List A) (n : ℕ) (x : A) → n < length xs → x ≡ get_or xs n x → take (n + 1) xs ≡ take n xs ++ x ∷ []
+take-step xs n x h e = take_more xs n x h ∙ ap (λ y. take n xs ++ y ∷ []) (sym e)
+
+-- ---- a chain, node by node
+
+pub record Chained (rest : List Field) (first i : ℕ) (nodes : List Node) : Type 0 where
+  pub long : length nodes ≡ i
+  pub steps : (k : ℕ) (f : Field) → k < i → child_at nodes k f ≡ chain_step rest first k f
+  pub none : (k : ℕ) → end_at nodes k ≡ None
+
+end_past : (nodes : List Node) (k : ℕ) → length nodes ≤ k → end_at nodes k ≡ None
+end_past nodes k h = rw (slice_get_past nodes k h) refl
+
+-- a place in a list with one more at its end
+pub end-push : (nodes : List Node) (n : Node) (k : ℕ) → end_at nodes k ≡ None → n.end ≡ None → end_at (nodes ++ n ∷ []) k ≡ None
+end-push nodes n k h e =
+    ⊎_elim
+    (λ lt. end-left nodes (n ∷ []) k lt ∙ h)
+    (λ ge. ⊎_elim
+    (λ lt. let is : k ≡ length nodes + 0 = omega arith in rw is (end-right nodes (n ∷ []) 0 ∙ e))
+    (λ gt. end_past (nodes ++ n ∷ []) k (omega (arith, gt, length-append nodes (n ∷ []))))
+    (cases_lt k (length nodes + 1)))
+    (cases_lt k (length nodes))
+
+pub chained-more : (rest : List Field) (first i : ℕ) (nodes : List Node) (n : Node) (x : Field) → Chained rest first i nodes → i < length rest → x ≡ get_or rest i x → n.end ≡ None → steps_of n.children ≡ (x, first + i + 1) ∷ [] → Chained rest first (i + 1) (nodes ++ n ∷ [])
+chained-more rest first i nodes n x c lt is e up = record {
+  long = omega (arith, c.long, length-append nodes (n ∷ []));
+  steps = λ k f h.
+      ⊎_elim
+      (λ below. child-left nodes (n ∷ []) k f (omega (arith, c.long)) ∙ c.steps k f below)
+      (λ above.
+      let here : k ≡ i = omega (arith, h, above) in
+      let there : k ≡ length nodes + 0 = omega (arith, c.long, h, above) in
+      let one : child_at (nodes ++ n ∷ []) k f ≡ child n.children f = rw there (child-right nodes (n ∷ []) 0 f) in
+      let part : slice_get rest i ≡ Some x = slice_get_read rest (length rest) i x refl lt is in
+      one ∙ ap (lookup (same_field f)) up ∙ rw (here, part) refl)
+      (cases_lt k i);
+  none = λ k. end-push nodes n k (c.none k) e;
+}
+
+pub chained-end : (path rest : List Field) (first : ℕ) (nodes : List Node) (n : Node) → Chained rest first (length rest) nodes → n.end ≡ Some path → steps_of n.children ≡ [] → IsChain path rest first (nodes ++ n ∷ [])
+chained-end path rest first nodes n c e up = record {
+  long = omega (arith, c.long, length-append nodes (n ∷ []));
+  steps = λ k f.
+      ⊎_elim
+      (λ below. child-left nodes (n ∷ []) k f (omega (arith, c.long)) ∙ c.steps k f below)
+      (λ above.
+      let past : chain_step rest first k f ≡ None = rw (slice_get_past rest k above) refl in
+      ⊎_elim
+      (λ lt.
+      let there : k ≡ length nodes + 0 = omega (arith, c.long) in
+      let one : child_at (nodes ++ n ∷ []) k f ≡ child n.children f = rw there (child-right nodes (n ∷ []) 0 f) in
+      one ∙ ap (lookup (same_field f)) up ∙ sym past)
+      (λ gt. let over : length (nodes ++ n ∷ []) ≤ k = omega (arith, gt, c.long, length-append nodes (n ∷ [])) in rw (slice_get_past (nodes ++ n ∷ []) k over) (sym past))
+      (cases_lt k (length rest + 1)))
+      (cases_lt k (length rest));
+  none = λ k lt. end-left nodes (n ∷ []) k (omega (arith, c.long)) ∙ c.none k;
+  last = let there : length rest ≡ length nodes + 0 = omega (arith, c.long) in rw there (end-right nodes (n ∷ []) 0 ∙ e);
+}
+
+-- ---- where the steps of a chain lead
+
+pub leads-from : (child : ℕ → Field → Option ℕ) (m : ℕ) (r : List Field) → ((k : ℕ) (f : Field) → child (m + k) f ≡ chain_step r m k f) → Leads child m r
+unfolding Leads
+leads-from child m [] h = λ f j e.
+    let z : child (m + 0) f ≡ None = h 0 f in
+    let is : m + 0 ≡ m = omega arith in
+    let y = rw is at z in
+    cc
+leads-from child m (x ∷ r) h =
+    let is : m + 0 ≡ m = omega arith in
+    let at = λ (f : Field). rw is at (h 0 f) in (
+      at x ∙ rw ((same_field-Decides x x).1 refl) refl,
+      λ f j e.
+          by_bool (same_field f x)
+          (λ s. let z = at f in let y = rw s at z in ((same_field-Decides f x).0 s, let q : Some (m + 1) ≡ Some j = sym y ∙ e in sym (same_Some (m + 1) j q)))
+          (λ s. let z = at f in let y = rw s at z in let q : None ≡ Some j = sym y ∙ e in absurd (cc)),
+      leads-from child (m + 1) r (λ k f. let a : m + suc k ≡ (m + 1) + k = omega arith in rw a at (h (suc k) f)),
+    )
+
+-- ---- the list after a path that leaves it at `here`
+
+module _ (old tail new : List Node) (path : List Field) (here at : ℕ) (x : Field) (trie : IsTrie old) (walked : walk (child_at old) 0 (take at path) ≡ Some here) (lt : at < length path)
+    (part : slice_get path at ≡ Some x) (stop : child_at old here x ≡ None) (chain : IsChain path (drop (at + 1) path) (length old) tail)
+    (long : length new ≡ length old + length tail)
+    (steps : (i : ℕ) (f : Field) → child_at new i f ≡ cond (i == here && same_field x f) (Some (length old)) (child_at (old ++ tail) i f))
+    (finish : (i : ℕ) → end_at new i ≡ end_at (old ++ tail) i) where
+  abbrev pub rest : List Field
+  rest = drop (at + 1) path
+
+  there : (i : ℕ) (f : Field) (j : ℕ) → child_at old i f ≡ Some j → i < length old
+  there i f j e = option_and_then_some (λ n. child n.children f) (slice_get old i) j e (λ n s g. slice_get_within old i n s)
+
+  inside : here < length old
+  inside = trie.inside (take at path) here walked
+
+  grows : Grows (child_at old) (child_at new) (length old) here x rest
+  grows = record {
+    kept = λ i f j e.
+        let left = child-left old tail i f (there i f j e) ∙ e in
+        by_bool (i == here && same_field x f)
+        (λ b.
+        let p = and_parts (i == here) (same_field x f) b in
+        let is : i ≡ here = (Decides-eqb i here).0 p.0 in let same : x ≡ f = (same_field-Decides x f).0 p.1 in
+        let z = rw (is, ← same) at e in let q : None ≡ Some j = sym stop ∙ z in absurd (cc))
+        (λ b. steps i f ∙ rw b left);
+    joined =
+        let b = and_from (here == here) (same_field x x) ((Decides-eqb here here).1 refl) ((same_field-Decides x x).1 refl) in
+        steps here x ∙ rw b refl;
+    only = λ i f j below e.
+        by_bool (i == here && same_field x f)
+        (λ b.
+        let p = and_parts (i == here) (same_field x f) b in
+        let s = steps i f in let z = rw b at s in let q : Some (length old) ≡ Some j = sym z ∙ e in
+        inr ((Decides-eqb i here).0 p.0, sym ((same_field-Decides x f).0 p.1), sym (same_Some (length old) j q)))
+        (λ b. let s = steps i f in let z = rw b at s in inl (sym (child-left old tail i f below) ∙ sym z ∙ e));
+    leads = leads-from (child_at new) (length old) rest (λ k f.
+        by_bool (length old + k == here && same_field x f)
+        (λ b. let p = and_parts (length old + k == here) (same_field x f) b in let is = (Decides-eqb (length old + k) here).0 p.0 in let i = inside in absurd (omega arith))
+        (λ b. let s = steps (length old + k) f in let z = rw b at s in z ∙ child-right old tail k f ∙ chain.steps k f));
+  }
+
+  new_ends : Ends (end_at old) (end_at new) (length old + length rest) path
+  new_ends = record {
+    kept = λ i q e. finish i ∙ end-left old tail i (option_and_then_some (λ n. n.end) (slice_get old i) q e (λ n s g. slice_get_within old i n s)) ∙ e;
+    here = finish (length old + length rest) ∙ end-right old tail (length rest) ∙ chain.last;
+    only = λ i q e.
+        let f = sym (finish i) ∙ e in
+        ⊎_elim
+        (λ below. inl (sym (end-left old tail i below) ∙ f))
+        (λ above. inr (behind i q above f))
+        (cases_lt i (length old));
+  }
+    where
+      at_last : (k : ℕ) (q : List Field) → end_at tail k ≡ Some q → (k ≡ length rest) × (q ≡ path)
+      at_last k q e =
+          ⊎_elim
+          (λ low. let n = chain.none k low in let z : None ≡ Some q = sym n ∙ e in absurd (cc))
+          (λ high.
+          let l = chain.long in
+          let w : k < length tail = option_and_then_some (λ n. n.end) (slice_get tail k) q e (λ n s g. slice_get_within tail k n s) in
+          let is : k ≡ length rest = omega arith in
+          let z : end_at tail (length rest) ≡ Some q = rw is at e in
+          let y : Some q ≡ Some path = sym z ∙ chain.last in
+          (is, same_Some q path y))
+          (cases_lt k (length rest))
+
+      behind : (i : ℕ) (q : List Field) → length old ≤ i → end_at (old ++ tail) i ≡ Some q → (i ≡ length old + length rest) × (q ≡ path)
+      behind i q above e =
+          let k = gap_of i (length old) above in
+          let f : end_at tail k.0 ≡ Some q = sym (end-right old tail k.0) ∙ (rw k.1 at e) in
+          let w = at_last k.0 q f in
+          (k.1 ∙ ap (λ n. length old + n) w.0, w.1)
+        where
+          gap_of : (i m : ℕ) → m ≤ i → (k : ℕ) × (i ≡ m + k)
+          gap_of i m h = (i - m, omega arith)
+
+  parted : path ≡ take at path ++ x ∷ rest
+  parted = let s = split path at lt in let e : Some s.0 ≡ Some x = sym s.2 ∙ part in let is : s.0 ≡ x = same_Some s.0 x e in let one : suc at ≡ at + 1 = omega arith in s.3 ∙ rw (is, s.4, one) refl
+
+  pub nodes-grown : IsTrie new
+  nodes-grown =
+      trie-grown (child_at old) (child_at new) (end_at old) (end_at new) (length old) here (take at path) x rest trie walked stop grows (length new) (let l = chain.long in omega arith)
+      (subst (Ends (end_at old) (end_at new) (length old + length rest)) parted new_ends)
+
+  pub ends-grown : Ends (end_at old) (end_at new) (length old + length rest) path
+  ends-grown = new_ends
+
+-- ---- the list that one path makes
+
+module _ (path : List Field) (new : List Node) (chain : IsChain path path 0 new) where
+  only_end : (i : ℕ) (q : List Field) → end_at new i ≡ Some q → (i ≡ length path) × (q ≡ path)
+  only_end k q e =
+      ⊎_elim
+      (λ low. let n = chain.none k low in let z : None ≡ Some q = sym n ∙ e in absurd (cc))
+      (λ high.
+      let l = chain.long in
+      let w : k < length new = option_and_then_some (λ n. n.end) (slice_get new k) q e (λ n s g. slice_get_within new k n s) in
+      let is : k ≡ length path = omega arith in
+      let z : end_at new (length path) ≡ Some q = rw is at e in
+      let y : Some q ≡ Some path = sym z ∙ chain.last in
+      (is, same_Some q path y))
+      (cases_lt k (length path))
+
+  pub nodes-first : IsTrie new
+  nodes-first = trie-first (child_at new) (end_at new) (length new) path (leads-from (child_at new) 0 path (λ k f. let z : 0 + k ≡ k = omega arith in ap (λ n. child_at new n f) z ∙ chain.steps k f)) chain.long chain.last only_end
+
+  pub ends-first : Ends (end_at []) (end_at new) (length path) path
+  ends-first = record { kept = λ i q e. cc; here = chain.last; only = λ i q e. inr (only_end i q e) }
+
+-- a list that isn't empty is a trie
+pub trie_from_some : (nodes : List Node) (n : ℕ) → n ≡ length nodes → (n == 0) ≡ false → (0 < length nodes → IsTrie nodes) → IsTrie nodes
+trie_from_some nodes zero is e t = absurd (cc)
+trie_from_some nodes (suc n) is e t = t (omega (arith, is))
+
+-- ---- a list that has at its places what another has
+
+pub nodes-same : (old new : List Node) → IsTrie old → IsAlike old new → IsTrie new
+nodes-same old new t a = record {
+  inside = λ p i h. let b = t.inside p i (to 0 i p h) in omega (arith, a.long);
+  once = λ p q i h k. t.once p q i (to 0 i p h) (to 0 i q k);
+  own = λ i q e. back 0 i q (t.own i q (sym (a.ends i) ∙ e));
+  used = λ p i h. let u = t.used p i (to 0 i p h) in (u.0, u.1, a.ends u.0 ∙ u.2);
+}
+  where
+    to : (i j : ℕ) (p : List Field) → walk (child_at new) i p ≡ Some j → walk (child_at old) i p ≡ Some j
+    to i j p h = walk-mono (child_at new) (child_at old) (λ k f b e. sym (a.steps k f) ∙ e) i j p h
+
+    back : (i j : ℕ) (p : List Field) → walk (child_at old) i p ≡ Some j → walk (child_at new) i p ≡ Some j
+    back i j p h = walk-mono (child_at old) (child_at new) (λ k f b e. a.steps k f ∙ e) i j p h
+
+pub whole-walk : (nodes : List Node) (path : List Field) (here at : ℕ) → at ≡ length path → walk (child_at nodes) 0 (take at path) ≡ Some here → walk (child_at nodes) 0 path ≡ Some here
+whole-walk nodes path here at e w = subst (λ p. walk (child_at nodes) 0 p ≡ Some here) (take_all at path (omega (arith, e))) w
+
+-- ---- the list where the path ends in a node that is there
+
+module _ (old new : List Node) (path : List Field) (here : ℕ) (trie : IsTrie old) (walked : walk (child_at old) 0 path ≡ Some here) (long : length new ≡ length old)
+    (steps : (i : ℕ) (f : Field) → child_at new i f ≡ child_at old i f)
+    (finish : (i : ℕ) → end_at new i ≡ cond (i == here) (Some path) (end_at old i)) where
+  pub ends-finished : Ends (end_at old) (end_at new) here path
+  ends-finished = record {
+    kept = λ i q e.
+        by_bool (i == here)
+        (λ b.
+        let is : i ≡ here = (Decides-eqb i here).0 b in
+        let w : walk (child_at old) 0 q ≡ Some here = trie.own i q e ∙ ap Some is in
+        let same = trie.once path q here walked w in
+        finish i ∙ rw b (ap Some same))
+        (λ b. finish i ∙ rw b e);
+    here = finish here ∙ rw ((Decides-eqb here here).1 refl) refl;
+    only = λ i q e.
+        by_bool (i == here)
+        (λ b. let f = finish i in let z = rw b at f in let y : Some path ≡ Some q = sym z ∙ e in inr ((Decides-eqb i here).0 b, sym (same_Some path q y)))
+        (λ b. let f = finish i in let z = rw b at f in inl (sym z ∙ e));
+  }
+
+  pub nodes-finished : IsTrie new
+  nodes-finished = trie-steps (trie-finish (child_at old) (end_at old) (end_at new) (length old) here path trie walked ends-finished)
+    where
+      to : (i j : ℕ) (p : List Field) → walk (child_at new) i p ≡ Some j → walk (child_at old) i p ≡ Some j
+      to i j p h = walk-mono (child_at new) (child_at old) (λ a f b e. sym (steps a f) ∙ e) i j p h
+
+      back : (i j : ℕ) (p : List Field) → walk (child_at old) i p ≡ Some j → walk (child_at new) i p ≡ Some j
+      back i j p h = walk-mono (child_at old) (child_at new) (λ a f b e. steps a f ∙ e) i j p h
+
+      trie-steps : IsTrieBy (child_at old) (end_at new) (length old) → IsTrie new
+      trie-steps t = record {
+        inside = λ p i h. let b = t.inside p i (to 0 i p h) in omega arith;
+        once = λ p q i h k. t.once p q i (to 0 i p h) (to 0 i q k);
+        own = λ i q e. back 0 i q (t.own i q e);
+        used = λ p i h. t.used p i (to 0 i p h);
+      }

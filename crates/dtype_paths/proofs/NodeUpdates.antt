@@ -1,0 +1,44 @@
+-- SPDX-License-Identifier: Apache-2.0
+-- SPDX-FileCopyrightText: Copyright the Vortex contributors
+
+-- A list of nodes in which one is changed.
+use Rattle.std.proofs.Common.{ℕ, suc, zero, ◌≡◌, ◌≢◌, ◌∙◌, ◌==◌, ◌&&◌, cond, List, [], ◌∷◌, Option, Some, None, option_and_then, set, refl, ap, true, false}
+use Rattle.std.specs.List.{slice_get}
+use Rattle.std.proofs.lemmas.Bool.Decides.{Decides-eqb}
+use Rattle.dtype_paths.specs.Children.{child}
+use Rattle.dtype_paths.specs.Equality.{same_field}
+use Rattle.dtype_paths.specs.Trie.{child_at, end_at}
+use Rattle.dtype_paths.specs.declared.field.Field.{Field}
+use Rattle.dtype_paths.specs.declared.node.Node.{Node}
+use Rattle.dtype_paths.proofs.Cases.{by_bool}
+
+module _ {A B : Type 0} (f : A → Option B) where
+  read-set_same : (xs : List A) (i : ℕ) (x y : A) → slice_get xs i ≡ Some x → option_and_then f (slice_get (set xs i y) i) ≡ f y
+  read-set_same [] i x y h = cc
+  read-set_same (z ∷ xs) zero x y h = refl
+  read-set_same (z ∷ xs) (suc i) x y h = read-set_same xs i x y h
+
+  read-set_other : (xs : List A) (i j : ℕ) (y : A) → j ≢ i → option_and_then f (slice_get (set xs i y) j) ≡ option_and_then f (slice_get xs j)
+  read-set_other [] i j y ne = refl
+  read-set_other (z ∷ xs) zero zero y ne = absurd (ne refl)
+  read-set_other (z ∷ xs) zero (suc j) y ne = refl
+  read-set_other (z ∷ xs) (suc i) zero y ne = refl
+  read-set_other (z ∷ xs) (suc i) (suc j) y ne = read-set_other xs i j y (λ e. ne (ap suc e))
+
+  -- what is read of each place
+  read-set : (xs : List A) (i : ℕ) (x y : A) → slice_get xs i ≡ Some x → (j : ℕ) → option_and_then f (slice_get (set xs i y) j) ≡ cond (j == i) (f y) (option_and_then f (slice_get xs j))
+  read-set xs i x y h j =
+      by_bool (j == i)
+      (λ e. let is : j ≡ i = (Decides-eqb j i).0 e in rw (e, is) (read-set_same xs i x y h))
+      (λ e. let ne : j ≢ i = λ is. (let z = (Decides-eqb j i).1 is in cc) in rw e (read-set_other xs i j y ne))
+
+  -- the same where the new is read as the old
+  pub read-kept : (xs : List A) (i : ℕ) (x y : A) → slice_get xs i ≡ Some x → f y ≡ f x → (j : ℕ) → option_and_then f (slice_get (set xs i y) j) ≡ option_and_then f (slice_get xs j)
+  read-kept xs i x y h same j =
+      read-set xs i x y h j ∙ by_bool (j == i) (λ e. let is : j ≡ i = (Decides-eqb j i).0 e in rw (e, is, h) same) (λ e. rw e refl)
+
+-- a step is let lead from one node to a place
+pub child-led : (xs : List Node) (i : ℕ) (m n : Node) (x : Field) (place : ℕ) → slice_get xs i ≡ Some m → ((f : Field) → child n.children f ≡ cond (same_field x f) (Some place) (child m.children f))
+    → (j : ℕ) (f : Field) → child_at (set xs i n) j f ≡ cond (j == i && same_field x f) (Some place) (child_at xs j f)
+child-led xs i m n x place h up j f =
+    read-set (λ k. child k.children f) xs i m n h j ∙ by_bool (j == i) (λ e. let is : j ≡ i = (Decides-eqb j i).0 e in rw (e, is, h) (up f)) (λ e. rw e refl)

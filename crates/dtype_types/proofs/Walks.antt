@@ -1,0 +1,57 @@
+-- SPDX-License-Identifier: Apache-2.0
+-- SPDX-FileCopyrightText: Copyright the Vortex contributors
+
+-- Loops over fields, or over variants, that are lent one by one: what is left after a turn, and at the end.
+use Rattle.std.proofs.Common.{◌≡◌, ◌⊎◌, ℕ, ◌+◌, List, [], ◌∷◌, ◌++◌, sym, ap, ◌∙◌, inl, inr, subst, append_assoc}
+use Rattle.std.specs.Prelude.{Option, Some, None}
+use Rattle.std.specs.Iterator.{YieldsFirstBy}
+use Rattle.std.specs.Iterator.Adapters.{enumerate_count, enumerate_source, enumerate_steps, zip_first, zip_second}
+use Rattle.std.specs.declared.iter.Enumerate.{Enumerate}
+use Rattle.std.specs.declared.iter.Zip.{Zip}
+use Rattle.std.proofs.lemmas.Iterator.{zips}
+use Rattle.std.proofs.lemmas.List.{append-nil}
+
+-- what an item lends is the first of those that are left
+module _ {Item X : Type 0} (lent : Item → X) where
+  abbrev pub steps : List X → Option Item → List X → Type 0
+  steps = YieldsFirstBy lent (λ left. left)
+
+  pub next_of : (s t : List X) (r : Option Item) (x : Item) → r ≡ Some x → steps s r t → s ≡ lent x ∷ t
+  next_of s t r x is h = subst (λ o. steps s o t) is h
+
+  pub none_of : (s t : List X) (r : Option Item) → r ≡ None → steps s r t → s ≡ []
+  none_of s t r is h = (subst (λ o. steps s o t) is h).0
+
+  -- numbered
+  pub next_numbered : (s t : Enumerate (List X)) (r : Option (ℕ × Item)) (i : ℕ) (x : Item) → r ≡ Some (i, x) → enumerate_steps steps s r t
+      → (enumerate_source s ≡ lent x ∷ enumerate_source t) × (i ≡ enumerate_count s) × (enumerate_count t ≡ enumerate_count s + 1)
+  next_numbered s t r i x is h = let step = subst (λ o. enumerate_steps steps s o t) is h in (step.0, step.1, step.2)
+
+  pub none_numbered : (s t : Enumerate (List X)) (r : Option (ℕ × Item)) → r ≡ None → enumerate_steps steps s r t → enumerate_source s ≡ []
+  none_numbered s t r is h = (subst (λ o. enumerate_steps steps s o t) is h).0.0
+
+  -- of two lists side by side
+  pub next_of_both : (s t : Zip (List X) (List X)) (r : Option (Item × Item)) (x y : Item) → r ≡ Some (x, y) → zips steps steps s r t
+      → (zip_first s ≡ lent x ∷ zip_first t) × (zip_second s ≡ lent y ∷ zip_second t)
+  next_of_both s t r x y is h = subst (λ o. zips steps steps s o t) is h
+
+  pub none_of_either : (s t : Zip (List X) (List X)) (r : Option (Item × Item)) → r ≡ None → zips steps steps s r t → (zip_first s ≡ []) ⊎ (zip_second s ≡ [])
+  none_of_either s t r is h = by (subst (λ o. zips steps steps s o t) is h)
+    where
+      by : ((u : List X) × steps (zip_first s) None u) ⊎ ((u : List X) × steps (zip_second s) None u) → (zip_first s ≡ []) ⊎ (zip_second s ≡ [])
+      by (inl a) = inl a.1.0
+      by (inr b) = inr b.1.0
+
+-- where one of two lists has nothing left, nor has what is made of it
+pub nothing_of_either : {X Y : Type 0} (f : List X → List Y) {xs ys : List X} → (xs ≡ []) ⊎ (ys ≡ []) → (f xs ≡ f []) ⊎ (f ys ≡ f [])
+nothing_of_either f (inl a) = inl (ap f a)
+nothing_of_either f (inr b) = inr (ap f b)
+
+-- ---- what is done, and what is left, of a list
+
+-- an item moves from those that are left behind those that are done
+pub moves_over : {X : Type 0} (done left all rest : List X) (x : X) (more : List X) → done ++ left ≡ all → left ≡ x ∷ rest → more ≡ done ++ x ∷ [] → more ++ rest ≡ all
+moves_over done left all rest x more so_far next e = ap (λ xs. xs ++ rest) e ∙ append_assoc done (x ∷ []) rest ∙ ap (λ xs. done ++ xs) (sym next) ∙ so_far
+
+pub all_moved : {X : Type 0} (done left all : List X) → done ++ left ≡ all → left ≡ [] → done ≡ all
+all_moved done left all so_far none = sym (append-nil done) ∙ ap (λ xs. done ++ xs) (sym none) ∙ so_far

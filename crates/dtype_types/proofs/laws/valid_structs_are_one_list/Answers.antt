@@ -1,5 +1,0 @@
-use Rattle.dtype_types.proofs.OneLists.{one_list_of_fields}
-use Rattle.dtype_types.proofs.laws.valid_structs_are_one_list.Goals as goal
-
-pub returns : goal.returns
-returns c = one_list_of_fields

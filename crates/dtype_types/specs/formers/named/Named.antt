@@ -1,0 +1,91 @@
+-- SPDX-License-Identifier: Apache-2.0
+-- SPDX-FileCopyrightText: Copyright the Vortex contributors
+
+-- `Named` as a type that may hold the type that holds it, by its types.
+use Rattle.std.specs.Prelude.{◌≡◌, ℕ, List, [], ◌∷◌, map, length, max}
+use mathlib.Core.Path.{refl, sym, ap, ◌∙◌}
+use mathlib.Core.Former.{Former, Count, Row, one_more, this, const, pair, list, list_count, list_put, via, children}
+use native.Mathlib.Nat.{ℕ_set}
+use native.Mathlib.Omega.{arith}
+use lib.ListN.{length-map}
+use base.Stored.{code_map, coded×, coded_ℕ, coded_list, gcons}
+use denote.RattleType.{RattleType}
+use denote.HoleLaws.{Alike}
+use denote.HolePlaces.{Recodes, struct_places, laid}
+use denote.Hole.Carrier.{listed}
+use denote.Hole.Fix.{over}
+use denote.Param.Nested.{deepest}
+use denote.Param.Weighed.{Weighed, most, none_max, List-puts, w_pair, w_const}
+use denote.Model.Placed.{held, view_places_where}
+use Rattle.std.specs.List.{zip}
+use Rattle.std.specs.formers.vec.Vec as vec
+use Rattle.std.specs.declared.alloc.Global.{Global}
+use Rattle.std.specs.contracts.alloc.Global as heap
+use Rattle.std.specs.contracts.impls.GlobalAllocator.TheImpl.{ghosts}
+use Rattle.dtype_types.specs.Lists.{seconds}
+use Rattle.dtype_types.specs.declared.named.Named.TheInside.{Inside}
+use Rattle.dtype_types.specs.declared.named.Named.TheView.{view, invariant}
+use Rattle.dtype_types.specs.contracts.named.Named as C
+use Rattle.dtype_types.specs.contracts.named.Named.TheInside as I
+
+abbrev Name : Type 0
+Name = List ℕ
+
+abbrev entry : Former {0} → Former {0}
+entry g = pair (const Name) g
+
+abbrev on_value : {X Y : Type 0} → (X → Y) → Name × X → Name × Y
+on_value h p = (p.0, h p.1)
+
+most_seconds : {Y : Type 0} (f : Y → ℕ) (es : List (Name × Y)) → most (λ p. max 0 (f p.1)) es ≡ most f (seconds es)
+most_seconds f [] = refl
+most_seconds f (e ∷ es) = λ i. max (sym (none_max (f e.1)) i) (most_seconds f es i)
+
+pub entries_puts : {g : Former {0}} (w : Weighed g) (X : Type 0) (μ : X → ℕ) (es : List (Name × g.Of X)) (n : Count) (t : Row X n)
+    → deepest μ (list_count (entry g) (map ((entry g).shape X) es) n) (list_put (entry g) X es n t) ≡ max (most (w.weight X μ) (seconds es)) (deepest μ n t)
+entries_puts w X μ es n t = List-puts (w_pair (w_const Name) w) X μ es n t ∙ ap (λ a. max a (deepest μ n t)) (most_seconds (w.weight X μ) es)
+
+abbrev pub the_former : Former {0} → Former {0}
+the_former g = list (entry g)
+
+abbrev pub the_weighed : {g : Former {0}} → Weighed g → Weighed (the_former g)
+the_weighed w = record { weight = λ X μ d. most (w.weight X μ) (seconds d); puts = λ X μ d. entries_puts w X μ d }
+
+pub the_empty : List (Name × ⊥)
+the_empty = []
+
+abbrev pub the_items : (X : Type 0) → List (Name × X) → List X
+the_items X d = seconds d
+
+pub the_items_listed : (X : Type 0) (d : List (Name × X)) → listed _ (children (the_former this) X d) ≡ the_items X d
+the_items_listed X [] = refl
+the_items_listed X (p ∷ ps) = ap (λ l. p.1 ∷ l) (the_items_listed X ps)
+
+abbrev fields : Former {0}
+fields = via (pair (const (List Name)) (vec.the_former this Global)) Inside (λ X a. (a.names, a.dtypes)) (λ X v. record { names = v.0; dtypes = v.1 }) (λ X a. refl) (λ X v. refl)
+
+zip-map : {X Y : Type 0} (h : X → Y) (ks : List Name) (vs : List X) → zip ks (map h vs) ≡ map (on_value h) (zip ks vs)
+zip-map h [] vs = refl
+zip-map h (k ∷ ks) [] = refl
+zip-map h (k ∷ ks) (v ∷ vs) = ap (λ l. (k, h v) ∷ l) (zip-map h ks vs)
+
+zip-held : (X : Type 0) (ks : List Name) (vs : List X) → length vs ≡ length ks → held (list (entry this)) X (zip ks vs) ≡ held (list this) X vs
+zip-held X [] [] e = refl
+zip-held X [] (v ∷ vs) e = absurd (omega arith)
+zip-held X (k ∷ ks) [] e = absurd (omega arith)
+zip-held X (k ∷ ks) (v ∷ vs) e = λ i. (one_more (zip-held X ks vs (omega arith) i).0, (v, (zip-held X ks vs (omega arith) i).1))
+
+module _ (R S : RattleType) (h : R.Denot → S.Denot) where
+  pub the_places : Alike R S h → Alike (C.the_row R) (C.the_row S) ((the_former this).map R.Denot S.Denot h)
+  the_places a = view_places_where fields (the_former this) view
+      (λ X Y k u. zip-map k u.names u.dtypes.items)
+      (λ X u. length u.dtypes.items ≡ length u.names) (λ X Y k u e. sym (length-map u.dtypes.items k) ∙ e) (λ X u e. zip-held X u.names u.dtypes.items e)
+      R.Denot S.Denot h (C.the_row R).coded (C.the_row S).coded
+      (invariant R.Denot) (invariant S.Denot) (λ u. ℕ_set _ _) (λ u. ℕ_set _ _)
+      (λ u e. length-map u.dtypes.items h ∙ e) (λ u e. sym (length-map u.dtypes.items h) ∙ e) (λ u e. e)
+      (over (I.the_row R)) (over (I.the_row S))
+      (struct_places (I.the_type R) (I.the_type S) (λ n. n, (vec.mapped h, tt)) _ (λ d. refl) refl
+      ((refl, (λ n. refl, λ n. refl)), (laid _ _ _ (vec.the_places heap.the_row ghosts R S h a), tt)))
+
+  pub the_codes_placed : Recodes R S h → Recodes (C.the_row R) (C.the_row S) ((the_former this).map R.Denot S.Denot h)
+  the_codes_placed e d = sym (code_map (coded× (coded_list coded_ℕ) R.coded).code (coded× (coded_list coded_ℕ) S.coded).code (on_value h) (λ x i. gcons ((coded_list coded_ℕ).code x.0) (sym (e x.1) i)) d)

@@ -1,0 +1,87 @@
+// SPDX-License-Identifier: Apache-2.0
+// SPDX-FileCopyrightText: Copyright the Vortex contributors
+
+ghost use Rattle.std.specs.Prelude.{◌≡◌, ◌<◌, ◌↔◌, length, IfSome, IfNone, IsTrue};
+ghost use Rattle.std.specs.List.{zip};
+ghost use Rattle.dtype_base.specs.FieldNames.{FirstAt, IsAbsent};
+ghost use Rattle.dtype_base.specs.NameOrder.{IsWithinDigits};
+ghost use Rattle.dtype_types.specs.Distinct.{Distinct};
+ghost use Rattle.dtype_types.specs.Lists.{firsts, seconds};
+
+use dtype_base::{FieldNames, IndexedNames};
+use std::marker::Model;
+
+// Names and what they name, seen as pairs, so that a struct of types, which holds itself, has as many
+// names as types by its type. The file `specs/formers/named/Named` says how it holds them.
+#[derive(Debug, Drop)]
+pub(crate) struct Named<T> {
+    names: IndexedNames,
+    dtypes: Vec<T>,
+}
+
+impl<T> Model for Named<T> {
+    ghost use Rattle.std.specs.Prelude.{◌≡◌, ℕ, List, length};
+    ghost use Rattle.std.specs.List.{zip};
+    ghost use Rattle.std.specs.Coded.{coded_list, coded×, coded_ℕ};
+
+    ghost Value = { List (List ℕ × T) };
+
+    ghost coded = { coded_list (coded× (coded_list coded_ℕ) T.code) };
+
+    ghost view = { λ n. zip n.names n.dtypes.items };
+
+    ghost invariant = { λ n. length n.dtypes.items ≡ length n.names };
+}
+
+impl<T> Named<T> {
+    // These names and types, as many names as types.
+    pub(crate) fn new(names: IndexedNames, dtypes: Vec<T>) -> Self
+        requires { length dtypes.items ≡ length names }
+        ensures { result ≡ zip names dtypes.items }
+    {
+        Named { names, dtypes }
+    }
+
+    // The names, in order.
+    #[tactic(auto, using(crate::proofs::Sides::pairs))]
+    pub(crate) fn names(&self) -> &FieldNames
+        ensures { result.now ≡ firsts self.now }
+    {
+        self.names.names()
+    }
+
+    // What they name, in order.
+    #[tactic(auto, using(crate::proofs::Sides::pairs))]
+    pub(crate) fn dtypes(&self) -> &[T]
+        ensures { result.now ≡ seconds self.now }
+    {
+        &self.dtypes
+    }
+
+    // How many there are.
+    #[tactic(auto, using(crate::proofs::Sides::pairs))]
+    pub(crate) fn len(&self) -> usize
+        ensures { result ≡ length self.now }
+    {
+        self.dtypes.len()
+    }
+
+    // The position of the first of the name, and how many names were compared for it.
+    #[tactic(auto, using(crate::proofs::Sides::pairs))]
+    pub(crate) fn find_counted(&self, name: &str) -> (Option<usize>, u64)
+        ensures found { IfSome result.0 (FirstAt (firsts self.now) name.now) }
+        ensures none { IfNone result.0 (IsAbsent (firsts self.now) name.now) }
+        ensures most { IsWithinDigits (length self.now) result.1 }
+        ensures least { IfSome result.0 (λ _. 0 < result.1) }
+    {
+        self.names.find_counted(name)
+    }
+
+    // Whether no name stands twice.
+    #[tactic(auto, using(crate::proofs::Sides::pairs))]
+    pub(crate) fn are_distinct(&self) -> bool
+        ensures { IsTrue result ↔ Distinct (firsts self.now) }
+    {
+        self.names.are_distinct()
+    }
+}

@@ -1,0 +1,53 @@
+// SPDX-License-Identifier: Apache-2.0
+// SPDX-FileCopyrightText: Copyright the Vortex contributors
+
+//! A reader that descends a table with a mask: what is asked of it further down.
+ghost use Rattle.std.specs.Prelude.{◌≡◌, ◌↔◌, ◌∷◌, [], IfOk, IsTrue};
+ghost use Rattle.dtype_paths.specs.declared.field.Field.{Field};
+
+use dtype_base::VortexResult;
+use dtype_paths::{FieldMask, FieldPath, field_path};
+use std::alloc::Global;
+
+/// The mask of a projected column two levels down, behind both its names: all is asked for there.
+pub fn mask_of_column(alloc: Global, table: &str, column: &str) -> VortexResult<FieldMask>
+    ensures { IfOk result (λ m. m ≡ FieldMask.All) }
+{
+    let mask = FieldMask::Prefix(field_path!(alloc, table, column)?);
+    mask.step_into()?.step_into()
+}
+
+/// Whether everything is asked for two levels down: it always is.
+pub fn all_is_asked_of_column(alloc: Global, table: &str, column: &str) -> VortexResult<bool>
+    ensures { IfOk result (λ b. IsTrue b) }
+{
+    Ok(mask_of_column(alloc, table, column)?.matches_all())
+}
+
+/// The mask of one column alone, behind its table's name.
+pub fn mask_of_one_column(alloc: Global, table: &str, column: &str) -> VortexResult<FieldMask>
+    ensures { IfOk result (λ m. m ≡ FieldMask.Exact (Field.Name column.now ∷ [])) }
+{
+    FieldMask::Exact(field_path!(alloc, table, column)?).step_into()
+}
+
+/// Whether a copy of a mask equals it: it always does.
+pub fn is_kept_by_copying(alloc: Global, mask: &FieldMask) -> VortexResult<bool>
+    ensures { IfOk result (λ b. IsTrue b) }
+{
+    Ok(mask.try_clone(alloc)? == *mask)
+}
+
+/// Whether two columns are asked for in the same way.
+pub fn is_asked_alike(mask: &FieldMask, other: &FieldMask) -> bool
+    ensures { IsTrue result ↔ (mask.now ≡ other.now) }
+{
+    *mask == *other
+}
+
+/// Whether a column is all that is asked for.
+pub fn is_all_that_is_asked(column: FieldPath, mask: &FieldMask) -> bool
+    ensures { IsTrue result ↔ (mask.now ≡ FieldMask.Exact column) }
+{
+    *mask == FieldMask::Exact(column)
+}

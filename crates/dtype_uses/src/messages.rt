@@ -1,0 +1,98 @@
+// SPDX-License-Identifier: Apache-2.0
+// SPDX-FileCopyrightText: Copyright the Vortex contributors
+
+//! Types written as messages and read again, from the contracts of the calls and the public laws alone.
+ghost use Rattle.std.specs.Prelude.{◌≡◌, IfOk, IsErr, IsTrue};
+ghost use Rattle.dtype_base.specs.declared.nullability.Nullability.TheVariants.{Nullable};
+ghost use Rattle.dtype_base.specs.declared.vortex_error.VortexError.{VortexError};
+ghost use Rattle.dtype_types.specs.Nullable.{SetNull};
+ghost use Rattle.dtype_types.specs.TreeOf.{tree};
+ghost use Rattle.dtype_types.specs.Valid.{Valid};
+ghost use Rattle.dtype_messages.specs.MessageOf.{message};
+ghost use Rattle.vortex_dtype.specs.Accepts.{Accepts};
+ghost use Rattle.vortex_dtype.specs.Meaning.{Admits, nothing};
+ghost use Rattle.vortex_dtype.specs.Reads.{Fault};
+ghost use Rattle.vortex_dtype.specs.Session.{meaning};
+ghost use Rattle.vortex_dtype.specs.Written.{Normal};
+
+use dtype_base::VortexResult;
+use dtype_types::DType;
+use std::alloc::Global;
+use vortex_dtype::laws::{
+    equal_messages_read_alike, messages_are_exact, other_nullabilities_are_read_back, session_laws,
+};
+use vortex_dtype::{DTypeProto, DTypeSession, ExtDTypePlugin, pb};
+
+/// Whether two messages say the same type: equal ones do.
+pub fn say_the_same(
+    alloc: Global,
+    a: &pb::DType,
+    b: &pb::DType,
+    session: &DTypeSession,
+) -> VortexResult<bool>
+    ensures { IfOk result (λ r. message a.now ≡ message b.now → IsTrue r) }
+{
+    let first = DType::from_proto(alloc, a, session)?;
+    let second = DType::from_proto(alloc, b, session)?;
+    equal_messages_read_alike();
+    Ok(first == second)
+}
+
+/// Whether two types are the same, found by their messages.
+pub fn are_the_same(alloc: Global, a: &DType, b: &DType) -> VortexResult<bool>
+    ensures { IfOk result (λ r. IsTrue r → tree a.now ≡ tree b.now) }
+{
+    let first = a.to_proto(alloc)?;
+    let second = b.to_proto(alloc)?;
+    equal_messages_read_alike();
+    Ok(first == second)
+}
+
+/// The message that is written of what a message says: its normal form.
+pub fn normalized(
+    alloc: Global,
+    proto: &pb::DType,
+    session: &DTypeSession,
+) -> VortexResult<pb::DType>
+    ensures { IfOk result (λ m. Normal (meaning (λ b. rewrites (b.vtable, b.value)) session.now) (message proto.now) (message m)) }
+{
+    let dtype = DType::from_proto(alloc, proto, session)?;
+    messages_are_exact();
+    dtype.to_proto(alloc)
+}
+
+/// The type that a copy of a message says: what the message says.
+pub fn read_from_copy(
+    alloc: Global,
+    proto: &pb::DType,
+    session: &DTypeSession,
+) -> VortexResult<DType>
+    ensures { IfOk result (λ t.
+        Accepts (meaning (λ b. rewrites (b.vtable, b.value)) session.now) (message proto.now) (tree t)) }
+{
+    let copy = proto.try_clone(alloc)?;
+    let dtype = DType::from_proto(alloc, &copy, session)?;
+    equal_messages_read_alike();
+    Ok(dtype)
+}
+
+/// A type made nullable, stored and read back.
+pub fn stored_nullable(alloc: Global, dtype: &DType, session: &DTypeSession) -> VortexResult<DType>
+    ensures { Valid (tree dtype.now) → Admits (meaning (λ b. rewrites (b.vtable, b.value)) session.now) (tree dtype.now)
+        → IfOk result (λ d. SetNull (tree dtype.now) Nullable (tree d)) }
+{
+    let nullable = dtype.as_nullable(alloc)?;
+    let stored = nullable.to_proto(alloc)?;
+    session_laws(session);
+    other_nullabilities_are_read_back();
+    DType::from_proto(alloc, &stored, session)
+}
+
+/// A schema read by a program that knows no extension.
+pub fn read_knowing_nothing(alloc: Global, proto: &pb::DType) -> VortexResult<DType>
+    ensures accepts { IfOk result (λ t. Accepts nothing (message proto.now) (tree t)) }
+    ensures faulty { (e : VortexError) → Fault nothing (message proto.now) e → IsErr result }
+{
+    let session = DTypeSession::new(alloc);
+    DType::from_proto(alloc, proto, &session)
+}

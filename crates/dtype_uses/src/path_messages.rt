@@ -1,0 +1,96 @@
+// SPDX-License-Identifier: Apache-2.0
+// SPDX-FileCopyrightText: Copyright the Vortex contributors
+
+//! What a user of path messages, and of the messages of single kinds, gets from their contracts alone.
+ghost use Rattle.std.specs.Prelude.{◌≡◌, ◌↔◌, ◌⊎◌, ◌∷◌, [], IfErr, IfOk, IsErr, IsOkUnless, IsTrue, string_bytes};
+ghost use Rattle.dtype_base.specs.declared.vortex_error.VortexError.TheVariants.{Message, OutOfMemory};
+ghost use Rattle.dtype_base.specs.declared.vortex_error.MessageFault.TheVariants.{PathPartMissing};
+ghost use Rattle.dtype_messages.specs.MessageOf.{list_parts, struct_parts};
+ghost use Rattle.dtype_messages.specs.PathNames.{part_name, part_names};
+ghost use Rattle.dtype_paths.specs.declared.field.Field.TheVariants.{Name};
+
+use std::alloc::Global;
+use std::string::String;
+use vortex_dtype::laws::no_path_without_a_kind;
+use vortex_dtype::{FieldPath, FieldPathProto, VortexResult, pb};
+
+/// Whether two stored paths are the same one.
+pub fn is_same_path(a: &pb::FieldPath, b: &pb::FieldPath) -> bool
+    ensures { IsTrue result ↔ (part_names a.now ≡ part_names b.now) }
+{
+    *a == *b
+}
+
+/// Whether a part names the column.
+pub fn names_column(part: &pb::Field, column: &pb::Field) -> bool
+    ensures { IsTrue result ↔ (part_name part.now ≡ part_name column.now) }
+{
+    *part == *column
+}
+
+/// Whether a copy of a stored path equals it: it always does.
+pub fn is_path_kept_by_copying(alloc: Global, path: &pb::FieldPath) -> VortexResult<bool>
+    ensures kept { IfOk result (λ b. IsTrue b) }
+    ensures refused { IsOkUnless result OutOfMemory }
+{
+    Ok(path.try_clone(alloc)? == *path)
+}
+
+/// Whether a copy of a struct's message equals it: it always does.
+pub fn is_struct_kept_by_copying(alloc: Global, proto: &pb::Struct) -> VortexResult<bool>
+    ensures kept { IfOk result (λ b. IsTrue b) }
+{
+    Ok(proto.try_clone(alloc)? == *proto)
+}
+
+/// Whether two lists' messages are the same, and then their elements are.
+pub fn is_same_list(a: &pb::List, b: &pb::List) -> bool
+    ensures { IsTrue result ↔ (list_parts a.now ≡ list_parts b.now) }
+{
+    *a == *b
+}
+
+/// Whether two messages of structs have the same names, types and flag.
+pub fn is_same_struct(a: &pb::Struct, b: &pb::Struct) -> bool
+    ensures { IsTrue result ↔ (struct_parts a.now ≡ struct_parts b.now) }
+{
+    *a == *b
+}
+
+/// Whether two messages of decimals have the same numbers and flag.
+pub fn is_same_decimal(a: &pb::Decimal, b: &pb::Decimal) -> bool
+    ensures { IsTrue result ↔ (a.now ≡ b.now) }
+{
+    *a == *b
+}
+
+/// The path to a column, by way of its message.
+pub fn path_to(alloc: Global, column: String) -> VortexResult<FieldPath>
+    ensures { IfOk result (λ p. p ≡ Name (string_bytes column) ∷ []) }
+{
+    let mut path = Vec::new(alloc);
+    path.push(pb::Field {
+        field_type: Some(pb::FieldType::Name(column)),
+    })?;
+    FieldPath::from_proto(alloc, &pb::FieldPath { path })
+}
+
+/// A stored path that is read twice, where the second message equals the first: the same path, since what is read
+/// is a function of the names.
+pub fn is_read_alike(alloc: Global, a: &pb::FieldPath, b: &pb::FieldPath) -> VortexResult<bool>
+    ensures { IfOk result (λ r. part_names a.now ≡ part_names b.now → IsTrue r) }
+{
+    let first = FieldPath::from_proto(alloc, a)?;
+    let second = FieldPath::from_proto(alloc, b)?;
+    Ok(first == second)
+}
+
+/// A path whose last part lacks its kind: it is refused.
+pub fn read_unfinished(alloc: Global, mut proto: pb::FieldPath) -> VortexResult<FieldPath>
+    ensures refused { IsErr result }
+    ensures fault { IfErr result (λ e. (e ≡ OutOfMemory) ⊎ (e ≡ Message PathPartMissing)) }
+{
+    proto.path.push(pb::Field { field_type: None })?;
+    no_path_without_a_kind();
+    FieldPath::from_proto(alloc, &proto)
+}

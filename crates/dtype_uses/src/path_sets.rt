@@ -1,0 +1,137 @@
+// SPDX-License-Identifier: Apache-2.0
+// SPDX-FileCopyrightText: Copyright the Vortex contributors
+
+//! A reader of columns: what is asked of it, and what it opens for that.
+ghost use Rattle.std.specs.Prelude.{◌≡◌, ◌↔◌, ◌+◌, ◌≤◌, IfOk, IsTrue, List, OnOk, is_some, length, map};
+ghost use Rattle.std.specs.List.{Contains, sum_by};
+ghost use Rattle.std.specs.Vec.Iter.{into_iter_items};
+ghost use Rattle.dtype_types.specs.TreeOf.{tree};
+ghost use Rattle.dtype_paths.specs.Along.{along};
+ghost use Rattle.dtype_paths.specs.Cover.{Covers, IsCover, Least};
+ghost use Rattle.dtype_paths.specs.PathSets.{Gains, SameMembers};
+ghost use Rattle.dtype_paths.specs.declared.field.Field.{Field};
+
+use dtype_base::VortexResult;
+use dtype_paths::laws::{being_within_is_an_order, covers_of_the_same_have_the_same_members};
+use dtype_paths::{FieldPath, FieldPathSet};
+use dtype_types::DType;
+use std::alloc::Global;
+use std::vec;
+
+/// Whether a path that was asked for is among those that are: it always is.
+pub fn is_there_once_asked(asked: &mut FieldPathSet, path: FieldPath) -> VortexResult<bool>
+    ensures { IfOk result (λ b. IsTrue b) }
+{
+    let copy = path.try_clone()?;
+    asked.insert(path)?;
+    Ok(asked.contains(&copy))
+}
+
+/// Asks for a path that is asked for already: nothing changes.
+pub fn ask_again(asked: &mut FieldPathSet, path: FieldPath) -> VortexResult<()>
+    requires { Contains asked.old path }
+    ensures { OnOk result (SameMembers asked.new asked.old) }
+{
+    asked.insert(path)
+}
+
+/// Asks for one path twice, and answers that nothing asked for before is lost.
+pub fn ask_twice(asked: &mut FieldPathSet, path: &FieldPath) -> VortexResult<bool>
+    ensures { IfOk result (λ b. (q : List Field) → Contains asked.old q → Contains asked.new q) }
+{
+    asked.insert(path.try_clone()?)?;
+    asked.insert(path.try_clone()?)?;
+    being_within_is_an_order();
+    Ok(true)
+}
+
+/// The set of the columns that a query asks for.
+pub fn columns_of_query(alloc: Global, columns: Vec<FieldPath>) -> VortexResult<FieldPathSet>
+    ensures { IfOk result (λ s. SameMembers s columns.items) }
+{
+    FieldPathSet::from_iter(alloc, columns)
+}
+
+/// The columns of a second query besides.
+pub fn ask_for_all(asked: &mut FieldPathSet, columns: Vec<FieldPath>) -> VortexResult<()>
+    ensures { OnOk result (Gains asked.old columns.items asked.new) }
+{
+    asked.extend(columns)
+}
+
+/// Whether a query asks for a column.
+pub fn asks_for(alloc: Global, columns: Vec<FieldPath>, column: &FieldPath) -> VortexResult<bool>
+    ensures { IfOk result (λ b. IsTrue b ↔ Contains columns.items column.now) }
+{
+    let asked = FieldPathSet::from_iter(alloc, columns)?;
+    Ok(asked.contains(column))
+}
+
+/// Whether a column is asked for, looked up in a copy.
+pub fn asks_for_in_copy(asked: &FieldPathSet, column: &FieldPath) -> VortexResult<bool>
+    ensures { IfOk result (λ b. IsTrue b ↔ Contains asked.now column.now) }
+{
+    let copy = asked.try_clone()?;
+    Ok(copy.contains(column))
+}
+
+/// The columns to open for what is asked for, which stays.
+pub fn cover_of_copy(asked: &FieldPathSet) -> VortexResult<vec::IntoIter<FieldPath>>
+    ensures { IfOk result (λ r. IsCover (into_iter_items r) asked.now) }
+{
+    asked.try_clone()?.into_iter()
+}
+
+/// The same by the paths that it gives.
+pub fn least_of_copy(asked: &FieldPathSet) -> VortexResult<vec::IntoIter<FieldPath>>
+    ensures { IfOk result (λ r. (p : List Field) → Contains (into_iter_items r) p ↔ Least asked.now p) }
+{
+    covers_of_the_same_have_the_same_members();
+    asked.try_clone()?.into_iter()
+}
+
+/// The columns to open for a query: a column that it asks for is under one of them.
+pub fn cover_of_query(
+    alloc: Global,
+    columns: Vec<FieldPath>,
+    column: &FieldPath,
+) -> VortexResult<vec::IntoIter<FieldPath>>
+    requires { Contains columns.items column.now }
+    ensures { IfOk result (λ r. Covers (into_iter_items r) column.now) }
+{
+    FieldPathSet::from_iter(alloc, columns)?.into_iter()
+}
+
+/// How often a cover looks: once at least, and at most once more than its paths have steps.
+pub fn looks_for_cover(asked: FieldPathSet) -> VortexResult<(u64, vec::IntoIter<FieldPath>)>
+    ensures some { IfOk result (λ r. 1 ≤ r.0) }
+    ensures most { IfOk result (λ r. r.0 ≤ 1 + sum_by length (into_iter_items r.1)) }
+{
+    let (paths, visits) = asked.into_iter_counted()?;
+    Ok((visits, paths))
+}
+
+/// How often the cover of nothing looks.
+pub fn looks_for_nothing(alloc: Global) -> VortexResult<u64>
+    ensures { IfOk result (λ n. n ≡ 1) }
+{
+    let (_, visits) = FieldPathSet::new(alloc).into_iter_counted()?;
+    Ok(visits)
+}
+
+/// Which columns of a query's cover a schema has, one by one.
+pub fn columns_found(
+    alloc: Global,
+    columns: Vec<FieldPath>,
+    schema: &DType,
+) -> VortexResult<Vec<bool>>
+    ensures { IfOk result (λ v. (cover : List (List Field)) × IsCover cover columns.items
+        × (v.items ≡ map (λ p. is_some (along (tree schema.now) p)) cover)) }
+{
+    let cover = FieldPathSet::from_iter(alloc, columns)?.into_iter()?;
+    Ok(
+        cover
+            .map(|path| path.resolve(schema).is_some())
+            .collect(alloc)?,
+    )
+}

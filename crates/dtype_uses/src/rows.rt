@@ -1,0 +1,23 @@
+// SPDX-License-Identifier: Apache-2.0
+// SPDX-FileCopyrightText: Copyright the Vortex contributors
+
+//! A reader of rows: what it finds at a column.
+ghost use Rattle.std.specs.Prelude.{IfSome};
+ghost use Rattle.dtype_types.specs.TreeOf.{tree};
+ghost use Rattle.dtype_types.specs.Valid.{Valid};
+ghost use Rattle.dtype_types.specs.Value.{Value};
+ghost use Rattle.dtype_paths.specs.Found.{FoundIn};
+ghost use Rattle.dtype_paths.specs.Meets.{MeetsNoSizeZero};
+
+use dtype_paths::FieldPath;
+use dtype_paths::laws::something_is_found_where_a_type_is_given;
+use dtype_types::DType;
+
+/// A column of a table: where there is one, some row has a value at it.
+pub fn column_of_rows<'a>(column: &FieldPath, table: &'a DType) -> Option<&'a DType>
+    ensures { Valid (tree table.now) → MeetsNoSizeZero (tree table.now) column.now
+        → IfSome result (λ u. (v : Value) × FoundIn (tree table.now) column.now v) }
+{
+    something_is_found_where_a_type_is_given();
+    column.resolve(table)
+}

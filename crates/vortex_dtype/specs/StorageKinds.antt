@@ -1,0 +1,107 @@
+-- SPDX-License-Identifier: Apache-2.0
+-- SPDX-FileCopyrightText: Copyright the Vortex contributors
+
+-- What setting a type's outer nullability keeps: its kind, and what that kind holds. A plugin or a vtable that looks at
+-- these alone has from here that the storage's outer nullability doesn't count.
+use Rattle.std.specs.Prelude.{◌≡◌, ℕ, List, Option, Some, None, Bool, option_and_then}
+use Rattle.std.proofs.Common.{ap}
+use Rattle.dtype_base.specs.Decimals.{Decimal}
+use Rattle.dtype_base.specs.declared.nullability.Nullability.{Nullability}
+use Rattle.dtype_base.specs.declared.nullability.Nullability.TheVariants.{NonNullable, Nullable}
+use Rattle.dtype_base.specs.declared.ptype.PType.{PType}
+use Rattle.dtype_types.specs.Kinds.{kind, primitive_name, decimal_of, struct_fields, union_variants, map_parts, list_element, fixed_size_list_element, any_size_list_element}
+use Rattle.dtype_types.specs.Nullable.{set_null, SetNull}
+use Rattle.dtype_types.specs.Tree.{Tree, null, bool, primitive, decimal, utf8, binary, list, fixed_size_list, map_of, struct, union, variant, extension}
+use Rattle.dtype_types.specs.declared.dtype.kinds.Kind.{Kind}
+
+-- what is seen of a type doesn't depend on its outer nullability
+abbrev pub IsKept : {X : Type 0} → (Tree → X) → Type 0
+IsKept seen = (s t : Tree) (n : Nullability) → SetNull s n t → seen t ≡ seen s
+
+-- how many items a fixed-size list has
+abbrev pub fixed_size : Tree → Option ℕ
+fixed_size (fixed_size_list t size n) = Some size
+fixed_size _ = None
+
+-- all that the kinds hold but an extension's storage
+record Held : Type 0 where
+  kind : Kind
+  primitive : Option PType
+  decimal : Option Decimal
+  fields : Option (List (List ℕ × Tree))
+  variants : Option (List (List ℕ × Tree × ℕ))
+  map : Option (Tree × Tree × Bool)
+  element : Option Tree
+  fixed_element : Option Tree
+  any_element : Option Tree
+  size : Option ℕ
+
+abbrev held : Tree → Held
+held t = record {
+  kind = kind t;
+  primitive = primitive_name t;
+  decimal = decimal_of t;
+  fields = struct_fields t;
+  variants = union_variants t;
+  map = map_parts t;
+  element = list_element t;
+  fixed_element = fixed_size_list_element t;
+  any_element = any_size_list_element t;
+  size = fixed_size t;
+}
+
+some_is : (u t : Tree) → Some u ≡ Some t → t ≡ u
+some_is u t e = cc
+
+as_held : (u t : Tree) → Some u ≡ Some t → held t ≡ held u
+as_held u t e = ap held (some_is u t e)
+
+held-set_null : IsKept held
+held-set_null null t NonNullable e = cc
+held-set_null null t Nullable e = as_held null t e
+held-set_null (bool m) t n e = as_held (bool n) t e
+held-set_null (primitive p m) t n e = as_held (primitive p n) t e
+held-set_null (decimal d m) t n e = as_held (decimal d n) t e
+held-set_null (utf8 m) t n e = as_held (utf8 n) t e
+held-set_null (binary m) t n e = as_held (binary n) t e
+held-set_null (list x m) t n e = as_held (list x n) t e
+held-set_null (fixed_size_list x k m) t n e = as_held (fixed_size_list x k n) t e
+held-set_null (map_of k v o m) t n e = as_held (map_of k v o n) t e
+held-set_null (struct fs m) t n e = as_held (struct fs n) t e
+held-set_null (union vs m) t n e = as_held (union vs n) t e
+held-set_null (variant m) t n e = as_held (variant n) t e
+held-set_null (extension i m s) t n e = go (set_null s n) e
+  where
+    go : (o : Option Tree) → option_and_then (λ x. Some (extension i m x)) o ≡ Some t → held t ≡ held (extension i m s)
+    go None e' = cc
+    go (Some x) e' = as_held (extension i m x) t e'
+
+pub kind_kept : IsKept kind
+kind_kept s t n e = ap (λ (h : Held). h.kind) (held-set_null s t n e)
+
+pub primitive_kept : IsKept primitive_name
+primitive_kept s t n e = ap (λ (h : Held). h.primitive) (held-set_null s t n e)
+
+pub decimal_kept : IsKept decimal_of
+decimal_kept s t n e = ap (λ (h : Held). h.decimal) (held-set_null s t n e)
+
+pub struct_kept : IsKept struct_fields
+struct_kept s t n e = ap (λ (h : Held). h.fields) (held-set_null s t n e)
+
+pub union_kept : IsKept union_variants
+union_kept s t n e = ap (λ (h : Held). h.variants) (held-set_null s t n e)
+
+pub map_kept : IsKept map_parts
+map_kept s t n e = ap (λ (h : Held). h.map) (held-set_null s t n e)
+
+pub list_kept : IsKept list_element
+list_kept s t n e = ap (λ (h : Held). h.element) (held-set_null s t n e)
+
+pub fixed_size_list_kept : IsKept fixed_size_list_element
+fixed_size_list_kept s t n e = ap (λ (h : Held). h.fixed_element) (held-set_null s t n e)
+
+pub any_size_list_kept : IsKept any_size_list_element
+any_size_list_kept s t n e = ap (λ (h : Held). h.any_element) (held-set_null s t n e)
+
+pub fixed_size_kept : IsKept fixed_size
+fixed_size_kept s t n e = ap (λ (h : Held). h.size) (held-set_null s t n e)

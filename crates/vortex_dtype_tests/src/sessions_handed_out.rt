@@ -1,0 +1,65 @@
+// SPDX-License-Identifier: Apache-2.0
+// SPDX-FileCopyrightText: Copyright the Vortex contributors
+
+// Sessions that a function makes and hands out, as users would write them, with contracts on what they mean. They
+// stand among the tests, since the gate takes a function that hands out objects nowhere else.
+ghost use Rattle.std.specs.Prelude.{◌≡◌, IfOk, IsOkUnless, Some};
+ghost use Rattle.dtype_base.specs.declared.vortex_error.VortexError.TheVariants.{OutOfMemory};
+ghost use Rattle.vortex_dtype.specs.Meaning.{allowing, nothing, put};
+ghost use Rattle.vortex_dtype.specs.Session.{meaning};
+
+use crate::plugins::{Tag, TextAlone};
+use std::alloc::Global;
+use std::test::Fail;
+use vortex_dtype::laws::registering_changes_one_id;
+use vortex_dtype::{DTypeSession, ExtDTypePlugin, PluginOf, VortexResult};
+
+/// A session for files of anyone: it keeps the extensions that it doesn't know.
+pub fn for_any_file(alloc: Global) -> DTypeSession
+    ensures { meaning (λ b. rewrites (b.vtable, b.value)) result ≡ allowing nothing }
+{
+    let mut session = DTypeSession::new(alloc);
+    session.allow_unknown();
+    session
+}
+
+/// A session with two plugins that keeps what it doesn't know.
+pub fn with_two(
+    alloc: Global,
+    first: Box<dyn ExtDTypePlugin>,
+    second: Box<dyn ExtDTypePlugin>,
+) -> VortexResult<DTypeSession>
+    ensures knows { IfOk result (λ s. meaning rewrites s
+        ≡ put (id_text second) (rewrites second) (put (id_text first) (rewrites first) (allowing nothing))) }
+    ensures refused { IsOkUnless result OutOfMemory }
+{
+    let mut session = DTypeSession::new(alloc);
+    session.allow_unknown();
+    session.register(first)?;
+    session.register(second)?;
+    Ok(session)
+}
+
+/// A session that knows one plugin and no other id.
+pub fn with_one(alloc: Global, plugin: Box<dyn ExtDTypePlugin>) -> VortexResult<DTypeSession>
+    ensures { IfOk result (λ s. (meaning rewrites s).registered (id_text plugin) ≡ Some (rewrites plugin)) }
+{
+    let mut session = DTypeSession::new(alloc);
+    session.register(plugin)?;
+    registering_changes_one_id();
+    Ok(session)
+}
+
+#[test]
+fn sessions_that_are_handed_out_know_their_plugins(rt: HostRuntime) -> Result<(), Fail> {
+    let alloc = rt.alloc();
+    let tag = Box::new(alloc, PluginOf::new(Tag))?;
+    let text = Box::new(alloc, TextAlone)?;
+    let session = with_two(alloc, tag, text)?;
+    assert!(rt; session.registry("x.tag") && session.registry("x.text"));
+    assert!(rt; session.allows_unknown() && !session.registry("x.other"));
+    assert!(rt; for_any_file(alloc).allows_unknown());
+    let one = with_one(alloc, Box::new(alloc, TextAlone)?)?;
+    assert!(rt; one.registry("x.text") && !one.allows_unknown());
+    Ok(())
+}

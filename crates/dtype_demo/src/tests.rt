@@ -63,24 +63,22 @@ impl Write for Unflushed {
     }
 }
 
-// Gives three bytes a read, and fails once it has been read so often.
+// Gives so many bytes of its reader at a time, and fails once it has been read so often.
 #[derive(Drop)]
-struct FailsToRead<'a> {
-    bytes: &'a [u8],
+struct FailsToRead<R> {
+    reader: R,
+    most: usize,
     reads_left: usize,
 }
 
-impl Read for FailsToRead<'_> {
+impl<R: Read> Read for FailsToRead<R> {
     fn read(&mut self, buf: &mut [u8]) -> io::Result<usize> {
         if self.reads_left == 0 {
             return Err(io::Error::from(ErrorKind::Other));
         }
         self.reads_left -= 1;
-        let count = self.bytes.len().min(buf.len()).min(3);
-        let (given, rest) = self.bytes.split_at(count);
-        buf[..count].copy_from_slice(given);
-        self.bytes = rest;
-        Ok(count)
+        let room = buf.len().min(self.most);
+        self.reader.read(&mut buf[..room])
     }
 }
 
@@ -188,17 +186,57 @@ fn each_read_that_fails_is_told(rt: HostRuntime) -> Result<(), Fail> {
     let bytes = LINES.as_bytes();
     let reads = bytes.len().div_ceil(3) + 1;
     for reads_left in 0..reads {
-        let (result, written) = outcome(alloc, FailsToRead { bytes, reads_left });
+        let reader = FailsToRead {
+            reader: bytes,
+            most: 3,
+            reads_left,
+        };
+        let (result, written) = outcome(alloc, reader);
         assert_eq!(rt; result, Err(DemoFault::ReadFailed), "after {reads_left}");
         assert!(rt; written.is_empty(), "after {reads_left}");
     }
     let reader = FailsToRead {
-        bytes,
+        reader: bytes,
+        most: 3,
         reads_left: reads,
     };
     let (result, written) = outcome(alloc, reader);
     assert_eq!(rt; result, Ok(()));
     assert_eq!(rt; written.as_slice(), ANSWERS.as_bytes());
+    Ok(())
+}
+
+// There are at most as many reads as bytes, and one that finds the end or the byte behind the limit.
+#[test]
+fn each_byte_takes_a_read_at_most(rt: HostRuntime) -> Result<(), Fail> {
+    let lengths = [
+        0,
+        1,
+        2,
+        3,
+        4095,
+        4096,
+        4097,
+        10_000,
+        INPUT_LIMIT,
+        INPUT_LIMIT + 5,
+    ];
+    for length in lengths {
+        for most in [1, 2, 4096, 5000] {
+            let reader = FailsToRead {
+                reader: io::repeat(b'a').take(length as u64),
+                most,
+                reads_left: length.min(INPUT_LIMIT) + 1,
+            };
+            let (result, _) = outcome(rt.alloc(), reader);
+            let want = if length > INPUT_LIMIT {
+                Err(DemoFault::InputTooLong)
+            } else {
+                Ok(())
+            };
+            assert_eq!(rt; result, want, "{length} bytes, {most} at a time");
+        }
+    }
     Ok(())
 }
 

@@ -5,42 +5,52 @@
 // back.
 
 use crate::fixtures::REQUIRED;
-use crate::plugins::Tag;
 use crate::report::{begin, changed, end};
 use std::alloc::Global;
-use vortex_dtype::{DType, ExtDType, ExtDTypeRef, ExtId, VortexResult};
+use vortex_dtype::{DType, ExtDType, ExtDTypeRef, ExtId, ExtVTable, VortexResult};
+use vortex_dtype_fixtures::{Tag, TagName, Word};
 
 // Makes the call of this name, if it is one of these.
 pub fn answer(rt: &impl Eprint, alloc: Global, call: &str) -> VortexResult<Option<String>> {
     let answer = match call {
-        "ExtDType::try_downcast" => try_downcast(rt, alloc, "x.tag", b"ab"),
-        "ExtDType::try_downcast of another id" => try_downcast(rt, alloc, "x.y", b"ab"),
-        "ExtDType::try_downcast of refused metadata" => try_downcast(rt, alloc, "x.tag", b"a!"),
+        "ExtDType::try_downcast" => {
+            let handed_in = over_bits(alloc, "x.tag", b"ab")?;
+            try_downcast(rt, alloc, handed_in, Tag)
+        }
+        "ExtDType::try_downcast of another id" => {
+            let handed_in = over_bits(alloc, "x.y", b"ab")?;
+            try_downcast(rt, alloc, handed_in, Tag)
+        }
+        "ExtDType::try_downcast of refused metadata" => {
+            let handed_in = over_bits(alloc, "x.tag", b"a!")?;
+            try_downcast(rt, alloc, handed_in, Tag)
+        }
         "ExtDType::try_downcast of what doesn't fit" => {
-            try_downcast(rt, alloc, "x.tag", b"123456789")
+            let handed_in = over_bits(alloc, "x.word", b"ab")?;
+            try_downcast(rt, alloc, handed_in, Word)
         }
         _ => return Ok(None),
     };
     Ok(Some(answer?))
 }
 
-fn bare(alloc: Global, id: &str, metadata: &[u8]) -> VortexResult<ExtDTypeRef> {
+// An extension over `bool`.
+fn over_bits(alloc: Global, id: &str, metadata: &[u8]) -> VortexResult<ExtDTypeRef> {
     let id = ExtId::new(alloc, id)?;
     let metadata = Vec::from_slice(alloc, metadata)?;
-    ExtDTypeRef::from_parts(alloc, id, metadata, DType::Utf8(REQUIRED))
+    ExtDTypeRef::from_parts(alloc, id, metadata, DType::Bool(REQUIRED))
 }
 
 // The typed extension, or whether what is handed back equals what was handed in.
-fn try_downcast(
+fn try_downcast<V: ExtVTable<Metadata = TagName> + Drop>(
     rt: &impl Eprint,
     alloc: Global,
-    id: &str,
-    metadata: &[u8],
+    handed_in: ExtDTypeRef,
+    vtable: V,
 ) -> VortexResult<String> {
-    let handed_in = bare(alloc, id, metadata)?;
     let copy = handed_in.try_clone(alloc)?;
     begin(rt);
-    let made = ExtDType::try_downcast(alloc, handed_in, Tag);
+    let made = ExtDType::try_downcast(alloc, handed_in, vtable);
     end(rt);
     match made {
         Ok(typed) => {

@@ -28,7 +28,6 @@ mod fixtures;
 mod messages;
 mod path_sets;
 mod paths;
-mod plugins;
 mod registrations;
 mod report;
 mod sessions;

@@ -5,13 +5,13 @@
 
 use crate::faulty_messages::faulty;
 use crate::fixtures::nested;
-use crate::plugins::Tag;
 use crate::report::shown;
 use std::alloc::Global;
 use std::string::String;
 use vortex_dtype::{
     DType, DTypeProto, DTypeSession, FieldPath, FieldPathProto, PluginOf, VortexResult, pb,
 };
+use vortex_dtype_fixtures::Tag;
 
 // Makes the call of this name, if it is one of these.
 pub fn answer(alloc: Global, call: &str) -> VortexResult<Option<String>> {

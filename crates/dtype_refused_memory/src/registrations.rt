@@ -5,10 +5,10 @@
 // memory too, and tells a refusal by its number.
 
 use crate::fixtures::REQUIRED;
-use crate::plugins::Tag;
 use crate::report::{begin, changed, end};
 use std::alloc::Global;
 use vortex_dtype::{DType, DTypeSession, ExtId, ForeignExtDType, PluginOf, VortexResult};
+use vortex_dtype_fixtures::Tag;
 
 // Makes the call of this name, if it is one of these.
 pub fn answer(rt: &impl Eprint, alloc: Global, call: &str) -> VortexResult<Option<String>> {

@@ -5,10 +5,10 @@
 // it is called: a function that gives a session with a plugin that it made would hide what the plugin means.
 
 use crate::fixtures::{NULLABLE, REQUIRED};
-use crate::plugins::{Tag, TagName};
 use crate::report::{shown, shown_in_one_line};
 use std::alloc::Global;
 use vortex_dtype::{DType, DTypeSession, ExtDType, PluginOf, VortexResult};
+use vortex_dtype_fixtures::{Tag, TagName};
 
 // Makes the call of this name, if it is one of these.
 pub fn answer(alloc: Global, call: &str) -> VortexResult<Option<String>> {

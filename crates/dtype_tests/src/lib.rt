@@ -3,8 +3,8 @@
 
 //! Tests of `dtype_base` and `dtype_types`, a module a topic: worked examples, texts, and each call that takes
 //! memory once with ample memory. They stand on what a user sees, the public items alone; what holds of every
-//! value is proved in the crates themselves. Other libraries are tested in `dtype_paths_tests` and
-//! `vortex_dtype_tests`, and the program beside itself.
+//! value is proved in the crates themselves. Other libraries are tested in `dtype_paths_tests`, `vortex_dtype_tests`
+//! and `vortex_dtype_random_tests`, and the program beside itself.
 #![tactic(auto)]
 
 #[cfg(test)]

@@ -1,8 +1,9 @@
 // SPDX-License-Identifier: Apache-2.0
 // SPDX-FileCopyrightText: Copyright the Vortex contributors
 
-//! Messages that tests and programs read, made by hand: each function gives the message of one kind, with the
-//! parts that it is handed, faulty ones too. Nothing else is promised of them.
+//! What tests and programs read. Messages made by hand: each function gives the message of one kind, with the
+//! parts that it is handed, faulty ones too, and nothing else is promised of them. And the extension types that
+//! they know (`plugins`), which keep what the library asks of its plugins.
 //!
 //! Begin with `of`, the message of a kind.
 #![tactic(auto)]
@@ -10,6 +11,10 @@
 use std::alloc::Global;
 use std::string::String;
 use vortex_dtype::{VortexResult, pb};
+
+mod plugins;
+
+pub use plugins::{AllKept, Tag, TagName, TextAlone, Word};
 
 /// A message of this kind.
 pub fn of(kind: pb::DtypeType) -> pb::DType {

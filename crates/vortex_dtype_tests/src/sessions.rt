@@ -2,7 +2,6 @@
 // SPDX-FileCopyrightText: Copyright the Vortex contributors
 
 // Sessions, plugins and typed extensions at work.
-use crate::plugins::{AllKept, Tag, TagName, TextAlone, Word};
 use dtype_fixtures::is_printed;
 use std::alloc::Global;
 use std::process::Abort;
@@ -11,6 +10,7 @@ use vortex_dtype::{
     DType, DTypeSession, ExtDType, ExtDTypePlugin, ExtDTypeRef, ExtId, ExtVTable, ForeignExtDType,
     ForeignExtMetadata, MessageFault, Nullability, PluginOf, VortexError, VortexResult,
 };
+use vortex_dtype_fixtures::{AllKept, Tag, TagName, TextAlone, Word};
 
 const REQUIRED: Nullability = Nullability::NonNullable;
 

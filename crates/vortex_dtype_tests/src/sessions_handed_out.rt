@@ -8,11 +8,11 @@ ghost use Rattle.dtype_base.specs.declared.vortex_error.VortexError.TheVariants.
 ghost use Rattle.vortex_dtype.specs.Meaning.{allowing, nothing, put};
 ghost use Rattle.vortex_dtype.specs.Session.{meaning};
 
-use crate::plugins::{Tag, TextAlone};
 use std::alloc::Global;
 use std::test::Fail;
 use vortex_dtype::laws::registering_changes_one_id;
 use vortex_dtype::{DTypeSession, ExtDTypePlugin, PluginOf, VortexResult};
+use vortex_dtype_fixtures::{Tag, TextAlone};
 
 /// A session for files of anyone: it keeps the extensions that it doesn't know.
 pub fn for_any_file(alloc: Global) -> DTypeSession

@@ -4,7 +4,6 @@
 // What is asked of path sets, sessions, typed extensions and messages.
 
 use crate::fixtures::{REQUIRED, byte, nested};
-use crate::plugins::{Tag, TagName};
 use crate::report::begin;
 use dtype_base::{PType, VortexResult};
 use dtype_paths::{FieldPath, FieldPathSet, field_path};
@@ -12,6 +11,7 @@ use std::alloc::Global;
 use vortex_dtype::{
     DTypeProto, DTypeSession, ExtDType, ExtDTypePlugin, ExtId, ForeignExtDType, PluginOf, pb,
 };
+use vortex_dtype_fixtures::{Tag, TagName};
 
 pub fn path_sets(rt: &impl Eprint, alloc: Global) -> VortexResult<bool> {
     let path = field_path!(alloc, "a", "b")?;

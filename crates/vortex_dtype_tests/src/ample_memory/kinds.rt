@@ -4,12 +4,12 @@
 // Types of every kind, extensions over them, and their messages.
 use super::NULLABILITIES;
 use super::lists::stored;
-use crate::plugins::{Tag, TagName};
 use std::alloc::Global;
 use vortex_dtype::{
     DType, DTypeSession, ExtDType, ExtDTypeRef, ExtId, FieldDType, ForeignExtDType, MapDType,
     NativeDType, Nullability, PluginOf, VortexResult,
 };
+use vortex_dtype_fixtures::{Tag, TagName};
 
 const REQUIRED: Nullability = Nullability::NonNullable;
 

@@ -6,8 +6,8 @@ use super::NULLABILITIES;
 use dtype_fixtures::primitive;
 use std::alloc::Global;
 use vortex_dtype::{
-    DType, DTypeProto, DTypeSession, FieldDType, FieldName, FieldNames, Nullability, PType,
-    StructFields, UnionVariants, VortexResult,
+    DType, DTypeProto, DTypeSession, FieldDType, FieldName, FieldNames, MessageFault, Nullability,
+    PType, StructFields, UnionVariants, VortexError, VortexResult,
 };
 
 // The names `f0`, `f1` and so on, so many.
@@ -44,7 +44,11 @@ pub(super) fn names(alloc: Global, size: usize) -> VortexResult<()> {
 // A struct of so many fields.
 fn fields_of(alloc: Global, size: usize) -> VortexResult<StructFields> {
     let names = FieldNames::from_vec(numbered(alloc, size)?);
-    StructFields::new(alloc, names, bytes(alloc, size)?)
+    let dtypes = bytes(alloc, size)?;
+    if names.len() != dtypes.len() {
+        return Err(VortexError::Message(MessageFault::StructLengths));
+    }
+    StructFields::new(alloc, names, dtypes)
 }
 
 // So many fields, from which a struct is made.

@@ -3,12 +3,12 @@
 
 // Extensions and sessions with metadata of so many bytes, under ids of so many letters.
 use super::lists::stored;
-use crate::plugins::{Tag, TagName};
 use std::alloc::Global;
 use vortex_dtype::{
     DType, DTypeSession, ExtDType, ExtDTypeRef, ExtId, ForeignExtMetadata, Nullability, PluginOf,
     VortexResult,
 };
+use vortex_dtype_fixtures::{Tag, TagName};
 
 // The letter `a`, so many times.
 fn letters(alloc: Global, size: usize) -> VortexResult<Vec<u8>> {

@@ -1,7 +1,7 @@
 -- SPDX-License-Identifier: Apache-2.0
 -- SPDX-FileCopyrightText: Copyright the Vortex contributors
 
--- The plugins of the tests under the id `x.tag`: one lowers ASCII letters and refuses an exclamation mark, the
+-- The plugins under the id `x.tag`: one lowers ASCII letters and refuses an exclamation mark, the
 -- other keeps all bytes.
 use Rattle.std.specs.Prelude.{◌≡◌, ℕ, ◌+◌, ◌<◌, ◌≤◌, List, [], ◌∷◌, Option, Some, None, Bool, true, false, ◌&&◌, ◌||◌, nat_eq, nat_le, if◌then◌else◌, All, map, refl}
 use Rattle.std.specs.List.{list_any}

@@ -12,6 +12,11 @@ use vortex_dtype_fixtures::{
     byte, decimal, extension, fixed, list, map, nothing, null, of, primitive, text,
 };
 
+// The message of a seed.
+pub(crate) fn message(alloc: Global, seed: u64) -> VortexResult<pb::DType> {
+    Generator::new(alloc, Random::new(seed), Random::new(seed)).message()
+}
+
 #[derive(Drop)]
 pub(crate) struct Generator {
     alloc: Global,

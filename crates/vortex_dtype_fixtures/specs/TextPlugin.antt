@@ -1,7 +1,7 @@
 -- SPDX-License-Identifier: Apache-2.0
 -- SPDX-FileCopyrightText: Copyright the Vortex contributors
 
--- The extensions of the tests that stand over texts alone: the plugin under the id `x.text`, which takes `utf8` of
+-- The extensions that stand over texts alone: the plugin under the id `x.text`, which takes `utf8` of
 -- either nullability with no metadata, and the library of `x.word`, whose metadata is that of `x.tag`.
 use Rattle.std.specs.Prelude.{◌≡◌, ℕ, List, [], ◌∷◌, Option, Some, None, Bool, true, false, if◌then◌else◌, option_and_then, refl}
 use Rattle.std.proofs.Common.{ap, subst}
@@ -9,7 +9,7 @@ use Rattle.dtype_base.specs.declared.nullability.Nullability.{Nullability}
 use Rattle.dtype_base.specs.declared.nullability.Nullability.TheVariants.{NonNullable, Nullable}
 use Rattle.dtype_types.specs.Tree.{Tree, null, bool, primitive, decimal, utf8, binary, list, fixed_size_list, map_of, struct, union, variant, extension}
 use Rattle.dtype_types.specs.Nullable.{set_null, SetNull}
-use Rattle.vortex_dtype_tests.specs.Tag.{lowered, if_unchanged, tag_typed}
+use Rattle.vortex_dtype_fixtures.specs.Tag.{lowered, if_unchanged, tag_typed}
 use Rattle.vortex_dtype.specs.Meaning.{Rewrites, Lawful, Bytes}
 use Rattle.vortex_dtype.specs.Typed.{Typed}
 

@@ -7,7 +7,7 @@
 ghost use Rattle.std.specs.List.{list_any};
 ghost use Rattle.std.specs.Prelude.{◌≡◌, IfErr, IfOk, None, Some, map, nat_eq};
 ghost use Rattle.vortex_dtype.specs.Refusals.{RefusedWhere};
-ghost use Rattle.vortex_dtype_tests.specs.Tag.{if_unchanged, is_changed, low, lowered};
+ghost use Rattle.vortex_dtype_fixtures.specs.Tag.{if_unchanged, is_changed, low, lowered};
 
 use std::alloc::{AllocError, Global};
 use vortex_dtype::{DType, ExtDTypePlugin, ExtVTable, VortexError, VortexResult};
@@ -22,7 +22,7 @@ pub struct Tag;
 
 impl ExtVTable for Tag {
     ghost use Rattle.std.specs.Prelude.{ℕ, List, codes, true};
-    ghost use Rattle.vortex_dtype_tests.specs.Tag.{lowered, if_unchanged, tag_typed};
+    ghost use Rattle.vortex_dtype_fixtures.specs.Tag.{lowered, if_unchanged, tag_typed};
 
     type Metadata = TagName;
 
@@ -68,7 +68,7 @@ pub struct AllKept;
 
 impl ExtDTypePlugin for AllKept {
     ghost use Rattle.std.specs.Prelude.{Some, codes};
-    ghost use Rattle.vortex_dtype_tests.specs.Tag.{all_kept_laws};
+    ghost use Rattle.vortex_dtype_fixtures.specs.Tag.{all_kept_laws};
 
     ghost id_text = { λ _. codes "x.tag" };
 
@@ -96,7 +96,7 @@ pub struct TextAlone;
 
 impl ExtDTypePlugin for TextAlone {
     ghost use Rattle.std.specs.Prelude.{codes};
-    ghost use Rattle.vortex_dtype_tests.specs.TextPlugin.{text_laws, text_only};
+    ghost use Rattle.vortex_dtype_fixtures.specs.TextPlugin.{text_laws, text_only};
 
     ghost id_text = { λ _. codes "x.text" };
 
@@ -128,8 +128,8 @@ pub struct Word;
 
 impl ExtVTable for Word {
     ghost use Rattle.std.specs.Prelude.{ℕ, List, codes};
-    ghost use Rattle.vortex_dtype_tests.specs.Tag.{lowered, if_unchanged};
-    ghost use Rattle.vortex_dtype_tests.specs.TextPlugin.{is_text, word_typed};
+    ghost use Rattle.vortex_dtype_fixtures.specs.Tag.{lowered, if_unchanged};
+    ghost use Rattle.vortex_dtype_fixtures.specs.TextPlugin.{is_text, word_typed};
 
     type Metadata = TagName;
 
@@ -207,14 +207,16 @@ fn each_lowered(alloc: Global, bytes: &[u8]) -> Result<Vec<u8>, AllocError>
     bytes.iter().map(|b| lower_byte(*b)).collect(alloc)
 }
 
+// The bytes are copied first, so that a refusal leaves a copy to be dropped.
 fn all_lowered(alloc: Global, bytes: &[u8]) -> VortexResult<Vec<u8>>
     ensures ok { IfOk result (λ v. lowered bytes.now ≡ Some v.items) }
     ensures refused { IfErr result (RefusedWhere (lowered bytes.now ≡ None)) }
 {
+    let lowered = each_lowered(alloc, bytes)?;
     if has_exclamation_mark(bytes) {
         return Err(VortexError::MetadataRefused);
     }
-    Ok(each_lowered(alloc, bytes)?)
+    Ok(lowered)
 }
 
 fn unchanged(alloc: Global, bytes: &[u8]) -> VortexResult<Vec<u8>>

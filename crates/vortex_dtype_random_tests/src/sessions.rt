@@ -1,0 +1,14 @@
+// SPDX-License-Identifier: Apache-2.0
+// SPDX-FileCopyrightText: Copyright the Vortex contributors
+
+use std::alloc::Global;
+use vortex_dtype::{DTypeSession, ExtDTypePlugin, PluginOf, VortexResult};
+use vortex_dtype_fixtures::{Tag, TextAlone};
+
+// A session with `x.tag` as a vtable and `x.text`.
+pub(crate) fn tagging(alloc: Global) -> VortexResult<DTypeSession> {
+    let mut session = DTypeSession::new(alloc);
+    session.register(Box::new(alloc, PluginOf::new(Tag))?)?;
+    session.register(Box::new(alloc, TextAlone)?)?;
+    Ok(session)
+}

@@ -12,7 +12,7 @@ use Rattle.std.proofs.lemmas.Option.{same_Some}
 use Rattle.dtype_paths.proofs.ApartLists.{distinct-nil}
 use Rattle.dtype_paths.proofs.Cases.{by_bool}
 use Rattle.dtype_paths.specs.Children.{child}
-use Rattle.dtype_paths.specs.Equality.{same_field, same_path}
+use Rattle.dtype_paths.specs.Equality.{same_path}
 use Rattle.dtype_paths.specs.EqualityLaws.{same_path-Decides}
 use Rattle.dtype_paths.specs.PathSets.{Gains}
 use Rattle.dtype_paths.specs.declared.field.Field.{Field}

@@ -2,12 +2,12 @@
 -- SPDX-FileCopyrightText: Copyright the Vortex contributors
 
 -- A list of nodes in which one is changed.
-use Rattle.std.proofs.Common.{ℕ, suc, zero, ◌≡◌, ◌≢◌, ◌∙◌, ◌==◌, ◌&&◌, cond, List, [], ◌∷◌, Option, Some, None, option_and_then, set, refl, ap, true, false}
+use Rattle.std.proofs.Common.{ℕ, suc, zero, ◌≡◌, ◌≢◌, ◌∙◌, ◌==◌, ◌&&◌, cond, List, [], ◌∷◌, Option, Some, option_and_then, set, refl, ap}
 use Rattle.std.specs.List.{slice_get}
 use Rattle.std.proofs.lemmas.Bool.Decides.{Decides-eqb}
 use Rattle.dtype_paths.specs.Children.{child}
 use Rattle.dtype_paths.specs.Equality.{same_field}
-use Rattle.dtype_paths.specs.Trie.{child_at, end_at}
+use Rattle.dtype_paths.specs.Trie.{child_at}
 use Rattle.dtype_paths.specs.declared.field.Field.{Field}
 use Rattle.dtype_paths.specs.declared.node.Node.{Node}
 use Rattle.dtype_paths.proofs.Cases.{by_bool}

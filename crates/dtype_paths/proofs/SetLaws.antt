@@ -168,6 +168,34 @@ union_along ps qs rs ts s t q c =
 pub coverage_of_unions : (ps qs rs ts : List (List Field)) → SameCoverage ps qs → SameCoverage rs ts → SameCoverage (ps ++ rs) (qs ++ ts)
 coverage_of_unions ps qs rs ts s t = record { same = λ q. (union_along ps qs rs ts s t q, union_along qs ps ts rs (flipped ps qs s) (flipped rs ts t) q) }
 
+-- ---- what is covered besides
+
+-- what a set has gained, or what covers as much, it covers besides
+pub coverage_of_gained : (old ps new qs : List (List Field)) → Gains old ps new → SameCoverage ps qs → SameCoverage new (old ++ qs)
+coverage_of_gained old ps new qs g s =
+    coverage_joined new (old ++ ps) (old ++ qs) (coverage_of_members new (old ++ ps) (gained_union old ps new g)) (coverage_of_unions old old ps qs (coverage_same old) s)
+
+-- a cover of one list is a cover of each that covers the same
+pub cover_along : (cover ps qs : List (List Field)) → IsCover cover ps → SameCoverage ps qs → IsCover cover qs
+cover_along cover ps qs c s = record {
+  least = λ p.
+      let l = (least_tells ps qs).1 s p in
+      (λ m. l.0 ((c.least p).0 m), λ m. (c.least p).1 (l.1 m));
+}
+
+pub cover_of_gained : (cover old ps new qs : List (List Field)) → Gains old ps new → SameCoverage ps qs → IsCover cover new → IsCover cover (old ++ qs)
+cover_of_gained cover old ps new qs g s c = cover_along cover new (old ++ qs) c (coverage_of_gained old ps new qs g s)
+
+pub coverage_of_own : (cover ps : List (List Field)) → IsCover cover ps → SameCoverage cover ps
+coverage_of_own cover ps c = coverage_of_cover cover ps c.least
+
+pub coverage_of_both : (a b ps qs : List (List Field)) → IsCover a ps → IsCover b qs → SameCoverage (a ++ b) (ps ++ qs)
+coverage_of_both a b ps qs ca cb = coverage_of_unions a ps b qs (coverage_of_own a ps ca) (coverage_of_own b qs cb)
+
+-- a cover of covers is a cover of all
+pub cover_of_covers : (cover a b ps qs : List (List Field)) → IsCover a ps → IsCover b qs → IsCover cover (a ++ b) → IsCover cover (ps ++ qs)
+cover_of_covers cover a b ps qs ca cb c = cover_along cover (a ++ b) (ps ++ qs) c (coverage_of_both a b ps qs ca cb)
+
 -- ---- what is covered already
 
 pub covered_adds_nothing : (old new : List (List Field)) (p : List Field) → Gains old (p ∷ []) new → Covers old p → SameCoverage new old

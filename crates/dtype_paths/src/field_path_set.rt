@@ -103,6 +103,7 @@ impl FieldPathSet {
             paths self.old self.new result }
         ensures listed { OnOk result ((it : I.IntoIter) × I.into_iter_gives paths it
             × WholeRun I.IntoIter.next_gives it (λ run. Gains self.old run.items self.new)) }
+        ensures kept { IsWithin self.old self.new }
         ensures refused { IsOkUnless result OutOfMemory }
     {
         for path in paths {
@@ -127,6 +128,7 @@ impl FieldPathSet {
         ensures least { IfOk result (λ r. (p : List Field) → Contains (into_iter_items r) p ↔ Least self p) }
         ensures once { IfOk result (λ r. Distinct (into_iter_items r)) }
         ensures covers { IfOk result (λ r. SameCoverage (into_iter_items r) self) }
+        ensures own { IfOk result (λ r. IsCover (into_iter_items r) self) }
         ensures cover { (ps : List (List Field)) → SameMembers self ps
             → IfOk result (λ r. IsCover (into_iter_items r) ps) }
         ensures asked { (ps : List (List Field)) (q : List Field) → SameMembers self ps → Contains ps q

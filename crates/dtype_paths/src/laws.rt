@@ -133,6 +133,27 @@ pub fn two_lists_together_cover_what_either_covers()
         → SameCoverage (ps ++ rs) (qs ++ ts) }
 {}
 
+/// What a set gains it covers besides, and so where it gains, in place of paths, others that cover the same. The
+/// cover of the new set is then the cover of the old one's paths and those.
+#[tactic(auto, using(crate::proofs::SetLaws::coverage_of_gained, crate::proofs::SetLaws::cover_of_gained))]
+pub fn sets_cover_what_they_gain()
+    ensures coverage { (old ps new qs : List (List Field)) → Gains old ps new → SameCoverage ps qs
+        → SameCoverage new (old ++ qs) }
+    ensures cover { (cover old ps new qs : List (List Field)) → Gains old ps new → SameCoverage ps qs
+        → IsCover cover new → IsCover cover (old ++ qs) }
+{}
+
+/// A cover covers what its list covers, two covers together what both lists cover, and the cover of two covers
+/// is the cover of both lists.
+#[tactic(auto, using(crate::proofs::SetLaws::coverage_of_own, crate::proofs::SetLaws::coverage_of_both, crate::proofs::SetLaws::cover_of_covers))]
+pub fn two_covers_together_cover_what_both_lists_cover()
+    ensures one { (cover ps : List (List Field)) → IsCover cover ps → SameCoverage cover ps }
+    ensures coverage { (a b ps qs : List (List Field)) → IsCover a ps → IsCover b qs
+        → SameCoverage (a ++ b) (ps ++ qs) }
+    ensures cover { (cover a b ps qs : List (List Field)) → IsCover a ps → IsCover b qs → IsCover cover (a ++ b)
+        → IsCover cover (ps ++ qs) }
+{}
+
 /// A path that is covered already adds nothing to what is covered.
 #[tactic(auto, using(crate::proofs::SetLaws::covered_adds_nothing))]
 pub fn a_covered_path_adds_nothing()

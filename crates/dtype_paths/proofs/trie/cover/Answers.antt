@@ -1,12 +1,11 @@
 -- SPDX-License-Identifier: Apache-2.0
 -- SPDX-FileCopyrightText: Copyright the Vortex contributors
 
-use Rattle.std.proofs.Common.{[], ◌∷◌, ◌++◌, ◌≡◌, ◌∙◌, ◌<◌, ◌+◌, arith, length, sym, refl}
+use Rattle.std.proofs.Common.{[], ◌∷◌, ◌++◌, ◌≡◌, ◌∙◌, arith, sym, refl}
 use Rattle.std.proofs.lemmas.Bool.Decides.{Decides-eqb}
 use Rattle.std.proofs.lemmas.List.{nil_from_length}
 use Rattle.std.proofs.lemmas.Option.{MatchOption-at_none}
 use Rattle.dtype_paths.specs.Children.{steps_of}
-use Rattle.dtype_paths.specs.Trie.{IsTrie}
 use Rattle.dtype_paths.proofs.NodeGrowth.{trie_from_some}
 use Rattle.dtype_paths.proofs.Opening.{Opens, opens-start, opens-counts, opens-within, opened-end, opened-children, opened-count, opened-least, opened-once, none-begun}
 use Rattle.dtype_paths.proofs.trie.cover.Goals as goal

@@ -8,7 +8,7 @@ use Rattle.std.proofs.lemmas.List.{nil_from_length}
 use Rattle.std.proofs.lemmas.Option.{slice_get_read}
 use Rattle.dtype_paths.specs.PathSets.{Gains}
 use Rattle.dtype_paths.specs.Trie.{child_at, ends, walk, IsKept, IsTrie}
-use Rattle.dtype_paths.proofs.NodeGrowth.{nodes-first, ends-first, nodes-finished, ends-finished, whole-walk}
+use Rattle.dtype_paths.proofs.NodeGrowth.{nodes-finished, ends-finished, whole-walk}
 use Rattle.dtype_paths.proofs.KeptNodes.{first_chain, joined, kept-behind, kept-same, on_err}
 use Rattle.dtype_paths.proofs.NodePlaces.{gains}
 use Rattle.dtype_paths.proofs.trie.grow.Goals as goal

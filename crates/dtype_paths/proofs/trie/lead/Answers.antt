@@ -1,11 +1,9 @@
 -- SPDX-License-Identifier: Apache-2.0
 -- SPDX-FileCopyrightText: Copyright the Vortex contributors
 
-use Rattle.std.proofs.Common.{◌≡◌, Some, get_or, length, refl, ◌<◌}
-use Rattle.std.specs.List.{slice_get}
+use Rattle.std.proofs.Common.{length, refl}
 use Rattle.std.proofs.lemmas.Option.{slice_get_read}
 use Rattle.dtype_paths.specs.Children.{child}
-use Rattle.dtype_paths.specs.declared.node.Node.{Node}
 use Rattle.dtype_paths.proofs.KeptNodes.{on_err}
 use Rattle.dtype_paths.proofs.NodeUpdates.{child-led, read-kept}
 use Rattle.dtype_paths.proofs.trie.lead.Goals as goal

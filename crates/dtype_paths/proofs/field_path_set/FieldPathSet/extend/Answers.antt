@@ -4,9 +4,10 @@
 use Rattle.std.proofs.Common.{List, subst, sym}
 use Rattle.std.proofs.iter.runs.Made.{run_of_exit}
 use Rattle.std.proofs.lemmas.Result.{MatchResult-from_err}
-use Rattle.dtype_paths.specs.PathSets.{Gains}
+use Rattle.dtype_paths.specs.PathSets.{Gains, IsWithin}
 use Rattle.dtype_paths.specs.declared.field.Field.{Field}
 use Rattle.dtype_paths.specs.PathSetLaws.{gains_more, gains_none}
+use Rattle.dtype_paths.proofs.SetLaws.{old_is_kept}
 use Rattle.dtype_paths.proofs.field_path_set.FieldPathSet.extend.Goals as goal
 
 pub loop-path-init : goal.loop-path-init
@@ -31,3 +32,12 @@ returns-clause-listed g c =
     let whole = run_of_exit g.I.IntoIter.Iterator.next_gives _ c.loop-path.yielded _ c.loop-path.yielded_by _ (rw c.in-None.is at c.next.ensures.steps) in
     let gained = subst (λ (ps : List (List Field)). Gains c.args.self.now ps c.loop-path.self) (sym whole.3.0) c.loop-path.invariant in
     (c.into_iter-path-iterator.result, c.into_iter-path-iterator.ensures.into_iter_gives, (whole.0, whole.1, whole.2, gained))
+
+-- what was there stays, also where memory ran out
+pub returns-in_err-insert-clause-kept : goal.returns-in_err-insert-clause-kept
+returns-in_err-insert-clause-kept g c =
+    let kept = old_is_kept c.args.self.now c.loop-path.yielded c.loop-path.self c.loop-path.invariant in
+    subst (λ (ps : List (List Field)). IsWithin c.args.self.now ps) (sym c.in_err-insert.ensures.err) kept
+
+pub returns-clause-kept : goal.returns-clause-kept
+returns-clause-kept g c = old_is_kept c.args.self.now c.loop-path.yielded c.loop-path.self c.loop-path.invariant

@@ -5,6 +5,9 @@ use Rattle.std.specs.Vec.Iter.{into_iter_items}
 use Rattle.dtype_paths.proofs.SetLaws.{cover_of_members, members_are_covered}
 use Rattle.dtype_paths.proofs.field_path_set.FieldPathSet.into_iter.Goals as goal
 
+pub returns-clause-own : goal.returns-clause-own
+returns-clause-own c = record { least = c.in_ok-paths.ensures.least }
+
 pub returns-clause-cover : goal.returns-clause-cover
 returns-clause-cover c = λ ps s. cover_of_members (into_iter_items c.in_ok-paths.paths) c.args.self ps c.in_ok-paths.ensures.least s
 

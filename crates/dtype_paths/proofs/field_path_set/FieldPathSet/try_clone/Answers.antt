@@ -1,7 +1,7 @@
 -- SPDX-License-Identifier: Apache-2.0
 -- SPDX-FileCopyrightText: Copyright the Vortex contributors
 
-use Rattle.std.proofs.Common.{◌≡◌, ◌∙◌, ◌<◌, ap, arith, length, subst}
+use Rattle.std.proofs.Common.{◌≡◌, ◌∙◌, arith, subst}
 use Rattle.dtype_paths.specs.Trie.{ends, IsAlike}
 use Rattle.dtype_paths.proofs.NodeGrowth.{nodes-same}
 use Rattle.dtype_paths.proofs.NodePlaces.{ends-same}

@@ -9,7 +9,8 @@ use Rattle.std.proofs.lemmas.Bool.{false_from_ne_true}
 use Rattle.std.proofs.lemmas.Slice.Eq.{bytes_eq-Decides}
 use Rattle.dtype_base.specs.declared.nullability.Nullability.{Nullability}
 use Rattle.dtype_base.specs.declared.nullability.Nullability.TheVariants.{NonNullable, Nullable}
-use Rattle.dtype_types.specs.Tree.{Tree, Fields, no_fields, field, Variants, no_variants, choice, null, bool, primitive, decimal, utf8, binary, list, fixed_size_list, map_of, struct, union, variant, extension}
+use Rattle.dtype_types.specs.Kinds.{struct_fields}
+use Rattle.dtype_types.specs.Tree.{Tree, Fields, fields, pairs, no_fields, field, Variants, no_variants, choice, null, bool, primitive, decimal, utf8, binary, list, fixed_size_list, map_of, struct, union, variant, extension}
 use Rattle.dtype_types.specs.Valid.{Valid}
 use Rattle.dtype_types.specs.Nullable.{set_null}
 use Rattle.vortex_dtype.specs.Meaning.{Rewrites, Meaning, Lawful, LawfulSession, Bytes, kept, keeps, nothing, put, allowing, Admits, AdmitsFields, AdmitsVariants}
@@ -136,6 +137,21 @@ mutual
   admits-variants : (m : Meaning) → ((id : List ℕ) → m.registered id ≡ None) → m.unknown ≡ true → (vs : Variants) → AdmitsVariants m vs
   admits-variants m none all no_variants = tt
   admits-variants m none all (choice n t g rest) = (admits-all m none all t, admits-variants m none all rest)
+
+-- fields behind those that are admitted
+admits_fields-more : (m : Meaning) (fs : Fields) (qs : List (List ℕ × Tree)) → AdmitsFields m fs → AdmitsFields m (fields qs) → AdmitsFields m (fields (pairs fs ++ qs))
+admits_fields-more m no_fields qs a b = b
+admits_fields-more m (field n t rest) qs a b = (a.0, admits_fields-more m rest qs a.1 b)
+
+-- a struct with more fields behind those of one that is admitted
+pub admits_more : (m : Meaning) (t : Tree) (ps qs : List (List ℕ × Tree)) (n k : Nullability) → struct_fields t ≡ Some ps → Admits m t → Admits m (struct (fields qs) k) → Admits m (struct (fields (ps ++ qs)) n)
+admits_more m (struct fs k') ps qs n k e a b =
+    let same : pairs fs ≡ ps = cc in
+    subst (λ (xs : List (List ℕ × Tree)). AdmitsFields m (fields (xs ++ qs))) same (admits_fields-more m fs qs a b)
+admits_more m t ps qs n k e a b = cc
+
+pub admits_one_more : (m : Meaning) (t u : Tree) (ps : List (List ℕ × Tree)) (name : List ℕ) (n : Nullability) → struct_fields t ≡ Some ps → Admits m t → Admits m u → Admits m (struct (fields (ps ++ (name, u) ∷ [])) n)
+admits_one_more m t u ps name n e a b = admits_more m t ps ((name, u) ∷ []) n n e a (b, tt)
 
 -- ---- what calls change, and what they leave alone
 

@@ -4,12 +4,13 @@
 // Laws of sessions, of reading and of writing. They follow from the definitions alone: each function's
 // contract is the law, and its body is empty. `types`, `paths` and the others are the laws of the crates
 // below.
-ghost use Rattle.std.specs.Prelude.{◌≡◌, ◌≢◌, ◌↔◌, ◌⊎◌, ◌++◌, ◌∷◌, ℕ, List, Option, Some, None, false, true};
+ghost use Rattle.std.specs.Prelude.{◌≡◌, ◌≢◌, ◌↔◌, ◌⊎◌, ◌++◌, [], ◌∷◌, ℕ, List, Option, Some, None, false, true};
 ghost use Rattle.std.specs.List.{list_any};
 ghost use Rattle.dtype_base.specs.declared.nullability.Nullability.{Nullability};
 ghost use Rattle.dtype_base.specs.declared.vortex_error.VortexError.{VortexError};
 ghost use Rattle.dtype_types.specs.Nullable.{SetNull};
-ghost use Rattle.dtype_types.specs.Tree.{Tree};
+ghost use Rattle.dtype_types.specs.Kinds.{struct_fields};
+ghost use Rattle.dtype_types.specs.Tree.{Tree, fields, struct};
 ghost use Rattle.dtype_types.specs.Valid.{Valid};
 ghost use Rattle.vortex_dtype.specs.Accepts.{Accepts};
 ghost use Rattle.vortex_dtype.specs.Calls.{Call, LeavesAlone, after, is_allow, register};
@@ -130,6 +131,16 @@ pub fn unknown_ids_are_all_admitted()
     ensures all { (s : Meaning) → ((id : List ℕ) → s.registered id ≡ None) → s.unknown ≡ true
         → (t : Tree) → Admits s t }
     ensures new { (s : Meaning) (t : Tree) → s ≡ allowing nothing → Admits s t }
+{}
+
+/// A session admits a struct with more fields behind those of one that it admits, where it admits their types too.
+pub fn more_fields_are_admitted()
+    ensures one { (s : Meaning) (t u : Tree) (ps : List (List ℕ × Tree)) (name : List ℕ) (n : Nullability)
+        → struct_fields t ≡ Some ps → Admits s t → Admits s u
+        → Admits s (struct (fields (ps ++ (name, u) ∷ [])) n) }
+    ensures merged { (s : Meaning) (t : Tree) (ps qs : List (List ℕ × Tree)) (n k : Nullability)
+        → struct_fields t ≡ Some ps → Admits s t → Admits s (struct (fields qs) k)
+        → Admits s (struct (fields (ps ++ qs)) n) }
 {}
 
 /// Path messages whose parts hold the same names, as a copy has them, say the same steps.

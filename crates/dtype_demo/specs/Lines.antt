@@ -2,7 +2,7 @@
 -- SPDX-FileCopyrightText: Copyright the Vortex contributors
 
 -- What the program's input means: lines, and each line as a path.
-use Rattle.std.specs.Prelude.{ℕ, ◌==◌, List, [], ◌∷◌, codes, map, if◌then◌else◌}
+use Rattle.std.specs.Prelude.{ℕ, ◌==◌, List, [], ◌∷◌, codes, length, map, if◌then◌else◌}
 use Rattle.std.specs.List.{slice_split}
 use Rattle.std.specs.Str.{bytes_eq}
 use Rattle.vortex_dtype.specs.Types.Field.{Field}
@@ -11,8 +11,7 @@ use Rattle.vortex_dtype.specs.Types.Field.TheVariants.{Name, ElementType}
 -- the last piece, where it is empty, is no line
 abbrev pub without_empty_end : List (List ℕ) → List (List ℕ)
 without_empty_end [] = []
-without_empty_end ([] ∷ []) = []
-without_empty_end ((b ∷ bs) ∷ []) = (b ∷ bs) ∷ []
+without_empty_end (x ∷ []) = if length x == 0 then [] else x ∷ []
 without_empty_end (x ∷ y ∷ more) = x ∷ without_empty_end (y ∷ more)
 
 -- the pieces between newlines (byte 10)
@@ -25,5 +24,4 @@ part_of part = if bytes_eq part (codes "[]") then ElementType else Name part
 
 -- the empty line is the root; any other is split at its dots (byte 46)
 abbrev pub parts_of : List ℕ → List Field
-parts_of [] = []
-parts_of (b ∷ bs) = map part_of (slice_split (λ c. c == 46) (b ∷ bs))
+parts_of line = if length line == 0 then [] else map part_of (slice_split (λ c. c == 46) line)

@@ -8,7 +8,7 @@ ghost use Rattle.dtype_demo.specs.Output.{answer_text, WritesOutput};
 
 use crate::DemoFault;
 use crate::cover::write_cover;
-use crate::lines::parse_line;
+use crate::lines::{first_line, parse_line};
 use std::alloc::Global;
 use std::io::Write;
 use vortex_dtype::{DType, FieldPath, FieldPathSet};
@@ -26,13 +26,17 @@ pub fn write_answers<W: Write>(
         (fault ≡ DemoFault.WriteFailed) ⊎ (fault ≡ DemoFault.OutOfMemory)) }
 {
     let mut paths = FieldPathSet::new(alloc);
-    for line in text.split_terminator('\n') {
-        let path = parse_line(alloc, line).map_err(|_| DemoFault::OutOfMemory)?;
+    let mut rest = text;
+    while !rest.is_empty() {
+        let (line, after) = first_line(rest);
+        let path = parse_line(alloc, line)?;
         answer(dtype, &path, writer)?;
-        paths.insert(path).map_err(|_| DemoFault::OutOfMemory)?;
+        paths.insert(path)?;
+        rest = after;
     }
     write_cover(alloc, paths, writer)?;
-    writer.flush().map_err(|_| DemoFault::WriteFailed)
+    writer.flush().map_err(|_| DemoFault::WriteFailed)?;
+    Ok(())
 }
 
 // Writes the answer to one line: its path, and the type along it.

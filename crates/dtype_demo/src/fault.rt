@@ -7,6 +7,7 @@ ghost use Rattle.dtype_demo.specs.declared.fault.DemoFault.TheVariants.{OutOfMem
 use std::alloc::AllocError;
 use std::error::Error;
 use std::fmt;
+use vortex_dtype::VortexError;
 
 /// Why the program gave up.
 #[derive(Clone, Copy, Debug, PartialEq, Eq)]
@@ -45,6 +46,15 @@ impl From<AllocError> for DemoFault {
     ghost from_gives = { λ _ e. e ≡ OutOfMemory };
 
     fn from(_error: AllocError) -> DemoFault {
+        DemoFault::OutOfMemory
+    }
+}
+
+// What the program asks of the library is refused for want of memory alone.
+impl From<VortexError> for DemoFault {
+    ghost from_gives = { λ _ e. e ≡ OutOfMemory };
+
+    fn from(_error: VortexError) -> DemoFault {
         DemoFault::OutOfMemory
     }
 }

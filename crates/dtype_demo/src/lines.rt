@@ -1,23 +1,33 @@
 // SPDX-License-Identifier: Apache-2.0
 // SPDX-FileCopyrightText: Copyright the Vortex contributors
 
-ghost use Rattle.std.specs.Prelude.{◌≡◌, IfOk, IsOkUnless};
+ghost use Rattle.std.specs.Prelude.{◌≡◌, ◌<◌, ◌∷◌, length, IfOk, IsOkUnless};
 ghost use Rattle.vortex_dtype.specs.Types.VortexError.TheVariants.{OutOfMemory};
-ghost use Rattle.dtype_demo.specs.Lines.{part_of, parts_of};
+ghost use Rattle.dtype_demo.specs.Lines.{lines_of, part_of, parts_of};
 
 use std::alloc::Global;
 use vortex_dtype::{Field, FieldName, FieldPath, VortexResult};
+
+// The first line of a text that isn't empty, and what is behind its newline.
+pub fn first_line(text: &str) -> (&str, &str)
+    requires { 0 < length text.now }
+    ensures lines { lines_of text.now ≡ result.0.now ∷ lines_of result.1.now }
+    ensures shorter { length result.1.now < length text.now }
+{
+    text.split_once('\n').unwrap_or((text, ""))
+}
 
 // The path that a line means. Refuses 0 (OutOfMemory) alone.
 pub fn parse_line(alloc: Global, line: &str) -> VortexResult<FieldPath>
     ensures ok { IfOk result (λ p. p ≡ parts_of line.now) }
     ensures refused { IsOkUnless result OutOfMemory }
 {
+    if line.is_empty() {
+        return Ok(FieldPath::root(alloc));
+    }
     let mut parts = Vec::new(alloc);
-    if !line.is_empty() {
-        for part in line.split('.') {
-            parts.push(parse_part(alloc, part)?)?;
-        }
+    for part in line.split('.') {
+        parts.push(parse_part(alloc, part)?)?;
     }
     Ok(FieldPath::from_vec(parts))
 }

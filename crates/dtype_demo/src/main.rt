@@ -43,8 +43,9 @@ pub use fault::DemoFault;
 /// reads; then it tests the whole input for UTF-8, and only then does it write.
 ///
 /// `ReadFailed` is any error of the reader, `InputTooLong` a byte past the limit, `NotUtf8` an input
-/// that isn't UTF-8: with these nothing is written. `WriteFailed` is any error of the writer, and
-/// `OutOfMemory` a refused growth: what stands written then isn't said.
+/// that isn't UTF-8: with these nothing is written. `WriteFailed` is any error of the writer, so the
+/// input is a text within the limit, and `OutOfMemory` a refused growth: what stands written then isn't
+/// said.
 pub fn run<R: Read, W: Write>(
     alloc: Global,
     reader: &mut R,
@@ -63,13 +64,15 @@ pub fn run<R: Read, W: Write>(
         IfSome (R.remaining reader.old) (λ bytes. length bytes ≤ input_limit) }
     ensures unread { IsErrOf result DemoFault.ReadFailed →
         TakesAtMost input_limit (R.remaining reader.old) (R.remaining reader.new) }
+    ensures written_late { IsErrOf result DemoFault.WriteFailed →
+        IfSome (R.remaining reader.old) (λ bytes. (length bytes ≤ input_limit) × IsUtf8 bytes) }
     ensures unwritten { IfErr result (λ fault. BeforeWriting fault → writer.new ≡ writer.old) }
     ensures no_more { TakesAtMost (input_limit + 1)
         (R.remaining reader.old) (R.remaining reader.new) }
 {
     let bytes = read_all(alloc, reader)?;
     let text = str::from_utf8(&bytes).map_err(|_| DemoFault::NotUtf8)?;
-    let dtype = demo_dtype(alloc).map_err(|_| DemoFault::OutOfMemory)?;
+    let dtype = demo_dtype(alloc)?;
     write_answers(alloc, &dtype, text, writer)
 }
 

@@ -7,4 +7,4 @@ use Rattle.dtype_demo.proofs.lines.parse_line.Given as goal
 
 -- the parts so far, as steps
 abbrev pub invariant-loop-part : goal.invariant-loop-part
-invariant-loop-part l = l.parts.items ≡ map (λ part. part_of part.now) l.yielded
+invariant-loop-part l = l.parts.items ≡ map part_of (map (λ part. part.now) l.yielded)

@@ -2,7 +2,7 @@
 -- SPDX-FileCopyrightText: Copyright the Vortex contributors
 
 -- Decimal types and what stores their values. From the documentation of Vortex's `DecimalDType` and `DecimalType`.
-use Rattle.std.specs.Prelude.{◌≡◌, ℕ, ◌^◌, ◌<◌, ◌≤◌, ℤ, pos, neg_ℤ, ◌≤ℤ◌, ◌<ℤ◌, List, [], ◌∷◌, ◌++◌, codes, Option, Some, None, IsSomeAnd, find, nat_le}
+use Rattle.std.specs.Prelude.{◌≡◌, ℕ, ◌+◌, ◌*◌, ◌/◌, ◌^◌, ◌<◌, ◌≤◌, ℤ, pos, neg_ℤ, ◌≤ℤ◌, ◌<ℤ◌, List, [], ◌∷◌, ◌++◌, codes, Option, Some, None, IsSomeAnd, find, nat_le}
 use Rattle.std.specs.Fmt.{decimal, signed_decimal}
 use Rattle.dtype_base.specs.declared.ptype.PType.{PType}
 use Rattle.dtype_base.specs.declared.ptype.PType.TheVariants as primitives
@@ -41,6 +41,10 @@ IsDecimalRefusal max precision scale _ = ⊥
 pub record IsBitWidth (p b : ℕ) : Type 0 where
   pub enough : 10 ^ p ≤ 2 ^ b
   pub least : (c : ℕ) → c < b → 2 ^ c < 10 ^ p
+
+-- the bit width of a precision up to 76, to be computed: a digit takes some 3.322 bits
+abbrev pub bit_width : ℕ → ℕ
+bit_width p = p * 3322 / 1000 + 1
 
 -- as `decimal(10,-5)`
 abbrev pub decimal_text : Decimal → List ℕ

@@ -54,5 +54,5 @@ abbrev pub KeysTell : List (List ℕ) → List ℕ → List Place → ℕ → Ty
 KeysTell names n places key = All (λ p. p.key ≢ key → nat_cmp p.key key ≡ name_cmp names n p.position) places
 
 -- at most one more than the binary digits of n, of which 0 has none
-abbrev pub IsWithinDigits : ℕ → ℕ → Type 0
-IsWithinDigits n count = (digits : ℕ) → n < 2 ^ digits → count ≤ digits + 1
+pub record IsWithinDigits (n count : ℕ) : Type 0 where
+  pub most : (digits : ℕ) → n < 2 ^ digits → count ≤ digits + 1

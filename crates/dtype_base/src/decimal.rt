@@ -4,7 +4,7 @@
 ghost use Rattle.std.specs.Prelude.{◌≡◌, ◌↔◌, ◌<◌, ◌≤◌, IfOk, IfErr, IsOk, IsTrue, Some};
 ghost use Rattle.std.specs.Option.{ok_or};
 ghost use Rattle.dtype_base.specs.declared.vortex_error.VortexError.TheVariants.{NotDecimalPType};
-ghost use Rattle.dtype_base.specs.Decimals.{IsValidDecimal, IsDecimalWithin, IsDecimalRefusal, IsBitWidth, storage, smallest_storage, IsCompatible, storage_of};
+ghost use Rattle.dtype_base.specs.Decimals.{IsValidDecimal, IsDecimalWithin, IsDecimalRefusal, IsBitWidth, bit_width, storage, smallest_storage, IsCompatible, storage_of};
 
 use crate::{PType, VortexError, VortexResult};
 use std::fmt;
@@ -76,7 +76,8 @@ impl DecimalDType {
 
     /// The least number of bits with room for every number of that many digits: 4 to 253.
     pub fn required_bit_width(&self) -> usize
-        ensures { IsBitWidth self.now.precision result }
+        ensures least { IsBitWidth self.now.precision result }
+        ensures computed { result ≡ bit_width self.now.precision }
     {
         usize::from(BIT_WIDTHS[usize::from(self.precision) - 1])
     }

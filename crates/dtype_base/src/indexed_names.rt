@@ -2,7 +2,7 @@
 // SPDX-FileCopyrightText: Copyright the Vortex contributors
 
 ghost use Rattle.std.specs.Prelude.{◌≡◌, ◌≢◌, ◌↔◌, ℕ, ◌<◌, AllPairs, IsTrue, IfOk, IfSome, IfNone, IsOkUnless, length};
-ghost use Rattle.dtype_base.specs.FieldNames.{FirstAt, IsAbsent};
+ghost use Rattle.dtype_base.specs.FieldNames.{FirstAt, IsAbsent, first_place};
 ghost use Rattle.dtype_base.specs.NameOrder.{IsWithinDigits};
 ghost use Rattle.dtype_base.specs.declared.vortex_error.VortexError.TheVariants.{OutOfMemory};
 
@@ -65,6 +65,7 @@ impl IndexedNames {
 
     /// The first position of the name, or `None` where no name is equal to it. Takes no memory.
     pub fn find(&self, name: &str) -> Option<usize>
+        ensures first { result ≡ first_place self.now name.now }
         ensures found { IfSome result (FirstAt self.now name.now) }
         ensures none { IfNone result (IsAbsent self.now name.now) }
     {
@@ -73,6 +74,7 @@ impl IndexedNames {
 
     /// What `find` gives, and how many names it compared.
     pub fn find_counted(&self, name: &str) -> (Option<usize>, u64)
+        ensures first { result.0 ≡ first_place self.now name.now }
         ensures found { IfSome result.0 (FirstAt self.now name.now) }
         ensures none { IfNone result.0 (IsAbsent self.now name.now) }
         ensures most { IsWithinDigits (length self.now) result.1 }

@@ -2,8 +2,11 @@
 // SPDX-FileCopyrightText: Copyright the Vortex contributors
 
 // Laws of the definitions: each function does nothing, and its contract is the law.
-ghost use Rattle.std.specs.Prelude.{◌≡◌, ◌+◌, ◌-◌, ◌*◌, ◌^◌, ◌<◌, ◌≤◌, ℕ, ℤ, pos, codes};
+ghost use Rattle.std.specs.Prelude.{◌≡◌, ◌+◌, ◌-◌, ◌*◌, ◌^◌, ◌<◌, ◌≤◌, ℕ, ℤ, List, length, pos, codes};
+ghost use Rattle.std.specs.Iterator.{UpTo};
+ghost use Rattle.std.specs.Iterator.Runs.{YieldsInOrder, YieldsRefsInOrder};
 ghost use Rattle.std.specs.Ordering.{nat_cmp};
+ghost use Rattle.dtype_base.specs.NameOrder.{IsWithinDigits};
 ghost use Rattle.dtype_base.specs.Primitives.{primitive, Unsigned, Signed, IsNarrowest, HoldsUnsigned, HoldsSigned};
 ghost use Rattle.dtype_base.specs.Decimals.{storage, IsBitWidth};
 ghost use Rattle.dtype_base.specs.declared.nullability.Nullability.{Nullability};
@@ -12,7 +15,8 @@ ghost use Rattle.dtype_base.specs.declared.ptype.PType.{PType};
 ghost use Rattle.dtype_base.specs.declared.decimal.DecimalType.{DecimalType};
 
 use crate::{
-    DecimalType, MAX_PRECISION, MAX_SCALE, Nullability, PType, RESERVED_VALIDITY_FIELD_NAME,
+    DecimalType, FieldNamesIntoIter, FieldNamesIter, MAX_PRECISION, MAX_SCALE, Nullability, PType,
+    RESERVED_VALIDITY_FIELD_NAME,
 };
 
 /// The order of the primitive names is that of their numbers.
@@ -62,4 +66,22 @@ pub fn reserved_name_is_its_text()
 /// The default nullability is non-nullable.
 pub fn default_nullability_is_non_nullable()
     ensures { (n : Nullability) → ⟦<Nullability as Default>⟧.is_default n → n ≡ NonNullable }
+{}
+
+/// A lookup among fewer names than 2 ^ `digits` compares at most `digits + 1` of them.
+pub fn lookups_are_within_digits(digits: u32)
+    ensures { (n count : ℕ) → IsWithinDigits n count → n < 2 ^ digits → count ≤ digits + 1 }
+{
+    let _ = digits;
+}
+
+/// The names of a list come in order, lent or given up: calls of `next` give the first of those that are
+/// left, and all of them before `None`, which comes after so many items as `len` announces.
+pub fn names_are_given_in_order()
+    ensures lent { YieldsRefsInOrder ⟦<FieldNamesIter<'static> as Iterator>⟧.next_gives (λ left. left) }
+    ensures lent_end { (left : List (List ℕ))
+        → UpTo (⟦<FieldNamesIter<'static> as Iterator>⟧.remaining left) (length left) }
+    ensures given_up { YieldsInOrder ⟦<FieldNamesIntoIter as Iterator>⟧.next_gives (λ left. left) }
+    ensures given_up_end { (left : List (List ℕ))
+        → UpTo (⟦<FieldNamesIntoIter as Iterator>⟧.remaining left) (length left) }
 {}

@@ -1,0 +1,17 @@
+-- SPDX-License-Identifier: Apache-2.0
+-- SPDX-FileCopyrightText: Copyright the Vortex contributors
+
+use Rattle.std.proofs.Common.{ap, ◌∙◌}
+use Rattle.dtype_base.specs.FieldNames.{first_place}
+use Rattle.dtype_base.specs.Places.{place_found}
+use Rattle.dtype_base.proofs.indexed_names.IndexedNames.find_counted.Goals as goal
+
+pub returns-then-len-le-FEW-clause-first : goal.returns-then-len-le-FEW-clause-first
+returns-then-len-le-FEW-clause-first c =
+    place_found c.self.inside.names c.args.name.now c.scan.result.0 c.scan.ensures.found c.scan.ensures.none
+    ∙ ap (λ names. first_place names c.args.name.now) c.self.view_is
+
+pub returns-clause-first : goal.returns-clause-first
+returns-clause-first c =
+    place_found c.as_slice.result.now c.args.name.now c.search.result.0 c.search.ensures.found c.search.ensures.none
+    ∙ ap (λ names. first_place names c.args.name.now) (c.as_slice.ensures ∙ c.self.view_is)

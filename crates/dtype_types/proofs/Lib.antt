@@ -26,6 +26,7 @@ pub mod IndentedTexts
 pub mod SettingLaws
 pub mod TagLaws
 pub mod SubLaws
+pub mod SetSub
 pub mod SubValues
 pub mod SubTest
 pub mod TellLaws

@@ -2,7 +2,7 @@
 -- SPDX-FileCopyrightText: Copyright the Vortex contributors
 
 -- Looking up one name after another.
-use Rattle.std.proofs.Common.{Bool, true, false, cond, ◌≡◌, ◌≢◌, ℕ, zero, suc, ◌+◌, ◌<◌, List, [], ◌∷◌, ◌++◌, length, map, take, get_or, Option, Some, None, IfSome, IfNone, option_and_then, slice_get, refl, sym, ap, ◌∙◌, arith}
+use Rattle.std.proofs.Common.{Bool, true, false, cond, ◌≡◌, ◌≢◌, ℕ, zero, suc, ◌+◌, ◌<◌, List, [], ◌∷◌, ◌++◌, length, map, take, get_or, Option, Some, None, IsSome, IfSome, IfNone, option_and_then, slice_get, refl, sym, ap, subst, ◌∙◌, arith}
 use Rattle.std.proofs.lemmas.List.{map_push, take_more}
 use Rattle.std.proofs.lemmas.Bool.{false≢true}
 use Rattle.std.proofs.lemmas.List.Elements.{recursion_from_All}
@@ -13,8 +13,12 @@ use Rattle.std.specs.Str.{bytes_eq}
 use Rattle.dtype_base.specs.FieldNames.{FirstAt, IsAbsent, first_place}
 use Rattle.dtype_base.specs.Places.{place_found}
 use Rattle.dtype_types.proofs.FieldLookups.{same_name, other_name}
+use Rattle.dtype_types.proofs.Parts.{names_shown}
+use Rattle.dtype_types.specs.Lists.{firsts}
 use Rattle.dtype_types.specs.Lookups.{first_named, field_names, field_types, Projects, IsFirstUnknown}
 use Rattle.dtype_types.specs.Tree.{Tree}
+use Rattle.dtype_types.specs.TreeOf.{with_trees}
+use Rattle.dtype_types.specs.declared.dtype.DType.{DType}
 
 -- the field at the first position of a name is the first of that name
 pub field_at : (ps : List (List ℕ × Tree)) (n : List ℕ) (i : ℕ) (p : List ℕ × Tree) → i < length ps → p ≡ get_or ps i p → FirstAt (field_names ps) n i → (p.0 ≡ n) × (first_named ps n ≡ Some p.1)
@@ -68,6 +72,15 @@ known_names fs (m ∷ ms) (g ∷ gs) e zero n here none =
 known_names fs (m ∷ ms) (g ∷ gs) e (suc k) n here none =
     let tail : map (λ (p : List ℕ × Tree). Some p.1) gs ≡ map (first_named fs) ms = cc in known_names fs ms gs tail k n here none
 
+-- a field has each of them
+pub all_known : (fs : List (List ℕ × Tree)) (ms : List (List ℕ)) (gs : List (List ℕ × Tree)) → map (λ (p : List ℕ × Tree). Some p.1) gs ≡ map (first_named fs) ms → AllByRecursion (λ n. IsSome (first_named fs n)) ms
+all_known fs [] gs e = tt
+all_known fs (m ∷ ms) [] e = cc
+all_known fs (m ∷ ms) (g ∷ gs) e =
+    let head : Some g.1 ≡ first_named fs m = cc in
+    let tail : map (λ (p : List ℕ × Tree). Some p.1) gs ≡ map (first_named fs) ms = cc in
+    (subst (λ o. IsSome o) head refl, all_known fs ms gs tail)
+
 pub slice_get_take : {X : Type 0} (xs : List X) (j k : ℕ) (x : X) → k < j → slice_get xs k ≡ Some x → slice_get (take j xs) k ≡ Some x
 slice_get_take [] zero k x h e = absurd (omega arith)
 slice_get_take [] (suc j) k x h e = e
@@ -105,10 +118,18 @@ projected_alike fs names gs p =
     recursion_from_All (λ n. first_named gs n ≡ first_named fs n) names
     (λ k d h. leads_alike fs gs types (get_or names k d) k (ap (λ ns. slice_get ns k) p.names_are ∙ slice_get-get_or names k d h))
 
--- an answer that is the first position of the name, or none where no field has it
-pub place_named : (ps : List (List ℕ × Tree)) (n : List ℕ) (r : Option ℕ) → IfSome r (FirstAt (field_names ps) n) → IfNone r (IsAbsent (field_names ps) n) → r ≡ first_place (field_names ps) n
-place_named ps n r some none = place_found (field_names ps) n r some none
-
-pub type_found : (ps : List (List ℕ × Tree)) (n : List ℕ) (r : Option ℕ) → IfSome r (FirstAt (field_names ps) n) → IfNone r (IsAbsent (field_names ps) n) → option_and_then (λ i. slice_get (field_types ps) i) r ≡ first_named ps n
+-- what stands at an answer that is the first position of the name, or none where no field has it
+type_found : (ps : List (List ℕ × Tree)) (n : List ℕ) (r : Option ℕ) → IfSome r (FirstAt (field_names ps) n) → IfNone r (IsAbsent (field_names ps) n) → option_and_then (λ i. slice_get (field_types ps) i) r ≡ first_named ps n
 type_found ps n None some none = sym (absent_none ps n none)
 type_found ps n (Some i) some none = sym (type_at ps n i some)
+
+-- the same of the pairs that a struct holds
+module _ (lent ps : List (List ℕ × DType)) (is : lent ≡ ps) (n : List ℕ) (r : Option ℕ) (some : IfSome r (FirstAt (firsts lent) n)) (none : IfNone r (IsAbsent (firsts lent) n)) where
+  shown : field_names (with_trees ps) ≡ firsts lent
+  shown = names_shown ps ∙ ap firsts (sym is)
+
+  pub place_held : r ≡ first_place (field_names (with_trees ps)) n
+  place_held = place_found (firsts lent) n r some none ∙ ap (λ ns. first_place ns n) (sym shown)
+
+  pub type_held : option_and_then (λ i. slice_get (field_types (with_trees ps)) i) r ≡ first_named (with_trees ps) n
+  type_held = type_found (with_trees ps) n r (subst (λ ns. IfSome r (FirstAt ns n)) (sym shown) some) (subst (λ ns. IfNone r (IsAbsent ns n)) (sym shown) none)

@@ -15,7 +15,7 @@ use Rattle.dtype_types.specs.Nullable.{CanBeNonNullable, SetNull, nullability, s
 use Rattle.dtype_types.specs.Tree.{Tree, null, bool, primitive, decimal, utf8, binary, list, fixed_size_list, map_of, struct, union, variant, extension}
 
 -- what holds of an extension whose storage was set, if it holds of the storage's storage
-by_storage : (P : Tree → Type 0) (i b : List ℕ) (o : Option Tree) (u : Tree) → option_and_then (λ x. Some (extension i b x)) o ≡ Some u → ((x : Tree) → o ≡ Some x → P (extension i b x)) → P u
+pub by_storage : (P : Tree → Type 0) (i b : List ℕ) (o : Option Tree) (u : Tree) → option_and_then (λ x. Some (extension i b x)) o ≡ Some u → ((x : Tree) → o ≡ Some x → P (extension i b x)) → P u
 by_storage P i b None u e h = cc
 by_storage P i b (Some x) u e h = subst P (same_Some (extension i b x) u e) (h x refl)
 

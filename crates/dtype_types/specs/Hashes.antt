@@ -13,11 +13,21 @@ use Rattle.dtype_base.specs.declared.nullability.Nullability.TheVariants.{NonNul
 use Rattle.dtype_types.specs.Kinds.{kind_number}
 use Rattle.dtype_types.specs.declared.dtype.kinds.Kind.TheVariants as kind
 use Rattle.dtype_types.specs.declared.dtype.hash.Hashed.{Hashed}
-use Rattle.dtype_types.specs.declared.dtype.hash.Hashed.TheVariants.{Whole, Erased}
+use Rattle.dtype_types.specs.declared.dtype.hash.Hashed.TheVariants as hashed
 use Rattle.dtype_types.specs.Tree.{Tree, Fields, no_fields, field, Variants, no_variants, choice, null, bool, primitive, decimal, utf8, binary, list, fixed_size_list, map_of, struct, union, variant, extension}
 
+-- what of a type a hasher is fed: all of it, or the type with every nullability forgotten
+pub data Part : Type 0 where
+  Whole : Part
+  Erased : Part
+
+-- which of these the walk is told
+abbrev pub part_of : Hashed → Part
+part_of hashed.Whole = Whole
+part_of hashed.Erased = Erased
+
 -- a nullability, or nothing where nullabilities are forgotten
-abbrev pub nullability_writes : Hashed → Nullability → HashWrites
+abbrev pub nullability_writes : Part → Nullability → HashWrites
 nullability_writes Erased n = []
 nullability_writes Whole NonNullable = fed.u8 0
 nullability_writes Whole Nullable = fed.u8 1
@@ -32,7 +42,7 @@ variant_count no_variants = 0
 variant_count (choice n t g rest) = suc (variant_count rest)
 
 abbrev mutual
-  pub hash_of : Hashed → Tree → HashWrites
+  pub hash_of : Part → Tree → HashWrites
   hash_of s null = fed.u8 (kind_number kind.Null)
   hash_of s (bool n) = fed.u8 (kind_number kind.Bool) ++ nullability_writes s n
   hash_of s (primitive p n) = fed.u8 (kind_number kind.Primitive) ++ (fed.u8 (row p).number ++ nullability_writes s n)
@@ -48,12 +58,12 @@ abbrev mutual
   hash_of s (extension id b t) = fed.u8 (kind_number kind.Extension) ++ (fed.str id ++ (fed.slice fed.u8 b ++ hash_of s t))
 
   -- each field: its name and its type
-  pub field_writes : Hashed → Fields → HashWrites
+  pub field_writes : Part → Fields → HashWrites
   field_writes s no_fields = []
   field_writes s (field n t rest) = fed.str n ++ (hash_of s t ++ field_writes s rest)
 
   -- each variant: its name, its type and its tag
-  pub variant_writes : Hashed → Variants → HashWrites
+  pub variant_writes : Part → Variants → HashWrites
   variant_writes s no_variants = []
   variant_writes s (choice n t g rest) = fed.str n ++ (hash_of s t ++ (fed.u8 g ++ variant_writes s rest))
 

@@ -117,6 +117,7 @@ impl ExtDTypeRef {
     ghost use Rattle.dtype_types.specs.Equality.{agree};
     ghost use Rattle.dtype_types.specs.Erase.{erase};
     ghost use Rattle.dtype_types.specs.IsValid.{IsValid, IsValidExtension};
+    ghost use Rattle.dtype_types.specs.Hashes.{part_of};
     ghost use Rattle.dtype_types.specs.HashesOf.{extension_writes};
     ghost use Rattle.dtype_types.specs.TreeOf.{extension_tree, extension_metadata, extension_id, storage_tree, tree};
     ghost use Rattle.dtype_types.specs.Width.{Measures};
@@ -181,7 +182,7 @@ impl ExtDTypeRef {
 
     /// What prints how many bytes of metadata there are.
     pub fn display_metadata(&self) -> MetadataDisplay<'_>
-        ensures { result.bytes.now ≡ extension_metadata self.now }
+        ensures { result ≡ extension_metadata self.now }
     {
         MetadataDisplay {
             bytes: &self.metadata,
@@ -234,7 +235,7 @@ impl ExtDTypeRef {
     // Feeds a hasher the id, the metadata and the storage.
     #[cycle(hash)]
     pub(crate) fn feed<H: Hasher>(&self, rule: Hashed, state: &mut H)
-        ensures { state.new ≡ fold H.write state.old (extension_writes rule self.now) }
+        ensures { state.new ≡ fold H.write state.old (extension_writes (part_of rule) self.now) }
     {
         self.id.hash(state);
         self.metadata.hash(state);
@@ -329,7 +330,7 @@ impl Eq for ExtDTypeRef {
 impl Hash for ExtDTypeRef {
     ghost use Rattle.dtype_types.specs.HashLaws.{extension_fed};
     ghost use Rattle.dtype_types.specs.HashesOf.{extension_writes};
-    ghost use Rattle.dtype_types.specs.declared.dtype.hash.Hashed.TheVariants.{Whole};
+    ghost use Rattle.dtype_types.specs.Hashes.{Whole};
 
     ghost hash_input = { extension_writes Whole };
 
@@ -347,17 +348,23 @@ fn check_bytes(bytes: &[u8])
     let _ = bytes;
 }
 
-/// How many bytes of metadata an extension has, to be printed.
+/// How many bytes of metadata an extension has, to be printed, seen as the metadata.
 #[derive(Debug, Drop)]
 pub struct MetadataDisplay<'a> {
     bytes: &'a [u8],
+}
+
+impl<'a> Model for MetadataDisplay<'a> {
+    ghost Value = { List ℕ };
+
+    ghost view = { λ m. m.bytes.now };
 }
 
 /// The number of bytes and `B`.
 impl fmt::Display for MetadataDisplay<'_> {
     ghost use Rattle.dtype_types.specs.Text.{metadata_text};
 
-    ghost output = { λ m. Some (metadata_text m.bytes.now) };
+    ghost output = { λ m. Some (metadata_text m) };
 
     fn fmt<W: fmt::Write>(&self, f: &mut fmt::Formatter<W>) -> fmt::Result {
         let count = self.bytes.len();

@@ -3,11 +3,14 @@
 
 // What follows from the definitions of types alone. Each function's contract is the law; one gives the
 // constant that its law is on, and every other body is empty.
-ghost use Rattle.std.specs.Prelude.{◌≡◌, ◌↔◌, None};
+ghost use Rattle.std.specs.Prelude.{◌≡◌, ◌↔◌, ℕ, List, None, length};
+ghost use Rattle.std.specs.Iterator.{UpTo};
+ghost use Rattle.std.specs.Iterator.Runs.{EveryRun, ItemsMapTo, YieldsRefsInOrder};
 ghost use Rattle.dtype_base.specs.declared.nullability.Nullability.{Nullability};
 ghost use Rattle.dtype_base.specs.declared.nullability.Nullability.TheVariants.{NonNullable, Nullable};
 ghost use Rattle.dtype_base.specs.declared.ptype.PType.TheVariants.{U8};
 ghost use Rattle.dtype_types.specs.Laws.{EqualTypesFeedAlike, IsAntisymmetric, IsReflexive, IsTransitive, LastSetNullDecides, SameIgnoring, SameIgnoringFeedAlike, SetNullKeepsErase, SetNullSets, TagsTellPositions};
+ghost use Rattle.dtype_types.specs.Lists.{lent_pair, lent_triple};
 ghost use Rattle.dtype_types.specs.Nullable.{IsNullable, SetNull};
 ghost use Rattle.dtype_types.specs.Sample.{sample};
 ghost use Rattle.dtype_types.specs.Sub.{Sub};
@@ -17,13 +20,13 @@ ghost use Rattle.dtype_types.specs.Value.{AddsNull, IncludedIn, Of, null_value};
 ghost use Rattle.dtype_types.specs.IsValid.{IsValid, IsValidExtension, IsValidMap, IsValidStruct, IsValidUnion};
 ghost use Rattle.dtype_types.specs.Tree.{Tree, primitive};
 ghost use Rattle.dtype_types.specs.TreeOf.{tree};
-ghost use Rattle.dtype_types.specs.declared.dtype.DType.{Extension, Map, Struct, Union};
+ghost use Rattle.dtype_types.specs.declared.dtype.DType.{DType, Extension, Map, Struct, Union};
 ghost use Rattle.dtype_types.specs.declared.extension.ExtDTypeRef.{ExtDTypeRef};
 ghost use Rattle.dtype_types.specs.declared.map.MapDType.{MapDType};
 ghost use Rattle.dtype_types.specs.declared.struct_fields.StructFields.{StructFields};
 ghost use Rattle.dtype_types.specs.declared.union_variants.UnionVariants.{UnionVariants};
 
-use crate::DType;
+use crate::{DType, DTypeIter, FieldIter, VariantIter};
 
 /// Types that are equal feed every hasher alike.
 #[tactic(auto, using(crate::specs::HashLaws::dtype_fed))]
@@ -98,6 +101,14 @@ pub fn sub_is_an_order()
     ensures antisymmetric { IsAntisymmetric Sub }
 {}
 
+/// A type is below the type made nullable, the type made non-nullable is below it, and what is above a
+/// nullable type is nullable.
+pub fn setting_nullability_goes_along_the_order()
+    ensures below_nullable { (t u : Tree) → SetNull t Nullable u → Sub t u }
+    ensures above_non_nullable { (t u : Tree) → SetNull t NonNullable u → Sub u t }
+    ensures above_nullable { (t u : Tree) → Sub t u → IsNullable t → IsNullable u }
+{}
+
 /// Each value of a type is a value of every type that it is below.
 #[tactic(auto, using(crate::proofs::SubValues::sub_values))]
 pub fn values_of_what_is_below_are_values()
@@ -137,3 +148,19 @@ pub fn bytes_are_non_nullable_u8() -> DType
 {
     DType::BYTES
 }
+
+/// Lent types, fields and variants come in order: calls of `next` give the first of those that are left,
+/// and all of them before `None`, which comes after so many items as `len` announces.
+pub fn parts_are_given_in_order()
+    ensures types { YieldsRefsInOrder ⟦<DTypeIter<'static> as Iterator>⟧.next_gives (λ left. left) }
+    ensures types_end { (left : List DType)
+        → UpTo (⟦<DTypeIter<'static> as Iterator>⟧.remaining left) (length left) }
+    ensures fields { EveryRun ⟦<FieldIter<'static> as Iterator>⟧.next_gives
+        (λ run. ItemsMapTo run lent_pair run.from) }
+    ensures fields_end { (left : List (List ℕ × DType))
+        → UpTo (⟦<FieldIter<'static> as Iterator>⟧.remaining left) (length left) }
+    ensures variants { EveryRun ⟦<VariantIter<'static> as Iterator>⟧.next_gives
+        (λ run. ItemsMapTo run lent_triple run.from) }
+    ensures variants_end { (left : List (List ℕ × (DType × ℕ)))
+        → UpTo (⟦<VariantIter<'static> as Iterator>⟧.remaining left) (length left) }
+{}

@@ -1,7 +1,7 @@
 // SPDX-License-Identifier: Apache-2.0
 // SPDX-FileCopyrightText: Copyright the Vortex contributors
 
-ghost use Rattle.std.specs.Prelude.{◌≡◌, ◌↔◌, IsTrue, ◌<◌, ◌++◌, ◌∷◌, ℕ, List, [], slice_index_or, length, map, remove, vec_len, All, IfOk, IfErr, IfSome, IsOk, IsOkUnless, slice_get, IfNone, Some, fold, OnOk, string_bytes, option_and_then};
+ghost use Rattle.std.specs.Prelude.{◌≡◌, ◌↔◌, IsTrue, ◌<◌, ◌++◌, ◌∷◌, ℕ, List, [], slice_index_or, length, map, remove, vec_len, All, IfOk, IfErr, IfSome, IsOk, IsOkUnless, IsSome, slice_get, IfNone, Some, fold, OnOk, string_bytes, option_and_then};
 ghost use Rattle.std.specs.Iterator.{IsFinite};
 ghost use Rattle.std.specs.List.{AllByRecursion, zip};
 ghost use Rattle.std.specs.Option.{option_copied};
@@ -42,6 +42,7 @@ impl StructFields {
     ghost use Rattle.dtype_types.specs.IndentedText.{indented_text, indented_braces};
     ghost use Rattle.dtype_types.specs.Lookups.{first_named, field_names, field_types, Projects, ProjectionRefusal, MergeRefusal, RemovalRefusal};
     ghost use Rattle.dtype_types.specs.Distinct.{Distinct};
+    ghost use Rattle.dtype_types.specs.Hashes.{part_of};
     ghost use Rattle.dtype_types.specs.HashesOf.{struct_writes};
     ghost use Rattle.dtype_types.specs.Tree.{Tree};
     ghost use Rattle.dtype_types.specs.TreeOf.{struct_tree, struct_names, struct_dtypes, struct_pairs, struct_types, children, tree, option_tree, with_trees};
@@ -168,6 +169,9 @@ impl StructFields {
     /// digits of the number of fields, of which 0 has none. Takes no memory.
     #[tactic(auto, using(crate::proofs::Parts::fields))]
     pub fn find_counted(&self, name: &str) -> (Option<usize>, u64)
+        ensures first { result.0 ≡ first_place (field_names (children self.now)) name.now }
+        ensures field { option_and_then (slice_get (field_types (children self.now))) result.0
+            ≡ first_named (children self.now) name.now }
         ensures found { IfSome result.0 (FirstAt (field_names (children self.now)) name.now) }
         ensures none { IfNone result.0 (IsAbsent (field_names (children self.now)) name.now) }
         ensures most { IsWithinDigits (length (children self.now)) result.1 }
@@ -254,7 +258,7 @@ impl StructFields {
     // Feeds a hasher how many fields there are, and each field.
     #[cycle(hash)]
     pub(crate) fn feed<H: Hasher>(&self, rule: Hashed, state: &mut H)
-        ensures { state.new ≡ fold H.write state.old (struct_writes rule self.now) }
+        ensures { state.new ≡ fold H.write state.old (struct_writes (part_of rule) self.now) }
     {
         state.write_usize(self.nfields());
         for (name, dtype) in self.pairs() {
@@ -271,6 +275,8 @@ impl StructFields {
             (λ s. Projects (children self.now) projection.now (children s)) }
         ensures each { IfOk result (λ s. AllByRecursion
             (λ n. first_named (children s) n ≡ first_named (children self.now) n) projection.now) }
+        ensures there { IsOk result → AllByRecursion
+            (λ n. IsSome (first_named (children self.now) n)) projection.now }
         ensures valid { IsValidStruct self.now → IfOk result IsValidStruct }
         ensures refused { IfErr result (ProjectionRefusal (children self.now) projection.now) }
     {
@@ -434,7 +440,7 @@ impl Eq for StructFields {
 impl Hash for StructFields {
     ghost use Rattle.dtype_types.specs.HashLaws.{struct_fed};
     ghost use Rattle.dtype_types.specs.HashesOf.{struct_writes};
-    ghost use Rattle.dtype_types.specs.declared.dtype.hash.Hashed.TheVariants.{Whole};
+    ghost use Rattle.dtype_types.specs.Hashes.{Whole};
 
     ghost hash_input = { struct_writes Whole };
 

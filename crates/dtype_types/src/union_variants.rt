@@ -83,6 +83,7 @@ impl UnionVariants {
     ghost use Rattle.dtype_types.specs.Equality.{agree_variants};
     ghost use Rattle.dtype_types.specs.Erase.{erase_variants};
     ghost use Rattle.dtype_types.specs.Lookups.{variant_named, variant_types};
+    ghost use Rattle.dtype_types.specs.Hashes.{part_of};
     ghost use Rattle.dtype_types.specs.HashesOf.{union_writes};
     ghost use Rattle.dtype_types.specs.Text.{consecutive};
     ghost use Rattle.dtype_types.specs.TreeOf.{tree, option_tree, union_tree, choices, union_names, union_dtypes, union_triples, union_types, union_tags, with_tagged_trees, zip_tagged};
@@ -294,7 +295,7 @@ impl UnionVariants {
     // Feeds a hasher how many variants there are, and each variant.
     #[cycle(hash)]
     pub(crate) fn feed<H: Hasher>(&self, rule: Hashed, state: &mut H)
-        ensures { state.new ≡ fold H.write state.old (union_writes rule self.now) }
+        ensures { state.new ≡ fold H.write state.old (union_writes (part_of rule) self.now) }
     {
         state.write_usize(self.len());
         for (name, tag, dtype) in self.triples() {
@@ -359,7 +360,7 @@ impl Eq for UnionVariants {
 impl Hash for UnionVariants {
     ghost use Rattle.dtype_types.specs.HashLaws.{union_fed};
     ghost use Rattle.dtype_types.specs.HashesOf.{union_writes};
-    ghost use Rattle.dtype_types.specs.declared.dtype.hash.Hashed.TheVariants.{Whole};
+    ghost use Rattle.dtype_types.specs.Hashes.{Whole};
 
     ghost hash_input = { union_writes Whole };
 

@@ -2,9 +2,10 @@
 // SPDX-FileCopyrightText: Copyright the Vortex contributors
 
 // Lookups of fields, by name and by position.
-ghost use Rattle.std.specs.Prelude.{◌≡◌, ◌<◌, Some, IfOk, length};
+ghost use Rattle.std.specs.Prelude.{◌≡◌, ◌<◌, ◌≤◌, Some, IfOk, length, true};
 ghost use Rattle.std.specs.Option.{option_map};
-ghost use Rattle.dtype_types.specs.Lookups.{first_named};
+ghost use Rattle.dtype_base.specs.FieldNames.{first_place};
+ghost use Rattle.dtype_types.specs.Lookups.{field_names, first_named};
 ghost use Rattle.dtype_types.specs.Nullable.{nullability};
 ghost use Rattle.dtype_types.specs.TreeOf.{children, option_tree};
 
@@ -26,6 +27,24 @@ pub fn field_by_find<'a>(fields: &'a StructFields, name: &str) -> Option<&'a DTy
 {
     let index = fields.find(name)?;
     fields.field_by_index(index)
+}
+
+/// Whether a counted lookup gives the place that `find` does.
+pub fn counted_place_is_found_place(fields: &StructFields, name: &str) -> bool
+    ensures { result ≡ true }
+{
+    fields.find_counted(name).0 == fields.find(name)
+}
+
+/// The place of the first field of the name, of at most 1,000 fields, and how many of their names were
+/// compared for it.
+pub fn place_among_a_thousand(fields: &StructFields, name: &str) -> (Option<usize>, u64)
+    requires { length (children fields.now) ≤ 1000 }
+    ensures place { result.0 ≡ first_place (field_names (children fields.now)) name.now }
+    ensures few { result.1 ≤ 11 }
+{
+    dtype_base::laws::lookups_are_within_digits(10);
+    fields.find_counted(name)
 }
 
 /// The place of the second of two names.
@@ -51,4 +70,18 @@ pub fn nullability_when_projected(
         Some(dtype) => Ok(Some(dtype.nullability())),
         None => Ok(None),
     }
+}
+
+/// Whether a projection to one name has a field of it: it has, since it would be refused else.
+pub fn has_what_it_was_projected_to(
+    fields: &StructFields,
+    alloc: Global,
+    name: &FieldName,
+) -> VortexResult<bool>
+    ensures { IfOk result (λ has. has ≡ true) }
+{
+    let name_alone = name.try_clone(alloc)?;
+    let projection = vec![in alloc; name_alone]?;
+    let projected = fields.project(alloc, &projection)?;
+    Ok(projected.field(name.as_str()).is_some())
 }

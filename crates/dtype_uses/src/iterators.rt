@@ -1,11 +1,12 @@
 // SPDX-License-Identifier: Apache-2.0
 // SPDX-FileCopyrightText: Copyright the Vortex contributors
 
-// Iterators end, and give as many items as they announced.
-ghost use Rattle.std.specs.Prelude.{◌≡◌, true};
+// Iterators end, and give as many items as they announced, one after another.
+ghost use Rattle.std.specs.Prelude.{◌≡◌, IfOk, map, true};
 
-use dtype_base::FieldNames;
+use dtype_base::{FieldName, FieldNames, VortexResult};
 use dtype_types::{StructFields, UnionVariants};
+use std::alloc::Global;
 
 /// The types of fields.
 pub fn fields_give_what_they_announce(fields: &StructFields) -> bool
@@ -41,4 +42,18 @@ pub fn names_give_what_they_announce(names: FieldNames) -> bool
     let given = names.into_iter();
     let announced = given.len();
     given.count() == announced
+}
+
+/// Names, lent, as a list.
+pub fn lent_names_collected(alloc: Global, names: &FieldNames) -> VortexResult<Vec<&FieldName>>
+    ensures { IfOk result (λ list. map (λ n. n.now) list.items ≡ names.now) }
+{
+    Ok(names.iter().collect(alloc)?)
+}
+
+/// Names, given up, as a list.
+pub fn names_collected(alloc: Global, names: FieldNames) -> VortexResult<Vec<FieldName>>
+    ensures { IfOk result (λ list. list.items ≡ names) }
+{
+    Ok(names.into_iter().collect(alloc)?)
 }

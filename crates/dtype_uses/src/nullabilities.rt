@@ -2,9 +2,10 @@
 // SPDX-FileCopyrightText: Copyright the Vortex contributors
 
 // Nullability set, and set again.
-ghost use Rattle.std.specs.Prelude.{◌≡◌, IfOk};
+ghost use Rattle.std.specs.Prelude.{◌≡◌, IfOk, true};
 ghost use Rattle.dtype_base.specs.declared.nullability.Nullability.TheVariants.{NonNullable};
-ghost use Rattle.dtype_types.specs.Nullable.{CanBeNonNullable, SetNull, nullability};
+ghost use Rattle.dtype_types.specs.Nullable.{CanBeNonNullable, IsNullable, SetNull, nullability};
+ghost use Rattle.dtype_types.specs.Sub.{Sub};
 ghost use Rattle.dtype_types.specs.TreeOf.{tree};
 
 use dtype_base::{Nullability, VortexResult};
@@ -33,4 +34,14 @@ pub fn set_twice(
     dtype
         .with_nullability(alloc, first)?
         .with_nullability(alloc, last)
+}
+
+/// Whether a type is nullable that is above a nullable one.
+pub fn is_nullable_above(dtype: &DType, above: &DType) -> bool
+    requires nullable { IsNullable (tree dtype.now) }
+    requires above { Sub (tree dtype.now) (tree above.now) }
+    ensures { result ≡ true }
+{
+    dtype_types::laws::setting_nullability_goes_along_the_order();
+    above.is_nullable()
 }

@@ -4,7 +4,7 @@
 // Names of numbers, and their bytes.
 ghost use Rattle.std.specs.Prelude.{◌≡◌};
 
-use dtype_base::PType;
+use dtype_base::{DecimalDType, PType};
 use dtype_native::ToBytes;
 
 /// The name of the offsets of 257 items.
@@ -20,4 +20,11 @@ pub fn count_of_bytes(number: u32) -> usize
 {
     let bytes = ToBytes::to_le_bytes(&number);
     u32::bytes_of(&bytes).len()
+}
+
+/// How many bits a number of 38 digits takes.
+pub fn bits_of_38_digits() -> usize
+    ensures { result ≡ 127 }
+{
+    DecimalDType::new(38, 10).required_bit_width()
 }

@@ -2,17 +2,20 @@
 // SPDX-FileCopyrightText: Copyright the Vortex contributors
 
 //! A reader of columns: what is asked of it, and what it opens for that.
-ghost use Rattle.std.specs.Prelude.{◌≡◌, ◌↔◌, ◌+◌, ◌≤◌, IfOk, IsTrue, List, OnOk, is_some, length, map};
+ghost use Rattle.std.specs.Prelude.{◌≡◌, ◌↔◌, ◌+◌, ◌++◌, ◌≤◌, IfOk, IsTrue, List, OnOk, is_some, length, map};
 ghost use Rattle.std.specs.List.{Contains, sum_by};
 ghost use Rattle.std.specs.Vec.Iter.{into_iter_items};
 ghost use Rattle.dtype_types.specs.TreeOf.{tree};
 ghost use Rattle.dtype_paths.specs.Along.{along};
-ghost use Rattle.dtype_paths.specs.Cover.{Covers, IsCover, Least};
+ghost use Rattle.dtype_paths.specs.Cover.{Covers, IsCover, Least, SameCoverage};
 ghost use Rattle.dtype_paths.specs.PathSets.{Gains, SameMembers};
 ghost use Rattle.dtype_paths.specs.declared.field.Field.{Field};
 
 use dtype_base::VortexResult;
-use dtype_paths::laws::{being_within_is_an_order, covers_of_the_same_have_the_same_members};
+use dtype_paths::laws::{
+    being_within_is_an_order, covers_of_the_same_have_the_same_members,
+    two_covers_together_cover_what_both_lists_cover,
+};
 use dtype_paths::{FieldPath, FieldPathSet};
 use dtype_types::DType;
 use std::alloc::Global;
@@ -59,6 +62,19 @@ pub fn ask_for_all(asked: &mut FieldPathSet, columns: Vec<FieldPath>) -> VortexR
     asked.extend(columns)
 }
 
+/// Whether a path that was asked for still is, once more columns are asked for: it always is.
+pub fn stays_there(
+    asked: &mut FieldPathSet,
+    columns: Vec<FieldPath>,
+    path: &FieldPath,
+) -> VortexResult<bool>
+    requires { Contains asked.old path.now }
+    ensures { IfOk result (λ b. IsTrue b) }
+{
+    asked.extend(columns)?;
+    Ok(asked.contains(path))
+}
+
 /// Whether a query asks for a column.
 pub fn asks_for(alloc: Global, columns: Vec<FieldPath>, column: &FieldPath) -> VortexResult<bool>
     ensures { IfOk result (λ b. IsTrue b ↔ Contains columns.items column.now) }
@@ -100,6 +116,20 @@ pub fn cover_of_query(
     ensures { IfOk result (λ r. Covers (into_iter_items r) column.now) }
 {
     FieldPathSet::from_iter(alloc, columns)?.into_iter()
+}
+
+/// The columns to open for each of two sets: together they cover what either asks for.
+pub fn covers_of_each(
+    asked: FieldPathSet,
+    other: FieldPathSet,
+) -> VortexResult<(vec::IntoIter<FieldPath>, vec::IntoIter<FieldPath>)>
+    ensures { IfOk result (λ r.
+        SameCoverage (into_iter_items r.0 ++ into_iter_items r.1) (asked ++ other)) }
+{
+    let first = asked.into_iter()?;
+    let second = other.into_iter()?;
+    two_covers_together_cover_what_both_lists_cover();
+    Ok((first, second))
 }
 
 /// How often a cover looks: once at least, and at most once more than its paths have steps.

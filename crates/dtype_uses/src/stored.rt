@@ -2,17 +2,20 @@
 // SPDX-FileCopyrightText: Copyright the Vortex contributors
 
 //! What a user of messages gets, from the contracts of the public calls and two laws alone.
-ghost use Rattle.std.specs.Prelude.{◌≡◌, IfOk, IsOkUnless, IsTrue, Some, map};
+ghost use Rattle.std.specs.Prelude.{◌≡◌, ◌++◌, [], ◌∷◌, IfOk, IsOkUnless, IsTrue, Some, map};
+ghost use Rattle.dtype_base.specs.declared.nullability.Nullability.TheVariants.{Nullable};
 ghost use Rattle.dtype_base.specs.declared.vortex_error.VortexError.TheVariants.{OutOfMemory};
-ghost use Rattle.dtype_types.specs.TreeOf.{tree};
+ghost use Rattle.dtype_types.specs.IsValid.{IsValid, IsValidStruct};
+ghost use Rattle.dtype_types.specs.Tree.{fields, primitive, struct};
+ghost use Rattle.dtype_types.specs.TreeOf.{children, tree};
 ghost use Rattle.dtype_types.specs.Valid.{Valid};
 ghost use Rattle.vortex_dtype.specs.Meaning.{Admits};
 ghost use Rattle.vortex_dtype.specs.PathMessage.{steps_of};
 ghost use Rattle.vortex_dtype.specs.Session.{meaning};
 
-use dtype_base::VortexResult;
+use dtype_base::{FieldName, FieldNames, Nullability, PType, VortexResult};
 use dtype_messages::pb;
-use dtype_types::DType;
+use dtype_types::{DType, StructFields};
 use std::alloc::Global;
 use vortex_dtype::laws::{messages_are_exact, same_names_same_steps};
 use vortex_dtype::{DTypeProto, DTypeSession, ExtDTypePlugin, FieldPath, FieldPathProto};
@@ -45,6 +48,24 @@ pub fn is_kept_by_storing(
     let dtype = DType::from_proto(alloc, proto, session)?;
     let again = stored_and_read_back(alloc, &dtype, session)?;
     Ok(again == dtype)
+}
+
+/// The struct of these fields and one column more behind them, of nullable numbers.
+pub fn with_column(
+    alloc: Global,
+    columns: &StructFields,
+    n: Nullability,
+    name: FieldName,
+    numbers: PType,
+) -> VortexResult<DType>
+    ensures made { IfOk result (λ d.
+        tree d ≡ struct (fields (children columns.now ++ (name, primitive numbers Nullable) ∷ [])) n) }
+    ensures valid { IsValidStruct columns.now → IfOk result IsValid }
+{
+    let names = FieldNames::from_vec(vec![in alloc; name]?);
+    let dtypes = vec![in alloc; DType::Primitive(numbers, Nullability::Nullable)]?;
+    let column = StructFields::new(alloc, names, dtypes)?;
+    Ok(DType::Struct(columns.disjoint_merge(alloc, &column)?, n))
 }
 
 /// Whether a copy of a message equals it: it always does.

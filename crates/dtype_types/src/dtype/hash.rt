@@ -3,7 +3,7 @@
 
 // Hashes of types: one walk that feeds a hasher, with the nullabilities or without them.
 ghost use Rattle.std.specs.Prelude.{◌≡◌, fold};
-ghost use Rattle.dtype_types.specs.Hashes.{hash_of, nullability_writes, writes_ignoring_nullability};
+ghost use Rattle.dtype_types.specs.Hashes.{hash_of, nullability_writes, part_of, writes_ignoring_nullability};
 ghost use Rattle.dtype_types.specs.TreeOf.{tree};
 
 use crate::DType;
@@ -20,7 +20,7 @@ pub(crate) enum Hashed {
 impl Hashed {
     // Feeds a hasher the nullability where nullabilities count.
     fn feed<H: Hasher>(self, nullability: Nullability, state: &mut H)
-        ensures { state.new ≡ fold H.write state.old (nullability_writes self nullability) }
+        ensures { state.new ≡ fold H.write state.old (nullability_writes (part_of self) nullability) }
     {
         match self {
             Hashed::Erased => {}
@@ -35,7 +35,7 @@ impl Hashed {
 // Feeds a hasher the type.
 #[cycle(hash)]
 pub(crate) fn feed<H: Hasher>(dtype: &DType, rule: Hashed, state: &mut H)
-    ensures { state.new ≡ fold H.write state.old (hash_of rule (tree dtype.now)) }
+    ensures { state.new ≡ fold H.write state.old (hash_of (part_of rule) (tree dtype.now)) }
 {
     state.write_u8(dtype.kind().number());
     match dtype {

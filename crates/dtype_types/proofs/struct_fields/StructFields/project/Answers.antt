@@ -6,7 +6,7 @@ use Rattle.std.proofs.lemmas.List.{take_all}
 use Rattle.std.proofs.lemmas.Result.{IfOk-weaker}
 use Rattle.dtype_base.specs.FieldNames.{FirstAt, IsAbsent}
 use Rattle.dtype_types.proofs.Validity.{valid_projected}
-use Rattle.dtype_types.proofs.Projections.{field_at, absent_none, found_within, projects_more, first_unknown, projected_alike}
+use Rattle.dtype_types.proofs.Projections.{field_at, absent_none, found_within, projects_more, first_unknown, all_known, projected_alike}
 use Rattle.dtype_types.specs.Building.{fields_so_far}
 use Rattle.dtype_types.specs.Lookups.{Projects, field_names}
 use Rattle.dtype_types.specs.Tree.{fields}
@@ -48,3 +48,10 @@ returns-clause-each c =
     let names = c.args.projection.now in
     let all = subst (λ ns. Projects fs ns (fields_so_far c.loop-position.fields)) (take_all c.loop-position.position names (omega arith)) c.loop-position.invariant in
     IfOk-weaker c.finish.result _ _ (λ s e. projected_alike fs names (children s) (subst (Projects fs names) (sym e) all)) c.finish.ensures.fields
+
+pub returns-clause-there : goal.returns-clause-there
+returns-clause-there c = λ ok.
+    let fs = children c.args.self.now in
+    let names = c.args.projection.now in
+    let all = subst (λ ns. Projects fs ns (fields_so_far c.loop-position.fields)) (take_all c.loop-position.position names (omega arith)) c.loop-position.invariant in
+    all_known fs names (fields_so_far c.loop-position.fields) all.types_are

@@ -10,7 +10,7 @@ pub mod Depths
 pub mod FieldLookups
 pub mod OtherKinds
 pub mod KindLaws
-pub mod Turns
+pub mod Alongside
 pub mod SameParts
 pub mod SetNullLaws
 pub mod Texts

@@ -15,7 +15,7 @@ use Rattle.dtype_types.specs.Lookups.{variant_tags}
 use Rattle.dtype_types.specs.IsValid.{IsValidUnion}
 use Rattle.dtype_types.specs.TreeOf.{choices, union_tags, union_tree}
 use Rattle.dtype_types.proofs.TreeLaws.{triples_variants}
-use Rattle.dtype_types.proofs.Turns.{tag_at, tags_same, tags_differ}
+use Rattle.dtype_types.proofs.Alongside.{tag_at, tags_same, tags_differ}
 use Rattle.dtype_types.specs.declared.union_variants.UnionVariants.{UnionVariants}
 
 lacks_at : (h : ℕ) (vs : Variants) (i : ℕ) → LacksTag h vs → i < length (variant_tags (triples vs)) → ¬ (get_or (variant_tags (triples vs)) i 0 ≡ h)

@@ -17,7 +17,7 @@ use Rattle.vortex_dtype.specs.Accepts.{Accepts}
 use Rattle.vortex_dtype.specs.Meaning.{Meaning, Admits, LawfulSession}
 use Rattle.vortex_dtype.specs.Reads.{decimal_of, number}
 use Rattle.vortex_dtype.specs.Written.{is_nullable, written, field_names, written_fields, variant_names, written_variants, written_tags}
-use Rattle.vortex_dtype.proofs.ReadLaws.{number_once, nullability_of-is, written_accepted}
+use Rattle.vortex_dtype.proofs.ReadsLaws.{number_once, nullability_of-is, written_accepted}
 use Rattle.vortex_dtype.proofs.SessionLaws.{admits-set_null}
 
 flag_once : (m n : Nullability) → is_nullable m ≡ is_nullable n → m ≡ n

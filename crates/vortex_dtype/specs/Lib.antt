@@ -9,7 +9,7 @@ pub mod Session
 pub mod Calls
 pub mod Refusals
 pub mod Foreign
-pub mod Reading
+pub mod ReadInOrder
 pub mod IsMessage
 pub mod Reads
 pub mod Written

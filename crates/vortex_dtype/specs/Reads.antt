@@ -20,7 +20,7 @@ use Rattle.dtype_types.specs.Tree.{Tree, Fields, no_fields, field, Variants, no_
 use Rattle.dtype_messages.specs.Message.{Message, Child, Messages, missing, null, bool, primitive, decimal, utf8, binary, list, fixed_size_list, map_of, struct, union, variant, extension, absent, present, no_message, more}
 use Rattle.vortex_dtype.specs.Meaning.{Meaning, keeps, refusal}
 use Rattle.vortex_dtype.specs.Numbers.{byte_at}
-use Rattle.vortex_dtype.specs.Reading.{or_empty}
+use Rattle.vortex_dtype.specs.ReadInOrder.{or_empty}
 
 -- the number of a primitive type, as messages have it
 abbrev pub number : PType → ℤ

@@ -13,7 +13,7 @@ use Rattle.dtype_types.specs.Tree.{Tree, Fields, no_fields, field, Variants, no_
 use Rattle.dtype_types.specs.TreeOf.{extension_id, extension_metadata}
 use Rattle.dtype_messages.specs.Message.{Message, Child, Messages, missing, null, bool, primitive, decimal, utf8, binary, list, fixed_size_list, map_of, struct, union, variant, extension, absent, present, no_message, more}
 use Rattle.vortex_dtype.specs.Meaning.{Meaning, keeps}
-use Rattle.vortex_dtype.specs.Reading.{or_empty}
+use Rattle.vortex_dtype.specs.ReadInOrder.{or_empty}
 use Rattle.vortex_dtype.specs.Reads.{ReadsChild}
 
 abbrev pub is_nullable : Nullability → Bool

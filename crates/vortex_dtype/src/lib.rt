@@ -19,11 +19,9 @@ mod ext_dtype;
 mod ext_vtable;
 mod foreign;
 pub mod laws;
-mod parts;
 mod plugin;
 mod proto;
 mod session;
-mod writing;
 
 pub use dtype_base::{
     DecimalDType, DecimalType, FieldName, FieldNames, FieldNamesIntoIter, FieldNamesIter,

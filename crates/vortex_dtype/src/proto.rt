@@ -1,10 +1,8 @@
 // SPDX-License-Identifier: Apache-2.0
 // SPDX-FileCopyrightText: Copyright the Vortex contributors
 
-// Types and paths from messages, and messages from types.
-//
-// Reading goes over the message once, in the order of its fields, and builds the type through the checking
-// constructors of the crates below: what is refused there is refused here, with the same values.
+// Types and paths from messages, and messages from types: `read` goes over a message, `kinds` makes the type of
+// each kind, `write` makes the messages.
 ghost use Rattle.std.specs.Prelude.{◌≡◌, ◌⊎◌, Some, None, IfOk, IfErr, IsErr, IsOkUnless, All, Contains, map, string_bytes};
 ghost use Rattle.dtype_base.specs.declared.vortex_error.MessageFault.TheVariants.{PathPartMissing};
 ghost use Rattle.dtype_base.specs.declared.vortex_error.VortexError.TheVariants.{Message, OutOfMemory};
@@ -19,23 +17,23 @@ ghost use Rattle.dtype_messages.specs.MessageOf.{message};
 ghost use Rattle.dtype_messages.specs.PathNames.{part_names};
 ghost use Rattle.vortex_dtype.specs.PathMessage.{path_of, step_of, steps_of};
 ghost use Rattle.vortex_dtype.specs.IsMessage.{IsMessage};
-ghost use Rattle.vortex_dtype.specs.Reading.{read, Gives};
 ghost use Rattle.vortex_dtype.specs.Reads.{Fault, ReadsAsNone};
 ghost use Rattle.vortex_dtype.specs.Written.{written};
 ghost use Rattle.vortex_dtype.specs.Session.{meaning};
 
-use crate::parts::{
-    decimal_of, extension_of, fixed_of, list_of, map_of, metadata_of, primitive_of, struct_of,
-    union_of,
-};
 use crate::plugin::ExtDTypePlugin;
+use crate::proto::read::read;
+use crate::proto::write::write;
 use crate::session::{DTypeSession, session_laws};
-use crate::writing::write;
-use dtype_base::{FieldName, MessageFault, Nullability, VortexError, VortexResult};
+use dtype_base::{FieldName, MessageFault, VortexError, VortexResult};
 use dtype_messages::pb;
 use dtype_paths::{Field, FieldPath};
 use dtype_types::DType;
 use std::alloc::Global;
+
+mod kinds;
+mod read;
+mod write;
 
 /// Types from messages, and messages from types.
 ///
@@ -139,74 +137,5 @@ fn read_part(alloc: Global, part: &pb::Field) -> VortexResult<Field>
     match &part.field_type {
         Some(pb::FieldType::Name(name)) => Ok(Field::Name(FieldName::new(alloc, name.as_str())?)),
         None => Err(VortexError::Message(MessageFault::PathPartMissing)),
-    }
-}
-
-// The type that the message reads as. It stands whole, with a loop for structs and one for unions, since it may
-// call itself alone: functions of one cycle can't share a parameter that holds a trait object.
-#[tactic(auto, unfolding(crate::specs::Reading::read))]
-fn read(alloc: Global, proto: &pb::DType, session: &DTypeSession) -> VortexResult<DType>
-    ensures gives { Gives tree result (read (meaning rewrites session.now) (message proto.now)) }
-    ensures valid { IfOk result IsValid }
-    ensures message { IfOk result (λ _. IsMessage (message proto.now)) }
-{
-    let Some(kind) = &proto.dtype_type else {
-        return Err(VortexError::Message(MessageFault::TypeMissing));
-    };
-    match kind {
-        pb::DtypeType::Null(_) => Ok(DType::Null),
-        pb::DtypeType::Bool(p) => Ok(DType::Bool(Nullability::from(p.nullable))),
-        pb::DtypeType::Primitive(p) => primitive_of(p.ptype, p.nullable),
-        pb::DtypeType::Decimal(p) => decimal_of(p.precision, p.scale, p.nullable),
-        pb::DtypeType::Utf8(p) => Ok(DType::Utf8(Nullability::from(p.nullable))),
-        pb::DtypeType::Binary(p) => Ok(DType::Binary(Nullability::from(p.nullable))),
-        pb::DtypeType::List(p) => {
-            let Some(element) = &p.element_type else {
-                return Err(VortexError::Message(MessageFault::ListElementMissing));
-            };
-            let element = read(alloc, element, session)?;
-            list_of(alloc, element, p.nullable)
-        }
-        pb::DtypeType::FixedSizeList(p) => {
-            let Some(element) = &p.element_type else {
-                return Err(VortexError::Message(MessageFault::FixedElementMissing));
-            };
-            let element = read(alloc, element, session)?;
-            fixed_of(alloc, element, p.size, p.nullable)
-        }
-        pb::DtypeType::Map(p) => {
-            let Some(key) = &p.key_type else {
-                return Err(VortexError::Message(MessageFault::MapKeyMissing));
-            };
-            let key = read(alloc, key, session)?;
-            let Some(value) = &p.value_type else {
-                return Err(VortexError::Message(MessageFault::MapValueMissing));
-            };
-            let value = read(alloc, value, session)?;
-            map_of(alloc, key, value, p.keys_sorted, p.nullable)
-        }
-        pb::DtypeType::Struct(p) => {
-            let mut dtypes = Vec::with_capacity(alloc, p.dtypes.len())?;
-            for field in &p.dtypes {
-                dtypes.push(read(alloc, field, session)?)?;
-            }
-            struct_of(alloc, &p.names, dtypes, p.nullable)
-        }
-        pb::DtypeType::Union(p) => {
-            let mut dtypes = Vec::with_capacity(alloc, p.dtypes.len())?;
-            for variant in &p.dtypes {
-                dtypes.push(read(alloc, variant, session)?)?;
-            }
-            union_of(alloc, &p.names, dtypes, &p.type_ids, p.nullable)
-        }
-        pb::DtypeType::Variant(p) => Ok(DType::Variant(Nullability::from(p.nullable))),
-        pb::DtypeType::Extension(p) => {
-            let Some(storage) = &p.storage_dtype else {
-                return Err(VortexError::Message(MessageFault::StorageMissing));
-            };
-            let storage = read(alloc, storage, session)?;
-            let metadata = metadata_of(&p.metadata);
-            extension_of(session, p.id.as_str(), metadata, storage)
-        }
     }
 }

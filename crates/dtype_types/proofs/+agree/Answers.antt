@@ -12,7 +12,7 @@ use Rattle.dtype_types.proofs.Depths.{no_deeper}
 use Rattle.dtype_types.proofs.Parts.{fields_shown, variants_shown}
 use Rattle.dtype_types.proofs.TreeLaws.{tree_null}
 use Rattle.dtype_types.proofs.OtherKinds.{not_null}
-use Rattle.dtype_types.proofs.Turns.{fields_turn, variants_turn, fields_end, variants_end, still_even, differ_fields, differ_variants, not_true, not_false, tags_same, tags_differ}
+use Rattle.dtype_types.proofs.Alongside.{fields_turn, variants_turn, fields_end, variants_end, still_even, differ_fields, differ_variants, not_true, not_false, tags_same, tags_differ}
 use Rattle.dtype_types.proofs.Walks.{next_of_both, none_of_either, nothing_of_either}
 use Rattle.dtype_types.proofs.+agree.Goals as goal
 

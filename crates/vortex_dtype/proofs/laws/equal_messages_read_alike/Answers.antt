@@ -1,7 +1,7 @@
 -- SPDX-License-Identifier: Apache-2.0
 -- SPDX-FileCopyrightText: Copyright the Vortex contributors
 
-use Rattle.vortex_dtype.proofs.ReadLaws.{copy_accepted, read_alike}
+use Rattle.vortex_dtype.proofs.ReadsLaws.{copy_accepted, read_alike}
 use Rattle.vortex_dtype.proofs.WrittenLaws.{written_is}
 use Rattle.vortex_dtype.proofs.laws.equal_messages_read_alike.Goals as goal
 

@@ -2,7 +2,7 @@
 -- SPDX-FileCopyrightText: Copyright the Vortex contributors
 
 use Rattle.dtype_types.specs.TreeOf.{tree}
-use Rattle.vortex_dtype.proofs.Meanings.{written_again}
+use Rattle.vortex_dtype.proofs.MeaningLaws.{written_again}
 use Rattle.vortex_dtype.proofs.plugin.boxed_deserialize.Goals as goal
 
 pub returns-clause-again : goal.returns-clause-again

@@ -2,7 +2,7 @@
 -- SPDX-FileCopyrightText: Copyright the Vortex contributors
 
 use Rattle.std.proofs.Common.{sym, ◌∙◌, arith, get_or}
-use Rattle.dtype_types.proofs.Turns.{consecutive_turn, tags_same, tags_differ, and_first, and_both, tag_at}
+use Rattle.dtype_types.proofs.Alongside.{consecutive_turn, tags_same, tags_differ, and_first, and_both, tag_at}
 use Rattle.dtype_types.specs.TreeOf.{choices, union_tags}
 use Rattle.dtype_types.proofs.union_variants.UnionVariants.is_consecutive.Goals as goal
 

@@ -1,7 +1,7 @@
 -- SPDX-License-Identifier: Apache-2.0
 -- SPDX-FileCopyrightText: Copyright the Vortex contributors
 
-use Rattle.vortex_dtype.proofs.Meanings.{refused_weaker}
+use Rattle.vortex_dtype.proofs.MeaningLaws.{refused_weaker}
 use Rattle.vortex_dtype.proofs.ext_dtype.ExtDType.try_new.Goals as goal
 
 pub returns-clause-refused : goal.returns-clause-refused

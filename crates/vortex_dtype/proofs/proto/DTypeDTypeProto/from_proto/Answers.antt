@@ -3,7 +3,7 @@
 
 use Rattle.dtype_messages.specs.MessageOf.{message}
 use Rattle.vortex_dtype.specs.Session.{meaning}
-use Rattle.vortex_dtype.proofs.Public.{gives_accepts, gives_back, gives_back_refused, gives_faulty, gives_refused, gives_unread}
+use Rattle.vortex_dtype.proofs.InOrderToReads.{gives_accepts, gives_back, gives_back_refused, gives_faulty, gives_refused, gives_unread}
 use Rattle.vortex_dtype.proofs.proto.DTypeDTypeProto.from_proto.Goals as goal
 
 pub returns-clause-refused : goal.returns-clause-refused

@@ -3,8 +3,8 @@
 
 use Rattle.std.proofs.Common.{◌≡◌, ◌+◌, ◌++◌, ◌∷◌, [], ℕ, List, Some, None, pos, get_or, sym, subst, rules}
 use Rattle.vortex_dtype.specs.Numbers.{byte_at}
-use Rattle.vortex_dtype.proofs.Loops.{TagsRest, tag_step, tag_stops}
-use Rattle.vortex_dtype.proofs.parts.tags_of.Goals as goal
+use Rattle.vortex_dtype.proofs.ReadInTurn.{TagsRest, tag_step, tag_stops}
+use Rattle.vortex_dtype.proofs.proto.kinds.tags_of.Goals as goal
 
 pub returns-in-None : goal.returns-in-None
 returns-in-None c =

@@ -16,7 +16,7 @@ use Rattle.dtype_messages.specs.MessageOf.{message}
 use Rattle.vortex_dtype.specs.IsMessage.{IsMessage, AreMessages}
 use Rattle.vortex_dtype.specs.Meaning.{Meaning}
 use Rattle.vortex_dtype.specs.Numbers.{byte_at}
-use Rattle.vortex_dtype.specs.Reading.{read, read_all, read_tags, or_fault, struct_read, union_read, extension_read, or_empty, ◌>>=◌, Gives, Fails}
+use Rattle.vortex_dtype.specs.ReadInOrder.{read, read_all, read_tags, or_fault, struct_read, union_read, extension_read, or_empty, ◌>>=◌, Gives, Fails}
 use Rattle.dtype_messages.specs.declared.pb.DType.{DType}
 
 -- the types so far, and those that are left, are all

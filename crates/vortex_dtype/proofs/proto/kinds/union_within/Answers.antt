@@ -3,8 +3,8 @@
 
 use Rattle.std.proofs.Common.{◌≡◌, length, rules}
 use Rattle.std.specs.Prelude.{vec_len}
-use Rattle.vortex_dtype.proofs.Made.{union_gives, union_fails}
-use Rattle.vortex_dtype.proofs.parts.union_within.Goals as goal
+use Rattle.vortex_dtype.proofs.Constructors.{union_gives, union_fails}
+use Rattle.vortex_dtype.proofs.proto.kinds.union_within.Goals as goal
 
 pub returns-clause-gives : goal.returns-clause-gives
 returns-clause-gives c =

@@ -7,9 +7,9 @@ use Rattle.dtype_types.specs.TreeOf.{tree}
 use Rattle.dtype_messages.specs.Message.{messages}
 use Rattle.dtype_messages.specs.MessageOf.{message}
 use Rattle.vortex_dtype.specs.IsMessage.{AreMessages}
-use Rattle.vortex_dtype.proofs.Loops.{Rest}
+use Rattle.vortex_dtype.proofs.ReadInTurn.{Rest}
 use Rattle.vortex_dtype.specs.Session.{meaning}
-use Rattle.vortex_dtype.proofs.proto.+read.Given as goal
+use Rattle.vortex_dtype.proofs.proto.read.+read.Given as goal
 
 abbrev pub invariant-loop-field : goal.invariant-loop-field
 invariant-loop-field g l = record {

@@ -14,10 +14,10 @@ use Rattle.vortex_dtype.specs.Accepts.{Accepts}
 use Rattle.vortex_dtype.specs.Meaning.{Meaning, Admits, LawfulSession}
 use Rattle.vortex_dtype.specs.IsMessage.{IsMessage}
 use Rattle.vortex_dtype.specs.Reads.{Fault, Reads, ReadsAsNone}
-use Rattle.vortex_dtype.specs.Reading.{read, Gives}
+use Rattle.vortex_dtype.specs.ReadInOrder.{read, Gives}
 use Rattle.vortex_dtype.specs.Written.{written}
-use Rattle.vortex_dtype.proofs.ReadLaws.{fault_none, reads_accepted, reads_once, written_reads}
-use Rattle.vortex_dtype.proofs.ReadIs.{read_reads, read_fault}
+use Rattle.vortex_dtype.proofs.ReadsLaws.{fault_none, reads_accepted, reads_once, written_reads}
+use Rattle.vortex_dtype.proofs.InOrderIsReads.{read_reads, read_fault}
 
 faulty : (s : Meaning) (m : Message) (e : VortexError) → read s m ≡ Err e → Fault s m e × ReadsAsNone s m
 faulty s m e is = let f = read_fault s m e is in (f, λ t h. fault_none s m e t f h)

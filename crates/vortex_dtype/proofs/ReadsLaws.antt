@@ -30,7 +30,7 @@ use Rattle.dtype_messages.specs.Message.{Message, Child, Messages, missing, null
 use Rattle.vortex_dtype.specs.Meaning.{Meaning, LawfulSession, Admits, AdmitsFields, AdmitsVariants, keeps}
 use Rattle.dtype_messages.specs.PTypeNumbers.{ptype_at, ptype_from}
 use Rattle.vortex_dtype.specs.Numbers.{byte_at}
-use Rattle.vortex_dtype.specs.Reading.{or_empty}
+use Rattle.vortex_dtype.specs.ReadInOrder.{or_empty}
 use Rattle.vortex_dtype.specs.Reads.{Reads, ReadsChild, ReadsFields, ReadsVariants, Fault, ChildFault, SomeFault, SomeTagFault, UnionFault, number, count}
 use Rattle.vortex_dtype.specs.Accepts.{Accepts}
 use Rattle.vortex_dtype.specs.Written.{is_nullable, written, field_names, written_fields, variant_names, written_variants, written_tags, Normal, NormalChild, NormalAll}

@@ -4,9 +4,9 @@
 use Rattle.std.proofs.Common.{◌≡◌, pos, refl, sym, ap, ◌∙◌, arith, get_or, rules, map, string_bytes, [], ◌∷◌, ◌++◌}
 use Rattle.dtype_types.specs.TreeOf.{tree, children, choices, union_names, union_tags}
 use Rattle.dtype_messages.specs.MessageOf.{message}
-use Rattle.vortex_dtype.proofs.Weight.{weight_field, weight_variant}
+use Rattle.vortex_dtype.proofs.TypesBelow.{weight_field, weight_variant}
 use Rattle.vortex_dtype.proofs.WrittenParts.{take_field, take_variant, step, step_plain, struct_done, union_done}
-use Rattle.vortex_dtype.proofs.writing.+writing.Goals as goal
+use Rattle.vortex_dtype.proofs.proto.write.+writing.Goals as goal
 
 -- ---- structs
 

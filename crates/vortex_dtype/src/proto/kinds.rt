@@ -2,7 +2,7 @@
 // SPDX-FileCopyrightText: Copyright the Vortex contributors
 
 // The parts of a type, once they are read, made into the type through the checking constructors. Each function
-// gives what reading gives for that kind (`specs/Reading`), and none calls itself.
+// gives what reading gives for that kind (`specs/ReadInOrder`), and none calls itself.
 ghost use Rattle.std.specs.Int.{w32};
 ghost use Rattle.std.specs.Prelude.{◌≡◌, ◌<◌, ◌^◌, All, FitsSigned, IfOk, IsOkUnless, map, string_bytes};
 ghost use Rattle.dtype_base.specs.declared.vortex_error.VortexError.TheVariants.{OutOfMemory};
@@ -14,7 +14,7 @@ ghost use Rattle.dtype_types.specs.IsValid.{IsValid};
 ghost use Rattle.vortex_dtype.specs.IsMessage.{OptionBytes};
 ghost use Rattle.dtype_messages.specs.MessageOf.{bytes_of};
 ghost use Rattle.vortex_dtype.specs.Numbers.{byte_at, small_at, natural_byte};
-ghost use Rattle.vortex_dtype.specs.Reading.{primitive_read, decimal_made, decimal_read, map_read, struct_read, union_made, union_read, read_tags, extension_read, or_empty, Gives};
+ghost use Rattle.vortex_dtype.specs.ReadInOrder.{primitive_read, decimal_made, decimal_read, map_read, struct_read, union_made, union_read, read_tags, extension_read, or_empty, Gives};
 ghost use Rattle.vortex_dtype.specs.Session.{meaning};
 
 use crate::plugin::{ExtDTypePlugin, check_bytes};
@@ -29,7 +29,7 @@ use std::alloc::Global;
 use std::string::String;
 
 // The primitive type of the number.
-#[tactic(auto, unfolding(crate::specs::Reading::primitive_read))]
+#[tactic(auto, unfolding(crate::specs::ReadInOrder::primitive_read))]
 pub(crate) fn primitive_of(number: i32, nullable: bool) -> VortexResult<DType>
     ensures gives { Gives tree result (primitive_read number (nullability_of nullable)) }
     ensures number { FitsSigned w32 number }
@@ -41,21 +41,21 @@ pub(crate) fn primitive_of(number: i32, nullable: bool) -> VortexResult<DType>
     }
 }
 
-// The number, where it fits.
+// The precision, where it is a byte.
 fn precision_of(precision: u32) -> Option<u8>
     ensures { result ≡ natural_byte precision }
 {
     u8::try_from(precision).ok()
 }
 
-// The number, where it fits.
+// The scale, where it is a signed byte.
 fn scale_of(scale: i32) -> Option<i8>
     ensures { result ≡ small_at scale }
 {
     i8::try_from(scale).ok()
 }
 
-// The number, where it fits.
+// The tag, where it is a byte.
 fn tag_of(tag: i32) -> Option<u8>
     ensures { result ≡ byte_at tag }
 {
@@ -63,7 +63,7 @@ fn tag_of(tag: i32) -> Option<u8>
 }
 
 // The decimal of the precision and the scale.
-#[tactic(auto, unfolding(crate::specs::Reading::decimal_read))]
+#[tactic(auto, unfolding(crate::specs::ReadInOrder::decimal_read))]
 pub(crate) fn decimal_of(precision: u32, scale: i32, nullable: bool) -> VortexResult<DType>
     ensures gives { Gives tree result (decimal_read precision scale (nullability_of nullable)) }
     ensures numbers { (precision < 2 ^ 32) × FitsSigned w32 scale }
@@ -112,7 +112,7 @@ pub(crate) fn fixed_of(
 }
 
 // The map of the key and the value.
-#[tactic(auto, unfolding(crate::specs::Reading::map_read))]
+#[tactic(auto, unfolding(crate::specs::ReadInOrder::map_read))]
 pub(crate) fn map_of(
     alloc: Global,
     key: DType,
@@ -141,7 +141,7 @@ fn names_of(alloc: Global, texts: &[String]) -> VortexResult<FieldNames>
 }
 
 // The struct of the names and the types, of which there must be as many.
-#[tactic(auto, unfolding(crate::specs::Reading::struct_read))]
+#[tactic(auto, unfolding(crate::specs::ReadInOrder::struct_read))]
 pub(crate) fn struct_of(
     alloc: Global,
     names: &[String],
@@ -161,7 +161,7 @@ pub(crate) fn struct_of(
 }
 
 // The tags, each of which must be a byte.
-#[tactic(auto, unfolding(crate::specs::Reading::read_tags))]
+#[tactic(auto, unfolding(crate::specs::ReadInOrder::read_tags))]
 fn tags_of(alloc: Global, tags: &[i32]) -> VortexResult<Vec<u8>>
     ensures gives { Gives (λ v. v.items) result (read_tags tags.now) }
 {
@@ -176,7 +176,7 @@ fn tags_of(alloc: Global, tags: &[i32]) -> VortexResult<Vec<u8>>
 }
 
 // The union of the names, the types and the tags.
-#[tactic(auto, unfolding(crate::specs::Reading::union_read))]
+#[tactic(auto, unfolding(crate::specs::ReadInOrder::union_read))]
 pub(crate) fn union_of(
     alloc: Global,
     names: &[String],
@@ -224,7 +224,7 @@ pub(crate) fn metadata_of(metadata: &Option<Vec<u8>>) -> &[u8]
 }
 
 // The extension of the storage, with the metadata that the session keeps.
-#[tactic(auto, unfolding(crate::specs::Reading::extension_read))]
+#[tactic(auto, unfolding(crate::specs::ReadInOrder::extension_read))]
 pub(crate) fn extension_of(
     session: &DTypeSession,
     id: &str,

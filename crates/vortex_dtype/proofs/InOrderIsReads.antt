@@ -37,10 +37,10 @@ use Rattle.vortex_dtype.specs.Meaning.{Meaning, keeps, refusal}
 use Rattle.dtype_messages.specs.PTypeNumbers.{ptype_at}
 use Rattle.vortex_dtype.specs.Numbers.{byte_at, small_at, natural_byte}
 use Rattle.vortex_dtype.specs.Reads.{Reads, ReadsChild, ReadsFields, ReadsVariants, Fault, ChildFault, SomeFault, SomeTagFault, UnionFault, DecimalFault, decimal_of, number, count}
-use Rattle.vortex_dtype.specs.Reading.{Gives, read, read_child, read_all, read_tags, primitive_read, decimal_made, decimal_read, map_read, when_required, struct_read, union_made, union_read, extension_read, repeats, ◌>>=◌, or_fault, or_empty}
+use Rattle.vortex_dtype.specs.ReadInOrder.{Gives, read, read_child, read_all, read_tags, primitive_read, decimal_made, decimal_read, map_read, when_required, struct_read, union_made, union_read, extension_read, repeats, ◌>>=◌, or_fault, or_empty}
 use Rattle.vortex_dtype.proofs.Decimals.{made_ok, made_err, fits_byte, fits_small, no_byte, no_small}
 use Rattle.vortex_dtype.proofs.Unions.{apart, has_names, tags_up, union_refused}
-use Rattle.vortex_dtype.proofs.ReadLaws.{byte_is, none_is, number-ptype_at, ptype_at-number}
+use Rattle.vortex_dtype.proofs.ReadsLaws.{byte_is, none_is, number-ptype_at, ptype_at-number}
 
 abbrev ok : {A : Type 0} → A → Result A VortexError
 ok x = Ok x

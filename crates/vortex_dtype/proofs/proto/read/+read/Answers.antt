@@ -8,16 +8,16 @@ use Rattle.dtype_types.specs.TreeOf.{tree}
 use Rattle.vortex_dtype.specs.IsMessage.{AreTags, IsMessage}
 use Rattle.dtype_messages.specs.Message.{Message}
 use Rattle.dtype_messages.specs.MessageOf.{message, bytes_of}
-use Rattle.vortex_dtype.specs.Reading.{read, Fails, Gives, struct_read, union_read, or_empty}
+use Rattle.vortex_dtype.specs.ReadInOrder.{read, Fails, Gives, struct_read, union_read, or_empty}
 use Rattle.vortex_dtype.specs.Session.{meaning}
 use Rattle.dtype_base.specs.Nullability.{nullability_of}
 use Rattle.dtype_types.specs.Tree.{Tree}
 use Rattle.dtype_types.specs.declared.dtype.DType.{DType as Logical}
 use Rattle.dtype_messages.specs.declared.pb.DtypeType.TheViews.{out-Struct, out-Union, out-Extension}
-use Rattle.vortex_dtype.proofs.Loops.{Rest, step, stops, done, struct_stops, struct_done, union_stops, union_done, extension_done, more_messages, all_messages, any_ok}
-use Rattle.vortex_dtype.proofs.ReadIs.{union_tags_fit}
-use Rattle.vortex_dtype.proofs.Shapes.{struct_shape, union_shape, extension_shape}
-use Rattle.vortex_dtype.proofs.proto.+read.Goals as goal
+use Rattle.vortex_dtype.proofs.ReadInTurn.{Rest, step, stops, done, struct_stops, struct_done, union_stops, union_done, extension_done, more_messages, all_messages, any_ok}
+use Rattle.vortex_dtype.proofs.InOrderIsReads.{union_tags_fit}
+use Rattle.vortex_dtype.proofs.MessageParts.{struct_shape, union_shape, extension_shape}
+use Rattle.vortex_dtype.proofs.proto.read.+read.Goals as goal
 
 -- ---- structs
 

@@ -212,11 +212,11 @@ fn all_lowered(alloc: Global, bytes: &[u8]) -> VortexResult<Vec<u8>>
     ensures ok { IfOk result (λ v. lowered bytes.now ≡ Some v.items) }
     ensures refused { IfErr result (RefusedWhere (lowered bytes.now ≡ None)) }
 {
-    let lowered = each_lowered(alloc, bytes)?;
+    let copy = Vec::from_slice(alloc, bytes)?;
     if has_exclamation_mark(bytes) {
         return Err(VortexError::MetadataRefused);
     }
-    Ok(lowered)
+    Ok(each_lowered(alloc, &copy)?)
 }
 
 fn unchanged(alloc: Global, bytes: &[u8]) -> VortexResult<Vec<u8>>

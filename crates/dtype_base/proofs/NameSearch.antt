@@ -21,7 +21,7 @@ use Rattle.std.proofs.lemmas.List.{get_or_default, get_or-map, length-map}
 use Rattle.std.proofs.lemmas.List.Elements.{All-from_get_or}
 use Rattle.std.proofs.lemmas.List.FromFn.{length-range_with_len, get_or-range_with_len}
 use Rattle.std.proofs.lemmas.List.Sorted.{ranks_by, sorted_far, searchable_from_sorted, length_permutation, Contains-permutation, All-permutation}
-use Rattle.std.proofs.lemmas.Option.{slice_get_within, slice_get_read, get_or_from_slice_get}
+use Rattle.std.proofs.lemmas.Option.{same_Some, slice_get_within, slice_get_read, get_or_from_slice_get}
 use Rattle.dtype_base.specs.FieldNames.{FirstAt, IsAbsent}
 use Rattle.dtype_base.specs.NameOrder.{bytes_cmp, name_cmp, position_cmp, IsOrderOf, positions}
 use Rattle.dtype_base.specs.declared.name_order.Place.{Place}
@@ -55,15 +55,15 @@ half_fits s t (suc i) a b c =
     let e : suc i - 1 ≡ i = omega arith in
     (omega arith, subst (λ k. t < 2 ^ k) (sym e) (omega (arith, pow-suc 2 i)))
 
--- a tick at most
-pub tick : (ticks ticked s t b : ℕ) → ticked ≤ ticks + 1 → 0 < s → t ≤ s / 2 → (ticks ≤ b) × (s < 2 ^ (b - ticks)) → (ticked ≤ b) × (t < 2 ^ (b - ticked))
-tick ticks ticked s t b e a c h =
-    let half = half_fits s t (b - ticks) a h.1 c in
-    let more : 2 ^ (b - ticks - 1) ≤ 2 ^ (b - ticked) = pow_mono (omega (arith, half.0)) in
+-- one comparison at most, and half of what was left
+pub halved : (before after s t b : ℕ) → after ≤ before + 1 → 0 < s → t ≤ s / 2 → (before ≤ b) × (s < 2 ^ (b - before)) → (after ≤ b) × (t < 2 ^ (b - after))
+halved before after s t b e a c h =
+    let half = half_fits s t (b - before) a h.1 c in
+    let more : 2 ^ (b - before - 1) ≤ 2 ^ (b - after) = pow_mono (omega (arith, half.0)) in
     (omega (arith, half.0), omega (arith, half.1, more))
 
-pub spare : (ticks s b : ℕ) → 0 < s → (ticks ≤ b) × (s < 2 ^ (b - ticks)) → ticks + 1 ≤ b
-spare ticks s b a h = let half = half_fits s 0 (b - ticks) a h.1 (omega arith) in omega (arith, half.0)
+pub spare : (compared s b : ℕ) → 0 < s → (compared ≤ b) × (s < 2 ^ (b - compared)) → compared + 1 ≤ b
+spare compared s b a h = let half = half_fits s 0 (b - compared) a h.1 (omega arith) in omega (arith, half.0)
 
 -- ---- what a test of an answer has told
 
@@ -97,8 +97,15 @@ FoundAt names order n p found = (p < length order → found ≡ then_some (is_eq
 abbrev pub AllRise : List (List ℕ) → List ℕ → ℕ → Type 0
 AllRise names order before = (k : ℕ) (n : List ℕ) → k < before → k < length order → slice_get names (get_or order k 0) ≡ Some n → AllBelow names order n k
 
-some_is : {X : Type 0} (a b : X) → Some a ≡ Some b → a ≡ b
-some_is a b e = cc
+-- A search by halves: the names before `low` are below the name, those from `high` on are not, `found` tells of that
+-- at `high`, and each comparison halves what is left.
+pub record Halving (names : List (List ℕ)) (order n : List ℕ) (low high compared : ℕ) (found : Option ℕ) : Type 0 where
+  pub between : low ≤ high
+  pub within : high ≤ length order
+  pub below : AllBelow names order n low
+  pub from : NoneBelow names order n high
+  pub few : (b : ℕ) → length order < 2 ^ b → (compared ≤ b) × (high - low < 2 ^ (b - compared))
+  pub told : FoundAt names order n high found
 
 module _ (names : List (List ℕ)) (order : List ℕ) (h : IsOrderOf names order) where
   pub as_many : length order ≡ length names
@@ -215,7 +222,7 @@ module _ (names : List (List ℕ)) (order : List ℕ) (h : IsOrderOf names order
     below_next : (p q : ℕ) (m : List ℕ) → p + 1 ≡ q → q < length order → slice_get names (get_or order p 0) ≡ Some m → slice_get names (get_or order q 0) ≡ Some n → m ≢ n → AllBelow names order n q
     below_next p q m after b here next differ =
         subst (AllBelow names order n) after
-        (below_more p (omega (arith, after, b)) (at_most_equal _ _ (ranked n p q 0 (omega (arith, after)) b) (itself (get_or order q 0) next) (λ e. differ (some_is m n (sym here ∙ equal_is _ e)))))
+        (below_more p (omega (arith, after, b)) (at_most_equal _ _ (ranked n p q 0 (omega (arith, after)) b) (itself (get_or order q 0) next) (λ e. differ (same_Some m n (sym here ∙ equal_is _ e)))))
 
     -- two places of one name
     twice : (p q : ℕ) → AllBelow names order n q → p < q → name_cmp names n (get_or order p 0) ≡ Equal → ⊥
@@ -231,7 +238,7 @@ module _ (names : List (List ℕ)) (order : List ℕ) (h : IsOrderOf names order
       (λ sooner. before k o sooner w e)
       (λ later.
       let last : k ≡ q = omega (arith, l, later) in
-      let same : n ≡ o = some_is n o (sym next ∙ ap (λ i. slice_get names (get_or order i 0)) (sym last) ∙ e) in
+      let same : n ≡ o = same_Some n o (sym next ∙ ap (λ i. slice_get names (get_or order i 0)) (sym last) ∙ e) in
       subst (AllBelow names order o) (sym last) (subst (λ x. AllBelow names order x q) same (below_next n p q m after b here next differ)))
       (cases_lt k q)
 

@@ -87,8 +87,8 @@ pub(crate) fn search(
     if !begin_alike(first.as_str().as_bytes(), text, shared) {
         return (None, 1);
     }
-    let (found, ticks) = halve(names, places, name, key_of(text, shared));
-    (found, ticks + 1)
+    let (found, compared) = halve(names, places, name, key_of(text, shared));
+    (found, compared + 1)
 }
 
 // The same by halves: finds the first place in the order whose name isn't below this one, whose key
@@ -103,12 +103,12 @@ fn halve(names: &[FieldName], places: &[Place], name: &str, key: u64) -> (Option
     let mut low = 0;
     let mut high = places.len();
     let mut found = None;
-    let mut ticks = 0;
+    let mut compared = 0;
     while low < high {
         let middle = low + (high - low) / 2;
         let place = places[middle];
-        let (side, ticked) = compare(names, place, name, key, ticks);
-        ticks = ticked;
+        let (side, now_compared) = compare(names, place, name, key, compared);
+        compared = now_compared;
         if side.is_lt() {
             low = middle + 1;
         } else {
@@ -116,22 +116,29 @@ fn halve(names: &[FieldName], places: &[Place], name: &str, key: u64) -> (Option
             found = side.is_eq().then_some(place.position);
         }
     }
-    (found, ticks)
+    (found, compared)
 }
 
-// How the name at a place compares to this one, and one tick more where the keys don't tell.
-fn compare(names: &[FieldName], place: Place, name: &str, key: u64, ticks: u64) -> (Ordering, u64)
+// How the name at a place compares to this one, and how many names were compared by now: one more where
+// the keys don't tell.
+fn compare(
+    names: &[FieldName],
+    place: Place,
+    name: &str,
+    key: u64,
+    compared: u64,
+) -> (Ordering, u64)
     requires within { place.position < length names.now }
     requires told { place.key ≢ key → nat_cmp place.key key ≡ name_cmp names.now name.now place.position }
-    requires room { ticks + 1 < 2 ^ 64 }
+    requires room { compared + 1 < 2 ^ 64 }
     ensures side { result.0 ≡ name_cmp names.now name.now place.position }
-    ensures counted { place.key ≡ key → result.1 ≡ ticks + 1 }
-    ensures ticked { result.1 ≤ ticks + 1 }
+    ensures counted { place.key ≡ key → result.1 ≡ compared + 1 }
+    ensures most { result.1 ≤ compared + 1 }
 {
     if place.key != key {
-        return (place.key.cmp(&key), ticks);
+        return (place.key.cmp(&key), compared);
     }
-    (names[place.position].as_str().cmp(name), ticks + 1)
+    (names[place.position].as_str().cmp(name), compared + 1)
 }
 
 // Whether no name stands twice: equal names would be neighbours in the order.

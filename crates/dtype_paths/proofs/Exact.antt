@@ -4,6 +4,7 @@
 -- What lies along a path in values of a type.
 use Rattle.std.proofs.Common.{◌≡◌, ◌↔◌, ◌∙◌, ◌<◌, ℕ, zero, suc, List, [], ◌∷◌, Bool, true, false, cond, Option, Some, None, refl, sym, ap, subst, inl, inr, arith}
 use Rattle.std.specs.Prelude.{bytes_eq}
+use Rattle.std.proofs.lemmas.Option.{same_Some}
 use Rattle.dtype_base.specs.declared.nullability.Nullability.TheVariants.{NonNullable}
 use Rattle.dtype_types.specs.Lookups.{first_named}
 use Rattle.dtype_types.specs.Sample.{sample, samples, copies}
@@ -19,9 +20,6 @@ use Rattle.dtype_paths.specs.Meets.{MeetsNoSizeZero, MeetsNoExtension}
 use Rattle.dtype_paths.specs.declared.field.Field.{Field}
 use Rattle.dtype_paths.specs.declared.field.Field.TheVariants.{Name, ElementType}
 
-some_is : {X : Type 0} (a b : X) → Some a ≡ Some b → a ≡ b
-some_is a b e = cc
-
 -- ---- what is found is of the type given
 
 member_of : (P : Value → Type 0) (vs : Values) (x : Value) → Each P vs → Member vs x → P x
@@ -35,7 +33,7 @@ first_of_name (named n v rest) (field k t fs) m u y h a b =
     go (bytes_eq k m) (ap (λ z. bytes_eq z m) h.0) a (first_of_name rest fs m u y h.2)
   where
     go : (c : Bool) → bytes_eq n m ≡ c → cond c (Some t) (first_named (pairs fs) m) ≡ Some u → (first_named (pairs fs) m ≡ Some u → first_value rest m ≡ Some y → Of y u) → Of y u
-    go true e a' more = let p : t ≡ u = some_is t u a' in let q : v ≡ y = some_is v y (sym (ap (λ c. cond c (Some v) (first_value rest m)) e) ∙ b) in subst (λ z. Of z u) q (subst (Of v) p h.1)
+    go true e a' more = let p : t ≡ u = same_Some t u a' in let q : v ≡ y = same_Some v y (sym (ap (λ c. cond c (Some v) (first_value rest m)) e) ∙ b) in subst (λ z. Of z u) q (subst (Of v) p h.1)
     go false e a' more = more a' (sym (ap (λ c. cond c (Some v) (first_value rest m)) e) ∙ b)
 first_of_name no_named (field k t fs) m u y h a b = absurd h
 first_of_name (named n v rest) no_fields m u y h a b = absurd h
@@ -43,10 +41,10 @@ first_of_name (named n v rest) no_fields m u y h a b = absurd h
 one_step : (t : Tree) (f : Field) (w : Value) (u : Tree) (y : Value) → Of w t → step t f ≡ Some u → Reaches w f y → Of y u
 one_step (struct fs n) (Name m) (record_of nvs) u y o a r = first_of_name nvs fs m u y o a r
 one_step (struct fs n) (Name m) _ u y o a r = absurd r
-one_step (list t n) ElementType (items vs) u y o a r = let p : t ≡ u = some_is t u a in subst (Of y) p (member_of (λ v. Of v t) vs y o r)
+one_step (list t n) ElementType (items vs) u y o a r = let p : t ≡ u = same_Some t u a in subst (Of y) p (member_of (λ v. Of v t) vs y o r)
 one_step (list t n) ElementType (row vs) u y o a r = absurd o
 one_step (list t n) ElementType _ u y o a r = absurd r
-one_step (fixed_size_list t k n) ElementType (row vs) u y o a r = let p : t ≡ u = some_is t u a in subst (Of y) p (member_of (λ v. Of v t) vs y o.1 r)
+one_step (fixed_size_list t k n) ElementType (row vs) u y o a r = let p : t ≡ u = same_Some t u a in subst (Of y) p (member_of (λ v. Of v t) vs y o.1 r)
 one_step (fixed_size_list t k n) ElementType (items vs) u y o a r = absurd o
 one_step (fixed_size_list t k n) ElementType _ u y o a r = absurd r
 one_step _ _ w u y o a r = cc
@@ -62,7 +60,7 @@ valid_named no_fields m x h e = cc
 valid_named (field n t fs) m x h e = go (bytes_eq n m) e (valid_named fs m x h.1)
   where
     go : (c : Bool) → cond c (Some t) (first_named (pairs fs) m) ≡ Some x → (first_named (pairs fs) m ≡ Some x → Valid x) → Valid x
-    go true e' more = subst Valid (some_is t x e') h.0
+    go true e' more = subst Valid (same_Some t x e') h.0
     go false e' more = more e'
 
 named_around : (fs : Fields) (m : List ℕ) (x : Tree) (k : Tree → Value) → ValidFields fs → first_named (pairs fs) m ≡ Some x → Of (k x) x
@@ -75,7 +73,7 @@ named_around (field n t fs) m x k h e o = go (bytes_eq n m) refl e (named_around
         → NamedOf (cond c (named n (k t) (samples fs)) (named n (sample t) (around_first fs m k))) (field n t fs)
         × (first_value (cond c (named n (k t) (samples fs)) (named n (sample t) (around_first fs m k))) m ≡ Some (k x))
     go true is e' more =
-        let p : x ≡ t = sym (some_is t x e') in
+        let p : x ≡ t = sym (same_Some t x e') in
         ((refl, subst (λ z. Of (k z) z) p o, samples_of fs h.1), ap (λ c. cond c (Some (k t)) (first_value (samples fs) m)) is ∙ ap (λ z. Some (k z)) (sym p))
     go false is e' more =
         let r = more e' o in
@@ -96,11 +94,11 @@ around_of (struct fs n) (Name m ∷ p) u v h z a o =
     let s = named_around fs m a.0 (λ x. around x p v) h a.1 r.0 in
     (s.0, (around a.0 p v, s.1, r.1))
 around_of (list t n) (ElementType ∷ p) u v h z a o =
-    let e : t ≡ a.0 = some_is t a.0 a.1 in
+    let e : t ≡ a.0 = same_Some t a.0 a.1 in
     let r = around_of t p u v h (meets_later (list t n) t ElementType p refl z) (subst (λ x. At x p u) (sym e) a.2) o in
     ((r.0, tt), (around t p v, inl refl, r.1))
 around_of (fixed_size_list t k n) (ElementType ∷ p) u v h z a o =
-    let e : t ≡ a.0 = some_is t a.0 a.1 in
+    let e : t ≡ a.0 = same_Some t a.0 a.1 in
     let r = around_of t p u v h.1 (meets_later (fixed_size_list t k n) t ElementType p refl z) (subst (λ x. At x p u) (sym e) a.2) o in
     let above : 0 < k = z [] t k n (ElementType ∷ p, refl) (λ e. cc) refl in
     ((count-copies k (around t p v), each_copy (λ x. Of x t) k (around t p v) r.0), (around t p v, member_copy k (around t p v) above, r.1))
@@ -176,9 +174,9 @@ valid_along : (t : Tree) (p : List Field) (u : Tree) → Valid t → At t p u �
 valid_along t [] u h a = subst Valid a h
 valid_along (struct fs n) (Name m ∷ p) u h a = valid_along a.0 p u (valid_named fs m a.0 h a.1) a.2
 valid_along (list t n) (ElementType ∷ p) u h a =
-    let e : t ≡ a.0 = some_is t a.0 a.1 in valid_along t p u h (subst (λ x. At x p u) (sym e) a.2)
+    let e : t ≡ a.0 = same_Some t a.0 a.1 in valid_along t p u h (subst (λ x. At x p u) (sym e) a.2)
 valid_along (fixed_size_list t k n) (ElementType ∷ p) u h a =
-    let e : t ≡ a.0 = some_is t a.0 a.1 in valid_along t p u h.1 (subst (λ x. At x p u) (sym e) a.2)
+    let e : t ≡ a.0 = same_Some t a.0 a.1 in valid_along t p u h.1 (subst (λ x. At x p u) (sym e) a.2)
 valid_along _ (_ ∷ p) u h a = cc
 
 pub some_found : (t : Tree) (p : List Field) (u : Tree) → Valid t → MeetsNoSizeZero t p → At t p u → (v : Value) × FoundIn t p v

@@ -368,7 +368,7 @@ module _ (nodes left next : List Node) (found : List (List Field)) (visits : ℕ
 
   -- so the visit counts
   pub opens-counts : (most next_visits : ℕ) → next_visits ≡ min (visits + 1) most → length nodes < most → (next_visits ≡ visits + 1) × (length nodes - next_visits < length nodes - visits)
-  opens-counts most next_visits ticks small = (omega (arith, opens-room, small, ticks), omega (arith, opens-room, small, ticks))
+  opens-counts most next_visits visited small = (omega (arith, opens-room, small, visited), omega (arith, opens-room, small, visited))
 
 -- ---- when no place is left
 

@@ -229,7 +229,7 @@ fn open(nodes: &mut Vec<Node>, place: usize, visits: &mut u64) -> (Option<FieldP
     ensures end_of_others { (i : ℕ) → i ≢ place → end_at nodes.new.items i ≡ end_at nodes.old.items i }
     ensures steps_of_others { (i : ℕ) (f : Field) → i ≢ place
         → child_at nodes.new.items i f ≡ child_at nodes.old.items i f }
-    ensures ticks { visits.new ≡ min (visits.old + 1) u64.MAX }
+    ensures visited { visits.new ≡ min (visits.old + 1) u64.MAX }
 {
     *visits = visits.saturating_add(1);
     let node = mem::replace(&mut nodes[place], Node::empty());

@@ -4,6 +4,7 @@
 -- The plugin `x.tags`: over lists, without metadata.
 use Rattle.std.specs.Prelude.{◌≡◌, ℕ, List, [], ◌∷◌, Option, Some, None, refl}
 use Rattle.std.proofs.Common.{ap, subst}
+use Rattle.std.proofs.lemmas.Option.{same_Some}
 use Rattle.dtype_types.specs.Kinds.{list_element}
 use Rattle.dtype_types.specs.Tree.{Tree}
 use Rattle.vortex_dtype.specs.Meaning.{Bytes, Lawful, Rewrites}
@@ -18,12 +19,9 @@ without_bytes (Some t) (x ∷ b) = None
 abbrev pub over_lists : Rewrites
 over_lists b s = without_bytes (list_element s) b
 
-some_is : (b c : List ℕ) → Some b ≡ Some c → b ≡ c
-some_is b c e = cc
-
 again : (o : Option Tree) (b c : List ℕ) → Bytes b → without_bytes o b ≡ Some c → Bytes c × (without_bytes o c ≡ Some c)
 again None b c bs e = cc
-again (Some t) [] c bs e = let p : [] ≡ c = some_is [] c e in (subst Bytes p bs, subst (λ (x : List ℕ). without_bytes (Some t) x ≡ Some x) p refl)
+again (Some t) [] c bs e = let p : [] ≡ c = same_Some [] c e in (subst Bytes p bs, subst (λ (x : List ℕ). without_bytes (Some t) x ≡ Some x) p refl)
 again (Some t) (x ∷ b) c bs e = cc
 
 -- the second law is that setting a nullability keeps what a list holds

@@ -9,6 +9,7 @@ use Rattle.std.proofs.Common.{arith, ap, sym, ◌∙◌, subst, rules, cond}
 use Rattle.std.proofs.lemmas.Bool.Decides.{nat_tests}
 use Rattle.std.proofs.lemmas.List.Elements.{All-map}
 use Rattle.std.proofs.lemmas.Grind.{common_steps}
+use Rattle.std.proofs.lemmas.Option.{same_Some}
 use Rattle.dtype_types.specs.Tree.{Tree}
 use Rattle.vortex_dtype.specs.Meaning.{Bytes, Lawful}
 use Rattle.vortex_dtype.specs.Typed.{Typed}
@@ -47,12 +48,9 @@ keeps_all (x ∷ xs) e =
     let more = keeps_all xs parts.1 in
     (ap (λ y. y ∷ map low xs) one.0 ∙ ap (λ ys. x ∷ ys) more.0, ap (λ b. b || list_any (λ y. nat_eq y 33) xs) one.1 ∙ more.1)
 
-some_is : {X : Type 0} (a b : X) → Some a ≡ Some b → a ≡ b
-some_is a b e = cc
-
 chosen : (f : Bool) (b c : List ℕ) → (if f then None else Some b) ≡ Some c → (f ≡ false) × (b ≡ c)
 chosen true b c e = cc
-chosen false b c e = (refl, some_is b c e)
+chosen false b c e = (refl, same_Some b c e)
 
 reads_same : (m : List ℕ) → list_any is_changed m ≡ false → lowered m ≡ Some m
 reads_same m e =
@@ -72,6 +70,6 @@ tag_typed = record {
 -- all bytes are kept
 pub all_kept_laws : Lawful (λ b s. Some b)
 all_kept_laws = record {
-  again = λ b c s bs v e. (subst Bytes (some_is b c e) bs, refl);
+  again = λ b c s bs v e. (subst Bytes (same_Some b c e) bs, refl);
   outer = λ b s t n bs v e. refl;
 }

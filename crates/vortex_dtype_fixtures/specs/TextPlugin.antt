@@ -5,6 +5,7 @@
 -- either nullability with no metadata, and the library of `x.word`, whose metadata is that of `x.tag`.
 use Rattle.std.specs.Prelude.{◌≡◌, ℕ, List, [], ◌∷◌, Option, Some, None, Bool, true, false, if◌then◌else◌, option_and_then, refl}
 use Rattle.std.proofs.Common.{ap, subst}
+use Rattle.std.proofs.lemmas.Option.{same_Some}
 use Rattle.dtype_base.specs.declared.nullability.Nullability.{Nullability}
 use Rattle.dtype_base.specs.declared.nullability.Nullability.TheVariants.{NonNullable, Nullable}
 use Rattle.dtype_types.specs.Tree.{Tree, null, bool, primitive, decimal, utf8, binary, list, fixed_size_list, map_of, struct, union, variant, extension}
@@ -28,10 +29,7 @@ abbrev pub text_only : Rewrites
 text_only b s = if is_text s then only_empty b else None
 
 empty_again : (b c : List ℕ) → Bytes b → only_empty b ≡ Some c → Bytes c × (only_empty c ≡ Some c)
-empty_again [] c bs e = let p : [] ≡ c = some_is [] c e in (subst Bytes p bs, subst (λ (x : List ℕ). only_empty x ≡ Some x) p refl)
-  where
-    some_is : (b c : List ℕ) → Some b ≡ Some c → b ≡ c
-    some_is b c e = cc
+empty_again [] c bs e = let p : [] ≡ c = same_Some [] c e in (subst Bytes p bs, subst (λ (x : List ℕ). only_empty x ≡ Some x) p refl)
 empty_again (x ∷ xs) c bs e = cc
 
 again : (f : Bool) (b c : List ℕ) → Bytes b → (if f then only_empty b else None) ≡ Some c → Bytes c × ((if f then only_empty c else None) ≡ Some c)

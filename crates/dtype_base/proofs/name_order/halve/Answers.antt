@@ -4,18 +4,18 @@
 use Rattle.std.proofs.Common.{◌+◌, ◌-◌, ◌/◌, ◌<◌, sym, ap, subst, ◌∙◌, arith, length, is_lt, is_eq}
 use Rattle.std.specs.Bool.{then_some}
 use Rattle.dtype_base.specs.NameOrder.{positions, name_cmp}
-use Rattle.dtype_base.proofs.NameSearch.{as_many, as_many_positions, position_at, stands_within, AllBelow, below_more, above_more, ends, tick, spare, is_less}
+use Rattle.dtype_base.proofs.NameSearch.{as_many, as_many_positions, position_at, stands_within, AllBelow, below_more, above_more, ends, halved, spare, is_less}
 use Rattle.dtype_base.proofs.name_order.halve.Goals as goal
 
 pub compare-side-requires-clause-within : goal.compare-side-requires-clause-within
 compare-side-requires-clause-within c =
     let inv = c.loop-low.invariant in
-    stands_within c.args.names.now c.args.places.now c.requires.order _ _ (omega (arith, inv.0, inv.1, c.loop-low-test.true, as_many_positions c.args.places.now))
+    stands_within c.args.names.now c.args.places.now c.requires.order _ _ (omega (arith, inv.between, inv.within, c.loop-low-test.true, as_many_positions c.args.places.now))
 
 pub compare-side-requires-clause-room : goal.compare-side-requires-clause-room
 compare-side-requires-clause-room c =
     let inv = c.loop-low.invariant in
-    let few = spare c.loop-low.ticks (c.loop-low.high - c.loop-low.low) 64 (omega (arith, c.loop-low-test.true)) (inv.4 64 (omega (arith, as_many_positions c.args.places.now))) in
+    let few = spare c.loop-low.compared (c.loop-low.high - c.loop-low.low) 64 (omega (arith, c.loop-low-test.true)) (inv.few 64 (omega (arith, as_many_positions c.args.places.now))) in
     omega (arith, few)
 
 pub loop-low-preserved-then-is_lt : goal.loop-low-preserved-then-is_lt
@@ -27,15 +27,15 @@ loop-low-preserved-then-is_lt c =
     let low = c.loop-low.low in
     let high = c.loop-low.high in
     let m = low + (high - low) / 2 in
-    let within : m < length places = omega (arith, inv.0, inv.1, c.loop-low-test.true, as_many_positions places) in
-    let less = ap (name_cmp names n) (position_at places m _ within) ∙ sym c.compare-side.ensures.side ∙ is_less _ c.if-is_lt.ensures in (
-      omega (arith, c.loop-low-test.true),
-      inv.1,
-      below_more names (positions places) c.requires.order n m (omega (arith, within, as_many_positions places)) less,
-      inv.3,
-      λ b l. tick c.loop-low.ticks _ (high - low) _ b c.compare-side.ensures.ticked (omega (arith, c.loop-low-test.true)) (omega arith) (inv.4 b l),
-      inv.5,
-    )
+    let within : m < length places = omega (arith, inv.between, inv.within, c.loop-low-test.true, as_many_positions places) in
+    let less = ap (name_cmp names n) (position_at places m _ within) ∙ sym c.compare-side.ensures.side ∙ is_less _ c.if-is_lt.ensures in record {
+      between = omega (arith, c.loop-low-test.true);
+      within = inv.within;
+      below = below_more names (positions places) c.requires.order n m (omega (arith, within, as_many_positions places)) less;
+      from = inv.from;
+      few = λ b l. halved c.loop-low.compared _ (high - low) _ b c.compare-side.ensures.most (omega (arith, c.loop-low-test.true)) (omega arith) (inv.few b l);
+      told = inv.told;
+    }
 
 pub loop-low-preserved : goal.loop-low-preserved
 loop-low-preserved c =
@@ -46,29 +46,29 @@ loop-low-preserved c =
     let low = c.loop-low.low in
     let high = c.loop-low.high in
     let m = low + (high - low) / 2 in
-    let within : m < length places = omega (arith, inv.0, inv.1, c.loop-low-test.true, as_many_positions places) in
+    let within : m < length places = omega (arith, inv.between, inv.within, c.loop-low-test.true, as_many_positions places) in
     let here = position_at places m _ within in
     let side = ap (name_cmp names n) here ∙ sym c.compare-side.ensures.side in
     let not_less = ap is_lt side ∙ sym c.if-is_lt.ensures in
-    let told = c.is_eq.ensures ∙ sym (ap is_eq side) in (
-      omega arith,
-      omega (arith, within, as_many_positions places),
-      inv.2,
-      above_more names (positions places) c.requires.order n m (omega (arith, within, as_many_positions places)) not_less,
-      λ b l. tick c.loop-low.ticks _ (high - low) _ b c.compare-side.ensures.ticked (omega (arith, c.loop-low-test.true)) (omega arith) (inv.4 b l),
-      (λ _. c.then_some-found.ensures ∙ (λ i. then_some (told i) (sym here i)), λ past. absurd (omega (arith, past, within, as_many_positions places))),
-    )
+    let told = c.is_eq.ensures ∙ sym (ap is_eq side) in record {
+      between = omega arith;
+      within = omega (arith, within, as_many_positions places);
+      below = inv.below;
+      from = above_more names (positions places) c.requires.order n m (omega (arith, within, as_many_positions places)) not_less;
+      few = λ b l. halved c.loop-low.compared _ (high - low) _ b c.compare-side.ensures.most (omega (arith, c.loop-low-test.true)) (omega arith) (inv.few b l);
+      told = (λ _. c.then_some-found.ensures ∙ (λ i. then_some (told i) (sym here i)), λ past. absurd (omega (arith, past, within, as_many_positions places)));
+    }
 
 pub returns-clause-found : goal.returns-clause-found
 returns-clause-found c =
     let inv = c.loop-low.invariant in
-    (ends c.args.names.now (positions c.args.places.now) c.requires.order c.args.name.now c.loop-low.high c.loop-low.found inv.1 (subst (AllBelow c.args.names.now (positions c.args.places.now) c.args.name.now) (omega (arith, inv.0, c.loop-low-test.false)) inv.2) inv.3 inv.5).0
+    (ends c.args.names.now (positions c.args.places.now) c.requires.order c.args.name.now c.loop-low.high c.loop-low.found inv.within (subst (AllBelow c.args.names.now (positions c.args.places.now) c.args.name.now) (omega (arith, inv.between, c.loop-low-test.false)) inv.below) inv.from inv.told).0
 
 pub returns-clause-none : goal.returns-clause-none
 returns-clause-none c =
     let inv = c.loop-low.invariant in
-    (ends c.args.names.now (positions c.args.places.now) c.requires.order c.args.name.now c.loop-low.high c.loop-low.found inv.1 (subst (AllBelow c.args.names.now (positions c.args.places.now) c.args.name.now) (omega (arith, inv.0, c.loop-low-test.false)) inv.2) inv.3 inv.5).1
+    (ends c.args.names.now (positions c.args.places.now) c.requires.order c.args.name.now c.loop-low.high c.loop-low.found inv.within (subst (AllBelow c.args.names.now (positions c.args.places.now) c.args.name.now) (omega (arith, inv.between, c.loop-low-test.false)) inv.below) inv.from inv.told).1
 
 pub returns-clause-most : goal.returns-clause-most
 returns-clause-most c = λ b l.
-    let few = c.loop-low.invariant.4 b (omega (arith, l, as_many c.args.names.now (positions c.args.places.now) c.requires.order)) in few.0
+    let few = c.loop-low.invariant.few b (omega (arith, l, as_many c.args.names.now (positions c.args.places.now) c.requires.order)) in few.0

@@ -33,7 +33,7 @@ loop-place-smaller-in-Continue-branch-2 c =
     let nodes = c.args.nodes.items in let t = trie_from_some nodes c.args.nodes.len c.args.nodes.ok.0 (sym c.is_empty.ensures ∙ c.if-is_empty.false) c.requires.trie in
     let l = c.loop-place in let next = c.open-end.new.nodes.items in let x = c.in-Some.place in let ps = c.pop.new.self.items in let e = c.open-end.ensures in
     let o : Opens nodes l.nodes.items l.found.items l.visits (ps ++ x ∷ []) = rw c.in-Some.ensures.items at l.invariant in
-    let n = opens-counts nodes l.nodes.items next l.found.items l.visits ps x t o e.long e.end_of_others e.steps_of_others _ c.open-end.new.visits e.ticks (omega (arith, c.args.nodes.small)) in
+    let n = opens-counts nodes l.nodes.items next l.found.items l.visits ps x t o e.long e.end_of_others e.steps_of_others _ c.open-end.new.visits e.visited (omega (arith, c.args.nodes.small)) in
     n.1
 
 pub loop-place-preserved-in-Continue-branch-2 : goal.loop-place-preserved-in-Continue-branch-2
@@ -41,7 +41,7 @@ loop-place-preserved-in-Continue-branch-2 c =
     let nodes = c.args.nodes.items in let t = trie_from_some nodes c.args.nodes.len c.args.nodes.ok.0 (sym c.is_empty.ensures ∙ c.if-is_empty.false) c.requires.trie in
     let l = c.loop-place in let next = c.open-end.new.nodes.items in let x = c.in-Some.place in let ps = c.pop.new.self.items in let e = c.open-end.ensures in
     let o : Opens nodes l.nodes.items l.found.items l.visits (ps ++ x ∷ []) = rw c.in-Some.ensures.items at l.invariant in
-    let n = opens-counts nodes l.nodes.items next l.found.items l.visits ps x t o e.long e.end_of_others e.steps_of_others _ c.open-end.new.visits e.ticks (omega (arith, c.args.nodes.small)) in
+    let n = opens-counts nodes l.nodes.items next l.found.items l.visits ps x t o e.long e.end_of_others e.steps_of_others _ c.open-end.new.visits e.visited (omega (arith, c.args.nodes.small)) in
     rw (c.in_ok-push-in-Some-end.ensures.items, n.0) (opened-end nodes l.nodes.items next l.found.items l.visits ps x t o e.long e.end_of_others e.steps_of_others c.in-Some-end.path (sym e.end ∙ c.in-Some-end.is))
 
 pub loop-place-smaller : goal.loop-place-smaller
@@ -49,7 +49,7 @@ loop-place-smaller c =
     let nodes = c.args.nodes.items in let t = trie_from_some nodes c.args.nodes.len c.args.nodes.ok.0 (sym c.is_empty.ensures ∙ c.if-is_empty.false) c.requires.trie in
     let l = c.loop-place in let next = c.open-end.new.nodes.items in let x = c.in-Some.place in let ps = c.pop.new.self.items in let e = c.open-end.ensures in
     let o : Opens nodes l.nodes.items l.found.items l.visits (ps ++ x ∷ []) = rw c.in-Some.ensures.items at l.invariant in
-    let n = opens-counts nodes l.nodes.items next l.found.items l.visits ps x t o e.long e.end_of_others e.steps_of_others _ c.open-end.new.visits e.ticks (omega (arith, c.args.nodes.small)) in
+    let n = opens-counts nodes l.nodes.items next l.found.items l.visits ps x t o e.long e.end_of_others e.steps_of_others _ c.open-end.new.visits e.visited (omega (arith, c.args.nodes.small)) in
     n.1
 
 pub loop-place-preserved : goal.loop-place-preserved
@@ -57,7 +57,7 @@ loop-place-preserved c =
     let nodes = c.args.nodes.items in let t = trie_from_some nodes c.args.nodes.len c.args.nodes.ok.0 (sym c.is_empty.ensures ∙ c.if-is_empty.false) c.requires.trie in
     let l = c.loop-place in let next = c.open-end.new.nodes.items in let x = c.in-Some.place in let ps = c.pop.new.self.items in let e = c.open-end.ensures in
     let o : Opens nodes l.nodes.items l.found.items l.visits (ps ++ x ∷ []) = rw c.in-Some.ensures.items at l.invariant in
-    let n = opens-counts nodes l.nodes.items next l.found.items l.visits ps x t o e.long e.end_of_others e.steps_of_others _ c.open-end.new.visits e.ticks (omega (arith, c.args.nodes.small)) in
+    let n = opens-counts nodes l.nodes.items next l.found.items l.visits ps x t o e.long e.end_of_others e.steps_of_others _ c.open-end.new.visits e.visited (omega (arith, c.args.nodes.small)) in
     let g = c.in_ok-give_places-in-None.ensures in
     rw (g.ok, n.0) (opened-children nodes l.nodes.items next l.found.items l.visits ps x t o e.long e.end_of_others e.steps_of_others (steps_of c.open-end.result.1) g.once e.steps (sym e.end ∙ c.in-None.is))
 

@@ -20,8 +20,8 @@ pub fn demo_dtype(alloc: Global) -> VortexResult<DType>
     let number = field(alloc, "b", DType::from(PType::U32))?;
     let element = struct_of(alloc, vec![in alloc; number]?)?;
     let list = DType::list(alloc, element, Nullability::Nullable)?;
-    let byte = Box::new(alloc, DType::from(PType::U8))?;
-    let pair = DType::FixedSizeList(byte, 2, Nullability::NonNullable);
+    let byte = DType::from(PType::U8);
+    let pair = DType::fixed_size_list(alloc, byte, 2, Nullability::NonNullable)?;
     let list = field(alloc, "a", list)?;
     let pair = field(alloc, "f", pair)?;
     struct_of(alloc, vec![in alloc; list, pair]?)

@@ -56,16 +56,6 @@ pub fn record(alloc: Global, name: &str, dtype: DType, n: Nullability) -> Vortex
     DType::struct_(alloc, vec![in alloc; field]?, n)
 }
 
-/// The fixed-size list type of so many of this element.
-pub fn fixed_size_list(
-    alloc: Global,
-    element: DType,
-    size: u32,
-    n: Nullability,
-) -> VortexResult<DType> {
-    Ok(DType::FixedSizeList(Box::new(alloc, element)?, size, n))
-}
-
 /// The extension type `x.y` over this storage, with this metadata.
 pub fn extension(alloc: Global, metadata: &[u8], storage: DType) -> VortexResult<DType> {
     let id = ExtId::new(alloc, "x.y")?;
@@ -84,7 +74,7 @@ fn variants(alloc: Global) -> VortexResult<UnionVariants> {
 pub fn kinds(alloc: Global, n: Nullability) -> VortexResult<Vec<DType>> {
     let decimal = DecimalDType::try_new(10, -5)?;
     let list = DType::list(alloc, primitive(PType::I32, Nullable), n)?;
-    let fixed = fixed_size_list(alloc, primitive(PType::F16, NonNullable), 3, n)?;
+    let fixed = DType::fixed_size_list(alloc, primitive(PType::F16, NonNullable), 3, n)?;
     let map = DType::map(alloc, DType::Utf8(NonNullable), DType::Null, true, n)?;
     let fields = booleans(alloc, &["a", "b"])?;
     let variants = variants(alloc)?;

@@ -6,7 +6,7 @@ ghost use Rattle.dtype_paths.specs.declared.field.Field.{Field};
 
 use crate::fixtures::path;
 use dtype_base::{FieldName, FieldNames, Nullability, PType, VortexResult};
-use dtype_fixtures::{extension, fixed_size_list, is_printed, record};
+use dtype_fixtures::{extension, is_printed, record};
 use dtype_paths::{Field, FieldPath, field_path};
 use dtype_types::{DType, MapDType, StructFields};
 use std::alloc::Global;
@@ -81,7 +81,7 @@ fn map_of_texts(alloc: Global) -> VortexResult<DType> {
 // `{a=fixed_size_list({b=u32})[3]?}`.
 fn rows_of_records(alloc: Global) -> VortexResult<DType> {
     let leaf = record(alloc, "b", DType::Primitive(PType::U32, REQUIRED), REQUIRED)?;
-    let rows = fixed_size_list(alloc, leaf, 3, NULLABLE)?;
+    let rows = DType::fixed_size_list(alloc, leaf, 3, NULLABLE)?;
     record(alloc, "a", rows, REQUIRED)
 }
 
@@ -100,7 +100,7 @@ fn fixed_size_lists_are_entered(rt: HostRuntime) -> Result<(), Fail> {
 fn fixed_size_lists_of_none_are_entered(rt: HostRuntime) -> Result<(), Fail> {
     let alloc = rt.alloc();
     let number = DType::Primitive(PType::U32, REQUIRED);
-    let empty = fixed_size_list(alloc, number.try_clone(alloc)?, 0, REQUIRED)?;
+    let empty = DType::fixed_size_list(alloc, number.try_clone(alloc)?, 0, REQUIRED)?;
     assert!(rt; leads_to(alloc, "[]", &empty, &number)?);
     Ok(())
 }

@@ -5,7 +5,7 @@
 ghost use Rattle.std.specs.Prelude.{◌≡◌, length, IfOk};
 
 use dtype_base::{FieldName, FieldNames, Nullability, PType, VortexResult};
-use dtype_fixtures::{field, fixed_size_list};
+use dtype_fixtures::field;
 use dtype_types::{DType, ExtDTypeRef, ExtId, FieldDType, MapDType, StructFields, UnionVariants};
 use std::alloc::Global;
 
@@ -74,7 +74,7 @@ pub fn nested(alloc: Global) -> VortexResult<DType> {
     let variants = DType::Union(two_variants(alloc)?, REQUIRED);
     let map = DType::Map(map(alloc)?, NULLABLE);
     let extension = DType::Extension(extension(alloc)?);
-    let fixed = fixed_size_list(alloc, list(alloc)?, 2, NULLABLE)?;
+    let fixed = DType::fixed_size_list(alloc, list(alloc)?, 2, NULLABLE)?;
     let mut parts = Vec::new(alloc);
     parts.push(field(alloc, "s", fields)?)?;
     parts.push(field(alloc, "u", variants)?)?;

@@ -13,6 +13,9 @@ use std::alloc::Global;
 pub fn answer(alloc: Global, call: &str) -> VortexResult<Option<String>> {
     let answer = match call {
         "DType::list" => shown(alloc, DType::list(alloc, byte(), NULLABLE)?),
+        "DType::fixed_size_list" => {
+            shown(alloc, DType::fixed_size_list(alloc, byte(), 2, NULLABLE)?)
+        }
         "DType::try_clone" => shown(alloc, nested(alloc)?.try_clone(alloc)?),
         "DType::with_nullability" => with_nullability(alloc, nested(alloc)?),
         "DType::with_nullability of a list" => with_nullability(alloc, list(alloc)?),

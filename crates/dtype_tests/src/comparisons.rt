@@ -3,7 +3,7 @@
 
 use dtype_base::Nullability::{NonNullable, Nullable};
 use dtype_base::{Nullability, PType, VortexResult};
-use dtype_fixtures::{extension, fixed_size_list, kinds, primitive, record};
+use dtype_fixtures::{extension, kinds, primitive, record};
 use dtype_types::DType;
 use std::alloc::Global;
 use std::process::Abort;
@@ -76,11 +76,11 @@ fn nullability_counts_in_lists(rt: HostRuntime) -> Result<(), Fail> {
     let alloc = rt.alloc();
     let one = nested(alloc, NonNullable)?;
     test_narrower(&rt, one, nested(alloc, Nullable)?);
-    let one = fixed_size_list(alloc, int(NonNullable), 0, NonNullable)?;
+    let one = DType::fixed_size_list(alloc, int(NonNullable), 0, NonNullable)?;
     test_narrower(
         &rt,
         one,
-        fixed_size_list(alloc, int(Nullable), 0, NonNullable)?,
+        DType::fixed_size_list(alloc, int(Nullable), 0, NonNullable)?,
     );
     Ok(())
 }

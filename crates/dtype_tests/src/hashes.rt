@@ -2,7 +2,7 @@
 // SPDX-FileCopyrightText: Copyright the Vortex contributors
 
 use dtype_base::{DecimalDType, FieldNames, Nullability, PType, VortexResult};
-use dtype_fixtures::{fixed_size_list, hash_of};
+use dtype_fixtures::hash_of;
 use dtype_types::{DType, ExtDTypeRef, ExtId, FieldDType, MapDType, StructFields, UnionVariants};
 use std::alloc::Global;
 use std::hash::{DefaultHasher, Hasher};
@@ -116,7 +116,7 @@ fn lists_maps_extensions(alloc: Global) -> VortexResult<Vec<DType>> {
     let mut dtypes = Vec::new(alloc);
     dtypes.push(DType::list(alloc, DType::Null, REQUIRED)?)?;
     for size in [1, 2] {
-        dtypes.push(fixed_size_list(alloc, DType::Null, size, REQUIRED)?)?;
+        dtypes.push(DType::fixed_size_list(alloc, DType::Null, size, REQUIRED)?)?;
     }
     for keys_sorted in [true, false] {
         dtypes.push(DType::Map(map_of(alloc, DType::Null, keys_sorted)?, REQUIRED))?;

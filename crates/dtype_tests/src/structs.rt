@@ -3,7 +3,7 @@
 
 use dtype_base::Nullability::{NonNullable, Nullable};
 use dtype_base::{FieldName, FieldNames, PType, VortexError, VortexResult};
-use dtype_fixtures::{booleans, field, fixed_size_list, is_printed, primitive};
+use dtype_fixtures::{booleans, field, is_printed, primitive};
 use dtype_types::{DType, FieldDType, StructFields};
 use std::alloc::Global;
 use std::process::Abort;
@@ -193,7 +193,11 @@ fn structs_in_lists_are_indented(rt: HostRuntime) -> Result<(), Fail> {
 fn structs_in_fixed_size_lists_are_indented(rt: HostRuntime) -> Result<(), Fail> {
     let alloc = rt.alloc();
     let inner = DType::Struct(one_field(alloc, "d", DType::Null)?, Nullable);
-    let fields = one_field(alloc, "f", fixed_size_list(alloc, inner, 2, Nullable)?)?;
+    let fields = one_field(
+        alloc,
+        "f",
+        DType::fixed_size_list(alloc, inner, 2, Nullable)?,
+    )?;
     let indented = fields.indented(alloc)?;
     let text = "{\n  f=fixed_size_list({\n    d=null\n  }?)[2]?\n}";
     assert_eq!(rt; indented.as_str(), text);

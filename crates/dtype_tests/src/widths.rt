@@ -2,7 +2,7 @@
 // SPDX-FileCopyrightText: Copyright the Vortex contributors
 
 use dtype_base::{DecimalDType, Nullability, PType, VortexError, VortexResult};
-use dtype_fixtures::{extension, field, fixed_size_list};
+use dtype_fixtures::{extension, field};
 use dtype_types::DType;
 use std::alloc::Global;
 use std::test::Fail;
@@ -14,7 +14,7 @@ fn number(ptype: PType) -> DType {
 }
 
 fn fixed(alloc: Global, element: DType, size: u32) -> VortexResult<DType> {
-    fixed_size_list(alloc, element, size, REQUIRED)
+    DType::fixed_size_list(alloc, element, size, REQUIRED)
 }
 
 // The longest fixed list of the longest fixed lists of these numbers.

@@ -60,7 +60,7 @@ pub fn lent(rt: &impl Eprint, alloc: Global) -> VortexResult<bool> {
 
 pub fn owned(rt: &impl Eprint, alloc: Global) -> VortexResult<bool> {
     let list = list(alloc)?;
-    let fixed = DType::FixedSizeList(Box::new(alloc, byte())?, 2, REQUIRED);
+    let fixed = DType::fixed_size_list(alloc, byte(), 2, REQUIRED)?;
     let any = DType::list(alloc, byte(), NULLABLE)?;
     let map = DType::Map(map(alloc)?, REQUIRED);
     let fields = DType::Struct(two_fields(alloc)?, REQUIRED);
@@ -129,7 +129,7 @@ pub fn texts(rt: &impl Eprint, alloc: Global) -> VortexResult<bool> {
 
 pub fn widths(rt: &impl Eprint, alloc: Global) -> VortexResult<bool> {
     let dtype = nested(alloc)?;
-    let fixed = DType::FixedSizeList(Box::new(alloc, byte())?, 2, REQUIRED);
+    let fixed = DType::fixed_size_list(alloc, byte(), 2, REQUIRED)?;
     begin(rt);
     let holds = dtype.element_size() == Ok(None) && fixed.element_size() == Ok(Some(2));
     Ok(holds)

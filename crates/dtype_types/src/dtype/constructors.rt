@@ -7,7 +7,7 @@ ghost use Rattle.std.specs.Iterator.{IsFinite};
 ghost use Rattle.dtype_base.specs.declared.vortex_error.VortexError.TheVariants.{OutOfMemory, MapKeyNullable};
 ghost use Rattle.dtype_types.specs.FieldTypes.{IsStructOf, MadeFrom};
 ghost use Rattle.dtype_types.specs.Nullable.{nullability, IsNullable};
-ghost use Rattle.dtype_types.specs.Tree.{list, map_of};
+ghost use Rattle.dtype_types.specs.Tree.{list, fixed_size_list, map_of};
 ghost use Rattle.dtype_types.specs.TreeOf.{tree};
 ghost use Rattle.dtype_types.specs.IsValid.{IsValid};
 
@@ -23,6 +23,20 @@ impl DType {
         ensures refused { IsOkUnless result OutOfMemory }
     {
         Ok(DType::List(Box::new(alloc, element)?, n))
+    }
+
+    /// Lists of so many of this element. Refuses 0 (OutOfMemory) alone.
+    pub fn fixed_size_list(
+        alloc: Global,
+        element: DType,
+        size: u32,
+        n: Nullability,
+    ) -> VortexResult<DType>
+        ensures made { IfOk result (λ d. tree d ≡ fixed_size_list (tree element) size n) }
+        ensures valid { IsValid element → IfOk result IsValid }
+        ensures refused { IsOkUnless result OutOfMemory }
+    {
+        Ok(DType::FixedSizeList(Box::new(alloc, element)?, size, n))
     }
 
     /// Maps of this key and value; whether the keys are sorted is kept and not checked. Refuses 9

@@ -42,8 +42,8 @@ impl Kind {
 }
 
 impl DType {
-    // The outermost variant.
-    pub(crate) fn kind(&self) -> Kind
+    /// The outermost variant.
+    pub fn kind(&self) -> Kind
         ensures { result ≡ kind (tree self.now) }
     {
         match self {

@@ -27,6 +27,7 @@ pub(super) fn types(alloc: Global, dtype: &DType) -> VortexResult<()> {
     FieldDType::from(dtype.try_clone(alloc)?).try_clone(alloc)?;
     for n in NULLABILITIES {
         DType::list(alloc, dtype.try_clone(alloc)?, n)?;
+        DType::fixed_size_list(alloc, dtype.try_clone(alloc)?, 2, n)?;
         DType::map(
             alloc,
             DType::Utf8(REQUIRED),

@@ -72,6 +72,15 @@ gained_union old ps new g = record {
   );
 }
 
+-- what is gained is put behind each list with the old members
+pub gained_behind : (old xs new ps : List (List Field)) → Gains old xs new → SameMembers old ps → SameMembers new (ps ++ xs)
+gained_behind old xs new ps g s = record {
+  same = λ q. (
+    λ c. ⊎_elim (λ e. Contains-append_right ps xs q e) (λ e. Contains-append_left ps xs q ((s.same q).0 e)) ((g.exact q).0 c),
+    λ c. (g.exact q).1 (⊎_elim (λ e. inr ((s.same q).1 e)) (λ e. inl e) (Contains-append_cases ps xs q c)),
+  );
+}
+
 -- ---- what is covered
 
 pub coverage_same : (ps : List (List Field)) → SameCoverage ps ps
@@ -88,6 +97,9 @@ covers_same ps qs q s c = (s.same q).1 c
 
 pub covers_below : (ps : List (List Field)) (p q : List Field) → Covers ps p → Beginning p q → Covers ps q
 covers_below ps p q c b = record { path = c.path; member = c.member; begins = beginning_trans c.path p q c.begins b }
+
+pub covers_further : (ps : List (List Field)) (p rest : List Field) → Covers ps p → Covers ps (p ++ rest)
+covers_further ps p rest c = covers_below ps p (p ++ rest) c (rest, refl)
 
 pub coverage_of_members : (ps qs : List (List Field)) → SameMembers ps qs → SameCoverage ps qs
 coverage_of_members ps qs s = record { same = λ q. (covers_within ps qs q (within_same ps qs s), covers_within qs ps q (within_same qs ps (members_flipped ps qs s))) }
@@ -182,6 +194,10 @@ cover_along cover ps qs c s = record {
       let l = (least_tells ps qs).1 s p in
       (λ m. l.0 ((c.least p).0 m), λ m. (c.least p).1 (l.1 m));
 }
+
+pub covered_behind : (old xs new ps qs : List (List Field)) → Gains old xs new → SameMembers old ps → SameCoverage xs qs → SameCoverage new (ps ++ qs)
+covered_behind old xs new ps qs g m s =
+    coverage_joined new (ps ++ xs) (ps ++ qs) (coverage_of_members new (ps ++ xs) (gained_behind old xs new ps g m)) (coverage_of_unions ps ps xs qs (coverage_same ps) s)
 
 pub cover_of_gained : (cover old ps new qs : List (List Field)) → Gains old ps new → SameCoverage ps qs → IsCover cover new → IsCover cover (old ++ qs)
 cover_of_gained cover old ps new qs g s c = cover_along cover new (old ++ qs) c (coverage_of_gained old ps new qs g s)

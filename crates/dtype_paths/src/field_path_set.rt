@@ -1,11 +1,13 @@
 // SPDX-License-Identifier: Apache-2.0
 // SPDX-FileCopyrightText: Copyright the Vortex contributors
 
-ghost use Rattle.std.specs.Prelude.{◌≡◌, ◌↔◌, ◌+◌, ◌<◌, ◌≤◌, [], ◌∷◌, ℕ, List, length, map, min, IfOk, IsOkUnless, IsTrue, OnErr, OnOk};
+ghost use Rattle.std.specs.Prelude.{◌≡◌, ◌↔◌, ◌+◌, ◌++◌, ◌<◌, ◌≤◌, [], ◌∷◌, ℕ, List, length, map, min, IfOk, IsOkUnless, IsTrue, OnErr, OnOk};
+ghost use Rattle.std.specs.Borrow.{Bor};
 ghost use Rattle.std.specs.Iterator.{Drains, ExtendsWithItems, IsFinite};
-ghost use Rattle.std.specs.Iterator.Runs.{WholeRun};
+ghost use Rattle.std.specs.Iterator.Runs.{WholeRun, YieldsInOrder};
 ghost use Rattle.std.specs.List.{Contains, sum_by};
-ghost use Rattle.std.specs.Vec.Iter.{into_iter_items};
+ghost use Rattle.std.specs.Vec.Iter.{into_iter_items, into_iter_steps};
+ghost use Rattle.std.specs.declared.alloc.Global.{Global};
 ghost use Rattle.dtype_base.specs.declared.vortex_error.VortexError.TheVariants.{OutOfMemory};
 ghost use Rattle.dtype_types.specs.Distinct.{Distinct};
 ghost use Rattle.dtype_paths.specs.Cover.{Begun, Covers, IsCountOf, IsCover, Least, SameCoverage};
@@ -88,6 +90,8 @@ impl FieldPathSet {
         ensures there { OnOk result (Contains self.new path) }
         ensures kept { OnOk result (IsWithin self.old self.new) }
         ensures again { Contains self.old path → OnOk result (SameMembers self.new self.old) }
+        ensures joined { (ps : List (List Field)) → SameMembers self.old ps
+            → OnOk result (SameMembers self.new (ps ++ path ∷ [])) }
         ensures err { OnErr result (self.new ≡ self.old) }
         ensures refused { IsOkUnless result OutOfMemory }
     {
@@ -103,6 +107,12 @@ impl FieldPathSet {
             paths self.old self.new result }
         ensures listed { OnOk result ((it : I.IntoIter) × I.into_iter_gives paths it
             × WholeRun I.IntoIter.next_gives it (λ run. Gains self.old run.items self.new)) }
+        ensures joined { OnOk result ((it : I.IntoIter) × I.into_iter_gives paths it
+            × WholeRun I.IntoIter.next_gives it (λ run. (ps : List (List Field)) → SameMembers self.old ps
+            → SameMembers self.new (ps ++ run.items))) }
+        ensures covered { OnOk result ((it : I.IntoIter) × I.into_iter_gives paths it
+            × WholeRun I.IntoIter.next_gives it (λ run. (ps qs : List (List Field)) → SameMembers self.old ps
+            → SameCoverage run.items qs → SameCoverage self.new (ps ++ qs))) }
         ensures kept { IsWithin self.old self.new }
         ensures refused { IsOkUnless result OutOfMemory }
     {
@@ -116,6 +126,7 @@ impl FieldPathSet {
     pub fn iter(&self) -> VortexResult<vec::IntoIter<&FieldPath>>
         ensures members { IfOk result (λ r. SameMembers (map (λ x. x.now) (into_iter_items r)) self.now) }
         ensures once { IfOk result (λ r. Distinct (map (λ x. x.now) (into_iter_items r))) }
+        ensures runs { OnOk result (YieldsInOrder (into_iter_steps {X = Bor (List Field)} {Z = Global}) into_iter_items) }
         ensures refused { IsOkUnless result OutOfMemory }
     {
         let found = trie::gather(self.alloc, &self.nodes)?;
@@ -127,9 +138,12 @@ impl FieldPathSet {
     pub fn into_iter(self) -> VortexResult<vec::IntoIter<FieldPath>>
         ensures least { IfOk result (λ r. (p : List Field) → Contains (into_iter_items r) p ↔ Least self p) }
         ensures once { IfOk result (λ r. Distinct (into_iter_items r)) }
+        ensures runs { OnOk result (YieldsInOrder (into_iter_steps {X = List Field} {Z = Global}) into_iter_items) }
         ensures covers { IfOk result (λ r. SameCoverage (into_iter_items r) self) }
         ensures own { IfOk result (λ r. IsCover (into_iter_items r) self) }
         ensures cover { (ps : List (List Field)) → SameMembers self ps
+            → IfOk result (λ r. IsCover (into_iter_items r) ps) }
+        ensures alike { (ps : List (List Field)) → SameCoverage self ps
             → IfOk result (λ r. IsCover (into_iter_items r) ps) }
         ensures asked { (ps : List (List Field)) (q : List Field) → SameMembers self ps → Contains ps q
             → IfOk result (λ r. Covers (into_iter_items r) q) }
@@ -148,6 +162,7 @@ impl FieldPathSet {
     pub fn into_iter_counted(self) -> VortexResult<(vec::IntoIter<FieldPath>, u64)>
         ensures least { IfOk result (λ r. (p : List Field) → Contains (into_iter_items r.0) p ↔ Least self p) }
         ensures once { IfOk result (λ r. Distinct (into_iter_items r.0)) }
+        ensures runs { OnOk result (YieldsInOrder (into_iter_steps {X = List Field} {Z = Global}) into_iter_items) }
         ensures covers { IfOk result (λ r. SameCoverage (into_iter_items r.0) self) }
         ensures within { IfOk result (λ r. (ps : List (List Field)) → SameCoverage ps self
             → (p : List Field) → Contains (into_iter_items r.0) p → Contains ps p) }

@@ -84,10 +84,11 @@ pub fn same_coverage_is_an_equivalence()
 
 /// A list covers its members, and what is below what it covers; a list within another covers no more than
 /// that one.
-#[tactic(auto, using(crate::proofs::CoverLaws::covers_member, crate::proofs::SetLaws::covers_below, crate::proofs::SetLaws::covers_within, crate::proofs::SetLaws::covers_same))]
+#[tactic(auto, using(crate::proofs::CoverLaws::covers_member, crate::proofs::SetLaws::covers_below, crate::proofs::SetLaws::covers_further, crate::proofs::SetLaws::covers_within, crate::proofs::SetLaws::covers_same))]
 pub fn lists_cover_their_members_and_what_is_below()
     ensures member { (ps : List (List Field)) (p : List Field) → Contains ps p → Covers ps p }
     ensures below { (ps : List (List Field)) (p q : List Field) → Covers ps p → Beginning p q → Covers ps q }
+    ensures further { (ps : List (List Field)) (p rest : List Field) → Covers ps p → Covers ps (p ++ rest) }
     ensures within { (ps qs : List (List Field)) (q : List Field) → IsWithin ps qs → Covers ps q → Covers qs q }
     ensures same { (ps qs : List (List Field)) (q : List Field) → SameCoverage ps qs → Covers qs q → Covers ps q }
 {}

@@ -153,6 +153,11 @@ admits_more m t ps qs n k e a b = cc
 pub admits_one_more : (m : Meaning) (t u : Tree) (ps : List (List ℕ × Tree)) (name : List ℕ) (n : Nullability) → struct_fields t ≡ Some ps → Admits m t → Admits m u → Admits m (struct (fields (ps ++ (name, u) ∷ [])) n)
 admits_one_more m t u ps name n e a b = admits_more m t ps ((name, u) ∷ []) n n e a (b, tt)
 
+-- the same of a list of fields
+pub admits_fields-behind : (m : Meaning) (ps : List (List ℕ × Tree)) (name : List ℕ) (u : Tree) → AdmitsFields m (fields ps) → Admits m u → AdmitsFields m (fields (ps ++ (name, u) ∷ []))
+admits_fields-behind m [] name u a b = (b, tt)
+admits_fields-behind m (p ∷ ps) name u a b = (a.0, admits_fields-behind m ps name u a.1 b)
+
 -- ---- what calls change, and what they leave alone
 
 pub registered_put : (m n : Meaning) (i : List ℕ) (r : Rewrites) → n ≡ put i r m → n.registered i ≡ Some r
@@ -184,3 +189,13 @@ unknown_nothing n e = ap (λ (s : Meaning). s.unknown) e
 pub admits_allowing : (n : Meaning) (t : Tree) → n ≡ allowing nothing → Admits n t
 admits_allowing n t e =
     admits-all n (λ id. registered_allowing nothing n id e ∙ registered_nothing nothing id refl) (unknown_allowing nothing n e) t
+
+pub kept_allowing : (n : Meaning) (id b : List ℕ) (t : Tree) → n ≡ allowing nothing → keeps n id b t ≡ Some b
+kept_allowing n id b t e =
+    kept_all n (λ i. registered_allowing nothing n i e ∙ registered_nothing nothing i refl) (unknown_allowing nothing n e) id b t
+
+pub flag_put : (m : Meaning) (i : List ℕ) (r : Rewrites) → (put i r m).unknown ≡ m.unknown
+flag_put m i r = unknown_put m (put i r m) i r refl
+
+pub flag_allowing : (m : Meaning) → (allowing m).unknown ≡ true
+flag_allowing m = unknown_allowing m (allowing m) refl

@@ -15,7 +15,7 @@ ghost use Rattle.dtype_types.specs.Valid.{Valid};
 ghost use Rattle.vortex_dtype.specs.Accepts.{Accepts};
 ghost use Rattle.vortex_dtype.specs.Calls.{Call, LeavesAlone, after, is_allow, register};
 ghost use Rattle.vortex_dtype.specs.IsMessage.{IsMessage};
-ghost use Rattle.vortex_dtype.specs.Meaning.{Admits, Bytes, LawfulSession, Meaning, Rewrites, allowing, keeps, nothing, put};
+ghost use Rattle.vortex_dtype.specs.Meaning.{Admits, AdmitsFields, Bytes, LawfulSession, Meaning, Rewrites, allowing, keeps, nothing, put};
 ghost use Rattle.dtype_messages.specs.declared.pb.FieldPath.{FieldPath};
 ghost use Rattle.dtype_messages.specs.Message.{Message};
 ghost use Rattle.dtype_messages.specs.PathNames.{part_names};
@@ -55,6 +55,7 @@ pub fn registering_changes_one_id()
         → n ≡ put i r m → i ≢ id → n.registered id ≡ m.registered id }
     ensures unknown { (m n : Meaning) (i : List ℕ) (r : Rewrites)
         → n ≡ put i r m → n.unknown ≡ m.unknown }
+    ensures flag { (m : Meaning) (i : List ℕ) (r : Rewrites) → (put i r m).unknown ≡ m.unknown }
 {}
 
 /// Keeping unknown ids changes nothing of what is registered, and a new session knows nothing.
@@ -64,6 +65,7 @@ pub fn allowing_changes_no_id()
     ensures unknown { (m n : Meaning) → n ≡ allowing m → n.unknown ≡ true }
     ensures none { (n : Meaning) (id : List ℕ) → n ≡ nothing → n.registered id ≡ None }
     ensures refused { (n : Meaning) → n ≡ nothing → n.unknown ≡ false }
+    ensures allowed { (m : Meaning) → (allowing m).unknown ≡ true }
 {}
 
 /// What a session keeps of bytes is bytes, and the session keeps it as it is.
@@ -126,11 +128,12 @@ pub fn other_nullabilities_are_read_back()
         → Valid t → Admits s t → SetNull t n u → Valid u × Admits s u × Accepts s (written u) u }
 {}
 
-/// A session without plugins that keeps unknown ids admits every type.
+/// A session without plugins that keeps unknown ids admits every type, and keeps all bytes as they are.
 pub fn unknown_ids_are_all_admitted()
     ensures all { (s : Meaning) → ((id : List ℕ) → s.registered id ≡ None) → s.unknown ≡ true
         → (t : Tree) → Admits s t }
     ensures new { (s : Meaning) (t : Tree) → s ≡ allowing nothing → Admits s t }
+    ensures kept { (s : Meaning) (id b : List ℕ) (t : Tree) → s ≡ allowing nothing → keeps s id b t ≡ Some b }
 {}
 
 /// A session admits a struct with more fields behind those of one that it admits, where it admits their types too.
@@ -138,6 +141,8 @@ pub fn more_fields_are_admitted()
     ensures one { (s : Meaning) (t u : Tree) (ps : List (List ℕ × Tree)) (name : List ℕ) (n : Nullability)
         → struct_fields t ≡ Some ps → Admits s t → Admits s u
         → Admits s (struct (fields (ps ++ (name, u) ∷ [])) n) }
+    ensures listed { (s : Meaning) (ps : List (List ℕ × Tree)) (name : List ℕ) (u : Tree)
+        → AdmitsFields s (fields ps) → Admits s u → AdmitsFields s (fields (ps ++ (name, u) ∷ [])) }
     ensures merged { (s : Meaning) (t : Tree) (ps qs : List (List ℕ × Tree)) (n k : Nullability)
         → struct_fields t ≡ Some ps → Admits s t → Admits s (struct (fields qs) k)
         → Admits s (struct (fields (ps ++ qs)) n) }

@@ -1,7 +1,7 @@
 -- SPDX-License-Identifier: Apache-2.0
 -- SPDX-FileCopyrightText: Copyright the Vortex contributors
 
-use Rattle.vortex_dtype.proofs.SessionLaws.{registered_allowing, registered_nothing, unknown_allowing, unknown_nothing}
+use Rattle.vortex_dtype.proofs.SessionLaws.{flag_allowing, registered_allowing, registered_nothing, unknown_allowing, unknown_nothing}
 use Rattle.vortex_dtype.proofs.laws.allowing_changes_no_id.Goals as goal
 
 pub returns-clause-registered : goal.returns-clause-registered
@@ -15,3 +15,6 @@ returns-clause-none c = registered_nothing
 
 pub returns-clause-refused : goal.returns-clause-refused
 returns-clause-refused c = unknown_nothing
+
+pub returns-clause-allowed : goal.returns-clause-allowed
+returns-clause-allowed c = flag_allowing

@@ -3,9 +3,11 @@
 
 // Iterators end, and give as many items as they announced, one after another.
 ghost use Rattle.std.specs.Prelude.{◌≡◌, IfOk, map, true};
+ghost use Rattle.dtype_types.specs.Lists.{lent_pair};
+ghost use Rattle.dtype_types.specs.TreeOf.{children, struct_pairs, with_trees};
 
 use dtype_base::{FieldName, FieldNames, VortexResult};
-use dtype_types::{StructFields, UnionVariants};
+use dtype_types::{DType, StructFields, UnionVariants};
 use std::alloc::Global;
 
 /// The types of fields.
@@ -56,4 +58,15 @@ pub fn names_collected(alloc: Global, names: FieldNames) -> VortexResult<Vec<Fie
     ensures { IfOk result (λ list. list.items ≡ names) }
 {
     Ok(names.into_iter().collect(alloc)?)
+}
+
+/// The fields of a struct, lent, as a list of pairs: seen with the trees of their types they are all of them, in order.
+pub fn fields_collected(
+    alloc: Global,
+    fields: &StructFields,
+) -> VortexResult<Vec<(&FieldName, &DType)>>
+    ensures lent { IfOk result (λ list. map lent_pair list.items ≡ struct_pairs fields.now) }
+    ensures trees { IfOk result (λ list. with_trees (map lent_pair list.items) ≡ children fields.now) }
+{
+    Ok(fields.pairs().collect(alloc)?)
 }

@@ -2,11 +2,12 @@
 // SPDX-FileCopyrightText: Copyright the Vortex contributors
 
 //! A reader that descends a table with a mask: what is asked of it further down.
-ghost use Rattle.std.specs.Prelude.{◌≡◌, ◌↔◌, ◌∷◌, [], IfOk, IsTrue};
+ghost use Rattle.std.specs.Prelude.{◌≡◌, ◌↔◌, ◌∷◌, [], IfOk, IfSome, IsTrue, List};
+ghost use Rattle.dtype_paths.specs.In.{In};
 ghost use Rattle.dtype_paths.specs.declared.field.Field.{Field};
 
 use dtype_base::VortexResult;
-use dtype_paths::{FieldMask, FieldPath, field_path};
+use dtype_paths::{Field, FieldMask, FieldPath, field_path};
 use std::alloc::Global;
 
 /// The mask of a projected column two levels down, behind both its names: all is asked for there.
@@ -50,4 +51,14 @@ pub fn is_all_that_is_asked(column: FieldPath, mask: &FieldMask) -> bool
     ensures { IsTrue result ↔ (mask.now ≡ FieldMask.Exact column) }
 {
     *mask == FieldMask::Exact(column)
+}
+
+/// What is asked below a field, where the mask begins with it.
+pub fn mask_below_field(mask: FieldMask, field: &Field) -> VortexResult<Option<FieldMask>>
+    ensures { IfOk result (λ found. IfSome found (λ m. (q : List Field) → In m q ↔ In mask (field.now ∷ q))) }
+{
+    if mask.starting_field()? != Some(field) {
+        return Ok(None);
+    }
+    Ok(Some(mask.step_into()?))
 }

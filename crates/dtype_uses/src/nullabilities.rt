@@ -3,7 +3,7 @@
 
 // Nullability set, and set again.
 ghost use Rattle.std.specs.Prelude.{◌≡◌, IfOk, true};
-ghost use Rattle.dtype_base.specs.declared.nullability.Nullability.TheVariants.{NonNullable};
+ghost use Rattle.dtype_base.specs.declared.nullability.Nullability.TheVariants.{NonNullable, Nullable};
 ghost use Rattle.dtype_types.specs.Nullable.{CanBeNonNullable, IsNullable, SetNull, nullability};
 ghost use Rattle.dtype_types.specs.Sub.{Sub};
 ghost use Rattle.dtype_types.specs.TreeOf.{tree};
@@ -34,6 +34,15 @@ pub fn set_twice(
     dtype
         .with_nullability(alloc, first)?
         .with_nullability(alloc, last)
+}
+
+/// A type made nullable twice is the type made nullable.
+pub fn nullable_twice(dtype: &DType, alloc: Global) -> VortexResult<DType>
+    ensures { IfOk result (λ d. SetNull (tree dtype.now) Nullable (tree d)) }
+{
+    let once = dtype.as_nullable(alloc)?;
+    dtype_types::laws::nullability_is_set_alone();
+    once.as_nullable(alloc)
 }
 
 /// Whether a type is nullable that is above a nullable one.

@@ -2,21 +2,22 @@
 // SPDX-FileCopyrightText: Copyright the Vortex contributors
 
 //! A reader of columns: what is asked of it, and what it opens for that.
-ghost use Rattle.std.specs.Prelude.{◌≡◌, ◌↔◌, ◌+◌, ◌++◌, ◌≤◌, IfOk, IsTrue, List, OnOk, is_some, length, map};
+ghost use Rattle.std.specs.Prelude.{◌≡◌, ◌↔◌, ◌+◌, ◌++◌, [], ◌∷◌, ◌≤◌, IfOk, IsTrue, List, OnOk, is_some, length, map};
 ghost use Rattle.std.specs.List.{Contains, sum_by};
 ghost use Rattle.std.specs.Vec.Iter.{into_iter_items};
 ghost use Rattle.dtype_types.specs.TreeOf.{tree};
 ghost use Rattle.dtype_paths.specs.Along.{along};
 ghost use Rattle.dtype_paths.specs.Cover.{Covers, IsCover, Least, SameCoverage};
-ghost use Rattle.dtype_paths.specs.PathSets.{Gains, SameMembers};
+ghost use Rattle.dtype_paths.specs.PathSets.{Gains, IsWithin, SameMembers};
 ghost use Rattle.dtype_paths.specs.declared.field.Field.{Field};
 
 use dtype_base::VortexResult;
 use dtype_paths::laws::{
     being_within_is_an_order, covers_of_the_same_have_the_same_members,
-    two_covers_together_cover_what_both_lists_cover,
+    lists_cover_their_members_and_what_is_below, same_members_is_an_equivalence,
+    sets_gain_members_and_lose_none, two_covers_together_cover_what_both_lists_cover,
 };
-use dtype_paths::{FieldPath, FieldPathSet};
+use dtype_paths::{Field, FieldPath, FieldPathSet};
 use dtype_types::DType;
 use std::alloc::Global;
 use std::vec;
@@ -130,6 +131,81 @@ pub fn covers_of_each(
     let second = other.into_iter()?;
     two_covers_together_cover_what_both_lists_cover();
     Ok((first, second))
+}
+
+/// The columns to open for two sets at once, of which the first stays: the second's least paths are put into a copy.
+pub fn cover_of_both(
+    asked: &FieldPathSet,
+    more: FieldPathSet,
+) -> VortexResult<vec::IntoIter<FieldPath>>
+    ensures { IfOk result (λ r. IsCover (into_iter_items r) (asked.now ++ more)) }
+{
+    let mut both = asked.try_clone()?;
+    both.extend(more.into_iter()?)?;
+    both.into_iter()
+}
+
+/// The columns to open for a set and the columns of a query besides.
+pub fn cover_with_query(
+    asked: &FieldPathSet,
+    columns: Vec<FieldPath>,
+) -> VortexResult<vec::IntoIter<FieldPath>>
+    ensures { IfOk result (λ r. IsCover (into_iter_items r) (asked.now ++ columns.items)) }
+{
+    let mut both = asked.try_clone()?;
+    both.extend(columns)?;
+    both.into_iter()
+}
+
+/// The columns to open for one path.
+pub fn cover_of_one(alloc: Global, path: FieldPath) -> VortexResult<vec::IntoIter<FieldPath>>
+    ensures { IfOk result (λ r. IsCover (into_iter_items r) (path ∷ [])) }
+{
+    let mut asked = FieldPathSet::new(alloc);
+    asked.insert(path)?;
+    same_members_is_an_equivalence();
+    asked.into_iter()
+}
+
+/// The set of two paths.
+pub fn set_of_two(alloc: Global, first: FieldPath, second: FieldPath) -> VortexResult<FieldPathSet>
+    ensures { IfOk result (λ s. SameMembers s (first ∷ second ∷ [])) }
+{
+    let mut asked = FieldPathSet::new(alloc);
+    asked.insert(first)?;
+    asked.insert(second)?;
+    sets_gain_members_and_lose_none();
+    same_members_is_an_equivalence();
+    Ok(asked)
+}
+
+/// The columns of a query and one more.
+pub fn query_and_column(
+    alloc: Global,
+    columns: Vec<FieldPath>,
+    more: FieldPath,
+) -> VortexResult<FieldPathSet>
+    ensures { IfOk result (λ s. SameMembers s (columns.items ++ more ∷ [])) }
+{
+    let mut asked = FieldPathSet::from_iter(alloc, columns)?;
+    asked.insert(more)?;
+    Ok(asked)
+}
+
+/// Whether all columns of a query are asked for.
+pub fn asks_for_each(asked: &FieldPathSet, columns: &[FieldPath]) -> bool
+    ensures { IsTrue result ↔ IsWithin columns.now asked.now }
+{
+    columns.iter().all(|path| asked.contains(path))
+}
+
+/// Asks for a table: each of its columns is covered.
+pub fn ask_for_table(asked: &mut FieldPathSet, table: FieldPath, column: Field) -> VortexResult<()>
+    ensures { OnOk result (Covers asked.new (table ++ column ∷ [])) }
+{
+    let _column = column;
+    lists_cover_their_members_and_what_is_below();
+    asked.insert(table)
 }
 
 /// How often a cover looks: once at least, and at most once more than its paths have steps.

@@ -3,13 +3,13 @@
 
 //! What a user of messages gets, from the contracts of the public calls and two laws alone.
 ghost use Rattle.std.specs.Prelude.{◌≡◌, ◌++◌, [], ◌∷◌, IfOk, IsOkUnless, IsTrue, Some, map};
-ghost use Rattle.dtype_base.specs.declared.nullability.Nullability.TheVariants.{Nullable};
+ghost use Rattle.dtype_base.specs.declared.nullability.Nullability.TheVariants.{NonNullable, Nullable};
 ghost use Rattle.dtype_base.specs.declared.vortex_error.VortexError.TheVariants.{OutOfMemory};
 ghost use Rattle.dtype_types.specs.IsValid.{IsValid, IsValidStruct};
 ghost use Rattle.dtype_types.specs.Tree.{fields, primitive, struct};
-ghost use Rattle.dtype_types.specs.TreeOf.{children, tree};
+ghost use Rattle.dtype_types.specs.TreeOf.{children, struct_tree, tree};
 ghost use Rattle.dtype_types.specs.Valid.{Valid};
-ghost use Rattle.vortex_dtype.specs.Meaning.{Admits};
+ghost use Rattle.vortex_dtype.specs.Meaning.{Admits, AdmitsFields};
 ghost use Rattle.vortex_dtype.specs.PathMessage.{steps_of};
 ghost use Rattle.vortex_dtype.specs.Session.{meaning};
 
@@ -17,7 +17,7 @@ use dtype_base::{FieldName, FieldNames, Nullability, PType, VortexResult};
 use dtype_messages::pb;
 use dtype_types::{DType, StructFields};
 use std::alloc::Global;
-use vortex_dtype::laws::{messages_are_exact, same_names_same_steps};
+use vortex_dtype::laws::{messages_are_exact, more_fields_are_admitted, same_names_same_steps};
 use vortex_dtype::{DTypeProto, DTypeSession, ExtDTypePlugin, FieldPath, FieldPathProto};
 
 /// A type stored as a message and read back: the same type, where the session admits it. Refuses
@@ -66,6 +66,25 @@ pub fn with_column(
     let dtypes = vec![in alloc; DType::Primitive(numbers, Nullability::Nullable)]?;
     let column = StructFields::new(alloc, names, dtypes)?;
     Ok(DType::Struct(columns.disjoint_merge(alloc, &column)?, n))
+}
+
+/// The same stored and read back, under a session that admits the columns: the schema with the column more.
+pub fn stored_with_column(
+    alloc: Global,
+    columns: &StructFields,
+    name: FieldName,
+    numbers: PType,
+    session: &DTypeSession,
+) -> VortexResult<DType>
+    ensures { IsValidStruct columns.now
+        → AdmitsFields (meaning (λ b. rewrites (b.vtable, b.value)) session.now) (struct_tree columns.now)
+        → IfOk result (λ d. tree d
+        ≡ struct (fields (children columns.now ++ (name, primitive numbers Nullable) ∷ [])) NonNullable) }
+{
+    let wider = with_column(alloc, columns, Nullability::NonNullable, name, numbers)?;
+    let stored = wider.to_proto(alloc)?;
+    more_fields_are_admitted();
+    DType::from_proto(alloc, &stored, session)
 }
 
 /// Whether a copy of a message equals it: it always does.

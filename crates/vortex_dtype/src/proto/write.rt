@@ -19,6 +19,7 @@ use std::string::String;
 
 // The message of the type.
 #[cycle(writing)]
+#[tactic(auto, using(crate::proofs::WrittenParts::flag_is))]
 pub(crate) fn write(alloc: Global, dtype: &DType) -> VortexResult<pb::DType>
     ensures written { IfOk result (λ m. message m ≡ written (tree dtype.now)) }
     ensures refused { IsOkUnless result OutOfMemory }
@@ -26,40 +27,40 @@ pub(crate) fn write(alloc: Global, dtype: &DType) -> VortexResult<pb::DType>
     match dtype {
         DType::Null => Ok(of_kind(pb::DtypeType::Null(pb::Null {}))),
         DType::Bool(n) => Ok(of_kind(pb::DtypeType::Bool(pb::Bool {
-            nullable: flag_of(*n),
+            nullable: n.is_nullable(),
         }))),
         DType::Primitive(ptype, n) => Ok(of_kind(pb::DtypeType::Primitive(pb::Primitive {
             ptype: pb::PType::from(*ptype).number(),
-            nullable: flag_of(*n),
+            nullable: n.is_nullable(),
         }))),
         DType::Decimal(decimal, n) => Ok(of_kind(pb::DtypeType::Decimal(pb::Decimal {
             precision: u32::from(decimal.precision()),
             scale: i32::from(decimal.scale()),
-            nullable: flag_of(*n),
+            nullable: n.is_nullable(),
         }))),
         DType::Utf8(n) => Ok(of_kind(pb::DtypeType::Utf8(pb::Utf8 {
-            nullable: flag_of(*n),
+            nullable: n.is_nullable(),
         }))),
         DType::Binary(n) => Ok(of_kind(pb::DtypeType::Binary(pb::Binary {
-            nullable: flag_of(*n),
+            nullable: n.is_nullable(),
         }))),
         DType::List(element, n) => {
             let element = write_child(alloc, element)?;
-            list_proto(alloc, element, flag_of(*n))
+            list_proto(alloc, element, n.is_nullable())
         }
         DType::FixedSizeList(element, size, n) => {
             let element = write_child(alloc, element)?;
-            fixed_proto(alloc, element, *size, flag_of(*n))
+            fixed_proto(alloc, element, *size, n.is_nullable())
         }
         DType::Map(m, n) => {
             let key = write_child(alloc, m.key_dtype())?;
             let value = write_child(alloc, m.value_dtype())?;
-            map_proto(alloc, key, value, m.keys_sorted(), flag_of(*n))
+            map_proto(alloc, key, value, m.keys_sorted(), n.is_nullable())
         }
         DType::Struct(fields, n) => write_struct(alloc, fields, *n),
         DType::Union(variants, n) => write_union(alloc, variants, *n),
         DType::Variant(n) => Ok(of_kind(pb::DtypeType::Variant(pb::Variant {
-            nullable: flag_of(*n),
+            nullable: n.is_nullable(),
         }))),
         DType::Extension(extension) => {
             let storage = write_child(alloc, extension.storage_dtype())?;
@@ -88,17 +89,11 @@ fn write_struct(alloc: Global, fields: &StructFields, n: Nullability) -> VortexR
     let count = fields.nfields();
     let mut names = Vec::with_capacity(alloc, count)?;
     let mut dtypes = Vec::with_capacity(alloc, count)?;
-    for i in 0..count {
-        let Some(name) = fields.field_name(i) else {
-            unreachable!()
-        };
-        let Some(dtype) = fields.field_by_index(i) else {
-            unreachable!()
-        };
+    for (name, dtype) in fields.pairs() {
         names.push(name.to_text(alloc)?)?;
         dtypes.push(write(alloc, dtype)?)?;
     }
-    Ok(struct_proto(names, dtypes, flag_of(n)))
+    Ok(struct_proto(names, dtypes, n.is_nullable()))
 }
 
 // The message of a union of this nullability.
@@ -109,30 +104,15 @@ fn write_union(alloc: Global, variants: &UnionVariants, n: Nullability) -> Vorte
     ensures refused { IsOkUnless result OutOfMemory }
 {
     let count = variants.len();
-    let texts = variants.names().as_slice();
-    let type_ids = variants.type_ids();
     let mut names = Vec::with_capacity(alloc, count)?;
     let mut dtypes = Vec::with_capacity(alloc, count)?;
     let mut tags = Vec::with_capacity(alloc, count)?;
-    for i in 0..count {
-        let Some(dtype) = variants.variant_by_index(i) else {
-            unreachable!()
-        };
-        names.push(texts[i].to_text(alloc)?)?;
+    for (name, tag, dtype) in variants.triples() {
+        names.push(name.to_text(alloc)?)?;
         dtypes.push(write(alloc, dtype)?)?;
-        tags.push(i32::from(type_ids[i]))?;
+        tags.push(i32::from(tag))?;
     }
-    Ok(union_proto(names, dtypes, tags, flag_of(n)))
-}
-
-// A nullability as a flag.
-fn flag_of(n: Nullability) -> bool
-    ensures { result ≡ is_nullable n }
-{
-    match n {
-        Nullability::NonNullable => false,
-        Nullability::Nullable => true,
-    }
+    Ok(union_proto(names, dtypes, tags, n.is_nullable()))
 }
 
 // The message of a kind.

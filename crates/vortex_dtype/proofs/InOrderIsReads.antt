@@ -2,20 +2,19 @@
 -- SPDX-FileCopyrightText: Copyright the Vortex contributors
 
 -- What the reading function gives is what reads, and its refusals are faults.
-use Rattle.std.proofs.Common.{◌≡◌, ◌≢◌, ◌⊎◌, ⊎_elim, inl, inr, ℕ, ℤ, pos, ◌<◌, ◌≤◌, ◌==◌, List, [], ◌∷◌, length, map, Option, Some, None, Bool, true, false, cond, Result, Ok, Err, nat_eq, refl, sym, ap, subst, ◌∙◌, arith}
+use Rattle.std.proofs.Common.{◌≡◌, ◌≢◌, ◌⊎◌, ⊎_elim, inl, inr, ℕ, ℤ, pos, ◌<◌, ◌==◌, List, [], ◌∷◌, length, map, Option, Some, None, Bool, true, false, cond, Result, Ok, Err, nat_eq, refl, sym, ap, subst, ◌∙◌, arith}
 use Rattle.std.specs.Int.{w32}
 use Rattle.std.specs.Prelude.{FitsSigned, IfOk}
-use Rattle.std.specs.List.{zip, IsDistinct, AllByRecursion}
+use Rattle.std.specs.List.{zip}
 use Rattle.std.specs.Str.{bytes_eq}
-use Rattle.std.specs.Ordering.{int_eq}
-use Rattle.std.specs.Cmp.{unsigned_Decides, signed_Decides}
-use Rattle.std.proofs.lemmas.Bool.{false≢true}
-use Rattle.std.proofs.lemmas.Bool.Decides.{Decides-eqb, nat_tests}
+use Rattle.std.proofs.lemmas.Bool.{both_ways}
+use Rattle.std.proofs.lemmas.Bool.Decides.{Decides-eqb}
 use Rattle.std.proofs.lemmas.Int.{ints}
 use Rattle.std.proofs.lemmas.List.{length-map}
 use Rattle.std.proofs.lemmas.List.Elements.{All-cons, All-nil}
+use Rattle.std.proofs.lemmas.Option.{none-some}
 use Rattle.std.proofs.lemmas.Slice.Eq.{bytes_eq-Decides}
-use Rattle.std.proofs.lemmas.Map.Made.{IsDistinct-from_AllPairs, AllPairs-from_IsDistinct}
+use Rattle.std.proofs.lemmas.Map.Made.{AllPairs-from_IsDistinct}
 use Rattle.dtype_base.specs.declared.nullability.Nullability.{Nullability}
 use Rattle.dtype_base.specs.declared.nullability.Nullability.TheVariants.{NonNullable, Nullable}
 use Rattle.dtype_base.specs.declared.ptype.PType.{PType}
@@ -40,16 +39,8 @@ use Rattle.vortex_dtype.specs.Reads.{Reads, ReadsChild, ReadsFields, ReadsVarian
 use Rattle.vortex_dtype.specs.ReadInOrder.{Gives, read, read_child, read_all, read_tags, primitive_read, decimal_made, decimal_read, map_read, when_required, struct_read, union_made, union_read, extension_read, repeats, ◌>>=◌, or_fault, or_empty}
 use Rattle.vortex_dtype.proofs.Decimals.{made_ok, made_err, fits_byte, fits_small, no_byte, no_small}
 use Rattle.vortex_dtype.proofs.Unions.{apart, has_names, tags_up, union_refused}
-use Rattle.vortex_dtype.proofs.ReadsLaws.{byte_is, none_is, number-ptype_at, ptype_at-number}
-
-abbrev ok : {A : Type 0} → A → Result A VortexError
-ok x = Ok x
-
-abbrev err : {A : Type 0} → VortexError → Result A VortexError
-err k = Err k
-
-err_same : {A : Type 0} (j k : VortexError) → err {A = A} j ≡ Err k → j ≡ k
-err_same j k e = cc
+use Rattle.vortex_dtype.proofs.ReadsLaws.{byte_is, number-ptype_at, ptype_at-number}
+use Rattle.vortex_dtype.proofs.Results.{ok, err, ok_is, err_is, ok_err}
 
 bind_ok : {A B : Type 0} (r : Result A VortexError) (f : A → Result B VortexError) (y : B) → (r >>= f) ≡ Ok y → (x : A) × (r ≡ Ok x) × (f x ≡ Ok y)
 bind_ok (Ok x) f y e = (x, refl, e)
@@ -57,13 +48,7 @@ bind_ok (Err k) f y e = cc
 
 bind_err : {A B : Type 0} (r : Result A VortexError) (f : A → Result B VortexError) (k : VortexError) → (r >>= f) ≡ Err k → (r ≡ Err k) ⊎ ((x : A) × (r ≡ Ok x) × (f x ≡ Err k))
 bind_err (Ok x) f k e = inr (x, refl, e)
-bind_err {A} {B} (Err j) f k e = inl (ap (err {A = A}) (err_same {A = B} j k e))
-
-ok_is : {A : Type 0} (a b : A) → ok a ≡ Ok b → b ≡ a
-ok_is a b e = cc
-
-err_is : {A : Type 0} (a b : VortexError) → err {A = A} a ≡ Err b → b ≡ a
-err_is a b e = cc
+bind_err {A} {B} (Err j) f k e = inl (ap (err {A = A}) (sym (err_is {A = B} j k e)))
 
 fault_is_some : {A : Type 0} (k : VortexError) (o : Option A) (x : A) → or_fault k o ≡ Ok x → o ≡ Some x
 fault_is_some k None x e = cc
@@ -72,9 +57,6 @@ fault_is_some k (Some y) x e = ap Some (sym (ok_is y x e))
 fault_is_none : {A : Type 0} (k j : VortexError) (o : Option A) → or_fault k o ≡ Err j → (j ≡ k) × (o ≡ None)
 fault_is_none k j None e = (err_is {A = _} k j e, refl)
 fault_is_none k j (Some y) e = cc
-
-ok_err : {A : Type 0} {x : A} {k : VortexError} → ok x ≡ Err k → ⊥
-ok_err e = cc
 
 -- ---- the parts
 
@@ -85,7 +67,7 @@ primitive_reads k n t e =
     (b.0, number-ptype_at k b.0 (fault_is_some (Faulty PrimitiveNumber) (ptype_at k) b.0 b.1), ok_is (of.primitive b.0 n) t b.2)
 
 no_number : (k : ℤ) → ptype_at k ≡ None → (p : PType) → k ≢ number p
-no_number k e p is = none_is p (sym (ptype_at-number p) ∙ ap ptype_at (sym is) ∙ e)
+no_number k e p is = none-some p (sym e ∙ ap ptype_at is ∙ ptype_at-number p)
 
 primitive_fault : (k : ℤ) (n : Nullability) (j : VortexError) → primitive_read k n ≡ Err j → (j ≡ Faulty PrimitiveNumber) × ((p : PType) → k ≢ number p)
 unfolding primitive_read
@@ -144,9 +126,6 @@ test_err : {A : Type 0} (b : Bool) (x : A) (j k : VortexError) → cond b (ok x)
 test_err true x j k e = cc
 test_err {A} false x j k e = (refl, err_is {A = A} j k e)
 
-not_both : (b : Bool) → b ≡ true → b ≡ false → ⊥
-not_both b e f = let g : true ≡ false = sym e ∙ f in cc
-
 struct_reads : (ns : List (List ℕ)) (ts : List Tree) (n : Nullability) (t : Tree) → struct_read ns ts n ≡ Ok t → (length ns ≡ length ts) × (t ≡ of.struct (fields (zip ns ts)) n)
 unfolding struct_read
 struct_reads ns ts n t e = let g = test_ok (length ns == length ts) (of.struct (fields (zip ns ts)) n) (Faulty StructLengths) t e in ((Decides-eqb (length ns) (length ts)).0 g.0, g.1)
@@ -155,7 +134,7 @@ struct_fault : (ns : List (List ℕ)) (ts : List Tree) (n : Nullability) (k : Vo
 unfolding struct_read
 struct_fault ns ts n k e =
     let g = test_err (length ns == length ts) (of.struct (fields (zip ns ts)) n) (Faulty StructLengths) k e in
-    (g.1, λ h. not_both (length ns == length ts) ((Decides-eqb (length ns) (length ts)).1 h) g.0)
+    (g.1, λ h. both_ways (length ns == length ts) g.0 ((Decides-eqb (length ns) (length ts)).1 h))
 
 -- ---- tags
 

@@ -2,9 +2,9 @@
 -- SPDX-FileCopyrightText: Copyright the Vortex contributors
 
 -- Facts on the meanings of sessions.
-use Rattle.std.proofs.Common.{◌≡◌, ℕ, List, Option, Some, None, Result, Ok, Err, IfOk, IfErr, Bool, true, false, ap, cond, subst}
+use Rattle.std.proofs.Common.{◌≡◌, ℕ, List, Option, Some, None, Result, Ok, Err, IfOk, IfErr, Bool, true, false, ap, cond, inl, inr, subst}
+use Rattle.std.proofs.lemmas.Option.{same_Some}
 use Rattle.std.proofs.lemmas.Result.{IfErr-weaker}
-use Rattle.std.proofs.Common.{inl, inr}
 use Rattle.std.specs.Prelude.{option_map}
 use Rattle.std.specs.declared.string.String.{String}
 use Rattle.std.specs.declared.alloc.Global.{Global}
@@ -27,10 +27,7 @@ option_map-cond r false x o p e = ap (option_map r) e
 
 pub lawful_found : {B : Type 0} (r : B → Rewrites) → ((b : B) → Lawful (r b)) → (o : Option B) (q : Rewrites) → option_map r o ≡ Some q → Lawful q
 lawful_found r h None q e = cc
-lawful_found r h (Some b) q e = subst Lawful (some_is _ _ e) (h b)
-  where
-    some_is : (a b : Rewrites) → Some a ≡ Some b → a ≡ b
-    some_is a b e = cc
+lawful_found r h (Some b) q e = subst Lawful (same_Some _ _ e) (h b)
 
 -- what a lawful plugin writes back of bytes it writes back unchanged
 pub written_again : {X E : Type 0} (r : Rewrites) → Lawful r → (b : List ℕ) (s : Tree) (shown : X → List ℕ) (o : Result X E)

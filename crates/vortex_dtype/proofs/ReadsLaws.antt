@@ -2,14 +2,15 @@
 -- SPDX-FileCopyrightText: Copyright the Vortex contributors
 
 -- Laws of reading, over message trees and types alone.
-use Rattle.std.proofs.Common.{◌≡◌, ◌≢◌, ⊎_elim, ℕ, ℤ, negsuc, ◌<◌, ◌≤◌, List, [], ◌∷◌, length, Option, Some, None, Bool, true, false, cond, ◌==◌, pos, refl, sym, ap, ◌∙◌, subst, arith, All, nat_lt}
+use Rattle.std.proofs.Common.{◌≡◌, ◌≢◌, ⊎_elim, ℕ, ℤ, negsuc, ◌<◌, ◌≤◌, List, [], ◌∷◌, length, Option, Some, Bool, true, false, cond, ◌==◌, pos, refl, sym, ap, ◌∙◌, subst, arith, nat_lt}
 use Rattle.std.specs.List.{IsDistinct, AllByRecursion}
 use Rattle.std.specs.Cmp.{signed_Decides}
 use Rattle.std.specs.Ordering.{int_eq}
 use Rattle.std.specs.Str.{bytes_eq}
-use Rattle.std.proofs.lemmas.Bool.{false≢true}
+use Rattle.std.proofs.lemmas.Bool.{false≢true, false_from_ne_true}
 use Rattle.std.proofs.lemmas.Bool.Decides.{Decides-eqb, nat_tests}
 use Rattle.std.proofs.lemmas.List.{length-map}
+use Rattle.std.proofs.lemmas.Option.{cond_some, none-some, same_Some}
 use Rattle.std.proofs.lemmas.Slice.Eq.{bytes_eq-Decides}
 use Rattle.std.proofs.lemmas.Map.Made.{IsDistinct-from_AllPairs, AllPairs-from_IsDistinct}
 use Rattle.dtype_base.specs.Primitives as base
@@ -34,16 +35,10 @@ use Rattle.vortex_dtype.specs.ReadInOrder.{or_empty}
 use Rattle.vortex_dtype.specs.Reads.{Reads, ReadsChild, ReadsFields, ReadsVariants, Fault, ChildFault, SomeFault, SomeTagFault, UnionFault, number, count}
 use Rattle.vortex_dtype.specs.Accepts.{Accepts}
 use Rattle.vortex_dtype.specs.Written.{is_nullable, written, field_names, written_fields, variant_names, written_variants, written_tags, Normal, NormalChild, NormalAll}
-use Rattle.vortex_dtype.specs.IsMessage.{OptionBytes, IsMessage, IsChild, AreMessages}
+use Rattle.vortex_dtype.specs.IsMessage.{IsMessage, IsChild, AreMessages}
 use Rattle.vortex_dtype.proofs.SessionLaws.{keeps-again}
 use Rattle.vortex_dtype.proofs.Decimals.{fault_invalid}
-use Rattle.vortex_dtype.proofs.Unions.{makes_unrefused, tags_down}
-
-some_is : {X : Type 0} (a b : X) → Some a ≡ Some b → a ≡ b
-some_is a b e = cc
-
-pub none_is : {X : Type 0} (a : X) → Some a ≡ None → ⊥
-none_is a e = cc
+use Rattle.vortex_dtype.proofs.Unions.{makes_unrefused, pos_is, tags_down}
 
 pub ptype_at-number : (p : PType) → ptype_at (pos ((base.primitive p).number)) ≡ Some p
 ptype_at-number U8 = refl
@@ -60,7 +55,7 @@ ptype_at-number F64 = refl
 
 -- two primitive types of one number are one
 pub number_once : (p q : PType) → number p ≡ number q → p ≡ q
-number_once p q e = some_is p q (sym (ptype_at-number p) ∙ ap ptype_at e ∙ ptype_at-number q)
+number_once p q e = same_Some p q (sym (ptype_at-number p) ∙ ap ptype_at e ∙ ptype_at-number q)
 
 -- a message reads as one type at most
 mutual
@@ -81,7 +76,7 @@ mutual
   reads_once s (struct ns ms f) t u h k = h.2 ∙ ap (λ fs. of.struct fs (nullability_of f)) (fields_once s ns ms h.0 k.0 h.1 k.1) ∙ sym k.2
   reads_once s (extension id c b) t u h k =
       let e : h.0 ≡ k.0 = child_once s c h.0 k.0 h.2 k.2 in
-      let same : h.1 ≡ k.1 = some_is h.1 k.1 (sym h.3 ∙ ap (keeps s id (or_empty b)) e ∙ k.3) in
+      let same : h.1 ≡ k.1 = same_Some h.1 k.1 (sym h.3 ∙ ap (keeps s id (or_empty b)) e ∙ k.3) in
       h.4 ∙ ap (λ x. of.extension id h.1 x) e ∙ ap (λ d. of.extension id d k.0) same ∙ sym k.4
 
   pub child_once : (s : Meaning) (c : Child) (t u : Tree) → ReadsChild s c t → ReadsChild s c u → t ≡ u
@@ -103,7 +98,7 @@ mutual
   variants_once s (n ∷ ns) (more m ms) [] vs ws h k = absurd h
   variants_once s (n ∷ ns) (more m ms) (g ∷ gs) vs ws h k =
       let x = reads_once s m h.0 k.0 h.3 k.3 in
-      let tag : h.1 ≡ k.1 = some_is h.1 k.1 (sym h.4 ∙ k.4) in
+      let tag : h.1 ≡ k.1 = same_Some h.1 k.1 (sym h.4 ∙ k.4) in
       let rest = variants_once s ns ms gs h.2 k.2 h.5 k.5 in
       h.6 ∙ ap (λ y. choice n y h.1 h.2) x ∙ ap (λ y. choice n k.0 y h.2) tag ∙ ap (λ y. choice n k.0 k.1 y) rest ∙ sym k.6
 
@@ -121,7 +116,7 @@ no_tag_fault s [] no_message (g ∷ gs) vs h f = h
 no_tag_fault s [] (more m ms) gs vs h f = h
 no_tag_fault s (n ∷ ns) no_message gs vs h f = h
 no_tag_fault s (n ∷ ns) (more m ms) [] vs h f = h
-no_tag_fault s (n ∷ ns) (more m ms) (g ∷ gs) vs h f = ⊎_elim (λ a. none_is h.1 (sym h.4 ∙ a)) (λ a. no_tag_fault s ns ms gs h.2 h.5 a) f
+no_tag_fault s (n ∷ ns) (more m ms) (g ∷ gs) vs h f = ⊎_elim (λ a. none-some h.1 (sym a ∙ h.4)) (λ a. no_tag_fault s ns ms gs h.2 h.5 a) f
 
 union_fault : (s : Meaning) (ns : List (List ℕ)) (ms : Messages) (gs : List ℤ) (vs : Variants) (e : VortexError) → ReadsVariants s ns ms gs vs → ns ≢ [] → Distinct gs → Distinct ns → UnionFault ns (count ms) gs e → ⊥
 union_fault s ns ms gs vs e h some tags names f =
@@ -156,7 +151,7 @@ mutual
       ⊎_elim (λ a. child_none s MapKeyMissing c k h.0 a h.2) (⊎_elim (λ a. child_none s MapValueMissing v k h.1 a h.3) (λ a. two (nullability h.0) (ap nullability (child_once s c h.0 a.1 h.2 a.2) ∙ a.3) h.4)) f
   fault_none s (struct ns ms x) k t f h = ⊎_elim (λ a. some_none s ns ms k h.0 a h.1) (λ a. a.1 (count_fields s ns ms h.0 h.1)) f
   fault_none s (extension id c b) k t f h =
-      ⊎_elim (λ a. child_none s StorageMissing c k h.0 a h.2) (λ a. none_is h.1 (sym h.3 ∙ ap (keeps s id (or_empty b)) (child_once s c h.0 a.1 h.2 a.2) ∙ a.3)) f
+      ⊎_elim (λ a. child_none s StorageMissing c k h.0 a h.2) (λ a. none-some h.1 (sym a.3 ∙ ap (keeps s id (or_empty b)) (child_once s c a.1 h.0 a.2 h.2) ∙ h.3)) f
 
   child_none : (s : Meaning) (j : MessageFault) (c : Child) (k : VortexError) (t : Tree) → ChildFault s j c k → ReadsChild s c t → ⊥
   child_none s j absent k t f h = h
@@ -199,12 +194,8 @@ variants_names s (n ∷ ns) no_message gs vs h = absurd h
 variants_names s (n ∷ ns) (more m ms) [] vs h = absurd h
 variants_names s (n ∷ ns) (more m ms) (g ∷ gs) vs h = ap variant_names h.6 ∙ ap (λ xs. n ∷ xs) (variants_names s ns ms gs h.2 h.5)
 
-byte_test : (b : Bool) (n k : ℕ) → cond b (Some n) None ≡ Some k → (b ≡ true) × (n ≡ k)
-byte_test true n k e = (refl, some_is n k e)
-byte_test false n k e = cc
-
 pub byte_is : (g : ℤ) (k : ℕ) → byte_at g ≡ Some k → (g ≡ pos k) × (k < 256)
-byte_is (pos n) k e = let b = byte_test (nat_lt n 256) n k e in (ap pos b.1, below_of n k b.0 b.1)
+byte_is (pos n) k e = let b = cond_some (nat_lt n 256) n k e in (ap pos b.1, below_of n k b.0 b.1)
   where
     below_of : (n k : ℕ) → nat_lt n 256 ≡ true → n ≡ k → k < 256
     below_of n k e is = grind (arith, nat_tests)
@@ -232,12 +223,12 @@ named : (n k : ℕ) (q p : PType) (x : Option PType) → k ≡ (base.primitive q
 named n k q p x is other = go (n == k) (Decides-eqb n k).0
   where
     go : (b : Bool) → (b ≡ true → n ≡ k) → cond b (Some q) x ≡ Some p → n ≡ (base.primitive p).number
-    go true h e = h refl ∙ is ∙ ap (λ x. (base.primitive x).number) (some_is q p e)
+    go true h e = h refl ∙ is ∙ ap (λ x. (base.primitive x).number) (same_Some q p e)
     go false h e = other e
 
 -- a number is that of the type that it names
 number-chain : (n : ℕ) (p : PType) → ptype_from n ≡ Some p → n ≡ (base.primitive p).number
-number-chain n p = named n 0 U8 p _ refl (named n 1 U16 p _ refl (named n 2 U32 p _ refl (named n 3 U64 p _ refl (named n 4 I8 p _ refl (named n 5 I16 p _ refl (named n 6 I32 p _ refl (named n 7 I64 p _ refl (named n 8 F16 p _ refl (named n 9 F32 p _ refl (named n 10 F64 p _ refl (λ e. absurd (none_is p (sym e)))))))))))))
+number-chain n p = named n 0 U8 p _ refl (named n 1 U16 p _ refl (named n 2 U32 p _ refl (named n 3 U64 p _ refl (named n 4 I8 p _ refl (named n 5 I16 p _ refl (named n 6 I32 p _ refl (named n 7 I64 p _ refl (named n 8 F16 p _ refl (named n 9 F32 p _ refl (named n 10 F64 p _ refl (λ e. absurd (none-some p e))))))))))))
 
 pub number-ptype_at : (k : ℤ) (p : PType) → ptype_at k ≡ Some p → k ≡ number p
 number-ptype_at (pos n) p e = ap pos (number-chain n p e)
@@ -310,7 +301,7 @@ mutual
   normal_once s (struct ns ms f) q r h k = h.2 ∙ ap (λ d. struct ns d f) (normal_all_once s ms h.0 k.0 h.1 k.1) ∙ sym k.2
   normal_once s (extension id c b) q r h k =
       let e : h.1 ≡ k.1 = child_once s c h.1 k.1 h.4 k.4 in
-      let same : h.2 ≡ k.2 = some_is h.2 k.2 (sym h.5 ∙ ap (keeps s id (or_empty b)) e ∙ k.5) in
+      let same : h.2 ≡ k.2 = same_Some h.2 k.2 (sym h.5 ∙ ap (keeps s id (or_empty b)) e ∙ k.5) in
       h.6 ∙ ap (λ d. extension id d (Some h.2)) (normal_child_once s c h.0 k.0 h.3 k.3) ∙ ap (λ d. extension id k.0 (Some d)) same ∙ sym k.6
 
   normal_child_once : (s : Meaning) (c : Child) (q r : Child) → NormalChild s c q → NormalChild s c r → q ≡ r
@@ -321,10 +312,6 @@ mutual
   normal_all_once s no_message q r h k = h ∙ sym k
   normal_all_once s (more m ms) q r h k =
       h.4 ∙ ap (λ x. more x h.1) (normal_once s m h.0 k.0 h.2 k.2) ∙ ap (λ x. more k.0 x) (normal_all_once s ms h.1 k.1 h.3 k.3) ∙ sym k.4
-
-or_empty-bytes : (b : Option (List ℕ)) → OptionBytes b → All (λ x. x < 256) (or_empty b)
-or_empty-bytes None h = λ k d l. absurd (omega (arith, l))
-or_empty-bytes (Some b) h = h
 
 distinct_names : (ns : List (List ℕ)) → Distinct ns → IsDistinct bytes_eq ns
 distinct_names ns h = IsDistinct-from_AllPairs bytes_eq-Decides ns h
@@ -379,8 +366,8 @@ mutual
       subst (Sound s) (sym h.5) ((h.4, a.0, b.0), (a.1, b.1))
   reads_sound s l (struct ns ms f) t i h = subst (Sound s) (sym h.2) (fields_sound s l ns ms h.0 i h.1)
   reads_sound s l (extension id c b) t i h =
-      let a = child_sound s l c h.0 i.0 h.2 in let bytes = or_empty-bytes b i.1 in
-      let again = keeps-again s l id (or_empty b) h.1 h.0 bytes a.0 h.3 in
+      let a = child_sound s l c h.0 i.0 h.2 in
+      let again = keeps-again s l id (or_empty b) h.1 h.0 i.1 a.0 h.3 in
       subst (Sound s) (sym h.4) ((again.0, a.0), (again.1, a.1))
 
   child_sound : (s : Meaning) → LawfulSession s → (c : Child) (t : Tree) → IsChild c → ReadsChild s c t → Valid t × Admits s t
@@ -418,23 +405,16 @@ some_name : (vs : Variants) → HasVariant vs → variant_names vs ≢ []
 some_name no_variants h = absurd h
 some_name (choice n x g rest) h = λ e. let l : 1 ≤ 0 = omega (arith, ap length e) in absurd (omega (arith, l))
 
-pos_is : (g k : ℕ) → pos g ≡ pos k → g ≡ k
-pos_is g k e = cc
-
 byte_at-pos : (g : ℕ) → g < 256 → byte_at (pos g) ≡ Some g
 byte_at-pos g h = grind (arith, nat_tests)
 
-untrue : (b : Bool) → (b ≡ true → ⊥) → b ≡ false
-untrue true h = absurd (h refl)
-untrue false h = refl
-
 others_tag : (g : ℕ) (vs : Variants) → LacksTag g vs → AllByRecursion (λ h. int_eq (pos g) h ≡ false) (written_tags vs)
 others_tag g no_variants h = tt
-others_tag g (choice n x k rest) h = (untrue (int_eq (pos g) (pos k)) (λ e. h.0 (pos_is k g (sym ((signed_Decides (pos g) (pos k)).0 e)))), others_tag g rest h.1)
+others_tag g (choice n x k rest) h = (false_from_ne_true (int_eq (pos g) (pos k)) (λ e. h.0 (pos_is k g (sym ((signed_Decides (pos g) (pos k)).0 e)))), others_tag g rest h.1)
 
 others_name : (n : List ℕ) (vs : Variants) → LacksName n vs → AllByRecursion (λ m. bytes_eq n m ≡ false) (variant_names vs)
 others_name n no_variants h = tt
-others_name n (choice m x k rest) h = (untrue (bytes_eq n m) (λ e. h.0 (sym ((bytes_eq-Decides n m).0 e))), others_name n rest h.1)
+others_name n (choice m x k rest) h = (false_from_ne_true (bytes_eq n m) (λ e. h.0 (sym ((bytes_eq-Decides n m).0 e))), others_name n rest h.1)
 
 tags_apart : (vs : Variants) → ValidVariants vs → IsDistinct int_eq (written_tags vs)
 unfolding IsDistinct

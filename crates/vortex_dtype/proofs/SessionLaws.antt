@@ -6,6 +6,7 @@ use Rattle.std.specs.Prelude.{◌≡◌, ◌≢◌, ◌↔◌, ℕ, List, [], �
 use Rattle.std.specs.List.{list_any}
 use Rattle.std.proofs.Common.{sym, ap, ◌∙◌, subst}
 use Rattle.std.proofs.lemmas.Bool.{false_from_ne_true}
+use Rattle.std.proofs.lemmas.Option.{same_Some}
 use Rattle.std.proofs.lemmas.Slice.Eq.{bytes_eq-Decides}
 use Rattle.dtype_base.specs.declared.nullability.Nullability.{Nullability}
 use Rattle.dtype_base.specs.declared.nullability.Nullability.TheVariants.{NonNullable, Nullable}
@@ -15,9 +16,6 @@ use Rattle.dtype_types.specs.Valid.{Valid}
 use Rattle.dtype_types.specs.Nullable.{set_null}
 use Rattle.vortex_dtype.specs.Meaning.{Rewrites, Meaning, Lawful, LawfulSession, Bytes, kept, keeps, nothing, put, allowing, Admits, AdmitsFields, AdmitsVariants}
 use Rattle.vortex_dtype.specs.Calls.{Call, register, allow, after, LeavesAlone, is_allow}
-
-some_is : {X : Type 0} (a b : X) → Some a ≡ Some b → a ≡ b
-some_is a b e = cc
 
 -- ---- lists of calls
 
@@ -65,7 +63,7 @@ after-unknown (allow ∷ calls) m e = stays-unknown calls (allowing m) refl
 -- ---- what is kept
 
 kept-again : (o : Option Rewrites) (u : Bool) (b c : List ℕ) (s : Tree) → ((r : Rewrites) → o ≡ Some r → Lawful r) → Bytes b → Valid s → kept o u b s ≡ Some c → Bytes c × (kept o u c s ≡ Some c)
-kept-again None true b c s h bs v e = let same : b ≡ c = some_is b c e in (subst Bytes same bs, refl)
+kept-again None true b c s h bs v e = let same : b ≡ c = same_Some b c e in (subst Bytes same bs, refl)
 kept-again None false b c s h bs v e = cc
 kept-again (Some r) u b c s h bs v e = (h r refl).again b c s bs v e
 
@@ -84,7 +82,7 @@ keeps-outer m h id b s t n bs v e = kept-outer (m.registered id) m.unknown b s t
 -- ---- what is admitted
 
 same_by : (m : Meaning) (t u : Tree) → Some t ≡ Some u → Admits m t ↔ Admits m u
-same_by m t u e = let p = some_is t u e in (λ a. subst (Admits m) p a, λ a. subst (Admits m) (sym p) a)
+same_by m t u e = let p = same_Some t u e in (λ a. subst (Admits m) p a, λ a. subst (Admits m) (sym p) a)
 
 -- a session admits a type with another outer nullability exactly where it admits the type
 pub admits-set_null : (m : Meaning) → LawfulSession m → (t u : Tree) (n : Nullability) → Valid t → set_null t n ≡ Some u → Admits m t ↔ Admits m u

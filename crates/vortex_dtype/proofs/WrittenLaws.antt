@@ -2,17 +2,15 @@
 -- SPDX-FileCopyrightText: Copyright the Vortex contributors
 
 -- Types of which the messages are equal are equal, and a valid type of another nullability is valid.
-use Rattle.std.proofs.Common.{◌≡◌, ℕ, ℤ, pos, List, [], ◌∷◌, Option, Some, None, Bool, refl, sym, ap, ◌∙◌, subst}
+use Rattle.std.proofs.Common.{◌≡◌, Option, Some, None, refl, sym, ap, ◌∙◌, subst}
 use Rattle.std.specs.Prelude.{option_and_then}
+use Rattle.std.proofs.lemmas.Option.{same_Some}
 use Rattle.dtype_base.specs.declared.nullability.Nullability.{Nullability}
 use Rattle.dtype_base.specs.declared.nullability.Nullability.TheVariants.{NonNullable, Nullable}
-use Rattle.dtype_base.specs.declared.ptype.PType.{PType}
-use Rattle.dtype_base.specs.Decimals.{Decimal}
 use Rattle.dtype_base.specs.Nullability.{nullability_of}
 use Rattle.dtype_types.specs.Nullable.{set_null}
 use Rattle.dtype_types.specs.Tree.{Tree, Fields, no_fields, field, Variants, no_variants, choice, null, bool, primitive, decimal, utf8, binary, list, fixed_size_list, map_of, struct, union, variant, extension}
 use Rattle.dtype_types.specs.Valid.{Valid}
-use Rattle.dtype_messages.specs.Message.{Messages}
 use Rattle.vortex_dtype.specs.Accepts.{Accepts}
 use Rattle.vortex_dtype.specs.Meaning.{Meaning, Admits, LawfulSession}
 use Rattle.vortex_dtype.specs.Reads.{decimal_of, number}
@@ -74,29 +72,26 @@ mutual
       ap (λ z. choice z x k rest) a ∙ ap (λ z. choice o z k rest) (written_is x y w) ∙ ap (λ z. choice o y z rest) t ∙ ap (choice o y l) (variants_is rest others b c d)
   variants_is _ _ e f g = cc
 
-some_is : {X : Type 0} (a b : X) → Some a ≡ Some b → a ≡ b
-some_is a b e = cc
-
 -- a valid type of another outer nullability is valid
 valid-set_null : (t u : Tree) (n : Nullability) → Valid t → set_null t n ≡ Some u → Valid u
 valid-set_null null u NonNullable v e = cc
-valid-set_null null u Nullable v e = subst Valid (some_is null u e) v
-valid-set_null (bool m) u n v e = subst Valid (some_is (bool n) u e) v
-valid-set_null (primitive p m) u n v e = subst Valid (some_is (primitive p n) u e) v
-valid-set_null (decimal d m) u n v e = subst Valid (some_is (decimal d n) u e) v
-valid-set_null (utf8 m) u n v e = subst Valid (some_is (utf8 n) u e) v
-valid-set_null (binary m) u n v e = subst Valid (some_is (binary n) u e) v
-valid-set_null (list t m) u n v e = subst Valid (some_is (list t n) u e) v
-valid-set_null (fixed_size_list t k m) u n v e = subst Valid (some_is (fixed_size_list t k n) u e) v
-valid-set_null (map_of t w o m) u n v e = subst Valid (some_is (map_of t w o n) u e) v
-valid-set_null (struct fs m) u n v e = subst Valid (some_is (struct fs n) u e) v
-valid-set_null (union vs m) u n v e = subst Valid (some_is (union vs n) u e) v
-valid-set_null (variant m) u n v e = subst Valid (some_is (variant n) u e) v
+valid-set_null null u Nullable v e = subst Valid (same_Some null u e) v
+valid-set_null (bool m) u n v e = subst Valid (same_Some (bool n) u e) v
+valid-set_null (primitive p m) u n v e = subst Valid (same_Some (primitive p n) u e) v
+valid-set_null (decimal d m) u n v e = subst Valid (same_Some (decimal d n) u e) v
+valid-set_null (utf8 m) u n v e = subst Valid (same_Some (utf8 n) u e) v
+valid-set_null (binary m) u n v e = subst Valid (same_Some (binary n) u e) v
+valid-set_null (list t m) u n v e = subst Valid (same_Some (list t n) u e) v
+valid-set_null (fixed_size_list t k m) u n v e = subst Valid (same_Some (fixed_size_list t k n) u e) v
+valid-set_null (map_of t w o m) u n v e = subst Valid (same_Some (map_of t w o n) u e) v
+valid-set_null (struct fs m) u n v e = subst Valid (same_Some (struct fs n) u e) v
+valid-set_null (union vs m) u n v e = subst Valid (same_Some (union vs n) u e) v
+valid-set_null (variant m) u n v e = subst Valid (same_Some (variant n) u e) v
 valid-set_null (extension id b s) u n v e = go (set_null s n) (λ x is. valid-set_null s x n v.1 is) refl e
   where
     go : (o : Option Tree) → ((x : Tree) → set_null s n ≡ Some x → Valid x) → set_null s n ≡ o → option_and_then (λ x. Some (extension id b x)) o ≡ Some u → Valid u
     go None ih is e' = cc
-    go (Some x) ih is e' = subst Valid (some_is (extension id b x) u e') (v.0, ih x is)
+    go (Some x) ih is e' = subst Valid (same_Some (extension id b x) u e') (v.0, ih x is)
 
 -- what a session admits it admits with another outer nullability, and reads back
 pub other_nullability : (s : Meaning) → LawfulSession s → (t u : Tree) (n : Nullability) → Valid t → Admits s t → set_null t n ≡ Some u → Valid u × Admits s u × Accepts s (written u) u

@@ -3,13 +3,11 @@
 
 -- A message tree as a message can hold it: its bytes are below 256, and each number is in the range of its
 -- field's type, 32 bits with or without a sign. Only code that reads a message can know it.
-use Rattle.std.specs.Prelude.{ℕ, ◌<◌, ◌^◌, ℤ, List, Option, Some, None, All, FitsSigned}
+use Rattle.std.specs.Prelude.{◌<◌, ◌^◌, ℤ, List, All, FitsSigned}
 use Rattle.std.specs.Int.{w32}
 use Rattle.dtype_messages.specs.Message.{Message, Child, Messages, missing, null, bool, primitive, decimal, utf8, binary, list, fixed_size_list, map_of, struct, union, variant, extension, absent, present, no_message, more}
-
-abbrev pub OptionBytes : Option (List ℕ) → Type 0
-OptionBytes None = Unit {0}
-OptionBytes (Some b) = All (λ x. x < 256) b
+use Rattle.vortex_dtype.specs.Meaning.{Bytes}
+use Rattle.vortex_dtype.specs.ReadInOrder.{or_empty}
 
 abbrev pub AreTags : List ℤ → Type 0
 AreTags gs = All (λ g. FitsSigned w32 g) gs
@@ -29,7 +27,7 @@ abbrev mutual
   IsMessage (struct ns ms f) = AreMessages ms
   IsMessage (union ns ms gs f) = AreMessages ms × AreTags gs
   IsMessage (variant f) = Unit {0}
-  IsMessage (extension id c b) = IsChild c × OptionBytes b
+  IsMessage (extension id c b) = IsChild c × Bytes (or_empty b)
 
   pub IsChild : Child → Type 0
   IsChild absent = Unit {0}

@@ -4,7 +4,8 @@
 -- What setting a type's outer nullability keeps: its kind, and what that kind holds. A plugin or a vtable that looks at
 -- these alone has from here that the storage's outer nullability doesn't count.
 use Rattle.std.specs.Prelude.{◌≡◌, ℕ, List, Option, Some, None, Bool, option_and_then}
-use Rattle.std.proofs.Common.{ap}
+use Rattle.std.proofs.Common.{ap, sym}
+use Rattle.std.proofs.lemmas.Option.{same_Some}
 use Rattle.dtype_base.specs.Decimals.{Decimal}
 use Rattle.dtype_base.specs.declared.nullability.Nullability.{Nullability}
 use Rattle.dtype_base.specs.declared.nullability.Nullability.TheVariants.{NonNullable, Nullable}
@@ -50,11 +51,8 @@ held t = record {
   size = fixed_size t;
 }
 
-some_is : (u t : Tree) → Some u ≡ Some t → t ≡ u
-some_is u t e = cc
-
 as_held : (u t : Tree) → Some u ≡ Some t → held t ≡ held u
-as_held u t e = ap held (some_is u t e)
+as_held u t e = ap held (sym (same_Some u t e))
 
 held-set_null : IsKept held
 held-set_null null t NonNullable e = cc

@@ -23,9 +23,6 @@ abbrev pub rewritten : {M : Type 0} → (List ℕ → Option M) → (M → Optio
 rewritten reads writes fits = λ b s. option_and_then (λ m. if fits m s then writes m else None) (reads b)
 
 module _ {M : Type 0} (reads : List ℕ → Option M) (writes : M → Option (List ℕ)) (fits : M → Tree → Bool) (laws : Typed reads writes fits) where
-  some_is : {X : Type 0} (a b : X) → Some a ≡ Some b → a ≡ b
-  some_is a b e = cc
-
   chosen : (f : Bool) (o : Option (List ℕ)) (c : List ℕ) → (if f then o else None) ≡ Some c → (f ≡ true) × (o ≡ Some c)
   chosen true o c e = (refl, e)
   chosen false o c e = cc

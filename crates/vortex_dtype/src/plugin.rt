@@ -138,7 +138,7 @@ fn written_back(
 }
 
 // Nothing at run time: a proof learns that the items are bytes.
-pub(crate) fn check_bytes(bytes: &[u8])
+fn check_bytes(bytes: &[u8])
     ensures { Bytes bytes.now }
 {
     let _ = bytes;

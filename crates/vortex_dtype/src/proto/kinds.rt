@@ -11,20 +11,20 @@ ghost use Rattle.dtype_base.specs.Nullability.{nullability_of};
 ghost use Rattle.dtype_types.specs.Tree as of;
 ghost use Rattle.dtype_types.specs.TreeOf.{tree};
 ghost use Rattle.dtype_types.specs.IsValid.{IsValid};
-ghost use Rattle.vortex_dtype.specs.IsMessage.{OptionBytes};
 ghost use Rattle.dtype_messages.specs.MessageOf.{bytes_of};
+ghost use Rattle.vortex_dtype.specs.Meaning.{Bytes};
 ghost use Rattle.vortex_dtype.specs.Numbers.{byte_at, small_at, natural_byte};
-ghost use Rattle.vortex_dtype.specs.ReadInOrder.{primitive_read, decimal_made, decimal_read, map_read, struct_read, union_made, union_read, read_tags, extension_read, or_empty, Gives};
+ghost use Rattle.vortex_dtype.specs.ReadInOrder.{primitive_read, decimal_made, decimal_read, map_read, struct_read, union_read, read_tags, extension_read, or_empty, Gives};
 ghost use Rattle.vortex_dtype.specs.Session.{meaning};
 
-use crate::plugin::{ExtDTypePlugin, check_bytes};
+use crate::plugin::ExtDTypePlugin;
 use crate::session::DTypeSession;
 use dtype_base::{
     DecimalDType, FieldName, FieldNames, MessageFault, Nullability, PType, VortexError,
     VortexResult,
 };
 use dtype_messages::pb;
-use dtype_types::{DType, MapDType, StructFields, UnionVariants};
+use dtype_types::{DType, StructFields, UnionVariants};
 use std::alloc::Global;
 use std::string::String;
 
@@ -87,15 +87,6 @@ fn decimal_within(precision: u8, scale: i8) -> VortexResult<DecimalDType>
     DecimalDType::try_new(precision, scale)
 }
 
-// The list of the element.
-pub(crate) fn list_of(alloc: Global, element: DType, nullable: bool) -> VortexResult<DType>
-    ensures made { IfOk result (λ d. tree d ≡ of.list (tree element) (nullability_of nullable)) }
-    ensures valid { IsValid element → IfOk result IsValid }
-    ensures refused { IsOkUnless result OutOfMemory }
-{
-    Ok(DType::List(Box::new(alloc, element)?, Nullability::from(nullable)))
-}
-
 // The fixed-size list of the element.
 pub(crate) fn fixed_of(
     alloc: Global,
@@ -124,8 +115,7 @@ pub(crate) fn map_of(
         (map_read (tree key) (tree value) keys_sorted (nullability_of nullable)) }
     ensures valid { IsValid key → IsValid value → IfOk result IsValid }
 {
-    let map = MapDType::try_new(alloc, key, value, keys_sorted)?;
-    Ok(DType::Map(map, Nullability::from(nullable)))
+    DType::map(alloc, key, value, keys_sorted, Nullability::from(nullable))
 }
 
 // Names of these texts, in order.
@@ -190,35 +180,16 @@ pub(crate) fn union_of(
 {
     let tags = tags_of(alloc, tags)?;
     let names = names_of(alloc, names)?;
-    union_within(alloc, names, dtypes, tags, Nullability::from(nullable))
-}
-
-// The union of tags that are bytes.
-fn union_within(
-    alloc: Global,
-    names: FieldNames,
-    dtypes: Vec<DType>,
-    tags: Vec<u8>,
-    n: Nullability,
-) -> VortexResult<DType>
-    ensures gives { Gives tree result (union_made names (map tree dtypes.items) tags.items n) }
-    ensures valid { All IsValid dtypes.items → IfOk result IsValid }
-{
     let variants = UnionVariants::try_new(alloc, names, dtypes, tags)?;
-    Ok(DType::Union(variants, n))
+    Ok(DType::Union(variants, Nullability::from(nullable)))
 }
 
 // The metadata, empty where it is missing.
 pub(crate) fn metadata_of(metadata: &Option<Vec<u8>>) -> &[u8]
-    ensures value { result.now ≡ or_empty (bytes_of metadata.now) }
-    ensures bytes { OptionBytes (bytes_of metadata.now) }
+    ensures { result.now ≡ or_empty (bytes_of metadata.now) }
 {
     match metadata {
-        Some(metadata) => {
-            let bytes = metadata.as_slice();
-            check_bytes(bytes);
-            bytes
-        }
+        Some(metadata) => metadata.as_slice(),
         None => &[],
     }
 }
@@ -234,6 +205,7 @@ pub(crate) fn extension_of(
     requires { IsValid storage }
     ensures gives { Gives tree result
         (extension_read (meaning rewrites session.now) id.now metadata.now (tree storage)) }
+    ensures bytes { Bytes metadata.now }
     ensures valid { IfOk result IsValid }
 {
     let extension = session.deserialize(id, metadata, storage)?;

@@ -13,8 +13,7 @@ ghost use Rattle.vortex_dtype.specs.Session.{meaning};
 
 use crate::plugin::ExtDTypePlugin;
 use crate::proto::kinds::{
-    decimal_of, extension_of, fixed_of, list_of, map_of, metadata_of, primitive_of, struct_of,
-    union_of,
+    decimal_of, extension_of, fixed_of, map_of, metadata_of, primitive_of, struct_of, union_of,
 };
 use crate::session::DTypeSession;
 use dtype_base::{MessageFault, Nullability, VortexError, VortexResult};
@@ -45,7 +44,7 @@ pub(crate) fn read(alloc: Global, proto: &pb::DType, session: &DTypeSession) -> 
                 return Err(VortexError::Message(MessageFault::ListElementMissing));
             };
             let element = read(alloc, element, session)?;
-            list_of(alloc, element, p.nullable)
+            DType::list(alloc, element, Nullability::from(p.nullable))
         }
         pb::DtypeType::FixedSizeList(p) => {
             let Some(element) = &p.element_type else {

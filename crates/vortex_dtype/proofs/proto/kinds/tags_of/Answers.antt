@@ -1,7 +1,7 @@
 -- SPDX-License-Identifier: Apache-2.0
 -- SPDX-FileCopyrightText: Copyright the Vortex contributors
 
-use Rattle.std.proofs.Common.{◌≡◌, ◌+◌, ◌++◌, ◌∷◌, [], ℕ, List, Some, None, pos, get_or, sym, subst, rules}
+use Rattle.std.proofs.Common.{◌≡◌, ◌+◌, ℕ, List, Some, None, pos, get_or, sym, subst, rules}
 use Rattle.vortex_dtype.specs.Numbers.{byte_at}
 use Rattle.vortex_dtype.proofs.ReadInTurn.{TagsRest, tag_step, tag_stops}
 use Rattle.vortex_dtype.proofs.proto.kinds.tags_of.Goals as goal

@@ -87,21 +87,6 @@ fn decimal_within(precision: u8, scale: i8) -> VortexResult<DecimalDType>
     DecimalDType::try_new(precision, scale)
 }
 
-// The fixed-size list of the element.
-pub(crate) fn fixed_of(
-    alloc: Global,
-    element: DType,
-    size: u32,
-    nullable: bool,
-) -> VortexResult<DType>
-    ensures made { IfOk result
-        (λ d. tree d ≡ of.fixed_size_list (tree element) size (nullability_of nullable)) }
-    ensures valid { IsValid element → IfOk result IsValid }
-    ensures refused { IsOkUnless result OutOfMemory }
-{
-    Ok(DType::FixedSizeList(Box::new(alloc, element)?, size, Nullability::from(nullable)))
-}
-
 // The map of the key and the value.
 #[tactic(auto, unfolding(crate::specs::ReadInOrder::map_read))]
 pub(crate) fn map_of(

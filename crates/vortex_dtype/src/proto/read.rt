@@ -13,7 +13,7 @@ ghost use Rattle.vortex_dtype.specs.Session.{meaning};
 
 use crate::plugin::ExtDTypePlugin;
 use crate::proto::kinds::{
-    decimal_of, extension_of, fixed_of, map_of, metadata_of, primitive_of, struct_of, union_of,
+    decimal_of, extension_of, map_of, metadata_of, primitive_of, struct_of, union_of,
 };
 use crate::session::DTypeSession;
 use dtype_base::{MessageFault, Nullability, VortexError, VortexResult};
@@ -51,7 +51,7 @@ pub(crate) fn read(alloc: Global, proto: &pb::DType, session: &DTypeSession) -> 
                 return Err(VortexError::Message(MessageFault::FixedElementMissing));
             };
             let element = read(alloc, element, session)?;
-            fixed_of(alloc, element, p.size, p.nullable)
+            DType::fixed_size_list(alloc, element, p.size, Nullability::from(p.nullable))
         }
         pb::DtypeType::Map(p) => {
             let Some(key) = &p.key_type else {

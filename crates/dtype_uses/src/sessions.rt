@@ -9,9 +9,7 @@ ghost use Rattle.dtype_types.specs.Valid.{Valid};
 
 use dtype_types::{DType, ExtDTypeRef};
 use std::alloc::Global;
-use vortex_dtype::laws::{
-    allowing_changes_no_id, registering_changes_one_id, unknown_ids_are_all_admitted,
-};
+use vortex_dtype::laws::{registering_changes_one_id, unknown_ids_are_all_admitted};
 use vortex_dtype::{DTypeProto, DTypeSession, ExtDTypePlugin, VortexResult};
 
 /// A type stored and read back by a program that knows none of its extensions: the same type.
@@ -53,26 +51,4 @@ pub fn is_known_once_registered(
     session.register(plugin)?;
     registering_changes_one_id();
     Ok(session.registry(id))
-}
-
-/// Whether unknown ids are kept as before, once a plugin is registered: they always are.
-pub fn leaves_unknown_ids(
-    session: &mut DTypeSession,
-    plugin: Box<dyn ExtDTypePlugin>,
-) -> VortexResult<bool>
-    ensures { IfOk result (λ b. IsTrue b) }
-{
-    let before = session.allows_unknown();
-    session.register(plugin)?;
-    registering_changes_one_id();
-    Ok(session.allows_unknown() == before)
-}
-
-/// Whether unknown ids are kept, once they are allowed: they always are.
-pub fn keeps_unknown_ids_once_told(session: &mut DTypeSession) -> bool
-    ensures { IsTrue result }
-{
-    session.allow_unknown();
-    allowing_changes_no_id();
-    session.allows_unknown()
 }

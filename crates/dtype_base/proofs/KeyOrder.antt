@@ -16,19 +16,17 @@ use Rattle.std.proofs.lemmas.List.{length-map, get_or-map, map-append}
 use Rattle.std.proofs.lemmas.List.Elements.{All-tail, All-cons, All-append}
 use Rattle.std.proofs.lemmas.List.Sorted.{All-permutation, IsPermutation-map}
 use Rattle.std.proofs.lemmas.Option.{slice_get-get_or}
+use Rattle.dtype_base.specs.Bytes.{Bytes}
 use Rattle.dtype_base.specs.NameKeys.{high_first, name_key, BeginAlike}
 use Rattle.dtype_base.specs.NameOrder.{IsKeyed, IsIndexOf, KeysTell, bytes_cmp, name_cmp, position_cmp, place_cmp, positions}
 use Rattle.dtype_base.specs.declared.name_order.Place.{Place}
 use Rattle.dtype_base.proofs.NameSearch.{counted_more, position_total}
 
-abbrev pub AreBytes : List ℕ → Type 0
-AreBytes bs = All (λ b. b < 256) bs
-
 positive : (k : ℕ) → 0 < 256 ^ k
 positive zero = omega arith
 positive (suc k) = omega (arith, positive k, pow-suc 256 k)
 
-high_bound : (k : ℕ) (bs : List ℕ) → AreBytes bs → high_first k bs < 256 ^ k
+high_bound : (k : ℕ) (bs : List ℕ) → Bytes bs → high_first k bs < 256 ^ k
 unfolding high_first
 high_bound zero bs h = omega arith
 high_bound (suc k) [] h = positive (suc k)
@@ -38,7 +36,7 @@ high_bound (suc k) (b ∷ bs) h =
     omega (arith, high_bound k bs (All-tail (λ c. c < 256) b bs h), whole, add-mul b 1 (256 ^ k), pow-suc 256 k)
 
 -- a smaller number is that of a text which comes before
-less : (k : ℕ) (xs ys : List ℕ) → AreBytes xs → AreBytes ys → high_first k xs < high_first k ys → slice_cmp nat_cmp xs ys ≡ Less
+less : (k : ℕ) (xs ys : List ℕ) → Bytes xs → Bytes ys → high_first k xs < high_first k ys → slice_cmp nat_cmp xs ys ≡ Less
 unfolding high_first
 less zero xs ys a b h = absurd (omega arith)
 less (suc k) [] [] a b h = absurd (omega arith)
@@ -67,13 +65,13 @@ behind (suc s) (x ∷ xs) (y ∷ ys) e =
     let rest : take s xs ≡ take s ys = cc in
     ap (λ r. ordering_then r (slice_cmp nat_cmp xs ys)) (sym (nat_cmp_is x y Equal same)) ∙ behind s xs ys rest
 
-bytes_behind : (s : ℕ) (bs : List ℕ) → AreBytes bs → AreBytes (drop s bs)
+bytes_behind : (s : ℕ) (bs : List ℕ) → Bytes bs → Bytes (drop s bs)
 bytes_behind zero bs h = h
 bytes_behind (suc s) [] h = h
 bytes_behind (suc s) (b ∷ bs) h = bytes_behind s bs (All-tail (λ c. c < 256) b bs h)
 
 -- names that begin alike compare as their keys do, where these differ
-keys_tell : (s : ℕ) (m n : List ℕ) → AreBytes m → AreBytes n → take s m ≡ take s n → name_key s m ≢ name_key s n → nat_cmp (name_key s m) (name_key s n) ≡ slice_cmp nat_cmp m n
+keys_tell : (s : ℕ) (m n : List ℕ) → Bytes m → Bytes n → take s m ≡ take s n → name_key s m ≢ name_key s n → nat_cmp (name_key s m) (name_key s n) ≡ slice_cmp nat_cmp m n
 unfolding name_key
 keys_tell s m n a b alike differ =
     let a_behind = bytes_behind s m a in
@@ -93,14 +91,14 @@ module _ (names : List (List ℕ)) (shared : ℕ) (alike : BeginAlike names shar
   begins p h = alike p.position [] h.within
 
   -- the key of a place tells how the name there compares to one that begins as all do
-  told : (p : Place) (n : List ℕ) (key : ℕ) → IsKeyed names shared p → AreBytes n → take shared (get_or names 0 []) ≡ take shared n → key ≡ name_key shared n → p.key ≢ key → nat_cmp p.key key ≡ name_cmp names n p.position
+  told : (p : Place) (n : List ℕ) (key : ℕ) → IsKeyed names shared p → Bytes n → take shared (get_or names 0 []) ≡ take shared n → key ≡ name_key shared n → p.key ≢ key → nat_cmp p.key key ≡ name_cmp names n p.position
   told p n key h bytes begin is differ =
       ap (λ k. nat_cmp k key) h.key
       ∙ ap (nat_cmp (name_key shared (get_or names p.position []))) is
       ∙ keys_tell shared (get_or names p.position []) n h.bytes bytes (begins p h ∙ begin) (λ e. differ (h.key ∙ e ∙ sym is))
       ∙ ap (λ o. bytes_cmp o (Some n)) (sym (slice_get-get_or names p.position [] h.within))
 
-  pub all_told : (places : List Place) (n : List ℕ) (key : ℕ) → All (IsKeyed names shared) places → AreBytes n → take shared (get_or names 0 []) ≡ take shared n → key ≡ name_key shared n → KeysTell names n places key
+  pub all_told : (places : List Place) (n : List ℕ) (key : ℕ) → All (IsKeyed names shared) places → Bytes n → take shared (get_or names 0 []) ≡ take shared n → key ≡ name_key shared n → KeysTell names n places key
   all_told places n key h bytes begin is k d within = told (get_or places k d) n key (h k d within) bytes begin is
 
   -- places that are in order by their keys first are in order as positions

@@ -24,9 +24,13 @@ pub record IsDecimalWithin (max precision : ℕ) (scale : ℤ) : Type 0 where
   pub scale_at_least : neg_ℤ (pos 128) ≤ℤ scale
   pub scale_at_most : scale ≤ℤ pos precision
 
+-- numbers of so many digits, whatever they are, fit 256 bits
+abbrev pub greatest_precision : ℕ
+greatest_precision = 76
+
 -- the decimals that 256 bits can hold
 abbrev pub IsValidDecimal : Decimal → Type 0
-IsValidDecimal d = IsDecimalWithin 76 d.precision d.scale
+IsValidDecimal d = IsDecimalWithin greatest_precision d.precision d.scale
 
 -- e is the first of these refusals that the precision and the scale meet: no digits, more than max,
 -- a scale above max, and a scale above the precision
@@ -42,7 +46,7 @@ pub record IsBitWidth (p b : ℕ) : Type 0 where
   pub enough : 10 ^ p ≤ 2 ^ b
   pub least : (c : ℕ) → c < b → 2 ^ c < 10 ^ p
 
--- the bit width of a precision up to 76, to be computed: a digit takes some 3.322 bits
+-- the bit width of a precision up to the greatest, to be computed: a digit takes some 3.322 bits
 abbrev pub bit_width : ℕ → ℕ
 bit_width p = p * 3322 / 1000 + 1
 
@@ -66,7 +70,7 @@ storage I16 = record { number = 1; text = codes "i16"; bytes = 2; digits = 4 }
 storage I32 = record { number = 2; text = codes "i32"; bytes = 4; digits = 9 }
 storage I64 = record { number = 3; text = codes "i64"; bytes = 8; digits = 18 }
 storage I128 = record { number = 4; text = codes "i128"; bytes = 16; digits = 38 }
-storage I256 = record { number = 5; text = codes "i256"; bytes = 32; digits = 76 }
+storage I256 = record { number = 5; text = codes "i256"; bytes = 32; digits = greatest_precision }
 
 -- the narrowest that has all values of that many digits
 abbrev pub smallest_storage : ℕ → Option DecimalType

@@ -1,6 +1,7 @@
 -- SPDX-License-Identifier: Apache-2.0
 -- SPDX-FileCopyrightText: Copyright the Vortex contributors
 
+pub mod Bytes
 pub mod Refusals
 pub mod Nullability
 pub mod Primitives

@@ -10,6 +10,7 @@ use Rattle.std.specs.Option.{option_cmp}
 use Rattle.std.specs.Ordering.{ordering_then, nat_cmp}
 use Rattle.std.specs.declared.cmp.Ordering.{Ordering}
 use Rattle.std.specs.Cmp.Lexicographic.{slice_cmp}
+use Rattle.dtype_base.specs.Bytes.{Bytes}
 use Rattle.dtype_base.specs.NameKeys.{name_key, BeginAlike}
 use Rattle.dtype_base.specs.declared.name_order.Place.{Place}
 
@@ -38,7 +39,7 @@ place_cmp names p q = ordering_then (nat_cmp p.key q.key) (position_cmp names p.
 pub record IsKeyed (names : List (List ℕ)) (shared : ℕ) (p : Place) : Type 0 where
   pub within : p.position < length names
   pub key : p.key ≡ name_key shared (slice_index_or names p.position [])
-  pub bytes : All (λ b. b < 256) (slice_index_or names p.position [])
+  pub bytes : Bytes (slice_index_or names p.position [])
 
 abbrev pub positions : List Place → List ℕ
 positions = map (λ p. p.position)

@@ -4,7 +4,7 @@
 ghost use Rattle.std.specs.Prelude.{◌≡◌, ◌↔◌, ◌<◌, ◌≤◌, IfOk, IfErr, IsOk, IsTrue, Some};
 ghost use Rattle.std.specs.Option.{ok_or};
 ghost use Rattle.dtype_base.specs.declared.vortex_error.VortexError.TheVariants.{NotDecimalPType};
-ghost use Rattle.dtype_base.specs.Decimals.{IsValidDecimal, IsDecimalWithin, IsDecimalRefusal, IsBitWidth, bit_width, storage, smallest_storage, IsCompatible, storage_of};
+ghost use Rattle.dtype_base.specs.Decimals.{greatest_precision, IsValidDecimal, IsDecimalWithin, IsDecimalRefusal, IsBitWidth, bit_width, storage, smallest_storage, IsCompatible, storage_of};
 
 use crate::{PType, VortexError, VortexResult};
 use std::fmt;
@@ -13,7 +13,7 @@ use std::marker::Model;
 /// The greatest precision of a decimal type.
 pub const MAX_PRECISION: u8 = 76;
 /// The greatest scale of a decimal type.
-pub const MAX_SCALE: i8 = 76;
+pub const MAX_SCALE: i8 = MAX_PRECISION as i8;
 
 /// A decimal type: its precision, 1 to 76, is how many digits its values have, and its scale, -128 to
 /// 76, how many of them stand behind the point. A negative scale says how many zeros stand before it.
@@ -25,13 +25,13 @@ pub struct DecimalDType {
 }
 
 impl Model for DecimalDType {
-    ghost use Rattle.dtype_base.specs.Decimals.{Decimal, IsDecimalWithin};
+    ghost use Rattle.dtype_base.specs.Decimals.{Decimal, IsDecimalWithin, greatest_precision};
 
     ghost Value = { Decimal };
 
     ghost view = { λ d. record { precision = d.precision; scale = d.scale } };
 
-    ghost invariant = { λ d. IsDecimalWithin 76 d.precision d.scale };
+    ghost invariant = { λ d. IsDecimalWithin greatest_precision d.precision d.scale };
 
     ghost inverse = { λ d. record { precision = d.precision; scale = d.scale } };
 }
@@ -42,8 +42,8 @@ impl DecimalDType {
     /// (ScaleAbovePrecision) one above the precision. Every negative scale is taken.
     pub fn try_new(precision: u8, scale: i8) -> VortexResult<Self>
         ensures ok { IfOk result (λ d. (d.precision ≡ precision) × (d.scale ≡ scale)) }
-        ensures valid { IsOk result ↔ IsDecimalWithin 76 precision scale }
-        ensures refused { IfErr result (IsDecimalRefusal 76 precision scale) }
+        ensures valid { IsOk result ↔ IsDecimalWithin greatest_precision precision scale }
+        ensures refused { IfErr result (IsDecimalRefusal greatest_precision precision scale) }
     {
         check_precision_and_scale(precision, scale, MAX_PRECISION)?;
         Ok(DecimalDType { precision, scale })
@@ -51,7 +51,7 @@ impl DecimalDType {
 
     /// The decimal type of this precision and scale.
     pub fn new(precision: u8, scale: i8) -> Self
-        requires { IsDecimalWithin 76 precision scale }
+        requires { IsDecimalWithin greatest_precision precision scale }
         ensures precision { result.precision ≡ precision }
         ensures scale { result.scale ≡ scale }
     {
@@ -84,7 +84,7 @@ impl DecimalDType {
 }
 
 /// The bit widths of the precisions from 1.
-const BIT_WIDTHS: [u8; 76] = [
+const BIT_WIDTHS: [u8; MAX_PRECISION as usize] = [
     4, 7, 10, 14, 17, 20, 24, 27, 30, 34, 37, 40, 44, 47, 50, 54, 57, 60, 64, 67, 70, 74, 77, 80,
     84, 87, 90, 94, 97, 100, 103, 107, 110, 113, 117, 120, 123, 127, 130, 133, 137, 140, 143, 147,
     150, 153, 157, 160, 163, 167, 170, 173, 177, 180, 183, 187, 190, 193, 196, 200, 203, 206, 210,

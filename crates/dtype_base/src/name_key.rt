@@ -4,6 +4,7 @@
 // What names begin with alike, and the keys behind it, by which most names are told apart.
 ghost use Rattle.std.specs.Prelude.{◌≡◌, ◌↔◌, ℕ, ◌<◌, ◌≤◌, IsTrue, length, take, drop, slice_index};
 ghost use Rattle.std.specs.List.{All};
+ghost use Rattle.dtype_base.specs.Bytes.{Bytes};
 ghost use Rattle.dtype_base.specs.NameKeys.{name_key, BeginAlike};
 
 use crate::FieldName;
@@ -65,7 +66,7 @@ fn behind(text: &[u8], count: usize) -> &[u8]
 // with zeros where it ends.
 pub(crate) fn key_of(text: &[u8], shared: usize) -> u64
     ensures key { result ≡ name_key shared text.now }
-    ensures bytes { All (λ b. b < 256) text.now }
+    ensures bytes { Bytes text.now }
 {
     let rest = behind(text, shared);
     u64::from_be_bytes([

@@ -26,7 +26,7 @@ const F16_MAX: u64 = 65504;
 
 impl PType {
     ghost use Rattle.dtype_base.specs.Primitives.{primitive, IsUnsigned, IsSigned, IsInteger, IsFloat, HoldsUnsigned, HoldsSigned, IsNarrowest, narrowest_signed, narrowest_unsigned, wider};
-    ghost use Rattle.dtype_base.specs.Primitives.Kind.{Unsigned, Signed};
+    ghost use Rattle.dtype_base.specs.Primitives.NumberKind.{Unsigned, Signed};
 
     /// Whether values are unsigned integers.
     pub fn is_unsigned_int(self) -> bool

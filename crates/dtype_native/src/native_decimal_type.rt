@@ -6,7 +6,7 @@ ghost use Rattle.std.specs.Int.{w8, w16, w32, w64, w128};
 ghost use Rattle.std.proofs.Common.{refl, lit<, lit≤};
 ghost use Rattle.dtype_base.specs.declared.decimal.DecimalType.{DecimalType};
 ghost use Rattle.dtype_base.specs.declared.decimal.DecimalType.TheVariants.{I8, I16, I32, I64, I128};
-ghost use Rattle.dtype_base.specs.Decimals.{storage};
+ghost use Rattle.dtype_base.specs.Decimals.{greatest_precision, storage};
 ghost use Rattle.dtype_native.specs.Digits.{greatest_of_digits, least_of_digits};
 ghost use Rattle.dtype_native.specs.NumberLaws.{digits_fit};
 
@@ -54,7 +54,7 @@ pub trait NativeDecimalType: PrimInt + Signed {
 
     ghost scale_law: { MAX_SCALE ≡ pos MAX_PRECISION };
 
-    ghost most_law: { MAX_PRECISION ≤ 76 };
+    ghost most_law: { MAX_PRECISION ≤ greatest_precision };
 
     // The type has the numbers of that many digits, and the next one.
     ghost fits_law: { (z : ℤ) → unsigned_abs z ≤ 10 ^ MAX_PRECISION → Self.fits z };

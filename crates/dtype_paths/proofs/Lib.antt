@@ -18,7 +18,7 @@ pub mod KeptNodes
 pub mod NodeCopies
 pub mod NodeGrowth
 pub mod NodePlaces
-pub mod Opening
+pub mod Visiting
 pub mod TrieGrowth
 pub mod ChildCopies
 pub mod NodeUpdates

@@ -3,7 +3,7 @@
 
 -- What the words on members and covers of lists of paths follow from, and what they give.
 use Rattle.std.proofs.Common.{◌≡◌, ◌↔◌, ◌⊎◌, Bool, IsTrue, List, [], ◌∷◌, ◌++◌, inl, inr, refl, sym, subst, ◌∙◌, ⊎_elim, arith}
-use Rattle.std.specs.List.{Contains, list_any, starts_with}
+use Rattle.std.specs.List.{Any, Contains, list_any, starts_with}
 use Rattle.std.proofs.lemmas.List.Elements.{Contains-append_cases, Contains-append_left, Contains-append_right, Contains-push, Contains-push_cases}
 use Rattle.dtype_paths.specs.Beginning.{Beginning}
 use Rattle.dtype_paths.specs.Cover.{Covers, SameCoverage, Least, IsCover}
@@ -64,6 +64,21 @@ member_adds_nothing old new p g m = record {
   );
 }
 
+-- what is gained again is there
+pub gained_again_changes_nothing : (old mid new ps : List (List Field)) → Gains old ps mid → Gains mid ps new → SameMembers new mid
+gained_again_changes_nothing old mid new ps g h = record {
+  same = λ q. (
+    λ c. ⊎_elim (λ e. (g.exact q).1 (inl e)) (λ e. e) ((h.exact q).0 c),
+    λ c. (h.exact q).1 (inr c),
+  );
+}
+
+pub gained_again : (old mid new ps : List (List Field)) → Gains old ps mid → Gains mid ps new → Gains old ps new
+gained_again old mid new ps g h =
+    let s = gained_again_changes_nothing old mid new ps g h in record {
+      exact = λ q. (λ c. (g.exact q).0 ((s.same q).0 c), λ c. (s.same q).1 ((g.exact q).1 c));
+    }
+
 pub gained_union : (old ps new : List (List Field)) → Gains old ps new → SameMembers new (old ++ ps)
 gained_union old ps new g = record {
   same = λ q. (
@@ -80,6 +95,13 @@ gained_behind old xs new ps g s = record {
     λ c. (g.exact q).1 (⊎_elim (λ e. inr ((s.same q).1 e)) (λ e. inl e) (Contains-append_cases ps xs q c)),
   );
 }
+
+-- a set that has gained one path has each other where it had it
+pub told_of_other : (b : Bool) (old new : List (List Field)) (p q : List Field) → (IsTrue b ↔ Contains new q) → Gains old (p ∷ []) new → (q ≡ p → ⊥) → (IsTrue b ↔ Contains old q)
+told_of_other b old new p q h g other = (
+  λ t. ⊎_elim (λ one. absurd (other (sym (only_one p q one)))) (λ o. o) ((g.exact q).0 (h.0 t)),
+  λ o. h.1 ((g.exact q).1 (inr o)),
+)
 
 -- ---- what is covered
 
@@ -211,6 +233,22 @@ coverage_of_both a b ps qs ca cb = coverage_of_unions a ps b qs (coverage_of_own
 -- a cover of covers is a cover of all
 pub cover_of_covers : (cover a b ps qs : List (List Field)) → IsCover a ps → IsCover b qs → IsCover cover (a ++ b) → IsCover cover (ps ++ qs)
 cover_of_covers cover a b ps qs ca cb c = cover_along cover (a ++ b) (ps ++ qs) c (coverage_of_both a b ps qs ca cb)
+
+-- the cover of a set that a cover was put into is a cover of what that one was made of
+pub cover_of_put_in : (cover ps set again : List (List Field)) → IsCover cover ps → SameMembers set cover → IsCover again set → IsCover again ps
+cover_of_put_in cover ps set again c s a =
+    cover_along again set ps a (coverage_joined set cover ps (coverage_of_members set cover s) (coverage_of_own cover ps c))
+
+-- a path is covered exactly where it starts with one of these
+pub covered_where_it_starts : (ps : List (List Field)) (q : List Field) → Covers ps q ↔ Any (λ p. IsTrue (starts_with same_field q p)) ps
+covered_where_it_starts ps q = (
+  λ c. (c.member.0, c.path, c.member.1, c.member.2, (starts_with-Decides c.path q (starts_with same_field q c.path) refl).1 c.begins),
+  λ a. record {
+    path = a.1;
+    member = (a.0, a.2, a.3);
+    begins = (starts_with-Decides a.1 q (starts_with same_field q a.1) refl).0 a.4;
+  },
+)
 
 -- ---- what is covered already
 

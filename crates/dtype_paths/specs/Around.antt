@@ -5,7 +5,7 @@
 use Rattle.std.specs.Prelude.{ℕ, List, [], ◌∷◌, if◌then◌else◌, bytes_eq}
 use Rattle.dtype_types.specs.Sample.{sample, samples, copies}
 use Rattle.dtype_types.specs.Tree.{Tree, Fields, no_fields, field, list, fixed_size_list, struct}
-use Rattle.dtype_types.specs.Value.{Value, Named, no_values, value, no_named, named, items, row, record_of}
+use Rattle.dtype_types.specs.Value.{Value, Named, no_values, value, no_named, named, items, fixed_items, record_of}
 use Rattle.dtype_paths.specs.declared.field.Field.{Field}
 use Rattle.dtype_paths.specs.declared.field.Field.TheVariants.{Name, ElementType}
 
@@ -19,5 +19,5 @@ abbrev pub around : Tree → List Field → Value → Value
 around t [] v = v
 around (struct fs n) (Name m ∷ p) v = record_of (around_first fs m (λ x. around x p v))
 around (list t n) (ElementType ∷ p) v = items (value (around t p v) no_values)
-around (fixed_size_list t k n) (ElementType ∷ p) v = row (copies k (around t p v))
+around (fixed_size_list t k n) (ElementType ∷ p) v = fixed_items (copies k (around t p v))
 around t (_ ∷ p) v = sample t

@@ -5,7 +5,7 @@
 -- lies under null.
 use Rattle.std.specs.Prelude.{◌≡◌, ◌⊎◌, ℕ, List, [], ◌∷◌, Option, Some, None, if◌then◌else◌, bytes_eq}
 use Rattle.dtype_types.specs.Tree.{Tree}
-use Rattle.dtype_types.specs.Value.{Value, Values, Named, Of, no_values, value, no_named, named, items, row, record_of}
+use Rattle.dtype_types.specs.Value.{Value, Values, Named, Of, no_values, value, no_named, named, items, fixed_items, record_of}
 use Rattle.dtype_paths.specs.declared.field.Field.{Field}
 use Rattle.dtype_paths.specs.declared.field.Field.TheVariants.{Name, ElementType}
 
@@ -18,11 +18,11 @@ abbrev pub Member : Values → Value → Type 0
 Member no_values x = ⊥
 Member (value v vs) x = (v ≡ x) ⊎ Member vs x
 
--- one step: into the first pair of a name, or any member of a list or of a row; nothing else leads anywhere
+-- one step: into the first pair of a name, or any member of a list or of a fixed-size list; nothing else leads anywhere
 abbrev pub Reaches : Value → Field → Value → Type 0
 Reaches (record_of nvs) (Name m) x = first_value nvs m ≡ Some x
 Reaches (items vs) ElementType x = Member vs x
-Reaches (row vs) ElementType x = Member vs x
+Reaches (fixed_items vs) ElementType x = Member vs x
 Reaches _ _ x = ⊥
 
 -- v lies along the path in w

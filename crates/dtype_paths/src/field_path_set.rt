@@ -1,7 +1,7 @@
 // SPDX-License-Identifier: Apache-2.0
 // SPDX-FileCopyrightText: Copyright the Vortex contributors
 
-ghost use Rattle.std.specs.Prelude.{◌≡◌, ◌↔◌, ◌+◌, ◌++◌, ◌<◌, ◌≤◌, [], ◌∷◌, ℕ, List, length, map, min, IfOk, IsOkUnless, IsTrue, OnErr, OnOk};
+ghost use Rattle.std.specs.Prelude.{◌≡◌, ◌≢◌, ◌↔◌, ◌+◌, ◌++◌, ◌<◌, ◌≤◌, [], ◌∷◌, ℕ, List, length, map, min, IfOk, IsOkUnless, IsTrue, OnErr, OnOk, false};
 ghost use Rattle.std.specs.Borrow.{Bor};
 ghost use Rattle.std.specs.Iterator.{Drains, ExtendsWithItems, IsFinite};
 ghost use Rattle.std.specs.Iterator.Runs.{WholeRun, YieldsInOrder};
@@ -79,6 +79,9 @@ impl FieldPathSet {
             → (IsTrue result ↔ Contains ps path.now) }
         ensures member { (ps : List (List Field)) → Contains ps path.now → IsWithin ps self.now
             → IsTrue result }
+        ensures absent { ¬ (Contains self.now path.now) → result ≡ false }
+        ensures other { (old : List (List Field)) (p : List Field) → Gains old (p ∷ []) self.now
+            → path.now ≢ p → (IsTrue result ↔ Contains old path.now) }
     {
         trie::contains(&self.nodes, path.parts())
     }

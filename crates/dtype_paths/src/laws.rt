@@ -4,7 +4,7 @@
 // What follows from the definitions of paths alone. Each function's contract is the law, and its body
 // is empty.
 ghost use Rattle.std.specs.Prelude.{◌≡◌, ◌⊎◌, ◌↔◌, ℕ, Bool, IsTrue, List, [], ◌∷◌, ◌++◌};
-ghost use Rattle.std.specs.List.{Contains, list_any, starts_with};
+ghost use Rattle.std.specs.List.{Any, Contains, list_any, starts_with};
 ghost use Rattle.dtype_base.specs.declared.nullability.Nullability.{Nullability};
 ghost use Rattle.dtype_types.specs.Lookups.{first_named};
 ghost use Rattle.dtype_types.specs.Tree.{Fields, Tree, pairs, struct};
@@ -12,7 +12,7 @@ ghost use Rattle.dtype_types.specs.Valid.{Valid};
 ghost use Rattle.dtype_types.specs.Value.{Of, Value};
 ghost use Rattle.dtype_paths.specs.Around.{around};
 ghost use Rattle.dtype_paths.specs.Along.{along};
-ghost use Rattle.dtype_paths.specs.At.{At, step};
+ghost use Rattle.dtype_paths.specs.At.{At, ExistsIn, step};
 ghost use Rattle.dtype_paths.specs.Beginning.{Beginning};
 ghost use Rattle.dtype_paths.specs.Equality.{same_field, same_path};
 ghost use Rattle.dtype_paths.specs.Hashes.{field_writes, path_writes};
@@ -23,6 +23,8 @@ ghost use Rattle.dtype_paths.specs.Found.{Found, FoundIn};
 ghost use Rattle.dtype_paths.specs.Meets.{MeetsNoExtension, MeetsNoSizeZero};
 ghost use Rattle.dtype_paths.specs.declared.field.Field.{Field};
 ghost use Rattle.dtype_paths.specs.declared.field.Field.TheVariants.{Name};
+
+use crate::FieldPath;
 
 /// Along one path followed by another stands what stands along the second in what stands along the first.
 #[tactic(auto, using(crate::proofs::PathLaws::at_joined))]
@@ -40,8 +42,26 @@ pub fn a_step_by_a_name_is_a_field()
 {}
 
 /// Every beginning of a path that exists in a type exists in it.
+#[tactic(auto, using(crate::proofs::PathLaws::beginning_exists_in, crate::proofs::PathLaws::front_exists_in))]
 pub fn beginnings_exist()
-    ensures { (t u : Tree) (p q : List Field) → Beginning p q → At t q u → ((x : Tree) × At t p x) }
+    ensures stands { (t u : Tree) (p q : List Field) → Beginning p q → At t q u → ((x : Tree) × At t p x) }
+    ensures begins { (t : Tree) (p q : List Field) → Beginning p q → ExistsIn t q → ExistsIn t p }
+    ensures front { (t : Tree) (p q : List Field) → ExistsIn t (p ++ q) → ExistsIn t p }
+{}
+
+/// The root begins every path, and along it stands the type itself.
+#[tactic(auto, using(crate::proofs::PathLaws::root_begins, crate::proofs::PathLaws::root_leads, crate::proofs::PathLaws::root_exists_in))]
+pub fn the_root_begins_every_path()
+    ensures begins { (p q : List Field) → p ≡ [] → Beginning p q }
+    ensures stands { (p : List Field) (t : Tree) → p ≡ [] → At t p t }
+    ensures exists { (p : List Field) (t : Tree) → p ≡ [] → ExistsIn t p }
+{}
+
+/// Fields that the test of equality takes for equal are one, and so are paths.
+#[tactic(auto, using(crate::proofs::PathLaws::tested_fields, crate::proofs::PathLaws::tested_paths))]
+pub fn what_tests_equal_is_equal()
+    ensures fields { (f g : Field) → IsTrue (same_field f g) → f ≡ g }
+    ensures paths { (p q : List Field) → IsTrue (same_path p q) → p ≡ q }
 {}
 
 /// To have the same members is an equivalence of lists of paths.
@@ -60,6 +80,13 @@ pub fn being_within_is_an_order()
     ensures transitive { (ps qs rs : List (List Field)) → IsWithin ps qs → IsWithin qs rs → IsWithin ps rs }
     ensures antisymmetric { (ps qs : List (List Field)) → IsWithin ps qs → IsWithin qs ps → SameMembers ps qs }
     ensures member { (ps qs : List (List Field)) (q : List Field) → IsWithin ps qs → Contains ps q → Contains qs q }
+{}
+
+/// What gains the same again has gained it once.
+#[tactic(auto, using(crate::proofs::SetLaws::gained_again, crate::proofs::SetLaws::gained_again_changes_nothing))]
+pub fn gaining_again_changes_nothing()
+    ensures gains { (old mid new ps : List (List Field)) → Gains old ps mid → Gains mid ps new → Gains old ps new }
+    ensures same { (old mid new ps : List (List Field)) → Gains old ps mid → Gains mid ps new → SameMembers new mid }
 {}
 
 /// What a set gains is in it, what was there stays, and both are all that it has; a path that was there
@@ -109,6 +136,13 @@ pub fn a_cover_is_its_own_cover()
         → (p : List Field) → Contains cover p ↔ Least cover p }
 {}
 
+/// The cover of a set that a cover was put into is that cover again.
+#[tactic(auto, using(crate::proofs::SetLaws::cover_of_put_in))]
+pub fn a_cover_put_in_is_covered_by_itself()
+    ensures { (cover ps set again : List (List Field)) → IsCover cover ps → SameMembers set cover
+        → IsCover again set → IsCover again ps }
+{}
+
 /// What has exactly the least paths of a list has them one by one, and where two lists cover the same, their
 /// covers have the same members.
 #[tactic(auto, using(crate::proofs::SetLaws::covers_of_same))]
@@ -117,6 +151,12 @@ pub fn covers_of_the_same_have_the_same_members()
         → (Contains cover p ↔ Least ps p) }
     ensures members { (cover other ps qs : List (List Field)) → IsCover cover ps → IsCover other qs
         → SameCoverage ps qs → SameMembers cover other }
+{}
+
+/// These paths cover that one exactly where it starts with some of them: for `any` over them.
+pub fn a_path_is_covered_where_it_starts_with_one(paths: &[FieldPath], path: &FieldPath)
+    ensures { Covers paths.now path.now
+        ↔ Any (λ p. IsTrue (starts_with same_field path.now p)) paths.now }
 {}
 
 /// A path is covered exactly where one of the paths, asked one by one, begins it.

@@ -170,7 +170,8 @@ pub(crate) fn gather<'a>(alloc: Global, nodes: &'a [Node]) -> VortexResult<Vec<&
     ensures ok { IfOk result (λ v. map (λ x. x.now) v.items ≡ ends nodes.now) }
     ensures refused { IsOkUnless result OutOfMemory }
 {
-    let mut found = Vec::new(alloc);
+    let ends = nodes.iter().filter(|node| node.end.is_some()).count();
+    let mut found = Vec::with_capacity(alloc, ends)?;
     for node in nodes {
         if let Some(path) = &node.end {
             found.push(path)?;
@@ -191,7 +192,7 @@ pub(crate) fn copied(alloc: Global, nodes: &[Node]) -> VortexResult<Vec<Node>>
     Ok(copies)
 }
 
-// Gives the least paths of the list, and the number of nodes that it opened. Refuses 0 (OutOfMemory)
+// Gives the least paths of the list, and the number of nodes that it visited. Refuses 0 (OutOfMemory)
 // alone.
 pub(crate) fn cover(alloc: Global, mut nodes: Vec<Node>) -> VortexResult<(Vec<FieldPath>, u64)>
     requires trie { 0 < length nodes.items → IsTrie nodes.items }
@@ -207,7 +208,7 @@ pub(crate) fn cover(alloc: Global, mut nodes: Vec<Node>) -> VortexResult<(Vec<Fi
     let mut visits = 0;
     let mut places = vec![in alloc; 0_usize]?;
     while let Some(place) = places.pop() {
-        let (end, children) = open(&mut nodes, place, &mut visits);
+        let (end, children) = visit(&mut nodes, place, &mut visits);
         match end {
             Some(path) => {
                 drop(children);
@@ -219,9 +220,9 @@ pub(crate) fn cover(alloc: Global, mut nodes: Vec<Node>) -> VortexResult<(Vec<Fi
     Ok((found, visits))
 }
 
-// Takes the node at a place apart, which is one visit, and leaves an empty one there. Nothing else opens
+// Takes the node at a place apart, which is one visit, and leaves an empty one there. Nothing else visits
 // a node.
-fn open(nodes: &mut Vec<Node>, place: usize, visits: &mut u64) -> (Option<FieldPath>, Children)
+fn visit(nodes: &mut Vec<Node>, place: usize, visits: &mut u64) -> (Option<FieldPath>, Children)
     requires { place < length nodes.old.items }
     ensures long { length nodes.new.items ≡ length nodes.old.items }
     ensures end { result.0 ≡ end_at nodes.old.items place }

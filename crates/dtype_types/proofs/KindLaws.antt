@@ -56,12 +56,12 @@ map_parts_none d h = ap map_parts (tree_out d)
 
 pub struct_fields_none : (d : DType) → ((x : StructFields) (n : Nullability) → d ≡ Struct x n → ⊥) → struct_fields (tree d) ≡ None
 unfolding out-DType Carrier.out
-struct_fields_none (Struct' p sh row n) h = let e = struct_is p sh row n in absurd (h e.0 n e.1)
+struct_fields_none (Struct' p sh held n) h = let e = struct_is p sh held n in absurd (h e.0 n e.1)
 struct_fields_none d h = ap struct_fields (tree_out d)
 
 pub union_variants_none : (d : DType) → ((x : UnionVariants) (n : Nullability) → d ≡ Union x n → ⊥) → union_variants (tree d) ≡ None
 unfolding out-DType Carrier.out
-union_variants_none (Union' p sh row n) h = let e = union_is p sh row n in absurd (h e.0 n e.1)
+union_variants_none (Union' p sh held n) h = let e = union_is p sh held n in absurd (h e.0 n e.1)
 union_variants_none d h = ap union_variants (tree_out d)
 
 pub extension_parts_none : (d : DType) → ((x : ExtDTypeRef) → d ≡ Extension x → ⊥) → extension_parts (tree d) ≡ None

@@ -15,7 +15,6 @@ pub mod SameParts
 pub mod SetNullLaws
 pub mod Texts
 pub mod PutTogether
-pub mod Outcomes
 pub mod DistinctItems
 pub mod Feeding
 pub mod UnionLaws
@@ -33,3 +32,4 @@ pub mod TellLaws
 pub mod TellGiven
 pub mod NullValues
 pub mod SizeZero
+pub mod JoinedFields

@@ -73,12 +73,12 @@ not_map s t u a m d h = ap (agree s (map_of t u a m)) (tree_out d)
 
 pub not_struct : (s : Nullabilities) (fs : Fields) (m : Nullability) (d : DType) → ((x : StructFields) (n : Nullability) → d ≡ Struct x n → ⊥) → agree s (struct fs m) (tree d) ≡ false
 unfolding out-DType Carrier.out
-not_struct s fs m (Struct' p sh row n) h = let e = struct_is p sh row n in absurd (h e.0 n e.1)
+not_struct s fs m (Struct' p sh held n) h = let e = struct_is p sh held n in absurd (h e.0 n e.1)
 not_struct s fs m d h = ap (agree s (struct fs m)) (tree_out d)
 
 pub not_union : (s : Nullabilities) (vs : Variants) (m : Nullability) (d : DType) → ((x : UnionVariants) (n : Nullability) → d ≡ Union x n → ⊥) → agree s (union vs m) (tree d) ≡ false
 unfolding out-DType Carrier.out
-not_union s vs m (Union' p sh row n) h = let e = union_is p sh row n in absurd (h e.0 n e.1)
+not_union s vs m (Union' p sh held n) h = let e = union_is p sh held n in absurd (h e.0 n e.1)
 not_union s vs m d h = ap (agree s (union vs m)) (tree_out d)
 
 pub not_extension : (s : Nullabilities) (i a : List ℕ) (t : Tree) (d : DType) → ((x : ExtDTypeRef) → d ≡ Extension x → ⊥) → agree s (extension i a t) (tree d) ≡ false
@@ -86,11 +86,11 @@ unfolding out-DType Carrier.out
 not_extension s i a t (Extension' j b c e) h = absurd (h (record { id = j; metadata = b; storage = record { ptr = c.ptr; alloc = c.alloc; value = e } }) refl)
 not_extension s i a t d h = ap (agree s (extension i a t)) (tree_out d)
 
-pub struct_agree : (s : Nullabilities) (d e : DType) (x y : StructFields) (m n : Nullability) → d ≡ Struct x m → e ≡ Struct y n → agree s (tree d) (tree e) ≡ (agree_fields s (fields (children x)) (fields (children y)) && allows s m n)
+pub struct_agree : (s : Nullabilities) (d e : DType) (x y : StructFields) (m n : Nullability) → d ≡ Struct x m → e ≡ Struct y n → agree s (tree d) (tree e) ≡ (allows s m n && agree_fields s (fields (children x)) (fields (children y)))
 struct_agree s d e x y m n p q =
     ap (λ z. agree s (tree z) (tree e)) p ∙ ap (λ z. agree s z (tree e)) (tree_struct x m) ∙ ap (λ z. agree s (struct (fields (children x)) m) (tree z)) q ∙ ap (agree s (struct (fields (children x)) m)) (tree_struct y n)
 
-pub union_agree : (s : Nullabilities) (d e : DType) (x y : UnionVariants) (m n : Nullability) → d ≡ Union x m → e ≡ Union y n → agree s (tree d) (tree e) ≡ (agree_variants s (variants (choices x)) (variants (choices y)) && allows s m n)
+pub union_agree : (s : Nullabilities) (d e : DType) (x y : UnionVariants) (m n : Nullability) → d ≡ Union x m → e ≡ Union y n → agree s (tree d) (tree e) ≡ (allows s m n && agree_variants s (variants (choices x)) (variants (choices y)))
 union_agree s d e x y m n p q =
     ap (λ z. agree s (tree z) (tree e)) p ∙ ap (λ z. agree s z (tree e)) (tree_union x m) ∙ ap (λ z. agree s (union (variants (choices x)) m) (tree z)) q ∙ ap (agree s (union (variants (choices x)) m)) (tree_union y n)
 

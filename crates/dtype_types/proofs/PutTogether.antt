@@ -4,7 +4,6 @@
 -- Lists that are put together item by item, or of two.
 use Rattle.std.proofs.Common.{◌≡◌, ℕ, zero, suc, List, [], ◌∷◌, ◌++◌, length, map, refl, ap, ◌∙◌, arith}
 use Rattle.std.specs.List.{zip, remove}
-use Rattle.dtype_types.specs.Tree.{Tree}
 use Rattle.dtype_types.specs.TreeOf.{tree}
 use Rattle.dtype_types.specs.declared.dtype.DType.{DType}
 
@@ -28,11 +27,6 @@ push_removed [] x zero e = refl
 push_removed [] x (suc i) e = absurd (omega arith)
 push_removed (y ∷ ys) x zero e = absurd (omega arith)
 push_removed (y ∷ ys) x (suc i) e = ap (λ zs. y ∷ zs) (push_removed ys x i (omega arith))
-
--- pairs of what two functions make of the same things
-pub zip_maps : {X : Type 0} (n : X → List ℕ) (f : X → Tree) (xs : List X) → zip (map n xs) (map f xs) ≡ map (λ x. (n x, f x)) xs
-zip_maps n f [] = refl
-zip_maps n f (x ∷ xs) = ap (λ ps. (n x, f x) ∷ ps) (zip_maps n f xs)
 
 -- two lists put one behind the other, behind nothing
 pub both_put : {X : Type 0} (xs ys none one two : List X) → none ≡ [] → one ≡ none ++ xs → two ≡ one ++ ys → two ≡ xs ++ ys

@@ -6,7 +6,7 @@ use Rattle.std.proofs.Common.{◌≡◌, refl}
 use Rattle.dtype_base.specs.declared.nullability.Nullability.TheVariants.{NonNullable, Nullable}
 use Rattle.dtype_types.specs.Sub.{Sub}
 use Rattle.dtype_types.specs.Tree.{Tree, bool, fixed_size_list}
-use Rattle.dtype_types.specs.Value.{Value, Values, Of, Each, count, no_values, value, null_value, row}
+use Rattle.dtype_types.specs.Value.{Value, Values, Of, Each, count, no_values, value, null_value, fixed_items}
 
 abbrev pub wide : Tree
 wide = fixed_size_list (bool Nullable) 0 NonNullable
@@ -20,7 +20,7 @@ empty (value v vs) e = absurd (cc e)
 
 pub all_shared : (v : Value) → Of v wide → Of v narrow
 all_shared null_value o = o
-all_shared (row vs) o = (o.0, empty vs o.0)
+all_shared (fixed_items vs) o = (o.0, empty vs o.0)
 all_shared _ o = o
 
 pub not_below : Sub wide narrow → ⊥

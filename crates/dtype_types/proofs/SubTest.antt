@@ -31,14 +31,14 @@ mutual
   there (decimal p m) (decimal q n) e = let h = both e in (join h.0 refl, allowed m n h.1)
   there (utf8 m) (utf8 n) e = (refl, allowed m n e)
   there (binary m) (binary n) e = (refl, allowed m n e)
-  there (list t m) (list u n) e = let h = both e in let r = there t u h.0 in (join r.0 refl, (allowed m n h.1, r.1))
-  there (fixed_size_list t j m) (fixed_size_list u k n) e = let h = both e in let g = both h.0 in let r = there t u g.0 in (join (join r.0 g.1) refl, (allowed m n h.1, r.1))
+  there (list t m) (list u n) e = let h = both e in let r = there t u h.1 in (r.0, (allowed m n h.0, r.1))
+  there (fixed_size_list t j m) (fixed_size_list u k n) e = let h = both e in let g = both h.0 in let r = there t u h.1 in (join g.1 r.0, (allowed m n g.0, r.1))
   there (map_of t v x m) (map_of u w y n) e =
-      let h = both e in let g = both h.0 in let f = both g.0 in
+      let h = both e in let g = both h.1 in let f = both g.0 in
       let r = there t u f.0 in let s = there v w f.1 in
-      (join (join (join r.0 s.0) g.1) refl, (allowed m n h.1, r.1, s.1))
-  there (struct fs m) (struct gs n) e = let h = both e in let r = there_fields fs gs h.0 in (join r.0 refl, (allowed m n h.1, r.1))
-  there (union vs m) (union ws n) e = let h = both e in let r = there_variants vs ws h.0 in (join r.0 refl, (allowed m n h.1, r.1))
+      (join (join r.0 s.0) g.1, (allowed m n h.0, r.1, s.1))
+  there (struct fs m) (struct gs n) e = let h = both e in let r = there_fields fs gs h.1 in (r.0, (allowed m n h.0, r.1))
+  there (union vs m) (union ws n) e = let h = both e in let r = there_variants vs ws h.1 in (r.0, (allowed m n h.0, r.1))
   there (variant m) (variant n) e = (refl, allowed m n e)
   there (extension i a t) (extension j b u) e = let h = both e in let r = there t u h.1 in (join h.0 r.0, r.1)
   there _ _ e = absurd (false≢true e)
@@ -67,13 +67,13 @@ mutual
   back (decimal p m) (decimal q n) e h = join (both e).0 (allows_it m n h)
   back (utf8 m) (utf8 n) e h = allows_it m n h
   back (binary m) (binary n) e h = allows_it m n h
-  back (list t m) (list u n) e h = join (back t u (both e).0 h.1) (allows_it m n h.0)
-  back (fixed_size_list t j m) (fixed_size_list u k n) e h = let g = both (both e).0 in join (join (back t u g.0 h.1) g.1) (allows_it m n h.0)
+  back (list t m) (list u n) e h = join (allows_it m n h.0) (back t u e h.1)
+  back (fixed_size_list t j m) (fixed_size_list u k n) e h = let g = both e in join (join (allows_it m n h.0) g.0) (back t u g.1 h.1)
   back (map_of t v x m) (map_of u w y n) e h =
-      let g = both (both e).0 in let f = both g.0 in
-      join (join (join (back t u f.0 h.1) (back v w f.1 h.2)) g.1) (allows_it m n h.0)
-  back (struct fs m) (struct gs n) e h = join (back_fields fs gs (both e).0 h.1) (allows_it m n h.0)
-  back (union vs m) (union ws n) e h = join (back_variants vs ws (both e).0 h.1) (allows_it m n h.0)
+      let g = both e in let f = both g.0 in
+      join (allows_it m n h.0) (join (join (back t u f.0 h.1) (back v w f.1 h.2)) g.1)
+  back (struct fs m) (struct gs n) e h = join (allows_it m n h.0) (back_fields fs gs e h.1)
+  back (union vs m) (union ws n) e h = join (allows_it m n h.0) (back_variants vs ws e h.1)
   back (variant m) (variant n) e h = allows_it m n h
   back (extension i a t) (extension j b u) e h = let g = both e in join g.0 (back t u g.1 h)
   back _ _ e h = absurd h

@@ -9,7 +9,7 @@ use Rattle.dtype_base.specs.declared.ptype.PType.{PType}
 use Rattle.dtype_types.specs.Erase.{erase, erase_fields, erase_variants}
 use Rattle.dtype_types.specs.Sub.{Sub, Allows, NullableWherever, NullableWhereverFields, NullableWhereverVariants}
 use Rattle.dtype_types.specs.Tree.{Tree, Fields, no_fields, field, Variants, no_variants, choice, null, bool, primitive, decimal, utf8, binary, list, fixed_size_list, map_of, struct, union, variant, extension}
-use Rattle.dtype_types.specs.Value.{Value, Values, Entries, Named, IncludedIn, Of, NamedOf, VariantOf, Each, EachEntry, null_value, items, row, entries, record_of, tagged, no_values, value, no_entries, entry, no_named, named}
+use Rattle.dtype_types.specs.Value.{Value, Values, Entries, Named, IncludedIn, Of, NamedOf, VariantOf, Each, EachEntry, null_value, items, fixed_items, entries, record_of, tagged, no_values, value, no_entries, entry, no_named, named}
 
 each_of : (P Q : Value → Type 0) → ((v : Value) → P v → Q v) → (vs : Values) → Each P vs → Each Q vs
 each_of P Q f no_values h = tt
@@ -52,7 +52,7 @@ of_list t u m n h f _ o = o
 
 of_fixed : (t u : Tree) (k : ℕ) (m n : Nullability) → Allows m n → ((v : Value) → Of v t → Of v u) → (v : Value) → Of v (fixed_size_list t k m) → Of v (fixed_size_list u k n)
 of_fixed t u k m n h f null_value o = h o
-of_fixed t u k m n h f (row vs) o = (o.0, each_of (λ v. Of v t) (λ v. Of v u) f vs o.1)
+of_fixed t u k m n h f (fixed_items vs) o = (o.0, each_of (λ v. Of v t) (λ v. Of v u) f vs o.1)
 of_fixed t u k m n h f _ o = o
 
 of_map : (t u v w : Tree) (x y : _) (m n : Nullability) → Allows m n → ((z : Value) → Of z t → Of z u) → ((z : Value) → Of z v → Of z w) → (z : Value) → Of z (map_of t v x m) → Of z (map_of u w y n)

@@ -10,7 +10,7 @@ use Rattle.dtype_types.specs.Erase.{erase, erase_fields, erase_variants}
 use Rattle.dtype_types.specs.Valid.{Valid, ValidFields, ValidVariants, LacksTag}
 use Rattle.dtype_types.specs.Sub.{Sub, Allows, NullableWherever, NullableWhereverFields, NullableWhereverVariants}
 use Rattle.dtype_types.specs.Tree.{Tree, Fields, no_fields, field, Variants, no_variants, choice, null, bool, primitive, decimal, utf8, binary, list, fixed_size_list, map_of, struct, union, variant, extension}
-use Rattle.dtype_types.specs.Value.{Value, Of, IncludedIn, NamedOf, VariantOf, Each, null_value, items, row, entries, record_of, tagged, no_values, value, no_entries, entry, named}
+use Rattle.dtype_types.specs.Value.{Value, Of, IncludedIn, NamedOf, VariantOf, Each, null_value, items, fixed_items, entries, record_of, tagged, no_values, value, no_entries, entry, named}
 use Rattle.dtype_types.specs.Sample.{sample, samples, copies}
 use Rattle.dtype_types.specs.Tell.{TellsApart, or_else, null_else, tell, tell_fields, tell_variants, HasNoSizeZero, FieldsHaveNoSizeZero, VariantsHaveNoSizeZero}
 use Rattle.dtype_types.specs.SampleLaws.{sample_of, samples_of, count-copies, each_copy}
@@ -69,7 +69,7 @@ later_of : (g k i : ℕ) (v : Value) (n : List ℕ) (u : Tree) (vs ws : Variants
 later_of g k i v n u vs ws same h p (inl o) = absurd (lacks_none k v vs (subst (λ x. LacksTag x vs) (same ∙ sym o.0) h) p)
 later_of g k i v n u vs ws same h p (inr o) = o
 
--- ---- a row's members
+-- ---- the members of a fixed-size list
 
 row_holds : (P : Value → Type 0) (k : ℕ) (v : Value) → 0 < k → Each P (copies k v) → P v
 row_holds P zero v h e = absurd (omega arith)
@@ -92,7 +92,7 @@ mutual
       (λ s. s) (λ w p. (p, tt)) (λ w p q. q.0) (tell t u) (told t u h z (cc)))
   told (fixed_size_list t j m) (fixed_size_list u k n) h z e =
       told_node m n (NullableWherever t u) (Allows m n × NullableWherever t u) (λ v. Of v (fixed_size_list t j m)) (λ v. Of v (fixed_size_list u k n)) (λ x. x) (λ x. x) (λ x s. (x, s)) _
-      (told_map (NullableWherever t u) (NullableWherever t u) (λ v. Of v t) (λ v. Of v u) (λ v. Of v (fixed_size_list t j m)) (λ v. Of v (fixed_size_list u k n)) (λ v. row (copies j v))
+      (told_map (NullableWherever t u) (NullableWherever t u) (λ v. Of v t) (λ v. Of v u) (λ v. Of v (fixed_size_list t j m)) (λ v. Of v (fixed_size_list u k n)) (λ v. fixed_items (copies j v))
       (λ s. s) (λ w p. (count-copies j w, each_copy (λ v. Of v t) j w p)) (λ w p q. row_holds (λ v. Of v u) j w z.0 q.1) (tell t u) (told t u h.1 z.1 (cc)))
   told (map_of t v x m) (map_of u w y n) h z e =
       told_node m n (NullableWherever t u × NullableWherever v w) (Allows m n × NullableWherever t u × NullableWherever v w) (λ d. Of d (map_of t v x m)) (λ d. Of d (map_of u w y n)) (λ s. s) (λ s. s)

@@ -54,13 +54,13 @@ pub triples_variants : (ps : List (List ℕ × Tree × ℕ)) → triples (varian
 triples_variants [] = refl
 triples_variants (p ∷ ps) = ap (λ qs. p ∷ qs) (triples_variants ps)
 
--- a row's struct is a struct of a list
-pub struct_is : (p : _) (sh : _) (row : _) (n : Nullability) → (s : StructFields) × (Struct' p sh row n ≡ Struct s n)
-struct_is p sh row n =
-    let d : DType = Struct' p sh row n in
-    (_, sym (roll-out-DType d) ∙ ap roll-DType (outs-Struct' p sh row n) ∙ rolls-Struct _ n)
+-- what a struct holds is that of a list
+pub struct_is : (p : _) (sh : _) (held : _) (n : Nullability) → (s : StructFields) × (Struct' p sh held n ≡ Struct s n)
+struct_is p sh held n =
+    let d : DType = Struct' p sh held n in
+    (_, sym (roll-out-DType d) ∙ ap roll-DType (outs-Struct' p sh held n) ∙ rolls-Struct _ n)
 
-pub union_is : (p : _) (sh : _) (row : _) (n : Nullability) → (u : UnionVariants) × (Union' p sh row n ≡ Union u n)
-union_is p sh row n =
-    let d : DType = Union' p sh row n in
-    (_, sym (roll-out-DType d) ∙ ap roll-DType (outs-Union' p sh row n) ∙ rolls-Union _ n)
+pub union_is : (p : _) (sh : _) (held : _) (n : Nullability) → (u : UnionVariants) × (Union' p sh held n ≡ Union u n)
+union_is p sh held n =
+    let d : DType = Union' p sh held n in
+    (_, sym (roll-out-DType d) ∙ ap roll-DType (outs-Union' p sh held n) ∙ rolls-Union _ n)

@@ -9,7 +9,8 @@ use Rattle.std.specs.Str.{bytes_eq}
 use Rattle.std.proofs.lemmas.List.Elements.{All-cons, All-from_recursion, All-nil, All-same}
 use Rattle.std.proofs.lemmas.Option.{same_Some}
 use Rattle.dtype_base.specs.declared.nullability.Nullability.{Nullability}
-use Rattle.dtype_types.specs.IsValid.{IsValid, IsValidStruct, IsValidUnion, IsValidMap, IsValidExtension}
+use Rattle.dtype_types.specs.FieldTypes.{given_fields}
+use Rattle.dtype_types.specs.IsValid.{IsValid, IsValidField, IsValidStruct, IsValidUnion, IsValidMap, IsValidExtension}
 use Rattle.dtype_types.specs.Lists.{seconds, types_of}
 use Rattle.dtype_types.specs.Lookups.{first_named}
 use Rattle.dtype_types.specs.Tree.{Tree, fields, variants}
@@ -17,6 +18,7 @@ use Rattle.dtype_types.specs.TreeOf.{tree, children, choices, with_trees, with_t
 use Rattle.dtype_types.specs.Valid.{HasVariant, Valid, ValidFields, ValidVariants}
 use Rattle.dtype_types.proofs.TreeLaws.{tree_struct, tree_union, tree_map, tree_extension}
 use Rattle.dtype_types.specs.declared.dtype.DType.{DType, Map, Struct, Union, Extension}
+use Rattle.dtype_types.specs.declared.field_dtype.FieldDType.{FieldDType}
 use Rattle.dtype_types.specs.declared.struct_fields.StructFields.{StructFields}
 use Rattle.dtype_types.specs.declared.union_variants.UnionVariants.{UnionVariants}
 use Rattle.dtype_types.specs.declared.extension.ExtDTypeRef.{ExtDTypeRef}
@@ -55,6 +57,10 @@ valid_extension d e is h = subst Valid (ap tree is ∙ tree_extension e) h
 pub fields_of_types : (ps : List (List ℕ × DType)) → AllByRecursion IsValid (seconds ps) → ValidFields (fields (with_trees ps))
 fields_of_types [] h = tt
 fields_of_types (p ∷ ps) h = (h.0, fields_of_types ps h.1)
+
+pub valid_given : (ps : List (List ℕ × FieldDType)) → AllByRecursion (λ p. IsValidField p.1) ps → ValidFields (given_fields ps)
+valid_given [] h = tt
+valid_given (p ∷ ps) h = (h.0, valid_given ps h.1)
 
 each_pair : (ps : List (List ℕ × DType)) → ValidFields (fields (with_trees ps)) → AllByRecursion (λ p. IsValid p.1) ps
 each_pair [] h = tt

@@ -79,16 +79,16 @@ mutual
   agree-same (utf8 m) (utf8 n) e = ap utf8 (allows-same m n e)
   agree-same (binary m) (binary n) e = ap binary (allows-same m n e)
   agree-same (variant m) (variant n) e = ap variant (allows-same m n e)
-  agree-same (list t m) (list u n) e = let h = both e in ap (λ r. list r m) (agree-same t u h.0) ∙ ap (list u) (allows-same m n h.1)
+  agree-same (list t m) (list u n) e = let h = both e in ap (λ r. list r m) (agree-same t u h.1) ∙ ap (list u) (allows-same m n h.0)
   agree-same (fixed_size_list t j m) (fixed_size_list u k n) e =
       let h = both e in let g = both h.0 in
-      ap (λ r. fixed_size_list r j m) (agree-same t u g.0) ∙ ap (λ r. fixed_size_list u r m) ((Decides-eqb j k).0 g.1) ∙ ap (fixed_size_list u k) (allows-same m n h.1)
+      ap (λ r. fixed_size_list r j m) (agree-same t u h.1) ∙ ap (λ r. fixed_size_list u r m) ((Decides-eqb j k).0 g.1) ∙ ap (fixed_size_list u k) (allows-same m n g.0)
   agree-same (map_of t v a m) (map_of u w b n) e =
-      let h = both e in let g = both h.0 in let f = both g.0 in
+      let h = both e in let g = both h.1 in let f = both g.0 in
       ap (λ r. map_of r v a m) (agree-same t u f.0) ∙ ap (λ r. map_of u r a m) (agree-same v w f.1)
-      ∙ ap (λ r. map_of u w r m) ((booleans_Decides a b).0 g.1) ∙ ap (map_of u w b) (allows-same m n h.1)
-  agree-same (struct fs m) (struct gs n) e = let h = both e in ap (λ r. struct r m) (agree_fields-same fs gs h.0) ∙ ap (struct gs) (allows-same m n h.1)
-  agree-same (union fs m) (union gs n) e = let h = both e in ap (λ r. union r m) (agree_variants-same fs gs h.0) ∙ ap (union gs) (allows-same m n h.1)
+      ∙ ap (λ r. map_of u w r m) ((booleans_Decides a b).0 g.1) ∙ ap (map_of u w b) (allows-same m n h.0)
+  agree-same (struct fs m) (struct gs n) e = let h = both e in ap (λ r. struct r m) (agree_fields-same fs gs h.1) ∙ ap (struct gs) (allows-same m n h.0)
+  agree-same (union fs m) (union gs n) e = let h = both e in ap (λ r. union r m) (agree_variants-same fs gs h.1) ∙ ap (union gs) (allows-same m n h.0)
   agree-same (extension i a t) (extension j b u) e =
       let h = both e in let g = both h.0 in
       ap (λ r. extension r a t) ((bytes_eq-Decides i j).0 g.0) ∙ ap (λ r. extension j r t) ((bytes_eq-Decides a b).0 g.1) ∙ ap (extension j b) (agree-same t u h.1)
@@ -120,11 +120,11 @@ mutual
   agree_refl s (utf8 m) = allows_refl s m
   agree_refl s (binary m) = allows_refl s m
   agree_refl s (variant m) = allows_refl s m
-  agree_refl s (list t m) = join (agree_refl s t) (allows_refl s m)
-  agree_refl s (fixed_size_list t j m) = join (join (agree_refl s t) ((Decides-eqb j j).1 refl)) (allows_refl s m)
-  agree_refl s (map_of t v a m) = join (join (join (agree_refl s t) (agree_refl s v)) ((booleans_Decides a a).1 refl)) (allows_refl s m)
-  agree_refl s (struct fs m) = join (agree_fields_refl s fs) (allows_refl s m)
-  agree_refl s (union fs m) = join (agree_variants_refl s fs) (allows_refl s m)
+  agree_refl s (list t m) = join (allows_refl s m) (agree_refl s t)
+  agree_refl s (fixed_size_list t j m) = join (join (allows_refl s m) ((Decides-eqb j j).1 refl)) (agree_refl s t)
+  agree_refl s (map_of t v a m) = join (allows_refl s m) (join (join (agree_refl s t) (agree_refl s v)) ((booleans_Decides a a).1 refl))
+  agree_refl s (struct fs m) = join (allows_refl s m) (agree_fields_refl s fs)
+  agree_refl s (union fs m) = join (allows_refl s m) (agree_variants_refl s fs)
   agree_refl s (extension i a t) = join (join (same_bytes i) (same_bytes a)) (agree_refl s t)
 
   pub agree_fields_refl : (s : Nullabilities) (a : Fields) → agree_fields s a a ≡ true
@@ -148,11 +148,11 @@ mutual
   agree-erase (utf8 m) (utf8 n) = refl
   agree-erase (binary m) (binary n) = refl
   agree-erase (variant m) (variant n) = refl
-  agree-erase (list t m) (list u n) = ap (λ x. x && true) (agree-erase t u)
-  agree-erase (fixed_size_list t j m) (fixed_size_list u k n) = ap (λ x. x && (j == k) && true) (agree-erase t u)
-  agree-erase (map_of t v a m) (map_of u w b n) = ap (λ x. x && agree Ignored v w && beq a b && true) (agree-erase t u) ∙ ap (λ x. agree Compared (erase t) (erase u) && x && beq a b && true) (agree-erase v w)
-  agree-erase (struct fs m) (struct gs n) = ap (λ x. x && true) (agree_fields-erase fs gs)
-  agree-erase (union fs m) (union gs n) = ap (λ x. x && true) (agree_variants-erase fs gs)
+  agree-erase (list t m) (list u n) = agree-erase t u
+  agree-erase (fixed_size_list t j m) (fixed_size_list u k n) = ap (λ x. (j == k) && x) (agree-erase t u)
+  agree-erase (map_of t v a m) (map_of u w b n) = ap (λ x. x && agree Ignored v w && beq a b) (agree-erase t u) ∙ ap (λ x. agree Compared (erase t) (erase u) && x && beq a b) (agree-erase v w)
+  agree-erase (struct fs m) (struct gs n) = agree_fields-erase fs gs
+  agree-erase (union fs m) (union gs n) = agree_variants-erase fs gs
   agree-erase (extension i a t) (extension j b u) = ap (λ x. bytes_eq i j && bytes_eq a b && x) (agree-erase t u)
   agree-erase _ _ = refl
 

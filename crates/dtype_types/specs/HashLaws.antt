@@ -6,12 +6,15 @@
 use Rattle.std.specs.Prelude.{◌≡◌, suc, ◌++◌, drop, true, refl}
 use Rattle.std.proofs.Common.{ap, sym, ◌∙◌}
 use Rattle.std.specs.Hash as fed
+use Rattle.dtype_base.specs.declared.nullability.Nullability.TheVariants.{NonNullable}
+use Rattle.dtype_types.specs.Kinds.{kind_number}
+use Rattle.dtype_types.specs.declared.dtype.kinds.Kind.TheVariants as kind
 use Rattle.dtype_types.specs.Tree.{Tree, Fields, no_fields, field, Variants, no_variants, choice, null, bool, primitive, decimal, utf8, binary, list, fixed_size_list, map_of, struct, union, variant, extension, fields}
 use Rattle.dtype_types.specs.TreeOf.{tree, children, union_tree, map_shown, extension_tree}
 use Rattle.dtype_types.specs.Erase.{erase, erase_fields, erase_variants}
 use Rattle.dtype_types.specs.EqualityLaws.{agree-Decides, same_dtype}
 use Rattle.dtype_types.specs.PartsEquality.{same_fields-Decides, agree_variants-Decides, agree_maps-Decides, same_struct, same_union, same_map, same_extension}
-use Rattle.dtype_types.specs.Hashes.{Whole, Erased, hash_of, nullability_writes, field_count, field_writes, variant_count, variant_writes}
+use Rattle.dtype_types.specs.Hashes.{Whole, Erased, hash_of, head_writes, field_count, field_writes, variant_count, variant_writes}
 use Rattle.dtype_types.specs.HashesOf.{struct_writes, union_writes, map_writes, extension_writes}
 use Rattle.dtype_types.specs.declared.dtype.DType.{DType}
 use Rattle.dtype_types.specs.declared.struct_fields.StructFields.{StructFields}
@@ -31,7 +34,7 @@ union_fed x y e = ap (λ vs. fed.usize (variant_count vs) ++ variant_writes Whol
 pub map_fed : (x y : MapDType) → same_map x y ≡ true → map_writes Whole x ≡ map_writes Whole y
 map_fed x y e = ap (λ m. hash_of Whole m.0 ++ (hash_of Whole m.1 ++ fed.bool m.2)) ((agree_maps-Decides (map_shown x) (map_shown y)).0 e)
 
--- an extension's writes are those of its tree behind the number of the kind
+-- an extension's writes are those of its tree behind the byte of the kind
 pub extension_fed : (x y : ExtDTypeRef) → same_extension x y ≡ true → extension_writes Whole x ≡ extension_writes Whole y
 extension_fed x y e = ap (λ t. drop 1 (hash_of Whole t)) ((agree-Decides (extension_tree x) (extension_tree y)).0 e)
 
@@ -43,19 +46,19 @@ mutual
   hash-erase (decimal d n) = refl
   hash-erase (utf8 n) = refl
   hash-erase (binary n) = refl
-  hash-erase (list t n) = ap (λ w. fed.u8 6 ++ (w ++ nullability_writes Erased n)) (hash-erase t)
-  hash-erase (fixed_size_list t k n) = ap (λ w. fed.u8 7 ++ (w ++ (fed.u32 k ++ nullability_writes Erased n))) (hash-erase t)
+  hash-erase (list t n) = ap (λ w. head_writes Erased (kind_number kind.List) n ++ w) (hash-erase t)
+  hash-erase (fixed_size_list t k n) = ap (λ w. head_writes Erased (kind_number kind.FixedSizeList) n ++ (fed.u32 k ++ w)) (hash-erase t)
   hash-erase (map_of k v o n) =
-      ap (λ w. fed.u8 8 ++ (w ++ (hash_of Erased v ++ (fed.bool o ++ nullability_writes Erased n)))) (hash-erase k)
-      ∙ ap (λ w. fed.u8 8 ++ (hash_of Erased (erase k) ++ (w ++ (fed.bool o ++ nullability_writes Erased n)))) (hash-erase v)
+      ap (λ w. head_writes Erased (kind_number kind.Map) n ++ (w ++ (hash_of Erased v ++ fed.bool o))) (hash-erase k)
+      ∙ ap (λ w. head_writes Erased (kind_number kind.Map) n ++ (hash_of Erased (erase k) ++ (w ++ fed.bool o))) (hash-erase v)
   hash-erase (struct fs n) =
-      ap (λ k. fed.u8 9 ++ (fed.usize k ++ (field_writes Erased fs ++ nullability_writes Erased n))) (field_count-erase fs)
-      ∙ ap (λ w. fed.u8 9 ++ (fed.usize (field_count (erase_fields fs)) ++ (w ++ nullability_writes Erased n))) (field_writes-erase fs)
+      ap (λ k. head_writes Erased (kind_number kind.Struct) n ++ (fed.usize k ++ field_writes Erased fs)) (field_count-erase fs)
+      ∙ ap (λ w. head_writes Erased (kind_number kind.Struct) n ++ (fed.usize (field_count (erase_fields fs)) ++ w)) (field_writes-erase fs)
   hash-erase (union vs n) =
-      ap (λ k. fed.u8 10 ++ (fed.usize k ++ (variant_writes Erased vs ++ nullability_writes Erased n))) (variant_count-erase vs)
-      ∙ ap (λ w. fed.u8 10 ++ (fed.usize (variant_count (erase_variants vs)) ++ (w ++ nullability_writes Erased n))) (variant_writes-erase vs)
+      ap (λ k. head_writes Erased (kind_number kind.Union) n ++ (fed.usize k ++ variant_writes Erased vs)) (variant_count-erase vs)
+      ∙ ap (λ w. head_writes Erased (kind_number kind.Union) n ++ (fed.usize (variant_count (erase_variants vs)) ++ w)) (variant_writes-erase vs)
   hash-erase (variant n) = refl
-  hash-erase (extension id b t) = ap (λ w. fed.u8 12 ++ (fed.str id ++ (fed.slice fed.u8 b ++ w))) (hash-erase t)
+  hash-erase (extension id b t) = ap (λ w. head_writes Erased (kind_number kind.Extension) NonNullable ++ (fed.str id ++ (fed.slice fed.u8 b ++ w))) (hash-erase t)
 
   field_count-erase : (fs : Fields) → field_count fs ≡ field_count (erase_fields fs)
   field_count-erase no_fields = refl

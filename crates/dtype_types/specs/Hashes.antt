@@ -1,15 +1,17 @@
 -- SPDX-License-Identifier: Apache-2.0
 -- SPDX-FileCopyrightText: Copyright the Vortex contributors
 
--- What a type feeds a hasher, as a list of writes: the number of its kind, all that it holds, and its
--- nullability, where nullabilities aren't forgotten. Counts stand before lists, and a mark behind texts.
+-- What a type feeds a hasher, as a list of writes: one byte for its kind, or which primitive type it is, and its
+-- nullability, where nullabilities aren't forgotten, and then all that it holds. Counts stand before lists, and a
+-- mark behind texts.
 -- It is a function of the tree, so equal types feed alike.
-use Rattle.std.specs.Prelude.{ℕ, suc, [], ◌++◌}
+use Rattle.std.specs.Prelude.{ℕ, suc, ◌+◌, ◌*◌, [], ◌++◌}
 use Rattle.std.specs.Hash as fed
 use Rattle.std.specs.Hash.{HashWrites}
 use Rattle.dtype_base.specs.Primitives.{primitive as row}
 use Rattle.dtype_base.specs.declared.nullability.Nullability.{Nullability}
 use Rattle.dtype_base.specs.declared.nullability.Nullability.TheVariants.{NonNullable, Nullable}
+use Rattle.dtype_base.specs.declared.ptype.PType.{PType}
 use Rattle.dtype_types.specs.Kinds.{kind_number}
 use Rattle.dtype_types.specs.declared.dtype.kinds.Kind.TheVariants as kind
 use Rattle.dtype_types.specs.declared.dtype.hash.Hashed.{Hashed}
@@ -26,11 +28,18 @@ abbrev pub part_of : Hashed → Part
 part_of hashed.Whole = Whole
 part_of hashed.Erased = Erased
 
--- a nullability, or nothing where nullabilities are forgotten
-abbrev pub nullability_writes : Part → Nullability → HashWrites
-nullability_writes Erased n = []
-nullability_writes Whole NonNullable = fed.u8 0
-nullability_writes Whole Nullable = fed.u8 1
+-- 1 for a nullable type, where nullabilities aren't forgotten
+abbrev pub nullable_mark : Part → Nullability → ℕ
+nullable_mark Whole Nullable = 1
+nullable_mark _ _ = 0
+
+-- the number of what a type is, and its nullability, in one byte
+abbrev pub head_writes : Part → ℕ → Nullability → HashWrites
+head_writes s number n = fed.u8 (2 * number + nullable_mark s n)
+
+-- the primitive types are numbered behind the kinds
+abbrev pub primitive_number : PType → ℕ
+primitive_number p = suc (kind_number kind.Extension) + (row p).number
 
 -- how many fields and how many variants there are
 abbrev pub field_count : Fields → ℕ
@@ -43,19 +52,19 @@ variant_count (choice n t g rest) = suc (variant_count rest)
 
 abbrev mutual
   pub hash_of : Part → Tree → HashWrites
-  hash_of s null = fed.u8 (kind_number kind.Null)
-  hash_of s (bool n) = fed.u8 (kind_number kind.Bool) ++ nullability_writes s n
-  hash_of s (primitive p n) = fed.u8 (kind_number kind.Primitive) ++ (fed.u8 (row p).number ++ nullability_writes s n)
-  hash_of s (decimal d n) = fed.u8 (kind_number kind.Decimal) ++ (fed.u8 d.precision ++ (fed.i8 d.scale ++ nullability_writes s n))
-  hash_of s (utf8 n) = fed.u8 (kind_number kind.Utf8) ++ nullability_writes s n
-  hash_of s (binary n) = fed.u8 (kind_number kind.Binary) ++ nullability_writes s n
-  hash_of s (list t n) = fed.u8 (kind_number kind.List) ++ (hash_of s t ++ nullability_writes s n)
-  hash_of s (fixed_size_list t k n) = fed.u8 (kind_number kind.FixedSizeList) ++ (hash_of s t ++ (fed.u32 k ++ nullability_writes s n))
-  hash_of s (map_of k v o n) = fed.u8 (kind_number kind.Map) ++ (hash_of s k ++ (hash_of s v ++ (fed.bool o ++ nullability_writes s n)))
-  hash_of s (struct fs n) = fed.u8 (kind_number kind.Struct) ++ (fed.usize (field_count fs) ++ (field_writes s fs ++ nullability_writes s n))
-  hash_of s (union vs n) = fed.u8 (kind_number kind.Union) ++ (fed.usize (variant_count vs) ++ (variant_writes s vs ++ nullability_writes s n))
-  hash_of s (variant n) = fed.u8 (kind_number kind.Variant) ++ nullability_writes s n
-  hash_of s (extension id b t) = fed.u8 (kind_number kind.Extension) ++ (fed.str id ++ (fed.slice fed.u8 b ++ hash_of s t))
+  hash_of s null = head_writes s (kind_number kind.Null) NonNullable
+  hash_of s (bool n) = head_writes s (kind_number kind.Bool) n
+  hash_of s (primitive p n) = head_writes s (primitive_number p) n
+  hash_of s (decimal d n) = head_writes s (kind_number kind.Decimal) n ++ (fed.u8 d.precision ++ fed.i8 d.scale)
+  hash_of s (utf8 n) = head_writes s (kind_number kind.Utf8) n
+  hash_of s (binary n) = head_writes s (kind_number kind.Binary) n
+  hash_of s (list t n) = head_writes s (kind_number kind.List) n ++ hash_of s t
+  hash_of s (fixed_size_list t k n) = head_writes s (kind_number kind.FixedSizeList) n ++ (fed.u32 k ++ hash_of s t)
+  hash_of s (map_of k v o n) = head_writes s (kind_number kind.Map) n ++ (hash_of s k ++ (hash_of s v ++ fed.bool o))
+  hash_of s (struct fs n) = head_writes s (kind_number kind.Struct) n ++ (fed.usize (field_count fs) ++ field_writes s fs)
+  hash_of s (union vs n) = head_writes s (kind_number kind.Union) n ++ (fed.usize (variant_count vs) ++ variant_writes s vs)
+  hash_of s (variant n) = head_writes s (kind_number kind.Variant) n
+  hash_of s (extension id b t) = head_writes s (kind_number kind.Extension) NonNullable ++ (fed.str id ++ (fed.slice fed.u8 b ++ hash_of s t))
 
   -- each field: its name and its type
   pub field_writes : Part → Fields → HashWrites
@@ -68,8 +77,8 @@ abbrev mutual
   variant_writes s (choice n t g rest) = fed.str n ++ (hash_of s t ++ (fed.u8 g ++ variant_writes s rest))
 
 -- what a type feeds a hasher through `Hash`, and through `hash_ignore_nullability`
-abbrev pub writes : Tree → HashWrites
-writes t = hash_of Whole t
+abbrev pub hash_writes : Tree → HashWrites
+hash_writes t = hash_of Whole t
 
-abbrev pub writes_ignoring_nullability : Tree → HashWrites
-writes_ignoring_nullability t = hash_of Erased t
+abbrev pub hash_writes_ignoring_nullability : Tree → HashWrites
+hash_writes_ignoring_nullability t = hash_of Erased t

@@ -11,13 +11,13 @@ use Rattle.dtype_types.specs.Nullable.{nullability, SetNull}
 use Rattle.dtype_types.specs.IsValid.{IsValidUnion}
 use Rattle.dtype_types.specs.declared.dtype.DType.{DType}
 use Rattle.dtype_types.specs.EqualityLaws.{same_dtype}
-use Rattle.dtype_types.specs.Hashes.{writes, writes_ignoring_nullability}
+use Rattle.dtype_types.specs.Hashes.{hash_writes, hash_writes_ignoring_nullability}
 use Rattle.dtype_types.specs.TreeOf.{tree, union_tags}
 use Rattle.dtype_types.specs.declared.union_variants.UnionVariants.{UnionVariants}
 
 -- `==` agrees with `Hash`: equal types feed a hasher alike
 abbrev pub EqualTypesFeedAlike : Type 0
-EqualTypesFeedAlike = (a b : DType) → IsTrue (same_dtype a b) → writes (tree a) ≡ writes (tree b)
+EqualTypesFeedAlike = (a b : DType) → IsTrue (same_dtype a b) → hash_writes (tree a) ≡ hash_writes (tree b)
 
 -- equal ignoring nullability
 abbrev pub SameIgnoring : Tree → Tree → Type 0
@@ -25,7 +25,7 @@ SameIgnoring a b = erase a ≡ erase b
 
 -- types that are equal ignoring nullability feed a hasher alike where nullabilities are ignored
 abbrev pub SameIgnoringFeedAlike : Type 0
-SameIgnoringFeedAlike = (a b : Tree) → SameIgnoring a b → writes_ignoring_nullability a ≡ writes_ignoring_nullability b
+SameIgnoringFeedAlike = (a b : Tree) → SameIgnoring a b → hash_writes_ignoring_nullability a ≡ hash_writes_ignoring_nullability b
 
 abbrev pub IsReflexive : (Tree → Tree → Type 0) → Type 0
 IsReflexive R = (a : Tree) → R a a

@@ -3,12 +3,12 @@
 
 -- A value of each valid type, by recursion on the type: null where it may be, else a plain one.
 use Rattle.std.specs.Prelude.{ℕ, zero, suc, pos, [], false}
-use Rattle.dtype_base.specs.Primitives.{primitive as row_of, Kind}
-use Rattle.dtype_base.specs.Primitives.Kind.{Floating}
+use Rattle.dtype_base.specs.Primitives.{primitive as row_of, NumberKind}
+use Rattle.dtype_base.specs.Primitives.NumberKind.{Floating}
 use Rattle.dtype_base.specs.declared.nullability.Nullability.{Nullability}
 use Rattle.dtype_base.specs.declared.nullability.Nullability.TheVariants.{NonNullable, Nullable}
 use Rattle.dtype_types.specs.Tree.{Tree, Fields, no_fields, field, Variants, no_variants, choice, null, bool, primitive, decimal, utf8, binary, list, fixed_size_list, map_of, struct, union, variant, extension}
-use Rattle.dtype_types.specs.Value.{Value, Values, Named, null_value, truth, number, float_bits, digits, text, bytes, opaque, items, row, entries, record_of, tagged, no_values, value, no_entries, no_named, named}
+use Rattle.dtype_types.specs.Value.{Value, Values, Named, null_value, truth, number, float_bits, digits, text, bytes, opaque, items, fixed_items, entries, record_of, tagged, no_values, value, no_entries, no_named, named}
 
 -- null where that is allowed
 abbrev pub null_or : Nullability → Value → Value
@@ -19,7 +19,7 @@ abbrev pub copies : ℕ → Value → Values
 copies zero v = no_values
 copies (suc k) v = value v (copies k v)
 
-abbrev pub zero_of : Kind → Value
+abbrev pub zero_of : NumberKind → Value
 zero_of Floating = float_bits 0
 zero_of _ = number (pos 0)
 
@@ -32,7 +32,7 @@ abbrev mutual
   sample (utf8 n) = null_or n (text [])
   sample (binary n) = null_or n (bytes [])
   sample (list t n) = null_or n (items no_values)
-  sample (fixed_size_list t k n) = null_or n (row (copies k (sample t)))
+  sample (fixed_size_list t k n) = null_or n (fixed_items (copies k (sample t)))
   sample (map_of t u s n) = null_or n (entries no_entries)
   sample (struct fs n) = null_or n (record_of (samples fs))
   sample (union vs n) = null_or n (first_sample vs)

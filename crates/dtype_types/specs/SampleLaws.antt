@@ -9,13 +9,14 @@ use Rattle.std.proofs.Math.Nat.{le_refl, le_trans, le-suc}
 use Rattle.std.proofs.Common.{ap, inl, lit<}
 use Rattle.std.proofs.lemmas.Str.{IsUtf8-nil}
 use Rattle.std.proofs.lemmas.List.Elements.{All-nil}
+use Rattle.dtype_base.specs.Bytes.{Bytes}
 use Rattle.dtype_base.specs.declared.nullability.Nullability.TheVariants.{NonNullable, Nullable}
 use Rattle.dtype_base.specs.Primitives.{primitive as row_of}
 use Rattle.dtype_base.specs.declared.ptype.PType.{PType}
 use Rattle.dtype_base.specs.declared.ptype.PType.TheVariants.{U8, U16, U32, U64, I8, I16, I32, I64, F16, F32, F64}
 use Rattle.dtype_types.specs.Tree.{Tree, Fields, no_fields, field, no_variants, choice, null, bool, primitive, decimal, utf8, binary, list, fixed_size_list, map_of, struct, union, variant, extension}
 use Rattle.dtype_types.specs.Valid.{Valid, ValidFields}
-use Rattle.dtype_types.specs.Value.{Value, Of, NamedOf, Each, count, HasDigits, AreBytes}
+use Rattle.dtype_types.specs.Value.{Value, Of, NamedOf, Each, count, HasDigits}
 use Rattle.dtype_types.specs.Sample.{sample, samples, copies, zero_of}
 
 pub count-copies : (k : ℕ) (v : Value) → count (copies k v) ≡ k
@@ -53,7 +54,7 @@ above_zero n = le_z_yes (yes_leb (from_zero n))
 zero_digits : (p : ℕ) → HasDigits p (pos 0)
 zero_digits p = (below_zero (10 ^ p - 1), above_zero (10 ^ p - 1))
 
-no_bytes : AreBytes []
+no_bytes : Bytes []
 no_bytes = All-nil (λ x. x < 256)
 
 mutual

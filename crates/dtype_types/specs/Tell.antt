@@ -7,7 +7,7 @@ use Rattle.dtype_base.specs.declared.nullability.Nullability.{Nullability}
 use Rattle.dtype_base.specs.declared.nullability.Nullability.TheVariants.{NonNullable, Nullable}
 use Rattle.dtype_types.specs.Sample.{sample, samples, copies}
 use Rattle.dtype_types.specs.Tree.{Tree, Fields, no_fields, field, Variants, no_variants, choice, bool, primitive, decimal, utf8, binary, list, fixed_size_list, map_of, struct, union, variant, extension}
-use Rattle.dtype_types.specs.Value.{Value, Named, Of, null_value, items, row, entries, record_of, tagged, no_values, value, no_entries, entry, named}
+use Rattle.dtype_types.specs.Value.{Value, Named, Of, null_value, items, fixed_items, entries, record_of, tagged, no_values, value, no_entries, entry, named}
 
 -- the first value that there is
 abbrev pub or_else : {X : Type 0} → Option X → Option X → Option X
@@ -20,7 +20,7 @@ null_else Nullable NonNullable parts = Some null_value
 null_else _ _ parts = parts
 
 -- a value of a that isn't one of b: null at the first place where a is nullable and b isn't, in a list of
--- one member, a row of equal members, a map of one entry, a struct, that variant of a union or the storage
+-- one member, a fixed-size list of equal members, a map of one entry, a struct, that variant of a union or the storage
 -- of an extension, with samples of a elsewhere; none where there is no such place
 abbrev mutual
   pub tell : Tree → Tree → Option Value
@@ -30,7 +30,7 @@ abbrev mutual
   tell (utf8 m) (utf8 n) = null_else m n None
   tell (binary m) (binary n) = null_else m n None
   tell (list t m) (list u n) = null_else m n (option_map (λ v. items (value v no_values)) (tell t u))
-  tell (fixed_size_list t j m) (fixed_size_list u k n) = null_else m n (option_map (λ v. row (copies j v)) (tell t u))
+  tell (fixed_size_list t j m) (fixed_size_list u k n) = null_else m n (option_map (λ v. fixed_items (copies j v)) (tell t u))
   tell (map_of t v x m) (map_of u w y n) =
       null_else m n (or_else (option_map (λ k. entries (entry k (sample v) no_entries)) (tell t u)) (option_map (λ z. entries (entry (sample t) z no_entries)) (tell v w)))
   tell (struct fs m) (struct gs n) = null_else m n (option_map (λ nvs. record_of nvs) (tell_fields fs gs))

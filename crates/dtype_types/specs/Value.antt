@@ -2,12 +2,13 @@
 -- SPDX-FileCopyrightText: Copyright the Vortex contributors
 
 -- Values as finite trees, and which of them are of which type. From the documentation of `DType`: null is
--- of exactly the nullable types, and every other value is of a type by its kind. A list, a row, a map, a
+-- of exactly the nullable types, and every other value is of a type by its kind. A list, a fixed-size list, a map, a
 -- struct and a union value are five kinds, equal neither to one another nor to any other. Nothing here
 -- knows of stored data.
-use Rattle.std.specs.Prelude.{◌≡◌, ◌⊎◌, ◌↔◌, ℕ, suc, ◌-◌, ◌^◌, ◌<◌, ℤ, pos, negsuc, neg_ℤ, ◌≤ℤ◌, List, Bool, All, IsUtf8}
-use Rattle.dtype_base.specs.Primitives.{primitive as row_of, Kind, HoldsUnsigned, HoldsSigned, IsFloat}
-use Rattle.dtype_base.specs.Primitives.Kind.{Unsigned, Signed, Floating}
+use Rattle.std.specs.Prelude.{◌≡◌, ◌⊎◌, ◌↔◌, ℕ, suc, ◌-◌, ◌^◌, ℤ, pos, negsuc, neg_ℤ, ◌≤ℤ◌, List, Bool, IsUtf8}
+use Rattle.dtype_base.specs.Bytes.{Bytes}
+use Rattle.dtype_base.specs.Primitives.{primitive as row_of, NumberKind, HoldsUnsigned, HoldsSigned, IsFloat}
+use Rattle.dtype_base.specs.Primitives.NumberKind.{Unsigned, Signed, Floating}
 use Rattle.dtype_base.specs.declared.ptype.PType.{PType}
 use Rattle.dtype_types.specs.Nullable.{IsNullable}
 use Rattle.dtype_types.specs.Tree.{Tree, Fields, no_fields, field, Variants, no_variants, choice, bool, primitive, decimal, utf8, binary, list, fixed_size_list, map_of, struct, union, variant, extension}
@@ -29,7 +30,7 @@ mutual
     -- of a list
     items : Values → Value
     -- of a fixed-size list
-    row : Values → Value
+    fixed_items : Values → Value
     -- of a map
     entries : Entries → Value
     -- of a struct
@@ -52,7 +53,7 @@ mutual
     named : List ℕ → Value → Named → Named
 
 -- a whole number in the range of p, a type of that kind
-abbrev pub InRange : Kind → PType → ℤ → Type 0
+abbrev pub InRange : NumberKind → PType → ℤ → Type 0
 InRange Unsigned p (pos n) = HoldsUnsigned n p
 InRange Unsigned p (negsuc n) = ⊥
 InRange Signed p z = HoldsSigned z p
@@ -68,9 +69,6 @@ FloatBitsOf p k = IsFloat p × HoldsUnsigned k p
 -- at most p digits, of either sign: -(10 ^ p - 1) to 10 ^ p - 1
 abbrev pub HasDigits : ℕ → ℤ → Type 0
 HasDigits p z = (neg_ℤ (pos (10 ^ p - 1)) ≤ℤ z) × (z ≤ℤ pos (10 ^ p - 1))
-
-abbrev pub AreBytes : List ℕ → Type 0
-AreBytes bs = All (λ x. x < 256) bs
 
 abbrev pub Each : (Value → Type 0) → Values → Type 0
 Each P no_values = Unit {0}
@@ -94,10 +92,10 @@ abbrev mutual
   Of (float_bits k) (primitive p n) = FloatBitsOf p k
   Of (digits z) (decimal d n) = HasDigits d.precision z
   Of (text bs) (utf8 n) = IsUtf8 bs
-  Of (bytes bs) (binary n) = AreBytes bs
-  Of (opaque bs) (variant n) = AreBytes bs
+  Of (bytes bs) (binary n) = Bytes bs
+  Of (opaque bs) (variant n) = Bytes bs
   Of (items vs) (list t n) = Each (λ v. Of v t) vs
-  Of (row vs) (fixed_size_list t k n) = (count vs ≡ k) × Each (λ v. Of v t) vs
+  Of (fixed_items vs) (fixed_size_list t k n) = (count vs ≡ k) × Each (λ v. Of v t) vs
   Of (entries es) (map_of t u s n) = EachEntry (λ k. Of k t) (λ v. Of v u) es
   Of (record_of nvs) (struct fs n) = NamedOf nvs fs
   Of (tagged g v) (union vs n) = VariantOf g v vs

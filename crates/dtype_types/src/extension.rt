@@ -5,6 +5,7 @@ ghost use Rattle.std.specs.Prelude.{◌≡◌, ◌↔◌, ℕ, IsTrue, IfOk, IsO
 ghost use Rattle.std.specs.Prelude.{◌&&◌};
 ghost use Rattle.std.specs.Str.{bytes_eq};
 ghost use Rattle.std.specs.Rc.{rc_str_bytes};
+ghost use Rattle.dtype_base.specs.Bytes.{Bytes};
 ghost use Rattle.dtype_base.specs.declared.vortex_error.VortexError.TheVariants.{OutOfMemory};
 
 use crate::DType;
@@ -343,7 +344,7 @@ impl Hash for ExtDTypeRef {
 
 // Nothing at run time: a proof learns that the items are bytes.
 fn check_bytes(bytes: &[u8])
-    ensures { All (λ x. x < 256) bytes.now }
+    ensures { Bytes bytes.now }
 {
     let _ = bytes;
 }

@@ -103,9 +103,9 @@ impl Eq for FieldDType {
 
 impl Hash for FieldDType {
     ghost use Rattle.dtype_types.specs.HashLaws.{dtype_fed};
-    ghost use Rattle.dtype_types.specs.Hashes.{writes};
+    ghost use Rattle.dtype_types.specs.Hashes.{hash_writes};
 
-    ghost hash_input = { λ f. writes (field_tree f) };
+    ghost hash_input = { λ f. hash_writes (field_tree f) };
 
     ghost respects_eq = { λ f g. dtype_fed f.dtype g.dtype };
 

@@ -3,7 +3,7 @@
 
 // What follows from the definitions of types alone. Each function's contract is the law; one gives the
 // constant that its law is on, and every other body is empty.
-ghost use Rattle.std.specs.Prelude.{◌≡◌, ◌↔◌, ℕ, List, None, length};
+ghost use Rattle.std.specs.Prelude.{◌≡◌, ◌↔◌, ◌++◌, ℕ, IsSome, List, None, length};
 ghost use Rattle.std.specs.Iterator.{UpTo};
 ghost use Rattle.std.specs.Iterator.Runs.{EveryRun, ItemsMapTo, YieldsRefsInOrder};
 ghost use Rattle.dtype_base.specs.declared.nullability.Nullability.{Nullability};
@@ -11,6 +11,7 @@ ghost use Rattle.dtype_base.specs.declared.nullability.Nullability.TheVariants.{
 ghost use Rattle.dtype_base.specs.declared.ptype.PType.TheVariants.{U8};
 ghost use Rattle.dtype_types.specs.Laws.{EqualTypesFeedAlike, IsAntisymmetric, IsReflexive, IsTransitive, LastSetNullDecides, SameIgnoring, SameIgnoringFeedAlike, SetNullKeepsErase, SetNullSets, TagsTellPositions};
 ghost use Rattle.dtype_types.specs.Lists.{lent_pair, lent_triple};
+ghost use Rattle.dtype_types.specs.Lookups.{first_named};
 ghost use Rattle.dtype_types.specs.Nullable.{IsNullable, SetNull};
 ghost use Rattle.dtype_types.specs.Sample.{sample};
 ghost use Rattle.dtype_types.specs.Sub.{Sub};
@@ -148,6 +149,16 @@ pub fn bytes_are_non_nullable_u8() -> DType
 {
     DType::BYTES
 }
+
+/// In two lists of fields joined, as a merge joins them, a name leads where it does in the first, and where it
+/// does in the second if the first has none of it.
+#[tactic(auto, using(crate::proofs::JoinedFields::named_before, crate::proofs::JoinedFields::named_behind))]
+pub fn joined_fields_are_found_in_order()
+    ensures first { (fs gs : List (List ℕ × Tree)) (name : List ℕ) → IsSome (first_named fs name)
+        → first_named (fs ++ gs) name ≡ first_named fs name }
+    ensures second { (fs gs : List (List ℕ × Tree)) (name : List ℕ) → first_named fs name ≡ None
+        → first_named (fs ++ gs) name ≡ first_named gs name }
+{}
 
 /// Lent types, fields and variants come in order: calls of `next` give the first of those that are left,
 /// and all of them before `None`, which comes after so many items as `len` announces.

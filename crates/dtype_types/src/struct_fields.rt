@@ -101,13 +101,13 @@ impl StructFields {
             MadeFrom (I.into_iter_gives fields) I.IntoIter.next_gives (IsMadeOf s)) }
         ensures refused { IsOkUnless result OutOfMemory }
     {
-        let mut names = Vec::new(alloc);
-        let mut dtypes = Vec::new(alloc);
+        let fields = fields.into_iter();
+        let (room, _) = fields.size_hint();
+        let mut made = FieldsBuilder::with_capacity(alloc, room)?;
         for (name, dtype) in fields {
-            names.push(name)?;
-            dtypes.push(dtype.into_dtype())?;
+            made = made.push(name, dtype.into_dtype())?;
         }
-        StructFields::new(alloc, FieldNames::from_vec(names), dtypes)
+        made.finish(alloc)
     }
 
     /// The names, in order.

@@ -3,9 +3,10 @@
 
 ghost use Rattle.std.specs.Prelude.{◌≡◌, ◌≤◌, ◌<◌, ◌↔◌, ◌==◌, ◌⊎◌, IsTrue, [], length, map, vec_len, position, slice_get, All, IfOk, IfErr, IfSome, IfNone, OnOk, IsOkUnless, Err, Some, false, fold, option_and_then};
 ghost use Rattle.std.specs.List.{IsDistinct, range_with_len};
+ghost use Rattle.dtype_base.specs.Bytes.{Bytes};
 ghost use Rattle.dtype_base.specs.FieldNames.{FirstAt, IsAbsent};
 ghost use Rattle.dtype_base.specs.declared.vortex_error.VortexError.TheVariants.{OutOfMemory, UnionTooMany};
-ghost use Rattle.dtype_types.specs.Unions.{HasUnionLengths, MakesUnion, UnionRefusal};
+ghost use Rattle.dtype_types.specs.Unions.{HasUnionLengths, MakesUnion, UnionRefusal, most_variants};
 
 use crate::dtype::equality::{Nullabilities, agree};
 use crate::dtype::hash::{Hashed, feed};
@@ -47,7 +48,7 @@ fn validate_shape(
     type_ids: &[u8],
 ) -> VortexResult<()>
     ensures ok { OnOk result (MakesUnion names.now types type_ids.now) }
-    ensures bytes { OnOk result (All (λ t. t < 256) type_ids.now) }
+    ensures bytes { OnOk result (Bytes type_ids.now) }
     ensures refused { IfErr result (λ e. (e ≡ OutOfMemory)
         ⊎ UnionRefusal names.now types type_ids.now e) }
     ensures memory { result ≡ Err OutOfMemory → HasUnionLengths names.now types type_ids.now }
@@ -72,7 +73,7 @@ fn validate_shape(
 
 // The tags 0, 1, 2 and so on, this many.
 fn first_tags(alloc: Global, count: usize) -> VortexResult<Vec<u8>>
-    requires { count ≤ 256 }
+    requires { count ≤ most_variants }
     ensures ok { IfOk result (λ tags. tags.items ≡ range_with_len 0 count) }
     ensures refused { IsOkUnless result OutOfMemory }
 {
@@ -131,8 +132,8 @@ impl UnionVariants {
 
         ensures accepted { OnOk result
             (MakesUnion names (vec_len dtypes) (range_with_len 0 (length names))) }
-        ensures too_many { (result ≡ Err UnionTooMany) ↔ (256 < length names) }
-        ensures refused { length names ≤ 256 → IfErr result (λ e. (e ≡ OutOfMemory)
+        ensures too_many { (result ≡ Err UnionTooMany) ↔ (most_variants < length names) }
+        ensures refused { length names ≤ most_variants → IfErr result (λ e. (e ≡ OutOfMemory)
             ⊎ UnionRefusal names (vec_len dtypes) (range_with_len 0 (length names)) e) }
     {
         if names.len() > MAX_VARIANTS {

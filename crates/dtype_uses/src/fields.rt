@@ -2,14 +2,16 @@
 // SPDX-FileCopyrightText: Copyright the Vortex contributors
 
 // Lookups of fields, by name and by position.
-ghost use Rattle.std.specs.Prelude.{◌≡◌, ◌<◌, ◌≤◌, Some, IfOk, length, true};
+ghost use Rattle.std.specs.Prelude.{◌≡◌, ◌+◌, ◌<◌, ◌≤◌, None, Some, IfOk, IsSome, IsTrue, length, true};
 ghost use Rattle.std.specs.Option.{option_map};
 ghost use Rattle.dtype_base.specs.FieldNames.{first_place};
+ghost use Rattle.dtype_types.specs.Distinct.{Distinct};
 ghost use Rattle.dtype_types.specs.Lookups.{field_names, first_named};
 ghost use Rattle.dtype_types.specs.Nullable.{nullability};
 ghost use Rattle.dtype_types.specs.TreeOf.{children, option_tree};
 
 use dtype_base::{FieldName, FieldNames, Nullability, VortexResult};
+use dtype_types::laws::joined_fields_are_found_in_order;
 use dtype_types::{DType, StructFields};
 use std::alloc::Global;
 
@@ -84,4 +86,53 @@ pub fn has_what_it_was_projected_to(
     let projection = vec![in alloc; name_alone]?;
     let projected = fields.project(alloc, &projection)?;
     Ok(projected.field(name.as_str()).is_some())
+}
+
+/// How many fields there are without one of them.
+pub fn count_without_field(
+    alloc: Global,
+    fields: &StructFields,
+    index: usize,
+) -> VortexResult<usize>
+    ensures { IfOk result (λ n. n + 1 ≡ length (children fields.now)) }
+{
+    Ok(fields.without_field(alloc, index)?.nfields())
+}
+
+/// The fields of two structs, no name of which stands twice.
+pub fn merged(
+    alloc: Global,
+    left: &StructFields,
+    right: &StructFields,
+) -> VortexResult<StructFields>
+    ensures { IfOk result (λ s. Distinct (field_names (children s))) }
+{
+    left.disjoint_merge(alloc, right)
+}
+
+/// Whether a column of the first of two tables is one of both joined.
+pub fn keeps_column_of_first(
+    alloc: Global,
+    first: &StructFields,
+    second: &StructFields,
+    column: &str,
+) -> VortexResult<bool>
+    ensures { IsSome (first_named (children first.now) column.now) → IfOk result (λ kept. IsTrue kept) }
+{
+    joined_fields_are_found_in_order();
+    Ok(first.disjoint_merge(alloc, second)?.field(column).is_some())
+}
+
+/// Whether a column of the second of two tables, which the first hasn't, is one of both joined.
+pub fn takes_column_of_second(
+    alloc: Global,
+    first: &StructFields,
+    second: &StructFields,
+    column: &str,
+) -> VortexResult<bool>
+    ensures { first_named (children first.now) column.now ≡ None → IsSome (first_named (children second.now) column.now)
+        → IfOk result (λ taken. IsTrue taken) }
+{
+    joined_fields_are_found_in_order();
+    Ok(first.disjoint_merge(alloc, second)?.field(column).is_some())
 }

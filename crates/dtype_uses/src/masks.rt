@@ -2,11 +2,12 @@
 // SPDX-FileCopyrightText: Copyright the Vortex contributors
 
 //! A reader that descends a table with a mask: what is asked of it further down.
-ghost use Rattle.std.specs.Prelude.{◌≡◌, ◌↔◌, ◌∷◌, [], IfOk, IfSome, IsTrue, List};
+ghost use Rattle.std.specs.Prelude.{◌≡◌, ◌↔◌, ◌∷◌, [], IfOk, IfSome, IsTrue, List, false};
 ghost use Rattle.dtype_paths.specs.In.{In};
 ghost use Rattle.dtype_paths.specs.declared.field.Field.{Field};
 
 use dtype_base::VortexResult;
+use dtype_paths::laws::the_root_begins_every_path;
 use dtype_paths::{Field, FieldMask, FieldPath, field_path};
 use std::alloc::Global;
 
@@ -61,4 +62,35 @@ pub fn mask_below_field(mask: FieldMask, field: &Field) -> VortexResult<Option<F
         return Ok(None);
     }
     Ok(Some(mask.step_into()?))
+}
+
+/// The mask of a whole table: it holds every path.
+pub fn mask_of_table(alloc: Global) -> FieldMask
+    ensures { (q : List Field) → In result q }
+{
+    the_root_begins_every_path();
+    FieldMask::Prefix(FieldPath::root(alloc))
+}
+
+/// Whether a table's mask asks for everything: it always does.
+pub fn all_is_asked_of_table(alloc: Global) -> bool
+    ensures { IsTrue result }
+{
+    the_root_begins_every_path();
+    FieldMask::Prefix(FieldPath::root(alloc)).matches_all()
+}
+
+/// Whether the mask of one column alone asks for everything: it never does.
+pub fn all_is_asked_of_one_column(column: FieldPath) -> bool
+    ensures { result ≡ false }
+{
+    FieldMask::Exact(column).matches_all()
+}
+
+/// Whether everything is asked for, and so this path.
+pub fn all_is_asked_and_so_this(mask: &FieldMask, path: &FieldPath) -> bool
+    ensures { IsTrue result → In mask.now path.now }
+{
+    let _path = path;
+    mask.matches_all()
 }

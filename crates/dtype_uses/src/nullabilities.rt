@@ -2,7 +2,7 @@
 // SPDX-FileCopyrightText: Copyright the Vortex contributors
 
 // Nullability set, and set again.
-ghost use Rattle.std.specs.Prelude.{◌≡◌, IfOk, true};
+ghost use Rattle.std.specs.Prelude.{◌≡◌, IfOk, IsTrue, true};
 ghost use Rattle.dtype_base.specs.declared.nullability.Nullability.TheVariants.{NonNullable, Nullable};
 ghost use Rattle.dtype_types.specs.Nullable.{CanBeNonNullable, IsNullable, SetNull, nullability};
 ghost use Rattle.dtype_types.specs.Sub.{Sub};
@@ -53,4 +53,12 @@ pub fn is_nullable_above(dtype: &DType, above: &DType) -> bool
 {
     dtype_types::laws::setting_nullability_goes_along_the_order();
     above.is_nullable()
+}
+
+/// Whether a type made nullable is nullable.
+pub fn is_nullable_once_made_so(dtype: &DType, alloc: Global) -> VortexResult<bool>
+    ensures { IfOk result (λ nullable. IsTrue nullable) }
+{
+    dtype_types::laws::nullability_is_set_alone();
+    Ok(dtype.as_nullable(alloc)?.is_nullable())
 }

@@ -2,8 +2,8 @@
 // SPDX-FileCopyrightText: Copyright the Vortex contributors
 
 //! A reader of columns: what is asked of it, and what it opens for that.
-ghost use Rattle.std.specs.Prelude.{◌≡◌, ◌↔◌, ◌+◌, ◌++◌, [], ◌∷◌, ◌≤◌, IfOk, IsTrue, List, OnOk, is_some, length, map};
-ghost use Rattle.std.specs.List.{Contains, sum_by};
+ghost use Rattle.std.specs.Prelude.{◌≡◌, ◌≢◌, ◌↔◌, ◌+◌, ◌++◌, [], ◌∷◌, ◌≤◌, IfOk, IsTrue, List, OnOk, false, is_some, length, map};
+ghost use Rattle.std.specs.List.{All, Contains, sum_by};
 ghost use Rattle.std.specs.Vec.Iter.{into_iter_items};
 ghost use Rattle.dtype_types.specs.TreeOf.{tree};
 ghost use Rattle.dtype_paths.specs.Along.{along};
@@ -13,9 +13,12 @@ ghost use Rattle.dtype_paths.specs.declared.field.Field.{Field};
 
 use dtype_base::VortexResult;
 use dtype_paths::laws::{
+    a_cover_put_in_is_covered_by_itself, a_path_is_covered_where_it_starts_with_one,
     being_within_is_an_order, covers_of_the_same_have_the_same_members,
-    lists_cover_their_members_and_what_is_below, same_members_is_an_equivalence,
-    sets_gain_members_and_lose_none, two_covers_together_cover_what_both_lists_cover,
+    gaining_again_changes_nothing, lists_cover_their_members_and_what_is_below,
+    same_coverage_is_an_equivalence, same_members_have_the_same_cover,
+    same_members_is_an_equivalence, sets_gain_members_and_lose_none,
+    two_covers_together_cover_what_both_lists_cover,
 };
 use dtype_paths::{Field, FieldPath, FieldPathSet};
 use dtype_types::DType;
@@ -76,6 +79,69 @@ pub fn stays_there(
     Ok(asked.contains(path))
 }
 
+/// Whether a path that was asked for still is, once one more is asked for: it always is.
+pub fn stays_there_with_one_more(
+    asked: &mut FieldPathSet,
+    more: FieldPath,
+    path: &FieldPath,
+) -> VortexResult<bool>
+    requires { Contains asked.old path.now }
+    ensures { IfOk result (λ b. IsTrue b) }
+{
+    asked.insert(more)?;
+    Ok(asked.contains(path))
+}
+
+/// Whether a path is asked for, once another is: it is where it was.
+pub fn asks_for_other(
+    asked: &mut FieldPathSet,
+    path: FieldPath,
+    other: &FieldPath,
+) -> VortexResult<bool>
+    requires { other.now ≢ path }
+    ensures { IfOk result (λ b. IsTrue b ↔ Contains asked.old other.now) }
+{
+    asked.insert(path)?;
+    Ok(asked.contains(other))
+}
+
+/// Whether a path that wasn't asked for is, once another is asked for: it never is.
+pub fn asks_for_no_other(
+    asked: &mut FieldPathSet,
+    path: FieldPath,
+    other: &FieldPath,
+) -> VortexResult<bool>
+    requires other { other.now ≢ path }
+    requires absent { ¬ (Contains asked.old other.now) }
+    ensures { IfOk result (λ b. b ≡ false) }
+{
+    asked.insert(path)?;
+    Ok(asked.contains(other))
+}
+
+/// The columns of two queries that ask for the same: those of one of them are gained.
+pub fn ask_for_all_twice(
+    asked: &mut FieldPathSet,
+    columns: Vec<FieldPath>,
+    again: Vec<FieldPath>,
+) -> VortexResult<()>
+    requires { columns.items ≡ again.items }
+    ensures { OnOk result (Gains asked.old columns.items asked.new) }
+{
+    asked.extend(columns)?;
+    gaining_again_changes_nothing();
+    asked.extend(again)
+}
+
+/// The columns of a query besides: all of them are asked for then.
+pub fn ask_for_each(asked: &mut FieldPathSet, columns: Vec<FieldPath>) -> VortexResult<()>
+    ensures { OnOk result (IsWithin columns.items asked.new) }
+{
+    asked.extend(columns)?;
+    sets_gain_members_and_lose_none();
+    Ok(())
+}
+
 /// Whether a query asks for a column.
 pub fn asks_for(alloc: Global, columns: Vec<FieldPath>, column: &FieldPath) -> VortexResult<bool>
     ensures { IfOk result (λ b. IsTrue b ↔ Contains columns.items column.now) }
@@ -131,6 +197,26 @@ pub fn covers_of_each(
     let second = other.into_iter()?;
     two_covers_together_cover_what_both_lists_cover();
     Ok((first, second))
+}
+
+/// The columns to open for a cover: it again.
+pub fn cover_of_cover(alloc: Global, asked: FieldPathSet) -> VortexResult<vec::IntoIter<FieldPath>>
+    ensures { IfOk result (λ r. IsCover (into_iter_items r) asked) }
+{
+    let cover = asked.into_iter()?;
+    a_cover_put_in_is_covered_by_itself();
+    FieldPathSet::from_iter(alloc, cover)?.into_iter()
+}
+
+/// What is asked for in either of two sets, of the second its least paths alone.
+pub fn either_asked(asked: &FieldPathSet, more: &FieldPathSet) -> VortexResult<FieldPathSet>
+    ensures { IfOk result (λ s. SameCoverage s (asked.now ++ more.now)) }
+{
+    let mut both = asked.try_clone()?;
+    both.extend(more.try_clone()?.into_iter()?)?;
+    same_members_have_the_same_cover();
+    same_coverage_is_an_equivalence();
+    Ok(both)
 }
 
 /// The columns to open for two sets at once, of which the first stays: the second's least paths are put into a copy.
@@ -206,6 +292,38 @@ pub fn ask_for_table(asked: &mut FieldPathSet, table: FieldPath, column: Field) 
     let _column = column;
     lists_cover_their_members_and_what_is_below();
     asked.insert(table)
+}
+
+/// Asks for one more path: what was covered still is.
+pub fn ask_besides(
+    asked: &mut FieldPathSet,
+    path: FieldPath,
+    column: &FieldPath,
+) -> VortexResult<()>
+    requires { Covers asked.old column.now }
+    ensures { OnOk result (Covers asked.new column.now) }
+{
+    let _column = column;
+    lists_cover_their_members_and_what_is_below();
+    asked.insert(path)?;
+    Ok(())
+}
+
+/// Whether a column is among those of a cover, or below one of them.
+pub fn is_wanted(cover: &[FieldPath], column: &FieldPath) -> bool
+    ensures { IsTrue result ↔ Covers cover.now column.now }
+{
+    a_path_is_covered_where_it_starts_with_one(cover, column);
+    cover
+        .iter()
+        .any(|path| column.parts().starts_with(path.parts()))
+}
+
+/// Whether all of these columns are.
+pub fn are_all_wanted(cover: &[FieldPath], columns: &[FieldPath]) -> bool
+    ensures { IsTrue result ↔ All (λ q. Covers cover.now q) columns.now }
+{
+    columns.iter().all(|column| is_wanted(cover, column))
 }
 
 /// How often a cover looks: once at least, and at most once more than its paths have steps.

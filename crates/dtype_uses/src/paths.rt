@@ -2,9 +2,12 @@
 // SPDX-FileCopyrightText: Copyright the Vortex contributors
 
 // Paths, resolved.
-ghost use Rattle.std.specs.Prelude.{◌≡◌, IfOk, List, ℕ};
+ghost use Rattle.std.specs.Prelude.{◌≡◌, ◌++◌, ◌∷◌, [], IfOk, IfSome, IsTrue, List, ℕ};
 ghost use Rattle.std.specs.Option.{option_map};
 ghost use Rattle.dtype_paths.specs.Along.{along};
+ghost use Rattle.dtype_paths.specs.At.{At, ExistsIn};
+ghost use Rattle.dtype_paths.specs.Beginning.{Beginning};
+ghost use Rattle.dtype_paths.specs.declared.field.Field.{Field};
 ghost use Rattle.dtype_base.specs.declared.nullability.Nullability.{Nullability};
 ghost use Rattle.dtype_types.specs.Lookups.{first_named};
 ghost use Rattle.dtype_types.specs.Nullable.{nullability};
@@ -12,8 +15,11 @@ ghost use Rattle.dtype_types.specs.Tree.{Fields, pairs, struct};
 ghost use Rattle.dtype_types.specs.TreeOf.{option_tree, tree};
 
 use dtype_base::{Nullability, VortexResult};
-use dtype_paths::laws::a_step_by_a_name_is_a_field;
-use dtype_paths::{FieldPath, field_path};
+use dtype_paths::laws::{
+    a_step_by_a_name_is_a_field, along_joined, beginnings_exist, the_root_begins_every_path,
+    what_tests_equal_is_equal,
+};
+use dtype_paths::{Field, FieldPath, field_path};
 use dtype_types::DType;
 use std::alloc::Global;
 
@@ -36,4 +42,91 @@ pub fn column_by_path<'a>(
     let path = field_path!(alloc, column)?;
     a_step_by_a_name_is_a_field();
     Ok(path.resolve(table))
+}
+
+/// The type of a table's column by its name: it stands along the path of that name.
+pub fn column_of_struct<'a>(table: &'a DType, column: &str) -> Option<&'a DType>
+    ensures { IfSome result (λ u. At (tree table.now) (Field.Name column.now ∷ []) (tree u.now)) }
+{
+    table.as_struct_fields_opt()?.field(column)
+}
+
+/// The type one step further along a path.
+pub fn one_step_further<'a>(
+    path: FieldPath,
+    field: Field,
+    dtype: &'a DType,
+) -> VortexResult<Option<&'a DType>>
+    ensures { IfOk result (λ found. IfSome found (λ u.
+        At (tree dtype.now) (path ++ field ∷ []) (tree u.now))) }
+{
+    Ok(path.push(field)?.resolve(dtype))
+}
+
+/// The type along two paths, one behind the other.
+pub fn along_both<'a>(path: &FieldPath, rest: &FieldPath, dtype: &'a DType) -> Option<&'a DType>
+    ensures { IfSome result (λ u. At (tree dtype.now) (path.now ++ rest.now) (tree u.now)) }
+{
+    along_joined();
+    rest.resolve(path.resolve(dtype)?)
+}
+
+/// Whether a longer path exists, and so its beginning.
+pub fn exists_if_longer_does(path: &FieldPath, longer: &FieldPath, dtype: &DType) -> bool
+    requires { Beginning path.now longer.now }
+    ensures { IsTrue result → ExistsIn (tree dtype.now) path.now }
+{
+    let _path = path;
+    beginnings_exist();
+    longer.exists_in(dtype)
+}
+
+/// Whether a table exists where its column does: it always does.
+pub fn table_exists_where_column_does(
+    table: FieldPath,
+    column: Field,
+    dtype: &DType,
+) -> VortexResult<bool>
+    ensures { IfOk result (λ b. IsTrue b) }
+{
+    beginnings_exist();
+    let path = table.try_clone()?.push(column)?;
+    if !path.exists_in(dtype) {
+        return Ok(true);
+    }
+    Ok(table.exists_in(dtype))
+}
+
+/// Whether the root exists in a type: it always does.
+pub fn root_exists(alloc: Global, dtype: &DType) -> bool
+    ensures { IsTrue result }
+{
+    the_root_begins_every_path();
+    FieldPath::root(alloc).exists_in(dtype)
+}
+
+/// Whether the root overlaps a path: it overlaps each.
+pub fn root_overlaps(alloc: Global, path: &FieldPath) -> bool
+    ensures { IsTrue result }
+{
+    the_root_begins_every_path();
+    FieldPath::root(alloc).overlap(path)
+}
+
+/// Whether two paths overlap in either order alike: they always do.
+pub fn overlap_either_way(path: &FieldPath, other: &FieldPath) -> bool
+    ensures { IsTrue result }
+{
+    path.overlap(other) == other.overlap(path)
+}
+
+/// Whether two paths exist alike, where they are equal: they always do.
+pub fn equal_paths_exist_alike(path: &FieldPath, other: &FieldPath, dtype: &DType) -> bool
+    ensures { IsTrue result }
+{
+    what_tests_equal_is_equal();
+    if path == other {
+        return path.exists_in(dtype) == other.exists_in(dtype);
+    }
+    true
 }

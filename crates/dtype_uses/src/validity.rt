@@ -2,7 +2,7 @@
 // SPDX-FileCopyrightText: Copyright the Vortex contributors
 
 // What a caller has of a valid type.
-ghost use Rattle.std.specs.Prelude.{◌≡◌, ◌<◌, Some, IfSome, length, true};
+ghost use Rattle.std.specs.Prelude.{◌≡◌, ◌<◌, Some, IfSome, IsTrue, length, true};
 ghost use Rattle.dtype_types.specs.IsValid.{IsValid, IsValidStruct, IsValidUnion};
 ghost use Rattle.dtype_types.specs.TreeOf.{union_tags};
 
@@ -56,4 +56,21 @@ pub fn as_many_tags_as_names(variants: &UnionVariants) -> bool
     let tags = variants.type_ids().len();
     let count = variants.len();
     names == count && tags == count
+}
+
+/// Whether a tag of a valid union has a place: it always has.
+pub fn tag_has_place(variants: &UnionVariants, place: usize) -> bool
+    requires valid { IsValidUnion variants.now }
+    requires within { place < length (union_tags variants.now) }
+    ensures { IsTrue result }
+{
+    let tag = variants.child_index_to_tag(place);
+    variants.tag_to_child_index(tag).is_some()
+}
+
+/// The storage of an extension type, valid where that type is.
+pub fn storage_of(dtype: &DType) -> Option<&DType>
+    ensures { IsValid dtype.now → IfSome result (λ d. IsValid d.now) }
+{
+    Some(dtype.as_extension_opt()?.storage_dtype())
 }

@@ -17,6 +17,7 @@ pub mod Accepts
 pub mod PathMessage
 pub mod StorageKinds
 pub mod Types
+pub use Rattle.dtype_base.specs.Bytes
 pub use Rattle.dtype_base.specs.Decimals
 pub use Rattle.dtype_base.specs.Escapes
 pub use Rattle.dtype_base.specs.FieldNames

@@ -5,6 +5,7 @@
 -- plugin says which bytes it writes back for an extension's metadata, a session knows which plugin
 -- stands under an id, and whether an unknown id's metadata is kept.
 use Rattle.std.specs.Prelude.{◌≡◌, ℕ, ◌<◌, List, Option, Some, None, All, Bool, true, false, if◌then◌else◌, bytes_eq}
+pub use Rattle.dtype_base.specs.Bytes.{Bytes}
 use Rattle.dtype_base.specs.declared.nullability.Nullability.{Nullability}
 use Rattle.dtype_base.specs.declared.vortex_error.VortexError.{VortexError}
 use Rattle.dtype_base.specs.declared.vortex_error.VortexError.TheVariants.{MetadataRefused, Message as Faulty}
@@ -16,10 +17,6 @@ use Rattle.dtype_types.specs.Nullable.{SetNull}
 -- a plugin's meaning: the bytes that it writes back for these bytes over this storage, if it takes them
 abbrev pub Rewrites : Type 0
 Rewrites = List ℕ → Tree → Option (List ℕ)
-
--- the numbers are bytes
-abbrev pub Bytes : List ℕ → Type 0
-Bytes b = All (λ x. x < 256) b
 
 -- the two laws of a plugin's meaning: what is written back is bytes and is written back unchanged, and the
 -- storage's outer nullability doesn't count

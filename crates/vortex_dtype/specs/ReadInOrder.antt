@@ -13,7 +13,7 @@ use Rattle.dtype_base.specs.declared.vortex_error.VortexError.TheVariants.{OutOf
 use Rattle.dtype_base.specs.declared.vortex_error.MessageFault.{MessageFault}
 use Rattle.dtype_base.specs.declared.vortex_error.MessageFault.TheVariants.{TypeMissing, PrimitiveNumber, PrecisionRange, ScaleRange, ListElementMissing, FixedElementMissing, MapKeyMissing, MapValueMissing, StructLengths, TypeIdRange, StorageMissing}
 use Rattle.dtype_base.specs.Nullability.{nullability_of}
-use Rattle.dtype_base.specs.Decimals.{Decimal}
+use Rattle.dtype_base.specs.Decimals.{Decimal, greatest_precision}
 use Rattle.dtype_types.specs.Tree as of
 use Rattle.dtype_types.specs.Tree.{Tree, fields, variants}
 use Rattle.dtype_types.specs.TreeOf.{zip_tagged}
@@ -43,7 +43,7 @@ primitive_read k n = or_fault (Faulty PrimitiveNumber) (ptype_at k) >>= λ p. Ok
 
 unfoldable pub decimal_made : ℕ → ℤ → Result Decimal VortexError
 decimal_made p k =
-    if nat_eq p 0 then Err (PrecisionZero 76) else (if nat_lt 76 p then Err (PrecisionTooLarge p 76) else (if int_lt (pos 76) k then Err (ScaleTooLarge k (pos 76)) else (if int_lt (pos p) k then Err (ScaleAbovePrecision k p) else
+    if nat_eq p 0 then Err (PrecisionZero greatest_precision) else (if nat_lt greatest_precision p then Err (PrecisionTooLarge p greatest_precision) else (if int_lt (pos greatest_precision) k then Err (ScaleTooLarge k (pos greatest_precision)) else (if int_lt (pos p) k then Err (ScaleAbovePrecision k p) else
     Ok (record { precision = p; scale = k }))))
 
 unfoldable pub decimal_read : ℕ → ℤ → Nullability → Result Tree VortexError

@@ -10,7 +10,7 @@ use Rattle.dtype_base.specs.declared.vortex_error.VortexError.TheVariants.{MapKe
 use Rattle.dtype_base.specs.declared.vortex_error.MessageFault.{MessageFault}
 use Rattle.dtype_base.specs.declared.vortex_error.MessageFault.TheVariants.{TypeMissing, PrimitiveNumber, PrecisionRange, ScaleRange, ListElementMissing, FixedElementMissing, MapKeyMissing, MapValueMissing, StructLengths, TypeIdRange, StorageMissing}
 use Rattle.dtype_base.specs.Primitives as base
-use Rattle.dtype_base.specs.Decimals.{Decimal, IsValidDecimal, IsDecimalRefusal}
+use Rattle.dtype_base.specs.Decimals.{Decimal, IsValidDecimal, IsDecimalRefusal, greatest_precision}
 use Rattle.dtype_base.specs.Nullability.{nullability_of}
 use Rattle.dtype_types.specs.Distinct.{Distinct}
 use Rattle.dtype_types.specs.Nullable.{nullability}
@@ -88,7 +88,7 @@ SomeTagFault (g ∷ gs) = (byte_at g ≡ None) ⊎ SomeTagFault gs
 -- what is wrong with a decimal's numbers
 abbrev pub DecimalFault : ℕ → ℤ → VortexError → Type 0
 DecimalFault p k e =
-    ((e ≡ Faulty PrecisionRange) × (256 ≤ p)) ⊎ (((e ≡ Faulty ScaleRange) × ((k <ℤ neg_ℤ (pos 128)) ⊎ (pos 127 <ℤ k))) ⊎ IsDecimalRefusal 76 p k e)
+    ((e ≡ Faulty PrecisionRange) × (256 ≤ p)) ⊎ (((e ≡ Faulty ScaleRange) × ((k <ℤ neg_ℤ (pos 128)) ⊎ (pos 127 <ℤ k))) ⊎ IsDecimalRefusal greatest_precision p k e)
 
 -- what is wrong with a union's names, types and tags
 abbrev pub UnionFault : List (List ℕ) → ℕ → List ℤ → VortexError → Type 0

@@ -39,11 +39,11 @@ struct_fields::StructFields::write_indented-loop-name-preserved t c =
     ∙ ap (λ a. string_bytes c.start_field.new.out ++ indented a (tree c.in-Some.dtype.now)) (c.as_str-in-loop-name.ensures.value ∙ c.in_ok-inner.ensures.ok)
     ∙ ap (λ xs. xs ++ d) (c.in_ok-start_field.ensures.ok ∙ ap (λ xs. start ++ (separator ++ (xs ++ (n ++ codes "=")))) (c.as_str.ensures.value ∙ c.in_ok-inner.ensures.ok))
     ∙ indented_named start separator inner n d in
-    let rest = indented_fields inner (fields (with_trees c.next.new.self)) in (
-      search rules,
-      no_deeper (most size-DType (struct_dtypes c.args.self.now)) (seconds c.loop-name.name-iterator) (seconds c.next.new.self) c.in-Some.dtype.now (ap seconds next) c.loop-name.invariant.1,
-      ap (λ xs. xs ++ leading (codes ",\n") (codes ",\n") rest) ended ∙ one_written (codes ",\n") separator start _ x _ rest c.loop-name.invariant.2 (ap (λ ps. indented_fields inner (fields (with_trees ps))) next),
-    )
+    let rest = indented_fields inner (fields (with_trees c.next.new.self)) in record {
+      utf8 = search rules;
+      within = no_deeper (most size-DType (struct_dtypes c.args.self.now)) (seconds c.loop-name.name-iterator) (seconds c.next.new.self) c.in-Some.dtype.now (ap seconds next) c.loop-name.invariant.within;
+      written = ap (λ xs. xs ++ leading (codes ",\n") (codes ",\n") rest) ended ∙ one_written (codes ",\n") separator start _ x _ rest c.loop-name.invariant.written (ap (λ ps. indented_fields inner (fields (with_trees ps))) next);
+    }
 
 pub struct_fields::StructFields::write_indented-returns-clause-ok : goal.struct_fields::StructFields::write_indented-returns-clause-ok
 struct_fields::StructFields::write_indented-returns-clause-ok t c =
@@ -54,7 +54,7 @@ struct_fields::StructFields::write_indented-returns-clause-ok t c =
     let parts = indented_fields (indent ++ codes "  ") (struct_tree s) in
     let close = indent ++ codes "}" in
     let none = none_of lent_pair c.loop-name.name-iterator c.next.new.self c.next.result c.in-None.is c.next.ensures.steps in
-    let so_far = all_written (codes ",\n") c.loop-name.separator.now (string_bytes c.loop-name.out) _ _ c.loop-name.invariant.2 (ap (λ qs. indented_fields (indent ++ codes "  ") (fields (with_trees qs))) none)
+    let so_far = all_written (codes ",\n") c.loop-name.separator.now (string_bytes c.loop-name.out) _ _ c.loop-name.invariant.written (ap (λ qs. indented_fields (indent ++ codes "  ") (fields (with_trees qs))) none)
     ∙ ap (λ xs. string_bytes c.push_str.new.self ++ xs) (leading_all (codes ",\n") parts) ∙ ap (λ xs. xs ++ joined (codes ",\n") parts) c.in_ok-push_str.ensures.bytes in
     let written = c.in_ok-write.ensures.bytes in
     elim c.if-nfields-gt0.branch [

@@ -16,8 +16,9 @@ use Rattle.dtype_types.proofs.+indented.Given as goal
 
 -- what is written, with the fields that are left behind it, is all, and those are no deeper
 abbrev pub invariant-struct_fields::StructFields::write_indented-loop-name : goal.invariant-struct_fields::StructFields::write_indented-loop-name
-invariant-struct_fields::StructFields::write_indented-loop-name l =
-    shadow (Utf8 l.separator)
-    × (most size-DType (seconds l.name-iterator) ≤ most size-DType (struct_dtypes l.self))
-    × (string_bytes l.out ++ leading l.separator (codes ",\n") (indented_fields (l.fn.indent ++ codes "  ") (fields (with_trees l.name-iterator)))
-    ≡ string_bytes l.initial.out ++ leading [] (codes ",\n") (indented_fields (l.fn.indent ++ codes "  ") (struct_tree l.self)))
+invariant-struct_fields::StructFields::write_indented-loop-name l = record {
+  utf8 : shadow (Utf8 l.separator);
+  within : most size-DType (seconds l.name-iterator) ≤ most size-DType (struct_dtypes l.self);
+  written : string_bytes l.out ++ leading l.separator (codes ",\n") (indented_fields (l.fn.indent ++ codes "  ") (fields (with_trees l.name-iterator)))
+      ≡ string_bytes l.initial.out ++ leading [] (codes ",\n") (indented_fields (l.fn.indent ++ codes "  ") (struct_tree l.self));
+}

@@ -49,23 +49,23 @@ map::MapDTypeDisplay::fmt-returns-clause-writes g t c = λ plain ok.
     has_written_append _ _ _ _ _ _ w1 (has_written_append _ _ _ _ _ _ w2 (has_written_append _ _ _ _ _ _ w3 (has_written_append _ _ _ _ _ _ w4 w5)))
 
 pub struct_fields::StructFieldsDisplay::fmt-loop-name-init : goal.struct_fields::StructFieldsDisplay::fmt-loop-name-init
-struct_fields::StructFieldsDisplay::fmt-loop-name-init g t c = (
-  search rules,
-  search rules,
-  λ plain.
+struct_fields::StructFieldsDisplay::fmt-loop-name-init g t c = record {
+  utf8 = search rules;
+  within = search rules;
+  written = λ plain.
       let nothing : HasWritten g.W.Write.write_str_gives c.write.new.self [] c.write.new.self = search rules in
-      ([], nothing, ap (λ ps. leading [] (codes ", ") (field_texts (fields (with_trees ps)))) (search rules)),
-)
+      ([], nothing, ap (λ ps. leading [] (codes ", ") (field_texts (fields (with_trees ps)))) (search rules));
+}
 
 pub struct_fields::StructFieldsDisplay::fmt-loop-name-preserved : goal.struct_fields::StructFieldsDisplay::fmt-loop-name-preserved
-struct_fields::StructFieldsDisplay::fmt-loop-name-preserved g t c = (
-  search rules,
-  no_deeper (most size-DType (struct_dtypes c.args.self.now)) (seconds c.loop-name.name-iterator) (seconds c.next.new.self) c.in-Some.dtype.now (ap seconds (next_of lent_pair c.loop-name.name-iterator c.next.new.self c.next.result (c.in-Some.name, c.in-Some.dtype) c.in-Some.is c.next.ensures.steps)) c.loop-name.invariant.1,
-  λ plain.
+struct_fields::StructFieldsDisplay::fmt-loop-name-preserved g t c = record {
+  utf8 = search rules;
+  within = no_deeper (most size-DType (struct_dtypes c.args.self.now)) (seconds c.loop-name.name-iterator) (seconds c.next.new.self) c.in-Some.dtype.now (ap seconds (next_of lent_pair c.loop-name.name-iterator c.next.new.self c.next.result (c.in-Some.name, c.in-Some.dtype) c.in-Some.is c.next.ensures.steps)) c.loop-name.invariant.within;
+  written = λ plain.
       let n = escaped c.in-Some.name.now in
       let d = text (tree c.in-Some.dtype.now) in
       let separator = c.loop-name.separator.now in
-      let so_far = c.loop-name.invariant.2 plain in
+      let so_far = c.loop-name.invariant.written plain in
       let named = c.in_ok-write-2.ensures.writes so_far.1.plain refl in
       let typed = c.in_ok-fmt.ensures.writes named.plain refl in
       let next = next_of lent_pair c.loop-name.name-iterator c.next.new.self c.next.result (c.in-Some.name, c.in-Some.dtype) c.in-Some.is c.next.ensures.steps in
@@ -73,40 +73,40 @@ struct_fields::StructFieldsDisplay::fmt-loop-name-preserved g t c = (
         so_far.0 ++ (separator ++ x),
         put_three _ _ c.loop-name.f _ _ so_far.0 (separator ++ (n ++ codes "=")) d _ so_far.1 named typed (named_text so_far.0 separator n d),
         one_written (codes ", ") separator so_far.0 _ x _ _ so_far.2 (ap (λ ps. field_texts (fields (with_trees ps))) next),
-      ),
-)
+      );
+}
 
 pub struct_fields::StructFieldsDisplay::fmt-returns-clause-writes : goal.struct_fields::StructFieldsDisplay::fmt-returns-clause-writes
 unfolding struct_text
 struct_fields::StructFieldsDisplay::fmt-returns-clause-writes g t c = λ plain ok.
     let opened = c.in_ok-write.ensures.writes plain refl in
-    let so_far = c.loop-name.invariant.2 opened.plain in
+    let so_far = c.loop-name.invariant.written opened.plain in
     let closed = c.write-2.ensures.writes so_far.1.plain ok in
     let none = none_of lent_pair c.loop-name.name-iterator c.next.new.self c.next.result c.in-None.is c.next.ensures.steps in
     let all = all_written (codes ", ") c.loop-name.separator.now so_far.0 _ _ so_far.2 (ap (λ ps. field_texts (fields (with_trees ps))) none) ∙ leading_all (codes ", ") (field_texts (struct_tree c.args.self.now)) in
     put_three _ _ c.write.new.self c.loop-name.f _ (codes "{") so_far.0 (codes "}") _ opened so_far.1 closed (ap (λ xs. codes "{" ++ (xs ++ codes "}")) all)
 
 pub union_variants::UnionVariantsDisplay::fmt-loop-name-init : goal.union_variants::UnionVariantsDisplay::fmt-loop-name-init
-union_variants::UnionVariantsDisplay::fmt-loop-name-init g t c = (
-  search rules,
-  search rules,
-  λ plain.
+union_variants::UnionVariantsDisplay::fmt-loop-name-init g t c = record {
+  utf8 = search rules;
+  within = search rules;
+  written = λ plain.
       let k = consecutive 0 (union_tree c.args.self.now) in
       let nothing : HasWritten g.W.Write.write_str_gives c.args.f.now [] c.args.f.now = search rules in
-      ([], nothing, ap (λ ps. leading [] (codes ", ") (choice_texts k (variants (with_tagged_trees ps)))) (search rules)),
-)
+      ([], nothing, ap (λ ps. leading [] (codes ", ") (choice_texts k (variants (with_tagged_trees ps)))) (search rules));
+}
 
 pub union_variants::UnionVariantsDisplay::fmt-loop-name-preserved : goal.union_variants::UnionVariantsDisplay::fmt-loop-name-preserved
-union_variants::UnionVariantsDisplay::fmt-loop-name-preserved g t c = (
-  search rules,
-  no_deeper (most size-DType (union_dtypes c.args.self.now)) (types_of c.loop-name.name-iterator) (types_of c.next.new.self) c.in-Some.dtype.now (ap types_of (next_of lent_triple c.loop-name.name-iterator c.next.new.self c.next.result (c.in-Some.name, c.in-Some.tag, c.in-Some.dtype) c.in-Some.is c.next.ensures.steps)) c.loop-name.invariant.1,
-  λ plain.
+union_variants::UnionVariantsDisplay::fmt-loop-name-preserved g t c = record {
+  utf8 = search rules;
+  within = no_deeper (most size-DType (union_dtypes c.args.self.now)) (types_of c.loop-name.name-iterator) (types_of c.next.new.self) c.in-Some.dtype.now (ap types_of (next_of lent_triple c.loop-name.name-iterator c.next.new.self c.next.result (c.in-Some.name, c.in-Some.tag, c.in-Some.dtype) c.in-Some.is c.next.ensures.steps)) c.loop-name.invariant.within;
+  written = λ plain.
       let k = consecutive 0 (union_tree c.args.self.now) in
       let n = escaped c.in-Some.name.now in
       let d = text (tree c.in-Some.dtype.now) in
       let tag = c.in-Some.tag in
       let separator = c.loop-name.separator.now in
-      let so_far = c.loop-name.invariant.2 plain in
+      let so_far = c.loop-name.invariant.written plain in
       let named = c.in_ok-write.ensures.writes so_far.1.plain refl in
       let typed = c.in_ok-fmt.ensures.writes named.plain refl in
       let next = next_of lent_triple c.loop-name.name-iterator c.next.new.self c.next.result (c.in-Some.name, c.in-Some.tag, c.in-Some.dtype) c.in-Some.is c.next.ensures.steps in
@@ -115,14 +115,14 @@ union_variants::UnionVariantsDisplay::fmt-loop-name-preserved g t c = (
         so_far.0 ++ (separator ++ x),
         put_three _ _ c.loop-name.f _ _ so_far.0 (separator ++ (n ++ (tag_text known tag ++ codes "="))) d _ so_far.1 named typed (tagged_text so_far.0 separator n d tag known k c.is_consecutive-consecutive.ensures),
         one_written (codes ", ") separator so_far.0 _ x _ _ so_far.2 (ap (λ ps. choice_texts k (variants (with_tagged_trees ps))) next),
-      ),
-)
+      );
+}
 
 pub union_variants::UnionVariantsDisplay::fmt-returns-clause-writes : goal.union_variants::UnionVariantsDisplay::fmt-returns-clause-writes
 unfolding union_text
 union_variants::UnionVariantsDisplay::fmt-returns-clause-writes g t c = λ plain ok.
     let k = consecutive 0 (union_tree c.args.self.now) in
-    let so_far = c.loop-name.invariant.2 plain in
+    let so_far = c.loop-name.invariant.written plain in
     let none = none_of lent_triple c.loop-name.name-iterator c.next.new.self c.next.result c.in-None.is c.next.ensures.steps in
     let all = all_written (codes ", ") c.loop-name.separator.now so_far.0 _ _ so_far.2 (ap (λ ps. choice_texts k (variants (with_tagged_trees ps))) none) ∙ leading_all (codes ", ") (choice_texts k (union_tree c.args.self.now)) in
     has_written_of_eq _ _ _ _ _ all so_far.1

@@ -16,13 +16,17 @@ use Rattle.dtype_types.proofs.+text.Given as goal
 
 -- what is written, with what is left behind it, is all, and what is left is no deeper
 abbrev pub invariant-struct_fields::StructFieldsDisplay::fmt-loop-name : goal.invariant-struct_fields::StructFieldsDisplay::fmt-loop-name
-invariant-struct_fields::StructFieldsDisplay::fmt-loop-name g l =
-    shadow (Utf8 l.separator) × (most size-DType (seconds l.name-iterator) ≤ most size-DType (struct_dtypes l.self))
-    × (IsPlainFormatter l.initial.f → (done : List ℕ) × HasWritten g.W.Write.write_str_gives l.initial.f done l.f
-    × (done ++ leading l.separator (codes ", ") (field_texts (fields (with_trees l.name-iterator))) ≡ leading [] (codes ", ") (field_texts (struct_tree l.self))))
+invariant-struct_fields::StructFieldsDisplay::fmt-loop-name g l = record {
+  utf8 : shadow (Utf8 l.separator);
+  within : most size-DType (seconds l.name-iterator) ≤ most size-DType (struct_dtypes l.self);
+  written : IsPlainFormatter l.initial.f → (done : List ℕ) × HasWritten g.W.Write.write_str_gives l.initial.f done l.f
+      × (done ++ leading l.separator (codes ", ") (field_texts (fields (with_trees l.name-iterator))) ≡ leading [] (codes ", ") (field_texts (struct_tree l.self)));
+}
 
 abbrev pub invariant-union_variants::UnionVariantsDisplay::fmt-loop-name : goal.invariant-union_variants::UnionVariantsDisplay::fmt-loop-name
-invariant-union_variants::UnionVariantsDisplay::fmt-loop-name g l =
-    shadow (Utf8 l.separator) × (most size-DType (types_of l.name-iterator) ≤ most size-DType (union_dtypes l.self))
-    × (IsPlainFormatter l.initial.f → (done : List ℕ) × HasWritten g.W.Write.write_str_gives l.initial.f done l.f
-    × (done ++ leading l.separator (codes ", ") (choice_texts (consecutive 0 (union_tree l.self)) (variants (with_tagged_trees l.name-iterator))) ≡ leading [] (codes ", ") (choice_texts (consecutive 0 (union_tree l.self)) (union_tree l.self))))
+invariant-union_variants::UnionVariantsDisplay::fmt-loop-name g l = record {
+  utf8 : shadow (Utf8 l.separator);
+  within : most size-DType (types_of l.name-iterator) ≤ most size-DType (union_dtypes l.self);
+  written : IsPlainFormatter l.initial.f → (done : List ℕ) × HasWritten g.W.Write.write_str_gives l.initial.f done l.f
+      × (done ++ leading l.separator (codes ", ") (choice_texts (consecutive 0 (union_tree l.self)) (variants (with_tagged_trees l.name-iterator))) ≡ leading [] (codes ", ") (choice_texts (consecutive 0 (union_tree l.self)) (union_tree l.self)));
+}

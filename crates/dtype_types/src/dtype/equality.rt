@@ -48,13 +48,13 @@ pub(crate) fn agree(a: &DType, b: &DType, rule: Nullabilities) -> bool
         }
         (DType::Utf8(m), DType::Utf8(n)) => rule.allow(*m, *n),
         (DType::Binary(m), DType::Binary(n)) => rule.allow(*m, *n),
-        (DType::List(t, m), DType::List(u, n)) => agree(t, u, rule) && rule.allow(*m, *n),
+        (DType::List(t, m), DType::List(u, n)) => rule.allow(*m, *n) && agree(t, u, rule),
         (DType::FixedSizeList(t, j, m), DType::FixedSizeList(u, k, n)) => {
-            agree(t, u, rule) && *j == *k && rule.allow(*m, *n)
+            rule.allow(*m, *n) && *j == *k && agree(t, u, rule)
         }
-        (DType::Map(t, m), DType::Map(u, n)) => t.agree(u, rule) && rule.allow(*m, *n),
-        (DType::Struct(t, m), DType::Struct(u, n)) => t.agree(u, rule) && rule.allow(*m, *n),
-        (DType::Union(t, m), DType::Union(u, n)) => t.agree(u, rule) && rule.allow(*m, *n),
+        (DType::Map(t, m), DType::Map(u, n)) => rule.allow(*m, *n) && t.agree(u, rule),
+        (DType::Struct(t, m), DType::Struct(u, n)) => rule.allow(*m, *n) && t.agree(u, rule),
+        (DType::Union(t, m), DType::Union(u, n)) => rule.allow(*m, *n) && t.agree(u, rule),
         (DType::Variant(m), DType::Variant(n)) => rule.allow(*m, *n),
         (DType::Extension(t), DType::Extension(u)) => t.agree(u, rule),
         _ => false,

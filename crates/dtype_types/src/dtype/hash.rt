@@ -2,11 +2,11 @@
 // SPDX-FileCopyrightText: Copyright the Vortex contributors
 
 // Hashes of types: one walk that feeds a hasher, with the nullabilities or without them.
-ghost use Rattle.std.specs.Prelude.{◌≡◌, fold};
-ghost use Rattle.dtype_types.specs.Hashes.{hash_of, nullability_writes, part_of, writes_ignoring_nullability};
+ghost use Rattle.std.specs.Prelude.{◌≡◌, ◌<◌, fold};
+ghost use Rattle.dtype_types.specs.Hashes.{hash_of, head_writes, part_of, hash_writes_ignoring_nullability};
 ghost use Rattle.dtype_types.specs.TreeOf.{tree};
 
-use crate::DType;
+use crate::{DType, Kind};
 use dtype_base::Nullability;
 use std::hash::{Hash, Hasher};
 
@@ -18,17 +18,16 @@ pub(crate) enum Hashed {
 }
 
 impl Hashed {
-    // Feeds a hasher the nullability where nullabilities count.
-    fn feed<H: Hasher>(self, nullability: Nullability, state: &mut H)
-        ensures { state.new ≡ fold H.write state.old (nullability_writes (part_of self) nullability) }
+    // Feeds a hasher the number of what a type is, and its nullability where nullabilities count, in one byte.
+    fn feed_head<H: Hasher>(self, number: u8, nullability: Nullability, state: &mut H)
+        requires { number < 128 }
+        ensures { state.new ≡ fold H.write state.old (head_writes (part_of self) number nullability) }
     {
-        match self {
-            Hashed::Erased => {}
-            Hashed::Whole => match nullability {
-                Nullability::NonNullable => state.write_u8(0),
-                Nullability::Nullable => state.write_u8(1),
-            },
-        }
+        let mark = match (self, nullability) {
+            (Hashed::Whole, Nullability::Nullable) => 1,
+            _ => 0,
+        };
+        state.write_u8(2 * number + mark);
     }
 }
 
@@ -37,44 +36,46 @@ impl Hashed {
 pub(crate) fn feed<H: Hasher>(dtype: &DType, rule: Hashed, state: &mut H)
     ensures { state.new ≡ fold H.write state.old (hash_of (part_of rule) (tree dtype.now)) }
 {
-    state.write_u8(dtype.kind().number());
+    let number = dtype.kind().number();
     match dtype {
-        DType::Null => {}
-        DType::Bool(n) => rule.feed(*n, state),
+        DType::Null => rule.feed_head(number, Nullability::NonNullable, state),
+        DType::Bool(n) => rule.feed_head(number, *n, state),
         DType::Primitive(ptype, n) => {
-            state.write_u8(*ptype as u8);
-            rule.feed(*n, state);
+            rule.feed_head(Kind::Extension.number() + 1 + *ptype as u8, *n, state);
         }
         DType::Decimal(decimal, n) => {
+            rule.feed_head(number, *n, state);
             state.write_u8(decimal.precision());
             state.write_i8(decimal.scale());
-            rule.feed(*n, state);
         }
-        DType::Utf8(n) => rule.feed(*n, state),
-        DType::Binary(n) => rule.feed(*n, state),
+        DType::Utf8(n) => rule.feed_head(number, *n, state),
+        DType::Binary(n) => rule.feed_head(number, *n, state),
         DType::List(element, n) => {
+            rule.feed_head(number, *n, state);
             feed(element, rule, state);
-            rule.feed(*n, state);
         }
         DType::FixedSizeList(element, size, n) => {
-            feed(element, rule, state);
+            rule.feed_head(number, *n, state);
             state.write_u32(*size);
-            rule.feed(*n, state);
+            feed(element, rule, state);
         }
         DType::Map(map, n) => {
+            rule.feed_head(number, *n, state);
             map.feed(rule, state);
-            rule.feed(*n, state);
         }
         DType::Struct(fields, n) => {
+            rule.feed_head(number, *n, state);
             fields.feed(rule, state);
-            rule.feed(*n, state);
         }
         DType::Union(variants, n) => {
+            rule.feed_head(number, *n, state);
             variants.feed(rule, state);
-            rule.feed(*n, state);
         }
-        DType::Variant(n) => rule.feed(*n, state),
-        DType::Extension(extension) => extension.feed(rule, state),
+        DType::Variant(n) => rule.feed_head(number, *n, state),
+        DType::Extension(extension) => {
+            rule.feed_head(number, Nullability::NonNullable, state);
+            extension.feed(rule, state);
+        }
     }
 }
 
@@ -82,7 +83,7 @@ impl DType {
     /// Feeds a hasher the type with every nullability in it left out. Types that are equal ignoring
     /// nullability feed alike.
     pub fn hash_ignore_nullability<H: Hasher>(&self, state: &mut H)
-        ensures { state.new ≡ fold H.write state.old (writes_ignoring_nullability (tree self.now)) }
+        ensures { state.new ≡ fold H.write state.old (hash_writes_ignoring_nullability (tree self.now)) }
     {
         feed(self, Hashed::Erased, state);
     }
@@ -90,9 +91,9 @@ impl DType {
 
 impl Hash for DType {
     ghost use Rattle.dtype_types.specs.HashLaws.{dtype_fed};
-    ghost use Rattle.dtype_types.specs.Hashes.{writes};
+    ghost use Rattle.dtype_types.specs.Hashes.{hash_writes};
 
-    ghost hash_input = { λ d. writes (tree d) };
+    ghost hash_input = { λ d. hash_writes (tree d) };
 
     ghost respects_eq = { dtype_fed };
 

@@ -6,7 +6,8 @@ use Rattle.std.specs.List.{All, range_with_len}
 use Rattle.std.proofs.lemmas.List.{get_or_default}
 use Rattle.dtype_base.specs.NameKeys.{name_key}
 use Rattle.dtype_base.specs.NameOrder.{IsKeyed, positions}
-use Rattle.dtype_base.proofs.KeyOrder.{AreBytes, positions_push, keyed_push, index_of}
+use Rattle.dtype_base.specs.Bytes.{Bytes}
+use Rattle.dtype_base.proofs.KeyOrder.{positions_push, keyed_push, index_of}
 use Rattle.dtype_base.proofs.name_order.places_of.Goals as goal
 
 pub loop-position-preserved : goal.loop-position-preserved
@@ -16,15 +17,15 @@ loop-position-preserved c =
     let position = c.loop-position.position in
     let pushed = c.in_ok-push.ensures.items in
     let name : c.as_bytes.result.now ≡ get_or names position [] =
-    c.as_bytes.ensures.value ∙ c.as_str.ensures ∙ c.index-names-position.is ∙ get_or_default names position _ [] c.loop-position-test.true in (
-      ap positions pushed ∙ positions_push places _ position c.loop-position.invariant.0,
-      subst (All (IsKeyed names c.args.shared)) (sym pushed)
-          (keyed_push names c.args.shared places _ c.loop-position.invariant.1
-          (record { within = c.loop-position-test.true; key = c.key_of-key.ensures.key ∙ ap (name_key c.args.shared) name; bytes = subst AreBytes name c.key_of-key.ensures.bytes })),
-    )
+    c.as_bytes.ensures.value ∙ c.as_str.ensures ∙ c.index-names-position.is ∙ get_or_default names position _ [] c.loop-position-test.true in record {
+      in_order = ap positions pushed ∙ positions_push places _ position c.loop-position.invariant.in_order;
+      keyed = subst (All (IsKeyed names c.args.shared)) (sym pushed)
+          (keyed_push names c.args.shared places _ c.loop-position.invariant.keyed
+          (record { within = c.loop-position-test.true; key = c.key_of-key.ensures.key ∙ ap (name_key c.args.shared) name; bytes = subst Bytes name c.key_of-key.ensures.bytes }));
+    }
 
 pub returns-clause-ok : goal.returns-clause-ok
 returns-clause-ok c =
     let names = c.args.names.now in
     let all : c.loop-position.position ≡ length names = omega (arith, c.loop-position-test.false) in
-    index_of names c.args.shared c.requires c.loop-position.places.items _ (c.loop-position.invariant.0 ∙ ap (range_with_len 0) all) c.loop-position.invariant.1 c.sort_places.ensures.each c.sort_places.ensures.rising
+    index_of names c.args.shared c.requires c.loop-position.places.items _ (c.loop-position.invariant.in_order ∙ ap (range_with_len 0) all) c.loop-position.invariant.keyed c.sort_places.ensures.each c.sort_places.ensures.rising

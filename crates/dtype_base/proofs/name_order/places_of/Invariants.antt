@@ -8,5 +8,7 @@ use Rattle.dtype_base.proofs.name_order.places_of.Given as goal
 
 -- the positions so far, each with its key
 abbrev pub invariant-loop-position : goal.invariant-loop-position
-invariant-loop-position l =
-    (positions l.places.items ≡ range_with_len 0 l.position) × All (IsKeyed l.names l.shared) l.places.items
+invariant-loop-position l = record {
+  in_order : positions l.places.items ≡ range_with_len 0 l.position;
+  keyed : All (IsKeyed l.names l.shared) l.places.items;
+}

@@ -10,12 +10,12 @@ use Rattle.dtype_base.proofs.EscapedChars.{unchanged_none, run_none, run_more, r
 use Rattle.dtype_base.proofs.field_name.FieldNameDisplay.fmt.Goals as goal
 
 pub loop-i-init : goal.loop-i-init
-loop-i-init g c = (
-  omega arith,
-  IsCharBoundary-start c.as_str-text.result.now c.as_str-text.utf8,
-  unchanged_none,
-  λ plain. has_written_of_eq _ _ _ _ _ (sym unchanged_none) (search rules),
-)
+loop-i-init g c = record {
+  behind = omega arith;
+  boundary = IsCharBoundary-start c.as_str-text.result.now c.as_str-text.utf8;
+  plain = unchanged_none;
+  written = λ plain. has_written_of_eq _ _ _ _ _ (sym unchanged_none) (search rules);
+}
 
 pub loop-i-preserved-then-not-has_escape : goal.loop-i-preserved-then-not-has_escape
 loop-i-preserved-then-not-has_escape g c =
@@ -24,7 +24,7 @@ loop-i-preserved-then-not-has_escape g c =
     let i = c.loop-i.i in
     let within : i < length text = omega (arith, c.loop-i-test.true, c.as_bytes-bytes.ensures.len) in
     let printed = subst (λ bs. escaped_byte (get_or bs i 0) ≡ get_or bs i 0 ∷ []) c.as_bytes-bytes.ensures.value c.if-not-has_escape.ensures.plain in
-    (omega (arith, inv.0), inv.1, run_more text c.loop-i.start i inv.0 within inv.2 printed, inv.3)
+    record { behind = omega (arith, inv.behind); boundary = inv.boundary; plain = run_more text c.loop-i.start i inv.behind within inv.plain printed; written = inv.written }
 
 pub loop-i-preserved : goal.loop-i-preserved
 loop-i-preserved g c =
@@ -36,17 +36,17 @@ loop-i-preserved g c =
     let small : get_or text i 0 < 128 = subst (λ bs. get_or bs i 0 < 128) c.as_bytes-bytes.ensures.value (c.has_escape.ensures.ascii c.if-not-has_escape.false) in
     let byte : c.from.result ≡ get_or text i 0 = c.from.ensures ∙ ap (λ bs. get_or bs i 0) c.as_bytes-bytes.ensures.value in
     let piece : escaped (encode_utf8 c.from.result) ≡ escaped (get_or text i 0 ∷ []) = ap escaped (ap encode_utf8 byte ∙ encode_ascii (get_or text i 0) small) in
-    let all = ap (λ run. escaped (take start text) ++ (run ++ escaped (encode_utf8 c.from.result))) c.range.ensures.value ∙ run_written text start i inv.0 (escaped (encode_utf8 c.from.result)) within inv.2 piece in
+    let all = ap (λ run. escaped (take start text) ++ (run ++ escaped (encode_utf8 c.from.result))) c.range.ensures.value ∙ run_written text start i inv.behind (escaped (encode_utf8 c.from.result)) within inv.plain piece in
     let first : IsOk c.write_str.result = search rules in
-    let second : IsOk c.fmt.result = search rules in (
-      omega arith,
-      IsCharBoundary-after_ascii text i c.as_str-text.utf8 within small,
-      run_none text (i + 1) (i + 1) (omega arith) refl,
-      λ plain.
-          let so_far = inv.3 plain in
+    let second : IsOk c.fmt.result = search rules in record {
+      behind = omega arith;
+      boundary = IsCharBoundary-after_ascii text i c.as_str-text.utf8 within small;
+      plain = run_none text (i + 1) (i + 1) (omega arith) refl;
+      written = λ plain.
+          let so_far = inv.written plain in
           let run = c.write_str.ensures.writes so_far.plain first in
-          put_three _ _ _ _ _ _ _ _ _ so_far run (c.fmt.ensures.writes run.plain second) all,
-    )
+          put_three _ _ _ _ _ _ _ _ _ so_far run (c.fmt.ensures.writes run.plain second) all;
+    }
 
 pub returns-clause-writes : goal.returns-clause-writes
 returns-clause-writes g c plain ok =
@@ -56,7 +56,7 @@ returns-clause-writes g c plain ok =
     let start = c.loop-i.start in
     let whole : i ≡ length text = omega (arith, c.loop-i-test.false, c.loop-i.auto.i-end, c.as_bytes-bytes.ensures.len) in
     let last : drop start text ≡ take (i - start) (drop start text) = sym (take_all (i - start) (drop start text) (omega (arith, whole, length-drop start text))) in
-    let so_far = inv.3 plain in
+    let so_far = inv.written plain in
     has_written_of_eq _ _ _ _ _
-    (ap (λ run. escaped (take start text) ++ run) (c.range_from.ensures.value ∙ last) ∙ run_end text start i inv.0 whole inv.2 ∙ ap escaped c.as_str-text.ensures)
+    (ap (λ run. escaped (take start text) ++ run) (c.range_from.ensures.value ∙ last) ∙ run_end text start i inv.behind whole inv.plain ∙ ap escaped c.as_str-text.ensures)
     (has_written_append _ _ _ _ _ _ so_far (c.write_str-2.ensures.writes so_far.plain ok))

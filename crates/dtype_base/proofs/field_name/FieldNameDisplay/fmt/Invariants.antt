@@ -10,7 +10,9 @@ use Rattle.dtype_base.proofs.field_name.FieldNameDisplay.fmt.Given as goal
 
 -- the text before `start` is written, escaped; what is between it and `i` stands as it is
 abbrev pub invariant-loop-i : goal.invariant-loop-i
-invariant-loop-i g l =
-    (l.start ≤ l.i) × IsCharBoundary l.text l.start
-    × IsUnchanged (take (l.i - l.start) (drop l.start l.text))
-    × (IsPlainFormatter l.initial.f → HasWritten g.W.Write.write_str_gives l.initial.f (escaped (take l.start l.text)) l.f)
+invariant-loop-i g l = record {
+  behind : l.start ≤ l.i;
+  boundary : IsCharBoundary l.text l.start;
+  plain : IsUnchanged (take (l.i - l.start) (drop l.start l.text));
+  written : IsPlainFormatter l.initial.f → HasWritten g.W.Write.write_str_gives l.initial.f (escaped (take l.start l.text)) l.f;
+}

@@ -3,7 +3,7 @@
 
 use Rattle.dtype_paths.specs.Trie.{ends}
 use Rattle.std.proofs.Common.{◌∙◌}
-use Rattle.dtype_paths.proofs.Opening.{within}
+use Rattle.dtype_paths.proofs.Visiting.{within}
 use Rattle.dtype_paths.proofs.SetLaws.{coverage_of_cover}
 use Rattle.dtype_paths.proofs.BegunBounds.{begun_some, begun_none, begun_at_most}
 use Rattle.dtype_paths.proofs.field_path_set.FieldPathSet.into_iter_counted.Goals as goal

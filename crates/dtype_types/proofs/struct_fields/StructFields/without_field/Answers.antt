@@ -19,8 +19,8 @@ pub returns-clause-fields : goal.returns-clause-fields
 returns-clause-fields c =
     let inv = c.loop-i.invariant in
     let none = none_numbered lent_pair c.loop-i.i-iterator c.next.new.self c.next.result c.in-None.is c.next.ensures.steps in
-    let all = all_moved inv.0 _ (children c.args.self.now) inv.1 (ap with_trees none) in
-    IfOk-weaker c.finish.result _ _ (λ s e. e ∙ inv.3 ∙ ap (λ xs. remove xs c.args.index) all) c.finish.ensures.fields
+    let all = all_moved inv.done _ (children c.args.self.now) inv.left (ap with_trees none) in
+    IfOk-weaker c.finish.result _ _ (λ s e. e ∙ inv.kept ∙ ap (λ xs. remove xs c.args.index) all) c.finish.ensures.fields
 
 pub returns-clause-valid : goal.returns-clause-valid
 returns-clause-valid c = λ h.
@@ -34,25 +34,25 @@ loop-i-preserved-then-i-index c =
     let d = c.in-Some.dtype.now in
     let p : List ℕ × Tree = (n, tree d) in
     let next = next_numbered lent_pair c.loop-i.i-iterator c.next.new.self c.next.result c.in-Some.i (c.in-Some.name, c.in-Some.dtype) c.in-Some.is c.next.ensures.steps in
-    let done = inv.0 in
+    let done = inv.done in
     let longer = length-append done (p ∷ []) in
     let before = fields_so_far c.loop-i.kept in
-    let pushed = c.in_ok-kept-2.ensures.ok ∙ ap (λ m. before ++ (m, tree c.in_ok-try_clone-2.field-0) ∷ []) c.in_ok-try_clone.ensures.ok ∙ ap (λ t. before ++ (n, t) ∷ []) c.in_ok-try_clone-2.ensures.same in (
-      done ++ p ∷ [],
-      moves_over done (with_trees (enumerate_source c.loop-i.i-iterator)) (children c.args.self.now) (with_trees (enumerate_source c.next.new.self)) p (done ++ p ∷ []) inv.1 (ap with_trees next.0) refl,
-      omega (arith, longer, inv.2, next.2),
-      pushed ∙ ap (λ xs. xs ++ p ∷ []) inv.3 ∙ sym (push_remove done p c.args.index (λ e. c.if-i-index.true (next.1 ∙ sym inv.2 ∙ e))),
-    )
+    let pushed = c.in_ok-kept-2.ensures.ok ∙ ap (λ m. before ++ (m, tree c.in_ok-try_clone-2.field-0) ∷ []) c.in_ok-try_clone.ensures.ok ∙ ap (λ t. before ++ (n, t) ∷ []) c.in_ok-try_clone-2.ensures.same in record {
+      done = done ++ p ∷ [];
+      left = moves_over done (with_trees (enumerate_source c.loop-i.i-iterator)) (children c.args.self.now) (with_trees (enumerate_source c.next.new.self)) p (done ++ p ∷ []) inv.left (ap with_trees next.0) refl;
+      count = omega (arith, longer, inv.count, next.2);
+      kept = pushed ∙ ap (λ xs. xs ++ p ∷ []) inv.kept ∙ sym (push_remove done p c.args.index (λ e. c.if-i-index.true (next.1 ∙ sym inv.count ∙ e)));
+    }
 
 pub loop-i-preserved : goal.loop-i-preserved
 loop-i-preserved c =
     let inv = c.loop-i.invariant in
     let p : List ℕ × Tree = (c.in-Some.name.now, tree c.in-Some.dtype.now) in
     let next = next_numbered lent_pair c.loop-i.i-iterator c.next.new.self c.next.result c.in-Some.i (c.in-Some.name, c.in-Some.dtype) c.in-Some.is c.next.ensures.steps in
-    let done = inv.0 in
-    let longer = length-append done (p ∷ []) in (
-      done ++ p ∷ [],
-      moves_over done (with_trees (enumerate_source c.loop-i.i-iterator)) (children c.args.self.now) (with_trees (enumerate_source c.next.new.self)) p (done ++ p ∷ []) inv.1 (ap with_trees next.0) refl,
-      omega (arith, longer, inv.2, next.2),
-      inv.3 ∙ sym (push_removed done p c.args.index (omega (arith, inv.2, next.1))),
-    )
+    let done = inv.done in
+    let longer = length-append done (p ∷ []) in record {
+      done = done ++ p ∷ [];
+      left = moves_over done (with_trees (enumerate_source c.loop-i.i-iterator)) (children c.args.self.now) (with_trees (enumerate_source c.next.new.self)) p (done ++ p ∷ []) inv.left (ap with_trees next.0) refl;
+      count = omega (arith, longer, inv.count, next.2);
+      kept = inv.kept ∙ sym (push_removed done p c.args.index (omega (arith, inv.count, next.1)));
+    }

@@ -11,5 +11,9 @@ use Rattle.dtype_types.proofs.struct_fields.StructFields.without_field.Given as 
 
 -- so far the fields gone by, but for the one left out
 abbrev pub invariant-loop-i : goal.invariant-loop-i
-invariant-loop-i l =
-    (done : List (List ℕ × Tree)) × (done ++ with_trees (enumerate_source l.i-iterator) ≡ children l.self) × (length done ≡ enumerate_count l.i-iterator) × (fields_so_far l.kept ≡ remove done l.index)
+invariant-loop-i l = record {
+  done : List (List ℕ × Tree);
+  left : done ++ with_trees (enumerate_source l.i-iterator) ≡ children l.self;
+  count : length done ≡ enumerate_count l.i-iterator;
+  kept : fields_so_far l.kept ≡ remove done l.index;
+}

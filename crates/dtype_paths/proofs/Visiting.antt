@@ -1,7 +1,7 @@
 -- SPDX-License-Identifier: Apache-2.0
 -- SPDX-FileCopyrightText: Copyright the Vortex contributors
 
--- How the nodes of a list are opened.
+-- How the nodes of a list are visited.
 use Rattle.std.proofs.Common.{ℕ, ◌-◌, min, ◌+◌, ◌<◌, ◌≢◌, length, map, ◌≡◌, ◌↔◌, ◌⊎◌, List, [], ◌∷◌, ◌++◌, Some, None, inl, inr, refl, sym, ap, subst, ◌∙◌, arith, ⊎_elim, append_assoc, append-nil}
 use Rattle.std.specs.List.{Contains, IsDistinct}
 use Rattle.std.specs.Map.{keys_of, lookup, values_of}
@@ -96,8 +96,8 @@ module _ (nodes : List Node) (trie : IsTrie nodes) (s : List Field) (x : ℕ) (a
           option_and_then_some (λ j. walk (child_at nodes) j (t ++ h.2.0)) (child_at nodes x f) w.0 on (λ j k _. inr (f, j, k, (t, e ∙ sym (append_assoc s (f ∷ []) t)))))
           b
 
--- what has been opened, and what is still to be
-pub record Opens (nodes left : List Node) (found : List (List Field)) (visits : ℕ) (places : List ℕ) : Type 0 where
+-- what has been visited, and what is still to be
+pub record Visits (nodes left : List Node) (found : List (List Field)) (visits : ℕ) (places : List ℕ) : Type 0 where
   pub done : List (List Field)
   pub long : length left ≡ length nodes
   pub apart : Apart done
@@ -134,8 +134,8 @@ snoc-longer : (s : List Field) (f : Field) → s ≡ s ++ f ∷ [] → ⊥
 snoc-longer [] f e = cc
 snoc-longer (x ∷ s) f e = let z : s ≡ s ++ f ∷ [] = cc in snoc-longer s f z
 
-pub opens-start : (nodes : List Node) → IsTrie nodes → Opens nodes nodes [] 0 (0 ∷ [])
-opens-start nodes trie = record {
+pub visits-start : (nodes : List Node) → IsTrie nodes → Visits nodes nodes [] 0 (0 ∷ [])
+visits-start nodes trie = record {
   done = [];
   long = refl;
   apart = apart-nil [] refl;
@@ -153,7 +153,7 @@ opens-start nodes trie = record {
   count = refl;
 }
 
-module _ (nodes left next : List Node) (found : List (List Field)) (visits : ℕ) (ps : List ℕ) (x : ℕ) (trie : IsTrie nodes) (o : Opens nodes left found visits (ps ++ x ∷ []))
+module _ (nodes left next : List Node) (found : List (List Field)) (visits : ℕ) (ps : List ℕ) (x : ℕ) (trie : IsTrie nodes) (o : Visits nodes left found visits (ps ++ x ∷ []))
     (long : length next ≡ length left)
     (others_end : (i : ℕ) → i ≢ x → end_at next i ≡ end_at left i)
     (others_step : (i : ℕ) (f : Field) → i ≢ x → child_at next i f ≡ child_at left i f) where
@@ -226,9 +226,9 @@ module _ (nodes left next : List Node) (found : List (List Field)) (visits : ℕ
   pub child-once : (f g : Field) (j : ℕ) → child_at left x f ≡ Some j → child_at left x g ≡ Some j → f ≡ g
   child-once f g j a b = snoc-last s s f g (trie.once (s ++ f ∷ []) (s ++ g ∷ []) j (stepped f j a) (stepped g j b))
 
-  pub opened-end : (p : List Field) → end_at left x ≡ Some p → Opens nodes next (found ++ p ∷ []) (visits + 1) ps
+  pub visited-end : (p : List Field) → end_at left x ≡ Some p → Visits nodes next (found ++ p ∷ []) (visits + 1) ps
   unfolding Waits
-  opened-end p is =
+  visited-end p is =
       let here : end_at nodes x ≡ Some p = sym end_same ∙ is in
       let same : s ≡ p = trie.once s p x at (trie.own x p here) in
       let mine : end_at nodes x ≡ Some s = here ∙ ap Some (sym same) in record {
@@ -272,9 +272,9 @@ module _ (nodes left next : List Node) (found : List (List Field)) (visits : ℕ
         count = omega (arith, o.count);
       }
 
-  pub opened-on : (vs : List ℕ) → end_at left x ≡ None → Apart vs → ((j : ℕ) → Contains vs j → (f : Field) × (child_at left x f ≡ Some j)) → ((f : Field) (j : ℕ) → child_at left x f ≡ Some j → Contains vs j) → Opens nodes next found (visits + 1) (ps ++ vs)
+  pub visited-on : (vs : List ℕ) → end_at left x ≡ None → Apart vs → ((j : ℕ) → Contains vs j → (f : Field) × (child_at left x f ≡ Some j)) → ((f : Field) (j : ℕ) → child_at left x f ≡ Some j → Contains vs j) → Visits nodes next found (visits + 1) (ps ++ vs)
   unfolding Waits
-  opened-on vs is alone from to =
+  visited-on vs is alone from to =
       let here : end_at nodes x ≡ None = sym end_same ∙ is in
       record {
         done = s ∷ o.done;
@@ -337,20 +337,20 @@ module _ (nodes left next : List Node) (found : List (List Field)) (visits : ℕ
       on : (j : ℕ) → (f : Field) × (child_at left x f ≡ Some j) → (f : Field) × (child_at nodes x f ≡ Some j)
       on j w = (w.0, sym (o.same_steps x s w.0 at is_new) ∙ w.1)
 
-  -- the places of the children of what is opened
-  pub opened-children : (es : List (Field × ℕ)) → IsDistinct same_field (keys_of es) → ((f : Field) → lookup (same_field f) es ≡ child_at left x f) → end_at left x ≡ None → Opens nodes next found (visits + 1) (ps ++ values_of es)
-  opened-children es unique steps is =
-      opened-on (values_of es) is
+  -- the places of the children of what is visited
+  pub visited-children : (es : List (Field × ℕ)) → IsDistinct same_field (keys_of es) → ((f : Field) → lookup (same_field f) es ≡ child_at left x f) → end_at left x ≡ None → Visits nodes next found (visits + 1) (ps ++ values_of es)
+  visited-children es unique steps is =
+      visited-on (values_of es) is
       (apart-values same_field same_field-Decides es unique (λ f g j a b. child-once f g j (sym (steps f) ∙ a) (sym (steps g) ∙ b)))
       (λ j c. let w = value-key same_field same_field-Decides es unique j c in (w.0, sym (steps w.0) ∙ w.1))
       (λ f j e. key-value same_field same_field-Decides es f j (steps f ∙ e))
 
-  pub opens-within : x < length left
-  opens-within = let i = trie.inside s x at in let l = o.long in omega arith
+  pub visits-within : x < length left
+  visits-within = let i = trie.inside s x at in let l = o.long in omega arith
 
   -- there is room for one visit more
-  pub opens-room : visits < length nodes
-  opens-room =
+  pub visits-room : visits < length nodes
+  visits-room =
       let all = s ∷ o.done in
       let loc = λ (t : List Field). unwrap_or (walk (child_at nodes) 0 t) 0 in
       let alone = apart-map loc all (apart-cons s o.done is_new o.apart) (λ a b c d e.
@@ -367,40 +367,40 @@ module _ (nodes left next : List Node) (found : List (List Field)) (visits : ℕ
       omega (arith, o.count, below, length-map all loc)
 
   -- so the visit counts
-  pub opens-counts : (most next_visits : ℕ) → next_visits ≡ min (visits + 1) most → length nodes < most → (next_visits ≡ visits + 1) × (length nodes - next_visits < length nodes - visits)
-  opens-counts most next_visits visited small = (omega (arith, opens-room, small, visited), omega (arith, opens-room, small, visited))
+  pub visits-counts : (most next_visits : ℕ) → next_visits ≡ min (visits + 1) most → length nodes < most → (next_visits ≡ visits + 1) × (length nodes - next_visits < length nodes - visits)
+  visits-counts most next_visits visited small = (omega (arith, visits-room, small, visited), omega (arith, visits-room, small, visited))
 
 -- ---- when no place is left
 
-module _ (nodes left : List Node) (found : List (List Field)) (visits : ℕ) (o : Opens nodes left found visits []) where
-  opened-begun : (q : List Field) → Begun (ends nodes) q → Contains o.done q
-  opened-begun q b =
+module _ (nodes left : List Node) (found : List (List Field)) (visits : ℕ) (o : Visits nodes left found visits []) where
+  visited-begun : (q : List Field) → Begun (ends nodes) q → Contains o.done q
+  visited-begun q b =
       ⊎_elim
       (λ d. d)
       (λ (h : (i : ℕ) × (t : List Field) × Contains [] i × (walk (child_at nodes) 0 t ≡ Some i) × Beginning t q). absurd (contains-nil h.0 h.2))
       (o.rest q b)
 
-  pub opened-count : IsCountOf (Begun (ends nodes)) visits
-  opened-count = record {
+  pub visited-count : IsCountOf (Begun (ends nodes)) visits
+  visited-count = record {
     paths = o.done;
     distinct = AllPairs-from_IsDistinct same_path-Decides o.done (apart-distinct same_path same_path-Decides o.done o.apart);
-    exact = λ p. (o.begun p, opened-begun p);
+    exact = λ p. (o.begun p, visited-begun p);
     count = sym o.count;
   }
 
-  pub opened-least : (p : List Field) → Contains found p ↔ Least (ends nodes) p
-  opened-least p = (
+  pub visited-least : (p : List Field) → Contains found p ↔ Least (ends nodes) p
+  visited-least p = (
     λ c.
         let w = (o.exact p).0 c in
         ⊎_elim
         (λ (e : p ≡ []). record { member = w.1; first = λ q m b. begins_nil q (subst (Beginning q) e b) ∙ sym e })
         (λ (h : (l : List Field) × Least (ends nodes) l × Beginning p l). subst (Least (ends nodes)) (sym (h.1.first p w.1 h.2)) h.1)
         (o.begun p w.0),
-    λ l. (o.exact p).1 (opened-begun p (inr (p, l, beginning_refl p)), l.member),
+    λ l. (o.exact p).1 (visited-begun p (inr (p, l, beginning_refl p)), l.member),
   )
 
-  pub opened-once : Distinct found
-  opened-once = AllPairs-from_IsDistinct same_path-Decides found (apart-distinct same_path same_path-Decides found o.once)
+  pub visited-once : Distinct found
+  visited-once = AllPairs-from_IsDistinct same_path-Decides found (apart-distinct same_path same_path-Decides found o.once)
 
 -- what the least paths of a list are told to be, they are for coverage
 pub within : (ps found : List (List Field)) → ((p : List Field) → Contains found p ↔ Least ps p) → (qs : List (List Field)) → SameCoverage qs ps → (p : List Field) → Contains found p → Contains qs p

@@ -16,6 +16,8 @@ pub enum BenchFault {
     OutOfMemory,
     /// A fixture lacks a part that a case takes.
     Missing,
+    /// The answers of a round give the one number that none gives.
+    Answer,
 }
 
 pub type BenchResult<T> = Result<T, BenchFault>;

@@ -1,33 +1,102 @@
 // SPDX-License-Identifier: Apache-2.0
 // SPDX-FileCopyrightText: Copyright the Vortex contributors
 
-// What the cases work on.
+// The types and names that the cases work on.
 use crate::fault::{BenchFault, BenchResult};
-use dtype_base::{FieldName, FieldNames, Nullability, PType};
-use dtype_paths::{Field, FieldPath};
-use dtype_types::{DType, FieldDType, StructFields};
+use dtype_base::{FieldName, Nullability, PType};
+use dtype_types::{DType, ExtDTypeRef, ExtId, FieldDType, StructFields};
 use std::alloc::Global;
 
-/// The parts that cases take. What stands in a list of two stands there twice, made apart, so that an
-/// operation can't be taken for the one before.
+/// How a type is made.
+#[derive(Clone, Copy)]
+pub enum Shape {
+    /// A struct of so many fields.
+    Wide,
+    /// Structs of one field inside one another, so deep.
+    Deep,
+    /// Lists inside one another, so deep.
+    Lists,
+    /// Fixed-size lists of one inside one another, so deep.
+    Fixed,
+    /// Extensions of one another, so deep.
+    Extensions,
+}
+
+impl Shape {
+    fn name(self) -> &'static str {
+        match self {
+            Shape::Wide => "wide",
+            Shape::Deep => "deep",
+            Shape::Lists => "lists",
+            Shape::Fixed => "fixed",
+            Shape::Extensions => "extensions",
+        }
+    }
+
+    /// A type of this shape, the nullabilities inside it turned where asked.
+    pub fn make(self, alloc: Global, count: usize, flip: bool) -> BenchResult<DType> {
+        match self {
+            Shape::Wide => wide_type(alloc, count, flip),
+            _ => self.wrapped(alloc, count, flip),
+        }
+    }
+
+    fn wrapped(self, alloc: Global, depth: usize, flip: bool) -> BenchResult<DType> {
+        let mut dtype = leaf(0, flip);
+        for _ in 0..depth {
+            dtype = self.wrap(alloc, dtype, Nullability::from(flip))?;
+        }
+        Ok(dtype)
+    }
+
+    fn wrap(self, alloc: Global, dtype: DType, nullability: Nullability) -> BenchResult<DType> {
+        match self {
+            Shape::Wide | Shape::Deep => one_field(alloc, dtype, nullability),
+            Shape::Lists => Ok(DType::list(alloc, dtype, nullability)?),
+            Shape::Fixed => Ok(DType::FixedSizeList(Box::new(alloc, dtype)?, 1, nullability)),
+            Shape::Extensions => {
+                let id = ExtId::new(alloc, "x.y")?;
+                let metadata = Vec::from_slice(alloc, b"ab")?;
+                let extension = ExtDTypeRef::from_parts(alloc, id, metadata, dtype)?;
+                Ok(DType::Extension(extension))
+            }
+        }
+    }
+}
+
+/// Types of one shape and size. What stands in a list of two stands there twice, made apart, so that no turn
+/// can be taken for the one before.
 #[derive(Drop)]
-pub struct Fixture {
-    pub name: String,
+pub struct Types {
+    /// The end of the name of a case.
+    pub of: String,
+    pub shape: Shape,
     pub count: usize,
-    pub texts: Vec<String>,
-    pub names: FieldNames,
     pub types: Vec<DType>,
     pub sames: Vec<DType>,
+    /// The nullabilities inside these are the others.
     pub others: Vec<DType>,
-    pub fixeds: Vec<DType>,
-    pub firsts: Vec<String>,
-    pub middles: Vec<String>,
-    pub lasts: Vec<String>,
-    pub misses: Vec<String>,
-    pub paths: Vec<FieldPath>,
-    pub projection: Vec<FieldName>,
-    pub fronts: Vec<StructFields>,
-    pub backs: Vec<StructFields>,
+}
+
+/// Types of this shape and size.
+pub fn make_types(alloc: Global, shape: Shape, count: usize) -> BenchResult<Types> {
+    let name = shape.name();
+    Ok(Types {
+        of: format!(in alloc; "/{name}/{count}")?,
+        shape,
+        count,
+        types: two_types(alloc, shape, count, false)?,
+        sames: two_types(alloc, shape, count, false)?,
+        others: two_types(alloc, shape, count, true)?,
+    })
+}
+
+fn two_types(alloc: Global, shape: Shape, count: usize, flip: bool) -> BenchResult<Vec<DType>> {
+    let mut two = Vec::with_capacity(alloc, 2)?;
+    for _ in 0..2 {
+        two.push(shape.make(alloc, count, flip)?)?;
+    }
+    Ok(two)
 }
 
 /// One of the two, by turns.
@@ -35,56 +104,11 @@ pub fn turn<T>(two: &Vec<T>, i: usize) -> BenchResult<&T> {
     two.get(i % 2).ok_or(BenchFault::Missing)
 }
 
-/// Structs of this many fields, `column_0`, `column_1` and so on.
-pub fn wide(alloc: Global, count: usize) -> BenchResult<Fixture> {
-    let mut fixture = empty(alloc, format!(in alloc; "{count}")?, count);
-    let mut names = Vec::new(alloc);
-    for i in 0..count {
-        fixture.texts.push(column(alloc, i)?)?;
-        names.push(column_name(alloc, i)?)?;
-    }
-    for i in 0..count / 10 {
-        let name = column_name(alloc, i.wrapping_mul(7919) % count)?;
-        fixture.projection.push(name)?;
-    }
-    fixture.names = FieldNames::from_vec(names);
-    for _ in 0..2 {
-        fixture.types.push(wide_type(alloc, count, false)?)?;
-        fixture.sames.push(wide_type(alloc, count, false)?)?;
-        fixture.others.push(wide_type(alloc, count, true)?)?;
-        fixture.fixeds.push(fixed_type(alloc, count)?)?;
-        fixture.firsts.push(column(alloc, 0)?)?;
-        fixture.middles.push(column(alloc, count / 2)?)?;
-        fixture.lasts.push(column(alloc, count.wrapping_sub(1))?)?;
-        fixture.misses.push(String::from_str(alloc, "column_x")?)?;
-        fixture.fronts.push(columns(alloc, 0, count / 2, false)?)?;
-        fixture
-            .backs
-            .push(columns(alloc, count / 2, count, false)?)?;
-    }
-    Ok(fixture)
-}
-
-/// Structs and lists inside one another by turns, so deep, and paths to the innermost type.
-pub fn nested(alloc: Global, depth: usize) -> BenchResult<Fixture> {
-    let mut fixture = empty(alloc, format!(in alloc; "{depth}")?, depth);
-    for _ in 0..2 {
-        fixture.types.push(nested_type(alloc, depth)?)?;
-        fixture.paths.push(nested_path(alloc, depth)?)?;
-    }
-    Ok(fixture)
-}
-
-/// Structs of one field inside one another, so deep, and paths to the innermost type.
-pub fn deep(alloc: Global, depth: usize) -> BenchResult<Fixture> {
-    let mut fixture = empty(alloc, format!(in alloc; "deep{depth}")?, depth);
-    for _ in 0..2 {
-        fixture.types.push(deep_type(alloc, depth, false)?)?;
-        fixture.sames.push(deep_type(alloc, depth, false)?)?;
-        fixture.others.push(deep_type(alloc, depth, true)?)?;
-        fixture.paths.push(deep_path(alloc, depth)?)?;
-    }
-    Ok(fixture)
+/// The fields of one of the two, by turns.
+pub fn fields_of(two: &Vec<DType>, i: usize) -> BenchResult<&StructFields> {
+    turn(two, i)?
+        .as_struct_fields_opt()
+        .ok_or(BenchFault::Missing)
 }
 
 /// The types of so many columns.
@@ -96,41 +120,50 @@ pub fn leaves(alloc: Global, count: usize) -> BenchResult<Vec<DType>> {
     Ok(types)
 }
 
-/// Structs of one field inside one another, so deep.
-pub fn deep_type(alloc: Global, depth: usize, flip: bool) -> BenchResult<DType> {
-    let mut dtype = leaf(0, flip);
-    for _ in 0..depth {
-        let mut fields = Vec::with_capacity(alloc, 1)?;
-        fields.push((FieldName::new(alloc, "a")?, FieldDType::from(dtype)))?;
-        let fields = StructFields::from_iter(alloc, fields)?;
-        dtype = DType::Struct(fields, Nullability::from(flip));
+/// The names of so many columns, as texts.
+pub fn texts(alloc: Global, count: usize) -> BenchResult<Vec<String>> {
+    let mut texts = Vec::with_capacity(alloc, count)?;
+    for i in 0..count {
+        texts.push(column(alloc, i)?)?;
     }
-    Ok(dtype)
+    Ok(texts)
 }
 
-fn empty(alloc: Global, name: String, count: usize) -> Fixture {
-    Fixture {
-        name,
-        count,
-        texts: Vec::new(alloc),
-        names: FieldNames::empty(alloc),
-        types: Vec::new(alloc),
-        sames: Vec::new(alloc),
-        others: Vec::new(alloc),
-        fixeds: Vec::new(alloc),
-        firsts: Vec::new(alloc),
-        middles: Vec::new(alloc),
-        lasts: Vec::new(alloc),
-        misses: Vec::new(alloc),
-        paths: Vec::new(alloc),
-        projection: Vec::new(alloc),
-        fronts: Vec::new(alloc),
-        backs: Vec::new(alloc),
+/// The name of a column, twice.
+pub fn two_texts(alloc: Global, i: usize) -> BenchResult<Vec<String>> {
+    let mut two = Vec::with_capacity(alloc, 2)?;
+    for _ in 0..2 {
+        two.push(column(alloc, i)?)?;
     }
+    Ok(two)
 }
 
-// The type of a column, with its nullability turned where asked.
-fn leaf(i: usize, flip: bool) -> DType {
+/// Names made of texts.
+pub fn names(alloc: Global, texts: &Vec<String>) -> BenchResult<Vec<FieldName>> {
+    let mut names = Vec::with_capacity(alloc, texts.len())?;
+    for text in texts {
+        names.push(FieldName::new(alloc, text.as_str())?)?;
+    }
+    Ok(names)
+}
+
+/// A tenth of the names of so many columns, in no order.
+pub fn some_names(alloc: Global, count: usize) -> BenchResult<Vec<FieldName>> {
+    let mut names = Vec::new(alloc);
+    for i in 0..count / 10 {
+        let text = column(alloc, mixed(i, count))?;
+        names.push(FieldName::new(alloc, text.as_str())?)?;
+    }
+    Ok(names)
+}
+
+/// Another number below the count for each number below it.
+pub fn mixed(i: usize, count: usize) -> usize {
+    i.wrapping_mul(7919).checked_rem(count).unwrap_or(0)
+}
+
+/// The type of a column, with its nullability turned where asked.
+pub fn leaf(i: usize, flip: bool) -> DType {
     match i % 4 {
         0 => DType::Primitive(PType::I32, Nullability::from(flip)),
         1 => DType::Utf8(Nullability::from(!flip)),
@@ -143,74 +176,20 @@ fn column(alloc: Global, i: usize) -> BenchResult<String> {
     Ok(format!(in alloc; "column_{i}")?)
 }
 
-fn column_name(alloc: Global, i: usize) -> BenchResult<FieldName> {
-    let text = column(alloc, i)?;
-    Ok(FieldName::new(alloc, text.as_str())?)
-}
-
-// The columns from one number up to another.
-fn columns(alloc: Global, from: usize, to: usize, flip: bool) -> BenchResult<StructFields> {
-    let mut fields = Vec::new(alloc);
-    for i in from..to {
-        fields.push((column_name(alloc, i)?, FieldDType::from(leaf(i, flip))))?;
-    }
-    Ok(StructFields::from_iter(alloc, fields)?)
-}
-
 fn wide_type(alloc: Global, count: usize, flip: bool) -> BenchResult<DType> {
-    let fields = columns(alloc, 0, count, flip)?;
-    Ok(DType::Struct(fields, Nullability::NonNullable))
-}
-
-// A struct of numbers.
-fn fixed_type(alloc: Global, count: usize) -> BenchResult<DType> {
-    let mut fields = Vec::new(alloc);
+    let mut fields = Vec::with_capacity(alloc, count)?;
     for i in 0..count {
-        fields.push((column_name(alloc, i)?, FieldDType::from(leaf(0, false))))?;
+        let text = column(alloc, i)?;
+        let name = FieldName::new(alloc, text.as_str())?;
+        fields.push((name, FieldDType::from(leaf(i, flip))))?;
     }
     let fields = StructFields::from_iter(alloc, fields)?;
     Ok(DType::Struct(fields, Nullability::NonNullable))
 }
 
-// A struct of four fields, the third of which is of this type.
-fn third_of_four(alloc: Global, dtype: DType) -> BenchResult<DType> {
-    let mut fields = Vec::new(alloc);
-    fields.push((column_name(alloc, 0)?, FieldDType::from(leaf(0, false))))?;
-    fields.push((column_name(alloc, 1)?, FieldDType::from(leaf(1, false))))?;
-    fields.push((column_name(alloc, 2)?, FieldDType::from(dtype)))?;
-    fields.push((column_name(alloc, 3)?, FieldDType::from(leaf(3, false))))?;
+fn one_field(alloc: Global, dtype: DType, nullability: Nullability) -> BenchResult<DType> {
+    let mut fields = Vec::with_capacity(alloc, 1)?;
+    fields.push((FieldName::new(alloc, "a")?, FieldDType::from(dtype)))?;
     let fields = StructFields::from_iter(alloc, fields)?;
-    Ok(DType::Struct(fields, Nullability::NonNullable))
-}
-
-fn nested_type(alloc: Global, depth: usize) -> BenchResult<DType> {
-    let mut dtype = DType::Primitive(PType::I32, Nullability::NonNullable);
-    for i in (0..depth).rev() {
-        if i % 2 == 0 {
-            dtype = third_of_four(alloc, dtype)?;
-        } else {
-            dtype = DType::list(alloc, dtype, Nullability::Nullable)?;
-        }
-    }
-    Ok(dtype)
-}
-
-fn nested_path(alloc: Global, depth: usize) -> BenchResult<FieldPath> {
-    let mut steps = Vec::new(alloc);
-    for i in 0..depth {
-        if i % 2 == 0 {
-            steps.push(Field::Name(column_name(alloc, 2)?))?;
-        } else {
-            steps.push(Field::ElementType)?;
-        }
-    }
-    Ok(FieldPath::from_vec(steps))
-}
-
-fn deep_path(alloc: Global, depth: usize) -> BenchResult<FieldPath> {
-    let mut steps = Vec::new(alloc);
-    for _ in 0..depth {
-        steps.push(Field::Name(FieldName::new(alloc, "a")?))?;
-    }
-    Ok(FieldPath::from_vec(steps))
+    Ok(DType::Struct(fields, nullability))
 }

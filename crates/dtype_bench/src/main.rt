@@ -2,124 +2,202 @@
 // SPDX-FileCopyrightText: Copyright the Vortex contributors
 
 //! Measures the library: for each case whose name begins with a line of standard input, how many
-//! nanoseconds of processor time one operation takes, a case a line, as `find/last/1000 150`. An empty
-//! line asks for every case. Without input nothing is measured and nothing is printed.
+//! nanoseconds of processor time one operation takes, a case a line, as `find/mixed/wide/1000 54.2 57.0`:
+//! the least and the median of fifteen rounds. An empty line asks for every case. Without input nothing is
+//! measured and nothing is printed.
 //!
-//! A case is named for what is done, and behind the last stroke for what it is done to: a struct of so
-//! many fields, a type nested so deep (structs and lists by turns), or `deep` so many structs of one field
-//! inside one another. It is done in rounds of many runs, and the median round is told. What a run takes
-//! is made before the clock starts, and what it gives is let go after it stops, but for the cases
-//! `.._and_drop`. `size_of/dtype` tells how many bytes a `DType` takes, and no time.
+//! A case is named for what is done, and behind that for what it is done to. The operation is done in a loop
+//! of so many turns as take some 3 ms, within one call, and each result is let go in the loop. What an
+//! operation uses up is made before the clock starts, but for the cases `build/and_drop`.
+//!
+//! Begin with `meter`, which has what an operation is and how one is measured.
 #![tactic(auto)]
 
-use case::{Case, Given, Taken, prepare, run};
-use dtype_types::DType;
+use building::{BuildAndDrop, BuildOfNames, BuildOfTexts};
 use fault::BenchResult;
-use fixture::{Fixture, deep, nested, wide};
-use std::alloc::Global;
+use fixture::{Shape, Types, make_types, some_names, texts};
+use lookups::{Find, FindMixed, Place, Project};
+use meter::Meter;
+use on_messages::{ReadMessage, WriteMessage, messages};
+use on_sets::{Contains, CopiedSet, Cover, FromPaths};
+use on_types::{
+    Copied, ElementSize, Empty, Equal, EqualIgnoring, Hashed, Resolve, Text, WithNullability,
+};
+use path_fixture::{SetShape, path_set, two_column_paths, two_deep_paths, two_element_paths};
 use std::io::{self, BufWriter, Write};
-use std::mem::size_of;
 use std::time::CpuClock;
+use vortex_dtype::DTypeSession;
 
-mod case;
+mod building;
 mod fault;
 mod fixture;
+mod lookups;
+mod meter;
+mod on_messages;
+mod on_sets;
+mod on_types;
+mod path_fixture;
 
-const ROUNDS: usize = 9;
-
-// How long a round is to take, in nanoseconds.
-const ROUND_TIME: u64 = 10_000_000;
-
-// The most runs of a round.
-const MOST_RUNS: u64 = 20_000;
-
-// Measures every case of which a line of the text is the beginning.
-fn measure_all<W: Write>(
-    clock: &impl CpuClock,
-    alloc: Global,
-    out: &mut W,
-    wanted: &str,
+// What is done to types of every shape.
+fn measure_types<C: CpuClock, W: Write>(
+    meter: &mut Meter<'_, C, W>,
+    types: &Types,
 ) -> BenchResult<()> {
-    if is_wanted(wanted, "size_of/dtype") {
-        let bytes = size_of::<DType>();
-        writeln!(out, "size_of/dtype {bytes}")?;
+    let of = types.of.as_str();
+    meter.measure(of, EqualIgnoring(types))?;
+    meter.measure(of, Equal(types))?;
+    meter.measure(of, Hashed(&types.types))?;
+    meter.measure(of, ElementSize(types))?;
+    meter.measure(of, Copied(types))?;
+    meter.measure(of, WithNullability(types))?;
+    meter.measure(of, Text(&types.types))
+}
+
+// Lookups in a wide struct.
+fn measure_lookups<C: CpuClock, W: Write>(
+    meter: &mut Meter<'_, C, W>,
+    types: &Types,
+) -> BenchResult<()> {
+    let of = types.of.as_str();
+    for place in Place::ALL {
+        let find = Find::new(meter.alloc, place, types)?;
+        meter.measure(of, find)?;
     }
-    for count in [10, 1000] {
-        let fixture = wide(alloc, count)?;
-        for case in Case::OF_WIDE {
-            measure(clock, alloc, out, case, &fixture, wanted)?;
+    let texts = texts(meter.alloc, types.count)?;
+    let find = FindMixed {
+        types,
+        texts: &texts,
+    };
+    meter.measure(of, find)
+}
+
+// What makes a wide struct.
+fn measure_building<C: CpuClock, W: Write>(
+    meter: &mut Meter<'_, C, W>,
+    types: &Types,
+) -> BenchResult<()> {
+    let of = types.of.as_str();
+    let names = some_names(meter.alloc, types.count)?;
+    meter.measure(of, Project { types, names })?;
+    let texts = texts(meter.alloc, types.count)?;
+    let build = BuildOfNames::new(meter.alloc, &texts);
+    meter.measure(of, build)?;
+    let build = BuildOfTexts::new(meter.alloc, &texts);
+    meter.measure(of, build)
+}
+
+// Making the whole type and letting it go.
+fn measure_whole<C: CpuClock, W: Write>(
+    meter: &mut Meter<'_, C, W>,
+    types: &Types,
+) -> BenchResult<()> {
+    let texts = texts(meter.alloc, types.count)?;
+    let build = BuildAndDrop {
+        shape: types.shape,
+        depth: types.count,
+        texts: &texts,
+    };
+    meter.measure(types.of.as_str(), build)
+}
+
+// Messages.
+fn measure_messages<C: CpuClock, W: Write>(
+    meter: &mut Meter<'_, C, W>,
+    types: &Types,
+) -> BenchResult<()> {
+    let of = types.of.as_str();
+    let session = DTypeSession::new(meter.alloc);
+    let messages = messages(meter.alloc, &types.types)?;
+    let read = ReadMessage {
+        messages: &messages,
+        session: &session,
+    };
+    meter.measure(of, read)?;
+    meter.measure(of, WriteMessage(types))
+}
+
+// Structs of many fields.
+fn of_wide<C: CpuClock, W: Write>(meter: &mut Meter<'_, C, W>) -> BenchResult<()> {
+    for count in [10, 1000, 10_000] {
+        let types = make_types(meter.alloc, Shape::Wide, count)?;
+        if count < 10_000 {
+            measure_types(meter, &types)?;
+            measure_building(meter, &types)?;
         }
-    }
-    for depth in [4, 64] {
-        let fixture = nested(alloc, depth)?;
-        for case in Case::OF_NESTED {
-            measure(clock, alloc, out, case, &fixture, wanted)?;
-        }
-    }
-    let fixture = deep(alloc, 1000)?;
-    for case in Case::OF_DEEP {
-        measure(clock, alloc, out, case, &fixture, wanted)?;
+        measure_lookups(meter, &types)?;
+        measure_whole(meter, &types)?;
+        measure_messages(meter, &types)?;
     }
     Ok(())
 }
 
-// Whether one of the lines is the beginning of the name.
-fn is_wanted(lines: &str, name: &str) -> bool {
-    lines.lines().any(|line| name.starts_with(line))
-}
-
-// Measures a case, if it is wanted, and writes its line.
-fn measure<W: Write>(
-    clock: &impl CpuClock,
-    alloc: Global,
-    out: &mut W,
-    case: Case,
-    fixture: &Fixture,
-    wanted: &str,
-) -> BenchResult<()> {
-    let what = case.name();
-    let of = fixture.name.as_str();
-    let name = format!(in alloc; "{what}/{of}")?;
-    if !is_wanted(wanted, name.as_str()) {
-        return Ok(());
+// Structs inside one another.
+fn of_deep<C: CpuClock, W: Write>(meter: &mut Meter<'_, C, W>) -> BenchResult<()> {
+    for depth in [64, 1000] {
+        let types = make_types(meter.alloc, Shape::Deep, depth)?;
+        measure_types(meter, &types)?;
+        measure_whole(meter, &types)?;
+        let paths = two_deep_paths(meter.alloc, depth)?;
+        let resolve = Resolve {
+            types: &types.types,
+            paths: &paths,
+        };
+        meter.measure(types.of.as_str(), resolve)?;
     }
-    let first = round(clock, alloc, case, fixture, 1)?;
-    let runs = ROUND_TIME
-        .checked_div(first)
-        .unwrap_or(MOST_RUNS)
-        .clamp(1, MOST_RUNS);
-    let mut times = Vec::with_capacity(alloc, ROUNDS)?;
-    for _ in 0..ROUNDS {
-        times.push(round(clock, alloc, case, fixture, runs)?)?;
-    }
-    times.sort_unstable();
-    let median = times.get(ROUNDS / 2).copied().unwrap_or(first);
-    let operations = runs.saturating_mul(case.operations());
-    let each = median.checked_div(operations).unwrap_or(median);
-    writeln!(out, "{name} {each}")?;
     Ok(())
 }
 
-// The nanoseconds that this many runs take.
-fn round(
-    clock: &impl CpuClock,
-    alloc: Global,
-    case: Case,
-    fixture: &Fixture,
-    runs: u64,
-) -> BenchResult<u64> {
-    let mut taken: Vec<Taken> = Vec::new(alloc);
-    let mut given: Vec<Given> = Vec::with_capacity(alloc, runs as usize)?;
-    for _ in 0..runs {
-        taken.push(prepare(alloc, case, fixture)?)?;
+// Lists, fixed-size lists and extensions inside one another.
+fn of_wrapped<C: CpuClock, W: Write>(meter: &mut Meter<'_, C, W>) -> BenchResult<()> {
+    for shape in [Shape::Lists, Shape::Fixed, Shape::Extensions] {
+        let types = make_types(meter.alloc, shape, 64)?;
+        measure_types(meter, &types)?;
     }
-    let start = clock.thread_cpu_time()?;
-    for (i, input) in taken.into_iter().enumerate() {
-        given.push(run(alloc, case, fixture, i, input)?)?;
+    let types = make_types(meter.alloc, Shape::Lists, 64)?;
+    let paths = two_element_paths(meter.alloc, 64)?;
+    let resolve = Resolve {
+        types: &types.types,
+        paths: &paths,
+    };
+    meter.measure(types.of.as_str(), resolve)
+}
+
+// Paths of ten names.
+fn of_paths<C: CpuClock, W: Write>(meter: &mut Meter<'_, C, W>) -> BenchResult<()> {
+    let paths = two_column_paths(meter.alloc, 10)?;
+    meter.measure("/path/10", Hashed(&paths))?;
+    meter.measure("/path/10", Text(&paths))
+}
+
+// Path sets of one shape.
+fn of_sets<C: CpuClock, W: Write>(meter: &mut Meter<'_, C, W>, shape: SetShape) -> BenchResult<()> {
+    for count in [1000, 100_000] {
+        let set = path_set(meter.alloc, shape, count)?;
+        let of = set.of.as_str();
+        let from = FromPaths::new(meter.alloc, &set);
+        meter.measure(of, from)?;
+        let cover = Cover::new(meter.alloc, &set);
+        meter.measure(of, cover)?;
+        meter.measure(of, Contains(&set))?;
+        meter.measure(of, CopiedSet(&set))?;
     }
-    let end = clock.thread_cpu_time()?;
-    drop(given);
-    Ok(u64::try_from(end.saturating_sub(start).as_nanos()).unwrap_or(u64::MAX))
+    Ok(())
+}
+
+// Measures every case that is wanted.
+fn measure_all<C: CpuClock, W: Write>(meter: &mut Meter<'_, C, W>) -> BenchResult<()> {
+    let types = make_types(meter.alloc, Shape::Wide, 10)?;
+    meter.measure("", Empty(&types))?;
+    of_wide(meter)?;
+    of_deep(meter)?;
+    of_wrapped(meter)?;
+    of_paths(meter)?;
+    if meter.wants_some("set/") {
+        for shape in SetShape::ALL {
+            of_sets(meter, shape)?;
+        }
+    }
+    Ok(())
 }
 
 // Measures what standard input asks for, and tells it on standard output.
@@ -130,7 +208,13 @@ fn run_on_streams(rt: &(impl Input + Print + CpuClock + AllocGlobal)) -> BenchRe
         return Ok(());
     }
     let mut output = BufWriter::new(alloc, io::writer(rt))?;
-    measure_all(rt, alloc, &mut output, wanted.as_str())?;
+    let mut meter = Meter {
+        clock: rt,
+        alloc,
+        wanted: wanted.as_str(),
+        out: &mut output,
+    };
+    measure_all(&mut meter)?;
     Ok(output.flush()?)
 }
 

@@ -1,0 +1,152 @@
+// SPDX-License-Identifier: Apache-2.0
+// SPDX-FileCopyrightText: Copyright the Vortex contributors
+
+// How types are made.
+use crate::fault::{BenchFault, BenchResult};
+use crate::fixture::{Shape, leaf, leaves, names};
+use crate::meter::Operation;
+use dtype_base::{FieldName, FieldNames, Nullability};
+use dtype_types::{DType, FieldDType, StructFields};
+use std::alloc::Global;
+
+/// A struct of names and types that are there.
+#[derive(Drop)]
+pub struct BuildOfNames<'a> {
+    texts: &'a Vec<String>,
+    inputs: Vec<(Vec<FieldName>, Vec<DType>)>,
+}
+
+impl<'a> BuildOfNames<'a> {
+    pub fn new(alloc: Global, texts: &'a Vec<String>) -> BuildOfNames<'a> {
+        BuildOfNames {
+            texts,
+            inputs: Vec::new(alloc),
+        }
+    }
+}
+
+impl<'a> Operation for BuildOfNames<'a> {
+    fn name(&self) -> &'static str {
+        "build/names"
+    }
+
+    fn prepare(&mut self, alloc: Global, times: usize) -> BenchResult<()> {
+        let first = names(alloc, self.texts)?;
+        for _ in 0..times {
+            let names = copied_names(alloc, &first)?;
+            self.inputs.push((names, leaves(alloc, self.texts.len())?))?;
+        }
+        Ok(())
+    }
+
+    fn repeat(&mut self, alloc: Global, times: usize) -> BenchResult<usize> {
+        let mut sum = 0usize;
+        for _ in 0..times {
+            let (names, types) = self.inputs.pop().ok_or(BenchFault::Missing)?;
+            let dtype = of_names(alloc, names, types)?;
+            sum = sum.wrapping_add(usize::from(dtype.is_struct()));
+        }
+        Ok(sum)
+    }
+}
+
+fn copied_names(alloc: Global, names: &Vec<FieldName>) -> BenchResult<Vec<FieldName>> {
+    let mut copies = Vec::with_capacity(alloc, names.len())?;
+    for name in names {
+        copies.push(name.try_clone(alloc)?)?;
+    }
+    Ok(copies)
+}
+
+fn of_names(alloc: Global, names: Vec<FieldName>, types: Vec<DType>) -> BenchResult<DType> {
+    if names.len() != types.len() {
+        return Err(BenchFault::Missing);
+    }
+    let fields = StructFields::new(alloc, FieldNames::from_vec(names), types)?;
+    Ok(DType::Struct(fields, Nullability::NonNullable))
+}
+
+/// A struct of names, made of texts, and types that are there.
+#[derive(Drop)]
+pub struct BuildOfTexts<'a> {
+    texts: &'a Vec<String>,
+    inputs: Vec<Vec<DType>>,
+}
+
+impl<'a> BuildOfTexts<'a> {
+    pub fn new(alloc: Global, texts: &'a Vec<String>) -> BuildOfTexts<'a> {
+        BuildOfTexts {
+            texts,
+            inputs: Vec::new(alloc),
+        }
+    }
+}
+
+impl<'a> Operation for BuildOfTexts<'a> {
+    fn name(&self) -> &'static str {
+        "build/texts"
+    }
+
+    fn prepare(&mut self, alloc: Global, times: usize) -> BenchResult<()> {
+        for _ in 0..times {
+            self.inputs.push(leaves(alloc, self.texts.len())?)?;
+        }
+        Ok(())
+    }
+
+    fn repeat(&mut self, alloc: Global, times: usize) -> BenchResult<usize> {
+        let mut sum = 0usize;
+        for _ in 0..times {
+            let types = self.inputs.pop().ok_or(BenchFault::Missing)?;
+            let dtype = of_texts(alloc, self.texts, types)?;
+            sum = sum.wrapping_add(usize::from(dtype.is_struct()));
+        }
+        Ok(sum)
+    }
+}
+
+fn of_texts(alloc: Global, texts: &Vec<String>, types: Vec<DType>) -> BenchResult<DType> {
+    let mut fields = Vec::with_capacity(alloc, types.len())?;
+    for (text, dtype) in texts.iter().zip(types) {
+        let name = FieldName::new(alloc, text.as_str())?;
+        fields.push((name, FieldDType::from(dtype)))?;
+    }
+    let fields = StructFields::from_iter(alloc, fields)?;
+    Ok(DType::Struct(fields, Nullability::NonNullable))
+}
+
+/// A whole type, of which nothing is there before the clock starts but the texts of a wide struct.
+#[derive(Drop)]
+pub struct BuildAndDrop<'a> {
+    pub shape: Shape,
+    pub depth: usize,
+    pub texts: &'a Vec<String>,
+}
+
+impl<'a> Operation for BuildAndDrop<'a> {
+    fn name(&self) -> &'static str {
+        "build/and_drop"
+    }
+
+    fn repeat(&mut self, alloc: Global, times: usize) -> BenchResult<usize> {
+        let mut sum = 0usize;
+        for _ in 0..times {
+            let dtype = match self.shape {
+                Shape::Wide => of_columns(alloc, self.texts)?,
+                shape => shape.make(alloc, self.depth, false)?,
+            };
+            sum = sum.wrapping_add(usize::from(dtype.is_struct()));
+        }
+        Ok(sum)
+    }
+}
+
+fn of_columns(alloc: Global, texts: &Vec<String>) -> BenchResult<DType> {
+    let mut fields = Vec::with_capacity(alloc, texts.len())?;
+    for (i, text) in texts.iter().enumerate() {
+        let name = FieldName::new(alloc, text.as_str())?;
+        fields.push((name, FieldDType::from(leaf(i, false))))?;
+    }
+    let fields = StructFields::from_iter(alloc, fields)?;
+    Ok(DType::Struct(fields, Nullability::NonNullable))
+}

@@ -1,0 +1,124 @@
+// SPDX-License-Identifier: Apache-2.0
+// SPDX-FileCopyrightText: Copyright the Vortex contributors
+
+// What is done with the names of structs.
+use crate::fault::{BenchFault, BenchResult};
+use crate::fixture::{Types, fields_of, two_texts};
+use crate::meter::Operation;
+use dtype_base::FieldName;
+use std::alloc::Global;
+
+/// Where the name is that is looked for.
+#[derive(Clone, Copy)]
+pub enum Place {
+    First,
+    Middle,
+    Last,
+    Nowhere,
+}
+
+impl Place {
+    pub const ALL: [Place; 4] = [Place::First, Place::Middle, Place::Last, Place::Nowhere];
+
+    // The number of the column that has the name.
+    fn among(self, count: usize) -> usize {
+        match self {
+            Place::First => 0,
+            Place::Middle => count / 2,
+            Place::Last => count.wrapping_sub(1),
+            Place::Nowhere => count,
+        }
+    }
+}
+
+/// `find` of one name.
+#[derive(Drop)]
+pub struct Find<'a> {
+    place: Place,
+    types: &'a Types,
+    names: Vec<String>,
+}
+
+impl<'a> Find<'a> {
+    pub fn new(alloc: Global, place: Place, types: &'a Types) -> BenchResult<Find<'a>> {
+        let names = two_texts(alloc, place.among(types.count))?;
+        Ok(Find {
+            place,
+            types,
+            names,
+        })
+    }
+}
+
+impl<'a> Operation for Find<'a> {
+    fn name(&self) -> &'static str {
+        match self.place {
+            Place::First => "find/first",
+            Place::Middle => "find/middle",
+            Place::Last => "find/last",
+            Place::Nowhere => "find/miss",
+        }
+    }
+
+    fn repeat(&mut self, _alloc: Global, times: usize) -> BenchResult<usize> {
+        let mut sum = 0usize;
+        for i in 0..times {
+            let fields = fields_of(&self.types.types, i)?;
+            let name = self.names.get(i / 2 % 2).ok_or(BenchFault::Missing)?;
+            sum = sum.wrapping_add(fields.find(name.as_str()).unwrap_or(7));
+        }
+        Ok(sum)
+    }
+}
+
+/// `find` of all names in no order, so that no branch can be foreseen.
+#[derive(Drop)]
+pub struct FindMixed<'a> {
+    pub types: &'a Types,
+    pub texts: &'a Vec<String>,
+}
+
+impl<'a> Operation for FindMixed<'a> {
+    fn name(&self) -> &'static str {
+        "find/mixed"
+    }
+
+    fn repeat(&mut self, _alloc: Global, times: usize) -> BenchResult<usize> {
+        let fields = fields_of(&self.types.types, 0)?;
+        let count = self.texts.len() as u64;
+        let mut sum = 0usize;
+        let mut seed = 1u64;
+        for _ in 0..times {
+            seed = seed
+                .wrapping_mul(6364136223846793005)
+                .wrapping_add(1442695040888963407);
+            let at = (seed >> 33).checked_rem(count).unwrap_or(0);
+            let name = self.texts.get(at as usize).ok_or(BenchFault::Missing)?;
+            sum = sum.wrapping_add(fields.find(name.as_str()).unwrap_or(7));
+        }
+        Ok(sum)
+    }
+}
+
+/// `project` of some names.
+#[derive(Drop)]
+pub struct Project<'a> {
+    pub types: &'a Types,
+    pub names: Vec<FieldName>,
+}
+
+impl<'a> Operation for Project<'a> {
+    fn name(&self) -> &'static str {
+        "project"
+    }
+
+    fn repeat(&mut self, alloc: Global, times: usize) -> BenchResult<usize> {
+        let mut sum = 0usize;
+        for i in 0..times {
+            let fields = fields_of(&self.types.types, i)?;
+            let fewer = fields.project(alloc, self.names.as_slice())?;
+            sum = sum.wrapping_add(fewer.nfields());
+        }
+        Ok(sum)
+    }
+}

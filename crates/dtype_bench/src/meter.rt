@@ -1,0 +1,112 @@
+// SPDX-License-Identifier: Apache-2.0
+// SPDX-FileCopyrightText: Copyright the Vortex contributors
+
+// How an operation is measured.
+use crate::fault::{BenchFault, BenchResult};
+use std::alloc::Global;
+use std::io::Write;
+use std::time::CpuClock;
+
+// How long a round is to take, in nanoseconds.
+const ROUND_TIME: u64 = 3_000_000;
+
+// The most doublings of the number of turns: some four thousand million turns.
+const DOUBLINGS: usize = 32;
+
+const ROUNDS: usize = 15;
+
+/// What is measured.
+pub trait Operation {
+    /// What is done, as it is printed.
+    fn name(&self) -> &'static str;
+
+    /// Makes what so many turns use up, before the clock starts.
+    fn prepare(&mut self, _alloc: Global, _times: usize) -> BenchResult<()> {
+        Ok(())
+    }
+
+    /// Does the operation so many times, lets go what it gave, and gives a number in which each of its
+    /// answers counts, so that none of them can be left out.
+    fn repeat(&mut self, alloc: Global, times: usize) -> BenchResult<usize>;
+}
+
+/// Measures those operations whose names are wanted.
+#[derive(Drop)]
+pub struct Meter<'a, C, W> {
+    pub clock: &'a C,
+    pub alloc: Global,
+    /// Of each case that is wanted, a line is the beginning of its name.
+    pub wanted: &'a str,
+    pub out: &'a mut W,
+}
+
+impl<'a, C: CpuClock, W: Write> Meter<'a, C, W> {
+    /// Whether cases whose names have this beginning may be wanted.
+    pub fn wants_some(&self, beginning: &str) -> bool {
+        self.wanted.lines().any(|line| line.starts_with(beginning) || beginning.starts_with(line))
+    }
+
+    fn wants(&self, name: &str) -> bool {
+        self.wanted.lines().any(|line| name.starts_with(line))
+    }
+
+    /// Measures an operation on what has this name, if it is wanted, and writes its line: the least and the
+    /// median of the rounds.
+    pub fn measure(&mut self, of: &str, mut operation: impl Operation + Drop) -> BenchResult<()> {
+        let what = operation.name();
+        let name = format!(in self.alloc; "{what}{of}")?;
+        if !self.wants(name.as_str()) {
+            return Ok(());
+        }
+        let times = self.turns(&mut operation)?;
+        let mut rounds = Vec::with_capacity(self.alloc, ROUNDS)?;
+        for _ in 0..ROUNDS {
+            rounds.push(self.round(&mut operation, times)?)?;
+        }
+        rounds.sort_unstable();
+        let least = tenths(rounds.first().copied().unwrap_or(0), times);
+        let median = tenths(rounds.get(ROUNDS / 2).copied().unwrap_or(0), times);
+        let (least, least_part) = (least / 10, least % 10);
+        let (median, median_part) = (median / 10, median % 10);
+        writeln!(
+            self.out,
+            "{name} {least}.{least_part} {median}.{median_part}"
+        )?;
+        Ok(())
+    }
+
+    // How many turns make a round.
+    fn turns(&self, operation: &mut impl Operation) -> BenchResult<usize> {
+        let mut times = 1usize;
+        for _ in 0..DOUBLINGS {
+            if self.round(operation, times)? >= ROUND_TIME {
+                break;
+            }
+            times = times.wrapping_mul(2);
+        }
+        Ok(times)
+    }
+
+    // The nanoseconds that so many turns take.
+    fn round(&self, operation: &mut impl Operation, times: usize) -> BenchResult<u64> {
+        operation.prepare(self.alloc, times)?;
+        let start = self.clock.thread_cpu_time()?;
+        let answer = operation.repeat(self.alloc, times)?;
+        let end = self.clock.thread_cpu_time()?;
+        // asked for, so that the answer has to be worked out
+        if answer == usize::MAX {
+            return Err(BenchFault::Answer);
+        }
+        let time = end.saturating_sub(start).as_nanos();
+        Ok(u64::try_from(time).unwrap_or(u64::MAX))
+    }
+}
+
+// The tenths of a nanosecond that one turn takes, to the nearest.
+fn tenths(time: u64, times: usize) -> u64 {
+    let half = times as u64 / 2;
+    time.saturating_mul(10)
+        .saturating_add(half)
+        .checked_div(times as u64)
+        .unwrap_or(0)
+}

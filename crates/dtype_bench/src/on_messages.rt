@@ -1,0 +1,60 @@
+// SPDX-License-Identifier: Apache-2.0
+// SPDX-FileCopyrightText: Copyright the Vortex contributors
+
+// Types read from messages, and written.
+use crate::fault::{BenchFault, BenchResult};
+use crate::fixture::{Types, turn};
+use crate::meter::Operation;
+use dtype_types::DType;
+use std::alloc::Global;
+use vortex_dtype::{DTypeProto, DTypeSession, pb};
+
+/// The messages of types.
+pub fn messages(alloc: Global, types: &Vec<DType>) -> BenchResult<Vec<pb::DType>> {
+    let mut messages = Vec::with_capacity(alloc, types.len())?;
+    for dtype in types {
+        messages.push(dtype.to_proto(alloc)?)?;
+    }
+    Ok(messages)
+}
+
+/// `from_proto`.
+#[derive(Drop)]
+pub struct ReadMessage<'a> {
+    pub messages: &'a Vec<pb::DType>,
+    pub session: &'a DTypeSession,
+}
+
+impl<'a> Operation for ReadMessage<'a> {
+    fn name(&self) -> &'static str {
+        "read"
+    }
+
+    fn repeat(&mut self, alloc: Global, times: usize) -> BenchResult<usize> {
+        let mut sum = 0usize;
+        for i in 0..times {
+            let dtype = DType::from_proto(alloc, turn(self.messages, i)?, self.session)?;
+            sum = sum.wrapping_add(usize::from(dtype.is_struct()));
+        }
+        Ok(sum)
+    }
+}
+
+/// `to_proto`.
+#[derive(Drop)]
+pub struct WriteMessage<'a>(pub &'a Types);
+
+impl<'a> Operation for WriteMessage<'a> {
+    fn name(&self) -> &'static str {
+        "write"
+    }
+
+    fn repeat(&mut self, alloc: Global, times: usize) -> BenchResult<usize> {
+        let mut sum = 0usize;
+        for i in 0..times {
+            let message = turn(&self.0.types, i)?.to_proto(alloc)?;
+            sum = sum.wrapping_add(usize::from(message.dtype_type.is_some()));
+        }
+        Ok(sum)
+    }
+}

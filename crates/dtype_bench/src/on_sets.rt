@@ -1,0 +1,131 @@
+// SPDX-License-Identifier: Apache-2.0
+// SPDX-FileCopyrightText: Copyright the Vortex contributors
+
+// What is done with path sets.
+use crate::fault::{BenchFault, BenchResult};
+use crate::meter::Operation;
+use crate::path_fixture::{PathSet, copies};
+use dtype_paths::{FieldPath, FieldPathSet};
+use std::alloc::Global;
+
+/// A set of paths that are there.
+#[derive(Drop)]
+pub struct FromPaths<'a> {
+    paths: &'a Vec<FieldPath>,
+    inputs: Vec<Vec<FieldPath>>,
+}
+
+impl<'a> FromPaths<'a> {
+    pub fn new(alloc: Global, of: &'a PathSet) -> FromPaths<'a> {
+        FromPaths {
+            paths: &of.paths,
+            inputs: Vec::new(alloc),
+        }
+    }
+}
+
+impl<'a> Operation for FromPaths<'a> {
+    fn name(&self) -> &'static str {
+        "set/from_iter"
+    }
+
+    fn prepare(&mut self, alloc: Global, times: usize) -> BenchResult<()> {
+        for _ in 0..times {
+            self.inputs.push(copies(alloc, self.paths)?)?;
+        }
+        Ok(())
+    }
+
+    fn repeat(&mut self, alloc: Global, times: usize) -> BenchResult<usize> {
+        let mut sum = 0usize;
+        for _ in 0..times {
+            let paths = self.inputs.pop().ok_or(BenchFault::Missing)?;
+            let count = paths.len();
+            drop(FieldPathSet::from_iter(alloc, paths)?);
+            sum = sum.wrapping_add(count);
+        }
+        Ok(sum)
+    }
+}
+
+/// The paths of a set that cover the others.
+#[derive(Drop)]
+pub struct Cover<'a> {
+    set: &'a FieldPathSet,
+    inputs: Vec<FieldPathSet>,
+}
+
+impl<'a> Cover<'a> {
+    pub fn new(alloc: Global, of: &'a PathSet) -> Cover<'a> {
+        Cover {
+            set: &of.set,
+            inputs: Vec::new(alloc),
+        }
+    }
+}
+
+impl<'a> Operation for Cover<'a> {
+    fn name(&self) -> &'static str {
+        "set/into_iter"
+    }
+
+    fn prepare(&mut self, _alloc: Global, times: usize) -> BenchResult<()> {
+        for _ in 0..times {
+            self.inputs.push(self.set.try_clone()?)?;
+        }
+        Ok(())
+    }
+
+    fn repeat(&mut self, _alloc: Global, times: usize) -> BenchResult<usize> {
+        let mut sum = 0usize;
+        for _ in 0..times {
+            let set = self.inputs.pop().ok_or(BenchFault::Missing)?;
+            sum = sum.wrapping_add(set.into_iter()?.len());
+        }
+        Ok(sum)
+    }
+}
+
+/// Each path asked for once.
+#[derive(Drop)]
+pub struct Contains<'a>(pub &'a PathSet);
+
+impl<'a> Operation for Contains<'a> {
+    fn name(&self) -> &'static str {
+        "set/contains"
+    }
+
+    fn repeat(&mut self, _alloc: Global, times: usize) -> BenchResult<usize> {
+        let mut sum = 0usize;
+        for _ in 0..times {
+            sum = count_held(self.0, sum);
+        }
+        Ok(sum)
+    }
+}
+
+// So many, and the paths that the set holds.
+fn count_held(of: &PathSet, so_many: usize) -> usize {
+    let mut count = so_many;
+    for path in &of.paths {
+        count = count.wrapping_add(usize::from(of.set.contains(path)));
+    }
+    count
+}
+
+/// `try_clone`.
+#[derive(Drop)]
+pub struct CopiedSet<'a>(pub &'a PathSet);
+
+impl<'a> Operation for CopiedSet<'a> {
+    fn name(&self) -> &'static str {
+        "set/copy"
+    }
+
+    fn repeat(&mut self, _alloc: Global, times: usize) -> BenchResult<usize> {
+        for _ in 0..times {
+            drop(self.0.set.try_clone()?);
+        }
+        Ok(times)
+    }
+}

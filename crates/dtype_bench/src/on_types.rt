@@ -1,0 +1,193 @@
+// SPDX-License-Identifier: Apache-2.0
+// SPDX-FileCopyrightText: Copyright the Vortex contributors
+
+// What is done to types, and to whatever has a hash or a text.
+use crate::fault::BenchResult;
+use crate::fixture::{Types, turn};
+use crate::meter::Operation;
+use dtype_base::Nullability;
+use dtype_paths::FieldPath;
+use dtype_types::DType;
+use std::alloc::Global;
+use std::fmt::Display;
+use std::hash::{DefaultHasher, Hash, Hasher};
+
+/// The loop alone, with a type by turns.
+#[derive(Drop)]
+pub struct Empty<'a>(pub &'a Types);
+
+impl<'a> Operation for Empty<'a> {
+    fn name(&self) -> &'static str {
+        "empty"
+    }
+
+    fn repeat(&mut self, _alloc: Global, times: usize) -> BenchResult<usize> {
+        let mut sum = 0usize;
+        for i in 0..times {
+            let dtype = turn(&self.0.types, i)?;
+            sum = sum.wrapping_add(usize::from(dtype.is_nullable()));
+        }
+        Ok(sum)
+    }
+}
+
+/// `==`. Which two are compared hangs on the answers before, so that no comparison can be done ahead of
+/// them.
+#[derive(Drop)]
+pub struct Equal<'a>(pub &'a Types);
+
+impl<'a> Operation for Equal<'a> {
+    fn name(&self) -> &'static str {
+        "eq"
+    }
+
+    fn repeat(&mut self, _alloc: Global, times: usize) -> BenchResult<usize> {
+        let mut sum = 0usize;
+        for i in 0..times {
+            let dtype = turn(&self.0.types, sum)?;
+            let same = dtype == turn(&self.0.sames, i)?;
+            sum = sum.wrapping_add(usize::from(same));
+        }
+        Ok(sum)
+    }
+}
+
+/// `eq_ignore_nullability`, of types that differ in nullabilities alone.
+#[derive(Drop)]
+pub struct EqualIgnoring<'a>(pub &'a Types);
+
+impl<'a> Operation for EqualIgnoring<'a> {
+    fn name(&self) -> &'static str {
+        "eq_ignore_nullability"
+    }
+
+    fn repeat(&mut self, _alloc: Global, times: usize) -> BenchResult<usize> {
+        let mut sum = 0usize;
+        for i in 0..times {
+            let dtype = turn(&self.0.types, sum)?;
+            let same = dtype.eq_ignore_nullability(turn(&self.0.others, i)?);
+            sum = sum.wrapping_add(usize::from(same));
+        }
+        Ok(sum)
+    }
+}
+
+/// `element_size`.
+#[derive(Drop)]
+pub struct ElementSize<'a>(pub &'a Types);
+
+impl<'a> Operation for ElementSize<'a> {
+    fn name(&self) -> &'static str {
+        "element_size"
+    }
+
+    fn repeat(&mut self, _alloc: Global, times: usize) -> BenchResult<usize> {
+        let mut sum = 0usize;
+        for i in 0..times {
+            let size = turn(&self.0.types, i)?.element_size()?;
+            sum = sum.wrapping_add(size.unwrap_or(7));
+        }
+        Ok(sum)
+    }
+}
+
+/// `try_clone`.
+#[derive(Drop)]
+pub struct Copied<'a>(pub &'a Types);
+
+impl<'a> Operation for Copied<'a> {
+    fn name(&self) -> &'static str {
+        "copy"
+    }
+
+    fn repeat(&mut self, alloc: Global, times: usize) -> BenchResult<usize> {
+        let mut sum = 0usize;
+        for i in 0..times {
+            let copy = turn(&self.0.types, i)?.try_clone(alloc)?;
+            sum = sum.wrapping_add(usize::from(copy.is_nullable()));
+        }
+        Ok(sum)
+    }
+}
+
+/// `with_nullability`.
+#[derive(Drop)]
+pub struct WithNullability<'a>(pub &'a Types);
+
+impl<'a> Operation for WithNullability<'a> {
+    fn name(&self) -> &'static str {
+        "with_nullability"
+    }
+
+    fn repeat(&mut self, alloc: Global, times: usize) -> BenchResult<usize> {
+        let mut sum = 0usize;
+        for i in 0..times {
+            let dtype = turn(&self.0.types, i)?;
+            let copy = dtype.with_nullability(alloc, Nullability::Nullable)?;
+            sum = sum.wrapping_add(usize::from(copy.is_nullable()));
+        }
+        Ok(sum)
+    }
+}
+
+/// The hash by SipHash of one of two.
+#[derive(Drop)]
+pub struct Hashed<'a, T>(pub &'a Vec<T>);
+
+impl<'a, T: Hash> Operation for Hashed<'a, T> {
+    fn name(&self) -> &'static str {
+        "hash"
+    }
+
+    fn repeat(&mut self, _alloc: Global, times: usize) -> BenchResult<usize> {
+        let mut sum = 0usize;
+        for i in 0..times {
+            let mut state = DefaultHasher::new();
+            turn(self.0, i)?.hash(&mut state);
+            sum = sum.wrapping_add(state.finish() as usize);
+        }
+        Ok(sum)
+    }
+}
+
+/// The text of one of two.
+#[derive(Drop)]
+pub struct Text<'a, T>(pub &'a Vec<T>);
+
+impl<'a, T: Display> Operation for Text<'a, T> {
+    fn name(&self) -> &'static str {
+        "text"
+    }
+
+    fn repeat(&mut self, alloc: Global, times: usize) -> BenchResult<usize> {
+        let mut sum = 0usize;
+        for i in 0..times {
+            let text = turn(self.0, i)?.to_string(alloc)?;
+            sum = sum.wrapping_add(text.len());
+        }
+        Ok(sum)
+    }
+}
+
+/// The part of a type along a path.
+#[derive(Drop)]
+pub struct Resolve<'a> {
+    pub types: &'a Vec<DType>,
+    pub paths: &'a Vec<FieldPath>,
+}
+
+impl<'a> Operation for Resolve<'a> {
+    fn name(&self) -> &'static str {
+        "resolve"
+    }
+
+    fn repeat(&mut self, _alloc: Global, times: usize) -> BenchResult<usize> {
+        let mut sum = 0usize;
+        for i in 0..times {
+            let path = turn(self.paths, i / 2)?;
+            let found = path.resolve(turn(self.types, i)?);
+            sum = sum.wrapping_add(usize::from(found.is_some()));
+        }
+        Ok(sum)
+    }
+}

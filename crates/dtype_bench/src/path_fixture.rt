@@ -1,0 +1,149 @@
+// SPDX-License-Identifier: Apache-2.0
+// SPDX-FileCopyrightText: Copyright the Vortex contributors
+
+// The paths and path sets that the cases work on.
+use crate::fault::BenchResult;
+use crate::fixture::mixed;
+use dtype_base::FieldName;
+use dtype_paths::{Field, FieldPath, FieldPathSet};
+use std::alloc::Global;
+
+/// How the paths of a set look.
+#[derive(Clone, Copy)]
+pub enum SetShape {
+    /// Two names, the first the same in all.
+    Flat,
+    /// Three names, ten below one.
+    Nested,
+    /// Each is the beginning of the next, 64 in a row.
+    Chains,
+}
+
+impl SetShape {
+    pub const ALL: [SetShape; 3] = [SetShape::Flat, SetShape::Nested, SetShape::Chains];
+
+    fn name(self) -> &'static str {
+        match self {
+            SetShape::Flat => "flat",
+            SetShape::Nested => "nested",
+            SetShape::Chains => "chains",
+        }
+    }
+
+    fn path(self, alloc: Global, i: usize) -> BenchResult<FieldPath> {
+        let mut steps = Vec::new(alloc);
+        match self {
+            SetShape::Flat => {
+                steps.push(Field::from_text(alloc, "parent")?)?;
+                steps.push(numbered(alloc, "column", i)?)?;
+            }
+            SetShape::Nested => {
+                steps.push(numbered(alloc, "a", i / 100)?)?;
+                steps.push(numbered(alloc, "b", i / 10 % 10)?)?;
+                steps.push(numbered(alloc, "c", i % 10)?)?;
+            }
+            SetShape::Chains => {
+                steps.push(numbered(alloc, "column", i / 64)?)?;
+                for _ in 0..i % 64 {
+                    steps.push(Field::from_text(alloc, "x")?)?;
+                }
+            }
+        }
+        Ok(FieldPath::from_vec(steps))
+    }
+}
+
+/// A set of so many paths, and the paths, made apart from it.
+#[derive(Drop)]
+pub struct PathSet {
+    /// The end of the name of a case.
+    pub of: String,
+    pub paths: Vec<FieldPath>,
+    pub set: FieldPathSet,
+}
+
+/// A set of this shape and size, its paths in no order.
+pub fn path_set(alloc: Global, shape: SetShape, count: usize) -> BenchResult<PathSet> {
+    let name = shape.name();
+    Ok(PathSet {
+        of: format!(in alloc; "/{name}/{count}")?,
+        paths: set_paths(alloc, shape, count)?,
+        set: FieldPathSet::from_iter(alloc, set_paths(alloc, shape, count)?)?,
+    })
+}
+
+fn set_paths(alloc: Global, shape: SetShape, count: usize) -> BenchResult<Vec<FieldPath>> {
+    let mut paths = Vec::with_capacity(alloc, count)?;
+    for i in 0..count {
+        paths.push(shape.path(alloc, mixed(i, count))?)?;
+    }
+    Ok(paths)
+}
+
+/// Copies of the paths.
+pub fn copies(alloc: Global, paths: &Vec<FieldPath>) -> BenchResult<Vec<FieldPath>> {
+    let mut copies = Vec::with_capacity(alloc, paths.len())?;
+    for path in paths {
+        copies.push(path.try_clone()?)?;
+    }
+    Ok(copies)
+}
+
+/// The path of so many fields `a`, twice.
+pub fn two_deep_paths(alloc: Global, depth: usize) -> BenchResult<Vec<FieldPath>> {
+    let mut two = Vec::with_capacity(alloc, 2)?;
+    for _ in 0..2 {
+        let steps = fields_named(alloc, depth)?;
+        two.push(FieldPath::from_vec(steps))?;
+    }
+    Ok(two)
+}
+
+fn fields_named(alloc: Global, depth: usize) -> BenchResult<Vec<Field>> {
+    let mut steps = Vec::with_capacity(alloc, depth)?;
+    for _ in 0..depth {
+        steps.push(Field::Name(FieldName::new(alloc, "a")?))?;
+    }
+    Ok(steps)
+}
+
+/// The path of so many elements, twice.
+pub fn two_element_paths(alloc: Global, depth: usize) -> BenchResult<Vec<FieldPath>> {
+    let mut two = Vec::with_capacity(alloc, 2)?;
+    for _ in 0..2 {
+        let steps = elements(alloc, depth)?;
+        two.push(FieldPath::from_vec(steps))?;
+    }
+    Ok(two)
+}
+
+fn elements(alloc: Global, depth: usize) -> BenchResult<Vec<Field>> {
+    let mut steps = Vec::with_capacity(alloc, depth)?;
+    for _ in 0..depth {
+        steps.push(Field::ElementType)?;
+    }
+    Ok(steps)
+}
+
+/// The path of so many columns, twice.
+pub fn two_column_paths(alloc: Global, depth: usize) -> BenchResult<Vec<FieldPath>> {
+    let mut two = Vec::with_capacity(alloc, 2)?;
+    for _ in 0..2 {
+        let steps = columns(alloc, depth)?;
+        two.push(FieldPath::from_vec(steps))?;
+    }
+    Ok(two)
+}
+
+fn columns(alloc: Global, depth: usize) -> BenchResult<Vec<Field>> {
+    let mut steps = Vec::with_capacity(alloc, depth)?;
+    for i in 0..depth {
+        steps.push(numbered(alloc, "column", i)?)?;
+    }
+    Ok(steps)
+}
+
+fn numbered(alloc: Global, text: &str, i: usize) -> BenchResult<Field> {
+    let text = format!(in alloc; "{text}_{i}")?;
+    Ok(Field::from_text(alloc, text.as_str())?)
+}

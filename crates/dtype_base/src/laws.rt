@@ -6,6 +6,7 @@ ghost use Rattle.std.specs.Prelude.{◌≡◌, ◌+◌, ◌-◌, ◌*◌, ◌^�
 ghost use Rattle.std.specs.Iterator.{UpTo};
 ghost use Rattle.std.specs.Iterator.Runs.{YieldsInOrder, YieldsRefsInOrder};
 ghost use Rattle.std.specs.Ordering.{nat_cmp};
+ghost use Rattle.dtype_base.specs.Bytes.{Bytes};
 ghost use Rattle.dtype_base.specs.NameOrder.{IsWithinDigits};
 ghost use Rattle.dtype_base.specs.Primitives.{primitive, Unsigned, Signed, IsNarrowest, HoldsUnsigned, HoldsSigned};
 ghost use Rattle.dtype_base.specs.Decimals.{storage, IsBitWidth};
@@ -67,6 +68,13 @@ pub fn reserved_name_is_its_text()
 pub fn default_nullability_is_non_nullable()
     ensures { (n : Nullability) → ⟦<Nullability as Default>⟧.is_default n → n ≡ NonNullable }
 {}
+
+/// What a slice of bytes is seen as are bytes.
+pub fn slices_hold_bytes(bytes: &[u8])
+    ensures { Bytes bytes.now }
+{
+    let _ = bytes;
+}
 
 /// A lookup among fewer names than 2 ^ `digits` compares at most `digits + 1` of them.
 pub fn lookups_are_within_digits(digits: u32)

@@ -51,7 +51,7 @@ any_size_list_element_none d h g = ap any_size_list_element (tree_out d)
 
 pub map_parts_none : (d : DType) → ((x : MapDType) (n : Nullability) → d ≡ Map x n → ⊥) → map_parts (tree d) ≡ None
 unfolding out-DType Carrier.out
-map_parts_none (Map' b k c v o n) h = absurd (h (record { key = record { ptr = b.ptr; value = k }; value = record { ptr = c.ptr; value = v }; keys_sorted = o }) n refl)
+map_parts_none (Map' b k v o n) h = absurd (h (record { shared = record { ptr = b.ptr; value = record { key = k; value = v; keys_sorted = o } } }) n refl)
 map_parts_none d h = ap map_parts (tree_out d)
 
 pub struct_fields_none : (d : DType) → ((x : StructFields) (n : Nullability) → d ≡ Struct x n → ⊥) → struct_fields (tree d) ≡ None
@@ -66,7 +66,7 @@ union_variants_none d h = ap union_variants (tree_out d)
 
 pub extension_parts_none : (d : DType) → ((x : ExtDTypeRef) → d ≡ Extension x → ⊥) → extension_parts (tree d) ≡ None
 unfolding out-DType Carrier.out
-extension_parts_none (Extension' j b c e) h = absurd (h (record { id = j; metadata = b; storage = record { ptr = c.ptr; alloc = c.alloc; value = e } }) refl)
+extension_parts_none (Extension' b i m e) h = absurd (h (record { parts = record { ptr = b.ptr; alloc = b.alloc; value = record { id = i; metadata = m; storage = e } } }) refl)
 extension_parts_none d h = ap extension_parts (tree_out d)
 
 -- what a struct, a union, a map and an extension hold

@@ -68,7 +68,7 @@ not_fixed s t k m d h = ap (agree s (fixed_size_list t k m)) (tree_out d)
 
 pub not_map : (s : Nullabilities) (t u : Tree) (a : Bool) (m : Nullability) (d : DType) → ((x : MapDType) (n : Nullability) → d ≡ Map x n → ⊥) → agree s (map_of t u a m) (tree d) ≡ false
 unfolding out-DType Carrier.out
-not_map s t u a m (Map' b k c v o n) h = absurd (h (record { key = record { ptr = b.ptr; value = k }; value = record { ptr = c.ptr; value = v }; keys_sorted = o }) n refl)
+not_map s t u a m (Map' b k v o n) h = absurd (h (record { shared = record { ptr = b.ptr; value = record { key = k; value = v; keys_sorted = o } } }) n refl)
 not_map s t u a m d h = ap (agree s (map_of t u a m)) (tree_out d)
 
 pub not_struct : (s : Nullabilities) (fs : Fields) (m : Nullability) (d : DType) → ((x : StructFields) (n : Nullability) → d ≡ Struct x n → ⊥) → agree s (struct fs m) (tree d) ≡ false
@@ -83,7 +83,7 @@ not_union s vs m d h = ap (agree s (union vs m)) (tree_out d)
 
 pub not_extension : (s : Nullabilities) (i a : List ℕ) (t : Tree) (d : DType) → ((x : ExtDTypeRef) → d ≡ Extension x → ⊥) → agree s (extension i a t) (tree d) ≡ false
 unfolding out-DType Carrier.out
-not_extension s i a t (Extension' j b c e) h = absurd (h (record { id = j; metadata = b; storage = record { ptr = c.ptr; alloc = c.alloc; value = e } }) refl)
+not_extension s i a t (Extension' b j m e) h = absurd (h (record { parts = record { ptr = b.ptr; alloc = b.alloc; value = record { id = j; metadata = m; storage = e } } }) refl)
 not_extension s i a t d h = ap (agree s (extension i a t)) (tree_out d)
 
 pub struct_agree : (s : Nullabilities) (d e : DType) (x y : StructFields) (m n : Nullability) → d ≡ Struct x m → e ≡ Struct y n → agree s (tree d) (tree e) ≡ (allows s m n && agree_fields s (fields (children x)) (fields (children y)))

@@ -6,7 +6,7 @@ use Rattle.std.specs.Prelude.{◌≡◌, ℕ, List, [], ◌∷◌, refl}
 use Rattle.std.proofs.Common.{ap, sym, ◌∙◌, rules}
 use Rattle.dtype_base.specs.declared.nullability.Nullability.{Nullability}
 use Rattle.dtype_types.specs.Tree.{null, map_of, Tree, Fields, Variants, triples, fields, variants, struct, union}
-use Rattle.dtype_types.specs.TreeOf.{tree, extension_tree, children, choices, MapParts, ExtensionParts, type_step, extension_step, map_step, struct_step, union_step}
+use Rattle.dtype_types.specs.TreeOf.{tree, extension_tree, key_tree, value_tree, are_keys_sorted, children, choices, MapParts, ExtensionParts, type_step, extension_step, map_step, struct_step, union_step}
 use Rattle.dtype_types.specs.declared.dtype.DType.{DType, Map, Null, Struct, Struct', Union, Union', Extension, roll-out-DType, roll-DType, out-DType, map-DType}
 use Rattle.dtype_types.specs.declared.dtype.DType.TheFolds.{fold-ExtDTypeRef, fold-MapDType, fold-StructFields, fold-UnionVariants}
 use Rattle.dtype_types.specs.declared.dtype.DType.TheViews.{rolls-Struct, outs-Struct', rolls-Union, outs-Union'}
@@ -38,7 +38,7 @@ tree_out d = fold_out-DType Tree ExtensionParts MapParts Fields Variants type_st
 pub tree_null : tree Null ≡ null
 tree_null = search (rules, the_lemmas, fold_out-DType, fold-roll-DType)
 
-pub tree_map : (m : MapDType) (n : Nullability) → tree (Map m n) ≡ map_of (tree m.key.value) (tree m.value.value) m.keys_sorted n
+pub tree_map : (m : MapDType) (n : Nullability) → tree (Map m n) ≡ map_of (key_tree m) (value_tree m) (are_keys_sorted m) n
 tree_map m n = search (rules, the_lemmas, fold_out-DType, fold-roll-DType, fold_out-MapDType)
 
 pub tree_struct : (s : StructFields) (n : Nullability) → tree (Struct s n) ≡ struct (fields (children s)) n

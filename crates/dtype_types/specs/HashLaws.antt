@@ -14,7 +14,7 @@ use Rattle.dtype_types.specs.TreeOf.{tree, children, union_tree, map_shown, exte
 use Rattle.dtype_types.specs.Erase.{erase, erase_fields, erase_variants}
 use Rattle.dtype_types.specs.EqualityLaws.{agree-Decides, same_dtype}
 use Rattle.dtype_types.specs.PartsEquality.{same_fields-Decides, agree_variants-Decides, agree_maps-Decides, same_struct, same_union, same_map, same_extension}
-use Rattle.dtype_types.specs.Hashes.{Whole, Erased, hash_of, head_writes, field_count, field_writes, variant_count, variant_writes}
+use Rattle.dtype_types.specs.Hashes.{Whole, Erased, hash_of, head_writes, bytes_writes, field_count, field_writes, variant_count, variant_writes}
 use Rattle.dtype_types.specs.HashesOf.{struct_writes, union_writes, map_writes, extension_writes}
 use Rattle.dtype_types.specs.declared.dtype.DType.{DType}
 use Rattle.dtype_types.specs.declared.struct_fields.StructFields.{StructFields}
@@ -58,7 +58,7 @@ mutual
       ap (λ k. head_writes Erased (kind_number kind.Union) n ++ (fed.usize k ++ variant_writes Erased vs)) (variant_count-erase vs)
       ∙ ap (λ w. head_writes Erased (kind_number kind.Union) n ++ (fed.usize (variant_count (erase_variants vs)) ++ w)) (variant_writes-erase vs)
   hash-erase (variant n) = refl
-  hash-erase (extension id b t) = ap (λ w. head_writes Erased (kind_number kind.Extension) NonNullable ++ (fed.str id ++ (fed.slice fed.u8 b ++ w))) (hash-erase t)
+  hash-erase (extension id b t) = ap (λ w. head_writes Erased (kind_number kind.Extension) NonNullable ++ (fed.str id ++ (bytes_writes b ++ w))) (hash-erase t)
 
   field_count-erase : (fs : Fields) → field_count fs ≡ field_count (erase_fields fs)
   field_count-erase no_fields = refl

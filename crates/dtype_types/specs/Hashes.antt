@@ -5,7 +5,7 @@
 -- nullability, where nullabilities aren't forgotten, and then all that it holds. Counts stand before lists, and a
 -- mark behind texts.
 -- It is a function of the tree, so equal types feed alike.
-use Rattle.std.specs.Prelude.{ℕ, suc, ◌+◌, ◌*◌, [], ◌++◌}
+use Rattle.std.specs.Prelude.{ℕ, suc, ◌+◌, ◌*◌, List, [], ◌∷◌, ◌++◌, length}
 use Rattle.std.specs.Hash as fed
 use Rattle.std.specs.Hash.{HashWrites}
 use Rattle.dtype_base.specs.Primitives.{primitive as row}
@@ -41,6 +41,10 @@ head_writes s number n = fed.u8 (2 * number + nullable_mark s n)
 abbrev pub primitive_number : PType → ℕ
 primitive_number p = suc (kind_number kind.Extension) + (row p).number
 
+-- how many bytes there are, and then the bytes at once
+abbrev pub bytes_writes : List ℕ → HashWrites
+bytes_writes b = fed.usize (length b) ++ (b ∷ [])
+
 -- how many fields and how many variants there are
 abbrev pub field_count : Fields → ℕ
 field_count no_fields = 0
@@ -64,7 +68,7 @@ abbrev mutual
   hash_of s (struct fs n) = head_writes s (kind_number kind.Struct) n ++ (fed.usize (field_count fs) ++ field_writes s fs)
   hash_of s (union vs n) = head_writes s (kind_number kind.Union) n ++ (fed.usize (variant_count vs) ++ variant_writes s vs)
   hash_of s (variant n) = head_writes s (kind_number kind.Variant) n
-  hash_of s (extension id b t) = head_writes s (kind_number kind.Extension) NonNullable ++ (fed.str id ++ (fed.slice fed.u8 b ++ hash_of s t))
+  hash_of s (extension id b t) = head_writes s (kind_number kind.Extension) NonNullable ++ (fed.str id ++ (bytes_writes b ++ hash_of s t))
 
   -- each field: its name and its type
   pub field_writes : Part → Fields → HashWrites

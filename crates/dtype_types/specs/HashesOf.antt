@@ -5,7 +5,7 @@
 use Rattle.std.specs.Prelude.{◌++◌}
 use Rattle.std.specs.Hash as fed
 use Rattle.std.specs.Hash.{HashWrites}
-use Rattle.dtype_types.specs.Hashes.{Part, hash_of, field_count, field_writes, variant_count, variant_writes}
+use Rattle.dtype_types.specs.Hashes.{Part, hash_of, bytes_writes, field_count, field_writes, variant_count, variant_writes}
 use Rattle.dtype_types.specs.TreeOf.{struct_tree, union_tree, key_tree, value_tree, are_keys_sorted, extension_id, extension_metadata, storage_tree}
 use Rattle.dtype_types.specs.declared.struct_fields.StructFields.{StructFields}
 use Rattle.dtype_types.specs.declared.union_variants.UnionVariants.{UnionVariants}
@@ -22,4 +22,4 @@ abbrev pub union_writes : Part → UnionVariants → HashWrites
 union_writes s u = fed.usize (variant_count (union_tree u)) ++ variant_writes s (union_tree u)
 
 abbrev pub extension_writes : Part → ExtDTypeRef → HashWrites
-extension_writes s e = fed.str (extension_id e) ++ (fed.slice fed.u8 (extension_metadata e) ++ hash_of s (storage_tree e))
+extension_writes s e = fed.str (extension_id e) ++ (bytes_writes (extension_metadata e) ++ hash_of s (storage_tree e))

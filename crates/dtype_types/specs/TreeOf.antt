@@ -54,10 +54,10 @@ type_step (o.Variant n) = variant n
 type_step (o.Extension e) = extension e.0 e.1 e.2
 
 abbrev pub extension_step : ExtDTypeRef-F Tree ExtensionParts MapParts Fields Variants → ExtensionParts
-extension_step e = (e.id, e.metadata.items, e.storage.value)
+extension_step e = (e.parts.value.id, e.parts.value.metadata.items, e.parts.value.storage)
 
 abbrev pub map_step : MapDType-F Tree ExtensionParts MapParts Fields Variants → MapParts
-map_step m = (m.key.value, m.value.value, m.keys_sorted)
+map_step m = (m.shared.value.key, m.shared.value.value, m.shared.value.keys_sorted)
 
 abbrev pub struct_step : StructFields-F Tree ExtensionParts MapParts Fields Variants → Fields
 struct_step s = fields s.shared.value
@@ -114,10 +114,10 @@ union_tags u = variant_tags (choices u)
 
 -- a map's key, its value, and whether the keys are sorted
 abbrev pub map_key : MapDType → DType
-map_key m = m.key.value
+map_key m = m.shared.value.key
 
 abbrev pub map_value : MapDType → DType
-map_value m = m.value.value
+map_value m = m.shared.value.value
 
 abbrev pub key_tree : MapDType → Tree
 key_tree m = tree (map_key m)
@@ -126,17 +126,17 @@ abbrev pub value_tree : MapDType → Tree
 value_tree m = tree (map_value m)
 
 abbrev pub are_keys_sorted : MapDType → Flag
-are_keys_sorted m = m.keys_sorted
+are_keys_sorted m = m.shared.value.keys_sorted
 
 -- an extension's id, its metadata and its storage
 abbrev pub extension_id : ExtDTypeRef → List ℕ
-extension_id e = e.id
+extension_id e = e.parts.value.id
 
 abbrev pub extension_metadata : ExtDTypeRef → List ℕ
-extension_metadata e = e.metadata.items
+extension_metadata e = e.parts.value.metadata.items
 
 abbrev pub extension_storage : ExtDTypeRef → DType
-extension_storage e = e.storage.value
+extension_storage e = e.parts.value.storage
 
 abbrev pub storage_tree : ExtDTypeRef → Tree
 storage_tree e = tree (extension_storage e)

@@ -5,14 +5,13 @@ ghost use Rattle.std.specs.Prelude.{◌≡◌, ◌↔◌, ℕ, IsTrue, IfOk, IsO
 ghost use Rattle.std.specs.Prelude.{◌&&◌};
 ghost use Rattle.std.specs.Str.{bytes_eq};
 ghost use Rattle.std.specs.Rc.{rc_str_bytes};
-ghost use Rattle.dtype_base.specs.Bytes.{Bytes};
 ghost use Rattle.dtype_base.specs.declared.vortex_error.VortexError.TheVariants.{OutOfMemory};
 
 use crate::DType;
-use crate::dtype::copies::boxed_copy;
 use crate::dtype::equality::{Nullabilities, agree};
 use crate::dtype::hash::{Hashed, feed};
 use crate::dtype::width::Width;
+use dtype_base::laws::slices_hold_bytes;
 use dtype_base::{Nullability, VortexResult};
 use std::alloc::Global;
 use std::fmt;
@@ -107,9 +106,15 @@ impl fmt::Display for ExtId {
 #[derive(Debug, Drop)]
 #[cycle(dtype)]
 pub struct ExtDTypeRef {
+    parts: Box<Parts<DType>>,
+}
+
+// What an extension holds, with its storage: in one box, so that a `DType` is small.
+#[derive(Debug, Drop)]
+struct Parts<T> {
     id: ExtId,
     metadata: Vec<u8>,
-    storage: Box<DType>,
+    storage: T,
 }
 
 impl ExtDTypeRef {
@@ -127,7 +132,7 @@ impl ExtDTypeRef {
     pub fn id(&self) -> &ExtId
         ensures { result.now ≡ extension_id self.now }
     {
-        &self.id
+        &self.parts.id
     }
 
     /// The extension of this id, metadata and storage. Refuses 0 (OutOfMemory) alone.
@@ -143,11 +148,14 @@ impl ExtDTypeRef {
         ensures valid { IsValid storage → IfOk result IsValidExtension }
         ensures refused { IsOkUnless result OutOfMemory }
     {
-        check_bytes(&metadata);
-        Ok(ExtDTypeRef {
+        slices_hold_bytes(&metadata);
+        let parts = Parts {
             id,
             metadata,
-            storage: Box::new(alloc, storage)?,
+            storage,
+        };
+        Ok(ExtDTypeRef {
+            parts: Box::new(alloc, parts)?,
         })
     }
 
@@ -158,19 +166,19 @@ impl ExtDTypeRef {
         ensures storage { tree result.2 ≡ storage_tree self }
         ensures valid { IsValidExtension self → IsValid result.2 }
     {
-        let ExtDTypeRef {
+        let Parts {
             id,
             metadata,
             storage,
-        } = self;
-        (id, metadata, Box::into_inner(storage))
+        } = Box::into_inner(self.parts);
+        (id, metadata, storage)
     }
 
     /// The metadata, as bytes.
     pub fn metadata_bytes(&self) -> &[u8]
         ensures { result.now ≡ extension_metadata self.now }
     {
-        &self.metadata
+        &self.parts.metadata
     }
 
     /// A copy of the metadata. Refuses 0 (OutOfMemory) alone.
@@ -178,7 +186,7 @@ impl ExtDTypeRef {
         ensures ok { IfOk result (λ v. v.items ≡ extension_metadata self.now) }
         ensures refused { IsOkUnless result OutOfMemory }
     {
-        Ok(Vec::from_slice(alloc, &self.metadata)?)
+        Ok(Vec::from_slice(alloc, &self.parts.metadata)?)
     }
 
     /// What prints how many bytes of metadata there are.
@@ -186,7 +194,7 @@ impl ExtDTypeRef {
         ensures { result ≡ extension_metadata self.now }
     {
         MetadataDisplay {
-            bytes: &self.metadata,
+            bytes: &self.parts.metadata,
         }
     }
 
@@ -203,7 +211,7 @@ impl ExtDTypeRef {
     pub fn nullability(&self) -> Nullability
         ensures { result ≡ nullability (storage_tree self.now) }
     {
-        self.storage.nullability()
+        self.parts.storage.nullability()
     }
 
     /// Whether values may be null.
@@ -218,7 +226,7 @@ impl ExtDTypeRef {
         ensures storage { tree result.now ≡ storage_tree self.now }
         ensures valid { IsValidExtension self.now → IsValid result.now }
     {
-        &self.storage
+        &self.parts.storage
     }
 
     // Whether the ids and the metadata are equal and the storages agree.
@@ -228,9 +236,9 @@ impl ExtDTypeRef {
             && bytes_eq (extension_metadata self.now) (extension_metadata other.now)
             && agree rule (storage_tree self.now) (storage_tree other.now)) }
     {
-        self.id == other.id
-            && self.metadata.as_slice() == other.metadata.as_slice()
-            && agree(&self.storage, &other.storage, rule)
+        self.parts.id == other.parts.id
+            && self.parts.metadata.as_slice() == other.parts.metadata.as_slice()
+            && agree(&self.parts.storage, &other.parts.storage, rule)
     }
 
     // Feeds a hasher the id, the metadata and the storage.
@@ -238,9 +246,10 @@ impl ExtDTypeRef {
     pub(crate) fn feed<H: Hasher>(&self, rule: Hashed, state: &mut H)
         ensures { state.new ≡ fold H.write state.old (extension_writes (part_of rule) self.now) }
     {
-        self.id.hash(state);
-        self.metadata.hash(state);
-        feed(&self.storage, rule, state);
+        self.parts.id.hash(state);
+        state.write_usize(self.parts.metadata.len());
+        state.write(&self.parts.metadata);
+        feed(&self.parts.storage, rule, state);
     }
 
     /// An extension type equal to this one. Refuses 0 (OutOfMemory) alone.
@@ -250,14 +259,10 @@ impl ExtDTypeRef {
         ensures valid { IsValidExtension self.now → IfOk result IsValidExtension }
         ensures refused { IsOkUnless result OutOfMemory }
     {
-        let id = self.id.try_clone(alloc)?;
-        let metadata = Vec::from_slice(alloc, &self.metadata)?;
-        let storage = boxed_copy(alloc, &self.storage)?;
-        Ok(ExtDTypeRef {
-            id,
-            metadata,
-            storage,
-        })
+        let id = self.parts.id.try_clone(alloc)?;
+        let metadata = Vec::from_slice(alloc, &self.parts.metadata)?;
+        let storage = self.parts.storage.try_clone(alloc)?;
+        ExtDTypeRef::from_parts(alloc, id, metadata, storage)
     }
 
     // Whether the storage is nested.
@@ -265,7 +270,7 @@ impl ExtDTypeRef {
     pub(crate) fn is_nested(&self) -> bool
         ensures { result ≡ is_nested (storage_tree self.now) }
     {
-        self.storage.is_nested()
+        self.parts.storage.is_nested()
     }
 
     // The width of the storage.
@@ -273,7 +278,7 @@ impl ExtDTypeRef {
     pub(crate) fn width(&self) -> Width
         ensures { Measures result (extension_tree self.now) }
     {
-        self.storage.width()
+        self.parts.storage.width()
     }
 
     // Whether the storage can be made non-nullable.
@@ -281,7 +286,7 @@ impl ExtDTypeRef {
     pub(crate) fn can_be_nonnullable(&self) -> bool
         ensures { IsTrue result ↔ CanBeNonNullable (extension_tree self.now) }
     {
-        self.storage.can_be_nonnullable()
+        self.parts.storage.can_be_nonnullable()
     }
 
     /// The extension with the storage's outer nullability changed; the id and the metadata stay.
@@ -293,14 +298,10 @@ impl ExtDTypeRef {
         ensures valid { IsValidExtension self.now → IfOk result IsValidExtension }
         ensures refused { IsOkUnless result OutOfMemory }
     {
-        let storage = self.storage.set_nullability(alloc, n)?;
-        let id = self.id.try_clone(alloc)?;
-        let metadata = Vec::from_slice(alloc, &self.metadata)?;
-        Ok(ExtDTypeRef {
-            id,
-            metadata,
-            storage: Box::new(alloc, storage)?,
-        })
+        let storage = self.parts.storage.set_nullability(alloc, n)?;
+        let id = self.parts.id.try_clone(alloc)?;
+        let metadata = Vec::from_slice(alloc, &self.parts.metadata)?;
+        ExtDTypeRef::from_parts(alloc, id, metadata, storage)
     }
 }
 
@@ -342,13 +343,6 @@ impl Hash for ExtDTypeRef {
     }
 }
 
-// Nothing at run time: a proof learns that the items are bytes.
-fn check_bytes(bytes: &[u8])
-    ensures { Bytes bytes.now }
-{
-    let _ = bytes;
-}
-
 /// How many bytes of metadata an extension has, to be printed, seen as the metadata.
 #[derive(Debug, Drop)]
 pub struct MetadataDisplay<'a> {
@@ -381,10 +375,10 @@ impl fmt::Display for ExtDTypeRef {
 
     #[cycle(text)]
     fn fmt<W: fmt::Write>(&self, f: &mut fmt::Formatter<W>) -> fmt::Result {
-        let id = &self.id;
-        let count = self.metadata.len();
+        let id = &self.parts.id;
+        let count = self.parts.metadata.len();
         write!(f, "{id}[{count}B](")?;
-        self.storage.fmt(f)?;
+        self.parts.storage.fmt(f)?;
         write!(f, ")")
     }
 }

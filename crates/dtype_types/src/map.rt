@@ -19,8 +19,14 @@ use std::rc::Rc;
 #[derive(Debug, Drop)]
 #[cycle(dtype)]
 pub struct MapDType {
-    key: Rc<DType>,
-    value: Rc<DType>,
+    shared: Rc<Entries<DType>>,
+}
+
+// What a map holds, which its copies share.
+#[derive(Debug, Drop)]
+struct Entries<T> {
+    key: T,
+    value: T,
     keys_sorted: bool,
 }
 
@@ -48,10 +54,13 @@ impl MapDType {
         if key.is_nullable() {
             return Err(VortexError::MapKeyNullable);
         }
-        Ok(MapDType {
-            key: Rc::new(alloc, key)?,
-            value: Rc::new(alloc, value)?,
+        let entries = Entries {
+            key,
+            value,
             keys_sorted,
+        };
+        Ok(MapDType {
+            shared: Rc::new(alloc, entries)?,
         })
     }
 
@@ -60,7 +69,7 @@ impl MapDType {
         ensures key { tree result.now ≡ key_tree self.now }
         ensures valid { IsValidMap self.now → IsValid result.now }
     {
-        &self.key
+        &self.shared.key
     }
 
     /// The type of the values.
@@ -68,14 +77,14 @@ impl MapDType {
         ensures value { tree result.now ≡ value_tree self.now }
         ensures valid { IsValidMap self.now → IsValid result.now }
     {
-        &self.value
+        &self.shared.value
     }
 
     /// Whether the keys are sorted.
     pub fn keys_sorted(&self) -> bool
         ensures { result ≡ are_keys_sorted self.now }
     {
-        self.keys_sorted
+        self.shared.keys_sorted
     }
 
     /// The type of the entries: the non-nullable struct of `key` and `value`. Refuses 0 (OutOfMemory)
@@ -87,8 +96,8 @@ impl MapDType {
         ensures refused { IsOkUnless result OutOfMemory }
     {
         let names = FieldNames::from_texts(alloc, &["key", "value"])?;
-        let key = self.key.try_clone(alloc)?;
-        let value = self.value.try_clone(alloc)?;
+        let key = self.key_dtype().try_clone(alloc)?;
+        let value = self.value_dtype().try_clone(alloc)?;
         let fields = StructFields::new(alloc, names, vec![in alloc; key, value]?)?;
         Ok(DType::Struct(fields, Nullability::NonNullable))
     }
@@ -100,9 +109,9 @@ impl MapDType {
             && agree rule (value_tree self.now) (value_tree other.now)
             && beq (are_keys_sorted self.now) (are_keys_sorted other.now)) }
     {
-        agree(&self.key, &other.key, rule)
-            && agree(&self.value, &other.value, rule)
-            && self.keys_sorted == other.keys_sorted
+        agree(&self.shared.key, &other.shared.key, rule)
+            && agree(&self.shared.value, &other.shared.value, rule)
+            && self.shared.keys_sorted == other.shared.keys_sorted
     }
 
     // Feeds a hasher the key, the value, and whether the keys are sorted.
@@ -110,9 +119,9 @@ impl MapDType {
     pub(crate) fn feed<H: Hasher>(&self, rule: Hashed, state: &mut H)
         ensures { state.new ≡ fold H.write state.old (map_writes (part_of rule) self.now) }
     {
-        feed(&self.key, rule, state);
-        feed(&self.value, rule, state);
-        self.keys_sorted.hash(state);
+        feed(&self.shared.key, rule, state);
+        feed(&self.shared.value, rule, state);
+        self.shared.keys_sorted.hash(state);
     }
 
     /// A map type equal to this one, which shares its key and value. Refuses 0 (OutOfMemory) alone.
@@ -125,12 +134,8 @@ impl MapDType {
         ensures valid { IsValidMap self.now → IfOk result IsValidMap }
         ensures refused { IsOkUnless result OutOfMemory }
     {
-        let key = self.key.clone()?;
-        let value = self.value.clone()?;
         Ok(MapDType {
-            key,
-            value,
-            keys_sorted: self.keys_sorted,
+            shared: self.shared.clone()?,
         })
     }
 }
@@ -180,11 +185,12 @@ impl fmt::Display for MapDType {
 
     #[cycle(text)]
     fn fmt<W: fmt::Write>(&self, f: &mut fmt::Formatter<W>) -> fmt::Result {
-        let sorted = self.keys_sorted;
+        let entries = &*self.shared;
+        let sorted = entries.keys_sorted;
         write!(f, "map(")?;
-        self.key.fmt(f)?;
+        entries.key.fmt(f)?;
         write!(f, ", ")?;
-        self.value.fmt(f)?;
+        entries.value.fmt(f)?;
         write!(f, ", keys_sorted={sorted})")
     }
 }

@@ -5,11 +5,12 @@
 ghost use Rattle.std.specs.Prelude.{◌≡◌, IfOk, IfErr, Some, None};
 ghost use Rattle.dtype_types.specs.TreeOf.{tree};
 ghost use Rattle.dtype_types.specs.Valid.{Valid};
-ghost use Rattle.vortex_dtype.specs.Meaning.{Bytes, Lawful};
+ghost use Rattle.vortex_dtype.specs.Meaning.{Lawful};
 ghost use Rattle.vortex_dtype.specs.Refusals.{RefusedWhere};
 
 use crate::ExtVTable;
 use dtype_base::VortexResult;
+use dtype_base::laws::slices_hold_bytes;
 use dtype_types::DType;
 use std::alloc::Global;
 use std::marker::Model;
@@ -118,7 +119,7 @@ pub(crate) fn boxed_deserialize(
     ensures refused { Valid (tree storage.now)
         → IfErr result (RefusedWhere (rewrites plugin.now metadata.now (tree storage.now) ≡ None)) }
 {
-    check_bytes(metadata);
+    slices_hold_bytes(metadata);
     written_back(plugin, alloc, metadata, storage)
 }
 
@@ -135,13 +136,6 @@ fn written_back(
         → IfErr result (RefusedWhere (rewrites plugin.now metadata.now (tree storage.now) ≡ None)) }
 {
     plugin.deserialize(alloc, metadata, storage)
-}
-
-// Nothing at run time: a proof learns that the items are bytes.
-fn check_bytes(bytes: &[u8])
-    ensures { Bytes bytes.now }
-{
-    let _ = bytes;
 }
 
 /// The two laws hold of every plugin.

@@ -11,7 +11,7 @@ use Rattle.dtype_types.proofs.Depths.{no_deeper}
 use Rattle.dtype_types.proofs.Walks.{next_of, none_of}
 use Rattle.dtype_types.proofs.Texts.{map_all, struct_all, union_all, extension_all, leading, leading_all, one_written, all_written, named_text, tagged_text}
 use Rattle.dtype_types.specs.Tree.{fields, variants}
-use Rattle.dtype_types.specs.Text.{text, field_texts, choice_texts, consecutive, tag_text}
+use Rattle.dtype_types.specs.Text.{text, bool_text, field_texts, choice_texts, consecutive, tag_text}
 use Rattle.dtype_types.specs.Lists.{seconds, types_of, lent_pair, lent_triple}
 use Rattle.dtype_types.specs.TreeOf.{struct_dtypes, struct_tree, union_dtypes, union_tree, tree, with_trees, with_tagged_trees}
 use Rattle.dtype_types.specs.declared.dtype.DType.{size-DType}
@@ -46,7 +46,8 @@ map::MapDTypeDisplay::fmt-returns-clause-writes g t c = λ plain ok.
     let w3 = c.in_ok-write-2.ensures.writes w2.plain refl in
     let w4 = c.in_ok-fmt-2.ensures.writes w3.plain refl in
     let w5 = c.write-3.ensures.writes w4.plain ok in
-    has_written_append _ _ _ _ _ _ w1 (has_written_append _ _ _ _ _ _ w2 (has_written_append _ _ _ _ _ _ w3 (has_written_append _ _ _ _ _ _ w4 w5)))
+    let shown = ap (λ e. codes "map(" ++ (text (tree e.key) ++ (codes ", " ++ (text (tree e.value) ++ (codes ", keys_sorted=" ++ (bool_text e.keys_sorted ++ codes ")")))))) c.deref-entries.ensures in
+    has_written_of_eq _ _ _ _ _ shown (has_written_append _ _ _ _ _ _ w1 (has_written_append _ _ _ _ _ _ w2 (has_written_append _ _ _ _ _ _ w3 (has_written_append _ _ _ _ _ _ w4 w5))))
 
 pub struct_fields::StructFieldsDisplay::fmt-loop-name-init : goal.struct_fields::StructFieldsDisplay::fmt-loop-name-init
 struct_fields::StructFieldsDisplay::fmt-loop-name-init g t c = record {

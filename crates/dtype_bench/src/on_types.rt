@@ -104,7 +104,7 @@ impl<'a> Operation for Copied<'a> {
         let mut sum = 0usize;
         for i in 0..times {
             let copy = turn(&self.0.types, i)?.try_clone(alloc)?;
-            sum = sum.wrapping_add(usize::from(copy.is_nullable()));
+            sum = sum.wrapping_add(usize::from(copy.is_struct()));
         }
         Ok(sum)
     }
@@ -124,7 +124,7 @@ impl<'a> Operation for WithNullability<'a> {
         for i in 0..times {
             let dtype = turn(&self.0.types, i)?;
             let copy = dtype.with_nullability(alloc, Nullability::Nullable)?;
-            sum = sum.wrapping_add(usize::from(copy.is_nullable()));
+            sum = sum.wrapping_add(usize::from(copy.is_struct()));
         }
         Ok(sum)
     }

@@ -22,3 +22,5 @@ pub mod Visiting
 pub mod TrieGrowth
 pub mod ChildCopies
 pub mod NodeUpdates
+pub mod StepKeys
+pub mod ChildLists

@@ -20,3 +20,5 @@ pub mod PathSetLaws
 pub mod Trie
 pub mod Meets
 pub mod Children
+pub mod StepKeys
+pub mod ChildLists

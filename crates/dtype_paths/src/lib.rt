@@ -18,6 +18,7 @@
 //! only tested, is in `docs/SPECIFICATION.md`.
 #![tactic(auto)]
 
+mod child_list;
 mod children;
 mod field;
 mod field_mask;
@@ -25,6 +26,7 @@ mod field_path;
 mod field_path_set;
 pub mod laws;
 mod node;
+mod step_key;
 mod trie;
 
 pub use field::Field;

@@ -182,6 +182,47 @@ fn many_paths(rt: HostRuntime) -> Result<(), Fail> {
     Ok(())
 }
 
+// Names below one node, as many as come to stand there: short ones, and long ones that end alike.
+fn names_below(alloc: Global, count: u32) -> Result<Vec<String>, Fail> {
+    let mut names = Vec::new(alloc);
+    for i in 0..count {
+        names.push(format!(in alloc; "parent.{i}")?)?;
+        names.push(format!(in alloc; "parent.{i}_of_the_columns")?)?;
+    }
+    Ok(names)
+}
+
+fn holds_all(alloc: Global, set: &FieldPathSet, names: &[String]) -> Result<bool, Fail> {
+    for name in names {
+        if !contains(alloc, set, name.as_str())? {
+            return Ok(false);
+        }
+    }
+    Ok(true)
+}
+
+#[test]
+fn any_number_of_children(rt: HostRuntime) -> Result<(), Fail> {
+    let alloc = rt.alloc();
+    let names = names_below(alloc, 20)?;
+    let mut set = FieldPathSet::new(alloc);
+    for (i, name) in names.iter().enumerate() {
+        assert!(rt;
+            !contains(alloc, &set, name.as_str())?,
+            "{name} is yet to come"
+        );
+        set.insert(path(alloc, name.as_str())?)?;
+        assert!(rt; holds_all(alloc, &set, &names[..=i])?, "up to {name}");
+        let copy = set.try_clone()?;
+        assert!(rt;
+            holds_all(alloc, &copy, &names[..=i])?,
+            "a copy, up to {name}"
+        );
+        assert_eq!(rt; counted(copy)?, (i + 1, i as u64 + 3));
+    }
+    Ok(())
+}
+
 // Nothing goes down a path by the stack.
 #[test]
 fn a_long_path(rt: HostRuntime) -> Result<(), Fail> {

@@ -10,11 +10,17 @@ use std::alloc::Global;
 use std::fmt::Display;
 use std::vec;
 
+// Names, more than are looked up one by one.
+const MANY: [&str; 18] = [
+    "a", "b", "c", "d", "e", "f", "g", "h", "i", "j", "k", "l", "m", "n", "o", "p", "q", "r",
+];
+
 // Makes the call of this name, if it is one of these.
 pub fn answer(alloc: Global, call: &str) -> VortexResult<Option<String>> {
     let answer = match call {
         "FieldPathSet::from_iter" => shown(alloc, lent(alloc, &three(alloc)?)?),
         "FieldPathSet::try_clone" => shown(alloc, lent(alloc, &three(alloc)?.try_clone()?)?),
+        "FieldPathSet::try_clone of many" => try_clone_of_many(alloc),
         "FieldPathSet::iter" => iter(alloc),
         "FieldPathSet::into_iter" => into_iter(alloc),
         _ => return Ok(None),
@@ -27,7 +33,9 @@ pub fn change(rt: &impl Eprint, alloc: Global, call: &str) -> VortexResult<Optio
     let answer = match call {
         "FieldPathSet::insert" => insert(rt, alloc, &["a.b"], "a.c.d"),
         "FieldPathSet::insert into none" => insert(rt, alloc, &[], "a.b"),
-        "FieldPathSet::insert beside many" => insert(rt, alloc, &["a", "b", "c"], "x.y"),
+        "FieldPathSet::insert beside a few" => insert(rt, alloc, &["a", "b", "c"], "x.y"),
+        "FieldPathSet::insert beside sixteen" => insert(rt, alloc, &MANY[..16], "x.y"),
+        "FieldPathSet::insert beside many" => insert(rt, alloc, &MANY, "x.y"),
         "FieldPathSet::insert a beginning" => insert(rt, alloc, &["a.b"], "a"),
         "FieldPathSet::insert the root" => insert(rt, alloc, &["a.b"], ""),
         "FieldPathSet::insert a repeat" => insert(rt, alloc, &["a.b"], "a.b"),
@@ -111,6 +119,11 @@ fn extend(rt: &impl Eprint, alloc: Global) -> VortexResult<String> {
 
 fn three(alloc: Global) -> VortexResult<FieldPathSet> {
     set(alloc, &["a.b", "x", "a"])
+}
+
+fn try_clone_of_many(alloc: Global) -> VortexResult<String> {
+    let many = set(alloc, &MANY)?;
+    shown(alloc, lent(alloc, &many.try_clone()?)?)
 }
 
 fn iter(alloc: Global) -> VortexResult<String> {

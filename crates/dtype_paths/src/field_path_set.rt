@@ -67,9 +67,23 @@ impl FieldPathSet {
             × WholeRun I.IntoIter.next_gives it (λ run. SameMembers s run.items)) }
         ensures refused { IsOkUnless result OutOfMemory }
     {
-        let mut set = FieldPathSet::new(alloc);
+        let paths = paths.into_iter();
+        let (least, _) = paths.size_hint();
+        let mut set = FieldPathSet::with_room(alloc, least)?;
         set.extend(paths)?;
         Ok(set)
+    }
+
+    // The set with no path, with room for so many, and for some nodes that they share.
+    fn with_room(alloc: Global, paths: usize) -> VortexResult<Self>
+        ensures none { IfOk result (λ s. s ≡ []) }
+        ensures refused { IsOkUnless result OutOfMemory }
+    {
+        let nodes = paths.saturating_add(paths / 8).saturating_add(2);
+        Ok(FieldPathSet {
+            alloc,
+            nodes: Vec::with_capacity(alloc, nodes)?,
+        })
     }
 
     /// Whether the path is in the set. Takes no memory.

@@ -2,7 +2,7 @@
 // SPDX-FileCopyrightText: Copyright the Vortex contributors
 
 // The positions of names in the order of their bytes, with the keys of the names, and the search in them.
-ghost use Rattle.std.specs.Prelude.{◌≡◌, ◌≢◌, ◌↔◌, ℕ, ◌+◌, ◌<◌, ◌≤◌, ◌^◌, AllPairs, IsTrue, IfOk, IfSome, IfNone, IsOkUnless, length};
+ghost use Rattle.std.specs.Prelude.{◌≡◌, ◌≢◌, ◌↔◌, ℕ, ◌+◌, ◌<◌, ◌≤◌, ◌^◌, AllPairs, IsTrue, IfOk, IfSome, IfNone, IsOkUnless, OnOk, length};
 ghost use Rattle.std.specs.List.Sorted.{IsPermutation, IsSorted};
 ghost use Rattle.std.specs.Ordering.{nat_cmp};
 ghost use Rattle.dtype_base.specs.FieldNames.{FirstAt, IsAbsent};
@@ -38,15 +38,18 @@ pub(crate) fn places_of(
         let key = key_of(names[position].as_str().as_bytes(), shared);
         places.push(Place { key, position })?;
     }
-    sort_places(names, &mut places);
+    sort_places(names, &mut places)?;
     Ok(places)
 }
 
-fn sort_places(names: &[FieldName], places: &mut Vec<Place>)
+// By std's stable sort, which takes memory, but finds what is in order already, as numbered names mostly are.
+fn sort_places(names: &[FieldName], places: &mut Vec<Place>) -> VortexResult<()>
     ensures each { IsPermutation places.old.items places.new.items }
-    ensures rising { IsSorted (place_cmp names.now) places.new.items }
+    ensures rising { OnOk result (IsSorted (place_cmp names.now) places.new.items) }
+    ensures refused { IsOkUnless result OutOfMemory }
 {
-    places.sort_unstable_by(|a, b| compare_places(names, a, b));
+    places.sort_by(|a, b| compare_places(names, a, b))?;
+    Ok(())
 }
 
 // By the keys, then as the positions compare.

@@ -112,7 +112,9 @@ impl ChildList {
     }
 
     // Whether a map is to take them before there is one more.
-    pub(crate) fn is_full(&self) -> bool {
+    pub(crate) fn is_full(&self) -> bool
+        ensures { IsTrue result ↔ 16 ≤ length self.now }
+    {
         self.children.len() >= MOST
     }
 

@@ -28,4 +28,4 @@ pub returns-clause-ok : goal.returns-clause-ok
 returns-clause-ok c =
     let names = c.args.names.now in
     let all : c.loop-position.position ≡ length names = omega (arith, c.loop-position-test.false) in
-    index_of names c.args.shared c.requires c.loop-position.places.items _ (c.loop-position.invariant.in_order ∙ ap (range_with_len 0) all) c.loop-position.invariant.keyed c.sort_places.ensures.each c.sort_places.ensures.rising
+    index_of names c.args.shared c.requires c.loop-position.places.items _ (c.loop-position.invariant.in_order ∙ ap (range_with_len 0) all) c.loop-position.invariant.keyed c.sort_places.ensures.each c.in_ok-sort_places.ensures.rising

@@ -11,4 +11,4 @@ use Rattle.dtype_base.proofs.name_order.sort_places.Goals as goal
 pub returns-clause-rising : goal.returns-clause-rising
 returns-clause-rising c =
     let names = c.args.names.now in
-    c.sort_unstable_by.ensures.sorted (λ p q. is_lt (place_cmp names p q)) (ranks_by (place_total names) (λ p. p)) (always_returns_same _ _ _ (λ a r f k. search rules))
+    c.in_ok-sort_by.ensures.sorted (λ p q. is_lt (place_cmp names p q)) (ranks_by (place_total names) (λ p. p)) (always_returns_same _ _ _ (λ a r f k. search rules))

@@ -24,9 +24,9 @@ const MOST: usize = 16;
 // A step, with its key, and the place to which it leads.
 #[derive(Drop)]
 pub(crate) struct Child {
-    pub(crate) key: u64,
-    pub(crate) step: Field,
-    pub(crate) place: usize,
+    key: u64,
+    step: Field,
+    place: usize,
 }
 
 impl Child {

@@ -5,7 +5,7 @@
 use Rattle.std.proofs.Common.{◌≡◌, ℕ, ◌<◌, List, [], ◌∷◌, ◌++◌, codes, length, refl, sym, ap, ◌∙◌, arith, append_assoc}
 use Rattle.dtype_base.specs.Nullability.{nullability_text}
 use Rattle.dtype_base.specs.declared.nullability.Nullability.{Nullability}
-use Rattle.dtype_types.proofs.TreeLaws.{tree_struct}
+use Rattle.dtype_types.specs.lemmas.TreeLaws.{tree_struct}
 use Rattle.dtype_types.specs.IndentedText.{indented, indented_fields, indented_braces, last_line}
 use Rattle.dtype_types.specs.Text.{joined}
 use Rattle.dtype_types.specs.Tree.{Tree, fields}

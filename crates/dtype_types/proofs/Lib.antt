@@ -1,10 +1,8 @@
 -- SPDX-License-Identifier: Apache-2.0
 -- SPDX-FileCopyrightText: Copyright the Vortex contributors
 
-pub mod TreeLaws
 pub mod Sides
 pub mod Parts
-pub mod Validity
 pub mod Walks
 pub mod Depths
 pub mod FieldLookups
@@ -22,14 +20,11 @@ pub mod VariantLookups
 pub mod Widths
 pub mod Projections
 pub mod IndentedTexts
-pub mod SettingLaws
-pub mod TagLaws
 pub mod SubLaws
 pub mod SetSub
 pub mod SubValues
 pub mod SubTest
 pub mod TellLaws
 pub mod TellGiven
-pub mod NullValues
 pub mod SizeZero
-pub mod JoinedFields
+pub mod ConsecutiveTags

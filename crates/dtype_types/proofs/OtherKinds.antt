@@ -12,7 +12,7 @@ use Rattle.dtype_types.specs.Tree.{Tree, Fields, Variants, fields, variants, nul
 use Rattle.dtype_types.specs.TreeOf.{tree, children, choices}
 use denote.Hole.Carrier
 use Rattle.dtype_types.specs.declared.dtype.DType.{out-DType}
-use Rattle.dtype_types.proofs.TreeLaws.{tree_out, struct_is, union_is, tree_struct, tree_union}
+use Rattle.dtype_types.specs.lemmas.TreeLaws.{tree_out, struct_is, union_is, tree_struct, tree_union}
 use Rattle.dtype_types.specs.declared.dtype.equality.Nullabilities.{Nullabilities}
 use Rattle.dtype_types.specs.Equality.{agree, agree_fields, agree_variants, allows}
 use Rattle.dtype_types.specs.declared.dtype.DType.{DType, Null, Bool as Bool_of, Primitive, Decimal, Utf8, Binary, Variant, List as List_of, List', FixedSizeList, FixedSizeList', Map, Map', Struct, Struct', Union, Union', Extension, Extension'}

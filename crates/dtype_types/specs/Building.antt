@@ -1,7 +1,7 @@
 -- SPDX-License-Identifier: Apache-2.0
 -- SPDX-FileCopyrightText: Copyright the Vortex contributors
 
--- A struct's fields while they are put together.
+-- A struct's fields while they are put together: those that a `FieldsBuilder` has so far.
 use Rattle.std.specs.Prelude.{ℕ, List, map}
 use Rattle.std.specs.List.{zip}
 use Rattle.dtype_types.specs.declared.fields_builder.FieldsBuilder.{FieldsBuilder}

@@ -1,7 +1,8 @@
 -- SPDX-License-Identifier: Apache-2.0
 -- SPDX-FileCopyrightText: Copyright the Vortex contributors
 
--- Lists in which nothing stands twice, as a union's names and tags must be.
+-- Lists in which nothing stands twice, as a union's names and tags must be. From the documentation of
+-- `UnionVariants::try_new` and `StructFields::disjoint_merge`.
 use Rattle.std.specs.Prelude.{◌≢◌, List, AllPairs}
 
 -- no two places hold the same

@@ -1,7 +1,8 @@
 -- SPDX-License-Identifier: Apache-2.0
 -- SPDX-FileCopyrightText: Copyright the Vortex contributors
 
--- The type of a field, before it stands in a struct.
+-- The type of a field, before it stands in a struct. From the documentation of `FieldDType` and
+-- `StructFields::from_iter`.
 use Rattle.std.specs.Prelude.{◌≡◌, ℕ, All, List, Option, map, Bool}
 use Rattle.std.specs.Iterator.Runs.{WholeRun}
 use Rattle.std.specs.Cmp.{IsEquivalence, on_equiv}

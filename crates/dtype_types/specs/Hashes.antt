@@ -4,7 +4,7 @@
 -- What a type feeds a hasher, as a list of writes: one byte for its kind, or which primitive type it is, and its
 -- nullability, where nullabilities aren't forgotten, and then all that it holds. Counts stand before lists, and a
 -- mark behind texts.
--- It is a function of the tree, so equal types feed alike.
+-- It is a function of the tree, so equal types feed alike, as std's `Hash` asks.
 use Rattle.std.specs.Prelude.{ℕ, suc, ◌+◌, ◌*◌, List, [], ◌∷◌, ◌++◌, length}
 use Rattle.std.specs.Hash as fed
 use Rattle.std.specs.Hash.{HashWrites}

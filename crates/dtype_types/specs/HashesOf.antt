@@ -1,7 +1,8 @@
 -- SPDX-License-Identifier: Apache-2.0
 -- SPDX-FileCopyrightText: Copyright the Vortex contributors
 
--- What a type's parts feed a hasher: fields, variants, a map, an extension.
+-- What a type's parts feed a hasher: fields, variants, a map, an extension: what they feed in the type that
+-- holds them, by `Hashes`.
 use Rattle.std.specs.Prelude.{◌++◌}
 use Rattle.std.specs.Hash as fed
 use Rattle.std.specs.Hash.{HashWrites}

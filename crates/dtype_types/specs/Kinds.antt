@@ -2,7 +2,7 @@
 -- SPDX-FileCopyrightText: Copyright the Vortex contributors
 
 -- The kind of a type, its outermost variant: what the tests of `DType` look at, and what each variant
--- holds. An extension's kind is its own, whatever its storage.
+-- holds. An extension's kind is its own, whatever its storage. From the documentation of `DType`'s variants.
 use Rattle.std.specs.Prelude.{ℕ, List, Option, Some, None, Bool, true, false}
 use Rattle.dtype_base.specs.Decimals.{Decimal}
 use Rattle.dtype_base.specs.declared.ptype.PType.{PType}

@@ -32,3 +32,4 @@ pub mod SampleLaws
 pub mod Sub
 pub mod Tell
 pub mod formers
+pub mod lemmas

@@ -1,7 +1,7 @@
 -- SPDX-License-Identifier: Apache-2.0
 -- SPDX-FileCopyrightText: Copyright the Vortex contributors
 
--- Lists side by side, as pairs and as triples.
+-- Lists side by side, as pairs and as triples. Of lists alone, nothing of types.
 use Rattle.std.specs.Prelude.{List, [], ◌∷◌, map}
 use Rattle.std.specs.Borrow.{Bor}
 

@@ -1,7 +1,8 @@
 -- SPDX-License-Identifier: Apache-2.0
 -- SPDX-FileCopyrightText: Copyright the Vortex contributors
 
--- A value of each valid type, by recursion on the type: null where it may be, else a plain one.
+-- A value of each valid type, by recursion on the type: null where it may be, else a plain one. Made of
+-- `Value` alone.
 use Rattle.std.specs.Prelude.{ℕ, zero, suc, pos, [], false}
 use Rattle.dtype_base.specs.Primitives.{primitive as row_of, NumberKind}
 use Rattle.dtype_base.specs.Primitives.NumberKind.{Floating}

@@ -4,6 +4,7 @@
 -- The order of types by nullability: a is below b where the two are equal but for nullabilities, and b is
 -- nullable wherever a is, at every depth, also in a map's value and in an extension's storage. Then an
 -- array of type a may stand where one of type b is asked, since each value of a is a value of b.
+-- From the documentation of `DType::eq_with_nullability_subset`.
 use Rattle.std.specs.Prelude.{◌≡◌}
 use Rattle.dtype_base.specs.declared.nullability.Nullability.{Nullability}
 use Rattle.dtype_base.specs.declared.nullability.Nullability.TheVariants.{Nullable}

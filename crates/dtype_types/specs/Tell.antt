@@ -1,7 +1,7 @@
 -- SPDX-License-Identifier: Apache-2.0
 -- SPDX-FileCopyrightText: Copyright the Vortex contributors
 
--- A value that tells apart two types which differ in nullability alone.
+-- A value that tells apart two types which differ in nullability alone. Made of `Value` and `Sub` alone.
 use Rattle.std.specs.Prelude.{ℕ, ◌<◌, Option, Some, None, IsSomeAnd, option_map}
 use Rattle.dtype_base.specs.declared.nullability.Nullability.{Nullability}
 use Rattle.dtype_base.specs.declared.nullability.Nullability.TheVariants.{NonNullable, Nullable}

@@ -1,7 +1,7 @@
 -- SPDX-License-Identifier: Apache-2.0
 -- SPDX-FileCopyrightText: Copyright the Vortex contributors
 
--- The texts of a type's parts: fields, variants, a map, an extension, its metadata.
+-- The texts of a type's parts: fields, variants, a map, an extension, its metadata. From the `Display` of each.
 use Rattle.std.specs.Prelude.{ℕ, List, ◌++◌, codes}
 use Rattle.dtype_types.specs.Text.{text, bool_text, joined, field_texts, choice_texts, consecutive, metadata_text}
 use Rattle.dtype_types.specs.TreeOf.{struct_tree, union_tree, key_tree, value_tree, are_keys_sorted, extension_id, extension_metadata, storage_tree}

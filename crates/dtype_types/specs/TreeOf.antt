@@ -2,7 +2,7 @@
 -- SPDX-FileCopyrightText: Copyright the Vortex contributors
 
 -- The tree that a `DType` means, and what its parts show: a struct's fields as pairs of a name and a type,
--- a union's variants as triples of a name, a type and a tag.
+-- a union's variants as triples of a name, a type and a tag. From the declaration of `DType` and its parts.
 use Rattle.std.specs.Prelude.{ℕ, List, [], ◌∷◌, map, Option, Some, None, Bool as Flag}
 use Rattle.std.specs.Borrow.{Bor}
 use Rattle.std.specs.declared.boxed.Box.{Box}
@@ -16,6 +16,7 @@ use Rattle.dtype_types.specs.declared.dtype.DType.TheOpen.{DType-F, ExtDTypeRef-
 use Rattle.dtype_types.specs.declared.dtype.DType.TheFolds.{fold-DType}
 use Rattle.dtype_types.specs.declared.struct_fields.StructFields.{StructFields}
 use Rattle.dtype_types.specs.declared.union_variants.UnionVariants.{UnionVariants}
+use Rattle.dtype_types.specs.declared.map.Entries.{Entries}
 use Rattle.dtype_types.specs.declared.map.MapDType.{MapDType}
 use Rattle.dtype_types.specs.declared.extension.ExtDTypeRef.{ExtDTypeRef}
 
@@ -69,6 +70,13 @@ union_step u = variants (map flat u.shared.value)
 abbrev pub tree : DType → Tree
 tree = fold-DType Tree ExtensionParts MapParts Fields Variants type_step extension_step map_step struct_step union_step
 
+-- the trees of types, and of one that is lent
+abbrev pub trees : List DType → List Tree
+trees ds = map tree ds
+
+abbrev pub lent_tree : Bor DType → Tree
+lent_tree d = tree d.now
+
 -- a struct's fields, as it holds them and with the trees of their types
 abbrev pub struct_pairs : StructFields → List (List ℕ × DType)
 struct_pairs s = s.shared.value
@@ -112,7 +120,10 @@ union_dtypes u = types_of (union_triples u)
 abbrev pub union_tags : UnionVariants → List ℕ
 union_tags u = variant_tags (choices u)
 
--- a map's key, its value, and whether the keys are sorted
+-- what a map holds: its key, its value, and whether the keys are sorted
+abbrev pub map_entries : MapDType → Entries DType
+map_entries m = m.shared.value
+
 abbrev pub map_key : MapDType → DType
 map_key m = m.shared.value.key
 

@@ -4,6 +4,7 @@
 -- Which names, types and tags make a union, and which refusal they earn where they don't. From the
 -- documentation of `UnionVariants::try_new` and `UnionVariants::new`.
 use Rattle.std.specs.Prelude.{◌≡◌, ◌≢◌, ℕ, List, [], length}
+use Rattle.std.specs.List.{range_with_len}
 use Rattle.dtype_base.specs.declared.vortex_error.VortexError.{VortexError}
 use Rattle.dtype_base.specs.declared.vortex_error.VortexError.TheVariants.{UnionTypesLength, UnionTagsLength, UnionEmpty, UnionTagsRepeat, UnionNamesRepeat}
 use Rattle.dtype_types.specs.Distinct.{Distinct}
@@ -15,6 +16,10 @@ most_variants = 256
 -- as many types as names, as many tags as names, and at least one
 abbrev pub HasUnionLengths : List (List ℕ) → ℕ → List ℕ → Type 0
 HasUnionLengths names types tags = (length names ≡ types) × (length names ≡ length tags) × (names ≢ [])
+
+-- the tags are 0, 1, 2 and so on, as `UnionVariants::new` gives them
+abbrev pub AreConsecutive : List ℕ → Type 0
+AreConsecutive tags = tags ≡ range_with_len 0 (length tags)
 
 -- these names, that many types and these tags make a union
 abbrev pub MakesUnion : List (List ℕ) → ℕ → List ℕ → Type 0

@@ -53,3 +53,6 @@ pub enum DType {
     /// A type of another library, stored as a type of this one. It has its storage's nullability.
     Extension(ExtDTypeRef),
 }
+
+// Types are kept side by side in lists: a tag, a nullability, and a pointer with what fits beside it.
+const _: () = prove!(size_of::<DType>() == 24);

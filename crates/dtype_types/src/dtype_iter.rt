@@ -2,15 +2,16 @@
 // SPDX-FileCopyrightText: Copyright the Vortex contributors
 
 ghost use Rattle.std.specs.Prelude.{◌≡◌, IfSome, Some, length};
-ghost use Rattle.std.specs.Iterator.{YieldsFirstRef, UpTo, item_count};
+ghost use Rattle.std.specs.Iterator.{YieldsFirstBy, UpTo, item_count};
 ghost use Rattle.std.specs.Iterator.SizeHint.{IsWithinCount};
+ghost use Rattle.dtype_types.specs.TreeOf.{lent_tree, trees};
 
 use crate::DType;
 use std::iter::FusedIterator;
 use std::marker::Model;
 use std::slice;
 
-/// Types in order, lent, seen as those that are left.
+/// Types in order, lent, seen as those that are left. What it gives is said by their trees.
 #[derive(Debug, Drop)]
 pub struct DTypeIter<'a> {
     inner: slice::Iter<'a, DType>,
@@ -43,18 +44,18 @@ impl<'a> DTypeIter<'a> {
 impl<'a> Iterator for DTypeIter<'a> {
     type Item = &'a DType;
 
-    ghost next_gives = { YieldsFirstRef (λ left. left) };
+    ghost next_gives = { YieldsFirstBy lent_tree trees };
 
-    ghost remaining = { item_count (λ left. left) };
+    ghost remaining = { item_count trees };
 
     fn next(&mut self) -> Option<&'a DType> {
         self.inner.next()
     }
 
     fn size_hint(&self) -> (usize, Option<usize>)
-        ensures lower { IsWithinCount result.0 (item_count (λ left. left) self.now) }
-        ensures upper { IfSome result.1 (UpTo (item_count (λ left. left) self.now)) }
-        ensures exact { result ≡ (length self.now, Some (length self.now)) }
+        ensures lower { IsWithinCount result.0 (item_count trees self.now) }
+        ensures upper { IfSome result.1 (UpTo (item_count trees self.now)) }
+        ensures exact { result ≡ (length (trees self.now), Some (length (trees self.now))) }
     {
         let left = self.len();
         (left, Some(left))

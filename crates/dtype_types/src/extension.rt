@@ -102,7 +102,8 @@ impl fmt::Display for ExtId {
     }
 }
 
-/// An extension type without its library: the id, the metadata as bytes, and the storage type.
+/// An extension type without its library: the id, the metadata as bytes, and the storage type. So a type can
+/// be read, kept and written on by those who don't know the library.
 #[derive(Debug, Drop)]
 #[cycle(dtype)]
 pub struct ExtDTypeRef {
@@ -123,6 +124,7 @@ impl ExtDTypeRef {
     ghost use Rattle.dtype_types.specs.Equality.{agree};
     ghost use Rattle.dtype_types.specs.Erase.{erase};
     ghost use Rattle.dtype_types.specs.IsValid.{IsValid, IsValidExtension};
+    ghost use Rattle.dtype_types.specs.Tree.{extension};
     ghost use Rattle.dtype_types.specs.Hashes.{part_of};
     ghost use Rattle.dtype_types.specs.HashesOf.{extension_writes};
     ghost use Rattle.dtype_types.specs.TreeOf.{extension_tree, extension_metadata, extension_id, storage_tree, tree};
@@ -142,9 +144,8 @@ impl ExtDTypeRef {
         metadata: Vec<u8>,
         storage: DType,
     ) -> VortexResult<Self>
-        ensures id { IfOk result (λ e. extension_id e ≡ id) }
-        ensures metadata { IfOk result (λ e. extension_metadata e ≡ metadata.items) }
-        ensures storage { IfOk result (λ e. storage_tree e ≡ tree storage) }
+        ensures parts { IfOk result
+            (λ e. extension_tree e ≡ extension id metadata.items (tree storage)) }
         ensures valid { IsValid storage → IfOk result IsValidExtension }
         ensures refused { IsOkUnless result OutOfMemory }
     {
@@ -161,10 +162,7 @@ impl ExtDTypeRef {
 
     /// The id, the metadata and the storage, given up.
     pub fn into_parts(self) -> (ExtId, Vec<u8>, DType)
-        ensures id { result.0 ≡ extension_id self }
-        ensures metadata { result.1.items ≡ extension_metadata self }
-        ensures storage { tree result.2 ≡ storage_tree self }
-        ensures valid { IsValidExtension self → IsValid result.2 }
+        ensures { extension_tree self ≡ extension result.0 result.1.items (tree result.2) }
     {
         let Parts {
             id,
@@ -223,8 +221,7 @@ impl ExtDTypeRef {
 
     /// The storage type.
     pub fn storage_dtype(&self) -> &DType
-        ensures storage { tree result.now ≡ storage_tree self.now }
-        ensures valid { IsValidExtension self.now → IsValid result.now }
+        ensures { tree result.now ≡ storage_tree self.now }
     {
         &self.parts.storage
     }
@@ -256,7 +253,6 @@ impl ExtDTypeRef {
     #[cycle(copy)]
     pub fn try_clone(&self, alloc: Global) -> VortexResult<Self>
         ensures same { IfOk result (λ e. extension_tree e ≡ extension_tree self.now) }
-        ensures valid { IsValidExtension self.now → IfOk result IsValidExtension }
         ensures refused { IsOkUnless result OutOfMemory }
     {
         let id = self.parts.id.try_clone(alloc)?;
@@ -295,7 +291,6 @@ impl ExtDTypeRef {
     pub fn with_nullability(&self, alloc: Global, n: Nullability) -> VortexResult<Self>
         requires { n ≡ Nullability.NonNullable → CanBeNonNullable (extension_tree self.now) }
         ensures set { IfOk result (λ e. SetNull (extension_tree self.now) n (extension_tree e)) }
-        ensures valid { IsValidExtension self.now → IfOk result IsValidExtension }
         ensures refused { IsOkUnless result OutOfMemory }
     {
         let storage = self.parts.storage.set_nullability(alloc, n)?;

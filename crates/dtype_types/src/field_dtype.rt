@@ -23,8 +23,7 @@ pub struct FieldDType {
 impl FieldDType {
     /// The type.
     pub fn value(&self) -> &DType
-        ensures held { tree result.now ≡ field_tree self.now }
-        ensures valid { IsValidField self.now → IsValid result.now }
+        ensures { tree result.now ≡ field_tree self.now }
     {
         &self.dtype
     }
@@ -39,7 +38,6 @@ impl FieldDType {
     /// A field's type equal to this one. Refuses 0 (OutOfMemory) alone.
     pub fn try_clone(&self, alloc: Global) -> VortexResult<Self>
         ensures same { IfOk result (λ f. field_tree f ≡ field_tree self.now) }
-        ensures valid { IsValidField self.now → IfOk result IsValidField }
         ensures refused { IsOkUnless result OutOfMemory }
     {
         Ok(FieldDType {

@@ -3,29 +3,24 @@
 
 // What follows from the definitions of types alone. Each function's contract is the law; one gives the
 // constant that its law is on, and every other body is empty.
-ghost use Rattle.std.specs.Prelude.{◌≡◌, ◌↔◌, ◌++◌, ℕ, IsSome, List, None, length};
+ghost use Rattle.std.specs.Prelude.{◌≡◌, ◌↔◌, ℕ, List, None, length};
 ghost use Rattle.std.specs.Iterator.{UpTo};
-ghost use Rattle.std.specs.Iterator.Runs.{EveryRun, ItemsMapTo, YieldsRefsInOrder};
+ghost use Rattle.std.specs.Iterator.Runs.{EveryRun, ItemsMapTo};
 ghost use Rattle.dtype_base.specs.declared.nullability.Nullability.{Nullability};
 ghost use Rattle.dtype_base.specs.declared.nullability.Nullability.TheVariants.{NonNullable, Nullable};
 ghost use Rattle.dtype_base.specs.declared.ptype.PType.TheVariants.{U8};
 ghost use Rattle.dtype_types.specs.Laws.{EqualTypesFeedAlike, IsAntisymmetric, IsReflexive, IsTransitive, LastSetNullDecides, SameIgnoring, SameIgnoringFeedAlike, SetNullKeepsErase, SetNullSets, TagsTellPositions};
 ghost use Rattle.dtype_types.specs.Lists.{lent_pair, lent_triple};
-ghost use Rattle.dtype_types.specs.Lookups.{first_named};
 ghost use Rattle.dtype_types.specs.Nullable.{IsNullable, SetNull};
 ghost use Rattle.dtype_types.specs.Sample.{sample};
 ghost use Rattle.dtype_types.specs.Sub.{Sub};
 ghost use Rattle.dtype_types.specs.Tell.{HasNoSizeZero, TellsApart, tell};
 ghost use Rattle.dtype_types.specs.Valid.{Valid};
 ghost use Rattle.dtype_types.specs.Value.{AddsNull, IncludedIn, Of, null_value};
-ghost use Rattle.dtype_types.specs.IsValid.{IsValid, IsValidExtension, IsValidMap, IsValidStruct, IsValidUnion};
+ghost use Rattle.dtype_types.specs.IsValid.{IsValid};
 ghost use Rattle.dtype_types.specs.Tree.{Tree, primitive};
-ghost use Rattle.dtype_types.specs.TreeOf.{tree};
-ghost use Rattle.dtype_types.specs.declared.dtype.DType.{DType, Extension, Map, Struct, Union};
-ghost use Rattle.dtype_types.specs.declared.extension.ExtDTypeRef.{ExtDTypeRef};
-ghost use Rattle.dtype_types.specs.declared.map.MapDType.{MapDType};
-ghost use Rattle.dtype_types.specs.declared.struct_fields.StructFields.{StructFields};
-ghost use Rattle.dtype_types.specs.declared.union_variants.UnionVariants.{UnionVariants};
+ghost use Rattle.dtype_types.specs.declared.dtype.DType.{DType};
+ghost use Rattle.dtype_types.specs.TreeOf.{lent_tree, tree, trees};
 
 use crate::{DType, DTypeIter, FieldIter, VariantIter};
 
@@ -59,23 +54,6 @@ pub fn tags_tell_positions()
     ensures { TagsTellPositions }
 {}
 
-/// The type that a public variant of `DType` makes of a valid struct, union, map or extension is valid.
-#[tactic(auto, using(crate::proofs::Validity::parts_make_types))]
-pub fn valid_parts_make_valid_types()
-    ensures structs { (s : StructFields) (n : Nullability) → IsValidStruct s → IsValid (Struct s n) }
-    ensures unions { (u : UnionVariants) (n : Nullability) → IsValidUnion u → IsValid (Union u n) }
-    ensures maps { (m : MapDType) (n : Nullability) → IsValidMap m → IsValid (Map m n) }
-    ensures extensions { (e : ExtDTypeRef) → IsValidExtension e → IsValid (Extension e) }
-{}
-
-/// What a public variant of `DType` holds is valid where the type is.
-pub fn valid_types_have_valid_parts()
-    ensures structs { (s : StructFields) (n : Nullability) → IsValid (Struct s n) → IsValidStruct s }
-    ensures unions { (u : UnionVariants) (n : Nullability) → IsValid (Union u n) → IsValidUnion u }
-    ensures maps { (m : MapDType) (n : Nullability) → IsValid (Map m n) → IsValidMap m }
-    ensures extensions { (e : ExtDTypeRef) → IsValid (Extension e) → IsValidExtension e }
-{}
-
 /// The sample of a valid type is a value of it, so each valid type has a value.
 #[tactic(auto, using(crate::specs::SampleLaws::sample_of))]
 pub fn samples_are_values()
@@ -83,7 +61,7 @@ pub fn samples_are_values()
 {}
 
 /// Null is a value of exactly the nullable types.
-#[tactic(auto, using(crate::proofs::NullValues::null_is_of_nullable))]
+#[tactic(auto, using(crate::specs::lemmas::NullValues::null_is_of_nullable))]
 pub fn null_is_a_value_of_nullable_types()
     ensures { (t : Tree) → Of null_value t ↔ IsNullable t }
 {}
@@ -150,22 +128,13 @@ pub fn bytes_are_non_nullable_u8() -> DType
     DType::BYTES
 }
 
-/// In two lists of fields joined, as a merge joins them, a name leads where it does in the first, and where it
-/// does in the second if the first has none of it.
-#[tactic(auto, using(crate::proofs::JoinedFields::named_before, crate::proofs::JoinedFields::named_behind))]
-pub fn joined_fields_are_found_in_order()
-    ensures first { (fs gs : List (List ℕ × Tree)) (name : List ℕ) → IsSome (first_named fs name)
-        → first_named (fs ++ gs) name ≡ first_named fs name }
-    ensures second { (fs gs : List (List ℕ × Tree)) (name : List ℕ) → first_named fs name ≡ None
-        → first_named (fs ++ gs) name ≡ first_named gs name }
-{}
-
 /// Lent types, fields and variants come in order: calls of `next` give the first of those that are left,
 /// and all of them before `None`, which comes after so many items as `len` announces.
 pub fn parts_are_given_in_order()
-    ensures types { YieldsRefsInOrder ⟦<DTypeIter<'static> as Iterator>⟧.next_gives (λ left. left) }
+    ensures types { EveryRun ⟦<DTypeIter<'static> as Iterator>⟧.next_gives
+        (λ run. ItemsMapTo run lent_tree (trees run.from)) }
     ensures types_end { (left : List DType)
-        → UpTo (⟦<DTypeIter<'static> as Iterator>⟧.remaining left) (length left) }
+        → UpTo (⟦<DTypeIter<'static> as Iterator>⟧.remaining left) (length (trees left)) }
     ensures fields { EveryRun ⟦<FieldIter<'static> as Iterator>⟧.next_gives
         (λ run. ItemsMapTo run lent_pair run.from) }
     ensures fields_end { (left : List (List ℕ × DType))

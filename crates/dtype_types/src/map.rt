@@ -36,17 +36,12 @@ impl MapDType {
     ghost use Rattle.dtype_types.specs.HashesOf.{map_writes};
     ghost use Rattle.dtype_types.specs.Maps.{entries_of};
     ghost use Rattle.dtype_types.specs.Nullable.{nullability, IsNullable};
-    ghost use Rattle.dtype_types.specs.TreeOf.{tree, map_key, map_value, key_tree, value_tree, are_keys_sorted};
-    ghost use Rattle.dtype_types.specs.IsValid.{IsValid, IsValidMap};
+    ghost use Rattle.dtype_types.specs.TreeOf.{tree, map_entries, map_key, map_value, map_shown, key_tree, value_tree, are_keys_sorted};
 
     /// The type of a map with this key and value; whether its keys are sorted is kept and not checked.
     /// Refuses 9 (MapKeyNullable) where the key's type is nullable, else 0 (OutOfMemory) alone.
     pub fn try_new(alloc: Global, key: DType, value: DType, keys_sorted: bool) -> VortexResult<Self>
-        ensures key { IfOk result (λ m. key_tree m ≡ tree key) }
-        ensures value { IfOk result (λ m. value_tree m ≡ tree value) }
-        ensures sorted { IfOk result (λ m. are_keys_sorted m ≡ keys_sorted) }
-        ensures valid { IsValid key → IsValid value → IfOk result IsValidMap }
-
+        ensures parts { IfOk result (λ m. map_shown m ≡ (tree key, tree value, keys_sorted)) }
         ensures accepted { OnOk result (nullability (tree key) ≡ NonNullable) }
         ensures nullable { (result ≡ Err MapKeyNullable) ↔ IsNullable (tree key) }
         ensures refused { IfErr result (λ e. (e ≡ OutOfMemory) ⊎ (e ≡ MapKeyNullable)) }
@@ -66,16 +61,14 @@ impl MapDType {
 
     /// The type of the keys.
     pub fn key_dtype(&self) -> &DType
-        ensures key { tree result.now ≡ key_tree self.now }
-        ensures valid { IsValidMap self.now → IsValid result.now }
+        ensures { result.now ≡ map_key self.now }
     {
         &self.shared.key
     }
 
     /// The type of the values.
     pub fn value_dtype(&self) -> &DType
-        ensures value { tree result.now ≡ value_tree self.now }
-        ensures valid { IsValidMap self.now → IsValid result.now }
+        ensures { result.now ≡ map_value self.now }
     {
         &self.shared.value
     }
@@ -92,7 +85,6 @@ impl MapDType {
     pub fn entries_dtype(&self, alloc: Global) -> VortexResult<DType>
         ensures entries { IfOk result
             (λ d. tree d ≡ entries_of (key_tree self.now) (value_tree self.now)) }
-        ensures valid { IsValidMap self.now → IfOk result IsValid }
         ensures refused { IsOkUnless result OutOfMemory }
     {
         let names = FieldNames::from_texts(alloc, &["key", "value"])?;
@@ -126,12 +118,7 @@ impl MapDType {
 
     /// A map type equal to this one, which shares its key and value. Refuses 0 (OutOfMemory) alone.
     pub fn try_clone(&self, _alloc: Global) -> VortexResult<Self>
-        ensures key { IfOk result (λ m. key_tree m ≡ key_tree self.now) }
-        ensures value { IfOk result (λ m. value_tree m ≡ value_tree self.now) }
-        ensures sorted { IfOk result (λ m. are_keys_sorted m ≡ are_keys_sorted self.now) }
-        ensures shared { IfOk result
-            (λ m. (map_key m ≡ map_key self.now) × (map_value m ≡ map_value self.now)) }
-        ensures valid { IsValidMap self.now → IfOk result IsValidMap }
+        ensures same { IfOk result (λ m. map_entries m ≡ map_entries self.now) }
         ensures refused { IsOkUnless result OutOfMemory }
     {
         Ok(MapDType {

@@ -1,7 +1,7 @@
 // SPDX-License-Identifier: Apache-2.0
 // SPDX-FileCopyrightText: Copyright the Vortex contributors
 
-ghost use Rattle.std.specs.Prelude.{◌≡◌, ◌↔◌, IsTrue, ◌<◌, ◌++◌, ◌∷◌, ℕ, List, [], slice_index_or, length, map, remove, vec_len, All, IfOk, IfErr, IfSome, IsOk, IsOkUnless, IsSome, slice_get, IfNone, Some, fold, OnOk, string_bytes, option_and_then};
+ghost use Rattle.std.specs.Prelude.{◌≡◌, ◌↔◌, IsTrue, ◌<◌, ◌^◌, ◌++◌, ◌∷◌, ℕ, List, [], slice_index_or, length, map, remove, vec_len, All, IfOk, IfErr, IfSome, IsOk, IsOkUnless, IsSome, slice_get, IfNone, Some, fold, OnOk, string_bytes, option_and_then};
 ghost use Rattle.std.specs.Iterator.{IsFinite};
 ghost use Rattle.std.specs.List.{AllByRecursion, zip};
 ghost use Rattle.std.specs.Option.{option_copied};
@@ -23,8 +23,8 @@ use std::fmt;
 use std::hash::{Hash, Hasher};
 use std::rc::Rc;
 
-/// The fields of a struct in order, each a name and a type. Names may repeat: every access by name
-/// means the first.
+/// The fields of a struct in order, each a name and a type. Names may repeat, since the formats that types
+/// are read from let them: every access by name means the first.
 ///
 /// Of the fields `int_col=i32?, int_col=i64?`, `field("int_col")` is `i32?` and `find` is 0; a projection to
 /// `int_col, int_col` has `i32?` twice.
@@ -34,6 +34,7 @@ pub struct StructFields {
     shared: Rc<Named<DType>>,
 }
 
+#[tactic(auto, using(crate::proofs::Sides::pairs, crate::proofs::Parts::fields))]
 impl StructFields {
     ghost use Rattle.dtype_types.specs.Building.{fields_so_far};
     ghost use Rattle.dtype_types.specs.Equality.{agree_fields};
@@ -45,28 +46,22 @@ impl StructFields {
     ghost use Rattle.dtype_types.specs.Hashes.{part_of};
     ghost use Rattle.dtype_types.specs.HashesOf.{struct_writes};
     ghost use Rattle.dtype_types.specs.Tree.{Tree};
-    ghost use Rattle.dtype_types.specs.TreeOf.{struct_tree, struct_names, struct_dtypes, struct_pairs, struct_types, children, tree, option_tree, with_trees};
-    ghost use Rattle.dtype_types.specs.IsValid.{IsValid, IsValidField, IsValidStruct};
+    ghost use Rattle.dtype_types.specs.TreeOf.{struct_tree, struct_names, struct_dtypes, struct_pairs, children, tree, trees, option_tree};
+    ghost use Rattle.dtype_types.specs.IsValid.{IsValid, IsValidStruct};
     ghost use Rattle.dtype_types.specs.Width.{MeasuresFields};
 
     /// No fields. Refuses 0 (OutOfMemory) alone.
     pub fn empty(alloc: Global) -> VortexResult<Self>
-        ensures names { IfOk result (λ s. struct_names s ≡ []) }
-        ensures types { IfOk result (λ s. struct_types s ≡ []) }
-        ensures valid { IfOk result IsValidStruct }
+        ensures none { IfOk result (λ s. children s ≡ []) }
         ensures refused { IsOkUnless result OutOfMemory }
     {
         StructFields::new(alloc, FieldNames::empty(alloc), Vec::new(alloc))
     }
 
     /// The fields of these names and types, as many names as types. Refuses 0 (OutOfMemory) alone.
-    #[tactic(auto, using(crate::proofs::Sides::pairs, crate::proofs::Parts::fields))]
     pub fn new(alloc: Global, names: FieldNames, dtypes: Vec<DType>) -> VortexResult<Self>
         requires { length names ≡ vec_len dtypes }
-        ensures names { IfOk result (λ s. struct_names s ≡ names) }
-        ensures types { IfOk result (λ s. struct_types s ≡ map tree dtypes.items) }
         ensures fields { IfOk result (λ s. children s ≡ zip names (map tree dtypes.items)) }
-        ensures valid { All IsValid dtypes.items → IfOk result IsValidStruct }
         ensures refused { IsOkUnless result OutOfMemory }
     {
         let names = IndexedNames::new(alloc, names)?;
@@ -81,9 +76,7 @@ impl StructFields {
         dtypes: Vec<FieldDType>,
     ) -> VortexResult<Self>
         requires { length names ≡ vec_len dtypes }
-        ensures names { IfOk result (λ s. struct_names s ≡ names) }
-        ensures types { IfOk result (λ s. struct_types s ≡ map field_tree dtypes.items) }
-        ensures valid { All IsValidField dtypes.items → IfOk result IsValidStruct }
+        ensures fields { IfOk result (λ s. children s ≡ zip names (map field_tree dtypes.items)) }
         ensures refused { IsOkUnless result OutOfMemory }
     {
         let dtypes = into_dtypes(alloc, dtypes)?;
@@ -111,7 +104,6 @@ impl StructFields {
     }
 
     /// The names, in order.
-    #[tactic(auto, using(crate::proofs::Parts::fields))]
     pub fn names(&self) -> &FieldNames
         ensures { result.now ≡ struct_names self.now }
     {
@@ -119,30 +111,23 @@ impl StructFields {
     }
 
     // The types, in order.
-    #[tactic(auto, using(crate::proofs::Parts::fields))]
     fn dtypes(&self) -> &[DType]
-        ensures lent { result.now ≡ struct_dtypes self.now }
-        ensures all { map tree result.now ≡ field_types (children self.now) }
-        ensures valid { IsValidStruct self.now → All IsValid result.now }
+        ensures { result.now ≡ struct_dtypes self.now }
     {
         self.shared.dtypes()
     }
 
     /// The fields, in order, each its name and its type, lent.
-    #[tactic(auto, using(crate::proofs::Sides::pairs))]
     pub fn pairs(&self) -> FieldIter<'_>
         ensures lent { result ≡ struct_pairs self.now }
-        ensures all { with_trees result ≡ children self.now }
-        ensures valid { IsValidStruct self.now → All (λ p. IsValid p.1) result }
+        ensures fits { length result < 2 ^ 64 }
     {
         FieldIter::new(self.shared.names().as_slice(), self.shared.dtypes())
     }
 
     /// How many fields there are.
-    #[tactic(auto, using(crate::proofs::Parts::fields))]
     pub fn nfields(&self) -> usize
-        ensures all { result ≡ length (children self.now) }
-        ensures names { result ≡ length (struct_names self.now) }
+        ensures { result ≡ length (children self.now) }
     {
         self.shared.len()
     }
@@ -167,7 +152,6 @@ impl StructFields {
 
     /// What `find` gives, and how many names were compared for it: at most one more than the binary
     /// digits of the number of fields, of which 0 has none. Takes no memory.
-    #[tactic(auto, using(crate::proofs::Parts::fields))]
     pub fn find_counted(&self, name: &str) -> (Option<usize>, u64)
         ensures first { result.0 ≡ first_place (field_names (children self.now)) name.now }
         ensures field { option_and_then (slice_get (field_types (children self.now))) result.0
@@ -190,24 +174,23 @@ impl StructFields {
 
     /// The type of the field at this position, or `None` at or past the end.
     pub fn field_by_index(&self, index: usize) -> Option<&DType>
-        ensures at { option_tree result ≡ slice_get (field_types (children self.now)) index }
-        ensures valid { IsValidStruct self.now → IfSome result (λ d. IsValid d.now) }
+        ensures { option_tree result ≡ slice_get (field_types (children self.now)) index }
     {
         self.dtypes().get(index)
     }
 
     /// The types, in order, lent.
     pub fn fields(&self) -> DTypeIter<'_>
-        ensures all { map tree result ≡ field_types (children self.now) }
-        ensures valid { IsValidStruct self.now → All IsValid result }
+        ensures all { trees result ≡ field_types (children self.now) }
+        ensures fits { length (trees result) < 2 ^ 64 }
     {
         DTypeIter::new(self.dtypes())
     }
 
     /// The types, in order, lent: the same as `fields`.
     pub fn field_dtypes(&self) -> DTypeIter<'_>
-        ensures all { map tree result ≡ field_types (children self.now) }
-        ensures valid { IsValidStruct self.now → All IsValid result }
+        ensures all { trees result ≡ field_types (children self.now) }
+        ensures fits { length (trees result) < 2 ^ 64 }
     {
         self.fields()
     }
@@ -402,11 +385,7 @@ impl StructFields {
 
     /// Fields equal to these, which share them. Refuses 0 (OutOfMemory) alone.
     pub fn try_clone(&self, _alloc: Global) -> VortexResult<Self>
-        ensures names { IfOk result (λ s. struct_names s ≡ struct_names self.now) }
-        ensures types { IfOk result (λ s. struct_types s ≡ struct_types self.now) }
-        ensures fields { IfOk result (λ s. children s ≡ children self.now) }
-        ensures shared { IfOk result (λ s. struct_dtypes s ≡ struct_dtypes self.now) }
-        ensures valid { IsValidStruct self.now → IfOk result IsValidStruct }
+        ensures same { IfOk result (λ s. struct_pairs s ≡ struct_pairs self.now) }
         ensures refused { IsOkUnless result OutOfMemory }
     {
         let shared = self.shared.clone()?;

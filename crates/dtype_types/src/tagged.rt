@@ -30,6 +30,7 @@ impl<T> Model for Tagged<T> {
     ghost invariant = { λ n. (length n.dtypes.items ≡ length n.names) × (length n.tags.items ≡ length n.names) };
 }
 
+#[tactic(auto, using(crate::proofs::Sides::triples))]
 impl<T> Tagged<T> {
     // These names, types and tags, as many names as types and as tags.
     pub(crate) fn new(names: FieldNames, dtypes: Vec<T>, tags: Vec<u8>) -> Self
@@ -45,7 +46,6 @@ impl<T> Tagged<T> {
     }
 
     // The names, in order.
-    #[tactic(auto, using(crate::proofs::Sides::triples))]
     pub(crate) fn names(&self) -> &FieldNames
         ensures { result.now ≡ names_of self.now }
     {
@@ -53,7 +53,6 @@ impl<T> Tagged<T> {
     }
 
     // What they name, in order.
-    #[tactic(auto, using(crate::proofs::Sides::triples))]
     pub(crate) fn dtypes(&self) -> &[T]
         ensures { result.now ≡ types_of self.now }
     {
@@ -61,7 +60,6 @@ impl<T> Tagged<T> {
     }
 
     // The tags, in order.
-    #[tactic(auto, using(crate::proofs::Sides::triples))]
     pub(crate) fn tags(&self) -> &[u8]
         ensures { result.now ≡ tags_of self.now }
     {
@@ -69,7 +67,6 @@ impl<T> Tagged<T> {
     }
 
     // How many there are.
-    #[tactic(auto, using(crate::proofs::Sides::triples))]
     pub(crate) fn len(&self) -> usize
         ensures { result ≡ length self.now }
     {

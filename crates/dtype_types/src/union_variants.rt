@@ -1,12 +1,12 @@
 // SPDX-License-Identifier: Apache-2.0
 // SPDX-FileCopyrightText: Copyright the Vortex contributors
 
-ghost use Rattle.std.specs.Prelude.{◌≡◌, ◌≤◌, ◌<◌, ◌↔◌, ◌==◌, ◌⊎◌, IsTrue, [], length, map, vec_len, position, slice_get, All, IfOk, IfErr, IfSome, IfNone, OnOk, IsOkUnless, Err, Some, false, fold, option_and_then};
+ghost use Rattle.std.specs.Prelude.{◌≡◌, ◌≤◌, ◌<◌, ◌^◌, ◌↔◌, ◌==◌, ◌⊎◌, IsTrue, [], length, map, vec_len, position, slice_get, All, IfOk, IfErr, IfSome, IfNone, OnOk, IsOkUnless, Err, Some, false, fold, option_and_then};
 ghost use Rattle.std.specs.List.{IsDistinct, range_with_len};
 ghost use Rattle.dtype_base.specs.Bytes.{Bytes};
 ghost use Rattle.dtype_base.specs.FieldNames.{FirstAt, IsAbsent};
 ghost use Rattle.dtype_base.specs.declared.vortex_error.VortexError.TheVariants.{OutOfMemory, UnionTooMany};
-ghost use Rattle.dtype_types.specs.Unions.{HasUnionLengths, MakesUnion, UnionRefusal, most_variants};
+ghost use Rattle.dtype_types.specs.Unions.{AreConsecutive, HasUnionLengths, MakesUnion, UnionRefusal, most_variants};
 
 use crate::dtype::equality::{Nullabilities, agree};
 use crate::dtype::hash::{Hashed, feed};
@@ -22,7 +22,8 @@ use std::rc::Rc;
 // How many tags there are.
 const MAX_VARIANTS: usize = 256;
 
-/// The variants of a union in order, each a name, a type and a tag.
+/// The variants of a union in order, each a name, a type and a tag. A stored value says its variant by the
+/// tag. Tags needn't be 0, 1, 2 and so on, so that a schema can drop a variant and the others keep theirs.
 #[derive(Debug, Drop)]
 #[cycle(dtype)]
 pub struct UnionVariants {
@@ -80,14 +81,14 @@ fn first_tags(alloc: Global, count: usize) -> VortexResult<Vec<u8>>
     Ok((0..count).map(|tag| tag as u8).collect(alloc)?)
 }
 
+#[tactic(auto, using(crate::proofs::Sides::triples, crate::proofs::Parts::variants))]
 impl UnionVariants {
     ghost use Rattle.dtype_types.specs.Equality.{agree_variants};
     ghost use Rattle.dtype_types.specs.Erase.{erase_variants};
     ghost use Rattle.dtype_types.specs.Lookups.{variant_named, variant_types};
     ghost use Rattle.dtype_types.specs.Hashes.{part_of};
     ghost use Rattle.dtype_types.specs.HashesOf.{union_writes};
-    ghost use Rattle.dtype_types.specs.Text.{consecutive};
-    ghost use Rattle.dtype_types.specs.TreeOf.{tree, option_tree, union_tree, choices, union_names, union_dtypes, union_triples, union_types, union_tags, with_tagged_trees, zip_tagged};
+    ghost use Rattle.dtype_types.specs.TreeOf.{tree, trees, option_tree, union_tree, choices, union_names, union_dtypes, union_triples, union_tags, zip_tagged};
     ghost use Rattle.dtype_types.specs.IsValid.{IsValid, IsValidUnion};
 
     /// The union of these names, types and tags. Refuses, the first that applies: 10
@@ -95,19 +96,14 @@ impl UnionVariants {
     /// there are more or fewer tags than names, 12 (UnionEmpty) where there are none, 13
     /// (UnionTagsRepeat) where a tag stands twice, 15 (UnionNamesRepeat) where a name stands twice; or
     /// 0 (OutOfMemory), once the lengths are right.
-    #[tactic(auto, using(crate::proofs::Sides::triples, crate::proofs::Parts::variants))]
     pub fn try_new(
         alloc: Global,
         names: FieldNames,
         dtypes: Vec<DType>,
         type_ids: Vec<u8>,
     ) -> VortexResult<Self>
-        ensures names { IfOk result (λ u. union_names u ≡ names) }
-        ensures types { IfOk result (λ u. union_types u ≡ map tree dtypes.items) }
-        ensures tags { IfOk result (λ u. union_tags u ≡ type_ids.items) }
         ensures variants { IfOk result
             (λ u. choices u ≡ zip_tagged names (map tree dtypes.items) type_ids.items) }
-        ensures count { IfOk result (λ u. length (choices u) ≡ length names) }
         ensures valid { All IsValid dtypes.items → IfOk result IsValidUnion }
 
         ensures accepted { OnOk result (MakesUnion names (vec_len dtypes) type_ids.items) }
@@ -124,10 +120,8 @@ impl UnionVariants {
     /// The union of these names and types, with the tags 0, 1, 2 and so on. Refuses 14 (UnionTooMany)
     /// where there are more than 256 names, else as `try_new` does with those tags.
     pub fn new(alloc: Global, names: FieldNames, dtypes: Vec<DType>) -> VortexResult<Self>
-        ensures names { IfOk result (λ u. union_names u ≡ names) }
-        ensures types { IfOk result (λ u. union_types u ≡ map tree dtypes.items) }
-        ensures tags { IfOk result (λ u. union_tags u ≡ range_with_len 0 (length names)) }
-        ensures count { IfOk result (λ u. length (choices u) ≡ length names) }
+        ensures variants { IfOk result (λ u. choices u
+            ≡ zip_tagged names (map tree dtypes.items) (range_with_len 0 (length names))) }
         ensures valid { All IsValid dtypes.items → IfOk result IsValidUnion }
 
         ensures accepted { OnOk result
@@ -144,7 +138,6 @@ impl UnionVariants {
     }
 
     /// The names, in order.
-    #[tactic(auto, using(crate::proofs::Parts::variants))]
     pub fn names(&self) -> &FieldNames
         ensures { result.now ≡ union_names self.now }
     {
@@ -152,21 +145,16 @@ impl UnionVariants {
     }
 
     // The types, in order.
-    #[tactic(auto, using(crate::proofs::Parts::variants))]
     fn dtypes(&self) -> &[DType]
-        ensures lent { result.now ≡ union_dtypes self.now }
-        ensures all { map tree result.now ≡ variant_types (choices self.now) }
-        ensures valid { IsValidUnion self.now → All IsValid result.now }
+        ensures { result.now ≡ union_dtypes self.now }
     {
         self.shared.dtypes()
     }
 
     /// The variants, in order, each its name, its tag and its type, lent.
-    #[tactic(auto, using(crate::proofs::Sides::triples))]
     pub fn triples(&self) -> VariantIter<'_>
         ensures lent { result ≡ union_triples self.now }
-        ensures all { with_tagged_trees result ≡ choices self.now }
-        ensures valid { IsValidUnion self.now → All (λ p. IsValid p.1.0) result }
+        ensures fits { length result < 2 ^ 64 }
     {
         VariantIter::new(
             self.shared.names().as_slice(),
@@ -176,11 +164,8 @@ impl UnionVariants {
     }
 
     /// How many variants there are.
-    #[tactic(auto, using(crate::proofs::Parts::variants))]
     pub fn len(&self) -> usize
-        ensures all { result ≡ length (choices self.now) }
-        ensures names { result ≡ length (union_names self.now) }
-        ensures tags { result ≡ length (union_tags self.now) }
+        ensures { result ≡ length (choices self.now) }
     {
         self.shared.len()
     }
@@ -193,7 +178,6 @@ impl UnionVariants {
     }
 
     /// The tags, in order of the variants.
-    #[tactic(auto, using(crate::proofs::Parts::variants))]
     pub fn type_ids(&self) -> &[u8]
         ensures { result.now ≡ union_tags self.now }
     {
@@ -212,38 +196,28 @@ impl UnionVariants {
 
     /// The type of the variant of the name, or `None` where no variant has it.
     pub fn variant(&self, name: &str) -> Option<&DType>
-        ensures named { option_tree result ≡ variant_named (choices self.now) name.now }
-        ensures valid { IsValidUnion self.now → IfSome result (λ d. IsValid d.now) }
+        ensures { option_tree result ≡ variant_named (choices self.now) name.now }
     {
         self.variant_by_index(self.find(name)?)
     }
 
     /// The type of the variant at this position, or `None` at or past the end.
     pub fn variant_by_index(&self, index: usize) -> Option<&DType>
-        ensures at { option_tree result ≡ slice_get (variant_types (choices self.now)) index }
-        ensures valid { IsValidUnion self.now → IfSome result (λ d. IsValid d.now) }
+        ensures { option_tree result ≡ slice_get (variant_types (choices self.now)) index }
     {
         self.dtypes().get(index)
     }
 
     /// The types of the variants, in order.
     pub fn variants(&self) -> DTypeIter<'_>
-        ensures all { map tree result ≡ variant_types (choices self.now) }
-        ensures valid { IsValidUnion self.now → All IsValid result }
+        ensures all { trees result ≡ variant_types (choices self.now) }
+        ensures fits { length (trees result) < 2 ^ 64 }
     {
         DTypeIter::new(self.dtypes())
     }
 
     /// The position of the variant with this tag, or `None` where no variant has it.
     pub fn tag_to_child_index(&self, tag: u8) -> Option<usize>
-        ensures first { result ≡ position (λ t. t == tag) (union_tags self.now) }
-        ensures within { IfSome result (λ i. i < length (choices self.now)) }
-    {
-        self.first_tagged(tag)
-    }
-
-    // The first position of the tag among the tags.
-    fn first_tagged(&self, tag: u8) -> Option<usize>
         ensures { result ≡ position (λ t. t == tag) (union_tags self.now) }
     {
         self.type_ids().iter().position(|t| *t == tag)
@@ -252,9 +226,7 @@ impl UnionVariants {
     /// The tag of the variant at this position, which there is.
     pub fn child_index_to_tag(&self, index: usize) -> u8
         requires { index < length (union_tags self.now) }
-        ensures at { slice_get (union_tags self.now) index ≡ Some result }
-        ensures back { IsValidUnion self.now
-            → position (λ t. t == result) (union_tags self.now) ≡ Some index }
+        ensures { slice_get (union_tags self.now) index ≡ Some result }
     {
         self.type_ids()[index]
     }
@@ -308,12 +280,7 @@ impl UnionVariants {
 
     /// Variants equal to these, which share them. Refuses 0 (OutOfMemory) alone.
     pub fn try_clone(&self, _alloc: Global) -> VortexResult<Self>
-        ensures names { IfOk result (λ u. union_names u ≡ union_names self.now) }
-        ensures types { IfOk result (λ u. union_types u ≡ union_types self.now) }
-        ensures tags { IfOk result (λ u. union_tags u ≡ union_tags self.now) }
-        ensures variants { IfOk result (λ u. choices u ≡ choices self.now) }
-        ensures shared { IfOk result (λ u. union_dtypes u ≡ union_dtypes self.now) }
-        ensures valid { IsValidUnion self.now → IfOk result IsValidUnion }
+        ensures same { IfOk result (λ u. union_triples u ≡ union_triples self.now) }
         ensures refused { IsOkUnless result OutOfMemory }
     {
         let shared = self.shared.clone()?;
@@ -322,7 +289,7 @@ impl UnionVariants {
 
     /// Whether the tags are 0, 1, 2 and so on.
     pub fn is_consecutive(&self) -> bool
-        ensures { result ≡ consecutive 0 (union_tree self.now) }
+        ensures { IsTrue result ↔ AreConsecutive (union_tags self.now) }
     {
         let tags = self.type_ids();
         for i in 0..self.len() {

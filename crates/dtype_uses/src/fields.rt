@@ -2,6 +2,8 @@
 // SPDX-FileCopyrightText: Copyright the Vortex contributors
 
 // Lookups of fields, by name and by position.
+#![tactic(auto, using(dtype_types::specs::lemmas::JoinedFields::joined_fields))]
+
 ghost use Rattle.std.specs.Prelude.{◌≡◌, ◌+◌, ◌<◌, ◌≤◌, None, Some, IfOk, IsSome, IsTrue, length, true};
 ghost use Rattle.std.specs.Option.{option_map};
 ghost use Rattle.dtype_base.specs.FieldNames.{first_place};
@@ -11,7 +13,6 @@ ghost use Rattle.dtype_types.specs.Nullable.{nullability};
 ghost use Rattle.dtype_types.specs.TreeOf.{children, option_tree};
 
 use dtype_base::{FieldName, FieldNames, Nullability, VortexResult};
-use dtype_types::laws::joined_fields_are_found_in_order;
 use dtype_types::{DType, StructFields};
 use std::alloc::Global;
 
@@ -119,7 +120,6 @@ pub fn keeps_column_of_first(
 ) -> VortexResult<bool>
     ensures { IsSome (first_named (children first.now) column.now) → IfOk result (λ kept. IsTrue kept) }
 {
-    joined_fields_are_found_in_order();
     Ok(first.disjoint_merge(alloc, second)?.field(column).is_some())
 }
 
@@ -133,6 +133,5 @@ pub fn takes_column_of_second(
     ensures { first_named (children first.now) column.now ≡ None → IsSome (first_named (children second.now) column.now)
         → IfOk result (λ taken. IsTrue taken) }
 {
-    joined_fields_are_found_in_order();
     Ok(first.disjoint_merge(alloc, second)?.field(column).is_some())
 }

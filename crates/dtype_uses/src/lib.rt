@@ -11,7 +11,7 @@
 //! row is, and what may be appended), `binder` (column references, projections, joins), `layout` (which
 //! columns to open), `path_sets` (what is asked for, and what is opened for it), `masks` (what is asked further
 //! down), `rows` (what is found) and `stored` (schemas written and read back). Then by topic: `schemas` finds
-//! columns, `dates` makes an extension, `kinds` opens types, `fields` looks up fields, `iterators` counts,
+//! columns, `dates` makes an extension, `kinds` opens types, `fields` looks up fields, `iterators` counts, `over_fields` goes over them,
 //! `nullabilities` sets them, `paths` resolves, `path_messages` compares and copies messages, `messages` writes
 //! and reads types, `sessions` makes sessions, `plugins` has one that looks at its storage, `numbers` has names
 //! and bytes, `validity` what valid types have. `orders` is the code of `docs/TUTORIAL.md`.
@@ -29,6 +29,7 @@ pub mod messages;
 pub mod nullabilities;
 pub mod numbers;
 pub mod orders;
+pub mod over_fields;
 pub mod path_messages;
 pub mod path_sets;
 pub mod paths;

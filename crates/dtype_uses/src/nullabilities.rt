@@ -2,6 +2,8 @@
 // SPDX-FileCopyrightText: Copyright the Vortex contributors
 
 // Nullability set, and set again.
+#![tactic(auto, using(dtype_types::specs::lemmas::Nullabilities::nullabilities))]
+
 ghost use Rattle.std.specs.Prelude.{◌≡◌, IfOk, IsTrue, true};
 ghost use Rattle.dtype_base.specs.declared.nullability.Nullability.TheVariants.{NonNullable, Nullable};
 ghost use Rattle.dtype_types.specs.Nullable.{CanBeNonNullable, IsNullable, SetNull, nullability};
@@ -41,7 +43,6 @@ pub fn nullable_twice(dtype: &DType, alloc: Global) -> VortexResult<DType>
     ensures { IfOk result (λ d. SetNull (tree dtype.now) Nullable (tree d)) }
 {
     let once = dtype.as_nullable(alloc)?;
-    dtype_types::laws::nullability_is_set_alone();
     once.as_nullable(alloc)
 }
 
@@ -59,6 +60,5 @@ pub fn is_nullable_above(dtype: &DType, above: &DType) -> bool
 pub fn is_nullable_once_made_so(dtype: &DType, alloc: Global) -> VortexResult<bool>
     ensures { IfOk result (λ nullable. IsTrue nullable) }
 {
-    dtype_types::laws::nullability_is_set_alone();
     Ok(dtype.as_nullable(alloc)?.is_nullable())
 }

@@ -56,6 +56,12 @@ pub use Rattle.dtype_paths.specs.PathSets
 pub use Rattle.dtype_types.specs.IsValid
 pub use Rattle.dtype_types.specs.Distinct
 pub use Rattle.dtype_types.specs.FieldTypes
+pub use Rattle.dtype_types.specs.lemmas.JoinedFields
+pub use Rattle.dtype_types.specs.lemmas.NullValues
+pub use Rattle.dtype_types.specs.lemmas.Nullabilities
+pub use Rattle.dtype_types.specs.lemmas.Parts
+pub use Rattle.dtype_types.specs.lemmas.Tags
+pub use Rattle.dtype_types.specs.lemmas.Validity
 pub use Rattle.dtype_paths.specs.PathSetLaws
 pub use Rattle.dtype_paths.specs.Texts
 pub use Rattle.dtype_messages.specs.Message

@@ -10,7 +10,7 @@ use Rattle.dtype_types.specs.TreeOf.{tree, children, choices, struct_dtypes, uni
 use Rattle.dtype_types.specs.declared.dtype.DType.{size-DType}
 use Rattle.dtype_types.proofs.Depths.{no_deeper}
 use Rattle.dtype_types.proofs.Parts.{fields_shown, variants_shown}
-use Rattle.dtype_types.proofs.TreeLaws.{tree_null}
+use Rattle.dtype_types.specs.lemmas.TreeLaws.{tree_null}
 use Rattle.dtype_types.proofs.OtherKinds.{not_null}
 use Rattle.dtype_types.proofs.Alongside.{fields_turn, variants_turn, fields_end, variants_end, still_even, differ_fields, differ_variants, not_true, not_false, tags_same, tags_differ}
 use Rattle.dtype_types.proofs.Walks.{next_of_both, none_of_either, nothing_of_either}
@@ -22,7 +22,7 @@ dtype::equality::agree-returns-in_default t c =
 
 pub struct_fields::StructFields::agree-returns-then-nfields-count : goal.struct_fields::StructFields::agree-returns-then-nfields-count
 struct_fields::StructFields::agree-returns-then-nfields-count t c =
-    sym (differ_fields c.args.rule (children c.args.self.now) (children c.args.other.now) (λ e. absurd (c.if-nfields-count.true (c.nfields.ensures.all ∙ sym e ∙ sym c.nfields-count.ensures.all))))
+    sym (differ_fields c.args.rule (children c.args.self.now) (children c.args.other.now) (λ e. absurd (c.if-nfields-count.true (c.nfields.ensures ∙ sym e ∙ sym c.nfields-count.ensures))))
 
 pub struct_fields::StructFields::agree-returns-then-ne : goal.struct_fields::StructFields::agree-returns-then-ne
 struct_fields::StructFields::agree-returns-then-ne t c =
@@ -60,7 +60,7 @@ struct_fields::StructFields::agree-returns t c =
 
 pub union_variants::UnionVariants::agree-returns-then-len-count : goal.union_variants::UnionVariants::agree-returns-then-len-count
 union_variants::UnionVariants::agree-returns-then-len-count t c =
-    sym (differ_variants c.args.rule (choices c.args.self.now) (choices c.args.other.now) (λ e. absurd (c.if-len-count.true (c.len.ensures.all ∙ sym e ∙ sym c.len-count.ensures.all))))
+    sym (differ_variants c.args.rule (choices c.args.self.now) (choices c.args.other.now) (λ e. absurd (c.if-len-count.true (c.len.ensures ∙ sym e ∙ sym c.len-count.ensures))))
 
 pub union_variants::UnionVariants::agree-returns-then-ne : goal.union_variants::UnionVariants::agree-returns-then-ne
 union_variants::UnionVariants::agree-returns-then-ne t c =

@@ -7,13 +7,14 @@ use Rattle.std.specs.Fmt.{HasWritten}
 use denote.Param.Weighed.{most}
 use Rattle.std.proofs.Output.{has_written_append, has_written_of_eq}
 use Rattle.std.proofs.lemmas.Grind.{common_steps, put_three}
+use Rattle.dtype_types.proofs.ConsecutiveTags.{told_by_test}
 use Rattle.dtype_types.proofs.Depths.{no_deeper}
 use Rattle.dtype_types.proofs.Walks.{next_of, none_of}
 use Rattle.dtype_types.proofs.Texts.{map_all, struct_all, union_all, extension_all, leading, leading_all, one_written, all_written, named_text, tagged_text}
 use Rattle.dtype_types.specs.Tree.{fields, variants}
 use Rattle.dtype_types.specs.Text.{text, bool_text, field_texts, choice_texts, consecutive, tag_text}
 use Rattle.dtype_types.specs.Lists.{seconds, types_of, lent_pair, lent_triple}
-use Rattle.dtype_types.specs.TreeOf.{struct_dtypes, struct_tree, union_dtypes, union_tree, tree, with_trees, with_tagged_trees}
+use Rattle.dtype_types.specs.TreeOf.{choices, struct_dtypes, struct_tree, union_dtypes, union_tree, tree, with_trees, with_tagged_trees}
 use Rattle.dtype_types.specs.declared.dtype.DType.{size-DType}
 use Rattle.dtype_types.specs.TextOf.{map_text, struct_text, union_text, extension_text}
 use Rattle.dtype_types.proofs.+text.Goals as goal
@@ -114,7 +115,7 @@ union_variants::UnionVariantsDisplay::fmt-loop-name-preserved g t c = record {
       let x = n ++ (tag_text k tag ++ (codes "=" ++ d)) in
       let known = c.is_consecutive-consecutive.result in (
         so_far.0 ++ (separator ++ x),
-        put_three _ _ c.loop-name.f _ _ so_far.0 (separator ++ (n ++ (tag_text known tag ++ codes "="))) d _ so_far.1 named typed (tagged_text so_far.0 separator n d tag known k c.is_consecutive-consecutive.ensures),
+        put_three _ _ c.loop-name.f _ _ so_far.0 (separator ++ (n ++ (tag_text known tag ++ codes "="))) d _ so_far.1 named typed (tagged_text so_far.0 separator n d tag known k (told_by_test (choices c.args.self.now) known c.is_consecutive-consecutive.ensures)),
         one_written (codes ", ") separator so_far.0 _ x _ _ so_far.2 (ap (λ ps. choice_texts k (variants (with_tagged_trees ps))) next),
       );
 }

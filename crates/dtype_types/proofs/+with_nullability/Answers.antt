@@ -2,21 +2,12 @@
 -- SPDX-FileCopyrightText: Copyright the Vortex contributors
 
 use Rattle.dtype_types.proofs.SameParts.{set_struct, set_union}
-use Rattle.dtype_types.proofs.Validity.{struct_again, union_again}
 use Rattle.dtype_types.proofs.+with_nullability.Goals as goal
 
 pub dtype::DType::set_nullability-returns-in_ok-try_clone-in-Struct-clause-set : goal.dtype::DType::set_nullability-returns-in_ok-try_clone-in-Struct-clause-set
 dtype::DType::set_nullability-returns-in_ok-try_clone-in-Struct-clause-set t c =
-    set_struct c.in_ok-try_clone-in-Struct.field-0 c.in-Struct.fields c.in-Struct.field-1 c.args.n c.args.self.now c.in-Struct.is c.in_ok-try_clone-in-Struct.ensures.fields
-
-pub dtype::DType::set_nullability-returns-in_ok-try_clone-in-Struct-clause-valid : goal.dtype::DType::set_nullability-returns-in_ok-try_clone-in-Struct-clause-valid
-dtype::DType::set_nullability-returns-in_ok-try_clone-in-Struct-clause-valid t c =
-    struct_again c.in_ok-try_clone-in-Struct.field-0 c.in-Struct.fields c.in-Struct.field-1 c.args.n c.args.self.now c.in-Struct.is c.in_ok-try_clone-in-Struct.ensures.fields
+    set_struct c.in_ok-try_clone-in-Struct.field-0 c.in-Struct.fields c.in-Struct.field-1 c.args.n c.args.self.now c.in-Struct.is c.in_ok-try_clone-in-Struct.ensures.same
 
 pub dtype::DType::set_nullability-returns-in_ok-try_clone-in-Union-clause-set : goal.dtype::DType::set_nullability-returns-in_ok-try_clone-in-Union-clause-set
 dtype::DType::set_nullability-returns-in_ok-try_clone-in-Union-clause-set t c =
-    set_union c.in_ok-try_clone-in-Union.field-0 c.in-Union.variants c.in-Union.field-1 c.args.n c.args.self.now c.in-Union.is c.in_ok-try_clone-in-Union.ensures.variants
-
-pub dtype::DType::set_nullability-returns-in_ok-try_clone-in-Union-clause-valid : goal.dtype::DType::set_nullability-returns-in_ok-try_clone-in-Union-clause-valid
-dtype::DType::set_nullability-returns-in_ok-try_clone-in-Union-clause-valid t c =
-    union_again c.in_ok-try_clone-in-Union.field-0 c.in-Union.variants c.in-Union.field-1 c.args.n c.args.self.now c.in-Union.is c.in_ok-try_clone-in-Union.ensures.variants
+    set_union c.in_ok-try_clone-in-Union.field-0 c.in-Union.variants c.in-Union.field-1 c.args.n c.args.self.now c.in-Union.is c.in_ok-try_clone-in-Union.ensures.same

@@ -19,7 +19,6 @@ impl DType {
     /// Lists of this element. Refuses 0 (OutOfMemory) alone.
     pub fn list(alloc: Global, element: DType, n: Nullability) -> VortexResult<DType>
         ensures made { IfOk result (λ d. tree d ≡ list (tree element) n) }
-        ensures valid { IsValid element → IfOk result IsValid }
         ensures refused { IsOkUnless result OutOfMemory }
     {
         Ok(DType::List(Box::new(alloc, element)?, n))
@@ -33,7 +32,6 @@ impl DType {
         n: Nullability,
     ) -> VortexResult<DType>
         ensures made { IfOk result (λ d. tree d ≡ fixed_size_list (tree element) size n) }
-        ensures valid { IsValid element → IfOk result IsValid }
         ensures refused { IsOkUnless result OutOfMemory }
     {
         Ok(DType::FixedSizeList(Box::new(alloc, element)?, size, n))
@@ -49,7 +47,6 @@ impl DType {
         n: Nullability,
     ) -> VortexResult<DType>
         ensures made { IfOk result (λ d. tree d ≡ map_of (tree key) (tree value) keys_sorted n) }
-        ensures valid { IsValid key → IsValid value → IfOk result IsValid }
         ensures accepted { OnOk result (nullability (tree key) ≡ Nullability.NonNullable) }
         ensures nullable { (result ≡ Err MapKeyNullable) ↔ IsNullable (tree key) }
         ensures refused { IfErr result (λ e. (e ≡ OutOfMemory) ⊎ (e ≡ MapKeyNullable)) }

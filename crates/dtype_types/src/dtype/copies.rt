@@ -17,7 +17,6 @@ impl DType {
     #[tactic(auto, using(crate::proofs::SameParts::same_parts))]
     pub fn try_clone(&self, alloc: Global) -> VortexResult<DType>
         ensures same { IfOk result (λ d. tree d ≡ tree self.now) }
-        ensures valid { IsValid self.now → IfOk result IsValid }
         ensures refused { IsOkUnless result OutOfMemory }
     {
         match self {

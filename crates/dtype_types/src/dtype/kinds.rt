@@ -3,6 +3,8 @@
 
 // The tests of a type's kind, and what each kind holds. They look at the outermost variant alone, not
 // through an extension.
+#![tactic(auto, using(crate::proofs::KindLaws::kind_laws))]
+
 ghost use Rattle.std.specs.Prelude.{◌≡◌, ◌↔◌, IsTrue, IsSomeAnd, IfSome, Some};
 ghost use Rattle.std.specs.Option.{option_copied, option_map};
 ghost use Rattle.dtype_base.specs.Primitives.{IsUnsigned, IsSigned, IsInteger, IsFloat};
@@ -199,7 +201,6 @@ impl DType {
     }
 
     // The name of a `Primitive`, else `None`.
-    #[tactic(auto, using(crate::proofs::KindLaws::primitive_name_none))]
     pub(crate) fn ptype(&self) -> Option<PType>
         ensures { result ≡ primitive_name (tree self.now) }
     {
@@ -210,7 +211,6 @@ impl DType {
     }
 
     /// The name of the primitive type that this is.
-    #[tactic(auto, using(crate::proofs::KindLaws::primitives))]
     pub fn as_ptype(&self) -> PType
         requires { kind (tree self.now) ≡ Kind.Primitive }
         ensures { primitive_name (tree self.now) ≡ Some result }
@@ -222,7 +222,6 @@ impl DType {
     }
 
     /// The precision and scale of a `Decimal`, else `None`.
-    #[tactic(auto, using(crate::proofs::KindLaws::decimal_of_none))]
     pub fn as_decimal_opt(&self) -> Option<&DecimalDType>
         ensures { option_copied result ≡ decimal_of (tree self.now) }
     {
@@ -233,7 +232,6 @@ impl DType {
     }
 
     /// The element of a `List`, else `None`.
-    #[tactic(auto, using(crate::proofs::KindLaws::list_element_none))]
     pub fn as_list_element_opt(&self) -> Option<&DType>
         ensures held { option_tree result ≡ list_element (tree self.now) }
         ensures valid { IsValid self.now → IfSome result (λ d. IsValid d.now) }
@@ -245,7 +243,6 @@ impl DType {
     }
 
     /// The element of a `FixedSizeList`, else `None`.
-    #[tactic(auto, using(crate::proofs::KindLaws::fixed_size_list_element_none))]
     pub fn as_fixed_size_list_element_opt(&self) -> Option<&DType>
         ensures held { option_tree result ≡ fixed_size_list_element (tree self.now) }
         ensures valid { IsValid self.now → IfSome result (λ d. IsValid d.now) }
@@ -257,7 +254,6 @@ impl DType {
     }
 
     /// The element of a `List` or of a `FixedSizeList`, else `None`.
-    #[tactic(auto, using(crate::proofs::KindLaws::any_size_list_element_none))]
     pub fn as_any_size_list_element_opt(&self) -> Option<&DType>
         ensures held { option_tree result ≡ any_size_list_element (tree self.now) }
         ensures valid { IsValid self.now → IfSome result (λ d. IsValid d.now) }
@@ -269,7 +265,6 @@ impl DType {
     }
 
     /// What a `Map` holds, else `None`.
-    #[tactic(auto, using(crate::proofs::KindLaws::maps))]
     pub fn as_map_opt(&self) -> Option<&MapDType>
         ensures held { shown map_shown result ≡ map_parts (tree self.now) }
         ensures valid { IsValid self.now → IfSome result (λ m. IsValidMap m.now) }
@@ -281,7 +276,6 @@ impl DType {
     }
 
     /// The fields of a `Struct`, else `None`.
-    #[tactic(auto, using(crate::proofs::KindLaws::structs))]
     pub fn as_struct_fields_opt(&self) -> Option<&StructFields>
         ensures held { shown children result ≡ struct_fields (tree self.now) }
         ensures valid { IsValid self.now → IfSome result (λ s. IsValidStruct s.now) }
@@ -293,7 +287,6 @@ impl DType {
     }
 
     /// The variants of a `Union`, else `None`.
-    #[tactic(auto, using(crate::proofs::KindLaws::unions))]
     pub fn as_union_variants_opt(&self) -> Option<&UnionVariants>
         ensures held { shown choices result ≡ union_variants (tree self.now) }
         ensures valid { IsValid self.now → IfSome result (λ u. IsValidUnion u.now) }
@@ -305,7 +298,6 @@ impl DType {
     }
 
     /// The extension that this is, else `None`.
-    #[tactic(auto, using(crate::proofs::KindLaws::extension_parts_none))]
     pub fn as_extension_opt(&self) -> Option<&ExtDTypeRef>
         ensures held { shown extension_shown result ≡ extension_parts (tree self.now) }
         ensures valid { IsValid self.now → IfSome result (λ e. IsValidExtension e.now) }
@@ -317,7 +309,6 @@ impl DType {
     }
 
     /// The precision and scale of a `Decimal`, else `None`.
-    #[tactic(auto, using(crate::proofs::KindLaws::decimal_of_none))]
     pub fn into_decimal_opt(self) -> Option<DecimalDType>
         ensures { result ≡ decimal_of (tree self) }
     {
@@ -328,7 +319,6 @@ impl DType {
     }
 
     /// The element of a `List`, given up, else `None`.
-    #[tactic(auto, using(crate::proofs::KindLaws::list_element_none))]
     pub fn into_list_element_opt(self) -> Option<Box<DType>>
         ensures held { option_boxed result ≡ list_element (tree self) }
         ensures valid { IsValid self → IfSome result (λ b. IsValid b.value) }
@@ -340,7 +330,6 @@ impl DType {
     }
 
     /// The element of a `FixedSizeList`, given up, else `None`.
-    #[tactic(auto, using(crate::proofs::KindLaws::fixed_size_list_element_none))]
     pub fn into_fixed_size_list_element_opt(self) -> Option<Box<DType>>
         ensures held { option_boxed result ≡ fixed_size_list_element (tree self) }
         ensures valid { IsValid self → IfSome result (λ b. IsValid b.value) }
@@ -352,7 +341,6 @@ impl DType {
     }
 
     /// The element of a `List` or of a `FixedSizeList`, given up, else `None`.
-    #[tactic(auto, using(crate::proofs::KindLaws::any_size_list_element_none))]
     pub fn into_any_size_list_element_opt(self) -> Option<Box<DType>>
         ensures held { option_boxed result ≡ any_size_list_element (tree self) }
         ensures valid { IsValid self → IfSome result (λ b. IsValid b.value) }
@@ -364,7 +352,6 @@ impl DType {
     }
 
     /// What a `Map` holds, given up, else `None`.
-    #[tactic(auto, using(crate::proofs::KindLaws::maps))]
     pub fn into_map_opt(self) -> Option<MapDType>
         ensures held { option_map map_shown result ≡ map_parts (tree self) }
         ensures valid { IsValid self → IfSome result IsValidMap }
@@ -376,7 +363,6 @@ impl DType {
     }
 
     /// The fields of a `Struct`, given up, else `None`.
-    #[tactic(auto, using(crate::proofs::KindLaws::structs))]
     pub fn into_struct_fields_opt(self) -> Option<StructFields>
         ensures held { option_map children result ≡ struct_fields (tree self) }
         ensures valid { IsValid self → IfSome result IsValidStruct }
@@ -388,7 +374,6 @@ impl DType {
     }
 
     /// The variants of a `Union`, given up, else `None`.
-    #[tactic(auto, using(crate::proofs::KindLaws::unions))]
     pub fn into_union_variants_opt(self) -> Option<UnionVariants>
         ensures held { option_map choices result ≡ union_variants (tree self) }
         ensures valid { IsValid self → IfSome result IsValidUnion }
@@ -400,7 +385,6 @@ impl DType {
     }
 
     /// The fields of the struct that this is.
-    #[tactic(auto, using(crate::proofs::KindLaws::structs))]
     pub fn as_struct_fields(&self) -> &StructFields
         requires { kind (tree self.now) ≡ Kind.Struct }
         ensures held { struct_fields (tree self.now) ≡ Some (children result.now) }
@@ -413,7 +397,6 @@ impl DType {
     }
 
     /// The fields of the struct that this is, given up.
-    #[tactic(auto, using(crate::proofs::KindLaws::structs))]
     pub fn into_struct_fields(self) -> StructFields
         requires { kind (tree self) ≡ Kind.Struct }
         ensures held { struct_fields (tree self) ≡ Some (children result) }
@@ -426,7 +409,6 @@ impl DType {
     }
 
     /// The extension that this is.
-    #[tactic(auto, using(crate::proofs::KindLaws::extensions))]
     pub fn as_extension(&self) -> &ExtDTypeRef
         requires { kind (tree self.now) ≡ Kind.Extension }
         ensures held { tree self.now ≡ extension_tree result.now }

@@ -73,10 +73,6 @@ impl DType {
     pub fn as_nonnullable(&self, alloc: Global) -> VortexResult<DType>
         requires { CanBeNonNullable (tree self.now) }
         ensures set { IfOk result (λ d. SetNull (tree self.now) Nullability.NonNullable (tree d)) }
-        ensures again { IfOk result (λ d. set_null (tree d) ≡ set_null (tree self.now)) }
-        ensures back { IfOk result
-            (λ d. SetNull (tree d) (nullability (tree self.now)) (tree self.now)) }
-        ensures valid { IsValid self.now → IfOk result IsValid }
         ensures refused { IsOkUnless result OutOfMemory }
     {
         self.with_nullability(alloc, Nullability::NonNullable)
@@ -85,11 +81,6 @@ impl DType {
     /// The type made nullable: its values are those of this one, and null. Refuses 0 (OutOfMemory) alone.
     pub fn as_nullable(&self, alloc: Global) -> VortexResult<DType>
         ensures set { IfOk result (λ d. SetNull (tree self.now) Nullability.Nullable (tree d)) }
-        ensures values { IfOk result (λ d. AddsNull (tree self.now) (tree d)) }
-        ensures again { IfOk result (λ d. set_null (tree d) ≡ set_null (tree self.now)) }
-        ensures back { IfOk result
-            (λ d. SetNull (tree d) (nullability (tree self.now)) (tree self.now)) }
-        ensures valid { IsValid self.now → IfOk result IsValid }
         ensures refused { IsOkUnless result OutOfMemory }
     {
         self.with_nullability(alloc, Nullability::Nullable)
@@ -100,14 +91,6 @@ impl DType {
     pub fn with_nullability(&self, alloc: Global, n: Nullability) -> VortexResult<DType>
         requires { n ≡ Nullability.NonNullable → CanBeNonNullable (tree self.now) }
         ensures set { IfOk result (λ d. SetNull (tree self.now) n (tree d)) }
-        ensures again { IfOk result (λ d. set_null (tree d) ≡ set_null (tree self.now)) }
-        ensures back { IfOk result
-            (λ d. SetNull (tree d) (nullability (tree self.now)) (tree self.now)) }
-        ensures can { IfOk result
-            (λ d. CanBeNonNullable (tree self.now) → CanBeNonNullable (tree d)) }
-        ensures last { IfOk result (λ d. (m : Nullability) (u : Tree) → SetNull (tree d) m u
-            → SetNull (tree self.now) m u) }
-        ensures valid { IsValid self.now → IfOk result IsValid }
         ensures refused { IsOkUnless result OutOfMemory }
     {
         self.set_nullability(alloc, n)
@@ -119,7 +102,6 @@ impl DType {
     pub(crate) fn set_nullability(&self, alloc: Global, n: Nullability) -> VortexResult<DType>
         requires { n ≡ Nullability.NonNullable → CanBeNonNullable (tree self.now) }
         ensures set { IfOk result (λ d. SetNull (tree self.now) n (tree d)) }
-        ensures valid { IsValid self.now → IfOk result IsValid }
         ensures refused { IsOkUnless result OutOfMemory }
     {
         match self {
@@ -149,7 +131,6 @@ impl DType {
     pub fn union_nullability(&self, alloc: Global, n: Nullability) -> VortexResult<DType>
         ensures set { IfOk result
             (λ d. SetNull (tree self.now) (either (nullability (tree self.now)) n) (tree d)) }
-        ensures valid { IsValid self.now → IfOk result IsValid }
         ensures refused { IsOkUnless result OutOfMemory }
     {
         self.with_nullability(alloc, self.nullability() | n)

@@ -88,7 +88,7 @@ fn decimal_within(precision: u8, scale: i8) -> VortexResult<DecimalDType>
 }
 
 // The map of the key and the value.
-#[tactic(auto, unfolding(crate::specs::ReadInOrder::map_read))]
+#[tactic(auto, using(dtype_types::specs::lemmas::Validity::validity), unfolding(crate::specs::ReadInOrder::map_read))]
 pub(crate) fn map_of(
     alloc: Global,
     key: DType,
@@ -116,7 +116,7 @@ fn names_of(alloc: Global, texts: &[String]) -> VortexResult<FieldNames>
 }
 
 // The struct of the names and the types, of which there must be as many.
-#[tactic(auto, unfolding(crate::specs::ReadInOrder::struct_read))]
+#[tactic(auto, using(dtype_types::specs::lemmas::Validity::validity), unfolding(crate::specs::ReadInOrder::struct_read))]
 pub(crate) fn struct_of(
     alloc: Global,
     names: &[String],

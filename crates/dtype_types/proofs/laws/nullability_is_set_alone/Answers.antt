@@ -1,7 +1,7 @@
 -- SPDX-License-Identifier: Apache-2.0
 -- SPDX-FileCopyrightText: Copyright the Vortex contributors
 
-use Rattle.dtype_types.proofs.SettingLaws.{set_is, set_keeps, last_decides}
+use Rattle.dtype_types.specs.lemmas.Nullabilities.{set_is, set_keeps, last_decides}
 use Rattle.dtype_types.proofs.laws.nullability_is_set_alone.Goals as goal
 
 pub returns-clause-sets : goal.returns-clause-sets

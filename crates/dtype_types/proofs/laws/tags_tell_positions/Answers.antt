@@ -1,7 +1,7 @@
 -- SPDX-License-Identifier: Apache-2.0
 -- SPDX-FileCopyrightText: Copyright the Vortex contributors
 
-use Rattle.dtype_types.proofs.TagLaws.{position_of_tag}
+use Rattle.dtype_types.specs.lemmas.Tags.{position_of_tag}
 use Rattle.dtype_types.proofs.laws.tags_tell_positions.Goals as goal
 
 pub returns : goal.returns

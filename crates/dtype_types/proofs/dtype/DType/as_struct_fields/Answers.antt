@@ -1,7 +1,7 @@
 -- SPDX-License-Identifier: Apache-2.0
 -- SPDX-FileCopyrightText: Copyright the Vortex contributors
 
-use Rattle.dtype_types.proofs.Validity.{valid_struct}
+use Rattle.dtype_types.specs.lemmas.Validity.{valid_struct}
 use Rattle.dtype_types.proofs.dtype.DType.as_struct_fields.Goals as goal
 
 pub returns-clause-valid : goal.returns-clause-valid

@@ -1,7 +1,7 @@
 -- SPDX-License-Identifier: Apache-2.0
 -- SPDX-FileCopyrightText: Copyright the Vortex contributors
 
-use Rattle.dtype_types.proofs.Validity.{valid_struct}
+use Rattle.dtype_types.specs.lemmas.Validity.{valid_struct}
 use Rattle.dtype_types.proofs.KindLaws.{struct_fields_some}
 use Rattle.dtype_types.proofs.dtype.DType.into_struct_fields.Goals as goal
 

@@ -2,7 +2,7 @@
 -- SPDX-FileCopyrightText: Copyright the Vortex contributors
 
 use Rattle.std.proofs.Common.{sym}
-use Rattle.dtype_types.proofs.Validity.{valid_struct}
+use Rattle.dtype_types.specs.lemmas.Validity.{valid_struct}
 use Rattle.dtype_types.proofs.KindLaws.{struct_fields_some}
 use Rattle.dtype_types.proofs.dtype.DType.into_struct_fields_opt.Goals as goal
 

@@ -2,7 +2,7 @@
 -- SPDX-FileCopyrightText: Copyright the Vortex contributors
 
 use Rattle.std.proofs.Common.{sym}
-use Rattle.dtype_types.proofs.Validity.{valid_union}
+use Rattle.dtype_types.specs.lemmas.Validity.{valid_union}
 use Rattle.dtype_types.proofs.KindLaws.{union_variants_some}
 use Rattle.dtype_types.proofs.dtype.DType.into_union_variants_opt.Goals as goal
 

@@ -10,7 +10,7 @@ use Rattle.dtype_types.specs.Tree.{fields}
 use Rattle.dtype_types.specs.TreeOf.{children, struct_pairs}
 use Rattle.dtype_types.specs.Valid.{ValidFields}
 use Rattle.dtype_types.proofs.Parts.{names_shown}
-use Rattle.dtype_types.proofs.Validity.{valid_joined}
+use Rattle.dtype_types.specs.lemmas.Validity.{valid_joined}
 use Rattle.dtype_types.proofs.PutTogether.{both_put}
 use Rattle.dtype_types.proofs.struct_fields.StructFields.disjoint_merge.Goals as goal
 

@@ -10,7 +10,7 @@ use Rattle.dtype_types.specs.FieldTypes.{AreValidFields, HasFields}
 use Rattle.dtype_types.specs.IsValid.{IsValidField, IsValidStruct}
 use Rattle.dtype_types.specs.Tree.{fields}
 use Rattle.dtype_types.specs.Valid.{ValidFields}
-use Rattle.dtype_types.proofs.Validity.{valid_given}
+use Rattle.dtype_types.specs.lemmas.Validity.{valid_given}
 use Rattle.dtype_types.proofs.struct_fields.StructFields.from_iter.Goals as goal
 
 -- the run that the loop has made

@@ -5,7 +5,7 @@ use Rattle.std.proofs.Common.{sym, subst, arith}
 use Rattle.std.proofs.lemmas.List.{take_all}
 use Rattle.std.proofs.lemmas.Result.{IfOk-weaker}
 use Rattle.dtype_base.specs.FieldNames.{FirstAt, IsAbsent}
-use Rattle.dtype_types.proofs.Validity.{valid_projected}
+use Rattle.dtype_types.specs.lemmas.Validity.{valid_projected}
 use Rattle.dtype_types.proofs.Projections.{field_at, absent_none, found_within, projects_more, first_unknown, all_known, projected_alike}
 use Rattle.dtype_types.specs.Building.{fields_so_far}
 use Rattle.dtype_types.specs.Lookups.{Projects, field_names}

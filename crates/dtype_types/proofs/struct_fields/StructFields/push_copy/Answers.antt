@@ -16,7 +16,7 @@ returns-clause-ok c =
     let d = c.index-dtypes-index.result in
     let p : List ℕ × Tree = (n, tree d) in
     let name = c.index-as_slice-index.is ∙ ap (λ xs. get_or xs c.args.index n) (c.as_slice.ensures ∙ c.names.ensures ∙ names_shown ps) in
-    let dtype = c.index-dtypes-index.is ∙ ap (λ xs. get_or xs c.args.index d) c.dtypes.ensures.lent in
+    let dtype = c.index-dtypes-index.is ∙ ap (λ xs. get_or xs c.args.index d) c.dtypes.ensures in
     let read = field_read ps c.args.index n d (omega (arith, c.requires, fields_shown ps)) name dtype in
     let before = fields_so_far c.args.fields in
     IfOk-weaker c.push.result _ _

@@ -10,7 +10,7 @@ use Rattle.dtype_types.specs.Tree.{Tree, fields}
 use Rattle.dtype_types.specs.TreeOf.{tree, children, with_trees}
 use Rattle.dtype_types.specs.Building.{fields_so_far}
 use Rattle.dtype_types.specs.Valid.{ValidFields}
-use Rattle.dtype_types.proofs.Validity.{valid_removed}
+use Rattle.dtype_types.specs.lemmas.Validity.{valid_removed}
 use Rattle.dtype_types.proofs.Walks.{next_numbered, none_numbered, moves_over, all_moved}
 use Rattle.dtype_types.proofs.PutTogether.{push_remove, push_removed}
 use Rattle.dtype_types.proofs.struct_fields.StructFields.without_field.Goals as goal

@@ -14,8 +14,9 @@ use Rattle.dtype_types.specs.Valid.{LacksTag, ValidVariants}
 use Rattle.dtype_types.specs.Lookups.{variant_tags}
 use Rattle.dtype_types.specs.IsValid.{IsValidUnion}
 use Rattle.dtype_types.specs.TreeOf.{choices, union_tags, union_tree}
-use Rattle.dtype_types.proofs.TreeLaws.{triples_variants}
-use Rattle.dtype_types.proofs.Alongside.{tag_at, tags_same, tags_differ}
+use Rattle.dtype_types.specs.lemmas.TreeLaws.{triples_variants}
+use Rattle.std.proofs.lemmas.Bool.{false_from_ne_true}
+use Rattle.std.proofs.lemmas.Bool.Decides.{Decides-eqb}
 use Rattle.dtype_types.specs.declared.union_variants.UnionVariants.{UnionVariants}
 
 lacks_at : (h : ℕ) (vs : Variants) (i : ℕ) → LacksTag h vs → i < length (variant_tags (triples vs)) → ¬ (get_or (variant_tags (triples vs)) i 0 ≡ h)
@@ -34,8 +35,8 @@ tag_position vs i tag v here =
     let within = slice_get_within (variant_tags (triples vs)) i tag here in
     let is = get_or_from_slice_get (variant_tags (triples vs)) i tag 0 here in
     let first = position_or_len_is (λ g. g == tag) (variant_tags (triples vs)) i 0 (omega arith)
-    (λ k before. tags_differ _ _ (λ e. tags_distinct vs k i v before within (e ∙ sym is)))
-    (λ _. tags_same _ _ is) in
+    (λ k before. false_from_ne_true _ (λ e. tags_distinct vs k i v before within ((Decides-eqb _ _).0 e ∙ sym is)))
+    (λ _. (Decides-eqb _ _).1 is) in
     rw first (ap (λ b. cond b (Some i) None) (lt-ltb i (length (variant_tags (triples vs))) within))
 
 all_tags : (u : UnionVariants) → variant_tags (triples (union_tree u)) ≡ union_tags u
@@ -50,6 +51,4 @@ pub position_within : (u : UnionVariants) (f : ℕ → Bool) (r : Option ℕ) �
 position_within u f None e = tt
 position_within u f (Some i) e = omega (arith, (position-Some f (union_tags u) i 0 (sym e)).0, length-map (choices u) (λ c. c.2))
 
--- the tag read at a place
-pub tag_read : (gs hs : List ℕ) (i : ℕ) → hs ≡ gs → i < length gs → slice_get gs i ≡ Some (get_or hs i 0)
-tag_read gs hs i e w = slice_get_read gs (length gs) i (get_or hs i 0) refl w (tag_at gs hs i e w)
+pub ruleset tags = (position_of_tag, position_within)

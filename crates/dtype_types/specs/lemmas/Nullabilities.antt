@@ -1,17 +1,13 @@
 -- SPDX-License-Identifier: Apache-2.0
 -- SPDX-FileCopyrightText: Copyright the Vortex contributors
 
--- A type whose nullability was set.
-use Rattle.std.proofs.Common.{◌≡◌, ◌↔◌, ℕ, List, Option, Some, None, IsSome, Result, IfOk, option_and_then, refl, ap, sym, ◌∙◌, subst}
+-- A type whose nullability was set: what it has, and what setting it again gives.
+use Rattle.std.proofs.Common.{◌≡◌, ◌↔◌, ℕ, List, Option, Some, None, IsSome, option_and_then, refl, ap, sym, ◌∙◌, subst}
 use Rattle.std.proofs.lemmas.Option.{same_Some}
-use Rattle.std.proofs.lemmas.Result.{IfOk-weaker}
 use Rattle.dtype_base.specs.declared.nullability.Nullability.{Nullability}
 use Rattle.dtype_base.specs.declared.nullability.Nullability.TheVariants.{NonNullable, Nullable}
-use Rattle.dtype_base.specs.declared.vortex_error.VortexError.{VortexError}
 use Rattle.dtype_types.specs.Erase.{erase}
-use Rattle.dtype_types.specs.TreeOf.{tree}
-use Rattle.dtype_types.specs.declared.dtype.DType.{DType}
-use Rattle.dtype_types.specs.Nullable.{CanBeNonNullable, SetNull, nullability, set_null}
+use Rattle.dtype_types.specs.Nullable.{CanBeNonNullable, nullability, set_null}
 use Rattle.dtype_types.specs.Tree.{Tree, null, bool, primitive, decimal, utf8, binary, list, fixed_size_list, map_of, struct, union, variant, extension}
 
 -- what holds of an extension whose storage was set, if it holds of the storage's storage
@@ -81,14 +77,12 @@ set_own _ = refl
 pub set_back : (t u : Tree) (n : Nullability) → set_null t n ≡ Some u → set_null u (nullability t) ≡ Some t
 set_back t u n e = set_again t u n (nullability t) e ∙ set_own t
 
-pub ok_again : (t : Tree) (n : Nullability) (r : Result DType VortexError) → IfOk r (λ d. set_null t n ≡ Some (tree d)) → IfOk r (λ d. set_null (tree d) ≡ set_null t)
-ok_again t n r h = IfOk-weaker r _ _ (λ d e. set_again-all t (tree d) n e) h
+-- what can be made non-nullable still can
+pub set_can : (t u : Tree) (n : Nullability) → set_null t n ≡ Some u → CanBeNonNullable t → CanBeNonNullable u
+set_can t u n e c = subst (λ (f : Nullability → Option Tree). IsSome (f NonNullable)) (sym (set_again-all t u n e)) c
 
-pub ok_back : (t : Tree) (n : Nullability) (r : Result DType VortexError) → IfOk r (λ d. set_null t n ≡ Some (tree d)) → IfOk r (λ d. set_null (tree d) (nullability t) ≡ Some t)
-ok_back t n r h = IfOk-weaker r _ _ (λ d e. set_back t (tree d) n e) h
+-- a nullability set twice: the last decides
+pub set_last : (t u v : Tree) (m n : Nullability) → set_null t m ≡ Some u → set_null u n ≡ Some v → set_null t n ≡ Some v
+set_last t u v m n e f = sym (set_again t u m n e) ∙ f
 
-pub ok_can : (t : Tree) (n : Nullability) (r : Result DType VortexError) → IfOk r (λ d. set_null t n ≡ Some (tree d)) → IfOk r (λ d. CanBeNonNullable t → CanBeNonNullable (tree d))
-ok_can t n r h = IfOk-weaker r _ _ (λ d e c. subst (λ (f : Nullability → Option Tree). IsSome (f NonNullable)) (sym (set_again-all t (tree d) n e)) c) h
-
-pub ok_last : (t : Tree) (n : Nullability) (r : Result DType VortexError) → IfOk r (λ d. set_null t n ≡ Some (tree d)) → IfOk r (λ d. (m : Nullability) (u : Tree) → SetNull (tree d) m u → SetNull t m u)
-ok_last t n r h = IfOk-weaker r _ _ (λ d e m u s. subst (λ (f : Nullability → Option Tree). f m ≡ Some u) (set_again-all t (tree d) n e) s) h
+pub ruleset nullabilities = (set_is, set_keeps, set_again-all, set_back, set_can, set_last)

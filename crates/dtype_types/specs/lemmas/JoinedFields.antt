@@ -24,3 +24,5 @@ named_before (p ∷ fs) gs name h = there (pointwise nat_eq p.0 name) (Some p.1)
 pub named_behind : (fs gs : List (List ℕ × Tree)) (name : List ℕ) → first_named fs name ≡ None → first_named (fs ++ gs) name ≡ first_named gs name
 named_behind [] gs name e = refl
 named_behind (p ∷ fs) gs name e = not_there (pointwise nat_eq p.0 name) p.1 (first_named fs name) (first_named (fs ++ gs) name) (first_named gs name) (named_behind fs gs name) e
+
+pub ruleset joined_fields = (named_before, named_behind)

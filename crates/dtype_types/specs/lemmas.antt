@@ -1,0 +1,11 @@
+-- SPDX-License-Identifier: Apache-2.0
+-- SPDX-FileCopyrightText: Copyright the Vortex contributors
+
+-- Lemmas for callers, a file a topic, each with its ruleset.
+pub mod TreeLaws
+pub mod Validity
+pub mod Nullabilities
+pub mod JoinedFields
+pub mod Tags
+pub mod Parts
+pub mod NullValues

@@ -1,0 +1,93 @@
+// SPDX-License-Identifier: Apache-2.0
+// SPDX-FileCopyrightText: Copyright the Vortex contributors
+
+//! Going over the columns of a table: what holds of all, of any, how many, the first, by chains and by a
+//! loop. What an iterator over types gives is said by their trees.
+ghost use Rattle.std.specs.Prelude.{◌≡◌, ◌↔◌, ◌||◌, All, Any, IsTrue, count_by, false, find, fold, length};
+ghost use Rattle.dtype_types.specs.Kinds.{is_nested};
+ghost use Rattle.dtype_types.specs.Lookups.{field_types, variant_types};
+ghost use Rattle.dtype_types.specs.Nullable.{IsNullable};
+ghost use Rattle.dtype_types.specs.TreeOf.{children, choices, option_tree, struct_pairs, tree};
+
+use dtype_types::{DType, StructFields, UnionVariants};
+
+/// Whether every column may be null.
+pub fn all_nullable(table: &StructFields) -> bool
+    ensures { IsTrue result ↔ All IsNullable (field_types (children table.now)) }
+{
+    table.fields().all(|dtype| dtype.is_nullable())
+}
+
+/// Whether some column may be null.
+pub fn any_nullable(table: &StructFields) -> bool
+    ensures { IsTrue result ↔ Any IsNullable (field_types (children table.now)) }
+{
+    table.fields().any(|dtype| dtype.is_nullable())
+}
+
+/// Whether every variant may be null.
+pub fn all_variants_nullable(union: &UnionVariants) -> bool
+    ensures { IsTrue result ↔ All IsNullable (variant_types (choices union.now)) }
+{
+    union.variants().all(|dtype| dtype.is_nullable())
+}
+
+/// Whether every column may be null, by the pairs that are lent.
+pub fn all_pairs_nullable(table: &StructFields) -> bool
+    ensures { IsTrue result ↔ All (λ p. IsNullable (tree p.1)) (struct_pairs table.now) }
+{
+    table.pairs().all(|(_, dtype)| dtype.is_nullable())
+}
+
+/// How many columns hold others.
+pub fn count_of_nested(table: &StructFields) -> usize
+    ensures { result ≡ count_by is_nested (field_types (children table.now)) }
+{
+    table.fields().filter(|dtype| dtype.is_nested()).count()
+}
+
+/// How many columns there are, counted.
+pub fn count_of_columns(table: &StructFields) -> usize
+    ensures { result ≡ length (children table.now) }
+{
+    table.pairs().count()
+}
+
+/// The type of the first column that holds others.
+pub fn first_nested(table: &StructFields) -> Option<&DType>
+    ensures { option_tree result ≡ find is_nested (field_types (children table.now)) }
+{
+    table.fields().find(|dtype| dtype.is_nested())
+}
+
+/// Whether some column holds others, by a fold.
+pub fn is_any_nested(table: &StructFields) -> bool
+    ensures { result ≡ fold (λ seen t. seen || is_nested t) false (field_types (children table.now)) }
+{
+    table.fields().fold(false, |seen, dtype| seen || dtype.is_nested())
+}
+
+/// Whether every column may be null, by a loop.
+pub fn all_nullable_in_turn(table: &StructFields) -> bool
+    ensures { IsTrue result ↔ All IsNullable (field_types (children table.now)) }
+{
+    for dtype in table.fields() {
+        if !dtype.is_nullable() {
+            return false;
+        }
+    }
+    true
+}
+
+/// How many columns hold others, by a loop.
+pub fn count_of_nested_in_turn(table: &StructFields) -> u64
+    ensures { result ≡ count_by is_nested (field_types (children table.now)) }
+{
+    let mut count = 0;
+    for dtype in table.fields() {
+        if dtype.is_nested() {
+            count += 1;
+        }
+    }
+    count
+}

@@ -63,17 +63,22 @@ impl Write for Unflushed {
     }
 }
 
-// Gives so many bytes of its reader at a time, and fails once it has been read so often.
+// Gives so many bytes of its reader at a time, and fails when it has been read so often; one that goes on fails at
+// that read alone, as if nothing had been.
 #[derive(Drop)]
 struct FailsToRead<R> {
     reader: R,
     most: usize,
     reads_left: usize,
+    goes_on: bool,
 }
 
 impl<R: Read> Read for FailsToRead<R> {
     fn read(&mut self, buf: &mut [u8]) -> io::Result<usize> {
         if self.reads_left == 0 {
+            if self.goes_on {
+                self.reads_left = usize::MAX;
+            }
             return Err(io::Error::from(ErrorKind::Other));
         }
         self.reads_left -= 1;
@@ -82,16 +87,21 @@ impl<R: Read> Read for FailsToRead<R> {
     }
 }
 
-// Takes two bytes a write, and fails once it has been written or flushed so often.
+// Takes two bytes a write, and fails when it has been written or flushed so often; one that goes on fails at that
+// write or flush alone.
 #[derive(Drop)]
 struct FailsToWrite {
     taken: Vec<u8>,
     writes_left: usize,
+    goes_on: bool,
 }
 
 impl FailsToWrite {
     fn count(&mut self) -> io::Result<()> {
         if self.writes_left == 0 {
+            if self.goes_on {
+                self.writes_left = usize::MAX;
+            }
             return Err(io::Error::from(ErrorKind::Other));
         }
         self.writes_left -= 1;
@@ -179,28 +189,32 @@ fn each_failure_is_told(rt: HostRuntime) -> Result<(), Fail> {
     Ok(())
 }
 
-// Each read but the last gives bytes, and the last finds the end.
+// Each read but the last gives bytes, and the last finds the end. A read that failed isn't tried again, though the
+// reader would go on.
 #[test]
 fn each_read_that_fails_is_told(rt: HostRuntime) -> Result<(), Fail> {
-    let alloc = rt.alloc();
     let bytes = LINES.as_bytes();
     let reads = bytes.len().div_ceil(3) + 1;
-    for reads_left in 0..reads {
-        let reader = FailsToRead {
-            reader: bytes,
-            most: 3,
-            reads_left,
-        };
-        let (result, written) = outcome(alloc, reader);
-        assert_eq!(rt; result, Err(DemoFault::ReadFailed), "after {reads_left}");
-        assert!(rt; written.is_empty(), "after {reads_left}");
+    for goes_on in [false, true] {
+        for reads_left in 0..reads {
+            let reader = FailsToRead {
+                reader: bytes,
+                most: 3,
+                reads_left,
+                goes_on,
+            };
+            let (result, written) = outcome(rt.alloc(), reader);
+            assert_eq!(rt; result, Err(DemoFault::ReadFailed), "after {reads_left}");
+            assert!(rt; written.is_empty(), "after {reads_left}");
+        }
     }
     let reader = FailsToRead {
         reader: bytes,
         most: 3,
         reads_left: reads,
+        goes_on: false,
     };
-    let (result, written) = outcome(alloc, reader);
+    let (result, written) = outcome(rt.alloc(), reader);
     assert_eq!(rt; result, Ok(()));
     assert_eq!(rt; written.as_slice(), ANSWERS.as_bytes());
     Ok(())
@@ -227,6 +241,7 @@ fn each_byte_takes_a_read_at_most(rt: HostRuntime) -> Result<(), Fail> {
                 reader: io::repeat(b'a').take(length as u64),
                 most,
                 reads_left: length.min(INPUT_LIMIT) + 1,
+                goes_on: false,
             };
             let (result, _) = outcome(rt.alloc(), reader);
             let want = if length > INPUT_LIMIT {
@@ -240,27 +255,40 @@ fn each_byte_takes_a_read_at_most(rt: HostRuntime) -> Result<(), Fail> {
     Ok(())
 }
 
-// The writes that occur are at least one for each two bytes, and the flush.
+// The answers, written to one that fails so often written or flushed.
+fn written_to(
+    alloc: Global,
+    writes_left: usize,
+    goes_on: bool,
+) -> (Result<(), DemoFault>, Vec<u8>) {
+    let mut writer = FailsToWrite {
+        taken: Vec::new(alloc),
+        writes_left,
+        goes_on,
+    };
+    let mut lines = LINES.as_bytes();
+    let result = run(alloc, &mut lines, &mut writer);
+    (result, writer.taken)
+}
+
+// The writes that occur are at least one for each two bytes, and the flush. What failed isn't tried again, though the
+// writer would go on.
 #[test]
 fn each_write_that_fails_is_told(rt: HostRuntime) -> Result<(), Fail> {
-    let alloc = rt.alloc();
     for writes_left in 0..1000 {
-        let mut writer = FailsToWrite {
-            taken: Vec::new(alloc),
-            writes_left,
-        };
-        let mut lines = LINES.as_bytes();
-        let result = run(alloc, &mut lines, &mut writer);
+        let (result, taken) = written_to(rt.alloc(), writes_left, false);
         if result.is_ok() {
             assert!(rt; writes_left > ANSWERS.len() / 2);
-            assert_eq!(rt; writer.taken.as_slice(), ANSWERS.as_bytes());
+            assert_eq!(rt; taken.as_slice(), ANSWERS.as_bytes());
             return Ok(());
         }
-        assert_eq!(rt; result, Err(DemoFault::WriteFailed), "after {writes_left}");
-        assert!(rt;
-            ANSWERS.as_bytes().starts_with(&writer.taken),
-            "after {writes_left}"
-        );
+        for (result, taken) in [(result, taken), written_to(rt.alloc(), writes_left, true)] {
+            assert_eq!(rt; result, Err(DemoFault::WriteFailed), "after {writes_left}");
+            assert!(rt;
+                ANSWERS.as_bytes().starts_with(&taken),
+                "after {writes_left}"
+            );
+        }
     }
     panic!(rt; "no run ended")
 }

@@ -2,25 +2,26 @@
 -- SPDX-FileCopyrightText: Copyright the Vortex contributors
 
 -- Keys that differ are in the order of the names, where these begin alike; and the index that is sorted by them.
-use Rattle.std.proofs.Common.{◌≡◌, ◌≢◌, ℕ, zero, suc, ◌+◌, ◌*◌, ◌<◌, ◌≤◌, ◌^◌, List, [], ◌∷◌, ◌++◌, length, get_or, take, drop, Some, false, refl, sym, ap, subst, ◌∙◌, inl, inr, arith, pow-suc, mul-le-mul_right, add-mul, true≢false}
+use Rattle.std.proofs.Common.{◌≡◌, ◌≢◌, ℕ, zero, suc, ◌+◌, ◌-◌, ◌*◌, ◌<◌, ◌≤◌, ◌^◌, List, [], ◌∷◌, ◌++◌, length, get_or, take, drop, Some, Bool, true, false, refl, sym, ap, subst, ◌∙◌, inl, inr, arith, pow-suc, mul-le-mul_right, add-mul, true≢false}
 use Rattle.std.specs.Prelude.{slice_get}
 use Rattle.std.specs.List.{All, range_with_len}
 use Rattle.std.specs.List.Sorted.{IsPermutation, IsSorted}
 use Rattle.std.specs.Int.{w64, from_be_bytes}
 use Rattle.std.specs.declared.cmp.Ordering.TheVariants.{Less, Equal, Greater}
-use Rattle.std.specs.Ordering.{is_lt, ordering_then, ordering_reverse, nat_cmp}
+use Rattle.std.specs.declared.cmp.Ordering.{Ordering}
+use Rattle.std.specs.Ordering.{is_lt, is_eq, ordering_then, ordering_reverse, nat_cmp}
 use Rattle.std.specs.Cmp.{IsTotalOrder, then_total, on_total, nat_cmp_is, nat_cmp_total}
 use Rattle.std.specs.Cmp.Lexicographic.{slice_cmp, nat_list_cmp_total}
-use Rattle.std.proofs.lemmas.Bool.{cases_order}
-use Rattle.std.proofs.lemmas.List.{length-map, get_or-map, map-append}
+use Rattle.std.proofs.lemmas.Bool.{cases_lt, cases_order, false≢true}
+use Rattle.std.proofs.lemmas.List.{length-map, get_or-map, get_or_default, map-append}
 use Rattle.std.proofs.lemmas.List.Elements.{All-tail, All-cons, All-append}
 use Rattle.std.proofs.lemmas.List.Sorted.{All-permutation, IsPermutation-map}
-use Rattle.std.proofs.lemmas.Option.{slice_get-get_or}
+use Rattle.std.proofs.lemmas.Option.{slice_get-get_or, slice_get_within, get_or_from_slice_get}
 use Rattle.dtype_base.specs.Bytes.{Bytes}
 use Rattle.dtype_base.specs.NameKeys.{high_first, name_key, BeginAlike}
-use Rattle.dtype_base.specs.NameOrder.{IsKeyed, IsIndexOf, KeysTell, bytes_cmp, name_cmp, position_cmp, place_cmp, positions}
+use Rattle.dtype_base.specs.NameOrder.{IsKeyed, IsOrderOf, KeysRise, bytes_cmp, name_cmp, position_cmp, place_cmp, place_side, positions}
 use Rattle.dtype_base.specs.declared.name_order.Place.{Place}
-use Rattle.dtype_base.proofs.NameSearch.{counted_more, position_total}
+use Rattle.dtype_base.proofs.NameSearch.{Stands, as_many_positions, position_at, counted_more, placed, itself, is_equal, position_total}
 
 positive : (k : ℕ) → 0 < 256 ^ k
 positive zero = omega arith
@@ -76,15 +77,20 @@ unfolding name_key
 keys_tell s m n a b alike differ =
     let a_behind = bytes_behind s m a in
     let b_behind = bytes_behind s n b in
-    elim (cases_order (high_first 8 (drop s m)) (high_first 8 (drop s n))) [
+    elim (cases_order (high_first 16 (drop s m)) (high_first 16 (drop s n))) [
       | inl same ↦ absurd (differ same)
-      | inr (inl lower) ↦ sym (nat_cmp_is _ _ Less lower) ∙ sym (behind s m n alike ∙ less 8 (drop s m) (drop s n) a_behind b_behind lower)
+      | inr (inl lower) ↦ sym (nat_cmp_is _ _ Less lower) ∙ sym (behind s m n alike ∙ less 16 (drop s m) (drop s n) a_behind b_behind lower)
       | inr (inr higher) ↦
           sym (nat_cmp_is _ _ Greater higher)
-          ∙ sym (behind s m n alike ∙ nat_list_cmp_total.antisymm (drop s m) (drop s n) ∙ ap ordering_reverse (less 8 (drop s n) (drop s m) b_behind a_behind higher))
+          ∙ sym (behind s m n alike ∙ nat_list_cmp_total.antisymm (drop s m) (drop s n) ∙ ap ordering_reverse (less 16 (drop s n) (drop s m) b_behind a_behind higher))
     ]
 
 -- ---- places
+
+both_equal : (r s : Ordering) → is_eq (ordering_then r s) ≡ true → s ≡ Equal
+both_equal Less s e = absurd (false≢true e)
+both_equal Equal s e = is_equal s (sym e)
+both_equal Greater s e = absurd (false≢true e)
 
 module _ (names : List (List ℕ)) (shared : ℕ) (alike : BeginAlike names shared) where
   begins : (p : Place) → IsKeyed names shared p → take shared (get_or names p.position []) ≡ take shared (get_or names 0 [])
@@ -98,8 +104,67 @@ module _ (names : List (List ℕ)) (shared : ℕ) (alike : BeginAlike names shar
       ∙ keys_tell shared (get_or names p.position []) n h.bytes bytes (begins p h ∙ begin) (λ e. differ (h.key ∙ e ∙ sym is))
       ∙ ap (λ o. bytes_cmp o (Some n)) (sym (slice_get-get_or names p.position [] h.within))
 
-  pub all_told : (places : List Place) (n : List ℕ) (key : ℕ) → All (IsKeyed names shared) places → Bytes n → take shared (get_or names 0 []) ≡ take shared n → key ≡ name_key shared n → KeysTell names n places key
-  all_told places n key h bytes begin is k d within = told (get_or places k d) n key (h k d within) bytes begin is
+  -- a name that stands somewhere begins as all do
+  begins_so : (n : List ℕ) → Stands names n → take shared (get_or names 0 []) ≡ take shared n
+  begins_so n t = sym (alike t.0 [] (slice_get_within names t.0 n t.1)) ∙ ap (take shared) (get_or_from_slice_get names t.0 n [] t.1)
+
+  -- how a place compares to a name that stands somewhere, where the texts are asked for
+  pub side_told : (p : Place) (n : List ℕ) (key : ℕ) → IsKeyed names shared p → Bytes n → key ≡ name_key shared n → Stands names n → place_side names n key true p ≡ name_cmp names n p.position
+  side_told p n key h bytes is t =
+      let text = name_cmp names n p.position in
+      elim (cases_order p.key key) [
+        | inl same ↦ ap (λ r. ordering_then r text) (sym (nat_cmp_is p.key key Equal same))
+        | inr (inl lower) ↦
+            let less = sym (nat_cmp_is p.key key Less lower) in
+            ap (λ r. ordering_then r text) less ∙ sym less ∙ told p n key h bytes (begins_so n t) is (λ e. omega (arith, e, lower))
+        | inr (inr higher) ↦
+            let greater = sym (nat_cmp_is p.key key Greater higher) in
+            ap (λ r. ordering_then r text) greater ∙ sym greater ∙ told p n key h bytes (begins_so n t) is (λ e. omega (arith, e, higher))
+      ]
+
+  module _ (places : List Place) (keyed : All (IsKeyed names shared) places) (order : IsOrderOf names (positions places)) where
+    -- the one place with the key of a name that stands somewhere is a place of the name
+    own_key : (n : List ℕ) (key k : ℕ) (d : Place) → KeysRise places → key ≡ name_key shared n → Stands names n → k < length places → (get_or places k d).key ≡ key → name_cmp names n (get_or places k d).position ≡ Equal
+    own_key n key k d rise is t within same =
+        let i = t.0 in
+        let s = placed names (positions places) order n i t.1 in
+        let q = s.0 in
+        let here : q < length places = omega (arith, s.1, as_many_positions places) in
+        let at : (get_or places q d).position ≡ i = sym (position_at places q d here) ∙ s.2 in
+        let name : get_or names i [] ≡ n = get_or_from_slice_get names i n [] t.1 in
+        let its : (get_or places q d).key ≡ key = (keyed q d here).key ∙ ap (λ j. name_key shared (get_or names j [])) at ∙ ap (name_key shared) name ∙ sym is in
+        elim (cases_order k q) [
+          | inl e ↦ ap (λ j. name_cmp names n (get_or places j d).position) e ∙ ap (name_cmp names n) at ∙ itself names (positions places) order n i t.1
+          | inr (inl before) ↦ absurd (omega (arith, rise k q d before here, same, its))
+          | inr (inr after) ↦ absurd (omega (arith, rise q k d after within, same, its))
+        ]
+
+    -- whether a place is below a name that stands somewhere, where the texts are asked for unless the keys tell
+    pub below_told : (n : List ℕ) (key k : ℕ) (d : Place) (by_text : Bool) → (by_text ≡ false → KeysRise places) → Bytes n → key ≡ name_key shared n → k < length places → Stands names n
+        → is_lt (name_cmp names n (get_or (positions places) k 0)) ≡ is_lt (place_side names n key by_text (get_or places k d))
+    below_told n key k d true rise bytes is within t =
+        ap is_lt (ap (name_cmp names n) (position_at places k d within) ∙ sym (side_told (get_or places k d) n key (keyed k d within) bytes is t))
+    below_told n key k d false rise bytes is within t =
+        let p = get_or places k d in
+        ap (λ i. is_lt (name_cmp names n i)) (position_at places k d within)
+        ∙ elim (cases_order p.key key) [
+          | inl same ↦ ap is_lt (own_key n key k d (rise refl) is t within same) ∙ ap (λ r. is_lt (ordering_then r Equal)) (nat_cmp_is p.key key Equal same)
+          | inr (inl lower) ↦
+              let less = nat_cmp_is p.key key Less lower in
+              ap is_lt (sym (told p n key (keyed k d within) bytes (begins_so n t) is (λ e. omega (arith, e, lower))) ∙ sym less) ∙ ap (λ r. is_lt (ordering_then r Equal)) less
+          | inr (inr higher) ↦
+              let greater = nat_cmp_is p.key key Greater higher in
+              ap is_lt (sym (told p n key (keyed k d within) bytes (begins_so n t) is (λ e. omega (arith, e, higher))) ∙ sym greater) ∙ ap (λ r. is_lt (ordering_then r Equal)) greater
+        ]
+
+    -- the last comparison, where the texts are asked for
+    pub same_told : (n : List ℕ) (key k : ℕ) (d : Place) (same : Bool) → Bytes n → key ≡ name_key shared n → k < length places → same ≡ is_eq (place_side names n key true (get_or places k d))
+        → (same ≡ true → name_cmp names n (get_or (positions places) k 0) ≡ Equal) × (same ≡ false → Stands names n → name_cmp names n (get_or (positions places) k 0) ≢ Equal)
+    same_told n key k d same bytes is within e =
+        let at = ap (name_cmp names n) (position_at places k d within) in (
+          λ t. at ∙ both_equal (nat_cmp (get_or places k d).key key) _ (sym e ∙ t),
+          λ f t equal. false≢true (sym f ∙ e ∙ ap is_eq (side_told (get_or places k d) n key (keyed k d within) bytes is t ∙ sym at ∙ equal)),
+        )
 
   -- places that are in order by their keys first are in order as positions
   not_below : (p q : Place) → IsKeyed names shared p → IsKeyed names shared q → is_lt (place_cmp names p q) ≡ false → is_lt (position_cmp names p.position q.position) ≡ false
@@ -122,18 +187,15 @@ module _ (names : List (List ℕ)) (shared : ℕ) (alike : BeginAlike names shar
       rw (get_or-map (λ q. q.position) (p ∷ ps) (k + 1) p d within, get_or-map (λ q. q.position) (p ∷ ps) k p d (omega arith))
       (not_below (get_or (p ∷ ps) (k + 1) p) (get_or (p ∷ ps) k p) (h (k + 1) p within) (h k p (omega arith)) (sorted k p low within))
 
-  -- places in any order that are sorted by their keys first are an index
-  pub index_of : (made sorted : List Place) → positions made ≡ range_with_len 0 (length names) → All (IsKeyed names shared) made → IsPermutation made sorted → IsSorted (place_cmp names) sorted → IsIndexOf names shared sorted
-  index_of made sorted each keyed moved up =
-      let still = All-permutation (IsKeyed names shared) made sorted moved keyed in
-      record {
-        alike = alike;
-        keyed = still;
-        order = record {
-          each = subst (λ is. IsPermutation is (positions sorted)) each (IsPermutation-map (λ p. p.position) made sorted moved);
-          rising = rising sorted still up;
-        };
-      }
+  -- places in any order, that are sorted by their keys first, stay places, and their positions are in order
+  pub still_keyed : (made sorted : List Place) → All (IsKeyed names shared) made → IsPermutation made sorted → All (IsKeyed names shared) sorted
+  still_keyed made sorted keyed moved = All-permutation (IsKeyed names shared) made sorted moved keyed
+
+  pub order_of : (made sorted : List Place) → positions made ≡ range_with_len 0 (length names) → All (IsKeyed names shared) made → IsPermutation made sorted → IsSorted (place_cmp names) sorted → IsOrderOf names (positions sorted)
+  order_of made sorted each keyed moved up = record {
+    each = subst (λ is. IsPermutation is (positions sorted)) each (IsPermutation-map (λ p. p.position) made sorted moved);
+    rising = rising sorted (still_keyed made sorted keyed moved) up;
+  }
 
 -- one place more
 pub positions_push : (places : List Place) (key n : ℕ) → positions places ≡ range_with_len 0 n → positions (places ++ record { key = key; position = n } ∷ []) ≡ range_with_len 0 (n + 1)
@@ -141,6 +203,23 @@ positions_push places key n so_far = map-append (λ p. p.position) places _ ∙ 
 
 pub keyed_push : (names : List (List ℕ)) (shared : ℕ) (places : List Place) (p : Place) → All (IsKeyed names shared) places → IsKeyed names shared p → All (IsKeyed names shared) (places ++ p ∷ [])
 keyed_push names shared places p so_far next = All-append (IsKeyed names shared) places (p ∷ []) so_far (All-cons (IsKeyed names shared) p [] next (λ k d within. absurd (omega arith)))
+
+-- one place more, whose key is above that before it
+pub keys_more : (places : List Place) (p : ℕ) (before here : Place) → ((j k : ℕ) (d : Place) → j < k → k < p → k < length places → (get_or places j d).key < (get_or places k d).key) → 1 ≤ p → p < length places
+    → (get_or places (p - 1) before).key < (get_or places p here).key → (j k : ℕ) (d : Place) → j < k → k < p + 1 → k < length places → (get_or places j d).key < (get_or places k d).key
+keys_more places p before here so_far some there above j k d l m within =
+    let last = ap (λ (q : Place). q.key) (get_or_default places (p - 1) before d (omega (arith, some, there))) in
+    let next = ap (λ (q : Place). q.key) (get_or_default places p here d there) in
+    elim (cases_lt k p) [
+      | inl sooner ↦ so_far j k d l sooner within
+      | inr later ↦
+          let is : k ≡ p = omega (arith, m, later) in
+          let key = ap (λ i. (get_or places i d).key) is in
+          elim (cases_lt j (p - 1)) [
+            | inl far ↦ omega (arith, so_far j (p - 1) d far (omega (arith, some)) (omega (arith, some, there)), last, next, above, key)
+            | inr near ↦ let at : j ≡ p - 1 = omega (arith, near, l, is) in omega (arith, last, next, above, key, ap (λ i. (get_or places i d).key) at)
+          ]
+    ]
 
 -- the order of places is total
 pub place_total : (names : List (List ℕ)) → IsTotalOrder (place_cmp names)
@@ -158,3 +237,21 @@ first_eight (a ∷ b ∷ c ∷ d ∷ e ∷ []) = omega arith
 first_eight (a ∷ b ∷ c ∷ d ∷ e ∷ f ∷ []) = omega arith
 first_eight (a ∷ b ∷ c ∷ d ∷ e ∷ f ∷ g ∷ []) = omega arith
 first_eight (a ∷ b ∷ c ∷ d ∷ e ∷ f ∷ g ∷ h ∷ rest) = omega arith
+
+pub none_first : (bs : List ℕ) → length bs ≡ 0 → 0 ≡ high_first 8 bs
+unfolding high_first
+none_first [] e = refl
+none_first (b ∷ bs) e = absurd (omega (arith, e))
+
+-- sixteen bytes are eight and the next eight
+pub sixteen : (bs : List ℕ) → high_first 16 bs ≡ high_first 8 bs * 2 ^ 64 + high_first 8 (drop 8 bs)
+unfolding high_first
+sixteen [] = omega arith
+sixteen (a ∷ []) = omega arith
+sixteen (a ∷ b ∷ []) = omega arith
+sixteen (a ∷ b ∷ c ∷ []) = omega arith
+sixteen (a ∷ b ∷ c ∷ d ∷ []) = omega arith
+sixteen (a ∷ b ∷ c ∷ d ∷ e ∷ []) = omega arith
+sixteen (a ∷ b ∷ c ∷ d ∷ e ∷ f ∷ []) = omega arith
+sixteen (a ∷ b ∷ c ∷ d ∷ e ∷ f ∷ g ∷ []) = omega arith
+sixteen (a ∷ b ∷ c ∷ d ∷ e ∷ f ∷ g ∷ h ∷ rest) = omega arith

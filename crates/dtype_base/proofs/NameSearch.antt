@@ -2,11 +2,14 @@
 -- SPDX-FileCopyrightText: Copyright the Vortex contributors
 
 -- What the order of positions says of a search by halves, and of names that stand twice.
-use Rattle.std.proofs.Common.{◌≡◌, ℕ, zero, Bool, pow_mono, IfSome, IfNone, suc, ◌+◌, ◌-◌, ◌/◌, ◌<◌, ◌≤◌, ◌^◌, List, [], ◌∷◌, ◌++◌, true, false, Option, Some, None, length, get_or, refl, sym, ap, subst, ◌∙◌, inl, inr, arith, ⊎_elim, pow-suc}
+use Rattle.std.proofs.Common.{◌≡◌, ℕ, zero, Bool, IfSome, IfNone, suc, ◌+◌, ◌-◌, ◌/◌, ◌<◌, ◌≤◌, ◌^◌, List, [], ◌∷◌, ◌++◌, true, false, Option, Some, None, length, get_or, if◌then◌else◌, refl, sym, ap, subst, ◌∙◌, inl, inr, arith, ⊎_elim}
 use Rattle.std.specs.Prelude.{◌≢◌, slice_get}
 use Rattle.std.specs.List.{range_with_len, AllPairs, Contains}
 use Rattle.std.specs.List.Sorted.{IsNonDecreasingBy}
 use Rattle.std.specs.Bool.{then_some}
+use Rattle.std.specs.Int.Bits.{bit_and, and_zero_r}
+use Rattle.std.proofs.lemmas.Nat.{and_mask}
+use Rattle.std.proofs.Math.Nat.{mod-eq_of_lt}
 use Rattle.std.specs.declared.cmp.Ordering.{Ordering}
 use Rattle.std.specs.declared.cmp.Ordering.TheVariants.{Less, Equal, Greater}
 use Rattle.std.specs.Ordering.{is_lt, is_eq, ordering_index, ordering_then, nat_cmp}
@@ -23,7 +26,8 @@ use Rattle.std.proofs.lemmas.List.FromFn.{length-range_with_len, get_or-range_wi
 use Rattle.std.proofs.lemmas.List.Sorted.{ranks_by, sorted_far, searchable_from_sorted, length_permutation, Contains-permutation, All-permutation}
 use Rattle.std.proofs.lemmas.Option.{same_Some, slice_get_within, slice_get_read, get_or_from_slice_get}
 use Rattle.dtype_base.specs.FieldNames.{FirstAt, IsAbsent}
-use Rattle.dtype_base.specs.NameOrder.{bytes_cmp, name_cmp, position_cmp, IsOrderOf, positions}
+use Rattle.dtype_base.specs.BinaryDigits.{binary_digits, digits_fewest, digits_halved}
+use Rattle.dtype_base.specs.NameOrder.{bytes_cmp, name_cmp, position_cmp, IsOrderOf, positions, mask, comparisons, IsWithinDigits}
 use Rattle.dtype_base.specs.declared.name_order.Place.{Place}
 
 bytes_total : IsTotalOrder bytes_cmp
@@ -48,23 +52,6 @@ last_counted a (suc n) j e = ap (λ ks. a ∷ ks) (last_counted (a + 1) n j (ome
 pub counted_more : (n : ℕ) → range_with_len 0 (n + 1) ≡ range_with_len 0 n ++ n ∷ []
 counted_more n = let next : n + 1 ≡ suc n = omega arith in ap (range_with_len 0) next ∙ last_counted 0 n n (omega arith)
 
--- half of what is left takes one binary digit less
-pub half_fits : (s t j : ℕ) → 0 < s → s < 2 ^ j → t ≤ s / 2 → (1 ≤ j) × (t < 2 ^ (j - 1))
-half_fits s t zero a b c = absurd (omega arith)
-half_fits s t (suc i) a b c =
-    let e : suc i - 1 ≡ i = omega arith in
-    (omega arith, subst (λ k. t < 2 ^ k) (sym e) (omega (arith, pow-suc 2 i)))
-
--- one comparison at most, and half of what was left
-pub halved : (before after s t b : ℕ) → after ≤ before + 1 → 0 < s → t ≤ s / 2 → (before ≤ b) × (s < 2 ^ (b - before)) → (after ≤ b) × (t < 2 ^ (b - after))
-halved before after s t b e a c h =
-    let half = half_fits s t (b - before) a h.1 c in
-    let more : 2 ^ (b - before - 1) ≤ 2 ^ (b - after) = pow_mono (omega (arith, half.0)) in
-    (omega (arith, half.0), omega (arith, half.1, more))
-
-pub spare : (compared s b : ℕ) → 0 < s → (compared ≤ b) × (s < 2 ^ (b - compared)) → compared + 1 ≤ b
-spare compared s b a h = let half = half_fits s 0 (b - compared) a h.1 (omega arith) in omega (arith, half.0)
-
 -- ---- what a test of an answer has told
 
 pub is_less : (r : Ordering) → true ≡ is_lt r → r ≡ Less
@@ -82,6 +69,29 @@ is_greater Less e f = absurd (false≢true (sym e))
 is_greater Equal e f = absurd (false≢true f)
 is_greater Greater e f = refl
 
+not_equal : (r : Ordering) → is_lt r ≡ false → r ≢ Equal → r ≡ Greater
+not_equal Less e f = absurd (false≢true (sym e))
+not_equal Equal e f = absurd (f refl)
+not_equal Greater e f = refl
+
+one_left : {size : ℕ} → 0 < size → size ≤ 1 → binary_digits (size - 1) ≡ 0
+unfolding binary_digits
+one_left {size} a b = let none : size - 1 ≡ 0 = omega (arith, a, b) in ap binary_digits none
+
+count_of : (n compared : ℕ) → 0 < n → compared ≡ binary_digits (n - 1) → compared + 1 ≡ comparisons n
+count_of zero compared a e = absurd (omega arith)
+count_of (suc n) compared a e = let less : suc n - 1 ≡ n = omega arith in ap (λ k. k + 1) (e ∙ ap binary_digits less)
+
+-- so many comparisons are within the digits
+pub within_digits : (n count : ℕ) → count ≡ comparisons n → IsWithinDigits n count
+within_digits zero count e = record { most = λ digits fits. omega (arith, e) }
+within_digits (suc n) count e = record { most = λ digits fits. let few = digits_fewest n digits (omega (arith, fits)) in omega (arith, e, few) }
+
+-- and at least one where there is a name
+pub some_compared : (n count : ℕ) → count ≡ comparisons n → 0 < n → 0 < count
+some_compared zero count e a = absurd (omega arith)
+some_compared (suc n) count e a = omega (arith, e)
+
 -- the names before this place are below n; from it on none is
 abbrev pub AllBelow : List (List ℕ) → List ℕ → List ℕ → ℕ → Type 0
 AllBelow names order n low = (k : ℕ) → k < low → name_cmp names n (get_or order k 0) ≡ Less
@@ -89,23 +99,28 @@ AllBelow names order n low = (k : ℕ) → k < low → name_cmp names n (get_or 
 abbrev pub NoneBelow : List (List ℕ) → List ℕ → List ℕ → ℕ → Type 0
 NoneBelow names order n high = (k : ℕ) → high ≤ k → k < length order → is_lt (name_cmp names n (get_or order k 0)) ≡ false
 
--- the position at this place, if the name there is n
-abbrev pub FoundAt : List (List ℕ) → List ℕ → List ℕ → ℕ → Option ℕ → Type 0
-FoundAt names order n p found = (p < length order → found ≡ then_some (is_eq (name_cmp names n (get_or order p 0))) (get_or order p 0)) × (length order ≤ p → found ≡ None)
-
 -- the name at each place before this one is above all names before it
 abbrev pub AllRise : List (List ℕ) → List ℕ → ℕ → Type 0
 AllRise names order before = (k : ℕ) (n : List ℕ) → k < before → k < length order → slice_get names (get_or order k 0) ≡ Some n → AllBelow names order n k
 
--- A search by halves: the names before `low` are below the name, those from `high` on are not, `found` tells of that
--- at `high`, and each comparison halves what is left.
-pub record Halving (names : List (List ℕ)) (order n : List ℕ) (low high compared : ℕ) (found : Option ℕ) : Type 0 where
-  pub between : low ≤ high
-  pub within : high ≤ length order
-  pub below : AllBelow names order n low
-  pub from : NoneBelow names order n high
-  pub few : (b : ℕ) → length order < 2 ^ b → (compared ≤ b) × (high - low < 2 ^ (b - compared))
-  pub told : FoundAt names order n high found
+-- the name stands somewhere
+abbrev pub Stands : List (List ℕ) → List ℕ → Type 0
+Stands names n = (i : ℕ) × (slice_get names i ≡ Some n)
+
+-- A search by halves, with so many places left from `low` on. If the name stands anywhere, its first place is among
+-- them: the names before them are below it, and none from the last of them on is. So many digits are compared as a
+-- number of places has more than what is left.
+pub record Searching (names : List (List ℕ)) (order n : List ℕ) (low size compared : ℕ) : Type 0 where
+  pub some : 0 < size
+  pub within : low + size ≤ length order
+  pub below : Stands names n → AllBelow names order n low
+  pub from : Stands names n → NoneBelow names order n (low + size - 1)
+  pub count : compared + binary_digits (size - 1) ≡ binary_digits (length order - 1)
+
+-- a number under a mask
+masked : (b : Bool) (number below : ℕ) → number < 2 ^ 64 → below ≡ mask b → bit_and number below ≡ (if b then number else 0)
+masked true number below fits e = ap (bit_and number) e ∙ and_mask number 64 ∙ mod-eq_of_lt fits
+masked false number below fits e = ap (bit_and number) e ∙ and_zero_r number
 
 module _ (names : List (List ℕ)) (order : List ℕ) (h : IsOrderOf names order) where
   pub as_many : length order ≡ length names
@@ -144,10 +159,10 @@ module _ (names : List (List ℕ)) (order : List ℕ) (h : IsOrderOf names order
     above_more m b e k l w = index_more _ _ (ranked n m k 0 l w) e
 
     -- a position of the name compares as equal
-    itself : (i : ℕ) → slice_get names i ≡ Some n → name_cmp names n i ≡ Equal
+    pub itself : (i : ℕ) → slice_get names i ≡ Some n → name_cmp names n i ≡ Equal
     itself i e = ap (λ o. bytes_cmp o (Some n)) e ∙ tied_itself bytes_total (Some n)
 
-    placed : (i : ℕ) → slice_get names i ≡ Some n → (q : ℕ) × (q < length order) × (get_or order q 0 ≡ i)
+    pub placed : (i : ℕ) → slice_get names i ≡ Some n → (q : ℕ) × (q < length order) × (get_or order q 0 ≡ i)
     placed i e = let s = stands i (slice_get_within names i n e) in (s.0, s.1, get_or_default order s.0 0 i s.1 ∙ s.2)
 
     at_place : (q i : ℕ) → get_or order q 0 ≡ i → slice_get names i ≡ Some n → name_cmp names n (get_or order q 0) ≡ Equal
@@ -197,21 +212,57 @@ module _ (names : List (List ℕ)) (order : List ℕ) (h : IsOrderOf names order
         (λ after. not_above (ranked n p s.0 0 after s.1) e same)
         (cases_lt s.0 p)
 
-    at_end : (p : ℕ) (o : Option ℕ) (b : Bool) → p < length order → AllBelow names order n p → NoneBelow names order n p → is_eq (name_cmp names n (get_or order p 0)) ≡ b → o ≡ then_some b (get_or order p 0) → IfSome o (FirstAt names n) × IfNone o (IsAbsent names n)
-    at_end p o true within below none e is =
-        subst (λ r. IfSome r (FirstAt names n) × IfNone r (IsAbsent names n)) (sym is) (found p within below (is_equal _ (sym e)), tt)
-    at_end p o false within below none e is =
-        subst (λ r. IfSome r (FirstAt names n) × IfNone r (IsAbsent names n)) (sym is) (tt, absent_at p within below (is_greater _ (none p (omega arith) within) (sym e)))
+    -- before the first step
+    pub starts : 0 < length order → Searching names order n 0 (length order) 0
+    starts some = record {
+      some = some;
+      within = omega arith;
+      below = λ t k l. absurd (omega (arith, l));
+      from = λ t k l within.
+          let s = placed t.0 t.1 in
+          above_more s.0 s.1 (ap is_lt (at_place s.0 t.0 s.2 t.1)) k (omega (arith, l, within, s.1)) within;
+      count = omega arith;
+    }
 
-    -- what was found where the search ends
-    pub ends : (p : ℕ) (o : Option ℕ) → p ≤ length order → AllBelow names order n p → NoneBelow names order n p → FoundAt names order n p o → IfSome o (FirstAt names n) × IfNone o (IsAbsent names n)
-    ends p o most below none is =
-        elim (cases_lt p (length order)) [
-          | inl within ↦ at_end p o _ within below none refl (is.0 within)
-          | inr past ↦
-              let last : p ≡ length order = omega (arith, most, past) in
-              subst (λ r. IfSome r (FirstAt names n) × IfNone r (IsAbsent names n)) (sym (is.1 past)) (tt, absent_past (subst (AllBelow names order n) last below))
-        ]
+    -- one step: a comparison with the last name of the first half tells which half is left
+    pub steps : (low size compared half m below : ℕ) (b : Bool) → Searching names order n low size compared → 1 < size → half ≡ size / 2 → m ≡ low + half - 1 → half < 2 ^ 64
+        → (Stands names n → is_lt (name_cmp names n (get_or order m 0)) ≡ b) → below ≡ mask b → Searching names order n (low + bit_and half below) (size - half) (compared + 1)
+    steps low size compared half m below true inv more is at fits told e =
+        let moved : bit_and half below ≡ half = masked true half below fits e in record {
+          some = omega (arith, more, is);
+          within = omega (arith, moved, inv.within, is);
+          below = λ t. subst (AllBelow names order n) (omega (arith, moved, at, is, more)) (below_more m (omega (arith, at, is, more, inv.within)) (is_less _ (sym (told t))));
+          from = λ t. subst (NoneBelow names order n) (omega (arith, moved, is, more)) (inv.from t);
+          count = omega (arith, inv.count, digits_halved (size - 1) (size - half - 1) (omega (arith, more)) (omega (arith, is, more)));
+        }
+    steps low size compared half m below false inv more is at fits told e =
+        let stayed : bit_and half below ≡ 0 = masked false half below fits e in record {
+          some = omega (arith, more, is);
+          within = omega (arith, stayed, inv.within, is);
+          below = λ t. subst (AllBelow names order n) (omega (arith, stayed)) (inv.below t);
+          from = λ t k l within. above_more m (omega (arith, at, is, more, inv.within)) (told t) k (omega (arith, l, stayed, at, is, more)) within;
+          count = omega (arith, inv.count, digits_halved (size - 1) (size - half - 1) (omega (arith, more)) (omega (arith, is, more)));
+        }
+
+    -- the last comparison tells whether the place that is left has the name
+    pub ends : (low size compared : ℕ) (same : Bool) → Searching names order n low size compared → size ≤ 1 → (same ≡ true → name_cmp names n (get_or order low 0) ≡ Equal)
+        → (same ≡ false → Stands names n → name_cmp names n (get_or order low 0) ≢ Equal)
+        → IfSome (then_some same (get_or order low 0)) (FirstAt names n) × IfNone (then_some same (get_or order low 0)) (IsAbsent names n)
+    ends low size compared true inv last is isnt =
+        let within : low < length order = omega (arith, inv.within, inv.some) in
+        let equal = is refl in
+        (found low within (inv.below (get_or order low 0, equal_is _ equal)) equal, tt)
+    ends low size compared false inv last is isnt =
+        let within : low < length order = omega (arith, inv.within, inv.some) in (
+          tt,
+          λ i e.
+              let t : Stands names n = (i, e) in
+              let left = not_equal _ (inv.from t low (omega (arith, last)) within) (isnt refl t) in
+              absent_at low within (inv.below t) left i e,
+        )
+
+    pub counts : (low size compared : ℕ) → Searching names order n low size compared → size ≤ 1 → compared + 1 ≡ comparisons (length order)
+    counts low size compared inv last = count_of (length order) compared (omega (arith, inv.within, inv.some)) (omega (arith, inv.count, one_left inv.some last))
 
     at_most_equal : (r s : Ordering) → ordering_index r ≤ ordering_index s → s ≡ Equal → r ≢ Equal → r ≡ Less
     at_most_equal Less s le e ne = refl
@@ -285,10 +336,3 @@ position_at places k d within = get_or-map (λ p. p.position) places k d 0 withi
 pub stands_within : (names : List (List ℕ)) (places : List Place) → IsOrderOf names (positions places) → (k : ℕ) (d : Place) → k < length places → (get_or places k d).position < length names
 stands_within names places h k d within =
     omega (arith, position_at places k d within, is_position names (positions places) h k (omega (arith, within, as_many_positions places)))
-
--- how many names are compared where each of a few is
-pub few_within : (n count digits : ℕ) → n ≤ 4 → count ≤ n → n < 2 ^ digits → count ≤ digits + 1
-few_within n count zero few most fits = omega arith
-few_within n count (suc zero) few most fits = omega arith
-few_within n count (suc (suc zero)) few most fits = omega arith
-few_within n count (suc (suc (suc digits))) few most fits = omega arith

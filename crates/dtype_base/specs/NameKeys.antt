@@ -11,9 +11,9 @@ high_first zero bs = 0
 high_first (suc k) [] = 0
 high_first (suc k) (b ∷ bs) = b * 256 ^ k + high_first k bs
 
--- the key of a name: the eight bytes behind the first so many
+-- the key of a name: the sixteen bytes behind the first so many
 unfoldable pub name_key : ℕ → List ℕ → ℕ
-name_key shared n = high_first 8 (drop shared n)
+name_key shared n = high_first 16 (drop shared n)
 
 -- all names begin with the same bytes, so many of them
 abbrev pub BeginAlike : List (List ℕ) → ℕ → Type 0

@@ -2,14 +2,16 @@
 -- SPDX-FileCopyrightText: Copyright the Vortex contributors
 
 -- An index of names: their positions in the order of the names' bytes, those of one name in their own
--- order, each with the key of its name, and how many names a lookup in it may compare.
-use Rattle.std.specs.Prelude.{◌≡◌, ◌≢◌, ℕ, ◌+◌, ◌<◌, ◌≤◌, ◌^◌, List, Option, Some, length, map, slice_get, slice_index_or, []}
-use Rattle.std.specs.List.{All, range_with_len}
+-- order, each with the key of its name, and how many names a lookup in it compares.
+use Rattle.std.specs.Prelude.{◌≡◌, ℕ, zero, suc, ◌+◌, ◌-◌, ◌<◌, ◌≤◌, ◌^◌, List, Option, Some, Bool, IsTrue, length, map, slice_get, slice_index_or, [], if◌then◌else◌}
+use Rattle.std.specs.List.{All, AllPairs, range_with_len}
 use Rattle.std.specs.List.Sorted.{IsPermutation, IsSorted}
 use Rattle.std.specs.Option.{option_cmp}
 use Rattle.std.specs.Ordering.{ordering_then, nat_cmp}
 use Rattle.std.specs.declared.cmp.Ordering.{Ordering}
+use Rattle.std.specs.declared.cmp.Ordering.TheVariants.{Equal}
 use Rattle.std.specs.Cmp.Lexicographic.{slice_cmp}
+use Rattle.dtype_base.specs.BinaryDigits.{binary_digits}
 use Rattle.dtype_base.specs.Bytes.{Bytes}
 use Rattle.dtype_base.specs.NameKeys.{name_key, BeginAlike}
 use Rattle.dtype_base.specs.declared.name_order.Place.{Place}
@@ -44,15 +46,30 @@ pub record IsKeyed (names : List (List ℕ)) (shared : ℕ) (p : Place) : Type 0
 abbrev pub positions : List Place → List ℕ
 positions = map (λ p. p.position)
 
--- the names' positions in order, each with its key
-pub record IsIndexOf (names : List (List ℕ)) (shared : ℕ) (places : List Place) : Type 0 where
+-- each place has another key
+abbrev pub KeysRise : List Place → Type 0
+KeysRise = AllPairs (λ p q. p.key < q.key)
+
+-- the names' positions in order, each with its key, and whether each key is another
+pub record IsIndexOf (names : List (List ℕ)) (shared : ℕ) (keys_tell : Bool) (places : List Place) : Type 0 where
   pub alike : BeginAlike names shared
   pub keyed : All (IsKeyed names shared) places
   pub order : IsOrderOf names (positions places)
+  pub rise : IsTrue keys_tell → KeysRise places
 
--- where its key is another than this one, a place's name compares to the name as the keys do
-abbrev pub KeysTell : List (List ℕ) → List ℕ → List Place → ℕ → Type 0
-KeysTell names n places key = All (λ p. p.key ≢ key → nat_cmp p.key key ≡ name_cmp names n p.position) places
+-- how the name at a place compares to a name with this key: by the keys, and by the texts where they are asked for
+abbrev pub place_side : List (List ℕ) → List ℕ → ℕ → Bool → Place → Ordering
+place_side names n key by_text p = ordering_then (nat_cmp p.key key) (if by_text then name_cmp names n p.position else Equal)
+
+-- all 64 ones, or none
+abbrev pub mask : Bool → ℕ
+mask b = if b then 2 ^ 64 - 1 else 0
+
+-- How many names a search by halves compares among so many: the binary digits of n tell which of n + 1 names is
+-- left, and one comparison more whether it is the one.
+abbrev pub comparisons : ℕ → ℕ
+comparisons zero = 0
+comparisons (suc n) = binary_digits n + 1
 
 -- at most one more than the binary digits of n, of which 0 has none
 pub record IsWithinDigits (n count : ℕ) : Type 0 where

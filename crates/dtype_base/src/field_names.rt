@@ -129,14 +129,6 @@ impl FieldNames {
         ensures found { IfSome result (FirstAt self.now name.now) }
         ensures none { IfNone result (IsAbsent self.now name.now) }
     {
-        self.scan(name)
-    }
-
-    // The first position of the name, by one comparison a name.
-    fn scan(&self, name: &str) -> Option<usize>
-        ensures found { IfSome result (FirstAt self.now name.now) }
-        ensures none { IfNone result (IsAbsent self.now name.now) }
-    {
         let items = self.items.as_slice();
         for (i, item) in items.iter().enumerate() {
             if item.eq_str(name) {

@@ -1,19 +1,24 @@
 // SPDX-License-Identifier: Apache-2.0
 // SPDX-FileCopyrightText: Copyright the Vortex contributors
 
-ghost use Rattle.std.specs.Prelude.{◌≡◌, ◌≢◌, ◌↔◌, ℕ, ◌<◌, AllPairs, IsTrue, IfOk, IfSome, IfNone, IsOkUnless, length};
+ghost use Rattle.std.specs.Prelude.{◌≡◌, ◌≢◌, ◌↔◌, ℕ, ◌+◌, ◌<◌, ◌^◌, AllPairs, IsTrue, IfOk, IfSome, IfNone, IsOkUnless, length, nat_lt};
+ghost use Rattle.std.specs.Ordering.{is_lt, is_eq};
 ghost use Rattle.dtype_base.specs.FieldNames.{FirstAt, IsAbsent, first_place};
-ghost use Rattle.dtype_base.specs.NameOrder.{IsWithinDigits};
+ghost use Rattle.dtype_base.specs.NameOrder.{IsIndexOf, IsWithinDigits, comparisons, mask, place_side};
 ghost use Rattle.dtype_base.specs.declared.vortex_error.VortexError.TheVariants.{OutOfMemory};
 
-use crate::name_key::shared_beginning;
-use crate::name_order::{Place, are_distinct, places_of, search};
-use crate::name_scan::{self, FEW};
-use crate::{FieldNames, VortexResult};
+use crate::name_key::{key_of, shared_beginning};
+use crate::name_order::{Place, are_distinct, have_own_keys, places_of};
+use crate::{FieldName, FieldNames, VortexResult};
 use std::alloc::Global;
+use std::cmp::Ordering;
+use std::hash::{Hash, Hasher};
 use std::marker::Model;
 
-/// Names in order, with an index in which they are looked up where there are more than a few.
+// Half of a key's values: those of its last eight bytes.
+const HALF: u128 = 0x1_0000_0000_0000_0000;
+
+/// Names in order, with an index in which they are looked up.
 #[derive(Debug, Drop)]
 pub struct IndexedNames {
     names: FieldNames,
@@ -21,17 +26,19 @@ pub struct IndexedNames {
     shared: usize,
     // Every position of the names, sorted by the bytes of the name there and then by itself.
     places: Vec<Place>,
+    // Whether no two places have one key, so that keys alone tell the places apart.
+    keys_tell: bool,
 }
 
 impl Model for IndexedNames {
-    ghost use Rattle.std.specs.Prelude.{ℕ, ◌<◌, List, length};
+    ghost use Rattle.std.specs.Prelude.{ℕ, List};
     ghost use Rattle.dtype_base.specs.NameOrder.{IsIndexOf};
 
     ghost Value = { List (List ℕ) };
 
     ghost view = { λ n. n.names };
 
-    ghost invariant = { λ n. 4 < length n.names → IsIndexOf n.names n.shared n.places.items };
+    ghost invariant = { λ n. IsIndexOf n.names n.shared n.keys_tell n.places.items };
 }
 
 impl IndexedNames {
@@ -40,19 +47,14 @@ impl IndexedNames {
         ensures ok { IfOk result (λ n. n ≡ names) }
         ensures refused { IsOkUnless result OutOfMemory }
     {
-        if names.len() <= FEW {
-            return Ok(IndexedNames {
-                names,
-                shared: 0,
-                places: Vec::new(alloc),
-            });
-        }
         let shared = shared_beginning(names.as_slice());
         let places = places_of(alloc, names.as_slice(), shared)?;
+        let keys_tell = have_own_keys(&places);
         Ok(IndexedNames {
             names,
             shared,
             places,
+            keys_tell,
         })
     }
 
@@ -72,21 +74,20 @@ impl IndexedNames {
         self.find_counted(name).0
     }
 
-    /// What `find` gives, and how many names it compared.
+    /// What `find` gives, and how many names it compared: the same number for every name that is looked for.
     pub fn find_counted(&self, name: &str) -> (Option<usize>, u64)
         ensures first { result.0 ≡ first_place self.now name.now }
         ensures found { IfSome result.0 (FirstAt self.now name.now) }
         ensures none { IfNone result.0 (IsAbsent self.now name.now) }
+        ensures count { result.1 ≡ comparisons (length self.now) }
         ensures most { IsWithinDigits (length self.now) result.1 }
-        ensures least { IfSome result.0 (λ _. 0 < result.1) }
+        ensures least { 0 < length self.now → 0 < result.1 }
     {
-        if self.names.len() <= FEW {
-            return name_scan::scan(&self.names, name);
-        }
         search(
             self.names.as_slice(),
             self.shared,
-            self.places.as_slice(),
+            self.keys_tell,
+            &self.places,
             name,
         )
     }
@@ -95,9 +96,148 @@ impl IndexedNames {
     pub fn are_distinct(&self) -> bool
         ensures { IsTrue result ↔ AllPairs (λ m n. m ≢ n) self.now }
     {
-        if self.names.len() <= FEW {
-            return name_scan::are_distinct(&self.names);
-        }
-        are_distinct(self.names.as_slice(), self.places.as_slice())
+        are_distinct(self.names.as_slice(), &self.places)
     }
+
+    /// The same names with their index; the names share their texts. Refuses 0 (OutOfMemory) alone.
+    pub fn try_clone(&self, alloc: Global) -> VortexResult<Self>
+        ensures ok { IfOk result (λ n. n ≡ self.now) }
+        ensures refused { IsOkUnless result OutOfMemory }
+    {
+        let names = self.names.try_clone(alloc)?;
+        let mut places = Vec::with_capacity(alloc, self.places.len())?;
+        places.extend_from_slice(&self.places)?;
+        Ok(IndexedNames {
+            names,
+            shared: self.shared,
+            places,
+            keys_tell: self.keys_tell,
+        })
+    }
+}
+
+/// By the names alone.
+impl PartialEq for IndexedNames {
+    ghost use Rattle.std.specs.Prelude.{nat_eq};
+    ghost use Rattle.std.specs.Cmp.Lexicographic.{pointwise, nat_list_eq_equiv, lists_equiv};
+    ghost use Rattle.std.specs.Cmp.{partial_equiv_from_equiv};
+
+    ghost eq = { pointwise (pointwise nat_eq) };
+
+    ghost laws = { partial_equiv_from_equiv (lists_equiv nat_list_eq_equiv) };
+
+    fn eq(&self, other: &IndexedNames) -> bool {
+        self.names == other.names
+    }
+}
+
+impl Eq for IndexedNames {
+    ghost use Rattle.std.specs.Cmp.Lexicographic.{nat_list_eq_equiv, lists_equiv};
+
+    ghost laws = { lists_equiv nat_list_eq_equiv };
+}
+
+impl Hash for IndexedNames {
+    ghost use Rattle.std.specs.Hash as fed;
+    ghost use Rattle.std.specs.Hash.{items_Alike, same_Alike};
+    ghost use Rattle.std.specs.Cmp.Lexicographic.{bytes_decides};
+
+    ghost hash_input = { fed.slice fed.str };
+
+    ghost respects_eq = { (items_Alike (same_Alike fed.str bytes_decides)).fed };
+
+    fn hash<H: Hasher>(&self, state: &mut H) {
+        self.names.hash(state);
+    }
+}
+
+// The first position of the name, or none where no name is equal to it, and how many names were compared.
+//
+// Halves what is left until it is one place, the first whose name isn't below this one if the name stands
+// anywhere at all. The steps are the same for every name, and none is a jump that a processor could guess wrong.
+fn search(
+    names: &[FieldName],
+    shared: usize,
+    keys_tell: bool,
+    places: &[Place],
+    name: &str,
+) -> (Option<usize>, u64)
+    requires { IsIndexOf names.now shared keys_tell places.now }
+    ensures found { IfSome result.0 (FirstAt names.now name.now) }
+    ensures none { IfNone result.0 (IsAbsent names.now name.now) }
+    ensures count { result.1 ≡ comparisons (length names.now) }
+{
+    if places.is_empty() {
+        return (None, 0);
+    }
+    let key = key_of(name.as_bytes(), shared);
+    let mut low = 0;
+    let mut size = places.len();
+    let mut compared = 0;
+    while size > 1 {
+        let half = size / 2;
+        let middle = places[low + half - 1];
+        let side = compare(names, middle, name, key, !keys_tell, &mut compared);
+        low += half & side.below;
+        size -= half;
+    }
+    let last = places[low];
+    let side = compare(names, last, name, key, true, &mut compared);
+    (side.same.then_some(last.position), compared)
+}
+
+// How a name compares to the one that is looked for.
+#[derive(Clone, Copy)]
+struct Side {
+    // All ones where it is below, else 0.
+    below: usize,
+    // Whether it is the same, by its key, and by its text where that was asked for.
+    same: bool,
+}
+
+// Compares the name at a place with the one that is looked for, and counts it: by the keys, and where these
+// are equal by the texts, if they are asked for. Nothing else compares a name with the one that is looked for.
+fn compare(
+    names: &[FieldName],
+    place: Place,
+    name: &str,
+    key: u128,
+    by_text: bool,
+    compared: &mut u64,
+) -> Side
+    requires within { place.position < length names.now }
+    requires room { compared.old + 1 < 2 ^ 64 }
+    ensures counted { compared.new ≡ compared.old + 1 }
+    ensures below { result.below ≡ mask (is_lt (place_side names.now name.now key by_text place)) }
+    ensures same { result.same ≡ is_eq (place_side names.now name.now key by_text place) }
+{
+    *compared += 1;
+    if by_text && place.key == key {
+        return side_of(names[place.position].as_str().cmp(name));
+    }
+    Side {
+        below: mask_below(place.key, key),
+        same: place.key == key,
+    }
+}
+
+fn side_of(ordering: Ordering) -> Side
+    ensures below { result.below ≡ mask (is_lt ordering) }
+    ensures same { result.same ≡ is_eq ordering }
+{
+    let below = if ordering.is_lt() { usize::MAX } else { 0 };
+    Side {
+        below,
+        same: ordering.is_eq(),
+    }
+}
+
+// All ones where the one number is below the other, else 0: by the borrows of their difference, half by half, since
+// a comparison would be compiled to a jump.
+fn mask_below(a: u128, b: u128) -> usize
+    ensures { result ≡ mask (nat_lt a b) }
+{
+    let low = (a % HALF).wrapping_sub(b % HALF) >> 127;
+    let high = (a / HALF).wrapping_sub(b / HALF).wrapping_sub(low);
+    (high / HALF) as usize
 }

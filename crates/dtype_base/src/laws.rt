@@ -6,6 +6,7 @@ ghost use Rattle.std.specs.Prelude.{◌≡◌, ◌+◌, ◌-◌, ◌*◌, ◌^�
 ghost use Rattle.std.specs.Iterator.{UpTo};
 ghost use Rattle.std.specs.Iterator.Runs.{YieldsInOrder, YieldsRefsInOrder};
 ghost use Rattle.std.specs.Ordering.{nat_cmp};
+ghost use Rattle.dtype_base.specs.BinaryDigits.{binary_digits};
 ghost use Rattle.dtype_base.specs.Bytes.{Bytes};
 ghost use Rattle.dtype_base.specs.NameOrder.{IsWithinDigits};
 ghost use Rattle.dtype_base.specs.Primitives.{primitive, Unsigned, Signed, IsNarrowest, HoldsUnsigned, HoldsSigned};
@@ -82,6 +83,13 @@ pub fn lookups_are_within_digits(digits: u32)
 {
     let _ = digits;
 }
+
+/// A number is below two to its binary digits, and to no fewer.
+#[tactic(auto, using(crate::specs::BinaryDigits::digits_reach, crate::specs::BinaryDigits::digits_fewest))]
+pub fn binary_digits_are_the_fewest()
+    ensures reach { (n : ℕ) → n < 2 ^ binary_digits n }
+    ensures fewest { (n digits : ℕ) → n < 2 ^ digits → binary_digits n ≤ digits }
+{}
 
 /// The names of a list come in order, lent or given up: calls of `next` give the first of those that are
 /// left, and all of them before `None`, which comes after so many items as `len` announces.

@@ -9,9 +9,9 @@
 //! Begin with `VortexError` (every refusal of the workspace), then `Nullability`, `PType`,
 //! `DecimalDType`, `DecimalType`, `FieldName`, `FieldNames` and `IndexedNames`. The definitions that the
 //! contracts cite are in `specs/`: `Refusals` (numbers), `Primitives` and `Decimals` (the two tables),
-//! `FieldNames` (`FirstAt`), `NameOrder` (the index of names), `NameKeys` (their keys) and `Escapes` (the
-//! text of a name). `laws` states what ties the tables to their meaning. What is proved, and what is only
-//! tested, is in `docs/SPECIFICATION.md`.
+//! `FieldNames` (`FirstAt`), `NameOrder` (the index of names), `NameKeys` (their keys), `BinaryDigits` and
+//! `Escapes` (the text of a name). `laws` states what ties the tables to their meaning. What is proved, and
+//! what is only tested, is in `docs/SPECIFICATION.md`.
 #![tactic(auto)]
 
 mod decimal;
@@ -23,7 +23,6 @@ mod indexed_names;
 pub mod laws;
 mod name_key;
 mod name_order;
-mod name_scan;
 mod nullability;
 mod ptype;
 mod vortex_error;

@@ -5,7 +5,7 @@
 ghost use Rattle.std.specs.Prelude.{◌≡◌, ◌↔◌, ℕ, ◌<◌, ◌≤◌, IsTrue, length, take, drop, slice_index};
 ghost use Rattle.std.specs.List.{All};
 ghost use Rattle.dtype_base.specs.Bytes.{Bytes};
-ghost use Rattle.dtype_base.specs.NameKeys.{name_key, BeginAlike};
+ghost use Rattle.dtype_base.specs.NameKeys.{high_first, name_key, BeginAlike};
 
 use crate::FieldName;
 
@@ -62,22 +62,39 @@ fn behind(text: &[u8], count: usize) -> &[u8]
     &text[count.min(text.len())..]
 }
 
-// The key of a text: the eight bytes behind the first so many as one number, the first the highest,
+// The key of a text: the sixteen bytes behind the first so many as one number, the first the highest,
 // with zeros where it ends.
-pub(crate) fn key_of(text: &[u8], shared: usize) -> u64
+pub(crate) fn key_of(text: &[u8], shared: usize) -> u128
     ensures key { result ≡ name_key shared text.now }
     ensures bytes { Bytes text.now }
 {
     let rest = behind(text, shared);
+    let high = eight_of(rest);
+    let low = eight_of(behind(rest, 8));
+    u128::from(high) * 0x1_0000_0000_0000_0000 + u128::from(low)
+}
+
+// The first eight bytes as one number, with zeros where there are fewer. A text with as many is read at once.
+fn eight_of(text: &[u8]) -> u64
+    ensures { result ≡ high_first 8 text.now }
+{
+    if text.len() >= 8 {
+        return u64::from_be_bytes([
+            text[0], text[1], text[2], text[3], text[4], text[5], text[6], text[7],
+        ]);
+    }
+    if text.is_empty() {
+        return 0;
+    }
     u64::from_be_bytes([
-        byte_at(rest, 0),
-        byte_at(rest, 1),
-        byte_at(rest, 2),
-        byte_at(rest, 3),
-        byte_at(rest, 4),
-        byte_at(rest, 5),
-        byte_at(rest, 6),
-        byte_at(rest, 7),
+        byte_at(text, 0),
+        byte_at(text, 1),
+        byte_at(text, 2),
+        byte_at(text, 3),
+        byte_at(text, 4),
+        byte_at(text, 5),
+        byte_at(text, 6),
+        byte_at(text, 7),
     ])
 }
 

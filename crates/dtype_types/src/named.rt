@@ -4,7 +4,7 @@
 ghost use Rattle.std.specs.Prelude.{◌≡◌, ◌<◌, ◌↔◌, length, IfSome, IfNone, IsTrue};
 ghost use Rattle.std.specs.List.{zip};
 ghost use Rattle.dtype_base.specs.FieldNames.{FirstAt, IsAbsent};
-ghost use Rattle.dtype_base.specs.NameOrder.{IsWithinDigits};
+ghost use Rattle.dtype_base.specs.NameOrder.{IsWithinDigits, comparisons};
 ghost use Rattle.dtype_types.specs.Distinct.{Distinct};
 ghost use Rattle.dtype_types.specs.Lists.{firsts, seconds};
 
@@ -71,8 +71,9 @@ impl<T> Named<T> {
     pub(crate) fn find_counted(&self, name: &str) -> (Option<usize>, u64)
         ensures found { IfSome result.0 (FirstAt (firsts self.now) name.now) }
         ensures none { IfNone result.0 (IsAbsent (firsts self.now) name.now) }
+        ensures count { result.1 ≡ comparisons (length self.now) }
         ensures most { IsWithinDigits (length self.now) result.1 }
-        ensures least { IfSome result.0 (λ _. 0 < result.1) }
+        ensures least { 0 < length self.now → 0 < result.1 }
     {
         self.names.find_counted(name)
     }

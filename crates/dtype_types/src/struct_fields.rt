@@ -6,7 +6,7 @@ ghost use Rattle.std.specs.Iterator.{IsFinite};
 ghost use Rattle.std.specs.List.{AllByRecursion, zip};
 ghost use Rattle.std.specs.Option.{option_copied};
 ghost use Rattle.dtype_base.specs.FieldNames.{FirstAt, IsAbsent, first_place};
-ghost use Rattle.dtype_base.specs.NameOrder.{IsWithinDigits};
+ghost use Rattle.dtype_base.specs.NameOrder.{IsWithinDigits, comparisons};
 ghost use Rattle.dtype_base.specs.declared.vortex_error.VortexError.TheVariants.{OutOfMemory};
 
 use crate::dtype::equality::{Nullabilities, agree};
@@ -150,16 +150,18 @@ impl StructFields {
         self.find_counted(name).0
     }
 
-    /// What `find` gives, and how many names were compared for it: at most one more than the binary
-    /// digits of the number of fields, of which 0 has none. Takes no memory.
+    /// What `find` gives, and how many names were compared for it: the same number for every name, found or
+    /// not, which is one more than the binary digits of the number of fields less one, and 0 where there is
+    /// none. Takes no memory.
     pub fn find_counted(&self, name: &str) -> (Option<usize>, u64)
         ensures first { result.0 ≡ first_place (field_names (children self.now)) name.now }
         ensures field { option_and_then (slice_get (field_types (children self.now))) result.0
             ≡ first_named (children self.now) name.now }
         ensures found { IfSome result.0 (FirstAt (field_names (children self.now)) name.now) }
         ensures none { IfNone result.0 (IsAbsent (field_names (children self.now)) name.now) }
+        ensures count { result.1 ≡ comparisons (length (children self.now)) }
         ensures most { IsWithinDigits (length (children self.now)) result.1 }
-        ensures least { IfSome result.0 (λ _. 0 < result.1) }
+        ensures least { 0 < length (children self.now) → 0 < result.1 }
     {
         self.shared.find_counted(name)
     }

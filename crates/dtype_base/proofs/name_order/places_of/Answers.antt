@@ -7,7 +7,7 @@ use Rattle.std.proofs.lemmas.List.{get_or_default}
 use Rattle.dtype_base.specs.NameKeys.{name_key}
 use Rattle.dtype_base.specs.NameOrder.{IsKeyed, positions}
 use Rattle.dtype_base.specs.Bytes.{Bytes}
-use Rattle.dtype_base.proofs.KeyOrder.{positions_push, keyed_push, index_of}
+use Rattle.dtype_base.proofs.KeyOrder.{positions_push, keyed_push, still_keyed, order_of}
 use Rattle.dtype_base.proofs.name_order.places_of.Goals as goal
 
 pub loop-position-preserved : goal.loop-position-preserved
@@ -24,8 +24,11 @@ loop-position-preserved c =
           (record { within = c.loop-position-test.true; key = c.key_of-key.ensures.key ∙ ap (name_key c.args.shared) name; bytes = subst Bytes name c.key_of-key.ensures.bytes }));
     }
 
-pub returns-clause-ok : goal.returns-clause-ok
-returns-clause-ok c =
+pub returns-clause-keyed : goal.returns-clause-keyed
+returns-clause-keyed c = still_keyed c.args.names.now c.args.shared c.requires c.loop-position.places.items _ c.loop-position.invariant.keyed c.sort_places.ensures.each
+
+pub returns-clause-order : goal.returns-clause-order
+returns-clause-order c =
     let names = c.args.names.now in
     let all : c.loop-position.position ≡ length names = omega (arith, c.loop-position-test.false) in
-    index_of names c.args.shared c.requires c.loop-position.places.items _ (c.loop-position.invariant.in_order ∙ ap (range_with_len 0) all) c.loop-position.invariant.keyed c.sort_places.ensures.each c.in_ok-sort_places.ensures.rising
+    order_of names c.args.shared c.requires c.loop-position.places.items _ (c.loop-position.invariant.in_order ∙ ap (range_with_len 0) all) c.loop-position.invariant.keyed c.sort_places.ensures.each c.in_ok-sort_places.ensures.rising

@@ -1,17 +1,23 @@
 -- SPDX-License-Identifier: Apache-2.0
 -- SPDX-FileCopyrightText: Copyright the Vortex contributors
 
-use Rattle.std.proofs.Common.{ap, ◌∙◌}
+use Rattle.std.proofs.Common.{ap, ◌∙◌, length}
 use Rattle.dtype_base.specs.FieldNames.{first_place}
+use Rattle.dtype_base.specs.NameOrder.{comparisons}
 use Rattle.dtype_base.specs.Places.{place_found}
+use Rattle.dtype_base.proofs.NameSearch.{within_digits, some_compared}
 use Rattle.dtype_base.proofs.indexed_names.IndexedNames.find_counted.Goals as goal
-
-pub returns-then-len-le-FEW-clause-first : goal.returns-then-len-le-FEW-clause-first
-returns-then-len-le-FEW-clause-first c =
-    place_found c.self.inside.names c.args.name.now c.scan.result.0 c.scan.ensures.found c.scan.ensures.none
-    ∙ ap (λ names. first_place names c.args.name.now) c.self.view_is
 
 pub returns-clause-first : goal.returns-clause-first
 returns-clause-first c =
     place_found c.as_slice.result.now c.args.name.now c.search.result.0 c.search.ensures.found c.search.ensures.none
     ∙ ap (λ names. first_place names c.args.name.now) (c.as_slice.ensures ∙ c.self.view_is)
+
+pub returns-clause-count : goal.returns-clause-count
+returns-clause-count c = c.search.ensures.count ∙ ap (λ names. comparisons (length names)) (c.as_slice.ensures ∙ c.self.view_is)
+
+pub returns-clause-most : goal.returns-clause-most
+returns-clause-most c = within_digits _ _ (returns-clause-count c)
+
+pub returns-clause-least : goal.returns-clause-least
+returns-clause-least c = some_compared _ _ (returns-clause-count c)

@@ -4,6 +4,7 @@
 -- What is written of the lines so far, and of the cover of their paths.
 use Rattle.std.proofs.Common.{◌≡◌, ℕ, ◌+◌, ◌<◌, ◌≤◌, ◌==◌, List, [], ◌∷◌, ◌++◌, length, get_or, map, Option, append-nil, append_assoc, true, false, sym, ap, subst, ◌∙◌, arith}
 use Rattle.std.specs.Cmp.Lexicographic.{slice_cmp}
+use Rattle.std.specs.FinSet as set
 use Rattle.std.specs.Io.KnownBytes.{Appends, Keeps}
 use Rattle.std.specs.List.Sorted.{IsSorted}
 use Rattle.std.specs.Ordering.{nat_cmp, is_lt}
@@ -13,34 +14,34 @@ use Rattle.std.proofs.KnownBytes.{Appends-kept, Appends-trans}
 use Rattle.std.proofs.lemmas.Bool.Decides.{Decides-eqb}
 use Rattle.std.proofs.lemmas.List.{flat_map_more, get_or-map, length-map, nil_from_length, map-append}
 use Rattle.vortex_dtype.specs.Tree.{Tree}
-use Rattle.vortex_dtype.specs.PathSets.{Gains, SameMembers}
-use Rattle.vortex_dtype.specs.PathSetLaws.{gains_more, gained_all}
+use Rattle.vortex_dtype.specs.CoveringLaws.{of_push}
+use Rattle.vortex_dtype.specs.PathOrder.{PathSet, set_of}
 use Rattle.vortex_dtype.specs.Types.Field.{Field}
 use Rattle.dtype_demo.specs.Lines.{lines_of, parts_of}
 use Rattle.dtype_demo.specs.Output.{answer_text, answers_to, cover_text, WritesCover, WritesOutput}
 
--- the lines before the rest of the text are answered, and their paths are kept
-pub record Answered (t : Tree) (old now : Option (List ℕ)) (kept : List (List Field)) (text rest : List ℕ) : Type 0 where
+-- the lines before the rest of the text are answered, and the set of their paths is kept
+pub record Answered (t : Tree) (old now : Option (List ℕ)) (kept : PathSet) (text rest : List ℕ) : Type 0 where
   pub lines : List (List ℕ)
   pub before : lines ++ lines_of rest ≡ lines_of text
   pub written : Appends old now (answers_to t lines)
-  pub gained : Gains [] (map parts_of lines) kept
+  pub gathered : kept ≡ set_of (map parts_of lines)
 
-pub answered_more : (t : Tree) (a b c : Option (List ℕ)) (kept new : List (List Field)) (text rest line after : List ℕ) (path : List Field) → Answered t a b kept text rest → lines_of rest ≡ line ∷ lines_of after → path ≡ parts_of line
-    → Appends b c (answer_text t path) → Gains kept (path ∷ []) new → Answered t a c new text after
+pub answered_more : (t : Tree) (a b c : Option (List ℕ)) (kept new : PathSet) (text rest line after : List ℕ) (path : List Field) → Answered t a b kept text rest → lines_of rest ≡ line ∷ lines_of after → path ≡ parts_of line
+    → Appends b c (answer_text t path) → new ≡ set.insert kept path → Answered t a c new text after
 answered_more t a b c kept new text rest line after path done first means wrote put = record {
   lines = done.lines ++ line ∷ [];
   before = append_assoc done.lines (line ∷ []) (lines_of after) ∙ ap (λ ls. done.lines ++ ls) (sym first) ∙ done.before;
   written = subst (Appends a c) (flat_map_more (λ l. answer_text t (parts_of l)) [] done.lines line) (Appends-trans a b c _ _ done.written (subst (λ p. Appends b c (answer_text t p)) means wrote));
-  gained = subst (λ (ps : List (List Field)). Gains [] ps new) (sym (map-append parts_of done.lines (line ∷ []))) (gains_more [] kept new _ (parts_of line) done.gained (subst (λ p. Gains kept (p ∷ []) new) means put));
+  gathered = put ∙ (λ i. set.insert (done.gathered i) (means i)) ∙ sym (of_push (map parts_of done.lines) (parts_of line)) ∙ ap set_of (sym (map-append parts_of done.lines (line ∷ [])));
 }
 
 -- at the end, with what is written of the cover
-pub output : (t : Tree) (a b c d : Option (List ℕ)) (kept : List (List Field)) (text rest : List ℕ) → Answered t a b kept text rest → (length rest == 0) ≡ true
-    → ((asked : List (List Field)) → SameMembers kept asked → WritesCover asked b c) → Keeps c d → WritesOutput t text a d
+pub output : (t : Tree) (a b c d : Option (List ℕ)) (kept : PathSet) (text rest : List ℕ) → Answered t a b kept text rest → (length rest == 0) ≡ true
+    → WritesCover kept b c → Keeps c d → WritesOutput t text a d
 output t a b c d kept text rest done end cover flushed =
     let all : done.lines ≡ lines_of text = sym (append-nil done.lines) ∙ ap (λ r. done.lines ++ lines_of r) (sym (nil_from_length rest ((Decides-eqb (length rest) 0).0 end))) ∙ done.before in
-    let w = cover (map parts_of (lines_of text)) (subst (λ ls. SameMembers kept (map parts_of ls)) all (gained_all _ kept done.gained)) in record {
+    let w : WritesCover (set_of (map parts_of (lines_of text))) b c = subst (λ s. WritesCover s b c) (done.gathered ∙ ap (λ ls. set_of (map parts_of ls)) all) cover in record {
       answered = b;
       answers = subst (λ ls. Appends a b (answers_to t ls)) all done.written;
       cover = record { texts = w.texts; cover = w.cover; written = Appends-kept b c d (cover_text w.texts ++ 10 ∷ []) w.written flushed };

@@ -2,17 +2,18 @@
 -- SPDX-FileCopyrightText: Copyright the Vortex contributors
 
 -- What the program prints.
-use Rattle.std.specs.Prelude.{◌↔◌, ℕ, List, [], ◌∷◌, ◌++◌, codes, map, Option, Some, None}
+use Rattle.std.specs.Prelude.{◌≡◌, ℕ, List, [], ◌∷◌, ◌++◌, codes, map, Option, Some, None}
 use Rattle.std.specs.Cmp.Lexicographic.{slice_cmp}
 use Rattle.std.specs.Io.KnownBytes.{Appends}
-use Rattle.std.specs.List.{Contains, flat_map}
+use Rattle.std.specs.List.{flat_map}
 use Rattle.std.specs.List.Sorted.{IsPermutation, IsSorted}
 use Rattle.std.specs.Ordering.{nat_cmp}
 use Rattle.vortex_dtype.specs.Distinct.{Distinct}
 use Rattle.vortex_dtype.specs.Text.{text}
 use Rattle.vortex_dtype.specs.Tree.{Tree}
 use Rattle.vortex_dtype.specs.Along.{along}
-use Rattle.vortex_dtype.specs.Cover.{Least}
+use Rattle.vortex_dtype.specs.Covering.{least}
+use Rattle.vortex_dtype.specs.PathOrder.{PathSet, set_of}
 use Rattle.vortex_dtype.specs.Texts.{path_text}
 use Rattle.vortex_dtype.specs.Types.Field.{Field}
 use Rattle.dtype_demo.specs.Lines.{lines_of, parts_of}
@@ -31,9 +32,9 @@ abbrev pub answers_to : Tree → List (List ℕ) → List ℕ
 answers_to t = flat_map (λ line. answer_text t (parts_of line))
 
 -- these are the texts of the least of the paths, each once, in the order of their bytes
-pub record IsCover (paths : List (List Field)) (texts : List (List ℕ)) : Type 0 where
+pub record IsCover (paths : PathSet) (texts : List (List ℕ)) : Type 0 where
   pub cover : List (List Field)
-  pub least : (p : List Field) → Contains cover p ↔ Least paths p
+  pub least : set_of cover ≡ least paths
   pub once : Distinct cover
   pub printed : IsPermutation (map path_text cover) texts
   pub sorted : IsSorted (slice_cmp nat_cmp) texts
@@ -43,7 +44,7 @@ abbrev pub cover_text : List (List ℕ) → List ℕ
 cover_text texts = codes "cover:" ++ flat_map (λ bytes. 32 ∷ bytes) texts
 
 -- the line of the cover of these paths is written
-pub record WritesCover (paths : List (List Field)) (old new : Option (List ℕ)) : Type 0 where
+pub record WritesCover (paths : PathSet) (old new : Option (List ℕ)) : Type 0 where
   pub texts : List (List ℕ)
   pub cover : IsCover paths texts
   pub written : Appends old new (cover_text texts ++ 10 ∷ [])
@@ -52,4 +53,4 @@ pub record WritesCover (paths : List (List Field)) (old new : Option (List ℕ))
 pub record WritesOutput (t : Tree) (bytes : List ℕ) (old new : Option (List ℕ)) : Type 0 where
   pub answered : Option (List ℕ)
   pub answers : Appends old answered (answers_to t (lines_of bytes))
-  pub cover : WritesCover (map parts_of (lines_of bytes)) answered new
+  pub cover : WritesCover (set_of (map parts_of (lines_of bytes))) answered new

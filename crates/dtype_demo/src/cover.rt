@@ -1,9 +1,7 @@
 // SPDX-License-Identifier: Apache-2.0
 // SPDX-FileCopyrightText: Copyright the Vortex contributors
 
-ghost use Rattle.std.specs.Prelude.{◌≡◌, ◌⊎◌, List, map, IfErr, IfOk, IsOkUnless, OnOk, string_bytes};
-ghost use Rattle.vortex_dtype.specs.PathSets.{SameMembers};
-ghost use Rattle.vortex_dtype.specs.Types.Field.{Field};
+ghost use Rattle.std.specs.Prelude.{◌≡◌, ◌⊎◌, map, IfErr, IfOk, IsOkUnless, OnOk, string_bytes};
 ghost use Rattle.vortex_dtype.specs.Types.VortexError.TheVariants.{OutOfMemory};
 ghost use Rattle.dtype_demo.specs.Output.{cover_text, IsCover, WritesCover};
 
@@ -18,8 +16,7 @@ pub fn write_cover<W: Write>(
     paths: FieldPathSet,
     writer: &mut W,
 ) -> Result<(), DemoFault>
-    ensures ok { (asked : List (List Field)) → SameMembers paths asked
-        → OnOk result (WritesCover asked (W.contents writer.old) (W.contents writer.new)) }
+    ensures ok { OnOk result (WritesCover paths (W.contents writer.old) (W.contents writer.new)) }
     ensures faults { IfErr result (λ fault.
         (fault ≡ DemoFault.WriteFailed) ⊎ (fault ≡ DemoFault.OutOfMemory)) }
 {
@@ -31,8 +28,7 @@ pub fn write_cover<W: Write>(
 
 // The texts of the cover of the paths, in the order of their bytes. Refuses 0 (OutOfMemory) alone.
 fn cover_texts(alloc: Global, paths: FieldPathSet) -> VortexResult<Vec<String>>
-    ensures ok { (asked : List (List Field)) → SameMembers paths asked
-        → IfOk result (λ v. IsCover asked (map (λ s. string_bytes s) v.items)) }
+    ensures ok { IfOk result (λ v. IsCover paths (map (λ s. string_bytes s) v.items)) }
     ensures refused { IsOkUnless result OutOfMemory }
 {
     let mut texts = Vec::new(alloc);

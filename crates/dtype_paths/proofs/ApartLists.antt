@@ -10,7 +10,7 @@ use Rattle.std.proofs.lemmas.List.Elements.{Contains-append_left, Contains-appen
 use Rattle.std.proofs.lemmas.Map.Keys.{IsDistinct-cons, IsDistinct-head, IsDistinct-tail}
 use Rattle.std.proofs.lemmas.Map.Made.{is_member-Decides}
 use Rattle.std.proofs.lemmas.Map.Steps.{length-le_from_distinct_below}
-use Rattle.dtype_paths.proofs.Cases.{by_bool}
+use Rattle.dtype_paths.specs.lemmas.Cases.{by_bool}
 
 pub distinct-nil : {A : Type 0} (eq : A → A → Bool) → IsDistinct eq []
 unfolding IsDistinct

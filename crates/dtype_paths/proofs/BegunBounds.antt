@@ -8,11 +8,12 @@ use Rattle.std.proofs.lemmas.List.{length-map}
 use Rattle.std.proofs.lemmas.List.Concat.{length-flat_map}
 use Rattle.std.proofs.lemmas.List.Sums.{sum_by-cons}
 use Rattle.std.proofs.lemmas.Map.Made.{is_member-Decides, IsDistinct-from_AllPairs, length-le_from_is_member}
-use Rattle.dtype_paths.specs.Cover.{Least, Begun, IsCountOf}
+use Rattle.dtype_paths.specs.Covering.{IsCountOf}
+use Rattle.dtype_paths.specs.ListCover.{Least, Begun}
 use Rattle.dtype_paths.specs.EqualityLaws.{same_path-Decides, same_path_equiv}
 use Rattle.dtype_paths.specs.declared.field.Field.{Field}
-use Rattle.dtype_paths.proofs.CoverLaws.{among_from, among_to}
-use Rattle.dtype_paths.proofs.CoverTestLaws.{Among}
+use Rattle.dtype_paths.specs.lemmas.Covers.{among_from, among_to}
+use Rattle.dtype_paths.specs.lemmas.CoverTests.{Among}
 
 -- the beginnings of a path, but for the root
 starts : List Field → List (List Field)

@@ -10,7 +10,7 @@ use Rattle.std.proofs.lemmas.Map.Keys.{IsDistinct-head}
 use Rattle.dtype_paths.specs.Equality.{same_field}
 use Rattle.dtype_paths.specs.EqualityLaws.{same_field-Decides, same_field_equiv}
 use Rattle.dtype_paths.specs.declared.field.Field.{Field}
-use Rattle.dtype_paths.proofs.Cases.{by_bool}
+use Rattle.dtype_paths.specs.lemmas.Cases.{by_bool}
 
 lookup-absent : {A B : Type 0} (test : A → _) (es : List (A × B)) → AllByRecursion (λ y. test y ≡ false) (keys_of es) → lookup test es ≡ None
 lookup-absent test [] h = refl

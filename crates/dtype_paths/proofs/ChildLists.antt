@@ -14,7 +14,7 @@ use Rattle.dtype_paths.specs.Equality.{same_field}
 use Rattle.dtype_paths.specs.EqualityLaws.{same_field_equiv}
 use Rattle.dtype_paths.specs.declared.child_list.Child.{Child}
 use Rattle.dtype_paths.specs.declared.field.Field.{Field}
-use Rattle.dtype_paths.proofs.Cases.{by_bool}
+use Rattle.dtype_paths.specs.lemmas.Cases.{by_bool}
 
 -- where a step leads that led nowhere before, and any other
 pub lookup-more : (es : List (Field × ℕ)) (k : Field) (v : ℕ) → lookup (same_field k) es ≡ None → (f : Field) → lookup (same_field f) (es ++ (k, v) ∷ []) ≡ cond (same_field k f) (Some v) (lookup (same_field f) es)

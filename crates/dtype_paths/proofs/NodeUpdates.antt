@@ -10,7 +10,7 @@ use Rattle.dtype_paths.specs.Equality.{same_field}
 use Rattle.dtype_paths.specs.Trie.{child_at}
 use Rattle.dtype_paths.specs.declared.field.Field.{Field}
 use Rattle.dtype_paths.specs.declared.node.Node.{Node}
-use Rattle.dtype_paths.proofs.Cases.{by_bool}
+use Rattle.dtype_paths.specs.lemmas.Cases.{by_bool}
 
 module _ {A B : Type 0} (f : A → Option B) where
   read-set_same : (xs : List A) (i : ℕ) (x y : A) → slice_get xs i ≡ Some x → option_and_then f (slice_get (set xs i y) i) ≡ f y

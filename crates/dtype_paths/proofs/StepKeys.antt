@@ -15,7 +15,7 @@ use Rattle.dtype_paths.specs.EqualityLaws.{same_field-Decides}
 use Rattle.dtype_paths.specs.StepKeys.{name_key, seven_and, step_key, HasBytes, IsTold}
 use Rattle.dtype_paths.specs.declared.field.Field.{Field}
 use Rattle.dtype_paths.specs.declared.field.Field.TheVariants.{Name, ElementType}
-use Rattle.dtype_paths.proofs.Cases.{by_bool}
+use Rattle.dtype_paths.specs.lemmas.Cases.{by_bool}
 
 -- what stands at the first seven places
 at_seven : (bs : List ℕ) (k i : ℕ) → i < 7 → get_or (seven_and bs k) i 0 ≡ slice_index bs i

@@ -9,11 +9,12 @@ use Rattle.std.specs.Option.{unwrap_or}
 use Rattle.std.proofs.lemmas.List.Elements.{Contains-append_left, Contains-append_right, Contains-append_cases, Contains-push, Contains-push_cases}
 use Rattle.std.proofs.lemmas.List.{length-map}
 use Rattle.std.proofs.lemmas.Option.{same_Some, option_and_then_some}
-use Rattle.dtype_paths.proofs.CoverLaws.{beginning_refl, beginning_trans, beginning_both, covers_member, least_covers, least_within}
+use Rattle.dtype_paths.specs.lemmas.Covers.{beginning_refl, beginning_trans, beginning_both, covers_member, least_covers, least_within}
 use Rattle.dtype_paths.specs.Beginning.{Beginning}
 use Rattle.std.proofs.lemmas.Map.Made.{AllPairs-from_IsDistinct}
 use Rattle.dtype_types.specs.Distinct.{Distinct}
-use Rattle.dtype_paths.specs.Cover.{SameCoverage, Least, Begun, IsCountOf}
+use Rattle.dtype_paths.specs.Covering.{IsCountOf}
+use Rattle.dtype_paths.specs.ListCover.{SameCoverage, Least, Begun}
 use Rattle.dtype_paths.specs.Equality.{same_field, same_path}
 use Rattle.dtype_paths.specs.EqualityLaws.{same_field-Decides, same_path-Decides}
 use Rattle.dtype_paths.specs.declared.field.Field.{Field}

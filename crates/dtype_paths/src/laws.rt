@@ -3,8 +3,10 @@
 
 // What follows from the definitions of paths alone. Each function's contract is the law, and its body
 // is empty.
-ghost use Rattle.std.specs.Prelude.{◌≡◌, ◌⊎◌, ◌↔◌, ℕ, Bool, IsTrue, List, [], ◌∷◌, ◌++◌};
-ghost use Rattle.std.specs.List.{Any, Contains, list_any, starts_with};
+ghost use Rattle.std.specs.Prelude.{◌≡◌, ◌⊎◌, ◌↔◌, ℕ, Bool, IsTrue, List, [], ◌∷◌, ◌++◌, ◌||◌};
+ghost use Rattle.std.specs.FinSet as set;
+ghost use Rattle.dtype_paths.specs.PathOrder.{PathSet, set_of};
+ghost use Rattle.std.specs.List.{Any, Contains, starts_with};
 ghost use Rattle.dtype_base.specs.declared.nullability.Nullability.{Nullability};
 ghost use Rattle.dtype_types.specs.Lookups.{first_named};
 ghost use Rattle.dtype_types.specs.Tree.{Fields, Tree, pairs, struct};
@@ -17,8 +19,7 @@ ghost use Rattle.dtype_paths.specs.Beginning.{Beginning};
 ghost use Rattle.dtype_paths.specs.Equality.{same_field, same_path};
 ghost use Rattle.dtype_paths.specs.Hashes.{field_writes, path_writes};
 ghost use Rattle.dtype_paths.specs.Overlaps.{Overlaps};
-ghost use Rattle.dtype_paths.specs.PathSets.{Gains, IsWithin, SameMembers};
-ghost use Rattle.dtype_paths.specs.Cover.{Covers, IsCover, Least, SameCoverage};
+ghost use Rattle.dtype_paths.specs.Covering.{CoverAlike, covers, least};
 ghost use Rattle.dtype_paths.specs.Found.{Found, FoundIn};
 ghost use Rattle.dtype_paths.specs.Meets.{MeetsNoExtension, MeetsNoSizeZero};
 ghost use Rattle.dtype_paths.specs.declared.field.Field.{Field};
@@ -62,158 +63,6 @@ pub fn the_root_begins_every_path()
 pub fn what_tests_equal_is_equal()
     ensures fields { (f g : Field) → IsTrue (same_field f g) → f ≡ g }
     ensures paths { (p q : List Field) → IsTrue (same_path p q) → p ≡ q }
-{}
-
-/// To have the same members is an equivalence of lists of paths.
-#[tactic(auto, using(crate::proofs::SetLaws::members_same, crate::proofs::SetLaws::members_flipped, crate::proofs::SetLaws::members_joined))]
-pub fn same_members_is_an_equivalence()
-    ensures reflexive { (ps : List (List Field)) → SameMembers ps ps }
-    ensures symmetric { (ps qs : List (List Field)) → SameMembers ps qs → SameMembers qs ps }
-    ensures transitive { (ps qs rs : List (List Field)) → SameMembers ps qs → SameMembers qs rs
-        → SameMembers ps rs }
-{}
-
-/// Lists of paths are ordered by what they have: two that are within one another have the same members.
-#[tactic(auto, using(crate::proofs::SetLaws::within_same, crate::proofs::SetLaws::within_joined, crate::proofs::SetLaws::members_within))]
-pub fn being_within_is_an_order()
-    ensures reflexive { (ps qs : List (List Field)) → SameMembers ps qs → IsWithin ps qs }
-    ensures transitive { (ps qs rs : List (List Field)) → IsWithin ps qs → IsWithin qs rs → IsWithin ps rs }
-    ensures antisymmetric { (ps qs : List (List Field)) → IsWithin ps qs → IsWithin qs ps → SameMembers ps qs }
-    ensures member { (ps qs : List (List Field)) (q : List Field) → IsWithin ps qs → Contains ps q → Contains qs q }
-{}
-
-/// What gains the same again has gained it once.
-#[tactic(auto, using(crate::proofs::SetLaws::gained_again, crate::proofs::SetLaws::gained_again_changes_nothing))]
-pub fn gaining_again_changes_nothing()
-    ensures gains { (old mid new ps : List (List Field)) → Gains old ps mid → Gains mid ps new → Gains old ps new }
-    ensures same { (old mid new ps : List (List Field)) → Gains old ps mid → Gains mid ps new → SameMembers new mid }
-{}
-
-/// What a set gains is in it, what was there stays, and both are all that it has; a path that was there
-/// changes no member.
-#[tactic(auto, using(crate::proofs::SetLaws::gained_is_there, crate::proofs::SetLaws::old_is_kept, crate::proofs::SetLaws::gained_union, crate::proofs::SetLaws::member_adds_nothing))]
-pub fn sets_gain_members_and_lose_none()
-    ensures gained { (old ps new : List (List Field)) → Gains old ps new → IsWithin ps new }
-    ensures kept { (old ps new : List (List Field)) → Gains old ps new → IsWithin old new }
-    ensures all { (old ps new : List (List Field)) → Gains old ps new → SameMembers new (old ++ ps) }
-    ensures again { (old new : List (List Field)) (p : List Field) → Gains old (p ∷ []) new → Contains old p
-        → SameMembers new old }
-{}
-
-/// To cover the same is an equivalence of lists of paths.
-#[tactic(auto, using(crate::proofs::SetLaws::coverage_same, crate::proofs::CoverLaws::flipped, crate::proofs::SetLaws::coverage_joined))]
-pub fn same_coverage_is_an_equivalence()
-    ensures reflexive { (ps : List (List Field)) → SameCoverage ps ps }
-    ensures symmetric { (ps qs : List (List Field)) → SameCoverage ps qs → SameCoverage qs ps }
-    ensures transitive { (ps qs rs : List (List Field)) → SameCoverage ps qs → SameCoverage qs rs
-        → SameCoverage ps rs }
-{}
-
-/// A list covers its members, and what is below what it covers; a list within another covers no more than
-/// that one.
-#[tactic(auto, using(crate::proofs::CoverLaws::covers_member, crate::proofs::SetLaws::covers_below, crate::proofs::SetLaws::covers_further, crate::proofs::SetLaws::covers_within, crate::proofs::SetLaws::covers_same))]
-pub fn lists_cover_their_members_and_what_is_below()
-    ensures member { (ps : List (List Field)) (p : List Field) → Contains ps p → Covers ps p }
-    ensures below { (ps : List (List Field)) (p q : List Field) → Covers ps p → Beginning p q → Covers ps q }
-    ensures further { (ps : List (List Field)) (p rest : List Field) → Covers ps p → Covers ps (p ++ rest) }
-    ensures within { (ps qs : List (List Field)) (q : List Field) → IsWithin ps qs → Covers ps q → Covers qs q }
-    ensures same { (ps qs : List (List Field)) (q : List Field) → SameCoverage ps qs → Covers qs q → Covers ps q }
-{}
-
-/// Lists with the same members cover the same, and have the same least paths.
-#[tactic(auto, using(crate::proofs::SetLaws::coverage_of_members, crate::proofs::SetLaws::least_of_members))]
-pub fn same_members_have_the_same_cover()
-    ensures coverage { (ps qs : List (List Field)) → SameMembers ps qs → SameCoverage ps qs }
-    ensures least { (ps qs : List (List Field)) (p : List Field) → SameMembers ps qs → (Least ps p ↔ Least qs p) }
-{}
-
-/// A list of the least paths of another covers what that one covers, and is its own cover.
-#[tactic(auto, using(crate::proofs::SetLaws::coverage_of_cover, crate::proofs::SetLaws::cover_of_cover))]
-pub fn a_cover_is_its_own_cover()
-    ensures coverage { (cover ps : List (List Field)) → ((p : List Field) → Contains cover p ↔ Least ps p)
-        → SameCoverage cover ps }
-    ensures least { (cover ps : List (List Field)) → ((p : List Field) → Contains cover p ↔ Least ps p)
-        → (p : List Field) → Contains cover p ↔ Least cover p }
-{}
-
-/// The cover of a set that a cover was put into is that cover again.
-#[tactic(auto, using(crate::proofs::SetLaws::cover_of_put_in))]
-pub fn a_cover_put_in_is_covered_by_itself()
-    ensures { (cover ps set again : List (List Field)) → IsCover cover ps → SameMembers set cover
-        → IsCover again set → IsCover again ps }
-{}
-
-/// What has exactly the least paths of a list has them one by one, and where two lists cover the same, their
-/// covers have the same members.
-#[tactic(auto, using(crate::proofs::SetLaws::covers_of_same))]
-pub fn covers_of_the_same_have_the_same_members()
-    ensures least { (cover ps : List (List Field)) (p : List Field) → IsCover cover ps
-        → (Contains cover p ↔ Least ps p) }
-    ensures members { (cover other ps qs : List (List Field)) → IsCover cover ps → IsCover other qs
-        → SameCoverage ps qs → SameMembers cover other }
-{}
-
-/// These paths cover that one exactly where it starts with some of them: for `any` over them.
-pub fn a_path_is_covered_where_it_starts_with_one(paths: &[FieldPath], path: &FieldPath)
-    ensures { Covers paths.now path.now
-        ↔ Any (λ p. IsTrue (starts_with same_field path.now p)) paths.now }
-{}
-
-/// A path is covered exactly where one of the paths, asked one by one, begins it.
-pub fn what_is_covered_is_told_one_by_one()
-    ensures { (ps qs : List (List Field)) (q : List Field) (b : Bool) → SameCoverage ps qs
-        → b ≡ list_any (λ p. starts_with same_field q p) ps → (IsTrue b ↔ Covers qs q) }
-{}
-
-/// Two lists together cover what either covers, and so do lists that cover the same as they do.
-#[tactic(auto, using(crate::proofs::SetLaws::covers_union, crate::proofs::SetLaws::coverage_of_unions))]
-pub fn two_lists_together_cover_what_either_covers()
-    ensures covers { (ps qs : List (List Field)) (q : List Field)
-        → Covers (ps ++ qs) q ↔ (Covers ps q ⊎ Covers qs q) }
-    ensures coverage { (ps qs rs ts : List (List Field)) → SameCoverage ps qs → SameCoverage rs ts
-        → SameCoverage (ps ++ rs) (qs ++ ts) }
-{}
-
-/// What a set gains it covers besides, and so where it gains, in place of paths, others that cover the same. The
-/// cover of the new set is then the cover of the old one's paths and those.
-#[tactic(auto, using(crate::proofs::SetLaws::coverage_of_gained, crate::proofs::SetLaws::cover_of_gained))]
-pub fn sets_cover_what_they_gain()
-    ensures coverage { (old ps new qs : List (List Field)) → Gains old ps new → SameCoverage ps qs
-        → SameCoverage new (old ++ qs) }
-    ensures cover { (cover old ps new qs : List (List Field)) → Gains old ps new → SameCoverage ps qs
-        → IsCover cover new → IsCover cover (old ++ qs) }
-{}
-
-/// A cover covers what its list covers, two covers together what both lists cover, and the cover of two covers
-/// is the cover of both lists.
-#[tactic(auto, using(crate::proofs::SetLaws::coverage_of_own, crate::proofs::SetLaws::coverage_of_both, crate::proofs::SetLaws::cover_of_covers))]
-pub fn two_covers_together_cover_what_both_lists_cover()
-    ensures one { (cover ps : List (List Field)) → IsCover cover ps → SameCoverage cover ps }
-    ensures coverage { (a b ps qs : List (List Field)) → IsCover a ps → IsCover b qs
-        → SameCoverage (a ++ b) (ps ++ qs) }
-    ensures cover { (cover a b ps qs : List (List Field)) → IsCover a ps → IsCover b qs → IsCover cover (a ++ b)
-        → IsCover cover (ps ++ qs) }
-{}
-
-/// A path that is covered already adds nothing to what is covered.
-#[tactic(auto, using(crate::proofs::SetLaws::covered_adds_nothing))]
-pub fn a_covered_path_adds_nothing()
-    ensures { (old new : List (List Field)) (p : List Field) → Gains old (p ∷ []) new → Covers old p
-        → SameCoverage new old }
-{}
-
-/// Of each path that is covered, one of the least paths is a beginning, and one alone.
-#[tactic(auto, using(crate::proofs::CoverLaws::least_covers, crate::proofs::SetLaws::least_begins_once))]
-pub fn a_cover_has_one_beginning_of_each_covered_path()
-    ensures some { (ps : List (List Field)) (q : List Field) → Covers ps q
-        → ((p : List Field) × Least ps p × Beginning p q) }
-    ensures once { (ps : List (List Field)) (p r q : List Field) → Least ps p → Least ps r → Beginning p q
-        → Beginning r q → p ≡ r }
-{}
-
-/// Two lists of paths have the same least paths exactly where they cover the same.
-pub fn least_paths_tell_the_coverage()
-    ensures { (ps qs : List (List Field)) → ((p : List Field) → Least ps p ↔ Least qs p) ↔ SameCoverage ps qs }
 {}
 
 /// What lies along a path in a value of a type is a value of the type along the path.
@@ -283,4 +132,54 @@ pub fn overlap_is_not_transitive()
 pub fn equality_agrees_with_hash()
     ensures fields { (f g : Field) → IsTrue (same_field f g) → field_writes f ≡ field_writes g }
     ensures paths { (p q : List Field) → IsTrue (same_path p q) → path_writes p ≡ path_writes q }
+{}
+
+/// Some path of a set begins a path exactly where the set covers it, and the least paths of a set are those
+/// that no other of its paths begins.
+pub fn what_covers_and_least_say()
+    ensures covers { (s : PathSet) (q : List Field) → IsTrue (covers s q)
+        ↔ ((p : List Field) × IsTrue (set.contains s p) × Beginning p q) }
+    ensures least { (s : PathSet) (p : List Field) → IsTrue (set.contains (least s) p)
+        ↔ (IsTrue (set.contains s p) × ((q : List Field) → IsTrue (set.contains s q) → Beginning q p → q ≡ p)) }
+{}
+
+/// Two sets have the same least paths exactly where they cover the same.
+pub fn least_paths_tell_the_coverage()
+    ensures { (s t : PathSet) → (least s ≡ least t) ↔ CoverAlike s t }
+{}
+
+/// The least paths of a set cover what it covers, are their own least paths, and are in each set that covers
+/// the same.
+pub fn a_cover_is_its_own_cover()
+    ensures coverage { (s : PathSet) → CoverAlike (least s) s }
+    ensures least { (s : PathSet) → least (least s) ≡ least s }
+    ensures within { (s t : PathSet) (p : List Field) → CoverAlike s t → IsTrue (set.contains (least s) p)
+        → IsTrue (set.contains t p) }
+{}
+
+/// Two sets together cover what either covers.
+#[tactic(auto, using(crate::specs::lemmas::SetCovers::covers_union))]
+pub fn two_sets_together_cover_what_either_covers()
+    ensures { (s t : PathSet) (q : List Field) → covers (set.union s t) q ≡ (covers s q || covers t q) }
+{}
+
+/// Of each path that is covered, one of the least paths is a beginning, and one alone.
+pub fn a_cover_has_one_beginning_of_each_covered_path()
+    ensures some { (s : PathSet) (q : List Field) → IsTrue (covers s q)
+        → ((p : List Field) × IsTrue (set.contains (least s) p) × Beginning p q) }
+    ensures once { (s : PathSet) (p r q : List Field) → IsTrue (set.contains (least s) p)
+        → IsTrue (set.contains (least s) r) → Beginning p q → Beginning r q → p ≡ r }
+{}
+
+/// These paths cover that one exactly where it starts with some of them: for `any` over them.
+pub fn a_path_is_covered_where_it_starts_with_one(paths: &[FieldPath], path: &FieldPath)
+    ensures { IsTrue (covers (set_of paths.now) path.now)
+        ↔ Any (λ p. IsTrue (starts_with same_field path.now p)) paths.now }
+{}
+
+/// The paths of a list are the members of its set.
+#[tactic(auto, using(crate::specs::lemmas::SetMembers::listed))]
+pub fn a_list_has_the_members_of_its_set()
+    ensures { (ps : List (List Field)) (s : PathSet) (q : List Field) → set_of ps ≡ s
+        → (Contains ps q ↔ IsTrue (set.contains s q)) }
 {}

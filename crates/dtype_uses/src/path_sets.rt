@@ -2,23 +2,22 @@
 // SPDX-FileCopyrightText: Copyright the Vortex contributors
 
 //! A reader of columns: what is asked of it, and what it opens for that.
-ghost use Rattle.std.specs.Prelude.{◌≡◌, ◌≢◌, ◌↔◌, ◌+◌, ◌++◌, [], ◌∷◌, ◌≤◌, IfOk, IsTrue, List, OnOk, false, is_some, length, map};
-ghost use Rattle.std.specs.List.{All, Contains, sum_by};
+#![tactic(auto, using(dtype_paths::specs::CoveringLaws::covering))]
+
+ghost use Rattle.std.specs.Prelude.{◌≡◌, ◌≢◌, ◌↔◌, ◌+◌, ◌++◌, [], ◌∷◌, ◌≤◌, ◌||◌, IfOk, IsTrue, List, OnOk, false, is_some, length, map};
+ghost use Rattle.std.specs.FinSet as set;
+ghost use Rattle.std.specs.List.{All, Contains, list_all, list_any, starts_with, sum_by};
 ghost use Rattle.std.specs.Vec.Iter.{into_iter_items};
 ghost use Rattle.dtype_types.specs.TreeOf.{tree};
 ghost use Rattle.dtype_paths.specs.Along.{along};
-ghost use Rattle.dtype_paths.specs.Cover.{Covers, IsCover, Least, SameCoverage};
-ghost use Rattle.dtype_paths.specs.PathSets.{Gains, IsWithin, SameMembers};
+ghost use Rattle.dtype_paths.specs.Covering.{covers, least};
+ghost use Rattle.dtype_paths.specs.Equality.{same_field};
+ghost use Rattle.dtype_paths.specs.PathOrder.{set_of};
 ghost use Rattle.dtype_paths.specs.declared.field.Field.{Field};
 
 use dtype_base::VortexResult;
 use dtype_paths::laws::{
-    a_cover_put_in_is_covered_by_itself, a_path_is_covered_where_it_starts_with_one,
-    being_within_is_an_order, covers_of_the_same_have_the_same_members,
-    gaining_again_changes_nothing, lists_cover_their_members_and_what_is_below,
-    same_coverage_is_an_equivalence, same_members_have_the_same_cover,
-    same_members_is_an_equivalence, sets_gain_members_and_lose_none,
-    two_covers_together_cover_what_both_lists_cover,
+    a_list_has_the_members_of_its_set, a_path_is_covered_where_it_starts_with_one,
 };
 use dtype_paths::{Field, FieldPath, FieldPathSet};
 use dtype_types::DType;
@@ -36,32 +35,32 @@ pub fn is_there_once_asked(asked: &mut FieldPathSet, path: FieldPath) -> VortexR
 
 /// Asks for a path that is asked for already: nothing changes.
 pub fn ask_again(asked: &mut FieldPathSet, path: FieldPath) -> VortexResult<()>
-    requires { Contains asked.old path }
-    ensures { OnOk result (SameMembers asked.new asked.old) }
+    requires { IsTrue (set.contains asked.old path) }
+    ensures { OnOk result (asked.new ≡ asked.old) }
 {
     asked.insert(path)
 }
 
-/// Asks for one path twice, and answers that nothing asked for before is lost.
+/// Asks for one path twice: the second time nothing changes.
 pub fn ask_twice(asked: &mut FieldPathSet, path: &FieldPath) -> VortexResult<bool>
-    ensures { IfOk result (λ b. (q : List Field) → Contains asked.old q → Contains asked.new q) }
+    ensures once { IfOk result (λ b. asked.new ≡ set.insert asked.old path.now) }
+    ensures kept { IfOk result (λ b. (q : List Field) → IsTrue (set.contains asked.old q) → IsTrue (set.contains asked.new q)) }
 {
     asked.insert(path.try_clone()?)?;
     asked.insert(path.try_clone()?)?;
-    being_within_is_an_order();
     Ok(true)
 }
 
 /// The set of the columns that a query asks for.
 pub fn columns_of_query(alloc: Global, columns: Vec<FieldPath>) -> VortexResult<FieldPathSet>
-    ensures { IfOk result (λ s. SameMembers s columns.items) }
+    ensures { IfOk result (λ s. s ≡ set_of columns.items) }
 {
     FieldPathSet::from_iter(alloc, columns)
 }
 
 /// The columns of a second query besides.
 pub fn ask_for_all(asked: &mut FieldPathSet, columns: Vec<FieldPath>) -> VortexResult<()>
-    ensures { OnOk result (Gains asked.old columns.items asked.new) }
+    ensures { OnOk result (asked.new ≡ set.union asked.old (set_of columns.items)) }
 {
     asked.extend(columns)
 }
@@ -72,7 +71,7 @@ pub fn stays_there(
     columns: Vec<FieldPath>,
     path: &FieldPath,
 ) -> VortexResult<bool>
-    requires { Contains asked.old path.now }
+    requires { IsTrue (set.contains asked.old path.now) }
     ensures { IfOk result (λ b. IsTrue b) }
 {
     asked.extend(columns)?;
@@ -85,7 +84,7 @@ pub fn stays_there_with_one_more(
     more: FieldPath,
     path: &FieldPath,
 ) -> VortexResult<bool>
-    requires { Contains asked.old path.now }
+    requires { IsTrue (set.contains asked.old path.now) }
     ensures { IfOk result (λ b. IsTrue b) }
 {
     asked.insert(more)?;
@@ -99,7 +98,7 @@ pub fn asks_for_other(
     other: &FieldPath,
 ) -> VortexResult<bool>
     requires { other.now ≢ path }
-    ensures { IfOk result (λ b. IsTrue b ↔ Contains asked.old other.now) }
+    ensures { IfOk result (λ b. b ≡ set.contains asked.old other.now) }
 {
     asked.insert(path)?;
     Ok(asked.contains(other))
@@ -112,7 +111,7 @@ pub fn asks_for_no_other(
     other: &FieldPath,
 ) -> VortexResult<bool>
     requires other { other.now ≢ path }
-    requires absent { ¬ (Contains asked.old other.now) }
+    requires absent { set.contains asked.old other.now ≡ false }
     ensures { IfOk result (λ b. b ≡ false) }
 {
     asked.insert(path)?;
@@ -126,25 +125,23 @@ pub fn ask_for_all_twice(
     again: Vec<FieldPath>,
 ) -> VortexResult<()>
     requires { columns.items ≡ again.items }
-    ensures { OnOk result (Gains asked.old columns.items asked.new) }
+    ensures { OnOk result (asked.new ≡ set.union asked.old (set_of columns.items)) }
 {
     asked.extend(columns)?;
-    gaining_again_changes_nothing();
     asked.extend(again)
 }
 
 /// The columns of a query besides: all of them are asked for then.
 pub fn ask_for_each(asked: &mut FieldPathSet, columns: Vec<FieldPath>) -> VortexResult<()>
-    ensures { OnOk result (IsWithin columns.items asked.new) }
+    ensures { OnOk result (IsTrue (set.is_subset (set_of columns.items) asked.new)) }
 {
     asked.extend(columns)?;
-    sets_gain_members_and_lose_none();
     Ok(())
 }
 
 /// Whether a query asks for a column.
 pub fn asks_for(alloc: Global, columns: Vec<FieldPath>, column: &FieldPath) -> VortexResult<bool>
-    ensures { IfOk result (λ b. IsTrue b ↔ Contains columns.items column.now) }
+    ensures { IfOk result (λ b. b ≡ set.contains (set_of columns.items) column.now) }
 {
     let asked = FieldPathSet::from_iter(alloc, columns)?;
     Ok(asked.contains(column))
@@ -152,7 +149,7 @@ pub fn asks_for(alloc: Global, columns: Vec<FieldPath>, column: &FieldPath) -> V
 
 /// Whether a column is asked for, looked up in a copy.
 pub fn asks_for_in_copy(asked: &FieldPathSet, column: &FieldPath) -> VortexResult<bool>
-    ensures { IfOk result (λ b. IsTrue b ↔ Contains asked.now column.now) }
+    ensures { IfOk result (λ b. b ≡ set.contains asked.now column.now) }
 {
     let copy = asked.try_clone()?;
     Ok(copy.contains(column))
@@ -160,16 +157,16 @@ pub fn asks_for_in_copy(asked: &FieldPathSet, column: &FieldPath) -> VortexResul
 
 /// The columns to open for what is asked for, which stays.
 pub fn cover_of_copy(asked: &FieldPathSet) -> VortexResult<vec::IntoIter<FieldPath>>
-    ensures { IfOk result (λ r. IsCover (into_iter_items r) asked.now) }
+    ensures { IfOk result (λ r. set_of (into_iter_items r) ≡ least asked.now) }
 {
     asked.try_clone()?.into_iter()
 }
 
 /// The same by the paths that it gives.
 pub fn least_of_copy(asked: &FieldPathSet) -> VortexResult<vec::IntoIter<FieldPath>>
-    ensures { IfOk result (λ r. (p : List Field) → Contains (into_iter_items r) p ↔ Least asked.now p) }
+    ensures { IfOk result (λ r. (p : List Field) → Contains (into_iter_items r) p ↔ IsTrue (set.contains (least asked.now) p)) }
 {
-    covers_of_the_same_have_the_same_members();
+    a_list_has_the_members_of_its_set();
     asked.try_clone()?.into_iter()
 }
 
@@ -180,7 +177,7 @@ pub fn cover_of_query(
     column: &FieldPath,
 ) -> VortexResult<vec::IntoIter<FieldPath>>
     requires { Contains columns.items column.now }
-    ensures { IfOk result (λ r. Covers (into_iter_items r) column.now) }
+    ensures { IfOk result (λ r. IsTrue (covers (set_of (into_iter_items r)) column.now)) }
 {
     FieldPathSet::from_iter(alloc, columns)?.into_iter()
 }
@@ -190,32 +187,28 @@ pub fn covers_of_each(
     asked: FieldPathSet,
     other: FieldPathSet,
 ) -> VortexResult<(vec::IntoIter<FieldPath>, vec::IntoIter<FieldPath>)>
-    ensures { IfOk result (λ r.
-        SameCoverage (into_iter_items r.0 ++ into_iter_items r.1) (asked ++ other)) }
+    ensures { IfOk result (λ r. least (set_of (into_iter_items r.0 ++ into_iter_items r.1)) ≡ least (set.union asked other)) }
 {
     let first = asked.into_iter()?;
     let second = other.into_iter()?;
-    two_covers_together_cover_what_both_lists_cover();
     Ok((first, second))
 }
 
 /// The columns to open for a cover: it again.
 pub fn cover_of_cover(alloc: Global, asked: FieldPathSet) -> VortexResult<vec::IntoIter<FieldPath>>
-    ensures { IfOk result (λ r. IsCover (into_iter_items r) asked) }
+    ensures { IfOk result (λ r. set_of (into_iter_items r) ≡ least asked) }
 {
     let cover = asked.into_iter()?;
-    a_cover_put_in_is_covered_by_itself();
     FieldPathSet::from_iter(alloc, cover)?.into_iter()
 }
 
 /// What is asked for in either of two sets, of the second its least paths alone.
 pub fn either_asked(asked: &FieldPathSet, more: &FieldPathSet) -> VortexResult<FieldPathSet>
-    ensures { IfOk result (λ s. SameCoverage s (asked.now ++ more.now)) }
+    ensures exact { IfOk result (λ s. s ≡ set.union asked.now (least more.now)) }
+    ensures covers { IfOk result (λ s. least s ≡ least (set.union asked.now more.now)) }
 {
     let mut both = asked.try_clone()?;
     both.extend(more.try_clone()?.into_iter()?)?;
-    same_members_have_the_same_cover();
-    same_coverage_is_an_equivalence();
     Ok(both)
 }
 
@@ -224,7 +217,7 @@ pub fn cover_of_both(
     asked: &FieldPathSet,
     more: FieldPathSet,
 ) -> VortexResult<vec::IntoIter<FieldPath>>
-    ensures { IfOk result (λ r. IsCover (into_iter_items r) (asked.now ++ more)) }
+    ensures { IfOk result (λ r. set_of (into_iter_items r) ≡ least (set.union asked.now more)) }
 {
     let mut both = asked.try_clone()?;
     both.extend(more.into_iter()?)?;
@@ -236,7 +229,7 @@ pub fn cover_with_query(
     asked: &FieldPathSet,
     columns: Vec<FieldPath>,
 ) -> VortexResult<vec::IntoIter<FieldPath>>
-    ensures { IfOk result (λ r. IsCover (into_iter_items r) (asked.now ++ columns.items)) }
+    ensures { IfOk result (λ r. set_of (into_iter_items r) ≡ least (set.union asked.now (set_of columns.items))) }
 {
     let mut both = asked.try_clone()?;
     both.extend(columns)?;
@@ -245,23 +238,20 @@ pub fn cover_with_query(
 
 /// The columns to open for one path.
 pub fn cover_of_one(alloc: Global, path: FieldPath) -> VortexResult<vec::IntoIter<FieldPath>>
-    ensures { IfOk result (λ r. IsCover (into_iter_items r) (path ∷ [])) }
+    ensures { IfOk result (λ r. set_of (into_iter_items r) ≡ least (set_of (path ∷ []))) }
 {
     let mut asked = FieldPathSet::new(alloc);
     asked.insert(path)?;
-    same_members_is_an_equivalence();
     asked.into_iter()
 }
 
 /// The set of two paths.
 pub fn set_of_two(alloc: Global, first: FieldPath, second: FieldPath) -> VortexResult<FieldPathSet>
-    ensures { IfOk result (λ s. SameMembers s (first ∷ second ∷ [])) }
+    ensures { IfOk result (λ s. s ≡ set_of (first ∷ second ∷ [])) }
 {
     let mut asked = FieldPathSet::new(alloc);
     asked.insert(first)?;
     asked.insert(second)?;
-    sets_gain_members_and_lose_none();
-    same_members_is_an_equivalence();
     Ok(asked)
 }
 
@@ -271,7 +261,7 @@ pub fn query_and_column(
     columns: Vec<FieldPath>,
     more: FieldPath,
 ) -> VortexResult<FieldPathSet>
-    ensures { IfOk result (λ s. SameMembers s (columns.items ++ more ∷ [])) }
+    ensures { IfOk result (λ s. s ≡ set_of (columns.items ++ more ∷ [])) }
 {
     let mut asked = FieldPathSet::from_iter(alloc, columns)?;
     asked.insert(more)?;
@@ -280,17 +270,16 @@ pub fn query_and_column(
 
 /// Whether all columns of a query are asked for.
 pub fn asks_for_each(asked: &FieldPathSet, columns: &[FieldPath]) -> bool
-    ensures { IsTrue result ↔ IsWithin columns.now asked.now }
+    ensures { result ≡ list_all (set.contains asked.now) columns.now }
 {
     columns.iter().all(|path| asked.contains(path))
 }
 
 /// Asks for a table: each of its columns is covered.
 pub fn ask_for_table(asked: &mut FieldPathSet, table: FieldPath, column: Field) -> VortexResult<()>
-    ensures { OnOk result (Covers asked.new (table ++ column ∷ [])) }
+    ensures { OnOk result (IsTrue (covers asked.new (table ++ column ∷ []))) }
 {
     let _column = column;
-    lists_cover_their_members_and_what_is_below();
     asked.insert(table)
 }
 
@@ -300,18 +289,17 @@ pub fn ask_besides(
     path: FieldPath,
     column: &FieldPath,
 ) -> VortexResult<()>
-    requires { Covers asked.old column.now }
-    ensures { OnOk result (Covers asked.new column.now) }
+    requires { IsTrue (covers asked.old column.now) }
+    ensures { OnOk result (IsTrue (covers asked.new column.now)) }
 {
     let _column = column;
-    lists_cover_their_members_and_what_is_below();
     asked.insert(path)?;
     Ok(())
 }
 
 /// Whether a column is among those of a cover, or below one of them.
 pub fn is_wanted(cover: &[FieldPath], column: &FieldPath) -> bool
-    ensures { IsTrue result ↔ Covers cover.now column.now }
+    ensures { IsTrue result ↔ IsTrue (covers (set_of cover.now) column.now) }
 {
     a_path_is_covered_where_it_starts_with_one(cover, column);
     cover
@@ -321,7 +309,7 @@ pub fn is_wanted(cover: &[FieldPath], column: &FieldPath) -> bool
 
 /// Whether all of these columns are.
 pub fn are_all_wanted(cover: &[FieldPath], columns: &[FieldPath]) -> bool
-    ensures { IsTrue result ↔ All (λ q. Covers cover.now q) columns.now }
+    ensures { IsTrue result ↔ All (λ q. IsTrue (covers (set_of cover.now) q)) columns.now }
 {
     columns.iter().all(|column| is_wanted(cover, column))
 }
@@ -349,7 +337,7 @@ pub fn columns_found(
     columns: Vec<FieldPath>,
     schema: &DType,
 ) -> VortexResult<Vec<bool>>
-    ensures { IfOk result (λ v. (cover : List (List Field)) × IsCover cover columns.items
+    ensures { IfOk result (λ v. (cover : List (List Field)) × (set_of cover ≡ least (set_of columns.items))
         × (v.items ≡ map (λ p. is_some (along (tree schema.now) p)) cover)) }
 {
     let cover = FieldPathSet::from_iter(alloc, columns)?.into_iter()?;

@@ -16,6 +16,7 @@ pub mod Written
 pub mod Accepts
 pub mod PathMessage
 pub mod StorageKinds
+pub mod CoveringLaws
 pub mod Types
 pub use Rattle.dtype_base.specs.Bytes
 pub use Rattle.dtype_base.specs.Decimals
@@ -51,8 +52,8 @@ pub use Rattle.dtype_paths.specs.Meets
 pub use Rattle.dtype_paths.specs.Fields
 pub use Rattle.dtype_paths.specs.Overlaps
 pub use Rattle.dtype_paths.specs.In
-pub use Rattle.dtype_paths.specs.Cover
-pub use Rattle.dtype_paths.specs.PathSets
+pub use Rattle.dtype_paths.specs.Covering
+pub use Rattle.dtype_paths.specs.PathOrder
 pub use Rattle.dtype_types.specs.IsValid
 pub use Rattle.dtype_types.specs.Distinct
 pub use Rattle.dtype_types.specs.FieldTypes
@@ -62,7 +63,6 @@ pub use Rattle.dtype_types.specs.lemmas.Nullabilities
 pub use Rattle.dtype_types.specs.lemmas.Parts
 pub use Rattle.dtype_types.specs.lemmas.Tags
 pub use Rattle.dtype_types.specs.lemmas.Validity
-pub use Rattle.dtype_paths.specs.PathSetLaws
 pub use Rattle.dtype_paths.specs.Texts
 pub use Rattle.dtype_messages.specs.Message
 pub use Rattle.dtype_messages.specs.MessageOf

@@ -3,12 +3,11 @@
 
 use Rattle.std.proofs.Common.{[], refl, sym, ◌∙◌, rules}
 use Rattle.std.proofs.KnownBytes.{Appends-nil}
-use Rattle.vortex_dtype.specs.PathSetLaws.{gains_none}
 use Rattle.dtype_demo.proofs.Covers.{answered_more, output}
 use Rattle.dtype_demo.proofs.answers.write_answers.Goals as goal
 
 pub loop-rest-init : goal.loop-rest-init
-loop-rest-init g c = record { text = search rules; answered = record { lines = []; before = refl; written = Appends-nil _; gained = rw c.new-paths.ensures (gains_none []) } }
+loop-rest-init g c = record { text = search rules; answered = record { lines = []; before = refl; written = Appends-nil _; gathered = c.new-paths.ensures } }
 
 pub loop-rest-preserved : goal.loop-rest-preserved
 loop-rest-preserved g c = record {

@@ -11,7 +11,7 @@ use Rattle.dtype_demo.proofs.Covers.{sorted_texts}
 use Rattle.dtype_demo.proofs.cover.cover_texts.Goals as goal
 
 pub returns-clause-ok : goal.returns-clause-ok
-returns-clause-ok c = λ asked same.
+returns-clause-ok c =
     let none = nil_from_length (into_iter_items c.loop-path.path-iterator) (omega (arith, c.loop-path.path-iterator.rest.ok, c.in-None.ensures.steps)) in
     let given = into_iter_items c.in_ok-path-items.path-items in
     let texts = c.loop-path.texts.items in
@@ -19,7 +19,7 @@ returns-clause-ok c = λ asked same.
     sym (append-nil (map (λ s. string_bytes s) texts)) ∙ sym (ap (λ ps. map (λ s. string_bytes s) texts ++ map path_text ps) none) ∙ c.loop-path.invariant ∙ ap (λ it. map path_text (into_iter_items it)) c.into_iter-path-iterator.ensures.into_iter_gives in
     record {
       cover = given;
-      least = (c.in_ok-path-items.ensures.cover asked same).least;
+      least = c.in_ok-path-items.ensures.ok;
       once = c.in_ok-path-items.ensures.once;
       printed = rw (← all) (IsPermutation-map (λ s. string_bytes s) texts c.sort.new.self.items c.sort.ensures.permutation);
       sorted = sorted_texts c.sort.new.self.items c.in_ok-sort.ensures.sorted;

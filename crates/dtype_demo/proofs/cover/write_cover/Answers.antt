@@ -7,8 +7,8 @@ use Rattle.std.proofs.lemmas.Grind.{common_steps}
 use Rattle.dtype_demo.proofs.cover.write_cover.Goals as goal
 
 pub returns-clause-ok : goal.returns-clause-ok
-returns-clause-ok g c = λ asked same. record {
+returns-clause-ok g c = record {
   texts = map (λ t. string_bytes t) c.in_ok-texts.texts.items;
-  cover = c.in_ok-texts.ensures.ok asked same;
+  cover = c.in_ok-texts.ensures.ok;
   written = grind (arith, common_steps);
 }

@@ -1,27 +1,31 @@
 -- SPDX-License-Identifier: Apache-2.0
 -- SPDX-FileCopyrightText: Copyright the Vortex contributors
 
+use Rattle.std.proofs.Common.{◌∙◌, ap}
+use Rattle.std.specs.FinSet as set
+use Rattle.dtype_paths.specs.Covering.{IsBegun, IsCountOf, least}
+use Rattle.dtype_paths.specs.PathOrder.{PathSet, path_cmp}
 use Rattle.dtype_paths.specs.Trie.{ends}
-use Rattle.std.proofs.Common.{◌∙◌}
-use Rattle.dtype_paths.proofs.Visiting.{within}
-use Rattle.dtype_paths.proofs.SetLaws.{coverage_of_cover}
 use Rattle.dtype_paths.proofs.BegunBounds.{begun_some, begun_none, begun_at_most}
+use Rattle.dtype_paths.proofs.SetBridges.{begun_is, cover_is, none_listed}
+use Rattle.std.proofs.Common.{subst}
 use Rattle.dtype_paths.proofs.field_path_set.FieldPathSet.into_iter_counted.Goals as goal
 
-pub returns-clause-least : goal.returns-clause-least
-returns-clause-least c = rw (c.into_iter.ensures.rest, ← c.self.view_is) c.in_ok-found.ensures.least
+pub returns-clause-ok : goal.returns-clause-ok
+returns-clause-ok c =
+    ap (set.from_list {R = path_cmp}) c.into_iter.ensures.rest
+    ∙ cover_is c.in_ok-found.found.items (ends c.self.inside.nodes.items) c.in_ok-found.ensures.least
+    ∙ ap least c.self.view_is
 
-pub returns-clause-covers : goal.returns-clause-covers
-returns-clause-covers c = rw (c.into_iter.ensures.rest, ← c.self.view_is) (coverage_of_cover c.in_ok-found.found.items (ends c.self.inside.nodes.items) c.in_ok-found.ensures.least)
-
-pub returns-clause-within : goal.returns-clause-within
-returns-clause-within c = rw (c.into_iter.ensures.rest, ← c.self.view_is) (within (ends c.self.inside.nodes.items) c.in_ok-found.found.items c.in_ok-found.ensures.least)
+pub returns-clause-visits : goal.returns-clause-visits
+returns-clause-visits c =
+    subst (λ (s : PathSet). IsCountOf (IsBegun s) c.in_ok-found.visits) c.self.view_is (begun_is (ends c.self.inside.nodes.items) c.in_ok-found.visits c.in_ok-found.ensures.visits)
 
 pub returns-clause-some : goal.returns-clause-some
 returns-clause-some c = begun_some (ends c.self.inside.nodes.items) _ c.in_ok-found.ensures.visits
 
 pub returns-clause-root_alone : goal.returns-clause-root_alone
-returns-clause-root_alone c = λ none. begun_none (ends c.self.inside.nodes.items) _ (c.self.view_is ∙ none) c.in_ok-found.ensures.visits
+returns-clause-root_alone c = λ none. begun_none (ends c.self.inside.nodes.items) _ (none_listed (ends c.self.inside.nodes.items) (c.self.view_is ∙ none)) c.in_ok-found.ensures.visits
 
 pub returns-clause-at_most : goal.returns-clause-at_most
 returns-clause-at_most c =

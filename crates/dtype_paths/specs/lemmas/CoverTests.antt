@@ -1,12 +1,38 @@
 -- SPDX-License-Identifier: Apache-2.0
 -- SPDX-FileCopyrightText: Copyright the Vortex contributors
 
--- The tests of `CoverTests`: the least paths of a list cover what the list covers.
-use Rattle.std.proofs.Common.{ℕ, suc, zero, ◌<◌, length, ◌≡◌, Bool, true, false, not, ◌||◌, List, [], ◌∷◌, ◌⊎◌, inl, inr, refl, ◌∙◌, arith, Decides, filter, ⊎_elim}
+-- The words of `ListCover` as tests and lists that compute, given a test of equal steps: the least paths of a list
+-- cover what the list covers.
+use Rattle.std.proofs.Common.{ℕ, suc, zero, ◌<◌, length, ◌≡◌, Bool, true, false, not, ◌||◌, ◌&&◌, List, [], ◌∷◌, ◌⊎◌, inl, inr, refl, ◌∙◌, arith, Decides, filter, ⊎_elim}
 use Rattle.std.specs.List.{list_any}
 use Rattle.std.proofs.lemmas.Bool.{and_from, and_parts}
-use Rattle.dtype_paths.specs.CoverTests.{is_beginning, is_proper_beginning, covers, extends, least}
-use Rattle.dtype_paths.proofs.Cases.{by_bool}
+use Rattle.dtype_paths.specs.lemmas.Cases.{by_bool}
+
+module _ {K : Type 0} (eq : K → K → Bool) where
+  -- the second path is the first, followed by some path
+  abbrev pub is_beginning : List K → List K → Bool
+  is_beginning [] q = true
+  is_beginning (x ∷ p) [] = false
+  is_beginning (x ∷ p) (y ∷ q) = eq x y && is_beginning p q
+
+  -- and that path isn't empty
+  abbrev pub is_proper_beginning : List K → List K → Bool
+  is_proper_beginning [] [] = false
+  is_proper_beginning [] (y ∷ q) = true
+  is_proper_beginning (x ∷ p) [] = false
+  is_proper_beginning (x ∷ p) (y ∷ q) = eq x y && is_proper_beginning p q
+
+  -- whether one of these is a beginning of the path
+  abbrev pub covers : List (List K) → List K → Bool
+  covers ps q = list_any (λ p. is_beginning p q) ps
+
+  -- whether one of these is a proper beginning of the path
+  abbrev pub extends : List (List K) → List K → Bool
+  extends ps q = list_any (λ p. is_proper_beginning p q) ps
+
+  -- those of which no other is a proper beginning
+  abbrev pub least : List (List K) → List (List K)
+  least ps = filter (λ p. not (extends ps p)) ps
 
 -- x is one of these
 abbrev pub Among : {A : Type 0} → A → List A → Type 0

@@ -8,13 +8,13 @@ use Rattle.std.proofs.lemmas.Bool.{and_from, and_parts}
 use Rattle.std.proofs.lemmas.List.{nil_from_length}
 use Rattle.std.proofs.lemmas.Map.Made.{is_member-Decides}
 use Rattle.dtype_paths.specs.Beginning.{Beginning}
-use Rattle.dtype_paths.specs.Cover.{Covers, SameCoverage, Least}
-use Rattle.dtype_paths.specs.CoverTests.{is_beginning, is_proper_beginning, covers, extends, least}
+use Rattle.dtype_paths.specs.ListCover.{Covers, SameCoverage, Least}
+use Rattle.dtype_paths.specs.lemmas.CoverTests.{is_beginning, is_proper_beginning, covers, extends, least}
 use Rattle.dtype_paths.specs.Equality.{same_field, same_path}
 use Rattle.dtype_paths.specs.EqualityLaws.{same_field-Decides, same_path-Decides}
 use Rattle.dtype_paths.specs.declared.field.Field.{Field}
-use Rattle.dtype_paths.proofs.Cases.{by_bool}
-use Rattle.dtype_paths.proofs.CoverTestLaws.{Among, any-from_among, among-from_any, among-filter, among-from_filter, proper-beginning, beginning-cases, covered-by_least}
+use Rattle.dtype_paths.specs.lemmas.Cases.{by_bool}
+use Rattle.dtype_paths.specs.lemmas.CoverTests.{Among, any-from_among, among-from_any, among-filter, among-from_filter, proper-beginning, beginning-cases, covered-by_least}
 
 -- ---- beginnings
 

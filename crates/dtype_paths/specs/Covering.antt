@@ -1,0 +1,42 @@
+-- SPDX-License-Identifier: Apache-2.0
+-- SPDX-FileCopyrightText: Copyright the Vortex contributors
+
+-- What a set of paths covers, and the fewest of its paths that cover the same. A path stands for all that
+-- lies below it, so a reader that is given a path needs none of those that it begins. This is the meaning of the
+-- original's `FieldPathSet::into_iter`, which drops each path that another path of the set begins. That these
+-- tests say so in relations is the law `what_covers_and_least_say`.
+use Rattle.std.specs.Prelude.{◌≡◌, ◌⊎◌, ◌↔◌, ℕ, Bool, IsTrue, List, [], length, not, ◌&&◌}
+use Rattle.std.specs.FinSet as set
+use Rattle.std.specs.List.{Contains, list_any, starts_with}
+use Rattle.dtype_types.specs.Distinct.{Distinct}
+use Rattle.dtype_paths.specs.Beginning.{Beginning}
+use Rattle.dtype_paths.specs.Equality.{same_field, same_path}
+use Rattle.dtype_paths.specs.PathOrder.{PathSet}
+use Rattle.dtype_paths.specs.declared.field.Field.{Field}
+
+-- some path of the set begins q
+unfoldable pub covers : PathSet → List Field → Bool
+covers s q = list_any (λ p. starts_with same_field q p) (set.items s)
+
+-- q begins p, and isn't p
+abbrev pub begins_below : List Field → List Field → Bool
+begins_below q p = starts_with same_field p q && not (same_path q p)
+
+-- the paths of the set that no other of its paths begins
+unfoldable pub least : PathSet → PathSet
+least s = set.retain s (λ p. not (list_any (λ q. begins_below q p) (set.items s)))
+
+-- the two sets cover the same paths
+abbrev pub CoverAlike : PathSet → PathSet → Type 0
+CoverAlike s t = (q : List Field) → covers s q ≡ covers t q
+
+-- q is the root, or begins one of the least paths
+abbrev pub IsBegun : PathSet → List Field → Type 0
+IsBegun s q = (q ≡ []) ⊎ ((p : List Field) × IsTrue (set.contains (least s) p) × Beginning q p)
+
+-- exactly n paths are as P says
+pub record IsCountOf (P : List Field → Type 0) (n : ℕ) : Type 0 where
+  pub paths : List (List Field)
+  pub distinct : Distinct paths
+  pub exact : (p : List Field) → Contains paths p ↔ P p
+  pub count : length paths ≡ n

@@ -1,0 +1,51 @@
+-- SPDX-License-Identifier: Apache-2.0
+-- SPDX-FileCopyrightText: Copyright the Vortex contributors
+
+-- The set of paths as a value: a finite set, whose members stand in an order of paths by their steps. The order
+-- is there so that a set can be a value. No call gives paths in it, and only equal paths tie in it.
+use Rattle.std.specs.Prelude.{◌≡◌, ℕ, List, Option, Some, None, refl}
+use Rattle.std.specs.Cmp.Lexicographic.{slice_cmp}
+use Rattle.std.specs.Coded.{Coded, code_by, coded_list, coded_ℕ, coded_option}
+use Rattle.std.specs.FinSet as set
+use Rattle.std.specs.Option.{option_cmp}
+use Rattle.std.specs.Ordering.{nat_cmp, on}
+use Rattle.std.specs.declared.cmp.Ordering.{Ordering}
+use Rattle.dtype_paths.specs.declared.field.Field.{Field}
+use Rattle.dtype_paths.specs.declared.field.Field.TheVariants.{Name, ElementType}
+
+-- the name of a step; the element has none
+abbrev pub name_of : Field → Option (List ℕ)
+name_of (Name n) = Some n
+name_of ElementType = None
+
+-- the step of a name, or of none
+abbrev pub named : Option (List ℕ) → Field
+named (Some n) = Name n
+named None = ElementType
+
+pub named-name_of : (f : Field) → named (name_of f) ≡ f
+named-name_of (Name n) = refl
+named-name_of ElementType = refl
+
+-- the element comes first, and then the names by their bytes
+abbrev pub field_cmp : Field → Field → Ordering
+field_cmp = on name_of (option_cmp (slice_cmp nat_cmp))
+
+-- by the first step in which they differ, and a beginning before what it begins
+abbrev pub path_cmp : List Field → List Field → Ordering
+path_cmp = slice_cmp field_cmp
+
+-- a finite set of paths
+abbrev pub PathSet : Type 0
+PathSet = set.FinSet path_cmp
+
+-- the set of these paths
+abbrev pub set_of : List (List Field) → PathSet
+set_of = set.from_list
+
+-- how steps and sets are kept as values
+abbrev pub field_code : Coded Field
+field_code = code_by (Option (List ℕ)) (coded_option (coded_list coded_ℕ)) name_of named named-name_of
+
+abbrev pub set_code : Coded PathSet
+set_code = set.code (coded_list field_code)

@@ -1,0 +1,37 @@
+-- SPDX-License-Identifier: Apache-2.0
+-- SPDX-FileCopyrightText: Copyright the Vortex contributors
+
+-- The order of `PathOrder`: it is total, and only equal paths tie in it.
+use Rattle.std.specs.Prelude.{◌≡◌, List, [], ◌∷◌, ◌||◌, refl}
+use Rattle.std.specs.Cmp.{Equal-is, IsTotalOrder, on_total}
+use Rattle.std.specs.Cmp.Lexicographic.{lists_total, lists_ties, nat_list_cmp_total, options_total, texts_ties}
+use Rattle.std.specs.FinSet.{IsAntisymmetric}
+use Rattle.std.specs.List.{list_any}
+use Rattle.std.specs.Ordering.{eq_by_cmp}
+use Rattle.std.proofs.Common.{◌∙◌}
+use Rattle.dtype_paths.specs.Equality.{same_field, same_path}
+use Rattle.dtype_paths.specs.EqualityLaws.{same_path-Decides}
+use Rattle.dtype_paths.specs.PathOrder.{field_cmp, name_of, path_cmp}
+use Rattle.dtype_paths.specs.declared.field.Field.{Field}
+use Rattle.dtype_paths.specs.declared.field.Field.TheVariants.{Name, ElementType}
+
+pub path_cmp_total : IsTotalOrder path_cmp
+path_cmp_total = lists_total (on_total name_of (options_total nat_list_cmp_total))
+
+field_ties : (f g : Field) → same_field f g ≡ eq_by_cmp field_cmp f g
+field_ties (Name m) (Name n) = texts_ties m n
+field_ties (Name m) ElementType = refl
+field_ties ElementType (Name n) = refl
+field_ties ElementType ElementType = refl
+
+-- paths tie exactly where they are the same
+pub path_ties : (p q : List Field) → same_path p q ≡ eq_by_cmp path_cmp p q
+path_ties p q = lists_ties field_cmp field_ties p q
+
+-- only equal paths tie
+pub same_tied : IsAntisymmetric path_cmp
+same_tied p q e = (same_path-Decides p q).0 (path_ties p q ∙ (Equal-is (path_cmp p q)).1 e)
+
+pub any_tied : (q : List Field) (ps : List (List Field)) → list_any (same_path q) ps ≡ list_any (eq_by_cmp path_cmp q) ps
+any_tied q [] = refl
+any_tied q (p ∷ ps) = λ i. path_ties q p i || any_tied q ps i

@@ -99,11 +99,13 @@ pub fn something_is_found_where_a_type_is_given()
         → ((v : Value) × FoundIn t p v) }
 {}
 
-/// A type is given exactly where something is found, where the path steps through no fixed size 0 and leads
-/// to no extension on its way.
+/// A type is given, and the path exists in the whole, exactly where something is found, where the path steps
+/// through no fixed size 0 and leads to no extension on its way.
 pub fn a_type_is_given_exactly_where_something_is_found()
-    ensures { (t : Tree) (p : List Field) → Valid t → MeetsNoSizeZero t p → MeetsNoExtension t p
+    ensures stands { (t : Tree) (p : List Field) → Valid t → MeetsNoSizeZero t p → MeetsNoExtension t p
         → (((u : Tree) × At t p u) ↔ ((v : Value) × FoundIn t p v)) }
+    ensures exists { (t : Tree) (p : List Field) → Valid t → MeetsNoSizeZero t p → MeetsNoExtension t p
+        → (ExistsIn t p ↔ ((v : Value) × FoundIn t p v)) }
 {}
 
 /// Through a fixed size 0 a value of the type given may lie along the path in no value of the whole.

@@ -2,15 +2,17 @@
 // SPDX-FileCopyrightText: Copyright the Vortex contributors
 
 //! A reader of rows: what it finds at a column.
-ghost use Rattle.std.specs.Prelude.{IfSome};
+ghost use Rattle.std.specs.Prelude.{◌↔◌, IfSome, IsTrue};
 ghost use Rattle.dtype_types.specs.TreeOf.{tree};
 ghost use Rattle.dtype_types.specs.Valid.{Valid};
 ghost use Rattle.dtype_types.specs.Value.{Value};
 ghost use Rattle.dtype_paths.specs.Found.{FoundIn};
-ghost use Rattle.dtype_paths.specs.Meets.{MeetsNoSizeZero};
+ghost use Rattle.dtype_paths.specs.Meets.{MeetsNoExtension, MeetsNoSizeZero};
 
 use dtype_paths::FieldPath;
-use dtype_paths::laws::something_is_found_where_a_type_is_given;
+use dtype_paths::laws::{
+    a_type_is_given_exactly_where_something_is_found, something_is_found_where_a_type_is_given,
+};
 use dtype_types::DType;
 
 /// A column of a table: where there is one, some row has a value at it.
@@ -20,4 +22,14 @@ pub fn column_of_rows<'a>(column: &FieldPath, table: &'a DType) -> Option<&'a DT
 {
     something_is_found_where_a_type_is_given();
     column.resolve(table)
+}
+
+/// Whether some row of a table may have a value at a column.
+pub fn some_row_may_have(column: &FieldPath, table: &DType) -> bool
+    ensures { Valid (tree table.now) → MeetsNoSizeZero (tree table.now) column.now
+        → MeetsNoExtension (tree table.now) column.now
+        → (IsTrue result ↔ ((v : Value) × FoundIn (tree table.now) column.now v)) }
+{
+    a_type_is_given_exactly_where_something_is_found();
+    column.exists_in(table)
 }

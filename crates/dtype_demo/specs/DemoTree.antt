@@ -1,7 +1,7 @@
 -- SPDX-License-Identifier: Apache-2.0
 -- SPDX-FileCopyrightText: Copyright the Vortex contributors
 
--- The type whose paths the program tells: {a=list({b=u32})?, f=fixed_size_list(u8)[2]}.
+-- The type whose paths the program tells, the program's own choice: {a=list({b=u32})?, f=fixed_size_list(u8)[2]}.
 use Rattle.std.specs.Prelude.{codes}
 use Rattle.vortex_dtype.specs.Types.Nullability.TheVariants.{NonNullable, Nullable}
 use Rattle.vortex_dtype.specs.Types.PType.TheVariants.{U8, U32}

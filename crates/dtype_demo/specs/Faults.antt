@@ -1,7 +1,8 @@
 -- SPDX-License-Identifier: Apache-2.0
 -- SPDX-FileCopyrightText: Copyright the Vortex contributors
 
--- The program's faults: what is printed of each, and which come before anything is written.
+-- The program's faults: what is printed of each, and which come before anything is written. From the
+-- documentation of `run`.
 use Rattle.std.specs.Prelude.{ℕ, List, codes}
 use Rattle.dtype_demo.specs.declared.fault.DemoFault.{DemoFault}
 use Rattle.dtype_demo.specs.declared.fault.DemoFault.TheVariants.{ReadFailed, WriteFailed, InputTooLong, NotUtf8, OutOfMemory}

@@ -1,7 +1,8 @@
 -- SPDX-License-Identifier: Apache-2.0
 -- SPDX-FileCopyrightText: Copyright the Vortex contributors
 
--- What the program's input means: lines, and each line as a path.
+-- What the program's input means: lines, and each line as a path. From the documentation of the program
+-- (`src/main.rt`); lines are cut as by `str::lines` of std, but that a carriage return stays.
 use Rattle.std.specs.Prelude.{ℕ, ◌==◌, List, [], ◌∷◌, codes, length, map, if◌then◌else◌}
 use Rattle.std.specs.List.{slice_split}
 use Rattle.std.specs.Str.{bytes_eq}

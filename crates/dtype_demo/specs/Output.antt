@@ -18,7 +18,7 @@ use Rattle.vortex_dtype.specs.Texts.{path_text}
 use Rattle.vortex_dtype.specs.Types.Field.{Field}
 use Rattle.dtype_demo.specs.Lines.{lines_of, parts_of}
 
--- the type found, or `none`
+-- each text below is from the documentation of the program (`src/main.rt`): the type found, or `none`
 abbrev pub found_text : Option Tree → List ℕ
 found_text None = codes "none"
 found_text (Some u) = text u

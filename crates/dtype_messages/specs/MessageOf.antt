@@ -1,7 +1,8 @@
 -- SPDX-License-Identifier: Apache-2.0
 -- SPDX-FileCopyrightText: Copyright the Vortex contributors
 
--- The message tree of a `pb::DType`, a fold over the plain data, and the fields of the structs that hold messages.
+-- The message tree of a `pb::DType`, a fold over the plain data, and the fields of the structs that hold messages,
+-- in the order of the protobuf definition.
 use Rattle.std.specs.Prelude.{ℕ, ℤ, List, map, Option, Some, None, Bool as Flag}
 use Rattle.std.specs.String.{string_bytes}
 use Rattle.std.specs.declared.string.String.{String}

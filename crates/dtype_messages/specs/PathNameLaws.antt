@@ -1,7 +1,8 @@
 -- SPDX-License-Identifier: Apache-2.0
 -- SPDX-FileCopyrightText: Copyright the Vortex contributors
 
--- The tests of equality of path messages and of their parts are exact.
+-- The tests of equality of path messages and of their parts are exact: proofs from the definitions, which the
+-- impls cite.
 use Rattle.std.specs.Prelude.{◌≡◌, ℕ, List, [], ◌∷◌, ◌&&◌, map, Option, refl}
 use Rattle.std.specs.Bool.{Decides}
 use Rattle.std.proofs.Common.{ap}

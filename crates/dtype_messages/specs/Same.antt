@@ -1,7 +1,7 @@
 -- SPDX-License-Identifier: Apache-2.0
 -- SPDX-FileCopyrightText: Copyright the Vortex contributors
 
--- Equality of message trees, as a test field by field.
+-- Equality of message trees, as a test field by field: what `PartialEq`, derived on a generated message, says.
 use Rattle.std.specs.Prelude.{ℕ, List, Option, Some, None, Bool as Flag, true, false, ◌&&◌, nat_eq}
 use Rattle.std.specs.Ordering.{int_eq}
 use Rattle.std.specs.Str.{bytes_eq}

@@ -1,7 +1,9 @@
 -- SPDX-License-Identifier: Apache-2.0
 -- SPDX-FileCopyrightText: Copyright the Vortex contributors
 
--- The numbers of so many digits, and the text of a decimal type that is kept in a native one.
+-- The numbers of so many digits, and the text of a decimal type that is kept in a native one. The bounds are
+-- arithmetic: in base ten, the greatest number of n digits is 10^n - 1. The text, and which decimals are kept, are
+-- from the documentation of `NativeDecimalType` and `PrecisionScale`.
 use Rattle.std.specs.Prelude.{◌≡◌, ◌↔◌, ℕ, ◌-◌, ◌^◌, ℤ, pos, neg_ℤ, List, ◌++◌, codes, Result, IsOk, MatchResult}
 use Rattle.std.specs.Fmt.{decimal, signed_decimal}
 use Rattle.dtype_base.specs.declared.vortex_error.VortexError.{VortexError}

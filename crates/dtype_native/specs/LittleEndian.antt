@@ -1,7 +1,8 @@
 -- SPDX-License-Identifier: Apache-2.0
 -- SPDX-FileCopyrightText: Copyright the Vortex contributors
 
--- The bytes of a whole number, as memory and files hold it.
+-- The bytes of a whole number, as memory and files hold it: its digits in base 256, the least first. From the
+-- documentation of `ToBytes` and `TryFromBytes`, and of `to_le_bytes` of std.
 use Rattle.std.specs.Prelude.{◌≡◌, ◌↔◌, ℕ, ℤ, zero, suc, pos, negsuc, ◌-◌, ◌/◌, ◌%◌, List, [], ◌∷◌, length, Result, IsOk, IfOk, IsOkUnless}
 use Rattle.dtype_base.specs.declared.vortex_error.VortexError.{VortexError}
 use Rattle.dtype_base.specs.declared.vortex_error.VortexError.TheVariants.{BytesLength}

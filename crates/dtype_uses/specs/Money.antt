@@ -1,7 +1,7 @@
 -- SPDX-License-Identifier: Apache-2.0
 -- SPDX-FileCopyrightText: Copyright the Vortex contributors
 
--- What `shop.money` takes as metadata: the code of a currency, three bytes.
+-- What `shop.money` takes as metadata, by the shop's own rule: the code of a currency, three bytes.
 use Rattle.std.specs.Prelude.{◌≡◌, ℕ, List, length, Option, Some, None, Bool, true, false, if◌then◌else◌, nat_eq, refl}
 use Rattle.std.proofs.Common.{subst, sym}
 use Rattle.vortex_dtype.specs.Meaning.{Bytes}

@@ -1,7 +1,7 @@
 -- SPDX-License-Identifier: Apache-2.0
 -- SPDX-FileCopyrightText: Copyright the Vortex contributors
 
--- The type of a table of orders: {id=u64, customer={name=utf8, city=utf8?}}.
+-- The type of a table of orders, the shop's own choice: {id=u64, customer={name=utf8, city=utf8?}}.
 use Rattle.std.specs.Prelude.{codes}
 use Rattle.vortex_dtype.specs.Types.Nullability.TheVariants.{NonNullable, Nullable}
 use Rattle.vortex_dtype.specs.Types.PType.TheVariants.{U64}

@@ -7,5 +7,4 @@ pub mod Validity
 pub mod Nullabilities
 pub mod JoinedFields
 pub mod Tags
-pub mod Parts
 pub mod NullValues

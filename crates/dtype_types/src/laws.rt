@@ -6,7 +6,6 @@
 ghost use Rattle.std.specs.Prelude.{◌≡◌, ◌↔◌, ℕ, List, None, length};
 ghost use Rattle.std.specs.Iterator.{UpTo};
 ghost use Rattle.std.specs.Iterator.Runs.{EveryRun, ItemsMapTo};
-ghost use Rattle.dtype_base.specs.declared.nullability.Nullability.{Nullability};
 ghost use Rattle.dtype_base.specs.declared.nullability.Nullability.TheVariants.{NonNullable, Nullable};
 ghost use Rattle.dtype_base.specs.declared.ptype.PType.TheVariants.{U8};
 ghost use Rattle.dtype_types.specs.Laws.{EqualTypesFeedAlike, IsAntisymmetric, IsReflexive, IsTransitive, LastSetNullDecides, SameIgnoring, SameIgnoringFeedAlike, SetNullKeepsErase, SetNullSets, TagsTellPositions};

@@ -46,8 +46,8 @@ impl StructFields {
     ghost use Rattle.dtype_types.specs.Hashes.{part_of};
     ghost use Rattle.dtype_types.specs.HashesOf.{struct_writes};
     ghost use Rattle.dtype_types.specs.Tree.{Tree};
-    ghost use Rattle.dtype_types.specs.TreeOf.{struct_tree, struct_names, struct_dtypes, struct_pairs, children, tree, trees, option_tree};
-    ghost use Rattle.dtype_types.specs.IsValid.{IsValid, IsValidStruct};
+    ghost use Rattle.dtype_types.specs.TreeOf.{struct_tree, struct_names, struct_dtypes, struct_pairs, struct_types, children, tree, trees, option_tree};
+    ghost use Rattle.dtype_types.specs.IsValid.{IsValid, IsValidField, IsValidStruct};
     ghost use Rattle.dtype_types.specs.Width.{MeasuresFields};
 
     /// No fields. Refuses 0 (OutOfMemory) alone.
@@ -61,7 +61,10 @@ impl StructFields {
     /// The fields of these names and types, as many names as types. Refuses 0 (OutOfMemory) alone.
     pub fn new(alloc: Global, names: FieldNames, dtypes: Vec<DType>) -> VortexResult<Self>
         requires { length names ≡ vec_len dtypes }
+        ensures names { IfOk result (λ s. struct_names s ≡ names) }
+        ensures types { IfOk result (λ s. struct_types s ≡ map tree dtypes.items) }
         ensures fields { IfOk result (λ s. children s ≡ zip names (map tree dtypes.items)) }
+        ensures valid { All IsValid dtypes.items → IfOk result IsValidStruct }
         ensures refused { IsOkUnless result OutOfMemory }
     {
         let names = IndexedNames::new(alloc, names)?;
@@ -76,7 +79,9 @@ impl StructFields {
         dtypes: Vec<FieldDType>,
     ) -> VortexResult<Self>
         requires { length names ≡ vec_len dtypes }
-        ensures fields { IfOk result (λ s. children s ≡ zip names (map field_tree dtypes.items)) }
+        ensures names { IfOk result (λ s. struct_names s ≡ names) }
+        ensures types { IfOk result (λ s. struct_types s ≡ map field_tree dtypes.items) }
+        ensures valid { All IsValidField dtypes.items → IfOk result IsValidStruct }
         ensures refused { IsOkUnless result OutOfMemory }
     {
         let dtypes = into_dtypes(alloc, dtypes)?;

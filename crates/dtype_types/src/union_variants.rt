@@ -88,7 +88,7 @@ impl UnionVariants {
     ghost use Rattle.dtype_types.specs.Lookups.{variant_named, variant_types};
     ghost use Rattle.dtype_types.specs.Hashes.{part_of};
     ghost use Rattle.dtype_types.specs.HashesOf.{union_writes};
-    ghost use Rattle.dtype_types.specs.TreeOf.{tree, trees, option_tree, union_tree, choices, union_names, union_dtypes, union_triples, union_tags, zip_tagged};
+    ghost use Rattle.dtype_types.specs.TreeOf.{tree, trees, option_tree, union_tree, choices, union_names, union_dtypes, union_triples, union_types, union_tags, zip_tagged};
     ghost use Rattle.dtype_types.specs.IsValid.{IsValid, IsValidUnion};
 
     /// The union of these names, types and tags. Refuses, the first that applies: 10
@@ -102,6 +102,9 @@ impl UnionVariants {
         dtypes: Vec<DType>,
         type_ids: Vec<u8>,
     ) -> VortexResult<Self>
+        ensures names { IfOk result (λ u. union_names u ≡ names) }
+        ensures types { IfOk result (λ u. union_types u ≡ map tree dtypes.items) }
+        ensures tags { IfOk result (λ u. union_tags u ≡ type_ids.items) }
         ensures variants { IfOk result
             (λ u. choices u ≡ zip_tagged names (map tree dtypes.items) type_ids.items) }
         ensures valid { All IsValid dtypes.items → IfOk result IsValidUnion }
@@ -120,8 +123,9 @@ impl UnionVariants {
     /// The union of these names and types, with the tags 0, 1, 2 and so on. Refuses 14 (UnionTooMany)
     /// where there are more than 256 names, else as `try_new` does with those tags.
     pub fn new(alloc: Global, names: FieldNames, dtypes: Vec<DType>) -> VortexResult<Self>
-        ensures variants { IfOk result (λ u. choices u
-            ≡ zip_tagged names (map tree dtypes.items) (range_with_len 0 (length names))) }
+        ensures names { IfOk result (λ u. union_names u ≡ names) }
+        ensures types { IfOk result (λ u. union_types u ≡ map tree dtypes.items) }
+        ensures tags { IfOk result (λ u. union_tags u ≡ range_with_len 0 (length names)) }
         ensures valid { All IsValid dtypes.items → IfOk result IsValidUnion }
 
         ensures accepted { OnOk result
@@ -226,7 +230,9 @@ impl UnionVariants {
     /// The tag of the variant at this position, which there is.
     pub fn child_index_to_tag(&self, index: usize) -> u8
         requires { index < length (union_tags self.now) }
-        ensures { slice_get (union_tags self.now) index ≡ Some result }
+        ensures at { slice_get (union_tags self.now) index ≡ Some result }
+        ensures back { IsValidUnion self.now
+            → position (λ t. t == result) (union_tags self.now) ≡ Some index }
     {
         self.type_ids()[index]
     }

@@ -54,7 +54,6 @@ pub fn mask_below(mask: FieldMask) -> VortexResult<FieldMask>
 }
 
 /// The type of a column in an outer join: its values, and null.
-#[tactic(auto, using(dtype_types::specs::lemmas::NullValues::null_values))]
 pub fn nullable_column(alloc: Global, column: &DType) -> VortexResult<DType>
     ensures { IfOk result (λ d. AddsNull (tree column.now) (tree d)) }
 {

@@ -1,15 +1,15 @@
 // SPDX-License-Identifier: Apache-2.0
 // SPDX-FileCopyrightText: Copyright the Vortex contributors
 
-//! Going over the columns of a table: what holds of all, of any, how many, the first, by chains and by a
-//! loop. What an iterator over types gives is said by their trees.
-ghost use Rattle.std.specs.Prelude.{◌≡◌, ◌↔◌, ◌||◌, All, Any, IsTrue, count_by, false, find, fold, length};
+//! Going over the columns of a table: what holds of all, of any, how many, by chains and by a loop. What an
+//! iterator over types gives is said by their trees.
+ghost use Rattle.std.specs.Prelude.{◌≡◌, ◌↔◌, ◌||◌, All, Any, IsTrue, count_by, false, fold, length};
 ghost use Rattle.dtype_types.specs.Kinds.{is_nested};
 ghost use Rattle.dtype_types.specs.Lookups.{field_types, variant_types};
 ghost use Rattle.dtype_types.specs.Nullable.{IsNullable};
-ghost use Rattle.dtype_types.specs.TreeOf.{children, choices, option_tree, struct_pairs, tree};
+ghost use Rattle.dtype_types.specs.TreeOf.{children, choices, struct_pairs, tree};
 
-use dtype_types::{DType, StructFields, UnionVariants};
+use dtype_types::{StructFields, UnionVariants};
 
 /// Whether every column may be null.
 pub fn all_nullable(table: &StructFields) -> bool
@@ -39,13 +39,6 @@ pub fn all_pairs_nullable(table: &StructFields) -> bool
     table.pairs().all(|(_, dtype)| dtype.is_nullable())
 }
 
-/// How many columns hold others.
-pub fn count_of_nested(table: &StructFields) -> usize
-    ensures { result ≡ count_by is_nested (field_types (children table.now)) }
-{
-    table.fields().filter(|dtype| dtype.is_nested()).count()
-}
-
 /// How many columns there are, counted.
 pub fn count_of_columns(table: &StructFields) -> usize
     ensures { result ≡ length (children table.now) }
@@ -53,30 +46,13 @@ pub fn count_of_columns(table: &StructFields) -> usize
     table.pairs().count()
 }
 
-/// The type of the first column that holds others.
-pub fn first_nested(table: &StructFields) -> Option<&DType>
-    ensures { option_tree result ≡ find is_nested (field_types (children table.now)) }
-{
-    table.fields().find(|dtype| dtype.is_nested())
-}
-
 /// Whether some column holds others, by a fold.
 pub fn is_any_nested(table: &StructFields) -> bool
     ensures { result ≡ fold (λ seen t. seen || is_nested t) false (field_types (children table.now)) }
 {
-    table.fields().fold(false, |seen, dtype| seen || dtype.is_nested())
-}
-
-/// Whether every column may be null, by a loop.
-pub fn all_nullable_in_turn(table: &StructFields) -> bool
-    ensures { IsTrue result ↔ All IsNullable (field_types (children table.now)) }
-{
-    for dtype in table.fields() {
-        if !dtype.is_nullable() {
-            return false;
-        }
-    }
-    true
+    table
+        .fields()
+        .fold(false, |seen, dtype| seen || dtype.is_nested())
 }
 
 /// How many columns hold others, by a loop.

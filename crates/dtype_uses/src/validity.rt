@@ -2,7 +2,7 @@
 // SPDX-FileCopyrightText: Copyright the Vortex contributors
 
 // What a caller has of a valid type.
-#![tactic(auto, using(dtype_types::specs::lemmas::Validity::validity, dtype_types::specs::lemmas::Tags::tags))]
+#![tactic(auto, using(dtype_types::specs::lemmas::Validity::validity))]
 
 ghost use Rattle.std.specs.Prelude.{◌≡◌, ◌<◌, Some, IfSome, IsTrue, length, true};
 ghost use Rattle.dtype_types.specs.IsValid.{IsValid, IsValidStruct, IsValidUnion};

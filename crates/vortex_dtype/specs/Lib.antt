@@ -60,7 +60,6 @@ pub use Rattle.dtype_types.specs.FieldTypes
 pub use Rattle.dtype_types.specs.lemmas.JoinedFields
 pub use Rattle.dtype_types.specs.lemmas.NullValues
 pub use Rattle.dtype_types.specs.lemmas.Nullabilities
-pub use Rattle.dtype_types.specs.lemmas.Parts
 pub use Rattle.dtype_types.specs.lemmas.Tags
 pub use Rattle.dtype_types.specs.lemmas.Validity
 pub use Rattle.dtype_paths.specs.Texts

@@ -2,12 +2,14 @@
 -- SPDX-FileCopyrightText: Copyright the Vortex contributors
 
 -- Which types have null, and what a type's values are once null is among them.
-use Rattle.std.proofs.Common.{◌≡◌, ◌⊎◌, ◌↔◌, ℕ, List, Option, Some, None, option_and_then, refl, sym, subst, inl, inr}
+use Rattle.std.proofs.Common.{◌≡◌, ◌⊎◌, ◌↔◌, ℕ, List, Option, Some, None, option_and_then, Result, Ok, Err, IfOk, refl, sym, subst, inl, inr}
 use Rattle.std.proofs.lemmas.Option.{same_Some}
 use Rattle.dtype_base.specs.declared.nullability.Nullability.{Nullability}
 use Rattle.dtype_base.specs.declared.nullability.Nullability.TheVariants.{NonNullable, Nullable}
 use Rattle.dtype_types.specs.Nullable.{set_null, SetNull, IsNullable}
 use Rattle.dtype_types.specs.Tree.{Tree, null, bool, primitive, decimal, utf8, binary, list, fixed_size_list, map_of, struct, union, variant, extension}
+use Rattle.dtype_types.specs.TreeOf.{tree}
+use Rattle.dtype_types.specs.declared.dtype.DType.{DType}
 use Rattle.dtype_types.specs.lemmas.Nullabilities.{set_is}
 use Rattle.dtype_types.specs.Value.{Value, Of, AddsNull, null_value}
 
@@ -69,5 +71,10 @@ nullable_adds_null t u e v = go (others t u Nullable e v)
     go : NullOrSame v t u → Of v u ↔ (Of v t ⊎ (v ≡ null_value))
     go (inl is) = (λ o. inr is, either (inl is))
     go (inr f) = (λ o. inl (f.1 o), either (inr f))
+
+-- the same of what a call gives that makes a type nullable
+pub made_nullable : {E : Type 0} (t : Tree) (r : Result DType E) → IfOk r (λ d. SetNull t Nullable (tree d)) → IfOk r (λ d. AddsNull t (tree d))
+made_nullable t (Ok d) h = nullable_adds_null t (tree d) h
+made_nullable t (Err e) h = tt
 
 pub ruleset null_values = (null_is_of_nullable, nullable_adds_null)

@@ -3,13 +3,16 @@
 
 -- The tags of a valid union: none stands at two positions.
 use Rattle.std.proofs.Common.{◌≡◌, ℕ, zero, suc, ◌<◌, ◌==◌, Bool, List, length, get_or, slice_get, Option, Some, None, IfSome, cond, refl, ap, sym, subst, ◌∙◌, arith}
-use Rattle.std.specs.List.{position}
+use Rattle.std.specs.List.{position, range_with_len}
+use Rattle.std.proofs.lemmas.List.{get_or_default}
 use Rattle.std.proofs.lemmas.Bool.{lt-ltb}
 use Rattle.std.proofs.lemmas.List.{length-map}
+use Rattle.std.proofs.lemmas.List.FromFn.{length-range_with_len}
 use Rattle.std.proofs.lemmas.List.Quantifiers.{position-Some}
 use Rattle.std.proofs.lemmas.List.Sums.{position_or_len_is}
 use Rattle.std.proofs.lemmas.Option.{slice_get_within, slice_get_read, get_or_from_slice_get}
 use Rattle.dtype_types.specs.Tree.{Variants, no_variants, choice, triples}
+use Rattle.dtype_types.specs.Unions.{AreConsecutive}
 use Rattle.dtype_types.specs.Valid.{LacksTag, ValidVariants}
 use Rattle.dtype_types.specs.Lookups.{variant_tags}
 use Rattle.dtype_types.specs.IsValid.{IsValidUnion}
@@ -51,4 +54,12 @@ pub position_within : (u : UnionVariants) (f : ℕ → Bool) (r : Option ℕ) �
 position_within u f None e = tt
 position_within u f (Some i) e = omega (arith, (position-Some f (union_tags u) i 0 (sym e)).0, length-map (choices u) (λ c. c.2))
 
-pub ruleset tags = (position_of_tag, position_within)
+-- the tag read at a place
+pub tag_read : (gs hs : List ℕ) (i : ℕ) → hs ≡ gs → i < length gs → slice_get gs i ≡ Some (get_or hs i 0)
+tag_read gs hs i e w = slice_get_read gs (length gs) i (get_or hs i 0) refl w (ap (λ xs. get_or xs i 0) e ∙ get_or_default gs i 0 (get_or hs i 0) w)
+
+-- tags that are 0, 1, 2 and so on, however many
+pub consecutive_tags : (gs : List ℕ) (n : ℕ) → gs ≡ range_with_len 0 n → AreConsecutive gs
+consecutive_tags gs n e = e ∙ ap (range_with_len 0) (sym (ap length e ∙ length-range_with_len 0 n))
+
+pub ruleset tags = (position_of_tag, position_within, consecutive_tags)

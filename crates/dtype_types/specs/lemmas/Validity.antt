@@ -12,12 +12,13 @@ use Rattle.dtype_base.specs.declared.nullability.Nullability.{Nullability}
 use Rattle.dtype_base.specs.declared.nullability.Nullability.TheVariants.{NonNullable, Nullable}
 use Rattle.dtype_types.specs.FieldTypes.{given_fields}
 use Rattle.dtype_types.specs.IsValid.{IsValid, IsValidField, IsValidStruct, IsValidUnion, IsValidMap, IsValidExtension}
+use Rattle.dtype_types.specs.Lists.{seconds}
 use Rattle.dtype_types.specs.Lookups.{first_named, variant_named, field_types, variant_types}
 use Rattle.dtype_types.specs.Nullable.{nullability, set_null}
 use Rattle.dtype_types.specs.lemmas.Nullabilities.{by_storage}
 use Rattle.dtype_types.specs.Tree.{Tree, fields, variants, null, bool, primitive, decimal, utf8, binary, list, fixed_size_list, map_of, struct, union, variant, extension}
 use Rattle.dtype_types.specs.TreeOf.{tree, option_tree, map_shown, struct_pairs, union_triples, children, choices, with_trees, with_tagged_trees}
-use Rattle.dtype_types.specs.Valid.{HasVariant, Valid, ValidFields, ValidVariants}
+use Rattle.dtype_types.specs.Valid.{Valid, ValidFields, ValidVariants}
 use Rattle.dtype_types.specs.lemmas.TreeLaws.{tree_struct, tree_union, tree_map, tree_extension}
 use Rattle.dtype_types.specs.declared.dtype.DType.{DType, Map, Struct, Union, Extension}
 use Rattle.dtype_types.specs.declared.field_dtype.FieldDType.{FieldDType}
@@ -55,6 +56,10 @@ pub valid_extension : (d : DType) (e : ExtDTypeRef) → d ≡ Extension e → Is
 valid_extension d e is h = subst Valid (ap tree is ∙ tree_extension e) h
 
 -- ---- fields and variants, and their types
+
+pub fields_of_types : (ps : List (List ℕ × DType)) → AllByRecursion IsValid (seconds ps) → ValidFields (fields (with_trees ps))
+fields_of_types [] h = tt
+fields_of_types (p ∷ ps) h = (h.0, fields_of_types ps h.1)
 
 pub valid_given : (ps : List (List ℕ × FieldDType)) → AllByRecursion (λ p. IsValidField p.1) ps → ValidFields (given_fields ps)
 valid_given [] h = tt

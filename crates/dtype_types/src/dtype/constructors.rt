@@ -9,7 +9,6 @@ ghost use Rattle.dtype_types.specs.FieldTypes.{IsStructOf, MadeFrom};
 ghost use Rattle.dtype_types.specs.Nullable.{nullability, IsNullable};
 ghost use Rattle.dtype_types.specs.Tree.{list, fixed_size_list, map_of};
 ghost use Rattle.dtype_types.specs.TreeOf.{tree};
-ghost use Rattle.dtype_types.specs.IsValid.{IsValid};
 
 use crate::{DType, FieldDType, MapDType, StructFields};
 use dtype_base::{FieldName, Nullability, VortexResult};

@@ -5,10 +5,8 @@
 ghost use Rattle.std.specs.Prelude.{◌≡◌, ◌↔◌, IsTrue, IfOk, IsOkUnless};
 ghost use Rattle.dtype_base.specs.Nullability.{either};
 ghost use Rattle.dtype_base.specs.declared.vortex_error.VortexError.TheVariants.{OutOfMemory};
-ghost use Rattle.dtype_types.specs.Nullable.{nullability, IsNullable, CanBeNonNullable, SetNull, set_null};
-ghost use Rattle.dtype_types.specs.Tree.{Tree};
+ghost use Rattle.dtype_types.specs.Nullable.{nullability, IsNullable, CanBeNonNullable, SetNull};
 ghost use Rattle.dtype_types.specs.TreeOf.{tree};
-ghost use Rattle.dtype_types.specs.IsValid.{IsValid};
 ghost use Rattle.dtype_types.specs.Value.{AddsNull};
 
 use crate::DType;
@@ -81,6 +79,7 @@ impl DType {
     /// The type made nullable: its values are those of this one, and null. Refuses 0 (OutOfMemory) alone.
     pub fn as_nullable(&self, alloc: Global) -> VortexResult<DType>
         ensures set { IfOk result (λ d. SetNull (tree self.now) Nullability.Nullable (tree d)) }
+        ensures values { IfOk result (λ d. AddsNull (tree self.now) (tree d)) }
         ensures refused { IsOkUnless result OutOfMemory }
     {
         self.with_nullability(alloc, Nullability::Nullable)

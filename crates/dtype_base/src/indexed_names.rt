@@ -1,7 +1,7 @@
 // SPDX-License-Identifier: Apache-2.0
 // SPDX-FileCopyrightText: Copyright the Vortex contributors
 
-ghost use Rattle.std.specs.Prelude.{◌≡◌, ◌≢◌, ◌↔◌, ℕ, ◌+◌, ◌<◌, ◌^◌, AllPairs, IsTrue, IfOk, IfSome, IfNone, IsOkUnless, length, nat_lt};
+ghost use Rattle.std.specs.Prelude.{◌≡◌, ◌≢◌, ◌↔◌, ◌+◌, ◌<◌, ◌^◌, AllPairs, IsTrue, IfOk, IfSome, IfNone, IsOkUnless, length, nat_lt};
 ghost use Rattle.std.specs.Ordering.{is_lt, is_eq};
 ghost use Rattle.dtype_base.specs.FieldNames.{FirstAt, IsAbsent, first_place};
 ghost use Rattle.dtype_base.specs.NameOrder.{IsIndexOf, IsWithinDigits, comparisons, mask, place_side};
@@ -154,7 +154,8 @@ impl Hash for IndexedNames {
 // The first position of the name, or none where no name is equal to it, and how many names were compared.
 //
 // Halves what is left until it is one place, the first whose name isn't below this one if the name stands
-// anywhere at all. The steps are the same for every name, and none is a jump that a processor could guess wrong.
+// anywhere at all. The steps are as many for every name, and where keys tell, none has a jump that a processor
+// could guess wrong.
 fn search(
     names: &[FieldName],
     shared: usize,

@@ -1,27 +1,28 @@
 // SPDX-License-Identifier: Apache-2.0
 // SPDX-FileCopyrightText: Copyright the Vortex contributors
 
-//! Types written as messages and read again, from the contracts of the calls and the public laws alone.
-ghost use Rattle.std.specs.Prelude.{◌≡◌, IfOk, IsErr, IsTrue};
-ghost use Rattle.dtype_base.specs.declared.nullability.Nullability.TheVariants.{Nullable};
-ghost use Rattle.dtype_base.specs.declared.vortex_error.VortexError.{VortexError};
-ghost use Rattle.dtype_types.specs.Nullable.{SetNull};
-ghost use Rattle.dtype_types.specs.TreeOf.{tree};
-ghost use Rattle.dtype_types.specs.Valid.{Valid};
-ghost use Rattle.dtype_messages.specs.MessageOf.{message};
+//! Types written as messages and read again.
+#![tactic(auto, using(vortex_dtype::specs::lemmas::Reading::reading))]
+
+ghost use Rattle.std.specs.Prelude.{◌≡◌, ◌⊎◌, Err, IfErr, IfOk, IsErr, IsTrue};
+ghost use Rattle.vortex_dtype.specs.Types.Nullability.TheVariants.{Nullable};
+ghost use Rattle.vortex_dtype.specs.Types.MessageFault.TheVariants.{ListElementMissing, TypeMissing};
+ghost use Rattle.vortex_dtype.specs.Types.VortexError.TheVariants.{Message as Faulty, OutOfMemory};
+ghost use Rattle.vortex_dtype.specs.Types.VortexError.{VortexError};
+ghost use Rattle.vortex_dtype.specs.Nullable.{SetNull};
+ghost use Rattle.vortex_dtype.specs.TreeOf.{tree};
+ghost use Rattle.vortex_dtype.specs.Valid.{Valid};
+ghost use Rattle.vortex_dtype.specs.MessageOf.{message};
 ghost use Rattle.vortex_dtype.specs.Accepts.{Accepts};
 ghost use Rattle.vortex_dtype.specs.Meaning.{Admits, nothing};
+ghost use Rattle.vortex_dtype.specs.ReadInOrder.{read};
 ghost use Rattle.vortex_dtype.specs.Reads.{Fault};
 ghost use Rattle.vortex_dtype.specs.Session.{meaning};
 ghost use Rattle.vortex_dtype.specs.Written.{Normal};
 
-use dtype_base::VortexResult;
-use dtype_types::DType;
 use std::alloc::Global;
-use vortex_dtype::laws::{
-    equal_messages_read_alike, messages_are_exact, other_nullabilities_are_read_back, session_laws,
-};
-use vortex_dtype::{DTypeProto, DTypeSession, ExtDTypePlugin, pb};
+use vortex_dtype::laws::session_laws;
+use vortex_dtype::{DType, DTypeProto, DTypeSession, ExtDTypePlugin, VortexResult, pb};
 
 /// Whether two messages say the same type: equal ones do.
 pub fn say_the_same(
@@ -34,7 +35,6 @@ pub fn say_the_same(
 {
     let first = DType::from_proto(alloc, a, session)?;
     let second = DType::from_proto(alloc, b, session)?;
-    equal_messages_read_alike();
     Ok(first == second)
 }
 
@@ -44,7 +44,6 @@ pub fn are_the_same(alloc: Global, a: &DType, b: &DType) -> VortexResult<bool>
 {
     let first = a.to_proto(alloc)?;
     let second = b.to_proto(alloc)?;
-    equal_messages_read_alike();
     Ok(first == second)
 }
 
@@ -57,7 +56,6 @@ pub fn normalized(
     ensures { IfOk result (λ m. Normal (meaning (λ b. rewrites (b.vtable, b.value)) session.now) (message proto.now) (message m)) }
 {
     let dtype = DType::from_proto(alloc, proto, session)?;
-    messages_are_exact();
     dtype.to_proto(alloc)
 }
 
@@ -72,7 +70,6 @@ pub fn read_from_copy(
 {
     let copy = proto.try_clone(alloc)?;
     let dtype = DType::from_proto(alloc, &copy, session)?;
-    equal_messages_read_alike();
     Ok(dtype)
 }
 
@@ -84,15 +81,57 @@ pub fn stored_nullable(alloc: Global, dtype: &DType, session: &DTypeSession) -> 
     let nullable = dtype.as_nullable(alloc)?;
     let stored = nullable.to_proto(alloc)?;
     session_laws(session);
-    other_nullabilities_are_read_back();
     DType::from_proto(alloc, &stored, session)
 }
 
-/// A schema read by a program that knows no extension.
+/// A schema read by a program that knows no extension: what is wrong is told as it comes first in the message.
 pub fn read_knowing_nothing(alloc: Global, proto: &pb::DType) -> VortexResult<DType>
     ensures accepts { IfOk result (λ t. Accepts nothing (message proto.now) (tree t)) }
+    ensures told { IfErr result (λ e. (e ≡ OutOfMemory) ⊎ (read nothing (message proto.now) ≡ Err e)) }
     ensures faulty { (e : VortexError) → Fault nothing (message proto.now) e → IsErr result }
 {
     let session = DTypeSession::new(alloc);
     DType::from_proto(alloc, proto, &session)
+}
+
+/// A list without an element: refused by its number, whatever the session knows.
+pub fn read_unfinished_list(
+    alloc: Global,
+    nullable: bool,
+    session: &DTypeSession,
+) -> VortexResult<DType>
+    ensures { IfErr result (λ e. (e ≡ OutOfMemory) ⊎ (e ≡ Faulty ListElementMissing)) }
+{
+    let list = pb::List {
+        element_type: None,
+        nullable,
+    };
+    let kind = pb::DtypeType::List(Box::new(alloc, list)?);
+    let proto = pb::DType {
+        dtype_type: Some(kind),
+    };
+    DType::from_proto(alloc, &proto, session)
+}
+
+/// A map without a value whose key lacks its type: the key's fault comes first.
+pub fn read_unfinished_map(
+    alloc: Global,
+    keys_sorted: bool,
+    nullable: bool,
+    session: &DTypeSession,
+) -> VortexResult<DType>
+    ensures { IfErr result (λ e. (e ≡ OutOfMemory) ⊎ (e ≡ Faulty TypeMissing)) }
+{
+    let key = pb::DType { dtype_type: None };
+    let map = pb::Map {
+        key_type: Some(Box::new(alloc, key)?),
+        value_type: None,
+        keys_sorted,
+        nullable,
+    };
+    let kind = pb::DtypeType::Map(Box::new(alloc, map)?);
+    let proto = pb::DType {
+        dtype_type: Some(kind),
+    };
+    DType::from_proto(alloc, &proto, session)
 }

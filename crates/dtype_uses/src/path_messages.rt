@@ -1,17 +1,18 @@
 // SPDX-License-Identifier: Apache-2.0
 // SPDX-FileCopyrightText: Copyright the Vortex contributors
 
-//! What a user of path messages, and of the messages of single kinds, gets from their contracts alone.
+//! Path messages, and the messages of single kinds.
+#![tactic(auto, using(vortex_dtype::specs::lemmas::Reading::reading))]
+
 ghost use Rattle.std.specs.Prelude.{◌≡◌, ◌↔◌, ◌⊎◌, ◌∷◌, [], IfErr, IfOk, IsErr, IsOkUnless, IsTrue, string_bytes};
-ghost use Rattle.dtype_base.specs.declared.vortex_error.VortexError.TheVariants.{Message, OutOfMemory};
-ghost use Rattle.dtype_base.specs.declared.vortex_error.MessageFault.TheVariants.{PathPartMissing};
-ghost use Rattle.dtype_messages.specs.MessageOf.{list_parts, struct_parts};
-ghost use Rattle.dtype_messages.specs.PathNames.{part_name, part_names};
-ghost use Rattle.dtype_paths.specs.declared.field.Field.TheVariants.{Name};
+ghost use Rattle.vortex_dtype.specs.Types.VortexError.TheVariants.{Message, OutOfMemory};
+ghost use Rattle.vortex_dtype.specs.Types.MessageFault.TheVariants.{PathPartMissing};
+ghost use Rattle.vortex_dtype.specs.MessageOf.{list_parts, struct_parts};
+ghost use Rattle.vortex_dtype.specs.PathNames.{part_name, part_names};
+ghost use Rattle.vortex_dtype.specs.Types.Field.TheVariants.{Name};
 
 use std::alloc::Global;
 use std::string::String;
-use vortex_dtype::laws::no_path_without_a_kind;
 use vortex_dtype::{FieldPath, FieldPathProto, VortexResult, pb};
 
 /// Whether two stored paths are the same one.
@@ -91,6 +92,5 @@ pub fn read_unfinished(alloc: Global, mut proto: pb::FieldPath) -> VortexResult<
     ensures fault { IfErr result (λ e. (e ≡ OutOfMemory) ⊎ (e ≡ Message PathPartMissing)) }
 {
     proto.path.push(pb::Field { field_type: None })?;
-    no_path_without_a_kind();
     FieldPath::from_proto(alloc, &proto)
 }

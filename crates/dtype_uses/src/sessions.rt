@@ -1,16 +1,19 @@
 // SPDX-License-Identifier: Apache-2.0
 // SPDX-FileCopyrightText: Copyright the Vortex contributors
 
-//! Sessions that a function makes for itself: what they mean, from the contracts of the calls and the laws alone.
-ghost use Rattle.std.specs.Prelude.{◌≡◌, IfOk, IsOkUnless, IsTrue};
-ghost use Rattle.dtype_base.specs.declared.vortex_error.VortexError.TheVariants.{OutOfMemory};
-ghost use Rattle.dtype_types.specs.TreeOf.{extension_metadata, tree};
-ghost use Rattle.dtype_types.specs.Valid.{Valid};
+//! Sessions: what is known after registrations, what is kept of metadata, and what is refused.
+#![tactic(auto, using(vortex_dtype::specs::lemmas::Sessions::sessions, vortex_dtype::specs::lemmas::Reading::reading))]
 
-use dtype_types::{DType, ExtDTypeRef};
+ghost use Rattle.std.specs.Prelude.{◌≡◌, ◌≢◌, ◌↔◌, ◌⊎◌, IfErr, IfOk, IsErr, IsOkUnless, IsSome, IsTrue, OnOk, Some, false, true};
+ghost use Rattle.vortex_dtype.specs.Meaning.{keeps};
+ghost use Rattle.vortex_dtype.specs.Session.{meaning};
+ghost use Rattle.vortex_dtype.specs.TreeOf.{extension_metadata, tree};
+ghost use Rattle.vortex_dtype.specs.Types.MessageFault.TheVariants.{ExtensionUnregistered};
+ghost use Rattle.vortex_dtype.specs.Types.VortexError.TheVariants.{Message, OutOfMemory};
+ghost use Rattle.vortex_dtype.specs.Valid.{Valid};
+
 use std::alloc::Global;
-use vortex_dtype::laws::{registering_changes_one_id, unknown_ids_are_all_admitted};
-use vortex_dtype::{DTypeProto, DTypeSession, ExtDTypePlugin, VortexResult};
+use vortex_dtype::{DType, DTypeProto, DTypeSession, ExtDTypePlugin, ExtDTypeRef, VortexResult};
 
 /// A type stored and read back by a program that knows none of its extensions: the same type.
 pub fn carried_over(alloc: Global, dtype: &DType) -> VortexResult<DType>
@@ -20,7 +23,6 @@ pub fn carried_over(alloc: Global, dtype: &DType) -> VortexResult<DType>
     let mut session = DTypeSession::new(alloc);
     session.allow_unknown();
     let stored = dtype.to_proto(alloc)?;
-    unknown_ids_are_all_admitted();
     DType::from_proto(alloc, &stored, &session)
 }
 
@@ -35,7 +37,6 @@ pub fn carried_extension(
 {
     let mut session = DTypeSession::new(alloc);
     session.allow_unknown();
-    unknown_ids_are_all_admitted();
     session.deserialize(id, metadata, storage)
 }
 
@@ -49,6 +50,128 @@ pub fn is_known_once_registered(
     ensures { IfOk result (λ b. IsTrue b) }
 {
     session.register(plugin)?;
-    registering_changes_one_id();
     Ok(session.registry(id))
+}
+
+/// Whether an id is known after another plugin was registered: where it was before.
+pub fn is_known_beside(
+    session: &mut DTypeSession,
+    id: &str,
+    plugin: Box<dyn ExtDTypePlugin>,
+) -> VortexResult<bool>
+    requires { id_text plugin ≢ id.now }
+    ensures { IfOk result (λ b. IsTrue b ↔ IsSome ((meaning rewrites session.old).registered id.now)) }
+{
+    session.register(plugin)?;
+    Ok(session.registry(id))
+}
+
+/// Whether a session that was just made knows an id: none.
+pub fn is_known_from_the_start(alloc: Global, id: &str) -> bool
+    ensures { result ≡ false }
+{
+    DTypeSession::new(alloc).registry(id)
+}
+
+/// An extension read by a session that knows nothing: refused.
+pub fn read_by_a_new_session(
+    alloc: Global,
+    id: &str,
+    metadata: &[u8],
+    storage: DType,
+) -> VortexResult<ExtDTypeRef>
+    ensures refused { Valid (tree storage) → IsErr result }
+    ensures unregistered { Valid (tree storage)
+        → IfErr result (λ e. (e ≡ OutOfMemory) ⊎ (e ≡ Message ExtensionUnregistered)) }
+{
+    DTypeSession::new(alloc).deserialize(id, metadata, storage)
+}
+
+/// Registers a plugin, and leaves alone whether unknown ids are kept.
+pub fn register_and_ask(
+    session: &mut DTypeSession,
+    plugin: Box<dyn ExtDTypePlugin>,
+) -> VortexResult<bool>
+    ensures { IfOk result (λ b. b ≡ (meaning rewrites session.old).unknown) }
+{
+    session.register(plugin)?;
+    Ok(session.allows_unknown())
+}
+
+/// Unknown ids stay kept whatever is registered afterwards.
+pub fn allow_and_register(
+    session: &mut DTypeSession,
+    plugin: Box<dyn ExtDTypePlugin>,
+) -> VortexResult<bool>
+    ensures { IfOk result (λ b. IsTrue b) }
+{
+    session.allow_unknown();
+    session.register(plugin)?;
+    Ok(session.allows_unknown())
+}
+
+/// An extension read by the second of two plugins of one id: as the second writes it back.
+pub fn read_by_the_last(
+    session: &mut DTypeSession,
+    first: Box<dyn ExtDTypePlugin>,
+    second: Box<dyn ExtDTypePlugin>,
+    id: &str,
+    metadata: &[u8],
+    storage: DType,
+) -> VortexResult<ExtDTypeRef>
+    requires { id_text second ≡ id.now }
+    ensures { Valid (tree storage) → IfOk result
+        (λ e. rewrites second metadata.now (tree storage) ≡ Some (extension_metadata e)) }
+{
+    session.register(first)?;
+    session.register(second)?;
+    session.deserialize(id, metadata, storage)
+}
+
+/// An extension of another id than the one that is registered, where unknown ids are kept: its metadata stays.
+pub fn read_beside(
+    alloc: Global,
+    plugin: Box<dyn ExtDTypePlugin>,
+    id: &str,
+    metadata: &[u8],
+    storage: DType,
+) -> VortexResult<ExtDTypeRef>
+    requires { id_text plugin ≢ id.now }
+    ensures { Valid (tree storage) → IfOk result (λ e. extension_metadata e ≡ metadata.now) }
+{
+    let mut session = DTypeSession::new(alloc);
+    session.register(plugin)?;
+    session.allow_unknown();
+    session.deserialize(id, metadata, storage)
+}
+
+/// Registers a plugin where none stands under its id; one that stands there stays.
+pub fn register_once(
+    session: &mut DTypeSession,
+    id: &str,
+    plugin: Box<dyn ExtDTypePlugin>,
+) -> VortexResult<()>
+    requires { id_text plugin ≡ id.now }
+    ensures known { OnOk result (IsSome ((meaning rewrites session.new).registered id.now)) }
+    ensures stays { IsSome ((meaning rewrites session.old).registered id.now)
+        → meaning rewrites session.new ≡ meaning rewrites session.old }
+{
+    if !session.registry(id) {
+        session.register(plugin)?;
+    }
+    Ok(())
+}
+
+/// Whether a session takes an extension's metadata as it stands: where it keeps it.
+pub fn is_taken_as_it_is(
+    session: &DTypeSession,
+    id: &str,
+    metadata: &[u8],
+    storage: DType,
+) -> VortexResult<bool>
+    ensures { Valid (tree storage) → IfOk result (λ b. IsTrue b ↔ (keeps
+        (meaning (λ b. rewrites (b.vtable, b.value)) session.now) id.now metadata.now (tree storage)
+        ≡ Some metadata.now)) }
+{
+    Ok(session.deserialize(id, metadata, storage)?.metadata_bytes() == metadata)
 }

@@ -1,24 +1,25 @@
 // SPDX-License-Identifier: Apache-2.0
 // SPDX-FileCopyrightText: Copyright the Vortex contributors
 
-//! What a user of messages gets, from the contracts of the public calls and two laws alone.
+//! Schemas stored and read back.
+#![tactic(auto, using(vortex_dtype::specs::lemmas::Reading::reading, vortex_dtype::specs::lemmas::Sessions::sessions))]
+
 ghost use Rattle.std.specs.Prelude.{◌≡◌, ◌++◌, [], ◌∷◌, IfOk, IsOkUnless, IsTrue, Some, map};
-ghost use Rattle.dtype_base.specs.declared.nullability.Nullability.TheVariants.{NonNullable, Nullable};
-ghost use Rattle.dtype_base.specs.declared.vortex_error.VortexError.TheVariants.{OutOfMemory};
-ghost use Rattle.dtype_types.specs.IsValid.{IsValid, IsValidStruct};
-ghost use Rattle.dtype_types.specs.Tree.{fields, primitive, struct};
-ghost use Rattle.dtype_types.specs.TreeOf.{children, struct_tree, tree};
-ghost use Rattle.dtype_types.specs.Valid.{Valid};
+ghost use Rattle.vortex_dtype.specs.Types.Nullability.TheVariants.{NonNullable, Nullable};
+ghost use Rattle.vortex_dtype.specs.Types.VortexError.TheVariants.{OutOfMemory};
+ghost use Rattle.vortex_dtype.specs.IsValid.{IsValid, IsValidStruct};
+ghost use Rattle.vortex_dtype.specs.Tree.{fields, primitive, struct};
+ghost use Rattle.vortex_dtype.specs.TreeOf.{children, struct_tree, tree};
+ghost use Rattle.vortex_dtype.specs.Valid.{Valid};
 ghost use Rattle.vortex_dtype.specs.Meaning.{Admits, AdmitsFields};
 ghost use Rattle.vortex_dtype.specs.PathMessage.{steps_of};
 ghost use Rattle.vortex_dtype.specs.Session.{meaning};
 
-use dtype_base::{FieldName, FieldNames, Nullability, PType, VortexResult};
-use dtype_messages::pb;
-use dtype_types::{DType, StructFields};
 use std::alloc::Global;
-use vortex_dtype::laws::{messages_are_exact, more_fields_are_admitted, same_names_same_steps};
-use vortex_dtype::{DTypeProto, DTypeSession, ExtDTypePlugin, FieldPath, FieldPathProto};
+use vortex_dtype::{
+    DType, DTypeProto, DTypeSession, ExtDTypePlugin, FieldName, FieldNames, FieldPath,
+    FieldPathProto, Nullability, PType, StructFields, VortexResult, pb,
+};
 
 /// A type stored as a message and read back: the same type, where the session admits it. Refuses
 /// 0 (OutOfMemory) alone there.
@@ -33,7 +34,6 @@ pub fn stored_and_read_back(
         → IsOkUnless result OutOfMemory }
 {
     let stored = dtype.to_proto(alloc)?;
-    messages_are_exact();
     DType::from_proto(alloc, &stored, session)
 }
 
@@ -83,7 +83,6 @@ pub fn stored_with_column(
 {
     let wider = with_column(alloc, columns, Nullability::NonNullable, name, numbers)?;
     let stored = wider.to_proto(alloc)?;
-    more_fields_are_admitted();
     DType::from_proto(alloc, &stored, session)
 }
 
@@ -99,6 +98,5 @@ pub fn path_of_copy(alloc: Global, proto: &pb::FieldPath) -> VortexResult<FieldP
     ensures names { IfOk result (λ p. steps_of proto.now ≡ map Some p) }
 {
     let copy = proto.try_clone(alloc)?;
-    same_names_same_steps();
     FieldPath::from_proto(alloc, &copy)
 }

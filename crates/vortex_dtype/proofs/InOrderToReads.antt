@@ -1,7 +1,7 @@
 -- SPDX-License-Identifier: Apache-2.0
 -- SPDX-FileCopyrightText: Copyright the Vortex contributors
 
--- From the reading function to the relations.
+-- What a call gave that gives what reading gives.
 use Rattle.std.proofs.Common.{◌≡◌, ◌⊎◌, inl, inr, Result, Ok, Err, IfOk, IfErr, IsErr, IsOkUnless, refl, sym, subst}
 use Rattle.dtype_base.specs.declared.vortex_error.VortexError.{VortexError}
 use Rattle.dtype_base.specs.declared.vortex_error.VortexError.TheVariants.{OutOfMemory}
@@ -13,31 +13,29 @@ use Rattle.dtype_messages.specs.Message.{Message}
 use Rattle.vortex_dtype.specs.Accepts.{Accepts}
 use Rattle.vortex_dtype.specs.Meaning.{Meaning, Admits, LawfulSession}
 use Rattle.vortex_dtype.specs.IsMessage.{IsMessage}
-use Rattle.vortex_dtype.specs.Reads.{Fault, Reads, ReadsAsNone}
+use Rattle.vortex_dtype.specs.Reads.{Fault, Reads}
 use Rattle.vortex_dtype.specs.ReadInOrder.{read, Gives}
 use Rattle.vortex_dtype.specs.Written.{written}
-use Rattle.vortex_dtype.proofs.ReadsLaws.{fault_none, reads_accepted, reads_once, written_reads}
-use Rattle.vortex_dtype.proofs.InOrderIsReads.{read_reads, read_fault}
+use Rattle.vortex_dtype.specs.lemmas.Reads.{fault_none, reads_accepted, reads_once, written_reads}
+use Rattle.vortex_dtype.specs.lemmas.InOrder.{read_fault, read_reads}
 
-faulty : (s : Meaning) (m : Message) (e : VortexError) → read s m ≡ Err e → Fault s m e × ReadsAsNone s m
-faulty s m e is = let f = read_fault s m e is in (f, λ t h. fault_none s m e t f h)
+pub gives_read : (s : Meaning) (m : Message) (r : Result DType VortexError) → Gives tree r (read s m) → IfOk r (λ t. read s m ≡ Ok (tree t))
+gives_read s m (Ok d) g = g
+gives_read s m (Err e) g = tt
 
-pub gives_refused : (s : Meaning) (m : Message) (r : Result DType VortexError) → Gives tree r (read s m) → IfErr r (λ e. (e ≡ OutOfMemory) ⊎ (Fault s m e × ReadsAsNone s m))
+pub gives_refused : (s : Meaning) (m : Message) (r : Result DType VortexError) → Gives tree r (read s m) → IfErr r (λ e. (e ≡ OutOfMemory) ⊎ (read s m ≡ Err e))
 gives_refused s m (Ok d) g = tt
 gives_refused s m (Err OutOfMemory) g = inl refl
-gives_refused s m (Err e) g = inr (faulty s m e g)
+gives_refused s m (Err e) g = inr g
 
 pub gives_accepts : (s : Meaning) → LawfulSession s → (m : Message) (r : Result DType VortexError) → IfOk r (λ _. IsMessage m) → Gives tree r (read s m) → IfOk r (λ t. Accepts s m (tree t))
 gives_accepts s l m (Ok d) i g = reads_accepted s m (tree d) l i (read_reads s m (tree d) g)
 gives_accepts s l m (Err e) i g = tt
 
--- a message that reads as no type is refused, and so is one in which a fault stands
-pub gives_unread : (s : Meaning) (m : Message) (r : Result DType VortexError) → Gives tree r (read s m) → ReadsAsNone s m → IsErr r
-gives_unread s m (Ok d) g none = absurd (none (tree d) (read_reads s m (tree d) g))
-gives_unread s m (Err e) g none = refl
-
+-- a message in which a fault stands is refused
 pub gives_faulty : (s : Meaning) (m : Message) (r : Result DType VortexError) → Gives tree r (read s m) → (e : VortexError) → Fault s m e → IsErr r
-gives_faulty s m r g e f = gives_unread s m r g (λ t h. fault_none s m e t f h)
+gives_faulty s m (Ok d) g e f = absurd (fault_none s m e (tree d) f (read_reads s m (tree d) g))
+gives_faulty s m (Err x) g e f = refl
 
 -- what is written of an admitted type reads as that type
 written_is_read : (s : Meaning) (m : Message) (t : Tree) → Valid t → Admits s t → m ≡ written t → Reads s m t

@@ -15,7 +15,7 @@ use Rattle.dtype_messages.specs.Message.{Message, Messages, messages, struct, un
 use Rattle.dtype_messages.specs.MessageOf.{message}
 use Rattle.vortex_dtype.specs.IsMessage.{IsMessage, AreMessages}
 use Rattle.vortex_dtype.specs.Meaning.{Meaning}
-use Rattle.vortex_dtype.specs.Numbers.{byte_at}
+use Rattle.vortex_dtype.specs.Numbers.{integer_byte}
 use Rattle.vortex_dtype.specs.ReadInOrder.{read, read_all, read_tags, or_fault, struct_read, union_read, extension_read, or_empty, ◌>>=◌, Gives, Fails}
 use Rattle.dtype_messages.specs.declared.pb.DType.{DType}
 
@@ -105,7 +105,7 @@ TagsRest gs i bs = (read_tags (drop i gs) >>= λ xs. Ok (bs ++ xs)) ≡ read_tag
 next_tag : (gs : List ℤ) (i : ℕ) (d : ℤ) → i < length gs → drop i gs ≡ get_or gs i d ∷ drop (i + 1) gs
 next_tag gs i d h = rw add-one (drop-cons gs i d h)
 
-pub tag_step : (gs : List ℤ) (i : ℕ) (d : ℤ) (bs : List ℕ) (b : ℕ) → i < length gs → byte_at (get_or gs i d) ≡ Some b → TagsRest gs i bs → TagsRest gs (i + 1) (bs ++ b ∷ [])
+pub tag_step : (gs : List ℤ) (i : ℕ) (d : ℤ) (bs : List ℕ) (b : ℕ) → i < length gs → integer_byte (get_or gs i d) ≡ Some b → TagsRest gs i bs → TagsRest gs (i + 1) (bs ++ b ∷ [])
 unfolding read_tags
 tag_step gs i d bs b h e inv =
     sym (push_all (read_tags (drop (i + 1) gs)) bs b)
@@ -113,7 +113,7 @@ tag_step gs i d bs b h e inv =
     ∙ ap (λ l. read_tags l >>= λ us. Ok (bs ++ us)) (sym (next_tag gs i d h))
     ∙ inv
 
-pub tag_stops : (gs : List ℤ) (i : ℕ) (d : ℤ) (bs : List ℕ) → i < length gs → byte_at (get_or gs i d) ≡ None → TagsRest gs i bs → read_tags gs ≡ Err (Faulty TypeIdRange)
+pub tag_stops : (gs : List ℤ) (i : ℕ) (d : ℤ) (bs : List ℕ) → i < length gs → integer_byte (get_or gs i d) ≡ None → TagsRest gs i bs → read_tags gs ≡ Err (Faulty TypeIdRange)
 unfolding read_tags
 tag_stops gs i d bs h e inv =
     sym inv

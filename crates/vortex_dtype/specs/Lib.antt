@@ -18,6 +18,7 @@ pub mod PathMessage
 pub mod StorageKinds
 pub mod CoveringLaws
 pub mod Types
+pub mod lemmas
 pub use Rattle.dtype_base.specs.Bytes
 pub use Rattle.dtype_base.specs.Decimals
 pub use Rattle.dtype_base.specs.Escapes

@@ -9,11 +9,11 @@ abbrev pub natural_byte : ℕ → Option ℕ
 natural_byte n = if nat_lt n 256 then Some n else None
 
 -- the same of a number with a sign
-abbrev pub byte_at : ℤ → Option ℕ
-byte_at (pos n) = natural_byte n
-byte_at (negsuc n) = None
+abbrev pub integer_byte : ℤ → Option ℕ
+integer_byte (pos n) = natural_byte n
+integer_byte (negsuc n) = None
 
 -- the number, if it fits a signed byte
-abbrev pub small_at : ℤ → Option ℤ
-small_at (pos n) = if nat_lt n 128 then Some (pos n) else None
-small_at (negsuc n) = if nat_lt n 128 then Some (negsuc n) else None
+abbrev pub signed_byte : ℤ → Option ℤ
+signed_byte (pos n) = if nat_lt n 128 then Some (pos n) else None
+signed_byte (negsuc n) = if nat_lt n 128 then Some (negsuc n) else None

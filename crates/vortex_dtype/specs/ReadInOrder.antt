@@ -3,7 +3,7 @@
 
 -- Reading as a function on message trees: the type, or the first refusal with its values, where a child comes before
 -- what its parent asks of it. From the documentation of the refusals. The relations of `Reads` don't look at the
--- order; two lemmas lead from here to them.
+-- order; the law `read_is_what_reads` leads from here to them.
 use Rattle.std.specs.Prelude.{◌≡◌, ℕ, ℤ, pos, Bool, true, false, List, [], ◌∷◌, length, Option, Some, None, Result, Ok, Err, if◌then◌else◌, ◌==◌, nat_eq, nat_lt, int_lt, bytes_eq}
 use Rattle.std.specs.List.{zip, list_any}
 use Rattle.dtype_base.specs.declared.nullability.Nullability.{Nullability}
@@ -21,7 +21,7 @@ use Rattle.dtype_types.specs.Nullable.{nullability}
 use Rattle.dtype_messages.specs.Message.{Message, Child, Messages, missing, null, bool, primitive, decimal, utf8, binary, list, fixed_size_list, map_of, struct, union, variant, extension, absent, present, no_message, more}
 use Rattle.vortex_dtype.specs.Meaning.{Meaning, keeps, refusal}
 use Rattle.dtype_messages.specs.PTypeNumbers.{ptype_at}
-use Rattle.vortex_dtype.specs.Numbers.{byte_at, small_at, natural_byte}
+use Rattle.vortex_dtype.specs.Numbers.{integer_byte, signed_byte, natural_byte}
 
 infixl 10 ◌>>=◌
 abbrev pub ◌>>=◌ : {A B : Type 0} → Result A VortexError → (A → Result B VortexError) → Result B VortexError
@@ -47,7 +47,7 @@ decimal_made p k =
     Ok (record { precision = p; scale = k }))))
 
 unfoldable pub decimal_read : ℕ → ℤ → Nullability → Result Tree VortexError
-decimal_read p k n = or_fault (Faulty PrecisionRange) (natural_byte p) >>= λ q. (or_fault (Faulty ScaleRange) (small_at k) >>= λ c. (decimal_made q c >>= λ d. Ok (of.decimal d n)))
+decimal_read p k n = or_fault (Faulty PrecisionRange) (natural_byte p) >>= λ q. (or_fault (Faulty ScaleRange) (signed_byte k) >>= λ c. (decimal_made q c >>= λ d. Ok (of.decimal d n)))
 
 abbrev pub when_required : Nullability → Tree → Result Tree VortexError
 when_required NonNullable t = Ok t
@@ -62,7 +62,7 @@ struct_read ns ts n = if length ns == length ts then Ok (of.struct (fields (zip 
 -- the tags, each a byte, or the first fault
 unfoldable pub read_tags : List ℤ → Result (List ℕ) VortexError
 read_tags [] = Ok []
-read_tags (t ∷ ts) = or_fault (Faulty TypeIdRange) (byte_at t) >>= λ x. (read_tags ts >>= λ xs. Ok (x ∷ xs))
+read_tags (t ∷ ts) = or_fault (Faulty TypeIdRange) (integer_byte t) >>= λ x. (read_tags ts >>= λ xs. Ok (x ∷ xs))
 
 -- something stands twice
 abbrev pub repeats : {X : Type 0} → (X → X → Bool) → List X → Bool

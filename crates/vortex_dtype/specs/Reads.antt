@@ -19,15 +19,15 @@ use Rattle.dtype_types.specs.Tree as of
 use Rattle.dtype_types.specs.Tree.{Tree, Fields, no_fields, field, Variants, no_variants, choice}
 use Rattle.dtype_messages.specs.Message.{Message, Child, Messages, missing, null, bool, primitive, decimal, utf8, binary, list, fixed_size_list, map_of, struct, union, variant, extension, absent, present, no_message, more}
 use Rattle.vortex_dtype.specs.Meaning.{Meaning, keeps, refusal}
-use Rattle.vortex_dtype.specs.Numbers.{byte_at}
+use Rattle.vortex_dtype.specs.Numbers.{integer_byte}
 use Rattle.vortex_dtype.specs.ReadInOrder.{or_empty}
 
 -- the number of a primitive type, as messages have it
 abbrev pub number : PType → ℤ
 number p = pos (base.primitive p).number
 
-abbrev pub decimal_of : ℕ → ℤ → Decimal
-decimal_of p k = record { precision = p; scale = k }
+abbrev pub decimal_with : ℕ → ℤ → Decimal
+decimal_with p k = record { precision = p; scale = k }
 
 abbrev mutual
   pub Reads : Meaning → Message → Tree → Type 0
@@ -36,7 +36,7 @@ abbrev mutual
   Reads s (bool f) t = t ≡ of.bool (nullability_of f)
   -- the number is one of the table of primitive types
   Reads s (primitive k f) t = (p : PType) × (k ≡ number p) × (t ≡ of.primitive p (nullability_of f))
-  Reads s (decimal p k f) t = IsValidDecimal (decimal_of p k) × (t ≡ of.decimal (decimal_of p k) (nullability_of f))
+  Reads s (decimal p k f) t = IsValidDecimal (decimal_with p k) × (t ≡ of.decimal (decimal_with p k) (nullability_of f))
   Reads s (utf8 f) t = t ≡ of.utf8 (nullability_of f)
   Reads s (binary f) t = t ≡ of.binary (nullability_of f)
   Reads s (list c f) t = (x : Tree) × ReadsChild s c x × (t ≡ of.list x (nullability_of f))
@@ -70,7 +70,7 @@ abbrev mutual
   ReadsVariants s (n ∷ ns) no_message gs vs = ⊥
   ReadsVariants s (n ∷ ns) (more m ms) [] vs = ⊥
   ReadsVariants s (n ∷ ns) (more m ms) (g ∷ gs) vs =
-      (x : Tree) × (k : ℕ) × (rest : Variants) × Reads s m x × (byte_at g ≡ Some k) × ReadsVariants s ns ms gs rest × (vs ≡ choice n x k rest)
+      (x : Tree) × (k : ℕ) × (rest : Variants) × Reads s m x × (integer_byte g ≡ Some k) × ReadsVariants s ns ms gs rest × (vs ≡ choice n x k rest)
 
 -- no type is what the message reads as
 abbrev pub ReadsAsNone : Meaning → Message → Type 0
@@ -83,7 +83,7 @@ count (more m ms) = count ms + 1
 -- some tag isn't from 0 to 255
 abbrev pub SomeTagFault : List ℤ → Type 0
 SomeTagFault [] = ⊥
-SomeTagFault (g ∷ gs) = (byte_at g ≡ None) ⊎ SomeTagFault gs
+SomeTagFault (g ∷ gs) = (integer_byte g ≡ None) ⊎ SomeTagFault gs
 
 -- what is wrong with a decimal's numbers
 abbrev pub DecimalFault : ℕ → ℤ → VortexError → Type 0

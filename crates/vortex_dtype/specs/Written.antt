@@ -31,22 +31,22 @@ abbrev mutual
   written (of.list x n) = list (present (written x)) (is_nullable n)
   written (of.fixed_size_list x k n) = fixed_size_list (present (written x)) k (is_nullable n)
   written (of.map_of x y o n) = map_of (present (written x)) (present (written y)) o (is_nullable n)
-  written (of.struct fs n) = struct (field_names fs) (written_fields fs) (is_nullable n)
-  written (of.union vs n) = union (variant_names vs) (written_variants vs) (written_tags vs) (is_nullable n)
+  written (of.struct fs n) = struct (written_names fs) (written_fields fs) (is_nullable n)
+  written (of.union vs n) = union (written_variant_names vs) (written_variants vs) (written_tags vs) (is_nullable n)
   written (of.variant n) = variant (is_nullable n)
   written (of.extension id b x) = extension id (present (written x)) (Some b)
 
-  pub field_names : Fields → List (List ℕ)
-  field_names no_fields = []
-  field_names (field n x rest) = n ∷ field_names rest
+  pub written_names : Fields → List (List ℕ)
+  written_names no_fields = []
+  written_names (field n x rest) = n ∷ written_names rest
 
   pub written_fields : Fields → Messages
   written_fields no_fields = no_message
   written_fields (field n x rest) = more (written x) (written_fields rest)
 
-  pub variant_names : Variants → List (List ℕ)
-  variant_names no_variants = []
-  variant_names (choice n x g rest) = n ∷ variant_names rest
+  pub written_variant_names : Variants → List (List ℕ)
+  written_variant_names no_variants = []
+  written_variant_names (choice n x g rest) = n ∷ written_variant_names rest
 
   pub written_variants : Variants → Messages
   written_variants no_variants = no_message

@@ -28,8 +28,9 @@ pub struct ExtDType<V: ExtVTable> {
 }
 
 impl<V: ExtVTable + Default> ExtDType<V> {
-    /// The extension of the default vtable with this metadata, over this storage. Refuses 22
-    /// (MetadataRefused) exactly where the metadata doesn't fit the storage, and 0 (OutOfMemory).
+    /// The extension of the default vtable with this metadata, over this storage. Over a valid storage it refuses
+    /// 22 (MetadataRefused) exactly where the metadata doesn't fit, and 0 (OutOfMemory); of a storage that isn't
+    /// valid a vtable promises nothing.
     pub fn try_new(alloc: Global, metadata: V::Metadata, storage: DType) -> VortexResult<Self>
         ensures vtable { IfOk result (λ x. V.is_default (vtable_of x)) }
         ensures metadata { IfOk result (λ x. metadata_of x ≡ metadata) }
@@ -46,8 +47,9 @@ impl<V: ExtVTable + Default> ExtDType<V> {
 }
 
 impl<V: ExtVTable> ExtDType<V> {
-    /// The extension of this vtable with this metadata, over this storage. Refuses 22 (MetadataRefused)
-    /// exactly where the metadata doesn't fit the storage, and 0 (OutOfMemory).
+    /// The extension of this vtable with this metadata, over this storage. Over a valid storage it refuses 22
+    /// (MetadataRefused) exactly where the metadata doesn't fit, and 0 (OutOfMemory); of a storage that isn't valid
+    /// a vtable promises nothing.
     pub fn try_with_vtable(
         alloc: Global,
         vtable: V,
@@ -153,8 +155,8 @@ impl<V: ExtVTable> ExtDType<V> {
     }
 
     /// The extension with its library: the metadata is read from the bytes, and the storage stays. Refuses
-    /// 23 (ExtensionIdDiffers) exactly where the ids differ, then 22 (MetadataRefused) exactly where the
-    /// bytes aren't read or what is read doesn't fit the storage, and 0 (OutOfMemory); what was handed in
+    /// 23 (ExtensionIdDiffers) exactly where the ids differ, then, over a valid storage, 22 (MetadataRefused)
+    /// exactly where the bytes aren't read or what is read doesn't fit, and 0 (OutOfMemory); what was handed in
     /// is then handed back as it was.
     pub fn try_downcast(
         alloc: Global,

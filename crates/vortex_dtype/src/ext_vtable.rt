@@ -58,8 +58,8 @@ pub trait ExtVTable: Drop {
         ensures ok { IfOk result (λ m. reads self.now bytes.now ≡ Some (meant m)) }
         ensures refused { IfErr result (RefusedWhere (reads self.now bytes.now ≡ None)) };
 
-    /// Whether the metadata may stand over the storage: refuses 22 (MetadataRefused) exactly where it may
-    /// not, and 0 (OutOfMemory).
+    /// Whether the metadata may stand over the storage: over a valid one it refuses 22 (MetadataRefused) exactly
+    /// where it may not, and 0 (OutOfMemory).
     fn validate_dtype(
         &self,
         alloc: Global,

@@ -11,8 +11,9 @@
 //! Begin with `ExtVTable` and `ExtDType` (an extension with its library), `ExtDTypePlugin` and
 //! `PluginOf`, and `DTypeSession`; then `pb` and `DTypeProto`. The definitions are in `specs/`: `Typed`
 //! (what a vtable means), `Meaning` (what a plugin and a session mean: `keeps`, `Admits`), `Refusals`,
-//! `Calls`, and for messages `Reads` and `Written`, over the trees of `dtype_messages`. `laws` states
-//! what follows from them alone.
+//! `Calls`, and for messages `ReadInOrder` (the type that is given, or the fault that is told first), `Reads`
+//! and `Written`, over the trees of `dtype_messages`. `laws` states the promises that follow from them alone;
+//! callers' proofs have what follows by the rulesets `sessions` and `reading` of `specs/lemmas`.
 #![tactic(auto)]
 
 mod ext_dtype;

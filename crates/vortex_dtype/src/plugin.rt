@@ -38,8 +38,8 @@ pub trait ExtDTypePlugin: Drop {
     fn id(&self) -> &str
         ensures { result.now ≡ id_text self.now };
 
-    /// The bytes that the plugin writes back for an extension's metadata over a storage. Refuses 22
-    /// (MetadataRefused) exactly where it takes no such bytes over such a storage, and 0 (OutOfMemory).
+    /// The bytes that the plugin writes back for an extension's metadata over a storage. Over a valid storage it
+    /// refuses 22 (MetadataRefused) exactly where it takes no such bytes, and 0 (OutOfMemory).
     fn deserialize(&self, alloc: Global, metadata: &[u8], storage: &DType) -> VortexResult<Vec<u8>>
         ensures ok { Valid (tree storage.now)
             → IfOk result (λ v. rewrites self.now metadata.now (tree storage.now) ≡ Some v.items) }

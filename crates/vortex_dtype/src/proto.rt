@@ -3,7 +3,9 @@
 
 // Types and paths from messages, and messages from types: `read` goes over a message, `kinds` makes the type of
 // each kind, `write` makes the messages.
-ghost use Rattle.std.specs.Prelude.{◌≡◌, ◌⊎◌, Some, None, IfOk, IfErr, IsErr, IsOkUnless, All, Contains, map, string_bytes};
+#![tactic(auto, using(crate::specs::lemmas::PathMessages::path_by_steps))]
+
+ghost use Rattle.std.specs.Prelude.{◌≡◌, ◌⊎◌, Some, None, Ok, Err, IfOk, IfErr, IsErr, IsOkUnless, All, Contains, map, string_bytes};
 ghost use Rattle.dtype_base.specs.declared.vortex_error.MessageFault.TheVariants.{PathPartMissing};
 ghost use Rattle.dtype_base.specs.declared.vortex_error.VortexError.TheVariants.{Message, OutOfMemory};
 ghost use Rattle.dtype_base.specs.declared.vortex_error.VortexError.{VortexError};
@@ -17,14 +19,15 @@ ghost use Rattle.dtype_messages.specs.MessageOf.{message};
 ghost use Rattle.dtype_messages.specs.PathNames.{part_names};
 ghost use Rattle.vortex_dtype.specs.PathMessage.{path_of, step_of, steps_of};
 ghost use Rattle.vortex_dtype.specs.IsMessage.{IsMessage};
-ghost use Rattle.vortex_dtype.specs.Reads.{Fault, ReadsAsNone};
+ghost use Rattle.vortex_dtype.specs.ReadInOrder.{read};
+ghost use Rattle.vortex_dtype.specs.Reads.{Fault};
 ghost use Rattle.vortex_dtype.specs.Written.{written};
 ghost use Rattle.vortex_dtype.specs.Session.{meaning};
 
 use crate::plugin::ExtDTypePlugin;
 use crate::proto::read::read;
 use crate::proto::write::write;
-use crate::session::{DTypeSession, session_laws};
+use crate::session::DTypeSession;
 use dtype_base::{FieldName, MessageFault, VortexError, VortexResult};
 use dtype_messages::pb;
 use dtype_paths::{Field, FieldPath};
@@ -51,24 +54,24 @@ pub trait DTypeProto {
 
 impl DTypeProto for DType {
     /// The type that the message says, under the session, which rewrites the metadata of each extension;
-    /// missing metadata is empty. Refuses at the first fault, a child before what its parent asks of it:
+    /// missing metadata is empty. Refuses at the first fault (`read` of `specs/ReadInOrder`), a child before what
+    /// its parent asks of it:
     /// 24 (TypeMissing), 25 (PrimitiveNumber), 26 (PrecisionRange), 27 (ScaleRange), then 1 to 4 of
     /// `DecimalDType::try_new`; 28 (ListElementMissing), 29 (FixedElementMissing); 30 (MapKeyMissing) and the
     /// key's, 31 (MapValueMissing) and the value's, 9 (MapKeyNullable); 32 (StructLengths) after the fields';
     /// 33 (TypeIdRange) after the variants', then 10 to 13 and 15 of `UnionVariants::try_new`;
     /// 34 (StorageMissing), and after the storage's 22 (MetadataRefused) or 35 (ExtensionUnregistered).
     fn from_proto(alloc: Global, proto: &pb::DType, session: &DTypeSession) -> VortexResult<DType>
+        ensures reads { IfOk result (λ t.
+            read (meaning rewrites session.now) (message proto.now) ≡ Ok (tree t)) }
+        ensures refused { IfErr result (λ e. (e ≡ OutOfMemory)
+            ⊎ (read (meaning rewrites session.now) (message proto.now) ≡ Err e)) }
         ensures accepts { IfOk result (λ t. Accepts (meaning rewrites session.now)
             (message proto.now) (tree t)) }
         ensures valid { IfOk result IsValid }
         ensures message { IfOk result (λ _. IsMessage (message proto.now)) }
-        ensures refused { IfErr result (λ e. (e ≡ OutOfMemory)
-            ⊎ (Fault (meaning rewrites session.now) (message proto.now) e
-            × ReadsAsNone (meaning rewrites session.now) (message proto.now))) }
 
-        // what reads as no type is refused, and so is what has a fault
-        ensures unread { ReadsAsNone (meaning rewrites session.now) (message proto.now)
-            → IsErr result }
+        // what has a fault is refused
         ensures faulty { (e : VortexError)
             → Fault (meaning rewrites session.now) (message proto.now) e → IsErr result }
 
@@ -78,7 +81,6 @@ impl DTypeProto for DType {
         ensures back_refused { (t : Tree) → Valid t → Admits (meaning rewrites session.now) t
             → message proto.now ≡ written t → IsOkUnless result OutOfMemory }
     {
-        session_laws(session);
         read(alloc, proto, session)
     }
 
@@ -103,11 +105,9 @@ pub trait FieldPathProto {
 impl FieldPathProto for FieldPath {
     /// The path of the names, in order; no parts give the root. Refuses 36 (PathPartMissing) at the first
     /// part without a kind.
-    #[tactic(auto, using(crate::proofs::PathNames::path_by_steps, crate::proofs::PathNames::path_there))]
     fn from_proto(alloc: Global, proto: &pb::FieldPath) -> VortexResult<FieldPath>
         ensures names { IfOk result (λ p. steps_of proto.now ≡ map Some p) }
         ensures path { IfOk result (λ p. path_of (part_names proto.now) ≡ Some p) }
-        ensures missing { (path_of (part_names proto.now) ≡ None) → IsErr result }
         ensures refused { IfErr result (λ e. (e ≡ OutOfMemory)
             ⊎ ((e ≡ Message PathPartMissing) × Contains (steps_of proto.now) None)) }
     {

@@ -2,6 +2,8 @@
 // SPDX-FileCopyrightText: Copyright the Vortex contributors
 
 // The session: the plugins that are registered, and whether unknown ids are kept.
+#![tactic(auto, unfolding(crate::specs::Session::meaning, crate::specs::Meaning::nothing, crate::specs::Meaning::put, crate::specs::Meaning::allowing))]
+
 ghost use Rattle.std.specs.Prelude.{◌≡◌, ◌↔◌, IfOk, IfErr, IsOkUnless, IsSome, IsTrue, OnErr, OnOk, Some};
 ghost use Rattle.dtype_base.specs.declared.vortex_error.VortexError.TheVariants.{OutOfMemory};
 ghost use Rattle.dtype_types.specs.TreeOf.{extension_id, extension_metadata, storage_tree, tree};
@@ -35,7 +37,6 @@ pub struct DTypeSession {
 impl DTypeSession {
     /// A session without plugins, which refuses unknown ids. It keeps the allocator for its later calls,
     /// and takes no memory itself.
-    #[tactic(auto, unfolding(crate::specs::Session::meaning, crate::specs::Meaning::nothing))]
     pub fn new(alloc: Global) -> Self
         ensures { meaning rewrites result ≡ nothing }
     {
@@ -48,7 +49,6 @@ impl DTypeSession {
 
     /// Registers a plugin under its id, in place of the one that stood there. Refuses 0 (OutOfMemory)
     /// alone; the session is then as it was, and the plugin is dropped.
-    #[tactic(auto, unfolding(crate::specs::Session::meaning, crate::specs::Meaning::put))]
     pub fn register(&mut self, plugin: Box<dyn ExtDTypePlugin>) -> VortexResult<()>
         ensures last { OnOk result (meaning rewrites self.new
             ≡ put (id_text plugin) (rewrites plugin) (meaning rewrites self.old)) }
@@ -61,7 +61,6 @@ impl DTypeSession {
     }
 
     /// From now on extensions of unknown ids are kept as they stand.
-    #[tactic(auto, unfolding(crate::specs::Session::meaning, crate::specs::Meaning::allowing))]
     pub fn allow_unknown(&mut self)
         ensures { meaning rewrites self.new ≡ allowing (meaning rewrites self.old) }
     {
@@ -69,7 +68,6 @@ impl DTypeSession {
     }
 
     /// Whether extensions of unknown ids are kept.
-    #[tactic(auto, unfolding(crate::specs::Session::meaning))]
     pub fn allows_unknown(&self) -> bool
         ensures { result ≡ (meaning rewrites self.now).unknown }
     {
@@ -77,7 +75,6 @@ impl DTypeSession {
     }
 
     /// Whether a plugin is registered under the id. Takes no memory.
-    #[tactic(auto, unfolding(crate::specs::Session::meaning))]
     pub fn registry(&self, id: &str) -> bool
         ensures { IsTrue result ↔ IsSome ((meaning rewrites self.now).registered id.now) }
     {
@@ -86,11 +83,9 @@ impl DTypeSession {
 
     /// The extension of this id over this storage, with the bytes that the session keeps of the metadata:
     /// those that the registered plugin writes back, and where none is registered and unknown ids are
-    /// kept the metadata itself. Read again, they are kept as they are. Refuses 22 (MetadataRefused)
-    /// exactly where the registered plugin takes no such metadata over such a storage, 35
-    /// (ExtensionUnregistered) exactly where none is registered and unknown ids are refused, and 0
-    /// (OutOfMemory).
-    #[tactic(auto, unfolding(crate::specs::Session::meaning))]
+    /// kept the metadata itself. Read again, they are kept as they are. Over a valid storage it refuses 22
+    /// (MetadataRefused) exactly where the registered plugin takes no such metadata, 35 (ExtensionUnregistered)
+    /// exactly where none is registered and unknown ids are refused, and 0 (OutOfMemory).
     pub fn deserialize(
         &self,
         id: &str,

@@ -3,6 +3,8 @@
 
 // Sessions that a function makes and hands out, as users would write them, with contracts on what they mean. They
 // stand among the tests, since the gate takes a function that hands out objects nowhere else.
+#![tactic(auto, using(vortex_dtype::specs::lemmas::Sessions::sessions))]
+
 ghost use Rattle.std.specs.Prelude.{◌≡◌, IfOk, IsOkUnless, Some};
 ghost use Rattle.dtype_base.specs.declared.vortex_error.VortexError.TheVariants.{OutOfMemory};
 ghost use Rattle.vortex_dtype.specs.Meaning.{allowing, nothing, put};
@@ -10,7 +12,6 @@ ghost use Rattle.vortex_dtype.specs.Session.{meaning};
 
 use std::alloc::Global;
 use std::test::Fail;
-use vortex_dtype::laws::registering_changes_one_id;
 use vortex_dtype::{DTypeSession, ExtDTypePlugin, PluginOf, VortexResult};
 use vortex_dtype_fixtures::{Tag, TextAlone};
 
@@ -46,7 +47,6 @@ pub fn with_one(alloc: Global, plugin: Box<dyn ExtDTypePlugin>) -> VortexResult<
 {
     let mut session = DTypeSession::new(alloc);
     session.register(plugin)?;
-    registering_changes_one_id();
     Ok(session)
 }
 

@@ -3,6 +3,8 @@
 
 // The parts of a type, once they are read, made into the type through the checking constructors. Each function
 // gives what reading gives for that kind (`specs/ReadInOrder`), and none calls itself.
+#![tactic(auto, unfolding(crate::specs::ReadInOrder::primitive_read, crate::specs::ReadInOrder::decimal_read, crate::specs::ReadInOrder::map_read, crate::specs::ReadInOrder::struct_read, crate::specs::ReadInOrder::read_tags, crate::specs::ReadInOrder::union_read, crate::specs::ReadInOrder::extension_read))]
+
 ghost use Rattle.std.specs.Int.{w32};
 ghost use Rattle.std.specs.Prelude.{◌≡◌, ◌<◌, ◌^◌, All, FitsSigned, IfOk, IsOkUnless, map, string_bytes};
 ghost use Rattle.dtype_base.specs.declared.vortex_error.VortexError.TheVariants.{OutOfMemory};
@@ -13,7 +15,7 @@ ghost use Rattle.dtype_types.specs.TreeOf.{tree};
 ghost use Rattle.dtype_types.specs.IsValid.{IsValid};
 ghost use Rattle.dtype_messages.specs.MessageOf.{bytes_of};
 ghost use Rattle.vortex_dtype.specs.Meaning.{Bytes};
-ghost use Rattle.vortex_dtype.specs.Numbers.{byte_at, small_at, natural_byte};
+ghost use Rattle.vortex_dtype.specs.Numbers.{integer_byte, signed_byte, natural_byte};
 ghost use Rattle.vortex_dtype.specs.ReadInOrder.{primitive_read, decimal_made, decimal_read, map_read, struct_read, union_read, read_tags, extension_read, or_empty, Gives};
 ghost use Rattle.vortex_dtype.specs.Session.{meaning};
 
@@ -29,7 +31,6 @@ use std::alloc::Global;
 use std::string::String;
 
 // The primitive type of the number.
-#[tactic(auto, unfolding(crate::specs::ReadInOrder::primitive_read))]
 pub(crate) fn primitive_of(number: i32, nullable: bool) -> VortexResult<DType>
     ensures gives { Gives tree result (primitive_read number (nullability_of nullable)) }
     ensures number { FitsSigned w32 number }
@@ -50,20 +51,19 @@ fn precision_of(precision: u32) -> Option<u8>
 
 // The scale, where it is a signed byte.
 fn scale_of(scale: i32) -> Option<i8>
-    ensures { result ≡ small_at scale }
+    ensures { result ≡ signed_byte scale }
 {
     i8::try_from(scale).ok()
 }
 
 // The tag, where it is a byte.
 fn tag_of(tag: i32) -> Option<u8>
-    ensures { result ≡ byte_at tag }
+    ensures { result ≡ integer_byte tag }
 {
     u8::try_from(tag).ok()
 }
 
 // The decimal of the precision and the scale.
-#[tactic(auto, unfolding(crate::specs::ReadInOrder::decimal_read))]
 pub(crate) fn decimal_of(precision: u32, scale: i32, nullable: bool) -> VortexResult<DType>
     ensures gives { Gives tree result (decimal_read precision scale (nullability_of nullable)) }
     ensures numbers { (precision < 2 ^ 32) × FitsSigned w32 scale }
@@ -136,7 +136,6 @@ pub(crate) fn struct_of(
 }
 
 // The tags, each of which must be a byte.
-#[tactic(auto, unfolding(crate::specs::ReadInOrder::read_tags))]
 fn tags_of(alloc: Global, tags: &[i32]) -> VortexResult<Vec<u8>>
     ensures gives { Gives (λ v. v.items) result (read_tags tags.now) }
 {
@@ -151,7 +150,6 @@ fn tags_of(alloc: Global, tags: &[i32]) -> VortexResult<Vec<u8>>
 }
 
 // The union of the names, the types and the tags.
-#[tactic(auto, unfolding(crate::specs::ReadInOrder::union_read))]
 pub(crate) fn union_of(
     alloc: Global,
     names: &[String],
@@ -180,7 +178,6 @@ pub(crate) fn metadata_of(metadata: &Option<Vec<u8>>) -> &[u8]
 }
 
 // The extension of the storage, with the metadata that the session keeps.
-#[tactic(auto, unfolding(crate::specs::ReadInOrder::extension_read))]
 pub(crate) fn extension_of(
     session: &DTypeSession,
     id: &str,

@@ -2,7 +2,7 @@
 -- SPDX-FileCopyrightText: Copyright the Vortex contributors
 
 use Rattle.std.proofs.Common.{◌∙◌, refl}
-use Rattle.vortex_dtype.proofs.SessionLaws.{after-left_alone, registered_nothing}
+use Rattle.vortex_dtype.specs.lemmas.Sessions.{after-left_alone, registered_nothing}
 use Rattle.vortex_dtype.proofs.laws.none_registered_counts.Goals as goal
 
 pub returns : goal.returns

@@ -2,7 +2,7 @@
 -- SPDX-FileCopyrightText: Copyright the Vortex contributors
 
 use Rattle.std.proofs.Common.{refl}
-use Rattle.vortex_dtype.proofs.SessionLaws.{after-unknown, unknown_nothing}
+use Rattle.vortex_dtype.specs.lemmas.Sessions.{after-unknown, unknown_nothing}
 use Rattle.vortex_dtype.proofs.laws.unknown_once_allowed.Goals as goal
 
 pub returns : goal.returns

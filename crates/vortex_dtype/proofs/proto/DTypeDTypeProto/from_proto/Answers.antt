@@ -3,17 +3,22 @@
 
 use Rattle.dtype_messages.specs.MessageOf.{message}
 use Rattle.vortex_dtype.specs.Session.{meaning}
-use Rattle.vortex_dtype.proofs.InOrderToReads.{gives_accepts, gives_back, gives_back_refused, gives_faulty, gives_refused, gives_unread}
+use Rattle.vortex_dtype.proofs.InOrderToReads.{gives_accepts, gives_back, gives_back_refused, gives_faulty, gives_read, gives_refused}
+use Rattle.vortex_dtype.proofs.MeaningLaws.{lawful_found}
 use Rattle.vortex_dtype.proofs.proto.DTypeDTypeProto.from_proto.Goals as goal
+
+pub returns-clause-reads : goal.returns-clause-reads
+returns-clause-reads g c = gives_read (meaning (λ b. (g.dyn-1.0.entry b.vtable).1.rewrites b.value) c.args.session.now) (message c.args.proto.now) c.read.result c.read.ensures.gives
 
 pub returns-clause-refused : goal.returns-clause-refused
 returns-clause-refused g c = gives_refused (meaning (λ b. (g.dyn-1.0.entry b.vtable).1.rewrites b.value) c.args.session.now) (message c.args.proto.now) c.read.result c.read.ensures.gives
 
 pub returns-clause-accepts : goal.returns-clause-accepts
-returns-clause-accepts g c = gives_accepts (meaning (λ b. (g.dyn-1.0.entry b.vtable).1.rewrites b.value) c.args.session.now) c.session_laws.ensures (message c.args.proto.now) c.read.result c.read.ensures.message c.read.ensures.gives
-
-pub returns-clause-unread : goal.returns-clause-unread
-returns-clause-unread g c = gives_unread (meaning (λ b. (g.dyn-1.0.entry b.vtable).1.rewrites b.value) c.args.session.now) (message c.args.proto.now) c.read.result c.read.ensures.gives
+unfolding meaning
+returns-clause-accepts g c =
+    gives_accepts (meaning (λ b. (g.dyn-1.0.entry b.vtable).1.rewrites b.value) c.args.session.now)
+    (record { each = λ id q e. lawful_found _ (λ b. (g.dyn-1-met b.vtable).0.lawful b.value) _ q e })
+    (message c.args.proto.now) c.read.result c.read.ensures.message c.read.ensures.gives
 
 pub returns-clause-faulty : goal.returns-clause-faulty
 returns-clause-faulty g c = gives_faulty (meaning (λ b. (g.dyn-1.0.entry b.vtable).1.rewrites b.value) c.args.session.now) (message c.args.proto.now) c.read.result c.read.ensures.gives

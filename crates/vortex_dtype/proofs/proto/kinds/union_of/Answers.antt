@@ -10,7 +10,7 @@ use Rattle.dtype_types.specs.TreeOf.{tree}
 use Rattle.dtype_types.specs.declared.dtype.DType.{Union}
 use Rattle.vortex_dtype.specs.ReadInOrder.{Fails, read_tags}
 use Rattle.vortex_dtype.proofs.Constructors.{union_fails, union_gives, union_read_by}
-use Rattle.vortex_dtype.proofs.Results.{ok}
+use Rattle.vortex_dtype.specs.lemmas.Results.{ok}
 use Rattle.vortex_dtype.proofs.proto.kinds.union_of.Goals as goal
 
 pub returns-clause-gives : goal.returns-clause-gives

@@ -15,7 +15,7 @@ use Rattle.dtype_types.specs.Tree.{Tree}
 use Rattle.dtype_types.specs.declared.dtype.DType.{DType as Logical}
 use Rattle.dtype_messages.specs.declared.pb.DtypeType.TheViews.{out-Struct, out-Union, out-Extension}
 use Rattle.vortex_dtype.proofs.ReadInTurn.{Rest, step, stops, done, struct_stops, struct_done, union_stops, union_done, extension_done, more_messages, all_messages, any_ok}
-use Rattle.vortex_dtype.proofs.InOrderIsReads.{union_tags_fit}
+use Rattle.vortex_dtype.specs.lemmas.InOrder.{union_tags_fit}
 use Rattle.vortex_dtype.proofs.MessageParts.{struct_shape, union_shape, extension_shape}
 use Rattle.vortex_dtype.proofs.proto.read.+read.Goals as goal
 

@@ -197,3 +197,6 @@ flag_put m i r = unknown_put m (put i r m) i r refl
 
 pub flag_allowing : (m : Meaning) → (allowing m).unknown ≡ true
 flag_allowing m = unknown_allowing m (allowing m) refl
+
+-- What calls of a session change and leave alone, what it keeps and what it admits: for callers' proofs.
+pub ruleset sessions = (registered_put, others_put, unknown_put, flag_put, registered_allowing, unknown_allowing, flag_allowing, registered_nothing, unknown_nothing, admits_allowing, kept_allowing, admits_one_more, admits_more, admits_fields-behind)

@@ -13,10 +13,10 @@ use Rattle.dtype_types.specs.Tree.{Tree, Fields, no_fields, field, Variants, no_
 use Rattle.dtype_types.specs.Valid.{Valid}
 use Rattle.vortex_dtype.specs.Accepts.{Accepts}
 use Rattle.vortex_dtype.specs.Meaning.{Meaning, Admits, LawfulSession}
-use Rattle.vortex_dtype.specs.Reads.{decimal_of, number}
-use Rattle.vortex_dtype.specs.Written.{is_nullable, written, field_names, written_fields, variant_names, written_variants, written_tags}
-use Rattle.vortex_dtype.proofs.ReadsLaws.{number_once, nullability_of-is, written_accepted}
-use Rattle.vortex_dtype.proofs.SessionLaws.{admits-set_null}
+use Rattle.vortex_dtype.specs.Reads.{decimal_with, number}
+use Rattle.vortex_dtype.specs.Written.{is_nullable, written, written_names, written_fields, written_variant_names, written_variants, written_tags}
+use Rattle.vortex_dtype.specs.lemmas.Reads.{number_once, nullability_of-is, written_accepted}
+use Rattle.vortex_dtype.specs.lemmas.Sessions.{admits-set_null}
 
 flag_once : (m n : Nullability) → is_nullable m ≡ is_nullable n → m ≡ n
 flag_once m n e = sym (nullability_of-is m) ∙ ap nullability_of e ∙ nullability_of-is n
@@ -30,7 +30,7 @@ mutual
       ap (λ x. primitive x m) (number_once p q k) ∙ ap (primitive q) (flag_once m n f)
   written_is (decimal c m) (decimal d n) e =
       let p : c.precision ≡ d.precision = cc in let k : c.scale ≡ d.scale = cc in let f : is_nullable m ≡ is_nullable n = cc in
-      ap (λ x. decimal (decimal_of x c.scale) m) p ∙ ap (λ x. decimal (decimal_of d.precision x) m) k ∙ ap (decimal d) (flag_once m n f)
+      ap (λ x. decimal (decimal_with x c.scale) m) p ∙ ap (λ x. decimal (decimal_with d.precision x) m) k ∙ ap (decimal d) (flag_once m n f)
   written_is (utf8 m) (utf8 n) e = let f : is_nullable m ≡ is_nullable n = cc in ap utf8 (flag_once m n f)
   written_is (binary m) (binary n) e = let f : is_nullable m ≡ is_nullable n = cc in ap binary (flag_once m n f)
   written_is (list x m) (list y n) e =
@@ -43,10 +43,10 @@ mutual
       let a : written x ≡ written y = cc in let b : written v ≡ written w = cc in let c : o ≡ p = cc in let f : is_nullable m ≡ is_nullable n = cc in
       ap (λ z. map_of z v o m) (written_is x y a) ∙ ap (λ z. map_of y z o m) (written_is v w b) ∙ ap (λ z. map_of y w z m) c ∙ ap (map_of y w p) (flag_once m n f)
   written_is (struct fs m) (struct gs n) e =
-      let a : field_names fs ≡ field_names gs = cc in let b : written_fields fs ≡ written_fields gs = cc in let f : is_nullable m ≡ is_nullable n = cc in
+      let a : written_names fs ≡ written_names gs = cc in let b : written_fields fs ≡ written_fields gs = cc in let f : is_nullable m ≡ is_nullable n = cc in
       ap (λ z. struct z m) (fields_is fs gs a b) ∙ ap (struct gs) (flag_once m n f)
   written_is (union vs m) (union ws n) e =
-      let a : variant_names vs ≡ variant_names ws = cc in let b : written_variants vs ≡ written_variants ws = cc in
+      let a : written_variant_names vs ≡ written_variant_names ws = cc in let b : written_variants vs ≡ written_variants ws = cc in
       let c : written_tags vs ≡ written_tags ws = cc in let f : is_nullable m ≡ is_nullable n = cc in
       ap (λ z. union z m) (variants_is vs ws a b c) ∙ ap (union ws) (flag_once m n f)
   written_is (variant m) (variant n) e = let f : is_nullable m ≡ is_nullable n = cc in ap variant (flag_once m n f)
@@ -55,18 +55,18 @@ mutual
       ap (λ z. extension z b x) a ∙ ap (λ z. extension j z x) d ∙ ap (extension j c) (written_is x y w)
   written_is _ _ e = cc
 
-  fields_is : (fs gs : Fields) → field_names fs ≡ field_names gs → written_fields fs ≡ written_fields gs → fs ≡ gs
+  fields_is : (fs gs : Fields) → written_names fs ≡ written_names gs → written_fields fs ≡ written_fields gs → fs ≡ gs
   fields_is no_fields no_fields e f = refl
   fields_is (field n x rest) (field o y others) e f =
-      let a : n ≡ o = cc in let b : field_names rest ≡ field_names others = cc in
+      let a : n ≡ o = cc in let b : written_names rest ≡ written_names others = cc in
       let w : written x ≡ written y = cc in let c : written_fields rest ≡ written_fields others = cc in
       ap (λ z. field z x rest) a ∙ ap (λ z. field o z rest) (written_is x y w) ∙ ap (field o y) (fields_is rest others b c)
   fields_is _ _ e f = cc
 
-  variants_is : (vs ws : Variants) → variant_names vs ≡ variant_names ws → written_variants vs ≡ written_variants ws → written_tags vs ≡ written_tags ws → vs ≡ ws
+  variants_is : (vs ws : Variants) → written_variant_names vs ≡ written_variant_names ws → written_variants vs ≡ written_variants ws → written_tags vs ≡ written_tags ws → vs ≡ ws
   variants_is no_variants no_variants e f g = refl
   variants_is (choice n x k rest) (choice o y l others) e f g =
-      let a : n ≡ o = cc in let b : variant_names rest ≡ variant_names others = cc in
+      let a : n ≡ o = cc in let b : written_variant_names rest ≡ written_variant_names others = cc in
       let w : written x ≡ written y = cc in let c : written_variants rest ≡ written_variants others = cc in
       let t : k ≡ l = cc in let d : written_tags rest ≡ written_tags others = cc in
       ap (λ z. choice z x k rest) a ∙ ap (λ z. choice o z k rest) (written_is x y w) ∙ ap (λ z. choice o y z rest) t ∙ ap (choice o y l) (variants_is rest others b c d)

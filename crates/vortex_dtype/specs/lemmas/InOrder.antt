@@ -2,7 +2,7 @@
 -- SPDX-FileCopyrightText: Copyright the Vortex contributors
 
 -- What the reading function gives is what reads, and its refusals are faults.
-use Rattle.std.proofs.Common.{◌≡◌, ◌≢◌, ◌⊎◌, ⊎_elim, inl, inr, ℕ, ℤ, pos, ◌<◌, ◌==◌, List, [], ◌∷◌, length, map, Option, Some, None, Bool, true, false, cond, Result, Ok, Err, nat_eq, refl, sym, ap, subst, ◌∙◌, arith}
+use Rattle.std.proofs.Common.{◌≡◌, ◌≢◌, ◌⊎◌, ⊎_elim, inl, inr, ℕ, ℤ, pos, ◌<◌, ◌==◌, List, [], ◌∷◌, length, map, Option, Some, None, Bool, true, false, cond, Result, Ok, Err, IsErr, nat_eq, refl, sym, ap, subst, ◌∙◌, arith}
 use Rattle.std.specs.Int.{w32}
 use Rattle.std.specs.Prelude.{FitsSigned, IfOk}
 use Rattle.std.specs.List.{zip}
@@ -29,18 +29,20 @@ use Rattle.dtype_base.specs.declared.vortex_error.VortexError.TheVariants.{MapKe
 use Rattle.dtype_base.specs.declared.vortex_error.MessageFault.{MessageFault}
 use Rattle.dtype_base.specs.declared.vortex_error.MessageFault.TheVariants.{TypeMissing, PrimitiveNumber, PrecisionRange, ScaleRange, ListElementMissing, FixedElementMissing, MapKeyMissing, MapValueMissing, StructLengths, TypeIdRange, StorageMissing}
 use Rattle.dtype_types.specs.TreeOf.{tree, zip_tagged}
+use Rattle.dtype_types.specs.Valid.{Valid}
 use Rattle.dtype_types.specs.declared.dtype.DType.{DType}
 use Rattle.vortex_dtype.specs.IsMessage.{AreTags}
 use Rattle.dtype_messages.specs.Message.{Message, Child, Messages, missing, null, bool, primitive, decimal, utf8, binary, list, fixed_size_list, map_of, struct, union, variant, extension, absent, present, no_message, more}
-use Rattle.vortex_dtype.specs.Meaning.{Meaning, keeps, refusal}
+use Rattle.vortex_dtype.specs.Meaning.{Meaning, Admits, keeps, refusal}
 use Rattle.dtype_messages.specs.PTypeNumbers.{ptype_at}
-use Rattle.vortex_dtype.specs.Numbers.{byte_at, small_at, natural_byte}
-use Rattle.vortex_dtype.specs.Reads.{Reads, ReadsChild, ReadsFields, ReadsVariants, Fault, ChildFault, SomeFault, SomeTagFault, UnionFault, DecimalFault, decimal_of, number, count}
+use Rattle.vortex_dtype.specs.Numbers.{integer_byte, signed_byte, natural_byte}
+use Rattle.vortex_dtype.specs.Reads.{Reads, ReadsAsNone, ReadsChild, ReadsFields, ReadsVariants, Fault, ChildFault, SomeFault, SomeTagFault, UnionFault, DecimalFault, decimal_with, number, count}
 use Rattle.vortex_dtype.specs.ReadInOrder.{Gives, read, read_child, read_all, read_tags, primitive_read, decimal_made, decimal_read, map_read, when_required, struct_read, union_made, union_read, extension_read, repeats, ◌>>=◌, or_fault, or_empty}
-use Rattle.vortex_dtype.proofs.Decimals.{made_ok, made_err, fits_byte, fits_small, no_byte, no_small}
-use Rattle.vortex_dtype.proofs.Unions.{apart, has_names, tags_up, union_refused}
-use Rattle.vortex_dtype.proofs.ReadsLaws.{byte_is, number-ptype_at, ptype_at-number}
-use Rattle.vortex_dtype.proofs.Results.{ok, err, ok_is, err_is, ok_err}
+use Rattle.vortex_dtype.specs.lemmas.Decimals.{made_ok, made_err, fits_byte, fits_small, no_byte, no_small}
+use Rattle.vortex_dtype.specs.lemmas.Unions.{apart, has_names, tags_up, union_refused}
+use Rattle.vortex_dtype.specs.Written.{written}
+use Rattle.vortex_dtype.specs.lemmas.Reads.{byte_is, fault_none, number-ptype_at, ptype_at-number, reads_once, written_reads}
+use Rattle.vortex_dtype.specs.lemmas.Results.{ok, err, ok_is, err_is, ok_err}
 
 bind_ok : {A B : Type 0} (r : Result A VortexError) (f : A → Result B VortexError) (y : B) → (r >>= f) ≡ Ok y → (x : A) × (r ≡ Ok x) × (f x ≡ Ok y)
 bind_ok (Ok x) f y e = (x, refl, e)
@@ -77,16 +79,16 @@ primitive_fault k n j e =
     (λ b. absurd (ok_err b.2))
     (bind_err {A = PType} {B = Tree} (or_fault (Faulty PrimitiveNumber) (ptype_at k)) _ j e)
 
-decimal_reads : (p : ℕ) (k : ℤ) (n : Nullability) (t : Tree) → decimal_read p k n ≡ Ok t → IsValidDecimal (decimal_of p k) × (t ≡ of.decimal (decimal_of p k) n)
+decimal_reads : (p : ℕ) (k : ℤ) (n : Nullability) (t : Tree) → decimal_read p k n ≡ Ok t → IsValidDecimal (decimal_with p k) × (t ≡ of.decimal (decimal_with p k) n)
 unfolding decimal_read
 decimal_reads p k n t e =
     let a = bind_ok (or_fault (Faulty PrecisionRange) (natural_byte p)) _ t e in
-    let b = bind_ok (or_fault (Faulty ScaleRange) (small_at k)) _ t a.2 in
+    let b = bind_ok (or_fault (Faulty ScaleRange) (signed_byte k)) _ t a.2 in
     let c = bind_ok (decimal_made a.0 b.0) _ t b.2 in
     let q = fits_byte p a.0 (fault_is_some (Faulty PrecisionRange) (natural_byte p) a.0 a.1) in
-    let r = fits_small k b.0 (fault_is_some (Faulty ScaleRange) (small_at k) b.0 b.1) in
+    let r = fits_small k b.0 (fault_is_some (Faulty ScaleRange) (signed_byte k) b.0 b.1) in
     let d = made_ok a.0 b.0 c.0 r.1 c.1 in
-    let same : c.0 ≡ decimal_of p k = d.1 ∙ ap (λ x. decimal_of x b.0) q ∙ ap (decimal_of p) r.0 in
+    let same : c.0 ≡ decimal_with p k = d.1 ∙ ap (λ x. decimal_with x b.0) q ∙ ap (decimal_with p) r.0 in
     (subst IsValidDecimal (sym d.1 ∙ same) d.0, ok_is (of.decimal c.0 n) t c.2 ∙ ap (λ x. of.decimal x n) same)
 
 decimal_fault : (p : ℕ) (k : ℤ) (n : Nullability) (j : VortexError) → decimal_read p k n ≡ Err j → DecimalFault p k j
@@ -96,10 +98,10 @@ decimal_fault p k n j e =
     (λ a. let f = fault_is_none (Faulty PrecisionRange) j (natural_byte p) a in inl (f.0, no_byte p f.1))
     (λ a. let q = fits_byte p a.0 (fault_is_some (Faulty PrecisionRange) (natural_byte p) a.0 a.1) in
     ⊎_elim
-    (λ b. let f = fault_is_none (Faulty ScaleRange) j (small_at k) b in inr (inl (f.0, no_small k f.1)))
-    (λ b. let r = fits_small k b.0 (fault_is_some (Faulty ScaleRange) (small_at k) b.0 b.1) in
+    (λ b. let f = fault_is_none (Faulty ScaleRange) j (signed_byte k) b in inr (inl (f.0, no_small k f.1)))
+    (λ b. let r = fits_small k b.0 (fault_is_some (Faulty ScaleRange) (signed_byte k) b.0 b.1) in
     ⊎_elim (λ c. inr (inr (made_err p k j (ap (λ x. decimal_made x k) (sym q) ∙ ap (decimal_made a.0) (sym r.0) ∙ c)))) (λ c. absurd (ok_err c.2)) (bind_err (decimal_made a.0 b.0) _ j b.2))
-    (bind_err (or_fault (Faulty ScaleRange) (small_at k)) _ j a.2))
+    (bind_err (or_fault (Faulty ScaleRange) (signed_byte k)) _ j a.2))
     (bind_err (or_fault (Faulty PrecisionRange) (natural_byte p)) _ j e)
 
 map_reads : (x y : Tree) (o : Bool) (n : Nullability) (t : Tree) → map_read x y o n ≡ Ok t → (nullability x ≡ NonNullable) × (t ≡ of.map_of x y o n)
@@ -142,17 +144,17 @@ tags_are : (gs : List ℤ) (tags : List ℕ) → read_tags gs ≡ Ok tags → gs
 unfolding read_tags
 tags_are [] tags e = ap (map pos) (sym (ok_is [] tags e))
 tags_are (g ∷ gs) tags e =
-    let a = bind_ok (or_fault (Faulty TypeIdRange) (byte_at g)) _ tags e in
+    let a = bind_ok (or_fault (Faulty TypeIdRange) (integer_byte g)) _ tags e in
     let b = bind_ok (read_tags gs) _ tags a.2 in
-    ap (λ x. x ∷ gs) (byte_is g a.0 (fault_is_some (Faulty TypeIdRange) (byte_at g) a.0 a.1)).0 ∙ ap (λ ys. pos a.0 ∷ ys) (tags_are gs b.0 b.1) ∙ ap (map pos) (sym (ok_is (a.0 ∷ b.0) tags b.2))
+    ap (λ x. x ∷ gs) (byte_is g a.0 (fault_is_some (Faulty TypeIdRange) (integer_byte g) a.0 a.1)).0 ∙ ap (λ ys. pos a.0 ∷ ys) (tags_are gs b.0 b.1) ∙ ap (map pos) (sym (ok_is (a.0 ∷ b.0) tags b.2))
 
 tags_fault : (gs : List ℤ) (k : VortexError) → read_tags gs ≡ Err k → (k ≡ Faulty TypeIdRange) × SomeTagFault gs
 unfolding read_tags
 tags_fault [] k e = absurd (ok_err e)
 tags_fault (g ∷ gs) k e =
-    ⊎_elim (λ a. let f = fault_is_none (Faulty TypeIdRange) k (byte_at g) a in (f.0, inl f.1))
+    ⊎_elim (λ a. let f = fault_is_none (Faulty TypeIdRange) k (integer_byte g) a in (f.0, inl f.1))
     (λ a. ⊎_elim (λ b. let f = tags_fault gs k b in (f.0, inr f.1)) (λ b. absurd (ok_err b.2)) (bind_err (read_tags gs) _ k a.2))
-    (bind_err (or_fault (Faulty TypeIdRange) (byte_at g)) _ k e)
+    (bind_err (or_fault (Faulty TypeIdRange) (integer_byte g)) _ k e)
 
 byte_fits : (g : ℤ) (k : ℕ) → g ≡ pos k → k < 256 → FitsSigned w32 g
 byte_fits g k e h = subst (λ (x : ℤ). FitsSigned w32 x) (sym e) (natural_fits k h)
@@ -164,9 +166,9 @@ tags_fit : (gs : List ℤ) (tags : List ℕ) → read_tags gs ≡ Ok tags → Ar
 unfolding read_tags
 tags_fit [] tags e = All-nil (λ g. FitsSigned w32 g)
 tags_fit (g ∷ gs) tags e =
-    let a = bind_ok (or_fault (Faulty TypeIdRange) (byte_at g)) _ tags e in
+    let a = bind_ok (or_fault (Faulty TypeIdRange) (integer_byte g)) _ tags e in
     let b = bind_ok (read_tags gs) _ tags a.2 in
-    let is = byte_is g a.0 (fault_is_some (Faulty TypeIdRange) (byte_at g) a.0 a.1) in
+    let is = byte_is g a.0 (fault_is_some (Faulty TypeIdRange) (integer_byte g) a.0 a.1) in
     All-cons (λ g. FitsSigned w32 g) g gs (byte_fits g a.0 is.0 is.1) (tags_fit gs b.0 b.1)
 
 -- the tags of a union that was read fit
@@ -248,14 +250,14 @@ unfolding read_tags
 more_variants s [] m ms gs ts tags x xs e r f h l rest = absurd (omega (arith, h, ap length e))
 more_variants s (n ∷ ns) m ms [] ts tags x xs e r f h l rest = absurd (omega (arith, l, ap length (ok_is [] tags f)))
 more_variants s (n ∷ ns) m ms (g ∷ gs) ts tags x xs e r f h l rest =
-    let a = bind_ok (or_fault (Faulty TypeIdRange) (byte_at g)) _ tags f in
+    let a = bind_ok (or_fault (Faulty TypeIdRange) (integer_byte g)) _ tags f in
     let b = bind_ok (read_tags gs) _ tags a.2 in
     let is : tags ≡ a.0 ∷ b.0 = ok_is (a.0 ∷ b.0) tags b.2 in (
       x,
       a.0,
       variants (zip_tagged ns xs b.0),
       r,
-      fault_is_some (Faulty TypeIdRange) (byte_at g) a.0 a.1,
+      fault_is_some (Faulty TypeIdRange) (integer_byte g) a.0 a.1,
       rest ns gs b.0 b.1 (omega (arith, h, ap length e)) (omega (arith, l, ap length is)),
       ap (λ us. variants (zip_tagged (n ∷ ns) us tags)) e ∙ ap (λ us. variants (zip_tagged (n ∷ ns) (x ∷ xs) us)) is,
     )
@@ -381,3 +383,32 @@ reads_or_faulty s m = go (read s m) refl
     go : (r : Result Tree VortexError) → read s m ≡ r → ((t : Tree) × Reads s m t) ⊎ ((e : VortexError) × Fault s m e)
     go (Ok t) is = inl (t, read_reads s m t is)
     go (Err e) is = inr (e, read_fault s m e is)
+
+-- ---- between reading in order and what reads
+
+-- what is told is a fault of a message that reads as no type
+pub refused_faulty : (s : Meaning) (m : Message) (e : VortexError) → read s m ≡ Err e → Fault s m e × ReadsAsNone s m
+refused_faulty s m e is = let f = read_fault s m e is in (f, λ t h. fault_none s m e t f h)
+
+-- a message gives the type that it reads as
+pub reads_read : (s : Meaning) (m : Message) (t : Tree) → Reads s m t → read s m ≡ Ok t
+reads_read s m t h = go (read s m) refl
+  where
+    go : (r : Result Tree VortexError) → read s m ≡ r → r ≡ Ok t
+    go (Ok u) is = ap Ok (reads_once s m u t (read_reads s m u is) h)
+    go (Err e) is = absurd (fault_none s m e t (read_fault s m e is) h)
+
+-- a message that reads as no type gives a refusal, and so does one in which a fault stands
+pub unread_refused : (s : Meaning) (m : Message) → ReadsAsNone s m → IsErr (read s m)
+unread_refused s m none = go (read s m) refl
+  where
+    go : (r : Result Tree VortexError) → read s m ≡ r → IsErr r
+    go (Ok t) is = absurd (none t (read_reads s m t is))
+    go (Err e) is = refl
+
+pub fault_refused : (s : Meaning) (m : Message) (e : VortexError) → Fault s m e → IsErr (read s m)
+fault_refused s m e f = unread_refused s m (λ t h. fault_none s m e t f h)
+
+-- what is written of an admitted type gives that type
+pub written_read : (s : Meaning) (m : Message) (t : Tree) → Valid t → Admits s t → m ≡ written t → read s m ≡ Ok t
+written_read s m t v a e = ap (read s) e ∙ reads_read s (written t) t (written_reads s t v a)

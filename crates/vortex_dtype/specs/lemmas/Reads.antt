@@ -30,15 +30,15 @@ use Rattle.dtype_types.specs.Valid.{Valid, ValidFields, ValidVariants, HasVarian
 use Rattle.dtype_messages.specs.Message.{Message, Child, Messages, missing, null, bool, primitive, decimal, utf8, binary, list, fixed_size_list, map_of, struct, union, variant, extension, absent, present, no_message, more}
 use Rattle.vortex_dtype.specs.Meaning.{Meaning, LawfulSession, Admits, AdmitsFields, AdmitsVariants, keeps}
 use Rattle.dtype_messages.specs.PTypeNumbers.{ptype_at, ptype_from}
-use Rattle.vortex_dtype.specs.Numbers.{byte_at}
+use Rattle.vortex_dtype.specs.Numbers.{integer_byte}
 use Rattle.vortex_dtype.specs.ReadInOrder.{or_empty}
 use Rattle.vortex_dtype.specs.Reads.{Reads, ReadsChild, ReadsFields, ReadsVariants, Fault, ChildFault, SomeFault, SomeTagFault, UnionFault, number, count}
 use Rattle.vortex_dtype.specs.Accepts.{Accepts}
-use Rattle.vortex_dtype.specs.Written.{is_nullable, written, field_names, written_fields, variant_names, written_variants, written_tags, Normal, NormalChild, NormalAll}
+use Rattle.vortex_dtype.specs.Written.{is_nullable, written, written_names, written_fields, written_variant_names, written_variants, written_tags, Normal, NormalChild, NormalAll}
 use Rattle.vortex_dtype.specs.IsMessage.{IsMessage, IsChild, AreMessages}
-use Rattle.vortex_dtype.proofs.SessionLaws.{keeps-again}
-use Rattle.vortex_dtype.proofs.Decimals.{fault_invalid}
-use Rattle.vortex_dtype.proofs.Unions.{makes_unrefused, pos_is, tags_down}
+use Rattle.vortex_dtype.specs.lemmas.Sessions.{keeps-again}
+use Rattle.vortex_dtype.specs.lemmas.Decimals.{fault_invalid}
+use Rattle.vortex_dtype.specs.lemmas.Unions.{makes_unrefused, pos_is, tags_down}
 
 pub ptype_at-number : (p : PType) → ptype_at (pos ((base.primitive p).number)) ≡ Some p
 ptype_at-number U8 = refl
@@ -179,22 +179,22 @@ pub nullability_of-is : (n : Nullability) → nullability_of (is_nullable n) ≡
 nullability_of-is Nullable = refl
 nullability_of-is NonNullable = refl
 
-fields_names : (s : Meaning) (ns : List (List ℕ)) (ms : Messages) (fs : Fields) → ReadsFields s ns ms fs → field_names fs ≡ ns
-fields_names s [] no_message fs h = ap field_names h
+fields_names : (s : Meaning) (ns : List (List ℕ)) (ms : Messages) (fs : Fields) → ReadsFields s ns ms fs → written_names fs ≡ ns
+fields_names s [] no_message fs h = ap written_names h
 fields_names s [] (more m ms) fs h = absurd h
 fields_names s (n ∷ ns) no_message fs h = absurd h
-fields_names s (n ∷ ns) (more m ms) fs h = ap field_names h.4 ∙ ap (λ xs. n ∷ xs) (fields_names s ns ms h.1 h.3)
+fields_names s (n ∷ ns) (more m ms) fs h = ap written_names h.4 ∙ ap (λ xs. n ∷ xs) (fields_names s ns ms h.1 h.3)
 
 -- the names and the tags of variants that read
-variants_names : (s : Meaning) (ns : List (List ℕ)) (ms : Messages) (gs : List ℤ) (vs : Variants) → ReadsVariants s ns ms gs vs → variant_names vs ≡ ns
-variants_names s [] no_message [] vs h = ap variant_names h
+variants_names : (s : Meaning) (ns : List (List ℕ)) (ms : Messages) (gs : List ℤ) (vs : Variants) → ReadsVariants s ns ms gs vs → written_variant_names vs ≡ ns
+variants_names s [] no_message [] vs h = ap written_variant_names h
 variants_names s [] no_message (g ∷ gs) vs h = absurd h
 variants_names s [] (more m ms) gs vs h = absurd h
 variants_names s (n ∷ ns) no_message gs vs h = absurd h
 variants_names s (n ∷ ns) (more m ms) [] vs h = absurd h
-variants_names s (n ∷ ns) (more m ms) (g ∷ gs) vs h = ap variant_names h.6 ∙ ap (λ xs. n ∷ xs) (variants_names s ns ms gs h.2 h.5)
+variants_names s (n ∷ ns) (more m ms) (g ∷ gs) vs h = ap written_variant_names h.6 ∙ ap (λ xs. n ∷ xs) (variants_names s ns ms gs h.2 h.5)
 
-pub byte_is : (g : ℤ) (k : ℕ) → byte_at g ≡ Some k → (g ≡ pos k) × (k < 256)
+pub byte_is : (g : ℤ) (k : ℕ) → integer_byte g ≡ Some k → (g ≡ pos k) × (k < 256)
 byte_is (pos n) k e = let b = cond_some (nat_lt n 256) n k e in (ap pos b.1, below_of n k b.0 b.1)
   where
     below_of : (n k : ℕ) → nat_lt n 256 ≡ true → n ≡ k → k < 256
@@ -250,7 +250,7 @@ mutual
   reads_normal s (union ns ms gs f) t h = (
     written_variants h.0,
     variants_normal s ns ms gs h.0 h.1,
-    ap written h.5 ∙ ap (λ b. union (variant_names h.0) (written_variants h.0) (written_tags h.0) b) (is_nullable-of f)
+    ap written h.5 ∙ ap (λ b. union (written_variant_names h.0) (written_variants h.0) (written_tags h.0) b) (is_nullable-of f)
         ∙ ap (λ xs. union xs (written_variants h.0) (written_tags h.0) f) (variants_names s ns ms gs h.0 h.1)
         ∙ ap (λ xs. union ns (written_variants h.0) xs f) (variants_tags s ns ms gs h.0 h.1),
   )
@@ -260,7 +260,7 @@ mutual
       let d = present (written h.0) in let w = present (written h.1) in
       (d, w, child_normal s c h.0 h.2, child_normal s v h.1 h.3, ap written h.5 ∙ ap (λ b. map_of d w o b) (is_nullable-of f))
   reads_normal s (struct ns ms f) t h =
-      (written_fields h.0, fields_normal s ns ms h.0 h.1, ap written h.2 ∙ ap (λ b. struct (field_names h.0) (written_fields h.0) b) (is_nullable-of f) ∙ ap (λ xs. struct xs (written_fields h.0) f) (fields_names s ns ms h.0 h.1))
+      (written_fields h.0, fields_normal s ns ms h.0 h.1, ap written h.2 ∙ ap (λ b. struct (written_names h.0) (written_fields h.0) b) (is_nullable-of f) ∙ ap (λ xs. struct xs (written_fields h.0) f) (fields_names s ns ms h.0 h.1))
   reads_normal s (extension id c b) t h =
       (present (written h.0), h.0, h.1, child_normal s c h.0 h.2, h.2, h.3, ap written h.4)
 
@@ -401,18 +401,18 @@ tags_distinct gs h = AllPairs-from_IsDistinct signed_Decides gs h
 names_distinct : (ns : List (List ℕ)) → IsDistinct bytes_eq ns → Distinct ns
 names_distinct ns h = AllPairs-from_IsDistinct bytes_eq-Decides ns h
 
-some_name : (vs : Variants) → HasVariant vs → variant_names vs ≢ []
+some_name : (vs : Variants) → HasVariant vs → written_variant_names vs ≢ []
 some_name no_variants h = absurd h
 some_name (choice n x g rest) h = λ e. let l : 1 ≤ 0 = omega (arith, ap length e) in absurd (omega (arith, l))
 
-byte_at-pos : (g : ℕ) → g < 256 → byte_at (pos g) ≡ Some g
-byte_at-pos g h = grind (arith, nat_tests)
+integer_byte-pos : (g : ℕ) → g < 256 → integer_byte (pos g) ≡ Some g
+integer_byte-pos g h = grind (arith, nat_tests)
 
 others_tag : (g : ℕ) (vs : Variants) → LacksTag g vs → AllByRecursion (λ h. int_eq (pos g) h ≡ false) (written_tags vs)
 others_tag g no_variants h = tt
 others_tag g (choice n x k rest) h = (false_from_ne_true (int_eq (pos g) (pos k)) (λ e. h.0 (pos_is k g (sym ((signed_Decides (pos g) (pos k)).0 e)))), others_tag g rest h.1)
 
-others_name : (n : List ℕ) (vs : Variants) → LacksName n vs → AllByRecursion (λ m. bytes_eq n m ≡ false) (variant_names vs)
+others_name : (n : List ℕ) (vs : Variants) → LacksName n vs → AllByRecursion (λ m. bytes_eq n m ≡ false) (written_variant_names vs)
 others_name n no_variants h = tt
 others_name n (choice m x k rest) h = (false_from_ne_true (bytes_eq n m) (λ e. h.0 (sym ((bytes_eq-Decides n m).0 e))), others_name n rest h.1)
 
@@ -421,7 +421,7 @@ unfolding IsDistinct
 tags_apart no_variants v = tt
 tags_apart (choice n x g rest) v = (others_tag g rest v.3, tags_apart rest v.4)
 
-names_apart : (vs : Variants) → ValidVariants vs → IsDistinct bytes_eq (variant_names vs)
+names_apart : (vs : Variants) → ValidVariants vs → IsDistinct bytes_eq (written_variant_names vs)
 unfolding IsDistinct
 names_apart no_variants v = tt
 names_apart (choice n x g rest) v = (others_name n rest v.2, names_apart rest v.4)
@@ -438,19 +438,19 @@ mutual
   written_reads s (of.variant n) v a = ap of.variant (sym (nullability_of-is n))
   written_reads s (of.fixed_size_list x k n) v a = (x, written_reads s x v.1 a, ap (of.fixed_size_list x k) (sym (nullability_of-is n)))
   written_reads s (of.union vs n) v a =
-      (vs, written_variants_read s vs v.1 a, some_name vs v.0, tags_distinct (written_tags vs) (tags_apart vs v.1), names_distinct (variant_names vs) (names_apart vs v.1), ap (of.union vs) (sym (nullability_of-is n)))
+      (vs, written_variants_read s vs v.1 a, some_name vs v.0, tags_distinct (written_tags vs) (tags_apart vs v.1), names_distinct (written_variant_names vs) (names_apart vs v.1), ap (of.union vs) (sym (nullability_of-is n)))
   written_reads s (of.list x n) v a = (x, written_reads s x v a, ap (of.list x) (sym (nullability_of-is n)))
   written_reads s (of.map_of x y o n) v a = (x, y, written_reads s x v.1 a.0, written_reads s y v.2 a.1, v.0, ap (of.map_of x y o) (sym (nullability_of-is n)))
   written_reads s (of.struct fs n) v a = (fs, written_fields_read s fs v a, ap (of.struct fs) (sym (nullability_of-is n)))
   written_reads s (of.extension id b x) v a = (x, b, written_reads s x v.1 a.1, a.0, refl)
 
-  written_fields_read : (s : Meaning) (fs : Fields) → ValidFields fs → AdmitsFields s fs → ReadsFields s (field_names fs) (written_fields fs) fs
+  written_fields_read : (s : Meaning) (fs : Fields) → ValidFields fs → AdmitsFields s fs → ReadsFields s (written_names fs) (written_fields fs) fs
   written_fields_read s no_fields v a = refl
   written_fields_read s (field n x rest) v a = (x, rest, written_reads s x v.0 a.0, written_fields_read s rest v.1 a.1, refl)
 
-  written_variants_read : (s : Meaning) (vs : Variants) → ValidVariants vs → AdmitsVariants s vs → ReadsVariants s (variant_names vs) (written_variants vs) (written_tags vs) vs
+  written_variants_read : (s : Meaning) (vs : Variants) → ValidVariants vs → AdmitsVariants s vs → ReadsVariants s (written_variant_names vs) (written_variants vs) (written_tags vs) vs
   written_variants_read s no_variants v a = refl
-  written_variants_read s (choice n x g rest) v a = (x, g, rest, written_reads s x v.0 a.0, byte_at-pos g v.1, written_variants_read s rest v.4 a.1, refl)
+  written_variants_read s (choice n x g rest) v a = (x, g, rest, written_reads s x v.0 a.0, integer_byte-pos g v.1, written_variants_read s rest v.4 a.1, refl)
 
 pub written_normal : (s : Meaning) (m n : Message) (t : Tree) → Reads s m t → (Normal s m n → n ≡ written t) × (n ≡ written t → Normal s m n)
 written_normal s m n t h = (λ k. normal_once s m n (written t) k (reads_normal s m t h), λ e. subst (Normal s m) (sym e) (reads_normal s m t h))

@@ -1,0 +1,12 @@
+-- SPDX-License-Identifier: Apache-2.0
+-- SPDX-FileCopyrightText: Copyright the Vortex contributors
+
+pub mod Results
+pub mod Decimals
+pub mod Unions
+pub mod Sessions
+pub mod Reads
+pub mod InOrder
+pub mod Written
+pub mod PathMessages
+pub mod Reading

@@ -23,6 +23,7 @@ pub use Rattle.dtype_base.specs.Bytes
 pub use Rattle.dtype_base.specs.Decimals
 pub use Rattle.dtype_base.specs.Escapes
 pub use Rattle.dtype_base.specs.FieldNames
+pub use Rattle.dtype_base.specs.NameOrder
 pub use Rattle.dtype_base.specs.Nullability
 pub use Rattle.dtype_base.specs.Primitives
 pub use Rattle.dtype_native.specs.Digits
@@ -48,6 +49,8 @@ pub use Rattle.dtype_paths.specs.Along
 pub use Rattle.dtype_paths.specs.Around
 pub use Rattle.dtype_paths.specs.At
 pub use Rattle.dtype_paths.specs.Beginning
+pub use Rattle.dtype_paths.specs.Equality
+pub use Rattle.dtype_paths.specs.Hashes
 pub use Rattle.dtype_paths.specs.Found
 pub use Rattle.dtype_paths.specs.Meets
 pub use Rattle.dtype_paths.specs.Fields

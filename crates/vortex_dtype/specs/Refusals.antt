@@ -1,7 +1,8 @@
 -- SPDX-License-Identifier: Apache-2.0
 -- SPDX-FileCopyrightText: Copyright the Vortex contributors
 
--- When a vtable, a session and a downcast refuse, and by which error.
+-- When a vtable, a session and a downcast refuse, and by which error; and each error's number, from the crate of errors.
+pub use Rattle.dtype_base.specs.Refusals.{fault_number, number_of}
 use Rattle.std.specs.Prelude.{◌≡◌, ◌≢◌, ◌⊎◌, ℕ, List, Option, Some, None, Bool, false}
 use Rattle.dtype_base.specs.declared.vortex_error.VortexError.{VortexError}
 use Rattle.dtype_base.specs.declared.vortex_error.VortexError.TheVariants.{OutOfMemory, MetadataRefused, ExtensionIdDiffers, Message}

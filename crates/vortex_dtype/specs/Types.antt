@@ -2,8 +2,10 @@
 -- SPDX-FileCopyrightText: Copyright the Vortex contributors
 
 -- The types of the crates below that clauses name, each with its variants in `TheVariants`.
+pub use Rattle.dtype_base.specs.declared.decimal.DecimalType
 pub use Rattle.dtype_base.specs.declared.nullability.Nullability
 pub use Rattle.dtype_base.specs.declared.ptype.PType
 pub use Rattle.dtype_base.specs.declared.vortex_error.MessageFault
 pub use Rattle.dtype_base.specs.declared.vortex_error.VortexError
+pub use Rattle.dtype_messages.specs.declared.pb.FieldPath
 pub use Rattle.dtype_paths.specs.declared.field.Field

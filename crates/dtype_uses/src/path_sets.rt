@@ -347,3 +347,67 @@ pub fn columns_found(
             .collect(alloc)?,
     )
 }
+
+/// The set of columns that are lent, put in one by one.
+pub fn asked_one_by_one(alloc: Global, columns: &[FieldPath]) -> VortexResult<FieldPathSet>
+    ensures { IfOk result (λ s. s ≡ set_of columns.now) }
+{
+    let mut asked = FieldPathSet::new(alloc);
+    for column in columns {
+        asked.insert(column.try_clone()?)?;
+    }
+    Ok(asked)
+}
+
+/// Two copies of what is asked for, equal to each other and to it.
+pub fn two_copies(asked: &FieldPathSet) -> VortexResult<(FieldPathSet, FieldPathSet)>
+    ensures first { IfOk result (λ r. r.0 ≡ asked.now) }
+    ensures both { IfOk result (λ r. r.0 ≡ r.1) }
+{
+    let first = asked.try_clone()?;
+    let second = first.try_clone()?;
+    Ok((first, second))
+}
+
+/// What either of two queries asks for.
+pub fn union_of_queries(
+    alloc: Global,
+    columns: Vec<FieldPath>,
+    more: Vec<FieldPath>,
+) -> VortexResult<FieldPathSet>
+    ensures { IfOk result (λ s. s ≡ set.union (set_of columns.items) (set_of more.items)) }
+{
+    let mut asked = FieldPathSet::from_iter(alloc, columns)?;
+    asked.extend(more)?;
+    Ok(asked)
+}
+
+/// The set of one path that is put in twice: it is in once.
+pub fn set_of_one_twice(alloc: Global, path: &FieldPath) -> VortexResult<FieldPathSet>
+    ensures { IfOk result (λ s. s ≡ set_of (path.now ∷ [])) }
+{
+    let mut asked = FieldPathSet::new(alloc);
+    asked.insert(path.try_clone()?)?;
+    asked.insert(path.try_clone()?)?;
+    Ok(asked)
+}
+
+/// Whether a column is to be opened for what is asked for: where it is asked for, or below a path that is.
+pub fn is_opened(alloc: Global, asked: FieldPathSet, column: &FieldPath) -> VortexResult<bool>
+    ensures { IfOk result (λ b. IsTrue b ↔ IsTrue (covers asked column.now)) }
+{
+    let cover: Vec<FieldPath> = asked.into_iter()?.collect(alloc)?;
+    Ok(is_wanted(&cover, column))
+}
+
+/// Whether a column is to be opened for a query that it isn't under: it never is.
+pub fn is_left_closed(
+    alloc: Global,
+    columns: Vec<FieldPath>,
+    column: &FieldPath,
+) -> VortexResult<bool>
+    requires { covers (set_of columns.items) column.now ≡ false }
+    ensures { IfOk result (λ b. b ≡ false) }
+{
+    is_opened(alloc, FieldPathSet::from_iter(alloc, columns)?, column)
+}

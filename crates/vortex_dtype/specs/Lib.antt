@@ -19,6 +19,7 @@ pub mod StorageKinds
 pub mod CoveringLaws
 pub mod Types
 pub mod lemmas
+pub use Rattle.dtype_base.specs.BinaryDigits
 pub use Rattle.dtype_base.specs.Bytes
 pub use Rattle.dtype_base.specs.Decimals
 pub use Rattle.dtype_base.specs.Escapes

@@ -1,0 +1,177 @@
+// SPDX-License-Identifier: Apache-2.0
+// SPDX-FileCopyrightText: Copyright the Vortex contributors
+
+// Commands on types of every kind.
+use crate::{Call, ConsoleFault, ConsoleResult};
+use dtype_base::{DecimalDType, FieldName, Nullability, PType};
+use dtype_types::{DType, FieldDType};
+
+/// Answers the command, if it is one of these.
+pub fn answer(call: &mut Call<'_>, command: &str) -> ConsoleResult<bool> {
+    match command {
+        "type" | "copy" | "as_nonnullable" | "as_nullable" => change(call, command)?,
+        "with_nullability" | "union_nullability" => change_to(call, command)?,
+        "nullability" | "is_nullable" | "can_be_nonnullable" | "element_size" | "text" => {
+            ask(call, command)?
+        }
+        "nullability_or" => nullability_or(call)?,
+        "nullability_text" | "nullability_long_text" => nullability_text(call, command)?,
+        "kinds" => kinds(call)?,
+        "as_ptype" | "to_ptype" | "to_decimal" => convert(call, command)?,
+        "bytes_type" => bytes_type(call)?,
+        "from_ptype" => from_ptype(call)?,
+        "list" => list(call)?,
+        "fixed_size_list" => fixed_size_list(call)?,
+        "map" => map(call)?,
+        "struct" => struct_(call)?,
+        _ => return Ok(false),
+    }
+    Ok(true)
+}
+
+fn change(call: &mut Call<'_>, command: &str) -> ConsoleResult<()> {
+    let dtype = call.last_dtype()?;
+    let made = match command {
+        "copy" => dtype.try_clone(call.alloc)?,
+        "as_nullable" => dtype.as_nullable(call.alloc)?,
+        "as_nonnullable" => with_nullability(call, &dtype, Nullability::NonNullable)?,
+        _ => dtype,
+    };
+    call.say_dtype(&made)
+}
+
+fn change_to(call: &mut Call<'_>, command: &str) -> ConsoleResult<()> {
+    let n = call.nullability()?;
+    let dtype = call.last_dtype()?;
+    let made = match command {
+        "union_nullability" => dtype.union_nullability(call.alloc, n)?,
+        _ => with_nullability(call, &dtype, n)?,
+    };
+    call.say_dtype(&made)
+}
+
+fn with_nullability(call: &Call<'_>, dtype: &DType, n: Nullability) -> ConsoleResult<DType> {
+    if n.is_nullable() {
+        return Ok(dtype.with_nullability(call.alloc, Nullability::Nullable)?);
+    }
+    if !dtype.can_be_nonnullable() {
+        return Err(ConsoleFault::Unmet("a type that can be non-nullable"));
+    }
+    Ok(dtype.as_nonnullable(call.alloc)?)
+}
+
+fn ask(call: &mut Call<'_>, command: &str) -> ConsoleResult<()> {
+    let dtype = call.last_dtype()?;
+    match command {
+        "nullability" => call.say(dtype.nullability().long_text()),
+        "is_nullable" => call.say(dtype.is_nullable()),
+        "can_be_nonnullable" => call.say(dtype.can_be_nonnullable()),
+        "element_size" => call.say_option(dtype.element_size()?),
+        _ => call.say_text_of(&dtype),
+    }
+}
+
+fn nullability_or(call: &mut Call<'_>) -> ConsoleResult<()> {
+    let n = call.nullability()?;
+    let other = call.nullability()?;
+    call.end()?;
+    call.say((n | other).long_text())
+}
+
+fn nullability_text(call: &mut Call<'_>, command: &str) -> ConsoleResult<()> {
+    let n = call.nullability()?;
+    call.end()?;
+    match command {
+        "nullability_long_text" => call.say(n.long_text()),
+        _ => call.say_text_of(&n),
+    }
+}
+
+fn kinds(call: &mut Call<'_>) -> ConsoleResult<()> {
+    let dtype = call.last_dtype()?;
+    call.say_words(&[
+        ("boolean", dtype.is_boolean()),
+        ("primitive", dtype.is_primitive()),
+        ("unsigned_int", dtype.is_unsigned_int()),
+        ("signed_int", dtype.is_signed_int()),
+        ("int", dtype.is_int()),
+        ("float", dtype.is_float()),
+        ("decimal", dtype.is_decimal()),
+        ("utf8", dtype.is_utf8()),
+        ("binary", dtype.is_binary()),
+        ("list", dtype.is_list()),
+        ("fixed_size_list", dtype.is_fixed_size_list()),
+        ("map", dtype.is_map()),
+        ("struct", dtype.is_struct()),
+        ("union", dtype.is_union()),
+        ("variant", dtype.is_variant()),
+        ("extension", dtype.is_extension()),
+        ("nested", dtype.is_nested()),
+    ])
+}
+
+fn convert(call: &mut Call<'_>, command: &str) -> ConsoleResult<()> {
+    let dtype = call.last_dtype()?;
+    match command {
+        "to_decimal" => call.say(DecimalDType::try_from(&dtype)?),
+        "to_ptype" => call.say(PType::try_from(&dtype)?),
+        _ if dtype.is_primitive() => call.say(dtype.as_ptype()),
+        _ => Err(ConsoleFault::Unmet("a primitive type")),
+    }
+}
+
+fn bytes_type(call: &mut Call<'_>) -> ConsoleResult<()> {
+    call.end()?;
+    call.say_dtype(&DType::BYTES)
+}
+
+fn from_ptype(call: &mut Call<'_>) -> ConsoleResult<()> {
+    let ptype = call.ptype()?;
+    call.end()?;
+    call.say_dtype(&DType::from(ptype))
+}
+
+fn list(call: &mut Call<'_>) -> ConsoleResult<()> {
+    let n = call.nullability()?;
+    let element = call.last_dtype()?;
+    let made = DType::list(call.alloc, element, n)?;
+    call.say_dtype(&made)
+}
+
+fn fixed_size_list(call: &mut Call<'_>) -> ConsoleResult<()> {
+    let n = call.nullability()?;
+    let size = call.number("a size")?;
+    let element = call.last_dtype()?;
+    let made = DType::fixed_size_list(call.alloc, element, size, n)?;
+    call.say_dtype(&made)
+}
+
+fn map(call: &mut Call<'_>) -> ConsoleResult<()> {
+    let n = call.nullability()?;
+    let keys_sorted = call.boolean()?;
+    let key = call.dtype()?;
+    let value = call.last_dtype()?;
+    let made = DType::map(call.alloc, key, value, keys_sorted, n)?;
+    call.say_dtype(&made)
+}
+
+fn struct_(call: &mut Call<'_>) -> ConsoleResult<()> {
+    let n = call.nullability()?;
+    let fields = read_pairs(call)?;
+    let made = DType::struct_(call.alloc, fields, n)?;
+    call.say_dtype(&made)
+}
+
+/// Reads names, and as many types.
+pub fn read_pairs(call: &mut Call<'_>) -> ConsoleResult<Vec<(FieldName, FieldDType)>> {
+    let names = call.names()?;
+    let dtypes = call.dtypes()?;
+    if names.len() != dtypes.len() {
+        return Err(ConsoleFault::Unmet("as many names as types"));
+    }
+    let mut pairs = Vec::new(call.alloc);
+    for (name, dtype) in names.into_iter().zip(dtypes) {
+        pairs.push((name, FieldDType::from(dtype)))?;
+    }
+    Ok(pairs)
+}

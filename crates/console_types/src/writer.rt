@@ -1,0 +1,203 @@
+// SPDX-License-Identifier: Apache-2.0
+// SPDX-FileCopyrightText: Copyright the Vortex contributors
+
+// The writer of types: as the library prints them, but that the metadata of extensions stands in hexadecimal,
+// and that names and ids stand in quotes where they can't stand bare. It goes down no further than a number of
+// levels, which no type reaches that was read.
+use crate::line::is_bare;
+use dtype_base::{FieldName, FieldNames, Nullability, VortexResult};
+use dtype_types::{DType, ExtDTypeRef, ExtId, MapDType, StructFields, UnionVariants};
+
+/// How deep types are written. They are read less deep by half.
+pub const WRITTEN_LEVELS: u32 = 256;
+
+/// Writes a type.
+#[cycle(written)]
+pub fn write_dtype(out: &mut String, dtype: &DType, levels: u32) -> VortexResult<()> {
+    match dtype {
+        DType::List(element, n) => {
+            out.push_str("list")?;
+            write_wrapped(out, element, levels)?;
+            write_nullability(out, *n)
+        }
+        DType::FixedSizeList(element, size, n) => {
+            out.push_str("fixed_size_list")?;
+            write_wrapped(out, element, levels)?;
+            write!(out, "[{size}]{n}")?;
+            Ok(())
+        }
+        DType::Map(map, n) => {
+            write_map(out, map, levels)?;
+            write_nullability(out, *n)
+        }
+        DType::Struct(fields, n) => {
+            write_fields(out, fields, levels)?;
+            write_nullability(out, *n)
+        }
+        DType::Union(variants, n) => {
+            write_union(out, variants, levels)?;
+            write_nullability(out, *n)
+        }
+        DType::Extension(extension) => write_extension(out, extension, levels),
+        plain => {
+            write!(out, "{plain}")?;
+            Ok(())
+        }
+    }
+}
+
+// Writes a type a level deeper.
+#[cycle(written)]
+fn write_part(out: &mut String, dtype: &DType, levels: u32) -> VortexResult<()> {
+    match levels.checked_sub(1) {
+        Some(levels) => write_dtype(out, dtype, levels),
+        None => Ok(out.push_str("..")?),
+    }
+}
+
+// Writes a type in parentheses.
+#[cycle(written)]
+fn write_wrapped(out: &mut String, dtype: &DType, levels: u32) -> VortexResult<()> {
+    out.push('(')?;
+    write_part(out, dtype, levels)?;
+    Ok(out.push(')')?)
+}
+
+/// Writes a map, without its nullability.
+#[cycle(written)]
+pub fn write_map(out: &mut String, map: &MapDType, levels: u32) -> VortexResult<()> {
+    out.push_str("map(")?;
+    write_part(out, map.key_dtype(), levels)?;
+    out.push_str(", ")?;
+    write_part(out, map.value_dtype(), levels)?;
+    let keys_sorted = map.keys_sorted();
+    write!(out, ", keys_sorted={keys_sorted})")?;
+    Ok(())
+}
+
+/// Writes the fields of a struct.
+#[cycle(written)]
+pub fn write_fields(out: &mut String, fields: &StructFields, levels: u32) -> VortexResult<()> {
+    let mut is_first = true;
+    out.push('{')?;
+    for (name, dtype) in fields.pairs() {
+        if !is_first {
+            out.push_str(", ")?;
+        }
+        write_name(out, name)?;
+        out.push('=')?;
+        write_part(out, dtype, levels)?;
+        is_first = false;
+    }
+    Ok(out.push('}')?)
+}
+
+/// Writes a union, without its nullability.
+#[cycle(written)]
+pub fn write_union(out: &mut String, variants: &UnionVariants, levels: u32) -> VortexResult<()> {
+    let is_consecutive = variants.is_consecutive();
+    let mut is_first = true;
+    out.push_str("union(")?;
+    for (name, tag, dtype) in variants.triples() {
+        if !is_first {
+            out.push_str(", ")?;
+        }
+        write_name(out, name)?;
+        if !is_consecutive {
+            write!(out, "@{tag}")?;
+        }
+        out.push('=')?;
+        write_part(out, dtype, levels)?;
+        is_first = false;
+    }
+    Ok(out.push(')')?)
+}
+
+/// Writes an extension.
+#[cycle(written)]
+pub fn write_extension(out: &mut String, extension: &ExtDTypeRef, levels: u32) -> VortexResult<()> {
+    write_id(out, extension.id())?;
+    out.push('[')?;
+    write_hexadecimals(out, extension.metadata_bytes())?;
+    out.push(']')?;
+    write_wrapped(out, extension.storage_dtype(), levels)
+}
+
+fn write_nullability(out: &mut String, n: Nullability) -> VortexResult<()> {
+    if n.is_nullable() {
+        out.push('?')?;
+    }
+    Ok(())
+}
+
+/// Writes a name: bare where it can stand so, else in quotes with the library's escapes.
+pub fn write_name(out: &mut String, name: &FieldName) -> VortexResult<()> {
+    let text = name.as_str();
+    if !text.is_empty() && text.bytes().all(is_bare) {
+        out.push_str(text)?;
+    } else {
+        write_quoted(out, text)?;
+    }
+    Ok(())
+}
+
+/// Writes names, joined by commas, or `-` where there are none.
+pub fn write_names(out: &mut String, names: &FieldNames) -> VortexResult<()> {
+    let mut is_first = true;
+    for name in names.iter() {
+        if !is_first {
+            out.push(',')?;
+        }
+        write_name(out, name)?;
+        is_first = false;
+    }
+    if is_first {
+        out.push('-')?;
+    }
+    Ok(())
+}
+
+/// Writes an id as names are written, but that dots stand bare.
+pub fn write_id(out: &mut String, id: &ExtId) -> VortexResult<()> {
+    let text = id.as_str();
+    if !text.is_empty() && text.bytes().all(|byte| byte == b'.' || is_bare(byte)) {
+        out.push_str(text)?;
+    } else {
+        write_quoted(out, text)?;
+    }
+    Ok(())
+}
+
+/// Writes a text in quotes, with the library's escapes.
+pub fn write_quoted(out: &mut String, text: &str) -> VortexResult<()> {
+    out.push('"')?;
+    for character in text.chars() {
+        write_escaped(out, character)?;
+    }
+    Ok(out.push('"')?)
+}
+
+fn write_escaped(out: &mut String, character: char) -> VortexResult<()> {
+    match character {
+        '\\' => out.push_str("\\\\")?,
+        '"' => out.push_str("\\\"")?,
+        '\t' => out.push_str("\\t")?,
+        '\n' => out.push_str("\\n")?,
+        '\r' => out.push_str("\\r")?,
+        '\0'..='\x1f' | '\x7f' => {
+            let byte = character as u32;
+            write!(out, "\\x{byte:02x}")?
+        }
+        _ => out.push(character)?,
+    }
+    Ok(())
+}
+
+/// Writes bytes in hexadecimal, behind their mark.
+pub fn write_hexadecimals(out: &mut String, bytes: &[u8]) -> VortexResult<()> {
+    out.push_str("0x")?;
+    for byte in bytes {
+        write!(out, "{byte:02x}")?;
+    }
+    Ok(())
+}

@@ -116,6 +116,7 @@ impl<V: ExtVTable> ExtDType<V> {
     /// The extension without its library, with the storage's outer nullability changed; the id and the
     /// written metadata are those of this one. Where non-nullable is asked, the storage can be. Refuses 22
     /// (MetadataRefused) exactly where the vtable doesn't write the metadata, and 0 (OutOfMemory).
+    #[tactic(auto, using(dtype_types::specs::lemmas::Validity::validity))]
     pub fn with_nullability(&self, alloc: Global, n: Nullability) -> VortexResult<ExtDTypeRef>
         requires { n ≡ NonNullable → CanBeNonNullable (storage_of self.now) }
         ensures id { IfOk result (λ e. extension_id e ≡ V.id_text (vtable_of self.now)) }

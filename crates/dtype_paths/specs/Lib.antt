@@ -21,5 +21,6 @@ pub mod Meets
 pub mod Children
 pub mod StepKeys
 pub mod ChildLists
+pub mod ChildTrees
 pub mod lemmas
 pub mod CoveringLaws

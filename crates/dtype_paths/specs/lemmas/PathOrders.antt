@@ -2,8 +2,8 @@
 -- SPDX-FileCopyrightText: Copyright the Vortex contributors
 
 -- The order of `PathOrder`: it is total, and only equal paths tie in it.
-use Rattle.std.specs.Prelude.{◌≡◌, List, [], ◌∷◌, ◌||◌, refl}
-use Rattle.std.specs.Cmp.{Equal-is, IsTotalOrder, on_total}
+use Rattle.std.specs.Prelude.{◌≡◌, List, [], ◌∷◌, ◌||◌, Some, refl}
+use Rattle.std.specs.Cmp.{Equal-is, IsPartialOrder, IsTotalOrder, on_total, po}
 use Rattle.std.specs.Cmp.Lexicographic.{lists_total, lists_ties, nat_list_cmp_total, options_total, texts_ties}
 use Rattle.std.specs.FinSet.{IsAntisymmetric}
 use Rattle.std.specs.List.{list_any}
@@ -15,14 +15,21 @@ use Rattle.dtype_paths.specs.PathOrder.{field_cmp, name_of, path_cmp}
 use Rattle.dtype_paths.specs.declared.field.Field.{Field}
 use Rattle.dtype_paths.specs.declared.field.Field.TheVariants.{Name, ElementType}
 
-pub path_cmp_total : IsTotalOrder path_cmp
-path_cmp_total = lists_total (on_total name_of (options_total nat_list_cmp_total))
+pub field_cmp_total : IsTotalOrder field_cmp
+field_cmp_total = on_total name_of (options_total nat_list_cmp_total)
 
-field_ties : (f g : Field) → same_field f g ≡ eq_by_cmp field_cmp f g
+pub path_cmp_total : IsTotalOrder path_cmp
+path_cmp_total = lists_total field_cmp_total
+
+-- steps tie exactly where they are the same
+pub field_ties : (f g : Field) → same_field f g ≡ eq_by_cmp field_cmp f g
 field_ties (Name m) (Name n) = texts_ties m n
 field_ties (Name m) ElementType = refl
 field_ties ElementType (Name n) = refl
 field_ties ElementType ElementType = refl
+
+pub field_partial_order : IsPartialOrder same_field (λ f g. Some (field_cmp f g))
+field_partial_order = po field_cmp_total field_ties
 
 -- paths tie exactly where they are the same
 pub path_ties : (p q : List Field) → same_path p q ≡ eq_by_cmp path_cmp p q

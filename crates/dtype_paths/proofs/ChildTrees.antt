@@ -1,0 +1,247 @@
+-- SPDX-License-Identifier: Apache-2.0
+-- SPDX-FileCopyrightText: Copyright the Vortex contributors
+
+-- Many children in two maps: what is looked up in either, and that one more step keeps them so.
+use Rattle.std.proofs.Common.{ℕ, ◌≡◌, ◌∙◌, Bool, true, false, cond, Decides, Equal, List, [], ◌∷◌, ◌++◌, Option, Some, None, refl, sym, ap, subst}
+use Rattle.std.specs.BTreeMap.{BTreeMap, get, is_at, IsOrdered}
+use Rattle.std.specs.Cmp.{Equal-is, tied_itself, nat_cmp_total}
+use Rattle.std.specs.FinSet.{nat_cmp-IsAntisymmetric}
+use Rattle.std.specs.List.{AllByRecursion, IsDistinct}
+use Rattle.std.specs.List.Sorted.{IsStrictlySortedBy}
+use Rattle.std.specs.Map.{keys_of, lookup, values_of}
+use Rattle.std.specs.Option.{option_or}
+use Rattle.std.specs.Ordering.{eq_by_cmp, is_eq, nat_cmp}
+use Rattle.std.proofs.lemmas.Map.Entries.{lookup_head, lookup_tail}
+use Rattle.std.proofs.lemmas.Map.Lookups.{btree_map_from_get}
+use Rattle.std.proofs.lemmas.Map.Keys.{IsDistinct-cons, IsDistinct-from_sorted, IsDistinct-head, IsDistinct-tail}
+use Rattle.dtype_paths.specs.ChildTrees.{at_key, led_by, steps_in, IsChildTree, IsFirst, IsTaken}
+use Rattle.dtype_paths.specs.Equality.{same_field}
+use Rattle.dtype_paths.specs.EqualityLaws.{same_field-Decides, same_field_equiv}
+use Rattle.dtype_paths.specs.PathOrder.{field_cmp}
+use Rattle.dtype_paths.specs.StepKeys.{step_key}
+use Rattle.dtype_paths.specs.declared.field.Field.{Field}
+use Rattle.dtype_paths.specs.lemmas.Cases.{by_bool, by_option}
+use Rattle.dtype_paths.specs.lemmas.PathOrders.{field_cmp_total, field_ties}
+use Rattle.dtype_paths.proofs.ApartLists.{distinct-nil}
+use Rattle.dtype_paths.proofs.ChildCopies.{lookup-absent}
+
+-- ---- keys
+
+same_key : (j k : ℕ) → is_at (nat_cmp j) k ≡ true → j ≡ k
+same_key j k e = nat_cmp-IsAntisymmetric j k ((Equal-is (nat_cmp j k)).0 e)
+
+own_key : (j k : ℕ) → j ≡ k → is_at (nat_cmp j) k ≡ true
+own_key j k e = (Equal-is (nat_cmp j k)).1 (subst (λ x. nat_cmp j x ≡ Equal) e (tied_itself nat_cmp_total j))
+
+pub key-Decides : (j k : ℕ) → Decides (eq_by_cmp nat_cmp j k) (j ≡ k)
+key-Decides j k = (same_key j k, own_key j k)
+
+pub step-Decides : (f g : Field) → Decides (eq_by_cmp field_cmp f g) (f ≡ g)
+step-Decides f g = (λ e. (same_field-Decides f g).0 (field_ties f g ∙ e), λ e. sym (field_ties f g) ∙ (same_field-Decides f g).1 e)
+
+-- maps in which each key leads to the same have the same entries
+pub same_keys : (m n : BTreeMap ℕ (Field × ℕ)) → IsOrdered nat_cmp m → IsOrdered nat_cmp n → ((k : ℕ) → get nat_cmp m k ≡ get nat_cmp n k) → m.entries ≡ n.entries
+same_keys m n om on same = btree_map_from_get nat_cmp_total m n om on same nat_cmp-IsAntisymmetric
+
+pub same_steps : (m n : BTreeMap Field ℕ) → IsOrdered field_cmp m → IsOrdered field_cmp n → ((f : Field) → get field_cmp m f ≡ get field_cmp n f) → m.entries ≡ n.entries
+same_steps m n om on same = btree_map_from_get field_cmp_total m n om on same (λ f g e. (step-Decides f g).0 (ap is_eq e))
+
+-- ---- lookups in lists
+
+lookup-append : {A B : Type 0} (test : A → Bool) (xs ys : List (A × B)) → lookup test (xs ++ ys) ≡ option_or (lookup test xs) (lookup test ys)
+lookup-append test [] ys = refl
+lookup-append test (x ∷ xs) ys = by_bool (test x.0) (λ e. rw e refl) (λ e. rw e (lookup-append test xs ys))
+
+absent-lookup : {A B : Type 0} (test : A → Bool) (es : List (A × B)) → lookup test es ≡ None → AllByRecursion (λ y. test y ≡ false) (keys_of es)
+absent-lookup test [] h = tt
+absent-lookup test (e ∷ es) h = by_bool (test e.0) (λ t. absurd (let z = rw t at h in cc)) (λ n. (n, absent-lookup test es (rw n at h)))
+
+-- no step is in both lists, and none twice in either
+distinct-append : (xs ys : List (Field × ℕ)) → IsDistinct same_field (keys_of xs) → IsDistinct same_field (keys_of ys) → ((f : Field) (i : ℕ) → lookup (same_field f) ys ≡ Some i → lookup (same_field f) xs ≡ None)
+    → IsDistinct same_field (keys_of (xs ++ ys))
+distinct-append [] ys dx dy apart = dy
+distinct-append (x ∷ xs) ys dx dy apart =
+    let none : lookup (same_field x.0) xs ≡ None = lookup-absent (same_field x.0) xs (IsDistinct-head same_field x.0 (keys_of xs) dx) in
+    let here : same_field x.0 x.0 ≡ true = same_field_equiv.refl x.0 in
+    let none_behind : lookup (same_field x.0) ys ≡ None = by_option (lookup (same_field x.0) ys) (λ e. e) (λ i e. absurd (let z = rw here at (apart x.0 i e) in cc)) in
+    IsDistinct-cons same_field x.0 (keys_of (xs ++ ys))
+    (absent-lookup (same_field x.0) (xs ++ ys) (lookup-append (same_field x.0) xs ys ∙ (λ i. option_or (none i) (none_behind i))))
+    (distinct-append xs ys (IsDistinct-tail same_field x.0 (keys_of xs) dx) dy (λ f i e.
+    by_bool (same_field f x.0) (λ t. absurd (let z = rw t at (apart f i e) in cc)) (λ n. rw n at (apart f i e))))
+
+-- ---- the steps at their keys
+
+none_later : (e : ℕ × (Field × ℕ)) (es : List (ℕ × (Field × ℕ))) (k : ℕ) → IsDistinct (eq_by_cmp nat_cmp) (keys_of (e ∷ es)) → is_at (nat_cmp k) e.0 ≡ true → at_key es k ≡ None
+none_later e es k d h =
+    rw (same_key k e.0 h) (lookup-absent (is_at (nat_cmp e.0)) es (IsDistinct-head (eq_by_cmp nat_cmp) e.0 (keys_of es) d))
+
+abbrev AreKeyed : List (ℕ × (Field × ℕ)) → Type 0
+AreKeyed es = (k : ℕ) (v : Field × ℕ) → at_key es k ≡ Some v → step_key v.0 ≡ k
+
+keyed_later : (e : ℕ × (Field × ℕ)) (es : List (ℕ × (Field × ℕ))) → IsDistinct (eq_by_cmp nat_cmp) (keys_of (e ∷ es)) → AreKeyed (e ∷ es) → AreKeyed es
+keyed_later e es d h k v at =
+    by_bool (is_at (nat_cmp k) e.0)
+    (λ t. let none : at_key es k ≡ None = none_later e es k d t in absurd (cc))
+    (λ n. h k v (rw n at))
+
+keyed_head : (e : ℕ × (Field × ℕ)) (es : List (ℕ × (Field × ℕ))) → AreKeyed (e ∷ es) → step_key e.1.0 ≡ e.0
+keyed_head e es h = h e.0 e.1 (lookup_head (is_at (nat_cmp e.0)) e es (own_key e.0 e.0 refl))
+
+-- among the steps at the keys, one is found by its key
+lookup-keyed : (es : List (ℕ × (Field × ℕ))) → IsDistinct (eq_by_cmp nat_cmp) (keys_of es) → AreKeyed es → (f : Field) → lookup (same_field f) (values_of es) ≡ led_by f (at_key es (step_key f))
+lookup-keyed [] d h f = refl
+lookup-keyed (e ∷ es) d h f =
+    let at : ℕ → Bool = is_at (nat_cmp (step_key f)) in
+    let later : lookup (same_field f) (values_of es) ≡ led_by f (at_key es (step_key f)) = lookup-keyed es (IsDistinct-tail (eq_by_cmp nat_cmp) e.0 (keys_of es) d) (keyed_later e es d h) f in
+    by_bool (same_field f e.1.0)
+    (λ t.
+    let key : step_key f ≡ e.0 = ap step_key ((same_field-Decides f e.1.0).0 t) ∙ keyed_head e es h in
+    lookup_head (same_field f) e.1 (values_of es) t
+    ∙ sym (ap (led_by f) (lookup_head at e es (own_key (step_key f) e.0 key)) ∙ ap (λ b. cond b (Some e.1.1) None) t))
+    (λ n.
+    by_bool (at e.0)
+    (λ t.
+    let none : at_key es (step_key f) ≡ None = none_later e es (step_key f) d t in
+    lookup_tail (same_field f) e.1 (values_of es) n ∙ later ∙ ap (led_by f) none
+    ∙ sym (ap (led_by f) (lookup_head at e es t) ∙ ap (λ b. cond b (Some e.1.1) None) n))
+    (λ o. lookup_tail (same_field f) e.1 (values_of es) n ∙ later ∙ sym (ap (led_by f) (lookup_tail at e es o))))
+
+distinct-keyed : (es : List (ℕ × (Field × ℕ))) → IsDistinct (eq_by_cmp nat_cmp) (keys_of es) → AreKeyed es → IsDistinct same_field (keys_of (values_of es))
+distinct-keyed [] d h = distinct-nil same_field
+distinct-keyed (e ∷ es) d h =
+    let tail = IsDistinct-tail (eq_by_cmp nat_cmp) e.0 (keys_of es) d in let keyed = keyed_later e es d h in
+    let none : at_key es (step_key e.1.0) ≡ None = none_later e es (step_key e.1.0) d (own_key (step_key e.1.0) e.0 (keyed_head e es h)) in
+    IsDistinct-cons same_field e.1.0 (keys_of (values_of es))
+    (absent-lookup (same_field e.1.0) (values_of es) (lookup-keyed es tail keyed e.1.0 ∙ ap (led_by e.1.0) none))
+    (distinct-keyed es tail keyed)
+
+-- ---- both maps
+
+keys_distinct : (by_key : List (ℕ × (Field × ℕ))) (by_step : List (Field × ℕ)) → IsChildTree by_key by_step → IsDistinct (eq_by_cmp nat_cmp) (keys_of by_key)
+keys_distinct by_key by_step t = IsDistinct-from_sorted nat_cmp (keys_of by_key) t.keys
+
+-- what is looked up by the order of steps is looked up by their equality
+pub by_order : (f : Field) (es : List (Field × ℕ)) → lookup (is_at (field_cmp f)) es ≡ lookup (same_field f) es
+by_order f es = sym (λ i. lookup (λ g. field_ties f g i) es)
+
+-- where a step leads: by what stands at its key, or else by itself
+pub leads : (by_key : List (ℕ × (Field × ℕ))) (by_step : List (Field × ℕ)) → IsChildTree by_key by_step → (f : Field)
+    → lookup (same_field f) (steps_in by_key by_step) ≡ option_or (led_by f (at_key by_key (step_key f))) (lookup (same_field f) by_step)
+leads by_key by_step t f =
+    lookup-append (same_field f) (values_of by_key) by_step
+    ∙ ap (λ o. option_or o (lookup (same_field f) by_step)) (lookup-keyed by_key (keys_distinct by_key by_step t) t.keyed f)
+
+-- what is looked up at the key, and then by itself
+pub looked_up : (by_key : List (ℕ × (Field × ℕ))) (by_step s : List (Field × ℕ)) → IsChildTree by_key by_step → steps_in by_key by_step ≡ s → (f : Field) (o : Option ℕ) → o ≡ led_by f (at_key by_key (step_key f))
+    → option_or o (lookup (is_at (field_cmp f)) by_step) ≡ lookup (same_field f) s
+looked_up by_key by_step s t is f o e = (λ i. option_or (e i) (by_order f by_step i)) ∙ sym (leads by_key by_step t f) ∙ ap (lookup (same_field f)) is
+
+taken_by : (by_key : List (ℕ × (Field × ℕ))) (f : Field) → IsTaken by_key f → led_by f (at_key by_key (step_key f)) ≡ None
+taken_by by_key f t = ap (led_by f) t.1 ∙ rw t.2 refl
+
+pub distinct_steps : (by_key : List (ℕ × (Field × ℕ))) (by_step : List (Field × ℕ)) → IsChildTree by_key by_step → IsDistinct same_field (keys_of (steps_in by_key by_step))
+distinct_steps by_key by_step t =
+    let keys = keys_distinct by_key by_step t in
+    distinct-append (values_of by_key) by_step
+    (distinct-keyed by_key keys t.keyed)
+    (subst (λ eq. IsDistinct eq (keys_of by_step)) (λ i f g. sym (field_ties f g) i) (IsDistinct-from_sorted field_cmp (keys_of by_step) t.steps))
+    (λ f i e. lookup-keyed by_key keys t.keyed f ∙ taken_by by_key f (t.taken f i e))
+
+-- ---- one step more
+
+module _ (by_key : List (ℕ × (Field × ℕ))) (by_step : List (Field × ℕ)) (t : IsChildTree by_key by_step) (x : Field) (place : ℕ) where
+  -- by itself, where another step stands at its key
+  module _ (new : List (Field × ℕ)) (taken : IsTaken by_key x) (sorted : IsStrictlySortedBy field_cmp (keys_of new))
+      (put : (f : Field) → lookup (is_at (field_cmp f)) new ≡ cond (is_at (field_cmp x) f) (Some place) (lookup (is_at (field_cmp f)) by_step)) where
+    put_same : (f : Field) → lookup (same_field f) new ≡ cond (same_field x f) (Some place) (lookup (same_field f) by_step)
+    put_same f = sym (by_order f new) ∙ put f ∙ (λ i. cond (sym (field_ties x f) i) (Some place) (by_order f by_step i))
+
+    pub more_by_step : IsChildTree by_key new
+    more_by_step = record {
+      keys = t.keys;
+      steps = sorted;
+      keyed = t.keyed;
+      taken = λ f i e.
+          by_bool (same_field x f)
+          (λ y. subst (IsTaken by_key) ((same_field-Decides x f).0 y) taken)
+          (λ n. t.taken f i (sym (put_same f ∙ rw n refl) ∙ e));
+    }
+
+    pub led_more_by_step : (f : Field) → lookup (same_field f) (steps_in by_key new) ≡ cond (same_field x f) (Some place) (lookup (same_field f) (steps_in by_key by_step))
+    led_more_by_step f =
+        let l : Option ℕ = led_by f (at_key by_key (step_key f)) in
+        let old : Option ℕ = lookup (same_field f) (steps_in by_key by_step) in
+        leads by_key new more_by_step f
+        ∙ by_bool (same_field x f)
+        (λ y.
+        let is : x ≡ f = (same_field-Decides x f).0 y in
+        let none : l ≡ None = subst (λ g. led_by g (at_key by_key (step_key g)) ≡ None) is (taken_by by_key x taken) in
+        let here : lookup (same_field f) new ≡ Some place = put_same f ∙ ap (λ b. cond b (Some place) (lookup (same_field f) by_step)) y in
+        (λ i. option_or (none i) (here i)) ∙ sym (ap (λ b. cond b (Some place) old) y))
+        (λ n.
+        let same : lookup (same_field f) new ≡ lookup (same_field f) by_step = put_same f ∙ ap (λ b. cond b (Some place) (lookup (same_field f) by_step)) n in
+        ap (option_or l) same ∙ sym (leads by_key by_step t f) ∙ sym (ap (λ b. cond b (Some place) old) n))
+
+  -- at its key, where no other step stands
+  module _ (new : List (ℕ × (Field × ℕ))) (free : IsFirst by_key x) (sorted : IsStrictlySortedBy nat_cmp (keys_of new))
+      (put : (k : ℕ) → at_key new k ≡ cond (is_at (nat_cmp (step_key x)) k) (Some (x, place)) (at_key by_key k)) where
+    at_other : (f : Field) → is_at (nat_cmp (step_key x)) (step_key f) ≡ false → at_key new (step_key f) ≡ at_key by_key (step_key f)
+    at_other f n = put (step_key f) ∙ rw n refl
+
+    at_same : (f : Field) → is_at (nat_cmp (step_key x)) (step_key f) ≡ true → at_key new (step_key f) ≡ Some (x, place)
+    at_same f y = put (step_key f) ∙ rw y refl
+
+    -- what stood at the key before is the step
+    was : (f : Field) (v : Field × ℕ) → is_at (nat_cmp (step_key x)) (step_key f) ≡ true → at_key by_key (step_key f) ≡ Some v → x ≡ v.0
+    was f v y e = free v (ap (at_key by_key) (same_key (step_key x) (step_key f) y) ∙ e)
+
+    pub more_by_key : IsChildTree new by_step
+    more_by_key = record {
+      keys = sorted;
+      steps = t.steps;
+      keyed = λ k v e.
+          by_bool (is_at (nat_cmp (step_key x)) k)
+          (λ y.
+          let is : Some (x, place) ≡ Some v = sym (put k ∙ rw y refl) ∙ e in
+          let first : x ≡ v.0 = ap (λ (o : Option (Field × ℕ)). elim o as (λ _. Field) [ None ↦ x | Some w ↦ w.0 ]) is in
+          ap step_key (sym first) ∙ same_key (step_key x) k y)
+          (λ n. t.keyed k v (sym (put k ∙ rw n refl) ∙ e));
+      taken = λ f i e.
+          let old = t.taken f i e in
+          by_bool (is_at (nat_cmp (step_key x)) (step_key f))
+          (λ y. ((x, place), at_same f y, ap (same_field f) (was f old.0 y old.1) ∙ old.2))
+          (λ n. (old.0, at_other f n ∙ old.1, old.2));
+    }
+
+    led_new : (f : Field) → led_by f (at_key new (step_key f)) ≡ cond (same_field x f) (Some place) (led_by f (at_key by_key (step_key f)))
+    led_new f =
+        let l : Option ℕ = led_by f (at_key by_key (step_key f)) in
+        let put_here : (b : Bool) → same_field x f ≡ b → led_by f (Some (x, place)) ≡ cond b (Some place) None = λ b e. ap (λ t. cond t (Some place) None) (same_field_equiv.symm f x ∙ e) in
+        by_bool (same_field x f)
+        (λ y.
+        let is : x ≡ f = (same_field-Decides x f).0 y in
+        ap (led_by f) (at_same f (own_key (step_key x) (step_key f) (ap step_key is))) ∙ put_here true y ∙ sym (ap (λ b. cond b (Some place) l) y))
+        (λ n.
+        by_bool (is_at (nat_cmp (step_key x)) (step_key f))
+        (λ y.
+        let none : l ≡ None = by_option (at_key by_key (step_key f)) (λ e. ap (led_by f) e) (λ v e.
+        let other : same_field f v.0 ≡ false = sym (ap (same_field f) (was f v y e)) ∙ same_field_equiv.symm f x ∙ n in
+        ap (led_by f) e ∙ ap (λ b. cond b (Some v.1) None) other) in
+        ap (led_by f) (at_same f y) ∙ put_here false n ∙ sym none ∙ sym (ap (λ b. cond b (Some place) l) n))
+        (λ o. ap (led_by f) (at_other f o) ∙ sym (ap (λ b. cond b (Some place) l) n)))
+
+    pub led_more_by_key : (f : Field) → lookup (same_field f) (steps_in new by_step) ≡ cond (same_field x f) (Some place) (lookup (same_field f) (steps_in by_key by_step))
+    led_more_by_key f =
+        leads new by_step more_by_key f
+        ∙ ap (λ o. option_or o (lookup (same_field f) by_step)) (led_new f)
+        ∙ by_bool (same_field x f) (λ y. rw y refl) (λ n. rw n (sym (leads by_key by_step t f)))
+
+-- the invariant of no child
+pub no_steps : IsChildTree [] []
+unfolding IsStrictlySortedBy
+no_steps = record {
+  keys = tt;
+  steps = tt;
+  keyed = λ k v e. absurd (cc);
+  taken = λ f i e. absurd (cc);
+}

@@ -6,8 +6,7 @@
 
 ghost use Rattle.std.specs.Prelude.{◌≡◌, ◌⊎◌, Err, IfErr, IfOk, IsErr, IsTrue};
 ghost use Rattle.vortex_dtype.specs.Types.Nullability.TheVariants.{Nullable};
-ghost use Rattle.vortex_dtype.specs.Types.MessageFault.TheVariants.{ListElementMissing, TypeMissing};
-ghost use Rattle.vortex_dtype.specs.Types.VortexError.TheVariants.{Message as Faulty, OutOfMemory};
+ghost use Rattle.vortex_dtype.specs.Types.VortexError.TheVariants.{OutOfMemory};
 ghost use Rattle.vortex_dtype.specs.Types.VortexError.{VortexError};
 ghost use Rattle.vortex_dtype.specs.Nullable.{SetNull};
 ghost use Rattle.vortex_dtype.specs.TreeOf.{tree};
@@ -92,46 +91,4 @@ pub fn read_knowing_nothing(alloc: Global, proto: &pb::DType) -> VortexResult<DT
 {
     let session = DTypeSession::new(alloc);
     DType::from_proto(alloc, proto, &session)
-}
-
-/// A list without an element: refused by its number, whatever the session knows.
-pub fn read_unfinished_list(
-    alloc: Global,
-    nullable: bool,
-    session: &DTypeSession,
-) -> VortexResult<DType>
-    ensures { IfErr result (λ e. (e ≡ OutOfMemory) ⊎ (e ≡ Faulty ListElementMissing)) }
-{
-    let list = pb::List {
-        element_type: None,
-        nullable,
-    };
-    let kind = pb::DtypeType::List(Box::new(alloc, list)?);
-    let proto = pb::DType {
-        dtype_type: Some(kind),
-    };
-    DType::from_proto(alloc, &proto, session)
-}
-
-/// A map without a value whose key lacks its type: the key's fault comes first.
-pub fn read_unfinished_map(
-    alloc: Global,
-    keys_sorted: bool,
-    nullable: bool,
-    session: &DTypeSession,
-) -> VortexResult<DType>
-    ensures { IfErr result (λ e. (e ≡ OutOfMemory) ⊎ (e ≡ Faulty TypeMissing)) }
-{
-    let key = pb::DType { dtype_type: None };
-    let map = pb::Map {
-        key_type: Some(Box::new(alloc, key)?),
-        value_type: None,
-        keys_sorted,
-        nullable,
-    };
-    let kind = pb::DtypeType::Map(Box::new(alloc, map)?);
-    let proto = pb::DType {
-        dtype_type: Some(kind),
-    };
-    DType::from_proto(alloc, &proto, session)
 }

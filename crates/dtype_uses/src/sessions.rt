@@ -87,29 +87,6 @@ pub fn read_by_a_new_session(
     DTypeSession::new(alloc).deserialize(id, metadata, storage)
 }
 
-/// Registers a plugin, and leaves alone whether unknown ids are kept.
-pub fn register_and_ask(
-    session: &mut DTypeSession,
-    plugin: Box<dyn ExtDTypePlugin>,
-) -> VortexResult<bool>
-    ensures { IfOk result (λ b. b ≡ (meaning rewrites session.old).unknown) }
-{
-    session.register(plugin)?;
-    Ok(session.allows_unknown())
-}
-
-/// Unknown ids stay kept whatever is registered afterwards.
-pub fn allow_and_register(
-    session: &mut DTypeSession,
-    plugin: Box<dyn ExtDTypePlugin>,
-) -> VortexResult<bool>
-    ensures { IfOk result (λ b. IsTrue b) }
-{
-    session.allow_unknown();
-    session.register(plugin)?;
-    Ok(session.allows_unknown())
-}
-
 /// An extension read by the second of two plugins of one id: as the second writes it back.
 pub fn read_by_the_last(
     session: &mut DTypeSession,
@@ -125,23 +102,6 @@ pub fn read_by_the_last(
 {
     session.register(first)?;
     session.register(second)?;
-    session.deserialize(id, metadata, storage)
-}
-
-/// An extension of another id than the one that is registered, where unknown ids are kept: its metadata stays.
-pub fn read_beside(
-    alloc: Global,
-    plugin: Box<dyn ExtDTypePlugin>,
-    id: &str,
-    metadata: &[u8],
-    storage: DType,
-) -> VortexResult<ExtDTypeRef>
-    requires { id_text plugin ≢ id.now }
-    ensures { Valid (tree storage) → IfOk result (λ e. extension_metadata e ≡ metadata.now) }
-{
-    let mut session = DTypeSession::new(alloc);
-    session.register(plugin)?;
-    session.allow_unknown();
     session.deserialize(id, metadata, storage)
 }
 

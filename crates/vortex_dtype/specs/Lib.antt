@@ -62,6 +62,7 @@ pub use Rattle.dtype_paths.specs.PathOrder
 pub use Rattle.dtype_types.specs.IsValid
 pub use Rattle.dtype_types.specs.Distinct
 pub use Rattle.dtype_types.specs.FieldTypes
+pub use Rattle.dtype_paths.specs.lemmas.PathOrders
 pub use Rattle.dtype_types.specs.lemmas.JoinedFields
 pub use Rattle.dtype_types.specs.lemmas.NullValues
 pub use Rattle.dtype_types.specs.lemmas.Nullabilities

@@ -3,7 +3,7 @@
 
 // Types and paths from messages, and messages from types: `read` goes over a message, `kinds` makes the type of
 // each kind, `write` makes the messages.
-#![tactic(auto, using(crate::specs::lemmas::PathMessages::path_by_steps))]
+#![tactic(auto, using(crate::specs::lemmas::PathMessages::path_by_steps, crate::specs::lemmas::PathMessages::path_there))]
 
 ghost use Rattle.std.specs.Prelude.{◌≡◌, ◌⊎◌, Some, None, Ok, Err, IfOk, IfErr, IsErr, IsOkUnless, All, Contains, map, string_bytes};
 ghost use Rattle.dtype_base.specs.declared.vortex_error.MessageFault.TheVariants.{PathPartMissing};
@@ -108,6 +108,7 @@ impl FieldPathProto for FieldPath {
     fn from_proto(alloc: Global, proto: &pb::FieldPath) -> VortexResult<FieldPath>
         ensures names { IfOk result (λ p. steps_of proto.now ≡ map Some p) }
         ensures path { IfOk result (λ p. path_of (part_names proto.now) ≡ Some p) }
+        ensures missing { (path_of (part_names proto.now) ≡ None) → IsErr result }
         ensures refused { IfErr result (λ e. (e ≡ OutOfMemory)
             ⊎ ((e ≡ Message PathPartMissing) × Contains (steps_of proto.now) None)) }
     {

@@ -1,0 +1,75 @@
+// SPDX-License-Identifier: Apache-2.0
+// SPDX-FileCopyrightText: Copyright the Vortex contributors
+
+// Commands on the messages of paths.
+use console_paths::say_path;
+use console_types::{Call, ConsoleResult, Line, write_quoted};
+use std::alloc::Global;
+use vortex_dtype::{FieldPath, FieldPathProto, VortexResult, pb};
+
+/// Answers the command, if it is one of these.
+pub fn answer(call: &mut Call<'_>, command: &str) -> ConsoleResult<bool> {
+    match command {
+        "read_path" => read_path(call),
+        "path_message" => copy(call),
+        _ => return Ok(false),
+    }?;
+    Ok(true)
+}
+
+fn read_path(call: &mut Call<'_>) -> ConsoleResult<()> {
+    let message = read_argument(call)?;
+    let path = FieldPath::from_proto(call.alloc, &message)?;
+    say_path(call, &path)
+}
+
+fn copy(call: &mut Call<'_>) -> ConsoleResult<()> {
+    let message = read_argument(call)?.try_clone(call.alloc)?;
+    for part in &message.path {
+        call.separate()?;
+        write_part(&mut call.answer, part)?;
+    }
+    call.end_list()
+}
+
+// Reads the parts up to the line's end.
+fn read_argument(call: &mut Call<'_>) -> ConsoleResult<pb::FieldPath> {
+    let mut path = Vec::new(call.alloc);
+    for _ in 0..call.line.left() {
+        if call.line.is_at_end() {
+            break;
+        }
+        path.push(read_part(call.alloc, &mut call.line)?)?;
+    }
+    Ok(pb::FieldPath { path })
+}
+
+fn read_part(alloc: Global, line: &mut Line<'_>) -> ConsoleResult<pb::Field> {
+    line.take("path")?;
+    line.skip_blanks();
+    line.take("{")?;
+    line.skip_blanks();
+    let mut field_type = None;
+    if line.takes("name") {
+        line.skip_blanks();
+        line.take(":")?;
+        line.skip_blanks();
+        line.take("\"")?;
+        field_type = Some(pb::FieldType::Name(line.quoted_text(alloc)?));
+        line.skip_blanks();
+    }
+    line.take("}")?;
+    Ok(pb::Field { field_type })
+}
+
+fn write_part(out: &mut String, part: &pb::Field) -> VortexResult<()> {
+    match &part.field_type {
+        Some(pb::FieldType::Name(name)) => {
+            out.push_str("path { name: ")?;
+            write_quoted(out, name.as_str())?;
+            out.push_str(" }")?;
+        }
+        None => out.push_str("path {}")?,
+    }
+    Ok(())
+}

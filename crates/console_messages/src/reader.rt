@@ -1,0 +1,282 @@
+// SPDX-License-Identifier: Apache-2.0
+// SPDX-FileCopyrightText: Copyright the Vortex contributors
+
+// The reader of messages in protobuf's text format, which goes down no further than a number of levels.
+use console_types::{Call, ConsoleResult, Line, MOST_LEVELS, expected_at};
+use std::alloc::Global;
+use vortex_dtype::pb;
+
+/// Reads a message that is an argument: a kind, or `{}`.
+pub fn read_argument(call: &mut Call<'_>) -> ConsoleResult<pb::DType> {
+    call.line.skip_blanks();
+    let dtype_type = if call.line.takes("{}") {
+        None
+    } else {
+        Some(read_kind(call.alloc, &mut call.line, MOST_LEVELS)?)
+    };
+    Ok(pb::DType { dtype_type })
+}
+
+// The fields of all kinds.
+#[derive(Drop)]
+struct Parts {
+    nullable: bool,
+    keys_sorted: bool,
+    ptype: i32,
+    precision: u32,
+    scale: i32,
+    size: u32,
+    first: Option<Box<pb::DType>>,
+    second: Option<Box<pb::DType>>,
+    names: Vec<String>,
+    dtypes: Vec<pb::DType>,
+    type_ids: Vec<i32>,
+    id: String,
+    metadata: Option<Vec<u8>>,
+}
+
+impl Parts {
+    // None of them was written.
+    fn new(alloc: Global) -> Self {
+        Parts {
+            nullable: false,
+            keys_sorted: false,
+            ptype: 0,
+            precision: 0,
+            scale: 0,
+            size: 0,
+            first: None,
+            second: None,
+            names: Vec::new(alloc),
+            dtypes: Vec::new(alloc),
+            type_ids: Vec::new(alloc),
+            id: String::new(alloc),
+            metadata: None,
+        }
+    }
+}
+
+// Whether a kind has the field.
+fn has_field(kind: &str, field: &str) -> bool {
+    match field {
+        "nullable" => kind != "null" && kind != "extension",
+        "type" => kind == "primitive",
+        "precision" | "scale" => kind == "decimal",
+        "element_type" => kind == "list" || kind == "fixed_size_list",
+        "size" => kind == "fixed_size_list",
+        "key_type" | "value_type" | "keys_sorted" => kind == "map",
+        "names" | "dtypes" => kind == "struct" || kind == "union",
+        "type_ids" => kind == "union",
+        "id" | "storage_dtype" | "metadata" => kind == "extension",
+        _ => false,
+    }
+}
+
+// Reads a kind, its fields, and the closing brace.
+#[cycle(messages)]
+fn read_kind(alloc: Global, line: &mut Line<'_>, levels: u32) -> ConsoleResult<pb::DtypeType> {
+    let place = line.place();
+    let kind = line.word("a kind of type")?;
+    line.skip_blanks();
+    line.take("{")?;
+    let mut parts = Parts::new(alloc);
+    for _ in 0..line.left() {
+        line.skip_blanks();
+        if line.takes("}") {
+            break;
+        }
+        read_field(alloc, line, kind, &mut parts, levels)?;
+    }
+    kind_of(alloc, kind, parts)?.ok_or(expected_at(place, "a kind of type"))
+}
+
+// Reads a field of a kind.
+#[cycle(messages)]
+fn read_field(
+    alloc: Global,
+    line: &mut Line<'_>,
+    kind: &str,
+    parts: &mut Parts,
+    levels: u32,
+) -> ConsoleResult<()> {
+    let place = line.place();
+    let field = line.word("a field, or }")?;
+    if !has_field(kind, field) {
+        return Err(expected_at(place, "a field of this kind, or }"));
+    }
+    line.skip_blanks();
+    match field {
+        "element_type" | "key_type" | "storage_dtype" => {
+            parts.first = Some(Box::new(alloc, read_part(alloc, line, levels)?)?);
+            Ok(())
+        }
+        "value_type" => {
+            parts.second = Some(Box::new(alloc, read_part(alloc, line, levels)?)?);
+            Ok(())
+        }
+        "dtypes" => Ok(parts.dtypes.push(read_part(alloc, line, levels)?)?),
+        _ => {
+            line.take(":")?;
+            line.skip_blanks();
+            read_value(alloc, line, field, parts)
+        }
+    }
+}
+
+// Reads a message in braces, a level deeper.
+#[cycle(messages)]
+fn read_part(alloc: Global, line: &mut Line<'_>, levels: u32) -> ConsoleResult<pb::DType> {
+    let Some(levels) = levels.checked_sub(1) else {
+        return Err(line.expected("at most 128 levels"));
+    };
+    line.take("{")?;
+    line.skip_blanks();
+    if line.takes("}") {
+        return Ok(pb::DType { dtype_type: None });
+    }
+    let kind = read_kind(alloc, line, levels)?;
+    line.skip_blanks();
+    line.take("}")?;
+    Ok(pb::DType {
+        dtype_type: Some(kind),
+    })
+}
+
+// Reads what stands behind the colon of a field.
+fn read_value(
+    alloc: Global,
+    line: &mut Line<'_>,
+    field: &str,
+    parts: &mut Parts,
+) -> ConsoleResult<()> {
+    match field {
+        "nullable" => parts.nullable = line.boolean()?,
+        "keys_sorted" => parts.keys_sorted = line.boolean()?,
+        "type" => parts.ptype = read_number_of_ptype(line)?,
+        "precision" => parts.precision = line.number("a number of 32 bits")?,
+        "scale" => parts.scale = line.number("a signed number of 32 bits")?,
+        "size" => parts.size = line.number("a number of 32 bits")?,
+        "type_ids" => parts
+            .type_ids
+            .push(line.number("a signed number of 32 bits")?)?,
+        "names" => parts.names.push(read_text(alloc, line)?)?,
+        "id" => parts.id = read_text(alloc, line)?,
+        _ => {
+            line.take("\"")?;
+            parts.metadata = Some(line.quoted(alloc)?);
+        }
+    }
+    Ok(())
+}
+
+fn read_text(alloc: Global, line: &mut Line<'_>) -> ConsoleResult<String> {
+    line.take("\"")?;
+    line.quoted_text(alloc)
+}
+
+// Reads a primitive type's number, or its name.
+fn read_number_of_ptype(line: &mut Line<'_>) -> ConsoleResult<i32> {
+    if line.peek().is_some_and(|byte| byte.is_ascii_alphabetic()) {
+        let place = line.place();
+        let word = line.word("a primitive type")?;
+        return ptype_number(word).ok_or(expected_at(place, "a primitive type"));
+    }
+    line.number("a primitive type")
+}
+
+// The number of the primitive type of this name.
+fn ptype_number(name: &str) -> Option<i32> {
+    match name {
+        "U8" => Some(0),
+        "U16" => Some(1),
+        "U32" => Some(2),
+        "U64" => Some(3),
+        "I8" => Some(4),
+        "I16" => Some(5),
+        "I32" => Some(6),
+        "I64" => Some(7),
+        "F16" => Some(8),
+        "F32" => Some(9),
+        "F64" => Some(10),
+        _ => None,
+    }
+}
+
+// The kind of this name, if there is one, with the fields that it has.
+fn kind_of(alloc: Global, kind: &str, parts: Parts) -> ConsoleResult<Option<pb::DtypeType>> {
+    Ok(match kind {
+        "list" | "fixed_size_list" | "map" | "extension" => boxed_kind(alloc, kind, parts)?,
+        _ => plain_kind(kind, parts),
+    })
+}
+
+fn plain_kind(kind: &str, parts: Parts) -> Option<pb::DtypeType> {
+    let nullable = parts.nullable;
+    match kind {
+        "null" => Some(pb::DtypeType::Null(pb::Null {})),
+        "bool" => Some(pb::DtypeType::Bool(pb::Bool { nullable })),
+        "utf8" => Some(pb::DtypeType::Utf8(pb::Utf8 { nullable })),
+        "binary" => Some(pb::DtypeType::Binary(pb::Binary { nullable })),
+        "variant" => Some(pb::DtypeType::Variant(pb::Variant { nullable })),
+        "primitive" => Some(pb::DtypeType::Primitive(pb::Primitive {
+            ptype: parts.ptype,
+            nullable,
+        })),
+        "decimal" => Some(pb::DtypeType::Decimal(pb::Decimal {
+            precision: parts.precision,
+            scale: parts.scale,
+            nullable,
+        })),
+        "struct" => Some(pb::DtypeType::Struct(pb::Struct {
+            names: parts.names,
+            dtypes: parts.dtypes,
+            nullable,
+        })),
+        "union" => Some(pb::DtypeType::Union(pb::Union {
+            names: parts.names,
+            dtypes: parts.dtypes,
+            type_ids: parts.type_ids,
+            nullable,
+        })),
+        _ => None,
+    }
+}
+
+fn boxed_kind(alloc: Global, kind: &str, parts: Parts) -> ConsoleResult<Option<pb::DtypeType>> {
+    let nullable = parts.nullable;
+    Ok(match kind {
+        "list" => {
+            let element_type = parts.first;
+            let list = pb::List {
+                element_type,
+                nullable,
+            };
+            Some(pb::DtypeType::List(Box::new(alloc, list)?))
+        }
+        "fixed_size_list" => {
+            let list = pb::FixedSizeList {
+                element_type: parts.first,
+                size: parts.size,
+                nullable,
+            };
+            Some(pb::DtypeType::FixedSizeList(Box::new(alloc, list)?))
+        }
+        "map" => {
+            let map = pb::Map {
+                key_type: parts.first,
+                value_type: parts.second,
+                keys_sorted: parts.keys_sorted,
+                nullable,
+            };
+            Some(pb::DtypeType::Map(Box::new(alloc, map)?))
+        }
+        _ => {
+            let extension = pb::Extension {
+                id: parts.id,
+                storage_dtype: parts.first,
+                metadata: parts.metadata,
+            };
+            Some(pb::DtypeType::Extension(Box::new(alloc, extension)?))
+        }
+    })
+}

@@ -1,0 +1,184 @@
+# SPDX-License-Identifier: Apache-2.0
+# SPDX-FileCopyrightText: Copyright the Vortex contributors
+
+"""What the console takes and prints (docs/CONSOLE.md): trees of trees.py as its words."""
+from .trees import ELEMENT
+
+ESCAPES = {"\\": "\\\\", '"': '\\"', "\t": "\\t", "\n": "\\n", "\r": "\\r"}
+
+PRIMITIVES = ["U8", "U16", "U32", "U64", "I8", "I16", "I32", "I64", "F16", "F32", "F64"]
+
+
+def quoted(text):
+    """A text in quotes, with the library's escapes."""
+
+    def one(c):
+        if c in ESCAPES:
+            return ESCAPES[c]
+        return f"\\x{ord(c):02x}" if ord(c) < 0x20 or ord(c) == 0x7F else c
+
+    return '"' + "".join(one(c) for c in text) + '"'
+
+
+def quoted_bytes(data):
+    """Bytes in quotes: printable ASCII as it stands, all else in hexadecimal."""
+
+    def one(byte):
+        if byte in b'\\"':
+            return "\\" + chr(byte)
+        return chr(byte) if 0x20 <= byte < 0x7F else f"\\x{byte:02x}"
+
+    return '"' + "".join(one(byte) for byte in data) + '"'
+
+
+def is_bare(text, also=""):
+    return text != "" and all(ord(c) > 0x7F or c.isalnum() or c == "_" or c in also for c in text)
+
+
+def name(text):
+    return text if is_bare(text) else quoted(text)
+
+
+def ident(text):
+    return text if is_bare(text, ".") else quoted(text)
+
+
+def names(texts):
+    return ",".join(name(text) for text in texts) or "-"
+
+
+def numbers(items):
+    return ",".join(str(item) for item in items) or "-"
+
+
+def several(words):
+    """Items with a blank between them."""
+    return " ".join(words) or "-"
+
+
+def nullability(n):
+    return "Nullable" if n else "NonNullable"
+
+
+def boolean(value):
+    return "true" if value else "false"
+
+
+def data(metadata):
+    return "0x" + metadata.hex()
+
+
+def text(answer):
+    """A text that a call gives."""
+    return answer.replace("\n", "\\n") or '""'
+
+
+def decimal(p, s):
+    return f"decimal({p},{s})"
+
+
+def dtype(t):
+    kind = t[0]
+    if kind == "null":
+        return "null"
+    if kind == "ext":
+        return f"{ident(t[1])}[{data(t[2])}]({dtype(t[3])})"
+    mark = "?" if t[1] else ""
+    if kind == "prim":
+        return t[2] + mark
+    if kind == "dec":
+        return decimal(t[2], t[3]) + mark
+    if kind == "list":
+        return f"list({dtype(t[2])}){mark}"
+    if kind == "fsl":
+        return f"fixed_size_list({dtype(t[3])})[{t[2]}]{mark}"
+    if kind == "map":
+        return f"map({dtype(t[3])}, {dtype(t[4])}, keys_sorted={boolean(t[2])}){mark}"
+    if kind == "struct":
+        return "{" + ", ".join(f"{name(n)}={dtype(c)}" for n, c in t[2]) + "}" + mark
+    if kind == "union":
+        if all(tag == i for i, (_, tag, _) in enumerate(t[2])):
+            variants = [f"{name(n)}={dtype(c)}" for n, _, c in t[2]]
+        else:
+            variants = [f"{name(n)}@{tag}={dtype(c)}" for n, tag, c in t[2]]
+        return f"union({', '.join(variants)}){mark}"
+    return kind + mark
+
+
+def types(items):
+    return several(dtype(t) for t in items)
+
+
+def step(one):
+    return "[]" if one is ELEMENT else name(one)
+
+
+def path(steps):
+    return ".".join(step(one) for one in steps) or "."
+
+
+def paths(items):
+    """Paths in the order in which the console answers them."""
+    return several(sorted((path(p) for p in items), key=lambda p: p.encode()))
+
+
+def given(items):
+    """Paths as they are handed in."""
+    return "".join(" " + path(p) for p in items)
+
+
+def mask(m):
+    return m[0] if m[0] == "all" else f"{m[0]} {path(m[1])}"
+
+
+def field(key, value):
+    """A field of a message: nothing where it has the default value."""
+    return [f"{key}: {boolean(value) if isinstance(value, bool) else value}"] if value else []
+
+
+def part(key, child):
+    """A message within a message: nothing where it is absent."""
+    if child is None:
+        return []
+    inner = message(child)
+    return [f"{key} {{}}" if child[0] == "none" else f"{key} {{ {inner} }}"]
+
+
+def message(m):
+    kind = m[0]
+    if kind == "none":
+        return "{}"
+    words = []
+    if kind == "prim":
+        kind = "primitive"
+        number = m[2]
+        words = [f"type: {PRIMITIVES[number] if 0 <= number < len(PRIMITIVES) else number}"]
+    elif kind == "dec":
+        kind = "decimal"
+        words = field("precision", m[2]) + field("scale", m[3])
+    elif kind == "list":
+        words = part("element_type", m[2])
+    elif kind == "fsl":
+        kind = "fixed_size_list"
+        words = part("element_type", m[3]) + field("size", m[2])
+    elif kind == "map":
+        words = part("key_type", m[3]) + part("value_type", m[4]) + field("keys_sorted", m[2])
+    elif kind in ("struct", "union"):
+        words = [f"names: {quoted(n)}" for n in m[2]] + [word for c in m[3] for word in part("dtypes", c)]
+        if kind == "union":
+            words += [f"type_ids: {tag}" for tag in m[4]]
+    elif kind == "ext":
+        words = ([f"id: {quoted(m[1])}"] if m[1] else []) + part("storage_dtype", m[3])
+        if m[2] is not None:
+            words.append(f"metadata: {quoted_bytes(m[2])}")
+        return f"extension {{ {' '.join(words)} }}" if words else "extension {}"
+    if kind != "null":
+        words += field("nullable", m[1])
+    return f"{kind} {{ {' '.join(words)} }}" if words else f"{kind} {{}}"
+
+
+def path_message(parts):
+    """A path's message: of each part its name, or ELEMENT where it has no kind."""
+    return several("path {}" if one is ELEMENT else f"path {{ name: {quoted(one)} }}" for one in parts)
+
+

@@ -1,0 +1,172 @@
+# SPDX-License-Identifier: Apache-2.0
+# SPDX-FileCopyrightText: Copyright the Vortex contributors
+
+"""Where the library departs from the original (docs/DIFFERENCES.md): what it answers there, by a rule with its
+reason. Everything beside the departure is still asked of the original."""
+from . import trees
+from .original import Panicked, Refused
+from .trees import ELEMENT, type_words
+
+USIZE_MAX = 2**64 - 1
+
+
+def parts(t):
+    """The types that a type is made of."""
+    kind = t[0]
+    if kind == "list":
+        return [t[2]]
+    if kind in ("fsl", "ext"):
+        return [t[3]]
+    if kind == "map":
+        return [t[3], t[4]]
+    if kind in ("struct", "union"):
+        return [child[-1] for child in t[2]]
+    return []
+
+
+def is_subset(o, a, b):
+    """The original looks at the outer nullability of the first type alone. Here a is a subset of b where they are
+    equal but for nullabilities and b is nullable wherever a is: then each value of a is a value of b."""
+
+    def holds(a, b):
+        if a[0] not in ("null", "ext") and a[1] and not b[1]:
+            return False
+        return all(holds(x, y) for x, y in zip(parts(a), parts(b)))
+
+    return o.bool("eqign", type_words(a), type_words(b)) and holds(a, b)
+
+
+def element_size(o, t):
+    """The original multiplies unchecked, and panics where a sum is too large. Here a variable part that the size
+    needs gives none, at size 0 too; else a width of the whole or of a part beyond `usize` is refused (19). Widths of
+    types without parts are the original's, and so is each answer where nothing, no sum before a variable field among
+    it, is too wide."""
+    widest = 0
+
+    def width(t):
+        nonlocal widest
+        kind = t[0]
+        if kind in ("list", "map", "union"):
+            return None
+        if kind == "struct":
+            widths = [width(child) for child in parts(t)]
+            widest = max(widest, sum(known for known in widths if known is not None))
+            total = None if None in widths else sum(widths)
+        elif kind == "fsl":
+            inner = width(t[3])
+            total = None if inner is None else t[2] * inner
+        elif kind == "ext":
+            total = width(t[3])
+        else:
+            found = o.option("size", type_words(t))
+            total = None if found is None else found.number()
+        widest = max(widest, total or 0)
+        return total
+
+    total = width(t)
+    if total is not None and widest > USIZE_MAX:
+        raise Refused(19)
+    if widest <= USIZE_MAX:
+        found = o.option("size", type_words(t))
+        assert total == (None if found is None else found.number()), t
+    return total
+
+
+def resolve(o, path, t):
+    """The original's element step gives none at a fixed-size list; here it gives the element, at every size, as the
+    documentation of `Field::ElementType` says."""
+    found = o.option_type("resolve", trees.path_words(path), type_words(t))
+    if found is not None:
+        return found
+    for k, step in enumerate(path):
+        if step is ELEMENT:
+            outer = o.option_type("resolve", trees.path_words(path[:k]), type_words(t))
+            if outer is not None and outer[0] == "fsl":
+                return resolve(o, path[k + 1 :], outer[3])
+    return None
+
+
+def starts_with_field(o, path, step):
+    """The original panics at the root; here nothing starts with a field there. Of other parts than names the
+    original panics, and here it is the caller's condition."""
+    if not path and step is not ELEMENT:
+        return False
+    return o.bool("startswith", trees.path_words(path), trees.step_words(step))
+
+
+def project(o, names, t):
+    """The original names what it doesn't find; here the refusal tells the place in the projection (16)."""
+    try:
+        return o.type("project", trees.names_words(names), type_words(t))
+    except Refused as refused:
+        assert refused.number == 16
+        missing = (i for i, name in enumerate(names) if o.option("find", trees.hexed(name), type_words(t)) is None)
+        raise Refused(16, position=next(missing)) from None
+
+
+def can_be_nonnullable(o, t):
+    """The original has no test; it panics where it can't."""
+    try:
+        o.type("asnonnull", type_words(t))
+        return True
+    except Panicked:
+        return False
+
+
+def visits(cover):
+    """The original's cover is a loop over pairs of paths. Here it visits each distinct beginning of the paths that it
+    gives once, the root among them, and nothing below them."""
+    return len({path[:k] for path in cover for k in range(len(path) + 1)} | {()})
+
+
+def has_departing_fault(m):
+    """Whether a message holds a primitive number without a name, or a struct whose names and types differ in number."""
+    if m is None:
+        return False
+    if m[0] == "prim":
+        return not 0 <= m[2] <= 10
+    if m[0] == "struct" and len(m[2]) != len(m[3]):
+        return True
+    return any(has_departing_fault(child) for child in children(m))
+
+
+def children(m):
+    """The messages within a message, as they are read."""
+    kind = m[0]
+    if kind == "list":
+        return [m[2]]
+    if kind in ("fsl", "ext"):
+        return [m[3]]
+    if kind == "map":
+        return [m[3], m[4]]
+    return list(m[3]) if kind in ("struct", "union") else []
+
+
+def check_message(o, session, m):
+    """The original takes an unknown primitive number as `u8`, and panics at a struct of more names than types, or
+    fewer. Here they are refused, 25 and 32. Faults are met in the order of reading: each part before what holds it,
+    and a part that is absent before the parts behind it; all others are those that the original meets."""
+    if not has_departing_fault(m):
+        return
+    if m[0] == "prim":
+        raise Refused(25)
+    for child in children(m):
+        if child is None:
+            o.ask("read", session, trees.message_words(m))
+        check_message(o, session, child)
+        o.ask("read", session, trees.message_words(child))
+    if m[0] == "struct" and len(m[2]) != len(m[3]):
+        raise Refused(32)
+
+
+def read(o, session, m):
+    check_message(o, session, m)
+    return o.type("read", session, trees.message_words(m))
+
+
+def same_insides(o, call, a, b):
+    """`==` and the hash of the insides of two types of one kind: the library's users compare them by themselves, the
+    driver asks it of the two types made non-nullable (of extensions as they stand)."""
+    if a[0] != "ext":
+        a, b = (o.type("withnull", 0, type_words(t)) for t in (a, b))
+    return o.bool(call, type_words(a), type_words(b))

@@ -1,0 +1,213 @@
+# SPDX-License-Identifier: Apache-2.0
+# SPDX-FileCopyrightText: Copyright the Vortex contributors
+
+"""The running original, behind its driver, and the library's numbers for its refusals.
+
+The original refuses with free texts. The library has one kind for each, with a number and a text of its own; the
+table below says which of the original's texts is which kind. The values in a text are those that the original
+named."""
+import re
+import subprocess
+
+from .trees import Words
+
+# The library's texts, by number; what is in braces is what the kind carries.
+TEXTS = {
+    0: "out of memory",
+    1: "decimal precision must be between 1 and {max} (inclusive)",
+    2: "decimal precision {precision} exceeds MAX_PRECISION {max}",
+    3: "decimal scale {scale} exceeds MAX_SCALE {max}",
+    4: "decimal scale {scale} is greater than precision {precision}",
+    5: "Cannot convert DType into DecimalType",
+    6: "Cannot convert DType into PType",
+    7: "cannot convert ptype {ptype} to DecimalType",
+    8: "bytes have another length",
+    9: "map key dtype must be non-nullable",
+    10: "union names and dtypes length mismatch",
+    11: "union names and type_ids length mismatch",
+    12: "union must have at least one variant",
+    13: "type_ids must be distinct",
+    14: "union supports at most 256 consecutive variants",
+    15: "union variant names must be distinct",
+    16: "field {position} of the projection not found",
+    17: "index {index} out of bounds for struct with {fields} fields",
+    18: "Can't merge struct fields with duplicate names",
+    19: "element size is bigger than usize",
+    20: "Cannot step into exact root field path",
+    21: "Cannot get starting field from All mask",
+    22: "extension metadata or storage refused",
+    23: "extension id differs",
+    24: "Unrecognized DType",
+    25: "unknown primitive number",
+    26: "precision does not fit in u8",
+    27: "scale does not fit in i8",
+    28: "Invalid list element type",
+    29: "Invalid fixed-size list element type",
+    30: "Invalid map key type",
+    31: "Invalid map value type",
+    32: "struct names and dtypes length mismatch",
+    33: "type_id does not fit in u8",
+    34: "Extension DType missing storage proto",
+    35: "Unregistered extension type ID",
+    36: "FieldPath part missing type",
+}
+
+# How the original's texts begin or are, and their numbers.
+REFUSALS = [
+    (1, r"decimal precision must be between 1 and (?P<max>\d+) \(inclusive\)"),
+    (1, r"precision cannot be 0, has to be between \[1, (?P<max>\d+)\]"),
+    (2, r"decimal precision (?P<precision>\d+) exceeds MAX_PRECISION (?P<max>\d+)"),
+    (2, r"Precision (?P<precision>\d+) is greater than max (?P<max>\d+)"),
+    (3, r"decimal scale (?P<scale>\d+) exceeds MAX_SCALE (?P<max>\d+)"),
+    (3, r"Scale (?P<scale>\d+) is greater than max (?P<max>\d+)"),
+    (4, r"decimal scale (?P<scale>\d+) is greater than precision (?P<precision>\d+)"),
+    (4, r"Scale (?P<scale>\d+) is greater than precision (?P<precision>\d+)"),
+    (5, r"Cannot convert DType .* into DecimalType"),
+    (6, r"Cannot convert DType .* into PType"),
+    (7, r"cannot convert ptype (?P<ptype>\w+) to DecimalType"),
+    (8, r"Failed to convert bytes into \w+"),
+    (9, r"map key dtype must be non-nullable"),
+    (10, r"union names and dtypes length mismatch"),
+    (11, r"union names and type_ids length mismatch"),
+    (12, r"union must have at least one variant \(for now\)"),
+    (13, r"type_ids must be distinct, got \[.*\]"),
+    (14, r"union supports at most 256 consecutive variants, got \d+"),
+    (15, r"union variant names must be distinct, got FieldNames\(.*\)"),
+    (16, r".* not found"),
+    (17, r"index (?P<index>\d+) out of bounds for struct with (?P<fields>\d+) fields"),
+    (18, r"Can't merge struct fields with duplicate names"),
+    (20, r"Cannot step into exact root field path"),
+    (21, r"Cannot get starting field from All mask"),
+    (22, r"plugin: .*"),
+    (24, r"Unrecognized DType"),
+    (26, r"proto precision could not be downcast to u8"),
+    (27, r"proto scale could not be downcast to i8"),
+    (28, r"Invalid list element type"),
+    (29, r"Invalid fixed-size list element type"),
+    (30, r"Invalid map key type"),
+    (31, r"Invalid map value type"),
+    (33, r"Union type_id -?\d+ somehow does not fit in u8"),
+    (34, r"Extension DType missing storage proto"),
+    (35, r"Unregistered extension type ID: .*"),
+    (36, r"FieldPath part missing type"),
+]
+
+
+class Refused(Exception):
+    """A refusal, by its number, with the values that its text shows."""
+
+    def __init__(self, number, **values):
+        super().__init__(number)
+        self.number = number
+        self.values = values
+
+    def __str__(self):
+        return f"{self.number}: {TEXTS[self.number].format(**self.values)}"
+
+
+class Panicked(Exception):
+    """The original panicked with this text: a rule of departures.py has to say what stands here instead."""
+
+
+def refusal_of(text):
+    for number, pattern in REFUSALS:
+        found = re.fullmatch(pattern, text, re.S)
+        if found:
+            return Refused(number, **found.groupdict())
+    raise AssertionError(f"a refusal that isn't known: {text}")
+
+
+class Original:
+    """Asks the driver, and keeps what it answered."""
+
+    def __init__(self, driver):
+        self.process = subprocess.Popen(
+            [driver], stdin=subprocess.PIPE, stdout=subprocess.PIPE, text=True, encoding="utf-8"
+        )
+        self.answers = {}
+
+    def line(self, command):
+        """The driver's answer to a command, as it stands."""
+        if command not in self.answers:
+            assert "\n" not in command and not command.startswith("set."), command
+            self.process.stdin.write(command + "\n")
+            self.process.stdin.flush()
+            answer = self.process.stdout.readline()
+            assert answer.endswith("\n"), f"the driver ended at: {command[:300]}"
+            self.answers[command] = answer[:-1]
+        return self.answers[command]
+
+    def ask(self, *words):
+        """The answer without a refusal; else it is raised."""
+        command = " ".join(str(word) for word in words)
+        answer = self.line(command)
+        if answer.startswith("err "):
+            raise refusal_of(unescaped(answer[4:]))
+        if answer.startswith("panic "):
+            raise Panicked(unescaped(answer[6:]))
+        assert not answer.startswith("bad "), f"{command[:300]}: {answer}"
+        return answer
+
+    def text(self, *words):
+        answer = self.ask(*words)
+        assert answer.startswith("ok "), answer
+        return unescaped(answer[3:])
+
+    def bool(self, *words):
+        answer = self.ask(*words)
+        assert answer in ("true", "false"), answer
+        return answer == "true"
+
+    def word(self, *words):
+        """The one word behind ok, or alone."""
+        answer = self.ask(*words)
+        return answer[3:] if answer.startswith("ok ") else answer
+
+    def read(self, *words):
+        """The words of the answer, behind ok."""
+        return Words(self.word(*words))
+
+    def type(self, *words):
+        found = self.read(*words)
+        t = found.type()
+        found.end()
+        return t
+
+    def path(self, *words):
+        found = self.read(*words)
+        path = found.path()
+        found.end()
+        return path
+
+    def paths(self, *words):
+        found = self.read(*words)
+        paths = [found.path() for _ in range(found.number())]
+        found.end()
+        return paths
+
+    def message(self, *words):
+        found = self.read(*words)
+        m = found.message()
+        found.end()
+        return m
+
+    def option(self, *words):
+        """None, or the words of what is there."""
+        answer = self.ask(*words)
+        if answer == "none":
+            return None
+        assert answer.startswith("some "), answer
+        return Words(answer[5:])
+
+    def option_type(self, *words):
+        found = self.option(*words)
+        if found is None:
+            return None
+        t = found.type()
+        found.end()
+        return t
+
+
+def unescaped(text):
+    """A text of the driver, in which a backslash, a newline and a carriage return are escaped."""
+    return re.sub(r"\\(.)", lambda it: {"\\": "\\", "n": "\n", "r": "\r"}[it.group(1)], text)

@@ -1,19 +1,15 @@
 // SPDX-License-Identifier: Apache-2.0
 // SPDX-FileCopyrightText: Copyright the Vortex contributors
 
-//! Tests of `dtype_native` and `dtype_paths`, a module a topic: worked examples, texts, and each call that takes
-//! memory once with ample memory. They stand on what a user sees, the public items alone; what holds of every
-//! value is proved in the crates themselves.
+//! Tests of `dtype_native` and `dtype_paths`, a module a topic: what no row of the console says, such as generic calls
+//! through their bounds, visitors, the macro, very long paths and very many, and random values against their models.
+//! They stand on what a user sees, the public items alone; what holds of every value is proved in the crates themselves.
 #![tactic(auto)]
 
 #[cfg(test)]
 mod fixtures;
 #[cfg(test)]
-mod masks;
-#[cfg(test)]
 mod native_decimals;
-#[cfg(test)]
-mod native_dtypes;
 #[cfg(test)]
 mod native_integers;
 #[cfg(test)]

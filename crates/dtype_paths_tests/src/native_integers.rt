@@ -1,7 +1,7 @@
 // SPDX-License-Identifier: Apache-2.0
 // SPDX-FileCopyrightText: Copyright the Vortex contributors
 
-use dtype_base::{PType, VortexError, VortexResult};
+use dtype_base::{PType, VortexResult};
 use dtype_native::{
     IntegerPType, NativePType, OffsetBuilderPType, PhysicalPType, ToBytes, TryFromBytes,
     UnsignedPType,
@@ -9,28 +9,6 @@ use dtype_native::{
 use std::cmp::Ordering;
 use std::process::Abort;
 use std::test::Fail;
-
-#[test]
-fn bytes_are_read_least_first(rt: HostRuntime) {
-    assert_eq!(rt; u32::try_from_le_bytes(&[1, 2, 3, 4]), Ok(67305985));
-    assert_eq!(rt; i32::try_from_le_bytes(&[0xFF, 0xFF, 0xFF, 0xFF]), Ok(-1));
-}
-
-#[test]
-fn too_few_bytes_are_refused(rt: HostRuntime) {
-    assert_eq!(rt;
-        u32::try_from_le_bytes(&[1, 2, 3]),
-        Err(VortexError::BytesLength)
-    );
-    assert_eq!(rt; VortexError::BytesLength.number(), 8);
-}
-
-#[test]
-fn bytes_stand_least_first(rt: HostRuntime) {
-    assert_eq!(rt; ToBytes::to_le_bytes(&513u16), [1, 2]);
-    assert_eq!(rt; u16::bytes_of(&[1, 2]), [1, 2].as_slice());
-    assert_eq!(rt; ToBytes::to_le_bytes(&-2i16), [0xFE, 0xFF]);
-}
 
 // What holds of a native integer type, at two of its numbers, of which the first is less.
 fn test_integer<T: IntegerPType + PhysicalPType>(

@@ -3,28 +3,9 @@
 
 // Lookups of names in structs.
 use dtype_base::{FieldName, FieldNames, IndexedNames, VortexResult};
-use dtype_fixtures::booleans;
 use dtype_types::{DType, FieldDType, StructFields};
 use std::alloc::Global;
-use std::process::Abort;
 use std::test::Fail;
-
-fn finds_the_first(rt: &impl Abort, fields: &StructFields, a: usize, b: usize) {
-    assert_eq!(rt; fields.find("a"), Some(a));
-    assert_eq!(rt; fields.find("b"), Some(b));
-    assert_eq!(rt; fields.find("c"), None);
-    assert_eq!(rt; fields.find(""), None);
-}
-
-#[test]
-fn the_first_of_equal_names_is_found(rt: HostRuntime) -> Result<(), Fail> {
-    let alloc = rt.alloc();
-    let fields = booleans(alloc, &["b", "a", "b", "a"])?;
-    finds_the_first(&rt, &fields, 1, 0);
-    let fields = fields.without_field(alloc, 0)?;
-    finds_the_first(&rt, &fields, 0, 1);
-    Ok(())
-}
 
 #[test]
 fn no_field_is_found_among_none(rt: HostRuntime) -> Result<(), Fail> {

@@ -2,8 +2,6 @@
 // SPDX-FileCopyrightText: Copyright the Vortex contributors
 
 use dtype_base::{FieldName, FieldNames, RESERVED_VALIDITY_FIELD_NAME};
-use dtype_fixtures::is_printed;
-use std::collections::HashSet;
 use std::process::Abort;
 use std::rc::RcStr;
 use std::test::Fail;
@@ -29,37 +27,6 @@ fn names_are_texts(rt: HostRuntime) -> Result<(), Fail> {
     Ok(())
 }
 
-fn is_a_list(rt: &impl Abort, names: &FieldNames) {
-    assert_eq!(rt; names.len(), 3);
-    assert_eq!(rt; names.find("a"), Some(0));
-    assert_eq!(rt; names.find("c"), None);
-    assert!(rt; names.eq_texts(&["a", "b\"", "a"]) && !names.eq_texts(&["a", "a", "b\""]));
-}
-
-#[test]
-fn name_lists_are_lists(rt: HostRuntime) -> Result<(), Fail> {
-    let alloc = rt.alloc();
-    let names = FieldNames::from_texts(alloc, &["a", "b\"", "a"])?;
-    is_a_list(&rt, &names);
-    assert_eq!(rt; names[1].as_str(), "b\"");
-    assert!(rt;
-        is_printed(alloc, &names, "[\"a\", \"b\\\"\", \"a\"]")?,
-        "{names}"
-    );
-    assert!(rt; is_printed(alloc, &FieldNames::empty(alloc), "[]")?);
-    Ok(())
-}
-
-#[test]
-fn name_lists_are_kept_in_hash_sets(rt: HostRuntime) -> Result<(), Fail> {
-    let alloc = rt.alloc();
-    let names = FieldNames::from_texts(alloc, &["a", "b"])?;
-    let mut seen = HashSet::new(alloc);
-    let is_new = seen.insert(names.try_clone(alloc)?)?;
-    assert!(rt; is_new && seen.contains(&names));
-    Ok(())
-}
-
 fn lends_two_names(rt: &impl Abort, names: &FieldNames) {
     let mut lent = names.iter();
     assert_eq!(rt; lent.size_hint(), (2, Some(2)));
@@ -78,25 +45,5 @@ fn names_are_iterated_in_order(rt: HostRuntime) -> Result<(), Fail> {
     assert_eq!(rt; owned.len(), 2);
     assert!(rt; owned.next().is_some_and(|name| name.eq_str("a")));
     assert_eq!(rt; owned.size_hint(), (1, Some(1)));
-    Ok(())
-}
-
-#[test]
-fn names_are_printed_escaped(rt: HostRuntime) -> Result<(), Fail> {
-    for (text, want) in [
-        ("", ""),
-        ("field 1", "field 1"),
-        ("a\\b", "a\\\\b"),
-        ("a\"b", "a\\\"b"),
-        ("a\tb", "a\\tb"),
-        ("a\nb", "a\\nb"),
-        ("a\rb", "a\\rb"),
-        ("\x01\x1f", "\\x01\\x1f"),
-        ("\x7f~", "\\x7f~"),
-        ("é€", "é€"),
-    ] {
-        let name = FieldName::new(rt.alloc(), text)?;
-        assert_eq!(rt; name.to_string(rt.alloc())?.as_str(), want);
-    }
     Ok(())
 }

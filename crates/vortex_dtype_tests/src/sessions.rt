@@ -4,11 +4,10 @@
 // Sessions, plugins and typed extensions at work.
 use dtype_fixtures::is_printed;
 use std::alloc::Global;
-use std::process::Abort;
 use std::test::Fail;
 use vortex_dtype::{
     DType, DTypeSession, ExtDType, ExtDTypePlugin, ExtDTypeRef, ExtId, ExtVTable, ForeignExtDType,
-    ForeignExtMetadata, MessageFault, Nullability, PluginOf, VortexError, VortexResult,
+    ForeignExtMetadata, Nullability, PluginOf, VortexError, VortexResult,
 };
 use vortex_dtype_fixtures::{AllKept, Tag, TagName, TextAlone, Word};
 
@@ -37,79 +36,6 @@ fn erased(alloc: Global, id: &str, metadata: &[u8]) -> VortexResult<ExtDTypeRef>
 
 fn tag_name(alloc: Global, bytes: &[u8]) -> VortexResult<TagName> {
     Ok(TagName(Vec::from_slice(alloc, bytes)?))
-}
-
-// That the session refuses this metadata over this storage.
-fn is_refused(rt: &impl Abort, session: &DTypeSession, id: &str, metadata: &[u8], storage: DType) {
-    let made = session.deserialize(id, metadata, storage);
-    assert!(rt; made.is_err_and(|refusal| refusal == VortexError::MetadataRefused));
-}
-
-#[test]
-fn plugins_rewrite_metadata_or_refuse_it(rt: HostRuntime) -> Result<(), Fail> {
-    let alloc = rt.alloc();
-    let mut session = tagging(alloc)?;
-    let read = session.deserialize("x.tag", b"AB", DType::Utf8(NULLABLE))?;
-    assert_eq!(rt; read.metadata_bytes(), b"ab".as_slice());
-    assert!(rt; is_printed(alloc, &read, "x.tag[2B](utf8?)")?, "{read}");
-    session.allow_unknown();
-    is_refused(&rt, &session, "x.tag", b"a!", DType::Utf8(NULLABLE));
-    is_refused(&rt, &session, "x.text", b"", DType::Bool(REQUIRED));
-    is_refused(&rt, &session, "x.text", b"a", DType::Utf8(REQUIRED));
-    Ok(())
-}
-
-#[test]
-fn texts_of_either_nullability_are_taken(rt: HostRuntime) -> Result<(), Fail> {
-    let session = tagging(rt.alloc())?;
-    for n in [REQUIRED, NULLABLE] {
-        let read = session.deserialize("x.text", b"", DType::Utf8(n))?;
-        assert_eq!(rt; read.nullability(), n);
-    }
-    Ok(())
-}
-
-#[test]
-fn the_last_plugin_under_an_id_counts(rt: HostRuntime) -> Result<(), Fail> {
-    let alloc = rt.alloc();
-    let mut session = tagging(alloc)?;
-    session.register(Box::new(alloc, AllKept)?)?;
-    let read = session.deserialize("x.tag", b"AB", DType::Utf8(NULLABLE))?;
-    assert_eq!(rt; read.metadata_bytes(), b"AB".as_slice());
-    assert!(rt; session.registry("x.tag"));
-    assert!(rt; !session.registry("y"));
-    Ok(())
-}
-
-#[test]
-fn unknown_ids_are_refused_until_allowed(rt: HostRuntime) -> Result<(), Fail> {
-    let alloc = rt.alloc();
-    let mut session = tagging(alloc)?;
-    assert!(rt; !session.allows_unknown());
-    let refused = session.deserialize("y", b"AB", DType::Utf8(NULLABLE)).err();
-    assert_eq!(rt;
-        refused,
-        Some(VortexError::Message(MessageFault::ExtensionUnregistered))
-    );
-    session.allow_unknown();
-    assert!(rt; session.allows_unknown());
-    let read = session.deserialize("y", b"AB", DType::Utf8(NULLABLE))?;
-    assert_eq!(rt; read.metadata_bytes(), b"AB".as_slice());
-    assert!(rt; !session.registry("y"));
-    Ok(())
-}
-
-#[test]
-fn a_downcast_reads_the_metadata(rt: HostRuntime) -> Result<(), Fail> {
-    let alloc = rt.alloc();
-    match ExtDType::try_downcast(alloc, erased(alloc, "x.tag", b"AB")?, Tag) {
-        Ok(typed) => {
-            assert_eq!(rt; typed.metadata().0.as_slice(), b"ab".as_slice());
-            assert!(rt; *typed.storage_dtype() == DType::Utf8(REQUIRED));
-        }
-        Err(_) => panic!(rt; "refused"),
-    }
-    Ok(())
 }
 
 #[test]
@@ -194,16 +120,6 @@ fn typed_extensions_have_their_parts(rt: HostRuntime) -> Result<(), Fail> {
         is_printed(alloc, &nullable, "x.tag[2B](utf8?)")?,
         "{nullable}"
     );
-    Ok(())
-}
-
-#[test]
-fn typed_extensions_are_erased_and_read_back(rt: HostRuntime) -> Result<(), Fail> {
-    let alloc = rt.alloc();
-    let bare = tag(alloc, b"ab")?.erased(alloc)?;
-    let same = erased(alloc, "x.tag", b"ab")?;
-    assert!(rt; bare == same);
-    assert!(rt; ExtDType::try_downcast(alloc, bare, Tag).is_ok());
     Ok(())
 }
 

@@ -5,10 +5,10 @@
 //
 // Loaded before the C library (LD_PRELOAD), it looks at the stretches of the program between the lines `begin`
 // and `end` on standard error, or, where WHOLE is set, at the program from its start to its end. REFUSED=N
-// refuses the Nth request of each stretch, and, where ONWARD is set, all behind it. When the program has ended,
-// the file that COUNTS names has a line for each stretch: how many requests were made in it, how many of them
-// were refused, and how many of the blocks that were taken in it were never given back. The last line is that of
-// the rest of the program, where nothing is refused.
+// refuses the Nth request of each stretch, or, where STRETCH=M is set, of the Mth stretch alone, and, where ONWARD
+// is set, all behind it. When the program has ended, the file that COUNTS names has a line for each stretch: how
+// many requests were made in it, how many of them were refused, and how many of the blocks that were taken in it
+// were never given back. The last line is that of the rest of the program, where nothing is refused.
 #include <fcntl.h>
 #include <stdio.h>
 #include <stdlib.h>
@@ -16,7 +16,7 @@
 #include <sys/syscall.h>
 #include <unistd.h>
 
-enum { MOST_STRETCHES = 1 << 10, MOST_BLOCKS = 1 << 16 };
+enum { MOST_STRETCHES = 1 << 13, MOST_BLOCKS = 1 << 18 };
 
 void *__libc_malloc(size_t), *__libc_calloc(size_t, size_t), *__libc_realloc(void *, size_t);
 void __libc_free(void *);
@@ -34,12 +34,14 @@ static struct block {
 } blocks[MOST_BLOCKS];
 static int block_count;
 
-static long first_refused;
+static long first_refused, stretch_refused;
 static int is_onward;
 
 static int refuses(void) {
     now->requests++;
     if (now == &rest || first_refused <= 0)
+        return 0;
+    if (stretch_refused > 0 && now != &stretches[stretch_refused - 1])
         return 0;
     int refused = is_onward ? now->requests >= first_refused : now->requests == first_refused;
     now->refused += refused;
@@ -113,6 +115,8 @@ ssize_t write(int file, const void *bytes, size_t length) {
 __attribute__((constructor)) static void load(void) {
     const char *text = getenv("REFUSED");
     first_refused = text ? atol(text) : 0;
+    const char *place = getenv("STRETCH");
+    stretch_refused = place ? atol(place) : 0;
     is_onward = getenv("ONWARD") != NULL;
     if (getenv("WHOLE"))
         begin();

@@ -5,7 +5,6 @@
 use dtype_uses::orders::columns::customer_column;
 use dtype_uses::orders::money::Money;
 use dtype_uses::orders::query::{asked, columns_to_open};
-use dtype_uses::orders::refusals::{ShopError, required_column};
 use dtype_uses::orders::schema::orders;
 use dtype_uses::orders::stored::read_schema;
 use std::test::Fail;
@@ -46,16 +45,5 @@ fn a_stored_schema_is_read_under_a_session(rt: HostRuntime) -> Result<(), Fail> 
     assert_eq!(rt; read_schema(alloc, &stored, &session)?, price);
     let refused = session.deserialize("shop.money", b"EURO", DType::from(PType::I64));
     assert_eq!(rt; refused, Err(VortexError::MetadataRefused));
-    Ok(())
-}
-
-#[test]
-fn a_column_that_is_not_there_is_refused(rt: HostRuntime) -> Result<(), Fail> {
-    let alloc = rt.alloc();
-    let table = orders(alloc)?;
-    let city = required_column(alloc, &table, "city");
-    assert_eq!(rt; city, Ok(&DType::Utf8(Nullability::Nullable)));
-    let street = required_column(alloc, &table, "street");
-    assert_eq!(rt; street, Err(ShopError::NoColumn));
     Ok(())
 }

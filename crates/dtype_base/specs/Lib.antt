@@ -7,8 +7,8 @@ pub mod Refusals
 pub mod Nullability
 pub mod Primitives
 pub mod FieldNames
-pub mod Places
 pub mod Escapes
 pub mod Decimals
 pub mod NameOrder
 pub mod NameKeys
+pub mod lemmas

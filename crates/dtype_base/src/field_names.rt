@@ -1,11 +1,11 @@
 // SPDX-License-Identifier: Apache-2.0
 // SPDX-FileCopyrightText: Copyright the Vortex contributors
 
-ghost use Rattle.std.specs.Prelude.{◌≡◌, ◌↔◌, ℕ, IsTrue, IfOk, IfSome, IfNone, IsOkUnless, List, [], ◌<◌, length, slice_get, map, Some, nat_eq};
+ghost use Rattle.std.specs.Prelude.{◌≡◌, ◌↔◌, ℕ, IsTrue, IfOk, IsOkUnless, List, [], ◌<◌, length, slice_get, map, Some, nat_eq};
 ghost use Rattle.std.specs.Option.{option_copied};
 ghost use Rattle.std.specs.Iterator.{IsFinite};
 ghost use Rattle.std.specs.Iterator.Runs.{WholeRun};
-ghost use Rattle.dtype_base.specs.FieldNames.{FirstAt, IsAbsent, first_place};
+ghost use Rattle.dtype_base.specs.FieldNames.{first_place};
 ghost use Rattle.dtype_base.specs.declared.vortex_error.VortexError.TheVariants.{OutOfMemory};
 
 use crate::{FieldName, FieldNamesIntoIter, FieldNamesIter, VortexResult};
@@ -125,9 +125,7 @@ impl FieldNames {
 
     /// The first position of the name, or `None` where no name is equal to it.
     pub fn find(&self, name: &str) -> Option<usize>
-        ensures first { result ≡ first_place self.now name.now }
-        ensures found { IfSome result (FirstAt self.now name.now) }
-        ensures none { IfNone result (IsAbsent self.now name.now) }
+        ensures { result ≡ first_place self.now name.now }
     {
         let items = self.items.as_slice();
         for (i, item) in items.iter().enumerate() {

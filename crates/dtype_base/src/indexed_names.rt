@@ -4,7 +4,7 @@
 ghost use Rattle.std.specs.Prelude.{◌≡◌, ◌≢◌, ◌↔◌, ◌+◌, ◌<◌, ◌^◌, AllPairs, IsTrue, IfOk, IfSome, IfNone, IsOkUnless, length, nat_lt};
 ghost use Rattle.std.specs.Ordering.{is_lt, is_eq};
 ghost use Rattle.dtype_base.specs.FieldNames.{FirstAt, IsAbsent, first_place};
-ghost use Rattle.dtype_base.specs.NameOrder.{IsIndexOf, IsWithinDigits, comparisons, mask, place_side};
+ghost use Rattle.dtype_base.specs.NameOrder.{IsIndexOf, comparisons, mask, place_side};
 ghost use Rattle.dtype_base.specs.declared.vortex_error.VortexError.TheVariants.{OutOfMemory};
 
 use crate::name_key::{key_of, shared_beginning};
@@ -67,9 +67,7 @@ impl IndexedNames {
 
     /// The first position of the name, or `None` where no name is equal to it. Takes no memory.
     pub fn find(&self, name: &str) -> Option<usize>
-        ensures first { result ≡ first_place self.now name.now }
-        ensures found { IfSome result (FirstAt self.now name.now) }
-        ensures none { IfNone result (IsAbsent self.now name.now) }
+        ensures { result ≡ first_place self.now name.now }
     {
         self.find_counted(name).0
     }
@@ -77,11 +75,7 @@ impl IndexedNames {
     /// What `find` gives, and how many names it compared: the same number for every name that is looked for.
     pub fn find_counted(&self, name: &str) -> (Option<usize>, u64)
         ensures first { result.0 ≡ first_place self.now name.now }
-        ensures found { IfSome result.0 (FirstAt self.now name.now) }
-        ensures none { IfNone result.0 (IsAbsent self.now name.now) }
         ensures count { result.1 ≡ comparisons (length self.now) }
-        ensures most { IsWithinDigits (length self.now) result.1 }
-        ensures least { 0 < length self.now → 0 < result.1 }
     {
         search(
             self.names.as_slice(),

@@ -9,7 +9,7 @@
 //! Begin with `VortexError` (every refusal of the workspace), then `Nullability`, `PType`,
 //! `DecimalDType`, `DecimalType`, `FieldName`, `FieldNames` and `IndexedNames`. The definitions that the
 //! contracts cite are in `specs/`: `Refusals` (numbers), `Primitives` and `Decimals` (the two tables),
-//! `FieldNames` (`FirstAt`), `NameOrder` (the index of names), `NameKeys` (their keys), `BinaryDigits` and
+//! `FieldNames` (`first_place`), `NameOrder` (the index of names), `NameKeys` (their keys), `BinaryDigits` and
 //! `Escapes` (the text of a name). `laws` states what ties the tables to their meaning. What is proved, and
 //! what is only tested, is in `docs/SPECIFICATION.md`.
 #![tactic(auto)]

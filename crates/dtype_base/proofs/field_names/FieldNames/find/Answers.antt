@@ -1,21 +1,19 @@
 -- SPDX-License-Identifier: Apache-2.0
 -- SPDX-FileCopyrightText: Copyright the Vortex contributors
 
-use Rattle.std.proofs.Common.{◌≡◌, length, slice_get, Some, None, refl, sym, ap, subst, ◌∙◌, arith, inl, inr}
+use Rattle.std.proofs.Common.{◌≡◌, length, slice_get, Some, refl, sym, ap, ◌∙◌, arith, inl, inr}
 use Rattle.std.proofs.lemmas.Option.{slice_get_read, slice_get_within, same_Some}
 use Rattle.std.proofs.lemmas.Bool.{cases_lt, false≢true}
-use Rattle.dtype_base.specs.FieldNames.{FirstAt, IsAbsent}
-use Rattle.dtype_base.specs.Places.{place_found}
+use Rattle.dtype_base.specs.FieldNames.{first_place}
+use Rattle.dtype_base.specs.lemmas.Lookups.{place_of_first, no_place}
 use Rattle.dtype_base.proofs.field_names.FieldNames.find.Goals as goal
 
-pub returns-then-eq_str-clause-found : goal.returns-then-eq_str-clause-found
-returns-then-eq_str-clause-found c =
+pub returns-then-eq_str : goal.returns-then-eq_str
+returns-then-eq_str c =
     let items = c.as_slice-items.result.now in
     let here = slice_get_read items (length items) c.loop-i.i _ refl c.loop-i-test.true c.index-items-i.is ∙ ap Some (c.eq_str.ensures.0 c.if-eq_str.true) in
-    subst (λ names. FirstAt names c.args.name.now c.loop-i.i) (c.as_slice-items.ensures.value ∙ c.self.view_is) (record { here = here; first = c.loop-i.invariant })
-
-pub returns-then-eq_str-clause-first : goal.returns-then-eq_str-clause-first
-returns-then-eq_str-clause-first c = place_found c.args.self.now c.args.name.now (Some c.loop-i.i) (returns-then-eq_str-clause-found c) tt
+    sym (place_of_first items c.args.name.now c.loop-i.i (record { here = here; first = c.loop-i.invariant }))
+    ∙ ap (λ names. first_place names c.args.name.now) (c.as_slice-items.ensures.value ∙ c.self.view_is)
 
 pub loop-i-preserved : goal.loop-i-preserved
 loop-i-preserved c = λ k l e.
@@ -28,10 +26,8 @@ loop-i-preserved c = λ k l e.
           false≢true (sym c.if-eq_str.false ∙ c.eq_str.ensures.1 (same_Some _ _ (sym here ∙ ap (slice_get items) (sym at) ∙ e)))
     ]
 
-pub returns-clause-none : goal.returns-clause-none
-returns-clause-none c =
+pub returns : goal.returns
+returns c =
     let items = c.as_slice-items.result.now in
-    subst (λ names. IsAbsent names c.args.name.now) (c.as_slice-items.ensures.value ∙ c.self.view_is) (λ k e. c.loop-i.invariant k (omega (arith, slice_get_within items k _ e, c.loop-i-test.false)) e)
-
-pub returns-clause-first : goal.returns-clause-first
-returns-clause-first c = place_found c.args.self.now c.args.name.now None tt (returns-clause-none c)
+    sym (no_place items c.args.name.now (λ k e. c.loop-i.invariant k (omega (arith, slice_get_within items k _ e, c.loop-i-test.false)) e))
+    ∙ ap (λ names. first_place names c.args.name.now) (c.as_slice-items.ensures.value ∙ c.self.view_is)

@@ -4,8 +4,7 @@
 use Rattle.std.proofs.Common.{ap, ◌∙◌, length}
 use Rattle.dtype_base.specs.FieldNames.{first_place}
 use Rattle.dtype_base.specs.NameOrder.{comparisons}
-use Rattle.dtype_base.specs.Places.{place_found}
-use Rattle.dtype_base.proofs.NameSearch.{within_digits, some_compared}
+use Rattle.dtype_base.specs.lemmas.Lookups.{place_found}
 use Rattle.dtype_base.proofs.indexed_names.IndexedNames.find_counted.Goals as goal
 
 pub returns-clause-first : goal.returns-clause-first
@@ -15,9 +14,3 @@ returns-clause-first c =
 
 pub returns-clause-count : goal.returns-clause-count
 returns-clause-count c = c.search.ensures.count ∙ ap (λ names. comparisons (length names)) (c.as_slice.ensures ∙ c.self.view_is)
-
-pub returns-clause-most : goal.returns-clause-most
-returns-clause-most c = within_digits _ _ (returns-clause-count c)
-
-pub returns-clause-least : goal.returns-clause-least
-returns-clause-least c = some_compared _ _ (returns-clause-count c)

@@ -9,7 +9,7 @@ ghost use Rattle.dtype_base.specs.FieldNames.{first_place};
 ghost use Rattle.dtype_base.specs.declared.vortex_error.VortexError.TheVariants.{OutOfMemory};
 
 use crate::{FieldName, FieldNamesIntoIter, FieldNamesIter, VortexResult};
-use std::alloc::Global;
+use std::alloc::{AllocError, Global};
 use std::fmt;
 use std::hash::{Hash, Hasher};
 use std::marker::Model;
@@ -223,6 +223,20 @@ impl<'a> IntoIterator for &'a FieldNames {
 
     fn into_iter(self) -> FieldNamesIter<'a> {
         self.iter()
+    }
+}
+
+/// `collect` makes the list of the names that an iterator gives, in order.
+impl FromIterator<FieldName> for FieldNames {
+    type Alloc = Global;
+
+    ghost from_iter_gives = { λ names n. n ≡ names };
+
+    fn from_iter<I: IntoIterator<Item = FieldName>>(
+        alloc: Global,
+        names: I,
+    ) -> Result<FieldNames, AllocError> {
+        Ok(FieldNames::from_vec(names.into_iter().collect(alloc)?))
     }
 }
 

@@ -41,6 +41,8 @@ fn names_are_iterated_in_order(rt: HostRuntime) -> Result<(), Fail> {
     lends_two_names(&rt, &names);
     let copy = FieldNames::from_iter(alloc, names.try_clone(alloc)?)?;
     assert!(rt; copy == names);
+    let collected: FieldNames = copy.into_iter().collect(alloc)?;
+    assert!(rt; collected == names);
     let mut owned = names.into_iter();
     assert_eq!(rt; owned.len(), 2);
     assert!(rt; owned.next().is_some_and(|name| name.eq_str("a")));

@@ -60,6 +60,13 @@ pub fn names_collected(alloc: Global, names: FieldNames) -> VortexResult<Vec<Fie
     Ok(names.into_iter().collect(alloc)?)
 }
 
+/// Names, given up, and made a list of names again: the same ones, in order.
+pub fn names_collected_again(alloc: Global, names: FieldNames) -> VortexResult<FieldNames>
+    ensures { IfOk result (λ again. again ≡ names) }
+{
+    Ok(names.into_iter().collect(alloc)?)
+}
+
 /// The fields of a struct, lent, as a list of pairs: seen with the trees of their types they are all of them, in order.
 pub fn fields_collected(
     alloc: Global,

@@ -4,6 +4,5 @@
 pub mod JoinedTexts
 pub mod EscapedChars
 pub mod BitWidths
-pub mod Narrowest
 pub mod NameSearch
 pub mod KeyOrder

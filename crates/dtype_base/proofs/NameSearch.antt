@@ -26,8 +26,8 @@ use Rattle.std.proofs.lemmas.List.FromFn.{length-range_with_len, get_or-range_wi
 use Rattle.std.proofs.lemmas.List.Sorted.{ranks_by, sorted_far, searchable_from_sorted, length_permutation, Contains-permutation, All-permutation}
 use Rattle.std.proofs.lemmas.Option.{same_Some, slice_get_within, slice_get_read, get_or_from_slice_get}
 use Rattle.dtype_base.specs.FieldNames.{FirstAt, IsAbsent}
-use Rattle.dtype_base.specs.BinaryDigits.{binary_digits, digits_fewest, digits_halved}
-use Rattle.dtype_base.specs.NameOrder.{bytes_cmp, name_cmp, position_cmp, IsOrderOf, positions, mask, comparisons, IsWithinDigits}
+use Rattle.dtype_base.specs.BinaryDigits.{binary_digits, digits_halved}
+use Rattle.dtype_base.specs.NameOrder.{bytes_cmp, name_cmp, position_cmp, IsOrderOf, positions, mask, comparisons}
 use Rattle.dtype_base.specs.declared.name_order.Place.{Place}
 
 bytes_total : IsTotalOrder bytes_cmp
@@ -81,16 +81,6 @@ one_left {size} a b = let none : size - 1 ≡ 0 = omega (arith, a, b) in ap bina
 count_of : (n compared : ℕ) → 0 < n → compared ≡ binary_digits (n - 1) → compared + 1 ≡ comparisons n
 count_of zero compared a e = absurd (omega arith)
 count_of (suc n) compared a e = let less : suc n - 1 ≡ n = omega arith in ap (λ k. k + 1) (e ∙ ap binary_digits less)
-
--- so many comparisons are within the digits
-pub within_digits : (n count : ℕ) → count ≡ comparisons n → IsWithinDigits n count
-within_digits zero count e = record { most = λ digits fits. omega (arith, e) }
-within_digits (suc n) count e = record { most = λ digits fits. let few = digits_fewest n digits (omega (arith, fits)) in omega (arith, e, few) }
-
--- and at least one where there is a name
-pub some_compared : (n count : ℕ) → count ≡ comparisons n → 0 < n → 0 < count
-some_compared zero count e a = absurd (omega arith)
-some_compared (suc n) count e a = omega (arith, e)
 
 -- the names before this place are below n; from it on none is
 abbrev pub AllBelow : List (List ℕ) → List ℕ → List ℕ → ℕ → Type 0

@@ -3,7 +3,7 @@
 
 -- An index of names: their positions in the order of the names' bytes, those of one name in their own
 -- order, each with the key of its name, and how many names a lookup in it compares.
-use Rattle.std.specs.Prelude.{◌≡◌, ℕ, zero, suc, ◌+◌, ◌-◌, ◌<◌, ◌≤◌, ◌^◌, List, Option, Some, Bool, IsTrue, length, map, slice_get, slice_index_or, [], if◌then◌else◌}
+use Rattle.std.specs.Prelude.{◌≡◌, ℕ, zero, suc, ◌+◌, ◌-◌, ◌<◌, ◌^◌, List, Option, Some, Bool, IsTrue, length, map, slice_get, slice_index_or, [], if◌then◌else◌}
 use Rattle.std.specs.List.{All, AllPairs, range_with_len}
 use Rattle.std.specs.List.Sorted.{IsPermutation, IsSorted}
 use Rattle.std.specs.Option.{option_cmp}
@@ -70,7 +70,3 @@ mask b = if b then 2 ^ 64 - 1 else 0
 abbrev pub comparisons : ℕ → ℕ
 comparisons zero = 0
 comparisons (suc n) = binary_digits n + 1
-
--- at most one more than the binary digits of n, of which 0 has none
-pub record IsWithinDigits (n count : ℕ) : Type 0 where
-  pub most : (digits : ℕ) → n < 2 ^ digits → count ≤ digits + 1

@@ -3,3 +3,5 @@
 
 -- Lemmas for callers, a file a topic, each with its ruleset.
 pub mod Lookups
+pub mod Primitives
+pub mod Decimals

@@ -4,7 +4,7 @@
 ghost use Rattle.std.specs.Prelude.{◌≡◌, ◌↔◌, ◌<◌, ◌≤◌, IfOk, IfErr, IsOk, IsTrue, Some};
 ghost use Rattle.std.specs.Option.{ok_or};
 ghost use Rattle.dtype_base.specs.declared.vortex_error.VortexError.TheVariants.{NotDecimalPType};
-ghost use Rattle.dtype_base.specs.Decimals.{greatest_precision, IsValidDecimal, IsDecimalWithin, IsDecimalRefusal, IsBitWidth, bit_width, storage, smallest_storage, IsCompatible, storage_of};
+ghost use Rattle.dtype_base.specs.Decimals.{greatest_precision, IsValidDecimal, IsDecimalWithin, IsDecimalRefusal, IsBitWidth, storage, smallest_storage, storage_of};
 
 use crate::{PType, VortexError, VortexResult};
 use std::fmt;
@@ -14,6 +14,8 @@ use std::marker::Model;
 pub const MAX_PRECISION: u8 = 76;
 /// The greatest scale of a decimal type.
 pub const MAX_SCALE: i8 = MAX_PRECISION as i8;
+
+const _: () = prove!(MAX_PRECISION == 76 && MAX_SCALE == 76);
 
 /// A decimal type: its precision, 1 to 76, is how many digits its values have, and its scale, -128 to
 /// 76, how many of them stand behind the point. A negative scale says how many zeros stand before it.
@@ -52,8 +54,7 @@ impl DecimalDType {
     /// The decimal type of this precision and scale.
     pub fn new(precision: u8, scale: i8) -> Self
         requires { IsDecimalWithin greatest_precision precision scale }
-        ensures precision { result.precision ≡ precision }
-        ensures scale { result.scale ≡ scale }
+        ensures { result ≡ record { precision = precision; scale = scale } }
     {
         Self { precision, scale }
     }
@@ -76,8 +77,7 @@ impl DecimalDType {
 
     /// The least number of bits with room for every number of that many digits: 4 to 253.
     pub fn required_bit_width(&self) -> usize
-        ensures least { IsBitWidth self.now.precision result }
-        ensures computed { result ≡ bit_width self.now.precision }
+        ensures { IsBitWidth self.now.precision result }
     {
         usize::from(BIT_WIDTHS[usize::from(self.precision) - 1])
     }
@@ -142,8 +142,7 @@ pub enum DecimalType {
 impl DecimalType {
     /// The narrowest that has all values of the decimal type's precision: up to 2, 4, 9, 18, 38 and 76 digits.
     pub fn smallest_decimal_value_type(decimal: &DecimalDType) -> DecimalType
-        ensures first { smallest_storage decimal.now.precision ≡ Some result }
-        ensures enough { decimal.now.precision ≤ (storage result).digits }
+        ensures { smallest_storage decimal.now.precision ≡ Some result }
     {
         match decimal.precision() {
             ..=2 => DecimalType::I8,
@@ -171,8 +170,7 @@ impl DecimalType {
 
     /// Whether it has all values of the decimal type's precision.
     pub fn is_compatible_decimal_value_type(self, decimal: DecimalDType) -> bool
-        ensures order { IsTrue result ↔ IsCompatible self decimal.precision }
-        ensures enough { IsTrue result ↔ (decimal.precision ≤ (storage self).digits) }
+        ensures { IsTrue result ↔ (decimal.precision ≤ (storage self).digits) }
     {
         self >= DecimalType::smallest_decimal_value_type(&decimal)
     }

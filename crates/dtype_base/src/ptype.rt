@@ -1,7 +1,7 @@
 // SPDX-License-Identifier: Apache-2.0
 // SPDX-FileCopyrightText: Copyright the Vortex contributors
 
-ghost use Rattle.std.specs.Prelude.{◌≡◌, ◌↔◌, ◌+◌, ◌-◌, ◌*◌, ◌^◌, ◌≤◌, IsTrue, Some};
+ghost use Rattle.std.specs.Prelude.{◌≡◌, ◌↔◌, ◌*◌, IsTrue, Some};
 
 use std::fmt;
 
@@ -25,8 +25,7 @@ pub enum PType {
 const F16_MAX: u64 = 65504;
 
 impl PType {
-    ghost use Rattle.dtype_base.specs.Primitives.{primitive, IsUnsigned, IsSigned, IsInteger, IsFloat, HoldsUnsigned, HoldsSigned, IsNarrowest, narrowest_signed, narrowest_unsigned, wider};
-    ghost use Rattle.dtype_base.specs.Primitives.NumberKind.{Unsigned, Signed};
+    ghost use Rattle.dtype_base.specs.Primitives.{primitive, IsUnsigned, IsSigned, IsInteger, IsFloat, narrowest_signed, narrowest_unsigned, wider};
 
     /// Whether values are unsigned integers.
     pub fn is_unsigned_int(self) -> bool
@@ -58,8 +57,7 @@ impl PType {
 
     /// How many bytes a value takes: 1, 2, 4 or 8.
     pub fn byte_width(&self) -> usize
-        ensures width { result ≡ (primitive self.now).bytes }
-        ensures bound { result ≤ 8 }
+        ensures { result ≡ (primitive self.now).bytes }
     {
         match self {
             PType::U8 | PType::I8 => 1,
@@ -78,9 +76,7 @@ impl PType {
 
     /// The greatest value, or the greatest `u64` where a float's is above that.
     pub fn max_value_as_u64(&self) -> u64
-        ensures value { result ≡ (primitive self.now).greatest }
-        ensures unsigned { IsUnsigned self.now → result + 1 ≡ 2 ^ (8 * (primitive self.now).bytes) }
-        ensures signed { IsSigned self.now → result + 1 ≡ 2 ^ (8 * (primitive self.now).bytes - 1) }
+        ensures { result ≡ (primitive self.now).greatest }
     {
         match self {
             PType::U8 => u64::from(u8::MAX),
@@ -98,9 +94,7 @@ impl PType {
 
     /// The signed integer of the same width. A float gives itself.
     pub fn to_signed(self) -> PType
-        ensures value { result ≡ (primitive self).signed }
-        ensures same_width { (primitive result).bytes ≡ (primitive self).bytes }
-        ensures signed { IsInteger self → IsSigned result }
+        ensures { result ≡ (primitive self).signed }
     {
         match self {
             PType::U8 => PType::I8,
@@ -114,9 +108,7 @@ impl PType {
 
     /// The unsigned integer of the same width. A float gives itself.
     pub fn to_unsigned(self) -> PType
-        ensures value { result ≡ (primitive self).unsigned }
-        ensures same_width { (primitive result).bytes ≡ (primitive self).bytes }
-        ensures unsigned { IsInteger self → IsUnsigned result }
+        ensures { result ≡ (primitive self).unsigned }
     {
         match self {
             PType::I8 => PType::U8,
@@ -130,8 +122,7 @@ impl PType {
 
     /// The narrowest unsigned integer that holds the value.
     pub fn min_unsigned_ptype_for_value(value: u64) -> PType
-        ensures first { narrowest_unsigned value ≡ Some result }
-        ensures narrowest { IsNarrowest Unsigned (HoldsUnsigned value) result }
+        ensures { narrowest_unsigned value ≡ Some result }
     {
         if value <= u64::from(u8::MAX) {
             PType::U8
@@ -146,8 +137,7 @@ impl PType {
 
     /// The narrowest signed integer that holds the value.
     pub fn min_signed_ptype_for_value(value: i64) -> PType
-        ensures first { narrowest_signed value ≡ Some result }
-        ensures narrowest { IsNarrowest Signed (HoldsSigned value) result }
+        ensures { narrowest_signed value ≡ Some result }
     {
         if i64::from(i8::MIN) <= value && value <= i64::from(i8::MAX) {
             PType::I8

@@ -2,6 +2,8 @@
 // SPDX-FileCopyrightText: Copyright the Vortex contributors
 
 //! A builder of arrays: how wide its offsets and rows are, and which arrays it may append.
+#![tactic(auto, using(dtype_base::specs::lemmas::Primitives::primitives))]
+
 ghost use Rattle.std.specs.Prelude.{◌≡◌, ◌↔◌, IfOk, IfSome, IsTrue};
 ghost use Rattle.dtype_base.specs.Primitives.{HoldsUnsigned, IsNarrowest};
 ghost use Rattle.dtype_base.specs.Primitives.NumberKind.{Unsigned};

@@ -2,7 +2,7 @@
 // SPDX-FileCopyrightText: Copyright the Vortex contributors
 
 // Lookups of fields, by name and by position.
-#![tactic(auto, using(dtype_types::specs::lemmas::JoinedFields::joined_fields))]
+#![tactic(auto, using(dtype_types::specs::lemmas::JoinedFields::joined_fields, dtype_base::specs::lemmas::Lookups::lookups))]
 
 ghost use Rattle.std.specs.Prelude.{◌≡◌, ◌+◌, ◌<◌, ◌≤◌, None, Some, IfOk, IsSome, IsTrue, length, true};
 ghost use Rattle.std.specs.Option.{option_map};
@@ -46,7 +46,6 @@ pub fn place_among_a_thousand(fields: &StructFields, name: &str) -> (Option<usiz
     ensures place { result.0 ≡ first_place (field_names (children fields.now)) name.now }
     ensures few { result.1 ≤ 11 }
 {
-    dtype_base::laws::lookups_are_within_digits(10);
     fields.find_counted(name)
 }
 

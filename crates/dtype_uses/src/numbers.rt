@@ -2,6 +2,8 @@
 // SPDX-FileCopyrightText: Copyright the Vortex contributors
 
 // Names of numbers, and their bytes.
+#![tactic(auto, using(dtype_base::specs::lemmas::Decimals::decimals))]
+
 ghost use Rattle.std.specs.Prelude.{◌≡◌};
 
 use dtype_base::{DecimalDType, PType};

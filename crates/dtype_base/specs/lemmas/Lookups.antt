@@ -11,7 +11,7 @@ use Rattle.std.proofs.lemmas.List.Quantifiers.{position-Some}
 use Rattle.std.proofs.lemmas.List.Sums.{position_or_len_is, fails_before_first}
 use Rattle.std.proofs.lemmas.Option.{slice_get_within, get_or_from_slice_get, slice_get-get_or}
 use Rattle.std.proofs.lemmas.Slice.Eq.{bytes_eq-Decides}
-use Rattle.dtype_base.specs.BinaryDigits.{digits_fewest}
+use Rattle.dtype_base.specs.BinaryDigits.{digits_reach, digits_fewest}
 use Rattle.dtype_base.specs.FieldNames.{FirstAt, IsAbsent, first_place}
 use Rattle.dtype_base.specs.NameOrder.{comparisons}
 
@@ -89,4 +89,4 @@ pub some_compared : (n count : ℕ) → count ≡ comparisons n → 0 < n → 0 
 some_compared zero count e a = absurd (omega arith)
 some_compared (suc n) count e a = omega (arith, e)
 
-pub ruleset lookups = (place_of_first, no_place, place_found, first_of_place, absent_of_place, found_first, none_absent, few_compared, some_compared)
+pub ruleset lookups = (place_of_first, no_place, place_found, first_of_place, absent_of_place, found_first, none_absent, few_compared, some_compared, digits_reach, digits_fewest)

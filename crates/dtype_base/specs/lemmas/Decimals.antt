@@ -1,0 +1,78 @@
+-- SPDX-License-Identifier: Apache-2.0
+-- SPDX-FileCopyrightText: Copyright the Vortex contributors
+
+-- What follows of decimals and of what stores them: `decimals` names it in one line,
+--     #![tactic(auto, using(dtype_base::specs::lemmas::Decimals::decimals))]
+use Rattle.std.proofs.Common.{◌≡◌, ◌↔◌, ◌+◌, ◌-◌, ◌*◌, ◌^◌, ◌<◌, ◌≤◌, ℕ, zero, suc, Bool, true, false, cond, ◌&&◌, nat_le, nat_lt, Some, None, refl, sym, ap, subst, ◌∙◌, add-zero, arith}
+use Rattle.std.proofs.lemmas.Bool.{and_parts, leb-true, ltb-true, ltb-false}
+use Rattle.std.proofs.lemmas.Option.{same_Some}
+use Rattle.std.proofs.Math.Pow.{pow_mono}
+use Rattle.std.proofs.Math.Nat.{lt_of_le_of_lt}
+use Rattle.dtype_base.specs.Decimals.{greatest_precision, IsBitWidth, bit_width, storage, smallest_storage, IsCompatible}
+use Rattle.dtype_base.specs.declared.decimal.DecimalType.{DecimalType}
+use Rattle.dtype_base.specs.declared.decimal.DecimalType.TheVariants.{I8, I16, I32, I64, I128, I256}
+
+-- ---- the bit width of a precision
+
+-- it is one number
+at_most : (p b c : ℕ) → IsBitWidth p b → IsBitWidth p c → b ≤ c
+at_most p b c h k = go (nat_lt c b) refl
+  where
+    go : (t : Bool) → nat_lt c b ≡ t → b ≤ c
+    go true e = let below = h.least c (ltb-true c b e) in let enough = k.enough in absurd (omega arith)
+    go false e = ltb-false c b e
+
+pub one_bit_width : (p b c : ℕ) → IsBitWidth p b → IsBitWidth p c → b ≡ c
+one_bit_width p b c h k = let there = at_most p b c h k in let back = at_most p c b k h in omega arith
+
+-- so many precisions from p have the bit widths that are computed: one test, which computes
+abbrev are_computed : ℕ → ℕ → Bool
+are_computed p zero = true
+are_computed p (suc count) = (nat_le (10 ^ p) (2 ^ bit_width p) && nat_lt (2 ^ (bit_width p - 1)) (10 ^ p)) && are_computed (p + 1) count
+
+all_computed : are_computed 1 76 ≡ true
+all_computed = refl
+
+bit_width_tested : (p b : ℕ) → (nat_le (10 ^ p) (2 ^ b) && nat_lt (2 ^ (b - 1)) (10 ^ p)) ≡ true → IsBitWidth p b
+bit_width_tested p b e =
+    let both = and_parts _ _ e in
+    record {
+      enough = leb-true _ _ both.0;
+      least = λ c below. let up : c ≤ b - 1 = omega arith in lt_of_le_of_lt (pow_mono up) (ltb-true _ _ both.1);
+    }
+
+computed_at : (p count i : ℕ) → are_computed p count ≡ true → i < count → IsBitWidth (p + i) (bit_width (p + i))
+computed_at p zero i e inside = absurd (omega arith)
+computed_at p (suc count) zero e inside = rw add-zero (bit_width_tested p (bit_width p) (and_parts _ _ e).0)
+computed_at p (suc count) (suc i) e inside =
+    let next : (p + 1) + i ≡ p + suc i = omega arith in
+    subst (λ q. IsBitWidth q (bit_width q)) next (computed_at (p + 1) count i (and_parts _ _ e).1 (omega arith))
+
+pub bit_width_is_least : (p : ℕ) → 1 ≤ p → p ≤ greatest_precision → IsBitWidth p (bit_width p)
+bit_width_is_least p some most =
+    let place : 1 + (p - 1) ≡ p = omega (arith, some) in
+    subst (λ q. IsBitWidth q (bit_width q)) place (computed_at 1 76 (p - 1) all_computed (omega (arith, some, most)))
+
+pub bit_width_is : (p b : ℕ) → IsBitWidth p b → 1 ≤ p → p ≤ greatest_precision → b ≡ bit_width p
+bit_width_is p b h some most = one_bit_width p b (bit_width p) h (bit_width_is_least p some most)
+
+-- ---- what stores so many digits
+
+-- it has all values of its number of digits, of either sign, and no more digits would fit
+pub digits_fit : (t : DecimalType) → 10 ^ (storage t).digits ≤ 2 ^ (8 * (storage t).bytes - 1)
+digits_fit I8 = leb-true _ _ refl
+digits_fit I16 = leb-true _ _ refl
+digits_fit I32 = leb-true _ _ refl
+digits_fit I64 = leb-true _ _ refl
+digits_fit I128 = leb-true _ _ refl
+digits_fit I256 = leb-true _ _ refl
+
+pub digits_are_most : (t : DecimalType) → 2 ^ (8 * (storage t).bytes - 1) < 10 ^ ((storage t).digits + 1)
+digits_are_most I8 = ltb-true _ _ refl
+digits_are_most I16 = ltb-true _ _ refl
+digits_are_most I32 = ltb-true _ _ refl
+digits_are_most I64 = ltb-true _ _ refl
+digits_are_most I128 = ltb-true _ _ refl
+digits_are_most I256 = ltb-true _ _ refl
+
+pub ruleset decimals = (one_bit_width, bit_width_is_least, bit_width_is, digits_fit, digits_are_most)

@@ -15,14 +15,19 @@ use Rattle.dtype_paths.specs.Equality.{same_field}
 use Rattle.dtype_paths.specs.EqualityLaws.{same_field-Decides}
 use Rattle.dtype_paths.specs.declared.field.Field.{Field}
 use Rattle.dtype_paths.specs.declared.node.Node.{Node}
-use Rattle.dtype_paths.specs.Trie.{child_at, end_at, chain_step, walk, IsAlike, IsChain, IsTrie, IsTrieBy}
-use Rattle.dtype_paths.proofs.NodePlaces.{child-left, child-right, end-left, end-right, split}
-use Rattle.dtype_paths.proofs.TrieGrowth.{Ends, Grows, Leads, trie-grown, trie-first, trie-finish, walk-mono}
+use Rattle.dtype_paths.specs.ListCover.{Gains}
+use Rattle.dtype_paths.specs.Trie.{child_at, end_at, ends, chain_step, walk, IsAlike, IsChain, IsGrown, IsTrie, IsTrieBy}
+use Rattle.dtype_paths.proofs.NodePlaces.{child-left, child-right, end-left, end-right, gains, split}
+use Rattle.dtype_paths.proofs.TrieGrowth.{Ends, Grows, Leads, trie-grown, trie-finish, trie-root, walk-mono}
 
 -- ---- parts of a list
 
 pub take-step : {A : Type 0} (xs : List A) (n : ℕ) (x : A) → n < length xs → x ≡ get_or xs n x → take (n + 1) xs ≡ take n xs ++ x ∷ []
 take-step xs n x h e = take_more xs n x h ∙ ap (λ y. take n xs ++ y ∷ []) (sym e)
+
+-- the same of a list that begins with a root
+pub take-behind : (root : Node) (xs old : List Node) (i : ℕ) (x : Node) → root ∷ xs ≡ old → i < length xs → x ≡ get_or xs i x → take (i + 1 + 1) old ≡ take (i + 1) old ++ x ∷ []
+take-behind root xs old i x is lt e = let one : i + 1 ≡ suc i = omega arith in rw (← is, one) (take-step (root ∷ xs) (suc i) x (omega (arith, lt)) e)
 
 -- ---- a chain, node by node
 
@@ -103,13 +108,34 @@ leads-from child m (x ∷ r) h =
 
 -- ---- the list after a path that leaves it at `here`
 
-module _ (old tail new : List Node) (path : List Field) (here at : ℕ) (x : Field) (trie : IsTrie old) (walked : walk (child_at old) 0 (take at path) ≡ Some here) (lt : at < length path)
-    (part : slice_get path at ≡ Some x) (stop : child_at old here x ≡ None) (chain : IsChain path (drop (at + 1) path) (length old) tail)
-    (long : length new ≡ length old + length tail)
-    (steps : (i : ℕ) (f : Field) → child_at new i f ≡ cond (i == here && same_field x f) (Some (length old)) (child_at (old ++ tail) i f))
-    (finish : (i : ℕ) → end_at new i ≡ end_at (old ++ tail) i) where
+module _ (old new : List Node) (path : List Field) (here at : ℕ) (trie : IsTrie old) (walked : walk (child_at old) 0 (take at path) ≡ Some here) (lt : at < length path)
+    (stopped : (f : Field) → slice_get path at ≡ Some f → child_at old here f ≡ None) (g : IsGrown old here path at new) where
   abbrev pub rest : List Field
   rest = drop (at + 1) path
+
+  abbrev tail : List Node
+  tail = g.tail
+
+  abbrev x : Field
+  x = g.step
+
+  part : slice_get path at ≡ Some g.step
+  part = g.first
+
+  chain : IsChain path rest (length old) g.tail
+  chain = g.chain
+
+  stop : child_at old here g.step ≡ None
+  stop = stopped g.step g.first
+
+  long : length new ≡ length old + length g.tail
+  long = g.long
+
+  steps : (i : ℕ) (f : Field) → child_at new i f ≡ cond (i == here && same_field g.step f) (Some (length old)) (child_at (old ++ g.tail) i f)
+  steps = g.steps
+
+  finish : (i : ℕ) → end_at new i ≡ end_at (old ++ g.tail) i
+  finish = g.ends
 
   there : (i : ℕ) (f : Field) (j : ℕ) → child_at old i f ≡ Some j → i < length old
   there i f j e = option_and_then_some (λ n. child n.children f) (slice_get old i) j e (λ n s g. slice_get_within old i n s)
@@ -186,35 +212,17 @@ module _ (old tail new : List Node) (path : List Field) (here at : ℕ) (x : Fie
       trie-grown (child_at old) (child_at new) (end_at old) (end_at new) (length old) here (take at path) x rest trie walked stop grows (length new) (let l = chain.long in omega arith)
       (subst (Ends (end_at old) (end_at new) (length old + length rest)) parted new_ends)
 
-  pub ends-grown : Ends (end_at old) (end_at new) (length old + length rest) path
-  ends-grown = new_ends
+  pub grown-gains : Gains (ends old) (path ∷ []) (ends new)
+  grown-gains = gains old new (length old + length rest) path new_ends
 
--- ---- the list that one path makes
+-- ---- the root alone
 
-module _ (path : List Field) (new : List Node) (chain : IsChain path path 0 new) where
-  only_end : (i : ℕ) (q : List Field) → end_at new i ≡ Some q → (i ≡ length path) × (q ≡ path)
-  only_end k q e =
-      ⊎_elim
-      (λ low. let n = chain.none k low in let z : None ≡ Some q = sym n ∙ e in absurd (cc))
-      (λ high.
-      let l = chain.long in
-      let w : k < length new = option_and_then_some (λ n. n.end) (slice_get new k) q e (λ n s g. slice_get_within new k n s) in
-      let is : k ≡ length path = omega arith in
-      let z : end_at new (length path) ≡ Some q = rw is at e in
-      let y : Some q ≡ Some path = sym z ∙ chain.last in
-      (is, same_Some q path y))
-      (cases_lt k (length path))
-
-  pub nodes-first : IsTrie new
-  nodes-first = trie-first (child_at new) (end_at new) (length new) path (leads-from (child_at new) 0 path (λ k f. let z : 0 + k ≡ k = omega arith in ap (λ n. child_at new n f) z ∙ chain.steps k f)) chain.long chain.last only_end
-
-  pub ends-first : Ends (end_at []) (end_at new) (length path) path
-  ends-first = record { kept = λ i q e. cc; here = chain.last; only = λ i q e. inr (only_end i q e) }
-
--- a list that isn't empty is a trie
-pub trie_from_some : (nodes : List Node) (n : ℕ) → n ≡ length nodes → (n == 0) ≡ false → (0 < length nodes → IsTrie nodes) → IsTrie nodes
-trie_from_some nodes zero is e t = absurd (cc)
-trie_from_some nodes (suc n) is e t = t (omega (arith, is))
+pub root-alone : (nodes : List Node) → length nodes ≡ 1 → end_at nodes 0 ≡ None → ((f : Field) → child_at nodes 0 f ≡ None) → IsTrie nodes
+root-alone nodes one end steps = subst (IsTrieBy (child_at nodes) (end_at nodes)) (sym one) (trie-root (child_at nodes) (end_at nodes) steps none)
+  where
+    none : (i : ℕ) → end_at nodes i ≡ None
+    none zero = end
+    none (suc i) = end_past nodes (suc i) (omega (arith, one))
 
 -- ---- a list that has at its places what another has
 
@@ -223,7 +231,7 @@ nodes-same old new t a = record {
   inside = λ p i h. let b = t.inside p i (to 0 i p h) in omega (arith, a.long);
   once = λ p q i h k. t.once p q i (to 0 i p h) (to 0 i q k);
   own = λ i q e. back 0 i q (t.own i q (sym (a.ends i) ∙ e));
-  used = λ p i h. let u = t.used p i (to 0 i p h) in (u.0, u.1, a.ends u.0 ∙ u.2);
+  used = λ p i h ne. let u = t.used p i (to 0 i p h) ne in (u.0, u.1, a.ends u.0 ∙ u.2);
 }
   where
     to : (i j : ℕ) (p : List Field) → walk (child_at new) i p ≡ Some j → walk (child_at old) i p ≡ Some j
@@ -271,5 +279,5 @@ module _ (old new : List Node) (path : List Field) (here : ℕ) (trie : IsTrie o
         inside = λ p i h. let b = t.inside p i (to 0 i p h) in omega arith;
         once = λ p q i h k. t.once p q i (to 0 i p h) (to 0 i q k);
         own = λ i q e. back 0 i q (t.own i q e);
-        used = λ p i h. t.used p i (to 0 i p h);
+        used = λ p i h ne. t.used p i (to 0 i p h) ne;
       }

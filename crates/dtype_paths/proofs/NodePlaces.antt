@@ -2,13 +2,13 @@
 -- SPDX-FileCopyrightText: Copyright the Vortex contributors
 
 -- What a list of nodes has at its places.
-use Rattle.std.proofs.Common.{ℕ, suc, zero, ◌+◌, ◌<◌, ◌≤◌, length, take, drop, map, append-nil, is_some, subst, Decides, ◌≡◌, ◌⊎◌, Bool, true, false, ◌&&◌, List, [], ◌∷◌, ◌++◌, Option, Some, None, option_and_then, inl, inr, refl, sym, ap, ◌∙◌, arith, ⊎_elim}
+use Rattle.std.proofs.Common.{ℕ, suc, zero, ◌+◌, ◌<◌, ◌≤◌, length, take, drop, get_or, map, append-nil, is_some, subst, Decides, ◌≡◌, ◌⊎◌, Bool, true, false, ◌&&◌, List, [], ◌∷◌, ◌++◌, Option, Some, None, option_and_then, inl, inr, refl, sym, ap, ◌∙◌, arith, ⊎_elim}
 use Rattle.std.specs.List.{slice_get, Contains, IsDistinct, AllByRecursion, cons_option}
 use Rattle.std.proofs.lemmas.List.Elements.{filter_map-append, Contains-append_left, Contains-append_right, Contains-append_cases, Contains-push, Contains-push_cases}
 use Rattle.std.proofs.lemmas.List.{map-append, take_all}
 use Rattle.std.proofs.lemmas.Map.Keys.{IsDistinct-cons}
 use Rattle.std.proofs.lemmas.Bool.{cases_lt}
-use Rattle.std.proofs.lemmas.Option.{same_Some}
+use Rattle.std.proofs.lemmas.Option.{same_Some, slice_get_read}
 use Rattle.dtype_paths.proofs.ApartLists.{distinct-nil}
 use Rattle.dtype_paths.specs.lemmas.Cases.{by_bool}
 use Rattle.dtype_paths.specs.Children.{child}
@@ -47,6 +47,10 @@ end-left xs ys i h = ap (λ o. option_and_then (λ n. n.end) o) (slice_get-left 
 
 pub end-right : (xs ys : List Node) (k : ℕ) → end_at (xs ++ ys) (length xs + k) ≡ end_at ys k
 end-right xs ys k = ap (λ o. option_and_then (λ n. n.end) o) (slice_get-right xs ys k)
+
+-- what is read of a path
+pub read-step : (path : List Field) (at : ℕ) (x step : Field) → at < length path → x ≡ get_or path at x → step ≡ x → slice_get path at ≡ Some step
+read-step path at x step lt is same = slice_get_read path (length path) at x refl lt is ∙ ap Some (sym same)
 
 -- ---- the list of the ends
 
@@ -173,8 +177,3 @@ module _ {X : Type 0} (f : X → List Field) (xs : List X) (ns : List Node) (n :
 
   pub passed : n.end ≡ None → map f xs ≡ ends (ns ++ n ∷ [])
   passed e = h ∙ sym (rw (ends-push ns n, e) (append-nil (ends ns)))
-
--- the same of a list that may be empty
-pub nodes-distinct : (nodes : List Node) → (0 < length nodes → IsTrie nodes) → IsDistinct same_path (ends nodes)
-nodes-distinct [] h = distinct-nil same_path
-nodes-distinct (n ∷ ns) h = trie-distinct (n ∷ ns) (h (omega arith))

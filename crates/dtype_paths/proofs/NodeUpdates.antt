@@ -2,7 +2,7 @@
 -- SPDX-FileCopyrightText: Copyright the Vortex contributors
 
 -- A list of nodes in which one is changed.
-use Rattle.std.proofs.Common.{ℕ, suc, zero, ◌≡◌, ◌≢◌, ◌∙◌, ◌==◌, ◌&&◌, cond, List, [], ◌∷◌, Option, Some, option_and_then, set, refl, ap}
+use Rattle.std.proofs.Common.{ℕ, suc, zero, ◌≡◌, ◌≢◌, ◌∙◌, ◌==◌, ◌&&◌, cond, List, [], ◌∷◌, Option, Some, option_and_then, set, refl, ap, Result, OnOk, OnErr}
 use Rattle.std.specs.List.{slice_get}
 use Rattle.std.proofs.lemmas.Bool.Decides.{Decides-eqb}
 use Rattle.dtype_paths.specs.Children.{child}
@@ -11,6 +11,7 @@ use Rattle.dtype_paths.specs.Trie.{child_at}
 use Rattle.dtype_paths.specs.declared.field.Field.{Field}
 use Rattle.dtype_paths.specs.declared.node.Node.{Node}
 use Rattle.dtype_paths.specs.lemmas.Cases.{by_bool}
+use Rattle.std.proofs.lemmas.Result.{on_err_weaker, on_ok_weaker}
 
 module _ {A B : Type 0} (f : A → Option B) where
   read-set_same : (xs : List A) (i : ℕ) (x y : A) → slice_get xs i ≡ Some x → option_and_then f (slice_get (set xs i y) i) ≡ f y
@@ -42,3 +43,16 @@ pub child-led : (xs : List Node) (i : ℕ) (m n : Node) (x : Field) (place : ℕ
     → (j : ℕ) (f : Field) → child_at (set xs i n) j f ≡ cond (j == i && same_field x f) (Some place) (child_at xs j f)
 child-led xs i m n x place h up j f =
     read-set (λ k. child k.children f) xs i m n h j ∙ by_bool (j == i) (λ e. let is : j ≡ i = (Decides-eqb j i).0 e in rw (e, is, h) (up f)) (λ e. rw e refl)
+
+-- the same of a root and the nodes behind it, where one of these is changed
+module _ {T E : Type 0} (r : Result T E) (old rest : List Node) (root : Node) (is : root ∷ rest ≡ old) where
+  pub behind-led : (m n : Node) (here behind : ℕ) (x : Field) (place : ℕ) → here ≡ suc behind → slice_get rest behind ≡ Some m → OnOk r ((f : Field) → child n.children f ≡ cond (same_field x f) (Some place) (child m.children f))
+      → OnOk r ((i : ℕ) (f : Field) → child_at (root ∷ set rest behind n) i f ≡ cond (i == here && same_field x f) (Some place) (child_at old i f))
+  behind-led m n here behind x place at there up = rw (at, ← is) (on_ok_weaker r (λ u. child-led (root ∷ rest) (suc behind) m n x place there u) up)
+
+  pub behind-same : (m n : Node) (behind : ℕ) → slice_get rest behind ≡ Some m → OnErr r ((f : Field) → child n.children f ≡ child m.children f)
+      → OnErr r ((i : ℕ) (f : Field) → child_at (root ∷ set rest behind n) i f ≡ child_at old i f)
+  behind-same m n behind there up = rw (← is) (on_err_weaker r (λ u i f. read-kept (λ k. child k.children f) (root ∷ rest) (suc behind) m n there (u f) i) up)
+
+  pub root-same : (n : Node) → OnErr r ((f : Field) → child n.children f ≡ child root.children f) → OnErr r ((i : ℕ) (f : Field) → child_at (n ∷ rest) i f ≡ child_at old i f)
+  root-same n up = rw (← is) (on_err_weaker r (λ u i f. read-kept (λ k. child k.children f) (root ∷ rest) 0 root n refl (u f) i) up)

@@ -2,7 +2,7 @@
 -- SPDX-FileCopyrightText: Copyright the Vortex contributors
 
 -- How the nodes of a list are visited.
-use Rattle.std.proofs.Common.{ℕ, ◌-◌, min, ◌+◌, ◌<◌, ◌≢◌, length, map, ◌≡◌, ◌↔◌, ◌⊎◌, List, [], ◌∷◌, ◌++◌, Some, None, inl, inr, refl, sym, ap, subst, ◌∙◌, arith, ⊎_elim, append_assoc, append-nil}
+use Rattle.std.proofs.Common.{ℕ, ◌-◌, min, ◌+◌, ◌<◌, ◌≤◌, ◌≢◌, length, map, ◌≡◌, ◌↔◌, ◌⊎◌, List, [], ◌∷◌, ◌++◌, Some, None, inl, inr, refl, sym, ap, subst, ◌∙◌, arith, ⊎_elim, append_assoc, append-nil}
 use Rattle.std.specs.List.{Contains, IsDistinct}
 use Rattle.std.specs.Map.{keys_of, lookup, values_of}
 use Rattle.std.specs.Option.{unwrap_or}
@@ -36,6 +36,10 @@ compare (x ∷ s) (y ∷ l) q rest u f a b =
     (λ h. inr (h.0, λ i. is i ∷ h.1 i))
     (compare s l ((s ++ f ∷ []) ++ rest) rest u f refl later)
 
+no_snoc : (s : List Field) (f : Field) → s ++ f ∷ [] ≡ [] → ⊥
+no_snoc [] f e = cc
+no_snoc (y ∷ s) f e = cc
+
 begins_nil : (p : List Field) → Beginning p [] → p ≡ []
 begins_nil p b = beginning_both p [] b (p, refl)
 
@@ -61,7 +65,8 @@ module _ (nodes : List Node) (trie : IsTrie nodes) (s : List Field) (x : ℕ) (a
   -- behind a node in which no path ends, each step goes on
   pub begun-child : end_at nodes x ≡ None → (f : Field) (j : ℕ) → child_at nodes x f ≡ Some j → Begun (ends nodes) (s ++ f ∷ [])
   begun-child none f j e =
-      let u = trie.used (s ++ f ∷ []) j (walk-snoc (child_at nodes) x j s f at e) in
+      let there = walk-snoc (child_at nodes) x j s f at e in
+      let u = trie.used (s ++ f ∷ []) j there (λ is. no_snoc s f (trie.once (s ++ f ∷ []) [] j there (ap Some (sym is)))) in
       let q = (s ++ f ∷ []) ++ u.1 in
       let c = of-end nodes u.0 q u.2 in
       let l = least_covers (ends nodes) q (covers_member (ends nodes) q c) in
@@ -114,10 +119,6 @@ pub record Visits (nodes left : List Node) (found : List (List Field)) (visits :
   pub exact : (p : List Field) → Contains found p ↔ (Contains done p × Contains (ends nodes) p)
   pub once : Apart found
   pub count : visits ≡ length done
-
-no_snoc : (s : List Field) (f : Field) → s ++ f ∷ [] ≡ [] → ⊥
-no_snoc [] f e = cc
-no_snoc (y ∷ s) f e = cc
 
 snoc-same : (t s : List Field) (f g : Field) → t ++ f ∷ [] ≡ s ++ g ∷ [] → t ≡ s
 snoc-same [] [] f g e = refl
@@ -368,7 +369,7 @@ module _ (nodes left next : List Node) (found : List (List Field)) (visits : ℕ
       omega (arith, o.count, below, length-map all loc)
 
   -- so the visit counts
-  pub visits-counts : (most next_visits : ℕ) → next_visits ≡ min (visits + 1) most → length nodes < most → (next_visits ≡ visits + 1) × (length nodes - next_visits < length nodes - visits)
+  pub visits-counts : (most next_visits : ℕ) → next_visits ≡ min (visits + 1) most → length nodes ≤ most → (next_visits ≡ visits + 1) × (length nodes - next_visits < length nodes - visits)
   visits-counts most next_visits visited small = (omega (arith, visits-room, small, visited), omega (arith, visits-room, small, visited))
 
 -- ---- when no place is left
@@ -406,15 +407,3 @@ module _ (nodes left : List Node) (found : List (List Field)) (visits : ℕ) (o 
 -- what the least paths of a list are told to be, they are for coverage
 pub within : (ps found : List (List Field)) → ((p : List Field) → Contains found p ↔ Least ps p) → (qs : List (List Field)) → SameCoverage qs ps → (p : List Field) → Contains found p → Contains qs p
 within ps found h qs alike p c = least_within ps qs alike p ((h p).0 c)
-
--- the empty set, whose root is begun all the same
-pub none-begun : IsCountOf (Begun []) 1
-none-begun = record {
-  paths = [] ∷ [];
-  distinct = AllPairs-from_IsDistinct same_path-Decides ([] ∷ []) (apart-distinct same_path same_path-Decides ([] ∷ []) (apart-cons [] [] (λ c. contains-nil [] c) (apart-nil [] refl)));
-  exact = λ p. (
-    λ c. ⊎_elim (λ e. inl (sym e)) (λ d. absurd (contains-nil p d)) (contains-cons [] p [] c),
-    λ b. ⊎_elim (λ (e : p ≡ []). subst (Contains ([] ∷ [])) (sym e) (contains-head [] [])) (λ (h : (l : List Field) × Least [] l × Beginning p l). absurd (contains-nil h.0 h.1.member)) b,
-  );
-  count = refl;
-}

@@ -15,8 +15,8 @@ ghost use Rattle.dtype_paths.specs.Covering.{CoverAlike, IsBegun, IsCountOf, lea
 ghost use Rattle.dtype_paths.specs.PathOrder.{set_of};
 ghost use Rattle.dtype_paths.specs.declared.field.Field.{Field};
 
-use crate::node::Node;
-use crate::{FieldPath, trie};
+use crate::FieldPath;
+use crate::trie::Trie;
 use dtype_base::VortexResult;
 use std::alloc::Global;
 use std::marker::Model;
@@ -29,22 +29,19 @@ use std::{fmt, vec};
 #[derive(Drop)]
 pub struct FieldPathSet {
     alloc: Global,
-    nodes: Vec<Node>,
+    trie: Trie,
 }
 
 impl Model for FieldPathSet {
-    ghost use Rattle.std.specs.Prelude.{◌<◌, length};
     ghost use Rattle.std.specs.FinSet as set;
     ghost use Rattle.dtype_paths.specs.PathOrder.{path_cmp, set_code, set_of};
-    ghost use Rattle.dtype_paths.specs.Trie.{ends, IsTrie};
+    ghost use Rattle.dtype_paths.specs.Trie.{ends};
 
     ghost Value = { set.FinSet path_cmp };
 
     ghost coded = { set_code };
 
-    ghost view = { λ s. set_of (ends s.nodes.items) };
-
-    ghost invariant = { λ s. 0 < length s.nodes.items → IsTrie s.nodes.items };
+    ghost view = { λ s. set_of (ends s.trie) };
 }
 
 impl FieldPathSet {
@@ -54,7 +51,7 @@ impl FieldPathSet {
     {
         FieldPathSet {
             alloc,
-            nodes: Vec::new(alloc),
+            trie: Trie::new(alloc),
         }
     }
 
@@ -71,28 +68,18 @@ impl FieldPathSet {
     {
         let paths = paths.into_iter();
         let (least, _) = paths.size_hint();
-        let mut set = FieldPathSet::with_room(alloc, least)?;
+        let nodes = least.saturating_add(least / 8).saturating_add(1);
+        let trie = Trie::with_capacity(alloc, nodes)?;
+        let mut set = FieldPathSet { alloc, trie };
         set.extend(paths)?;
         Ok(set)
-    }
-
-    // The set with no path, with room for so many, and for some nodes that they share.
-    fn with_room(alloc: Global, paths: usize) -> VortexResult<Self>
-        ensures none { IfOk result (λ s. s ≡ set.empty) }
-        ensures refused { IsOkUnless result OutOfMemory }
-    {
-        let nodes = paths.saturating_add(paths / 8).saturating_add(2);
-        Ok(FieldPathSet {
-            alloc,
-            nodes: Vec::with_capacity(alloc, nodes)?,
-        })
     }
 
     /// Whether the path is in the set. Takes no memory.
     pub fn contains(&self, path: &FieldPath) -> bool
         ensures { result ≡ set.contains self.now path.now }
     {
-        trie::contains(&self.nodes, path.parts())
+        self.trie.contains(path.parts())
     }
 
     /// Puts the path into the set, where it isn't in it yet. Refuses 0 (OutOfMemory) alone: the set is as
@@ -102,7 +89,7 @@ impl FieldPathSet {
         ensures err { OnErr result (self.new ≡ self.old) }
         ensures refused { IsOkUnless result OutOfMemory }
     {
-        trie::insert(self.alloc, &mut self.nodes, path)
+        self.trie.insert(self.alloc, path)
     }
 
     /// Puts the paths that an iterator gives into the set, in order. Refuses 0 (OutOfMemory) alone: those
@@ -129,7 +116,7 @@ impl FieldPathSet {
         ensures runs { OnOk result (YieldsInOrder (into_iter_steps {X = Bor (List Field)} {Z = Global}) into_iter_items) }
         ensures refused { IsOkUnless result OutOfMemory }
     {
-        let found = trie::gather(self.alloc, &self.nodes)?;
+        let found = self.trie.gather(self.alloc)?;
         Ok(found.into_iter())
     }
 
@@ -161,7 +148,7 @@ impl FieldPathSet {
         ensures at_most { IfOk result (λ r. r.1 ≤ 1 + sum_by length (into_iter_items r.0)) }
         ensures refused { IsOkUnless result OutOfMemory }
     {
-        let (found, visits) = trie::cover(self.alloc, self.nodes)?;
+        let (found, visits) = self.trie.cover(self.alloc)?;
         Ok((found.into_iter(), visits))
     }
 
@@ -172,7 +159,7 @@ impl FieldPathSet {
     {
         Ok(FieldPathSet {
             alloc: self.alloc,
-            nodes: trie::copied(self.alloc, &self.nodes)?,
+            trie: self.trie.try_clone(self.alloc)?,
         })
     }
 }

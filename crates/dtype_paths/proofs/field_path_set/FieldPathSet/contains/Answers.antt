@@ -12,10 +12,6 @@ use Rattle.dtype_paths.proofs.field_path_set.FieldPathSet.contains.Goals as goal
 
 pub returns : goal.returns
 returns c =
-    let told =
-    subst
-    (λ (p : List Field). IsTrue c.contains.result ↔ Contains (ends c.self.inside.nodes.items) p)
-    c.parts.ensures
-    (subst (λ (ps : List (List Field)). IsTrue c.contains.result ↔ Contains ps c.parts.result.now) (ap ends c.deref.ensures.value) c.contains.ensures) in
-    same_from_decides c.contains.result _ told (from_list-Decides (ends c.self.inside.nodes.items) c.args.path.now)
+    let told = subst (λ (p : List Field). IsTrue c.contains.result ↔ Contains (ends c.self.inside.trie) p) c.parts.ensures c.contains.ensures in
+    same_from_decides c.contains.result _ told (from_list-Decides (ends c.self.inside.trie) c.args.path.now)
     ∙ ap (λ s. set.contains s c.args.path.now) c.self.view_is

@@ -18,4 +18,4 @@ returns-clause-ok g c =
     let ran = c.in_ok-extend.ensures.items in
     let steps = g.I.IntoIter.Iterator.next_gives in
     let given = subst (g.I.IntoIterator.into_iter_gives c.args.paths) (sym ran.2) c.into_iter-paths.ensures.into_iter_gives in
-    (ran.0, given, (run steps ran.0 ran.1 true (to_end steps ran.0 ran.1 ran.4), refl, refl, begun_empty ran.1 _ c.extend.new.self ran.3 c.in_ok-set.ensures.none))
+    (ran.0, given, (run steps ran.0 ran.1 true (to_end steps ran.0 ran.1 ran.4), refl, refl, begun_empty ran.1 _ c.extend.new.self ran.3 (ap (set.from_list {R = path_cmp}) c.in_ok-trie.ensures.none)))

@@ -66,6 +66,32 @@ fn of_names(alloc: Global, names: Vec<FieldName>, types: Vec<DType>) -> BenchRes
     Ok(DType::Struct(fields, Nullability::NonNullable))
 }
 
+/// The same, and `find` of its last name: the Rust makes its index at the first lookup.
+#[derive(Drop)]
+pub struct BuildAndFind<'a>(pub BuildOfNames<'a>);
+
+impl<'a> Operation for BuildAndFind<'a> {
+    fn name(&self) -> &'static str {
+        "build/and_find"
+    }
+
+    fn prepare(&mut self, alloc: Global, times: usize) -> BenchResult<()> {
+        self.0.prepare(alloc, times)
+    }
+
+    fn repeat(&mut self, alloc: Global, times: usize) -> BenchResult<usize> {
+        let last = self.0.texts.last().ok_or(BenchFault::Missing)?;
+        let mut sum = 0usize;
+        for _ in 0..times {
+            let (names, types) = self.0.inputs.pop().ok_or(BenchFault::Missing)?;
+            let dtype = of_names(alloc, names, types)?;
+            let fields = dtype.as_struct_fields_opt().ok_or(BenchFault::Missing)?;
+            sum = sum.wrapping_add(fields.find(last.as_str()).unwrap_or(7));
+        }
+        Ok(sum)
+    }
+}
+
 /// A struct of names, made of texts, and types that are there.
 #[derive(Drop)]
 pub struct BuildOfTexts<'a> {

@@ -36,7 +36,7 @@ impl Shape {
     /// A type of this shape, the nullabilities inside it turned where asked.
     pub fn make(self, alloc: Global, count: usize, flip: bool) -> BenchResult<DType> {
         match self {
-            Shape::Wide => wide_type(alloc, count, flip),
+            Shape::Wide => wide_type(alloc, &Naming::Columns.texts(alloc, count)?, flip),
             _ => self.wrapped(alloc, count, flip),
         }
     }
@@ -61,6 +61,58 @@ impl Shape {
                 Ok(DType::Extension(extension))
             }
         }
+    }
+}
+
+/// How the names of a wide struct look.
+#[derive(Clone, Copy)]
+pub enum Naming {
+    /// `column_0` and so on.
+    Columns,
+    /// The same in no order.
+    Shuffled,
+    /// Sixteen hexadecimal digits, in no order.
+    Hexadecimal,
+    /// `id`, and behind it `measurement_1` and so on.
+    Stray,
+}
+
+impl Naming {
+    /// Those that only lookups and what makes an index are measured with.
+    pub const OTHERS: [Naming; 3] = [Naming::Shuffled, Naming::Hexadecimal, Naming::Stray];
+
+    /// The word for it in the name of a case.
+    pub fn name(self) -> &'static str {
+        match self {
+            Naming::Columns => "wide",
+            Naming::Shuffled => "shuffled",
+            Naming::Hexadecimal => "hexadecimal",
+            Naming::Stray => "stray",
+        }
+    }
+
+    fn text(self, alloc: Global, i: usize, count: usize) -> BenchResult<String> {
+        match self {
+            Naming::Columns => column(alloc, i),
+            Naming::Shuffled => column(alloc, mixed(i, count)),
+            Naming::Hexadecimal => {
+                let number = (i as u64)
+                    .wrapping_add(1)
+                    .wrapping_mul(0x9E37_79B9_7F4A_7C15);
+                Ok(format!(in alloc; "{number:016x}")?)
+            }
+            Naming::Stray if i == 0 => Ok(format!(in alloc; "id")?),
+            Naming::Stray => Ok(format!(in alloc; "measurement_{i}")?),
+        }
+    }
+
+    /// The names of so many fields, as texts.
+    pub fn texts(self, alloc: Global, count: usize) -> BenchResult<Vec<String>> {
+        let mut texts = Vec::with_capacity(alloc, count)?;
+        for i in 0..count {
+            texts.push(self.text(alloc, i, count)?)?;
+        }
+        Ok(texts)
     }
 }
 
@@ -89,6 +141,15 @@ pub fn make_types(alloc: Global, shape: Shape, count: usize) -> BenchResult<Type
         sames: two_types(alloc, shape, count, false)?,
         others: two_types(alloc, shape, count, true)?,
     })
+}
+
+/// Two structs of fields with these names, made apart.
+pub fn two_structs(alloc: Global, texts: &Vec<String>) -> BenchResult<Vec<DType>> {
+    let mut two = Vec::with_capacity(alloc, 2)?;
+    for _ in 0..2 {
+        two.push(wide_type(alloc, texts, false)?)?;
+    }
+    Ok(two)
 }
 
 fn two_types(alloc: Global, shape: Shape, count: usize, flip: bool) -> BenchResult<Vec<DType>> {
@@ -120,15 +181,6 @@ pub fn leaves(alloc: Global, count: usize) -> BenchResult<Vec<DType>> {
     Ok(types)
 }
 
-/// The names of so many columns, as texts.
-pub fn texts(alloc: Global, count: usize) -> BenchResult<Vec<String>> {
-    let mut texts = Vec::with_capacity(alloc, count)?;
-    for i in 0..count {
-        texts.push(column(alloc, i)?)?;
-    }
-    Ok(texts)
-}
-
 /// The name of a column, twice.
 pub fn two_texts(alloc: Global, i: usize) -> BenchResult<Vec<String>> {
     let mut two = Vec::with_capacity(alloc, 2)?;
@@ -147,11 +199,12 @@ pub fn names(alloc: Global, texts: &Vec<String>) -> BenchResult<Vec<FieldName>> 
     Ok(names)
 }
 
-/// A tenth of the names of so many columns, in no order.
-pub fn some_names(alloc: Global, count: usize) -> BenchResult<Vec<FieldName>> {
+/// A tenth of these names, in no order.
+pub fn some_names(alloc: Global, texts: &Vec<String>) -> BenchResult<Vec<FieldName>> {
+    let count = texts.len();
     let mut names = Vec::new(alloc);
     for i in 0..count / 10 {
-        let text = column(alloc, mixed(i, count))?;
+        let text = texts.get(mixed(i, count)).ok_or(BenchFault::Missing)?;
         names.push(FieldName::new(alloc, text.as_str())?)?;
     }
     Ok(names)
@@ -176,10 +229,9 @@ fn column(alloc: Global, i: usize) -> BenchResult<String> {
     Ok(format!(in alloc; "column_{i}")?)
 }
 
-fn wide_type(alloc: Global, count: usize, flip: bool) -> BenchResult<DType> {
-    let mut fields = Vec::with_capacity(alloc, count)?;
-    for i in 0..count {
-        let text = column(alloc, i)?;
+fn wide_type(alloc: Global, texts: &Vec<String>, flip: bool) -> BenchResult<DType> {
+    let mut fields = Vec::with_capacity(alloc, texts.len())?;
+    for (i, text) in texts.iter().enumerate() {
         let name = FieldName::new(alloc, text.as_str())?;
         fields.push((name, FieldDType::from(leaf(i, flip))))?;
     }

@@ -6,6 +6,7 @@ use crate::fault::{BenchFault, BenchResult};
 use crate::fixture::{Types, fields_of, two_texts};
 use crate::meter::Operation;
 use dtype_base::FieldName;
+use dtype_types::DType;
 use std::alloc::Global;
 
 /// Where the name is that is looked for.
@@ -74,7 +75,7 @@ impl<'a> Operation for Find<'a> {
 /// `find` of all names in no order, so that no branch can be foreseen.
 #[derive(Drop)]
 pub struct FindMixed<'a> {
-    pub types: &'a Types,
+    pub types: &'a Vec<DType>,
     pub texts: &'a Vec<String>,
 }
 
@@ -84,7 +85,7 @@ impl<'a> Operation for FindMixed<'a> {
     }
 
     fn repeat(&mut self, _alloc: Global, times: usize) -> BenchResult<usize> {
-        let fields = fields_of(&self.types.types, 0)?;
+        let fields = fields_of(self.types, 0)?;
         let count = self.texts.len() as u64;
         let mut sum = 0usize;
         let mut seed = 1u64;
@@ -103,7 +104,7 @@ impl<'a> Operation for FindMixed<'a> {
 /// `project` of some names.
 #[derive(Drop)]
 pub struct Project<'a> {
-    pub types: &'a Types,
+    pub types: &'a Vec<DType>,
     pub names: Vec<FieldName>,
 }
 
@@ -115,7 +116,7 @@ impl<'a> Operation for Project<'a> {
     fn repeat(&mut self, alloc: Global, times: usize) -> BenchResult<usize> {
         let mut sum = 0usize;
         for i in 0..times {
-            let fields = fields_of(&self.types.types, i)?;
+            let fields = fields_of(self.types, i)?;
             let fewer = fields.project(alloc, self.names.as_slice())?;
             sum = sum.wrapping_add(fewer.nfields());
         }

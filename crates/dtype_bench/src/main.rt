@@ -13,9 +13,10 @@
 //! Begin with `meter`, which has what an operation is and how one is measured.
 #![tactic(auto)]
 
-use building::{BuildAndDrop, BuildOfNames, BuildOfTexts};
+use building::{BuildAndDrop, BuildAndFind, BuildOfNames, BuildOfTexts};
+use dtype_types::DType;
 use fault::BenchResult;
-use fixture::{Shape, Types, make_types, some_names, texts};
+use fixture::{Naming, Shape, Types, make_types, some_names, two_structs};
 use lookups::{Find, FindMixed, Place, Project};
 use meter::Meter;
 use on_messages::{ReadMessage, WriteMessage, messages};
@@ -63,12 +64,33 @@ fn measure_lookups<C: CpuClock, W: Write>(
         let find = Find::new(meter.alloc, place, types)?;
         meter.measure(of, find)?;
     }
-    let texts = texts(meter.alloc, types.count)?;
-    let find = FindMixed {
-        types,
-        texts: &texts,
-    };
-    meter.measure(of, find)
+    let texts = Naming::Columns.texts(meter.alloc, types.count)?;
+    measure_find(meter, of, &types.types, &texts)
+}
+
+// Lookups of all names.
+fn measure_find<C: CpuClock, W: Write>(
+    meter: &mut Meter<'_, C, W>,
+    of: &str,
+    types: &Vec<DType>,
+    texts: &Vec<String>,
+) -> BenchResult<()> {
+    meter.measure(of, FindMixed { types, texts })
+}
+
+// What makes a struct with an index of these names.
+fn measure_index<C: CpuClock, W: Write>(
+    meter: &mut Meter<'_, C, W>,
+    of: &str,
+    types: &Vec<DType>,
+    texts: &Vec<String>,
+) -> BenchResult<()> {
+    let names = some_names(meter.alloc, texts)?;
+    meter.measure(of, Project { types, names })?;
+    let build = BuildOfNames::new(meter.alloc, texts);
+    meter.measure(of, build)?;
+    let build = BuildOfNames::new(meter.alloc, texts);
+    meter.measure(of, BuildAndFind(build))
 }
 
 // What makes a wide struct.
@@ -77,11 +99,8 @@ fn measure_building<C: CpuClock, W: Write>(
     types: &Types,
 ) -> BenchResult<()> {
     let of = types.of.as_str();
-    let names = some_names(meter.alloc, types.count)?;
-    meter.measure(of, Project { types, names })?;
-    let texts = texts(meter.alloc, types.count)?;
-    let build = BuildOfNames::new(meter.alloc, &texts);
-    meter.measure(of, build)?;
+    let texts = Naming::Columns.texts(meter.alloc, types.count)?;
+    measure_index(meter, of, &types.types, &texts)?;
     let build = BuildOfTexts::new(meter.alloc, &texts);
     meter.measure(of, build)
 }
@@ -91,7 +110,7 @@ fn measure_whole<C: CpuClock, W: Write>(
     meter: &mut Meter<'_, C, W>,
     types: &Types,
 ) -> BenchResult<()> {
-    let texts = texts(meter.alloc, types.count)?;
+    let texts = Naming::Columns.texts(meter.alloc, types.count)?;
     let build = BuildAndDrop {
         shape: types.shape,
         depth: types.count,
@@ -127,6 +146,21 @@ fn of_wide<C: CpuClock, W: Write>(meter: &mut Meter<'_, C, W>) -> BenchResult<()
         measure_lookups(meter, &types)?;
         measure_whole(meter, &types)?;
         measure_messages(meter, &types)?;
+    }
+    Ok(())
+}
+
+// Structs whose names look otherwise.
+fn of_namings<C: CpuClock, W: Write>(meter: &mut Meter<'_, C, W>) -> BenchResult<()> {
+    for naming in Naming::OTHERS {
+        for count in [10, 1000] {
+            let what = naming.name();
+            let of = format!(in meter.alloc; "/{what}/{count}")?;
+            let texts = naming.texts(meter.alloc, count)?;
+            let types = two_structs(meter.alloc, &texts)?;
+            measure_find(meter, of.as_str(), &types, &texts)?;
+            measure_index(meter, of.as_str(), &types, &texts)?;
+        }
     }
     Ok(())
 }
@@ -191,6 +225,7 @@ fn measure_all<C: CpuClock, W: Write>(meter: &mut Meter<'_, C, W>) -> BenchResul
     meter.measure("", Empty(&types))?;
     of_wrapped(meter)?;
     of_wide(meter)?;
+    of_namings(meter)?;
     of_deep(meter)?;
     of_paths(meter)?;
     if meter.wants_some("set/") {

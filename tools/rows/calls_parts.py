@@ -72,10 +72,13 @@ def field_by_index(r, index, t):
 
 
 def find(r, name, t):
-    r.row(
-        f"find {c.name(name)} {c.dtype(t)}",
-        lambda: number_or_none(r.original.option("find", hexed(name), type_words(t))),
-    )
+    """Also `find_counted`, which says how many names it compared."""
+
+    def found():
+        return number_or_none(r.original.option("find", hexed(name), type_words(t)))
+
+    r.row(f"find {c.name(name)} {c.dtype(t)}", found)
+    r.row(f"find_counted {c.name(name)} {c.dtype(t)}", lambda: f"{found()} {d.comparisons(len(t[2]))}")
 
 
 def field(r, name, t):

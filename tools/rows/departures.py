@@ -119,6 +119,14 @@ def visits(cover):
     return len({path[:k] for path in cover for k in range(len(path) + 1)} | {()})
 
 
+def comparisons(count):
+    """The original looks at one name after the other, and counts nothing. Here a search by halves compares the same
+    number of names for every name, which the definition `comparisons` of `dtype_base/specs/NameOrder.antt` fixes: the
+    binary digits of the number of names less one tell which of them is left, and one comparison more whether it is the
+    one that is looked for."""
+    return (count - 1).bit_length() + 1 if count > 0 else 0
+
+
 def has_departing_fault(m):
     """Whether a message holds a primitive number without a name, or a struct whose names and types differ in number."""
     if m is None:

@@ -382,7 +382,8 @@ def sessions(r):
     r.comment("The same of a session that lives.")
     lives = m.LivingSession(r, "s")
     tag = ("ext", "x.tag", b"AB", ("utf8", True))
-    steps = [lives.new, lambda: lives.register("x.tag"), lambda: lives.register("kept"), lives.allow_unknown,
+    steps = [lives.new, lambda: lives.register("x.tag"), lambda: lives.register("kept"), lambda: lives.register("x.tag"),
+             lambda: lives.register("x.tag"), lambda: lives.register("kept"), lives.allow_unknown,
              lambda: lives.register("x.text"), lambda: lives.register("x.word"), lives.new]
     for step in steps:
         step()

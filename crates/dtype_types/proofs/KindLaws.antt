@@ -15,7 +15,6 @@ use Rattle.dtype_types.specs.PartsEquality.{pairs_of}
 use Rattle.dtype_types.specs.TreeOf.{tree, children, choices}
 use denote.Hole.Carrier
 use Rattle.dtype_types.specs.declared.dtype.DType.{out-DType}
-use Rattle.dtype_types.specs.lemmas.Validity.{valid_map}
 use Rattle.dtype_types.specs.lemmas.TreeLaws.{tree_out, struct_is, union_is, tree_struct, tree_union, triples_variants}
 use Rattle.dtype_types.specs.declared.dtype.DType.{DType, Primitive, Decimal, List as List_of, List', FixedSizeList, FixedSizeList', Map, Map', Struct, Struct', Union, Union', Extension, Extension'}
 use Rattle.dtype_types.specs.declared.struct_fields.StructFields.{StructFields}
@@ -90,4 +89,4 @@ is_extension_with (extension i b s) e h = cc
 is_extension_with _ e h = cc
 
 -- what is known of a kind and of what a type of it holds
-pub ruleset kind_laws = (primitive_name_none, is_primitive_named, decimal_of_none, list_element_none, fixed_size_list_element_none, any_size_list_element_none, map_parts_none, valid_map, struct_fields_none, struct_fields_some, is_struct_with, union_variants_none, union_variants_some, extension_parts_none, is_extension_with)
+pub ruleset kind_laws = (primitive_name_none, is_primitive_named, decimal_of_none, list_element_none, fixed_size_list_element_none, any_size_list_element_none, map_parts_none, struct_fields_none, struct_fields_some, is_struct_with, union_variants_none, union_variants_some, extension_parts_none, is_extension_with)

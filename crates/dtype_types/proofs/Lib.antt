@@ -16,15 +16,11 @@ pub mod PutTogether
 pub mod DistinctItems
 pub mod Feeding
 pub mod UnionLaws
-pub mod VariantLookups
 pub mod Widths
+pub mod Projected
 pub mod Projections
 pub mod IndentedTexts
-pub mod SubLaws
-pub mod SetSub
-pub mod SubValues
 pub mod SubTest
 pub mod TellLaws
 pub mod TellGiven
-pub mod SizeZero
 pub mod ConsecutiveTags

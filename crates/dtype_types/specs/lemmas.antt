@@ -3,8 +3,16 @@
 
 -- Lemmas for callers, a file a topic, each with its ruleset.
 pub mod TreeLaws
+pub mod ValidParts
 pub mod Validity
 pub mod Nullabilities
+pub mod Lookups
 pub mod JoinedFields
 pub mod Tags
 pub mod NullValues
+pub mod SubLaws
+pub mod SetSub
+pub mod SubValues
+pub mod SizeZero
+pub mod Order
+pub mod MadeOf

@@ -73,8 +73,8 @@ impl<'a> Iterator for FieldIter<'a> {
     }
 }
 
+#[tactic(auto, using(crate::proofs::Sides::pairs))]
 impl<'a> ExactSizeIterator for FieldIter<'a> {
-    #[tactic(auto, using(crate::proofs::Sides::pairs))]
     fn len(&self) -> usize {
         self.names.len()
     }

@@ -16,6 +16,7 @@ pub(crate) struct FieldsBuilder {
     ghost paired: { vec_len names ≡ vec_len dtypes },
 }
 
+#[tactic(auto, using(crate::proofs::PutTogether::zip_push))]
 impl FieldsBuilder {
     ghost use Rattle.std.specs.Prelude.{◌++◌, [], ◌∷◌, IfOk, IsOkUnless};
     ghost use Rattle.dtype_base.specs.declared.vortex_error.VortexError.TheVariants.{OutOfMemory};
@@ -34,7 +35,6 @@ impl FieldsBuilder {
     }
 
     // One more field, behind the others.
-    #[tactic(auto, using(crate::proofs::PutTogether::zip_push))]
     pub(crate) fn push(self, name: FieldName, dtype: DType) -> VortexResult<Self>
         ensures ok { IfOk result
             (λ b. fields_so_far b ≡ fields_so_far self ++ (name, tree dtype) ∷ []) }

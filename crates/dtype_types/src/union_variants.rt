@@ -1,10 +1,10 @@
 // SPDX-License-Identifier: Apache-2.0
 // SPDX-FileCopyrightText: Copyright the Vortex contributors
 
-ghost use Rattle.std.specs.Prelude.{◌≡◌, ◌≤◌, ◌<◌, ◌^◌, ◌↔◌, ◌==◌, ◌⊎◌, IsTrue, [], length, map, vec_len, position, slice_get, All, IfOk, IfErr, IfSome, IfNone, OnOk, IsOkUnless, Err, Some, false, fold, option_and_then};
+ghost use Rattle.std.specs.Prelude.{◌≡◌, ◌≤◌, ◌<◌, ◌^◌, ◌↔◌, ◌==◌, ◌⊎◌, IsTrue, [], length, map, vec_len, position, slice_get, All, IfOk, IfErr, OnOk, IsOkUnless, Err, Some, false, fold};
 ghost use Rattle.std.specs.List.{IsDistinct, range_with_len};
 ghost use Rattle.dtype_base.specs.Bytes.{Bytes};
-ghost use Rattle.dtype_base.specs.FieldNames.{FirstAt, IsAbsent};
+ghost use Rattle.dtype_base.specs.FieldNames.{first_place};
 ghost use Rattle.dtype_base.specs.declared.vortex_error.VortexError.TheVariants.{OutOfMemory, UnionTooMany};
 ghost use Rattle.dtype_types.specs.Unions.{AreConsecutive, HasUnionLengths, MakesUnion, UnionRefusal, most_variants};
 
@@ -81,14 +81,14 @@ fn first_tags(alloc: Global, count: usize) -> VortexResult<Vec<u8>>
     Ok((0..count).map(|tag| tag as u8).collect(alloc)?)
 }
 
-#[tactic(auto, using(crate::proofs::Sides::triples, crate::proofs::Parts::variants))]
+#[tactic(auto, using(crate::proofs::Sides::triples, crate::proofs::Parts::variants, crate::specs::lemmas::Lookups::lookups))]
 impl UnionVariants {
     ghost use Rattle.dtype_types.specs.Equality.{agree_variants};
     ghost use Rattle.dtype_types.specs.Erase.{erase_variants};
     ghost use Rattle.dtype_types.specs.Lookups.{variant_named, variant_types};
     ghost use Rattle.dtype_types.specs.Hashes.{part_of};
     ghost use Rattle.dtype_types.specs.HashesOf.{union_writes};
-    ghost use Rattle.dtype_types.specs.TreeOf.{tree, trees, option_tree, union_tree, choices, union_names, union_dtypes, union_triples, union_types, union_tags, zip_tagged};
+    ghost use Rattle.dtype_types.specs.TreeOf.{tree, trees, option_tree, union_tree, choices, union_names, union_dtypes, union_triples, union_tags, zip_tagged};
     ghost use Rattle.dtype_types.specs.IsValid.{IsValid, IsValidUnion};
 
     /// The union of these names, types and tags. Refuses, the first that applies: 10
@@ -102,9 +102,6 @@ impl UnionVariants {
         dtypes: Vec<DType>,
         type_ids: Vec<u8>,
     ) -> VortexResult<Self>
-        ensures names { IfOk result (λ u. union_names u ≡ names) }
-        ensures types { IfOk result (λ u. union_types u ≡ map tree dtypes.items) }
-        ensures tags { IfOk result (λ u. union_tags u ≡ type_ids.items) }
         ensures variants { IfOk result
             (λ u. choices u ≡ zip_tagged names (map tree dtypes.items) type_ids.items) }
         ensures valid { All IsValid dtypes.items → IfOk result IsValidUnion }
@@ -123,9 +120,8 @@ impl UnionVariants {
     /// The union of these names and types, with the tags 0, 1, 2 and so on. Refuses 14 (UnionTooMany)
     /// where there are more than 256 names, else as `try_new` does with those tags.
     pub fn new(alloc: Global, names: FieldNames, dtypes: Vec<DType>) -> VortexResult<Self>
-        ensures names { IfOk result (λ u. union_names u ≡ names) }
-        ensures types { IfOk result (λ u. union_types u ≡ map tree dtypes.items) }
-        ensures tags { IfOk result (λ u. union_tags u ≡ range_with_len 0 (length names)) }
+        ensures variants { IfOk result (λ u. choices u
+            ≡ zip_tagged names (map tree dtypes.items) (range_with_len 0 (length names))) }
         ensures valid { All IsValid dtypes.items → IfOk result IsValidUnion }
 
         ensures accepted { OnOk result
@@ -190,10 +186,7 @@ impl UnionVariants {
 
     /// The position of the variant of the name, or `None` where no variant has it.
     pub fn find(&self, name: &str) -> Option<usize>
-        ensures variant { option_and_then (slice_get (variant_types (choices self.now))) result
-            ≡ variant_named (choices self.now) name.now }
-        ensures found { IfSome result (FirstAt (union_names self.now) name.now) }
-        ensures none { IfNone result (IsAbsent (union_names self.now) name.now) }
+        ensures { result ≡ first_place (union_names self.now) name.now }
     {
         self.names().find(name)
     }

@@ -78,8 +78,8 @@ impl<'a> Iterator for VariantIter<'a> {
     }
 }
 
+#[tactic(auto, using(crate::proofs::Sides::triples))]
 impl<'a> ExactSizeIterator for VariantIter<'a> {
-    #[tactic(auto, using(crate::proofs::Sides::triples))]
     fn len(&self) -> usize {
         self.names.len()
     }

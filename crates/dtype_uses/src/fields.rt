@@ -2,11 +2,10 @@
 // SPDX-FileCopyrightText: Copyright the Vortex contributors
 
 // Lookups of fields, by name and by position.
-#![tactic(auto, using(dtype_types::specs::lemmas::JoinedFields::joined_fields, dtype_base::specs::lemmas::Lookups::lookups))]
+#![tactic(auto, using(dtype_types::specs::lemmas::JoinedFields::joined_fields, dtype_types::specs::lemmas::Lookups::lookups))]
 
-ghost use Rattle.std.specs.Prelude.{◌≡◌, ◌+◌, ◌<◌, ◌≤◌, None, Some, IfOk, IsSome, IsTrue, length, true};
+ghost use Rattle.std.specs.Prelude.{◌≡◌, ◌+◌, ◌<◌, None, Some, IfOk, IsSome, IsTrue, length, true};
 ghost use Rattle.std.specs.Option.{option_map};
-ghost use Rattle.dtype_base.specs.FieldNames.{first_place};
 ghost use Rattle.dtype_types.specs.Distinct.{Distinct};
 ghost use Rattle.dtype_types.specs.Lookups.{field_names, first_named};
 ghost use Rattle.dtype_types.specs.Nullable.{nullability};
@@ -30,23 +29,6 @@ pub fn field_by_find<'a>(fields: &'a StructFields, name: &str) -> Option<&'a DTy
 {
     let index = fields.find(name)?;
     fields.field_by_index(index)
-}
-
-/// Whether a counted lookup gives the place that `find` does.
-pub fn counted_place_is_found_place(fields: &StructFields, name: &str) -> bool
-    ensures { result ≡ true }
-{
-    fields.find_counted(name).0 == fields.find(name)
-}
-
-/// The place of the first field of the name, of at most 1,000 fields, and how many of their names were
-/// compared for it.
-pub fn place_among_a_thousand(fields: &StructFields, name: &str) -> (Option<usize>, u64)
-    requires { length (children fields.now) ≤ 1000 }
-    ensures place { result.0 ≡ first_place (field_names (children fields.now)) name.now }
-    ensures few { result.1 ≤ 11 }
-{
-    fields.find_counted(name)
 }
 
 /// The place of the second of two names.

@@ -3,7 +3,10 @@
 
 // Tests of kinds, and what a type of a known kind holds.
 ghost use Rattle.std.specs.Prelude.{◌≡◌, Some};
+ghost use Rattle.dtype_base.specs.declared.nullability.Nullability.TheVariants.{NonNullable};
+ghost use Rattle.dtype_base.specs.declared.ptype.PType.TheVariants.{U8};
 ghost use Rattle.dtype_types.specs.Kinds.{kind, struct_fields};
+ghost use Rattle.dtype_types.specs.Tree.{primitive};
 ghost use Rattle.dtype_types.specs.TreeOf.{children, tree};
 
 use dtype_types::{DType, Kind, StructFields};
@@ -27,4 +30,11 @@ pub fn count_of_fields(dtype: &DType) -> usize
         Some(fields) => fields.nfields(),
         None => 0,
     }
+}
+
+/// The type of a byte.
+pub fn byte_type() -> DType
+    ensures { tree result ≡ primitive U8 NonNullable }
+{
+    DType::BYTES
 }

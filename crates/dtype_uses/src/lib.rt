@@ -8,15 +8,16 @@
 //! here, and every caller that a `CALLING.md` shows stands here.
 //!
 //! Begin with the user whom you are nearest to: `scalars` (which values a type has), `arrays` (how wide a
-//! row is, and what may be appended), `binder` (column references, projections, joins), `layout` (which
+//! row is), `appending` (what may be appended), `binder` (column references, projections, joins), `layout` (which
 //! columns to open), `path_sets` (what is asked for, and what is opened for it), `masks` (what is asked further
 //! down), `rows` (what is found) and `stored` (schemas written and read back). Then by topic: `schemas` finds
-//! columns, `dates` makes an extension, `kinds` opens types, `fields` looks up fields, `iterators` counts, `over_fields` goes over them,
+//! columns, `dates` makes an extension, `kinds` opens types, `fields` looks up fields, `lookups` counts what they compare, `iterators` counts, `over_fields` goes over them,
 //! `nullabilities` sets them, `paths` resolves, `path_messages` compares and copies messages, `messages` writes
 //! and reads types, `sessions` makes sessions, `plugins` has one that looks at its storage, `numbers` has names
-//! and bytes, `validity` what valid types have. `orders` is the code of `docs/TUTORIAL.md`.
+//! and bytes, `unions` makes unions, `validity` has what valid types have. `orders` is the code of `docs/TUTORIAL.md`.
 #![tactic(auto)]
 
+pub mod appending;
 pub mod arrays;
 pub mod binder;
 pub mod dates;
@@ -24,6 +25,7 @@ pub mod fields;
 pub mod iterators;
 pub mod kinds;
 pub mod layout;
+pub mod lookups;
 pub mod masks;
 pub mod messages;
 pub mod nullabilities;
@@ -39,4 +41,5 @@ pub mod scalars;
 pub mod schemas;
 pub mod sessions;
 pub mod stored;
+pub mod unions;
 pub mod validity;

@@ -2,7 +2,7 @@
 // SPDX-FileCopyrightText: Copyright the Vortex contributors
 
 // Nullability set, and set again.
-#![tactic(auto, using(dtype_types::specs::lemmas::Nullabilities::nullabilities))]
+#![tactic(auto, using(dtype_types::specs::lemmas::Nullabilities::nullabilities, dtype_types::specs::lemmas::Order::order))]
 
 ghost use Rattle.std.specs.Prelude.{◌≡◌, IfOk, IsTrue, true};
 ghost use Rattle.dtype_base.specs.declared.nullability.Nullability.TheVariants.{NonNullable, Nullable};
@@ -52,7 +52,6 @@ pub fn is_nullable_above(dtype: &DType, above: &DType) -> bool
     requires above { Sub (tree dtype.now) (tree above.now) }
     ensures { result ≡ true }
 {
-    dtype_types::laws::setting_nullability_goes_along_the_order();
     above.is_nullable()
 }
 

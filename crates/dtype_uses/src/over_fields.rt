@@ -3,13 +3,13 @@
 
 //! Going over the columns of a table: what holds of all, of any, how many, by chains and by a loop. What an
 //! iterator over types gives is said by their trees.
-ghost use Rattle.std.specs.Prelude.{◌≡◌, ◌↔◌, ◌||◌, All, Any, IsTrue, count_by, false, fold, length};
+ghost use Rattle.std.specs.Prelude.{◌≡◌, ◌↔◌, ◌||◌, All, Any, IfSome, IsSome, IsTrue, count_by, false, fold, length};
 ghost use Rattle.dtype_types.specs.Kinds.{is_nested};
 ghost use Rattle.dtype_types.specs.Lookups.{field_types, variant_types};
 ghost use Rattle.dtype_types.specs.Nullable.{IsNullable};
 ghost use Rattle.dtype_types.specs.TreeOf.{children, choices, struct_pairs, tree};
 
-use dtype_types::{StructFields, UnionVariants};
+use dtype_types::{DType, StructFields, UnionVariants};
 
 /// Whether every column may be null.
 pub fn all_nullable(table: &StructFields) -> bool
@@ -66,4 +66,12 @@ pub fn count_of_nested_in_turn(table: &StructFields) -> u64
         }
     }
     count
+}
+
+/// The first column that may be null.
+pub fn first_nullable(table: &StructFields) -> Option<&DType>
+    ensures found { IfSome result (λ d. IsNullable (tree d.now)) }
+    ensures exists { IsSome result ↔ Any IsNullable (field_types (children table.now)) }
+{
+    table.fields().find(|dtype| dtype.is_nullable())
 }

@@ -4,12 +4,14 @@
 // What a caller has of a valid type.
 #![tactic(auto, using(dtype_types::specs::lemmas::Validity::validity))]
 
-ghost use Rattle.std.specs.Prelude.{◌≡◌, ◌<◌, Some, IfSome, IsTrue, length, true};
-ghost use Rattle.dtype_types.specs.IsValid.{IsValid, IsValidStruct, IsValidUnion};
-ghost use Rattle.dtype_types.specs.TreeOf.{union_tags};
+ghost use Rattle.std.specs.Prelude.{◌≡◌, ◌<◌, All, IfOk, IfSome, IsTrue, Some, length, true, vec_len};
+ghost use Rattle.dtype_types.specs.IsValid.{IsValid, IsValidMap, IsValidStruct, IsValidUnion};
+ghost use Rattle.dtype_types.specs.Kinds.{kind};
+ghost use Rattle.dtype_types.specs.TreeOf.{tree, union_tags};
 
-use dtype_base::{FieldName, Nullability};
-use dtype_types::{DType, StructFields, UnionVariants};
+use dtype_base::{FieldName, FieldNames, Nullability, VortexResult};
+use dtype_types::{DType, Kind, MapDType, StructFields, UnionVariants};
+use std::alloc::Global;
 
 /// The type of the only field of a valid struct of one, valid too.
 pub fn only_field(dtype: &DType) -> Option<&DType>
@@ -75,4 +77,98 @@ pub fn storage_of(dtype: &DType) -> Option<&DType>
     ensures { IsValid dtype.now → IfSome result (λ d. IsValid d.now) }
 {
     Some(dtype.as_extension_opt()?.storage_dtype())
+}
+
+/// The element type of a list, valid where the list's type is.
+pub fn element_of(dtype: &DType) -> Option<&DType>
+    ensures { IsValid dtype.now → IfSome result (λ d. IsValid d.now) }
+{
+    dtype.as_any_size_list_element_opt()
+}
+
+/// The element type of a list, taken out of the list's.
+pub fn element_taken(dtype: DType) -> Option<Box<DType>>
+    ensures { IsValid dtype → IfSome result (λ b. IsValid b.value) }
+{
+    dtype.into_list_element_opt()
+}
+
+/// The type of a map's keys, valid where the map's is.
+pub fn keys_of(dtype: &DType) -> Option<&DType>
+    ensures { IsValid dtype.now → IfSome result (λ d. IsValid d.now) }
+{
+    Some(dtype.as_map_opt()?.key_dtype())
+}
+
+/// What a map holds, taken out of its type.
+pub fn map_taken(dtype: DType) -> Option<MapDType>
+    ensures { IsValid dtype → IfSome result IsValidMap }
+{
+    dtype.into_map_opt()
+}
+
+/// The type of a union's variant, valid where the union's is.
+pub fn variant_of<'a>(dtype: &'a DType, name: &str) -> Option<&'a DType>
+    ensures { IsValid dtype.now → IfSome result (λ d. IsValid d.now) }
+{
+    dtype.as_union_variants_opt()?.variant(name)
+}
+
+/// The columns of a table's type, taken out of it.
+pub fn columns_taken(table: DType) -> Option<StructFields>
+    ensures { IsValid table → IfSome result IsValidStruct }
+{
+    table.into_struct_fields_opt()
+}
+
+/// The columns of what is known to be a table.
+pub fn columns_of(table: &DType) -> &StructFields
+    requires { kind (tree table.now) ≡ Kind.Struct }
+    ensures { IsValid table.now → IsValidStruct result.now }
+{
+    table.as_struct_fields()
+}
+
+/// The struct of these names and types.
+pub fn struct_of(alloc: Global, names: FieldNames, dtypes: Vec<DType>) -> VortexResult<StructFields>
+    requires { length names ≡ vec_len dtypes }
+    ensures { All IsValid dtypes.items → IfOk result IsValidStruct }
+{
+    StructFields::new(alloc, names, dtypes)
+}
+
+/// The type of a table of these columns and no other.
+pub fn table_of_columns(
+    alloc: Global,
+    columns: &StructFields,
+    names: &[FieldName],
+) -> VortexResult<DType>
+    ensures { IsValidStruct columns.now → IfOk result IsValid }
+{
+    let projected = columns.project(alloc, names)?;
+    Ok(DType::Struct(projected, Nullability::NonNullable))
+}
+
+/// The columns of a join, but for one of them.
+pub fn joined_without(
+    alloc: Global,
+    left: &StructFields,
+    right: &StructFields,
+    index: usize,
+) -> VortexResult<StructFields>
+    ensures { IsValidStruct left.now → IsValidStruct right.now → IfOk result IsValidStruct }
+{
+    let joined = left.disjoint_merge(alloc, right)?;
+    joined.without_field(alloc, index)
+}
+
+/// The columns of a projection.
+pub fn projected(
+    alloc: Global,
+    columns: &StructFields,
+    names: &[FieldName],
+) -> VortexResult<StructFields>
+    ensures { IsValidStruct columns.now → IfOk result IsValidStruct }
+{
+    columns.project(alloc, names)
 }

@@ -77,4 +77,4 @@ pub made_nullable : {E : Type 0} (t : Tree) (r : Result DType E) → IfOk r (λ 
 made_nullable t (Ok d) h = nullable_adds_null t (tree d) h
 made_nullable t (Err e) h = tt
 
-pub ruleset null_values = (null_is_of_nullable, nullable_adds_null)
+pub ruleset null_values = (null_is_of_nullable, nullable_adds_null, made_nullable)

@@ -19,6 +19,7 @@ use Rattle.dtype_types.specs.lemmas.Nullabilities.{by_storage}
 use Rattle.dtype_types.specs.Tree.{Tree, fields, variants, null, bool, primitive, decimal, utf8, binary, list, fixed_size_list, map_of, struct, union, variant, extension}
 use Rattle.dtype_types.specs.TreeOf.{tree, option_tree, map_shown, struct_pairs, union_triples, children, choices, with_trees, with_tagged_trees}
 use Rattle.dtype_types.specs.Valid.{Valid, ValidFields, ValidVariants}
+use Rattle.dtype_types.specs.lemmas.ValidParts.{list_element_valid, fixed_size_element_valid, any_size_element_valid, lent_list_element, lent_fixed_size_element, lent_any_size_element, given_list_element, given_fixed_size_element, given_any_size_element, map_parts_valid, lent_map, given_map, struct_fields_valid, lent_struct, given_struct, union_variants_valid, lent_union, given_union, extension_is_valid, extension_parts_valid, lent_extension}
 use Rattle.dtype_types.specs.lemmas.TreeLaws.{tree_struct, tree_union, tree_map, tree_extension}
 use Rattle.dtype_types.specs.declared.dtype.DType.{DType, Map, Struct, Union, Extension}
 use Rattle.dtype_types.specs.declared.field_dtype.FieldDType.{FieldDType}
@@ -187,6 +188,10 @@ zip_valid (n ∷ ns) (d ∷ ds) h = (h.0, zip_valid ns ds h.1)
 pub struct_of_valid : (s : StructFields) (ns : List (List ℕ)) (ds : List DType) → children s ≡ zip ns (map tree ds) → All IsValid ds → IsValidStruct s
 struct_of_valid s ns ds e h = subst (λ ps. ValidFields (fields ps)) (sym e) (zip_valid ns ds (recursion_from_All IsValid ds h))
 
+-- fields but for one
+pub removal_valid : (s r : StructFields) (i : ℕ) → children r ≡ remove (children s) i → IsValidStruct s → IsValidStruct r
+removal_valid s r i e h = subst (λ ps. ValidFields (fields ps)) (sym e) (valid_removed (children s) i h)
+
 -- a type with another nullability
 pub set_valid : (t u : Tree) (n : Nullability) → set_null t n ≡ Some u → Valid t → Valid u
 set_valid null u NonNullable e h = cc
@@ -218,4 +223,4 @@ fixed_size_list_of_valid u t k n e small h = subst Valid (sym e) (small, h)
 pub map_of_valid : (u k v : Tree) (b : Bool) (n : Nullability) → u ≡ map_of k v b n → nullability k ≡ NonNullable → Valid k → Valid v → Valid u
 map_of_valid u k v b n e sure h g = subst Valid (sym e) (sure, h, g)
 
-pub ruleset validity = (list_of_valid, fixed_size_list_of_valid, map_of_valid, struct_valid, union_valid, map_valid, extension_valid, valid_struct, valid_union, valid_map, valid_extension, field_valid, named_field_valid, variant_valid, named_variant_valid, type_at_valid, type_named_valid, variant_at_valid, variant_named_valid, field_types_valid, variant_types_valid, pairs_valid, triples_valid, struct_of_valid, set_valid, made_map_valid)
+pub ruleset validity = (list_of_valid, fixed_size_list_of_valid, map_of_valid, struct_valid, union_valid, map_valid, extension_valid, valid_struct, valid_union, valid_map, valid_extension, field_valid, named_field_valid, variant_valid, named_variant_valid, type_at_valid, type_named_valid, variant_at_valid, variant_named_valid, field_types_valid, variant_types_valid, pairs_valid, triples_valid, struct_of_valid, removal_valid, set_valid, made_map_valid, list_element_valid, fixed_size_element_valid, any_size_element_valid, lent_list_element, lent_fixed_size_element, lent_any_size_element, given_list_element, given_fixed_size_element, given_any_size_element, map_parts_valid, lent_map, given_map, struct_fields_valid, lent_struct, given_struct, union_variants_valid, lent_union, given_union, extension_is_valid, extension_parts_valid, lent_extension)

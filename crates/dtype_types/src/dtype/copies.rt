@@ -2,6 +2,8 @@
 // SPDX-FileCopyrightText: Copyright the Vortex contributors
 
 // Copies of types: each takes memory for its boxes, and shares what its structs, unions and maps hold.
+#![tactic(auto, using(crate::proofs::SameParts::same_parts))]
+
 ghost use Rattle.std.specs.Prelude.{◌≡◌, IfOk, IsOkUnless};
 ghost use Rattle.dtype_base.specs.declared.vortex_error.VortexError.TheVariants.{OutOfMemory};
 ghost use Rattle.dtype_types.specs.TreeOf.{tree};
@@ -13,7 +15,6 @@ use std::alloc::Global;
 impl DType {
     /// A type equal to this one. Refuses 0 (OutOfMemory) alone.
     #[cycle(copy)]
-    #[tactic(auto, using(crate::proofs::SameParts::same_parts))]
     pub fn try_clone(&self, alloc: Global) -> VortexResult<DType>
         ensures same { IfOk result (λ d. tree d ≡ tree self.now) }
         ensures refused { IsOkUnless result OutOfMemory }

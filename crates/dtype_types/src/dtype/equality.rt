@@ -3,6 +3,8 @@
 
 // Equality of types and their order by nullability: one walk over two types, with the nullabilities
 // compared, ignored, or those of the first within those of the second.
+#![tactic(auto, using(crate::proofs::OtherKinds::other_kinds, crate::proofs::OtherKinds::agreements))]
+
 ghost use Rattle.std.specs.Prelude.{◌≡◌, ◌↔◌, IsTrue};
 ghost use Rattle.dtype_types.specs.Equality.{agree, allows};
 ghost use Rattle.dtype_types.specs.Erase.{erase};
@@ -35,7 +37,6 @@ impl Nullabilities {
 
 // Whether the types are equal but for nullabilities, and those stand to one another as the rule says.
 #[cycle(agree)]
-#[tactic(auto, using(crate::proofs::OtherKinds::other_kinds, crate::proofs::OtherKinds::agreements))]
 pub(crate) fn agree(a: &DType, b: &DType, rule: Nullabilities) -> bool
     ensures { result ≡ agree rule (tree a.now) (tree b.now) }
 {

@@ -5,12 +5,11 @@
 // through an extension.
 #![tactic(auto, using(crate::proofs::KindLaws::kind_laws))]
 
-ghost use Rattle.std.specs.Prelude.{◌≡◌, ◌↔◌, IsTrue, IsSomeAnd, IfSome, Some};
+ghost use Rattle.std.specs.Prelude.{◌≡◌, ◌↔◌, IsTrue, IsSomeAnd, Some};
 ghost use Rattle.std.specs.Option.{option_copied, option_map};
 ghost use Rattle.dtype_base.specs.Primitives.{IsUnsigned, IsSigned, IsInteger, IsFloat};
 ghost use Rattle.dtype_types.specs.Kinds.{kind, kind_number, primitive_name, decimal_of, struct_fields, union_variants, map_parts, extension_parts, list_element, fixed_size_list_element, any_size_list_element, is_nested};
 ghost use Rattle.dtype_types.specs.TreeOf.{tree, children, choices, map_shown, extension_shown, option_tree, option_boxed, shown, extension_tree};
-ghost use Rattle.dtype_types.specs.IsValid.{IsValid, IsValidStruct, IsValidUnion, IsValidMap, IsValidExtension};
 
 use crate::{DType, ExtDTypeRef, MapDType, StructFields, UnionVariants};
 use dtype_base::{DecimalDType, PType};
@@ -233,8 +232,7 @@ impl DType {
 
     /// The element of a `List`, else `None`.
     pub fn as_list_element_opt(&self) -> Option<&DType>
-        ensures held { option_tree result ≡ list_element (tree self.now) }
-        ensures valid { IsValid self.now → IfSome result (λ d. IsValid d.now) }
+        ensures { option_tree result ≡ list_element (tree self.now) }
     {
         match self {
             DType::List(element, _) => Some(element),
@@ -244,8 +242,7 @@ impl DType {
 
     /// The element of a `FixedSizeList`, else `None`.
     pub fn as_fixed_size_list_element_opt(&self) -> Option<&DType>
-        ensures held { option_tree result ≡ fixed_size_list_element (tree self.now) }
-        ensures valid { IsValid self.now → IfSome result (λ d. IsValid d.now) }
+        ensures { option_tree result ≡ fixed_size_list_element (tree self.now) }
     {
         match self {
             DType::FixedSizeList(element, _, _) => Some(element),
@@ -255,8 +252,7 @@ impl DType {
 
     /// The element of a `List` or of a `FixedSizeList`, else `None`.
     pub fn as_any_size_list_element_opt(&self) -> Option<&DType>
-        ensures held { option_tree result ≡ any_size_list_element (tree self.now) }
-        ensures valid { IsValid self.now → IfSome result (λ d. IsValid d.now) }
+        ensures { option_tree result ≡ any_size_list_element (tree self.now) }
     {
         match self {
             DType::List(element, _) | DType::FixedSizeList(element, _, _) => Some(element),
@@ -266,8 +262,7 @@ impl DType {
 
     /// What a `Map` holds, else `None`.
     pub fn as_map_opt(&self) -> Option<&MapDType>
-        ensures held { shown map_shown result ≡ map_parts (tree self.now) }
-        ensures valid { IsValid self.now → IfSome result (λ m. IsValidMap m.now) }
+        ensures { shown map_shown result ≡ map_parts (tree self.now) }
     {
         match self {
             DType::Map(map, _) => Some(map),
@@ -277,8 +272,7 @@ impl DType {
 
     /// The fields of a `Struct`, else `None`.
     pub fn as_struct_fields_opt(&self) -> Option<&StructFields>
-        ensures held { shown children result ≡ struct_fields (tree self.now) }
-        ensures valid { IsValid self.now → IfSome result (λ s. IsValidStruct s.now) }
+        ensures { shown children result ≡ struct_fields (tree self.now) }
     {
         match self {
             DType::Struct(fields, _) => Some(fields),
@@ -288,8 +282,7 @@ impl DType {
 
     /// The variants of a `Union`, else `None`.
     pub fn as_union_variants_opt(&self) -> Option<&UnionVariants>
-        ensures held { shown choices result ≡ union_variants (tree self.now) }
-        ensures valid { IsValid self.now → IfSome result (λ u. IsValidUnion u.now) }
+        ensures { shown choices result ≡ union_variants (tree self.now) }
     {
         match self {
             DType::Union(variants, _) => Some(variants),
@@ -299,8 +292,7 @@ impl DType {
 
     /// The extension that this is, else `None`.
     pub fn as_extension_opt(&self) -> Option<&ExtDTypeRef>
-        ensures held { shown extension_shown result ≡ extension_parts (tree self.now) }
-        ensures valid { IsValid self.now → IfSome result (λ e. IsValidExtension e.now) }
+        ensures { shown extension_shown result ≡ extension_parts (tree self.now) }
     {
         match self {
             DType::Extension(extension) => Some(extension),
@@ -320,8 +312,7 @@ impl DType {
 
     /// The element of a `List`, given up, else `None`.
     pub fn into_list_element_opt(self) -> Option<Box<DType>>
-        ensures held { option_boxed result ≡ list_element (tree self) }
-        ensures valid { IsValid self → IfSome result (λ b. IsValid b.value) }
+        ensures { option_boxed result ≡ list_element (tree self) }
     {
         match self {
             DType::List(element, _) => Some(element),
@@ -331,8 +322,7 @@ impl DType {
 
     /// The element of a `FixedSizeList`, given up, else `None`.
     pub fn into_fixed_size_list_element_opt(self) -> Option<Box<DType>>
-        ensures held { option_boxed result ≡ fixed_size_list_element (tree self) }
-        ensures valid { IsValid self → IfSome result (λ b. IsValid b.value) }
+        ensures { option_boxed result ≡ fixed_size_list_element (tree self) }
     {
         match self {
             DType::FixedSizeList(element, _, _) => Some(element),
@@ -342,8 +332,7 @@ impl DType {
 
     /// The element of a `List` or of a `FixedSizeList`, given up, else `None`.
     pub fn into_any_size_list_element_opt(self) -> Option<Box<DType>>
-        ensures held { option_boxed result ≡ any_size_list_element (tree self) }
-        ensures valid { IsValid self → IfSome result (λ b. IsValid b.value) }
+        ensures { option_boxed result ≡ any_size_list_element (tree self) }
     {
         match self {
             DType::List(element, _) | DType::FixedSizeList(element, _, _) => Some(element),
@@ -353,8 +342,7 @@ impl DType {
 
     /// What a `Map` holds, given up, else `None`.
     pub fn into_map_opt(self) -> Option<MapDType>
-        ensures held { option_map map_shown result ≡ map_parts (tree self) }
-        ensures valid { IsValid self → IfSome result IsValidMap }
+        ensures { option_map map_shown result ≡ map_parts (tree self) }
     {
         match self {
             DType::Map(map, _) => Some(map),
@@ -364,8 +352,7 @@ impl DType {
 
     /// The fields of a `Struct`, given up, else `None`.
     pub fn into_struct_fields_opt(self) -> Option<StructFields>
-        ensures held { option_map children result ≡ struct_fields (tree self) }
-        ensures valid { IsValid self → IfSome result IsValidStruct }
+        ensures { option_map children result ≡ struct_fields (tree self) }
     {
         match self {
             DType::Struct(fields, _) => Some(fields),
@@ -375,8 +362,7 @@ impl DType {
 
     /// The variants of a `Union`, given up, else `None`.
     pub fn into_union_variants_opt(self) -> Option<UnionVariants>
-        ensures held { option_map choices result ≡ union_variants (tree self) }
-        ensures valid { IsValid self → IfSome result IsValidUnion }
+        ensures { option_map choices result ≡ union_variants (tree self) }
     {
         match self {
             DType::Union(variants, _) => Some(variants),
@@ -387,8 +373,7 @@ impl DType {
     /// The fields of the struct that this is.
     pub fn as_struct_fields(&self) -> &StructFields
         requires { kind (tree self.now) ≡ Kind.Struct }
-        ensures held { struct_fields (tree self.now) ≡ Some (children result.now) }
-        ensures valid { IsValid self.now → IsValidStruct result.now }
+        ensures { struct_fields (tree self.now) ≡ Some (children result.now) }
     {
         match self {
             DType::Struct(fields, _) => fields,
@@ -399,8 +384,7 @@ impl DType {
     /// The fields of the struct that this is, given up.
     pub fn into_struct_fields(self) -> StructFields
         requires { kind (tree self) ≡ Kind.Struct }
-        ensures held { struct_fields (tree self) ≡ Some (children result) }
-        ensures valid { IsValid self → IsValidStruct result }
+        ensures { struct_fields (tree self) ≡ Some (children result) }
     {
         match self {
             DType::Struct(fields, _) => fields,
@@ -411,8 +395,7 @@ impl DType {
     /// The extension that this is.
     pub fn as_extension(&self) -> &ExtDTypeRef
         requires { kind (tree self.now) ≡ Kind.Extension }
-        ensures held { tree self.now ≡ extension_tree result.now }
-        ensures valid { IsValid self.now → IsValidExtension result.now }
+        ensures { tree self.now ≡ extension_tree result.now }
     {
         match self {
             DType::Extension(extension) => extension,

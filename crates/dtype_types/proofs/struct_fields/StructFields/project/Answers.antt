@@ -1,36 +1,39 @@
 -- SPDX-License-Identifier: Apache-2.0
 -- SPDX-FileCopyrightText: Copyright the Vortex contributors
 
-use Rattle.std.proofs.Common.{sym, subst, arith}
+use Rattle.std.proofs.Common.{◌≡◌, None, sym, subst, arith}
 use Rattle.std.proofs.lemmas.List.{take_all}
 use Rattle.std.proofs.lemmas.Result.{IfOk-weaker}
-use Rattle.dtype_base.specs.FieldNames.{FirstAt, IsAbsent}
-use Rattle.dtype_types.specs.lemmas.Validity.{valid_projected}
-use Rattle.dtype_types.proofs.Projections.{field_at, absent_none, found_within, projects_more, first_unknown, all_known, projected_alike}
+use Rattle.dtype_base.specs.FieldNames.{FirstAt}
+use Rattle.dtype_base.specs.lemmas.Lookups.{first_of_place}
+use Rattle.dtype_types.specs.lemmas.Lookups.{no_field_at_place}
+use Rattle.dtype_types.proofs.Projections.{field_at, found_within, projects_more, first_unknown}
 use Rattle.dtype_types.specs.Building.{fields_so_far}
-use Rattle.dtype_types.specs.Lookups.{Projects, field_names}
+use Rattle.dtype_types.specs.lemmas.Validity.{valid_projected}
 use Rattle.dtype_types.specs.Tree.{fields}
-use Rattle.dtype_types.specs.TreeOf.{children}
 use Rattle.dtype_types.specs.Valid.{ValidFields}
+use Rattle.dtype_types.specs.Lookups.{Projects, field_names, first_named}
+use Rattle.dtype_types.specs.TreeOf.{children}
+use Rattle.dtype_types.proofs.Projected.{projected_alike, projected_known}
 use Rattle.dtype_types.proofs.struct_fields.StructFields.project.Goals as goal
 
 pub push_copy-requires : goal.push_copy-requires
 push_copy-requires c =
     let s = c.args.self.now in
-    found_within (children s) _ c.in-Some.i (subst (λ m. FirstAt (field_names (children s)) m c.in-Some.i) c.as_str.ensures c.in-Some.ensures.found)
+    found_within (children s) _ c.in-Some.i (subst (λ m. FirstAt (field_names (children s)) m c.in-Some.i) c.as_str.ensures (first_of_place (field_names (children s)) _ c.in-Some.i c.in-Some.ensures))
 
 pub returns-in-None-clause-refused : goal.returns-in-None-clause-refused
 returns-in-None-clause-refused c =
     let fs = children c.args.self.now in
     let n = c.index-projection-position.result in
-    let absent = subst (IsAbsent (field_names fs)) c.as_str.ensures c.in-None.ensures.none in
-    first_unknown fs c.args.projection.now (fields_so_far c.loop-position.fields) c.loop-position.position n (omega arith) c.index-projection-position.is c.loop-position.invariant (absent_none fs n absent)
+    let unknown = subst (λ m. None ≡ first_named fs m) c.as_str.ensures (no_field_at_place fs _ c.in-None.ensures) in
+    first_unknown fs c.args.projection.now (fields_so_far c.loop-position.fields) c.loop-position.position n (omega arith) c.index-projection-position.is c.loop-position.invariant (sym unknown)
 
 pub loop-position-preserved : goal.loop-position-preserved
 loop-position-preserved c =
     let fs = children c.args.self.now in
     let n = c.index-projection-position.result in
-    let found = subst (λ m. FirstAt (field_names fs) m c.in-Some.i) c.as_str.ensures c.in-Some.ensures.found in
+    let found = subst (λ m. FirstAt (field_names fs) m c.in-Some.i) c.as_str.ensures (first_of_place (field_names fs) _ c.in-Some.i c.in-Some.ensures) in
     let copied = c.in_ok-fields-in-Some.ensures.ok in
     let here = field_at fs n c.in-Some.i copied.0 (found_within fs n c.in-Some.i found) copied.1 found in
     subst (Projects fs _) (sym copied.2)
@@ -47,11 +50,14 @@ returns-clause-each c =
     let fs = children c.args.self.now in
     let names = c.args.projection.now in
     let all = subst (λ ns. Projects fs ns (fields_so_far c.loop-position.fields)) (take_all c.loop-position.position names (omega arith)) c.loop-position.invariant in
-    IfOk-weaker c.finish.result _ _ (λ s e. projected_alike fs names (children s) (subst (Projects fs names) (sym e) all)) c.finish.ensures.fields
+    IfOk-weaker c.finish.result _ _
+    (λ s e.
+    let made = subst (Projects fs names) (sym e) all in projected_alike fs names (children s) made.names_are made.types_are)
+    c.finish.ensures.fields
 
 pub returns-clause-there : goal.returns-clause-there
 returns-clause-there c = λ ok.
     let fs = children c.args.self.now in
     let names = c.args.projection.now in
     let all = subst (λ ns. Projects fs ns (fields_so_far c.loop-position.fields)) (take_all c.loop-position.position names (omega arith)) c.loop-position.invariant in
-    all_known fs names (fields_so_far c.loop-position.fields) all.types_are
+    projected_known fs names (fields_so_far c.loop-position.fields) all.types_are

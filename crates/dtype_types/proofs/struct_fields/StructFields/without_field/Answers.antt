@@ -1,16 +1,14 @@
 -- SPDX-License-Identifier: Apache-2.0
 -- SPDX-FileCopyrightText: Copyright the Vortex contributors
 
-use Rattle.std.proofs.Common.{ℕ, List, arith, ap, sym, subst, ◌∙◌, ◌++◌, ◌∷◌, [], refl, length-append}
+use Rattle.std.proofs.Common.{ℕ, List, arith, ap, sym, ◌∙◌, ◌++◌, ◌∷◌, [], refl, length-append}
 use Rattle.std.specs.Iterator.Adapters.{enumerate_source}
 use Rattle.std.specs.Prelude.{remove}
 use Rattle.std.proofs.lemmas.Result.{IfOk-weaker}
 use Rattle.dtype_types.specs.Lists.{lent_pair}
-use Rattle.dtype_types.specs.Tree.{Tree, fields}
+use Rattle.dtype_types.specs.Tree.{Tree}
 use Rattle.dtype_types.specs.TreeOf.{tree, children, with_trees}
 use Rattle.dtype_types.specs.Building.{fields_so_far}
-use Rattle.dtype_types.specs.Valid.{ValidFields}
-use Rattle.dtype_types.specs.lemmas.Validity.{valid_removed}
 use Rattle.dtype_types.proofs.Walks.{next_numbered, none_numbered, moves_over, all_moved}
 use Rattle.dtype_types.proofs.PutTogether.{push_remove, push_removed}
 use Rattle.dtype_types.proofs.struct_fields.StructFields.without_field.Goals as goal
@@ -21,11 +19,6 @@ returns-clause-fields c =
     let none = none_numbered lent_pair c.loop-i.i-iterator c.next.new.self c.next.result c.in-None.is c.next.ensures.steps in
     let all = all_moved inv.done _ (children c.args.self.now) inv.left (ap with_trees none) in
     IfOk-weaker c.finish.result _ _ (λ s e. e ∙ inv.kept ∙ ap (λ xs. remove xs c.args.index) all) c.finish.ensures.fields
-
-pub returns-clause-valid : goal.returns-clause-valid
-returns-clause-valid c = λ h.
-    let fs = children c.args.self.now in
-    IfOk-weaker c.finish.result _ _ (λ s e. subst (λ ps. ValidFields (fields ps)) (sym e) (valid_removed fs c.args.index h)) (returns-clause-fields c)
 
 pub loop-i-preserved-then-i-index : goal.loop-i-preserved-then-i-index
 loop-i-preserved-then-i-index c =

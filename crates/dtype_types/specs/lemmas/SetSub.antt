@@ -10,7 +10,7 @@ use Rattle.dtype_types.specs.Nullable.{nullability, set_null}
 use Rattle.dtype_types.specs.Sub.{Sub, Allows, NullableWherever}
 use Rattle.dtype_types.specs.Tree.{Tree, null, bool, primitive, decimal, utf8, binary, list, fixed_size_list, map_of, struct, union, variant, extension}
 use Rattle.dtype_types.specs.lemmas.Nullabilities.{by_storage, set_keeps}
-use Rattle.dtype_types.proofs.SubLaws.{sub_reflexive}
+use Rattle.dtype_types.specs.lemmas.SubLaws.{sub_reflexive}
 
 -- where the first is non-nullable, nothing is asked
 from_non_nullable : (m : Nullability) → Allows NonNullable m

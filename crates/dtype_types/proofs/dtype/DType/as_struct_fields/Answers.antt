@@ -1,8 +1,0 @@
--- SPDX-License-Identifier: Apache-2.0
--- SPDX-FileCopyrightText: Copyright the Vortex contributors
-
-use Rattle.dtype_types.specs.lemmas.Validity.{valid_struct}
-use Rattle.dtype_types.proofs.dtype.DType.as_struct_fields.Goals as goal
-
-pub returns-clause-valid : goal.returns-clause-valid
-returns-clause-valid c = valid_struct c.args.self.now c.in-Struct.fields c.in-Struct.field-1 c.in-Struct.is

@@ -1,0 +1,29 @@
+// SPDX-License-Identifier: Apache-2.0
+// SPDX-FileCopyrightText: Copyright the Vortex contributors
+
+// Lookups that say how many names they compared.
+#![tactic(auto, using(dtype_base::specs::lemmas::Lookups::lookups))]
+
+ghost use Rattle.std.specs.Prelude.{◌≡◌, ◌≤◌, length, true};
+ghost use Rattle.dtype_base.specs.FieldNames.{first_place};
+ghost use Rattle.dtype_types.specs.Lookups.{field_names};
+ghost use Rattle.dtype_types.specs.TreeOf.{children};
+
+use dtype_types::StructFields;
+
+/// Whether a counted lookup gives the place that `find` does.
+pub fn counted_place_is_found_place(fields: &StructFields, name: &str) -> bool
+    ensures { result ≡ true }
+{
+    fields.find_counted(name).0 == fields.find(name)
+}
+
+/// The place of the first field of the name, of at most 1,000 fields, and how many of their names were
+/// compared for it.
+pub fn place_among_a_thousand(fields: &StructFields, name: &str) -> (Option<usize>, u64)
+    requires { length (children fields.now) ≤ 1000 }
+    ensures place { result.0 ≡ first_place (field_names (children fields.now)) name.now }
+    ensures few { result.1 ≤ 11 }
+{
+    fields.find_counted(name)
+}

@@ -1,0 +1,45 @@
+// SPDX-License-Identifier: Apache-2.0
+// SPDX-FileCopyrightText: Copyright the Vortex contributors
+
+//! Unions made of names, types and tags.
+#![tactic(auto, using(dtype_types::specs::lemmas::MadeOf::made_of, dtype_types::specs::lemmas::Tags::tags, dtype_types::specs::lemmas::Lookups::lookups))]
+
+ghost use Rattle.std.specs.Prelude.{◌≡◌, IfOk, map};
+ghost use Rattle.dtype_types.specs.Lookups.{variant_named};
+ghost use Rattle.dtype_types.specs.TreeOf.{choices, option_tree, tree, union_names, union_tags, union_types};
+ghost use Rattle.dtype_types.specs.Unions.{AreConsecutive};
+
+use dtype_base::{FieldNames, VortexResult};
+use dtype_types::{DType, UnionVariants};
+use std::alloc::Global;
+
+/// The union of these names and types.
+pub fn numbered(alloc: Global, names: FieldNames, dtypes: Vec<DType>) -> VortexResult<UnionVariants>
+    ensures names { IfOk result (λ u. union_names u ≡ names) }
+    ensures types { IfOk result (λ u. union_types u ≡ map tree dtypes.items) }
+    ensures tags { IfOk result (λ u. AreConsecutive (union_tags u)) }
+{
+    let variants = UnionVariants::new(alloc, names, dtypes)?;
+    Ok(variants)
+}
+
+/// The tags of a union are those that it was made of.
+pub fn tagged(
+    alloc: Global,
+    names: FieldNames,
+    dtypes: Vec<DType>,
+    tags: Vec<u8>,
+) -> VortexResult<UnionVariants>
+    ensures { IfOk result (λ u. union_tags u ≡ tags.items) }
+{
+    let variants = UnionVariants::try_new(alloc, names, dtypes, tags)?;
+    Ok(variants)
+}
+
+/// The type of the variant of the name, by its position.
+pub fn variant_by_find<'a>(variants: &'a UnionVariants, name: &str) -> Option<&'a DType>
+    ensures { option_tree result ≡ variant_named (choices variants.now) name.now }
+{
+    let index = variants.find(name)?;
+    variants.variant_by_index(index)
+}

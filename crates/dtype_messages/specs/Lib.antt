@@ -8,4 +8,5 @@ pub mod Same
 pub mod SameLaws
 pub mod PathNames
 pub mod PathNameLaws
+pub mod lemmas
 pub use Rattle.dtype_base.specs.Primitives

@@ -4,7 +4,7 @@
 // Equality of messages: two are equal where their trees are, which is where all their fields are, and so are two
 // structs of one kind. The kinds that hold no message derive theirs in `pb`.
 ghost use Rattle.std.specs.Prelude.{◌≡◌, ◌↔◌, IsTrue};
-ghost use Rattle.dtype_messages.specs.MessageOf.{message, kind_message, list_parts, fixed_parts, map_parts, struct_parts, union_parts, extension_parts};
+ghost use Rattle.dtype_messages.specs.MessageOf.{message};
 
 use crate::pb::{DType, DtypeType, Extension, FixedSizeList, List, Map, Struct, Union};
 use crate::same::{
@@ -42,11 +42,7 @@ impl PartialEq for DtypeType {
 
     ghost laws = { partial_equiv_from_equiv same_kind_equiv };
 
-    #[tactic(auto, using(crate::specs::SameLaws::same_Decides))]
-    fn eq(&self, other: &DtypeType) -> bool
-        ensures same { result ≡ same_kind self.now other.now }
-        ensures exact { IsTrue result ↔ (kind_message self.now ≡ kind_message other.now) }
-    {
+    fn eq(&self, other: &DtypeType) -> bool {
         same_kind(self, other)
     }
 }
@@ -65,11 +61,7 @@ impl PartialEq for List {
 
     ghost laws = { partial_equiv_from_equiv same_list_equiv };
 
-    #[tactic(auto, using(crate::specs::SameLaws::lists_Decides))]
-    fn eq(&self, other: &List) -> bool
-        ensures same { result ≡ same_list self.now other.now }
-        ensures exact { IsTrue result ↔ (list_parts self.now ≡ list_parts other.now) }
-    {
+    fn eq(&self, other: &List) -> bool {
         same_list(self, other)
     }
 }
@@ -88,11 +80,7 @@ impl PartialEq for FixedSizeList {
 
     ghost laws = { partial_equiv_from_equiv same_fixed_equiv };
 
-    #[tactic(auto, using(crate::specs::SameLaws::fixed_lists_Decides))]
-    fn eq(&self, other: &FixedSizeList) -> bool
-        ensures same { result ≡ same_fixed self.now other.now }
-        ensures exact { IsTrue result ↔ (fixed_parts self.now ≡ fixed_parts other.now) }
-    {
+    fn eq(&self, other: &FixedSizeList) -> bool {
         same_fixed(self, other)
     }
 }
@@ -111,11 +99,7 @@ impl PartialEq for Map {
 
     ghost laws = { partial_equiv_from_equiv same_map_equiv };
 
-    #[tactic(auto, using(crate::specs::SameLaws::maps_Decides))]
-    fn eq(&self, other: &Map) -> bool
-        ensures same { result ≡ same_map self.now other.now }
-        ensures exact { IsTrue result ↔ (map_parts self.now ≡ map_parts other.now) }
-    {
+    fn eq(&self, other: &Map) -> bool {
         same_map(self, other)
     }
 }
@@ -134,11 +118,7 @@ impl PartialEq for Struct {
 
     ghost laws = { partial_equiv_from_equiv same_struct_equiv };
 
-    #[tactic(auto, using(crate::specs::SameLaws::structs_Decides))]
-    fn eq(&self, other: &Struct) -> bool
-        ensures same { result ≡ same_struct self.now other.now }
-        ensures exact { IsTrue result ↔ (struct_parts self.now ≡ struct_parts other.now) }
-    {
+    fn eq(&self, other: &Struct) -> bool {
         same_struct(self, other)
     }
 }
@@ -157,11 +137,7 @@ impl PartialEq for Union {
 
     ghost laws = { partial_equiv_from_equiv same_union_equiv };
 
-    #[tactic(auto, using(crate::specs::SameLaws::unions_Decides))]
-    fn eq(&self, other: &Union) -> bool
-        ensures same { result ≡ same_union self.now other.now }
-        ensures exact { IsTrue result ↔ (union_parts self.now ≡ union_parts other.now) }
-    {
+    fn eq(&self, other: &Union) -> bool {
         same_union(self, other)
     }
 }
@@ -180,11 +156,7 @@ impl PartialEq for Extension {
 
     ghost laws = { partial_equiv_from_equiv same_extension_equiv };
 
-    #[tactic(auto, using(crate::specs::SameLaws::extensions_Decides))]
-    fn eq(&self, other: &Extension) -> bool
-        ensures same { result ≡ same_extension self.now other.now }
-        ensures exact { IsTrue result ↔ (extension_parts self.now ≡ extension_parts other.now) }
-    {
+    fn eq(&self, other: &Extension) -> bool {
         same_extension(self, other)
     }
 }

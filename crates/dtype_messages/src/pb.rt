@@ -3,7 +3,7 @@
 
 // The messages themselves. A contract sees a type's message as its tree (`message` of `specs/MessageOf`), the other
 // structs as their fields by those trees, and a path as the names that its parts hold.
-ghost use Rattle.std.specs.Prelude.{◌≡◌, pos, Ok, IfOk, IfSome, IsOkUnless, map, option_map, string_bytes};
+ghost use Rattle.std.specs.Prelude.{◌≡◌, pos, Ok, IfOk, IsOkUnless, map, option_map, string_bytes};
 ghost use Rattle.dtype_base.specs.declared.vortex_error.VortexError.TheVariants.{OutOfMemory};
 ghost use Rattle.dtype_base.specs.Primitives.{primitive};
 ghost use Rattle.dtype_messages.specs.MessageOf.{message, kind_message, child, list_parts, fixed_parts, map_parts, struct_parts, union_parts, extension_parts, bytes_of};
@@ -231,8 +231,7 @@ pub enum PType {
 impl PType {
     /// The primitive type of this number, from 0 to 10, or `None` for every other.
     pub fn from_number(number: i32) -> Option<PType>
-        ensures named { option_map plain result ≡ ptype_at number }
-        ensures number { IfSome result (λ p. number ≡ pos (primitive (plain p)).number) }
+        ensures { option_map plain result ≡ ptype_at number }
     {
         match number {
             0 => Some(PType::U8),

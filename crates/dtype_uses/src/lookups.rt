@@ -27,3 +27,11 @@ pub fn place_among_a_thousand(fields: &StructFields, name: &str) -> (Option<usiz
 {
     fields.find_counted(name)
 }
+
+/// Whether two lookups in one struct compare equally many names: they do, whichever names are looked for, found
+/// or not.
+pub fn compares_as_many(fields: &StructFields, first: &str, second: &str) -> bool
+    ensures { result ≡ true }
+{
+    fields.find_counted(first).1 == fields.find_counted(second).1
+}

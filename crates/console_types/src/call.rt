@@ -55,6 +55,13 @@ impl<'a> Call<'a> {
         Ok(dtype)
     }
 
+    /// Reads two types, behind which the line ends.
+    pub fn last_pair(&mut self) -> ConsoleResult<(DType, DType)> {
+        let first = self.dtype()?;
+        let second = self.last_dtype()?;
+        Ok((first, second))
+    }
+
     /// Reads the types up to the line's end.
     pub fn dtypes(&mut self) -> ConsoleResult<Vec<DType>> {
         let mut dtypes = Vec::new(self.alloc);
@@ -194,6 +201,13 @@ impl<'a> Call<'a> {
         self.line.hexadecimals(self.alloc)
     }
 
+    /// Reads metadata in hexadecimal and a storage, behind which the line ends.
+    pub fn last_metadata_and_storage(&mut self) -> ConsoleResult<(Vec<u8>, DType)> {
+        let metadata = self.hexadecimals()?;
+        let storage = self.last_dtype()?;
+        Ok((metadata, storage))
+    }
+
     /// Reads an id.
     pub fn id(&mut self) -> ConsoleResult<ExtId> {
         self.line.skip_blanks();
@@ -201,7 +215,8 @@ impl<'a> Call<'a> {
             let text = self.line.quoted_text(self.alloc)?;
             Ok(ExtId::new(self.alloc, text.as_str())?)
         } else {
-            Ok(ExtId::new(self.alloc, self.line.dotted_word("an id")?)?)
+            let word = self.line.dotted_word("an id")?;
+            Ok(ExtId::new(self.alloc, word)?)
         }
     }
 
@@ -243,12 +258,18 @@ impl<'a> Call<'a> {
 
     /// Answers the words that hold.
     pub fn say_words(&mut self, words: &[(&str, bool)]) -> ConsoleResult<()> {
+        self.say_those(words)?;
+        self.end_list()
+    }
+
+    /// Answers the words that hold, where more are to come.
+    pub fn say_those(&mut self, words: &[(&str, bool)]) -> ConsoleResult<()> {
         for (word, holds) in words {
             if *holds {
                 self.say(*word)?;
             }
         }
-        self.end_list()
+        Ok(())
     }
 
     /// Answers tags.

@@ -14,38 +14,34 @@ pub fn answer(call: &mut Call<'_>, command: &str) -> ConsoleResult<bool> {
         | "subset"
         | "superset"
         | "hash_eq"
-        | "hash_ignore_nullability_eq" => {
-            let dtype = call.dtype()?;
-            let other = call.last_dtype()?;
-            call.say(compare(command, &dtype, &other))?;
-        }
-        "inner_eq" | "inner_eq_ignore_nullability" | "inner_hash_eq" => {
-            let dtype = call.dtype()?;
-            let other = call.last_dtype()?;
-            let told = compare_inner(command, &dtype, &other);
-            call.say(told.ok_or(ConsoleFault::Unmet("two types of one such kind"))?)?;
-        }
+        | "hash_ignore_nullability_eq"
+        | "inner_eq"
+        | "inner_eq_ignore_nullability"
+        | "inner_hash_eq" => hold_against(call, command),
         _ => return Ok(false),
-    }
+    }?;
     Ok(true)
 }
 
-fn compare(command: &str, dtype: &DType, other: &DType) -> bool {
-    match command {
-        "eq" => dtype == other,
-        "eq_ignore_nullability" => dtype.eq_ignore_nullability(other),
-        "subset" => dtype.eq_with_nullability_subset(other),
-        "superset" => dtype.eq_with_nullability_superset(other),
-        "hash_eq" => hash_of(dtype) == hash_of(other),
-        _ => hash_ignoring_nullability(dtype) == hash_ignoring_nullability(other),
+fn hold_against(call: &mut Call<'_>, command: &str) -> ConsoleResult<()> {
+    let (dtype, other) = call.last_pair()?;
+    match compare(command, &dtype, &other) {
+        Some(told) => call.say(told),
+        None => Err(ConsoleFault::Unmet("two types of one such kind")),
     }
 }
 
-fn compare_inner(command: &str, dtype: &DType, other: &DType) -> Option<bool> {
+fn compare(command: &str, dtype: &DType, other: &DType) -> Option<bool> {
     match command {
+        "eq" => Some(dtype == other),
+        "eq_ignore_nullability" => Some(dtype.eq_ignore_nullability(other)),
+        "subset" => Some(dtype.eq_with_nullability_subset(other)),
+        "superset" => Some(dtype.eq_with_nullability_superset(other)),
+        "hash_eq" => Some(hash_of(dtype) == hash_of(other)),
         "inner_eq" => inner_eq(dtype, other),
         "inner_hash_eq" => inner_hash_eq(dtype, other),
-        _ => inner_eq_ignore_nullability(dtype, other),
+        "inner_eq_ignore_nullability" => inner_eq_ignore_nullability(dtype, other),
+        _ => Some(hash_ignoring_nullability(dtype) == hash_ignoring_nullability(other)),
     }
 }
 

@@ -10,20 +10,20 @@ use dtype_base::{DecimalDType, DecimalType, MAX_PRECISION, MAX_SCALE};
 /// Answers the command, if it is one of these.
 pub fn answer(call: &mut Call<'_>, command: &str) -> ConsoleResult<bool> {
     match command {
-        "decimal" | "decimal_new" => made(call, command)?,
+        "decimal" | "decimal_new" => made(call, command),
         "precision"
         | "scale"
         | "required_bit_width"
         | "decimal_text"
-        | "smallest_decimal_value_type" => ask(call, command)?,
-        "decimal_eq" | "decimal_hash_eq" => compare(call, command)?,
-        "is_compatible_decimal_value_type" => is_compatible(call)?,
-        "decimal_type_width" => decimal_type_width(call)?,
-        "decimal_type_cmp" => decimal_type_cmp(call)?,
-        "decimal_type_from" => decimal_type_from(call)?,
-        "decimal_maxima" => decimal_maxima(call)?,
+        | "smallest_decimal_value_type" => ask(call, command),
+        "decimal_eq" | "decimal_hash_eq" => compare(call, command),
+        "is_compatible_decimal_value_type" => is_compatible(call),
+        "decimal_type_width" => decimal_type_width(call),
+        "decimal_type_cmp" => decimal_type_cmp(call),
+        "decimal_type_from" => decimal_type_from(call),
+        "decimal_maxima" => decimal_maxima(call),
         _ => return Ok(false),
-    }
+    }?;
     Ok(true)
 }
 

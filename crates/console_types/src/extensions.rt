@@ -17,12 +17,12 @@ pub fn answer(call: &mut Call<'_>, command: &str) -> ConsoleResult<bool> {
         | "extension_is_nullable"
         | "metadata_text"
         | "extension_text"
-        | "extension_copy" => ask(call, command)?,
-        "extension" => extension(call)?,
-        "extension_parts" => extension_parts(call)?,
-        "extension_with_nullability" => extension_with_nullability(call)?,
+        | "extension_copy" => ask(call, command),
+        "extension" => extension(call),
+        "extension_parts" => extension_parts(call),
+        "extension_with_nullability" => extension_with_nullability(call),
         _ => return Ok(false),
-    }
+    }?;
     Ok(true)
 }
 
@@ -52,10 +52,15 @@ fn ask(call: &mut Call<'_>, command: &str) -> ConsoleResult<()> {
 }
 
 fn extension(call: &mut Call<'_>) -> ConsoleResult<()> {
+    let made = read_parts(call)?;
+    call.say_extension(&made)
+}
+
+// Reads an id, metadata and a storage, and makes an extension of them.
+fn read_parts(call: &mut Call<'_>) -> ConsoleResult<ExtDTypeRef> {
     let id = call.id()?;
-    let metadata = call.hexadecimals()?;
-    let storage = call.last_dtype()?;
-    call.say_extension(&ExtDTypeRef::from_parts(call.alloc, id, metadata, storage)?)
+    let (metadata, storage) = call.last_metadata_and_storage()?;
+    Ok(ExtDTypeRef::from_parts(call.alloc, id, metadata, storage)?)
 }
 
 fn extension_parts(call: &mut Call<'_>) -> ConsoleResult<()> {

@@ -9,28 +9,24 @@ use dtype_types::{DType, ExtDTypeRef, MapDType, StructFields, UnionVariants};
 pub fn answer(call: &mut Call<'_>, command: &str) -> ConsoleResult<bool> {
     match command {
         "as_list_element_opt" | "as_fixed_size_list_element_opt" | "as_any_size_list_element_opt" =>
-            {
-                let dtype = call.last_dtype()?;
-                call.say_dtype_option(lent_element(command, &dtype))?;
-            }
+            { say_lent_element(call, command) }
         "into_list_element_opt"
         | "into_fixed_size_list_element_opt"
-        | "into_any_size_list_element_opt" => {
-            let element = element(command, call.last_dtype()?);
-            call.say_dtype_option(element.as_deref())?;
-        }
-        "as_decimal_opt" | "into_decimal_opt" => decimal(call, command)?,
-        "as_map_opt" | "into_map_opt" => map(call, command)?,
-        "as_struct_fields_opt" | "into_struct_fields_opt" => fields(call, command)?,
-        "as_union_variants_opt" | "into_union_variants_opt" => variants(call, command)?,
-        "as_extension_opt" => {
-            let dtype = call.last_dtype()?;
-            say_extension(call, dtype.as_extension_opt())?;
-        }
-        "as_struct_fields" | "into_struct_fields" | "as_extension" => within(call, command)?,
+        | "into_any_size_list_element_opt" => say_element(call, command),
+        "as_decimal_opt" | "into_decimal_opt" => decimal(call, command),
+        "as_map_opt" | "into_map_opt" => map(call, command),
+        "as_struct_fields_opt" | "into_struct_fields_opt" => fields(call, command),
+        "as_union_variants_opt" | "into_union_variants_opt" => variants(call, command),
+        "as_extension_opt" => extension(call),
+        "as_struct_fields" | "into_struct_fields" | "as_extension" => within(call, command),
         _ => return Ok(false),
-    }
+    }?;
     Ok(true)
+}
+
+fn say_lent_element(call: &mut Call<'_>, command: &str) -> ConsoleResult<()> {
+    let dtype = call.last_dtype()?;
+    call.say_dtype_option(lent_element(command, &dtype))
 }
 
 fn lent_element<'a>(command: &str, dtype: &'a DType) -> Option<&'a DType> {
@@ -39,6 +35,11 @@ fn lent_element<'a>(command: &str, dtype: &'a DType) -> Option<&'a DType> {
         "as_fixed_size_list_element_opt" => dtype.as_fixed_size_list_element_opt(),
         _ => dtype.as_any_size_list_element_opt(),
     }
+}
+
+fn say_element(call: &mut Call<'_>, command: &str) -> ConsoleResult<()> {
+    let element = element(command, call.last_dtype()?);
+    call.say_dtype_option(element.as_deref())
 }
 
 fn element(command: &str, dtype: DType) -> Option<Box<DType>> {
@@ -100,6 +101,11 @@ fn say_variants(call: &mut Call<'_>, variants: Option<&UnionVariants>) -> Consol
         Some(variants) => call.say_variants(variants),
         None => call.say("none"),
     }
+}
+
+fn extension(call: &mut Call<'_>) -> ConsoleResult<()> {
+    let dtype = call.last_dtype()?;
+    say_extension(call, dtype.as_extension_opt())
 }
 
 fn say_extension(call: &mut Call<'_>, extension: Option<&ExtDTypeRef>) -> ConsoleResult<()> {

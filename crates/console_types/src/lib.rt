@@ -35,14 +35,32 @@ pub use writer::{WRITTEN_LEVELS, write_name, write_quoted};
 /// Answers a command of this crate, if it is one.
 pub fn answer(call: &mut Call<'_>, command: &str) -> ConsoleResult<bool> {
     Ok(
+        answer_on_types(call, command)?
+            || answer_on_parts(call, command)?
+            || answer_on_values(call, command)?,
+    )
+}
+
+fn answer_on_types(call: &mut Call<'_>, command: &str) -> ConsoleResult<bool> {
+    Ok(
         types::answer(call, command)?
             || comparisons::answer(call, command)?
-            || kinds::answer(call, command)?
-            || structs::answer(call, command)?
+            || kinds::answer(call, command)?,
+    )
+}
+
+fn answer_on_parts(call: &mut Call<'_>, command: &str) -> ConsoleResult<bool> {
+    Ok(
+        structs::answer(call, command)?
             || unions::answer(call, command)?
             || maps::answer(call, command)?
-            || extensions::answer(call, command)?
-            || names::answer(call, command)?
+            || extensions::answer(call, command)?,
+    )
+}
+
+fn answer_on_values(call: &mut Call<'_>, command: &str) -> ConsoleResult<bool> {
+    Ok(
+        names::answer(call, command)?
             || decimals::answer(call, command)?
             || primitives::answer(call, command)?,
     )

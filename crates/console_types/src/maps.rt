@@ -9,11 +9,11 @@ use dtype_types::MapDType;
 pub fn answer(call: &mut Call<'_>, command: &str) -> ConsoleResult<bool> {
     match command {
         "key_dtype" | "value_dtype" | "entries_dtype" | "keys_sorted" | "map_text" | "map_copy" => {
-            ask(call, command)?
+            ask(call, command)
         }
-        "map_try_new" => map_try_new(call)?,
+        "map_try_new" => map_try_new(call),
         _ => return Ok(false),
-    }
+    }?;
     Ok(true)
 }
 
@@ -32,7 +32,7 @@ fn ask(call: &mut Call<'_>, command: &str) -> ConsoleResult<()> {
 
 fn map_try_new(call: &mut Call<'_>) -> ConsoleResult<()> {
     let keys_sorted = call.boolean()?;
-    let key = call.dtype()?;
-    let value = call.last_dtype()?;
-    call.say_map(&MapDType::try_new(call.alloc, key, value, keys_sorted)?)
+    let (key, value) = call.last_pair()?;
+    let made = MapDType::try_new(call.alloc, key, value, keys_sorted)?;
+    call.say_map(&made)
 }

@@ -9,19 +9,19 @@ use dtype_base::FieldNames;
 /// Answers the command, if it is one of these.
 pub fn answer(call: &mut Call<'_>, command: &str) -> ConsoleResult<bool> {
     match command {
-        "name" | "name_text" => name(call, command)?,
-        "name_cmp" | "name_eq" | "name_eq_str" | "name_hash_eq" => compare(call, command)?,
+        "name" | "name_text" => name(call, command),
+        "name_cmp" | "name_eq" | "name_eq_str" | "name_hash_eq" => compare(call, command),
         "names_text"
         | "names_len"
         | "names_is_empty"
         | "names_copy"
         | "names_iter"
-        | "names_into_iter" => ask(call, command)?,
-        "names_get" | "names_at" | "names_left" => by_index(call, command)?,
-        "names_find" => names_find(call)?,
-        "names_eq" | "names_hash_eq" | "names_eq_texts" => compare_names(call, command)?,
+        | "names_into_iter" => ask(call, command),
+        "names_get" | "names_at" | "names_left" => by_index(call, command),
+        "names_find" => names_find(call),
+        "names_eq" | "names_hash_eq" | "names_eq_texts" => compare_names(call, command),
         _ => return Ok(false),
-    }
+    }?;
     Ok(true)
 }
 

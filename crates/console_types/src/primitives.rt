@@ -15,22 +15,14 @@ pub fn answer(call: &mut Call<'_>, command: &str) -> ConsoleResult<bool> {
         | "max_value_as_u64"
         | "to_signed"
         | "to_unsigned"
-        | "ptype_kinds" => ask(call, command)?,
+        | "ptype_kinds" => ask(call, command),
         "ptype_cmp" | "ptype_hash_eq" | "max_unsigned_ptype" | "max_signed_ptype" => {
-            ask_two(call, command)?
+            ask_two(call, command)
         }
-        "min_unsigned_ptype_for_value" => {
-            let value = call.number("a number of 64 bits")?;
-            call.end()?;
-            call.say(PType::min_unsigned_ptype_for_value(value))?;
-        }
-        "min_signed_ptype_for_value" => {
-            let value = call.number("a signed number of 64 bits")?;
-            call.end()?;
-            call.say(PType::min_signed_ptype_for_value(value))?;
-        }
+        "min_unsigned_ptype_for_value" => min_unsigned_ptype_for_value(call),
+        "min_signed_ptype_for_value" => min_signed_ptype_for_value(call),
         _ => return Ok(false),
-    }
+    }?;
     Ok(true)
 }
 
@@ -63,6 +55,18 @@ fn ask_two(call: &mut Call<'_>, command: &str) -> ConsoleResult<()> {
         "max_unsigned_ptype" => call.say(max_unsigned_ptype(ptype, other)?),
         _ => call.say(max_signed_ptype(ptype, other)?),
     }
+}
+
+fn min_unsigned_ptype_for_value(call: &mut Call<'_>) -> ConsoleResult<()> {
+    let value = call.number("a number of 64 bits")?;
+    call.end()?;
+    call.say(PType::min_unsigned_ptype_for_value(value))
+}
+
+fn min_signed_ptype_for_value(call: &mut Call<'_>) -> ConsoleResult<()> {
+    let value = call.number("a signed number of 64 bits")?;
+    call.end()?;
+    call.say(PType::min_signed_ptype_for_value(value))
 }
 
 fn max_unsigned_ptype(ptype: PType, other: PType) -> ConsoleResult<PType> {

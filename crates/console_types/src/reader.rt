@@ -15,8 +15,7 @@ pub const MOST_LEVELS: u32 = 128;
 #[cycle(types)]
 pub fn read_dtype(alloc: Global, line: &mut Line<'_>, levels: u32) -> ConsoleResult<DType> {
     if line.takes("{") {
-        let fields = read_fields(alloc, line, levels)?;
-        return Ok(DType::Struct(fields, line.nullability()));
+        return read_struct(alloc, line, levels);
     }
     if line.takes("\"") {
         let id = line.quoted_text(alloc)?;
@@ -29,17 +28,19 @@ pub fn read_dtype(alloc: Global, line: &mut Line<'_>, levels: u32) -> ConsoleRes
     }
     match word {
         "null" => Ok(DType::Null),
-        "decimal" => {
-            let (precision, scale) = line.decimal_parts()?;
-            let decimal = DecimalDType::try_new(precision, scale)?;
-            Ok(DType::Decimal(decimal, line.nullability()))
-        }
+        "decimal" => read_decimal(line),
         "list" => read_list(alloc, line, levels),
         "fixed_size_list" => read_fixed_size_list(alloc, line, levels),
         "map" => read_map(alloc, line, levels),
         "union" => read_union(alloc, line, levels),
         _ => plain(word, line.nullability()).ok_or(expected_at(place, "a type")),
     }
+}
+
+fn read_decimal(line: &mut Line<'_>) -> ConsoleResult<DType> {
+    let (precision, scale) = line.decimal_parts()?;
+    let decimal = DecimalDType::try_new(precision, scale)?;
+    Ok(DType::Decimal(decimal, line.nullability()))
 }
 
 // Reads a type a level deeper.
@@ -69,6 +70,11 @@ fn read_list(alloc: Global, line: &mut Line<'_>, levels: u32) -> ConsoleResult<D
 #[cycle(types)]
 fn read_fixed_size_list(alloc: Global, line: &mut Line<'_>, levels: u32) -> ConsoleResult<DType> {
     let element = read_wrapped(alloc, line, levels)?;
+    fixed_size_list_of(alloc, line, element)
+}
+
+// Reads what stands behind the type of a fixed-size list, and gives the list.
+fn fixed_size_list_of(alloc: Global, line: &mut Line<'_>, element: DType) -> ConsoleResult<DType> {
     let size = line.bracketed_size()?;
     Ok(DType::fixed_size_list(alloc, element, size, line.nullability())?)
 }
@@ -77,12 +83,20 @@ fn read_fixed_size_list(alloc: Global, line: &mut Line<'_>, levels: u32) -> Cons
 fn read_map(alloc: Global, line: &mut Line<'_>, levels: u32) -> ConsoleResult<DType> {
     line.take("(")?;
     let key = read_part(alloc, line, levels)?;
+    let value = read_value(alloc, line, levels)?;
+    map_of(alloc, line, key, value)
+}
+
+// Reads a comma, and the type of a map's values.
+#[cycle(types)]
+fn read_value(alloc: Global, line: &mut Line<'_>, levels: u32) -> ConsoleResult<DType> {
     line.comma()?;
-    let value = read_part(alloc, line, levels)?;
-    line.comma()?;
-    line.take("keys_sorted=")?;
-    let keys_sorted = line.boolean()?;
-    line.take(")")?;
+    read_part(alloc, line, levels)
+}
+
+// Reads what stands behind the types of a map, and gives the map.
+fn map_of(alloc: Global, line: &mut Line<'_>, key: DType, value: DType) -> ConsoleResult<DType> {
+    let keys_sorted = line.keys_sorted()?;
     Ok(DType::map(alloc, key, value, keys_sorted, line.nullability())?)
 }
 
@@ -94,13 +108,36 @@ fn read_extension(
     id: &str,
     levels: u32,
 ) -> ConsoleResult<DType> {
-    line.take("[")?;
-    let metadata = line.hexadecimals(alloc)?;
-    line.take("]")?;
+    let metadata = line.bracketed_bytes(alloc)?;
     let storage = read_wrapped(alloc, line, levels)?;
+    extension_of(alloc, id, metadata, storage)
+}
+
+fn extension_of(
+    alloc: Global,
+    id: &str,
+    metadata: Vec<u8>,
+    storage: DType,
+) -> ConsoleResult<DType> {
     let id = ExtId::new(alloc, id)?;
     let made = ExtDTypeRef::from_parts(alloc, id, metadata, storage)?;
     Ok(DType::Extension(made))
+}
+
+#[cycle(types)]
+fn read_struct(alloc: Global, line: &mut Line<'_>, levels: u32) -> ConsoleResult<DType> {
+    let mut fields = Vec::new(alloc);
+    read_fields(alloc, line, levels, &mut fields)?;
+    struct_of(alloc, line, fields)
+}
+
+fn struct_of(
+    alloc: Global,
+    line: &mut Line<'_>,
+    fields: Vec<(FieldName, FieldDType)>,
+) -> ConsoleResult<DType> {
+    let made = StructFields::from_iter(alloc, fields)?;
+    Ok(DType::Struct(made, line.nullability()))
 }
 
 // Reads a name, an equals sign, and a type.
@@ -110,16 +147,26 @@ fn read_field(
     line: &mut Line<'_>,
     levels: u32,
 ) -> ConsoleResult<(FieldName, FieldDType)> {
-    let name = line.name(alloc)?;
-    line.take("=")?;
+    let name = read_field_name(alloc, line)?;
     let dtype = read_part(alloc, line, levels)?;
     Ok((name, FieldDType::from(dtype)))
 }
 
+// Reads a name and an equals sign.
+fn read_field_name(alloc: Global, line: &mut Line<'_>) -> ConsoleResult<FieldName> {
+    let name = line.name(alloc)?;
+    line.take("=")?;
+    Ok(name)
+}
+
 // Reads fields behind the opening brace. Each takes bytes, so there are no more than these.
 #[cycle(types)]
-fn read_fields(alloc: Global, line: &mut Line<'_>, levels: u32) -> ConsoleResult<StructFields> {
-    let mut fields = Vec::new(alloc);
+fn read_fields(
+    alloc: Global,
+    line: &mut Line<'_>,
+    levels: u32,
+    fields: &mut Vec<(FieldName, FieldDType)>,
+) -> ConsoleResult<()> {
     let mut is_closed = line.takes("}");
     for _ in 0..line.left() {
         if is_closed {
@@ -128,7 +175,7 @@ fn read_fields(alloc: Global, line: &mut Line<'_>, levels: u32) -> ConsoleResult
         fields.push(read_field(alloc, line, levels)?)?;
         is_closed = line.closes("}")?;
     }
-    Ok(StructFields::from_iter(alloc, fields)?)
+    Ok(())
 }
 
 // What of a union was read.
@@ -139,6 +186,19 @@ struct Variants {
     tags: Vec<u8>,
 }
 
+// Reads a variant's name, its tag if it has one, and an equals sign.
+fn read_variant_name(
+    alloc: Global,
+    line: &mut Line<'_>,
+    variants: &mut Variants,
+) -> ConsoleResult<()> {
+    variants.names.push(line.name(alloc)?)?;
+    if line.takes("@") {
+        variants.tags.push(line.number("a tag")?)?;
+    }
+    line.take("=")
+}
+
 // Reads a variant, behind those that were read.
 #[cycle(types)]
 fn read_variant(
@@ -147,12 +207,27 @@ fn read_variant(
     levels: u32,
     variants: &mut Variants,
 ) -> ConsoleResult<()> {
-    variants.names.push(line.name(alloc)?)?;
-    if line.takes("@") {
-        variants.tags.push(line.number("a tag")?)?;
-    }
-    line.take("=")?;
+    read_variant_name(alloc, line, variants)?;
     variants.dtypes.push(read_part(alloc, line, levels)?)?;
+    Ok(())
+}
+
+// Reads variants up to the closing parenthesis. Each takes bytes, so there are no more than these.
+#[cycle(types)]
+fn read_variants(
+    alloc: Global,
+    line: &mut Line<'_>,
+    levels: u32,
+    variants: &mut Variants,
+) -> ConsoleResult<()> {
+    let mut is_closed = line.takes(")");
+    for _ in 0..line.left() {
+        if is_closed {
+            break;
+        }
+        read_variant(alloc, line, levels, variants)?;
+        is_closed = line.closes(")")?;
+    }
     Ok(())
 }
 
@@ -164,20 +239,17 @@ fn read_union(alloc: Global, line: &mut Line<'_>, levels: u32) -> ConsoleResult<
         dtypes: Vec::new(alloc),
         tags: Vec::new(alloc),
     };
-    let mut is_closed = line.takes(")");
-    for _ in 0..line.left() {
-        if is_closed {
-            break;
-        }
-        read_variant(alloc, line, levels, &mut variants)?;
-        is_closed = line.closes(")")?;
-    }
-    let made = union_of(alloc, line, variants)?;
+    read_variants(alloc, line, levels, &mut variants)?;
+    union_of(alloc, line, variants)
+}
+
+fn union_of(alloc: Global, line: &mut Line<'_>, variants: Variants) -> ConsoleResult<DType> {
+    let made = variants_of(alloc, line, variants)?;
     Ok(DType::Union(made, line.nullability()))
 }
 
-// The union of what was read: with the tags 0, 1 and so on where none was.
-fn union_of(alloc: Global, line: &Line<'_>, variants: Variants) -> ConsoleResult<UnionVariants> {
+// The variants of what was read: with the tags 0, 1 and so on where none was.
+fn variants_of(alloc: Global, line: &Line<'_>, variants: Variants) -> ConsoleResult<UnionVariants> {
     let Variants {
         names,
         dtypes,
@@ -247,6 +319,23 @@ impl Line<'_> {
         }
     }
 
+    // Reads what stands behind the types of a map: whether its keys are sorted.
+    fn keys_sorted(&mut self) -> ConsoleResult<bool> {
+        self.comma()?;
+        self.take("keys_sorted=")?;
+        let keys_sorted = self.boolean()?;
+        self.take(")")?;
+        Ok(keys_sorted)
+    }
+
+    // Reads the metadata of an extension.
+    fn bracketed_bytes(&mut self, alloc: Global) -> ConsoleResult<Vec<u8>> {
+        self.take("[")?;
+        let bytes = self.hexadecimals(alloc)?;
+        self.take("]")?;
+        Ok(bytes)
+    }
+
     // Reads the size of a fixed-size list.
     fn bracketed_size(&mut self) -> ConsoleResult<u32> {
         self.take("[")?;
@@ -260,8 +349,13 @@ impl Line<'_> {
         self.take("(")?;
         let precision = self.number("a precision")?;
         self.comma()?;
+        Ok((precision, self.closed_scale()?))
+    }
+
+    // Reads a scale, and the parenthesis behind it.
+    fn closed_scale(&mut self) -> ConsoleResult<i8> {
         let scale = self.number("a scale")?;
         self.take(")")?;
-        Ok((precision, scale))
+        Ok(scale)
     }
 }

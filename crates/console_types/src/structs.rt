@@ -15,17 +15,17 @@ pub fn answer(call: &mut Call<'_>, command: &str) -> ConsoleResult<bool> {
         | "field_dtypes"
         | "fields_copy"
         | "fields_text"
-        | "indented" => ask(call, command)?,
-        "field_name" | "field_by_index" | "without_field" => by_index(call, command)?,
-        "find" | "find_counted" | "field" => by_name(call, command)?,
-        "project" => project(call)?,
-        "disjoint_merge" => disjoint_merge(call)?,
-        "struct_new" => struct_new(call)?,
-        "struct_from_fields" => struct_from_fields(call)?,
-        "struct_from_iter" => struct_from_iter(call)?,
-        "struct_empty" => struct_empty(call)?,
+        | "indented" => ask(call, command),
+        "field_name" | "field_by_index" | "without_field" => by_index(call, command),
+        "find" | "find_counted" | "field" => by_name(call, command),
+        "project" => project(call),
+        "disjoint_merge" => disjoint_merge(call),
+        "struct_new" => struct_new(call),
+        "struct_from_fields" => struct_from_fields(call),
+        "struct_from_iter" => struct_from_iter(call),
+        "struct_empty" => struct_empty(call),
         _ => return Ok(false),
-    }
+    }?;
     Ok(true)
 }
 

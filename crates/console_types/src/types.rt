@@ -9,23 +9,23 @@ use dtype_types::{DType, FieldDType};
 /// Answers the command, if it is one of these.
 pub fn answer(call: &mut Call<'_>, command: &str) -> ConsoleResult<bool> {
     match command {
-        "type" | "copy" | "as_nonnullable" | "as_nullable" => change(call, command)?,
-        "with_nullability" | "union_nullability" => change_to(call, command)?,
+        "type" | "copy" | "as_nonnullable" | "as_nullable" => change(call, command),
+        "with_nullability" | "union_nullability" => change_to(call, command),
         "nullability" | "is_nullable" | "can_be_nonnullable" | "element_size" | "text" => {
-            ask(call, command)?
+            ask(call, command)
         }
-        "nullability_or" => nullability_or(call)?,
-        "nullability_text" | "nullability_long_text" => nullability_text(call, command)?,
-        "kinds" => kinds(call)?,
-        "as_ptype" | "to_ptype" | "to_decimal" => convert(call, command)?,
-        "bytes_type" => bytes_type(call)?,
-        "from_ptype" => from_ptype(call)?,
-        "list" => list(call)?,
-        "fixed_size_list" => fixed_size_list(call)?,
-        "map" => map(call)?,
-        "struct" => struct_(call)?,
+        "nullability_or" => nullability_or(call),
+        "nullability_text" | "nullability_long_text" => nullability_text(call, command),
+        "kinds" => kinds(call),
+        "as_ptype" | "to_ptype" | "to_decimal" => convert(call, command),
+        "bytes_type" => bytes_type(call),
+        "from_ptype" => from_ptype(call),
+        "list" => list(call),
+        "fixed_size_list" => fixed_size_list(call),
+        "map" => map(call),
+        "struct" => struct_(call),
         _ => return Ok(false),
-    }
+    }?;
     Ok(true)
 }
 
@@ -89,19 +89,36 @@ fn nullability_text(call: &mut Call<'_>, command: &str) -> ConsoleResult<()> {
 
 fn kinds(call: &mut Call<'_>) -> ConsoleResult<()> {
     let dtype = call.last_dtype()?;
-    call.say_words(&[
+    say_number_kinds(call, &dtype)?;
+    say_plain_kinds(call, &dtype)?;
+    say_nested_kinds(call, &dtype)?;
+    call.end_list()
+}
+
+fn say_number_kinds(call: &mut Call<'_>, dtype: &DType) -> ConsoleResult<()> {
+    call.say_those(&[
         ("boolean", dtype.is_boolean()),
         ("primitive", dtype.is_primitive()),
         ("unsigned_int", dtype.is_unsigned_int()),
         ("signed_int", dtype.is_signed_int()),
         ("int", dtype.is_int()),
         ("float", dtype.is_float()),
+    ])
+}
+
+fn say_plain_kinds(call: &mut Call<'_>, dtype: &DType) -> ConsoleResult<()> {
+    call.say_those(&[
         ("decimal", dtype.is_decimal()),
         ("utf8", dtype.is_utf8()),
         ("binary", dtype.is_binary()),
         ("list", dtype.is_list()),
         ("fixed_size_list", dtype.is_fixed_size_list()),
         ("map", dtype.is_map()),
+    ])
+}
+
+fn say_nested_kinds(call: &mut Call<'_>, dtype: &DType) -> ConsoleResult<()> {
+    call.say_those(&[
         ("struct", dtype.is_struct()),
         ("union", dtype.is_union()),
         ("variant", dtype.is_variant()),
@@ -149,8 +166,7 @@ fn fixed_size_list(call: &mut Call<'_>) -> ConsoleResult<()> {
 fn map(call: &mut Call<'_>) -> ConsoleResult<()> {
     let n = call.nullability()?;
     let keys_sorted = call.boolean()?;
-    let key = call.dtype()?;
-    let value = call.last_dtype()?;
+    let (key, value) = call.last_pair()?;
     let made = DType::map(call.alloc, key, value, keys_sorted, n)?;
     call.say_dtype(&made)
 }

@@ -4,7 +4,7 @@
 // Commands on unions.
 use crate::structs::say_dtypes;
 use crate::{Call, ConsoleResult, unless};
-use dtype_types::UnionVariants;
+use dtype_types::{DType, UnionVariants};
 
 /// Answers the command, if it is one of these.
 pub fn answer(call: &mut Call<'_>, command: &str) -> ConsoleResult<bool> {
@@ -16,14 +16,14 @@ pub fn answer(call: &mut Call<'_>, command: &str) -> ConsoleResult<bool> {
         | "type_ids"
         | "variants"
         | "variants_copy"
-        | "variants_text" => ask(call, command)?,
-        "find_variant" | "variant" => by_name(call, command)?,
-        "variant_by_index" | "child_index_to_tag" => by_index(call, command)?,
-        "tag_to_child_index" => tag_to_child_index(call)?,
-        "union_new" => union_new(call)?,
-        "union_try_new" => union_try_new(call)?,
+        | "variants_text" => ask(call, command),
+        "find_variant" | "variant" => by_name(call, command),
+        "variant_by_index" | "child_index_to_tag" => by_index(call, command),
+        "tag_to_child_index" => tag_to_child_index(call),
+        "union_new" => union_new(call),
+        "union_try_new" => union_try_new(call),
         _ => return Ok(false),
-    }
+    }?;
     Ok(true)
 }
 
@@ -81,7 +81,13 @@ fn union_new(call: &mut Call<'_>) -> ConsoleResult<()> {
 
 fn union_try_new(call: &mut Call<'_>) -> ConsoleResult<()> {
     let names = call.names()?;
+    let (tags, dtypes) = tags_and_dtypes(call)?;
+    let made = UnionVariants::try_new(call.alloc, names, dtypes, tags)?;
+    call.say_variants(&made)
+}
+
+fn tags_and_dtypes(call: &mut Call<'_>) -> ConsoleResult<(Vec<u8>, Vec<DType>)> {
     let tags = call.tags()?;
     let dtypes = call.dtypes()?;
-    call.say_variants(&UnionVariants::try_new(call.alloc, names, dtypes, tags)?)
+    Ok((tags, dtypes))
 }

@@ -16,15 +16,12 @@ pub const WRITTEN_LEVELS: u32 = 256;
 pub fn write_dtype(out: &mut String, dtype: &DType, levels: u32) -> VortexResult<()> {
     match dtype {
         DType::List(element, n) => {
-            out.push_str("list")?;
-            write_wrapped(out, element, levels)?;
+            write_wrapped(out, "list(", element, levels)?;
             write_nullability(out, *n)
         }
         DType::FixedSizeList(element, size, n) => {
-            out.push_str("fixed_size_list")?;
-            write_wrapped(out, element, levels)?;
-            write!(out, "[{size}]{n}")?;
-            Ok(())
+            write_wrapped(out, "fixed_size_list(", element, levels)?;
+            write_size(out, *size, *n)
         }
         DType::Map(map, n) => {
             write_map(out, map, levels)?;
@@ -39,10 +36,7 @@ pub fn write_dtype(out: &mut String, dtype: &DType, levels: u32) -> VortexResult
             write_nullability(out, *n)
         }
         DType::Extension(extension) => write_extension(out, extension, levels),
-        plain => {
-            write!(out, "{plain}")?;
-            Ok(())
-        }
+        plain => write_plain(out, plain),
     }
 }
 
@@ -55,10 +49,10 @@ fn write_part(out: &mut String, dtype: &DType, levels: u32) -> VortexResult<()> 
     }
 }
 
-// Writes a type in parentheses.
+// Writes a type behind this opening, and a closing parenthesis.
 #[cycle(written)]
-fn write_wrapped(out: &mut String, dtype: &DType, levels: u32) -> VortexResult<()> {
-    out.push('(')?;
+fn write_wrapped(out: &mut String, open: &str, dtype: &DType, levels: u32) -> VortexResult<()> {
+    out.push_str(open)?;
     write_part(out, dtype, levels)?;
     Ok(out.push(')')?)
 }
@@ -70,9 +64,7 @@ pub fn write_map(out: &mut String, map: &MapDType, levels: u32) -> VortexResult<
     write_part(out, map.key_dtype(), levels)?;
     out.push_str(", ")?;
     write_part(out, map.value_dtype(), levels)?;
-    let keys_sorted = map.keys_sorted();
-    write!(out, ", keys_sorted={keys_sorted})")?;
-    Ok(())
+    write_keys_sorted(out, map.keys_sorted())
 }
 
 /// Writes the fields of a struct.
@@ -81,11 +73,7 @@ pub fn write_fields(out: &mut String, fields: &StructFields, levels: u32) -> Vor
     let mut is_first = true;
     out.push('{')?;
     for (name, dtype) in fields.pairs() {
-        if !is_first {
-            out.push_str(", ")?;
-        }
-        write_name(out, name)?;
-        out.push('=')?;
+        write_field_name(out, is_first, name)?;
         write_part(out, dtype, levels)?;
         is_first = false;
     }
@@ -99,14 +87,8 @@ pub fn write_union(out: &mut String, variants: &UnionVariants, levels: u32) -> V
     let mut is_first = true;
     out.push_str("union(")?;
     for (name, tag, dtype) in variants.triples() {
-        if !is_first {
-            out.push_str(", ")?;
-        }
-        write_name(out, name)?;
-        if !is_consecutive {
-            write!(out, "@{tag}")?;
-        }
-        out.push('=')?;
+        let shown = if is_consecutive { None } else { Some(tag) };
+        write_variant_name(out, is_first, name, shown)?;
         write_part(out, dtype, levels)?;
         is_first = false;
     }
@@ -117,10 +99,59 @@ pub fn write_union(out: &mut String, variants: &UnionVariants, levels: u32) -> V
 #[cycle(written)]
 pub fn write_extension(out: &mut String, extension: &ExtDTypeRef, levels: u32) -> VortexResult<()> {
     write_id(out, extension.id())?;
+    write_bracketed(out, extension.metadata_bytes())?;
+    write_wrapped(out, "(", extension.storage_dtype(), levels)
+}
+
+// Writes a type without parts, as the library prints it.
+fn write_plain(out: &mut String, dtype: &DType) -> VortexResult<()> {
+    write!(out, "{dtype}")?;
+    Ok(())
+}
+
+// Writes the size of a fixed-size list, and its nullability.
+fn write_size(out: &mut String, size: u32, n: Nullability) -> VortexResult<()> {
+    write!(out, "[{size}]{n}")?;
+    Ok(())
+}
+
+// Writes whether a map's keys are sorted, and the closing parenthesis.
+fn write_keys_sorted(out: &mut String, keys_sorted: bool) -> VortexResult<()> {
+    write!(out, ", keys_sorted={keys_sorted})")?;
+    Ok(())
+}
+
+// Writes a comma where there is a field before, a field's name and an equals sign.
+fn write_field_name(out: &mut String, is_first: bool, name: &FieldName) -> VortexResult<()> {
+    if !is_first {
+        out.push_str(", ")?;
+    }
+    write_name(out, name)?;
+    Ok(out.push('=')?)
+}
+
+// Writes a comma where there is a variant before, a variant's name, its tag if it is shown, and an equals sign.
+fn write_variant_name(
+    out: &mut String,
+    is_first: bool,
+    name: &FieldName,
+    shown: Option<u8>,
+) -> VortexResult<()> {
+    if !is_first {
+        out.push_str(", ")?;
+    }
+    write_name(out, name)?;
+    if let Some(tag) = shown {
+        write!(out, "@{tag}")?;
+    }
+    Ok(out.push('=')?)
+}
+
+// Writes the metadata of an extension.
+fn write_bracketed(out: &mut String, metadata: &[u8]) -> VortexResult<()> {
     out.push('[')?;
-    write_hexadecimals(out, extension.metadata_bytes())?;
-    out.push(']')?;
-    write_wrapped(out, extension.storage_dtype(), levels)
+    write_hexadecimals(out, metadata)?;
+    Ok(out.push(']')?)
 }
 
 fn write_nullability(out: &mut String, n: Nullability) -> VortexResult<()> {

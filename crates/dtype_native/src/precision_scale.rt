@@ -45,8 +45,7 @@ impl<D: NativeDecimalType> PrecisionScale<D> {
     /// The decimal type of this precision and scale.
     pub fn new(precision: u8, scale: i8) -> Self
         requires { IsDecimalWithin D.MAX_PRECISION precision scale }
-        ensures precision { result.precision ≡ precision }
-        ensures scale { result.scale ≡ scale }
+        ensures { result ≡ record { precision = precision; scale = scale } }
     {
         Self::new_unchecked(precision, scale)
     }
@@ -54,8 +53,7 @@ impl<D: NativeDecimalType> PrecisionScale<D> {
     /// The decimal type of this precision and scale, as `new`.
     pub fn new_unchecked(precision: u8, scale: i8) -> Self
         requires { IsDecimalWithin D.MAX_PRECISION precision scale }
-        ensures precision { result.precision ≡ precision }
-        ensures scale { result.scale ≡ scale }
+        ensures { result ≡ record { precision = precision; scale = scale } }
     {
         PrecisionScale {
             precision,

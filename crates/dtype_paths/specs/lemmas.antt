@@ -4,6 +4,7 @@
 -- What follows from the definitions, where a caller's proof may cite it.
 pub mod Cases
 pub mod PathTests
+pub mod Stepping
 pub mod PathOrders
 pub mod CoverTests
 pub mod Covers

@@ -9,9 +9,8 @@ ghost use Rattle.dtype_types.specs.Sub.{Sub};
 ghost use Rattle.dtype_types.specs.TreeOf.{tree};
 ghost use Rattle.dtype_types.specs.Value.{IncludedIn};
 
-use dtype_base::VortexResult;
-use dtype_types::DType;
 use std::alloc::Global;
+use vortex_dtype::{DType, VortexResult};
 
 /// Whether an array of type `more` may be appended to one of type `dtype`. Then each of its values is a
 /// value of `dtype`.

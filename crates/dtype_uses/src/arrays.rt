@@ -2,16 +2,15 @@
 // SPDX-FileCopyrightText: Copyright the Vortex contributors
 
 //! A builder of arrays: how wide its offsets and rows are.
-#![tactic(auto, using(dtype_base::specs::lemmas::Primitives::primitives))]
+#![tactic(auto, using(vortex_dtype::specs::Rulesets::primitives))]
 
 ghost use Rattle.std.specs.Prelude.{◌≡◌, IfSome};
-ghost use Rattle.dtype_base.specs.Primitives.{HoldsUnsigned, IsNarrowest};
-ghost use Rattle.dtype_base.specs.Primitives.NumberKind.{Unsigned};
+ghost use Rattle.vortex_dtype.specs.Primitives.{HoldsUnsigned, IsNarrowest};
+ghost use Rattle.vortex_dtype.specs.Primitives.NumberKind.{Unsigned};
 ghost use Rattle.dtype_types.specs.TreeOf.{tree};
 ghost use Rattle.dtype_types.specs.Width.{Fixed, width};
 
-use dtype_base::PType;
-use dtype_types::DType;
+use vortex_dtype::{DType, PType};
 
 /// The type of the offsets of a list array with that many items: a narrowest that holds the last.
 pub fn offset_ptype(items: u64) -> PType

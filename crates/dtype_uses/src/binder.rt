@@ -9,15 +9,16 @@ ghost use Rattle.dtype_types.specs.Lookups.{Projects};
 ghost use Rattle.dtype_types.specs.Tree.{Tree};
 ghost use Rattle.dtype_types.specs.TreeOf.{children, tree};
 ghost use Rattle.dtype_types.specs.Value.{AddsNull, Of, Value};
-ghost use Rattle.dtype_paths.specs.At.{At};
-ghost use Rattle.dtype_paths.specs.Found.{FoundIn};
-ghost use Rattle.dtype_paths.specs.In.{In, first_part};
-ghost use Rattle.dtype_paths.specs.declared.field.Field.{Field};
+ghost use Rattle.vortex_dtype.specs.At.{At};
+ghost use Rattle.vortex_dtype.specs.Found.{FoundIn};
+ghost use Rattle.vortex_dtype.specs.In.{In, first_part};
+ghost use Rattle.vortex_dtype.specs.Types.Field.{Field};
 
-use dtype_base::{FieldName, VortexResult};
-use dtype_paths::{Field, FieldMask, FieldPath, field_path};
-use dtype_types::{DType, StructFields};
 use std::alloc::Global;
+use vortex_dtype::laws::paths::resolution_is_exact_for_values;
+use vortex_dtype::{
+    DType, Field, FieldMask, FieldName, FieldPath, StructFields, VortexResult, field_path,
+};
 
 /// A column of a table: what stands along its path, of which each value read there is.
 pub fn bind_column<'a>(column: &FieldPath, table: &'a DType) -> Option<&'a DType>
@@ -26,6 +27,7 @@ pub fn bind_column<'a>(column: &FieldPath, table: &'a DType) -> Option<&'a DType
     ensures values { IfSome result (λ u. (v : Value)
         → FoundIn (tree table.now) column.now v → Of v (tree u.now)) }
 {
+    resolution_is_exact_for_values();
     column.resolve(table)
 }
 

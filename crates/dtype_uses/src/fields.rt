@@ -11,9 +11,8 @@ ghost use Rattle.dtype_types.specs.Lookups.{field_names, first_named};
 ghost use Rattle.dtype_types.specs.Nullable.{nullability};
 ghost use Rattle.dtype_types.specs.TreeOf.{children, option_tree};
 
-use dtype_base::{FieldName, FieldNames, Nullability, VortexResult};
-use dtype_types::{DType, StructFields};
 use std::alloc::Global;
+use vortex_dtype::{DType, FieldName, FieldNames, Nullability, StructFields, VortexResult};
 
 /// The name of the last field.
 pub fn last_name(fields: &StructFields) -> &FieldName

@@ -6,9 +6,8 @@ ghost use Rattle.std.specs.Prelude.{◌≡◌, IfOk, map, true};
 ghost use Rattle.dtype_types.specs.Lists.{lent_pair};
 ghost use Rattle.dtype_types.specs.TreeOf.{children, struct_pairs, with_trees};
 
-use dtype_base::{FieldName, FieldNames, VortexResult};
-use dtype_types::{DType, StructFields, UnionVariants};
 use std::alloc::Global;
+use vortex_dtype::{DType, FieldName, FieldNames, StructFields, UnionVariants, VortexResult};
 
 /// The types of fields.
 pub fn fields_give_what_they_announce(fields: &StructFields) -> bool

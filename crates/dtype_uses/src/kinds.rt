@@ -3,13 +3,13 @@
 
 // Tests of kinds, and what a type of a known kind holds.
 ghost use Rattle.std.specs.Prelude.{◌≡◌, Some};
-ghost use Rattle.dtype_base.specs.declared.nullability.Nullability.TheVariants.{NonNullable};
-ghost use Rattle.dtype_base.specs.declared.ptype.PType.TheVariants.{U8};
+ghost use Rattle.vortex_dtype.specs.Types.Nullability.TheVariants.{NonNullable};
+ghost use Rattle.vortex_dtype.specs.Types.PType.TheVariants.{U8};
 ghost use Rattle.dtype_types.specs.Kinds.{kind, struct_fields};
 ghost use Rattle.dtype_types.specs.Tree.{primitive};
 ghost use Rattle.dtype_types.specs.TreeOf.{children, tree};
 
-use dtype_types::{DType, Kind, StructFields};
+use vortex_dtype::{DType, Kind, StructFields};
 
 /// The fields of a type that the caller knows to be a struct.
 pub fn known_fields(dtype: &DType) -> &StructFields

@@ -4,13 +4,12 @@
 //! A reader of layouts: which columns it opens.
 ghost use Rattle.std.specs.Prelude.{◌≡◌, IfOk};
 ghost use Rattle.std.specs.Vec.Iter.{into_iter_items};
-ghost use Rattle.dtype_types.specs.Distinct.{Distinct};
-ghost use Rattle.dtype_paths.specs.Covering.{CoverAlike, least};
-ghost use Rattle.dtype_paths.specs.PathOrder.{set_of};
+ghost use Rattle.vortex_dtype.specs.Covering.{CoverAlike, least};
+ghost use Rattle.vortex_dtype.specs.Distinct.{Distinct};
+ghost use Rattle.vortex_dtype.specs.PathOrder.{set_of};
 
-use dtype_base::VortexResult;
-use dtype_paths::{FieldPath, FieldPathSet};
 use std::vec;
+use vortex_dtype::{FieldPath, FieldPathSet, VortexResult};
 
 /// The columns to open for the paths that are asked, each once: what is under them is what was asked, and
 /// no column is under another.

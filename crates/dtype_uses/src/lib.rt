@@ -5,7 +5,8 @@
 //! own that is proved from the clauses of the calls that it makes, and from the public laws.
 //!
 //! It promises nothing besides these contracts. What it is for: a clause that a caller can't use fails
-//! here, and every caller that a `CALLING.md` shows stands here.
+//! here, as does what `vortex_dtype` doesn't pass on, since this crate lists `vortex_dtype dtype_types` alone; and
+//! every caller that a `CALLING.md` shows stands here.
 //!
 //! Begin with the user whom you are nearest to: `scalars` (which values a type has), `arrays` (how wide a
 //! row is), `appending` (what may be appended), `binder` (column references, projections, joins), `layout` (which

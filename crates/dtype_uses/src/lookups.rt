@@ -2,14 +2,14 @@
 // SPDX-FileCopyrightText: Copyright the Vortex contributors
 
 // Lookups that say how many names they compared.
-#![tactic(auto, using(dtype_base::specs::lemmas::Lookups::lookups))]
+#![tactic(auto, using(vortex_dtype::specs::Rulesets::lookups))]
 
 ghost use Rattle.std.specs.Prelude.{◌≡◌, ◌≤◌, length, true};
-ghost use Rattle.dtype_base.specs.FieldNames.{first_place};
+ghost use Rattle.vortex_dtype.specs.FieldNames.{first_place};
 ghost use Rattle.dtype_types.specs.Lookups.{field_names};
 ghost use Rattle.dtype_types.specs.TreeOf.{children};
 
-use dtype_types::StructFields;
+use vortex_dtype::StructFields;
 
 /// Whether a counted lookup gives the place that `find` does.
 pub fn counted_place_is_found_place(fields: &StructFields, name: &str) -> bool

@@ -2,14 +2,14 @@
 // SPDX-FileCopyrightText: Copyright the Vortex contributors
 
 //! A reader that descends a table with a mask: what is asked of it further down.
-ghost use Rattle.std.specs.Prelude.{◌≡◌, ◌↔◌, ◌∷◌, [], IfOk, IfSome, IsTrue, List, false};
-ghost use Rattle.dtype_paths.specs.In.{In};
-ghost use Rattle.dtype_paths.specs.declared.field.Field.{Field};
+#![tactic(auto, using(vortex_dtype::specs::Stepping::stepping))]
 
-use dtype_base::VortexResult;
-use dtype_paths::laws::the_root_begins_every_path;
-use dtype_paths::{Field, FieldMask, FieldPath, field_path};
+ghost use Rattle.std.specs.Prelude.{◌≡◌, ◌↔◌, ◌∷◌, [], IfOk, IfSome, IsTrue, List, false};
+ghost use Rattle.vortex_dtype.specs.In.{In};
+ghost use Rattle.vortex_dtype.specs.Types.Field.{Field};
+
 use std::alloc::Global;
+use vortex_dtype::{Field, FieldMask, FieldPath, VortexResult, field_path};
 
 /// The mask of a projected column two levels down, behind both its names: all is asked for there.
 pub fn mask_of_column(alloc: Global, table: &str, column: &str) -> VortexResult<FieldMask>
@@ -68,7 +68,6 @@ pub fn mask_below_field(mask: FieldMask, field: &Field) -> VortexResult<Option<F
 pub fn mask_of_table(alloc: Global) -> FieldMask
     ensures { (q : List Field) → In result q }
 {
-    the_root_begins_every_path();
     FieldMask::Prefix(FieldPath::root(alloc))
 }
 
@@ -76,7 +75,6 @@ pub fn mask_of_table(alloc: Global) -> FieldMask
 pub fn all_is_asked_of_table(alloc: Global) -> bool
     ensures { IsTrue result }
 {
-    the_root_begins_every_path();
     FieldMask::Prefix(FieldPath::root(alloc)).matches_all()
 }
 

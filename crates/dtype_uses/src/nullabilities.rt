@@ -5,14 +5,13 @@
 #![tactic(auto, using(dtype_types::specs::lemmas::Nullabilities::nullabilities, dtype_types::specs::lemmas::Order::order))]
 
 ghost use Rattle.std.specs.Prelude.{◌≡◌, IfOk, IsTrue, true};
-ghost use Rattle.dtype_base.specs.declared.nullability.Nullability.TheVariants.{NonNullable, Nullable};
+ghost use Rattle.vortex_dtype.specs.Types.Nullability.TheVariants.{NonNullable, Nullable};
 ghost use Rattle.dtype_types.specs.Nullable.{CanBeNonNullable, IsNullable, SetNull, nullability};
 ghost use Rattle.dtype_types.specs.Sub.{Sub};
 ghost use Rattle.dtype_types.specs.TreeOf.{tree};
 
-use dtype_base::{Nullability, VortexResult};
-use dtype_types::DType;
 use std::alloc::Global;
+use vortex_dtype::{DType, Nullability, VortexResult};
 
 /// A non-nullable type made nullable, and back, is what it was.
 pub fn there_and_back(dtype: &DType, alloc: Global) -> VortexResult<DType>

@@ -2,12 +2,12 @@
 // SPDX-FileCopyrightText: Copyright the Vortex contributors
 
 // Names of numbers, and their bytes.
-#![tactic(auto, using(dtype_base::specs::lemmas::Decimals::decimals))]
+#![tactic(auto, using(vortex_dtype::specs::Rulesets::decimals))]
 
 ghost use Rattle.std.specs.Prelude.{◌≡◌};
+ghost use Rattle.vortex_dtype.specs.PTypeNumbers.{plain};
 
-use dtype_base::{DecimalDType, PType};
-use dtype_native::ToBytes;
+use vortex_dtype::{DecimalDType, PType, ToBytes, pb};
 
 /// The name of the offsets of 257 items.
 pub fn offsets_of_257_items() -> PType
@@ -29,4 +29,11 @@ pub fn bits_of_38_digits() -> usize
     ensures { result ≡ 127 }
 {
     DecimalDType::new(38, 10).required_bit_width()
+}
+
+/// The name that messages have for a primitive type.
+pub fn for_message(ptype: PType) -> pb::PType
+    ensures { plain result ≡ ptype }
+{
+    pb::PType::from(ptype)
 }

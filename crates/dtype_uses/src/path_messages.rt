@@ -2,7 +2,7 @@
 // SPDX-FileCopyrightText: Copyright the Vortex contributors
 
 //! Path messages, and the messages of single kinds.
-#![tactic(auto, using(vortex_dtype::specs::lemmas::Reading::reading, dtype_messages::specs::lemmas::Equality::equality))]
+#![tactic(auto, using(vortex_dtype::specs::lemmas::Reading::reading, vortex_dtype::specs::Rulesets::equality))]
 
 ghost use Rattle.std.specs.Prelude.{◌≡◌, ◌↔◌, ◌⊎◌, ◌∷◌, [], IfErr, IfOk, IsErr, IsOkUnless, IsTrue, string_bytes};
 ghost use Rattle.vortex_dtype.specs.Types.VortexError.TheVariants.{Message, OutOfMemory};

@@ -2,27 +2,25 @@
 // SPDX-FileCopyrightText: Copyright the Vortex contributors
 
 //! A reader of columns: what is asked of it, and what it opens for that.
-#![tactic(auto, using(dtype_paths::specs::CoveringLaws::covering))]
+#![tactic(auto, using(vortex_dtype::specs::CoveringLaws::covering))]
 
 ghost use Rattle.std.specs.Prelude.{◌≡◌, ◌≢◌, ◌↔◌, ◌+◌, ◌++◌, [], ◌∷◌, ◌≤◌, ◌||◌, IfOk, IsTrue, List, OnOk, false, is_some, length, map};
 ghost use Rattle.std.specs.FinSet as set;
 ghost use Rattle.std.specs.List.{All, Contains, list_all, list_any, starts_with, sum_by};
 ghost use Rattle.std.specs.Vec.Iter.{into_iter_items};
 ghost use Rattle.dtype_types.specs.TreeOf.{tree};
-ghost use Rattle.dtype_paths.specs.Along.{along};
-ghost use Rattle.dtype_paths.specs.Covering.{covers, least};
-ghost use Rattle.dtype_paths.specs.Equality.{same_field};
-ghost use Rattle.dtype_paths.specs.PathOrder.{set_of};
-ghost use Rattle.dtype_paths.specs.declared.field.Field.{Field};
+ghost use Rattle.vortex_dtype.specs.Along.{along};
+ghost use Rattle.vortex_dtype.specs.Covering.{covers, least};
+ghost use Rattle.vortex_dtype.specs.Equality.{same_field};
+ghost use Rattle.vortex_dtype.specs.PathOrder.{set_of};
+ghost use Rattle.vortex_dtype.specs.Types.Field.{Field};
 
-use dtype_base::VortexResult;
-use dtype_paths::laws::{
-    a_list_has_the_members_of_its_set, a_path_is_covered_where_it_starts_with_one,
-};
-use dtype_paths::{Field, FieldPath, FieldPathSet};
-use dtype_types::DType;
 use std::alloc::Global;
 use std::vec;
+use vortex_dtype::laws::paths::{
+    a_list_has_the_members_of_its_set, a_path_is_covered_where_it_starts_with_one,
+};
+use vortex_dtype::{DType, Field, FieldPath, FieldPathSet, VortexResult};
 
 /// Whether a path that was asked for is among those that are: it always is.
 pub fn is_there_once_asked(asked: &mut FieldPathSet, path: FieldPath) -> VortexResult<bool>

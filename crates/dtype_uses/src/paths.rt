@@ -1,27 +1,30 @@
 // SPDX-License-Identifier: Apache-2.0
 // SPDX-FileCopyrightText: Copyright the Vortex contributors
 
-// Paths, resolved.
-ghost use Rattle.std.specs.Prelude.{◌≡◌, ◌++◌, ◌∷◌, [], IfOk, IfSome, IsTrue, List, ℕ};
-ghost use Rattle.std.specs.Option.{option_map};
-ghost use Rattle.dtype_paths.specs.Along.{along};
-ghost use Rattle.dtype_paths.specs.At.{At, ExistsIn};
-ghost use Rattle.dtype_paths.specs.Beginning.{Beginning};
-ghost use Rattle.dtype_paths.specs.declared.field.Field.{Field};
-ghost use Rattle.dtype_base.specs.declared.nullability.Nullability.{Nullability};
-ghost use Rattle.dtype_types.specs.Lookups.{first_named};
-ghost use Rattle.dtype_types.specs.Nullable.{nullability};
-ghost use Rattle.dtype_types.specs.Tree.{Fields, pairs, struct};
-ghost use Rattle.dtype_types.specs.TreeOf.{option_tree, tree};
+//! Paths, resolved.
+#![tactic(auto, using(vortex_dtype::specs::Stepping::stepping))]
 
-use dtype_base::{Nullability, VortexResult};
-use dtype_paths::laws::{
-    a_step_by_a_name_is_a_field, along_joined, beginnings_exist, the_root_begins_every_path,
-    what_tests_equal_is_equal,
-};
-use dtype_paths::{Field, FieldPath, field_path};
-use dtype_types::DType;
+ghost use Rattle.std.specs.Prelude.{◌≡◌, ◌++◌, ◌∷◌, [], IfOk, IfSome, IsTrue, List, codes, ℕ};
+ghost use Rattle.std.specs.Option.{option_map};
+ghost use Rattle.vortex_dtype.specs.Along.{along};
+ghost use Rattle.vortex_dtype.specs.At.{At, ExistsIn};
+ghost use Rattle.vortex_dtype.specs.Beginning.{Beginning};
+ghost use Rattle.vortex_dtype.specs.Lookups.{first_named};
+ghost use Rattle.vortex_dtype.specs.Nullable.{nullability};
+ghost use Rattle.vortex_dtype.specs.Tree.{Fields, pairs, struct};
+ghost use Rattle.vortex_dtype.specs.TreeOf.{option_tree, tree};
+ghost use Rattle.vortex_dtype.specs.Types.Field.{Field};
+ghost use Rattle.vortex_dtype.specs.Types.Nullability.{Nullability};
+
 use std::alloc::Global;
+use vortex_dtype::{DType, Field, FieldPath, Nullability, VortexResult, field_path};
+
+/// The path to the amount of an order.
+pub fn path_of_amount(alloc: Global) -> VortexResult<FieldPath>
+    ensures { IfOk result (λ p. p ≡ Field.Name (codes "order") ∷ Field.Name (codes "amount") ∷ []) }
+{
+    field_path!(alloc, "order", "amount")
+}
 
 /// The nullability of the type that stands along a path, or `None` where none does.
 pub fn nullability_along(path: &FieldPath, dtype: &DType) -> Option<Nullability>
@@ -40,7 +43,6 @@ pub fn column_by_path<'a>(
         → IfOk result (λ found. option_tree found ≡ first_named (pairs fs) column.now) }
 {
     let path = field_path!(alloc, column)?;
-    a_step_by_a_name_is_a_field();
     Ok(path.resolve(table))
 }
 
@@ -67,7 +69,6 @@ pub fn one_step_further<'a>(
 pub fn along_both<'a>(path: &FieldPath, rest: &FieldPath, dtype: &'a DType) -> Option<&'a DType>
     ensures { IfSome result (λ u. At (tree dtype.now) (path.now ++ rest.now) (tree u.now)) }
 {
-    along_joined();
     rest.resolve(path.resolve(dtype)?)
 }
 
@@ -77,7 +78,6 @@ pub fn exists_if_longer_does(path: &FieldPath, longer: &FieldPath, dtype: &DType
     ensures { IsTrue result → ExistsIn (tree dtype.now) path.now }
 {
     let _path = path;
-    beginnings_exist();
     longer.exists_in(dtype)
 }
 
@@ -89,7 +89,6 @@ pub fn table_exists_where_column_does(
 ) -> VortexResult<bool>
     ensures { IfOk result (λ b. IsTrue b) }
 {
-    beginnings_exist();
     let path = table.try_clone()?.push(column)?;
     if !path.exists_in(dtype) {
         return Ok(true);
@@ -101,7 +100,6 @@ pub fn table_exists_where_column_does(
 pub fn root_exists(alloc: Global, dtype: &DType) -> bool
     ensures { IsTrue result }
 {
-    the_root_begins_every_path();
     FieldPath::root(alloc).exists_in(dtype)
 }
 
@@ -109,7 +107,6 @@ pub fn root_exists(alloc: Global, dtype: &DType) -> bool
 pub fn root_overlaps(alloc: Global, path: &FieldPath) -> bool
     ensures { IsTrue result }
 {
-    the_root_begins_every_path();
     FieldPath::root(alloc).overlap(path)
 }
 
@@ -124,7 +121,6 @@ pub fn overlap_either_way(path: &FieldPath, other: &FieldPath) -> bool
 pub fn equal_paths_exist_alike(path: &FieldPath, other: &FieldPath, dtype: &DType) -> bool
     ensures { IsTrue result }
 {
-    what_tests_equal_is_equal();
     if path == other {
         return path.exists_in(dtype) == other.exists_in(dtype);
     }

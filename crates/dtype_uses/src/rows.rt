@@ -3,24 +3,21 @@
 
 //! A reader of rows: what it finds at a column.
 ghost use Rattle.std.specs.Prelude.{◌↔◌, IfSome, IsTrue};
-ghost use Rattle.dtype_types.specs.TreeOf.{tree};
-ghost use Rattle.dtype_types.specs.Valid.{Valid};
-ghost use Rattle.dtype_types.specs.Value.{Value};
-ghost use Rattle.dtype_paths.specs.Found.{FoundIn};
-ghost use Rattle.dtype_paths.specs.Meets.{MeetsNoExtension, MeetsNoSizeZero};
+ghost use Rattle.vortex_dtype.specs.TreeOf.{tree};
+ghost use Rattle.vortex_dtype.specs.Valid.{Valid};
+ghost use Rattle.vortex_dtype.specs.Value.{Value};
+ghost use Rattle.vortex_dtype.specs.Found.{FoundIn};
+ghost use Rattle.vortex_dtype.specs.Meets.{MeetsNoExtension, MeetsNoSizeZero};
 
-use dtype_paths::FieldPath;
-use dtype_paths::laws::{
-    a_type_is_given_exactly_where_something_is_found, something_is_found_where_a_type_is_given,
-};
-use dtype_types::DType;
+use vortex_dtype::laws::paths::a_type_is_given_exactly_where_something_is_found;
+use vortex_dtype::{DType, FieldPath};
 
 /// A column of a table: where there is one, some row has a value at it.
 pub fn column_of_rows<'a>(column: &FieldPath, table: &'a DType) -> Option<&'a DType>
     ensures { Valid (tree table.now) → MeetsNoSizeZero (tree table.now) column.now
         → IfSome result (λ u. (v : Value) × FoundIn (tree table.now) column.now v) }
 {
-    something_is_found_where_a_type_is_given();
+    a_type_is_given_exactly_where_something_is_found();
     column.resolve(table)
 }
 

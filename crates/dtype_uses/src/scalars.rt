@@ -5,11 +5,9 @@
 ghost use Rattle.std.specs.Prelude.{◌↔◌, IfSome, IsTrue};
 ghost use Rattle.dtype_types.specs.TreeOf.{tree};
 ghost use Rattle.dtype_types.specs.Value.{IntegerOf, Of, digits, number};
-ghost use Rattle.dtype_native.specs.Digits.{HasDigits};
+ghost use Rattle.vortex_dtype.specs.Digits.{HasDigits};
 
-use dtype_base::PType;
-use dtype_native::PrecisionScale;
-use dtype_types::DType;
+use vortex_dtype::{DType, PType, PrecisionScale};
 
 /// Whether the integer is a value of the primitive type of that name.
 pub fn is_integer_of(ptype: PType, value: i64) -> bool

@@ -3,14 +3,12 @@
 
 //! A schema, asked for the types of its columns.
 ghost use Rattle.std.specs.Prelude.{IfOk, IfSome, [], ◌∷◌};
-ghost use Rattle.dtype_types.specs.TreeOf.{tree};
-ghost use Rattle.dtype_paths.specs.At.{At};
-ghost use Rattle.dtype_paths.specs.declared.field.Field.{Field};
+ghost use Rattle.vortex_dtype.specs.TreeOf.{tree};
+ghost use Rattle.vortex_dtype.specs.At.{At};
+ghost use Rattle.vortex_dtype.specs.Types.Field.{Field};
 
-use dtype_base::VortexResult;
-use dtype_paths::{Field, field_path};
-use dtype_types::DType;
 use std::alloc::Global;
+use vortex_dtype::{DType, Field, VortexResult, field_path};
 
 /// The type of a column of a table in a schema, if there is one.
 pub fn column_type<'a>(

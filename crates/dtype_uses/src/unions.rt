@@ -9,9 +9,8 @@ ghost use Rattle.dtype_types.specs.Lookups.{variant_named};
 ghost use Rattle.dtype_types.specs.TreeOf.{choices, option_tree, tree, union_names, union_tags, union_types};
 ghost use Rattle.dtype_types.specs.Unions.{AreConsecutive};
 
-use dtype_base::{FieldNames, VortexResult};
-use dtype_types::{DType, UnionVariants};
 use std::alloc::Global;
+use vortex_dtype::{DType, FieldNames, UnionVariants, VortexResult};
 
 /// The union of these names and types.
 pub fn numbered(alloc: Global, names: FieldNames, dtypes: Vec<DType>) -> VortexResult<UnionVariants>

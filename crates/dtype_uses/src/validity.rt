@@ -9,9 +9,11 @@ ghost use Rattle.dtype_types.specs.IsValid.{IsValid, IsValidMap, IsValidStruct, 
 ghost use Rattle.dtype_types.specs.Kinds.{kind};
 ghost use Rattle.dtype_types.specs.TreeOf.{tree, union_tags};
 
-use dtype_base::{FieldName, FieldNames, Nullability, VortexResult};
-use dtype_types::{DType, Kind, MapDType, StructFields, UnionVariants};
 use std::alloc::Global;
+use vortex_dtype::{
+    DType, FieldName, FieldNames, Kind, MapDType, Nullability, StructFields, UnionVariants,
+    VortexResult,
+};
 
 /// The type of the only field of a valid struct of one, valid too.
 pub fn only_field(dtype: &DType) -> Option<&DType>

@@ -2,7 +2,7 @@
 -- SPDX-FileCopyrightText: Copyright the Vortex contributors
 
 -- What a call gave that gives what reading gives.
-use Rattle.std.proofs.Common.{◌≡◌, ◌⊎◌, inl, inr, Result, Ok, Err, IfOk, IfErr, IsErr, IsOkUnless, refl, sym, subst}
+use Rattle.std.proofs.Common.{◌≡◌, ◌⊎◌, inl, inr, Result, Ok, Err, IfOk, IfErr, IsOkUnless, refl, sym, subst}
 use Rattle.dtype_base.specs.declared.vortex_error.VortexError.{VortexError}
 use Rattle.dtype_base.specs.declared.vortex_error.VortexError.TheVariants.{OutOfMemory}
 use Rattle.dtype_types.specs.Tree.{Tree}
@@ -13,7 +13,7 @@ use Rattle.dtype_messages.specs.Message.{Message}
 use Rattle.vortex_dtype.specs.Accepts.{Accepts}
 use Rattle.vortex_dtype.specs.Meaning.{Meaning, Admits, LawfulSession}
 use Rattle.vortex_dtype.specs.IsMessage.{IsMessage}
-use Rattle.vortex_dtype.specs.Reads.{Fault, Reads}
+use Rattle.vortex_dtype.specs.Reads.{Reads}
 use Rattle.vortex_dtype.specs.ReadInOrder.{read, Gives}
 use Rattle.vortex_dtype.specs.Written.{written}
 use Rattle.vortex_dtype.specs.lemmas.Reads.{fault_none, reads_accepted, reads_once, written_reads}
@@ -31,11 +31,6 @@ gives_refused s m (Err e) g = inr g
 pub gives_accepts : (s : Meaning) → LawfulSession s → (m : Message) (r : Result DType VortexError) → IfOk r (λ _. IsMessage m) → Gives tree r (read s m) → IfOk r (λ t. Accepts s m (tree t))
 gives_accepts s l m (Ok d) i g = reads_accepted s m (tree d) l i (read_reads s m (tree d) g)
 gives_accepts s l m (Err e) i g = tt
-
--- a message in which a fault stands is refused
-pub gives_faulty : (s : Meaning) (m : Message) (r : Result DType VortexError) → Gives tree r (read s m) → (e : VortexError) → Fault s m e → IsErr r
-gives_faulty s m (Ok d) g e f = absurd (fault_none s m e (tree d) f (read_reads s m (tree d) g))
-gives_faulty s m (Err x) g e f = refl
 
 -- what is written of an admitted type reads as that type
 written_is_read : (s : Meaning) (m : Message) (t : Tree) → Valid t → Admits s t → m ≡ written t → Reads s m t

@@ -8,10 +8,8 @@ use Rattle.std.proofs.lemmas.Result.{IfErr-weaker}
 use Rattle.std.specs.Prelude.{option_map}
 use Rattle.std.specs.declared.string.String.{String}
 use Rattle.std.specs.declared.alloc.Global.{Global}
-use Rattle.vortex_dtype.specs.Meaning.{Rewrites, Meaning, Lawful, Bytes}
+use Rattle.vortex_dtype.specs.Meaning.{Rewrites, Meaning, Lawful}
 use Rattle.dtype_base.specs.declared.vortex_error.VortexError.{VortexError}
-use Rattle.dtype_types.specs.Tree.{Tree}
-use Rattle.dtype_types.specs.Valid.{Valid}
 use Rattle.vortex_dtype.specs.Refusals.{RefusedWhere}
 use Rattle.vortex_dtype.specs.Session.{meaning_of}
 
@@ -28,12 +26,6 @@ option_map-cond r false x o p e = ap (option_map r) e
 pub lawful_found : {B : Type 0} (r : B → Rewrites) → ((b : B) → Lawful (r b)) → (o : Option B) (q : Rewrites) → option_map r o ≡ Some q → Lawful q
 lawful_found r h None q e = cc
 lawful_found r h (Some b) q e = subst Lawful (same_Some _ _ e) (h b)
-
--- what a lawful plugin writes back of bytes it writes back unchanged
-pub written_again : {X E : Type 0} (r : Rewrites) → Lawful r → (b : List ℕ) (s : Tree) (shown : X → List ℕ) (o : Result X E)
-    → Bytes b → Valid s → IfOk o (λ v. r b s ≡ Some (shown v)) → IfOk o (λ v. r (shown v) s ≡ Some (shown v))
-written_again r h b s shown (Ok v) bs valid e = (h.again b (shown v) s bs valid e).1
-written_again r h b s shown (Err x) bs valid e = e
 
 weaker : (P Q : Type 0) → (P → Q) → (e : VortexError) → RefusedWhere P e → RefusedWhere Q e
 weaker P Q f e (inl none) = inl none

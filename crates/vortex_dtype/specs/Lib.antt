@@ -17,6 +17,8 @@ pub mod Accepts
 pub mod PathMessage
 pub mod StorageKinds
 pub mod CoveringLaws
+pub mod Stepping
+pub mod Rulesets
 pub mod Types
 pub mod lemmas
 pub use Rattle.dtype_base.specs.BinaryDigits

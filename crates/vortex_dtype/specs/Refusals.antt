@@ -32,10 +32,10 @@ abbrev pub Unfit : {M : Type 0} → Option M → (M → Bool) → Type 0
 Unfit None fits = Unit {0}
 Unfit (Some m) fits = fits m ≡ false
 
--- a downcast's refusals, from the id that stands there and the vtable's: 23 where they differ; else 22 where
--- the bytes aren't read or don't fit; 0 for want of memory, and no other
-abbrev pub NotOf : {M : Type 0} → List ℕ → List ℕ → Option M → (M → Bool) → VortexError → Type 0
-NotOf i j read fits OutOfMemory = Unit {0}
-NotOf i j read fits ExtensionIdDiffers = i ≢ j
-NotOf i j read fits MetadataRefused = (i ≡ j) × Unfit read fits
-NotOf i j read fits _ = ⊥
+-- a downcast's refusals, from the id that stands there and the vtable's: 23 where they differ; else 22, and then P
+-- holds; 0 for want of memory, and no other
+abbrev pub NotOf : List ℕ → List ℕ → Type 0 → VortexError → Type 0
+NotOf i j P OutOfMemory = Unit {0}
+NotOf i j P ExtensionIdDiffers = i ≢ j
+NotOf i j P MetadataRefused = (i ≡ j) × P
+NotOf i j P _ = ⊥

@@ -17,6 +17,10 @@ module _ {V M : Type 0} where
   abbrev pub storage_of : ExtDType V M → Tree
   storage_of x = tree x.storage
 
+  -- all three
+  abbrev pub typed_shown : ExtDType V M → V × M × Tree
+  typed_shown x = (vtable_of x, metadata_of x, storage_of x)
+
   -- its storage is valid
   abbrev pub IsValidTyped : ExtDType V M → Type 0
   IsValidTyped x = IsValid x.storage

@@ -2,15 +2,15 @@
 // SPDX-FileCopyrightText: Copyright the Vortex contributors
 
 // Typed extensions.
-ghost use Rattle.std.specs.Prelude.{◌≡◌, ◌≢◌, ◌⊎◌, IfOk, IfErr, OnOk, Some, None, true, false};
+ghost use Rattle.std.specs.Prelude.{◌≡◌, IfOk, IfErr, OnOk, Some, None, true, false};
 ghost use Rattle.dtype_base.specs.declared.nullability.Nullability.TheVariants.{NonNullable};
-ghost use Rattle.dtype_base.specs.declared.vortex_error.VortexError.TheVariants.{ExtensionIdDiffers, MetadataRefused, OutOfMemory};
 ghost use Rattle.dtype_types.specs.Nullable.{CanBeNonNullable, SetNull};
-ghost use Rattle.dtype_types.specs.TreeOf.{extension_id, extension_metadata, storage_tree, tree};
-ghost use Rattle.dtype_types.specs.IsValid.{IsValid, IsValidExtension};
+ghost use Rattle.dtype_types.specs.TreeOf.{extension_id, extension_metadata, extension_tree, storage_tree, tree};
+ghost use Rattle.dtype_types.specs.IsValid.{IsValidExtension};
+ghost use Rattle.dtype_types.specs.Tree.{extension};
 ghost use Rattle.dtype_types.specs.Valid.{Valid};
-ghost use Rattle.vortex_dtype.specs.Refusals.{NotOf, RefusedWhere};
-ghost use Rattle.vortex_dtype.specs.TypedOf.{IsValidTyped, metadata_of, storage_of, vtable_of};
+ghost use Rattle.vortex_dtype.specs.Refusals.{NotOf, RefusedWhere, Unfit};
+ghost use Rattle.vortex_dtype.specs.TypedOf.{IsValidTyped, metadata_of, storage_of, typed_shown, vtable_of};
 
 use crate::ExtVTable;
 use dtype_base::{Nullability, VortexError, VortexResult};
@@ -33,9 +33,7 @@ impl<V: ExtVTable + Default> ExtDType<V> {
     /// valid a vtable promises nothing.
     pub fn try_new(alloc: Global, metadata: V::Metadata, storage: DType) -> VortexResult<Self>
         ensures vtable { IfOk result (λ x. V.is_default (vtable_of x)) }
-        ensures metadata { IfOk result (λ x. metadata_of x ≡ metadata) }
-        ensures storage { IfOk result (λ x. storage_of x ≡ tree storage) }
-        ensures valid { IsValid storage → IfOk result IsValidTyped }
+        ensures made { IfOk result (λ x. typed_shown x ≡ (vtable_of x, metadata, tree storage)) }
         ensures fits { Valid (tree storage)
             → IfOk result (λ x. V.fits (vtable_of x) (V.meant metadata) (tree storage) ≡ true) }
         // the vtable that doesn't take them is a default one
@@ -56,10 +54,7 @@ impl<V: ExtVTable> ExtDType<V> {
         metadata: V::Metadata,
         storage: DType,
     ) -> VortexResult<Self>
-        ensures vtable { IfOk result (λ x. vtable_of x ≡ vtable) }
-        ensures metadata { IfOk result (λ x. metadata_of x ≡ metadata) }
-        ensures storage { IfOk result (λ x. storage_of x ≡ tree storage) }
-        ensures valid { IsValid storage → IfOk result IsValidTyped }
+        ensures made { IfOk result (λ x. typed_shown x ≡ (vtable, metadata, tree storage)) }
         ensures fits { Valid (tree storage)
             → OnOk result (V.fits vtable (V.meant metadata) (tree storage) ≡ true) }
         ensures refused { Valid (tree storage) → IfErr result
@@ -96,8 +91,7 @@ impl<V: ExtVTable> ExtDType<V> {
 
     /// The storage type.
     pub fn storage_dtype(&self) -> &DType
-        ensures storage { tree result.now ≡ storage_of self.now }
-        ensures valid { IsValidTyped self.now → IsValid result.now }
+        ensures { tree result.now ≡ storage_of self.now }
     {
         &self.storage
     }
@@ -137,10 +131,10 @@ impl<V: ExtVTable> ExtDType<V> {
     /// The extension without its library: the id, the written metadata and the storage. Refuses 22
     /// (MetadataRefused) exactly where the vtable doesn't write the metadata, and 0 (OutOfMemory).
     pub fn erased(self, alloc: Global) -> VortexResult<ExtDTypeRef>
-        ensures id { IfOk result (λ e. extension_id e ≡ V.id_text (vtable_of self)) }
+        ensures made { IfOk result (λ e. extension_tree e
+            ≡ extension (V.id_text (vtable_of self)) (extension_metadata e) (storage_of self)) }
         ensures metadata { IfOk result (λ e.
             V.writes (vtable_of self) (V.meant (metadata_of self)) ≡ Some (extension_metadata e)) }
-        ensures storage { IfOk result (λ e. storage_tree e ≡ storage_of self) }
         ensures valid { IsValidTyped self → IfOk result IsValidExtension }
         ensures refused { IfErr result
             (RefusedWhere (V.writes (vtable_of self) (V.meant (metadata_of self)) ≡ None)) }
@@ -156,7 +150,7 @@ impl<V: ExtVTable> ExtDType<V> {
     }
 
     /// The extension with its library: the metadata is read from the bytes, and the storage stays. Refuses
-    /// 23 (ExtensionIdDiffers) exactly where the ids differ, then, over a valid storage, 22 (MetadataRefused)
+    /// 23 (ExtensionIdDiffers) exactly where the ids differ, whatever the storage; then, over a valid storage, 22 (MetadataRefused)
     /// exactly where the bytes aren't read or what is read doesn't fit, and 0 (OutOfMemory); what was handed in
     /// is then handed back as it was.
     pub fn try_downcast(
@@ -164,22 +158,17 @@ impl<V: ExtVTable> ExtDType<V> {
         erased: ExtDTypeRef,
         vtable: V,
     ) -> Result<ExtDType<V>, (ExtDTypeRef, VortexError)>
-        ensures vtable { IfOk result (λ x. vtable_of x ≡ vtable) }
+        ensures made { IfOk result
+            (λ x. typed_shown x ≡ (vtable, metadata_of x, storage_tree erased)) }
         ensures id { OnOk result (extension_id erased ≡ V.id_text vtable) }
         ensures read { IfOk result
             (λ x. V.reads vtable (extension_metadata erased) ≡ Some (V.meant (metadata_of x))) }
         ensures fits { Valid (storage_tree erased) → IfOk result
             (λ x. V.fits vtable (V.meant (metadata_of x)) (storage_tree erased) ≡ true) }
-        ensures storage { IfOk result (λ x. storage_of x ≡ storage_tree erased) }
-        ensures valid { IsValidExtension erased → IfOk result IsValidTyped }
         ensures handed_back { IfErr result (λ p. p.0 ≡ erased) }
-        // 23 only where the ids differ, whatever the storage
-        ensures differs { IfErr result (λ p. p.1 ≡ ExtensionIdDiffers
-            → extension_id erased ≢ V.id_text vtable) }
-        ensures refused { Valid (storage_tree erased) → IfErr result (λ p.
-            NotOf (extension_id erased) (V.id_text vtable)
-            (V.reads vtable (extension_metadata erased))
-            (λ m. V.fits vtable m (storage_tree erased)) p.1) }
+        ensures refused { IfErr result (λ p. NotOf (extension_id erased) (V.id_text vtable)
+            (Valid (storage_tree erased) → Unfit (V.reads vtable (extension_metadata erased))
+            (λ m. V.fits vtable m (storage_tree erased))) p.1) }
     {
         match ExtDType::read_lent(alloc, &erased, &vtable) {
             Err(fault) => Err((erased, fault)),
@@ -201,12 +190,10 @@ impl<V: ExtVTable> ExtDType<V> {
             (λ m. V.reads vtable.now (extension_metadata erased.now) ≡ Some (V.meant m)) }
         ensures fits { Valid (storage_tree erased.now) → IfOk result
             (λ m. V.fits vtable.now (V.meant m) (storage_tree erased.now) ≡ true) }
-        ensures differs { IfErr result (λ e. e ≡ ExtensionIdDiffers
-            → extension_id erased.now ≢ V.id_text vtable.now) }
-        ensures refused { Valid (storage_tree erased.now) → IfErr result
-            (NotOf (extension_id erased.now) (V.id_text vtable.now)
-            (V.reads vtable.now (extension_metadata erased.now))
-            (λ m. V.fits vtable.now m (storage_tree erased.now))) }
+        ensures refused { IfErr result (NotOf (extension_id erased.now) (V.id_text vtable.now)
+            (Valid (storage_tree erased.now)
+            → Unfit (V.reads vtable.now (extension_metadata erased.now))
+            (λ m. V.fits vtable.now m (storage_tree erased.now)))) }
     {
         if erased.id().as_str() != vtable.id() {
             return Err(VortexError::ExtensionIdDiffers);
@@ -226,9 +213,8 @@ impl<V: ExtVTable> ExtDType<V> {
     ) -> VortexResult<()>
         ensures ok { Valid (tree storage.now)
             → OnOk result (V.fits vtable.now (V.meant metadata.now) (tree storage.now) ≡ true) }
-        ensures refused { Valid (tree storage.now) → IfErr result
-            (RefusedWhere (V.fits vtable.now (V.meant metadata.now) (tree storage.now) ≡ false)) }
-        ensures kinds { IfErr result (λ e. (e ≡ OutOfMemory) ⊎ (e ≡ MetadataRefused)) }
+        ensures refused { IfErr result (RefusedWhere (Valid (tree storage.now)
+            → V.fits vtable.now (V.meant metadata.now) (tree storage.now) ≡ false)) }
     {
         match vtable.validate_dtype(alloc, metadata, storage) {
             Ok(()) => Ok(()),

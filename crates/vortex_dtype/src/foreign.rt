@@ -4,8 +4,9 @@
 // Extensions of which nothing is known: all bytes are kept.
 ghost use Rattle.std.specs.Prelude.{◌≡◌, IfOk, IsOkUnless, Some};
 ghost use Rattle.dtype_base.specs.declared.vortex_error.VortexError.TheVariants.{OutOfMemory};
-ghost use Rattle.dtype_types.specs.TreeOf.{extension_id, extension_metadata, storage_tree, tree};
+ghost use Rattle.dtype_types.specs.TreeOf.{extension_tree, tree};
 ghost use Rattle.dtype_types.specs.IsValid.{IsValid, IsValidExtension};
+ghost use Rattle.dtype_types.specs.Tree.{extension};
 
 use crate::ExtVTable;
 use dtype_base::VortexResult;
@@ -73,9 +74,8 @@ impl ForeignExtDType {
         metadata: Vec<u8>,
         storage: DType,
     ) -> VortexResult<ExtDTypeRef>
-        ensures id { IfOk result (λ e. extension_id e ≡ id) }
-        ensures metadata { IfOk result (λ e. extension_metadata e ≡ metadata.items) }
-        ensures storage { IfOk result (λ e. storage_tree e ≡ tree storage) }
+        ensures parts { IfOk result
+            (λ e. extension_tree e ≡ extension id metadata.items (tree storage)) }
         ensures valid { IsValid storage → IfOk result IsValidExtension }
         ensures refused { IsOkUnless result OutOfMemory }
     {

@@ -10,7 +10,6 @@ ghost use Rattle.vortex_dtype.specs.Refusals.{RefusedWhere};
 
 use crate::ExtVTable;
 use dtype_base::VortexResult;
-use dtype_base::laws::slices_hold_bytes;
 use dtype_types::DType;
 use std::alloc::Global;
 use std::marker::Model;
@@ -105,26 +104,8 @@ pub(crate) fn boxed_id(plugin: &Box<dyn ExtDTypePlugin>) -> &str
     plugin.id()
 }
 
-// The bytes that the plugin in a box writes back, and would write back unchanged.
-pub(crate) fn boxed_deserialize(
-    plugin: &Box<dyn ExtDTypePlugin>,
-    alloc: Global,
-    metadata: &[u8],
-    storage: &DType,
-) -> VortexResult<Vec<u8>>
-    ensures ok { Valid (tree storage.now)
-        → IfOk result (λ v. rewrites plugin.now metadata.now (tree storage.now) ≡ Some v.items) }
-    ensures again { Valid (tree storage.now)
-        → IfOk result (λ v. rewrites plugin.now v.items (tree storage.now) ≡ Some v.items) }
-    ensures refused { Valid (tree storage.now)
-        → IfErr result (RefusedWhere (rewrites plugin.now metadata.now (tree storage.now) ≡ None)) }
-{
-    slices_hold_bytes(metadata);
-    written_back(plugin, alloc, metadata, storage)
-}
-
 // The bytes that the plugin in a box writes back.
-fn written_back(
+pub(crate) fn boxed_deserialize(
     plugin: &Box<dyn ExtDTypePlugin>,
     alloc: Global,
     metadata: &[u8],

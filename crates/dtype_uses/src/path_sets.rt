@@ -210,18 +210,6 @@ pub fn either_asked(asked: &FieldPathSet, more: &FieldPathSet) -> VortexResult<F
     Ok(both)
 }
 
-/// The columns to open for two sets at once, of which the first stays: the second's least paths are put into a copy.
-pub fn cover_of_both(
-    asked: &FieldPathSet,
-    more: FieldPathSet,
-) -> VortexResult<vec::IntoIter<FieldPath>>
-    ensures { IfOk result (λ r. set_of (into_iter_items r) ≡ least (set.union asked.now more)) }
-{
-    let mut both = asked.try_clone()?;
-    both.extend(more.into_iter()?)?;
-    both.into_iter()
-}
-
 /// The columns to open for a set and the columns of a query besides.
 pub fn cover_with_query(
     asked: &FieldPathSet,

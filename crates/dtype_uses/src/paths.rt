@@ -118,10 +118,11 @@ pub fn overlap_either_way(path: &FieldPath, other: &FieldPath) -> bool
 }
 
 /// Whether two paths exist alike, where they are equal: they always do.
+#[tactic(auto)]
 pub fn equal_paths_exist_alike(path: &FieldPath, other: &FieldPath, dtype: &DType) -> bool
     ensures { IsTrue result }
 {
-    if path == other {
+    if *path == *other {
         return path.exists_in(dtype) == other.exists_in(dtype);
     }
     true

@@ -21,26 +21,25 @@ enum Plugin {
     AllKept,
 }
 
-// What a session allows, with the plugin of each id. The one function that asks a session makes it of this, and none is
-// kept: a trait object may not leave the function that makes it.
-#[derive(Clone, Copy)]
-struct Allowed {
+// What a session was told: whether unknown ids are allowed, and the plugins in the order in which they were registered.
+// The one function that asks a session makes it of this, and none is kept: a trait object may not leave the function
+// that makes it.
+#[derive(Drop)]
+struct Told {
     unknown: bool,
-    tag: Option<Plugin>,
-    text: Option<Plugin>,
-    word: Option<Plugin>,
+    plugins: Vec<Plugin>,
 }
 
-// Nothing.
-const STRICT: Allowed = Allowed {
-    unknown: false,
-    tag: None,
-    text: None,
-    word: None,
-};
+impl Told {
+    // Nothing.
+    fn new(alloc: Global) -> Self {
+        Told {
+            unknown: false,
+            plugins: Vec::new(alloc),
+        }
+    }
 
-impl Allowed {
-    // Allows what a word says too.
+    // Tells what a word says too.
     fn read_word(&mut self, line: &mut Line<'_>) -> ConsoleResult<()> {
         if line.takes("strict") {
             return Ok(());
@@ -49,23 +48,23 @@ impl Allowed {
             self.unknown = true;
             return Ok(());
         }
-        self.read_plugin(line)
-    }
-
-    // Allows the plugin that comes next too.
-    fn read_plugin(&mut self, line: &mut Line<'_>) -> ConsoleResult<()> {
-        if line.takes("x.tag") {
-            self.tag = Some(Plugin::Tag);
-        } else if line.takes("x.text") {
-            self.text = Some(Plugin::TextAlone);
-        } else if line.takes("x.word") {
-            self.word = Some(Plugin::Word);
-        } else if line.takes("kept") {
-            self.tag = Some(Plugin::AllKept);
-        } else {
-            return Err(line.expected("a session"));
-        }
+        self.plugins.push(read_plugin(line)?)?;
         Ok(())
+    }
+}
+
+// Reads the plugin that comes next.
+fn read_plugin(line: &mut Line<'_>) -> ConsoleResult<Plugin> {
+    if line.takes("x.tag") {
+        Ok(Plugin::Tag)
+    } else if line.takes("x.text") {
+        Ok(Plugin::TextAlone)
+    } else if line.takes("x.word") {
+        Ok(Plugin::Word)
+    } else if line.takes("kept") {
+        Ok(Plugin::AllKept)
+    } else {
+        Err(line.expected("a session"))
     }
 }
 
@@ -73,7 +72,7 @@ impl Allowed {
 #[derive(Drop)]
 struct Living {
     name: FieldName,
-    allowed: Allowed,
+    told: Told,
 }
 
 /// The sessions that live on from line to line, each with a name.
@@ -115,81 +114,86 @@ impl Sessions {
             unless(self.living.len() < MOST_SESSIONS, "at most 16 sessions")?;
             self.living.push(Living {
                 name: name.try_clone(self.alloc)?,
-                allowed: STRICT,
+                told: Told::new(self.alloc),
             })?;
         }
         for it in &mut self.living {
             if it.name == name {
-                it.allowed = changed(call, it.allowed)?;
-                return Ok(());
+                return change(call, &mut it.told);
             }
         }
         Err(call.line.expected("the name of a session"))
     }
 
-    // Answers a command on the session that comes next.
+    // Answers a command on the session that comes next: words, or the name of one that lives.
     fn ask(&self, call: &mut Call<'_>, command: &str) -> ConsoleResult<()> {
-        let allowed = self.read_allowed(call)?;
-        let alloc = call.alloc;
-        let mut session = DTypeSession::new(alloc);
-        if allowed.unknown {
-            session.allow_unknown();
-        }
-        for plugin in [allowed.tag, allowed.text, allowed.word] {
-            match plugin {
-                Some(Plugin::Tag) => session.register(Box::new(alloc, PluginOf::new(Tag))?),
-                Some(Plugin::TextAlone) => session.register(Box::new(alloc, TextAlone)?),
-                Some(Plugin::Word) => session.register(Box::new(alloc, PluginOf::new(Word))?),
-                Some(Plugin::AllKept) => session.register(Box::new(alloc, AllKept)?),
-                None => Ok(()),
-            }?;
-        }
-        ask(call, command, &session)
-    }
-
-    // Reads a session: the name of one that lives, or words.
-    fn read_allowed(&self, call: &mut Call<'_>) -> ConsoleResult<Allowed> {
         call.line.skip_blanks();
         if !call.line.takes("@") {
-            return read_words(&mut call.line);
+            let told = read_words(call)?;
+            return ask_told(call, command, &told);
         }
         let name = call.line.name(call.alloc)?;
         for it in &self.living {
             if it.name == name {
-                return Ok(it.allowed);
+                return ask_told(call, command, &it.told);
             }
         }
-        Ok(STRICT)
+        let told = Told::new(call.alloc);
+        ask_told(call, command, &told)
     }
 }
 
-// Reads what the words that come next allow.
-fn read_words(line: &mut Line<'_>) -> ConsoleResult<Allowed> {
-    let mut allowed = STRICT;
-    for _ in 0..line.left() {
-        allowed.read_word(line)?;
-        if !line.takes(",") {
+// Reads what the words that come next tell a session.
+fn read_words(call: &mut Call<'_>) -> ConsoleResult<Told> {
+    let mut told = Told::new(call.alloc);
+    for _ in 0..call.line.left() {
+        told.read_word(&mut call.line)?;
+        if !call.line.takes(",") {
             break;
         }
     }
-    Ok(allowed)
+    Ok(told)
 }
 
-// Answers a command on a session that lives on, and gives what it allows then.
-fn changed(call: &mut Call<'_>, allowed: Allowed) -> ConsoleResult<Allowed> {
-    let mut allowed = allowed;
+// Answers a command that tells a session that lives on.
+fn change(call: &mut Call<'_>, told: &mut Told) -> ConsoleResult<()> {
     match call.word("a command on a session")? {
-        "new" => allowed = STRICT,
-        "allow_unknown" => allowed.unknown = true,
+        "new" => {
+            call.end()?;
+            told.unknown = false;
+            told.plugins.clear();
+        }
+        "allow_unknown" => {
+            call.end()?;
+            told.unknown = true;
+        }
         "register" => {
             call.line.skip_blanks();
-            allowed.read_plugin(&mut call.line)?;
+            let plugin = read_plugin(&mut call.line)?;
+            call.end()?;
+            told.plugins.push(plugin)?;
         }
         _ => return Err(call.line.expected("a command on a session")),
     }
-    call.end()?;
-    call.say("ok")?;
-    Ok(allowed)
+    call.say("ok")
+}
+
+// Answers a command on a session that was told this.
+fn ask_told(call: &mut Call<'_>, command: &str, told: &Told) -> ConsoleResult<()> {
+    let alloc = call.alloc;
+    let mut session = DTypeSession::new(alloc);
+    if told.unknown {
+        session.allow_unknown();
+    }
+    for plugin in &told.plugins {
+        match plugin {
+            Plugin::Tag => session.register(Box::new(alloc, PluginOf::new(Tag))?),
+            Plugin::TextAlone => session.register(Box::new(alloc, TextAlone)?),
+            Plugin::Word => session.register(Box::new(alloc, PluginOf::new(Word))?),
+            Plugin::AllKept => session.register(Box::new(alloc, AllKept)?),
+        }?;
+    }
+    ask(call, command, &session)
 }
 
 fn ask(call: &mut Call<'_>, command: &str, session: &DTypeSession) -> ConsoleResult<()> {

@@ -2,8 +2,9 @@
 -- SPDX-FileCopyrightText: Copyright the Vortex contributors
 
 -- Keys that differ are in the order of the names, where these begin alike; and the index that is sorted by them.
-use Rattle.std.proofs.Common.{◌≡◌, ◌≢◌, ℕ, zero, suc, ◌+◌, ◌-◌, ◌*◌, ◌<◌, ◌≤◌, ◌^◌, List, [], ◌∷◌, ◌++◌, length, get_or, take, drop, Some, Bool, true, false, refl, sym, ap, subst, ◌∙◌, inl, inr, arith, pow-suc, mul-le-mul_right, add-mul, true≢false}
+use Rattle.std.proofs.Common.{◌%◌, mod-eq_of_lt, ◌≡◌, ◌≢◌, ℕ, zero, suc, ◌+◌, ◌-◌, ◌*◌, ◌<◌, ◌≤◌, ◌^◌, List, [], ◌∷◌, ◌++◌, length, get_or, take, drop, Some, Bool, true, false, refl, sym, ap, subst, ◌∙◌, inl, inr, arith, pow-suc, mul-le-mul_right, add-mul, true≢false}
 use Rattle.std.specs.Prelude.{slice_get}
+use Rattle.std.proofs.Math.Nat.{add-mul-mod_self_right}
 use Rattle.std.specs.List.{All, range_with_len}
 use Rattle.std.specs.List.Sorted.{IsPermutation, IsSorted}
 use Rattle.std.specs.Int.{w64, from_be_bytes}
@@ -13,7 +14,7 @@ use Rattle.std.specs.Ordering.{is_lt, is_eq, ordering_then, ordering_reverse, na
 use Rattle.std.specs.Cmp.{IsTotalOrder, then_total, on_total, nat_cmp_is, nat_cmp_total}
 use Rattle.std.specs.Cmp.Lexicographic.{slice_cmp, nat_list_cmp_total}
 use Rattle.std.proofs.lemmas.Bool.{cases_lt, cases_order, false≢true}
-use Rattle.std.proofs.lemmas.List.{length-map, get_or-map, get_or_default, map-append}
+use Rattle.std.proofs.lemmas.List.{length-map, get_or-map, get_or_default, map-append, drop-drop, length-drop}
 use Rattle.std.proofs.lemmas.List.Elements.{All-tail, All-cons, All-append}
 use Rattle.std.proofs.lemmas.List.Sorted.{All-permutation, IsPermutation-map}
 use Rattle.std.proofs.lemmas.Option.{slice_get-get_or, slice_get_within, get_or_from_slice_get}
@@ -221,6 +222,13 @@ keys_more places p before here so_far some there above j k d l m within =
           ]
     ]
 
+-- places whose keys rise are in order
+pub rise_sorted : (names : List (List ℕ)) (places : List Place) → KeysRise places → IsSorted (place_cmp names) places
+rise_sorted names places rise k d low high =
+    let p = get_or places k d in
+    let q = get_or places (k + 1) d in
+    sym (ap (λ r. is_lt (ordering_then r (position_cmp names q.position p.position))) (nat_cmp_is q.key p.key Greater (rise k (k + 1) d (omega arith) high)))
+
 -- the order of places is total
 pub place_total : (names : List (List ℕ)) → IsTotalOrder (place_cmp names)
 place_total names = then_total (on_total (λ p. p.key) nat_cmp_total) (on_total (λ p. p.position) (position_total names))
@@ -255,3 +263,41 @@ sixteen (a ∷ b ∷ c ∷ d ∷ e ∷ []) = omega arith
 sixteen (a ∷ b ∷ c ∷ d ∷ e ∷ f ∷ []) = omega arith
 sixteen (a ∷ b ∷ c ∷ d ∷ e ∷ f ∷ g ∷ []) = omega arith
 sixteen (a ∷ b ∷ c ∷ d ∷ e ∷ f ∷ g ∷ h ∷ rest) = omega arith
+
+-- eight bytes without the first j of them are the eight shifted by j bytes, but for what is past 64 bits
+eight_shifted : (a b c d e f g h j : ℕ) → 0 < j → j < 8
+    → high_first 8 (a ∷ b ∷ c ∷ d ∷ e ∷ f ∷ g ∷ h ∷ []) * 2 ^ (8 * j) ≡ high_first 8 (drop j (a ∷ b ∷ c ∷ d ∷ e ∷ f ∷ g ∷ h ∷ [])) + high_first j (a ∷ b ∷ c ∷ d ∷ e ∷ f ∷ g ∷ h ∷ []) * 2 ^ 64
+unfolding high_first
+eight_shifted a b c d e f g h zero some few = absurd (omega (arith, some))
+eight_shifted a b c d e f g h (suc zero) some few = omega arith
+eight_shifted a b c d e f g h (suc (suc zero)) some few = omega arith
+eight_shifted a b c d e f g h (suc (suc (suc zero))) some few = omega arith
+eight_shifted a b c d e f g h (suc (suc (suc (suc zero)))) some few = omega arith
+eight_shifted a b c d e f g h (suc (suc (suc (suc (suc zero))))) some few = omega arith
+eight_shifted a b c d e f g h (suc (suc (suc (suc (suc (suc zero)))))) some few = omega arith
+eight_shifted a b c d e f g h (suc (suc (suc (suc (suc (suc (suc zero))))))) some few = omega arith
+eight_shifted a b c d e f g h (suc (suc (suc (suc (suc (suc (suc (suc j)))))))) some few = absurd (omega (arith, few))
+
+shifted_sum : (j : ℕ) (bs : List ℕ) → 0 < j → j < 8 → length bs ≡ 8 → high_first 8 bs * 2 ^ (8 * j) ≡ high_first 8 (drop j bs) + high_first j bs * 2 ^ 64
+shifted_sum j [] some few as_many = absurd (omega (arith, as_many))
+shifted_sum j (a ∷ []) some few as_many = absurd (omega (arith, as_many))
+shifted_sum j (a ∷ b ∷ []) some few as_many = absurd (omega (arith, as_many))
+shifted_sum j (a ∷ b ∷ c ∷ []) some few as_many = absurd (omega (arith, as_many))
+shifted_sum j (a ∷ b ∷ c ∷ d ∷ []) some few as_many = absurd (omega (arith, as_many))
+shifted_sum j (a ∷ b ∷ c ∷ d ∷ e ∷ []) some few as_many = absurd (omega (arith, as_many))
+shifted_sum j (a ∷ b ∷ c ∷ d ∷ e ∷ f ∷ []) some few as_many = absurd (omega (arith, as_many))
+shifted_sum j (a ∷ b ∷ c ∷ d ∷ e ∷ f ∷ g ∷ []) some few as_many = absurd (omega (arith, as_many))
+shifted_sum j (a ∷ b ∷ c ∷ d ∷ e ∷ f ∷ g ∷ h ∷ []) some few as_many = eight_shifted a b c d e f g h j some few
+shifted_sum j (a ∷ b ∷ c ∷ d ∷ e ∷ f ∷ g ∷ h ∷ i ∷ rest) some few as_many = absurd (omega (arith, as_many))
+
+-- the last bytes of a text, behind so many, by its last eight
+pub shifted : (count : ℕ) (text : List ℕ) → Bytes text → count < length text → length text < count + 8 → 8 ≤ length text
+    → high_first 8 (drop (length text - 8) text) * 2 ^ (8 * (8 - (length text - count))) % 2 ^ 64 ≡ high_first 8 (drop count text)
+shifted count text bytes some few long =
+    let j = 8 - (length text - count) in
+    let last = drop (length text - 8) text in
+    let is : drop j last ≡ drop count text = drop-drop j (length text - 8) text ∙ ap (λ k. drop k text) (omega (arith, some, few, long)) in
+    ap (λ x. x % 2 ^ 64) (shifted_sum j last (omega (arith, few, some)) (omega (arith, some)) (length-drop (length text - 8) text ∙ omega (arith, long)))
+    ∙ add-mul-mod_self_right (high_first 8 (drop j last)) (high_first j last) (2 ^ 64)
+    ∙ ap (λ bs. high_first 8 bs % 2 ^ 64) is
+    ∙ mod-eq_of_lt (high_bound 8 (drop count text) (bytes_behind count text bytes))

@@ -8,7 +8,7 @@ ghost use Rattle.dtype_base.specs.NameOrder.{IsIndexOf, comparisons, mask, place
 ghost use Rattle.dtype_base.specs.declared.vortex_error.VortexError.TheVariants.{OutOfMemory};
 
 use crate::name_key::{key_of, shared_beginning};
-use crate::name_order::{Place, are_distinct, have_own_keys, places_of};
+use crate::name_order::{Place, are_distinct, places_of};
 use crate::{FieldName, FieldNames, VortexResult};
 use std::alloc::Global;
 use std::cmp::Ordering;
@@ -48,8 +48,7 @@ impl IndexedNames {
         ensures refused { IsOkUnless result OutOfMemory }
     {
         let shared = shared_beginning(names.as_slice());
-        let places = places_of(alloc, names.as_slice(), shared)?;
-        let keys_tell = have_own_keys(&places);
+        let (places, keys_tell) = places_of(alloc, names.as_slice(), shared)?;
         Ok(IndexedNames {
             names,
             shared,

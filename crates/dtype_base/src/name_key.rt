@@ -68,10 +68,23 @@ pub(crate) fn key_of(text: &[u8], shared: usize) -> u128
     ensures key { result ≡ name_key shared text.now }
     ensures bytes { Bytes text.now }
 {
-    let rest = behind(text, shared);
-    let high = eight_of(rest);
-    let low = eight_of(behind(rest, 8));
+    let high = eight_behind(text, shared);
+    let low = eight_behind(behind(text, shared), 8);
     u128::from(high) * 0x1_0000_0000_0000_0000 + u128::from(low)
+}
+
+// The eight bytes behind the first so many as one number, with zeros where there are fewer. Where the text has
+// eight at all, its last are read at once, and the zeros shifted in.
+fn eight_behind(text: &[u8], count: usize) -> u64
+    ensures { result ≡ high_first 8 (drop count text.now) }
+{
+    let rest = behind(text, count);
+    let held = rest.len();
+    if held == 0 || held >= 8 || text.len() < 8 {
+        return eight_of(rest);
+    }
+    let last = behind(text, text.len() - 8);
+    eight_of(last) << (8 * (8 - held))
 }
 
 // The first eight bytes as one number, with zeros where there are fewer. A text with as many is read at once.

@@ -20,16 +20,17 @@ pub(crate) struct Place {
     pub(crate) position: usize,
 }
 
-// Every position of the names, sorted by the bytes of the name there and then by itself. The names
-// begin alike with so many bytes, behind which their keys are.
+// Every position of the names, sorted by the bytes of the name there and then by itself, and whether no two
+// have one key. The names begin alike with so many bytes, behind which their keys are.
 pub(crate) fn places_of(
     alloc: Global,
     names: &[FieldName],
     shared: usize,
-) -> VortexResult<Vec<Place>>
+) -> VortexResult<(Vec<Place>, bool)>
     requires { BeginAlike names.now shared }
-    ensures keyed { IfOk result (λ places. All (IsKeyed names.now shared) places.items) }
-    ensures order { IfOk result (λ places. IsOrderOf names.now (positions places.items)) }
+    ensures keyed { IfOk result (λ made. All (IsKeyed names.now shared) made.0.items) }
+    ensures order { IfOk result (λ made. IsOrderOf names.now (positions made.0.items)) }
+    ensures rise { IfOk result (λ made. IsTrue made.1 → KeysRise made.0.items) }
     ensures refused { IsOkUnless result OutOfMemory }
 {
     let mut places = Vec::with_capacity(alloc, names.len())?;
@@ -37,12 +38,28 @@ pub(crate) fn places_of(
         let key = key_of(names[position].as_str().as_bytes(), shared);
         places.push(Place { key, position })?;
     }
-    sort_places(names, &mut places)?;
-    Ok(places)
+    let keys_tell = sort_places(names, &mut places)?;
+    Ok((places, keys_tell))
 }
 
-// By std's stable sort, which takes memory, but finds what is in order already, as numbered names mostly are.
-fn sort_places(names: &[FieldName], places: &mut Vec<Place>) -> VortexResult<()>
+// By the keys alone, and only where two places have one key by the texts too: numbers are compared without a jump
+// that a processor could guess wrong. Tells whether no two have one key. By std's stable sort, which takes memory,
+// but finds what is in order already, as numbered names mostly are.
+fn sort_places(names: &[FieldName], places: &mut Vec<Place>) -> VortexResult<bool>
+    ensures each { IsPermutation places.old.items places.new.items }
+    ensures rising { OnOk result (IsSorted (place_cmp names.now) places.new.items) }
+    ensures rise { IfOk result (λ keys_tell. IsTrue keys_tell → KeysRise places.new.items) }
+    ensures refused { IsOkUnless result OutOfMemory }
+{
+    places.sort_by_key(|place| place.key)?;
+    let keys_tell = have_own_keys(places);
+    if !keys_tell {
+        sort_by_texts(names, places)?;
+    }
+    Ok(keys_tell)
+}
+
+fn sort_by_texts(names: &[FieldName], places: &mut Vec<Place>) -> VortexResult<()>
     ensures each { IsPermutation places.old.items places.new.items }
     ensures rising { OnOk result (IsSorted (place_cmp names.now) places.new.items) }
     ensures refused { IsOkUnless result OutOfMemory }
@@ -69,7 +86,7 @@ fn compare_positions(names: &[FieldName], i: &usize, j: &usize) -> Ordering
 }
 
 // Whether no two places have one key.
-pub(crate) fn have_own_keys(places: &[Place]) -> bool
+fn have_own_keys(places: &[Place]) -> bool
     ensures { IsTrue result → KeysRise places.now }
 {
     for next in 1..places.len() {

@@ -31,4 +31,4 @@ pub returns-clause-order : goal.returns-clause-order
 returns-clause-order c =
     let names = c.args.names.now in
     let all : c.loop-position.position ≡ length names = omega (arith, c.loop-position-test.false) in
-    order_of names c.args.shared c.requires c.loop-position.places.items _ (c.loop-position.invariant.in_order ∙ ap (range_with_len 0) all) c.loop-position.invariant.keyed c.sort_places.ensures.each c.in_ok-sort_places.ensures.rising
+    order_of names c.args.shared c.requires c.loop-position.places.items _ (c.loop-position.invariant.in_order ∙ ap (range_with_len 0) all) c.loop-position.invariant.keyed c.sort_places.ensures.each c.in_ok-keys_tell.ensures.rising

@@ -1,14 +1,11 @@
 -- SPDX-License-Identifier: Apache-2.0
 -- SPDX-FileCopyrightText: Copyright the Vortex contributors
 
-use Rattle.std.proofs.Common.{rules, is_lt}
-use Rattle.std.proofs.lemmas.List.Sorted.{ranks_by}
-use Rattle.std.proofs.lemmas.Fn.{always_returns_same}
-use Rattle.dtype_base.specs.NameOrder.{place_cmp}
-use Rattle.dtype_base.proofs.KeyOrder.{place_total}
+use Rattle.std.proofs.lemmas.List.Sorted.{IsPermutation-trans}
 use Rattle.dtype_base.proofs.name_order.sort_places.Goals as goal
 
-pub returns-clause-rising : goal.returns-clause-rising
-returns-clause-rising c =
-    let names = c.args.names.now in
-    c.in_ok-sort_by.ensures.sorted (λ p q. is_lt (place_cmp names p q)) (ranks_by (place_total names) (λ p. p)) (always_returns_same _ _ _ (λ a r f k. search rules))
+pub returns-in_err-sort_by_texts-clause-each : goal.returns-in_err-sort_by_texts-clause-each
+returns-in_err-sort_by_texts-clause-each c = IsPermutation-trans c.args.places.now.items c.sort_by_key.new.self.items c.sort_by_texts.new.places.items c.sort_by_key.ensures.permutation c.sort_by_texts.ensures.each
+
+pub returns-in_ok-sort_by_texts-clause-each : goal.returns-in_ok-sort_by_texts-clause-each
+returns-in_ok-sort_by_texts-clause-each c = IsPermutation-trans c.args.places.now.items c.sort_by_key.new.self.items c.sort_by_texts.new.places.items c.sort_by_key.ensures.permutation c.sort_by_texts.ensures.each

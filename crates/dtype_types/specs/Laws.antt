@@ -27,14 +27,18 @@ SameIgnoring a b = erase a ≡ erase b
 abbrev pub SameIgnoringFeedAlike : Type 0
 SameIgnoringFeedAlike = (a b : Tree) → SameIgnoring a b → hash_writes_ignoring_nullability a ≡ hash_writes_ignoring_nullability b
 
-abbrev pub IsReflexive : (Tree → Tree → Type 0) → Type 0
-IsReflexive R = (a : Tree) → R a a
+-- a relation of types that each has to itself, and that goes both ways and on
+pub record IsEquivalenceRelation (R : Tree → Tree → Type 0) : Type 0 where
+  pub reflexive : (a : Tree) → R a a
+  pub symmetric : (a b : Tree) → R a b → R b a
+  pub transitive : (a b c : Tree) → R a b → R b c → R a c
 
-abbrev pub IsTransitive : (Tree → Tree → Type 0) → Type 0
-IsTransitive R = (a b c : Tree) → R a b → R b c → R a c
-
-abbrev pub IsAntisymmetric : (Tree → Tree → Type 0) → Type 0
-IsAntisymmetric R = (a b : Tree) → R a b → R b a → a ≡ b
+-- an order of types: each is below itself, what is below a type is below all that it is below, and two types
+-- that are below one another are equal
+pub record IsOrder (R : Tree → Tree → Type 0) : Type 0 where
+  pub reflexive : (a : Tree) → R a a
+  pub transitive : (a b c : Tree) → R a b → R b c → R a c
+  pub antisymmetric : (a b : Tree) → R a b → R b a → a ≡ b
 
 -- a type whose nullability was set has that nullability
 abbrev pub SetNullSets : Type 0

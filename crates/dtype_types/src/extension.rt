@@ -293,7 +293,7 @@ impl ExtDTypeRef {
         ensures set { IfOk result (λ e. SetNull (extension_tree self.now) n (extension_tree e)) }
         ensures refused { IsOkUnless result OutOfMemory }
     {
-        let storage = self.parts.storage.set_nullability(alloc, n)?;
+        let storage = self.parts.storage.with_nullability(alloc, n)?;
         let id = self.parts.id.try_clone(alloc)?;
         let metadata = Vec::from_slice(alloc, &self.parts.metadata)?;
         ExtDTypeRef::from_parts(alloc, id, metadata, storage)
@@ -303,17 +303,13 @@ impl ExtDTypeRef {
 /// By id, metadata and storage.
 impl PartialEq for ExtDTypeRef {
     ghost use Rattle.dtype_types.specs.PartsEquality.{same_extension, same_extension_equiv};
-    ghost use Rattle.dtype_types.specs.TreeOf.{extension_tree};
     ghost use Rattle.std.specs.Cmp.{partial_equiv_from_equiv};
 
     ghost eq = { same_extension };
 
     ghost laws = { partial_equiv_from_equiv same_extension_equiv };
 
-    fn eq(&self, other: &ExtDTypeRef) -> bool
-        ensures same { result ≡ same_extension self.now other.now }
-        ensures exact { IsTrue result ↔ (extension_tree self.now ≡ extension_tree other.now) }
-    {
+    fn eq(&self, other: &ExtDTypeRef) -> bool {
         self.agree(other, Nullabilities::Compared)
     }
 }

@@ -85,10 +85,7 @@ impl PartialEq for FieldDType {
 
     ghost laws = { partial_equiv_from_equiv same_field_dtype_equiv };
 
-    fn eq(&self, other: &FieldDType) -> bool
-        ensures same { result ≡ same_field_dtype self.now other.now }
-        ensures exact { IsTrue result ↔ (field_tree self.now ≡ field_tree other.now) }
-    {
+    fn eq(&self, other: &FieldDType) -> bool {
         self.dtype == other.dtype
     }
 }

@@ -9,7 +9,7 @@ ghost use Rattle.std.specs.Prelude.{◌≡◌, ◌↔◌, ℕ, List, None, lengt
 ghost use Rattle.std.specs.Iterator.{UpTo};
 ghost use Rattle.std.specs.Iterator.Runs.{EveryRun, ItemsMapTo};
 ghost use Rattle.dtype_base.specs.declared.nullability.Nullability.TheVariants.{Nullable};
-ghost use Rattle.dtype_types.specs.Laws.{EqualTypesFeedAlike, IsAntisymmetric, IsReflexive, IsTransitive, LastSetNullDecides, SameIgnoring, SameIgnoringFeedAlike, SetNullKeepsErase, SetNullSets, TagsTellPositions};
+ghost use Rattle.dtype_types.specs.Laws.{EqualTypesFeedAlike, IsEquivalenceRelation, IsOrder, LastSetNullDecides, SameIgnoring, SameIgnoringFeedAlike, SetNullKeepsErase, SetNullSets, TagsTellPositions};
 ghost use Rattle.dtype_types.specs.Lists.{lent_pair, lent_triple};
 ghost use Rattle.dtype_types.specs.Nullable.{IsNullable, SetNull};
 ghost use Rattle.dtype_types.specs.Sample.{sample};
@@ -31,9 +31,7 @@ pub fn equality_agrees_with_hash()
 /// Equality ignoring nullability is an equivalence, and types that are so equal feed every hasher
 /// alike through `hash_ignore_nullability`.
 pub fn equality_ignoring_nullability_agrees_with_its_hash()
-    ensures reflexive { (a : Tree) → SameIgnoring a a }
-    ensures symmetric { (a b : Tree) → SameIgnoring a b → SameIgnoring b a }
-    ensures transitive { (a b c : Tree) → SameIgnoring a b → SameIgnoring b c → SameIgnoring a c }
+    ensures equivalence { IsEquivalenceRelation SameIgnoring }
     ensures hash { SameIgnoringFeedAlike }
 {}
 
@@ -70,9 +68,7 @@ pub fn nullable_types_have_null_besides()
 /// type is below itself, what is below a type is below all that it is below, and two types that are
 /// below one another are equal.
 pub fn sub_is_an_order()
-    ensures reflexive { IsReflexive Sub }
-    ensures transitive { IsTransitive Sub }
-    ensures antisymmetric { IsAntisymmetric Sub }
+    ensures { IsOrder Sub }
 {}
 
 /// Each value of a type is a value of every type that it is below.

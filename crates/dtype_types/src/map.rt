@@ -1,7 +1,7 @@
 // SPDX-License-Identifier: Apache-2.0
 // SPDX-FileCopyrightText: Copyright the Vortex contributors
 
-ghost use Rattle.std.specs.Prelude.{◌≡◌, ◌&&◌, fold, IfOk, IsOkUnless, Some, ◌⊎◌, ◌↔◌, IsTrue, IfErr, OnOk, Err};
+ghost use Rattle.std.specs.Prelude.{◌≡◌, ◌&&◌, fold, IfOk, IsOkUnless, Some, ◌⊎◌, IfErr, OnOk};
 ghost use Rattle.dtype_base.specs.declared.vortex_error.VortexError.TheVariants.{OutOfMemory, MapKeyNullable};
 ghost use Rattle.dtype_base.specs.declared.nullability.Nullability.TheVariants.{NonNullable};
 ghost use Rattle.std.proofs.Math.Bool.{beq};
@@ -43,8 +43,9 @@ impl MapDType {
     pub fn try_new(alloc: Global, key: DType, value: DType, keys_sorted: bool) -> VortexResult<Self>
         ensures parts { IfOk result (λ m. map_shown m ≡ (tree key, tree value, keys_sorted)) }
         ensures accepted { OnOk result (nullability (tree key) ≡ NonNullable) }
-        ensures nullable { (result ≡ Err MapKeyNullable) ↔ IsNullable (tree key) }
-        ensures refused { IfErr result (λ e. (e ≡ OutOfMemory) ⊎ (e ≡ MapKeyNullable)) }
+        ensures refused { IfErr result (λ e.
+            ((e ≡ OutOfMemory) × (nullability (tree key) ≡ NonNullable))
+            ⊎ ((e ≡ MapKeyNullable) × IsNullable (tree key))) }
     {
         if key.is_nullable() {
             return Err(VortexError::MapKeyNullable);
@@ -129,17 +130,13 @@ impl MapDType {
 
 impl PartialEq for MapDType {
     ghost use Rattle.dtype_types.specs.PartsEquality.{same_map, same_map_equiv};
-    ghost use Rattle.dtype_types.specs.TreeOf.{map_shown};
     ghost use Rattle.std.specs.Cmp.{partial_equiv_from_equiv};
 
     ghost eq = { same_map };
 
     ghost laws = { partial_equiv_from_equiv same_map_equiv };
 
-    fn eq(&self, other: &MapDType) -> bool
-        ensures same { result ≡ same_map self.now other.now }
-        ensures exact { IsTrue result ↔ (map_shown self.now ≡ map_shown other.now) }
-    {
+    fn eq(&self, other: &MapDType) -> bool {
         self.agree(other, Nullabilities::Compared)
     }
 }

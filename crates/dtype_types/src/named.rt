@@ -66,8 +66,7 @@ impl<T> Named<T> {
 
     // The position of the first of the name, and how many names were compared for it.
     pub(crate) fn find_counted(&self, name: &str) -> (Option<usize>, u64)
-        ensures first { result.0 ≡ first_place (firsts self.now) name.now }
-        ensures count { result.1 ≡ comparisons (length self.now) }
+        ensures { result ≡ (first_place (firsts self.now) name.now, comparisons (length self.now)) }
     {
         self.names.find_counted(name)
     }

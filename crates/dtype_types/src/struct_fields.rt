@@ -152,8 +152,10 @@ impl StructFields {
     /// not, which is one more than the binary digits of the number of fields less one, and 0 where there is
     /// none. Takes no memory.
     pub fn find_counted(&self, name: &str) -> (Option<usize>, u64)
-        ensures first { result.0 ≡ first_place (field_names (children self.now)) name.now }
-        ensures count { result.1 ≡ comparisons (length (children self.now)) }
+        ensures { result ≡ (
+          first_place (field_names (children self.now)) name.now,
+          comparisons (length (children self.now)),
+        ) }
     {
         self.shared.find_counted(name)
     }
@@ -387,17 +389,13 @@ impl StructFields {
 
 impl PartialEq for StructFields {
     ghost use Rattle.dtype_types.specs.PartsEquality.{same_struct, same_struct_equiv};
-    ghost use Rattle.dtype_types.specs.TreeOf.{children};
     ghost use Rattle.std.specs.Cmp.{partial_equiv_from_equiv};
 
     ghost eq = { same_struct };
 
     ghost laws = { partial_equiv_from_equiv same_struct_equiv };
 
-    fn eq(&self, other: &StructFields) -> bool
-        ensures same { result ≡ same_struct self.now other.now }
-        ensures exact { IsTrue result ↔ (children self.now ≡ children other.now) }
-    {
+    fn eq(&self, other: &StructFields) -> bool {
         self.agree(other, Nullabilities::Compared)
     }
 }

@@ -50,9 +50,9 @@ fn validate_shape(
 ) -> VortexResult<()>
     ensures ok { OnOk result (MakesUnion names.now types type_ids.now) }
     ensures bytes { OnOk result (Bytes type_ids.now) }
-    ensures refused { IfErr result (λ e. (e ≡ OutOfMemory)
+    ensures refused { IfErr result (λ e.
+        ((e ≡ OutOfMemory) × HasUnionLengths names.now types type_ids.now)
         ⊎ UnionRefusal names.now types type_ids.now e) }
-    ensures memory { result ≡ Err OutOfMemory → HasUnionLengths names.now types type_ids.now }
 {
     if names.len() != types {
         return Err(VortexError::UnionTypesLength);
@@ -107,10 +107,9 @@ impl UnionVariants {
         ensures valid { All IsValid dtypes.items → IfOk result IsValidUnion }
 
         ensures accepted { OnOk result (MakesUnion names (vec_len dtypes) type_ids.items) }
-        ensures refused { IfErr result (λ e. (e ≡ OutOfMemory)
+        ensures refused { IfErr result (λ e.
+            ((e ≡ OutOfMemory) × HasUnionLengths names (vec_len dtypes) type_ids.items)
             ⊎ UnionRefusal names (vec_len dtypes) type_ids.items e) }
-        ensures memory { result ≡ Err OutOfMemory
-            → HasUnionLengths names (vec_len dtypes) type_ids.items }
     {
         validate_shape(alloc, &names, dtypes.len(), &type_ids)?;
         let shared = Rc::new(alloc, Tagged::new(names, dtypes, type_ids))?;
@@ -303,17 +302,13 @@ impl UnionVariants {
 
 impl PartialEq for UnionVariants {
     ghost use Rattle.dtype_types.specs.PartsEquality.{same_union, same_union_equiv};
-    ghost use Rattle.dtype_types.specs.TreeOf.{union_tree};
     ghost use Rattle.std.specs.Cmp.{partial_equiv_from_equiv};
 
     ghost eq = { same_union };
 
     ghost laws = { partial_equiv_from_equiv same_union_equiv };
 
-    fn eq(&self, other: &UnionVariants) -> bool
-        ensures same { result ≡ same_union self.now other.now }
-        ensures exact { IsTrue result ↔ (union_tree self.now ≡ union_tree other.now) }
-    {
+    fn eq(&self, other: &UnionVariants) -> bool {
         self.agree(other, Nullabilities::Compared)
     }
 }

@@ -12,7 +12,7 @@
 //! row is), `appending` (what may be appended), `binder` (column references, projections, joins), `layout` (which
 //! columns to open), `path_sets` (what is asked for, and what is opened for it), `masks` (what is asked further
 //! down), `rows` (what is found) and `stored` (schemas written and read back). Then by topic: `schemas` finds
-//! columns, `dates` makes an extension, `kinds` opens types, `fields` looks up fields, `lookups` counts what they compare, `iterators` counts, `over_fields` goes over them,
+//! columns, `dates` makes an extension, `equality` compares parts of types, `kinds` opens types, `fields` looks up fields, `lookups` counts what they compare, `iterators` counts, `over_fields` goes over them,
 //! `nullabilities` sets them, `paths` resolves, `path_messages` compares and copies messages, `messages` writes
 //! and reads types, `sessions` makes sessions, `plugins` has one that looks at its storage, `numbers` has names
 //! and bytes, `unions` makes unions, `validity` has what valid types have. `orders` is the code of `docs/TUTORIAL.md`.
@@ -22,6 +22,7 @@ pub mod appending;
 pub mod arrays;
 pub mod binder;
 pub mod dates;
+pub mod equality;
 pub mod fields;
 pub mod iterators;
 pub mod kinds;

@@ -2,8 +2,9 @@
 // SPDX-FileCopyrightText: Copyright the Vortex contributors
 
 // Constructors of types that hold others.
-ghost use Rattle.std.specs.Prelude.{◌≡◌, ◌↔◌, ◌⊎◌, Err, IfOk, IfErr, OnOk, IsOkUnless};
+ghost use Rattle.std.specs.Prelude.{◌≡◌, ◌⊎◌, IfOk, IfErr, OnOk, IsOkUnless};
 ghost use Rattle.std.specs.Iterator.{IsFinite};
+ghost use Rattle.dtype_base.specs.declared.nullability.Nullability.TheVariants.{NonNullable};
 ghost use Rattle.dtype_base.specs.declared.vortex_error.VortexError.TheVariants.{OutOfMemory, MapKeyNullable};
 ghost use Rattle.dtype_types.specs.FieldTypes.{IsStructOf, MadeFrom};
 ghost use Rattle.dtype_types.specs.Nullable.{nullability, IsNullable};
@@ -46,9 +47,10 @@ impl DType {
         n: Nullability,
     ) -> VortexResult<DType>
         ensures made { IfOk result (λ d. tree d ≡ map_of (tree key) (tree value) keys_sorted n) }
-        ensures accepted { OnOk result (nullability (tree key) ≡ Nullability.NonNullable) }
-        ensures nullable { (result ≡ Err MapKeyNullable) ↔ IsNullable (tree key) }
-        ensures refused { IfErr result (λ e. (e ≡ OutOfMemory) ⊎ (e ≡ MapKeyNullable)) }
+        ensures accepted { OnOk result (nullability (tree key) ≡ NonNullable) }
+        ensures refused { IfErr result (λ e.
+            ((e ≡ OutOfMemory) × (nullability (tree key) ≡ NonNullable))
+            ⊎ ((e ≡ MapKeyNullable) × IsNullable (tree key))) }
     {
         let map = MapDType::try_new(alloc, key, value, keys_sorted)?;
         Ok(DType::Map(map, n))

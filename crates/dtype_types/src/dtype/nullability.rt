@@ -87,17 +87,8 @@ impl DType {
 
     /// The type with another outer nullability, for an extension that of its storage; `Null` stays
     /// `Null`. Where non-nullable is asked, the type can be. Refuses 0 (OutOfMemory) alone.
-    pub fn with_nullability(&self, alloc: Global, n: Nullability) -> VortexResult<DType>
-        requires { n ≡ Nullability.NonNullable → CanBeNonNullable (tree self.now) }
-        ensures set { IfOk result (λ d. SetNull (tree self.now) n (tree d)) }
-        ensures refused { IsOkUnless result OutOfMemory }
-    {
-        self.set_nullability(alloc, n)
-    }
-
-    // The same, in a cycle with the extensions.
     #[cycle(with_nullability)]
-    pub(crate) fn set_nullability(&self, alloc: Global, n: Nullability) -> VortexResult<DType>
+    pub fn with_nullability(&self, alloc: Global, n: Nullability) -> VortexResult<DType>
         requires { n ≡ Nullability.NonNullable → CanBeNonNullable (tree self.now) }
         ensures set { IfOk result (λ d. SetNull (tree self.now) n (tree d)) }
         ensures refused { IsOkUnless result OutOfMemory }

@@ -1,0 +1,34 @@
+-- SPDX-License-Identifier: Apache-2.0
+-- SPDX-FileCopyrightText: Copyright the Vortex contributors
+
+-- What `==` says of a struct's fields, a union's variants, a map's and an extension's parts, and a field's type:
+-- `equality` names it in one line,
+--     #![tactic(auto, using(dtype_types::specs::lemmas::Equality::equality))]
+use Rattle.std.specs.Prelude.{◌≡◌}
+use Rattle.std.specs.Bool.{Decides}
+use Rattle.dtype_types.specs.EqualityLaws.{agree-Decides}
+use Rattle.dtype_types.specs.FieldTypes.{field_tree, same_field_dtype}
+use Rattle.dtype_types.specs.PartsEquality.{agree_maps-Decides, agree_variants-Decides, same_extension, same_fields-Decides, same_map, same_struct, same_union}
+use Rattle.dtype_types.specs.TreeOf.{children, extension_tree, map_shown, union_tree}
+use Rattle.dtype_types.specs.declared.extension.ExtDTypeRef.{ExtDTypeRef}
+use Rattle.dtype_types.specs.declared.field_dtype.FieldDType.{FieldDType}
+use Rattle.dtype_types.specs.declared.map.MapDType.{MapDType}
+use Rattle.dtype_types.specs.declared.struct_fields.StructFields.{StructFields}
+use Rattle.dtype_types.specs.declared.union_variants.UnionVariants.{UnionVariants}
+
+pub structs_Decides : (a b : StructFields) → Decides (same_struct a b) (children a ≡ children b)
+structs_Decides a b = same_fields-Decides (children a) (children b)
+
+pub unions_Decides : (a b : UnionVariants) → Decides (same_union a b) (union_tree a ≡ union_tree b)
+unions_Decides a b = agree_variants-Decides (union_tree a) (union_tree b)
+
+pub maps_Decides : (a b : MapDType) → Decides (same_map a b) (map_shown a ≡ map_shown b)
+maps_Decides a b = agree_maps-Decides (map_shown a) (map_shown b)
+
+pub extensions_Decides : (a b : ExtDTypeRef) → Decides (same_extension a b) (extension_tree a ≡ extension_tree b)
+extensions_Decides a b = agree-Decides (extension_tree a) (extension_tree b)
+
+pub field_types_Decides : (a b : FieldDType) → Decides (same_field_dtype a b) (field_tree a ≡ field_tree b)
+field_types_Decides a b = agree-Decides (field_tree a) (field_tree b)
+
+pub ruleset equality = (structs_Decides, unions_Decides, maps_Decides, extensions_Decides, field_types_Decides)

@@ -1,0 +1,63 @@
+// SPDX-License-Identifier: Apache-2.0
+// SPDX-FileCopyrightText: Copyright the Vortex contributors
+
+//! Comparing types, and what structs, unions, maps and extensions hold.
+#![tactic(auto, using(dtype_types::specs::lemmas::Equality::equality))]
+
+ghost use Rattle.std.specs.Prelude.{◌≡◌, ◌↔◌, IfOk, IsTrue};
+ghost use Rattle.dtype_types.specs.FieldTypes.{field_tree};
+ghost use Rattle.dtype_types.specs.TreeOf.{children, extension_tree, map_shown, tree, union_tree};
+
+use std::alloc::Global;
+use vortex_dtype::{
+    DType, ExtDTypeRef, FieldDType, MapDType, StructFields, UnionVariants, VortexResult,
+};
+
+/// Whether a column's type is the one that was planned.
+pub fn is_as_planned(column: &DType, planned: &DType) -> bool
+    ensures { IsTrue result ↔ (tree column.now ≡ tree planned.now) }
+{
+    *column == *planned
+}
+
+/// Whether two tables have the same columns, in order.
+pub fn has_same_columns(table: &StructFields, other: &StructFields) -> bool
+    ensures { IsTrue result ↔ (children table.now ≡ children other.now) }
+{
+    *table == *other
+}
+
+/// Whether a copy of a table's columns equals them: it always does.
+pub fn is_kept_by_copying(alloc: Global, table: &StructFields) -> VortexResult<bool>
+    ensures { IfOk result (λ same. IsTrue same) }
+{
+    Ok(table.try_clone(alloc)? == *table)
+}
+
+/// Whether two unions have the same variants, in order.
+pub fn has_same_variants(union: &UnionVariants, other: &UnionVariants) -> bool
+    ensures { IsTrue result ↔ (union_tree union.now ≡ union_tree other.now) }
+{
+    *union == *other
+}
+
+/// Whether two maps hold the same.
+pub fn holds_same(map: &MapDType, other: &MapDType) -> bool
+    ensures { IsTrue result ↔ (map_shown map.now ≡ map_shown other.now) }
+{
+    *map == *other
+}
+
+/// Whether two extensions are one.
+pub fn is_same_extension(extension: &ExtDTypeRef, other: &ExtDTypeRef) -> bool
+    ensures { IsTrue result ↔ (extension_tree extension.now ≡ extension_tree other.now) }
+{
+    *extension == *other
+}
+
+/// Whether two fields' types are one.
+pub fn is_same_field_type(field: &FieldDType, other: &FieldDType) -> bool
+    ensures { IsTrue result ↔ (field_tree field.now ≡ field_tree other.now) }
+{
+    *field == *other
+}

@@ -210,6 +210,27 @@ pub fn either_asked(asked: &FieldPathSet, more: &FieldPathSet) -> VortexResult<F
     Ok(both)
 }
 
+/// The columns to open for two sets at once, of which the first stays.
+pub fn cover_of_both(
+    asked: &FieldPathSet,
+    more: &FieldPathSet,
+) -> VortexResult<vec::IntoIter<FieldPath>>
+    ensures { IfOk result (λ r. set_of (into_iter_items r) ≡ least (set.union asked.now more.now)) }
+{
+    either_asked(asked, more)?.into_iter()
+}
+
+/// The columns to open for two queries at once: they cover what either covers, and nothing else.
+pub fn cover_of_queries(
+    alloc: Global,
+    columns: Vec<FieldPath>,
+    more: Vec<FieldPath>,
+) -> VortexResult<vec::IntoIter<FieldPath>>
+    ensures { IfOk result (λ r. set_of (into_iter_items r) ≡ least (set.union (set_of columns.items) (set_of more.items))) }
+{
+    union_of_queries(alloc, columns, more)?.into_iter()
+}
+
 /// The columns to open for a set and the columns of a query besides.
 pub fn cover_with_query(
     asked: &FieldPathSet,

@@ -4,6 +4,7 @@
 //! Going over the columns of a table: what holds of all, of any, how many, by chains and by a loop. What an
 //! iterator over types gives is said by their trees.
 ghost use Rattle.std.specs.Prelude.{◌≡◌, ◌↔◌, ◌||◌, All, Any, IfSome, IsSome, IsTrue, count_by, false, fold, length};
+ghost use Rattle.std.specs.List.{AllByRecursion};
 ghost use Rattle.dtype_types.specs.Kinds.{is_nested};
 ghost use Rattle.dtype_types.specs.Lookups.{field_types, variant_types};
 ghost use Rattle.dtype_types.specs.Nullable.{IsNullable};
@@ -66,6 +67,18 @@ pub fn count_of_nested_in_turn(table: &StructFields) -> u64
         }
     }
     count
+}
+
+/// Whether every column may be null, by a loop.
+pub fn all_nullable_in_turn(table: &StructFields) -> bool
+    ensures { IsTrue result ↔ AllByRecursion IsNullable (field_types (children table.now)) }
+{
+    for dtype in table.fields() {
+        if !dtype.is_nullable() {
+            return false;
+        }
+    }
+    true
 }
 
 /// The first column that may be null.

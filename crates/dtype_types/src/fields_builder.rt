@@ -34,7 +34,8 @@ impl FieldsBuilder {
         })
     }
 
-    // One more field, behind the others.
+    // One more field, behind the others. Within its caller's loop, where no builder has to be moved.
+    #[inline(always)]
     pub(crate) fn push(self, name: FieldName, dtype: DType) -> VortexResult<Self>
         ensures ok { IfOk result
             (λ b. fields_so_far b ≡ fields_so_far self ++ (name, tree dtype) ∷ []) }

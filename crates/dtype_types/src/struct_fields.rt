@@ -322,6 +322,7 @@ impl StructFields {
     }
 
     // Puts a copy of the field at this position behind those that are there.
+    #[inline(always)]
     fn push_copy(
         &self,
         alloc: Global,

@@ -2,7 +2,9 @@
 -- SPDX-FileCopyrightText: Copyright the Vortex contributors
 
 -- Laws of the definitions, as the functions of `laws.rt` promise them.
-use Rattle.std.specs.Prelude.{◌≡◌, ◌↔◌, ◌==◌, ℕ, slice_get, Some, IsTrue}
+use Rattle.std.specs.Prelude.{◌≡◌, ◌↔◌, ◌==◌, ℕ, List, Option, length, slice_get, Some, IsTrue}
+use Rattle.std.specs.Iterator.{Count, UpTo}
+use Rattle.std.specs.Iterator.Runs.{EveryRun, ItemsMapTo}
 use Rattle.std.specs.List.{position}
 use Rattle.dtype_base.specs.declared.nullability.Nullability.{Nullability}
 use Rattle.dtype_types.specs.Tree.{Tree}
@@ -55,3 +57,8 @@ LastSetNullDecides = (t u v : Tree) (m n : Nullability) → SetNull t m u → (S
 -- in a valid union the first position of the tag that stands at i is i
 abbrev pub TagsTellPositions : Type 0
 TagsTellPositions = (u : UnionVariants) → IsValidUnion u → (i tag : ℕ) → slice_get (union_tags u) i ≡ Some tag → position (λ g. g == tag) (union_tags u) ≡ Some i
+
+-- an iterator gives those that are left, in order, seen so, and as many before its end
+pub record GivesInOrder {S A B : Type 0} (next : S → Option A → S → Type 0) (remaining : S → Count) (seen : A → B) (left : S → List B) : Type 0 where
+  pub in_order : EveryRun next (λ run. ItemsMapTo run seen (left run.from))
+  pub ends : (s : S) → UpTo (remaining s) (length (left s))

@@ -5,11 +5,9 @@
 // every body is empty. What callers use besides is in the rulesets of `specs/lemmas`.
 #![tactic(auto, using(crate::specs::HashLaws::dtype_fed, crate::specs::HashLaws::erased_fed, crate::specs::SampleLaws::sample_of, crate::specs::lemmas::NullValues::null_is_of_nullable, crate::specs::lemmas::SubValues::sub_values))]
 
-ghost use Rattle.std.specs.Prelude.{◌≡◌, ◌↔◌, ℕ, List, None, length};
-ghost use Rattle.std.specs.Iterator.{UpTo};
-ghost use Rattle.std.specs.Iterator.Runs.{EveryRun, ItemsMapTo};
+ghost use Rattle.std.specs.Prelude.{◌≡◌, ◌↔◌, None};
 ghost use Rattle.dtype_base.specs.declared.nullability.Nullability.TheVariants.{Nullable};
-ghost use Rattle.dtype_types.specs.Laws.{EqualTypesFeedAlike, IsEquivalenceRelation, IsOrder, LastSetNullDecides, SameIgnoring, SameIgnoringFeedAlike, SetNullKeepsErase, SetNullSets, TagsTellPositions};
+ghost use Rattle.dtype_types.specs.Laws.{EqualTypesFeedAlike, GivesInOrder, IsEquivalenceRelation, IsOrder, LastSetNullDecides, SameIgnoring, SameIgnoringFeedAlike, SetNullKeepsErase, SetNullSets, TagsTellPositions};
 ghost use Rattle.dtype_types.specs.Lists.{lent_pair, lent_triple};
 ghost use Rattle.dtype_types.specs.Nullable.{IsNullable, SetNull};
 ghost use Rattle.dtype_types.specs.Sample.{sample};
@@ -18,7 +16,6 @@ ghost use Rattle.dtype_types.specs.Tell.{HasNoSizeZero, TellsApart, tell};
 ghost use Rattle.dtype_types.specs.Valid.{Valid};
 ghost use Rattle.dtype_types.specs.Value.{AddsNull, IncludedIn, Of, null_value};
 ghost use Rattle.dtype_types.specs.Tree.{Tree};
-ghost use Rattle.dtype_types.specs.declared.dtype.DType.{DType};
 ghost use Rattle.dtype_types.specs.TreeOf.{lent_tree, trees};
 
 use crate::{DType, DTypeIter, FieldIter, VariantIter};
@@ -99,16 +96,10 @@ pub fn tell_gives_exactly_where_not_below()
 /// Lent types, fields and variants come in order: calls of `next` give the first of those that are left,
 /// and all of them before `None`, which comes after so many items as `len` announces.
 pub fn parts_are_given_in_order()
-    ensures types { EveryRun ⟦<DTypeIter<'static> as Iterator>⟧.next_gives
-        (λ run. ItemsMapTo run lent_tree (trees run.from)) }
-    ensures types_end { (left : List DType)
-        → UpTo (⟦<DTypeIter<'static> as Iterator>⟧.remaining left) (length (trees left)) }
-    ensures fields { EveryRun ⟦<FieldIter<'static> as Iterator>⟧.next_gives
-        (λ run. ItemsMapTo run lent_pair run.from) }
-    ensures fields_end { (left : List (List ℕ × DType))
-        → UpTo (⟦<FieldIter<'static> as Iterator>⟧.remaining left) (length left) }
-    ensures variants { EveryRun ⟦<VariantIter<'static> as Iterator>⟧.next_gives
-        (λ run. ItemsMapTo run lent_triple run.from) }
-    ensures variants_end { (left : List (List ℕ × (DType × ℕ)))
-        → UpTo (⟦<VariantIter<'static> as Iterator>⟧.remaining left) (length left) }
+    ensures types { GivesInOrder ⟦<DTypeIter<'static> as Iterator>⟧.next_gives
+        ⟦<DTypeIter<'static> as Iterator>⟧.remaining lent_tree trees }
+    ensures fields { GivesInOrder ⟦<FieldIter<'static> as Iterator>⟧.next_gives
+        ⟦<FieldIter<'static> as Iterator>⟧.remaining lent_pair (λ left. left) }
+    ensures variants { GivesInOrder ⟦<VariantIter<'static> as Iterator>⟧.next_gives
+        ⟦<VariantIter<'static> as Iterator>⟧.remaining lent_triple (λ left. left) }
 {}

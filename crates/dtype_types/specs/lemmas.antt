@@ -7,6 +7,7 @@ pub mod ValidParts
 pub mod Validity
 pub mod Nullabilities
 pub mod Lookups
+pub mod Presence
 pub mod Equality
 pub mod JoinedFields
 pub mod Tags

@@ -12,10 +12,12 @@
 //! row is), `appending` (what may be appended), `binder` (column references, projections, joins), `layout` (which
 //! columns to open), `path_sets` (what is asked for, and what is opened for it), `masks` (what is asked further
 //! down), `rows` (what is found) and `stored` (schemas written and read back). Then by topic: `schemas` finds
-//! columns, `dates` makes an extension, `equality` compares parts of types, `kinds` opens types, `fields` looks up fields, `lookups` counts what they compare, `iterators` counts, `over_fields` goes over them,
-//! `nullabilities` sets them, `paths` resolves, `path_messages` compares and copies messages, `messages` writes
-//! and reads types, `sessions` makes sessions, `plugins` has one that looks at its storage, `numbers` has names
-//! and bytes, `unions` makes unions, `validity` has what valid types have. `orders` is the code of `docs/TUTORIAL.md`.
+//! columns, `dates` makes an extension, `equality` compares parts of types, `kinds` opens types, `fields` looks up
+//! fields, `lookups` counts what they compare, `presence` asks whether they are there, `iterators` counts,
+//! `over_fields` goes over them, `nullabilities` sets them, `paths` resolves, `path_messages` compares and copies
+//! messages, `messages` writes and reads types, `sessions` makes sessions, `plugins` has one that looks at its
+//! storage, `numbers` has names and bytes, `unions` makes unions, `validity` has what valid types have. `orders` is
+//! the code of `docs/TUTORIAL.md`.
 #![tactic(auto)]
 
 pub mod appending;
@@ -38,6 +40,7 @@ pub mod path_messages;
 pub mod path_sets;
 pub mod paths;
 pub mod plugins;
+pub mod presence;
 pub mod rows;
 pub mod scalars;
 pub mod schemas;

@@ -4,6 +4,7 @@
 -- Laws of sessions: what is registered after a list of calls, what is kept, and what is admitted.
 use Rattle.std.specs.Prelude.{◌≡◌, ◌≢◌, ◌↔◌, ℕ, List, [], ◌∷◌, ◌++◌, Option, Some, None, Bool, true, false, if◌then◌else◌, bytes_eq, option_and_then, refl}
 use Rattle.std.specs.List.{list_any}
+use Rattle.std.specs.Option.{is_some}
 use Rattle.std.proofs.Common.{sym, ap, ◌∙◌, subst}
 use Rattle.std.proofs.lemmas.Bool.{false_from_ne_true}
 use Rattle.std.proofs.lemmas.Option.{same_Some}
@@ -33,6 +34,15 @@ put-other i id r m other =
 pub put-same : (id : List ℕ) (r : Rewrites) (m : Meaning) → (put id r m).registered id ≡ Some r
 unfolding put
 put-same id r m = ap (λ (b : Bool). if b then Some r else m.registered id) ((bytes_eq-Decides id id).1 refl)
+
+-- what is known stays known, whatever is put
+pub known_put : (i id : List ℕ) (r : Rewrites) (m : Meaning) → is_some (m.registered id) ≡ true → is_some ((put i r m).registered id) ≡ true
+unfolding put
+known_put i id r m known = go (bytes_eq i id)
+  where
+    go : (b : Bool) → is_some (if b then Some r else m.registered id) ≡ true
+    go true = refl
+    go false = known
 
 -- calls that leave an id alone leave what is registered under it
 pub after-left_alone : (calls : List Call) (m : Meaning) (id : List ℕ) → LeavesAlone id calls → (after calls m).registered id ≡ m.registered id

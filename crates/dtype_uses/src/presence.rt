@@ -1,0 +1,26 @@
+// SPDX-License-Identifier: Apache-2.0
+// SPDX-FileCopyrightText: Copyright the Vortex contributors
+
+//! Whether a table has a column, asked in one way and said in another.
+#![tactic(auto, using(dtype_types::specs::lemmas::Presence::presence))]
+
+ghost use Rattle.std.specs.Prelude.{◌↔◌, Contains, IfOk, IsSome, IsTrue};
+ghost use Rattle.dtype_types.specs.Lookups.{field_names, first_named};
+ghost use Rattle.dtype_types.specs.TreeOf.{children};
+
+use std::alloc::Global;
+use vortex_dtype::{StructFields, VortexResult};
+
+/// Whether a name is among those of the columns.
+pub fn is_among(table: &StructFields, name: &str) -> bool
+    ensures { IsTrue result ↔ Contains (field_names (children table.now)) name.now }
+{
+    table.find(name).is_some()
+}
+
+/// Whether a copy of a table has a column of the name: where the table has one.
+pub fn is_in_copy(alloc: Global, table: &StructFields, name: &str) -> VortexResult<bool>
+    ensures { IfOk result (λ b. IsTrue b ↔ IsSome (first_named (children table.now) name.now)) }
+{
+    Ok(table.try_clone(alloc)?.find(name).is_some())
+}

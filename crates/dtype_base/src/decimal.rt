@@ -1,7 +1,7 @@
 // SPDX-License-Identifier: Apache-2.0
 // SPDX-FileCopyrightText: Copyright the Vortex contributors
 
-ghost use Rattle.std.specs.Prelude.{◌≡◌, ◌↔◌, ◌<◌, ◌≤◌, IfOk, IfErr, IsOk, IsTrue, Some};
+ghost use Rattle.std.specs.Prelude.{◌≡◌, ◌↔◌, ◌<◌, ◌≤◌, IfErr, IsOk, IsTrue, Some, MatchResult};
 ghost use Rattle.std.specs.Option.{ok_or};
 ghost use Rattle.dtype_base.specs.declared.vortex_error.VortexError.TheVariants.{NotDecimalPType};
 ghost use Rattle.dtype_base.specs.Decimals.{greatest_precision, IsValidDecimal, IsDecimalWithin, IsDecimalRefusal, IsBitWidth, storage, smallest_storage, storage_of};
@@ -43,9 +43,10 @@ impl DecimalDType {
     /// precision of 0, 2 (PrecisionTooLarge) one above 76, 3 (ScaleTooLarge) a scale above 76, and 4
     /// (ScaleAbovePrecision) one above the precision. Every negative scale is taken.
     pub fn try_new(precision: u8, scale: i8) -> VortexResult<Self>
-        ensures ok { IfOk result (λ d. (d.precision ≡ precision) × (d.scale ≡ scale)) }
+        ensures ok { MatchResult result
+            (λ d. (d.precision ≡ precision) × (d.scale ≡ scale))
+            (IsDecimalRefusal greatest_precision precision scale) }
         ensures valid { IsOk result ↔ IsDecimalWithin greatest_precision precision scale }
-        ensures refused { IfErr result (IsDecimalRefusal greatest_precision precision scale) }
     {
         check_precision_and_scale(precision, scale, MAX_PRECISION)?;
         Ok(DecimalDType { precision, scale })

@@ -1,7 +1,7 @@
 // SPDX-License-Identifier: Apache-2.0
 // SPDX-FileCopyrightText: Copyright the Vortex contributors
 
-ghost use Rattle.std.specs.Prelude.{◌≡◌, ◌↔◌, ℕ, ◌<◌, IsTrue, IfOk, IsOkUnless, List, [], ◌∷◌, Some, nat_eq, string_bytes};
+ghost use Rattle.std.specs.Prelude.{◌≡◌, ◌↔◌, ℕ, ◌<◌, IsTrue, List, [], ◌∷◌, Some, nat_eq, string_bytes, MatchResult};
 ghost use Rattle.std.specs.Bool.{OnFalse};
 ghost use Rattle.std.specs.Rc.{rc_str_bytes};
 ghost use Rattle.dtype_base.specs.Escapes.{escaped, escaped_byte};
@@ -30,8 +30,7 @@ impl Model for FieldName {
 impl FieldName {
     /// The name with this text. Refuses 0 (OutOfMemory) alone.
     pub fn new(alloc: Global, text: &str) -> VortexResult<Self>
-        ensures ok { IfOk result (λ n. n ≡ text.now) }
-        ensures refused { IsOkUnless result OutOfMemory }
+        ensures { MatchResult result (λ n. n ≡ text.now) (λ e. e ≡ OutOfMemory) }
     {
         Ok(FieldName {
             inner: RcStr::from_str(alloc, text)?,
@@ -68,8 +67,7 @@ impl FieldName {
 
     /// A copy of the text, not escaped. Refuses 0 (OutOfMemory) alone.
     pub fn to_text(&self, alloc: Global) -> VortexResult<String>
-        ensures ok { IfOk result (λ s. string_bytes s ≡ self.now) }
-        ensures refused { IsOkUnless result OutOfMemory }
+        ensures { MatchResult result (λ s. string_bytes s ≡ self.now) (λ e. e ≡ OutOfMemory) }
     {
         Ok(String::from_str(alloc, self.as_str())?)
     }
@@ -83,8 +81,7 @@ impl FieldName {
 
     /// A name with the same text, which the two share. Refuses 0 (OutOfMemory) alone.
     pub fn try_clone(&self, _alloc: Global) -> VortexResult<Self>
-        ensures ok { IfOk result (λ n. n ≡ self.now) }
-        ensures refused { IsOkUnless result OutOfMemory }
+        ensures { MatchResult result (λ n. n ≡ self.now) (λ e. e ≡ OutOfMemory) }
     {
         Ok(FieldName {
             inner: self.inner.clone()?,

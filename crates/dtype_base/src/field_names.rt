@@ -1,7 +1,7 @@
 // SPDX-License-Identifier: Apache-2.0
 // SPDX-FileCopyrightText: Copyright the Vortex contributors
 
-ghost use Rattle.std.specs.Prelude.{◌≡◌, ◌↔◌, ℕ, IsTrue, IfOk, IsOkUnless, List, [], ◌<◌, length, slice_get, map, Some, nat_eq};
+ghost use Rattle.std.specs.Prelude.{◌≡◌, ◌↔◌, ℕ, IsTrue, List, [], ◌<◌, length, slice_get, map, Some, nat_eq, MatchResult};
 ghost use Rattle.std.specs.Option.{option_copied};
 ghost use Rattle.std.specs.Iterator.{IsFinite};
 ghost use Rattle.std.specs.Iterator.Runs.{WholeRun};
@@ -46,8 +46,7 @@ impl FieldNames {
 
     /// The names with these texts, in order. Refuses 0 (OutOfMemory) alone.
     pub fn from_texts(alloc: Global, texts: &[&str]) -> VortexResult<Self>
-        ensures ok { IfOk result (λ n. n ≡ map (λ t. t.now) texts.now) }
-        ensures refused { IsOkUnless result OutOfMemory }
+        ensures { MatchResult result (λ n. n ≡ map (λ t. t.now) texts.now) (λ e. e ≡ OutOfMemory) }
     {
         let mut items = Vec::with_capacity(alloc, texts.len())?;
         for text in texts {
@@ -63,9 +62,10 @@ impl FieldNames {
     ) -> VortexResult<Self>
         requires { (it : I.IntoIter) → I.into_iter_gives names it
             → I.IntoIter.can_next it × IsFinite (I.IntoIter.remaining it) }
-        ensures ok { IfOk result (λ n. (it : I.IntoIter) × I.into_iter_gives names it
-            × WholeRun I.IntoIter.next_gives it (λ run. n ≡ run.items)) }
-        ensures refused { IsOkUnless result OutOfMemory }
+        ensures { MatchResult result
+            (λ n. (it : I.IntoIter) × I.into_iter_gives names it
+            × WholeRun I.IntoIter.next_gives it (λ run. n ≡ run.items))
+            (λ e. e ≡ OutOfMemory) }
     {
         Ok(FieldNames {
             items: names.into_iter().collect(alloc)?,
@@ -145,8 +145,7 @@ impl FieldNames {
 
     /// A list of the same names, which share their texts. Refuses 0 (OutOfMemory) alone.
     pub fn try_clone(&self, alloc: Global) -> VortexResult<Self>
-        ensures ok { IfOk result (λ n. n ≡ self.now) }
-        ensures refused { IsOkUnless result OutOfMemory }
+        ensures { MatchResult result (λ n. n ≡ self.now) (λ e. e ≡ OutOfMemory) }
     {
         let mut items = Vec::with_capacity(alloc, self.items.len())?;
         for name in self.items.as_slice() {

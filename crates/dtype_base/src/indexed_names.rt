@@ -1,7 +1,7 @@
 // SPDX-License-Identifier: Apache-2.0
 // SPDX-FileCopyrightText: Copyright the Vortex contributors
 
-ghost use Rattle.std.specs.Prelude.{◌≡◌, ◌≢◌, ◌↔◌, ◌+◌, ◌<◌, ◌^◌, AllPairs, IsTrue, IfOk, IfSome, IfNone, IsOkUnless, length, nat_lt};
+ghost use Rattle.std.specs.Prelude.{◌≡◌, ◌≢◌, ◌↔◌, ◌+◌, ◌<◌, ◌^◌, AllPairs, IsTrue, IfSome, IfNone, length, nat_lt, MatchResult};
 ghost use Rattle.std.specs.Ordering.{is_lt, is_eq};
 ghost use Rattle.dtype_base.specs.FieldNames.{FirstAt, IsAbsent, first_place};
 ghost use Rattle.dtype_base.specs.NameOrder.{IsIndexOf, comparisons, mask, place_side};
@@ -44,8 +44,7 @@ impl Model for IndexedNames {
 impl IndexedNames {
     /// These names, with their index. Refuses 0 (OutOfMemory) alone.
     pub fn new(alloc: Global, names: FieldNames) -> VortexResult<Self>
-        ensures ok { IfOk result (λ n. n ≡ names) }
-        ensures refused { IsOkUnless result OutOfMemory }
+        ensures { MatchResult result (λ n. n ≡ names) (λ e. e ≡ OutOfMemory) }
     {
         let shared = shared_beginning(names.as_slice());
         let (places, keys_tell) = places_of(alloc, names.as_slice(), shared)?;
@@ -94,8 +93,7 @@ impl IndexedNames {
 
     /// The same names with their index; the names share their texts. Refuses 0 (OutOfMemory) alone.
     pub fn try_clone(&self, alloc: Global) -> VortexResult<Self>
-        ensures ok { IfOk result (λ n. n ≡ self.now) }
-        ensures refused { IsOkUnless result OutOfMemory }
+        ensures { MatchResult result (λ n. n ≡ self.now) (λ e. e ≡ OutOfMemory) }
     {
         let names = self.names.try_clone(alloc)?;
         let mut places = Vec::with_capacity(alloc, self.places.len())?;

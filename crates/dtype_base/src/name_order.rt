@@ -2,7 +2,7 @@
 // SPDX-FileCopyrightText: Copyright the Vortex contributors
 
 // The positions of names in the order of their bytes, with the keys of the names.
-ghost use Rattle.std.specs.Prelude.{◌≡◌, ◌≢◌, ◌↔◌, All, AllPairs, IsTrue, IfOk, IsOkUnless, OnOk};
+ghost use Rattle.std.specs.Prelude.{◌≡◌, ◌≢◌, ◌↔◌, All, AllPairs, IsTrue, IfOk, IsOkUnless, OnOk, MatchResult};
 ghost use Rattle.std.specs.List.Sorted.{IsPermutation, IsSorted};
 ghost use Rattle.dtype_base.specs.NameKeys.{BeginAlike};
 ghost use Rattle.dtype_base.specs.NameOrder.{IsKeyed, IsOrderOf, KeysRise, place_cmp, position_cmp, positions};
@@ -28,10 +28,10 @@ pub(crate) fn places_of(
     shared: usize,
 ) -> VortexResult<(Vec<Place>, bool)>
     requires { BeginAlike names.now shared }
-    ensures keyed { IfOk result (λ made. All (IsKeyed names.now shared) made.0.items) }
+    ensures keyed { MatchResult result
+        (λ made. All (IsKeyed names.now shared) made.0.items) (λ e. e ≡ OutOfMemory) }
     ensures order { IfOk result (λ made. IsOrderOf names.now (positions made.0.items)) }
     ensures rise { IfOk result (λ made. IsTrue made.1 → KeysRise made.0.items) }
-    ensures refused { IsOkUnless result OutOfMemory }
 {
     let mut places = Vec::with_capacity(alloc, names.len())?;
     for position in 0..names.len() {
@@ -48,8 +48,8 @@ pub(crate) fn places_of(
 fn sort_places(names: &[FieldName], places: &mut Vec<Place>) -> VortexResult<bool>
     ensures each { IsPermutation places.old.items places.new.items }
     ensures rising { OnOk result (IsSorted (place_cmp names.now) places.new.items) }
-    ensures rise { IfOk result (λ keys_tell. IsTrue keys_tell → KeysRise places.new.items) }
-    ensures refused { IsOkUnless result OutOfMemory }
+    ensures rise { MatchResult result
+        (λ keys_tell. IsTrue keys_tell → KeysRise places.new.items) (λ e. e ≡ OutOfMemory) }
 {
     places.sort_by_key(|place| place.key)?;
     let keys_tell = have_own_keys(places);

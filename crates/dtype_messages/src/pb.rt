@@ -3,7 +3,7 @@
 
 // The messages themselves. A contract sees a type's message as its tree (`message` of `specs/MessageOf`), the other
 // structs as their fields by those trees, and a path as the names that its parts hold.
-ghost use Rattle.std.specs.Prelude.{◌≡◌, pos, Ok, IfOk, IsOkUnless, map, option_map, string_bytes};
+ghost use Rattle.std.specs.Prelude.{◌≡◌, pos, Ok, map, option_map, string_bytes, MatchResult};
 ghost use Rattle.dtype_base.specs.declared.vortex_error.VortexError.TheVariants.{OutOfMemory};
 ghost use Rattle.dtype_base.specs.Primitives.{primitive};
 ghost use Rattle.dtype_messages.specs.MessageOf.{message, kind_message, child, list_parts, fixed_parts, map_parts, struct_parts, union_parts, extension_parts, bytes_of};
@@ -390,8 +390,8 @@ impl Variant {
 impl FieldPath {
     /// An equal message. Refuses 0 (OutOfMemory) alone.
     pub fn try_clone(&self, alloc: Global) -> VortexResult<FieldPath>
-        ensures same { IfOk result (λ p. part_names p ≡ part_names self.now) }
-        ensures refused { IsOkUnless result OutOfMemory }
+        ensures { MatchResult result
+            (λ p. part_names p ≡ part_names self.now) (λ e. e ≡ OutOfMemory) }
     {
         let mut path = Vec::with_capacity(alloc, self.path.len())?;
         for part in &self.path {
@@ -404,8 +404,8 @@ impl FieldPath {
 impl Field {
     /// An equal message. Refuses 0 (OutOfMemory) alone.
     pub fn try_clone(&self, alloc: Global) -> VortexResult<Field>
-        ensures same { IfOk result (λ p. part_name p ≡ part_name self.now) }
-        ensures refused { IsOkUnless result OutOfMemory }
+        ensures { MatchResult result
+            (λ p. part_name p ≡ part_name self.now) (λ e. e ≡ OutOfMemory) }
     {
         match &self.field_type {
             Some(kind) => Ok(Field {
@@ -419,8 +419,7 @@ impl Field {
 impl FieldType {
     /// An equal message. Refuses 0 (OutOfMemory) alone.
     pub fn try_clone(&self, alloc: Global) -> VortexResult<FieldType>
-        ensures same { IfOk result (λ k. name_of k ≡ name_of self.now) }
-        ensures refused { IsOkUnless result OutOfMemory }
+        ensures { MatchResult result (λ k. name_of k ≡ name_of self.now) (λ e. e ≡ OutOfMemory) }
     {
         match self {
             FieldType::Name(name) => Ok(FieldType::Name(String::from_str(alloc, name.as_str())?)),
@@ -432,8 +431,7 @@ impl DType {
     /// An equal message. Refuses 0 (OutOfMemory) alone.
     #[cycle(copy)]
     pub fn try_clone(&self, alloc: Global) -> VortexResult<DType>
-        ensures same { IfOk result (λ d. message d ≡ message self.now) }
-        ensures refused { IsOkUnless result OutOfMemory }
+        ensures { MatchResult result (λ d. message d ≡ message self.now) (λ e. e ≡ OutOfMemory) }
     {
         match &self.dtype_type {
             Some(kind) => Ok(DType {
@@ -448,8 +446,8 @@ impl DtypeType {
     /// An equal message. Refuses 0 (OutOfMemory) alone.
     #[cycle(copy)]
     pub fn try_clone(&self, alloc: Global) -> VortexResult<DtypeType>
-        ensures same { IfOk result (λ k. kind_message k ≡ kind_message self.now) }
-        ensures refused { IsOkUnless result OutOfMemory }
+        ensures { MatchResult result
+            (λ k. kind_message k ≡ kind_message self.now) (λ e. e ≡ OutOfMemory) }
     {
         match self {
             DtypeType::Null(p) => Ok(DtypeType::Null(p.try_clone(alloc)?)),
@@ -484,8 +482,7 @@ impl DtypeType {
 // A child, if it is there.
 #[cycle(copy)]
 fn child_copied(alloc: Global, proto: &Option<Box<DType>>) -> VortexResult<Option<Box<DType>>>
-    ensures same { IfOk result (λ c. child c ≡ child proto.now) }
-    ensures refused { IsOkUnless result OutOfMemory }
+    ensures { MatchResult result (λ c. child c ≡ child proto.now) (λ e. e ≡ OutOfMemory) }
 {
     match proto {
         Some(proto) => {
@@ -499,8 +496,8 @@ fn child_copied(alloc: Global, proto: &Option<Box<DType>>) -> VortexResult<Optio
 // Messages, in order.
 #[cycle(copy)]
 fn all_copied(alloc: Global, protos: &[DType]) -> VortexResult<Vec<DType>>
-    ensures same { IfOk result (λ v. map message v.items ≡ map message protos.now) }
-    ensures refused { IsOkUnless result OutOfMemory }
+    ensures { MatchResult result
+        (λ v. map message v.items ≡ map message protos.now) (λ e. e ≡ OutOfMemory) }
 {
     let mut copies = Vec::new(alloc);
     for proto in protos {
@@ -511,8 +508,8 @@ fn all_copied(alloc: Global, protos: &[DType]) -> VortexResult<Vec<DType>>
 
 // Texts, in order.
 fn texts_copied(alloc: Global, texts: &[String]) -> VortexResult<Vec<String>>
-    ensures same { IfOk result (λ v. map string_bytes v.items ≡ map string_bytes texts.now) }
-    ensures refused { IsOkUnless result OutOfMemory }
+    ensures { MatchResult result
+        (λ v. map string_bytes v.items ≡ map string_bytes texts.now) (λ e. e ≡ OutOfMemory) }
 {
     let mut copies = Vec::new(alloc);
     for text in texts {
@@ -523,8 +520,7 @@ fn texts_copied(alloc: Global, texts: &[String]) -> VortexResult<Vec<String>>
 
 // Bytes, if they are there.
 fn bytes_copied(alloc: Global, bytes: &Option<Vec<u8>>) -> VortexResult<Option<Vec<u8>>>
-    ensures same { IfOk result (λ b. bytes_of b ≡ bytes_of bytes.now) }
-    ensures refused { IsOkUnless result OutOfMemory }
+    ensures { MatchResult result (λ b. bytes_of b ≡ bytes_of bytes.now) (λ e. e ≡ OutOfMemory) }
 {
     match bytes {
         Some(bytes) => Ok(Some(Vec::from_slice(alloc, bytes.as_slice())?)),
@@ -536,8 +532,8 @@ impl List {
     /// An equal message. Refuses 0 (OutOfMemory) alone.
     #[cycle(copy)]
     pub fn try_clone(&self, alloc: Global) -> VortexResult<List>
-        ensures same { IfOk result (λ p. list_parts p ≡ list_parts self.now) }
-        ensures refused { IsOkUnless result OutOfMemory }
+        ensures { MatchResult result
+            (λ p. list_parts p ≡ list_parts self.now) (λ e. e ≡ OutOfMemory) }
     {
         Ok(List {
             element_type: child_copied(alloc, &self.element_type)?,
@@ -550,8 +546,8 @@ impl FixedSizeList {
     /// An equal message. Refuses 0 (OutOfMemory) alone.
     #[cycle(copy)]
     pub fn try_clone(&self, alloc: Global) -> VortexResult<FixedSizeList>
-        ensures same { IfOk result (λ p. fixed_parts p ≡ fixed_parts self.now) }
-        ensures refused { IsOkUnless result OutOfMemory }
+        ensures { MatchResult result
+            (λ p. fixed_parts p ≡ fixed_parts self.now) (λ e. e ≡ OutOfMemory) }
     {
         Ok(FixedSizeList {
             element_type: child_copied(alloc, &self.element_type)?,
@@ -565,8 +561,8 @@ impl Map {
     /// An equal message. Refuses 0 (OutOfMemory) alone.
     #[cycle(copy)]
     pub fn try_clone(&self, alloc: Global) -> VortexResult<Map>
-        ensures same { IfOk result (λ p. map_parts p ≡ map_parts self.now) }
-        ensures refused { IsOkUnless result OutOfMemory }
+        ensures { MatchResult result
+            (λ p. map_parts p ≡ map_parts self.now) (λ e. e ≡ OutOfMemory) }
     {
         Ok(Map {
             key_type: child_copied(alloc, &self.key_type)?,
@@ -581,8 +577,8 @@ impl Struct {
     /// An equal message. Refuses 0 (OutOfMemory) alone.
     #[cycle(copy)]
     pub fn try_clone(&self, alloc: Global) -> VortexResult<Struct>
-        ensures same { IfOk result (λ p. struct_parts p ≡ struct_parts self.now) }
-        ensures refused { IsOkUnless result OutOfMemory }
+        ensures { MatchResult result
+            (λ p. struct_parts p ≡ struct_parts self.now) (λ e. e ≡ OutOfMemory) }
     {
         Ok(Struct {
             names: texts_copied(alloc, &self.names)?,
@@ -596,8 +592,8 @@ impl Union {
     /// An equal message. Refuses 0 (OutOfMemory) alone.
     #[cycle(copy)]
     pub fn try_clone(&self, alloc: Global) -> VortexResult<Union>
-        ensures same { IfOk result (λ p. union_parts p ≡ union_parts self.now) }
-        ensures refused { IsOkUnless result OutOfMemory }
+        ensures { MatchResult result
+            (λ p. union_parts p ≡ union_parts self.now) (λ e. e ≡ OutOfMemory) }
     {
         Ok(Union {
             names: texts_copied(alloc, &self.names)?,
@@ -612,8 +608,8 @@ impl Extension {
     /// An equal message. Refuses 0 (OutOfMemory) alone.
     #[cycle(copy)]
     pub fn try_clone(&self, alloc: Global) -> VortexResult<Extension>
-        ensures same { IfOk result (λ p. extension_parts p ≡ extension_parts self.now) }
-        ensures refused { IsOkUnless result OutOfMemory }
+        ensures { MatchResult result
+            (λ p. extension_parts p ≡ extension_parts self.now) (λ e. e ≡ OutOfMemory) }
     {
         Ok(Extension {
             id: String::from_str(alloc, self.id.as_str())?,

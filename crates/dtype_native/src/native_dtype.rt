@@ -1,7 +1,7 @@
 // SPDX-License-Identifier: Apache-2.0
 // SPDX-FileCopyrightText: Copyright the Vortex contributors
 
-ghost use Rattle.std.specs.Prelude.{◌≡◌, IfOk, IsOkUnless};
+ghost use Rattle.std.specs.Prelude.{◌≡◌, IfOk, MatchResult};
 ghost use Rattle.dtype_base.specs.declared.nullability.Nullability.TheVariants.{NonNullable};
 ghost use Rattle.dtype_base.specs.declared.ptype.PType.TheVariants.{U8, U16, U32, U64, I8, I16, I32, I64};
 ghost use Rattle.dtype_base.specs.declared.vortex_error.VortexError.TheVariants.{OutOfMemory};
@@ -22,9 +22,8 @@ pub trait NativeDType {
 
     /// The logical type: non-nullable, but for an `Option`. Refuses 0 (OutOfMemory) alone.
     fn dtype(alloc: Global) -> VortexResult<DType>
-        ensures meaning { IfOk result (λ d. tree d ≡ native_tree) }
-        ensures valid { IfOk result IsValid }
-        ensures refused { IsOkUnless result OutOfMemory };
+        ensures meaning { MatchResult result (λ d. tree d ≡ native_tree) (λ e. e ≡ OutOfMemory) }
+        ensures valid { IfOk result IsValid };
 }
 
 impl NativeDType for u8 {
@@ -111,9 +110,9 @@ impl NativeDType for &str {
     ghost native_tree = { utf8 NonNullable };
 
     fn dtype(_alloc: Global) -> VortexResult<DType>
-        ensures meaning { IfOk result (λ d. tree d ≡ utf8 NonNullable) }
+        ensures meaning { MatchResult result
+            (λ d. tree d ≡ utf8 NonNullable) (λ e. e ≡ OutOfMemory) }
         ensures valid { IfOk result IsValid }
-        ensures refused { IsOkUnless result OutOfMemory }
     {
         Ok(DType::Utf8(Nullability::NonNullable))
     }
@@ -123,9 +122,9 @@ impl NativeDType for &[u8] {
     ghost native_tree = { binary NonNullable };
 
     fn dtype(_alloc: Global) -> VortexResult<DType>
-        ensures meaning { IfOk result (λ d. tree d ≡ binary NonNullable) }
+        ensures meaning { MatchResult result
+            (λ d. tree d ≡ binary NonNullable) (λ e. e ≡ OutOfMemory) }
         ensures valid { IfOk result IsValid }
-        ensures refused { IsOkUnless result OutOfMemory }
     {
         Ok(DType::Binary(Nullability::NonNullable))
     }

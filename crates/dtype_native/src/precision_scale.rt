@@ -1,7 +1,7 @@
 // SPDX-License-Identifier: Apache-2.0
 // SPDX-FileCopyrightText: Copyright the Vortex contributors
 
-ghost use Rattle.std.specs.Prelude.{◌≡◌, ◌↔◌, IsOk, IfOk, IfErr, IsTrue, Some};
+ghost use Rattle.std.specs.Prelude.{◌≡◌, ◌↔◌, IsOk, IsTrue, Some, MatchResult};
 ghost use Rattle.dtype_base.specs.Decimals.{Decimal, IsDecimalWithin, IsDecimalRefusal, storage};
 ghost use Rattle.dtype_native.specs.Digits.{HasDigits, KeepsDecimal, precision_scale_text};
 
@@ -34,9 +34,10 @@ impl<D: NativeDecimalType> PrecisionScale<D> {
     /// (PrecisionZero), 2 (PrecisionTooLarge, above `D::MAX_PRECISION`), 3 (ScaleTooLarge, above
     /// that number) and 4 (ScaleAbovePrecision). Every negative scale is taken.
     pub fn try_new(precision: u8, scale: i8) -> VortexResult<Self>
-        ensures ok { IfOk result (λ d. (d.precision ≡ precision) × (d.scale ≡ scale)) }
+        ensures ok { MatchResult result
+            (λ d. (d.precision ≡ precision) × (d.scale ≡ scale))
+            (IsDecimalRefusal D.MAX_PRECISION precision scale) }
         ensures valid { IsOk result ↔ IsDecimalWithin D.MAX_PRECISION precision scale }
-        ensures refused { IfErr result (IsDecimalRefusal D.MAX_PRECISION precision scale) }
     {
         check_precision_and_scale(precision, scale, D::MAX_PRECISION)?;
         Ok(Self::new_unchecked(precision, scale))

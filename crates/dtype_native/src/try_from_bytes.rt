@@ -3,7 +3,7 @@
 
 #![tactic(auto, using(crate::proofs::Bytes::read))]
 
-ghost use Rattle.std.specs.Prelude.{◌≡◌, ◌↔◌, length, Ok, IsOk, IfOk, IsOkUnless};
+ghost use Rattle.std.specs.Prelude.{◌≡◌, ◌↔◌, length, Ok, IsOk, MatchResult};
 ghost use Rattle.dtype_base.specs.declared.vortex_error.VortexError.TheVariants.{BytesLength};
 ghost use Rattle.dtype_native.specs.LittleEndian.{ReadsBytes};
 
@@ -22,8 +22,7 @@ pub trait TryFromBytes: ToBytes {
 // The bytes as an array.
 fn array_of<const N: usize>(bytes: &[u8]) -> VortexResult<[u8; N]>
     ensures accepted { IsOk result ↔ (length bytes.now ≡ N) }
-    ensures refused { IsOkUnless result BytesLength }
-    ensures same { IfOk result (λ array. array ≡ bytes.now) }
+    ensures same { MatchResult result (λ array. array ≡ bytes.now) (λ e. e ≡ BytesLength) }
 {
     <[u8; N]>::try_from(bytes).map_err(|_| VortexError::BytesLength)
 }

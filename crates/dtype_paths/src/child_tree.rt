@@ -1,7 +1,7 @@
 // SPDX-License-Identifier: Apache-2.0
 // SPDX-FileCopyrightText: Copyright the Vortex contributors
 
-ghost use Rattle.std.specs.Prelude.{◌≡◌, ◌++◌, ℕ, [], Some, IfOk, IsOkUnless, OnErr, OnOk, IsTrue, false, if◌then◌else◌};
+ghost use Rattle.std.specs.Prelude.{◌≡◌, ◌++◌, ℕ, [], Some, IsOkUnless, OnErr, OnOk, IsTrue, false, if◌then◌else◌, MatchResult};
 ghost use Rattle.std.specs.BTreeMap.{is_at, values, IsOrdered};
 ghost use Rattle.std.specs.List.{IsDistinct};
 ghost use Rattle.std.specs.Map.{keys_of, lookup, values_of};
@@ -89,8 +89,7 @@ impl ChildTree {
 
     // The same steps, which lead to the same places. Refuses 0 (OutOfMemory) alone.
     pub(crate) fn try_clone(&self, alloc: Global) -> VortexResult<Self>
-        ensures ok { IfOk result (λ t. t ≡ self.now) }
-        ensures refused { IsOkUnless result OutOfMemory }
+        ensures { MatchResult result (λ t. t ≡ self.now) (λ e. e ≡ OutOfMemory) }
     {
         Ok(ChildTree {
             by_key: copied_by_key(alloc, &self.by_key)?,
@@ -163,9 +162,8 @@ fn copied_by_key(
     alloc: Global,
     by_key: &BTreeMap<u64, (Field, usize)>,
 ) -> VortexResult<BTreeMap<u64, (Field, usize)>>
-    ensures ok { IfOk result (λ m. m.entries ≡ by_key.now.entries) }
+    ensures ok { MatchResult result (λ m. m.entries ≡ by_key.now.entries) (λ e. e ≡ OutOfMemory) }
     ensures ordered { IsOrdered nat_cmp by_key.now }
-    ensures refused { IsOkUnless result OutOfMemory }
 {
     let mut copy = BTreeMap::new(alloc);
     for (key, first) in by_key.iter() {
@@ -179,9 +177,8 @@ fn copied_by_step(
     alloc: Global,
     by_step: &BTreeMap<Field, usize>,
 ) -> VortexResult<BTreeMap<Field, usize>>
-    ensures ok { IfOk result (λ m. m.entries ≡ by_step.now.entries) }
+    ensures ok { MatchResult result (λ m. m.entries ≡ by_step.now.entries) (λ e. e ≡ OutOfMemory) }
     ensures ordered { IsOrdered field_cmp by_step.now }
-    ensures refused { IsOkUnless result OutOfMemory }
 {
     let mut copy = BTreeMap::new(alloc);
     for (step, place) in by_step.iter() {

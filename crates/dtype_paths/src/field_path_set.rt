@@ -1,7 +1,7 @@
 // SPDX-License-Identifier: Apache-2.0
 // SPDX-FileCopyrightText: Copyright the Vortex contributors
 
-ghost use Rattle.std.specs.Prelude.{◌≡◌, ◌+◌, ◌<◌, ◌≤◌, List, length, map, IfOk, IsOkUnless, OnErr, OnOk};
+ghost use Rattle.std.specs.Prelude.{◌≡◌, ◌+◌, ◌<◌, ◌≤◌, List, length, map, IfOk, IsOkUnless, OnErr, OnOk, MatchResult};
 ghost use Rattle.std.specs.Borrow.{Bor};
 ghost use Rattle.std.specs.FinSet as set;
 ghost use Rattle.std.specs.Iterator.{ExtendsWithItems, IsFinite};
@@ -62,9 +62,10 @@ impl FieldPathSet {
     ) -> VortexResult<Self>
         requires { (it : I.IntoIter) → I.into_iter_gives paths it
             → I.IntoIter.can_next it × IsFinite (I.IntoIter.remaining it) }
-        ensures ok { IfOk result (λ s. (it : I.IntoIter) × I.into_iter_gives paths it
-            × WholeRun I.IntoIter.next_gives it (λ run. s ≡ set_of run.items)) }
-        ensures refused { IsOkUnless result OutOfMemory }
+        ensures { MatchResult result
+            (λ s. (it : I.IntoIter) × I.into_iter_gives paths it
+            × WholeRun I.IntoIter.next_gives it (λ run. s ≡ set_of run.items))
+            (λ e. e ≡ OutOfMemory) }
     {
         let paths = paths.into_iter();
         let (least, _) = paths.size_hint();
@@ -111,10 +112,10 @@ impl FieldPathSet {
 
     /// Lends each path of the set, once. Refuses 0 (OutOfMemory) alone.
     pub fn iter(&self) -> VortexResult<vec::IntoIter<&FieldPath>>
-        ensures ok { IfOk result (λ r. set_of (map (λ x. x.now) (into_iter_items r)) ≡ self.now) }
+        ensures ok { MatchResult result
+            (λ r. set_of (map (λ x. x.now) (into_iter_items r)) ≡ self.now) (λ e. e ≡ OutOfMemory) }
         ensures once { IfOk result (λ r. Distinct (map (λ x. x.now) (into_iter_items r))) }
         ensures runs { OnOk result (YieldsInOrder (into_iter_steps {X = Bor (List Field)} {Z = Global}) into_iter_items) }
-        ensures refused { IsOkUnless result OutOfMemory }
     {
         let found = self.trie.gather(self.alloc)?;
         Ok(found.into_iter())
@@ -123,13 +124,13 @@ impl FieldPathSet {
     /// Gives the paths of the set that no other of its paths begins, each once: the fewest that cover what
     /// the set covers. Refuses 0 (OutOfMemory) alone: the set is gone then.
     pub fn into_iter(self) -> VortexResult<vec::IntoIter<FieldPath>>
-        ensures ok { IfOk result (λ r. set_of (into_iter_items r) ≡ least self) }
+        ensures ok { MatchResult result
+            (λ r. set_of (into_iter_items r) ≡ least self) (λ e. e ≡ OutOfMemory) }
         ensures once { IfOk result (λ r. Distinct (into_iter_items r)) }
         ensures covers { IfOk result (λ r. CoverAlike (set_of (into_iter_items r)) self) }
         ensures within { IfOk result (λ r. (ps : List (List Field)) → CoverAlike (set_of ps) self
             → (p : List Field) → Contains (into_iter_items r) p → Contains ps p) }
         ensures runs { OnOk result (YieldsInOrder (into_iter_steps {X = List Field} {Z = Global}) into_iter_items) }
-        ensures refused { IsOkUnless result OutOfMemory }
     {
         let (paths, _visits) = self.into_iter_counted()?;
         Ok(paths)
@@ -139,14 +140,14 @@ impl FieldPathSet {
     /// path besides that begins one of the paths given, however many others they cover. The number stays at
     /// the greatest u64. Refuses 0 (OutOfMemory) alone: the set is gone then.
     pub fn into_iter_counted(self) -> VortexResult<(vec::IntoIter<FieldPath>, u64)>
-        ensures ok { IfOk result (λ r. set_of (into_iter_items r.0) ≡ least self) }
+        ensures ok { MatchResult result
+            (λ r. set_of (into_iter_items r.0) ≡ least self) (λ e. e ≡ OutOfMemory) }
         ensures once { IfOk result (λ r. Distinct (into_iter_items r.0)) }
         ensures runs { OnOk result (YieldsInOrder (into_iter_steps {X = List Field} {Z = Global}) into_iter_items) }
         ensures visits { IfOk result (λ r. IsCountOf (IsBegun self) r.1) }
         ensures some { IfOk result (λ r. 0 < r.1) }
         ensures root_alone { self ≡ set.empty → IfOk result (λ r. r.1 ≡ 1) }
         ensures at_most { IfOk result (λ r. r.1 ≤ 1 + sum_by length (into_iter_items r.0)) }
-        ensures refused { IsOkUnless result OutOfMemory }
     {
         let (found, visits) = self.trie.cover(self.alloc)?;
         Ok((found.into_iter(), visits))
@@ -154,8 +155,7 @@ impl FieldPathSet {
 
     /// A set of the same paths. Refuses 0 (OutOfMemory) alone.
     pub fn try_clone(&self) -> VortexResult<Self>
-        ensures ok { IfOk result (λ s. s ≡ self.now) }
-        ensures refused { IsOkUnless result OutOfMemory }
+        ensures { MatchResult result (λ s. s ≡ self.now) (λ e. e ≡ OutOfMemory) }
     {
         Ok(FieldPathSet {
             alloc: self.alloc,

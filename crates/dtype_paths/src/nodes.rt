@@ -1,7 +1,7 @@
 // SPDX-License-Identifier: Apache-2.0
 // SPDX-FileCopyrightText: Copyright the Vortex contributors
 
-ghost use Rattle.std.specs.Prelude.{◌≡◌, ◌≢◌, ◌≤◌, ◌<◌, ◌+◌, ◌==◌, ◌&&◌, ◌^◌, ◌++◌, [], ◌∷◌, List, ℕ, None, Some, length, drop, take, slice_get, map, min, is_some, if◌then◌else◌, IfOk, IsOkUnless, OnErr, OnOk};
+ghost use Rattle.std.specs.Prelude.{◌≡◌, ◌≢◌, ◌≤◌, ◌<◌, ◌+◌, ◌==◌, ◌&&◌, ◌^◌, ◌++◌, [], ◌∷◌, List, ℕ, None, Some, length, drop, take, slice_get, map, min, is_some, if◌then◌else◌, IfOk, IsOkUnless, OnErr, OnOk, MatchResult};
 ghost use Rattle.dtype_base.specs.declared.vortex_error.VortexError.TheVariants.{OutOfMemory};
 ghost use Rattle.dtype_paths.specs.Children.{child, steps_of};
 ghost use Rattle.dtype_paths.specs.Equality.{same_field};
@@ -49,10 +49,9 @@ impl Nodes {
 
     // The root alone, with room for so many nodes behind it. Refuses 0 (OutOfMemory) alone.
     pub(crate) fn with_capacity(alloc: Global, nodes: usize) -> VortexResult<Self>
-        ensures one { IfOk result (λ n. length n ≡ 1) }
+        ensures one { MatchResult result (λ n. length n ≡ 1) (λ e. e ≡ OutOfMemory) }
         ensures end { IfOk result (λ n. end_at n 0 ≡ None) }
         ensures steps { IfOk result (λ n. (f : Field) → child_at n 0 f ≡ None) }
-        ensures refused { IsOkUnless result OutOfMemory }
     {
         Ok(Nodes {
             root: Node::empty(),
@@ -196,8 +195,8 @@ impl Nodes {
 
     // Lends each path that ends in a node. Refuses 0 (OutOfMemory) alone.
     pub(crate) fn gather<'a>(&'a self, alloc: Global) -> VortexResult<Vec<&'a FieldPath>>
-        ensures ok { IfOk result (λ v. map (λ x. x.now) v.items ≡ ends self.now) }
-        ensures refused { IsOkUnless result OutOfMemory }
+        ensures { MatchResult result
+            (λ v. map (λ x. x.now) v.items ≡ ends self.now) (λ e. e ≡ OutOfMemory) }
     {
         let ends = self.rest.iter().filter(|node| node.end().is_some()).count();
         let mut found = Vec::with_capacity(alloc, ends.saturating_add(1))?;
@@ -214,8 +213,7 @@ impl Nodes {
 
     // The nodes, copied as they stand. Refuses 0 (OutOfMemory) alone.
     pub(crate) fn try_clone(&self, alloc: Global) -> VortexResult<Self>
-        ensures ok { IfOk result (λ n. IsAlike self.now n) }
-        ensures refused { IsOkUnless result OutOfMemory }
+        ensures { MatchResult result (λ n. IsAlike self.now n) (λ e. e ≡ OutOfMemory) }
     {
         let root = self.root.try_clone(alloc)?;
         let mut rest = Vec::with_capacity(alloc, self.rest.len())?;

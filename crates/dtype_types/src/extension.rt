@@ -1,7 +1,7 @@
 // SPDX-License-Identifier: Apache-2.0
 // SPDX-FileCopyrightText: Copyright the Vortex contributors
 
-ghost use Rattle.std.specs.Prelude.{◌≡◌, ◌↔◌, ℕ, IsTrue, IfOk, IsOkUnless, ◌<◌, List, Some, nat_eq, fold};
+ghost use Rattle.std.specs.Prelude.{◌≡◌, ◌↔◌, ℕ, IsTrue, IfOk, ◌<◌, List, Some, nat_eq, fold, MatchResult};
 ghost use Rattle.std.specs.Prelude.{◌&&◌};
 ghost use Rattle.std.specs.Str.{bytes_eq};
 ghost use Rattle.std.specs.Rc.{rc_str_bytes};
@@ -34,8 +34,7 @@ impl Model for ExtId {
 impl ExtId {
     /// The id with this text. Refuses 0 (OutOfMemory) alone.
     pub fn new(alloc: Global, text: &str) -> VortexResult<Self>
-        ensures ok { IfOk result (λ id. id ≡ text.now) }
-        ensures refused { IsOkUnless result OutOfMemory }
+        ensures { MatchResult result (λ id. id ≡ text.now) (λ e. e ≡ OutOfMemory) }
     {
         Ok(ExtId {
             text: RcStr::from_str(alloc, text)?,
@@ -51,8 +50,7 @@ impl ExtId {
 
     /// An id with the same text, which the two share. Refuses 0 (OutOfMemory) alone.
     pub fn try_clone(&self, _alloc: Global) -> VortexResult<Self>
-        ensures ok { IfOk result (λ id. id ≡ self.now) }
-        ensures refused { IsOkUnless result OutOfMemory }
+        ensures { MatchResult result (λ id. id ≡ self.now) (λ e. e ≡ OutOfMemory) }
     {
         Ok(ExtId {
             text: self.text.clone()?,
@@ -144,10 +142,10 @@ impl ExtDTypeRef {
         metadata: Vec<u8>,
         storage: DType,
     ) -> VortexResult<Self>
-        ensures parts { IfOk result
-            (λ e. extension_tree e ≡ extension id metadata.items (tree storage)) }
+        ensures parts { MatchResult result
+            (λ e. extension_tree e ≡ extension id metadata.items (tree storage))
+            (λ e. e ≡ OutOfMemory) }
         ensures valid { IsValid storage → IfOk result IsValidExtension }
-        ensures refused { IsOkUnless result OutOfMemory }
     {
         slices_hold_bytes(&metadata);
         let parts = Parts {
@@ -181,8 +179,8 @@ impl ExtDTypeRef {
 
     /// A copy of the metadata. Refuses 0 (OutOfMemory) alone.
     pub fn serialize_metadata(&self, alloc: Global) -> VortexResult<Vec<u8>>
-        ensures ok { IfOk result (λ v. v.items ≡ extension_metadata self.now) }
-        ensures refused { IsOkUnless result OutOfMemory }
+        ensures { MatchResult result
+            (λ v. v.items ≡ extension_metadata self.now) (λ e. e ≡ OutOfMemory) }
     {
         Ok(Vec::from_slice(alloc, &self.parts.metadata)?)
     }
@@ -252,8 +250,8 @@ impl ExtDTypeRef {
     /// An extension type equal to this one. Refuses 0 (OutOfMemory) alone.
     #[cycle(copy)]
     pub fn try_clone(&self, alloc: Global) -> VortexResult<Self>
-        ensures same { IfOk result (λ e. extension_tree e ≡ extension_tree self.now) }
-        ensures refused { IsOkUnless result OutOfMemory }
+        ensures { MatchResult result
+            (λ e. extension_tree e ≡ extension_tree self.now) (λ e. e ≡ OutOfMemory) }
     {
         let id = self.parts.id.try_clone(alloc)?;
         let metadata = Vec::from_slice(alloc, &self.parts.metadata)?;
@@ -290,8 +288,8 @@ impl ExtDTypeRef {
     #[cycle(with_nullability)]
     pub fn with_nullability(&self, alloc: Global, n: Nullability) -> VortexResult<Self>
         requires { n ≡ Nullability.NonNullable → CanBeNonNullable (extension_tree self.now) }
-        ensures set { IfOk result (λ e. SetNull (extension_tree self.now) n (extension_tree e)) }
-        ensures refused { IsOkUnless result OutOfMemory }
+        ensures { MatchResult result
+            (λ e. SetNull (extension_tree self.now) n (extension_tree e)) (λ e. e ≡ OutOfMemory) }
     {
         let storage = self.parts.storage.with_nullability(alloc, n)?;
         let id = self.parts.id.try_clone(alloc)?;

@@ -1,7 +1,7 @@
 // SPDX-License-Identifier: Apache-2.0
 // SPDX-FileCopyrightText: Copyright the Vortex contributors
 
-ghost use Rattle.std.specs.Prelude.{◌≡◌, IfOk, IsOkUnless, map};
+ghost use Rattle.std.specs.Prelude.{◌≡◌, map, MatchResult};
 ghost use Rattle.dtype_base.specs.declared.nullability.Nullability.TheVariants.{NonNullable};
 ghost use Rattle.dtype_base.specs.declared.vortex_error.VortexError.TheVariants.{OutOfMemory};
 ghost use Rattle.dtype_types.specs.FieldTypes.{field_tree};
@@ -37,8 +37,8 @@ impl FieldDType {
 
     /// A field's type equal to this one. Refuses 0 (OutOfMemory) alone.
     pub fn try_clone(&self, alloc: Global) -> VortexResult<Self>
-        ensures same { IfOk result (λ f. field_tree f ≡ field_tree self.now) }
-        ensures refused { IsOkUnless result OutOfMemory }
+        ensures { MatchResult result
+            (λ f. field_tree f ≡ field_tree self.now) (λ e. e ≡ OutOfMemory) }
     {
         Ok(FieldDType {
             dtype: self.dtype.try_clone(alloc)?,
@@ -48,8 +48,8 @@ impl FieldDType {
 
 // The types of these fields, in order.
 pub(crate) fn into_dtypes(alloc: Global, fields: Vec<FieldDType>) -> VortexResult<Vec<DType>>
-    ensures same { IfOk result (λ v. v.items ≡ map (λ f. f.dtype) fields.items) }
-    ensures refused { IsOkUnless result OutOfMemory }
+    ensures { MatchResult result
+        (λ v. v.items ≡ map (λ f. f.dtype) fields.items) (λ e. e ≡ OutOfMemory) }
 {
     let mut dtypes = Vec::with_capacity(alloc, fields.len())?;
     for field in fields {

@@ -2,7 +2,7 @@
 // SPDX-FileCopyrightText: Copyright the Vortex contributors
 
 // A struct's fields while they are put together.
-ghost use Rattle.std.specs.Prelude.{◌≡◌, vec_len};
+ghost use Rattle.std.specs.Prelude.{◌≡◌, vec_len, MatchResult};
 
 use crate::{DType, StructFields};
 use dtype_base::{FieldName, FieldNames, VortexResult};
@@ -25,8 +25,7 @@ impl FieldsBuilder {
 
     // No fields yet, and room for some.
     pub(crate) fn with_capacity(alloc: Global, capacity: usize) -> VortexResult<Self>
-        ensures ok { IfOk result (λ b. fields_so_far b ≡ []) }
-        ensures refused { IsOkUnless result OutOfMemory }
+        ensures { MatchResult result (λ b. fields_so_far b ≡ []) (λ e. e ≡ OutOfMemory) }
     {
         Ok(FieldsBuilder {
             names: Vec::with_capacity(alloc, capacity)?,
@@ -37,9 +36,9 @@ impl FieldsBuilder {
     // One more field, behind the others. Within its caller's loop, where no builder has to be moved.
     #[inline(always)]
     pub(crate) fn push(self, name: FieldName, dtype: DType) -> VortexResult<Self>
-        ensures ok { IfOk result
-            (λ b. fields_so_far b ≡ fields_so_far self ++ (name, tree dtype) ∷ []) }
-        ensures refused { IsOkUnless result OutOfMemory }
+        ensures { MatchResult result
+            (λ b. fields_so_far b ≡ fields_so_far self ++ (name, tree dtype) ∷ [])
+            (λ e. e ≡ OutOfMemory) }
     {
         let FieldsBuilder {
             mut names,
@@ -52,8 +51,7 @@ impl FieldsBuilder {
 
     // The struct of these fields.
     pub(crate) fn finish(self, alloc: Global) -> VortexResult<StructFields>
-        ensures fields { IfOk result (λ s. children s ≡ fields_so_far self) }
-        ensures refused { IsOkUnless result OutOfMemory }
+        ensures { MatchResult result (λ s. children s ≡ fields_so_far self) (λ e. e ≡ OutOfMemory) }
     {
         StructFields::new(alloc, FieldNames::from_vec(self.names), self.dtypes)
     }

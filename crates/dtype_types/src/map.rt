@@ -1,7 +1,7 @@
 // SPDX-License-Identifier: Apache-2.0
 // SPDX-FileCopyrightText: Copyright the Vortex contributors
 
-ghost use Rattle.std.specs.Prelude.{◌≡◌, ◌&&◌, fold, IfOk, IsOkUnless, Some, ◌⊎◌, IfErr, OnOk};
+ghost use Rattle.std.specs.Prelude.{◌≡◌, ◌&&◌, fold, Some, ◌⊎◌, OnOk, MatchResult};
 ghost use Rattle.dtype_base.specs.declared.vortex_error.VortexError.TheVariants.{OutOfMemory, MapKeyNullable};
 ghost use Rattle.dtype_base.specs.declared.nullability.Nullability.TheVariants.{NonNullable};
 ghost use Rattle.std.proofs.Math.Bool.{beq};
@@ -41,11 +41,12 @@ impl MapDType {
     /// The type of a map with this key and value; whether its keys are sorted is kept and not checked.
     /// Refuses 9 (MapKeyNullable) where the key's type is nullable, else 0 (OutOfMemory) alone.
     pub fn try_new(alloc: Global, key: DType, value: DType, keys_sorted: bool) -> VortexResult<Self>
-        ensures parts { IfOk result (λ m. map_shown m ≡ (tree key, tree value, keys_sorted)) }
-        ensures accepted { OnOk result (nullability (tree key) ≡ NonNullable) }
-        ensures refused { IfErr result (λ e.
+        ensures parts { MatchResult result
+            (λ m. map_shown m ≡ (tree key, tree value, keys_sorted))
+            (λ e.
             ((e ≡ OutOfMemory) × (nullability (tree key) ≡ NonNullable))
             ⊎ ((e ≡ MapKeyNullable) × IsNullable (tree key))) }
+        ensures accepted { OnOk result (nullability (tree key) ≡ NonNullable) }
     {
         if key.is_nullable() {
             return Err(VortexError::MapKeyNullable);
@@ -84,9 +85,9 @@ impl MapDType {
     /// The type of the entries: the non-nullable struct of `key` and `value`. Refuses 0 (OutOfMemory)
     /// alone.
     pub fn entries_dtype(&self, alloc: Global) -> VortexResult<DType>
-        ensures entries { IfOk result
-            (λ d. tree d ≡ entries_of (key_tree self.now) (value_tree self.now)) }
-        ensures refused { IsOkUnless result OutOfMemory }
+        ensures { MatchResult result
+            (λ d. tree d ≡ entries_of (key_tree self.now) (value_tree self.now))
+            (λ e. e ≡ OutOfMemory) }
     {
         let names = FieldNames::from_texts(alloc, &["key", "value"])?;
         let key = self.key_dtype().try_clone(alloc)?;
@@ -119,8 +120,8 @@ impl MapDType {
 
     /// A map type equal to this one, which shares its key and value. Refuses 0 (OutOfMemory) alone.
     pub fn try_clone(&self, _alloc: Global) -> VortexResult<Self>
-        ensures same { IfOk result (λ m. map_entries m ≡ map_entries self.now) }
-        ensures refused { IsOkUnless result OutOfMemory }
+        ensures { MatchResult result
+            (λ m. map_entries m ≡ map_entries self.now) (λ e. e ≡ OutOfMemory) }
     {
         Ok(MapDType {
             shared: self.shared.clone()?,

@@ -1,7 +1,7 @@
 // SPDX-License-Identifier: Apache-2.0
 // SPDX-FileCopyrightText: Copyright the Vortex contributors
 
-ghost use Rattle.std.specs.Prelude.{◌≡◌, ◌↔◌, IsTrue, ◌<◌, ◌^◌, ◌++◌, ◌∷◌, ℕ, List, [], slice_index_or, length, map, remove, vec_len, IfOk, IfErr, IsOk, IsOkUnless, slice_get, Some, fold, OnOk, string_bytes, All, IsSome};
+ghost use Rattle.std.specs.Prelude.{◌≡◌, ◌↔◌, IsTrue, ◌<◌, ◌^◌, ◌++◌, ◌∷◌, ℕ, List, [], slice_index_or, length, map, remove, vec_len, IfOk, IsOk, IsOkUnless, slice_get, Some, fold, OnOk, string_bytes, All, IsSome, MatchResult};
 ghost use Rattle.std.specs.Iterator.{IsFinite};
 ghost use Rattle.std.specs.List.{AllByRecursion, zip};
 ghost use Rattle.std.specs.Option.{option_copied};
@@ -52,8 +52,7 @@ impl StructFields {
 
     /// No fields. Refuses 0 (OutOfMemory) alone.
     pub fn empty(alloc: Global) -> VortexResult<Self>
-        ensures none { IfOk result (λ s. children s ≡ []) }
-        ensures refused { IsOkUnless result OutOfMemory }
+        ensures { MatchResult result (λ s. children s ≡ []) (λ e. e ≡ OutOfMemory) }
     {
         StructFields::new(alloc, FieldNames::empty(alloc), Vec::new(alloc))
     }
@@ -61,9 +60,9 @@ impl StructFields {
     /// The fields of these names and types, as many names as types. Refuses 0 (OutOfMemory) alone.
     pub fn new(alloc: Global, names: FieldNames, dtypes: Vec<DType>) -> VortexResult<Self>
         requires { length names ≡ vec_len dtypes }
-        ensures fields { IfOk result (λ s. children s ≡ zip names (map tree dtypes.items)) }
+        ensures fields { MatchResult result
+            (λ s. children s ≡ zip names (map tree dtypes.items)) (λ e. e ≡ OutOfMemory) }
         ensures valid { All IsValid dtypes.items → IfOk result IsValidStruct }
-        ensures refused { IsOkUnless result OutOfMemory }
     {
         let names = IndexedNames::new(alloc, names)?;
         let shared = Rc::new(alloc, Named::new(names, dtypes))?;
@@ -77,9 +76,9 @@ impl StructFields {
         dtypes: Vec<FieldDType>,
     ) -> VortexResult<Self>
         requires { length names ≡ vec_len dtypes }
-        ensures fields { IfOk result (λ s. children s ≡ zip names (map field_tree dtypes.items)) }
+        ensures fields { MatchResult result
+            (λ s. children s ≡ zip names (map field_tree dtypes.items)) (λ e. e ≡ OutOfMemory) }
         ensures valid { All IsValidField dtypes.items → IfOk result IsValidStruct }
-        ensures refused { IsOkUnless result OutOfMemory }
     {
         let dtypes = into_dtypes(alloc, dtypes)?;
         StructFields::new(alloc, names, dtypes)
@@ -92,9 +91,9 @@ impl StructFields {
     ) -> VortexResult<Self>
         requires { (it : I.IntoIter) → I.into_iter_gives fields it
             → I.IntoIter.can_next it × IsFinite (I.IntoIter.remaining it) }
-        ensures fields { IfOk result (λ s.
-            MadeFrom (I.into_iter_gives fields) I.IntoIter.next_gives (IsMadeOf s)) }
-        ensures refused { IsOkUnless result OutOfMemory }
+        ensures { MatchResult result
+            (λ s. MadeFrom (I.into_iter_gives fields) I.IntoIter.next_gives (IsMadeOf s))
+            (λ e. e ≡ OutOfMemory) }
     {
         let fields = fields.into_iter();
         let (room, _) = fields.size_hint();
@@ -249,14 +248,14 @@ impl StructFields {
     /// at the first name that no field has, with its position in the projection, else 0 (OutOfMemory)
     /// alone.
     pub fn project(&self, alloc: Global, projection: &[FieldName]) -> VortexResult<Self>
-        ensures fields { IfOk result
-            (λ s. Projects (children self.now) projection.now (children s)) }
+        ensures fields { MatchResult result
+            (λ s. Projects (children self.now) projection.now (children s))
+            (ProjectionRefusal (children self.now) projection.now) }
         ensures each { IfOk result (λ s. AllByRecursion
             (λ n. first_named (children s) n ≡ first_named (children self.now) n) projection.now) }
         ensures there { IsOk result → AllByRecursion
             (λ n. IsSome (first_named (children self.now) n)) projection.now }
         ensures valid { IsValidStruct self.now → IfOk result IsValidStruct }
-        ensures refused { IfErr result (ProjectionRefusal (children self.now) projection.now) }
     {
         let mut fields = FieldsBuilder::with_capacity(alloc, projection.len())?;
         for (position, name) in projection.iter().enumerate() {
@@ -271,13 +270,13 @@ impl StructFields {
     /// The fields of the one followed by those of the other. Refuses 18 (DuplicateNames) where a name
     /// stands twice among them, on one side alone too, else 0 (OutOfMemory) alone.
     pub fn disjoint_merge(&self, alloc: Global, other: &Self) -> VortexResult<Self>
-        ensures fields { IfOk result (λ s. children s ≡ children self.now ++ children other.now) }
+        ensures fields { MatchResult result
+            (λ s. children s ≡ children self.now ++ children other.now)
+            (MergeRefusal (field_names (children self.now ++ children other.now))) }
         ensures distinct { IsOk result
             → Distinct (field_names (children self.now ++ children other.now)) }
         ensures valid { IsValidStruct self.now → IsValidStruct other.now
             → IfOk result IsValidStruct }
-        ensures refused { IfErr result
-            (MergeRefusal (field_names (children self.now ++ children other.now))) }
     {
         let count = self.nfields().saturating_add(other.nfields());
         let fields = FieldsBuilder::with_capacity(alloc, count)?;
@@ -291,9 +290,9 @@ impl StructFields {
 
     // Puts copies of all fields behind those that are there.
     fn push_copies(&self, alloc: Global, mut fields: FieldsBuilder) -> VortexResult<FieldsBuilder>
-        ensures ok { IfOk result
-            (λ b. fields_so_far b ≡ fields_so_far fields ++ children self.now) }
-        ensures refused { IsOkUnless result OutOfMemory }
+        ensures { MatchResult result
+            (λ b. fields_so_far b ≡ fields_so_far fields ++ children self.now)
+            (λ e. e ≡ OutOfMemory) }
     {
         for (name, dtype) in self.pairs() {
             fields = fields.push(name.try_clone(alloc)?, dtype.try_clone(alloc)?)?;
@@ -304,9 +303,10 @@ impl StructFields {
     /// The fields but for that at this position. Refuses 17 (IndexOutOfBounds) at or past the end, with
     /// the position and how many fields there are, else 0 (OutOfMemory) alone.
     pub fn without_field(&self, alloc: Global, index: usize) -> VortexResult<Self>
-        ensures fields { IfOk result (λ s. children s ≡ remove (children self.now) index) }
+        ensures fields { MatchResult result
+            (λ s. children s ≡ remove (children self.now) index)
+            (RemovalRefusal (children self.now) index) }
         ensures within { IsOk result → index < length (children self.now) }
-        ensures refused { IfErr result (RemovalRefusal (children self.now) index) }
     {
         let fields = self.nfields();
         if index >= fields {
@@ -330,10 +330,11 @@ impl StructFields {
         index: usize,
     ) -> VortexResult<FieldsBuilder>
         requires { index < length (children self.now) }
-        ensures ok { IfOk result (λ b. (p : List ℕ × Tree)
+        ensures { MatchResult result
+            (λ b. (p : List ℕ × Tree)
             × (p ≡ slice_index_or (children self.now) index p)
-            × (fields_so_far b ≡ fields_so_far fields ++ p ∷ [])) }
-        ensures refused { IsOkUnless result OutOfMemory }
+            × (fields_so_far b ≡ fields_so_far fields ++ p ∷ []))
+            (λ e. e ≡ OutOfMemory) }
     {
         let name = self.names().as_slice()[index].try_clone(alloc)?;
         let dtype = self.dtypes()[index].try_clone(alloc)?;
@@ -343,8 +344,8 @@ impl StructFields {
     /// The fields over several lines, one a line, each two spaces deeper than the braces round it.
     /// Refuses 0 (OutOfMemory) alone.
     pub fn indented(&self, alloc: Global) -> VortexResult<String>
-        ensures ok { IfOk result (λ s. string_bytes s ≡ indented_text (struct_tree self.now)) }
-        ensures refused { IsOkUnless result OutOfMemory }
+        ensures { MatchResult result
+            (λ s. string_bytes s ≡ indented_text (struct_tree self.now)) (λ e. e ≡ OutOfMemory) }
     {
         let mut text = String::new(alloc);
         self.write_indented(alloc, &mut text, "")?;
@@ -380,8 +381,8 @@ impl StructFields {
 
     /// Fields equal to these, which share them. Refuses 0 (OutOfMemory) alone.
     pub fn try_clone(&self, _alloc: Global) -> VortexResult<Self>
-        ensures same { IfOk result (λ s. struct_pairs s ≡ struct_pairs self.now) }
-        ensures refused { IsOkUnless result OutOfMemory }
+        ensures { MatchResult result
+            (λ s. struct_pairs s ≡ struct_pairs self.now) (λ e. e ≡ OutOfMemory) }
     {
         let shared = self.shared.clone()?;
         Ok(StructFields { shared })

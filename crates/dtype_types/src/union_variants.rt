@@ -1,7 +1,7 @@
 // SPDX-License-Identifier: Apache-2.0
 // SPDX-FileCopyrightText: Copyright the Vortex contributors
 
-ghost use Rattle.std.specs.Prelude.{◌≡◌, ◌≤◌, ◌<◌, ◌^◌, ◌↔◌, ◌==◌, ◌⊎◌, IsTrue, [], length, map, vec_len, position, slice_get, All, IfOk, IfErr, OnOk, IsOkUnless, Err, Some, false, fold};
+ghost use Rattle.std.specs.Prelude.{◌≡◌, ◌≤◌, ◌<◌, ◌^◌, ◌↔◌, ◌==◌, ◌⊎◌, IsTrue, [], length, map, vec_len, position, slice_get, All, IfOk, IfErr, OnOk, Err, Some, false, fold, MatchResult};
 ghost use Rattle.std.specs.List.{IsDistinct, range_with_len};
 ghost use Rattle.dtype_base.specs.Bytes.{Bytes};
 ghost use Rattle.dtype_base.specs.FieldNames.{first_place};
@@ -32,8 +32,8 @@ pub struct UnionVariants {
 
 // Whether two of the items are equal.
 fn has_repeats<T: Eq + Hash>(alloc: Global, items: &[T]) -> VortexResult<bool>
-    ensures exact { IfOk result (λ b. (b ≡ false) ↔ IsDistinct T.eq items.now) }
-    ensures refused { IsOkUnless result OutOfMemory }
+    ensures { MatchResult result
+        (λ b. (b ≡ false) ↔ IsDistinct T.eq items.now) (λ e. e ≡ OutOfMemory) }
 {
     let distinct: HashSet<&T> = items.iter().collect(alloc)?;
     Ok(distinct.len() < items.len())
@@ -75,8 +75,8 @@ fn validate_shape(
 // The tags 0, 1, 2 and so on, this many.
 fn first_tags(alloc: Global, count: usize) -> VortexResult<Vec<u8>>
     requires { count ≤ most_variants }
-    ensures ok { IfOk result (λ tags. tags.items ≡ range_with_len 0 count) }
-    ensures refused { IsOkUnless result OutOfMemory }
+    ensures { MatchResult result
+        (λ tags. tags.items ≡ range_with_len 0 count) (λ e. e ≡ OutOfMemory) }
 {
     Ok((0..count).map(|tag| tag as u8).collect(alloc)?)
 }
@@ -278,8 +278,8 @@ impl UnionVariants {
 
     /// Variants equal to these, which share them. Refuses 0 (OutOfMemory) alone.
     pub fn try_clone(&self, _alloc: Global) -> VortexResult<Self>
-        ensures same { IfOk result (λ u. union_triples u ≡ union_triples self.now) }
-        ensures refused { IsOkUnless result OutOfMemory }
+        ensures { MatchResult result
+            (λ u. union_triples u ≡ union_triples self.now) (λ e. e ≡ OutOfMemory) }
     {
         let shared = self.shared.clone()?;
         Ok(UnionVariants { shared })

@@ -202,12 +202,18 @@ pub fn cover_of_cover(alloc: Global, asked: FieldPathSet) -> VortexResult<vec::I
 
 /// What is asked for in either of two sets, of the second its least paths alone.
 pub fn either_asked(asked: &FieldPathSet, more: &FieldPathSet) -> VortexResult<FieldPathSet>
-    ensures exact { IfOk result (λ s. s ≡ set.union asked.now (least more.now)) }
-    ensures covers { IfOk result (λ s. least s ≡ least (set.union asked.now more.now)) }
+    ensures { IfOk result (λ s. s ≡ set.union asked.now (least more.now)) }
 {
     let mut both = asked.try_clone()?;
     both.extend(more.try_clone()?.into_iter()?)?;
     Ok(both)
+}
+
+/// A set with the cover of two sets at once.
+pub fn covers_either(asked: &FieldPathSet, more: &FieldPathSet) -> VortexResult<FieldPathSet>
+    ensures { IfOk result (λ s. least s ≡ least (set.union asked.now more.now)) }
+{
+    either_asked(asked, more)
 }
 
 /// The columns to open for two sets at once, of which the first stays.

@@ -2,7 +2,7 @@
 -- SPDX-FileCopyrightText: Copyright the Vortex contributors
 
 -- What a call gave that gives what reading gives.
-use Rattle.std.proofs.Common.{◌≡◌, ◌⊎◌, inl, inr, Result, Ok, Err, IfOk, IfErr, IsOkUnless, refl, sym, subst}
+use Rattle.std.proofs.Common.{◌≡◌, ◌⊎◌, inl, inr, Result, Ok, Err, IfOk, MatchResult, refl, sym, subst}
 use Rattle.dtype_base.specs.declared.vortex_error.VortexError.{VortexError}
 use Rattle.dtype_base.specs.declared.vortex_error.VortexError.TheVariants.{OutOfMemory}
 use Rattle.dtype_types.specs.Tree.{Tree}
@@ -19,14 +19,10 @@ use Rattle.vortex_dtype.specs.Written.{written}
 use Rattle.vortex_dtype.specs.lemmas.Reads.{fault_none, reads_accepted, reads_once, written_reads}
 use Rattle.vortex_dtype.specs.lemmas.InOrder.{read_fault, read_reads}
 
-pub gives_read : (s : Meaning) (m : Message) (r : Result DType VortexError) → Gives tree r (read s m) → IfOk r (λ t. read s m ≡ Ok (tree t))
-gives_read s m (Ok d) g = g
-gives_read s m (Err e) g = tt
-
-pub gives_refused : (s : Meaning) (m : Message) (r : Result DType VortexError) → Gives tree r (read s m) → IfErr r (λ e. (e ≡ OutOfMemory) ⊎ (read s m ≡ Err e))
-gives_refused s m (Ok d) g = tt
-gives_refused s m (Err OutOfMemory) g = inl refl
-gives_refused s m (Err e) g = inr g
+pub gives_told : (s : Meaning) (m : Message) (r : Result DType VortexError) → Gives tree r (read s m) → MatchResult r (λ t. read s m ≡ Ok (tree t)) (λ e. (e ≡ OutOfMemory) ⊎ (read s m ≡ Err e))
+gives_told s m (Ok d) g = g
+gives_told s m (Err OutOfMemory) g = inl refl
+gives_told s m (Err e) g = inr g
 
 pub gives_accepts : (s : Meaning) → LawfulSession s → (m : Message) (r : Result DType VortexError) → IfOk r (λ _. IsMessage m) → Gives tree r (read s m) → IfOk r (λ t. Accepts s m (tree t))
 gives_accepts s l m (Ok d) i g = reads_accepted s m (tree d) l i (read_reads s m (tree d) g)
@@ -36,11 +32,7 @@ gives_accepts s l m (Err e) i g = tt
 written_is_read : (s : Meaning) (m : Message) (t : Tree) → Valid t → Admits s t → m ≡ written t → Reads s m t
 written_is_read s m t v a e = subst (λ (x : Message). Reads s x t) (sym e) (written_reads s t v a)
 
-pub gives_back : (s : Meaning) (m : Message) (r : Result DType VortexError) → Gives tree r (read s m) → (t : Tree) → Valid t → Admits s t → m ≡ written t → IfOk r (λ u. tree u ≡ t)
+pub gives_back : (s : Meaning) (m : Message) (r : Result DType VortexError) → Gives tree r (read s m) → (t : Tree) → Valid t → Admits s t → m ≡ written t → MatchResult r (λ u. tree u ≡ t) (λ e. e ≡ OutOfMemory)
 gives_back s m (Ok d) g t v a e = reads_once s m (tree d) t (read_reads s m (tree d) g) (written_is_read s m t v a e)
-gives_back s m (Err x) g t v a e = tt
-
-pub gives_back_refused : (s : Meaning) (m : Message) (r : Result DType VortexError) → Gives tree r (read s m) → (t : Tree) → Valid t → Admits s t → m ≡ written t → IsOkUnless r OutOfMemory
-gives_back_refused s m (Ok d) g t v a e = tt
-gives_back_refused s m (Err OutOfMemory) g t v a e = refl
-gives_back_refused s m (Err x) g t v a e = absurd (fault_none s m x t (read_fault s m x g) (written_is_read s m t v a e))
+gives_back s m (Err OutOfMemory) g t v a e = refl
+gives_back s m (Err x) g t v a e = absurd (fault_none s m x t (read_fault s m x g) (written_is_read s m t v a e))

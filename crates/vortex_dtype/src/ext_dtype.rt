@@ -2,7 +2,7 @@
 // SPDX-FileCopyrightText: Copyright the Vortex contributors
 
 // Typed extensions.
-ghost use Rattle.std.specs.Prelude.{◌≡◌, IfOk, IfErr, OnOk, Some, None, true, false};
+ghost use Rattle.std.specs.Prelude.{◌≡◌, IfOk, IfErr, OnOk, Some, None, true, false, MatchResult};
 ghost use Rattle.dtype_base.specs.declared.nullability.Nullability.TheVariants.{NonNullable};
 ghost use Rattle.dtype_types.specs.Nullable.{CanBeNonNullable, SetNull};
 ghost use Rattle.dtype_types.specs.TreeOf.{extension_id, extension_metadata, extension_tree, storage_tree, tree};
@@ -99,9 +99,8 @@ impl<V: ExtVTable> ExtDType<V> {
     /// The metadata as bytes. Refuses 22 (MetadataRefused) exactly where the vtable doesn't write it, and
     /// 0 (OutOfMemory).
     pub fn serialize_metadata(&self, alloc: Global) -> VortexResult<Vec<u8>>
-        ensures ok { IfOk result
-            (λ v. V.writes (vtable_of self.now) (V.meant (metadata_of self.now)) ≡ Some v.items) }
-        ensures refused { IfErr result
+        ensures { MatchResult result
+            (λ v. V.writes (vtable_of self.now) (V.meant (metadata_of self.now)) ≡ Some v.items)
             (RefusedWhere (V.writes (vtable_of self.now) (V.meant (metadata_of self.now)) ≡ None)) }
     {
         self.vtable.serialize_metadata(alloc, &self.metadata)
@@ -113,14 +112,14 @@ impl<V: ExtVTable> ExtDType<V> {
     #[tactic(auto, using(dtype_types::specs::lemmas::Validity::validity))]
     pub fn with_nullability(&self, alloc: Global, n: Nullability) -> VortexResult<ExtDTypeRef>
         requires { n ≡ NonNullable → CanBeNonNullable (storage_of self.now) }
-        ensures id { IfOk result (λ e. extension_id e ≡ V.id_text (vtable_of self.now)) }
+        ensures id { MatchResult result
+            (λ e. extension_id e ≡ V.id_text (vtable_of self.now))
+            (RefusedWhere (V.writes (vtable_of self.now) (V.meant (metadata_of self.now)) ≡ None)) }
         ensures metadata { IfOk result (λ e.
             V.writes (vtable_of self.now) (V.meant (metadata_of self.now))
             ≡ Some (extension_metadata e)) }
         ensures storage { IfOk result (λ e. SetNull (storage_of self.now) n (storage_tree e)) }
         ensures valid { IsValidTyped self.now → IfOk result IsValidExtension }
-        ensures refused { IfErr result
-            (RefusedWhere (V.writes (vtable_of self.now) (V.meant (metadata_of self.now)) ≡ None)) }
     {
         let bytes = self.vtable.serialize_metadata(alloc, &self.metadata)?;
         let id = ExtId::new(alloc, self.vtable.id())?;
@@ -131,13 +130,13 @@ impl<V: ExtVTable> ExtDType<V> {
     /// The extension without its library: the id, the written metadata and the storage. Refuses 22
     /// (MetadataRefused) exactly where the vtable doesn't write the metadata, and 0 (OutOfMemory).
     pub fn erased(self, alloc: Global) -> VortexResult<ExtDTypeRef>
-        ensures made { IfOk result (λ e. extension_tree e
-            ≡ extension (V.id_text (vtable_of self)) (extension_metadata e) (storage_of self)) }
+        ensures made { MatchResult result
+            (λ e. extension_tree e
+            ≡ extension (V.id_text (vtable_of self)) (extension_metadata e) (storage_of self))
+            (RefusedWhere (V.writes (vtable_of self) (V.meant (metadata_of self)) ≡ None)) }
         ensures metadata { IfOk result (λ e.
             V.writes (vtable_of self) (V.meant (metadata_of self)) ≡ Some (extension_metadata e)) }
         ensures valid { IsValidTyped self → IfOk result IsValidExtension }
-        ensures refused { IfErr result
-            (RefusedWhere (V.writes (vtable_of self) (V.meant (metadata_of self)) ≡ None)) }
     {
         let ExtDType {
             vtable,
@@ -158,14 +157,14 @@ impl<V: ExtVTable> ExtDType<V> {
         erased: ExtDTypeRef,
         vtable: V,
     ) -> Result<ExtDType<V>, (ExtDTypeRef, VortexError)>
-        ensures made { IfOk result
-            (λ x. typed_shown x ≡ (vtable, metadata_of x, storage_tree erased)) }
+        ensures made { MatchResult result
+            (λ x. typed_shown x ≡ (vtable, metadata_of x, storage_tree erased))
+            (λ p. p.0 ≡ erased) }
         ensures id { OnOk result (extension_id erased ≡ V.id_text vtable) }
         ensures read { IfOk result
             (λ x. V.reads vtable (extension_metadata erased) ≡ Some (V.meant (metadata_of x))) }
         ensures fits { Valid (storage_tree erased) → IfOk result
             (λ x. V.fits vtable (V.meant (metadata_of x)) (storage_tree erased) ≡ true) }
-        ensures handed_back { IfErr result (λ p. p.0 ≡ erased) }
         ensures refused { IfErr result (λ p. NotOf (extension_id erased) (V.id_text vtable)
             (Valid (storage_tree erased) → Unfit (V.reads vtable (extension_metadata erased))
             (λ m. V.fits vtable m (storage_tree erased))) p.1) }
@@ -186,14 +185,14 @@ impl<V: ExtVTable> ExtDType<V> {
     // What the metadata is read as, tested over the storage; all is lent.
     fn read_lent(alloc: Global, erased: &ExtDTypeRef, vtable: &V) -> VortexResult<V::Metadata>
         ensures id { OnOk result (extension_id erased.now ≡ V.id_text vtable.now) }
-        ensures read { IfOk result
-            (λ m. V.reads vtable.now (extension_metadata erased.now) ≡ Some (V.meant m)) }
-        ensures fits { Valid (storage_tree erased.now) → IfOk result
-            (λ m. V.fits vtable.now (V.meant m) (storage_tree erased.now) ≡ true) }
-        ensures refused { IfErr result (NotOf (extension_id erased.now) (V.id_text vtable.now)
+        ensures read { MatchResult result
+            (λ m. V.reads vtable.now (extension_metadata erased.now) ≡ Some (V.meant m))
+            (NotOf (extension_id erased.now) (V.id_text vtable.now)
             (Valid (storage_tree erased.now)
             → Unfit (V.reads vtable.now (extension_metadata erased.now))
             (λ m. V.fits vtable.now m (storage_tree erased.now)))) }
+        ensures fits { Valid (storage_tree erased.now) → IfOk result
+            (λ m. V.fits vtable.now (V.meant m) (storage_tree erased.now) ≡ true) }
     {
         if erased.id().as_str() != vtable.id() {
             return Err(VortexError::ExtensionIdDiffers);

@@ -14,7 +14,7 @@ use std::alloc::Global;
 /// from bytes is bytes; whether metadata fits a storage doesn't depend on the storage's outer
 /// nullability.
 pub trait ExtVTable: Drop {
-    ghost use Rattle.std.specs.Prelude.{◌≡◌, ℕ, List, Option, Some, None, Bool, true, false, IfOk, IfErr, OnOk};
+    ghost use Rattle.std.specs.Prelude.{◌≡◌, ℕ, List, Option, Some, None, Bool, true, false, IfErr, OnOk, MatchResult};
     ghost use Rattle.dtype_types.specs.Tree.{Tree};
     ghost use Rattle.dtype_types.specs.TreeOf.{tree};
     ghost use Rattle.dtype_types.specs.Valid.{Valid};
@@ -48,15 +48,16 @@ pub trait ExtVTable: Drop {
     /// The metadata as bytes. Refuses 22 (MetadataRefused) exactly where it isn't written, and 0
     /// (OutOfMemory).
     fn serialize_metadata(&self, alloc: Global, metadata: &Self::Metadata) -> VortexResult<Vec<u8>>
-        ensures ok { IfOk result (λ v. writes self.now (meant metadata.now) ≡ Some v.items) }
-        ensures refused { IfErr result
+        ensures { MatchResult result
+            (λ v. writes self.now (meant metadata.now) ≡ Some v.items)
             (RefusedWhere (writes self.now (meant metadata.now) ≡ None)) };
 
     /// The metadata that the bytes are read as. Refuses 22 (MetadataRefused) exactly where they aren't
     /// read, and 0 (OutOfMemory).
     fn deserialize_metadata(&self, alloc: Global, bytes: &[u8]) -> VortexResult<Self::Metadata>
-        ensures ok { IfOk result (λ m. reads self.now bytes.now ≡ Some (meant m)) }
-        ensures refused { IfErr result (RefusedWhere (reads self.now bytes.now ≡ None)) };
+        ensures { MatchResult result
+            (λ m. reads self.now bytes.now ≡ Some (meant m))
+            (RefusedWhere (reads self.now bytes.now ≡ None)) };
 
     /// Whether the metadata may stand over the storage: over a valid one it refuses 22 (MetadataRefused) exactly
     /// where it may not, and 0 (OutOfMemory).

@@ -2,7 +2,7 @@
 // SPDX-FileCopyrightText: Copyright the Vortex contributors
 
 // Extensions of which nothing is known: all bytes are kept.
-ghost use Rattle.std.specs.Prelude.{◌≡◌, IfOk, IsOkUnless, Some};
+ghost use Rattle.std.specs.Prelude.{◌≡◌, IfOk, Some, MatchResult};
 ghost use Rattle.dtype_base.specs.declared.vortex_error.VortexError.TheVariants.{OutOfMemory};
 ghost use Rattle.dtype_types.specs.TreeOf.{extension_tree, tree};
 ghost use Rattle.dtype_types.specs.IsValid.{IsValid, IsValidExtension};
@@ -22,8 +22,7 @@ pub struct ForeignExtMetadata(pub Vec<u8>);
 impl ForeignExtMetadata {
     /// The same bytes. Refuses 0 (OutOfMemory) alone.
     pub fn try_clone(&self, alloc: Global) -> VortexResult<Self>
-        ensures same { IfOk result (λ m. m.0.items ≡ self.now.0.items) }
-        ensures refused { IsOkUnless result OutOfMemory }
+        ensures { MatchResult result (λ m. m.0.items ≡ self.now.0.items) (λ e. e ≡ OutOfMemory) }
     {
         Ok(ForeignExtMetadata(Vec::from_slice(alloc, &self.0)?))
     }
@@ -74,18 +73,17 @@ impl ForeignExtDType {
         metadata: Vec<u8>,
         storage: DType,
     ) -> VortexResult<ExtDTypeRef>
-        ensures parts { IfOk result
-            (λ e. extension_tree e ≡ extension id metadata.items (tree storage)) }
+        ensures parts { MatchResult result
+            (λ e. extension_tree e ≡ extension id metadata.items (tree storage))
+            (λ e. e ≡ OutOfMemory) }
         ensures valid { IsValid storage → IfOk result IsValidExtension }
-        ensures refused { IsOkUnless result OutOfMemory }
     {
         ExtDTypeRef::from_parts(alloc, id, metadata, storage)
     }
 
     /// The vtable of the same id. Refuses 0 (OutOfMemory) alone.
     pub fn try_clone(&self, alloc: Global) -> VortexResult<Self>
-        ensures same { IfOk result (λ v. v ≡ self.now) }
-        ensures refused { IsOkUnless result OutOfMemory }
+        ensures { MatchResult result (λ v. v ≡ self.now) (λ e. e ≡ OutOfMemory) }
     {
         Ok(ForeignExtDType {
             id: self.id.try_clone(alloc)?,

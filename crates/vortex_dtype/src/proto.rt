@@ -5,7 +5,7 @@
 // each kind, `write` makes the messages.
 #![tactic(auto, using(crate::specs::lemmas::PathMessages::path_by_steps))]
 
-ghost use Rattle.std.specs.Prelude.{◌≡◌, ◌⊎◌, Some, None, Ok, Err, IfOk, IfErr, IsOkUnless, Contains, map};
+ghost use Rattle.std.specs.Prelude.{◌≡◌, ◌⊎◌, Some, None, Ok, Err, IfOk, Contains, map, MatchResult};
 ghost use Rattle.dtype_base.specs.declared.vortex_error.MessageFault.TheVariants.{PathPartMissing};
 ghost use Rattle.dtype_base.specs.declared.vortex_error.VortexError.TheVariants.{Message, OutOfMemory};
 ghost use Rattle.dtype_types.specs.Tree.{Tree};
@@ -59,9 +59,9 @@ impl DTypeProto for DType {
     /// 33 (TypeIdRange) after the variants', then 10 to 13 and 15 of `UnionVariants::try_new`;
     /// 34 (StorageMissing), and after the storage's 22 (MetadataRefused) or 35 (ExtensionUnregistered).
     fn from_proto(alloc: Global, proto: &pb::DType, session: &DTypeSession) -> VortexResult<DType>
-        ensures reads { IfOk result (λ t.
-            read (meaning rewrites session.now) (message proto.now) ≡ Ok (tree t)) }
-        ensures refused { IfErr result (λ e. (e ≡ OutOfMemory)
+        ensures reads { MatchResult result
+            (λ t. read (meaning rewrites session.now) (message proto.now) ≡ Ok (tree t))
+            (λ e. (e ≡ OutOfMemory)
             ⊎ (read (meaning rewrites session.now) (message proto.now) ≡ Err e)) }
         ensures accepts { IfOk result (λ t. Accepts (meaning rewrites session.now)
             (message proto.now) (tree t)) }
@@ -69,9 +69,8 @@ impl DTypeProto for DType {
 
         // what is written of an admitted type reads as that type
         ensures back { (t : Tree) → Valid t → Admits (meaning rewrites session.now) t
-            → message proto.now ≡ written t → IfOk result (λ u. tree u ≡ t) }
-        ensures back_refused { (t : Tree) → Valid t → Admits (meaning rewrites session.now) t
-            → message proto.now ≡ written t → IsOkUnless result OutOfMemory }
+            → message proto.now ≡ written t
+            → MatchResult result (λ u. tree u ≡ t) (λ e. e ≡ OutOfMemory) }
     {
         read(alloc, proto, session)
     }
@@ -79,8 +78,8 @@ impl DTypeProto for DType {
     /// The message that says the type, with every child, every flag and the metadata. Refuses
     /// 0 (OutOfMemory) alone.
     fn to_proto(&self, alloc: Global) -> VortexResult<pb::DType>
-        ensures written { IfOk result (λ m. message m ≡ written (tree self.now)) }
-        ensures refused { IsOkUnless result OutOfMemory }
+        ensures { MatchResult result
+            (λ m. message m ≡ written (tree self.now)) (λ e. e ≡ OutOfMemory) }
     {
         write(alloc, self)
     }
@@ -98,8 +97,9 @@ impl FieldPathProto for FieldPath {
     /// The path of the names, in order; no parts give the root. Refuses 36 (PathPartMissing) at the first
     /// part without a kind.
     fn from_proto(alloc: Global, proto: &pb::FieldPath) -> VortexResult<FieldPath>
-        ensures path { IfOk result (λ p. path_of (part_names proto.now) ≡ Some p) }
-        ensures refused { IfErr result (λ e. (e ≡ OutOfMemory)
+        ensures { MatchResult result
+            (λ p. path_of (part_names proto.now) ≡ Some p)
+            (λ e. (e ≡ OutOfMemory)
             ⊎ ((e ≡ Message PathPartMissing) × Contains (steps_of proto.now) None)) }
     {
         Ok(FieldPath::from_vec(read_parts(alloc, &proto.path)?))
@@ -108,8 +108,9 @@ impl FieldPathProto for FieldPath {
 
 // The steps that the parts say, in order.
 fn read_parts(alloc: Global, parts: &[pb::Field]) -> VortexResult<Vec<Field>>
-    ensures steps { IfOk result (λ v. map step_of parts.now ≡ map Some v.items) }
-    ensures refused { IfErr result (λ e. (e ≡ OutOfMemory)
+    ensures { MatchResult result
+        (λ v. map step_of parts.now ≡ map Some v.items)
+        (λ e. (e ≡ OutOfMemory)
         ⊎ ((e ≡ Message PathPartMissing) × Contains (map step_of parts.now) None)) }
 {
     let mut steps = Vec::with_capacity(alloc, parts.len())?;
@@ -121,9 +122,9 @@ fn read_parts(alloc: Global, parts: &[pb::Field]) -> VortexResult<Vec<Field>>
 
 // The step that a part says.
 fn read_part(alloc: Global, part: &pb::Field) -> VortexResult<Field>
-    ensures step { IfOk result (λ f. step_of part.now ≡ Some f) }
-    ensures refused { IfErr result (λ e. (e ≡ OutOfMemory)
-        ⊎ ((e ≡ Message PathPartMissing) × (step_of part.now ≡ None))) }
+    ensures { MatchResult result
+        (λ f. step_of part.now ≡ Some f)
+        (λ e. (e ≡ OutOfMemory) ⊎ ((e ≡ Message PathPartMissing) × (step_of part.now ≡ None))) }
 {
     match &part.field_type {
         Some(pb::FieldType::Name(name)) => Ok(Field::Name(FieldName::new(alloc, name.as_str())?)),

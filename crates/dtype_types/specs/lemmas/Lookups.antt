@@ -2,12 +2,12 @@
 -- SPDX-FileCopyrightText: Copyright the Vortex contributors
 
 -- What stands at the first position of a name, of fields and of variants.
-use Rattle.std.proofs.Common.{◌≡◌, ◌≢◌, ℕ, zero, suc, ◌<◌, List, [], ◌∷◌, Option, Some, None, cond, slice_get, refl, ap, sym, ◌∙◌, arith}
+use Rattle.std.proofs.Common.{◌≡◌, ◌≢◌, ℕ, zero, suc, ◌<◌, List, [], ◌∷◌, Some, None, cond, slice_get, refl, ap, sym, ◌∙◌, arith}
 use Rattle.std.specs.Str.{bytes_eq}
 use Rattle.std.proofs.lemmas.Bool.{false_from_ne_true}
 use Rattle.std.proofs.lemmas.Option.{same_Some}
 use Rattle.std.proofs.lemmas.Slice.Eq.{bytes_eq-Decides}
-use Rattle.dtype_base.specs.FieldNames.{FirstAt, IsAbsent, first_place}
+use Rattle.dtype_base.specs.FieldNames.{IsAbsent, first_place}
 use Rattle.dtype_base.specs.lemmas.Lookups.{first_of_place, absent_of_place}
 use Rattle.dtype_types.specs.Lookups.{first_named, field_names, field_types, variant_named, variant_names, variant_types}
 use Rattle.dtype_types.specs.Tree.{Tree}

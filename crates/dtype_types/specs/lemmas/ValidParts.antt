@@ -3,7 +3,7 @@
 
 -- What a valid type of a known kind holds is valid: an element, and a map's, a struct's, a union's and an
 -- extension's parts.
-use Rattle.std.proofs.Common.{◌≡◌, ℕ, List, ◌∷◌, Option, Some, None, IfSome, Bor, refl, ap, sym, subst, ◌∙◌}
+use Rattle.std.proofs.Common.{◌≡◌, ℕ, List, Option, Some, None, IfSome, Bor, refl, ap, sym, subst, ◌∙◌}
 use Rattle.std.specs.Prelude.{Bool}
 use Rattle.std.specs.Option.{option_map}
 use Rattle.std.specs.declared.alloc.Global.{Global}

@@ -2,7 +2,7 @@
 // SPDX-FileCopyrightText: Copyright the Vortex contributors
 
 // Constructors of types that hold others.
-ghost use Rattle.std.specs.Prelude.{◌≡◌, ◌⊎◌, IfOk, IfErr, OnOk, IsOkUnless};
+ghost use Rattle.std.specs.Prelude.{◌≡◌, ◌⊎◌, OnOk, MatchResult};
 ghost use Rattle.std.specs.Iterator.{IsFinite};
 ghost use Rattle.dtype_base.specs.declared.nullability.Nullability.TheVariants.{NonNullable};
 ghost use Rattle.dtype_base.specs.declared.vortex_error.VortexError.TheVariants.{OutOfMemory, MapKeyNullable};
@@ -18,8 +18,7 @@ use std::alloc::Global;
 impl DType {
     /// Lists of this element. Refuses 0 (OutOfMemory) alone.
     pub fn list(alloc: Global, element: DType, n: Nullability) -> VortexResult<DType>
-        ensures made { IfOk result (λ d. tree d ≡ list (tree element) n) }
-        ensures refused { IsOkUnless result OutOfMemory }
+        ensures { MatchResult result (λ d. tree d ≡ list (tree element) n) (λ e. e ≡ OutOfMemory) }
     {
         Ok(DType::List(Box::new(alloc, element)?, n))
     }
@@ -31,8 +30,8 @@ impl DType {
         size: u32,
         n: Nullability,
     ) -> VortexResult<DType>
-        ensures made { IfOk result (λ d. tree d ≡ fixed_size_list (tree element) size n) }
-        ensures refused { IsOkUnless result OutOfMemory }
+        ensures { MatchResult result
+            (λ d. tree d ≡ fixed_size_list (tree element) size n) (λ e. e ≡ OutOfMemory) }
     {
         Ok(DType::FixedSizeList(Box::new(alloc, element)?, size, n))
     }
@@ -46,11 +45,12 @@ impl DType {
         keys_sorted: bool,
         n: Nullability,
     ) -> VortexResult<DType>
-        ensures made { IfOk result (λ d. tree d ≡ map_of (tree key) (tree value) keys_sorted n) }
-        ensures accepted { OnOk result (nullability (tree key) ≡ NonNullable) }
-        ensures refused { IfErr result (λ e.
+        ensures made { MatchResult result
+            (λ d. tree d ≡ map_of (tree key) (tree value) keys_sorted n)
+            (λ e.
             ((e ≡ OutOfMemory) × (nullability (tree key) ≡ NonNullable))
             ⊎ ((e ≡ MapKeyNullable) × IsNullable (tree key))) }
+        ensures accepted { OnOk result (nullability (tree key) ≡ NonNullable) }
     {
         let map = MapDType::try_new(alloc, key, value, keys_sorted)?;
         Ok(DType::Map(map, n))
@@ -64,9 +64,9 @@ impl DType {
     ) -> VortexResult<DType>
         requires { (it : I.IntoIter) → I.into_iter_gives fields it
             → I.IntoIter.can_next it × IsFinite (I.IntoIter.remaining it) }
-        ensures made { IfOk result (λ d.
-            MadeFrom (I.into_iter_gives fields) I.IntoIter.next_gives (IsStructOf n d)) }
-        ensures refused { IsOkUnless result OutOfMemory }
+        ensures { MatchResult result
+            (λ d. MadeFrom (I.into_iter_gives fields) I.IntoIter.next_gives (IsStructOf n d))
+            (λ e. e ≡ OutOfMemory) }
     {
         Ok(DType::Struct(StructFields::from_iter(alloc, fields)?, n))
     }

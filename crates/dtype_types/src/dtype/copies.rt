@@ -4,7 +4,7 @@
 // Copies of types: each takes memory for its boxes, and shares what its structs, unions and maps hold.
 #![tactic(auto, using(crate::proofs::SameParts::same_parts))]
 
-ghost use Rattle.std.specs.Prelude.{◌≡◌, IfOk, IsOkUnless};
+ghost use Rattle.std.specs.Prelude.{◌≡◌, MatchResult};
 ghost use Rattle.dtype_base.specs.declared.vortex_error.VortexError.TheVariants.{OutOfMemory};
 ghost use Rattle.dtype_types.specs.TreeOf.{tree};
 
@@ -16,8 +16,7 @@ impl DType {
     /// A type equal to this one. Refuses 0 (OutOfMemory) alone.
     #[cycle(copy)]
     pub fn try_clone(&self, alloc: Global) -> VortexResult<DType>
-        ensures same { IfOk result (λ d. tree d ≡ tree self.now) }
-        ensures refused { IsOkUnless result OutOfMemory }
+        ensures { MatchResult result (λ d. tree d ≡ tree self.now) (λ e. e ≡ OutOfMemory) }
     {
         match self {
             DType::Null => Ok(DType::Null),
@@ -44,8 +43,7 @@ impl DType {
 // A copy of the type in a box.
 #[cycle(copy)]
 pub(crate) fn boxed_copy(alloc: Global, dtype: &DType) -> VortexResult<Box<DType>>
-    ensures same { IfOk result (λ b. tree b.value ≡ tree dtype.now) }
-    ensures refused { IsOkUnless result OutOfMemory }
+    ensures { MatchResult result (λ b. tree b.value ≡ tree dtype.now) (λ e. e ≡ OutOfMemory) }
 {
     let copy = dtype.try_clone(alloc)?;
     Ok(Box::new(alloc, copy)?)

@@ -4,7 +4,7 @@
 // The outer nullability of a type, and types with another.
 #![tactic(auto, using(crate::proofs::SameParts::set_parts, crate::proofs::SetNullLaws::nonnullable_can))]
 
-ghost use Rattle.std.specs.Prelude.{◌≡◌, ◌↔◌, IsTrue, IfOk, IsOkUnless};
+ghost use Rattle.std.specs.Prelude.{◌≡◌, ◌↔◌, IsTrue, MatchResult};
 ghost use Rattle.dtype_base.specs.Nullability.{either};
 ghost use Rattle.dtype_base.specs.declared.vortex_error.VortexError.TheVariants.{OutOfMemory};
 ghost use Rattle.dtype_types.specs.Nullable.{nullability, IsNullable, CanBeNonNullable, SetNull};
@@ -71,16 +71,16 @@ impl DType {
     /// The type made non-nullable; it can be. Refuses 0 (OutOfMemory) alone.
     pub fn as_nonnullable(&self, alloc: Global) -> VortexResult<DType>
         requires { CanBeNonNullable (tree self.now) }
-        ensures set { IfOk result (λ d. SetNull (tree self.now) Nullability.NonNullable (tree d)) }
-        ensures refused { IsOkUnless result OutOfMemory }
+        ensures { MatchResult result
+            (λ d. SetNull (tree self.now) Nullability.NonNullable (tree d)) (λ e. e ≡ OutOfMemory) }
     {
         self.with_nullability(alloc, Nullability::NonNullable)
     }
 
     /// The type made nullable: its values are those of this one, and null. Refuses 0 (OutOfMemory) alone.
     pub fn as_nullable(&self, alloc: Global) -> VortexResult<DType>
-        ensures set { IfOk result (λ d. SetNull (tree self.now) Nullability.Nullable (tree d)) }
-        ensures refused { IsOkUnless result OutOfMemory }
+        ensures { MatchResult result
+            (λ d. SetNull (tree self.now) Nullability.Nullable (tree d)) (λ e. e ≡ OutOfMemory) }
     {
         self.with_nullability(alloc, Nullability::Nullable)
     }
@@ -90,8 +90,8 @@ impl DType {
     #[cycle(with_nullability)]
     pub fn with_nullability(&self, alloc: Global, n: Nullability) -> VortexResult<DType>
         requires { n ≡ Nullability.NonNullable → CanBeNonNullable (tree self.now) }
-        ensures set { IfOk result (λ d. SetNull (tree self.now) n (tree d)) }
-        ensures refused { IsOkUnless result OutOfMemory }
+        ensures { MatchResult result
+            (λ d. SetNull (tree self.now) n (tree d)) (λ e. e ≡ OutOfMemory) }
     {
         match self {
             DType::Null => Ok(DType::Null),
@@ -117,9 +117,9 @@ impl DType {
     /// The type with `nullability() | n`: nullable where it was or `n` is. Refuses 0 (OutOfMemory)
     /// alone.
     pub fn union_nullability(&self, alloc: Global, n: Nullability) -> VortexResult<DType>
-        ensures set { IfOk result
-            (λ d. SetNull (tree self.now) (either (nullability (tree self.now)) n) (tree d)) }
-        ensures refused { IsOkUnless result OutOfMemory }
+        ensures { MatchResult result
+            (λ d. SetNull (tree self.now) (either (nullability (tree self.now)) n) (tree d))
+            (λ e. e ≡ OutOfMemory) }
     {
         self.with_nullability(alloc, self.nullability() | n)
     }

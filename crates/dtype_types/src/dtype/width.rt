@@ -2,7 +2,7 @@
 // SPDX-FileCopyrightText: Copyright the Vortex contributors
 
 // How many bytes the values of a type take, where all take as many.
-ghost use Rattle.std.specs.Prelude.{◌≡◌, ◌↔◌, ◌++◌, ◌∷◌, ℕ, List, [], IfOk, IfSome, IsErr, IsOkUnless, IsSome};
+ghost use Rattle.std.specs.Prelude.{◌≡◌, ◌↔◌, ◌++◌, ◌∷◌, ℕ, List, [], IfOk, IfSome, IsErr, IsSome, MatchResult};
 ghost use Rattle.dtype_base.specs.declared.nullability.Nullability.{Nullability};
 ghost use Rattle.dtype_base.specs.declared.vortex_error.VortexError.TheVariants.{WidthOverflow};
 ghost use Rattle.dtype_types.specs.Tree.{Tree, fixed_size_list};
@@ -92,10 +92,10 @@ impl DType {
     /// where a part is variable, also under a list of size 0. Else refuses 19 (WidthOverflow) where a
     /// part is wider than a `usize` can say.
     pub fn element_size(&self) -> VortexResult<Option<usize>>
-        ensures fixed { IfOk result (λ size. IsSome size ↔ Fixed (tree self.now)) }
+        ensures fixed { MatchResult result
+            (λ size. IsSome size ↔ Fixed (tree self.now)) (λ e. e ≡ WidthOverflow) }
         ensures too_wide { IsErr result ↔ (Fixed (tree self.now) × HasWidePart (tree self.now)) }
         ensures width { IfOk result (λ size. IfSome size (λ bytes. bytes ≡ width (tree self.now))) }
-        ensures refused { IsOkUnless result WidthOverflow }
     {
         match self.width() {
             Width::Variable => Ok(None),

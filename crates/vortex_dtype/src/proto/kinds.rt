@@ -6,7 +6,7 @@
 #![tactic(auto, unfolding(crate::specs::ReadInOrder::primitive_read, crate::specs::ReadInOrder::decimal_read, crate::specs::ReadInOrder::map_read, crate::specs::ReadInOrder::struct_read, crate::specs::ReadInOrder::read_tags, crate::specs::ReadInOrder::union_read, crate::specs::ReadInOrder::extension_read))]
 
 ghost use Rattle.std.specs.Int.{w32};
-ghost use Rattle.std.specs.Prelude.{◌≡◌, ◌<◌, ◌^◌, All, FitsSigned, IfOk, IsOkUnless, map, string_bytes};
+ghost use Rattle.std.specs.Prelude.{◌≡◌, ◌<◌, ◌^◌, All, FitsSigned, IfOk, map, string_bytes, MatchResult};
 ghost use Rattle.dtype_base.specs.declared.vortex_error.VortexError.TheVariants.{OutOfMemory};
 ghost use Rattle.dtype_base.specs.Decimals.{IsValidDecimal};
 ghost use Rattle.dtype_base.specs.Nullability.{nullability_of};
@@ -105,8 +105,7 @@ pub(crate) fn map_of(
 
 // Names of these texts, in order.
 fn names_of(alloc: Global, texts: &[String]) -> VortexResult<FieldNames>
-    ensures read { IfOk result (λ ns. ns ≡ map string_bytes texts.now) }
-    ensures refused { IsOkUnless result OutOfMemory }
+    ensures { MatchResult result (λ ns. ns ≡ map string_bytes texts.now) (λ e. e ≡ OutOfMemory) }
 {
     let mut names = Vec::with_capacity(alloc, texts.len())?;
     for text in texts {

@@ -3,7 +3,7 @@
 
 // Messages of types: every child, every flag, names and tags in order, and the metadata, also where it is
 // empty. A kind's message is put together outside the recursion.
-ghost use Rattle.std.specs.Prelude.{◌≡◌, IfOk, IsOkUnless, map, string_bytes};
+ghost use Rattle.std.specs.Prelude.{◌≡◌, IfOk, IsOkUnless, map, string_bytes, MatchResult};
 ghost use Rattle.dtype_base.specs.declared.vortex_error.VortexError.TheVariants.{OutOfMemory};
 ghost use Rattle.dtype_types.specs.Tree as of;
 ghost use Rattle.dtype_types.specs.TreeOf.{tree, struct_tree, union_tree};
@@ -21,8 +21,8 @@ use std::string::String;
 #[cycle(writing)]
 #[tactic(auto, using(crate::proofs::WrittenParts::flag_is))]
 pub(crate) fn write(alloc: Global, dtype: &DType) -> VortexResult<pb::DType>
-    ensures written { IfOk result (λ m. message m ≡ written (tree dtype.now)) }
-    ensures refused { IsOkUnless result OutOfMemory }
+    ensures { MatchResult result
+        (λ m. message m ≡ written (tree dtype.now)) (λ e. e ≡ OutOfMemory) }
 {
     match dtype {
         DType::Null => Ok(of_kind(pb::DtypeType::Null(pb::Null {}))),
@@ -72,8 +72,8 @@ pub(crate) fn write(alloc: Global, dtype: &DType) -> VortexResult<pb::DType>
 // The message of a part, boxed.
 #[cycle(writing)]
 fn write_child(alloc: Global, dtype: &DType) -> VortexResult<Box<pb::DType>>
-    ensures written { IfOk result (λ b. message b.value ≡ written (tree dtype.now)) }
-    ensures refused { IsOkUnless result OutOfMemory }
+    ensures { MatchResult result
+        (λ b. message b.value ≡ written (tree dtype.now)) (λ e. e ≡ OutOfMemory) }
 {
     let proto = write(alloc, dtype)?;
     Ok(Box::new(alloc, proto)?)
@@ -82,9 +82,8 @@ fn write_child(alloc: Global, dtype: &DType) -> VortexResult<Box<pb::DType>>
 // The message of a struct of this nullability.
 #[cycle(writing)]
 fn write_struct(alloc: Global, fields: &StructFields, n: Nullability) -> VortexResult<pb::DType>
-    ensures written { IfOk result
-        (λ m. message m ≡ written (of.struct (struct_tree fields.now) n)) }
-    ensures refused { IsOkUnless result OutOfMemory }
+    ensures { MatchResult result
+        (λ m. message m ≡ written (of.struct (struct_tree fields.now) n)) (λ e. e ≡ OutOfMemory) }
 {
     let count = fields.nfields();
     let mut names = Vec::with_capacity(alloc, count)?;
@@ -99,9 +98,8 @@ fn write_struct(alloc: Global, fields: &StructFields, n: Nullability) -> VortexR
 // The message of a union of this nullability.
 #[cycle(writing)]
 fn write_union(alloc: Global, variants: &UnionVariants, n: Nullability) -> VortexResult<pb::DType>
-    ensures written { IfOk result
-        (λ m. message m ≡ written (of.union (union_tree variants.now) n)) }
-    ensures refused { IsOkUnless result OutOfMemory }
+    ensures { MatchResult result
+        (λ m. message m ≡ written (of.union (union_tree variants.now) n)) (λ e. e ≡ OutOfMemory) }
 {
     let count = variants.len();
     let mut names = Vec::with_capacity(alloc, count)?;
@@ -126,8 +124,8 @@ fn of_kind(kind: pb::DtypeType) -> pb::DType
 
 // The message of a list of the element.
 fn list_proto(alloc: Global, element: Box<pb::DType>, nullable: bool) -> VortexResult<pb::DType>
-    ensures made { IfOk result (λ m. message m ≡ list (present (message element.value)) nullable) }
-    ensures refused { IsOkUnless result OutOfMemory }
+    ensures { MatchResult result
+        (λ m. message m ≡ list (present (message element.value)) nullable) (λ e. e ≡ OutOfMemory) }
 {
     let list = pb::List {
         element_type: Some(element),
@@ -143,9 +141,9 @@ fn fixed_proto(
     size: u32,
     nullable: bool,
 ) -> VortexResult<pb::DType>
-    ensures made { IfOk result
-        (λ m. message m ≡ fixed_size_list (present (message element.value)) size nullable) }
-    ensures refused { IsOkUnless result OutOfMemory }
+    ensures { MatchResult result
+        (λ m. message m ≡ fixed_size_list (present (message element.value)) size nullable)
+        (λ e. e ≡ OutOfMemory) }
 {
     let list = pb::FixedSizeList {
         element_type: Some(element),
@@ -213,9 +211,9 @@ fn extension_proto(
     source: &ExtDTypeRef,
     storage: Box<pb::DType>,
 ) -> VortexResult<pb::DType>
-    ensures made { IfOk result
-        (λ m. message m ≡ extension_message source.now (message storage.value)) }
-    ensures refused { IsOkUnless result OutOfMemory }
+    ensures { MatchResult result
+        (λ m. message m ≡ extension_message source.now (message storage.value))
+        (λ e. e ≡ OutOfMemory) }
 {
     let extension = pb::Extension {
         id: String::from_str(alloc, source.id().as_str())?,

@@ -24,7 +24,7 @@ loop-key-preserved c =
     let k = c.in-Some.key.now in let v = c.in-Some.first.now in let rest = c.next.new.self in
     let once = rw c.in-Some.ensures.steps at c.loop-key.invariant.once in
     let leads = rw c.in-Some.ensures.steps at c.loop-key.invariant.leads in
-    let put = rw c.in_ok-try_clone.ensures.ok at c.in_ok-put_at_key.ensures.ok in record {
+    let put = rw c.in_ok-try_clone.ensures at c.in_ok-put_at_key.ensures.ok in record {
       once = IsDistinct-tail (eq_by_cmp nat_cmp) k (keys_of rest) once;
       ordered = c.put_at_key.ensures.ordered;
       leads = λ q. goes_over (eq_by_cmp nat_cmp) key-Decides rest k v (get nat_cmp c.loop-key.copy) (get nat_cmp c.put_at_key.new.by_key) once put q ∙ leads q;

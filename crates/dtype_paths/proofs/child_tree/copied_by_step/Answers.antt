@@ -25,7 +25,7 @@ loop-step-preserved c =
     let k = c.in-Some.step.now in let v = c.in-Some.place.now in let rest = c.next.new.self in
     let once = rw c.in-Some.ensures.steps at c.loop-step.invariant.once in
     let leads = rw c.in-Some.ensures.steps at c.loop-step.invariant.leads in
-    let put = rw c.in_ok-try_clone.ensures.ok at c.in_ok-insert.ensures.updates.0 in record {
+    let put = rw c.in_ok-try_clone.ensures at c.in_ok-insert.ensures.updates.0 in record {
       once = IsDistinct-tail (eq_by_cmp field_cmp) k (keys_of rest) once;
       ordered = c.insert.ensures.ordered;
       leads = λ q. goes_over (eq_by_cmp field_cmp) step-Decides rest k v (get field_cmp c.loop-step.copy) (get field_cmp c.insert.new.self) once put q ∙ leads q;

@@ -1,7 +1,7 @@
 -- SPDX-License-Identifier: Apache-2.0
 -- SPDX-FileCopyrightText: Copyright the Vortex contributors
 
-use Rattle.std.proofs.Common.{◌≡◌, ◌∷◌, [], ap, map, refl, sym, ◌∙◌, Option, Some, None, Result, Ok, Err, IfOk, IsErr}
+use Rattle.std.proofs.Common.{◌≡◌, [], ap, map, refl, sym, ◌∙◌, Option, Some, None, Result, Ok, Err, MatchResult, IsErr}
 use Rattle.std.proofs.lemmas.List.{map-append}
 use Rattle.vortex_dtype.specs.PathMessage.{path_of}
 use Rattle.vortex_dtype.specs.PathNames.{part_name}
@@ -9,13 +9,13 @@ use Rattle.vortex_dtype.specs.lemmas.PathMessages.{no_path}
 use Rattle.dtype_uses.proofs.path_messages.read_unfinished.Goals as goal
 
 -- what gives nothing isn't given
-refused : {A E : Type 0} (r : Result A E) (given : Option A) → IfOk r (λ a. given ≡ Some a) → given ≡ None → IsErr r
-refused (Ok a) given is none = let e : Some a ≡ None = sym is ∙ none in cc
-refused (Err e) given is none = refl
+refused : {A E : Type 0} (Q : E → Type 0) (r : Result A E) (given : Option A) → MatchResult r (λ a. given ≡ Some a) Q → given ≡ None → IsErr r
+refused Q (Ok a) given is none = let e : Some a ≡ None = sym is ∙ none in cc
+refused Q (Err e) given is none = refl
 
 -- the message with a part behind it that has no kind makes no path
 pub returns-clause-refused : goal.returns-clause-refused
 returns-clause-refused c =
     let before = c.args.proto.path.items in
-    refused _ _ c.from_proto.ensures.path (ap (λ items. path_of (map part_name items)) c.in_ok-push.ensures.items
+    refused _ _ _ c.from_proto.ensures (ap (λ items. path_of (map part_name items)) c.in_ok-push.ensures.items
     ∙ (ap path_of (map-append part_name before _) ∙ no_path (map part_name before) []))

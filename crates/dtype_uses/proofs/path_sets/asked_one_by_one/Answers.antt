@@ -13,5 +13,5 @@ loop-column-preserved c =
     let columns = c.args.columns.now in let i = c.loop-column.column-index in let column = c.column-item.result in
     let next : take (i + 1) columns ≡ take i columns ++ column ∷ [] = take_more columns i column (omega arith) ∙ ap (λ p. take i columns ++ p ∷ []) (sym c.column-item.is) in
     c.in_ok-insert.ensures.ok
-    ∙ (λ k. set.insert (c.loop-column.invariant k) (c.in_ok-try_clone.ensures.ok k))
+    ∙ (λ k. set.insert (c.loop-column.invariant k) (c.in_ok-try_clone.ensures k))
     ∙ sym (ap set_of next ∙ of_push (take i columns) column)

@@ -4,7 +4,7 @@
 use Rattle.dtype_base.proofs.field_names.FieldNames.from_iter.Goals as goal
 
 -- the run that `collect` speaks of
-pub returns-clause-ok : goal.returns-clause-ok
-returns-clause-ok g c =
+pub returns : goal.returns
+returns g c =
     let run = c.in_ok-collect.ensures.runs tt in
     (c.into_iter.result, c.into_iter.ensures.into_iter_gives, (run.0, run.1, run.2, run.3.0))

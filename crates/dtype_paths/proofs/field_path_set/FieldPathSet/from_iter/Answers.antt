@@ -13,9 +13,9 @@ begun_empty : (ps : List (List Field)) (s t : PathSet) → t ≡ set.union s (se
 begun_empty ps s t e none = e ∙ ap (λ (x : PathSet). set.union x (set.from_list {R = path_cmp} ps)) none ∙ union_with_none (set.from_list ps)
 
 -- the list that was taken, as a run
-pub returns-clause-ok : goal.returns-clause-ok
-returns-clause-ok g c =
+pub returns : goal.returns
+returns g c =
     let ran = c.in_ok-extend.ensures.items in
     let steps = g.I.IntoIter.Iterator.next_gives in
     let given = subst (g.I.IntoIterator.into_iter_gives c.args.paths) (sym ran.2) c.into_iter-paths.ensures.into_iter_gives in
-    (ran.0, given, (run steps ran.0 ran.1 true (to_end steps ran.0 ran.1 ran.4), refl, refl, begun_empty ran.1 _ c.extend.new.self ran.3 (ap (set.from_list {R = path_cmp}) c.in_ok-trie.ensures.none)))
+    (ran.0, given, (run steps ran.0 ran.1 true (to_end steps ran.0 ran.1 ran.4), refl, refl, begun_empty ran.1 _ c.extend.new.self ran.3 (ap (set.from_list {R = path_cmp}) c.in_ok-trie.ensures)))

@@ -1,9 +1,8 @@
 -- SPDX-License-Identifier: Apache-2.0
 -- SPDX-FileCopyrightText: Copyright the Vortex contributors
 
-use Rattle.std.proofs.Common.{map}
 use Rattle.std.proofs.lemmas.Map.Made.{AllPairs-from_IsDistinct}
-use Rattle.std.proofs.lemmas.Result.{IfOk-weaker}
+use Rattle.std.proofs.lemmas.Result.{MatchResult-weaker}
 use Rattle.dtype_paths.specs.EqualityLaws.{same_path-Decides}
 use Rattle.dtype_paths.specs.Trie.{ends}
 use Rattle.dtype_paths.proofs.NodePlaces.{trie-distinct}
@@ -12,4 +11,4 @@ use Rattle.dtype_paths.proofs.trie.Trie.gather.Goals as goal
 pub returns-clause-once : goal.returns-clause-once
 returns-clause-once c =
     let nodes = c.self.inside.nodes in
-    IfOk-weaker c.gather.result _ _ (λ v e. rw e (AllPairs-from_IsDistinct same_path-Decides (ends nodes) (trie-distinct nodes c.self.invariant))) c.gather.ensures.ok
+    MatchResult-weaker c.gather.result c.gather.ensures (λ v e. rw e (AllPairs-from_IsDistinct same_path-Decides (ends nodes) (trie-distinct nodes c.self.invariant))) (λ _ _. tt)

@@ -8,8 +8,8 @@ use Rattle.dtype_paths.proofs.NodePlaces.{ends-same}
 use Rattle.dtype_paths.proofs.trie.Trie.try_clone.Goals as goal
 
 pub invariant_of-result : goal.invariant_of-result
-invariant_of-result c = nodes-same c.self.inside.nodes c.in_ok-try_clone.field-0 c.self.invariant c.in_ok-try_clone.ensures.ok
+invariant_of-result c = nodes-same c.self.inside.nodes c.in_ok-try_clone.field-0 c.self.invariant c.in_ok-try_clone.ensures
 
-pub returns-clause-ok : goal.returns-clause-ok
-returns-clause-ok c =
-    let a = c.in_ok-try_clone.ensures.ok in ends-same c.self.inside.nodes c.in_ok-try_clone.field-0 a.long a.ends ∙ ap ends c.self.view_is
+pub returns : goal.returns
+returns c =
+    let a = c.in_ok-try_clone.ensures in ends-same c.self.inside.nodes c.in_ok-try_clone.field-0 a.long a.ends ∙ ap ends c.self.view_is

@@ -4,7 +4,7 @@
 use Rattle.std.proofs.Common.{map, ap, ◌∙◌}
 use Rattle.std.specs.List.{zip}
 use Rattle.std.proofs.lemmas.List.Elements.{All-map, All-same}
-use Rattle.std.proofs.lemmas.Result.{IfOk-weaker}
+use Rattle.std.proofs.lemmas.Result.{MatchResult-weaker}
 use Rattle.std.proofs.lemmas.Simd.{map-map}
 use Rattle.dtype_types.specs.IsValid.{IsValid}
 use Rattle.dtype_types.specs.TreeOf.{tree}
@@ -12,8 +12,8 @@ use Rattle.dtype_types.proofs.struct_fields.StructFields.from_fields.Goals as go
 
 pub returns-clause-fields : goal.returns-clause-fields
 returns-clause-fields c =
-    let types = ap (map tree) c.in_ok-dtypes.ensures.same ∙ map-map tree (λ f. f.dtype) c.args.dtypes.items in
-    IfOk-weaker c.new.result _ _ (λ s e. e ∙ ap (zip c.args.names) types) c.new.ensures.fields
+    let types = ap (map tree) c.in_ok-dtypes.ensures ∙ map-map tree (λ f. f.dtype) c.args.dtypes.items in
+    MatchResult-weaker c.new.result c.new.ensures.fields (λ s e. e ∙ ap (zip c.args.names) types) (λ _ e. e)
 
 pub returns-clause-valid : goal.returns-clause-valid
-returns-clause-valid c = λ h. c.new.ensures.valid (All-same IsValid _ _ c.in_ok-dtypes.ensures.same (All-map IsValid (λ f. f.dtype) c.args.dtypes.items h))
+returns-clause-valid c = λ h. c.new.ensures.valid (All-same IsValid _ _ c.in_ok-dtypes.ensures (All-map IsValid (λ f. f.dtype) c.args.dtypes.items h))

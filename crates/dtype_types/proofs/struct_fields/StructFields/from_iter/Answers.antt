@@ -4,7 +4,7 @@
 use Rattle.std.proofs.Common.{List, ℕ, subst, ◌∙◌, sym}
 use Rattle.std.proofs.iter.runs.Made.{run_of_exit}
 use Rattle.std.proofs.lemmas.List.Elements.{recursion_from_All}
-use Rattle.std.proofs.lemmas.Result.{IfOk-weaker}
+use Rattle.std.proofs.lemmas.Result.{MatchResult-weaker}
 use Rattle.dtype_types.specs.declared.field_dtype.FieldDType.{FieldDType}
 use Rattle.dtype_types.specs.FieldTypes.{AreValidFields, HasFields}
 use Rattle.dtype_types.specs.IsValid.{IsValidField, IsValidStruct}
@@ -14,11 +14,11 @@ use Rattle.dtype_types.specs.lemmas.Validity.{valid_given}
 use Rattle.dtype_types.proofs.struct_fields.StructFields.from_iter.Goals as goal
 
 -- the run that the loop has made
-pub returns-clause-fields : goal.returns-clause-fields
-returns-clause-fields g c =
+pub returns : goal.returns
+returns g c =
     let given = c.loop-name.yielded in
     let whole = run_of_exit g.I.IntoIter.Iterator.next_gives _ given _ c.loop-name.yielded_by _ (rw c.in-None.is at c.next.ensures.steps) in
-    IfOk-weaker c.finish.result _ _
+    MatchResult-weaker c.finish.result c.finish.ensures
     (λ s e.
     let made = e ∙ c.loop-name.invariant.fields in (
       c.into_iter-name-iterator.result,
@@ -31,4 +31,4 @@ returns-clause-fields g c =
             (made, λ v. subst (λ ps. ValidFields (fields ps)) (sym made) (valid_given given (recursion_from_All (λ (p : List ℕ × FieldDType). IsValidField p.1) given v))),
       ),
     ))
-    c.finish.ensures.fields
+    (λ _ e. e)

@@ -11,6 +11,6 @@ use Rattle.dtype_types.proofs.struct_fields.StructFields.new.Goals as goal
 
 pub returns-clause-valid : goal.returns-clause-valid
 returns-clause-valid c = λ h.
-    let even : length c.args.dtypes.items ≡ length c.in_ok-names.names = omega (arith, c.requires, c.args.dtypes.ok.0, ap length c.in_ok-names.ensures.ok) in
+    let even : length c.args.dtypes.items ≡ length c.in_ok-names.names = omega (arith, c.requires, c.args.dtypes.ok.0, ap length c.in_ok-names.ensures) in
     let types = ap seconds (c.in_ok-shared.ensures.ok ∙ c.new-2.ensures) ∙ seconds-zip c.in_ok-names.names c.args.dtypes.items even in
     fields_of_types c.in_ok-shared.shared.value (recursion_from_All IsValid _ (All-same IsValid _ _ types h))

@@ -13,9 +13,9 @@ loop-name-preserved c =
     let n = c.in-Some.name.now in
     let d = c.in-Some.dtype.now in
     let before = fields_so_far c.loop-name.fields in
-    let pushed = c.in_ok-fields.ensures.ok ∙ ap (λ m. before ++ (m, tree c.in_ok-try_clone-2.field-0) ∷ []) c.in_ok-try_clone.ensures.ok ∙ ap (λ t. before ++ (n, t) ∷ []) c.in_ok-try_clone-2.ensures.same in
+    let pushed = c.in_ok-fields.ensures ∙ ap (λ m. before ++ (m, tree c.in_ok-try_clone-2.field-0) ∷ []) c.in_ok-try_clone.ensures ∙ ap (λ t. before ++ (n, t) ∷ []) c.in_ok-try_clone-2.ensures in
     let next = next_of lent_pair c.loop-name.name-iterator c.next.new.self c.next.result (c.in-Some.name, c.in-Some.dtype) c.in-Some.is c.next.ensures.steps in
     moves_over before _ _ _ (n, tree d) _ c.loop-name.invariant (ap with_trees next) pushed
 
-pub returns-clause-ok : goal.returns-clause-ok
-returns-clause-ok c = all_moved (fields_so_far c.loop-name.fields) _ _ c.loop-name.invariant (ap with_trees (none_of lent_pair c.loop-name.name-iterator c.next.new.self c.next.result c.in-None.is c.next.ensures.steps))
+pub returns : goal.returns
+returns c = all_moved (fields_so_far c.loop-name.fields) _ _ c.loop-name.invariant (ap with_trees (none_of lent_pair c.loop-name.name-iterator c.next.new.self c.next.result c.in-None.is c.next.ensures.steps))

@@ -2,15 +2,15 @@
 -- SPDX-FileCopyrightText: Copyright the Vortex contributors
 
 use Rattle.std.proofs.Common.{ℕ, List, [], ◌∷◌, ◌++◌, ap, ◌∙◌, get_or, arith}
-use Rattle.std.proofs.lemmas.Result.{IfOk-weaker}
+use Rattle.std.proofs.lemmas.Result.{MatchResult-weaker}
 use Rattle.dtype_types.proofs.Parts.{field_read, fields_shown, names_shown}
 use Rattle.dtype_types.specs.Building.{fields_so_far}
 use Rattle.dtype_types.specs.Tree.{Tree}
 use Rattle.dtype_types.specs.TreeOf.{tree, struct_pairs}
 use Rattle.dtype_types.proofs.struct_fields.StructFields.push_copy.Goals as goal
 
-pub returns-clause-ok : goal.returns-clause-ok
-returns-clause-ok c =
+pub returns : goal.returns
+returns c =
     let ps = struct_pairs c.args.self.now in
     let n = c.index-as_slice-index.result in
     let d = c.index-dtypes-index.result in
@@ -19,6 +19,6 @@ returns-clause-ok c =
     let dtype = c.index-dtypes-index.is ∙ ap (λ xs. get_or xs c.args.index d) c.dtypes.ensures in
     let read = field_read ps c.args.index n d (omega (arith, c.requires, fields_shown ps)) name dtype in
     let before = fields_so_far c.args.fields in
-    IfOk-weaker c.push.result _ _
-    (λ b e. (p, read, e ∙ ap (λ m. before ++ (m, tree c.in_ok-dtype.dtype) ∷ []) c.in_ok-name.ensures.ok ∙ ap (λ t. before ++ (n, t) ∷ []) c.in_ok-dtype.ensures.same))
-    c.push.ensures.ok
+    MatchResult-weaker c.push.result c.push.ensures
+    (λ b e. (p, read, e ∙ ap (λ m. before ++ (m, tree c.in_ok-dtype.dtype) ∷ []) c.in_ok-name.ensures ∙ ap (λ t. before ++ (n, t) ∷ []) c.in_ok-dtype.ensures))
+    (λ _ e. e)

@@ -1,13 +1,14 @@
 -- SPDX-License-Identifier: Apache-2.0
 -- SPDX-FileCopyrightText: Copyright the Vortex contributors
 
-use Rattle.std.proofs.Common.{ℕ, List, arith, ap, sym, ◌∙◌, ◌++◌, ◌∷◌, [], refl, length-append}
+use Rattle.std.proofs.Common.{rules, ℕ, List, arith, ap, sym, ◌∙◌, ◌++◌, ◌∷◌, [], refl, length-append}
 use Rattle.std.specs.Iterator.Adapters.{enumerate_source}
-use Rattle.std.specs.Prelude.{remove}
-use Rattle.std.proofs.lemmas.Result.{IfOk-weaker}
+use Rattle.std.specs.Prelude.{remove, IfErr}
+use Rattle.std.proofs.lemmas.Result.{MatchResult-weaker, MatchResult-from_both}
 use Rattle.dtype_types.specs.Lists.{lent_pair}
 use Rattle.dtype_types.specs.Tree.{Tree}
 use Rattle.dtype_types.specs.TreeOf.{tree, children, with_trees}
+use Rattle.dtype_types.specs.Lookups.{RemovalRefusal}
 use Rattle.dtype_types.specs.Building.{fields_so_far}
 use Rattle.dtype_types.proofs.Walks.{next_numbered, none_numbered, moves_over, all_moved}
 use Rattle.dtype_types.proofs.PutTogether.{push_remove, push_removed}
@@ -18,7 +19,8 @@ returns-clause-fields c =
     let inv = c.loop-i.invariant in
     let none = none_numbered lent_pair c.loop-i.i-iterator c.next.new.self c.next.result c.in-None.is c.next.ensures.steps in
     let all = all_moved inv.done _ (children c.args.self.now) inv.left (ap with_trees none) in
-    IfOk-weaker c.finish.result _ _ (λ s e. e ∙ inv.kept ∙ ap (λ xs. remove xs c.args.index) all) c.finish.ensures.fields
+    let refused : IfErr c.finish.result (RemovalRefusal (children c.args.self.now) c.args.index) = search rules in
+    MatchResult-from_both c.finish.result _ _ (MatchResult-weaker c.finish.result c.finish.ensures (λ s e. e ∙ inv.kept ∙ ap (λ xs. remove xs c.args.index) all) (λ _ _. tt)) refused
 
 pub loop-i-preserved-then-i-index : goal.loop-i-preserved-then-i-index
 loop-i-preserved-then-i-index c =
@@ -30,7 +32,7 @@ loop-i-preserved-then-i-index c =
     let done = inv.done in
     let longer = length-append done (p ∷ []) in
     let before = fields_so_far c.loop-i.kept in
-    let pushed = c.in_ok-kept-2.ensures.ok ∙ ap (λ m. before ++ (m, tree c.in_ok-try_clone-2.field-0) ∷ []) c.in_ok-try_clone.ensures.ok ∙ ap (λ t. before ++ (n, t) ∷ []) c.in_ok-try_clone-2.ensures.same in record {
+    let pushed = c.in_ok-kept-2.ensures ∙ ap (λ m. before ++ (m, tree c.in_ok-try_clone-2.field-0) ∷ []) c.in_ok-try_clone.ensures ∙ ap (λ t. before ++ (n, t) ∷ []) c.in_ok-try_clone-2.ensures in record {
       done = done ++ p ∷ [];
       left = moves_over done (with_trees (enumerate_source c.loop-i.i-iterator)) (children c.args.self.now) (with_trees (enumerate_source c.next.new.self)) p (done ++ p ∷ []) inv.left (ap with_trees next.0) refl;
       count = omega (arith, longer, inv.count, next.2);

@@ -3,15 +3,12 @@
 
 use Rattle.dtype_messages.specs.MessageOf.{message}
 use Rattle.vortex_dtype.specs.Session.{meaning}
-use Rattle.vortex_dtype.proofs.InOrderToReads.{gives_accepts, gives_back, gives_back_refused, gives_read, gives_refused}
+use Rattle.vortex_dtype.proofs.InOrderToReads.{gives_accepts, gives_back, gives_told}
 use Rattle.vortex_dtype.proofs.MeaningLaws.{lawful_found}
 use Rattle.vortex_dtype.proofs.proto.DTypeDTypeProto.from_proto.Goals as goal
 
 pub returns-clause-reads : goal.returns-clause-reads
-returns-clause-reads g c = gives_read (meaning (λ b. (g.dyn-1.0.entry b.vtable).1.rewrites b.value) c.args.session.now) (message c.args.proto.now) c.read.result c.read.ensures.gives
-
-pub returns-clause-refused : goal.returns-clause-refused
-returns-clause-refused g c = gives_refused (meaning (λ b. (g.dyn-1.0.entry b.vtable).1.rewrites b.value) c.args.session.now) (message c.args.proto.now) c.read.result c.read.ensures.gives
+returns-clause-reads g c = gives_told (meaning (λ b. (g.dyn-1.0.entry b.vtable).1.rewrites b.value) c.args.session.now) (message c.args.proto.now) c.read.result c.read.ensures.gives
 
 pub returns-clause-accepts : goal.returns-clause-accepts
 unfolding meaning
@@ -22,6 +19,3 @@ returns-clause-accepts g c =
 
 pub returns-clause-back : goal.returns-clause-back
 returns-clause-back g c = gives_back (meaning (λ b. (g.dyn-1.0.entry b.vtable).1.rewrites b.value) c.args.session.now) (message c.args.proto.now) c.read.result c.read.ensures.gives
-
-pub returns-clause-back_refused : goal.returns-clause-back_refused
-returns-clause-back_refused g c = gives_back_refused (meaning (λ b. (g.dyn-1.0.entry b.vtable).1.rewrites b.value) c.args.session.now) (message c.args.proto.now) c.read.result c.read.ensures.gives

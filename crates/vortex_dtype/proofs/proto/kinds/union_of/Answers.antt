@@ -19,7 +19,7 @@ returns-clause-gives c =
     let n = nullability_of c.args.nullable in
     let count : vec_len c.args.dtypes ≡ length c.args.dtypes.items = search rules in
     let tags : read_tags c.args.tags.now ≡ Ok c.in_ok-tags.tags.items = c.in_ok-tags.ensures.gives in
-    let names : c.in_ok-names.names ≡ map string_bytes c.args.names.now = c.in_ok-names.ensures.read in
+    let names : c.in_ok-names.names ≡ map string_bytes c.args.names.now = c.in_ok-names.ensures in
     let from : c.from.result ≡ n = search rules in
     union_read_by _ c.in_ok-names.names (map tree c.args.dtypes.items) _ _ n tags names
     ∙ union_gives c.in_ok-names.names c.args.dtypes.items c.in_ok-tags.tags.items n (vec_len c.args.dtypes) c.in_ok-variants.variants count u.accepted u.variants
@@ -30,7 +30,7 @@ returns-in_err-variants-clause-gives c =
     let n = nullability_of c.args.nullable in
     let count : vec_len c.args.dtypes ≡ length c.args.dtypes.items = search rules in
     let tags : read_tags c.args.tags.now ≡ Ok c.in_ok-tags.tags.items = c.in_ok-tags.ensures.gives in
-    let names : c.in_ok-names.names ≡ map string_bytes c.args.names.now = c.in_ok-names.ensures.read in
+    let names : c.in_ok-names.names ≡ map string_bytes c.args.names.now = c.in_ok-names.ensures in
     let fails = union_fails c.in_ok-names.names c.args.dtypes.items c.in_ok-tags.tags.items n (vec_len c.args.dtypes) c.in_err-variants.field-0.0 count c.in_err-variants.ensures.refused in
     let read_fails = subst (λ (r : Result Tree VortexError). Fails c.in_err-variants.field-0.0 r) (sym (union_read_by _ c.in_ok-names.names (map tree c.args.dtypes.items) _ _ n tags names)) fails in
     search (rules, read_fails)

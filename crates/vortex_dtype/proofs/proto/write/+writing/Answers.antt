@@ -24,7 +24,7 @@ write_struct-loop-name-preserved t c =
     let next = next_of lent_pair c.loop-name.name-iterator c.next.new.self c.next.result (c.in-Some.name, c.in-Some.dtype) c.in-Some.is c.next.ensures.steps in
     let text : string_bytes c.in_ok-to_text.field-0 ≡ c.in-Some.name.now = search rules in
     let name : c.push.new.self.items ≡ c.loop-name.names.items ++ c.in_ok-to_text.field-0 ∷ [] = search rules in
-    let proto : message c.in_ok-write.field-0 ≡ written (tree c.in-Some.dtype.now) = c.in_ok-write.ensures.written in
+    let proto : message c.in_ok-write.field-0 ≡ written (tree c.in-Some.dtype.now) = c.in_ok-write.ensures in
     let dtype : c.push-in-loop-name.new.self.items ≡ c.loop-name.dtypes.items ++ c.in_ok-write.field-0 ∷ [] = search rules in
     record {
       names = moved _ _ _ _ _ _ _ c.loop-name.invariant.names next (pushed string_bytes _ _ _ _ name text);
@@ -32,8 +32,8 @@ write_struct-loop-name-preserved t c =
       within = (fields_below _ _ _ _ next c.loop-name.invariant.within).1;
     }
 
-pub write_struct-returns-clause-written : goal.write_struct-returns-clause-written
-write_struct-returns-clause-written t c =
+pub write_struct-returns : goal.write_struct-returns
+write_struct-returns t c =
     let none = none_of lent_pair c.loop-name.name-iterator c.next.new.self c.next.result c.in-None.is c.next.ensures.steps in
     struct_done (struct_pairs c.args.fields.now) _ _ _ _ _ c.struct_proto.ensures
     (all_moved _ _ _ _ c.loop-name.invariant.names none) (all_moved _ _ _ _ c.loop-name.invariant.dtypes none)
@@ -52,7 +52,7 @@ write_union-loop-name-preserved t c =
     let next = next_of lent_triple c.loop-name.name-iterator c.next.new.self c.next.result (c.in-Some.name, c.in-Some.tag, c.in-Some.dtype) c.in-Some.is c.next.ensures.steps in
     let text : string_bytes c.in_ok-to_text.field-0 ≡ c.in-Some.name.now = search rules in
     let name : c.push.new.self.items ≡ c.loop-name.names.items ++ c.in_ok-to_text.field-0 ∷ [] = search rules in
-    let proto : message c.in_ok-write.field-0 ≡ written (tree c.in-Some.dtype.now) = c.in_ok-write.ensures.written in
+    let proto : message c.in_ok-write.field-0 ≡ written (tree c.in-Some.dtype.now) = c.in_ok-write.ensures in
     let dtype : c.push-in-loop-name.new.self.items ≡ c.loop-name.dtypes.items ++ c.in_ok-write.field-0 ∷ [] = search rules in
     let tag : c.push-in-loop-name-2.new.self.items ≡ c.loop-name.tags.items ++ pos c.in-Some.tag ∷ [] = search rules in
     record {
@@ -62,8 +62,8 @@ write_union-loop-name-preserved t c =
       within = (variants_below _ _ _ _ next c.loop-name.invariant.within).1;
     }
 
-pub write_union-returns-clause-written : goal.write_union-returns-clause-written
-write_union-returns-clause-written t c =
+pub write_union-returns : goal.write_union-returns
+write_union-returns t c =
     let none = none_of lent_triple c.loop-name.name-iterator c.next.new.self c.next.result c.in-None.is c.next.ensures.steps in
     union_done (union_triples c.args.variants.now) _ _ _ _ _ _ c.union_proto.ensures
     (all_moved _ _ _ _ c.loop-name.invariant.names none) (all_moved _ _ _ _ c.loop-name.invariant.dtypes none)

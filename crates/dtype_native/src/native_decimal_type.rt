@@ -1,13 +1,12 @@
 // SPDX-License-Identifier: Apache-2.0
 // SPDX-FileCopyrightText: Copyright the Vortex contributors
 
-ghost use Rattle.std.specs.Prelude.{◌≡◌, ◌^◌, ◌≤◌, ℕ, ℤ, pos, unsigned_abs, List, codes};
+ghost use Rattle.std.specs.Prelude.{◌≡◌, ◌^◌, ◌-◌, ◌≤◌, ℕ, ℤ, neg_ℤ, pos, unsigned_abs, List, codes};
 ghost use Rattle.std.specs.Int.{w8, w16, w32, w64, w128};
 ghost use Rattle.std.proofs.Common.{refl, lit<, lit≤};
 ghost use Rattle.dtype_base.specs.declared.decimal.DecimalType.{DecimalType};
 ghost use Rattle.dtype_base.specs.declared.decimal.DecimalType.TheVariants.{I8, I16, I32, I64, I128};
 ghost use Rattle.dtype_base.specs.Decimals.{greatest_precision, storage};
-ghost use Rattle.dtype_native.specs.Digits.{greatest_of_digits, least_of_digits};
 ghost use Rattle.dtype_native.specs.NumberLaws.{digits_fit};
 
 use dtype_base::DecimalType;
@@ -36,7 +35,7 @@ pub trait NativeDecimalType: PrimInt + Signed {
     /// The greatest number of that many digits, `10^precision - 1`, and 0 of none.
     final fn max_by_precision(precision: u8) -> Self
         requires { precision ≤ MAX_PRECISION }
-        ensures { Self.value result ≡ greatest_of_digits precision }
+        ensures { Self.value result ≡ pos (10 ^ precision - 1) }
     {
         power_of_ten::<Self>(u32::from(precision)) - Self::one()
     }
@@ -44,7 +43,7 @@ pub trait NativeDecimalType: PrimInt + Signed {
     /// The least number of that many digits, `-(10^precision - 1)`, and 0 of none.
     final fn min_by_precision(precision: u8) -> Self
         requires { precision ≤ MAX_PRECISION }
-        ensures { Self.value result ≡ least_of_digits precision }
+        ensures { Self.value result ≡ neg_ℤ (pos (10 ^ precision - 1)) }
     {
         -Self::max_by_precision(precision)
     }

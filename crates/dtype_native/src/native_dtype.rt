@@ -6,9 +6,9 @@ ghost use Rattle.dtype_base.specs.declared.nullability.Nullability.TheVariants.{
 ghost use Rattle.dtype_base.specs.declared.ptype.PType.TheVariants.{U8, U16, U32, U64, I8, I16, I32, I64};
 ghost use Rattle.dtype_base.specs.declared.vortex_error.VortexError.TheVariants.{OutOfMemory};
 ghost use Rattle.dtype_native.specs.NativeTypes.{nullable_form};
-ghost use Rattle.dtype_types.specs.IsValid.{IsValid};
-ghost use Rattle.dtype_types.specs.Tree.{Tree, binary, bool, list, primitive, utf8};
+ghost use Rattle.dtype_types.specs.Valid.{Valid};
 ghost use Rattle.dtype_types.specs.TreeOf.{tree};
+ghost use Rattle.dtype_types.specs.Tree.{Tree, binary, bool, list, primitive, utf8};
 
 use crate::NativePType;
 use dtype_base::{Nullability, VortexResult};
@@ -23,7 +23,7 @@ pub trait NativeDType {
     /// The logical type: non-nullable, but for an `Option`. Refuses 0 (OutOfMemory) alone.
     fn dtype(alloc: Global) -> VortexResult<DType>
         ensures meaning { MatchResult result (λ d. tree d ≡ native_tree) (λ e. e ≡ OutOfMemory) }
-        ensures valid { IfOk result IsValid };
+        ensures valid { IfOk result (λ d. Valid (tree d)) };
 }
 
 impl NativeDType for u8 {
@@ -112,7 +112,7 @@ impl NativeDType for &str {
     fn dtype(_alloc: Global) -> VortexResult<DType>
         ensures meaning { MatchResult result
             (λ d. tree d ≡ utf8 NonNullable) (λ e. e ≡ OutOfMemory) }
-        ensures valid { IfOk result IsValid }
+        ensures valid { IfOk result (λ d. Valid (tree d)) }
     {
         Ok(DType::Utf8(Nullability::NonNullable))
     }
@@ -124,7 +124,7 @@ impl NativeDType for &[u8] {
     fn dtype(_alloc: Global) -> VortexResult<DType>
         ensures meaning { MatchResult result
             (λ d. tree d ≡ binary NonNullable) (λ e. e ≡ OutOfMemory) }
-        ensures valid { IfOk result IsValid }
+        ensures valid { IfOk result (λ d. Valid (tree d)) }
     {
         Ok(DType::Binary(Nullability::NonNullable))
     }

@@ -5,7 +5,7 @@ ghost use Rattle.std.specs.Prelude.{◌≡◌, ◌≢◌, ◌≤◌, [], ◌∷�
 ghost use Rattle.dtype_base.specs.declared.ptype.PType.{PType};
 ghost use Rattle.dtype_base.specs.declared.ptype.PType.TheVariants.{U8, U16, U32, U64, I8, I16, I32, I64, F16};
 ghost use Rattle.dtype_base.specs.Primitives.{IsFloat, IsInteger, IsSigned, IsUnsigned};
-ghost use Rattle.dtype_native.specs.Offsets.{AnswersLeast, list_offset_names, offset_names};
+ghost use Rattle.dtype_native.specs.Offsets.{AnswersLeast};
 
 use dtype_base::PType;
 
@@ -129,7 +129,7 @@ pub fn match_each_native_simd_ptype<V: PTypeVisitor>(ptype: PType, visitor: V) -
 /// What the visitor answers for the narrowest of `u8`, `u16`, `u32` and `u64` that holds the
 /// offset `n`.
 pub fn match_smallest_offset_type<V: PTypeVisitor>(n: usize, visitor: V) -> V::Answer
-    ensures { AnswersLeast (V.answers visitor) offset_names n result }
+    ensures { AnswersLeast (V.answers visitor) (U8 ∷ U16 ∷ U32 ∷ U64 ∷ []) n result }
 {
     if n <= usize::from(u8::MAX) {
         visitor.visit_u8()
@@ -145,7 +145,7 @@ pub fn match_smallest_offset_type<V: PTypeVisitor>(n: usize, visitor: V) -> V::A
 /// What the visitor answers for the narrower of `u32` and `u64` that holds the offset `n`, as the
 /// offsets of lists are kept.
 pub fn match_smallest_list_offset_type<V: PTypeVisitor>(n: usize, visitor: V) -> V::Answer
-    ensures { AnswersLeast (V.answers visitor) list_offset_names n result }
+    ensures { AnswersLeast (V.answers visitor) (U32 ∷ U64 ∷ []) n result }
 {
     if n <= u32::MAX as usize {
         visitor.visit_u32()

@@ -5,11 +5,10 @@
 -- lies below it, so a reader that is given a path needs none of those that it begins. This is the meaning of the
 -- original's `FieldPathSet::into_iter`, which drops each path that another path of the set begins. That these
 -- tests say so in relations is the law `what_covers_and_least_say`.
-use Rattle.std.specs.Prelude.{◌≡◌, ◌⊎◌, ◌↔◌, ℕ, Bool, IsTrue, List, [], length, not, ◌&&◌}
+use Rattle.std.specs.Prelude.{◌≡◌, ◌↔◌, ℕ, Bool, List, length, not, ◌&&◌}
 use Rattle.std.specs.FinSet as set
 use Rattle.std.specs.List.{Contains, list_any, starts_with}
 use Rattle.dtype_types.specs.Distinct.{Distinct}
-use Rattle.dtype_paths.specs.Beginning.{Beginning}
 use Rattle.dtype_paths.specs.Equality.{same_field, same_path}
 use Rattle.dtype_paths.specs.PathOrder.{PathSet}
 use Rattle.dtype_paths.specs.declared.field.Field.{Field}
@@ -29,10 +28,6 @@ least s = set.retain s (λ p. not (list_any (λ q. begins_below q p) (set.items 
 -- the two sets cover the same paths
 abbrev pub CoverAlike : PathSet → PathSet → Type 0
 CoverAlike s t = (q : List Field) → covers s q ≡ covers t q
-
--- q is the root, or begins one of the least paths
-abbrev pub IsBegun : PathSet → List Field → Type 0
-IsBegun s q = (q ≡ []) ⊎ ((p : List Field) × IsTrue (set.contains (least s) p) × Beginning q p)
 
 -- exactly n paths are as P says
 pub record IsCountOf (P : List Field → Type 0) (n : ℕ) : Type 0 where

@@ -1,7 +1,7 @@
 // SPDX-License-Identifier: Apache-2.0
 // SPDX-FileCopyrightText: Copyright the Vortex contributors
 
-ghost use Rattle.std.specs.Prelude.{◌≡◌, ◌+◌, ◌<◌, ◌≤◌, List, length, map, IfOk, IsOkUnless, OnErr, OnOk, MatchResult};
+ghost use Rattle.std.specs.Prelude.{◌≡◌, ◌+◌, ◌<◌, ◌≤◌, ◌⊎◌, [], List, length, map, IfOk, IsOkUnless, IsTrue, OnErr, OnOk, MatchResult};
 ghost use Rattle.std.specs.Borrow.{Bor};
 ghost use Rattle.std.specs.FinSet as set;
 ghost use Rattle.std.specs.Iterator.{ExtendsWithItems, IsFinite};
@@ -11,7 +11,8 @@ ghost use Rattle.std.specs.Vec.Iter.{into_iter_items, into_iter_steps};
 ghost use Rattle.std.specs.declared.alloc.Global.{Global};
 ghost use Rattle.dtype_base.specs.declared.vortex_error.VortexError.TheVariants.{OutOfMemory};
 ghost use Rattle.dtype_types.specs.Distinct.{Distinct};
-ghost use Rattle.dtype_paths.specs.Covering.{CoverAlike, IsBegun, IsCountOf, least};
+ghost use Rattle.dtype_paths.specs.Beginning.{Beginning};
+ghost use Rattle.dtype_paths.specs.Covering.{CoverAlike, IsCountOf, least};
 ghost use Rattle.dtype_paths.specs.PathOrder.{set_of};
 ghost use Rattle.dtype_paths.specs.declared.field.Field.{Field};
 
@@ -144,7 +145,9 @@ impl FieldPathSet {
             (λ r. set_of (into_iter_items r.0) ≡ least self) (λ e. e ≡ OutOfMemory) }
         ensures once { IfOk result (λ r. Distinct (into_iter_items r.0)) }
         ensures runs { OnOk result (YieldsInOrder (into_iter_steps {X = List Field} {Z = Global}) into_iter_items) }
-        ensures visits { IfOk result (λ r. IsCountOf (IsBegun self) r.1) }
+        // the root, and each beginning of a least path
+        ensures visits { IfOk result (λ r. IsCountOf (λ q. (q ≡ [])
+            ⊎ ((p : List Field) × IsTrue (set.contains (least self) p) × Beginning q p)) r.1) }
         ensures some { IfOk result (λ r. 0 < r.1) }
         ensures root_alone { self ≡ set.empty → IfOk result (λ r. r.1 ≡ 1) }
         ensures at_most { IfOk result (λ r. r.1 ≤ 1 + sum_by length (into_iter_items r.0)) }

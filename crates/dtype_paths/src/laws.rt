@@ -14,8 +14,6 @@ ghost use Rattle.dtype_paths.specs.Around.{around};
 ghost use Rattle.dtype_paths.specs.Along.{along};
 ghost use Rattle.dtype_paths.specs.At.{At, ExistsIn};
 ghost use Rattle.dtype_paths.specs.Beginning.{Beginning};
-ghost use Rattle.dtype_paths.specs.Equality.{same_field, same_path};
-ghost use Rattle.dtype_paths.specs.Hashes.{field_writes, path_writes};
 ghost use Rattle.dtype_paths.specs.Overlaps.{Overlaps};
 ghost use Rattle.dtype_paths.specs.Covering.{CoverAlike, covers, least};
 ghost use Rattle.dtype_paths.specs.Found.{Found, FoundIn};
@@ -23,6 +21,7 @@ ghost use Rattle.dtype_paths.specs.Meets.{MeetsNoExtension, MeetsNoSizeZero};
 ghost use Rattle.dtype_paths.specs.declared.field.Field.{Field};
 
 use crate::FieldPath;
+use std::hash::Hash;
 
 /// Along one path followed by another stands what stands along the second in what stands along the first.
 #[tactic(auto, using(crate::specs::lemmas::Stepping::at_joined))]
@@ -81,8 +80,10 @@ pub fn overlap_is_not_transitive()
 
 /// Fields that are equal feed every hasher alike, and so do paths that are equal.
 pub fn equality_agrees_with_hash()
-    ensures fields { (f g : Field) → IsTrue (same_field f g) → field_writes f ≡ field_writes g }
-    ensures paths { (p q : List Field) → IsTrue (same_path p q) → path_writes p ≡ path_writes q }
+    ensures fields { (f g : Field) → IsTrue (⟦<crate::Field as PartialEq>⟧.eq f g)
+        → ⟦<crate::Field as Hash>⟧.hash_input f ≡ ⟦<crate::Field as Hash>⟧.hash_input g }
+    ensures paths { (p q : List Field) → IsTrue (⟦<FieldPath as PartialEq>⟧.eq p q)
+        → ⟦<FieldPath as Hash>⟧.hash_input p ≡ ⟦<FieldPath as Hash>⟧.hash_input q }
 {}
 
 /// Some path of a set begins a path exactly where the set covers it, and the least paths of a set are those
@@ -119,7 +120,7 @@ pub fn a_cover_has_one_beginning_of_each_covered_path()
 /// These paths cover that one exactly where it starts with some of them: for `any` over them.
 pub fn a_path_is_covered_where_it_starts_with_one(paths: &[FieldPath], path: &FieldPath)
     ensures { IsTrue (covers (set_of paths.now) path.now)
-        ↔ Any (λ p. IsTrue (starts_with same_field path.now p)) paths.now }
+        ↔ Any (λ p. IsTrue (starts_with ⟦<crate::Field as PartialEq>⟧.eq path.now p)) paths.now }
 {}
 
 /// The paths of a list are the members of its set.

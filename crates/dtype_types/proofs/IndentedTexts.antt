@@ -9,11 +9,11 @@ use Rattle.dtype_types.specs.lemmas.TreeLaws.{tree_struct}
 use Rattle.dtype_types.specs.IndentedText.{indented, indented_fields, indented_braces, last_line}
 use Rattle.dtype_types.specs.Text.{joined}
 use Rattle.dtype_types.specs.Tree.{Tree, fields}
-use Rattle.dtype_types.specs.TreeOf.{tree, struct_tree}
+use Rattle.dtype_types.specs.TreeOf.{tree, fields_of}
 use Rattle.dtype_types.specs.declared.dtype.DType.{DType, Struct}
 use Rattle.dtype_types.specs.declared.struct_fields.StructFields.{StructFields}
 
-pub indented_struct : (indent : List ℕ) (s : StructFields) (n : Nullability) (d : DType) → d ≡ Struct s n → indented_braces indent (struct_tree s) ++ nullability_text n ≡ indented indent (tree d)
+pub indented_struct : (indent : List ℕ) (s : StructFields) (n : Nullability) (d : DType) → d ≡ Struct s n → indented_braces indent (fields_of s) ++ nullability_text n ≡ indented indent (tree d)
 unfolding indented_braces
 indented_struct indent s n d e = sym (ap (λ x. indented indent (tree x)) e ∙ ap (indented indent) (tree_struct s n))
 

@@ -9,11 +9,10 @@ use Rattle.std.specs.List.{IsDistinct, AllByRecursion, All}
 use Rattle.std.proofs.lemmas.Bool.{false≢true}
 use Rattle.std.proofs.lemmas.List.Elements.{recursion_from_All}
 use Rattle.dtype_types.specs.Distinct.{Distinct}
-use Rattle.dtype_types.specs.IsValid.{IsValid}
+use Rattle.dtype_types.specs.Valid.{Valid, ValidVariants, HasVariant, LacksName, LacksTag}
+use Rattle.dtype_types.specs.TreeOf.{tree, with_tagged_trees}
 use Rattle.dtype_types.specs.Lists.{names_of, types_of, tags_of}
 use Rattle.dtype_types.specs.Tree.{variants}
-use Rattle.dtype_types.specs.TreeOf.{with_tagged_trees}
-use Rattle.dtype_types.specs.Valid.{ValidVariants, HasVariant, LacksName, LacksTag}
 use Rattle.dtype_types.specs.declared.dtype.DType.{DType}
 use Rattle.dtype_types.proofs.DistinctItems.{distinct_tags, distinct_names}
 
@@ -28,7 +27,7 @@ lacks_tag : (g : ℕ) (ps : Triples) → AllByRecursion (λ h. nat_eq g h ≡ fa
 lacks_tag g [] h = tt
 lacks_tag g (p ∷ ps) h = (λ e. false≢true (sym h.0 ∙ (unsigned_Decides g p.1.1).1 (sym e)), lacks_tag g ps h.1)
 
-all_valid : (ps : Triples) → AllByRecursion IsValid (types_of ps) → AllByRecursion (λ g. g < 256) (tags_of ps) → IsDistinct (pointwise nat_eq) (names_of ps) → IsDistinct nat_eq (tags_of ps) → ValidVariants (variants (with_tagged_trees ps))
+all_valid : (ps : Triples) → AllByRecursion (λ d. Valid (tree d)) (types_of ps) → AllByRecursion (λ g. g < 256) (tags_of ps) → IsDistinct (pointwise nat_eq) (names_of ps) → IsDistinct nat_eq (tags_of ps) → ValidVariants (variants (with_tagged_trees ps))
 unfolding IsDistinct
 all_valid [] valid bytes names tags = tt
 all_valid (p ∷ ps) valid bytes names tags = (valid.0, bytes.0, lacks_name p.0 ps names.0, lacks_tag p.1.1 ps tags.0, all_valid ps valid.1 bytes.1 names.1 tags.1)
@@ -39,13 +38,13 @@ has_variant (p ∷ ps) some = tt
 
 -- triples of these names, types and tags
 pub made_valid : (ps : Triples) (ns : List (List ℕ)) (ds : List DType) (gs : List ℕ) → names_of ps ≡ ns → types_of ps ≡ ds → tags_of ps ≡ gs
-    → ns ≢ [] → Distinct gs → Distinct ns → All (λ g. g < 256) gs → All IsValid ds → HasVariant (variants (with_tagged_trees ps)) × ValidVariants (variants (with_tagged_trees ps))
+    → ns ≢ [] → Distinct gs → Distinct ns → All (λ g. g < 256) gs → All (λ d. Valid (tree d)) ds → HasVariant (variants (with_tagged_trees ps)) × ValidVariants (variants (with_tagged_trees ps))
 made_valid ps ns ds gs names types tags some apart_tags apart_names bytes valid =
-    let each : List DType → Type 0 = λ es. AllByRecursion IsValid es in
+    let each : List DType → Type 0 = λ es. AllByRecursion (λ d. Valid (tree d)) es in
     let below : List ℕ → Type 0 = λ hs. AllByRecursion (λ g. g < 256) hs in
     let tags_apart : List ℕ → Type 0 = λ hs. IsDistinct nat_eq hs in
     let names_apart : List (List ℕ) → Type 0 = λ ms. IsDistinct (pointwise nat_eq) ms in (
       has_variant ps (λ e. some (sym names ∙ e)),
-      all_valid ps (subst each (sym types) (recursion_from_All IsValid ds valid)) (subst below (sym tags) (recursion_from_All (λ g. g < 256) gs bytes))
+      all_valid ps (subst each (sym types) (recursion_from_All (λ d. Valid (tree d)) ds valid)) (subst below (sym tags) (recursion_from_All (λ g. g < 256) gs bytes))
           (subst names_apart (sym names) (distinct_names ns apart_names)) (subst tags_apart (sym tags) (distinct_tags gs apart_tags)),
     )

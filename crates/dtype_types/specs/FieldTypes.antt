@@ -9,11 +9,10 @@ use Rattle.std.specs.Cmp.{IsEquivalence, on_equiv}
 use Rattle.dtype_base.specs.declared.nullability.Nullability.{Nullability}
 use Rattle.dtype_types.specs.declared.dtype.DType.{DType}
 use Rattle.dtype_types.specs.declared.field_dtype.FieldDType.{FieldDType}
-use Rattle.dtype_types.specs.declared.struct_fields.StructFields.{StructFields}
 use Rattle.dtype_types.specs.EqualityLaws.{same_dtype, same_dtype_equiv}
-use Rattle.dtype_types.specs.IsValid.{IsValid, IsValidField, IsValidStruct}
+use Rattle.dtype_types.specs.Valid.{Valid}
+use Rattle.dtype_types.specs.TreeOf.{tree}
 use Rattle.dtype_types.specs.Tree.{Tree, Fields, fields, struct}
-use Rattle.dtype_types.specs.TreeOf.{tree, children}
 
 -- the tree of a field's type
 abbrev pub field_tree : FieldDType → Tree
@@ -29,22 +28,14 @@ same_field_dtype_equiv = on_equiv (λ f. f.dtype) same_dtype_equiv
 abbrev pub given_fields : List (List ℕ × FieldDType) → Fields
 given_fields given = fields (map (λ p. (p.0, field_tree p.1)) given)
 
--- the struct's fields are these names and types, in order
-abbrev pub HasFields : StructFields → List (List ℕ × FieldDType) → Type 0
-HasFields s given = children s ≡ map (λ p. (p.0, field_tree p.1)) given
-
 -- each field's type is valid
 abbrev pub AreValidFields : List (List ℕ × FieldDType) → Type 0
-AreValidFields given = All (λ p. IsValidField p.1) given
+AreValidFields given = All (λ p. Valid (field_tree p.1)) given
 
 -- an iterator that is run to its end gives items of which P holds
 abbrev pub MadeFrom : {I A : Type 0} → (I → Type 0) → (I → Option A → I → Type 0) → (List A → Type 0) → Type 0
 MadeFrom {I = I} gives next P = (it : I) × gives it × WholeRun next it (λ run. P run.items)
 
--- the struct is made of these fields: it has them, and is valid where their types are
-abbrev pub IsMadeOf : StructFields → List (List ℕ × FieldDType) → Type 0
-IsMadeOf s given = HasFields s given × (AreValidFields given → IsValidStruct s)
-
 -- the type is the struct of these fields, and is valid where their types are
 abbrev pub IsStructOf : Nullability → DType → List (List ℕ × FieldDType) → Type 0
-IsStructOf n d given = (tree d ≡ struct (given_fields given) n) × (AreValidFields given → IsValid d)
+IsStructOf n d given = (tree d ≡ struct (given_fields given) n) × (AreValidFields given → Valid (tree d))

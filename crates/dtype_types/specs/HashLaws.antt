@@ -10,7 +10,7 @@ use Rattle.dtype_base.specs.declared.nullability.Nullability.TheVariants.{NonNul
 use Rattle.dtype_types.specs.Kinds.{kind_number}
 use Rattle.dtype_types.specs.declared.dtype.kinds.Kind.TheVariants as kind
 use Rattle.dtype_types.specs.Tree.{Tree, Fields, no_fields, field, Variants, no_variants, choice, null, bool, primitive, decimal, utf8, binary, list, fixed_size_list, map_of, struct, union, variant, extension, fields}
-use Rattle.dtype_types.specs.TreeOf.{tree, children, union_tree, map_shown, extension_tree}
+use Rattle.dtype_types.specs.TreeOf.{tree, children, variants_of, map_shown, extension_tree}
 use Rattle.dtype_types.specs.Erase.{erase, erase_fields, erase_variants}
 use Rattle.dtype_types.specs.EqualityLaws.{agree-Decides, same_dtype}
 use Rattle.dtype_types.specs.PartsEquality.{same_fields-Decides, agree_variants-Decides, agree_maps-Decides, same_struct, same_union, same_map, same_extension}
@@ -29,7 +29,7 @@ pub struct_fed : (x y : StructFields) → same_struct x y ≡ true → struct_wr
 struct_fed x y e = ap (λ ps. fed.usize (field_count (fields ps)) ++ field_writes Whole (fields ps)) ((same_fields-Decides (children x) (children y)).0 e)
 
 pub union_fed : (x y : UnionVariants) → same_union x y ≡ true → union_writes Whole x ≡ union_writes Whole y
-union_fed x y e = ap (λ vs. fed.usize (variant_count vs) ++ variant_writes Whole vs) ((agree_variants-Decides (union_tree x) (union_tree y)).0 e)
+union_fed x y e = ap (λ vs. fed.usize (variant_count vs) ++ variant_writes Whole vs) ((agree_variants-Decides (variants_of x) (variants_of y)).0 e)
 
 pub map_fed : (x y : MapDType) → same_map x y ≡ true → map_writes Whole x ≡ map_writes Whole y
 map_fed x y e = ap (λ m. hash_of Whole m.0 ++ (hash_of Whole m.1 ++ fed.bool m.2)) ((agree_maps-Decides (map_shown x) (map_shown y)).0 e)

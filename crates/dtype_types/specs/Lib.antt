@@ -11,7 +11,6 @@ pub mod Kinds
 pub mod Text
 pub mod TextOf
 pub mod TreeOf
-pub mod IsValid
 pub mod Equality
 pub mod EqualityLaws
 pub mod FieldTypes

@@ -7,16 +7,15 @@ use Rattle.std.specs.Bool.{Decides}
 use Rattle.std.proofs.Common.{sym, ap, ◌∙◌, subst}
 use Rattle.std.proofs.Math.Bool.{beq}
 use Rattle.std.specs.Cmp.{IsEquivalence, booleans_Decides, decided, on_equiv}
-use Rattle.dtype_types.specs.declared.dtype.equality.Nullabilities.TheVariants.{Compared, Ignored}
+use Rattle.dtype_types.specs.declared.dtype.equality.Nullabilities.TheVariants.{Compared}
 use Rattle.dtype_types.specs.declared.struct_fields.StructFields.{StructFields}
 use Rattle.dtype_types.specs.declared.union_variants.UnionVariants.{UnionVariants}
 use Rattle.dtype_types.specs.declared.map.MapDType.{MapDType}
 use Rattle.dtype_types.specs.declared.extension.ExtDTypeRef.{ExtDTypeRef}
 use Rattle.dtype_types.specs.Tree.{Tree, Fields, Variants, fields, pairs}
 use Rattle.dtype_types.specs.Equality.{agree, agree_fields, agree_variants}
-use Rattle.dtype_types.specs.EqualityLaws.{agree-Decides, agree_fields-same, agree_fields_refl, agree_fields-erase, agree_variants-same, agree_variants_refl, agree_variants-erase, both, join}
-use Rattle.dtype_types.specs.Erase.{erase_fields, erase_variants}
-use Rattle.dtype_types.specs.TreeOf.{struct_tree, union_tree, map_shown, MapParts, extension_tree}
+use Rattle.dtype_types.specs.EqualityLaws.{agree-Decides, agree_fields-same, agree_fields_refl, agree_variants-same, agree_variants_refl, both, join}
+use Rattle.dtype_types.specs.TreeOf.{fields_of, variants_of, map_shown, MapParts, extension_tree}
 
 -- ---- structs
 
@@ -33,32 +32,22 @@ same_fields-Decides ps qs =
     let d = agree_fields-Decides (fields ps) (fields qs) in
     (λ e. sym (pairs_of ps) ∙ ap pairs (d.0 e) ∙ pairs_of qs, λ e. d.1 (ap fields e))
 
-pub agree_fields_erased-Decides : (a b : Fields) → Decides (agree_fields Ignored a b) (erase_fields a ≡ erase_fields b)
-agree_fields_erased-Decides a b =
-    let d = agree_fields-Decides (erase_fields a) (erase_fields b) in
-    (λ e. d.0 (sym (agree_fields-erase a b) ∙ e), λ e. agree_fields-erase a b ∙ d.1 e)
-
 abbrev pub same_struct : StructFields → StructFields → Bool
-same_struct s t = agree_fields Compared (struct_tree s) (struct_tree t)
+same_struct s t = agree_fields Compared (fields_of s) (fields_of t)
 
 pub same_struct_equiv : IsEquivalence same_struct
-same_struct_equiv = on_equiv struct_tree (decided (agree_fields Compared) agree_fields-Decides)
+same_struct_equiv = on_equiv fields_of (decided (agree_fields Compared) agree_fields-Decides)
 
 -- ---- unions
 
 pub agree_variants-Decides : (a b : Variants) → Decides (agree_variants Compared a b) (a ≡ b)
 agree_variants-Decides a b = (agree_variants-same a b, λ e. subst (λ x. agree_variants Compared a x ≡ true) e (agree_variants_refl Compared a))
 
-pub agree_erased_variants-Decides : (a b : Variants) → Decides (agree_variants Ignored a b) (erase_variants a ≡ erase_variants b)
-agree_erased_variants-Decides a b =
-    let d = agree_variants-Decides (erase_variants a) (erase_variants b) in
-    (λ e. d.0 (sym (agree_variants-erase a b) ∙ e), λ e. agree_variants-erase a b ∙ d.1 e)
-
 abbrev pub same_union : UnionVariants → UnionVariants → Bool
-same_union a b = agree_variants Compared (union_tree a) (union_tree b)
+same_union a b = agree_variants Compared (variants_of a) (variants_of b)
 
 pub same_union_equiv : IsEquivalence same_union
-same_union_equiv = on_equiv union_tree (decided (agree_variants Compared) agree_variants-Decides)
+same_union_equiv = on_equiv variants_of (decided (agree_variants Compared) agree_variants-Decides)
 
 -- ---- maps
 

@@ -5,10 +5,9 @@
 -- a union's variants as triples of a name, a type and a tag. From the declaration of `DType` and its parts.
 use Rattle.std.specs.Prelude.{ℕ, List, [], ◌∷◌, map, Option, Some, None, Bool as Flag}
 use Rattle.std.specs.Borrow.{Bor}
-use Rattle.std.specs.declared.boxed.Box.{Box}
-use Rattle.std.specs.declared.alloc.Global.{Global}
+use Rattle.dtype_base.specs.declared.nullability.Nullability.TheVariants.{NonNullable}
 use Rattle.dtype_types.specs.Lists.{seconds, types_of}
-use Rattle.dtype_types.specs.Lookups.{field_names, field_types, variant_names, variant_types, variant_tags}
+use Rattle.dtype_types.specs.Lookups.{field_types, variant_names, variant_types, variant_tags}
 use Rattle.dtype_types.specs.Tree.{Tree, Fields, fields, Variants, variants, null, bool, primitive, decimal, utf8, binary, list, fixed_size_list, map_of, struct, union, variant, extension}
 use Rattle.dtype_types.specs.declared.dtype.DType.{DType}
 use Rattle.dtype_types.specs.declared.dtype.DType.TheOpen as o
@@ -16,7 +15,6 @@ use Rattle.dtype_types.specs.declared.dtype.DType.TheOpen.{DType-F, ExtDTypeRef-
 use Rattle.dtype_types.specs.declared.dtype.DType.TheFolds.{fold-DType}
 use Rattle.dtype_types.specs.declared.struct_fields.StructFields.{StructFields}
 use Rattle.dtype_types.specs.declared.union_variants.UnionVariants.{UnionVariants}
-use Rattle.dtype_types.specs.declared.map.Entries.{Entries}
 use Rattle.dtype_types.specs.declared.map.MapDType.{MapDType}
 use Rattle.dtype_types.specs.declared.extension.ExtDTypeRef.{ExtDTypeRef}
 
@@ -87,10 +85,7 @@ with_trees ps = map (λ p. (p.0, tree p.1)) ps
 abbrev pub children : StructFields → List (List ℕ × Tree)
 children s = with_trees (struct_pairs s)
 
--- the names and the types of a struct's fields
-abbrev pub struct_names : StructFields → List (List ℕ)
-struct_names s = field_names (children s)
-
+-- the types of a struct's fields
 abbrev pub struct_types : StructFields → List Tree
 struct_types s = field_types (children s)
 
@@ -120,25 +115,6 @@ union_dtypes u = types_of (union_triples u)
 abbrev pub union_tags : UnionVariants → List ℕ
 union_tags u = variant_tags (choices u)
 
--- what a map holds: its key, its value, and whether the keys are sorted
-abbrev pub map_entries : MapDType → Entries DType
-map_entries m = m.shared.value
-
-abbrev pub map_key : MapDType → DType
-map_key m = m.shared.value.key
-
-abbrev pub map_value : MapDType → DType
-map_value m = m.shared.value.value
-
-abbrev pub key_tree : MapDType → Tree
-key_tree m = tree (map_key m)
-
-abbrev pub value_tree : MapDType → Tree
-value_tree m = tree (map_value m)
-
-abbrev pub are_keys_sorted : MapDType → Flag
-are_keys_sorted m = m.shared.value.keys_sorted
-
 -- an extension's id, its metadata and its storage
 abbrev pub extension_id : ExtDTypeRef → List ℕ
 extension_id e = e.parts.value.id
@@ -155,29 +131,31 @@ storage_tree e = tree (extension_storage e)
 abbrev pub extension_tree : ExtDTypeRef → Tree
 extension_tree e = extension (extension_id e) (extension_metadata e) (storage_tree e)
 
--- the tree behind a reference, if there is one
-abbrev pub option_tree : Option (Bor DType) → Option Tree
-option_tree None = None
-option_tree (Some d) = Some (tree d.now)
-
--- what a value behind a reference, or one in hand, shows, if there is one
+-- what a value behind a reference shows, if there is one
 abbrev pub shown : {A B : Type 0} → (A → B) → Option (Bor A) → Option B
 shown f None = None
 shown f (Some r) = Some (f r.now)
 
-abbrev pub option_boxed : Option (Box DType Global) → Option Tree
-option_boxed None = None
-option_boxed (Some b) = Some (tree b.value)
-
-abbrev pub map_shown : MapDType → Tree × Tree × Flag
-map_shown m = (key_tree m, value_tree m, are_keys_sorted m)
+-- a map's key, its value, and whether its keys are sorted
+abbrev pub map_shown : MapDType → MapParts
+map_shown m = (tree m.shared.value.key, tree m.shared.value.value, m.shared.value.keys_sorted)
 
 abbrev pub extension_shown : ExtDTypeRef → List ℕ × List ℕ × Tree
 extension_shown e = (extension_id e, extension_metadata e, storage_tree e)
 
 -- the fields of a struct and the variants of a union, as they stand in a tree
-abbrev pub struct_tree : StructFields → Fields
-struct_tree s = fields (children s)
+abbrev pub fields_of : StructFields → Fields
+fields_of s = fields (children s)
 
-abbrev pub union_tree : UnionVariants → Variants
-union_tree u = variants (choices u)
+abbrev pub variants_of : UnionVariants → Variants
+variants_of u = variants (choices u)
+
+-- the non-nullable type that is made of a struct, of a union, of a map
+abbrev pub struct_tree : StructFields → Tree
+struct_tree s = struct (fields_of s) NonNullable
+
+abbrev pub union_tree : UnionVariants → Tree
+union_tree u = union (variants_of u) NonNullable
+
+abbrev pub map_tree : MapDType → Tree
+map_tree m = map_of (map_shown m).0 (map_shown m).1 (map_shown m).2 NonNullable

@@ -9,10 +9,6 @@ use Rattle.dtype_base.specs.declared.vortex_error.VortexError.{VortexError}
 use Rattle.dtype_base.specs.declared.vortex_error.VortexError.TheVariants.{UnionTypesLength, UnionTagsLength, UnionEmpty, UnionTagsRepeat, UnionNamesRepeat}
 use Rattle.dtype_types.specs.Distinct.{Distinct}
 
--- a variant's tag is a byte, so there are at most as many as there are bytes
-abbrev pub most_variants : ℕ
-most_variants = 256
-
 -- as many types as names, as many tags as names, and at least one
 abbrev pub HasUnionLengths : List (List ℕ) → ℕ → List ℕ → Type 0
 HasUnionLengths names types tags = (length names ≡ types) × (length names ≡ length tags) × (names ≢ [])

@@ -1,8 +1,7 @@
 // SPDX-License-Identifier: Apache-2.0
 // SPDX-FileCopyrightText: Copyright the Vortex contributors
 
-ghost use Rattle.std.specs.Prelude.{◌≡◌, ◌↔◌, ℕ, IsTrue, IfOk, ◌<◌, List, Some, nat_eq, fold, MatchResult};
-ghost use Rattle.std.specs.Prelude.{◌&&◌};
+ghost use Rattle.std.specs.Prelude.{◌≡◌, ◌↔◌, ℕ, IsTrue, IfOk, ◌<◌, List, Some, nat_eq, fold, MatchResult, ◌&&◌};
 ghost use Rattle.std.specs.Str.{bytes_eq};
 ghost use Rattle.std.specs.Rc.{rc_str_bytes};
 ghost use Rattle.dtype_base.specs.declared.vortex_error.VortexError.TheVariants.{OutOfMemory};
@@ -118,14 +117,14 @@ struct Parts<T> {
 
 impl ExtDTypeRef {
     ghost use Rattle.dtype_types.specs.Kinds.{is_nested};
-    ghost use Rattle.dtype_types.specs.Nullable.{nullability, IsNullable, CanBeNonNullable, SetNull};
+    ghost use Rattle.dtype_types.specs.Nullable.{nullability, CanBeNonNullable, SetNull};
     ghost use Rattle.dtype_types.specs.Equality.{agree};
     ghost use Rattle.dtype_types.specs.Erase.{erase};
-    ghost use Rattle.dtype_types.specs.IsValid.{IsValid, IsValidExtension};
+    ghost use Rattle.dtype_types.specs.Valid.{Valid};
+    ghost use Rattle.dtype_types.specs.TreeOf.{tree, extension_tree, extension_metadata, extension_id, storage_tree};
     ghost use Rattle.dtype_types.specs.Tree.{extension};
     ghost use Rattle.dtype_types.specs.Hashes.{part_of};
     ghost use Rattle.dtype_types.specs.HashesOf.{extension_writes};
-    ghost use Rattle.dtype_types.specs.TreeOf.{extension_tree, extension_metadata, extension_id, storage_tree, tree};
     ghost use Rattle.dtype_types.specs.Width.{Measures};
 
     /// The id.
@@ -145,7 +144,7 @@ impl ExtDTypeRef {
         ensures parts { MatchResult result
             (λ e. extension_tree e ≡ extension id metadata.items (tree storage))
             (λ e. e ≡ OutOfMemory) }
-        ensures valid { IsValid storage → IfOk result IsValidExtension }
+        ensures valid { Valid (tree storage) → IfOk result (λ e. Valid (extension_tree e)) }
     {
         slices_hold_bytes(&metadata);
         let parts = Parts {
@@ -212,7 +211,8 @@ impl ExtDTypeRef {
 
     /// Whether values may be null.
     pub fn is_nullable(&self) -> bool
-        ensures { IsTrue result ↔ IsNullable (storage_tree self.now) }
+        ensures { IsTrue result
+            ↔ (nullability (storage_tree self.now) ≡ Nullability.Nullable) }
     {
         self.nullability().is_nullable()
     }

@@ -5,9 +5,9 @@ ghost use Rattle.std.specs.Prelude.{◌≡◌, map, MatchResult};
 ghost use Rattle.dtype_base.specs.declared.nullability.Nullability.TheVariants.{NonNullable};
 ghost use Rattle.dtype_base.specs.declared.vortex_error.VortexError.TheVariants.{OutOfMemory};
 ghost use Rattle.dtype_types.specs.FieldTypes.{field_tree};
-ghost use Rattle.dtype_types.specs.IsValid.{IsValid, IsValidField};
-ghost use Rattle.dtype_types.specs.Tree.{primitive};
+ghost use Rattle.dtype_types.specs.Valid.{Valid};
 ghost use Rattle.dtype_types.specs.TreeOf.{tree};
+ghost use Rattle.dtype_types.specs.Tree.{primitive};
 
 use crate::DType;
 use dtype_base::{PType, VortexResult};
@@ -59,7 +59,7 @@ pub(crate) fn into_dtypes(alloc: Global, fields: Vec<FieldDType>) -> VortexResul
 }
 
 impl From<DType> for FieldDType {
-    ghost from_gives = { λ d f. (field_tree f ≡ tree d) × (IsValid d → IsValidField f) };
+    ghost from_gives = { λ d f. (field_tree f ≡ tree d) × (Valid (tree d) → Valid (field_tree f)) };
 
     fn from(dtype: DType) -> FieldDType {
         FieldDType { dtype }
@@ -68,7 +68,7 @@ impl From<DType> for FieldDType {
 
 /// The non-nullable primitive of that name.
 impl From<PType> for FieldDType {
-    ghost from_gives = { λ ptype f. (field_tree f ≡ primitive ptype NonNullable) × IsValidField f };
+    ghost from_gives = { λ ptype f. (field_tree f ≡ primitive ptype NonNullable) × Valid (field_tree f) };
 
     fn from(ptype: PType) -> FieldDType {
         FieldDType {

@@ -3,7 +3,7 @@
 
 ghost use Rattle.std.specs.Prelude.{◌≡◌, ◌&&◌, fold, Some, ◌⊎◌, OnOk, MatchResult};
 ghost use Rattle.dtype_base.specs.declared.vortex_error.VortexError.TheVariants.{OutOfMemory, MapKeyNullable};
-ghost use Rattle.dtype_base.specs.declared.nullability.Nullability.TheVariants.{NonNullable};
+ghost use Rattle.dtype_base.specs.declared.nullability.Nullability.TheVariants.{NonNullable, Nullable};
 ghost use Rattle.std.proofs.Math.Bool.{beq};
 
 use crate::dtype::equality::{Nullabilities, agree};
@@ -35,8 +35,8 @@ impl MapDType {
     ghost use Rattle.dtype_types.specs.Hashes.{part_of};
     ghost use Rattle.dtype_types.specs.HashesOf.{map_writes};
     ghost use Rattle.dtype_types.specs.Maps.{entries_of};
-    ghost use Rattle.dtype_types.specs.Nullable.{nullability, IsNullable};
-    ghost use Rattle.dtype_types.specs.TreeOf.{tree, map_entries, map_key, map_value, map_shown, key_tree, value_tree, are_keys_sorted};
+    ghost use Rattle.dtype_types.specs.Nullable.{nullability};
+    ghost use Rattle.dtype_types.specs.TreeOf.{tree, map_shown};
 
     /// The type of a map with this key and value; whether its keys are sorted is kept and not checked.
     /// Refuses 9 (MapKeyNullable) where the key's type is nullable, else 0 (OutOfMemory) alone.
@@ -45,7 +45,7 @@ impl MapDType {
             (λ m. map_shown m ≡ (tree key, tree value, keys_sorted))
             (λ e.
             ((e ≡ OutOfMemory) × (nullability (tree key) ≡ NonNullable))
-            ⊎ ((e ≡ MapKeyNullable) × IsNullable (tree key))) }
+            ⊎ ((e ≡ MapKeyNullable) × (nullability (tree key) ≡ Nullable))) }
         ensures accepted { OnOk result (nullability (tree key) ≡ NonNullable) }
     {
         if key.is_nullable() {
@@ -63,21 +63,21 @@ impl MapDType {
 
     /// The type of the keys.
     pub fn key_dtype(&self) -> &DType
-        ensures { result.now ≡ map_key self.now }
+        ensures { tree result.now ≡ (map_shown self.now).0 }
     {
         &self.shared.key
     }
 
     /// The type of the values.
     pub fn value_dtype(&self) -> &DType
-        ensures { result.now ≡ map_value self.now }
+        ensures { tree result.now ≡ (map_shown self.now).1 }
     {
         &self.shared.value
     }
 
     /// Whether the keys are sorted.
     pub fn keys_sorted(&self) -> bool
-        ensures { result ≡ are_keys_sorted self.now }
+        ensures { result ≡ (map_shown self.now).2 }
     {
         self.shared.keys_sorted
     }
@@ -86,7 +86,7 @@ impl MapDType {
     /// alone.
     pub fn entries_dtype(&self, alloc: Global) -> VortexResult<DType>
         ensures { MatchResult result
-            (λ d. tree d ≡ entries_of (key_tree self.now) (value_tree self.now))
+            (λ d. tree d ≡ entries_of (map_shown self.now).0 (map_shown self.now).1)
             (λ e. e ≡ OutOfMemory) }
     {
         let names = FieldNames::from_texts(alloc, &["key", "value"])?;
@@ -99,9 +99,9 @@ impl MapDType {
     // Whether the parts of the two agree.
     #[cycle(agree)]
     pub(crate) fn agree(&self, other: &MapDType, rule: Nullabilities) -> bool
-        ensures { result ≡ (agree rule (key_tree self.now) (key_tree other.now)
-            && agree rule (value_tree self.now) (value_tree other.now)
-            && beq (are_keys_sorted self.now) (are_keys_sorted other.now)) }
+        ensures { result ≡ (agree rule (map_shown self.now).0 (map_shown other.now).0
+            && agree rule (map_shown self.now).1 (map_shown other.now).1
+            && beq (map_shown self.now).2 (map_shown other.now).2) }
     {
         agree(&self.shared.key, &other.shared.key, rule)
             && agree(&self.shared.value, &other.shared.value, rule)
@@ -121,7 +121,7 @@ impl MapDType {
     /// A map type equal to this one, which shares its key and value. Refuses 0 (OutOfMemory) alone.
     pub fn try_clone(&self, _alloc: Global) -> VortexResult<Self>
         ensures { MatchResult result
-            (λ m. map_entries m ≡ map_entries self.now) (λ e. e ≡ OutOfMemory) }
+            (λ m. map_shown m ≡ map_shown self.now) (λ e. e ≡ OutOfMemory) }
     {
         Ok(MapDType {
             shared: self.shared.clone()?,

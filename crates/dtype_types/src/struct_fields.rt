@@ -1,13 +1,13 @@
 // SPDX-License-Identifier: Apache-2.0
 // SPDX-FileCopyrightText: Copyright the Vortex contributors
 
-ghost use Rattle.std.specs.Prelude.{◌≡◌, ◌↔◌, IsTrue, ◌<◌, ◌^◌, ◌++◌, ◌∷◌, ℕ, List, [], slice_index_or, length, map, remove, vec_len, IfOk, IsOk, IsOkUnless, slice_get, Some, fold, OnOk, string_bytes, All, IsSome, MatchResult};
+ghost use Rattle.std.specs.Prelude.{◌≡◌, ◌↔◌, IsTrue, ◌<◌, ◌^◌, ◌++◌, ◌∷◌, ℕ, List, [], slice_index_or, length, map, remove, vec_len, IfOk, IsOk, IsOkUnless, slice_get, Some, fold, OnOk, string_bytes, All, IsSome, MatchBool, MatchResult, nat_lt};
 ghost use Rattle.std.specs.Iterator.{IsFinite};
 ghost use Rattle.std.specs.List.{AllByRecursion, zip};
 ghost use Rattle.std.specs.Option.{option_copied};
 ghost use Rattle.dtype_base.specs.FieldNames.{first_place};
 ghost use Rattle.dtype_base.specs.NameOrder.{comparisons};
-ghost use Rattle.dtype_base.specs.declared.vortex_error.VortexError.TheVariants.{OutOfMemory};
+ghost use Rattle.dtype_base.specs.declared.vortex_error.VortexError.TheVariants.{IndexOutOfBounds, OutOfMemory};
 
 use crate::dtype::equality::{Nullabilities, agree};
 use crate::dtype::hash::{Hashed, feed};
@@ -38,16 +38,16 @@ pub struct StructFields {
 impl StructFields {
     ghost use Rattle.dtype_types.specs.Building.{fields_so_far};
     ghost use Rattle.dtype_types.specs.Equality.{agree_fields};
-    ghost use Rattle.dtype_types.specs.Erase.{erase_fields};
-    ghost use Rattle.dtype_types.specs.FieldTypes.{field_tree, IsMadeOf, MadeFrom};
+    ghost use Rattle.dtype_types.specs.Erase.{erase};
+    ghost use Rattle.dtype_types.specs.FieldTypes.{field_tree, MadeFrom};
     ghost use Rattle.dtype_types.specs.IndentedText.{indented_text, indented_braces};
-    ghost use Rattle.dtype_types.specs.Lookups.{first_named, field_names, field_types, Projects, ProjectionRefusal, MergeRefusal, RemovalRefusal};
+    ghost use Rattle.dtype_types.specs.Lookups.{first_named, field_names, field_types, Projects, ProjectionRefusal, MergeRefusal};
     ghost use Rattle.dtype_types.specs.Distinct.{Distinct};
     ghost use Rattle.dtype_types.specs.Hashes.{part_of};
     ghost use Rattle.dtype_types.specs.HashesOf.{struct_writes};
     ghost use Rattle.dtype_types.specs.Tree.{Tree};
-    ghost use Rattle.dtype_types.specs.TreeOf.{struct_tree, struct_names, struct_dtypes, struct_pairs, children, tree, trees, option_tree};
-    ghost use Rattle.dtype_types.specs.IsValid.{IsValid, IsValidField, IsValidStruct};
+    ghost use Rattle.dtype_types.specs.TreeOf.{fields_of, struct_dtypes, struct_pairs, children, tree, trees, shown, struct_tree};
+    ghost use Rattle.dtype_types.specs.Valid.{Valid};
     ghost use Rattle.dtype_types.specs.Width.{MeasuresFields};
 
     /// No fields. Refuses 0 (OutOfMemory) alone.
@@ -62,7 +62,7 @@ impl StructFields {
         requires { length names ≡ vec_len dtypes }
         ensures fields { MatchResult result
             (λ s. children s ≡ zip names (map tree dtypes.items)) (λ e. e ≡ OutOfMemory) }
-        ensures valid { All IsValid dtypes.items → IfOk result IsValidStruct }
+        ensures valid { All (λ d. Valid (tree d)) dtypes.items → IfOk result (λ s. Valid (struct_tree s)) }
     {
         let names = IndexedNames::new(alloc, names)?;
         let shared = Rc::new(alloc, Named::new(names, dtypes))?;
@@ -78,7 +78,7 @@ impl StructFields {
         requires { length names ≡ vec_len dtypes }
         ensures fields { MatchResult result
             (λ s. children s ≡ zip names (map field_tree dtypes.items)) (λ e. e ≡ OutOfMemory) }
-        ensures valid { All IsValidField dtypes.items → IfOk result IsValidStruct }
+        ensures valid { All (λ d. Valid (field_tree d)) dtypes.items → IfOk result (λ s. Valid (struct_tree s)) }
     {
         let dtypes = into_dtypes(alloc, dtypes)?;
         StructFields::new(alloc, names, dtypes)
@@ -92,7 +92,9 @@ impl StructFields {
         requires { (it : I.IntoIter) → I.into_iter_gives fields it
             → I.IntoIter.can_next it × IsFinite (I.IntoIter.remaining it) }
         ensures { MatchResult result
-            (λ s. MadeFrom (I.into_iter_gives fields) I.IntoIter.next_gives (IsMadeOf s))
+            (λ s. MadeFrom (I.into_iter_gives fields) I.IntoIter.next_gives (λ given.
+            (children s ≡ map (λ p. (p.0, field_tree p.1)) given)
+            × (All (λ p. Valid (field_tree p.1)) given → Valid (struct_tree s))))
             (λ e. e ≡ OutOfMemory) }
     {
         let fields = fields.into_iter();
@@ -106,7 +108,7 @@ impl StructFields {
 
     /// The names, in order.
     pub fn names(&self) -> &FieldNames
-        ensures { result.now ≡ struct_names self.now }
+        ensures { result.now ≡ field_names (children self.now) }
     {
         self.shared.names()
     }
@@ -161,30 +163,30 @@ impl StructFields {
 
     /// The type of the first field of the name, or `None` where no field has it.
     pub fn field(&self, name: &str) -> Option<&DType>
-        ensures { option_tree result ≡ first_named (children self.now) name.now }
+        ensures { shown tree result ≡ first_named (children self.now) name.now }
     {
         self.field_by_index(self.find(name)?)
     }
 
     /// The type of the field at this position, or `None` at or past the end.
     pub fn field_by_index(&self, index: usize) -> Option<&DType>
-        ensures { option_tree result ≡ slice_get (field_types (children self.now)) index }
+        ensures { shown tree result ≡ slice_get (field_types (children self.now)) index }
     {
         self.dtypes().get(index)
     }
 
     /// The types, in order, lent.
     pub fn fields(&self) -> DTypeIter<'_>
-        ensures all { trees result ≡ field_types (children self.now) }
-        ensures fits { length (trees result) < 2 ^ 64 }
+        ensures all { map tree result ≡ field_types (children self.now) }
+        ensures fits { length (map tree result) < 2 ^ 64 }
     {
         DTypeIter::new(self.dtypes())
     }
 
     /// The types, in order, lent: the same as `fields`.
     pub fn field_dtypes(&self) -> DTypeIter<'_>
-        ensures all { trees result ≡ field_types (children self.now) }
-        ensures fits { length (trees result) < 2 ^ 64 }
+        ensures all { map tree result ≡ field_types (children self.now) }
+        ensures fits { length (map tree result) < 2 ^ 64 }
     {
         self.fields()
     }
@@ -192,7 +194,7 @@ impl StructFields {
     /// Whether the fields are equal with every nullability in them ignored.
     pub fn eq_ignore_nullability(&self, other: &Self) -> bool
         ensures { IsTrue result
-            ↔ (erase_fields (struct_tree self.now) ≡ erase_fields (struct_tree other.now)) }
+            ↔ (erase (struct_tree self.now) ≡ erase (struct_tree other.now)) }
     {
         self.agree(other, Nullabilities::Ignored)
     }
@@ -200,7 +202,7 @@ impl StructFields {
     // Whether the fields of the two agree, one by one.
     #[cycle(agree)]
     pub(crate) fn agree(&self, other: &StructFields, rule: Nullabilities) -> bool
-        ensures { result ≡ agree_fields rule (struct_tree self.now) (struct_tree other.now) }
+        ensures { result ≡ agree_fields rule (fields_of self.now) (fields_of other.now) }
     {
         let count = self.nfields();
         if other.nfields() != count {
@@ -255,7 +257,7 @@ impl StructFields {
             (λ n. first_named (children s) n ≡ first_named (children self.now) n) projection.now) }
         ensures there { IsOk result → AllByRecursion
             (λ n. IsSome (first_named (children self.now) n)) projection.now }
-        ensures valid { IsValidStruct self.now → IfOk result IsValidStruct }
+        ensures valid { Valid (struct_tree self.now) → IfOk result (λ s. Valid (struct_tree s)) }
     {
         let mut fields = FieldsBuilder::with_capacity(alloc, projection.len())?;
         for (position, name) in projection.iter().enumerate() {
@@ -275,8 +277,8 @@ impl StructFields {
             (MergeRefusal (field_names (children self.now ++ children other.now))) }
         ensures distinct { IsOk result
             → Distinct (field_names (children self.now ++ children other.now)) }
-        ensures valid { IsValidStruct self.now → IsValidStruct other.now
-            → IfOk result IsValidStruct }
+        ensures valid { Valid (struct_tree self.now) → Valid (struct_tree other.now)
+            → IfOk result (λ s. Valid (struct_tree s)) }
     {
         let count = self.nfields().saturating_add(other.nfields());
         let fields = FieldsBuilder::with_capacity(alloc, count)?;
@@ -305,7 +307,8 @@ impl StructFields {
     pub fn without_field(&self, alloc: Global, index: usize) -> VortexResult<Self>
         ensures fields { MatchResult result
             (λ s. children s ≡ remove (children self.now) index)
-            (RemovalRefusal (children self.now) index) }
+            (λ e. MatchBool (nat_lt index (length (children self.now))) (e ≡ OutOfMemory)
+            (e ≡ IndexOutOfBounds index (length (children self.now)))) }
         ensures within { IsOk result → index < length (children self.now) }
     {
         let fields = self.nfields();
@@ -345,7 +348,7 @@ impl StructFields {
     /// Refuses 0 (OutOfMemory) alone.
     pub fn indented(&self, alloc: Global) -> VortexResult<String>
         ensures { MatchResult result
-            (λ s. string_bytes s ≡ indented_text (struct_tree self.now)) (λ e. e ≡ OutOfMemory) }
+            (λ s. string_bytes s ≡ indented_text (fields_of self.now)) (λ e. e ≡ OutOfMemory) }
     {
         let mut text = String::new(alloc);
         self.write_indented(alloc, &mut text, "")?;
@@ -361,7 +364,7 @@ impl StructFields {
         indent: &str,
     ) -> VortexResult<()>
         ensures ok { OnOk result (string_bytes out.new
-            ≡ string_bytes out.old ++ indented_braces indent.now (struct_tree self.now)) }
+            ≡ string_bytes out.old ++ indented_braces indent.now (fields_of self.now)) }
         ensures refused { IsOkUnless result OutOfMemory }
     {
         let inner = format!(in alloc; "{indent}  ")?;

@@ -6,7 +6,7 @@ ghost use Rattle.std.specs.List.{IsDistinct, range_with_len};
 ghost use Rattle.dtype_base.specs.Bytes.{Bytes};
 ghost use Rattle.dtype_base.specs.FieldNames.{first_place};
 ghost use Rattle.dtype_base.specs.declared.vortex_error.VortexError.TheVariants.{OutOfMemory, UnionTooMany};
-ghost use Rattle.dtype_types.specs.Unions.{AreConsecutive, HasUnionLengths, MakesUnion, UnionRefusal, most_variants};
+ghost use Rattle.dtype_types.specs.Unions.{AreConsecutive, HasUnionLengths, MakesUnion, UnionRefusal};
 
 use crate::dtype::equality::{Nullabilities, agree};
 use crate::dtype::hash::{Hashed, feed};
@@ -74,7 +74,7 @@ fn validate_shape(
 
 // The tags 0, 1, 2 and so on, this many.
 fn first_tags(alloc: Global, count: usize) -> VortexResult<Vec<u8>>
-    requires { count ≤ most_variants }
+    requires { count ≤ 256 }
     ensures { MatchResult result
         (λ tags. tags.items ≡ range_with_len 0 count) (λ e. e ≡ OutOfMemory) }
 {
@@ -84,12 +84,12 @@ fn first_tags(alloc: Global, count: usize) -> VortexResult<Vec<u8>>
 #[tactic(auto, using(crate::proofs::Sides::triples, crate::proofs::Parts::variants, crate::specs::lemmas::Lookups::lookups))]
 impl UnionVariants {
     ghost use Rattle.dtype_types.specs.Equality.{agree_variants};
-    ghost use Rattle.dtype_types.specs.Erase.{erase_variants};
+    ghost use Rattle.dtype_types.specs.Erase.{erase};
     ghost use Rattle.dtype_types.specs.Lookups.{variant_named, variant_types};
     ghost use Rattle.dtype_types.specs.Hashes.{part_of};
     ghost use Rattle.dtype_types.specs.HashesOf.{union_writes};
-    ghost use Rattle.dtype_types.specs.TreeOf.{tree, trees, option_tree, union_tree, choices, union_names, union_dtypes, union_triples, union_tags, zip_tagged};
-    ghost use Rattle.dtype_types.specs.IsValid.{IsValid, IsValidUnion};
+    ghost use Rattle.dtype_types.specs.TreeOf.{tree, trees, variants_of, choices, union_names, union_dtypes, union_triples, union_tags, zip_tagged, shown, union_tree};
+    ghost use Rattle.dtype_types.specs.Valid.{Valid};
 
     /// The union of these names, types and tags. Refuses, the first that applies: 10
     /// (UnionTypesLength) where there are more or fewer types than names, 11 (UnionTagsLength) where
@@ -104,7 +104,7 @@ impl UnionVariants {
     ) -> VortexResult<Self>
         ensures variants { IfOk result
             (λ u. choices u ≡ zip_tagged names (map tree dtypes.items) type_ids.items) }
-        ensures valid { All IsValid dtypes.items → IfOk result IsValidUnion }
+        ensures valid { All (λ d. Valid (tree d)) dtypes.items → IfOk result (λ u. Valid (union_tree u)) }
 
         ensures accepted { OnOk result (MakesUnion names (vec_len dtypes) type_ids.items) }
         ensures refused { IfErr result (λ e.
@@ -121,12 +121,12 @@ impl UnionVariants {
     pub fn new(alloc: Global, names: FieldNames, dtypes: Vec<DType>) -> VortexResult<Self>
         ensures variants { IfOk result (λ u. choices u
             ≡ zip_tagged names (map tree dtypes.items) (range_with_len 0 (length names))) }
-        ensures valid { All IsValid dtypes.items → IfOk result IsValidUnion }
+        ensures valid { All (λ d. Valid (tree d)) dtypes.items → IfOk result (λ u. Valid (union_tree u)) }
 
         ensures accepted { OnOk result
             (MakesUnion names (vec_len dtypes) (range_with_len 0 (length names))) }
-        ensures too_many { (result ≡ Err UnionTooMany) ↔ (most_variants < length names) }
-        ensures refused { length names ≤ most_variants → IfErr result (λ e. (e ≡ OutOfMemory)
+        ensures too_many { (result ≡ Err UnionTooMany) ↔ (256 < length names) }
+        ensures refused { length names ≤ 256 → IfErr result (λ e. (e ≡ OutOfMemory)
             ⊎ UnionRefusal names (vec_len dtypes) (range_with_len 0 (length names)) e) }
     {
         if names.len() > MAX_VARIANTS {
@@ -192,22 +192,22 @@ impl UnionVariants {
 
     /// The type of the variant of the name, or `None` where no variant has it.
     pub fn variant(&self, name: &str) -> Option<&DType>
-        ensures { option_tree result ≡ variant_named (choices self.now) name.now }
+        ensures { shown tree result ≡ variant_named (choices self.now) name.now }
     {
         self.variant_by_index(self.find(name)?)
     }
 
     /// The type of the variant at this position, or `None` at or past the end.
     pub fn variant_by_index(&self, index: usize) -> Option<&DType>
-        ensures { option_tree result ≡ slice_get (variant_types (choices self.now)) index }
+        ensures { shown tree result ≡ slice_get (variant_types (choices self.now)) index }
     {
         self.dtypes().get(index)
     }
 
     /// The types of the variants, in order.
     pub fn variants(&self) -> DTypeIter<'_>
-        ensures all { trees result ≡ variant_types (choices self.now) }
-        ensures fits { length (trees result) < 2 ^ 64 }
+        ensures all { map tree result ≡ variant_types (choices self.now) }
+        ensures fits { length (map tree result) < 2 ^ 64 }
     {
         DTypeIter::new(self.dtypes())
     }
@@ -223,7 +223,7 @@ impl UnionVariants {
     pub fn child_index_to_tag(&self, index: usize) -> u8
         requires { index < length (union_tags self.now) }
         ensures at { slice_get (union_tags self.now) index ≡ Some result }
-        ensures back { IsValidUnion self.now
+        ensures back { Valid (union_tree self.now)
             → position (λ t. t == result) (union_tags self.now) ≡ Some index }
     {
         self.type_ids()[index]
@@ -232,7 +232,7 @@ impl UnionVariants {
     // Whether the variants of the two agree, one by one.
     #[cycle(agree)]
     pub(crate) fn agree(&self, other: &UnionVariants, rule: Nullabilities) -> bool
-        ensures { result ≡ agree_variants rule (union_tree self.now) (union_tree other.now) }
+        ensures { result ≡ agree_variants rule (variants_of self.now) (variants_of other.now) }
     {
         let count = self.len();
         if other.len() != count {
@@ -258,7 +258,7 @@ impl UnionVariants {
     /// Whether the variants are equal with every nullability in them ignored. Names and tags count.
     pub fn eq_ignore_nullability(&self, other: &UnionVariants) -> bool
         ensures { IsTrue result
-            ↔ (erase_variants (union_tree self.now) ≡ erase_variants (union_tree other.now)) }
+            ↔ (erase (union_tree self.now) ≡ erase (union_tree other.now)) }
     {
         self.agree(other, Nullabilities::Ignored)
     }

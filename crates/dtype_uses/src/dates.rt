@@ -5,8 +5,7 @@
 ghost use Rattle.std.specs.Prelude.{◌≡◌, IfOk, Some, [], codes};
 ghost use Rattle.vortex_dtype.specs.Meaning.{keeps};
 ghost use Rattle.vortex_dtype.specs.Session.{meaning};
-ghost use Rattle.vortex_dtype.specs.IsValid.{IsValid, IsValidExtension};
-ghost use Rattle.vortex_dtype.specs.TreeOf.{extension_metadata, tree};
+ghost use Rattle.vortex_dtype.specs.TreeOf.{extension_metadata, extension_tree, tree};
 ghost use Rattle.vortex_dtype.specs.Valid.{Valid};
 
 use vortex_dtype::{DType, DTypeSession, ExtDTypePlugin, ExtDTypeRef, VortexResult};
@@ -15,7 +14,7 @@ use vortex_dtype::{DType, DTypeSession, ExtDTypePlugin, ExtDTypeRef, VortexResul
 pub fn date(session: &DTypeSession, days: DType) -> VortexResult<ExtDTypeRef>
     ensures kept { Valid (tree days) → IfOk result (λ e.
         keeps (meaning (λ b. rewrites (b.vtable, b.value)) session.now) (codes "x.date") [] (tree days) ≡ Some (extension_metadata e)) }
-    ensures valid { IsValid days → IfOk result IsValidExtension }
+    ensures valid { Valid (tree days) → IfOk result (λ e. Valid (extension_tree e)) }
 {
     session.deserialize("x.date", &[], days)
 }

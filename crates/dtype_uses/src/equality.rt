@@ -6,7 +6,7 @@
 
 ghost use Rattle.std.specs.Prelude.{◌≡◌, ◌↔◌, IfOk, IsTrue};
 ghost use Rattle.dtype_types.specs.FieldTypes.{field_tree};
-ghost use Rattle.dtype_types.specs.TreeOf.{children, extension_tree, map_shown, tree, union_tree};
+ghost use Rattle.dtype_types.specs.TreeOf.{children, extension_tree, map_shown, tree, variants_of};
 
 use std::alloc::Global;
 use vortex_dtype::{
@@ -36,7 +36,7 @@ pub fn is_kept_by_copying(alloc: Global, table: &StructFields) -> VortexResult<b
 
 /// Whether two unions have the same variants, in order.
 pub fn has_same_variants(union: &UnionVariants, other: &UnionVariants) -> bool
-    ensures { IsTrue result ↔ (union_tree union.now ≡ union_tree other.now) }
+    ensures { IsTrue result ↔ (variants_of union.now ≡ variants_of other.now) }
 {
     *union == *other
 }

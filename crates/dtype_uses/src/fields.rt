@@ -9,7 +9,7 @@ ghost use Rattle.std.specs.Option.{option_map};
 ghost use Rattle.dtype_types.specs.Distinct.{Distinct};
 ghost use Rattle.dtype_types.specs.Lookups.{field_names, first_named};
 ghost use Rattle.dtype_types.specs.Nullable.{nullability};
-ghost use Rattle.dtype_types.specs.TreeOf.{children, option_tree};
+ghost use Rattle.dtype_types.specs.TreeOf.{children, shown, tree};
 
 use std::alloc::Global;
 use vortex_dtype::{DType, FieldName, FieldNames, Nullability, StructFields, VortexResult};
@@ -24,7 +24,7 @@ pub fn last_name(fields: &StructFields) -> &FieldName
 
 /// The type of the first field of the name, by its position.
 pub fn field_by_find<'a>(fields: &'a StructFields, name: &str) -> Option<&'a DType>
-    ensures { option_tree result ≡ first_named (children fields.now) name.now }
+    ensures { shown tree result ≡ first_named (children fields.now) name.now }
 {
     let index = fields.find(name)?;
     fields.field_by_index(index)

@@ -12,7 +12,7 @@ ghost use Rattle.vortex_dtype.specs.Beginning.{Beginning};
 ghost use Rattle.vortex_dtype.specs.Lookups.{first_named};
 ghost use Rattle.vortex_dtype.specs.Nullable.{nullability};
 ghost use Rattle.vortex_dtype.specs.Tree.{Fields, pairs, struct};
-ghost use Rattle.vortex_dtype.specs.TreeOf.{option_tree, tree};
+ghost use Rattle.vortex_dtype.specs.TreeOf.{shown, tree};
 ghost use Rattle.vortex_dtype.specs.Types.Field.{Field};
 ghost use Rattle.vortex_dtype.specs.Types.Nullability.{Nullability};
 
@@ -40,7 +40,7 @@ pub fn column_by_path<'a>(
     column: &str,
 ) -> VortexResult<Option<&'a DType>>
     ensures { (fs : Fields) (n : Nullability) → tree table.now ≡ struct fs n
-        → IfOk result (λ found. option_tree found ≡ first_named (pairs fs) column.now) }
+        → IfOk result (λ found. shown tree found ≡ first_named (pairs fs) column.now) }
 {
     let path = field_path!(alloc, column)?;
     Ok(path.resolve(table))

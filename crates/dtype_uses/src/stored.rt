@@ -7,10 +7,9 @@
 ghost use Rattle.std.specs.Prelude.{◌≡◌, ◌++◌, [], ◌∷◌, IfOk, IsOkUnless, IsTrue, Some, map};
 ghost use Rattle.vortex_dtype.specs.Types.Nullability.TheVariants.{NonNullable, Nullable};
 ghost use Rattle.vortex_dtype.specs.Types.VortexError.TheVariants.{OutOfMemory};
-ghost use Rattle.vortex_dtype.specs.IsValid.{IsValid, IsValidStruct};
-ghost use Rattle.vortex_dtype.specs.Tree.{fields, primitive, struct};
-ghost use Rattle.vortex_dtype.specs.TreeOf.{children, struct_tree, tree};
 ghost use Rattle.vortex_dtype.specs.Valid.{Valid};
+ghost use Rattle.vortex_dtype.specs.TreeOf.{tree, struct_tree, children, fields_of};
+ghost use Rattle.vortex_dtype.specs.Tree.{fields, primitive, struct};
 ghost use Rattle.vortex_dtype.specs.Meaning.{Admits, AdmitsFields};
 ghost use Rattle.vortex_dtype.specs.PathMessage.{steps_of};
 ghost use Rattle.vortex_dtype.specs.Session.{meaning};
@@ -60,7 +59,7 @@ pub fn with_column(
 ) -> VortexResult<DType>
     ensures made { IfOk result (λ d.
         tree d ≡ struct (fields (children columns.now ++ (name, primitive numbers Nullable) ∷ [])) n) }
-    ensures valid { IsValidStruct columns.now → IfOk result IsValid }
+    ensures valid { Valid (struct_tree columns.now) → IfOk result (λ d. Valid (tree d)) }
 {
     let names = FieldNames::from_vec(vec![in alloc; name]?);
     let dtypes = vec![in alloc; DType::Primitive(numbers, Nullability::Nullable)]?;
@@ -76,8 +75,8 @@ pub fn stored_with_column(
     numbers: PType,
     session: &DTypeSession,
 ) -> VortexResult<DType>
-    ensures { IsValidStruct columns.now
-        → AdmitsFields (meaning (λ b. rewrites (b.vtable, b.value)) session.now) (struct_tree columns.now)
+    ensures { Valid (struct_tree columns.now)
+        → AdmitsFields (meaning (λ b. rewrites (b.vtable, b.value)) session.now) (fields_of columns.now)
         → IfOk result (λ d. tree d
         ≡ struct (fields (children columns.now ++ (name, primitive numbers Nullable) ∷ [])) NonNullable) }
 {

@@ -6,7 +6,7 @@
 
 ghost use Rattle.std.specs.Prelude.{◌≡◌, IfOk, map};
 ghost use Rattle.dtype_types.specs.Lookups.{variant_named};
-ghost use Rattle.dtype_types.specs.TreeOf.{choices, option_tree, tree, union_names, union_tags, union_types};
+ghost use Rattle.dtype_types.specs.TreeOf.{choices, tree, union_names, union_tags, union_types, shown};
 ghost use Rattle.dtype_types.specs.Unions.{AreConsecutive};
 
 use std::alloc::Global;
@@ -37,7 +37,7 @@ pub fn tagged(
 
 /// The type of the variant of the name, by its position.
 pub fn variant_by_find<'a>(variants: &'a UnionVariants, name: &str) -> Option<&'a DType>
-    ensures { option_tree result ≡ variant_named (choices variants.now) name.now }
+    ensures { shown tree result ≡ variant_named (choices variants.now) name.now }
 {
     let index = variants.find(name)?;
     variants.variant_by_index(index)

@@ -5,9 +5,9 @@
 #![tactic(auto, using(dtype_types::specs::lemmas::Validity::validity))]
 
 ghost use Rattle.std.specs.Prelude.{◌≡◌, ◌<◌, All, IfOk, IfSome, IsTrue, Some, length, true, vec_len};
-ghost use Rattle.dtype_types.specs.IsValid.{IsValid, IsValidMap, IsValidStruct, IsValidUnion};
+ghost use Rattle.dtype_types.specs.Valid.{Valid};
+ghost use Rattle.dtype_types.specs.TreeOf.{tree, map_tree, union_tree, struct_tree, union_tags};
 ghost use Rattle.dtype_types.specs.Kinds.{kind};
-ghost use Rattle.dtype_types.specs.TreeOf.{tree, union_tags};
 
 use std::alloc::Global;
 use vortex_dtype::{
@@ -17,7 +17,7 @@ use vortex_dtype::{
 
 /// The type of the only field of a valid struct of one, valid too.
 pub fn only_field(dtype: &DType) -> Option<&DType>
-    ensures { IsValid dtype.now → IfSome result (λ d. IsValid d.now) }
+    ensures { Valid (tree dtype.now) → IfSome result (λ d. Valid (tree d.now)) }
 {
     let fields = dtype.as_struct_fields_opt()?;
     fields.field_by_index(0)
@@ -25,14 +25,14 @@ pub fn only_field(dtype: &DType) -> Option<&DType>
 
 /// The struct type of valid fields is valid.
 pub fn struct_of_valid_fields(fields: StructFields, nullability: Nullability) -> DType
-    ensures { IsValidStruct fields → IsValid result }
+    ensures { Valid (struct_tree fields) → Valid (tree result) }
 {
     DType::Struct(fields, nullability)
 }
 
 /// The name and the type of the first field, valid where the struct is.
 pub fn first_field(fields: &StructFields) -> Option<(&FieldName, &DType)>
-    ensures { IsValidStruct fields.now → IfSome result (λ p. IsValid p.1.now) }
+    ensures { Valid (struct_tree fields.now) → IfSome result (λ p. Valid (tree p.1.now)) }
 {
     fields.pairs().next()
 }
@@ -48,7 +48,7 @@ pub fn as_many_names_as_fields(fields: &StructFields) -> bool
 /// A tag of a valid union leads back to its place.
 pub fn place_and_back(variants: &UnionVariants, place: usize) -> Option<usize>
     requires { place < length (union_tags variants.now) }
-    ensures { IsValidUnion variants.now → result ≡ Some place }
+    ensures { Valid (union_tree variants.now) → result ≡ Some place }
 {
     let tag = variants.child_index_to_tag(place);
     variants.tag_to_child_index(tag)
@@ -66,7 +66,7 @@ pub fn as_many_tags_as_names(variants: &UnionVariants) -> bool
 
 /// Whether a tag of a valid union has a place: it always has.
 pub fn tag_has_place(variants: &UnionVariants, place: usize) -> bool
-    requires valid { IsValidUnion variants.now }
+    requires valid { Valid (union_tree variants.now) }
     requires within { place < length (union_tags variants.now) }
     ensures { IsTrue result }
 {
@@ -76,49 +76,49 @@ pub fn tag_has_place(variants: &UnionVariants, place: usize) -> bool
 
 /// The storage of an extension type, valid where that type is.
 pub fn storage_of(dtype: &DType) -> Option<&DType>
-    ensures { IsValid dtype.now → IfSome result (λ d. IsValid d.now) }
+    ensures { Valid (tree dtype.now) → IfSome result (λ d. Valid (tree d.now)) }
 {
     Some(dtype.as_extension_opt()?.storage_dtype())
 }
 
 /// The element type of a list, valid where the list's type is.
 pub fn element_of(dtype: &DType) -> Option<&DType>
-    ensures { IsValid dtype.now → IfSome result (λ d. IsValid d.now) }
+    ensures { Valid (tree dtype.now) → IfSome result (λ d. Valid (tree d.now)) }
 {
     dtype.as_any_size_list_element_opt()
 }
 
 /// The element type of a list, taken out of the list's.
 pub fn element_taken(dtype: DType) -> Option<Box<DType>>
-    ensures { IsValid dtype → IfSome result (λ b. IsValid b.value) }
+    ensures { Valid (tree dtype) → IfSome result (λ b. Valid (tree b.value)) }
 {
     dtype.into_list_element_opt()
 }
 
 /// The type of a map's keys, valid where the map's is.
 pub fn keys_of(dtype: &DType) -> Option<&DType>
-    ensures { IsValid dtype.now → IfSome result (λ d. IsValid d.now) }
+    ensures { Valid (tree dtype.now) → IfSome result (λ d. Valid (tree d.now)) }
 {
     Some(dtype.as_map_opt()?.key_dtype())
 }
 
 /// What a map holds, taken out of its type.
 pub fn map_taken(dtype: DType) -> Option<MapDType>
-    ensures { IsValid dtype → IfSome result IsValidMap }
+    ensures { Valid (tree dtype) → IfSome result (λ m. Valid (map_tree m)) }
 {
     dtype.into_map_opt()
 }
 
 /// The type of a union's variant, valid where the union's is.
 pub fn variant_of<'a>(dtype: &'a DType, name: &str) -> Option<&'a DType>
-    ensures { IsValid dtype.now → IfSome result (λ d. IsValid d.now) }
+    ensures { Valid (tree dtype.now) → IfSome result (λ d. Valid (tree d.now)) }
 {
     dtype.as_union_variants_opt()?.variant(name)
 }
 
 /// The columns of a table's type, taken out of it.
 pub fn columns_taken(table: DType) -> Option<StructFields>
-    ensures { IsValid table → IfSome result IsValidStruct }
+    ensures { Valid (tree table) → IfSome result (λ s. Valid (struct_tree s)) }
 {
     table.into_struct_fields_opt()
 }
@@ -126,7 +126,7 @@ pub fn columns_taken(table: DType) -> Option<StructFields>
 /// The columns of what is known to be a table.
 pub fn columns_of(table: &DType) -> &StructFields
     requires { kind (tree table.now) ≡ Kind.Struct }
-    ensures { IsValid table.now → IsValidStruct result.now }
+    ensures { Valid (tree table.now) → Valid (struct_tree result.now) }
 {
     table.as_struct_fields()
 }
@@ -134,7 +134,7 @@ pub fn columns_of(table: &DType) -> &StructFields
 /// The struct of these names and types.
 pub fn struct_of(alloc: Global, names: FieldNames, dtypes: Vec<DType>) -> VortexResult<StructFields>
     requires { length names ≡ vec_len dtypes }
-    ensures { All IsValid dtypes.items → IfOk result IsValidStruct }
+    ensures { All (λ d. Valid (tree d)) dtypes.items → IfOk result (λ s. Valid (struct_tree s)) }
 {
     StructFields::new(alloc, names, dtypes)
 }
@@ -145,7 +145,7 @@ pub fn table_of_columns(
     columns: &StructFields,
     names: &[FieldName],
 ) -> VortexResult<DType>
-    ensures { IsValidStruct columns.now → IfOk result IsValid }
+    ensures { Valid (struct_tree columns.now) → IfOk result (λ d. Valid (tree d)) }
 {
     let projected = columns.project(alloc, names)?;
     Ok(DType::Struct(projected, Nullability::NonNullable))
@@ -158,7 +158,8 @@ pub fn joined_without(
     right: &StructFields,
     index: usize,
 ) -> VortexResult<StructFields>
-    ensures { IsValidStruct left.now → IsValidStruct right.now → IfOk result IsValidStruct }
+    ensures { Valid (struct_tree left.now) → Valid (struct_tree right.now)
+        → IfOk result (λ s. Valid (struct_tree s)) }
 {
     let joined = left.disjoint_merge(alloc, right)?;
     joined.without_field(alloc, index)
@@ -170,7 +171,7 @@ pub fn projected(
     columns: &StructFields,
     names: &[FieldName],
 ) -> VortexResult<StructFields>
-    ensures { IsValidStruct columns.now → IfOk result IsValidStruct }
+    ensures { Valid (struct_tree columns.now) → IfOk result (λ s. Valid (struct_tree s)) }
 {
     columns.project(alloc, names)
 }

@@ -61,7 +61,6 @@ pub use Rattle.dtype_paths.specs.Overlaps
 pub use Rattle.dtype_paths.specs.In
 pub use Rattle.dtype_paths.specs.Covering
 pub use Rattle.dtype_paths.specs.PathOrder
-pub use Rattle.dtype_types.specs.IsValid
 pub use Rattle.dtype_types.specs.Distinct
 pub use Rattle.dtype_types.specs.FieldTypes
 pub use Rattle.dtype_paths.specs.lemmas.PathOrders

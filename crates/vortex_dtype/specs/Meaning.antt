@@ -4,7 +4,7 @@
 -- What a plugin and a session mean. From the documentation of `ExtDTypePlugin` and `DTypeSession`: a
 -- plugin says which bytes it writes back for an extension's metadata, a session knows which plugin
 -- stands under an id, and whether an unknown id's metadata is kept.
-use Rattle.std.specs.Prelude.{◌≡◌, ℕ, ◌<◌, List, Option, Some, None, All, Bool, true, false, if◌then◌else◌, bytes_eq}
+use Rattle.std.specs.Prelude.{◌≡◌, ℕ, List, Option, Some, None, Bool, true, false, if◌then◌else◌, bytes_eq}
 pub use Rattle.dtype_base.specs.Bytes.{Bytes}
 use Rattle.dtype_base.specs.declared.nullability.Nullability.{Nullability}
 use Rattle.dtype_base.specs.declared.vortex_error.VortexError.{VortexError}

@@ -3,7 +3,6 @@
 
 -- What a typed extension shows: its vtable, its metadata, and the tree of its storage.
 use Rattle.dtype_types.specs.Tree.{Tree}
-use Rattle.dtype_types.specs.IsValid.{IsValid}
 use Rattle.dtype_types.specs.TreeOf.{tree}
 use Rattle.vortex_dtype.specs.declared.ext_dtype.ExtDType.{ExtDType}
 
@@ -16,11 +15,3 @@ module _ {V M : Type 0} where
 
   abbrev pub storage_of : ExtDType V M → Tree
   storage_of x = tree x.storage
-
-  -- all three
-  abbrev pub typed_shown : ExtDType V M → V × M × Tree
-  typed_shown x = (vtable_of x, metadata_of x, storage_of x)
-
-  -- its storage is valid
-  abbrev pub IsValidTyped : ExtDType V M → Type 0
-  IsValidTyped x = IsValid x.storage

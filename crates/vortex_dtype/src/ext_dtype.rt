@@ -6,11 +6,10 @@ ghost use Rattle.std.specs.Prelude.{◌≡◌, IfOk, IfErr, OnOk, Some, None, tr
 ghost use Rattle.dtype_base.specs.declared.nullability.Nullability.TheVariants.{NonNullable};
 ghost use Rattle.dtype_types.specs.Nullable.{CanBeNonNullable, SetNull};
 ghost use Rattle.dtype_types.specs.TreeOf.{extension_id, extension_metadata, extension_tree, storage_tree, tree};
-ghost use Rattle.dtype_types.specs.IsValid.{IsValidExtension};
-ghost use Rattle.dtype_types.specs.Tree.{extension};
 ghost use Rattle.dtype_types.specs.Valid.{Valid};
+ghost use Rattle.dtype_types.specs.Tree.{extension};
 ghost use Rattle.vortex_dtype.specs.Refusals.{NotOf, RefusedWhere, Unfit};
-ghost use Rattle.vortex_dtype.specs.TypedOf.{IsValidTyped, metadata_of, storage_of, typed_shown, vtable_of};
+ghost use Rattle.vortex_dtype.specs.TypedOf.{metadata_of, storage_of, vtable_of};
 
 use crate::ExtVTable;
 use dtype_base::{Nullability, VortexError, VortexResult};
@@ -33,7 +32,7 @@ impl<V: ExtVTable + Default> ExtDType<V> {
     /// valid a vtable promises nothing.
     pub fn try_new(alloc: Global, metadata: V::Metadata, storage: DType) -> VortexResult<Self>
         ensures vtable { IfOk result (λ x. V.is_default (vtable_of x)) }
-        ensures made { IfOk result (λ x. typed_shown x ≡ (vtable_of x, metadata, tree storage)) }
+        ensures made { IfOk result (λ x. (metadata_of x ≡ metadata) × (storage_of x ≡ tree storage)) }
         ensures fits { Valid (tree storage)
             → IfOk result (λ x. V.fits (vtable_of x) (V.meant metadata) (tree storage) ≡ true) }
         // the vtable that doesn't take them is a default one
@@ -54,7 +53,8 @@ impl<V: ExtVTable> ExtDType<V> {
         metadata: V::Metadata,
         storage: DType,
     ) -> VortexResult<Self>
-        ensures made { IfOk result (λ x. typed_shown x ≡ (vtable, metadata, tree storage)) }
+        ensures made { IfOk result (λ x. (vtable_of x ≡ vtable)
+            × (metadata_of x ≡ metadata) × (storage_of x ≡ tree storage)) }
         ensures fits { Valid (tree storage)
             → OnOk result (V.fits vtable (V.meant metadata) (tree storage) ≡ true) }
         ensures refused { Valid (tree storage) → IfErr result
@@ -112,14 +112,13 @@ impl<V: ExtVTable> ExtDType<V> {
     #[tactic(auto, using(dtype_types::specs::lemmas::Validity::validity))]
     pub fn with_nullability(&self, alloc: Global, n: Nullability) -> VortexResult<ExtDTypeRef>
         requires { n ≡ NonNullable → CanBeNonNullable (storage_of self.now) }
-        ensures id { MatchResult result
-            (λ e. extension_id e ≡ V.id_text (vtable_of self.now))
+        ensures id { IfOk result (λ e. extension_id e ≡ V.id_text (vtable_of self.now)) }
+        ensures metadata { MatchResult result
+            (λ e. V.writes (vtable_of self.now) (V.meant (metadata_of self.now))
+            ≡ Some (extension_metadata e))
             (RefusedWhere (V.writes (vtable_of self.now) (V.meant (metadata_of self.now)) ≡ None)) }
-        ensures metadata { IfOk result (λ e.
-            V.writes (vtable_of self.now) (V.meant (metadata_of self.now))
-            ≡ Some (extension_metadata e)) }
         ensures storage { IfOk result (λ e. SetNull (storage_of self.now) n (storage_tree e)) }
-        ensures valid { IsValidTyped self.now → IfOk result IsValidExtension }
+        ensures valid { Valid (storage_of self.now) → IfOk result (λ e. Valid (extension_tree e)) }
     {
         let bytes = self.vtable.serialize_metadata(alloc, &self.metadata)?;
         let id = ExtId::new(alloc, self.vtable.id())?;
@@ -130,13 +129,12 @@ impl<V: ExtVTable> ExtDType<V> {
     /// The extension without its library: the id, the written metadata and the storage. Refuses 22
     /// (MetadataRefused) exactly where the vtable doesn't write the metadata, and 0 (OutOfMemory).
     pub fn erased(self, alloc: Global) -> VortexResult<ExtDTypeRef>
-        ensures made { MatchResult result
-            (λ e. extension_tree e
-            ≡ extension (V.id_text (vtable_of self)) (extension_metadata e) (storage_of self))
+        ensures made { IfOk result (λ e. extension_tree e
+            ≡ extension (V.id_text (vtable_of self)) (extension_metadata e) (storage_of self)) }
+        ensures metadata { MatchResult result
+            (λ e. V.writes (vtable_of self) (V.meant (metadata_of self)) ≡ Some (extension_metadata e))
             (RefusedWhere (V.writes (vtable_of self) (V.meant (metadata_of self)) ≡ None)) }
-        ensures metadata { IfOk result (λ e.
-            V.writes (vtable_of self) (V.meant (metadata_of self)) ≡ Some (extension_metadata e)) }
-        ensures valid { IsValidTyped self → IfOk result IsValidExtension }
+        ensures valid { Valid (storage_of self) → IfOk result (λ e. Valid (extension_tree e)) }
     {
         let ExtDType {
             vtable,
@@ -158,7 +156,7 @@ impl<V: ExtVTable> ExtDType<V> {
         vtable: V,
     ) -> Result<ExtDType<V>, (ExtDTypeRef, VortexError)>
         ensures made { MatchResult result
-            (λ x. typed_shown x ≡ (vtable, metadata_of x, storage_tree erased))
+            (λ x. (vtable_of x ≡ vtable) × (storage_of x ≡ storage_tree erased))
             (λ p. p.0 ≡ erased) }
         ensures id { OnOk result (extension_id erased ≡ V.id_text vtable) }
         ensures read { IfOk result

@@ -5,7 +5,7 @@
 ghost use Rattle.std.specs.Prelude.{◌≡◌, IfOk, Some, MatchResult};
 ghost use Rattle.dtype_base.specs.declared.vortex_error.VortexError.TheVariants.{OutOfMemory};
 ghost use Rattle.dtype_types.specs.TreeOf.{extension_tree, tree};
-ghost use Rattle.dtype_types.specs.IsValid.{IsValid, IsValidExtension};
+ghost use Rattle.dtype_types.specs.Valid.{Valid};
 ghost use Rattle.dtype_types.specs.Tree.{extension};
 
 use crate::ExtVTable;
@@ -76,7 +76,7 @@ impl ForeignExtDType {
         ensures parts { MatchResult result
             (λ e. extension_tree e ≡ extension id metadata.items (tree storage))
             (λ e. e ≡ OutOfMemory) }
-        ensures valid { IsValid storage → IfOk result IsValidExtension }
+        ensures valid { Valid (tree storage) → IfOk result (λ e. Valid (extension_tree e)) }
     {
         ExtDTypeRef::from_parts(alloc, id, metadata, storage)
     }

@@ -8,16 +8,17 @@ ghost use Rattle.std.specs.Prelude.{◌≡◌, ◌↔◌, ◌++◌, ◌∷◌, �
 ghost use Rattle.std.specs.List.{list_any};
 ghost use Rattle.dtype_base.specs.declared.nullability.Nullability.{Nullability};
 ghost use Rattle.dtype_base.specs.declared.vortex_error.VortexError.{VortexError};
+ghost use Rattle.dtype_base.specs.Bytes.{Bytes};
 ghost use Rattle.dtype_types.specs.Nullable.{SetNull};
 ghost use Rattle.dtype_types.specs.Tree.{Tree};
 ghost use Rattle.dtype_types.specs.Valid.{Valid};
 ghost use Rattle.vortex_dtype.specs.Accepts.{Accepts};
 ghost use Rattle.vortex_dtype.specs.Calls.{Call, LeavesAlone, after, is_allow, register};
 ghost use Rattle.vortex_dtype.specs.IsMessage.{IsMessage};
-ghost use Rattle.vortex_dtype.specs.Meaning.{Admits, Bytes, LawfulSession, Meaning, Rewrites, keeps, nothing};
+ghost use Rattle.vortex_dtype.specs.Meaning.{Admits, LawfulSession, Meaning, Rewrites, keeps, nothing};
 ghost use Rattle.dtype_messages.specs.Message.{Message};
 ghost use Rattle.vortex_dtype.specs.ReadInOrder.{read};
-ghost use Rattle.vortex_dtype.specs.Reads.{Fault, Reads, ReadsAsNone};
+ghost use Rattle.vortex_dtype.specs.Reads.{Fault, Reads};
 ghost use Rattle.vortex_dtype.specs.Written.{Normal, written};
 
 pub use crate::plugin::plugin_laws;
@@ -61,7 +62,7 @@ pub fn admits_set_null()
 pub fn read_is_what_reads()
     ensures given { (s : Meaning) (m : Message) (t : Tree) → (read s m ≡ Ok t) ↔ Reads s m t }
     ensures refused { (s : Meaning) (m : Message) (e : VortexError)
-        → read s m ≡ Err e → Fault s m e × ReadsAsNone s m }
+        → read s m ≡ Err e → Fault s m e × ((t : Tree) → Reads s m t → ⊥) }
 {}
 
 /// Reading and writing are exact, under every session. A message reads as one type at most, and none where a

@@ -7,9 +7,8 @@
 ghost use Rattle.std.specs.Prelude.{◌≡◌, ◌↔◌, IfOk, IfErr, IsOkUnless, IsSome, IsTrue, OnErr, OnOk, Some};
 ghost use Rattle.dtype_base.specs.declared.vortex_error.VortexError.TheVariants.{OutOfMemory};
 ghost use Rattle.dtype_types.specs.TreeOf.{extension_metadata, extension_tree, tree};
-ghost use Rattle.dtype_types.specs.IsValid.{IsValid, IsValidExtension};
-ghost use Rattle.dtype_types.specs.Tree.{extension};
 ghost use Rattle.dtype_types.specs.Valid.{Valid};
+ghost use Rattle.dtype_types.specs.Tree.{extension};
 ghost use Rattle.vortex_dtype.specs.Meaning.{LawfulSession, allowing, keeps, nothing, put};
 ghost use Rattle.vortex_dtype.specs.Refusals.{RefusedBy};
 ghost use Rattle.vortex_dtype.specs.Session.{meaning};
@@ -98,7 +97,7 @@ impl DTypeSession {
         ensures kept { Valid (tree storage) → IfOk result (λ e.
             keeps (meaning rewrites self.now) id.now metadata.now (tree storage)
             ≡ Some (extension_metadata e)) }
-        ensures valid { IsValid storage → IfOk result IsValidExtension }
+        ensures valid { Valid (tree storage) → IfOk result (λ e. Valid (extension_tree e)) }
         ensures refused { Valid (tree storage) → IfErr result
             (RefusedBy (meaning rewrites self.now) id.now metadata.now (tree storage)) }
     {

@@ -7,21 +7,21 @@ use denote.Param.Weighed.{most}
 use Rattle.dtype_types.specs.Equality.{agree_fields, agree_variants}
 use Rattle.dtype_types.specs.Lists.{seconds, types_of}
 use Rattle.dtype_types.specs.Tree.{fields, variants}
-use Rattle.dtype_types.specs.TreeOf.{struct_dtypes, struct_tree, union_dtypes, union_tree, with_trees, with_tagged_trees}
+use Rattle.dtype_types.specs.TreeOf.{struct_dtypes, fields_of, union_dtypes, variants_of, with_trees, with_tagged_trees}
 use Rattle.dtype_types.specs.declared.dtype.DType.{size-DType}
 use Rattle.dtype_types.proofs.+agree.Given as goal
 
 -- what is left of the two agrees as all of them do, is equally long, and is no deeper
 abbrev pub invariant-struct_fields::StructFields::agree-loop-name : goal.invariant-struct_fields::StructFields::agree-loop-name
 invariant-struct_fields::StructFields::agree-loop-name l = record {
-  agrees : agree_fields l.rule (fields (with_trees (zip_first l.name-iterator))) (fields (with_trees (zip_second l.name-iterator))) ≡ agree_fields l.rule (struct_tree l.self) (struct_tree l.other);
+  agrees : agree_fields l.rule (fields (with_trees (zip_first l.name-iterator))) (fields (with_trees (zip_second l.name-iterator))) ≡ agree_fields l.rule (fields_of l.self) (fields_of l.other);
   even : length (zip_first l.name-iterator) ≡ length (zip_second l.name-iterator);
   within : most size-DType (seconds (zip_first l.name-iterator)) ≤ most size-DType (struct_dtypes l.self);
 }
 
 abbrev pub invariant-union_variants::UnionVariants::agree-loop-name : goal.invariant-union_variants::UnionVariants::agree-loop-name
 invariant-union_variants::UnionVariants::agree-loop-name l = record {
-  agrees : agree_variants l.rule (variants (with_tagged_trees (zip_first l.name-iterator))) (variants (with_tagged_trees (zip_second l.name-iterator))) ≡ agree_variants l.rule (union_tree l.self) (union_tree l.other);
+  agrees : agree_variants l.rule (variants (with_tagged_trees (zip_first l.name-iterator))) (variants (with_tagged_trees (zip_second l.name-iterator))) ≡ agree_variants l.rule (variants_of l.self) (variants_of l.other);
   even : length (zip_first l.name-iterator) ≡ length (zip_second l.name-iterator);
   within : most size-DType (types_of (zip_first l.name-iterator)) ≤ most size-DType (union_dtypes l.self);
 }

@@ -6,19 +6,19 @@ use denote.Param.Weighed.{most}
 use Rattle.dtype_types.specs.Hashes.{part_of, field_writes, variant_writes}
 use Rattle.dtype_types.specs.Lists.{seconds, types_of}
 use Rattle.dtype_types.specs.Tree.{fields, variants}
-use Rattle.dtype_types.specs.TreeOf.{struct_dtypes, struct_tree, union_dtypes, union_tree, with_trees, with_tagged_trees}
+use Rattle.dtype_types.specs.TreeOf.{struct_dtypes, fields_of, union_dtypes, variants_of, with_trees, with_tagged_trees}
 use Rattle.dtype_types.specs.declared.dtype.DType.{size-DType}
 use Rattle.dtype_types.proofs.+hash.Given as goal
 
 -- what the fields that are left will write is what all of them do, and they are no deeper
 abbrev pub invariant-struct_fields::StructFields::feed-loop-name : goal.invariant-struct_fields::StructFields::feed-loop-name
 invariant-struct_fields::StructFields::feed-loop-name g l = record {
-  fed : fold g.H.Hasher.write l.initial.state (field_writes (part_of l.rule) (struct_tree l.self)) ≡ fold g.H.Hasher.write l.state (field_writes (part_of l.rule) (fields (with_trees l.name-iterator)));
+  fed : fold g.H.Hasher.write l.initial.state (field_writes (part_of l.rule) (fields_of l.self)) ≡ fold g.H.Hasher.write l.state (field_writes (part_of l.rule) (fields (with_trees l.name-iterator)));
   within : most size-DType (seconds l.name-iterator) ≤ most size-DType (struct_dtypes l.self);
 }
 
 abbrev pub invariant-union_variants::UnionVariants::feed-loop-name : goal.invariant-union_variants::UnionVariants::feed-loop-name
 invariant-union_variants::UnionVariants::feed-loop-name g l = record {
-  fed : fold g.H.Hasher.write l.initial.state (variant_writes (part_of l.rule) (union_tree l.self)) ≡ fold g.H.Hasher.write l.state (variant_writes (part_of l.rule) (variants (with_tagged_trees l.name-iterator)));
+  fed : fold g.H.Hasher.write l.initial.state (variant_writes (part_of l.rule) (variants_of l.self)) ≡ fold g.H.Hasher.write l.state (variant_writes (part_of l.rule) (variants (with_tagged_trees l.name-iterator)));
   within : most size-DType (types_of l.name-iterator) ≤ most size-DType (union_dtypes l.self);
 }

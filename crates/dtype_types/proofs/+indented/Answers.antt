@@ -13,7 +13,7 @@ use Rattle.dtype_types.proofs.Texts.{leading, leading_all, one_written, all_writ
 use Rattle.dtype_types.specs.IndentedText.{indented, indented_braces, indented_fields}
 use Rattle.dtype_types.specs.Text.{joined}
 use Rattle.dtype_types.specs.Tree.{fields}
-use Rattle.dtype_types.specs.TreeOf.{tree, children, struct_dtypes, struct_tree, with_trees}
+use Rattle.dtype_types.specs.TreeOf.{tree, children, struct_dtypes, fields_of, with_trees}
 use Rattle.dtype_types.specs.Lists.{seconds, lent_pair}
 use Rattle.dtype_types.specs.declared.dtype.DType.{size-DType}
 use Rattle.dtype_types.proofs.+indented.Goals as goal
@@ -23,7 +23,7 @@ pub dtype::DType::write_indented-returns-in_ok-write-in-Struct-clause-ok : goal.
 dtype::DType::write_indented-returns-in_ok-write-in-Struct-clause-ok t c =
     let e = indented_struct c.args.indent.now c.in-Struct.fields c.in-Struct.n c.args.self.now c.in-Struct.is in
     let before = string_bytes c.args.out.now in
-    c.in_ok-write-in-Struct.ensures.bytes ∙ ap (λ xs. xs ++ nullability_text c.in-Struct.n) c.in_ok-write_indented-in-Struct.ensures.ok ∙ append_assoc before (indented_braces c.args.indent.now (struct_tree c.in-Struct.fields)) (nullability_text c.in-Struct.n) ∙ ap (λ xs. before ++ xs) e
+    c.in_ok-write-in-Struct.ensures.bytes ∙ ap (λ xs. xs ++ nullability_text c.in-Struct.n) c.in_ok-write_indented-in-Struct.ensures.ok ∙ append_assoc before (indented_braces c.args.indent.now (fields_of c.in-Struct.fields)) (nullability_text c.in-Struct.n) ∙ ap (λ xs. before ++ xs) e
 
 pub struct_fields::StructFields::write_indented-loop-name-preserved : goal.struct_fields::StructFields::write_indented-loop-name-preserved
 struct_fields::StructFields::write_indented-loop-name-preserved t c =
@@ -51,7 +51,7 @@ struct_fields::StructFields::write_indented-returns-clause-ok t c =
     let ps = children s in
     let before = string_bytes c.args.out.now in
     let indent = c.args.indent.now in
-    let parts = indented_fields (indent ++ codes "  ") (struct_tree s) in
+    let parts = indented_fields (indent ++ codes "  ") (fields_of s) in
     let close = indent ++ codes "}" in
     let none = none_of lent_pair c.loop-name.name-iterator c.next.new.self c.next.result c.in-None.is c.next.ensures.steps in
     let so_far = all_written (codes ",\n") c.loop-name.separator.now (string_bytes c.loop-name.out) _ _ c.loop-name.invariant.written (ap (λ qs. indented_fields (indent ++ codes "  ") (fields (with_trees qs))) none)

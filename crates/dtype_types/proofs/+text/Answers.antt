@@ -14,7 +14,7 @@ use Rattle.dtype_types.proofs.Texts.{map_all, struct_all, union_all, extension_a
 use Rattle.dtype_types.specs.Tree.{fields, variants}
 use Rattle.dtype_types.specs.Text.{text, bool_text, field_texts, choice_texts, consecutive, tag_text}
 use Rattle.dtype_types.specs.Lists.{seconds, types_of, lent_pair, lent_triple}
-use Rattle.dtype_types.specs.TreeOf.{choices, struct_dtypes, struct_tree, union_dtypes, union_tree, tree, with_trees, with_tagged_trees}
+use Rattle.dtype_types.specs.TreeOf.{choices, struct_dtypes, fields_of, union_dtypes, variants_of, tree, with_trees, with_tagged_trees}
 use Rattle.dtype_types.specs.declared.dtype.DType.{size-DType}
 use Rattle.dtype_types.specs.TextOf.{map_text, struct_text, union_text, extension_text}
 use Rattle.dtype_types.proofs.+text.Goals as goal
@@ -85,7 +85,7 @@ struct_fields::StructFieldsDisplay::fmt-returns-clause-writes g t c = λ plain o
     let so_far = c.loop-name.invariant.written opened.plain in
     let closed = c.write-2.ensures.writes so_far.1.plain ok in
     let none = none_of lent_pair c.loop-name.name-iterator c.next.new.self c.next.result c.in-None.is c.next.ensures.steps in
-    let all = all_written (codes ", ") c.loop-name.separator.now so_far.0 _ _ so_far.2 (ap (λ ps. field_texts (fields (with_trees ps))) none) ∙ leading_all (codes ", ") (field_texts (struct_tree c.args.self.now)) in
+    let all = all_written (codes ", ") c.loop-name.separator.now so_far.0 _ _ so_far.2 (ap (λ ps. field_texts (fields (with_trees ps))) none) ∙ leading_all (codes ", ") (field_texts (fields_of c.args.self.now)) in
     put_three _ _ c.write.new.self c.loop-name.f _ (codes "{") so_far.0 (codes "}") _ opened so_far.1 closed (ap (λ xs. codes "{" ++ (xs ++ codes "}")) all)
 
 pub union_variants::UnionVariantsDisplay::fmt-loop-name-init : goal.union_variants::UnionVariantsDisplay::fmt-loop-name-init
@@ -93,7 +93,7 @@ union_variants::UnionVariantsDisplay::fmt-loop-name-init g t c = record {
   utf8 = search rules;
   within = search rules;
   written = λ plain.
-      let k = consecutive 0 (union_tree c.args.self.now) in
+      let k = consecutive 0 (variants_of c.args.self.now) in
       let nothing : HasWritten g.W.Write.write_str_gives c.args.f.now [] c.args.f.now = search rules in
       ([], nothing, ap (λ ps. leading [] (codes ", ") (choice_texts k (variants (with_tagged_trees ps)))) (search rules));
 }
@@ -103,7 +103,7 @@ union_variants::UnionVariantsDisplay::fmt-loop-name-preserved g t c = record {
   utf8 = search rules;
   within = no_deeper (most size-DType (union_dtypes c.args.self.now)) (types_of c.loop-name.name-iterator) (types_of c.next.new.self) c.in-Some.dtype.now (ap types_of (next_of lent_triple c.loop-name.name-iterator c.next.new.self c.next.result (c.in-Some.name, c.in-Some.tag, c.in-Some.dtype) c.in-Some.is c.next.ensures.steps)) c.loop-name.invariant.within;
   written = λ plain.
-      let k = consecutive 0 (union_tree c.args.self.now) in
+      let k = consecutive 0 (variants_of c.args.self.now) in
       let n = escaped c.in-Some.name.now in
       let d = text (tree c.in-Some.dtype.now) in
       let tag = c.in-Some.tag in
@@ -123,8 +123,8 @@ union_variants::UnionVariantsDisplay::fmt-loop-name-preserved g t c = record {
 pub union_variants::UnionVariantsDisplay::fmt-returns-clause-writes : goal.union_variants::UnionVariantsDisplay::fmt-returns-clause-writes
 unfolding union_text
 union_variants::UnionVariantsDisplay::fmt-returns-clause-writes g t c = λ plain ok.
-    let k = consecutive 0 (union_tree c.args.self.now) in
+    let k = consecutive 0 (variants_of c.args.self.now) in
     let so_far = c.loop-name.invariant.written plain in
     let none = none_of lent_triple c.loop-name.name-iterator c.next.new.self c.next.result c.in-None.is c.next.ensures.steps in
-    let all = all_written (codes ", ") c.loop-name.separator.now so_far.0 _ _ so_far.2 (ap (λ ps. choice_texts k (variants (with_tagged_trees ps))) none) ∙ leading_all (codes ", ") (choice_texts k (union_tree c.args.self.now)) in
+    let all = all_written (codes ", ") c.loop-name.separator.now so_far.0 _ _ so_far.2 (ap (λ ps. choice_texts k (variants (with_tagged_trees ps))) none) ∙ leading_all (codes ", ") (choice_texts k (variants_of c.args.self.now)) in
     has_written_of_eq _ _ _ _ _ all so_far.1

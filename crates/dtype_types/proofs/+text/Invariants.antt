@@ -9,7 +9,7 @@ use denote.Param.Weighed.{most}
 use Rattle.dtype_types.proofs.Texts.{leading}
 use Rattle.dtype_types.specs.Text.{field_texts, choice_texts, consecutive}
 use Rattle.dtype_types.specs.Tree.{fields, variants}
-use Rattle.dtype_types.specs.TreeOf.{struct_dtypes, struct_tree, union_dtypes, union_tree, with_trees, with_tagged_trees}
+use Rattle.dtype_types.specs.TreeOf.{struct_dtypes, fields_of, union_dtypes, variants_of, with_trees, with_tagged_trees}
 use Rattle.dtype_types.specs.Lists.{seconds, types_of}
 use Rattle.dtype_types.specs.declared.dtype.DType.{size-DType}
 use Rattle.dtype_types.proofs.+text.Given as goal
@@ -20,7 +20,7 @@ invariant-struct_fields::StructFieldsDisplay::fmt-loop-name g l = record {
   utf8 : shadow (Utf8 l.separator);
   within : most size-DType (seconds l.name-iterator) ≤ most size-DType (struct_dtypes l.self);
   written : IsPlainFormatter l.initial.f → (done : List ℕ) × HasWritten g.W.Write.write_str_gives l.initial.f done l.f
-      × (done ++ leading l.separator (codes ", ") (field_texts (fields (with_trees l.name-iterator))) ≡ leading [] (codes ", ") (field_texts (struct_tree l.self)));
+      × (done ++ leading l.separator (codes ", ") (field_texts (fields (with_trees l.name-iterator))) ≡ leading [] (codes ", ") (field_texts (fields_of l.self)));
 }
 
 abbrev pub invariant-union_variants::UnionVariantsDisplay::fmt-loop-name : goal.invariant-union_variants::UnionVariantsDisplay::fmt-loop-name
@@ -28,5 +28,5 @@ invariant-union_variants::UnionVariantsDisplay::fmt-loop-name g l = record {
   utf8 : shadow (Utf8 l.separator);
   within : most size-DType (types_of l.name-iterator) ≤ most size-DType (union_dtypes l.self);
   written : IsPlainFormatter l.initial.f → (done : List ℕ) × HasWritten g.W.Write.write_str_gives l.initial.f done l.f
-      × (done ++ leading l.separator (codes ", ") (choice_texts (consecutive 0 (union_tree l.self)) (variants (with_tagged_trees l.name-iterator))) ≡ leading [] (codes ", ") (choice_texts (consecutive 0 (union_tree l.self)) (union_tree l.self)));
+      × (done ++ leading l.separator (codes ", ") (choice_texts (consecutive 0 (variants_of l.self)) (variants (with_tagged_trees l.name-iterator))) ≡ leading [] (codes ", ") (choice_texts (consecutive 0 (variants_of l.self)) (variants_of l.self)));
 }

@@ -9,7 +9,7 @@ use Rattle.std.specs.Bool.{Decides}
 use Rattle.dtype_types.specs.EqualityLaws.{agree-Decides}
 use Rattle.dtype_types.specs.FieldTypes.{field_tree, same_field_dtype}
 use Rattle.dtype_types.specs.PartsEquality.{agree_maps-Decides, agree_variants-Decides, same_extension, same_fields-Decides, same_map, same_struct, same_union}
-use Rattle.dtype_types.specs.TreeOf.{children, extension_tree, map_shown, union_tree}
+use Rattle.dtype_types.specs.TreeOf.{children, extension_tree, map_shown, variants_of}
 use Rattle.dtype_types.specs.declared.extension.ExtDTypeRef.{ExtDTypeRef}
 use Rattle.dtype_types.specs.declared.field_dtype.FieldDType.{FieldDType}
 use Rattle.dtype_types.specs.declared.map.MapDType.{MapDType}
@@ -19,8 +19,8 @@ use Rattle.dtype_types.specs.declared.union_variants.UnionVariants.{UnionVariant
 pub structs_Decides : (a b : StructFields) → Decides (same_struct a b) (children a ≡ children b)
 structs_Decides a b = same_fields-Decides (children a) (children b)
 
-pub unions_Decides : (a b : UnionVariants) → Decides (same_union a b) (union_tree a ≡ union_tree b)
-unions_Decides a b = agree_variants-Decides (union_tree a) (union_tree b)
+pub unions_Decides : (a b : UnionVariants) → Decides (same_union a b) (variants_of a ≡ variants_of b)
+unions_Decides a b = agree_variants-Decides (variants_of a) (variants_of b)
 
 pub maps_Decides : (a b : MapDType) → Decides (same_map a b) (map_shown a ≡ map_shown b)
 maps_Decides a b = agree_maps-Decides (map_shown a) (map_shown b)

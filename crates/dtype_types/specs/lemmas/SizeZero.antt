@@ -4,7 +4,7 @@
 -- Through a fixed size 0 all values of one type may be values of another that it isn't below.
 use Rattle.std.proofs.Common.{◌≡◌, refl, lit<}
 use Rattle.dtype_base.specs.declared.nullability.Nullability.TheVariants.{NonNullable, Nullable}
-use Rattle.dtype_types.specs.Laws.{SameIgnoring}
+use Rattle.dtype_types.specs.Erase.{erase}
 use Rattle.dtype_types.specs.Sub.{Sub}
 use Rattle.dtype_types.specs.Tree.{Tree, bool, fixed_size_list}
 use Rattle.dtype_types.specs.Valid.{Valid}
@@ -28,5 +28,5 @@ all_shared _ o = o
 not_below : Sub wide narrow → ⊥
 not_below h = let never = h.nullable.1 refl in cc
 
-pub size_zero_hides_nullability : (a : Tree) × (b : Tree) × Valid a × Valid b × SameIgnoring a b × IncludedIn a b × ¬ (Sub a b)
+pub size_zero_hides_nullability : (a : Tree) × (b : Tree) × Valid a × Valid b × (erase a ≡ erase b) × IncludedIn a b × ¬ (Sub a b)
 size_zero_hides_nullability = (wide, narrow, (lit< tt, tt), (lit< tt, tt), refl, all_shared, not_below)

@@ -4,21 +4,18 @@
 -- The tags of a valid union: none stands at two positions.
 use Rattle.std.proofs.Common.{◌≡◌, ℕ, zero, suc, ◌<◌, ◌==◌, Bool, List, length, get_or, slice_get, Option, Some, None, IfSome, cond, refl, ap, sym, subst, ◌∙◌, arith}
 use Rattle.std.specs.List.{position, range_with_len}
-use Rattle.std.proofs.lemmas.List.{get_or_default}
-use Rattle.std.proofs.lemmas.Bool.{lt-ltb}
-use Rattle.std.proofs.lemmas.List.{length-map}
+use Rattle.std.proofs.lemmas.List.{get_or_default, length-map}
+use Rattle.std.proofs.lemmas.Bool.{lt-ltb, false_from_ne_true}
 use Rattle.std.proofs.lemmas.List.FromFn.{length-range_with_len}
 use Rattle.std.proofs.lemmas.List.Quantifiers.{position-Some}
 use Rattle.std.proofs.lemmas.List.Sums.{position_or_len_is}
 use Rattle.std.proofs.lemmas.Option.{slice_get_within, slice_get_read, get_or_from_slice_get}
 use Rattle.dtype_types.specs.Tree.{Variants, no_variants, choice, triples}
 use Rattle.dtype_types.specs.Unions.{AreConsecutive}
-use Rattle.dtype_types.specs.Valid.{LacksTag, ValidVariants}
+use Rattle.dtype_types.specs.Valid.{LacksTag, ValidVariants, Valid}
 use Rattle.dtype_types.specs.Lookups.{variant_tags}
-use Rattle.dtype_types.specs.IsValid.{IsValidUnion}
-use Rattle.dtype_types.specs.TreeOf.{choices, union_tags, union_tree}
+use Rattle.dtype_types.specs.TreeOf.{union_tree, choices, union_tags, variants_of}
 use Rattle.dtype_types.specs.lemmas.TreeLaws.{triples_variants}
-use Rattle.std.proofs.lemmas.Bool.{false_from_ne_true}
 use Rattle.std.proofs.lemmas.Bool.Decides.{Decides-eqb}
 use Rattle.dtype_types.specs.declared.union_variants.UnionVariants.{UnionVariants}
 
@@ -42,13 +39,13 @@ tag_position vs i tag v here =
     (λ _. (Decides-eqb _ _).1 is) in
     rw first (ap (λ b. cond b (Some i) None) (lt-ltb i (length (variant_tags (triples vs))) within))
 
-all_tags : (u : UnionVariants) → variant_tags (triples (union_tree u)) ≡ union_tags u
+all_tags : (u : UnionVariants) → variant_tags (triples (variants_of u)) ≡ union_tags u
 all_tags u = ap variant_tags (triples_variants (choices u))
 
-pub position_of_tag : (u : UnionVariants) → IsValidUnion u → (i tag : ℕ) → slice_get (union_tags u) i ≡ Some tag → position (λ g. g == tag) (union_tags u) ≡ Some i
+pub position_of_tag : (u : UnionVariants) → Valid (union_tree u) → (i tag : ℕ) → slice_get (union_tags u) i ≡ Some tag → position (λ g. g == tag) (union_tags u) ≡ Some i
 position_of_tag u h i tag here =
     subst (λ gs. position (λ g. g == tag) gs ≡ Some i) (all_tags u)
-    (tag_position (union_tree u) i tag h.1 (subst (λ gs. slice_get gs i ≡ Some tag) (sym (all_tags u)) here))
+    (tag_position (variants_of u) i tag h.1 (subst (λ gs. slice_get gs i ≡ Some tag) (sym (all_tags u)) here))
 
 pub position_within : (u : UnionVariants) (f : ℕ → Bool) (r : Option ℕ) → r ≡ position f (union_tags u) → IfSome r (λ i. i < length (choices u))
 position_within u f None e = tt

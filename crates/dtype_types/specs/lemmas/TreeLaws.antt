@@ -6,15 +6,12 @@ use Rattle.std.specs.Prelude.{◌≡◌, ℕ, List, [], ◌∷◌, refl}
 use Rattle.std.proofs.Common.{ap, sym, ◌∙◌, rules}
 use Rattle.dtype_base.specs.declared.nullability.Nullability.{Nullability}
 use Rattle.dtype_types.specs.Tree.{null, map_of, Tree, Fields, Variants, triples, fields, variants, struct, union}
-use Rattle.dtype_types.specs.TreeOf.{tree, extension_tree, key_tree, value_tree, are_keys_sorted, children, choices, MapParts, ExtensionParts, type_step, extension_step, map_step, struct_step, union_step}
-use Rattle.dtype_types.specs.declared.dtype.DType.{DType, Map, Null, Struct, Struct', Union, Union', Extension, roll-out-DType, roll-DType, out-DType, map-DType}
+use Rattle.dtype_types.specs.TreeOf.{tree, extension_tree, children, choices, MapParts, ExtensionParts, type_step, extension_step, map_step, struct_step, union_step, map_shown}
+use Rattle.dtype_types.specs.declared.dtype.DType.{DType, Map, Null, Struct, Struct', Union, Union', Extension, roll-out-DType, roll-DType, out-DType, map-DType, fold_out-DType, fold-roll-DType, the_lemmas}
 use Rattle.dtype_types.specs.declared.dtype.DType.TheFolds.{fold-ExtDTypeRef, fold-MapDType, fold-StructFields, fold-UnionVariants}
 use Rattle.dtype_types.specs.declared.dtype.DType.TheViews.{rolls-Struct, outs-Struct', rolls-Union, outs-Union'}
-use Rattle.dtype_types.specs.declared.dtype.DType.{fold_out-DType, fold-roll-DType, the_lemmas}
-use Rattle.dtype_types.specs.declared.struct_fields.StructFields.{fold_out-StructFields}
-use Rattle.dtype_types.specs.declared.union_variants.UnionVariants.{fold_out-UnionVariants}
-use Rattle.dtype_types.specs.declared.struct_fields.StructFields.{StructFields}
-use Rattle.dtype_types.specs.declared.union_variants.UnionVariants.{UnionVariants}
+use Rattle.dtype_types.specs.declared.struct_fields.StructFields.{fold_out-StructFields, StructFields}
+use Rattle.dtype_types.specs.declared.union_variants.UnionVariants.{fold_out-UnionVariants, UnionVariants}
 use Rattle.dtype_types.specs.declared.extension.ExtDTypeRef.{ExtDTypeRef, fold_out-ExtDTypeRef}
 use Rattle.dtype_types.specs.declared.map.MapDType.{MapDType, fold_out-MapDType}
 
@@ -38,7 +35,7 @@ tree_out d = fold_out-DType Tree ExtensionParts MapParts Fields Variants type_st
 pub tree_null : tree Null ≡ null
 tree_null = search (rules, the_lemmas, fold_out-DType, fold-roll-DType)
 
-pub tree_map : (m : MapDType) (n : Nullability) → tree (Map m n) ≡ map_of (key_tree m) (value_tree m) (are_keys_sorted m) n
+pub tree_map : (m : MapDType) (n : Nullability) → tree (Map m n) ≡ map_of (map_shown m).0 (map_shown m).1 (map_shown m).2 n
 tree_map m n = search (rules, the_lemmas, fold_out-DType, fold-roll-DType, fold_out-MapDType)
 
 pub tree_struct : (s : StructFields) (n : Nullability) → tree (Struct s n) ≡ struct (fields (children s)) n

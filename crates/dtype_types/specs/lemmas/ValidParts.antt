@@ -10,12 +10,11 @@ use Rattle.std.specs.declared.alloc.Global.{Global}
 use Rattle.std.specs.declared.boxed.Box.{Box}
 use Rattle.std.proofs.lemmas.Option.{same_Some}
 use Rattle.dtype_base.specs.declared.nullability.Nullability.TheVariants.{NonNullable}
-use Rattle.dtype_types.specs.IsValid.{IsValid, IsValidStruct, IsValidUnion, IsValidMap, IsValidExtension}
+use Rattle.dtype_types.specs.Valid.{Valid, HasVariant, ValidFields, ValidVariants}
+use Rattle.dtype_types.specs.TreeOf.{tree, extension_tree, map_tree, union_tree, struct_tree, shown, children, choices, map_shown, extension_shown}
 use Rattle.dtype_types.specs.Kinds.{list_element, fixed_size_list_element, any_size_list_element, map_parts, struct_fields, union_variants, extension_parts}
 use Rattle.dtype_types.specs.Nullable.{nullability}
 use Rattle.dtype_types.specs.Tree.{Tree, Fields, Variants, no_fields, field, no_variants, choice, fields, pairs, variants, triples, list, fixed_size_list, map_of, struct, union, extension}
-use Rattle.dtype_types.specs.TreeOf.{tree, option_tree, option_boxed, shown, children, choices, map_shown, extension_shown, extension_tree}
-use Rattle.dtype_types.specs.Valid.{HasVariant, Valid, ValidFields, ValidVariants}
 use Rattle.dtype_types.specs.declared.dtype.DType.{DType}
 use Rattle.dtype_types.specs.declared.struct_fields.StructFields.{StructFields}
 use Rattle.dtype_types.specs.declared.union_variants.UnionVariants.{UnionVariants}
@@ -37,41 +36,41 @@ any_size_element_valid (list e n) u is h = subst Valid (same_Some e u is) h
 any_size_element_valid (fixed_size_list e k n) u is h = subst Valid (same_Some e u is) h.1
 any_size_element_valid _ u is h = cc
 
-pub lent_list_element : (t : Tree) (r : Option (Bor DType)) → option_tree r ≡ list_element t → Valid t → IfSome r (λ d. IsValid d.now)
+pub lent_list_element : (t : Tree) (r : Option (Bor DType)) → shown tree r ≡ list_element t → Valid t → IfSome r (λ d. Valid (tree d.now))
 lent_list_element t None is h = tt
 lent_list_element t (Some d) is h = list_element_valid t (tree d.now) (sym is) h
 
-pub lent_fixed_size_element : (t : Tree) (r : Option (Bor DType)) → option_tree r ≡ fixed_size_list_element t → Valid t → IfSome r (λ d. IsValid d.now)
+pub lent_fixed_size_element : (t : Tree) (r : Option (Bor DType)) → shown tree r ≡ fixed_size_list_element t → Valid t → IfSome r (λ d. Valid (tree d.now))
 lent_fixed_size_element t None is h = tt
 lent_fixed_size_element t (Some d) is h = fixed_size_element_valid t (tree d.now) (sym is) h
 
-pub lent_any_size_element : (t : Tree) (r : Option (Bor DType)) → option_tree r ≡ any_size_list_element t → Valid t → IfSome r (λ d. IsValid d.now)
+pub lent_any_size_element : (t : Tree) (r : Option (Bor DType)) → shown tree r ≡ any_size_list_element t → Valid t → IfSome r (λ d. Valid (tree d.now))
 lent_any_size_element t None is h = tt
 lent_any_size_element t (Some d) is h = any_size_element_valid t (tree d.now) (sym is) h
 
-pub given_list_element : (t : Tree) (r : Option (Box DType Global)) → option_boxed r ≡ list_element t → Valid t → IfSome r (λ b. IsValid b.value)
+pub given_list_element : (t : Tree) (r : Option (Box DType Global)) → option_map (λ b. tree b.value) r ≡ list_element t → Valid t → IfSome r (λ b. Valid (tree b.value))
 given_list_element t None is h = tt
 given_list_element t (Some b) is h = list_element_valid t (tree b.value) (sym is) h
 
-pub given_fixed_size_element : (t : Tree) (r : Option (Box DType Global)) → option_boxed r ≡ fixed_size_list_element t → Valid t → IfSome r (λ b. IsValid b.value)
+pub given_fixed_size_element : (t : Tree) (r : Option (Box DType Global)) → option_map (λ b. tree b.value) r ≡ fixed_size_list_element t → Valid t → IfSome r (λ b. Valid (tree b.value))
 given_fixed_size_element t None is h = tt
 given_fixed_size_element t (Some b) is h = fixed_size_element_valid t (tree b.value) (sym is) h
 
-pub given_any_size_element : (t : Tree) (r : Option (Box DType Global)) → option_boxed r ≡ any_size_list_element t → Valid t → IfSome r (λ b. IsValid b.value)
+pub given_any_size_element : (t : Tree) (r : Option (Box DType Global)) → option_map (λ b. tree b.value) r ≡ any_size_list_element t → Valid t → IfSome r (λ b. Valid (tree b.value))
 given_any_size_element t None is h = tt
 given_any_size_element t (Some b) is h = any_size_element_valid t (tree b.value) (sym is) h
 
 -- ---- a map's parts
 
-pub map_parts_valid : (t : Tree) (m : MapDType) → map_parts t ≡ Some (map_shown m) → Valid t → IsValidMap m
+pub map_parts_valid : (t : Tree) (m : MapDType) → map_parts t ≡ Some (map_shown m) → Valid t → Valid (map_tree m)
 map_parts_valid (map_of k v b n) m is h = subst (λ (p : Tree × Tree × Bool). (nullability p.0 ≡ NonNullable) × Valid p.0 × Valid p.1) (same_Some (k, v, b) (map_shown m) is) h
 map_parts_valid _ m is h = cc
 
-pub lent_map : (t : Tree) (r : Option (Bor MapDType)) → shown map_shown r ≡ map_parts t → Valid t → IfSome r (λ m. IsValidMap m.now)
+pub lent_map : (t : Tree) (r : Option (Bor MapDType)) → shown map_shown r ≡ map_parts t → Valid t → IfSome r (λ m. Valid (map_tree m.now))
 lent_map t None is h = tt
 lent_map t (Some m) is h = map_parts_valid t m.now (sym is) h
 
-pub given_map : (t : Tree) (r : Option MapDType) → option_map map_shown r ≡ map_parts t → Valid t → IfSome r IsValidMap
+pub given_map : (t : Tree) (r : Option MapDType) → option_map map_shown r ≡ map_parts t → Valid t → IfSome r (λ d. Valid (map_tree d))
 given_map t None is h = tt
 given_map t (Some m) is h = map_parts_valid t m (sym is) h
 
@@ -81,15 +80,15 @@ fields_of_pairs : (fs : Fields) → fields (pairs fs) ≡ fs
 fields_of_pairs no_fields = refl
 fields_of_pairs (field n t rest) = ap (field n t) (fields_of_pairs rest)
 
-pub struct_fields_valid : (t : Tree) (s : StructFields) → struct_fields t ≡ Some (children s) → Valid t → IsValidStruct s
+pub struct_fields_valid : (t : Tree) (s : StructFields) → struct_fields t ≡ Some (children s) → Valid t → Valid (struct_tree s)
 struct_fields_valid (struct fs n) s is h = subst ValidFields (sym (fields_of_pairs fs) ∙ ap fields (same_Some (pairs fs) (children s) is)) h
 struct_fields_valid _ s is h = cc
 
-pub lent_struct : (t : Tree) (r : Option (Bor StructFields)) → shown children r ≡ struct_fields t → Valid t → IfSome r (λ s. IsValidStruct s.now)
+pub lent_struct : (t : Tree) (r : Option (Bor StructFields)) → shown children r ≡ struct_fields t → Valid t → IfSome r (λ s. Valid (struct_tree s.now))
 lent_struct t None is h = tt
 lent_struct t (Some s) is h = struct_fields_valid t s.now (sym is) h
 
-pub given_struct : (t : Tree) (r : Option StructFields) → option_map children r ≡ struct_fields t → Valid t → IfSome r IsValidStruct
+pub given_struct : (t : Tree) (r : Option StructFields) → option_map children r ≡ struct_fields t → Valid t → IfSome r (λ d. Valid (struct_tree d))
 given_struct t None is h = tt
 given_struct t (Some s) is h = struct_fields_valid t s (sym is) h
 
@@ -99,27 +98,27 @@ variants_of_triples : (vs : Variants) → variants (triples vs) ≡ vs
 variants_of_triples no_variants = refl
 variants_of_triples (choice n t g rest) = ap (choice n t g) (variants_of_triples rest)
 
-pub union_variants_valid : (t : Tree) (u : UnionVariants) → union_variants t ≡ Some (choices u) → Valid t → IsValidUnion u
+pub union_variants_valid : (t : Tree) (u : UnionVariants) → union_variants t ≡ Some (choices u) → Valid t → Valid (union_tree u)
 union_variants_valid (union vs n) u is h = subst (λ ws. HasVariant ws × ValidVariants ws) (sym (variants_of_triples vs) ∙ ap variants (same_Some (triples vs) (choices u) is)) h
 union_variants_valid _ u is h = cc
 
-pub lent_union : (t : Tree) (r : Option (Bor UnionVariants)) → shown choices r ≡ union_variants t → Valid t → IfSome r (λ u. IsValidUnion u.now)
+pub lent_union : (t : Tree) (r : Option (Bor UnionVariants)) → shown choices r ≡ union_variants t → Valid t → IfSome r (λ u. Valid (union_tree u.now))
 lent_union t None is h = tt
 lent_union t (Some u) is h = union_variants_valid t u.now (sym is) h
 
-pub given_union : (t : Tree) (r : Option UnionVariants) → option_map choices r ≡ union_variants t → Valid t → IfSome r IsValidUnion
+pub given_union : (t : Tree) (r : Option UnionVariants) → option_map choices r ≡ union_variants t → Valid t → IfSome r (λ d. Valid (union_tree d))
 given_union t None is h = tt
 given_union t (Some u) is h = union_variants_valid t u (sym is) h
 
 -- ---- an extension
 
-pub extension_is_valid : (t : Tree) (e : ExtDTypeRef) → t ≡ extension_tree e → Valid t → IsValidExtension e
+pub extension_is_valid : (t : Tree) (e : ExtDTypeRef) → t ≡ extension_tree e → Valid t → Valid (extension_tree e)
 extension_is_valid t e is h = subst Valid is h
 
-pub extension_parts_valid : (t : Tree) (e : ExtDTypeRef) → extension_parts t ≡ Some (extension_shown e) → Valid t → IsValidExtension e
+pub extension_parts_valid : (t : Tree) (e : ExtDTypeRef) → extension_parts t ≡ Some (extension_shown e) → Valid t → Valid (extension_tree e)
 extension_parts_valid (extension i b s) e is h = subst (λ (p : List ℕ × List ℕ × Tree). Valid (extension p.0 p.1 p.2)) (same_Some (i, b, s) (extension_shown e) is) h
 extension_parts_valid _ e is h = cc
 
-pub lent_extension : (t : Tree) (r : Option (Bor ExtDTypeRef)) → shown extension_shown r ≡ extension_parts t → Valid t → IfSome r (λ e. IsValidExtension e.now)
+pub lent_extension : (t : Tree) (r : Option (Bor ExtDTypeRef)) → shown extension_shown r ≡ extension_parts t → Valid t → IfSome r (λ e. Valid (extension_tree e.now))
 lent_extension t None is h = tt
 lent_extension t (Some e) is h = extension_parts_valid t e.now (sym is) h

@@ -10,15 +10,14 @@ use Rattle.std.proofs.lemmas.List.Elements.{All-from_recursion, recursion_from_A
 use Rattle.std.proofs.lemmas.Option.{same_Some}
 use Rattle.dtype_base.specs.declared.nullability.Nullability.{Nullability}
 use Rattle.dtype_base.specs.declared.nullability.Nullability.TheVariants.{NonNullable, Nullable}
-use Rattle.dtype_types.specs.FieldTypes.{given_fields}
-use Rattle.dtype_types.specs.IsValid.{IsValid, IsValidField, IsValidStruct, IsValidUnion, IsValidMap, IsValidExtension}
+use Rattle.dtype_types.specs.FieldTypes.{given_fields, field_tree}
+use Rattle.dtype_types.specs.Valid.{Valid, ValidFields, ValidVariants}
+use Rattle.dtype_types.specs.TreeOf.{tree, extension_tree, map_tree, union_tree, struct_tree, map_shown, struct_pairs, union_triples, children, choices, with_trees, with_tagged_trees, shown}
 use Rattle.dtype_types.specs.Lists.{seconds}
 use Rattle.dtype_types.specs.Lookups.{first_named, variant_named, field_types, variant_types}
 use Rattle.dtype_types.specs.Nullable.{nullability, set_null}
 use Rattle.dtype_types.specs.lemmas.Nullabilities.{by_storage}
 use Rattle.dtype_types.specs.Tree.{Tree, fields, variants, null, bool, primitive, decimal, utf8, binary, list, fixed_size_list, map_of, struct, union, variant, extension}
-use Rattle.dtype_types.specs.TreeOf.{tree, option_tree, map_shown, struct_pairs, union_triples, children, choices, with_trees, with_tagged_trees}
-use Rattle.dtype_types.specs.Valid.{Valid, ValidFields, ValidVariants}
 use Rattle.dtype_types.specs.lemmas.ValidParts.{list_element_valid, fixed_size_element_valid, any_size_element_valid, lent_list_element, lent_fixed_size_element, lent_any_size_element, given_list_element, given_fixed_size_element, given_any_size_element, map_parts_valid, lent_map, given_map, struct_fields_valid, lent_struct, given_struct, union_variants_valid, lent_union, given_union, extension_is_valid, extension_parts_valid, lent_extension}
 use Rattle.dtype_types.specs.lemmas.TreeLaws.{tree_struct, tree_union, tree_map, tree_extension}
 use Rattle.dtype_types.specs.declared.dtype.DType.{DType, Map, Struct, Union, Extension}
@@ -30,55 +29,55 @@ use Rattle.dtype_types.specs.declared.map.MapDType.{MapDType}
 
 -- ---- a type of a part, and back
 
-pub struct_valid : (s : StructFields) (n : Nullability) → IsValidStruct s → IsValid (Struct s n)
+pub struct_valid : (s : StructFields) (n : Nullability) → Valid (struct_tree s) → Valid (tree (Struct s n))
 struct_valid s n h = subst Valid (sym (tree_struct s n)) h
 
-pub union_valid : (u : UnionVariants) (n : Nullability) → IsValidUnion u → IsValid (Union u n)
+pub union_valid : (u : UnionVariants) (n : Nullability) → Valid (union_tree u) → Valid (tree (Union u n))
 union_valid u n h = subst Valid (sym (tree_union u n)) h
 
-pub map_valid : (m : MapDType) (n : Nullability) → IsValidMap m → IsValid (Map m n)
+pub map_valid : (m : MapDType) (n : Nullability) → Valid (map_tree m) → Valid (tree (Map m n))
 map_valid m n h = subst Valid (sym (tree_map m n)) h
 
-pub extension_valid : (e : ExtDTypeRef) → IsValidExtension e → IsValid (Extension e)
+pub extension_valid : (e : ExtDTypeRef) → Valid (extension_tree e) → Valid (tree (Extension e))
 extension_valid e h = subst Valid (sym (tree_extension e)) h
 
 pub ruleset parts_make_types = (struct_valid, union_valid, map_valid, extension_valid)
 
-pub valid_struct : (d : DType) (s : StructFields) (n : Nullability) → d ≡ Struct s n → IsValid d → IsValidStruct s
+pub valid_struct : (d : DType) (s : StructFields) (n : Nullability) → d ≡ Struct s n → Valid (tree d) → Valid (struct_tree s)
 valid_struct d s n is h = subst Valid (ap tree is ∙ tree_struct s n) h
 
-pub valid_union : (d : DType) (u : UnionVariants) (n : Nullability) → d ≡ Union u n → IsValid d → IsValidUnion u
+pub valid_union : (d : DType) (u : UnionVariants) (n : Nullability) → d ≡ Union u n → Valid (tree d) → Valid (union_tree u)
 valid_union d u n is h = subst Valid (ap tree is ∙ tree_union u n) h
 
-pub valid_map : (d : DType) (m : MapDType) (n : Nullability) → d ≡ Map m n → IsValid d → IsValidMap m
+pub valid_map : (d : DType) (m : MapDType) (n : Nullability) → d ≡ Map m n → Valid (tree d) → Valid (map_tree m)
 valid_map d m n is h = subst Valid (ap tree is ∙ tree_map m n) h
 
-pub valid_extension : (d : DType) (e : ExtDTypeRef) → d ≡ Extension e → IsValid d → IsValidExtension e
+pub valid_extension : (d : DType) (e : ExtDTypeRef) → d ≡ Extension e → Valid (tree d) → Valid (extension_tree e)
 valid_extension d e is h = subst Valid (ap tree is ∙ tree_extension e) h
 
 -- ---- fields and variants, and their types
 
-pub fields_of_types : (ps : List (List ℕ × DType)) → AllByRecursion IsValid (seconds ps) → ValidFields (fields (with_trees ps))
+pub fields_of_types : (ps : List (List ℕ × DType)) → AllByRecursion (λ d. Valid (tree d)) (seconds ps) → ValidFields (fields (with_trees ps))
 fields_of_types [] h = tt
 fields_of_types (p ∷ ps) h = (h.0, fields_of_types ps h.1)
 
-pub valid_given : (ps : List (List ℕ × FieldDType)) → AllByRecursion (λ p. IsValidField p.1) ps → ValidFields (given_fields ps)
+pub valid_given : (ps : List (List ℕ × FieldDType)) → AllByRecursion (λ p. Valid (field_tree p.1)) ps → ValidFields (given_fields ps)
 valid_given [] h = tt
 valid_given (p ∷ ps) h = (h.0, valid_given ps h.1)
 
-each_pair : (ps : List (List ℕ × DType)) → ValidFields (fields (with_trees ps)) → AllByRecursion (λ p. IsValid p.1) ps
+each_pair : (ps : List (List ℕ × DType)) → ValidFields (fields (with_trees ps)) → AllByRecursion (λ p. Valid (tree p.1)) ps
 each_pair [] h = tt
 each_pair (p ∷ ps) h = (h.0, each_pair ps h.1)
 
-pub valid_pairs : (ps : List (List ℕ × DType)) → ValidFields (fields (with_trees ps)) → All (λ p. IsValid p.1) ps
-valid_pairs ps h = All-from_recursion (λ p. IsValid p.1) ps (each_pair ps h)
+pub valid_pairs : (ps : List (List ℕ × DType)) → ValidFields (fields (with_trees ps)) → All (λ p. Valid (tree p.1)) ps
+valid_pairs ps h = All-from_recursion (λ p. Valid (tree p.1)) ps (each_pair ps h)
 
-each_triple : (ps : List (List ℕ × (DType × ℕ))) → ValidVariants (variants (with_tagged_trees ps)) → AllByRecursion (λ p. IsValid p.1.0) ps
+each_triple : (ps : List (List ℕ × (DType × ℕ))) → ValidVariants (variants (with_tagged_trees ps)) → AllByRecursion (λ p. Valid (tree p.1.0)) ps
 each_triple [] h = tt
 each_triple (p ∷ ps) h = (h.0, each_triple ps h.4)
 
-pub valid_triples : (ps : List (List ℕ × (DType × ℕ))) → ValidVariants (variants (with_tagged_trees ps)) → All (λ p. IsValid p.1.0) ps
-valid_triples ps h = All-from_recursion (λ p. IsValid p.1.0) ps (each_triple ps h)
+pub valid_triples : (ps : List (List ℕ × (DType × ℕ))) → ValidVariants (variants (with_tagged_trees ps)) → All (λ p. Valid (tree p.1.0)) ps
+valid_triples ps h = All-from_recursion (λ p. Valid (tree p.1.0)) ps (each_triple ps h)
 
 -- ---- fields made of valid fields
 
@@ -115,11 +114,11 @@ valid_of [] i t e h = cc
 valid_of (p ∷ ps) zero t e h = subst Valid (same_Some p.1 t e) h.0
 valid_of (p ∷ ps) (suc i) t e h = valid_of ps i t e h.1
 
-pub field_valid : (s : StructFields) (i : ℕ) (r : Option (Bor DType)) → option_tree r ≡ slice_get (field_types (children s)) i → IsValidStruct s → IfSome r (λ d. IsValid d.now)
+pub field_valid : (s : StructFields) (i : ℕ) (r : Option (Bor DType)) → shown tree r ≡ slice_get (field_types (children s)) i → Valid (struct_tree s) → IfSome r (λ d. Valid (tree d.now))
 field_valid s i None e h = tt
 field_valid s i (Some d) e h = valid_of (children s) i (tree d.now) (sym e) h
 
-pub named_field_valid : (s : StructFields) (n : List ℕ) (r : Option (Bor DType)) → option_tree r ≡ first_named (children s) n → IsValidStruct s → IfSome r (λ d. IsValid d.now)
+pub named_field_valid : (s : StructFields) (n : List ℕ) (r : Option (Bor DType)) → shown tree r ≡ first_named (children s) n → Valid (struct_tree s) → IfSome r (λ d. Valid (tree d.now))
 named_field_valid s n None e h = tt
 named_field_valid s n (Some d) e h = valid_named (children s) n (tree d.now) h e
 
@@ -129,7 +128,7 @@ valid_variant_of [] i t e h = cc
 valid_variant_of (v ∷ vs) zero t e h = subst Valid (same_Some v.1 t e) h.0
 valid_variant_of (v ∷ vs) (suc i) t e h = valid_variant_of vs i t e h.4
 
-pub variant_valid : (u : UnionVariants) (i : ℕ) (r : Option (Bor DType)) → option_tree r ≡ slice_get (variant_types (choices u)) i → IsValidUnion u → IfSome r (λ d. IsValid d.now)
+pub variant_valid : (u : UnionVariants) (i : ℕ) (r : Option (Bor DType)) → shown tree r ≡ slice_get (variant_types (choices u)) i → Valid (union_tree u) → IfSome r (λ d. Valid (tree d.now))
 variant_valid u i None e h = tt
 variant_valid u i (Some d) e h = valid_variant_of (choices u) i (tree d.now) (sym e) h.1
 
@@ -141,21 +140,21 @@ valid_by_name (v ∷ vs) n t h e = go (bytes_eq v.0 n) e (λ f. valid_by_name vs
     go true e later = subst Valid (same_Some v.1 t (sym e)) h.0
     go false e later = later e
 
-pub named_variant_valid : (u : UnionVariants) (n : List ℕ) (r : Option (Bor DType)) → option_tree r ≡ variant_named (choices u) n → IsValidUnion u → IfSome r (λ d. IsValid d.now)
+pub named_variant_valid : (u : UnionVariants) (n : List ℕ) (r : Option (Bor DType)) → shown tree r ≡ variant_named (choices u) n → Valid (union_tree u) → IfSome r (λ d. Valid (tree d.now))
 named_variant_valid u n None e h = tt
 named_variant_valid u n (Some d) e h = valid_by_name (choices u) n (tree d.now) h.1 e
 
 -- the same of a type that was found
-pub type_at_valid : (s : StructFields) (i : ℕ) (t : Tree) → slice_get (field_types (children s)) i ≡ Some t → IsValidStruct s → Valid t
+pub type_at_valid : (s : StructFields) (i : ℕ) (t : Tree) → slice_get (field_types (children s)) i ≡ Some t → Valid (struct_tree s) → Valid t
 type_at_valid s i t e h = valid_of (children s) i t e h
 
-pub type_named_valid : (s : StructFields) (n : List ℕ) (t : Tree) → first_named (children s) n ≡ Some t → IsValidStruct s → Valid t
+pub type_named_valid : (s : StructFields) (n : List ℕ) (t : Tree) → first_named (children s) n ≡ Some t → Valid (struct_tree s) → Valid t
 type_named_valid s n t e h = valid_named (children s) n t h (sym e)
 
-pub variant_at_valid : (u : UnionVariants) (i : ℕ) (t : Tree) → slice_get (variant_types (choices u)) i ≡ Some t → IsValidUnion u → Valid t
+pub variant_at_valid : (u : UnionVariants) (i : ℕ) (t : Tree) → slice_get (variant_types (choices u)) i ≡ Some t → Valid (union_tree u) → Valid t
 variant_at_valid u i t e h = valid_variant_of (choices u) i t e h.1
 
-pub variant_named_valid : (u : UnionVariants) (n : List ℕ) (t : Tree) → variant_named (choices u) n ≡ Some t → IsValidUnion u → Valid t
+pub variant_named_valid : (u : UnionVariants) (n : List ℕ) (t : Tree) → variant_named (choices u) n ≡ Some t → Valid (union_tree u) → Valid t
 variant_named_valid u n t e h = valid_by_name (choices u) n t h.1 (sym e)
 
 -- all types of fields, and of variants
@@ -163,33 +162,33 @@ field_types_each : (fs : List (List ℕ × Tree)) → ValidFields (fields fs) �
 field_types_each [] h = tt
 field_types_each (p ∷ ps) h = (h.0, field_types_each ps h.1)
 
-pub field_types_valid : (s : StructFields) → IsValidStruct s → All Valid (field_types (children s))
+pub field_types_valid : (s : StructFields) → Valid (struct_tree s) → All Valid (field_types (children s))
 field_types_valid s h = All-from_recursion Valid (field_types (children s)) (field_types_each (children s) h)
 
 variant_types_each : (vs : List (List ℕ × Tree × ℕ)) → ValidVariants (variants vs) → AllByRecursion Valid (variant_types vs)
 variant_types_each [] h = tt
 variant_types_each (v ∷ vs) h = (h.0, variant_types_each vs h.4)
 
-pub variant_types_valid : (u : UnionVariants) → IsValidUnion u → All Valid (variant_types (choices u))
+pub variant_types_valid : (u : UnionVariants) → Valid (union_tree u) → All Valid (variant_types (choices u))
 variant_types_valid u h = All-from_recursion Valid (variant_types (choices u)) (variant_types_each (choices u) h.1)
 
-pub pairs_valid : (s : StructFields) → IsValidStruct s → All (λ p. IsValid p.1) (struct_pairs s)
+pub pairs_valid : (s : StructFields) → Valid (struct_tree s) → All (λ p. Valid (tree p.1)) (struct_pairs s)
 pairs_valid s h = valid_pairs (struct_pairs s) h
 
-pub triples_valid : (u : UnionVariants) → IsValidUnion u → All (λ p. IsValid p.1.0) (union_triples u)
+pub triples_valid : (u : UnionVariants) → Valid (union_tree u) → All (λ p. Valid (tree p.1.0)) (union_triples u)
 triples_valid u h = valid_triples (union_triples u) h.1
 
 -- the struct of valid types
-zip_valid : (ns : List (List ℕ)) (ds : List DType) → AllByRecursion IsValid ds → ValidFields (fields (zip ns (map tree ds)))
+zip_valid : (ns : List (List ℕ)) (ds : List DType) → AllByRecursion (λ d. Valid (tree d)) ds → ValidFields (fields (zip ns (map tree ds)))
 zip_valid [] ds h = tt
 zip_valid (n ∷ ns) [] h = tt
 zip_valid (n ∷ ns) (d ∷ ds) h = (h.0, zip_valid ns ds h.1)
 
-pub struct_of_valid : (s : StructFields) (ns : List (List ℕ)) (ds : List DType) → children s ≡ zip ns (map tree ds) → All IsValid ds → IsValidStruct s
-struct_of_valid s ns ds e h = subst (λ ps. ValidFields (fields ps)) (sym e) (zip_valid ns ds (recursion_from_All IsValid ds h))
+pub struct_of_valid : (s : StructFields) (ns : List (List ℕ)) (ds : List DType) → children s ≡ zip ns (map tree ds) → All (λ d. Valid (tree d)) ds → Valid (struct_tree s)
+struct_of_valid s ns ds e h = subst (λ ps. ValidFields (fields ps)) (sym e) (zip_valid ns ds (recursion_from_All (λ d. Valid (tree d)) ds h))
 
 -- fields but for one
-pub removal_valid : (s r : StructFields) (i : ℕ) → children r ≡ remove (children s) i → IsValidStruct s → IsValidStruct r
+pub removal_valid : (s r : StructFields) (i : ℕ) → children r ≡ remove (children s) i → Valid (struct_tree s) → Valid (struct_tree r)
 removal_valid s r i e h = subst (λ ps. ValidFields (fields ps)) (sym e) (valid_removed (children s) i h)
 
 -- a type with another nullability
@@ -210,7 +209,7 @@ set_valid (variant m) u n e h = subst Valid (same_Some (variant n) u e) tt
 set_valid (extension i b s) u n e h = by_storage Valid i b (set_null s n) u e (λ x is. (h.0, set_valid s x n is h.1))
 
 -- what a map has of the parts that it was made of
-pub made_map_valid : (m : MapDType) (k v : Tree) (b : Bool) → map_shown m ≡ (k, v, b) → nullability k ≡ NonNullable → Valid k → Valid v → IsValidMap m
+pub made_map_valid : (m : MapDType) (k v : Tree) (b : Bool) → map_shown m ≡ (k, v, b) → nullability k ≡ NonNullable → Valid k → Valid v → Valid (map_tree m)
 made_map_valid m k v b e n h g = subst (λ (p : Tree × Tree × Bool). (nullability p.0 ≡ NonNullable) × Valid p.0 × Valid p.1) (sym e) (n, h, g)
 
 -- a type that is made of valid ones

@@ -6,10 +6,10 @@ ghost use Rattle.std.specs.Prelude.{◌≡◌};
 ghost use Rattle.std.specs.Option.{ok_or};
 ghost use Rattle.dtype_base.specs.declared.nullability.Nullability.TheVariants.{NonNullable};
 ghost use Rattle.dtype_base.specs.declared.vortex_error.VortexError.TheVariants.{NotDecimal, NotPrimitive};
-ghost use Rattle.dtype_types.specs.IsValid.{IsValid};
+ghost use Rattle.dtype_types.specs.Valid.{Valid};
+ghost use Rattle.dtype_types.specs.TreeOf.{tree};
 ghost use Rattle.dtype_types.specs.Kinds.{decimal_of, primitive_name};
 ghost use Rattle.dtype_types.specs.Tree.{primitive};
-ghost use Rattle.dtype_types.specs.TreeOf.{tree};
 
 use crate::DType;
 use dtype_base::{DecimalDType, Nullability, PType, VortexError, VortexResult};
@@ -21,7 +21,7 @@ impl DType {
 
 /// The non-nullable primitive of that name.
 impl From<PType> for DType {
-    ghost from_gives = { λ ptype d. (tree d ≡ primitive ptype NonNullable) × IsValid d };
+    ghost from_gives = { λ ptype d. (tree d ≡ primitive ptype NonNullable) × Valid (tree d) };
 
     fn from(ptype: PType) -> DType {
         DType::Primitive(ptype, Nullability::NonNullable)

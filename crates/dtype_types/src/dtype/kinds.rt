@@ -9,7 +9,7 @@ ghost use Rattle.std.specs.Prelude.{◌≡◌, ◌↔◌, IsTrue, IsSomeAnd, Som
 ghost use Rattle.std.specs.Option.{option_copied, option_map};
 ghost use Rattle.dtype_base.specs.Primitives.{IsUnsigned, IsSigned, IsInteger, IsFloat};
 ghost use Rattle.dtype_types.specs.Kinds.{kind, kind_number, primitive_name, decimal_of, struct_fields, union_variants, map_parts, extension_parts, list_element, fixed_size_list_element, any_size_list_element, is_nested};
-ghost use Rattle.dtype_types.specs.TreeOf.{tree, children, choices, map_shown, extension_shown, option_tree, option_boxed, shown, extension_tree};
+ghost use Rattle.dtype_types.specs.TreeOf.{tree, children, choices, map_shown, shown, extension_id, extension_metadata, extension_tree, storage_tree};
 
 use crate::{DType, ExtDTypeRef, MapDType, StructFields, UnionVariants};
 use dtype_base::{DecimalDType, PType};
@@ -232,7 +232,7 @@ impl DType {
 
     /// The element of a `List`, else `None`.
     pub fn as_list_element_opt(&self) -> Option<&DType>
-        ensures { option_tree result ≡ list_element (tree self.now) }
+        ensures { shown tree result ≡ list_element (tree self.now) }
     {
         match self {
             DType::List(element, _) => Some(element),
@@ -242,7 +242,7 @@ impl DType {
 
     /// The element of a `FixedSizeList`, else `None`.
     pub fn as_fixed_size_list_element_opt(&self) -> Option<&DType>
-        ensures { option_tree result ≡ fixed_size_list_element (tree self.now) }
+        ensures { shown tree result ≡ fixed_size_list_element (tree self.now) }
     {
         match self {
             DType::FixedSizeList(element, _, _) => Some(element),
@@ -252,7 +252,7 @@ impl DType {
 
     /// The element of a `List` or of a `FixedSizeList`, else `None`.
     pub fn as_any_size_list_element_opt(&self) -> Option<&DType>
-        ensures { option_tree result ≡ any_size_list_element (tree self.now) }
+        ensures { shown tree result ≡ any_size_list_element (tree self.now) }
     {
         match self {
             DType::List(element, _) | DType::FixedSizeList(element, _, _) => Some(element),
@@ -292,7 +292,8 @@ impl DType {
 
     /// The extension that this is, else `None`.
     pub fn as_extension_opt(&self) -> Option<&ExtDTypeRef>
-        ensures { shown extension_shown result ≡ extension_parts (tree self.now) }
+        ensures { shown (λ e. (extension_id e, extension_metadata e, storage_tree e)) result
+            ≡ extension_parts (tree self.now) }
     {
         match self {
             DType::Extension(extension) => Some(extension),
@@ -312,7 +313,7 @@ impl DType {
 
     /// The element of a `List`, given up, else `None`.
     pub fn into_list_element_opt(self) -> Option<Box<DType>>
-        ensures { option_boxed result ≡ list_element (tree self) }
+        ensures { option_map (λ b. tree b.value) result ≡ list_element (tree self) }
     {
         match self {
             DType::List(element, _) => Some(element),
@@ -322,7 +323,7 @@ impl DType {
 
     /// The element of a `FixedSizeList`, given up, else `None`.
     pub fn into_fixed_size_list_element_opt(self) -> Option<Box<DType>>
-        ensures { option_boxed result ≡ fixed_size_list_element (tree self) }
+        ensures { option_map (λ b. tree b.value) result ≡ fixed_size_list_element (tree self) }
     {
         match self {
             DType::FixedSizeList(element, _, _) => Some(element),
@@ -332,7 +333,7 @@ impl DType {
 
     /// The element of a `List` or of a `FixedSizeList`, given up, else `None`.
     pub fn into_any_size_list_element_opt(self) -> Option<Box<DType>>
-        ensures { option_boxed result ≡ any_size_list_element (tree self) }
+        ensures { option_map (λ b. tree b.value) result ≡ any_size_list_element (tree self) }
     {
         match self {
             DType::List(element, _) | DType::FixedSizeList(element, _, _) => Some(element),

@@ -12,7 +12,7 @@ ghost use Rattle.dtype_base.specs.Decimals.{IsValidDecimal};
 ghost use Rattle.dtype_base.specs.Nullability.{nullability_of};
 ghost use Rattle.dtype_types.specs.Tree as of;
 ghost use Rattle.dtype_types.specs.TreeOf.{tree};
-ghost use Rattle.dtype_types.specs.IsValid.{IsValid};
+ghost use Rattle.dtype_types.specs.Valid.{Valid};
 ghost use Rattle.dtype_messages.specs.MessageOf.{bytes_of};
 ghost use Rattle.vortex_dtype.specs.Meaning.{Bytes};
 ghost use Rattle.vortex_dtype.specs.Numbers.{integer_byte, signed_byte, natural_byte};
@@ -34,7 +34,7 @@ use std::string::String;
 pub(crate) fn primitive_of(number: i32, nullable: bool) -> VortexResult<DType>
     ensures gives { Gives tree result (primitive_read number (nullability_of nullable)) }
     ensures number { FitsSigned w32 number }
-    ensures valid { IfOk result IsValid }
+    ensures valid { IfOk result (λ d. Valid (tree d)) }
 {
     match pb::PType::from_number(number) {
         Some(ptype) => Ok(DType::Primitive(PType::from(ptype), Nullability::from(nullable))),
@@ -67,7 +67,7 @@ fn tag_of(tag: i32) -> Option<u8>
 pub(crate) fn decimal_of(precision: u32, scale: i32, nullable: bool) -> VortexResult<DType>
     ensures gives { Gives tree result (decimal_read precision scale (nullability_of nullable)) }
     ensures numbers { (precision < 2 ^ 32) × FitsSigned w32 scale }
-    ensures valid { IfOk result IsValid }
+    ensures valid { IfOk result (λ d. Valid (tree d)) }
 {
     let Some(precision) = precision_of(precision) else {
         return Err(VortexError::Message(MessageFault::PrecisionRange));
@@ -98,7 +98,7 @@ pub(crate) fn map_of(
 ) -> VortexResult<DType>
     ensures gives { Gives tree result
         (map_read (tree key) (tree value) keys_sorted (nullability_of nullable)) }
-    ensures valid { IsValid key → IsValid value → IfOk result IsValid }
+    ensures valid { Valid (tree key) → Valid (tree value) → IfOk result (λ d. Valid (tree d)) }
 {
     DType::map(alloc, key, value, keys_sorted, Nullability::from(nullable))
 }
@@ -124,7 +124,7 @@ pub(crate) fn struct_of(
 ) -> VortexResult<DType>
     ensures gives { let texts = map string_bytes names.now in
         Gives tree result (struct_read texts (map tree dtypes.items) (nullability_of nullable)) }
-    ensures valid { All IsValid dtypes.items → IfOk result IsValid }
+    ensures valid { All (λ d. Valid (tree d)) dtypes.items → IfOk result (λ d. Valid (tree d)) }
 {
     if names.len() != dtypes.len() {
         return Err(VortexError::Message(MessageFault::StructLengths));
@@ -158,7 +158,7 @@ pub(crate) fn union_of(
 ) -> VortexResult<DType>
     ensures gives { let texts = map string_bytes names.now in let trees = map tree dtypes.items in
         Gives tree result (union_read texts trees tags.now (nullability_of nullable)) }
-    ensures valid { All IsValid dtypes.items → IfOk result IsValid }
+    ensures valid { All (λ d. Valid (tree d)) dtypes.items → IfOk result (λ d. Valid (tree d)) }
 {
     let tags = tags_of(alloc, tags)?;
     let names = names_of(alloc, names)?;
@@ -183,11 +183,11 @@ pub(crate) fn extension_of(
     metadata: &[u8],
     storage: DType,
 ) -> VortexResult<DType>
-    requires { IsValid storage }
+    requires { Valid (tree storage) }
     ensures gives { Gives tree result
         (extension_read (meaning rewrites session.now) id.now metadata.now (tree storage)) }
     ensures bytes { Bytes metadata.now }
-    ensures valid { IfOk result IsValid }
+    ensures valid { IfOk result (λ d. Valid (tree d)) }
 {
     let extension = session.deserialize(id, metadata, storage)?;
     Ok(DType::Extension(extension))

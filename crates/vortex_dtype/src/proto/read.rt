@@ -5,7 +5,7 @@
 // constructors of the crates below: what is refused there is refused here, with the same values.
 ghost use Rattle.std.specs.Prelude.{◌≡◌, IfOk};
 ghost use Rattle.dtype_types.specs.TreeOf.{tree};
-ghost use Rattle.dtype_types.specs.IsValid.{IsValid};
+ghost use Rattle.dtype_types.specs.Valid.{Valid};
 ghost use Rattle.dtype_messages.specs.MessageOf.{message};
 ghost use Rattle.vortex_dtype.specs.IsMessage.{IsMessage};
 ghost use Rattle.vortex_dtype.specs.ReadInOrder.{read, Gives};
@@ -26,7 +26,7 @@ use std::alloc::Global;
 #[tactic(auto, unfolding(crate::specs::ReadInOrder::read))]
 pub(crate) fn read(alloc: Global, proto: &pb::DType, session: &DTypeSession) -> VortexResult<DType>
     ensures gives { Gives tree result (read (meaning rewrites session.now) (message proto.now)) }
-    ensures valid { IfOk result IsValid }
+    ensures valid { IfOk result (λ d. Valid (tree d)) }
     ensures message { IfOk result (λ _. IsMessage (message proto.now)) }
 {
     let Some(kind) = &proto.dtype_type else {

@@ -6,7 +6,7 @@
 ghost use Rattle.std.specs.Prelude.{◌≡◌, IfOk, IsOkUnless, map, string_bytes, MatchResult};
 ghost use Rattle.dtype_base.specs.declared.vortex_error.VortexError.TheVariants.{OutOfMemory};
 ghost use Rattle.dtype_types.specs.Tree as of;
-ghost use Rattle.dtype_types.specs.TreeOf.{tree, struct_tree, union_tree};
+ghost use Rattle.dtype_types.specs.TreeOf.{tree, fields_of, variants_of};
 ghost use Rattle.dtype_messages.specs.Message.{messages, list, fixed_size_list, map_of, struct, union, present};
 ghost use Rattle.dtype_messages.specs.MessageOf.{message, kind_message};
 ghost use Rattle.vortex_dtype.specs.Written.{written, is_nullable, extension_message};
@@ -83,7 +83,7 @@ fn write_child(alloc: Global, dtype: &DType) -> VortexResult<Box<pb::DType>>
 #[cycle(writing)]
 fn write_struct(alloc: Global, fields: &StructFields, n: Nullability) -> VortexResult<pb::DType>
     ensures { MatchResult result
-        (λ m. message m ≡ written (of.struct (struct_tree fields.now) n)) (λ e. e ≡ OutOfMemory) }
+        (λ m. message m ≡ written (of.struct (fields_of fields.now) n)) (λ e. e ≡ OutOfMemory) }
 {
     let count = fields.nfields();
     let mut names = Vec::with_capacity(alloc, count)?;
@@ -99,7 +99,7 @@ fn write_struct(alloc: Global, fields: &StructFields, n: Nullability) -> VortexR
 #[cycle(writing)]
 fn write_union(alloc: Global, variants: &UnionVariants, n: Nullability) -> VortexResult<pb::DType>
     ensures { MatchResult result
-        (λ m. message m ≡ written (of.union (union_tree variants.now) n)) (λ e. e ≡ OutOfMemory) }
+        (λ m. message m ≡ written (of.union (variants_of variants.now) n)) (λ e. e ≡ OutOfMemory) }
 {
     let count = variants.len();
     let mut names = Vec::with_capacity(alloc, count)?;

@@ -3,11 +3,11 @@
 
 use Rattle.std.proofs.Common.{◌∙◌, ap}
 use Rattle.std.specs.FinSet as set
-use Rattle.dtype_paths.specs.Covering.{IsBegun, IsCountOf, least}
+use Rattle.dtype_paths.specs.Covering.{IsCountOf, least}
 use Rattle.dtype_paths.specs.PathOrder.{PathSet, path_cmp}
 use Rattle.dtype_paths.specs.Trie.{ends}
 use Rattle.dtype_paths.proofs.BegunBounds.{begun_some, begun_none, begun_at_most}
-use Rattle.dtype_paths.proofs.SetBridges.{begun_is, cover_is, none_listed}
+use Rattle.dtype_paths.proofs.SetBridges.{IsBegun, begun_is, cover_is, none_listed}
 use Rattle.std.proofs.Common.{subst}
 use Rattle.dtype_paths.proofs.field_path_set.FieldPathSet.into_iter_counted.Goals as goal
 

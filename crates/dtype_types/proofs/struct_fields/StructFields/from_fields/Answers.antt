@@ -6,7 +6,7 @@ use Rattle.std.specs.List.{zip}
 use Rattle.std.proofs.lemmas.List.Elements.{All-map, All-same}
 use Rattle.std.proofs.lemmas.Result.{MatchResult-weaker}
 use Rattle.std.proofs.lemmas.Simd.{map-map}
-use Rattle.dtype_types.specs.IsValid.{IsValid}
+use Rattle.dtype_types.specs.Valid.{Valid}
 use Rattle.dtype_types.specs.TreeOf.{tree}
 use Rattle.dtype_types.proofs.struct_fields.StructFields.from_fields.Goals as goal
 
@@ -16,4 +16,4 @@ returns-clause-fields c =
     MatchResult-weaker c.new.result c.new.ensures.fields (λ s e. e ∙ ap (zip c.args.names) types) (λ _ e. e)
 
 pub returns-clause-valid : goal.returns-clause-valid
-returns-clause-valid c = λ h. c.new.ensures.valid (All-same IsValid _ _ c.in_ok-dtypes.ensures (All-map IsValid (λ f. f.dtype) c.args.dtypes.items h))
+returns-clause-valid c = λ h. c.new.ensures.valid (All-same (λ d. Valid (tree d)) _ _ c.in_ok-dtypes.ensures (All-map (λ d. Valid (tree d)) (λ f. f.dtype) c.args.dtypes.items h))

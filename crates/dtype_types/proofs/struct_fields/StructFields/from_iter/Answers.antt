@@ -1,15 +1,15 @@
 -- SPDX-License-Identifier: Apache-2.0
 -- SPDX-FileCopyrightText: Copyright the Vortex contributors
 
-use Rattle.std.proofs.Common.{List, ℕ, subst, ◌∙◌, sym}
+use Rattle.std.proofs.Common.{◌≡◌, List, map, ℕ, subst, ◌∙◌, sym}
 use Rattle.std.proofs.iter.runs.Made.{run_of_exit}
 use Rattle.std.proofs.lemmas.List.Elements.{recursion_from_All}
 use Rattle.std.proofs.lemmas.Result.{MatchResult-weaker}
 use Rattle.dtype_types.specs.declared.field_dtype.FieldDType.{FieldDType}
-use Rattle.dtype_types.specs.FieldTypes.{AreValidFields, HasFields}
-use Rattle.dtype_types.specs.IsValid.{IsValidField, IsValidStruct}
+use Rattle.dtype_types.specs.FieldTypes.{AreValidFields, field_tree}
+use Rattle.dtype_types.specs.Valid.{Valid, ValidFields}
+use Rattle.dtype_types.specs.TreeOf.{children, struct_tree}
 use Rattle.dtype_types.specs.Tree.{fields}
-use Rattle.dtype_types.specs.Valid.{ValidFields}
 use Rattle.dtype_types.specs.lemmas.Validity.{valid_given}
 use Rattle.dtype_types.proofs.struct_fields.StructFields.from_iter.Goals as goal
 
@@ -27,8 +27,8 @@ returns g c =
         whole.0,
         whole.1,
         whole.2,
-        subst (λ (xs : List (List ℕ × FieldDType)). HasFields s xs × (AreValidFields xs → IsValidStruct s)) (sym whole.3.0)
-            (made, λ v. subst (λ ps. ValidFields (fields ps)) (sym made) (valid_given given (recursion_from_All (λ (p : List ℕ × FieldDType). IsValidField p.1) given v))),
+        subst (λ (xs : List (List ℕ × FieldDType)). (children s ≡ map (λ p. (p.0, field_tree p.1)) xs) × (AreValidFields xs → Valid (struct_tree s))) (sym whole.3.0)
+            (made, λ v. subst (λ ps. ValidFields (fields ps)) (sym made) (valid_given given (recursion_from_All (λ (p : List ℕ × FieldDType). Valid (field_tree p.1)) given v))),
       ),
     ))
     (λ _ e. e)

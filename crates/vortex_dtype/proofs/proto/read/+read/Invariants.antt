@@ -2,7 +2,7 @@
 -- SPDX-FileCopyrightText: Copyright the Vortex contributors
 
 use Rattle.std.proofs.Common.{map, drop, All}
-use Rattle.dtype_types.specs.IsValid.{IsValid}
+use Rattle.dtype_types.specs.Valid.{Valid}
 use Rattle.dtype_types.specs.TreeOf.{tree}
 use Rattle.dtype_messages.specs.Message.{messages}
 use Rattle.dtype_messages.specs.MessageOf.{message}
@@ -15,12 +15,12 @@ abbrev pub invariant-loop-field : goal.invariant-loop-field
 invariant-loop-field g l = record {
   rest : Rest (meaning (λ b. (g.dyn-1.0.entry b.vtable).1.rewrites b.value) l.session) l.field-items l.field-index (map tree l.dtypes.items);
   message : AreMessages (messages (map message (drop l.field-index l.field-items))) → AreMessages (messages (map message l.field-items));
-  valid : All IsValid l.dtypes.items;
+  valid : All (λ d. Valid (tree d)) l.dtypes.items;
 }
 
 abbrev pub invariant-loop-variant : goal.invariant-loop-variant
 invariant-loop-variant g l = record {
   rest : Rest (meaning (λ b. (g.dyn-1.0.entry b.vtable).1.rewrites b.value) l.session) l.variant-items l.variant-index (map tree l.dtypes.items);
   message : AreMessages (messages (map message (drop l.variant-index l.variant-items))) → AreMessages (messages (map message l.variant-items));
-  valid : All IsValid l.dtypes.items;
+  valid : All (λ d. Valid (tree d)) l.dtypes.items;
 }

@@ -18,8 +18,6 @@ mod names;
 #[cfg(test)]
 mod nullabilities;
 #[cfg(test)]
-mod refusals;
-#[cfg(test)]
 mod structs;
 #[cfg(test)]
 mod unions;

@@ -1,22 +1,26 @@
 // SPDX-License-Identifier: Apache-2.0
 // SPDX-FileCopyrightText: Copyright the Vortex contributors
 
+ghost use Rattle.std.specs.Prelude.{◌<◌, length};
+
 use crate::fixtures::path;
+use dtype_base::VortexResult;
 use dtype_paths::{Field, FieldPath, FieldPathSet};
 use std::alloc::Global;
+use std::process::Abort;
 use std::test::Fail;
 
-fn contains(alloc: Global, set: &FieldPathSet, text: &str) -> Result<bool, Fail> {
+fn contains(alloc: Global, set: &FieldPathSet, text: &str) -> VortexResult<bool> {
     Ok(set.contains(&path(alloc, text)?))
 }
 
 // How many paths a set gives, and how many nodes it opens for that.
-fn counted(set: FieldPathSet) -> Result<(usize, u64), Fail> {
+fn counted(set: FieldPathSet) -> VortexResult<(usize, u64)> {
     let (paths, visits) = set.into_iter_counted()?;
     Ok((paths.count(), visits))
 }
 
-fn flat(alloc: Global, count: u32) -> Result<FieldPathSet, Fail> {
+fn flat(alloc: Global, count: u32) -> VortexResult<FieldPathSet> {
     let mut flat = FieldPathSet::new(alloc);
     for i in 0..count {
         let text = i.to_string(alloc)?;
@@ -25,26 +29,20 @@ fn flat(alloc: Global, count: u32) -> Result<FieldPathSet, Fail> {
     Ok(flat)
 }
 
-fn elements(alloc: Global, count: usize) -> Result<FieldPath, Fail> {
-    let mut parts = Vec::new(alloc);
-    for _ in 0..count {
-        parts.push(Field::ElementType)?;
-    }
-    Ok(FieldPath::from_vec(parts))
+fn is_flat(alloc: Global, set: &FieldPathSet) -> VortexResult<bool> {
+    Ok(contains(alloc, set, "99999")? && !contains(alloc, set, "100000")?)
 }
 
 #[test]
 fn many_paths(rt: HostRuntime) -> Result<(), Fail> {
-    let alloc = rt.alloc();
-    let many = flat(alloc, 100_000)?;
-    assert!(rt; contains(alloc, &many, "99999")?);
-    assert!(rt; !contains(alloc, &many, "100000")?);
-    assert_eq!(rt; counted(many)?, (100_000, 100_001));
+    let many = flat(rt.alloc(), 100_000)?;
+    assert!(rt; is_flat(rt.alloc(), &many)?);
+    assert!(rt; counted(many)? == (100_000, 100_001));
     Ok(())
 }
 
 // Names below one node, as many as come to stand there: short ones, and long ones that end alike.
-fn names_below(alloc: Global, count: u32) -> Result<Vec<String>, Fail> {
+fn names_below(alloc: Global, count: u32) -> VortexResult<Vec<String>> {
     let mut names = Vec::new(alloc);
     for i in 0..count {
         names.push(format!(in alloc; "parent.{i}")?)?;
@@ -53,52 +51,93 @@ fn names_below(alloc: Global, count: u32) -> Result<Vec<String>, Fail> {
     Ok(names)
 }
 
-fn holds_all(alloc: Global, set: &FieldPathSet, names: &[String]) -> Result<bool, Fail> {
-    for name in names {
-        if !contains(alloc, set, name.as_str())? {
+// Whether the set holds so many of the names, the first ones.
+fn holds_first(
+    alloc: Global,
+    set: &FieldPathSet,
+    names: &[String],
+    count: usize,
+) -> VortexResult<bool> {
+    for (i, name) in names.iter().enumerate() {
+        if contains(alloc, set, name.as_str())? != (i < count) {
             return Ok(false);
         }
     }
     Ok(true)
 }
 
+// Whether the set is of so many of the names, the first ones, and so is its copy.
+fn is_of_first(
+    alloc: Global,
+    set: &FieldPathSet,
+    names: &[String],
+    count: usize,
+) -> VortexResult<bool> {
+    let copy = set.try_clone()?;
+    Ok(
+        holds_first(alloc, set, names, count)?
+            && holds_first(alloc, &copy, names, count)?
+            && counted(copy)? == (count, (count as u64).wrapping_add(2)),
+    )
+}
+
+// Inserts one of the names behind those before it, and looks at the set.
+fn grow(alloc: Global, set: &mut FieldPathSet, names: &[String], place: usize) -> VortexResult<bool>
+    requires { place < length names.now }
+{
+    set.insert(path(alloc, names[place].as_str())?)?;
+    is_of_first(alloc, set, names, place + 1)
+}
+
 #[test]
 fn any_number_of_children(rt: HostRuntime) -> Result<(), Fail> {
-    let alloc = rt.alloc();
-    let names = names_below(alloc, 20)?;
-    let mut set = FieldPathSet::new(alloc);
-    for (i, name) in names.iter().enumerate() {
-        assert!(rt;
-            !contains(alloc, &set, name.as_str())?,
-            "{name} is yet to come"
-        );
-        set.insert(path(alloc, name.as_str())?)?;
-        assert!(rt; holds_all(alloc, &set, &names[..=i])?, "up to {name}");
-        let copy = set.try_clone()?;
-        assert!(rt;
-            holds_all(alloc, &copy, &names[..=i])?,
-            "a copy, up to {name}"
-        );
-        assert_eq!(rt; counted(copy)?, (i + 1, i as u64 + 3));
+    let names = names_below(rt.alloc(), 20)?;
+    let mut set = FieldPathSet::new(rt.alloc());
+    for place in 0..names.len() {
+        assert!(rt; grow(rt.alloc(), &mut set, &names, place)?, "up to {place}");
     }
     Ok(())
+}
+
+// The path of so many elements.
+fn elements(alloc: Global, count: usize) -> VortexResult<FieldPath> {
+    let mut parts = Vec::new(alloc);
+    for _ in 0..count {
+        parts.push(Field::ElementType)?;
+    }
+    Ok(FieldPath::from_vec(parts))
+}
+
+fn holds(alloc: Global, set: &FieldPathSet, count: usize) -> VortexResult<bool> {
+    Ok(set.contains(&elements(alloc, count)?))
+}
+
+// The set of a path of so many elements and of one that goes on by two.
+fn deep(alloc: Global, steps: usize) -> VortexResult<FieldPathSet> {
+    let mut deep = FieldPathSet::new(alloc);
+    deep.insert(elements(alloc, steps)?)?;
+    deep.insert(elements(alloc, steps.wrapping_add(2))?)?;
+    deep.try_clone()
+}
+
+// Whether the set is that of these two.
+fn is_deep(alloc: Global, set: &FieldPathSet, steps: usize) -> VortexResult<bool> {
+    Ok(
+        !holds(alloc, set, steps.wrapping_sub(1))?
+            && holds(alloc, set, steps)?
+            && !holds(alloc, set, steps.wrapping_add(1))?
+            && holds(alloc, set, steps.wrapping_add(2))?
+            && !holds(alloc, set, steps.wrapping_add(3))?
+            && set.iter()?.count() == 2,
+    )
 }
 
 // Nothing goes down a path by the stack.
 #[test]
 fn a_long_path(rt: HostRuntime) -> Result<(), Fail> {
-    let alloc = rt.alloc();
     let steps = 500_000;
-    let long = elements(alloc, steps)?;
-    let mut deep = FieldPathSet::new(alloc);
-    deep.insert(long.try_clone()?)?;
-    assert!(rt; deep.contains(&long));
-    assert!(rt; !deep.contains(&elements(alloc, steps - 1)?));
-    assert!(rt; !deep.contains(&elements(alloc, steps + 1)?));
-    deep.insert(elements(alloc, steps + 1)?)?;
-    let copy = deep.try_clone()?;
-    assert!(rt; copy.contains(&long));
-    assert_eq!(rt; copy.iter()?.count(), 2);
-    assert_eq!(rt; counted(copy)?, (1, 500_001));
+    let copy = deep(rt.alloc(), steps)?;
+    assert!(rt; is_deep(rt.alloc(), &copy, steps)?);
+    assert!(rt; counted(copy)? == (1, 500_001));
     Ok(())
 }

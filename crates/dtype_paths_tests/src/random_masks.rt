@@ -7,11 +7,12 @@ use dtype_base::VortexResult;
 use dtype_fixtures::Random;
 use dtype_paths::FieldMask;
 use std::alloc::{AllocError, Global};
+use std::process::Abort;
 use std::test::Fail;
 
 const MASKS: u64 = 20_000;
 
-#[derive(Clone, Copy, Debug)]
+#[derive(Clone, Copy)]
 enum Kind {
     All,
     Prefix,
@@ -43,8 +44,7 @@ fn is_found(alloc: Global, mask: FieldMask, sought: &[usize]) -> VortexResult<bo
         if mask.matches_all() {
             return Ok(true);
         }
-        let field = field(alloc, *step)?;
-        if mask.starting_field()? != Some(&field) {
+        if mask.starting_field()? != Some(&field(alloc, *step)?) {
             return Ok(false);
         }
         mask = mask.step_into()?;
@@ -54,39 +54,56 @@ fn is_found(alloc: Global, mask: FieldMask, sought: &[usize]) -> VortexResult<bo
 
 // The beginning of a path, and random steps behind it.
 fn branch(alloc: Global, random: &mut Random, steps: &[usize]) -> Result<Steps, AllocError> {
-    let mut branch = Vec::new(alloc);
-    for step in steps.iter().take(random.below(5)) {
-        branch.push(*step)?;
-    }
+    let begin = random.below(5).min(steps.len());
+    let mut branch = Vec::from_slice(alloc, &steps[..begin])?;
     for step in random_steps(alloc, random)? {
         branch.push(step)?;
     }
     Ok(branch)
 }
 
+// What a mask is made of.
+#[derive(Drop)]
+struct Parts {
+    kind: Kind,
+    steps: Steps,
+}
+
+impl Parts {
+    fn is_in(&self, sought: &[usize]) -> bool {
+        is_in(self.kind, &self.steps, sought)
+    }
+
+    // Whether the mask of these parts matches all, as one does that holds the root and something behind it.
+    fn is_right_of_all(&self, alloc: Global) -> VortexResult<bool> {
+        let mask = mask(alloc, self.kind, &self.steps)?;
+        Ok(mask.matches_all() == (self.is_in(&[]) && self.is_in(&[0])))
+    }
+
+    fn is_found(&self, alloc: Global, sought: &[usize]) -> VortexResult<bool> {
+        is_found(alloc, mask(alloc, self.kind, &self.steps)?, sought)
+    }
+}
+
+// Whether a random path is in a random mask, after the asserts on it.
+fn is_inside(rt: &impl Abort, alloc: Global, seed: u64) -> VortexResult<bool> {
+    let mut random = Random::new(seed);
+    let parts = Parts {
+        kind: random.pick(&[Kind::All, Kind::Prefix, Kind::Prefix, Kind::Exact]),
+        steps: random_steps(alloc, &mut random)?,
+    };
+    assert!(rt; parts.is_right_of_all(alloc)?, "seed {seed}");
+    let sought = branch(alloc, &mut random, &parts.steps)?;
+    let is_inside = parts.is_in(&sought);
+    assert!(rt; parts.is_found(alloc, &sought)? == is_inside, "seed {seed}");
+    Ok(is_inside)
+}
+
 #[test]
 fn random_masks_hold_what_their_paths_say(rt: HostRuntime) -> Result<(), Fail> {
-    let alloc = rt.alloc();
     let mut inside = 0u64;
     for seed in 1..=MASKS {
-        let mut random = Random::new(seed);
-        let kind = random.pick(&[Kind::All, Kind::Prefix, Kind::Prefix, Kind::Exact]);
-        let steps = random_steps(alloc, &mut random)?;
-        let sought = branch(alloc, &mut random, &steps)?;
-        let mask = mask(alloc, kind, &steps)?;
-        // A mask that holds the root and something behind it holds all.
-        assert_eq!(rt;
-            mask.matches_all(),
-            is_in(kind, &steps, &[]) && is_in(kind, &steps, &[0])
-        );
-        let is_inside = is_in(kind, &steps, &sought);
-        let is_found = is_found(alloc, mask, &sought)?;
-        assert_eq!(rt;
-            is_found,
-            is_inside,
-            "seed {seed}: {kind:?} {steps:?}, {sought:?}"
-        );
-        if is_inside {
+        if is_inside(&rt, rt.alloc(), seed)? {
             inside = inside.wrapping_add(1);
         }
     }

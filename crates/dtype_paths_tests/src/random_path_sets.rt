@@ -70,33 +70,64 @@ fn count_beginnings(alloc: Global, paths: &[Steps]) -> Result<usize, AllocError>
     Ok(beginnings.len())
 }
 
+// A set, and the distinct paths that it was given.
+#[derive(Drop)]
+struct Modelled {
+    set: FieldPathSet,
+    given: Vec<Steps>,
+}
+
+impl Modelled {
+    fn insert(&mut self, alloc: Global, steps: Steps) -> VortexResult<()> {
+        self.set.insert(path(alloc, &steps)?)?;
+        Ok(add(&mut self.given, steps)?)
+    }
+
+    // Whether the set holds the path, where it does as its model.
+    fn is_right(&self, alloc: Global, sought: &Steps) -> VortexResult<bool> {
+        Ok(self.set.contains(&path(alloc, sought)?) == self.given.contains(sought))
+    }
+}
+
+// Inserts a random path, and looks for another.
+fn grow(alloc: Global, random: &mut Random, modelled: &mut Modelled) -> VortexResult<bool> {
+    modelled.insert(alloc, random_steps(alloc, random)?)?;
+    modelled.is_right(alloc, &random_steps(alloc, random)?)
+}
+
+// The set of a seed.
+fn random_set(rt: &impl Abort, alloc: Global, seed: u64) -> VortexResult<Modelled> {
+    let mut random = Random::new(seed);
+    let mut modelled = Modelled {
+        set: FieldPathSet::new(alloc),
+        given: Vec::new(alloc),
+    };
+    for _ in 0..random.below(16) {
+        let is_right = grow(alloc, &mut random, &mut modelled)?;
+        assert!(rt; is_right, "seed {seed}");
+    }
+    Ok(modelled)
+}
+
+// Whether the set and a copy of it hold the paths that it was given.
+fn holds_given(alloc: Global, modelled: &Modelled) -> VortexResult<bool> {
+    let copy = modelled.set.try_clone()?;
+    Ok(holds(alloc, &modelled.set, &modelled.given)? && holds(alloc, &copy, &modelled.given)?)
+}
+
+// Whether some path of the set covers another, after the asserts on what it holds and gives.
+fn is_covered(rt: &impl Abort, alloc: Global, seed: u64) -> VortexResult<bool> {
+    let modelled = random_set(rt, alloc, seed)?;
+    assert!(rt; holds_given(alloc, &modelled)?, "seed {seed}");
+    gives(rt, alloc, modelled, seed)
+}
+
 #[test]
 fn random_sets_hold_and_give_what_their_model_does(rt: HostRuntime) -> Result<(), Fail> {
-    let alloc = rt.alloc();
     let mut covered = 0u64;
     for seed in 1..=SETS {
-        let mut random = Random::new(seed);
-        let mut set = FieldPathSet::new(alloc);
-        let mut inserted = Vec::new(alloc);
-        for _ in 0..random.below(16) {
-            let steps = random_steps(alloc, &mut random)?;
-            set.insert(path(alloc, &steps)?)?;
-            add(&mut inserted, steps)?;
-            let sought = random_steps(alloc, &mut random)?;
-            let is_there = set.contains(&path(alloc, &sought)?);
-            assert_eq!(rt;
-                is_there,
-                inserted.contains(&sought),
-                "seed {seed}: {sought:?}"
-            );
-        }
-        let least = least(alloc, &inserted)?;
-        if least.len() < inserted.len() {
-            covered = covered.wrapping_add(1);
-        }
-        holds(&rt, alloc, &set, &inserted, seed)?;
-        holds(&rt, alloc, &set.try_clone()?, &inserted, seed)?;
-        gives(&rt, alloc, set, &least, seed)?;
+        let is_covered = is_covered(&rt, rt.alloc(), seed)?;
+        covered = covered.wrapping_add(u64::from(is_covered));
     }
     assert!(rt;
         covered > SETS / 2,
@@ -105,37 +136,35 @@ fn random_sets_hold_and_give_what_their_model_does(rt: HostRuntime) -> Result<()
     Ok(())
 }
 
-// That the set holds these paths, each once.
-fn holds(
-    rt: &impl Abort,
-    alloc: Global,
-    set: &FieldPathSet,
-    paths: &[Steps],
-    seed: u64,
-) -> VortexResult<()> {
-    let held = texts(alloc, set.iter()?)?;
-    assert_eq!(rt; held, model_texts(alloc, paths)?, "seed {seed}");
-    Ok(())
+// Whether the set holds these paths, each once.
+fn holds(alloc: Global, set: &FieldPathSet, paths: &[Steps]) -> VortexResult<bool> {
+    Ok(texts(alloc, set.iter()?)? == model_texts(alloc, paths)?)
 }
 
-// That the set gives these paths, each once, by one visit for each beginning.
-fn gives(
+// That the set gives its least paths, each once, by one visit for each of their beginnings; and whether it has others.
+fn gives(rt: &impl Abort, alloc: Global, modelled: Modelled, seed: u64) -> VortexResult<bool> {
+    let Modelled { set, given } = modelled;
+    let least = least(alloc, &given)?;
+    let visits = visits(rt, alloc, set, &least, seed)?;
+    assert!(rt;
+        visits == count_beginnings(alloc, &least)? as u64,
+        "seed {seed}"
+    );
+    Ok(least.len() < given.len())
+}
+
+// By how many visits the set gives these paths, after the assert that it does.
+fn visits(
     rt: &impl Abort,
     alloc: Global,
     set: FieldPathSet,
     paths: &[Steps],
     seed: u64,
-) -> VortexResult<()> {
+) -> VortexResult<u64> {
     let (given, visits) = set.into_iter_counted()?;
-    assert_eq!(rt;
-        texts(alloc, given)?,
-        model_texts(alloc, paths)?,
+    assert!(rt;
+        texts(alloc, given)? == model_texts(alloc, paths)?,
         "seed {seed}"
     );
-    assert_eq!(rt;
-        visits,
-        count_beginnings(alloc, paths)? as u64,
-        "seed {seed}"
-    );
-    Ok(())
+    Ok(visits)
 }

@@ -7,7 +7,7 @@
 #![tactic(auto)]
 
 #[cfg(test)]
-mod malicious;
+mod deep;
 #[cfg(test)]
 mod messages;
 #[cfg(test)]

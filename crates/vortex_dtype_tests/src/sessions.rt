@@ -4,16 +4,15 @@
 // Sessions, plugins and typed extensions at work.
 use dtype_fixtures::is_printed;
 use std::alloc::Global;
+use std::fmt::Debug;
 use std::test::Fail;
 use vortex_dtype::{
     DType, DTypeSession, ExtDType, ExtDTypePlugin, ExtDTypeRef, ExtId, ExtVTable, ForeignExtDType,
     ForeignExtMetadata, Nullability, PluginOf, VortexError, VortexResult,
 };
-use vortex_dtype_fixtures::{AllKept, Tag, TagName, TextAlone, Word};
+use vortex_dtype_fixtures::{Tag, TagName, TextAlone, Word};
 
-const REQUIRED: Nullability = Nullability::NonNullable;
-
-const NULLABLE: Nullability = Nullability::Nullable;
+const TEXT: DType = DType::Utf8(Nullability::NonNullable);
 
 // A session with `x.tag` as a vtable and `x.text`.
 pub(crate) fn tagging(alloc: Global) -> VortexResult<DTypeSession> {
@@ -23,113 +22,73 @@ pub(crate) fn tagging(alloc: Global) -> VortexResult<DTypeSession> {
     Ok(session)
 }
 
-// An extension without its library, over a text.
-fn erased(alloc: Global, id: &str, metadata: &[u8]) -> VortexResult<ExtDTypeRef> {
+// An extension without its library.
+fn erased(alloc: Global, id: &str, metadata: &[u8], storage: DType) -> VortexResult<ExtDTypeRef> {
     let metadata = Vec::from_slice(alloc, metadata)?;
-    ExtDTypeRef::from_parts(
-        alloc,
-        ExtId::new(alloc, id)?,
-        metadata,
-        DType::Utf8(REQUIRED),
-    )
+    ExtDTypeRef::from_parts(alloc, ExtId::new(alloc, id)?, metadata, storage)
 }
 
-fn tag_name(alloc: Global, bytes: &[u8]) -> VortexResult<TagName> {
-    Ok(TagName(Vec::from_slice(alloc, bytes)?))
+// Whether the downcast is refused by this number, and hands back what was handed in.
+fn is_handed_back<V: ExtVTable + Drop>(
+    alloc: Global,
+    vtable: V,
+    handed_in: &ExtDTypeRef,
+    number: u8,
+) -> VortexResult<bool>
+where
+    V::Metadata: Drop,
+{
+    match ExtDType::try_downcast(alloc, handed_in.try_clone(alloc)?, vtable) {
+        Ok(_) => Ok(false),
+        Err((back, fault)) => Ok(back == *handed_in && fault.number() == number),
+    }
 }
 
 #[test]
 fn a_refused_downcast_hands_back_an_equal_value(rt: HostRuntime) -> Result<(), Fail> {
     let alloc = rt.alloc();
     for (id, metadata, number) in [("y", b"AB", 23), ("x.tag", b"a!", 22), ("y.tag", b"a!", 23)] {
-        let handed_in = erased(alloc, id, metadata)?;
-        match ExtDType::try_downcast(alloc, handed_in.try_clone(alloc)?, Tag) {
-            Ok(_) => panic!(rt; "taken"),
-            Err((back, fault)) => {
-                assert_eq!(rt; fault.number(), number, "{id}");
-                assert!(rt; back == handed_in);
-            }
-        }
+        let handed_in = erased(alloc, id, metadata, TEXT)?;
+        assert!(rt; is_handed_back(alloc, Tag, &handed_in, number)?, "{id}");
     }
+    let handed_in = erased(alloc, "x.word", b"AB", DType::Null)?;
+    assert!(rt; is_handed_back(alloc, Word, &handed_in, 22)?);
     Ok(())
 }
 
 fn tag(alloc: Global, bytes: &[u8]) -> VortexResult<ExtDType<Tag>> {
-    ExtDType::try_with_vtable(alloc, Tag, tag_name(alloc, bytes)?, DType::Utf8(REQUIRED))
+    let metadata = TagName(Vec::from_slice(alloc, bytes)?);
+    ExtDType::try_new(alloc, metadata, DType::Null)
 }
 
-#[test]
-fn a_downcast_over_a_storage_that_does_not_fit_is_handed_back(rt: HostRuntime) -> Result<(), Fail> {
-    let alloc = rt.alloc();
-    let id = ExtId::new(alloc, "x.word")?;
-    let metadata = Vec::from_slice(alloc, b"AB")?;
-    let handed_in = ExtDTypeRef::from_parts(alloc, id, metadata, DType::Bool(REQUIRED))?;
-    match ExtDType::try_downcast(alloc, handed_in.try_clone(alloc)?, Word) {
-        Ok(_) => panic!(rt; "taken"),
-        Err((back, fault)) => {
-            assert_eq!(rt; fault, VortexError::MetadataRefused);
-            assert!(rt; back == handed_in);
-        }
-    }
-    assert!(rt; ExtDType::try_downcast(alloc, erased(alloc, "x.word", b"AB")?, Word).is_ok());
-    Ok(())
-}
-
-#[test]
-fn metadata_that_does_not_fit_the_storage_is_refused(rt: HostRuntime) -> Result<(), Fail> {
-    let alloc = rt.alloc();
-    let metadata = tag_name(alloc, b"ab")?;
-    let over_bool = ExtDType::<Word>::try_new(alloc, metadata, DType::Bool(REQUIRED));
-    assert!(rt; over_bool.is_err_and(|refusal| refusal == VortexError::MetadataRefused));
-    let plugin = PluginOf::new(Word);
-    let over_bool = plugin.deserialize(alloc, b"AB", &DType::Bool(REQUIRED));
-    assert!(rt; over_bool.is_err_and(|refusal| refusal == VortexError::MetadataRefused));
-    let over_text = plugin.deserialize(alloc, b"AB", &DType::Utf8(NULLABLE))?;
-    assert_eq!(rt; over_text.as_slice(), b"ab".as_slice());
-    Ok(())
+// Whether the text of `Debug` is this.
+fn is_shown<T: Debug>(alloc: Global, value: &T, text: &str) -> VortexResult<bool> {
+    Ok(format!(in alloc; "{value:?}")?.as_str() == text)
 }
 
 #[test]
 fn sessions_and_typed_extensions_have_debug_texts(rt: HostRuntime) -> Result<(), Fail> {
     let alloc = rt.alloc();
-    let session = tagging(alloc)?;
-    let text = format!(in alloc; "{session:?}")?;
-    assert_eq!(rt;
-        text.as_str(),
-        "DTypeSession { plugins: 2, allow_unknown: false }"
-    );
-    let typed = ExtDType::<Tag>::try_new(alloc, tag_name(alloc, b"ab")?, DType::Null)?;
-    let text = format!(in alloc; "{typed:?}")?;
-    assert_eq!(rt;
-        text.as_str(),
-        "ExtDType { vtable: Tag, metadata: TagName([97, 98]), storage: Null }"
-    );
+    let text = "DTypeSession { plugins: 2, allow_unknown: false }";
+    assert!(rt; is_shown(alloc, &tagging(alloc)?, text)?);
+    let text = "ExtDType { vtable: Tag, metadata: TagName([97, 98]), storage: Null }";
+    assert!(rt; is_shown(alloc, &tag(alloc, b"ab")?, text)?);
     Ok(())
 }
 
 #[test]
-fn typed_extensions_have_their_parts(rt: HostRuntime) -> Result<(), Fail> {
-    let alloc = rt.alloc();
-    let typed = ExtDType::<Tag>::try_new(alloc, tag_name(alloc, b"ab")?, DType::Utf8(REQUIRED))?;
-    assert_eq!(rt; typed.id(), "x.tag");
-    assert_eq!(rt; typed.vtable().id(), "x.tag");
-    let metadata = typed.serialize_metadata(alloc)?;
-    assert_eq!(rt; metadata.as_slice(), b"ab".as_slice());
-    let nullable = typed.with_nullability(alloc, NULLABLE)?;
-    assert!(rt;
-        is_printed(alloc, &nullable, "x.tag[2B](utf8?)")?,
-        "{nullable}"
-    );
+fn typed_extensions_have_their_id(rt: HostRuntime) -> Result<(), Fail> {
+    let typed = tag(rt.alloc(), b"ab")?;
+    assert!(rt; typed.id() == "x.tag" && typed.vtable().id() == "x.tag");
     Ok(())
 }
 
 #[test]
 fn metadata_that_cannot_be_written_is_refused(rt: HostRuntime) -> Result<(), Fail> {
-    let alloc = rt.alloc();
-    let capitals = tag(alloc, b"AB")?;
-    let written = capitals.serialize_metadata(alloc);
+    let capitals = tag(rt.alloc(), b"AB")?;
+    let written = capitals.serialize_metadata(rt.alloc());
     assert!(rt; written.is_err_and(|refusal| refusal == VortexError::MetadataRefused));
-    let erased = capitals.erased(alloc);
+    let erased = capitals.erased(rt.alloc());
     assert!(rt; erased.is_err_and(|refusal| refusal == VortexError::MetadataRefused));
     Ok(())
 }
@@ -146,47 +105,31 @@ fn foreign_bytes(alloc: Global) -> VortexResult<ForeignExtMetadata> {
 fn foreign_extensions_are_copied_and_printed(rt: HostRuntime) -> Result<(), Fail> {
     let alloc = rt.alloc();
     let vtable = foreign(alloc)?;
-    let again = vtable.try_clone(alloc)?;
-    assert!(rt; again == vtable);
+    assert!(rt; vtable.try_clone(alloc)? == vtable);
     let metadata = foreign_bytes(alloc)?;
-    let copy = metadata.try_clone(alloc)?;
-    assert!(rt; copy == metadata);
-    assert!(rt; is_printed(alloc, &metadata, "3B")?, "{metadata}");
+    assert!(rt; metadata.try_clone(alloc)? == metadata);
+    assert!(rt; is_printed(alloc, &metadata, "3B")?);
     Ok(())
+}
+
+// Whether these bytes are the metadata that a downcast keeps.
+fn keeps(alloc: Global, bytes: &[u8]) -> VortexResult<bool> {
+    let bare = erased(alloc, "y", bytes, TEXT)?;
+    match ExtDType::try_downcast(alloc, bare, foreign(alloc)?) {
+        Ok(typed) => Ok(typed.metadata().0.as_slice() == bytes),
+        Err(_) => Ok(false),
+    }
+}
+
+fn erased_again(alloc: Global) -> VortexResult<ExtDTypeRef> {
+    ExtDType::try_with_vtable(alloc, foreign(alloc)?, foreign_bytes(alloc)?, TEXT)?.erased(alloc)
 }
 
 #[test]
 fn foreign_extensions_keep_all_bytes(rt: HostRuntime) -> Result<(), Fail> {
     let alloc = rt.alloc();
-    let bare = ForeignExtDType::from_parts(
-        alloc,
-        ExtId::new(alloc, "y")?,
-        Vec::from_slice(alloc, b"a!B")?,
-        DType::Utf8(REQUIRED),
-    )?;
-    match ExtDType::try_downcast(alloc, bare, foreign(alloc)?) {
-        Ok(typed) => assert_eq!(rt; typed.metadata().0.as_slice(), b"a!B".as_slice()),
-        Err(_) => panic!(rt; "refused"),
-    }
-    let dtype = DType::Bool(NULLABLE);
-    let typed = ExtDType::try_with_vtable(alloc, foreign(alloc)?, foreign_bytes(alloc)?, dtype)?;
-    let bare = typed.erased(alloc)?;
-    assert!(rt; is_printed(alloc, &bare, "y[3B](bool?)")?, "{bare}");
-    Ok(())
-}
-
-#[test]
-fn plugins_of_vtables_work_through_their_bound(rt: HostRuntime) -> Result<(), Fail> {
-    let alloc = rt.alloc();
-    let storage = DType::Utf8(NULLABLE);
-    let tag = written_back(alloc, &PluginOf::new(Tag), b"AB", &storage)?;
-    assert_eq!(rt; tag.as_slice(), b"ab".as_slice());
-    let kept = written_back(alloc, &AllKept, b"AB", &storage)?;
-    assert_eq!(rt; kept.as_slice(), b"AB".as_slice());
-    let plugin = PluginOf::new(foreign(alloc)?);
-    assert_eq!(rt; plugin.id(), "y");
-    let kept = written_back(alloc, &plugin, b"A!", &storage)?;
-    assert_eq!(rt; kept.as_slice(), b"A!".as_slice());
+    assert!(rt; keeps(alloc, b"a!B")?);
+    assert!(rt; is_printed(alloc, &erased_again(alloc)?, "y[3B](utf8)")?);
     Ok(())
 }
 
@@ -194,7 +137,15 @@ fn written_back<P: ExtDTypePlugin>(
     alloc: Global,
     plugin: &P,
     metadata: &[u8],
-    storage: &DType,
 ) -> VortexResult<Vec<u8>> {
-    plugin.deserialize(alloc, metadata, storage)
+    plugin.deserialize(alloc, metadata, &TEXT)
+}
+
+#[test]
+fn a_plugin_of_a_vtable_works_through_its_bound(rt: HostRuntime) -> Result<(), Fail> {
+    let alloc = rt.alloc();
+    let plugin = PluginOf::new(foreign(alloc)?);
+    assert!(rt; plugin.id() == "y");
+    assert!(rt; written_back(alloc, &plugin, b"A!")?.as_slice() == b"A!".as_slice());
+    Ok(())
 }

@@ -50,12 +50,16 @@ pub fn with_one(alloc: Global, plugin: Box<dyn ExtDTypePlugin>) -> VortexResult<
     Ok(session)
 }
 
+fn two(alloc: Global) -> VortexResult<DTypeSession> {
+    let tag = Box::new(alloc, PluginOf::new(Tag))?;
+    let text = Box::new(alloc, TextAlone)?;
+    with_two(alloc, tag, text)
+}
+
 #[test]
 fn sessions_that_are_handed_out_know_their_plugins(rt: HostRuntime) -> Result<(), Fail> {
     let alloc = rt.alloc();
-    let tag = Box::new(alloc, PluginOf::new(Tag))?;
-    let text = Box::new(alloc, TextAlone)?;
-    let session = with_two(alloc, tag, text)?;
+    let session = two(alloc)?;
     assert!(rt; session.registry("x.tag") && session.registry("x.text"));
     assert!(rt; session.allows_unknown() && !session.registry("x.other"));
     assert!(rt; for_any_file(alloc).allows_unknown());

@@ -11,7 +11,7 @@ use std::alloc::Global;
 use std::hash::{DefaultHasher, Hasher};
 use std::process::Abort;
 use std::test::Fail;
-use vortex_dtype::{DType, DTypeProto, VortexResult, pb};
+use vortex_dtype::{DType, DTypeProto, DTypeSession, VortexError, VortexResult, pb};
 
 const PAIRS: u64 = 20_000;
 
@@ -57,27 +57,20 @@ struct Tally {
     // Without one being below the other.
     equal_erased: u64,
     different: u64,
+    // Of the first types, which kinds stood in one.
+    is_met: [bool; 13],
 }
 
 #[test]
 fn types_compare_as_their_messages_do(rt: HostRuntime) -> Result<(), Fail> {
-    let alloc = rt.alloc();
-    let mut session = tagging(alloc)?;
-    session.allow_unknown();
+    let session = tagging(rt.alloc(), true)?;
     let mut tally = Tally::default();
-    let mut missing = Vec::from_slice(alloc, &KINDS)?;
     for seed in 1..=PAIRS {
-        let (first, second) = two_messages(alloc, seed)?;
-        let one = DType::from_proto(alloc, &first, &session);
-        let other = DType::from_proto(alloc, &second, &session);
-        if let (Ok(one), Ok(other)) = (one, other) {
-            let models = (Model::of(alloc, &first)?, Model::of(alloc, &second)?);
-            compare(&rt, &one, &other, &models, seed);
-            count(&mut tally, &models, first == second);
-            missing.retain(|kind| !models.0.says(kind));
-        }
+        compare_pair(&rt, rt.alloc(), &session, &mut tally, seed)?;
     }
-    assert!(rt; missing.is_empty(), "no type is of the kinds {missing:?}");
+    for (kind, is_met) in KINDS.iter().zip(tally.is_met.iter()) {
+        assert!(rt; *is_met, "no type is of the kind {kind}");
+    }
     let least = PAIRS / 1000;
     assert!(rt;
         tally.equal > least
@@ -90,34 +83,79 @@ fn types_compare_as_their_messages_do(rt: HostRuntime) -> Result<(), Fail> {
     Ok(())
 }
 
+// Compares the types of a pair of messages, and counts them.
+fn compare_pair(
+    rt: &impl Abort,
+    alloc: Global,
+    session: &DTypeSession,
+    tally: &mut Tally,
+    seed: u64,
+) -> VortexResult<()> {
+    let (first, second) = two_messages(alloc, seed)?;
+    let Some(one) = read(alloc, session, &first)? else {
+        return Ok(());
+    };
+    compare_with(rt, alloc, session, tally, &one, (&first, &second), seed)
+}
+
+// The type that the message says, if it says one.
+fn read(alloc: Global, session: &DTypeSession, proto: &pb::DType) -> VortexResult<Option<DType>> {
+    match DType::from_proto(alloc, proto, session) {
+        Ok(dtype) => Ok(Some(dtype)),
+        Err(VortexError::OutOfMemory) => Err(VortexError::OutOfMemory),
+        Err(_) => Ok(None),
+    }
+}
+
+fn two_models(
+    alloc: Global,
+    first: &pb::DType,
+    second: &pb::DType,
+) -> VortexResult<(Model, Model)> {
+    let one = Model::of(alloc, first)?;
+    Ok((one, Model::of(alloc, second)?))
+}
+
+// Compares the type of the first message with that of the second, where that says one.
+fn compare_with(
+    rt: &impl Abort,
+    alloc: Global,
+    session: &DTypeSession,
+    tally: &mut Tally,
+    one: &DType,
+    (first, second): (&pb::DType, &pb::DType),
+    seed: u64,
+) -> VortexResult<()> {
+    let Some(other) = read(alloc, session, second)? else {
+        return Ok(());
+    };
+    let models = two_models(alloc, first, second)?;
+    compare(rt, one, &other, &models, seed);
+    count(tally, &models, first == second);
+    Ok(())
+}
+
 // That the types compare as what their messages say, and that equal ones hash alike.
 fn compare(rt: &impl Abort, one: &DType, other: &DType, models: &(Model, Model), seed: u64) {
     let (first, second) = models;
     let is_equal = first == second;
     let is_same_erased = first.is_same_erased(second);
-    assert_eq!(rt; *one == *other, is_equal, "seed {seed}: {one} and {other}");
-    assert_eq!(rt;
-        one.eq_ignore_nullability(other),
-        is_same_erased,
-        "seed {seed}: {one} and {other}"
+    let is_below = one.eq_with_nullability_subset(other);
+    let is_above = one.eq_with_nullability_superset(other);
+    assert!(rt; (*one == *other) == is_equal, "seed {seed}: ==");
+    assert!(rt;
+        one.eq_ignore_nullability(other) == is_same_erased,
+        "seed {seed}: erased"
     );
-    assert_eq!(rt;
-        one.eq_with_nullability_subset(other),
-        first.is_below(second),
-        "seed {seed}: {one} and {other}"
-    );
-    assert_eq!(rt;
-        one.eq_with_nullability_superset(other),
-        second.is_below(first),
-        "seed {seed}: {one} and {other}"
-    );
+    assert!(rt; is_below == first.is_below(second), "seed {seed}: below");
+    assert!(rt; is_above == second.is_below(first), "seed {seed}: above");
     assert!(rt;
         !is_equal || hash_of(one) == hash_of(other),
-        "seed {seed}: {one}"
+        "seed {seed}: hashes"
     );
     assert!(rt;
         !is_same_erased || erased_hash(one) == erased_hash(other),
-        "seed {seed}: {one}"
+        "seed {seed}: erased hashes"
     );
 }
 
@@ -141,4 +179,7 @@ fn count(tally: &mut Tally, models: &(Model, Model), is_same_message: bool) {
         &mut tally.different
     };
     *way = way.wrapping_add(1);
+    for (kind, is_met) in KINDS.iter().zip(tally.is_met.iter_mut()) {
+        *is_met |= first.says(kind);
+    }
 }

@@ -21,33 +21,46 @@ const NUMBERS: [u8; 23] = [
 
 #[test]
 fn random_messages_are_kept_or_refused_by_their_first_fault(rt: HostRuntime) -> Result<(), Fail> {
-    let alloc = rt.alloc();
-    let refusing = tagging(alloc)?;
-    let mut keeping = tagging(alloc)?;
-    keeping.allow_unknown();
-    let mut met = Vec::new(alloc);
+    let refusing = tagging(rt.alloc(), false)?;
+    let keeping = tagging(rt.alloc(), true)?;
+    let mut is_met = [false; 256];
+    let mut read = 0u64;
     let mut several = 0u64;
     for seed in 1..=MESSAGES {
         let session = if seed % 2 == 0 { &keeping } else { &refusing };
-        let proto = message(alloc, seed)?;
-        let found = faults(alloc, &proto, session.allows_unknown())?;
-        if found.len() > 1 {
-            several = several.wrapping_add(1);
+        let (number, has_several) = tried(&rt, rt.alloc(), session, seed)?;
+        match number {
+            Some(number) => is_met[usize::from(number)] = true,
+            None => read = read.wrapping_add(1),
         }
-        met.push(answer(&rt, alloc, &proto, session, &found, seed)?)?;
+        several = several.wrapping_add(u64::from(has_several));
     }
-    assert!(rt; met.contains(&None), "every message has a fault");
+    assert!(rt; read > 0, "every message has a fault");
     assert!(rt;
         several > MESSAGES / 10,
         "only {several} have several faults"
     );
     for number in NUMBERS {
         assert!(rt;
-            met.contains(&Some(number)),
+            is_met[usize::from(number)],
             "no message is refused by {number}"
         );
     }
     Ok(())
+}
+
+// By which number the message of this seed is refused, if it is, after the asserts on it; and whether it has several
+// faults.
+fn tried(
+    rt: &impl Abort,
+    alloc: Global,
+    session: &DTypeSession,
+    seed: u64,
+) -> VortexResult<(Option<u8>, bool)> {
+    let proto = message(alloc, seed)?;
+    let found = faults(alloc, &proto, session.allows_unknown())?;
+    let number = answer(rt, alloc, &proto, session, &found, seed)?;
+    Ok((number, found.len() > 1))
 }
 
 // By which number the message with these faults is refused, if it is, after the asserts on it.
@@ -90,10 +103,19 @@ fn is_kept(
     session: &DTypeSession,
 ) -> VortexResult<bool> {
     let written = dtype.to_proto(alloc)?;
-    let read = DType::from_proto(alloc, &written, session)?;
-    Ok(
-        Model::of(alloc, &written)? == Model::of(alloc, proto)?
-            && read == *dtype
-            && read.to_proto(alloc)? == written,
-    )
+    Ok(says_the_same(alloc, &written, proto)? && is_read_back(alloc, &written, dtype, session)?)
+}
+
+fn says_the_same(alloc: Global, one: &pb::DType, other: &pb::DType) -> VortexResult<bool> {
+    Ok(Model::of(alloc, one)? == Model::of(alloc, other)?)
+}
+
+fn is_read_back(
+    alloc: Global,
+    written: &pb::DType,
+    dtype: &DType,
+    session: &DTypeSession,
+) -> VortexResult<bool> {
+    let read = DType::from_proto(alloc, written, session)?;
+    Ok(read == *dtype && read.to_proto(alloc)? == *written)
 }

@@ -5,9 +5,12 @@ use std::alloc::Global;
 use vortex_dtype::{DTypeSession, ExtDTypePlugin, PluginOf, VortexResult};
 use vortex_dtype_fixtures::{Tag, TextAlone};
 
-// A session with `x.tag` as a vtable and `x.text`.
-pub(crate) fn tagging(alloc: Global) -> VortexResult<DTypeSession> {
+// A session with `x.tag` as a vtable and `x.text`, which keeps what it doesn't know where asked.
+pub(crate) fn tagging(alloc: Global, keeps_unknown: bool) -> VortexResult<DTypeSession> {
     let mut session = DTypeSession::new(alloc);
+    if keeps_unknown {
+        session.allow_unknown();
+    }
     session.register(Box::new(alloc, PluginOf::new(Tag))?)?;
     session.register(Box::new(alloc, TextAlone)?)?;
     Ok(session)

@@ -3,7 +3,7 @@
 
 // Commands on the messages of paths.
 use console_paths::say_path;
-use console_types::{Call, ConsoleResult, Line, write_quoted};
+use console_types::{Call, ConsoleResult, Line, put, write_quoted};
 use std::alloc::Global;
 use vortex_dtype::{FieldPath, FieldPathProto, VortexResult, pb};
 
@@ -65,11 +65,10 @@ fn read_part(alloc: Global, line: &mut Line<'_>) -> ConsoleResult<pb::Field> {
 fn write_part(out: &mut String, part: &pb::Field) -> VortexResult<()> {
     match &part.field_type {
         Some(pb::FieldType::Name(name)) => {
-            out.push_str("path { name: ")?;
+            put(out, "path { name: ")?;
             write_quoted(out, name.as_str())?;
-            out.push_str(" }")?;
+            put(out, " }")
         }
-        None => out.push_str("path {}")?,
+        None => put(out, "path {}"),
     }
-    Ok(())
 }

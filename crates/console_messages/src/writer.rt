@@ -3,28 +3,26 @@
 
 // The writer of messages in protobuf's text format. It goes down no further than a number of levels, which no
 // message reaches that was read or written from a type.
-use console_types::{Call, ConsoleResult, WRITTEN_LEVELS, write_quoted};
+use console_types::{Call, ConsoleResult, WRITTEN_LEVELS, put, write_quoted};
 use vortex_dtype::{PType, VortexResult, pb};
 
 /// Answers a message.
 pub fn say_message(call: &mut Call<'_>, message: &pb::DType) -> ConsoleResult<()> {
     call.separate()?;
     match &message.dtype_type {
-        Some(kind) => write_kind(&mut call.answer, kind, WRITTEN_LEVELS)?,
-        None => call.answer.push_str("{}")?,
+        Some(kind) => Ok(write_kind(&mut call.answer, kind, WRITTEN_LEVELS)?),
+        None => Ok(put(&mut call.answer, "{}")?),
     }
-    Ok(())
 }
 
 // Writes a kind and its fields in braces.
 #[cycle(written)]
 fn write_kind(out: &mut String, kind: &pb::DtypeType, levels: u32) -> VortexResult<()> {
-    out.push_str(name_of(kind))?;
-    out.push_str(" {")?;
+    put(out, name_of(kind))?;
+    put(out, " {")?;
     let length = out.len();
     write_parts(out, kind, levels)?;
-    out.push_str(if out.len() == length { "}" } else { " }" })?;
-    Ok(())
+    put(out, if out.len() == length { "}" } else { " }" })
 }
 
 fn name_of(kind: &pb::DtypeType) -> &'static str {
@@ -97,7 +95,7 @@ fn write_union(out: &mut String, union: &pb::Union, levels: u32) -> VortexResult
 #[cycle(written)]
 fn write_extension(out: &mut String, extension: &pb::Extension, levels: u32) -> VortexResult<()> {
     if !extension.id.is_empty() {
-        out.push_str(" id: ")?;
+        put(out, " id: ")?;
         write_quoted(out, extension.id.as_str())?;
     }
     write_child(
@@ -135,13 +133,12 @@ fn write_child(
     write!(out, " {field} {{")?;
     match &child.dtype_type {
         Some(kind) => {
-            out.push(' ')?;
+            put(out, " ")?;
             write_kind(out, kind, levels)?;
-            out.push_str(" }")?;
+            put(out, " }")
         }
-        None => out.push('}')?,
+        None => put(out, "}"),
     }
-    Ok(())
 }
 
 fn write_primitive(out: &mut String, primitive: &pb::Primitive) -> VortexResult<()> {
@@ -182,26 +179,25 @@ fn write_number(out: &mut String, field: &str, number: i64) -> VortexResult<()> 
 
 fn write_names(out: &mut String, names: &[String]) -> VortexResult<()> {
     for name in names {
-        out.push_str(" names: ")?;
+        put(out, " names: ")?;
         write_quoted(out, name.as_str())?;
     }
     Ok(())
 }
 
 fn write_bytes(out: &mut String, bytes: &[u8]) -> VortexResult<()> {
-    out.push_str(" metadata: \"")?;
+    put(out, " metadata: \"")?;
     for byte in bytes {
         write_byte(out, *byte)?;
     }
-    Ok(out.push('"')?)
+    put(out, "\"")
 }
 
 fn write_byte(out: &mut String, byte: u8) -> VortexResult<()> {
     match byte {
-        b'\\' => out.push_str("\\\\")?,
-        b'"' => out.push_str("\\\"")?,
-        b' '..=b'~' => out.push(char::from(byte))?,
-        _ => write!(out, "\\x{byte:02x}")?,
+        b'\\' => put(out, "\\\\"),
+        b'"' => put(out, "\\\""),
+        b' '..=b'~' => Ok(out.push(char::from(byte))?),
+        _ => Ok(write!(out, "\\x{byte:02x}")?),
     }
-    Ok(())
 }

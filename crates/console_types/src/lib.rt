@@ -30,7 +30,7 @@ pub use console_fault::{ConsoleFault, ConsoleResult};
 pub use extensions::last_extension;
 pub use line::{Line, expected_at};
 pub use reader::MOST_LEVELS;
-pub use writer::{WRITTEN_LEVELS, write_name, write_quoted};
+pub use writer::{WRITTEN_LEVELS, put, write_name, write_quoted};
 
 /// Answers a command of this crate, if it is one.
 pub fn answer(call: &mut Call<'_>, command: &str) -> ConsoleResult<bool> {

@@ -40,29 +40,34 @@ pub fn write_dtype(out: &mut String, dtype: &DType, levels: u32) -> VortexResult
     }
 }
 
+/// Writes a text.
+pub fn put(out: &mut String, text: &str) -> VortexResult<()> {
+    Ok(out.push_str(text)?)
+}
+
 // Writes a type a level deeper.
 #[cycle(written)]
 fn write_part(out: &mut String, dtype: &DType, levels: u32) -> VortexResult<()> {
     match levels.checked_sub(1) {
         Some(levels) => write_dtype(out, dtype, levels),
-        None => Ok(out.push_str("..")?),
+        None => put(out, ".."),
     }
 }
 
 // Writes a type behind this opening, and a closing parenthesis.
 #[cycle(written)]
 fn write_wrapped(out: &mut String, open: &str, dtype: &DType, levels: u32) -> VortexResult<()> {
-    out.push_str(open)?;
+    put(out, open)?;
     write_part(out, dtype, levels)?;
-    Ok(out.push(')')?)
+    put(out, ")")
 }
 
 /// Writes a map, without its nullability.
 #[cycle(written)]
 pub fn write_map(out: &mut String, map: &MapDType, levels: u32) -> VortexResult<()> {
-    out.push_str("map(")?;
+    put(out, "map(")?;
     write_part(out, map.key_dtype(), levels)?;
-    out.push_str(", ")?;
+    put(out, ", ")?;
     write_part(out, map.value_dtype(), levels)?;
     write_keys_sorted(out, map.keys_sorted())
 }
@@ -71,13 +76,13 @@ pub fn write_map(out: &mut String, map: &MapDType, levels: u32) -> VortexResult<
 #[cycle(written)]
 pub fn write_fields(out: &mut String, fields: &StructFields, levels: u32) -> VortexResult<()> {
     let mut is_first = true;
-    out.push('{')?;
+    put(out, "{")?;
     for (name, dtype) in fields.pairs() {
         write_field_name(out, is_first, name)?;
         write_part(out, dtype, levels)?;
         is_first = false;
     }
-    Ok(out.push('}')?)
+    put(out, "}")
 }
 
 /// Writes a union, without its nullability.
@@ -85,14 +90,14 @@ pub fn write_fields(out: &mut String, fields: &StructFields, levels: u32) -> Vor
 pub fn write_union(out: &mut String, variants: &UnionVariants, levels: u32) -> VortexResult<()> {
     let is_consecutive = variants.is_consecutive();
     let mut is_first = true;
-    out.push_str("union(")?;
+    put(out, "union(")?;
     for (name, tag, dtype) in variants.triples() {
         let shown = if is_consecutive { None } else { Some(tag) };
         write_variant_name(out, is_first, name, shown)?;
         write_part(out, dtype, levels)?;
         is_first = false;
     }
-    Ok(out.push(')')?)
+    put(out, ")")
 }
 
 /// Writes an extension.
@@ -124,10 +129,10 @@ fn write_keys_sorted(out: &mut String, keys_sorted: bool) -> VortexResult<()> {
 // Writes a comma where there is a field before, a field's name and an equals sign.
 fn write_field_name(out: &mut String, is_first: bool, name: &FieldName) -> VortexResult<()> {
     if !is_first {
-        out.push_str(", ")?;
+        put(out, ", ")?;
     }
     write_name(out, name)?;
-    Ok(out.push('=')?)
+    put(out, "=")
 }
 
 // Writes a comma where there is a variant before, a variant's name, its tag if it is shown, and an equals sign.
@@ -138,38 +143,38 @@ fn write_variant_name(
     shown: Option<u8>,
 ) -> VortexResult<()> {
     if !is_first {
-        out.push_str(", ")?;
+        put(out, ", ")?;
     }
     write_name(out, name)?;
     if let Some(tag) = shown {
         write!(out, "@{tag}")?;
     }
-    Ok(out.push('=')?)
+    put(out, "=")
 }
 
 // Writes the metadata of an extension.
 fn write_bracketed(out: &mut String, metadata: &[u8]) -> VortexResult<()> {
-    out.push('[')?;
+    put(out, "[")?;
     write_hexadecimals(out, metadata)?;
-    Ok(out.push(']')?)
+    put(out, "]")
 }
 
 fn write_nullability(out: &mut String, n: Nullability) -> VortexResult<()> {
     if n.is_nullable() {
-        out.push('?')?;
+        put(out, "?")
+    } else {
+        Ok(())
     }
-    Ok(())
 }
 
 /// Writes a name: bare where it can stand so, else in quotes with the library's escapes.
 pub fn write_name(out: &mut String, name: &FieldName) -> VortexResult<()> {
     let text = name.as_str();
     if !text.is_empty() && text.bytes().all(is_bare) {
-        out.push_str(text)?;
+        put(out, text)
     } else {
-        write_quoted(out, text)?;
+        write_quoted(out, text)
     }
-    Ok(())
 }
 
 /// Writes names, joined by commas, or `-` where there are none.
@@ -177,13 +182,13 @@ pub fn write_names(out: &mut String, names: &FieldNames) -> VortexResult<()> {
     let mut is_first = true;
     for name in names.iter() {
         if !is_first {
-            out.push(',')?;
+            put(out, ",")?;
         }
         write_name(out, name)?;
         is_first = false;
     }
     if is_first {
-        out.push('-')?;
+        put(out, "-")?;
     }
     Ok(())
 }
@@ -192,41 +197,42 @@ pub fn write_names(out: &mut String, names: &FieldNames) -> VortexResult<()> {
 pub fn write_id(out: &mut String, id: &ExtId) -> VortexResult<()> {
     let text = id.as_str();
     if !text.is_empty() && text.bytes().all(|byte| byte == b'.' || is_bare(byte)) {
-        out.push_str(text)?;
+        put(out, text)
     } else {
-        write_quoted(out, text)?;
+        write_quoted(out, text)
     }
-    Ok(())
 }
 
 /// Writes a text in quotes, with the library's escapes.
 pub fn write_quoted(out: &mut String, text: &str) -> VortexResult<()> {
-    out.push('"')?;
+    put(out, "\"")?;
     for character in text.chars() {
         write_escaped(out, character)?;
     }
-    Ok(out.push('"')?)
+    put(out, "\"")
 }
 
 fn write_escaped(out: &mut String, character: char) -> VortexResult<()> {
     match character {
-        '\\' => out.push_str("\\\\")?,
-        '"' => out.push_str("\\\"")?,
-        '\t' => out.push_str("\\t")?,
-        '\n' => out.push_str("\\n")?,
-        '\r' => out.push_str("\\r")?,
-        '\0'..='\x1f' | '\x7f' => {
-            let byte = character as u32;
-            write!(out, "\\x{byte:02x}")?
-        }
-        _ => out.push(character)?,
+        '\\' => put(out, "\\\\"),
+        '"' => put(out, "\\\""),
+        '\t' => put(out, "\\t"),
+        '\n' => put(out, "\\n"),
+        '\r' => put(out, "\\r"),
+        '\0'..='\x1f' | '\x7f' => write_byte(out, character as u32),
+        _ => Ok(out.push(character)?),
     }
+}
+
+// Writes a byte as an escape.
+fn write_byte(out: &mut String, byte: u32) -> VortexResult<()> {
+    write!(out, "\\x{byte:02x}")?;
     Ok(())
 }
 
 /// Writes bytes in hexadecimal, behind their mark.
 pub fn write_hexadecimals(out: &mut String, bytes: &[u8]) -> VortexResult<()> {
-    out.push_str("0x")?;
+    put(out, "0x")?;
     for byte in bytes {
         write!(out, "{byte:02x}")?;
     }

@@ -2,10 +2,10 @@
 // SPDX-FileCopyrightText: Copyright the Vortex contributors
 
 // Commands on the messages of types that need no session.
-use crate::reader::read_argument;
-use crate::writer::say_message;
+use crate::reader::Message;
+use crate::writer::say_made_message;
 use console_types::{Call, ConsoleResult};
-use vortex_dtype::{DTypeProto, PType, pb};
+use vortex_dtype::{DType, DTypeProto, PType, pb};
 
 /// Answers the command, if it is one of these.
 pub fn answer(call: &mut Call<'_>, command: &str) -> ConsoleResult<bool> {
@@ -21,31 +21,26 @@ pub fn answer(call: &mut Call<'_>, command: &str) -> ConsoleResult<bool> {
 }
 
 fn write(call: &mut Call<'_>) -> ConsoleResult<()> {
-    let dtype = call.last_dtype()?;
-    say_message(call, &dtype.to_proto(call.alloc)?)
+    let dtype: DType = call.last()?;
+    say_made_message(call, dtype.to_proto(call.alloc))
 }
 
 fn copy(call: &mut Call<'_>) -> ConsoleResult<()> {
-    let message = read_argument(call)?;
-    call.end()?;
-    say_message(call, &message.try_clone(call.alloc)?)
+    let Message(message) = call.last()?;
+    say_made_message(call, message.try_clone(call.alloc))
 }
 
 fn eq(call: &mut Call<'_>) -> ConsoleResult<()> {
-    let message = read_argument(call)?;
-    let other = read_argument(call)?;
-    call.end()?;
+    let (Message(message), Message(other)) = call.last()?;
     call.say(message == other)
 }
 
 fn number(call: &mut Call<'_>) -> ConsoleResult<()> {
-    let ptype = call.ptype()?;
-    call.end()?;
+    let ptype: PType = call.last()?;
     call.say(pb::PType::from(ptype).number())
 }
 
 fn from_number(call: &mut Call<'_>) -> ConsoleResult<()> {
-    let number = call.number("a signed number of 32 bits")?;
-    call.end()?;
+    let number = call.last_number("a signed number of 32 bits")?;
     call.say_option(pb::PType::from_number(number).map(|known| PType::from(known)))
 }

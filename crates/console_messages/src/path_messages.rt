@@ -49,17 +49,22 @@ fn read_part(alloc: Global, line: &mut Line<'_>) -> ConsoleResult<pb::Field> {
     line.skip_blanks();
     line.take("{")?;
     line.skip_blanks();
-    let mut field_type = None;
-    if line.takes("name") {
-        line.skip_blanks();
-        line.take(":")?;
-        line.skip_blanks();
-        line.take("\"")?;
-        field_type = Some(pb::FieldType::Name(line.quoted_text(alloc)?));
-        line.skip_blanks();
+    let field_type = read_field_type(alloc, line)?;
+    line.before(pb::Field { field_type }, "}")
+}
+
+// Reads a name, if there is one, and the blanks behind it.
+fn read_field_type(alloc: Global, line: &mut Line<'_>) -> ConsoleResult<Option<pb::FieldType>> {
+    if !line.takes("name") {
+        return Ok(None);
     }
-    line.take("}")?;
-    Ok(pb::Field { field_type })
+    line.skip_blanks();
+    line.take(":")?;
+    line.skip_blanks();
+    line.take("\"")?;
+    let name = line.quoted_text(alloc)?;
+    line.skip_blanks();
+    Ok(Some(pb::FieldType::Name(name)))
 }
 
 fn write_part(out: &mut String, part: &pb::Field) -> VortexResult<()> {

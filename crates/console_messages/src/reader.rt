@@ -2,19 +2,24 @@
 // SPDX-FileCopyrightText: Copyright the Vortex contributors
 
 // The reader of messages in protobuf's text format, which goes down no further than a number of levels.
-use console_types::{Call, ConsoleResult, Line, MOST_LEVELS, expected_at};
+use console_types::{Argument, ConsoleResult, Line, MOST_LEVELS, expected_at};
 use std::alloc::Global;
 use vortex_dtype::pb;
 
-/// Reads a message that is an argument: a kind, or `{}`.
-pub fn read_argument(call: &mut Call<'_>) -> ConsoleResult<pb::DType> {
-    call.line.skip_blanks();
-    let dtype_type = if call.line.takes("{}") {
-        None
-    } else {
-        Some(read_kind(call.alloc, &mut call.line, MOST_LEVELS)?)
-    };
-    Ok(pb::DType { dtype_type })
+/// A message: a kind, or `{}`.
+#[derive(Drop)]
+pub struct Message(pub pb::DType);
+
+impl Argument for Message {
+    fn read(alloc: Global, line: &mut Line<'_>) -> ConsoleResult<Message> {
+        if line.takes("{}") {
+            return Ok(Message(pb::DType { dtype_type: None }));
+        }
+        let kind = read_kind(alloc, line, MOST_LEVELS)?;
+        Ok(Message(pb::DType {
+            dtype_type: Some(kind),
+        }))
+    }
 }
 
 // The fields of all kinds.
@@ -87,7 +92,7 @@ fn read_kind(alloc: Global, line: &mut Line<'_>, levels: u32) -> ConsoleResult<p
         }
         read_field(alloc, line, kind, &mut parts, levels)?;
     }
-    kind_of(alloc, kind, parts)?.ok_or(expected_at(place, "a kind of type"))
+    kind_of(alloc, place, kind, parts)
 }
 
 // Reads a field of a kind.
@@ -106,21 +111,22 @@ fn read_field(
     }
     line.skip_blanks();
     match field {
-        "element_type" | "key_type" | "storage_dtype" => {
-            parts.first = Some(Box::new(alloc, read_part(alloc, line, levels)?)?);
-            Ok(())
+        "element_type" | "key_type" | "storage_dtype" | "value_type" | "dtypes" => {
+            let part = read_part(alloc, line, levels)?;
+            keep_part(alloc, field, part, parts)
         }
-        "value_type" => {
-            parts.second = Some(Box::new(alloc, read_part(alloc, line, levels)?)?);
-            Ok(())
-        }
-        "dtypes" => Ok(parts.dtypes.push(read_part(alloc, line, levels)?)?),
-        _ => {
-            line.take(":")?;
-            line.skip_blanks();
-            read_value(alloc, line, field, parts)
-        }
+        _ => read_value(alloc, line, field, parts),
     }
+}
+
+// Keeps the message that is this field's.
+fn keep_part(alloc: Global, field: &str, part: pb::DType, parts: &mut Parts) -> ConsoleResult<()> {
+    match field {
+        "dtypes" => parts.dtypes.push(part)?,
+        "value_type" => parts.second = Some(Box::new(alloc, part)?),
+        _ => parts.first = Some(Box::new(alloc, part)?),
+    }
+    Ok(())
 }
 
 // Reads a message in braces, a level deeper.
@@ -136,35 +142,59 @@ fn read_part(alloc: Global, line: &mut Line<'_>, levels: u32) -> ConsoleResult<p
     }
     let kind = read_kind(alloc, line, levels)?;
     line.skip_blanks();
-    line.take("}")?;
-    Ok(pb::DType {
+    let part = pb::DType {
         dtype_type: Some(kind),
-    })
+    };
+    line.before(part, "}")
 }
 
-// Reads what stands behind the colon of a field.
+// Reads a colon, and what stands behind the colon of a field.
 fn read_value(
     alloc: Global,
     line: &mut Line<'_>,
     field: &str,
     parts: &mut Parts,
 ) -> ConsoleResult<()> {
+    line.take(":")?;
+    line.skip_blanks();
     match field {
-        "nullable" => parts.nullable = line.boolean()?,
-        "keys_sorted" => parts.keys_sorted = line.boolean()?,
+        "names" => Ok(parts.names.push(read_text(alloc, line)?)?),
+        "id" => read_id(alloc, line, parts),
+        "metadata" => read_metadata(alloc, line, parts),
+        "nullable" | "keys_sorted" => read_flag(line, field, parts),
+        _ => read_number(line, field, parts),
+    }
+}
+
+fn read_id(alloc: Global, line: &mut Line<'_>, parts: &mut Parts) -> ConsoleResult<()> {
+    parts.id = read_text(alloc, line)?;
+    Ok(())
+}
+
+fn read_metadata(alloc: Global, line: &mut Line<'_>, parts: &mut Parts) -> ConsoleResult<()> {
+    line.take("\"")?;
+    parts.metadata = Some(line.quoted(alloc)?);
+    Ok(())
+}
+
+fn read_flag(line: &mut Line<'_>, field: &str, parts: &mut Parts) -> ConsoleResult<()> {
+    let flag = line.boolean()?;
+    match field {
+        "nullable" => parts.nullable = flag,
+        _ => parts.keys_sorted = flag,
+    }
+    Ok(())
+}
+
+fn read_number(line: &mut Line<'_>, field: &str, parts: &mut Parts) -> ConsoleResult<()> {
+    match field {
         "type" => parts.ptype = read_number_of_ptype(line)?,
         "precision" => parts.precision = line.number("a number of 32 bits")?,
         "scale" => parts.scale = line.number("a signed number of 32 bits")?,
         "size" => parts.size = line.number("a number of 32 bits")?,
-        "type_ids" => parts
+        _ => parts
             .type_ids
             .push(line.number("a signed number of 32 bits")?)?,
-        "names" => parts.names.push(read_text(alloc, line)?)?,
-        "id" => parts.id = read_text(alloc, line)?,
-        _ => {
-            line.take("\"")?;
-            parts.metadata = Some(line.quoted(alloc)?);
-        }
     }
     Ok(())
 }
@@ -202,15 +232,21 @@ fn ptype_number(name: &str) -> Option<i32> {
     }
 }
 
-// The kind of this name, if there is one, with the fields that it has.
-fn kind_of(alloc: Global, kind: &str, parts: Parts) -> ConsoleResult<Option<pb::DtypeType>> {
-    Ok(match kind {
-        "list" | "fixed_size_list" | "map" | "extension" => boxed_kind(alloc, kind, parts)?,
-        _ => plain_kind(kind, parts),
-    })
+// The kind of this name, which stands at this place, with the fields that it has.
+fn kind_of(alloc: Global, place: usize, kind: &str, parts: Parts) -> ConsoleResult<pb::DtypeType> {
+    match kind {
+        "list" => list_of(alloc, parts),
+        "fixed_size_list" => fixed_size_list_of(alloc, parts),
+        "map" => map_of(alloc, parts),
+        "struct" => Ok(struct_of(parts)),
+        "union" => Ok(union_of(parts)),
+        "extension" => extension_of(alloc, parts),
+        _ => plain_kind(kind, &parts).ok_or(expected_at(place, "a kind of type")),
+    }
 }
 
-fn plain_kind(kind: &str, parts: Parts) -> Option<pb::DtypeType> {
+// The kind of this name that holds no others, if there is one.
+fn plain_kind(kind: &str, parts: &Parts) -> Option<pb::DtypeType> {
     let nullable = parts.nullable;
     match kind {
         "null" => Some(pb::DtypeType::Null(pb::Null {})),
@@ -227,56 +263,59 @@ fn plain_kind(kind: &str, parts: Parts) -> Option<pb::DtypeType> {
             scale: parts.scale,
             nullable,
         })),
-        "struct" => Some(pb::DtypeType::Struct(pb::Struct {
-            names: parts.names,
-            dtypes: parts.dtypes,
-            nullable,
-        })),
-        "union" => Some(pb::DtypeType::Union(pb::Union {
-            names: parts.names,
-            dtypes: parts.dtypes,
-            type_ids: parts.type_ids,
-            nullable,
-        })),
         _ => None,
     }
 }
 
-fn boxed_kind(alloc: Global, kind: &str, parts: Parts) -> ConsoleResult<Option<pb::DtypeType>> {
-    let nullable = parts.nullable;
-    Ok(match kind {
-        "list" => {
-            let element_type = parts.first;
-            let list = pb::List {
-                element_type,
-                nullable,
-            };
-            Some(pb::DtypeType::List(Box::new(alloc, list)?))
-        }
-        "fixed_size_list" => {
-            let list = pb::FixedSizeList {
-                element_type: parts.first,
-                size: parts.size,
-                nullable,
-            };
-            Some(pb::DtypeType::FixedSizeList(Box::new(alloc, list)?))
-        }
-        "map" => {
-            let map = pb::Map {
-                key_type: parts.first,
-                value_type: parts.second,
-                keys_sorted: parts.keys_sorted,
-                nullable,
-            };
-            Some(pb::DtypeType::Map(Box::new(alloc, map)?))
-        }
-        _ => {
-            let extension = pb::Extension {
-                id: parts.id,
-                storage_dtype: parts.first,
-                metadata: parts.metadata,
-            };
-            Some(pb::DtypeType::Extension(Box::new(alloc, extension)?))
-        }
+fn list_of(alloc: Global, parts: Parts) -> ConsoleResult<pb::DtypeType> {
+    let list = pb::List {
+        element_type: parts.first,
+        nullable: parts.nullable,
+    };
+    Ok(pb::DtypeType::List(Box::new(alloc, list)?))
+}
+
+fn fixed_size_list_of(alloc: Global, parts: Parts) -> ConsoleResult<pb::DtypeType> {
+    let list = pb::FixedSizeList {
+        element_type: parts.first,
+        size: parts.size,
+        nullable: parts.nullable,
+    };
+    Ok(pb::DtypeType::FixedSizeList(Box::new(alloc, list)?))
+}
+
+fn map_of(alloc: Global, parts: Parts) -> ConsoleResult<pb::DtypeType> {
+    let map = pb::Map {
+        key_type: parts.first,
+        value_type: parts.second,
+        keys_sorted: parts.keys_sorted,
+        nullable: parts.nullable,
+    };
+    Ok(pb::DtypeType::Map(Box::new(alloc, map)?))
+}
+
+fn struct_of(parts: Parts) -> pb::DtypeType {
+    pb::DtypeType::Struct(pb::Struct {
+        names: parts.names,
+        dtypes: parts.dtypes,
+        nullable: parts.nullable,
     })
+}
+
+fn union_of(parts: Parts) -> pb::DtypeType {
+    pb::DtypeType::Union(pb::Union {
+        names: parts.names,
+        dtypes: parts.dtypes,
+        type_ids: parts.type_ids,
+        nullable: parts.nullable,
+    })
+}
+
+fn extension_of(alloc: Global, parts: Parts) -> ConsoleResult<pb::DtypeType> {
+    let extension = pb::Extension {
+        id: parts.id,
+        storage_dtype: parts.first,
+        metadata: parts.metadata,
+    };
+    Ok(pb::DtypeType::Extension(Box::new(alloc, extension)?))
 }

@@ -2,11 +2,11 @@
 // SPDX-FileCopyrightText: Copyright the Vortex contributors
 
 // Commands on sessions, and the sessions that live on from line to line.
-use crate::reader::read_argument;
-use crate::writer::say_message;
-use console_types::{Call, ConsoleResult, Line, unless};
+use crate::reader::Message;
+use crate::writer::say_made_message;
+use console_types::{Bytes, Call, ConsoleResult, Line, unless};
 use std::alloc::Global;
-use vortex_dtype::{DType, DTypeProto, DTypeSession, FieldName, PluginOf};
+use vortex_dtype::{DType, DTypeProto, DTypeSession, ExtId, FieldName, PluginOf};
 use vortex_dtype_fixtures::{AllKept, Tag, TextAlone, Word};
 
 /// How many sessions live on at most.
@@ -109,14 +109,8 @@ impl Sessions {
 
     // Answers a command on the session whose name comes next.
     fn change(&mut self, call: &mut Call<'_>) -> ConsoleResult<()> {
-        let name = call.name()?;
-        if !self.living.iter().any(|it| it.name == name) {
-            unless(self.living.len() < MOST_SESSIONS, "at most 16 sessions")?;
-            self.living.push(Living {
-                name: name.try_clone(self.alloc)?,
-                told: Told::new(self.alloc),
-            })?;
-        }
+        let name: FieldName = call.read()?;
+        self.begin(&name)?;
         for it in &mut self.living {
             if it.name == name {
                 return change(call, &mut it.told);
@@ -125,21 +119,37 @@ impl Sessions {
         Err(call.line.expected("the name of a session"))
     }
 
+    // Has a session of this name live.
+    fn begin(&mut self, name: &FieldName) -> ConsoleResult<()> {
+        if self.living.iter().any(|it| it.name == *name) {
+            return Ok(());
+        }
+        unless(self.living.len() < MOST_SESSIONS, "at most 16 sessions")?;
+        let name = name.try_clone(self.alloc)?;
+        let told = Told::new(self.alloc);
+        Ok(self.living.push(Living { name, told })?)
+    }
+
     // Answers a command on the session that comes next: words, or the name of one that lives.
     fn ask(&self, call: &mut Call<'_>, command: &str) -> ConsoleResult<()> {
         call.line.skip_blanks();
-        if !call.line.takes("@") {
+        if call.line.takes("@") {
+            self.ask_living(call, command)
+        } else {
             let told = read_words(call)?;
-            return ask_told(call, command, &told);
+            ask_told(call, command, &told)
         }
+    }
+
+    // Answers a command on the session whose name comes next. One that doesn't live was told nothing.
+    fn ask_living(&self, call: &mut Call<'_>, command: &str) -> ConsoleResult<()> {
         let name = call.line.name(call.alloc)?;
         for it in &self.living {
             if it.name == name {
                 return ask_told(call, command, &it.told);
             }
         }
-        let told = Told::new(call.alloc);
-        ask_told(call, command, &told)
+        ask_told(call, command, &Told::new(call.alloc))
     }
 }
 
@@ -167,15 +177,18 @@ fn change(call: &mut Call<'_>, told: &mut Told) -> ConsoleResult<()> {
             call.end()?;
             told.unknown = true;
         }
-        "register" => {
-            call.line.skip_blanks();
-            let plugin = read_plugin(&mut call.line)?;
-            call.end()?;
-            told.plugins.push(plugin)?;
-        }
+        "register" => register(call, told)?,
         _ => return Err(call.line.expected("a command on a session")),
     }
     call.say("ok")
+}
+
+// Tells the plugin that comes next.
+fn register(call: &mut Call<'_>, told: &mut Told) -> ConsoleResult<()> {
+    call.line.skip_blanks();
+    let plugin = read_plugin(&mut call.line)?;
+    call.end()?;
+    Ok(told.plugins.push(plugin)?)
 }
 
 // Answers a command on a session that was told this.
@@ -198,15 +211,8 @@ fn ask_told(call: &mut Call<'_>, command: &str, told: &Told) -> ConsoleResult<()
 
 fn ask(call: &mut Call<'_>, command: &str, session: &DTypeSession) -> ConsoleResult<()> {
     match command {
-        "allows_unknown" => {
-            call.end()?;
-            call.say(session.allows_unknown())
-        }
-        "registry" => {
-            let id = call.id()?;
-            call.end()?;
-            call.say(session.registry(id.as_str()))
-        }
+        "allows_unknown" => allows_unknown(call, session),
+        "registry" => registry(call, session),
         "deserialize" => deserialize(call, session),
         "round_trip" => round_trip(call, session),
         "read_eq" => read_eq(call, session),
@@ -214,34 +220,39 @@ fn ask(call: &mut Call<'_>, command: &str, session: &DTypeSession) -> ConsoleRes
     }
 }
 
+fn allows_unknown(call: &mut Call<'_>, session: &DTypeSession) -> ConsoleResult<()> {
+    call.end()?;
+    call.say(session.allows_unknown())
+}
+
+fn registry(call: &mut Call<'_>, session: &DTypeSession) -> ConsoleResult<()> {
+    let id: ExtId = call.last()?;
+    call.say(session.registry(id.as_str()))
+}
+
 fn deserialize(call: &mut Call<'_>, session: &DTypeSession) -> ConsoleResult<()> {
-    let id = call.id()?;
-    let metadata = call.hexadecimals()?;
-    let storage = call.last_dtype()?;
-    call.say_extension(&session.deserialize(id.as_str(), &metadata, storage)?)
+    let (id, (Bytes(metadata), storage)): (ExtId, (Bytes, DType)) = call.last()?;
+    call.write_made(session.deserialize(id.as_str(), &metadata, storage))
 }
 
 fn round_trip(call: &mut Call<'_>, session: &DTypeSession) -> ConsoleResult<()> {
-    let dtype = call.last_dtype()?;
+    let dtype: DType = call.last()?;
     let message = dtype.to_proto(call.alloc)?;
-    call.say_dtype(&DType::from_proto(call.alloc, &message, session)?)
+    call.write_made(DType::from_proto(call.alloc, &message, session))
 }
 
 fn read_eq(call: &mut Call<'_>, session: &DTypeSession) -> ConsoleResult<()> {
-    let message = read_argument(call)?;
-    let other = read_argument(call)?;
-    call.end()?;
+    let (Message(message), Message(other)) = call.last()?;
     let dtype = DType::from_proto(call.alloc, &message, session)?;
     let other = DType::from_proto(call.alloc, &other, session)?;
     call.say(dtype == other)
 }
 
 fn read(call: &mut Call<'_>, command: &str, session: &DTypeSession) -> ConsoleResult<()> {
-    let message = read_argument(call)?;
-    call.end()?;
+    let Message(message) = call.last()?;
     let dtype = DType::from_proto(call.alloc, &message, session)?;
     match command {
-        "read" => call.say_dtype(&dtype),
-        _ => say_message(call, &dtype.to_proto(call.alloc)?),
+        "read" => call.write(&dtype),
+        _ => say_made_message(call, dtype.to_proto(call.alloc)),
     }
 }

@@ -2,8 +2,8 @@
 // SPDX-FileCopyrightText: Copyright the Vortex contributors
 
 // Commands on typed extensions, and on such of unknown ids.
-use console_types::{Call, ConsoleFault, ConsoleResult, last_extension, unless};
-use vortex_dtype::{ExtDType, ExtVTable, ForeignExtDType, Nullability};
+use console_types::{Bytes, Call, ConsoleFault, ConsoleResult};
+use vortex_dtype::{DType, ExtDType, ExtDTypeRef, ExtId, ExtVTable, ForeignExtDType, Nullability};
 use vortex_dtype_fixtures::{Tag, Word};
 
 /// Answers the command, if it is one of these.
@@ -22,28 +22,28 @@ pub fn answer(call: &mut Call<'_>, command: &str) -> ConsoleResult<bool> {
 }
 
 fn made<V: ExtVTable + Default>(call: &mut Call<'_>) -> ConsoleResult<()> {
-    let bytes = call.hexadecimals()?;
-    let storage = call.last_dtype()?;
+    let (Bytes(bytes), storage): (Bytes, DType) = call.last()?;
     let metadata = V::default().deserialize_metadata(call.alloc, &bytes)?;
     let typed = ExtDType::<V>::try_new(call.alloc, metadata, storage)?;
-    call.say_extension(&typed.erased(call.alloc)?)
+    call.write_made(typed.erased(call.alloc))
 }
 
 fn downcast<V: ExtVTable + Default>(call: &mut Call<'_>) -> ConsoleResult<()> {
-    let erased = last_extension(call)?;
+    let erased: ExtDTypeRef = call.last()?;
     match ExtDType::try_downcast(call.alloc, erased, V::default()) {
-        Ok(typed) => {
-            let bytes = typed.serialize_metadata(call.alloc)?;
-            call.say_hexadecimals(&bytes)?;
-            call.say_dtype(typed.storage_dtype())
-        }
+        Ok(typed) => say_parts(call, &typed),
         Err((_, refusal)) => Err(ConsoleFault::from(refusal)),
     }
 }
 
+fn say_parts<V: ExtVTable>(call: &mut Call<'_>, typed: &ExtDType<V>) -> ConsoleResult<()> {
+    let bytes = typed.serialize_metadata(call.alloc)?;
+    call.say_hexadecimals(&bytes)?;
+    call.write(typed.storage_dtype())
+}
+
 fn with_nullability<V: ExtVTable + Default>(call: &mut Call<'_>) -> ConsoleResult<()> {
-    let n = call.nullability()?;
-    let erased = last_extension(call)?;
+    let (n, erased): (Nullability, ExtDTypeRef) = call.last()?;
     match ExtDType::try_downcast(call.alloc, erased, V::default()) {
         Ok(typed) => set_nullability(call, &typed, n),
         Err((_, refusal)) => Err(ConsoleFault::from(refusal)),
@@ -55,19 +55,16 @@ fn set_nullability<V: ExtVTable>(
     typed: &ExtDType<V>,
     n: Nullability,
 ) -> ConsoleResult<()> {
-    let made = if n.is_nullable() {
-        typed.with_nullability(call.alloc, Nullability::Nullable)?
+    if n.is_nullable() {
+        call.write_made(typed.with_nullability(call.alloc, Nullability::Nullable))
+    } else if typed.storage_dtype().can_be_nonnullable() {
+        call.write_made(typed.with_nullability(call.alloc, Nullability::NonNullable))
     } else {
-        let can_be = typed.storage_dtype().can_be_nonnullable();
-        unless(can_be, "a type that can be non-nullable")?;
-        typed.with_nullability(call.alloc, Nullability::NonNullable)?
-    };
-    call.say_extension(&made)
+        Err(ConsoleFault::Unmet("a type that can be non-nullable"))
+    }
 }
 
 fn foreign(call: &mut Call<'_>) -> ConsoleResult<()> {
-    let id = call.id()?;
-    let metadata = call.hexadecimals()?;
-    let storage = call.last_dtype()?;
-    call.say_extension(&ForeignExtDType::from_parts(call.alloc, id, metadata, storage)?)
+    let (id, (Bytes(metadata), storage)): (ExtId, (Bytes, DType)) = call.last()?;
+    call.write_made(ForeignExtDType::from_parts(call.alloc, id, metadata, storage))
 }

@@ -6,8 +6,12 @@
 use console_types::{Call, ConsoleResult, WRITTEN_LEVELS, put, write_quoted};
 use vortex_dtype::{PType, VortexResult, pb};
 
-/// Answers a message.
-pub fn say_message(call: &mut Call<'_>, message: &pb::DType) -> ConsoleResult<()> {
+/// Answers the message that a call of the library made, or that the library refused.
+pub fn say_made_message(call: &mut Call<'_>, made: VortexResult<pb::DType>) -> ConsoleResult<()> {
+    say_message(call, &made?)
+}
+
+fn say_message(call: &mut Call<'_>, message: &pb::DType) -> ConsoleResult<()> {
     call.separate()?;
     match &message.dtype_type {
         Some(kind) => Ok(write_kind(&mut call.answer, kind, WRITTEN_LEVELS)?),

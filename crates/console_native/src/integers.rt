@@ -2,7 +2,7 @@
 // SPDX-FileCopyrightText: Copyright the Vortex contributors
 
 // Commands on native integers.
-use console_types::{Call, ConsoleResult, expected_at};
+use console_types::{Bytes, Call, ConsoleResult, expected_at};
 use dtype_base::PType;
 use dtype_native::{IntegerPType, NativePType, PhysicalPType, ToBytes, TryFromBytes};
 use std::str::FromStr;
@@ -25,7 +25,7 @@ pub fn answer(call: &mut Call<'_>, command: &str) -> ConsoleResult<bool> {
 fn integer(call: &mut Call<'_>, command: &str) -> ConsoleResult<()> {
     call.line.skip_blanks();
     let place = call.line.place();
-    match call.ptype()? {
+    match call.read()? {
         PType::U8 => of::<u8>(call, command),
         PType::U16 => of::<u16>(call, command),
         PType::U32 => of::<u32>(call, command),
@@ -59,16 +59,14 @@ where
     T::Err: Drop,
     T::Bytes: Drop,
 {
-    let value: T = call.number("a number of this type")?;
-    call.end()?;
+    let value: T = call.last_number("a number of this type")?;
     let bytes = value.to_le_bytes();
     call.say_hexadecimals(T::bytes_of(&bytes))
 }
 
 fn try_from_le_bytes<T: NativePType>(call: &mut Call<'_>) -> ConsoleResult<()> {
-    let bytes = call.hexadecimals()?;
-    call.end()?;
-    call.say(T::try_from_le_bytes(&bytes)?)
+    let Bytes(bytes) = call.last()?;
+    call.say_made(T::try_from_le_bytes(&bytes))
 }
 
 fn compare<T>(call: &mut Call<'_>, command: &str) -> ConsoleResult<()>
@@ -77,8 +75,7 @@ where
     T::Err: Drop,
 {
     let value: T = call.number("a number of this type")?;
-    let other: T = call.number("a number of this type")?;
-    call.end()?;
+    let other: T = call.last_number("a number of this type")?;
     match command {
         "total_compare" => call.say_ordering(value.total_compare(other)),
         _ => call.say_words(&[
@@ -96,8 +93,7 @@ where
     T: NativePType + FromStr,
     T::Err: Drop,
 {
-    let value: T = call.number("a number of this type")?;
-    call.end()?;
+    let value: T = call.last_number("a number of this type")?;
     call.say_words(&[
         ("is_nan", value.is_nan()),
         ("is_infinite", value.is_infinite()),

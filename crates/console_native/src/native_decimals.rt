@@ -2,7 +2,7 @@
 // SPDX-FileCopyrightText: Copyright the Vortex contributors
 
 // Commands on decimals that a native type keeps.
-use console_types::{Call, ConsoleResult, expected_at, unless};
+use console_types::{Call, ConsoleFault, ConsoleResult, Decimal, expected_at};
 use dtype_base::DecimalDType;
 use dtype_native::{NativeDecimalType, PrecisionScale};
 use std::fmt::Display;
@@ -62,9 +62,8 @@ fn made<D: NativeDecimalType>(call: &mut Call<'_>, command: &str) -> ConsoleResu
 }
 
 fn from<D: NativeDecimalType>(call: &mut Call<'_>) -> ConsoleResult<()> {
-    let (precision, scale) = call.decimal()?;
+    let Decimal(precision, scale) = call.last()?;
     let decimal = DecimalDType::try_new(precision, scale)?;
-    call.end()?;
     let kept = PrecisionScale::<D>::try_from(&decimal)?;
     call.say(&kept)
 }
@@ -86,12 +85,10 @@ fn by_precision<D>(call: &mut Call<'_>) -> ConsoleResult<()>
 where
     D: NativeDecimalType + Display + Drop,
 {
-    let precision: u8 = call.number("a precision")?;
-    call.end()?;
-    unless(
-        precision <= D::MAX_PRECISION,
-        "at most the greatest precision",
-    )?;
+    let precision: u8 = call.last_number("a precision")?;
+    if precision > D::MAX_PRECISION {
+        return Err(ConsoleFault::Unmet("at most the greatest precision"));
+    }
     call.say(D::min_by_precision(precision))?;
     call.say(D::max_by_precision(precision))
 }

@@ -22,7 +22,7 @@ pub fn answer(call: &mut Call<'_>, command: &str) -> ConsoleResult<bool> {
         }
     }
     call.end()?;
-    call.say_dtype(&dtype)?;
+    call.write(&dtype)?;
     Ok(true)
 }
 

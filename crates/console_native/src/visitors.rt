@@ -2,7 +2,7 @@
 // SPDX-FileCopyrightText: Copyright the Vortex contributors
 
 // Commands on visitors of primitive names.
-use console_types::{Call, ConsoleResult, unless};
+use console_types::{Call, ConsoleFault, ConsoleResult};
 use dtype_base::PType;
 use dtype_native::{
     PTypeVisitor, match_each_float_ptype, match_each_integer_ptype, match_each_native_ptype,
@@ -72,40 +72,41 @@ pub fn answer(call: &mut Call<'_>, command: &str) -> ConsoleResult<bool> {
 }
 
 fn match_each(call: &mut Call<'_>, command: &str) -> ConsoleResult<()> {
-    let ptype = call.ptype()?;
-    call.end()?;
+    let ptype: PType = call.last()?;
     call.say(visited(command, ptype)?)
 }
 
 fn match_smallest(call: &mut Call<'_>, command: &str) -> ConsoleResult<()> {
-    let count = call.number("a count")?;
-    call.end()?;
+    let count = call.last_number("a count")?;
     call.say(offset_type(command, count))
 }
 
 fn visited(command: &str, ptype: PType) -> ConsoleResult<PType> {
     match command {
         "match_each" => Ok(match_each_native_ptype(ptype, NameOfCall)),
-        "match_each_simd" => {
-            unless(ptype != PType::F16, "not f16")?;
+        "match_each_simd" if ptype != PType::F16 => {
             Ok(match_each_native_simd_ptype(ptype, NameOfCall))
         }
-        "match_each_integer" => {
-            unless(ptype.is_int(), "an integer")?;
-            Ok(match_each_integer_ptype(ptype, NameOfCall))
-        }
-        "match_each_unsigned" => {
-            unless(ptype.is_unsigned_int(), "an unsigned integer")?;
+        "match_each_integer" if ptype.is_int() => Ok(match_each_integer_ptype(ptype, NameOfCall)),
+        "match_each_unsigned" if ptype.is_unsigned_int() => {
             Ok(match_each_unsigned_integer_ptype(ptype, NameOfCall))
         }
-        "match_each_signed" => {
-            unless(ptype.is_signed_int(), "a signed integer")?;
+        "match_each_signed" if ptype.is_signed_int() => {
             Ok(match_each_signed_integer_ptype(ptype, NameOfCall))
         }
-        _ => {
-            unless(ptype.is_float(), "a float")?;
-            Ok(match_each_float_ptype(ptype, NameOfCall))
-        }
+        "match_each_float" if ptype.is_float() => Ok(match_each_float_ptype(ptype, NameOfCall)),
+        _ => Err(ConsoleFault::Unmet(condition(command))),
+    }
+}
+
+// What the call asks for.
+fn condition(command: &str) -> &'static str {
+    match command {
+        "match_each_simd" => "not f16",
+        "match_each_integer" => "an integer",
+        "match_each_unsigned" => "an unsigned integer",
+        "match_each_signed" => "a signed integer",
+        _ => "a float",
     }
 }
 

@@ -2,57 +2,88 @@
 // SPDX-FileCopyrightText: Copyright the Vortex contributors
 
 // How steps and paths are read and written.
-use console_types::{Call, ConsoleResult, write_name};
+use console_types::{Argument, Call, ConsoleResult, Line, write_name};
 use dtype_base::VortexResult;
 use dtype_paths::{Field, FieldPath};
+use std::alloc::Global;
 use std::vec;
 
-/// Reads a step.
-pub fn read_step(call: &mut Call<'_>) -> ConsoleResult<Field> {
-    call.line.skip_blanks();
-    if call.line.takes("[]") {
+/// A step.
+#[derive(Drop)]
+pub struct Step(pub Field);
+
+impl Argument for Step {
+    fn read(alloc: Global, line: &mut Line<'_>) -> ConsoleResult<Step> {
+        Ok(Step(read_step(alloc, line)?))
+    }
+}
+
+/// The steps up to the line's end.
+#[derive(Drop)]
+pub struct Steps(pub Vec<Field>);
+
+impl Argument for Steps {
+    fn read(alloc: Global, line: &mut Line<'_>) -> ConsoleResult<Steps> {
+        let mut steps = Vec::new(alloc);
+        for _ in 0..line.left() {
+            if line.is_at_end() {
+                break;
+            }
+            steps.push(read_step(alloc, line)?)?;
+        }
+        Ok(Steps(steps))
+    }
+}
+
+/// A path.
+#[derive(Drop)]
+pub struct Path(pub FieldPath);
+
+impl Argument for Path {
+    fn read(alloc: Global, line: &mut Line<'_>) -> ConsoleResult<Path> {
+        Ok(Path(read_path(alloc, line)?))
+    }
+}
+
+/// The paths up to the line's end.
+#[derive(Drop)]
+pub struct Paths(pub Vec<FieldPath>);
+
+impl Argument for Paths {
+    fn read(alloc: Global, line: &mut Line<'_>) -> ConsoleResult<Paths> {
+        let mut paths = Vec::new(alloc);
+        for _ in 0..line.left() {
+            if line.is_at_end() {
+                break;
+            }
+            paths.push(read_path(alloc, line)?)?;
+        }
+        Ok(Paths(paths))
+    }
+}
+
+fn read_step(alloc: Global, line: &mut Line<'_>) -> ConsoleResult<Field> {
+    line.skip_blanks();
+    if line.takes("[]") {
         return Ok(Field::ElementType);
     }
-    let _ = call.line.takes("$");
-    Ok(Field::Name(call.line.name(call.alloc)?))
+    let _ = line.takes("$");
+    Ok(Field::Name(line.name(alloc)?))
 }
 
-/// Reads a path.
-pub fn read_path(call: &mut Call<'_>) -> ConsoleResult<FieldPath> {
-    call.line.skip_blanks();
-    if call.line.takes(".") {
-        return Ok(FieldPath::root(call.alloc));
+/// Reads a path: its steps, or a dot where it has none.
+pub fn read_path(alloc: Global, line: &mut Line<'_>) -> ConsoleResult<FieldPath> {
+    if line.takes(".") {
+        return Ok(FieldPath::root(alloc));
     }
-    let mut steps = Vec::new(call.alloc);
-    for _ in 0..call.line.left() {
-        steps.push(read_step(call)?)?;
-        if !call.line.takes(".") {
+    let mut steps = Vec::new(alloc);
+    for _ in 0..line.left() {
+        steps.push(read_step(alloc, line)?)?;
+        if !line.takes(".") {
             break;
         }
-    }
-    if steps.is_empty() {
-        return Err(call.line.expected("a path"));
     }
     Ok(FieldPath::from_vec(steps))
-}
-
-/// Reads a path, behind which the line ends.
-pub fn last_path(call: &mut Call<'_>) -> ConsoleResult<FieldPath> {
-    let path = read_path(call)?;
-    call.end()?;
-    Ok(path)
-}
-
-/// Reads the paths up to the line's end.
-pub fn read_paths(call: &mut Call<'_>) -> ConsoleResult<Vec<FieldPath>> {
-    let mut paths = Vec::new(call.alloc);
-    for _ in 0..call.line.left() {
-        if call.line.is_at_end() {
-            break;
-        }
-        paths.push(read_path(call)?)?;
-    }
-    Ok(paths)
 }
 
 fn write_step(out: &mut String, step: &Field) -> VortexResult<()> {
@@ -89,13 +120,16 @@ pub fn say_path(call: &mut Call<'_>, path: &FieldPath) -> ConsoleResult<()> {
     Ok(write_path(&mut call.answer, path)?)
 }
 
+/// Answers the path that a call of the library made, or that the library refused.
+pub fn say_made_path(call: &mut Call<'_>, made: VortexResult<FieldPath>) -> ConsoleResult<()> {
+    say_path(call, &made?)
+}
+
 /// Answers paths, in the order of the bytes of their texts.
 pub fn say_paths(call: &mut Call<'_>, paths: vec::IntoIter<FieldPath>) -> ConsoleResult<()> {
     let mut texts = Vec::new(call.alloc);
     for path in paths {
-        let mut text = String::new(call.alloc);
-        write_path(&mut text, &path)?;
-        texts.push(text)?;
+        texts.push(text_of(call.alloc, &path)?)?;
     }
     say_sorted(call, texts)
 }
@@ -104,11 +138,15 @@ pub fn say_paths(call: &mut Call<'_>, paths: vec::IntoIter<FieldPath>) -> Consol
 pub fn say_lent_paths(call: &mut Call<'_>, paths: vec::IntoIter<&FieldPath>) -> ConsoleResult<()> {
     let mut texts = Vec::new(call.alloc);
     for path in paths {
-        let mut text = String::new(call.alloc);
-        write_path(&mut text, path)?;
-        texts.push(text)?;
+        texts.push(text_of(call.alloc, path)?)?;
     }
     say_sorted(call, texts)
+}
+
+fn text_of(alloc: Global, path: &FieldPath) -> ConsoleResult<String> {
+    let mut text = String::new(alloc);
+    write_path(&mut text, path)?;
+    Ok(text)
 }
 
 fn say_sorted(call: &mut Call<'_>, mut texts: Vec<String>) -> ConsoleResult<()> {

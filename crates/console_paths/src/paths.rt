@@ -2,10 +2,11 @@
 // SPDX-FileCopyrightText: Copyright the Vortex contributors
 
 // Commands on paths and their steps.
-use crate::forms::{last_path, read_path, read_step, say_path, say_step};
+use crate::forms::{Path, Step, Steps, say_made_path, say_path, say_step};
 use console_types::{Call, ConsoleFault, ConsoleResult, hash_of};
 use dtype_base::FieldName;
 use dtype_paths::{Field, FieldPath};
+use dtype_types::DType;
 
 /// Answers the command, if it is one of these.
 pub fn answer(call: &mut Call<'_>, command: &str) -> ConsoleResult<bool> {
@@ -28,17 +29,21 @@ pub fn answer(call: &mut Call<'_>, command: &str) -> ConsoleResult<bool> {
 }
 
 fn ask(call: &mut Call<'_>, command: &str) -> ConsoleResult<()> {
-    let path = last_path(call)?;
+    let Path(path) = call.last()?;
     match command {
-        "path_copy" => say_path(call, &path.try_clone()?),
+        "path_copy" => say_made_path(call, path.try_clone()),
         "path_text" => call.say_text_of(&path),
         "parts" => parts(call, &path),
         "is_root" => call.say(path.is_root()),
-        "step_into" => match path.step_into() {
-            Some(rest) => say_path(call, &rest),
-            None => call.say("none"),
-        },
+        "step_into" => say_path_option(call, path.step_into()),
         _ => say_path(call, &path),
+    }
+}
+
+fn say_path_option(call: &mut Call<'_>, path: Option<FieldPath>) -> ConsoleResult<()> {
+    match path {
+        Some(path) => say_path(call, &path),
+        None => call.say("none"),
     }
 }
 
@@ -50,75 +55,68 @@ fn parts(call: &mut Call<'_>, path: &FieldPath) -> ConsoleResult<()> {
 }
 
 fn resolve(call: &mut Call<'_>, command: &str) -> ConsoleResult<()> {
-    let path = read_path(call)?;
-    let dtype = call.last_dtype()?;
+    let (Path(path), dtype): (Path, DType) = call.last()?;
     match command {
-        "resolve" => call.say_dtype_option(path.resolve(&dtype)),
+        "resolve" => call.write_option(path.resolve(&dtype)),
         _ => call.say(path.exists_in(&dtype)),
     }
 }
 
 fn compare(call: &mut Call<'_>, command: &str) -> ConsoleResult<()> {
-    let path = read_path(call)?;
-    let other = last_path(call)?;
-    call.say(match command {
-        "overlap" => path.overlap(&other),
-        "path_eq" => path == other,
-        _ => hash_of(&path) == hash_of(&other),
-    })
+    let (Path(path), Path(other)) = call.last()?;
+    call.say(are_alike(command, &path, &other))
 }
 
-fn with_step(call: &mut Call<'_>, command: &str) -> ConsoleResult<()> {
-    let path = read_path(call)?;
-    let step = last_step(call)?;
+fn are_alike(command: &str, path: &FieldPath, other: &FieldPath) -> bool {
     match command {
-        "push" => say_path(call, &path.push(step)?),
-        _ => call.say(starts_with_field(&path, &step)?),
+        "overlap" => path.overlap(other),
+        "path_eq" => path == other,
+        _ => hash_of(path) == hash_of(other),
     }
 }
 
-fn starts_with_field(path: &FieldPath, step: &Field) -> ConsoleResult<bool> {
+fn with_step(call: &mut Call<'_>, command: &str) -> ConsoleResult<()> {
+    let (Path(path), Step(step)) = call.last()?;
+    match command {
+        "push" => say_made_path(call, path.push(step)),
+        _ => starts_with_field(call, &path, &step),
+    }
+}
+
+fn starts_with_field(call: &mut Call<'_>, path: &FieldPath, step: &Field) -> ConsoleResult<()> {
     if !step.is_named() {
         return Err(ConsoleFault::Unmet("names"));
     }
     match path.parts().first() {
-        None => Ok(path.starts_with_field(step)),
-        Some(first) if first.is_named() => Ok(path.starts_with_field(step)),
+        None => call.say(path.starts_with_field(step)),
+        Some(first) if first.is_named() => call.say(path.starts_with_field(step)),
         Some(_) => Err(ConsoleFault::Unmet("names")),
     }
 }
 
-// Reads a step, behind which the line ends.
-fn last_step(call: &mut Call<'_>) -> ConsoleResult<Field> {
-    let step = read_step(call)?;
-    call.end()?;
-    Ok(step)
-}
-
 fn ask_step(call: &mut Call<'_>, command: &str) -> ConsoleResult<()> {
-    let step = last_step(call)?;
+    let Step(step) = call.last()?;
     match command {
         "is_named" => call.say(step.is_named()),
         "step_text" => call.say(&step),
-        _ => match step.as_name() {
-            Some(text) => {
-                let name = FieldName::new(call.alloc, text)?;
-                call.say_name(&name)
-            }
-            None => call.say("none"),
-        },
+        _ => as_name(call, &step),
+    }
+}
+
+fn as_name(call: &mut Call<'_>, step: &Field) -> ConsoleResult<()> {
+    match step.as_name() {
+        Some(text) => call.write_made(FieldName::new(call.alloc, text)),
+        None => call.say("none"),
     }
 }
 
 fn step_from_text(call: &mut Call<'_>) -> ConsoleResult<()> {
-    let name = call.name()?;
-    call.end()?;
+    let name: FieldName = call.last()?;
     say_step(call, &Field::from_text(call.alloc, name.as_str())?)
 }
 
 fn compare_steps(call: &mut Call<'_>, command: &str) -> ConsoleResult<()> {
-    let step = read_step(call)?;
-    let other = last_step(call)?;
+    let (Step(step), Step(other)) = call.last()?;
     call.say(match command {
         "step_eq" => step == other,
         _ => hash_of(&step) == hash_of(&other),
@@ -126,23 +124,16 @@ fn compare_steps(call: &mut Call<'_>, command: &str) -> ConsoleResult<()> {
 }
 
 fn from_step(call: &mut Call<'_>) -> ConsoleResult<()> {
-    let step = last_step(call)?;
-    say_path(call, &FieldPath::from_field(call.alloc, step)?)
+    let Step(step) = call.last()?;
+    say_made_path(call, FieldPath::from_field(call.alloc, step))
 }
 
 fn from_steps(call: &mut Call<'_>) -> ConsoleResult<()> {
-    let mut steps = Vec::new(call.alloc);
-    for _ in 0..call.line.left() {
-        if call.line.is_at_end() {
-            break;
-        }
-        steps.push(read_step(call)?)?;
-    }
-    say_path(call, &FieldPath::from_iter(call.alloc, steps)?)
+    let Steps(steps) = call.last()?;
+    say_made_path(call, FieldPath::from_iter(call.alloc, steps))
 }
 
 fn from_name(call: &mut Call<'_>) -> ConsoleResult<()> {
-    let name = call.name()?;
-    call.end()?;
-    say_path(call, &FieldPath::from_name(call.alloc, name)?)
+    let name: FieldName = call.last()?;
+    say_made_path(call, FieldPath::from_name(call.alloc, name))
 }

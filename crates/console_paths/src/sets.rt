@@ -2,7 +2,7 @@
 // SPDX-FileCopyrightText: Copyright the Vortex contributors
 
 // Commands on sets of paths, and the sets that live on from line to line.
-use crate::forms::{last_path, read_path, read_paths, say_lent_paths, say_paths};
+use crate::forms::{Path, Paths, say_lent_paths, say_paths};
 use console_types::{Call, ConsoleResult, unless};
 use dtype_base::FieldName;
 use dtype_paths::FieldPathSet;
@@ -15,33 +15,46 @@ const MOST_SETS: usize = 16;
 /// Answers the command, if it is one of these.
 pub fn answer(call: &mut Call<'_>, command: &str) -> ConsoleResult<bool> {
     match command {
-        "cover" => {
-            let set = read_set(call)?;
-            say_paths(call, set.into_iter()?)?;
-        }
-        "cover_counted" => {
-            let (paths, count) = read_set(call)?.into_iter_counted()?;
-            say_paths(call, paths)?;
-            call.say(count)?;
-        }
-        "members" => {
-            let set = read_set(call)?;
-            say_lent_paths(call, set.iter()?)?;
-        }
-        "contains" => {
-            let path = read_path(call)?;
-            let set = read_set(call)?;
-            call.say(set.contains(&path))?;
-        }
+        "cover" => cover(call),
+        "cover_counted" => cover_counted(call),
+        "members" => members(call),
+        "contains" => contains(call),
         _ => return Ok(false),
-    }
+    }?;
     Ok(true)
 }
 
 // Reads the set of the paths up to the line's end.
-fn read_set(call: &mut Call<'_>) -> ConsoleResult<FieldPathSet> {
-    let paths = read_paths(call)?;
+fn last_set(call: &mut Call<'_>) -> ConsoleResult<FieldPathSet> {
+    let Paths(paths) = call.last()?;
     Ok(FieldPathSet::from_iter(call.alloc, paths)?)
+}
+
+fn cover(call: &mut Call<'_>) -> ConsoleResult<()> {
+    let set = last_set(call)?;
+    say_paths(call, set.into_iter()?)
+}
+
+fn cover_counted(call: &mut Call<'_>) -> ConsoleResult<()> {
+    let set = last_set(call)?;
+    let (paths, count) = set.into_iter_counted()?;
+    say_paths(call, paths)?;
+    call.say(count)
+}
+
+fn members(call: &mut Call<'_>) -> ConsoleResult<()> {
+    let set = last_set(call)?;
+    say_members(call, &set)
+}
+
+fn say_members(call: &mut Call<'_>, set: &FieldPathSet) -> ConsoleResult<()> {
+    say_lent_paths(call, set.iter()?)
+}
+
+fn contains(call: &mut Call<'_>) -> ConsoleResult<()> {
+    let (Path(path), Paths(paths)) = call.last()?;
+    let set = FieldPathSet::from_iter(call.alloc, paths)?;
+    call.say(set.contains(&path))
 }
 
 // A set that lives on.
@@ -69,14 +82,8 @@ impl Sets {
 
     /// Answers a command on the set whose name comes next.
     pub fn answer(&mut self, call: &mut Call<'_>) -> ConsoleResult<()> {
-        let name = call.name()?;
-        if !self.living.iter().any(|it| it.name == name) {
-            unless(self.living.len() < MOST_SETS, "at most 16 sets")?;
-            self.living.push(Living {
-                name: name.try_clone(self.alloc)?,
-                set: FieldPathSet::new(self.alloc),
-            })?;
-        }
+        let name: FieldName = call.read()?;
+        self.begin(&name)?;
         for it in &mut self.living {
             if it.name == name {
                 return change(call, &mut it.set);
@@ -84,40 +91,63 @@ impl Sets {
         }
         Err(call.line.expected("the name of a set"))
     }
+
+    // Has a set of this name live.
+    fn begin(&mut self, name: &FieldName) -> ConsoleResult<()> {
+        if self.living.iter().any(|it| it.name == *name) {
+            return Ok(());
+        }
+        unless(self.living.len() < MOST_SETS, "at most 16 sets")?;
+        let name = name.try_clone(self.alloc)?;
+        let set = FieldPathSet::new(self.alloc);
+        Ok(self.living.push(Living { name, set })?)
+    }
 }
 
-// Answers a command on a set.
+// Answers a command on a set that lives on.
 fn change(call: &mut Call<'_>, set: &mut FieldPathSet) -> ConsoleResult<()> {
     match call.word("a command on a set")? {
-        "new" => {
-            call.end()?;
-            *set = FieldPathSet::new(call.alloc);
-            call.say("ok")
-        }
-        "insert" => {
-            set.insert(last_path(call)?)?;
-            call.say("ok")
-        }
-        "extend" => {
-            set.extend(read_paths(call)?)?;
-            call.say("ok")
-        }
-        "contains" => {
-            let path = last_path(call)?;
-            call.say(set.contains(&path))
-        }
-        "iter" => {
-            call.end()?;
-            say_lent_paths(call, set.iter()?)
-        }
-        "cover" => {
-            call.end()?;
-            let copy = set.try_clone()?;
-            say_paths(call, copy.into_iter()?)
-        }
+        "new" => renew(call, set),
+        "insert" => insert(call, set),
+        "extend" => extend(call, set),
+        "contains" => contains_last(call, set),
+        "iter" => iter(call, set),
+        "cover" => cover_copy(call, set),
         "drain" => drain(call, set),
         _ => Err(call.line.expected("a command on a set")),
     }
+}
+
+fn renew(call: &mut Call<'_>, set: &mut FieldPathSet) -> ConsoleResult<()> {
+    call.end()?;
+    *set = FieldPathSet::new(call.alloc);
+    call.say("ok")
+}
+
+fn insert(call: &mut Call<'_>, set: &mut FieldPathSet) -> ConsoleResult<()> {
+    let Path(path) = call.last()?;
+    call.say_done(set.insert(path))
+}
+
+fn extend(call: &mut Call<'_>, set: &mut FieldPathSet) -> ConsoleResult<()> {
+    let Paths(paths) = call.last()?;
+    call.say_done(set.extend(paths))
+}
+
+fn contains_last(call: &mut Call<'_>, set: &FieldPathSet) -> ConsoleResult<()> {
+    let Path(path) = call.last()?;
+    call.say(set.contains(&path))
+}
+
+fn iter(call: &mut Call<'_>, set: &FieldPathSet) -> ConsoleResult<()> {
+    call.end()?;
+    say_members(call, set)
+}
+
+fn cover_copy(call: &mut Call<'_>, set: &FieldPathSet) -> ConsoleResult<()> {
+    call.end()?;
+    let copy = set.try_clone()?;
+    say_paths(call, copy.into_iter()?)
 }
 
 fn drain(call: &mut Call<'_>, set: &mut FieldPathSet) -> ConsoleResult<()> {

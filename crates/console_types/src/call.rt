@@ -4,15 +4,9 @@
 // A command that is being answered: its arguments are read from the line, and its answer is written.
 ghost use Rattle.std.specs.Prelude.{◌≡◌, OnOk, true};
 
-use crate::line::expected_at;
-use crate::reader::{MOST_LEVELS, ptype_of, read_dtype};
-use crate::writer::{
-    WRITTEN_LEVELS, write_dtype, write_extension, write_fields, write_hexadecimals, write_id,
-    write_map, write_name, write_names, write_union,
-};
-use crate::{ConsoleFault, ConsoleResult, Line};
-use dtype_base::{FieldName, FieldNames, Nullability, PType};
-use dtype_types::{DType, ExtDTypeRef, ExtId, MapDType, StructFields, UnionVariants};
+use crate::writer::write_hexadecimals;
+use crate::{Argument, ConsoleFault, ConsoleResult, Line, Written};
+use dtype_base::VortexResult;
 use std::alloc::Global;
 use std::cmp::Ordering;
 use std::fmt::Display;
@@ -42,112 +36,16 @@ impl<'a> Call<'a> {
         self.line.word(expected)
     }
 
-    /// Reads a type.
-    pub fn dtype(&mut self) -> ConsoleResult<DType> {
+    /// Reads an argument.
+    pub fn read<T: Argument>(&mut self) -> ConsoleResult<T> {
         self.line.skip_blanks();
-        read_dtype(self.alloc, &mut self.line, MOST_LEVELS)
+        T::read(self.alloc, &mut self.line)
     }
 
-    /// Reads a type, behind which the line ends.
-    pub fn last_dtype(&mut self) -> ConsoleResult<DType> {
-        let dtype = self.dtype()?;
-        self.line.end()?;
-        Ok(dtype)
-    }
-
-    /// Reads two types, behind which the line ends.
-    pub fn last_pair(&mut self) -> ConsoleResult<(DType, DType)> {
-        let first = self.dtype()?;
-        let second = self.last_dtype()?;
-        Ok((first, second))
-    }
-
-    /// Reads the types up to the line's end.
-    pub fn dtypes(&mut self) -> ConsoleResult<Vec<DType>> {
-        let mut dtypes = Vec::new(self.alloc);
-        for _ in 0..self.line.left() {
-            if self.line.is_at_end() {
-                break;
-            }
-            dtypes.push(self.dtype()?)?;
-        }
-        Ok(dtypes)
-    }
-
-    /// Reads a struct.
-    pub fn fields(&mut self) -> ConsoleResult<StructFields> {
-        self.line.skip_blanks();
-        let place = self.line.place();
-        match self.dtype()? {
-            DType::Struct(fields, _) => Ok(fields),
-            _ => Err(expected_at(place, "a struct")),
-        }
-    }
-
-    /// Reads a union.
-    pub fn variants(&mut self) -> ConsoleResult<UnionVariants> {
-        self.line.skip_blanks();
-        let place = self.line.place();
-        match self.dtype()? {
-            DType::Union(variants, _) => Ok(variants),
-            _ => Err(expected_at(place, "a union")),
-        }
-    }
-
-    /// Reads a map.
-    pub fn map(&mut self) -> ConsoleResult<MapDType> {
-        self.line.skip_blanks();
-        let place = self.line.place();
-        match self.dtype()? {
-            DType::Map(map, _) => Ok(map),
-            _ => Err(expected_at(place, "a map")),
-        }
-    }
-
-    /// Reads an extension.
-    pub fn extension(&mut self) -> ConsoleResult<ExtDTypeRef> {
-        self.line.skip_blanks();
-        let place = self.line.place();
-        match self.dtype()? {
-            DType::Extension(extension) => Ok(extension),
-            _ => Err(expected_at(place, "an extension")),
-        }
-    }
-
-    /// Reads a nullability.
-    pub fn nullability(&mut self) -> ConsoleResult<Nullability> {
-        self.line.skip_blanks();
-        if self.line.takes("NonNullable") {
-            Ok(Nullability::NonNullable)
-        } else if self.line.takes("Nullable") {
-            Ok(Nullability::Nullable)
-        } else {
-            Err(self.line.expected("NonNullable or Nullable"))
-        }
-    }
-
-    /// Reads a primitive name.
-    pub fn ptype(&mut self) -> ConsoleResult<PType> {
-        self.line.skip_blanks();
-        let place = self.line.place();
-        let word = self.line.word("a primitive name")?;
-        ptype_of(word).ok_or(expected_at(place, "a primitive name"))
-    }
-
-    /// Reads a decimal, as its precision and its scale.
-    pub fn decimal(&mut self) -> ConsoleResult<(u8, i8)> {
-        self.line.skip_blanks();
-        if self.line.takes("decimal") {
-            self.line.decimal_parts()
-        } else {
-            Err(self.line.expected("a decimal"))
-        }
-    }
-
-    /// Reads `true` or `false`.
-    pub fn boolean(&mut self) -> ConsoleResult<bool> {
-        self.line.skip_blanks();
-        self.line.boolean()
+    /// Reads an argument, behind which the line ends.
+    pub fn last<T: Argument>(&mut self) -> ConsoleResult<T> {
+        let argument = self.read()?;
+        self.line.before_end(argument)
     }
 
     /// Reads a number.
@@ -159,65 +57,13 @@ impl<'a> Call<'a> {
         self.line.number(expected)
     }
 
-    /// Reads a name.
-    pub fn name(&mut self) -> ConsoleResult<FieldName> {
-        self.line.skip_blanks();
-        self.line.name(self.alloc)
-    }
-
-    /// Reads names that are joined by commas.
-    pub fn names(&mut self) -> ConsoleResult<FieldNames> {
-        self.line.skip_blanks();
-        let mut names = Vec::new(self.alloc);
-        if !self.line.takes("-") {
-            for _ in 0..self.line.left() {
-                names.push(self.line.name(self.alloc)?)?;
-                if !self.line.takes(",") {
-                    break;
-                }
-            }
-        }
-        Ok(FieldNames::from_vec(names))
-    }
-
-    /// Reads tags that are joined by commas.
-    pub fn tags(&mut self) -> ConsoleResult<Vec<u8>> {
-        self.line.skip_blanks();
-        let mut tags = Vec::new(self.alloc);
-        if !self.line.takes("-") {
-            for _ in 0..self.line.left() {
-                tags.push(self.line.number("a tag")?)?;
-                if !self.line.takes(",") {
-                    break;
-                }
-            }
-        }
-        Ok(tags)
-    }
-
-    /// Reads bytes in hexadecimal.
-    pub fn hexadecimals(&mut self) -> ConsoleResult<Vec<u8>> {
-        self.line.skip_blanks();
-        self.line.hexadecimals(self.alloc)
-    }
-
-    /// Reads metadata in hexadecimal and a storage, behind which the line ends.
-    pub fn last_metadata_and_storage(&mut self) -> ConsoleResult<(Vec<u8>, DType)> {
-        let metadata = self.hexadecimals()?;
-        let storage = self.last_dtype()?;
-        Ok((metadata, storage))
-    }
-
-    /// Reads an id.
-    pub fn id(&mut self) -> ConsoleResult<ExtId> {
-        self.line.skip_blanks();
-        if self.line.takes("\"") {
-            let text = self.line.quoted_text(self.alloc)?;
-            Ok(ExtId::new(self.alloc, text.as_str())?)
-        } else {
-            let word = self.line.dotted_word("an id")?;
-            Ok(ExtId::new(self.alloc, word)?)
-        }
+    /// Reads a number, behind which the line ends.
+    pub fn last_number<T: FromStr + Drop>(&mut self, expected: &'static str) -> ConsoleResult<T>
+    where
+        T::Err: Drop,
+    {
+        let number = self.number(expected)?;
+        self.line.before_end(number)
     }
 
     /// Reads the end of the line.
@@ -246,6 +92,17 @@ impl<'a> Call<'a> {
             Some(value) => self.say(value),
             None => self.say("none"),
         }
+    }
+
+    /// Answers what a call of the library made by its text, or that the library refused.
+    pub fn say_made<T: Display + Drop>(&mut self, made: VortexResult<T>) -> ConsoleResult<()> {
+        self.say(made?)
+    }
+
+    /// Answers `ok`, or that the library refused.
+    pub fn say_done(&mut self, done: VortexResult<()>) -> ConsoleResult<()> {
+        done?;
+        self.say("ok")
     }
 
     /// Answers by `-` where nothing was answered by now.
@@ -316,60 +173,28 @@ impl<'a> Call<'a> {
         self.say_text(text.as_str())
     }
 
-    /// Answers a type.
-    pub fn say_dtype(&mut self, dtype: &DType) -> ConsoleResult<()> {
+    /// Answers a value in the console's form.
+    pub fn write<T: Written>(&mut self, value: &T) -> ConsoleResult<()> {
         self.separate()?;
-        Ok(write_dtype(&mut self.answer, dtype, WRITTEN_LEVELS)?)
+        Ok(value.write(&mut self.answer)?)
     }
 
-    /// Answers a type, or `none`.
-    pub fn say_dtype_option(&mut self, dtype: Option<&DType>) -> ConsoleResult<()> {
-        match dtype {
-            Some(dtype) => self.say_dtype(dtype),
+    /// Answers a value in the console's form, or `none`.
+    pub fn write_option<T: Written>(&mut self, value: Option<&T>) -> ConsoleResult<()> {
+        match value {
+            Some(value) => self.write(value),
             None => self.say("none"),
         }
     }
 
-    /// Answers the fields of a struct.
-    pub fn say_fields(&mut self, fields: &StructFields) -> ConsoleResult<()> {
-        self.separate()?;
-        Ok(write_fields(&mut self.answer, fields, WRITTEN_LEVELS)?)
+    /// Answers a value that was given up in the console's form, or `none`.
+    pub fn write_given<T: Written + Drop>(&mut self, value: Option<T>) -> ConsoleResult<()> {
+        self.write_option(value.as_ref())
     }
 
-    /// Answers the variants of a union.
-    pub fn say_variants(&mut self, variants: &UnionVariants) -> ConsoleResult<()> {
-        self.separate()?;
-        Ok(write_union(&mut self.answer, variants, WRITTEN_LEVELS)?)
-    }
-
-    /// Answers a map.
-    pub fn say_map(&mut self, map: &MapDType) -> ConsoleResult<()> {
-        self.separate()?;
-        Ok(write_map(&mut self.answer, map, WRITTEN_LEVELS)?)
-    }
-
-    /// Answers an extension.
-    pub fn say_extension(&mut self, extension: &ExtDTypeRef) -> ConsoleResult<()> {
-        self.separate()?;
-        Ok(write_extension(&mut self.answer, extension, WRITTEN_LEVELS)?)
-    }
-
-    /// Answers a name.
-    pub fn say_name(&mut self, name: &FieldName) -> ConsoleResult<()> {
-        self.separate()?;
-        Ok(write_name(&mut self.answer, name)?)
-    }
-
-    /// Answers names.
-    pub fn say_names(&mut self, names: &FieldNames) -> ConsoleResult<()> {
-        self.separate()?;
-        Ok(write_names(&mut self.answer, names)?)
-    }
-
-    /// Answers an id.
-    pub fn say_id(&mut self, id: &ExtId) -> ConsoleResult<()> {
-        self.separate()?;
-        Ok(write_id(&mut self.answer, id)?)
+    /// Answers what a call of the library made in the console's form, or that the library refused.
+    pub fn write_made<T: Written + Drop>(&mut self, made: VortexResult<T>) -> ConsoleResult<()> {
+        self.write(&made?)
     }
 
     /// Answers bytes in hexadecimal.

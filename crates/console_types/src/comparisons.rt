@@ -6,25 +6,29 @@ use crate::{Call, ConsoleFault, ConsoleResult};
 use dtype_types::DType;
 use std::hash::{DefaultHasher, Hash, Hasher};
 
+const COMMANDS: [&str; 9] = [
+    "eq",
+    "eq_ignore_nullability",
+    "subset",
+    "superset",
+    "hash_eq",
+    "hash_ignore_nullability_eq",
+    "inner_eq",
+    "inner_eq_ignore_nullability",
+    "inner_hash_eq",
+];
+
 /// Answers the command, if it is one of these.
 pub fn answer(call: &mut Call<'_>, command: &str) -> ConsoleResult<bool> {
-    match command {
-        "eq"
-        | "eq_ignore_nullability"
-        | "subset"
-        | "superset"
-        | "hash_eq"
-        | "hash_ignore_nullability_eq"
-        | "inner_eq"
-        | "inner_eq_ignore_nullability"
-        | "inner_hash_eq" => hold_against(call, command),
-        _ => return Ok(false),
-    }?;
+    if !COMMANDS.contains(&command) {
+        return Ok(false);
+    }
+    hold_against(call, command)?;
     Ok(true)
 }
 
 fn hold_against(call: &mut Call<'_>, command: &str) -> ConsoleResult<()> {
-    let (dtype, other) = call.last_pair()?;
+    let (dtype, other): (DType, DType) = call.last()?;
     match compare(command, &dtype, &other) {
         Some(told) => call.say(told),
         None => Err(ConsoleFault::Unmet("two types of one such kind")),
@@ -46,30 +50,30 @@ fn compare(command: &str, dtype: &DType, other: &DType) -> Option<bool> {
 }
 
 fn inner_eq(dtype: &DType, other: &DType) -> Option<bool> {
-    match (dtype, other) {
-        (DType::Struct(it, _), DType::Struct(other, _)) => Some(it == other),
-        (DType::Union(it, _), DType::Union(other, _)) => Some(it == other),
-        (DType::Map(it, _), DType::Map(other, _)) => Some(it == other),
-        (DType::Extension(it), DType::Extension(other)) => Some(it == other),
+    match dtype {
+        DType::Struct(it, _) => Some(it == other.as_struct_fields_opt()?),
+        DType::Union(it, _) => Some(it == other.as_union_variants_opt()?),
+        DType::Map(it, _) => Some(it == other.as_map_opt()?),
+        DType::Extension(it) => Some(it == other.as_extension_opt()?),
         _ => None,
     }
 }
 
 fn inner_hash_eq(dtype: &DType, other: &DType) -> Option<bool> {
-    match (dtype, other) {
-        (DType::Struct(it, _), DType::Struct(other, _)) => Some(hash_of(it) == hash_of(other)),
-        (DType::Union(it, _), DType::Union(other, _)) => Some(hash_of(it) == hash_of(other)),
-        (DType::Map(it, _), DType::Map(other, _)) => Some(hash_of(it) == hash_of(other)),
-        (DType::Extension(it), DType::Extension(other)) => Some(hash_of(it) == hash_of(other)),
+    match dtype {
+        DType::Struct(it, _) => Some(hash_of(it) == hash_of(other.as_struct_fields_opt()?)),
+        DType::Union(it, _) => Some(hash_of(it) == hash_of(other.as_union_variants_opt()?)),
+        DType::Map(it, _) => Some(hash_of(it) == hash_of(other.as_map_opt()?)),
+        DType::Extension(it) => Some(hash_of(it) == hash_of(other.as_extension_opt()?)),
         _ => None,
     }
 }
 
 fn inner_eq_ignore_nullability(dtype: &DType, other: &DType) -> Option<bool> {
-    match (dtype, other) {
-        (DType::Struct(it, _), DType::Struct(other, _)) => Some(it.eq_ignore_nullability(other)),
-        (DType::Union(it, _), DType::Union(other, _)) => Some(it.eq_ignore_nullability(other)),
-        (DType::Extension(it), DType::Extension(other)) => Some(it.eq_ignore_nullability(other)),
+    match dtype {
+        DType::Struct(it, _) => Some(it.eq_ignore_nullability(other.as_struct_fields_opt()?)),
+        DType::Union(it, _) => Some(it.eq_ignore_nullability(other.as_union_variants_opt()?)),
+        DType::Extension(it) => Some(it.eq_ignore_nullability(other.as_extension_opt()?)),
         _ => None,
     }
 }

@@ -3,9 +3,8 @@
 
 // Commands on decimals and their storage types.
 use crate::comparisons::hash_of;
-use crate::line::expected_at;
-use crate::{Call, ConsoleFault, ConsoleResult};
-use dtype_base::{DecimalDType, DecimalType, MAX_PRECISION, MAX_SCALE};
+use crate::{Call, ConsoleFault, ConsoleResult, Decimal};
+use dtype_base::{DecimalDType, DecimalType, MAX_PRECISION, MAX_SCALE, PType};
 
 /// Answers the command, if it is one of these.
 pub fn answer(call: &mut Call<'_>, command: &str) -> ConsoleResult<bool> {
@@ -29,8 +28,7 @@ pub fn answer(call: &mut Call<'_>, command: &str) -> ConsoleResult<bool> {
 
 fn made(call: &mut Call<'_>, command: &str) -> ConsoleResult<()> {
     let precision = call.number("a precision")?;
-    let scale = call.number("a scale")?;
-    call.end()?;
+    let scale = call.last_number("a scale")?;
     match DecimalDType::try_new(precision, scale) {
         Ok(decimal) => call.say(decimal),
         Err(refusal) if command == "decimal" => Err(ConsoleFault::from(refusal)),
@@ -39,9 +37,8 @@ fn made(call: &mut Call<'_>, command: &str) -> ConsoleResult<()> {
 }
 
 fn ask(call: &mut Call<'_>, command: &str) -> ConsoleResult<()> {
-    let (precision, scale) = call.decimal()?;
+    let Decimal(precision, scale) = call.last()?;
     let decimal = DecimalDType::try_new(precision, scale)?;
-    call.end()?;
     match command {
         "precision" => call.say(decimal.precision()),
         "scale" => call.say(decimal.scale()),
@@ -54,57 +51,34 @@ fn ask(call: &mut Call<'_>, command: &str) -> ConsoleResult<()> {
 }
 
 fn compare(call: &mut Call<'_>, command: &str) -> ConsoleResult<()> {
-    let (precision, scale) = call.decimal()?;
-    let decimal = DecimalDType::try_new(precision, scale)?;
-    let (precision, scale) = call.decimal()?;
-    let other = DecimalDType::try_new(precision, scale)?;
-    call.end()?;
+    let (decimal, other): (Decimal, Decimal) = call.last()?;
+    let decimal = DecimalDType::try_new(decimal.0, decimal.1)?;
+    let other = DecimalDType::try_new(other.0, other.1)?;
     call.say(match command {
         "decimal_eq" => decimal == other,
         _ => hash_of(&decimal) == hash_of(&other),
     })
 }
 
-// Reads a storage type.
-fn decimal_type(call: &mut Call<'_>) -> ConsoleResult<DecimalType> {
-    call.line.skip_blanks();
-    let place = call.line.place();
-    match call.line.word("a decimal's storage type")? {
-        "i8" => Ok(DecimalType::I8),
-        "i16" => Ok(DecimalType::I16),
-        "i32" => Ok(DecimalType::I32),
-        "i64" => Ok(DecimalType::I64),
-        "i128" => Ok(DecimalType::I128),
-        "i256" => Ok(DecimalType::I256),
-        _ => Err(expected_at(place, "a decimal's storage type")),
-    }
-}
-
 fn is_compatible(call: &mut Call<'_>) -> ConsoleResult<()> {
-    let stored = decimal_type(call)?;
-    let (precision, scale) = call.decimal()?;
-    let decimal = DecimalDType::try_new(precision, scale)?;
-    call.end()?;
+    let (stored, decimal): (DecimalType, Decimal) = call.last()?;
+    let decimal = DecimalDType::try_new(decimal.0, decimal.1)?;
     call.say(stored.is_compatible_decimal_value_type(decimal))
 }
 
 fn decimal_type_width(call: &mut Call<'_>) -> ConsoleResult<()> {
-    let stored = decimal_type(call)?;
-    call.end()?;
+    let stored: DecimalType = call.last()?;
     call.say(stored.byte_width())
 }
 
 fn decimal_type_cmp(call: &mut Call<'_>) -> ConsoleResult<()> {
-    let stored = decimal_type(call)?;
-    let other = decimal_type(call)?;
-    call.end()?;
+    let (stored, other): (DecimalType, DecimalType) = call.last()?;
     call.say_ordering(stored.cmp(&other))
 }
 
 fn decimal_type_from(call: &mut Call<'_>) -> ConsoleResult<()> {
-    let ptype = call.ptype()?;
-    call.end()?;
-    call.say(DecimalType::try_from(ptype)?)
+    let ptype: PType = call.last()?;
+    call.say_made(DecimalType::try_from(ptype))
 }
 
 fn decimal_maxima(call: &mut Call<'_>) -> ConsoleResult<()> {

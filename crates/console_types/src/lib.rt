@@ -5,9 +5,11 @@
 //! types, structs, unions, maps, extensions, names, decimals and primitive names. What is proved of it is that each
 //! command is answered, whatever the line holds.
 //!
-//! Begin with `Call`, a command that is being answered. `docs/CONSOLE.md` has the commands and their answers.
+//! Begin with `Call`, a command that is being answered: it reads each `Argument` from its line, and writes what is
+//! `Written` in a form of the console's own. `docs/CONSOLE.md` has the commands and their answers.
 #![tactic(auto)]
 
+mod arguments;
 mod call;
 mod comparisons;
 mod console_fault;
@@ -23,14 +25,16 @@ mod structs;
 mod types;
 mod unions;
 mod writer;
+mod written;
 
+pub use arguments::{Argument, Bytes, Decimal};
 pub use call::{Call, unless};
 pub use comparisons::hash_of;
 pub use console_fault::{ConsoleFault, ConsoleResult};
-pub use extensions::last_extension;
 pub use line::{Line, expected_at};
 pub use reader::MOST_LEVELS;
 pub use writer::{WRITTEN_LEVELS, put, write_name, write_quoted};
+pub use written::Written;
 
 /// Answers a command of this crate, if it is one.
 pub fn answer(call: &mut Call<'_>, command: &str) -> ConsoleResult<bool> {

@@ -58,10 +58,15 @@ impl<'a> Line<'a> {
 
     /// Reads this.
     pub fn take(&mut self, text: &'static str) -> ConsoleResult<()> {
+        self.take_or(text, text)
+    }
+
+    /// Reads this, which is called so.
+    pub fn take_or(&mut self, text: &'static str, expected: &'static str) -> ConsoleResult<()> {
         if self.takes(text) {
             Ok(())
         } else {
-            Err(self.expected(text))
+            Err(self.expected(expected))
         }
     }
 
@@ -83,6 +88,18 @@ impl<'a> Line<'a> {
         } else {
             Err(self.expected("the line's end"))
         }
+    }
+
+    /// Gives what was read, behind which the line ends.
+    pub fn before_end<T: Drop>(&mut self, read: T) -> ConsoleResult<T> {
+        self.end()?;
+        Ok(read)
+    }
+
+    /// Gives what was read, behind which this comes next.
+    pub fn before<T: Drop>(&mut self, read: T, text: &'static str) -> ConsoleResult<T> {
+        self.take(text)?;
+        Ok(read)
     }
 
     /// Reads the bytes that come next and pass the test.

@@ -3,7 +3,7 @@
 
 // Commands on maps.
 use crate::{Call, ConsoleResult};
-use dtype_types::MapDType;
+use dtype_types::{DType, MapDType};
 
 /// Answers the command, if it is one of these.
 pub fn answer(call: &mut Call<'_>, command: &str) -> ConsoleResult<bool> {
@@ -18,21 +18,18 @@ pub fn answer(call: &mut Call<'_>, command: &str) -> ConsoleResult<bool> {
 }
 
 fn ask(call: &mut Call<'_>, command: &str) -> ConsoleResult<()> {
-    let map = call.map()?;
-    call.end()?;
+    let map: MapDType = call.last()?;
     match command {
-        "key_dtype" => call.say_dtype(map.key_dtype()),
-        "value_dtype" => call.say_dtype(map.value_dtype()),
-        "entries_dtype" => call.say_dtype(&map.entries_dtype(call.alloc)?),
+        "key_dtype" => call.write(map.key_dtype()),
+        "value_dtype" => call.write(map.value_dtype()),
+        "entries_dtype" => call.write_made(map.entries_dtype(call.alloc)),
         "keys_sorted" => call.say(map.keys_sorted()),
-        "map_copy" => call.say_map(&map.try_clone(call.alloc)?),
+        "map_copy" => call.write_made(map.try_clone(call.alloc)),
         _ => call.say_text_of(&map),
     }
 }
 
 fn map_try_new(call: &mut Call<'_>) -> ConsoleResult<()> {
-    let keys_sorted = call.boolean()?;
-    let (key, value) = call.last_pair()?;
-    let made = MapDType::try_new(call.alloc, key, value, keys_sorted)?;
-    call.say_map(&made)
+    let (keys_sorted, (key, value)): (bool, (DType, DType)) = call.last()?;
+    call.write_made(MapDType::try_new(call.alloc, key, value, keys_sorted))
 }

@@ -4,7 +4,7 @@
 // Commands on names.
 use crate::comparisons::hash_of;
 use crate::{Call, ConsoleResult, unless};
-use dtype_base::FieldNames;
+use dtype_base::{FieldName, FieldNames};
 
 /// Answers the command, if it is one of these.
 pub fn answer(call: &mut Call<'_>, command: &str) -> ConsoleResult<bool> {
@@ -26,107 +26,95 @@ pub fn answer(call: &mut Call<'_>, command: &str) -> ConsoleResult<bool> {
 }
 
 fn name(call: &mut Call<'_>, command: &str) -> ConsoleResult<()> {
-    let name = call.name()?;
-    call.end()?;
-    if command == "name" {
-        return call.say_name(&name);
+    let name: FieldName = call.last()?;
+    match command {
+        "name" => call.write(&name),
+        _ => call.say_text_of(&name),
     }
-    call.say_text_of(&name)
 }
 
 fn compare(call: &mut Call<'_>, command: &str) -> ConsoleResult<()> {
-    let name = call.name()?;
-    let other = call.name()?;
-    call.end()?;
+    let (name, other): (FieldName, FieldName) = call.last()?;
     match command {
         "name_cmp" => call.say_ordering(name.cmp(&other)),
-        "name_eq" => call.say(name == other),
-        "name_eq_str" => call.say(name.eq_str(other.as_str())),
-        _ => call.say(hash_of(&name) == hash_of(&other)),
+        _ => call.say(are_equal(command, &name, &other)),
     }
 }
 
-// Reads names, behind which the line ends.
-fn last_names(call: &mut Call<'_>) -> ConsoleResult<FieldNames> {
-    let names = call.names()?;
-    call.end()?;
-    Ok(names)
+fn are_equal(command: &str, name: &FieldName, other: &FieldName) -> bool {
+    match command {
+        "name_eq" => name == other,
+        "name_eq_str" => name.eq_str(other.as_str()),
+        _ => hash_of(name) == hash_of(other),
+    }
 }
 
 fn ask(call: &mut Call<'_>, command: &str) -> ConsoleResult<()> {
-    let names = last_names(call)?;
+    let names: FieldNames = call.last()?;
     match command {
         "names_text" => call.say(&names),
         "names_len" => call.say(names.len()),
         "names_is_empty" => call.say(names.is_empty()),
-        "names_copy" => call.say_names(&names.try_clone(call.alloc)?),
-        "names_iter" => names_iter(call, &names),
-        _ => names_into_iter(call, names),
+        "names_copy" => call.write_made(names.try_clone(call.alloc)),
+        // (what writes names goes through them by `iter`)
+        "names_iter" => call.write(&names),
+        _ => call.write_made(FieldNames::from_iter(call.alloc, names)),
     }
-}
-
-fn names_iter(call: &mut Call<'_>, names: &FieldNames) -> ConsoleResult<()> {
-    let mut made = Vec::new(call.alloc);
-    for name in names.iter() {
-        made.push(name.try_clone(call.alloc)?)?;
-    }
-    call.say_names(&FieldNames::from_vec(made))
-}
-
-fn names_into_iter(call: &mut Call<'_>, names: FieldNames) -> ConsoleResult<()> {
-    let made = FieldNames::from_iter(call.alloc, names)?;
-    call.say_names(&made)
 }
 
 fn by_index(call: &mut Call<'_>, command: &str) -> ConsoleResult<()> {
-    let index: usize = call.number("an index")?;
-    let names = last_names(call)?;
+    let (index, names): (usize, FieldNames) = call.last()?;
     match command {
-        "names_get" => match names.get(index) {
-            Some(name) => call.say_name(name),
-            None => call.say("none"),
-        },
-        "names_at" => {
-            unless(index < names.len(), "an index in range")?;
-            call.say_name(&names[index])
+        "names_get" => call.write_option(names.get(index)),
+        "names_at" => say_name_at(call, index, &names),
+        _ => {
+            call.say(left_of_lent(index, &names))?;
+            call.say(left_of_owned(index, names))
         }
-        _ => names_left(call, index, names),
     }
 }
 
-// How many names the two iterators have left behind so many steps.
-fn names_left(call: &mut Call<'_>, steps: usize, names: FieldNames) -> ConsoleResult<()> {
-    let mut lent = names.iter();
+fn say_name_at(call: &mut Call<'_>, index: usize, names: &FieldNames) -> ConsoleResult<()> {
+    unless(index < names.len(), "an index in range")?;
+    call.write(&names[index])
+}
+
+// How many names the iterator over what is lent has left behind so many steps.
+fn left_of_lent(steps: usize, names: &FieldNames) -> usize {
+    let mut names = names.iter();
     for _ in 0..steps.min(names.len()) {
-        let _ = lent.next();
+        let _ = names.next();
     }
-    let left = lent.len();
-    let mut owned = names.into_iter();
-    for _ in 0..steps.min(owned.len()) {
-        let _ = owned.next();
+    names.len()
+}
+
+// How many names the iterator that gives them up has left behind so many steps.
+fn left_of_owned(steps: usize, names: FieldNames) -> usize {
+    let mut names = names.into_iter();
+    for _ in 0..steps.min(names.len()) {
+        let _ = names.next();
     }
-    call.say(left)?;
-    call.say(owned.len())
+    names.len()
 }
 
 fn names_find(call: &mut Call<'_>) -> ConsoleResult<()> {
-    let name = call.name()?;
-    let names = last_names(call)?;
+    let (name, names): (FieldName, FieldNames) = call.last()?;
     call.say_option(names.find(name.as_str()))
 }
 
 fn compare_names(call: &mut Call<'_>, command: &str) -> ConsoleResult<()> {
-    let names = call.names()?;
-    let other = last_names(call)?;
+    let (names, other): (FieldNames, FieldNames) = call.last()?;
     match command {
         "names_eq" => call.say(names == other),
         "names_hash_eq" => call.say(hash_of(&names) == hash_of(&other)),
-        _ => {
-            let mut texts = Vec::new(call.alloc);
-            for name in other.iter() {
-                texts.push(name.as_str())?;
-            }
-            call.say(names.eq_texts(&texts))
-        }
+        _ => eq_texts(call, &names, &other),
     }
+}
+
+fn eq_texts(call: &mut Call<'_>, names: &FieldNames, other: &FieldNames) -> ConsoleResult<()> {
+    let mut texts = Vec::new(call.alloc);
+    for name in other.iter() {
+        texts.push(name.as_str())?;
+    }
+    call.say(names.eq_texts(&texts))
 }

@@ -27,8 +27,7 @@ pub fn answer(call: &mut Call<'_>, command: &str) -> ConsoleResult<bool> {
 }
 
 fn ask(call: &mut Call<'_>, command: &str) -> ConsoleResult<()> {
-    let ptype = call.ptype()?;
-    call.end()?;
+    let ptype: PType = call.last()?;
     match command {
         "byte_width" => call.say(ptype.byte_width()),
         "bit_width" => call.say(ptype.bit_width()),
@@ -46,40 +45,36 @@ fn ask(call: &mut Call<'_>, command: &str) -> ConsoleResult<()> {
 }
 
 fn ask_two(call: &mut Call<'_>, command: &str) -> ConsoleResult<()> {
-    let ptype = call.ptype()?;
-    let other = call.ptype()?;
-    call.end()?;
+    let (ptype, other): (PType, PType) = call.last()?;
     match command {
         "ptype_cmp" => call.say_ordering(ptype.cmp(&other)),
         "ptype_hash_eq" => call.say(hash_of(&ptype) == hash_of(&other)),
-        "max_unsigned_ptype" => call.say(max_unsigned_ptype(ptype, other)?),
-        _ => call.say(max_signed_ptype(ptype, other)?),
+        "max_unsigned_ptype" => max_unsigned_ptype(call, ptype, other),
+        _ => max_signed_ptype(call, ptype, other),
     }
 }
 
 fn min_unsigned_ptype_for_value(call: &mut Call<'_>) -> ConsoleResult<()> {
-    let value = call.number("a number of 64 bits")?;
-    call.end()?;
+    let value = call.last_number("a number of 64 bits")?;
     call.say(PType::min_unsigned_ptype_for_value(value))
 }
 
 fn min_signed_ptype_for_value(call: &mut Call<'_>) -> ConsoleResult<()> {
-    let value = call.number("a signed number of 64 bits")?;
-    call.end()?;
+    let value = call.last_number("a signed number of 64 bits")?;
     call.say(PType::min_signed_ptype_for_value(value))
 }
 
-fn max_unsigned_ptype(ptype: PType, other: PType) -> ConsoleResult<PType> {
+fn max_unsigned_ptype(call: &mut Call<'_>, ptype: PType, other: PType) -> ConsoleResult<()> {
     if ptype.is_unsigned_int() && other.is_unsigned_int() {
-        Ok(ptype.max_unsigned_ptype(other))
+        call.say(ptype.max_unsigned_ptype(other))
     } else {
         Err(ConsoleFault::Unmet("two unsigned names"))
     }
 }
 
-fn max_signed_ptype(ptype: PType, other: PType) -> ConsoleResult<PType> {
+fn max_signed_ptype(call: &mut Call<'_>, ptype: PType, other: PType) -> ConsoleResult<()> {
     if ptype.is_signed_int() && other.is_signed_int() {
-        Ok(ptype.max_signed_ptype(other))
+        call.say(ptype.max_signed_ptype(other))
     } else {
         Err(ConsoleFault::Unmet("two signed names"))
     }

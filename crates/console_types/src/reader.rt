@@ -29,8 +29,7 @@ pub fn read_dtype(alloc: Global, line: &mut Line<'_>, levels: u32) -> ConsoleRes
     match word {
         "null" => Ok(DType::Null),
         "decimal" => read_decimal(line),
-        "list" => read_list(alloc, line, levels),
-        "fixed_size_list" => read_fixed_size_list(alloc, line, levels),
+        "list" | "fixed_size_list" => read_list(alloc, line, word, levels),
         "map" => read_map(alloc, line, levels),
         "union" => read_union(alloc, line, levels),
         _ => plain(word, line.nullability()).ok_or(expected_at(place, "a type")),
@@ -57,20 +56,21 @@ fn read_part(alloc: Global, line: &mut Line<'_>, levels: u32) -> ConsoleResult<D
 fn read_wrapped(alloc: Global, line: &mut Line<'_>, levels: u32) -> ConsoleResult<DType> {
     line.take("(")?;
     let dtype = read_part(alloc, line, levels)?;
-    line.take(")")?;
-    Ok(dtype)
+    line.before(dtype, ")")
 }
 
+// Reads a list of either kind behind its word.
 #[cycle(types)]
-fn read_list(alloc: Global, line: &mut Line<'_>, levels: u32) -> ConsoleResult<DType> {
+fn read_list(alloc: Global, line: &mut Line<'_>, word: &str, levels: u32) -> ConsoleResult<DType> {
     let element = read_wrapped(alloc, line, levels)?;
+    match word {
+        "list" => list_of(alloc, line, element),
+        _ => fixed_size_list_of(alloc, line, element),
+    }
+}
+
+fn list_of(alloc: Global, line: &mut Line<'_>, element: DType) -> ConsoleResult<DType> {
     Ok(DType::list(alloc, element, line.nullability())?)
-}
-
-#[cycle(types)]
-fn read_fixed_size_list(alloc: Global, line: &mut Line<'_>, levels: u32) -> ConsoleResult<DType> {
-    let element = read_wrapped(alloc, line, levels)?;
-    fixed_size_list_of(alloc, line, element)
 }
 
 // Reads what stands behind the type of a fixed-size list, and gives the list.
@@ -155,8 +155,7 @@ fn read_field(
 // Reads a name and an equals sign.
 fn read_field_name(alloc: Global, line: &mut Line<'_>) -> ConsoleResult<FieldName> {
     let name = line.name(alloc)?;
-    line.take("=")?;
-    Ok(name)
+    line.before(name, "=")
 }
 
 // Reads fields behind the opening brace. Each takes bytes, so there are no more than these.
@@ -303,9 +302,9 @@ impl Line<'_> {
 
     // Reads a comma, and the blanks behind it.
     fn comma(&mut self) -> ConsoleResult<()> {
-        self.take(",")?;
+        let taken = self.take(",");
         self.skip_blanks();
-        Ok(())
+        taken
     }
 
     /// Reads `true` or `false`.
@@ -324,24 +323,21 @@ impl Line<'_> {
         self.comma()?;
         self.take("keys_sorted=")?;
         let keys_sorted = self.boolean()?;
-        self.take(")")?;
-        Ok(keys_sorted)
+        self.before(keys_sorted, ")")
     }
 
     // Reads the metadata of an extension.
     fn bracketed_bytes(&mut self, alloc: Global) -> ConsoleResult<Vec<u8>> {
         self.take("[")?;
         let bytes = self.hexadecimals(alloc)?;
-        self.take("]")?;
-        Ok(bytes)
+        self.before(bytes, "]")
     }
 
     // Reads the size of a fixed-size list.
     fn bracketed_size(&mut self) -> ConsoleResult<u32> {
         self.take("[")?;
         let size = self.number("a size")?;
-        self.take("]")?;
-        Ok(size)
+        self.before(size, "]")
     }
 
     /// Reads the precision and the scale that stand behind `decimal`.
@@ -355,7 +351,6 @@ impl Line<'_> {
     // Reads a scale, and the parenthesis behind it.
     fn closed_scale(&mut self) -> ConsoleResult<i8> {
         let scale = self.number("a scale")?;
-        self.take(")")?;
-        Ok(scale)
+        self.before(scale, ")")
     }
 }

@@ -2,9 +2,10 @@
 // SPDX-FileCopyrightText: Copyright the Vortex contributors
 
 // Commands on structs.
-use crate::types::read_pairs;
-use crate::{Call, ConsoleResult, unless};
-use dtype_types::{DTypeIter, FieldDType, StructFields};
+use crate::types::last_pairs;
+use crate::{Call, ConsoleFault, ConsoleResult};
+use dtype_base::{FieldName, FieldNames};
+use dtype_types::{DType, DTypeIter, FieldDType, StructFields};
 
 /// Answers the command, if it is one of these.
 pub fn answer(call: &mut Call<'_>, command: &str) -> ConsoleResult<bool> {
@@ -29,104 +30,89 @@ pub fn answer(call: &mut Call<'_>, command: &str) -> ConsoleResult<bool> {
     Ok(true)
 }
 
-// Reads a struct, behind which the line ends.
-fn last_fields(call: &mut Call<'_>) -> ConsoleResult<StructFields> {
-    let fields = call.fields()?;
-    call.end()?;
-    Ok(fields)
-}
-
 fn ask(call: &mut Call<'_>, command: &str) -> ConsoleResult<()> {
-    let fields = last_fields(call)?;
+    let fields: StructFields = call.last()?;
     match command {
-        "names" => call.say_names(fields.names()),
+        "names" => call.write(fields.names()),
         "nfields" => call.say(fields.nfields()),
         "fields" => say_dtypes(call, fields.fields()),
         "field_dtypes" => say_dtypes(call, fields.field_dtypes()),
-        "fields_copy" => call.say_fields(&fields.try_clone(call.alloc)?),
+        "fields_copy" => call.write_made(fields.try_clone(call.alloc)),
         "fields_text" => call.say_text_of(&fields),
-        _ => {
-            let text = fields.indented(call.alloc)?;
-            call.say_text(text.as_str())
-        }
+        _ => indented(call, &fields),
     }
+}
+
+fn indented(call: &mut Call<'_>, fields: &StructFields) -> ConsoleResult<()> {
+    let text = fields.indented(call.alloc)?;
+    call.say_text(text.as_str())
 }
 
 /// Answers types.
 pub fn say_dtypes(call: &mut Call<'_>, dtypes: DTypeIter<'_>) -> ConsoleResult<()> {
     for dtype in dtypes {
-        call.say_dtype(dtype)?;
+        call.write(dtype)?;
     }
     call.end_list()
 }
 
 fn by_index(call: &mut Call<'_>, command: &str) -> ConsoleResult<()> {
-    let index = call.number("an index")?;
-    let fields = last_fields(call)?;
+    let (index, fields): (usize, StructFields) = call.last()?;
     match command {
-        "field_name" => match fields.field_name(index) {
-            Some(name) => call.say_name(name),
-            None => call.say("none"),
-        },
-        "field_by_index" => call.say_dtype_option(fields.field_by_index(index)),
-        _ => call.say_fields(&fields.without_field(call.alloc, index)?),
+        "field_name" => call.write_option(fields.field_name(index)),
+        "field_by_index" => call.write_option(fields.field_by_index(index)),
+        _ => call.write_made(fields.without_field(call.alloc, index)),
     }
 }
 
 fn by_name(call: &mut Call<'_>, command: &str) -> ConsoleResult<()> {
-    let name = call.name()?;
-    let fields = last_fields(call)?;
+    let (name, fields): (FieldName, StructFields) = call.last()?;
     match command {
         "find" => call.say_option(fields.find(name.as_str())),
-        "field" => call.say_dtype_option(fields.field(name.as_str())),
-        _ => {
-            let (found, count) = fields.find_counted(name.as_str());
-            call.say_option(found)?;
-            call.say(count)
-        }
+        "field" => call.write_option(fields.field(name.as_str())),
+        _ => say_found(call, fields.find_counted(name.as_str())),
     }
+}
+
+fn say_found(call: &mut Call<'_>, (found, count): (Option<usize>, u64)) -> ConsoleResult<()> {
+    call.say_option(found)?;
+    call.say(count)
 }
 
 fn project(call: &mut Call<'_>) -> ConsoleResult<()> {
-    let names = call.names()?;
-    let fields = last_fields(call)?;
-    call.say_fields(&fields.project(call.alloc, names.as_slice())?)
+    let (names, fields): (FieldNames, StructFields) = call.last()?;
+    call.write_made(fields.project(call.alloc, names.as_slice()))
 }
 
 fn disjoint_merge(call: &mut Call<'_>) -> ConsoleResult<()> {
-    let fields = call.fields()?;
-    let other = last_fields(call)?;
-    call.say_fields(&fields.disjoint_merge(call.alloc, &other)?)
+    let (fields, other): (StructFields, StructFields) = call.last()?;
+    call.write_made(fields.disjoint_merge(call.alloc, &other))
 }
 
 fn struct_new(call: &mut Call<'_>) -> ConsoleResult<()> {
-    let names = call.names()?;
-    let dtypes = call.dtypes()?;
-    unless(names.len() == dtypes.len(), "as many names as types")?;
-    call.say_fields(&StructFields::new(call.alloc, names, dtypes)?)
+    let (names, dtypes): (FieldNames, Vec<DType>) = call.last()?;
+    if names.len() == dtypes.len() {
+        call.write_made(StructFields::new(call.alloc, names, dtypes))
+    } else {
+        Err(ConsoleFault::Unmet("as many names as types"))
+    }
 }
 
 fn struct_from_fields(call: &mut Call<'_>) -> ConsoleResult<()> {
-    let names = call.names()?;
-    let dtypes = field_dtypes(call)?;
-    unless(names.len() == dtypes.len(), "as many names as types")?;
-    call.say_fields(&StructFields::from_fields(call.alloc, names, dtypes)?)
-}
-
-fn field_dtypes(call: &mut Call<'_>) -> ConsoleResult<Vec<FieldDType>> {
-    let mut dtypes = Vec::new(call.alloc);
-    for dtype in call.dtypes()? {
-        dtypes.push(FieldDType::from(dtype))?;
+    let (names, dtypes): (FieldNames, Vec<FieldDType>) = call.last()?;
+    if names.len() == dtypes.len() {
+        call.write_made(StructFields::from_fields(call.alloc, names, dtypes))
+    } else {
+        Err(ConsoleFault::Unmet("as many names as types"))
     }
-    Ok(dtypes)
 }
 
 fn struct_from_iter(call: &mut Call<'_>) -> ConsoleResult<()> {
-    let fields = read_pairs(call)?;
-    call.say_fields(&StructFields::from_iter(call.alloc, fields)?)
+    let (names, dtypes) = last_pairs(call)?;
+    call.write_made(StructFields::from_iter(call.alloc, names.into_iter().zip(dtypes)))
 }
 
 fn struct_empty(call: &mut Call<'_>) -> ConsoleResult<()> {
     call.end()?;
-    call.say_fields(&StructFields::empty(call.alloc)?)
+    call.write_made(StructFields::empty(call.alloc))
 }

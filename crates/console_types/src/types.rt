@@ -3,7 +3,7 @@
 
 // Commands on types of every kind.
 use crate::{Call, ConsoleFault, ConsoleResult};
-use dtype_base::{DecimalDType, FieldName, Nullability, PType};
+use dtype_base::{DecimalDType, FieldNames, Nullability, PType};
 use dtype_types::{DType, FieldDType};
 
 /// Answers the command, if it is one of these.
@@ -30,57 +30,55 @@ pub fn answer(call: &mut Call<'_>, command: &str) -> ConsoleResult<bool> {
 }
 
 fn change(call: &mut Call<'_>, command: &str) -> ConsoleResult<()> {
-    let dtype = call.last_dtype()?;
-    let made = match command {
-        "copy" => dtype.try_clone(call.alloc)?,
-        "as_nullable" => dtype.as_nullable(call.alloc)?,
-        "as_nonnullable" => with_nullability(call, &dtype, Nullability::NonNullable)?,
-        _ => dtype,
-    };
-    call.say_dtype(&made)
+    let dtype: DType = call.last()?;
+    match command {
+        "copy" => call.write_made(dtype.try_clone(call.alloc)),
+        "as_nullable" => call.write_made(dtype.as_nullable(call.alloc)),
+        "as_nonnullable" => with_nullability(call, &dtype, Nullability::NonNullable),
+        _ => call.write(&dtype),
+    }
 }
 
 fn change_to(call: &mut Call<'_>, command: &str) -> ConsoleResult<()> {
-    let n = call.nullability()?;
-    let dtype = call.last_dtype()?;
-    let made = match command {
-        "union_nullability" => dtype.union_nullability(call.alloc, n)?,
-        _ => with_nullability(call, &dtype, n)?,
-    };
-    call.say_dtype(&made)
+    let (n, dtype): (Nullability, DType) = call.last()?;
+    match command {
+        "union_nullability" => call.write_made(dtype.union_nullability(call.alloc, n)),
+        _ => with_nullability(call, &dtype, n),
+    }
 }
 
-fn with_nullability(call: &Call<'_>, dtype: &DType, n: Nullability) -> ConsoleResult<DType> {
+fn with_nullability(call: &mut Call<'_>, dtype: &DType, n: Nullability) -> ConsoleResult<()> {
     if n.is_nullable() {
-        return Ok(dtype.with_nullability(call.alloc, Nullability::Nullable)?);
+        call.write_made(dtype.with_nullability(call.alloc, Nullability::Nullable))
+    } else if dtype.can_be_nonnullable() {
+        call.write_made(dtype.as_nonnullable(call.alloc))
+    } else {
+        Err(ConsoleFault::Unmet("a type that can be non-nullable"))
     }
-    if !dtype.can_be_nonnullable() {
-        return Err(ConsoleFault::Unmet("a type that can be non-nullable"));
-    }
-    Ok(dtype.as_nonnullable(call.alloc)?)
 }
 
 fn ask(call: &mut Call<'_>, command: &str) -> ConsoleResult<()> {
-    let dtype = call.last_dtype()?;
+    let dtype: DType = call.last()?;
     match command {
         "nullability" => call.say(dtype.nullability().long_text()),
         "is_nullable" => call.say(dtype.is_nullable()),
         "can_be_nonnullable" => call.say(dtype.can_be_nonnullable()),
-        "element_size" => call.say_option(dtype.element_size()?),
+        "element_size" => element_size(call, &dtype),
         _ => call.say_text_of(&dtype),
     }
 }
 
+fn element_size(call: &mut Call<'_>, dtype: &DType) -> ConsoleResult<()> {
+    call.say_option(dtype.element_size()?)
+}
+
 fn nullability_or(call: &mut Call<'_>) -> ConsoleResult<()> {
-    let n = call.nullability()?;
-    let other = call.nullability()?;
-    call.end()?;
+    let (n, other): (Nullability, Nullability) = call.last()?;
     call.say((n | other).long_text())
 }
 
 fn nullability_text(call: &mut Call<'_>, command: &str) -> ConsoleResult<()> {
-    let n = call.nullability()?;
-    call.end()?;
+    let n: Nullability = call.last()?;
     match command {
         "nullability_long_text" => call.say(n.long_text()),
         _ => call.say_text_of(&n),
@@ -88,7 +86,7 @@ fn nullability_text(call: &mut Call<'_>, command: &str) -> ConsoleResult<()> {
 }
 
 fn kinds(call: &mut Call<'_>) -> ConsoleResult<()> {
-    let dtype = call.last_dtype()?;
+    let dtype: DType = call.last()?;
     say_number_kinds(call, &dtype)?;
     say_plain_kinds(call, &dtype)?;
     say_nested_kinds(call, &dtype)?;
@@ -128,10 +126,10 @@ fn say_nested_kinds(call: &mut Call<'_>, dtype: &DType) -> ConsoleResult<()> {
 }
 
 fn convert(call: &mut Call<'_>, command: &str) -> ConsoleResult<()> {
-    let dtype = call.last_dtype()?;
+    let dtype: DType = call.last()?;
     match command {
-        "to_decimal" => call.say(DecimalDType::try_from(&dtype)?),
-        "to_ptype" => call.say(PType::try_from(&dtype)?),
+        "to_decimal" => call.say_made(DecimalDType::try_from(&dtype)),
+        "to_ptype" => call.say_made(PType::try_from(&dtype)),
         _ if dtype.is_primitive() => call.say(dtype.as_ptype()),
         _ => Err(ConsoleFault::Unmet("a primitive type")),
     }
@@ -139,55 +137,43 @@ fn convert(call: &mut Call<'_>, command: &str) -> ConsoleResult<()> {
 
 fn bytes_type(call: &mut Call<'_>) -> ConsoleResult<()> {
     call.end()?;
-    call.say_dtype(&DType::BYTES)
+    call.write(&DType::BYTES)
 }
 
 fn from_ptype(call: &mut Call<'_>) -> ConsoleResult<()> {
-    let ptype = call.ptype()?;
-    call.end()?;
-    call.say_dtype(&DType::from(ptype))
+    let ptype: PType = call.last()?;
+    call.write(&DType::from(ptype))
 }
 
 fn list(call: &mut Call<'_>) -> ConsoleResult<()> {
-    let n = call.nullability()?;
-    let element = call.last_dtype()?;
-    let made = DType::list(call.alloc, element, n)?;
-    call.say_dtype(&made)
+    let (n, element): (Nullability, DType) = call.last()?;
+    call.write_made(DType::list(call.alloc, element, n))
 }
 
 fn fixed_size_list(call: &mut Call<'_>) -> ConsoleResult<()> {
-    let n = call.nullability()?;
+    let n = call.read()?;
     let size = call.number("a size")?;
-    let element = call.last_dtype()?;
-    let made = DType::fixed_size_list(call.alloc, element, size, n)?;
-    call.say_dtype(&made)
+    let element = call.last()?;
+    call.write_made(DType::fixed_size_list(call.alloc, element, size, n))
 }
 
 fn map(call: &mut Call<'_>) -> ConsoleResult<()> {
-    let n = call.nullability()?;
-    let keys_sorted = call.boolean()?;
-    let (key, value) = call.last_pair()?;
-    let made = DType::map(call.alloc, key, value, keys_sorted, n)?;
-    call.say_dtype(&made)
+    let ((n, keys_sorted), (key, value)): ((Nullability, bool), (DType, DType)) = call.last()?;
+    call.write_made(DType::map(call.alloc, key, value, keys_sorted, n))
 }
 
 fn struct_(call: &mut Call<'_>) -> ConsoleResult<()> {
-    let n = call.nullability()?;
-    let fields = read_pairs(call)?;
-    let made = DType::struct_(call.alloc, fields, n)?;
-    call.say_dtype(&made)
+    let n = call.read()?;
+    let (names, dtypes) = last_pairs(call)?;
+    call.write_made(DType::struct_(call.alloc, names.into_iter().zip(dtypes), n))
 }
 
-/// Reads names, and as many types.
-pub fn read_pairs(call: &mut Call<'_>) -> ConsoleResult<Vec<(FieldName, FieldDType)>> {
-    let names = call.names()?;
-    let dtypes = call.dtypes()?;
-    if names.len() != dtypes.len() {
-        return Err(ConsoleFault::Unmet("as many names as types"));
+/// Reads names, and as many types, behind which the line ends.
+pub fn last_pairs(call: &mut Call<'_>) -> ConsoleResult<(FieldNames, Vec<FieldDType>)> {
+    let (names, dtypes): (FieldNames, Vec<FieldDType>) = call.last()?;
+    if names.len() == dtypes.len() {
+        Ok((names, dtypes))
+    } else {
+        Err(ConsoleFault::Unmet("as many names as types"))
     }
-    let mut pairs = Vec::new(call.alloc);
-    for (name, dtype) in names.into_iter().zip(dtypes) {
-        pairs.push((name, FieldDType::from(dtype)))?;
-    }
-    Ok(pairs)
 }

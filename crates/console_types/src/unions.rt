@@ -2,8 +2,10 @@
 // SPDX-FileCopyrightText: Copyright the Vortex contributors
 
 // Commands on unions.
+use crate::arguments::Tags;
 use crate::structs::say_dtypes;
-use crate::{Call, ConsoleResult, unless};
+use crate::{Call, ConsoleFault, ConsoleResult};
+use dtype_base::{FieldName, FieldNames};
 use dtype_types::{DType, UnionVariants};
 
 /// Answers the command, if it is one of these.
@@ -27,67 +29,48 @@ pub fn answer(call: &mut Call<'_>, command: &str) -> ConsoleResult<bool> {
     Ok(true)
 }
 
-// Reads a union, behind which the line ends.
-fn last_variants(call: &mut Call<'_>) -> ConsoleResult<UnionVariants> {
-    let variants = call.variants()?;
-    call.end()?;
-    Ok(variants)
-}
-
 fn ask(call: &mut Call<'_>, command: &str) -> ConsoleResult<()> {
-    let variants = last_variants(call)?;
+    let variants: UnionVariants = call.last()?;
     match command {
-        "variant_names" => call.say_names(variants.names()),
+        "variant_names" => call.write(variants.names()),
         "variants_len" => call.say(variants.len()),
         "variants_is_empty" => call.say(variants.is_empty()),
         "is_consecutive" => call.say(variants.is_consecutive()),
         "type_ids" => call.say_tags(variants.type_ids()),
         "variants" => say_dtypes(call, variants.variants()),
-        "variants_copy" => call.say_variants(&variants.try_clone(call.alloc)?),
+        "variants_copy" => call.write_made(variants.try_clone(call.alloc)),
         _ => call.say_text_of(&variants),
     }
 }
 
 fn by_name(call: &mut Call<'_>, command: &str) -> ConsoleResult<()> {
-    let name = call.name()?;
-    let variants = last_variants(call)?;
+    let (name, variants): (FieldName, UnionVariants) = call.last()?;
     match command {
         "find_variant" => call.say_option(variants.find(name.as_str())),
-        _ => call.say_dtype_option(variants.variant(name.as_str())),
+        _ => call.write_option(variants.variant(name.as_str())),
     }
 }
 
 fn by_index(call: &mut Call<'_>, command: &str) -> ConsoleResult<()> {
-    let index = call.number("an index")?;
-    let variants = last_variants(call)?;
-    if command == "variant_by_index" {
-        return call.say_dtype_option(variants.variant_by_index(index));
+    let (index, variants): (usize, UnionVariants) = call.last()?;
+    match command {
+        "variant_by_index" => call.write_option(variants.variant_by_index(index)),
+        _ if index < variants.len() => call.say(variants.child_index_to_tag(index)),
+        _ => Err(ConsoleFault::Unmet("an index in range")),
     }
-    unless(index < variants.len(), "an index in range")?;
-    call.say(variants.child_index_to_tag(index))
 }
 
 fn tag_to_child_index(call: &mut Call<'_>) -> ConsoleResult<()> {
-    let tag = call.number("a tag")?;
-    let variants = last_variants(call)?;
+    let (tag, variants): (u8, UnionVariants) = call.last()?;
     call.say_option(variants.tag_to_child_index(tag))
 }
 
 fn union_new(call: &mut Call<'_>) -> ConsoleResult<()> {
-    let names = call.names()?;
-    let dtypes = call.dtypes()?;
-    call.say_variants(&UnionVariants::new(call.alloc, names, dtypes)?)
+    let (names, dtypes): (FieldNames, Vec<DType>) = call.last()?;
+    call.write_made(UnionVariants::new(call.alloc, names, dtypes))
 }
 
 fn union_try_new(call: &mut Call<'_>) -> ConsoleResult<()> {
-    let names = call.names()?;
-    let (tags, dtypes) = tags_and_dtypes(call)?;
-    let made = UnionVariants::try_new(call.alloc, names, dtypes, tags)?;
-    call.say_variants(&made)
-}
-
-fn tags_and_dtypes(call: &mut Call<'_>) -> ConsoleResult<(Vec<u8>, Vec<DType>)> {
-    let tags = call.tags()?;
-    let dtypes = call.dtypes()?;
-    Ok((tags, dtypes))
+    let (names, (Tags(tags), dtypes)): (FieldNames, (Tags, Vec<DType>)) = call.last()?;
+    call.write_made(UnionVariants::try_new(call.alloc, names, dtypes, tags))
 }

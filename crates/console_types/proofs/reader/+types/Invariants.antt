@@ -10,9 +10,6 @@ decreases-read_dtype l = l.levels * 5 + 4
 abbrev pub decreases-read_list : goal.decreases-read_list
 decreases-read_list l = l.levels * 5 + 3
 
-abbrev pub decreases-read_fixed_size_list : goal.decreases-read_fixed_size_list
-decreases-read_fixed_size_list l = l.levels * 5 + 3
-
 abbrev pub decreases-read_map : goal.decreases-read_map
 decreases-read_map l = l.levels * 5 + 3
 

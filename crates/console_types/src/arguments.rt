@@ -1,0 +1,230 @@
+// SPDX-License-Identifier: Apache-2.0
+// SPDX-FileCopyrightText: Copyright the Vortex contributors
+
+// The arguments of commands, each of a type that says how it is read.
+use crate::line::expected_at;
+use crate::reader::{MOST_LEVELS, ptype_of, read_dtype};
+use crate::{ConsoleResult, Line};
+use dtype_base::{DecimalDType, DecimalType, FieldName, FieldNames, Nullability, PType};
+use dtype_types::{DType, ExtDTypeRef, ExtId, FieldDType, MapDType, StructFields, UnionVariants};
+use std::alloc::Global;
+
+/// What is read from a line, behind the blanks before it.
+pub trait Argument: Drop {
+    /// Reads it.
+    fn read(alloc: Global, line: &mut Line<'_>) -> ConsoleResult<Self>;
+}
+
+/// Two arguments, one behind the other.
+impl<A: Argument, B: Argument> Argument for (A, B) {
+    fn read(alloc: Global, line: &mut Line<'_>) -> ConsoleResult<(A, B)> {
+        let first = A::read(alloc, line)?;
+        line.skip_blanks();
+        let second = B::read(alloc, line)?;
+        Ok((first, second))
+    }
+}
+
+/// A type.
+impl Argument for DType {
+    fn read(alloc: Global, line: &mut Line<'_>) -> ConsoleResult<DType> {
+        read_dtype(alloc, line, MOST_LEVELS)
+    }
+}
+
+/// A type that is to be a field's.
+impl Argument for FieldDType {
+    fn read(alloc: Global, line: &mut Line<'_>) -> ConsoleResult<FieldDType> {
+        Ok(FieldDType::from(DType::read(alloc, line)?))
+    }
+}
+
+/// As many as there are up to the line's end.
+impl<T: Argument> Argument for Vec<T> {
+    fn read(alloc: Global, line: &mut Line<'_>) -> ConsoleResult<Vec<T>> {
+        let mut all = Vec::new(alloc);
+        for _ in 0..line.left() {
+            if line.is_at_end() {
+                break;
+            }
+            all.push(T::read(alloc, line)?)?;
+        }
+        Ok(all)
+    }
+}
+
+// Reads what is joined by commas, or `-`, which is nothing.
+fn read_list<T: Argument>(alloc: Global, line: &mut Line<'_>) -> ConsoleResult<Vec<T>> {
+    let mut list = Vec::new(alloc);
+    if line.takes("-") {
+        return Ok(list);
+    }
+    for _ in 0..line.left() {
+        list.push(T::read(alloc, line)?)?;
+        if !line.takes(",") {
+            break;
+        }
+    }
+    Ok(list)
+}
+
+/// A struct.
+impl Argument for StructFields {
+    fn read(alloc: Global, line: &mut Line<'_>) -> ConsoleResult<StructFields> {
+        let place = line.place();
+        let fields = read_dtype(alloc, line, MOST_LEVELS)?.into_struct_fields_opt();
+        fields.ok_or(expected_at(place, "a struct"))
+    }
+}
+
+/// A union.
+impl Argument for UnionVariants {
+    fn read(alloc: Global, line: &mut Line<'_>) -> ConsoleResult<UnionVariants> {
+        let place = line.place();
+        let variants = read_dtype(alloc, line, MOST_LEVELS)?.into_union_variants_opt();
+        variants.ok_or(expected_at(place, "a union"))
+    }
+}
+
+/// A map.
+impl Argument for MapDType {
+    fn read(alloc: Global, line: &mut Line<'_>) -> ConsoleResult<MapDType> {
+        let place = line.place();
+        let map = read_dtype(alloc, line, MOST_LEVELS)?.into_map_opt();
+        map.ok_or(expected_at(place, "a map"))
+    }
+}
+
+/// An extension.
+impl Argument for ExtDTypeRef {
+    fn read(alloc: Global, line: &mut Line<'_>) -> ConsoleResult<ExtDTypeRef> {
+        let place = line.place();
+        match read_dtype(alloc, line, MOST_LEVELS)? {
+            DType::Extension(extension) => Ok(extension),
+            _ => Err(expected_at(place, "an extension")),
+        }
+    }
+}
+
+impl Argument for Nullability {
+    fn read(_alloc: Global, line: &mut Line<'_>) -> ConsoleResult<Nullability> {
+        if line.takes("NonNullable") {
+            Ok(Nullability::NonNullable)
+        } else if line.takes("Nullable") {
+            Ok(Nullability::Nullable)
+        } else {
+            Err(line.expected("NonNullable or Nullable"))
+        }
+    }
+}
+
+/// A primitive name.
+impl Argument for PType {
+    fn read(_alloc: Global, line: &mut Line<'_>) -> ConsoleResult<PType> {
+        let place = line.place();
+        let word = line.word("a primitive name")?;
+        ptype_of(word).ok_or(expected_at(place, "a primitive name"))
+    }
+}
+
+/// A decimal, as its precision and its scale, of which the library makes one.
+#[derive(Drop)]
+pub struct Decimal(pub u8, pub i8);
+
+impl Argument for Decimal {
+    fn read(_alloc: Global, line: &mut Line<'_>) -> ConsoleResult<Decimal> {
+        line.take_or("decimal", "a decimal")?;
+        let (precision, scale) = line.decimal_parts()?;
+        let _ = DecimalDType::try_new(precision, scale)?;
+        Ok(Decimal(precision, scale))
+    }
+}
+
+/// A decimal's storage type.
+impl Argument for DecimalType {
+    fn read(_alloc: Global, line: &mut Line<'_>) -> ConsoleResult<DecimalType> {
+        let place = line.place();
+        let word = line.word("a decimal's storage type")?;
+        decimal_type_of(word).ok_or(expected_at(place, "a decimal's storage type"))
+    }
+}
+
+// The storage type with this text.
+fn decimal_type_of(word: &str) -> Option<DecimalType> {
+    match word {
+        "i8" => Some(DecimalType::I8),
+        "i16" => Some(DecimalType::I16),
+        "i32" => Some(DecimalType::I32),
+        "i64" => Some(DecimalType::I64),
+        "i128" => Some(DecimalType::I128),
+        "i256" => Some(DecimalType::I256),
+        _ => None,
+    }
+}
+
+/// `true` or `false`.
+impl Argument for bool {
+    fn read(_alloc: Global, line: &mut Line<'_>) -> ConsoleResult<bool> {
+        line.boolean()
+    }
+}
+
+/// An index.
+impl Argument for usize {
+    fn read(_alloc: Global, line: &mut Line<'_>) -> ConsoleResult<usize> {
+        line.number("an index")
+    }
+}
+
+/// A name.
+impl Argument for FieldName {
+    fn read(alloc: Global, line: &mut Line<'_>) -> ConsoleResult<FieldName> {
+        line.name(alloc)
+    }
+}
+
+/// Names that are joined by commas.
+impl Argument for FieldNames {
+    fn read(alloc: Global, line: &mut Line<'_>) -> ConsoleResult<FieldNames> {
+        Ok(FieldNames::from_vec(read_list(alloc, line)?))
+    }
+}
+
+/// A tag.
+impl Argument for u8 {
+    fn read(_alloc: Global, line: &mut Line<'_>) -> ConsoleResult<u8> {
+        line.number("a tag")
+    }
+}
+
+/// Tags that are joined by commas.
+#[derive(Drop)]
+pub struct Tags(pub Vec<u8>);
+
+impl Argument for Tags {
+    fn read(alloc: Global, line: &mut Line<'_>) -> ConsoleResult<Tags> {
+        Ok(Tags(read_list(alloc, line)?))
+    }
+}
+
+/// Bytes in hexadecimal.
+#[derive(Drop)]
+pub struct Bytes(pub Vec<u8>);
+
+impl Argument for Bytes {
+    fn read(alloc: Global, line: &mut Line<'_>) -> ConsoleResult<Bytes> {
+        Ok(Bytes(line.hexadecimals(alloc)?))
+    }
+}
+
+/// An id.
+impl Argument for ExtId {
+    fn read(alloc: Global, line: &mut Line<'_>) -> ConsoleResult<ExtId> {
+        if line.takes("\"") {
+            let text = line.quoted_text(alloc)?;
+            Ok(ExtId::new(alloc, text.as_str())?)
+        } else {
+            Ok(ExtId::new(alloc, line.dotted_word("an id")?)?)
+        }
+    }
+}

@@ -1,0 +1,67 @@
+// SPDX-License-Identifier: Apache-2.0
+// SPDX-FileCopyrightText: Copyright the Vortex contributors
+
+// What has a form of the console's own, and how it is written.
+use crate::writer::{
+    WRITTEN_LEVELS, write_dtype, write_extension, write_fields, write_id, write_map, write_name,
+    write_names, write_union,
+};
+use dtype_base::{FieldName, FieldNames, VortexResult};
+use dtype_types::{DType, ExtDTypeRef, ExtId, MapDType, StructFields, UnionVariants};
+
+/// What has a form of the console's own.
+pub trait Written {
+    /// Writes that form.
+    fn write(&self, out: &mut String) -> VortexResult<()>;
+}
+
+impl Written for DType {
+    fn write(&self, out: &mut String) -> VortexResult<()> {
+        write_dtype(out, self, WRITTEN_LEVELS)
+    }
+}
+
+/// The fields, as a type that isn't nullable.
+impl Written for StructFields {
+    fn write(&self, out: &mut String) -> VortexResult<()> {
+        write_fields(out, self, WRITTEN_LEVELS)
+    }
+}
+
+/// The variants, as a type that isn't nullable.
+impl Written for UnionVariants {
+    fn write(&self, out: &mut String) -> VortexResult<()> {
+        write_union(out, self, WRITTEN_LEVELS)
+    }
+}
+
+/// The map, as a type that isn't nullable.
+impl Written for MapDType {
+    fn write(&self, out: &mut String) -> VortexResult<()> {
+        write_map(out, self, WRITTEN_LEVELS)
+    }
+}
+
+impl Written for ExtDTypeRef {
+    fn write(&self, out: &mut String) -> VortexResult<()> {
+        write_extension(out, self, WRITTEN_LEVELS)
+    }
+}
+
+impl Written for ExtId {
+    fn write(&self, out: &mut String) -> VortexResult<()> {
+        write_id(out, self)
+    }
+}
+
+impl Written for FieldName {
+    fn write(&self, out: &mut String) -> VortexResult<()> {
+        write_name(out, self)
+    }
+}
+
+impl Written for FieldNames {
+    fn write(&self, out: &mut String) -> VortexResult<()> {
+        write_names(out, self)
+    }
+}

@@ -34,12 +34,12 @@ IsValidDecimal d = IsDecimalWithin greatest_precision d.precision d.scale
 
 -- e is the first of these refusals that the precision and the scale meet: no digits, more than max,
 -- a scale above max, and a scale above the precision
-abbrev pub IsDecimalRefusal : (max precision : ℕ) (scale : ℤ) → VortexError → Type 0
-IsDecimalRefusal max precision scale (PrecisionZero m) = (m ≡ max) × (precision ≡ 0)
-IsDecimalRefusal max precision scale (PrecisionTooLarge p m) = (p ≡ precision) × (m ≡ max) × (max < precision)
-IsDecimalRefusal max precision scale (ScaleTooLarge s m) = (s ≡ scale) × (m ≡ pos max) × (1 ≤ precision) × (precision ≤ max) × (pos max <ℤ scale)
-IsDecimalRefusal max precision scale (ScaleAbovePrecision s p) = (s ≡ scale) × (p ≡ precision) × (1 ≤ precision) × (precision ≤ max) × (scale ≤ℤ pos max) × (pos precision <ℤ scale)
-IsDecimalRefusal max precision scale _ = ⊥
+abbrev pub DecimalRefusal : (max precision : ℕ) (scale : ℤ) → VortexError → Type 0
+DecimalRefusal max precision scale (PrecisionZero m) = (m ≡ max) × (precision ≡ 0)
+DecimalRefusal max precision scale (PrecisionTooLarge p m) = (p ≡ precision) × (m ≡ max) × (max < precision)
+DecimalRefusal max precision scale (ScaleTooLarge s m) = (s ≡ scale) × (m ≡ pos max) × (1 ≤ precision) × (precision ≤ max) × (pos max <ℤ scale)
+DecimalRefusal max precision scale (ScaleAbovePrecision s p) = (s ≡ scale) × (p ≡ precision) × (1 ≤ precision) × (precision ≤ max) × (scale ≤ℤ pos max) × (pos precision <ℤ scale)
+DecimalRefusal max precision scale _ = ⊥
 
 -- b is the least number of bits with room for every number of p digits
 pub record IsBitWidth (p b : ℕ) : Type 0 where
@@ -81,9 +81,9 @@ abbrev pub IsCompatible : DecimalType → ℕ → Type 0
 IsCompatible t digits = IsSomeAnd (smallest_storage digits) (λ s. (storage s).number ≤ (storage t).number)
 
 -- the storage type that is this primitive type, if there is one
-abbrev pub storage_of : PType → Option DecimalType
-storage_of primitives.I8 = Some I8
-storage_of primitives.I16 = Some I16
-storage_of primitives.I32 = Some I32
-storage_of primitives.I64 = Some I64
-storage_of _ = None
+abbrev pub decimal_type_of : PType → Option DecimalType
+decimal_type_of primitives.I8 = Some I8
+decimal_type_of primitives.I16 = Some I16
+decimal_type_of primitives.I32 = Some I32
+decimal_type_of primitives.I64 = Some I64
+decimal_type_of _ = None

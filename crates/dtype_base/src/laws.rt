@@ -7,7 +7,7 @@ ghost use Rattle.std.specs.Iterator.{UpTo};
 ghost use Rattle.std.specs.Iterator.Runs.{YieldsInOrder, YieldsRefsInOrder};
 ghost use Rattle.std.specs.Ordering.{nat_cmp};
 ghost use Rattle.dtype_base.specs.Bytes.{Bytes};
-ghost use Rattle.dtype_base.specs.Primitives.{primitive};
+ghost use Rattle.dtype_base.specs.Primitives.{ptype_row};
 ghost use Rattle.dtype_base.specs.Decimals.{storage};
 ghost use Rattle.dtype_base.specs.declared.ptype.PType.{PType};
 ghost use Rattle.dtype_base.specs.declared.decimal.DecimalType.{DecimalType};
@@ -17,7 +17,7 @@ use crate::{DecimalType, FieldNamesIntoIter, FieldNamesIter, PType};
 /// The order of the primitive names is that of their numbers.
 pub fn primitive_names_are_ordered_by_number()
     ensures { (p q : PType) → ⟦<PType as Ord>⟧.cmp p q
-        ≡ nat_cmp (primitive p).number (primitive q).number }
+        ≡ nat_cmp (ptype_row p).number (ptype_row q).number }
 {}
 
 /// The order of the storage types is that of their numbers.

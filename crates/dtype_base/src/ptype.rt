@@ -25,7 +25,7 @@ pub enum PType {
 const F16_MAX: u64 = 65504;
 
 impl PType {
-    ghost use Rattle.dtype_base.specs.Primitives.{primitive, IsUnsigned, IsSigned, IsInteger, IsFloat, narrowest_signed, narrowest_unsigned, wider};
+    ghost use Rattle.dtype_base.specs.Primitives.{ptype_row, IsUnsigned, IsSigned, IsInteger, IsFloat, narrowest_signed, narrowest_unsigned, wider};
 
     /// Whether values are unsigned integers.
     pub fn is_unsigned_int(self) -> bool
@@ -57,7 +57,7 @@ impl PType {
 
     /// How many bytes a value takes: 1, 2, 4 or 8.
     pub fn byte_width(&self) -> usize
-        ensures { result ≡ (primitive self.now).bytes }
+        ensures { result ≡ (ptype_row self.now).bytes }
     {
         match self {
             PType::U8 | PType::I8 => 1,
@@ -69,14 +69,14 @@ impl PType {
 
     /// How many bits a value takes: 8, 16, 32 or 64.
     pub fn bit_width(&self) -> usize
-        ensures { result ≡ 8 * (primitive self.now).bytes }
+        ensures { result ≡ 8 * (ptype_row self.now).bytes }
     {
         8 * self.byte_width()
     }
 
     /// The greatest value, or the greatest `u64` where a float's is above that.
     pub fn max_value_as_u64(&self) -> u64
-        ensures { result ≡ (primitive self.now).greatest }
+        ensures { result ≡ (ptype_row self.now).greatest }
     {
         match self {
             PType::U8 => u64::from(u8::MAX),
@@ -94,7 +94,7 @@ impl PType {
 
     /// The signed integer of the same width. A float gives itself.
     pub fn to_signed(self) -> PType
-        ensures { result ≡ (primitive self).signed }
+        ensures { result ≡ (ptype_row self).signed }
     {
         match self {
             PType::U8 => PType::I8,
@@ -108,7 +108,7 @@ impl PType {
 
     /// The unsigned integer of the same width. A float gives itself.
     pub fn to_unsigned(self) -> PType
-        ensures { result ≡ (primitive self).unsigned }
+        ensures { result ≡ (ptype_row self).unsigned }
     {
         match self {
             PType::I8 => PType::U8,
@@ -180,9 +180,9 @@ impl PType {
 }
 
 impl fmt::Display for PType {
-    ghost use Rattle.dtype_base.specs.Primitives.{primitive};
+    ghost use Rattle.dtype_base.specs.Primitives.{ptype_row};
 
-    ghost output = { λ p. Some (primitive p).text };
+    ghost output = { λ p. Some (ptype_row p).text };
 
     fn fmt<W: fmt::Write>(&self, f: &mut fmt::Formatter<W>) -> fmt::Result {
         match self {

@@ -21,8 +21,7 @@ impl PartialEq for DType {
 
     #[tactic(auto, using(crate::specs::SameLaws::same_Decides))]
     fn eq(&self, other: &DType) -> bool
-        ensures same { result ≡ same_dtype self.now other.now }
-        ensures exact { IsTrue result ↔ (message self.now ≡ message other.now) }
+        ensures { IsTrue result ↔ (message self.now ≡ message other.now) }
     {
         same(self, other)
     }

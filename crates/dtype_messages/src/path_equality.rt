@@ -73,8 +73,7 @@ impl PartialEq for FieldPath {
 
     #[tactic(auto, using(crate::specs::PathNameLaws::names_Decides))]
     fn eq(&self, other: &FieldPath) -> bool
-        ensures same { result ≡ same_path self.now other.now }
-        ensures exact { IsTrue result ↔ (part_names self.now ≡ part_names other.now) }
+        ensures { IsTrue result ↔ (part_names self.now ≡ part_names other.now) }
     {
         same_parts(&self.path, &other.path)
     }

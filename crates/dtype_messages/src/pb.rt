@@ -5,7 +5,7 @@
 // structs as their fields by those trees, and a path as the names that its parts hold.
 ghost use Rattle.std.specs.Prelude.{◌≡◌, pos, Ok, map, option_map, string_bytes, MatchResult};
 ghost use Rattle.dtype_base.specs.declared.vortex_error.VortexError.TheVariants.{OutOfMemory};
-ghost use Rattle.dtype_base.specs.Primitives.{primitive};
+ghost use Rattle.dtype_base.specs.Primitives.{ptype_row};
 ghost use Rattle.dtype_messages.specs.MessageOf.{message, kind_message, child, list_parts, fixed_parts, map_parts, struct_parts, union_parts, extension_parts, bytes_of};
 ghost use Rattle.dtype_messages.specs.PTypeNumbers.{plain, ptype_at};
 ghost use Rattle.dtype_messages.specs.PathNames.{name_of, part_name, part_names};
@@ -251,7 +251,7 @@ impl PType {
 
     /// The number, from 0 to 10.
     pub fn number(&self) -> i32
-        ensures { result ≡ pos (primitive (plain self.now)).number }
+        ensures { result ≡ pos (ptype_row (plain self.now)).number }
     {
         match self {
             PType::U8 => 0,

@@ -2,13 +2,13 @@
 -- SPDX-FileCopyrightText: Copyright the Vortex contributors
 
 -- What `<=` answers, at numbers that are ordered as their integers are.
-use Rattle.std.proofs.Common.{◌≡◌, ◌↔◌, ℕ, ℤ, ◌≤ℤ◌, Bool, true, false, IsTrue, Option, Some, Ordering, ap, sym, ◌∙◌, subst, refl, arith}
+use Rattle.std.proofs.Common.{◌≡◌, ◌↔◌, ℕ, ◌-◌, ◌^◌, ℤ, pos, neg_ℤ, ◌≤ℤ◌, Bool, true, false, IsTrue, Option, Some, Ordering, ap, sym, ◌∙◌, subst, refl, arith}
 use Rattle.std.specs.Ordering.{int_cmp, is_le, is_some_and, partial_le}
 use Rattle.std.specs.declared.cmp.Ordering.TheVariants.{Less, Equal, Greater}
 use Rattle.std.proofs.lemmas.Bool.{false≢true}
 use Rattle.std.proofs.lemmas.Cmp.{int_ranked}
 use Rattle.std.proofs.lemmas.Int.{ints}
-use Rattle.dtype_native.specs.Digits.{HasDigits, greatest_of_digits, least_of_digits}
+use Rattle.dtype_native.specs.Digits.{HasDigits}
 
 int_le_is : (x y : ℤ) (o : Ordering) → o ≡ int_cmp x y → IsTrue (is_le o) ↔ (x ≤ℤ y)
 int_le_is x y Less e = let below = int_ranked x y Less e in ((λ _. omega (arith, ints)), (λ _. refl))
@@ -23,14 +23,14 @@ le_is {X} value partial_cmp ordered r a b is =
 
 -- two tests in turn, of a number against the least and the greatest of p digits: where the first is
 -- met the second decides, and else there are more digits
-pub within_then : (first second : Bool) (p : ℕ) (z low high : ℤ) → low ≡ least_of_digits p → high ≡ greatest_of_digits p
+pub within_then : (first second : Bool) (p : ℕ) (z low high : ℤ) → low ≡ neg_ℤ (pos (10 ^ p - 1)) → high ≡ pos (10 ^ p - 1)
     → IsTrue first ↔ (low ≤ℤ z) → IsTrue second ↔ (z ≤ℤ high) → first ≡ true → IsTrue second ↔ HasDigits p z
 within_then first second p z low high l h a b met = (
   (λ t. (subst (λ (x : ℤ). x ≤ℤ z) l (a.0 met), subst (λ (x : ℤ). z ≤ℤ x) h (b.0 t))),
   (λ d. b.1 (subst (λ (x : ℤ). z ≤ℤ x) (sym h) d.1)),
 )
 
-pub within_else : (first : Bool) (p : ℕ) (z low : ℤ) → low ≡ least_of_digits p → IsTrue first ↔ (low ≤ℤ z) → first ≡ false → IsTrue first ↔ HasDigits p z
+pub within_else : (first : Bool) (p : ℕ) (z low : ℤ) → low ≡ neg_ℤ (pos (10 ^ p - 1)) → IsTrue first ↔ (low ≤ℤ z) → first ≡ false → IsTrue first ↔ HasDigits p z
 within_else first p z low l a missed = (
   (λ t. absurd (false≢true (sym missed ∙ t))),
   (λ d. a.1 (subst (λ (x : ℤ). x ≤ℤ z) (sym l) d.0)),

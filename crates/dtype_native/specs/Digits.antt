@@ -4,18 +4,11 @@
 -- The numbers of so many digits, and the text of a decimal type that is kept in a native one. The bounds are
 -- arithmetic: in base ten, the greatest number of n digits is 10^n - 1. The text, and which decimals are kept, are
 -- from the documentation of `NativeDecimalType` and `PrecisionScale`.
-use Rattle.std.specs.Prelude.{◌≡◌, ◌↔◌, ℕ, ◌-◌, ◌^◌, ℤ, pos, neg_ℤ, List, ◌++◌, codes, Result, IsOk, MatchResult}
+use Rattle.std.specs.Prelude.{◌≡◌, ◌↔◌, ℕ, List, ◌++◌, codes, Result, IsOk, MatchResult}
 use Rattle.std.specs.Fmt.{decimal, signed_decimal}
 use Rattle.dtype_base.specs.declared.vortex_error.VortexError.{VortexError}
-use Rattle.dtype_base.specs.Decimals.{Decimal, IsDecimalWithin, IsDecimalRefusal}
+use Rattle.dtype_base.specs.Decimals.{Decimal, IsDecimalWithin, DecimalRefusal}
 pub use Rattle.dtype_types.specs.Value.{HasDigits}
-
--- the greatest and the least number of that many digits; of none it is 0
-abbrev pub greatest_of_digits : ℕ → ℤ
-greatest_of_digits digits = pos (10 ^ digits - 1)
-
-abbrev pub least_of_digits : ℕ → ℤ
-least_of_digits digits = neg_ℤ (greatest_of_digits digits)
 
 -- as `decimal(i8, p=2, s=1)`
 abbrev pub precision_scale_text : List ℕ → Decimal → List ℕ
@@ -26,4 +19,4 @@ precision_scale_text name d =
 abbrev pub KeepsDecimal : ℕ → Decimal → Result Decimal VortexError → Type 0
 KeepsDecimal max d r =
     (IsOk r ↔ IsDecimalWithin max d.precision d.scale)
-    × MatchResult r (λ kept. kept ≡ d) (IsDecimalRefusal max d.precision d.scale)
+    × MatchResult r (λ kept. kept ≡ d) (DecimalRefusal max d.precision d.scale)

@@ -3,27 +3,19 @@
 
 -- The types of offsets: the narrowest that holds a number. From the documentation of
 -- `match_smallest_offset_type`.
-use Rattle.std.specs.Prelude.{ℕ, ◌≤◌, List, [], ◌∷◌, All, Contains}
+use Rattle.std.specs.Prelude.{ℕ, ◌≤◌, List, All, Contains}
 use Rattle.dtype_base.specs.declared.ptype.PType.{PType}
-use Rattle.dtype_base.specs.declared.ptype.PType.TheVariants.{U8, U16, U32, U64}
-use Rattle.dtype_base.specs.Primitives.{primitive}
-
--- what an offset may be kept in, and the offsets of a list
-abbrev pub offset_names : List PType
-offset_names = U8 ∷ U16 ∷ U32 ∷ U64 ∷ []
-
-abbrev pub list_offset_names : List PType
-list_offset_names = U32 ∷ U64 ∷ []
+use Rattle.dtype_base.specs.Primitives.{ptype_row}
 
 -- the greatest value of the type named p is at least n
 abbrev pub Reaches : ℕ → PType → Type 0
-Reaches n p = n ≤ (primitive p).greatest
+Reaches n p = n ≤ (ptype_row p).greatest
 
 -- of these names, p is the one with the least greatest value that is at least n
 pub record IsLeastReaching (names : List PType) (n : ℕ) (p : PType) : Type 0 where
   pub among : Contains names p
   pub reaches : Reaches n p
-  pub least : All (λ q. Reaches n q → Reaches (primitive p).greatest q) names
+  pub least : All (λ q. Reaches n q → Reaches (ptype_row p).greatest q) names
 
 -- r is an answer for that name
 abbrev pub AnswersLeast : {A : Type 0} → (PType → A → Type 0) → List PType → ℕ → A → Type 0

@@ -3,7 +3,7 @@
 
 ghost use Rattle.std.specs.Prelude.{◌≡◌, ◌≤◌, pos};
 ghost use Rattle.std.proofs.Common.{refl, lit≤};
-ghost use Rattle.dtype_base.specs.Primitives.{primitive, IsUnsigned};
+ghost use Rattle.dtype_base.specs.Primitives.{ptype_row, IsUnsigned};
 
 use crate::NativePType;
 use num_traits::PrimInt;
@@ -12,14 +12,14 @@ use num_traits::PrimInt;
 pub trait IntegerPType: NativePType + PrimInt {
     /// The greatest value of the type.
     final fn max_value_as_u64() -> u64
-        ensures value { result ≡ (primitive Self.PTYPE).greatest }
+        ensures value { result ≡ (ptype_row Self.PTYPE).greatest }
         ensures greatest { pos result ≡ Self.high }
     {
         Self::PTYPE.max_value_as_u64()
     }
 
     // The greatest integer of the type is that of its name.
-    ghost greatest_law: { Self.high ≡ pos (primitive Self.PTYPE).greatest };
+    ghost greatest_law: { Self.high ≡ pos (ptype_row Self.PTYPE).greatest };
 }
 
 /// A native unsigned integer type.
@@ -30,7 +30,7 @@ pub trait UnsignedPType: IntegerPType {
 /// A native integer type that can hold the offsets of a list that is being built: `u32`, `i32`,
 /// `u64` or `i64`.
 pub trait OffsetBuilderPType: IntegerPType {
-    ghost wide_law: { 4 ≤ (primitive Self.PTYPE).bytes };
+    ghost wide_law: { 4 ≤ (ptype_row Self.PTYPE).bytes };
 }
 
 /// A native type and the unsigned type of the same width, in which its bits are kept.
@@ -38,7 +38,7 @@ pub trait PhysicalPType: NativePType {
     /// The unsigned type of the same width.
     type Physical: UnsignedPType;
 
-    ghost physical_law: { Self.Physical.PTYPE ≡ (primitive Self.PTYPE).unsigned };
+    ghost physical_law: { Self.Physical.PTYPE ≡ (ptype_row Self.PTYPE).unsigned };
 }
 
 impl IntegerPType for u8 {

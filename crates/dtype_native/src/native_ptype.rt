@@ -7,7 +7,7 @@ ghost use Rattle.std.specs.Ordering.{int_cmp};
 ghost use Rattle.std.proofs.Common.{refl, ap};
 ghost use Rattle.dtype_base.specs.declared.ptype.PType.{PType};
 ghost use Rattle.dtype_base.specs.declared.ptype.PType.TheVariants.{U8, U16, U32, U64, I8, I16, I32, I64};
-ghost use Rattle.dtype_base.specs.Primitives.{primitive};
+ghost use Rattle.dtype_base.specs.Primitives.{ptype_row};
 ghost use Rattle.dtype_native.specs.Integers.{HoldsInteger};
 ghost use Rattle.dtype_native.specs.NumberLaws.{same_natural, signed_range, unsigned_range};
 
@@ -88,7 +88,7 @@ pub trait NativePType: Copy + Default + Display + Ord + Num + NumCast + ToBytes 
     // The type has the integers and the width that belong to its name.
     ghost range_law: { (z : ℤ) → Self.fits z ↔ HoldsInteger PTYPE z };
 
-    ghost width_law: { Self.byte_width ≡ (primitive PTYPE).bytes };
+    ghost width_law: { Self.byte_width ≡ (ptype_row PTYPE).bytes };
 }
 
 impl NativePType for u8 {

@@ -12,7 +12,7 @@ use Rattle.dtype_types.specs.Sub.{Sub, Allows, NullableWherever, NullableWhereve
 use Rattle.dtype_types.specs.Tree.{Tree, Fields, no_fields, field, Variants, no_variants, choice, null, bool, primitive, decimal, utf8, binary, list, fixed_size_list, map_of, struct, union, variant, extension}
 use Rattle.dtype_types.specs.Value.{Value, Of, IncludedIn, NamedOf, VariantOf, Each, null_value, items, fixed_items, entries, record_of, tagged, no_values, value, no_entries, entry, named}
 use Rattle.dtype_types.specs.Sample.{sample, samples, copies}
-use Rattle.dtype_types.specs.Tell.{TellsApart, or_else, null_else, tell, tell_fields, tell_variants, HasNoSizeZero, FieldsHaveNoSizeZero, VariantsHaveNoSizeZero}
+use Rattle.dtype_types.specs.Tell.{or_else, null_else, tell, tell_fields, tell_variants, HasNoSizeZero, FieldsHaveNoSizeZero, VariantsHaveNoSizeZero}
 use Rattle.dtype_types.specs.SampleLaws.{sample_of, samples_of, count-copies, each_copy}
 
 -- ---- an answer that says why there is none, or tells P from Q
@@ -134,7 +134,7 @@ mutual
       (λ s. s) (λ c p. inr p) (λ c p q. later_of g c.0 i c.1 n u vs ws (cc) h.3 p q) (tell_variants vs ws) (told_variants vs ws h.4 z.1 (cc)))
   told_variants _ _ h z e = absurd (cc e)
 
-pub tells_apart : (a b : Tree) → Valid a → HasNoSizeZero a → erase a ≡ erase b → (Sub a b → ⊥) → TellsApart a b
+pub tells_apart : (a b : Tree) → Valid a → HasNoSizeZero a → erase a ≡ erase b → (Sub a b → ⊥) → IsSomeAnd (tell a b) (λ v. Of v a × ¬ (Of v b))
 tells_apart a b h z e not_below = go (tell a b) (told a b h z e)
   where
     go : (o : Option Value) → Told (NullableWherever a b) (λ v. Of v a) (λ v. Of v b) o → IsSomeAnd o (λ w. Of w a × (Of w b → ⊥))

@@ -8,7 +8,7 @@
 use Rattle.std.specs.Prelude.{ℕ, suc, ◌+◌, ◌*◌, List, [], ◌∷◌, ◌++◌, length}
 use Rattle.std.specs.Hash as fed
 use Rattle.std.specs.Hash.{HashWrites}
-use Rattle.dtype_base.specs.Primitives.{primitive as row}
+use Rattle.dtype_base.specs.Primitives.{ptype_row}
 use Rattle.dtype_base.specs.declared.nullability.Nullability.{Nullability}
 use Rattle.dtype_base.specs.declared.nullability.Nullability.TheVariants.{NonNullable, Nullable}
 use Rattle.dtype_base.specs.declared.ptype.PType.{PType}
@@ -39,7 +39,7 @@ head_writes s number n = fed.u8 (2 * number + nullable_mark s n)
 
 -- the primitive types are numbered behind the kinds
 abbrev pub primitive_number : PType → ℕ
-primitive_number p = suc (kind_number kind.Extension) + (row p).number
+primitive_number p = suc (kind_number kind.Extension) + (ptype_row p).number
 
 -- how many bytes there are, and then the bytes at once
 abbrev pub bytes_writes : List ℕ → HashWrites

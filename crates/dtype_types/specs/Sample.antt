@@ -4,7 +4,7 @@
 -- A value of each valid type, by recursion on the type: null where it may be, else a plain one. Made of
 -- `Value` alone.
 use Rattle.std.specs.Prelude.{ℕ, zero, suc, pos, [], false}
-use Rattle.dtype_base.specs.Primitives.{primitive as row_of, NumberKind}
+use Rattle.dtype_base.specs.Primitives.{ptype_row, NumberKind}
 use Rattle.dtype_base.specs.Primitives.NumberKind.{Floating}
 use Rattle.dtype_base.specs.declared.nullability.Nullability.{Nullability}
 use Rattle.dtype_base.specs.declared.nullability.Nullability.TheVariants.{NonNullable, Nullable}
@@ -28,7 +28,7 @@ abbrev mutual
   pub sample : Tree → Value
   sample null = null_value
   sample (bool n) = null_or n (truth false)
-  sample (primitive p n) = null_or n (zero_of (row_of p).kind)
+  sample (primitive p n) = null_or n (zero_of (ptype_row p).kind)
   sample (decimal d n) = null_or n (digits (pos 0))
   sample (utf8 n) = null_or n (text [])
   sample (binary n) = null_or n (bytes [])

@@ -11,7 +11,7 @@ use Rattle.std.proofs.lemmas.Str.{IsUtf8-nil}
 use Rattle.std.proofs.lemmas.List.Elements.{All-nil}
 use Rattle.dtype_base.specs.Bytes.{Bytes}
 use Rattle.dtype_base.specs.declared.nullability.Nullability.TheVariants.{NonNullable, Nullable}
-use Rattle.dtype_base.specs.Primitives.{primitive as row_of}
+use Rattle.dtype_base.specs.Primitives.{ptype_row}
 use Rattle.dtype_base.specs.declared.ptype.PType.{PType}
 use Rattle.dtype_base.specs.declared.ptype.PType.TheVariants.{U8, U16, U32, U64, I8, I16, I32, I64, F16, F32, F64}
 use Rattle.dtype_types.specs.Tree.{Tree, Fields, no_fields, field, no_variants, choice, null, bool, primitive, decimal, utf8, binary, list, fixed_size_list, map_of, struct, union, variant, extension}
@@ -27,7 +27,7 @@ pub each_copy : (P : Value → Type 0) (k : ℕ) (v : Value) → P v → Each P 
 each_copy P zero v h = tt
 each_copy P (suc k) v h = (h, each_copy P k v h)
 
-zero-of : (p : PType) → Of (zero_of (row_of p).kind) (primitive p NonNullable)
+zero-of : (p : PType) → Of (zero_of (ptype_row p).kind) (primitive p NonNullable)
 zero-of U8 = lit< tt
 zero-of U16 = lit< tt
 zero-of U32 = lit< tt

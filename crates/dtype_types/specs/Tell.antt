@@ -2,12 +2,12 @@
 -- SPDX-FileCopyrightText: Copyright the Vortex contributors
 
 -- A value that tells apart two types which differ in nullability alone. Made of `Value` and `Sub` alone.
-use Rattle.std.specs.Prelude.{ℕ, ◌<◌, Option, Some, None, IsSomeAnd, option_map}
+use Rattle.std.specs.Prelude.{ℕ, ◌<◌, Option, Some, None, option_map}
 use Rattle.dtype_base.specs.declared.nullability.Nullability.{Nullability}
 use Rattle.dtype_base.specs.declared.nullability.Nullability.TheVariants.{NonNullable, Nullable}
 use Rattle.dtype_types.specs.Sample.{sample, samples, copies}
 use Rattle.dtype_types.specs.Tree.{Tree, Fields, no_fields, field, Variants, no_variants, choice, bool, primitive, decimal, utf8, binary, list, fixed_size_list, map_of, struct, union, variant, extension}
-use Rattle.dtype_types.specs.Value.{Value, Named, Of, null_value, items, fixed_items, entries, record_of, tagged, no_values, value, no_entries, entry, named}
+use Rattle.dtype_types.specs.Value.{Value, Named, null_value, items, fixed_items, entries, record_of, tagged, no_values, value, no_entries, entry, named}
 
 -- the first value that there is
 abbrev pub or_else : {X : Type 0} → Option X → Option X → Option X
@@ -47,10 +47,6 @@ abbrev mutual
   pub tell_variants : Variants → Variants → Option (ℕ × Value)
   tell_variants (choice m t g vs) (choice n u h ws) = or_else (option_map (λ v. (g, v)) (tell t u)) (tell_variants vs ws)
   tell_variants _ _ = None
-
--- there is such a value, and it is one of a and not of b
-abbrev pub TellsApart : Tree → Tree → Type 0
-TellsApart a b = IsSomeAnd (tell a b) (λ v. Of v a × ¬ (Of v b))
 
 -- no fixed size in the type is 0
 abbrev mutual

@@ -7,7 +7,7 @@ use Rattle.std.specs.Prelude.{ℕ, ◌+◌, ◌==◌, List, [], ◌∷◌, ◌++
 use Rattle.dtype_base.specs.Decimals.{decimal_text}
 use Rattle.dtype_base.specs.Escapes.{escaped}
 use Rattle.dtype_base.specs.Nullability.{nullability_text}
-use Rattle.dtype_base.specs.Primitives.{primitive as row}
+use Rattle.dtype_base.specs.Primitives.{ptype_row}
 use Rattle.dtype_types.specs.Tree.{Tree, Fields, no_fields, field, Variants, no_variants, choice, null, bool, primitive, decimal, utf8, binary, list, fixed_size_list, map_of, struct, union, variant, extension}
 
 abbrev pub bool_text : Bool → List ℕ
@@ -40,7 +40,7 @@ abbrev mutual
   pub text : Tree → List ℕ
   text null = codes "null"
   text (bool n) = codes "bool" ++ nullability_text n
-  text (primitive p n) = (row p).text ++ nullability_text n
+  text (primitive p n) = (ptype_row p).text ++ nullability_text n
   text (decimal d n) = decimal_text d ++ nullability_text n
   text (utf8 n) = codes "utf8" ++ nullability_text n
   text (binary n) = codes "binary" ++ nullability_text n

@@ -7,7 +7,6 @@ use Rattle.std.specs.Prelude.{ℕ, List, [], ◌∷◌, map, Option, Some, None,
 use Rattle.std.specs.Borrow.{Bor}
 use Rattle.dtype_base.specs.declared.nullability.Nullability.TheVariants.{NonNullable}
 use Rattle.dtype_types.specs.Lists.{seconds, types_of}
-use Rattle.dtype_types.specs.Lookups.{field_types, variant_names, variant_types, variant_tags}
 use Rattle.dtype_types.specs.Tree.{Tree, Fields, fields, Variants, variants, null, bool, primitive, decimal, utf8, binary, list, fixed_size_list, map_of, struct, union, variant, extension}
 use Rattle.dtype_types.specs.declared.dtype.DType.{DType}
 use Rattle.dtype_types.specs.declared.dtype.DType.TheOpen as o
@@ -68,13 +67,6 @@ union_step u = variants (map flat u.shared.value)
 abbrev pub tree : DType → Tree
 tree = fold-DType Tree ExtensionParts MapParts Fields Variants type_step extension_step map_step struct_step union_step
 
--- the trees of types, and of one that is lent
-abbrev pub trees : List DType → List Tree
-trees ds = map tree ds
-
-abbrev pub lent_tree : Bor DType → Tree
-lent_tree d = tree d.now
-
 -- a struct's fields, as it holds them and with the trees of their types
 abbrev pub struct_pairs : StructFields → List (List ℕ × DType)
 struct_pairs s = s.shared.value
@@ -86,9 +78,6 @@ abbrev pub children : StructFields → List (List ℕ × Tree)
 children s = with_trees (struct_pairs s)
 
 -- the types of a struct's fields
-abbrev pub struct_types : StructFields → List Tree
-struct_types s = field_types (children s)
-
 abbrev pub struct_dtypes : StructFields → List DType
 struct_dtypes s = seconds (struct_pairs s)
 
@@ -102,18 +91,9 @@ with_tagged_trees ps = map flat (map (λ p. (p.0, (tree p.1.0, p.1.1))) ps)
 abbrev pub choices : UnionVariants → List (List ℕ × Tree × ℕ)
 choices u = with_tagged_trees (union_triples u)
 
--- the names, the types and the tags of a union's variants
-abbrev pub union_names : UnionVariants → List (List ℕ)
-union_names u = variant_names (choices u)
-
-abbrev pub union_types : UnionVariants → List Tree
-union_types u = variant_types (choices u)
-
+-- the types of a union's variants
 abbrev pub union_dtypes : UnionVariants → List DType
 union_dtypes u = types_of (union_triples u)
-
-abbrev pub union_tags : UnionVariants → List ℕ
-union_tags u = variant_tags (choices u)
 
 -- an extension's id, its metadata and its storage
 abbrev pub extension_id : ExtDTypeRef → List ℕ
@@ -139,9 +119,6 @@ shown f (Some r) = Some (f r.now)
 -- a map's key, its value, and whether its keys are sorted
 abbrev pub map_shown : MapDType → MapParts
 map_shown m = (tree m.shared.value.key, tree m.shared.value.value, m.shared.value.keys_sorted)
-
-abbrev pub extension_shown : ExtDTypeRef → List ℕ × List ℕ × Tree
-extension_shown e = (extension_id e, extension_metadata e, storage_tree e)
 
 -- the fields of a struct and the variants of a union, as they stand in a tree
 abbrev pub fields_of : StructFields → Fields

@@ -7,7 +7,7 @@
 -- knows of stored data.
 use Rattle.std.specs.Prelude.{◌≡◌, ◌⊎◌, ◌↔◌, ℕ, suc, ◌-◌, ◌^◌, ℤ, pos, negsuc, neg_ℤ, ◌≤ℤ◌, List, Bool, IsUtf8}
 use Rattle.dtype_base.specs.Bytes.{Bytes}
-use Rattle.dtype_base.specs.Primitives.{primitive as row_of, NumberKind, HoldsUnsigned, HoldsSigned, IsFloat}
+use Rattle.dtype_base.specs.Primitives.{ptype_row, NumberKind, HoldsUnsigned, HoldsSigned, IsFloat}
 use Rattle.dtype_base.specs.Primitives.NumberKind.{Unsigned, Signed, Floating}
 use Rattle.dtype_base.specs.declared.ptype.PType.{PType}
 use Rattle.dtype_types.specs.Nullable.{IsNullable}
@@ -60,7 +60,7 @@ InRange Signed p z = HoldsSigned z p
 InRange Floating p z = ⊥
 
 abbrev pub IntegerOf : PType → ℤ → Type 0
-IntegerOf p z = InRange (row_of p).kind p z
+IntegerOf p z = InRange (ptype_row p).kind p z
 
 -- p is a float, and k is a bit pattern of its width: below 2 ^ 16, 2 ^ 32 or 2 ^ 64
 abbrev pub FloatBitsOf : PType → ℕ → Type 0

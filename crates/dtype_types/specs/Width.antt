@@ -5,7 +5,7 @@
 -- `DType::element_size`: `Null` takes none, a truth value one, a number its own, a list of one length that
 -- many times its element's, a struct the sum of its fields', an extension its storage's.
 use Rattle.std.specs.Prelude.{◌≡◌, ◌⊎◌, ℕ, ◌+◌, ◌*◌, ◌^◌, ◌≤◌, List, Option, Some, None}
-use Rattle.dtype_base.specs.Primitives.{primitive as row}
+use Rattle.dtype_base.specs.Primitives.{ptype_row}
 use Rattle.dtype_base.specs.Decimals.{smallest_storage, storage}
 use Rattle.dtype_base.specs.declared.nullability.Nullability.{Nullability}
 use Rattle.dtype_base.specs.declared.decimal.DecimalType.{DecimalType}
@@ -40,7 +40,7 @@ abbrev mutual
   pub width : Tree → ℕ
   width null = 0
   width (bool n) = 1
-  width (primitive p n) = (row p).bytes
+  width (primitive p n) = (ptype_row p).bytes
   width (decimal d n) = storage_bytes (smallest_storage d.precision)
   width (fixed_size_list t k n) = k * width t
   width (struct fs n) = total_width fs

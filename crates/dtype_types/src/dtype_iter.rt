@@ -1,10 +1,10 @@
 // SPDX-License-Identifier: Apache-2.0
 // SPDX-FileCopyrightText: Copyright the Vortex contributors
 
-ghost use Rattle.std.specs.Prelude.{◌≡◌, IfSome, Some, length};
+ghost use Rattle.std.specs.Prelude.{◌≡◌, IfSome, Some, length, map};
 ghost use Rattle.std.specs.Iterator.{YieldsFirstBy, UpTo, item_count};
 ghost use Rattle.std.specs.Iterator.SizeHint.{IsWithinCount};
-ghost use Rattle.dtype_types.specs.TreeOf.{lent_tree, trees};
+ghost use Rattle.dtype_types.specs.TreeOf.{tree};
 
 use crate::DType;
 use std::iter::FusedIterator;
@@ -44,18 +44,18 @@ impl<'a> DTypeIter<'a> {
 impl<'a> Iterator for DTypeIter<'a> {
     type Item = &'a DType;
 
-    ghost next_gives = { YieldsFirstBy lent_tree trees };
+    ghost next_gives = { YieldsFirstBy (λ d. tree d.now) (map tree) };
 
-    ghost remaining = { item_count trees };
+    ghost remaining = { item_count (map tree) };
 
     fn next(&mut self) -> Option<&'a DType> {
         self.inner.next()
     }
 
     fn size_hint(&self) -> (usize, Option<usize>)
-        ensures lower { IsWithinCount result.0 (item_count trees self.now) }
-        ensures upper { IfSome result.1 (UpTo (item_count trees self.now)) }
-        ensures exact { result ≡ (length (trees self.now), Some (length (trees self.now))) }
+        ensures lower { IsWithinCount result.0 (item_count (map tree) self.now) }
+        ensures upper { IfSome result.1 (UpTo (item_count (map tree) self.now)) }
+        ensures exact { result ≡ (length (map tree self.now), Some (length (map tree self.now))) }
     {
         let left = self.len();
         (left, Some(left))

@@ -117,7 +117,7 @@ struct Parts<T> {
 
 impl ExtDTypeRef {
     ghost use Rattle.dtype_types.specs.Kinds.{is_nested};
-    ghost use Rattle.dtype_types.specs.Nullable.{nullability, CanBeNonNullable, SetNull};
+    ghost use Rattle.dtype_types.specs.Nullable.{nullability, CanBeNonNullable, SetNull, IsNullable};
     ghost use Rattle.dtype_types.specs.Equality.{agree};
     ghost use Rattle.dtype_types.specs.Erase.{erase};
     ghost use Rattle.dtype_types.specs.Valid.{Valid};
@@ -211,8 +211,7 @@ impl ExtDTypeRef {
 
     /// Whether values may be null.
     pub fn is_nullable(&self) -> bool
-        ensures { IsTrue result
-            ↔ (nullability (storage_tree self.now) ≡ Nullability.Nullable) }
+        ensures { IsTrue result ↔ IsNullable (storage_tree self.now) }
     {
         self.nullability().is_nullable()
     }

@@ -13,14 +13,16 @@ ghost use Rattle.dtype_base.specs.declared.nullability.Nullability.TheVariants.{
 ghost use Rattle.dtype_types.specs.Erase.{erase};
 ghost use Rattle.dtype_types.specs.Hashes.{hash_writes_ignoring_nullability};
 ghost use Rattle.dtype_types.specs.Laws.{GivesInOrder, IsOrder};
-ghost use Rattle.dtype_types.specs.Nullable.{SetNull, nullability};
+ghost use Rattle.dtype_types.specs.Nullable.{SetNull, nullability, IsNullable};
 ghost use Rattle.dtype_types.specs.Sample.{sample};
 ghost use Rattle.dtype_types.specs.Sub.{Sub};
 ghost use Rattle.dtype_types.specs.Tell.{HasNoSizeZero, tell};
 ghost use Rattle.dtype_types.specs.Valid.{Valid};
-ghost use Rattle.dtype_types.specs.Value.{Of, Value, null_value};
+ghost use Rattle.dtype_types.specs.Value.{AddsNull, IncludedIn, Of, null_value};
 ghost use Rattle.dtype_types.specs.Tree.{Tree};
-ghost use Rattle.dtype_types.specs.TreeOf.{tree, union_tags, union_tree};
+ghost use Rattle.dtype_types.specs.TreeOf.{tree, union_tree, choices};
+ghost use Rattle.dtype_types.specs.Lookups.{variant_tags};
+ghost use Rattle.dtype_types.specs.Lists.{lent_pair, lent_triple};
 
 use crate::{DType, DTypeIter, FieldIter, UnionVariants, VariantIter};
 use std::hash::Hash;
@@ -52,8 +54,8 @@ pub fn nullability_is_set_alone()
 /// which `child_index_to_tag` gives, is that position.
 pub fn tags_tell_positions()
     ensures { (u : UnionVariants) → Valid (union_tree u) → (i tag : ℕ)
-        → slice_get (union_tags u) i ≡ Some tag
-        → position (λ g. g == tag) (union_tags u) ≡ Some i }
+        → slice_get (variant_tags (choices u)) i ≡ Some tag
+        → position (λ g. g == tag) (variant_tags (choices u)) ≡ Some i }
 {}
 
 /// The sample of a valid type is a value of it, so each valid type has a value.
@@ -63,13 +65,13 @@ pub fn samples_are_values()
 
 /// Null is a value of exactly the nullable types.
 pub fn null_is_a_value_of_nullable_types()
-    ensures { (t : Tree) → Of null_value t ↔ (nullability t ≡ Nullable) }
+    ensures { (t : Tree) → Of null_value t ↔ IsNullable t }
 {}
 
 /// The values of a type made nullable are those of the type, and null.
 pub fn nullable_types_have_null_besides()
     ensures { (t u : Tree) → SetNull t Nullable u
-        → (v : Value) → Of v u ↔ (Of v t ⊎ (v ≡ null_value)) }
+        → AddsNull t u }
 {}
 
 /// The order of types by nullability, which both comparisons with nullability test, is an order: each
@@ -81,15 +83,14 @@ pub fn sub_is_an_order()
 
 /// Each value of a type is a value of every type that it is below.
 pub fn values_of_what_is_below_are_values()
-    ensures { (a b : Tree) → Sub a b
-        → (v : Value) → Of v a → Of v b }
+    ensures { (a b : Tree) → Sub a b → IncludedIn a b }
 {}
 
 /// Of two valid types that are equal but for nullabilities and in which no fixed size is 0, one is below
 /// the other exactly where each of its values is a value of the other.
 pub fn the_order_is_inclusion_of_values()
     ensures { (a b : Tree) → Valid a → HasNoSizeZero a → erase a ≡ erase b
-        → (Sub a b ↔ ((v : Value) → Of v a → Of v b)) }
+        → (Sub a b ↔ IncludedIn a b) }
 {}
 
 /// Of two such types of which the first isn't below the second, `tell` gives a value of the first that is
@@ -111,7 +112,7 @@ pub fn parts_are_given_in_order()
     ensures types { GivesInOrder ⟦<DTypeIter<'static> as Iterator>⟧.next_gives
         ⟦<DTypeIter<'static> as Iterator>⟧.remaining (λ d. tree d.now) (map tree) }
     ensures fields { GivesInOrder ⟦<FieldIter<'static> as Iterator>⟧.next_gives
-        ⟦<FieldIter<'static> as Iterator>⟧.remaining (λ p. (p.0.now, p.1.now)) (λ left. left) }
+        ⟦<FieldIter<'static> as Iterator>⟧.remaining lent_pair (λ left. left) }
     ensures variants { GivesInOrder ⟦<VariantIter<'static> as Iterator>⟧.next_gives
-        ⟦<VariantIter<'static> as Iterator>⟧.remaining (λ v. (v.0.now, (v.2.now, v.1))) (λ left. left) }
+        ⟦<VariantIter<'static> as Iterator>⟧.remaining lent_triple (λ left. left) }
 {}

@@ -3,7 +3,7 @@
 
 ghost use Rattle.std.specs.Prelude.{◌≡◌, ◌&&◌, fold, Some, ◌⊎◌, OnOk, MatchResult};
 ghost use Rattle.dtype_base.specs.declared.vortex_error.VortexError.TheVariants.{OutOfMemory, MapKeyNullable};
-ghost use Rattle.dtype_base.specs.declared.nullability.Nullability.TheVariants.{NonNullable, Nullable};
+ghost use Rattle.dtype_base.specs.declared.nullability.Nullability.TheVariants.{NonNullable};
 ghost use Rattle.std.proofs.Math.Bool.{beq};
 
 use crate::dtype::equality::{Nullabilities, agree};
@@ -35,7 +35,7 @@ impl MapDType {
     ghost use Rattle.dtype_types.specs.Hashes.{part_of};
     ghost use Rattle.dtype_types.specs.HashesOf.{map_writes};
     ghost use Rattle.dtype_types.specs.Maps.{entries_of};
-    ghost use Rattle.dtype_types.specs.Nullable.{nullability};
+    ghost use Rattle.dtype_types.specs.Nullable.{nullability, IsNullable};
     ghost use Rattle.dtype_types.specs.TreeOf.{tree, map_shown};
 
     /// The type of a map with this key and value; whether its keys are sorted is kept and not checked.
@@ -45,7 +45,7 @@ impl MapDType {
             (λ m. map_shown m ≡ (tree key, tree value, keys_sorted))
             (λ e.
             ((e ≡ OutOfMemory) × (nullability (tree key) ≡ NonNullable))
-            ⊎ ((e ≡ MapKeyNullable) × (nullability (tree key) ≡ Nullable))) }
+            ⊎ ((e ≡ MapKeyNullable) × IsNullable (tree key))) }
         ensures accepted { OnOk result (nullability (tree key) ≡ NonNullable) }
     {
         if key.is_nullable() {

@@ -1,13 +1,13 @@
 // SPDX-License-Identifier: Apache-2.0
 // SPDX-FileCopyrightText: Copyright the Vortex contributors
 
-ghost use Rattle.std.specs.Prelude.{◌≡◌, ◌↔◌, IsTrue, ◌<◌, ◌^◌, ◌++◌, ◌∷◌, ℕ, List, [], slice_index_or, length, map, remove, vec_len, IfOk, IsOk, IsOkUnless, slice_get, Some, fold, OnOk, string_bytes, All, IsSome, MatchBool, MatchResult, nat_lt};
+ghost use Rattle.std.specs.Prelude.{◌≡◌, ◌⊎◌, ◌↔◌, IsTrue, ◌<◌, ◌^◌, ◌++◌, ◌∷◌, ℕ, List, [], slice_index_or, length, map, remove, vec_len, IfOk, IsOk, IsOkUnless, slice_get, Some, fold, OnOk, string_bytes, All, IsSome, MatchBool, MatchResult, nat_lt};
 ghost use Rattle.std.specs.Iterator.{IsFinite};
 ghost use Rattle.std.specs.List.{AllByRecursion, zip};
 ghost use Rattle.std.specs.Option.{option_copied};
 ghost use Rattle.dtype_base.specs.FieldNames.{first_place};
 ghost use Rattle.dtype_base.specs.NameOrder.{comparisons};
-ghost use Rattle.dtype_base.specs.declared.vortex_error.VortexError.TheVariants.{IndexOutOfBounds, OutOfMemory};
+ghost use Rattle.dtype_base.specs.declared.vortex_error.VortexError.TheVariants.{DuplicateNames, IndexOutOfBounds, OutOfMemory};
 
 use crate::dtype::equality::{Nullabilities, agree};
 use crate::dtype::hash::{Hashed, feed};
@@ -41,12 +41,12 @@ impl StructFields {
     ghost use Rattle.dtype_types.specs.Erase.{erase};
     ghost use Rattle.dtype_types.specs.FieldTypes.{field_tree, MadeFrom};
     ghost use Rattle.dtype_types.specs.IndentedText.{indented_text, indented_braces};
-    ghost use Rattle.dtype_types.specs.Lookups.{first_named, field_names, field_types, Projects, ProjectionRefusal, MergeRefusal};
+    ghost use Rattle.dtype_types.specs.Lookups.{first_named, field_names, field_types, Projects, ProjectionRefusal};
     ghost use Rattle.dtype_types.specs.Distinct.{Distinct};
     ghost use Rattle.dtype_types.specs.Hashes.{part_of};
     ghost use Rattle.dtype_types.specs.HashesOf.{struct_writes};
     ghost use Rattle.dtype_types.specs.Tree.{Tree};
-    ghost use Rattle.dtype_types.specs.TreeOf.{fields_of, struct_dtypes, struct_pairs, children, tree, trees, shown, struct_tree};
+    ghost use Rattle.dtype_types.specs.TreeOf.{fields_of, struct_dtypes, struct_pairs, children, tree, shown, struct_tree};
     ghost use Rattle.dtype_types.specs.Valid.{Valid};
     ghost use Rattle.dtype_types.specs.Width.{MeasuresFields};
 
@@ -252,7 +252,7 @@ impl StructFields {
     pub fn project(&self, alloc: Global, projection: &[FieldName]) -> VortexResult<Self>
         ensures fields { MatchResult result
             (λ s. Projects (children self.now) projection.now (children s))
-            (ProjectionRefusal (children self.now) projection.now) }
+            (λ e. (e ≡ OutOfMemory) ⊎ ProjectionRefusal (children self.now) projection.now e) }
         ensures each { IfOk result (λ s. AllByRecursion
             (λ n. first_named (children s) n ≡ first_named (children self.now) n) projection.now) }
         ensures there { IsOk result → AllByRecursion
@@ -274,7 +274,8 @@ impl StructFields {
     pub fn disjoint_merge(&self, alloc: Global, other: &Self) -> VortexResult<Self>
         ensures fields { MatchResult result
             (λ s. children s ≡ children self.now ++ children other.now)
-            (MergeRefusal (field_names (children self.now ++ children other.now))) }
+            (λ e. (e ≡ OutOfMemory) ⊎ ((e ≡ DuplicateNames)
+            × ¬ (Distinct (field_names (children self.now ++ children other.now))))) }
         ensures distinct { IsOk result
             → Distinct (field_names (children self.now ++ children other.now)) }
         ensures valid { Valid (struct_tree self.now) → Valid (struct_tree other.now)

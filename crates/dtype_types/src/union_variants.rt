@@ -85,10 +85,10 @@ fn first_tags(alloc: Global, count: usize) -> VortexResult<Vec<u8>>
 impl UnionVariants {
     ghost use Rattle.dtype_types.specs.Equality.{agree_variants};
     ghost use Rattle.dtype_types.specs.Erase.{erase};
-    ghost use Rattle.dtype_types.specs.Lookups.{variant_named, variant_types};
+    ghost use Rattle.dtype_types.specs.Lookups.{variant_named, variant_types, variant_names, variant_tags};
     ghost use Rattle.dtype_types.specs.Hashes.{part_of};
     ghost use Rattle.dtype_types.specs.HashesOf.{union_writes};
-    ghost use Rattle.dtype_types.specs.TreeOf.{tree, trees, variants_of, choices, union_names, union_dtypes, union_triples, union_tags, zip_tagged, shown, union_tree};
+    ghost use Rattle.dtype_types.specs.TreeOf.{tree, variants_of, choices, union_dtypes, union_triples, zip_tagged, shown, union_tree};
     ghost use Rattle.dtype_types.specs.Valid.{Valid};
 
     /// The union of these names, types and tags. Refuses, the first that applies: 10
@@ -138,7 +138,7 @@ impl UnionVariants {
 
     /// The names, in order.
     pub fn names(&self) -> &FieldNames
-        ensures { result.now ≡ union_names self.now }
+        ensures { result.now ≡ variant_names (choices self.now) }
     {
         self.shared.names()
     }
@@ -178,14 +178,14 @@ impl UnionVariants {
 
     /// The tags, in order of the variants.
     pub fn type_ids(&self) -> &[u8]
-        ensures { result.now ≡ union_tags self.now }
+        ensures { result.now ≡ variant_tags (choices self.now) }
     {
         self.shared.tags()
     }
 
     /// The position of the variant of the name, or `None` where no variant has it.
     pub fn find(&self, name: &str) -> Option<usize>
-        ensures { result ≡ first_place (union_names self.now) name.now }
+        ensures { result ≡ first_place (variant_names (choices self.now)) name.now }
     {
         self.names().find(name)
     }
@@ -214,17 +214,17 @@ impl UnionVariants {
 
     /// The position of the variant with this tag, or `None` where no variant has it.
     pub fn tag_to_child_index(&self, tag: u8) -> Option<usize>
-        ensures { result ≡ position (λ t. t == tag) (union_tags self.now) }
+        ensures { result ≡ position (λ t. t == tag) (variant_tags (choices self.now)) }
     {
         self.type_ids().iter().position(|t| *t == tag)
     }
 
     /// The tag of the variant at this position, which there is.
     pub fn child_index_to_tag(&self, index: usize) -> u8
-        requires { index < length (union_tags self.now) }
-        ensures at { slice_get (union_tags self.now) index ≡ Some result }
+        requires { index < length (variant_tags (choices self.now)) }
+        ensures at { slice_get (variant_tags (choices self.now)) index ≡ Some result }
         ensures back { Valid (union_tree self.now)
-            → position (λ t. t == result) (union_tags self.now) ≡ Some index }
+            → position (λ t. t == result) (variant_tags (choices self.now)) ≡ Some index }
     {
         self.type_ids()[index]
     }
@@ -287,7 +287,7 @@ impl UnionVariants {
 
     /// Whether the tags are 0, 1, 2 and so on.
     pub fn is_consecutive(&self) -> bool
-        ensures { IsTrue result ↔ AreConsecutive (union_tags self.now) }
+        ensures { IsTrue result ↔ AreConsecutive (variant_tags (choices self.now)) }
     {
         let tags = self.type_ids();
         for i in 0..self.len() {

@@ -5,8 +5,8 @@
 #![tactic(auto, using(dtype_types::specs::lemmas::MadeOf::made_of, dtype_types::specs::lemmas::Tags::tags, dtype_types::specs::lemmas::Lookups::lookups))]
 
 ghost use Rattle.std.specs.Prelude.{◌≡◌, IfOk, map};
-ghost use Rattle.dtype_types.specs.Lookups.{variant_named};
-ghost use Rattle.dtype_types.specs.TreeOf.{choices, tree, union_names, union_tags, union_types, shown};
+ghost use Rattle.dtype_types.specs.Lookups.{variant_named, variant_names, variant_types, variant_tags};
+ghost use Rattle.dtype_types.specs.TreeOf.{choices, tree, shown};
 ghost use Rattle.dtype_types.specs.Unions.{AreConsecutive};
 
 use std::alloc::Global;
@@ -14,9 +14,9 @@ use vortex_dtype::{DType, FieldNames, UnionVariants, VortexResult};
 
 /// The union of these names and types.
 pub fn numbered(alloc: Global, names: FieldNames, dtypes: Vec<DType>) -> VortexResult<UnionVariants>
-    ensures names { IfOk result (λ u. union_names u ≡ names) }
-    ensures types { IfOk result (λ u. union_types u ≡ map tree dtypes.items) }
-    ensures tags { IfOk result (λ u. AreConsecutive (union_tags u)) }
+    ensures names { IfOk result (λ u. variant_names (choices u) ≡ names) }
+    ensures types { IfOk result (λ u. variant_types (choices u) ≡ map tree dtypes.items) }
+    ensures tags { IfOk result (λ u. AreConsecutive (variant_tags (choices u))) }
 {
     let variants = UnionVariants::new(alloc, names, dtypes)?;
     Ok(variants)
@@ -29,7 +29,7 @@ pub fn tagged(
     dtypes: Vec<DType>,
     tags: Vec<u8>,
 ) -> VortexResult<UnionVariants>
-    ensures { IfOk result (λ u. union_tags u ≡ tags.items) }
+    ensures { IfOk result (λ u. variant_tags (choices u) ≡ tags.items) }
 {
     let variants = UnionVariants::try_new(alloc, names, dtypes, tags)?;
     Ok(variants)

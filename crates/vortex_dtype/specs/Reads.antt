@@ -9,8 +9,8 @@ use Rattle.dtype_base.specs.declared.vortex_error.VortexError.{VortexError}
 use Rattle.dtype_base.specs.declared.vortex_error.VortexError.TheVariants.{MapKeyNullable, Message as Faulty}
 use Rattle.dtype_base.specs.declared.vortex_error.MessageFault.{MessageFault}
 use Rattle.dtype_base.specs.declared.vortex_error.MessageFault.TheVariants.{TypeMissing, PrimitiveNumber, PrecisionRange, ScaleRange, ListElementMissing, FixedElementMissing, MapKeyMissing, MapValueMissing, StructLengths, TypeIdRange, StorageMissing}
-use Rattle.dtype_base.specs.Primitives as base
-use Rattle.dtype_base.specs.Decimals.{Decimal, IsValidDecimal, IsDecimalRefusal, greatest_precision}
+use Rattle.dtype_base.specs.Primitives.{ptype_row}
+use Rattle.dtype_base.specs.Decimals.{Decimal, IsValidDecimal, DecimalRefusal, greatest_precision}
 use Rattle.dtype_base.specs.Nullability.{nullability_of}
 use Rattle.dtype_types.specs.Distinct.{Distinct}
 use Rattle.dtype_types.specs.Nullable.{nullability}
@@ -24,7 +24,7 @@ use Rattle.vortex_dtype.specs.ReadInOrder.{or_empty}
 
 -- the number of a primitive type, as messages have it
 abbrev pub number : PType → ℤ
-number p = pos (base.primitive p).number
+number p = pos (ptype_row p).number
 
 abbrev pub decimal_with : ℕ → ℤ → Decimal
 decimal_with p k = record { precision = p; scale = k }
@@ -72,10 +72,6 @@ abbrev mutual
   ReadsVariants s (n ∷ ns) (more m ms) (g ∷ gs) vs =
       (x : Tree) × (k : ℕ) × (rest : Variants) × Reads s m x × (integer_byte g ≡ Some k) × ReadsVariants s ns ms gs rest × (vs ≡ choice n x k rest)
 
--- no type is what the message reads as
-abbrev pub ReadsAsNone : Meaning → Message → Type 0
-ReadsAsNone s m = (t : Tree) → Reads s m t → ⊥
-
 abbrev pub count : Messages → ℕ
 count no_message = 0
 count (more m ms) = count ms + 1
@@ -88,7 +84,7 @@ SomeTagFault (g ∷ gs) = (integer_byte g ≡ None) ⊎ SomeTagFault gs
 -- what is wrong with a decimal's numbers
 abbrev pub DecimalFault : ℕ → ℤ → VortexError → Type 0
 DecimalFault p k e =
-    ((e ≡ Faulty PrecisionRange) × (256 ≤ p)) ⊎ (((e ≡ Faulty ScaleRange) × ((k <ℤ neg_ℤ (pos 128)) ⊎ (pos 127 <ℤ k))) ⊎ IsDecimalRefusal greatest_precision p k e)
+    ((e ≡ Faulty PrecisionRange) × (256 ≤ p)) ⊎ (((e ≡ Faulty ScaleRange) × ((k <ℤ neg_ℤ (pos 128)) ⊎ (pos 127 <ℤ k))) ⊎ DecimalRefusal greatest_precision p k e)
 
 -- what is wrong with a union's names, types and tags
 abbrev pub UnionFault : List (List ℕ) → ℕ → List ℤ → VortexError → Type 0

@@ -1,41 +1,36 @@
 -- SPDX-License-Identifier: Apache-2.0
 -- SPDX-FileCopyrightText: Copyright the Vortex contributors
 
--- When a vtable, a session and a downcast refuse, and by which error; and each error's number, from the crate of errors.
+-- When a session and a downcast refuse, and by which error, want of memory apart; and each error's number, from the
+-- crate of errors.
 pub use Rattle.dtype_base.specs.Refusals.{fault_number, number_of}
-use Rattle.std.specs.Prelude.{◌≡◌, ◌≢◌, ◌⊎◌, ℕ, List, Option, Some, None, Bool, false}
+use Rattle.std.specs.Prelude.{◌≡◌, ◌≢◌, ℕ, List, Option, Some, None, Bool, false}
 use Rattle.dtype_base.specs.declared.vortex_error.VortexError.{VortexError}
-use Rattle.dtype_base.specs.declared.vortex_error.VortexError.TheVariants.{OutOfMemory, MetadataRefused, ExtensionIdDiffers, Message}
+use Rattle.dtype_base.specs.declared.vortex_error.VortexError.TheVariants.{MetadataRefused, ExtensionIdDiffers, Message}
 use Rattle.dtype_base.specs.declared.vortex_error.MessageFault.TheVariants.{ExtensionUnregistered}
 use Rattle.dtype_types.specs.Tree.{Tree}
 use Rattle.vortex_dtype.specs.Meaning.{Meaning, Rewrites}
-
--- 0, for want of memory; or 22, and then P holds
-abbrev pub RefusedWhere : Type 0 → VortexError → Type 0
-RefusedWhere P e = (e ≡ OutOfMemory) ⊎ ((e ≡ MetadataRefused) × P)
 
 -- the plugin that is registered takes no such bytes over such a storage
 abbrev pub Refuses : Option Rewrites → List ℕ → Tree → Type 0
 Refuses None b s = ⊥
 Refuses (Some r) b s = r b s ≡ None
 
--- a session's refusals: 22 where the registered plugin refuses, 35 where none is registered and unknown ids
--- are refused, 0 for want of memory, and no other
-abbrev pub RefusedBy : Meaning → List ℕ → List ℕ → Tree → VortexError → Type 0
-RefusedBy m id b s OutOfMemory = Unit {0}
-RefusedBy m id b s MetadataRefused = Refuses (m.registered id) b s
-RefusedBy m id b s (Message ExtensionUnregistered) = (m.registered id ≡ None) × (m.unknown ≡ false)
-RefusedBy m id b s _ = ⊥
+-- what a session refuses: 22 where the registered plugin refuses, 35 where none is registered and unknown ids
+-- are refused
+abbrev pub SessionRefusal : Meaning → List ℕ → List ℕ → Tree → VortexError → Type 0
+SessionRefusal m id b s MetadataRefused = Refuses (m.registered id) b s
+SessionRefusal m id b s (Message ExtensionUnregistered) = (m.registered id ≡ None) × (m.unknown ≡ false)
+SessionRefusal m id b s _ = ⊥
 
 -- the bytes aren't read, or what is read doesn't fit
 abbrev pub Unfit : {M : Type 0} → Option M → (M → Bool) → Type 0
 Unfit None fits = Unit {0}
 Unfit (Some m) fits = fits m ≡ false
 
--- a downcast's refusals, from the id that stands there and the vtable's: 23 where they differ; else 22, and then P
--- holds; 0 for want of memory, and no other
-abbrev pub NotOf : List ℕ → List ℕ → Type 0 → VortexError → Type 0
-NotOf i j P OutOfMemory = Unit {0}
-NotOf i j P ExtensionIdDiffers = i ≢ j
-NotOf i j P MetadataRefused = (i ≡ j) × P
-NotOf i j P _ = ⊥
+-- what a downcast refuses, of the id that stands there and the vtable's: 23 where they differ; else 22, and then P
+-- holds
+abbrev pub DowncastRefusal : List ℕ → List ℕ → Type 0 → VortexError → Type 0
+DowncastRefusal i j P ExtensionIdDiffers = i ≢ j
+DowncastRefusal i j P MetadataRefused = (i ≡ j) × P
+DowncastRefusal i j P _ = ⊥

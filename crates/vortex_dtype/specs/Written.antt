@@ -6,7 +6,7 @@
 use Rattle.std.specs.Prelude.{◌≡◌, ℕ, ℤ, pos, List, [], ◌∷◌, Some, Bool, true, false}
 use Rattle.dtype_base.specs.declared.nullability.Nullability.{Nullability}
 use Rattle.dtype_base.specs.declared.nullability.Nullability.TheVariants.{NonNullable, Nullable}
-use Rattle.dtype_base.specs.Primitives as base
+use Rattle.dtype_base.specs.Primitives.{ptype_row}
 use Rattle.dtype_types.specs.declared.extension.ExtDTypeRef.{ExtDTypeRef}
 use Rattle.dtype_types.specs.Tree as of
 use Rattle.dtype_types.specs.Tree.{Tree, Fields, no_fields, field, Variants, no_variants, choice}
@@ -24,7 +24,7 @@ abbrev mutual
   pub written : Tree → Message
   written of.null = null
   written (of.bool n) = bool (is_nullable n)
-  written (of.primitive p n) = primitive (pos (base.primitive p).number) (is_nullable n)
+  written (of.primitive p n) = primitive (pos (ptype_row p).number) (is_nullable n)
   written (of.decimal d n) = decimal d.precision d.scale (is_nullable n)
   written (of.utf8 n) = utf8 (is_nullable n)
   written (of.binary n) = binary (is_nullable n)

@@ -2,13 +2,14 @@
 // SPDX-FileCopyrightText: Copyright the Vortex contributors
 
 // Typed extensions.
-ghost use Rattle.std.specs.Prelude.{◌≡◌, IfOk, IfErr, OnOk, Some, None, true, false, MatchResult};
+ghost use Rattle.std.specs.Prelude.{◌≡◌, ◌⊎◌, IfOk, IfErr, OnOk, Some, None, true, false, MatchResult};
 ghost use Rattle.dtype_base.specs.declared.nullability.Nullability.TheVariants.{NonNullable};
+ghost use Rattle.dtype_base.specs.declared.vortex_error.VortexError.TheVariants.{OutOfMemory, MetadataRefused};
 ghost use Rattle.dtype_types.specs.Nullable.{CanBeNonNullable, SetNull};
 ghost use Rattle.dtype_types.specs.TreeOf.{extension_id, extension_metadata, extension_tree, storage_tree, tree};
 ghost use Rattle.dtype_types.specs.Valid.{Valid};
 ghost use Rattle.dtype_types.specs.Tree.{extension};
-ghost use Rattle.vortex_dtype.specs.Refusals.{NotOf, RefusedWhere, Unfit};
+ghost use Rattle.vortex_dtype.specs.Refusals.{DowncastRefusal, Unfit};
 ghost use Rattle.vortex_dtype.specs.TypedOf.{metadata_of, storage_of, vtable_of};
 
 use crate::ExtVTable;
@@ -36,8 +37,9 @@ impl<V: ExtVTable + Default> ExtDType<V> {
         ensures fits { Valid (tree storage)
             → IfOk result (λ x. V.fits (vtable_of x) (V.meant metadata) (tree storage) ≡ true) }
         // the vtable that doesn't take them is a default one
-        ensures refused { Valid (tree storage) → IfErr result (RefusedWhere
-            ((v : V) × V.is_default v × (V.fits v (V.meant metadata) (tree storage) ≡ false))) }
+        ensures refused { Valid (tree storage) → IfErr result (λ e. (e ≡ OutOfMemory)
+            ⊎ ((e ≡ MetadataRefused)
+            × ((v : V) × V.is_default v × (V.fits v (V.meant metadata) (tree storage) ≡ false)))) }
     {
         ExtDType::try_with_vtable(alloc, V::default(), metadata, storage)
     }
@@ -58,7 +60,8 @@ impl<V: ExtVTable> ExtDType<V> {
         ensures fits { Valid (tree storage)
             → OnOk result (V.fits vtable (V.meant metadata) (tree storage) ≡ true) }
         ensures refused { Valid (tree storage) → IfErr result
-            (RefusedWhere (V.fits vtable (V.meant metadata) (tree storage) ≡ false)) }
+            (λ e. (e ≡ OutOfMemory) ⊎ ((e ≡ MetadataRefused)
+            × (V.fits vtable (V.meant metadata) (tree storage) ≡ false))) }
     {
         vtable.validate_dtype(alloc, &metadata, &storage)?;
         Ok(ExtDType {
@@ -101,7 +104,8 @@ impl<V: ExtVTable> ExtDType<V> {
     pub fn serialize_metadata(&self, alloc: Global) -> VortexResult<Vec<u8>>
         ensures { MatchResult result
             (λ v. V.writes (vtable_of self.now) (V.meant (metadata_of self.now)) ≡ Some v.items)
-            (RefusedWhere (V.writes (vtable_of self.now) (V.meant (metadata_of self.now)) ≡ None)) }
+            (λ e. (e ≡ OutOfMemory) ⊎ ((e ≡ MetadataRefused)
+            × (V.writes (vtable_of self.now) (V.meant (metadata_of self.now)) ≡ None))) }
     {
         self.vtable.serialize_metadata(alloc, &self.metadata)
     }
@@ -116,7 +120,8 @@ impl<V: ExtVTable> ExtDType<V> {
         ensures metadata { MatchResult result
             (λ e. V.writes (vtable_of self.now) (V.meant (metadata_of self.now))
             ≡ Some (extension_metadata e))
-            (RefusedWhere (V.writes (vtable_of self.now) (V.meant (metadata_of self.now)) ≡ None)) }
+            (λ e. (e ≡ OutOfMemory) ⊎ ((e ≡ MetadataRefused)
+            × (V.writes (vtable_of self.now) (V.meant (metadata_of self.now)) ≡ None))) }
         ensures storage { IfOk result (λ e. SetNull (storage_of self.now) n (storage_tree e)) }
         ensures valid { Valid (storage_of self.now) → IfOk result (λ e. Valid (extension_tree e)) }
     {
@@ -133,7 +138,8 @@ impl<V: ExtVTable> ExtDType<V> {
             ≡ extension (V.id_text (vtable_of self)) (extension_metadata e) (storage_of self)) }
         ensures metadata { MatchResult result
             (λ e. V.writes (vtable_of self) (V.meant (metadata_of self)) ≡ Some (extension_metadata e))
-            (RefusedWhere (V.writes (vtable_of self) (V.meant (metadata_of self)) ≡ None)) }
+            (λ e. (e ≡ OutOfMemory) ⊎ ((e ≡ MetadataRefused)
+            × (V.writes (vtable_of self) (V.meant (metadata_of self)) ≡ None))) }
         ensures valid { Valid (storage_of self) → IfOk result (λ e. Valid (extension_tree e)) }
     {
         let ExtDType {
@@ -163,7 +169,8 @@ impl<V: ExtVTable> ExtDType<V> {
             (λ x. V.reads vtable (extension_metadata erased) ≡ Some (V.meant (metadata_of x))) }
         ensures fits { Valid (storage_tree erased) → IfOk result
             (λ x. V.fits vtable (V.meant (metadata_of x)) (storage_tree erased) ≡ true) }
-        ensures refused { IfErr result (λ p. NotOf (extension_id erased) (V.id_text vtable)
+        ensures refused { IfErr result (λ p. (p.1 ≡ OutOfMemory)
+            ⊎ DowncastRefusal (extension_id erased) (V.id_text vtable)
             (Valid (storage_tree erased) → Unfit (V.reads vtable (extension_metadata erased))
             (λ m. V.fits vtable m (storage_tree erased))) p.1) }
     {
@@ -185,10 +192,11 @@ impl<V: ExtVTable> ExtDType<V> {
         ensures id { OnOk result (extension_id erased.now ≡ V.id_text vtable.now) }
         ensures read { MatchResult result
             (λ m. V.reads vtable.now (extension_metadata erased.now) ≡ Some (V.meant m))
-            (NotOf (extension_id erased.now) (V.id_text vtable.now)
+            (λ e. (e ≡ OutOfMemory)
+            ⊎ DowncastRefusal (extension_id erased.now) (V.id_text vtable.now)
             (Valid (storage_tree erased.now)
             → Unfit (V.reads vtable.now (extension_metadata erased.now))
-            (λ m. V.fits vtable.now m (storage_tree erased.now)))) }
+            (λ m. V.fits vtable.now m (storage_tree erased.now))) e) }
         ensures fits { Valid (storage_tree erased.now) → IfOk result
             (λ m. V.fits vtable.now (V.meant m) (storage_tree erased.now) ≡ true) }
     {
@@ -210,8 +218,9 @@ impl<V: ExtVTable> ExtDType<V> {
     ) -> VortexResult<()>
         ensures ok { Valid (tree storage.now)
             → OnOk result (V.fits vtable.now (V.meant metadata.now) (tree storage.now) ≡ true) }
-        ensures refused { IfErr result (RefusedWhere (Valid (tree storage.now)
-            → V.fits vtable.now (V.meant metadata.now) (tree storage.now) ≡ false)) }
+        ensures refused { IfErr result (λ e. (e ≡ OutOfMemory)
+            ⊎ ((e ≡ MetadataRefused) × (Valid (tree storage.now)
+            → V.fits vtable.now (V.meant metadata.now) (tree storage.now) ≡ false))) }
     {
         match vtable.validate_dtype(alloc, metadata, storage) {
             Ok(()) => Ok(()),

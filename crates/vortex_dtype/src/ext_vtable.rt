@@ -14,11 +14,11 @@ use std::alloc::Global;
 /// from bytes is bytes; whether metadata fits a storage doesn't depend on the storage's outer
 /// nullability.
 pub trait ExtVTable: Drop {
-    ghost use Rattle.std.specs.Prelude.{◌≡◌, ℕ, List, Option, Some, None, Bool, true, false, IfErr, OnOk, MatchResult};
+    ghost use Rattle.std.specs.Prelude.{◌≡◌, ◌⊎◌, ℕ, List, Option, Some, None, Bool, true, false, IfErr, OnOk, MatchResult};
+    ghost use Rattle.dtype_base.specs.declared.vortex_error.VortexError.TheVariants.{OutOfMemory, MetadataRefused};
     ghost use Rattle.dtype_types.specs.Tree.{Tree};
     ghost use Rattle.dtype_types.specs.TreeOf.{tree};
     ghost use Rattle.dtype_types.specs.Valid.{Valid};
-    ghost use Rattle.vortex_dtype.specs.Refusals.{RefusedWhere};
     ghost use Rattle.vortex_dtype.specs.Typed.{Typed};
 
     /// The metadata of an extension, as the library has it.
@@ -50,14 +50,15 @@ pub trait ExtVTable: Drop {
     fn serialize_metadata(&self, alloc: Global, metadata: &Self::Metadata) -> VortexResult<Vec<u8>>
         ensures { MatchResult result
             (λ v. writes self.now (meant metadata.now) ≡ Some v.items)
-            (RefusedWhere (writes self.now (meant metadata.now) ≡ None)) };
+            (λ e. (e ≡ OutOfMemory) ⊎ ((e ≡ MetadataRefused)
+            × (writes self.now (meant metadata.now) ≡ None))) };
 
     /// The metadata that the bytes are read as. Refuses 22 (MetadataRefused) exactly where they aren't
     /// read, and 0 (OutOfMemory).
     fn deserialize_metadata(&self, alloc: Global, bytes: &[u8]) -> VortexResult<Self::Metadata>
         ensures { MatchResult result
             (λ m. reads self.now bytes.now ≡ Some (meant m))
-            (RefusedWhere (reads self.now bytes.now ≡ None)) };
+            (λ e. (e ≡ OutOfMemory) ⊎ ((e ≡ MetadataRefused) × (reads self.now bytes.now ≡ None))) };
 
     /// Whether the metadata may stand over the storage: over a valid one it refuses 22 (MetadataRefused) exactly
     /// where it may not, and 0 (OutOfMemory).
@@ -70,7 +71,8 @@ pub trait ExtVTable: Drop {
         ensures ok { Valid (tree storage.now)
             → OnOk result (fits self.now (meant metadata.now) (tree storage.now) ≡ true) }
         ensures refused { Valid (tree storage.now) → IfErr result
-            (RefusedWhere (fits self.now (meant metadata.now) (tree storage.now) ≡ false)) };
+            (λ e. (e ≡ OutOfMemory) ⊎ ((e ≡ MetadataRefused)
+            × (fits self.now (meant metadata.now) (tree storage.now) ≡ false))) };
 
     ghost typed: { (v : Self) → Typed (reads v) (writes v) (fits v) };
 }

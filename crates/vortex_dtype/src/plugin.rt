@@ -2,11 +2,11 @@
 // SPDX-FileCopyrightText: Copyright the Vortex contributors
 
 // Plugins: what a session knows of an extension type.
-ghost use Rattle.std.specs.Prelude.{◌≡◌, IfOk, IfErr, Some, None};
+ghost use Rattle.std.specs.Prelude.{◌≡◌, ◌⊎◌, IfOk, IfErr, Some, None};
+ghost use Rattle.dtype_base.specs.declared.vortex_error.VortexError.TheVariants.{OutOfMemory, MetadataRefused};
 ghost use Rattle.dtype_types.specs.TreeOf.{tree};
 ghost use Rattle.dtype_types.specs.Valid.{Valid};
 ghost use Rattle.vortex_dtype.specs.Meaning.{Lawful};
-ghost use Rattle.vortex_dtype.specs.Refusals.{RefusedWhere};
 
 use crate::ExtVTable;
 use dtype_base::VortexResult;
@@ -21,11 +21,11 @@ use std::marker::Model;
 /// what is written back is bytes and is written back unchanged, and the storage's outer nullability
 /// doesn't count.
 pub trait ExtDTypePlugin: Drop {
-    ghost use Rattle.std.specs.Prelude.{◌≡◌, ℕ, List, Some, None, IfOk, IfErr};
+    ghost use Rattle.std.specs.Prelude.{◌≡◌, ◌⊎◌, ℕ, List, Some, None, IfOk, IfErr};
+    ghost use Rattle.dtype_base.specs.declared.vortex_error.VortexError.TheVariants.{OutOfMemory, MetadataRefused};
     ghost use Rattle.dtype_types.specs.TreeOf.{tree};
     ghost use Rattle.dtype_types.specs.Valid.{Valid};
     ghost use Rattle.vortex_dtype.specs.Meaning.{Lawful, Rewrites};
-    ghost use Rattle.vortex_dtype.specs.Refusals.{RefusedWhere};
 
     // the text of the id
     ghost id_text: { Self → List ℕ };
@@ -43,7 +43,8 @@ pub trait ExtDTypePlugin: Drop {
         ensures ok { Valid (tree storage.now)
             → IfOk result (λ v. rewrites self.now metadata.now (tree storage.now) ≡ Some v.items) }
         ensures refused { Valid (tree storage.now) → IfErr result
-            (RefusedWhere (rewrites self.now metadata.now (tree storage.now) ≡ None)) };
+            (λ e. (e ≡ OutOfMemory) ⊎ ((e ≡ MetadataRefused)
+            × (rewrites self.now metadata.now (tree storage.now) ≡ None))) };
 
     ghost lawful: { (p : Self) → Lawful (rewrites p) };
 }
@@ -114,7 +115,8 @@ pub(crate) fn boxed_deserialize(
     ensures ok { Valid (tree storage.now)
         → IfOk result (λ v. rewrites plugin.now metadata.now (tree storage.now) ≡ Some v.items) }
     ensures refused { Valid (tree storage.now)
-        → IfErr result (RefusedWhere (rewrites plugin.now metadata.now (tree storage.now) ≡ None)) }
+        → IfErr result (λ e. (e ≡ OutOfMemory)
+        ⊎ ((e ≡ MetadataRefused) × (rewrites plugin.now metadata.now (tree storage.now) ≡ None))) }
 {
     plugin.deserialize(alloc, metadata, storage)
 }

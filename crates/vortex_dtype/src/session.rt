@@ -4,13 +4,13 @@
 // The session: the plugins that are registered, and whether unknown ids are kept.
 #![tactic(auto, unfolding(crate::specs::Session::meaning, crate::specs::Meaning::nothing, crate::specs::Meaning::put, crate::specs::Meaning::allowing))]
 
-ghost use Rattle.std.specs.Prelude.{◌≡◌, ◌↔◌, IfOk, IfErr, IsOkUnless, IsSome, IsTrue, OnErr, OnOk, Some};
+ghost use Rattle.std.specs.Prelude.{◌≡◌, ◌⊎◌, ◌↔◌, IfOk, IfErr, IsOkUnless, IsSome, IsTrue, OnErr, OnOk, Some};
 ghost use Rattle.dtype_base.specs.declared.vortex_error.VortexError.TheVariants.{OutOfMemory};
 ghost use Rattle.dtype_types.specs.TreeOf.{extension_metadata, extension_tree, tree};
 ghost use Rattle.dtype_types.specs.Valid.{Valid};
 ghost use Rattle.dtype_types.specs.Tree.{extension};
 ghost use Rattle.vortex_dtype.specs.Meaning.{LawfulSession, allowing, keeps, nothing, put};
-ghost use Rattle.vortex_dtype.specs.Refusals.{RefusedBy};
+ghost use Rattle.vortex_dtype.specs.Refusals.{SessionRefusal};
 ghost use Rattle.vortex_dtype.specs.Session.{meaning};
 
 use crate::plugin::{ExtDTypePlugin, boxed_deserialize, boxed_id};
@@ -99,7 +99,8 @@ impl DTypeSession {
             ≡ Some (extension_metadata e)) }
         ensures valid { Valid (tree storage) → IfOk result (λ e. Valid (extension_tree e)) }
         ensures refused { Valid (tree storage) → IfErr result
-            (RefusedBy (meaning rewrites self.now) id.now metadata.now (tree storage)) }
+            (λ e. (e ≡ OutOfMemory)
+            ⊎ SessionRefusal (meaning rewrites self.now) id.now metadata.now (tree storage) e) }
     {
         let bytes = match self.plugins.get(id) {
             Some(plugin) => boxed_deserialize(plugin, self.alloc, metadata, &storage)?,

@@ -5,8 +5,8 @@
 // exclamation mark, a second plugin under its id that keeps all bytes, `x.text` as a plugin that takes
 // texts without metadata, and `x.word` as a vtable that takes texts with the metadata of `x.tag`.
 ghost use Rattle.std.specs.List.{list_any};
-ghost use Rattle.std.specs.Prelude.{◌≡◌, IfErr, IfOk, None, Some, map, nat_eq};
-ghost use Rattle.vortex_dtype.specs.Refusals.{RefusedWhere};
+ghost use Rattle.std.specs.Prelude.{◌≡◌, ◌⊎◌, IfErr, IfOk, None, Some, map, nat_eq};
+ghost use Rattle.dtype_base.specs.declared.vortex_error.VortexError.TheVariants.{OutOfMemory, MetadataRefused};
 ghost use Rattle.vortex_dtype_fixtures.specs.Tag.{if_unchanged, is_changed, low, lowered};
 
 use std::alloc::{AllocError, Global};
@@ -210,7 +210,8 @@ fn each_lowered(alloc: Global, bytes: &[u8]) -> Result<Vec<u8>, AllocError>
 // The bytes are copied first, so that a refusal leaves a copy to be dropped.
 fn all_lowered(alloc: Global, bytes: &[u8]) -> VortexResult<Vec<u8>>
     ensures ok { IfOk result (λ v. lowered bytes.now ≡ Some v.items) }
-    ensures refused { IfErr result (RefusedWhere (lowered bytes.now ≡ None)) }
+    ensures refused { IfErr result (λ e. (e ≡ OutOfMemory)
+        ⊎ ((e ≡ MetadataRefused) × (lowered bytes.now ≡ None))) }
 {
     let copy = Vec::from_slice(alloc, bytes)?;
     if has_exclamation_mark(bytes) {
@@ -221,7 +222,8 @@ fn all_lowered(alloc: Global, bytes: &[u8]) -> VortexResult<Vec<u8>>
 
 fn unchanged(alloc: Global, bytes: &[u8]) -> VortexResult<Vec<u8>>
     ensures ok { IfOk result (λ v. if_unchanged bytes.now ≡ Some v.items) }
-    ensures refused { IfErr result (RefusedWhere (if_unchanged bytes.now ≡ None)) }
+    ensures refused { IfErr result (λ e. (e ≡ OutOfMemory)
+        ⊎ ((e ≡ MetadataRefused) × (if_unchanged bytes.now ≡ None))) }
 {
     if any_changes(bytes) {
         return Err(VortexError::MetadataRefused);

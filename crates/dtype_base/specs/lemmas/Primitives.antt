@@ -7,13 +7,13 @@ use Rattle.std.proofs.Common.{◌≡◌, ◌+◌, ◌-◌, ◌*◌, ◌^◌, ◌
 use Rattle.std.specs.Prelude.{◌&&◌, T, int_le, int_lt, pos, neg_ℤ}
 use Rattle.std.proofs.lemmas.Bool.{ltb-true, lt-ltb, false≢true, and_parts, and_from}
 use Rattle.std.proofs.lemmas.Option.{same_Some}
-use Rattle.dtype_base.specs.Primitives.{Unsigned, Signed, primitive, IsInteger, IsUnsigned, IsSigned, IsNarrowest, HoldsUnsigned, HoldsSigned, narrowest_unsigned, narrowest_signed}
+use Rattle.dtype_base.specs.Primitives.{Unsigned, Signed, ptype_row, IsInteger, IsUnsigned, IsSigned, IsNarrowest, HoldsUnsigned, HoldsSigned, narrowest_unsigned, narrowest_signed}
 use Rattle.dtype_base.specs.declared.ptype.PType.{PType}
 use Rattle.dtype_base.specs.declared.ptype.PType.TheVariants.{U8, U16, U32, U64, I8, I16, I32, I64, F16, F32, F64}
 
 -- ---- the columns
 
-pub at_most_eight_bytes : (p : PType) → (primitive p).bytes ≤ 8
+pub at_most_eight_bytes : (p : PType) → (ptype_row p).bytes ≤ 8
 at_most_eight_bytes U8 = omega arith
 at_most_eight_bytes U16 = omega arith
 at_most_eight_bytes U32 = omega arith
@@ -26,21 +26,21 @@ at_most_eight_bytes F16 = omega arith
 at_most_eight_bytes F32 = omega arith
 at_most_eight_bytes F64 = omega arith
 
-pub greatest_of_unsigned : (p : PType) → IsUnsigned p → (primitive p).greatest + 1 ≡ 2 ^ (8 * (primitive p).bytes)
+pub greatest_of_unsigned : (p : PType) → IsUnsigned p → (ptype_row p).greatest + 1 ≡ 2 ^ (8 * (ptype_row p).bytes)
 greatest_of_unsigned U8 e = refl
 greatest_of_unsigned U16 e = refl
 greatest_of_unsigned U32 e = refl
 greatest_of_unsigned U64 e = refl
 greatest_of_unsigned _ e = cc
 
-pub greatest_of_signed : (p : PType) → IsSigned p → (primitive p).greatest + 1 ≡ 2 ^ (8 * (primitive p).bytes - 1)
+pub greatest_of_signed : (p : PType) → IsSigned p → (ptype_row p).greatest + 1 ≡ 2 ^ (8 * (ptype_row p).bytes - 1)
 greatest_of_signed I8 e = refl
 greatest_of_signed I16 e = refl
 greatest_of_signed I32 e = refl
 greatest_of_signed I64 e = refl
 greatest_of_signed _ e = cc
 
-pub signed_as_wide : (p : PType) → (primitive (primitive p).signed).bytes ≡ (primitive p).bytes
+pub signed_as_wide : (p : PType) → (ptype_row (ptype_row p).signed).bytes ≡ (ptype_row p).bytes
 signed_as_wide U8 = refl
 signed_as_wide U16 = refl
 signed_as_wide U32 = refl
@@ -53,7 +53,7 @@ signed_as_wide F16 = refl
 signed_as_wide F32 = refl
 signed_as_wide F64 = refl
 
-pub unsigned_as_wide : (p : PType) → (primitive (primitive p).unsigned).bytes ≡ (primitive p).bytes
+pub unsigned_as_wide : (p : PType) → (ptype_row (ptype_row p).unsigned).bytes ≡ (ptype_row p).bytes
 unsigned_as_wide U8 = refl
 unsigned_as_wide U16 = refl
 unsigned_as_wide U32 = refl
@@ -66,7 +66,7 @@ unsigned_as_wide F16 = refl
 unsigned_as_wide F32 = refl
 unsigned_as_wide F64 = refl
 
-pub signed_is_signed : (p : PType) → IsInteger p → IsSigned (primitive p).signed
+pub signed_is_signed : (p : PType) → IsInteger p → IsSigned (ptype_row p).signed
 signed_is_signed U8 e = refl
 signed_is_signed U16 e = refl
 signed_is_signed U32 e = refl
@@ -78,7 +78,7 @@ signed_is_signed I64 e = refl
 signed_is_signed _ (inl e) = cc
 signed_is_signed _ (inr e) = cc
 
-pub unsigned_is_unsigned : (p : PType) → IsInteger p → IsUnsigned (primitive p).unsigned
+pub unsigned_is_unsigned : (p : PType) → IsInteger p → IsUnsigned (ptype_row p).unsigned
 unsigned_is_unsigned U8 e = refl
 unsigned_is_unsigned U16 e = refl
 unsigned_is_unsigned U32 e = refl
@@ -99,7 +99,7 @@ unsigned_wide b = cond (b == 1) U8 (cond (b == 2) U16 (cond (b == 4) U32 U64))
 signed_wide : ℕ → PType
 signed_wide b = cond (b == 1) I8 (cond (b == 2) I16 (cond (b == 4) I32 I64))
 
-by_width : (p : PType) → (primitive p).kind ≡ Unsigned → p ≡ unsigned_wide (primitive p).bytes
+by_width : (p : PType) → (ptype_row p).kind ≡ Unsigned → p ≡ unsigned_wide (ptype_row p).bytes
 unfolding unsigned_wide
 by_width U8 e = refl
 by_width U16 e = refl
@@ -107,7 +107,7 @@ by_width U32 e = refl
 by_width U64 e = refl
 by_width _ e = cc
 
-by_signed_width : (p : PType) → (primitive p).kind ≡ Signed → p ≡ signed_wide (primitive p).bytes
+by_signed_width : (p : PType) → (ptype_row p).kind ≡ Signed → p ≡ signed_wide (ptype_row p).bytes
 unfolding signed_wide
 by_signed_width I8 e = refl
 by_signed_width I16 e = refl
@@ -119,19 +119,19 @@ pub one_unsigned : (n : ℕ) (p q : PType) → IsNarrowest Unsigned (HoldsUnsign
 one_unsigned n p q h k =
     let there = h.narrowest q k.kind_is k.holds in
     let back = k.narrowest p h.kind_is h.holds in
-    let same : (primitive p).bytes ≡ (primitive q).bytes = omega arith in
+    let same : (ptype_row p).bytes ≡ (ptype_row q).bytes = omega arith in
     by_width p h.kind_is ∙ ap unsigned_wide same ∙ sym (by_width q k.kind_is)
 
 pub one_signed : (z : ℤ) (p q : PType) → IsNarrowest Signed (HoldsSigned z) p → IsNarrowest Signed (HoldsSigned z) q → p ≡ q
 one_signed z p q h k =
     let there = h.narrowest q k.kind_is k.holds in
     let back = k.narrowest p h.kind_is h.holds in
-    let same : (primitive p).bytes ≡ (primitive q).bytes = omega arith in
+    let same : (ptype_row p).bytes ≡ (ptype_row q).bytes = omega arith in
     by_signed_width p h.kind_is ∙ ap signed_wide same ∙ sym (by_signed_width q k.kind_is)
 
 -- ---- the first that holds a number is one
 
-at_least_one_byte : (p : PType) → 1 ≤ (primitive p).bytes
+at_least_one_byte : (p : PType) → 1 ≤ (ptype_row p).bytes
 at_least_one_byte U8 = omega arith
 at_least_one_byte U16 = omega arith
 at_least_one_byte U32 = omega arith
@@ -146,10 +146,10 @@ at_least_one_byte F64 = omega arith
 
 -- whether an unsigned, and a signed, type of that width holds a number, as a test
 abbrev holds_unsigned : ℕ → PType → Bool
-holds_unsigned n p = nat_lt n (2 ^ (8 * (primitive p).bytes))
+holds_unsigned n p = nat_lt n (2 ^ (8 * (ptype_row p).bytes))
 
 abbrev holds_signed : ℤ → PType → Bool
-holds_signed z p = int_le (neg_ℤ (pos (2 ^ (8 * (primitive p).bytes - 1)))) z && int_lt z (pos (2 ^ (8 * (primitive p).bytes - 1)))
+holds_signed z p = int_le (neg_ℤ (pos (2 ^ (8 * (ptype_row p).bytes - 1)))) z && int_lt z (pos (2 ^ (8 * (ptype_row p).bytes - 1)))
 
 is_true : (b : Bool) → T b → b ≡ true
 is_true true h = refl
@@ -166,56 +166,56 @@ signed_holds : (z : ℤ) (p : PType) → HoldsSigned z p → holds_signed z p �
 signed_holds z p h = and_from _ _ (is_true _ h.0.le) (is_true _ h.1.lt)
 
 -- a type that holds it is as wide as the first whose test it passes
-wide_unsigned : (n bytes : ℕ) → ((q : PType) → (primitive q).kind ≡ Unsigned → holds_unsigned n q ≡ true → bytes ≤ (primitive q).bytes) → (p : PType) → (primitive p).kind ≡ Unsigned → (primitive p).bytes ≡ bytes → holds_unsigned n p ≡ true → IsNarrowest Unsigned (HoldsUnsigned n) p
+wide_unsigned : (n bytes : ℕ) → ((q : PType) → (ptype_row q).kind ≡ Unsigned → holds_unsigned n q ≡ true → bytes ≤ (ptype_row q).bytes) → (p : PType) → (ptype_row p).kind ≡ Unsigned → (ptype_row p).bytes ≡ bytes → holds_unsigned n p ≡ true → IsNarrowest Unsigned (HoldsUnsigned n) p
 wide_unsigned n bytes least p kind is holds = record {
   kind_is = kind;
   holds = ltb-true _ _ holds;
   narrowest = λ q k h. let there = least q k (lt-ltb _ _ h) in omega (arith, is, there);
 }
 
-wide_signed : (z : ℤ) (bytes : ℕ) → ((q : PType) → (primitive q).kind ≡ Signed → holds_signed z q ≡ true → bytes ≤ (primitive q).bytes) → (p : PType) → (primitive p).kind ≡ Signed → (primitive p).bytes ≡ bytes → holds_signed z p ≡ true → IsNarrowest Signed (HoldsSigned z) p
+wide_signed : (z : ℤ) (bytes : ℕ) → ((q : PType) → (ptype_row q).kind ≡ Signed → holds_signed z q ≡ true → bytes ≤ (ptype_row q).bytes) → (p : PType) → (ptype_row p).kind ≡ Signed → (ptype_row p).bytes ≡ bytes → holds_signed z p ≡ true → IsNarrowest Signed (HoldsSigned z) p
 wide_signed z bytes least p kind is holds = record {
   kind_is = kind;
   holds = signed_tested z p holds;
   narrowest = λ q k h. let there = least q k (signed_holds z q h) in omega (arith, is, there);
 }
 
-past_u8 : (n : ℕ) → holds_unsigned n U8 ≡ false → (q : PType) → (primitive q).kind ≡ Unsigned → holds_unsigned n q ≡ true → 2 ≤ (primitive q).bytes
+past_u8 : (n : ℕ) → holds_unsigned n U8 ≡ false → (q : PType) → (ptype_row q).kind ≡ Unsigned → holds_unsigned n q ≡ true → 2 ≤ (ptype_row q).bytes
 past_u8 n a U8 k e = absurd (false≢true (sym a ∙ e))
 past_u8 n a U16 k e = omega arith
 past_u8 n a U32 k e = omega arith
 past_u8 n a U64 k e = omega arith
 past_u8 n a _ k e = cc
 
-past_u16 : (n : ℕ) → holds_unsigned n U8 ≡ false → holds_unsigned n U16 ≡ false → (q : PType) → (primitive q).kind ≡ Unsigned → holds_unsigned n q ≡ true → 4 ≤ (primitive q).bytes
+past_u16 : (n : ℕ) → holds_unsigned n U8 ≡ false → holds_unsigned n U16 ≡ false → (q : PType) → (ptype_row q).kind ≡ Unsigned → holds_unsigned n q ≡ true → 4 ≤ (ptype_row q).bytes
 past_u16 n a b U8 k e = absurd (false≢true (sym a ∙ e))
 past_u16 n a b U16 k e = absurd (false≢true (sym b ∙ e))
 past_u16 n a b U32 k e = omega arith
 past_u16 n a b U64 k e = omega arith
 past_u16 n a b _ k e = cc
 
-past_u32 : (n : ℕ) → holds_unsigned n U8 ≡ false → holds_unsigned n U16 ≡ false → holds_unsigned n U32 ≡ false → (q : PType) → (primitive q).kind ≡ Unsigned → holds_unsigned n q ≡ true → 8 ≤ (primitive q).bytes
+past_u32 : (n : ℕ) → holds_unsigned n U8 ≡ false → holds_unsigned n U16 ≡ false → holds_unsigned n U32 ≡ false → (q : PType) → (ptype_row q).kind ≡ Unsigned → holds_unsigned n q ≡ true → 8 ≤ (ptype_row q).bytes
 past_u32 n a b c U8 k e = absurd (false≢true (sym a ∙ e))
 past_u32 n a b c U16 k e = absurd (false≢true (sym b ∙ e))
 past_u32 n a b c U32 k e = absurd (false≢true (sym c ∙ e))
 past_u32 n a b c U64 k e = omega arith
 past_u32 n a b c _ k e = cc
 
-past_i8 : (z : ℤ) → holds_signed z I8 ≡ false → (q : PType) → (primitive q).kind ≡ Signed → holds_signed z q ≡ true → 2 ≤ (primitive q).bytes
+past_i8 : (z : ℤ) → holds_signed z I8 ≡ false → (q : PType) → (ptype_row q).kind ≡ Signed → holds_signed z q ≡ true → 2 ≤ (ptype_row q).bytes
 past_i8 z a I8 k e = absurd (false≢true (sym a ∙ e))
 past_i8 z a I16 k e = omega arith
 past_i8 z a I32 k e = omega arith
 past_i8 z a I64 k e = omega arith
 past_i8 z a _ k e = cc
 
-past_i16 : (z : ℤ) → holds_signed z I8 ≡ false → holds_signed z I16 ≡ false → (q : PType) → (primitive q).kind ≡ Signed → holds_signed z q ≡ true → 4 ≤ (primitive q).bytes
+past_i16 : (z : ℤ) → holds_signed z I8 ≡ false → holds_signed z I16 ≡ false → (q : PType) → (ptype_row q).kind ≡ Signed → holds_signed z q ≡ true → 4 ≤ (ptype_row q).bytes
 past_i16 z a b I8 k e = absurd (false≢true (sym a ∙ e))
 past_i16 z a b I16 k e = absurd (false≢true (sym b ∙ e))
 past_i16 z a b I32 k e = omega arith
 past_i16 z a b I64 k e = omega arith
 past_i16 z a b _ k e = cc
 
-past_i32 : (z : ℤ) → holds_signed z I8 ≡ false → holds_signed z I16 ≡ false → holds_signed z I32 ≡ false → (q : PType) → (primitive q).kind ≡ Signed → holds_signed z q ≡ true → 8 ≤ (primitive q).bytes
+past_i32 : (z : ℤ) → holds_signed z I8 ≡ false → holds_signed z I16 ≡ false → holds_signed z I32 ≡ false → (q : PType) → (ptype_row q).kind ≡ Signed → holds_signed z q ≡ true → 8 ≤ (ptype_row q).bytes
 past_i32 z a b c I8 k e = absurd (false≢true (sym a ∙ e))
 past_i32 z a b c I16 k e = absurd (false≢true (sym b ∙ e))
 past_i32 z a b c I32 k e = absurd (false≢true (sym c ∙ e))

@@ -11,7 +11,7 @@ use Rattle.std.specs.declared.boxed.Box.{Box}
 use Rattle.std.proofs.lemmas.Option.{same_Some}
 use Rattle.dtype_base.specs.declared.nullability.Nullability.TheVariants.{NonNullable}
 use Rattle.dtype_types.specs.Valid.{Valid, HasVariant, ValidFields, ValidVariants}
-use Rattle.dtype_types.specs.TreeOf.{tree, extension_tree, map_tree, union_tree, struct_tree, shown, children, choices, map_shown, extension_shown}
+use Rattle.dtype_types.specs.TreeOf.{tree, extension_tree, map_tree, union_tree, struct_tree, shown, children, choices, map_shown, extension_id, extension_metadata, storage_tree}
 use Rattle.dtype_types.specs.Kinds.{list_element, fixed_size_list_element, any_size_list_element, map_parts, struct_fields, union_variants, extension_parts}
 use Rattle.dtype_types.specs.Nullable.{nullability}
 use Rattle.dtype_types.specs.Tree.{Tree, Fields, Variants, no_fields, field, no_variants, choice, fields, pairs, variants, triples, list, fixed_size_list, map_of, struct, union, extension}
@@ -115,10 +115,10 @@ given_union t (Some u) is h = union_variants_valid t u (sym is) h
 pub extension_is_valid : (t : Tree) (e : ExtDTypeRef) → t ≡ extension_tree e → Valid t → Valid (extension_tree e)
 extension_is_valid t e is h = subst Valid is h
 
-pub extension_parts_valid : (t : Tree) (e : ExtDTypeRef) → extension_parts t ≡ Some (extension_shown e) → Valid t → Valid (extension_tree e)
-extension_parts_valid (extension i b s) e is h = subst (λ (p : List ℕ × List ℕ × Tree). Valid (extension p.0 p.1 p.2)) (same_Some (i, b, s) (extension_shown e) is) h
+pub extension_parts_valid : (t : Tree) (e : ExtDTypeRef) → extension_parts t ≡ Some (extension_id e, extension_metadata e, storage_tree e) → Valid t → Valid (extension_tree e)
+extension_parts_valid (extension i b s) e is h = subst (λ (p : List ℕ × List ℕ × Tree). Valid (extension p.0 p.1 p.2)) (same_Some (i, b, s) (extension_id e, extension_metadata e, storage_tree e) is) h
 extension_parts_valid _ e is h = cc
 
-pub lent_extension : (t : Tree) (r : Option (Bor ExtDTypeRef)) → shown extension_shown r ≡ extension_parts t → Valid t → IfSome r (λ e. Valid (extension_tree e.now))
+pub lent_extension : (t : Tree) (r : Option (Bor ExtDTypeRef)) → shown (λ e. (extension_id e, extension_metadata e, storage_tree e)) r ≡ extension_parts t → Valid t → IfSome r (λ e. Valid (extension_tree e.now))
 lent_extension t None is h = tt
 lent_extension t (Some e) is h = extension_parts_valid t e.now (sym is) h

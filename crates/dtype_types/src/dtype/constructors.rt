@@ -4,10 +4,10 @@
 // Constructors of types that hold others.
 ghost use Rattle.std.specs.Prelude.{◌≡◌, ◌⊎◌, OnOk, MatchResult};
 ghost use Rattle.std.specs.Iterator.{IsFinite};
-ghost use Rattle.dtype_base.specs.declared.nullability.Nullability.TheVariants.{NonNullable, Nullable};
+ghost use Rattle.dtype_base.specs.declared.nullability.Nullability.TheVariants.{NonNullable};
 ghost use Rattle.dtype_base.specs.declared.vortex_error.VortexError.TheVariants.{OutOfMemory, MapKeyNullable};
 ghost use Rattle.dtype_types.specs.FieldTypes.{IsStructOf, MadeFrom};
-ghost use Rattle.dtype_types.specs.Nullable.{nullability};
+ghost use Rattle.dtype_types.specs.Nullable.{nullability, IsNullable};
 ghost use Rattle.dtype_types.specs.Tree.{list, fixed_size_list, map_of};
 ghost use Rattle.dtype_types.specs.TreeOf.{tree};
 
@@ -49,7 +49,7 @@ impl DType {
             (λ d. tree d ≡ map_of (tree key) (tree value) keys_sorted n)
             (λ e.
             ((e ≡ OutOfMemory) × (nullability (tree key) ≡ NonNullable))
-            ⊎ ((e ≡ MapKeyNullable) × (nullability (tree key) ≡ Nullable))) }
+            ⊎ ((e ≡ MapKeyNullable) × IsNullable (tree key))) }
         ensures accepted { OnOk result (nullability (tree key) ≡ NonNullable) }
     {
         let map = MapDType::try_new(alloc, key, value, keys_sorted)?;

@@ -81,8 +81,7 @@ impl PartialEq for DType {
     ghost laws = { partial_equiv_from_equiv same_dtype_equiv };
 
     fn eq(&self, other: &DType) -> bool
-        ensures same { result ≡ same_dtype self.now other.now }
-        ensures exact { IsTrue result ↔ (tree self.now ≡ tree other.now) }
+        ensures { IsTrue result ↔ (tree self.now ≡ tree other.now) }
     {
         agree(self, other, Nullabilities::Compared)
     }

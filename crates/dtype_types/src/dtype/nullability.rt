@@ -7,7 +7,7 @@
 ghost use Rattle.std.specs.Prelude.{◌≡◌, ◌↔◌, IsTrue, MatchResult};
 ghost use Rattle.dtype_base.specs.Nullability.{either};
 ghost use Rattle.dtype_base.specs.declared.vortex_error.VortexError.TheVariants.{OutOfMemory};
-ghost use Rattle.dtype_types.specs.Nullable.{nullability, CanBeNonNullable, SetNull};
+ghost use Rattle.dtype_types.specs.Nullable.{nullability, CanBeNonNullable, SetNull, IsNullable};
 ghost use Rattle.dtype_types.specs.TreeOf.{tree};
 
 use crate::DType;
@@ -40,7 +40,7 @@ impl DType {
 
     /// Whether values may be null.
     pub fn is_nullable(&self) -> bool
-        ensures { IsTrue result ↔ (nullability (tree self.now) ≡ Nullability.Nullable) }
+        ensures { IsTrue result ↔ IsNullable (tree self.now) }
     {
         self.nullability().is_nullable()
     }

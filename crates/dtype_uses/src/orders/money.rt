@@ -2,8 +2,8 @@
 // SPDX-FileCopyrightText: Copyright the Vortex contributors
 
 //! An extension type of one's own: amounts of money.
-ghost use Rattle.std.specs.Prelude.{◌≡◌, IfErr, IfOk, None, Some};
-ghost use Rattle.vortex_dtype.specs.Refusals.{RefusedWhere};
+ghost use Rattle.std.specs.Prelude.{◌≡◌, ◌⊎◌, IfErr, IfOk, None, Some};
+ghost use Rattle.vortex_dtype.specs.Types.VortexError.TheVariants.{MetadataRefused, OutOfMemory};
 ghost use Rattle.dtype_uses.specs.Money.{currency};
 
 use std::alloc::Global;
@@ -62,7 +62,8 @@ impl ExtVTable for Money {
 // The bytes, where they are three.
 fn three_bytes(alloc: Global, bytes: &[u8]) -> VortexResult<Vec<u8>>
     ensures ok { IfOk result (λ v. currency bytes.now ≡ Some v.items) }
-    ensures refused { IfErr result (RefusedWhere (currency bytes.now ≡ None)) }
+    ensures refused { IfErr result (λ e. (e ≡ OutOfMemory)
+        ⊎ ((e ≡ MetadataRefused) × (currency bytes.now ≡ None))) }
 {
     if bytes.len() != 3 {
         return Err(VortexError::MetadataRefused);

@@ -36,7 +36,7 @@ use Rattle.dtype_messages.specs.Message.{Message, Child, Messages, missing, null
 use Rattle.vortex_dtype.specs.Meaning.{Meaning, Admits, keeps, refusal}
 use Rattle.dtype_messages.specs.PTypeNumbers.{ptype_at}
 use Rattle.vortex_dtype.specs.Numbers.{integer_byte, signed_byte, natural_byte}
-use Rattle.vortex_dtype.specs.Reads.{Reads, ReadsAsNone, ReadsChild, ReadsFields, ReadsVariants, Fault, ChildFault, SomeFault, SomeTagFault, UnionFault, DecimalFault, decimal_with, number, count}
+use Rattle.vortex_dtype.specs.Reads.{Reads, ReadsChild, ReadsFields, ReadsVariants, Fault, ChildFault, SomeFault, SomeTagFault, UnionFault, DecimalFault, decimal_with, number, count}
 use Rattle.vortex_dtype.specs.ReadInOrder.{Gives, read, read_child, read_all, read_tags, primitive_read, decimal_made, decimal_read, map_read, when_required, struct_read, union_made, union_read, extension_read, repeats, ◌>>=◌, or_fault, or_empty}
 use Rattle.vortex_dtype.specs.lemmas.Decimals.{made_ok, made_err, fits_byte, fits_small, no_byte, no_small}
 use Rattle.vortex_dtype.specs.lemmas.Unions.{apart, has_names, tags_up, union_refused}
@@ -387,7 +387,7 @@ reads_or_faulty s m = go (read s m) refl
 -- ---- between reading in order and what reads
 
 -- what is told is a fault of a message that reads as no type
-pub refused_faulty : (s : Meaning) (m : Message) (e : VortexError) → read s m ≡ Err e → Fault s m e × ReadsAsNone s m
+pub refused_faulty : (s : Meaning) (m : Message) (e : VortexError) → read s m ≡ Err e → Fault s m e × ((t : Tree) → ¬ (Reads s m t))
 refused_faulty s m e is = let f = read_fault s m e is in (f, λ t h. fault_none s m e t f h)
 
 -- a message gives the type that it reads as
@@ -399,7 +399,7 @@ reads_read s m t h = go (read s m) refl
     go (Err e) is = absurd (fault_none s m e t (read_fault s m e is) h)
 
 -- a message that reads as no type gives a refusal, and so does one in which a fault stands
-pub unread_refused : (s : Meaning) (m : Message) → ReadsAsNone s m → IsErr (read s m)
+pub unread_refused : (s : Meaning) (m : Message) → ((t : Tree) → ¬ (Reads s m t)) → IsErr (read s m)
 unread_refused s m none = go (read s m) refl
   where
     go : (r : Result Tree VortexError) → read s m ≡ r → IsErr r

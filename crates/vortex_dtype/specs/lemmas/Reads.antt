@@ -13,7 +13,7 @@ use Rattle.std.proofs.lemmas.List.{length-map}
 use Rattle.std.proofs.lemmas.Option.{cond_some, none-some, same_Some}
 use Rattle.std.proofs.lemmas.Slice.Eq.{bytes_eq-Decides}
 use Rattle.std.proofs.lemmas.Map.Made.{IsDistinct-from_AllPairs, AllPairs-from_IsDistinct}
-use Rattle.dtype_base.specs.Primitives as base
+use Rattle.dtype_base.specs.Primitives.{ptype_row}
 use Rattle.dtype_base.specs.Nullability.{nullability_of}
 use Rattle.dtype_base.specs.declared.nullability.Nullability.{Nullability}
 use Rattle.dtype_base.specs.declared.nullability.Nullability.TheVariants.{NonNullable, Nullable}
@@ -40,7 +40,7 @@ use Rattle.vortex_dtype.specs.lemmas.Sessions.{keeps-again}
 use Rattle.vortex_dtype.specs.lemmas.Decimals.{fault_invalid}
 use Rattle.vortex_dtype.specs.lemmas.Unions.{makes_unrefused, pos_is, tags_down}
 
-pub ptype_at-number : (p : PType) → ptype_at (pos ((base.primitive p).number)) ≡ Some p
+pub ptype_at-number : (p : PType) → ptype_at (pos ((ptype_row p).number)) ≡ Some p
 ptype_at-number U8 = refl
 ptype_at-number U16 = refl
 ptype_at-number U32 = refl
@@ -219,15 +219,15 @@ Sound s t = Valid t × Admits s t
 abbrev SoundFields : Meaning → Fields → Type 0
 SoundFields s fs = ValidFields fs × AdmitsFields s fs
 
-named : (n k : ℕ) (q p : PType) (x : Option PType) → k ≡ (base.primitive q).number → (x ≡ Some p → n ≡ (base.primitive p).number) → cond (n == k) (Some q) x ≡ Some p → n ≡ (base.primitive p).number
+named : (n k : ℕ) (q p : PType) (x : Option PType) → k ≡ (ptype_row q).number → (x ≡ Some p → n ≡ (ptype_row p).number) → cond (n == k) (Some q) x ≡ Some p → n ≡ (ptype_row p).number
 named n k q p x is other = go (n == k) (Decides-eqb n k).0
   where
-    go : (b : Bool) → (b ≡ true → n ≡ k) → cond b (Some q) x ≡ Some p → n ≡ (base.primitive p).number
-    go true h e = h refl ∙ is ∙ ap (λ x. (base.primitive x).number) (same_Some q p e)
+    go : (b : Bool) → (b ≡ true → n ≡ k) → cond b (Some q) x ≡ Some p → n ≡ (ptype_row p).number
+    go true h e = h refl ∙ is ∙ ap (λ x. (ptype_row x).number) (same_Some q p e)
     go false h e = other e
 
 -- a number is that of the type that it names
-number-chain : (n : ℕ) (p : PType) → ptype_from n ≡ Some p → n ≡ (base.primitive p).number
+number-chain : (n : ℕ) (p : PType) → ptype_from n ≡ Some p → n ≡ (ptype_row p).number
 number-chain n p = named n 0 U8 p _ refl (named n 1 U16 p _ refl (named n 2 U32 p _ refl (named n 3 U64 p _ refl (named n 4 I8 p _ refl (named n 5 I16 p _ refl (named n 6 I32 p _ refl (named n 7 I64 p _ refl (named n 8 F16 p _ refl (named n 9 F32 p _ refl (named n 10 F64 p _ refl (λ e. absurd (none-some p e))))))))))))
 
 pub number-ptype_at : (k : ℤ) (p : PType) → ptype_at k ≡ Some p → k ≡ number p
@@ -240,7 +240,7 @@ mutual
   reads_normal s missing t h = h
   reads_normal s null t h = ap written h
   reads_normal s (bool f) t h = ap written h ∙ ap bool (is_nullable-of f)
-  reads_normal s (primitive p f) t h = ap written h.2 ∙ ap (λ b. primitive (pos ((base.primitive h.0).number)) b) (is_nullable-of f) ∙ ap (λ q. primitive q f) (sym h.1)
+  reads_normal s (primitive p f) t h = ap written h.2 ∙ ap (λ b. primitive (pos ((ptype_row h.0).number)) b) (is_nullable-of f) ∙ ap (λ q. primitive q f) (sym h.1)
   reads_normal s (decimal p k f) t h = ap written h.1 ∙ ap (λ b. decimal p k b) (is_nullable-of f)
   reads_normal s (utf8 f) t h = ap written h ∙ ap utf8 (is_nullable-of f)
   reads_normal s (binary f) t h = ap written h ∙ ap binary (is_nullable-of f)

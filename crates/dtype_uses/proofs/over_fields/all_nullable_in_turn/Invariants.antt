@@ -1,13 +1,13 @@
 -- SPDX-License-Identifier: Apache-2.0
 -- SPDX-FileCopyrightText: Copyright the Vortex contributors
 
-use Rattle.std.proofs.Common.{◌↔◌}
+use Rattle.std.proofs.Common.{◌↔◌, map}
 use Rattle.std.specs.List.{AllByRecursion}
 use Rattle.dtype_types.specs.Lookups.{field_types}
 use Rattle.dtype_types.specs.Nullable.{IsNullable}
-use Rattle.dtype_types.specs.TreeOf.{children, trees}
+use Rattle.dtype_types.specs.TreeOf.{children, tree}
 use Rattle.dtype_uses.proofs.over_fields.all_nullable_in_turn.Given as goal
 
 -- it holds of all where it holds of those that are left
 abbrev pub invariant-loop-dtype : goal.invariant-loop-dtype
-invariant-loop-dtype l = AllByRecursion IsNullable (trees l.dtype-iterator) ↔ AllByRecursion IsNullable (field_types (children l.table))
+invariant-loop-dtype l = AllByRecursion IsNullable (map tree l.dtype-iterator) ↔ AllByRecursion IsNullable (field_types (children l.table))

@@ -1,7 +1,7 @@
 -- SPDX-License-Identifier: Apache-2.0
 -- SPDX-FileCopyrightText: Copyright the Vortex contributors
 
-use Rattle.std.proofs.Common.{sym, ap, subst, ◌∙◌}
+use Rattle.std.proofs.Common.{inr, refl, sym, ap, subst, ◌∙◌}
 use Rattle.std.proofs.lemmas.Bool.{false≢true}
 use Rattle.dtype_types.specs.Distinct.{Distinct}
 use Rattle.dtype_types.specs.Lists.{firsts}
@@ -15,10 +15,13 @@ use Rattle.dtype_types.proofs.PutTogether.{both_put}
 use Rattle.dtype_types.proofs.struct_fields.StructFields.disjoint_merge.Goals as goal
 
 pub returns-then-not-are_distinct-clause-fields : goal.returns-then-not-are_distinct-clause-fields
-returns-then-not-are_distinct-clause-fields c = λ d.
-    let made = c.in_ok-merged.ensures ∙ both_put (children c.args.self.now) (children c.args.other.now) _ _ _ c.in_ok-fields.ensures c.in_ok-fields-2.ensures c.in_ok-push_copies.ensures in
-    let names = ap field_names (sym made) ∙ names_shown (struct_pairs c.in_ok-merged.merged) ∙ ap firsts (sym c.deref.ensures) in
-    false≢true (c.if-not-are_distinct.ensures.1 (subst (λ ns. Distinct ns) names d))
+returns-then-not-are_distinct-clause-fields c = inr (
+  refl,
+  λ d.
+      let made = c.in_ok-merged.ensures ∙ both_put (children c.args.self.now) (children c.args.other.now) _ _ _ c.in_ok-fields.ensures c.in_ok-fields-2.ensures c.in_ok-push_copies.ensures in
+      let names = ap field_names (sym made) ∙ names_shown (struct_pairs c.in_ok-merged.merged) ∙ ap firsts (sym c.deref.ensures) in
+      false≢true (c.if-not-are_distinct.ensures.1 (subst (λ ns. Distinct ns) names d)),
+)
 
 pub returns-clause-distinct : goal.returns-clause-distinct
 returns-clause-distinct c = λ yes.

@@ -1,7 +1,7 @@
 -- SPDX-License-Identifier: Apache-2.0
 -- SPDX-FileCopyrightText: Copyright the Vortex contributors
 
-use Rattle.std.proofs.Common.{◌≡◌, None, sym, subst, arith}
+use Rattle.std.proofs.Common.{◌≡◌, None, inr, sym, subst, arith}
 use Rattle.std.proofs.lemmas.List.{take_all}
 use Rattle.std.proofs.lemmas.Result.{MatchResult-weaker}
 use Rattle.dtype_base.specs.FieldNames.{FirstAt}
@@ -27,7 +27,7 @@ returns-in-None-clause-fields c =
     let fs = children c.args.self.now in
     let n = c.index-projection-position.result in
     let unknown = subst (λ m. None ≡ first_named fs m) c.as_str.ensures (no_field_at_place fs _ c.in-None.ensures) in
-    first_unknown fs c.args.projection.now (fields_so_far c.loop-position.fields) c.loop-position.position n (omega arith) c.index-projection-position.is c.loop-position.invariant (sym unknown)
+    inr (first_unknown fs c.args.projection.now (fields_so_far c.loop-position.fields) c.loop-position.position n (omega arith) c.index-projection-position.is c.loop-position.invariant (sym unknown))
 
 pub loop-position-preserved : goal.loop-position-preserved
 loop-position-preserved c =

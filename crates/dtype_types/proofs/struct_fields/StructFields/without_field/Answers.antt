@@ -3,12 +3,12 @@
 
 use Rattle.std.proofs.Common.{rules, ℕ, List, arith, ap, sym, ◌∙◌, ◌++◌, ◌∷◌, [], refl, length-append}
 use Rattle.std.specs.Iterator.Adapters.{enumerate_source}
-use Rattle.std.specs.Prelude.{remove, IfErr}
+use Rattle.std.specs.Prelude.{◌≡◌, remove, length, nat_lt, IfErr, MatchBool}
 use Rattle.std.proofs.lemmas.Result.{MatchResult-weaker, MatchResult-from_both}
+use Rattle.dtype_base.specs.declared.vortex_error.VortexError.TheVariants.{OutOfMemory, IndexOutOfBounds}
 use Rattle.dtype_types.specs.Lists.{lent_pair}
 use Rattle.dtype_types.specs.Tree.{Tree}
 use Rattle.dtype_types.specs.TreeOf.{tree, children, with_trees}
-use Rattle.dtype_types.specs.Lookups.{RemovalRefusal}
 use Rattle.dtype_types.specs.Building.{fields_so_far}
 use Rattle.dtype_types.proofs.Walks.{next_numbered, none_numbered, moves_over, all_moved}
 use Rattle.dtype_types.proofs.PutTogether.{push_remove, push_removed}
@@ -19,7 +19,7 @@ returns-clause-fields c =
     let inv = c.loop-i.invariant in
     let none = none_numbered lent_pair c.loop-i.i-iterator c.next.new.self c.next.result c.in-None.is c.next.ensures.steps in
     let all = all_moved inv.done _ (children c.args.self.now) inv.left (ap with_trees none) in
-    let refused : IfErr c.finish.result (RemovalRefusal (children c.args.self.now) c.args.index) = search rules in
+    let refused : IfErr c.finish.result (λ e. MatchBool (nat_lt c.args.index (length (children c.args.self.now))) (e ≡ OutOfMemory) (e ≡ IndexOutOfBounds c.args.index (length (children c.args.self.now)))) = search rules in
     MatchResult-from_both c.finish.result _ _ (MatchResult-weaker c.finish.result c.finish.ensures (λ s e. e ∙ inv.kept ∙ ap (λ xs. remove xs c.args.index) all) (λ _ _. tt)) refused
 
 pub loop-i-preserved-then-i-index : goal.loop-i-preserved-then-i-index

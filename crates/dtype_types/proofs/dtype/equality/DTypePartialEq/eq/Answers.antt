@@ -6,7 +6,7 @@ use Rattle.dtype_types.specs.EqualityLaws.{agree-Decides}
 use Rattle.dtype_types.specs.TreeOf.{tree}
 use Rattle.dtype_types.proofs.dtype.equality.DTypePartialEq.eq.Goals as goal
 
-pub returns-clause-exact : goal.returns-clause-exact
-returns-clause-exact c =
+pub returns : goal.returns
+returns c =
     let d = agree-Decides (tree c.args.self.now) (tree c.args.other.now) in
     (λ e. d.0 (sym c.agree.ensures ∙ e), λ e. c.agree.ensures ∙ d.1 e)

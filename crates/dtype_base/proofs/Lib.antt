@@ -6,3 +6,4 @@ pub mod EscapedChars
 pub mod BitWidths
 pub mod NameSearch
 pub mod KeyOrder
+pub mod Halves

@@ -2,7 +2,8 @@
 // SPDX-FileCopyrightText: Copyright the Vortex contributors
 
 // The positions of names in the order of their bytes, with the keys of the names.
-ghost use Rattle.std.specs.Prelude.{◌≡◌, ◌≢◌, ◌↔◌, All, AllPairs, IsTrue, IfOk, IsOkUnless, OnOk, MatchResult};
+ghost use Rattle.std.specs.Prelude.{◌≡◌, ◌≢◌, ◌↔◌, All, AllPairs, IsTrue, IfOk, IsOkUnless, OnOk, MatchResult, length, map};
+ghost use Rattle.std.specs.List.{range_with_len};
 ghost use Rattle.std.specs.List.Sorted.{IsPermutation, IsSorted};
 ghost use Rattle.dtype_base.specs.NameKeys.{BeginAlike};
 ghost use Rattle.dtype_base.specs.NameOrder.{IsKeyed, IsOrderOf, KeysRise, place_cmp, position_cmp, positions};
@@ -19,6 +20,22 @@ pub(crate) struct Place {
     pub(crate) key: u128,
     pub(crate) position: usize,
 }
+
+// The first half of a place's key, and where the place stands among others.
+#[derive(Clone, Copy)]
+struct Half {
+    key: u64,
+    place: usize,
+}
+
+// So many places are sorted where they stand, without taking memory.
+const FEW: usize = 20;
+
+// How long the runs of a list have to be for the stable sort to be the faster.
+const LONG: usize = 64;
+
+// What the first half of a key is worth, in units of its second.
+const HALF: u128 = 0x1_0000_0000_0000_0000;
 
 // Every position of the names, sorted by the bytes of the name there and then by itself, and whether no two
 // have one key. The names begin alike with so many bytes, behind which their keys are.
@@ -38,20 +55,99 @@ pub(crate) fn places_of(
         let key = key_of(names[position].as_str().as_bytes(), shared);
         places.push(Place { key, position })?;
     }
-    let keys_tell = sort_places(names, &mut places)?;
+    let keys_tell = sort_places(alloc, names, &mut places)?;
     Ok((places, keys_tell))
 }
 
 // By the keys alone, and only where two places have one key by the texts too: numbers are compared without a jump
-// that a processor could guess wrong. Tells whether no two have one key. By std's stable sort, which takes memory,
-// but finds what is in order already, as numbered names mostly are.
-fn sort_places(names: &[FieldName], places: &mut Vec<Place>) -> VortexResult<bool>
+// that a processor could guess wrong. Tells whether no two have one key.
+fn sort_places(alloc: Global, names: &[FieldName], places: &mut Vec<Place>) -> VortexResult<bool>
     ensures each { IsPermutation places.old.items places.new.items }
     ensures rising { OnOk result (IsSorted (place_cmp names.now) places.new.items) }
     ensures rise { MatchResult result
         (λ keys_tell. IsTrue keys_tell → KeysRise places.new.items) (λ e. e ≡ OutOfMemory) }
 {
-    places.sort_by_key(|place| place.key)?;
+    sort_by_keys(alloc, places)?;
+    if have_own_keys(places) {
+        return Ok(true);
+    }
+    sort_ties(names, places)
+}
+
+// By the keys, or where these mostly don't rise by the first halves of them, which tell most places apart.
+fn sort_by_keys(alloc: Global, places: &mut Vec<Place>) -> VortexResult<()>
+    ensures each { IsPermutation places.old.items places.new.items }
+    ensures refused { IsOkUnless result OutOfMemory }
+{
+    if mostly_rise(places) {
+        places.sort_by_key(|place| place.key)?;
+    } else {
+        *places = by_halves(alloc, places)?;
+    }
+    Ok(())
+}
+
+// Whether std's stable sort is the faster: it finds the runs in which keys rise, of which numbered names mostly
+// consist, and sorts a few places without memory.
+fn mostly_rise(places: &[Place]) -> bool {
+    if places.len() <= FEW {
+        return true;
+    }
+    let most = places.len() / LONG;
+    let mut falls = 0;
+    for next in 1..places.len() {
+        if places[next].key < places[next - 1].key {
+            falls += 1;
+        }
+        if falls > most {
+            return false;
+        }
+    }
+    true
+}
+
+// The places by the first halves of their keys. What is sorted are the halves, which take half of a place's room.
+fn by_halves(alloc: Global, places: &[Place]) -> VortexResult<Vec<Place>>
+    ensures { MatchResult result (λ sorted. IsPermutation places.now sorted.items) (λ e. e ≡ OutOfMemory) }
+{
+    let mut halves = halves_of(alloc, places)?;
+    halves.sort_unstable_by_key(|half| half.key);
+    taken(alloc, places, &halves)
+}
+
+fn halves_of(alloc: Global, places: &[Place]) -> VortexResult<Vec<Half>>
+    ensures { MatchResult result
+        (λ halves. map (λ h. h.place) halves.items ≡ range_with_len 0 (length places.now))
+        (λ e. e ≡ OutOfMemory) }
+{
+    let mut halves = Vec::with_capacity(alloc, places.len())?;
+    for place in 0..places.len() {
+        let key = (places[place].key / HALF) as u64;
+        halves.push(Half { key, place })?;
+    }
+    Ok(halves)
+}
+
+// The places in the order of their halves.
+fn taken(alloc: Global, places: &[Place], halves: &[Half]) -> VortexResult<Vec<Place>>
+    requires { IsPermutation (range_with_len 0 (length places.now)) (map (λ h. h.place) halves.now) }
+    ensures { MatchResult result (λ taken. IsPermutation places.now taken.items) (λ e. e ≡ OutOfMemory) }
+{
+    let mut taken = Vec::with_capacity(alloc, halves.len())?;
+    for half in halves {
+        taken.push(places[half.place])?;
+    }
+    Ok(taken)
+}
+
+// Sorts places of which some may have the same key, or the same first half of it.
+fn sort_ties(names: &[FieldName], places: &mut Vec<Place>) -> VortexResult<bool>
+    ensures each { IsPermutation places.old.items places.new.items }
+    ensures rising { OnOk result (IsSorted (place_cmp names.now) places.new.items) }
+    ensures rise { MatchResult result
+        (λ keys_tell. IsTrue keys_tell → KeysRise places.new.items) (λ e. e ≡ OutOfMemory) }
+{
+    places.sort_unstable_by_key(|place| place.key);
     let keys_tell = have_own_keys(places);
     if !keys_tell {
         sort_by_texts(names, places)?;

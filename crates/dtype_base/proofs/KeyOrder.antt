@@ -106,7 +106,7 @@ module _ (names : List (List ℕ)) (shared : ℕ) (alike : BeginAlike names shar
       ∙ ap (λ o. bytes_cmp o (Some n)) (sym (slice_get-get_or names p.position [] h.within))
 
   -- a name that stands somewhere begins as all do
-  begins_so : (n : List ℕ) → Stands names n → take shared (get_or names 0 []) ≡ take shared n
+  pub begins_so : (n : List ℕ) → Stands names n → take shared (get_or names 0 []) ≡ take shared n
   begins_so n t = sym (alike t.0 [] (slice_get_within names t.0 n t.1)) ∙ ap (take shared) (get_or_from_slice_get names t.0 n [] t.1)
 
   -- how a place compares to a name that stands somewhere, where the texts are asked for

@@ -7,3 +7,4 @@ pub mod BitWidths
 pub mod NameSearch
 pub mod KeyOrder
 pub mod Halves
+pub mod Selections

@@ -2,10 +2,12 @@
 -- SPDX-FileCopyrightText: Copyright the Vortex contributors
 
 -- Lists of names, a name being the bytes of its text. From the documentation of `FieldNames`.
-use Rattle.std.specs.Prelude.{◌≡◌, ◌≢◌, ℕ, ◌<◌, List, ◌++◌, Option, Some, slice_get, codes}
+use Rattle.std.specs.Prelude.{◌≡◌, ◌≢◌, ℕ, ◌<◌, List, ◌++◌, Option, Some, None, slice_get, codes}
 use Rattle.std.specs.List.{join_by, position}
 use Rattle.std.specs.Str.{bytes_eq}
 use Rattle.dtype_base.specs.Escapes.{escaped}
+use Rattle.dtype_base.specs.declared.vortex_error.VortexError.{VortexError}
+use Rattle.dtype_base.specs.declared.vortex_error.VortexError.TheVariants.{FieldNotFound}
 
 -- position i has the name n, and no position before it has
 pub record FirstAt (names : List (List ℕ)) (n : List ℕ) (i : ℕ) : Type 0 where
@@ -19,6 +21,16 @@ IsAbsent names n = (k : ℕ) → slice_get names k ≢ Some n
 -- the first position of the name n, if one has it
 abbrev pub first_place : List (List ℕ) → List ℕ → Option ℕ
 first_place names n = position (λ m. bytes_eq m n) names
+
+-- at this position of those asked stands the first name that is absent
+pub record IsFirstAbsent (names asked : List (List ℕ)) (position : ℕ) : Type 0 where
+  pub absent : (n : List ℕ) × (slice_get asked position ≡ Some n) × (first_place names n ≡ None)
+  pub there : (k : ℕ) (n : List ℕ) → k < position → slice_get asked k ≡ Some n → first_place names n ≢ None
+
+-- what a selection of names refuses: the first that is absent
+abbrev pub SelectionRefusal : List (List ℕ) → List (List ℕ) → VortexError → Type 0
+SelectionRefusal names asked (FieldNotFound position) = IsFirstAbsent names asked position
+SelectionRefusal names asked _ = ⊥
 
 -- a name in double quotes
 abbrev pub quoted : List ℕ → List ℕ

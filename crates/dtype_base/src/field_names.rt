@@ -147,12 +147,19 @@ impl FieldNames {
     pub fn try_clone(&self, alloc: Global) -> VortexResult<Self>
         ensures { MatchResult result (λ n. n ≡ self.now) (λ e. e ≡ OutOfMemory) }
     {
-        let mut items = Vec::with_capacity(alloc, self.items.len())?;
-        for name in self.items.as_slice() {
-            items.push(name.try_clone(alloc)?)?;
-        }
-        Ok(FieldNames { items })
+        copied(alloc, self.items.as_slice())
     }
+}
+
+// A list of these names, which share their texts.
+pub(crate) fn copied(alloc: Global, names: &[FieldName]) -> VortexResult<FieldNames>
+    ensures { MatchResult result (λ n. n ≡ names.now) (λ e. e ≡ OutOfMemory) }
+{
+    let mut items = Vec::with_capacity(alloc, names.len())?;
+    for name in names {
+        items.push(name.try_clone(alloc)?)?;
+    }
+    Ok(FieldNames { items })
 }
 
 impl PartialEq for FieldNames {

@@ -61,7 +61,11 @@ pub(crate) fn places_of(
 
 // By the keys alone, and only where two places have one key by the texts too: numbers are compared without a jump
 // that a processor could guess wrong. Tells whether no two have one key.
-fn sort_places(alloc: Global, names: &[FieldName], places: &mut Vec<Place>) -> VortexResult<bool>
+pub(crate) fn sort_places(
+    alloc: Global,
+    names: &[FieldName],
+    places: &mut Vec<Place>,
+) -> VortexResult<bool>
     ensures each { IsPermutation places.old.items places.new.items }
     ensures rising { OnOk result (IsSorted (place_cmp names.now) places.new.items) }
     ensures rise { MatchResult result

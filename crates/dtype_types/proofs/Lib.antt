@@ -18,7 +18,7 @@ pub mod Feeding
 pub mod UnionLaws
 pub mod Widths
 pub mod Projected
-pub mod Projections
+pub mod Selected
 pub mod IndentedTexts
 pub mod SubTest
 pub mod TellLaws

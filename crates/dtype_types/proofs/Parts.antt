@@ -2,13 +2,12 @@
 -- SPDX-FileCopyrightText: Copyright the Vortex contributors
 
 -- The fields of a struct and the variants of a union with their trees, by what the two hold.
-use Rattle.std.proofs.Common.{◌≡◌, ℕ, zero, suc, ◌<◌, List, [], ◌∷◌, map, length, get_or, refl, ap, sym, ◌∙◌, arith}
+use Rattle.std.proofs.Common.{◌≡◌, ℕ, List, [], ◌∷◌, map, length, refl, ap, sym, ◌∙◌}
 use Rattle.std.specs.List.{zip}
 use Rattle.std.proofs.lemmas.List.{length-map}
 use Rattle.std.proofs.lemmas.Simd.{map-map}
 use Rattle.dtype_types.specs.Lists.{firsts, seconds, zip_three, names_of, types_of, tags_of}
 use Rattle.dtype_types.specs.Lookups.{field_names, field_types, variant_names, variant_types, variant_tags}
-use Rattle.dtype_types.specs.Tree.{Tree}
 use Rattle.dtype_types.specs.TreeOf.{tree, with_trees, with_tagged_trees, zip_tagged}
 use Rattle.dtype_types.specs.declared.dtype.DType.{DType}
 
@@ -47,11 +46,3 @@ trees_three (n ∷ ns) (d ∷ ds) [] = refl
 trees_three (n ∷ ns) (d ∷ ds) (g ∷ gs) = ap (λ ps. (n, tree d, g) ∷ ps) (trees_three ns ds gs)
 
 pub ruleset variants = (variant_names_shown, variant_types_shown, variant_tags_shown, variants_shown, trees_three)
-
--- ---- the field at a place
-
-pub field_read : (ps : List (List ℕ × DType)) (i : ℕ) (n : List ℕ) (d : DType) → i < length ps → n ≡ get_or (firsts ps) i n → d ≡ get_or (seconds ps) i d
-    → (let p : List ℕ × Tree = (n, tree d) in p ≡ get_or (with_trees ps) i p)
-field_read [] i n d h e f = absurd (omega arith)
-field_read (q ∷ ps) zero n d h e f = ap (λ m. (m, tree d)) e ∙ ap (λ c. (q.0, tree c)) f
-field_read (q ∷ ps) (suc i) n d h e f = field_read ps i n d (omega arith) e f

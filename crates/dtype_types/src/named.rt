@@ -1,14 +1,16 @@
 // SPDX-License-Identifier: Apache-2.0
 // SPDX-FileCopyrightText: Copyright the Vortex contributors
 
-ghost use Rattle.std.specs.Prelude.{◌≡◌, ◌↔◌, length, IsTrue};
+ghost use Rattle.std.specs.Prelude.{◌≡◌, ◌⊎◌, ◌↔◌, length, map, IsTrue, Some, MatchResult};
 ghost use Rattle.std.specs.List.{zip};
-ghost use Rattle.dtype_base.specs.FieldNames.{first_place};
+ghost use Rattle.dtype_base.specs.FieldNames.{SelectionRefusal, first_place};
 ghost use Rattle.dtype_base.specs.NameOrder.{comparisons};
+ghost use Rattle.dtype_base.specs.declared.vortex_error.VortexError.TheVariants.{OutOfMemory};
 ghost use Rattle.dtype_types.specs.Distinct.{Distinct};
 ghost use Rattle.dtype_types.specs.Lists.{firsts, seconds};
 
-use dtype_base::{FieldNames, IndexedNames};
+use dtype_base::{FieldName, FieldNames, IndexedNames, VortexResult};
+use std::alloc::Global;
 use std::marker::Model;
 
 // Names and what they name, seen as pairs, so that a struct of types, which holds itself, has as many
@@ -69,6 +71,19 @@ impl<T> Named<T> {
         ensures { result ≡ (first_place (firsts self.now) name.now, comparisons (length self.now)) }
     {
         self.names.find_counted(name)
+    }
+
+    // These names with their index, each of which stands here, and the first position of each here.
+    pub(crate) fn select(
+        &self,
+        alloc: Global,
+        asked: &[FieldName],
+    ) -> VortexResult<(IndexedNames, Vec<usize>)>
+        ensures { MatchResult result
+            (λ s. (s.0 ≡ asked.now) × (map Some s.1.items ≡ map (first_place (firsts self.now)) asked.now))
+            (λ e. (e ≡ OutOfMemory) ⊎ SelectionRefusal (firsts self.now) asked.now e) }
+    {
+        self.names.select(alloc, asked)
     }
 
     // Whether no name stands twice.

@@ -5,7 +5,7 @@ ghost use Rattle.std.specs.Prelude.{◌≡◌, ◌⊎◌, ◌↔◌, IsTrue, ◌
 ghost use Rattle.std.specs.Iterator.{IsFinite};
 ghost use Rattle.std.specs.List.{AllByRecursion, zip};
 ghost use Rattle.std.specs.Option.{option_copied};
-ghost use Rattle.dtype_base.specs.FieldNames.{first_place};
+ghost use Rattle.dtype_base.specs.FieldNames.{SelectionRefusal, first_place};
 ghost use Rattle.dtype_base.specs.NameOrder.{comparisons};
 ghost use Rattle.dtype_base.specs.declared.vortex_error.VortexError.TheVariants.{DuplicateNames, IndexOutOfBounds, OutOfMemory};
 
@@ -41,7 +41,7 @@ impl StructFields {
     ghost use Rattle.dtype_types.specs.Erase.{erase};
     ghost use Rattle.dtype_types.specs.FieldTypes.{field_tree, MadeFrom};
     ghost use Rattle.dtype_types.specs.IndentedText.{indented_text, indented_braces};
-    ghost use Rattle.dtype_types.specs.Lookups.{first_named, field_names, field_types, Projects, ProjectionRefusal};
+    ghost use Rattle.dtype_types.specs.Lookups.{first_named, field_names, field_types, Projects};
     ghost use Rattle.dtype_types.specs.Distinct.{Distinct};
     ghost use Rattle.dtype_types.specs.Hashes.{part_of};
     ghost use Rattle.dtype_types.specs.HashesOf.{struct_writes};
@@ -252,21 +252,34 @@ impl StructFields {
     pub fn project(&self, alloc: Global, projection: &[FieldName]) -> VortexResult<Self>
         ensures fields { MatchResult result
             (λ s. Projects (children self.now) projection.now (children s))
-            (λ e. (e ≡ OutOfMemory) ⊎ ProjectionRefusal (children self.now) projection.now e) }
+            (λ e. (e ≡ OutOfMemory)
+            ⊎ SelectionRefusal (field_names (children self.now)) projection.now e) }
         ensures each { IfOk result (λ s. AllByRecursion
             (λ n. first_named (children s) n ≡ first_named (children self.now) n) projection.now) }
         ensures there { IsOk result → AllByRecursion
             (λ n. IsSome (first_named (children self.now) n)) projection.now }
         ensures valid { Valid (struct_tree self.now) → IfOk result (λ s. Valid (struct_tree s)) }
     {
-        let mut fields = FieldsBuilder::with_capacity(alloc, projection.len())?;
-        for (position, name) in projection.iter().enumerate() {
-            match self.find(name.as_str()) {
-                Some(i) => fields = self.push_copy(alloc, fields, i)?,
-                None => return Err(VortexError::FieldNotFound { position }),
-            }
+        let (names, firsts) = self.shared.select(alloc, projection)?;
+        let dtypes = self.copies_at(alloc, &firsts)?;
+        let shared = Rc::new(alloc, Named::new(names, dtypes))?;
+        Ok(StructFields { shared })
+    }
+
+    // Copies of the types at these positions, in their order.
+    fn copies_at(&self, alloc: Global, positions: &[usize]) -> VortexResult<Vec<DType>>
+        requires { All (λ i. i < length (struct_dtypes self.now)) positions.now }
+        ensures { MatchResult result
+            (λ copies. map Some (map tree copies.items)
+            ≡ map (slice_get (map tree (struct_dtypes self.now))) positions.now)
+            (λ e. e ≡ OutOfMemory) }
+    {
+        let dtypes = self.dtypes();
+        let mut copies = Vec::with_capacity(alloc, positions.len())?;
+        for position in positions {
+            copies.push(dtypes[*position].try_clone(alloc)?)?;
         }
-        fields.finish(alloc)
+        Ok(copies)
     }
 
     /// The fields of the one followed by those of the other. Refuses 18 (DuplicateNames) where a name
@@ -323,26 +336,6 @@ impl StructFields {
             }
         }
         kept.finish(alloc)
-    }
-
-    // Puts a copy of the field at this position behind those that are there.
-    #[inline(always)]
-    fn push_copy(
-        &self,
-        alloc: Global,
-        fields: FieldsBuilder,
-        index: usize,
-    ) -> VortexResult<FieldsBuilder>
-        requires { index < length (children self.now) }
-        ensures { MatchResult result
-            (λ b. (p : List ℕ × Tree)
-            × (p ≡ slice_index_or (children self.now) index p)
-            × (fields_so_far b ≡ fields_so_far fields ++ p ∷ []))
-            (λ e. e ≡ OutOfMemory) }
-    {
-        let name = self.names().as_slice()[index].try_clone(alloc)?;
-        let dtype = self.dtypes()[index].try_clone(alloc)?;
-        fields.push(name, dtype)
     }
 
     /// The fields over several lines, one a line, each two spaces deeper than the braces round it.

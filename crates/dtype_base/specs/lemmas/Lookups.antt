@@ -3,10 +3,11 @@
 
 -- What an answer of a lookup says: `lookups` names it in one line,
 --     #![tactic(auto, using(dtype_base::specs::lemmas::Lookups::lookups))]
-use Rattle.std.proofs.Common.{◌≡◌, ℕ, zero, suc, ◌<◌, ◌≤◌, ◌^◌, List, length, slice_get, Option, Some, None, IfSome, IfNone, Bool, true, false, cond, refl, ap, sym, ◌∙◌, inl, inr, arith}
+use Rattle.std.proofs.Common.{◌≡◌, ℕ, zero, suc, ◌<◌, ◌≤◌, ◌^◌, List, length, map, get_or, slice_get, Option, Some, None, IfSome, IfNone, Bool, true, false, cond, refl, ap, sym, ◌∙◌, inl, inr, arith}
 use Rattle.std.specs.List.{position_or_len}
 use Rattle.std.specs.Str.{bytes_eq}
 use Rattle.std.proofs.lemmas.Bool.{lt-ltb, false≢true, cases_lt}
+use Rattle.std.proofs.lemmas.List.{get_or-map, length-map}
 use Rattle.std.proofs.lemmas.List.Quantifiers.{position-Some}
 use Rattle.std.proofs.lemmas.List.Sums.{position_or_len_is, fails_before_first}
 use Rattle.std.proofs.lemmas.Option.{slice_get_within, get_or_from_slice_get, slice_get-get_or}
@@ -76,6 +77,14 @@ found_first names n (Some i) e = first_of_place names n i e
 pub none_absent : (names : List (List ℕ)) (n : List ℕ) (r : Option ℕ) → r ≡ first_place names n → IfNone r (IsAbsent names n)
 none_absent names n None e = absent_of_place names n e
 none_absent names n (Some i) e = tt
+
+-- ---- of many names
+
+-- each name that is selected stands at its first position
+pub selected_at : (names asked : List (List ℕ)) (firsts : List ℕ) → map Some firsts ≡ map (first_place names) asked → (k : ℕ) (d : List ℕ) → k < length asked → Some (get_or firsts k 0) ≡ first_place names (get_or asked k d)
+selected_at names asked firsts e k d within =
+    let as_many : length firsts ≡ length asked = sym (length-map firsts Some) ∙ ap length e ∙ length-map asked (first_place names) in
+    sym (get_or-map Some firsts k 0 None (omega (arith, within, as_many))) ∙ ap (λ os. get_or os k None) e ∙ get_or-map (first_place names) asked k d None within
 
 -- ---- how many names were compared
 

@@ -20,14 +20,14 @@ returns-then-is_empty-clause-none c = λ k e.
     let names = c.args.names.now in
     let places = c.args.places.now in
     let empty : length places ≡ 0 = eqb-true (length places) 0 (sym c.is_empty.ensures ∙ c.if-is_empty.true) in
-    omega (arith, slice_get_within names k c.args.name.now e, as_many names (positions places) c.requires.order, as_many_positions places, empty)
+    omega (arith, slice_get_within names k c.args.name.now e, as_many names (positions places) c.requires.index.order, as_many_positions places, empty)
 
 pub returns-then-is_empty-clause-count : goal.returns-then-is_empty-clause-count
 returns-then-is_empty-clause-count c =
     let names = c.args.names.now in
     let places = c.args.places.now in
     let empty : length places ≡ 0 = eqb-true (length places) 0 (sym c.is_empty.ensures ∙ c.if-is_empty.true) in
-    let none : 0 ≡ length names = omega (arith, as_many names (positions places) c.requires.order, as_many_positions places, empty) in
+    let none : 0 ≡ length names = omega (arith, as_many names (positions places) c.requires.index.order, as_many_positions places, empty) in
     ap comparisons none
 
 pub loop-size-init : goal.loop-size-init
@@ -36,7 +36,7 @@ loop-size-init c =
     let places = c.args.places.now in
     let order = positions places in
     let some : length places ≡ 0 → ⊥ = eqb-false (length places) 0 (sym c.is_empty.ensures ∙ c.if-is_empty.false) in
-    subst (λ size. Searching names order c.args.name.now 0 size 0) (as_many_positions places) (starts names order c.requires.order c.args.name.now (omega (arith, as_many_positions places, some)))
+    subst (λ size. Searching names order c.args.name.now 0 size 0) (as_many_positions places) (starts names order c.requires.index.order c.args.name.now (omega (arith, as_many_positions places, some)))
 
 pub compare-side-requires-clause-room : goal.compare-side-requires-clause-room
 compare-side-requires-clause-room c =
@@ -64,12 +64,11 @@ loop-size-preserved c =
     let size = c.loop-size.size in
     let m = low + size / 2 - 1 in
     let within : m < length places = omega (arith, inv.within, inv.some, c.loop-size-test.true, as_many_positions places) in
-    let text = c.as_bytes.ensures.value in
-    let bytes : Bytes n = subst Bytes text c.key_of-key.ensures.bytes in
-    let key : c.key_of-key.result ≡ name_key shared n = c.key_of-key.ensures.key ∙ ap (name_key shared) text in
+    let bytes = c.requires.bytes in
+    let key = c.requires.key in
     subst (λ count. Searching names order n (low + bit_and (size / 2) c.compare-side.result.below) (size - size / 2) count) (sym c.compare-side.ensures.counted)
-    (steps names order c.requires.order n low size c.loop-size.compared (size / 2) m c.compare-side.result.below _ inv c.loop-size-test.true refl refl (omega arith)
-    (below_told names shared c.requires.alike places c.requires.keyed c.requires.order n c.key_of-key.result m _ (not c.args.keys_tell) (λ e. c.requires.rise (tells c.args.keys_tell e)) bytes key within) c.compare-side.ensures.below)
+    (steps names order c.requires.index.order n low size c.loop-size.compared (size / 2) m c.compare-side.result.below _ inv c.loop-size-test.true refl refl (omega arith)
+    (below_told names shared c.requires.index.alike places c.requires.index.keyed c.requires.index.order n c.args.key m _ (not c.args.keys_tell) (λ e. c.requires.index.rise (tells c.args.keys_tell e)) bytes key within) c.compare-side.ensures.below)
 
 pub returns-clause-found : goal.returns-clause-found
 returns-clause-found c =
@@ -81,11 +80,10 @@ returns-clause-found c =
     let shared = c.args.shared in
     let low = c.loop-size.low in
     let within : low < length places = omega (arith, inv.within, inv.some, as_many_positions places) in
-    let text = c.as_bytes.ensures.value in
-    let bytes : Bytes n = subst Bytes text c.key_of-key.ensures.bytes in
-    let key : c.key_of-key.result ≡ name_key shared n = c.key_of-key.ensures.key ∙ ap (name_key shared) text in
-    let told = same_told names shared c.requires.alike places c.requires.keyed c.requires.order n c.key_of-key.result low _ c.compare-side-2.result.same bytes key within c.compare-side-2.ensures.same in
-    let last = ends names order c.requires.order n low c.loop-size.size c.loop-size.compared c.compare-side-2.result.same inv (omega (arith, c.loop-size-test.false)) told.0 told.1 in
+    let bytes = c.requires.bytes in
+    let key = c.requires.key in
+    let told = same_told names shared c.requires.index.alike places c.requires.index.keyed c.requires.index.order n c.args.key low _ c.compare-side-2.result.same bytes key within c.compare-side-2.ensures.same in
+    let last = ends names order c.requires.index.order n low c.loop-size.size c.loop-size.compared c.compare-side-2.result.same inv (omega (arith, c.loop-size-test.false)) told.0 told.1 in
     subst (λ r. IfSome r (FirstAt names n)) (ap (then_some c.compare-side-2.result.same) (position_at places low _ within) ∙ sym c.then_some.ensures) last.0
 
 pub returns-clause-none : goal.returns-clause-none
@@ -98,15 +96,14 @@ returns-clause-none c =
     let shared = c.args.shared in
     let low = c.loop-size.low in
     let within : low < length places = omega (arith, inv.within, inv.some, as_many_positions places) in
-    let text = c.as_bytes.ensures.value in
-    let bytes : Bytes n = subst Bytes text c.key_of-key.ensures.bytes in
-    let key : c.key_of-key.result ≡ name_key shared n = c.key_of-key.ensures.key ∙ ap (name_key shared) text in
-    let told = same_told names shared c.requires.alike places c.requires.keyed c.requires.order n c.key_of-key.result low _ c.compare-side-2.result.same bytes key within c.compare-side-2.ensures.same in
-    let last = ends names order c.requires.order n low c.loop-size.size c.loop-size.compared c.compare-side-2.result.same inv (omega (arith, c.loop-size-test.false)) told.0 told.1 in
+    let bytes = c.requires.bytes in
+    let key = c.requires.key in
+    let told = same_told names shared c.requires.index.alike places c.requires.index.keyed c.requires.index.order n c.args.key low _ c.compare-side-2.result.same bytes key within c.compare-side-2.ensures.same in
+    let last = ends names order c.requires.index.order n low c.loop-size.size c.loop-size.compared c.compare-side-2.result.same inv (omega (arith, c.loop-size-test.false)) told.0 told.1 in
     subst (λ r. IfNone r (IsAbsent names n)) (ap (then_some c.compare-side-2.result.same) (position_at places low _ within) ∙ sym c.then_some.ensures) last.1
 
 pub returns-clause-count : goal.returns-clause-count
 returns-clause-count c =
     let names = c.args.names.now in
     let order = positions c.args.places.now in
-    c.compare-side-2.ensures.counted ∙ counts names order c.requires.order c.args.name.now c.loop-size.low c.loop-size.size c.loop-size.compared c.loop-size.invariant (omega (arith, c.loop-size-test.false)) ∙ ap comparisons (as_many names order c.requires.order)
+    c.compare-side-2.ensures.counted ∙ counts names order c.requires.index.order c.args.name.now c.loop-size.low c.loop-size.size c.loop-size.compared c.loop-size.invariant (omega (arith, c.loop-size-test.false)) ∙ ap comparisons (as_many names order c.requires.index.order)

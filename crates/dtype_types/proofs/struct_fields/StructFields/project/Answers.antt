@@ -1,63 +1,60 @@
 -- SPDX-License-Identifier: Apache-2.0
 -- SPDX-FileCopyrightText: Copyright the Vortex contributors
 
-use Rattle.std.proofs.Common.{◌≡◌, None, inr, sym, subst, arith}
-use Rattle.std.proofs.lemmas.List.{take_all}
-use Rattle.std.proofs.lemmas.Result.{MatchResult-weaker}
-use Rattle.dtype_base.specs.FieldNames.{FirstAt}
-use Rattle.dtype_base.specs.lemmas.Lookups.{first_of_place}
-use Rattle.dtype_types.specs.lemmas.Lookups.{no_field_at_place}
-use Rattle.dtype_types.proofs.Projections.{field_at, found_within, projects_more, first_unknown}
-use Rattle.dtype_types.specs.Building.{fields_so_far}
+use Rattle.std.proofs.Common.{◌≡◌, ◌⊎◌, ◌<◌, length, ap, sym, subst, ◌∙◌}
+use Rattle.std.specs.List.{All}
+use Rattle.std.proofs.lemmas.Result.{err_from_is_err_and}
+use Rattle.dtype_base.specs.FieldNames.{SelectionRefusal}
+use Rattle.dtype_base.specs.declared.vortex_error.VortexError.TheVariants.{OutOfMemory}
+use Rattle.dtype_types.specs.Lookups.{field_names}
+use Rattle.dtype_types.specs.TreeOf.{children, struct_dtypes, struct_pairs, with_trees}
 use Rattle.dtype_types.specs.lemmas.Validity.{valid_projected}
-use Rattle.dtype_types.specs.Tree.{fields}
-use Rattle.dtype_types.specs.Valid.{ValidFields}
-use Rattle.dtype_types.specs.Lookups.{Projects, field_names, first_named}
-use Rattle.dtype_types.specs.TreeOf.{children}
 use Rattle.dtype_types.proofs.Projected.{projected_alike, projected_known}
+use Rattle.dtype_types.proofs.Selected.{as_many_copies, places_within, projects, refused_of}
 use Rattle.dtype_types.proofs.struct_fields.StructFields.project.Goals as goal
 
-pub push_copy-requires : goal.push_copy-requires
-push_copy-requires c =
+pub returns-in_err-names-clause-fields : goal.returns-in_err-names-clause-fields
+returns-in_err-names-clause-fields c =
     let s = c.args.self.now in
-    found_within (children s) _ c.in-Some.i (subst (λ m. FirstAt (field_names (children s)) m c.in-Some.i) c.as_str.ensures (first_of_place (field_names (children s)) _ c.in-Some.i c.in-Some.ensures))
+    let asked = c.args.projection.now in
+    let e = c.in_err-names.field-0.0 in
+    let told : (e ≡ OutOfMemory) ⊎ SelectionRefusal (field_names (children s)) asked e = refused_of (struct_pairs s) c.deref.result.now asked e c.deref.ensures c.in_err-names.ensures in
+    let p = err_from_is_err_and c.from_residual.result c.from_residual.ensures.1 in rw (p.1, p.2) told
 
-pub returns-in-None-clause-fields : goal.returns-in-None-clause-fields
-returns-in-None-clause-fields c =
-    let fs = children c.args.self.now in
-    let n = c.index-projection-position.result in
-    let unknown = subst (λ m. None ≡ first_named fs m) c.as_str.ensures (no_field_at_place fs _ c.in-None.ensures) in
-    inr (first_unknown fs c.args.projection.now (fields_so_far c.loop-position.fields) c.loop-position.position n (omega arith) c.index-projection-position.is c.loop-position.invariant (sym unknown))
+pub copies_at-requires : goal.copies_at-requires
+copies_at-requires c =
+    let s = c.args.self.now in
+    subst (All (λ i. i < length (struct_dtypes s))) (sym c.deref-2.ensures.value) (places_within (struct_pairs s) c.deref.result.now c.args.projection.now _ c.deref.ensures c.in_ok-names.ensures.1)
 
-pub loop-position-preserved : goal.loop-position-preserved
-loop-position-preserved c =
-    let fs = children c.args.self.now in
-    let n = c.index-projection-position.result in
-    let found = subst (λ m. FirstAt (field_names fs) m c.in-Some.i) c.as_str.ensures (first_of_place (field_names fs) _ c.in-Some.i c.in-Some.ensures) in
-    let copied = c.in_ok-fields-in-Some.ensures in
-    let here = field_at fs n c.in-Some.i copied.0 (found_within fs n c.in-Some.i found) copied.1 found in
-    subst (Projects fs _) (sym copied.2)
-    (projects_more fs c.args.projection.now (fields_so_far c.loop-position.fields) c.loop-position.position n copied.0 (omega arith) c.index-projection-position.is c.loop-position.invariant here.0 here.1)
+pub new-requires : goal.new-requires
+new-requires c =
+    let s = c.args.self.now in
+    as_many_copies (struct_pairs s) c.deref.result.now c.args.projection.now _ c.deref.ensures c.in_ok-names.ensures.1 c.deref-2.result.now _ c.deref-2.ensures.value c.in_ok-dtypes.ensures
+    ∙ sym (ap length c.in_ok-names.ensures.0)
 
-pub returns-clause-valid : goal.returns-clause-valid
-returns-clause-valid c = λ h.
-    let ps = fields_so_far c.loop-position.fields in
-    let valid = valid_projected (children c.args.self.now) ps _ h c.loop-position.invariant.types_are in
-    MatchResult-weaker c.finish.result c.finish.ensures (λ s e. subst (λ qs. ValidFields (fields qs)) (sym e) valid) (λ _ _. tt)
+pub returns-clause-fields : goal.returns-clause-fields
+returns-clause-fields c =
+    let s = c.args.self.now in
+    projects (struct_pairs s) c.deref.result.now c.args.projection.now _ c.deref.ensures c.in_ok-names.ensures.1 c.deref-2.result.now _ c.deref-2.ensures.value c.in_ok-dtypes.ensures
+    _ c.in_ok-shared.shared.value c.in_ok-names.ensures.0 (c.in_ok-shared.ensures.ok ∙ c.new.ensures)
 
 pub returns-clause-each : goal.returns-clause-each
 returns-clause-each c =
-    let fs = children c.args.self.now in
-    let names = c.args.projection.now in
-    let all = subst (λ ns. Projects fs ns (fields_so_far c.loop-position.fields)) (take_all c.loop-position.position names (omega arith)) c.loop-position.invariant in
-    MatchResult-weaker c.finish.result c.finish.ensures
-    (λ s e.
-    let made = subst (Projects fs names) (sym e) all in projected_alike fs names (children s) made.names_are made.types_are)
-    (λ _ _. tt)
+    let s = c.args.self.now in
+    let made = projects (struct_pairs s) c.deref.result.now c.args.projection.now _ c.deref.ensures c.in_ok-names.ensures.1 c.deref-2.result.now _ c.deref-2.ensures.value c.in_ok-dtypes.ensures
+    _ c.in_ok-shared.shared.value c.in_ok-names.ensures.0 (c.in_ok-shared.ensures.ok ∙ c.new.ensures) in
+    projected_alike (children s) c.args.projection.now (with_trees c.in_ok-shared.shared.value) made.names_are made.types_are
 
 pub returns-clause-there : goal.returns-clause-there
 returns-clause-there c = λ ok.
-    let fs = children c.args.self.now in
-    let names = c.args.projection.now in
-    let all = subst (λ ns. Projects fs ns (fields_so_far c.loop-position.fields)) (take_all c.loop-position.position names (omega arith)) c.loop-position.invariant in
-    projected_known fs names (fields_so_far c.loop-position.fields) all.types_are
+    let s = c.args.self.now in
+    let made = projects (struct_pairs s) c.deref.result.now c.args.projection.now _ c.deref.ensures c.in_ok-names.ensures.1 c.deref-2.result.now _ c.deref-2.ensures.value c.in_ok-dtypes.ensures
+    _ c.in_ok-shared.shared.value c.in_ok-names.ensures.0 (c.in_ok-shared.ensures.ok ∙ c.new.ensures) in
+    projected_known (children s) c.args.projection.now (with_trees c.in_ok-shared.shared.value) made.types_are
+
+pub returns-clause-valid : goal.returns-clause-valid
+returns-clause-valid c = λ h.
+    let s = c.args.self.now in
+    let made = projects (struct_pairs s) c.deref.result.now c.args.projection.now _ c.deref.ensures c.in_ok-names.ensures.1 c.deref-2.result.now _ c.deref-2.ensures.value c.in_ok-dtypes.ensures
+    _ c.in_ok-shared.shared.value c.in_ok-names.ensures.0 (c.in_ok-shared.ensures.ok ∙ c.new.ensures) in
+    valid_projected (children s) (with_trees c.in_ok-shared.shared.value) c.args.projection.now h made.types_are

@@ -1,0 +1,105 @@
+-- SPDX-License-Identifier: Apache-2.0
+-- SPDX-FileCopyrightText: Copyright the Vortex contributors
+
+-- Selecting names, and with them the types at their first positions.
+use Rattle.std.proofs.Common.{◌≡◌, ◌⊎◌, ℕ, zero, suc, ◌+◌, ◌<◌, List, [], ◌∷◌, ◌++◌, length, map, take, get_or, Some, None, slice_get, Option, refl, sym, ap, subst, ◌∙◌, arith}
+use Rattle.std.specs.List.{All, zip}
+use Rattle.std.proofs.lemmas.List.{map_push, map_more, length-map}
+use Rattle.std.proofs.lemmas.Option.{slice_get-map, slice_get_read, slice_get_within}
+use Rattle.std.specs.Option.{option_map}
+use Rattle.dtype_base.specs.FieldNames.{first_place, SelectionRefusal}
+use Rattle.dtype_base.specs.lemmas.Lookups.{first_of_place}
+use Rattle.dtype_base.specs.declared.vortex_error.VortexError.{VortexError}
+use Rattle.dtype_base.specs.declared.vortex_error.VortexError.TheVariants.{OutOfMemory}
+use Rattle.dtype_types.proofs.Parts.{names_shown, types_shown, trees_zip}
+use Rattle.dtype_types.specs.Lists.{firsts as names_held, seconds}
+use Rattle.dtype_types.specs.lemmas.Lookups.{field_at_place}
+use Rattle.dtype_types.specs.Lookups.{first_named, field_names, field_types, Projects}
+use Rattle.dtype_types.specs.Tree.{Tree}
+use Rattle.dtype_types.specs.TreeOf.{tree, with_trees}
+use Rattle.dtype_types.specs.declared.dtype.DType.{DType}
+
+-- the types at the first positions of names are the types of these names
+types_at : (fs : List (List ℕ × Tree)) (names : List (List ℕ)) (firsts : List ℕ) → map Some firsts ≡ map (first_place (field_names fs)) names → map (slice_get (field_types fs)) firsts ≡ map (first_named fs) names
+types_at fs [] [] e = refl
+types_at fs [] (i ∷ firsts) e = cc
+types_at fs (n ∷ names) [] e = cc
+types_at fs (n ∷ names) (i ∷ firsts) e =
+    let head : Some i ≡ first_place (field_names fs) n = cc in
+    let rest : map Some firsts ≡ map (first_place (field_names fs)) names = cc in
+    ap (λ o. o ∷ map (slice_get (field_types fs)) firsts) (field_at_place fs n i head) ∙ ap (λ os. first_named fs n ∷ os) (types_at fs names firsts rest)
+
+zip_names : (ns : List (List ℕ)) (ts : List Tree) → length ts ≡ length ns → field_names (zip ns ts) ≡ ns
+zip_names [] ts e = refl
+zip_names (n ∷ ns) [] e = absurd (omega (arith, e))
+zip_names (n ∷ ns) (t ∷ ts) e = ap (λ ms. n ∷ ms) (zip_names ns ts (omega (arith, e)))
+
+zip_types : (ns : List (List ℕ)) (ts : List Tree) → length ts ≡ length ns → map (λ (p : List ℕ × Tree). Some p.1) (zip ns ts) ≡ map Some ts
+zip_types [] [] e = refl
+zip_types [] (t ∷ ts) e = absurd (omega (arith, e))
+zip_types (n ∷ ns) [] e = absurd (omega (arith, e))
+zip_types (n ∷ ns) (t ∷ ts) e = ap (λ os. Some t ∷ os) (zip_types ns ts (omega (arith, e)))
+
+-- as many types as names
+pub as_many_selected : (fs : List (List ℕ × Tree)) (names : List (List ℕ)) (firsts : List ℕ) (ds : List DType) → map Some firsts ≡ map (first_place (field_names fs)) names → map Some (map tree ds) ≡ map (slice_get (field_types fs)) firsts → length ds ≡ length names
+as_many_selected fs names firsts ds e f =
+    let one = ap length e in
+    let two = ap length f in
+    omega (arith, one, two, length-map firsts Some, length-map names (first_place (field_names fs)), length-map (map tree ds) Some, length-map ds tree, length-map firsts (slice_get (field_types fs)))
+
+pub selected : (fs : List (List ℕ × Tree)) (names : List (List ℕ)) (firsts : List ℕ) (ds : List DType) (gs : List (List ℕ × Tree)) → gs ≡ zip names (map tree ds)
+    → map Some firsts ≡ map (first_place (field_names fs)) names → map Some (map tree ds) ≡ map (slice_get (field_types fs)) firsts → Projects fs names gs
+selected fs names firsts ds gs made e f =
+    let as_many : length (map tree ds) ≡ length names = length-map ds tree ∙ as_many_selected fs names firsts ds e f in record {
+      names_are = ap field_names made ∙ zip_names names (map tree ds) as_many;
+      types_are = ap (map (λ (p : List ℕ × Tree). Some p.1)) made ∙ zip_types names (map tree ds) as_many ∙ f ∙ types_at fs names firsts e;
+    }
+
+-- each first position is one of the types
+pub firsts_within : (fs : List (List ℕ × Tree)) (names : List (List ℕ)) (firsts : List ℕ) (n : ℕ) → length (field_names fs) ≡ n → map Some firsts ≡ map (first_place (field_names fs)) names → All (λ i. i < n) firsts
+firsts_within fs [] [] n as_many e k d within = absurd (omega (arith, within))
+firsts_within fs [] (i ∷ firsts) n as_many e k d within = cc
+firsts_within fs (m ∷ names) [] n as_many e k d within = absurd (omega (arith, within))
+firsts_within fs (m ∷ names) (i ∷ firsts) n as_many e zero d within =
+    let head : Some i ≡ first_place (field_names fs) m = cc in
+    omega (arith, as_many, slice_get_within (field_names fs) i m (first_of_place (field_names fs) m i head).here)
+firsts_within fs (m ∷ names) (i ∷ firsts) n as_many e (suc k) d within =
+    let rest : map Some firsts ≡ map (first_place (field_names fs)) names = cc in firsts_within fs names firsts n as_many rest k d (omega (arith, within))
+
+-- one type more
+pub copies_more : (ts us : List Tree) (positions : List ℕ) (j i : ℕ) (t : Tree) → j < length positions → i ≡ get_or positions j i → slice_get ts i ≡ Some t
+    → map Some us ≡ map (slice_get ts) (take j positions) → map Some (us ++ t ∷ []) ≡ map (slice_get ts) (take (j + 1) positions)
+copies_more ts us positions j i t within read here so_far =
+    map_push Some us t ∙ ap (λ os. os ++ Some t ∷ []) so_far ∙ ap (λ o. map (slice_get ts) (take j positions) ++ o ∷ []) (sym here ∙ ap (slice_get ts) read)
+    ∙ sym (map_more (slice_get ts) positions j i within)
+
+-- ---- of what a struct holds
+
+-- a type that is read
+pub tree_read : (ds : List DType) (i : ℕ) (d : DType) → i < length ds → d ≡ get_or ds i d → slice_get (map tree ds) i ≡ Some (tree d)
+tree_read ds i d within read = slice_get-map tree ds i ∙ ap (option_map tree) (slice_get_read ds (length ds) i d refl within read)
+
+module _ (ps held : List (List ℕ × DType)) (asked : List (List ℕ)) (places : List ℕ) (same : held ≡ ps) (e : map Some places ≡ map (first_place (names_held held)) asked) where
+  shown_names : names_held held ≡ field_names (with_trees ps)
+  shown_names = ap names_held same ∙ sym (names_shown ps)
+
+  shown_places : map Some places ≡ map (first_place (field_names (with_trees ps))) asked
+  shown_places = e ∙ ap (λ ns. map (first_place ns) asked) shown_names
+
+  pub places_within : All (λ i. i < length (seconds ps)) places
+  places_within = firsts_within (with_trees ps) asked places (length (seconds ps)) (length-map (with_trees ps) _ ∙ length-map ps _ ∙ sym (length-map ps _)) shown_places
+
+  module _ (positions : List ℕ) (ds : List DType) (moved : positions ≡ places) (f : map Some (map tree ds) ≡ map (slice_get (map tree (seconds ps))) positions) where
+    shown_types : map Some (map tree ds) ≡ map (slice_get (field_types (with_trees ps))) places
+    shown_types = f ∙ ap (map (slice_get (map tree (seconds ps)))) moved ∙ ap (λ ts. map (slice_get ts) places) (sym (types_shown ps))
+
+    pub as_many_copies : length ds ≡ length asked
+    as_many_copies = as_many_selected (with_trees ps) asked places ds shown_places shown_types
+
+    pub projects : (names : List (List ℕ)) (made : List (List ℕ × DType)) → names ≡ asked → made ≡ zip names ds → Projects (with_trees ps) asked (with_trees made)
+    projects names made named put =
+        selected (with_trees ps) asked places ds (with_trees made) (ap with_trees put ∙ trees_zip names ds ∙ ap (λ ns. zip ns (map tree ds)) named) shown_places shown_types
+
+-- a refusal, where the names are those that a struct holds
+pub refused_of : (ps held : List (List ℕ × DType)) (asked : List (List ℕ)) (e : VortexError) → held ≡ ps → (e ≡ OutOfMemory) ⊎ SelectionRefusal (names_held held) asked e → (e ≡ OutOfMemory) ⊎ SelectionRefusal (field_names (with_trees ps)) asked e
+refused_of ps held asked e same h = subst (λ ns. (e ≡ OutOfMemory) ⊎ SelectionRefusal ns asked e) (ap names_held same ∙ sym (names_shown ps)) h

@@ -1,7 +1,7 @@
 // SPDX-License-Identifier: Apache-2.0
 // SPDX-FileCopyrightText: Copyright the Vortex contributors
 
-ghost use Rattle.std.specs.Prelude.{◌≡◌, ◌↔◌, ◌≤◌, ◌++◌, [], ℕ, None, Some, if◌then◌else◌, length, IsTrue, IsOkUnless, OnErr, OnOk, MatchResult};
+ghost use Rattle.std.specs.Prelude.{◌≡◌, ◌↔◌, ◌≤◌, ◌++◌, [], ℕ, None, Some, if◌then◌else◌, length, IsTrue, IfErr, IsOkUnless, OnOk, MatchResult};
 ghost use Rattle.std.specs.List.{IsDistinct};
 ghost use Rattle.std.specs.Map.{keys_of, lookup, values_of};
 ghost use Rattle.dtype_base.specs.declared.vortex_error.VortexError.TheVariants.{OutOfMemory};
@@ -62,8 +62,7 @@ impl ChildMap {
     pub(crate) fn insert(&mut self, step: Field, place: usize) -> VortexResult<()>
         ensures ok { OnOk result ((f : Field) → lookup (same_field f) self.new
             ≡ (if same_field step f then Some place else lookup (same_field f) self.old)) }
-        ensures err { OnErr result (self.new ≡ self.old) }
-        ensures refused { IsOkUnless result OutOfMemory }
+        ensures refused { IfErr result (λ e. (e ≡ OutOfMemory) × (self.new ≡ self.old)) }
     {
         self.places.insert(step, place)?;
         Ok(())

@@ -1,7 +1,7 @@
 // SPDX-License-Identifier: Apache-2.0
 // SPDX-FileCopyrightText: Copyright the Vortex contributors
 
-ghost use Rattle.std.specs.Prelude.{◌≡◌, ◌++◌, ℕ, [], Some, IsOkUnless, OnErr, OnOk, IsTrue, false, if◌then◌else◌, MatchResult};
+ghost use Rattle.std.specs.Prelude.{◌≡◌, ◌++◌, ℕ, [], Some, IfErr, IsOkUnless, OnOk, IsTrue, false, if◌then◌else◌, MatchResult};
 ghost use Rattle.std.specs.BTreeMap.{is_at, values, IsOrdered};
 ghost use Rattle.std.specs.List.{IsDistinct};
 ghost use Rattle.std.specs.Map.{keys_of, lookup, values_of};
@@ -65,8 +65,7 @@ impl ChildTree {
     pub(crate) fn insert(&mut self, step: Field, place: usize) -> VortexResult<()>
         ensures ok { OnOk result ((f : Field) → lookup (same_field f) self.new
             ≡ (if same_field step f then Some place else lookup (same_field f) self.old)) }
-        ensures err { OnErr result (self.new ≡ self.old) }
-        ensures refused { IsOkUnless result OutOfMemory }
+        ensures refused { IfErr result (λ e. (e ≡ OutOfMemory) × (self.new ≡ self.old)) }
     {
         let key = key_of(&step);
         if is_taken(&self.by_key, key, &step) {
@@ -115,9 +114,9 @@ fn put_at_key(
 ) -> VortexResult<()>
     ensures ok { OnOk result ((k : ℕ) → at_key by_key.new.entries k
         ≡ (if is_at (nat_cmp key) k then Some (step, place) else at_key by_key.old.entries k)) }
-    ensures err { OnErr result (by_key.new.entries ≡ by_key.old.entries) }
+    ensures refused { IfErr result (λ e. (e ≡ OutOfMemory)
+        × (by_key.new.entries ≡ by_key.old.entries)) }
     ensures ordered { IsOrdered nat_cmp by_key.new }
-    ensures refused { IsOkUnless result OutOfMemory }
 {
     by_key.insert(key, (step, place))?;
     Ok(())

@@ -7,7 +7,7 @@ use Rattle.std.specs.declared.boxed.Box.{Box}
 use Rattle.std.specs.declared.alloc.Global.{Global}
 use denote.Hole.Carrier
 use Rattle.dtype_messages.specs.Message.{Message}
-use Rattle.dtype_messages.specs.MessageOf.{message, kind_message, list_parts, fixed_parts, map_parts, struct_parts, union_parts, extension_parts, ExtensionOf, FixedOf, ListOf, MapOf, StructOf, UnionOf, kind_step, dtype_step, extension_step, fixed_step, list_step, map_step, struct_step, union_step}
+use Rattle.dtype_messages.specs.MessageOf.{message, kind_message, list_content, fixed_content, map_content, struct_content, union_content, extension_content, ExtensionOf, FixedOf, ListOf, MapOf, StructOf, UnionOf, kind_step, dtype_step, extension_step, fixed_step, list_step, map_step, struct_step, union_step}
 use Rattle.dtype_messages.specs.Same.{same}
 use Rattle.dtype_messages.specs.declared.pb.DtypeType.{DtypeType, out-DtypeType, map-DtypeType, fold_out-DtypeType, Null, Bool as Bool_of, Primitive, Decimal, Utf8, Binary, List as List_of, List', FixedSizeList, FixedSizeList', Map, Map', Struct, Union, Variant, Extension, Extension'}
 use Rattle.dtype_messages.specs.declared.pb.DType.{DType}
@@ -27,7 +27,7 @@ use Rattle.dtype_messages.specs.declared.pb.Extension.{Extension as ExtensionMes
 
 -- a message's tree, by one look at its kind
 abbrev shown : DtypeType → Message
-shown k = kind_step (map-DtypeType DtypeType DType ExtensionMessage FixedMessage ListMessage MapMessage StructMessage UnionMessage Message Message ExtensionOf FixedOf ListOf MapOf StructOf UnionOf kind_message message extension_parts fixed_parts list_parts map_parts struct_parts union_parts (out-DtypeType k))
+shown k = kind_step (map-DtypeType DtypeType DType ExtensionMessage FixedMessage ListMessage MapMessage StructMessage UnionMessage Message Message ExtensionOf FixedOf ListOf MapOf StructOf UnionOf kind_message message extension_content fixed_content list_content map_content struct_content union_content (out-DtypeType k))
 
 is_shown : (k : DtypeType) → kind_message k ≡ shown k
 is_shown = fold_out-DtypeType Message Message ExtensionOf FixedOf ListOf MapOf StructOf UnionOf kind_step dtype_step extension_step fixed_step list_step map_step struct_step union_step

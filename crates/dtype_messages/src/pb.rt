@@ -6,7 +6,7 @@
 ghost use Rattle.std.specs.Prelude.{◌≡◌, pos, Ok, map, option_map, string_bytes, MatchResult};
 ghost use Rattle.dtype_base.specs.declared.vortex_error.VortexError.TheVariants.{OutOfMemory};
 ghost use Rattle.dtype_base.specs.Primitives.{ptype_row};
-ghost use Rattle.dtype_messages.specs.MessageOf.{message, kind_message, child, list_parts, fixed_parts, map_parts, struct_parts, union_parts, extension_parts, bytes_of};
+ghost use Rattle.dtype_messages.specs.MessageOf.{message, kind_message, child_message, list_content, fixed_content, map_content, struct_content, union_content, extension_content, bytes_of};
 ghost use Rattle.dtype_messages.specs.PTypeNumbers.{plain, ptype_at};
 ghost use Rattle.dtype_messages.specs.PathNames.{name_of, part_name, part_names};
 
@@ -482,7 +482,7 @@ impl DtypeType {
 // A child, if it is there.
 #[cycle(copy)]
 fn child_copied(alloc: Global, proto: &Option<Box<DType>>) -> VortexResult<Option<Box<DType>>>
-    ensures { MatchResult result (λ c. child c ≡ child proto.now) (λ e. e ≡ OutOfMemory) }
+    ensures { MatchResult result (λ c. child_message c ≡ child_message proto.now) (λ e. e ≡ OutOfMemory) }
 {
     match proto {
         Some(proto) => {
@@ -533,7 +533,7 @@ impl List {
     #[cycle(copy)]
     pub fn try_clone(&self, alloc: Global) -> VortexResult<List>
         ensures { MatchResult result
-            (λ p. list_parts p ≡ list_parts self.now) (λ e. e ≡ OutOfMemory) }
+            (λ p. list_content p ≡ list_content self.now) (λ e. e ≡ OutOfMemory) }
     {
         Ok(List {
             element_type: child_copied(alloc, &self.element_type)?,
@@ -547,7 +547,7 @@ impl FixedSizeList {
     #[cycle(copy)]
     pub fn try_clone(&self, alloc: Global) -> VortexResult<FixedSizeList>
         ensures { MatchResult result
-            (λ p. fixed_parts p ≡ fixed_parts self.now) (λ e. e ≡ OutOfMemory) }
+            (λ p. fixed_content p ≡ fixed_content self.now) (λ e. e ≡ OutOfMemory) }
     {
         Ok(FixedSizeList {
             element_type: child_copied(alloc, &self.element_type)?,
@@ -562,7 +562,7 @@ impl Map {
     #[cycle(copy)]
     pub fn try_clone(&self, alloc: Global) -> VortexResult<Map>
         ensures { MatchResult result
-            (λ p. map_parts p ≡ map_parts self.now) (λ e. e ≡ OutOfMemory) }
+            (λ p. map_content p ≡ map_content self.now) (λ e. e ≡ OutOfMemory) }
     {
         Ok(Map {
             key_type: child_copied(alloc, &self.key_type)?,
@@ -578,7 +578,7 @@ impl Struct {
     #[cycle(copy)]
     pub fn try_clone(&self, alloc: Global) -> VortexResult<Struct>
         ensures { MatchResult result
-            (λ p. struct_parts p ≡ struct_parts self.now) (λ e. e ≡ OutOfMemory) }
+            (λ p. struct_content p ≡ struct_content self.now) (λ e. e ≡ OutOfMemory) }
     {
         Ok(Struct {
             names: texts_copied(alloc, &self.names)?,
@@ -593,7 +593,7 @@ impl Union {
     #[cycle(copy)]
     pub fn try_clone(&self, alloc: Global) -> VortexResult<Union>
         ensures { MatchResult result
-            (λ p. union_parts p ≡ union_parts self.now) (λ e. e ≡ OutOfMemory) }
+            (λ p. union_content p ≡ union_content self.now) (λ e. e ≡ OutOfMemory) }
     {
         Ok(Union {
             names: texts_copied(alloc, &self.names)?,
@@ -609,7 +609,7 @@ impl Extension {
     #[cycle(copy)]
     pub fn try_clone(&self, alloc: Global) -> VortexResult<Extension>
         ensures { MatchResult result
-            (λ p. extension_parts p ≡ extension_parts self.now) (λ e. e ≡ OutOfMemory) }
+            (λ p. extension_content p ≡ extension_content self.now) (λ e. e ≡ OutOfMemory) }
     {
         Ok(Extension {
             id: String::from_str(alloc, self.id.as_str())?,

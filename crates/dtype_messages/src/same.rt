@@ -8,7 +8,7 @@ ghost use Rattle.std.specs.Ordering.{int_eq};
 ghost use Rattle.std.specs.Cmp.Lexicographic.{pointwise};
 ghost use Rattle.dtype_messages.specs.Same.{same, same_child, same_all, same_bytes, same_lists, same_fixed_lists, same_maps, same_structs, same_unions, same_extensions};
 ghost use Rattle.dtype_messages.specs.Message.{messages};
-ghost use Rattle.dtype_messages.specs.MessageOf.{message, kind_message, child, bytes_of, list_parts, fixed_parts, map_parts, struct_parts, union_parts, extension_parts};
+ghost use Rattle.dtype_messages.specs.MessageOf.{message, kind_message, child_message, bytes_of, list_content, fixed_content, map_content, struct_content, union_content, extension_content};
 
 use crate::pb::{DType, DtypeType, Extension, FixedSizeList, List, Map, Struct, Union};
 
@@ -52,7 +52,7 @@ pub(crate) fn same_kind(a: &DtypeType, b: &DtypeType) -> bool
 
 #[cycle(same)]
 fn same_child(a: &Option<Box<DType>>, b: &Option<Box<DType>>) -> bool
-    ensures { result ≡ same_child (child a.now) (child b.now) }
+    ensures { result ≡ same_child (child_message a.now) (child_message b.now) }
 {
     match (a, b) {
         (Some(x), Some(y)) => same(x, y),
@@ -63,21 +63,21 @@ fn same_child(a: &Option<Box<DType>>, b: &Option<Box<DType>>) -> bool
 
 #[cycle(same)]
 pub(crate) fn same_list(a: &List, b: &List) -> bool
-    ensures { result ≡ same_lists (list_parts a.now) (list_parts b.now) }
+    ensures { result ≡ same_lists (list_content a.now) (list_content b.now) }
 {
     same_child(&a.element_type, &b.element_type) && a.nullable == b.nullable
 }
 
 #[cycle(same)]
 pub(crate) fn same_fixed(a: &FixedSizeList, b: &FixedSizeList) -> bool
-    ensures { result ≡ same_fixed_lists (fixed_parts a.now) (fixed_parts b.now) }
+    ensures { result ≡ same_fixed_lists (fixed_content a.now) (fixed_content b.now) }
 {
     same_child(&a.element_type, &b.element_type) && a.size == b.size && a.nullable == b.nullable
 }
 
 #[cycle(same)]
 pub(crate) fn same_map(a: &Map, b: &Map) -> bool
-    ensures { result ≡ same_maps (map_parts a.now) (map_parts b.now) }
+    ensures { result ≡ same_maps (map_content a.now) (map_content b.now) }
 {
     same_child(&a.key_type, &b.key_type)
         && same_child(&a.value_type, &b.value_type)
@@ -97,7 +97,7 @@ fn same_metadata(a: &Option<Vec<u8>>, b: &Option<Vec<u8>>) -> bool
 
 #[cycle(same)]
 pub(crate) fn same_extension(a: &Extension, b: &Extension) -> bool
-    ensures { result ≡ same_extensions (extension_parts a.now) (extension_parts b.now) }
+    ensures { result ≡ same_extensions (extension_content a.now) (extension_content b.now) }
 {
     a.id.as_str() == b.id.as_str()
         && same_child(&a.storage_dtype, &b.storage_dtype)
@@ -106,14 +106,14 @@ pub(crate) fn same_extension(a: &Extension, b: &Extension) -> bool
 
 #[cycle(same)]
 pub(crate) fn same_struct(a: &Struct, b: &Struct) -> bool
-    ensures { result ≡ same_structs (struct_parts a.now) (struct_parts b.now) }
+    ensures { result ≡ same_structs (struct_content a.now) (struct_content b.now) }
 {
     same_texts(&a.names, &b.names) && same_all(&a.dtypes, &b.dtypes) && a.nullable == b.nullable
 }
 
 #[cycle(same)]
 pub(crate) fn same_union(a: &Union, b: &Union) -> bool
-    ensures { result ≡ same_unions (union_parts a.now) (union_parts b.now) }
+    ensures { result ≡ same_unions (union_content a.now) (union_content b.now) }
 {
     same_texts(&a.names, &b.names)
         && same_all(&a.dtypes, &b.dtypes)

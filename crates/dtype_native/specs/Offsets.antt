@@ -8,14 +8,14 @@ use Rattle.dtype_base.specs.declared.ptype.PType.{PType}
 use Rattle.dtype_base.specs.Primitives.{ptype_row}
 
 -- the greatest value of the type named p is at least n
-abbrev pub Reaches : ℕ → PType → Type 0
-Reaches n p = n ≤ (ptype_row p).greatest
+abbrev pub FitsIn : ℕ → PType → Type 0
+FitsIn n p = n ≤ (ptype_row p).greatest
 
 -- of these names, p is the one with the least greatest value that is at least n
 pub record IsLeastReaching (names : List PType) (n : ℕ) (p : PType) : Type 0 where
   pub among : Contains names p
-  pub reaches : Reaches n p
-  pub least : All (λ q. Reaches n q → Reaches (ptype_row p).greatest q) names
+  pub fits : FitsIn n p
+  pub least : All (λ q. FitsIn n q → FitsIn (ptype_row p).greatest q) names
 
 -- r is an answer for that name
 abbrev pub AnswersLeast : {A : Type 0} → (PType → A → Type 0) → List PType → ℕ → A → Type 0

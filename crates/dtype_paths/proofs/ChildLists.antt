@@ -9,7 +9,7 @@ use Rattle.std.proofs.lemmas.List.{map-append}
 use Rattle.std.proofs.lemmas.List.Elements.{All-append, All-cons}
 use Rattle.std.proofs.lemmas.Map.Keys.{IsDistinct-cons, IsDistinct-head, IsDistinct-tail}
 use Rattle.std.proofs.lemmas.Map.Made.{IsDistinct-from_count}
-use Rattle.dtype_paths.specs.ChildLists.{entries, IsKeyed}
+use Rattle.dtype_paths.specs.ChildLists.{entries, HasStepKey}
 use Rattle.dtype_paths.specs.Equality.{same_field}
 use Rattle.dtype_paths.specs.EqualityLaws.{same_field_equiv}
 use Rattle.dtype_paths.specs.declared.child_list.Child.{Child}
@@ -45,13 +45,13 @@ distinct-more (e ∷ es) k v none h =
     IsDistinct-cons same_field e.0 (keys_of (es ++ (k, v) ∷ [])) (absent-more es e.0 k v head (same_field_equiv.symm e.0 k ∙ n)) (distinct-more es k v (rw n at none) tail))
 
 -- the invariant of a list with a child more, whose step leads nowhere yet
-pub more-children : (cs : List Child) (c : Child) → (All IsKeyed cs) × IsDistinct same_field (keys_of (entries cs)) → IsKeyed c → lookup (same_field c.step) (entries cs) ≡ None
-    → (All IsKeyed (cs ++ c ∷ [])) × IsDistinct same_field (keys_of (entries (cs ++ c ∷ [])))
+pub more-children : (cs : List Child) (c : Child) → (All HasStepKey cs) × IsDistinct same_field (keys_of (entries cs)) → HasStepKey c → lookup (same_field c.step) (entries cs) ≡ None
+    → (All HasStepKey (cs ++ c ∷ [])) × IsDistinct same_field (keys_of (entries (cs ++ c ∷ [])))
 more-children cs c h k none =
     let entry : Child → Field × ℕ = λ k. (k.step, k.place) in
-    let one : All IsKeyed (c ∷ []) = All-cons IsKeyed c [] k (λ i d lt. absurd (omega (arith, lt))) in
-    (All-append IsKeyed cs (c ∷ []) h.0 one, rw (map-append entry cs (c ∷ [])) (distinct-more (entries cs) c.step c.place none h.1))
+    let one : All HasStepKey (c ∷ []) = All-cons HasStepKey c [] k (λ i d lt. absurd (omega (arith, lt))) in
+    (All-append HasStepKey cs (c ∷ []) h.0 one, rw (map-append entry cs (c ∷ [])) (distinct-more (entries cs) c.step c.place none h.1))
 
 -- the invariant of the empty list
-pub no-children : (All IsKeyed []) × IsDistinct same_field (keys_of (entries []))
+pub no-children : (All HasStepKey []) × IsDistinct same_field (keys_of (entries []))
 no-children = (λ i d lt. absurd (omega (arith, lt)), IsDistinct-from_count same_field_equiv [] refl)

@@ -10,7 +10,7 @@ use Rattle.std.proofs.lemmas.Bool.Decides.{Decides-eqb}
 use Rattle.std.proofs.lemmas.List.{take_all, take_more}
 use Rattle.std.proofs.lemmas.Option.{same_Some, option_and_then_some, slice_get_within, slice_get_past, slice_get_read}
 use Rattle.dtype_paths.specs.lemmas.Cases.{by_bool}
-use Rattle.dtype_paths.specs.Children.{child, steps_of}
+use Rattle.dtype_paths.specs.Children.{child, places_by_step}
 use Rattle.dtype_paths.specs.Equality.{same_field}
 use Rattle.dtype_paths.specs.EqualityLaws.{same_field-Decides}
 use Rattle.dtype_paths.specs.declared.field.Field.{Field}
@@ -50,7 +50,7 @@ end-push nodes n k h e =
     (cases_lt k (length nodes + 1)))
     (cases_lt k (length nodes))
 
-pub chained-more : (rest : List Field) (first i : ℕ) (nodes : List Node) (n : Node) (x : Field) → Chained rest first i nodes → i < length rest → x ≡ get_or rest i x → n.end ≡ None → steps_of n.children ≡ (x, first + i + 1) ∷ [] → Chained rest first (i + 1) (nodes ++ n ∷ [])
+pub chained-more : (rest : List Field) (first i : ℕ) (nodes : List Node) (n : Node) (x : Field) → Chained rest first i nodes → i < length rest → x ≡ get_or rest i x → n.end ≡ None → places_by_step n.children ≡ (x, first + i + 1) ∷ [] → Chained rest first (i + 1) (nodes ++ n ∷ [])
 chained-more rest first i nodes n x c lt is e up = record {
   long = omega (arith, c.long, length-append nodes (n ∷ []));
   steps = λ k f h.
@@ -66,7 +66,7 @@ chained-more rest first i nodes n x c lt is e up = record {
   none = λ k. end-push nodes n k (c.none k) e;
 }
 
-pub chained-end : (path rest : List Field) (first : ℕ) (nodes : List Node) (n : Node) → Chained rest first (length rest) nodes → n.end ≡ Some path → steps_of n.children ≡ [] → IsChain path rest first (nodes ++ n ∷ [])
+pub chained-end : (path rest : List Field) (first : ℕ) (nodes : List Node) (n : Node) → Chained rest first (length rest) nodes → n.end ≡ Some path → places_by_step n.children ≡ [] → IsChain path rest first (nodes ++ n ∷ [])
 chained-end path rest first nodes n c e up = record {
   long = omega (arith, c.long, length-append nodes (n ∷ []));
   steps = λ k f.

@@ -14,22 +14,22 @@ use Rattle.dtype_paths.specs.declared.field.Field.{Field}
 use Rattle.dtype_paths.specs.declared.field.Field.TheVariants.{Name, ElementType}
 
 -- the name of a step; the element has none
-abbrev pub name_of : Field → Option (List ℕ)
-name_of (Name n) = Some n
-name_of ElementType = None
+abbrev pub held_name : Field → Option (List ℕ)
+held_name (Name n) = Some n
+held_name ElementType = None
 
 -- the step of a name, or of none
 abbrev pub named : Option (List ℕ) → Field
 named (Some n) = Name n
 named None = ElementType
 
-pub named-name_of : (f : Field) → named (name_of f) ≡ f
-named-name_of (Name n) = refl
-named-name_of ElementType = refl
+pub named-held_name : (f : Field) → named (held_name f) ≡ f
+named-held_name (Name n) = refl
+named-held_name ElementType = refl
 
 -- the element comes first, and then the names by their bytes
 abbrev pub field_cmp : Field → Field → Ordering
-field_cmp = on name_of (option_cmp (slice_cmp nat_cmp))
+field_cmp = on held_name (option_cmp (slice_cmp nat_cmp))
 
 -- by the first step in which they differ, and a beginning before what it begins
 abbrev pub path_cmp : List Field → List Field → Ordering
@@ -45,7 +45,7 @@ set_of = set.from_list
 
 -- how steps and sets are kept as values
 abbrev pub field_code : Coded Field
-field_code = code_by (Option (List ℕ)) (coded_option (coded_list coded_ℕ)) name_of named named-name_of
+field_code = code_by (Option (List ℕ)) (coded_option (coded_list coded_ℕ)) held_name named named-held_name
 
 abbrev pub set_code : Coded PathSet
 set_code = set.code (coded_list field_code)

@@ -3,9 +3,9 @@
 
 ghost use Rattle.std.specs.Prelude.{◌≡◌, ◌≢◌, ◌≤◌, ◌<◌, ◌+◌, ◌==◌, ◌&&◌, ◌^◌, ◌++◌, [], ◌∷◌, List, ℕ, None, Some, length, drop, take, slice_get, map, min, is_some, if◌then◌else◌, IfOk, IsOkUnless, OnErr, OnOk, MatchResult};
 ghost use Rattle.dtype_base.specs.declared.vortex_error.VortexError.TheVariants.{OutOfMemory};
-ghost use Rattle.dtype_paths.specs.Children.{child, steps_of};
+ghost use Rattle.dtype_paths.specs.Children.{child, places_by_step};
 ghost use Rattle.dtype_paths.specs.Equality.{same_field};
-ghost use Rattle.dtype_paths.specs.Trie.{child_at, end_at, ends, IsAlike, IsChain, IsGrown, IsKept};
+ghost use Rattle.dtype_paths.specs.Trie.{child_at, end_at, ends, IsAlike, IsChain, IsGrown, IsExtended};
 ghost use Rattle.dtype_paths.specs.declared.field.Field.{Field};
 ghost use Rattle.dtype_paths.specs.declared.node.Node.{Node};
 
@@ -120,7 +120,7 @@ impl Nodes {
         requires step { at < length path }
         requires none { (f : Field) → slice_get path at ≡ Some f → child_at self.old here f ≡ None }
         ensures ok { OnOk result (IsGrown self.old here path at self.new) }
-        ensures err { OnErr result (IsKept self.old self.new) }
+        ensures err { OnErr result (IsExtended self.old self.new) }
         ensures refused { IsOkUnless result OutOfMemory }
     {
         let step = path.parts()[at].try_clone(alloc)?;

@@ -5,7 +5,8 @@
 use Rattle.std.proofs.Common.{◌≡◌, ℕ, suc, List, [], ◌∷◌, length, fold, refl, sym, ap, ◌∙◌}
 use Rattle.std.specs.Hash.{le_bytes}
 use Rattle.dtype_types.specs.Tree.{Tree, fields, variants}
-use Rattle.dtype_types.specs.Hashes.{Part, field_count, field_writes, variant_count, variant_writes}
+use Rattle.dtype_types.specs.Hashes.{field_count, field_writes, variant_count, variant_writes}
+use Rattle.dtype_types.specs.declared.dtype.hash.Hashed.{Hashed}
 
 count_of_fields : (ps : List (List ℕ × Tree)) → field_count (fields ps) ≡ length ps
 count_of_fields [] = refl
@@ -16,7 +17,7 @@ count_of_variants [] = refl
 count_of_variants (p ∷ ps) = ap suc (count_of_variants ps)
 
 -- s is the state at first, t that behind the count k, and u that at the end, where nothing is left
-module _ {S : Type 0} (write : S → List ℕ → S) (rule : Part) where
+module _ {S : Type 0} (write : S → List ℕ → S) (rule : Hashed) where
   pub fields_fed : (ps left : List (List ℕ × Tree)) (k : ℕ) (s t u : S) → k ≡ length ps → t ≡ fold write s (le_bytes 8 k ∷ [])
       → fold write t (field_writes rule (fields ps)) ≡ fold write u (field_writes rule (fields left)) → left ≡ []
       → u ≡ fold write s (le_bytes 8 (field_count (fields ps)) ∷ field_writes rule (fields ps))

@@ -13,7 +13,7 @@ use Rattle.dtype_types.specs.Tree.{Tree, Fields, no_fields, field, Variants, no_
 use Rattle.dtype_types.specs.Value.{Value, Of, IncludedIn, NamedOf, VariantOf, Each, null_value, items, fixed_items, entries, record_of, tagged, no_values, value, no_entries, entry, named}
 use Rattle.dtype_types.specs.Sample.{sample, samples, copies}
 use Rattle.dtype_types.specs.Tell.{or_else, null_else, tell, tell_fields, tell_variants, HasNoSizeZero, FieldsHaveNoSizeZero, VariantsHaveNoSizeZero}
-use Rattle.dtype_types.specs.SampleLaws.{sample_of, samples_of, count-copies, each_copy}
+use Rattle.dtype_types.specs.SampleLaws.{sample_of, samples_of, value_count-copies, each_copy}
 
 -- ---- an answer that says why there is none, or tells P from Q
 
@@ -93,7 +93,7 @@ mutual
   told (fixed_size_list t j m) (fixed_size_list u k n) h z e =
       told_node m n (NullableWherever t u) (Allows m n × NullableWherever t u) (λ v. Of v (fixed_size_list t j m)) (λ v. Of v (fixed_size_list u k n)) (λ x. x) (λ x. x) (λ x s. (x, s)) _
       (told_map (NullableWherever t u) (NullableWherever t u) (λ v. Of v t) (λ v. Of v u) (λ v. Of v (fixed_size_list t j m)) (λ v. Of v (fixed_size_list u k n)) (λ v. fixed_items (copies j v))
-      (λ s. s) (λ w p. (count-copies j w, each_copy (λ v. Of v t) j w p)) (λ w p q. row_holds (λ v. Of v u) j w z.0 q.1) (tell t u) (told t u h.1 z.1 (cc)))
+      (λ s. s) (λ w p. (value_count-copies j w, each_copy (λ v. Of v t) j w p)) (λ w p q. row_holds (λ v. Of v u) j w z.0 q.1) (tell t u) (told t u h.1 z.1 (cc)))
   told (map_of t v x m) (map_of u w y n) h z e =
       told_node m n (NullableWherever t u × NullableWherever v w) (Allows m n × NullableWherever t u × NullableWherever v w) (λ d. Of d (map_of t v x m)) (λ d. Of d (map_of u w y n)) (λ s. s) (λ s. s)
       (λ s r. (s, r.0, r.1)) _

@@ -14,7 +14,8 @@ use Rattle.dtype_types.specs.TreeOf.{tree, children, variants_of, map_shown, ext
 use Rattle.dtype_types.specs.Erase.{erase, erase_fields, erase_variants}
 use Rattle.dtype_types.specs.EqualityLaws.{agree-Decides, same_dtype}
 use Rattle.dtype_types.specs.PartsEquality.{same_fields-Decides, agree_variants-Decides, agree_maps-Decides, same_struct, same_union, same_map, same_extension}
-use Rattle.dtype_types.specs.Hashes.{Whole, Erased, hash_of, head_writes, bytes_writes, field_count, field_writes, variant_count, variant_writes}
+use Rattle.dtype_types.specs.Hashes.{hash_of, head_writes, bytes_writes, field_count, field_writes, variant_count, variant_writes}
+use Rattle.dtype_types.specs.declared.dtype.hash.Hashed.TheVariants.{Whole, Erased}
 use Rattle.dtype_types.specs.HashesOf.{struct_writes, union_writes, map_writes, extension_writes}
 use Rattle.dtype_types.specs.declared.dtype.DType.{DType}
 use Rattle.dtype_types.specs.declared.struct_fields.StructFields.{StructFields}

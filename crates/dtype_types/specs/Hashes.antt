@@ -3,7 +3,7 @@
 
 -- What a type feeds a hasher, as a list of writes: one byte for its kind, or which primitive type it is, and its
 -- nullability, where nullabilities aren't forgotten, and then all that it holds. Counts stand before lists, and a
--- mark behind texts.
+-- mark behind texts. `Whole` is all of a type, `Erased` the type with every nullability forgotten.
 -- It is a function of the tree, so equal types feed alike, as std's `Hash` asks.
 use Rattle.std.specs.Prelude.{ℕ, suc, ◌+◌, ◌*◌, List, [], ◌∷◌, ◌++◌, length}
 use Rattle.std.specs.Hash as fed
@@ -15,26 +15,16 @@ use Rattle.dtype_base.specs.declared.ptype.PType.{PType}
 use Rattle.dtype_types.specs.Kinds.{kind_number}
 use Rattle.dtype_types.specs.declared.dtype.kinds.Kind.TheVariants as kind
 use Rattle.dtype_types.specs.declared.dtype.hash.Hashed.{Hashed}
-use Rattle.dtype_types.specs.declared.dtype.hash.Hashed.TheVariants as hashed
+use Rattle.dtype_types.specs.declared.dtype.hash.Hashed.TheVariants.{Whole, Erased}
 use Rattle.dtype_types.specs.Tree.{Tree, Fields, no_fields, field, Variants, no_variants, choice, null, bool, primitive, decimal, utf8, binary, list, fixed_size_list, map_of, struct, union, variant, extension}
 
--- what of a type a hasher is fed: all of it, or the type with every nullability forgotten
-pub data Part : Type 0 where
-  Whole : Part
-  Erased : Part
-
--- which of these the walk is told
-abbrev pub part_of : Hashed → Part
-part_of hashed.Whole = Whole
-part_of hashed.Erased = Erased
-
 -- 1 for a nullable type, where nullabilities aren't forgotten
-abbrev pub nullable_mark : Part → Nullability → ℕ
+abbrev pub nullable_mark : Hashed → Nullability → ℕ
 nullable_mark Whole Nullable = 1
 nullable_mark _ _ = 0
 
 -- the number of what a type is, and its nullability, in one byte
-abbrev pub head_writes : Part → ℕ → Nullability → HashWrites
+abbrev pub head_writes : Hashed → ℕ → Nullability → HashWrites
 head_writes s number n = fed.u8 (2 * number + nullable_mark s n)
 
 -- the primitive types are numbered behind the kinds
@@ -55,7 +45,7 @@ variant_count no_variants = 0
 variant_count (choice n t g rest) = suc (variant_count rest)
 
 abbrev mutual
-  pub hash_of : Part → Tree → HashWrites
+  pub hash_of : Hashed → Tree → HashWrites
   hash_of s null = head_writes s (kind_number kind.Null) NonNullable
   hash_of s (bool n) = head_writes s (kind_number kind.Bool) n
   hash_of s (primitive p n) = head_writes s (primitive_number p) n
@@ -71,12 +61,12 @@ abbrev mutual
   hash_of s (extension id b t) = head_writes s (kind_number kind.Extension) NonNullable ++ (fed.str id ++ (bytes_writes b ++ hash_of s t))
 
   -- each field: its name and its type
-  pub field_writes : Part → Fields → HashWrites
+  pub field_writes : Hashed → Fields → HashWrites
   field_writes s no_fields = []
   field_writes s (field n t rest) = fed.str n ++ (hash_of s t ++ field_writes s rest)
 
   -- each variant: its name, its type and its tag
-  pub variant_writes : Part → Variants → HashWrites
+  pub variant_writes : Hashed → Variants → HashWrites
   variant_writes s no_variants = []
   variant_writes s (choice n t g rest) = fed.str n ++ (hash_of s t ++ (fed.u8 g ++ variant_writes s rest))
 

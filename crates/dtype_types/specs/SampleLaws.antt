@@ -16,12 +16,12 @@ use Rattle.dtype_base.specs.declared.ptype.PType.{PType}
 use Rattle.dtype_base.specs.declared.ptype.PType.TheVariants.{U8, U16, U32, U64, I8, I16, I32, I64, F16, F32, F64}
 use Rattle.dtype_types.specs.Tree.{Tree, Fields, no_fields, field, no_variants, choice, null, bool, primitive, decimal, utf8, binary, list, fixed_size_list, map_of, struct, union, variant, extension}
 use Rattle.dtype_types.specs.Valid.{Valid, ValidFields}
-use Rattle.dtype_types.specs.Value.{Value, Of, NamedOf, Each, count, HasDigits}
+use Rattle.dtype_types.specs.Value.{Value, Of, NamedOf, Each, value_count, HasDigits}
 use Rattle.dtype_types.specs.Sample.{sample, samples, copies, zero_of}
 
-pub count-copies : (k : ℕ) (v : Value) → count (copies k v) ≡ k
-count-copies zero v = refl
-count-copies (suc k) v = ap suc (count-copies k v)
+pub value_count-copies : (k : ℕ) (v : Value) → value_count (copies k v) ≡ k
+value_count-copies zero v = refl
+value_count-copies (suc k) v = ap suc (value_count-copies k v)
 
 pub each_copy : (P : Value → Type 0) (k : ℕ) (v : Value) → P v → Each P (copies k v)
 each_copy P zero v h = tt
@@ -73,7 +73,7 @@ mutual
   sample_of (list t Nullable) h = refl
   sample_of (list t NonNullable) h = tt
   sample_of (fixed_size_list t k Nullable) h = refl
-  sample_of (fixed_size_list t k NonNullable) h = (count-copies k (sample t), each_copy (λ v. Of v t) k (sample t) (sample_of t h.1))
+  sample_of (fixed_size_list t k NonNullable) h = (value_count-copies k (sample t), each_copy (λ v. Of v t) k (sample t) (sample_of t h.1))
   sample_of (map_of t u s Nullable) h = refl
   sample_of (map_of t u s NonNullable) h = tt
   sample_of (struct fs Nullable) h = refl

@@ -78,9 +78,9 @@ abbrev pub EachEntry : (Value → Type 0) → (Value → Type 0) → Entries →
 EachEntry P Q no_entries = Unit {0}
 EachEntry P Q (entry k v es) = P k × Q v × EachEntry P Q es
 
-abbrev pub count : Values → ℕ
-count no_values = 0
-count (value v vs) = suc (count vs)
+abbrev pub value_count : Values → ℕ
+value_count no_values = 0
+value_count (value v vs) = suc (value_count vs)
 
 -- the value is of the type; an extension has exactly the values of its storage
 abbrev mutual
@@ -95,7 +95,7 @@ abbrev mutual
   Of (bytes bs) (binary n) = Bytes bs
   Of (opaque bs) (variant n) = Bytes bs
   Of (items vs) (list t n) = Each (λ v. Of v t) vs
-  Of (fixed_items vs) (fixed_size_list t k n) = (count vs ≡ k) × Each (λ v. Of v t) vs
+  Of (fixed_items vs) (fixed_size_list t k n) = (value_count vs ≡ k) × Each (λ v. Of v t) vs
   Of (entries es) (map_of t u s n) = EachEntry (λ k. Of k t) (λ v. Of v u) es
   Of (record_of nvs) (struct fs n) = NamedOf nvs fs
   Of (tagged g v) (union vs n) = VariantOf g v vs

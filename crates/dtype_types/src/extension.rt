@@ -123,7 +123,6 @@ impl ExtDTypeRef {
     ghost use Rattle.dtype_types.specs.Valid.{Valid};
     ghost use Rattle.dtype_types.specs.TreeOf.{tree, extension_tree, extension_metadata, extension_id, storage_tree};
     ghost use Rattle.dtype_types.specs.Tree.{extension};
-    ghost use Rattle.dtype_types.specs.Hashes.{part_of};
     ghost use Rattle.dtype_types.specs.HashesOf.{extension_writes};
     ghost use Rattle.dtype_types.specs.Width.{Measures};
 
@@ -238,7 +237,7 @@ impl ExtDTypeRef {
     // Feeds a hasher the id, the metadata and the storage.
     #[cycle(hash)]
     pub(crate) fn feed<H: Hasher>(&self, rule: Hashed, state: &mut H)
-        ensures { state.new ≡ fold H.write state.old (extension_writes (part_of rule) self.now) }
+        ensures { state.new ≡ fold H.write state.old (extension_writes rule self.now) }
     {
         self.parts.id.hash(state);
         state.write_usize(self.parts.metadata.len());
@@ -320,7 +319,7 @@ impl Eq for ExtDTypeRef {
 impl Hash for ExtDTypeRef {
     ghost use Rattle.dtype_types.specs.HashLaws.{extension_fed};
     ghost use Rattle.dtype_types.specs.HashesOf.{extension_writes};
-    ghost use Rattle.dtype_types.specs.Hashes.{Whole};
+    ghost use Rattle.dtype_types.specs.declared.dtype.hash.Hashed.TheVariants.{Whole};
 
     ghost hash_input = { extension_writes Whole };
 

@@ -32,7 +32,6 @@ struct Entries<T> {
 
 impl MapDType {
     ghost use Rattle.dtype_types.specs.Equality.{agree};
-    ghost use Rattle.dtype_types.specs.Hashes.{part_of};
     ghost use Rattle.dtype_types.specs.HashesOf.{map_writes};
     ghost use Rattle.dtype_types.specs.Maps.{entries_of};
     ghost use Rattle.dtype_types.specs.Nullable.{nullability, IsNullable};
@@ -111,7 +110,7 @@ impl MapDType {
     // Feeds a hasher the key, the value, and whether the keys are sorted.
     #[cycle(hash)]
     pub(crate) fn feed<H: Hasher>(&self, rule: Hashed, state: &mut H)
-        ensures { state.new ≡ fold H.write state.old (map_writes (part_of rule) self.now) }
+        ensures { state.new ≡ fold H.write state.old (map_writes rule self.now) }
     {
         feed(&self.shared.key, rule, state);
         feed(&self.shared.value, rule, state);
@@ -151,7 +150,7 @@ impl Eq for MapDType {
 impl Hash for MapDType {
     ghost use Rattle.dtype_types.specs.HashLaws.{map_fed};
     ghost use Rattle.dtype_types.specs.HashesOf.{map_writes};
-    ghost use Rattle.dtype_types.specs.Hashes.{Whole};
+    ghost use Rattle.dtype_types.specs.declared.dtype.hash.Hashed.TheVariants.{Whole};
 
     ghost hash_input = { map_writes Whole };
 

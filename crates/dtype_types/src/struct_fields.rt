@@ -43,7 +43,6 @@ impl StructFields {
     ghost use Rattle.dtype_types.specs.IndentedText.{indented_text, indented_braces};
     ghost use Rattle.dtype_types.specs.Lookups.{first_named, field_names, field_types, Projects};
     ghost use Rattle.dtype_types.specs.Distinct.{Distinct};
-    ghost use Rattle.dtype_types.specs.Hashes.{part_of};
     ghost use Rattle.dtype_types.specs.HashesOf.{struct_writes};
     ghost use Rattle.dtype_types.specs.Tree.{Tree};
     ghost use Rattle.dtype_types.specs.TreeOf.{fields_of, struct_dtypes, struct_pairs, children, tree, shown, struct_tree};
@@ -237,7 +236,7 @@ impl StructFields {
     // Feeds a hasher how many fields there are, and each field.
     #[cycle(hash)]
     pub(crate) fn feed<H: Hasher>(&self, rule: Hashed, state: &mut H)
-        ensures { state.new ≡ fold H.write state.old (struct_writes (part_of rule) self.now) }
+        ensures { state.new ≡ fold H.write state.old (struct_writes rule self.now) }
     {
         state.write_usize(self.nfields());
         for (name, dtype) in self.pairs() {
@@ -408,7 +407,7 @@ impl Eq for StructFields {
 impl Hash for StructFields {
     ghost use Rattle.dtype_types.specs.HashLaws.{struct_fed};
     ghost use Rattle.dtype_types.specs.HashesOf.{struct_writes};
-    ghost use Rattle.dtype_types.specs.Hashes.{Whole};
+    ghost use Rattle.dtype_types.specs.declared.dtype.hash.Hashed.TheVariants.{Whole};
 
     ghost hash_input = { struct_writes Whole };
 

@@ -86,7 +86,6 @@ impl UnionVariants {
     ghost use Rattle.dtype_types.specs.Equality.{agree_variants};
     ghost use Rattle.dtype_types.specs.Erase.{erase};
     ghost use Rattle.dtype_types.specs.Lookups.{variant_named, variant_types, variant_names, variant_tags};
-    ghost use Rattle.dtype_types.specs.Hashes.{part_of};
     ghost use Rattle.dtype_types.specs.HashesOf.{union_writes};
     ghost use Rattle.dtype_types.specs.TreeOf.{tree, variants_of, choices, union_dtypes, union_triples, zip_tagged, shown, union_tree};
     ghost use Rattle.dtype_types.specs.Valid.{Valid};
@@ -266,7 +265,7 @@ impl UnionVariants {
     // Feeds a hasher how many variants there are, and each variant.
     #[cycle(hash)]
     pub(crate) fn feed<H: Hasher>(&self, rule: Hashed, state: &mut H)
-        ensures { state.new ≡ fold H.write state.old (union_writes (part_of rule) self.now) }
+        ensures { state.new ≡ fold H.write state.old (union_writes rule self.now) }
     {
         state.write_usize(self.len());
         for (name, tag, dtype) in self.triples() {
@@ -322,7 +321,7 @@ impl Eq for UnionVariants {
 impl Hash for UnionVariants {
     ghost use Rattle.dtype_types.specs.HashLaws.{union_fed};
     ghost use Rattle.dtype_types.specs.HashesOf.{union_writes};
-    ghost use Rattle.dtype_types.specs.Hashes.{Whole};
+    ghost use Rattle.dtype_types.specs.declared.dtype.hash.Hashed.TheVariants.{Whole};
 
     ghost hash_input = { union_writes Whole };
 

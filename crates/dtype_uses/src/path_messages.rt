@@ -7,7 +7,7 @@
 ghost use Rattle.std.specs.Prelude.{◌≡◌, ◌↔◌, ◌⊎◌, ◌∷◌, [], IfErr, IfOk, IsErr, IsOkUnless, IsTrue, string_bytes};
 ghost use Rattle.vortex_dtype.specs.Types.VortexError.TheVariants.{Message, OutOfMemory};
 ghost use Rattle.vortex_dtype.specs.Types.MessageFault.TheVariants.{PathPartMissing};
-ghost use Rattle.vortex_dtype.specs.MessageOf.{list_parts, struct_parts};
+ghost use Rattle.vortex_dtype.specs.MessageOf.{list_content, struct_content};
 ghost use Rattle.vortex_dtype.specs.PathNames.{part_name, part_names};
 ghost use Rattle.vortex_dtype.specs.Types.Field.TheVariants.{Name};
 
@@ -46,14 +46,14 @@ pub fn is_struct_kept_by_copying(alloc: Global, proto: &pb::Struct) -> VortexRes
 
 /// Whether two lists' messages are the same, and then their elements are.
 pub fn is_same_list(a: &pb::List, b: &pb::List) -> bool
-    ensures { IsTrue result ↔ (list_parts a.now ≡ list_parts b.now) }
+    ensures { IsTrue result ↔ (list_content a.now ≡ list_content b.now) }
 {
     *a == *b
 }
 
 /// Whether two messages of structs have the same names, types and flag.
 pub fn is_same_struct(a: &pb::Struct, b: &pb::Struct) -> bool
-    ensures { IsTrue result ↔ (struct_parts a.now ≡ struct_parts b.now) }
+    ensures { IsTrue result ↔ (struct_content a.now ≡ struct_content b.now) }
 {
     *a == *b
 }

@@ -72,9 +72,9 @@ abbrev mutual
   ReadsVariants s (n ∷ ns) (more m ms) (g ∷ gs) vs =
       (x : Tree) × (k : ℕ) × (rest : Variants) × Reads s m x × (integer_byte g ≡ Some k) × ReadsVariants s ns ms gs rest × (vs ≡ choice n x k rest)
 
-abbrev pub count : Messages → ℕ
-count no_message = 0
-count (more m ms) = count ms + 1
+abbrev pub message_count : Messages → ℕ
+message_count no_message = 0
+message_count (more m ms) = message_count ms + 1
 
 -- some tag isn't from 0 to 255
 abbrev pub SomeTagFault : List ℤ → Type 0
@@ -105,8 +105,8 @@ abbrev mutual
   Fault s (fixed_size_list c n f) e = ChildFault s FixedElementMissing c e
   Fault s (map_of c v o f) e =
       ChildFault s MapKeyMissing c e ⊎ (ChildFault s MapValueMissing v e ⊎ ((e ≡ MapKeyNullable) × (x : Tree) × ReadsChild s c x × (nullability x ≡ Nullable)))
-  Fault s (struct ns ms f) e = SomeFault s ms e ⊎ ((e ≡ Faulty StructLengths) × (length ns ≢ count ms))
-  Fault s (union ns ms gs f) e = SomeFault s ms e ⊎ UnionFault ns (count ms) gs e
+  Fault s (struct ns ms f) e = SomeFault s ms e ⊎ ((e ≡ Faulty StructLengths) × (length ns ≢ message_count ms))
+  Fault s (union ns ms gs f) e = SomeFault s ms e ⊎ UnionFault ns (message_count ms) gs e
   Fault s (variant f) e = ⊥
   Fault s (extension id c b) e =
       ChildFault s StorageMissing c e ⊎ ((e ≡ refusal s id) × (x : Tree) × ReadsChild s c x × (keeps s id (or_empty b) x ≡ None))

@@ -11,12 +11,12 @@ use Rattle.std.specs.Ordering.{eq_by_cmp}
 use Rattle.std.proofs.Common.{◌∙◌}
 use Rattle.dtype_paths.specs.Equality.{same_field, same_path}
 use Rattle.dtype_paths.specs.EqualityLaws.{same_path-Decides}
-use Rattle.dtype_paths.specs.PathOrder.{field_cmp, name_of, path_cmp}
+use Rattle.dtype_paths.specs.PathOrder.{field_cmp, held_name, path_cmp}
 use Rattle.dtype_paths.specs.declared.field.Field.{Field}
 use Rattle.dtype_paths.specs.declared.field.Field.TheVariants.{Name, ElementType}
 
 pub field_cmp_total : IsTotalOrder field_cmp
-field_cmp_total = on_total name_of (options_total nat_list_cmp_total)
+field_cmp_total = on_total held_name (options_total nat_list_cmp_total)
 
 pub path_cmp_total : IsTotalOrder path_cmp
 path_cmp_total = lists_total field_cmp_total

@@ -3,7 +3,7 @@
 
 use Rattle.std.proofs.Common.{◌≡◌, ◌≤◌, fold}
 use denote.Param.Weighed.{most}
-use Rattle.dtype_types.specs.Hashes.{part_of, field_writes, variant_writes}
+use Rattle.dtype_types.specs.Hashes.{field_writes, variant_writes}
 use Rattle.dtype_types.specs.Lists.{seconds, types_of}
 use Rattle.dtype_types.specs.Tree.{fields, variants}
 use Rattle.dtype_types.specs.TreeOf.{struct_dtypes, fields_of, union_dtypes, variants_of, with_trees, with_tagged_trees}
@@ -13,12 +13,12 @@ use Rattle.dtype_types.proofs.+hash.Given as goal
 -- what the fields that are left will write is what all of them do, and they are no deeper
 abbrev pub invariant-struct_fields::StructFields::feed-loop-name : goal.invariant-struct_fields::StructFields::feed-loop-name
 invariant-struct_fields::StructFields::feed-loop-name g l = record {
-  fed : fold g.H.Hasher.write l.initial.state (field_writes (part_of l.rule) (fields_of l.self)) ≡ fold g.H.Hasher.write l.state (field_writes (part_of l.rule) (fields (with_trees l.name-iterator)));
+  fed : fold g.H.Hasher.write l.initial.state (field_writes l.rule (fields_of l.self)) ≡ fold g.H.Hasher.write l.state (field_writes l.rule (fields (with_trees l.name-iterator)));
   within : most size-DType (seconds l.name-iterator) ≤ most size-DType (struct_dtypes l.self);
 }
 
 abbrev pub invariant-union_variants::UnionVariants::feed-loop-name : goal.invariant-union_variants::UnionVariants::feed-loop-name
 invariant-union_variants::UnionVariants::feed-loop-name g l = record {
-  fed : fold g.H.Hasher.write l.initial.state (variant_writes (part_of l.rule) (variants_of l.self)) ≡ fold g.H.Hasher.write l.state (variant_writes (part_of l.rule) (variants (with_tagged_trees l.name-iterator)));
+  fed : fold g.H.Hasher.write l.initial.state (variant_writes l.rule (variants_of l.self)) ≡ fold g.H.Hasher.write l.state (variant_writes l.rule (variants (with_tagged_trees l.name-iterator)));
   within : most size-DType (types_of l.name-iterator) ≤ most size-DType (union_dtypes l.self);
 }

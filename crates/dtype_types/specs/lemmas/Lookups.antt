@@ -13,8 +13,8 @@ use Rattle.dtype_types.specs.Lookups.{first_named, field_names, field_types, var
 use Rattle.dtype_types.specs.Tree.{Tree}
 
 -- the test of a name, at a name that is equal and at one that is not
-pub same_name : {X : Type 0} (m n : List ℕ) (x y : X) → m ≡ n → cond (bytes_eq m n) x y ≡ x
-same_name m n x y e = ap (λ b. cond b x y) ((bytes_eq-Decides m n).1 e)
+pub taken_same_name : {X : Type 0} (m n : List ℕ) (x y : X) → m ≡ n → cond (bytes_eq m n) x y ≡ x
+taken_same_name m n x y e = ap (λ b. cond b x y) ((bytes_eq-Decides m n).1 e)
 
 pub other_name : {X : Type 0} (m n : List ℕ) (x y : X) → m ≢ n → cond (bytes_eq m n) x y ≡ y
 other_name m n x y ne = ap (λ b. cond b x y) (false_from_ne_true (bytes_eq m n) (λ e. ne ((bytes_eq-Decides m n).0 e)))
@@ -24,7 +24,7 @@ other_name m n x y ne = ap (λ b. cond b x y) (false_from_ne_true (bytes_eq m n)
 field_named-at : (ps : List (List ℕ × Tree)) (n : List ℕ) (i : ℕ) → slice_get (field_names ps) i ≡ Some n → ((k : ℕ) → k < i → slice_get (field_names ps) k ≢ Some n) → first_named ps n ≡ slice_get (field_types ps) i
 field_named-at [] n zero here first = cc
 field_named-at [] n (suc i) here first = cc
-field_named-at (p ∷ ps) n zero here first = same_name p.0 n _ _ (same_Some p.0 n here)
+field_named-at (p ∷ ps) n zero here first = taken_same_name p.0 n _ _ (same_Some p.0 n here)
 field_named-at (p ∷ ps) n (suc i) here first =
     other_name p.0 n _ _ (λ e. first 0 (omega arith) (ap Some e)) ∙ field_named-at ps n i here (λ k h. first (suc k) (omega (arith, h)))
 
@@ -43,7 +43,7 @@ no_field_at_place fs n e = sym (field_named-none fs n (absent_of_place (field_na
 variant_named-at : (vs : List (List ℕ × Tree × ℕ)) (n : List ℕ) (i : ℕ) → slice_get (variant_names vs) i ≡ Some n → ((k : ℕ) → k < i → slice_get (variant_names vs) k ≢ Some n) → variant_named vs n ≡ slice_get (variant_types vs) i
 variant_named-at [] n zero here first = cc
 variant_named-at [] n (suc i) here first = cc
-variant_named-at (v ∷ vs) n zero here first = same_name v.0 n _ _ (same_Some v.0 n here)
+variant_named-at (v ∷ vs) n zero here first = taken_same_name v.0 n _ _ (same_Some v.0 n here)
 variant_named-at (v ∷ vs) n (suc i) here first =
     other_name v.0 n _ _ (λ e. first 0 (omega arith) (ap Some e)) ∙ variant_named-at vs n i here (λ k h. first (suc k) (omega (arith, h)))
 

@@ -8,7 +8,7 @@ use Rattle.dtype_types.specs.Erase.{erase}
 use Rattle.dtype_types.specs.Sub.{Sub}
 use Rattle.dtype_types.specs.Tree.{Tree, bool, fixed_size_list}
 use Rattle.dtype_types.specs.Valid.{Valid}
-use Rattle.dtype_types.specs.Value.{IncludedIn, Value, Values, Of, Each, count, no_values, value, null_value, fixed_items}
+use Rattle.dtype_types.specs.Value.{IncludedIn, Value, Values, Of, Each, value_count, no_values, value, null_value, fixed_items}
 
 abbrev wide : Tree
 wide = fixed_size_list (bool Nullable) 0 NonNullable
@@ -16,7 +16,7 @@ wide = fixed_size_list (bool Nullable) 0 NonNullable
 abbrev narrow : Tree
 narrow = fixed_size_list (bool NonNullable) 0 NonNullable
 
-empty : (vs : Values) → count vs ≡ 0 → Each (λ v. Of v (bool NonNullable)) vs
+empty : (vs : Values) → value_count vs ≡ 0 → Each (λ v. Of v (bool NonNullable)) vs
 empty no_values e = tt
 empty (value v vs) e = absurd (cc e)
 

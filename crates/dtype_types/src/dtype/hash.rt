@@ -3,7 +3,7 @@
 
 // Hashes of types: one walk that feeds a hasher, with the nullabilities or without them.
 ghost use Rattle.std.specs.Prelude.{◌≡◌, ◌<◌, fold};
-ghost use Rattle.dtype_types.specs.Hashes.{hash_of, head_writes, part_of, hash_writes_ignoring_nullability};
+ghost use Rattle.dtype_types.specs.Hashes.{hash_of, head_writes, hash_writes_ignoring_nullability};
 ghost use Rattle.dtype_types.specs.TreeOf.{tree};
 
 use crate::{DType, Kind};
@@ -21,7 +21,7 @@ impl Hashed {
     // Feeds a hasher the number of what a type is, and its nullability where nullabilities count, in one byte.
     fn feed_head<H: Hasher>(self, number: u8, nullability: Nullability, state: &mut H)
         requires { number < 128 }
-        ensures { state.new ≡ fold H.write state.old (head_writes (part_of self) number nullability) }
+        ensures { state.new ≡ fold H.write state.old (head_writes self number nullability) }
     {
         let mark = match (self, nullability) {
             (Hashed::Whole, Nullability::Nullable) => 1,
@@ -34,7 +34,7 @@ impl Hashed {
 // Feeds a hasher the type.
 #[cycle(hash)]
 pub(crate) fn feed<H: Hasher>(dtype: &DType, rule: Hashed, state: &mut H)
-    ensures { state.new ≡ fold H.write state.old (hash_of (part_of rule) (tree dtype.now)) }
+    ensures { state.new ≡ fold H.write state.old (hash_of rule (tree dtype.now)) }
 {
     let number = dtype.kind().number();
     match dtype {

@@ -36,7 +36,7 @@ use Rattle.dtype_messages.specs.Message.{Message, Child, Messages, missing, null
 use Rattle.vortex_dtype.specs.Meaning.{Meaning, Admits, keeps, refusal}
 use Rattle.dtype_messages.specs.PTypeNumbers.{ptype_at}
 use Rattle.vortex_dtype.specs.Numbers.{integer_byte, signed_byte, natural_byte}
-use Rattle.vortex_dtype.specs.Reads.{Reads, ReadsChild, ReadsFields, ReadsVariants, Fault, ChildFault, SomeFault, SomeTagFault, UnionFault, DecimalFault, decimal_with, number, count}
+use Rattle.vortex_dtype.specs.Reads.{Reads, ReadsChild, ReadsFields, ReadsVariants, Fault, ChildFault, SomeFault, SomeTagFault, UnionFault, DecimalFault, decimal_with, number, message_count}
 use Rattle.vortex_dtype.specs.ReadInOrder.{Gives, read, read_child, read_all, read_tags, primitive_read, decimal_made, decimal_read, map_read, when_required, struct_read, union_made, union_read, extension_read, repeats, ◌>>=◌, or_fault, or_empty}
 use Rattle.vortex_dtype.specs.lemmas.Decimals.{made_ok, made_err, fits_byte, fits_small, no_byte, no_small}
 use Rattle.vortex_dtype.specs.lemmas.Unions.{apart, has_names, tags_up, union_refused}
@@ -321,7 +321,7 @@ mutual
       let b = bind_ok (read_all s ms) _ ts a.2 in
       more_variants s ns m ms gs ts tags a.0 b.0 (ok_is (a.0 ∷ b.0) ts b.2) (read_reads s m a.0 a.1) f h l (λ ns' gs' tags' f' k l'. all_variants s ns' ms gs' b.0 tags' b.1 f' k l')
 
-count_all : (s : Meaning) (ms : Messages) (ts : List Tree) → read_all s ms ≡ Ok ts → length ts ≡ count ms
+count_all : (s : Meaning) (ms : Messages) (ts : List Tree) → read_all s ms ≡ Ok ts → length ts ≡ message_count ms
 unfolding read
 count_all s no_message ts e = sym (ap length (sym (ok_is [] ts e)))
 count_all s (more m ms) ts e =
@@ -337,10 +337,10 @@ kept_fault : (s : Meaning) (id : List ℕ) (c : Child) (b : List ℕ) (k : Vorte
     → (k ≡ refusal s id) × (x' : Tree) × ReadsChild s c x' × (keeps s id b x' ≡ None)
 kept_fault s id c b k x r e = let g = extension_fault s id b x k e in (g.0, x, child_reads s StorageMissing c x r, g.1)
 
-struct_counts : (s : Meaning) (ns : List (List ℕ)) (ms : Messages) (ts : List Tree) (k : VortexError) → read_all s ms ≡ Ok ts → (k ≡ Faulty StructLengths) × (length ns ≢ length ts) → (k ≡ Faulty StructLengths) × (length ns ≢ count ms)
+struct_counts : (s : Meaning) (ns : List (List ℕ)) (ms : Messages) (ts : List Tree) (k : VortexError) → read_all s ms ≡ Ok ts → (k ≡ Faulty StructLengths) × (length ns ≢ length ts) → (k ≡ Faulty StructLengths) × (length ns ≢ message_count ms)
 struct_counts s ns ms ts k r g = (g.0, λ h. g.1 (h ∙ sym (count_all s ms ts r)))
 
-union_counts : (s : Meaning) (ns : List (List ℕ)) (ms : Messages) (gs : List ℤ) (ts : List Tree) (k : VortexError) → read_all s ms ≡ Ok ts → UnionFault ns (length ts) gs k → UnionFault ns (count ms) gs k
+union_counts : (s : Meaning) (ns : List (List ℕ)) (ms : Messages) (gs : List ℤ) (ts : List Tree) (k : VortexError) → read_all s ms ≡ Ok ts → UnionFault ns (length ts) gs k → UnionFault ns (message_count ms) gs k
 union_counts s ns ms gs ts k r g = subst (λ (c : ℕ). UnionFault ns c gs k) (count_all s ms ts r) g
 
 -- ---- a refusal is a fault that stands in the message

@@ -32,7 +32,7 @@ use Rattle.vortex_dtype.specs.Meaning.{Meaning, LawfulSession, Admits, AdmitsFie
 use Rattle.dtype_messages.specs.PTypeNumbers.{ptype_at, ptype_from}
 use Rattle.vortex_dtype.specs.Numbers.{integer_byte}
 use Rattle.vortex_dtype.specs.ReadInOrder.{or_empty}
-use Rattle.vortex_dtype.specs.Reads.{Reads, ReadsChild, ReadsFields, ReadsVariants, Fault, ChildFault, SomeFault, SomeTagFault, UnionFault, number, count}
+use Rattle.vortex_dtype.specs.Reads.{Reads, ReadsChild, ReadsFields, ReadsVariants, Fault, ChildFault, SomeFault, SomeTagFault, UnionFault, number, message_count}
 use Rattle.vortex_dtype.specs.Accepts.{Accepts}
 use Rattle.vortex_dtype.specs.Written.{is_nullable, written, written_names, written_fields, written_variant_names, written_variants, written_tags, Normal, NormalChild, NormalAll}
 use Rattle.vortex_dtype.specs.IsMessage.{IsMessage, IsChild, AreMessages}
@@ -102,7 +102,7 @@ mutual
       let rest = variants_once s ns ms gs h.2 k.2 h.5 k.5 in
       h.6 ∙ ap (λ y. choice n y h.1 h.2) x ∙ ap (λ y. choice n k.0 y h.2) tag ∙ ap (λ y. choice n k.0 k.1 y) rest ∙ sym k.6
 
-count_variants : (s : Meaning) (ns : List (List ℕ)) (ms : Messages) (gs : List ℤ) (vs : Variants) → ReadsVariants s ns ms gs vs → (length ns ≡ count ms) × (length ns ≡ length gs)
+count_variants : (s : Meaning) (ns : List (List ℕ)) (ms : Messages) (gs : List ℤ) (vs : Variants) → ReadsVariants s ns ms gs vs → (length ns ≡ message_count ms) × (length ns ≡ length gs)
 count_variants s [] no_message [] vs h = (refl, refl)
 count_variants s [] no_message (g ∷ gs) vs h = absurd h
 count_variants s [] (more m ms) gs vs h = absurd h
@@ -118,13 +118,13 @@ no_tag_fault s (n ∷ ns) no_message gs vs h f = h
 no_tag_fault s (n ∷ ns) (more m ms) [] vs h f = h
 no_tag_fault s (n ∷ ns) (more m ms) (g ∷ gs) vs h f = ⊎_elim (λ a. none-some h.1 (sym a ∙ h.4)) (λ a. no_tag_fault s ns ms gs h.2 h.5 a) f
 
-union_fault : (s : Meaning) (ns : List (List ℕ)) (ms : Messages) (gs : List ℤ) (vs : Variants) (e : VortexError) → ReadsVariants s ns ms gs vs → ns ≢ [] → Distinct gs → Distinct ns → UnionFault ns (count ms) gs e → ⊥
+union_fault : (s : Meaning) (ns : List (List ℕ)) (ms : Messages) (gs : List ℤ) (vs : Variants) (e : VortexError) → ReadsVariants s ns ms gs vs → ns ≢ [] → Distinct gs → Distinct ns → UnionFault ns (message_count ms) gs e → ⊥
 union_fault s ns ms gs vs e h some tags names f =
     let c = count_variants s ns ms gs vs h in
     ⊎_elim (λ a. no_tag_fault s ns ms gs vs h a.1)
-    (λ a. makes_unrefused ns (count ms) a.0 e ((c.0, c.1 ∙ ap length a.1 ∙ length-map a.0 pos, some), tags_down gs a.0 a.1 tags, names) a.2) f
+    (λ a. makes_unrefused ns (message_count ms) a.0 e ((c.0, c.1 ∙ ap length a.1 ∙ length-map a.0 pos, some), tags_down gs a.0 a.1 tags, names) a.2) f
 
-count_fields : (s : Meaning) (ns : List (List ℕ)) (ms : Messages) (fs : Fields) → ReadsFields s ns ms fs → length ns ≡ count ms
+count_fields : (s : Meaning) (ns : List (List ℕ)) (ms : Messages) (fs : Fields) → ReadsFields s ns ms fs → length ns ≡ message_count ms
 count_fields s [] no_message fs h = refl
 count_fields s [] (more m ms) fs h = absurd h
 count_fields s (n ∷ ns) no_message fs h = absurd h

@@ -7,4 +7,4 @@ use Rattle.dtype_native.proofs.ptype_visitor.match_smallest_offset_type.Goals as
 
 pub returns-then-n : goal.returns-then-n
 returns-then-n g c =
-    (U32, record { among = (2, lit< tt, refl); reaches = search rules; least = search rules }, c.visit_u32.ensures)
+    (U32, record { among = (2, lit< tt, refl); fits = search rules; least = search rules }, c.visit_u32.ensures)

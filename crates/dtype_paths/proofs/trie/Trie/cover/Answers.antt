@@ -4,7 +4,7 @@
 use Rattle.std.proofs.Common.{[], ◌∷◌, ◌++◌, ◌≡◌, ◌∙◌, arith, sym, refl, subst}
 use Rattle.std.proofs.lemmas.List.{nil_from_length}
 use Rattle.std.proofs.lemmas.Option.{MatchOption-at_none}
-use Rattle.dtype_paths.specs.Children.{steps_of}
+use Rattle.dtype_paths.specs.Children.{places_by_step}
 use Rattle.dtype_paths.specs.Trie.{IsTrie}
 use Rattle.dtype_paths.proofs.Visiting.{Visits, visits-start, visits-counts, visits-within, visited-end, visited-children, visited-count, visited-least, visited-once}
 use Rattle.dtype_paths.proofs.trie.Trie.cover.Goals as goal
@@ -56,7 +56,7 @@ loop-place-preserved c =
     let next = c.open-end.new.self in let e = c.open-end.ensures in
     let n = visits-counts nodes l.nodes next l.found.items l.visits ps x t o e.long e.end_of_others e.steps_of_others _ c.open-end.new.visits e.visited (omega (arith, e.fits, o.long)) in
     let g = c.in_ok-give_places-in-None.ensures in
-    rw (g.ok, n.0) (visited-children nodes l.nodes next l.found.items l.visits ps x t o e.long e.end_of_others e.steps_of_others (steps_of c.open-end.result.1) g.once e.steps (sym e.end ∙ c.in-None.is))
+    rw (g.ok, n.0) (visited-children nodes l.nodes next l.found.items l.visits ps x t o e.long e.end_of_others e.steps_of_others (places_by_step c.open-end.result.1) g.once e.steps (sym e.end ∙ c.in-None.is))
 
 pub returns-clause-least : goal.returns-clause-least
 returns-clause-least c =

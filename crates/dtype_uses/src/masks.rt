@@ -4,7 +4,7 @@
 //! A reader that descends a table with a mask: what is asked of it further down.
 #![tactic(auto, using(vortex_dtype::specs::Stepping::stepping))]
 
-ghost use Rattle.std.specs.Prelude.{◌≡◌, ◌↔◌, ◌∷◌, [], IfOk, IfSome, IsTrue, List, false};
+ghost use Rattle.std.specs.Prelude.{◌≡◌, ◌↔◌, ◌∷◌, ◌++◌, [], IfNone, IfOk, IfSome, IsTrue, List, false};
 ghost use Rattle.vortex_dtype.specs.In.{In};
 ghost use Rattle.vortex_dtype.specs.Types.Field.{Field};
 
@@ -62,6 +62,46 @@ pub fn mask_below_field(mask: FieldMask, field: &Field) -> VortexResult<Option<F
         return Ok(None);
     }
     Ok(Some(mask.step_into()?))
+}
+
+/// What is asked of a layout's child, behind its field: nothing where the mask leads elsewhere.
+pub fn mask_of_child(
+    alloc: Global,
+    mask: &FieldMask,
+    child: &Field,
+) -> VortexResult<Option<FieldMask>>
+    ensures found { IfOk result (λ below. IfSome below (λ m. (q : List Field)
+        → In m q ↔ In mask.now (child.now ∷ q))) }
+    ensures nothing { IfOk result (λ below. IfNone below ((q : List Field)
+        → ¬ (In mask.now (child.now ∷ q)))) }
+{
+    if mask.matches_all() {
+        return Ok(Some(FieldMask::All));
+    }
+    match mask.starting_field()? {
+        Some(first) if first == child => Ok(Some(mask.try_clone(alloc)?.step_into()?)),
+        _ => Ok(None),
+    }
+}
+
+/// What is asked of a layout down a tree of layouts, behind a field at each level.
+pub fn mask_down_layouts(
+    alloc: Global,
+    mask: FieldMask,
+    fields: &[Field],
+) -> VortexResult<Option<FieldMask>>
+    ensures found { IfOk result (λ below. IfSome below (λ m. (q : List Field)
+        → In m q ↔ In mask (fields.now ++ q))) }
+    ensures nothing { IfOk result (λ below. IfNone below ((q : List Field)
+        → ¬ (In mask (fields.now ++ q)))) }
+{
+    let Some((child, behind)) = fields.split_first() else {
+        return Ok(Some(mask));
+    };
+    match mask_of_child(alloc, &mask, child)? {
+        Some(below) => mask_down_layouts(alloc, below, behind),
+        None => Ok(None),
+    }
 }
 
 /// The mask of a whole table: it holds every path.

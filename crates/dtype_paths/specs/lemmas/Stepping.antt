@@ -15,8 +15,11 @@ use Rattle.dtype_paths.specs.At.{At, ExistsIn}
 use Rattle.dtype_paths.specs.Beginning.{Beginning}
 use Rattle.dtype_paths.specs.Equality.{same_field, same_path}
 use Rattle.dtype_paths.specs.EqualityLaws.{same_field-Decides, same_path-Decides}
+use Rattle.dtype_paths.specs.In.{In, first_part}
 use Rattle.dtype_paths.specs.declared.field.Field.{Field}
 use Rattle.dtype_paths.specs.declared.field.Field.TheVariants.{Name, ElementType}
+use Rattle.dtype_paths.specs.declared.field_mask.FieldMask.{FieldMask}
+use Rattle.dtype_paths.specs.declared.field_mask.FieldMask.TheVariants.{All, Prefix, Exact}
 
 split_at : (t u : Tree) (p q : List Field) → At t (p ++ q) u → (x : Tree) × At t p x × At x q u
 split_at t u [] q a = (t, refl, a)
@@ -101,4 +104,25 @@ valid_along _ (_ ∷ p) u h a = cc
 pub given_valid : (t u : Tree) (p : List Field) → Some u ≡ along t p → Valid t → Valid u
 given_valid t u p e h = valid_along t p u h (given_stands t u p e)
 
-pub ruleset stepping = (given_stands, given_exists, given_valid, none_stands, none_exists, column_along, at_behind, beginning_exists_in, front_exists_in, root_begins, root_leads, root_exists_in, tested_fields, tested_paths)
+-- ---- what a mask asks for behind a step
+
+-- behind a step other than the first of its path a mask asks for nothing
+other_first : (p q : List Field) (f g h : Field) → f ∷ p ≡ h ∷ q → Some g ≡ Some h → same_field g f ≡ false → ⊥
+other_first p q f g h same first other = let e : same_field g f ≡ true = (same_field-Decides g f).1 (cc) in cc
+
+pub other_unasked : (m : FieldMask) (f g : Field) (q : List Field) → Some g ≡ first_part m → same_field g f ≡ false → In m (f ∷ q) → ⊥
+other_unasked All f g q first other asked = cc
+other_unasked (Prefix []) f g q first other asked = cc
+other_unasked (Prefix (h ∷ p)) f g q first other asked = other_first q (p ++ asked.0) f g h asked.1 first other
+other_unasked (Exact []) f g q first other asked = cc
+other_unasked (Exact (h ∷ p)) f g q first other asked = other_first q p f g h asked first other
+
+-- nor does a mask whose path has no step, unless it asks for everything
+pub none_unasked : (m : FieldMask) (f : Field) (q : List Field) → None ≡ first_part m → (((r : List Field) → In m r) → ⊥) → In m (f ∷ q) → ⊥
+none_unasked All f q first some asked = some (λ r. tt)
+none_unasked (Prefix []) f q first some asked = some (λ r. (r, refl))
+none_unasked (Prefix (h ∷ p)) f q first some asked = cc
+none_unasked (Exact []) f q first some asked = cc
+none_unasked (Exact (h ∷ p)) f q first some asked = cc
+
+pub ruleset stepping = (given_stands, given_exists, given_valid, none_stands, none_exists, column_along, at_behind, beginning_exists_in, front_exists_in, root_begins, root_leads, root_exists_in, tested_fields, tested_paths, other_unasked, none_unasked)

@@ -27,19 +27,23 @@ pub fn parse_line(alloc: Global, line: &str) -> VortexResult<FieldPath>
     }
     let mut parts = Vec::new(alloc);
     for part in line.split('.') {
-        parts.push(parse_part(alloc, part)?)?;
+        let step = parse_part(alloc, part, parts.last())?;
+        parts.push(step)?;
     }
     Ok(FieldPath::from_vec(parts))
 }
 
-// The step that a part means. Refuses 0 (OutOfMemory) alone.
-fn parse_part(alloc: Global, part: &str) -> VortexResult<Field>
+// The step that a part means. A name that is the step before it too shares that one's text, so a long path of one name
+// takes half the memory. Refuses 0 (OutOfMemory) alone.
+fn parse_part(alloc: Global, part: &str, before: Option<&Field>) -> VortexResult<Field>
     ensures ok { IfOk result (λ f. f ≡ part_of part.now) }
     ensures refused { IsOkUnless result OutOfMemory }
 {
     if part == "[]" {
-        Ok(Field::ElementType)
-    } else {
-        Ok(Field::Name(FieldName::new(alloc, part)?))
+        return Ok(Field::ElementType);
+    }
+    match before {
+        Some(Field::Name(name)) if name.eq_str(part) => Ok(Field::Name(name.try_clone(alloc)?)),
+        _ => Ok(Field::Name(FieldName::new(alloc, part)?)),
     }
 }

@@ -2,7 +2,7 @@
 -- SPDX-FileCopyrightText: Copyright the Vortex contributors
 
 -- Keys that differ are in the order of the names, where these begin alike; and the index that is sorted by them.
-use Rattle.std.proofs.Common.{◌%◌, mod-eq_of_lt, ◌≡◌, ◌≢◌, ℕ, zero, suc, ◌+◌, ◌-◌, ◌*◌, ◌<◌, ◌≤◌, ◌^◌, List, [], ◌∷◌, ◌++◌, length, get_or, take, drop, Some, Bool, true, false, refl, sym, ap, subst, ◌∙◌, inl, inr, arith, pow-suc, mul-le-mul_right, add-mul, true≢false}
+use Rattle.std.proofs.Common.{◌%◌, mod-eq_of_lt, ◌≡◌, ◌≢◌, ℕ, zero, suc, ◌+◌, ◌-◌, ◌*◌, ◌<◌, ◌≤◌, ◌^◌, List, [], ◌∷◌, ◌++◌, length, get_or, take, drop, Some, Bool, true, false, ◌&&◌, IsTrue, ◌↔◌, ◌/◌, refl, sym, ap, subst, ◌∙◌, inl, inr, arith, pow-suc, mul-le-mul_right, add-mul, true≢false}
 use Rattle.std.specs.Prelude.{slice_get}
 use Rattle.std.proofs.Math.Nat.{add-mul-mod_self_right}
 use Rattle.std.specs.List.{All, range_with_len}
@@ -14,7 +14,7 @@ use Rattle.std.specs.Ordering.{is_lt, is_eq, ordering_then, ordering_reverse, na
 use Rattle.std.specs.Cmp.{IsTotalOrder, then_total, on_total, nat_cmp_is, nat_cmp_total}
 use Rattle.std.specs.Cmp.Lexicographic.{slice_cmp, nat_list_cmp_total}
 use Rattle.std.proofs.lemmas.Bool.{cases_lt, cases_order, false≢true}
-use Rattle.std.proofs.lemmas.List.{length-map, get_or-map, get_or_default, map-append, drop-drop, length-drop}
+use Rattle.std.proofs.lemmas.List.{length-map, get_or-map, get_or_default, map-append, drop-drop, length-drop, take-append-drop}
 use Rattle.std.proofs.lemmas.List.Elements.{All-tail, All-cons, All-append}
 use Rattle.std.proofs.lemmas.List.Sorted.{All-permutation, IsPermutation-map}
 use Rattle.std.proofs.lemmas.Option.{slice_get-get_or, slice_get_within, get_or_from_slice_get}
@@ -67,24 +67,85 @@ behind (suc s) (x ∷ xs) (y ∷ ys) e =
     let rest : take s xs ≡ take s ys = cc in
     ap (λ r. ordering_then r (slice_cmp nat_cmp xs ys)) (sym (nat_cmp_is x y Equal same)) ∙ behind s xs ys rest
 
-bytes_behind : (s : ℕ) (bs : List ℕ) → Bytes bs → Bytes (drop s bs)
+pub bytes_behind : (s : ℕ) (bs : List ℕ) → Bytes bs → Bytes (drop s bs)
 bytes_behind zero bs h = h
 bytes_behind (suc s) [] h = h
 bytes_behind (suc s) (b ∷ bs) h = bytes_behind s bs (All-tail (λ c. c < 256) b bs h)
 
+-- texts of one number have the same first byte, and what is behind it has one number too
+same_digits : (k x y : ℕ) (xs ys : List ℕ) → Bytes (x ∷ xs) → Bytes (y ∷ ys) → high_first (suc k) (x ∷ xs) ≡ high_first (suc k) (y ∷ ys) → (x ≡ y) × (high_first k xs ≡ high_first k ys)
+unfolding high_first
+same_digits k x y xs ys a b e =
+    elim (cases_order x y) [
+      | inl same ↦ (same, omega (arith, e, ap (λ z. z * 256 ^ k) same))
+      | inr (inl lower) ↦
+          let apart : (x + 1) * 256 ^ k ≤ y * 256 ^ k = mul-le-mul_right (256 ^ k) (omega (arith, lower)) in
+          absurd (omega (arith, e, apart, add-mul x 1 (256 ^ k), high_bound k xs (All-tail (λ c. c < 256) x xs a)))
+      | inr (inr higher) ↦
+          let apart : (y + 1) * 256 ^ k ≤ x * 256 ^ k = mul-le-mul_right (256 ^ k) (omega (arith, higher)) in
+          absurd (omega (arith, e, apart, add-mul y 1 (256 ^ k), high_bound k ys (All-tail (λ c. c < 256) y ys b)))
+    ]
+
+-- of two texts of one number, which holds all of the shorter, this comes first
+shorter : (k : ℕ) (xs ys : List ℕ) → Bytes xs → Bytes ys → high_first k xs ≡ high_first k ys → length xs ≤ k → length xs < length ys → slice_cmp nat_cmp xs ys ≡ Less
+shorter k [] [] a b e held less = absurd (omega arith)
+shorter k [] (y ∷ ys) a b e held less = refl
+shorter k (x ∷ xs) [] a b e held less = absurd (omega arith)
+shorter zero (x ∷ xs) (y ∷ ys) a b e held less = absurd (omega arith)
+shorter (suc k) (x ∷ xs) (y ∷ ys) a b e held less =
+    let same = same_digits k x y xs ys a b e in
+    ap (λ r. ordering_then r (slice_cmp nat_cmp xs ys)) (sym (nat_cmp_is x y Equal same.0))
+    ∙ shorter k xs ys (All-tail (λ c. c < 256) x xs a) (All-tail (λ c. c < 256) y ys b) same.1 (omega (arith, held)) (omega (arith, less))
+
+-- texts of one length and one number, which holds all of them, are one text
+one_text : (k : ℕ) (xs ys : List ℕ) → Bytes xs → Bytes ys → high_first k xs ≡ high_first k ys → length xs ≤ k → length xs ≡ length ys → xs ≡ ys
+one_text k [] [] a b e held long = refl
+one_text k [] (y ∷ ys) a b e held long = absurd (omega (arith, long))
+one_text k (x ∷ xs) [] a b e held long = absurd (omega (arith, long))
+one_text zero (x ∷ xs) (y ∷ ys) a b e held long = absurd (omega (arith, held))
+one_text (suc k) (x ∷ xs) (y ∷ ys) a b e held long =
+    let same = same_digits k x y xs ys a b e in
+    let rest = one_text k xs ys (All-tail (λ c. c < 256) x xs a) (All-tail (λ c. c < 256) y ys b) same.1 (omega (arith, held)) (omega (arith, long)) in
+    cc
+
+-- a lower key is that of a name that comes before, of names that begin alike
+comes_before : (s : ℕ) (m n : List ℕ) → Bytes m → Bytes n → take s m ≡ take s n → name_key s m < name_key s n → slice_cmp nat_cmp m n ≡ Less
+unfolding name_key
+comes_before s m n a b alike lower =
+    let xs = drop s m in
+    let ys = drop s n in
+    behind s m n alike
+    ∙ elim (cases_order (high_first 15 xs) (high_first 15 ys)) [
+      | inl same ↦ shorter 15 xs ys (bytes_behind s m a) (bytes_behind s n b) same (omega (arith, lower, same)) (omega (arith, lower, same))
+      | inr (inl less_bytes) ↦ less 15 xs ys (bytes_behind s m a) (bytes_behind s n b) less_bytes
+      | inr (inr more_bytes) ↦ absurd (omega (arith, lower, more_bytes))
+    ]
+
+byte_or : (bs : List ℕ) (i : ℕ) → Bytes bs → get_or bs i 0 < 256
+byte_or [] i h = omega arith
+byte_or (b ∷ bs) zero h = h 0 b (omega arith)
+byte_or (b ∷ bs) (suc i) h = byte_or bs i (All-tail (λ c. c < 256) b bs h)
+
 -- names that begin alike compare as their keys do, where these differ
 keys_tell : (s : ℕ) (m n : List ℕ) → Bytes m → Bytes n → take s m ≡ take s n → name_key s m ≢ name_key s n → nat_cmp (name_key s m) (name_key s n) ≡ slice_cmp nat_cmp m n
-unfolding name_key
 keys_tell s m n a b alike differ =
-    let a_behind = bytes_behind s m a in
-    let b_behind = bytes_behind s n b in
-    elim (cases_order (high_first 16 (drop s m)) (high_first 16 (drop s n))) [
+    elim (cases_order (name_key s m) (name_key s n)) [
       | inl same ↦ absurd (differ same)
-      | inr (inl lower) ↦ sym (nat_cmp_is _ _ Less lower) ∙ sym (behind s m n alike ∙ less 16 (drop s m) (drop s n) a_behind b_behind lower)
+      | inr (inl lower) ↦ sym (nat_cmp_is _ _ Less lower) ∙ sym (comes_before s m n a b alike lower)
       | inr (inr higher) ↦
           sym (nat_cmp_is _ _ Greater higher)
-          ∙ sym (behind s m n alike ∙ nat_list_cmp_total.antisymm (drop s m) (drop s n) ∙ ap ordering_reverse (less 16 (drop s n) (drop s m) b_behind a_behind higher))
+          ∙ sym (nat_list_cmp_total.antisymm m n ∙ ap ordering_reverse (comes_before s n m b a (sym alike) higher))
     ]
+
+-- names that begin alike, with one key that holds all that is behind it, are one name
+one_name : (s : ℕ) (m n : List ℕ) → Bytes m → Bytes n → take s m ≡ take s n → name_key s m ≡ name_key s n → name_key s n % 256 < 16 → m ≡ n
+unfolding name_key
+one_name s m n a b alike same whole =
+    let xs = drop s m in
+    let ys = drop s n in
+    let long : length xs ≡ length ys = omega (arith, same, whole) in
+    let rest : xs ≡ ys = one_text 15 xs ys (bytes_behind s m a) (bytes_behind s n b) (omega (arith, same)) (omega (arith, same, whole)) long in
+    sym (take-append-drop s m) ∙ ap (λ t. t ++ xs) alike ∙ ap (λ t. take s n ++ t) rest ∙ take-append-drop s n
 
 -- ---- places
 
@@ -92,6 +153,11 @@ both_equal : (r s : Ordering) → is_eq (ordering_then r s) ≡ true → s ≡ E
 both_equal Less s e = absurd (false≢true e)
 both_equal Equal s e = is_equal s (sym e)
 both_equal Greater s e = absurd (false≢true e)
+
+key_equal : (r s : Ordering) → ordering_then r s ≡ Equal → is_eq (ordering_then r Equal) ≡ true
+key_equal Less s e = absurd (false≢true (ap is_eq e))
+key_equal Equal s e = refl
+key_equal Greater s e = absurd (false≢true (ap is_eq e))
 
 module _ (names : List (List ℕ)) (shared : ℕ) (alike : BeginAlike names shared) where
   begins : (p : Place) → IsKeyed names shared p → take shared (get_or names p.position []) ≡ take shared (get_or names 0 [])
@@ -158,14 +224,50 @@ module _ (names : List (List ℕ)) (shared : ℕ) (alike : BeginAlike names shar
               ap is_lt (sym (told p n key (keyed k d within) bytes (begins_so n t) is (λ e. omega (arith, e, higher))) ∙ sym greater) ∙ ap (λ r. is_lt (ordering_then r Equal)) greater
         ]
 
-    -- the last comparison, where the texts are asked for
-    pub same_told : (n : List ℕ) (key k : ℕ) (d : Place) (same : Bool) → Bytes n → key ≡ name_key shared n → k < length places → same ≡ is_eq (place_side names n key true (get_or places k d))
-        → (same ≡ true → name_cmp names n (get_or (positions places) k 0) ≡ Equal) × (same ≡ false → Stands names n → name_cmp names n (get_or (positions places) k 0) ≢ Equal)
-    same_told n key k d same bytes is within e =
+    -- a name of this key that begins as all do is that at the place, where the key holds all that is behind
+    its_name : (n : List ℕ) (key k : ℕ) (d : Place) → Bytes n → key ≡ name_key shared n → k < length places → (get_or places k d).key ≡ key → key % 256 < 16 → take shared (get_or names 0 []) ≡ take shared n
+        → name_cmp names n (get_or places k d).position ≡ Equal
+    its_name n key k d bytes is within same whole begin =
+        let p = get_or places k d in
+        let h = keyed k d within in
+        let text = get_or names p.position [] in
+        let name : text ≡ n = one_name shared text n h.bytes bytes (begins p h ∙ begin) (sym h.key ∙ same ∙ is) (subst (λ x. x % 256 < 16) is whole) in
+        itself names (positions places) order n p.position (slice_get-get_or names p.position [] h.within ∙ ap Some name)
+
+    -- the last comparison, where the texts are asked for unless the key holds all that is behind what all begin with
+    pub same_told : (n : List ℕ) (key k : ℕ) (d : Place) (by_text side begin : Bool) → (by_text ≡ false → key % 256 < 16) → Bytes n → key ≡ name_key shared n → k < length places
+        → side ≡ is_eq (place_side names n key by_text (get_or places k d)) → IsTrue begin ↔ (take shared (get_or names 0 []) ≡ take shared n)
+        → ((side && begin) ≡ true → name_cmp names n (get_or (positions places) k 0) ≡ Equal) × ((side && begin) ≡ false → Stands names n → name_cmp names n (get_or (positions places) k 0) ≢ Equal)
+    same_told n key k d by_text side begin whole bytes is within e begun =
+        let p = get_or places k d in
         let at = ap (name_cmp names n) (position_at places k d within) in (
-          λ t. at ∙ both_equal (nat_cmp (get_or places k d).key key) _ (sym e ∙ t),
-          λ f t equal. false≢true (sym f ∙ e ∙ ap is_eq (side_told (get_or places k d) n key (keyed k d within) bytes is t ∙ sym at ∙ equal)),
+          λ t. at ∙ equal by_text whole (sym e ∙ (both_true side begin t).0) (begun.0 (both_true side begin t).1),
+          λ f t same. false≢true (sym f ∙ all_true side begin (e ∙ unequal by_text t (sym at ∙ same)) (begun.1 (begins_so n t))),
         )
+      where
+        both_true : (a b : Bool) → (a && b) ≡ true → (a ≡ true) × (b ≡ true)
+        both_true true b t = (refl, t)
+        both_true false b t = absurd (false≢true t)
+
+        all_true : (a b : Bool) → a ≡ true → b ≡ true → (a && b) ≡ true
+        all_true true b r s = s
+        all_true false b r s = absurd (false≢true r)
+
+        equal : (b : Bool) → (b ≡ false → key % 256 < 16) → is_eq (place_side names n key b (get_or places k d)) ≡ true → take shared (get_or names 0 []) ≡ take shared n → name_cmp names n (get_or places k d).position ≡ Equal
+        equal true w t g = both_equal (nat_cmp (get_or places k d).key key) _ t
+        equal false w t g =
+            elim (cases_order (get_or places k d).key key) [
+              | inl same ↦ its_name n key k d bytes is within same (w refl) g
+              | inr (inl lower) ↦ absurd (false≢true (ap (λ r. is_eq (ordering_then r Equal)) (nat_cmp_is (get_or places k d).key key Less lower) ∙ t))
+              | inr (inr higher) ↦ absurd (false≢true (ap (λ r. is_eq (ordering_then r Equal)) (nat_cmp_is (get_or places k d).key key Greater higher) ∙ t))
+            ]
+
+        unequal : (b : Bool) → Stands names n → name_cmp names n (get_or places k d).position ≡ Equal → is_eq (place_side names n key b (get_or places k d)) ≡ true
+        unequal true t same = ap is_eq (side_told (get_or places k d) n key (keyed k d within) bytes is t ∙ same)
+        unequal false t same =
+            let p = get_or places k d in
+            let side = side_told p n key (keyed k d within) bytes is t ∙ same in
+            key_equal (nat_cmp p.key key) _ side
 
   -- places that are in order by their keys first are in order as positions
   not_below : (p q : Place) → IsKeyed names shared p → IsKeyed names shared q → is_lt (place_cmp names p q) ≡ false → is_lt (position_cmp names p.position q.position) ≡ false
@@ -251,18 +353,37 @@ unfolding high_first
 none_first [] e = refl
 none_first (b ∷ bs) e = absurd (omega (arith, e))
 
--- sixteen bytes are eight and the next eight
-pub sixteen : (bs : List ℕ) → high_first 16 bs ≡ high_first 8 bs * 2 ^ 64 + high_first 8 (drop 8 bs)
+-- eight bytes without the last are the first seven
+eight_seven : (bs : List ℕ) → high_first 8 bs ≡ high_first 7 bs * 256 + get_or bs 7 0
 unfolding high_first
-sixteen [] = omega arith
-sixteen (a ∷ []) = omega arith
-sixteen (a ∷ b ∷ []) = omega arith
-sixteen (a ∷ b ∷ c ∷ []) = omega arith
-sixteen (a ∷ b ∷ c ∷ d ∷ []) = omega arith
-sixteen (a ∷ b ∷ c ∷ d ∷ e ∷ []) = omega arith
-sixteen (a ∷ b ∷ c ∷ d ∷ e ∷ f ∷ []) = omega arith
-sixteen (a ∷ b ∷ c ∷ d ∷ e ∷ f ∷ g ∷ []) = omega arith
-sixteen (a ∷ b ∷ c ∷ d ∷ e ∷ f ∷ g ∷ h ∷ rest) = omega arith
+eight_seven [] = omega arith
+eight_seven (a ∷ []) = omega arith
+eight_seven (a ∷ b ∷ []) = omega arith
+eight_seven (a ∷ b ∷ c ∷ []) = omega arith
+eight_seven (a ∷ b ∷ c ∷ d ∷ []) = omega arith
+eight_seven (a ∷ b ∷ c ∷ d ∷ e ∷ []) = omega arith
+eight_seven (a ∷ b ∷ c ∷ d ∷ e ∷ f ∷ []) = omega arith
+eight_seven (a ∷ b ∷ c ∷ d ∷ e ∷ f ∷ g ∷ []) = omega arith
+eight_seven (a ∷ b ∷ c ∷ d ∷ e ∷ f ∷ g ∷ h ∷ rest) = omega arith
+
+-- fifteen bytes are eight and the next seven
+eight_and_seven : (bs : List ℕ) → high_first 15 bs ≡ high_first 8 bs * 256 ^ 7 + high_first 7 (drop 8 bs)
+unfolding high_first
+eight_and_seven [] = omega arith
+eight_and_seven (a ∷ []) = omega arith
+eight_and_seven (a ∷ b ∷ []) = omega arith
+eight_and_seven (a ∷ b ∷ c ∷ []) = omega arith
+eight_and_seven (a ∷ b ∷ c ∷ d ∷ []) = omega arith
+eight_and_seven (a ∷ b ∷ c ∷ d ∷ e ∷ []) = omega arith
+eight_and_seven (a ∷ b ∷ c ∷ d ∷ e ∷ f ∷ []) = omega arith
+eight_and_seven (a ∷ b ∷ c ∷ d ∷ e ∷ f ∷ g ∷ []) = omega arith
+eight_and_seven (a ∷ b ∷ c ∷ d ∷ e ∷ f ∷ g ∷ h ∷ rest) = omega arith
+
+-- fifteen bytes and a number below 256, by eight and eight of them
+pub fifteen : (bs : List ℕ) (count : ℕ) → Bytes bs → high_first 15 bs * 256 + count ≡ high_first 8 bs * 2 ^ 64 + (high_first 8 (drop 8 bs) / 256 * 256 + count)
+fifteen bs count bytes =
+    let last : get_or (drop 8 bs) 7 0 < 256 = byte_or (drop 8 bs) 7 (bytes_behind 8 bs bytes) in
+    omega (arith, eight_and_seven bs, eight_seven (drop 8 bs), last)
 
 -- eight bytes without the first j of them are the eight shifted by j bytes, but for what is past 64 bits
 eight_shifted : (a b c d e f g h j : ℕ) → 0 < j → j < 8

@@ -62,15 +62,17 @@ fn behind(text: &[u8], count: usize) -> &[u8]
     &text[count.min(text.len())..]
 }
 
-// The key of a text: the sixteen bytes behind the first so many as one number, the first the highest,
-// with zeros where it ends.
+// The key of a text: the fifteen bytes behind the first so many as one number, the first the highest, with zeros
+// where it ends, and then how many stand there, 16 where more than fifteen do.
 pub(crate) fn key_of(text: &[u8], shared: usize) -> u128
     ensures key { result ≡ name_key shared text.now }
     ensures bytes { Bytes text.now }
 {
+    let rest = behind(text, shared);
     let high = eight_behind(text, shared);
-    let low = eight_behind(behind(text, shared), 8);
-    u128::from(high) * 0x1_0000_0000_0000_0000 + u128::from(low)
+    let seven = eight_behind(rest, 8) / 256;
+    let held = rest.len().min(16) as u64;
+    u128::from(high) * 0x1_0000_0000_0000_0000 + u128::from(seven * 256 + held)
 }
 
 // The eight bytes behind the first so many as one number, with zeros where there are fewer. Where the text has

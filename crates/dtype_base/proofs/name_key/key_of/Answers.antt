@@ -1,19 +1,25 @@
 -- SPDX-License-Identifier: Apache-2.0
 -- SPDX-FileCopyrightText: Copyright the Vortex contributors
 
-use Rattle.std.proofs.Common.{◌≡◌, ◌<◌, ◌+◌, ◌*◌, ◌^◌, drop, sym, ap, ◌∙◌, arith}
+use Rattle.std.proofs.Common.{◌≡◌, ◌<◌, ◌+◌, ◌*◌, ◌^◌, ◌/◌, Bor, length, min, drop, sym, ap, ◌∙◌, arith}
 use Rattle.std.proofs.lemmas.List.Elements.{All-from_get_or}
+use Rattle.dtype_base.specs.Bytes.{Bytes}
 use Rattle.dtype_base.specs.NameKeys.{high_first, name_key}
-use Rattle.dtype_base.proofs.KeyOrder.{sixteen}
+use Rattle.dtype_base.proofs.KeyOrder.{fifteen, bytes_behind}
 use Rattle.dtype_base.proofs.name_key.key_of.Goals as goal
 
 pub returns-clause-key : goal.returns-clause-key
 unfolding name_key
 returns-clause-key c =
-    let rest = drop c.args.shared c.args.text.now in
+    let text = c.args.text.now in
+    let rest = drop c.args.shared text in
+    let bytes : Bytes text = All-from_get_or (λ b. b < 256) text 0 (λ i _. omega (arith, c.type_inv.text i)) in
     let high : c.from.result ≡ high_first 8 rest = c.from.ensures ∙ c.eight_behind-high.ensures in
-    let low : c.from-2.result ≡ high_first 8 (drop 8 rest) = c.from-2.ensures ∙ c.eight_behind-low.ensures ∙ ap (λ bs. high_first 8 (drop 8 bs)) c.behind.ensures in
-    ap (λ k. k * 2 ^ 64 + c.from-2.result) high ∙ ap (λ k. high_first 8 rest * 2 ^ 64 + k) low ∙ sym (sixteen rest)
+    let seven : c.eight_behind-seven.result ≡ high_first 8 (drop 8 rest) = c.eight_behind-seven.ensures ∙ ap (λ bs. high_first 8 (drop 8 bs)) c.behind-rest.ensures in
+    let held : c.min-held.result ≡ min (length rest) 16 = c.min-held.ensures ∙ ap (λ bs. min (length bs) 16) c.behind-rest.ensures in
+    ap (λ k. k * 2 ^ 64 + c.from-2.result) high
+    ∙ ap (λ k. high_first 8 rest * 2 ^ 64 + k) (c.from-2.ensures ∙ ap (λ k. k / 256 * 256 + c.min-held.result) seven ∙ ap (λ k. high_first 8 (drop 8 rest) / 256 * 256 + k) held)
+    ∙ sym (fifteen rest (min (length rest) 16) (bytes_behind c.args.shared text bytes))
 
 pub returns-clause-bytes : goal.returns-clause-bytes
 returns-clause-bytes c = All-from_get_or (λ b. b < 256) c.args.text.now 0 (λ i _. omega (arith, c.type_inv.text i))

@@ -4,7 +4,8 @@
 -- Keys that differ are in the order of the names, where these begin alike; and the index that is sorted by them.
 use Rattle.std.proofs.Common.{◌%◌, mod-eq_of_lt, ◌≡◌, ◌≢◌, ℕ, zero, suc, ◌+◌, ◌-◌, ◌*◌, ◌<◌, ◌≤◌, ◌^◌, List, [], ◌∷◌, ◌++◌, length, get_or, take, drop, Some, Bool, true, false, ◌&&◌, IsTrue, ◌↔◌, ◌/◌, refl, sym, ap, subst, ◌∙◌, inl, inr, arith, pow-suc, mul-le-mul_right, add-mul, true≢false}
 use Rattle.std.specs.Prelude.{slice_get}
-use Rattle.std.proofs.Math.Nat.{add-mul-mod_self_right}
+use Rattle.std.proofs.Math.Nat.{add-mul-mod_self_right, mul_assoc}
+use Rattle.std.proofs.lemmas.Nat.{div-mul-add, pow-add}
 use Rattle.std.specs.List.{All, range_with_len}
 use Rattle.std.specs.List.Sorted.{IsPermutation, IsSorted}
 use Rattle.std.specs.Int.{w64, from_be_bytes}
@@ -120,11 +121,6 @@ comes_before s m n a b alike lower =
       | inr (inl less_bytes) ↦ less 15 xs ys (bytes_behind s m a) (bytes_behind s n b) less_bytes
       | inr (inr more_bytes) ↦ absurd (omega (arith, lower, more_bytes))
     ]
-
-byte_or : (bs : List ℕ) (i : ℕ) → Bytes bs → get_or bs i 0 < 256
-byte_or [] i h = omega arith
-byte_or (b ∷ bs) zero h = h 0 b (omega arith)
-byte_or (b ∷ bs) (suc i) h = byte_or bs i (All-tail (λ c. c < 256) b bs h)
 
 -- names that begin alike compare as their keys do, where these differ
 keys_tell : (s : ℕ) (m n : List ℕ) → Bytes m → Bytes n → take s m ≡ take s n → name_key s m ≢ name_key s n → nat_cmp (name_key s m) (name_key s n) ≡ slice_cmp nat_cmp m n
@@ -353,37 +349,64 @@ unfolding high_first
 none_first [] e = refl
 none_first (b ∷ bs) e = absurd (omega (arith, e))
 
--- eight bytes without the last are the first seven
-eight_seven : (bs : List ℕ) → high_first 8 bs ≡ high_first 7 bs * 256 + get_or bs 7 0
+-- a text's first bytes are a number of their own, whatever is behind them
+first_alone : (k : ℕ) (bs : List ℕ) → high_first k (take k bs) ≡ high_first k bs
 unfolding high_first
-eight_seven [] = omega arith
-eight_seven (a ∷ []) = omega arith
-eight_seven (a ∷ b ∷ []) = omega arith
-eight_seven (a ∷ b ∷ c ∷ []) = omega arith
-eight_seven (a ∷ b ∷ c ∷ d ∷ []) = omega arith
-eight_seven (a ∷ b ∷ c ∷ d ∷ e ∷ []) = omega arith
-eight_seven (a ∷ b ∷ c ∷ d ∷ e ∷ f ∷ []) = omega arith
-eight_seven (a ∷ b ∷ c ∷ d ∷ e ∷ f ∷ g ∷ []) = omega arith
-eight_seven (a ∷ b ∷ c ∷ d ∷ e ∷ f ∷ g ∷ h ∷ rest) = omega arith
+first_alone zero bs = refl
+first_alone (suc k) [] = refl
+first_alone (suc k) (b ∷ bs) = ap (λ n. b * 256 ^ k + n) (first_alone k bs)
 
--- fifteen bytes are eight and the next seven
-eight_and_seven : (bs : List ℕ) → high_first 15 bs ≡ high_first 8 bs * 256 ^ 7 + high_first 7 (drop 8 bs)
+-- texts with so many bytes begin with the same where these are one number
+same_first : (k : ℕ) (xs ys : List ℕ) → Bytes xs → Bytes ys → k ≤ length xs → k ≤ length ys → high_first k xs ≡ high_first k ys → take k xs ≡ take k ys
+same_first zero xs ys a b long_a long_b e = refl
+same_first (suc k) [] ys a b long_a long_b e = absurd (omega (arith, long_a))
+same_first (suc k) (x ∷ xs) [] a b long_a long_b e = absurd (omega (arith, long_b))
+same_first (suc k) (x ∷ xs) (y ∷ ys) a b long_a long_b e =
+    let same = same_digits k x y xs ys a b e in
+    let rest = same_first k xs ys (All-tail (λ c. c < 256) x xs a) (All-tail (λ c. c < 256) y ys b) (omega (arith, long_a)) (omega (arith, long_b)) same.1 in
+    ap (λ z. z ∷ take k xs) same.0 ∙ ap (λ t. y ∷ t) rest
+
+pub first_tells : (k : ℕ) (xs ys : List ℕ) → Bytes xs → Bytes ys → k ≤ length xs → k ≤ length ys → (high_first k xs ≡ high_first k ys) ↔ (take k xs ≡ take k ys)
+first_tells k xs ys a b long_a long_b = (
+  same_first k xs ys a b long_a long_b,
+  λ e. sym (first_alone k xs) ∙ ap (high_first k) e ∙ first_alone k ys,
+)
+
+none_alone : (k : ℕ) → high_first k [] ≡ 0
 unfolding high_first
-eight_and_seven [] = omega arith
-eight_and_seven (a ∷ []) = omega arith
-eight_and_seven (a ∷ b ∷ []) = omega arith
-eight_and_seven (a ∷ b ∷ c ∷ []) = omega arith
-eight_and_seven (a ∷ b ∷ c ∷ d ∷ []) = omega arith
-eight_and_seven (a ∷ b ∷ c ∷ d ∷ e ∷ []) = omega arith
-eight_and_seven (a ∷ b ∷ c ∷ d ∷ e ∷ f ∷ []) = omega arith
-eight_and_seven (a ∷ b ∷ c ∷ d ∷ e ∷ f ∷ g ∷ []) = omega arith
-eight_and_seven (a ∷ b ∷ c ∷ d ∷ e ∷ f ∷ g ∷ h ∷ rest) = omega arith
+none_alone zero = refl
+none_alone (suc k) = refl
+
+none_first_alone : (j : ℕ) (bs : List ℕ) → high_first j bs ≡ high_first 0 bs * 256 ^ j + high_first j (drop 0 bs)
+unfolding high_first
+none_first_alone j [] = omega arith
+none_first_alone j (b ∷ bs) = omega arith
+
+-- the first bytes and the next as one number
+split_number : (k j n : ℕ) (bs : List ℕ) → n ≡ k + j → high_first n bs ≡ high_first k bs * 256 ^ j + high_first j (drop k bs)
+unfolding high_first
+split_number zero j n bs e = ap (λ m. high_first m bs) (omega (arith, e)) ∙ none_first_alone j bs
+split_number (suc k) j zero bs e = absurd (omega (arith, e))
+split_number (suc k) j (suc n) [] e = omega (arith, none_alone (suc n), ap (λ x. x * 256 ^ j) (none_alone (suc k)), none_alone j)
+split_number (suc k) j (suc n) (b ∷ bs) e =
+    let same : n ≡ k + j = omega (arith, e) in
+    omega (arith, split_number k j n bs same, ap (λ m. b * 256 ^ m) same, ap (λ p. b * p) (pow-add 256 k j), mul_assoc b (256 ^ k) (256 ^ j), add-mul (b * 256 ^ k) (high_first k bs) (256 ^ j))
+
+-- the first bytes of more are these without the others
+pub without_last : (k j n : ℕ) (bs : List ℕ) → n ≡ k + j → Bytes bs → high_first n bs / 256 ^ j ≡ high_first k bs
+without_last k j n bs e h = ap (λ x. x / 256 ^ j) (split_number k j n bs e) ∙ div-mul-add (high_first k bs) (256 ^ j) (high_first j (drop k bs)) (high_bound j (drop k bs) (bytes_behind k bs h))
+
+-- so many bytes are eight times as many bits
+pub bits : (m : ℕ) → 2 ^ (8 * m) ≡ 256 ^ m
+bits zero = refl
+bits (suc m) = ap (λ e. 2 ^ e) (omega arith) ∙ pow-add 2 (8 * m) 8 ∙ omega (arith, bits m, pow-suc 256 m)
 
 -- fifteen bytes and a number below 256, by eight and eight of them
 pub fifteen : (bs : List ℕ) (count : ℕ) → Bytes bs → high_first 15 bs * 256 + count ≡ high_first 8 bs * 2 ^ 64 + (high_first 8 (drop 8 bs) / 256 * 256 + count)
 fifteen bs count bytes =
-    let last : get_or (drop 8 bs) 7 0 < 256 = byte_or (drop 8 bs) 7 (bytes_behind 8 bs bytes) in
-    omega (arith, eight_and_seven bs, eight_seven (drop 8 bs), last)
+    let seven = drop 8 bs in
+    let last : high_first 1 (drop 7 seven) < 256 = high_bound 1 (drop 7 seven) (bytes_behind 7 seven (bytes_behind 8 bs bytes)) in
+    omega (arith, split_number 8 7 15 bs refl, split_number 7 1 8 seven refl, last)
 
 -- eight bytes without the first j of them are the eight shifted by j bytes, but for what is past 64 bits
 eight_shifted : (a b c d e f g h j : ℕ) → 0 < j → j < 8

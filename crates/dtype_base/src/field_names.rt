@@ -157,7 +157,7 @@ pub(crate) fn copied(alloc: Global, names: &[FieldName]) -> VortexResult<FieldNa
 {
     let mut items = Vec::with_capacity(alloc, names.len())?;
     for name in names {
-        items.push(name.try_clone(alloc)?)?;
+        items.push_reserved(name.try_clone(alloc)?);
     }
     Ok(FieldNames { items })
 }

@@ -197,10 +197,10 @@ fn look_up(
         let name = asked[position].as_str();
         let key = key_of(name.as_bytes(), shared);
         match search(names, shared, keys_tell, places, name, key).0 {
-            Some(first) => firsts.push(first)?,
+            Some(first) => firsts.push_reserved(first),
             None => return Err(VortexError::FieldNotFound { position }),
         }
-        made.push(Place { key, position })?;
+        made.push_reserved(Place { key, position });
     }
     Ok((made, firsts))
 }

@@ -53,7 +53,7 @@ pub(crate) fn places_of(
     let mut places = Vec::with_capacity(alloc, names.len())?;
     for position in 0..names.len() {
         let key = key_of(names[position].as_str().as_bytes(), shared);
-        places.push(Place { key, position })?;
+        places.push_reserved(Place { key, position });
     }
     let keys_tell = sort_places(alloc, names, &mut places)?;
     Ok((places, keys_tell))
@@ -127,7 +127,7 @@ fn halves_of(alloc: Global, places: &[Place]) -> VortexResult<Vec<Half>>
     let mut halves = Vec::with_capacity(alloc, places.len())?;
     for place in 0..places.len() {
         let key = (places[place].key / HALF) as u64;
-        halves.push(Half { key, place })?;
+        halves.push_reserved(Half { key, place });
     }
     Ok(halves)
 }
@@ -139,7 +139,7 @@ fn taken(alloc: Global, places: &[Place], halves: &[Half]) -> VortexResult<Vec<P
 {
     let mut taken = Vec::with_capacity(alloc, halves.len())?;
     for half in halves {
-        taken.push(places[half.place])?;
+        taken.push_reserved(places[half.place]);
     }
     Ok(taken)
 }

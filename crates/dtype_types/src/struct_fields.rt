@@ -276,7 +276,7 @@ impl StructFields {
         let dtypes = self.dtypes();
         let mut copies = Vec::with_capacity(alloc, positions.len())?;
         for position in positions {
-            copies.push(dtypes[*position].try_clone(alloc)?)?;
+            copies.push_reserved(dtypes[*position].try_clone(alloc)?);
         }
         Ok(copies)
     }

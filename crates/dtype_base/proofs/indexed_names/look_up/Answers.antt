@@ -1,7 +1,7 @@
 -- SPDX-License-Identifier: Apache-2.0
 -- SPDX-FileCopyrightText: Copyright the Vortex contributors
 
-use Rattle.std.proofs.Common.{◌≡◌, Some, None, inr, [], get_or, map, ap, subst, sym, ◌∙◌}
+use Rattle.std.proofs.Common.{◌≡◌, Some, None, inr, [], get_or, map, ap, subst, sym, ◌∙◌, arith}
 use Rattle.std.specs.List.{All}
 use Rattle.std.proofs.lemmas.List.{get_or_default}
 use Rattle.dtype_base.specs.Bytes.{Bytes}
@@ -31,7 +31,7 @@ loop-position-preserved c =
     let within = c.loop-position-test.true in
     let so_far = c.loop-position.invariant in
     let n = c.index-asked-position.result in
-    let pushed = c.in_ok-push.ensures.items in
+    let pushed = c.push_reserved-in-loop-position.ensures.items in
     let name : c.as_bytes.result.now ≡ get_or asked position [] =
     c.as_bytes.ensures.value ∙ c.as_str-name.ensures ∙ c.index-asked-position.is ∙ get_or_default asked position _ [] within in
     let found = place_found names c.as_str-name.result.now c.search.result.0 c.search.ensures.found c.search.ensures.none in
@@ -40,5 +40,7 @@ loop-position-preserved c =
       keyed = subst (All (IsKeyed asked shared)) (sym pushed)
           (keyed_push asked shared made _ so_far.keyed
           (record { within = within; key = c.key_of-key.ensures.key ∙ ap (name_key shared) name; bytes = subst Bytes name c.key_of-key.ensures.bytes }));
-      found = ap (map Some) c.in_ok-push-in-Some.ensures.items ∙ selects_more names asked c.loop-position.firsts.items position c.in-Some.first n within c.index-asked-position.is first so_far.found;
+      found = ap (map Some) c.push_reserved.ensures.items ∙ selects_more names asked c.loop-position.firsts.items position c.in-Some.first n within c.index-asked-position.is first so_far.found;
+      len = (omega (arith, c.push_reserved-in-loop-position.ensures.len, so_far.len.0), omega (arith, c.push_reserved.ensures.len, so_far.len.1));
+      room = (omega (arith, c.push_reserved-in-loop-position.ensures.capacity, so_far.room.0), omega (arith, c.push_reserved.ensures.capacity, so_far.room.1));
     }

@@ -15,13 +15,15 @@ loop-position-preserved c =
     let names = c.args.names.now in
     let places = c.loop-position.places.items in
     let position = c.loop-position.position in
-    let pushed = c.in_ok-push.ensures.items in
+    let pushed = c.push_reserved.ensures.items in
     let name : c.as_bytes.result.now ≡ get_or names position [] =
     c.as_bytes.ensures.value ∙ c.as_str.ensures ∙ c.index-names-position.is ∙ get_or_default names position _ [] c.loop-position-test.true in record {
       in_order = ap positions pushed ∙ positions_push places _ position c.loop-position.invariant.in_order;
       keyed = subst (All (IsKeyed names c.args.shared)) (sym pushed)
           (keyed_push names c.args.shared places _ c.loop-position.invariant.keyed
           (record { within = c.loop-position-test.true; key = c.key_of-key.ensures.key ∙ ap (name_key c.args.shared) name; bytes = subst Bytes name c.key_of-key.ensures.bytes }));
+      len = omega (arith, c.push_reserved.ensures.len, c.loop-position.invariant.len);
+      room = omega (arith, c.push_reserved.ensures.capacity, c.loop-position.invariant.room);
     }
 
 pub returns-clause-keyed : goal.returns-clause-keyed

@@ -35,10 +35,14 @@ loop-half-preserved c =
     let k = c.loop-half.half-index in
     let within : k < length order = omega (arith, c.loop-half-test.true, length-map halves (λ h. h.place)) in
     let here = get_or-map (λ h. h.place) halves k no_half 0 c.loop-half-test.true in
-    c.in_ok-push.ensures.items
-    ∙ ap (λ ps. ps ++ place_at places (get_or halves k no_half).place ∷ []) c.loop-half.invariant
-    ∙ ap (λ i. map (place_at places) (take k order) ++ place_at places i ∷ []) (sym here)
-    ∙ sym (map_more (place_at places) order k 0 within)
+    let inv = c.loop-half.invariant in record {
+      each = c.push_reserved.ensures.items
+          ∙ ap (λ ps. ps ++ place_at places (get_or halves k no_half).place ∷ []) inv.each
+          ∙ ap (λ i. map (place_at places) (take k order) ++ place_at places i ∷ []) (sym here)
+          ∙ sym (map_more (place_at places) order k 0 within);
+      len = omega (arith, c.push_reserved.ensures.len, inv.len);
+      room = omega (arith, c.push_reserved.ensures.capacity, inv.room);
+    }
 
 pub returns : goal.returns
 returns c =
@@ -46,4 +50,4 @@ returns c =
     let halves = c.args.halves.now in
     let order = map (λ h. h.place) halves in
     let all = take_all c.loop-half.half-index order (omega (arith, c.loop-half-test.false, length-map halves (λ h. h.place))) in
-    subst (IsPermutation places) (sym (c.loop-half.invariant ∙ ap (map (place_at places)) all)) (taken_all places order c.requires)
+    subst (IsPermutation places) (sym (c.loop-half.invariant.each ∙ ap (map (place_at places)) all)) (taken_all places order c.requires)

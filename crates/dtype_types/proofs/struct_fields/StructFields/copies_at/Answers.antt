@@ -1,7 +1,7 @@
 -- SPDX-License-Identifier: Apache-2.0
 -- SPDX-FileCopyrightText: Copyright the Vortex contributors
 
-use Rattle.std.proofs.Common.{◌++◌, [], ◌∷◌, Some, get_or, map, ap, ◌∙◌}
+use Rattle.std.proofs.Common.{◌++◌, [], ◌∷◌, Some, get_or, map, ap, ◌∙◌, arith}
 use Rattle.std.proofs.lemmas.List.{get_or_default, map_push}
 use Rattle.dtype_types.specs.TreeOf.{struct_dtypes, tree}
 use Rattle.dtype_types.proofs.Selected.{copies_more, tree_read}
@@ -17,7 +17,11 @@ loop-position-preserved c =
     let i = get_or positions k 0 in
     let d = c.index-dtypes-position.result in
     let read = c.index-dtypes-position.is ∙ ap (λ xs. get_or xs i d) c.dtypes-dtypes.ensures in
-    ap (λ xs. map Some (map tree xs)) c.in_ok-push.ensures.items
-    ∙ ap (map Some) (map_push tree copies c.in_ok-try_clone.field-0)
-    ∙ ap (λ t. map Some (map tree copies ++ t ∷ [])) c.in_ok-try_clone.ensures
-    ∙ copies_more (map tree ds) (map tree copies) positions k i (tree d) within (get_or_default positions k 0 i within) (tree_read ds i d (c.requires k 0 within) read) c.loop-position.invariant
+    let inv = c.loop-position.invariant in record {
+      each = ap (λ xs. map Some (map tree xs)) c.push_reserved.ensures.items
+          ∙ ap (map Some) (map_push tree copies c.in_ok-try_clone.field-0)
+          ∙ ap (λ t. map Some (map tree copies ++ t ∷ [])) c.in_ok-try_clone.ensures
+          ∙ copies_more (map tree ds) (map tree copies) positions k i (tree d) within (get_or_default positions k 0 i within) (tree_read ds i d (c.requires k 0 within) read) inv.each;
+      len = omega (arith, c.push_reserved.ensures.len, inv.len);
+      room = omega (arith, c.push_reserved.ensures.capacity, inv.room);
+    }

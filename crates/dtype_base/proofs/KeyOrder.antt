@@ -16,13 +16,16 @@ use Rattle.std.specs.Cmp.{IsTotalOrder, then_total, on_total, nat_cmp_is, nat_cm
 use Rattle.std.specs.Cmp.Lexicographic.{slice_cmp, nat_list_cmp_total}
 use Rattle.std.proofs.lemmas.Bool.{cases_lt, cases_order, false≢true}
 use Rattle.std.proofs.lemmas.List.{length-map, get_or-map, get_or_default, map-append, drop-drop, length-drop, take-append-drop}
+use Rattle.std.proofs.lemmas.List.FromFn.{length-range_with_len}
 use Rattle.std.proofs.lemmas.List.Elements.{All-tail, All-cons, All-append}
 use Rattle.std.proofs.lemmas.List.Sorted.{All-permutation, IsPermutation-map}
 use Rattle.std.proofs.lemmas.Option.{slice_get-get_or, slice_get_within, get_or_from_slice_get}
 use Rattle.dtype_base.specs.Bytes.{Bytes}
-use Rattle.dtype_base.specs.NameKeys.{high_first, name_key, BeginAlike}
-use Rattle.dtype_base.specs.NameOrder.{IsKeyed, IsOrderOf, KeysRise, bytes_cmp, name_cmp, position_cmp, place_cmp, place_side, positions}
+use Rattle.dtype_base.specs.NameKeys.{high_first, key_half, name_key, BeginAlike}
+use Rattle.dtype_base.specs.NameOrder.{AreToldBy, HalvesRise, IsKeyed, IsOrderOf, KeysRise, bytes_cmp, name_cmp, position_cmp, place_cmp, place_side, positions}
 use Rattle.dtype_base.specs.declared.name_order.Place.{Place}
+use Rattle.dtype_base.specs.declared.name_order.ToldBy.{ToldBy}
+use Rattle.dtype_base.specs.declared.name_order.ToldBy.TheVariants.{Halves, Keys, Texts}
 use Rattle.dtype_base.proofs.NameSearch.{Stands, as_many_positions, position_at, counted_more, placed, itself, is_equal, position_total}
 
 positive : (k : ℕ) → 0 < 256 ^ k
@@ -150,10 +153,17 @@ both_equal Less s e = absurd (false≢true e)
 both_equal Equal s e = is_equal s (sym e)
 both_equal Greater s e = absurd (false≢true e)
 
-key_equal : (r s : Ordering) → ordering_then r s ≡ Equal → is_eq (ordering_then r Equal) ≡ true
+key_equal : (r s : Ordering) → ordering_then r s ≡ Equal → is_eq r ≡ true
 key_equal Less s e = absurd (false≢true (ap is_eq e))
 key_equal Equal s e = refl
 key_equal Greater s e = absurd (false≢true (ap is_eq e))
+
+-- keys whose first halves rise do
+lower_half : (a b : ℕ) → key_half a < key_half b → a < b
+lower_half a b l = omega (arith, l)
+
+pub halves_keys : (places : List Place) → HalvesRise places → KeysRise places
+halves_keys places rise j k d l within = lower_half (get_or places j d).key (get_or places k d).key (rise j k d l within)
 
 module _ (names : List (List ℕ)) (shared : ℕ) (alike : BeginAlike names shared) where
   begins : (p : Place) → IsKeyed names shared p → take shared (get_or names p.position []) ≡ take shared (get_or names 0 [])
@@ -172,7 +182,7 @@ module _ (names : List (List ℕ)) (shared : ℕ) (alike : BeginAlike names shar
   begins_so n t = sym (alike t.0 [] (slice_get_within names t.0 n t.1)) ∙ ap (take shared) (get_or_from_slice_get names t.0 n [] t.1)
 
   -- how a place compares to a name that stands somewhere, where the texts are asked for
-  pub side_told : (p : Place) (n : List ℕ) (key : ℕ) → IsKeyed names shared p → Bytes n → key ≡ name_key shared n → Stands names n → place_side names n key true p ≡ name_cmp names n p.position
+  pub side_told : (p : Place) (n : List ℕ) (key : ℕ) → IsKeyed names shared p → Bytes n → key ≡ name_key shared n → Stands names n → place_side names n key Texts p ≡ name_cmp names n p.position
   side_told p n key h bytes is t =
       let text = name_cmp names n p.position in
       elim (cases_order p.key key) [
@@ -186,39 +196,68 @@ module _ (names : List (List ℕ)) (shared : ℕ) (alike : BeginAlike names shar
       ]
 
   module _ (places : List Place) (keyed : All (IsKeyed names shared) places) (order : IsOrderOf names (positions places)) where
-    -- the one place with the key of a name that stands somewhere is a place of the name
-    own_key : (n : List ℕ) (key k : ℕ) (d : Place) → KeysRise places → key ≡ name_key shared n → Stands names n → k < length places → (get_or places k d).key ≡ key → name_cmp names n (get_or places k d).position ≡ Equal
-    own_key n key k d rise is t within same =
+    -- a name that stands somewhere has a place with its key
+    keyed_place : (n : List ℕ) (key : ℕ) (d : Place) → key ≡ name_key shared n → Stands names n
+        → (q : ℕ) × (q < length places) × ((get_or places q d).key ≡ key) × (name_cmp names n (get_or places q d).position ≡ Equal)
+    keyed_place n key d is t =
         let i = t.0 in
         let s = placed names (positions places) order n i t.1 in
         let q = s.0 in
         let here : q < length places = omega (arith, s.1, as_many_positions places) in
         let at : (get_or places q d).position ≡ i = sym (position_at places q d here) ∙ s.2 in
-        let name : get_or names i [] ≡ n = get_or_from_slice_get names i n [] t.1 in
-        let its : (get_or places q d).key ≡ key = (keyed q d here).key ∙ ap (λ j. name_key shared (get_or names j [])) at ∙ ap (name_key shared) name ∙ sym is in
-        elim (cases_order k q) [
-          | inl e ↦ ap (λ j. name_cmp names n (get_or places j d).position) e ∙ ap (name_cmp names n) at ∙ itself names (positions places) order n i t.1
-          | inr (inl before) ↦ absurd (omega (arith, rise k q d before here, same, its))
-          | inr (inr after) ↦ absurd (omega (arith, rise q k d after within, same, its))
+        let name : get_or names i [] ≡ n = get_or_from_slice_get names i n [] t.1 in (
+          q,
+          here,
+          (keyed q d here).key ∙ ap (λ j. name_key shared (get_or names j [])) at ∙ ap (name_key shared) name ∙ sym is,
+          ap (name_cmp names n) at ∙ itself names (positions places) order n i t.1,
+        )
+
+    -- the one place with the key of a name that stands somewhere is a place of the name
+    own_key : (n : List ℕ) (key k : ℕ) (d : Place) → KeysRise places → key ≡ name_key shared n → Stands names n → k < length places → (get_or places k d).key ≡ key → name_cmp names n (get_or places k d).position ≡ Equal
+    own_key n key k d rise is t within same =
+        let s = keyed_place n key d is t in
+        elim (cases_order k s.0) [
+          | inl e ↦ ap (λ j. name_cmp names n (get_or places j d).position) e ∙ s.3
+          | inr (inl before) ↦ absurd (omega (arith, rise k s.0 d before s.1, same, s.2))
+          | inr (inr after) ↦ absurd (omega (arith, rise s.0 k d after within, same, s.2))
         ]
 
-    -- whether a place is below a name that stands somewhere, where the texts are asked for unless the keys tell
-    pub below_told : (n : List ℕ) (key k : ℕ) (d : Place) (by_text : Bool) → (by_text ≡ false → KeysRise places) → Bytes n → key ≡ name_key shared n → k < length places → Stands names n
-        → is_lt (name_cmp names n (get_or (positions places) k 0)) ≡ is_lt (place_side names n key by_text (get_or places k d))
-    below_told n key k d true rise bytes is within t =
-        ap is_lt (ap (name_cmp names n) (position_at places k d within) ∙ sym (side_told (get_or places k d) n key (keyed k d within) bytes is t))
-    below_told n key k d false rise bytes is within t =
+    -- where the first halves of keys tell, they compare with that of a name that stands somewhere as the keys do
+    halves_told : (n : List ℕ) (key k : ℕ) (d : Place) → HalvesRise places → key ≡ name_key shared n → Stands names n → k < length places
+        → nat_cmp (key_half (get_or places k d).key) (key_half key) ≡ nat_cmp (get_or places k d).key key
+    halves_told n key k d rise is t within =
+        let s = keyed_place n key d is t in
+        let p = (get_or places k d).key in
+        elim (cases_order k s.0) [
+          | inl e ↦ let same : p ≡ key = ap (λ j. (get_or places j d).key) e ∙ s.2 in sym (nat_cmp_is _ _ Equal (ap key_half same)) ∙ nat_cmp_is p key Equal same
+          | inr (inl before) ↦
+              let lower : key_half p < key_half key = subst (λ x. key_half p < key_half x) s.2 (rise k s.0 d before s.1) in
+              sym (nat_cmp_is _ _ Less lower) ∙ nat_cmp_is p key Less (lower_half p key lower)
+          | inr (inr after) ↦
+              let higher : key_half key < key_half p = subst (λ x. key_half x < key_half p) s.2 (rise s.0 k d after within) in
+              sym (nat_cmp_is _ _ Greater higher) ∙ nat_cmp_is p key Greater (lower_half key p higher)
+        ]
+
+    -- whether a place is below a name that stands somewhere, by its key, where the keys tell
+    below_by_key : (n : List ℕ) (key k : ℕ) (d : Place) → KeysRise places → Bytes n → key ≡ name_key shared n → k < length places → Stands names n
+        → is_lt (name_cmp names n (get_or (positions places) k 0)) ≡ is_lt (nat_cmp (get_or places k d).key key)
+    below_by_key n key k d rise bytes is within t =
         let p = get_or places k d in
         ap (λ i. is_lt (name_cmp names n i)) (position_at places k d within)
         ∙ elim (cases_order p.key key) [
-          | inl same ↦ ap is_lt (own_key n key k d (rise refl) is t within same) ∙ ap (λ r. is_lt (ordering_then r Equal)) (nat_cmp_is p.key key Equal same)
-          | inr (inl lower) ↦
-              let less = nat_cmp_is p.key key Less lower in
-              ap is_lt (sym (told p n key (keyed k d within) bytes (begins_so n t) is (λ e. omega (arith, e, lower))) ∙ sym less) ∙ ap (λ r. is_lt (ordering_then r Equal)) less
-          | inr (inr higher) ↦
-              let greater = nat_cmp_is p.key key Greater higher in
-              ap is_lt (sym (told p n key (keyed k d within) bytes (begins_so n t) is (λ e. omega (arith, e, higher))) ∙ sym greater) ∙ ap (λ r. is_lt (ordering_then r Equal)) greater
+          | inl same ↦ ap is_lt (own_key n key k d rise is t within same) ∙ ap is_lt (nat_cmp_is p.key key Equal same)
+          | inr (inl lower) ↦ ap is_lt (sym (told p n key (keyed k d within) bytes (begins_so n t) is (λ e. omega (arith, e, lower))))
+          | inr (inr higher) ↦ ap is_lt (sym (told p n key (keyed k d within) bytes (begins_so n t) is (λ e. omega (arith, e, higher))))
         ]
+
+    -- whether a place is below a name that stands somewhere, by what tells the places apart
+    pub below_told : (n : List ℕ) (key k : ℕ) (d : Place) (by : ToldBy) → AreToldBy by places → Bytes n → key ≡ name_key shared n → k < length places → Stands names n
+        → is_lt (name_cmp names n (get_or (positions places) k 0)) ≡ is_lt (place_side names n key by (get_or places k d))
+    below_told n key k d Halves rise bytes is within t =
+        below_by_key n key k d (halves_keys places rise) bytes is within t ∙ sym (ap is_lt (halves_told n key k d rise is t within))
+    below_told n key k d Keys rise bytes is within t = below_by_key n key k d rise bytes is within t
+    below_told n key k d Texts rise bytes is within t =
+        ap is_lt (ap (name_cmp names n) (position_at places k d within) ∙ sym (side_told (get_or places k d) n key (keyed k d within) bytes is t))
 
     -- a name of this key that begins as all do is that at the place, where the key holds all that is behind
     its_name : (n : List ℕ) (key k : ℕ) (d : Place) → Bytes n → key ≡ name_key shared n → k < length places → (get_or places k d).key ≡ key → key % 256 < 16 → take shared (get_or names 0 []) ≡ take shared n
@@ -230,15 +269,15 @@ module _ (names : List (List ℕ)) (shared : ℕ) (alike : BeginAlike names shar
         let name : text ≡ n = one_name shared text n h.bytes bytes (begins p h ∙ begin) (sym h.key ∙ same ∙ is) (subst (λ x. x % 256 < 16) is whole) in
         itself names (positions places) order n p.position (slice_get-get_or names p.position [] h.within ∙ ap Some name)
 
-    -- the last comparison, where the texts are asked for unless the key holds all that is behind what all begin with
-    pub same_told : (n : List ℕ) (key k : ℕ) (d : Place) (by_text side begin : Bool) → (by_text ≡ false → key % 256 < 16) → Bytes n → key ≡ name_key shared n → k < length places
-        → side ≡ is_eq (place_side names n key by_text (get_or places k d)) → IsTrue begin ↔ (take shared (get_or names 0 []) ≡ take shared n)
+    -- the last comparison, by the texts unless the key holds all that is behind what all begin with
+    pub same_told : (n : List ℕ) (key k : ℕ) (d : Place) (by : ToldBy) (side begin : Bool) → by ≢ Halves → (by ≡ Keys → key % 256 < 16) → Bytes n → key ≡ name_key shared n → k < length places
+        → side ≡ is_eq (place_side names n key by (get_or places k d)) → IsTrue begin ↔ (take shared (get_or names 0 []) ≡ take shared n)
         → ((side && begin) ≡ true → name_cmp names n (get_or (positions places) k 0) ≡ Equal) × ((side && begin) ≡ false → Stands names n → name_cmp names n (get_or (positions places) k 0) ≢ Equal)
-    same_told n key k d by_text side begin whole bytes is within e begun =
+    same_told n key k d by side begin all whole bytes is within e begun =
         let p = get_or places k d in
         let at = ap (name_cmp names n) (position_at places k d within) in (
-          λ t. at ∙ equal by_text whole (sym e ∙ (both_true side begin t).0) (begun.0 (both_true side begin t).1),
-          λ f t same. false≢true (sym f ∙ all_true side begin (e ∙ unequal by_text t (sym at ∙ same)) (begun.1 (begins_so n t))),
+          λ t. at ∙ equal by all whole (sym e ∙ (both_true side begin t).0) (begun.0 (both_true side begin t).1),
+          λ f t same. false≢true (sym f ∙ all_true side begin (e ∙ unequal by all t (sym at ∙ same)) (begun.1 (begins_so n t))),
         )
       where
         both_true : (a b : Bool) → (a && b) ≡ true → (a ≡ true) × (b ≡ true)
@@ -249,18 +288,20 @@ module _ (names : List (List ℕ)) (shared : ℕ) (alike : BeginAlike names shar
         all_true true b r s = s
         all_true false b r s = absurd (false≢true r)
 
-        equal : (b : Bool) → (b ≡ false → key % 256 < 16) → is_eq (place_side names n key b (get_or places k d)) ≡ true → take shared (get_or names 0 []) ≡ take shared n → name_cmp names n (get_or places k d).position ≡ Equal
-        equal true w t g = both_equal (nat_cmp (get_or places k d).key key) _ t
-        equal false w t g =
+        equal : (b : ToldBy) → b ≢ Halves → (b ≡ Keys → key % 256 < 16) → is_eq (place_side names n key b (get_or places k d)) ≡ true → take shared (get_or names 0 []) ≡ take shared n → name_cmp names n (get_or places k d).position ≡ Equal
+        equal Halves a w t g = absurd (a refl)
+        equal Texts a w t g = both_equal (nat_cmp (get_or places k d).key key) _ t
+        equal Keys a w t g =
             elim (cases_order (get_or places k d).key key) [
               | inl same ↦ its_name n key k d bytes is within same (w refl) g
-              | inr (inl lower) ↦ absurd (false≢true (ap (λ r. is_eq (ordering_then r Equal)) (nat_cmp_is (get_or places k d).key key Less lower) ∙ t))
-              | inr (inr higher) ↦ absurd (false≢true (ap (λ r. is_eq (ordering_then r Equal)) (nat_cmp_is (get_or places k d).key key Greater higher) ∙ t))
+              | inr (inl lower) ↦ absurd (false≢true (ap is_eq (nat_cmp_is (get_or places k d).key key Less lower) ∙ t))
+              | inr (inr higher) ↦ absurd (false≢true (ap is_eq (nat_cmp_is (get_or places k d).key key Greater higher) ∙ t))
             ]
 
-        unequal : (b : Bool) → Stands names n → name_cmp names n (get_or places k d).position ≡ Equal → is_eq (place_side names n key b (get_or places k d)) ≡ true
-        unequal true t same = ap is_eq (side_told (get_or places k d) n key (keyed k d within) bytes is t ∙ same)
-        unequal false t same =
+        unequal : (b : ToldBy) → b ≢ Halves → Stands names n → name_cmp names n (get_or places k d).position ≡ Equal → is_eq (place_side names n key b (get_or places k d)) ≡ true
+        unequal Halves a t same = absurd (a refl)
+        unequal Texts a t same = ap is_eq (side_told (get_or places k d) n key (keyed k d within) bytes is t ∙ same)
+        unequal Keys a t same =
             let p = get_or places k d in
             let side = side_told p n key (keyed k d within) bytes is t ∙ same in
             key_equal (nat_cmp p.key key) _ side
@@ -300,32 +341,42 @@ module _ (names : List (List ℕ)) (shared : ℕ) (alike : BeginAlike names shar
 pub positions_push : (places : List Place) (key n : ℕ) → positions places ≡ range_with_len 0 n → positions (places ++ record { key = key; position = n } ∷ []) ≡ range_with_len 0 (n + 1)
 positions_push places key n so_far = map-append (λ p. p.position) places _ ∙ ap (λ is. is ++ n ∷ []) so_far ∙ sym (counted_more n)
 
+-- so many places as are counted
+pub places_counted : (places : List Place) (n : ℕ) → positions places ≡ range_with_len 0 n → length places ≡ n
+places_counted places n e = sym (length-map places (λ p. p.position)) ∙ ap length e ∙ length-range_with_len 0 n
+
 pub keyed_push : (names : List (List ℕ)) (shared : ℕ) (places : List Place) (p : Place) → All (IsKeyed names shared) places → IsKeyed names shared p → All (IsKeyed names shared) (places ++ p ∷ [])
 keyed_push names shared places p so_far next = All-append (IsKeyed names shared) places (p ∷ []) so_far (All-cons (IsKeyed names shared) p [] next (λ k d within. absurd (omega arith)))
 
--- one place more, whose key is above that before it
-pub keys_more : (places : List Place) (p : ℕ) (before here : Place) → ((j k : ℕ) (d : Place) → j < k → k < p → k < length places → (get_or places j d).key < (get_or places k d).key) → 1 ≤ p → p < length places
-    → (get_or places (p - 1) before).key < (get_or places p here).key → (j k : ℕ) (d : Place) → j < k → k < p + 1 → k < length places → (get_or places j d).key < (get_or places k d).key
-keys_more places p before here so_far some there above j k d l m within =
-    let last = ap (λ (q : Place). q.key) (get_or_default places (p - 1) before d (omega (arith, some, there))) in
-    let next = ap (λ (q : Place). q.key) (get_or_default places p here d there) in
+-- one place more, whose key, or a part of it, is above that before it
+pub keys_more : (f : Place → ℕ) (places : List Place) (p : ℕ) (before here : Place) → ((j k : ℕ) (d : Place) → j < k → k < p → k < length places → f (get_or places j d) < f (get_or places k d)) → 1 ≤ p → p < length places
+    → f (get_or places (p - 1) before) < f (get_or places p here) → (j k : ℕ) (d : Place) → j < k → k < p + 1 → k < length places → f (get_or places j d) < f (get_or places k d)
+keys_more f places p before here so_far some there above j k d l m within =
+    let last = ap f (get_or_default places (p - 1) before d (omega (arith, some, there))) in
+    let next = ap f (get_or_default places p here d there) in
     elim (cases_lt k p) [
       | inl sooner ↦ so_far j k d l sooner within
       | inr later ↦
           let is : k ≡ p = omega (arith, m, later) in
-          let key = ap (λ i. (get_or places i d).key) is in
+          let key = ap (λ i. f (get_or places i d)) is in
           elim (cases_lt j (p - 1)) [
             | inl far ↦ omega (arith, so_far j (p - 1) d far (omega (arith, some)) (omega (arith, some, there)), last, next, above, key)
-            | inr near ↦ let at : j ≡ p - 1 = omega (arith, near, l, is) in omega (arith, last, next, above, key, ap (λ i. (get_or places i d).key) at)
+            | inr near ↦ let at : j ≡ p - 1 = omega (arith, near, l, is) in omega (arith, last, next, above, key, ap (λ i. f (get_or places i d)) at)
           ]
     ]
 
 -- places whose keys rise are in order
-pub rise_sorted : (names : List (List ℕ)) (places : List Place) → KeysRise places → IsSorted (place_cmp names) places
+rise_sorted : (names : List (List ℕ)) (places : List Place) → KeysRise places → IsSorted (place_cmp names) places
 rise_sorted names places rise k d low high =
     let p = get_or places k d in
     let q = get_or places (k + 1) d in
     sym (ap (λ r. is_lt (ordering_then r (position_cmp names q.position p.position))) (nat_cmp_is q.key p.key Greater (rise k (k + 1) d (omega arith) high)))
+
+-- places that are told apart by their keys, or by a part of them, are in order
+pub told_sorted : (names : List (List ℕ)) (by : ToldBy) (places : List Place) → AreToldBy by places → by ≢ Texts → IsSorted (place_cmp names) places
+told_sorted names Halves places told is = rise_sorted names places (halves_keys places told)
+told_sorted names Keys places told is = rise_sorted names places told
+told_sorted names Texts places told is = absurd (is refl)
 
 -- the order of places is total
 pub place_total : (names : List (List ℕ)) → IsTotalOrder (place_cmp names)

@@ -3,18 +3,19 @@
 
 -- An index of names: their positions in the order of the names' bytes, those of one name in their own
 -- order, each with the key of its name, and how many names a lookup in it compares.
-use Rattle.std.specs.Prelude.{◌≡◌, ℕ, zero, suc, ◌+◌, ◌-◌, ◌<◌, ◌^◌, List, Option, Some, Bool, IsTrue, length, map, slice_get, slice_index_or, [], if◌then◌else◌}
+use Rattle.std.specs.Prelude.{◌≡◌, ℕ, zero, suc, ◌+◌, ◌-◌, ◌<◌, ◌^◌, List, Option, Some, Bool, ⊤, length, map, slice_get, slice_index_or, [], if◌then◌else◌}
 use Rattle.std.specs.List.{All, AllPairs, range_with_len}
 use Rattle.std.specs.List.Sorted.{IsPermutation, IsSorted}
 use Rattle.std.specs.Option.{option_cmp}
 use Rattle.std.specs.Ordering.{ordering_then, nat_cmp}
 use Rattle.std.specs.declared.cmp.Ordering.{Ordering}
-use Rattle.std.specs.declared.cmp.Ordering.TheVariants.{Equal}
 use Rattle.std.specs.Cmp.Lexicographic.{slice_cmp}
 use Rattle.dtype_base.specs.BinaryDigits.{binary_digits}
 use Rattle.dtype_base.specs.Bytes.{Bytes}
-use Rattle.dtype_base.specs.NameKeys.{name_key, BeginAlike}
+use Rattle.dtype_base.specs.NameKeys.{key_half, name_key, BeginAlike}
 use Rattle.dtype_base.specs.declared.name_order.Place.{Place}
+use Rattle.dtype_base.specs.declared.name_order.ToldBy.{ToldBy}
+use Rattle.dtype_base.specs.declared.name_order.ToldBy.TheVariants.{Halves, Keys, Texts}
 
 -- how two names compare, by their bytes, where none comes before all
 abbrev pub bytes_cmp : Option (List ℕ) → Option (List ℕ) → Ordering
@@ -50,16 +51,28 @@ positions = map (λ p. p.position)
 abbrev pub KeysRise : List Place → Type 0
 KeysRise = AllPairs (λ p q. p.key < q.key)
 
--- the names' positions in order, each with its key, and whether each key is another
-pub record IsIndexOf (names : List (List ℕ)) (shared : ℕ) (keys_tell : Bool) (places : List Place) : Type 0 where
+-- each place has a key with another first half
+abbrev pub HalvesRise : List Place → Type 0
+HalvesRise = AllPairs (λ p q. key_half p.key < key_half q.key)
+
+-- what tells the places apart
+abbrev pub AreToldBy : ToldBy → List Place → Type 0
+AreToldBy Halves = HalvesRise
+AreToldBy Keys = KeysRise
+AreToldBy Texts = λ places. ⊤
+
+-- the names' positions in order, each with its key, and what tells them apart
+pub record IsIndexOf (names : List (List ℕ)) (shared : ℕ) (told_by : ToldBy) (places : List Place) : Type 0 where
   pub alike : BeginAlike names shared
   pub keyed : All (IsKeyed names shared) places
   pub order : IsOrderOf names (positions places)
-  pub rise : IsTrue keys_tell → KeysRise places
+  pub told : AreToldBy told_by places
 
--- how the name at a place compares to a name with this key: by the keys, and by the texts where they are asked for
-abbrev pub place_side : List (List ℕ) → List ℕ → ℕ → Bool → Place → Ordering
-place_side names n key by_text p = ordering_then (nat_cmp p.key key) (if by_text then name_cmp names n p.position else Equal)
+-- how the name at a place compares to a name with this key: by as much as tells them apart
+abbrev pub place_side : List (List ℕ) → List ℕ → ℕ → ToldBy → Place → Ordering
+place_side names n key Halves p = nat_cmp (key_half p.key) (key_half key)
+place_side names n key Keys p = nat_cmp p.key key
+place_side names n key Texts p = ordering_then (nat_cmp p.key key) (name_cmp names n p.position)
 
 -- all 64 ones, or none
 abbrev pub mask : Bool → ℕ

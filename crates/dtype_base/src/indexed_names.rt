@@ -1,26 +1,24 @@
 // SPDX-License-Identifier: Apache-2.0
 // SPDX-FileCopyrightText: Copyright the Vortex contributors
 
-ghost use Rattle.std.specs.Prelude.{◌≡◌, ◌≢◌, ◌⊎◌, ◌↔◌, ◌+◌, ◌<◌, ◌^◌, All, AllPairs, IsTrue, IfSome, IfNone, IfOk, Some, [], length, map, nat_lt, slice_index_or, take, MatchResult};
+ghost use Rattle.std.specs.Prelude.{◌≡◌, ◌≢◌, ◌⊎◌, ◌↔◌, ◌+◌, ◌<◌, ◌%◌, ◌^◌, All, AllPairs, IsTrue, IfSome, IfNone, IfOk, Some, [], length, map, nat_lt, slice_index_or, take, MatchResult};
 ghost use Rattle.std.specs.List.{range_with_len};
-ghost use Rattle.std.specs.Ordering.{is_lt, is_eq};
+ghost use Rattle.std.specs.Ordering.{is_lt, is_eq, nat_cmp};
 ghost use Rattle.dtype_base.specs.Bytes.{Bytes};
 ghost use Rattle.dtype_base.specs.FieldNames.{FirstAt, IsAbsent, SelectionRefusal, first_place};
-ghost use Rattle.dtype_base.specs.NameKeys.{name_key};
+ghost use Rattle.dtype_base.specs.NameKeys.{key_half, name_key};
 ghost use Rattle.dtype_base.specs.NameOrder.{IsIndexOf, IsKeyed, comparisons, mask, place_side, positions};
+ghost use Rattle.dtype_base.specs.declared.name_order.ToldBy.TheVariants.{Halves, Keys};
 ghost use Rattle.dtype_base.specs.declared.vortex_error.VortexError.TheVariants.{OutOfMemory};
 
 use crate::field_names::copied;
-use crate::name_key::{begin_alike, key_of, shared_beginning};
-use crate::name_order::{Place, are_distinct, places_of, sort_places};
+use crate::name_key::{HALF, begin_alike, first_half, key_of};
+use crate::name_order::{Place, ToldBy, are_distinct, places_of, sort_places};
 use crate::{FieldName, FieldNames, VortexError, VortexResult};
 use std::alloc::Global;
 use std::cmp::Ordering;
 use std::hash::{Hash, Hasher};
 use std::marker::Model;
-
-// Half of a key's values: those of its last eight bytes.
-const HALF: u128 = 0x1_0000_0000_0000_0000;
 
 /// Names in order, with an index in which they are looked up.
 #[derive(Debug, Drop)]
@@ -30,8 +28,8 @@ pub struct IndexedNames {
     shared: usize,
     // Every position of the names, sorted by the bytes of the name there and then by itself.
     places: Vec<Place>,
-    // Whether no two places have one key, so that keys alone tell the places apart.
-    keys_tell: bool,
+    // What tells the places apart.
+    told_by: ToldBy,
 }
 
 impl Model for IndexedNames {
@@ -42,7 +40,7 @@ impl Model for IndexedNames {
 
     ghost view = { λ n. n.names };
 
-    ghost invariant = { λ n. IsIndexOf n.names n.shared n.keys_tell n.places.items };
+    ghost invariant = { λ n. IsIndexOf n.names n.shared n.told_by n.places.items };
 }
 
 impl IndexedNames {
@@ -50,13 +48,12 @@ impl IndexedNames {
     pub fn new(alloc: Global, names: FieldNames) -> VortexResult<Self>
         ensures { MatchResult result (λ n. n ≡ names) (λ e. e ≡ OutOfMemory) }
     {
-        let shared = shared_beginning(names.as_slice());
-        let (places, keys_tell) = places_of(alloc, names.as_slice(), shared)?;
+        let (places, shared, told_by) = places_of(alloc, names.as_slice())?;
         Ok(IndexedNames {
             names,
             shared,
             places,
-            keys_tell,
+            told_by,
         })
     }
 
@@ -83,7 +80,7 @@ impl IndexedNames {
         search(
             self.names.as_slice(),
             self.shared,
-            self.keys_tell,
+            self.told_by,
             &self.places,
             name,
             key,
@@ -102,16 +99,16 @@ impl IndexedNames {
             alloc,
             names,
             self.shared,
-            self.keys_tell,
+            self.told_by,
             &self.places,
             asked,
         )?;
-        let keys_tell = sort_places(alloc, asked, &mut places)?;
+        let told_by = sort_places(alloc, asked, &mut places)?;
         let selected = IndexedNames {
             names: copied(alloc, asked)?,
             shared: self.shared,
             places,
-            keys_tell,
+            told_by,
         };
         Ok((selected, firsts))
     }
@@ -134,7 +131,7 @@ impl IndexedNames {
             names,
             shared: self.shared,
             places,
-            keys_tell: self.keys_tell,
+            told_by: self.told_by,
         })
     }
 }
@@ -179,11 +176,11 @@ fn look_up(
     alloc: Global,
     names: &[FieldName],
     shared: usize,
-    keys_tell: bool,
+    told_by: ToldBy,
     places: &[Place],
     asked: &[FieldName],
 ) -> VortexResult<(Vec<Place>, Vec<usize>)>
-    requires { IsIndexOf names.now shared keys_tell places.now }
+    requires { IsIndexOf names.now shared told_by places.now }
     ensures found { MatchResult result
         (λ made. map Some made.1.items ≡ map (first_place names.now) asked.now)
         (λ e. (e ≡ OutOfMemory) ⊎ SelectionRefusal names.now asked.now e) }
@@ -196,7 +193,7 @@ fn look_up(
     for position in 0..asked.len() {
         let name = asked[position].as_str();
         let key = key_of(name.as_bytes(), shared);
-        match search(names, shared, keys_tell, places, name, key).0 {
+        match search(names, shared, told_by, places, name, key).0 {
             Some(first) => firsts.push_reserved(first),
             None => return Err(VortexError::FieldNotFound { position }),
         }
@@ -205,22 +202,46 @@ fn look_up(
     Ok((made, firsts))
 }
 
-// The first position of the name, or none where no name is equal to it, and how many names were compared.
-//
-// Halves what is left until it is one place, the first whose name isn't below this one if the name stands
-// anywhere at all. Where its key holds all that is behind what the names begin with, no text is read there but
-// what they begin with. The steps are as many for every name, and where keys tell, none has a jump that a processor
-// could guess wrong. Within its callers' own code, since a call for each lookup takes a tenth longer.
+// The first position of the name, or none where no name is equal to it, and how many names were compared. Within its
+// callers' own code, since a call for each lookup takes a tenth longer, and there once for each that may tell the places
+// apart, so that no step of a search asks which.
 #[inline(always)]
 fn search(
     names: &[FieldName],
     shared: usize,
-    keys_tell: bool,
+    told_by: ToldBy,
     places: &[Place],
     name: &str,
     key: u128,
 ) -> (Option<usize>, u64)
-    requires index { IsIndexOf names.now shared keys_tell places.now }
+    requires index { IsIndexOf names.now shared told_by places.now }
+    requires key { key ≡ name_key shared name.now }
+    requires bytes { Bytes name.now }
+    ensures found { IfSome result.0 (FirstAt names.now name.now) }
+    ensures none { IfNone result.0 (IsAbsent names.now name.now) }
+    ensures count { result.1 ≡ comparisons (length names.now) }
+{
+    match told_by {
+        ToldBy::Halves => search_by(names, shared, ToldBy::Halves, places, name, key),
+        ToldBy::Keys => search_by(names, shared, ToldBy::Keys, places, name, key),
+        ToldBy::Texts => search_by(names, shared, ToldBy::Texts, places, name, key),
+    }
+}
+
+// Halves what is left until it is one place, the first whose name isn't below this one if the name stands
+// anywhere at all. Where its key holds all that is behind what the names begin with, no text is read there but what
+// they begin with. The steps are as many for every name, and where keys tell the places apart, none has a jump that a
+// processor could guess wrong.
+#[inline(always)]
+fn search_by(
+    names: &[FieldName],
+    shared: usize,
+    by: ToldBy,
+    places: &[Place],
+    name: &str,
+    key: u128,
+) -> (Option<usize>, u64)
+    requires index { IsIndexOf names.now shared by places.now }
     requires key { key ≡ name_key shared name.now }
     requires bytes { Bytes name.now }
     ensures found { IfSome result.0 (FirstAt names.now name.now) }
@@ -237,13 +258,12 @@ fn search(
     while size > 1 {
         let half = size / 2;
         let middle = places[low + half - 1];
-        let side = compare(names, middle, name, key, !keys_tell, &mut compared);
+        let side = compare(names, middle, name, key, by, &mut compared);
         low += half & side.below;
         size -= half;
     }
     let last = places[low];
-    let by_text = key % 256 >= 16;
-    let side = compare(names, last, name, key, by_text, &mut compared);
+    let side = compare(names, last, name, key, all_told_by(key), &mut compared);
     let same = side.same & begins;
     (same.then_some(last.position), compared)
 }
@@ -265,29 +285,40 @@ struct Side {
     same: bool,
 }
 
-// Compares the name at a place with the one that is looked for, and counts it: by the keys, and where these
-// are equal by the texts, if they are asked for. Nothing else compares a name with the one that is looked for.
+// What tells a name with this key from every other that begins as all do.
+fn all_told_by(key: u128) -> ToldBy
+    ensures not_half { result ≢ Halves }
+    ensures whole { result ≡ Keys → key % 256 < 16 }
+{
+    if key % 256 < 16 {
+        ToldBy::Keys
+    } else {
+        ToldBy::Texts
+    }
+}
+
+// Compares the name at a place with the one that is looked for, and counts it: by as much of the keys as is asked
+// for, and by the texts if they are, where the keys are equal. Nothing else compares a name with the one that is
+// looked for.
 fn compare(
     names: &[FieldName],
     place: Place,
     name: &str,
     key: u128,
-    by_text: bool,
+    by: ToldBy,
     compared: &mut u64,
 ) -> Side
     requires within { place.position < length names.now }
     requires room { compared.old + 1 < 2 ^ 64 }
     ensures counted { compared.new ≡ compared.old + 1 }
-    ensures below { result.below ≡ mask (is_lt (place_side names.now name.now key by_text place)) }
-    ensures same { result.same ≡ is_eq (place_side names.now name.now key by_text place) }
+    ensures below { result.below ≡ mask (is_lt (place_side names.now name.now key by place)) }
+    ensures same { result.same ≡ is_eq (place_side names.now name.now key by place) }
 {
     *compared += 1;
-    if by_text && place.key == key {
-        return side_of(names[place.position].as_str().cmp(name));
-    }
-    Side {
-        below: mask_below(place.key, key),
-        same: place.key == key,
+    match by {
+        ToldBy::Halves => by_halves(place.key, key),
+        ToldBy::Texts if place.key == key => side_of(names[place.position].as_str().cmp(name)),
+        _ => by_keys(place.key, key),
     }
 }
 
@@ -299,6 +330,32 @@ fn side_of(ordering: Ordering) -> Side
     Side {
         below,
         same: ordering.is_eq(),
+    }
+}
+
+// By the first halves of the keys: below by the borrow of their difference, since a comparison would be compiled to
+// a jump.
+fn by_halves(place: u128, key: u128) -> Side
+    ensures below { result.below ≡ mask (is_lt (nat_cmp (key_half place) (key_half key))) }
+    ensures same { result.same ≡ is_eq (nat_cmp (key_half place) (key_half key)) }
+{
+    let here = first_half(place);
+    let wanted = first_half(key);
+    let difference = u128::from(here).wrapping_sub(u128::from(wanted));
+    Side {
+        below: (difference / HALF) as usize,
+        same: here == wanted,
+    }
+}
+
+// By the keys.
+fn by_keys(place: u128, key: u128) -> Side
+    ensures below { result.below ≡ mask (is_lt (nat_cmp place key)) }
+    ensures same { result.same ≡ is_eq (nat_cmp place key) }
+{
+    Side {
+        below: mask_below(place, key),
+        same: place == key,
     }
 }
 

@@ -5,9 +5,12 @@
 ghost use Rattle.std.specs.Prelude.{◌≡◌, ◌↔◌, ℕ, ◌<◌, ◌≤◌, IsTrue, length, take, drop, slice_index};
 ghost use Rattle.std.specs.List.{All};
 ghost use Rattle.dtype_base.specs.Bytes.{Bytes};
-ghost use Rattle.dtype_base.specs.NameKeys.{high_first, name_key, BeginAlike};
+ghost use Rattle.dtype_base.specs.NameKeys.{high_first, key_half, name_key, BeginAlike};
 
 use crate::FieldName;
+
+// What the first eight bytes of a key are worth, in units of its last eight.
+pub(crate) const HALF: u128 = 0x1_0000_0000_0000_0000;
 
 // How many bytes all names begin with alike.
 pub(crate) fn shared_beginning(names: &[FieldName]) -> usize
@@ -22,6 +25,17 @@ pub(crate) fn shared_beginning(names: &[FieldName]) -> usize
         shared = alike(name.as_str().as_bytes(), first, shared);
     }
     shared
+}
+
+// How many bytes the first and the last name begin with alike: mostly as many as all do.
+pub(crate) fn likely_beginning(names: &[FieldName]) -> usize {
+    match (names.first(), names.last()) {
+        (Some(first), Some(last)) => {
+            let first = first.as_str().as_bytes();
+            alike(last.as_str().as_bytes(), first, first.len())
+        }
+        _ => 0,
+    }
 }
 
 // How many bytes two texts begin with alike, so many at most.
@@ -90,7 +104,14 @@ pub(crate) fn key_of(text: &[u8], shared: usize) -> u128
     let high = eight_behind(text, shared);
     let seven = eight_behind(rest, 8) / 256;
     let held = rest.len().min(16) as u64;
-    u128::from(high) * 0x1_0000_0000_0000_0000 + u128::from(seven * 256 + held)
+    u128::from(high) * HALF + u128::from(seven * 256 + held)
+}
+
+// The first eight bytes of a key.
+pub(crate) fn first_half(key: u128) -> u64
+    ensures { result ≡ key_half key }
+{
+    (key / HALF) as u64
 }
 
 // The eight bytes behind the first so many as one number, with zeros where there are fewer. Where the text has

@@ -3,12 +3,11 @@
 
 -- What follows of decimals and of what stores them: `decimals` names it in one line,
 --     #![tactic(auto, using(dtype_base::specs::lemmas::Decimals::decimals))]
-use Rattle.std.proofs.Common.{◌≡◌, ◌↔◌, ◌+◌, ◌-◌, ◌*◌, ◌^◌, ◌<◌, ◌≤◌, ℕ, zero, suc, Bool, true, false, cond, ◌&&◌, nat_le, nat_lt, Some, None, refl, sym, ap, subst, ◌∙◌, add-zero, arith}
+use Rattle.std.proofs.Common.{◌≡◌, ◌+◌, ◌-◌, ◌*◌, ◌^◌, ◌<◌, ◌≤◌, ℕ, zero, suc, Bool, true, false, ◌&&◌, nat_le, nat_lt, refl, subst, add-zero, arith}
 use Rattle.std.proofs.lemmas.Bool.{and_parts, leb-true, ltb-true, ltb-false}
-use Rattle.std.proofs.lemmas.Option.{same_Some}
 use Rattle.std.proofs.Math.Pow.{pow_mono}
 use Rattle.std.proofs.Math.Nat.{lt_of_le_of_lt}
-use Rattle.dtype_base.specs.Decimals.{greatest_precision, IsBitWidth, bit_width, storage, smallest_storage, IsCompatible}
+use Rattle.dtype_base.specs.Decimals.{greatest_precision, IsBitWidth, bit_width, storage}
 use Rattle.dtype_base.specs.declared.decimal.DecimalType.{DecimalType}
 use Rattle.dtype_base.specs.declared.decimal.DecimalType.TheVariants.{I8, I16, I32, I64, I128, I256}
 

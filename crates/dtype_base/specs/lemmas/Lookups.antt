@@ -3,7 +3,7 @@
 
 -- What an answer of a lookup says: `lookups` names it in one line,
 --     #![tactic(auto, using(dtype_base::specs::lemmas::Lookups::lookups))]
-use Rattle.std.proofs.Common.{◌≡◌, ℕ, zero, suc, ◌<◌, ◌≤◌, ◌^◌, List, length, map, get_or, slice_get, Option, Some, None, IfSome, IfNone, Bool, true, false, cond, refl, ap, sym, ◌∙◌, inl, inr, arith}
+use Rattle.std.proofs.Common.{◌≡◌, ℕ, zero, suc, ◌<◌, ◌≤◌, ◌^◌, List, length, map, get_or, Option, Some, None, IfSome, IfNone, Bool, true, false, cond, refl, ap, sym, ◌∙◌, inl, inr, arith}
 use Rattle.std.specs.List.{position_or_len}
 use Rattle.std.specs.Str.{bytes_eq}
 use Rattle.std.proofs.lemmas.Bool.{lt-ltb, false≢true, cases_lt}

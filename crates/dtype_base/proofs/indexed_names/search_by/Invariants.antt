@@ -3,7 +3,7 @@
 
 use Rattle.dtype_base.specs.NameOrder.{positions}
 use Rattle.dtype_base.proofs.NameSearch.{Searching}
-use Rattle.dtype_base.proofs.indexed_names.search.Given as goal
+use Rattle.dtype_base.proofs.indexed_names.search_by.Given as goal
 
 abbrev pub invariant-loop-size : goal.invariant-loop-size
 invariant-loop-size l = Searching l.names (positions l.places) l.name l.low l.size l.compared

@@ -3,7 +3,7 @@
 
 use Rattle.std.proofs.Common.{ℕ, ◌<◌, length, get_or}
 use Rattle.dtype_base.specs.declared.name_order.Place.{Place}
-use Rattle.dtype_base.proofs.name_order.have_own_keys.Given as goal
+use Rattle.dtype_base.proofs.name_order.keys_rise.Given as goal
 
 -- the keys so far rise
 abbrev pub invariant-loop-next : goal.invariant-loop-next

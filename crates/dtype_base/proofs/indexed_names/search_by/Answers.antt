@@ -1,19 +1,17 @@
 -- SPDX-License-Identifier: Apache-2.0
 -- SPDX-FileCopyrightText: Copyright the Vortex contributors
 
-use Rattle.std.proofs.Common.{◌≡◌, ◌+◌, ◌-◌, ◌/◌, ◌%◌, ◌<◌, Bool, true, false, not, ◌&&◌, length, refl, sym, ap, subst, ◌∙◌, arith, IfSome, IfNone}
+use Rattle.std.proofs.Common.{◌≡◌, ◌+◌, ◌-◌, ◌/◌, ◌<◌, ◌&&◌, length, refl, sym, ap, subst, ◌∙◌, arith, IfSome, IfNone}
 use Rattle.std.specs.Bool.{then_some}
 use Rattle.std.specs.Int.Bits.{bit_and}
-use Rattle.std.proofs.lemmas.Bool.{eqb-true, eqb-false, leb-false}
+use Rattle.std.proofs.lemmas.Bool.{eqb-true, eqb-false}
 use Rattle.std.proofs.lemmas.Option.{slice_get_within}
 use Rattle.dtype_base.specs.BinaryDigits.{digits_fewest}
-use Rattle.dtype_base.specs.Bytes.{Bytes}
 use Rattle.dtype_base.specs.FieldNames.{FirstAt, IsAbsent}
-use Rattle.dtype_base.specs.NameKeys.{name_key}
 use Rattle.dtype_base.specs.NameOrder.{positions, comparisons}
 use Rattle.dtype_base.proofs.NameSearch.{Searching, as_many, as_many_positions, position_at, starts, steps, ends, counts}
 use Rattle.dtype_base.proofs.KeyOrder.{below_told, same_told}
-use Rattle.dtype_base.proofs.indexed_names.search.Goals as goal
+use Rattle.dtype_base.proofs.indexed_names.search_by.Goals as goal
 
 pub returns-then-is_empty-clause-none : goal.returns-then-is_empty-clause-none
 returns-then-is_empty-clause-none c = λ k e.
@@ -55,10 +53,6 @@ compare-side-requires-2-clause-room c =
     let places = c.args.places.now in
     omega (arith, c.loop-size.invariant.count, digits_fewest (length (positions places) - 1) 64 (omega (arith, as_many_positions places)))
 
-tells : (b : Bool) → not b ≡ false → b ≡ true
-tells true e = refl
-tells false e = absurd (cc)
-
 pub loop-size-preserved : goal.loop-size-preserved
 loop-size-preserved c =
     let inv = c.loop-size.invariant in
@@ -75,7 +69,7 @@ loop-size-preserved c =
     let key = c.requires.key in
     subst (λ count. Searching names order n (low + bit_and (size / 2) c.compare-side.result.below) (size - size / 2) count) (sym c.compare-side.ensures.counted)
     (steps names order c.requires.index.order n low size c.loop-size.compared (size / 2) m c.compare-side.result.below _ inv c.loop-size-test.true refl refl (omega arith)
-    (below_told names shared c.requires.index.alike places c.requires.index.keyed c.requires.index.order n c.args.key m _ (not c.args.keys_tell) (λ e. c.requires.index.rise (tells c.args.keys_tell e)) bytes key within) c.compare-side.ensures.below)
+    (below_told names shared c.requires.index.alike places c.requires.index.keyed c.requires.index.order n c.args.key m _ c.args.by c.requires.index.told bytes key within) c.compare-side.ensures.below)
 
 pub returns-clause-found : goal.returns-clause-found
 returns-clause-found c =
@@ -89,7 +83,7 @@ returns-clause-found c =
     let within : low < length places = omega (arith, inv.within, inv.some, as_many_positions places) in
     let bytes = c.requires.bytes in
     let key = c.requires.key in
-    let told = same_told names shared c.requires.index.alike places c.requires.index.keyed c.requires.index.order n c.args.key low _ _ c.compare-side-2.result.same c.begins_as_all-begins.result (leb-false 16 (c.args.key % 256)) bytes key within c.compare-side-2.ensures.same c.begins_as_all-begins.ensures in
+    let told = same_told names shared c.requires.index.alike places c.requires.index.keyed c.requires.index.order n c.args.key low _ _ c.compare-side-2.result.same c.begins_as_all-begins.result c.all_told_by.ensures.not_half c.all_told_by.ensures.whole bytes key within c.compare-side-2.ensures.same c.begins_as_all-begins.ensures in
     let last = ends names order c.requires.index.order n low c.loop-size.size c.loop-size.compared (c.compare-side-2.result.same && c.begins_as_all-begins.result) inv (omega (arith, c.loop-size-test.false)) told.0 told.1 in
     subst (λ r. IfSome r (FirstAt names n)) (ap (then_some (c.compare-side-2.result.same && c.begins_as_all-begins.result)) (position_at places low _ within) ∙ sym c.then_some.ensures) last.0
 
@@ -105,7 +99,7 @@ returns-clause-none c =
     let within : low < length places = omega (arith, inv.within, inv.some, as_many_positions places) in
     let bytes = c.requires.bytes in
     let key = c.requires.key in
-    let told = same_told names shared c.requires.index.alike places c.requires.index.keyed c.requires.index.order n c.args.key low _ _ c.compare-side-2.result.same c.begins_as_all-begins.result (leb-false 16 (c.args.key % 256)) bytes key within c.compare-side-2.ensures.same c.begins_as_all-begins.ensures in
+    let told = same_told names shared c.requires.index.alike places c.requires.index.keyed c.requires.index.order n c.args.key low _ _ c.compare-side-2.result.same c.begins_as_all-begins.result c.all_told_by.ensures.not_half c.all_told_by.ensures.whole bytes key within c.compare-side-2.ensures.same c.begins_as_all-begins.ensures in
     let last = ends names order c.requires.index.order n low c.loop-size.size c.loop-size.compared (c.compare-side-2.result.same && c.begins_as_all-begins.result) inv (omega (arith, c.loop-size-test.false)) told.0 told.1 in
     subst (λ r. IfNone r (IsAbsent names n)) (ap (then_some (c.compare-side-2.result.same && c.begins_as_all-begins.result)) (position_at places low _ within) ∙ sym c.then_some.ensures) last.1
 

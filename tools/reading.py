@@ -1,0 +1,141 @@
+# SPDX-License-Identifier: Apache-2.0
+# SPDX-FileCopyrightText: Copyright the Vortex contributors
+
+"""Reads the sources for the other tools of this folder: functions with their clauses, impls and traits with their ghost
+members, and what a library gives out. Nothing is compiled: a source is read as text, in the layout of `rt fmt`."""
+import os
+import re
+from collections import namedtuple
+from glob import glob
+
+TOP = os.path.dirname(os.path.dirname(os.path.realpath(__file__)))
+# The libraries, lowest first.
+LIBRARIES = [
+    it
+    for it in ("dtype_base", "dtype_messages", "dtype_types", "dtype_native", "dtype_paths", "dtype_projection", "vortex_dtype")
+    if os.path.isdir(f"{TOP}/crates/{it}")
+]
+
+# `kind` is requires, ensures or ghost, and `name` is empty where a clause has none.
+Clause = namedtuple("Clause", "kind name text")
+# An impl or a trait: the type, the trait that it is of (of an inherent impl empty, of a trait's declaration its own
+# name), its heading as it stands, and its ghost members.
+Owner = namedtuple("Owner", "start end kind heading type trait members")
+Function = namedtuple("Function", "file owner name visibility attributes signature clauses body")
+
+COMMENT = re.compile(r"(?m)^\s*//.*\n")
+OWNER = re.compile(r"\b(impl|trait)\b(?:<[^{]*?>)?\s+([^{;]*?)\s*(?:where[^{]*)?\{")
+HEADER = re.compile(r"(\bpub\b(?:\([^)]*\))? )?(?:const )?\bfn (\w+)")
+ATTRIBUTES = re.compile(r"((?:^\s*#\[[^\n]*\]\n)*)[^\n]*\Z", re.M)
+CLAUSE = re.compile(r"\s*(requires|ensures)\*? ?(\w*) ?\{")
+MEMBER = re.compile(r"\bghost (\w+)(?: =|:) \{")
+GIVEN = re.compile(r"(?m)^pub use [\w:]+?(?:::\{([^}]*)\}|::(\w+)(?: as \w+)?);")
+MODULE = re.compile(r"(?m)^pub mod (\w+);")
+
+
+def go_to_top():
+    """Makes the top of the repository the current folder."""
+    os.chdir(TOP)
+
+
+def text_of(file):
+    with open(file, encoding="utf-8") as it:
+        return it.read()
+
+
+def crates():
+    """The crates of crates.txt, in its order."""
+    return re.findall(r"(?m)^(\w+):", text_of("crates.txt"))
+
+
+def sources_of(crate, parts=("src",), endings=(".rt",)):
+    """The files of a crate's folders that end so, in order."""
+    files = [it for part in parts for it in glob(f"crates/{crate}/{part}/**/*", recursive=True)]
+    return sorted(it for it in files if it.endswith(endings))
+
+
+def end_of(text, start):
+    """The index after the brace that closes the one at `start`."""
+    depth = 0
+    for at in range(start, len(text)):
+        depth += {"{": 1, "}": -1}.get(text[at], 0)
+        if depth == 0:
+            return at + 1
+    return len(text)
+
+
+def without_path(name):
+    """The last part of a path, without the parameters of a type."""
+    name = re.split(r"(?<!:):(?!:)", re.sub(r"<.*", "", name.strip().lstrip("&")))[0]
+    return name.strip().rpartition("::")[2]
+
+
+def owners_in(text):
+    """The impls and the traits of a text without comments."""
+    owners = []
+    for it in OWNER.finditer(text):
+        end = end_of(text, it.end() - 1)
+        of_trait, _, of_type = it[2].rpartition(" for ")
+        of_type = without_path(of_type)
+        trait = of_type if it[1] == "trait" else without_path(re.sub(r"<.*", "", of_trait)) if of_trait else ""
+        members = [
+            Clause("ghost", found[1], text[found.end():end_of(text, found.end() - 1) - 1])
+            for found in MEMBER.finditer(text, it.end(), end)
+        ]
+        owners.append(Owner(it.start(), end, it[1], it[2], of_type, trait, members))
+    return owners
+
+
+def clauses_behind(text, at):
+    """The clauses of the function whose signature ends at `at`, and where its body begins."""
+    if where := re.match(r"\s*where\b[^{;]*?(?=\s*(?:\brequires\b|\bensures\b|\{|;))", text[at:]):
+        at += where.end()
+    clauses = []
+    while found := CLAUSE.match(text, at):
+        at = end_of(text, found.end() - 1)
+        clauses.append(Clause(found[1], found[2], text[found.end():at - 1]))
+    return clauses, at
+
+
+def functions_of(file):
+    """The functions of a source, each with the impl or the trait that holds it, or None."""
+    text = COMMENT.sub("", text_of(file))
+    owners = owners_in(text)
+    for it in HEADER.finditer(text):
+        behind = re.search(r"\s*(?:\brequires\b|\bensures\b|\{|;|\bwhere\b)", text[it.end():])
+        if not behind:
+            continue
+        at = it.end() + behind.start()
+        owner = next((owner for owner in reversed(owners) if owner.start < it.start() < owner.end), None)
+        clauses, begin = clauses_behind(text, at)
+        brace = re.match(r"\s*\{", text[begin:])
+        body = text[begin:end_of(text, begin + brace.end() - 1)] if brace else ""
+        attributes = ATTRIBUTES.search(text[:it.start()])[1]
+        yield Function(file, owner, it[2], (it[1] or "").strip(), attributes, text[it.end():at], clauses, body)
+
+
+def names_in(listing):
+    """The names that a list in braces imports, each with what it is called there."""
+    for it in filter(None, (it.strip() for it in (listing or "").split(","))):
+        name, _, alias = it.partition(" as ")
+        yield name, alias or name
+
+
+def given_out(crate):
+    """The names that a library gives out, and its modules that are public."""
+    text = text_of(f"crates/{crate}/src/lib.rt")
+    names = {alias for it in GIVEN.finditer(text) for _, alias in names_in(it[1] or it[2])}
+    return names, set(MODULE.findall(text))
+
+
+def heads_of(owner):
+    """The trait and the type of an impl, or the trait that is declared."""
+    return {owner.type, owner.trait} - {""}
+
+
+def is_public(function, names, modules):
+    """Whether a user of a library that gives out these names, and these modules, can call the function."""
+    module = os.path.basename(function.file).removesuffix(".rt")
+    owner = function.owner
+    is_open = module in modules or (bool(heads_of(owner) & names) if owner else function.name in names)
+    return is_open and (bool(owner and owner.trait) or function.visibility == "pub")

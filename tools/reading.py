@@ -10,11 +10,8 @@ from glob import glob
 
 TOP = os.path.dirname(os.path.dirname(os.path.realpath(__file__)))
 # The libraries, lowest first.
-LIBRARIES = [
-    it
-    for it in ("dtype_base", "dtype_messages", "dtype_types", "dtype_native", "dtype_paths", "dtype_projection", "vortex_dtype")
-    if os.path.isdir(f"{TOP}/crates/{it}")
-]
+LIBRARIES = "dtype_base dtype_messages dtype_types dtype_native dtype_paths dtype_projection vortex_dtype".split()
+LIBRARIES = [it for it in LIBRARIES if os.path.isdir(f"{TOP}/crates/{it}")]
 
 # `kind` is requires, ensures or ghost, and `name` is empty where a clause has none.
 Clause = namedtuple("Clause", "kind name text")
@@ -26,7 +23,10 @@ Function = namedtuple("Function", "file owner name visibility attributes signatu
 COMMENT = re.compile(r"(?m)^\s*//.*\n")
 OWNER = re.compile(r"\b(impl|trait)\b(?:<[^{]*?>)?\s+([^{;]*?)\s*(?:where[^{]*)?\{")
 HEADER = re.compile(r"(\bpub\b(?:\([^)]*\))? )?(?:const )?\bfn (\w+)")
-ATTRIBUTES = re.compile(r"((?:^\s*#\[[^\n]*\]\n)*)[^\n]*\Z", re.M)
+SIGNATURE_END = re.compile(r"\s*(?:\brequires\b|\bensures\b|\{|;(?! \w+\])|\bwhere\b)")
+WHERE = re.compile(r"\s*where\b[^{;]*?(?=\s*(?:\brequires\b|\bensures\b|\{|;))")
+BODY = re.compile(r"\s*\{")
+BRACE = re.compile(r"""[{}]|"(?:\\.|[^"\\])*"|'(?:\\.|[^'\\])'""")
 CLAUSE = re.compile(r"\s*(requires|ensures)\*? ?(\w*) ?\{")
 MEMBER = re.compile(r"\bghost (\w+)(?: =|:) \{")
 GIVEN = re.compile(r"(?m)^pub use [\w:]+?(?:::\{([^}]*)\}|::(\w+)(?: as \w+)?);")
@@ -55,12 +55,12 @@ def sources_of(crate, parts=("src",), endings=(".rt",)):
 
 
 def end_of(text, start):
-    """The index after the brace that closes the one at `start`."""
+    """The index after the brace that closes the one at `start`. Braces in texts and characters don't count."""
     depth = 0
-    for at in range(start, len(text)):
-        depth += {"{": 1, "}": -1}.get(text[at], 0)
+    for it in BRACE.finditer(text, start):
+        depth += {"{": 1, "}": -1}.get(it[0], 0)
         if depth == 0:
-            return at + 1
+            return it.end()
     return len(text)
 
 
@@ -88,8 +88,8 @@ def owners_in(text):
 
 def clauses_behind(text, at):
     """The clauses of the function whose signature ends at `at`, and where its body begins."""
-    if where := re.match(r"\s*where\b[^{;]*?(?=\s*(?:\brequires\b|\bensures\b|\{|;))", text[at:]):
-        at += where.end()
+    if where := WHERE.match(text, at):
+        at = where.end()
     clauses = []
     while found := CLAUSE.match(text, at):
         at = end_of(text, found.end() - 1)
@@ -97,21 +97,33 @@ def clauses_behind(text, at):
     return clauses, at
 
 
+def attributes_before(text, start):
+    """The attributes of the function whose header begins at `start`, each a line."""
+    attributes, at = [], text.rfind("\n", 0, start)
+    while at > 0:
+        before = text.rfind("\n", 0, at)
+        line = text[before + 1:at].strip()
+        if not line.startswith("#["):
+            break
+        attributes.append(line)
+        at = before
+    return attributes
+
+
 def functions_of(file):
     """The functions of a source, each with the impl or the trait that holds it, or None."""
     text = COMMENT.sub("", text_of(file))
     owners = owners_in(text)
     for it in HEADER.finditer(text):
-        behind = re.search(r"\s*(?:\brequires\b|\bensures\b|\{|;|\bwhere\b)", text[it.end():])
+        behind = SIGNATURE_END.search(text, it.end())
         if not behind:
             continue
-        at = it.end() + behind.start()
         owner = next((owner for owner in reversed(owners) if owner.start < it.start() < owner.end), None)
-        clauses, begin = clauses_behind(text, at)
-        brace = re.match(r"\s*\{", text[begin:])
-        body = text[begin:end_of(text, begin + brace.end() - 1)] if brace else ""
-        attributes = ATTRIBUTES.search(text[:it.start()])[1]
-        yield Function(file, owner, it[2], (it[1] or "").strip(), attributes, text[it.end():at], clauses, body)
+        clauses, begin = clauses_behind(text, behind.start())
+        brace = BODY.match(text, begin)
+        body = text[begin:end_of(text, brace.end() - 1)] if brace else ""
+        signature, attributes = text[it.end():behind.start()], attributes_before(text, it.start())
+        yield Function(file, owner, it[2], (it[1] or "").strip(), attributes, signature, clauses, body)
 
 
 def names_in(listing):
@@ -122,10 +134,11 @@ def names_in(listing):
 
 
 def given_out(crate):
-    """The names that a library gives out, and its modules that are public."""
-    text = text_of(f"crates/{crate}/src/lib.rt")
+    """The names that a library, or a program, gives out, and its modules that are public."""
+    root = f"crates/{crate}/src/lib.rt"
+    text = text_of(root if os.path.exists(root) else f"crates/{crate}/src/main.rt")
     names = {alias for it in GIVEN.finditer(text) for _, alias in names_in(it[1] or it[2])}
-    return names, set(MODULE.findall(text))
+    return names | set(re.findall(r"(?m)^pub fn (\w+)", text)), set(MODULE.findall(text))
 
 
 def heads_of(owner):

@@ -1,0 +1,223 @@
+# SPDX-License-Identifier: Apache-2.0
+# SPDX-FileCopyrightText: Copyright the Vortex contributors
+
+"""Checks the ledger docs/PROMISES.md against the sources: each clause, law, mutation and test that it names is there,
+and each public call, clause and law of the libraries, and each must-fail edit, stands in one of its lines. The ledger's
+first lines say how a line names them."""
+import os
+import re
+from collections import namedtuple
+
+from reading import LIBRARIES, functions_of, given_out, is_public, sources_of, text_of
+
+LEDGER = "docs/PROMISES.md"
+CONSOLE = "crates/dtype_console/stdin"
+# The crates whose public calls it names: the libraries, and the program.
+CRATES = [*LIBRARIES, "dtype_demo"]
+
+Line = namedtuple("Line", "number promise calls laws edits tests")
+# What a library has: the functions by their names in the ledger, the ghost members of traits and impls by their
+# types, the laws by their paths, constants and macros, and what types derive.
+Sources = namedtuple("Sources", "calls members laws constants derived")
+
+HEADING = "| Promise | Calls and clauses | Laws | Mutations | Shown by |"
+CONSTANT = re.compile(r"(?m)^\s*(?:pub )?(?:const|macro_rules!) (\w+)(?:: | \{)")
+DERIVED = re.compile(r"#\[derive(?:_where)?\(([^)]*)\)\]\s*(?:#\[[^\n]*\]\s*)*pub (?:struct|enum) (\w+)")
+
+
+def lines_of(text):
+    """The lines of the ledger's tables, and what is wrong with their form."""
+    lines, faults = [], []
+    for number, line in enumerate(text.splitlines(), 1):
+        if not line.startswith("|") or line in (HEADING, "|---|---|---|---|---|"):
+            continue
+        cells = [it.strip() for it in line.strip("|").split("|")]
+        if len(cells) != 5 or not cells[0] or not cells[1] + cells[2]:
+            faults.append((number, "a line has a promise, then the call or the law that carries it, and five cells"))
+            continue
+        rest = [re.sub(r"`[^`]+`", "", it).strip(", ") for it in cells[1:]]
+        if any(rest):
+            faults.append((number, f"is no reference: {' '.join(filter(None, rest))}"))
+        lines.append(Line(number, cells[0], *(re.findall(r"`([^`]+)`", it) for it in cells[1:])))
+    return lines, faults
+
+
+def name_of(function):
+    """The name of a function in the ledger: its type, if it has one, and its own; messages are under `pb`."""
+    if not function.owner:
+        return function.name
+    module = "pb::" if function.file.startswith("crates/dtype_messages/") else ""
+    return f"{module}{function.owner.type}::{function.name}"
+
+
+def is_declared_call(function, traits):
+    """Whether the ledger is to name a public function: not a debug text, and not what only fills in a trait of ours."""
+    if function.owner is None or function.owner.kind == "trait":
+        return True
+    return function.owner.trait != "Debug" and (function.owner.trait not in traits or bool(function.clauses))
+
+
+def read_sources():
+    """What the libraries have, and the names of the calls that the ledger is to name."""
+    sources, asked = Sources({}, {}, {}, set(), {}), set()
+    names = {name for crate in CRATES for name in given_out(crate)[0]}
+    functions = [(crate, it) for crate in CRATES for file in sources_of(crate) for it in functions_of(file)]
+    traits = {it.owner.type for _, it in functions if it.owner and it.owner.kind == "trait"}
+    for crate, function in functions:
+        law = f"{crate}::laws::{function.name}"
+        if is_law(crate, function):
+            sources.laws.setdefault(law, []).append(function)
+        elif is_public(function, names, given_out(crate)[1]):
+            sources.calls.setdefault(name_of(function), []).append(function)
+            if is_declared_call(function, traits):
+                asked.add(name_of(function))
+        if function.owner:
+            of_type = name_of(function).rpartition("::")[0]
+            sources.members.setdefault(of_type, set()).update(it.name for it in function.owner.members)
+    for crate in CRATES:
+        for file in sources_of(crate):
+            sources.constants.update(CONSTANT.findall(text_of(file)))
+            for traits_derived, of_type in DERIVED.findall(text_of(file)):
+                of_type = f"pb::{of_type}" if crate == "dtype_messages" else of_type
+                sources.derived.setdefault(of_type, set()).update(it.strip() for it in traits_derived.split(","))
+    return sources, asked
+
+
+def is_law(crate, function):
+    """Whether a function states a law: one of the module `laws`, or passed on by it."""
+    laws = f"crates/{crate}/src/laws.rt"
+    if function.owner or function.visibility != "pub" or not os.path.exists(laws):
+        return False
+    return function.file == laws or bool(re.search(rf"(?m)^pub use crate::\w+::{function.name};", text_of(laws)))
+
+
+def promises(function, sources):
+    """Whether a function has a clause, or its impl of a trait of std's says by ghost members what it does. A trait's
+    function may leave it to those who fill it in."""
+    if any(it.kind == "ensures" for it in function.clauses):
+        return True
+    if not function.owner or not function.owner.trait:
+        return False
+    if function.owner.kind == "impl":
+        return True
+    same = (it for found in sources.calls.values() for it in found if it.name == function.name and it.owner)
+    return any(it.clauses for it in same if it.owner.kind == "impl" and it.owner.trait == function.owner.type)
+
+
+def clauses_of(functions):
+    """The names of what functions promise: of their clauses, and of the ghost members of the impls that hold them."""
+    return {it.name for function in functions for it in function.clauses if it.kind == "ensures"} | {
+        it.name for function in functions if function.owner for it in function.owner.members
+    }
+
+
+def parts_of(reference):
+    """The names of a reference, with braces written out, and its clauses."""
+    name, _, clauses = reference.partition(": ")
+    if braces := re.fullmatch(r"(.*)\{(.*)\}", name):
+        names = [braces[1] + it.strip() for it in braces[2].split(",")]
+    else:
+        names = [name]
+    return names, [it.strip() for it in clauses.split(",") if it.strip()]
+
+
+def fault_of_call(name, clauses, sources):
+    """What of a reference to a call, a type's ghost members, a constant or a derived trait isn't there, or None."""
+    if derived := re.fullmatch(r"derive\((.*)\)", name):
+        gone = [it for it in clauses if it not in sources.derived.get(derived[1], set())]
+        return f"{derived[1]} doesn't derive {', '.join(gone)}" if gone or not clauses else None
+    if (name.isupper() or name.endswith("!")) and not clauses:
+        return None if name.rstrip("!") in sources.constants else f"there is no constant or macro {name}"
+    if name in sources.calls:
+        if not any(promises(it, sources) for it in sources.calls[name]):
+            return f"{name} promises nothing"
+        there = clauses_of(sources.calls[name])
+    elif clauses and name in sources.members:
+        there = sources.members[name]
+    else:
+        return f"there is no public call {name}"
+    gone = [it for it in clauses if it not in there]
+    return f"{name} has no clause {', '.join(gone)}" if gone else None
+
+
+def fault_of_law(name, clauses, sources):
+    """What of a reference to a law, or to a lemma of specs/, isn't there, or None."""
+    if lemma := re.fullmatch(r"(\w+)::(specs::.*)::([\w-]+)", name):
+        file = f"crates/{lemma[1]}/{lemma[2].replace('::', '/')}.antt"
+        stated = rf"(?m)^(?:pub )?(?:ruleset |abbrev )?{lemma[3]}\b"
+        return None if os.path.exists(file) and re.search(stated, text_of(file)) else f"there is no lemma {name}"
+    if name not in sources.laws:
+        return f"there is no law {name}"
+    gone = [it for it in clauses if it not in clauses_of(sources.laws[name])]
+    return f"{name} has no clause {', '.join(gone)}" if gone else None
+
+
+def fault_of_edit(name):
+    """Whether an edit isn't there: `crate/must-fail/name` or `crate/wrong/name`."""
+    return None if os.path.exists(f"crates/{name}.edit") else f"there is no mutation {name}"
+
+
+def golden_tests():
+    """The comments of the console's input that have commands below them, up to the next comment or heading."""
+    found, comment, heading = set(), None, None
+    for line in text_of(CONSOLE).splitlines():
+        if line.startswith("# == "):
+            heading, comment = line[5:], None
+        elif line.startswith("# "):
+            comment = line[2:]
+        elif line:
+            found |= {comment, heading}
+    return found - {None}
+
+
+def fault_of_test(name, golden):
+    """Whether a test isn't there: `console: comment`, or the path of a test function."""
+    if name.startswith("console: "):
+        return None if name.removeprefix("console: ") in golden else f"there is no golden test '{name[9:]}'"
+    crate, _, path = name.partition("::")
+    module, _, function = path.rpartition("::")
+    for file in (f"crates/{crate}/src/{module.replace('::', '/')}.rt", f"crates/{crate}/src/{module or 'main'}.rt"):
+        if os.path.exists(file):
+            tests = {it.name for it in functions_of(file) if "#[test]" in it.attributes}
+            return None if function in tests else f"there is no test {name}"
+    return f"there is no test {name}"
+
+
+def left_out(lines, sources, asked):
+    """What stands in no line: public calls, their clauses, laws, and must-fail edits."""
+    named, clauses_named = set(), set()
+    for line in lines:
+        for reference in line.calls + line.laws:
+            names, clauses = parts_of(reference)
+            named.update(names)
+            clauses_named.update((name, it) for name in names for it in clauses)
+    for name in sorted(asked - named):
+        yield f"the call {name} stands in no line"
+    for name in sorted(sources.laws.keys() - named):
+        yield f"the law {name} stands in no line"
+    for name, functions in sorted((sources.calls | sources.laws).items()):
+        clauses = {it.name for function in functions for it in function.clauses if it.kind == "ensures"} - {""}
+        for clause in sorted(clauses if name in named else ()):
+            if (name, clause) not in clauses_named:
+                yield f"the clause {name}: {clause} stands in no line"
+    edits = {edit for line in lines for edit in line.edits}
+    for crate in CRATES:
+        folder = f"crates/{crate}/must-fail"
+        for file in sorted(os.listdir(folder)) if os.path.isdir(folder) else []:
+            if f"{crate}/must-fail/{file.removesuffix('.edit')}" not in edits:
+                yield f"the mutation {folder}/{file} stands in no line"
+
+
+def check():
+    """How many references the ledger has, and what is wrong with them: the number of the line, or 0, and the fault."""
+    sources, asked = read_sources()
+    lines, faults = lines_of(text_of(LEDGER))
+    golden, count = golden_tests(), 0
+    for line in lines:
+        found = [fault_of_edit(it) for it in line.edits] + [fault_of_test(it, golden) for it in line.tests]
+        for references, fault_of in ((line.calls, fault_of_call), (line.laws, fault_of_law)):
+            for names, clauses in map(parts_of, references):
+                found += [fault_of(name, clauses, sources) for name in names]
+        count += len(found)
+        faults += [(line.number, it) for it in found if it]
+    return count, faults + [(0, it) for it in left_out(lines, sources, asked)]

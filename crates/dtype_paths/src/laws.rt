@@ -35,6 +35,12 @@ pub fn beginnings_exist()
     ensures { (t : Tree) (p q : List Field) → Beginning p q → ExistsIn t q → ExistsIn t p }
 {}
 
+/// The type that a path leads to in a valid type is valid, so what `resolve` gives is.
+#[tactic(auto, using(crate::specs::lemmas::Stepping::valid_along))]
+pub fn a_path_leads_to_a_valid_type()
+    ensures { (t u : Tree) (p : List Field) → Valid t → At t p u → Valid u }
+{}
+
 /// Resolution is exact for values. What is given along a path is what stands there; where the path steps through
 /// no fixed size 0, a value is of that type exactly where it lies along the path in some value of the whole, the
 /// one that is made around it. What lies there is of that type in any case; through a fixed size 0 a value of it

@@ -12,7 +12,7 @@ ghost use Rattle.dtype_types.specs.Lookups.{variant_tags};
 
 use std::alloc::Global;
 use vortex_dtype::{
-    DType, FieldName, FieldNames, Kind, MapDType, Nullability, StructFields, UnionVariants,
+    DType, FieldName, FieldNames, FieldPath, Kind, MapDType, Nullability, StructFields, UnionVariants,
     VortexResult,
 };
 
@@ -175,4 +175,24 @@ pub fn projected(
     ensures { Valid (struct_tree columns.now) → IfOk result (λ s. Valid (struct_tree s)) }
 {
     columns.project(alloc, names)
+}
+
+/// The type that a path leads to, valid where the type that it leads through is.
+#[tactic(auto, using(vortex_dtype::specs::Stepping::stepping))]
+pub fn type_along_path<'a>(path: &FieldPath, dtype: &'a DType) -> Option<&'a DType>
+    ensures { Valid (tree dtype.now) → IfSome result (λ d. Valid (tree d.now)) }
+{
+    path.resolve(dtype)
+}
+
+/// The type that a path leads to among a table's columns, valid where the columns are.
+#[tactic(auto, using(vortex_dtype::specs::Stepping::stepping))]
+pub fn type_below_column<'a>(
+    columns: &'a StructFields,
+    column: usize,
+    path: &FieldPath,
+) -> Option<&'a DType>
+    ensures { Valid (struct_tree columns.now) → IfSome result (λ d. Valid (tree d.now)) }
+{
+    path.resolve(columns.field_by_index(column)?)
 }

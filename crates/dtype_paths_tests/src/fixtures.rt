@@ -21,3 +21,12 @@ pub(crate) fn path(alloc: Global, text: &str) -> VortexResult<FieldPath> {
     }
     Ok(FieldPath::from_vec(parts))
 }
+
+// The path of so many elements.
+pub(crate) fn elements(alloc: Global, count: usize) -> VortexResult<FieldPath> {
+    let mut parts = Vec::new(alloc);
+    for _ in 0..count {
+        parts.push(Field::ElementType)?;
+    }
+    Ok(FieldPath::from_vec(parts))
+}

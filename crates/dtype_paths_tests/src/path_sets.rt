@@ -3,9 +3,9 @@
 
 ghost use Rattle.std.specs.Prelude.{◌<◌, length};
 
-use crate::fixtures::path;
+use crate::fixtures::{elements, path};
 use dtype_base::VortexResult;
-use dtype_paths::{Field, FieldPath, FieldPathSet};
+use dtype_paths::FieldPathSet;
 use std::alloc::Global;
 use std::process::Abort;
 use std::test::Fail;
@@ -99,17 +99,37 @@ fn any_number_of_children(rt: HostRuntime) -> Result<(), Fail> {
     Ok(())
 }
 
-// The path of so many elements.
-fn elements(alloc: Global, count: usize) -> VortexResult<FieldPath> {
-    let mut parts = Vec::new(alloc);
-    for _ in 0..count {
-        parts.push(Field::ElementType)?;
-    }
-    Ok(FieldPath::from_vec(parts))
-}
-
 fn holds(alloc: Global, set: &FieldPathSet, count: usize) -> VortexResult<bool> {
     Ok(set.contains(&elements(alloc, count)?))
+}
+
+// Names below one node that end alike.
+fn names_ending(alloc: Global, count: usize, ending: &str) -> VortexResult<Vec<String>> {
+    let mut names = Vec::new(alloc);
+    for i in 0..count {
+        names.push(format!(in alloc; "parent.{i}{ending}")?)?;
+    }
+    Ok(names)
+}
+
+// Whether the set of so many of the names, the first ones, and its copy hold these and no other.
+fn is_set_of_first(alloc: Global, names: &[String], count: usize) -> VortexResult<bool> {
+    let mut set = FieldPathSet::new(alloc);
+    for name in names.iter().take(count) {
+        set.insert(path(alloc, name.as_str())?)?;
+    }
+    is_of_first(alloc, &set, names, count)
+}
+
+// More children than a hash map keeps. The longer names have their last seven bytes in common, by which a node tells
+// children apart before it compares their names.
+#[test]
+fn more_children_than_a_hash_map_keeps(rt: HostRuntime) -> Result<(), Fail> {
+    for ending in ["", "_of_the_columns"].iter() {
+        let names = names_ending(rt.alloc(), 1_110, ending)?;
+        assert!(rt; is_set_of_first(rt.alloc(), &names, 1_100)?, "{ending}");
+    }
+    Ok(())
 }
 
 // The set of a path of so many elements and of one that goes on by two.

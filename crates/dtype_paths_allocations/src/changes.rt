@@ -1,0 +1,119 @@
+// SPDX-License-Identifier: Apache-2.0
+// SPDX-FileCopyrightText: Copyright the Vortex contributors
+
+// Calls that change a set: after an error it holds what it held before and a beginning of what was to be put in.
+use crate::marks::{begin, end};
+use crate::sets::{Shown, numbered, path, paths, set};
+use anyhow::Result;
+use dtype_base::{VortexError, VortexResult};
+use dtype_paths::{FieldPath, FieldPathSet};
+use std::alloc::Global;
+
+// A path, and the set that it is inserted into.
+const INSERTED: [(&str, &str); 4] = [
+    ("a.b", ""),
+    ("a.c.d", "a.b"),
+    ("x.y", "a b c"),
+    ("a.b.c.d.e", "a.b x"),
+];
+
+// The same, where no node is added.
+const KNOWN: [(&str, &str); 3] = [(".", "a.b"), ("a", "a.b"), ("a.b", "a.b")];
+
+// Paths, and the set that is extended by them.
+const EXTENDED: [(&str, &str); 3] = [
+    ("a.b x a", ""),
+    ("a.b.c a.b.d y", "a x"),
+    ("b c d e f g h", "a"),
+];
+
+// How many children the node has that gets one more. It keeps them in a list, a hash map or a tree.
+const CHILDREN: [u32; 6] = [1, 15, 16, 17, 1024, 1025];
+
+pub fn tell(rt: &(impl Print + Eprint), alloc: Global) -> Result<()> {
+    for (inserted, old) in INSERTED.iter() {
+        let told = insert(rt, alloc, set(alloc, old)?, path(alloc, inserted)?)?;
+        println!(rt; "insert {inserted} into {{{old}}}: {told}")?;
+    }
+    for (known, old) in KNOWN.iter() {
+        let told = insert(rt, alloc, set(alloc, old)?, path(alloc, known)?)?;
+        println!(rt; "no allocation: insert {known} into {{{old}}}: {told}")?;
+    }
+    for count in CHILDREN.iter() {
+        tell_beside(rt, alloc, *count, "")?;
+        tell_beside(rt, alloc, *count, "_of_the_columns")?;
+    }
+    for (added, old) in EXTENDED.iter() {
+        let told = extend(rt, alloc, set(alloc, old)?, paths(alloc, added)?)?;
+        println!(rt; "extend {{{old}}} by {added}: {told}")?;
+    }
+    Ok(())
+}
+
+fn tell_beside(rt: &(impl Print + Eprint), alloc: Global, count: u32, ending: &str) -> Result<()> {
+    let text = format!(in alloc; "a.x{ending}.y")?;
+    let told = insert(
+        rt,
+        alloc,
+        numbered(alloc, count, ending)?,
+        path(alloc, text.as_str())?,
+    )?;
+    println!(rt; "insert {text} beside {count}: {told}")?;
+    Ok(())
+}
+
+fn insert(
+    rt: &impl Eprint,
+    alloc: Global,
+    mut set: FieldPathSet,
+    path: FieldPath,
+) -> VortexResult<String> {
+    let one = vec![in alloc; path.try_clone()?]?;
+    let steps = steps_of(alloc, &set, &one)?;
+    begin(rt);
+    let made = set.insert(path);
+    end(rt);
+    told(alloc, made, &Shown::of(alloc, &set)?, &steps)
+}
+
+fn extend(
+    rt: &impl Eprint,
+    alloc: Global,
+    mut set: FieldPathSet,
+    paths: Vec<FieldPath>,
+) -> VortexResult<String> {
+    let steps = steps_of(alloc, &set, &paths)?;
+    begin(rt);
+    let made = set.extend(paths);
+    end(rt);
+    told(alloc, made, &Shown::of(alloc, &set)?, &steps)
+}
+
+// What the set shows after none, one and more of these paths.
+fn steps_of(alloc: Global, set: &FieldPathSet, paths: &[FieldPath]) -> VortexResult<Vec<Shown>> {
+    let mut set = set.try_clone()?;
+    let mut steps = Vec::new(alloc);
+    steps.push(Shown::of(alloc, &set)?)?;
+    for path in paths {
+        set.insert(path.try_clone()?)?;
+        steps.push(Shown::of(alloc, &set)?)?;
+    }
+    Ok(steps)
+}
+
+// What came of a call, and how many of the paths the set holds then: not all of them after an error.
+fn told(
+    alloc: Global,
+    made: VortexResult<()>,
+    left: &Shown,
+    steps: &[Shown],
+) -> VortexResult<String> {
+    let held = steps.iter().position(|step| step.is_same(left));
+    Ok(match (made, held) {
+        (Ok(()), Some(held)) => format!(in alloc; "ok, holds the first {held}")?,
+        (Err(VortexError::OutOfMemory), Some(held)) if held.wrapping_add(1) < steps.len() => {
+            format!(in alloc; "out of memory, holds the first {held}")?
+        }
+        (_, _) => String::from_str(alloc, "holds something else")?,
+    })
+}

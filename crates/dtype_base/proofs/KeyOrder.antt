@@ -2,7 +2,7 @@
 -- SPDX-FileCopyrightText: Copyright the Vortex contributors
 
 -- Keys that differ are in the order of the names, where these begin alike; and the index that is sorted by them.
-use Rattle.std.proofs.Common.{◌%◌, mod-eq_of_lt, ◌≡◌, ◌≢◌, ℕ, zero, suc, ◌+◌, ◌-◌, ◌*◌, ◌<◌, ◌≤◌, ◌^◌, List, [], ◌∷◌, ◌++◌, length, get_or, take, drop, Some, Bool, true, false, ◌&&◌, IsTrue, ◌↔◌, ◌/◌, refl, sym, ap, subst, ◌∙◌, inl, inr, arith, pow-suc, mul-le-mul_right, add-mul, true≢false}
+use Rattle.std.proofs.Common.{◌%◌, mod-eq_of_lt, ◌≡◌, ◌≢◌, ℕ, zero, suc, ◌+◌, ◌-◌, ◌*◌, ◌<◌, ◌≤◌, ◌^◌, List, [], ◌∷◌, ◌++◌, length, get_or, take, drop, Some, Bool, true, false, IsTrue, ◌↔◌, ◌/◌, refl, sym, ap, subst, ◌∙◌, inl, inr, arith, pow-suc, mul-le-mul_right, add-mul, true≢false}
 use Rattle.std.specs.Prelude.{slice_get}
 use Rattle.std.proofs.Math.Nat.{add-mul-mod_self_right, mul_assoc}
 use Rattle.std.proofs.lemmas.Nat.{div-mul-add, pow-add}
@@ -26,7 +26,7 @@ use Rattle.dtype_base.specs.NameOrder.{AreToldBy, HalvesRise, IsKeyed, IsOrderOf
 use Rattle.dtype_base.specs.declared.name_order.Place.{Place}
 use Rattle.dtype_base.specs.declared.name_order.ToldBy.{ToldBy}
 use Rattle.dtype_base.specs.declared.name_order.ToldBy.TheVariants.{Halves, Keys, Texts}
-use Rattle.dtype_base.proofs.NameSearch.{Stands, as_many_positions, position_at, counted_more, placed, itself, is_equal, position_total}
+use Rattle.dtype_base.proofs.NameSearch.{Stands, as_many_positions, position_at, counted_more, placed, itself, position_total}
 
 positive : (k : ℕ) → 0 < 256 ^ k
 positive zero = omega arith
@@ -148,12 +148,12 @@ one_name s m n a b alike same whole =
 
 -- ---- places
 
-both_equal : (r s : Ordering) → is_eq (ordering_then r s) ≡ true → s ≡ Equal
-both_equal Less s e = absurd (false≢true e)
-both_equal Equal s e = is_equal s (sym e)
-both_equal Greater s e = absurd (false≢true e)
+both_equal : (r s : Ordering) → ordering_then r s ≡ Equal → s ≡ Equal
+both_equal Less s e = absurd (false≢true (ap is_eq e))
+both_equal Equal s e = e
+both_equal Greater s e = absurd (false≢true (ap is_eq e))
 
-key_equal : (r s : Ordering) → ordering_then r s ≡ Equal → is_eq r ≡ true
+key_equal : (r s : Ordering) → ordering_then r s ≡ Equal → r ≡ Equal
 key_equal Less s e = absurd (false≢true (ap is_eq e))
 key_equal Equal s e = refl
 key_equal Greater s e = absurd (false≢true (ap is_eq e))
@@ -270,37 +270,30 @@ module _ (names : List (List ℕ)) (shared : ℕ) (alike : BeginAlike names shar
         itself names (positions places) order n p.position (slice_get-get_or names p.position [] h.within ∙ ap Some name)
 
     -- the last comparison, by the texts unless the key holds all that is behind what all begin with
-    pub same_told : (n : List ℕ) (key k : ℕ) (d : Place) (by : ToldBy) (side begin : Bool) → by ≢ Halves → (by ≡ Keys → key % 256 < 16) → Bytes n → key ≡ name_key shared n → k < length places
-        → side ≡ is_eq (place_side names n key by (get_or places k d)) → IsTrue begin ↔ (take shared (get_or names 0 []) ≡ take shared n)
-        → ((side && begin) ≡ true → name_cmp names n (get_or (positions places) k 0) ≡ Equal) × ((side && begin) ≡ false → Stands names n → name_cmp names n (get_or (positions places) k 0) ≢ Equal)
-    same_told n key k d by side begin all whole bytes is within e begun =
+    pub same_told : (n : List ℕ) (key k : ℕ) (d : Place) (by : ToldBy) (same : Bool) → by ≢ Halves → (by ≡ Keys → key % 256 < 16) → Bytes n → key ≡ name_key shared n → k < length places
+        → IsTrue same ↔ ((place_side names n key by (get_or places k d) ≡ Equal) × (take shared (get_or names (get_or places k d).position []) ≡ take shared n))
+        → (same ≡ true → name_cmp names n (get_or (positions places) k 0) ≡ Equal) × (same ≡ false → Stands names n → name_cmp names n (get_or (positions places) k 0) ≢ Equal)
+    same_told n key k d by same all whole bytes is within compared =
         let p = get_or places k d in
-        let at = ap (name_cmp names n) (position_at places k d within) in (
-          λ t. at ∙ equal by all whole (sym e ∙ (both_true side begin t).0) (begun.0 (both_true side begin t).1),
-          λ f t same. false≢true (sym f ∙ all_true side begin (e ∙ unequal by all t (sym at ∙ same)) (begun.1 (begins_so n t))),
+        let at = ap (name_cmp names n) (position_at places k d within) in
+        let beginning = begins p (keyed k d within) in (
+          λ t. at ∙ equal by all whole (compared.0 t).0 (sym beginning ∙ (compared.0 t).1),
+          λ f t here. false≢true (sym f ∙ compared.1 (unequal by all t (sym at ∙ here), beginning ∙ begins_so n t)),
         )
       where
-        both_true : (a b : Bool) → (a && b) ≡ true → (a ≡ true) × (b ≡ true)
-        both_true true b t = (refl, t)
-        both_true false b t = absurd (false≢true t)
-
-        all_true : (a b : Bool) → a ≡ true → b ≡ true → (a && b) ≡ true
-        all_true true b r s = s
-        all_true false b r s = absurd (false≢true r)
-
-        equal : (b : ToldBy) → b ≢ Halves → (b ≡ Keys → key % 256 < 16) → is_eq (place_side names n key b (get_or places k d)) ≡ true → take shared (get_or names 0 []) ≡ take shared n → name_cmp names n (get_or places k d).position ≡ Equal
+        equal : (b : ToldBy) → b ≢ Halves → (b ≡ Keys → key % 256 < 16) → place_side names n key b (get_or places k d) ≡ Equal → take shared (get_or names 0 []) ≡ take shared n → name_cmp names n (get_or places k d).position ≡ Equal
         equal Halves a w t g = absurd (a refl)
         equal Texts a w t g = both_equal (nat_cmp (get_or places k d).key key) _ t
         equal Keys a w t g =
             elim (cases_order (get_or places k d).key key) [
               | inl same ↦ its_name n key k d bytes is within same (w refl) g
-              | inr (inl lower) ↦ absurd (false≢true (ap is_eq (nat_cmp_is (get_or places k d).key key Less lower) ∙ t))
-              | inr (inr higher) ↦ absurd (false≢true (ap is_eq (nat_cmp_is (get_or places k d).key key Greater higher) ∙ t))
+              | inr (inl lower) ↦ absurd (false≢true (ap is_eq (nat_cmp_is (get_or places k d).key key Less lower ∙ t)))
+              | inr (inr higher) ↦ absurd (false≢true (ap is_eq (nat_cmp_is (get_or places k d).key key Greater higher ∙ t)))
             ]
 
-        unequal : (b : ToldBy) → b ≢ Halves → Stands names n → name_cmp names n (get_or places k d).position ≡ Equal → is_eq (place_side names n key b (get_or places k d)) ≡ true
+        unequal : (b : ToldBy) → b ≢ Halves → Stands names n → name_cmp names n (get_or places k d).position ≡ Equal → place_side names n key b (get_or places k d) ≡ Equal
         unequal Halves a t same = absurd (a refl)
-        unequal Texts a t same = ap is_eq (side_told (get_or places k d) n key (keyed k d within) bytes is t ∙ same)
+        unequal Texts a t same = side_told (get_or places k d) n key (keyed k d within) bytes is t ∙ same
         unequal Keys a t same =
             let p = get_or places k d in
             let side = side_told p n key (keyed k d within) bytes is t ∙ same in

@@ -4,6 +4,7 @@
 ghost use Rattle.std.specs.Prelude.{◌≡◌, ◌≢◌, ◌⊎◌, ◌↔◌, ◌+◌, ◌<◌, ◌%◌, ◌^◌, All, AllPairs, IsTrue, IfSome, IfNone, IfOk, Some, [], length, map, nat_lt, slice_index_or, take, MatchResult};
 ghost use Rattle.std.specs.List.{range_with_len};
 ghost use Rattle.std.specs.Ordering.{is_lt, is_eq, nat_cmp};
+ghost use Rattle.std.specs.declared.cmp.Ordering.TheVariants.{Equal};
 ghost use Rattle.dtype_base.specs.Bytes.{Bytes};
 ghost use Rattle.dtype_base.specs.FieldNames.{FirstAt, IsAbsent, SelectionRefusal, first_place};
 ghost use Rattle.dtype_base.specs.NameKeys.{key_half, name_key};
@@ -251,29 +252,20 @@ fn search_by(
     if places.is_empty() {
         return (None, 0);
     }
-    let begins = begins_as_all(names, shared, name);
     let mut low = 0;
     let mut size = places.len();
     let mut compared = 0;
     while size > 1 {
         let half = size / 2;
         let middle = places[low + half - 1];
-        let side = compare(names, middle, name, key, by, &mut compared);
+        let side = compare(names, middle, name, key, by, 0, &mut compared);
         low += half & side.below;
         size -= half;
     }
     let last = places[low];
-    let side = compare(names, last, name, key, all_told_by(key), &mut compared);
-    let same = side.same & begins;
-    (same.then_some(last.position), compared)
-}
-
-// Whether a name begins as all names do, with so many bytes.
-fn begins_as_all(names: &[FieldName], shared: usize, name: &str) -> bool
-    requires { 0 < length names.now }
-    ensures { IsTrue result ↔ (take shared (slice_index_or names.now 0 []) ≡ take shared name.now) }
-{
-    begin_alike(names[0].as_str().as_bytes(), name.as_bytes(), shared)
+    let by = all_told_by(key);
+    let side = compare(names, last, name, key, by, shared, &mut compared);
+    (side.same.then_some(last.position), compared)
 }
 
 // How a name compares to the one that is looked for.
@@ -298,28 +290,34 @@ fn all_told_by(key: u128) -> ToldBy
 }
 
 // Compares the name at a place with the one that is looked for, and counts it: by as much of the keys as is asked
-// for, and by the texts if they are, where the keys are equal. Nothing else compares a name with the one that is
-// looked for.
+// for, by the texts if they are, where the keys are equal, and by so many of their first bytes. Nothing else compares a
+// name with the one that is looked for.
+#[inline(always)]
 fn compare(
     names: &[FieldName],
     place: Place,
     name: &str,
     key: u128,
     by: ToldBy,
+    beginning: usize,
     compared: &mut u64,
 ) -> Side
     requires within { place.position < length names.now }
     requires room { compared.old + 1 < 2 ^ 64 }
     ensures counted { compared.new ≡ compared.old + 1 }
     ensures below { result.below ≡ mask (is_lt (place_side names.now name.now key by place)) }
-    ensures same { result.same ≡ is_eq (place_side names.now name.now key by place) }
+    ensures same { IsTrue result.same ↔ ((place_side names.now name.now key by place ≡ Equal)
+        × (take beginning (slice_index_or names.now place.position []) ≡ take beginning name.now)) }
 {
     *compared += 1;
-    match by {
+    let here = &names[place.position];
+    let side = match by {
         ToldBy::Halves => by_halves(place.key, key),
-        ToldBy::Texts if place.key == key => side_of(names[place.position].as_str().cmp(name)),
+        ToldBy::Texts if place.key == key => side_of(here.as_str().cmp(name)),
         _ => by_keys(place.key, key),
-    }
+    };
+    let same = side.same && begin_alike(here.as_str().as_bytes(), name.as_bytes(), beginning);
+    Side { same, ..side }
 }
 
 fn side_of(ordering: Ordering) -> Side

@@ -1,7 +1,7 @@
 -- SPDX-License-Identifier: Apache-2.0
 -- SPDX-FileCopyrightText: Copyright the Vortex contributors
 
-use Rattle.std.proofs.Common.{◌≡◌, ◌+◌, ◌-◌, ◌/◌, ◌<◌, ◌&&◌, length, refl, sym, ap, subst, ◌∙◌, arith, IfSome, IfNone}
+use Rattle.std.proofs.Common.{◌≡◌, ◌+◌, ◌-◌, ◌/◌, ◌<◌, length, refl, sym, ap, subst, ◌∙◌, arith, IfSome, IfNone}
 use Rattle.std.specs.Bool.{then_some}
 use Rattle.std.specs.Int.Bits.{bit_and}
 use Rattle.std.proofs.lemmas.Bool.{eqb-true, eqb-false}
@@ -27,13 +27,6 @@ returns-then-is_empty-clause-count c =
     let empty : length places ≡ 0 = eqb-true (length places) 0 (sym c.is_empty.ensures ∙ c.if-is_empty.true) in
     let none : 0 ≡ length names = omega (arith, as_many names (positions places) c.requires.index.order, as_many_positions places, empty) in
     ap comparisons none
-
-pub begins_as_all-begins-requires : goal.begins_as_all-begins-requires
-begins_as_all-begins-requires c =
-    let names = c.args.names.now in
-    let places = c.args.places.now in
-    let some : length places ≡ 0 → ⊥ = eqb-false (length places) 0 (sym c.is_empty.ensures ∙ c.if-is_empty.false) in
-    omega (arith, as_many names (positions places) c.requires.index.order, as_many_positions places, some)
 
 pub loop-size-init : goal.loop-size-init
 loop-size-init c =
@@ -83,9 +76,9 @@ returns-clause-found c =
     let within : low < length places = omega (arith, inv.within, inv.some, as_many_positions places) in
     let bytes = c.requires.bytes in
     let key = c.requires.key in
-    let told = same_told names shared c.requires.index.alike places c.requires.index.keyed c.requires.index.order n c.args.key low _ _ c.compare-side-2.result.same c.begins_as_all-begins.result c.all_told_by.ensures.not_half c.all_told_by.ensures.whole bytes key within c.compare-side-2.ensures.same c.begins_as_all-begins.ensures in
-    let last = ends names order c.requires.index.order n low c.loop-size.size c.loop-size.compared (c.compare-side-2.result.same && c.begins_as_all-begins.result) inv (omega (arith, c.loop-size-test.false)) told.0 told.1 in
-    subst (λ r. IfSome r (FirstAt names n)) (ap (then_some (c.compare-side-2.result.same && c.begins_as_all-begins.result)) (position_at places low _ within) ∙ sym c.then_some.ensures) last.0
+    let told = same_told names shared c.requires.index.alike places c.requires.index.keyed c.requires.index.order n c.args.key low _ _ c.compare-side-2.result.same c.all_told_by-by.ensures.not_half c.all_told_by-by.ensures.whole bytes key within c.compare-side-2.ensures.same in
+    let last = ends names order c.requires.index.order n low c.loop-size.size c.loop-size.compared c.compare-side-2.result.same inv (omega (arith, c.loop-size-test.false)) told.0 told.1 in
+    subst (λ r. IfSome r (FirstAt names n)) (ap (then_some c.compare-side-2.result.same) (position_at places low _ within) ∙ sym c.then_some.ensures) last.0
 
 pub returns-clause-none : goal.returns-clause-none
 returns-clause-none c =
@@ -99,9 +92,9 @@ returns-clause-none c =
     let within : low < length places = omega (arith, inv.within, inv.some, as_many_positions places) in
     let bytes = c.requires.bytes in
     let key = c.requires.key in
-    let told = same_told names shared c.requires.index.alike places c.requires.index.keyed c.requires.index.order n c.args.key low _ _ c.compare-side-2.result.same c.begins_as_all-begins.result c.all_told_by.ensures.not_half c.all_told_by.ensures.whole bytes key within c.compare-side-2.ensures.same c.begins_as_all-begins.ensures in
-    let last = ends names order c.requires.index.order n low c.loop-size.size c.loop-size.compared (c.compare-side-2.result.same && c.begins_as_all-begins.result) inv (omega (arith, c.loop-size-test.false)) told.0 told.1 in
-    subst (λ r. IfNone r (IsAbsent names n)) (ap (then_some (c.compare-side-2.result.same && c.begins_as_all-begins.result)) (position_at places low _ within) ∙ sym c.then_some.ensures) last.1
+    let told = same_told names shared c.requires.index.alike places c.requires.index.keyed c.requires.index.order n c.args.key low _ _ c.compare-side-2.result.same c.all_told_by-by.ensures.not_half c.all_told_by-by.ensures.whole bytes key within c.compare-side-2.ensures.same in
+    let last = ends names order c.requires.index.order n low c.loop-size.size c.loop-size.compared c.compare-side-2.result.same inv (omega (arith, c.loop-size-test.false)) told.0 told.1 in
+    subst (λ r. IfNone r (IsAbsent names n)) (ap (then_some c.compare-side-2.result.same) (position_at places low _ within) ∙ sym c.then_some.ensures) last.1
 
 pub returns-clause-count : goal.returns-clause-count
 returns-clause-count c =

@@ -4,7 +4,7 @@
 ghost use Rattle.std.specs.Prelude.{◌≡◌, ◌↔◌, ◌<◌, ◌≤◌, IfErr, IsOk, IsTrue, Some, MatchResult};
 ghost use Rattle.std.specs.Option.{ok_or};
 ghost use Rattle.dtype_base.specs.declared.vortex_error.VortexError.TheVariants.{NotDecimalPType};
-ghost use Rattle.dtype_base.specs.Decimals.{greatest_precision, IsValidDecimal, IsDecimalWithin, DecimalRefusal, IsBitWidth, storage, smallest_storage, decimal_type_of};
+ghost use Rattle.dtype_base.specs.Decimals.{greatest_precision, IsValidDecimal, IsDecimalWithin, DecimalRefusal, IsBitWidth, IsCompatible, storage, smallest_storage, decimal_type_of};
 
 use crate::{PType, VortexError, VortexResult};
 use std::fmt;
@@ -169,9 +169,11 @@ impl DecimalType {
         }
     }
 
-    /// Whether it has all values of the decimal type's precision.
+    /// Whether it has all values of the decimal type's precision: the smallest that has them, and all whose number
+    /// is at least that one's.
     pub fn is_compatible_decimal_value_type(self, decimal: DecimalDType) -> bool
-        ensures { IsTrue result ↔ (decimal.precision ≤ (storage self).digits) }
+        ensures digits { IsTrue result ↔ (decimal.precision ≤ (storage self).digits) }
+        ensures number { IsTrue result ↔ IsCompatible self decimal.precision }
     {
         self >= DecimalType::smallest_decimal_value_type(&decimal)
     }

@@ -1,10 +1,11 @@
 // SPDX-License-Identifier: Apache-2.0
 // SPDX-FileCopyrightText: Copyright the Vortex contributors
 
-ghost use Rattle.std.specs.Prelude.{◌≡◌, ◌≢◌, ◌⊎◌, ◌↔◌, ◌+◌, ◌<◌, ◌%◌, ◌^◌, All, AllPairs, IsTrue, IfSome, IfNone, IfOk, Some, [], length, map, nat_lt, slice_index_or, take, MatchResult};
+ghost use Rattle.std.specs.Prelude.{◌≡◌, ◌≢◌, ◌⊎◌, ◌↔◌, ◌+◌, ◌<◌, ◌≤◌, ◌%◌, ◌^◌, All, AllPairs, IsSome, IsTrue, IfSome, IfNone, IfOk, Some, [], length, map, nat_lt, slice_index_or, take, MatchResult};
 ghost use Rattle.std.specs.List.{range_with_len};
 ghost use Rattle.std.specs.Ordering.{is_lt, is_eq, nat_cmp};
 ghost use Rattle.std.specs.declared.cmp.Ordering.TheVariants.{Equal};
+ghost use Rattle.dtype_base.specs.BinaryDigits.{binary_digits};
 ghost use Rattle.dtype_base.specs.Bytes.{Bytes};
 ghost use Rattle.dtype_base.specs.FieldNames.{FirstAt, IsAbsent, SelectionRefusal, first_place};
 ghost use Rattle.dtype_base.specs.NameKeys.{key_half, name_key};
@@ -72,10 +73,13 @@ impl IndexedNames {
         self.find_counted(name).0
     }
 
-    /// What `find` gives, and how many names it compared: the same number for every name that is looked for.
+    /// What `find` gives, and how many names it compared: the same number for every name that is looked for, at
+    /// most one more than the binary digits of the number of names, and at least 1 where a position is returned.
     pub fn find_counted(&self, name: &str) -> (Option<usize>, u64)
         ensures first { result.0 ≡ first_place self.now name.now }
         ensures count { result.1 ≡ comparisons (length self.now) }
+        ensures at_most { result.1 ≤ binary_digits (length self.now) + 1 }
+        ensures at_least { IsSome result.0 → 1 ≤ result.1 }
     {
         let key = key_of(name.as_bytes(), self.shared);
         search(

@@ -2,17 +2,23 @@
 // SPDX-FileCopyrightText: Copyright the Vortex contributors
 
 // Laws of the definitions: each function does nothing, and its contract is the law.
-ghost use Rattle.std.specs.Prelude.{◌≡◌, ℕ, List, length};
+ghost use Rattle.std.specs.Prelude.{◌≡◌, ◌↔◌, ℕ, List, None, Some, codes, length};
 ghost use Rattle.std.specs.Iterator.{UpTo};
 ghost use Rattle.std.specs.Iterator.Runs.{YieldsInOrder, YieldsRefsInOrder};
 ghost use Rattle.std.specs.Ordering.{nat_cmp};
 ghost use Rattle.dtype_base.specs.Bytes.{Bytes};
 ghost use Rattle.dtype_base.specs.Primitives.{ptype_row};
 ghost use Rattle.dtype_base.specs.Decimals.{storage};
+ghost use Rattle.dtype_base.specs.FieldNames.{FirstAt, IsAbsent, first_place};
+ghost use Rattle.dtype_base.specs.declared.nullability.Nullability.{Nullability};
+ghost use Rattle.dtype_base.specs.declared.nullability.Nullability.TheVariants.{NonNullable};
 ghost use Rattle.dtype_base.specs.declared.ptype.PType.{PType};
 ghost use Rattle.dtype_base.specs.declared.decimal.DecimalType.{DecimalType};
 
-use crate::{DecimalType, FieldNamesIntoIter, FieldNamesIter, PType};
+use crate::{
+    DecimalType, FieldNamesIntoIter, FieldNamesIter, Nullability, PType,
+    RESERVED_VALIDITY_FIELD_NAME,
+};
 
 /// The order of the primitive names is that of their numbers.
 pub fn primitive_names_are_ordered_by_number()
@@ -42,4 +48,22 @@ pub fn names_are_given_in_order()
     ensures given_up { YieldsInOrder ⟦<FieldNamesIntoIter as Iterator>⟧.next_gives (λ left. left) }
     ensures given_up_end { (left : List (List ℕ))
         → UpTo (⟦<FieldNamesIntoIter as Iterator>⟧.remaining left) (length left) }
+{}
+
+/// The answer of every lookup is the first position of the name, and `None` exactly where no position has it.
+pub fn lookups_give_the_first_position()
+    ensures position { (names : List (List ℕ)) (name : List ℕ) (i : ℕ)
+        → (first_place names name ≡ Some i) ↔ FirstAt names name i }
+    ensures none { (names : List (List ℕ)) (name : List ℕ)
+        → (first_place names name ≡ None) ↔ IsAbsent names name }
+{}
+
+/// The default nullability is non-nullable.
+pub fn default_nullability_is_non_nullable()
+    ensures { (n : Nullability) → ⟦<Nullability as Default>⟧.is_default n → n ≡ NonNullable }
+{}
+
+/// The reserved field name is its text.
+pub fn reserved_field_name_is_its_text()
+    ensures { RESERVED_VALIDITY_FIELD_NAME.now ≡ codes "$__vortex_validity" }
 {}

@@ -3,7 +3,7 @@
 
 -- What an answer of a lookup says: `lookups` names it in one line,
 --     #![tactic(auto, using(dtype_base::specs::lemmas::Lookups::lookups))]
-use Rattle.std.proofs.Common.{◌≡◌, ℕ, zero, suc, ◌<◌, ◌≤◌, ◌^◌, List, length, map, get_or, Option, Some, None, IfSome, IfNone, Bool, true, false, cond, refl, ap, sym, ◌∙◌, inl, inr, arith}
+use Rattle.std.proofs.Common.{◌≡◌, ℕ, zero, suc, ◌<◌, ◌≤◌, ◌^◌, List, length, map, get_or, Option, Some, None, IfSome, IfNone, IsSome, ◌+◌, Bool, true, false, cond, refl, ap, sym, ◌∙◌, inl, inr, arith}
 use Rattle.std.specs.List.{position_or_len}
 use Rattle.std.specs.Str.{bytes_eq}
 use Rattle.std.proofs.lemmas.Bool.{lt-ltb, false≢true, cases_lt}
@@ -12,7 +12,7 @@ use Rattle.std.proofs.lemmas.List.Quantifiers.{position-Some}
 use Rattle.std.proofs.lemmas.List.Sums.{position_or_len_is, fails_before_first}
 use Rattle.std.proofs.lemmas.Option.{slice_get_within, get_or_from_slice_get, slice_get-get_or}
 use Rattle.std.proofs.lemmas.Slice.Eq.{bytes_eq-Decides}
-use Rattle.dtype_base.specs.BinaryDigits.{digits_reach, digits_fewest}
+use Rattle.dtype_base.specs.BinaryDigits.{binary_digits, digits_reach, digits_fewest}
 use Rattle.dtype_base.specs.FieldNames.{FirstAt, IsAbsent, first_place}
 use Rattle.dtype_base.specs.NameOrder.{comparisons}
 
@@ -93,9 +93,19 @@ pub few_compared : (n count digits : ℕ) → count ≡ comparisons n → n < 2 
 few_compared zero count digits e fits = omega (arith, e)
 few_compared (suc n) count digits e fits = let few = digits_fewest n digits (omega (arith, fits)) in omega (arith, e, few)
 
+pub most_compared : (n count : ℕ) → count ≡ comparisons n → count ≤ binary_digits n + 1
+most_compared n count e = let few = few_compared n count (binary_digits n) e (digits_reach n) in omega (arith, few)
+
 -- and at least one where there is a name
 pub some_compared : (n count : ℕ) → count ≡ comparisons n → 0 < n → 0 < count
 some_compared zero count e a = absurd (omega arith)
 some_compared (suc n) count e a = omega (arith, e)
 
-pub ruleset lookups = (place_of_first, no_place, place_found, first_of_place, absent_of_place, found_first, none_absent, few_compared, some_compared, digits_reach, digits_fewest)
+-- as where a position is found
+pub found_compared : (names : List (List ℕ)) (n : List ℕ) (r : Option ℕ) (count : ℕ) → r ≡ first_place names n → count ≡ comparisons (length names) → IsSome r → 1 ≤ count
+found_compared names n None count e counted found = absurd (false≢true found)
+found_compared names n (Some i) count e counted found =
+    let within = slice_get_within names i n (first_of_place names n i e).here in
+    some_compared (length names) count counted (omega (arith, within))
+
+pub ruleset lookups = (place_of_first, no_place, place_found, first_of_place, absent_of_place, found_first, none_absent, few_compared, most_compared, some_compared, found_compared, digits_reach, digits_fewest)

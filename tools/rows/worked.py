@@ -116,6 +116,7 @@ def structs(r):
     p.find(r, "int_col", repeated)
     p.project(r, ["int_col", "int_col"], repeated)
     p.project(r, ["int_col", "x"], repeated)
+    p.project(r, [""], struct([("a", I32)]))
     p.without_field(r, 2, repeated)
     p.disjoint_merge(r, repeated, struct([]))
     p.disjoint_merge(r, struct([]), repeated)
@@ -225,6 +226,8 @@ def types(r):
     r.comment("Metadata counts in comparisons; the text tells how many bytes there are.")
     t.compare(r, "eq_ignore_nullability", ext("x.y", b"a", UTF8_N), ext("x.y", b"b", UTF8_N))
     t.type_text(r, ext("x.y", b"", UTF8_N))
+    for t_ in (ext("x.tag", b"ab", UTF8_N), ext("x.tag", b"", UTF8_N), ext("x.tag", b"a", ext("x.tag", b"ab", UTF8))):
+        t.type_text(r, t_)
 
 
 def comparisons(r):

@@ -18,3 +18,5 @@ pub mod SubValues
 pub mod SizeZero
 pub mod Order
 pub mod MadeOf
+pub mod Structs
+pub mod EitherNullable

@@ -85,4 +85,4 @@ set_can t u n e c = subst (λ (f : Nullability → Option Tree). IsSome (f NonNu
 pub set_last : (t u v : Tree) (m n : Nullability) → set_null t m ≡ Some u → set_null u n ≡ Some v → set_null t n ≡ Some v
 set_last t u v m n e f = sym (set_again t u m n e) ∙ f
 
-pub ruleset nullabilities = (set_is, set_keeps, set_again-all, set_back, set_can, set_last)
+pub ruleset nullabilities = (set_is, set_keeps, set_again-all, set_own, set_back, set_can, set_last)

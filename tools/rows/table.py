@@ -45,5 +45,14 @@ class Rows:
         self.answers.append(answer)
         self.topics[-1][1] += 1
 
+    def transcript(self):
+        """What the console writes: a comment or a blank line as it is, each other line above its answer."""
+        for line, answer in zip(self.lines, self.answers):
+            if line.strip(" ").startswith("#") or not line.strip(" "):
+                yield line
+            else:
+                yield f"> {line}"
+                yield answer
+
     def count(self):
         return sum(count for _, count in self.topics)

@@ -16,14 +16,17 @@ use std::str;
 #[derive(Drop)]
 pub struct Console {
     alloc: Global,
+    is_echoing: bool,
     sets: Sets,
     sessions: Sessions,
 }
 
 impl Console {
-    pub fn new(alloc: Global) -> Self {
+    /// A console with no set and no session. If it echoes, it writes each line above its answer.
+    pub fn new(alloc: Global, is_echoing: bool) -> Self {
         Console {
             alloc,
+            is_echoing,
             sets: Sets::new(alloc),
             sessions: Sessions::new(alloc),
         }
@@ -36,28 +39,32 @@ impl Console {
         line: &[u8],
         output: &mut W,
     ) -> io::Result<bool> {
-        match read {
-            Read::Line => match self.answer_to(line) {
-                Ok(answer) => writeln!(output, "{answer}"),
-                Err(fault) => writeln!(output, "{fault}"),
-            },
-            Read::TooLong => {
-                let fault = ConsoleFault::from(VortexError::OutOfMemory);
-                writeln!(output, "{fault}")
-            }
+        let answer = match read {
+            Read::Line => self.answer_to(line),
+            Read::TooLong => Err(ConsoleFault::from(VortexError::OutOfMemory)),
             Read::End => return Ok(false),
-        }?;
+        };
+        if self.is_echoing {
+            echo(line, matches!(answer, Ok(None)), output)?;
+        }
+        match answer {
+            Ok(Some(answer)) => writeln!(output, "{answer}")?,
+            Ok(None) if self.is_echoing => {}
+            Ok(None) => output.write_all(b"\n")?,
+            Err(fault) => writeln!(output, "{fault}")?,
+        }
         Ok(true)
     }
 
-    fn answer_to(&mut self, line: &[u8]) -> ConsoleResult<String> {
+    // The answer to a line, or `None` where the line is blank or a comment.
+    fn answer_to(&mut self, line: &[u8]) -> ConsoleResult<Option<String>> {
         let text = match str::from_utf8(line) {
             Ok(text) => text,
             Err(error) => return Err(expected_at(error.valid_up_to().saturating_add(1), "UTF-8")),
         };
         let mut call = Call::new(self.alloc, text);
         if call.line.is_at_end() {
-            return Ok(call.answer);
+            return Ok(None);
         }
         let place = call.line.place();
         let command = call.word("a command")?;
@@ -66,7 +73,7 @@ impl Console {
             "help" => self.help(&mut call),
             _ => self.command(&mut call, command, place),
         }?;
-        Ok(call.answer)
+        Ok(Some(call.answer))
     }
 
     // Answers by an example of the command that comes next, and its answer.
@@ -101,6 +108,15 @@ impl Console {
         }
         Err(expected_at(place, "a command"))
     }
+}
+
+// Writes a line before its answer: behind `> `, or as it is where nothing answers it.
+fn echo<W: Write>(line: &[u8], is_comment: bool, output: &mut W) -> io::Result<()> {
+    if !is_comment {
+        output.write_all(b"> ")?;
+    }
+    output.write_all(line)?;
+    output.write_all(b"\n")
 }
 
 // Answers the topics, a line each: its name, and the commands of its examples.

@@ -21,10 +21,11 @@ mod input;
 fn main(rt: HostRuntime) -> io::Result<()> {
     let alloc = rt.alloc();
     let is_prompting = rt.stdin().is_terminal();
-    let is_marking = is_asked_for_marks(&rt)?;
+    let is_marking = is_given(&rt, "--marks")?;
+    let is_echoing = is_given(&rt, "--echo")?;
     let mut input = BufReader::with_capacity(alloc, 65_536, rt.reader())?;
     let mut output = BufWriter::with_capacity(alloc, 65_536, io::writer(&rt))?;
-    let mut console = Console::new(alloc);
+    let mut console = Console::new(alloc, is_echoing);
     let mut line = Vec::new(alloc);
     for _ in 0..u64::MAX {
         if is_prompting {
@@ -42,11 +43,12 @@ fn main(rt: HostRuntime) -> io::Result<()> {
     output.flush()
 }
 
-// Whether the program is to write a line to standard error before and behind each answer, by which
-// `tools/refuse_allocation.c` knows whose the requests for memory are.
-fn is_asked_for_marks<R: Env + AllocGlobal>(rt: &R) -> io::Result<bool> {
+// Whether this is among the arguments. With `--echo` each line is written above its answer, so that the output can be
+// read by itself. With `--marks` a line goes to standard error before and after each answer, by which
+// `tools/refuse_allocation.c` knows which answer an allocation belongs to.
+fn is_given<R: Env + AllocGlobal>(rt: &R, flag: &str) -> io::Result<bool> {
     for argument in env::args(rt)? {
-        if argument.as_str() == "--marks" {
+        if argument.as_str() == flag {
             return Ok(true);
         }
     }

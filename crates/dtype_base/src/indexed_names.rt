@@ -19,7 +19,6 @@ use crate::name_order::{Place, ToldBy, are_distinct, places_of, sort_places};
 use crate::{FieldName, FieldNames, VortexError, VortexResult};
 use std::alloc::Global;
 use std::cmp::Ordering;
-use std::hash::{Hash, Hasher};
 use std::marker::Model;
 
 /// Names in order, with an index in which they are looked up.
@@ -66,15 +65,9 @@ impl IndexedNames {
         &self.names
     }
 
-    /// The first position of the name, or `None` where no name is equal to it. Takes no memory.
-    pub fn find(&self, name: &str) -> Option<usize>
-        ensures { result ≡ first_place self.now name.now }
-    {
-        self.find_counted(name).0
-    }
-
-    /// What `find` gives, and how many names it compared: the same number for every name that is looked for, at
-    /// most one more than the binary digits of the number of names, and at least 1 where a position is returned.
+    /// The first position of the name, or `None` where no name is equal to it, and how many names were compared: the
+    /// same number for every name that is looked for, at most one more than the binary digits of the number of names,
+    /// and at least 1 where a position is returned.
     pub fn find_counted(&self, name: &str) -> (Option<usize>, u64)
         ensures first { result.0 ≡ first_place self.now name.now }
         ensures count { result.1 ≡ comparisons (length self.now) }
@@ -123,56 +116,6 @@ impl IndexedNames {
         ensures { IsTrue result ↔ AllPairs (λ m n. m ≢ n) self.now }
     {
         are_distinct(self.names.as_slice(), &self.places)
-    }
-
-    /// The same names with their index; the names share their texts. Refuses 0 (OutOfMemory) alone.
-    pub fn try_clone(&self, alloc: Global) -> VortexResult<Self>
-        ensures { MatchResult result (λ n. n ≡ self.now) (λ e. e ≡ OutOfMemory) }
-    {
-        let names = self.names.try_clone(alloc)?;
-        let mut places = Vec::with_capacity(alloc, self.places.len())?;
-        places.extend_from_slice(&self.places)?;
-        Ok(IndexedNames {
-            names,
-            shared: self.shared,
-            places,
-            told_by: self.told_by,
-        })
-    }
-}
-
-/// By the names alone.
-impl PartialEq for IndexedNames {
-    ghost use Rattle.std.specs.Prelude.{nat_eq};
-    ghost use Rattle.std.specs.Cmp.Lexicographic.{pointwise, nat_list_eq_equiv, lists_equiv};
-    ghost use Rattle.std.specs.Cmp.{partial_equiv_from_equiv};
-
-    ghost eq = { pointwise (pointwise nat_eq) };
-
-    ghost laws = { partial_equiv_from_equiv (lists_equiv nat_list_eq_equiv) };
-
-    fn eq(&self, other: &IndexedNames) -> bool {
-        self.names == other.names
-    }
-}
-
-impl Eq for IndexedNames {
-    ghost use Rattle.std.specs.Cmp.Lexicographic.{nat_list_eq_equiv, lists_equiv};
-
-    ghost laws = { lists_equiv nat_list_eq_equiv };
-}
-
-impl Hash for IndexedNames {
-    ghost use Rattle.std.specs.Hash as fed;
-    ghost use Rattle.std.specs.Hash.{items_Alike, same_Alike};
-    ghost use Rattle.std.specs.Cmp.Lexicographic.{bytes_decides};
-
-    ghost hash_input = { fed.slice fed.str };
-
-    ghost respects_eq = { (items_Alike (same_Alike fed.str bytes_decides)).fed };
-
-    fn hash<H: Hasher>(&self, state: &mut H) {
-        self.names.hash(state);
     }
 }
 

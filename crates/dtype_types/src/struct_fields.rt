@@ -1,10 +1,11 @@
 // SPDX-License-Identifier: Apache-2.0
 // SPDX-FileCopyrightText: Copyright the Vortex contributors
 
-ghost use Rattle.std.specs.Prelude.{◌≡◌, ◌⊎◌, ◌↔◌, IsTrue, ◌<◌, ◌^◌, ◌++◌, ◌∷◌, ℕ, List, [], slice_index_or, length, map, remove, vec_len, IfOk, IsOk, IsOkUnless, slice_get, Some, fold, OnOk, string_bytes, All, IsSome, MatchBool, MatchResult, nat_lt};
+ghost use Rattle.std.specs.Prelude.{◌≡◌, ◌⊎◌, ◌↔◌, IsTrue, ◌<◌, ◌^◌, ◌++◌, ◌∷◌, ℕ, List, [], slice_index_or, length, map, remove, vec_len, ◌+◌, ◌≤◌, IfOk, IsOk, IsOkUnless, slice_get, Some, fold, OnOk, string_bytes, All, IsSome, MatchBool, MatchResult, nat_lt, ◌+◌, ◌≤◌};
 ghost use Rattle.std.specs.Iterator.{IsFinite};
 ghost use Rattle.std.specs.List.{AllByRecursion, zip};
 ghost use Rattle.std.specs.Option.{option_copied};
+ghost use Rattle.dtype_base.specs.BinaryDigits.{binary_digits};
 ghost use Rattle.dtype_base.specs.FieldNames.{SelectionRefusal, first_place};
 ghost use Rattle.dtype_base.specs.NameOrder.{comparisons};
 ghost use Rattle.dtype_base.specs.declared.vortex_error.VortexError.TheVariants.{DuplicateNames, IndexOutOfBounds, OutOfMemory};
@@ -148,14 +149,14 @@ impl StructFields {
         self.find_counted(name).0
     }
 
-    /// What `find` gives, and how many names were compared for it: the same number for every name, found or
-    /// not, which is one more than the binary digits of the number of fields less one, and 0 where there is
-    /// none. Takes no memory.
+    /// What `find` returns, and how many names were compared for it. That number is the same for every name, found
+    /// or not: one more than the binary digits of the number of fields less one, and 0 where there is no field. So it
+    /// is at most one more than the binary digits of the number of fields. Doesn't allocate.
     pub fn find_counted(&self, name: &str) -> (Option<usize>, u64)
-        ensures { result ≡ (
-          first_place (field_names (children self.now)) name.now,
-          comparisons (length (children self.now)),
-        ) }
+        ensures first { result.0 ≡ first_place (field_names (children self.now)) name.now }
+        ensures count { result.1 ≡ comparisons (length (children self.now)) }
+        ensures at_most { result.1 ≤ binary_digits (length (children self.now)) + 1 }
+        ensures at_least { IsSome result.0 → 1 ≤ result.1 }
     {
         self.shared.find_counted(name)
     }

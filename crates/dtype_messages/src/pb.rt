@@ -15,7 +15,7 @@ use std::alloc::Global;
 use std::string::String;
 
 /// A type. Equal by all fields, at every depth.
-#[derive(Debug, Drop)]
+#[derive(Debug, PartialEq, Eq, Drop)]
 #[cycle(message)]
 pub struct DType {
     /// The kind; reading refuses a message without one.
@@ -23,7 +23,7 @@ pub struct DType {
 }
 
 /// The thirteen kinds of a type, each with the struct of its name.
-#[derive(Debug, Drop)]
+#[derive(Debug, PartialEq, Eq, Drop)]
 #[cycle(message)]
 pub enum DtypeType {
     /// Null alone.
@@ -100,7 +100,7 @@ pub struct Binary {
 }
 
 /// Lists of any length.
-#[derive(Debug, Drop)]
+#[derive(Debug, PartialEq, Eq, Drop)]
 #[cycle(message)]
 pub struct List {
     /// The element's type; reading refuses a list without one.
@@ -110,7 +110,7 @@ pub struct List {
 }
 
 /// Lists of one length.
-#[derive(Debug, Drop)]
+#[derive(Debug, PartialEq, Eq, Drop)]
 #[cycle(message)]
 pub struct FixedSizeList {
     /// The element's type; reading refuses a list without one.
@@ -122,7 +122,7 @@ pub struct FixedSizeList {
 }
 
 /// Lists of keys with their values.
-#[derive(Debug, Drop)]
+#[derive(Debug, PartialEq, Eq, Drop)]
 #[cycle(message)]
 pub struct Map {
     /// The keys' type; reading refuses a map without one, and one that is nullable.
@@ -136,10 +136,10 @@ pub struct Map {
 }
 
 /// Fields: their names, and their types at the same places.
-#[derive(Debug, Drop)]
+#[derive(Debug, PartialEq, Eq, Drop)]
 #[cycle(message)]
 pub struct Struct {
-    /// The names, in order.
+    /// The fields' names, in order.
     pub names: Vec<String>,
     /// The types; reading refuses more or fewer than names.
     pub dtypes: Vec<DType>,
@@ -148,10 +148,10 @@ pub struct Struct {
 }
 
 /// Variants: their names, and their types and tags at the same places.
-#[derive(Debug, Drop)]
+#[derive(Debug, PartialEq, Eq, Drop)]
 #[cycle(message)]
 pub struct Union {
-    /// The names, in order.
+    /// The variants' names, in order.
     pub names: Vec<String>,
     /// The types; reading refuses more or fewer than names.
     pub dtypes: Vec<DType>,
@@ -169,7 +169,7 @@ pub struct Variant {
 }
 
 /// An extension of a storage type.
-#[derive(Debug, Drop)]
+#[derive(Debug, PartialEq, Eq, Drop)]
 #[cycle(message)]
 pub struct Extension {
     /// The id, under which a session knows the extension.
@@ -181,21 +181,21 @@ pub struct Extension {
 }
 
 /// A path: its parts, from the outside in.
-#[derive(Debug, Drop)]
+#[derive(Debug, PartialEq, Eq, Drop)]
 pub struct FieldPath {
     /// The parts.
     pub path: Vec<Field>,
 }
 
 /// A part of a path.
-#[derive(Debug, Drop)]
+#[derive(Debug, PartialEq, Eq, Drop)]
 pub struct Field {
     /// The kind; reading refuses a part without one.
     pub field_type: Option<FieldType>,
 }
 
 /// The kind of a part of a path.
-#[derive(Debug, Drop)]
+#[derive(Debug, PartialEq, Eq, Drop)]
 pub enum FieldType {
     /// A field's name.
     Name(String),

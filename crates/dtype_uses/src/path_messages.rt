@@ -1,19 +1,26 @@
 // SPDX-License-Identifier: Apache-2.0
 // SPDX-FileCopyrightText: Copyright the Vortex contributors
 
-//! Path messages, and the messages of single kinds.
+//! Messages compared and copied, of types, of single kinds and of paths, and paths read from them.
 #![tactic(auto, using(vortex_dtype::specs::lemmas::Reading::reading, vortex_dtype::specs::Rulesets::equality))]
 
 ghost use Rattle.std.specs.Prelude.{◌≡◌, ◌↔◌, ◌⊎◌, ◌∷◌, [], IfErr, IfOk, IsErr, IsOkUnless, IsTrue, string_bytes};
 ghost use Rattle.vortex_dtype.specs.Types.VortexError.TheVariants.{Message, OutOfMemory};
 ghost use Rattle.vortex_dtype.specs.Types.MessageFault.TheVariants.{PathPartMissing};
-ghost use Rattle.vortex_dtype.specs.MessageOf.{list_content, struct_content};
+ghost use Rattle.vortex_dtype.specs.MessageOf.{list_content, message, struct_content};
 ghost use Rattle.vortex_dtype.specs.PathNames.{part_name, part_names};
 ghost use Rattle.vortex_dtype.specs.Types.Field.TheVariants.{Name};
 
 use std::alloc::Global;
 use std::string::String;
 use vortex_dtype::{FieldPath, FieldPathProto, VortexResult, pb};
+
+/// Whether two stored types are the same one.
+pub fn is_same_type(a: &pb::DType, b: &pb::DType) -> bool
+    ensures { IsTrue result ↔ (message a.now ≡ message b.now) }
+{
+    *a == *b
+}
 
 /// Whether two stored paths are the same one.
 pub fn is_same_path(a: &pb::FieldPath, b: &pb::FieldPath) -> bool

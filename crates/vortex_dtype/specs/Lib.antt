@@ -74,5 +74,3 @@ pub use Rattle.dtype_messages.specs.Message
 pub use Rattle.dtype_messages.specs.MessageOf
 pub use Rattle.dtype_messages.specs.PathNames
 pub use Rattle.dtype_messages.specs.PTypeNumbers
-pub use Rattle.dtype_messages.specs.Same
-pub use Rattle.dtype_messages.specs.SameLaws

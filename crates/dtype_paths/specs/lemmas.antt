@@ -11,3 +11,6 @@ pub mod Covers
 pub mod ListCovers
 pub mod SetMembers
 pub mod SetCovers
+pub mod Walks
+pub mod MaskSteps
+pub mod Counts

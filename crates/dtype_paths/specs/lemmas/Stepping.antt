@@ -16,6 +16,8 @@ use Rattle.dtype_paths.specs.Beginning.{Beginning}
 use Rattle.dtype_paths.specs.Equality.{same_field, same_path}
 use Rattle.dtype_paths.specs.EqualityLaws.{same_field-Decides, same_path-Decides}
 use Rattle.dtype_paths.specs.In.{In, first_part}
+use Rattle.dtype_paths.specs.lemmas.MaskSteps.{first_asked}
+use Rattle.dtype_paths.specs.lemmas.Walks.{along_behind, none_behind, none_further, one_stands}
 use Rattle.dtype_paths.specs.declared.field.Field.{Field}
 use Rattle.dtype_paths.specs.declared.field.Field.TheVariants.{Name, ElementType}
 use Rattle.dtype_paths.specs.declared.field_mask.FieldMask.{FieldMask}
@@ -125,4 +127,4 @@ none_unasked (Prefix (h ∷ p)) f q first some asked = cc
 none_unasked (Exact []) f q first some asked = cc
 none_unasked (Exact (h ∷ p)) f q first some asked = cc
 
-pub ruleset stepping = (given_stands, given_exists, given_valid, none_stands, none_exists, column_along, at_behind, beginning_exists_in, front_exists_in, root_begins, root_leads, root_exists_in, tested_fields, tested_paths, other_unasked, none_unasked)
+pub ruleset stepping = (given_stands, given_exists, given_valid, none_stands, none_exists, column_along, at_behind, beginning_exists_in, front_exists_in, root_begins, root_leads, root_exists_in, tested_fields, tested_paths, one_stands, along_behind, none_behind, none_further, first_asked, other_unasked, none_unasked)

@@ -17,7 +17,7 @@
 //! `over_fields` goes over them, `nullabilities` sets them, `paths` resolves, `path_messages` compares and copies
 //! messages, `messages` writes and reads types, `sessions` makes sessions, `plugins` has one that looks at its
 //! storage, `numbers` has names and bytes, `unions` makes unions, `validity` has what valid types have. `orders` is
-//! the code of `docs/TUTORIAL.md`.
+//! the code of `docs/TUTORIAL.md`, and `guide` that of `docs/GUIDE.md`.
 #![tactic(auto)]
 
 pub mod appending;
@@ -26,6 +26,7 @@ pub mod binder;
 pub mod dates;
 pub mod equality;
 pub mod fields;
+pub mod guide;
 pub mod iterators;
 pub mod kinds;
 pub mod layout;

@@ -221,3 +221,31 @@ def check():
         count += len(found)
         faults += [(line.number, it) for it in found if it]
     return count, faults + [(0, it) for it in left_out(lines, sources, asked)]
+
+
+GLOSSARY = "docs/GLOSSARY.md"
+# What the glossary needn't have: what the sources declare, lemmas, and tests that are proved exact beside them.
+UNEXPLAINED = re.compile(r"\.specs\.(?:declared|lemmas)\.|Laws$")
+
+
+def check_glossary():
+    """How many words the glossary explains, which of them its files don't define, and the definitions named by file
+    that it explains."""
+    crate, count, faults, explained = "", 0, [], set()
+    for number, line in enumerate(text_of(GLOSSARY).splitlines(), 1):
+        crate = line.strip("# `") if line.startswith("## ") else crate
+        cells = [it.strip() for it in line.strip("|").split("|")]
+        if not line.startswith("| `") or len(cells) != 3:
+            continue
+        files = re.findall(r"`(\w+)`", cells[2])
+        homes_of = {it: f"crates/{crate}/specs/{it}.antt" for it in files}
+        texts = {it: text_of(file) for it, file in homes_of.items() if os.path.exists(file)}
+        for word in re.findall(r"`([\w-]+)[^`]*`", cells[0]):
+            count += 1
+            stated = rf"^\s*(?:(?:pub|abbrev|unfoldable|data|record) )*{re.escape(word)}(?: [({{]| : |$)"
+            defined = rf"(?m){stated}|^pub use [^\n]*\{{{re.escape(word)}\}}"
+            homes = [it for it, text in texts.items() if re.search(defined, text)]
+            explained |= {(f"Rattle.{crate}.specs.{it}", word) for it in homes}
+            if not homes:
+                faults.append((number, f"{word} is defined in no {' or '.join(files)} of {crate}/specs"))
+    return count, faults, explained

@@ -11,7 +11,7 @@
 //! contracts cite are in `specs/`: `Refusals` (numbers), `Primitives` and `Decimals` (the two tables),
 //! `FieldNames` (`first_place`), `NameOrder` (the index of names), `NameKeys` (their keys), `BinaryDigits` and
 //! `Escapes` (the text of a name). `laws` states what ties the tables to their meaning. What is proved, and
-//! what is only tested, is in `docs/SPECIFICATION.md`.
+//! what is only tested, is in `docs/PROMISES.md`.
 #![tactic(auto)]
 
 mod decimal;

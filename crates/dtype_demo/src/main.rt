@@ -11,7 +11,7 @@
 //!
 //! Begin with `run`, which does the work over any reader and writer. The definitions are in `specs/`:
 //! `Lines` (what a line means), `DemoTree` (the type), `Output` (what is printed), `Faults`. What is
-//! proved, and what is only tested, is in `docs/SPECIFICATION.md`.
+//! proved, and what is only tested, is in `docs/PROMISES.md`.
 #![tactic(auto)]
 
 ghost use Rattle.std.specs.Prelude.{◌≡◌, ◌+◌, ◌<◌, ◌≤◌, length, IsUtf8, IfErr, IfSome, IsErrOf, OnOk};

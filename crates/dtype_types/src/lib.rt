@@ -12,7 +12,7 @@
 //! definitions are in `specs/`: `Tree` (the type tree), `Nullable`, `Valid`, `Erase`, `Lookups`,
 //! `Text`, `Value` (values, and which are of which type) and `Sub` (the order by nullability). `laws`
 //! has what follows from the definitions alone. What is proved, and what is only tested, is in
-//! `docs/SPECIFICATION.md`.
+//! `docs/PROMISES.md`.
 #![tactic(auto)]
 
 mod dtype;

@@ -4,11 +4,12 @@
 // The outer nullability of a type, and types with another.
 #![tactic(auto, using(crate::proofs::SameParts::set_parts, crate::proofs::SetNullLaws::nonnullable_can))]
 
-ghost use Rattle.std.specs.Prelude.{◌≡◌, ◌↔◌, IsTrue, MatchResult};
+ghost use Rattle.std.specs.Prelude.{◌≡◌, ◌↔◌, IfOk, IsTrue, MatchResult};
 ghost use Rattle.dtype_base.specs.Nullability.{either};
 ghost use Rattle.dtype_base.specs.declared.vortex_error.VortexError.TheVariants.{OutOfMemory};
 ghost use Rattle.dtype_types.specs.Nullable.{nullability, CanBeNonNullable, SetNull, IsNullable};
 ghost use Rattle.dtype_types.specs.TreeOf.{tree};
+ghost use Rattle.dtype_types.specs.Value.{AddsNull};
 
 use crate::DType;
 use crate::dtype::copies::boxed_copy;
@@ -79,8 +80,9 @@ impl DType {
 
     /// The type made nullable: its values are those of this one, and null. Refuses 0 (OutOfMemory) alone.
     pub fn as_nullable(&self, alloc: Global) -> VortexResult<DType>
-        ensures { MatchResult result
+        ensures set { MatchResult result
             (λ d. SetNull (tree self.now) Nullability.Nullable (tree d)) (λ e. e ≡ OutOfMemory) }
+        ensures values { IfOk result (λ d. AddsNull (tree self.now) (tree d)) }
     {
         self.with_nullability(alloc, Nullability::Nullable)
     }

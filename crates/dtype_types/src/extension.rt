@@ -297,15 +297,19 @@ impl ExtDTypeRef {
 }
 
 /// By id, metadata and storage.
+#[tactic(auto, using(crate::specs::lemmas::Equality::equality))]
 impl PartialEq for ExtDTypeRef {
     ghost use Rattle.dtype_types.specs.PartsEquality.{same_extension, same_extension_equiv};
+    ghost use Rattle.dtype_types.specs.TreeOf.{extension_tree};
     ghost use Rattle.std.specs.Cmp.{partial_equiv_from_equiv};
 
     ghost eq = { same_extension };
 
     ghost laws = { partial_equiv_from_equiv same_extension_equiv };
 
-    fn eq(&self, other: &ExtDTypeRef) -> bool {
+    fn eq(&self, other: &ExtDTypeRef) -> bool
+        ensures { IsTrue result ↔ (extension_tree self.now ≡ extension_tree other.now) }
+    {
         self.agree(other, Nullabilities::Compared)
     }
 }

@@ -1,7 +1,7 @@
 // SPDX-License-Identifier: Apache-2.0
 // SPDX-FileCopyrightText: Copyright the Vortex contributors
 
-ghost use Rattle.std.specs.Prelude.{◌≡◌, map, MatchResult};
+ghost use Rattle.std.specs.Prelude.{◌≡◌, ◌↔◌, IsTrue, map, MatchResult};
 ghost use Rattle.dtype_base.specs.declared.nullability.Nullability.TheVariants.{NonNullable};
 ghost use Rattle.dtype_base.specs.declared.vortex_error.VortexError.TheVariants.{OutOfMemory};
 ghost use Rattle.dtype_types.specs.FieldTypes.{field_tree};
@@ -77,6 +77,7 @@ impl From<PType> for FieldDType {
     }
 }
 
+#[tactic(auto, using(crate::specs::lemmas::Equality::equality))]
 impl PartialEq for FieldDType {
     ghost use Rattle.dtype_types.specs.FieldTypes.{same_field_dtype, same_field_dtype_equiv};
     ghost use Rattle.std.specs.Cmp.{partial_equiv_from_equiv};
@@ -85,7 +86,9 @@ impl PartialEq for FieldDType {
 
     ghost laws = { partial_equiv_from_equiv same_field_dtype_equiv };
 
-    fn eq(&self, other: &FieldDType) -> bool {
+    fn eq(&self, other: &FieldDType) -> bool
+        ensures { IsTrue result ↔ (field_tree self.now ≡ field_tree other.now) }
+    {
         self.dtype == other.dtype
     }
 }

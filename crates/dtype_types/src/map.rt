@@ -1,7 +1,7 @@
 // SPDX-License-Identifier: Apache-2.0
 // SPDX-FileCopyrightText: Copyright the Vortex contributors
 
-ghost use Rattle.std.specs.Prelude.{◌≡◌, ◌&&◌, fold, Some, ◌⊎◌, OnOk, MatchResult};
+ghost use Rattle.std.specs.Prelude.{◌≡◌, ◌↔◌, ◌&&◌, IsTrue, fold, Some, ◌⊎◌, OnOk, MatchResult};
 ghost use Rattle.dtype_base.specs.declared.vortex_error.VortexError.TheVariants.{OutOfMemory, MapKeyNullable};
 ghost use Rattle.dtype_base.specs.declared.nullability.Nullability.TheVariants.{NonNullable};
 ghost use Rattle.std.proofs.Math.Bool.{beq};
@@ -128,15 +128,19 @@ impl MapDType {
     }
 }
 
+#[tactic(auto, using(crate::specs::lemmas::Equality::equality))]
 impl PartialEq for MapDType {
     ghost use Rattle.dtype_types.specs.PartsEquality.{same_map, same_map_equiv};
+    ghost use Rattle.dtype_types.specs.TreeOf.{map_shown};
     ghost use Rattle.std.specs.Cmp.{partial_equiv_from_equiv};
 
     ghost eq = { same_map };
 
     ghost laws = { partial_equiv_from_equiv same_map_equiv };
 
-    fn eq(&self, other: &MapDType) -> bool {
+    fn eq(&self, other: &MapDType) -> bool
+        ensures { IsTrue result ↔ (map_shown self.now ≡ map_shown other.now) }
+    {
         self.agree(other, Nullabilities::Compared)
     }
 }

@@ -386,15 +386,19 @@ impl StructFields {
     }
 }
 
+#[tactic(auto, using(crate::specs::lemmas::Equality::equality))]
 impl PartialEq for StructFields {
     ghost use Rattle.dtype_types.specs.PartsEquality.{same_struct, same_struct_equiv};
+    ghost use Rattle.dtype_types.specs.TreeOf.{children};
     ghost use Rattle.std.specs.Cmp.{partial_equiv_from_equiv};
 
     ghost eq = { same_struct };
 
     ghost laws = { partial_equiv_from_equiv same_struct_equiv };
 
-    fn eq(&self, other: &StructFields) -> bool {
+    fn eq(&self, other: &StructFields) -> bool
+        ensures { IsTrue result ↔ (children self.now ≡ children other.now) }
+    {
         self.agree(other, Nullabilities::Compared)
     }
 }

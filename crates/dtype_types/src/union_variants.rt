@@ -299,15 +299,19 @@ impl UnionVariants {
     }
 }
 
+#[tactic(auto, using(crate::specs::lemmas::Equality::equality))]
 impl PartialEq for UnionVariants {
     ghost use Rattle.dtype_types.specs.PartsEquality.{same_union, same_union_equiv};
+    ghost use Rattle.dtype_types.specs.TreeOf.{choices};
     ghost use Rattle.std.specs.Cmp.{partial_equiv_from_equiv};
 
     ghost eq = { same_union };
 
     ghost laws = { partial_equiv_from_equiv same_union_equiv };
 
-    fn eq(&self, other: &UnionVariants) -> bool {
+    fn eq(&self, other: &UnionVariants) -> bool
+        ensures { IsTrue result ↔ (choices self.now ≡ choices other.now) }
+    {
         self.agree(other, Nullabilities::Compared)
     }
 }

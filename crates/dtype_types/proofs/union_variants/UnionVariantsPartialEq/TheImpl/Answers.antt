@@ -1,0 +1,9 @@
+-- SPDX-License-Identifier: Apache-2.0
+-- SPDX-FileCopyrightText: Copyright the Vortex contributors
+
+use Rattle.std.proofs.lemmas.Bool.Decides.{same_from_decides}
+use Rattle.dtype_types.specs.lemmas.Equality.{unions_Decides}
+use Rattle.dtype_types.proofs.union_variants.UnionVariantsPartialEq.TheImpl.Goals as goal
+
+pub eq-tells : goal.eq-tells
+eq-tells c = same_from_decides _ _ c.ensures (unions_Decides c.args.self.now c.args.other.now)

@@ -4,10 +4,9 @@
 //! Types written as messages and read again.
 #![tactic(auto, using(vortex_dtype::specs::lemmas::Reading::reading))]
 
-ghost use Rattle.std.specs.Prelude.{◌≡◌, ◌⊎◌, Err, IfErr, IfOk, IsErr, IsTrue};
+ghost use Rattle.std.specs.Prelude.{◌≡◌, ◌⊎◌, Err, IfErr, IfNone, IfOk, IfSome, IsErr, IsOkUnless, IsTrue};
 ghost use Rattle.vortex_dtype.specs.Types.Nullability.TheVariants.{Nullable};
 ghost use Rattle.vortex_dtype.specs.Types.VortexError.TheVariants.{OutOfMemory};
-ghost use Rattle.vortex_dtype.specs.Types.VortexError.{VortexError};
 ghost use Rattle.vortex_dtype.specs.Nullable.{SetNull};
 ghost use Rattle.vortex_dtype.specs.TreeOf.{tree};
 ghost use Rattle.vortex_dtype.specs.Valid.{Valid};
@@ -15,13 +14,15 @@ ghost use Rattle.vortex_dtype.specs.MessageOf.{message};
 ghost use Rattle.vortex_dtype.specs.Accepts.{Accepts};
 ghost use Rattle.vortex_dtype.specs.Meaning.{Admits, nothing};
 ghost use Rattle.vortex_dtype.specs.ReadInOrder.{read};
-ghost use Rattle.vortex_dtype.specs.Reads.{Fault};
+ghost use Rattle.vortex_dtype.specs.Reads.{Fault, Reads, ReadsAsNothing};
 ghost use Rattle.vortex_dtype.specs.Session.{meaning};
 ghost use Rattle.vortex_dtype.specs.Written.{Normal};
 
 use std::alloc::Global;
 use vortex_dtype::laws::session_laws;
-use vortex_dtype::{DType, DTypeProto, DTypeSession, ExtDTypePlugin, VortexResult, pb};
+use vortex_dtype::{
+    DType, DTypeProto, DTypeSession, ExtDTypePlugin, VortexError, VortexResult, pb,
+};
 
 /// Whether two messages say the same type: equal ones do.
 pub fn say_the_same(
@@ -91,4 +92,23 @@ pub fn read_knowing_nothing(alloc: Global, proto: &pb::DType) -> VortexResult<DT
 {
     let session = DTypeSession::new(alloc);
     DType::from_proto(alloc, proto, &session)
+}
+
+/// The type that a message reads as, or `None` where it reads as no type: the only error is out of memory.
+pub fn read_if_readable(
+    alloc: Global,
+    proto: &pb::DType,
+    session: &DTypeSession,
+) -> VortexResult<Option<DType>>
+    ensures readable { IfOk result (λ found. IfSome found (λ t.
+        Reads (meaning (λ b. rewrites (b.vtable, b.value)) session.now) (message proto.now) (tree t))) }
+    ensures unreadable { IfOk result (λ found. IfNone found
+        (ReadsAsNothing (meaning (λ b. rewrites (b.vtable, b.value)) session.now) (message proto.now))) }
+    ensures refused { IsOkUnless result OutOfMemory }
+{
+    match DType::from_proto(alloc, proto, session) {
+        Ok(dtype) => Ok(Some(dtype)),
+        Err(VortexError::OutOfMemory) => Err(VortexError::OutOfMemory),
+        Err(_) => Ok(None),
+    }
 }

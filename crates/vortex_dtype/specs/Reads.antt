@@ -72,6 +72,10 @@ abbrev mutual
   ReadsVariants s (n ∷ ns) (more m ms) (g ∷ gs) vs =
       (x : Tree) × (k : ℕ) × (rest : Variants) × Reads s m x × (integer_byte g ≡ Some k) × ReadsVariants s ns ms gs rest × (vs ≡ choice n x k rest)
 
+-- the message reads as no type
+abbrev pub ReadsAsNothing : Meaning → Message → Type 0
+ReadsAsNothing s m = (t : Tree) → Reads s m t → ⊥
+
 abbrev pub message_count : Messages → ℕ
 message_count no_message = 0
 message_count (more m ms) = message_count ms + 1

@@ -18,7 +18,7 @@ ghost use Rattle.vortex_dtype.specs.IsMessage.{IsMessage};
 ghost use Rattle.vortex_dtype.specs.Meaning.{Admits, LawfulSession, Meaning, Rewrites, keeps, nothing};
 ghost use Rattle.dtype_messages.specs.Message.{Message};
 ghost use Rattle.vortex_dtype.specs.ReadInOrder.{read};
-ghost use Rattle.vortex_dtype.specs.Reads.{Fault, Reads};
+ghost use Rattle.vortex_dtype.specs.Reads.{Fault, Reads, ReadsAsNothing};
 ghost use Rattle.vortex_dtype.specs.Written.{Normal, written};
 
 pub use crate::plugin::plugin_laws;
@@ -63,7 +63,7 @@ pub fn admits_set_null()
 pub fn read_is_what_reads()
     ensures given { (s : Meaning) (m : Message) (t : Tree) → (read s m ≡ Ok t) ↔ Reads s m t }
     ensures refused { (s : Meaning) (m : Message) (e : VortexError)
-        → read s m ≡ Err e → Fault s m e × ((t : Tree) → Reads s m t → ⊥) }
+        → read s m ≡ Err e → Fault s m e × ReadsAsNothing s m }
 {}
 
 /// Reading and writing are exact, under every session. A message reads as one type at most, and none where a

@@ -18,6 +18,7 @@ ghost use Rattle.dtype_messages.specs.PathNames.{part_names};
 ghost use Rattle.vortex_dtype.specs.PathMessage.{path_of, step_of, steps_of};
 ghost use Rattle.vortex_dtype.specs.IsMessage.{IsMessage};
 ghost use Rattle.vortex_dtype.specs.ReadInOrder.{read};
+ghost use Rattle.vortex_dtype.specs.Reads.{Fault, Reads, ReadsAsNothing};
 ghost use Rattle.vortex_dtype.specs.Written.{written};
 ghost use Rattle.vortex_dtype.specs.Session.{meaning};
 
@@ -60,6 +61,10 @@ impl DTypeProto for DType {
     /// 34 (StorageMissing), and after the storage's 22 (MetadataRefused) or 35 (ExtensionUnregistered).
     fn from_proto(alloc: Global, proto: &pb::DType, session: &DTypeSession) -> VortexResult<DType>
         ensures reads { MatchResult result
+            (λ t. Reads (meaning rewrites session.now) (message proto.now) (tree t))
+            (λ e. (e ≡ OutOfMemory) ⊎ (Fault (meaning rewrites session.now) (message proto.now) e
+            × ReadsAsNothing (meaning rewrites session.now) (message proto.now))) }
+        ensures in_order { MatchResult result
             (λ t. read (meaning rewrites session.now) (message proto.now) ≡ Ok (tree t))
             (λ e. (e ≡ OutOfMemory)
             ⊎ (read (meaning rewrites session.now) (message proto.now) ≡ Err e)) }

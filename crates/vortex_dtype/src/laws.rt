@@ -4,7 +4,7 @@
 // Laws of sessions, of reading and of writing. They follow from the definitions alone: each function's
 // contract is the law, and its body is empty. `types`, `paths` and the others are the laws of the crates
 // below.
-ghost use Rattle.std.specs.Prelude.{◌≡◌, ◌↔◌, ◌++◌, ◌∷◌, ℕ, List, Some, None, Ok, Err};
+ghost use Rattle.std.specs.Prelude.{◌≡◌, ◌≢◌, ◌↔◌, ◌++◌, ◌∷◌, ℕ, List, Some, None, Ok, Err, true};
 ghost use Rattle.std.specs.List.{list_any};
 ghost use Rattle.dtype_base.specs.declared.nullability.Nullability.{Nullability};
 ghost use Rattle.dtype_base.specs.declared.vortex_error.VortexError.{VortexError};
@@ -15,7 +15,7 @@ ghost use Rattle.dtype_types.specs.Valid.{Valid};
 ghost use Rattle.vortex_dtype.specs.Accepts.{Accepts};
 ghost use Rattle.vortex_dtype.specs.Calls.{Call, LeavesAlone, after, is_allow, register};
 ghost use Rattle.vortex_dtype.specs.IsMessage.{IsMessage};
-ghost use Rattle.vortex_dtype.specs.Meaning.{Admits, LawfulSession, Meaning, Rewrites, keeps, nothing};
+ghost use Rattle.vortex_dtype.specs.Meaning.{Admits, LawfulSession, Meaning, Rewrites, allowing, keeps, nothing, put};
 ghost use Rattle.dtype_messages.specs.Message.{Message};
 ghost use Rattle.vortex_dtype.specs.ReadInOrder.{read};
 ghost use Rattle.vortex_dtype.specs.Reads.{Fault, Reads, ReadsAsNothing};
@@ -28,6 +28,21 @@ pub use dtype_messages::laws as messages;
 pub use dtype_native::laws as native;
 pub use dtype_paths::laws as paths;
 pub use dtype_types::laws as types;
+
+/// What `register` changes of any session, whatever was called before: the id means what the plugin means; every
+/// other id means what it meant, and unknown ids are kept or not as they were.
+pub fn register_changes_one_id()
+    ensures registered { (s : Meaning) (id : List ℕ) (r : Rewrites) → (put id r s).registered id ≡ Some r }
+    ensures others { (s : Meaning) (id other : List ℕ) (r : Rewrites)
+        → id ≢ other → (put id r s).registered other ≡ s.registered other }
+    ensures unknown { (s : Meaning) (id : List ℕ) (r : Rewrites) → (put id r s).unknown ≡ s.unknown }
+{}
+
+/// What `allow_unknown` changes of any session: unknown ids are kept, and every id means what it meant.
+pub fn allow_unknown_changes_the_flag()
+    ensures unknown { (s : Meaning) → (allowing s).unknown ≡ true }
+    ensures registered { (s : Meaning) (id : List ℕ) → (allowing s).registered id ≡ s.registered id }
+{}
 
 /// After any calls the last plugin that was registered under an id counts.
 pub fn last_registered_counts()

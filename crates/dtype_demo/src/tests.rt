@@ -79,30 +79,50 @@ fn outcome<R: Read + Drop>(alloc: Global, mut reader: R) -> (Result<(), DemoFaul
     (result, written)
 }
 
-// That this is answered so.
-fn is_answered(rt: &(impl Abort + AllocGlobal), input: &[u8], want: &[u8]) {
-    let (result, written) = outcome(rt.alloc(), input);
-    assert!(rt;
-        result == Ok(()) && written.as_slice() == want,
-        "at {input:?}"
-    );
+// That `run` gives this result and writes this, whether a read gives one byte or all.
+fn is_answered(
+    rt: &(impl Abort + AllocGlobal),
+    input: &[u8],
+    wanted: Result<(), DemoFault>,
+    output: &[u8],
+) {
+    for most in [1, input.len() + 1] {
+        let (result, written) = outcome(rt.alloc(), reader_of(input, most));
+        assert!(rt;
+            result == wanted && written.as_slice() == output,
+            "at {input:?}, {most} bytes a read"
+        );
+    }
+}
+
+fn reader_of(input: &[u8], most: usize) -> FailsToRead<&[u8]> {
+    FailsToRead {
+        reader: input,
+        most,
+        reads_left: usize::MAX,
+        goes_on: false,
+    }
 }
 
 #[test]
-fn each_line_is_answered(rt: HostRuntime) {
-    is_answered(&rt, b"", b"cover:\n");
+fn each_input_has_its_output(rt: HostRuntime) {
+    is_answered(&rt, b"\xff", Err(DemoFault::NotUtf8), b"");
+    is_answered(&rt, b"a\n\xff", Err(DemoFault::NotUtf8), b"");
+    is_answered(&rt, b"", Ok(()), b"cover:\n");
     is_answered(
         &rt,
         b"\n",
+        Ok(()),
         b" = {a=list({b=u32})?, f=fixed_size_list(u8)[2]}\ncover: \n",
     );
     is_answered(
         &rt,
         b"f.[]\nf\n",
+        Ok(()),
         b"$f.[] = u8\n$f = fixed_size_list(u8)[2]\ncover: $f\n",
     );
-    is_answered(&rt, b"a..b", b"$a.$.$b = none\ncover: $a.$.$b\n");
-    is_answered(&rt, b"a", b"$a = list({b=u32})?\ncover: $a\n");
+    is_answered(&rt, b"a..b", Ok(()), b"$a.$.$b = none\ncover: $a.$.$b\n");
+    is_answered(&rt, b"a", Ok(()), b"$a = list({b=u32})?\ncover: $a\n");
 }
 
 // `LINES`, three bytes a read.

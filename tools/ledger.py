@@ -171,9 +171,13 @@ def golden_tests():
 
 
 def fault_of_test(name, golden):
-    """Whether a test isn't there: `console: comment`, or the path of a test function."""
+    """Whether a test isn't there: `console: comment`, the path of a test function, or `program: line that it writes`."""
     if name.startswith("console: "):
         return None if name.removeprefix("console: ") in golden else f"there is no golden test '{name[9:]}'"
+    if program := re.fullmatch(r"(\w+): (.+)", name):
+        written = f"crates/{program[1]}/stdout"
+        lines = text_of(written).splitlines() if os.path.exists(written) else []
+        return None if program[2] in lines else f"there is no line '{program[2]}' in {written}"
     crate, _, path = name.partition("::")
     module, _, function = path.rpartition("::")
     for file in (f"crates/{crate}/src/{module.replace('::', '/')}.rt", f"crates/{crate}/src/{module or 'main'}.rt"):

@@ -1,8 +1,11 @@
 // SPDX-License-Identifier: Apache-2.0
 // SPDX-FileCopyrightText: Copyright the Vortex contributors
 
-// The messages themselves. A contract sees a type's message as its tree (`message` of `specs/MessageOf`), the other
-// structs as their fields by those trees, and a path as the names that its parts hold.
+//! The messages, with the fields of the protobuf definition. `DTypeProto` and `FieldPathProto` of `vortex_dtype` read
+//! and write them, and say what a valid message is.
+//
+// A contract sees the message of a type as its tree (`message` of `specs/MessageOf`), the other structs as their
+// fields, with a tree for each child, and a path as the names that its parts hold.
 ghost use Rattle.std.specs.Prelude.{◌≡◌, pos, Ok, map, option_map, string_bytes, MatchResult};
 ghost use Rattle.dtype_base.specs.declared.vortex_error.VortexError.TheVariants.{OutOfMemory};
 ghost use Rattle.dtype_base.specs.Primitives.{ptype_row};
@@ -14,11 +17,11 @@ use dtype_base::VortexResult;
 use std::alloc::Global;
 use std::string::String;
 
-/// A type. Equal by all fields, at every depth.
+/// The message of a type. Two are equal where all fields are, at every depth.
 #[derive(Debug, PartialEq, Eq, Drop)]
 #[cycle(message)]
 pub struct DType {
-    /// The kind; reading refuses a message without one.
+    /// The kind. Reading a message without one returns `TypeMissing` (24).
     pub dtype_type: Option<DtypeType>,
 }
 
@@ -26,76 +29,76 @@ pub struct DType {
 #[derive(Debug, PartialEq, Eq, Drop)]
 #[cycle(message)]
 pub enum DtypeType {
-    /// Null alone.
+    /// The null type.
     Null(Null),
-    /// Truth values.
+    /// Booleans.
     Bool(Bool),
-    /// Numbers of a primitive type.
+    /// Integers or floats.
     Primitive(Primitive),
-    /// Decimal numbers.
+    /// Decimals.
     Decimal(Decimal),
-    /// Texts.
+    /// UTF-8 strings.
     Utf8(Utf8),
-    /// Bytes.
+    /// Byte strings.
     Binary(Binary),
     /// Lists of any length.
     List(Box<List>),
-    /// Lists of one length.
+    /// Lists of a fixed length.
     FixedSizeList(Box<FixedSizeList>),
-    /// Keys with their values.
+    /// Maps.
     Map(Box<Map>),
-    /// Fields.
+    /// Structs.
     Struct(Struct),
-    /// One of several variants.
+    /// Unions.
     Union(Union),
     /// Values of any type.
     Variant(Variant),
-    /// A type of another library.
+    /// Extension types.
     Extension(Box<Extension>),
 }
 
-/// The type of null alone.
+/// The null type.
 #[derive(Debug, PartialEq, Eq, Drop)]
 pub struct Null {}
 
-/// Truth values.
+/// Booleans.
 #[derive(Debug, PartialEq, Eq, Drop)]
 pub struct Bool {
-    /// Whether null is a value.
+    /// Whether values may be null.
     pub nullable: bool,
 }
 
-/// Numbers of a primitive type.
+/// Integers or floats of a primitive type.
 #[derive(Debug, PartialEq, Eq, Drop)]
 pub struct Primitive {
-    /// The number of a `PType`.
+    /// The number of a `PType`. Reading any other returns `PrimitiveNumber` (25).
     pub ptype: i32,
-    /// Whether null is a value.
+    /// Whether values may be null.
     pub nullable: bool,
 }
 
-/// Decimal numbers.
+/// Decimals of a precision and a scale.
 #[derive(Debug, PartialEq, Eq, Drop)]
 pub struct Decimal {
-    /// The digits; reading takes 1 to 76.
+    /// The number of digits. Reading accepts 1 to 76.
     pub precision: u32,
-    /// Those behind the point; reading takes -128 to 76, and no more than there are digits.
+    /// The number of digits after the decimal point. Reading accepts -128 to the precision.
     pub scale: i32,
-    /// Whether null is a value.
+    /// Whether values may be null.
     pub nullable: bool,
 }
 
-/// Texts.
+/// UTF-8 strings.
 #[derive(Debug, PartialEq, Eq, Drop)]
 pub struct Utf8 {
-    /// Whether null is a value.
+    /// Whether values may be null.
     pub nullable: bool,
 }
 
-/// Bytes.
+/// Byte strings.
 #[derive(Debug, PartialEq, Eq, Drop)]
 pub struct Binary {
-    /// Whether null is a value.
+    /// Whether values may be null.
     pub nullable: bool,
 }
 
@@ -103,133 +106,134 @@ pub struct Binary {
 #[derive(Debug, PartialEq, Eq, Drop)]
 #[cycle(message)]
 pub struct List {
-    /// The element's type; reading refuses a list without one.
+    /// The element type. Reading a list without one returns `ListElementMissing` (28).
     pub element_type: Option<Box<DType>>,
-    /// Whether null is a value.
+    /// Whether values may be null.
     pub nullable: bool,
 }
 
-/// Lists of one length.
+/// Lists of a fixed length.
 #[derive(Debug, PartialEq, Eq, Drop)]
 #[cycle(message)]
 pub struct FixedSizeList {
-    /// The element's type; reading refuses a list without one.
+    /// The element type. Reading a list without one returns `FixedElementMissing` (29).
     pub element_type: Option<Box<DType>>,
-    /// How many elements each list has.
+    /// The number of elements of each list.
     pub size: u32,
-    /// Whether null is a value.
+    /// Whether values may be null.
     pub nullable: bool,
 }
 
-/// Lists of keys with their values.
+/// Maps: lists of keys, each with a value.
 #[derive(Debug, PartialEq, Eq, Drop)]
 #[cycle(message)]
 pub struct Map {
-    /// The keys' type; reading refuses a map without one, and one that is nullable.
+    /// The key type. Reading a map without one returns `MapKeyMissing` (30), and with a nullable one
+    /// `MapKeyNullable` (9).
     pub key_type: Option<Box<DType>>,
-    /// The values' type; reading refuses a map without one.
+    /// The value type. Reading a map without one returns `MapValueMissing` (31).
     pub value_type: Option<Box<DType>>,
-    /// Whether the keys are said to be sorted; nothing checks it.
+    /// Whether the keys are declared to be sorted. Nothing checks it.
     pub keys_sorted: bool,
-    /// Whether null is a value.
+    /// Whether values may be null.
     pub nullable: bool,
 }
 
-/// Fields: their names, and their types at the same places.
+/// A struct: the names of its fields, and their types at the same positions.
 #[derive(Debug, PartialEq, Eq, Drop)]
 #[cycle(message)]
 pub struct Struct {
     /// The fields' names, in order.
     pub names: Vec<String>,
-    /// The types; reading refuses more or fewer than names.
+    /// The fields' types, in order. Reading more or fewer than names returns `StructLengths` (32).
     pub dtypes: Vec<DType>,
-    /// Whether null is a value.
+    /// Whether values may be null.
     pub nullable: bool,
 }
 
-/// Variants: their names, and their types and tags at the same places.
+/// A union: the names of its variants, and their types and tags at the same positions.
 #[derive(Debug, PartialEq, Eq, Drop)]
 #[cycle(message)]
 pub struct Union {
     /// The variants' names, in order.
     pub names: Vec<String>,
-    /// The types; reading refuses more or fewer than names.
+    /// The variants' types, in order. Reading more or fewer than names returns `UnionTypesLength` (10).
     pub dtypes: Vec<DType>,
-    /// The tags; reading takes 0 to 255.
+    /// The variants' tags, in order. Reading accepts 0 to 255, each once; another returns `TypeIdRange` (33).
     pub type_ids: Vec<i32>,
-    /// Whether null is a value.
+    /// Whether values may be null.
     pub nullable: bool,
 }
 
 /// Values of any type.
 #[derive(Debug, PartialEq, Eq, Drop)]
 pub struct Variant {
-    /// Whether null is a value.
+    /// Whether values may be null.
     pub nullable: bool,
 }
 
-/// An extension of a storage type.
+/// An extension type.
 #[derive(Debug, PartialEq, Eq, Drop)]
 #[cycle(message)]
 pub struct Extension {
-    /// The id, under which a session knows the extension.
+    /// The id, by which a session finds the plugin of the extension type.
     pub id: String,
-    /// The type that it is stored as; reading refuses an extension without one.
+    /// The storage type. Reading an extension without one returns `StorageMissing` (34).
     pub storage_dtype: Option<Box<DType>>,
-    /// The metadata; reading takes missing metadata as empty.
+    /// The metadata. Reading takes missing metadata as empty.
     pub metadata: Option<Vec<u8>>,
 }
 
-/// A path: its parts, from the outside in.
+/// The message of a field path: its parts, outermost first.
 #[derive(Debug, PartialEq, Eq, Drop)]
 pub struct FieldPath {
-    /// The parts.
+    /// The parts, outermost first. None is the root.
     pub path: Vec<Field>,
 }
 
-/// A part of a path.
+/// A part of a field path.
 #[derive(Debug, PartialEq, Eq, Drop)]
 pub struct Field {
-    /// The kind; reading refuses a part without one.
+    /// The kind. Reading a part without one returns `PathPartMissing` (36).
     pub field_type: Option<FieldType>,
 }
 
-/// The kind of a part of a path.
+/// The kind of a part of a field path.
 #[derive(Debug, PartialEq, Eq, Drop)]
 pub enum FieldType {
-    /// A field's name.
+    /// The field of this name.
     Name(String),
 }
 
-/// The primitive types, by the numbers that messages have.
+/// The primitive types, each with its number in messages.
 #[derive(Clone, Copy, Debug, PartialEq, Eq)]
 pub enum PType {
-    /// 0: unsigned integers of 8 bits.
+    /// 0: unsigned 8-bit integers.
     U8,
-    /// 1: unsigned integers of 16 bits.
+    /// 1: unsigned 16-bit integers.
     U16,
-    /// 2: unsigned integers of 32 bits.
+    /// 2: unsigned 32-bit integers.
     U32,
-    /// 3: unsigned integers of 64 bits.
+    /// 3: unsigned 64-bit integers.
     U64,
-    /// 4: signed integers of 8 bits.
+    /// 4: signed 8-bit integers.
     I8,
-    /// 5: signed integers of 16 bits.
+    /// 5: signed 16-bit integers.
     I16,
-    /// 6: signed integers of 32 bits.
+    /// 6: signed 32-bit integers.
     I32,
-    /// 7: signed integers of 64 bits.
+    /// 7: signed 64-bit integers.
     I64,
-    /// 8: floats of 16 bits.
+    /// 8: 16-bit floats.
     F16,
-    /// 9: floats of 32 bits.
+    /// 9: 32-bit floats.
     F32,
-    /// 10: floats of 64 bits.
+    /// 10: 64-bit floats.
     F64,
 }
 
 impl PType {
-    /// The primitive type of this number, from 0 to 10, or `None` for every other.
+    /// Returns the primitive type of this number, or `None` where it is not 0 to 10.
     pub fn from_number(number: i32) -> Option<PType>
         ensures { option_map plain result ≡ ptype_at number }
     {
@@ -249,7 +253,7 @@ impl PType {
         }
     }
 
-    /// The number, from 0 to 10.
+    /// Returns the number of the primitive type, from 0 to 10.
     pub fn number(&self) -> i32
         ensures { result ≡ pos (ptype_row (plain self.now)).number }
     {
@@ -310,7 +314,7 @@ impl From<dtype_base::PType> for PType {
 }
 
 impl Null {
-    /// An equal message. Never refuses.
+    /// Copies the message: an equal one. It holds nothing on the heap, so this never returns an error.
     pub fn try_clone(&self, _alloc: Global) -> VortexResult<Null>
         ensures { result ≡ Ok self.now }
     {
@@ -319,7 +323,7 @@ impl Null {
 }
 
 impl Bool {
-    /// An equal message. Never refuses.
+    /// Copies the message: an equal one. It holds nothing on the heap, so this never returns an error.
     pub fn try_clone(&self, _alloc: Global) -> VortexResult<Bool>
         ensures { result ≡ Ok self.now }
     {
@@ -330,7 +334,7 @@ impl Bool {
 }
 
 impl Primitive {
-    /// An equal message. Never refuses.
+    /// Copies the message: an equal one. It holds nothing on the heap, so this never returns an error.
     pub fn try_clone(&self, _alloc: Global) -> VortexResult<Primitive>
         ensures { result ≡ Ok self.now }
     {
@@ -342,7 +346,7 @@ impl Primitive {
 }
 
 impl Decimal {
-    /// An equal message. Never refuses.
+    /// Copies the message: an equal one. It holds nothing on the heap, so this never returns an error.
     pub fn try_clone(&self, _alloc: Global) -> VortexResult<Decimal>
         ensures { result ≡ Ok self.now }
     {
@@ -355,7 +359,7 @@ impl Decimal {
 }
 
 impl Utf8 {
-    /// An equal message. Never refuses.
+    /// Copies the message: an equal one. It holds nothing on the heap, so this never returns an error.
     pub fn try_clone(&self, _alloc: Global) -> VortexResult<Utf8>
         ensures { result ≡ Ok self.now }
     {
@@ -366,7 +370,7 @@ impl Utf8 {
 }
 
 impl Binary {
-    /// An equal message. Never refuses.
+    /// Copies the message: an equal one. It holds nothing on the heap, so this never returns an error.
     pub fn try_clone(&self, _alloc: Global) -> VortexResult<Binary>
         ensures { result ≡ Ok self.now }
     {
@@ -377,7 +381,7 @@ impl Binary {
 }
 
 impl Variant {
-    /// An equal message. Never refuses.
+    /// Copies the message: an equal one. It holds nothing on the heap, so this never returns an error.
     pub fn try_clone(&self, _alloc: Global) -> VortexResult<Variant>
         ensures { result ≡ Ok self.now }
     {
@@ -388,7 +392,11 @@ impl Variant {
 }
 
 impl FieldPath {
-    /// An equal message. Refuses 0 (OutOfMemory) alone.
+    /// Copies the message with all that it holds: an equal one.
+    ///
+    /// # Errors
+    ///
+    /// - `OutOfMemory` (0): an allocation fails.
     pub fn try_clone(&self, alloc: Global) -> VortexResult<FieldPath>
         ensures { MatchResult result
             (λ p. part_names p ≡ part_names self.now) (λ e. e ≡ OutOfMemory) }
@@ -402,7 +410,11 @@ impl FieldPath {
 }
 
 impl Field {
-    /// An equal message. Refuses 0 (OutOfMemory) alone.
+    /// Copies the message with all that it holds: an equal one.
+    ///
+    /// # Errors
+    ///
+    /// - `OutOfMemory` (0): an allocation fails.
     pub fn try_clone(&self, alloc: Global) -> VortexResult<Field>
         ensures { MatchResult result
             (λ p. part_name p ≡ part_name self.now) (λ e. e ≡ OutOfMemory) }
@@ -417,7 +429,11 @@ impl Field {
 }
 
 impl FieldType {
-    /// An equal message. Refuses 0 (OutOfMemory) alone.
+    /// Copies the message with all that it holds: an equal one.
+    ///
+    /// # Errors
+    ///
+    /// - `OutOfMemory` (0): an allocation fails.
     pub fn try_clone(&self, alloc: Global) -> VortexResult<FieldType>
         ensures { MatchResult result (λ k. name_of k ≡ name_of self.now) (λ e. e ≡ OutOfMemory) }
     {
@@ -428,7 +444,11 @@ impl FieldType {
 }
 
 impl DType {
-    /// An equal message. Refuses 0 (OutOfMemory) alone.
+    /// Copies the message with all that it holds: an equal one.
+    ///
+    /// # Errors
+    ///
+    /// - `OutOfMemory` (0): an allocation fails.
     #[cycle(copy)]
     pub fn try_clone(&self, alloc: Global) -> VortexResult<DType>
         ensures { MatchResult result (λ d. message d ≡ message self.now) (λ e. e ≡ OutOfMemory) }
@@ -443,7 +463,11 @@ impl DType {
 }
 
 impl DtypeType {
-    /// An equal message. Refuses 0 (OutOfMemory) alone.
+    /// Copies the message with all that it holds: an equal one.
+    ///
+    /// # Errors
+    ///
+    /// - `OutOfMemory` (0): an allocation fails.
     #[cycle(copy)]
     pub fn try_clone(&self, alloc: Global) -> VortexResult<DtypeType>
         ensures { MatchResult result
@@ -479,9 +503,9 @@ impl DtypeType {
     }
 }
 
-// A child, if it is there.
+// Copies the child, if there is one.
 #[cycle(copy)]
-fn child_copied(alloc: Global, proto: &Option<Box<DType>>) -> VortexResult<Option<Box<DType>>>
+fn copy_child(alloc: Global, proto: &Option<Box<DType>>) -> VortexResult<Option<Box<DType>>>
     ensures { MatchResult result (λ c. child_message c ≡ child_message proto.now) (λ e. e ≡ OutOfMemory) }
 {
     match proto {
@@ -493,9 +517,9 @@ fn child_copied(alloc: Global, proto: &Option<Box<DType>>) -> VortexResult<Optio
     }
 }
 
-// Messages, in order.
+// Copies the messages, in order.
 #[cycle(copy)]
-fn all_copied(alloc: Global, protos: &[DType]) -> VortexResult<Vec<DType>>
+fn copy_messages(alloc: Global, protos: &[DType]) -> VortexResult<Vec<DType>>
     ensures { MatchResult result
         (λ v. map message v.items ≡ map message protos.now) (λ e. e ≡ OutOfMemory) }
 {
@@ -506,8 +530,8 @@ fn all_copied(alloc: Global, protos: &[DType]) -> VortexResult<Vec<DType>>
     Ok(copies)
 }
 
-// Texts, in order.
-fn texts_copied(alloc: Global, texts: &[String]) -> VortexResult<Vec<String>>
+// Copies the texts, in order.
+fn copy_texts(alloc: Global, texts: &[String]) -> VortexResult<Vec<String>>
     ensures { MatchResult result
         (λ v. map string_bytes v.items ≡ map string_bytes texts.now) (λ e. e ≡ OutOfMemory) }
 {
@@ -518,8 +542,8 @@ fn texts_copied(alloc: Global, texts: &[String]) -> VortexResult<Vec<String>>
     Ok(copies)
 }
 
-// Bytes, if they are there.
-fn bytes_copied(alloc: Global, bytes: &Option<Vec<u8>>) -> VortexResult<Option<Vec<u8>>>
+// Copies the bytes, if there are any.
+fn copy_bytes(alloc: Global, bytes: &Option<Vec<u8>>) -> VortexResult<Option<Vec<u8>>>
     ensures { MatchResult result (λ b. bytes_of b ≡ bytes_of bytes.now) (λ e. e ≡ OutOfMemory) }
 {
     match bytes {
@@ -529,28 +553,36 @@ fn bytes_copied(alloc: Global, bytes: &Option<Vec<u8>>) -> VortexResult<Option<V
 }
 
 impl List {
-    /// An equal message. Refuses 0 (OutOfMemory) alone.
+    /// Copies the message with all that it holds: an equal one.
+    ///
+    /// # Errors
+    ///
+    /// - `OutOfMemory` (0): an allocation fails.
     #[cycle(copy)]
     pub fn try_clone(&self, alloc: Global) -> VortexResult<List>
         ensures { MatchResult result
             (λ p. list_content p ≡ list_content self.now) (λ e. e ≡ OutOfMemory) }
     {
         Ok(List {
-            element_type: child_copied(alloc, &self.element_type)?,
+            element_type: copy_child(alloc, &self.element_type)?,
             nullable: self.nullable,
         })
     }
 }
 
 impl FixedSizeList {
-    /// An equal message. Refuses 0 (OutOfMemory) alone.
+    /// Copies the message with all that it holds: an equal one.
+    ///
+    /// # Errors
+    ///
+    /// - `OutOfMemory` (0): an allocation fails.
     #[cycle(copy)]
     pub fn try_clone(&self, alloc: Global) -> VortexResult<FixedSizeList>
         ensures { MatchResult result
             (λ p. fixed_content p ≡ fixed_content self.now) (λ e. e ≡ OutOfMemory) }
     {
         Ok(FixedSizeList {
-            element_type: child_copied(alloc, &self.element_type)?,
+            element_type: copy_child(alloc, &self.element_type)?,
             size: self.size,
             nullable: self.nullable,
         })
@@ -558,15 +590,19 @@ impl FixedSizeList {
 }
 
 impl Map {
-    /// An equal message. Refuses 0 (OutOfMemory) alone.
+    /// Copies the message with all that it holds: an equal one.
+    ///
+    /// # Errors
+    ///
+    /// - `OutOfMemory` (0): an allocation fails.
     #[cycle(copy)]
     pub fn try_clone(&self, alloc: Global) -> VortexResult<Map>
         ensures { MatchResult result
             (λ p. map_content p ≡ map_content self.now) (λ e. e ≡ OutOfMemory) }
     {
         Ok(Map {
-            key_type: child_copied(alloc, &self.key_type)?,
-            value_type: child_copied(alloc, &self.value_type)?,
+            key_type: copy_child(alloc, &self.key_type)?,
+            value_type: copy_child(alloc, &self.value_type)?,
             keys_sorted: self.keys_sorted,
             nullable: self.nullable,
         })
@@ -574,30 +610,38 @@ impl Map {
 }
 
 impl Struct {
-    /// An equal message. Refuses 0 (OutOfMemory) alone.
+    /// Copies the message with all that it holds: an equal one.
+    ///
+    /// # Errors
+    ///
+    /// - `OutOfMemory` (0): an allocation fails.
     #[cycle(copy)]
     pub fn try_clone(&self, alloc: Global) -> VortexResult<Struct>
         ensures { MatchResult result
             (λ p. struct_content p ≡ struct_content self.now) (λ e. e ≡ OutOfMemory) }
     {
         Ok(Struct {
-            names: texts_copied(alloc, &self.names)?,
-            dtypes: all_copied(alloc, &self.dtypes)?,
+            names: copy_texts(alloc, &self.names)?,
+            dtypes: copy_messages(alloc, &self.dtypes)?,
             nullable: self.nullable,
         })
     }
 }
 
 impl Union {
-    /// An equal message. Refuses 0 (OutOfMemory) alone.
+    /// Copies the message with all that it holds: an equal one.
+    ///
+    /// # Errors
+    ///
+    /// - `OutOfMemory` (0): an allocation fails.
     #[cycle(copy)]
     pub fn try_clone(&self, alloc: Global) -> VortexResult<Union>
         ensures { MatchResult result
             (λ p. union_content p ≡ union_content self.now) (λ e. e ≡ OutOfMemory) }
     {
         Ok(Union {
-            names: texts_copied(alloc, &self.names)?,
-            dtypes: all_copied(alloc, &self.dtypes)?,
+            names: copy_texts(alloc, &self.names)?,
+            dtypes: copy_messages(alloc, &self.dtypes)?,
             type_ids: Vec::from_slice(alloc, &self.type_ids)?,
             nullable: self.nullable,
         })
@@ -605,7 +649,11 @@ impl Union {
 }
 
 impl Extension {
-    /// An equal message. Refuses 0 (OutOfMemory) alone.
+    /// Copies the message with all that it holds: an equal one.
+    ///
+    /// # Errors
+    ///
+    /// - `OutOfMemory` (0): an allocation fails.
     #[cycle(copy)]
     pub fn try_clone(&self, alloc: Global) -> VortexResult<Extension>
         ensures { MatchResult result
@@ -613,8 +661,8 @@ impl Extension {
     {
         Ok(Extension {
             id: String::from_str(alloc, self.id.as_str())?,
-            storage_dtype: child_copied(alloc, &self.storage_dtype)?,
-            metadata: bytes_copied(alloc, &self.metadata)?,
+            storage_dtype: copy_child(alloc, &self.storage_dtype)?,
+            metadata: copy_bytes(alloc, &self.metadata)?,
         })
     }
 }

@@ -19,15 +19,15 @@ use Rattle.vortex_dtype.specs.Written.{written}
 use Rattle.vortex_dtype.specs.lemmas.Reads.{fault_none, reads_accepted, reads_once, written_reads}
 use Rattle.vortex_dtype.specs.lemmas.InOrder.{read_fault, read_reads, refused_faulty}
 
-pub gives_told : (s : Meaning) (m : Message) (r : Result DType VortexError) → Gives tree r (read s m) → MatchResult r (λ t. read s m ≡ Ok (tree t)) (λ e. (e ≡ OutOfMemory) ⊎ (read s m ≡ Err e))
-gives_told s m (Ok d) g = g
-gives_told s m (Err OutOfMemory) g = inl refl
-gives_told s m (Err e) g = inr g
+pub gives_in_order : (s : Meaning) (m : Message) (r : Result DType VortexError) → Gives tree r (read s m) → MatchResult r (λ t. read s m ≡ Ok (tree t)) (λ e. (e ≡ OutOfMemory) ⊎ (read s m ≡ Err e))
+gives_in_order s m (Ok d) g = g
+gives_in_order s m (Err OutOfMemory) g = inl refl
+gives_in_order s m (Err e) g = inr g
 
-pub gives_means : (s : Meaning) (m : Message) (r : Result DType VortexError) → Gives tree r (read s m) → MatchResult r (λ t. Reads s m (tree t)) (λ e. (e ≡ OutOfMemory) ⊎ (Fault s m e × ReadsAsNothing s m))
-gives_means s m (Ok d) g = read_reads s m (tree d) g
-gives_means s m (Err OutOfMemory) g = inl refl
-gives_means s m (Err e) g = inr (refused_faulty s m e g)
+pub gives_reads : (s : Meaning) (m : Message) (r : Result DType VortexError) → Gives tree r (read s m) → MatchResult r (λ t. Reads s m (tree t)) (λ e. (e ≡ OutOfMemory) ⊎ (Fault s m e × ReadsAsNothing s m))
+gives_reads s m (Ok d) g = read_reads s m (tree d) g
+gives_reads s m (Err OutOfMemory) g = inl refl
+gives_reads s m (Err e) g = inr (refused_faulty s m e g)
 
 pub gives_accepts : (s : Meaning) → LawfulSession s → (m : Message) (r : Result DType VortexError) → IfOk r (λ _. IsMessage m) → Gives tree r (read s m) → IfOk r (λ t. Accepts s m (tree t))
 gives_accepts s l m (Ok d) i g = reads_accepted s m (tree d) l i (read_reads s m (tree d) g)

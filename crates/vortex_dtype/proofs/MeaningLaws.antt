@@ -31,6 +31,6 @@ weaker : (P Q : Type 0) → (P → Q) → (e : VortexError) → (e ≡ OutOfMemo
 weaker P Q f e (inl none) = inl none
 weaker P Q f e (inr both) = inr (both.0, f both.1)
 
--- a refusal where P holds is one where Q holds, if Q follows
+-- an error where P holds is one where Q holds, if Q follows
 pub refused_weaker : {X : Type 0} (P Q : Type 0) (o : Result X VortexError) → (P → Q) → IfErr o (λ e. (e ≡ OutOfMemory) ⊎ ((e ≡ MetadataRefused) × P)) → IfErr o (λ e. (e ≡ OutOfMemory) ⊎ ((e ≡ MetadataRefused) × Q))
 refused_weaker P Q o f h = IfErr-weaker o _ _ (weaker P Q f) h

@@ -1,9 +1,9 @@
 -- SPDX-License-Identifier: Apache-2.0
 -- SPDX-FileCopyrightText: Copyright the Vortex contributors
 
--- What a plugin and a session mean. From the documentation of `ExtDTypePlugin` and `DTypeSession`: a
--- plugin says which bytes it writes back for an extension's metadata, a session knows which plugin
--- stands under an id, and whether an unknown id's metadata is kept.
+-- What a plugin and a session mean. From the documentation of `ExtDTypePlugin` and `DTypeSession`: a plugin says which
+-- bytes it writes back for an extension's metadata; a session knows which plugin is registered under an id, and whether
+-- the metadata of unknown ids is kept.
 use Rattle.std.specs.Prelude.{◌≡◌, ℕ, List, Option, Some, None, Bool, true, false, if◌then◌else◌, bytes_eq}
 pub use Rattle.dtype_base.specs.Bytes.{Bytes}
 use Rattle.dtype_base.specs.declared.nullability.Nullability.{Nullability}
@@ -14,12 +14,12 @@ use Rattle.dtype_types.specs.Tree.{Tree, Fields, no_fields, field, Variants, no_
 use Rattle.dtype_types.specs.Valid.{Valid}
 use Rattle.dtype_types.specs.Nullable.{SetNull}
 
--- a plugin's meaning: the bytes that it writes back for these bytes over this storage, if it takes them
+-- a plugin's meaning: the bytes that it writes back for these bytes over this storage, if it accepts them
 abbrev pub Rewrites : Type 0
 Rewrites = List ℕ → Tree → Option (List ℕ)
 
--- the two laws of a plugin's meaning: what is written back is bytes and is written back unchanged, and the
--- storage's outer nullability doesn't count
+-- the two laws of a plugin's meaning: what is written back is bytes and is written back unchanged, and the outer
+-- nullability of the storage makes no difference
 pub record Lawful (r : Rewrites) : Type 0 where
   pub again : (b c : List ℕ) (s : Tree) → Bytes b → Valid s → r b s ≡ Some c → Bytes c × (r c s ≡ Some c)
   pub outer : (b : List ℕ) (s t : Tree) (n : Nullability) → Bytes b → Valid s → SetNull s n t → r b t ≡ r b s
@@ -29,11 +29,11 @@ pub record Meaning : Type 0 where
   pub registered : List ℕ → Option Rewrites
   pub unknown : Bool
 
--- a new session: nothing is registered, and unknown ids are refused
+-- a new session: nothing is registered, and unknown ids are an error
 unfoldable pub nothing : Meaning
 nothing = record { registered = λ id. None; unknown = false }
 
--- the session after r is registered under i, in place of what stood there
+-- the session after r is registered under i, in place of what was registered under it
 unfoldable pub put : List ℕ → Rewrites → Meaning → Meaning
 put i r m = record { registered = λ id. if bytes_eq i id then Some r else m.registered id; unknown = m.unknown }
 
@@ -45,8 +45,8 @@ allowing m = record { registered = m.registered; unknown = true }
 pub record LawfulSession (m : Meaning) : Type 0 where
   pub each : (id : List ℕ) (r : Rewrites) → m.registered id ≡ Some r → Lawful r
 
--- the bytes that are kept of these bytes, if they are taken: what the registered plugin writes back, and
--- where none is registered the bytes themselves, if unknown ids are kept
+-- the bytes that are kept of these bytes, if they are accepted: what the registered plugin writes back, and where none
+-- is registered the bytes themselves, if unknown ids are kept
 abbrev pub kept : Option Rewrites → Bool → List ℕ → Tree → Option (List ℕ)
 kept None unknown b s = if unknown then Some b else None
 kept (Some r) unknown b s = r b s
@@ -55,7 +55,7 @@ kept (Some r) unknown b s = r b s
 abbrev pub keeps : Meaning → List ℕ → List ℕ → Tree → Option (List ℕ)
 keeps m id b s = kept (m.registered id) m.unknown b s
 
--- the refusal where nothing is kept: by the plugin, or because none is registered
+-- the error where nothing is kept: the plugin's, or that none is registered
 abbrev pub refusal_of : Option Rewrites → VortexError
 refusal_of None = Faulty ExtensionUnregistered
 refusal_of (Some r) = MetadataRefused
@@ -63,7 +63,7 @@ refusal_of (Some r) = MetadataRefused
 abbrev pub refusal : Meaning → List ℕ → VortexError
 refusal m id = refusal_of (m.registered id)
 
--- the session admits a type: at every extension it keeps the very bytes that stand there
+-- the session admits a type: of every extension in it, it keeps the metadata unchanged
 abbrev mutual
   pub Admits : Meaning → Tree → Type 0
   Admits m null = Unit {0}

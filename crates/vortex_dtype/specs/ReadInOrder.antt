@@ -1,9 +1,9 @@
 -- SPDX-License-Identifier: Apache-2.0
 -- SPDX-FileCopyrightText: Copyright the Vortex contributors
 
--- Reading as a function on message trees: the type, or the first refusal with its values, where a child comes before
--- what its parent asks of it. From the documentation of the refusals. The relations of `Reads` don't look at the
--- order; the law `read_is_what_reads` leads from here to them.
+-- Reading as a function on message trees: the type, or the first fault with its values, the faults of a child before
+-- what its parent checks of it. From the documentation of the errors. The relations of `Reads` leave the order open; the
+-- law `read_is_what_reads` leads from here to them.
 use Rattle.std.specs.Prelude.{◌≡◌, ℕ, ℤ, pos, Bool, true, false, List, [], ◌∷◌, length, Option, Some, None, Result, Ok, Err, if◌then◌else◌, ◌==◌, nat_eq, nat_lt, int_lt, bytes_eq}
 use Rattle.std.specs.List.{zip, list_any}
 use Rattle.dtype_base.specs.declared.nullability.Nullability.{Nullability}
@@ -37,7 +37,7 @@ abbrev pub or_empty : Option (List ℕ) → List ℕ
 or_empty None = []
 or_empty (Some b) = b
 
--- the parts of a type, made into it
+-- the type of each kind, from its parts
 unfoldable pub primitive_read : ℤ → Nullability → Result Tree VortexError
 primitive_read k n = or_fault (Faulty PrimitiveNumber) (ptype_at k) >>= λ p. Ok (of.primitive p n)
 
@@ -64,7 +64,7 @@ unfoldable pub read_tags : List ℤ → Result (List ℕ) VortexError
 read_tags [] = Ok []
 read_tags (t ∷ ts) = or_fault (Faulty TypeIdRange) (integer_byte t) >>= λ x. (read_tags ts >>= λ xs. Ok (x ∷ xs))
 
--- something stands twice
+-- an item is repeated
 abbrev pub repeats : {X : Type 0} → (X → X → Bool) → List X → Bool
 repeats eq [] = false
 repeats eq (x ∷ xs) = if list_any (eq x) xs then true else repeats eq xs
@@ -105,7 +105,7 @@ unfoldable mutual
   read_all s no_message = Ok []
   read_all s (more m ms) = read s m >>= λ x. (read_all s ms >>= λ xs. Ok (x ∷ xs))
 
--- What a call gave, seen by view, is what reading gives, unless memory ran out.
+-- The result of a call, seen by view, is what reading gives, unless it is out of memory.
 abbrev pub Fails : {Y : Type 0} → VortexError → Result Y VortexError → Type 0
 Fails OutOfMemory r = Unit {0}
 Fails e r = r ≡ Err e

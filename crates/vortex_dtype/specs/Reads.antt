@@ -95,7 +95,7 @@ abbrev pub UnionFault : List (List ℕ) → ℕ → List ℤ → VortexError →
 UnionFault ns types gs e =
     ((e ≡ Faulty TypeIdRange) × SomeTagFault gs) ⊎ ((tags : List ℕ) × (gs ≡ map pos tags) × UnionRefusal ns types tags e)
 
--- The fault that this refusal tells stands at the message or inside it.
+-- The message, or a message inside it, has the fault that this error is about.
 abbrev mutual
   pub Fault : Meaning → Message → VortexError → Type 0
   Fault s missing e = e ≡ Faulty TypeMissing

@@ -1,8 +1,8 @@
 -- SPDX-License-Identifier: Apache-2.0
 -- SPDX-FileCopyrightText: Copyright the Vortex contributors
 
--- When a session and a downcast refuse, and by which error, want of memory apart; and each error's number, from the
--- crate of errors.
+-- When a session and a downcast return an error, and which, except `OutOfMemory`; and each error's number, from
+-- `dtype_base`. From the documentation of `deserialize` and `try_downcast`.
 pub use Rattle.dtype_base.specs.Refusals.{fault_number, number_of}
 use Rattle.std.specs.Prelude.{◌≡◌, ◌≢◌, ℕ, List, Option, Some, None, Bool, false}
 use Rattle.dtype_base.specs.declared.vortex_error.VortexError.{VortexError}
@@ -11,25 +11,25 @@ use Rattle.dtype_base.specs.declared.vortex_error.MessageFault.TheVariants.{Exte
 use Rattle.dtype_types.specs.Tree.{Tree}
 use Rattle.vortex_dtype.specs.Meaning.{Meaning, Rewrites}
 
--- the plugin that is registered takes no such bytes over such a storage
+-- the registered plugin doesn't accept these bytes over this storage
 abbrev pub Refuses : Option Rewrites → List ℕ → Tree → Type 0
 Refuses None b s = ⊥
 Refuses (Some r) b s = r b s ≡ None
 
--- what a session refuses: 22 where the registered plugin refuses, 35 where none is registered and unknown ids
--- are refused
+-- the errors of a session: `MetadataRefused` (22) where the registered plugin doesn't accept the metadata,
+-- `ExtensionUnregistered` (35) where no plugin is registered and unknown ids aren't kept
 abbrev pub SessionRefusal : Meaning → List ℕ → List ℕ → Tree → VortexError → Type 0
 SessionRefusal m id b s MetadataRefused = Refuses (m.registered id) b s
 SessionRefusal m id b s (Message ExtensionUnregistered) = (m.registered id ≡ None) × (m.unknown ≡ false)
 SessionRefusal m id b s _ = ⊥
 
--- the bytes aren't read, or what is read doesn't fit
+-- the bytes can't be read, or what is read doesn't fit
 abbrev pub Unfit : {M : Type 0} → Option M → (M → Bool) → Type 0
 Unfit None fits = Unit {0}
 Unfit (Some m) fits = fits m ≡ false
 
--- what a downcast refuses, of the id that stands there and the vtable's: 23 where they differ; else 22, and then P
--- holds
+-- the errors of a downcast, by the extension's id and the vtable's: `ExtensionIdDiffers` (23) where they differ; else
+-- `MetadataRefused` (22), and then P holds
 abbrev pub DowncastRefusal : List ℕ → List ℕ → Type 0 → VortexError → Type 0
 DowncastRefusal i j P ExtensionIdDiffers = i ≢ j
 DowncastRefusal i j P MetadataRefused = (i ≡ j) × P

@@ -60,7 +60,8 @@ abbrev mutual
 abbrev pub extension_message : ExtDTypeRef → Message → Message
 extension_message e storage = extension (extension_id e) (present storage) (Some (extension_metadata e))
 
--- The message with the metadata of each extension replaced by the bytes that the session keeps, the storages inside first.
+-- The message with the metadata of each extension replaced by the bytes that the session keeps, from the innermost
+-- storage outwards.
 abbrev mutual
   pub Normal : Meaning → Message → Message → Type 0
   Normal s missing r = ⊥

@@ -18,8 +18,7 @@ use dtype_types::{DType, ExtDTypeRef, ExtId};
 use std::alloc::Global;
 use std::fmt;
 
-/// An extension type with its library: a vtable, metadata that it writes, and a storage that the
-/// metadata fits.
+/// A typed extension: a vtable, the decoded metadata, and the storage type, which the metadata fits.
 #[derive(Drop)]
 pub struct ExtDType<V: ExtVTable> {
     vtable: V,
@@ -28,15 +27,20 @@ pub struct ExtDType<V: ExtVTable> {
 }
 
 impl<V: ExtVTable + Default> ExtDType<V> {
-    /// The extension of the default vtable with this metadata, over this storage. Over a valid storage it refuses
-    /// 22 (MetadataRefused) exactly where the metadata doesn't fit, and 0 (OutOfMemory); of a storage that isn't
-    /// valid a vtable promises nothing.
+    /// Returns the extension of the default vtable with this metadata, over this storage.
+    ///
+    /// # Errors
+    ///
+    /// Over a valid storage; over another a vtable promises nothing:
+    ///
+    /// - `MetadataRefused` (22): exactly where the metadata doesn't fit the storage.
+    /// - `OutOfMemory` (0): an allocation fails.
     pub fn try_new(alloc: Global, metadata: V::Metadata, storage: DType) -> VortexResult<Self>
         ensures vtable { IfOk result (λ x. V.is_default (vtable_of x)) }
         ensures made { IfOk result (λ x. (metadata_of x ≡ metadata) × (storage_of x ≡ tree storage)) }
         ensures fits { Valid (tree storage)
             → IfOk result (λ x. V.fits (vtable_of x) (V.meant metadata) (tree storage) ≡ true) }
-        // the vtable that doesn't take them is a default one
+        // the vtable that doesn't accept them is a default one
         ensures refused { Valid (tree storage) → IfErr result (λ e. (e ≡ OutOfMemory)
             ⊎ ((e ≡ MetadataRefused)
             × ((v : V) × V.is_default v × (V.fits v (V.meant metadata) (tree storage) ≡ false)))) }
@@ -46,9 +50,14 @@ impl<V: ExtVTable + Default> ExtDType<V> {
 }
 
 impl<V: ExtVTable> ExtDType<V> {
-    /// The extension of this vtable with this metadata, over this storage. Over a valid storage it refuses 22
-    /// (MetadataRefused) exactly where the metadata doesn't fit, and 0 (OutOfMemory); of a storage that isn't valid
-    /// a vtable promises nothing.
+    /// Returns the extension of this vtable with this metadata, over this storage.
+    ///
+    /// # Errors
+    ///
+    /// Over a valid storage; over another a vtable promises nothing:
+    ///
+    /// - `MetadataRefused` (22): exactly where the metadata doesn't fit the storage.
+    /// - `OutOfMemory` (0): an allocation fails.
     pub fn try_with_vtable(
         alloc: Global,
         vtable: V,
@@ -71,36 +80,40 @@ impl<V: ExtVTable> ExtDType<V> {
         })
     }
 
-    /// The vtable's id.
+    /// Returns the id of the extension type.
     pub fn id(&self) -> &str
         ensures { result.now ≡ V.id_text (vtable_of self.now) }
     {
         self.vtable.id()
     }
 
-    /// The vtable.
+    /// Returns a reference to the vtable.
     pub fn vtable(&self) -> &V
         ensures { result.now ≡ vtable_of self.now }
     {
         &self.vtable
     }
 
-    /// The metadata.
+    /// Returns a reference to the metadata.
     pub fn metadata(&self) -> &V::Metadata
         ensures { result.now ≡ metadata_of self.now }
     {
         &self.metadata
     }
 
-    /// The storage type.
+    /// Returns a reference to the storage type.
     pub fn storage_dtype(&self) -> &DType
         ensures { tree result.now ≡ storage_of self.now }
     {
         &self.storage
     }
 
-    /// The metadata as bytes. Refuses 22 (MetadataRefused) exactly where the vtable doesn't write it, and
-    /// 0 (OutOfMemory).
+    /// Returns the metadata as bytes.
+    ///
+    /// # Errors
+    ///
+    /// - `MetadataRefused` (22): exactly where the vtable can't write the metadata.
+    /// - `OutOfMemory` (0): an allocation fails.
     pub fn serialize_metadata(&self, alloc: Global) -> VortexResult<Vec<u8>>
         ensures { MatchResult result
             (λ v. V.writes (vtable_of self.now) (V.meant (metadata_of self.now)) ≡ Some v.items)
@@ -110,9 +123,13 @@ impl<V: ExtVTable> ExtDType<V> {
         self.vtable.serialize_metadata(alloc, &self.metadata)
     }
 
-    /// The extension without its library, with the storage's outer nullability changed; the id and the
-    /// written metadata are those of this one. Where non-nullable is asked, the storage can be. Refuses 22
-    /// (MetadataRefused) exactly where the vtable doesn't write the metadata, and 0 (OutOfMemory).
+    /// Returns the erased extension with the outer nullability of the storage set; the id and the written metadata are
+    /// those of this one. The caller shows that the storage can be non-nullable where that is asked: null can't.
+    ///
+    /// # Errors
+    ///
+    /// - `MetadataRefused` (22): exactly where the vtable can't write the metadata.
+    /// - `OutOfMemory` (0): an allocation fails.
     #[tactic(auto, using(dtype_types::specs::lemmas::Validity::validity))]
     pub fn with_nullability(&self, alloc: Global, n: Nullability) -> VortexResult<ExtDTypeRef>
         requires { n ≡ NonNullable → CanBeNonNullable (storage_of self.now) }
@@ -131,8 +148,12 @@ impl<V: ExtVTable> ExtDType<V> {
         ExtDTypeRef::from_parts(alloc, id, bytes, storage)
     }
 
-    /// The extension without its library: the id, the written metadata and the storage. Refuses 22
-    /// (MetadataRefused) exactly where the vtable doesn't write the metadata, and 0 (OutOfMemory).
+    /// Returns the erased extension: the id, the written metadata and the storage.
+    ///
+    /// # Errors
+    ///
+    /// - `MetadataRefused` (22): exactly where the vtable can't write the metadata.
+    /// - `OutOfMemory` (0): an allocation fails.
     pub fn erased(self, alloc: Global) -> VortexResult<ExtDTypeRef>
         ensures made { IfOk result (λ e. extension_tree e
             ≡ extension (V.id_text (vtable_of self)) (extension_metadata e) (storage_of self)) }
@@ -152,10 +173,16 @@ impl<V: ExtVTable> ExtDType<V> {
         ExtDTypeRef::from_parts(alloc, id, bytes, storage)
     }
 
-    /// The extension with its library: the metadata is read from the bytes, and the storage stays. Refuses
-    /// 23 (ExtensionIdDiffers) exactly where the ids differ, whatever the storage; then, over a valid storage, 22 (MetadataRefused)
-    /// exactly where the bytes aren't read or what is read doesn't fit, and 0 (OutOfMemory); what was handed in
-    /// is then handed back as it was.
+    /// Returns the typed extension of an erased one: the metadata is read from the bytes, and the storage stays.
+    ///
+    /// # Errors
+    ///
+    /// The erased extension is handed back unchanged, with the error:
+    ///
+    /// - `ExtensionIdDiffers` (23): exactly where the ids differ, over any storage.
+    /// - `MetadataRefused` (22): over a valid storage exactly where the vtable can't read the bytes, or what is read
+    ///   doesn't fit the storage.
+    /// - `OutOfMemory` (0): an allocation fails.
     pub fn try_downcast(
         alloc: Global,
         erased: ExtDTypeRef,
@@ -174,7 +201,7 @@ impl<V: ExtVTable> ExtDType<V> {
             (Valid (storage_tree erased) → Unfit (V.reads vtable (extension_metadata erased))
             (λ m. V.fits vtable m (storage_tree erased))) p.1) }
     {
-        match ExtDType::read_lent(alloc, &erased, &vtable) {
+        match ExtDType::read_metadata(alloc, &erased, &vtable) {
             Err(fault) => Err((erased, fault)),
             Ok(metadata) => {
                 let (_, _, storage) = erased.into_parts();
@@ -187,8 +214,8 @@ impl<V: ExtVTable> ExtDType<V> {
         }
     }
 
-    // What the metadata is read as, tested over the storage; all is lent.
-    fn read_lent(alloc: Global, erased: &ExtDTypeRef, vtable: &V) -> VortexResult<V::Metadata>
+    // Reads the metadata and checks it over the storage.
+    fn read_metadata(alloc: Global, erased: &ExtDTypeRef, vtable: &V) -> VortexResult<V::Metadata>
         ensures id { OnOk result (extension_id erased.now ≡ V.id_text vtable.now) }
         ensures read { MatchResult result
             (λ m. V.reads vtable.now (extension_metadata erased.now) ≡ Some (V.meant m))
@@ -208,8 +235,8 @@ impl<V: ExtVTable> ExtDType<V> {
         Ok(metadata)
     }
 
-    // Whether the vtable takes the metadata over the storage: whatever it refuses by is 0 or 22 here, also over a
-    // storage that isn't valid, of which a vtable promises nothing.
+    // Checks the metadata over the storage. The error is 0 or 22 also over an invalid storage, where a vtable may
+    // return any.
     fn validate(
         alloc: Global,
         vtable: &V,
@@ -230,7 +257,7 @@ impl<V: ExtVTable> ExtDType<V> {
     }
 }
 
-/// The vtable, the metadata and the storage.
+/// Prints the vtable, the metadata and the storage.
 impl<V: ExtVTable + fmt::Debug> fmt::Debug for ExtDType<V>
 where
     V::Metadata: fmt::Debug,

@@ -6,13 +6,12 @@ use dtype_base::VortexResult;
 use dtype_types::DType;
 use std::alloc::Global;
 
-/// A library of one extension type: its id, how its metadata is read and written, and over which
-/// storage it may stand.
+/// The operations of one extension type: its id, how its metadata is read and written, and which storage types it
+/// accepts.
 ///
-/// Two laws hold of every vtable, and each implementation proves them, as `Typed` of `specs/Typed`:
-/// written metadata is read back as the same metadata, and what is written of metadata that was read
-/// from bytes is bytes; whether metadata fits a storage doesn't depend on the storage's outer
-/// nullability.
+/// Each implementation proves two laws (`Typed` of `specs/Typed`). Written metadata is read back as the same metadata,
+/// and what is written of metadata that was read from bytes is bytes. Whether metadata fits a storage doesn't depend on
+/// the outer nullability of the storage.
 pub trait ExtVTable: Drop {
     ghost use Rattle.std.specs.Prelude.{◌≡◌, ◌⊎◌, ℕ, List, Option, Some, None, Bool, true, false, IfErr, OnOk, MatchResult};
     ghost use Rattle.dtype_base.specs.declared.vortex_error.VortexError.TheVariants.{OutOfMemory, MetadataRefused};
@@ -21,7 +20,7 @@ pub trait ExtVTable: Drop {
     ghost use Rattle.dtype_types.specs.Valid.{Valid};
     ghost use Rattle.vortex_dtype.specs.Typed.{Typed};
 
-    /// The metadata of an extension, as the library has it.
+    /// The metadata of an extension, decoded.
     type Metadata: Drop;
 
     // the text of the id
@@ -32,36 +31,50 @@ pub trait ExtVTable: Drop {
 
     ghost meant: { Self.Metadata → Meant };
 
-    // what bytes are read as, if they are taken
+    // what bytes are read as, if they are accepted
     ghost reads: { Self → List ℕ → Option Meant };
 
-    // what metadata is written as, if it is taken
+    // what metadata is written as, if it can be written
     ghost writes: { Self → Meant → Option (List ℕ) };
 
-    // whether the metadata may stand over the storage
+    // whether the metadata fits the storage
     ghost fits: { Self → Meant → Tree → Bool };
 
-    /// The id of the extension type.
+    /// Returns the id of the extension type.
     fn id(&self) -> &str
         ensures { result.now ≡ id_text self.now };
 
-    /// The metadata as bytes. Refuses 22 (MetadataRefused) exactly where it isn't written, and 0
-    /// (OutOfMemory).
+    /// Returns the metadata as bytes.
+    ///
+    /// # Errors
+    ///
+    /// - `MetadataRefused` (22): exactly where the metadata can't be written.
+    /// - `OutOfMemory` (0): an allocation fails.
     fn serialize_metadata(&self, alloc: Global, metadata: &Self::Metadata) -> VortexResult<Vec<u8>>
         ensures { MatchResult result
             (λ v. writes self.now (meant metadata.now) ≡ Some v.items)
             (λ e. (e ≡ OutOfMemory) ⊎ ((e ≡ MetadataRefused)
             × (writes self.now (meant metadata.now) ≡ None))) };
 
-    /// The metadata that the bytes are read as. Refuses 22 (MetadataRefused) exactly where they aren't
-    /// read, and 0 (OutOfMemory).
+    /// Reads metadata from bytes.
+    ///
+    /// # Errors
+    ///
+    /// - `MetadataRefused` (22): exactly where the bytes aren't metadata of this type.
+    /// - `OutOfMemory` (0): an allocation fails.
     fn deserialize_metadata(&self, alloc: Global, bytes: &[u8]) -> VortexResult<Self::Metadata>
         ensures { MatchResult result
             (λ m. reads self.now bytes.now ≡ Some (meant m))
             (λ e. (e ≡ OutOfMemory) ⊎ ((e ≡ MetadataRefused) × (reads self.now bytes.now ≡ None))) };
 
-    /// Whether the metadata may stand over the storage: over a valid one it refuses 22 (MetadataRefused) exactly
-    /// where it may not, and 0 (OutOfMemory).
+    /// Checks that the metadata fits the storage.
+    ///
+    /// # Errors
+    ///
+    /// Over a valid storage:
+    ///
+    /// - `MetadataRefused` (22): exactly where the metadata doesn't fit.
+    /// - `OutOfMemory` (0): an allocation fails.
     fn validate_dtype(
         &self,
         alloc: Global,

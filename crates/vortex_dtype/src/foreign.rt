@@ -1,7 +1,7 @@
 // SPDX-License-Identifier: Apache-2.0
 // SPDX-FileCopyrightText: Copyright the Vortex contributors
 
-// Extensions of which nothing is known: all bytes are kept.
+// Extensions of unknown types: their metadata is kept as bytes.
 ghost use Rattle.std.specs.Prelude.{◌≡◌, IfOk, Some, MatchResult};
 ghost use Rattle.dtype_base.specs.declared.vortex_error.VortexError.TheVariants.{OutOfMemory};
 ghost use Rattle.dtype_types.specs.TreeOf.{extension_tree, tree};
@@ -15,12 +15,16 @@ use std::alloc::Global;
 use std::fmt;
 use std::marker::Model;
 
-/// The metadata of an extension of which nothing is known: its bytes.
+/// The metadata of an extension of an unknown type: its bytes.
 #[derive(Debug, Drop, PartialEq, Eq, Hash)]
 pub struct ForeignExtMetadata(pub Vec<u8>);
 
 impl ForeignExtMetadata {
-    /// The same bytes. Refuses 0 (OutOfMemory) alone.
+    /// Copies the metadata.
+    ///
+    /// # Errors
+    ///
+    /// - `OutOfMemory` (0): an allocation fails.
     pub fn try_clone(&self, alloc: Global) -> VortexResult<Self>
         ensures { MatchResult result (λ m. m.0.items ≡ self.now.0.items) (λ e. e ≡ OutOfMemory) }
     {
@@ -28,7 +32,7 @@ impl ForeignExtMetadata {
     }
 }
 
-/// The number of bytes and `B`.
+/// Prints the number of bytes and `B`, as `3B`.
 impl fmt::Display for ForeignExtMetadata {
     ghost use Rattle.dtype_types.specs.Text.{metadata_text};
 
@@ -40,14 +44,13 @@ impl fmt::Display for ForeignExtMetadata {
     }
 }
 
-/// The vtable of an id of which nothing is known: it takes and writes all bytes unchanged, over every
-/// storage.
+/// The vtable of an unknown extension type: it reads and writes any bytes unchanged, over any storage.
 #[derive(Debug, Drop, PartialEq, Eq, Hash)]
 pub struct ForeignExtDType {
     id: ExtId,
 }
 
-/// It is its id, a text.
+/// Contracts see the vtable as its id, a text.
 impl Model for ForeignExtDType {
     ghost use Rattle.std.specs.Prelude.{ℕ, List};
 
@@ -59,14 +62,18 @@ impl Model for ForeignExtDType {
 }
 
 impl ForeignExtDType {
-    /// The vtable of this id. Takes no memory.
+    /// Creates the vtable of this id. Doesn't allocate.
     pub fn new(id: ExtId) -> Self
         ensures { result ≡ id }
     {
         ForeignExtDType { id }
     }
 
-    /// The extension of this id, metadata and storage. Refuses 0 (OutOfMemory) alone.
+    /// Returns the extension of this id, metadata and storage.
+    ///
+    /// # Errors
+    ///
+    /// - `OutOfMemory` (0): an allocation fails.
     pub fn from_parts(
         alloc: Global,
         id: ExtId,
@@ -81,7 +88,11 @@ impl ForeignExtDType {
         ExtDTypeRef::from_parts(alloc, id, metadata, storage)
     }
 
-    /// The vtable of the same id. Refuses 0 (OutOfMemory) alone.
+    /// Copies the vtable.
+    ///
+    /// # Errors
+    ///
+    /// - `OutOfMemory` (0): an allocation fails.
     pub fn try_clone(&self, alloc: Global) -> VortexResult<Self>
         ensures { MatchResult result (λ v. v ≡ self.now) (λ e. e ≡ OutOfMemory) }
     {

@@ -1,9 +1,8 @@
 // SPDX-License-Identifier: Apache-2.0
 // SPDX-FileCopyrightText: Copyright the Vortex contributors
 
-// Laws of sessions, of reading and of writing. They follow from the definitions alone: each function's
-// contract is the law, and its body is empty. `types`, `paths` and the others are the laws of the crates
-// below.
+//! Laws of sessions, of reading and of writing: theorems about the definitions. Each function's contract is the law,
+//! and its body is empty. `types`, `paths` and the others are the laws of the crates below.
 ghost use Rattle.std.specs.Prelude.{◌≡◌, ◌≢◌, ◌↔◌, ◌++◌, ◌∷◌, ℕ, List, Some, None, Ok, Err, true};
 ghost use Rattle.std.specs.List.{list_any};
 ghost use Rattle.dtype_base.specs.declared.nullability.Nullability.{Nullability};
@@ -44,47 +43,47 @@ pub fn allow_unknown_changes_the_flag()
     ensures registered { (s : Meaning) (id : List ℕ) → (allowing s).registered id ≡ s.registered id }
 {}
 
-/// After any calls the last plugin that was registered under an id counts.
+/// After any calls the plugin that was registered last under an id is the one that counts.
 pub fn last_registered_counts()
     ensures { (before rest : List Call) (id : List ℕ) (r : Rewrites) → LeavesAlone id rest
         → (after (before ++ register id r ∷ rest) nothing).registered id ≡ Some r }
 {}
 
-/// After calls none of which registers an id, none is registered under it.
+/// After calls none of which registers an id, no plugin is registered under it.
 pub fn none_registered_counts()
     ensures { (calls : List Call) (id : List ℕ) → LeavesAlone id calls
         → (after calls nothing).registered id ≡ None }
 {}
 
-/// After any calls unknown ids are kept exactly where some call allowed it.
+/// After any calls unknown ids are kept exactly where one of them was `allow_unknown`.
 pub fn unknown_once_allowed()
     ensures { (calls : List Call) → (after calls nothing).unknown ≡ list_any is_allow calls }
 {}
 
-/// What a session keeps of bytes is bytes, and the session keeps it as it is.
+/// What a session keeps of metadata is bytes, and the session keeps it unchanged when it is read again.
 pub fn kept_again()
     ensures { (s : Meaning) → LawfulSession s → (id b c : List ℕ) (t : Tree) → Bytes b → Valid t
         → keeps s id b t ≡ Some c → Bytes c × (keeps s id c t ≡ Some c) }
 {}
 
-/// For a valid type, setting its outer nullability doesn't change whether a session admits it.
+/// Setting the outer nullability of a valid type doesn't change whether a session admits it.
 pub fn admits_set_null()
     ensures { (s : Meaning) → LawfulSession s → (t u : Tree) (n : Nullability)
         → Valid t → SetNull t n u → Admits s t ↔ Admits s u }
 {}
 
-/// What reading a message gives in order is what the message says. It gives a type exactly where the message reads as
-/// that type; and where it refuses, the fault that the refusal tells stands in the message, which reads as no type.
+/// Reading in order agrees with the relations. It gives a type exactly where the message reads as that type. Where it
+/// gives an error, that fault is in the message, which reads as no type.
 pub fn read_is_what_reads()
     ensures given { (s : Meaning) (m : Message) (t : Tree) → (read s m ≡ Ok t) ↔ Reads s m t }
     ensures refused { (s : Meaning) (m : Message) (e : VortexError)
         → read s m ≡ Err e → Fault s m e × ReadsAsNothing s m }
 {}
 
-/// Reading and writing are exact, under every session. A message reads as one type at most, and none where a
-/// fault stands in it. What reads is written as its normal form, and where the plugins are lawful it is
-/// accepted: valid and admitted. Accepted messages give equal types exactly where their normal forms are
-/// equal, and a normal form is its own normal form. An admitted type is read back from what is written of it.
+/// Reading and writing are exact, under every session. A message reads as at most one type, and as none where it has a
+/// fault. The message written of the type that a message reads as is its normal form. Where the plugins are lawful that
+/// type is valid and admitted: the message is accepted. Accepted messages give equal types exactly where their normal
+/// forms are equal, and a normal form is its own normal form. An admitted type is read back from what is written of it.
 pub fn messages_are_exact()
     ensures one_type { (s : Meaning) (m : Message) (t u : Tree)
         → Reads s m t → Reads s m u → t ≡ u }

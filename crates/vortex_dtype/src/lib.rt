@@ -1,19 +1,19 @@
 // SPDX-License-Identifier: Apache-2.0
 // SPDX-FileCopyrightText: Copyright the Vortex contributors
 
-//! The logical types of Vortex, whole: all of the crates below given out again, and on top of them typed
-//! extensions, plugins, sessions, and messages read and written.
+//! The logical types of Vortex: all of the crates below re-exported, and on top of them typed extensions, plugins,
+//! sessions, and messages read and written.
 //!
-//! It promises that a typed extension is its metadata and its storage under its vtable's meaning, that a
-//! session answers by its plugins' meanings alone, with the last plugin under an id, and that a message
-//! tree is read and written as the relation and the function of `specs/` say, under a session.
+//! Contracts promise that a typed extension is its metadata and its storage as its vtable means them, that a session
+//! answers by its plugins alone, with the last one registered under an id, and that messages are read and written under
+//! a session as the relations and the function of `specs/` say.
 //!
-//! Begin with `ExtVTable` and `ExtDType` (an extension with its library), `ExtDTypePlugin` and
-//! `PluginOf`, and `DTypeSession`; then `pb` and `DTypeProto`. The definitions are in `specs/`: `Typed`
-//! (what a vtable means), `Meaning` (what a plugin and a session mean: `keeps`, `Admits`), `Refusals`,
-//! `Calls`, and for messages `ReadInOrder` (the type that is given, or the fault that is told first), `Reads`
-//! and `Written`, over the trees of `dtype_messages`. `laws` states the promises that follow from them alone;
-//! callers' proofs have what follows by the rulesets `sessions` and `reading` of `specs/lemmas`.
+//! Begin with `ExtVTable` and `ExtDType` (a typed extension), `ExtDTypePlugin` and `PluginOf`, and `DTypeSession`; then
+//! `pb` and `DTypeProto`. The definitions are in `specs/`: `Typed` (what a vtable means), `Meaning` (what a plugin and
+//! a session mean: `keeps`, `Admits`), `Refusals` (which errors they return), `Calls`, and for messages `Reads` (the
+//! type that a message reads as, and its faults), `ReadInOrder` (which fault is first) and `Written`, over the trees of
+//! `dtype_messages`. `laws` states theorems about these definitions; callers' proofs have the lemmas by the rulesets
+//! `sessions` and `reading` of `specs/lemmas`.
 #![tactic(auto)]
 
 mod ext_dtype;
@@ -49,8 +49,11 @@ pub use plugin::{ExtDTypePlugin, PluginOf};
 pub use proto::{DTypeProto, FieldPathProto};
 pub use session::DTypeSession;
 
-/// The path of these names, from the outside in, as a `VortexResult`: `field_path!(alloc, "a", "b")`.
-/// Refuses 0 (OutOfMemory) alone.
+/// Builds the path of these names, outermost first, as a `VortexResult`: `field_path!(alloc, "a", "b")`.
+///
+/// # Errors
+///
+/// - `OutOfMemory` (0): an allocation fails.
 #[macro_export]
 macro_rules! field_path {
     ($alloc:expr, $($name:expr),+ $(,)?) => {

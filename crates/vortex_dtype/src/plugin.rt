@@ -1,7 +1,7 @@
 // SPDX-License-Identifier: Apache-2.0
 // SPDX-FileCopyrightText: Copyright the Vortex contributors
 
-// Plugins: what a session knows of an extension type.
+// Plugins, by which a session reads the metadata of extension types.
 ghost use Rattle.std.specs.Prelude.{◌≡◌, ◌⊎◌, IfOk, IfErr, Some, None};
 ghost use Rattle.dtype_base.specs.declared.vortex_error.VortexError.TheVariants.{OutOfMemory, MetadataRefused};
 ghost use Rattle.dtype_types.specs.TreeOf.{tree};
@@ -14,12 +14,11 @@ use dtype_types::DType;
 use std::alloc::Global;
 use std::marker::Model;
 
-/// What a session knows of an extension type: its id, and what becomes of its metadata.
+/// What a session knows of an extension type: its id, and how its metadata is read and written back.
 ///
-/// A plugin means `rewrites`: the bytes that it writes back for these bytes over this storage, if it
-/// takes them. Each implementation proves the two laws of that meaning, `Lawful` of `specs/Meaning`:
-/// what is written back is bytes and is written back unchanged, and the storage's outer nullability
-/// doesn't count.
+/// Contracts speak of a plugin's `rewrites`: for metadata and a storage, the bytes that the plugin writes back, if it
+/// accepts them. Each implementation proves two laws of it (`Lawful` of `specs/Meaning`): what is written back is bytes
+/// and is written back unchanged when read again, and the outer nullability of the storage makes no difference.
 pub trait ExtDTypePlugin: Drop {
     ghost use Rattle.std.specs.Prelude.{◌≡◌, ◌⊎◌, ℕ, List, Some, None, IfOk, IfErr};
     ghost use Rattle.dtype_base.specs.declared.vortex_error.VortexError.TheVariants.{OutOfMemory, MetadataRefused};
@@ -30,15 +29,21 @@ pub trait ExtDTypePlugin: Drop {
     // the text of the id
     ghost id_text: { Self → List ℕ };
 
-    // the bytes that are written back for these bytes over this storage, if they are taken
+    // the bytes that are written back for these bytes over this storage, if they are accepted
     ghost rewrites: { Self → Rewrites };
 
-    /// The id of the extension type.
+    /// Returns the id of the extension type.
     fn id(&self) -> &str
         ensures { result.now ≡ id_text self.now };
 
-    /// The bytes that the plugin writes back for an extension's metadata over a storage. Over a valid storage it
-    /// refuses 22 (MetadataRefused) exactly where it takes no such bytes, and 0 (OutOfMemory).
+    /// Reads an extension's metadata over a storage, and returns it as the plugin writes it.
+    ///
+    /// # Errors
+    ///
+    /// Over a valid storage:
+    ///
+    /// - `MetadataRefused` (22): exactly where the plugin doesn't accept the metadata over this storage.
+    /// - `OutOfMemory` (0): an allocation fails.
     fn deserialize(&self, alloc: Global, metadata: &[u8], storage: &DType) -> VortexResult<Vec<u8>>
         ensures ok { Valid (tree storage.now)
             → IfOk result (λ v. rewrites self.now metadata.now (tree storage.now) ≡ Some v.items) }
@@ -49,13 +54,13 @@ pub trait ExtDTypePlugin: Drop {
     ghost lawful: { (p : Self) → Lawful (rewrites p) };
 }
 
-/// A vtable as a plugin, which reads, validates and writes.
+/// The plugin of a vtable: it reads the metadata, validates it over the storage, and writes it.
 #[derive(Debug, Drop)]
 pub struct PluginOf<V> {
     vtable: V,
 }
 
-/// It is its vtable.
+/// Contracts see the plugin as its vtable.
 impl<V> Model for PluginOf<V> {
     ghost Value = { V };
 
@@ -63,7 +68,7 @@ impl<V> Model for PluginOf<V> {
 }
 
 impl<V: ExtVTable> PluginOf<V> {
-    /// The plugin of this vtable. Takes no memory.
+    /// Creates the plugin of this vtable. Doesn't allocate.
     pub fn new(vtable: V) -> Self
         ensures { result ≡ vtable }
     {
@@ -71,8 +76,8 @@ impl<V: ExtVTable> PluginOf<V> {
     }
 }
 
-/// What it writes back is what its vtable writes of what it read, where that fits the storage. The laws
-/// of a plugin follow from those of the vtable.
+/// It writes back what its vtable writes of the metadata that it read, where that fits the storage. The laws of plugins
+/// follow from those of vtables.
 impl<V: ExtVTable> ExtDTypePlugin for PluginOf<V> {
     ghost use Rattle.vortex_dtype.specs.Typed.{rewritten, typed_laws};
 
@@ -98,14 +103,14 @@ impl<V: ExtVTable> ExtDTypePlugin for PluginOf<V> {
     ghost lawful = { λ v. typed_laws (V.reads v) (V.writes v) (V.fits v) (V.typed v) };
 }
 
-// The id of the plugin in a box.
+// Returns the id of a boxed plugin.
 pub(crate) fn boxed_id(plugin: &Box<dyn ExtDTypePlugin>) -> &str
     ensures { result.now ≡ id_text plugin.now }
 {
     plugin.id()
 }
 
-// The bytes that the plugin in a box writes back.
+// Returns the bytes that a boxed plugin writes back.
 pub(crate) fn boxed_deserialize(
     plugin: &Box<dyn ExtDTypePlugin>,
     alloc: Global,
@@ -121,7 +126,7 @@ pub(crate) fn boxed_deserialize(
     plugin.deserialize(alloc, metadata, storage)
 }
 
-/// The two laws hold of every plugin.
+/// Every plugin keeps the two laws of plugins.
 pub fn plugin_laws(plugin: &dyn ExtDTypePlugin)
     ensures { Lawful (rewrites plugin.now) }
 {}

@@ -1,8 +1,8 @@
 // SPDX-License-Identifier: Apache-2.0
 // SPDX-FileCopyrightText: Copyright the Vortex contributors
 
-// Types and paths from messages, and messages from types: `read` goes over a message, `kinds` makes the type of
-// each kind, `write` makes the messages.
+// Types and paths from messages, and messages from types: `read` walks a message, `kinds` builds the type of each kind,
+// `write` builds the messages.
 #![tactic(auto, using(crate::specs::lemmas::PathMessages::path_by_steps))]
 
 ghost use Rattle.std.specs.Prelude.{◌≡◌, ◌⊎◌, Some, None, Ok, Err, IfOk, Contains, map, MatchResult};
@@ -36,29 +36,47 @@ mod kinds;
 mod read;
 mod write;
 
-/// Types from messages, and messages from types.
+/// Conversion of types from and to protobuf messages.
 ///
-/// `DType::from_proto(alloc, &dtype.to_proto(alloc)?, &session)?` is `dtype` again, where the session would
-/// write each extension's metadata as it stands there.
+/// `DType::from_proto(alloc, &dtype.to_proto(alloc)?, &session)?` equals `dtype` where the session keeps each
+/// extension's metadata as it is (`Admits` of `specs/Meaning`).
 pub trait DTypeProto {
-    /// The type that the message says, under the session. The impl for `DType` says when it refuses.
+    /// Returns the type that the message describes, under the session. The impl for `DType` lists the errors.
     fn from_proto(alloc: Global, proto: &pb::DType, session: &DTypeSession) -> VortexResult<Self>
     where
         Self: Sized;
 
-    /// The message that says the type. Refuses 0 (OutOfMemory) alone.
+    /// Returns the message that describes the type.
+    ///
+    /// # Errors
+    ///
+    /// - `OutOfMemory` (0): an allocation fails.
     fn to_proto(&self, alloc: Global) -> VortexResult<pb::DType>;
 }
 
 impl DTypeProto for DType {
-    /// The type that the message says, under the session, which rewrites the metadata of each extension;
-    /// missing metadata is empty. Refuses at the first fault (`read` of `specs/ReadInOrder`), a child before what
-    /// its parent asks of it:
-    /// 24 (TypeMissing), 25 (PrimitiveNumber), 26 (PrecisionRange), 27 (ScaleRange), then 1 to 4 of
-    /// `DecimalDType::try_new`; 28 (ListElementMissing), 29 (FixedElementMissing); 30 (MapKeyMissing) and the
-    /// key's, 31 (MapValueMissing) and the value's, 9 (MapKeyNullable); 32 (StructLengths) after the fields';
-    /// 33 (TypeIdRange) after the variants', then 10 to 13 and 15 of `UnionVariants::try_new`;
-    /// 34 (StorageMissing), and after the storage's 22 (MetadataRefused) or 35 (ExtensionUnregistered).
+    /// Returns the type that the message describes, under the session, which rewrites the metadata of each extension;
+    /// missing metadata is empty.
+    ///
+    /// # Errors
+    ///
+    /// The first fault in the message (`read` of `specs/ReadInOrder`), the faults of a child before what its parent
+    /// checks of it:
+    ///
+    /// - `TypeMissing` (24): a message has no kind.
+    /// - `PrimitiveNumber` (25): the number of a primitive type isn't 0 to 10.
+    /// - `PrecisionRange` (26), `ScaleRange` (27): a decimal's precision or scale doesn't fit 8 bits; then the errors
+    ///   of `DecimalDType::try_new` (1 to 4).
+    /// - `ListElementMissing` (28), `FixedElementMissing` (29): a list has no element type.
+    /// - `MapKeyMissing` (30), then the key's faults, `MapValueMissing` (31), then the value's, then `MapKeyNullable`
+    ///   (9): the key type is nullable.
+    /// - `StructLengths` (32), after the fields' faults: not as many names as types.
+    /// - `TypeIdRange` (33), after the variants' faults: a tag isn't 0 to 255; then the errors of
+    ///   `UnionVariants::try_new` (10 to 13 and 15).
+    /// - `StorageMissing` (34), then the storage's faults, then `MetadataRefused` (22): the registered plugin doesn't
+    ///   accept the metadata; or `ExtensionUnregistered` (35): no plugin is registered under the id, and the session
+    ///   doesn't keep unknown ids.
+    /// - `OutOfMemory` (0): an allocation fails.
     fn from_proto(alloc: Global, proto: &pb::DType, session: &DTypeSession) -> VortexResult<DType>
         ensures reads { MatchResult result
             (λ t. Reads (meaning rewrites session.now) (message proto.now) (tree t))
@@ -80,8 +98,12 @@ impl DTypeProto for DType {
         read(alloc, proto, session)
     }
 
-    /// The message that says the type, with every child, every flag and the metadata. Refuses
-    /// 0 (OutOfMemory) alone.
+    /// Returns the message that describes the type, with every child, every flag and the metadata, also where it is
+    /// empty.
+    ///
+    /// # Errors
+    ///
+    /// - `OutOfMemory` (0): an allocation fails.
     fn to_proto(&self, alloc: Global) -> VortexResult<pb::DType>
         ensures { MatchResult result
             (λ m. message m ≡ written (tree self.now)) (λ e. e ≡ OutOfMemory) }
@@ -90,17 +112,21 @@ impl DTypeProto for DType {
     }
 }
 
-/// Paths from messages.
+/// Conversion of field paths from protobuf messages.
 pub trait FieldPathProto {
-    /// The path that the message says. The impl for `FieldPath` says when it refuses.
+    /// Returns the path that the message describes. The impl for `FieldPath` lists the errors.
     fn from_proto(alloc: Global, proto: &pb::FieldPath) -> VortexResult<Self>
     where
         Self: Sized;
 }
 
 impl FieldPathProto for FieldPath {
-    /// The path of the names, in order; no parts give the root. Refuses 36 (PathPartMissing) at the first
-    /// part without a kind.
+    /// Returns the path of the names, in order. A message without parts gives the root.
+    ///
+    /// # Errors
+    ///
+    /// - `PathPartMissing` (36): a part has no kind.
+    /// - `OutOfMemory` (0): an allocation fails.
     fn from_proto(alloc: Global, proto: &pb::FieldPath) -> VortexResult<FieldPath>
         ensures { MatchResult result
             (λ p. path_of (part_names proto.now) ≡ Some p)
@@ -111,7 +137,7 @@ impl FieldPathProto for FieldPath {
     }
 }
 
-// The steps that the parts say, in order.
+// Reads the parts, in order.
 fn read_parts(alloc: Global, parts: &[pb::Field]) -> VortexResult<Vec<Field>>
     ensures { MatchResult result
         (λ v. map step_of parts.now ≡ map Some v.items)
@@ -125,7 +151,7 @@ fn read_parts(alloc: Global, parts: &[pb::Field]) -> VortexResult<Vec<Field>>
     Ok(steps)
 }
 
-// The step that a part says.
+// Reads one part.
 fn read_part(alloc: Global, part: &pb::Field) -> VortexResult<Field>
     ensures { MatchResult result
         (λ f. step_of part.now ≡ Some f)

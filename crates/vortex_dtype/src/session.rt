@@ -1,7 +1,7 @@
 // SPDX-License-Identifier: Apache-2.0
 // SPDX-FileCopyrightText: Copyright the Vortex contributors
 
-// The session: the plugins that are registered, and whether unknown ids are kept.
+// The session: the registered plugins, and whether extensions of unknown ids are kept.
 #![tactic(auto, unfolding(crate::specs::Session::meaning, crate::specs::Meaning::nothing, crate::specs::Meaning::put, crate::specs::Meaning::allowing))]
 
 ghost use Rattle.std.specs.Prelude.{◌≡◌, ◌⊎◌, ◌↔◌, IfOk, IfErr, IsOkUnless, IsSome, IsTrue, OnErr, OnOk, Some};
@@ -20,13 +20,15 @@ use std::alloc::Global;
 use std::collections::HashMap;
 use std::fmt;
 
-/// The plugins that are registered, by their ids, and whether unknown ids are kept.
+/// The registered plugins by their ids, and whether extensions of unknown ids are kept.
 ///
-/// `meaning rewrites session` is what it means: a map from ids to what the plugins mean, and the flag.
-/// After any calls the last plugin under an id counts (`laws::last_registered_counts`).
+/// Contracts speak of `meaning rewrites session`: a map from ids to what the plugins do to metadata, and the flag.
+/// The plugin registered last under an id is the one that counts (`laws::last_registered_counts`).
 ///
-/// With `x.tag` registered, whose plugin lowers letters, `deserialize("x.tag", b"AB", ..)` keeps `ab`; under
-/// an id that nobody registered it refuses 35, and after `allow_unknown` it keeps `AB`.
+/// # Examples
+///
+/// Where the plugin of `x.tag` lowers letters, `deserialize("x.tag", b"AB", ..)` keeps `ab` as the metadata. Under an
+/// id that isn't registered it returns `ExtensionUnregistered` (35), and after `allow_unknown` it keeps `AB`.
 #[derive(Drop)]
 pub struct DTypeSession {
     alloc: Global,
@@ -35,8 +37,8 @@ pub struct DTypeSession {
 }
 
 impl DTypeSession {
-    /// A session without plugins, which refuses unknown ids. It keeps the allocator for its later calls,
-    /// and takes no memory itself.
+    /// Creates a session without plugins, which doesn't keep unknown ids. It keeps the allocator for later calls, and
+    /// doesn't allocate.
     pub fn new(alloc: Global) -> Self
         ensures { meaning rewrites result ≡ nothing }
     {
@@ -47,8 +49,13 @@ impl DTypeSession {
         }
     }
 
-    /// Registers a plugin under its id, in place of the one that stood there. Refuses 0 (OutOfMemory)
-    /// alone; the session is then as it was, and the plugin is dropped.
+    /// Registers a plugin under its id, and replaces the one that was registered under it.
+    ///
+    /// # Errors
+    ///
+    /// The session is unchanged, and the plugin is dropped:
+    ///
+    /// - `OutOfMemory` (0): an allocation fails.
     pub fn register(&mut self, plugin: Box<dyn ExtDTypePlugin>) -> VortexResult<()>
         ensures last { OnOk result (meaning rewrites self.new
             ≡ put (id_text plugin) (rewrites plugin) (meaning rewrites self.old)) }
@@ -60,32 +67,38 @@ impl DTypeSession {
         Ok(())
     }
 
-    /// From now on extensions of unknown ids are kept as they stand.
+    /// Makes the session keep extensions of unknown ids, with their metadata as it is.
     pub fn allow_unknown(&mut self)
         ensures { meaning rewrites self.new ≡ allowing (meaning rewrites self.old) }
     {
         self.allow_unknown = true;
     }
 
-    /// Whether extensions of unknown ids are kept.
+    /// Returns whether the session keeps extensions of unknown ids.
     pub fn allows_unknown(&self) -> bool
         ensures { result ≡ (meaning rewrites self.now).unknown }
     {
         self.allow_unknown
     }
 
-    /// Whether a plugin is registered under the id. Takes no memory.
+    /// Returns whether a plugin is registered under the id. Doesn't allocate.
     pub fn registry(&self, id: &str) -> bool
         ensures { IsTrue result ↔ IsSome ((meaning rewrites self.now).registered id.now) }
     {
         self.plugins.contains_key(id)
     }
 
-    /// The extension of this id over this storage, with the bytes that the session keeps of the metadata:
-    /// those that the registered plugin writes back, and where none is registered and unknown ids are
-    /// kept the metadata itself. Read again, they are kept as they are (`laws::kept_again`). Over a valid storage it refuses 22
-    /// (MetadataRefused) exactly where the registered plugin takes no such metadata, 35 (ExtensionUnregistered)
-    /// exactly where none is registered and unknown ids are refused, and 0 (OutOfMemory).
+    /// Returns the extension of this id over this storage, with the metadata that the session keeps of these bytes:
+    /// what the registered plugin writes back, or the bytes themselves where no plugin is registered and unknown ids
+    /// are kept. Metadata that was kept is kept unchanged when it is read again (`laws::kept_again`).
+    ///
+    /// # Errors
+    ///
+    /// Over a valid storage:
+    ///
+    /// - `MetadataRefused` (22): exactly where the registered plugin doesn't accept the metadata.
+    /// - `ExtensionUnregistered` (35): exactly where no plugin is registered and unknown ids aren't kept.
+    /// - `OutOfMemory` (0): an allocation fails.
     pub fn deserialize(
         &self,
         id: &str,
@@ -112,7 +125,7 @@ impl DTypeSession {
     }
 }
 
-/// How many plugins there are, and whether unknown ids are kept; a plugin has no text.
+/// Prints the number of plugins and the flag; plugins themselves can't be printed.
 impl fmt::Debug for DTypeSession {
     fn fmt<W: fmt::Write>(&self, f: &mut fmt::Formatter<W>) -> fmt::Result {
         f.debug_struct("DTypeSession")
@@ -122,7 +135,7 @@ impl fmt::Debug for DTypeSession {
     }
 }
 
-/// Every session is lawful: the laws of a plugin hold of each that is registered.
+/// Every session is lawful: each registered plugin keeps the two laws of plugins.
 pub fn session_laws(session: &DTypeSession)
     ensures { LawfulSession (meaning rewrites session.now) }
 {}

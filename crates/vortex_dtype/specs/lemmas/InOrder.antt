@@ -1,7 +1,7 @@
 -- SPDX-License-Identifier: Apache-2.0
 -- SPDX-FileCopyrightText: Copyright the Vortex contributors
 
--- What the reading function gives is what reads, and its refusals are faults.
+-- The reading function agrees with the relations: its types are those that are read, and its errors are faults.
 use Rattle.std.proofs.Common.{◌≡◌, ◌≢◌, ◌⊎◌, ⊎_elim, inl, inr, ℕ, ℤ, pos, ◌<◌, ◌==◌, List, [], ◌∷◌, length, map, Option, Some, None, Bool, true, false, cond, Result, Ok, Err, IsErr, nat_eq, refl, sym, ap, subst, ◌∙◌, arith}
 use Rattle.std.specs.Int.{w32}
 use Rattle.std.specs.Prelude.{FitsSigned, IfOk}
@@ -343,7 +343,7 @@ struct_counts s ns ms ts k r g = (g.0, λ h. g.1 (h ∙ sym (count_all s ms ts r
 union_counts : (s : Meaning) (ns : List (List ℕ)) (ms : Messages) (gs : List ℤ) (ts : List Tree) (k : VortexError) → read_all s ms ≡ Ok ts → UnionFault ns (length ts) gs k → UnionFault ns (message_count ms) gs k
 union_counts s ns ms gs ts k r g = subst (λ (c : ℕ). UnionFault ns c gs k) (count_all s ms ts r) g
 
--- ---- a refusal is a fault that stands in the message
+-- ---- an error is a fault of the message
 mutual
   unfolding read read_child read_all
 
@@ -386,7 +386,7 @@ reads_or_faulty s m = go (read s m) refl
 
 -- ---- between reading in order and what reads
 
--- what is told is a fault of a message that reads as no type
+-- the error is a fault of the message, which reads as no type
 pub refused_faulty : (s : Meaning) (m : Message) (e : VortexError) → read s m ≡ Err e → Fault s m e × ((t : Tree) → ¬ (Reads s m t))
 refused_faulty s m e is = let f = read_fault s m e is in (f, λ t h. fault_none s m e t f h)
 
@@ -398,7 +398,7 @@ reads_read s m t h = go (read s m) refl
     go (Ok u) is = ap Ok (reads_once s m u t (read_reads s m u is) h)
     go (Err e) is = absurd (fault_none s m e t (read_fault s m e is) h)
 
--- a message that reads as no type gives a refusal, and so does one in which a fault stands
+-- a message that reads as no type gives an error, and so does one with a fault
 pub unread_refused : (s : Meaning) (m : Message) → ((t : Tree) → ¬ (Reads s m t)) → IsErr (read s m)
 unread_refused s m none = go (read s m) refl
   where

@@ -146,12 +146,12 @@ mutual
   admits-variants m none all no_variants = tt
   admits-variants m none all (choice n t g rest) = (admits-all m none all t, admits-variants m none all rest)
 
--- fields behind those that are admitted
+-- fields after those that are admitted
 admits_fields-more : (m : Meaning) (fs : Fields) (qs : List (List ℕ × Tree)) → AdmitsFields m fs → AdmitsFields m (fields qs) → AdmitsFields m (fields (pairs fs ++ qs))
 admits_fields-more m no_fields qs a b = b
 admits_fields-more m (field n t rest) qs a b = (a.0, admits_fields-more m rest qs a.1 b)
 
--- a struct with more fields behind those of one that is admitted
+-- a struct with more fields after those of an admitted one
 pub admits_more : (m : Meaning) (t : Tree) (ps qs : List (List ℕ × Tree)) (n k : Nullability) → struct_fields t ≡ Some ps → Admits m t → Admits m (struct (fields qs) k) → Admits m (struct (fields (ps ++ qs)) n)
 admits_more m (struct fs k') ps qs n k e a b =
     let same : pairs fs ≡ ps = cc in

@@ -1,8 +1,8 @@
 // SPDX-License-Identifier: Apache-2.0
 // SPDX-FileCopyrightText: Copyright the Vortex contributors
 
-// The parts of a type, once they are read, made into the type through the checking constructors. Each function
-// gives what reading gives for that kind (`specs/ReadInOrder`), and none calls itself.
+// Builds the type of each kind from its parts, through the checking constructors. Each function returns what reading
+// gives for that kind (`specs/ReadInOrder`), and none is recursive.
 #![tactic(auto, unfolding(crate::specs::ReadInOrder::primitive_read, crate::specs::ReadInOrder::decimal_read, crate::specs::ReadInOrder::map_read, crate::specs::ReadInOrder::struct_read, crate::specs::ReadInOrder::read_tags, crate::specs::ReadInOrder::union_read, crate::specs::ReadInOrder::extension_read))]
 
 ghost use Rattle.std.specs.Int.{w32};
@@ -30,7 +30,7 @@ use dtype_types::{DType, StructFields, UnionVariants};
 use std::alloc::Global;
 use std::string::String;
 
-// The primitive type of the number.
+// Builds the primitive type of a number.
 pub(crate) fn primitive_of(number: i32, nullable: bool) -> VortexResult<DType>
     ensures gives { Gives tree result (primitive_read number (nullability_of nullable)) }
     ensures number { FitsSigned w32 number }
@@ -42,28 +42,28 @@ pub(crate) fn primitive_of(number: i32, nullable: bool) -> VortexResult<DType>
     }
 }
 
-// The precision, where it is a byte.
+// The precision, if it fits `u8`.
 fn precision_of(precision: u32) -> Option<u8>
     ensures { result ≡ natural_byte precision }
 {
     u8::try_from(precision).ok()
 }
 
-// The scale, where it is a signed byte.
+// The scale, if it fits `i8`.
 fn scale_of(scale: i32) -> Option<i8>
     ensures { result ≡ signed_byte scale }
 {
     i8::try_from(scale).ok()
 }
 
-// The tag, where it is a byte.
+// The tag, if it fits `u8`.
 fn tag_of(tag: i32) -> Option<u8>
     ensures { result ≡ integer_byte tag }
 {
     u8::try_from(tag).ok()
 }
 
-// The decimal of the precision and the scale.
+// Builds the decimal of a precision and a scale.
 pub(crate) fn decimal_of(precision: u32, scale: i32, nullable: bool) -> VortexResult<DType>
     ensures gives { Gives tree result (decimal_read precision scale (nullability_of nullable)) }
     ensures numbers { (precision < 2 ^ 32) × FitsSigned w32 scale }
@@ -79,7 +79,7 @@ pub(crate) fn decimal_of(precision: u32, scale: i32, nullable: bool) -> VortexRe
     Ok(DType::Decimal(decimal, Nullability::from(nullable)))
 }
 
-// The decimal of numbers that fit 8 bits.
+// Builds the decimal of numbers that fit 8 bits.
 fn decimal_within(precision: u8, scale: i8) -> VortexResult<DecimalDType>
     ensures gives { Gives (λ d. d) result (decimal_made precision scale) }
     ensures valid { IfOk result (λ d. IsValidDecimal d) }
@@ -87,7 +87,7 @@ fn decimal_within(precision: u8, scale: i8) -> VortexResult<DecimalDType>
     DecimalDType::try_new(precision, scale)
 }
 
-// The map of the key and the value.
+// Builds the map of a key and a value type.
 #[tactic(auto, using(dtype_types::specs::lemmas::Validity::validity), unfolding(crate::specs::ReadInOrder::map_read))]
 pub(crate) fn map_of(
     alloc: Global,
@@ -103,7 +103,7 @@ pub(crate) fn map_of(
     DType::map(alloc, key, value, keys_sorted, Nullability::from(nullable))
 }
 
-// Names of these texts, in order.
+// Builds the names of texts, in order.
 fn names_of(alloc: Global, texts: &[String]) -> VortexResult<FieldNames>
     ensures { MatchResult result (λ ns. ns ≡ map string_bytes texts.now) (λ e. e ≡ OutOfMemory) }
 {
@@ -114,7 +114,7 @@ fn names_of(alloc: Global, texts: &[String]) -> VortexResult<FieldNames>
     Ok(FieldNames::from_vec(names))
 }
 
-// The struct of the names and the types, of which there must be as many.
+// Builds the struct of names and types, after the check that there are as many of both.
 #[tactic(auto, using(dtype_types::specs::lemmas::Validity::validity), unfolding(crate::specs::ReadInOrder::struct_read))]
 pub(crate) fn struct_of(
     alloc: Global,
@@ -134,7 +134,7 @@ pub(crate) fn struct_of(
     Ok(DType::Struct(fields, Nullability::from(nullable)))
 }
 
-// The tags, each of which must be a byte.
+// Builds the tags, each of which must fit `u8`.
 fn tags_of(alloc: Global, tags: &[i32]) -> VortexResult<Vec<u8>>
     ensures gives { Gives (λ v. v.items) result (read_tags tags.now) }
 {
@@ -148,7 +148,7 @@ fn tags_of(alloc: Global, tags: &[i32]) -> VortexResult<Vec<u8>>
     Ok(bytes)
 }
 
-// The union of the names, the types and the tags.
+// Builds the union of names, types and tags.
 pub(crate) fn union_of(
     alloc: Global,
     names: &[String],
@@ -166,7 +166,7 @@ pub(crate) fn union_of(
     Ok(DType::Union(variants, Nullability::from(nullable)))
 }
 
-// The metadata, empty where it is missing.
+// The metadata, or no bytes where it is missing.
 pub(crate) fn metadata_of(metadata: &Option<Vec<u8>>) -> &[u8]
     ensures { result.now ≡ or_empty (bytes_of metadata.now) }
 {
@@ -176,7 +176,7 @@ pub(crate) fn metadata_of(metadata: &Option<Vec<u8>>) -> &[u8]
     }
 }
 
-// The extension of the storage, with the metadata that the session keeps.
+// Builds the extension of a storage, with the metadata that the session keeps.
 pub(crate) fn extension_of(
     session: &DTypeSession,
     id: &str,

@@ -1,8 +1,8 @@
 // SPDX-License-Identifier: Apache-2.0
 // SPDX-FileCopyrightText: Copyright the Vortex contributors
 
-// Reading goes over the message once, in the order of its fields, and builds the type through the checking
-// constructors of the crates below: what is refused there is refused here, with the same values.
+// Reading walks the message once, in the order of its fields, and builds the type through the checking constructors of
+// the crates below: their errors are returned as they are.
 ghost use Rattle.std.specs.Prelude.{◌≡◌, IfOk};
 ghost use Rattle.dtype_types.specs.TreeOf.{tree};
 ghost use Rattle.dtype_types.specs.Valid.{Valid};
@@ -21,8 +21,8 @@ use dtype_messages::pb;
 use dtype_types::DType;
 use std::alloc::Global;
 
-// The type that the message reads as. It stands whole, with a loop for structs and one for unions, since it may
-// call itself alone: functions of one cycle can't share a parameter that holds a trait object.
+// Reads a message. It is one function, with a loop for structs and one for unions: the checker doesn't accept several
+// functions of one call cycle that share a parameter with a trait object.
 #[tactic(auto, unfolding(crate::specs::ReadInOrder::read))]
 pub(crate) fn read(alloc: Global, proto: &pb::DType, session: &DTypeSession) -> VortexResult<DType>
     ensures gives { Gives tree result (read (meaning rewrites session.now) (message proto.now)) }

@@ -1,8 +1,8 @@
 // SPDX-License-Identifier: Apache-2.0
 // SPDX-FileCopyrightText: Copyright the Vortex contributors
 
-// Messages of types: every child, every flag, names and tags in order, and the metadata, also where it is
-// empty. A kind's message is put together outside the recursion.
+// Messages of types: every child, every flag, names and tags in order, and the metadata, also where it is empty. The
+// functions below `of_kind` build the message of one kind, and are no part of the recursion.
 ghost use Rattle.std.specs.Prelude.{◌≡◌, IfOk, IsOkUnless, map, string_bytes, MatchResult};
 ghost use Rattle.dtype_base.specs.declared.vortex_error.VortexError.TheVariants.{OutOfMemory};
 ghost use Rattle.dtype_types.specs.Tree as of;
@@ -17,7 +17,7 @@ use dtype_types::{DType, ExtDTypeRef, StructFields, UnionVariants};
 use std::alloc::Global;
 use std::string::String;
 
-// The message of the type.
+// Writes a type.
 #[cycle(writing)]
 #[tactic(auto, using(crate::proofs::WrittenParts::flag_is))]
 pub(crate) fn write(alloc: Global, dtype: &DType) -> VortexResult<pb::DType>
@@ -69,7 +69,7 @@ pub(crate) fn write(alloc: Global, dtype: &DType) -> VortexResult<pb::DType>
     }
 }
 
-// The message of a part, boxed.
+// Writes a child, boxed.
 #[cycle(writing)]
 fn write_child(alloc: Global, dtype: &DType) -> VortexResult<Box<pb::DType>>
     ensures { MatchResult result
@@ -79,7 +79,7 @@ fn write_child(alloc: Global, dtype: &DType) -> VortexResult<Box<pb::DType>>
     Ok(Box::new(alloc, proto)?)
 }
 
-// The message of a struct of this nullability.
+// Writes a struct.
 #[cycle(writing)]
 fn write_struct(alloc: Global, fields: &StructFields, n: Nullability) -> VortexResult<pb::DType>
     ensures { MatchResult result
@@ -95,7 +95,7 @@ fn write_struct(alloc: Global, fields: &StructFields, n: Nullability) -> VortexR
     Ok(struct_proto(names, dtypes, n.is_nullable()))
 }
 
-// The message of a union of this nullability.
+// Writes a union.
 #[cycle(writing)]
 fn write_union(alloc: Global, variants: &UnionVariants, n: Nullability) -> VortexResult<pb::DType>
     ensures { MatchResult result
@@ -113,7 +113,7 @@ fn write_union(alloc: Global, variants: &UnionVariants, n: Nullability) -> Vorte
     Ok(union_proto(names, dtypes, tags, n.is_nullable()))
 }
 
-// The message of a kind.
+// Wraps a kind in a message.
 fn of_kind(kind: pb::DtypeType) -> pb::DType
     ensures { message result ≡ kind_message kind }
 {
@@ -122,7 +122,7 @@ fn of_kind(kind: pb::DtypeType) -> pb::DType
     }
 }
 
-// The message of a list of the element.
+// Builds the message of a list of an element.
 fn list_proto(alloc: Global, element: Box<pb::DType>, nullable: bool) -> VortexResult<pb::DType>
     ensures { MatchResult result
         (λ m. message m ≡ list (present (message element.value)) nullable) (λ e. e ≡ OutOfMemory) }
@@ -134,7 +134,7 @@ fn list_proto(alloc: Global, element: Box<pb::DType>, nullable: bool) -> VortexR
     Ok(of_kind(pb::DtypeType::List(Box::new(alloc, list)?)))
 }
 
-// The message of a fixed-size list of the element.
+// Builds the message of a fixed-size list of an element.
 fn fixed_proto(
     alloc: Global,
     element: Box<pb::DType>,
@@ -153,7 +153,7 @@ fn fixed_proto(
     Ok(of_kind(pb::DtypeType::FixedSizeList(Box::new(alloc, list)?)))
 }
 
-// The message of a map of the key and the value.
+// Builds the message of a map of a key and a value.
 fn map_proto(
     alloc: Global,
     key: Box<pb::DType>,
@@ -174,7 +174,7 @@ fn map_proto(
     Ok(of_kind(pb::DtypeType::Map(Box::new(alloc, map)?)))
 }
 
-// The message of a struct of these names and types.
+// Builds the message of a struct of names and types.
 fn struct_proto(names: Vec<String>, dtypes: Vec<pb::DType>, nullable: bool) -> pb::DType
     ensures { let texts = map string_bytes names.items in
         message result ≡ struct texts (messages (map message dtypes.items)) nullable }
@@ -186,7 +186,7 @@ fn struct_proto(names: Vec<String>, dtypes: Vec<pb::DType>, nullable: bool) -> p
     }))
 }
 
-// The message of a union of these names, types and tags.
+// Builds the message of a union of names, types and tags.
 fn union_proto(
     names: Vec<String>,
     dtypes: Vec<pb::DType>,
@@ -205,7 +205,7 @@ fn union_proto(
     }))
 }
 
-// The message of an extension with the id and the metadata of this one.
+// Builds the message of an extension with the id and the metadata of `source`.
 fn extension_proto(
     alloc: Global,
     source: &ExtDTypeRef,

@@ -25,7 +25,7 @@ more_pieces : (x : List ℕ) (ys : List (List ℕ)) → 0 < length ys → withou
 more_pieces x [] some = absurd (omega arith)
 more_pieces x (y ∷ ys) some = refl
 
--- by the clause `byte` of `split_once`; without a newline the text is the line, and nothing is behind it
+-- by the clause `byte` of `split_once`; without a newline the text is the line, and nothing is after it
 pub first_line_is : (w : List ℕ) (r : Option (Bor (List ℕ) × Bor (List ℕ))) (whole : Bor (List ℕ) × Bor (List ℕ)) → 0 < length w → whole.0.now ≡ w → whole.1.now ≡ []
     → MatchOption r (position_or_len is_newline w ≡ length w) (λ x. (x.0.now ≡ before_first is_newline w) × (x.1.now ≡ after_first is_newline w) × (position_or_len is_newline w < length w))
     → lines_of w ≡ (unwrap_or r whole).0.now ∷ lines_of (unwrap_or r whole).1.now

@@ -1,17 +1,17 @@
 -- SPDX-License-Identifier: Apache-2.0
 -- SPDX-FileCopyrightText: Copyright the Vortex contributors
 
--- The type whose paths the program tells, the program's own choice: {a=list({b=u32})?, f=fixed_size_list(u8)[2]}.
+-- The type in which the program looks paths up, its own choice: {a=list({b=u32})?, f=fixed_size_list(u8)[2]}.
 use Rattle.std.specs.Prelude.{codes}
 use Rattle.vortex_dtype.specs.Types.Nullability.TheVariants.{NonNullable, Nullable}
 use Rattle.vortex_dtype.specs.Types.PType.TheVariants.{U8, U32}
 use Rattle.vortex_dtype.specs.Tree.{Tree, primitive, list, fixed_size_list, struct, field, no_fields}
 
--- of the field a
+-- the type of the field a
 abbrev pub list_tree : Tree
 list_tree = list (struct (field (codes "b") (primitive U32 NonNullable) no_fields) NonNullable) Nullable
 
--- of the field f
+-- the type of the field f
 abbrev pub pair_tree : Tree
 pair_tree = fixed_size_list (primitive U8 NonNullable) 2 NonNullable
 

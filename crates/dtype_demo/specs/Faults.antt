@@ -14,7 +14,7 @@ fault_text InputTooLong = codes "input too long"
 fault_text NotUtf8 = codes "not UTF-8"
 fault_text OutOfMemory = codes "out of memory"
 
--- the fault comes before the first write
+-- with this fault nothing has been written
 abbrev pub BeforeWriting : DemoFault → Type 0
 BeforeWriting ReadFailed = Unit {0}
 BeforeWriting InputTooLong = Unit {0}

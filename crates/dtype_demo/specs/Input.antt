@@ -10,6 +10,6 @@ use Rattle.std.specs.Io.KnownBytes.{Consumes}
 abbrev pub input_limit : ℕ
 input_limit = 1048576
 
--- a reader whose bytes are known gives up at most n of them, from the front
+-- at most n bytes are taken from the front of a reader whose bytes are known
 abbrev pub TakesAtMost : ℕ → Option (List ℕ) → Option (List ℕ) → Type 0
 TakesAtMost n old new = (taken : List ℕ) × Consumes old new taken × (length taken ≤ n)

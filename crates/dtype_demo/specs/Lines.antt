@@ -2,14 +2,14 @@
 -- SPDX-FileCopyrightText: Copyright the Vortex contributors
 
 -- What the program's input means: lines, and each line as a path. From the documentation of the program
--- (`src/main.rt`); lines are cut as by `str::lines` of std, but that a carriage return stays.
+-- (`src/main.rt`); lines are split as by `str::lines` of std, except that a carriage return is kept.
 use Rattle.std.specs.Prelude.{ℕ, ◌==◌, List, [], ◌∷◌, codes, length, map, if◌then◌else◌}
 use Rattle.std.specs.List.{slice_split}
 use Rattle.std.specs.Str.{bytes_eq}
 use Rattle.vortex_dtype.specs.Types.Field.{Field}
 use Rattle.vortex_dtype.specs.Types.Field.TheVariants.{Name, ElementType}
 
--- the last piece, where it is empty, is no line
+-- an empty last piece is no line
 abbrev pub without_empty_end : List (List ℕ) → List (List ℕ)
 without_empty_end [] = []
 without_empty_end (x ∷ []) = if length x == 0 then [] else x ∷ []

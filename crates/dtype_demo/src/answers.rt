@@ -39,7 +39,7 @@ pub fn write_answers<W: Write>(
     Ok(())
 }
 
-// Writes the answer to one line: its path, and the type along it.
+// Writes the answer to one line: its path, and the type at that path.
 fn answer<W: Write>(dtype: &DType, path: &FieldPath, writer: &mut W) -> Result<(), DemoFault>
     ensures ok { OnOk result (Appends (W.contents writer.old) (W.contents writer.new)
         (answer_text (tree dtype.now) path.now)) }

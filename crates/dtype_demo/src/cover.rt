@@ -26,7 +26,7 @@ pub fn write_cover<W: Write>(
     Ok(())
 }
 
-// The texts of the cover of the paths, in the order of their bytes. Refuses 0 (OutOfMemory) alone.
+// Returns the texts of the cover of the paths, in the order of their bytes. The only error is `OutOfMemory` (0).
 fn cover_texts(alloc: Global, paths: FieldPathSet) -> VortexResult<Vec<String>>
     ensures ok { IfOk result (λ v. IsCover paths (map (λ s. string_bytes s) v.items)) }
     ensures refused { IsOkUnless result OutOfMemory }
@@ -39,7 +39,7 @@ fn cover_texts(alloc: Global, paths: FieldPathSet) -> VortexResult<Vec<String>>
     Ok(texts)
 }
 
-// `cover:`, and each text behind a space. Refuses 0 (OutOfMemory) alone.
+// Returns `cover:` and the texts, each after a space. The only error is `OutOfMemory` (0).
 fn spaced(alloc: Global, texts: &[String]) -> VortexResult<String>
     ensures ok { IfOk result (λ s.
         string_bytes s ≡ cover_text (map (λ t. string_bytes t) texts.now)) }

@@ -11,8 +11,8 @@ ghost use Rattle.dtype_demo.specs.DemoTree.{demo_tree};
 use std::alloc::Global;
 use vortex_dtype::{DType, FieldDType, FieldName, Nullability, PType, VortexResult};
 
-// The type whose paths the program tells: {a=list({b=u32})?, f=fixed_size_list(u8)[2]}. Refuses 0
-// (OutOfMemory) alone.
+// Builds the type in which the paths are looked up: {a=list({b=u32})?, f=fixed_size_list(u8)[2]}. The only error is
+// `OutOfMemory` (0).
 pub fn demo_dtype(alloc: Global) -> VortexResult<DType>
     ensures ok { IfOk result (λ d. tree d ≡ demo_tree) }
     ensures refused { IsOkUnless result OutOfMemory }
@@ -27,7 +27,7 @@ pub fn demo_dtype(alloc: Global) -> VortexResult<DType>
     struct_of(alloc, vec![in alloc; list, pair]?)
 }
 
-// A field of this name and type. Refuses 0 (OutOfMemory) alone.
+// Builds a field of this name and type. The only error is `OutOfMemory` (0).
 fn field(alloc: Global, name: &str, dtype: DType) -> VortexResult<(FieldName, FieldDType)>
     ensures ok { IfOk result (λ f. (f.0 ≡ name.now) × (field_tree f.1 ≡ tree dtype)) }
     ensures refused { IsOkUnless result OutOfMemory }
@@ -35,7 +35,7 @@ fn field(alloc: Global, name: &str, dtype: DType) -> VortexResult<(FieldName, Fi
     Ok((FieldName::new(alloc, name)?, FieldDType::from(dtype)))
 }
 
-// The non-nullable struct of these fields. Refuses 0 (OutOfMemory) alone.
+// Builds the non-nullable struct of these fields. The only error is `OutOfMemory` (0).
 fn struct_of(alloc: Global, fields: Vec<(FieldName, FieldDType)>) -> VortexResult<DType>
     ensures ok { IfOk result (λ d.
         tree d ≡ struct (given_fields fields.items) Nullability.NonNullable) }

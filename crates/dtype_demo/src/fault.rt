@@ -9,18 +9,18 @@ use std::error::Error;
 use std::fmt;
 use vortex_dtype::VortexError;
 
-/// Why the program gave up.
+/// Why the program failed.
 #[derive(Clone, Copy, Debug, PartialEq, Eq)]
 pub enum DemoFault {
     /// The reader failed.
     ReadFailed,
     /// The writer failed.
     WriteFailed,
-    /// There are more than 1,048,576 bytes of input.
+    /// The input has more than 1,048,576 bytes.
     InputTooLong,
     /// The input isn't UTF-8.
     NotUtf8,
-    /// A request for memory was refused.
+    /// An allocation failed.
     OutOfMemory,
 }
 
@@ -50,7 +50,7 @@ impl From<AllocError> for DemoFault {
     }
 }
 
-// What the program asks of the library is refused for want of memory alone.
+// Out of memory is the only error of the library calls that the program makes.
 impl From<VortexError> for DemoFault {
     ghost from_gives = { λ _ e. e ≡ OutOfMemory };
 

@@ -8,11 +8,11 @@ use crate::DemoFault;
 use std::alloc::Global;
 use std::io::Read;
 
-/// The greatest number of bytes of input.
+/// The greatest number of bytes of input that the program takes.
 pub const INPUT_LIMIT: usize = 1_048_576;
 
-// All that the reader gives, up to the limit. Where there is more, one byte of that is read, and no
-// further. Each read but the last gives a byte, so there are no more reads than that.
+// Reads the whole input, up to the limit. Where there is more, only one byte past the limit is read. Each read but the
+// last gives a byte, so there are at most as many reads as bytes, and one.
 pub fn read_all<R: Read>(alloc: Global, reader: &mut R) -> Result<Vec<u8>, DemoFault>
     ensures all { IfOk result (λ v. IfSome (R.remaining reader.old) (λ bytes. v.items ≡ bytes)) }
     ensures within { IfOk result (λ v. vec_len v ≤ input_limit) }

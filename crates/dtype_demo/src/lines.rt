@@ -8,7 +8,7 @@ ghost use Rattle.dtype_demo.specs.Lines.{lines_of, part_of, parts_of};
 use std::alloc::Global;
 use vortex_dtype::{Field, FieldName, FieldPath, VortexResult};
 
-// The first line of a text that isn't empty, and what is behind its newline.
+// The first line of a text that isn't empty, and the text after its newline.
 pub fn first_line(text: &str) -> (&str, &str)
     requires { 0 < length text.now }
     ensures lines { lines_of text.now ≡ result.0.now ∷ lines_of result.1.now }
@@ -17,7 +17,7 @@ pub fn first_line(text: &str) -> (&str, &str)
     text.split_once('\n').unwrap_or((text, ""))
 }
 
-// The path that a line means. Refuses 0 (OutOfMemory) alone.
+// Returns the path that a line means. The only error is `OutOfMemory` (0).
 pub fn parse_line(alloc: Global, line: &str) -> VortexResult<FieldPath>
     ensures ok { IfOk result (λ p. p ≡ parts_of line.now) }
     ensures refused { IsOkUnless result OutOfMemory }
@@ -33,8 +33,8 @@ pub fn parse_line(alloc: Global, line: &str) -> VortexResult<FieldPath>
     Ok(FieldPath::from_vec(parts))
 }
 
-// The step that a part means. A name that is the step before it too shares that one's text, so a long path of one name
-// takes half the memory. Refuses 0 (OutOfMemory) alone.
+// Returns the step that a part means. Where the step before has the same name, the two share its text, so that a long
+// path of one name takes half the memory. The only error is `OutOfMemory` (0).
 fn parse_part(alloc: Global, part: &str, before: Option<&Field>) -> VortexResult<Field>
     ensures ok { IfOk result (λ f. f ≡ part_of part.now) }
     ensures refused { IsOkUnless result OutOfMemory }

@@ -1,17 +1,16 @@
 // SPDX-License-Identifier: Apache-2.0
 // SPDX-FileCopyrightText: Copyright the Vortex contributors
 
-//! A program that tells, for each path on standard input, the type that stands along it in one type.
+//! A program that prints, for each field path on standard input, the type at that path in one fixed type.
 //!
-//! Each line is a path: its parts are split at `.`, the part `[]` is the element of a list, every other
-//! part is a name, and the empty line is the root. The type is
-//! `{a=list({b=u32})?, f=fixed_size_list(u8)[2]}`. For each line it prints the path, ` = `, and the type
-//! found or `none`. The last line is `cover:` and, each behind a space, the paths that no other path
-//! begins, in the order of their texts' bytes.
+//! Each line is a path. It is split at `.`; the part `[]` is the element of a list, every other part is a name, and the
+//! empty line is the root. The type is `{a=list({b=u32})?, f=fixed_size_list(u8)[2]}`. For each line the program prints
+//! the path, ` = `, and the type found or `none`. The last line is `cover:` and, each after a space, the paths of which
+//! no other path is a beginning, in the order of the bytes of their texts.
 //!
-//! Begin with `run`, which does the work over any reader and writer. The definitions are in `specs/`:
-//! `Lines` (what a line means), `DemoTree` (the type), `Output` (what is printed), `Faults`. What is
-//! proved, and what is only tested, is in `docs/PROMISES.md`.
+//! Begin with `run`, which works on any reader and writer. The definitions are in `specs/`: `Lines` (what a line
+//! means), `DemoTree` (the type), `Output` (what is printed), `Faults`. `docs/PROMISES.md` says what is proved and
+//! what is only tested.
 #![tactic(auto)]
 
 ghost use Rattle.std.specs.Prelude.{◌≡◌, ◌+◌, ◌<◌, ◌≤◌, length, IsUtf8, IfErr, IfSome, IsErrOf, OnOk};
@@ -38,14 +37,19 @@ mod tests;
 
 pub use fault::DemoFault;
 
-/// Answers each line that the reader gives, to the writer, then tells their cover, and flushes. It
-/// reads to the end first, at most 1,048,576 bytes and one that shows that there are more, in as many
-/// reads; then it tests the whole input for UTF-8, and only then does it write.
+/// Answers each line of the reader's input to the writer, then writes the cover of the paths, and flushes. It first
+/// reads the whole input, at most 1,048,576 bytes and one more that shows that there are more, in at most as many
+/// reads; then it checks the input for UTF-8; and only then it writes.
 ///
-/// `ReadFailed` is any error of the reader, `InputTooLong` a byte past the limit, `NotUtf8` an input
-/// that isn't UTF-8: with these nothing is written. `WriteFailed` is any error of the writer, so the
-/// input is a text within the limit, and `OutOfMemory` a refused growth: what stands written then isn't
-/// said.
+/// # Errors
+///
+/// In this order; with the first three nothing is written, and with the others any part of the output may be:
+///
+/// - `ReadFailed`: the reader returns an error.
+/// - `InputTooLong`: the input has more than 1,048,576 bytes.
+/// - `NotUtf8`: the input isn't UTF-8.
+/// - `WriteFailed`: the writer returns an error.
+/// - `OutOfMemory`: an allocation fails, while it reads or while it writes.
 pub fn run<R: Read, W: Write>(
     alloc: Global,
     reader: &mut R,
@@ -76,7 +80,7 @@ pub fn run<R: Read, W: Write>(
     write_answers(alloc, &dtype, text, writer)
 }
 
-// `run` on the standard streams.
+// Runs on the standard streams.
 fn run_on_streams(rt: &(impl Input + Print + AllocGlobal)) -> Result<(), DemoFault> {
     let alloc = rt.alloc();
     let mut output = BufWriter::new(alloc, io::writer(rt)).map_err(|_| DemoFault::OutOfMemory)?;

@@ -12,8 +12,8 @@ const LINES: &[u8] = b"a.[].b\na.[]\na.b\nx\n";
 const ANSWERS: &[u8] =
     b"$a.[].$b = u32\n$a.[] = {b=u32}\n$a.$b = none\n$x = none\ncover: $a.$b $a.[] $x\n";
 
-// Gives so many bytes of its reader at a time, and fails when it has been read so often; one that goes on is then
-// interrupted, and fails at that read alone, as if nothing had been.
+// A reader that gives at most `most` bytes a read, and fails after `reads_left` reads: at that one read where it goes
+// on, else at each read from then on.
 #[derive(Drop)]
 struct FailsToRead<R> {
     reader: R,
@@ -37,8 +37,8 @@ impl<R: Read> Read for FailsToRead<R> {
     }
 }
 
-// Takes two bytes a write, and fails when it has been written or flushed so often; one that goes on fails at that
-// write or flush alone.
+// A writer that takes two bytes a write, and fails after so many writes and flushes: at that one where it goes on, else
+// from then on.
 #[derive(Drop)]
 struct FailsToWrite {
     taken: Vec<u8>,
@@ -72,7 +72,7 @@ impl Write for FailsToWrite {
     }
 }
 
-// What `run` answers, and what it wrote.
+// The result of `run`, and what it wrote.
 fn outcome<R: Read + Drop>(alloc: Global, mut reader: R) -> (Result<(), DemoFault>, Vec<u8>) {
     let mut written = Vec::new(alloc);
     let result = run(alloc, &mut reader, &mut written);
@@ -135,10 +135,10 @@ fn lines(reads_left: usize, goes_on: bool) -> FailsToRead<&'static [u8]> {
     }
 }
 
-// Each read but the last gives bytes, and the last finds the end. A read that failed isn't tried again, though the
+// Each read but the last gives bytes, and the last finds the end. A read that failed isn't tried again, even where the
 // reader would go on.
 #[test]
-fn each_read_that_fails_is_told(rt: HostRuntime) {
+fn each_failed_read_is_reported(rt: HostRuntime) {
     let reads = LINES.len().div_ceil(3) + 1;
     for reads_left in 0..reads {
         for goes_on in [false, true] {
@@ -153,8 +153,8 @@ fn each_read_that_fails_is_told(rt: HostRuntime) {
     assert!(rt; result == Ok(()) && written.as_slice() == ANSWERS);
 }
 
-// So many names `a` without an end, so many bytes a read, in as many reads as there are bytes that are taken, and one
-// that finds the end or the byte behind the limit.
+// The result for an input of `length` letters, at most `most` a read, from a reader that fails after one read for each
+// byte within the limit, and one that finds the end or the byte past the limit.
 fn read_in_time(alloc: Global, length: usize, most: usize) -> Result<(), DemoFault> {
     let reader = FailsToRead {
         reader: io::repeat(b'a').take(length as u64),
@@ -177,7 +177,7 @@ fn each_byte_takes_a_read_at_most(rt: HostRuntime) {
     }
 }
 
-// What `run` answers to one that fails so often written or flushed.
+// The result of `run` with this writer.
 fn written_to(writer: &mut FailsToWrite, alloc: Global) -> Result<(), DemoFault> {
     let mut lines = LINES;
     run(alloc, &mut lines, writer)
@@ -191,10 +191,10 @@ fn fails_to_write(alloc: Global, writes_left: usize, goes_on: bool) -> FailsToWr
     }
 }
 
-// The writes that occur are at least one for each two bytes, and the flush. What failed isn't tried again, though the
+// There is at least one write for each two bytes, and the flush. A write that failed isn't tried again, even where the
 // writer would go on.
 #[test]
-fn each_write_that_fails_is_told(rt: HostRuntime) {
+fn each_failed_write_is_reported(rt: HostRuntime) {
     let mut whole = fails_to_write(rt.alloc(), usize::MAX, false);
     assert!(rt; written_to(&mut whole, rt.alloc()) == Ok(()) && whole.taken.as_slice() == ANSWERS);
     let writes = usize::MAX.wrapping_sub(whole.writes_left);

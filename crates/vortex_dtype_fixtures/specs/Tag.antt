@@ -1,7 +1,7 @@
 -- SPDX-License-Identifier: Apache-2.0
 -- SPDX-FileCopyrightText: Copyright the Vortex contributors
 
--- The plugins under the id `x.tag`: one lowers ASCII letters and refuses an exclamation mark, the
+-- The plugins under the id `x.tag`: one lowers ASCII letters and doesn't accept an exclamation mark, the
 -- other keeps all bytes.
 use Rattle.std.specs.Prelude.{◌≡◌, ℕ, ◌+◌, ◌<◌, ◌≤◌, List, [], ◌∷◌, Option, Some, None, Bool, true, false, ◌&&◌, ◌||◌, nat_eq, nat_le, if◌then◌else◌, All, map, refl}
 use Rattle.std.specs.List.{list_any}
@@ -22,7 +22,7 @@ low x = if nat_le 65 x && nat_le x 90 then x + 32 else x
 abbrev pub lowered : List ℕ → Option (List ℕ)
 lowered b = if list_any (λ x. nat_eq x 33) b then None else Some (map low b)
 
--- a byte that reading lowers or refuses
+-- a byte that reading lowers or doesn't accept
 abbrev pub is_changed : ℕ → Bool
 is_changed x = nat_eq x 33 || (nat_le 65 x && nat_le x 90)
 

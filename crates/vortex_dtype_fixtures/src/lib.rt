@@ -1,11 +1,15 @@
 // SPDX-License-Identifier: Apache-2.0
 // SPDX-FileCopyrightText: Copyright the Vortex contributors
 
-//! What tests and programs read. Messages made by hand: each function gives the message of one kind, with the
-//! parts that it is handed, faulty ones too, and nothing else is promised of them. And the extension types that
-//! they know (`plugins`), which keep what the library asks of its plugins.
+//! Messages and extension types for tests and programs. Each function builds the message of one kind from the parts
+//! that it is given, faulty ones too. `plugins` has extension types, which prove the laws that the library asks of
+//! plugins.
 //!
-//! Begin with `of`, the message of a kind.
+//! Begin with `of`, which builds the message of a kind.
+//!
+//! # Errors
+//!
+//! Every function that returns a `VortexResult` has one error, `OutOfMemory` (0): an allocation fails.
 #![tactic(auto)]
 
 use std::alloc::Global;
@@ -16,39 +20,39 @@ mod plugins;
 
 pub use plugins::{AllKept, Tag, TagName, TextAlone, Word};
 
-/// A message of this kind.
+/// Builds a message of this kind.
 pub fn of(kind: pb::DtypeType) -> pb::DType {
     pb::DType {
         dtype_type: Some(kind),
     }
 }
 
-/// A message without a kind.
+/// Builds a message without a kind.
 pub fn nothing() -> pb::DType {
     pb::DType { dtype_type: None }
 }
 
-/// The message of the null type.
+/// Builds the null type.
 pub fn null() -> pb::DType {
     of(pb::DtypeType::Null(pb::Null {}))
 }
 
-/// A primitive type, by its number.
+/// Builds the primitive type of this number.
 pub fn primitive(ptype: i32, nullable: bool) -> pb::DType {
     of(pb::DtypeType::Primitive(pb::Primitive { ptype, nullable }))
 }
 
-/// `u8`.
+/// Builds a non-nullable `u8`.
 pub fn byte() -> pb::DType {
     primitive(0, false)
 }
 
-/// A text.
+/// Builds a UTF-8 string type.
 pub fn text(nullable: bool) -> pb::DType {
     of(pb::DtypeType::Utf8(pb::Utf8 { nullable }))
 }
 
-/// A decimal.
+/// Builds a decimal type.
 pub fn decimal(precision: u32, scale: i32, nullable: bool) -> pb::DType {
     of(pb::DtypeType::Decimal(pb::Decimal {
         precision,
@@ -64,7 +68,7 @@ fn boxed(alloc: Global, child: Option<pb::DType>) -> VortexResult<Option<Box<pb:
     }
 }
 
-/// A list of this element.
+/// Builds a list of this element type.
 pub fn list(alloc: Global, element: Option<pb::DType>, nullable: bool) -> VortexResult<pb::DType> {
     let list = pb::List {
         element_type: boxed(alloc, element)?,
@@ -73,7 +77,7 @@ pub fn list(alloc: Global, element: Option<pb::DType>, nullable: bool) -> Vortex
     Ok(of(pb::DtypeType::List(Box::new(alloc, list)?)))
 }
 
-/// A fixed-size list of so many.
+/// Builds a non-nullable fixed-size list of `size` elements.
 pub fn fixed(alloc: Global, element: Option<pb::DType>, size: u32) -> VortexResult<pb::DType> {
     let list = pb::FixedSizeList {
         element_type: boxed(alloc, element)?,
@@ -83,7 +87,7 @@ pub fn fixed(alloc: Global, element: Option<pb::DType>, size: u32) -> VortexResu
     Ok(of(pb::DtypeType::FixedSizeList(Box::new(alloc, list)?)))
 }
 
-/// A nullable map.
+/// Builds a nullable map.
 pub fn map(
     alloc: Global,
     key: Option<pb::DType>,
@@ -99,7 +103,7 @@ pub fn map(
     Ok(of(pb::DtypeType::Map(Box::new(alloc, map)?)))
 }
 
-/// These names.
+/// Copies these names.
 pub fn texts(alloc: Global, items: &[&str]) -> VortexResult<Vec<String>> {
     let mut all = Vec::new(alloc);
     for item in items {
@@ -108,7 +112,7 @@ pub fn texts(alloc: Global, items: &[&str]) -> VortexResult<Vec<String>> {
     Ok(all)
 }
 
-/// So many bytes, `u8` each.
+/// Builds `count` types `u8`.
 pub fn bytes(alloc: Global, count: usize) -> VortexResult<Vec<pb::DType>> {
     let mut all = Vec::new(alloc);
     for _ in 0..count {
@@ -117,7 +121,7 @@ pub fn bytes(alloc: Global, count: usize) -> VortexResult<Vec<pb::DType>> {
     Ok(all)
 }
 
-/// A nullable struct of these names and so many bytes.
+/// Builds a nullable struct of these names and `count` types `u8`.
 pub fn fields(alloc: Global, names: &[&str], count: usize) -> VortexResult<pb::DType> {
     Ok(of(pb::DtypeType::Struct(pb::Struct {
         names: texts(alloc, names)?,
@@ -126,7 +130,7 @@ pub fn fields(alloc: Global, names: &[&str], count: usize) -> VortexResult<pb::D
     })))
 }
 
-/// A union of these names, so many bytes, and these tags.
+/// Builds a non-nullable union of these names, `count` types `u8`, and these tags.
 pub fn union_of(
     alloc: Global,
     names: &[&str],
@@ -141,7 +145,7 @@ pub fn union_of(
     })))
 }
 
-/// An extension.
+/// Builds an extension.
 pub fn extension(
     alloc: Global,
     id: &str,
@@ -160,7 +164,7 @@ pub fn extension(
     Ok(of(pb::DtypeType::Extension(Box::new(alloc, extension)?)))
 }
 
-/// An extension over a nullable text.
+/// Builds an extension over a nullable UTF-8 string type.
 pub fn tagged(alloc: Global, id: &str, metadata: Option<&[u8]>) -> VortexResult<pb::DType> {
     extension(alloc, id, Some(text(true)), metadata)
 }

@@ -1,9 +1,9 @@
 // SPDX-License-Identifier: Apache-2.0
 // SPDX-FileCopyrightText: Copyright the Vortex contributors
 
-// Extension types as a user would write them: `x.tag` as a vtable that lowers ASCII letters and refuses an
-// exclamation mark, a second plugin under its id that keeps all bytes, `x.text` as a plugin that takes
-// texts without metadata, and `x.word` as a vtable that takes texts with the metadata of `x.tag`.
+// Extension types as a user would write them: `x.tag` as a vtable that lowers ASCII letters and doesn't accept an
+// exclamation mark, a second plugin under its id that keeps all bytes, `x.text` as a plugin that accepts UTF-8 strings
+// without metadata, and `x.word` as a vtable that accepts UTF-8 strings with the metadata of `x.tag`.
 ghost use Rattle.std.specs.List.{list_any};
 ghost use Rattle.std.specs.Prelude.{◌≡◌, ◌⊎◌, IfErr, IfOk, None, Some, map, nat_eq};
 ghost use Rattle.dtype_base.specs.declared.vortex_error.VortexError.TheVariants.{OutOfMemory, MetadataRefused};
@@ -16,7 +16,7 @@ use vortex_dtype::{DType, ExtDTypePlugin, ExtVTable, VortexError, VortexResult};
 #[derive(Debug, Drop, PartialEq, Eq)]
 pub struct TagName(pub Vec<u8>);
 
-/// The library of `x.tag`, which takes every storage.
+/// The vtable of `x.tag`, which accepts every storage.
 #[derive(Debug, Default, Drop)]
 pub struct Tag;
 
@@ -62,7 +62,7 @@ impl ExtVTable for Tag {
     ghost typed = { λ _. tag_typed };
 }
 
-/// A second plugin under `x.tag`, which keeps all bytes.
+/// A second plugin of `x.tag`, which keeps all bytes.
 #[derive(Debug, Drop)]
 pub struct AllKept;
 
@@ -90,7 +90,7 @@ impl ExtDTypePlugin for AllKept {
     ghost lawful = { λ _. all_kept_laws };
 }
 
-/// The plugin of `x.text`: `utf8` of either nullability, with no metadata.
+/// The plugin of `x.text`, which accepts `utf8` of either nullability without metadata.
 #[derive(Debug, Drop)]
 pub struct TextAlone;
 
@@ -122,7 +122,7 @@ impl ExtDTypePlugin for TextAlone {
     ghost lawful = { λ _. text_laws };
 }
 
-/// The library of `x.word`: the metadata of `x.tag`, over `utf8` of either nullability.
+/// The vtable of `x.word`, which accepts `utf8` of either nullability with the metadata of `x.tag`.
 #[derive(Debug, Default, Drop)]
 pub struct Word;
 
@@ -207,7 +207,7 @@ fn each_lowered(alloc: Global, bytes: &[u8]) -> Result<Vec<u8>, AllocError>
     bytes.iter().map(|b| lower_byte(*b)).collect(alloc)
 }
 
-// The bytes are copied first, so that a refusal leaves a copy to be dropped.
+// The bytes are copied first, so that the error leaves a copy to be dropped.
 fn all_lowered(alloc: Global, bytes: &[u8]) -> VortexResult<Vec<u8>>
     ensures ok { IfOk result (λ v. lowered bytes.now ≡ Some v.items) }
     ensures refused { IfErr result (λ e. (e ≡ OutOfMemory)

@@ -17,7 +17,7 @@ pub(crate) fn faults(
     Ok(found)
 }
 
-// Adds the number of a fault, where the fault stands.
+// Adds the number of a fault, where there is one.
 fn note(found: &mut Vec<u8>, stands: bool, number: u8) -> Result<(), AllocError> {
     if stands {
         found.push(number)?;

@@ -26,12 +26,12 @@ pub(crate) struct Generator {
     detail: Random,
     // One choice in so many is made a fault, and none where this is 0.
     fault_rate: usize,
-    // What was made and stands in nothing yet.
+    // The messages that are in no other yet.
     made: Vec<pb::DType>,
 }
 
 impl Generator {
-    // A fault stands in about every third message.
+    // About every third message has a fault.
     pub(crate) fn new(alloc: Global, shape: Random, detail: Random) -> Self {
         let mut generator = Generator {
             alloc,
@@ -53,7 +53,7 @@ impl Generator {
         self.fault_rate > 0 && self.shape.below(self.fault_rate) == 0
     }
 
-    // The next message. It grows from its leaves: each step takes some of what was made into something new.
+    // The next message. It grows from its leaves: each step puts some of the messages that were made into a new one.
     pub(crate) fn message(&mut self) -> VortexResult<pb::DType> {
         let steps = self.shape.below(24);
         for _ in 0..steps {

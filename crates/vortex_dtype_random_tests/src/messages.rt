@@ -1,7 +1,7 @@
 // SPDX-License-Identifier: Apache-2.0
 // SPDX-FileCopyrightText: Copyright the Vortex contributors
 
-// Many thousands of random messages, of every kind and with every fault: each is refused by its first fault, or
+// Many thousands of random messages, of every kind and with every fault: reading returns the first fault, or the message
 // has none, and is then written and read back.
 use crate::faults::faults;
 use crate::generator::message;
@@ -49,8 +49,8 @@ fn random_messages_are_kept_or_refused_by_their_first_fault(rt: HostRuntime) -> 
     Ok(())
 }
 
-// By which number the message of this seed is refused, if it is, after the asserts on it; and whether it has several
-// faults.
+// The number of the error for the message of this seed, if it has any, after the asserts on it; and whether it has
+// several faults.
 fn tried(
     rt: &impl Abort,
     alloc: Global,
@@ -63,7 +63,7 @@ fn tried(
     Ok((number, found.len() > 1))
 }
 
-// By which number the message with these faults is refused, if it is, after the asserts on it.
+// The number of the error for the message with these faults, if it has any, after the asserts on it.
 fn answer(
     rt: &impl Abort,
     alloc: Global,

@@ -37,7 +37,7 @@ impl Model {
         self.is_same_erased(other) && pairs.all(|(below, above)| !*below || *above)
     }
 
-    // Whether the word stands in its text.
+    // Whether the text contains the word.
     pub(crate) fn says(&self, word: &str) -> bool {
         self.text.as_str().contains(word)
     }
@@ -147,7 +147,7 @@ fn tags(alloc: Global, tags: &[i32], model: &mut Model) -> Result<(), AllocError
     Ok(())
 }
 
-// The bytes as they are kept, behind their number: `x.tag` lowers its letters, and missing metadata is none.
+// The bytes as they are kept, after their number: `x.tag` lowers its letters, and missing metadata is none.
 fn metadata(alloc: Global, p: &pb::Extension, model: &mut Model) -> Result<(), AllocError> {
     let Some(bytes) = &p.metadata else {
         return model.say(alloc, &0);

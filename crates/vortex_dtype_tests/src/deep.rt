@@ -1,7 +1,7 @@
 // SPDX-License-Identifier: Apache-2.0
 // SPDX-FileCopyrightText: Copyright the Vortex contributors
 
-// Messages of types and extensions 200 deep, which is more than a row of the console takes.
+// Messages of types and extensions 200 deep, which is more than a command of the console takes.
 use crate::sessions::tagging;
 use std::alloc::Global;
 use std::test::Fail;
@@ -40,7 +40,7 @@ fn deep_extension(alloc: Global, metadata: &[u8]) -> VortexResult<pb::DType> {
     Ok(proto)
 }
 
-// Whether the message is refused by this number.
+// Whether reading the message returns the error of this number.
 fn is_refused(
     alloc: Global,
     session: &DTypeSession,

@@ -1,9 +1,9 @@
 // SPDX-License-Identifier: Apache-2.0
 // SPDX-FileCopyrightText: Copyright the Vortex contributors
 
-//! Tests of `vortex_dtype`, a module a topic: what no row of the console says, such as types 200 deep, typed
-//! extensions, what a refused downcast hands back, sessions that are handed out, and the code of the tutorial. They
-//! stand on what a user sees, the public items alone; what holds of every value is proved in the crate itself.
+//! Tests of `vortex_dtype`, a module a topic, of what the console can't show: types 200 deep, typed extensions, what a
+//! failed downcast hands back, functions that return a session, and the code of the tutorial. They use public items
+//! alone; what holds of every value is proved in the crate itself.
 #![tactic(auto)]
 
 #[cfg(test)]

@@ -26,7 +26,7 @@ fn message_of(alloc: Global, names: &[Option<&str>]) -> VortexResult<pb::FieldPa
 }
 
 #[test]
-fn paths_of_equal_length_are_told_apart(rt: HostRuntime) -> Result<(), Fail> {
+fn paths_of_equal_length_differ_by_their_names(rt: HostRuntime) -> Result<(), Fail> {
     let alloc = rt.alloc();
     let proto = message_of(alloc, &[Some("a"), Some("b")])?;
     for (names, is_equal) in [

@@ -1,7 +1,7 @@
 // SPDX-License-Identifier: Apache-2.0
 // SPDX-FileCopyrightText: Copyright the Vortex contributors
 
-// Sessions, plugins and typed extensions at work.
+// Sessions, plugins and typed extensions.
 use dtype_fixtures::is_printed;
 use std::alloc::Global;
 use std::fmt::Debug;
@@ -22,13 +22,13 @@ pub(crate) fn tagging(alloc: Global) -> VortexResult<DTypeSession> {
     Ok(session)
 }
 
-// An extension without its library.
+// An erased extension.
 fn erased(alloc: Global, id: &str, metadata: &[u8], storage: DType) -> VortexResult<ExtDTypeRef> {
     let metadata = Vec::from_slice(alloc, metadata)?;
     ExtDTypeRef::from_parts(alloc, ExtId::new(alloc, id)?, metadata, storage)
 }
 
-// Whether the downcast is refused by this number, and hands back what was handed in.
+// Whether the downcast returns the error of this number, and hands back an equal extension.
 fn is_handed_back<V: ExtVTable + Drop>(
     alloc: Global,
     vtable: V,
@@ -61,7 +61,7 @@ fn tag(alloc: Global, bytes: &[u8]) -> VortexResult<ExtDType<Tag>> {
     ExtDType::try_new(alloc, metadata, DType::Null)
 }
 
-// Whether the text of `Debug` is this.
+// Whether this is the `Debug` text.
 fn is_shown<T: Debug>(alloc: Global, value: &T, text: &str) -> VortexResult<bool> {
     Ok(format!(in alloc; "{value:?}")?.as_str() == text)
 }

@@ -1,8 +1,8 @@
 // SPDX-License-Identifier: Apache-2.0
 // SPDX-FileCopyrightText: Copyright the Vortex contributors
 
-// Sessions that a function makes and hands out, as users would write them, with contracts on what they mean. They
-// stand among the tests, since the gate takes a function that hands out objects nowhere else.
+// Functions that make a session and return it, as users would write them, with contracts on what the session means.
+// They are among the tests, since the gate accepts functions that return trait objects nowhere else.
 #![tactic(auto, using(vortex_dtype::specs::lemmas::Sessions::sessions))]
 
 ghost use Rattle.std.specs.Prelude.{◌≡◌, IfOk, IsOkUnless, Some};
@@ -15,7 +15,7 @@ use std::test::Fail;
 use vortex_dtype::{DTypeSession, ExtDTypePlugin, PluginOf, VortexResult};
 use vortex_dtype_fixtures::{Tag, TextAlone};
 
-/// A session for files of anyone: it keeps the extensions that it doesn't know.
+/// A session for files of anyone: it keeps extensions of unknown ids.
 pub fn for_any_file(alloc: Global) -> DTypeSession
     ensures { meaning (λ b. rewrites (b.vtable, b.value)) result ≡ allowing nothing }
 {
@@ -24,7 +24,7 @@ pub fn for_any_file(alloc: Global) -> DTypeSession
     session
 }
 
-/// A session with two plugins that keeps what it doesn't know.
+/// A session with two plugins that keeps extensions of unknown ids.
 pub fn with_two(
     alloc: Global,
     first: Box<dyn ExtDTypePlugin>,

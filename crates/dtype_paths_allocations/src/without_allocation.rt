@@ -7,7 +7,7 @@ use crate::sets::{path, set};
 use anyhow::Result;
 use dtype_base::Nullability::NonNullable;
 use dtype_base::{FieldName, PType, VortexResult};
-use dtype_paths::{Field, FieldMask, FieldPath, FieldPathSet};
+use dtype_paths::{Field, FieldMask, FieldPath, FieldPathSet, field_path};
 use dtype_types::DType;
 use std::alloc::Global;
 use std::hash::{DefaultHasher, Hash, Hasher};
@@ -17,6 +17,8 @@ pub fn tell(rt: &(impl Print + Eprint), alloc: Global) -> Result<()> {
     println!(rt; "no allocation: steps: {is_right}")?;
     let is_right = paths(rt, alloc)?;
     println!(rt; "no allocation: paths: {is_right}")?;
+    let is_right = first_steps(rt, alloc)?;
+    println!(rt; "no allocation: first steps: {is_right}")?;
     let is_right = resolution(rt, alloc)?;
     println!(rt; "no allocation: resolution: {is_right}")?;
     let is_right = path_sets(rt, alloc)?;
@@ -62,6 +64,15 @@ fn paths(rt: &impl Eprint, alloc: Global) -> VortexResult<bool> {
         && longer.parts().first() == Some(&step)
         && longer.step_into().is_some()
         && root.step_into().is_none();
+    end(rt);
+    Ok(is_right)
+}
+
+fn first_steps(rt: &impl Eprint, alloc: Global) -> VortexResult<bool> {
+    let path = field_path!(alloc, "a", "b")?;
+    let step = Field::from_text(alloc, "a")?;
+    begin(rt);
+    let is_right = path.starts_with_field(&step);
     end(rt);
     Ok(is_right)
 }

@@ -1,7 +1,7 @@
 -- SPDX-License-Identifier: Apache-2.0
 -- SPDX-FileCopyrightText: Copyright the Vortex contributors
 
--- Lists in which nothing stands twice, by cases on the list.
+-- Lists without repeats, by cases on the list.
 use Rattle.std.proofs.Common.{ℕ, ◌<◌, ◌≤◌, length, map, ◌≡◌, ◌⊎◌, Bool, true, false, List, [], ◌∷◌, ◌++◌, Some, inl, inr, refl, sym, ap, subst, arith, ⊎_elim, Decides, eqb}
 use Rattle.std.specs.List.{Contains, IsDistinct, AllByRecursion}
 use Rattle.std.specs.Map.{lookup, keys_of, values_of}

@@ -1,7 +1,7 @@
 -- SPDX-License-Identifier: Apache-2.0
 -- SPDX-FileCopyrightText: Copyright the Vortex contributors
 
--- What a list of children has with one more at its end.
+-- A list of children with one more.
 use Rattle.std.proofs.Common.{◌≡◌, ◌∙◌, ℕ, false, cond, List, [], ◌∷◌, ◌++◌, Some, None, refl, arith}
 use Rattle.std.specs.List.{All, AllByRecursion, IsDistinct}
 use Rattle.std.specs.Map.{keys_of, lookup}
@@ -48,9 +48,9 @@ distinct-more (e ∷ es) k v none h =
 pub more-children : (cs : List Child) (c : Child) → (All HasStepKey cs) × IsDistinct same_field (keys_of (entries cs)) → HasStepKey c → lookup (same_field c.step) (entries cs) ≡ None
     → (All HasStepKey (cs ++ c ∷ [])) × IsDistinct same_field (keys_of (entries (cs ++ c ∷ [])))
 more-children cs c h k none =
-    let entry : Child → Field × ℕ = λ k. (k.step, k.place) in
+    let entry : Child → Field × ℕ = λ k. (k.step, k.node_index) in
     let one : All HasStepKey (c ∷ []) = All-cons HasStepKey c [] k (λ i d lt. absurd (omega (arith, lt))) in
-    (All-append HasStepKey cs (c ∷ []) h.0 one, rw (map-append entry cs (c ∷ [])) (distinct-more (entries cs) c.step c.place none h.1))
+    (All-append HasStepKey cs (c ∷ []) h.0 one, rw (map-append entry cs (c ∷ [])) (distinct-more (entries cs) c.step c.node_index none h.1))
 
 -- the invariant of the empty list
 pub no-children : (All HasStepKey []) × IsDistinct same_field (keys_of (entries []))

@@ -124,7 +124,7 @@ keys_distinct by_key by_step t = IsDistinct-from_sorted nat_cmp (keys_of by_key)
 pub by_order : (f : Field) (es : List (Field × ℕ)) → lookup (is_at (field_cmp f)) es ≡ lookup (same_field f) es
 by_order f es = sym (λ i. lookup (λ g. field_ties f g i) es)
 
--- where a step leads: by what stands at its key, or else by itself
+-- where a step leads: by the step at its key, or else by the second map
 pub leads : (by_key : List (ℕ × (Field × ℕ))) (by_step : List (Field × ℕ)) → IsChildTree by_key by_step → (f : Field)
     → lookup (same_field f) (steps_in by_key by_step) ≡ option_or (led_by f (at_key by_key (step_key f))) (lookup (same_field f) by_step)
 leads by_key by_step t f =
@@ -149,12 +149,12 @@ distinct_steps by_key by_step t =
 
 -- ---- one step more
 
-module _ (by_key : List (ℕ × (Field × ℕ))) (by_step : List (Field × ℕ)) (t : IsChildTree by_key by_step) (x : Field) (place : ℕ) where
-  -- by itself, where another step stands at its key
+module _ (by_key : List (ℕ × (Field × ℕ))) (by_step : List (Field × ℕ)) (t : IsChildTree by_key by_step) (x : Field) (node_index : ℕ) where
+  -- by the second map, where another step has its key
   module _ (new : List (Field × ℕ)) (taken : IsTaken by_key x) (sorted : IsStrictlySortedBy field_cmp (keys_of new))
-      (put : (f : Field) → lookup (is_at (field_cmp f)) new ≡ cond (is_at (field_cmp x) f) (Some place) (lookup (is_at (field_cmp f)) by_step)) where
-    put_same : (f : Field) → lookup (same_field f) new ≡ cond (same_field x f) (Some place) (lookup (same_field f) by_step)
-    put_same f = sym (by_order f new) ∙ put f ∙ (λ i. cond (sym (field_ties x f) i) (Some place) (by_order f by_step i))
+      (put : (f : Field) → lookup (is_at (field_cmp f)) new ≡ cond (is_at (field_cmp x) f) (Some node_index) (lookup (is_at (field_cmp f)) by_step)) where
+    put_same : (f : Field) → lookup (same_field f) new ≡ cond (same_field x f) (Some node_index) (lookup (same_field f) by_step)
+    put_same f = sym (by_order f new) ∙ put f ∙ (λ i. cond (sym (field_ties x f) i) (Some node_index) (by_order f by_step i))
 
     pub more_by_step : IsChildTree by_key new
     more_by_step = record {
@@ -167,7 +167,7 @@ module _ (by_key : List (ℕ × (Field × ℕ))) (by_step : List (Field × ℕ))
           (λ n. t.taken f i (sym (put_same f ∙ rw n refl) ∙ e));
     }
 
-    pub led_more_by_step : (f : Field) → lookup (same_field f) (steps_in by_key new) ≡ cond (same_field x f) (Some place) (lookup (same_field f) (steps_in by_key by_step))
+    pub led_more_by_step : (f : Field) → lookup (same_field f) (steps_in by_key new) ≡ cond (same_field x f) (Some node_index) (lookup (same_field f) (steps_in by_key by_step))
     led_more_by_step f =
         let l : Option ℕ = led_by f (at_key by_key (step_key f)) in
         let old : Option ℕ = lookup (same_field f) (steps_in by_key by_step) in
@@ -176,19 +176,19 @@ module _ (by_key : List (ℕ × (Field × ℕ))) (by_step : List (Field × ℕ))
         (λ y.
         let is : x ≡ f = (same_field-Decides x f).0 y in
         let none : l ≡ None = subst (λ g. led_by g (at_key by_key (step_key g)) ≡ None) is (taken_by by_key x taken) in
-        let here : lookup (same_field f) new ≡ Some place = put_same f ∙ ap (λ b. cond b (Some place) (lookup (same_field f) by_step)) y in
-        (λ i. option_or (none i) (here i)) ∙ sym (ap (λ b. cond b (Some place) old) y))
+        let here : lookup (same_field f) new ≡ Some node_index = put_same f ∙ ap (λ b. cond b (Some node_index) (lookup (same_field f) by_step)) y in
+        (λ i. option_or (none i) (here i)) ∙ sym (ap (λ b. cond b (Some node_index) old) y))
         (λ n.
-        let same : lookup (same_field f) new ≡ lookup (same_field f) by_step = put_same f ∙ ap (λ b. cond b (Some place) (lookup (same_field f) by_step)) n in
-        ap (option_or l) same ∙ sym (leads by_key by_step t f) ∙ sym (ap (λ b. cond b (Some place) old) n))
+        let same : lookup (same_field f) new ≡ lookup (same_field f) by_step = put_same f ∙ ap (λ b. cond b (Some node_index) (lookup (same_field f) by_step)) n in
+        ap (option_or l) same ∙ sym (leads by_key by_step t f) ∙ sym (ap (λ b. cond b (Some node_index) old) n))
 
-  -- at its key, where no other step stands
+  -- at its key, where no other step is
   module _ (new : List (ℕ × (Field × ℕ))) (free : IsFirst by_key x) (sorted : IsStrictlySortedBy nat_cmp (keys_of new))
-      (put : (k : ℕ) → at_key new k ≡ cond (is_at (nat_cmp (step_key x)) k) (Some (x, place)) (at_key by_key k)) where
+      (put : (k : ℕ) → at_key new k ≡ cond (is_at (nat_cmp (step_key x)) k) (Some (x, node_index)) (at_key by_key k)) where
     at_other : (f : Field) → is_at (nat_cmp (step_key x)) (step_key f) ≡ false → at_key new (step_key f) ≡ at_key by_key (step_key f)
     at_other f n = put (step_key f) ∙ rw n refl
 
-    at_same : (f : Field) → is_at (nat_cmp (step_key x)) (step_key f) ≡ true → at_key new (step_key f) ≡ Some (x, place)
+    at_same : (f : Field) → is_at (nat_cmp (step_key x)) (step_key f) ≡ true → at_key new (step_key f) ≡ Some (x, node_index)
     at_same f y = put (step_key f) ∙ rw y refl
 
     -- what stood at the key before is the step
@@ -202,35 +202,35 @@ module _ (by_key : List (ℕ × (Field × ℕ))) (by_step : List (Field × ℕ))
       keyed = λ k v e.
           by_bool (is_at (nat_cmp (step_key x)) k)
           (λ y.
-          let is : Some (x, place) ≡ Some v = sym (put k ∙ rw y refl) ∙ e in
+          let is : Some (x, node_index) ≡ Some v = sym (put k ∙ rw y refl) ∙ e in
           let first : x ≡ v.0 = ap (λ (o : Option (Field × ℕ)). elim o as (λ _. Field) [ None ↦ x | Some w ↦ w.0 ]) is in
           ap step_key (sym first) ∙ same_key (step_key x) k y)
           (λ n. t.keyed k v (sym (put k ∙ rw n refl) ∙ e));
       taken = λ f i e.
           let old = t.taken f i e in
           by_bool (is_at (nat_cmp (step_key x)) (step_key f))
-          (λ y. ((x, place), at_same f y, ap (same_field f) (was f old.0 y old.1) ∙ old.2))
+          (λ y. ((x, node_index), at_same f y, ap (same_field f) (was f old.0 y old.1) ∙ old.2))
           (λ n. (old.0, at_other f n ∙ old.1, old.2));
     }
 
-    led_new : (f : Field) → led_by f (at_key new (step_key f)) ≡ cond (same_field x f) (Some place) (led_by f (at_key by_key (step_key f)))
+    led_new : (f : Field) → led_by f (at_key new (step_key f)) ≡ cond (same_field x f) (Some node_index) (led_by f (at_key by_key (step_key f)))
     led_new f =
         let l : Option ℕ = led_by f (at_key by_key (step_key f)) in
-        let put_here : (b : Bool) → same_field x f ≡ b → led_by f (Some (x, place)) ≡ cond b (Some place) None = λ b e. ap (λ t. cond t (Some place) None) (same_field_equiv.symm f x ∙ e) in
+        let put_here : (b : Bool) → same_field x f ≡ b → led_by f (Some (x, node_index)) ≡ cond b (Some node_index) None = λ b e. ap (λ t. cond t (Some node_index) None) (same_field_equiv.symm f x ∙ e) in
         by_bool (same_field x f)
         (λ y.
         let is : x ≡ f = (same_field-Decides x f).0 y in
-        ap (led_by f) (at_same f (own_key (step_key x) (step_key f) (ap step_key is))) ∙ put_here true y ∙ sym (ap (λ b. cond b (Some place) l) y))
+        ap (led_by f) (at_same f (own_key (step_key x) (step_key f) (ap step_key is))) ∙ put_here true y ∙ sym (ap (λ b. cond b (Some node_index) l) y))
         (λ n.
         by_bool (is_at (nat_cmp (step_key x)) (step_key f))
         (λ y.
         let none : l ≡ None = by_option (at_key by_key (step_key f)) (λ e. ap (led_by f) e) (λ v e.
         let other : same_field f v.0 ≡ false = sym (ap (same_field f) (was f v y e)) ∙ same_field_equiv.symm f x ∙ n in
         ap (led_by f) e ∙ ap (λ b. cond b (Some v.1) None) other) in
-        ap (led_by f) (at_same f y) ∙ put_here false n ∙ sym none ∙ sym (ap (λ b. cond b (Some place) l) n))
-        (λ o. ap (led_by f) (at_other f o) ∙ sym (ap (λ b. cond b (Some place) l) n)))
+        ap (led_by f) (at_same f y) ∙ put_here false n ∙ sym none ∙ sym (ap (λ b. cond b (Some node_index) l) n))
+        (λ o. ap (led_by f) (at_other f o) ∙ sym (ap (λ b. cond b (Some node_index) l) n)))
 
-    pub led_more_by_key : (f : Field) → lookup (same_field f) (steps_in new by_step) ≡ cond (same_field x f) (Some place) (lookup (same_field f) (steps_in by_key by_step))
+    pub led_more_by_key : (f : Field) → lookup (same_field f) (steps_in new by_step) ≡ cond (same_field x f) (Some node_index) (lookup (same_field f) (steps_in by_key by_step))
     led_more_by_key f =
         leads new by_step more_by_key f
         ∙ ap (λ o. option_or o (lookup (same_field f) by_step)) (led_new f)

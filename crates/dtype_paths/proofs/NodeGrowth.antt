@@ -10,14 +10,14 @@ use Rattle.std.proofs.lemmas.Bool.Decides.{Decides-eqb}
 use Rattle.std.proofs.lemmas.List.{take_all, take_more}
 use Rattle.std.proofs.lemmas.Option.{same_Some, option_and_then_some, slice_get_within, slice_get_past, slice_get_read}
 use Rattle.dtype_paths.specs.lemmas.Cases.{by_bool}
-use Rattle.dtype_paths.specs.Children.{child, places_by_step}
+use Rattle.dtype_paths.specs.Children.{child, nodes_by_step}
 use Rattle.dtype_paths.specs.Equality.{same_field}
 use Rattle.dtype_paths.specs.EqualityLaws.{same_field-Decides}
 use Rattle.dtype_paths.specs.declared.field.Field.{Field}
 use Rattle.dtype_paths.specs.declared.node.Node.{Node}
 use Rattle.dtype_paths.specs.ListCover.{Gains}
-use Rattle.dtype_paths.specs.Trie.{child_at, end_at, ends, chain_step, walk, IsAlike, IsChain, IsGrown, IsTrie, IsTrieBy}
-use Rattle.dtype_paths.proofs.NodePlaces.{child-left, child-right, end-left, end-right, gains, split}
+use Rattle.dtype_paths.specs.Trie.{child_at, terminal_at, terminals, chain_step, walk, IsAlike, IsChain, HasBranch, IsTrie, IsTrieBy}
+use Rattle.dtype_paths.proofs.NodeIndices.{child-left, child-right, terminal-left, terminal-right, gains, split}
 use Rattle.dtype_paths.proofs.TrieGrowth.{Ends, Grows, Leads, trie-grown, trie-finish, trie-root, walk-mono}
 
 -- ---- parts of a list
@@ -34,23 +34,23 @@ take-behind root xs old i x is lt e = let one : i + 1 ≡ suc i = omega arith in
 pub record Chained (rest : List Field) (first i : ℕ) (nodes : List Node) : Type 0 where
   pub long : length nodes ≡ i
   pub steps : (k : ℕ) (f : Field) → k < i → child_at nodes k f ≡ chain_step rest first k f
-  pub none : (k : ℕ) → end_at nodes k ≡ None
+  pub none : (k : ℕ) → terminal_at nodes k ≡ None
 
-end_past : (nodes : List Node) (k : ℕ) → length nodes ≤ k → end_at nodes k ≡ None
+end_past : (nodes : List Node) (k : ℕ) → length nodes ≤ k → terminal_at nodes k ≡ None
 end_past nodes k h = rw (slice_get_past nodes k h) refl
 
--- a place in a list with one more at its end
-pub end-push : (nodes : List Node) (n : Node) (k : ℕ) → end_at nodes k ≡ None → n.end ≡ None → end_at (nodes ++ n ∷ []) k ≡ None
-end-push nodes n k h e =
+-- a node index in a list with one more node
+pub terminal-push : (nodes : List Node) (n : Node) (k : ℕ) → terminal_at nodes k ≡ None → n.terminal ≡ None → terminal_at (nodes ++ n ∷ []) k ≡ None
+terminal-push nodes n k h e =
     ⊎_elim
-    (λ lt. end-left nodes (n ∷ []) k lt ∙ h)
+    (λ lt. terminal-left nodes (n ∷ []) k lt ∙ h)
     (λ ge. ⊎_elim
-    (λ lt. let is : k ≡ length nodes + 0 = omega arith in rw is (end-right nodes (n ∷ []) 0 ∙ e))
+    (λ lt. let is : k ≡ length nodes + 0 = omega arith in rw is (terminal-right nodes (n ∷ []) 0 ∙ e))
     (λ gt. end_past (nodes ++ n ∷ []) k (omega (arith, gt, length-append nodes (n ∷ []))))
     (cases_lt k (length nodes + 1)))
     (cases_lt k (length nodes))
 
-pub chained-more : (rest : List Field) (first i : ℕ) (nodes : List Node) (n : Node) (x : Field) → Chained rest first i nodes → i < length rest → x ≡ get_or rest i x → n.end ≡ None → places_by_step n.children ≡ (x, first + i + 1) ∷ [] → Chained rest first (i + 1) (nodes ++ n ∷ [])
+pub chained-more : (rest : List Field) (first i : ℕ) (nodes : List Node) (n : Node) (x : Field) → Chained rest first i nodes → i < length rest → x ≡ get_or rest i x → n.terminal ≡ None → nodes_by_step n.children ≡ (x, first + i + 1) ∷ [] → Chained rest first (i + 1) (nodes ++ n ∷ [])
 chained-more rest first i nodes n x c lt is e up = record {
   long = omega (arith, c.long, length-append nodes (n ∷ []));
   steps = λ k f h.
@@ -63,11 +63,11 @@ chained-more rest first i nodes n x c lt is e up = record {
       let part : slice_get rest i ≡ Some x = slice_get_read rest (length rest) i x refl lt is in
       one ∙ ap (lookup (same_field f)) up ∙ rw (here, part) refl)
       (cases_lt k i);
-  none = λ k. end-push nodes n k (c.none k) e;
+  none = λ k. terminal-push nodes n k (c.none k) e;
 }
 
-pub chained-end : (path rest : List Field) (first : ℕ) (nodes : List Node) (n : Node) → Chained rest first (length rest) nodes → n.end ≡ Some path → places_by_step n.children ≡ [] → IsChain path rest first (nodes ++ n ∷ [])
-chained-end path rest first nodes n c e up = record {
+pub chained-terminal : (path rest : List Field) (first : ℕ) (nodes : List Node) (n : Node) → Chained rest first (length rest) nodes → n.terminal ≡ Some path → nodes_by_step n.children ≡ [] → IsChain path rest first (nodes ++ n ∷ [])
+chained-terminal path rest first nodes n c e up = record {
   long = omega (arith, c.long, length-append nodes (n ∷ []));
   steps = λ k f.
       ⊎_elim
@@ -82,8 +82,8 @@ chained-end path rest first nodes n c e up = record {
       (λ gt. let over : length (nodes ++ n ∷ []) ≤ k = omega (arith, gt, c.long, length-append nodes (n ∷ [])) in rw (slice_get_past (nodes ++ n ∷ []) k over) (sym past))
       (cases_lt k (length rest + 1)))
       (cases_lt k (length rest));
-  none = λ k lt. end-left nodes (n ∷ []) k (omega (arith, c.long)) ∙ c.none k;
-  last = let there : length rest ≡ length nodes + 0 = omega (arith, c.long) in rw there (end-right nodes (n ∷ []) 0 ∙ e);
+  none = λ k lt. terminal-left nodes (n ∷ []) k (omega (arith, c.long)) ∙ c.none k;
+  last = let there : length rest ≡ length nodes + 0 = omega (arith, c.long) in rw there (terminal-right nodes (n ∷ []) 0 ∙ e);
 }
 
 -- ---- where the steps of a chain lead
@@ -109,7 +109,7 @@ leads-from child m (x ∷ r) h =
 -- ---- the list after a path that leaves it at `here`
 
 module _ (old new : List Node) (path : List Field) (here at : ℕ) (trie : IsTrie old) (walked : walk (child_at old) 0 (take at path) ≡ Some here) (lt : at < length path)
-    (stopped : (f : Field) → slice_get path at ≡ Some f → child_at old here f ≡ None) (g : IsGrown old here path at new) where
+    (stopped : (f : Field) → slice_get path at ≡ Some f → child_at old here f ≡ None) (g : HasBranch old here path at new) where
   abbrev pub rest : List Field
   rest = drop (at + 1) path
 
@@ -134,8 +134,8 @@ module _ (old new : List Node) (path : List Field) (here at : ℕ) (trie : IsTri
   steps : (i : ℕ) (f : Field) → child_at new i f ≡ cond (i == here && same_field g.step f) (Some (length old)) (child_at (old ++ g.tail) i f)
   steps = g.steps
 
-  finish : (i : ℕ) → end_at new i ≡ end_at (old ++ g.tail) i
-  finish = g.ends
+  finish : (i : ℕ) → terminal_at new i ≡ terminal_at (old ++ g.tail) i
+  finish = g.terminals
 
   there : (i : ℕ) (f : Field) (j : ℕ) → child_at old i f ≡ Some j → i < length old
   there i f j e = option_and_then_some (λ n. child n.children f) (slice_get old i) j e (λ n s g. slice_get_within old i n s)
@@ -169,35 +169,35 @@ module _ (old new : List Node) (path : List Field) (here at : ℕ) (trie : IsTri
         (λ b. let s = steps (length old + k) f in let z = rw b at s in z ∙ child-right old tail k f ∙ chain.steps k f));
   }
 
-  new_ends : Ends (end_at old) (end_at new) (length old + length rest) path
+  new_ends : Ends (terminal_at old) (terminal_at new) (length old + length rest) path
   new_ends = record {
-    kept = λ i q e. finish i ∙ end-left old tail i (option_and_then_some (λ n. n.end) (slice_get old i) q e (λ n s g. slice_get_within old i n s)) ∙ e;
-    here = finish (length old + length rest) ∙ end-right old tail (length rest) ∙ chain.last;
+    kept = λ i q e. finish i ∙ terminal-left old tail i (option_and_then_some (λ n. n.terminal) (slice_get old i) q e (λ n s g. slice_get_within old i n s)) ∙ e;
+    here = finish (length old + length rest) ∙ terminal-right old tail (length rest) ∙ chain.last;
     only = λ i q e.
         let f = sym (finish i) ∙ e in
         ⊎_elim
-        (λ below. inl (sym (end-left old tail i below) ∙ f))
+        (λ below. inl (sym (terminal-left old tail i below) ∙ f))
         (λ above. inr (behind i q above f))
         (cases_lt i (length old));
   }
     where
-      at_last : (k : ℕ) (q : List Field) → end_at tail k ≡ Some q → (k ≡ length rest) × (q ≡ path)
+      at_last : (k : ℕ) (q : List Field) → terminal_at tail k ≡ Some q → (k ≡ length rest) × (q ≡ path)
       at_last k q e =
           ⊎_elim
           (λ low. let n = chain.none k low in let z : None ≡ Some q = sym n ∙ e in absurd (cc))
           (λ high.
           let l = chain.long in
-          let w : k < length tail = option_and_then_some (λ n. n.end) (slice_get tail k) q e (λ n s g. slice_get_within tail k n s) in
+          let w : k < length tail = option_and_then_some (λ n. n.terminal) (slice_get tail k) q e (λ n s g. slice_get_within tail k n s) in
           let is : k ≡ length rest = omega arith in
-          let z : end_at tail (length rest) ≡ Some q = rw is at e in
+          let z : terminal_at tail (length rest) ≡ Some q = rw is at e in
           let y : Some q ≡ Some path = sym z ∙ chain.last in
           (is, same_Some q path y))
           (cases_lt k (length rest))
 
-      behind : (i : ℕ) (q : List Field) → length old ≤ i → end_at (old ++ tail) i ≡ Some q → (i ≡ length old + length rest) × (q ≡ path)
+      behind : (i : ℕ) (q : List Field) → length old ≤ i → terminal_at (old ++ tail) i ≡ Some q → (i ≡ length old + length rest) × (q ≡ path)
       behind i q above e =
           let k = gap_of i (length old) above in
-          let f : end_at tail k.0 ≡ Some q = sym (end-right old tail k.0) ∙ (rw k.1 at e) in
+          let f : terminal_at tail k.0 ≡ Some q = sym (terminal-right old tail k.0) ∙ (rw k.1 at e) in
           let w = at_last k.0 q f in
           (k.1 ∙ ap (λ n. length old + n) w.0, w.1)
         where
@@ -209,29 +209,29 @@ module _ (old new : List Node) (path : List Field) (here at : ℕ) (trie : IsTri
 
   pub nodes-grown : IsTrie new
   nodes-grown =
-      trie-grown (child_at old) (child_at new) (end_at old) (end_at new) (length old) here (take at path) x rest trie walked stop grows (length new) (let l = chain.long in omega arith)
-      (subst (Ends (end_at old) (end_at new) (length old + length rest)) parted new_ends)
+      trie-grown (child_at old) (child_at new) (terminal_at old) (terminal_at new) (length old) here (take at path) x rest trie walked stop grows (length new) (let l = chain.long in omega arith)
+      (subst (Ends (terminal_at old) (terminal_at new) (length old + length rest)) parted new_ends)
 
-  pub grown-gains : Gains (ends old) (path ∷ []) (ends new)
+  pub grown-gains : Gains (terminals old) (path ∷ []) (terminals new)
   grown-gains = gains old new (length old + length rest) path new_ends
 
 -- ---- the root alone
 
-pub root-alone : (nodes : List Node) → length nodes ≡ 1 → end_at nodes 0 ≡ None → ((f : Field) → child_at nodes 0 f ≡ None) → IsTrie nodes
-root-alone nodes one end steps = subst (IsTrieBy (child_at nodes) (end_at nodes)) (sym one) (trie-root (child_at nodes) (end_at nodes) steps none)
+pub root-alone : (nodes : List Node) → length nodes ≡ 1 → terminal_at nodes 0 ≡ None → ((f : Field) → child_at nodes 0 f ≡ None) → IsTrie nodes
+root-alone nodes one terminal steps = subst (IsTrieBy (child_at nodes) (terminal_at nodes)) (sym one) (trie-root (child_at nodes) (terminal_at nodes) steps none)
   where
-    none : (i : ℕ) → end_at nodes i ≡ None
-    none zero = end
+    none : (i : ℕ) → terminal_at nodes i ≡ None
+    none zero = terminal
     none (suc i) = end_past nodes (suc i) (omega (arith, one))
 
--- ---- a list that has at its places what another has
+-- ---- a list with the same nodes as another
 
 pub nodes-same : (old new : List Node) → IsTrie old → IsAlike old new → IsTrie new
 nodes-same old new t a = record {
   inside = λ p i h. let b = t.inside p i (to 0 i p h) in omega (arith, a.long);
   once = λ p q i h k. t.once p q i (to 0 i p h) (to 0 i q k);
-  own = λ i q e. back 0 i q (t.own i q (sym (a.ends i) ∙ e));
-  used = λ p i h ne. let u = t.used p i (to 0 i p h) ne in (u.0, u.1, a.ends u.0 ∙ u.2);
+  own = λ i q e. back 0 i q (t.own i q (sym (a.terminals i) ∙ e));
+  used = λ p i h ne. let u = t.used p i (to 0 i p h) ne in (u.0, u.1, a.terminals u.0 ∙ u.2);
 }
   where
     to : (i j : ℕ) (p : List Field) → walk (child_at new) i p ≡ Some j → walk (child_at old) i p ≡ Some j
@@ -247,9 +247,9 @@ whole-walk nodes path here at e w = subst (λ p. walk (child_at nodes) 0 p ≡ S
 
 module _ (old new : List Node) (path : List Field) (here : ℕ) (trie : IsTrie old) (walked : walk (child_at old) 0 path ≡ Some here) (long : length new ≡ length old)
     (steps : (i : ℕ) (f : Field) → child_at new i f ≡ child_at old i f)
-    (finish : (i : ℕ) → end_at new i ≡ cond (i == here) (Some path) (end_at old i)) where
-  pub ends-finished : Ends (end_at old) (end_at new) here path
-  ends-finished = record {
+    (finish : (i : ℕ) → terminal_at new i ≡ cond (i == here) (Some path) (terminal_at old i)) where
+  pub terminals-finished : Ends (terminal_at old) (terminal_at new) here path
+  terminals-finished = record {
     kept = λ i q e.
         by_bool (i == here)
         (λ b.
@@ -266,7 +266,7 @@ module _ (old new : List Node) (path : List Field) (here : ℕ) (trie : IsTrie o
   }
 
   pub nodes-finished : IsTrie new
-  nodes-finished = trie-steps (trie-finish (child_at old) (end_at old) (end_at new) (length old) here path trie walked ends-finished)
+  nodes-finished = trie-steps (trie-finish (child_at old) (terminal_at old) (terminal_at new) (length old) here path trie walked terminals-finished)
     where
       to : (i j : ℕ) (p : List Field) → walk (child_at new) i p ≡ Some j → walk (child_at old) i p ≡ Some j
       to i j p h = walk-mono (child_at new) (child_at old) (λ a f b e. sym (steps a f) ∙ e) i j p h
@@ -274,7 +274,7 @@ module _ (old new : List Node) (path : List Field) (here : ℕ) (trie : IsTrie o
       back : (i j : ℕ) (p : List Field) → walk (child_at old) i p ≡ Some j → walk (child_at new) i p ≡ Some j
       back i j p h = walk-mono (child_at old) (child_at new) (λ a f b e. steps a f ∙ e) i j p h
 
-      trie-steps : IsTrieBy (child_at old) (end_at new) (length old) → IsTrie new
+      trie-steps : IsTrieBy (child_at old) (terminal_at new) (length old) → IsTrie new
       trie-steps t = record {
         inside = λ p i h. let b = t.inside p i (to 0 i p h) in omega arith;
         once = λ p q i h k. t.once p q i (to 0 i p h) (to 0 i q k);

@@ -26,7 +26,7 @@ module _ {A B : Type 0} (f : A → Option B) where
   read-set_other (z ∷ xs) (suc i) zero y ne = refl
   read-set_other (z ∷ xs) (suc i) (suc j) y ne = read-set_other xs i j y (λ e. ne (ap suc e))
 
-  -- what is read of each place
+  -- what is read at each index
   read-set : (xs : List A) (i : ℕ) (x y : A) → slice_get xs i ≡ Some x → (j : ℕ) → option_and_then f (slice_get (set xs i y) j) ≡ cond (j == i) (f y) (option_and_then f (slice_get xs j))
   read-set xs i x y h j =
       by_bool (j == i)
@@ -38,17 +38,17 @@ module _ {A B : Type 0} (f : A → Option B) where
   read-kept xs i x y h same j =
       read-set xs i x y h j ∙ by_bool (j == i) (λ e. let is : j ≡ i = (Decides-eqb j i).0 e in rw (e, is, h) same) (λ e. rw e refl)
 
--- a step is let lead from one node to a place
-pub child-led : (xs : List Node) (i : ℕ) (m n : Node) (x : Field) (place : ℕ) → slice_get xs i ≡ Some m → ((f : Field) → child n.children f ≡ cond (same_field x f) (Some place) (child m.children f))
-    → (j : ℕ) (f : Field) → child_at (set xs i n) j f ≡ cond (j == i && same_field x f) (Some place) (child_at xs j f)
-child-led xs i m n x place h up j f =
+-- a child is added to one node
+pub child-led : (xs : List Node) (i : ℕ) (m n : Node) (x : Field) (node_index : ℕ) → slice_get xs i ≡ Some m → ((f : Field) → child n.children f ≡ cond (same_field x f) (Some node_index) (child m.children f))
+    → (j : ℕ) (f : Field) → child_at (set xs i n) j f ≡ cond (j == i && same_field x f) (Some node_index) (child_at xs j f)
+child-led xs i m n x node_index h up j f =
     read-set (λ k. child k.children f) xs i m n h j ∙ by_bool (j == i) (λ e. let is : j ≡ i = (Decides-eqb j i).0 e in rw (e, is, h) (up f)) (λ e. rw e refl)
 
--- the same of a root and the nodes behind it, where one of these is changed
+-- the same of a root and the nodes after it, where one of these is changed
 module _ {T E : Type 0} (r : Result T E) (old rest : List Node) (root : Node) (is : root ∷ rest ≡ old) where
-  pub behind-led : (m n : Node) (here behind : ℕ) (x : Field) (place : ℕ) → here ≡ suc behind → slice_get rest behind ≡ Some m → OnOk r ((f : Field) → child n.children f ≡ cond (same_field x f) (Some place) (child m.children f))
-      → OnOk r ((i : ℕ) (f : Field) → child_at (root ∷ set rest behind n) i f ≡ cond (i == here && same_field x f) (Some place) (child_at old i f))
-  behind-led m n here behind x place at there up = rw (at, ← is) (on_ok_weaker r (λ u. child-led (root ∷ rest) (suc behind) m n x place there u) up)
+  pub behind-led : (m n : Node) (here behind : ℕ) (x : Field) (node_index : ℕ) → here ≡ suc behind → slice_get rest behind ≡ Some m → OnOk r ((f : Field) → child n.children f ≡ cond (same_field x f) (Some node_index) (child m.children f))
+      → OnOk r ((i : ℕ) (f : Field) → child_at (root ∷ set rest behind n) i f ≡ cond (i == here && same_field x f) (Some node_index) (child_at old i f))
+  behind-led m n here behind x node_index at there up = rw (at, ← is) (on_ok_weaker r (λ u. child-led (root ∷ rest) (suc behind) m n x node_index there u) up)
 
   pub behind-same : (m n : Node) (behind : ℕ) → slice_get rest behind ≡ Some m → OnErr r ((f : Field) → child n.children f ≡ child m.children f)
       → OnErr r ((i : ℕ) (f : Field) → child_at (root ∷ set rest behind n) i f ≡ child_at old i f)

@@ -1,7 +1,7 @@
 -- SPDX-License-Identifier: Apache-2.0
 -- SPDX-FileCopyrightText: Copyright the Vortex contributors
 
--- Steps that differ in their keys differ, and a short name's key tells it.
+-- Steps with different keys are different, and short names with equal keys are equal.
 use Rattle.std.proofs.Common.{◌≡◌, ◌≢◌, ◌≤◌, ◌<◌, ◌+◌, ◌-◌, ℕ, zero, suc, true, false, List, [], ◌∷◌, length, get_or, drop, min, refl, sym, ap, ◌∙◌, arith, w64}
 use Rattle.std.specs.Int.{to_be_bytes}
 use Rattle.std.specs.Prelude.{slice_index}
@@ -12,12 +12,12 @@ use Rattle.std.proofs.lemmas.Nat.{be_bytes_8}
 use Rattle.dtype_base.specs.Bytes.{Bytes}
 use Rattle.dtype_paths.specs.Equality.{same_field}
 use Rattle.dtype_paths.specs.EqualityLaws.{same_field-Decides}
-use Rattle.dtype_paths.specs.StepKeys.{name_key, seven_and, step_key, HasBytes, IsTold}
+use Rattle.dtype_paths.specs.StepKeys.{name_step_key, seven_and, step_key, HasBytes, IsExactKey}
 use Rattle.dtype_paths.specs.declared.field.Field.{Field}
 use Rattle.dtype_paths.specs.declared.field.Field.TheVariants.{Name, ElementType}
 use Rattle.dtype_paths.specs.lemmas.Cases.{by_bool}
 
--- what stands at the first seven places
+-- the first seven bytes
 at_seven : (bs : List ℕ) (k i : ℕ) → i < 7 → get_or (seven_and bs k) i 0 ≡ slice_index bs i
 at_seven bs k zero h = refl
 at_seven bs k (suc zero) h = refl
@@ -47,14 +47,14 @@ all_bytes bs k h l (suc (suc (suc (suc (suc (suc zero)))))) = h 6
 all_bytes bs k h l (suc (suc (suc (suc (suc (suc (suc zero))))))) = l
 all_bytes bs k h l (suc (suc (suc (suc (suc (suc (suc (suc i)))))))) = omega arith
 
--- the bytes behind a key
+-- the bytes of a key
 abbrev behind_key : Field → List ℕ
 behind_key (Name n) = seven_and (drop (length n - 7) n) (min (length n) 8)
 behind_key ElementType = seven_and [] 9
 
 key-bytes : (f : Field) → HasBytes f → to_be_bytes w64 (step_key f) ≡ behind_key f
-unfolding step_key name_key HasBytes
-key-bytes (Name n) h = be_bytes_8 (behind_key (Name n)) (name_key n) refl (all_bytes (drop (length n - 7) n) (min (length n) 8) (later_byte (length n - 7) n h) (omega arith)) refl
+unfolding step_key name_step_key HasBytes
+key-bytes (Name n) h = be_bytes_8 (behind_key (Name n)) (name_step_key n) refl (all_bytes (drop (length n - 7) n) (min (length n) 8) (later_byte (length n - 7) n h) (omega arith)) refl
 key-bytes ElementType h = be_bytes_8 (behind_key ElementType) 9 refl (all_bytes [] 9 (λ i. omega arith) (omega arith)) refl
 
 short : (m n : List ℕ) (k l : ℕ) → length m ≡ length n → length m ≤ 7 → seven_and m k ≡ seven_and n l → m ≡ n
@@ -62,8 +62,8 @@ short m n k l e s h =
     same_number_lists m n e
     (λ i lt. sym (at_seven m k i (omega (arith, lt))) ∙ ap (λ bs. get_or bs i 0) h ∙ at_seven n l i (omega (arith, lt)))
 
-told : (f g : Field) → IsTold f → behind_key f ≡ behind_key g → f ≡ g
-unfolding IsTold
+told : (f g : Field) → IsExactKey f → behind_key f ≡ behind_key g → f ≡ g
+unfolding IsExactKey
 told (Name m) (Name n) s h =
     let counts : min (length m) 8 ≡ min (length n) 8 = ap (λ bs. get_or bs 7 0) h in
     let long : length m ≡ length n = omega (arith, s, counts) in
@@ -75,8 +75,8 @@ told (Name m) ElementType s h = let counts : min (length m) 8 ≡ 9 = ap (λ bs.
 told ElementType (Name n) s h = let counts : 9 ≡ min (length n) 8 = ap (λ bs. get_or bs 7 0) h in absurd (omega (arith, counts))
 told ElementType ElementType s h = refl
 
--- a step whose key tells it is the step of that key
-pub same_told : (f g : Field) → HasBytes f → HasBytes g → IsTold f → step_key g ≡ step_key f → same_field f g ≡ true
+-- a step with an exact key is equal to each step of that key
+pub same_told : (f g : Field) → HasBytes f → HasBytes g → IsExactKey f → step_key g ≡ step_key f → same_field f g ≡ true
 same_told f g hf hg s e =
     (same_field-Decides f g).1 (told f g s (sym (key-bytes f hf) ∙ ap (to_be_bytes w64) (sym e) ∙ key-bytes g hg))
 

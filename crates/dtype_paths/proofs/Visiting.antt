@@ -19,9 +19,9 @@ use Rattle.dtype_paths.specs.Equality.{same_field, same_path}
 use Rattle.dtype_paths.specs.EqualityLaws.{same_field-Decides, same_path-Decides}
 use Rattle.dtype_paths.specs.declared.field.Field.{Field}
 use Rattle.dtype_paths.specs.declared.node.Node.{Node}
-use Rattle.dtype_paths.specs.Trie.{child_at, end_at, ends, walk, IsTrie}
+use Rattle.dtype_paths.specs.Trie.{child_at, terminal_at, terminals, walk, IsTrie}
 use Rattle.dtype_paths.proofs.ApartLists.{Apart, apart-values, value-key, key-value, apart-distinct, apart-nil, apart-cons, apart-append, apart-pop, apart-below, apart-map, contains-map, contains-cons, contains-head, contains-tail, contains-nil}
-use Rattle.dtype_paths.proofs.NodePlaces.{end-of, of-end}
+use Rattle.dtype_paths.proofs.NodeIndices.{terminal-of, of-terminal}
 use Rattle.dtype_paths.proofs.TrieGrowth.{walk-append, walk-snoc}
 
 -- two beginnings of one path
@@ -43,50 +43,50 @@ no_snoc (y ∷ s) f e = cc
 begins_nil : (p : List Field) → Beginning p [] → p ≡ []
 begins_nil p b = beginning_both p [] b (p, refl)
 
-module _ (nodes : List Node) (trie : IsTrie nodes) (s : List Field) (x : ℕ) (at : walk (child_at nodes) 0 s ≡ Some x) (begun : Begun (ends nodes) s) where
+module _ (nodes : List Node) (trie : IsTrie nodes) (s : List Field) (x : ℕ) (at : walk (child_at nodes) 0 s ≡ Some x) (begun : Begun (terminals nodes) s) where
   -- a path that ends in the node
-  ends-here : Contains (ends nodes) s → end_at nodes x ≡ Some s
-  ends-here c =
-      let w = end-of nodes s c in
+  terminals-here : Contains (terminals nodes) s → terminal_at nodes x ≡ Some s
+  terminals-here c =
+      let w = terminal-of nodes s c in
       let e : Some x ≡ Some w.0 = sym at ∙ trie.own w.0 s w.1 in
-      ap (end_at nodes) (same_Some x w.0 e) ∙ w.1
+      ap (terminal_at nodes) (same_Some x w.0 e) ∙ w.1
 
-  least-not_begun : end_at nodes x ≡ None → (l : List Field) → Least (ends nodes) l → Beginning l s → ⊥
+  least-not_begun : terminal_at nodes x ≡ None → (l : List Field) → Least (terminals nodes) l → Beginning l s → ⊥
   least-not_begun none l least b =
       let same : l ≡ s = ⊎_elim
       (λ (e : s ≡ []). let b' : Beginning l [] = subst (Beginning l) e b in begins_nil l b' ∙ sym e)
-      (λ (h : (p : List Field) × Least (ends nodes) p × Beginning s p).
+      (λ (h : (p : List Field) × Least (terminals nodes) p × Beginning s p).
       let is = h.1.first l least.member (beginning_trans l s h.0 b h.2) in
       beginning_both l s b (subst (Beginning s) (sym is) h.2))
       begun in
-      let e = ends-here (subst (Contains (ends nodes)) same least.member) in
+      let e = terminals-here (subst (Contains (terminals nodes)) same least.member) in
       let z : None ≡ Some s = sym none ∙ e in cc
 
-  -- behind a node in which no path ends, each step goes on
-  pub begun-child : end_at nodes x ≡ None → (f : Field) (j : ℕ) → child_at nodes x f ≡ Some j → Begun (ends nodes) (s ++ f ∷ [])
+  -- from a node where no path ends, each step goes on
+  pub begun-child : terminal_at nodes x ≡ None → (f : Field) (j : ℕ) → child_at nodes x f ≡ Some j → Begun (terminals nodes) (s ++ f ∷ [])
   begun-child none f j e =
       let there = walk-snoc (child_at nodes) x j s f at e in
       let u = trie.used (s ++ f ∷ []) j there (λ is. no_snoc s f (trie.once (s ++ f ∷ []) [] j there (ap Some (sym is)))) in
       let q = (s ++ f ∷ []) ++ u.1 in
-      let c = of-end nodes u.0 q u.2 in
-      let l = least_covers (ends nodes) q (covers_member (ends nodes) q c) in
+      let c = of-terminal nodes u.0 q u.2 in
+      let l = least_covers (terminals nodes) q (covers_member (terminals nodes) q c) in
       ⊎_elim
       (λ b. inr (l.0, l.1, b))
       (λ b. absurd (least-not_begun none l.0 l.1 b))
       (compare s l.0 q u.1 l.2.0 f refl l.2.1)
 
   -- a node in which a path ends begins nothing else that is begun
-  pub begun-end : end_at nodes x ≡ Some s → (q : List Field) → Begun (ends nodes) q → Beginning s q → q ≡ s
-  begun-end e q b d =
+  pub begun-terminal : terminal_at nodes x ≡ Some s → (q : List Field) → Begun (terminals nodes) q → Beginning s q → q ≡ s
+  begun-terminal e q b d =
       ⊎_elim
       (λ (z : q ≡ []). z ∙ sym (begins_nil s (subst (Beginning s) z d)))
-      (λ (h : (p : List Field) × Least (ends nodes) p × Beginning q p).
-      let is : s ≡ h.0 = h.1.first s (of-end nodes x s e) (beginning_trans s q h.0 d h.2) in
+      (λ (h : (p : List Field) × Least (terminals nodes) p × Beginning q p).
+      let is : s ≡ h.0 = h.1.first s (of-terminal nodes x s e) (beginning_trans s q h.0 d h.2) in
       beginning_both q s (subst (Beginning q) (sym is) h.2) d)
       b
 
   -- what is begun below it is begun by one of its steps
-  pub begun-later : (q : List Field) → Begun (ends nodes) q → Beginning s q → (q ≡ s) ⊎ ((f : Field) × (j : ℕ) × (child_at nodes x f ≡ Some j) × Beginning (s ++ f ∷ []) q)
+  pub begun-later : (q : List Field) → Begun (terminals nodes) q → Beginning s q → (q ≡ s) ⊎ ((f : Field) × (j : ℕ) × (child_at nodes x f ≡ Some j) × Beginning (s ++ f ∷ []) q)
   begun-later q b d = go d.0 d.1
     where
       go : (rest : List Field) → q ≡ s ++ rest → (q ≡ s) ⊎ ((f : Field) × (j : ℕ) × (child_at nodes x f ≡ Some j) × Beginning (s ++ f ∷ []) q)
@@ -94,8 +94,8 @@ module _ (nodes : List Node) (trie : IsTrie nodes) (s : List Field) (x : ℕ) (a
       go (f ∷ t) e =
           ⊎_elim
           (λ (z : q ≡ []). inl (z ∙ sym (begins_nil s (subst (Beginning s) z d))))
-          (λ (h : (p : List Field) × Least (ends nodes) p × Beginning q p).
-          let w = end-of nodes h.0 h.1.member in
+          (λ (h : (p : List Field) × Least (terminals nodes) p × Beginning q p).
+          let w = terminal-of nodes h.0 h.1.member in
           let v : walk (child_at nodes) 0 h.0 ≡ Some w.0 = trie.own w.0 h.0 w.1 in
           let is : h.0 ≡ s ++ (f ∷ (t ++ h.2.0)) = h.2.1 ∙ ap (λ p. p ++ h.2.0) e ∙ append_assoc s (f ∷ t) h.2.0 in
           let on : walk (child_at nodes) x (f ∷ (t ++ h.2.0)) ≡ Some w.0 = sym (walk-append (child_at nodes) 0 x s (f ∷ (t ++ h.2.0)) at) ∙ subst (λ p. walk (child_at nodes) 0 p ≡ Some w.0) is v in
@@ -103,20 +103,20 @@ module _ (nodes : List Node) (trie : IsTrie nodes) (s : List Field) (x : ℕ) (a
           b
 
 -- what has been visited, and what is still to be
-pub record Visits (nodes left : List Node) (found : List (List Field)) (visits : ℕ) (places : List ℕ) : Type 0 where
+pub record Visits (nodes left : List Node) (found : List (List Field)) (visits : ℕ) (node_indices : List ℕ) : Type 0 where
   pub done : List (List Field)
   pub long : length left ≡ length nodes
   pub apart : Apart done
   pub led : (s : List Field) → Contains done s → (i : ℕ) × (walk (child_at nodes) 0 s ≡ Some i)
-  pub begun : (s : List Field) → Contains done s → Begun (ends nodes) s
+  pub begun : (s : List Field) → Contains done s → Begun (terminals nodes) s
   pub parents : (s : List Field) (f : Field) → Contains done (s ++ f ∷ []) → Contains done s
-  pub waiting : Apart places
-  pub waits : (i : ℕ) → Contains places i → (s : List Field) × (walk (child_at nodes) 0 s ≡ Some i) × Begun (ends nodes) s × (Contains done s → ⊥)
-  pub waits_parents : (i : ℕ) (s : List Field) (f : Field) → Contains places i → walk (child_at nodes) 0 (s ++ f ∷ []) ≡ Some i → Contains done s
-  pub same_ends : (i : ℕ) (s : List Field) → walk (child_at nodes) 0 s ≡ Some i → (Contains done s → ⊥) → end_at left i ≡ end_at nodes i
+  pub waiting : Apart node_indices
+  pub waits : (i : ℕ) → Contains node_indices i → (s : List Field) × (walk (child_at nodes) 0 s ≡ Some i) × Begun (terminals nodes) s × (Contains done s → ⊥)
+  pub waits_parents : (i : ℕ) (s : List Field) (f : Field) → Contains node_indices i → walk (child_at nodes) 0 (s ++ f ∷ []) ≡ Some i → Contains done s
+  pub same_ends : (i : ℕ) (s : List Field) → walk (child_at nodes) 0 s ≡ Some i → (Contains done s → ⊥) → terminal_at left i ≡ terminal_at nodes i
   pub same_steps : (i : ℕ) (s : List Field) (f : Field) → walk (child_at nodes) 0 s ≡ Some i → (Contains done s → ⊥) → child_at left i f ≡ child_at nodes i f
-  pub rest : (q : List Field) → Begun (ends nodes) q → Contains done q ⊎ ((i : ℕ) × (s : List Field) × Contains places i × (walk (child_at nodes) 0 s ≡ Some i) × Beginning s q)
-  pub exact : (p : List Field) → Contains found p ↔ (Contains done p × Contains (ends nodes) p)
+  pub rest : (q : List Field) → Begun (terminals nodes) q → Contains done q ⊎ ((i : ℕ) × (s : List Field) × Contains node_indices i × (walk (child_at nodes) 0 s ≡ Some i) × Beginning s q)
+  pub exact : (p : List Field) → Contains found p ↔ (Contains done p × Contains (terminals nodes) p)
   pub once : Apart found
   pub count : visits ≡ length done
 
@@ -157,7 +157,7 @@ visits-start nodes trie = record {
 
 module _ (nodes left next : List Node) (found : List (List Field)) (visits : ℕ) (ps : List ℕ) (x : ℕ) (trie : IsTrie nodes) (o : Visits nodes left found visits (ps ++ x ∷ []))
     (long : length next ≡ length left)
-    (others_end : (i : ℕ) → i ≢ x → end_at next i ≡ end_at left i)
+    (others_end : (i : ℕ) → i ≢ x → terminal_at next i ≡ terminal_at left i)
     (others_step : (i : ℕ) (f : Field) → i ≢ x → child_at next i f ≡ child_at left i f) where
   abbrev pub s : List Field
   s = (o.waits x (Contains-push ps x)).0
@@ -165,24 +165,24 @@ module _ (nodes left next : List Node) (found : List (List Field)) (visits : ℕ
   at : walk (child_at nodes) 0 s ≡ Some x
   at = (o.waits x (Contains-push ps x)).1
 
-  is_begun : Begun (ends nodes) s
+  is_begun : Begun (terminals nodes) s
   is_begun = (o.waits x (Contains-push ps x)).2
 
   is_new : Contains o.done s → ⊥
   is_new = (o.waits x (Contains-push ps x)).3
 
-  end_same : end_at left x ≡ end_at nodes x
+  end_same : terminal_at left x ≡ terminal_at nodes x
   end_same = o.same_ends x s at is_new
 
-  -- the place tells the path
+  -- a node index determines the path that leads to it
   told : (t : List Field) (i : ℕ) → walk (child_at nodes) 0 t ≡ Some i → i ≡ x → t ≡ s
   told t i w e = trie.once t s x (w ∙ ap Some e) at
 
   led' : (t : List Field) → Contains (s ∷ o.done) t → (i : ℕ) × (walk (child_at nodes) 0 t ≡ Some i)
   led' t c = ⊎_elim (λ e. (x, subst (λ p. walk (child_at nodes) 0 p ≡ Some x) e at)) (λ d. o.led t d) (contains-cons s t o.done c)
 
-  begun' : (t : List Field) → Contains (s ∷ o.done) t → Begun (ends nodes) t
-  begun' t c = ⊎_elim (λ e. subst (Begun (ends nodes)) e is_begun) (λ d. o.begun t d) (contains-cons s t o.done c)
+  begun' : (t : List Field) → Contains (s ∷ o.done) t → Begun (terminals nodes) t
+  begun' t c = ⊎_elim (λ e. subst (Begun (terminals nodes)) e is_begun) (λ d. o.begun t d) (contains-cons s t o.done c)
 
   parents' : (t : List Field) (f : Field) → Contains (s ∷ o.done) (t ++ f ∷ []) → Contains (s ∷ o.done) t
   parents' t f c =
@@ -195,7 +195,7 @@ module _ (nodes left next : List Node) (found : List (List Field)) (visits : ℕ
   apart_from : (i : ℕ) (t : List Field) → walk (child_at nodes) 0 t ≡ Some i → (Contains (s ∷ o.done) t → ⊥) → i ≢ x
   apart_from i t w n e = n (subst (Contains (s ∷ o.done)) (sym (told t i w e)) (contains-head s o.done))
 
-  same_ends' : (i : ℕ) (t : List Field) → walk (child_at nodes) 0 t ≡ Some i → (Contains (s ∷ o.done) t → ⊥) → end_at next i ≡ end_at nodes i
+  same_ends' : (i : ℕ) (t : List Field) → walk (child_at nodes) 0 t ≡ Some i → (Contains (s ∷ o.done) t → ⊥) → terminal_at next i ≡ terminal_at nodes i
   same_ends' i t w n = others_end i (apart_from i t w n) ∙ o.same_ends i t w (λ c. n (contains-tail s t o.done c))
 
   same_steps' : (i : ℕ) (t : List Field) (f : Field) → walk (child_at nodes) 0 t ≡ Some i → (Contains (s ∷ o.done) t → ⊥) → child_at next i f ≡ child_at nodes i f
@@ -203,7 +203,7 @@ module _ (nodes left next : List Node) (found : List (List Field)) (visits : ℕ
 
   -- what waited beside it waits on
   Waits : ℕ → Type 0
-  Waits i = (t : List Field) × (walk (child_at nodes) 0 t ≡ Some i) × Begun (ends nodes) t × (Contains (s ∷ o.done) t → ⊥)
+  Waits i = (t : List Field) × (walk (child_at nodes) 0 t ≡ Some i) × Begun (terminals nodes) t × (Contains (s ∷ o.done) t → ⊥)
 
   still : (i : ℕ) → Contains ps i → Waits i
   unfolding Waits
@@ -228,12 +228,12 @@ module _ (nodes left next : List Node) (found : List (List Field)) (visits : ℕ
   pub child-once : (f g : Field) (j : ℕ) → child_at left x f ≡ Some j → child_at left x g ≡ Some j → f ≡ g
   child-once f g j a b = snoc-last s s f g (trie.once (s ++ f ∷ []) (s ++ g ∷ []) j (stepped f j a) (stepped g j b))
 
-  pub visited-end : (p : List Field) → end_at left x ≡ Some p → Visits nodes next (found ++ p ∷ []) (visits + 1) ps
+  pub visited-terminal : (p : List Field) → terminal_at left x ≡ Some p → Visits nodes next (found ++ p ∷ []) (visits + 1) ps
   unfolding Waits
-  visited-end p is =
-      let here : end_at nodes x ≡ Some p = sym end_same ∙ is in
+  visited-terminal p is =
+      let here : terminal_at nodes x ≡ Some p = sym end_same ∙ is in
       let same : s ≡ p = trie.once s p x at (trie.own x p here) in
-      let mine : end_at nodes x ≡ Some s = here ∙ ap Some (sym same) in record {
+      let mine : terminal_at nodes x ≡ Some s = here ∙ ap Some (sym same) in record {
         done = s ∷ o.done;
         long = long ∙ o.long;
         apart = apart-cons s o.done is_new o.apart;
@@ -253,7 +253,7 @@ module _ (nodes left next : List Node) (found : List (List Field)) (visits : ℕ
             (λ c. inr (h.0, h.1, c, h.3, h.4))
             (λ e.
             let t = told h.1 h.0 h.3 (sym e) in
-            let r = begun-end nodes trie s x at is_begun mine q b (subst (λ a. Beginning a q) t h.4) in
+            let r = begun-terminal nodes trie s x at is_begun mine q b (subst (λ a. Beginning a q) t h.4) in
             inl (subst (Contains (s ∷ o.done)) (sym r) (contains-head s o.done)))
             (Contains-push_cases ps x h.0 h.2))
             (o.rest q b);
@@ -261,7 +261,7 @@ module _ (nodes left next : List Node) (found : List (List Field)) (visits : ℕ
           λ c.
               ⊎_elim
               (λ d. let w = (o.exact q).0 d in (contains-tail s q o.done w.0, w.1))
-              (λ e. let r : s ≡ q = same ∙ e in (subst (Contains (s ∷ o.done)) r (contains-head s o.done), subst (Contains (ends nodes)) r (of-end nodes x s mine)))
+              (λ e. let r : s ≡ q = same ∙ e in (subst (Contains (s ∷ o.done)) r (contains-head s o.done), subst (Contains (terminals nodes)) r (of-terminal nodes x s mine)))
               (Contains-push_cases found p q c),
           λ c.
               ⊎_elim
@@ -274,10 +274,10 @@ module _ (nodes left next : List Node) (found : List (List Field)) (visits : ℕ
         count = omega (arith, o.count);
       }
 
-  pub visited-on : (vs : List ℕ) → end_at left x ≡ None → Apart vs → ((j : ℕ) → Contains vs j → (f : Field) × (child_at left x f ≡ Some j)) → ((f : Field) (j : ℕ) → child_at left x f ≡ Some j → Contains vs j) → Visits nodes next found (visits + 1) (ps ++ vs)
+  pub visited-on : (vs : List ℕ) → terminal_at left x ≡ None → Apart vs → ((j : ℕ) → Contains vs j → (f : Field) × (child_at left x f ≡ Some j)) → ((f : Field) (j : ℕ) → child_at left x f ≡ Some j → Contains vs j) → Visits nodes next found (visits + 1) (ps ++ vs)
   unfolding Waits
   visited-on vs is alone from to =
-      let here : end_at nodes x ≡ None = sym end_same ∙ is in
+      let here : terminal_at nodes x ≡ None = sym end_same ∙ is in
       record {
         done = s ∷ o.done;
         long = long ∙ o.long;
@@ -327,7 +327,7 @@ module _ (nodes left next : List Node) (found : List (List Field)) (visits : ℕ
           λ c.
               ⊎_elim
               (λ e.
-              let z : end_at nodes x ≡ Some s = ends-here nodes trie s x at is_begun (subst (Contains (ends nodes)) (sym e) c.1) in
+              let z : terminal_at nodes x ≡ Some s = terminals-here nodes trie s x at is_begun (subst (Contains (terminals nodes)) (sym e) c.1) in
               let y : None ≡ Some s = sym here ∙ z in absurd (cc))
               (λ d. (o.exact q).1 (d, c.1))
               (contains-cons s q o.done c.0),
@@ -339,8 +339,8 @@ module _ (nodes left next : List Node) (found : List (List Field)) (visits : ℕ
       on : (j : ℕ) → (f : Field) × (child_at left x f ≡ Some j) → (f : Field) × (child_at nodes x f ≡ Some j)
       on j w = (w.0, sym (o.same_steps x s w.0 at is_new) ∙ w.1)
 
-  -- the places of the children of what is visited
-  pub visited-children : (es : List (Field × ℕ)) → IsDistinct same_field (keys_of es) → ((f : Field) → lookup (same_field f) es ≡ child_at left x f) → end_at left x ≡ None → Visits nodes next found (visits + 1) (ps ++ values_of es)
+  -- the node indices of the children of what is visited
+  pub visited-children : (es : List (Field × ℕ)) → IsDistinct same_field (keys_of es) → ((f : Field) → lookup (same_field f) es ≡ child_at left x f) → terminal_at left x ≡ None → Visits nodes next found (visits + 1) (ps ++ values_of es)
   visited-children es unique steps is =
       visited-on (values_of es) is
       (apart-values same_field same_field-Decides es unique (λ f g j a b. child-once f g j (sym (steps f) ∙ a) (sym (steps g) ∙ b)))
@@ -372,17 +372,17 @@ module _ (nodes left next : List Node) (found : List (List Field)) (visits : ℕ
   pub visits-counts : (most next_visits : ℕ) → next_visits ≡ min (visits + 1) most → length nodes ≤ most → (next_visits ≡ visits + 1) × (length nodes - next_visits < length nodes - visits)
   visits-counts most next_visits visited small = (omega (arith, visits-room, small, visited), omega (arith, visits-room, small, visited))
 
--- ---- when no place is left
+-- ---- when no node index is left
 
 module _ (nodes left : List Node) (found : List (List Field)) (visits : ℕ) (o : Visits nodes left found visits []) where
-  visited-begun : (q : List Field) → Begun (ends nodes) q → Contains o.done q
+  visited-begun : (q : List Field) → Begun (terminals nodes) q → Contains o.done q
   visited-begun q b =
       ⊎_elim
       (λ d. d)
       (λ (h : (i : ℕ) × (t : List Field) × Contains [] i × (walk (child_at nodes) 0 t ≡ Some i) × Beginning t q). absurd (contains-nil h.0 h.2))
       (o.rest q b)
 
-  pub visited-count : IsCountOf (Begun (ends nodes)) visits
+  pub visited-count : IsCountOf (Begun (terminals nodes)) visits
   visited-count = record {
     paths = o.done;
     distinct = AllPairs-from_IsDistinct same_path-Decides o.done (apart-distinct same_path same_path-Decides o.done o.apart);
@@ -390,13 +390,13 @@ module _ (nodes left : List Node) (found : List (List Field)) (visits : ℕ) (o 
     count = sym o.count;
   }
 
-  pub visited-least : (p : List Field) → Contains found p ↔ Least (ends nodes) p
+  pub visited-least : (p : List Field) → Contains found p ↔ Least (terminals nodes) p
   visited-least p = (
     λ c.
         let w = (o.exact p).0 c in
         ⊎_elim
         (λ (e : p ≡ []). record { member = w.1; first = λ q m b. begins_nil q (subst (Beginning q) e b) ∙ sym e })
-        (λ (h : (l : List Field) × Least (ends nodes) l × Beginning p l). subst (Least (ends nodes)) (sym (h.1.first p w.1 h.2)) h.1)
+        (λ (h : (l : List Field) × Least (terminals nodes) l × Beginning p l). subst (Least (terminals nodes)) (sym (h.1.first p w.1 h.2)) h.1)
         (o.begun p w.0),
     λ l. (o.exact p).1 (visited-begun p (inr (p, l, beginning_refl p)), l.member),
   )
@@ -404,6 +404,6 @@ module _ (nodes left : List Node) (found : List (List Field)) (visits : ℕ) (o 
   pub visited-once : Distinct found
   visited-once = AllPairs-from_IsDistinct same_path-Decides found (apart-distinct same_path same_path-Decides found o.once)
 
--- what the least paths of a list are told to be, they are for coverage
+-- the least paths of a list cover what it covers
 pub within : (ps found : List (List Field)) → ((p : List Field) → Contains found p ↔ Least ps p) → (qs : List (List Field)) → SameCoverage qs ps → (p : List Field) → Contains found p → Contains qs p
 within ps found h qs alike p c = least_within ps qs alike p ((h p).0 c)

@@ -1,10 +1,9 @@
 -- SPDX-License-Identifier: Apache-2.0
 -- SPDX-FileCopyrightText: Copyright the Vortex contributors
 
--- What a set of paths covers, and the fewest of its paths that cover the same. A path stands for all that
--- lies below it, so a reader that is given a path needs none of those that it begins. This is the meaning of the
--- original's `FieldPathSet::into_iter`, which drops each path that another path of the set begins. That these
--- tests say so in relations is the law `what_covers_and_least_say`.
+-- What a set of paths covers, and the fewest of its paths that cover the same. A path covers everything below it, so a
+-- reader of a path needs no path that it begins. From the original's `FieldPathSet::into_iter`, which drops each path
+-- that another path of the set begins. The law `what_covers_and_least_say` says both tests as relations.
 use Rattle.std.specs.Prelude.{◌≡◌, ◌↔◌, ℕ, Bool, List, length, not, ◌&&◌}
 use Rattle.std.specs.FinSet as set
 use Rattle.std.specs.List.{Contains, list_any, starts_with}
@@ -29,7 +28,7 @@ least s = set.retain s (λ p. not (list_any (λ q. begins_below q p) (set.items 
 abbrev pub CoverAlike : PathSet → PathSet → Type 0
 CoverAlike s t = (q : List Field) → covers s q ≡ covers t q
 
--- exactly n paths are as P says
+-- there are exactly n paths with the property P
 pub record IsCountOf (P : List Field → Type 0) (n : ℕ) : Type 0 where
   pub paths : List (List Field)
   pub distinct : Distinct paths

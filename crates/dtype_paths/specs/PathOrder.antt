@@ -1,8 +1,8 @@
 -- SPDX-License-Identifier: Apache-2.0
 -- SPDX-FileCopyrightText: Copyright the Vortex contributors
 
--- The set of paths as a value: a finite set, whose members stand in an order of paths by their steps. The order
--- is there so that a set can be a value. No call gives paths in it, and only equal paths tie in it.
+-- A set of paths as a value: a finite set, whose members are kept in a total order of paths. The order only makes equal
+-- sets equal values; no call promises it.
 use Rattle.std.specs.Prelude.{◌≡◌, ℕ, List, Option, Some, None, refl}
 use Rattle.std.specs.Cmp.Lexicographic.{slice_cmp}
 use Rattle.std.specs.Coded.{Coded, code_by, coded_list, coded_ℕ, coded_option}
@@ -23,6 +23,7 @@ abbrev pub named : Option (List ℕ) → Field
 named (Some n) = Name n
 named None = ElementType
 
+-- the two are inverse
 pub named-held_name : (f : Field) → named (held_name f) ≡ f
 named-held_name (Name n) = refl
 named-held_name ElementType = refl
@@ -43,9 +44,10 @@ PathSet = set.FinSet path_cmp
 abbrev pub set_of : List (List Field) → PathSet
 set_of = set.from_list
 
--- how steps and sets are kept as values
+-- a step as a value that can be compared
 abbrev pub field_code : Coded Field
 field_code = code_by (Option (List ℕ)) (coded_option (coded_list coded_ℕ)) held_name named named-held_name
 
+-- a set as a value that can be compared
 abbrev pub set_code : Coded PathSet
 set_code = set.code (coded_list field_code)

@@ -15,14 +15,14 @@ use std::alloc::Global;
 use std::collections::HashMap;
 use std::marker::Model;
 
-// How many children are found by hash before a tree takes them. The hash has no secret, so names can be
-// chosen that all of a map have to be compared with: no more than these.
-const MOST: usize = 1024;
+// The most children that are found by hash. The hash is unkeyed, so adversarial names can all collide: a lookup then
+// compares at most this many steps.
+const MAX_MAP_CHILDREN: usize = 1024;
 
-/// Steps and the places to which they lead, found by hash.
+/// Children in a hash map.
 #[derive(Drop)]
 pub(crate) struct ChildMap {
-    places: HashMap<Field, usize>,
+    node_indices: HashMap<Field, usize>,
 }
 
 impl Model for ChildMap {
@@ -31,77 +31,77 @@ impl Model for ChildMap {
 
     ghost Value = { List (Field × ℕ) };
 
-    ghost view = { λ c. c.places.entries };
+    ghost view = { λ c. c.node_indices.entries };
 }
 
 impl ChildMap {
-    // No child, with room for some. Refuses 0 (OutOfMemory) alone.
+    // No child, with this capacity.
     pub(crate) fn with_capacity(alloc: Global, capacity: usize) -> VortexResult<Self>
         ensures { MatchResult result (λ c. c ≡ []) (λ e. e ≡ OutOfMemory) }
     {
         Ok(ChildMap {
-            places: HashMap::with_capacity(alloc, capacity)?,
+            node_indices: HashMap::with_capacity(alloc, capacity)?,
         })
     }
 
-    // Where the step leads.
+    // The node that the step leads to.
     pub(crate) fn get(&self, step: &Field) -> Option<usize>
         ensures { result ≡ lookup (same_field step.now) self.now }
     {
-        self.places.get(step).copied()
+        self.node_indices.get(step).copied()
     }
 
-    // Whether a tree is to take them before there is one more.
+    // Whether one more child goes into a tree.
     pub(crate) fn is_full(&self) -> bool
         ensures { IsTrue result ↔ 1024 ≤ length self.now }
     {
-        self.places.len() >= MOST
+        self.node_indices.len() >= MAX_MAP_CHILDREN
     }
 
-    // Lets the step lead to a place. Refuses 0 (OutOfMemory) alone: the steps are as they were then.
-    pub(crate) fn insert(&mut self, step: Field, place: usize) -> VortexResult<()>
+    // Lets the step lead to a node. After an error the children are unchanged.
+    pub(crate) fn insert(&mut self, step: Field, node_index: usize) -> VortexResult<()>
         ensures ok { OnOk result ((f : Field) → lookup (same_field f) self.new
-            ≡ (if same_field step f then Some place else lookup (same_field f) self.old)) }
+            ≡ (if same_field step f then Some node_index else lookup (same_field f) self.old)) }
         ensures refused { IfErr result (λ e. (e ≡ OutOfMemory) × (self.new ≡ self.old)) }
     {
-        self.places.insert(step, place)?;
+        self.node_indices.insert(step, node_index)?;
         Ok(())
     }
 
-    // Puts the places to which the steps lead behind others. Refuses 0 (OutOfMemory) alone.
-    pub(crate) fn push_places(&self, places: &mut Vec<usize>) -> VortexResult<()>
-        ensures ok { OnOk result (places.new.items ≡ places.old.items ++ values_of self.now) }
+    // Appends the node indices of the children.
+    pub(crate) fn push_node_indices(&self, node_indices: &mut Vec<usize>) -> VortexResult<()>
+        ensures ok { OnOk result (node_indices.new.items ≡ node_indices.old.items ++ values_of self.now) }
         ensures once { IsDistinct same_field (keys_of self.now) }
         ensures refused { IsOkUnless result OutOfMemory }
     {
-        for place in self.places.values() {
-            places.push(*place)?;
+        for node_index in self.node_indices.values() {
+            node_indices.push(*node_index)?;
         }
         Ok(())
     }
 
-    // The same steps, which lead to the same places. Refuses 0 (OutOfMemory) alone.
+    // A copy: the same steps lead to the same nodes.
     pub(crate) fn try_clone(&self, alloc: Global) -> VortexResult<Self>
         ensures { MatchResult result
             (λ c. (f : Field) → lookup (same_field f) c ≡ lookup (same_field f) self.now)
             (λ e. e ≡ OutOfMemory) }
     {
-        let mut copy = ChildMap::with_capacity(alloc, self.places.len())?;
-        for (step, place) in self.places.iter() {
-            copy.insert(step.try_clone(alloc)?, *place)?;
+        let mut copy = ChildMap::with_capacity(alloc, self.node_indices.len())?;
+        for (step, node_index) in self.node_indices.iter() {
+            copy.insert(step.try_clone(alloc)?, *node_index)?;
         }
         Ok(copy)
     }
 
-    // A tree in which the same steps lead to the same places. Refuses 0 (OutOfMemory) alone.
+    // A tree of the same children.
     pub(crate) fn to_tree(&self, alloc: Global) -> VortexResult<ChildTree>
         ensures { MatchResult result
             (λ t. (f : Field) → lookup (same_field f) t ≡ lookup (same_field f) self.now)
             (λ e. e ≡ OutOfMemory) }
     {
         let mut tree = ChildTree::new(alloc);
-        for (step, place) in self.places.iter() {
-            tree.insert(step.try_clone(alloc)?, *place)?;
+        for (step, node_index) in self.node_indices.iter() {
+            tree.insert(step.try_clone(alloc)?, *node_index)?;
         }
         Ok(tree)
     }

@@ -14,14 +14,14 @@ ghost use Rattle.dtype_paths.specs.StepKeys.{step_key};
 ghost use Rattle.dtype_paths.specs.declared.field.Field.{Field};
 
 use crate::Field;
-use crate::step_key::key_of;
+use crate::step_key::step_key_of;
 use dtype_base::VortexResult;
 use std::alloc::Global;
 use std::collections::BTreeMap;
 use std::marker::Model;
 
-/// Steps and the places to which they lead, by the keys of the steps. Of several steps with one key the one that
-/// came first stands at it, and the others are found by their order, so no names are slow, whoever chose them.
+/// Children in two B-trees. The first has one step of each key, by its key; the second has the other steps, in their
+/// own order. So a lookup takes logarithmically many comparisons, whoever chooses the names, and mostly of numbers.
 #[derive(Drop)]
 pub(crate) struct ChildTree {
     by_key: BTreeMap<u64, (Field, usize)>,
@@ -41,7 +41,7 @@ impl Model for ChildTree {
 }
 
 impl ChildTree {
-    // No child. Takes no memory.
+    // No child. Doesn't allocate.
     pub(crate) fn new(alloc: Global) -> Self
         ensures { result ≡ [] }
     {
@@ -51,42 +51,42 @@ impl ChildTree {
         }
     }
 
-    // Where the step leads.
+    // The node that the step leads to.
     pub(crate) fn get(&self, step: &Field) -> Option<usize>
         ensures { result ≡ lookup (same_field step.now) self.now }
     {
         match found_at_key(&self.by_key, step) {
-            Some(place) => Some(place),
+            Some(node_index) => Some(node_index),
             None => self.by_step.get(step).copied(),
         }
     }
 
-    // Lets the step lead to a place. Refuses 0 (OutOfMemory) alone: the steps are as they were then.
-    pub(crate) fn insert(&mut self, step: Field, place: usize) -> VortexResult<()>
+    // Lets the step lead to a node. After an error the children are unchanged.
+    pub(crate) fn insert(&mut self, step: Field, node_index: usize) -> VortexResult<()>
         ensures ok { OnOk result ((f : Field) → lookup (same_field f) self.new
-            ≡ (if same_field step f then Some place else lookup (same_field f) self.old)) }
+            ≡ (if same_field step f then Some node_index else lookup (same_field f) self.old)) }
         ensures refused { IfErr result (λ e. (e ≡ OutOfMemory) × (self.new ≡ self.old)) }
     {
-        let key = key_of(&step);
+        let key = step_key_of(&step);
         if is_taken(&self.by_key, key, &step) {
-            self.by_step.insert(step, place)?;
+            self.by_step.insert(step, node_index)?;
         } else {
-            put_at_key(&mut self.by_key, key, step, place)?;
+            put_at_key(&mut self.by_key, key, step, node_index)?;
         }
         Ok(())
     }
 
-    // Puts the places to which the steps lead behind others. Refuses 0 (OutOfMemory) alone.
-    pub(crate) fn push_places(&self, places: &mut Vec<usize>) -> VortexResult<()>
-        ensures ok { OnOk result (places.new.items ≡ places.old.items ++ values_of self.now) }
+    // Appends the node indices of the children.
+    pub(crate) fn push_node_indices(&self, node_indices: &mut Vec<usize>) -> VortexResult<()>
+        ensures ok { OnOk result (node_indices.new.items ≡ node_indices.old.items ++ values_of self.now) }
         ensures once { IsDistinct same_field (keys_of self.now) }
         ensures refused { IsOkUnless result OutOfMemory }
     {
-        push_first(&self.by_key, places)?;
-        push_values(&self.by_step, places)
+        push_first(&self.by_key, node_indices)?;
+        push_values(&self.by_step, node_indices)
     }
 
-    // The same steps, which lead to the same places. Refuses 0 (OutOfMemory) alone.
+    // A copy: the same steps lead to the same nodes.
     pub(crate) fn try_clone(&self, alloc: Global) -> VortexResult<Self>
         ensures { MatchResult result (λ t. t ≡ self.now) (λ e. e ≡ OutOfMemory) }
     {
@@ -97,32 +97,36 @@ impl ChildTree {
     }
 }
 
-// Where the step leads that stands at the key of this one, if it is this one.
+// The node that the step leads to, if the step at its key is this one.
 fn found_at_key(by_key: &BTreeMap<u64, (Field, usize)>, step: &Field) -> Option<usize>
     ensures { result ≡ led_by step.now (at_key by_key.now.entries (step_key step.now)) }
 {
-    let (first, place) = by_key.get(&key_of(step))?;
-    if first == step { Some(*place) } else { None }
+    let (first, node_index) = by_key.get(&step_key_of(step))?;
+    if first == step {
+        Some(*node_index)
+    } else {
+        None
+    }
 }
 
-// Puts the step at its key, where no other stands. Refuses 0 (OutOfMemory) alone.
+// Puts the step at its key, where there is no other step. After an error the map is unchanged.
 fn put_at_key(
     by_key: &mut BTreeMap<u64, (Field, usize)>,
     key: u64,
     step: Field,
-    place: usize,
+    node_index: usize,
 ) -> VortexResult<()>
     ensures ok { OnOk result ((k : ℕ) → at_key by_key.new.entries k
-        ≡ (if is_at (nat_cmp key) k then Some (step, place) else at_key by_key.old.entries k)) }
+        ≡ (if is_at (nat_cmp key) k then Some (step, node_index) else at_key by_key.old.entries k)) }
     ensures refused { IfErr result (λ e. (e ≡ OutOfMemory)
         × (by_key.new.entries ≡ by_key.old.entries)) }
     ensures ordered { IsOrdered nat_cmp by_key.new }
 {
-    by_key.insert(key, (step, place))?;
+    by_key.insert(key, (step, node_index))?;
     Ok(())
 }
 
-// Whether another step stands at the key of this one.
+// Whether there is another step at the key of this one.
 fn is_taken(by_key: &BTreeMap<u64, (Field, usize)>, key: u64, step: &Field) -> bool
     requires { key ≡ step_key step.now }
     ensures taken { IsTrue result → IsTaken by_key.now.entries step.now }
@@ -134,29 +138,32 @@ fn is_taken(by_key: &BTreeMap<u64, (Field, usize)>, key: u64, step: &Field) -> b
     }
 }
 
-// Puts the places at the keys behind others. Refuses 0 (OutOfMemory) alone.
-fn push_first(by_key: &BTreeMap<u64, (Field, usize)>, places: &mut Vec<usize>) -> VortexResult<()>
-    ensures ok { OnOk result (places.new.items ≡ places.old.items ++ values_of (values by_key.now)) }
+// Appends the node indices of the steps at their keys.
+fn push_first(
+    by_key: &BTreeMap<u64, (Field, usize)>,
+    node_indices: &mut Vec<usize>,
+) -> VortexResult<()>
+    ensures ok { OnOk result (node_indices.new.items ≡ node_indices.old.items ++ values_of (values by_key.now)) }
     ensures refused { IsOkUnless result OutOfMemory }
 {
-    for (_, place) in by_key.values() {
-        places.push(*place)?;
+    for (_, node_index) in by_key.values() {
+        node_indices.push(*node_index)?;
     }
     Ok(())
 }
 
-// Puts the values of the map behind others. Refuses 0 (OutOfMemory) alone.
-fn push_values(by_step: &BTreeMap<Field, usize>, places: &mut Vec<usize>) -> VortexResult<()>
-    ensures ok { OnOk result (places.new.items ≡ places.old.items ++ values by_step.now) }
+// Appends the values of the map.
+fn push_values(by_step: &BTreeMap<Field, usize>, node_indices: &mut Vec<usize>) -> VortexResult<()>
+    ensures ok { OnOk result (node_indices.new.items ≡ node_indices.old.items ++ values by_step.now) }
     ensures refused { IsOkUnless result OutOfMemory }
 {
-    for place in by_step.values() {
-        places.push(*place)?;
+    for node_index in by_step.values() {
+        node_indices.push(*node_index)?;
     }
     Ok(())
 }
 
-// A map with the same steps at the same keys. Refuses 0 (OutOfMemory) alone.
+// A copy of the map by keys.
 fn copied_by_key(
     alloc: Global,
     by_key: &BTreeMap<u64, (Field, usize)>,
@@ -171,7 +178,7 @@ fn copied_by_key(
     Ok(copy)
 }
 
-// A map in which the same steps lead to the same places. Refuses 0 (OutOfMemory) alone.
+// A copy of the map by steps.
 fn copied_by_step(
     alloc: Global,
     by_step: &BTreeMap<Field, usize>,
@@ -180,8 +187,8 @@ fn copied_by_step(
     ensures ordered { IsOrdered field_cmp by_step.now }
 {
     let mut copy = BTreeMap::new(alloc);
-    for (step, place) in by_step.iter() {
-        copy.insert(step.try_clone(alloc)?, *place)?;
+    for (step, node_index) in by_step.iter() {
+        copy.insert(step.try_clone(alloc)?, *node_index)?;
     }
     Ok(copy)
 }

@@ -23,10 +23,9 @@ use std::alloc::Global;
 use std::marker::Model;
 use std::{fmt, vec};
 
-/// A set of paths.
+/// A set of paths, stored as a trie.
 ///
-/// With `a.b`, `x`, `a` and `a.c` put in, it has four members, and the fewest that cover them are `a` and
-/// `x`.
+/// After `a.b`, `x`, `a` and `a.c` are inserted it has four members. The fewest that cover them are `a` and `x`.
 #[derive(Drop)]
 pub struct FieldPathSet {
     alloc: Global,
@@ -36,17 +35,17 @@ pub struct FieldPathSet {
 impl Model for FieldPathSet {
     ghost use Rattle.std.specs.FinSet as set;
     ghost use Rattle.dtype_paths.specs.PathOrder.{path_cmp, set_code, set_of};
-    ghost use Rattle.dtype_paths.specs.Trie.{ends};
+    ghost use Rattle.dtype_paths.specs.Trie.{terminals};
 
     ghost Value = { set.FinSet path_cmp };
 
     ghost coded = { set_code };
 
-    ghost view = { λ s. set_of (ends s.trie) };
+    ghost view = { λ s. set_of (terminals s.trie) };
 }
 
 impl FieldPathSet {
-    /// The set with no path. Takes no memory.
+    /// Returns the empty set. Doesn't allocate.
     pub fn new(alloc: Global) -> Self
         ensures { result ≡ set.empty }
     {
@@ -56,7 +55,11 @@ impl FieldPathSet {
         }
     }
 
-    /// The set of the paths that an iterator gives. Refuses 0 (OutOfMemory) alone.
+    /// Makes the set of the paths that an iterator yields.
+    ///
+    /// # Errors
+    ///
+    /// - `OutOfMemory` (0): an allocation fails.
     pub fn from_iter<I: IntoIterator<Item = FieldPath>>(
         alloc: Global,
         paths: I,
@@ -77,15 +80,18 @@ impl FieldPathSet {
         Ok(set)
     }
 
-    /// Whether the path is in the set. Takes no memory.
+    /// Returns whether the path is in the set. Doesn't allocate.
     pub fn contains(&self, path: &FieldPath) -> bool
         ensures { result ≡ set.contains self.now path.now }
     {
         self.trie.contains(path.parts())
     }
 
-    /// Puts the path into the set, where it isn't in it yet. Refuses 0 (OutOfMemory) alone: the set is as
-    /// it was then, and the path is dropped.
+    /// Inserts the path, if it isn't in the set yet. After an error the set is unchanged and the path is dropped.
+    ///
+    /// # Errors
+    ///
+    /// - `OutOfMemory` (0): an allocation fails.
     pub fn insert(&mut self, path: FieldPath) -> VortexResult<()>
         ensures ok { OnOk result (self.new ≡ set.insert self.old path) }
         ensures err { OnErr result (self.new ≡ self.old) }
@@ -94,8 +100,12 @@ impl FieldPathSet {
         self.trie.insert(self.alloc, path)
     }
 
-    /// Puts the paths that an iterator gives into the set, in order. Refuses 0 (OutOfMemory) alone: those
-    /// that came first are in the set then.
+    /// Inserts the paths that an iterator yields, in their order. After an error the set has those that were yielded
+    /// before the one that couldn't be inserted, and no other.
+    ///
+    /// # Errors
+    ///
+    /// - `OutOfMemory` (0): an allocation fails.
     pub fn extend<I: IntoIterator<Item = FieldPath>>(&mut self, paths: I) -> VortexResult<()>
         requires { (it : I.IntoIter) → I.into_iter_gives paths it
             → I.IntoIter.can_next it × IsFinite (I.IntoIter.remaining it) }
@@ -111,7 +121,11 @@ impl FieldPathSet {
         Ok(())
     }
 
-    /// Lends each path of the set, once. Refuses 0 (OutOfMemory) alone.
+    /// Returns an iterator over references to the paths of the set, each once, in no promised order.
+    ///
+    /// # Errors
+    ///
+    /// - `OutOfMemory` (0): an allocation fails.
     pub fn iter(&self) -> VortexResult<vec::IntoIter<&FieldPath>>
         ensures ok { MatchResult result
             (λ r. set_of (map (λ x. x.now) (into_iter_items r)) ≡ self.now) (λ e. e ≡ OutOfMemory) }
@@ -122,8 +136,12 @@ impl FieldPathSet {
         Ok(found.into_iter())
     }
 
-    /// Gives the paths of the set that no other of its paths begins, each once: the fewest that cover what
-    /// the set covers. Refuses 0 (OutOfMemory) alone: the set is gone then.
+    /// Returns the least paths of the set, those that no other of its paths begins, each once and in no promised order:
+    /// the fewest paths that cover what the set covers. After an error the set is dropped.
+    ///
+    /// # Errors
+    ///
+    /// - `OutOfMemory` (0): an allocation fails.
     pub fn into_iter(self) -> VortexResult<vec::IntoIter<FieldPath>>
         ensures ok { MatchResult result
             (λ r. set_of (into_iter_items r) ≡ least self) (λ e. e ≡ OutOfMemory) }
@@ -137,15 +155,19 @@ impl FieldPathSet {
         Ok(paths)
     }
 
-    /// What `into_iter` gives, and the number of visits that it took: one for the root, and one for each
-    /// path besides that begins one of the paths given, however many others they cover. The number stays at
-    /// the greatest u64. Refuses 0 (OutOfMemory) alone: the set is gone then.
+    /// Returns what `into_iter` returns, and the number of nodes that were visited: the root, and one for each other
+    /// path that begins a returned one, however many paths these cover. The number saturates at the greatest `u64`.
+    /// After an error the set is dropped.
+    ///
+    /// # Errors
+    ///
+    /// - `OutOfMemory` (0): an allocation fails.
     pub fn into_iter_counted(self) -> VortexResult<(vec::IntoIter<FieldPath>, u64)>
         ensures ok { MatchResult result
             (λ r. set_of (into_iter_items r.0) ≡ least self) (λ e. e ≡ OutOfMemory) }
         ensures once { IfOk result (λ r. Distinct (into_iter_items r.0)) }
         ensures runs { OnOk result (YieldsInOrder (into_iter_steps {X = List Field} {Z = Global}) into_iter_items) }
-        // the root, and each beginning of a least path
+        // the root and each beginning of a least path
         ensures visits { IfOk result (λ r. IsCountOf (λ q. (q ≡ [])
             ⊎ ((p : List Field) × IsTrue (set.contains (least self) p) × Beginning q p)) r.1) }
         ensures some { IfOk result (λ r. 0 < r.1) }
@@ -156,7 +178,11 @@ impl FieldPathSet {
         Ok((found.into_iter(), visits))
     }
 
-    /// A set of the same paths. Refuses 0 (OutOfMemory) alone.
+    /// Returns a set of the same paths.
+    ///
+    /// # Errors
+    ///
+    /// - `OutOfMemory` (0): an allocation fails.
     pub fn try_clone(&self) -> VortexResult<Self>
         ensures { MatchResult result (λ s. s ≡ self.now) (λ e. e ≡ OutOfMemory) }
     {
@@ -167,7 +193,7 @@ impl FieldPathSet {
     }
 }
 
-/// The name of the type alone.
+/// Writes the name of the type, and none of its paths.
 impl fmt::Debug for FieldPathSet {
     fn fmt<W: fmt::Write>(&self, f: &mut fmt::Formatter<W>) -> fmt::Result {
         f.write_str("FieldPathSet { .. }")

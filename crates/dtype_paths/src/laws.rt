@@ -1,8 +1,7 @@
 // SPDX-License-Identifier: Apache-2.0
 // SPDX-FileCopyrightText: Copyright the Vortex contributors
 
-// What follows from the definitions of paths alone. Each function's contract is the law, and its body
-// is empty.
+// Theorems about the definitions of paths. Each function's contract is the theorem, and its body is empty.
 ghost use Rattle.std.specs.Prelude.{◌≡◌, ◌↔◌, IsTrue, List, Some, ◌++◌};
 ghost use Rattle.std.specs.FinSet as set;
 ghost use Rattle.dtype_paths.specs.PathOrder.{PathSet, set_of};
@@ -23,7 +22,7 @@ ghost use Rattle.dtype_paths.specs.declared.field.Field.{Field};
 use crate::FieldPath;
 use std::hash::Hash;
 
-/// Along one path followed by another stands what stands along the second in what stands along the first.
+/// The type at one path followed by another is the type at the second path in the type at the first.
 #[tactic(auto, using(crate::specs::lemmas::Stepping::at_joined))]
 pub fn along_joined()
     ensures { (t u : Tree) (p q : List Field) → At t (p ++ q) u ↔ ((x : Tree) × At t p x × At x q u) }
@@ -41,10 +40,10 @@ pub fn a_path_leads_to_a_valid_type()
     ensures { (t u : Tree) (p : List Field) → Valid t → At t p u → Valid u }
 {}
 
-/// Resolution is exact for values. What is given along a path is what stands there; where the path steps through
-/// no fixed size 0, a value is of that type exactly where it lies along the path in some value of the whole, the
-/// one that is made around it. What lies there is of that type in any case; through a fixed size 0 a value of it
-/// may lie there in no value. Where no type stands along a path, and no beginning of it leads to an extension,
+/// Resolution is exact for values. `along` computes the type `At` a path. Where the path steps through no fixed-size
+/// list of size 0, a value is of that type exactly where it lies along the path in some value of the whole, such as
+/// the one made around it. What lies along the path is always of that type; through a size 0 a value of the type may
+/// lie in no value of the whole. Where there is no type at a path, and no beginning of it leads to an extension,
 /// nothing lies along it in any value.
 pub fn resolution_is_exact_for_values()
     ensures given { (t u : Tree) (p : List Field) → (along t p ≡ Some u) ↔ At t p u }
@@ -59,8 +58,8 @@ pub fn resolution_is_exact_for_values()
         → (v : Value) → ¬ (FoundIn t p v) }
 {}
 
-/// Where the path steps through no fixed size 0 and leads to no extension on its way, the path exists in the
-/// whole exactly where something is found; and where a type is given, something is, also beyond an extension.
+/// Where the path steps through no fixed-size list of size 0 and no beginning of it leads to an extension, the path
+/// exists exactly where some value has something along it. Where there is a type at the path, some value has.
 pub fn a_type_is_given_exactly_where_something_is_found()
     ensures exists { (t : Tree) (p : List Field) → Valid t → MeetsNoSizeZero t p → MeetsNoExtension t p
         → (ExistsIn t p ↔ ((v : Value) × FoundIn t p v)) }
@@ -84,7 +83,7 @@ pub fn overlap_is_not_transitive()
     ensures { (p q r : List Field) × Overlaps p q × Overlaps q r × (Overlaps p r → ⊥) }
 {}
 
-/// Fields that are equal feed every hasher alike, and so do paths that are equal.
+/// Equal fields write the same into every hasher, and so do equal paths.
 pub fn equality_agrees_with_hash()
     ensures fields { (f g : Field) → IsTrue (⟦<crate::Field as PartialEq>⟧.eq f g)
         → ⟦<crate::Field as Hash>⟧.hash_input f ≡ ⟦<crate::Field as Hash>⟧.hash_input g }
@@ -106,8 +105,8 @@ pub fn least_paths_tell_the_coverage()
     ensures { (s t : PathSet) → (least s ≡ least t) ↔ CoverAlike s t }
 {}
 
-/// The least paths of a set cover what it covers, are their own least paths, and are in each set that covers
-/// the same.
+/// The least paths of a set cover what it covers, are their own least paths, and are members of each set that
+/// covers the same.
 pub fn a_cover_is_its_own_cover()
     ensures coverage { (s : PathSet) → CoverAlike (least s) s }
     ensures least { (s : PathSet) → least (least s) ≡ least s }
@@ -115,7 +114,7 @@ pub fn a_cover_is_its_own_cover()
         → IsTrue (set.contains t p) }
 {}
 
-/// Of each path that is covered, one of the least paths is a beginning, and one alone.
+/// Exactly one of the least paths is a beginning of a covered path.
 pub fn a_cover_has_one_beginning_of_each_covered_path()
     ensures some { (s : PathSet) (q : List Field) → IsTrue (covers s q)
         → ((p : List Field) × IsTrue (set.contains (least s) p) × Beginning p q) }
@@ -123,7 +122,7 @@ pub fn a_cover_has_one_beginning_of_each_covered_path()
         → IsTrue (set.contains (least s) r) → Beginning p q → Beginning r q → p ≡ r }
 {}
 
-/// These paths cover that one exactly where it starts with some of them: for `any` over them.
+/// The paths of a slice cover a path exactly where it starts with one of them, which `any` over the slice finds.
 pub fn a_path_is_covered_where_it_starts_with_one(paths: &[FieldPath], path: &FieldPath)
     ensures { IsTrue (covers (set_of paths.now) path.now)
         ↔ Any (λ p. IsTrue (starts_with ⟦<crate::Field as PartialEq>⟧.eq path.now p)) paths.now }

@@ -3,9 +3,9 @@
 
 ghost use Rattle.std.specs.Prelude.{◌≡◌, ◌≢◌, ◌≤◌, ◌<◌, ◌+◌, ◌==◌, ◌&&◌, ◌^◌, ◌++◌, [], ◌∷◌, List, ℕ, None, Some, length, drop, take, slice_get, map, min, is_some, if◌then◌else◌, IfOk, IsOkUnless, OnErr, OnOk, MatchResult};
 ghost use Rattle.dtype_base.specs.declared.vortex_error.VortexError.TheVariants.{OutOfMemory};
-ghost use Rattle.dtype_paths.specs.Children.{child, places_by_step};
+ghost use Rattle.dtype_paths.specs.Children.{child, nodes_by_step};
 ghost use Rattle.dtype_paths.specs.Equality.{same_field};
-ghost use Rattle.dtype_paths.specs.Trie.{child_at, end_at, ends, IsAlike, IsChain, IsGrown, IsExtended};
+ghost use Rattle.dtype_paths.specs.Trie.{child_at, terminal_at, terminals, IsAlike, IsChain, HasBranch, IsExtended};
 ghost use Rattle.dtype_paths.specs.declared.field.Field.{Field};
 ghost use Rattle.dtype_paths.specs.declared.node.Node.{Node};
 
@@ -17,8 +17,8 @@ use std::alloc::Global;
 use std::marker::Model;
 use std::mem;
 
-/// Nodes side by side, told by their places. The root is at place 0 and always there, so nodes without
-/// others behind it take no memory.
+/// The nodes of a trie in an arena, referred to by their indices. The root has index 0. It is stored beside the
+/// vector of the others, so that a trie of the root alone doesn't allocate.
 #[derive(Drop)]
 pub(crate) struct Nodes {
     root: Node,
@@ -35,10 +35,10 @@ impl Model for Nodes {
 }
 
 impl Nodes {
-    // The root alone, in which no path ends. Takes no memory.
+    // The root alone, where no path ends. Doesn't allocate.
     pub(crate) fn new(alloc: Global) -> Self
         ensures one { length result ≡ 1 }
-        ensures end { end_at result 0 ≡ None }
+        ensures terminal { terminal_at result 0 ≡ None }
         ensures steps { (f : Field) → child_at result 0 f ≡ None }
     {
         Nodes {
@@ -47,10 +47,10 @@ impl Nodes {
         }
     }
 
-    // The root alone, with room for so many nodes behind it. Refuses 0 (OutOfMemory) alone.
+    // The root alone, with capacity for this many nodes after it.
     pub(crate) fn with_capacity(alloc: Global, nodes: usize) -> VortexResult<Self>
         ensures one { MatchResult result (λ n. length n ≡ 1) (λ e. e ≡ OutOfMemory) }
-        ensures end { IfOk result (λ n. end_at n 0 ≡ None) }
+        ensures terminal { IfOk result (λ n. terminal_at n 0 ≡ None) }
         ensures steps { IfOk result (λ n. (f : Field) → child_at n 0 f ≡ None) }
     {
         Ok(Nodes {
@@ -66,107 +66,112 @@ impl Nodes {
         self.rest.len() + 1
     }
 
-    // Where the step leads from the node at the place.
-    pub(crate) fn child(&self, place: usize, step: &Field) -> Option<usize>
-        requires { place < length self.now }
-        ensures { result ≡ child_at self.now place step.now }
+    // The child of a node by this step.
+    pub(crate) fn child(&self, node_index: usize, step: &Field) -> Option<usize>
+        requires { node_index < length self.now }
+        ensures { result ≡ child_at self.now node_index step.now }
     {
-        self.at(place).child(step)
+        self.at(node_index).child(step)
     }
 
-    // Whether a path ends in the node at the place.
-    pub(crate) fn is_end(&self, place: usize) -> bool
-        requires { place < length self.now }
-        ensures { result ≡ is_some (end_at self.now place) }
+    // Whether a path ends in the node.
+    pub(crate) fn is_terminal(&self, node_index: usize) -> bool
+        requires { node_index < length self.now }
+        ensures { result ≡ is_some (terminal_at self.now node_index) }
     {
-        self.at(place).end().is_some()
+        self.at(node_index).terminal().is_some()
     }
 
-    // The node at the place.
-    fn at(&self, place: usize) -> &Node
-        requires { place < length self.now }
-        ensures { slice_get self.now place ≡ Some result.now }
+    // The node of this index.
+    fn at(&self, node_index: usize) -> &Node
+        requires { node_index < length self.now }
+        ensures { slice_get self.now node_index ≡ Some result.now }
     {
-        match place.checked_sub(1) {
-            Some(behind) => &self.rest[behind],
+        match node_index.checked_sub(1) {
+            Some(in_rest) => &self.rest[in_rest],
             None => &self.root,
         }
     }
 
-    // Lets the path end in the node at the place.
-    pub(crate) fn set_end(&mut self, place: usize, path: FieldPath)
-        requires { place < length self.old }
+    // Makes the node the terminal of the path.
+    pub(crate) fn set_terminal(&mut self, node_index: usize, path: FieldPath)
+        requires { node_index < length self.old }
         ensures long { length self.new ≡ length self.old }
         ensures steps { (i : ℕ) (f : Field) → child_at self.new i f ≡ child_at self.old i f }
-        ensures ends { (i : ℕ) → end_at self.new i ≡ (if i == place then Some path else end_at self.old i) }
+        ensures terminals { (i : ℕ) → terminal_at self.new i ≡ (if i == node_index then Some path else terminal_at self.old i) }
     {
-        match place.checked_sub(1) {
-            Some(behind) => self.rest[behind].set_end(path),
-            None => self.root.set_end(path),
+        match node_index.checked_sub(1) {
+            Some(in_rest) => self.rest[in_rest].set_terminal(path),
+            None => self.root.set_terminal(path),
         }
     }
 
-    // Leads on from the node at `here` along the steps of the path from `at` on, by nodes behind the others,
-    // and lets the path end in the last of them. Refuses 0 (OutOfMemory) alone: some of these nodes may
-    // stand there then.
-    pub(crate) fn grow(
+    // Appends the branch of the path that leaves the trie at the node `here`: a chain of nodes, one for each step from
+    // the step `at` on, of which the last is the path's terminal. The branch becomes a child of `here` last, so that
+    // after an error no node leads to what was appended; some of it may be there then.
+    pub(crate) fn append_branch(
         &mut self,
         alloc: Global,
         here: usize,
         path: FieldPath,
         at: usize,
     ) -> VortexResult<()>
-        requires place { here < length self.old }
+        requires node_index { here < length self.old }
         requires step { at < length path }
         requires none { (f : Field) → slice_get path at ≡ Some f → child_at self.old here f ≡ None }
-        ensures ok { OnOk result (IsGrown self.old here path at self.new) }
+        ensures ok { OnOk result (HasBranch self.old here path at self.new) }
         ensures err { OnErr result (IsExtended self.old self.new) }
         ensures refused { IsOkUnless result OutOfMemory }
     {
         let step = path.parts()[at].try_clone(alloc)?;
         let first = self.len();
         self.push_chain(alloc, path, at + 1)?;
-        self.join(alloc, here, step, first)
+        self.add_child(alloc, here, step, first)
     }
 
-    // Puts nodes behind the others that lead to this path alone, by its steps from `at` on. Refuses 0
-    // (OutOfMemory) alone: some of them may stand there then.
+    // Appends the chain of nodes that leads along the steps of the path from the step `at` on, and ends in its
+    // terminal. After an error some of it may be there.
     fn push_chain(&mut self, alloc: Global, path: FieldPath, at: usize) -> VortexResult<()>
         requires { at ≤ length path }
-        ensures behind { (tail : List Node) × (self.new ≡ self.old ++ tail)
+        ensures appended { (tail : List Node) × (self.new ≡ self.old ++ tail)
             × OnOk result (IsChain path (drop at path) (length self.old) tail) }
         ensures refused { IsOkUnless result OutOfMemory }
     {
         let steps = &path.parts()[at..];
         self.rest.reserve(steps.len() + 1)?;
         for step in steps {
-            let behind = self.rest.len() + 2;
+            let next = self.rest.len() + 2;
             self.rest
-                .push(Node::leading(step.try_clone(alloc)?, behind))?;
+                .push(Node::with_child(step.try_clone(alloc)?, next))?;
         }
-        self.rest.push(Node::ending(path))?;
+        self.rest.push(Node::leaf(path))?;
         Ok(())
     }
 
-    // Lets the step, which leads nowhere yet, lead from the node at `here` to a place. Refuses 0 (OutOfMemory)
-    // alone: the steps lead where they did then.
-    fn join(&mut self, alloc: Global, here: usize, step: Field, place: usize) -> VortexResult<()>
-        requires place { here < length self.old }
+    // Adds a child to the node `here`, by a step that it has none for. After an error the children are unchanged.
+    fn add_child(
+        &mut self,
+        alloc: Global,
+        here: usize,
+        step: Field,
+        node_index: usize,
+    ) -> VortexResult<()>
+        requires node_index { here < length self.old }
         requires none { child_at self.old here step ≡ None }
         ensures long { length self.new ≡ length self.old }
-        ensures ends { (i : ℕ) → end_at self.new i ≡ end_at self.old i }
+        ensures terminals { (i : ℕ) → terminal_at self.new i ≡ terminal_at self.old i }
         ensures ok { OnOk result ((i : ℕ) (f : Field) → child_at self.new i f
-            ≡ (if i == here && same_field step f then Some place else child_at self.old i f)) }
+            ≡ (if i == here && same_field step f then Some node_index else child_at self.old i f)) }
         ensures err { OnErr result ((i : ℕ) (f : Field) → child_at self.new i f ≡ child_at self.old i f) }
         ensures refused { IsOkUnless result OutOfMemory }
     {
         match here.checked_sub(1) {
-            Some(behind) => self.rest[behind].join(alloc, step, place),
-            None => self.root.join(alloc, step, place),
+            Some(in_rest) => self.rest[in_rest].add_child(alloc, step, node_index),
+            None => self.root.add_child(alloc, step, node_index),
         }
     }
 
-    // Cuts off what stands behind the first nodes, so many of them.
+    // Keeps the first nodes, this many, and drops the others.
     pub(crate) fn truncate(&mut self, len: usize)
         requires { 0 < len }
         ensures { self.new ≡ take len self.old }
@@ -174,44 +179,53 @@ impl Nodes {
         self.rest.truncate(len - 1);
     }
 
-    // Opens the node at a place, which is one visit, and leaves an empty one there. A u64 bears a visit of each.
-    pub(crate) fn open(&mut self, place: usize, visits: &mut u64) -> (Option<FieldPath>, Children)
-        requires { place < length self.old }
+    // Takes the node apart, which is one visit, and leaves an empty node in its stead. There are no more nodes than a
+    // `u64` counts.
+    pub(crate) fn open(
+        &mut self,
+        node_index: usize,
+        visits: &mut u64,
+    ) -> (Option<FieldPath>, Children)
+        requires { node_index < length self.old }
         ensures long { length self.new ≡ length self.old }
-        ensures end { result.0 ≡ end_at self.old place }
-        ensures steps { (f : Field) → child result.1 f ≡ child_at self.old place f }
-        ensures end_of_others { (i : ℕ) → i ≢ place → end_at self.new i ≡ end_at self.old i }
-        ensures steps_of_others { (i : ℕ) (f : Field) → i ≢ place
+        ensures terminal { result.0 ≡ terminal_at self.old node_index }
+        ensures steps { (f : Field) → child result.1 f ≡ child_at self.old node_index f }
+        ensures terminal_of_others { (i : ℕ) → i ≢ node_index → terminal_at self.new i ≡ terminal_at self.old i }
+        ensures steps_of_others { (i : ℕ) (f : Field) → i ≢ node_index
             → child_at self.new i f ≡ child_at self.old i f }
         ensures visited { visits.new ≡ min (visits.old + 1) u64.MAX }
         ensures fits { length self.old ≤ u64.MAX }
     {
-        let node = match place.checked_sub(1) {
-            Some(behind) => mem::replace(&mut self.rest[behind], Node::empty()),
+        let node = match node_index.checked_sub(1) {
+            Some(in_rest) => mem::replace(&mut self.rest[in_rest], Node::empty()),
             None => mem::replace(&mut self.root, Node::empty()),
         };
         node.open(visits)
     }
 
-    // Lends each path that ends in a node. Refuses 0 (OutOfMemory) alone.
+    // References to the paths that end in nodes.
     pub(crate) fn gather<'a>(&'a self, alloc: Global) -> VortexResult<Vec<&'a FieldPath>>
         ensures { MatchResult result
-            (λ v. map (λ x. x.now) v.items ≡ ends self.now) (λ e. e ≡ OutOfMemory) }
+            (λ v. map (λ x. x.now) v.items ≡ terminals self.now) (λ e. e ≡ OutOfMemory) }
     {
-        let ends = self.rest.iter().filter(|node| node.end().is_some()).count();
-        let mut found = Vec::with_capacity(alloc, ends.saturating_add(1))?;
-        if let Some(path) = self.root.end() {
+        let count = self
+            .rest
+            .iter()
+            .filter(|node| node.terminal().is_some())
+            .count();
+        let mut found = Vec::with_capacity(alloc, count.saturating_add(1))?;
+        if let Some(path) = self.root.terminal() {
             found.push(path)?;
         }
         for node in &self.rest {
-            if let Some(path) = node.end() {
+            if let Some(path) = node.terminal() {
                 found.push(path)?;
             }
         }
         Ok(found)
     }
 
-    // The nodes, copied as they stand. Refuses 0 (OutOfMemory) alone.
+    // A copy of the nodes, with the same indices.
     pub(crate) fn try_clone(&self, alloc: Global) -> VortexResult<Self>
         ensures { MatchResult result (λ n. IsAlike self.now n) (λ e. e ≡ OutOfMemory) }
     {

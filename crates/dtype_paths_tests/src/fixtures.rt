@@ -1,12 +1,12 @@
 // SPDX-License-Identifier: Apache-2.0
 // SPDX-FileCopyrightText: Copyright the Vortex contributors
 
-// What paths and path sets are written as here.
+// Paths for tests.
 use dtype_base::VortexResult;
 use dtype_paths::{Field, FieldPath};
 use std::alloc::Global;
 
-// The path of a text: its parts between dots, `[]` for the element, and nothing for the root.
+// The path of a text: its steps with dots between them, `[]` for the element, and the empty text for the root.
 pub(crate) fn path(alloc: Global, text: &str) -> VortexResult<FieldPath> {
     let mut parts = Vec::new(alloc);
     if !text.is_empty() {
@@ -22,7 +22,7 @@ pub(crate) fn path(alloc: Global, text: &str) -> VortexResult<FieldPath> {
     Ok(FieldPath::from_vec(parts))
 }
 
-// The path of so many elements.
+// The path of `count` elements.
 pub(crate) fn elements(alloc: Global, count: usize) -> VortexResult<FieldPath> {
     let mut parts = Vec::new(alloc);
     for _ in 0..count {

@@ -1,9 +1,9 @@
 // SPDX-License-Identifier: Apache-2.0
 // SPDX-FileCopyrightText: Copyright the Vortex contributors
 
-//! Tests of `dtype_native` and `dtype_paths`, a module a topic: what no row of the console says, such as generic calls
-//! through their bounds, visitors, the macro, very long paths and very many, and random values against their models.
-//! They stand on what a user sees, the public items alone; what holds of every value is proved in the crates themselves.
+//! Tests of `dtype_native` and `dtype_paths`, one module per topic: what no golden test of the console shows, such as
+//! generic calls through their bounds, visitors, the macro, very long paths, very many paths, and random values against
+//! models. They use public items only; what holds of every value is proved in the crates themselves.
 #![tactic(auto)]
 
 #[cfg(test)]

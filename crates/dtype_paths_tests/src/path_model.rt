@@ -1,7 +1,7 @@
 // SPDX-License-Identifier: Apache-2.0
 // SPDX-FileCopyrightText: Copyright the Vortex contributors
 
-// Random paths, and a plain model of them, lists of numbers, against which sets and masks are held.
+// Random paths, and a model of them as lists of numbers, against which sets and masks are checked.
 use dtype_base::VortexResult;
 use dtype_fixtures::Random;
 use dtype_paths::{Field, FieldPath};
@@ -19,7 +19,7 @@ pub(crate) fn random_steps(alloc: Global, random: &mut Random) -> Result<Steps, 
     Ok(steps)
 }
 
-// The element, or one of three names, of which one is written as the element is.
+// The element, or one of three names, one of which is printed as the element is.
 pub(crate) fn field(alloc: Global, step: usize) -> VortexResult<Field> {
     match step {
         0 => Ok(Field::ElementType),

@@ -14,7 +14,7 @@ fn contains(alloc: Global, set: &FieldPathSet, text: &str) -> VortexResult<bool>
     Ok(set.contains(&path(alloc, text)?))
 }
 
-// How many paths a set gives, and how many nodes it opens for that.
+// How many paths the cover of a set has, and how many nodes are visited for it.
 fn counted(set: FieldPathSet) -> VortexResult<(usize, u64)> {
     let (paths, visits) = set.into_iter_counted()?;
     Ok((paths.count(), visits))
@@ -41,7 +41,7 @@ fn many_paths(rt: HostRuntime) -> Result<(), Fail> {
     Ok(())
 }
 
-// Names below one node, as many as come to stand there: short ones, and long ones that end alike.
+// Names below one node: short ones, and long ones with a common suffix.
 fn names_below(alloc: Global, count: u32) -> VortexResult<Vec<String>> {
     let mut names = Vec::new(alloc);
     for i in 0..count {
@@ -51,7 +51,7 @@ fn names_below(alloc: Global, count: u32) -> VortexResult<Vec<String>> {
     Ok(names)
 }
 
-// Whether the set holds so many of the names, the first ones.
+// Whether of these names the set has the first `count` and no other.
 fn holds_first(
     alloc: Global,
     set: &FieldPathSet,
@@ -66,7 +66,7 @@ fn holds_first(
     Ok(true)
 }
 
-// Whether the set is of so many of the names, the first ones, and so is its copy.
+// Whether the set and its copy have the first `count` names and no other.
 fn is_of_first(
     alloc: Global,
     set: &FieldPathSet,
@@ -81,7 +81,7 @@ fn is_of_first(
     )
 }
 
-// Inserts one of the names behind those before it, and looks at the set.
+// Inserts the next name, and checks the set.
 fn grow(alloc: Global, set: &mut FieldPathSet, names: &[String], place: usize) -> VortexResult<bool>
     requires { place < length names.now }
 {
@@ -103,7 +103,7 @@ fn holds(alloc: Global, set: &FieldPathSet, count: usize) -> VortexResult<bool> 
     Ok(set.contains(&elements(alloc, count)?))
 }
 
-// Names below one node that end alike.
+// Names below one node with a common suffix.
 fn names_ending(alloc: Global, count: usize, ending: &str) -> VortexResult<Vec<String>> {
     let mut names = Vec::new(alloc);
     for i in 0..count {
@@ -112,7 +112,7 @@ fn names_ending(alloc: Global, count: usize, ending: &str) -> VortexResult<Vec<S
     Ok(names)
 }
 
-// Whether the set of so many of the names, the first ones, and its copy hold these and no other.
+// Whether the set of the first `count` names and its copy have these and no other.
 fn is_set_of_first(alloc: Global, names: &[String], count: usize) -> VortexResult<bool> {
     let mut set = FieldPathSet::new(alloc);
     for name in names.iter().take(count) {
@@ -132,7 +132,7 @@ fn more_children_than_a_hash_map_keeps(rt: HostRuntime) -> Result<(), Fail> {
     Ok(())
 }
 
-// The set of a path of so many elements and of one that goes on by two.
+// A copy of the set of a path of `steps` elements and a path of two more.
 fn deep(alloc: Global, steps: usize) -> VortexResult<FieldPathSet> {
     let mut deep = FieldPathSet::new(alloc);
     deep.insert(elements(alloc, steps)?)?;
@@ -140,7 +140,7 @@ fn deep(alloc: Global, steps: usize) -> VortexResult<FieldPathSet> {
     deep.try_clone()
 }
 
-// Whether the set is that of these two.
+// Whether the set has these two paths and no other.
 fn is_deep(alloc: Global, set: &FieldPathSet, steps: usize) -> VortexResult<bool> {
     Ok(
         !holds(alloc, set, steps.wrapping_sub(1))?
@@ -152,7 +152,7 @@ fn is_deep(alloc: Global, set: &FieldPathSet, steps: usize) -> VortexResult<bool
     )
 }
 
-// Nothing goes down a path by the stack.
+// No call recurses along a path.
 #[test]
 fn a_long_path(rt: HostRuntime) -> Result<(), Fail> {
     let steps = 500_000;

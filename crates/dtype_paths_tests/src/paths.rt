@@ -48,7 +48,7 @@ fn a_step_is_pushed_onto_a_path_of_any_length(rt: HostRuntime) -> Result<(), Fai
     Ok(())
 }
 
-// `u8` in so many lists.
+// `u8` in `count` lists.
 fn lists(alloc: Global, count: usize) -> VortexResult<DType> {
     let mut dtype = DType::Primitive(PType::U8, NonNullable);
     for _ in 0..count {
@@ -57,7 +57,7 @@ fn lists(alloc: Global, count: usize) -> VortexResult<DType> {
     Ok(dtype)
 }
 
-// Whether the path of so many elements leads to this type, or to none.
+// Whether the type at the path of `count` elements is this one, or there is none.
 fn leads_to(
     alloc: Global,
     dtype: &DType,

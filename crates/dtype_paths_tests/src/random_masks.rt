@@ -1,7 +1,7 @@
 // SPDX-License-Identifier: Apache-2.0
 // SPDX-FileCopyrightText: Copyright the Vortex contributors
 
-// Random masks, stepped into along random paths, against what their paths say.
+// Random masks, stepped into along random paths, against a model.
 use crate::path_model::{Steps, begins, field, path, random_steps};
 use dtype_base::VortexResult;
 use dtype_fixtures::Random;
@@ -28,7 +28,7 @@ fn mask(alloc: Global, kind: Kind, steps: &[usize]) -> VortexResult<FieldMask> {
     })
 }
 
-// Whether the path that is sought is in the mask of this kind and path.
+// Whether the path `sought` is in the mask of this kind and path.
 fn is_in(kind: Kind, steps: &[usize], sought: &[usize]) -> bool {
     match kind {
         Kind::All => true,
@@ -37,7 +37,7 @@ fn is_in(kind: Kind, steps: &[usize], sought: &[usize]) -> bool {
     }
 }
 
-// Whether it is found by stepping into the mask along it.
+// Whether stepping into the mask along the path `sought` finds that the path is in it.
 fn is_found(alloc: Global, mask: FieldMask, sought: &[usize]) -> VortexResult<bool> {
     let mut mask = mask;
     for step in sought {
@@ -52,7 +52,7 @@ fn is_found(alloc: Global, mask: FieldMask, sought: &[usize]) -> VortexResult<bo
     Ok(mask.matches_root())
 }
 
-// The beginning of a path, and random steps behind it.
+// A prefix of a path, followed by random steps.
 fn branch(alloc: Global, random: &mut Random, steps: &[usize]) -> Result<Steps, AllocError> {
     let begin = random.below(5).min(steps.len());
     let mut branch = Vec::from_slice(alloc, &steps[..begin])?;
@@ -62,7 +62,7 @@ fn branch(alloc: Global, random: &mut Random, steps: &[usize]) -> Result<Steps, 
     Ok(branch)
 }
 
-// What a mask is made of.
+// The kind and the path of a mask.
 #[derive(Drop)]
 struct Parts {
     kind: Kind,
@@ -74,7 +74,7 @@ impl Parts {
         is_in(self.kind, &self.steps, sought)
     }
 
-    // Whether the mask of these parts matches all, as one does that holds the root and something behind it.
+    // Whether the mask matches all exactly where the root and a path below it are in it.
     fn is_right_of_all(&self, alloc: Global) -> VortexResult<bool> {
         let mask = mask(alloc, self.kind, &self.steps)?;
         Ok(mask.matches_all() == (self.is_in(&[]) && self.is_in(&[0])))
@@ -85,7 +85,7 @@ impl Parts {
     }
 }
 
-// Whether a random path is in a random mask, after the asserts on it.
+// Whether a random path is in a random mask, after asserting that mask and model agree.
 fn is_inside(rt: &impl Abort, alloc: Global, seed: u64) -> VortexResult<bool> {
     let mut random = Random::new(seed);
     let parts = Parts {

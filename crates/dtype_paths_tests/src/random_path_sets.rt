@@ -1,8 +1,8 @@
 // SPDX-License-Identifier: Apache-2.0
 // SPDX-FileCopyrightText: Copyright the Vortex contributors
 
-// Random sets against a list of the distinct paths that they were given: what a set holds, what covers it, and
-// how many visits that takes.
+// Random sets against lists of the distinct paths that were inserted: the members, the cover, and the visits that the
+// cover takes.
 use crate::path_model::{Steps, begins, path, random_steps, text};
 use dtype_base::VortexResult;
 use dtype_fixtures::Random;
@@ -15,7 +15,7 @@ use std::vec;
 
 const SETS: u64 = 3000;
 
-// Adds the path, where it isn't there.
+// Adds the path, if it isn't there yet.
 fn add(paths: &mut Vec<Steps>, steps: Steps) -> Result<(), AllocError> {
     if !paths.contains(&steps) {
         paths.push(steps)?;
@@ -23,7 +23,7 @@ fn add(paths: &mut Vec<Steps>, steps: Steps) -> Result<(), AllocError> {
     Ok(())
 }
 
-// The texts in their order.
+// The texts, sorted.
 fn model_texts(alloc: Global, paths: &[Steps]) -> VortexResult<Vec<String>> {
     let mut texts = Vec::new(alloc);
     for steps in paths {
@@ -56,7 +56,7 @@ fn least(alloc: Global, paths: &[Steps]) -> Result<Vec<Steps>, AllocError> {
     Ok(least)
 }
 
-// How many distinct beginnings the paths have, the root among them.
+// How many distinct prefixes the paths have, with the root.
 fn count_beginnings(alloc: Global, paths: &[Steps]) -> Result<usize, AllocError> {
     let mut beginnings = Vec::new(alloc);
     beginnings.push(Vec::new(alloc))?;
@@ -70,7 +70,7 @@ fn count_beginnings(alloc: Global, paths: &[Steps]) -> Result<usize, AllocError>
     Ok(beginnings.len())
 }
 
-// A set, and the distinct paths that it was given.
+// A set, and the distinct paths that were inserted.
 #[derive(Drop)]
 struct Modelled {
     set: FieldPathSet,
@@ -83,13 +83,13 @@ impl Modelled {
         Ok(add(&mut self.given, steps)?)
     }
 
-    // Whether the set holds the path, where it does as its model.
+    // Whether set and model agree on whether the path is a member.
     fn is_right(&self, alloc: Global, sought: &Steps) -> VortexResult<bool> {
         Ok(self.set.contains(&path(alloc, sought)?) == self.given.contains(sought))
     }
 }
 
-// Inserts a random path, and looks for another.
+// Inserts a random path, and looks another one up.
 fn grow(alloc: Global, random: &mut Random, modelled: &mut Modelled) -> VortexResult<bool> {
     modelled.insert(alloc, random_steps(alloc, random)?)?;
     modelled.is_right(alloc, &random_steps(alloc, random)?)
@@ -109,13 +109,13 @@ fn random_set(rt: &impl Abort, alloc: Global, seed: u64) -> VortexResult<Modelle
     Ok(modelled)
 }
 
-// Whether the set and a copy of it hold the paths that it was given.
+// Whether the set and a copy of it have the inserted paths and no other.
 fn holds_given(alloc: Global, modelled: &Modelled) -> VortexResult<bool> {
     let copy = modelled.set.try_clone()?;
     Ok(holds(alloc, &modelled.set, &modelled.given)? && holds(alloc, &copy, &modelled.given)?)
 }
 
-// Whether some path of the set covers another, after the asserts on what it holds and gives.
+// Whether some path of the set covers another, after the asserts on its members and its cover.
 fn is_covered(rt: &impl Abort, alloc: Global, seed: u64) -> VortexResult<bool> {
     let modelled = random_set(rt, alloc, seed)?;
     assert!(rt; holds_given(alloc, &modelled)?, "seed {seed}");
@@ -136,12 +136,13 @@ fn random_sets_hold_and_give_what_their_model_does(rt: HostRuntime) -> Result<()
     Ok(())
 }
 
-// Whether the set holds these paths, each once.
+// Whether the set has these paths and no other, each once.
 fn holds(alloc: Global, set: &FieldPathSet, paths: &[Steps]) -> VortexResult<bool> {
     Ok(texts(alloc, set.iter()?)? == model_texts(alloc, paths)?)
 }
 
-// That the set gives its least paths, each once, by one visit for each of their beginnings; and whether it has others.
+// Asserts that the set returns its least paths, each once, by one visit for each of their prefixes. Returns whether the
+// set has other paths.
 fn gives(rt: &impl Abort, alloc: Global, modelled: Modelled, seed: u64) -> VortexResult<bool> {
     let Modelled { set, given } = modelled;
     let least = least(alloc, &given)?;
@@ -153,7 +154,7 @@ fn gives(rt: &impl Abort, alloc: Global, modelled: Modelled, seed: u64) -> Vorte
     Ok(least.len() < given.len())
 }
 
-// By how many visits the set gives these paths, after the assert that it does.
+// How many visits the cover takes, after the assert that it is these paths.
 fn visits(
     rt: &impl Abort,
     alloc: Global,

@@ -6,7 +6,7 @@ ghost use Rattle.std.specs.Prelude.{◌≡◌};
 use dtype_base::PType;
 use dtype_native::{PTypeVisitor, match_each_native_ptype};
 
-// A visitor that answers the name of the call that it gets.
+// A visitor that returns the type whose method was called.
 #[derive(Clone, Copy)]
 struct NameOfCall;
 

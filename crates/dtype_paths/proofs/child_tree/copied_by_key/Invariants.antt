@@ -9,7 +9,7 @@ use Rattle.std.specs.Option.{option_or}
 use Rattle.std.specs.Ordering.{eq_by_cmp, nat_cmp}
 use Rattle.dtype_paths.proofs.child_tree.copied_by_key.Given as goal
 
--- at each key stands what is to, by what is left or by the copy
+-- at each key is the step that was there: in the copy, or in what is left
 abbrev pub invariant-loop-key : goal.invariant-loop-key
 invariant-loop-key l = record {
   once : IsDistinct (eq_by_cmp nat_cmp) (keys_of l.key-iterator);

@@ -6,5 +6,5 @@ use Rattle.std.specs.BTreeMap.{values}
 use Rattle.std.specs.Map.{values_of}
 use Rattle.dtype_paths.proofs.child_tree.push_first.Given as goal
 
-abbrev pub invariant-loop-place : goal.invariant-loop-place
-invariant-loop-place l = l.places.items ++ values_of l.place-iterator ≡ l.fn.places.items ++ values_of (values l.by_key)
+abbrev pub invariant-loop-node_index : goal.invariant-loop-node_index
+invariant-loop-node_index l = l.node_indices.items ++ values_of l.node_index-iterator ≡ l.fn.node_indices.items ++ values_of (values l.by_key)

@@ -11,7 +11,7 @@ use Rattle.dtype_paths.proofs.child_map.ChildMap.to_tree.Goals as goal
 
 pub loop-step-preserved : goal.loop-step-preserved
 loop-step-preserved c =
-    let k = c.in-Some.step.now in let v = c.in-Some.place.now in let rest = c.next.new.self in
+    let k = c.in-Some.step.now in let v = c.in-Some.node_index.now in let rest = c.next.new.self in
     let once = rw c.in-Some.ensures.steps at c.loop-step.invariant.once in
     let leads = rw c.in-Some.ensures.steps at c.loop-step.invariant.leads in
     let put = rw c.in_ok-try_clone.ensures at c.in_ok-insert.ensures.ok in record {

@@ -5,11 +5,11 @@ use Rattle.std.proofs.Common.{ap, ◌∙◌}
 use Rattle.std.proofs.lemmas.Result.{on_ok_weaker}
 use Rattle.std.specs.FinSet as set
 use Rattle.dtype_paths.specs.lemmas.SetMembers.{inserted}
-use Rattle.dtype_paths.specs.Trie.{ends}
+use Rattle.dtype_paths.specs.Trie.{terminals}
 use Rattle.dtype_paths.proofs.field_path_set.FieldPathSet.insert.Goals as goal
 
 pub returns-clause-ok : goal.returns-clause-ok
 returns-clause-ok c =
     on_ok_weaker c.insert.result
-    (λ g. inserted (ends c.self.inside.trie) (ends c.insert.new.self) c.args.path g ∙ ap (λ s. set.insert s c.args.path) c.self.view_is)
+    (λ g. inserted (terminals c.self.inside.trie) (terminals c.insert.new.self) c.args.path g ∙ ap (λ s. set.insert s c.args.path) c.self.view_is)
     c.insert.ensures.ok

@@ -2,8 +2,8 @@
 -- SPDX-FileCopyrightText: Copyright the Vortex contributors
 
 use Rattle.std.proofs.Common.{◌≡◌, ◌+◌, map, take}
-use Rattle.dtype_paths.specs.Trie.{ends}
+use Rattle.dtype_paths.specs.Trie.{terminals}
 use Rattle.dtype_paths.proofs.nodes.Nodes.gather.Given as goal
 
 abbrev pub invariant-loop-node : goal.invariant-loop-node
-invariant-loop-node l = map (λ x. x.now) l.found.items ≡ ends (take (l.node-index + 1) l.self)
+invariant-loop-node l = map (λ x. x.now) l.found.items ≡ terminals (take (l.node-index + 1) l.self)

@@ -9,11 +9,11 @@ use Rattle.dtype_paths.proofs.nodes.Nodes.try_clone.Goals as goal
 
 pub loop-node-init : goal.loop-node-init
 loop-node-init c =
-    alike-root c.self.inside.root c.in_ok-root.root c.self.inside.rest.items c.args.self.now c.in_ok-rest.rest.items c.self.view_is c.in_ok-rest.ensures.items c.in_ok-root.ensures.end c.in_ok-root.ensures.steps
+    alike-root c.self.inside.root c.in_ok-root.root c.self.inside.rest.items c.args.self.now c.in_ok-rest.rest.items c.self.view_is c.in_ok-rest.ensures.items c.in_ok-root.ensures.terminal c.in_ok-root.ensures.steps
 
 pub loop-node-preserved : goal.loop-node-preserved
 loop-node-preserved c =
     let n = c.node-item.result in let i = c.loop-node.node-index in let root = c.self.inside.root in let items = c.deref-node-items.result.now in
     let step = take-behind root items c.args.self.now i n (ap (λ (xs : List Node). root ∷ xs) c.deref-node-items.ensures.value ∙ c.self.view_is) (omega (arith, c.loop-node-test.true)) c.node-item.is in
     rw (c.in_ok-push.ensures.items, step)
-    (alike-more (take (i + 1) c.args.self.now) (c.in_ok-root.root ∷ c.loop-node.rest.items) n c.in_ok-try_clone.field-0 c.loop-node.invariant c.in_ok-try_clone.ensures.end c.in_ok-try_clone.ensures.steps)
+    (alike-more (take (i + 1) c.args.self.now) (c.in_ok-root.root ∷ c.loop-node.rest.items) n c.in_ok-try_clone.field-0 c.loop-node.invariant c.in_ok-try_clone.ensures.terminal c.in_ok-try_clone.ensures.steps)

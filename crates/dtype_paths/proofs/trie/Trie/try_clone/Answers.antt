@@ -2,9 +2,9 @@
 -- SPDX-FileCopyrightText: Copyright the Vortex contributors
 
 use Rattle.std.proofs.Common.{◌∙◌, ap}
-use Rattle.dtype_paths.specs.Trie.{ends}
+use Rattle.dtype_paths.specs.Trie.{terminals}
 use Rattle.dtype_paths.proofs.NodeGrowth.{nodes-same}
-use Rattle.dtype_paths.proofs.NodePlaces.{ends-same}
+use Rattle.dtype_paths.proofs.NodeIndices.{terminals-same}
 use Rattle.dtype_paths.proofs.trie.Trie.try_clone.Goals as goal
 
 pub invariant_of-result : goal.invariant_of-result
@@ -12,4 +12,4 @@ invariant_of-result c = nodes-same c.self.inside.nodes c.in_ok-try_clone.field-0
 
 pub returns : goal.returns
 returns c =
-    let a = c.in_ok-try_clone.ensures in ends-same c.self.inside.nodes c.in_ok-try_clone.field-0 a.long a.ends ∙ ap ends c.self.view_is
+    let a = c.in_ok-try_clone.ensures in terminals-same c.self.inside.nodes c.in_ok-try_clone.field-0 a.long a.terminals ∙ ap terminals c.self.view_is

@@ -1,7 +1,7 @@
 -- SPDX-License-Identifier: Apache-2.0
 -- SPDX-FileCopyrightText: Copyright the Vortex contributors
 
--- What a list of nodes has at its places.
+-- A list of nodes, by its indices.
 use Rattle.std.proofs.Common.{ℕ, suc, zero, ◌+◌, ◌<◌, ◌≤◌, length, take, drop, get_or, map, append-nil, is_some, subst, Decides, ◌≡◌, ◌⊎◌, Bool, true, false, ◌&&◌, List, [], ◌∷◌, ◌++◌, Option, Some, None, option_and_then, inl, inr, refl, sym, ap, ◌∙◌, arith, ⊎_elim}
 use Rattle.std.specs.List.{slice_get, Contains, IsDistinct, AllByRecursion, cons_option}
 use Rattle.std.proofs.lemmas.List.Elements.{filter_map-append, Contains-append_left, Contains-append_right, Contains-append_cases, Contains-push, Contains-push_cases}
@@ -17,10 +17,10 @@ use Rattle.dtype_paths.specs.EqualityLaws.{same_path-Decides}
 use Rattle.dtype_paths.specs.ListCover.{Gains}
 use Rattle.dtype_paths.specs.declared.field.Field.{Field}
 use Rattle.dtype_paths.specs.declared.node.Node.{Node}
-use Rattle.dtype_paths.specs.Trie.{child_at, end_at, ends, walk, IsTrie, IsTrieBy}
+use Rattle.dtype_paths.specs.Trie.{child_at, terminal_at, terminals, walk, IsTrie, IsTrieBy}
 use Rattle.dtype_paths.proofs.TrieGrowth.{Ends, walk-append}
 
--- ---- a place in a longer list
+-- ---- a node index in a longer list
 
 module _ {A : Type 0} where
   pub slice_get-left : (xs ys : List A) (i : ℕ) → i < length xs → slice_get (xs ++ ys) i ≡ slice_get xs i
@@ -42,17 +42,17 @@ child-left xs ys i f h = ap (λ o. option_and_then (λ n. child n.children f) o)
 pub child-right : (xs ys : List Node) (k : ℕ) (f : Field) → child_at (xs ++ ys) (length xs + k) f ≡ child_at ys k f
 child-right xs ys k f = ap (λ o. option_and_then (λ n. child n.children f) o) (slice_get-right xs ys k)
 
-pub end-left : (xs ys : List Node) (i : ℕ) → i < length xs → end_at (xs ++ ys) i ≡ end_at xs i
-end-left xs ys i h = ap (λ o. option_and_then (λ n. n.end) o) (slice_get-left xs ys i h)
+pub terminal-left : (xs ys : List Node) (i : ℕ) → i < length xs → terminal_at (xs ++ ys) i ≡ terminal_at xs i
+terminal-left xs ys i h = ap (λ o. option_and_then (λ n. n.terminal) o) (slice_get-left xs ys i h)
 
-pub end-right : (xs ys : List Node) (k : ℕ) → end_at (xs ++ ys) (length xs + k) ≡ end_at ys k
-end-right xs ys k = ap (λ o. option_and_then (λ n. n.end) o) (slice_get-right xs ys k)
+pub terminal-right : (xs ys : List Node) (k : ℕ) → terminal_at (xs ++ ys) (length xs + k) ≡ terminal_at ys k
+terminal-right xs ys k = ap (λ o. option_and_then (λ n. n.terminal) o) (slice_get-right xs ys k)
 
 -- what is read of a path
 pub read-step : (path : List Field) (at : ℕ) (x step : Field) → at < length path → x ≡ get_or path at x → step ≡ x → slice_get path at ≡ Some step
 read-step path at x step lt is same = slice_get_read path (length path) at x refl lt is ∙ ap Some (sym same)
 
--- ---- the list of the ends
+-- ---- the list of the paths that end in nodes
 
 contains-has : (o : Option (List Field)) (ps : List (List Field)) (q : List Field) → Contains (cons_option o ps) q → (o ≡ Some q) ⊎ Contains ps q
 contains-has None ps q c = inr c
@@ -72,56 +72,56 @@ has-later (Some p) ps q c = Contains-append_right (p ∷ []) ps q c
 no_member : (q : List Field) → Contains [] q → ⊥
 no_member q c = omega (arith, c.1)
 
-pub end-of : (nodes : List Node) (q : List Field) → Contains (ends nodes) q → (i : ℕ) × (end_at nodes i ≡ Some q)
-end-of [] q c = absurd (no_member q c)
-end-of (n ∷ ns) q c = ⊎_elim (λ e. (0, e)) (λ d. let w = end-of ns q d in (suc w.0, w.1)) (contains-has n.end (ends ns) q c)
+pub terminal-of : (nodes : List Node) (q : List Field) → Contains (terminals nodes) q → (i : ℕ) × (terminal_at nodes i ≡ Some q)
+terminal-of [] q c = absurd (no_member q c)
+terminal-of (n ∷ ns) q c = ⊎_elim (λ e. (0, e)) (λ d. let w = terminal-of ns q d in (suc w.0, w.1)) (contains-has n.terminal (terminals ns) q c)
 
-pub of-end : (nodes : List Node) (i : ℕ) (q : List Field) → end_at nodes i ≡ Some q → Contains (ends nodes) q
-of-end [] i q e = cc
-of-end (n ∷ ns) zero q e = has-here n.end (ends ns) q e
-of-end (n ∷ ns) (suc i) q e = has-later n.end (ends ns) q (of-end ns i q e)
+pub of-terminal : (nodes : List Node) (i : ℕ) (q : List Field) → terminal_at nodes i ≡ Some q → Contains (terminals nodes) q
+of-terminal [] i q e = cc
+of-terminal (n ∷ ns) zero q e = has-here n.terminal (terminals ns) q e
+of-terminal (n ∷ ns) (suc i) q e = has-later n.terminal (terminals ns) q (of-terminal ns i q e)
 
-pub gains : (old new : List Node) (place : ℕ) (path : List Field) → Ends (end_at old) (end_at new) place path → Gains (ends old) (path ∷ []) (ends new)
-gains old new place path e = record {
+pub gains : (old new : List Node) (node_index : ℕ) (path : List Field) → Ends (terminal_at old) (terminal_at new) node_index path → Gains (terminals old) (path ∷ []) (terminals new)
+gains old new node_index path e = record {
   exact = λ q. (
     λ c.
-        let w = end-of new q c in
-        ⊎_elim (λ o. inr (of-end old w.0 q o)) (λ b. inl (rw b.1 (Contains-push [] path))) (e.only w.0 q w.1),
+        let w = terminal-of new q c in
+        ⊎_elim (λ o. inr (of-terminal old w.0 q o)) (λ b. inl (rw b.1 (Contains-push [] path))) (e.only w.0 q w.1),
     λ c.
         ⊎_elim
-        (λ a. ⊎_elim (λ b. absurd (no_member q b)) (λ b. rw (← b) (of-end new place path e.here)) (Contains-push_cases [] path q a))
-        (λ a. let w = end-of old q a in of-end new w.0 q (e.kept w.0 q w.1))
+        (λ a. ⊎_elim (λ b. absurd (no_member q b)) (λ b. rw (← b) (of-terminal new node_index path e.here)) (Contains-push_cases [] path q a))
+        (λ a. let w = terminal-of old q a in of-terminal new w.0 q (e.kept w.0 q w.1))
         c,
   );
 }
 
-pub ends-same : (old new : List Node) → length new ≡ length old → ((i : ℕ) → end_at new i ≡ end_at old i) → ends new ≡ ends old
-ends-same [] [] l h = refl
-ends-same [] (n ∷ ns) l h = absurd (omega (arith, l))
-ends-same (m ∷ ms) [] l h = absurd (omega (arith, l))
-ends-same (m ∷ ms) (n ∷ ns) l h =
-    let e : n.end ≡ m.end = h 0 in
-    rw (e, ends-same ms ns (omega (arith, l)) (λ i. h (suc i))) refl
+pub terminals-same : (old new : List Node) → length new ≡ length old → ((i : ℕ) → terminal_at new i ≡ terminal_at old i) → terminals new ≡ terminals old
+terminals-same [] [] l h = refl
+terminals-same [] (n ∷ ns) l h = absurd (omega (arith, l))
+terminals-same (m ∷ ms) [] l h = absurd (omega (arith, l))
+terminals-same (m ∷ ms) (n ∷ ns) l h =
+    let e : n.terminal ≡ m.terminal = h 0 in
+    rw (e, terminals-same ms ns (omega (arith, l)) (λ i. h (suc i))) refl
 
-apart : (p : List Field) (ns : List Node) → ((i : ℕ) → end_at ns i ≡ Some p → ⊥) → AllByRecursion (λ y. same_path p y ≡ false) (ends ns)
+apart : (p : List Field) (ns : List Node) → ((i : ℕ) → terminal_at ns i ≡ Some p → ⊥) → AllByRecursion (λ y. same_path p y ≡ false) (terminals ns)
 apart p [] h = tt
-apart p (n ∷ ns) h = go n.end refl (apart p ns (λ i. h (suc i)))
+apart p (n ∷ ns) h = go n.terminal refl (apart p ns (λ i. h (suc i)))
   where
-    go : (o : Option (List Field)) → n.end ≡ o → AllByRecursion (λ y. same_path p y ≡ false) (ends ns) → AllByRecursion (λ y. same_path p y ≡ false) (cons_option o (ends ns))
+    go : (o : Option (List Field)) → n.terminal ≡ o → AllByRecursion (λ y. same_path p y ≡ false) (terminals ns) → AllByRecursion (λ y. same_path p y ≡ false) (cons_option o (terminals ns))
     go None e later = later
     go (Some y) e later = (by_bool (same_path p y) (λ s. absurd (h 0 (e ∙ ap Some (sym ((same_path-Decides p y).0 s))))) (λ s. s), later)
 
-pub ends-distinct : (nodes : List Node) → ((i j : ℕ) (q : List Field) → end_at nodes i ≡ Some q → end_at nodes j ≡ Some q → i ≡ j) → IsDistinct same_path (ends nodes)
-ends-distinct [] h = distinct-nil same_path
-ends-distinct (n ∷ ns) h = go n.end refl (ends-distinct ns (λ i j q a b. let e = h (suc i) (suc j) q a b in omega (arith, e)))
+pub terminals-distinct : (nodes : List Node) → ((i j : ℕ) (q : List Field) → terminal_at nodes i ≡ Some q → terminal_at nodes j ≡ Some q → i ≡ j) → IsDistinct same_path (terminals nodes)
+terminals-distinct [] h = distinct-nil same_path
+terminals-distinct (n ∷ ns) h = go n.terminal refl (terminals-distinct ns (λ i j q a b. let e = h (suc i) (suc j) q a b in omega (arith, e)))
   where
-    go : (o : Option (List Field)) → n.end ≡ o → IsDistinct same_path (ends ns) → IsDistinct same_path (cons_option o (ends ns))
+    go : (o : Option (List Field)) → n.terminal ≡ o → IsDistinct same_path (terminals ns) → IsDistinct same_path (cons_option o (terminals ns))
     go None e rest = rest
-    go (Some y) e rest = IsDistinct-cons same_path y (ends ns) (apart y ns (λ i a. let z = h 0 (suc i) y e a in absurd (omega (arith, z)))) rest
+    go (Some y) e rest = IsDistinct-cons same_path y (terminals ns) (apart y ns (λ i a. let z = h 0 (suc i) y e a in absurd (omega (arith, z)))) rest
 
--- no path ends twice
-pub trie-distinct : (nodes : List Node) → IsTrieBy (child_at nodes) (end_at nodes) (length nodes) → IsDistinct same_path (ends nodes)
-trie-distinct nodes t = ends-distinct nodes (λ i j q a b. let e = sym (t.own i q a) ∙ t.own j q b in same_Some i j e)
+-- no path ends in two nodes
+pub trie-distinct : (nodes : List Node) → IsTrieBy (child_at nodes) (terminal_at nodes) (length nodes) → IsDistinct same_path (terminals nodes)
+trie-distinct nodes t = terminals-distinct nodes (λ i j q a b. let e = sym (t.own i q a) ∙ t.own j q b in same_Some i j e)
 
 -- ---- how far a path leads
 
@@ -132,7 +132,7 @@ split (x ∷ p) (suc at) h = let w = split p at (omega (arith, h)) in (w.0, w.1,
 
 module _ (nodes : List Node) (path : List Field) (here at : ℕ) (t : IsTrie nodes) (w : walk (child_at nodes) 0 (take at path) ≡ Some here) (within : at ≤ length path)
     (stop : (f : Field) → slice_get path at ≡ Some f → child_at nodes here f ≡ None) where
-  -- a path that leads nowhere from there is in no end
+  -- a path that leads to no node ends in none
   stopped : at < length path → (i : ℕ) → walk (child_at nodes) 0 path ≡ Some i → ⊥
   stopped lt i v =
       let s = split path at lt in
@@ -142,38 +142,38 @@ module _ (nodes : List Node) (path : List Field) (here at : ℕ) (t : IsTrie nod
   whole : at ≡ length path → walk (child_at nodes) 0 path ≡ Some here
   whole e = subst (λ p. walk (child_at nodes) 0 p ≡ Some here) (take_all at path (omega (arith, e))) w
 
-  pub contains-walk : (b c : Bool) → Decides b (at ≡ length path) → c ≡ is_some (end_at nodes here) → Decides (b && c) (Contains (ends nodes) path)
+  pub contains-walk : (b c : Bool) → Decides b (at ≡ length path) → c ≡ is_some (terminal_at nodes here) → Decides (b && c) (Contains (terminals nodes) path)
   contains-walk b c d e = (to b c d e, from b c d e)
     where
-      to : (b c : Bool) → Decides b (at ≡ length path) → c ≡ is_some (end_at nodes here) → (b && c) ≡ true → Contains (ends nodes) path
-      to true c d e h = go (end_at nodes here) refl
+      to : (b c : Bool) → Decides b (at ≡ length path) → c ≡ is_some (terminal_at nodes here) → (b && c) ≡ true → Contains (terminals nodes) path
+      to true c d e h = go (terminal_at nodes here) refl
         where
-          go : (o : Option (List Field)) → end_at nodes here ≡ o → Contains (ends nodes) path
-          go None z = let f : c ≡ is_some (end_at nodes here) = e in absurd (cc)
-          go (Some q) z = let is : q ≡ path = t.once q path here (t.own here q z) (whole (d.0 refl)) in of-end nodes here path (z ∙ ap Some is)
+          go : (o : Option (List Field)) → terminal_at nodes here ≡ o → Contains (terminals nodes) path
+          go None z = let f : c ≡ is_some (terminal_at nodes here) = e in absurd (cc)
+          go (Some q) z = let is : q ≡ path = t.once q path here (t.own here q z) (whole (d.0 refl)) in of-terminal nodes here path (z ∙ ap Some is)
       to false c d e h = absurd (cc)
 
-      from : (b c : Bool) → Decides b (at ≡ length path) → c ≡ is_some (end_at nodes here) → Contains (ends nodes) path → (b && c) ≡ true
+      from : (b c : Bool) → Decides b (at ≡ length path) → c ≡ is_some (terminal_at nodes here) → Contains (terminals nodes) path → (b && c) ≡ true
       from b c d e m =
-          let z = end-of nodes path m in
+          let z = terminal-of nodes path m in
           let v = t.own z.0 path z.1 in
           ⊎_elim
           (λ lt. absurd (stopped lt z.0 v))
           (λ ge.
           let is : at ≡ length path = omega arith in
           let same : z.0 ≡ here = let q = sym v ∙ whole is in same_Some z.0 here q in
-          let some : end_at nodes here ≡ Some path = ap (end_at nodes) (sym same) ∙ z.1 in
+          let some : terminal_at nodes here ≡ Some path = ap (terminal_at nodes) (sym same) ∙ z.1 in
           rw (d.1 is, e, some) refl)
           (cases_lt at (length path))
 
--- ---- the ends, node by node
+-- ---- the paths that end in nodes, node by node
 
-ends-push : (ns : List Node) (n : Node) → ends (ns ++ n ∷ []) ≡ ends ns ++ cons_option n.end []
-ends-push ns n = filter_map-append (λ m. m.end) ns (n ∷ [])
+terminals-push : (ns : List Node) (n : Node) → terminals (ns ++ n ∷ []) ≡ terminals ns ++ cons_option n.terminal []
+terminals-push ns n = filter_map-append (λ m. m.terminal) ns (n ∷ [])
 
-module _ {X : Type 0} (f : X → List Field) (xs : List X) (ns : List Node) (n : Node) (h : map f xs ≡ ends ns) where
-  pub gathered : (x : X) → n.end ≡ Some (f x) → map f (xs ++ x ∷ []) ≡ ends (ns ++ n ∷ [])
-  gathered x e = map-append f xs (x ∷ []) ∙ rw (ends-push ns n, e, h) refl
+module _ {X : Type 0} (f : X → List Field) (xs : List X) (ns : List Node) (n : Node) (h : map f xs ≡ terminals ns) where
+  pub gathered : (x : X) → n.terminal ≡ Some (f x) → map f (xs ++ x ∷ []) ≡ terminals (ns ++ n ∷ [])
+  gathered x e = map-append f xs (x ∷ []) ∙ rw (terminals-push ns n, e, h) refl
 
-  pub passed : n.end ≡ None → map f xs ≡ ends (ns ++ n ∷ [])
-  passed e = h ∙ sym (rw (ends-push ns n, e) (append-nil (ends ns)))
+  pub passed : n.terminal ≡ None → map f xs ≡ terminals (ns ++ n ∷ [])
+  passed e = h ∙ sym (rw (terminals-push ns n, e) (append-nil (terminals ns)))

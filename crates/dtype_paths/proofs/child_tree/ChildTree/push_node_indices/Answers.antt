@@ -6,7 +6,7 @@ use Rattle.std.specs.List.{IsDistinct}
 use Rattle.std.specs.Map.{keys_of}
 use Rattle.dtype_paths.specs.Equality.{same_field}
 use Rattle.dtype_paths.proofs.ChildTrees.{distinct_steps}
-use Rattle.dtype_paths.proofs.child_tree.ChildTree.push_places.Goals as goal
+use Rattle.dtype_paths.proofs.child_tree.ChildTree.push_node_indices.Goals as goal
 
 pub returns-in_err-push_first-clause-once : goal.returns-in_err-push_first-clause-once
 returns-in_err-push_first-clause-once c =

@@ -7,7 +7,7 @@ use Rattle.std.specs.List.{slice_get}
 use Rattle.dtype_paths.specs.Trie.{child_at, walk}
 use Rattle.dtype_paths.proofs.NodeGrowth.{take-step}
 use Rattle.dtype_paths.proofs.TrieGrowth.{walk-snoc}
-use Rattle.dtype_paths.proofs.trie.Trie.reach.Goals as goal
+use Rattle.dtype_paths.proofs.trie.Trie.longest_match.Goals as goal
 
 pub loop-step-init : goal.loop-step-init
 loop-step-init c = record { same = refl; inside = c.self.invariant.inside [] 0 refl; walked = refl }
@@ -15,11 +15,11 @@ loop-step-init c = record { same = refl; inside = c.self.invariant.inside [] 0 r
 pub loop-step-preserved : goal.loop-step-preserved
 loop-step-preserved c =
     let i = c.loop-step.invariant in let n = c.loop-step.step-index in let path = c.args.path.now in let x = c.step-item.result in let nodes = c.self.inside.nodes in
-    let more : walk (child_at nodes) 0 (take (n + 1) path) ≡ Some c.in-Some.place =
-    rw (take-step path n x (omega arith) c.step-item.is) (walk-snoc (child_at nodes) c.loop-step.here c.in-Some.place (take n path) x i.walked (sym c.in-Some.ensures)) in
+    let more : walk (child_at nodes) 0 (take (n + 1) path) ≡ Some c.in-Some.node_index =
+    rw (take-step path n x (omega arith) c.step-item.is) (walk-snoc (child_at nodes) c.loop-step.here c.in-Some.node_index (take n path) x i.walked (sym c.in-Some.ensures)) in
     record {
       same = omega (arith, i.same);
-      inside = c.self.invariant.inside (take (n + 1) path) c.in-Some.place more;
+      inside = c.self.invariant.inside (take (n + 1) path) c.in-Some.node_index more;
       walked = more;
     }
 

@@ -1,0 +1,7 @@
+-- SPDX-License-Identifier: Apache-2.0
+-- SPDX-FileCopyrightText: Copyright the Vortex contributors
+
+pub mod Projected
+pub mod PathLists
+pub mod Restricted
+pub mod lemmas

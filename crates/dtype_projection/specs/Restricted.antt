@@ -1,0 +1,42 @@
+-- SPDX-License-Identifier: Apache-2.0
+-- SPDX-FileCopyrightText: Copyright the Vortex contributors
+
+-- A value of a type, restricted to some paths: a value of the type's projection to them (`Projected`). What a reader
+-- gives that opens these paths alone, as Parquet's projection masks have it.
+use Rattle.std.specs.Prelude.{ℕ, List, [], Option, Some, None, if◌then◌else◌}
+use Rattle.dtype_types.specs.Tree.{Tree, Fields, no_fields, field, list, fixed_size_list, struct}
+use Rattle.dtype_types.specs.Value.{Value, Values, no_values, value, Named, no_named, named, items, fixed_items, record_of}
+use Rattle.dtype_paths.specs.declared.field.Field.TheVariants.{Name, ElementType}
+use Rattle.dtype_projection.specs.Projected.{PathPredicate, after_step, without_field, projected}
+
+abbrev pub each_value : (Value → Value) → Values → Values
+each_value g no_values = no_values
+each_value g (value v vs) = value (g v) (each_value g vs)
+
+-- each item of a list, or of a fixed-size list; other values as they are
+abbrev pub each_item : (Value → Value) → Value → Value
+each_item g (items vs) = items (each_value g vs)
+each_item g (fixed_items vs) = fixed_items (each_value g vs)
+each_item g v = v
+
+-- the pairs of a struct's value; other values as they are
+abbrev pub in_record : (Named → Named) → Value → Value
+in_record g (record_of nvs) = record_of (g nvs)
+in_record g v = v
+
+-- these pairs after a pair named n, if something is kept of its field
+abbrev pub prepend_pair : List ℕ → Option Tree → Value → Named → Named
+prepend_pair n None v rest = rest
+prepend_pair n (Some u) v rest = named n v rest
+
+abbrev mutual
+  pub restricted : Tree → PathPredicate → Value → Value
+  restricted (list t n) w v = if w [] then v else each_item (restricted t (after_step ElementType w)) v
+  restricted (fixed_size_list t k n) w v = if w [] then v else each_item (restricted t (after_step ElementType w)) v
+  restricted (struct fs n) w v = if w [] then v else in_record (restricted_pairs fs w) v
+  restricted t w v = v
+
+  pub restricted_pairs : Fields → PathPredicate → Named → Named
+  restricted_pairs no_fields w nvs = nvs
+  restricted_pairs (field n t rest) w no_named = no_named
+  restricted_pairs (field n t rest) w (named m v more) = prepend_pair m (projected t (after_step (Name n) w)) (restricted t (after_step (Name n) w) v) (restricted_pairs rest (without_field n w) more)

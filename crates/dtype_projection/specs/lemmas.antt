@@ -1,0 +1,11 @@
+-- SPDX-License-Identifier: Apache-2.0
+-- SPDX-FileCopyrightText: Copyright the Vortex contributors
+
+-- Lemmas about the definitions, which a caller's proof may cite.
+pub mod Predicates
+pub mod Projections
+pub mod Kept
+pub mod Coverage
+pub mod Composition
+pub mod Restrictions
+pub mod ThroughExtensions

@@ -1,0 +1,76 @@
+// SPDX-License-Identifier: Apache-2.0
+// SPDX-FileCopyrightText: Copyright the Vortex contributors
+
+// Theorems about the definitions. Each function's contract is the theorem, and its body is empty.
+ghost use Rattle.std.specs.Prelude.{◌≡◌, ◌↔◌, IsTrue, IsSome, List, Some};
+ghost use Rattle.std.specs.FinSet as set;
+ghost use Rattle.dtype_types.specs.Tree.{Tree};
+ghost use Rattle.dtype_types.specs.Valid.{Valid};
+ghost use Rattle.dtype_types.specs.Value.{Of, Value};
+ghost use Rattle.dtype_paths.specs.Along.{along};
+ghost use Rattle.dtype_paths.specs.At.{At, ExistsIn};
+ghost use Rattle.dtype_paths.specs.Beginning.{Beginning};
+ghost use Rattle.dtype_paths.specs.Covering.{covers, least};
+ghost use Rattle.dtype_paths.specs.Found.{Found};
+ghost use Rattle.dtype_paths.specs.Overlaps.{Overlaps};
+ghost use Rattle.dtype_paths.specs.PathOrder.{PathSet};
+ghost use Rattle.dtype_paths.specs.declared.field.Field.{Field};
+ghost use Rattle.dtype_projection.specs.Projected.{PathPredicate, projected};
+ghost use Rattle.dtype_projection.specs.Restricted.{restricted};
+
+/// The projection is a type exactly where one of the paths exists in the original type.
+pub fn a_type_is_kept_exactly_where_a_path_exists()
+    ensures { (t : Tree) (w : PathPredicate) → IsSome (projected t w)
+        ↔ ((p : List Field) × IsTrue (w p) × ExistsIn t p) }
+{}
+
+/// Each of the paths, and each path below one of them, resolves in the projection as in the original type: to the same
+/// type, or to none.
+pub fn wanted_paths_resolve_as_before()
+    ensures { (t u : Tree) (w : PathPredicate) (p q : List Field) → projected t w ≡ Some u → IsTrue (w p)
+        → Beginning p q → along u q ≡ along t q }
+{}
+
+/// A path that exists in the projection exists in the original type, and it overlaps one of the paths: it leads to one
+/// of them, or lies below one.
+pub fn nothing_else_is_kept()
+    ensures { (t u : Tree) (w : PathPredicate) (q : List Field) → projected t w ≡ Some u → ExistsIn u q
+        → ExistsIn t q × ((p : List Field) × IsTrue (w p) × Overlaps p q) }
+{}
+
+/// The projection depends only on which existing paths of the type are covered. So a set and its least cover have the
+/// same projection, which is what the least cover of a query's paths is for.
+pub fn projection_depends_on_coverage_alone()
+    ensures exists { (t : Tree) (r s : PathSet)
+        → ((q : List Field) → ExistsIn t q → covers r q ≡ covers s q)
+        → projected t (set.contains r) ≡ projected t (set.contains s) }
+    ensures least { (t : Tree) (s : PathSet)
+        → projected t (set.contains (least s)) ≡ projected t (set.contains s) }
+{}
+
+/// Projecting in two steps is projecting once: where the first set covers each existing path of the second, the second
+/// set has the same projection of the first projection as of the original type. So projecting twice to one set changes
+/// nothing.
+pub fn projections_compose()
+    ensures covered { (t u : Tree) (s r : PathSet) → projected t (set.contains s) ≡ Some u
+        → ((q : List Field) → IsTrue (set.contains r q) → ExistsIn t q → IsTrue (covers s q))
+        → projected u (set.contains r) ≡ projected t (set.contains r) }
+    ensures once { (t u : Tree) (s : PathSet) → projected t (set.contains s) ≡ Some u
+        → projected u (set.contains s) ≡ Some u }
+{}
+
+/// The projection of a valid type is valid.
+pub fn projections_are_valid()
+    ensures { (t u : Tree) (w : PathPredicate) → projected t w ≡ Some u → Valid t → Valid u }
+{}
+
+/// A value of the type, restricted to the paths, is a value of the projection, and below each of the paths that exists
+/// in the type the same is found in both. `beyond` is an example of where the premise is needed: a path that leads through
+/// an extension exists in no type, while a value has the storage's form, so what is found there may be dropped.
+pub fn values_are_restricted()
+    ensures of { (t u : Tree) (w : PathPredicate) (v : Value) → projected t w ≡ Some u → Of v t → Of (restricted t w v) u }
+    ensures found { (t : Tree) (w : PathPredicate) (p q : List Field) (v x : Value) → IsTrue (w p) → ExistsIn t p
+        → Beginning p q → Of v t → (Found v q x ↔ Found (restricted t w v) q x) }
+    ensures beyond { (t u : Tree) × (w : PathPredicate) × (p : List Field) × (v x : Value) × (projected t w ≡ Some u)
+        × IsTrue (w p) × Of v t × Found v p x × ¬ (Found (restricted t w v) p x) }
+{}

@@ -1,0 +1,146 @@
+// SPDX-License-Identifier: Apache-2.0
+// SPDX-FileCopyrightText: Copyright the Vortex contributors
+
+ghost use Rattle.std.specs.Prelude.{◌≡◌, ◌↔◌, IfOk, IfSome, IsSome, IsTrue, List, MatchResult};
+ghost use Rattle.std.specs.FinSet as set;
+ghost use Rattle.std.specs.Option.{option_map};
+ghost use Rattle.dtype_base.specs.declared.vortex_error.VortexError.TheVariants.{OutOfMemory};
+ghost use Rattle.dtype_types.specs.TreeOf.{tree, fields_of};
+ghost use Rattle.dtype_types.specs.Valid.{Valid};
+ghost use Rattle.dtype_types.specs.Value.{Of, Value};
+ghost use Rattle.dtype_paths.specs.Along.{along};
+ghost use Rattle.dtype_paths.specs.At.{ExistsIn};
+ghost use Rattle.dtype_paths.specs.Covering.{covers};
+ghost use Rattle.dtype_paths.specs.Overlaps.{Overlaps};
+ghost use Rattle.dtype_paths.specs.declared.field.Field.{Field};
+ghost use Rattle.dtype_paths.specs.declared.field.Field.TheVariants.{ElementType};
+ghost use Rattle.dtype_projection.specs.PathLists.{contains_path, borrowed};
+ghost use Rattle.dtype_projection.specs.Projected.{after_step, projected, projected_fields, struct_with};
+ghost use Rattle.dtype_projection.specs.Restricted.{restricted};
+
+use crate::suffixes::{has_root, suffixes_after_element, suffixes_by_field};
+use dtype_base::{FieldNames, Nullability, VortexResult};
+use dtype_paths::{Field, FieldPathSet};
+use dtype_types::{DType, StructFields};
+use std::alloc::Global;
+
+/// Returns the type of what these paths cover: a struct keeps the first field of each name that a path steps into, in the order
+/// of its fields, and the type at the end of a path is kept whole. Lists and fixed-size lists keep their size and nullability
+/// around what is kept of their element. A struct of whose fields nothing is kept isn't kept either. `None` where no path
+/// exists in the type.
+///
+/// Of `{a=list({b=u32, c=utf8})?, d=i8}` the paths `a.[].b` and `x` keep `{a=list({b=u32})?}`.
+///
+/// Parquet's projection mask prunes nested columns in the same way; Arrow's `Schema::project` selects top-level fields
+/// alone. The Rust original has no such call. A path steps as in `FieldPath::resolve`: by a name to the first field of
+/// that name, by the element into a list or a fixed-size list, and into nothing else, so a path through a map, a union or
+/// an extension exists in no type.
+///
+/// # Errors
+///
+/// - `OutOfMemory` (0): an allocation fails.
+pub fn project_paths(
+    alloc: Global,
+    dtype: &DType,
+    wanted: &FieldPathSet,
+) -> VortexResult<Option<DType>>
+    ensures projection { MatchResult result
+        (λ r. option_map tree r ≡ projected (tree dtype.now) (set.contains wanted.now))
+        (λ e. e ≡ OutOfMemory) }
+    ensures some { IfOk result (λ r. IsSome r ↔ ((p : List Field) × IsTrue (set.contains wanted.now p)
+        × ExistsIn (tree dtype.now) p)) }
+    ensures kept { IfOk result (λ r. IfSome r (λ u. (q : List Field) → IsTrue (covers wanted.now q)
+        → along (tree u) q ≡ along (tree dtype.now) q)) }
+    ensures only { IfOk result (λ r. IfSome r (λ u. (q : List Field) → ExistsIn (tree u) q
+        → ExistsIn (tree dtype.now) q
+        × ((p : List Field) × IsTrue (set.contains wanted.now p) × Overlaps p q))) }
+    ensures valid { Valid (tree dtype.now) → IfOk result (λ r. IfSome r (λ u. Valid (tree u))) }
+    ensures values { IfOk result (λ r. IfSome r (λ u. (v : Value) → Of v (tree dtype.now)
+        → Of (restricted (tree dtype.now) (set.contains wanted.now) v) (tree u))) }
+{
+    let mut paths = Vec::new(alloc);
+    let members = wanted.iter()?;
+    for path in members {
+        paths.push(path.parts())?;
+    }
+    project(alloc, dtype, &paths)
+}
+
+// The projection of a type to these paths.
+#[cycle(projecting)]
+fn project(alloc: Global, dtype: &DType, paths: &[&[Field]]) -> VortexResult<Option<DType>>
+    ensures { MatchResult result
+        (λ r. option_map tree r ≡ projected (tree dtype.now) (contains_path (borrowed paths.now)))
+        (λ e. e ≡ OutOfMemory) }
+{
+    if paths.is_empty() {
+        return Ok(None);
+    }
+    if has_root(paths) {
+        return Ok(Some(dtype.try_clone(alloc)?));
+    }
+    match dtype {
+        DType::List(element, n) => match project_element(alloc, element, paths)? {
+            Some(kept) => Ok(Some(DType::list(alloc, kept, *n)?)),
+            None => Ok(None),
+        },
+        DType::FixedSizeList(element, size, n) => match project_element(alloc, element, paths)? {
+            Some(kept) => Ok(Some(DType::fixed_size_list(alloc, kept, *size, *n)?)),
+            None => Ok(None),
+        },
+        DType::Struct(fields, n) => project_struct(alloc, fields, *n, paths),
+        DType::Null
+        | DType::Bool(_)
+        | DType::Primitive(_, _)
+        | DType::Decimal(_, _)
+        | DType::Utf8(_)
+        | DType::Binary(_)
+        | DType::Map(_, _)
+        | DType::Union(_, _)
+        | DType::Variant(_)
+        | DType::Extension(_) => Ok(None),
+    }
+}
+
+// The projection of an element to what these paths ask of it.
+#[cycle(projecting)]
+fn project_element(
+    alloc: Global,
+    element: &DType,
+    paths: &[&[Field]],
+) -> VortexResult<Option<DType>>
+    ensures { MatchResult result
+        (λ r. option_map tree r ≡ projected (tree element.now) (after_step ElementType (contains_path (borrowed paths.now))))
+        (λ e. e ≡ OutOfMemory) }
+{
+    let suffixes = suffixes_after_element(alloc, paths)?;
+    project(alloc, element, &suffixes)
+}
+
+// The projection of a struct of these fields to these paths, of which none is the root.
+#[cycle(projecting)]
+fn project_struct(
+    alloc: Global,
+    fields: &StructFields,
+    n: Nullability,
+    paths: &[&[Field]],
+) -> VortexResult<Option<DType>>
+    ensures { MatchResult result
+        (λ r. option_map tree r ≡ struct_with n (projected_fields (fields_of fields.now) (contains_path (borrowed paths.now))))
+        (λ e. e ≡ OutOfMemory) }
+{
+    let suffixes = suffixes_by_field(alloc, fields, paths)?;
+    let mut names = Vec::new(alloc);
+    let mut dtypes = Vec::new(alloc);
+    for ((name, dtype), suffixes) in fields.pairs().zip(&suffixes) {
+        if let Some(kept) = project(alloc, dtype, suffixes)? {
+            names.push(name.try_clone(alloc)?)?;
+            dtypes.push(kept)?;
+        }
+    }
+    if names.is_empty() {
+        return Ok(None);
+    }
+    let kept = StructFields::new(alloc, FieldNames::from_vec(names), dtypes)?;
+    Ok(Some(DType::Struct(kept, n)))
+}

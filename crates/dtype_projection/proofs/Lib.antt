@@ -6,3 +6,6 @@ mod ProjectionClauses
 mod SuffixLists
 mod FieldProgress
 mod Weights
+mod MergedKinds
+mod MergedParts
+mod TypeWeights

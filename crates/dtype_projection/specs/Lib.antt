@@ -4,4 +4,5 @@
 pub mod Projected
 pub mod PathLists
 pub mod Restricted
+pub mod Merged
 pub mod lemmas

@@ -9,3 +9,4 @@ pub mod Coverage
 pub mod Composition
 pub mod Restrictions
 pub mod ThroughExtensions
+pub mod Merging

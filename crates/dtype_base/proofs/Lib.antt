@@ -6,5 +6,5 @@ pub mod EscapedChars
 pub mod BitWidths
 pub mod NameSearch
 pub mod KeyOrder
-pub mod TakenPlaces
+pub mod PermutedEntries
 pub mod Selections

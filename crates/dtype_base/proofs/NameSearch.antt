@@ -1,7 +1,7 @@
 -- SPDX-License-Identifier: Apache-2.0
 -- SPDX-FileCopyrightText: Copyright the Vortex contributors
 
--- What the order of positions says of a search by halves, and of names that stand twice.
+-- The order of positions: that a binary search in it is right, and that equal names are neighbours.
 use Rattle.std.proofs.Common.{◌≡◌, ℕ, zero, Bool, IfSome, IfNone, suc, ◌+◌, ◌-◌, ◌/◌, ◌<◌, ◌≤◌, ◌^◌, List, [], ◌∷◌, ◌++◌, true, false, Option, Some, None, length, get_or, if◌then◌else◌, refl, sym, ap, subst, ◌∙◌, inl, inr, arith, ⊎_elim}
 use Rattle.std.specs.Prelude.{◌≢◌, slice_get}
 use Rattle.std.specs.List.{range_with_len, AllPairs, Contains}
@@ -28,7 +28,7 @@ use Rattle.std.proofs.lemmas.Option.{same_Some, slice_get_within, slice_get_read
 use Rattle.dtype_base.specs.FieldNames.{FirstAt, IsAbsent}
 use Rattle.dtype_base.specs.BinaryDigits.{binary_digits, digits_halved}
 use Rattle.dtype_base.specs.NameOrder.{bytes_cmp, name_cmp, position_cmp, IsOrderOf, positions, mask, comparisons}
-use Rattle.dtype_base.specs.declared.name_order.Place.{Place}
+use Rattle.dtype_base.specs.declared.name_order.IndexEntry.{IndexEntry}
 
 bytes_total : IsTotalOrder bytes_cmp
 bytes_total = options_total nat_list_cmp_total
@@ -52,7 +52,7 @@ last_counted a (suc n) j e = ap (λ ks. a ∷ ks) (last_counted (a + 1) n j (ome
 pub counted_more : (n : ℕ) → range_with_len 0 (n + 1) ≡ range_with_len 0 n ++ n ∷ []
 counted_more n = let next : n + 1 ≡ suc n = omega arith in ap (range_with_len 0) next ∙ last_counted 0 n n (omega arith)
 
--- ---- what a test of an answer has told
+-- ---- from a test of an ordering to the ordering
 
 pub is_less : (r : Ordering) → true ≡ is_lt r → r ≡ Less
 is_less Less e = refl
@@ -82,32 +82,32 @@ count_of : (n compared : ℕ) → 0 < n → compared ≡ binary_digits (n - 1) �
 count_of zero compared a e = absurd (omega arith)
 count_of (suc n) compared a e = let less : suc n - 1 ≡ n = omega arith in ap (λ k. k + 1) (e ∙ ap binary_digits less)
 
--- the names before this place are below n; from it on none is
+-- the names before this index of the order are below n; from `high` on none is
 abbrev pub AllBelow : List (List ℕ) → List ℕ → List ℕ → ℕ → Type 0
 AllBelow names order n low = (k : ℕ) → k < low → name_cmp names n (get_or order k 0) ≡ Less
 
 abbrev pub NoneBelow : List (List ℕ) → List ℕ → List ℕ → ℕ → Type 0
 NoneBelow names order n high = (k : ℕ) → high ≤ k → k < length order → is_lt (name_cmp names n (get_or order k 0)) ≡ false
 
--- the name at each place before this one is above all names before it
+-- each name before this index of the order is above all names before itself
 abbrev pub AllRise : List (List ℕ) → List ℕ → ℕ → Type 0
 AllRise names order before = (k : ℕ) (n : List ℕ) → k < before → k < length order → slice_get names (get_or order k 0) ≡ Some n → AllBelow names order n k
 
--- the name stands somewhere
-abbrev pub Stands : List (List ℕ) → List ℕ → Type 0
-Stands names n = (i : ℕ) × (slice_get names i ≡ Some n)
+-- the name occurs
+abbrev pub Occurs : List (List ℕ) → List ℕ → Type 0
+Occurs names n = (i : ℕ) × (slice_get names i ≡ Some n)
 
--- A search by halves, with so many places left from `low` on. If the name stands anywhere, its first place is among
--- them: the names before them are below it, and none from the last of them on is. So many digits are compared as a
--- number of places has more than what is left.
+-- The invariant of the binary search, with `size` entries left from `low` on. If the name occurs, its first entry is
+-- among them: the names before them are below it, and from the last of them on none is. The comparisons so far and the
+-- binary digits of what is left are as many as the binary digits of the whole.
 pub record Searching (names : List (List ℕ)) (order n : List ℕ) (low size compared : ℕ) : Type 0 where
   pub some : 0 < size
   pub within : low + size ≤ length order
-  pub below : Stands names n → AllBelow names order n low
-  pub from : Stands names n → NoneBelow names order n (low + size - 1)
+  pub below : Occurs names n → AllBelow names order n low
+  pub from : Occurs names n → NoneBelow names order n (low + size - 1)
   pub count : compared + binary_digits (size - 1) ≡ binary_digits (length order - 1)
 
--- a number under a mask
+-- a number and a mask of all ones or none
 masked : (b : Bool) (number below : ℕ) → number < 2 ^ 64 → below ≡ mask b → bit_and number below ≡ (if b then number else 0)
 masked true number below fits e = ap (bit_and number) e ∙ and_mask number 64 ∙ mod-eq_of_lt fits
 masked false number below fits e = ap (bit_and number) e ∙ and_zero_r number
@@ -119,11 +119,11 @@ module _ (names : List (List ℕ)) (order : List ℕ) (h : IsOrderOf names order
   ranked : (n : List ℕ) → IsNonDecreasingBy (λ i. ordering_index (name_cmp names n i)) order
   ranked n = searchable_from_sorted bytes_total (slice_get names) order (Some n) (λ k d low high. not_less _ _ (h.rising k d low high))
 
-  -- every position stands somewhere
-  stands : (i : ℕ) → i < length names → Contains order i
-  stands i b = Contains-permutation _ _ i h.each (i, omega (arith, b, length-range_with_len 0 (length names)), omega (arith, get_or-range_with_len 0 (length names) i i b))
+  -- every position occurs in the order
+  occurs_in_order : (i : ℕ) → i < length names → Contains order i
+  occurs_in_order i b = Contains-permutation _ _ i h.each (i, omega (arith, b, length-range_with_len 0 (length names)), omega (arith, get_or-range_with_len 0 (length names) i i b))
 
-  -- what stands is a position
+  -- and nothing else does
   pub is_position : (k : ℕ) → k < length order → get_or order k 0 < length names
   is_position k b = All-permutation (λ i. i < length names) _ order h.each (All-from_get_or (λ i. i < length names) (range_with_len 0 (length names)) 0 (λ i l. omega (arith, l, length-range_with_len 0 (length names), get_or-range_with_len 0 (length names) i 0 (omega (arith, l, length-range_with_len 0 (length names)))))) k 0 b
 
@@ -153,10 +153,10 @@ module _ (names : List (List ℕ)) (order : List ℕ) (h : IsOrderOf names order
     itself i e = ap (λ o. bytes_cmp o (Some n)) e ∙ tied_itself bytes_total (Some n)
 
     pub placed : (i : ℕ) → slice_get names i ≡ Some n → (q : ℕ) × (q < length order) × (get_or order q 0 ≡ i)
-    placed i e = let s = stands i (slice_get_within names i n e) in (s.0, s.1, get_or_default order s.0 0 i s.1 ∙ s.2)
+    placed i e = let s = occurs_in_order i (slice_get_within names i n e) in (s.0, s.1, get_or_default order s.0 0 i s.1 ∙ s.2)
 
-    at_place : (q i : ℕ) → get_or order q 0 ≡ i → slice_get names i ≡ Some n → name_cmp names n (get_or order q 0) ≡ Equal
-    at_place q i e f = ap (name_cmp names n) e ∙ itself i f
+    at_entry : (q i : ℕ) → get_or order q 0 ≡ i → slice_get names i ≡ Some n → name_cmp names n (get_or order q 0) ≡ Equal
+    at_entry q i e f = ap (name_cmp names n) e ∙ itself i f
 
     equal_bytes : (xs : List ℕ) → slice_cmp nat_cmp xs n ≡ Equal → xs ≡ n
     equal_bytes xs e = (bytes_decides xs n).0 (texts_ties xs n ∙ ap is_eq e)
@@ -165,7 +165,7 @@ module _ (names : List (List ℕ)) (order : List ℕ) (h : IsOrderOf names order
     equal_is None e = absurd (less≢equal e)
     equal_is (Some x) e = ap Some (equal_bytes x e)
 
-    -- two positions of the name compare by themselves
+    -- two positions of one name compare as numbers
     later : (k p q : ℕ) → get_or order q 0 ≡ k → slice_get names (get_or order p 0) ≡ Some n → slice_get names k ≡ Some n → position_cmp names (get_or order q 0) (get_or order p 0) ≡ nat_cmp k (get_or order p 0)
     later k p q e there f =
         ap (λ i. position_cmp names i (get_or order p 0)) e
@@ -174,13 +174,13 @@ module _ (names : List (List ℕ)) (order : List ℕ) (h : IsOrderOf names order
     not_above : {r s : Ordering} → ordering_index r ≤ ordering_index s → r ≡ Greater → s ≡ Equal → ⊥
     not_above le a b = omega (arith, le, ap ordering_index a, ap ordering_index b)
 
-    -- at the place where the search ends
+    -- where the search ends
     pub found : (p : ℕ) → p < length order → AllBelow names order n p → name_cmp names n (get_or order p 0) ≡ Equal → FirstAt names n (get_or order p 0)
     found p b below e = record {
       here = equal_is (slice_get names (get_or order p 0)) e;
       first = λ k l f.
           let s = placed k f in
-          let same = at_place s.0 k s.2 f in
+          let same = at_entry s.0 k s.2 f in
           ⊎_elim
           (λ before. less≢equal (sym (below s.0 before) ∙ same))
           (λ after.
@@ -191,12 +191,12 @@ module _ (names : List (List ℕ)) (order : List ℕ) (h : IsOrderOf names order
     }
 
     pub absent_past : AllBelow names order n (length order) → IsAbsent names n
-    absent_past below k f = let s = placed k f in less≢equal (sym (below s.0 s.1) ∙ at_place s.0 k s.2 f)
+    absent_past below k f = let s = placed k f in less≢equal (sym (below s.0 s.1) ∙ at_entry s.0 k s.2 f)
 
     pub absent_at : (p : ℕ) → p < length order → AllBelow names order n p → name_cmp names n (get_or order p 0) ≡ Greater → IsAbsent names n
     absent_at p b below e k f =
         let s = placed k f in
-        let same = at_place s.0 k s.2 f in
+        let same = at_entry s.0 k s.2 f in
         ⊎_elim
         (λ before. less≢equal (sym (below s.0 before) ∙ same))
         (λ after. not_above (ranked n p s.0 0 after s.1) e same)
@@ -210,33 +210,33 @@ module _ (names : List (List ℕ)) (order : List ℕ) (h : IsOrderOf names order
       below = λ t k l. absurd (omega (arith, l));
       from = λ t k l within.
           let s = placed t.0 t.1 in
-          above_more s.0 s.1 (ap is_lt (at_place s.0 t.0 s.2 t.1)) k (omega (arith, l, within, s.1)) within;
+          above_more s.0 s.1 (ap is_lt (at_entry s.0 t.0 s.2 t.1)) k (omega (arith, l, within, s.1)) within;
       count = omega arith;
     }
 
-    -- one step: a comparison with the last name of the first half tells which half is left
+    -- one step: a comparison with the last name of the first half decides which half is left
     pub steps : (low size compared half m below : ℕ) (b : Bool) → Searching names order n low size compared → 1 < size → half ≡ size / 2 → m ≡ low + half - 1 → half < 2 ^ 64
-        → (Stands names n → is_lt (name_cmp names n (get_or order m 0)) ≡ b) → below ≡ mask b → Searching names order n (low + bit_and half below) (size - half) (compared + 1)
-    steps low size compared half m below true inv more is at fits told e =
+        → (Occurs names n → is_lt (name_cmp names n (get_or order m 0)) ≡ b) → below ≡ mask b → Searching names order n (low + bit_and half below) (size - half) (compared + 1)
+    steps low size compared half m below true inv more is at fits distinguished e =
         let moved : bit_and half below ≡ half = masked true half below fits e in record {
           some = omega (arith, more, is);
           within = omega (arith, moved, inv.within, is);
-          below = λ t. subst (AllBelow names order n) (omega (arith, moved, at, is, more)) (below_more m (omega (arith, at, is, more, inv.within)) (is_less _ (sym (told t))));
+          below = λ t. subst (AllBelow names order n) (omega (arith, moved, at, is, more)) (below_more m (omega (arith, at, is, more, inv.within)) (is_less _ (sym (distinguished t))));
           from = λ t. subst (NoneBelow names order n) (omega (arith, moved, is, more)) (inv.from t);
           count = omega (arith, inv.count, digits_halved (size - 1) (size - half - 1) (omega (arith, more)) (omega (arith, is, more)));
         }
-    steps low size compared half m below false inv more is at fits told e =
+    steps low size compared half m below false inv more is at fits distinguished e =
         let stayed : bit_and half below ≡ 0 = masked false half below fits e in record {
           some = omega (arith, more, is);
           within = omega (arith, stayed, inv.within, is);
           below = λ t. subst (AllBelow names order n) (omega (arith, stayed)) (inv.below t);
-          from = λ t k l within. above_more m (omega (arith, at, is, more, inv.within)) (told t) k (omega (arith, l, stayed, at, is, more)) within;
+          from = λ t k l within. above_more m (omega (arith, at, is, more, inv.within)) (distinguished t) k (omega (arith, l, stayed, at, is, more)) within;
           count = omega (arith, inv.count, digits_halved (size - 1) (size - half - 1) (omega (arith, more)) (omega (arith, is, more)));
         }
 
-    -- the last comparison tells whether the place that is left has the name
+    -- the last comparison decides whether the entry that is left has the name
     pub ends : (low size compared : ℕ) (same : Bool) → Searching names order n low size compared → size ≤ 1 → (same ≡ true → name_cmp names n (get_or order low 0) ≡ Equal)
-        → (same ≡ false → Stands names n → name_cmp names n (get_or order low 0) ≢ Equal)
+        → (same ≡ false → Occurs names n → name_cmp names n (get_or order low 0) ≢ Equal)
         → IfSome (then_some same (get_or order low 0)) (FirstAt names n) × IfNone (then_some same (get_or order low 0)) (IsAbsent names n)
     ends low size compared true inv last is isnt =
         let within : low < length order = omega (arith, inv.within, inv.some) in
@@ -246,7 +246,7 @@ module _ (names : List (List ℕ)) (order : List ℕ) (h : IsOrderOf names order
         let within : low < length order = omega (arith, inv.within, inv.some) in (
           tt,
           λ i e.
-              let t : Stands names n = (i, e) in
+              let t : Occurs names n = (i, e) in
               let left = not_equal _ (inv.from t low (omega (arith, last)) within) (isnt refl t) in
               absent_at low within (inv.below t) left i e,
         )
@@ -265,14 +265,14 @@ module _ (names : List (List ℕ)) (order : List ℕ) (h : IsOrderOf names order
         subst (AllBelow names order n) after
         (below_more p (omega (arith, after, b)) (at_most_equal _ _ (ranked n p q 0 (omega (arith, after)) b) (itself (get_or order q 0) next) (λ e. differ (same_Some m n (sym here ∙ equal_is _ e)))))
 
-    -- two places of one name
+    -- one name at two indices of the order
     twice : (p q : ℕ) → AllBelow names order n q → p < q → name_cmp names n (get_or order p 0) ≡ Equal → ⊥
     twice p q below b e = less≢equal (sym (below p b) ∙ e)
 
   pub rise_none : AllRise names order 1
   rise_none k n l b e j m = absurd (omega (arith, l, m))
 
-  -- one place more, whose name differs from that before it
+  -- one index more, whose name differs from that before it
   pub rise_more : (p q : ℕ) (m n : List ℕ) → p + 1 ≡ q → q < length order → slice_get names (get_or order p 0) ≡ Some m → slice_get names (get_or order q 0) ≡ Some n → m ≢ n → AllRise names order q → AllRise names order (q + 1)
   rise_more p q m n after b here next differ before k o l w e =
       ⊎_elim
@@ -284,7 +284,7 @@ module _ (names : List (List ℕ)) (order : List ℕ) (h : IsOrderOf names order
       (cases_lt k q)
 
   pub rise_distinct : AllRise names order (length order) → AllPairs (λ m n. m ≢ n) names
-  rise_distinct rise i j d l b same =
+  rise_distinct increase i j d l b same =
       let n = get_or names j d in
       let at_i : slice_get names i ≡ Some n = slice_get_read names (length names) i (get_or names i d) refl (omega (arith, l, b)) (get_or_default names i d _ (omega (arith, l, b))) ∙ ap Some same in
       let at_j : slice_get names j ≡ Some n = slice_get_read names (length names) j n refl b (get_or_default names j d _ b) in
@@ -294,11 +294,11 @@ module _ (names : List (List ℕ)) (order : List ℕ) (h : IsOrderOf names order
       let there_j : slice_get names (get_or order q.0 0) ≡ Some n = ap (slice_get names) q.2 ∙ at_j in
       elim (cases_order p.0 q.0) [
         | inl e ↦ omega (arith, l, ap (λ k. get_or order k 0) e, p.2, q.2)
-        | inr (inl before) ↦ twice n p.0 q.0 (rise q.0 n q.1 q.1 there_j) before (at_place n p.0 i p.2 at_i)
-        | inr (inr later) ↦ twice n q.0 p.0 (rise p.0 n p.1 p.1 there_i) later (at_place n q.0 j q.2 at_j)
+        | inr (inl before) ↦ twice n p.0 q.0 (increase q.0 n q.1 q.1 there_j) before (at_entry n p.0 i p.2 at_i)
+        | inr (inr later) ↦ twice n q.0 p.0 (increase p.0 n p.1 p.1 there_i) later (at_entry n q.0 j q.2 at_j)
       ]
 
-  -- no position stands twice
+  -- no position occurs twice
   apart : AllPairs (λ i j. i ≢ j) order
   apart = AllPairs-from_IsDistinct Decides-eqb order (IsDistinct-IsPermutation _ nat_eq_equiv.symm _ order h.each (IsDistinct-from_AllPairs Decides-eqb (range_with_len 0 (length names)) (λ i j d l b e.
       omega (arith, l, b, e, length-range_with_len 0 (length names), get_or-range_with_len 0 (length names) i d (omega (arith, l, b, length-range_with_len 0 (length names))), get_or-range_with_len 0 (length names) j d (omega (arith, b, length-range_with_len 0 (length names)))))))
@@ -315,14 +315,14 @@ module _ (names : List (List ℕ)) (order : List ℕ) (h : IsOrderOf names order
         | inr (inr later) ↦ distinct j i n later (slice_get_within names i n here) (at_j ∙ sym at_i)
       ]
 
--- ---- the positions that places have
+-- ---- the positions of entries
 
-pub as_many_positions : (places : List Place) → length (positions places) ≡ length places
-as_many_positions places = length-map places (λ p. p.position)
+pub as_many_positions : (entries : List IndexEntry) → length (positions entries) ≡ length entries
+as_many_positions entries = length-map entries (λ p. p.position)
 
-pub position_at : (places : List Place) (k : ℕ) (d : Place) → k < length places → get_or (positions places) k 0 ≡ (get_or places k d).position
-position_at places k d within = get_or-map (λ p. p.position) places k d 0 within
+pub position_at : (entries : List IndexEntry) (k : ℕ) (d : IndexEntry) → k < length entries → get_or (positions entries) k 0 ≡ (get_or entries k d).position
+position_at entries k d within = get_or-map (λ p. p.position) entries k d 0 within
 
-pub stands_within : (names : List (List ℕ)) (places : List Place) → IsOrderOf names (positions places) → (k : ℕ) (d : Place) → k < length places → (get_or places k d).position < length names
-stands_within names places h k d within =
-    omega (arith, position_at places k d within, is_position names (positions places) h k (omega (arith, within, as_many_positions places)))
+pub position_is_within : (names : List (List ℕ)) (entries : List IndexEntry) → IsOrderOf names (positions entries) → (k : ℕ) (d : IndexEntry) → k < length entries → (get_or entries k d).position < length names
+position_is_within names entries h k d within =
+    omega (arith, position_at entries k d within, is_position names (positions entries) h k (omega (arith, within, as_many_positions entries)))

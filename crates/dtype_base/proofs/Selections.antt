@@ -1,25 +1,25 @@
 -- SPDX-License-Identifier: Apache-2.0
 -- SPDX-FileCopyrightText: Copyright the Vortex contributors
 
--- Looking up one name after another.
+-- Names looked up one after another.
 use Rattle.std.proofs.Common.{◌≡◌, ◌≢◌, ℕ, zero, suc, ◌+◌, ◌<◌, List, [], ◌∷◌, ◌++◌, length, map, take, get_or, Option, Some, None, slice_get, refl, sym, ap, ◌∙◌, arith}
 use Rattle.std.proofs.lemmas.List.{map_push, map_more}
 use Rattle.std.proofs.lemmas.Option.{same_Some, slice_get_read}
 use Rattle.dtype_base.specs.FieldNames.{first_place, IsFirstAbsent}
-use Rattle.dtype_base.specs.NameKeys.{BeginAlike}
+use Rattle.dtype_base.specs.NameKeys.{HaveCommonPrefix}
 use Rattle.dtype_base.specs.lemmas.Lookups.{first_of_place, selected_at}
-use Rattle.dtype_base.proofs.KeyOrder.{begins_so}
+use Rattle.dtype_base.proofs.KeyOrder.{has_prefix}
 
 -- one name more
-pub selects_more : (names asked : List (List ℕ)) (firsts : List ℕ) (j first : ℕ) (n : List ℕ) → j < length asked → n ≡ get_or asked j n → Some first ≡ first_place names n
-    → map Some firsts ≡ map (first_place names) (take j asked) → map Some (firsts ++ first ∷ []) ≡ map (first_place names) (take (j + 1) asked)
-selects_more names asked firsts j first n within read found so_far =
-    map_push Some firsts first
+pub selects_more : (names asked : List (List ℕ)) (first_positions : List ℕ) (j first : ℕ) (n : List ℕ) → j < length asked → n ≡ get_or asked j n → Some first ≡ first_place names n
+    → map Some first_positions ≡ map (first_place names) (take j asked) → map Some (first_positions ++ first ∷ []) ≡ map (first_place names) (take (j + 1) asked)
+selects_more names asked first_positions j first n within read found so_far =
+    map_push Some first_positions first
     ∙ ap (λ os. os ++ Some first ∷ []) so_far
     ∙ ap (λ o. map (first_place names) (take j asked) ++ o ∷ []) (found ∙ ap (first_place names) read)
     ∙ sym (map_more (first_place names) asked j n within)
 
--- the names that were looked up stand somewhere
+-- the names that were looked up occur
 known : (f : List ℕ → Option ℕ) (ms : List (List ℕ)) (is : List ℕ) → map Some is ≡ map f ms → (k : ℕ) (n : List ℕ) → slice_get ms k ≡ Some n → f n ≢ None
 known f [] is e zero n here none = cc
 known f [] is e (suc k) n here none = cc
@@ -30,23 +30,23 @@ known f (m ∷ ms) (i ∷ is) e zero n here none =
 known f (m ∷ ms) (i ∷ is) e (suc k) n here none =
     let tail : map Some is ≡ map f ms = cc in known f ms is tail k n here none
 
-within_taken : {X : Type 0} (xs : List X) (j k : ℕ) (x : X) → k < j → slice_get xs k ≡ Some x → slice_get (take j xs) k ≡ Some x
-within_taken [] zero k x h e = absurd (omega arith)
-within_taken [] (suc j) k x h e = e
-within_taken (y ∷ ys) zero k x h e = absurd (omega arith)
-within_taken (y ∷ ys) (suc j) zero x h e = e
-within_taken (y ∷ ys) (suc j) (suc k) x h e = within_taken ys j k x (omega arith) e
+within_take : {X : Type 0} (xs : List X) (j k : ℕ) (x : X) → k < j → slice_get xs k ≡ Some x → slice_get (take j xs) k ≡ Some x
+within_take [] zero k x h e = absurd (omega arith)
+within_take [] (suc j) k x h e = e
+within_take (y ∷ ys) zero k x h e = absurd (omega arith)
+within_take (y ∷ ys) (suc j) zero x h e = e
+within_take (y ∷ ys) (suc j) (suc k) x h e = within_take ys j k x (omega arith) e
 
--- the first that stands nowhere
-pub first_absent : (names asked : List (List ℕ)) (firsts : List ℕ) (j : ℕ) (n : List ℕ) → j < length asked → n ≡ get_or asked j n → map Some firsts ≡ map (first_place names) (take j asked) → None ≡ first_place names n → IsFirstAbsent names asked j
-first_absent names asked firsts j n within read so_far none = record {
+-- the first name that is absent
+pub first_absent : (names asked : List (List ℕ)) (first_positions : List ℕ) (j : ℕ) (n : List ℕ) → j < length asked → n ≡ get_or asked j n → map Some first_positions ≡ map (first_place names) (take j asked) → None ≡ first_place names n → IsFirstAbsent names asked j
+first_absent names asked first_positions j n within read so_far none = record {
   absent = (n, slice_get_read asked (length asked) j n refl within read, sym none);
-  there = λ k m before here. known (first_place names) (take j asked) firsts so_far k m (within_taken asked j k m before here);
+  there = λ k m before here. known (first_place names) (take j asked) first_positions so_far k m (within_take asked j k m before here);
 }
 
--- names that all stand among others begin as these do
-pub selected_alike : (names asked : List (List ℕ)) (firsts : List ℕ) (shared : ℕ) → BeginAlike names shared → map Some firsts ≡ map (first_place names) asked → BeginAlike asked shared
-selected_alike names asked firsts shared alike e i d within =
-    let begins : (k : ℕ) (c : List ℕ) → k < length asked → take shared (get_or names 0 []) ≡ take shared (get_or asked k c) =
-    λ k c b. let n = get_or asked k c in begins_so names shared alike n (get_or firsts k 0, (first_of_place names n (get_or firsts k 0) (selected_at names asked firsts e k c b)).here) in
+-- names that all occur among others share their common prefix
+pub selected_prefix : (names asked : List (List ℕ)) (first_positions : List ℕ) (prefix_len : ℕ) → HaveCommonPrefix names prefix_len → map Some first_positions ≡ map (first_place names) asked → HaveCommonPrefix asked prefix_len
+selected_prefix names asked first_positions prefix_len common_prefix e i d within =
+    let begins : (k : ℕ) (c : List ℕ) → k < length asked → take prefix_len (get_or names 0 []) ≡ take prefix_len (get_or asked k c) =
+    λ k c b. let n = get_or asked k c in has_prefix names prefix_len common_prefix n (get_or first_positions k 0, (first_of_place names n (get_or first_positions k 0) (selected_at names asked first_positions e k c b)).here) in
     sym (begins i d within) ∙ begins 0 [] (omega (arith, within))

@@ -1,19 +1,20 @@
 -- SPDX-License-Identifier: Apache-2.0
 -- SPDX-FileCopyrightText: Copyright the Vortex contributors
 
--- How many binary digits a number has, of which 0 has none. From arithmetic.
+-- The number of binary digits of a number; 0 has none. From arithmetic.
 use Rattle.std.proofs.Common.{◌≡◌, ℕ, zero, suc, ◌+◌, ◌*◌, ◌/◌, ◌<◌, ◌≤◌, ◌^◌, ◌==◌, Bool, true, false, cond, refl, ap, arith, pow_mono, pow-suc, inl, inr}
 use Rattle.std.proofs.lemmas.Bool.{eqb-true, eqb-false, cases_lt}
 
--- one more where the number is the power of two that so many don't reach
+-- one digit more where n is two to the power of so many digits, else as many
 abbrev pub one_more : ℕ → ℕ → ℕ
 one_more digits n = cond (2 ^ digits == n) (digits + 1) digits
 
+-- how many binary digits a number has
 unfoldable pub binary_digits : ℕ → ℕ
 binary_digits zero = 0
 binary_digits (suc n) = one_more (binary_digits n) (suc n)
 
--- so many digits reach the number, and no fewer do
+-- the number of binary digits of n: n is below two to its power, and below no smaller power of two
 pub record IsDigitsOf (n digits : ℕ) : Type 0 where
   pub reach : n < 2 ^ digits
   pub fewest : (d : ℕ) → n < 2 ^ d → digits ≤ d

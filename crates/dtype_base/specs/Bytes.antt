@@ -1,9 +1,10 @@
 -- SPDX-License-Identifier: Apache-2.0
 -- SPDX-FileCopyrightText: Copyright the Vortex contributors
 
--- Bytes: a slice of them is seen as a list of numbers, each of which fits 8 bits.
+-- Bytes: the model of a slice of them is a list of numbers, each below 256.
 use Rattle.std.specs.Prelude.{ℕ, ◌<◌, List}
 use Rattle.std.specs.List.{All}
 
+-- the numbers of a list are bytes
 abbrev pub Bytes : List ℕ → Type 0
 Bytes bs = All (λ b. b < 256) bs

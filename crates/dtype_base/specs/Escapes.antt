@@ -1,7 +1,7 @@
 -- SPDX-License-Identifier: Apache-2.0
 -- SPDX-FileCopyrightText: Copyright the Vortex contributors
 
--- The text of a name: its bytes, with what would break a line, a quote or a terminal escaped.
+-- The text of a name: its bytes, with backslashes, double quotes and control characters escaped. A rule of this project.
 use Rattle.std.specs.Prelude.{ℕ, ◌+◌, ◌/◌, ◌%◌, ◌==◌, List, [], ◌∷◌, nat_lt, if◌then◌else◌}
 use Rattle.std.specs.Char.{is_ascii_control}
 use Rattle.std.specs.List.{flat_map}
@@ -11,7 +11,7 @@ abbrev pub hex_digit : ℕ → ℕ
 hex_digit n = if nat_lt n 10 then 48 + n else 87 + n
 
 -- backslash, double quote, tab, newline and carriage return as \\ \" \t \n \r; any other ASCII control
--- character, which is a byte below 0x20 or 0x7F, as \x and two digits; every other byte as it stands
+-- character, which is a byte below 0x20 or 0x7F, as \x and two digits; every other byte as it is
 unfoldable pub escaped_byte : ℕ → List ℕ
 escaped_byte b =
     if b == 92 then 92 ∷ 92 ∷ []
@@ -22,6 +22,6 @@ escaped_byte b =
     else if is_ascii_control b then 92 ∷ 120 ∷ hex_digit (b / 16) ∷ hex_digit (b % 16) ∷ []
     else b ∷ []
 
--- each byte escaped
+-- the bytes of a text, each escaped
 unfoldable pub escaped : List ℕ → List ℕ
 escaped = flat_map escaped_byte

@@ -9,12 +9,12 @@ use Rattle.dtype_base.specs.Escapes.{escaped}
 use Rattle.dtype_base.specs.declared.vortex_error.VortexError.{VortexError}
 use Rattle.dtype_base.specs.declared.vortex_error.VortexError.TheVariants.{FieldNotFound}
 
--- position i has the name n, and no position before it has
+-- i is the first position of the name n
 pub record FirstAt (names : List (List ℕ)) (n : List ℕ) (i : ℕ) : Type 0 where
   pub here : slice_get names i ≡ Some n
   pub first : (k : ℕ) → k < i → slice_get names k ≢ Some n
 
--- no position has the name n
+-- the name n is absent: no position has it
 abbrev pub IsAbsent : List (List ℕ) → List ℕ → Type 0
 IsAbsent names n = (k : ℕ) → slice_get names k ≢ Some n
 
@@ -22,12 +22,12 @@ IsAbsent names n = (k : ℕ) → slice_get names k ≢ Some n
 abbrev pub first_place : List (List ℕ) → List ℕ → Option ℕ
 first_place names n = position (λ m. bytes_eq m n) names
 
--- at this position of those asked stands the first name that is absent
+-- this is the first position of those asked whose name is absent
 pub record IsFirstAbsent (names asked : List (List ℕ)) (position : ℕ) : Type 0 where
   pub absent : (n : List ℕ) × (slice_get asked position ≡ Some n) × (first_place names n ≡ None)
   pub there : (k : ℕ) (n : List ℕ) → k < position → slice_get asked k ≡ Some n → first_place names n ≢ None
 
--- what a selection of names refuses: the first that is absent
+-- the error of a selection of names: the first that is absent
 abbrev pub SelectionRefusal : List (List ℕ) → List (List ℕ) → VortexError → Type 0
 SelectionRefusal names asked (FieldNotFound position) = IsFirstAbsent names asked position
 SelectionRefusal names asked _ = ⊥

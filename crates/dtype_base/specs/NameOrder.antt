@@ -1,8 +1,8 @@
 -- SPDX-License-Identifier: Apache-2.0
 -- SPDX-FileCopyrightText: Copyright the Vortex contributors
 
--- An index of names: their positions in the order of the names' bytes, those of one name in their own
--- order, each with the key of its name, and how many names a lookup in it compares.
+-- The index of a name list: an entry for each position, with the sort key of the name there, in the order of the names'
+-- bytes and then of the positions. Also how many names a lookup in it compares.
 use Rattle.std.specs.Prelude.{◌≡◌, ℕ, zero, suc, ◌+◌, ◌-◌, ◌<◌, ◌^◌, List, Option, Some, Bool, ⊤, length, map, slice_get, slice_index_or, [], if◌then◌else◌}
 use Rattle.std.specs.List.{All, AllPairs, range_with_len}
 use Rattle.std.specs.List.Sorted.{IsPermutation, IsSorted}
@@ -12,12 +12,12 @@ use Rattle.std.specs.declared.cmp.Ordering.{Ordering}
 use Rattle.std.specs.Cmp.Lexicographic.{slice_cmp}
 use Rattle.dtype_base.specs.BinaryDigits.{binary_digits}
 use Rattle.dtype_base.specs.Bytes.{Bytes}
-use Rattle.dtype_base.specs.NameKeys.{key_half, name_key, BeginAlike}
-use Rattle.dtype_base.specs.declared.name_order.Place.{Place}
-use Rattle.dtype_base.specs.declared.name_order.ToldBy.{ToldBy}
-use Rattle.dtype_base.specs.declared.name_order.ToldBy.TheVariants.{Halves, Keys, Texts}
+use Rattle.dtype_base.specs.NameKeys.{key_prefix, sort_key, HaveCommonPrefix}
+use Rattle.dtype_base.specs.declared.name_order.IndexEntry.{IndexEntry}
+use Rattle.dtype_base.specs.declared.name_order.Discriminator.{Discriminator}
+use Rattle.dtype_base.specs.declared.name_order.Discriminator.TheVariants.{KeyPrefix, Key, Text}
 
--- how two names compare, by their bytes, where none comes before all
+-- how two names compare, by their bytes; no name is less than any
 abbrev pub bytes_cmp : Option (List ℕ) → Option (List ℕ) → Ordering
 bytes_cmp = option_cmp (slice_cmp nat_cmp)
 
@@ -34,52 +34,52 @@ pub record IsOrderOf (names : List (List ℕ)) (order : List ℕ) : Type 0 where
   pub each : IsPermutation (range_with_len 0 (length names)) order
   pub rising : IsSorted (position_cmp names) order
 
--- how two places compare: by their keys, then as their positions do
-abbrev pub place_cmp : List (List ℕ) → Place → Place → Ordering
-place_cmp names p q = ordering_then (nat_cmp p.key q.key) (position_cmp names p.position q.position)
+-- how two entries compare: by their keys, then as their positions do
+abbrev pub entry_cmp : List (List ℕ) → IndexEntry → IndexEntry → Ordering
+entry_cmp names p q = ordering_then (nat_cmp p.key q.key) (position_cmp names p.position q.position)
 
--- a place of a name with the key of the name, which is of bytes
-pub record IsKeyed (names : List (List ℕ)) (shared : ℕ) (p : Place) : Type 0 where
+-- the entry's position has a name, which is of bytes, and its key is that name's sort key
+pub record IsKeyed (names : List (List ℕ)) (prefix_len : ℕ) (p : IndexEntry) : Type 0 where
   pub within : p.position < length names
-  pub key : p.key ≡ name_key shared (slice_index_or names p.position [])
+  pub key : p.key ≡ sort_key prefix_len (slice_index_or names p.position [])
   pub bytes : Bytes (slice_index_or names p.position [])
 
-abbrev pub positions : List Place → List ℕ
+abbrev pub positions : List IndexEntry → List ℕ
 positions = map (λ p. p.position)
 
--- each place has another key
-abbrev pub KeysRise : List Place → Type 0
-KeysRise = AllPairs (λ p q. p.key < q.key)
+-- the keys are strictly increasing, so they distinguish the entries
+abbrev pub KeysIncrease : List IndexEntry → Type 0
+KeysIncrease = AllPairs (λ p q. p.key < q.key)
 
--- each place has a key with another first half
-abbrev pub HalvesRise : List Place → Type 0
-HalvesRise = AllPairs (λ p q. key_half p.key < key_half q.key)
+-- the key prefixes, the first eight bytes, are strictly increasing
+abbrev pub PrefixesIncrease : List IndexEntry → Type 0
+PrefixesIncrease = AllPairs (λ p q. key_prefix p.key < key_prefix q.key)
 
--- what tells the places apart
-abbrev pub AreToldBy : ToldBy → List Place → Type 0
-AreToldBy Halves = HalvesRise
-AreToldBy Keys = KeysRise
-AreToldBy Texts = λ places. ⊤
+-- what the discriminator of an index promises of its entries
+abbrev pub AreDistinguishedBy : Discriminator → List IndexEntry → Type 0
+AreDistinguishedBy KeyPrefix = PrefixesIncrease
+AreDistinguishedBy Key = KeysIncrease
+AreDistinguishedBy Text = λ entries. ⊤
 
--- the names' positions in order, each with its key, and what tells them apart
-pub record IsIndexOf (names : List (List ℕ)) (shared : ℕ) (told_by : ToldBy) (places : List Place) : Type 0 where
-  pub alike : BeginAlike names shared
-  pub keyed : All (IsKeyed names shared) places
-  pub order : IsOrderOf names (positions places)
-  pub told : AreToldBy told_by places
+-- the entries are the index of these names: a common prefix of this length, keys after it, in order, distinguished so
+pub record IsIndexOf (names : List (List ℕ)) (prefix_len : ℕ) (discriminator : Discriminator) (entries : List IndexEntry) : Type 0 where
+  pub common_prefix : HaveCommonPrefix names prefix_len
+  pub keyed : All (IsKeyed names prefix_len) entries
+  pub order : IsOrderOf names (positions entries)
+  pub distinguished : AreDistinguishedBy discriminator entries
 
--- how the name at a place compares to a name with this key: by as much as tells them apart
-abbrev pub place_side : List (List ℕ) → List ℕ → ℕ → ToldBy → Place → Ordering
-place_side names n key Halves p = nat_cmp (key_half p.key) (key_half key)
-place_side names n key Keys p = nat_cmp p.key key
-place_side names n key Texts p = ordering_then (nat_cmp p.key key) (name_cmp names n p.position)
+-- how an entry compares to a name n with this key, by as much of them as the discriminator names
+abbrev pub entry_name_cmp : List (List ℕ) → List ℕ → ℕ → Discriminator → IndexEntry → Ordering
+entry_name_cmp names n key KeyPrefix p = nat_cmp (key_prefix p.key) (key_prefix key)
+entry_name_cmp names n key Key p = nat_cmp p.key key
+entry_name_cmp names n key Text p = ordering_then (nat_cmp p.key key) (name_cmp names n p.position)
 
--- all 64 ones, or none
+-- 64 ones for true, 0 for false
 abbrev pub mask : Bool → ℕ
 mask b = if b then 2 ^ 64 - 1 else 0
 
--- How many names a search by halves compares among so many: the binary digits of n tell which of n + 1 names is
--- left, and one comparison more whether it is the one.
+-- How many names a binary search among n names compares, whichever name is looked for. Among n + 1 names: a comparison
+-- for each binary digit of n until one name is left, and one more with that.
 abbrev pub comparisons : ℕ → ℕ
 comparisons zero = 0
 comparisons (suc n) = binary_digits n + 1

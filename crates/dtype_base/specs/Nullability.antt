@@ -6,23 +6,24 @@ use Rattle.std.specs.Prelude.{ℕ, List, [], codes, Bool, true, false}
 use Rattle.dtype_base.specs.declared.nullability.Nullability.{Nullability}
 use Rattle.dtype_base.specs.declared.nullability.Nullability.TheVariants.{NonNullable, Nullable}
 
--- true is nullable
+-- the nullability that a Bool means: true is nullable
 abbrev pub nullability_of : Bool → Nullability
 nullability_of true = Nullable
 nullability_of false = NonNullable
 
--- non-nullable only where both are
+-- the nullability of `a | b`: non-nullable only where both are
 abbrev pub either : Nullability → Nullability → Nullability
 either NonNullable NonNullable = NonNullable
 either NonNullable Nullable = Nullable
 either Nullable NonNullable = Nullable
 either Nullable Nullable = Nullable
 
--- what a type's text ends with
+-- what the text of a type ends with
 abbrev pub nullability_text : Nullability → List ℕ
 nullability_text NonNullable = []
 nullability_text Nullable = codes "?"
 
+-- the variant's name
 abbrev pub long_text : Nullability → List ℕ
 long_text NonNullable = codes "NonNullable"
 long_text Nullable = codes "Nullable"

@@ -1,14 +1,14 @@
 -- SPDX-License-Identifier: Apache-2.0
 -- SPDX-FileCopyrightText: Copyright the Vortex contributors
 
--- The numbers of the refusals, by which documents and tests name them.
+-- The numbers of the errors, by which the documentation and the tests name them.
 use Rattle.std.specs.Prelude.{ℕ}
 use Rattle.dtype_base.specs.declared.vortex_error.VortexError.{VortexError}
 use Rattle.dtype_base.specs.declared.vortex_error.VortexError.TheVariants.{OutOfMemory, PrecisionZero, PrecisionTooLarge, ScaleTooLarge, ScaleAbovePrecision, NotDecimal, NotPrimitive, NotDecimalPType, BytesLength, MapKeyNullable, UnionTypesLength, UnionTagsLength, UnionEmpty, UnionTagsRepeat, UnionTooMany, UnionNamesRepeat, FieldNotFound, IndexOutOfBounds, DuplicateNames, WidthOverflow, ExactRoot, AllMask, MetadataRefused, ExtensionIdDiffers, Message}
 use Rattle.dtype_base.specs.declared.vortex_error.MessageFault.{MessageFault}
 use Rattle.dtype_base.specs.declared.vortex_error.MessageFault.TheVariants.{TypeMissing, PrimitiveNumber, PrecisionRange, ScaleRange, ListElementMissing, FixedElementMissing, MapKeyMissing, MapValueMissing, StructLengths, TypeIdRange, StorageMissing, ExtensionUnregistered, PathPartMissing}
 
--- the faults of messages
+-- the number of a fault of a message
 abbrev pub fault_number : MessageFault → ℕ
 fault_number TypeMissing = 24
 fault_number PrimitiveNumber = 25
@@ -24,6 +24,7 @@ fault_number StorageMissing = 34
 fault_number ExtensionUnregistered = 35
 fault_number PathPartMissing = 36
 
+-- the number of an error
 abbrev pub number_of : VortexError → ℕ
 number_of OutOfMemory = 0
 number_of (PrecisionZero max) = 1

@@ -10,16 +10,16 @@ use crate::{PType, VortexError, VortexResult};
 use std::fmt;
 use std::marker::Model;
 
-/// The greatest precision of a decimal type.
+/// The greatest precision of a decimal type: the most digits of which every number fits 256 bits.
 pub const MAX_PRECISION: u8 = 76;
 /// The greatest scale of a decimal type.
 pub const MAX_SCALE: i8 = MAX_PRECISION as i8;
 
 const _: () = prove!(MAX_PRECISION == 76 && MAX_SCALE == 76);
 
-/// A decimal type: its precision, 1 to 76, is how many digits its values have, and its scale, -128 to
-/// 76, how many of them stand behind the point. A negative scale says how many zeros stand before it.
-/// The scale is at most the precision.
+/// A decimal type. Its precision, 1 to 76, is the number of digits of its values. Its scale, -128 to 76 and at most the
+/// precision, is the number of those digits after the decimal point. A negative scale is the number of zeros that follow
+/// the digits, before the point.
 #[derive(Clone, Copy, Debug, PartialEq, Eq, Hash)]
 pub struct DecimalDType {
     precision: u8,
@@ -39,9 +39,15 @@ impl Model for DecimalDType {
 }
 
 impl DecimalDType {
-    /// The decimal type of this precision and scale. Refuses, in this order, 1 (PrecisionZero) a
-    /// precision of 0, 2 (PrecisionTooLarge) one above 76, 3 (ScaleTooLarge) a scale above 76, and 4
-    /// (ScaleAbovePrecision) one above the precision. Every negative scale is taken.
+    /// Makes the decimal type of this precision and scale. Every negative scale is accepted.
+    ///
+    /// # Errors
+    ///
+    /// In this order:
+    /// - `PrecisionZero` (1): the precision is 0.
+    /// - `PrecisionTooLarge` (2): the precision is above 76.
+    /// - `ScaleTooLarge` (3): the scale is above 76.
+    /// - `ScaleAbovePrecision` (4): the scale is above the precision.
     pub fn try_new(precision: u8, scale: i8) -> VortexResult<Self>
         ensures ok { MatchResult result
             (λ d. (d.precision ≡ precision) × (d.scale ≡ scale))
@@ -52,7 +58,7 @@ impl DecimalDType {
         Ok(DecimalDType { precision, scale })
     }
 
-    /// The decimal type of this precision and scale.
+    /// Makes the decimal type of this precision and scale, which have to be valid: `try_new` tests them.
     pub fn new(precision: u8, scale: i8) -> Self
         requires { IsDecimalWithin greatest_precision precision scale }
         ensures { result ≡ record { precision = precision; scale = scale } }
@@ -60,7 +66,7 @@ impl DecimalDType {
         Self { precision, scale }
     }
 
-    /// How many digits a value has, 1 to 76.
+    /// Returns the number of digits of a value, 1 to 76.
     pub fn precision(&self) -> u8
         ensures value { result ≡ self.now.precision }
         ensures valid { IsValidDecimal self.now }
@@ -68,7 +74,7 @@ impl DecimalDType {
         self.precision
     }
 
-    /// How many digits stand behind the point, at most as many as there are.
+    /// Returns the number of digits after the decimal point, -128 to 76, at most the precision.
     pub fn scale(&self) -> i8
         ensures value { result ≡ self.now.scale }
         ensures valid { IsValidDecimal self.now }
@@ -76,7 +82,7 @@ impl DecimalDType {
         self.scale
     }
 
-    /// The least number of bits with room for every number of that many digits: 4 to 253.
+    /// Returns the least number of bits that hold every unsigned number of as many digits as the precision: 4 to 253.
     pub fn required_bit_width(&self) -> usize
         ensures { IsBitWidth self.now.precision result }
     {
@@ -84,7 +90,7 @@ impl DecimalDType {
     }
 }
 
-/// The bit widths of the precisions from 1.
+// The bit widths of the precisions from 1.
 const BIT_WIDTHS: [u8; MAX_PRECISION as usize] = [
     4, 7, 10, 14, 17, 20, 24, 27, 30, 34, 37, 40, 44, 47, 50, 54, 57, 60, 64, 67, 70, 74, 77, 80,
     84, 87, 90, 94, 97, 100, 103, 107, 110, 113, 117, 120, 123, 127, 130, 133, 137, 140, 143, 147,
@@ -92,6 +98,7 @@ const BIT_WIDTHS: [u8; MAX_PRECISION as usize] = [
     213, 216, 220, 223, 226, 230, 233, 236, 240, 243, 246, 250, 253,
 ];
 
+/// Prints the precision and the scale, as `decimal(10,2)`.
 impl fmt::Display for DecimalDType {
     ghost use Rattle.dtype_base.specs.Decimals.{decimal_text};
 
@@ -102,9 +109,15 @@ impl fmt::Display for DecimalDType {
     }
 }
 
-/// Tests what a decimal type has to meet whose greatest precision and scale are `max`. Refuses, in this
-/// order, 1 (PrecisionZero) a precision of 0, 2 (PrecisionTooLarge) one above `max`, 3 (ScaleTooLarge) a
-/// scale above `max`, and 4 (ScaleAbovePrecision) one above the precision.
+/// Tests the precision and the scale of a decimal type whose greatest precision and scale are `max`, at most 127.
+///
+/// # Errors
+///
+/// In this order:
+/// - `PrecisionZero` (1): the precision is 0.
+/// - `PrecisionTooLarge` (2): the precision is above `max`.
+/// - `ScaleTooLarge` (3): the scale is above `max`.
+/// - `ScaleAbovePrecision` (4): the scale is above the precision.
 pub fn check_precision_and_scale(precision: u8, scale: i8, max: u8) -> VortexResult<()>
     requires { max < 128 }
     ensures valid { IsOk result ↔ IsDecimalWithin max precision scale }
@@ -129,19 +142,27 @@ pub fn check_precision_and_scale(precision: u8, scale: i8, max: u8) -> VortexRes
     Ok(())
 }
 
-/// What stores the values of a decimal type, narrowest first. The order is that of the numbers, 0 to 5.
+/// A storage type for the values of a decimal type: a signed integer. Its number, 0 to 5, is that of the messages of
+/// Vortex, and the order, narrowest first, is that of the numbers.
 #[derive(Clone, Copy, Debug, PartialEq, Eq, Hash, PartialOrd, Ord)]
 pub enum DecimalType {
+    /// An 8-bit signed integer.
     I8,
+    /// A 16-bit signed integer.
     I16,
+    /// A 32-bit signed integer.
     I32,
+    /// A 64-bit signed integer.
     I64,
+    /// A 128-bit signed integer.
     I128,
+    /// A 256-bit signed integer.
     I256,
 }
 
 impl DecimalType {
-    /// The narrowest that has all values of the decimal type's precision: up to 2, 4, 9, 18, 38 and 76 digits.
+    /// Returns the narrowest storage type that has all values of the decimal type's precision. They have all values of up
+    /// to 2, 4, 9, 18, 38 and 76 digits.
     pub fn smallest_decimal_value_type(decimal: &DecimalDType) -> DecimalType
         ensures { smallest_storage decimal.now.precision ≡ Some result }
     {
@@ -155,7 +176,7 @@ impl DecimalType {
         }
     }
 
-    /// How many bytes a value takes: 1 to 32.
+    /// Returns the width of a value in bytes: 1, 2, 4, 8, 16 or 32.
     pub fn byte_width(&self) -> usize
         ensures { result ≡ (storage self.now).bytes }
     {
@@ -169,8 +190,8 @@ impl DecimalType {
         }
     }
 
-    /// Whether it has all values of the decimal type's precision: the smallest that has them, and all whose number
-    /// is at least that one's.
+    /// Returns whether this storage type has all values of the decimal type's precision. So it is the smallest that has
+    /// them, or one with a greater number.
     pub fn is_compatible_decimal_value_type(self, decimal: DecimalDType) -> bool
         ensures digits { IsTrue result ↔ (decimal.precision ≤ (storage self).digits) }
         ensures number { IsTrue result ↔ IsCompatible self decimal.precision }
@@ -179,6 +200,7 @@ impl DecimalType {
     }
 }
 
+/// Prints the name in lower case, as `i128`.
 impl fmt::Display for DecimalType {
     ghost output = { λ t. Some (storage t).text };
 
@@ -194,7 +216,11 @@ impl fmt::Display for DecimalType {
     }
 }
 
-/// The storage type of the same name. Refuses 7 (NotDecimalPType) every name but `i8`, `i16`, `i32` and `i64`.
+/// The storage type of the same name.
+///
+/// # Errors
+///
+/// - `NotDecimalPType` (7): the primitive type isn't `i8`, `i16`, `i32` or `i64`.
 impl TryFrom<PType> for DecimalType {
     type Error = VortexError;
 

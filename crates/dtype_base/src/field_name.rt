@@ -15,7 +15,7 @@ use std::hash::{Hash, Hasher};
 use std::marker::Model;
 use std::rc::RcStr;
 
-/// The name of a field: a text, shared by its copies.
+/// The name of a field: a text, which copies share. Its model is the text's bytes, and names are ordered by them.
 #[derive(Debug, Drop)]
 pub struct FieldName {
     inner: RcStr,
@@ -28,7 +28,11 @@ impl Model for FieldName {
 }
 
 impl FieldName {
-    /// The name with this text. Refuses 0 (OutOfMemory) alone.
+    /// Makes a name of a copy of the text.
+    ///
+    /// # Errors
+    ///
+    /// - `OutOfMemory` (0): an allocation fails.
     pub fn new(alloc: Global, text: &str) -> VortexResult<Self>
         ensures { MatchResult result (λ n. n ≡ text.now) (λ e. e ≡ OutOfMemory) }
     {
@@ -37,49 +41,57 @@ impl FieldName {
         })
     }
 
-    /// The name with this text, which it keeps.
+    /// Makes a name of a shared text, which it keeps. Doesn't allocate.
     pub fn from_inner(text: RcStr) -> Self
         ensures { result ≡ rc_str_bytes text }
     {
         FieldName { inner: text }
     }
 
-    /// The shared text.
+    /// Returns the shared text.
     pub fn inner(&self) -> &RcStr
         ensures { rc_str_bytes result.now ≡ self.now }
     {
         &self.inner
     }
 
-    /// The shared text, given up.
+    /// Returns the shared text, and consumes the name.
     pub fn into_inner(self) -> RcStr
         ensures { rc_str_bytes result ≡ self }
     {
         self.inner
     }
 
-    /// The text.
+    /// Returns the text.
     pub fn as_str(&self) -> &str
         ensures { result.now ≡ self.now }
     {
         self.inner.as_str()
     }
 
-    /// A copy of the text, not escaped. Refuses 0 (OutOfMemory) alone.
+    /// Returns a copy of the text, not escaped.
+    ///
+    /// # Errors
+    ///
+    /// - `OutOfMemory` (0): an allocation fails.
     pub fn to_text(&self, alloc: Global) -> VortexResult<String>
         ensures { MatchResult result (λ s. string_bytes s ≡ self.now) (λ e. e ≡ OutOfMemory) }
     {
         Ok(String::from_str(alloc, self.as_str())?)
     }
 
-    /// Whether the name is this text.
+    /// Returns whether the name is this text.
     pub fn eq_str(&self, text: &str) -> bool
         ensures { IsTrue result ↔ (self.now ≡ text.now) }
     {
         self.as_str() == text
     }
 
-    /// A name with the same text, which the two share. Refuses 0 (OutOfMemory) alone.
+    /// Returns a copy of the name, which shares its text.
+    ///
+    /// # Errors
+    ///
+    /// - `OutOfMemory` (0): an allocation fails.
     pub fn try_clone(&self, _alloc: Global) -> VortexResult<Self>
         ensures { MatchResult result (λ n. n ≡ self.now) (λ e. e ≡ OutOfMemory) }
     {
@@ -108,7 +120,7 @@ impl Eq for FieldName {
     ghost laws = { nat_list_eq_equiv };
 }
 
-/// By the bytes of the texts.
+/// Names are ordered by the bytes of their texts.
 impl PartialOrd for FieldName {
     ghost use Rattle.std.specs.Ordering.{nat_cmp};
     ghost use Rattle.std.specs.Cmp.Lexicographic.{slice_cmp, texts_po};
@@ -154,8 +166,8 @@ impl Hash for FieldName {
     }
 }
 
-/// The text, with what would break a line, a quote or a terminal escaped. What stands as it is between
-/// two escapes is written at once.
+/// Prints the text with backslashes, double quotes and control characters escaped, so that it can't break a line, a
+/// quoted text or a terminal.
 impl fmt::Display for FieldName {
     ghost output = { λ n. Some (escaped n) };
 
@@ -175,7 +187,7 @@ impl fmt::Display for FieldName {
     }
 }
 
-// Whether a byte may not be printed as it stands; one that may not is a character of its own.
+// Whether a byte is escaped. Such a byte is an ASCII character.
 fn has_escape(byte: u8) -> bool
     ensures plain { OnFalse result (escaped_byte byte ≡ byte ∷ []) }
     ensures ascii { IsTrue result → byte < 128 }
@@ -186,7 +198,7 @@ fn has_escape(byte: u8) -> bool
     byte.is_ascii_control()
 }
 
-/// A character of a name, as it is printed.
+// A character of a name, printed with its escape.
 #[derive(Clone, Copy)]
 struct EscapedChar(char);
 

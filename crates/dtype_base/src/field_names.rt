@@ -15,7 +15,7 @@ use std::hash::{Hash, Hasher};
 use std::marker::Model;
 use std::ops::Index;
 
-/// Names in order. A name may stand in it more than once.
+/// A list of names, in which names may repeat. Its model is the list of the names' bytes.
 #[derive(Debug, Drop)]
 pub struct FieldNames {
     items: Vec<FieldName>,
@@ -28,7 +28,7 @@ impl Model for FieldNames {
 }
 
 impl FieldNames {
-    /// No names. Takes no memory.
+    /// Returns the empty list. Doesn't allocate.
     pub fn empty(alloc: Global) -> Self
         ensures { result ≡ [] }
     {
@@ -37,14 +37,18 @@ impl FieldNames {
         }
     }
 
-    /// These names. Takes no memory.
+    /// Makes the list of these names. Doesn't allocate.
     pub fn from_vec(names: Vec<FieldName>) -> Self
         ensures { result ≡ names.items }
     {
         FieldNames { items: names }
     }
 
-    /// The names with these texts, in order. Refuses 0 (OutOfMemory) alone.
+    /// Makes the list of names with these texts, in order.
+    ///
+    /// # Errors
+    ///
+    /// - `OutOfMemory` (0): an allocation fails.
     pub fn from_texts(alloc: Global, texts: &[&str]) -> VortexResult<Self>
         ensures { MatchResult result (λ n. n ≡ map (λ t. t.now) texts.now) (λ e. e ≡ OutOfMemory) }
     {
@@ -55,7 +59,11 @@ impl FieldNames {
         Ok(FieldNames { items })
     }
 
-    /// The names that an iterator gives, in order. Refuses 0 (OutOfMemory) alone.
+    /// Makes the list of the names that an iterator yields, in order.
+    ///
+    /// # Errors
+    ///
+    /// - `OutOfMemory` (0): an allocation fails.
     pub fn from_iter<I: IntoIterator<Item = FieldName>>(
         alloc: Global,
         names: I,
@@ -72,42 +80,42 @@ impl FieldNames {
         })
     }
 
-    /// How many names there are.
+    /// Returns the number of names.
     pub fn len(&self) -> usize
         ensures { result ≡ length self.now }
     {
         self.items.len()
     }
 
-    /// Whether there are none.
+    /// Returns whether there are no names.
     pub fn is_empty(&self) -> bool
         ensures { IsTrue result ↔ (self.now ≡ []) }
     {
         self.items.is_empty()
     }
 
-    /// The name at this position, or `None` at or past the end.
+    /// Returns the name at this position, or `None` at or past the end.
     pub fn get(&self, index: usize) -> Option<&FieldName>
         ensures { option_copied result ≡ slice_get self.now index }
     {
         self.items.get(index)
     }
 
-    /// The names in order, lent.
+    /// Returns an iterator over references to the names, in order.
     pub fn iter(&self) -> FieldNamesIter<'_>
         ensures { result ≡ self.now }
     {
         FieldNamesIter::new(self.items.as_slice())
     }
 
-    /// The names in order.
+    /// Returns an iterator over the names, in order, and consumes the list.
     pub fn into_iter(self) -> FieldNamesIntoIter
         ensures { result ≡ self }
     {
         FieldNamesIntoIter::new(self.items)
     }
 
-    /// Whether the names are these texts, in this order.
+    /// Returns whether the names are these texts, in this order.
     pub fn eq_texts(&self, texts: &[&str]) -> bool
         ensures { IsTrue result ↔ (self.now ≡ map (λ t. t.now) texts.now) }
     {
@@ -123,7 +131,7 @@ impl FieldNames {
         true
     }
 
-    /// The first position of the name, or `None` where no name is equal to it.
+    /// Returns the first position of the name, or `None` where no name is equal to it. Compares one name after another.
     pub fn find(&self, name: &str) -> Option<usize>
         ensures { result ≡ first_place self.now name.now }
     {
@@ -136,14 +144,18 @@ impl FieldNames {
         None
     }
 
-    /// The names, as a slice.
+    /// Returns the names as a slice.
     pub fn as_slice(&self) -> &[FieldName]
         ensures { result.now ≡ self.now }
     {
         self.items.as_slice()
     }
 
-    /// A list of the same names, which share their texts. Refuses 0 (OutOfMemory) alone.
+    /// Returns a copy of the list. The names share their texts.
+    ///
+    /// # Errors
+    ///
+    /// - `OutOfMemory` (0): an allocation fails.
     pub fn try_clone(&self, alloc: Global) -> VortexResult<Self>
         ensures { MatchResult result (λ n. n ≡ self.now) (λ e. e ≡ OutOfMemory) }
     {
@@ -151,7 +163,7 @@ impl FieldNames {
     }
 }
 
-// A list of these names, which share their texts.
+// The list of copies of these names, which share their texts.
 pub(crate) fn copied(alloc: Global, names: &[FieldName]) -> VortexResult<FieldNames>
     ensures { MatchResult result (λ n. n ≡ names.now) (λ e. e ≡ OutOfMemory) }
 {
@@ -195,7 +207,7 @@ impl Hash for FieldNames {
     }
 }
 
-/// The name at a position that there is.
+/// The name at a position below the length.
 impl Index<usize> for FieldNames {
     type Output = FieldName;
 
@@ -232,7 +244,7 @@ impl<'a> IntoIterator for &'a FieldNames {
     }
 }
 
-/// `collect` makes the list of the names that an iterator gives, in order.
+/// `collect` makes the list of the names that an iterator yields, in order.
 impl FromIterator<FieldName> for FieldNames {
     type Alloc = Global;
 
@@ -246,7 +258,7 @@ impl FromIterator<FieldName> for FieldNames {
     }
 }
 
-/// The names in brackets, each in double quotes and escaped, as `["a", "b"]`.
+/// Prints the names in brackets, each escaped and in double quotes, as `["a", "b"]`.
 impl fmt::Display for FieldNames {
     ghost use Rattle.dtype_base.specs.FieldNames.{names_text};
 

@@ -10,7 +10,7 @@ use std::iter::FusedIterator;
 use std::marker::Model;
 use std::slice;
 
-/// The names of a list, lent, seen as those that are left.
+/// An iterator over references to the names of a list. Its model is the names that are left.
 #[derive(Debug, Drop)]
 pub struct FieldNamesIter<'a> {
     inner: slice::Iter<'a, FieldName>,

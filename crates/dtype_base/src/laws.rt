@@ -1,7 +1,7 @@
 // SPDX-License-Identifier: Apache-2.0
 // SPDX-FileCopyrightText: Copyright the Vortex contributors
 
-// Laws of the definitions: each function does nothing, and its contract is the law.
+// Theorems about the definitions: each function's contract is the theorem, and its body is empty.
 ghost use Rattle.std.specs.Prelude.{◌≡◌, ◌↔◌, ℕ, List, None, Some, codes, length};
 ghost use Rattle.std.specs.Iterator.{UpTo};
 ghost use Rattle.std.specs.Iterator.Runs.{YieldsInOrder, YieldsRefsInOrder};
@@ -20,27 +20,27 @@ use crate::{
     RESERVED_VALIDITY_FIELD_NAME,
 };
 
-/// The order of the primitive names is that of their numbers.
+/// Primitive types are ordered by their numbers.
 pub fn primitive_names_are_ordered_by_number()
     ensures { (p q : PType) → ⟦<PType as Ord>⟧.cmp p q
         ≡ nat_cmp (ptype_row p).number (ptype_row q).number }
 {}
 
-/// The order of the storage types is that of their numbers.
+/// Storage types are ordered by their numbers.
 pub fn storage_types_are_ordered_by_number()
     ensures { (s t : DecimalType) → ⟦<DecimalType as Ord>⟧.cmp s t
         ≡ nat_cmp (storage s).number (storage t).number }
 {}
 
-/// What a slice of bytes is seen as are bytes.
+/// The model of a slice of bytes is a list of numbers below 256.
 pub fn slices_hold_bytes(bytes: &[u8])
     ensures { Bytes bytes.now }
 {
     let _ = bytes;
 }
 
-/// The names of a list come in order, lent or given up: calls of `next` give the first of those that are
-/// left, and all of them before `None`, which comes after so many items as `len` announces.
+/// Both iterators over names yield them in order: `next` returns the first of those that are left, and all of them before
+/// `None`, which comes after as many items as `len` says.
 pub fn names_are_given_in_order()
     ensures lent { YieldsRefsInOrder ⟦<FieldNamesIter<'static> as Iterator>⟧.next_gives (λ left. left) }
     ensures lent_end { (left : List (List ℕ))
@@ -50,7 +50,8 @@ pub fn names_are_given_in_order()
         → UpTo (⟦<FieldNamesIntoIter as Iterator>⟧.remaining left) (length left) }
 {}
 
-/// The answer of every lookup is the first position of the name, and `None` exactly where no position has it.
+/// `first_place`, which is what every lookup returns, is the first position of the name, and `None` exactly where the name
+/// is absent.
 pub fn lookups_give_the_first_position()
     ensures position { (names : List (List ℕ)) (name : List ℕ) (i : ℕ)
         → (first_place names name ≡ Some i) ↔ FirstAt names name i }

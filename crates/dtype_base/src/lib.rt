@@ -1,17 +1,17 @@
 // SPDX-License-Identifier: Apache-2.0
 // SPDX-FileCopyrightText: Copyright the Vortex contributors
 
-//! Errors, nullability, primitive names, decimals and field names: what every type of Vortex stands on.
+//! Errors, nullability, primitive types, decimals and field names: what all types of Vortex are made of.
 //!
-//! It promises that names are texts and name lists are lists, that the tables of primitive names
-//! and decimals hold, and that each refusal comes exactly when its rule says, by its number.
+//! The contracts say that names are texts and name lists are lists, that the tables of primitive types and decimals
+//! hold, and when exactly each error is returned.
 //!
-//! Begin with `VortexError` (every refusal of the workspace), then `Nullability`, `PType`,
+//! Begin with `VortexError` (all errors of the workspace), then `Nullability`, `PType`,
 //! `DecimalDType`, `DecimalType`, `FieldName`, `FieldNames` and `IndexedNames`. The definitions that the
 //! contracts cite are in `specs/`: `Refusals` (numbers), `Primitives` and `Decimals` (the two tables),
-//! `FieldNames` (`first_place`), `NameOrder` (the index of names), `NameKeys` (their keys), `BinaryDigits` and
-//! `Escapes` (the text of a name). `laws` states what ties the tables to their meaning. What is proved, and
-//! what is only tested, is in `docs/PROMISES.md`.
+//! `FieldNames` (`first_place`), `NameOrder` (the index of names), `NameKeys` (sort keys), `BinaryDigits` and
+//! `Escapes` (the text of a name). `laws` states the theorems about them. What is proved, and what is
+//! only tested, is in `docs/PROMISES.md`.
 #![tactic(auto)]
 
 mod decimal;
@@ -37,5 +37,5 @@ pub use nullability::Nullability;
 pub use ptype::PType;
 pub use vortex_error::{MessageFault, VortexError, VortexResult};
 
-/// The name of the field that holds whether the values of a struct are null.
+/// The name that is reserved for the field that says which values of a struct are null.
 pub const RESERVED_VALIDITY_FIELD_NAME: &str = "$__vortex_validity";

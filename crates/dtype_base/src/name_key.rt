@@ -1,49 +1,49 @@
 // SPDX-License-Identifier: Apache-2.0
 // SPDX-FileCopyrightText: Copyright the Vortex contributors
 
-// What names begin with alike, and the keys behind it, by which most names are told apart.
+// The common prefix of names, and sort keys: numbers of sixteen bytes that order most names by what follows the prefix.
 ghost use Rattle.std.specs.Prelude.{◌≡◌, ◌↔◌, ℕ, ◌<◌, ◌≤◌, IsTrue, length, take, drop, slice_index};
 ghost use Rattle.std.specs.List.{All};
 ghost use Rattle.dtype_base.specs.Bytes.{Bytes};
-ghost use Rattle.dtype_base.specs.NameKeys.{high_first, key_half, name_key, BeginAlike};
+ghost use Rattle.dtype_base.specs.NameKeys.{big_endian, key_prefix, sort_key, HaveCommonPrefix};
 
 use crate::FieldName;
 
-// What the first eight bytes of a key are worth, in units of its last eight.
-pub(crate) const HALF: u128 = 0x1_0000_0000_0000_0000;
+// Splits a sort key: the quotient by this is its first eight bytes, the remainder its last eight.
+pub(crate) const TWO_POW_64: u128 = 0x1_0000_0000_0000_0000;
 
-// How many bytes all names begin with alike.
-pub(crate) fn shared_beginning(names: &[FieldName]) -> usize
-    ensures { BeginAlike names.now result }
+// The length of the names' common prefix, in bytes.
+pub(crate) fn common_prefix_len(names: &[FieldName]) -> usize
+    ensures { HaveCommonPrefix names.now result }
 {
     let Some(first) = names.first() else {
         return 0;
     };
     let first = first.as_str().as_bytes();
-    let mut shared = first.len();
+    let mut prefix_len = first.len();
     for name in names {
-        shared = alike(name.as_str().as_bytes(), first, shared);
+        prefix_len = matching_len(name.as_str().as_bytes(), first, prefix_len);
     }
-    shared
+    prefix_len
 }
 
-// How many bytes the first and the last name begin with alike: mostly as many as all do.
-pub(crate) fn likely_beginning(names: &[FieldName]) -> usize {
+// The length of the common prefix of the first and the last name: mostly that of all.
+pub(crate) fn guess_common_prefix(names: &[FieldName]) -> usize {
     match (names.first(), names.last()) {
         (Some(first), Some(last)) => {
             let first = first.as_str().as_bytes();
-            alike(last.as_str().as_bytes(), first, first.len())
+            matching_len(last.as_str().as_bytes(), first, first.len())
         }
         _ => 0,
     }
 }
 
-// How many bytes two texts begin with alike, so many at most.
-fn alike(a: &[u8], b: &[u8], most: usize) -> usize
+// The length of the common prefix of two texts, at most `most` bytes.
+fn matching_len(a: &[u8], b: &[u8], most: usize) -> usize
     ensures most { result ≤ most }
     ensures same { take result a.now ≡ take result b.now }
 {
-    if begin_alike(a, b, most) {
+    if eq_prefix(a, b, most) {
         return most;
     }
     let end = most.min(a.len()).min(b.len());
@@ -55,82 +55,82 @@ fn alike(a: &[u8], b: &[u8], most: usize) -> usize
     end
 }
 
-// Whether two texts begin with the same bytes, so many of them. Up to eight are compared at once where both texts
-// have eight.
-pub(crate) fn begin_alike(a: &[u8], b: &[u8], count: usize) -> bool
+// Whether the first `count` bytes of two texts are equal, or all of a shorter text. Up to eight bytes are compared at once,
+// where both texts have eight.
+pub(crate) fn eq_prefix(a: &[u8], b: &[u8], count: usize) -> bool
     ensures { IsTrue result ↔ (take count a.now ≡ take count b.now) }
 {
     if count == 0 {
         return true;
     }
     if count <= 8 && a.len() >= 8 && b.len() >= 8 {
-        return first_of(a, count) == first_of(b, count);
+        return load_prefix(a, count) == load_prefix(b, count);
     }
-    beginning(a, count) == beginning(b, count)
+    prefix(a, count) == prefix(b, count)
 }
 
-// The first so many bytes as one number, of a text with eight.
-fn first_of(text: &[u8], count: usize) -> u64
+// The first `count` bytes, at most eight, of a text of at least eight, as one big-endian number.
+fn load_prefix(text: &[u8], count: usize) -> u64
     requires some { 0 < count }
     requires few { count ≤ 8 }
     requires long { 8 ≤ length text.now }
-    ensures { result ≡ high_first count text.now }
+    ensures { result ≡ big_endian count text.now }
 {
-    eight_of(text) >> (8 * (8 - count))
+    load_u64(text) >> (8 * (8 - count))
 }
 
-// The first so many bytes, or all.
-fn beginning(text: &[u8], count: usize) -> &[u8]
+// The first `count` bytes, or all.
+fn prefix(text: &[u8], count: usize) -> &[u8]
     ensures { result.now ≡ take count text.now }
 {
     &text[..count.min(text.len())]
 }
 
-// What is behind the first so many bytes.
-fn behind(text: &[u8], count: usize) -> &[u8]
+// What follows the first `count` bytes.
+fn suffix(text: &[u8], count: usize) -> &[u8]
     ensures { result.now ≡ drop count text.now }
 {
     &text[count.min(text.len())..]
 }
 
-// The key of a text: the fifteen bytes behind the first so many as one number, the first the highest, with zeros
-// where it ends, and then how many stand there, 16 where more than fifteen do.
+// The sort key of a text after a prefix: the fifteen bytes that follow the prefix, big-endian, padded with zeros, and in
+// the last byte how many bytes follow it, 16 where more than fifteen do.
 #[inline(always)]
-pub(crate) fn key_of(text: &[u8], shared: usize) -> u128
-    ensures key { result ≡ name_key shared text.now }
+pub(crate) fn sort_key(text: &[u8], prefix_len: usize) -> u128
+    ensures key { result ≡ sort_key prefix_len text.now }
     ensures bytes { Bytes text.now }
 {
-    let rest = behind(text, shared);
-    let high = eight_behind(text, shared);
-    let seven = eight_behind(rest, 8) / 256;
+    let rest = suffix(text, prefix_len);
+    let high = load_u64_at(text, prefix_len);
+    let seven = load_u64_at(rest, 8) / 256;
     let held = rest.len().min(16) as u64;
-    u128::from(high) * HALF + u128::from(seven * 256 + held)
+    u128::from(high) * TWO_POW_64 + u128::from(seven * 256 + held)
 }
 
-// The first eight bytes of a key.
-pub(crate) fn first_half(key: u128) -> u64
-    ensures { result ≡ key_half key }
+// The key prefix: the first eight bytes of a key.
+pub(crate) fn key_prefix(key: u128) -> u64
+    ensures { result ≡ key_prefix key }
 {
-    (key / HALF) as u64
+    (key / TWO_POW_64) as u64
 }
 
-// The eight bytes behind the first so many as one number, with zeros where there are fewer. Where the text has
-// eight at all, its last are read at once, and the zeros shifted in.
-fn eight_behind(text: &[u8], count: usize) -> u64
-    ensures { result ≡ high_first 8 (drop count text.now) }
+// The eight bytes after the first `count`, as one big-endian number, padded with zeros. Where fewer follow in a text of at
+// least eight, its last eight are read at once and shifted.
+fn load_u64_at(text: &[u8], count: usize) -> u64
+    ensures { result ≡ big_endian 8 (drop count text.now) }
 {
-    let rest = behind(text, count);
+    let rest = suffix(text, count);
     let held = rest.len();
     if held == 0 || held >= 8 || text.len() < 8 {
-        return eight_of(rest);
+        return load_u64(rest);
     }
-    let last = behind(text, text.len() - 8);
-    eight_of(last) << (8 * (8 - held))
+    let last = suffix(text, text.len() - 8);
+    load_u64(last) << (8 * (8 - held))
 }
 
-// The first eight bytes as one number, with zeros where there are fewer. A text with as many is read at once.
-fn eight_of(text: &[u8]) -> u64
-    ensures { result ≡ high_first 8 text.now }
+// The first eight bytes as one big-endian number, padded with zeros. A text of at least eight is read at once.
+fn load_u64(text: &[u8]) -> u64
+    ensures { result ≡ big_endian 8 text.now }
 {
     if text.len() >= 8 {
         return u64::from_be_bytes([
@@ -152,7 +152,7 @@ fn eight_of(text: &[u8]) -> u64
     ])
 }
 
-// The byte there, or 0 past the end.
+// The byte at this index, or 0 past the end.
 fn byte_at(text: &[u8], i: usize) -> u8
     ensures { result ≡ slice_index text.now i }
 {

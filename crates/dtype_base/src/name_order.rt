@@ -1,149 +1,153 @@
 // SPDX-License-Identifier: Apache-2.0
 // SPDX-FileCopyrightText: Copyright the Vortex contributors
 
-// The positions of names in the order of their bytes, with the keys of the names.
+// The index of a name list: an entry for each position, sorted by the names.
 ghost use Rattle.std.specs.Prelude.{◌≡◌, ◌≢◌, ◌↔◌, ◌<◌, ◌≤◌, ◌^◌, ◌%◌, false, All, AllPairs, IsTrue, IfOk, IsOkUnless, OnOk, MatchResult, length, map};
 ghost use Rattle.std.specs.List.{range_with_len};
 ghost use Rattle.std.specs.List.Sorted.{IsPermutation, IsSorted};
-ghost use Rattle.dtype_base.specs.NameKeys.{BeginAlike};
-ghost use Rattle.dtype_base.specs.NameOrder.{AreToldBy, HalvesRise, IsIndexOf, IsKeyed, IsOrderOf, KeysRise, place_cmp, position_cmp, positions};
+ghost use Rattle.dtype_base.specs.NameKeys.{HaveCommonPrefix};
+ghost use Rattle.dtype_base.specs.NameOrder.{AreDistinguishedBy, PrefixesIncrease, IsIndexOf, IsKeyed, IsOrderOf, KeysIncrease, entry_cmp, position_cmp, positions};
 ghost use Rattle.dtype_base.specs.declared.vortex_error.VortexError.TheVariants.{OutOfMemory};
 
-use crate::name_key::{begin_alike, first_half, key_of, likely_beginning, shared_beginning};
+use crate::name_key::{common_prefix_len, eq_prefix, guess_common_prefix, key_prefix, sort_key};
 use crate::{FieldName, VortexResult};
 use std::alloc::Global;
 use std::cmp::Ordering;
 
-// A position of the names, with the key of the name there.
+// An entry of the index: a position in the list, and the sort key of the name there.
 #[derive(Clone, Copy, Debug)]
-pub(crate) struct Place {
+pub(crate) struct IndexEntry {
     pub(crate) key: u128,
     pub(crate) position: usize,
 }
 
-/// What tells the places of an index apart, the cheapest of these.
+/// How much of a name distinguishes the entries of an index: the least of these that does.
 #[derive(Clone, Copy, Debug)]
-pub(crate) enum ToldBy {
-    // No two have a key with the same first half.
-    Halves,
-    // No two have one key.
-    Keys,
-    // Some have one key, so that their texts are read.
-    Texts,
+pub(crate) enum Discriminator {
+    // The first eight bytes of the key: no two entries have the same.
+    KeyPrefix,
+    // The key: no two entries have the same.
+    Key,
+    // The text: some entries have equal keys.
+    Text,
 }
 
-// So many places are sorted where they stand, without taking memory.
-const FEW: usize = 20;
+// Up to so many items std's stable sort sorts in place, without allocating.
+const SMALL_SORT_MAX: usize = 20;
 
-// How long the runs of a list have to be for the stable sort to be the faster.
-const LONG: usize = 64;
+// The average length of increasing runs from which std's stable sort is faster than sorting packed keys.
+const MIN_RUN_LEN: usize = 64;
 
-// More places than so many leave too little room for a key beside the number of a place.
-const MANY: usize = 0x1_0000_0000;
+// The most entries whose packed keys keep 32 bits of the sort key beside the index of the entry.
+const MAX_PACKED: usize = 0x1_0000_0000;
 
-// What the first 63 bits of a key are worth.
-const FIRST: u128 = 0x2_0000_0000_0000_0000;
+// A sort key divided by this is its first 63 bits.
+const TWO_POW_65: u128 = 0x2_0000_0000_0000_0000;
 
-// Every position of the names, sorted by the bytes of the name there and then by itself, how many bytes all names
-// begin with alike, behind which their keys are, and what tells the places apart.
-pub(crate) fn places_of(
+// The entries of the index of these names, the length of their common prefix, and what distinguishes the entries.
+pub(crate) fn build_index(
     alloc: Global,
     names: &[FieldName],
-) -> VortexResult<(Vec<Place>, usize, ToldBy)>
+) -> VortexResult<(Vec<IndexEntry>, usize, Discriminator)>
     ensures { MatchResult result
         (λ made. IsIndexOf names.now made.1 made.2 made.0.items) (λ e. e ≡ OutOfMemory) }
 {
-    let (mut places, shared) = all_places(alloc, names)?;
-    let told_by = sort_places(alloc, names, &mut places)?;
-    Ok((places, shared, told_by))
+    let (mut entries, prefix_len) = all_entries(alloc, names)?;
+    let discriminator = sort_entries(alloc, names, &mut entries)?;
+    Ok((entries, prefix_len, discriminator))
 }
 
-// Every position of the names, in order, and how many bytes all names begin with alike. What the first and the last
-// name begin with, all mostly do: then each name is read once.
-fn all_places(alloc: Global, names: &[FieldName]) -> VortexResult<(Vec<Place>, usize)>
-    ensures alike { MatchResult result
-        (λ made. BeginAlike names.now made.1) (λ e. e ≡ OutOfMemory) }
+// An entry for each position, in the list's order, and the length of the names' common prefix. All names mostly share the
+// common prefix of the first and the last name: then each name is read once.
+fn all_entries(alloc: Global, names: &[FieldName]) -> VortexResult<(Vec<IndexEntry>, usize)>
+    ensures common_prefix { MatchResult result
+        (λ made. HaveCommonPrefix names.now made.1) (λ e. e ≡ OutOfMemory) }
     ensures keyed { IfOk result (λ made. All (IsKeyed names.now made.1) made.0.items) }
     ensures each { IfOk result
         (λ made. positions made.0.items ≡ range_with_len 0 (length names.now)) }
 {
-    let likely = likely_beginning(names);
-    let places = places_behind(alloc, names, likely)?;
-    if places.len() == names.len() {
-        return Ok((places, likely));
+    let guessed = guess_common_prefix(names);
+    let entries = entries_after_prefix(alloc, names, guessed)?;
+    if entries.len() == names.len() {
+        return Ok((entries, guessed));
     }
-    let shared = shared_beginning(names);
-    let places = places_behind(alloc, names, shared)?;
-    Ok((places, shared))
+    let prefix_len = common_prefix_len(names);
+    let entries = entries_after_prefix(alloc, names, prefix_len)?;
+    Ok((entries, prefix_len))
 }
 
-// The positions before the first of a name that doesn't begin as the first name does, with so many bytes, each with
-// the key behind these.
-fn places_behind(alloc: Global, names: &[FieldName], shared: usize) -> VortexResult<Vec<Place>>
+// An entry for each position before the first name that doesn't share `prefix_len` bytes with the first, with the key after
+// these bytes. So there are as many entries as names where all names share them.
+fn entries_after_prefix(
+    alloc: Global,
+    names: &[FieldName],
+    prefix_len: usize,
+) -> VortexResult<Vec<IndexEntry>>
     ensures each { MatchResult result
         (λ made. positions made.items ≡ range_with_len 0 (length made.items)) (λ e. e ≡ OutOfMemory) }
-    ensures keyed { IfOk result (λ made. All (IsKeyed names.now shared) made.items) }
-    ensures alike { IfOk result (λ made. length made.items ≡ length names.now ↔ BeginAlike names.now shared) }
+    ensures keyed { IfOk result (λ made. All (IsKeyed names.now prefix_len) made.items) }
+    ensures common_prefix { IfOk result (λ made. length made.items ≡ length names.now ↔ HaveCommonPrefix names.now prefix_len) }
 {
-    let mut places = Vec::with_capacity(alloc, names.len())?;
+    let mut entries = Vec::with_capacity(alloc, names.len())?;
     let Some(first) = names.first() else {
-        return Ok(places);
+        return Ok(entries);
     };
     let first = first.as_str().as_bytes();
     for position in 0..names.len() {
         let name = names[position].as_str().as_bytes();
-        if !begin_alike(name, first, shared) {
-            return Ok(places);
+        if !eq_prefix(name, first, prefix_len) {
+            return Ok(entries);
         }
-        let key = key_of(name, shared);
-        places.push_reserved(Place { key, position });
+        let key = sort_key(name, prefix_len);
+        entries.push_reserved(IndexEntry { key, position });
     }
-    Ok(places)
+    Ok(entries)
 }
 
-// By the keys alone, and only where two places have one key by the texts too: numbers are compared without a jump
-// that a processor could guess wrong. Gives what tells the places apart.
-pub(crate) fn sort_places(
+// Sorts entries by key, which is branch-free, and by text only where two keys are equal. Returns what distinguishes the
+// entries.
+pub(crate) fn sort_entries(
     alloc: Global,
     names: &[FieldName],
-    places: &mut Vec<Place>,
-) -> VortexResult<ToldBy>
-    ensures each { IsPermutation places.old.items places.new.items }
-    ensures rising { OnOk result (IsSorted (place_cmp names.now) places.new.items) }
-    ensures told { MatchResult result (λ by. AreToldBy by places.new.items) (λ e. e ≡ OutOfMemory) }
+    entries: &mut Vec<IndexEntry>,
+) -> VortexResult<Discriminator>
+    ensures each { IsPermutation entries.old.items entries.new.items }
+    ensures rising { OnOk result (IsSorted (entry_cmp names.now) entries.new.items) }
+    ensures distinguished { MatchResult result (λ by. AreDistinguishedBy by entries.new.items) (λ e. e ≡ OutOfMemory) }
 {
-    sort_by_keys(alloc, places)?;
-    match told_by(places) {
-        ToldBy::Texts => sort_ties(names, places),
+    sort_by_keys(alloc, entries)?;
+    match discriminator_of(entries) {
+        Discriminator::Text => sort_equal_keys(names, entries),
         by => Ok(by),
     }
 }
 
-// By the keys, or where these mostly don't rise by what they begin with, which tells most places apart.
-fn sort_by_keys(alloc: Global, places: &mut Vec<Place>) -> VortexResult<()>
-    ensures each { IsPermutation places.old.items places.new.items }
+// Sorts by key. Entries that are far from sorted are sorted by the first bits of their keys alone, which distinguish most
+// of them.
+fn sort_by_keys(alloc: Global, entries: &mut Vec<IndexEntry>) -> VortexResult<()>
+    ensures each { IsPermutation entries.old.items entries.new.items }
     ensures refused { IsOkUnless result OutOfMemory }
 {
-    if mostly_rise(places) {
-        places.sort_by_key(|place| place.key)?;
+    if is_nearly_sorted(entries) {
+        entries.sort_by_key(|entry| entry.key)?;
     } else {
-        *places = by_numbers(alloc, places)?;
+        *entries = sort_by_packed_keys(alloc, entries)?;
     }
     Ok(())
 }
 
-// Whether std's stable sort is the faster: it finds the runs in which keys rise, of which numbered names mostly
-// consist, and sorts a few places without memory.
-fn mostly_rise(places: &[Place]) -> bool
-    ensures { result ≡ false → (0 < length places.now) × (length places.now ≤ 2 ^ 32) }
+// Whether std's stable sort is the faster: it merges runs of increasing keys, of which numbered names mostly consist, and
+// sorts few entries in place.
+fn is_nearly_sorted(entries: &[IndexEntry]) -> bool
+    ensures { result ≡ false → (0 < length entries.now) × (length entries.now ≤ 2 ^ 32) }
 {
-    if places.len() <= FEW || places.len() > MANY {
+    if entries.len() <= SMALL_SORT_MAX || entries.len() > MAX_PACKED {
         return true;
     }
-    let most = places.len() / LONG;
+    let most = entries.len() / MIN_RUN_LEN;
     let mut falls = 0;
-    for next in 1..places.len() {
-        if places[next].key < places[next - 1].key {
+    for next in 1..entries.len() {
+        if entries[next].key < entries[next - 1].key {
             falls += 1;
         }
         if falls > most {
@@ -153,80 +157,82 @@ fn mostly_rise(places: &[Place]) -> bool
     true
 }
 
-// The places by what their keys begin with. What is sorted are numbers of eight bytes, for which std's sort has no
-// jump that a processor could guess wrong.
-fn by_numbers(alloc: Global, places: &[Place]) -> VortexResult<Vec<Place>>
-    requires some { 0 < length places.now }
-    requires most { length places.now ≤ 2 ^ 32 }
-    ensures { MatchResult result (λ sorted. IsPermutation places.now sorted.items) (λ e. e ≡ OutOfMemory) }
+// The entries sorted by the first bits of their keys: std's unstable sort of 64-bit numbers is branch-free.
+fn sort_by_packed_keys(alloc: Global, entries: &[IndexEntry]) -> VortexResult<Vec<IndexEntry>>
+    requires some { 0 < length entries.now }
+    requires most { length entries.now ≤ 2 ^ 32 }
+    ensures { MatchResult result (λ sorted. IsPermutation entries.now sorted.items) (λ e. e ≡ OutOfMemory) }
 {
-    let room = places.len().next_power_of_two();
-    let mut numbers = numbers_of(alloc, places, room)?;
-    numbers.sort_unstable();
-    taken(alloc, places, &numbers, room)
+    let room = entries.len().next_power_of_two();
+    let mut packed = packed_keys(alloc, entries, room)?;
+    packed.sort_unstable();
+    permuted(alloc, entries, &packed, room)
 }
 
-// A number for each place: what its key begins with, and in place of the last bits where the place stands, for which
-// there is so much room.
-fn numbers_of(alloc: Global, places: &[Place], room: usize) -> VortexResult<Vec<usize>>
-    requires enough { length places.now ≤ room }
+// A number for each entry: the first bits of its key, and as the last bits the index of the entry, which is below `room`,
+// a power of two.
+fn packed_keys(alloc: Global, entries: &[IndexEntry], room: usize) -> VortexResult<Vec<usize>>
+    requires enough { length entries.now ≤ room }
     requires most { room ≤ 2 ^ 63 }
     ensures { MatchResult result
-        (λ numbers. map (λ n. n % room) numbers.items ≡ range_with_len 0 (length places.now))
+        (λ packed. map (λ n. n % room) packed.items ≡ range_with_len 0 (length entries.now))
         (λ e. e ≡ OutOfMemory) }
 {
-    let mut numbers = Vec::with_capacity(alloc, places.len())?;
-    for place in 0..places.len() {
-        let first = (places[place].key / FIRST) as usize;
-        numbers.push_reserved(first / room * room + place);
+    let mut packed = Vec::with_capacity(alloc, entries.len())?;
+    for index in 0..entries.len() {
+        let first = (entries[index].key / TWO_POW_65) as usize;
+        packed.push_reserved(first / room * room + index);
     }
-    Ok(numbers)
+    Ok(packed)
 }
 
-// The places in the order of their numbers.
-fn taken(
+// The entries in the order of their packed keys.
+fn permuted(
     alloc: Global,
-    places: &[Place],
-    numbers: &[usize],
+    entries: &[IndexEntry],
+    packed: &[usize],
     room: usize,
-) -> VortexResult<Vec<Place>>
+) -> VortexResult<Vec<IndexEntry>>
     requires some { 0 < room }
-    requires each { IsPermutation (range_with_len 0 (length places.now)) (map (λ n. n % room) numbers.now) }
-    ensures { MatchResult result (λ taken. IsPermutation places.now taken.items) (λ e. e ≡ OutOfMemory) }
+    requires each { IsPermutation (range_with_len 0 (length entries.now)) (map (λ n. n % room) packed.now) }
+    ensures { MatchResult result (λ permuted. IsPermutation entries.now permuted.items) (λ e. e ≡ OutOfMemory) }
 {
-    let mut taken = Vec::with_capacity(alloc, numbers.len())?;
-    for number in numbers {
-        taken.push_reserved(places[number % room]);
+    let mut permuted = Vec::with_capacity(alloc, packed.len())?;
+    for number in packed {
+        permuted.push_reserved(entries[number % room]);
     }
-    Ok(taken)
+    Ok(permuted)
 }
 
-// Sorts places of which some may have the same key, or the same beginning of it.
-fn sort_ties(names: &[FieldName], places: &mut Vec<Place>) -> VortexResult<ToldBy>
-    ensures each { IsPermutation places.old.items places.new.items }
-    ensures rising { OnOk result (IsSorted (place_cmp names.now) places.new.items) }
-    ensures told { MatchResult result (λ by. AreToldBy by places.new.items) (λ e. e ≡ OutOfMemory) }
+// Sorts entries of which some may have equal keys, or equal first bits of them.
+fn sort_equal_keys(
+    names: &[FieldName],
+    entries: &mut Vec<IndexEntry>,
+) -> VortexResult<Discriminator>
+    ensures each { IsPermutation entries.old.items entries.new.items }
+    ensures rising { OnOk result (IsSorted (entry_cmp names.now) entries.new.items) }
+    ensures distinguished { MatchResult result (λ by. AreDistinguishedBy by entries.new.items) (λ e. e ≡ OutOfMemory) }
 {
-    places.sort_unstable_by_key(|place| place.key);
-    let by = told_by(places);
-    if let ToldBy::Texts = by {
-        sort_by_texts(names, places)?;
+    entries.sort_unstable_by_key(|entry| entry.key);
+    let by = discriminator_of(entries);
+    if let Discriminator::Text = by {
+        sort_by_texts(names, entries)?;
     }
     Ok(by)
 }
 
-fn sort_by_texts(names: &[FieldName], places: &mut Vec<Place>) -> VortexResult<()>
-    ensures each { IsPermutation places.old.items places.new.items }
-    ensures rising { OnOk result (IsSorted (place_cmp names.now) places.new.items) }
+fn sort_by_texts(names: &[FieldName], entries: &mut Vec<IndexEntry>) -> VortexResult<()>
+    ensures each { IsPermutation entries.old.items entries.new.items }
+    ensures rising { OnOk result (IsSorted (entry_cmp names.now) entries.new.items) }
     ensures refused { IsOkUnless result OutOfMemory }
 {
-    places.sort_by(|a, b| compare_places(names, a, b))?;
+    entries.sort_by(|a, b| compare_entries(names, a, b))?;
     Ok(())
 }
 
-// By the keys, then as the positions compare.
-fn compare_places(names: &[FieldName], a: &Place, b: &Place) -> Ordering
-    ensures { result ≡ place_cmp names.now a.now b.now }
+// Compares by key, then by name and position.
+fn compare_entries(names: &[FieldName], a: &IndexEntry, b: &IndexEntry) -> Ordering
+    ensures { result ≡ entry_cmp names.now a.now b.now }
 {
     if a.key != b.key {
         return a.key.cmp(&b.key);
@@ -234,56 +240,56 @@ fn compare_places(names: &[FieldName], a: &Place, b: &Place) -> Ordering
     compare_positions(names, &a.position, &b.position)
 }
 
-// By the bytes of the names there, then by the positions themselves.
+// Compares by the bytes of the names there, then by the positions.
 fn compare_positions(names: &[FieldName], i: &usize, j: &usize) -> Ordering
     ensures { result ≡ position_cmp names.now i.now j.now }
 {
     names.get(*i).cmp(&names.get(*j)).then(i.cmp(j))
 }
 
-// What tells the places apart, if they are in the order of their keys; else nothing but the texts does.
-fn told_by(places: &[Place]) -> ToldBy
-    ensures { AreToldBy result places.now }
+// What distinguishes entries that are sorted by key: the least that does.
+fn discriminator_of(entries: &[IndexEntry]) -> Discriminator
+    ensures { AreDistinguishedBy result entries.now }
 {
-    if halves_rise(places) {
-        return ToldBy::Halves;
+    if prefixes_increase(entries) {
+        return Discriminator::KeyPrefix;
     }
-    if keys_rise(places) {
-        return ToldBy::Keys;
+    if keys_increase(entries) {
+        return Discriminator::Key;
     }
-    ToldBy::Texts
+    Discriminator::Text
 }
 
-fn halves_rise(places: &[Place]) -> bool
-    ensures { IsTrue result → HalvesRise places.now }
+fn prefixes_increase(entries: &[IndexEntry]) -> bool
+    ensures { IsTrue result → PrefixesIncrease entries.now }
 {
-    for next in 1..places.len() {
-        if first_half(places[next - 1].key) >= first_half(places[next].key) {
+    for next in 1..entries.len() {
+        if key_prefix(entries[next - 1].key) >= key_prefix(entries[next].key) {
             return false;
         }
     }
     true
 }
 
-fn keys_rise(places: &[Place]) -> bool
-    ensures { IsTrue result → KeysRise places.now }
+fn keys_increase(entries: &[IndexEntry]) -> bool
+    ensures { IsTrue result → KeysIncrease entries.now }
 {
-    for next in 1..places.len() {
-        if places[next - 1].key >= places[next].key {
+    for next in 1..entries.len() {
+        if entries[next - 1].key >= entries[next].key {
             return false;
         }
     }
     true
 }
 
-// Whether no name stands twice: equal names would be neighbours in the order.
-pub(crate) fn are_distinct(names: &[FieldName], places: &[Place]) -> bool
-    requires { IsOrderOf names.now (positions places.now) }
+// Whether no name repeats: equal names would be neighbours in the order.
+pub(crate) fn are_distinct(names: &[FieldName], entries: &[IndexEntry]) -> bool
+    requires { IsOrderOf names.now (positions entries.now) }
     ensures { IsTrue result ↔ AllPairs (λ m n. m ≢ n) names.now }
 {
-    for place in 1..places.len() {
-        let before = places[place - 1].position;
-        let here = places[place].position;
+    for index in 1..entries.len() {
+        let before = entries[index - 1].position;
+        let here = entries[index].position;
         if names[before] == names[here] {
             return false;
         }

@@ -19,7 +19,7 @@ pub enum Nullability {
 impl Nullability {
     ghost use Rattle.dtype_base.specs.Nullability.{long_text};
 
-    /// Whether values may be null.
+    /// Returns whether values may be null.
     pub fn is_nullable(&self) -> bool
         ensures { IsTrue result ↔ (self.now ≡ Nullability.Nullable) }
     {
@@ -29,7 +29,7 @@ impl Nullability {
         }
     }
 
-    /// The variant's name, for messages.
+    /// Returns the variant's name, `Nullable` or `NonNullable`, for messages to people.
     pub fn long_text(&self) -> &'static str
         ensures { result.now ≡ long_text self.now }
     {
@@ -40,6 +40,7 @@ impl Nullability {
     }
 }
 
+/// `a | b` is non-nullable only where both are.
 impl BitOr for Nullability {
     ghost use Rattle.dtype_base.specs.Nullability.{either};
 
@@ -65,6 +66,7 @@ impl BitOrAssign for Nullability {
     }
 }
 
+/// `true` is nullable.
 impl From<bool> for Nullability {
     ghost use Rattle.dtype_base.specs.Nullability.{nullability_of};
 
@@ -79,6 +81,7 @@ impl From<bool> for Nullability {
     }
 }
 
+/// Nullable is `true`.
 impl From<Nullability> for bool {
     ghost use Rattle.dtype_base.specs.Nullability.{nullability_of};
 
@@ -89,6 +92,7 @@ impl From<Nullability> for bool {
     }
 }
 
+/// Prints what the text of a type ends with: `?` where values may be null, else nothing.
 impl fmt::Display for Nullability {
     ghost use Rattle.dtype_base.specs.Nullability.{nullability_text};
 

@@ -5,57 +5,69 @@ ghost use Rattle.std.specs.Prelude.{◌≡◌, ◌↔◌, ◌*◌, IsTrue, Some}
 
 use std::fmt;
 
-/// The name of a primitive type. Names are in the order of their numbers, 0 to 10.
+/// A primitive type: an integer or a float of a fixed width. Its number, 0 to 10, is that of the messages of Vortex, and
+/// the order is that of the numbers.
 #[derive(Clone, Copy, Debug, PartialEq, Eq, Hash, PartialOrd, Ord)]
 pub enum PType {
+    /// An 8-bit unsigned integer.
     U8,
+    /// A 16-bit unsigned integer.
     U16,
+    /// A 32-bit unsigned integer.
     U32,
+    /// A 64-bit unsigned integer.
     U64,
+    /// An 8-bit signed integer.
     I8,
+    /// A 16-bit signed integer.
     I16,
+    /// A 32-bit signed integer.
     I32,
+    /// A 64-bit signed integer.
     I64,
+    /// A 16-bit float.
     F16,
+    /// A 32-bit float.
     F32,
+    /// A 64-bit float.
     F64,
 }
 
-/// The greatest finite value of a 16-bit float.
+// The greatest finite value of a 16-bit float.
 const F16_MAX: u64 = 65504;
 
 impl PType {
     ghost use Rattle.dtype_base.specs.Primitives.{ptype_row, IsUnsigned, IsSigned, IsInteger, IsFloat, narrowest_signed, narrowest_unsigned, wider};
 
-    /// Whether values are unsigned integers.
+    /// Returns whether values are unsigned integers.
     pub fn is_unsigned_int(self) -> bool
         ensures { IsTrue result ↔ IsUnsigned self }
     {
         matches!(self, PType::U8 | PType::U16 | PType::U32 | PType::U64)
     }
 
-    /// Whether values are signed integers.
+    /// Returns whether values are signed integers.
     pub fn is_signed_int(self) -> bool
         ensures { IsTrue result ↔ IsSigned self }
     {
         matches!(self, PType::I8 | PType::I16 | PType::I32 | PType::I64)
     }
 
-    /// Whether values are integers.
+    /// Returns whether values are integers.
     pub fn is_int(self) -> bool
         ensures { IsTrue result ↔ IsInteger self }
     {
         self.is_unsigned_int() || self.is_signed_int()
     }
 
-    /// Whether values are floats.
+    /// Returns whether values are floats.
     pub fn is_float(self) -> bool
         ensures { IsTrue result ↔ IsFloat self }
     {
         matches!(self, PType::F16 | PType::F32 | PType::F64)
     }
 
-    /// How many bytes a value takes: 1, 2, 4 or 8.
+    /// Returns the width of a value in bytes: 1, 2, 4 or 8.
     pub fn byte_width(&self) -> usize
         ensures { result ≡ (ptype_row self.now).bytes }
     {
@@ -67,14 +79,14 @@ impl PType {
         }
     }
 
-    /// How many bits a value takes: 8, 16, 32 or 64.
+    /// Returns the width of a value in bits: 8, 16, 32 or 64.
     pub fn bit_width(&self) -> usize
         ensures { result ≡ 8 * (ptype_row self.now).bytes }
     {
         8 * self.byte_width()
     }
 
-    /// The greatest value, or the greatest `u64` where a float's is above that.
+    /// Returns the greatest value, or `u64::MAX` for `f32` and `f64`, whose greatest values are above that.
     pub fn max_value_as_u64(&self) -> u64
         ensures { result ≡ (ptype_row self.now).greatest }
     {
@@ -92,7 +104,7 @@ impl PType {
         }
     }
 
-    /// The signed integer of the same width. A float gives itself.
+    /// Returns the signed integer type of the same width. A float is returned as it is.
     pub fn to_signed(self) -> PType
         ensures { result ≡ (ptype_row self).signed }
     {
@@ -106,7 +118,7 @@ impl PType {
         }
     }
 
-    /// The unsigned integer of the same width. A float gives itself.
+    /// Returns the unsigned integer type of the same width. A float is returned as it is.
     pub fn to_unsigned(self) -> PType
         ensures { result ≡ (ptype_row self).unsigned }
     {
@@ -120,7 +132,7 @@ impl PType {
         }
     }
 
-    /// The narrowest unsigned integer that holds the value.
+    /// Returns the narrowest unsigned integer type that holds the value.
     pub fn min_unsigned_ptype_for_value(value: u64) -> PType
         ensures { narrowest_unsigned value ≡ Some result }
     {
@@ -135,7 +147,7 @@ impl PType {
         }
     }
 
-    /// The narrowest signed integer that holds the value.
+    /// Returns the narrowest signed integer type that holds the value.
     pub fn min_signed_ptype_for_value(value: i64) -> PType
         ensures { narrowest_signed value ≡ Some result }
     {
@@ -150,7 +162,7 @@ impl PType {
         }
     }
 
-    /// The wider of two unsigned integers, and `self` where they are equally wide.
+    /// Returns the wider of two unsigned integer types, and `self` where they are equally wide.
     pub fn max_unsigned_ptype(self, other: PType) -> PType
         requires self_kind { IsUnsigned self }
         requires other_kind { IsUnsigned other }
@@ -159,7 +171,7 @@ impl PType {
         self.wider_of(other)
     }
 
-    /// The wider of two signed integers, and `self` where they are equally wide.
+    /// Returns the wider of two signed integer types, and `self` where they are equally wide.
     pub fn max_signed_ptype(self, other: PType) -> PType
         requires self_kind { IsSigned self }
         requires other_kind { IsSigned other }
@@ -179,6 +191,7 @@ impl PType {
     }
 }
 
+/// Prints the name in lower case, as `u8`.
 impl fmt::Display for PType {
     ghost use Rattle.dtype_base.specs.Primitives.{ptype_row};
 

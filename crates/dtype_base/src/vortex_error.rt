@@ -9,14 +9,14 @@ use crate::PType;
 use std::alloc::{AllocError, AllocFailed};
 use thiserror::Error;
 
-/// The answer of a call that may refuse.
+/// The result of a call that may return an error.
 pub type VortexResult<T> = Result<T, VortexError>;
 
-/// Why a call refused. Each kind has a number, which `number` gives and documents cite, and
-/// carries the values that its text shows.
+/// An error of this workspace. Each kind has a number, 0 to 36, which `number` returns and the documentation cites, and
+/// holds the values that its text shows.
 #[derive(Debug, Drop, PartialEq, Eq, Error)]
 pub enum VortexError {
-    /// 0: a request for memory was refused.
+    /// 0: an allocation failed.
     #[error("out of memory")]
     OutOfMemory,
     /// 1: a decimal of precision 0.
@@ -31,25 +31,25 @@ pub enum VortexError {
     /// 4: a positive decimal scale above the precision.
     #[error("decimal scale {scale} is greater than precision {precision}")]
     ScaleAbovePrecision { scale: i8, precision: u8 },
-    /// 5: a type that is no decimal.
+    /// 5: a type that isn't a decimal.
     #[error("Cannot convert DType into DecimalType")]
     NotDecimal,
-    /// 6: a type that is no primitive.
+    /// 6: a type that isn't a primitive.
     #[error("Cannot convert DType into PType")]
     NotPrimitive,
-    /// 7: a primitive that stores no decimal.
+    /// 7: a primitive type that can't store decimals.
     #[error("cannot convert ptype {ptype} to DecimalType")]
     NotDecimalPType { ptype: PType },
-    /// 8: bytes of another length than the integer's.
+    /// 8: bytes whose length isn't the integer's.
     #[error("bytes have another length")]
     BytesLength,
-    /// 9: a map's key that is nullable.
+    /// 9: a nullable map key.
     #[error("map key dtype must be non-nullable")]
     MapKeyNullable,
-    /// 10: a union with another number of types than of names.
+    /// 10: a union with unequal numbers of types and names.
     #[error("union names and dtypes length mismatch")]
     UnionTypesLength,
-    /// 11: a union with another number of tags than of names.
+    /// 11: a union with unequal numbers of tags and names.
     #[error("union names and type_ids length mismatch")]
     UnionTagsLength,
     /// 12: a union without variants.
@@ -64,31 +64,31 @@ pub enum VortexError {
     /// 15: a union with a repeated name.
     #[error("union variant names must be distinct")]
     UnionNamesRepeat,
-    /// 16: a projection that asks for a name that no field has, by its place in the projection.
+    /// 16: a projection to a name that no field has, with the name's position in the projection.
     #[error("field {position} of the projection not found")]
     FieldNotFound { position: usize },
-    /// 17: a field's index at or past the end.
+    /// 17: a field index at or past the end.
     #[error("index {index} out of bounds for struct with {fields} fields")]
     IndexOutOfBounds { index: usize, fields: usize },
-    /// 18: a merge in which a name stands twice.
+    /// 18: a merge in which a name repeats.
     #[error("Can't merge struct fields with duplicate names")]
     DuplicateNames,
-    /// 19: a width above the greatest `usize`.
+    /// 19: a width above `usize::MAX`.
     #[error("element size is bigger than usize")]
     WidthOverflow,
     /// 20: a step into the exact root.
     #[error("Cannot step into exact root field path")]
     ExactRoot,
-    /// 21: the first field of the mask of everything.
+    /// 21: the first field of the mask of all fields.
     #[error("Cannot get starting field from All mask")]
     AllMask,
-    /// 22: metadata or a storage type that the extension refuses.
+    /// 22: metadata or a storage type that the extension rejects.
     #[error("extension metadata or storage refused")]
     MetadataRefused,
-    /// 23: an extension of another id.
+    /// 23: an extension with another id.
     #[error("extension id differs")]
     ExtensionIdDiffers,
-    /// 24 to 36: a message that says no type, or no path.
+    /// 24 to 36: a message that isn't that of a type or of a path.
     #[error("{0}")]
     Message(MessageFault),
 }
@@ -105,7 +105,7 @@ pub enum MessageFault {
     /// 26: a decimal precision above 255.
     #[error("precision does not fit in u8")]
     PrecisionRange,
-    /// 27: a decimal scale that 8 bits can't say.
+    /// 27: a decimal scale that doesn't fit 8 bits.
     #[error("scale does not fit in i8")]
     ScaleRange,
     /// 28: a list without an element.
@@ -120,7 +120,7 @@ pub enum MessageFault {
     /// 31: a map without a value.
     #[error("Invalid map value type")]
     MapValueMissing,
-    /// 32: a struct with another number of types than of names.
+    /// 32: a struct with unequal numbers of types and names.
     #[error("struct names and dtypes length mismatch")]
     StructLengths,
     /// 33: a union tag that isn't from 0 to 255.
@@ -129,7 +129,7 @@ pub enum MessageFault {
     /// 34: an extension without a storage.
     #[error("Extension DType missing storage proto")]
     StorageMissing,
-    /// 35: an extension of an id that isn't registered, where unknown ids are refused.
+    /// 35: an extension whose id isn't registered, in a session that rejects unknown ids.
     #[error("Unregistered extension type ID")]
     ExtensionUnregistered,
     /// 36: a part of a path without its kind.
@@ -138,7 +138,7 @@ pub enum MessageFault {
 }
 
 impl MessageFault {
-    /// The refusal's number, from 24 to 36, in the order of the kinds.
+    /// Returns the error's number, 24 to 36, in the order of the kinds.
     pub fn number(&self) -> u8
         ensures { result ≡ fault_number self.now }
     {
@@ -161,7 +161,7 @@ impl MessageFault {
 }
 
 impl VortexError {
-    /// The refusal's number, from 0 to 36, in the order of the kinds.
+    /// Returns the error's number, 0 to 36, in the order of the kinds.
     pub fn number(&self) -> u8
         ensures { result ≡ number_of self.now }
     {
@@ -195,6 +195,7 @@ impl VortexError {
     }
 }
 
+/// A failed allocation is `OutOfMemory`.
 impl From<AllocError> for VortexError {
     ghost from_gives = { λ _ e. e ≡ OutOfMemory };
 
@@ -203,6 +204,7 @@ impl From<AllocError> for VortexError {
     }
 }
 
+/// A failed allocation is `OutOfMemory`.
 impl<T: Drop> From<AllocFailed<T>> for VortexError {
     ghost from_gives = { λ _ e. e ≡ OutOfMemory };
 

@@ -1,7 +1,7 @@
 -- SPDX-License-Identifier: Apache-2.0
 -- SPDX-FileCopyrightText: Copyright the Vortex contributors
 
--- What follows of decimals and of what stores them: `decimals` names it in one line,
+-- Lemmas about decimals and their storage types. A caller names all of them in one line,
 --     #![tactic(auto, using(dtype_base::specs::lemmas::Decimals::decimals))]
 use Rattle.std.proofs.Common.{◌≡◌, ◌+◌, ◌-◌, ◌*◌, ◌^◌, ◌<◌, ◌≤◌, ℕ, zero, suc, Bool, true, false, ◌&&◌, nat_le, nat_lt, refl, subst, add-zero, arith}
 use Rattle.std.proofs.lemmas.Bool.{and_parts, leb-true, ltb-true, ltb-false}
@@ -13,7 +13,7 @@ use Rattle.dtype_base.specs.declared.decimal.DecimalType.TheVariants.{I8, I16, I
 
 -- ---- the bit width of a precision
 
--- it is one number
+-- it is unique
 at_most : (p b c : ℕ) → IsBitWidth p b → IsBitWidth p c → b ≤ c
 at_most p b c h k = go (nat_lt c b) refl
   where
@@ -24,7 +24,7 @@ at_most p b c h k = go (nat_lt c b) refl
 pub one_bit_width : (p b c : ℕ) → IsBitWidth p b → IsBitWidth p c → b ≡ c
 one_bit_width p b c h k = let there = at_most p b c h k in let back = at_most p c b k h in omega arith
 
--- so many precisions from p have the bit widths that are computed: one test, which computes
+-- a test of `count` precisions from p: each has the computed bit width
 abbrev are_computed : ℕ → ℕ → Bool
 are_computed p zero = true
 are_computed p (suc count) = (nat_le (10 ^ p) (2 ^ bit_width p) && nat_lt (2 ^ (bit_width p - 1)) (10 ^ p)) && are_computed (p + 1) count
@@ -55,9 +55,9 @@ bit_width_is_least p some most =
 pub bit_width_is : (p b : ℕ) → IsBitWidth p b → 1 ≤ p → p ≤ greatest_precision → b ≡ bit_width p
 bit_width_is p b h some most = one_bit_width p b (bit_width p) h (bit_width_is_least p some most)
 
--- ---- what stores so many digits
+-- ---- storage types
 
--- it has all values of its number of digits, of either sign, and no more digits would fit
+-- a storage type has all values of its digits, of both signs, and not of one digit more
 pub digits_fit : (t : DecimalType) → 10 ^ (storage t).digits ≤ 2 ^ (8 * (storage t).bytes - 1)
 digits_fit I8 = leb-true _ _ refl
 digits_fit I16 = leb-true _ _ refl

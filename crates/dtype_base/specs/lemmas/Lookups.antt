@@ -1,7 +1,7 @@
 -- SPDX-License-Identifier: Apache-2.0
 -- SPDX-FileCopyrightText: Copyright the Vortex contributors
 
--- What an answer of a lookup says: `lookups` names it in one line,
+-- Lemmas about lookups. A caller names all of them in one line,
 --     #![tactic(auto, using(dtype_base::specs::lemmas::Lookups::lookups))]
 use Rattle.std.proofs.Common.{◌≡◌, ℕ, zero, suc, ◌<◌, ◌≤◌, ◌^◌, List, length, map, get_or, Option, Some, None, IfSome, IfNone, IsSome, ◌+◌, Bool, true, false, cond, refl, ap, sym, ◌∙◌, inl, inr, arith}
 use Rattle.std.specs.List.{position_or_len}
@@ -16,7 +16,7 @@ use Rattle.dtype_base.specs.BinaryDigits.{binary_digits, digits_reach, digits_fe
 use Rattle.dtype_base.specs.FieldNames.{FirstAt, IsAbsent, first_place}
 use Rattle.dtype_base.specs.NameOrder.{comparisons}
 
--- ---- the first position of a name, from what holds of it
+-- ---- from `FirstAt` and `IsAbsent` to `first_place`
 
 differ : (m n : List ℕ) → (m ≡ n → ⊥) → bytes_eq m n ≡ false
 differ m n ne = go (bytes_eq m n) refl
@@ -43,12 +43,12 @@ no_place names n none = go (first_place names n) refl
         let at = position-Some (λ m. bytes_eq m n) names i n e in
         absurd (none i (slice_get-get_or names i n at.0 ∙ ap Some ((bytes_eq-Decides _ n).0 at.1)))
 
--- an answer that is the first position of the name, or none where it has none
+-- a result that is the first position of the name, or none where the name is absent
 pub place_found : (names : List (List ℕ)) (n : List ℕ) (r : Option ℕ) → IfSome r (FirstAt names n) → IfNone r (IsAbsent names n) → r ≡ first_place names n
 place_found names n None some none = sym (no_place names n none)
 place_found names n (Some i) some none = sym (place_of_first names n i some)
 
--- ---- and what holds of it
+-- ---- from `first_place` to `FirstAt` and `IsAbsent`
 
 pub first_of_place : (names : List (List ℕ)) (n : List ℕ) (i : ℕ) → Some i ≡ first_place names n → FirstAt names n i
 first_of_place names n i e =
@@ -69,7 +69,7 @@ absent_of_place names n e k same = elim (cases_lt (position_or_len (λ m. bytes_
       false≢true (sym fails ∙ passes)
 ]
 
--- the same of an answer
+-- the same of a result
 pub found_first : (names : List (List ℕ)) (n : List ℕ) (r : Option ℕ) → r ≡ first_place names n → IfSome r (FirstAt names n)
 found_first names n None e = tt
 found_first names n (Some i) e = first_of_place names n i e
@@ -78,17 +78,17 @@ pub none_absent : (names : List (List ℕ)) (n : List ℕ) (r : Option ℕ) → 
 none_absent names n None e = absent_of_place names n e
 none_absent names n (Some i) e = tt
 
--- ---- of many names
+-- ---- selections
 
--- each name that is selected stands at its first position
+-- the k-th position of a selection is the first of the k-th name asked
 pub selected_at : (names asked : List (List ℕ)) (firsts : List ℕ) → map Some firsts ≡ map (first_place names) asked → (k : ℕ) (d : List ℕ) → k < length asked → Some (get_or firsts k 0) ≡ first_place names (get_or asked k d)
 selected_at names asked firsts e k d within =
     let as_many : length firsts ≡ length asked = sym (length-map firsts Some) ∙ ap length e ∙ length-map asked (first_place names) in
     sym (get_or-map Some firsts k 0 None (omega (arith, within, as_many))) ∙ ap (λ os. get_or os k None) e ∙ get_or-map (first_place names) asked k d None within
 
--- ---- how many names were compared
+-- ---- the number of comparisons
 
--- one more than the digits of their number, at most
+-- at most one more than the binary digits of the number of names, or than any number of digits that suffices
 pub few_compared : (n count digits : ℕ) → count ≡ comparisons n → n < 2 ^ digits → count ≤ suc digits
 few_compared zero count digits e fits = omega (arith, e)
 few_compared (suc n) count digits e fits = let few = digits_fewest n digits (omega (arith, fits)) in omega (arith, e, few)
@@ -96,12 +96,12 @@ few_compared (suc n) count digits e fits = let few = digits_fewest n digits (ome
 pub most_compared : (n count : ℕ) → count ≡ comparisons n → count ≤ binary_digits n + 1
 most_compared n count e = let few = few_compared n count (binary_digits n) e (digits_reach n) in omega (arith, few)
 
--- and at least one where there is a name
+-- at least one where there is a name
 pub some_compared : (n count : ℕ) → count ≡ comparisons n → 0 < n → 0 < count
 some_compared zero count e a = absurd (omega arith)
 some_compared (suc n) count e a = omega (arith, e)
 
--- as where a position is found
+-- at least one where a position is found
 pub found_compared : (names : List (List ℕ)) (n : List ℕ) (r : Option ℕ) (count : ℕ) → r ≡ first_place names n → count ≡ comparisons (length names) → IsSome r → 1 ≤ count
 found_compared names n None count e counted found = absurd (false≢true found)
 found_compared names n (Some i) count e counted found =

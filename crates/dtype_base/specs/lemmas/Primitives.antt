@@ -1,7 +1,7 @@
 -- SPDX-License-Identifier: Apache-2.0
 -- SPDX-FileCopyrightText: Copyright the Vortex contributors
 
--- What follows from the table of primitive types: `primitives` names it in one line,
+-- Lemmas about the table of primitive types. A caller names all of them in one line,
 --     #![tactic(auto, using(dtype_base::specs::lemmas::Primitives::primitives))]
 use Rattle.std.proofs.Common.{◌≡◌, ◌+◌, ◌-◌, ◌*◌, ◌^◌, ◌==◌, ◌≤◌, ℕ, ℤ, Bool, true, false, cond, nat_lt, Some, None, refl, sym, ap, subst, ◌∙◌, arith, inl, inr}
 use Rattle.std.specs.Prelude.{◌&&◌, T, int_le, int_lt, pos, neg_ℤ}
@@ -11,7 +11,7 @@ use Rattle.dtype_base.specs.Primitives.{Unsigned, Signed, ptype_row, IsInteger, 
 use Rattle.dtype_base.specs.declared.ptype.PType.{PType}
 use Rattle.dtype_base.specs.declared.ptype.PType.TheVariants.{U8, U16, U32, U64, I8, I16, I32, I64, F16, F32, F64}
 
--- ---- the columns
+-- ---- the columns of the table
 
 pub at_most_eight_bytes : (p : PType) → (ptype_row p).bytes ≤ 8
 at_most_eight_bytes U8 = omega arith
@@ -90,9 +90,9 @@ unsigned_is_unsigned I64 e = refl
 unsigned_is_unsigned _ (inl e) = cc
 unsigned_is_unsigned _ (inr e) = cc
 
--- ---- a narrowest type is one
+-- ---- a narrowest type is unique
 
--- the unsigned, and the signed, type of that width
+-- the unsigned type of a width, and the signed type
 unsigned_wide : ℕ → PType
 unsigned_wide b = cond (b == 1) U8 (cond (b == 2) U16 (cond (b == 4) U32 U64))
 
@@ -129,7 +129,7 @@ one_signed z p q h k =
     let same : (ptype_row p).bytes ≡ (ptype_row q).bytes = omega arith in
     by_signed_width p h.kind_is ∙ ap signed_wide same ∙ sym (by_signed_width q k.kind_is)
 
--- ---- the first that holds a number is one
+-- ---- the first type of the list that holds a number is narrowest
 
 at_least_one_byte : (p : PType) → 1 ≤ (ptype_row p).bytes
 at_least_one_byte U8 = omega arith
@@ -144,7 +144,7 @@ at_least_one_byte F16 = omega arith
 at_least_one_byte F32 = omega arith
 at_least_one_byte F64 = omega arith
 
--- whether an unsigned, and a signed, type of that width holds a number, as a test
+-- a test whether an unsigned type of a width holds a number, and whether a signed type does
 abbrev holds_unsigned : ℕ → PType → Bool
 holds_unsigned n p = nat_lt n (2 ^ (8 * (ptype_row p).bytes))
 
@@ -165,7 +165,7 @@ signed_tested z p e = let both = and_parts _ _ e in (record { le = from_true _ b
 signed_holds : (z : ℤ) (p : PType) → HoldsSigned z p → holds_signed z p ≡ true
 signed_holds z p h = and_from _ _ (is_true _ h.0.le) (is_true _ h.1.lt)
 
--- a type that holds it is as wide as the first whose test it passes
+-- a type that holds a number is at least as wide as the first whose test the number passes
 wide_unsigned : (n bytes : ℕ) → ((q : PType) → (ptype_row q).kind ≡ Unsigned → holds_unsigned n q ≡ true → bytes ≤ (ptype_row q).bytes) → (p : PType) → (ptype_row p).kind ≡ Unsigned → (ptype_row p).bytes ≡ bytes → holds_unsigned n p ≡ true → IsNarrowest Unsigned (HoldsUnsigned n) p
 wide_unsigned n bytes least p kind is holds = record {
   kind_is = kind;

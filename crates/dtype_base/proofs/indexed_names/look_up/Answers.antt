@@ -6,7 +6,7 @@ use Rattle.std.specs.List.{All}
 use Rattle.std.proofs.lemmas.List.{get_or_default}
 use Rattle.dtype_base.specs.Bytes.{Bytes}
 use Rattle.dtype_base.specs.FieldNames.{first_place}
-use Rattle.dtype_base.specs.NameKeys.{name_key}
+use Rattle.dtype_base.specs.NameKeys.{sort_key}
 use Rattle.dtype_base.specs.NameOrder.{IsKeyed, positions}
 use Rattle.dtype_base.specs.lemmas.Lookups.{place_found}
 use Rattle.dtype_base.proofs.KeyOrder.{positions_push, keyed_push}
@@ -19,13 +19,13 @@ returns-in-None-clause-found c =
     let n = c.index-asked-position.result in
     let found = place_found names c.as_str-name.result.now c.search.result.0 c.search.ensures.found c.search.ensures.none in
     let none : None ≡ first_place names n = sym c.in-None.is ∙ found ∙ ap (first_place names) c.as_str-name.ensures in
-    inr (first_absent names c.args.asked.now c.loop-position.firsts.items c.loop-position.position n c.loop-position-test.true c.index-asked-position.is c.loop-position.invariant.found none)
+    inr (first_absent names c.args.asked.now c.loop-position.first_positions.items c.loop-position.position n c.loop-position-test.true c.index-asked-position.is c.loop-position.invariant.found none)
 
 pub loop-position-preserved : goal.loop-position-preserved
 loop-position-preserved c =
     let names = c.args.names.now in
     let asked = c.args.asked.now in
-    let shared = c.args.shared in
+    let prefix_len = c.args.prefix_len in
     let made = c.loop-position.made.items in
     let position = c.loop-position.position in
     let within = c.loop-position-test.true in
@@ -37,10 +37,10 @@ loop-position-preserved c =
     let found = place_found names c.as_str-name.result.now c.search.result.0 c.search.ensures.found c.search.ensures.none in
     let first : Some c.in-Some.first ≡ first_place names n = sym c.in-Some.is ∙ found ∙ ap (first_place names) c.as_str-name.ensures in record {
       in_order = ap positions pushed ∙ positions_push made _ position so_far.in_order;
-      keyed = subst (All (IsKeyed asked shared)) (sym pushed)
-          (keyed_push asked shared made _ so_far.keyed
-          (record { within = within; key = c.key_of-key.ensures.key ∙ ap (name_key shared) name; bytes = subst Bytes name c.key_of-key.ensures.bytes }));
-      found = ap (map Some) c.push_reserved.ensures.items ∙ selects_more names asked c.loop-position.firsts.items position c.in-Some.first n within c.index-asked-position.is first so_far.found;
+      keyed = subst (All (IsKeyed asked prefix_len)) (sym pushed)
+          (keyed_push asked prefix_len made _ so_far.keyed
+          (record { within = within; key = c.sort_key-key.ensures.key ∙ ap (sort_key prefix_len) name; bytes = subst Bytes name c.sort_key-key.ensures.bytes }));
+      found = ap (map Some) c.push_reserved.ensures.items ∙ selects_more names asked c.loop-position.first_positions.items position c.in-Some.first n within c.index-asked-position.is first so_far.found;
       len = (omega (arith, c.push_reserved-in-loop-position.ensures.len, so_far.len.0), omega (arith, c.push_reserved.ensures.len, so_far.len.1));
       room = (omega (arith, c.push_reserved-in-loop-position.ensures.capacity, so_far.room.0), omega (arith, c.push_reserved.ensures.capacity, so_far.room.1));
     }

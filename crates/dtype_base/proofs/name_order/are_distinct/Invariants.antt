@@ -5,6 +5,6 @@ use Rattle.dtype_base.specs.NameOrder.{positions}
 use Rattle.dtype_base.proofs.NameSearch.{AllRise}
 use Rattle.dtype_base.proofs.name_order.are_distinct.Given as goal
 
--- the name at each place before this one is above all names before it
-abbrev pub invariant-loop-place : goal.invariant-loop-place
-invariant-loop-place l = AllRise l.names (positions l.places) l.place
+-- the name of each entry before this one is above all names before it
+abbrev pub invariant-loop-index : goal.invariant-loop-index
+invariant-loop-index l = AllRise l.names (positions l.entries) l.index

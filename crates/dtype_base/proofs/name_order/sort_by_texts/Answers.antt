@@ -4,11 +4,11 @@
 use Rattle.std.proofs.Common.{rules, is_lt}
 use Rattle.std.proofs.lemmas.List.Sorted.{ranks_by}
 use Rattle.std.proofs.lemmas.Fn.{always_returns_same}
-use Rattle.dtype_base.specs.NameOrder.{place_cmp}
-use Rattle.dtype_base.proofs.KeyOrder.{place_total}
+use Rattle.dtype_base.specs.NameOrder.{entry_cmp}
+use Rattle.dtype_base.proofs.KeyOrder.{entry_total}
 use Rattle.dtype_base.proofs.name_order.sort_by_texts.Goals as goal
 
 pub returns-clause-rising : goal.returns-clause-rising
 returns-clause-rising c =
     let names = c.args.names.now in
-    c.in_ok-sort_by.ensures.sorted (λ p q. is_lt (place_cmp names p q)) (ranks_by (place_total names) (λ p. p)) (always_returns_same _ _ _ (λ a r f k. search rules))
+    c.in_ok-sort_by.ensures.sorted (λ p q. is_lt (entry_cmp names p q)) (ranks_by (entry_total names) (λ p. p)) (always_returns_same _ _ _ (λ a r f k. search rules))

@@ -1,0 +1,12 @@
+-- SPDX-License-Identifier: Apache-2.0
+-- SPDX-FileCopyrightText: Copyright the Vortex contributors
+
+use Rattle.dtype_base.specs.NameOrder.{positions}
+use Rattle.dtype_base.proofs.NameSearch.{Searching}
+use Rattle.dtype_base.proofs.indexed_names.search_with.Given as goal
+
+abbrev pub invariant-loop-size : goal.invariant-loop-size
+invariant-loop-size l = Searching l.names (positions l.entries) l.name l.low l.size l.compared
+
+abbrev pub decreases-loop-size : goal.decreases-loop-size
+decreases-loop-size l = l.size

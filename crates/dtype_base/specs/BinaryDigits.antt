@@ -66,6 +66,3 @@ digits_halved n m a e =
     let most = digits_fewest n (suc (binary_digits m)) whole in
     let least = one_less n m (binary_digits n) a e (digits_reach n) in
     omega (arith, most, least.1)
-
-pub digits_mono : (m n : ℕ) → m ≤ n → binary_digits m ≤ binary_digits n
-digits_mono m n h = digits_fewest m (binary_digits n) (omega (arith, h, digits_reach n))

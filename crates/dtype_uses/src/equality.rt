@@ -2,11 +2,11 @@
 // SPDX-FileCopyrightText: Copyright the Vortex contributors
 
 //! Comparing types, and what structs, unions, maps and extensions hold.
-#![tactic(auto, using(dtype_types::specs::lemmas::Equality::equality))]
+#![tactic(auto)]
 
 ghost use Rattle.std.specs.Prelude.{◌≡◌, ◌↔◌, IfOk, IsTrue};
 ghost use Rattle.dtype_types.specs.FieldTypes.{field_tree};
-ghost use Rattle.dtype_types.specs.TreeOf.{children, extension_tree, map_shown, tree, variants_of};
+ghost use Rattle.dtype_types.specs.TreeOf.{children, choices, extension_tree, map_shown, tree};
 
 use std::alloc::Global;
 use vortex_dtype::{
@@ -36,7 +36,7 @@ pub fn is_kept_by_copying(alloc: Global, table: &StructFields) -> VortexResult<b
 
 /// Whether two unions have the same variants, in order.
 pub fn has_same_variants(union: &UnionVariants, other: &UnionVariants) -> bool
-    ensures { IsTrue result ↔ (variants_of union.now ≡ variants_of other.now) }
+    ensures { IsTrue result ↔ (choices union.now ≡ choices other.now) }
 {
     *union == *other
 }

@@ -4,6 +4,7 @@
 -- Lemmas for callers, a file a topic, each with its ruleset.
 pub mod TreeLaws
 pub mod ValidParts
+pub mod ValidLists
 pub mod Validity
 pub mod Nullabilities
 pub mod Lookups

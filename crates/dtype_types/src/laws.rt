@@ -5,11 +5,13 @@
 // every body is empty. What callers use besides is in the rulesets of `specs/lemmas`.
 #![tactic(auto, using(crate::specs::HashLaws::dtype_fed, crate::specs::HashLaws::erased_fed, crate::specs::SampleLaws::sample_of, crate::specs::lemmas::NullValues::null_is_of_nullable, crate::specs::lemmas::SubValues::sub_values))]
 
-ghost use Rattle.std.specs.Prelude.{◌≡◌, ◌↔◌, ◌==◌, ◌⊎◌, ℕ, IsTrue, IsSomeAnd, None, Some, map, slice_get};
+ghost use Rattle.std.specs.Prelude.{◌≡◌, ◌↔◌, ◌==◌, ◌⊎◌, ◌<◌, ◌^◌, ◌++◌, ℕ, All, Bool, IsTrue, IsSomeAnd, List, None, Some, length, map, remove, slice_get};
 ghost use Rattle.std.specs.List.{position};
 ghost use Rattle.std.proofs.Math.Logic.{Equivalence};
 ghost use Rattle.dtype_base.specs.declared.nullability.Nullability.{Nullability};
-ghost use Rattle.dtype_base.specs.declared.nullability.Nullability.TheVariants.{Nullable};
+ghost use Rattle.dtype_base.specs.declared.nullability.Nullability.TheVariants.{NonNullable, Nullable};
+ghost use Rattle.dtype_base.specs.Bytes.{Bytes};
+ghost use Rattle.dtype_base.specs.declared.ptype.PType.{PType};
 ghost use Rattle.dtype_types.specs.Erase.{erase};
 ghost use Rattle.dtype_types.specs.Hashes.{hash_writes_ignoring_nullability};
 ghost use Rattle.dtype_types.specs.Laws.{GivesInOrder, IsOrder};
@@ -19,12 +21,19 @@ ghost use Rattle.dtype_types.specs.Sub.{Sub};
 ghost use Rattle.dtype_types.specs.Tell.{HasNoSizeZero, tell};
 ghost use Rattle.dtype_types.specs.Valid.{Valid};
 ghost use Rattle.dtype_types.specs.Value.{AddsNull, IncludedIn, Of, null_value};
-ghost use Rattle.dtype_types.specs.Tree.{Tree};
-ghost use Rattle.dtype_types.specs.TreeOf.{tree, union_tree, choices};
-ghost use Rattle.dtype_types.specs.Lookups.{variant_tags};
+ghost use Rattle.dtype_types.specs.FieldTypes.{field_tree};
+ghost use Rattle.dtype_types.specs.Kinds.{any_size_list_element, extension_parts, fixed_size_list_element, list_element, map_parts, struct_fields, union_variants};
+ghost use Rattle.dtype_types.specs.Maps.{entries_of};
+ghost use Rattle.dtype_types.specs.Tree.{Tree, extension, fields, fixed_size_list, list, map_of, primitive, struct, union, variants};
+ghost use Rattle.dtype_types.specs.TreeOf.{children, choices, extension_id, extension_metadata, extension_tree, map_shown, map_tree, storage_tree, struct_pairs, struct_tree, tree, union_tree, union_triples};
+ghost use Rattle.dtype_types.specs.Lookups.{Projects, field_types, first_named, variant_names, variant_named, variant_tags, variant_types};
+ghost use Rattle.dtype_types.specs.Unions.{MakesUnion};
 ghost use Rattle.dtype_types.specs.Lists.{lent_pair, lent_triple};
 
-use crate::{DType, DTypeIter, FieldIter, UnionVariants, VariantIter};
+use crate::{
+    DType, DTypeIter, ExtDTypeRef, FieldDType, FieldIter, MapDType, StructFields, UnionVariants,
+    VariantIter,
+};
 use std::hash::Hash;
 
 /// Types that are equal feed every hasher alike.
@@ -115,4 +124,88 @@ pub fn parts_are_given_in_order()
         ⟦<FieldIter<'static> as Iterator>⟧.remaining lent_pair (λ left. left) }
     ensures variants { GivesInOrder ⟦<VariantIter<'static> as Iterator>⟧.next_gives
         ⟦<VariantIter<'static> as Iterator>⟧.remaining lent_triple (λ left. left) }
+{}
+
+/// A type that is made of valid types is valid: what the constructors of types, structs, unions, maps and
+/// extensions make, and the type of a map's entries.
+pub fn types_made_of_valid_types_are_valid()
+    ensures primitives { (p : PType) (n : Nullability) → Valid (primitive p n) }
+    ensures lists { (t : Tree) (n : Nullability) → Valid t → Valid (list t n) }
+    ensures fixed_size_lists { (t : Tree) (size : ℕ) (n : Nullability) → size < 2 ^ 32 → Valid t
+        → Valid (fixed_size_list t size n) }
+    ensures maps { (key value : Tree) (sorted : Bool) (n : Nullability) → nullability key ≡ NonNullable
+        → Valid key → Valid value → Valid (map_of key value sorted n) }
+    ensures entries { (key value : Tree) → Valid key → Valid value → Valid (entries_of key value) }
+    ensures structs { (fs : List (List ℕ × Tree)) (n : Nullability) → All Valid (field_types fs)
+        → Valid (struct (fields fs) n) }
+    ensures unions { (vs : List (List ℕ × Tree × ℕ)) (n : Nullability)
+        → MakesUnion (variant_names vs) (length vs) (variant_tags vs) → Bytes (variant_tags vs)
+        → All Valid (variant_types vs) → Valid (union (variants vs) n) }
+    ensures extensions { (id metadata : List ℕ) (t : Tree) → Bytes metadata → Valid t
+        → Valid (extension id metadata t) }
+{}
+
+/// A type whose outer nullability was set is valid exactly where it was valid before.
+pub fn setting_a_nullability_keeps_validity()
+    ensures { (t u : Tree) (n : Nullability) → SetNull t n u → (Valid t ↔ Valid u) }
+{}
+
+/// A copy of a valid type, struct, union, map, extension or field's type is valid.
+pub fn copies_of_valid_types_are_valid()
+    ensures types { (d copy : DType) → tree copy ≡ tree d → Valid (tree d) → Valid (tree copy) }
+    ensures structs { (s copy : StructFields) → struct_pairs copy ≡ struct_pairs s → Valid (struct_tree s)
+        → Valid (struct_tree copy) }
+    ensures unions { (u copy : UnionVariants) → union_triples copy ≡ union_triples u → Valid (union_tree u)
+        → Valid (union_tree copy) }
+    ensures maps { (m copy : MapDType) → map_shown copy ≡ map_shown m → Valid (map_tree m)
+        → Valid (map_tree copy) }
+    ensures extensions { (e copy : ExtDTypeRef) → extension_tree copy ≡ extension_tree e
+        → Valid (extension_tree e) → Valid (extension_tree copy) }
+    ensures field_types { (f copy : FieldDType) → field_tree copy ≡ field_tree f → Valid (field_tree f)
+        → Valid (field_tree copy) }
+{}
+
+/// What a valid type holds is valid: an element, a map, a struct, a union, an extension.
+pub fn parts_of_a_valid_type_are_valid()
+    ensures list_element { (t u : Tree) → list_element t ≡ Some u → Valid t → Valid u }
+    ensures fixed_size_list_element { (t u : Tree) → fixed_size_list_element t ≡ Some u → Valid t → Valid u }
+    ensures any_size_list_element { (t u : Tree) → any_size_list_element t ≡ Some u → Valid t → Valid u }
+    ensures map_parts { (t : Tree) (m : MapDType) → map_parts t ≡ Some (map_shown m) → Valid t → Valid (map_tree m) }
+    ensures struct_fields { (t : Tree) (s : StructFields) → struct_fields t ≡ Some (children s) → Valid t
+        → Valid (struct_tree s) }
+    ensures union_variants { (t : Tree) (u : UnionVariants) → union_variants t ≡ Some (choices u) → Valid t
+        → Valid (union_tree u) }
+    ensures extension_parts { (t : Tree) (e : ExtDTypeRef)
+        → extension_parts t ≡ Some (extension_id e, extension_metadata e, storage_tree e) → Valid t
+        → Valid (extension_tree e) }
+{}
+
+/// The types in a valid struct, union, map or extension are valid: of a field or a variant at a position
+/// or by its name, of all of them, of a key and a value, and a storage.
+pub fn types_in_valid_parts_are_valid()
+    ensures field_at { (s : StructFields) (i : ℕ) (t : Tree) → slice_get (field_types (children s)) i ≡ Some t
+        → Valid (struct_tree s) → Valid t }
+    ensures field_named { (s : StructFields) (name : List ℕ) (t : Tree) → first_named (children s) name ≡ Some t
+        → Valid (struct_tree s) → Valid t }
+    ensures fields { (s : StructFields) → Valid (struct_tree s)
+        → All Valid (field_types (children s)) × All (λ p. Valid (tree p.1)) (struct_pairs s) }
+    ensures variant_at { (u : UnionVariants) (i : ℕ) (t : Tree) → slice_get (variant_types (choices u)) i ≡ Some t
+        → Valid (union_tree u) → Valid t }
+    ensures variant_named { (u : UnionVariants) (name : List ℕ) (t : Tree)
+        → variant_named (choices u) name ≡ Some t → Valid (union_tree u) → Valid t }
+    ensures variants { (u : UnionVariants) → Valid (union_tree u)
+        → All Valid (variant_types (choices u)) × All (λ p. Valid (tree p.1.0)) (union_triples u) }
+    ensures map_parts { (m : MapDType) → Valid (map_tree m) → Valid (map_shown m).0 × Valid (map_shown m).1 }
+    ensures storage { (e : ExtDTypeRef) → Valid (extension_tree e) → Valid (storage_tree e) }
+{}
+
+/// Fields that are selected from valid ones, joined of two, or left once one is removed are valid.
+pub fn selections_of_valid_fields_are_valid()
+    ensures projected { (s projection : StructFields) (names : List (List ℕ))
+        → Projects (children s) names (children projection) → Valid (struct_tree s)
+        → Valid (struct_tree projection) }
+    ensures merged { (s t both : StructFields) → children both ≡ children s ++ children t → Valid (struct_tree s)
+        → Valid (struct_tree t) → Valid (struct_tree both) }
+    ensures without { (s rest : StructFields) (i : ℕ) → children rest ≡ remove (children s) i
+        → Valid (struct_tree s) → Valid (struct_tree rest) }
 {}

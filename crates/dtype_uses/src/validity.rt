@@ -196,3 +196,31 @@ pub fn type_below_column<'a>(
 {
     path.resolve(columns.field_by_index(column)?)
 }
+
+/// A nullable list of a valid type.
+pub fn list_of(alloc: Global, element: DType) -> VortexResult<DType>
+    ensures { Valid (tree element) → IfOk result (λ d. Valid (tree d)) }
+{
+    DType::list(alloc, element, Nullability::Nullable)
+}
+
+/// A map of valid types.
+pub fn map_of(alloc: Global, key: DType, value: DType) -> VortexResult<DType>
+    ensures { Valid (tree key) → Valid (tree value) → IfOk result (λ d. Valid (tree d)) }
+{
+    DType::map(alloc, key, value, false, Nullability::NonNullable)
+}
+
+/// A column's type in an outer join.
+pub fn outer_column(alloc: Global, column: &DType) -> VortexResult<DType>
+    ensures { Valid (tree column.now) → IfOk result (λ d. Valid (tree d)) }
+{
+    column.with_nullability(alloc, Nullability::Nullable)
+}
+
+/// A copy of a column's type.
+pub fn copied_column(alloc: Global, column: &DType) -> VortexResult<DType>
+    ensures { Valid (tree column.now) → IfOk result (λ d. Valid (tree d)) }
+{
+    column.try_clone(alloc)
+}

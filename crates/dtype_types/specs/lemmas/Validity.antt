@@ -15,6 +15,7 @@ use Rattle.dtype_types.specs.Valid.{Valid, ValidFields, ValidVariants}
 use Rattle.dtype_types.specs.TreeOf.{tree, extension_tree, map_tree, union_tree, struct_tree, map_shown, struct_pairs, union_triples, children, choices, with_trees, with_tagged_trees, shown}
 use Rattle.dtype_types.specs.Lists.{seconds}
 use Rattle.dtype_types.specs.Lookups.{first_named, variant_named, field_types, variant_types}
+use Rattle.dtype_types.specs.Maps.{entries_of}
 use Rattle.dtype_types.specs.Nullable.{nullability, set_null}
 use Rattle.dtype_types.specs.lemmas.Nullabilities.{by_storage}
 use Rattle.dtype_types.specs.Tree.{Tree, fields, variants, null, bool, primitive, decimal, utf8, binary, list, fixed_size_list, map_of, struct, union, variant, extension}
@@ -221,5 +222,8 @@ fixed_size_list_of_valid u t k n e small h = subst Valid (sym e) (small, h)
 
 pub map_of_valid : (u k v : Tree) (b : Bool) (n : Nullability) → u ≡ map_of k v b n → nullability k ≡ NonNullable → Valid k → Valid v → Valid u
 map_of_valid u k v b n e sure h g = subst Valid (sym e) (sure, h, g)
+
+pub entries_valid : (k v : Tree) → Valid k → Valid v → Valid (entries_of k v)
+entries_valid k v h g = (h, (g, tt))
 
 pub ruleset validity = (list_of_valid, fixed_size_list_of_valid, map_of_valid, struct_valid, union_valid, map_valid, extension_valid, valid_struct, valid_union, valid_map, valid_extension, field_valid, named_field_valid, variant_valid, named_variant_valid, type_at_valid, type_named_valid, variant_at_valid, variant_named_valid, field_types_valid, variant_types_valid, pairs_valid, triples_valid, struct_of_valid, removal_valid, set_valid, made_map_valid, list_element_valid, fixed_size_element_valid, any_size_element_valid, lent_list_element, lent_fixed_size_element, lent_any_size_element, given_list_element, given_fixed_size_element, given_any_size_element, map_parts_valid, lent_map, given_map, struct_fields_valid, lent_struct, given_struct, union_variants_valid, lent_union, given_union, extension_is_valid, extension_parts_valid, lent_extension)

@@ -106,7 +106,7 @@ def promises(function, sources):
 
 def clauses_of(functions):
     """The names of what functions promise: of their clauses, and of the ghost members of the impls that hold them."""
-    return {it.name for function in functions for it in function.clauses if it.kind == "ensures"} | {
+    return {it.name or "ensures" for function in functions for it in function.clauses if it.kind == "ensures"} | {
         it.name for function in functions if function.owner for it in function.owner.members
     }
 

@@ -1,8 +1,8 @@
 // SPDX-License-Identifier: Apache-2.0
 // SPDX-FileCopyrightText: Copyright the Vortex contributors
 
-// Pairs of random messages that differ in a choice or two are read as types that are equal, equal ignoring
-// nullability, and below one another exactly where a plain walk says so.
+// Pairs of random messages that differ in a choice or two: the types that they are read as are equal, equal ignoring
+// nullability, and subsets by nullability exactly where a plain walk over the messages says so.
 use crate::generator::{Generator, message};
 use crate::model::Model;
 use crate::sessions::tagging;
@@ -15,7 +15,7 @@ use vortex_dtype::{DType, DTypeProto, DTypeSession, VortexError, VortexResult, p
 
 const PAIRS: u64 = 20_000;
 
-// The kinds of a type, as a model says them.
+// The names of the kinds, as `Model` has them.
 const KINDS: [&str; 13] = [
     "null",
     "bool",
@@ -32,8 +32,8 @@ const KINDS: [&str; 13] = [
     "extension",
 ];
 
-// The message of a seed, and one with another choice at one place, with another nullability or metadata at one
-// place or at any, or without a difference.
+// The message of a seed, and a second one: with another choice at one place, with another nullability or metadata at
+// one place or at all, or the same.
 fn two_messages(alloc: Global, seed: u64) -> VortexResult<(pb::DType, pb::DType)> {
     let place = seed / 4 % 40;
     let (shape, detail) = match seed % 4 {
@@ -46,18 +46,18 @@ fn two_messages(alloc: Global, seed: u64) -> VortexResult<(pb::DType, pb::DType)
     Ok((message(alloc, seed)?, second))
 }
 
-// How the types of pairs stood to one another, each way so many times.
+// How many pairs of types compared in each way.
 #[derive(Debug, Default, Drop)]
 struct Tally {
     equal: u64,
-    // Of messages that aren't.
+    // Equal types of different messages.
     newly_equal: u64,
-    // Without being equal.
+    // One a subset of the other by nullability, and not equal.
     below: u64,
-    // Without one being below the other.
+    // Equal ignoring nullability, and neither a subset of the other.
     equal_erased: u64,
     different: u64,
-    // Of the first types, which kinds stood in one.
+    // Which kinds the first types contained.
     is_met: [bool; 13],
 }
 
@@ -98,7 +98,7 @@ fn compare_pair(
     compare_with(rt, alloc, session, tally, &one, (&first, &second), seed)
 }
 
-// The type that the message says, if it says one.
+// The type that the message reads as, if it has no fault.
 fn read(alloc: Global, session: &DTypeSession, proto: &pb::DType) -> VortexResult<Option<DType>> {
     match DType::from_proto(alloc, proto, session) {
         Ok(dtype) => Ok(Some(dtype)),
@@ -116,7 +116,7 @@ fn two_models(
     Ok((one, Model::of(alloc, second)?))
 }
 
-// Compares the type of the first message with that of the second, where that says one.
+// Compares the type of the first message with that of the second, where the second has no fault.
 fn compare_with(
     rt: &impl Abort,
     alloc: Global,
@@ -135,7 +135,7 @@ fn compare_with(
     Ok(())
 }
 
-// That the types compare as what their messages say, and that equal ones hash alike.
+// Asserts that the types compare as their messages do, and that equal types have equal hashes.
 fn compare(rt: &impl Abort, one: &DType, other: &DType, models: &(Model, Model), seed: u64) {
     let (first, second) = models;
     let is_equal = first == second;

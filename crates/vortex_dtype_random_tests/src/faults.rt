@@ -1,12 +1,12 @@
 // SPDX-License-Identifier: Apache-2.0
 // SPDX-FileCopyrightText: Copyright the Vortex contributors
 
-// The faults of a message, found by a walk over it that knows nothing of the library's reading: their
-// numbers, in the order in which a reader meets them.
+// The faults of a message, found by a walk that doesn't use the library: their numbers, in the order in which a reader
+// meets them.
 use std::alloc::{AllocError, Global};
 use vortex_dtype::pb;
 
-// The numbers of all faults under a session that has `x.tag` and `x.text` alone.
+// The numbers of all faults, under a session with the plugins `x.tag` and `x.text`.
 pub(crate) fn faults(
     alloc: Global,
     proto: &pb::DType,
@@ -56,7 +56,7 @@ fn walk(proto: &pb::DType, keeps_unknown: bool, found: &mut Vec<u8>) -> Result<(
     }
 }
 
-// The faults of a child, or that there is none.
+// Adds the faults of a child, or the one that it is missing.
 #[cycle(faults)]
 fn in_child(
     child: &Option<Box<pb::DType>>,
@@ -70,7 +70,7 @@ fn in_child(
     }
 }
 
-// The faults of all of these.
+// Adds the faults of all of these.
 #[cycle(faults)]
 fn in_all(
     protos: &[pb::DType],
@@ -92,7 +92,7 @@ fn of_decimal(p: &pb::Decimal, found: &mut Vec<u8>) -> Result<(), AllocError> {
     note(found, i64::from(p.scale) > i64::from(p.precision), 4)
 }
 
-// The faults of a union beside those of its types.
+// Adds the faults of a union other than those of its types.
 fn of_union(p: &pb::Union, found: &mut Vec<u8>) -> Result<(), AllocError> {
     note(
         found,
@@ -115,7 +115,7 @@ fn has_repeat<T: PartialEq>(items: &[T]) -> bool {
     false
 }
 
-// The faults of an extension beside those of its storage.
+// Adds the faults of an extension other than those of its storage.
 fn of_extension(
     p: &pb::Extension,
     keeps_unknown: bool,
@@ -135,7 +135,7 @@ fn has_exclamation_mark(metadata: &Option<Vec<u8>>) -> bool {
     }
 }
 
-// Whether the storage is a text, without metadata.
+// Whether the storage is a UTF-8 string type, and there is no metadata.
 fn is_bare_text(p: &pb::Extension) -> bool {
     let is_bare = match &p.metadata {
         Some(bytes) => bytes.is_empty(),
@@ -156,7 +156,7 @@ fn is_child_nullable(child: &Option<Box<pb::DType>>) -> bool {
     }
 }
 
-// Whether the message says a type with null, as far as it says one.
+// Whether the message is of a nullable type, as far as it is of one.
 #[cycle(nullable)]
 fn is_nullable(proto: &pb::DType) -> bool {
     let Some(kind) = &proto.dtype_type else {

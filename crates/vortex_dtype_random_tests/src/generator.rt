@@ -1,8 +1,7 @@
 // SPDX-License-Identifier: Apache-2.0
 // SPDX-FileCopyrightText: Copyright the Vortex contributors
 
-// A source of random messages of all kinds, with faults put in at random places. The same random choices give the
-// same message.
+// A generator of random messages of all kinds, with faults at random places. Equal random choices give equal messages.
 use dtype_fixtures::Random;
 use std::alloc::Global;
 use std::mem;
@@ -20,11 +19,11 @@ pub(crate) fn message(alloc: Global, seed: u64) -> VortexResult<pb::DType> {
 #[derive(Drop)]
 pub(crate) struct Generator {
     alloc: Global,
-    // What everything is chosen by but nullability and metadata.
+    // The source of all choices except nullability and metadata.
     shape: Random,
-    // What these two are chosen by.
+    // The source of these two.
     detail: Random,
-    // One choice in so many is made a fault, and none where this is 0.
+    // One choice in this many is a fault, and none where it is 0.
     fault_rate: usize,
     // The messages that are in no other yet.
     made: Vec<pb::DType>,
@@ -48,7 +47,7 @@ impl Generator {
         self.detail.flag()
     }
 
-    // Whether a fault is put in here.
+    // Whether to make a fault here.
     fn is_faulty(&mut self) -> bool {
         self.fault_rate > 0 && self.shape.below(self.fault_rate) == 0
     }
@@ -122,7 +121,7 @@ impl Generator {
         decimal(precision, scale, self.nullable())
     }
 
-    // What was made last, to stand in another message.
+    // The message that was made last, as a child of another.
     fn taken(&mut self) -> pb::DType {
         match self.made.pop() {
             Some(proto) => proto,
@@ -164,7 +163,7 @@ impl Generator {
         Some(text(false))
     }
 
-    // At least so many messages, and up to three more.
+    // This many messages at least, and up to three more.
     fn several(&mut self, least: usize) -> VortexResult<Vec<pb::DType>> {
         let mut several = Vec::new(self.alloc);
         for _ in 0..least.saturating_add(self.shape.below(4)) {
@@ -173,7 +172,7 @@ impl Generator {
         Ok(several)
     }
 
-    // How long a list is that goes with one of this length.
+    // The length of a list that is to be as long as another: this one, or a fault.
     fn beside(&mut self, length: usize) -> usize {
         if !self.is_faulty() {
             length

@@ -1,8 +1,9 @@
 // SPDX-License-Identifier: Apache-2.0
 // SPDX-FileCopyrightText: Copyright the Vortex contributors
 
-//! Tests of `vortex_dtype` on random messages: what reading returns (`messages`), and how the types that are read compare
-//! (`comparisons`), checked against plain walks over the messages (`faults`, `model`). `generator` makes the messages.
+//! Tests of `vortex_dtype` on random messages: what reading returns (`messages`), and how the types that are read
+//! compare (`comparisons`), checked against plain walks over the messages (`faults`, `model`). `generator` makes the
+//! messages.
 #![tactic(auto)]
 
 #[cfg(test)]

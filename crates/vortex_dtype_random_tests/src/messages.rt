@@ -1,8 +1,8 @@
 // SPDX-License-Identifier: Apache-2.0
 // SPDX-FileCopyrightText: Copyright the Vortex contributors
 
-// Many thousands of random messages, of every kind and with every fault: reading returns the first fault, or the message
-// has none, and is then written and read back.
+// Many thousands of random messages, of every kind and with every fault: reading returns the first fault, or the
+// message has none, and is then written and read back.
 use crate::faults::faults;
 use crate::generator::message;
 use crate::model::Model;
@@ -94,8 +94,8 @@ fn answer(
     }
 }
 
-// Whether the type that the message is read as is written as what the message says, read back, and then written
-// as before.
+// Whether the type that the message is read as is written as the message is (with normal metadata), read back as the
+// same type, and then written as before.
 fn is_kept(
     alloc: Global,
     proto: &pb::DType,

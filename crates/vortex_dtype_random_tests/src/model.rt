@@ -1,8 +1,8 @@
 // SPDX-License-Identifier: Apache-2.0
 // SPDX-FileCopyrightText: Copyright the Vortex contributors
 
-// What a message without faults says, found by a walk over it that knows nothing of the library's reading: all
-// but nullability as a text, and nullability apart.
+// The type that a message without faults describes, found by a walk that doesn't use the library: all except
+// nullability as a text, and the nullabilities beside it.
 use std::alloc::{AllocError, Global};
 use std::fmt::Display;
 use std::string::String;
@@ -12,7 +12,7 @@ use vortex_dtype::pb;
 pub(crate) struct Model {
     // Kinds, names and numbers in the order of the message, and metadata as a session with `x.tag` keeps it.
     text: String,
-    // Whether each node is nullable that says so itself, in the same order.
+    // Of each node with a flag, whether it is nullable, in the same order.
     nullable: Vec<bool>,
 }
 
@@ -26,7 +26,7 @@ impl Model {
         Ok(model)
     }
 
-    // Whether the two differ in nullability alone.
+    // Whether the two differ in nothing but nullability.
     pub(crate) fn is_same_erased(&self, other: &Model) -> bool {
         self.text == other.text
     }
@@ -131,7 +131,7 @@ fn in_all(alloc: Global, protos: &[pb::DType], model: &mut Model) -> Result<(), 
     Ok(())
 }
 
-// How many names there are, and each.
+// Adds the number of names, and each name.
 fn names(alloc: Global, names: &[String], model: &mut Model) -> Result<(), AllocError> {
     model.say(alloc, &names.len())?;
     for name in names {
@@ -147,7 +147,7 @@ fn tags(alloc: Global, tags: &[i32], model: &mut Model) -> Result<(), AllocError
     Ok(())
 }
 
-// The bytes as they are kept, after their number: `x.tag` lowers its letters, and missing metadata is none.
+// Adds the bytes as they are kept, after their number: `x.tag` lowers its letters, and missing metadata is none.
 fn metadata(alloc: Global, p: &pb::Extension, model: &mut Model) -> Result<(), AllocError> {
     let Some(bytes) = &p.metadata else {
         return model.say(alloc, &0);

@@ -5,7 +5,7 @@ use std::alloc::Global;
 use vortex_dtype::{DTypeSession, ExtDTypePlugin, PluginOf, VortexResult};
 use vortex_dtype_fixtures::{Tag, TextAlone};
 
-// A session with `x.tag` as a vtable and `x.text`, which keeps what it doesn't know where asked.
+// A session with `x.tag` as a vtable and `x.text`, which keeps unknown ids where that is asked.
 pub(crate) fn tagging(alloc: Global, keeps_unknown: bool) -> VortexResult<DTypeSession> {
     let mut session = DTypeSession::new(alloc);
     if keeps_unknown {

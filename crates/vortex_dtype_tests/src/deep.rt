@@ -22,7 +22,7 @@ fn is_rewritten(
     Ok(written == *normal && DType::from_proto(alloc, &written, session)? == read)
 }
 
-// So many lists around this.
+// `DEPTH` lists around this type.
 fn deep_list(alloc: Global, proto: pb::DType) -> VortexResult<pb::DType> {
     let mut proto = proto;
     for _ in 0..DEPTH {
@@ -31,7 +31,7 @@ fn deep_list(alloc: Global, proto: pb::DType) -> VortexResult<pb::DType> {
     Ok(proto)
 }
 
-// So many extensions around a byte.
+// `DEPTH` extensions around a byte.
 fn deep_extension(alloc: Global, metadata: &[u8]) -> VortexResult<pb::DType> {
     let mut proto = byte();
     for _ in 0..DEPTH {

@@ -1,23 +1,19 @@
 // SPDX-License-Identifier: Apache-2.0
 // SPDX-FileCopyrightText: Copyright the Vortex contributors
 
-//! What a caller does with the library: functions as a user would write them, each with a contract of its
-//! own that is proved from the clauses of the calls that it makes, and from the public laws.
+//! What a caller does with the library: functions as a user would write them, each with a contract of its own that
+//! is proved from the clauses of the calls that it makes and from the public rulesets, with no proof file.
 //!
-//! It promises nothing besides these contracts. What it is for: a clause that a caller can't use fails
-//! here, as does what `vortex_dtype` doesn't pass on, since this crate lists `vortex_dtype dtype_types` alone; and
-//! every caller that a `CALLING.md` shows stands here.
+//! A clause that a caller can't use fails here, and so does a definition that `vortex_dtype` doesn't re-export, since
+//! this crate lists `vortex_dtype dtype_types` alone. Every caller that a page shows is here.
 //!
-//! Begin with the user whom you are nearest to: `scalars` (which values a type has), `arrays` (how wide a
-//! row is), `appending` (what may be appended), `binder` (column references, projections, joins), `layout` (which
-//! columns to open), `path_sets` (what is asked for, and what is opened for it), `masks` (what is asked further
-//! down), `rows` (what is found) and `stored` (schemas written and read back). Then by topic: `schemas` finds
-//! columns, `dates` makes an extension, `equality` compares parts of types, `kinds` opens types, `fields` looks up
-//! fields, `lookups` counts what they compare, `presence` asks whether they are there, `iterators` counts,
-//! `over_fields` goes over them, `nullabilities` sets them, `paths` resolves, `path_messages` compares and copies
-//! messages, `messages` writes and reads types, `sessions` makes sessions, `plugins` has one that looks at its
-//! storage, `numbers` has names and bytes, `unions` makes unions, `validity` has what valid types have. `orders` is
-//! the code of `docs/TUTORIAL.md`, and `guide` that of `docs/GUIDE.md`.
+//! - By user: `scalars` (which values a type has), `arrays` (how wide a row is), `appending` (what may be appended),
+//!   `binder` (column references, projections, joins), `layout` and `path_sets` (which columns to open), `masks` (what
+//!   is read further down), `rows` (what is found), `stored` (schemas written and read back).
+//! - Types: `structs`, `fields`, `over_fields`, `iterators`, `schemas`, `lookups` (how many comparisons), `presence`,
+//!   `unions`, `kinds`, `equality`, `nullabilities`, `validity`, `numbers`, `dates` (an extension).
+//! - Paths, messages and sessions: `paths`, `path_messages`, `messages`, `sessions`, `plugins`.
+//! - Pages: `orders` is the code of `docs/TUTORIAL.md`, `guide` that of `docs/GUIDE.md`.
 #![tactic(auto)]
 
 pub mod appending;
@@ -47,5 +43,6 @@ pub mod scalars;
 pub mod schemas;
 pub mod sessions;
 pub mod stored;
+pub mod structs;
 pub mod unions;
 pub mod validity;

@@ -60,3 +60,17 @@ pub fn is_nullable_once_made_so(dtype: &DType, alloc: Global) -> VortexResult<bo
 {
     Ok(dtype.as_nullable(alloc)?.is_nullable())
 }
+
+/// A type made nullable where another is: what it was may stand where this is asked.
+pub fn nullable_with(dtype: &DType, other: &DType, alloc: Global) -> VortexResult<DType>
+    ensures { IfOk result (λ d. Sub (tree dtype.now) (tree d)) }
+{
+    dtype.union_nullability(alloc, other.nullability())
+}
+
+/// A type given its own nullability: what it was.
+pub fn with_its_own(dtype: &DType, alloc: Global) -> VortexResult<DType>
+    ensures { IfOk result (λ d. tree d ≡ tree dtype.now) }
+{
+    dtype.with_nullability(alloc, dtype.nullability())
+}

@@ -1,0 +1,45 @@
+// SPDX-License-Identifier: Apache-2.0
+// SPDX-FileCopyrightText: Copyright the Vortex contributors
+
+//! Struct types and their columns: from a type to what it has, and back.
+#![tactic(auto, using(dtype_types::specs::lemmas::Structs::structs, dtype_types::specs::lemmas::Equality::equality))]
+
+ghost use Rattle.std.specs.Prelude.{◌≡◌, ◌↔◌, IfSome, IsTrue};
+ghost use Rattle.vortex_dtype.specs.Nullable.{nullability};
+ghost use Rattle.vortex_dtype.specs.Tree.{struct};
+ghost use Rattle.vortex_dtype.specs.TreeOf.{children, fields_of, struct_tree, tree};
+ghost use Rattle.vortex_dtype.specs.Types.Nullability.{Nullability};
+
+use vortex_dtype::{DType, Nullability, StructFields};
+
+/// The columns of a table's type: those that it was made of.
+pub fn columns_of_table<'a>(
+    table: &'a DType,
+    columns: &StructFields,
+    n: Nullability,
+) -> Option<&'a StructFields>
+    requires { tree table.now ≡ struct (fields_of columns.now) n }
+    ensures { IfSome result (λ own. children own.now ≡ children columns.now) }
+{
+    let (_columns, _n) = (columns, n);
+    table.as_struct_fields_opt()
+}
+
+/// Whether a type is the struct of these columns, whatever its nullability.
+pub fn is_table_of(dtype: &DType, columns: &StructFields) -> bool
+    ensures { IsTrue result
+        ↔ (tree dtype.now ≡ struct (fields_of columns.now) (nullability (tree dtype.now))) }
+{
+    match dtype.as_struct_fields_opt() {
+        Some(own) => *own == *columns,
+        None => false,
+    }
+}
+
+/// Whether tables whose types are equal have the same columns: they always do.
+pub fn have_equal_tables_same_columns(table: &StructFields, other: &StructFields) -> bool
+    requires { struct_tree table.now ≡ struct_tree other.now }
+    ensures { IsTrue result }
+{
+    *table == *other
+}

@@ -1,7 +1,7 @@
 // SPDX-License-Identifier: Apache-2.0
 // SPDX-FileCopyrightText: Copyright the Vortex contributors
 
-ghost use Rattle.std.specs.Prelude.{◌≡◌, IfErr, IfOk, MatchResult, map};
+ghost use Rattle.std.specs.Prelude.{◌≡◌, ◌↔◌, IfErr, IfOk, IfSome, IsSome, MatchResult, map};
 ghost use Rattle.std.specs.List.{AllByRecursion};
 ghost use Rattle.std.specs.Option.{option_map};
 ghost use Rattle.dtype_base.specs.declared.nullability.Nullability.TheVariants.{NonNullable};
@@ -10,7 +10,8 @@ ghost use Rattle.dtype_types.specs.Erase.{erase, erase_fields, erase_variants};
 ghost use Rattle.dtype_types.specs.Tree.{union};
 ghost use Rattle.dtype_types.specs.TreeOf.{tree, extension_tree, fields_of, map_tree, storage_tree, variants_of};
 ghost use Rattle.dtype_types.specs.Valid.{Valid, ValidFields, ValidVariants};
-ghost use Rattle.dtype_projection.specs.Merged.{either_null, either_null_fields, either_null_types, either_null_variants, merged};
+ghost use Rattle.dtype_types.specs.Value.{IncludedIn};
+ghost use Rattle.dtype_projection.specs.Merged.{IsLeastAbove, either_null, either_null_fields, either_null_types, either_null_variants, merged};
 
 use dtype_base::VortexResult;
 use dtype_types::{DType, DTypeIter, ExtDTypeRef, MapDType, StructFields, UnionVariants};
@@ -19,17 +20,30 @@ use std::alloc::Global;
 /// The least type that takes the values of both: nullable wherever one of the two is, at every depth, also in a map's
 /// value and in an extension's storage. `None` where the types differ in more than nullability.
 ///
-/// Of `{a=i32, b=list(utf8?)}` and `{a=i32?, b=list(utf8)}` it is `{a=i32?, b=list(utf8?)}`.
+/// Of `{a=i32, b=list(utf8?)}` and `{a=i32?, b=list(utf8)}` it is `{a=i32?, b=list(utf8?)}`. Where the first takes the
+/// values of the second already, it is a copy of the first, which shares its fields: so a reader of many files with one
+/// schema doesn't build it again.
 ///
 /// # Errors
 ///
 /// - `OutOfMemory` (0): an allocation fails.
 pub fn merge_nullability(alloc: Global, a: &DType, b: &DType) -> VortexResult<Option<DType>>
     ensures merged { IfOk result (λ r. option_map tree r ≡ merged (tree a.now) (tree b.now)) }
+    ensures some { IfOk result (λ r. IsSome r ↔ (erase (tree a.now) ≡ erase (tree b.now))) }
+    ensures least { IfOk result (λ r. IfSome r (λ d. IsLeastAbove (tree a.now) (tree b.now) (tree d))) }
+    ensures values { IfOk result (λ r. IfSome r (λ d. IncludedIn (tree a.now) (tree d)
+        × IncludedIn (tree b.now) (tree d))) }
+    ensures valid { Valid (tree a.now) → Valid (tree b.now) → IfOk result (λ r. IfSome r (λ d. Valid (tree d))) }
+
+    // No constructor makes a type that isn't valid.
     ensures refused { IfErr result (λ e. Valid (tree a.now) → Valid (tree b.now) → e ≡ OutOfMemory) }
 {
     if !a.eq_ignore_nullability(b) {
         return Ok(None);
+    }
+    if b.eq_with_nullability_subset(a) {
+        let copy = a.try_clone(alloc)?;
+        return Ok(Some(copy));
     }
     Ok(Some(merge(alloc, a, b)?))
 }

@@ -64,9 +64,8 @@ def read_sources():
     functions = [(crate, it) for crate in CRATES for file in sources_of(crate) for it in functions_of(file)]
     traits = {it.owner.type for _, it in functions if it.owner and it.owner.kind == "trait"}
     for crate, function in functions:
-        law = f"{crate}::laws::{function.name}"
         if is_law(crate, function):
-            sources.laws.setdefault(law, []).append(function)
+            sources.laws.setdefault(law_of(crate, function), []).append(function)
         elif is_public(function, names, given_out(crate)[1]):
             sources.calls.setdefault(name_of(function), []).append(function)
             if is_declared_call(function, traits):
@@ -84,11 +83,18 @@ def read_sources():
 
 
 def is_law(crate, function):
-    """Whether a function states a law: one of the module `laws`, or passed on by it."""
+    """Whether a function states a law: one of the module `laws`, or of one whose name ends so, or passed on by it."""
     laws = f"crates/{crate}/src/laws.rt"
     if function.owner or function.visibility != "pub" or not os.path.exists(laws):
         return False
-    return function.file == laws or bool(re.search(rf"(?m)^pub use crate::\w+::{function.name};", text_of(laws)))
+    passed_on = re.search(rf"(?m)^pub use crate::\w+::{function.name};", text_of(laws))
+    return function.file.endswith("laws.rt") or bool(passed_on)
+
+
+def law_of(crate, function):
+    """The name of a law in the ledger, with its module's."""
+    module = os.path.basename(function.file).removesuffix(".rt")
+    return f"{crate}::{module if module.endswith('laws') else 'laws'}::{function.name}"
 
 
 def promises(function, sources):

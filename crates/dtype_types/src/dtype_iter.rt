@@ -11,7 +11,8 @@ use std::iter::FusedIterator;
 use std::marker::Model;
 use std::slice;
 
-/// Types in order, lent, seen as those that are left. What it gives is said by their trees.
+/// An iterator over references to types, in order. In contracts it is the list of the types that are left, and what it
+/// returns is said by their trees.
 #[derive(Debug, Drop)]
 pub struct DTypeIter<'a> {
     inner: slice::Iter<'a, DType>,

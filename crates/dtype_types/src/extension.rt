@@ -31,7 +31,11 @@ impl Model for ExtId {
 }
 
 impl ExtId {
-    /// The id with this text. Refuses 0 (OutOfMemory) alone.
+    /// Returns the id with this text.
+    ///
+    /// # Errors
+    ///
+    /// - `OutOfMemory` (0): an allocation fails.
     pub fn new(alloc: Global, text: &str) -> VortexResult<Self>
         ensures { MatchResult result (λ id. id ≡ text.now) (λ e. e ≡ OutOfMemory) }
     {
@@ -40,14 +44,18 @@ impl ExtId {
         })
     }
 
-    /// The text.
+    /// Returns the text.
     pub fn as_str(&self) -> &str
         ensures { result.now ≡ self.now }
     {
         self.text.as_str()
     }
 
-    /// An id with the same text, which the two share. Refuses 0 (OutOfMemory) alone.
+    /// Returns an id with the same text, which the two share (reference counted).
+    ///
+    /// # Errors
+    ///
+    /// - `OutOfMemory` (0): an allocation fails.
     pub fn try_clone(&self, _alloc: Global) -> VortexResult<Self>
         ensures { MatchResult result (λ id. id ≡ self.now) (λ e. e ≡ OutOfMemory) }
     {
@@ -90,7 +98,7 @@ impl Hash for ExtId {
     }
 }
 
-/// The text as it stands.
+/// Writes the text, without escapes.
 impl fmt::Display for ExtId {
     ghost output = { λ id. Some id };
 
@@ -99,15 +107,15 @@ impl fmt::Display for ExtId {
     }
 }
 
-/// An extension type without its library: the id, the metadata as bytes, and the storage type. So a type can
-/// be read, kept and written on by those who don't know the library.
+/// An extension type without its library: the id, the metadata as bytes, and the storage type. So a program that
+/// doesn't know the library can read such a type, keep it and write it again.
 #[derive(Debug, Drop)]
 #[cycle(dtype)]
 pub struct ExtDTypeRef {
     parts: Box<Parts<DType>>,
 }
 
-// What an extension holds, with its storage: in one box, so that a `DType` is small.
+// What an extension holds. It is in one box, so that a `DType` is small.
 #[derive(Debug, Drop)]
 struct Parts<T> {
     id: ExtId,
@@ -126,14 +134,18 @@ impl ExtDTypeRef {
     ghost use Rattle.dtype_types.specs.HashesOf.{extension_writes};
     ghost use Rattle.dtype_types.specs.Width.{Measures};
 
-    /// The id.
+    /// Returns the id.
     pub fn id(&self) -> &ExtId
         ensures { result.now ≡ extension_id self.now }
     {
         &self.parts.id
     }
 
-    /// The extension of this id, metadata and storage. Refuses 0 (OutOfMemory) alone.
+    /// Returns the extension of this id, metadata and storage.
+    ///
+    /// # Errors
+    ///
+    /// - `OutOfMemory` (0): an allocation fails.
     pub fn from_parts(
         alloc: Global,
         id: ExtId,
@@ -156,7 +168,7 @@ impl ExtDTypeRef {
         })
     }
 
-    /// The id, the metadata and the storage, given up.
+    /// Consumes the extension and returns its id, its metadata and its storage.
     pub fn into_parts(self) -> (ExtId, Vec<u8>, DType)
         ensures { extension_tree self ≡ extension result.0 result.1.items (tree result.2) }
     {
@@ -168,14 +180,18 @@ impl ExtDTypeRef {
         (id, metadata, storage)
     }
 
-    /// The metadata, as bytes.
+    /// Returns the metadata, as bytes.
     pub fn metadata_bytes(&self) -> &[u8]
         ensures { result.now ≡ extension_metadata self.now }
     {
         &self.parts.metadata
     }
 
-    /// A copy of the metadata. Refuses 0 (OutOfMemory) alone.
+    /// Returns a copy of the metadata.
+    ///
+    /// # Errors
+    ///
+    /// - `OutOfMemory` (0): an allocation fails.
     pub fn serialize_metadata(&self, alloc: Global) -> VortexResult<Vec<u8>>
         ensures { MatchResult result
             (λ v. v.items ≡ extension_metadata self.now) (λ e. e ≡ OutOfMemory) }
@@ -183,7 +199,7 @@ impl ExtDTypeRef {
         Ok(Vec::from_slice(alloc, &self.parts.metadata)?)
     }
 
-    /// What prints how many bytes of metadata there are.
+    /// Returns a value that prints the number of bytes of metadata.
     pub fn display_metadata(&self) -> MetadataDisplay<'_>
         ensures { result ≡ extension_metadata self.now }
     {
@@ -192,7 +208,7 @@ impl ExtDTypeRef {
         }
     }
 
-    /// Whether the extensions are equal with every nullability in their storages ignored.
+    /// Returns whether the extensions are equal when every nullability in their storages is ignored.
     pub fn eq_ignore_nullability(&self, other: &Self) -> bool
         ensures { IsTrue result
             ↔ (erase (extension_tree self.now) ≡ erase (extension_tree other.now)) }
@@ -200,7 +216,7 @@ impl ExtDTypeRef {
         self.agree(other, Nullabilities::Ignored)
     }
 
-    /// The outer nullability: the storage's.
+    /// Returns the outer nullability, which is the storage's.
     #[cycle(nullability)]
     pub fn nullability(&self) -> Nullability
         ensures { result ≡ nullability (storage_tree self.now) }
@@ -208,21 +224,21 @@ impl ExtDTypeRef {
         self.parts.storage.nullability()
     }
 
-    /// Whether values may be null.
+    /// Returns whether values may be null.
     pub fn is_nullable(&self) -> bool
         ensures { IsTrue result ↔ IsNullable (storage_tree self.now) }
     {
         self.nullability().is_nullable()
     }
 
-    /// The storage type.
+    /// Returns the storage type.
     pub fn storage_dtype(&self) -> &DType
         ensures { tree result.now ≡ storage_tree self.now }
     {
         &self.parts.storage
     }
 
-    // Whether the ids and the metadata are equal and the storages agree.
+    // Whether the ids and the metadata are equal, and the storages under the rule.
     #[cycle(agree)]
     pub(crate) fn agree(&self, other: &ExtDTypeRef, rule: Nullabilities) -> bool
         ensures { result ≡ (bytes_eq (extension_id self.now) (extension_id other.now)
@@ -234,7 +250,7 @@ impl ExtDTypeRef {
             && agree(&self.parts.storage, &other.parts.storage, rule)
     }
 
-    // Feeds a hasher the id, the metadata and the storage.
+    // Hashes the id, the metadata and the storage.
     #[cycle(hash)]
     pub(crate) fn feed<H: Hasher>(&self, rule: Hashed, state: &mut H)
         ensures { state.new ≡ fold H.write state.old (extension_writes rule self.now) }
@@ -245,7 +261,11 @@ impl ExtDTypeRef {
         feed(&self.parts.storage, rule, state);
     }
 
-    /// An extension type equal to this one. Refuses 0 (OutOfMemory) alone.
+    /// Returns an extension type equal to this one.
+    ///
+    /// # Errors
+    ///
+    /// - `OutOfMemory` (0): an allocation fails.
     #[cycle(copy)]
     pub fn try_clone(&self, alloc: Global) -> VortexResult<Self>
         ensures { MatchResult result
@@ -281,8 +301,12 @@ impl ExtDTypeRef {
         self.parts.storage.can_be_nonnullable()
     }
 
-    /// The extension with the storage's outer nullability changed; the id and the metadata stay.
-    /// Where non-nullable is asked, the storage can be. Refuses 0 (OutOfMemory) alone.
+    /// Returns the extension with another outer nullability of its storage. The id and the metadata stay. The
+    /// condition is that the storage can be non-nullable where `n` is `NonNullable`.
+    ///
+    /// # Errors
+    ///
+    /// - `OutOfMemory` (0): an allocation fails.
     #[cycle(with_nullability)]
     pub fn with_nullability(&self, alloc: Global, n: Nullability) -> VortexResult<Self>
         requires { n ≡ Nullability.NonNullable → CanBeNonNullable (extension_tree self.now) }
@@ -296,7 +320,7 @@ impl ExtDTypeRef {
     }
 }
 
-/// By id, metadata and storage.
+/// Two extensions are equal where their ids, their metadata and their storages are.
 #[tactic(auto, using(crate::specs::lemmas::Equality::equality))]
 impl PartialEq for ExtDTypeRef {
     ghost use Rattle.dtype_types.specs.PartsEquality.{same_extension, same_extension_equiv};
@@ -334,7 +358,7 @@ impl Hash for ExtDTypeRef {
     }
 }
 
-/// How many bytes of metadata an extension has, to be printed, seen as the metadata.
+/// Prints the number of bytes of metadata that an extension has. In contracts it is the metadata.
 #[derive(Debug, Drop)]
 pub struct MetadataDisplay<'a> {
     bytes: &'a [u8],
@@ -346,7 +370,7 @@ impl<'a> Model for MetadataDisplay<'a> {
     ghost view = { λ m. m.bytes.now };
 }
 
-/// The number of bytes and `B`.
+/// Writes the number of bytes and `B`, as `2B`.
 impl fmt::Display for MetadataDisplay<'_> {
     ghost use Rattle.dtype_types.specs.Text.{metadata_text};
 
@@ -358,7 +382,7 @@ impl fmt::Display for MetadataDisplay<'_> {
     }
 }
 
-/// The id, the number of metadata bytes in brackets, and the storage in parentheses.
+/// Writes the id, the number of metadata bytes in brackets, and the storage in parentheses: `x.tag[2B](utf8?)`.
 impl fmt::Display for ExtDTypeRef {
     ghost use Rattle.dtype_types.specs.TextOf.{extension_text};
 

@@ -21,21 +21,25 @@ pub struct FieldDType {
 }
 
 impl FieldDType {
-    /// The type.
+    /// Returns the type.
     pub fn value(&self) -> &DType
         ensures { tree result.now ≡ field_tree self.now }
     {
         &self.dtype
     }
 
-    // The type, given up.
+    // Consumes the field and returns its type.
     pub(crate) fn into_dtype(self) -> DType
         ensures { result ≡ self.dtype }
     {
         self.dtype
     }
 
-    /// A field's type equal to this one. Refuses 0 (OutOfMemory) alone.
+    /// Returns a field's type equal to this one.
+    ///
+    /// # Errors
+    ///
+    /// - `OutOfMemory` (0): an allocation fails.
     pub fn try_clone(&self, alloc: Global) -> VortexResult<Self>
         ensures { MatchResult result
             (λ f. field_tree f ≡ field_tree self.now) (λ e. e ≡ OutOfMemory) }
@@ -66,7 +70,7 @@ impl From<DType> for FieldDType {
     }
 }
 
-/// The non-nullable primitive of that name.
+/// Returns the non-nullable primitive type of this name.
 impl From<PType> for FieldDType {
     ghost from_gives = { λ ptype f. (field_tree f ≡ primitive ptype NonNullable) × Valid (field_tree f) };
 

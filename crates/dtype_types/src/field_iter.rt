@@ -13,7 +13,8 @@ use std::iter::FusedIterator;
 use std::marker::Model;
 use std::slice;
 
-/// The fields of a struct in order, each its name and its type, lent, seen as those that are left.
+/// An iterator over the fields of a struct, in order: references to the name and the type of each. In contracts it is
+/// the list of the fields that are left.
 #[derive(Debug, Drop)]
 pub struct FieldIter<'a> {
     names: slice::Iter<'a, FieldName>,

@@ -1,7 +1,7 @@
 // SPDX-License-Identifier: Apache-2.0
 // SPDX-FileCopyrightText: Copyright the Vortex contributors
 
-// A struct's fields while they are put together.
+// Builds a struct field by field.
 ghost use Rattle.std.specs.Prelude.{◌≡◌, vec_len, MatchResult};
 
 use crate::{DType, StructFields};
@@ -33,7 +33,7 @@ impl FieldsBuilder {
         })
     }
 
-    // One more field, behind the others. Within its caller's loop, where no builder has to be moved.
+    // Appends a field. It is inlined into the loops that call it, so that no builder is moved.
     #[inline(always)]
     pub(crate) fn push(self, name: FieldName, dtype: DType) -> VortexResult<Self>
         ensures { MatchResult result

@@ -1,8 +1,8 @@
 // SPDX-License-Identifier: Apache-2.0
 // SPDX-FileCopyrightText: Copyright the Vortex contributors
 
-// What follows from the definitions of types alone and is promised. Each function's contract is the law, and
-// every body is empty. What callers use besides is in the rulesets of `specs/lemmas`.
+// Theorems about the definitions of types. The contract of each function is the theorem, and its body is empty. Further
+// lemmas for callers are in the rulesets of `specs/lemmas`.
 #![tactic(auto, using(crate::specs::HashLaws::dtype_fed, crate::specs::HashLaws::erased_fed, crate::specs::SampleLaws::sample_of, crate::specs::lemmas::NullValues::null_is_of_nullable, crate::specs::lemmas::SubValues::sub_values))]
 
 ghost use Rattle.std.specs.Prelude.{◌≡◌, ◌↔◌, ◌==◌, ◌⊎◌, ◌<◌, ◌^◌, ◌++◌, ℕ, All, Bool, IsTrue, IsSomeAnd, List, None, Some, length, map, remove, slice_get};
@@ -36,22 +36,22 @@ use crate::{
 };
 use std::hash::Hash;
 
-/// Types that are equal feed every hasher alike.
+/// Types that are equal write the same to every hasher.
 pub fn equality_agrees_with_hash()
     ensures { (a b : DType) → IsTrue (⟦<DType as PartialEq>⟧.eq a b)
         → ⟦<DType as Hash>⟧.hash_input a ≡ ⟦<DType as Hash>⟧.hash_input b }
 {}
 
-/// Equality ignoring nullability is an equivalence, and types that are so equal feed every hasher
-/// alike through `hash_ignore_nullability`.
+/// Equality ignoring nullability is an equivalence, and types that are so equal write the same to every hasher through
+/// `hash_ignore_nullability`.
 pub fn equality_ignoring_nullability_agrees_with_its_hash()
     ensures equivalence { Equivalence (λ (a b : Tree). erase a ≡ erase b) }
     ensures hash { (a b : Tree) → erase a ≡ erase b
         → hash_writes_ignoring_nullability a ≡ hash_writes_ignoring_nullability b }
 {}
 
-/// Setting a type's nullability, where it can be set, gives that nullability, changes nothing else, and
-/// isn't influenced by an earlier setting.
+/// Setting a type's nullability, where it can be set, gives that nullability and changes nothing else. Of two settings
+/// the last decides.
 pub fn nullability_is_set_alone()
     ensures sets { (t u : Tree) (n : Nullability) → SetNull t n u → nullability u ≡ n }
     ensures keeps { (t u : Tree) (n : Nullability) → SetNull t n u → erase u ≡ erase t }
@@ -59,8 +59,8 @@ pub fn nullability_is_set_alone()
         → SetNull t m u → (SetNull u n v ↔ SetNull t n v) }
 {}
 
-/// In a valid union the position that `tag_to_child_index` gives for the tag that stands at a position,
-/// which `child_index_to_tag` gives, is that position.
+/// In a valid union `tag_to_child_index` returns a position for the tag that `child_index_to_tag` returns for that
+/// position.
 pub fn tags_tell_positions()
     ensures { (u : UnionVariants) → Valid (union_tree u) → (i tag : ℕ)
         → slice_get (variant_tags (choices u)) i ≡ Some tag
@@ -95,28 +95,28 @@ pub fn values_of_what_is_below_are_values()
     ensures { (a b : Tree) → Sub a b → IncludedIn a b }
 {}
 
-/// Of two valid types that are equal but for nullabilities and in which no fixed size is 0, one is below
-/// the other exactly where each of its values is a value of the other.
+/// Of two valid types that are equal except for nullabilities and in which no fixed size is 0, one is below the other
+/// exactly where each of its values is a value of the other.
 pub fn the_order_is_inclusion_of_values()
     ensures { (a b : Tree) → Valid a → HasNoSizeZero a → erase a ≡ erase b
         → (Sub a b ↔ IncludedIn a b) }
 {}
 
-/// Of two such types of which the first isn't below the second, `tell` gives a value of the first that is
-/// none of the second.
+/// Of two such types of which the first isn't below the second, `tell` gives a value of the first that isn't one of the
+/// second.
 pub fn tell_tells_apart()
     ensures { (a b : Tree) → Valid a → HasNoSizeZero a → erase a ≡ erase b
         → ¬ (Sub a b) → IsSomeAnd (tell a b) (λ v. Of v a × ¬ (Of v b)) }
 {}
 
-/// Of types that are equal but for nullabilities, also with a fixed size 0, `tell` gives nothing exactly
-/// where the first is below the second.
+/// Of types that are equal except for nullabilities, also with a fixed size 0, `tell` gives nothing exactly where the
+/// first is below the second.
 pub fn tell_gives_exactly_where_not_below()
     ensures { (a b : Tree) → erase a ≡ erase b → ((tell a b ≡ None) ↔ Sub a b) }
 {}
 
-/// Lent types, fields and variants come in order: calls of `next` give the first of those that are left,
-/// and all of them before `None`, which comes after so many items as `len` announces.
+/// The iterators over types, fields and variants are in order: `next` returns the first of those that are left, and all
+/// of them before `None`, which comes after as many items as `len` says.
 pub fn parts_are_given_in_order()
     ensures types { GivesInOrder ⟦<DTypeIter<'static> as Iterator>⟧.next_gives
         ⟦<DTypeIter<'static> as Iterator>⟧.remaining (λ d. tree d.now) (map tree) }

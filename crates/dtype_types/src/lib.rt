@@ -3,16 +3,15 @@
 
 //! Struct, union and map types, erased extensions, and `DType`, the type that holds them.
 //!
-//! It promises that a `DType` means a finite tree (`tree` of `specs/TreeOf`), and that each call is
-//! its definition on that tree: nullability, lookups, copies, comparisons, texts. Whatever a call
-//! gives is valid where what it took is (`Valid` of its tree). A struct is its pairs of a name and a type, a union its
-//! triples of a name, a type and a tag, from the declared data on (`named` and `tagged`).
+//! In contracts a `DType` is a finite tree (`tree` of `specs/TreeOf`), and each call is a definition on trees:
+//! nullability, lookups, copies, comparisons, texts. The types that a call returns are valid where those that it takes
+//! are (`Valid` of the tree; `laws`). A struct is a list of pairs of a name and a type, a union a list of triples of a
+//! name, a type and a tag (`named` and `tagged`).
 //!
 //! Begin with `DType` in `dtype.rt` and its calls in `dtype/`, a file a topic, then `StructFields`. The
 //! definitions are in `specs/`: `Tree` (the type tree), `Nullable`, `Valid`, `Erase`, `Lookups`,
 //! `Text`, `Value` (values, and which are of which type) and `Sub` (the order by nullability). `laws`
-//! has what follows from the definitions alone. What is proved, and what is only tested, is in
-//! `docs/PROMISES.md`.
+//! has theorems about the definitions. `docs/PROMISES.md` says what is proved, and what is only tested.
 #![tactic(auto)]
 
 mod dtype;

@@ -37,8 +37,12 @@ impl MapDType {
     ghost use Rattle.dtype_types.specs.Nullable.{nullability, IsNullable};
     ghost use Rattle.dtype_types.specs.TreeOf.{tree, map_shown};
 
-    /// The type of a map with this key and value; whether its keys are sorted is kept and not checked.
-    /// Refuses 9 (MapKeyNullable) where the key's type is nullable, else 0 (OutOfMemory) alone.
+    /// Returns the type of a map with this key and value. Whether its keys are sorted is kept and not checked.
+    ///
+    /// # Errors
+    ///
+    /// - `MapKeyNullable` (9): the key's type is nullable.
+    /// - `OutOfMemory` (0): an allocation fails.
     pub fn try_new(alloc: Global, key: DType, value: DType, keys_sorted: bool) -> VortexResult<Self>
         ensures parts { MatchResult result
             (λ m. map_shown m ≡ (tree key, tree value, keys_sorted))
@@ -60,29 +64,32 @@ impl MapDType {
         })
     }
 
-    /// The type of the keys.
+    /// Returns the type of the keys.
     pub fn key_dtype(&self) -> &DType
         ensures { tree result.now ≡ (map_shown self.now).0 }
     {
         &self.shared.key
     }
 
-    /// The type of the values.
+    /// Returns the type of the values.
     pub fn value_dtype(&self) -> &DType
         ensures { tree result.now ≡ (map_shown self.now).1 }
     {
         &self.shared.value
     }
 
-    /// Whether the keys are sorted.
+    /// Returns whether the keys are sorted.
     pub fn keys_sorted(&self) -> bool
         ensures { result ≡ (map_shown self.now).2 }
     {
         self.shared.keys_sorted
     }
 
-    /// The type of the entries: the non-nullable struct of `key` and `value`. Refuses 0 (OutOfMemory)
-    /// alone.
+    /// Returns the type of the entries: the non-nullable struct of the fields `key` and `value`.
+    ///
+    /// # Errors
+    ///
+    /// - `OutOfMemory` (0): an allocation fails.
     pub fn entries_dtype(&self, alloc: Global) -> VortexResult<DType>
         ensures { MatchResult result
             (λ d. tree d ≡ entries_of (map_shown self.now).0 (map_shown self.now).1)
@@ -95,7 +102,7 @@ impl MapDType {
         Ok(DType::Struct(fields, Nullability::NonNullable))
     }
 
-    // Whether the parts of the two agree.
+    // Whether the parts of the two are equal under the rule.
     #[cycle(agree)]
     pub(crate) fn agree(&self, other: &MapDType, rule: Nullabilities) -> bool
         ensures { result ≡ (agree rule (map_shown self.now).0 (map_shown other.now).0
@@ -107,7 +114,7 @@ impl MapDType {
             && self.shared.keys_sorted == other.shared.keys_sorted
     }
 
-    // Feeds a hasher the key, the value, and whether the keys are sorted.
+    // Hashes the key, the value, and whether the keys are sorted.
     #[cycle(hash)]
     pub(crate) fn feed<H: Hasher>(&self, rule: Hashed, state: &mut H)
         ensures { state.new ≡ fold H.write state.old (map_writes rule self.now) }
@@ -117,7 +124,11 @@ impl MapDType {
         self.shared.keys_sorted.hash(state);
     }
 
-    /// A map type equal to this one, which shares its key and value. Refuses 0 (OutOfMemory) alone.
+    /// Returns a map type equal to this one, which shares its key and value (reference counted).
+    ///
+    /// # Errors
+    ///
+    /// - `OutOfMemory` (0): an allocation fails.
     pub fn try_clone(&self, _alloc: Global) -> VortexResult<Self>
         ensures { MatchResult result
             (λ m. map_shown m ≡ map_shown self.now) (λ e. e ≡ OutOfMemory) }
@@ -165,7 +176,7 @@ impl Hash for MapDType {
     }
 }
 
-/// `map(`, the key, the value, and whether the keys are sorted.
+/// Writes `map(`, the key, the value, and whether the keys are sorted.
 impl fmt::Display for MapDType {
     ghost use Rattle.dtype_types.specs.TextOf.{map_text};
 

@@ -13,8 +13,8 @@ use dtype_base::{FieldName, FieldNames, IndexedNames, VortexResult};
 use std::alloc::Global;
 use std::marker::Model;
 
-// Names and what they name, seen as pairs, so that a struct of types, which holds itself, has as many
-// names as types by its type. The file `specs/formers/named/Named` says how it holds them.
+// Names and what they name, in contracts a list of pairs. So a struct, which is on a cycle of types and can have no
+// invariant of its own, has as many names as types. The file `specs/formers/named/Named` says how it holds them.
 #[derive(Debug, Drop)]
 pub(crate) struct Named<T> {
     names: IndexedNames,
@@ -59,21 +59,21 @@ impl<T> Named<T> {
         &self.dtypes
     }
 
-    // How many there are.
+    // The number of names.
     pub(crate) fn len(&self) -> usize
         ensures { result ≡ length self.now }
     {
         self.dtypes.len()
     }
 
-    // The position of the first of the name, and how many names were compared for it.
+    // The position of the first of the name, and the number of names that were compared.
     pub(crate) fn find_counted(&self, name: &str) -> (Option<usize>, u64)
         ensures { result ≡ (first_place (firsts self.now) name.now, comparisons (length self.now)) }
     {
         self.names.find_counted(name)
     }
 
-    // These names with their index, each of which stands here, and the first position of each here.
+    // These names, all of which are here, with their index, and the first position of each here.
     pub(crate) fn select(
         &self,
         alloc: Global,
@@ -86,7 +86,7 @@ impl<T> Named<T> {
         self.names.select(alloc, asked)
     }
 
-    // Whether no name stands twice.
+    // Whether no name is there twice.
     pub(crate) fn are_distinct(&self) -> bool
         ensures { IsTrue result ↔ Distinct (firsts self.now) }
     {

@@ -24,8 +24,8 @@ use std::fmt;
 use std::hash::{Hash, Hasher};
 use std::rc::Rc;
 
-/// The fields of a struct in order, each a name and a type. Names may repeat, since the formats that types
-/// are read from let them: every access by name means the first.
+/// The fields of a struct in order, each a name and a type. Names may repeat, as they may in the formats that
+/// types are read from; every access by name means the first field of that name.
 ///
 /// Of the fields `int_col=i32?, int_col=i64?`, `field("int_col")` is `i32?` and `find` is 0; a projection to
 /// `int_col, int_col` has `i32?` twice.
@@ -50,14 +50,22 @@ impl StructFields {
     ghost use Rattle.dtype_types.specs.Valid.{Valid};
     ghost use Rattle.dtype_types.specs.Width.{MeasuresFields};
 
-    /// No fields. Refuses 0 (OutOfMemory) alone.
+    /// Returns a struct without fields.
+    ///
+    /// # Errors
+    ///
+    /// - `OutOfMemory` (0): an allocation fails.
     pub fn empty(alloc: Global) -> VortexResult<Self>
         ensures { MatchResult result (λ s. children s ≡ []) (λ e. e ≡ OutOfMemory) }
     {
         StructFields::new(alloc, FieldNames::empty(alloc), Vec::new(alloc))
     }
 
-    /// The fields of these names and types, as many names as types. Refuses 0 (OutOfMemory) alone.
+    /// Returns the struct of these names and types, in order. The condition is that there are as many names as types.
+    ///
+    /// # Errors
+    ///
+    /// - `OutOfMemory` (0): an allocation fails.
     pub fn new(alloc: Global, names: FieldNames, dtypes: Vec<DType>) -> VortexResult<Self>
         requires { length names ≡ vec_len dtypes }
         ensures fields { MatchResult result
@@ -69,7 +77,12 @@ impl StructFields {
         Ok(StructFields { shared })
     }
 
-    /// The fields of these names and types, as many names as types. Refuses 0 (OutOfMemory) alone.
+    /// Returns the struct of these names and the types of these fields, in order. The condition is that there are as
+    /// many names as types.
+    ///
+    /// # Errors
+    ///
+    /// - `OutOfMemory` (0): an allocation fails.
     pub fn from_fields(
         alloc: Global,
         names: FieldNames,
@@ -84,7 +97,11 @@ impl StructFields {
         StructFields::new(alloc, names, dtypes)
     }
 
-    /// The fields that an iterator gives, in order. Refuses 0 (OutOfMemory) alone.
+    /// Returns the struct of the fields that an iterator gives, in order.
+    ///
+    /// # Errors
+    ///
+    /// - `OutOfMemory` (0): an allocation fails.
     pub fn from_iter<I: IntoIterator<Item = (FieldName, FieldDType)>>(
         alloc: Global,
         fields: I,
@@ -106,7 +123,7 @@ impl StructFields {
         made.finish(alloc)
     }
 
-    /// The names, in order.
+    /// Returns the names, in order.
     pub fn names(&self) -> &FieldNames
         ensures { result.now ≡ field_names (children self.now) }
     {
@@ -120,7 +137,7 @@ impl StructFields {
         self.shared.dtypes()
     }
 
-    /// The fields, in order, each its name and its type, lent.
+    /// Returns an iterator over the fields in order: references to the name and the type of each.
     pub fn pairs(&self) -> FieldIter<'_>
         ensures lent { result ≡ struct_pairs self.now }
         ensures fits { length result < 2 ^ 64 }
@@ -128,21 +145,22 @@ impl StructFields {
         FieldIter::new(self.shared.names().as_slice(), self.shared.dtypes())
     }
 
-    /// How many fields there are.
+    /// Returns the number of fields.
     pub fn nfields(&self) -> usize
         ensures { result ≡ length (children self.now) }
     {
         self.shared.len()
     }
 
-    /// The name of the field at this position, or `None` at or past the end.
+    /// Returns the name of the field at this position, or `None` at or past the end.
     pub fn field_name(&self, index: usize) -> Option<&FieldName>
         ensures { option_copied result ≡ slice_get (field_names (children self.now)) index }
     {
         self.names().as_slice().get(index)
     }
 
-    /// The position of the first field of the name, or `None` where no field has it.
+    /// Returns the position of the first field of the name, or `None` where no field has it. It is a binary search
+    /// over an index of the names.
     pub fn find(&self, name: &str) -> Option<usize>
         ensures { result ≡ first_place (field_names (children self.now)) name.now }
     {
@@ -161,21 +179,21 @@ impl StructFields {
         self.shared.find_counted(name)
     }
 
-    /// The type of the first field of the name, or `None` where no field has it.
+    /// Returns the type of the first field of the name, or `None` where no field has it.
     pub fn field(&self, name: &str) -> Option<&DType>
         ensures { shown tree result ≡ first_named (children self.now) name.now }
     {
         self.field_by_index(self.find(name)?)
     }
 
-    /// The type of the field at this position, or `None` at or past the end.
+    /// Returns the type of the field at this position, or `None` at or past the end.
     pub fn field_by_index(&self, index: usize) -> Option<&DType>
         ensures { shown tree result ≡ slice_get (field_types (children self.now)) index }
     {
         self.dtypes().get(index)
     }
 
-    /// The types, in order, lent.
+    /// Returns an iterator over references to the types, in order.
     pub fn fields(&self) -> DTypeIter<'_>
         ensures all { map tree result ≡ field_types (children self.now) }
         ensures fits { length (map tree result) < 2 ^ 64 }
@@ -183,7 +201,7 @@ impl StructFields {
         DTypeIter::new(self.dtypes())
     }
 
-    /// The types, in order, lent: the same as `fields`.
+    /// Returns an iterator over references to the types, in order: the same as `fields`.
     pub fn field_dtypes(&self) -> DTypeIter<'_>
         ensures all { map tree result ≡ field_types (children self.now) }
         ensures fits { length (map tree result) < 2 ^ 64 }
@@ -191,7 +209,7 @@ impl StructFields {
         self.fields()
     }
 
-    /// Whether the fields are equal with every nullability in them ignored.
+    /// Returns whether the fields are equal when every nullability in them is ignored.
     pub fn eq_ignore_nullability(&self, other: &Self) -> bool
         ensures { IsTrue result
             ↔ (erase (struct_tree self.now) ≡ erase (struct_tree other.now)) }
@@ -199,7 +217,7 @@ impl StructFields {
         self.agree(other, Nullabilities::Ignored)
     }
 
-    // Whether the fields of the two agree, one by one.
+    // Whether the fields of the two are equal under the rule, one by one.
     #[cycle(agree)]
     pub(crate) fn agree(&self, other: &StructFields, rule: Nullabilities) -> bool
         ensures { result ≡ agree_fields rule (fields_of self.now) (fields_of other.now) }
@@ -234,7 +252,7 @@ impl StructFields {
         total
     }
 
-    // Feeds a hasher how many fields there are, and each field.
+    // Hashes the number of fields, and each field.
     #[cycle(hash)]
     pub(crate) fn feed<H: Hasher>(&self, rule: Hashed, state: &mut H)
         ensures { state.new ≡ fold H.write state.old (struct_writes rule self.now) }
@@ -246,9 +264,13 @@ impl StructFields {
         }
     }
 
-    /// The first field of each name asked, in the order asked, repeats kept. Refuses 16 (FieldNotFound)
-    /// at the first name that no field has, with its position in the projection, else 0 (OutOfMemory)
-    /// alone.
+    /// Returns the first field of each of these names, in their order, repeats kept.
+    ///
+    /// # Errors
+    ///
+    /// - `FieldNotFound` (16): no field has one of the names; with the position of the first such name in
+    ///   `projection`.
+    /// - `OutOfMemory` (0): an allocation fails.
     pub fn project(&self, alloc: Global, projection: &[FieldName]) -> VortexResult<Self>
         ensures fields { MatchResult result
             (λ s. Projects (children self.now) projection.now (children s))
@@ -282,8 +304,12 @@ impl StructFields {
         Ok(copies)
     }
 
-    /// The fields of the one followed by those of the other. Refuses 18 (DuplicateNames) where a name
-    /// stands twice among them, on one side alone too, else 0 (OutOfMemory) alone.
+    /// Returns the fields of this struct followed by those of the other.
+    ///
+    /// # Errors
+    ///
+    /// - `DuplicateNames` (18): a name is there twice, also within one of the two.
+    /// - `OutOfMemory` (0): an allocation fails.
     pub fn disjoint_merge(&self, alloc: Global, other: &Self) -> VortexResult<Self>
         ensures fields { MatchResult result
             (λ s. children s ≡ children self.now ++ children other.now)
@@ -304,7 +330,7 @@ impl StructFields {
         Ok(merged)
     }
 
-    // Puts copies of all fields behind those that are there.
+    // Appends copies of all fields to those that are there.
     fn push_copies(&self, alloc: Global, mut fields: FieldsBuilder) -> VortexResult<FieldsBuilder>
         ensures { MatchResult result
             (λ b. fields_so_far b ≡ fields_so_far fields ++ children self.now)
@@ -316,8 +342,12 @@ impl StructFields {
         Ok(fields)
     }
 
-    /// The fields but for that at this position. Refuses 17 (IndexOutOfBounds) at or past the end, with
-    /// the position and how many fields there are, else 0 (OutOfMemory) alone.
+    /// Returns the fields except the one at this position.
+    ///
+    /// # Errors
+    ///
+    /// - `IndexOutOfBounds` (17): the position is at or past the end; with the position and the number of fields.
+    /// - `OutOfMemory` (0): an allocation fails.
     pub fn without_field(&self, alloc: Global, index: usize) -> VortexResult<Self>
         ensures fields { MatchResult result
             (λ s. children s ≡ remove (children self.now) index)
@@ -338,8 +368,12 @@ impl StructFields {
         kept.finish(alloc)
     }
 
-    /// The fields over several lines, one a line, each two spaces deeper than the braces round it.
-    /// Refuses 0 (OutOfMemory) alone.
+    /// Returns the text of the fields over several lines, one field a line, indented by two spaces more than the
+    /// braces around it.
+    ///
+    /// # Errors
+    ///
+    /// - `OutOfMemory` (0): an allocation fails.
     pub fn indented(&self, alloc: Global) -> VortexResult<String>
         ensures { MatchResult result
             (λ s. string_bytes s ≡ indented_text (fields_of self.now)) (λ e. e ≡ OutOfMemory) }
@@ -349,7 +383,7 @@ impl StructFields {
         Ok(text)
     }
 
-    // The same behind what a text holds, where this stands before the closing brace.
+    // Appends the indented text; the closing brace is indented by `indent`.
     #[cycle(indented)]
     pub(crate) fn write_indented(
         &self,
@@ -376,7 +410,11 @@ impl StructFields {
         Ok(())
     }
 
-    /// Fields equal to these, which share them. Refuses 0 (OutOfMemory) alone.
+    /// Returns fields equal to these, which share them (reference counted).
+    ///
+    /// # Errors
+    ///
+    /// - `OutOfMemory` (0): an allocation fails.
     pub fn try_clone(&self, _alloc: Global) -> VortexResult<Self>
         ensures { MatchResult result
             (λ s. struct_pairs s ≡ struct_pairs self.now) (λ e. e ≡ OutOfMemory) }
@@ -423,7 +461,7 @@ impl Hash for StructFields {
     }
 }
 
-/// The fields in braces, each a name, `=` and a type.
+/// Writes the fields in braces, each a name, `=` and a type.
 impl fmt::Display for StructFields {
     ghost use Rattle.dtype_types.specs.TextOf.{struct_text};
 

@@ -7,8 +7,8 @@ ghost use Rattle.dtype_types.specs.Lists.{zip_three, names_of, types_of, tags_of
 use dtype_base::FieldNames;
 use std::marker::Model;
 
-// Names, what they name, and their tags, seen as triples, so that a union of types, which holds itself,
-// has as many of each by its type. The file `specs/formers/tagged/Tagged` says how it holds them.
+// Names, what they name, and their tags, in contracts a list of triples. So a union, which is on a cycle of types and can
+// have no invariant of its own, has as many of each. The file `specs/formers/tagged/Tagged` says how it holds them.
 #[derive(Debug, Drop)]
 pub(crate) struct Tagged<T> {
     names: FieldNames,
@@ -66,7 +66,7 @@ impl<T> Tagged<T> {
         &self.tags
     }
 
-    // How many there are.
+    // The number of names.
     pub(crate) fn len(&self) -> usize
         ensures { result ≡ length self.now }
     {

@@ -22,15 +22,15 @@ use std::rc::Rc;
 // How many tags there are.
 const MAX_VARIANTS: usize = 256;
 
-/// The variants of a union in order, each a name, a type and a tag. A stored value says its variant by the
-/// tag. Tags needn't be 0, 1, 2 and so on, so that a schema can drop a variant and the others keep theirs.
+/// The variants of a union in order, each a name, a type and a tag. A stored value names its variant by the tag.
+/// Tags needn't be 0, 1, 2 and so on, so that a schema can drop a variant while the others keep their tags.
 #[derive(Debug, Drop)]
 #[cycle(dtype)]
 pub struct UnionVariants {
     shared: Rc<Tagged<DType>>,
 }
 
-// Whether two of the items are equal.
+// Whether two of the items are equal. Hashing finds that in linear time.
 fn has_repeats<T: Eq + Hash>(alloc: Global, items: &[T]) -> VortexResult<bool>
     ensures { MatchResult result
         (λ b. (b ≡ false) ↔ IsDistinct T.eq items.now) (λ e. e ≡ OutOfMemory) }
@@ -39,9 +39,8 @@ fn has_repeats<T: Eq + Hash>(alloc: Global, items: &[T]) -> VortexResult<bool>
     Ok(distinct.len() < items.len())
 }
 
-// Refuses names, types and tags that make no union: 10 (UnionTypesLength), 11 (UnionTagsLength), 12
-// (UnionEmpty), 13 (UnionTagsRepeat), 15 (UnionNamesRepeat), the first that applies, or 0
-// (OutOfMemory), which comes of the search for repeats.
+// Returns an error where names, types and tags make no union: the errors of `try_new`, in its order. The search for
+// repeats is what allocates.
 fn validate_shape(
     alloc: Global,
     names: &FieldNames,
@@ -90,11 +89,21 @@ impl UnionVariants {
     ghost use Rattle.dtype_types.specs.TreeOf.{tree, variants_of, choices, union_dtypes, union_triples, zip_tagged, shown, union_tree};
     ghost use Rattle.dtype_types.specs.Valid.{Valid};
 
-    /// The union of these names, types and tags. Refuses, the first that applies: 10
-    /// (UnionTypesLength) where there are more or fewer types than names, 11 (UnionTagsLength) where
-    /// there are more or fewer tags than names, 12 (UnionEmpty) where there are none, 13
-    /// (UnionTagsRepeat) where a tag stands twice, 15 (UnionNamesRepeat) where a name stands twice; or
-    /// 0 (OutOfMemory), once the lengths are right.
+    /// Returns the union of these names, types and tags.
+    ///
+    /// # Errors
+    ///
+    /// The first that applies:
+    ///
+    /// - `UnionTypesLength` (10): there are more or fewer types than names.
+    /// - `UnionTagsLength` (11): there are more or fewer tags than names.
+    /// - `UnionEmpty` (12): there are none.
+    /// - `UnionTagsRepeat` (13): a tag is there twice.
+    /// - `UnionNamesRepeat` (15): a name is there twice.
+    ///
+    /// And once the lengths are right:
+    ///
+    /// - `OutOfMemory` (0): an allocation fails.
     pub fn try_new(
         alloc: Global,
         names: FieldNames,
@@ -115,8 +124,12 @@ impl UnionVariants {
         Ok(UnionVariants { shared })
     }
 
-    /// The union of these names and types, with the tags 0, 1, 2 and so on. Refuses 14 (UnionTooMany)
-    /// where there are more than 256 names, else as `try_new` does with those tags.
+    /// Returns the union of these names and types, with the tags 0, 1, 2 and so on.
+    ///
+    /// # Errors
+    ///
+    /// - `UnionTooMany` (14): there are more than 256 names. This is tested first.
+    /// - Those of `try_new` with these tags.
     pub fn new(alloc: Global, names: FieldNames, dtypes: Vec<DType>) -> VortexResult<Self>
         ensures variants { IfOk result (λ u. choices u
             ≡ zip_tagged names (map tree dtypes.items) (range_with_len 0 (length names))) }
@@ -135,7 +148,7 @@ impl UnionVariants {
         UnionVariants::try_new(alloc, names, dtypes, type_ids)
     }
 
-    /// The names, in order.
+    /// Returns the names, in order.
     pub fn names(&self) -> &FieldNames
         ensures { result.now ≡ variant_names (choices self.now) }
     {
@@ -149,7 +162,7 @@ impl UnionVariants {
         self.shared.dtypes()
     }
 
-    /// The variants, in order, each its name, its tag and its type, lent.
+    /// Returns an iterator over the variants in order: the name, the tag and the type of each.
     pub fn triples(&self) -> VariantIter<'_>
         ensures lent { result ≡ union_triples self.now }
         ensures fits { length result < 2 ^ 64 }
@@ -161,49 +174,49 @@ impl UnionVariants {
         )
     }
 
-    /// How many variants there are.
+    /// Returns the number of variants.
     pub fn len(&self) -> usize
         ensures { result ≡ length (choices self.now) }
     {
         self.shared.len()
     }
 
-    /// Whether there are no variants. `try_new` and `new` make no such union.
+    /// Returns whether there are no variants. `try_new` and `new` make no such union.
     pub fn is_empty(&self) -> bool
         ensures { IsTrue result ↔ (choices self.now ≡ []) }
     {
         self.len() == 0
     }
 
-    /// The tags, in order of the variants.
+    /// Returns the tags, in order of the variants.
     pub fn type_ids(&self) -> &[u8]
         ensures { result.now ≡ variant_tags (choices self.now) }
     {
         self.shared.tags()
     }
 
-    /// The position of the variant of the name, or `None` where no variant has it.
+    /// Returns the position of the variant of the name, or `None` where no variant has it.
     pub fn find(&self, name: &str) -> Option<usize>
         ensures { result ≡ first_place (variant_names (choices self.now)) name.now }
     {
         self.names().find(name)
     }
 
-    /// The type of the variant of the name, or `None` where no variant has it.
+    /// Returns the type of the variant of the name, or `None` where no variant has it.
     pub fn variant(&self, name: &str) -> Option<&DType>
         ensures { shown tree result ≡ variant_named (choices self.now) name.now }
     {
         self.variant_by_index(self.find(name)?)
     }
 
-    /// The type of the variant at this position, or `None` at or past the end.
+    /// Returns the type of the variant at this position, or `None` at or past the end.
     pub fn variant_by_index(&self, index: usize) -> Option<&DType>
         ensures { shown tree result ≡ slice_get (variant_types (choices self.now)) index }
     {
         self.dtypes().get(index)
     }
 
-    /// The types of the variants, in order.
+    /// Returns an iterator over the types of the variants, in order.
     pub fn variants(&self) -> DTypeIter<'_>
         ensures all { map tree result ≡ variant_types (choices self.now) }
         ensures fits { length (map tree result) < 2 ^ 64 }
@@ -211,14 +224,14 @@ impl UnionVariants {
         DTypeIter::new(self.dtypes())
     }
 
-    /// The position of the variant with this tag, or `None` where no variant has it.
+    /// Returns the position of the variant with this tag, or `None` where no variant has it.
     pub fn tag_to_child_index(&self, tag: u8) -> Option<usize>
         ensures { result ≡ position (λ t. t == tag) (variant_tags (choices self.now)) }
     {
         self.type_ids().iter().position(|t| *t == tag)
     }
 
-    /// The tag of the variant at this position, which there is.
+    /// Returns the tag of the variant at this position. The condition is that the position is below `len`.
     pub fn child_index_to_tag(&self, index: usize) -> u8
         requires { index < length (variant_tags (choices self.now)) }
         ensures at { slice_get (variant_tags (choices self.now)) index ≡ Some result }
@@ -228,7 +241,7 @@ impl UnionVariants {
         self.type_ids()[index]
     }
 
-    // Whether the variants of the two agree, one by one.
+    // Whether the variants of the two are equal under the rule, one by one.
     #[cycle(agree)]
     pub(crate) fn agree(&self, other: &UnionVariants, rule: Nullabilities) -> bool
         ensures { result ≡ agree_variants rule (variants_of self.now) (variants_of other.now) }
@@ -254,7 +267,7 @@ impl UnionVariants {
         true
     }
 
-    /// Whether the variants are equal with every nullability in them ignored. Names and tags count.
+    /// Returns whether the variants are equal when every nullability in them is ignored. Names and tags count.
     pub fn eq_ignore_nullability(&self, other: &UnionVariants) -> bool
         ensures { IsTrue result
             ↔ (erase (union_tree self.now) ≡ erase (union_tree other.now)) }
@@ -262,7 +275,7 @@ impl UnionVariants {
         self.agree(other, Nullabilities::Ignored)
     }
 
-    // Feeds a hasher how many variants there are, and each variant.
+    // Hashes the number of variants, and each variant.
     #[cycle(hash)]
     pub(crate) fn feed<H: Hasher>(&self, rule: Hashed, state: &mut H)
         ensures { state.new ≡ fold H.write state.old (union_writes rule self.now) }
@@ -275,7 +288,11 @@ impl UnionVariants {
         }
     }
 
-    /// Variants equal to these, which share them. Refuses 0 (OutOfMemory) alone.
+    /// Returns variants equal to these, which share them (reference counted).
+    ///
+    /// # Errors
+    ///
+    /// - `OutOfMemory` (0): an allocation fails.
     pub fn try_clone(&self, _alloc: Global) -> VortexResult<Self>
         ensures { MatchResult result
             (λ u. union_triples u ≡ union_triples self.now) (λ e. e ≡ OutOfMemory) }
@@ -284,7 +301,7 @@ impl UnionVariants {
         Ok(UnionVariants { shared })
     }
 
-    /// Whether the tags are 0, 1, 2 and so on.
+    /// Returns whether the tags are 0, 1, 2 and so on.
     pub fn is_consecutive(&self) -> bool
         ensures { IsTrue result ↔ AreConsecutive (variant_tags (choices self.now)) }
     {
@@ -336,8 +353,8 @@ impl Hash for UnionVariants {
     }
 }
 
-/// The variants, each a name, `=` and a type, with `@` and the tag between where the tags aren't 0, 1,
-/// 2 and so on.
+/// Writes the variants, each a name, `=` and a type, with `@` and the tag after the name where the tags aren't 0, 1, 2
+/// and so on.
 impl fmt::Display for UnionVariants {
     ghost use Rattle.dtype_types.specs.TextOf.{union_text};
 

@@ -1,8 +1,8 @@
 -- SPDX-License-Identifier: Apache-2.0
 -- SPDX-FileCopyrightText: Copyright the Vortex contributors
 
--- The test that `==` of a struct's fields, a union's variants, a map, an extension and a field's type is holds exactly
--- where the two are equal. The clause of each `==` says so; where `==` is derived over one of these, a caller has it by
+-- `==` of a struct's fields, a union's variants, a map, an extension and a field's type holds exactly where the two are
+-- equal. The clause of each says so. Where a type that holds one of these derives `==`, a caller has it by
 --     #![tactic(auto, using(dtype_types::specs::lemmas::Equality::equality))]
 use Rattle.std.specs.Prelude.{◌≡◌}
 use Rattle.std.specs.Bool.{Decides}

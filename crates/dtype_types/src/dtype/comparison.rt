@@ -10,16 +10,16 @@ use crate::DType;
 use crate::dtype::equality::{Nullabilities, agree};
 
 impl DType {
-    /// Whether the types are equal but for nullabilities, and the other is nullable wherever this one is,
-    /// at every depth. Then each value of this type is a value of the other. Takes no memory.
+    /// Returns whether the types are equal except for nullabilities, and the other is nullable wherever this one is, at
+    /// every depth. Then each value of this type is a value of the other. Doesn't allocate.
     pub fn eq_with_nullability_subset(&self, other: &DType) -> bool
         ensures { IsTrue result ↔ Sub (tree self.now) (tree other.now) }
     {
         agree(self, other, Nullabilities::Within)
     }
 
-    /// Whether the types are equal but for nullabilities, and this one is nullable wherever the other is,
-    /// at every depth: the subset comparison the other way round. Takes no memory.
+    /// Returns whether the types are equal except for nullabilities, and this one is nullable wherever the other is, at
+    /// every depth: the subset comparison with the two exchanged. Doesn't allocate.
     pub fn eq_with_nullability_superset(&self, other: &DType) -> bool
         ensures { IsTrue result ↔ Sub (tree other.now) (tree self.now) }
     {

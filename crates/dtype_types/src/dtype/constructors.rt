@@ -16,14 +16,22 @@ use dtype_base::{FieldName, Nullability, VortexResult};
 use std::alloc::Global;
 
 impl DType {
-    /// Lists of this element. Refuses 0 (OutOfMemory) alone.
+    /// Returns the type of lists of this element type.
+    ///
+    /// # Errors
+    ///
+    /// - `OutOfMemory` (0): an allocation fails.
     pub fn list(alloc: Global, element: DType, n: Nullability) -> VortexResult<DType>
         ensures { MatchResult result (λ d. tree d ≡ list (tree element) n) (λ e. e ≡ OutOfMemory) }
     {
         Ok(DType::List(Box::new(alloc, element)?, n))
     }
 
-    /// Lists of so many of this element. Refuses 0 (OutOfMemory) alone.
+    /// Returns the type of lists of exactly `size` elements of this type.
+    ///
+    /// # Errors
+    ///
+    /// - `OutOfMemory` (0): an allocation fails.
     pub fn fixed_size_list(
         alloc: Global,
         element: DType,
@@ -36,8 +44,12 @@ impl DType {
         Ok(DType::FixedSizeList(Box::new(alloc, element)?, size, n))
     }
 
-    /// Maps of this key and value; whether the keys are sorted is kept and not checked. Refuses 9
-    /// (MapKeyNullable) where the key's type is nullable, else 0 (OutOfMemory) alone.
+    /// Returns the type of maps of this key and value. Whether the keys are sorted is kept and not checked.
+    ///
+    /// # Errors
+    ///
+    /// - `MapKeyNullable` (9): the key's type is nullable.
+    /// - `OutOfMemory` (0): an allocation fails.
     pub fn map(
         alloc: Global,
         key: DType,
@@ -56,7 +68,11 @@ impl DType {
         Ok(DType::Map(map, n))
     }
 
-    /// The struct of the fields that an iterator gives, in order. Refuses 0 (OutOfMemory) alone.
+    /// Returns the struct type of the fields that an iterator gives, in order.
+    ///
+    /// # Errors
+    ///
+    /// - `OutOfMemory` (0): an allocation fails.
     pub fn struct_<I: IntoIterator<Item = (FieldName, FieldDType)>>(
         alloc: Global,
         fields: I,

@@ -15,11 +15,11 @@ use crate::DType;
 use dtype_base::{DecimalDType, Nullability, PType, VortexError, VortexResult};
 
 impl DType {
-    /// Bytes: the non-nullable `U8`.
+    /// The type of a byte: the non-nullable `U8`.
     pub const BYTES: DType = DType::Primitive(PType::U8, Nullability::NonNullable);
 }
 
-/// The non-nullable primitive of that name.
+/// Returns the non-nullable primitive type of this name.
 impl From<PType> for DType {
     ghost from_gives = { λ ptype d. (tree d ≡ primitive ptype NonNullable) × Valid (tree d) };
 
@@ -28,7 +28,11 @@ impl From<PType> for DType {
     }
 }
 
-/// The name of a `Primitive`. Refuses 6 (NotPrimitive) for every other kind.
+/// Returns the name of a `Primitive`.
+///
+/// # Errors
+///
+/// - `NotPrimitive` (6): the type is of another kind.
 impl TryFrom<&DType> for PType {
     type Error = VortexError;
 
@@ -39,7 +43,11 @@ impl TryFrom<&DType> for PType {
     }
 }
 
-/// The precision and scale of a `Decimal`. Refuses 5 (NotDecimal) for every other kind.
+/// Returns the precision and scale of a `Decimal`.
+///
+/// # Errors
+///
+/// - `NotDecimal` (5): the type is of another kind.
 impl TryFrom<&DType> for DecimalDType {
     type Error = VortexError;
 
@@ -53,7 +61,11 @@ impl TryFrom<&DType> for DecimalDType {
     }
 }
 
-/// The precision and scale of a `Decimal`. Refuses 5 (NotDecimal) for every other kind.
+/// Returns the precision and scale of a `Decimal`.
+///
+/// # Errors
+///
+/// - `NotDecimal` (5): the type is of another kind.
 impl TryFrom<DType> for DecimalDType {
     type Error = VortexError;
 

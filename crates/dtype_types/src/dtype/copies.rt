@@ -1,7 +1,7 @@
 // SPDX-License-Identifier: Apache-2.0
 // SPDX-FileCopyrightText: Copyright the Vortex contributors
 
-// Copies of types: each takes memory for its boxes, and shares what its structs, unions and maps hold.
+// Copies of types: each allocates its boxes, and shares what its structs, unions and maps hold.
 #![tactic(auto, using(crate::proofs::SameParts::same_parts))]
 
 ghost use Rattle.std.specs.Prelude.{◌≡◌, MatchResult};
@@ -13,7 +13,11 @@ use dtype_base::VortexResult;
 use std::alloc::Global;
 
 impl DType {
-    /// A type equal to this one. Refuses 0 (OutOfMemory) alone.
+    /// Returns a type equal to this one. It shares what structs, unions and maps in it hold (reference counted).
+    ///
+    /// # Errors
+    ///
+    /// - `OutOfMemory` (0): an allocation fails.
     #[cycle(copy)]
     pub fn try_clone(&self, alloc: Global) -> VortexResult<DType>
         ensures { MatchResult result (λ d. tree d ≡ tree self.now) (λ e. e ≡ OutOfMemory) }

@@ -13,7 +13,7 @@ ghost use Rattle.dtype_types.specs.TreeOf.{tree};
 use crate::DType;
 use dtype_base::Nullability;
 
-// How the nullabilities at the same place of two types have to stand to one another.
+// What is asked of the nullabilities at the same node of two types.
 #[derive(Clone, Copy)]
 pub(crate) enum Nullabilities {
     Compared,
@@ -23,7 +23,7 @@ pub(crate) enum Nullabilities {
 }
 
 impl Nullabilities {
-    // Whether these two may stand at the same place of two types that agree.
+    // Whether the rule allows these nullabilities at the same node of two types.
     pub(crate) fn allow(self, one: Nullability, other: Nullability) -> bool
         ensures { result ≡ allows self one other }
     {
@@ -35,7 +35,7 @@ impl Nullabilities {
     }
 }
 
-// Whether the types are equal but for nullabilities, and those stand to one another as the rule says.
+// Whether the types are equal except for nullabilities, and the rule allows those.
 #[cycle(agree)]
 pub(crate) fn agree(a: &DType, b: &DType, rule: Nullabilities) -> bool
     ensures { result ≡ agree rule (tree a.now) (tree b.now) }
@@ -63,7 +63,7 @@ pub(crate) fn agree(a: &DType, b: &DType, rule: Nullabilities) -> bool
 }
 
 impl DType {
-    /// Whether the types are equal with every nullability in them ignored. Names, tags, sizes,
+    /// Returns whether the types are equal when every nullability in them is ignored. Names, tags, sizes,
     /// `keys_sorted`, decimals, ids and metadata count.
     pub fn eq_ignore_nullability(&self, other: &DType) -> bool
         ensures { IsTrue result ↔ (erase (tree self.now) ≡ erase (tree other.now)) }

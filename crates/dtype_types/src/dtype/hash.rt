@@ -1,7 +1,7 @@
 // SPDX-License-Identifier: Apache-2.0
 // SPDX-FileCopyrightText: Copyright the Vortex contributors
 
-// Hashes of types: one walk that feeds a hasher, with the nullabilities or without them.
+// Hashes of types: one walk, with the nullabilities or without them.
 ghost use Rattle.std.specs.Prelude.{◌≡◌, ◌<◌, fold};
 ghost use Rattle.dtype_types.specs.Hashes.{hash_of, head_writes, hash_writes_ignoring_nullability};
 ghost use Rattle.dtype_types.specs.TreeOf.{tree};
@@ -10,7 +10,7 @@ use crate::{DType, Kind};
 use dtype_base::Nullability;
 use std::hash::{Hash, Hasher};
 
-// What of a type a hasher is fed: all of it, or the type with every nullability forgotten.
+// What of a type is hashed: all of it, or the type without its nullabilities.
 #[derive(Clone, Copy)]
 pub(crate) enum Hashed {
     Whole,
@@ -18,7 +18,7 @@ pub(crate) enum Hashed {
 }
 
 impl Hashed {
-    // Feeds a hasher the number of what a type is, and its nullability where nullabilities count, in one byte.
+    // Hashes in one byte the number of a type's kind, and its nullability where nullabilities count.
     fn feed_head<H: Hasher>(self, number: u8, nullability: Nullability, state: &mut H)
         requires { number < 128 }
         ensures { state.new ≡ fold H.write state.old (head_writes self number nullability) }
@@ -31,7 +31,7 @@ impl Hashed {
     }
 }
 
-// Feeds a hasher the type.
+// Hashes the type.
 #[cycle(hash)]
 pub(crate) fn feed<H: Hasher>(dtype: &DType, rule: Hashed, state: &mut H)
     ensures { state.new ≡ fold H.write state.old (hash_of rule (tree dtype.now)) }
@@ -80,8 +80,8 @@ pub(crate) fn feed<H: Hasher>(dtype: &DType, rule: Hashed, state: &mut H)
 }
 
 impl DType {
-    /// Feeds a hasher the type with every nullability in it left out. Types that are equal ignoring
-    /// nullability feed alike.
+    /// Hashes the type without the nullabilities in it. Types that are equal ignoring nullability write the same to the
+    /// hasher.
     pub fn hash_ignore_nullability<H: Hasher>(&self, state: &mut H)
         ensures { state.new ≡ fold H.write state.old (hash_writes_ignoring_nullability (tree self.now)) }
     {

@@ -1,7 +1,7 @@
 // SPDX-License-Identifier: Apache-2.0
 // SPDX-FileCopyrightText: Copyright the Vortex contributors
 
-// The indented text of a type, written behind what a text holds.
+// The indented text of a type, appended to a text.
 ghost use Rattle.std.specs.Prelude.{◌≡◌, ◌++◌, OnOk, IsOkUnless, codes, string_bytes};
 ghost use Rattle.dtype_base.specs.Escapes.{escaped};
 ghost use Rattle.dtype_base.specs.declared.vortex_error.VortexError.TheVariants.{OutOfMemory};
@@ -12,7 +12,7 @@ use crate::DType;
 use dtype_base::{FieldName, VortexResult};
 use std::alloc::Global;
 
-// What stands before a field's type, written behind what a text holds.
+// Appends what comes before a field's type: the separator, the indentation, the name and `=`.
 pub(crate) fn start_field(
     out: &mut String,
     separator: &str,
@@ -28,7 +28,7 @@ pub(crate) fn start_field(
 }
 
 impl DType {
-    // A struct over several lines, a list with its element so, every other type on one line.
+    // Appends a struct over several lines, a list with its element so, and every other type on one line.
     #[cycle(indented)]
     pub(crate) fn write_indented(
         &self,

@@ -14,8 +14,8 @@ ghost use Rattle.dtype_types.specs.TreeOf.{tree, children, choices, map_shown, s
 use crate::{DType, ExtDTypeRef, MapDType, StructFields, UnionVariants};
 use dtype_base::{DecimalDType, PType};
 
-/// The kinds of a type, one for each variant of `DType`. The conditions of `as_struct_fields` and the like
-/// name them.
+/// The kinds of a type, one for each variant of `DType`. `as_struct_fields` and other calls that want one kind name it in
+/// their conditions.
 #[derive(Clone, Copy, Debug, PartialEq, Eq)]
 pub enum Kind {
     Null,
@@ -43,7 +43,7 @@ impl Kind {
 }
 
 impl DType {
-    /// The outermost variant.
+    /// Returns the outermost variant.
     pub fn kind(&self) -> Kind
         ensures { result ≡ kind (tree self.now) }
     {
@@ -64,119 +64,119 @@ impl DType {
         }
     }
 
-    /// Whether this is `Bool`.
+    /// Returns whether this is `Bool`.
     pub fn is_boolean(&self) -> bool
         ensures { IsTrue result ↔ (kind (tree self.now) ≡ Kind.Bool) }
     {
         self.kind() == Kind::Bool
     }
 
-    /// Whether this is `Primitive`.
+    /// Returns whether this is `Primitive`.
     pub fn is_primitive(&self) -> bool
         ensures { IsTrue result ↔ (kind (tree self.now) ≡ Kind.Primitive) }
     {
         self.kind() == Kind::Primitive
     }
 
-    /// Whether this is `Decimal`.
+    /// Returns whether this is `Decimal`.
     pub fn is_decimal(&self) -> bool
         ensures { IsTrue result ↔ (kind (tree self.now) ≡ Kind.Decimal) }
     {
         self.kind() == Kind::Decimal
     }
 
-    /// Whether this is `Utf8`.
+    /// Returns whether this is `Utf8`.
     pub fn is_utf8(&self) -> bool
         ensures { IsTrue result ↔ (kind (tree self.now) ≡ Kind.Utf8) }
     {
         self.kind() == Kind::Utf8
     }
 
-    /// Whether this is `Binary`.
+    /// Returns whether this is `Binary`.
     pub fn is_binary(&self) -> bool
         ensures { IsTrue result ↔ (kind (tree self.now) ≡ Kind.Binary) }
     {
         self.kind() == Kind::Binary
     }
 
-    /// Whether this is `List`.
+    /// Returns whether this is `List`.
     pub fn is_list(&self) -> bool
         ensures { IsTrue result ↔ (kind (tree self.now) ≡ Kind.List) }
     {
         self.kind() == Kind::List
     }
 
-    /// Whether this is `FixedSizeList`.
+    /// Returns whether this is `FixedSizeList`.
     pub fn is_fixed_size_list(&self) -> bool
         ensures { IsTrue result ↔ (kind (tree self.now) ≡ Kind.FixedSizeList) }
     {
         self.kind() == Kind::FixedSizeList
     }
 
-    /// Whether this is `Map`.
+    /// Returns whether this is `Map`.
     pub fn is_map(&self) -> bool
         ensures { IsTrue result ↔ (kind (tree self.now) ≡ Kind.Map) }
     {
         self.kind() == Kind::Map
     }
 
-    /// Whether this is `Struct`.
+    /// Returns whether this is `Struct`.
     pub fn is_struct(&self) -> bool
         ensures { IsTrue result ↔ (kind (tree self.now) ≡ Kind.Struct) }
     {
         self.kind() == Kind::Struct
     }
 
-    /// Whether this is `Union`.
+    /// Returns whether this is `Union`.
     pub fn is_union(&self) -> bool
         ensures { IsTrue result ↔ (kind (tree self.now) ≡ Kind.Union) }
     {
         self.kind() == Kind::Union
     }
 
-    /// Whether this is `Variant`.
+    /// Returns whether this is `Variant`.
     pub fn is_variant(&self) -> bool
         ensures { IsTrue result ↔ (kind (tree self.now) ≡ Kind.Variant) }
     {
         self.kind() == Kind::Variant
     }
 
-    /// Whether this is `Extension`, whatever its storage.
+    /// Returns whether this is `Extension`, whatever its storage.
     pub fn is_extension(&self) -> bool
         ensures { IsTrue result ↔ (kind (tree self.now) ≡ Kind.Extension) }
     {
         self.kind() == Kind::Extension
     }
 
-    /// Whether this is a `Primitive` whose name is an unsigned integer's.
+    /// Returns whether this is a `Primitive` whose name is an unsigned integer's.
     pub fn is_unsigned_int(&self) -> bool
         ensures { IsTrue result ↔ IsSomeAnd (primitive_name (tree self.now)) IsUnsigned }
     {
         self.ptype().is_some_and(|ptype| ptype.is_unsigned_int())
     }
 
-    /// Whether this is a `Primitive` whose name is a signed integer's.
+    /// Returns whether this is a `Primitive` whose name is a signed integer's.
     pub fn is_signed_int(&self) -> bool
         ensures { IsTrue result ↔ IsSomeAnd (primitive_name (tree self.now)) IsSigned }
     {
         self.ptype().is_some_and(|ptype| ptype.is_signed_int())
     }
 
-    /// Whether this is a `Primitive` whose name is an integer's.
+    /// Returns whether this is a `Primitive` whose name is an integer's.
     pub fn is_int(&self) -> bool
         ensures { IsTrue result ↔ IsSomeAnd (primitive_name (tree self.now)) IsInteger }
     {
         self.ptype().is_some_and(|ptype| ptype.is_int())
     }
 
-    /// Whether this is a `Primitive` whose name is a floating-point number's.
+    /// Returns whether this is a `Primitive` whose name is a floating-point number's.
     pub fn is_float(&self) -> bool
         ensures { IsTrue result ↔ IsSomeAnd (primitive_name (tree self.now)) IsFloat }
     {
         self.ptype().is_some_and(|ptype| ptype.is_float())
     }
 
-    /// Whether this is `List`, `FixedSizeList`, `Map`, `Struct`, `Union`, `Variant`, or an extension over
+    /// Returns whether this is `List`, `FixedSizeList`, `Map`, `Struct`, `Union`, `Variant`, or an extension over
     /// one of these.
     #[cycle(nested)]
     pub fn is_nested(&self) -> bool
@@ -209,7 +209,7 @@ impl DType {
         }
     }
 
-    /// The name of the primitive type that this is.
+    /// Returns the name of this primitive type. The condition is that it is a `Primitive`.
     pub fn as_ptype(&self) -> PType
         requires { kind (tree self.now) ≡ Kind.Primitive }
         ensures { primitive_name (tree self.now) ≡ Some result }
@@ -220,7 +220,7 @@ impl DType {
         }
     }
 
-    /// The precision and scale of a `Decimal`, else `None`.
+    /// Returns the precision and scale of a `Decimal`, else `None`.
     pub fn as_decimal_opt(&self) -> Option<&DecimalDType>
         ensures { option_copied result ≡ decimal_of (tree self.now) }
     {
@@ -230,7 +230,7 @@ impl DType {
         }
     }
 
-    /// The element of a `List`, else `None`.
+    /// Returns the element of a `List`, else `None`.
     pub fn as_list_element_opt(&self) -> Option<&DType>
         ensures { shown tree result ≡ list_element (tree self.now) }
     {
@@ -240,7 +240,7 @@ impl DType {
         }
     }
 
-    /// The element of a `FixedSizeList`, else `None`.
+    /// Returns the element of a `FixedSizeList`, else `None`.
     pub fn as_fixed_size_list_element_opt(&self) -> Option<&DType>
         ensures { shown tree result ≡ fixed_size_list_element (tree self.now) }
     {
@@ -250,7 +250,7 @@ impl DType {
         }
     }
 
-    /// The element of a `List` or of a `FixedSizeList`, else `None`.
+    /// Returns the element of a `List` or of a `FixedSizeList`, else `None`.
     pub fn as_any_size_list_element_opt(&self) -> Option<&DType>
         ensures { shown tree result ≡ any_size_list_element (tree self.now) }
     {
@@ -260,7 +260,7 @@ impl DType {
         }
     }
 
-    /// What a `Map` holds, else `None`.
+    /// Returns what a `Map` holds, else `None`.
     pub fn as_map_opt(&self) -> Option<&MapDType>
         ensures { shown map_shown result ≡ map_parts (tree self.now) }
     {
@@ -270,7 +270,7 @@ impl DType {
         }
     }
 
-    /// The fields of a `Struct`, else `None`.
+    /// Returns the fields of a `Struct`, else `None`.
     pub fn as_struct_fields_opt(&self) -> Option<&StructFields>
         ensures { shown children result ≡ struct_fields (tree self.now) }
     {
@@ -280,7 +280,7 @@ impl DType {
         }
     }
 
-    /// The variants of a `Union`, else `None`.
+    /// Returns the variants of a `Union`, else `None`.
     pub fn as_union_variants_opt(&self) -> Option<&UnionVariants>
         ensures { shown choices result ≡ union_variants (tree self.now) }
     {
@@ -290,7 +290,7 @@ impl DType {
         }
     }
 
-    /// The extension that this is, else `None`.
+    /// Returns the extension of an `Extension`, else `None`.
     pub fn as_extension_opt(&self) -> Option<&ExtDTypeRef>
         ensures { shown (λ e. (extension_id e, extension_metadata e, storage_tree e)) result
             ≡ extension_parts (tree self.now) }
@@ -301,7 +301,7 @@ impl DType {
         }
     }
 
-    /// The precision and scale of a `Decimal`, else `None`.
+    /// Consumes the type and returns the precision and scale of a `Decimal`, else `None`.
     pub fn into_decimal_opt(self) -> Option<DecimalDType>
         ensures { result ≡ decimal_of (tree self) }
     {
@@ -311,7 +311,7 @@ impl DType {
         }
     }
 
-    /// The element of a `List`, given up, else `None`.
+    /// Consumes the type and returns the element of a `List`, else `None`.
     pub fn into_list_element_opt(self) -> Option<Box<DType>>
         ensures { option_map (λ b. tree b.value) result ≡ list_element (tree self) }
     {
@@ -321,7 +321,7 @@ impl DType {
         }
     }
 
-    /// The element of a `FixedSizeList`, given up, else `None`.
+    /// Consumes the type and returns the element of a `FixedSizeList`, else `None`.
     pub fn into_fixed_size_list_element_opt(self) -> Option<Box<DType>>
         ensures { option_map (λ b. tree b.value) result ≡ fixed_size_list_element (tree self) }
     {
@@ -331,7 +331,7 @@ impl DType {
         }
     }
 
-    /// The element of a `List` or of a `FixedSizeList`, given up, else `None`.
+    /// Consumes the type and returns the element of a `List` or of a `FixedSizeList`, else `None`.
     pub fn into_any_size_list_element_opt(self) -> Option<Box<DType>>
         ensures { option_map (λ b. tree b.value) result ≡ any_size_list_element (tree self) }
     {
@@ -341,7 +341,7 @@ impl DType {
         }
     }
 
-    /// What a `Map` holds, given up, else `None`.
+    /// Consumes the type and returns what a `Map` holds, else `None`.
     pub fn into_map_opt(self) -> Option<MapDType>
         ensures { option_map map_shown result ≡ map_parts (tree self) }
     {
@@ -351,7 +351,7 @@ impl DType {
         }
     }
 
-    /// The fields of a `Struct`, given up, else `None`.
+    /// Consumes the type and returns the fields of a `Struct`, else `None`.
     pub fn into_struct_fields_opt(self) -> Option<StructFields>
         ensures { option_map children result ≡ struct_fields (tree self) }
     {
@@ -361,7 +361,7 @@ impl DType {
         }
     }
 
-    /// The variants of a `Union`, given up, else `None`.
+    /// Consumes the type and returns the variants of a `Union`, else `None`.
     pub fn into_union_variants_opt(self) -> Option<UnionVariants>
         ensures { option_map choices result ≡ union_variants (tree self) }
     {
@@ -371,7 +371,7 @@ impl DType {
         }
     }
 
-    /// The fields of the struct that this is.
+    /// Returns the fields of this struct type. The condition is that it is a `Struct`.
     pub fn as_struct_fields(&self) -> &StructFields
         requires { kind (tree self.now) ≡ Kind.Struct }
         ensures { struct_fields (tree self.now) ≡ Some (children result.now) }
@@ -382,7 +382,7 @@ impl DType {
         }
     }
 
-    /// The fields of the struct that this is, given up.
+    /// Consumes this struct type and returns its fields. The condition is that it is a `Struct`.
     pub fn into_struct_fields(self) -> StructFields
         requires { kind (tree self) ≡ Kind.Struct }
         ensures { struct_fields (tree self) ≡ Some (children result) }
@@ -393,7 +393,7 @@ impl DType {
         }
     }
 
-    /// The extension that this is.
+    /// Returns the extension of this type. The condition is that it is an `Extension`.
     pub fn as_extension(&self) -> &ExtDTypeRef
         requires { kind (tree self.now) ≡ Kind.Extension }
         ensures { tree self.now ≡ extension_tree result.now }

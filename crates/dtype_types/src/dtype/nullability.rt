@@ -17,7 +17,7 @@ use dtype_base::{Nullability, VortexResult};
 use std::alloc::Global;
 
 impl DType {
-    /// The outer nullability: nullable for `Null`, the storage's for an extension, else the stored one.
+    /// Returns the outer nullability: nullable for `Null`, the storage's for an extension, else the stored one.
     #[cycle(nullability)]
     pub fn nullability(&self) -> Nullability
         ensures { result ≡ nullability (tree self.now) }
@@ -39,15 +39,15 @@ impl DType {
         }
     }
 
-    /// Whether values may be null.
+    /// Returns whether values may be null.
     pub fn is_nullable(&self) -> bool
         ensures { IsTrue result ↔ IsNullable (tree self.now) }
     {
         self.nullability().is_nullable()
     }
 
-    /// Whether the type can be made non-nullable: false for `Null` and for an extension whose storage
-    /// can't be, else true.
+    /// Returns whether the type can be made non-nullable: false for `Null` and for an extension whose storage can't
+    /// be, else true.
     #[cycle(can_be_nonnullable)]
     pub fn can_be_nonnullable(&self) -> bool
         ensures { IsTrue result ↔ CanBeNonNullable (tree self.now) }
@@ -69,7 +69,11 @@ impl DType {
         }
     }
 
-    /// The type made non-nullable; it can be. Refuses 0 (OutOfMemory) alone.
+    /// Returns the type made non-nullable. The condition is that it can be (`can_be_nonnullable`).
+    ///
+    /// # Errors
+    ///
+    /// - `OutOfMemory` (0): an allocation fails.
     pub fn as_nonnullable(&self, alloc: Global) -> VortexResult<DType>
         requires { CanBeNonNullable (tree self.now) }
         ensures { MatchResult result
@@ -78,7 +82,11 @@ impl DType {
         self.with_nullability(alloc, Nullability::NonNullable)
     }
 
-    /// The type made nullable: its values are those of this one, and null. Refuses 0 (OutOfMemory) alone.
+    /// Returns the type made nullable: its values are those of this type, and null.
+    ///
+    /// # Errors
+    ///
+    /// - `OutOfMemory` (0): an allocation fails.
     pub fn as_nullable(&self, alloc: Global) -> VortexResult<DType>
         ensures set { MatchResult result
             (λ d. SetNull (tree self.now) Nullability.Nullable (tree d)) (λ e. e ≡ OutOfMemory) }
@@ -87,8 +95,12 @@ impl DType {
         self.with_nullability(alloc, Nullability::Nullable)
     }
 
-    /// The type with another outer nullability, for an extension that of its storage; `Null` stays
-    /// `Null`. Where non-nullable is asked, the type can be. Refuses 0 (OutOfMemory) alone.
+    /// Returns the type with another outer nullability; for an extension it is that of its storage. `Null` stays `Null`.
+    /// The condition is that the type can be non-nullable where `n` is `NonNullable` (`can_be_nonnullable`).
+    ///
+    /// # Errors
+    ///
+    /// - `OutOfMemory` (0): an allocation fails.
     #[cycle(with_nullability)]
     pub fn with_nullability(&self, alloc: Global, n: Nullability) -> VortexResult<DType>
         requires { n ≡ Nullability.NonNullable → CanBeNonNullable (tree self.now) }
@@ -116,8 +128,11 @@ impl DType {
         }
     }
 
-    /// The type with `nullability() | n`: nullable where it was or `n` is. Refuses 0 (OutOfMemory)
-    /// alone.
+    /// Returns the type with the outer nullability `nullability() | n`: nullable where it was nullable or `n` is.
+    ///
+    /// # Errors
+    ///
+    /// - `OutOfMemory` (0): an allocation fails.
     pub fn union_nullability(&self, alloc: Global, n: Nullability) -> VortexResult<DType>
         ensures { MatchResult result
             (λ d. SetNull (tree self.now) (either (nullability (tree self.now)) n) (tree d))

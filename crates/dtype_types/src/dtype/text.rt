@@ -7,7 +7,7 @@ ghost use Rattle.std.specs.Prelude.{Some};
 use crate::DType;
 use std::fmt;
 
-/// The type's kind, what it holds in brackets or braces, and `?` where it is nullable.
+/// Writes the type's kind, what it holds in brackets or braces, and `?` where it is nullable.
 impl fmt::Display for DType {
     ghost use Rattle.dtype_types.specs.Text.{text};
     ghost use Rattle.dtype_types.specs.TreeOf.{tree};

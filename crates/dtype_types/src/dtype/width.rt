@@ -1,7 +1,7 @@
 // SPDX-License-Identifier: Apache-2.0
 // SPDX-FileCopyrightText: Copyright the Vortex contributors
 
-// How many bytes the values of a type take, where all take as many.
+// The number of bytes that each value of a type takes.
 ghost use Rattle.std.specs.Prelude.{◌≡◌, ◌↔◌, ◌++◌, ◌∷◌, ℕ, List, [], IfOk, IfSome, IsErr, IsSome, MatchResult};
 ghost use Rattle.dtype_base.specs.declared.nullability.Nullability.{Nullability};
 ghost use Rattle.dtype_base.specs.declared.vortex_error.VortexError.TheVariants.{WidthOverflow};
@@ -17,7 +17,7 @@ use dtype_base::{DecimalType, VortexError, VortexResult};
 pub(crate) enum Width {
     // A part has values of several widths.
     Variable,
-    // No part has, and one is wider than a `usize` can say.
+    // No part has, and one is wider than a `usize` can hold.
     TooWide,
     Bytes(usize),
 }
@@ -38,7 +38,7 @@ impl Width {
         }
     }
 
-    // The width of a struct of fields of this width with a field of that width behind them.
+    // The width of a struct of fields of this width followed by a field of that width.
     pub(crate) fn plus(self, field: Width) -> Width
         ensures { (ps : List (List ℕ × Tree)) (p : List ℕ × Tree) → MeasuresFields self ps
             → Measures field p.1 → MeasuresFields result (ps ++ p ∷ []) }
@@ -86,11 +86,14 @@ impl DType {
         }
     }
 
-    /// How many bytes a value takes, where all values take as many: 0 for `Null`, 1 for `Bool`, the
-    /// byte width of a number, that of a decimal's smallest storage type, the size times the element's
-    /// for `FixedSizeList`, the sum of the fields' for `Struct`, the storage's for an extension. `None`
-    /// where a part is variable, also under a list of size 0. Else refuses 19 (WidthOverflow) where a
-    /// part is wider than a `usize` can say.
+    /// Returns the number of bytes that each value takes, or `None` where a part is of variable width, also under a list
+    /// of size 0. It is 0 for `Null`, 1 for `Bool`, the byte width of a number, that of a decimal's smallest storage type,
+    /// the size times the element's for `FixedSizeList`, the sum of the fields' for `Struct`, and the storage's for an
+    /// extension.
+    ///
+    /// # Errors
+    ///
+    /// - `WidthOverflow` (19): no part is of variable width, and a part is wider than a `usize` can hold.
     pub fn element_size(&self) -> VortexResult<Option<usize>>
         ensures fixed { MatchResult result
             (λ size. IsSome size ↔ Fixed (tree self.now)) (λ e. e ≡ WidthOverflow) }

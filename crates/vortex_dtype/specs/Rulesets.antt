@@ -4,6 +4,13 @@
 -- What follows of decimal types, of lookups of names, of primitive names and of equal messages, passed on for
 -- callers' proofs.
 pub use Rattle.dtype_base.specs.lemmas.Decimals.{decimals}
-pub use Rattle.dtype_base.specs.lemmas.Lookups.{few_compared, lookups}
+pub use Rattle.dtype_base.specs.lemmas.Lookups.{few_compared}
 pub use Rattle.dtype_base.specs.lemmas.Primitives.{primitives}
 pub use Rattle.dtype_messages.specs.lemmas.Equality.{equality}
+use Rattle.dtype_base.specs.lemmas.Lookups.{lookups as answers}
+use Rattle.vortex_dtype.specs.lemmas.Compared.{compared_within}
+use Rattle.vortex_dtype.specs.lemmas.Differences.{types_differ, structs_differ, lent_alike}
+
+pub ruleset differences = (types_differ, structs_differ, lent_alike)
+
+pub ruleset lookups = (answers, compared_within)

@@ -10,3 +10,7 @@ pub mod InOrder
 pub mod Written
 pub mod PathMessages
 pub mod Reading
+pub mod MissingParts
+pub mod Allowing
+pub mod Compared
+pub mod Differences

@@ -36,7 +36,7 @@ use Rattle.vortex_dtype.specs.Reads.{Reads, ReadsChild, ReadsFields, ReadsVarian
 use Rattle.vortex_dtype.specs.Accepts.{Accepts}
 use Rattle.vortex_dtype.specs.Written.{is_nullable, written, written_names, written_fields, written_variant_names, written_variants, written_tags, Normal, NormalChild, NormalAll}
 use Rattle.vortex_dtype.specs.IsMessage.{IsMessage, IsChild, AreMessages}
-use Rattle.vortex_dtype.specs.lemmas.Sessions.{keeps-again}
+use Rattle.vortex_dtype.specs.lemmas.Sessions.{keeps_again}
 use Rattle.vortex_dtype.specs.lemmas.Decimals.{fault_invalid}
 use Rattle.vortex_dtype.specs.lemmas.Unions.{makes_unrefused, pos_is, tags_down}
 
@@ -367,7 +367,7 @@ mutual
   reads_sound s l (struct ns ms f) t i h = subst (Sound s) (sym h.2) (fields_sound s l ns ms h.0 i h.1)
   reads_sound s l (extension id c b) t i h =
       let a = child_sound s l c h.0 i.0 h.2 in
-      let again = keeps-again s l id (or_empty b) h.1 h.0 i.1 a.0 h.3 in
+      let again = keeps_again s l id (or_empty b) h.1 h.0 i.1 a.0 h.3 in
       subst (Sound s) (sym h.4) ((again.0, a.0), (again.1, a.1))
 
   child_sound : (s : Meaning) → LawfulSession s → (c : Child) (t : Tree) → IsChild c → ReadsChild s c t → Valid t × Admits s t

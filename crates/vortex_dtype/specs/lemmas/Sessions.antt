@@ -16,6 +16,7 @@ use Rattle.dtype_types.specs.Tree.{Tree, Fields, fields, pairs, no_fields, field
 use Rattle.dtype_types.specs.Valid.{Valid}
 use Rattle.dtype_types.specs.Nullable.{set_null}
 use Rattle.vortex_dtype.specs.Meaning.{Rewrites, Meaning, Lawful, LawfulSession, Bytes, kept, keeps, nothing, put, allowing, Admits, AdmitsFields, AdmitsVariants}
+use Rattle.vortex_dtype.specs.lemmas.Allowing.{unrefused}
 use Rattle.vortex_dtype.specs.Calls.{Call, register, allow, after, LeavesAlone, is_allow}
 
 -- ---- lists of calls
@@ -78,16 +79,16 @@ kept-again None false b c s h bs v e = cc
 kept-again (Some r) u b c s h bs v e = (h r refl).again b c s bs v e
 
 -- what a session keeps it keeps again, and it is bytes
-pub keeps-again : (m : Meaning) → LawfulSession m → (id b c : List ℕ) (s : Tree) → Bytes b → Valid s → keeps m id b s ≡ Some c → Bytes c × (keeps m id c s ≡ Some c)
-keeps-again m h id b c s bs v e = kept-again (m.registered id) m.unknown b c s (h.each id) bs v e
+pub keeps_again : (m : Meaning) → LawfulSession m → (id b c : List ℕ) (s : Tree) → Bytes b → Valid s → keeps m id b s ≡ Some c → Bytes c × (keeps m id c s ≡ Some c)
+keeps_again m h id b c s bs v e = kept-again (m.registered id) m.unknown b c s (h.each id) bs v e
 
 kept-outer : (o : Option Rewrites) (u : Bool) (b : List ℕ) (s t : Tree) (n : Nullability) → ((r : Rewrites) → o ≡ Some r → Lawful r) → Bytes b → Valid s → set_null s n ≡ Some t → kept o u b t ≡ kept o u b s
 kept-outer None u b s t n h bs v e = refl
 kept-outer (Some r) u b s t n h bs v e = (h r refl).outer b s t n bs v e
 
 -- the storage's outer nullability doesn't count for what is kept
-pub keeps-outer : (m : Meaning) → LawfulSession m → (id b : List ℕ) (s t : Tree) (n : Nullability) → Bytes b → Valid s → set_null s n ≡ Some t → keeps m id b t ≡ keeps m id b s
-keeps-outer m h id b s t n bs v e = kept-outer (m.registered id) m.unknown b s t n (h.each id) bs v e
+pub keeps_outer : (m : Meaning) → LawfulSession m → (id b : List ℕ) (s t : Tree) (n : Nullability) → Bytes b → Valid s → set_null s n ≡ Some t → keeps m id b t ≡ keeps m id b s
+keeps_outer m h id b s t n bs v e = kept-outer (m.registered id) m.unknown b s t n (h.each id) bs v e
 
 -- ---- what is admitted
 
@@ -109,7 +110,7 @@ admits-set_null m h (fixed_size_list t size k) u n v e = same_by m (fixed_size_l
 admits-set_null m h (map_of t w s k) u n v e = same_by m (map_of t w s n) u e
 admits-set_null m h (struct fs k) u n v e = same_by m (struct fs n) u e
 admits-set_null m h (union vs k) u n v e = same_by m (union vs n) u e
-admits-set_null m h (extension id b s) u n v e = go (set_null s n) (λ x is. admits-set_null m h s x n v.1 is) (λ x is. keeps-outer m h id b s x n v.0 v.1 is) refl e
+admits-set_null m h (extension id b s) u n v e = go (set_null s n) (λ x is. admits-set_null m h s x n v.1 is) (λ x is. keeps_outer m h id b s x n v.0 v.1 is) refl e
   where
     go : (o : Option Tree) → ((x : Tree) → set_null s n ≡ Some x → Admits m s ↔ Admits m x) → ((x : Tree) → set_null s n ≡ Some x → keeps m id b x ≡ keeps m id b s) → set_null s n ≡ o → option_and_then (λ x. Some (extension id b x)) o ≡ Some u → Admits m (extension id b s) ↔ Admits m u
     go None ih ks is e' = cc
@@ -209,4 +210,4 @@ pub flag_allowing : (m : Meaning) → (allowing m).unknown ≡ true
 flag_allowing m = unknown_allowing m (allowing m) refl
 
 -- What calls of a session change and leave alone, what it keeps and what it admits: for callers' proofs.
-pub ruleset sessions = (registered_put, others_put, unknown_put, flag_put, registered_allowing, unknown_allowing, flag_allowing, registered_nothing, unknown_nothing, admits_allowing, kept_allowing, admits_one_more, admits_more, admits_fields-behind)
+pub ruleset sessions = (registered_put, others_put, unknown_put, flag_put, registered_allowing, unknown_allowing, flag_allowing, registered_nothing, unknown_nothing, admits_allowing, kept_allowing, admits_one_more, admits_more, admits_fields-behind, keeps_again, keeps_outer, unrefused)

@@ -5,11 +5,11 @@
 //! is proved from the clauses of the calls that it makes and from the public rulesets, with no proof file.
 //!
 //! A clause that a caller can't use fails here, and so does a definition that `vortex_dtype` doesn't re-export, since
-//! this crate lists `vortex_dtype dtype_types` alone. Every caller that a page shows is here.
+//! this crate lists `vortex_dtype dtype_types dtype_projection` alone. Every caller that a page shows is here.
 //!
 //! - By user: `scalars` (which values a type has), `arrays` (how wide a row is), `appending` (what may be appended),
-//!   `binder` (column references, projections, joins), `layout` and `path_sets` (which columns to open), `masks` (what
-//!   is read further down), `rows` (what is found), `stored` (schemas written and read back).
+//!   `binder` (column references, projections, joins), `layout` and `path_sets` (which columns to open), `merging`
+//!   (several files read as one), `masks` (what is read further down), `rows` (what is found), `stored` (schemas written and read back).
 //! - Types: `structs`, `fields`, `over_fields`, `iterators`, `schemas`, `lookups` (how many comparisons), `presence`,
 //!   `unions`, `kinds`, `equality`, `nullabilities`, `validity`, `numbers`, `dates` (an extension).
 //! - Paths, messages and sessions: `paths`, `path_messages`, `messages`, `sessions`, `plugins`.
@@ -28,6 +28,7 @@ pub mod kinds;
 pub mod layout;
 pub mod lookups;
 pub mod masks;
+pub mod merging;
 pub mod messages;
 pub mod nullabilities;
 pub mod numbers;

@@ -11,6 +11,7 @@ use console_types::{Call, ConsoleResult};
 
 mod forms;
 mod masks;
+mod merging;
 mod paths;
 mod sets;
 
@@ -22,6 +23,7 @@ pub fn answer(call: &mut Call<'_>, command: &str) -> ConsoleResult<bool> {
     Ok(
         paths::answer(call, command)?
             || sets::answer(call, command)?
-            || masks::answer(call, command)?,
+            || masks::answer(call, command)?
+            || merging::answer(call, command)?,
     )
 }

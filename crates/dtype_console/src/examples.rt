@@ -33,6 +33,7 @@ as_nonnullable list(i32?)?
 as_nullable {a=i32}
 with_nullability Nullable utf8
 union_nullability NonNullable utf8?
+merge_nullability {a=i32, b=list(utf8?)} {a=i32?, b=list(utf8)}
 nullability_or NonNullable Nullable
 nullability_text Nullable
 nullability_long_text Nullable

@@ -1,0 +1,104 @@
+# SPDX-License-Identifier: Apache-2.0
+# SPDX-FileCopyrightText: Copyright the Vortex contributors
+
+"""Rows on the least type that takes the values of two. The original has no such call. It tells which types are equal but
+for nullabilities; of those the answer is made here: the first type, nullable wherever one of the two is."""
+from . import console as c
+from . import values as v
+from .departures import parts
+from .trees import dec, ext, fixed, list_of, map_of, null, prim, struct, tagged, type_words, union, utf8
+
+
+def with_parts(t, inner, n):
+    """The type with other parts, and with this nullability where it has one of its own."""
+    kind = t[0]
+    if kind == "null":
+        return t
+    if kind == "ext":
+        return t[:3] + (inner[0],)
+    held = t[2:]
+    if kind == "list":
+        held = (inner[0],)
+    elif kind == "fsl":
+        held = (t[2], inner[0])
+    elif kind == "map":
+        held = (t[2], inner[0], inner[1])
+    elif kind in ("struct", "union"):
+        held = (tuple(child[:-1] + (part,) for child, part in zip(t[2], inner)),)
+    return (kind, n) + held
+
+
+def is_marked(t):
+    """Whether the type is nullable by a mark of its own."""
+    return t[0] not in ("null", "ext") and t[1]
+
+
+def nullable_in_either(a, b):
+    inner = [nullable_in_either(x, y) for x, y in zip(parts(a), parts(b))]
+    return with_parts(a, inner, is_marked(a) or is_marked(b))
+
+
+def merge_nullability(r, a, b):
+    def answer():
+        if not r.original.bool("eqign", type_words(a), type_words(b)):
+            return "none"
+        return c.dtype(nullable_in_either(a, b))
+
+    r.row(f"merge_nullability {c.dtype(a)} {c.dtype(b)}", answer)
+
+
+def nullable_where(t, says, is_key=False):
+    """The type, nullable at each node of which says(node) holds; a map's key can't be."""
+    inner = [nullable_where(part, says, t[0] == "map" and i == 0 or t[0] == "ext" and is_key) for i, part in enumerate(parts(t))]
+    return with_parts(t, inner, says(t) and not is_key)
+
+
+def turns(first):
+    """Tells yes and no by turns."""
+    said = not first
+
+    def says(_):
+        nonlocal said
+        said = not said
+        return said
+
+    return says
+
+
+def rows(r):
+    r.topic("The least type that takes the values of two")
+    r.comment("Nullable wherever one of the two is, at every depth.")
+    i32, i32_n, text, text_n = prim("i32"), prim("i32", True), utf8(), utf8(True)
+    merge_nullability(r, struct([("a", i32), ("b", list_of(text_n))]), struct([("a", i32_n), ("b", list_of(text))]))
+    for t in v.every():
+        everywhere, nowhere = nullable_where(t, lambda _: True), nullable_where(t, lambda _: False)
+        odd, even = nullable_where(t, turns(True)), nullable_where(t, turns(False))
+        for a, b in [(t, t), (everywhere, nowhere), (nowhere, everywhere), (odd, even), (even, odd), (t, odd), (nowhere, nowhere)]:
+            merge_nullability(r, a, b)
+    r.comment("Types that differ in more have none: in the kind, a name, a tag, a size, a decimal, the order, an id.")
+    for a in [null()] + v.few(False):
+        for b in [null()] + v.few(True):
+            merge_nullability(r, a, b)
+    for a, b in [
+        (i32, prim("u32")), (dec(5, 2), dec(5, 3, True)), (dec(5, 2), dec(6, 2)), (list_of(i32), list_of(text_n)),
+        (fixed(i32, 2), fixed(i32, 3)), (fixed(i32, 2), list_of(i32)), (map_of(text, i32), map_of(text, i32, True)),
+        (map_of(text, i32), map_of(i32, i32)), (map_of(text, i32), map_of(text, text)),
+        (struct([("a", i32)]), struct([("b", i32)])), (struct([("a", i32), ("b", i32)]), struct([("b", i32), ("a", i32)])),
+        (struct([("a", i32)]), struct([])), (struct([]), struct([("a", i32)])),
+        (struct([("a", i32), ("b", text)]), struct([("a", i32_n), ("b", i32)])),
+        (tagged([("a", i32)]), union([("a", 1, i32)])), (tagged([("a", i32)]), tagged([("b", i32)])),
+        (tagged([("a", i32)]), tagged([("a", i32), ("b", i32)])), (tagged([("a", i32)]), struct([("a", i32)])),
+        (ext("x.y", b"", i32), ext("x.z", b"", i32)), (ext("x.y", b"a", i32), ext("x.y", b"b", i32_n)),
+        (ext("x.y", b"", i32), ext("x.y", b"", text)), (ext("x.y", b"", i32), i32),
+    ]:
+        merge_nullability(r, a, b)
+        merge_nullability(r, b, a)
+    r.comment("A name that stands twice is merged at each position.")
+    merge_nullability(r, struct([("n", i32), ("n", text_n)]), struct([("n", i32_n), ("n", text)]))
+    r.comment("Deep and wide.")
+    for count in (1, 5, 40):
+        merge_nullability(r, v.depth(count, i32), v.depth(count, i32_n))
+        merge_nullability(r, v.depth(count, i32), v.depth(count, text))
+    for count in (4, 5, 300):
+        merge_nullability(r, v.many(count), nullable_where(v.many(count), turns(False)))
+        merge_nullability(r, v.many(count), v.many(count - 1))

@@ -5,7 +5,7 @@
 //! is proved from the clauses of the calls that it makes and from the public rulesets, with no proof file.
 //!
 //! A clause that a caller can't use fails here, and so does a definition that `vortex_dtype` doesn't re-export, since
-//! this crate lists `vortex_dtype dtype_types dtype_projection` alone. Every caller that a page shows is here.
+//! this crate lists `vortex_dtype dtype_types` alone. Every caller that a page shows is here.
 //!
 //! - By user: `scalars` (which values a type has), `arrays` (how wide a row is), `appending` (what may be appended),
 //!   `binder` (column references, projections, joins), `layout` and `path_sets` (which columns to open), `merging`

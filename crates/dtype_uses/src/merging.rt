@@ -2,7 +2,7 @@
 // SPDX-FileCopyrightText: Copyright the Vortex contributors
 
 //! A reader of several files as one: the type that takes the values of all of them.
-#![tactic(auto, using(dtype_projection::specs::lemmas::Merging::merging, dtype_types::specs::lemmas::Order::order))]
+#![tactic(auto, using(vortex_dtype::specs::Rulesets::merging, dtype_types::specs::lemmas::Order::order))]
 
 ghost use Rattle.std.specs.Prelude.{◌≡◌, ◌↔◌, IfOk, IfSome, IsSome};
 ghost use Rattle.dtype_types.specs.Erase.{erase};
@@ -11,9 +11,8 @@ ghost use Rattle.dtype_types.specs.TreeOf.{tree};
 ghost use Rattle.dtype_types.specs.Valid.{Valid};
 ghost use Rattle.dtype_types.specs.Value.{IncludedIn};
 
-use dtype_projection::merge_nullability;
 use std::alloc::Global;
-use vortex_dtype::{DType, VortexResult};
+use vortex_dtype::{DType, VortexResult, merge_nullability};
 
 /// The type to read two files as, if they differ in nullabilities alone: each value of both is a value of it.
 pub fn read_as_one(alloc: Global, file: &DType, other: &DType) -> VortexResult<Option<DType>>

@@ -61,6 +61,9 @@ pub use Rattle.dtype_paths.specs.Overlaps
 pub use Rattle.dtype_paths.specs.In
 pub use Rattle.dtype_paths.specs.Covering
 pub use Rattle.dtype_paths.specs.PathOrder
+pub use Rattle.dtype_projection.specs.Merged
+pub use Rattle.dtype_projection.specs.Projected
+pub use Rattle.dtype_projection.specs.Restricted
 pub use Rattle.dtype_types.specs.Distinct
 pub use Rattle.dtype_types.specs.FieldTypes
 pub use Rattle.dtype_paths.specs.lemmas.PathOrders

@@ -1,12 +1,12 @@
 -- SPDX-License-Identifier: Apache-2.0
 -- SPDX-FileCopyrightText: Copyright the Vortex contributors
 
--- What follows of decimal types, of lookups of names, of primitive names and of equal messages, passed on for
--- callers' proofs.
+-- Lemmas for callers' proofs on decimal types, lookups of names, primitive types, equal messages and merged types.
 pub use Rattle.dtype_base.specs.lemmas.Decimals.{decimals}
 pub use Rattle.dtype_base.specs.lemmas.Lookups.{few_compared}
 pub use Rattle.dtype_base.specs.lemmas.Primitives.{primitives}
 pub use Rattle.dtype_messages.specs.lemmas.Equality.{equality}
+pub use Rattle.dtype_projection.specs.lemmas.Merging.{merging}
 use Rattle.dtype_base.specs.lemmas.Lookups.{lookups as answers}
 use Rattle.vortex_dtype.specs.lemmas.Compared.{compared_within}
 use Rattle.vortex_dtype.specs.lemmas.Differences.{types_differ, structs_differ, lent_alike}

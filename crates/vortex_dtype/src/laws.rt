@@ -26,6 +26,7 @@ pub use dtype_base::laws as base;
 pub use dtype_messages::laws as messages;
 pub use dtype_native::laws as native;
 pub use dtype_paths::laws as paths;
+pub use dtype_projection::{laws as projections, nullability_laws as merging};
 pub use dtype_types::laws as types;
 
 /// What `register` changes of any session, whatever was called before: the id means what the plugin means; every

@@ -7,6 +7,7 @@
 ghost use Rattle.std.specs.Prelude.{◌≡◌, ◌↔◌, ◌∷◌, ◌++◌, [], IfNone, IfOk, IfSome, IsTrue, List, false};
 ghost use Rattle.vortex_dtype.specs.In.{In};
 ghost use Rattle.vortex_dtype.specs.Types.Field.{Field};
+ghost use Rattle.vortex_dtype.specs.Types.FieldMask.TheVariants.{All};
 
 use std::alloc::Global;
 use vortex_dtype::{Field, FieldMask, FieldPath, VortexResult, field_path};
@@ -131,4 +132,20 @@ pub fn all_is_asked_and_so_this(mask: &FieldMask, path: &FieldPath) -> bool
 {
     let _path = path;
     mask.matches_all()
+}
+
+/// The field behind which something is asked for, or `None` where the mask's path is the root.
+pub fn field_asked_for(mask: &FieldMask) -> VortexResult<Option<&Field>>
+    ensures { IfOk result (λ found. IfSome found (λ f.
+        (q : List Field) × In mask.now (f.now ∷ q))) }
+{
+    mask.starting_field()
+}
+
+/// The mask of everything, stepped into: everything still.
+pub fn all_further_down(mask: FieldMask) -> VortexResult<FieldMask>
+    requires { mask ≡ All }
+    ensures { IfOk result (λ below. below ≡ All) }
+{
+    mask.step_into()
 }

@@ -424,3 +424,30 @@ pub fn is_left_closed(
 {
     is_opened(alloc, FieldPathSet::from_iter(alloc, columns)?, column)
 }
+
+/// The columns to open for nothing: none.
+pub fn cover_of_nothing(alloc: Global) -> VortexResult<vec::IntoIter<FieldPath>>
+    ensures { IfOk result (λ r. into_iter_items r ≡ []) }
+{
+    FieldPathSet::new(alloc).into_iter()
+}
+
+/// Whether the covers of two copies look equally often: they always do.
+pub fn looks_as_often(asked: &FieldPathSet) -> VortexResult<bool>
+    ensures { IfOk result (λ b. IsTrue b) }
+{
+    let (_, visits) = asked.try_clone()?.into_iter_counted()?;
+    let (_, again) = asked.try_clone()?.into_iter_counted()?;
+    Ok(visits == again)
+}
+
+/// The columns to open, in a vector.
+pub fn columns_to_open(alloc: Global, asked: FieldPathSet) -> VortexResult<Vec<FieldPath>>
+    ensures cover { IfOk result (λ v. set_of v.items ≡ least asked) }
+    ensures paths { IfOk result (λ v. (p : List Field)
+        → Contains v.items p ↔ IsTrue (set.contains (least asked) p)) }
+{
+    a_list_has_the_members_of_its_set();
+    let cover: Vec<FieldPath> = asked.into_iter()?.collect(alloc)?;
+    Ok(cover)
+}

@@ -4,14 +4,14 @@
 //! Paths, resolved.
 #![tactic(auto, using(vortex_dtype::specs::Stepping::stepping))]
 
-ghost use Rattle.std.specs.Prelude.{◌≡◌, ◌++◌, ◌∷◌, [], IfOk, IfSome, IsTrue, List, codes, ℕ};
+ghost use Rattle.std.specs.Prelude.{◌≡◌, ◌↔◌, ◌++◌, ◌∷◌, [], IfOk, IfSome, IsTrue, List, codes, ℕ};
 ghost use Rattle.std.specs.Option.{option_map};
 ghost use Rattle.vortex_dtype.specs.Along.{along};
 ghost use Rattle.vortex_dtype.specs.At.{At, ExistsIn};
 ghost use Rattle.vortex_dtype.specs.Beginning.{Beginning};
 ghost use Rattle.vortex_dtype.specs.Lookups.{first_named};
 ghost use Rattle.vortex_dtype.specs.Nullable.{nullability};
-ghost use Rattle.vortex_dtype.specs.Tree.{Fields, pairs, struct};
+ghost use Rattle.vortex_dtype.specs.Tree.{Fields, Tree, pairs, struct};
 ghost use Rattle.vortex_dtype.specs.TreeOf.{shown, tree};
 ghost use Rattle.vortex_dtype.specs.Types.Field.{Field};
 ghost use Rattle.vortex_dtype.specs.Types.Nullability.{Nullability};
@@ -126,4 +126,47 @@ pub fn equal_paths_exist_alike(path: &FieldPath, other: &FieldPath, dtype: &DTyp
         return path.exists_in(dtype) == other.exists_in(dtype);
     }
     true
+}
+
+/// The type along two paths, one behind the other, or `None` where none stands there.
+pub fn type_along_both<'a>(
+    path: &FieldPath,
+    rest: &FieldPath,
+    dtype: &'a DType,
+) -> Option<&'a DType>
+    ensures { shown tree result ≡ along (tree dtype.now) (path.now ++ rest.now) }
+{
+    rest.resolve(path.resolve(dtype)?)
+}
+
+/// Whether a longer path leads nowhere where its beginning leads nowhere: it always does.
+pub fn leads_nowhere_further(path: &FieldPath, longer: &FieldPath, dtype: &DType) -> bool
+    requires { Beginning path.now longer.now }
+    ensures { IsTrue result }
+{
+    match path.resolve(dtype) {
+        Some(_) => true,
+        None => longer.resolve(dtype).is_none(),
+    }
+}
+
+/// The type along a path: the one that was found there before.
+pub fn found_again<'a>(path: &FieldPath, dtype: &'a DType) -> Option<&'a DType>
+    ensures { (u : Tree) → At (tree dtype.now) path.now u → IfSome result (λ d. tree d.now ≡ u) }
+{
+    path.resolve(dtype)
+}
+
+/// Whether two fields are one.
+pub fn is_same_field(field: &Field, other: &Field) -> bool
+    ensures { IsTrue result ↔ (field.now ≡ other.now) }
+{
+    field == other
+}
+
+/// Whether a field is the column of this name.
+pub fn is_column(field: &Field, name: &str) -> bool
+    ensures { IsTrue result ↔ (field.now ≡ Field.Name name.now) }
+{
+    field.as_name() == Some(name)
 }

@@ -13,6 +13,8 @@ ghost use Rattle.vortex_dtype.specs.Types.VortexError.TheVariants.{Message, OutO
 ghost use Rattle.vortex_dtype.specs.Valid.{Valid};
 
 use std::alloc::Global;
+use vortex_dtype::laws::base::slices_hold_bytes;
+use vortex_dtype::laws::session_laws;
 use vortex_dtype::{DType, DTypeProto, DTypeSession, ExtDTypePlugin, ExtDTypeRef, VortexResult};
 
 /// A type stored and read back by a program that knows none of its extensions: the same type.
@@ -27,13 +29,15 @@ pub fn carried_over(alloc: Global, dtype: &DType) -> VortexResult<DType>
 }
 
 /// An extension of which nothing is known, carried over: its metadata stays as it is.
+#[tactic(auto, using(vortex_dtype::specs::lemmas::Sessions::sessions, vortex_dtype::specs::lemmas::Reading::reading, dtype_types::specs::lemmas::Validity::validity))]
 pub fn carried_extension(
     alloc: Global,
     id: &str,
     metadata: &[u8],
     storage: DType,
 ) -> VortexResult<ExtDTypeRef>
-    ensures { Valid (tree storage) → IfOk result (λ e. extension_metadata e ≡ metadata.now) }
+    ensures kept { Valid (tree storage) → IfOk result (λ e. extension_metadata e ≡ metadata.now) }
+    ensures refused { Valid (tree storage) → IsOkUnless result OutOfMemory }
 {
     let mut session = DTypeSession::new(alloc);
     session.allow_unknown();
@@ -154,4 +158,23 @@ pub fn is_taken_as_it_is(
         ≡ Some metadata.now)) }
 {
     Ok(session.deserialize(id, metadata, storage)?.metadata_bytes() == metadata)
+}
+
+/// An extension over a storage made nullable: its metadata is what the session keeps over the storage.
+#[tactic(auto, using(vortex_dtype::specs::lemmas::Sessions::sessions, vortex_dtype::specs::lemmas::Reading::reading, dtype_types::specs::lemmas::Validity::validity))]
+pub fn kept_over_nullable(
+    alloc: Global,
+    session: &DTypeSession,
+    id: &str,
+    metadata: &[u8],
+    storage: &DType,
+) -> VortexResult<ExtDTypeRef>
+    ensures { Valid (tree storage.now) → IfOk result (λ e. keeps
+        (meaning (λ b. rewrites (b.vtable, b.value)) session.now) id.now metadata.now (tree storage.now)
+        ≡ Some (extension_metadata e)) }
+{
+    session_laws(session);
+    slices_hold_bytes(metadata);
+    let nullable = storage.as_nullable(alloc)?;
+    session.deserialize(id, metadata, nullable)
 }

@@ -4,13 +4,13 @@
 //! Comparing types, and what structs, unions, maps and extensions hold.
 #![tactic(auto)]
 
-ghost use Rattle.std.specs.Prelude.{◌≡◌, ◌↔◌, IfOk, IsTrue};
+ghost use Rattle.std.specs.Prelude.{◌≡◌, ◌≢◌, ◌↔◌, IfOk, IsTrue};
 ghost use Rattle.dtype_types.specs.FieldTypes.{field_tree};
 ghost use Rattle.dtype_types.specs.TreeOf.{children, choices, extension_tree, map_shown, tree};
 
 use std::alloc::Global;
 use vortex_dtype::{
-    DType, ExtDTypeRef, FieldDType, MapDType, StructFields, UnionVariants, VortexResult,
+    DType, ExtDTypeRef, FieldDType, FieldName, MapDType, StructFields, UnionVariants, VortexResult,
 };
 
 /// Whether a column's type is the one that was planned.
@@ -60,4 +60,27 @@ pub fn is_same_field_type(field: &FieldDType, other: &FieldDType) -> bool
     ensures { IsTrue result ↔ (field_tree field.now ≡ field_tree other.now) }
 {
     *field == *other
+}
+
+/// Whether two names are one.
+pub fn is_same_name(name: &FieldName, other: &FieldName) -> bool
+    ensures { IsTrue result ↔ (name.now ≡ other.now) }
+{
+    *name == *other
+}
+
+/// Whether a column's type isn't the one that was planned.
+#[tactic(auto, using(vortex_dtype::specs::Rulesets::differences))]
+pub fn differs_from_plan(column: &DType, planned: &DType) -> bool
+    ensures { IsTrue result ↔ (tree column.now ≢ tree planned.now) }
+{
+    *column != *planned
+}
+
+/// Whether two tables differ.
+#[tactic(auto, using(vortex_dtype::specs::Rulesets::differences))]
+pub fn has_other_columns(table: &StructFields, other: &StructFields) -> bool
+    ensures { IsTrue result ↔ (children table.now ≢ children other.now) }
+{
+    *table != *other
 }

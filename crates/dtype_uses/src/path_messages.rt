@@ -4,10 +4,12 @@
 //! Messages compared and copied, of types, of single kinds and of paths, and paths read from them.
 #![tactic(auto, using(vortex_dtype::specs::lemmas::Reading::reading, vortex_dtype::specs::Rulesets::equality))]
 
-ghost use Rattle.std.specs.Prelude.{◌≡◌, ◌↔◌, ◌⊎◌, ◌∷◌, [], IfErr, IfOk, IsErr, IsOkUnless, IsTrue, string_bytes};
+ghost use Rattle.std.specs.Prelude.{◌≡◌, ◌↔◌, ◌⊎◌, ◌∷◌, [], IfErr, IfOk, IsErr, IsOkUnless, IsTrue, None, string_bytes};
+ghost use Rattle.std.specs.List.{Contains};
 ghost use Rattle.vortex_dtype.specs.Types.VortexError.TheVariants.{Message, OutOfMemory};
 ghost use Rattle.vortex_dtype.specs.Types.MessageFault.TheVariants.{PathPartMissing};
 ghost use Rattle.vortex_dtype.specs.MessageOf.{list_content, message, struct_content};
+ghost use Rattle.vortex_dtype.specs.PathMessage.{steps_of};
 ghost use Rattle.vortex_dtype.specs.PathNames.{part_name, part_names};
 ghost use Rattle.vortex_dtype.specs.Types.Field.TheVariants.{Name};
 
@@ -100,4 +102,12 @@ pub fn read_unfinished(alloc: Global, mut proto: pb::FieldPath) -> VortexResult<
 {
     proto.path.push(pb::Field { field_type: None })?;
     FieldPath::from_proto(alloc, &proto)
+}
+
+/// A path with a part that lacks its kind: it is refused.
+pub fn read_with_a_gap(alloc: Global, proto: &pb::FieldPath) -> VortexResult<FieldPath>
+    requires { Contains (steps_of proto.now) None }
+    ensures { IsErr result }
+{
+    FieldPath::from_proto(alloc, proto)
 }

@@ -426,6 +426,7 @@ pub fn is_left_closed(
 }
 
 /// The columns to open for nothing: none.
+#[tactic(auto, using(vortex_dtype::specs::CoveringLaws::covering, vortex_dtype::specs::CoveringLaws::counting))]
 pub fn cover_of_nothing(alloc: Global) -> VortexResult<vec::IntoIter<FieldPath>>
     ensures { IfOk result (λ r. into_iter_items r ≡ []) }
 {
@@ -433,6 +434,7 @@ pub fn cover_of_nothing(alloc: Global) -> VortexResult<vec::IntoIter<FieldPath>>
 }
 
 /// Whether the covers of two copies look equally often: they always do.
+#[tactic(auto, using(vortex_dtype::specs::CoveringLaws::covering, vortex_dtype::specs::CoveringLaws::counting))]
 pub fn looks_as_often(asked: &FieldPathSet) -> VortexResult<bool>
     ensures { IfOk result (λ b. IsTrue b) }
 {

@@ -8,9 +8,9 @@
 //! this crate lists `vortex_dtype dtype_types` alone. Every caller that a page shows is here.
 //!
 //! - By user: `scalars` (which values a type has), `arrays` (how wide a row is), `appending` (what may be appended),
-//!   `binder` (column references, projections, joins), `layout` and `path_sets` (which columns to open), `merging`
-//!   (several files read as one), `masks` (what is read further down), `rows` (what is found), `stored` (schemas
-//!   written and read back).
+//!   `binder` (column references, projections, joins), `layout`, `path_sets` and `projections` (which columns to
+//!   open), `merging` (several files read as one), `masks` (what is read further down), `rows` (what is found),
+//!   `stored` (schemas written and read back).
 //! - Types: `structs`, `fields`, `over_fields`, `iterators`, `schemas`, `lookups` (how many comparisons), `presence`,
 //!   `unions`, `kinds`, `equality`, `nullabilities`, `validity`, `numbers`, `dates` (an extension).
 //! - Paths, messages and sessions: `paths`, `path_messages`, `messages`, `sessions`, `plugins`.
@@ -40,6 +40,7 @@ pub mod path_sets;
 pub mod paths;
 pub mod plugins;
 pub mod presence;
+pub mod projections;
 pub mod rows;
 pub mod scalars;
 pub mod schemas;

@@ -1,0 +1,80 @@
+// SPDX-License-Identifier: Apache-2.0
+// SPDX-FileCopyrightText: Copyright the Vortex contributors
+
+//! A reader that opens a table's schema for a query: the columns that the query asks for, and no others.
+#![tactic(auto, using(vortex_dtype::specs::CoveringLaws::covering))]
+
+ghost use Rattle.std.specs.Prelude.{◌≡◌, ◌↔◌, IfNone, IfOk, IfSome, IsTrue, List};
+ghost use Rattle.std.specs.FinSet as set;
+ghost use Rattle.std.specs.Option.{option_map};
+ghost use Rattle.dtype_types.specs.TreeOf.{tree};
+ghost use Rattle.dtype_types.specs.Valid.{Valid};
+ghost use Rattle.dtype_types.specs.Value.{Of, Value};
+ghost use Rattle.vortex_dtype.specs.Along.{along};
+ghost use Rattle.vortex_dtype.specs.At.{ExistsIn};
+ghost use Rattle.vortex_dtype.specs.Projected.{projected};
+ghost use Rattle.vortex_dtype.specs.Restricted.{restricted};
+ghost use Rattle.vortex_dtype.specs.Types.Field.{Field};
+
+use std::alloc::Global;
+use vortex_dtype::laws::projections::{projection_depends_on_coverage_alone, projections_compose};
+use vortex_dtype::{DType, FieldPathSet, VortexResult, project_paths};
+
+/// The schema with these columns alone: each of them has the type that it had.
+pub fn pruned(alloc: Global, schema: &DType, columns: &FieldPathSet) -> VortexResult<Option<DType>>
+    ensures same { IfOk result (λ r. IfSome r (λ u. (p : List Field) → IsTrue (set.contains columns.now p)
+        → along (tree u) p ≡ along (tree schema.now) p)) }
+    ensures valid { Valid (tree schema.now) → IfOk result (λ r. IfSome r (λ u. Valid (tree u))) }
+    ensures none { IfOk result (λ r. IfNone r ((p : List Field) → IsTrue (set.contains columns.now p)
+        → ¬ (ExistsIn (tree schema.now) p))) }
+{
+    project_paths(alloc, schema, columns)
+}
+
+/// The schema that is opened for the least paths of the columns alone: they keep what all of them keep.
+pub fn schema_of_cover(
+    alloc: Global,
+    schema: &DType,
+    columns: FieldPathSet,
+) -> VortexResult<Option<DType>>
+    ensures { IfOk result (λ r. option_map tree r ≡ projected (tree schema.now) (set.contains columns)) }
+{
+    projection_depends_on_coverage_alone();
+    let cover = FieldPathSet::from_iter(alloc, columns.into_iter()?)?;
+    project_paths(alloc, schema, &cover)
+}
+
+/// A schema that was opened for these columns, opened for them again: it stays as it is.
+pub fn pruned_again(
+    alloc: Global,
+    schema: &DType,
+    columns: &FieldPathSet,
+) -> VortexResult<Option<DType>>
+    ensures { IfOk result (λ r. option_map tree r ≡ projected (tree schema.now) (set.contains columns.now)) }
+{
+    projections_compose();
+    match project_paths(alloc, schema, columns)? {
+        Some(kept) => project_paths(alloc, &kept, columns),
+        None => Ok(None),
+    }
+}
+
+/// Whether a query reads anything of a table: where one of its columns exists there.
+pub fn reads_anything(alloc: Global, schema: &DType, columns: &FieldPathSet) -> VortexResult<bool>
+    ensures { IfOk result (λ b. IsTrue b ↔ ((p : List Field) × IsTrue (set.contains columns.now p)
+        × ExistsIn (tree schema.now) p)) }
+{
+    Ok(project_paths(alloc, schema, columns)?.is_some())
+}
+
+/// The schema that is opened for a query: each row of the table, restricted to its columns, is a row of it.
+pub fn opened_rows(
+    alloc: Global,
+    schema: &DType,
+    columns: &FieldPathSet,
+) -> VortexResult<Option<DType>>
+    ensures { IfOk result (λ r. IfSome r (λ u. (v : Value) → Of v (tree schema.now)
+        → Of (restricted (tree schema.now) (set.contains columns.now) v) (tree u))) }
+{
+    project_paths(alloc, schema, columns)
+}

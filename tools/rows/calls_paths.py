@@ -1,9 +1,10 @@
 # SPDX-License-Identifier: Apache-2.0
 # SPDX-FileCopyrightText: Copyright the Vortex contributors
 
-"""Rows on paths, path sets and masks: each function makes the row of one command."""
+"""Rows on paths, path sets, projections and masks: each function makes the row of one command."""
 from . import console as c
 from . import departures as d
+from . import projections
 from .trees import ELEMENT, Words, mask_words, path_words, paths_words, step_words, type_words
 
 
@@ -156,6 +157,15 @@ class LivingSet:
         self.r.state(self.start + command, found)
         if command == "drain":
             self.items = []
+
+
+# Projections
+
+
+def project_paths(r, t, items):
+    """The original has no such call: a plain model answers."""
+    kept = projections.project(t, items)
+    r.row(f"project_paths {c.dtype(t)}{c.given(items)}", "none" if kept is None else c.dtype(kept))
 
 
 # Masks

@@ -56,6 +56,39 @@ def resolution(r):
             q.exists_in(r, steps, one)
 
 
+def projections(r):
+    r.topic("Projections of types to paths")
+    r.comment("Every kind, alone and within structs and lists, to each of a few paths and to pairs of them.")
+    shapes = [(), ("a",), (E,), ("n",), ("l", E, "b"), ("key",), ("b c",)]
+    for one in v.every():
+        for steps in shapes:
+            q.project_paths(r, one, [steps])
+        row = struct([("a", one), ("l", list_of(struct([("b", one), ("a", one)]), True)), ("a", v.U8)], True)
+        for items in [[("a",)], [("l", E, "b")], [("a",), ("l", E, "a")], [("a", "a"), ("l",)], [("a", E), ("a", "n")]]:
+            q.project_paths(r, row, items)
+    r.comment("Every set of the paths of one type, and one path of none.")
+    deep = struct([("a", list_of(fixed(struct([("b", utf8(True)), ("a", fixed(prim("u8"), 0)), ("b", v.BOOL)], True), 2, True))),
+                   ("c", struct([("a", v.U8)])), ("a", v.BOOL)])
+    leaves = [("a", E, E, "b"), ("a", E, E, "a", E), ("c", "a"), ("c",), ("a", E), ("a", "b")]
+    for mask in range(2 ** len(leaves)):
+        q.project_paths(r, deep, [leaf for i, leaf in enumerate(leaves) if mask >> i & 1])
+    r.comment("Structs whose names repeat, and names that need care.")
+    for one in v.structs():
+        names = list(dict.fromkeys(name for name, _ in one[2]))
+        for name in names[:4] + ["missing"]:
+            q.project_paths(r, one, [(name,)])
+        q.project_paths(r, one, [(name,) for name in reversed(names)])
+    named = struct([(name, struct([(name, v.U8), ("x", v.BOOL)])) for name in v.NAMES])
+    for name in v.NAMES:
+        q.project_paths(r, named, [(name, name)])
+    r.comment("1 to 40 columns: the first, the last, each second one.")
+    for count in (1, 2, 3, 16, 17, 40):
+        columns = struct([(str(i), struct([("x", v.U8), ("y", v.BOOL)])) for i in range(count)])
+        for items in [[("0", "x")], [(str(count - 1), "y")], [(str(i), "x") for i in range(0, count, 2)],
+                      [(str(i), "xy"[i % 2]) for i in reversed(range(count))]]:
+            q.project_paths(r, columns, items)
+
+
 def masks(r):
     r.topic("Masks")
     found = [(), ("a",), (E,), ("a", "b"), ("a", E, "c"), ("",), ("a.b",)]
@@ -320,5 +353,5 @@ def depths(r):
 
 
 def rows(r):
-    for topic in (paths, resolution, masks, path_sets, living_sets, messages, faults, message_edges, sessions, sizes, depths):
+    for topic in (paths, resolution, projections, masks, path_sets, living_sets, messages, faults, message_edges, sessions, sizes, depths):
         topic(r)

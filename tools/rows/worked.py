@@ -88,6 +88,52 @@ def resolution(r):
         q.resolve(r, (E,) * steps, deep)
 
 
+def projections(r):
+    r.topic("Projections of types to paths: worked examples")
+    r.comment("The fields that paths lead to, in the order of the struct; lists and their nullability stay around them.")
+    table = struct([("a", list_of(struct([("b", U32), ("c", UTF8)]), True)), ("d", BOOL)])
+    for text in ["a.[].b", "a.[].b x", "a.[].c a.[].b", "d a.[].c", "d", "a.[]", "a", "a.[].b d a.[].c"]:
+        q.project_paths(r, table, paths(text))
+    r.comment("The root keeps the whole type, no path nothing, and neither does one that exists nowhere.")
+    for items in [[()], [(), path("a.[].b")], [], paths("x"), paths("a.b [] d.e"), paths("a.[].x")]:
+        q.project_paths(r, table, items)
+    r.comment("A path below one that is asked for adds nothing, whichever comes first.")
+    for text in ["a.[] a.[].b", "a.[].b a.[]", "a a.[].b", "a.[].b a.[].b"]:
+        q.project_paths(r, table, paths(text))
+    r.comment("Of two fields of one name the first is kept, also where a path exists in the second alone.")
+    repeated = struct([("n", boolean(True)), ("m", U8), ("n", struct([("x", UTF8)]))])
+    for text in ["n", "n m", "n.x", "m n.x", "m"]:
+        q.project_paths(r, repeated, paths(text))
+    nested = struct([("n", struct([("x", U8), ("x", BOOL), ("y", U32)])), ("n", UTF8)])
+    for text in ["n.x", "n.y n.x", "n", "n.z"]:
+        q.project_paths(r, nested, paths(text))
+    r.comment("Structs, lists and fixed-size lists keep their nullability and size, size 0 too.")
+    person = struct([("name", UTF8_N), ("age", I32_N)], True)
+    for outer in [person, list_of(person), list_of(person, True), fixed(person, 2), fixed(person, 0, True),
+                  fixed(list_of(person, True), 3, True), struct([("p", person), ("q", BOOL)], True)]:
+        for text in ["name", "[].age", "[].[].name", "p.age", "p", "[]", "age name", "[].age [].name", "q p.name"]:
+            q.project_paths(r, outer, paths(text))
+    r.comment("Paths step into no map, no union and no extension, which are kept whole where a path ends at them.")
+    for within in [map_of(UTF8, person), tagged([("a", person)]), ext("x.y", b"", person)]:
+        outer = struct([("e", within), ("f", U8)])
+        for text in ["e", "e.a", "e.name", "e.key", "e.[]", "e.storage f", "f e", "e.value.age e"]:
+            q.project_paths(r, outer, paths(text))
+        q.project_paths(r, within, [()])
+        q.project_paths(r, within, paths("name a key"))
+    r.comment("A struct of which nothing is kept isn't kept, and a struct of no field is kept where a path ends at it.")
+    empty = struct([("a", struct([])), ("b", struct([("c", struct([]))])), ("d", U8)])
+    for text in ["a", "b", "b.c", "a.x", "b.x d", "b.c.x", "a b.c"]:
+        q.project_paths(r, empty, paths(text))
+    r.comment("The name [] isn't the element, and the empty name is a name.")
+    odd = struct([("[]", list_of(U8)), ("", BOOL), ("a.b", U32)])
+    for items in [[("[]",)], [(E,)], [("[]", E)], [("[]", "[]")], [("",)], [("a.b",)], [("a", "b")], [("", ""), ("[]", E)]]:
+        q.project_paths(r, odd, items)
+    r.comment("3 of 1,000 columns, and 100 of them from the last to the first.")
+    wide = struct([(f"column_{i}", struct([("x", U8), ("y", list_of(UTF8))])) for i in range(1000)])
+    q.project_paths(r, wide, [("column_999", "y"), ("column_0", "x"), ("column_500",)])
+    q.project_paths(r, wide, [(f"column_{i}", "xy"[i % 2]) for i in range(990, 0, -10)])
+
+
 def paths_by_themselves(r):
     r.topic("Paths: worked examples")
     r.comment("One path begins the other, or they lie apart.")
@@ -414,6 +460,6 @@ def typed_extensions(r):
 
 
 def rows(r):
-    topics = (path_sets, resolution, paths_by_themselves, masks, structs, struct_lookups, unions, maps, types, comparisons)
+    topics = (path_sets, resolution, projections, paths_by_themselves, masks, structs, struct_lookups, unions, maps, types, comparisons)
     for topic in topics + (base, native, sessions, typed_extensions, messages, stored):
         topic(r)

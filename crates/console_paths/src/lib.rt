@@ -2,7 +2,8 @@
 // SPDX-FileCopyrightText: Copyright the Vortex contributors
 
 //! The part of the console that knows paths: the commands on paths, on sets of paths, also such as live on from line
-//! to line, and on masks. What is proved of it is that each command is answered, whatever the line holds.
+//! to line, on projections to paths, and on masks. What is proved of it is that each command is answered, whatever the
+//! line holds.
 //!
 //! Begin with `answer`. `docs/CONSOLE.md` has the commands and their answers.
 #![tactic(auto)]
@@ -13,6 +14,7 @@ mod forms;
 mod masks;
 mod merging;
 mod paths;
+mod projections;
 mod sets;
 
 pub use forms::say_path;
@@ -23,6 +25,7 @@ pub fn answer(call: &mut Call<'_>, command: &str) -> ConsoleResult<bool> {
     Ok(
         paths::answer(call, command)?
             || sets::answer(call, command)?
+            || projections::answer(call, command)?
             || masks::answer(call, command)?
             || merging::answer(call, command)?,
     )

@@ -250,7 +250,8 @@ cover a.b x a a.c
 cover_counted a.b x a a.c
 members a.b a x
 contains a a.b x
-set s insert a.b"#;
+set s insert a.b
+project_paths {a=list({b=u32, c=utf8})?, d=bool} a.[].b"#;
 
 const MASKS: &str = r#"masks
 mask prefix a.b

@@ -12,8 +12,8 @@ ghost use Rattle.dtype_types.specs.Lookups.{variant_tags};
 
 use std::alloc::Global;
 use vortex_dtype::{
-    DType, FieldName, FieldNames, FieldPath, Kind, MapDType, Nullability, StructFields, UnionVariants,
-    VortexResult,
+    DType, FieldName, FieldNames, FieldPath, Kind, MapDType, Nullability, StructFields,
+    UnionVariants, VortexResult,
 };
 
 /// The type of the only field of a valid struct of one, valid too.

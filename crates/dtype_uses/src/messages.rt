@@ -39,6 +39,7 @@ pub fn say_the_same(
 }
 
 /// Whether two types are the same, found by their messages.
+#[tactic(auto, using(vortex_dtype::specs::lemmas::Reading::reading, vortex_dtype::specs::Rulesets::equality))]
 pub fn are_the_same(alloc: Global, a: &DType, b: &DType) -> VortexResult<bool>
     ensures { IfOk result (λ r. IsTrue r → tree a.now ≡ tree b.now) }
 {

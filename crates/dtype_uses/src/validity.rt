@@ -185,18 +185,6 @@ pub fn type_along_path<'a>(path: &FieldPath, dtype: &'a DType) -> Option<&'a DTy
     path.resolve(dtype)
 }
 
-/// The type that a path leads to among a table's columns, valid where the columns are.
-#[tactic(auto, using(vortex_dtype::specs::Stepping::stepping))]
-pub fn type_below_column<'a>(
-    columns: &'a StructFields,
-    column: usize,
-    path: &FieldPath,
-) -> Option<&'a DType>
-    ensures { Valid (struct_tree columns.now) → IfSome result (λ d. Valid (tree d.now)) }
-{
-    path.resolve(columns.field_by_index(column)?)
-}
-
 /// A nullable list of a valid type.
 pub fn list_of(alloc: Global, element: DType) -> VortexResult<DType>
     ensures { Valid (tree element) → IfOk result (λ d. Valid (tree d)) }

@@ -1,7 +1,7 @@
 // SPDX-License-Identifier: Apache-2.0
 // SPDX-FileCopyrightText: Copyright the Vortex contributors
 
-//! A program that makes calls of paths and path sets, so that the allocations of each call alone can be counted and
+//! A program that makes calls of paths, path sets and types, so that the allocations of each call alone can be counted and
 //! made to fail.
 //!
 //! It takes no input. For each call it prints a line: what is called, `: `, and what came of it. Before the call it
@@ -19,10 +19,12 @@ mod changes;
 mod covers;
 mod marks;
 mod sets;
+mod types_without_allocation;
 mod without_allocation;
 
 fn main(rt: HostRuntime) -> Result<()> {
     changes::tell(&rt, rt.alloc())?;
     covers::tell(&rt, rt.alloc())?;
-    without_allocation::tell(&rt, rt.alloc())
+    without_allocation::tell(&rt, rt.alloc())?;
+    types_without_allocation::tell(&rt, rt.alloc())
 }

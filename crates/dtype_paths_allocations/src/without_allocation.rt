@@ -28,7 +28,7 @@ pub fn tell(rt: &(impl Print + Eprint), alloc: Global) -> Result<()> {
     Ok(())
 }
 
-fn hash_of<T: Hash>(value: &T) -> u64 {
+pub fn hash_of<T: Hash>(value: &T) -> u64 {
     let mut state = DefaultHasher::new();
     value.hash(&mut state);
     state.finish()

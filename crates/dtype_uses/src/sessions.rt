@@ -70,26 +70,6 @@ pub fn is_known_beside(
     Ok(session.registry(id))
 }
 
-/// Whether a session keeps unknown ids after a plugin was registered: where it did before.
-pub fn keeps_unknown_beside(
-    session: &mut DTypeSession,
-    plugin: Box<dyn ExtDTypePlugin>,
-) -> VortexResult<bool>
-    ensures { IfOk result (λ b. b ≡ (meaning rewrites session.old).unknown) }
-{
-    session.register(plugin)?;
-    Ok(session.allows_unknown())
-}
-
-/// Whether a session knows an id after it was told to keep unknown ones: where it did before.
-pub fn is_known_among_unknown(session: &mut DTypeSession, id: &str) -> bool
-    ensures { IsTrue result ↔ IsSome
-        ((meaning (λ b. rewrites (b.vtable, b.value)) session.old).registered id.now) }
-{
-    session.allow_unknown();
-    session.registry(id)
-}
-
 /// Whether a session that was just made knows an id: none.
 pub fn is_known_from_the_start(alloc: Global, id: &str) -> bool
     ensures { result ≡ false }

@@ -1,7 +1,7 @@
 -- SPDX-License-Identifier: Apache-2.0
 -- SPDX-FileCopyrightText: Copyright the Vortex contributors
 
--- What `<=` answers, at numbers that are ordered as their integers are.
+-- What `<=` returns on numbers that are ordered as their integers.
 use Rattle.std.proofs.Common.{◌≡◌, ◌↔◌, ℕ, ◌-◌, ◌^◌, ℤ, pos, neg_ℤ, ◌≤ℤ◌, Bool, true, false, IsTrue, Option, Some, Ordering, ap, sym, ◌∙◌, subst, refl, arith}
 use Rattle.std.specs.Ordering.{int_cmp, is_le, is_some_and, partial_le}
 use Rattle.std.specs.declared.cmp.Ordering.TheVariants.{Less, Equal, Greater}
@@ -21,8 +21,8 @@ le_is {X} value partial_cmp ordered r a b is =
     let whole : is_le (int_cmp (value a) (value b)) ≡ r = sym (is ∙ ap (is_some_and is_le) (ordered a b)) in
     subst (λ (t : Bool). IsTrue t ↔ (value a ≤ℤ value b)) whole (int_le_is (value a) (value b) (int_cmp (value a) (value b)) refl)
 
--- two tests in turn, of a number against the least and the greatest of p digits: where the first is
--- met the second decides, and else there are more digits
+-- two tests of a number, against the least and the greatest number of p digits: where the first holds the second
+-- decides, and else the number has more digits
 pub within_then : (first second : Bool) (p : ℕ) (z low high : ℤ) → low ≡ neg_ℤ (pos (10 ^ p - 1)) → high ≡ pos (10 ^ p - 1)
     → IsTrue first ↔ (low ≤ℤ z) → IsTrue second ↔ (z ≤ℤ high) → first ≡ true → IsTrue second ↔ HasDigits p z
 within_then first second p z low high l h a b met = (

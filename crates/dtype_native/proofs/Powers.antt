@@ -1,7 +1,7 @@
 -- SPDX-License-Identifier: Apache-2.0
 -- SPDX-FileCopyrightText: Copyright the Vortex contributors
 
--- Powers of ten, and what of them a type has that has each number up to one of them.
+-- Powers of ten in a type that holds every number up to one of them.
 use Rattle.std.proofs.Common.{◌≡◌, ℕ, ℤ, zero, suc, pos, neg_ℤ, unsigned_abs, ◌-◌, ◌^◌, ◌≤◌, ◌-ℤ◌, subst, sym, arith, lit<}
 use Rattle.std.proofs.Math.Nat.{one-le-pow, pow-le-pow_right}
 use Rattle.std.proofs.lemmas.Int.{ints}
@@ -15,7 +15,7 @@ abs_of_negated : (n : ℕ) → unsigned_abs (neg_ℤ (pos n)) ≤ n
 abs_of_negated zero = omega arith
 abs_of_negated (suc n) = omega arith
 
--- the type has each number up to 10 ^ max
+-- the type holds every number up to 10 ^ max
 abbrev HasUpTo : (ℤ → Type 0) → ℕ → Type 0
 HasUpTo fits max = (z : ℤ) → unsigned_abs z ≤ 10 ^ max → fits z
 

@@ -1,7 +1,7 @@
 -- SPDX-License-Identifier: Apache-2.0
 -- SPDX-FileCopyrightText: Copyright the Vortex contributors
 
--- The numbers of so many digits, and the text of a decimal type that is kept in a native one. The bounds are
+-- The numbers of so many decimal digits, and the text of a decimal type that is stored in a native type. The bounds are
 -- arithmetic: in base ten, the greatest number of n digits is 10^n - 1. The text, and which decimals are kept, are
 -- from the documentation of `NativeDecimalType` and `PrecisionScale`.
 use Rattle.std.specs.Prelude.{◌≡◌, ◌↔◌, ℕ, List, ◌++◌, codes, Result, IsOk, MatchResult}
@@ -15,7 +15,7 @@ abbrev pub precision_scale_text : List ℕ → Decimal → List ℕ
 precision_scale_text name d =
     codes "decimal(" ++ (name ++ (codes ", p=" ++ (decimal d.precision ++ (codes ", s=" ++ (signed_decimal d.scale ++ codes ")")))))
 
--- a native type with the values of max digits keeps the decimal type d: the same one, or refused
+-- a native type with room for max digits stores the decimal type d: r is d, or the error
 abbrev pub KeepsDecimal : ℕ → Decimal → Result Decimal VortexError → Type 0
 KeepsDecimal max d r =
     (IsOk r ↔ IsDecimalWithin max d.precision d.scale)

@@ -11,7 +11,7 @@ use Rattle.std.proofs.lemmas.Int.{ints, fits_signed_from_abs, to_z-of_z}
 use mir.Val.{hbits}
 use Rattle.dtype_native.specs.LittleEndian.{little_endian}
 
--- ---- bytes tell the numbers of a type apart
+-- ---- different numbers of a type have different bytes
 
 -- a negative number has the bytes of its two's complement
 complement : (k m : ℕ) → m < 256 ^ k → little_endian k (pos (256 ^ k - suc m)) ≡ little_endian k (negsuc m)
@@ -81,7 +81,7 @@ signed_range w (negsuc n) = (
 pub same_natural : (x y : ℕ) → pos x ≡ pos y → x ≡ y
 same_natural x y e = cc
 
--- ---- the numbers of so many digits
+-- ---- the numbers of so many decimal digits
 
 pub digits_fit : (w : Width) (digits : ℕ) → 10 ^ digits < 2 ^ hbits w → (z : ℤ) → unsigned_abs z ≤ 10 ^ digits → FitsSigned w z
 digits_fit w digits below z few = fits_signed_from_abs w z (lt_of_le_of_lt few below)

@@ -10,7 +10,7 @@ use num_traits::PrimInt;
 
 /// A native integer type.
 pub trait IntegerPType: NativePType + PrimInt {
-    /// The greatest value of the type.
+    /// Returns the greatest value of the type.
     final fn max_value_as_u64() -> u64
         ensures value { result ≡ (ptype_row Self.PTYPE).greatest }
         ensures greatest { pos result ≡ Self.high }
@@ -18,7 +18,7 @@ pub trait IntegerPType: NativePType + PrimInt {
         Self::PTYPE.max_value_as_u64()
     }
 
-    // The greatest integer of the type is that of its name.
+    // The greatest value is that of the primitive type.
     ghost greatest_law: { Self.high ≡ pos (ptype_row Self.PTYPE).greatest };
 }
 
@@ -27,13 +27,12 @@ pub trait UnsignedPType: IntegerPType {
     ghost unsigned_law: { IsUnsigned Self.PTYPE };
 }
 
-/// A native integer type that can hold the offsets of a list that is being built: `u32`, `i32`,
-/// `u64` or `i64`.
+/// A native integer type for the offsets of a list that is being built: `u32`, `i32`, `u64` or `i64`.
 pub trait OffsetBuilderPType: IntegerPType {
     ghost wide_law: { 4 ≤ (ptype_row Self.PTYPE).bytes };
 }
 
-/// A native type and the unsigned type of the same width, in which its bits are kept.
+/// A native type whose bits are stored in the unsigned type of the same width.
 pub trait PhysicalPType: NativePType {
     /// The unsigned type of the same width.
     type Physical: UnsignedPType;

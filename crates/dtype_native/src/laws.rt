@@ -1,8 +1,8 @@
 // SPDX-License-Identifier: Apache-2.0
 // SPDX-FileCopyrightText: Copyright the Vortex contributors
 
-// What follows from the contracts of the numeric traits, for every type that has them: the contract of
-// a function with no body. And what the constants of native types are, of a function that gives them.
+// Theorems about the numeric traits, for every type that implements them, and about their constants. Each function's
+// contract is the theorem.
 #![tactic(auto, using(crate::proofs::Bytes::length_little_endian))]
 
 ghost use Rattle.std.specs.Prelude.{◌≡◌, Ok, Result, codes};
@@ -11,14 +11,14 @@ ghost use Rattle.dtype_native.specs.LittleEndian.{ReadsBytes, little_endian};
 
 use crate::{NativeDecimalType, TryFromBytes};
 
-/// Reading the bytes of a number gives the number back.
+/// The bytes of a number, read again, are that number.
 pub fn written_bytes_read_back<T: TryFromBytes>()
     ensures { (x : T) (r : Result T VortexError) → T.fits (T.value x)
         → ReadsBytes T.byte_width T.value T.fits (little_endian T.byte_width (T.value x)) r
         → r ≡ Ok x }
 {}
 
-/// The names of the native decimals are their texts.
+/// The name of each native decimal type is the text of its storage type.
 pub fn names_of_native_decimals_are_their_texts() -> (
     &'static str,
     &'static str,

@@ -1,16 +1,17 @@
 // SPDX-License-Identifier: Apache-2.0
 // SPDX-FileCopyrightText: Copyright the Vortex contributors
 
-//! Native types under the primitive names and decimals: their bytes, order, names, bounds and types.
+//! The native Rust types behind primitive types and decimals: their bytes, their order, their bounds and their logical
+//! types.
 //!
-//! It promises, for every native integer, that its name, its width and its integers are those of the
-//! table of primitive names, that its bytes are little-endian and read back, and that it is compared
-//! as a whole number; for every native decimal, that its bounds are those of its digits; and that
-//! what is done for a name is what the visitor does for it.
+//! Of each native integer it is proved that its primitive type, its width and its range are those of the table of
+//! primitive types, that its bytes are little-endian and are read back, and that it is compared as a whole number; of
+//! each native decimal, that its bounds are those of its digits; and that a `match_each_..` function calls the
+//! visitor's method for the primitive type that it is given.
 //!
-//! Begin with `NativePType`, `ToBytes` and `PTypeVisitor`, then `NativeDecimalType` and
-//! `PrecisionScale`, and `NativeDType`. The definitions are in `specs/`: `LittleEndian`, `Integers`,
-//! `Offsets`, `Digits`, `NativeTypes`; `NumberLaws` has the proofs of the traits' laws that the impls cite.
+//! Begin with `NativePType`, `ToBytes` and `PTypeVisitor`, then `NativeDecimalType` and `PrecisionScale`, and
+//! `NativeDType`. The definitions are in `specs/`: `LittleEndian`, `Integers`, `Offsets`, `Digits`, `NativeTypes`;
+//! `NumberLaws` has the proofs of the traits' laws that the impls cite.
 #![tactic(auto)]
 
 mod integer_ptype;

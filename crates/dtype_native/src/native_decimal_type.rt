@@ -12,27 +12,28 @@ ghost use Rattle.dtype_native.specs.NumberLaws.{digits_fit};
 use dtype_base::DecimalType;
 use num_traits::{PrimInt, Signed, cast};
 
-/// A native integer type that keeps the values of decimals.
+/// A native integer type that stores the values of decimals: the unscaled integers.
 pub trait NativeDecimalType: PrimInt + Signed {
-    /// The storage type that this is.
+    /// The decimal storage type of this native type.
     const DECIMAL_TYPE: DecimalType;
 
     ghost DECIMAL_TYPE: { DecimalType };
 
-    /// The greatest precision, of which the type has all values.
+    /// The greatest number of decimal digits of which the type holds every number.
     const MAX_PRECISION: u8;
 
     ghost MAX_PRECISION: { ℕ };
 
-    /// The greatest scale, the same number.
+    /// The greatest scale, equal to `MAX_PRECISION`.
     const MAX_SCALE: i8;
 
     ghost MAX_SCALE: { ℤ };
 
-    /// The text of `DECIMAL_TYPE`.
+    /// The name of the type, which is the text of `DECIMAL_TYPE`.
     const NAME: &'static str;
 
-    /// The greatest number of that many digits, `10^precision - 1`, and 0 of none.
+    /// Returns the greatest number of that many decimal digits, `10^precision - 1`; 0 for no digits. The condition is that
+    /// `precision` is at most `MAX_PRECISION`.
     final fn max_by_precision(precision: u8) -> Self
         requires { precision ≤ MAX_PRECISION }
         ensures { Self.value result ≡ pos (10 ^ precision - 1) }
@@ -40,7 +41,8 @@ pub trait NativeDecimalType: PrimInt + Signed {
         power_of_ten::<Self>(u32::from(precision)) - Self::one()
     }
 
-    /// The least number of that many digits, `-(10^precision - 1)`, and 0 of none.
+    /// Returns the least number of that many decimal digits, `-(10^precision - 1)`; 0 for no digits. The condition is that
+    /// `precision` is at most `MAX_PRECISION`.
     final fn min_by_precision(precision: u8) -> Self
         requires { precision ≤ MAX_PRECISION }
         ensures { Self.value result ≡ neg_ℤ (pos (10 ^ precision - 1)) }
@@ -48,18 +50,18 @@ pub trait NativeDecimalType: PrimInt + Signed {
         -Self::max_by_precision(precision)
     }
 
-    // The greatest precision is that of the storage type, and no greater than a decimal's.
+    // The greatest precision is that of the storage type, and at most that of any decimal.
     ghost digits_law: { MAX_PRECISION ≡ (storage DECIMAL_TYPE).digits };
 
     ghost scale_law: { MAX_SCALE ≡ pos MAX_PRECISION };
 
     ghost most_law: { MAX_PRECISION ≤ greatest_precision };
 
-    // The type has the numbers of that many digits, and the next one.
+    // The type holds every number of that many digits and also 10^MAX_PRECISION, from which `max_by_precision` subtracts.
     ghost fits_law: { (z : ℤ) → unsigned_abs z ≤ 10 ^ MAX_PRECISION → Self.fits z };
 }
 
-// Ten to the power of `exponent`.
+// Returns ten to the power of `exponent`.
 fn power_of_ten<T: PrimInt>(exponent: u32) -> T
     requires { T.fits (pos (10 ^ exponent)) }
     ensures { T.value result ≡ pos (10 ^ exponent) }

@@ -15,12 +15,16 @@ use dtype_base::{Nullability, VortexResult};
 use dtype_types::DType;
 use std::alloc::Global;
 
-/// A native type with a logical type, whose values it holds.
+/// A native type whose values are those of one logical type.
 pub trait NativeDType {
-    // The logical type, as a tree.
+    // The tree of the logical type.
     ghost native_tree: { Tree };
 
-    /// The logical type: non-nullable, but for an `Option`. Refuses 0 (OutOfMemory) alone.
+    /// Returns the logical type. It is non-nullable, except for an `Option`.
+    ///
+    /// # Errors
+    ///
+    /// - `OutOfMemory` (0): an allocation fails.
     fn dtype(alloc: Global) -> VortexResult<DType>
         ensures meaning { MatchResult result (λ d. tree d ≡ native_tree) (λ e. e ≡ OutOfMemory) }
         ensures valid { IfOk result (λ d. Valid (tree d)) };
@@ -130,7 +134,7 @@ impl NativeDType for &[u8] {
     }
 }
 
-/// The type of `T`, made nullable.
+/// An `Option` is the type of `T` made nullable.
 impl<T: NativeDType> NativeDType for Option<T> {
     ghost native_tree = { nullable_form T.native_tree };
 
@@ -140,7 +144,7 @@ impl<T: NativeDType> NativeDType for Option<T> {
     }
 }
 
-/// The non-nullable lists of values of `T`.
+/// A `Vec` is a non-nullable list of `T`.
 impl<T: NativeDType> NativeDType for Vec<T> {
     ghost native_tree = { list T.native_tree NonNullable };
 

@@ -17,75 +17,75 @@ use num_traits::{Num, NumCast};
 use std::cmp::Ordering;
 use std::fmt::Display;
 
-/// The native type of a primitive name: here one of the eight integer types.
+/// The native type of a primitive type. Here these are the eight integer types; floats have no native type.
 pub trait NativePType: Copy + Default + Display + Ord + Num + NumCast + ToBytes + TryFromBytes {
-    /// The name of the type.
+    /// The primitive type.
     const PTYPE: PType;
 
     ghost PTYPE: { PType };
 
-    /// Whether the value is no number, which an integer never is.
+    /// Returns false: an integer is always a number.
     final fn is_nan(self) -> bool
         ensures { IsFalse result }
     {
         false
     }
 
-    /// Whether the value is infinite, which an integer never is.
+    /// Returns false: an integer is never infinite.
     final fn is_infinite(self) -> bool
         ensures { IsFalse result }
     {
         false
     }
 
-    /// How the two numbers are ordered.
+    /// Returns how the two numbers compare.
     final fn total_compare(self, other: Self) -> Ordering
         ensures { result ≡ int_cmp (Self.value self) (Self.value other) }
     {
         self.cmp(&other)
     }
 
-    /// Whether `self <= other`.
+    /// Returns whether `self <= other`.
     final fn is_le(self, other: Self) -> bool
         ensures { IsTrue result ↔ (Self.value self ≤ℤ Self.value other) }
     {
         self.total_compare(other).is_le()
     }
 
-    /// Whether `self < other`.
+    /// Returns whether `self < other`.
     final fn is_lt(self, other: Self) -> bool
         ensures { IsTrue result ↔ (Self.value self <ℤ Self.value other) }
     {
         self.total_compare(other).is_lt()
     }
 
-    /// Whether `self >= other`.
+    /// Returns whether `self >= other`.
     final fn is_ge(self, other: Self) -> bool
         ensures { IsTrue result ↔ (Self.value other ≤ℤ Self.value self) }
     {
         self.total_compare(other).is_ge()
     }
 
-    /// Whether `self > other`.
+    /// Returns whether `self > other`.
     final fn is_gt(self, other: Self) -> bool
         ensures { IsTrue result ↔ (Self.value other <ℤ Self.value self) }
     {
         self.total_compare(other).is_gt()
     }
 
-    /// Whether the two numbers are the same.
+    /// Returns whether the two numbers are equal.
     final fn is_eq(self, other: Self) -> bool
         ensures { IsTrue result ↔ (Self.value self ≡ Self.value other) }
     {
         self == other
     }
 
-    // Each value is a whole number, and no two values are the same one.
+    // Each value is a whole number, and different values are different numbers.
     ghost whole_law: { Self.exact };
 
     ghost value_law: { (x y : Self) → Self.value x ≡ Self.value y → x ≡ y };
 
-    // The type has the integers and the width that belong to its name.
+    // The range and the width are those of the primitive type.
     ghost range_law: { (z : ℤ) → Self.fits z ↔ HoldsInteger PTYPE z };
 
     ghost width_law: { Self.byte_width ≡ (ptype_row PTYPE).bytes };

@@ -10,8 +10,8 @@ use dtype_base::{DecimalDType, VortexError, VortexResult, check_precision_and_sc
 use std::fmt;
 use std::marker::{Model, PhantomData};
 
-/// A decimal type whose values the native type `D` keeps: its precision is 1 to `D::MAX_PRECISION`,
-/// and its scale -128 to the precision.
+/// A decimal type whose values fit the native type `D`: its precision is from 1 to `D::MAX_PRECISION`, and its scale from
+/// -128 to the precision.
 #[derive_where(Clone, Copy, Debug, PartialEq, Eq, Hash)]
 pub struct PrecisionScale<D: NativeDecimalType> {
     precision: u8,
@@ -30,9 +30,16 @@ impl<D: NativeDecimalType> Model for PrecisionScale<D> {
 }
 
 impl<D: NativeDecimalType> PrecisionScale<D> {
-    /// The decimal type of this precision and scale. Refuses the first that applies of 1
-    /// (PrecisionZero), 2 (PrecisionTooLarge, above `D::MAX_PRECISION`), 3 (ScaleTooLarge, above
-    /// that number) and 4 (ScaleAbovePrecision). Every negative scale is taken.
+    /// Returns the decimal type of this precision and scale. Negative scales are accepted.
+    ///
+    /// # Errors
+    ///
+    /// The first that applies:
+    ///
+    /// - `PrecisionZero` (1): the precision is 0.
+    /// - `PrecisionTooLarge` (2): the precision is above `D::MAX_PRECISION`.
+    /// - `ScaleTooLarge` (3): the scale is above `D::MAX_PRECISION`.
+    /// - `ScaleAbovePrecision` (4): the scale is above the precision.
     pub fn try_new(precision: u8, scale: i8) -> VortexResult<Self>
         ensures ok { MatchResult result
             (λ d. (d.precision ≡ precision) × (d.scale ≡ scale))
@@ -43,7 +50,7 @@ impl<D: NativeDecimalType> PrecisionScale<D> {
         Ok(Self::new_unchecked(precision, scale))
     }
 
-    /// The decimal type of this precision and scale.
+    /// Returns the decimal type of this precision and scale. The condition is that `try_new` accepts them.
     pub fn new(precision: u8, scale: i8) -> Self
         requires { IsDecimalWithin D.MAX_PRECISION precision scale }
         ensures { result ≡ record { precision = precision; scale = scale } }
@@ -51,7 +58,7 @@ impl<D: NativeDecimalType> PrecisionScale<D> {
         Self::new_unchecked(precision, scale)
     }
 
-    /// The decimal type of this precision and scale, as `new`.
+    /// The same as `new`, under the same condition, which the checker proves at each call.
     pub fn new_unchecked(precision: u8, scale: i8) -> Self
         requires { IsDecimalWithin D.MAX_PRECISION precision scale }
         ensures { result ≡ record { precision = precision; scale = scale } }
@@ -63,7 +70,7 @@ impl<D: NativeDecimalType> PrecisionScale<D> {
         }
     }
 
-    /// How many digits a value has, 1 to `D::MAX_PRECISION`.
+    /// Returns the number of decimal digits, from 1 to `D::MAX_PRECISION`.
     pub fn precision(&self) -> u8
         ensures value { result ≡ self.now.precision }
         ensures valid { IsDecimalWithin D.MAX_PRECISION self.now.precision self.now.scale }
@@ -71,7 +78,8 @@ impl<D: NativeDecimalType> PrecisionScale<D> {
         self.precision
     }
 
-    /// How many digits stand behind the point, at most as many as there are.
+    /// Returns the number of digits after the decimal point, at most the precision. Negative where the values are multiples
+    /// of a power of ten.
     pub fn scale(&self) -> i8
         ensures value { result ≡ self.now.scale }
         ensures valid { IsDecimalWithin D.MAX_PRECISION self.now.precision self.now.scale }
@@ -79,7 +87,7 @@ impl<D: NativeDecimalType> PrecisionScale<D> {
         self.scale
     }
 
-    /// Whether the value has no more digits than the precision allows.
+    /// Returns whether the value has at most as many digits as the precision.
     pub fn is_valid(&self, value: D) -> bool
         ensures { IsTrue result ↔ HasDigits self.now.precision (D.value value) }
     {
@@ -109,8 +117,11 @@ impl<D: NativeDecimalType> From<PrecisionScale<D>> for DecimalDType {
     }
 }
 
-/// The same decimal type, kept by `D`. Refuses 2 (PrecisionTooLarge) what `D` has not all values of,
-/// and else as `try_new`.
+/// The same decimal type, with its values in `D`.
+///
+/// # Errors
+///
+/// - `PrecisionTooLarge` (2): the precision is above `D::MAX_PRECISION`.
 impl<D: NativeDecimalType> TryFrom<&DecimalDType> for PrecisionScale<D> {
     type Error = VortexError;
 

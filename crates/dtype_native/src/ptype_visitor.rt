@@ -9,13 +9,14 @@ ghost use Rattle.dtype_native.specs.Offsets.{AnswersLeast};
 
 use dtype_base::PType;
 
-/// What is to be done for a primitive name: one call for each native integer type, and one for the
-/// floats by name.
+/// What to do for each primitive type: a method for each native integer type, and one for all floats, which is passed
+/// the type. It takes the place of the Rust's `match_each_..` macros, whose body is generic over the native type.
 pub trait PTypeVisitor: Sized {
-    /// What each call answers.
+    /// What each method returns.
     type Answer;
 
-    // The answer that is right for a visitor and a name.
+    // Whether an answer is right for this visitor and this primitive type: what the `match_each_..` functions promise of
+    // what they return.
     ghost answers: { Self → PType → Self.Answer → Type 0 } = { λ _ _ _. ⊤ };
 
     /// The answer for `u8`.
@@ -50,12 +51,12 @@ pub trait PTypeVisitor: Sized {
     fn visit_i64(self) -> Self::Answer
         ensures { answers self I64 result };
 
-    /// The answer for a float. Of another name nothing is promised.
+    /// The answer for a float type. For any other type nothing is promised.
     fn visit_float(self, ptype: PType) -> Self::Answer
         ensures { IsFloat ptype → answers self ptype result };
 }
 
-/// What the visitor answers for this name.
+/// Returns what the visitor answers for this primitive type.
 pub fn match_each_native_ptype<V: PTypeVisitor>(ptype: PType, visitor: V) -> V::Answer
     ensures { V.answers visitor ptype result }
 {
@@ -70,7 +71,7 @@ pub fn match_each_native_ptype<V: PTypeVisitor>(ptype: PType, visitor: V) -> V::
     }
 }
 
-/// What the visitor answers for this integer's name.
+/// Returns what the visitor answers for this integer type. The condition is that it is one.
 pub fn match_each_integer_ptype<V: PTypeVisitor>(ptype: PType, visitor: V) -> V::Answer
     requires { IsInteger ptype }
     ensures { V.answers visitor ptype result }
@@ -82,7 +83,7 @@ pub fn match_each_integer_ptype<V: PTypeVisitor>(ptype: PType, visitor: V) -> V:
     }
 }
 
-/// What the visitor answers for this unsigned integer's name.
+/// Returns what the visitor answers for this unsigned integer type. The condition is that it is one.
 pub fn match_each_unsigned_integer_ptype<V: PTypeVisitor>(ptype: PType, visitor: V) -> V::Answer
     requires { IsUnsigned ptype }
     ensures { V.answers visitor ptype result }
@@ -96,7 +97,7 @@ pub fn match_each_unsigned_integer_ptype<V: PTypeVisitor>(ptype: PType, visitor:
     }
 }
 
-/// What the visitor answers for this signed integer's name.
+/// Returns what the visitor answers for this signed integer type. The condition is that it is one.
 pub fn match_each_signed_integer_ptype<V: PTypeVisitor>(ptype: PType, visitor: V) -> V::Answer
     requires { IsSigned ptype }
     ensures { V.answers visitor ptype result }
@@ -110,7 +111,7 @@ pub fn match_each_signed_integer_ptype<V: PTypeVisitor>(ptype: PType, visitor: V
     }
 }
 
-/// What the visitor answers for this float's name.
+/// Returns what the visitor answers for this float type. The condition is that it is one.
 pub fn match_each_float_ptype<V: PTypeVisitor>(ptype: PType, visitor: V) -> V::Answer
     requires { IsFloat ptype }
     ensures { V.answers visitor ptype result }
@@ -118,7 +119,7 @@ pub fn match_each_float_ptype<V: PTypeVisitor>(ptype: PType, visitor: V) -> V::A
     visitor.visit_float(ptype)
 }
 
-/// What the visitor answers for this name, which has lanes in SIMD registers: any but `F16`.
+/// Returns what the visitor answers for this primitive type, which has SIMD lanes. The condition is that it isn't `F16`.
 pub fn match_each_native_simd_ptype<V: PTypeVisitor>(ptype: PType, visitor: V) -> V::Answer
     requires { ptype ≢ F16 }
     ensures { V.answers visitor ptype result }
@@ -126,8 +127,7 @@ pub fn match_each_native_simd_ptype<V: PTypeVisitor>(ptype: PType, visitor: V) -
     match_each_native_ptype(ptype, visitor)
 }
 
-/// What the visitor answers for the narrowest of `u8`, `u16`, `u32` and `u64` that holds the
-/// offset `n`.
+/// Returns what the visitor answers for the narrowest of `u8`, `u16`, `u32` and `u64` that holds the offset `n`.
 pub fn match_smallest_offset_type<V: PTypeVisitor>(n: usize, visitor: V) -> V::Answer
     ensures { AnswersLeast (V.answers visitor) (U8 ∷ U16 ∷ U32 ∷ U64 ∷ []) n result }
 {
@@ -142,8 +142,8 @@ pub fn match_smallest_offset_type<V: PTypeVisitor>(n: usize, visitor: V) -> V::A
     }
 }
 
-/// What the visitor answers for the narrower of `u32` and `u64` that holds the offset `n`, as the
-/// offsets of lists are kept.
+/// Returns what the visitor answers for the narrower of `u32` and `u64` that holds the offset `n`. List offsets are
+/// stored in one of these two.
 pub fn match_smallest_list_offset_type<V: PTypeVisitor>(n: usize, visitor: V) -> V::Answer
     ensures { AnswersLeast (V.answers visitor) (U32 ∷ U64 ∷ []) n result }
 {

@@ -10,28 +10,28 @@ ghost use Rattle.dtype_native.specs.NumberLaws.{injective, signed_injective};
 
 use num_traits::Number;
 
-/// A number that is written as a fixed number of bytes, least first.
+/// A number that is written as a fixed number of bytes, little-endian.
 pub trait ToBytes: Number {
-    /// A fixed array of as many bytes as the type is wide.
+    /// An array of the type's width in bytes.
     type Bytes: Copy;
 
-    // How many bytes the type has.
+    // The width in bytes.
     ghost byte_width: { ℕ };
 
-    // The bytes in an array, in order.
+    // The items of an array, in order.
     ghost bytes_in: { Self.Bytes → List ℕ };
 
-    /// The number's bytes, least first, in two's complement.
+    /// Returns the number's bytes, little-endian and in two's complement.
     fn to_le_bytes(&self) -> Self::Bytes
         ensures written { bytes_in result ≡ little_endian byte_width (Self.value self.now) }
         ensures count { length (bytes_in result) ≡ byte_width }
         ensures in_range { Self.fits (Self.value self.now) };
 
-    /// The bytes in an array, as a slice.
+    /// Returns the array as a slice.
     fn bytes_of(bytes: &Self::Bytes) -> &[u8]
         ensures { result.now ≡ bytes_in bytes.now };
 
-    // No two numbers of the type have the same bytes.
+    // Different numbers have different bytes.
     ghost distinct_law: { (x y : Self) → Self.fits (Self.value x) → Self.fits (Self.value y)
         → little_endian byte_width (Self.value x) ≡ little_endian byte_width (Self.value y)
         → x ≡ y };

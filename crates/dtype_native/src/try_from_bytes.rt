@@ -10,16 +10,18 @@ ghost use Rattle.dtype_native.specs.LittleEndian.{ReadsBytes};
 use crate::ToBytes;
 use dtype_base::{VortexError, VortexResult};
 
-/// A number that is read from its bytes, least first.
+/// A number that is read from its bytes, little-endian.
 pub trait TryFromBytes: ToBytes {
-    /// The number that has these bytes, least first, in two's complement.
+    /// Returns the number with these bytes, little-endian and in two's complement.
     ///
-    /// Refuses 8 (BytesLength) bytes of another length than the type's width.
+    /// # Errors
+    ///
+    /// - `BytesLength` (8): the number of bytes isn't the type's width.
     fn try_from_le_bytes(bytes: &[u8]) -> VortexResult<Self>
         ensures { ReadsBytes Self.byte_width Self.value Self.fits bytes.now result };
 }
 
-// The bytes as an array.
+// Returns the bytes as an array.
 fn array_of<const N: usize>(bytes: &[u8]) -> VortexResult<[u8; N]>
     ensures accepted { IsOk result ↔ (length bytes.now ≡ N) }
     ensures same { MatchResult result (λ array. array ≡ bytes.now) (λ e. e ≡ BytesLength) }

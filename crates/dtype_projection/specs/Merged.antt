@@ -6,7 +6,7 @@
 use Rattle.std.specs.Prelude.{List, [], ◌∷◌, Bool, Option, Some, None, if◌then◌else◌}
 use Rattle.std.specs.Bool.{Decides}
 use Rattle.dtype_base.specs.Nullability.{either}
-use Rattle.dtype_types.specs.EqualityLaws.{agree_erased-Decides}
+use Rattle.dtype_types.specs.EqualityLaws.{equal_erased-Decides}
 use Rattle.dtype_types.specs.Sub.{Sub}
 use Rattle.dtype_types.specs.Tree.{Tree, Fields, no_fields, field, Variants, no_variants, choice, null, bool, primitive, decimal, utf8, binary, list, fixed_size_list, map_of, struct, union, variant, extension}
 
@@ -46,7 +46,7 @@ abbrev pub tested : {x : Bool} {P : Type 0} → Decides x P → Bool
 tested {x = x} decides = x
 
 abbrev pub is_alike : Tree → Tree → Bool
-is_alike a b = tested (agree_erased-Decides a b)
+is_alike a b = tested (equal_erased-Decides a b)
 
 -- the least type above both, if there is one
 abbrev pub merged : Tree → Tree → Option Tree

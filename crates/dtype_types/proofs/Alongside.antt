@@ -9,10 +9,10 @@ use Rattle.std.proofs.lemmas.Bool.{false≢true, false_from_ne_true}
 use Rattle.std.proofs.lemmas.Bool.Decides.{Decides-eqb}
 use Rattle.std.proofs.lemmas.List.{get_or_default}
 use Rattle.dtype_types.specs.Tree.{Tree, fields, variants}
-use Rattle.dtype_types.specs.declared.dtype.equality.Nullabilities.{Nullabilities}
+use Rattle.dtype_types.specs.declared.dtype.equality.NullabilityRule.{NullabilityRule}
 use Rattle.dtype_types.specs.Lookups.{variant_tags}
 use Rattle.dtype_types.specs.Text.{consecutive}
-use Rattle.dtype_types.specs.Equality.{agree, agree_fields, agree_variants}
+use Rattle.dtype_types.specs.Equality.{equal_under, fields_equal_under, variants_equal_under}
 
 pub and_first : (x y : Bool) → x ≡ false → (x && y) ≡ false
 and_first x y e = ap (λ b. b && y) e
@@ -23,17 +23,17 @@ and_second x y e = ap (λ b. x && b) e ∙ and-false x
 pub and_both : (x y : Bool) → x ≡ true → (x && y) ≡ y
 and_both x y e = ap (λ b. b && y) e
 
-pub differ_fields : (s : Nullabilities) (ps qs : List (List ℕ × Tree)) → (length ps ≡ length qs → ⊥) → agree_fields s (fields ps) (fields qs) ≡ false
+pub differ_fields : (s : NullabilityRule) (ps qs : List (List ℕ × Tree)) → (length ps ≡ length qs → ⊥) → fields_equal_under s (fields ps) (fields qs) ≡ false
 differ_fields s [] [] h = absurd (h refl)
 differ_fields s [] (q ∷ qs) h = refl
 differ_fields s (p ∷ ps) [] h = refl
-differ_fields s (p ∷ ps) (q ∷ qs) h = and_second (bytes_eq p.0 q.0 && agree s p.1 q.1) _ (differ_fields s ps qs (λ e. h (ap suc e)))
+differ_fields s (p ∷ ps) (q ∷ qs) h = and_second (bytes_eq p.0 q.0 && equal_under s p.1 q.1) _ (differ_fields s ps qs (λ e. h (ap suc e)))
 
-pub differ_variants : (s : Nullabilities) (ps qs : List (List ℕ × Tree × ℕ)) → (length ps ≡ length qs → ⊥) → agree_variants s (variants ps) (variants qs) ≡ false
+pub differ_variants : (s : NullabilityRule) (ps qs : List (List ℕ × Tree × ℕ)) → (length ps ≡ length qs → ⊥) → variants_equal_under s (variants ps) (variants qs) ≡ false
 differ_variants s [] [] h = absurd (h refl)
 differ_variants s [] (q ∷ qs) h = refl
 differ_variants s (p ∷ ps) [] h = refl
-differ_variants s (p ∷ ps) (q ∷ qs) h = and_second (bytes_eq p.0 q.0 && agree s p.1 q.1 && (p.2 == q.2)) _ (differ_variants s ps qs (λ e. h (ap suc e)))
+differ_variants s (p ∷ ps) (q ∷ qs) h = and_second (bytes_eq p.0 q.0 && equal_under s p.1 q.1 && (p.2 == q.2)) _ (differ_variants s ps qs (λ e. h (ap suc e)))
 
 -- the results of a turn, which shows three tests or four
 pub three : (x y z r : Bool) → r ≡ (x && y && z) → (x ≡ false → r ≡ false) × (y ≡ false → r ≡ false) × (x ≡ true → y ≡ true → z ≡ r)
@@ -67,29 +67,29 @@ pub tags_differ : (x y : ℕ) → (x ≡ y → ⊥) → (x == y) ≡ false
 tags_differ x y ne = false_from_ne_true (x == y) (λ e. ne ((Decides-eqb x y).0 e))
 
 -- what a turn says of the whole, r, by its tests
-pub fields_turn : (s : Nullabilities) (ps qs ps' qs' : List (List ℕ × Tree)) (n m : List ℕ) (t u : Tree) (r : Bool) → agree_fields s (fields ps) (fields qs) ≡ r → ps ≡ (n, t) ∷ ps' → qs ≡ (m, u) ∷ qs'
-    → (bytes_eq n m ≡ false → r ≡ false) × (agree s t u ≡ false → r ≡ false)
-    × (bytes_eq n m ≡ true → agree s t u ≡ true → agree_fields s (fields ps') (fields qs') ≡ r)
+pub fields_turn : (s : NullabilityRule) (ps qs ps' qs' : List (List ℕ × Tree)) (n m : List ℕ) (t u : Tree) (r : Bool) → fields_equal_under s (fields ps) (fields qs) ≡ r → ps ≡ (n, t) ∷ ps' → qs ≡ (m, u) ∷ qs'
+    → (bytes_eq n m ≡ false → r ≡ false) × (equal_under s t u ≡ false → r ≡ false)
+    × (bytes_eq n m ≡ true → equal_under s t u ≡ true → fields_equal_under s (fields ps') (fields qs') ≡ r)
 fields_turn s ps qs ps' qs' n m t u r so_far p q =
-    three (bytes_eq n m) (agree s t u) (agree_fields s (fields ps') (fields qs')) r
-    (sym so_far ∙ ap (λ xs. agree_fields s (fields xs) (fields qs)) p ∙ ap (λ ys. agree_fields s (fields ((n, t) ∷ ps')) (fields ys)) q)
+    three (bytes_eq n m) (equal_under s t u) (fields_equal_under s (fields ps') (fields qs')) r
+    (sym so_far ∙ ap (λ xs. fields_equal_under s (fields xs) (fields qs)) p ∙ ap (λ ys. fields_equal_under s (fields ((n, t) ∷ ps')) (fields ys)) q)
 
-pub variants_turn : (s : Nullabilities) (ps qs ps' qs' : List (List ℕ × Tree × ℕ)) (n m : List ℕ) (t u : Tree) (g h : ℕ) (r : Bool) → agree_variants s (variants ps) (variants qs) ≡ r → ps ≡ (n, t, g) ∷ ps' → qs ≡ (m, u, h) ∷ qs'
-    → (bytes_eq n m ≡ false → r ≡ false) × (agree s t u ≡ false → r ≡ false) × ((g == h) ≡ false → r ≡ false)
-    × (bytes_eq n m ≡ true → agree s t u ≡ true → (g == h) ≡ true → agree_variants s (variants ps') (variants qs') ≡ r)
+pub variants_turn : (s : NullabilityRule) (ps qs ps' qs' : List (List ℕ × Tree × ℕ)) (n m : List ℕ) (t u : Tree) (g h : ℕ) (r : Bool) → variants_equal_under s (variants ps) (variants qs) ≡ r → ps ≡ (n, t, g) ∷ ps' → qs ≡ (m, u, h) ∷ qs'
+    → (bytes_eq n m ≡ false → r ≡ false) × (equal_under s t u ≡ false → r ≡ false) × ((g == h) ≡ false → r ≡ false)
+    × (bytes_eq n m ≡ true → equal_under s t u ≡ true → (g == h) ≡ true → variants_equal_under s (variants ps') (variants qs') ≡ r)
 variants_turn s ps qs ps' qs' n m t u g h r so_far p q =
-    four (bytes_eq n m) (agree s t u) (g == h) (agree_variants s (variants ps') (variants qs')) r
-    (sym so_far ∙ ap (λ xs. agree_variants s (variants xs) (variants qs)) p ∙ ap (λ ys. agree_variants s (variants ((n, t, g) ∷ ps')) (variants ys)) q)
+    four (bytes_eq n m) (equal_under s t u) (g == h) (variants_equal_under s (variants ps') (variants qs')) r
+    (sym so_far ∙ ap (λ xs. variants_equal_under s (variants xs) (variants qs)) p ∙ ap (λ ys. variants_equal_under s (variants ((n, t, g) ∷ ps')) (variants ys)) q)
 
 -- where one side has nothing left, neither has the other, which is as long
-pub fields_end : (s : Nullabilities) (ps qs : List (List ℕ × Tree)) (r : Bool) → agree_fields s (fields ps) (fields qs) ≡ r → length ps ≡ length qs → (ps ≡ []) ⊎ (qs ≡ []) → true ≡ r
+pub fields_end : (s : NullabilityRule) (ps qs : List (List ℕ × Tree)) (r : Bool) → fields_equal_under s (fields ps) (fields qs) ≡ r → length ps ≡ length qs → (ps ≡ []) ⊎ (qs ≡ []) → true ≡ r
 fields_end s [] [] r so_far even none = so_far
 fields_end s [] (q ∷ qs) r so_far even none = absurd (omega arith)
 fields_end s (p ∷ ps) [] r so_far even none = absurd (omega arith)
 fields_end s (p ∷ ps) (q ∷ qs) r so_far even (inl none) = cc
 fields_end s (p ∷ ps) (q ∷ qs) r so_far even (inr none) = cc
 
-pub variants_end : (s : Nullabilities) (ps qs : List (List ℕ × Tree × ℕ)) (r : Bool) → agree_variants s (variants ps) (variants qs) ≡ r → length ps ≡ length qs → (ps ≡ []) ⊎ (qs ≡ []) → true ≡ r
+pub variants_end : (s : NullabilityRule) (ps qs : List (List ℕ × Tree × ℕ)) (r : Bool) → variants_equal_under s (variants ps) (variants qs) ≡ r → length ps ≡ length qs → (ps ≡ []) ⊎ (qs ≡ []) → true ≡ r
 variants_end s [] [] r so_far even none = so_far
 variants_end s [] (q ∷ qs) r so_far even none = absurd (omega arith)
 variants_end s (p ∷ ps) [] r so_far even none = absurd (omega arith)

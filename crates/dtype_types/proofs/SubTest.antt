@@ -7,11 +7,11 @@ use Rattle.std.specs.Bool.{Decides}
 use Rattle.std.proofs.lemmas.Bool.{false≢true}
 use Rattle.dtype_base.specs.declared.nullability.Nullability.{Nullability}
 use Rattle.dtype_base.specs.declared.nullability.Nullability.TheVariants.{NonNullable, Nullable}
-use Rattle.dtype_types.specs.Equality.{agree, agree_fields, agree_variants, allows}
-use Rattle.dtype_types.specs.EqualityLaws.{agree_erased-Decides, both, join}
+use Rattle.dtype_types.specs.Equality.{equal_under, fields_equal_under, variants_equal_under, allows}
+use Rattle.dtype_types.specs.EqualityLaws.{equal_erased-Decides, both, join}
 use Rattle.dtype_types.specs.Sub.{Sub, Allows, NullableWherever, NullableWhereverFields, NullableWhereverVariants}
 use Rattle.dtype_types.specs.Tree.{Tree, Fields, no_fields, field, Variants, no_variants, choice, null, bool, primitive, decimal, utf8, binary, list, fixed_size_list, map_of, struct, union, variant, extension}
-use Rattle.dtype_types.specs.declared.dtype.equality.Nullabilities.TheVariants.{Ignored, Within}
+use Rattle.dtype_types.specs.declared.dtype.equality.NullabilityRule.TheVariants.{Ignored, Within}
 
 allowed : (m n : Nullability) → allows Within m n ≡ true → Allows m n
 allowed Nullable Nullable e = λ h. refl
@@ -24,7 +24,7 @@ allows_it Nullable NonNullable h = let never = h refl in cc
 allows_it NonNullable n h = refl
 
 mutual
-  there : (a b : Tree) → agree Within a b ≡ true → (agree Ignored a b ≡ true) × NullableWherever a b
+  there : (a b : Tree) → equal_under Within a b ≡ true → (equal_under Ignored a b ≡ true) × NullableWherever a b
   there null null e = (refl, tt)
   there (bool m) (bool n) e = (refl, allowed m n e)
   there (primitive p m) (primitive q n) e = let h = both e in (join h.0 refl, allowed m n h.1)
@@ -43,7 +43,7 @@ mutual
   there (extension i a t) (extension j b u) e = let h = both e in let r = there t u h.1 in (join h.0 r.0, r.1)
   there _ _ e = absurd (false≢true e)
 
-  there_fields : (fs gs : Fields) → agree_fields Within fs gs ≡ true → (agree_fields Ignored fs gs ≡ true) × NullableWhereverFields fs gs
+  there_fields : (fs gs : Fields) → fields_equal_under Within fs gs ≡ true → (fields_equal_under Ignored fs gs ≡ true) × NullableWhereverFields fs gs
   there_fields no_fields no_fields e = (refl, tt)
   there_fields (field m t fs) (field n u gs) e =
       let h = both e in let g = both h.0 in
@@ -51,7 +51,7 @@ mutual
       (join (join g.0 r.0) s.0, (r.1, s.1))
   there_fields _ _ e = absurd (false≢true e)
 
-  there_variants : (vs ws : Variants) → agree_variants Within vs ws ≡ true → (agree_variants Ignored vs ws ≡ true) × NullableWhereverVariants vs ws
+  there_variants : (vs ws : Variants) → variants_equal_under Within vs ws ≡ true → (variants_equal_under Ignored vs ws ≡ true) × NullableWhereverVariants vs ws
   there_variants no_variants no_variants e = (refl, tt)
   there_variants (choice m t g vs) (choice n u i ws) e =
       let h = both e in let f = both h.0 in let d = both f.0 in
@@ -60,7 +60,7 @@ mutual
   there_variants _ _ e = absurd (false≢true e)
 
 mutual
-  back : (a b : Tree) → agree Ignored a b ≡ true → NullableWherever a b → agree Within a b ≡ true
+  back : (a b : Tree) → equal_under Ignored a b ≡ true → NullableWherever a b → equal_under Within a b ≡ true
   back null null e h = refl
   back (bool m) (bool n) e h = allows_it m n h
   back (primitive p m) (primitive q n) e h = join (both e).0 (allows_it m n h)
@@ -78,22 +78,22 @@ mutual
   back (extension i a t) (extension j b u) e h = let g = both e in join g.0 (back t u g.1 h)
   back _ _ e h = absurd h
 
-  back_fields : (fs gs : Fields) → agree_fields Ignored fs gs ≡ true → NullableWhereverFields fs gs → agree_fields Within fs gs ≡ true
+  back_fields : (fs gs : Fields) → fields_equal_under Ignored fs gs ≡ true → NullableWhereverFields fs gs → fields_equal_under Within fs gs ≡ true
   back_fields no_fields no_fields e h = refl
   back_fields (field m t fs) (field n u gs) e h = let f = both e in let g = both f.0 in join (join g.0 (back t u g.1 h.0)) (back_fields fs gs f.1 h.1)
   back_fields _ _ e h = absurd h
 
-  back_variants : (vs ws : Variants) → agree_variants Ignored vs ws ≡ true → NullableWhereverVariants vs ws → agree_variants Within vs ws ≡ true
+  back_variants : (vs ws : Variants) → variants_equal_under Ignored vs ws ≡ true → NullableWhereverVariants vs ws → variants_equal_under Within vs ws ≡ true
   back_variants no_variants no_variants e h = refl
   back_variants (choice m t g vs) (choice n u i ws) e h =
       let f = both e in let d = both f.0 in let c = both d.0 in
       join (join (join c.0 (back t u c.1 h.0)) d.1) (back_variants vs ws f.1 h.1)
   back_variants _ _ e h = absurd h
 
-sub_Decides : (a b : Tree) → Decides (agree Within a b) (Sub a b)
+sub_Decides : (a b : Tree) → Decides (equal_under Within a b) (Sub a b)
 sub_Decides a b =
-    let d = agree_erased-Decides a b in
+    let d = equal_erased-Decides a b in
     (λ e. let r = there a b e in record { erased = d.0 r.0; nullable = r.1 }, λ h. back a b (d.1 h.erased) h.nullable)
 
-pub sub_of_test : (a b : Tree) (r : Bool) → r ≡ agree Within a b → IsTrue r ↔ Sub a b
+pub sub_of_test : (a b : Tree) (r : Bool) → r ≡ equal_under Within a b → IsTrue r ↔ Sub a b
 sub_of_test a b r is = let d = sub_Decides a b in (λ e. d.0 (sym is ∙ e), λ h. is ∙ d.1 h)

@@ -12,10 +12,10 @@ use Rattle.dtype_types.specs.declared.dtype.kinds.Kind.TheVariants as kind
 use Rattle.dtype_types.specs.Tree.{Tree, Fields, no_fields, field, Variants, no_variants, choice, null, bool, primitive, decimal, utf8, binary, list, fixed_size_list, map_of, struct, union, variant, extension, fields}
 use Rattle.dtype_types.specs.TreeOf.{tree, children, variants_of, map_shown, extension_tree}
 use Rattle.dtype_types.specs.Erase.{erase, erase_fields, erase_variants}
-use Rattle.dtype_types.specs.EqualityLaws.{agree-Decides, same_dtype}
-use Rattle.dtype_types.specs.PartsEquality.{same_fields-Decides, agree_variants-Decides, agree_maps-Decides, same_struct, same_union, same_map, same_extension}
+use Rattle.dtype_types.specs.EqualityLaws.{equal_under-Decides, same_dtype}
+use Rattle.dtype_types.specs.PartsEquality.{same_fields-Decides, variants_equal_under-Decides, maps_equal_under-Decides, same_struct, same_union, same_map, same_extension}
 use Rattle.dtype_types.specs.Hashes.{hash_of, head_writes, bytes_writes, field_count, field_writes, variant_count, variant_writes}
-use Rattle.dtype_types.specs.declared.dtype.hash.Hashed.TheVariants.{Whole, Erased}
+use Rattle.dtype_types.specs.declared.dtype.hash.HashMode.TheVariants.{Whole, Erased}
 use Rattle.dtype_types.specs.HashesOf.{struct_writes, union_writes, map_writes, extension_writes}
 use Rattle.dtype_types.specs.declared.dtype.DType.{DType}
 use Rattle.dtype_types.specs.declared.struct_fields.StructFields.{StructFields}
@@ -24,20 +24,20 @@ use Rattle.dtype_types.specs.declared.map.MapDType.{MapDType}
 use Rattle.dtype_types.specs.declared.extension.ExtDTypeRef.{ExtDTypeRef}
 
 pub dtype_fed : (x y : DType) → same_dtype x y ≡ true → hash_of Whole (tree x) ≡ hash_of Whole (tree y)
-dtype_fed x y e = ap (hash_of Whole) ((agree-Decides (tree x) (tree y)).0 e)
+dtype_fed x y e = ap (hash_of Whole) ((equal_under-Decides (tree x) (tree y)).0 e)
 
 pub struct_fed : (x y : StructFields) → same_struct x y ≡ true → struct_writes Whole x ≡ struct_writes Whole y
 struct_fed x y e = ap (λ ps. fed.usize (field_count (fields ps)) ++ field_writes Whole (fields ps)) ((same_fields-Decides (children x) (children y)).0 e)
 
 pub union_fed : (x y : UnionVariants) → same_union x y ≡ true → union_writes Whole x ≡ union_writes Whole y
-union_fed x y e = ap (λ vs. fed.usize (variant_count vs) ++ variant_writes Whole vs) ((agree_variants-Decides (variants_of x) (variants_of y)).0 e)
+union_fed x y e = ap (λ vs. fed.usize (variant_count vs) ++ variant_writes Whole vs) ((variants_equal_under-Decides (variants_of x) (variants_of y)).0 e)
 
 pub map_fed : (x y : MapDType) → same_map x y ≡ true → map_writes Whole x ≡ map_writes Whole y
-map_fed x y e = ap (λ m. hash_of Whole m.0 ++ (hash_of Whole m.1 ++ fed.bool m.2)) ((agree_maps-Decides (map_shown x) (map_shown y)).0 e)
+map_fed x y e = ap (λ m. hash_of Whole m.0 ++ (hash_of Whole m.1 ++ fed.bool m.2)) ((maps_equal_under-Decides (map_shown x) (map_shown y)).0 e)
 
 -- an extension's writes are those of its tree behind the byte of the kind
 pub extension_fed : (x y : ExtDTypeRef) → same_extension x y ≡ true → extension_writes Whole x ≡ extension_writes Whole y
-extension_fed x y e = ap (λ t. drop 1 (hash_of Whole t)) ((agree-Decides (extension_tree x) (extension_tree y)).0 e)
+extension_fed x y e = ap (λ t. drop 1 (hash_of Whole t)) ((equal_under-Decides (extension_tree x) (extension_tree y)).0 e)
 
 mutual
   pub hash-erase : (t : Tree) → hash_of Erased t ≡ hash_of Erased (erase t)

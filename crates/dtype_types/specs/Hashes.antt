@@ -14,17 +14,17 @@ use Rattle.dtype_base.specs.declared.nullability.Nullability.TheVariants.{NonNul
 use Rattle.dtype_base.specs.declared.ptype.PType.{PType}
 use Rattle.dtype_types.specs.Kinds.{kind_number}
 use Rattle.dtype_types.specs.declared.dtype.kinds.Kind.TheVariants as kind
-use Rattle.dtype_types.specs.declared.dtype.hash.Hashed.{Hashed}
-use Rattle.dtype_types.specs.declared.dtype.hash.Hashed.TheVariants.{Whole, Erased}
+use Rattle.dtype_types.specs.declared.dtype.hash.HashMode.{HashMode}
+use Rattle.dtype_types.specs.declared.dtype.hash.HashMode.TheVariants.{Whole, Erased}
 use Rattle.dtype_types.specs.Tree.{Tree, Fields, no_fields, field, Variants, no_variants, choice, null, bool, primitive, decimal, utf8, binary, list, fixed_size_list, map_of, struct, union, variant, extension}
 
 -- 1 for a nullable type, where nullabilities aren't forgotten
-abbrev pub nullable_mark : Hashed → Nullability → ℕ
+abbrev pub nullable_mark : HashMode → Nullability → ℕ
 nullable_mark Whole Nullable = 1
 nullable_mark _ _ = 0
 
 -- the number of what a type is, and its nullability, in one byte
-abbrev pub head_writes : Hashed → ℕ → Nullability → HashWrites
+abbrev pub head_writes : HashMode → ℕ → Nullability → HashWrites
 head_writes s number n = fed.u8 (2 * number + nullable_mark s n)
 
 -- the primitive types are numbered behind the kinds
@@ -45,7 +45,7 @@ variant_count no_variants = 0
 variant_count (choice n t g rest) = suc (variant_count rest)
 
 abbrev mutual
-  pub hash_of : Hashed → Tree → HashWrites
+  pub hash_of : HashMode → Tree → HashWrites
   hash_of s null = head_writes s (kind_number kind.Null) NonNullable
   hash_of s (bool n) = head_writes s (kind_number kind.Bool) n
   hash_of s (primitive p n) = head_writes s (primitive_number p) n
@@ -61,12 +61,12 @@ abbrev mutual
   hash_of s (extension id b t) = head_writes s (kind_number kind.Extension) NonNullable ++ (fed.str id ++ (bytes_writes b ++ hash_of s t))
 
   -- each field: its name and its type
-  pub field_writes : Hashed → Fields → HashWrites
+  pub field_writes : HashMode → Fields → HashWrites
   field_writes s no_fields = []
   field_writes s (field n t rest) = fed.str n ++ (hash_of s t ++ field_writes s rest)
 
   -- each variant: its name, its type and its tag
-  pub variant_writes : Hashed → Variants → HashWrites
+  pub variant_writes : HashMode → Variants → HashWrites
   variant_writes s no_variants = []
   variant_writes s (choice n t g rest) = fed.str n ++ (hash_of s t ++ (fed.u8 g ++ variant_writes s rest))
 

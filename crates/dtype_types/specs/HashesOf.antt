@@ -7,21 +7,21 @@ use Rattle.std.specs.Prelude.{◌++◌}
 use Rattle.std.specs.Hash as fed
 use Rattle.std.specs.Hash.{HashWrites}
 use Rattle.dtype_types.specs.Hashes.{hash_of, bytes_writes, field_count, field_writes, variant_count, variant_writes}
-use Rattle.dtype_types.specs.declared.dtype.hash.Hashed.{Hashed}
+use Rattle.dtype_types.specs.declared.dtype.hash.HashMode.{HashMode}
 use Rattle.dtype_types.specs.TreeOf.{fields_of, variants_of, extension_id, extension_metadata, storage_tree, map_shown}
 use Rattle.dtype_types.specs.declared.struct_fields.StructFields.{StructFields}
 use Rattle.dtype_types.specs.declared.union_variants.UnionVariants.{UnionVariants}
 use Rattle.dtype_types.specs.declared.map.MapDType.{MapDType}
 use Rattle.dtype_types.specs.declared.extension.ExtDTypeRef.{ExtDTypeRef}
 
-abbrev pub map_writes : Hashed → MapDType → HashWrites
+abbrev pub map_writes : HashMode → MapDType → HashWrites
 map_writes s m = hash_of s (map_shown m).0 ++ (hash_of s (map_shown m).1 ++ fed.bool (map_shown m).2)
 
-abbrev pub struct_writes : Hashed → StructFields → HashWrites
+abbrev pub struct_writes : HashMode → StructFields → HashWrites
 struct_writes s x = fed.usize (field_count (fields_of x)) ++ field_writes s (fields_of x)
 
-abbrev pub union_writes : Hashed → UnionVariants → HashWrites
+abbrev pub union_writes : HashMode → UnionVariants → HashWrites
 union_writes s u = fed.usize (variant_count (variants_of u)) ++ variant_writes s (variants_of u)
 
-abbrev pub extension_writes : Hashed → ExtDTypeRef → HashWrites
+abbrev pub extension_writes : HashMode → ExtDTypeRef → HashWrites
 extension_writes s e = fed.str (extension_id e) ++ (bytes_writes (extension_metadata e) ++ hash_of s (storage_tree e))

@@ -7,8 +7,8 @@ ghost use Rattle.std.specs.Rc.{rc_str_bytes};
 ghost use Rattle.dtype_base.specs.declared.vortex_error.VortexError.TheVariants.{OutOfMemory};
 
 use crate::DType;
-use crate::dtype::equality::{Nullabilities, agree};
-use crate::dtype::hash::{Hashed, feed};
+use crate::dtype::equality::{NullabilityRule, equal_under};
+use crate::dtype::hash::{HashMode, hash_into};
 use crate::dtype::width::Width;
 use dtype_base::laws::slices_hold_bytes;
 use dtype_base::{Nullability, VortexResult};
@@ -126,7 +126,7 @@ struct Parts<T> {
 impl ExtDTypeRef {
     ghost use Rattle.dtype_types.specs.Kinds.{is_nested};
     ghost use Rattle.dtype_types.specs.Nullable.{nullability, CanBeNonNullable, SetNull, IsNullable};
-    ghost use Rattle.dtype_types.specs.Equality.{agree};
+    ghost use Rattle.dtype_types.specs.Equality.{equal_under};
     ghost use Rattle.dtype_types.specs.Erase.{erase};
     ghost use Rattle.dtype_types.specs.Valid.{Valid};
     ghost use Rattle.dtype_types.specs.TreeOf.{tree, extension_tree, extension_metadata, extension_id, storage_tree};
@@ -213,7 +213,7 @@ impl ExtDTypeRef {
         ensures { IsTrue result
             ↔ (erase (extension_tree self.now) ≡ erase (extension_tree other.now)) }
     {
-        self.agree(other, Nullabilities::Ignored)
+        self.equal_under(other, NullabilityRule::Ignored)
     }
 
     /// Returns the outer nullability, which is the storage's.
@@ -239,26 +239,26 @@ impl ExtDTypeRef {
     }
 
     // Whether the ids and the metadata are equal, and the storages under the rule.
-    #[cycle(agree)]
-    pub(crate) fn agree(&self, other: &ExtDTypeRef, rule: Nullabilities) -> bool
+    #[cycle(equal_under)]
+    pub(crate) fn equal_under(&self, other: &ExtDTypeRef, rule: NullabilityRule) -> bool
         ensures { result ≡ (bytes_eq (extension_id self.now) (extension_id other.now)
             && bytes_eq (extension_metadata self.now) (extension_metadata other.now)
-            && agree rule (storage_tree self.now) (storage_tree other.now)) }
+            && equal_under rule (storage_tree self.now) (storage_tree other.now)) }
     {
         self.parts.id == other.parts.id
             && self.parts.metadata.as_slice() == other.parts.metadata.as_slice()
-            && agree(&self.parts.storage, &other.parts.storage, rule)
+            && equal_under(&self.parts.storage, &other.parts.storage, rule)
     }
 
     // Hashes the id, the metadata and the storage.
     #[cycle(hash)]
-    pub(crate) fn feed<H: Hasher>(&self, rule: Hashed, state: &mut H)
-        ensures { state.new ≡ fold H.write state.old (extension_writes rule self.now) }
+    pub(crate) fn hash_into<H: Hasher>(&self, mode: HashMode, state: &mut H)
+        ensures { state.new ≡ fold H.write state.old (extension_writes mode self.now) }
     {
         self.parts.id.hash(state);
         state.write_usize(self.parts.metadata.len());
         state.write(&self.parts.metadata);
-        feed(&self.parts.storage, rule, state);
+        hash_into(&self.parts.storage, mode, state);
     }
 
     /// Returns an extension type equal to this one.
@@ -334,7 +334,7 @@ impl PartialEq for ExtDTypeRef {
     fn eq(&self, other: &ExtDTypeRef) -> bool
         ensures { IsTrue result ↔ (extension_tree self.now ≡ extension_tree other.now) }
     {
-        self.agree(other, Nullabilities::Compared)
+        self.equal_under(other, NullabilityRule::Compared)
     }
 }
 
@@ -347,14 +347,14 @@ impl Eq for ExtDTypeRef {
 impl Hash for ExtDTypeRef {
     ghost use Rattle.dtype_types.specs.HashLaws.{extension_fed};
     ghost use Rattle.dtype_types.specs.HashesOf.{extension_writes};
-    ghost use Rattle.dtype_types.specs.declared.dtype.hash.Hashed.TheVariants.{Whole};
+    ghost use Rattle.dtype_types.specs.declared.dtype.hash.HashMode.TheVariants.{Whole};
 
     ghost hash_input = { extension_writes Whole };
 
     ghost respects_eq = { extension_fed };
 
     fn hash<H: Hasher>(&self, state: &mut H) {
-        self.feed(Hashed::Whole, state);
+        self.hash_into(HashMode::Whole, state);
     }
 }
 

@@ -6,8 +6,8 @@ ghost use Rattle.dtype_base.specs.declared.vortex_error.VortexError.TheVariants.
 ghost use Rattle.dtype_base.specs.declared.nullability.Nullability.TheVariants.{NonNullable};
 ghost use Rattle.std.proofs.Math.Bool.{beq};
 
-use crate::dtype::equality::{Nullabilities, agree};
-use crate::dtype::hash::{Hashed, feed};
+use crate::dtype::equality::{NullabilityRule, equal_under};
+use crate::dtype::hash::{HashMode, hash_into};
 use crate::{DType, StructFields};
 use dtype_base::{FieldNames, Nullability, VortexError, VortexResult};
 use std::alloc::Global;
@@ -31,7 +31,7 @@ struct Entries<T> {
 }
 
 impl MapDType {
-    ghost use Rattle.dtype_types.specs.Equality.{agree};
+    ghost use Rattle.dtype_types.specs.Equality.{equal_under};
     ghost use Rattle.dtype_types.specs.HashesOf.{map_writes};
     ghost use Rattle.dtype_types.specs.Maps.{entries_of};
     ghost use Rattle.dtype_types.specs.Nullable.{nullability, IsNullable};
@@ -103,24 +103,24 @@ impl MapDType {
     }
 
     // Whether the parts of the two are equal under the rule.
-    #[cycle(agree)]
-    pub(crate) fn agree(&self, other: &MapDType, rule: Nullabilities) -> bool
-        ensures { result ≡ (agree rule (map_shown self.now).0 (map_shown other.now).0
-            && agree rule (map_shown self.now).1 (map_shown other.now).1
+    #[cycle(equal_under)]
+    pub(crate) fn equal_under(&self, other: &MapDType, rule: NullabilityRule) -> bool
+        ensures { result ≡ (equal_under rule (map_shown self.now).0 (map_shown other.now).0
+            && equal_under rule (map_shown self.now).1 (map_shown other.now).1
             && beq (map_shown self.now).2 (map_shown other.now).2) }
     {
-        agree(&self.shared.key, &other.shared.key, rule)
-            && agree(&self.shared.value, &other.shared.value, rule)
+        equal_under(&self.shared.key, &other.shared.key, rule)
+            && equal_under(&self.shared.value, &other.shared.value, rule)
             && self.shared.keys_sorted == other.shared.keys_sorted
     }
 
     // Hashes the key, the value, and whether the keys are sorted.
     #[cycle(hash)]
-    pub(crate) fn feed<H: Hasher>(&self, rule: Hashed, state: &mut H)
-        ensures { state.new ≡ fold H.write state.old (map_writes rule self.now) }
+    pub(crate) fn hash_into<H: Hasher>(&self, mode: HashMode, state: &mut H)
+        ensures { state.new ≡ fold H.write state.old (map_writes mode self.now) }
     {
-        feed(&self.shared.key, rule, state);
-        feed(&self.shared.value, rule, state);
+        hash_into(&self.shared.key, mode, state);
+        hash_into(&self.shared.value, mode, state);
         self.shared.keys_sorted.hash(state);
     }
 
@@ -152,7 +152,7 @@ impl PartialEq for MapDType {
     fn eq(&self, other: &MapDType) -> bool
         ensures { IsTrue result ↔ (map_shown self.now ≡ map_shown other.now) }
     {
-        self.agree(other, Nullabilities::Compared)
+        self.equal_under(other, NullabilityRule::Compared)
     }
 }
 
@@ -165,14 +165,14 @@ impl Eq for MapDType {
 impl Hash for MapDType {
     ghost use Rattle.dtype_types.specs.HashLaws.{map_fed};
     ghost use Rattle.dtype_types.specs.HashesOf.{map_writes};
-    ghost use Rattle.dtype_types.specs.declared.dtype.hash.Hashed.TheVariants.{Whole};
+    ghost use Rattle.dtype_types.specs.declared.dtype.hash.HashMode.TheVariants.{Whole};
 
     ghost hash_input = { map_writes Whole };
 
     ghost respects_eq = { map_fed };
 
     fn hash<H: Hasher>(&self, state: &mut H) {
-        self.feed(Hashed::Whole, state);
+        self.hash_into(HashMode::Whole, state);
     }
 }
 

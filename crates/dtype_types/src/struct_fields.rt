@@ -10,8 +10,8 @@ ghost use Rattle.dtype_base.specs.FieldNames.{SelectionRefusal, first_place};
 ghost use Rattle.dtype_base.specs.NameOrder.{comparisons};
 ghost use Rattle.dtype_base.specs.declared.vortex_error.VortexError.TheVariants.{DuplicateNames, IndexOutOfBounds, OutOfMemory};
 
-use crate::dtype::equality::{Nullabilities, agree};
-use crate::dtype::hash::{Hashed, feed};
+use crate::dtype::equality::{NullabilityRule, equal_under};
+use crate::dtype::hash::{HashMode, hash_into};
 use crate::dtype::indented_text::start_field;
 use crate::dtype::width::Width;
 use crate::field_dtype::into_dtypes;
@@ -38,7 +38,7 @@ pub struct StructFields {
 #[tactic(auto, using(crate::proofs::Sides::pairs, crate::proofs::Parts::fields, crate::specs::lemmas::Lookups::lookups))]
 impl StructFields {
     ghost use Rattle.dtype_types.specs.Building.{fields_so_far};
-    ghost use Rattle.dtype_types.specs.Equality.{agree_fields};
+    ghost use Rattle.dtype_types.specs.Equality.{fields_equal_under};
     ghost use Rattle.dtype_types.specs.Erase.{erase};
     ghost use Rattle.dtype_types.specs.FieldTypes.{field_tree, MadeFrom};
     ghost use Rattle.dtype_types.specs.IndentedText.{indented_text, indented_braces};
@@ -214,13 +214,13 @@ impl StructFields {
         ensures { IsTrue result
             ↔ (erase (struct_tree self.now) ≡ erase (struct_tree other.now)) }
     {
-        self.agree(other, Nullabilities::Ignored)
+        self.equal_under(other, NullabilityRule::Ignored)
     }
 
     // Whether the fields of the two are equal under the rule, one by one.
-    #[cycle(agree)]
-    pub(crate) fn agree(&self, other: &StructFields, rule: Nullabilities) -> bool
-        ensures { result ≡ agree_fields rule (fields_of self.now) (fields_of other.now) }
+    #[cycle(equal_under)]
+    pub(crate) fn equal_under(&self, other: &StructFields, rule: NullabilityRule) -> bool
+        ensures { result ≡ fields_equal_under rule (fields_of self.now) (fields_of other.now) }
     {
         let count = self.nfields();
         if other.nfields() != count {
@@ -230,7 +230,7 @@ impl StructFields {
             if name != other_name {
                 return false;
             }
-            if !agree(dtype, other_dtype, rule) {
+            if !equal_under(dtype, other_dtype, rule) {
                 return false;
             }
         }
@@ -254,13 +254,13 @@ impl StructFields {
 
     // Hashes the number of fields, and each field.
     #[cycle(hash)]
-    pub(crate) fn feed<H: Hasher>(&self, rule: Hashed, state: &mut H)
-        ensures { state.new ≡ fold H.write state.old (struct_writes rule self.now) }
+    pub(crate) fn hash_into<H: Hasher>(&self, mode: HashMode, state: &mut H)
+        ensures { state.new ≡ fold H.write state.old (struct_writes mode self.now) }
     {
         state.write_usize(self.nfields());
         for (name, dtype) in self.pairs() {
             name.hash(state);
-            feed(dtype, rule, state);
+            hash_into(dtype, mode, state);
         }
     }
 
@@ -437,7 +437,7 @@ impl PartialEq for StructFields {
     fn eq(&self, other: &StructFields) -> bool
         ensures { IsTrue result ↔ (children self.now ≡ children other.now) }
     {
-        self.agree(other, Nullabilities::Compared)
+        self.equal_under(other, NullabilityRule::Compared)
     }
 }
 
@@ -450,14 +450,14 @@ impl Eq for StructFields {
 impl Hash for StructFields {
     ghost use Rattle.dtype_types.specs.HashLaws.{struct_fed};
     ghost use Rattle.dtype_types.specs.HashesOf.{struct_writes};
-    ghost use Rattle.dtype_types.specs.declared.dtype.hash.Hashed.TheVariants.{Whole};
+    ghost use Rattle.dtype_types.specs.declared.dtype.hash.HashMode.TheVariants.{Whole};
 
     ghost hash_input = { struct_writes Whole };
 
     ghost respects_eq = { struct_fed };
 
     fn hash<H: Hasher>(&self, state: &mut H) {
-        self.feed(Hashed::Whole, state);
+        self.hash_into(HashMode::Whole, state);
     }
 }
 

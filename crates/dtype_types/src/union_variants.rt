@@ -8,8 +8,8 @@ ghost use Rattle.dtype_base.specs.FieldNames.{first_place};
 ghost use Rattle.dtype_base.specs.declared.vortex_error.VortexError.TheVariants.{OutOfMemory, UnionTooMany};
 ghost use Rattle.dtype_types.specs.Unions.{AreConsecutive, HasUnionLengths, MakesUnion, UnionRefusal};
 
-use crate::dtype::equality::{Nullabilities, agree};
-use crate::dtype::hash::{Hashed, feed};
+use crate::dtype::equality::{NullabilityRule, equal_under};
+use crate::dtype::hash::{HashMode, hash_into};
 use crate::tagged::Tagged;
 use crate::{DType, DTypeIter, VariantIter};
 use dtype_base::{FieldNames, VortexError, VortexResult};
@@ -82,7 +82,7 @@ fn first_tags(alloc: Global, count: usize) -> VortexResult<Vec<u8>>
 
 #[tactic(auto, using(crate::proofs::Sides::triples, crate::proofs::Parts::variants, crate::specs::lemmas::Lookups::lookups))]
 impl UnionVariants {
-    ghost use Rattle.dtype_types.specs.Equality.{agree_variants};
+    ghost use Rattle.dtype_types.specs.Equality.{variants_equal_under};
     ghost use Rattle.dtype_types.specs.Erase.{erase};
     ghost use Rattle.dtype_types.specs.Lookups.{variant_named, variant_types, variant_names, variant_tags};
     ghost use Rattle.dtype_types.specs.HashesOf.{union_writes};
@@ -242,9 +242,9 @@ impl UnionVariants {
     }
 
     // Whether the variants of the two are equal under the rule, one by one.
-    #[cycle(agree)]
-    pub(crate) fn agree(&self, other: &UnionVariants, rule: Nullabilities) -> bool
-        ensures { result ≡ agree_variants rule (variants_of self.now) (variants_of other.now) }
+    #[cycle(equal_under)]
+    pub(crate) fn equal_under(&self, other: &UnionVariants, rule: NullabilityRule) -> bool
+        ensures { result ≡ variants_equal_under rule (variants_of self.now) (variants_of other.now) }
     {
         let count = self.len();
         if other.len() != count {
@@ -257,7 +257,7 @@ impl UnionVariants {
             if name != other_name {
                 return false;
             }
-            if !agree(dtype, other_dtype, rule) {
+            if !equal_under(dtype, other_dtype, rule) {
                 return false;
             }
             if tag != other_tag {
@@ -272,18 +272,18 @@ impl UnionVariants {
         ensures { IsTrue result
             ↔ (erase (union_tree self.now) ≡ erase (union_tree other.now)) }
     {
-        self.agree(other, Nullabilities::Ignored)
+        self.equal_under(other, NullabilityRule::Ignored)
     }
 
     // Hashes the number of variants, and each variant.
     #[cycle(hash)]
-    pub(crate) fn feed<H: Hasher>(&self, rule: Hashed, state: &mut H)
-        ensures { state.new ≡ fold H.write state.old (union_writes rule self.now) }
+    pub(crate) fn hash_into<H: Hasher>(&self, mode: HashMode, state: &mut H)
+        ensures { state.new ≡ fold H.write state.old (union_writes mode self.now) }
     {
         state.write_usize(self.len());
         for (name, tag, dtype) in self.triples() {
             name.hash(state);
-            feed(dtype, rule, state);
+            hash_into(dtype, mode, state);
             state.write_u8(tag);
         }
     }
@@ -329,7 +329,7 @@ impl PartialEq for UnionVariants {
     fn eq(&self, other: &UnionVariants) -> bool
         ensures { IsTrue result ↔ (choices self.now ≡ choices other.now) }
     {
-        self.agree(other, Nullabilities::Compared)
+        self.equal_under(other, NullabilityRule::Compared)
     }
 }
 
@@ -342,14 +342,14 @@ impl Eq for UnionVariants {
 impl Hash for UnionVariants {
     ghost use Rattle.dtype_types.specs.HashLaws.{union_fed};
     ghost use Rattle.dtype_types.specs.HashesOf.{union_writes};
-    ghost use Rattle.dtype_types.specs.declared.dtype.hash.Hashed.TheVariants.{Whole};
+    ghost use Rattle.dtype_types.specs.declared.dtype.hash.HashMode.TheVariants.{Whole};
 
     ghost hash_input = { union_writes Whole };
 
     ghost respects_eq = { union_fed };
 
     fn hash<H: Hasher>(&self, state: &mut H) {
-        self.feed(Hashed::Whole, state);
+        self.hash_into(HashMode::Whole, state);
     }
 }
 

@@ -11,7 +11,7 @@ use Rattle.std.proofs.lemmas.Option.{same_Some}
 use Rattle.dtype_base.specs.Nullability.{either}
 use Rattle.dtype_base.specs.declared.nullability.Nullability.{Nullability}
 use Rattle.dtype_base.specs.declared.nullability.Nullability.TheVariants.{NonNullable, Nullable}
-use Rattle.dtype_types.specs.EqualityLaws.{agree_erased-Decides}
+use Rattle.dtype_types.specs.EqualityLaws.{equal_erased-Decides}
 use Rattle.dtype_types.specs.Erase.{erase, erase_fields, erase_variants}
 use Rattle.dtype_types.specs.Nullable.{nullability}
 use Rattle.dtype_types.specs.Sub.{Sub, Allows, NullableWherever, NullableWhereverFields, NullableWhereverVariants}
@@ -245,18 +245,18 @@ mutual
 -- ---- where there is one
 
 pub merged_some : (a b : Tree) → erase a ≡ erase b → merged a b ≡ Some (either_null a b)
-merged_some a b e = ap (λ x. if x then Some (either_null a b) else None) ((agree_erased-Decides a b).1 e)
+merged_some a b e = ap (λ x. if x then Some (either_null a b) else None) ((equal_erased-Decides a b).1 e)
 
 pub merged_none : (a b : Tree) → erase a ≢ erase b → merged a b ≡ None
-merged_none a b d = ap (λ x. if x then Some (either_null a b) else None) (false_from_ne_true (is_alike a b) (λ t. d ((agree_erased-Decides a b).0 t)))
+merged_none a b d = ap (λ x. if x then Some (either_null a b) else None) (false_from_ne_true (is_alike a b) (λ t. d ((equal_erased-Decides a b).0 t)))
 
 -- a fact of what is merged, by whether the types are equal but for nullabilities
 by_erased : (a b : Tree) (P : Option Tree → Type 0) → (erase a ≡ erase b → P (Some (either_null a b))) → (erase a ≢ erase b → P None) → P (merged a b)
 by_erased a b P same differ = go (is_alike a b) refl
   where
     go : (x : Bool) → is_alike a b ≡ x → P (merged a b)
-    go true is = let e = (agree_erased-Decides a b).0 is in subst P (sym (merged_some a b e)) (same e)
-    go false is = let d : erase a ≢ erase b = λ e. false≢true (sym is ∙ (agree_erased-Decides a b).1 e) in subst P (sym (merged_none a b d)) (differ d)
+    go true is = let e = (equal_erased-Decides a b).0 is in subst P (sym (merged_some a b e)) (same e)
+    go false is = let d : erase a ≢ erase b = λ e. false≢true (sym is ∙ (equal_erased-Decides a b).1 e) in subst P (sym (merged_none a b d)) (differ d)
 
 pub merged_where : (a b : Tree) → IsSome (merged a b) ↔ (erase a ≡ erase b)
 merged_where a b = by_erased a b (λ r. IsSome r ↔ (erase a ≡ erase b)) (λ e. (λ _. e, λ _. refl)) (λ d. (λ s. absurd (false≢true s), λ e. absurd (d e)))

@@ -11,14 +11,14 @@ use Rattle.dtype_types.specs.declared.dtype.DType.{size-DType}
 use Rattle.dtype_types.proofs.+hash.Given as goal
 
 -- what the fields that are left will write is what all of them do, and they are no deeper
-abbrev pub invariant-struct_fields::StructFields::feed-loop-name : goal.invariant-struct_fields::StructFields::feed-loop-name
-invariant-struct_fields::StructFields::feed-loop-name g l = record {
-  fed : fold g.H.Hasher.write l.initial.state (field_writes l.rule (fields_of l.self)) ≡ fold g.H.Hasher.write l.state (field_writes l.rule (fields (with_trees l.name-iterator)));
+abbrev pub invariant-struct_fields::StructFields::hash_into-loop-name : goal.invariant-struct_fields::StructFields::hash_into-loop-name
+invariant-struct_fields::StructFields::hash_into-loop-name g l = record {
+  fed : fold g.H.Hasher.write l.initial.state (field_writes l.mode (fields_of l.self)) ≡ fold g.H.Hasher.write l.state (field_writes l.mode (fields (with_trees l.name-iterator)));
   within : most size-DType (seconds l.name-iterator) ≤ most size-DType (struct_dtypes l.self);
 }
 
-abbrev pub invariant-union_variants::UnionVariants::feed-loop-name : goal.invariant-union_variants::UnionVariants::feed-loop-name
-invariant-union_variants::UnionVariants::feed-loop-name g l = record {
-  fed : fold g.H.Hasher.write l.initial.state (variant_writes l.rule (variants_of l.self)) ≡ fold g.H.Hasher.write l.state (variant_writes l.rule (variants (with_tagged_trees l.name-iterator)));
+abbrev pub invariant-union_variants::UnionVariants::hash_into-loop-name : goal.invariant-union_variants::UnionVariants::hash_into-loop-name
+invariant-union_variants::UnionVariants::hash_into-loop-name g l = record {
+  fed : fold g.H.Hasher.write l.initial.state (variant_writes l.mode (variants_of l.self)) ≡ fold g.H.Hasher.write l.state (variant_writes l.mode (variants (with_tagged_trees l.name-iterator)));
   within : most size-DType (types_of l.name-iterator) ≤ most size-DType (union_dtypes l.self);
 }

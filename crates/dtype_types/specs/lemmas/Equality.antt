@@ -7,9 +7,9 @@
 use Rattle.std.specs.Prelude.{◌≡◌}
 use Rattle.std.specs.Bool.{Decides}
 use Rattle.std.proofs.Common.{sym, ap, ◌∙◌}
-use Rattle.dtype_types.specs.EqualityLaws.{agree-Decides}
+use Rattle.dtype_types.specs.EqualityLaws.{equal_under-Decides}
 use Rattle.dtype_types.specs.FieldTypes.{field_tree, same_field_dtype}
-use Rattle.dtype_types.specs.PartsEquality.{agree_maps-Decides, agree_variants-Decides, same_extension, same_fields-Decides, same_map, same_struct, same_union}
+use Rattle.dtype_types.specs.PartsEquality.{maps_equal_under-Decides, variants_equal_under-Decides, same_extension, same_fields-Decides, same_map, same_struct, same_union}
 use Rattle.dtype_types.specs.Tree.{triples, variants}
 use Rattle.dtype_types.specs.TreeOf.{children, choices, extension_tree, map_shown, variants_of}
 use Rattle.dtype_types.specs.lemmas.TreeLaws.{triples_variants}
@@ -24,16 +24,16 @@ structs_Decides a b = same_fields-Decides (children a) (children b)
 
 pub unions_Decides : (a b : UnionVariants) → Decides (same_union a b) (choices a ≡ choices b)
 unions_Decides a b =
-    let d = agree_variants-Decides (variants_of a) (variants_of b) in
+    let d = variants_equal_under-Decides (variants_of a) (variants_of b) in
     (λ e. sym (triples_variants (choices a)) ∙ ap triples (d.0 e) ∙ triples_variants (choices b), λ e. d.1 (ap variants e))
 
 pub maps_Decides : (a b : MapDType) → Decides (same_map a b) (map_shown a ≡ map_shown b)
-maps_Decides a b = agree_maps-Decides (map_shown a) (map_shown b)
+maps_Decides a b = maps_equal_under-Decides (map_shown a) (map_shown b)
 
 pub extensions_Decides : (a b : ExtDTypeRef) → Decides (same_extension a b) (extension_tree a ≡ extension_tree b)
-extensions_Decides a b = agree-Decides (extension_tree a) (extension_tree b)
+extensions_Decides a b = equal_under-Decides (extension_tree a) (extension_tree b)
 
 pub field_types_Decides : (a b : FieldDType) → Decides (same_field_dtype a b) (field_tree a ≡ field_tree b)
-field_types_Decides a b = agree-Decides (field_tree a) (field_tree b)
+field_types_Decides a b = equal_under-Decides (field_tree a) (field_tree b)
 
 pub ruleset equality = (structs_Decides, unions_Decides, maps_Decides, extensions_Decides, field_types_Decides)

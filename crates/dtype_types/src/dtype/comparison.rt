@@ -7,7 +7,7 @@ ghost use Rattle.dtype_types.specs.Sub.{Sub};
 ghost use Rattle.dtype_types.specs.TreeOf.{tree};
 
 use crate::DType;
-use crate::dtype::equality::{Nullabilities, agree};
+use crate::dtype::equality::{NullabilityRule, equal_under};
 
 impl DType {
     /// Returns whether the types are equal except for nullabilities, and the other is nullable wherever this one is, at
@@ -15,7 +15,7 @@ impl DType {
     pub fn eq_with_nullability_subset(&self, other: &DType) -> bool
         ensures { IsTrue result ↔ Sub (tree self.now) (tree other.now) }
     {
-        agree(self, other, Nullabilities::Within)
+        equal_under(self, other, NullabilityRule::Within)
     }
 
     /// Returns whether the types are equal except for nullabilities, and this one is nullable wherever the other is, at
@@ -23,6 +23,6 @@ impl DType {
     pub fn eq_with_nullability_superset(&self, other: &DType) -> bool
         ensures { IsTrue result ↔ Sub (tree other.now) (tree self.now) }
     {
-        agree(other, self, Nullabilities::Within)
+        equal_under(other, self, NullabilityRule::Within)
     }
 }

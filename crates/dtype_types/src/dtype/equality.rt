@@ -3,10 +3,10 @@
 
 // Equality of types and their order by nullability: one walk over two types, with the nullabilities
 // compared, ignored, or those of the first within those of the second.
-#![tactic(auto, using(crate::proofs::OtherKinds::other_kinds, crate::proofs::OtherKinds::agreements))]
+#![tactic(auto, using(crate::proofs::OtherKinds::other_kinds, crate::proofs::OtherKinds::parts_equal_under))]
 
 ghost use Rattle.std.specs.Prelude.{◌≡◌, ◌↔◌, IsTrue};
-ghost use Rattle.dtype_types.specs.Equality.{agree, allows};
+ghost use Rattle.dtype_types.specs.Equality.{equal_under, allows};
 ghost use Rattle.dtype_types.specs.Erase.{erase};
 ghost use Rattle.dtype_types.specs.TreeOf.{tree};
 
@@ -15,30 +15,30 @@ use dtype_base::Nullability;
 
 // What is asked of the nullabilities at the same node of two types.
 #[derive(Clone, Copy)]
-pub(crate) enum Nullabilities {
+pub(crate) enum NullabilityRule {
     Compared,
     Ignored,
     // nullable in the second wherever in the first
     Within,
 }
 
-impl Nullabilities {
+impl NullabilityRule {
     // Whether the rule allows these nullabilities at the same node of two types.
     pub(crate) fn allow(self, one: Nullability, other: Nullability) -> bool
         ensures { result ≡ allows self one other }
     {
         match self {
-            Nullabilities::Ignored => true,
-            Nullabilities::Compared => one.is_nullable() == other.is_nullable(),
-            Nullabilities::Within => !one.is_nullable() || other.is_nullable(),
+            NullabilityRule::Ignored => true,
+            NullabilityRule::Compared => one.is_nullable() == other.is_nullable(),
+            NullabilityRule::Within => !one.is_nullable() || other.is_nullable(),
         }
     }
 }
 
 // Whether the types are equal except for nullabilities, and the rule allows those.
-#[cycle(agree)]
-pub(crate) fn agree(a: &DType, b: &DType, rule: Nullabilities) -> bool
-    ensures { result ≡ agree rule (tree a.now) (tree b.now) }
+#[cycle(equal_under)]
+pub(crate) fn equal_under(a: &DType, b: &DType, rule: NullabilityRule) -> bool
+    ensures { result ≡ equal_under rule (tree a.now) (tree b.now) }
 {
     match (a, b) {
         (DType::Null, DType::Null) => true,
@@ -49,15 +49,15 @@ pub(crate) fn agree(a: &DType, b: &DType, rule: Nullabilities) -> bool
         }
         (DType::Utf8(m), DType::Utf8(n)) => rule.allow(*m, *n),
         (DType::Binary(m), DType::Binary(n)) => rule.allow(*m, *n),
-        (DType::List(t, m), DType::List(u, n)) => rule.allow(*m, *n) && agree(t, u, rule),
+        (DType::List(t, m), DType::List(u, n)) => rule.allow(*m, *n) && equal_under(t, u, rule),
         (DType::FixedSizeList(t, j, m), DType::FixedSizeList(u, k, n)) => {
-            rule.allow(*m, *n) && *j == *k && agree(t, u, rule)
+            rule.allow(*m, *n) && *j == *k && equal_under(t, u, rule)
         }
-        (DType::Map(t, m), DType::Map(u, n)) => rule.allow(*m, *n) && t.agree(u, rule),
-        (DType::Struct(t, m), DType::Struct(u, n)) => rule.allow(*m, *n) && t.agree(u, rule),
-        (DType::Union(t, m), DType::Union(u, n)) => rule.allow(*m, *n) && t.agree(u, rule),
+        (DType::Map(t, m), DType::Map(u, n)) => rule.allow(*m, *n) && t.equal_under(u, rule),
+        (DType::Struct(t, m), DType::Struct(u, n)) => rule.allow(*m, *n) && t.equal_under(u, rule),
+        (DType::Union(t, m), DType::Union(u, n)) => rule.allow(*m, *n) && t.equal_under(u, rule),
         (DType::Variant(m), DType::Variant(n)) => rule.allow(*m, *n),
-        (DType::Extension(t), DType::Extension(u)) => t.agree(u, rule),
+        (DType::Extension(t), DType::Extension(u)) => t.equal_under(u, rule),
         _ => false,
     }
 }
@@ -68,7 +68,7 @@ impl DType {
     pub fn eq_ignore_nullability(&self, other: &DType) -> bool
         ensures { IsTrue result ↔ (erase (tree self.now) ≡ erase (tree other.now)) }
     {
-        agree(self, other, Nullabilities::Ignored)
+        equal_under(self, other, NullabilityRule::Ignored)
     }
 }
 
@@ -83,7 +83,7 @@ impl PartialEq for DType {
     fn eq(&self, other: &DType) -> bool
         ensures { IsTrue result ↔ (tree self.now ≡ tree other.now) }
     {
-        agree(self, other, Nullabilities::Compared)
+        equal_under(self, other, NullabilityRule::Compared)
     }
 }
 

@@ -12,19 +12,19 @@ use std::hash::{Hash, Hasher};
 
 // What of a type is hashed: all of it, or the type without its nullabilities.
 #[derive(Clone, Copy)]
-pub(crate) enum Hashed {
+pub(crate) enum HashMode {
     Whole,
     Erased,
 }
 
-impl Hashed {
+impl HashMode {
     // Hashes in one byte the number of a type's kind, and its nullability where nullabilities count.
-    fn feed_head<H: Hasher>(self, number: u8, nullability: Nullability, state: &mut H)
+    fn hash_head<H: Hasher>(self, number: u8, nullability: Nullability, state: &mut H)
         requires { number < 128 }
         ensures { state.new ≡ fold H.write state.old (head_writes self number nullability) }
     {
         let mark = match (self, nullability) {
-            (Hashed::Whole, Nullability::Nullable) => 1,
+            (HashMode::Whole, Nullability::Nullable) => 1,
             _ => 0,
         };
         state.write_u8(2 * number + mark);
@@ -33,48 +33,48 @@ impl Hashed {
 
 // Hashes the type.
 #[cycle(hash)]
-pub(crate) fn feed<H: Hasher>(dtype: &DType, rule: Hashed, state: &mut H)
-    ensures { state.new ≡ fold H.write state.old (hash_of rule (tree dtype.now)) }
+pub(crate) fn hash_into<H: Hasher>(dtype: &DType, mode: HashMode, state: &mut H)
+    ensures { state.new ≡ fold H.write state.old (hash_of mode (tree dtype.now)) }
 {
     let number = dtype.kind().number();
     match dtype {
-        DType::Null => rule.feed_head(number, Nullability::NonNullable, state),
-        DType::Bool(n) => rule.feed_head(number, *n, state),
+        DType::Null => mode.hash_head(number, Nullability::NonNullable, state),
+        DType::Bool(n) => mode.hash_head(number, *n, state),
         DType::Primitive(ptype, n) => {
-            rule.feed_head(Kind::Extension.number() + 1 + *ptype as u8, *n, state);
+            mode.hash_head(Kind::Extension.number() + 1 + *ptype as u8, *n, state);
         }
         DType::Decimal(decimal, n) => {
-            rule.feed_head(number, *n, state);
+            mode.hash_head(number, *n, state);
             state.write_u8(decimal.precision());
             state.write_i8(decimal.scale());
         }
-        DType::Utf8(n) => rule.feed_head(number, *n, state),
-        DType::Binary(n) => rule.feed_head(number, *n, state),
+        DType::Utf8(n) => mode.hash_head(number, *n, state),
+        DType::Binary(n) => mode.hash_head(number, *n, state),
         DType::List(element, n) => {
-            rule.feed_head(number, *n, state);
-            feed(element, rule, state);
+            mode.hash_head(number, *n, state);
+            hash_into(element, mode, state);
         }
         DType::FixedSizeList(element, size, n) => {
-            rule.feed_head(number, *n, state);
+            mode.hash_head(number, *n, state);
             state.write_u32(*size);
-            feed(element, rule, state);
+            hash_into(element, mode, state);
         }
         DType::Map(map, n) => {
-            rule.feed_head(number, *n, state);
-            map.feed(rule, state);
+            mode.hash_head(number, *n, state);
+            map.hash_into(mode, state);
         }
         DType::Struct(fields, n) => {
-            rule.feed_head(number, *n, state);
-            fields.feed(rule, state);
+            mode.hash_head(number, *n, state);
+            fields.hash_into(mode, state);
         }
         DType::Union(variants, n) => {
-            rule.feed_head(number, *n, state);
-            variants.feed(rule, state);
+            mode.hash_head(number, *n, state);
+            variants.hash_into(mode, state);
         }
-        DType::Variant(n) => rule.feed_head(number, *n, state),
+        DType::Variant(n) => mode.hash_head(number, *n, state),
         DType::Extension(extension) => {
-            rule.feed_head(number, Nullability::NonNullable, state);
-            extension.feed(rule, state);
+            mode.hash_head(number, Nullability::NonNullable, state);
+            extension.hash_into(mode, state);
         }
     }
 }
@@ -85,7 +85,7 @@ impl DType {
     pub fn hash_ignore_nullability<H: Hasher>(&self, state: &mut H)
         ensures { state.new ≡ fold H.write state.old (hash_writes_ignoring_nullability (tree self.now)) }
     {
-        feed(self, Hashed::Erased, state);
+        hash_into(self, HashMode::Erased, state);
     }
 }
 
@@ -98,6 +98,6 @@ impl Hash for DType {
     ghost respects_eq = { dtype_fed };
 
     fn hash<H: Hasher>(&self, state: &mut H) {
-        feed(self, Hashed::Whole, state);
+        hash_into(self, HashMode::Whole, state);
     }
 }

@@ -6,7 +6,7 @@ use Rattle.std.proofs.Common.{◌≡◌, ◌≢◌, Bool, true, false, not, Deci
 use Rattle.std.proofs.lemmas.Bool.{false≢true}
 use Rattle.std.proofs.lemmas.Option.{same_Some}
 use Rattle.std.specs.Option.{option_eq}
-use Rattle.dtype_types.specs.EqualityLaws.{agree-Decides, same_dtype}
+use Rattle.dtype_types.specs.EqualityLaws.{equal_under-Decides, same_dtype}
 use Rattle.dtype_types.specs.PartsEquality.{same_struct}
 use Rattle.dtype_types.specs.TreeOf.{children, shown, tree}
 use Rattle.dtype_types.specs.declared.dtype.DType.{DType}
@@ -18,7 +18,7 @@ differ true d = (λ e. absurd (false≢true e), λ n. absurd (n (d.0 refl)))
 differ false d = (λ e p. false≢true (d.1 p), λ n. refl)
 
 pub types_differ : (a b : DType) → Decides (not (same_dtype a b)) (tree a ≢ tree b)
-types_differ a b = differ (same_dtype a b) (agree-Decides (tree a) (tree b))
+types_differ a b = differ (same_dtype a b) (equal_under-Decides (tree a) (tree b))
 
 pub structs_differ : (a b : StructFields) → Decides (not (same_struct a b)) (children a ≢ children b)
 structs_differ a b = differ (same_struct a b) (structs_Decides a b)
@@ -28,5 +28,5 @@ lent_alike None None = (λ e. refl, λ e. refl)
 lent_alike None (Some y) = (λ e. absurd (false≢true e), λ e. cc)
 lent_alike (Some x) None = (λ e. absurd (false≢true e), λ e. cc)
 lent_alike (Some x) (Some y) =
-    let d = agree-Decides (tree x.now) (tree y.now) in
+    let d = equal_under-Decides (tree x.now) (tree y.now) in
     (λ e. ap Some (d.0 e), λ e. d.1 (same_Some (tree x.now) (tree y.now) e))

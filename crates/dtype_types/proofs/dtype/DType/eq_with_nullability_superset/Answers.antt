@@ -6,4 +6,4 @@ use Rattle.dtype_types.proofs.SubTest.{sub_of_test}
 use Rattle.dtype_types.proofs.dtype.DType.eq_with_nullability_superset.Goals as goal
 
 pub returns : goal.returns
-returns c = sub_of_test (tree c.args.other.now) (tree c.args.self.now) c.agree.result c.agree.ensures
+returns c = sub_of_test (tree c.args.other.now) (tree c.args.self.now) c.equal_under.result c.equal_under.ensures

@@ -2,11 +2,11 @@
 -- SPDX-FileCopyrightText: Copyright the Vortex contributors
 
 use Rattle.std.proofs.Common.{sym, ◌∙◌}
-use Rattle.dtype_types.specs.EqualityLaws.{agree_erased-Decides}
+use Rattle.dtype_types.specs.EqualityLaws.{equal_erased-Decides}
 use Rattle.dtype_types.specs.TreeOf.{struct_tree}
 use Rattle.dtype_types.proofs.struct_fields.StructFields.eq_ignore_nullability.Goals as goal
 
 pub returns : goal.returns
 returns c =
-    let d = agree_erased-Decides (struct_tree c.args.self.now) (struct_tree c.args.other.now) in
-    (λ e. d.0 (sym c.agree.ensures ∙ e), λ e. c.agree.ensures ∙ d.1 e)
+    let d = equal_erased-Decides (struct_tree c.args.self.now) (struct_tree c.args.other.now) in
+    (λ e. d.0 (sym c.equal_under.ensures ∙ e), λ e. c.equal_under.ensures ∙ d.1 e)

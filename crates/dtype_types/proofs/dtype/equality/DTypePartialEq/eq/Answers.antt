@@ -2,11 +2,11 @@
 -- SPDX-FileCopyrightText: Copyright the Vortex contributors
 
 use Rattle.std.proofs.Common.{sym, ◌∙◌}
-use Rattle.dtype_types.specs.EqualityLaws.{agree-Decides}
+use Rattle.dtype_types.specs.EqualityLaws.{equal_under-Decides}
 use Rattle.dtype_types.specs.TreeOf.{tree}
 use Rattle.dtype_types.proofs.dtype.equality.DTypePartialEq.eq.Goals as goal
 
 pub returns : goal.returns
 returns c =
-    let d = agree-Decides (tree c.args.self.now) (tree c.args.other.now) in
-    (λ e. d.0 (sym c.agree.ensures ∙ e), λ e. c.agree.ensures ∙ d.1 e)
+    let d = equal_under-Decides (tree c.args.self.now) (tree c.args.other.now) in
+    (λ e. d.0 (sym c.equal_under.ensures ∙ e), λ e. c.equal_under.ensures ∙ d.1 e)

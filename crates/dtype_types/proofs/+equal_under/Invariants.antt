@@ -4,24 +4,24 @@
 use Rattle.std.proofs.Common.{◌≡◌, ◌≤◌, length}
 use Rattle.std.specs.Iterator.Adapters.{zip_first, zip_second}
 use denote.Param.Weighed.{most}
-use Rattle.dtype_types.specs.Equality.{agree_fields, agree_variants}
+use Rattle.dtype_types.specs.Equality.{fields_equal_under, variants_equal_under}
 use Rattle.dtype_types.specs.Lists.{seconds, types_of}
 use Rattle.dtype_types.specs.Tree.{fields, variants}
 use Rattle.dtype_types.specs.TreeOf.{struct_dtypes, fields_of, union_dtypes, variants_of, with_trees, with_tagged_trees}
 use Rattle.dtype_types.specs.declared.dtype.DType.{size-DType}
-use Rattle.dtype_types.proofs.+agree.Given as goal
+use Rattle.dtype_types.proofs.+equal_under.Given as goal
 
 -- what is left of the two agrees as all of them do, is equally long, and is no deeper
-abbrev pub invariant-struct_fields::StructFields::agree-loop-name : goal.invariant-struct_fields::StructFields::agree-loop-name
-invariant-struct_fields::StructFields::agree-loop-name l = record {
-  agrees : agree_fields l.rule (fields (with_trees (zip_first l.name-iterator))) (fields (with_trees (zip_second l.name-iterator))) ≡ agree_fields l.rule (fields_of l.self) (fields_of l.other);
+abbrev pub invariant-struct_fields::StructFields::equal_under-loop-name : goal.invariant-struct_fields::StructFields::equal_under-loop-name
+invariant-struct_fields::StructFields::equal_under-loop-name l = record {
+  agrees : fields_equal_under l.rule (fields (with_trees (zip_first l.name-iterator))) (fields (with_trees (zip_second l.name-iterator))) ≡ fields_equal_under l.rule (fields_of l.self) (fields_of l.other);
   even : length (zip_first l.name-iterator) ≡ length (zip_second l.name-iterator);
   within : most size-DType (seconds (zip_first l.name-iterator)) ≤ most size-DType (struct_dtypes l.self);
 }
 
-abbrev pub invariant-union_variants::UnionVariants::agree-loop-name : goal.invariant-union_variants::UnionVariants::agree-loop-name
-invariant-union_variants::UnionVariants::agree-loop-name l = record {
-  agrees : agree_variants l.rule (variants (with_tagged_trees (zip_first l.name-iterator))) (variants (with_tagged_trees (zip_second l.name-iterator))) ≡ agree_variants l.rule (variants_of l.self) (variants_of l.other);
+abbrev pub invariant-union_variants::UnionVariants::equal_under-loop-name : goal.invariant-union_variants::UnionVariants::equal_under-loop-name
+invariant-union_variants::UnionVariants::equal_under-loop-name l = record {
+  agrees : variants_equal_under l.rule (variants (with_tagged_trees (zip_first l.name-iterator))) (variants (with_tagged_trees (zip_second l.name-iterator))) ≡ variants_equal_under l.rule (variants_of l.self) (variants_of l.other);
   even : length (zip_first l.name-iterator) ≡ length (zip_second l.name-iterator);
   within : most size-DType (types_of (zip_first l.name-iterator)) ≤ most size-DType (union_dtypes l.self);
 }

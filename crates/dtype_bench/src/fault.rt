@@ -10,11 +10,11 @@ use std::io;
 pub enum BenchFault {
     /// Standard input, standard output or the clock failed.
     Io(io::Error),
-    /// A call of the library refused.
+    /// A call of the library returned an error.
     Refused(VortexError),
-    /// A request for memory was refused.
+    /// An allocation failed.
     OutOfMemory,
-    /// A fixture lacks a part that a case takes.
+    /// A fixture lacks a part that a case needs.
     Missing,
     /// The answers of a round give the one number that none gives.
     Answer,

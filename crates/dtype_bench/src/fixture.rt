@@ -73,7 +73,7 @@ pub enum Naming {
     Shuffled,
     /// Sixteen hexadecimal digits, in no order.
     Hexadecimal,
-    /// `id`, and behind it `measurement_1` and so on.
+    /// `id`, and after it `measurement_1` and so on.
     Stray,
 }
 
@@ -116,8 +116,8 @@ impl Naming {
     }
 }
 
-/// Types of one shape and size. What stands in a list of two stands there twice, made apart, so that no turn
-/// can be taken for the one before.
+/// Types of one shape and size. A list of two has the same value twice, built separately, and iterations alternate
+/// between them, so that no iteration can reuse the result of the one before.
 #[derive(Drop)]
 pub struct Types {
     /// The end of the name of a case.
@@ -160,12 +160,12 @@ fn two_types(alloc: Global, shape: Shape, count: usize, flip: bool) -> BenchResu
     Ok(two)
 }
 
-/// One of the two, by turns.
+/// One of the two, alternating.
 pub fn turn<T>(two: &Vec<T>, i: usize) -> BenchResult<&T> {
     two.get(i % 2).ok_or(BenchFault::Missing)
 }
 
-/// The fields of one of the two, by turns.
+/// The fields of one of the two, alternating.
 pub fn fields_of(two: &Vec<DType>, i: usize) -> BenchResult<&StructFields> {
     turn(two, i)?
         .as_struct_fields_opt()

@@ -1,16 +1,15 @@
 // SPDX-License-Identifier: Apache-2.0
 // SPDX-FileCopyrightText: Copyright the Vortex contributors
 
-//! Measures the library: for each case whose name begins with a line of standard input, how many
-//! nanoseconds of processor time one operation takes, a case a line, as `find/mixed/wide/1000 54.2 57.0`:
-//! the least and the median of fifteen rounds. An empty line asks for every case. Without input nothing is
-//! measured and nothing is printed.
+//! Measures the library. For each case whose name begins with a line of standard input it prints a line, as
+//! `find/mixed/wide/1000 54.2 57.0`: the nanoseconds of processor time of one operation, the least and the median of
+//! fifteen rounds. An empty line selects every case. Without input nothing is measured and nothing is printed.
 //!
-//! A case is named for what is done, and behind that for what it is done to. The operation is done in a loop
-//! of so many turns as take some 3 ms, within one call, and each result is let go in the loop. What an
-//! operation uses up is made before the clock starts, but for the cases `build/and_drop`.
+//! A case is named by its operation, and then by its input. A round is a loop of about 3 ms within one call, and each
+//! result is dropped in the loop. What an operation consumes is built before the clock starts, except in the cases
+//! `build/and_drop`.
 //!
-//! Begin with `meter`, which has what an operation is and how one is measured.
+//! Begin with `meter`: what an operation is, and how it is measured.
 #![tactic(auto)]
 
 use building::{BuildAndDrop, BuildAndFind, BuildOfNames, BuildOfTexts};
@@ -218,8 +217,8 @@ fn of_sets<C: CpuClock, W: Write>(meter: &mut Meter<'_, C, W>, shape: SetShape) 
     Ok(())
 }
 
-// Measures every case that is wanted. What lies in boxes inside one another comes first, made of memory that
-// nothing was given back to: boxes in places that were free here and there take up to twice as long to walk.
+// Measures every selected case. Nested boxes come first, while memory isn't fragmented: scattered boxes take up to twice as
+// long to walk.
 fn measure_all<C: CpuClock, W: Write>(meter: &mut Meter<'_, C, W>) -> BenchResult<()> {
     let types = make_types(meter.alloc, Shape::Wide, 10)?;
     meter.measure("", Empty(&types))?;

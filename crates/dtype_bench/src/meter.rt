@@ -10,7 +10,7 @@ use std::time::CpuClock;
 // How long a round is to take, in nanoseconds.
 const ROUND_TIME: u64 = 3_000_000;
 
-// The most doublings of the number of turns: some four thousand million turns.
+// The greatest number of doublings of the iterations: some four thousand million iterations.
 const DOUBLINGS: usize = 32;
 
 const ROUNDS: usize = 15;
@@ -20,7 +20,7 @@ pub trait Operation {
     /// What is done, as it is printed.
     fn name(&self) -> &'static str;
 
-    /// Makes what so many turns use up, before the clock starts.
+    /// Builds what this many iterations consume, before the clock starts.
     fn prepare(&mut self, _alloc: Global, _times: usize) -> BenchResult<()> {
         Ok(())
     }
@@ -75,7 +75,7 @@ impl<'a, C: CpuClock, W: Write> Meter<'a, C, W> {
         Ok(())
     }
 
-    // How many turns make a round.
+    // How many iterations a round has.
     fn turns(&self, operation: &mut impl Operation) -> BenchResult<usize> {
         let mut times = 1usize;
         for _ in 0..DOUBLINGS {
@@ -87,7 +87,7 @@ impl<'a, C: CpuClock, W: Write> Meter<'a, C, W> {
         Ok(times)
     }
 
-    // The nanoseconds that so many turns take.
+    // The nanoseconds of this many iterations.
     fn round(&self, operation: &mut impl Operation, times: usize) -> BenchResult<u64> {
         operation.prepare(self.alloc, times)?;
         let start = self.clock.thread_cpu_time()?;
@@ -102,7 +102,7 @@ impl<'a, C: CpuClock, W: Write> Meter<'a, C, W> {
     }
 }
 
-// The tenths of a nanosecond that one turn takes, to the nearest.
+// The tenths of a nanosecond of one iteration, rounded to the nearest.
 fn tenths(time: u64, times: usize) -> u64 {
     let half = times as u64 / 2;
     time.saturating_mul(10)

@@ -12,7 +12,7 @@ use std::alloc::Global;
 use std::fmt::Display;
 use std::hash::{DefaultHasher, Hash, Hasher};
 
-/// The loop alone, with a type by turns.
+/// The loop alone, with alternating types.
 #[derive(Drop)]
 pub struct Empty<'a>(pub &'a Types);
 

@@ -1,9 +1,8 @@
 // SPDX-License-Identifier: Apache-2.0
 // SPDX-FileCopyrightText: Copyright the Vortex contributors
 
-//! What the tests of several crates make their structs of, how they look at a value, by its printed text and its
-//! hash, and where they take random choices from. Structs are made by the constructors that a user calls; nothing
-//! else is promised of them.
+//! Helpers that the tests of several crates share: structs, the printed text and the hash of a value, and random choices.
+//! Structs are built by the constructors that a user calls.
 //!
 //! Begin with `is_printed`.
 #![tactic(auto)]
@@ -19,24 +18,24 @@ mod random;
 
 pub use random::Random;
 
-/// What a fresh hasher answers that was fed this value.
+/// Returns the hash of the value by a new `DefaultHasher`.
 pub fn hash_of<T: Hash>(value: &T) -> u64 {
     let mut state = DefaultHasher::new();
     value.hash(&mut state);
     state.finish()
 }
 
-/// Whether the value is printed so.
+/// Returns whether the value is printed as this text.
 pub fn is_printed<T: Display>(alloc: Global, value: &T, text: &str) -> VortexResult<bool> {
     Ok(value.to_string(alloc)?.as_str() == text)
 }
 
-/// A field, from which a struct is made.
+/// Returns a field, as `StructFields::from_iter` collects it.
 pub fn field(alloc: Global, name: &str, dtype: DType) -> VortexResult<(FieldName, FieldDType)> {
     Ok((FieldName::new(alloc, name)?, FieldDType::from(dtype)))
 }
 
-/// Fields with these names, each of a boolean.
+/// Returns non-nullable boolean fields with these names.
 pub fn booleans(alloc: Global, names: &[&str]) -> VortexResult<StructFields> {
     let mut fields = Vec::new(alloc);
     for name in names {

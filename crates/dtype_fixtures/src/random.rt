@@ -4,23 +4,22 @@
 // A source of random choices.
 ghost use Rattle.std.specs.Prelude.{◌<◌, length};
 
-/// A source of random choices: the same seed gives the same ones.
+/// A pseudorandom number generator: equal seeds give equal choices.
 #[derive(Drop)]
 pub struct Random {
-    // Of a 64-bit xorshift, never 0.
+    // The state of a 64-bit xorshift, never 0.
     state: u64,
-    // How many choices are left before the one that is made otherwise.
+    // How many choices are left before the one that is changed.
     before: u64,
 }
 
 impl Random {
-    /// The source of this seed.
+    /// Returns the generator of this seed.
     pub fn new(seed: u64) -> Self {
         Random::changed_at(seed, u64::MAX)
     }
 
-    /// The source of this seed, but that the choice at this place falls on what stands next to the one that the
-    /// seed gives.
+    /// Returns the generator of this seed, except that the choice at this position is the one after that of the seed.
     pub fn changed_at(seed: u64, place: u64) -> Self {
         Random {
             state: seed.wrapping_mul(0x9e3779b97f4a7c15) | 1,

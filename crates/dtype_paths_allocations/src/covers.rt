@@ -1,7 +1,7 @@
 // SPDX-License-Identifier: Apache-2.0
 // SPDX-FileCopyrightText: Copyright the Vortex contributors
 
-// The cover of a set: it takes as many allocations whatever stands below the paths that it gives.
+// The cover of a set: the number of allocations doesn't depend on the paths that it covers.
 use crate::marks::{begin, end};
 use crate::sets::{numbered, path, set};
 use anyhow::Result;

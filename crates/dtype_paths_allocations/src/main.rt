@@ -4,11 +4,10 @@
 //! A program that makes calls of paths, path sets and types, so that the allocations of each call alone can be counted and
 //! made to fail.
 //!
-//! It takes no input. For each call it prints a line: what is called, `: `, and what came of it. Before the call it
-//! writes the line `begin` to standard error, and after it the line `end`: between them `tools/refuse_allocation.c`
-//! counts allocations and lets them fail. What a call is made with, and the look at what it left, stand outside.
-//! A set that was to be changed holds the first so many of the paths that were to be put in, or, which is a fault,
-//! something else.
+//! It has no input. For each call it prints a line: the call, `: `, and the outcome. Before the call it writes the line
+//! `begin` to standard error, and after it the line `end`: between them `tools/refuse_allocation.c` counts allocations
+//! and makes them fail. The arguments of a call are built before `begin`, and its effect is read after `end`. After an
+//! insertion the set must hold a prefix of the list of inserted paths; anything else is a fault.
 //!
 //! Begin with `changes.rt`. `tools/refused_memory` runs the program, and says what is asked of its lines.
 #![tactic(auto)]

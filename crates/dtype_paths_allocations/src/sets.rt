@@ -31,7 +31,7 @@ pub fn set(alloc: Global, text: &str) -> VortexResult<FieldPathSet> {
     FieldPathSet::from_iter(alloc, paths(alloc, text)?)
 }
 
-/// The set of so many numbered names below `a` that end alike.
+/// The set of so many numbered names below `a` with a common suffix.
 pub fn numbered(alloc: Global, count: u32, ending: &str) -> VortexResult<FieldPathSet> {
     let mut set = FieldPathSet::new(alloc);
     for i in 0..count {
@@ -41,7 +41,7 @@ pub fn numbered(alloc: Global, count: u32, ending: &str) -> VortexResult<FieldPa
     Ok(set)
 }
 
-/// The texts of a set's paths in order, and the visits that its cover takes, which a node left behind would add to.
+/// The texts of a set's paths in order, and the visits of its cover: a node that a failed insertion left would add one.
 #[derive(Drop)]
 pub struct Shown {
     texts: Vec<String>,

@@ -1,8 +1,8 @@
 // SPDX-License-Identifier: Apache-2.0
 // SPDX-FileCopyrightText: Copyright the Vortex contributors
 
-// Random sets against lists of the distinct paths that were inserted: the members, the cover, and the visits that the
-// cover takes.
+// Random sets against lists of the distinct paths that were inserted: the members, the cover, and the number of visits of
+// the cover.
 use crate::path_model::{Steps, begins, path, random_steps, text};
 use dtype_base::VortexResult;
 use dtype_fixtures::Random;
@@ -154,7 +154,7 @@ fn gives(rt: &impl Abort, alloc: Global, modelled: Modelled, seed: u64) -> Vorte
     Ok(least.len() < given.len())
 }
 
-// How many visits the cover takes, after the assert that it is these paths.
+// The number of visits of the cover, after the assert that it has these paths.
 fn visits(
     rt: &impl Abort,
     alloc: Global,

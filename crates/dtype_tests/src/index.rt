@@ -17,13 +17,13 @@ fn names_know_whether_they_are_distinct(rt: HostRuntime) -> Result<(), Fail> {
     Ok(())
 }
 
-// So many that the index doesn't sort them where they stand, in no order.
+// More names than the index sorts by insertion, in random order.
 const MANY: [&str; 22] = [
     "x17", "x4", "x9", "x21", "x2", "x13", "x6", "x11", "x1", "x20", "x8", "x15", "x3", "x19",
     "x5", "x0", "x14", "x10", "x7", "x18", "x12", "x16",
 ];
 
-// Those that no key tells apart, beside one that begins otherwise; the first stands there twice.
+// Names with equal keys, one without their prefix, and the first of them a second time.
 const ALIKE: [&str; 23] = [
     "beginning_of_all_17",
     "beginning_of_all_4",

@@ -7,7 +7,7 @@ use dtype_types::{DType, StructFields};
 use std::alloc::Global;
 use std::test::Fail;
 
-// Fields named by their places.
+// Fields named by their positions.
 fn numbered(alloc: Global, count: usize) -> VortexResult<StructFields> {
     let mut fields = Vec::new(alloc);
     for i in 0..count {
@@ -17,7 +17,7 @@ fn numbered(alloc: Global, count: usize) -> VortexResult<StructFields> {
     StructFields::from_iter(alloc, fields)
 }
 
-// So many fields and one behind them.
+// This many fields, and one after them.
 fn merged(alloc: Global, count: usize) -> VortexResult<StructFields> {
     numbered(alloc, count)?.disjoint_merge(alloc, &booleans(alloc, &["x"])?)
 }

@@ -1,8 +1,8 @@
 -- SPDX-License-Identifier: Apache-2.0
 -- SPDX-FileCopyrightText: Copyright the Vortex contributors
 
--- The extensions that stand over texts alone: the plugin under the id `x.text`, which takes `utf8` of
--- either nullability with no metadata, and the library of `x.word`, whose metadata is that of `x.tag`.
+-- The extensions over UTF-8 strings: the plugin under the id `x.text`, which accepts `utf8` of either nullability without
+-- metadata, and the vtable of `x.word`, whose metadata is that of `x.tag`.
 use Rattle.std.specs.Prelude.{◌≡◌, ℕ, List, [], ◌∷◌, Option, Some, None, Bool, true, false, if◌then◌else◌, option_and_then, refl}
 use Rattle.std.proofs.Common.{ap, subst}
 use Rattle.std.proofs.lemmas.Option.{same_Some}

@@ -1,7 +1,7 @@
 // SPDX-License-Identifier: Apache-2.0
 // SPDX-FileCopyrightText: Copyright the Vortex contributors
 
-//! What a call of a session or of a typed extension leaves behind where memory runs out: `register` leaves the session
+//! What a call of a session or of a typed extension leaves after a failed allocation: `register` leaves the session
 //! as it was, and `try_downcast` hands back an equal extension.
 //!
 //! Each call is between the lines `begin` and `end` on standard error, and its outcome is a line on standard output.
@@ -61,8 +61,9 @@ fn view_of(session: &DTypeSession) -> View {
     }
 }
 
-// The outcome of a registration, which shows the session as before or not. (The calls stand in the functions that make
-// the plugin: one that is lent a session and a plugin would count as hiding what the plugin means.)
+// The outcome of a registration: done, or failed with the session as before, or a fault. `register` is called where the
+// plugin is built: the gate doesn't accept a function that borrows a session and takes a plugin, since its contract would
+// hide what the plugin means.
 fn outcome(registered: VortexResult<()>, is_as_before: bool) -> &'static str {
     match registered {
         Ok(()) => DONE,

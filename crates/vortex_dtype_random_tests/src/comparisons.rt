@@ -32,8 +32,8 @@ const KINDS: [&str; 13] = [
     "extension",
 ];
 
-// The message of a seed, and a second one: with another choice at one place, with another nullability or metadata at
-// one place or at all, or the same.
+// The message of a seed, and a second one: with one choice changed, with one nullability or metadata changed, with all of
+// those changed, or the same.
 fn two_messages(alloc: Global, seed: u64) -> VortexResult<(pb::DType, pb::DType)> {
     let place = seed / 4 % 40;
     let (shape, detail) = match seed % 4 {

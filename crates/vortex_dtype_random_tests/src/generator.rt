@@ -1,7 +1,7 @@
 // SPDX-License-Identifier: Apache-2.0
 // SPDX-FileCopyrightText: Copyright the Vortex contributors
 
-// A generator of random messages of all kinds, with faults at random places. Equal random choices give equal messages.
+// A generator of random messages of all kinds, with faults at random positions. Equal random choices give equal messages.
 use dtype_fixtures::Random;
 use std::alloc::Global;
 use std::mem;

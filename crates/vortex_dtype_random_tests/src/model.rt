@@ -2,7 +2,7 @@
 // SPDX-FileCopyrightText: Copyright the Vortex contributors
 
 // The type that a message without faults describes, found by a walk that doesn't use the library: all except
-// nullability as a text, and the nullabilities beside it.
+// nullability as a text, and the nullabilities as a list.
 use std::alloc::{AllocError, Global};
 use std::fmt::Display;
 use std::string::String;

@@ -1,7 +1,7 @@
 // SPDX-License-Identifier: Apache-2.0
 // SPDX-FileCopyrightText: Copyright the Vortex contributors
 
-// Messages of types and extensions 200 deep, which is more than a command of the console takes.
+// Messages of types and extensions 200 deep, deeper than a command of the console accepts.
 use crate::sessions::tagging;
 use std::alloc::Global;
 use std::test::Fail;

@@ -1,7 +1,7 @@
 // SPDX-License-Identifier: Apache-2.0
 // SPDX-FileCopyrightText: Copyright the Vortex contributors
 
-// Messages of paths beside each other.
+// Comparisons of path messages.
 use std::alloc::Global;
 use std::string::String;
 use std::test::Fail;

@@ -121,7 +121,7 @@ def visits(cover):
 
 def comparisons(count):
     """The original looks at one name after the other, and counts nothing. Here a search by halves compares the same
-    number of names for every name, which the definition `comparisons` of `dtype_base/specs/NameOrder.antt` fixes: the
+    number of names for every name, which the definition `comparisons` of `dtype_base/specs/Comparisons.antt` fixes: the
     binary digits of the number of names less one tell which of them is left, and one comparison more whether it is the
     one that is looked for."""
     return (count - 1).bit_length() + 1 if count > 0 else 0

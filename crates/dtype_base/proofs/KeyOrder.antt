@@ -21,8 +21,8 @@ use Rattle.std.proofs.lemmas.List.Elements.{All-tail, All-cons, All-append}
 use Rattle.std.proofs.lemmas.List.Sorted.{All-permutation, IsPermutation-map}
 use Rattle.std.proofs.lemmas.Option.{slice_get-get_or, slice_get_within, get_or_from_slice_get}
 use Rattle.dtype_base.specs.Bytes.{Bytes}
-use Rattle.dtype_base.specs.NameKeys.{big_endian, key_prefix, sort_key, HaveCommonPrefix}
-use Rattle.dtype_base.specs.NameOrder.{AreDistinguishedBy, PrefixesIncrease, IsKeyed, IsOrderOf, KeysIncrease, bytes_cmp, name_cmp, position_cmp, entry_cmp, entry_name_cmp, positions}
+use Rattle.dtype_base.specs.private.NameKeys.{big_endian, key_prefix, sort_key, HaveCommonPrefix}
+use Rattle.dtype_base.specs.private.NameOrder.{AreDistinguishedBy, PrefixesIncrease, IsKeyed, IsOrderOf, KeysIncrease, bytes_cmp, name_cmp, position_cmp, entry_cmp, entry_name_cmp, positions}
 use Rattle.dtype_base.specs.declared.name_order.IndexEntry.{IndexEntry}
 use Rattle.dtype_base.specs.declared.name_order.Discriminator.{Discriminator}
 use Rattle.dtype_base.specs.declared.name_order.Discriminator.TheVariants.{KeyPrefix, Key, Text}

@@ -26,8 +26,10 @@ use Rattle.std.proofs.lemmas.List.FromFn.{length-range_with_len, get_or-range_wi
 use Rattle.std.proofs.lemmas.List.Sorted.{ranks_by, sorted_far, searchable_from_sorted, length_permutation, Contains-permutation, All-permutation}
 use Rattle.std.proofs.lemmas.Option.{same_Some, slice_get_within, slice_get_read, get_or_from_slice_get}
 use Rattle.dtype_base.specs.FieldNames.{FirstAt, IsAbsent}
-use Rattle.dtype_base.specs.BinaryDigits.{binary_digits, digits_halved}
-use Rattle.dtype_base.specs.NameOrder.{bytes_cmp, name_cmp, position_cmp, IsOrderOf, positions, mask, comparisons}
+use Rattle.dtype_base.specs.BinaryDigits.{binary_digits}
+use Rattle.dtype_base.specs.lemmas.BinaryDigits.{digits_halved}
+use Rattle.dtype_base.specs.Comparisons.{comparisons}
+use Rattle.dtype_base.specs.private.NameOrder.{bytes_cmp, name_cmp, position_cmp, IsOrderOf, positions, mask}
 use Rattle.dtype_base.specs.declared.name_order.IndexEntry.{IndexEntry}
 
 bytes_total : IsTotalOrder bytes_cmp
@@ -63,11 +65,6 @@ pub is_equal : (r : Ordering) → true ≡ is_eq r → r ≡ Equal
 is_equal Less e = absurd (false≢true (sym e))
 is_equal Equal e = refl
 is_equal Greater e = absurd (false≢true (sym e))
-
-pub is_greater : (r : Ordering) → is_lt r ≡ false → false ≡ is_eq r → r ≡ Greater
-is_greater Less e f = absurd (false≢true (sym e))
-is_greater Equal e f = absurd (false≢true f)
-is_greater Greater e f = refl
 
 not_equal : (r : Ordering) → is_lt r ≡ false → r ≢ Equal → r ≡ Greater
 not_equal Less e f = absurd (false≢true (sym e))

@@ -9,6 +9,6 @@ pub mod Primitives
 pub mod FieldNames
 pub mod Escapes
 pub mod Decimals
-pub mod NameOrder
-pub mod NameKeys
+pub mod Comparisons
+pub mod private
 pub mod lemmas

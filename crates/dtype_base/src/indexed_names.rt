@@ -8,8 +8,9 @@ ghost use Rattle.std.specs.declared.cmp.Ordering.TheVariants.{Equal};
 ghost use Rattle.dtype_base.specs.BinaryDigits.{binary_digits};
 ghost use Rattle.dtype_base.specs.Bytes.{Bytes};
 ghost use Rattle.dtype_base.specs.FieldNames.{FirstAt, IsAbsent, SelectionRefusal, first_place};
-ghost use Rattle.dtype_base.specs.NameKeys.{key_prefix, sort_key};
-ghost use Rattle.dtype_base.specs.NameOrder.{IsIndexOf, IsKeyed, comparisons, mask, entry_name_cmp, positions};
+ghost use Rattle.dtype_base.specs.private.NameKeys.{key_prefix, sort_key};
+ghost use Rattle.dtype_base.specs.Comparisons.{comparisons};
+ghost use Rattle.dtype_base.specs.private.NameOrder.{IsIndexOf, IsKeyed, mask, entry_name_cmp, positions};
 ghost use Rattle.dtype_base.specs.declared.name_order.Discriminator.TheVariants.{KeyPrefix, Key};
 ghost use Rattle.dtype_base.specs.declared.vortex_error.VortexError.TheVariants.{OutOfMemory};
 
@@ -35,7 +36,7 @@ pub struct IndexedNames {
 
 impl Model for IndexedNames {
     ghost use Rattle.std.specs.Prelude.{ℕ, List};
-    ghost use Rattle.dtype_base.specs.NameOrder.{IsIndexOf};
+    ghost use Rattle.dtype_base.specs.private.NameOrder.{IsIndexOf};
 
     ghost Value = { List (List ℕ) };
 

@@ -5,7 +5,7 @@
 ghost use Rattle.std.specs.Prelude.{◌≡◌, ◌↔◌, ℕ, ◌<◌, ◌≤◌, IsTrue, length, take, drop, slice_index};
 ghost use Rattle.std.specs.List.{All};
 ghost use Rattle.dtype_base.specs.Bytes.{Bytes};
-ghost use Rattle.dtype_base.specs.NameKeys.{big_endian, key_prefix, sort_key, HaveCommonPrefix};
+ghost use Rattle.dtype_base.specs.private.NameKeys.{big_endian, key_prefix, sort_key, HaveCommonPrefix};
 
 use crate::FieldName;
 

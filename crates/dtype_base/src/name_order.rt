@@ -5,8 +5,8 @@
 ghost use Rattle.std.specs.Prelude.{◌≡◌, ◌≢◌, ◌↔◌, ◌<◌, ◌≤◌, ◌^◌, ◌%◌, false, All, AllPairs, IsTrue, IfOk, IsOkUnless, OnOk, MatchResult, length, map};
 ghost use Rattle.std.specs.List.{range_with_len};
 ghost use Rattle.std.specs.List.Sorted.{IsPermutation, IsSorted};
-ghost use Rattle.dtype_base.specs.NameKeys.{HaveCommonPrefix};
-ghost use Rattle.dtype_base.specs.NameOrder.{AreDistinguishedBy, PrefixesIncrease, IsIndexOf, IsKeyed, IsOrderOf, KeysIncrease, entry_cmp, position_cmp, positions};
+ghost use Rattle.dtype_base.specs.private.NameKeys.{HaveCommonPrefix};
+ghost use Rattle.dtype_base.specs.private.NameOrder.{AreDistinguishedBy, PrefixesIncrease, IsIndexOf, IsKeyed, IsOrderOf, KeysIncrease, entry_cmp, position_cmp, positions};
 ghost use Rattle.dtype_base.specs.declared.vortex_error.VortexError.TheVariants.{OutOfMemory};
 
 use crate::name_key::{common_prefix_len, eq_prefix, guess_common_prefix, key_prefix, sort_key};

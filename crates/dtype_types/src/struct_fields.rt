@@ -7,7 +7,7 @@ ghost use Rattle.std.specs.List.{AllByRecursion, zip};
 ghost use Rattle.std.specs.Option.{option_copied};
 ghost use Rattle.dtype_base.specs.BinaryDigits.{binary_digits};
 ghost use Rattle.dtype_base.specs.FieldNames.{SelectionRefusal, first_place};
-ghost use Rattle.dtype_base.specs.NameOrder.{comparisons};
+ghost use Rattle.dtype_base.specs.Comparisons.{comparisons};
 ghost use Rattle.dtype_base.specs.declared.vortex_error.VortexError.TheVariants.{DuplicateNames, IndexOutOfBounds, OutOfMemory};
 
 use crate::dtype::equality::{NullabilityRule, equal_under};

@@ -26,7 +26,7 @@ pub use Rattle.dtype_base.specs.Bytes
 pub use Rattle.dtype_base.specs.Decimals
 pub use Rattle.dtype_base.specs.Escapes
 pub use Rattle.dtype_base.specs.FieldNames
-pub use Rattle.dtype_base.specs.NameOrder
+pub use Rattle.dtype_base.specs.Comparisons
 pub use Rattle.dtype_base.specs.Nullability
 pub use Rattle.dtype_base.specs.Primitives
 pub use Rattle.dtype_native.specs.Digits

@@ -12,9 +12,10 @@ use Rattle.std.proofs.lemmas.List.Quantifiers.{position-Some}
 use Rattle.std.proofs.lemmas.List.Sums.{position_or_len_is, fails_before_first}
 use Rattle.std.proofs.lemmas.Option.{slice_get_within, get_or_from_slice_get, slice_get-get_or}
 use Rattle.std.proofs.lemmas.Slice.Eq.{bytes_eq-Decides}
-use Rattle.dtype_base.specs.BinaryDigits.{binary_digits, digits_reach, digits_fewest}
+use Rattle.dtype_base.specs.BinaryDigits.{binary_digits}
+use Rattle.dtype_base.specs.lemmas.BinaryDigits.{digits_reach, digits_fewest}
 use Rattle.dtype_base.specs.FieldNames.{FirstAt, IsAbsent, first_place}
-use Rattle.dtype_base.specs.NameOrder.{comparisons}
+use Rattle.dtype_base.specs.Comparisons.{comparisons}
 
 -- ---- from `FirstAt` and `IsAbsent` to `first_place`
 

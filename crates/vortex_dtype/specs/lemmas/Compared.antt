@@ -4,7 +4,7 @@
 -- How many names a lookup compares, as a number: of at most 1,000 names 11, since 1,000 is below the tenth power of two.
 use Rattle.std.proofs.Common.{◌≡◌, ◌∙◌, ◌≤◌, ◌<◌, ◌-◌, ◌^◌, ℕ, zero, suc, true, ltb, ap, sym, arith}
 use Rattle.std.proofs.lemmas.Bool.{ltb-true}
-use Rattle.dtype_base.specs.NameOrder.{comparisons}
+use Rattle.dtype_base.specs.Comparisons.{comparisons}
 use Rattle.dtype_base.specs.lemmas.Lookups.{few_compared}
 
 pub compared_within : (n most count limit : ℕ) → count ≡ comparisons n → n ≤ most → ltb most (2 ^ (limit - 1)) ≡ true → count ≤ limit

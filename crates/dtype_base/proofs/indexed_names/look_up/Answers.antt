@@ -6,8 +6,8 @@ use Rattle.std.specs.List.{All}
 use Rattle.std.proofs.lemmas.List.{get_or_default}
 use Rattle.dtype_base.specs.Bytes.{Bytes}
 use Rattle.dtype_base.specs.FieldNames.{first_place}
-use Rattle.dtype_base.specs.NameKeys.{sort_key}
-use Rattle.dtype_base.specs.NameOrder.{IsKeyed, positions}
+use Rattle.dtype_base.specs.private.NameKeys.{sort_key}
+use Rattle.dtype_base.specs.private.NameOrder.{IsKeyed, positions}
 use Rattle.dtype_base.specs.lemmas.Lookups.{place_found}
 use Rattle.dtype_base.proofs.KeyOrder.{positions_push, keyed_push}
 use Rattle.dtype_base.proofs.Selections.{selects_more, first_absent}

@@ -6,9 +6,10 @@ use Rattle.std.specs.Bool.{then_some}
 use Rattle.std.specs.Int.Bits.{bit_and}
 use Rattle.std.proofs.lemmas.Bool.{eqb-true, eqb-false}
 use Rattle.std.proofs.lemmas.Option.{slice_get_within}
-use Rattle.dtype_base.specs.BinaryDigits.{digits_fewest}
+use Rattle.dtype_base.specs.lemmas.BinaryDigits.{digits_fewest}
 use Rattle.dtype_base.specs.FieldNames.{FirstAt, IsAbsent}
-use Rattle.dtype_base.specs.NameOrder.{positions, comparisons}
+use Rattle.dtype_base.specs.Comparisons.{comparisons}
+use Rattle.dtype_base.specs.private.NameOrder.{positions}
 use Rattle.dtype_base.proofs.NameSearch.{Searching, as_many, as_many_positions, position_at, starts, steps, ends, counts}
 use Rattle.dtype_base.proofs.KeyOrder.{below_decided, same_decided}
 use Rattle.dtype_base.proofs.indexed_names.search_with.Goals as goal

@@ -4,7 +4,7 @@
 use Rattle.std.proofs.Common.{◌≡◌, ◌<◌, ◌+◌, ◌-◌, ◌*◌, ◌/◌, ◌^◌, ap, ◌∙◌, arith}
 use Rattle.std.proofs.lemmas.List.Elements.{All-from_get_or}
 use Rattle.dtype_base.specs.Bytes.{Bytes}
-use Rattle.dtype_base.specs.NameKeys.{big_endian}
+use Rattle.dtype_base.specs.private.NameKeys.{big_endian}
 use Rattle.dtype_base.proofs.KeyOrder.{bits, without_last}
 use Rattle.dtype_base.proofs.name_key.load_prefix.Goals as goal
 

@@ -5,7 +5,7 @@ use Rattle.std.proofs.Common.{◌≡◌, ◌<◌, ◌-◌, ◌*◌, ◌^◌, ◌
 use Rattle.std.proofs.lemmas.List.{length-drop}
 use Rattle.std.proofs.lemmas.List.Elements.{All-from_get_or}
 use Rattle.dtype_base.specs.Bytes.{Bytes}
-use Rattle.dtype_base.specs.NameKeys.{big_endian}
+use Rattle.dtype_base.specs.private.NameKeys.{big_endian}
 use Rattle.dtype_base.proofs.KeyOrder.{shifted}
 use Rattle.dtype_base.proofs.name_key.load_u64_at.Goals as goal
 

@@ -4,7 +4,7 @@
 use Rattle.std.proofs.Common.{◌≡◌, ◌<◌, ◌+◌, ◌*◌, ◌^◌, ◌/◌, length, min, drop, sym, ap, ◌∙◌, arith}
 use Rattle.std.proofs.lemmas.List.Elements.{All-from_get_or}
 use Rattle.dtype_base.specs.Bytes.{Bytes}
-use Rattle.dtype_base.specs.NameKeys.{big_endian, sort_key}
+use Rattle.dtype_base.specs.private.NameKeys.{big_endian, sort_key}
 use Rattle.dtype_base.proofs.KeyOrder.{fifteen, bytes_after}
 use Rattle.dtype_base.proofs.name_key.sort_key.Goals as goal
 

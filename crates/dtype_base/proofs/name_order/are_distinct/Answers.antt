@@ -5,7 +5,7 @@ use Rattle.std.proofs.Common.{◌-◌, ◌<◌, length, get_or, Some, slice_get,
 use Rattle.std.specs.Cmp.Lexicographic.{bytes_decides}
 use Rattle.std.proofs.lemmas.Bool.{false≢true}
 use Rattle.std.proofs.lemmas.Option.{slice_get_read}
-use Rattle.dtype_base.specs.NameOrder.{positions}
+use Rattle.dtype_base.specs.private.NameOrder.{positions}
 use Rattle.dtype_base.proofs.NameSearch.{as_many_positions, position_at, position_is_within, rise_more, rise_distinct, same_neighbours}
 use Rattle.dtype_base.specs.declared.name_order.IndexEntry.{IndexEntry}
 use Rattle.dtype_base.proofs.name_order.are_distinct.Goals as goal

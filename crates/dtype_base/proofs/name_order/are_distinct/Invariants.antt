@@ -1,7 +1,7 @@
 -- SPDX-License-Identifier: Apache-2.0
 -- SPDX-FileCopyrightText: Copyright the Vortex contributors
 
-use Rattle.dtype_base.specs.NameOrder.{positions}
+use Rattle.dtype_base.specs.private.NameOrder.{positions}
 use Rattle.dtype_base.proofs.NameSearch.{AllRise}
 use Rattle.dtype_base.proofs.name_order.are_distinct.Given as goal
 

@@ -6,8 +6,8 @@ use Rattle.std.proofs.lemmas.Bool.{cases_lt}
 use Rattle.std.specs.List.{All}
 use Rattle.std.proofs.lemmas.List.{get_or_default}
 use Rattle.std.proofs.lemmas.Option.{get_or_from_slice_get}
-use Rattle.dtype_base.specs.NameKeys.{sort_key}
-use Rattle.dtype_base.specs.NameOrder.{IsKeyed, positions}
+use Rattle.dtype_base.specs.private.NameKeys.{sort_key}
+use Rattle.dtype_base.specs.private.NameOrder.{IsKeyed, positions}
 use Rattle.dtype_base.specs.Bytes.{Bytes}
 use Rattle.dtype_base.proofs.KeyOrder.{positions_push, entries_counted, keyed_push}
 use Rattle.dtype_base.proofs.name_order.entries_after_prefix.Goals as goal

@@ -3,7 +3,7 @@
 
 use Rattle.std.proofs.Common.{◌≡◌, ℕ, ◌<◌, ◌≤◌, length, take, get_or, [], vec_len, vec_capacity}
 use Rattle.std.specs.List.{All, range_with_len}
-use Rattle.dtype_base.specs.NameOrder.{IsKeyed, positions}
+use Rattle.dtype_base.specs.private.NameOrder.{IsKeyed, positions}
 use Rattle.dtype_base.proofs.name_order.entries_after_prefix.Given as goal
 
 -- an entry for each position so far, of names that share the first name's prefix, in a list with room for all

@@ -2,7 +2,7 @@
 -- SPDX-FileCopyrightText: Copyright the Vortex contributors
 
 use Rattle.std.proofs.Common.{◌-◌, ◌<◌, get_or, arith}
-use Rattle.dtype_base.specs.NameKeys.{key_prefix}
+use Rattle.dtype_base.specs.private.NameKeys.{key_prefix}
 use Rattle.dtype_base.proofs.KeyOrder.{keys_more}
 use Rattle.dtype_base.proofs.PermutedEntries.{no_entry}
 use Rattle.dtype_base.proofs.name_order.prefixes_increase.Goals as goal

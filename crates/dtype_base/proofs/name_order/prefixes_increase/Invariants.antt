@@ -2,7 +2,7 @@
 -- SPDX-FileCopyrightText: Copyright the Vortex contributors
 
 use Rattle.std.proofs.Common.{ℕ, ◌<◌, length, get_or}
-use Rattle.dtype_base.specs.NameKeys.{key_prefix}
+use Rattle.dtype_base.specs.private.NameKeys.{key_prefix}
 use Rattle.dtype_base.specs.declared.name_order.IndexEntry.{IndexEntry}
 use Rattle.dtype_base.proofs.name_order.prefixes_increase.Given as goal
 

@@ -4,7 +4,7 @@
 use Rattle.std.proofs.Common.{rules, is_lt}
 use Rattle.std.proofs.lemmas.List.Sorted.{ranks_by}
 use Rattle.std.proofs.lemmas.Fn.{always_returns_same}
-use Rattle.dtype_base.specs.NameOrder.{entry_cmp}
+use Rattle.dtype_base.specs.private.NameOrder.{entry_cmp}
 use Rattle.dtype_base.proofs.KeyOrder.{entry_total}
 use Rattle.dtype_base.proofs.name_order.sort_by_texts.Goals as goal
 

@@ -3,7 +3,7 @@
 
 use Rattle.std.proofs.Common.{subst}
 use Rattle.std.proofs.lemmas.List.Sorted.{IsPermutation-trans}
-use Rattle.dtype_base.specs.NameOrder.{AreDistinguishedBy}
+use Rattle.dtype_base.specs.private.NameOrder.{AreDistinguishedBy}
 use Rattle.dtype_base.proofs.KeyOrder.{distinguished_sorted}
 use Rattle.dtype_base.proofs.name_order.sort_equal_keys.Goals as goal
 

@@ -3,7 +3,7 @@
 
 use Rattle.std.proofs.Common.{ap, ◌∙◌, length}
 use Rattle.dtype_base.specs.FieldNames.{first_place}
-use Rattle.dtype_base.specs.NameOrder.{comparisons}
+use Rattle.dtype_base.specs.Comparisons.{comparisons}
 use Rattle.dtype_base.specs.lemmas.Lookups.{place_found, most_compared, found_compared}
 use Rattle.dtype_base.proofs.indexed_names.IndexedNames.find_counted.Goals as goal
 

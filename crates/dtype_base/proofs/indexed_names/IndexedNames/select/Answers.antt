@@ -2,8 +2,8 @@
 -- SPDX-FileCopyrightText: Copyright the Vortex contributors
 
 use Rattle.std.proofs.Common.{subst, sym}
-use Rattle.dtype_base.specs.NameKeys.{HaveCommonPrefix}
-use Rattle.dtype_base.specs.NameOrder.{IsIndexOf}
+use Rattle.dtype_base.specs.private.NameKeys.{HaveCommonPrefix}
+use Rattle.dtype_base.specs.private.NameOrder.{IsIndexOf}
 use Rattle.dtype_base.proofs.KeyOrder.{still_keyed, order_of}
 use Rattle.dtype_base.proofs.Selections.{selected_prefix}
 use Rattle.dtype_base.proofs.indexed_names.IndexedNames.select.Goals as goal

@@ -4,7 +4,7 @@
 use Rattle.std.proofs.Common.{◌≡◌, length, ap, sym, ◌∙◌}
 use Rattle.std.proofs.lemmas.List.{length-map}
 use Rattle.dtype_base.specs.FieldNames.{first_place}
-use Rattle.dtype_base.specs.NameOrder.{comparisons}
+use Rattle.dtype_base.specs.Comparisons.{comparisons}
 use Rattle.dtype_base.specs.lemmas.Lookups.{most_compared, found_compared}
 use Rattle.dtype_types.proofs.Parts.{names_shown}
 use Rattle.dtype_types.specs.Lists.{firsts}

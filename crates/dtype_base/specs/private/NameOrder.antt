@@ -2,17 +2,16 @@
 -- SPDX-FileCopyrightText: Copyright the Vortex contributors
 
 -- The index of a name list: an entry for each position, with the sort key of the name there, in the order of the names'
--- bytes and then of the positions. Also how many names a lookup in it compares.
-use Rattle.std.specs.Prelude.{◌≡◌, ℕ, zero, suc, ◌+◌, ◌-◌, ◌<◌, ◌^◌, List, Option, Some, Bool, ⊤, length, map, slice_get, slice_index_or, [], if◌then◌else◌}
+-- bytes and then of the positions. Only private contracts cite it.
+use Rattle.std.specs.Prelude.{◌≡◌, ℕ, ◌-◌, ◌<◌, ◌^◌, List, Option, Some, Bool, ⊤, length, map, slice_get, slice_index_or, [], if◌then◌else◌}
 use Rattle.std.specs.List.{All, AllPairs, range_with_len}
 use Rattle.std.specs.List.Sorted.{IsPermutation, IsSorted}
 use Rattle.std.specs.Option.{option_cmp}
 use Rattle.std.specs.Ordering.{ordering_then, nat_cmp}
 use Rattle.std.specs.declared.cmp.Ordering.{Ordering}
 use Rattle.std.specs.Cmp.Lexicographic.{slice_cmp}
-use Rattle.dtype_base.specs.BinaryDigits.{binary_digits}
 use Rattle.dtype_base.specs.Bytes.{Bytes}
-use Rattle.dtype_base.specs.NameKeys.{key_prefix, sort_key, HaveCommonPrefix}
+use Rattle.dtype_base.specs.private.NameKeys.{key_prefix, sort_key, HaveCommonPrefix}
 use Rattle.dtype_base.specs.declared.name_order.IndexEntry.{IndexEntry}
 use Rattle.dtype_base.specs.declared.name_order.Discriminator.{Discriminator}
 use Rattle.dtype_base.specs.declared.name_order.Discriminator.TheVariants.{KeyPrefix, Key, Text}
@@ -44,6 +43,7 @@ pub record IsKeyed (names : List (List ℕ)) (prefix_len : ℕ) (p : IndexEntry)
   pub key : p.key ≡ sort_key prefix_len (slice_index_or names p.position [])
   pub bytes : Bytes (slice_index_or names p.position [])
 
+-- the positions of the entries
 abbrev pub positions : List IndexEntry → List ℕ
 positions = map (λ p. p.position)
 
@@ -77,9 +77,3 @@ entry_name_cmp names n key Text p = ordering_then (nat_cmp p.key key) (name_cmp 
 -- 64 ones for true, 0 for false
 abbrev pub mask : Bool → ℕ
 mask b = if b then 2 ^ 64 - 1 else 0
-
--- How many names a binary search among n names compares, whichever name is looked for. Among n + 1 names: a comparison
--- for each binary digit of n until one name is left, and one more with that.
-abbrev pub comparisons : ℕ → ℕ
-comparisons zero = 0
-comparisons (suc n) = binary_digits n + 1

@@ -2,7 +2,7 @@
 -- SPDX-FileCopyrightText: Copyright the Vortex contributors
 
 -- Sort keys: a number of sixteen bytes for each name, by which most names are ordered and distinguished without their
--- texts being read.
+-- texts being read. Only private contracts cite them.
 use Rattle.std.specs.Prelude.{◌≡◌, ℕ, zero, suc, ◌+◌, ◌*◌, ◌/◌, ◌^◌, List, [], ◌∷◌, length, min, take, drop, slice_index_or}
 use Rattle.std.specs.List.{All}
 

@@ -1,0 +1,55 @@
+-- SPDX-License-Identifier: Apache-2.0
+-- SPDX-FileCopyrightText: Copyright the Vortex contributors
+
+-- Lemmas about the number of binary digits: that it is what its definition says, and what halving takes from it.
+use Rattle.std.proofs.Common.{◌≡◌, ℕ, zero, suc, ◌+◌, ◌*◌, ◌/◌, ◌<◌, ◌≤◌, ◌^◌, ◌==◌, Bool, true, false, cond, refl, ap, arith, pow_mono, pow-suc, inl, inr}
+use Rattle.std.proofs.lemmas.Bool.{eqb-true, eqb-false, cases_lt}
+use Rattle.dtype_base.specs.BinaryDigits.{one_more, binary_digits, IsDigitsOf}
+
+below_next : (digits d : ℕ) → 2 ^ digits < 2 ^ d → digits < d
+below_next digits d h = elim (cases_lt digits d) [
+  | inl less ↦ less
+  | inr more ↦ let powers : 2 ^ d ≤ 2 ^ digits = pow_mono more in absurd (omega (arith, h, powers))
+]
+
+next : (n digits : ℕ) → IsDigitsOf n digits → IsDigitsOf (suc n) (one_more digits (suc n))
+next n digits h = go (2 ^ digits == suc n) refl
+  where
+    go : (b : Bool) → (2 ^ digits == suc n) ≡ b → IsDigitsOf (suc n) (cond b (digits + 1) digits)
+    go true e =
+        let is : 2 ^ digits ≡ suc n = eqb-true (2 ^ digits) (suc n) e in
+        let twice : 2 ^ suc digits ≡ 2 ^ digits * 2 = pow-suc 2 digits in
+        let same : digits + 1 ≡ suc digits = omega arith in record {
+          reach = omega (arith, is, twice, ap (λ d. 2 ^ d) same);
+          fewest = λ d fits. let less = below_next digits d (omega (arith, is, fits)) in omega (arith, less);
+        }
+    go false e =
+        let differ : 2 ^ digits ≡ suc n → ⊥ = eqb-false (2 ^ digits) (suc n) e in record {
+          reach = omega (arith, h.reach, differ);
+          fewest = λ d fits. h.fewest d (omega (arith, fits));
+        }
+
+pub digits_are : (n : ℕ) → IsDigitsOf n (binary_digits n)
+unfolding binary_digits
+digits_are zero = record { reach = omega arith; fewest = λ d fits. omega arith }
+digits_are (suc n) = next n (binary_digits n) (digits_are n)
+
+pub digits_reach : (n : ℕ) → n < 2 ^ binary_digits n
+digits_reach n = (digits_are n).reach
+
+pub digits_fewest : (n d : ℕ) → n < 2 ^ d → binary_digits n ≤ d
+digits_fewest n d fits = (digits_are n).fewest d fits
+
+one_less : (n m d : ℕ) → 0 < n → m ≡ n / 2 → n < 2 ^ d → (1 ≤ d) × (binary_digits m + 1 ≤ d)
+one_less n m zero a e h = absurd (omega arith)
+one_less n m (suc d) a e h =
+    let half : m < 2 ^ d = omega (arith, e, h, pow-suc 2 d) in
+    (omega arith, omega (arith, digits_fewest m d half))
+
+-- half of a number has one digit less
+pub digits_halved : (n m : ℕ) → 0 < n → m ≡ n / 2 → binary_digits n ≡ binary_digits m + 1
+digits_halved n m a e =
+    let whole : n < 2 ^ suc (binary_digits m) = omega (arith, e, digits_reach m, pow-suc 2 (binary_digits m)) in
+    let most = digits_fewest n (suc (binary_digits m)) whole in
+    let least = one_less n m (binary_digits n) a e (digits_reach n) in
+    omega (arith, most, least.1)

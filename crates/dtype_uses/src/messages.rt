@@ -12,7 +12,7 @@ ghost use Rattle.vortex_dtype.specs.TreeOf.{tree};
 ghost use Rattle.vortex_dtype.specs.Valid.{Valid};
 ghost use Rattle.vortex_dtype.specs.MessageOf.{message};
 ghost use Rattle.vortex_dtype.specs.Accepts.{Accepts};
-ghost use Rattle.vortex_dtype.specs.Meaning.{Admits, nothing};
+ghost use Rattle.vortex_dtype.specs.Meaning.{Admits, empty_meaning};
 ghost use Rattle.vortex_dtype.specs.ReadInOrder.{read};
 ghost use Rattle.vortex_dtype.specs.Reads.{Fault, Reads, ReadsAsNothing};
 ghost use Rattle.vortex_dtype.specs.Session.{meaning};
@@ -87,9 +87,9 @@ pub fn stored_nullable(alloc: Global, dtype: &DType, session: &DTypeSession) -> 
 
 /// A schema read by a program that knows no extension: what is wrong is told as it comes first in the message.
 pub fn read_knowing_nothing(alloc: Global, proto: &pb::DType) -> VortexResult<DType>
-    ensures accepts { IfOk result (λ t. Accepts nothing (message proto.now) (tree t)) }
-    ensures told { IfErr result (λ e. (e ≡ OutOfMemory) ⊎ (read nothing (message proto.now) ≡ Err e)) }
-    ensures faulty { (e : VortexError) → Fault nothing (message proto.now) e → IsErr result }
+    ensures accepts { IfOk result (λ t. Accepts empty_meaning (message proto.now) (tree t)) }
+    ensures told { IfErr result (λ e. (e ≡ OutOfMemory) ⊎ (read empty_meaning (message proto.now) ≡ Err e)) }
+    ensures faulty { (e : VortexError) → Fault empty_meaning (message proto.now) e → IsErr result }
 {
     let session = DTypeSession::new(alloc);
     DType::from_proto(alloc, proto, &session)

@@ -3,7 +3,7 @@
 
 -- A session after a list of calls, in words of the list alone.
 use Rattle.std.specs.Prelude.{◌≢◌, ℕ, List, [], ◌∷◌, Bool, true, false}
-use Rattle.vortex_dtype.specs.Meaning.{Rewrites, Meaning, put, allowing}
+use Rattle.vortex_dtype.specs.Meaning.{Rewrites, Meaning, register_in, allow_unknown_in}
 
 -- the calls that change a session
 pub data Call : Type 0 where
@@ -13,8 +13,8 @@ pub data Call : Type 0 where
 -- the session after these calls, the first of them first
 abbrev pub after : List Call → Meaning → Meaning
 after [] m = m
-after (register i r ∷ calls) m = after calls (put i r m)
-after (allow ∷ calls) m = after calls (allowing m)
+after (register i r ∷ calls) m = after calls (register_in i r m)
+after (allow ∷ calls) m = after calls (allow_unknown_in m)
 
 -- no call of these registers the id
 abbrev pub LeavesAlone : List ℕ → List Call → Type 0

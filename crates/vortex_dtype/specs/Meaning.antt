@@ -30,16 +30,16 @@ pub record Meaning : Type 0 where
   pub unknown : Bool
 
 -- a new session: nothing is registered, and unknown ids are an error
-unfoldable pub nothing : Meaning
-nothing = record { registered = λ id. None; unknown = false }
+unfoldable pub empty_meaning : Meaning
+empty_meaning = record { registered = λ id. None; unknown = false }
 
 -- the session after r is registered under i, in place of what was registered under it
-unfoldable pub put : List ℕ → Rewrites → Meaning → Meaning
-put i r m = record { registered = λ id. if bytes_eq i id then Some r else m.registered id; unknown = m.unknown }
+unfoldable pub register_in : List ℕ → Rewrites → Meaning → Meaning
+register_in i r m = record { registered = λ id. if bytes_eq i id then Some r else m.registered id; unknown = m.unknown }
 
 -- the session that keeps unknown ids from now on
-unfoldable pub allowing : Meaning → Meaning
-allowing m = record { registered = m.registered; unknown = true }
+unfoldable pub allow_unknown_in : Meaning → Meaning
+allow_unknown_in m = record { registered = m.registered; unknown = true }
 
 -- every plugin of the session is lawful
 pub record LawfulSession (m : Meaning) : Type 0 where

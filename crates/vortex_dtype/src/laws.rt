@@ -14,7 +14,7 @@ ghost use Rattle.dtype_types.specs.Valid.{Valid};
 ghost use Rattle.vortex_dtype.specs.Accepts.{Accepts};
 ghost use Rattle.vortex_dtype.specs.Calls.{Call, LeavesAlone, after, is_allow, register};
 ghost use Rattle.vortex_dtype.specs.IsMessage.{IsMessage};
-ghost use Rattle.vortex_dtype.specs.Meaning.{Admits, LawfulSession, Meaning, Rewrites, allowing, keeps, nothing, put};
+ghost use Rattle.vortex_dtype.specs.Meaning.{Admits, LawfulSession, Meaning, Rewrites, allow_unknown_in, empty_meaning, keeps, register_in};
 ghost use Rattle.dtype_messages.specs.Message.{Message};
 ghost use Rattle.vortex_dtype.specs.ReadInOrder.{read};
 ghost use Rattle.vortex_dtype.specs.Reads.{Fault, Reads, ReadsAsNothing};
@@ -32,33 +32,33 @@ pub use dtype_types::laws as types;
 /// What `register` changes of any session, whatever was called before: the id means what the plugin means; every
 /// other id means what it meant, and unknown ids are kept or not as they were.
 pub fn register_changes_one_id()
-    ensures registered { (s : Meaning) (id : List ℕ) (r : Rewrites) → (put id r s).registered id ≡ Some r }
+    ensures registered { (s : Meaning) (id : List ℕ) (r : Rewrites) → (register_in id r s).registered id ≡ Some r }
     ensures others { (s : Meaning) (id other : List ℕ) (r : Rewrites)
-        → id ≢ other → (put id r s).registered other ≡ s.registered other }
-    ensures unknown { (s : Meaning) (id : List ℕ) (r : Rewrites) → (put id r s).unknown ≡ s.unknown }
+        → id ≢ other → (register_in id r s).registered other ≡ s.registered other }
+    ensures unknown { (s : Meaning) (id : List ℕ) (r : Rewrites) → (register_in id r s).unknown ≡ s.unknown }
 {}
 
 /// What `allow_unknown` changes of any session: unknown ids are kept, and every id means what it meant.
 pub fn allow_unknown_changes_the_flag()
-    ensures unknown { (s : Meaning) → (allowing s).unknown ≡ true }
-    ensures registered { (s : Meaning) (id : List ℕ) → (allowing s).registered id ≡ s.registered id }
+    ensures unknown { (s : Meaning) → (allow_unknown_in s).unknown ≡ true }
+    ensures registered { (s : Meaning) (id : List ℕ) → (allow_unknown_in s).registered id ≡ s.registered id }
 {}
 
 /// After any calls the plugin that was registered last under an id is the one that counts.
 pub fn last_registered_counts()
     ensures { (before rest : List Call) (id : List ℕ) (r : Rewrites) → LeavesAlone id rest
-        → (after (before ++ register id r ∷ rest) nothing).registered id ≡ Some r }
+        → (after (before ++ register id r ∷ rest) empty_meaning).registered id ≡ Some r }
 {}
 
 /// After calls none of which registers an id, no plugin is registered under it.
 pub fn none_registered_counts()
     ensures { (calls : List Call) (id : List ℕ) → LeavesAlone id calls
-        → (after calls nothing).registered id ≡ None }
+        → (after calls empty_meaning).registered id ≡ None }
 {}
 
 /// After any calls unknown ids are kept exactly where one of them was `allow_unknown`.
 pub fn unknown_once_allowed()
-    ensures { (calls : List Call) → (after calls nothing).unknown ≡ list_any is_allow calls }
+    ensures { (calls : List Call) → (after calls empty_meaning).unknown ≡ list_any is_allow calls }
 {}
 
 /// What a session keeps of metadata is bytes, and the session keeps it unchanged when it is read again.

@@ -2,14 +2,14 @@
 // SPDX-FileCopyrightText: Copyright the Vortex contributors
 
 // The session: the registered plugins, and whether extensions of unknown ids are kept.
-#![tactic(auto, unfolding(crate::specs::Session::meaning, crate::specs::Meaning::nothing, crate::specs::Meaning::put, crate::specs::Meaning::allowing))]
+#![tactic(auto, unfolding(crate::specs::Session::meaning, crate::specs::Meaning::empty_meaning, crate::specs::Meaning::register_in, crate::specs::Meaning::allow_unknown_in))]
 
 ghost use Rattle.std.specs.Prelude.{◌≡◌, ◌⊎◌, ◌↔◌, IfOk, IfErr, IsOkUnless, IsSome, IsTrue, OnErr, OnOk, Some};
 ghost use Rattle.dtype_base.specs.declared.vortex_error.VortexError.TheVariants.{OutOfMemory};
 ghost use Rattle.dtype_types.specs.TreeOf.{extension_metadata, extension_tree, tree};
 ghost use Rattle.dtype_types.specs.Valid.{Valid};
 ghost use Rattle.dtype_types.specs.Tree.{extension};
-ghost use Rattle.vortex_dtype.specs.Meaning.{LawfulSession, allowing, keeps, nothing, put};
+ghost use Rattle.vortex_dtype.specs.Meaning.{LawfulSession, allow_unknown_in, empty_meaning, keeps, register_in};
 ghost use Rattle.vortex_dtype.specs.Refusals.{SessionRefusal};
 ghost use Rattle.vortex_dtype.specs.Session.{meaning};
 
@@ -40,7 +40,7 @@ impl DTypeSession {
     /// Creates a session without plugins, which doesn't keep unknown ids. It keeps the allocator for later calls, and
     /// doesn't allocate.
     pub fn new(alloc: Global) -> Self
-        ensures { meaning rewrites result ≡ nothing }
+        ensures { meaning rewrites result ≡ empty_meaning }
     {
         DTypeSession {
             alloc,
@@ -58,7 +58,7 @@ impl DTypeSession {
     /// - `OutOfMemory` (0): an allocation fails.
     pub fn register(&mut self, plugin: Box<dyn ExtDTypePlugin>) -> VortexResult<()>
         ensures last { OnOk result (meaning rewrites self.new
-            ≡ put (id_text plugin) (rewrites plugin) (meaning rewrites self.old)) }
+            ≡ register_in (id_text plugin) (rewrites plugin) (meaning rewrites self.old)) }
         ensures unchanged { OnErr result (meaning rewrites self.new ≡ meaning rewrites self.old) }
         ensures refused { IsOkUnless result OutOfMemory }
     {
@@ -69,7 +69,7 @@ impl DTypeSession {
 
     /// Makes the session keep extensions of unknown ids, with their metadata as it is.
     pub fn allow_unknown(&mut self)
-        ensures { meaning rewrites self.new ≡ allowing (meaning rewrites self.old) }
+        ensures { meaning rewrites self.new ≡ allow_unknown_in (meaning rewrites self.old) }
     {
         self.allow_unknown = true;
     }

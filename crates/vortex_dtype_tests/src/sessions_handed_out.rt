@@ -7,7 +7,7 @@
 
 ghost use Rattle.std.specs.Prelude.{◌≡◌, IfOk, IsOkUnless, Some};
 ghost use Rattle.dtype_base.specs.declared.vortex_error.VortexError.TheVariants.{OutOfMemory};
-ghost use Rattle.vortex_dtype.specs.Meaning.{allowing, nothing, put};
+ghost use Rattle.vortex_dtype.specs.Meaning.{allow_unknown_in, empty_meaning, register_in};
 ghost use Rattle.vortex_dtype.specs.Session.{meaning};
 
 use std::alloc::Global;
@@ -17,7 +17,7 @@ use vortex_dtype_fixtures::{Tag, TextAlone};
 
 /// A session for files of anyone: it keeps extensions of unknown ids.
 pub fn for_any_file(alloc: Global) -> DTypeSession
-    ensures { meaning (λ b. rewrites (b.vtable, b.value)) result ≡ allowing nothing }
+    ensures { meaning (λ b. rewrites (b.vtable, b.value)) result ≡ allow_unknown_in empty_meaning }
 {
     let mut session = DTypeSession::new(alloc);
     session.allow_unknown();
@@ -31,7 +31,7 @@ pub fn with_two(
     second: Box<dyn ExtDTypePlugin>,
 ) -> VortexResult<DTypeSession>
     ensures knows { IfOk result (λ s. meaning rewrites s
-        ≡ put (id_text second) (rewrites second) (put (id_text first) (rewrites first) (allowing nothing))) }
+        ≡ register_in (id_text second) (rewrites second) (register_in (id_text first) (rewrites first) (allow_unknown_in empty_meaning))) }
     ensures refused { IsOkUnless result OutOfMemory }
 {
     let mut session = DTypeSession::new(alloc);

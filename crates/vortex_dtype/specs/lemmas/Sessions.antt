@@ -15,7 +15,7 @@ use Rattle.dtype_types.specs.Kinds.{struct_fields}
 use Rattle.dtype_types.specs.Tree.{Tree, Fields, fields, pairs, no_fields, field, Variants, no_variants, choice, null, bool, primitive, decimal, utf8, binary, list, fixed_size_list, map_of, struct, union, variant, extension}
 use Rattle.dtype_types.specs.Valid.{Valid}
 use Rattle.dtype_types.specs.Nullable.{set_null}
-use Rattle.vortex_dtype.specs.Meaning.{Rewrites, Meaning, Lawful, LawfulSession, Bytes, kept, keeps, nothing, put, allowing, Admits, AdmitsFields, AdmitsVariants}
+use Rattle.vortex_dtype.specs.Meaning.{Rewrites, Meaning, Lawful, LawfulSession, Bytes, kept, keeps, empty_meaning, register_in, allow_unknown_in, Admits, AdmitsFields, AdmitsVariants}
 use Rattle.vortex_dtype.specs.lemmas.Allowing.{unrefused}
 use Rattle.vortex_dtype.specs.Calls.{Call, register, allow, after, LeavesAlone, is_allow}
 
@@ -23,23 +23,23 @@ use Rattle.vortex_dtype.specs.Calls.{Call, register, allow, after, LeavesAlone, 
 
 after-append : (before rest : List Call) (m : Meaning) → after (before ++ rest) m ≡ after rest (after before m)
 after-append [] rest m = refl
-after-append (register i r ∷ before) rest m = after-append before rest (put i r m)
-after-append (allow ∷ before) rest m = after-append before rest (allowing m)
+after-append (register i r ∷ before) rest m = after-append before rest (register_in i r m)
+after-append (allow ∷ before) rest m = after-append before rest (allow_unknown_in m)
 
 -- what is put under another id is not seen
-pub put-other : (i id : List ℕ) (r : Rewrites) (m : Meaning) → i ≢ id → (put i r m).registered id ≡ m.registered id
-unfolding put
-put-other i id r m other =
+pub register_in-other : (i id : List ℕ) (r : Rewrites) (m : Meaning) → i ≢ id → (register_in i r m).registered id ≡ m.registered id
+unfolding register_in
+register_in-other i id r m other =
     ap (λ (b : Bool). if b then Some r else m.registered id) (false_from_ne_true (bytes_eq i id) (λ e. other ((bytes_eq-Decides i id).0 e)))
 
-pub put-same : (id : List ℕ) (r : Rewrites) (m : Meaning) → (put id r m).registered id ≡ Some r
-unfolding put
-put-same id r m = ap (λ (b : Bool). if b then Some r else m.registered id) ((bytes_eq-Decides id id).1 refl)
+pub register_in-same : (id : List ℕ) (r : Rewrites) (m : Meaning) → (register_in id r m).registered id ≡ Some r
+unfolding register_in
+register_in-same id r m = ap (λ (b : Bool). if b then Some r else m.registered id) ((bytes_eq-Decides id id).1 refl)
 
 -- what is known stays known, whatever is put
-pub known_put : (i id : List ℕ) (r : Rewrites) (m : Meaning) → is_some (m.registered id) ≡ true → is_some ((put i r m).registered id) ≡ true
-unfolding put
-known_put i id r m known = go (bytes_eq i id)
+pub known_register_in : (i id : List ℕ) (r : Rewrites) (m : Meaning) → is_some (m.registered id) ≡ true → is_some ((register_in i r m).registered id) ≡ true
+unfolding register_in
+known_register_in i id r m known = go (bytes_eq i id)
   where
     go : (b : Bool) → is_some (if b then Some r else m.registered id) ≡ true
     go true = refl
@@ -47,29 +47,29 @@ known_put i id r m known = go (bytes_eq i id)
 
 -- calls that leave an id alone leave what is registered under it
 pub after-left_alone : (calls : List Call) (m : Meaning) (id : List ℕ) → LeavesAlone id calls → (after calls m).registered id ≡ m.registered id
-unfolding allowing
+unfolding allow_unknown_in
 after-left_alone [] m id h = refl
-after-left_alone (register i r ∷ calls) m id h = after-left_alone calls (put i r m) id h.1 ∙ put-other i id r m h.0
-after-left_alone (allow ∷ calls) m id h = after-left_alone calls (allowing m) id h
+after-left_alone (register i r ∷ calls) m id h = after-left_alone calls (register_in i r m) id h.1 ∙ register_in-other i id r m h.0
+after-left_alone (allow ∷ calls) m id h = after-left_alone calls (allow_unknown_in m) id h
 
 pub after-last : (before rest : List Call) (m : Meaning) (id : List ℕ) (r : Rewrites) → LeavesAlone id rest
     → (after (before ++ register id r ∷ rest) m).registered id ≡ Some r
 after-last before rest m id r h =
     ap (λ (s : Meaning). s.registered id) (after-append before (register id r ∷ rest) m)
-    ∙ after-left_alone rest (put id r (after before m)) id h ∙ put-same id r (after before m)
+    ∙ after-left_alone rest (register_in id r (after before m)) id h ∙ register_in-same id r (after before m)
 
 -- once unknown ids are kept, they stay so
 stays-unknown : (calls : List Call) (m : Meaning) → m.unknown ≡ true → (after calls m).unknown ≡ true
-unfolding put allowing
+unfolding register_in allow_unknown_in
 stays-unknown [] m e = e
-stays-unknown (register i r ∷ calls) m e = stays-unknown calls (put i r m) e
-stays-unknown (allow ∷ calls) m e = stays-unknown calls (allowing m) refl
+stays-unknown (register i r ∷ calls) m e = stays-unknown calls (register_in i r m) e
+stays-unknown (allow ∷ calls) m e = stays-unknown calls (allow_unknown_in m) refl
 
 pub after-unknown : (calls : List Call) (m : Meaning) → m.unknown ≡ false → (after calls m).unknown ≡ list_any is_allow calls
-unfolding put allowing
+unfolding register_in allow_unknown_in
 after-unknown [] m e = e
-after-unknown (register i r ∷ calls) m e = after-unknown calls (put i r m) e
-after-unknown (allow ∷ calls) m e = stays-unknown calls (allowing m) refl
+after-unknown (register i r ∷ calls) m e = after-unknown calls (register_in i r m) e
+after-unknown (allow ∷ calls) m e = stays-unknown calls (allow_unknown_in m) refl
 
 -- ---- what is kept
 
@@ -169,45 +169,45 @@ admits_fields-behind m (p ∷ ps) name u a b = (a.0, admits_fields-behind m ps n
 
 -- ---- what calls change, and what they leave alone
 
-pub registered_put : (m n : Meaning) (i : List ℕ) (r : Rewrites) → n ≡ put i r m → n.registered i ≡ Some r
-registered_put m n i r e = ap (λ (s : Meaning). s.registered i) e ∙ put-same i r m
+pub registered_register_in : (m n : Meaning) (i : List ℕ) (r : Rewrites) → n ≡ register_in i r m → n.registered i ≡ Some r
+registered_register_in m n i r e = ap (λ (s : Meaning). s.registered i) e ∙ register_in-same i r m
 
-pub others_put : (m n : Meaning) (i id : List ℕ) (r : Rewrites) → n ≡ put i r m → i ≢ id → n.registered id ≡ m.registered id
-others_put m n i id r e other = ap (λ (s : Meaning). s.registered id) e ∙ put-other i id r m other
+pub others_register_in : (m n : Meaning) (i id : List ℕ) (r : Rewrites) → n ≡ register_in i r m → i ≢ id → n.registered id ≡ m.registered id
+others_register_in m n i id r e other = ap (λ (s : Meaning). s.registered id) e ∙ register_in-other i id r m other
 
-pub unknown_put : (m n : Meaning) (i : List ℕ) (r : Rewrites) → n ≡ put i r m → n.unknown ≡ m.unknown
-unfolding put
-unknown_put m n i r e = ap (λ (s : Meaning). s.unknown) e
+pub unknown_register_in : (m n : Meaning) (i : List ℕ) (r : Rewrites) → n ≡ register_in i r m → n.unknown ≡ m.unknown
+unfolding register_in
+unknown_register_in m n i r e = ap (λ (s : Meaning). s.unknown) e
 
-pub unknown_allowing : (m n : Meaning) → n ≡ allowing m → n.unknown ≡ true
-unfolding allowing
-unknown_allowing m n e = ap (λ (s : Meaning). s.unknown) e
+pub unknown_allow_unknown_in : (m n : Meaning) → n ≡ allow_unknown_in m → n.unknown ≡ true
+unfolding allow_unknown_in
+unknown_allow_unknown_in m n e = ap (λ (s : Meaning). s.unknown) e
 
-pub registered_allowing : (m n : Meaning) (id : List ℕ) → n ≡ allowing m → n.registered id ≡ m.registered id
-unfolding allowing
-registered_allowing m n id e = ap (λ (s : Meaning). s.registered id) e
+pub registered_allow_unknown_in : (m n : Meaning) (id : List ℕ) → n ≡ allow_unknown_in m → n.registered id ≡ m.registered id
+unfolding allow_unknown_in
+registered_allow_unknown_in m n id e = ap (λ (s : Meaning). s.registered id) e
 
-pub registered_nothing : (n : Meaning) (id : List ℕ) → n ≡ nothing → n.registered id ≡ None
-unfolding nothing
-registered_nothing n id e = ap (λ (s : Meaning). s.registered id) e
+pub registered_empty_meaning : (n : Meaning) (id : List ℕ) → n ≡ empty_meaning → n.registered id ≡ None
+unfolding empty_meaning
+registered_empty_meaning n id e = ap (λ (s : Meaning). s.registered id) e
 
-pub unknown_nothing : (n : Meaning) → n ≡ nothing → n.unknown ≡ false
-unfolding nothing
-unknown_nothing n e = ap (λ (s : Meaning). s.unknown) e
+pub unknown_empty_meaning : (n : Meaning) → n ≡ empty_meaning → n.unknown ≡ false
+unfolding empty_meaning
+unknown_empty_meaning n e = ap (λ (s : Meaning). s.unknown) e
 
-pub admits_allowing : (n : Meaning) (t : Tree) → n ≡ allowing nothing → Admits n t
-admits_allowing n t e =
-    admits-all n (λ id. registered_allowing nothing n id e ∙ registered_nothing nothing id refl) (unknown_allowing nothing n e) t
+pub admits_allow_unknown_in : (n : Meaning) (t : Tree) → n ≡ allow_unknown_in empty_meaning → Admits n t
+admits_allow_unknown_in n t e =
+    admits-all n (λ id. registered_allow_unknown_in empty_meaning n id e ∙ registered_empty_meaning empty_meaning id refl) (unknown_allow_unknown_in empty_meaning n e) t
 
-pub kept_allowing : (n : Meaning) (id b : List ℕ) (t : Tree) → n ≡ allowing nothing → keeps n id b t ≡ Some b
-kept_allowing n id b t e =
-    kept_all n (λ i. registered_allowing nothing n i e ∙ registered_nothing nothing i refl) (unknown_allowing nothing n e) id b t
+pub kept_allow_unknown_in : (n : Meaning) (id b : List ℕ) (t : Tree) → n ≡ allow_unknown_in empty_meaning → keeps n id b t ≡ Some b
+kept_allow_unknown_in n id b t e =
+    kept_all n (λ i. registered_allow_unknown_in empty_meaning n i e ∙ registered_empty_meaning empty_meaning i refl) (unknown_allow_unknown_in empty_meaning n e) id b t
 
-pub flag_put : (m : Meaning) (i : List ℕ) (r : Rewrites) → (put i r m).unknown ≡ m.unknown
-flag_put m i r = unknown_put m (put i r m) i r refl
+pub flag_register_in : (m : Meaning) (i : List ℕ) (r : Rewrites) → (register_in i r m).unknown ≡ m.unknown
+flag_register_in m i r = unknown_register_in m (register_in i r m) i r refl
 
-pub flag_allowing : (m : Meaning) → (allowing m).unknown ≡ true
-flag_allowing m = unknown_allowing m (allowing m) refl
+pub flag_allow_unknown_in : (m : Meaning) → (allow_unknown_in m).unknown ≡ true
+flag_allow_unknown_in m = unknown_allow_unknown_in m (allow_unknown_in m) refl
 
 -- What calls of a session change and leave alone, what it keeps and what it admits: for callers' proofs.
-pub ruleset sessions = (registered_put, others_put, unknown_put, flag_put, registered_allowing, unknown_allowing, flag_allowing, registered_nothing, unknown_nothing, admits_allowing, kept_allowing, admits_one_more, admits_more, admits_fields-behind, keeps_again, keeps_outer, unrefused)
+pub ruleset sessions = (registered_register_in, others_register_in, unknown_register_in, flag_register_in, registered_allow_unknown_in, unknown_allow_unknown_in, flag_allow_unknown_in, registered_empty_meaning, unknown_empty_meaning, admits_allow_unknown_in, kept_allow_unknown_in, admits_one_more, admits_more, admits_fields-behind, keeps_again, keeps_outer, unrefused)

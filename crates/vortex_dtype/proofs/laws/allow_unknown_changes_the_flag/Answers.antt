@@ -2,12 +2,12 @@
 -- SPDX-FileCopyrightText: Copyright the Vortex contributors
 
 use Rattle.std.specs.Prelude.{refl}
-use Rattle.vortex_dtype.specs.Meaning.{allowing}
-use Rattle.vortex_dtype.specs.lemmas.Sessions.{flag_allowing, registered_allowing}
+use Rattle.vortex_dtype.specs.Meaning.{allow_unknown_in}
+use Rattle.vortex_dtype.specs.lemmas.Sessions.{flag_allow_unknown_in, registered_allow_unknown_in}
 use Rattle.vortex_dtype.proofs.laws.allow_unknown_changes_the_flag.Goals as goal
 
 pub returns-clause-unknown : goal.returns-clause-unknown
-returns-clause-unknown c = flag_allowing
+returns-clause-unknown c = flag_allow_unknown_in
 
 pub returns-clause-registered : goal.returns-clause-registered
-returns-clause-registered c = λ s id. registered_allowing s (allowing s) id refl
+returns-clause-registered c = λ s id. registered_allow_unknown_in s (allow_unknown_in s) id refl

@@ -9,12 +9,12 @@ use Rattle.std.specs.List.{flat_map}
 use Rattle.std.specs.List.Sorted.{IsPermutation, IsSorted}
 use Rattle.std.specs.Ordering.{nat_cmp}
 use Rattle.vortex_dtype.specs.Distinct.{Distinct}
-use Rattle.vortex_dtype.specs.Text.{text}
+use Rattle.vortex_dtype.specs.TypeText.{text}
 use Rattle.vortex_dtype.specs.Tree.{Tree}
 use Rattle.vortex_dtype.specs.Along.{along}
 use Rattle.vortex_dtype.specs.Covering.{least}
 use Rattle.vortex_dtype.specs.PathOrder.{PathSet, set_of}
-use Rattle.vortex_dtype.specs.Texts.{path_text}
+use Rattle.vortex_dtype.specs.PathTexts.{path_text}
 use Rattle.vortex_dtype.specs.Types.Field.{Field}
 use Rattle.dtype_demo.specs.Lines.{lines_of, parts_of}
 

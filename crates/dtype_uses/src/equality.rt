@@ -70,7 +70,7 @@ pub fn is_same_name(name: &FieldName, other: &FieldName) -> bool
 }
 
 /// Whether a column's type isn't the one that was planned.
-#[tactic(auto, using(vortex_dtype::specs::Rulesets::differences))]
+#[tactic(auto, using(vortex_dtype::specs::rulesets::equality))]
 pub fn differs_from_plan(column: &DType, planned: &DType) -> bool
     ensures { IsTrue result ↔ (tree column.now ≢ tree planned.now) }
 {
@@ -78,7 +78,7 @@ pub fn differs_from_plan(column: &DType, planned: &DType) -> bool
 }
 
 /// Whether two tables differ.
-#[tactic(auto, using(vortex_dtype::specs::Rulesets::differences))]
+#[tactic(auto, using(vortex_dtype::specs::rulesets::equality))]
 pub fn has_other_columns(table: &StructFields, other: &StructFields) -> bool
     ensures { IsTrue result ↔ (children table.now ≢ children other.now) }
 {

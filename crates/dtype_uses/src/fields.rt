@@ -2,7 +2,7 @@
 // SPDX-FileCopyrightText: Copyright the Vortex contributors
 
 // Lookups of fields, by name and by position.
-#![tactic(auto, using(dtype_types::specs::lemmas::JoinedFields::joined_fields, dtype_types::specs::lemmas::Lookups::lookups))]
+#![tactic(auto, using(vortex_dtype::specs::rulesets::joined_fields, vortex_dtype::specs::rulesets::lookups))]
 
 ghost use Rattle.std.specs.Prelude.{◌≡◌, ◌+◌, ◌<◌, None, Some, IfOk, IsSome, IsTrue, length, true};
 ghost use Rattle.std.specs.Option.{option_map};

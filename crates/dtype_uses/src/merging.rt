@@ -2,7 +2,7 @@
 // SPDX-FileCopyrightText: Copyright the Vortex contributors
 
 //! A reader of several files as one: the type that takes the values of all of them.
-#![tactic(auto, using(vortex_dtype::specs::Rulesets::merging, dtype_types::specs::lemmas::Order::order))]
+#![tactic(auto, using(vortex_dtype::specs::rulesets::merging, vortex_dtype::specs::rulesets::order))]
 
 ghost use Rattle.std.specs.Prelude.{◌≡◌, ◌↔◌, IfOk, IfSome, IsSome};
 ghost use Rattle.dtype_types.specs.Erase.{erase};

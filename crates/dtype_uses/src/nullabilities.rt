@@ -2,7 +2,7 @@
 // SPDX-FileCopyrightText: Copyright the Vortex contributors
 
 // Nullability set, and set again.
-#![tactic(auto, using(dtype_types::specs::lemmas::Nullabilities::nullabilities, dtype_types::specs::lemmas::Order::order))]
+#![tactic(auto, using(vortex_dtype::specs::rulesets::nullabilities, vortex_dtype::specs::rulesets::order))]
 
 ghost use Rattle.std.specs.Prelude.{◌≡◌, IfOk, IsTrue, true};
 ghost use Rattle.vortex_dtype.specs.Types.Nullability.TheVariants.{NonNullable, Nullable};

@@ -2,7 +2,7 @@
 // SPDX-FileCopyrightText: Copyright the Vortex contributors
 
 //! A reader of columns: what is asked of it, and what it opens for that.
-#![tactic(auto, using(vortex_dtype::specs::CoveringLaws::covering))]
+#![tactic(auto, using(vortex_dtype::specs::rulesets::covering))]
 
 ghost use Rattle.std.specs.Prelude.{◌≡◌, ◌≢◌, ◌↔◌, ◌+◌, ◌++◌, [], ◌∷◌, ◌≤◌, ◌||◌, IfOk, IsTrue, List, OnOk, false, is_some, length, map};
 ghost use Rattle.std.specs.FinSet as set;
@@ -11,7 +11,7 @@ ghost use Rattle.std.specs.Vec.Iter.{into_iter_items};
 ghost use Rattle.dtype_types.specs.TreeOf.{tree};
 ghost use Rattle.vortex_dtype.specs.Along.{along};
 ghost use Rattle.vortex_dtype.specs.Covering.{covers, least};
-ghost use Rattle.vortex_dtype.specs.Equality.{same_field};
+ghost use Rattle.vortex_dtype.specs.PathEquality.{same_field};
 ghost use Rattle.vortex_dtype.specs.PathOrder.{set_of};
 ghost use Rattle.vortex_dtype.specs.Types.Field.{Field};
 
@@ -426,7 +426,7 @@ pub fn is_left_closed(
 }
 
 /// The columns to open for nothing: none.
-#[tactic(auto, using(vortex_dtype::specs::CoveringLaws::covering, vortex_dtype::specs::CoveringLaws::counting))]
+#[tactic(auto, using(vortex_dtype::specs::rulesets::covering, vortex_dtype::specs::rulesets::counting))]
 pub fn cover_of_nothing(alloc: Global) -> VortexResult<vec::IntoIter<FieldPath>>
     ensures { IfOk result (λ r. into_iter_items r ≡ []) }
 {
@@ -434,7 +434,7 @@ pub fn cover_of_nothing(alloc: Global) -> VortexResult<vec::IntoIter<FieldPath>>
 }
 
 /// Whether the covers of two copies look equally often: they always do.
-#[tactic(auto, using(vortex_dtype::specs::CoveringLaws::covering, vortex_dtype::specs::CoveringLaws::counting))]
+#[tactic(auto, using(vortex_dtype::specs::rulesets::covering, vortex_dtype::specs::rulesets::counting))]
 pub fn looks_as_often(asked: &FieldPathSet) -> VortexResult<bool>
     ensures { IfOk result (λ b. IsTrue b) }
 {

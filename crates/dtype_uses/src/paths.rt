@@ -2,7 +2,7 @@
 // SPDX-FileCopyrightText: Copyright the Vortex contributors
 
 //! Paths, resolved.
-#![tactic(auto, using(vortex_dtype::specs::Stepping::stepping))]
+#![tactic(auto, using(vortex_dtype::specs::rulesets::stepping))]
 
 ghost use Rattle.std.specs.Prelude.{◌≡◌, ◌↔◌, ◌++◌, ◌∷◌, [], IfOk, IfSome, IsTrue, List, codes, ℕ};
 ghost use Rattle.std.specs.Option.{option_map};

@@ -2,7 +2,7 @@
 // SPDX-FileCopyrightText: Copyright the Vortex contributors
 
 //! Whether a table has a column, asked in one way and said in another.
-#![tactic(auto, using(dtype_types::specs::lemmas::Presence::presence))]
+#![tactic(auto, using(vortex_dtype::specs::rulesets::presence))]
 
 ghost use Rattle.std.specs.Prelude.{◌↔◌, Contains, IfOk, IsSome, IsTrue};
 ghost use Rattle.dtype_types.specs.Lookups.{field_names, first_named};

@@ -2,7 +2,7 @@
 // SPDX-FileCopyrightText: Copyright the Vortex contributors
 
 //! A reader that opens a table's schema for a query: the columns that the query asks for, and no others.
-#![tactic(auto, using(vortex_dtype::specs::CoveringLaws::covering))]
+#![tactic(auto, using(vortex_dtype::specs::rulesets::covering))]
 
 ghost use Rattle.std.specs.Prelude.{◌≡◌, ◌↔◌, IfNone, IfOk, IfSome, IsTrue, List};
 ghost use Rattle.std.specs.FinSet as set;

@@ -2,7 +2,7 @@
 // SPDX-FileCopyrightText: Copyright the Vortex contributors
 
 //! Sessions: what is known after registrations, what is kept of metadata, and what is refused.
-#![tactic(auto, using(vortex_dtype::specs::lemmas::Sessions::sessions, vortex_dtype::specs::lemmas::Reading::reading))]
+#![tactic(auto, using(vortex_dtype::specs::rulesets::sessions, vortex_dtype::specs::rulesets::messages))]
 
 ghost use Rattle.std.specs.Prelude.{◌≡◌, ◌≢◌, ◌↔◌, ◌⊎◌, IfErr, IfOk, IsErr, IsOkUnless, IsSome, IsTrue, OnOk, Some, false, true};
 ghost use Rattle.vortex_dtype.specs.Meaning.{keeps};
@@ -29,7 +29,7 @@ pub fn carried_over(alloc: Global, dtype: &DType) -> VortexResult<DType>
 }
 
 /// An extension of which nothing is known, carried over: its metadata stays as it is.
-#[tactic(auto, using(vortex_dtype::specs::lemmas::Sessions::sessions, vortex_dtype::specs::lemmas::Reading::reading, dtype_types::specs::lemmas::Validity::validity))]
+#[tactic(auto, using(vortex_dtype::specs::rulesets::sessions, vortex_dtype::specs::rulesets::messages, vortex_dtype::specs::rulesets::validity))]
 pub fn carried_extension(
     alloc: Global,
     id: &str,
@@ -141,7 +141,7 @@ pub fn is_taken_as_it_is(
 }
 
 /// An extension over a storage made nullable: its metadata is what the session keeps over the storage.
-#[tactic(auto, using(vortex_dtype::specs::lemmas::Sessions::sessions, vortex_dtype::specs::lemmas::Reading::reading, dtype_types::specs::lemmas::Validity::validity))]
+#[tactic(auto, using(vortex_dtype::specs::rulesets::sessions, vortex_dtype::specs::rulesets::messages, vortex_dtype::specs::rulesets::validity))]
 pub fn kept_over_nullable(
     alloc: Global,
     session: &DTypeSession,

@@ -2,7 +2,7 @@
 // SPDX-FileCopyrightText: Copyright the Vortex contributors
 
 //! Schemas stored and read back.
-#![tactic(auto, using(vortex_dtype::specs::lemmas::Reading::reading, vortex_dtype::specs::lemmas::Sessions::sessions, vortex_dtype::specs::Rulesets::equality))]
+#![tactic(auto, using(vortex_dtype::specs::rulesets::messages, vortex_dtype::specs::rulesets::sessions, vortex_dtype::specs::rulesets::equality))]
 
 ghost use Rattle.std.specs.Prelude.{◌≡◌, ◌++◌, [], ◌∷◌, IfOk, IsOkUnless, IsTrue, Some, map};
 ghost use Rattle.vortex_dtype.specs.Types.Nullability.TheVariants.{NonNullable, Nullable};

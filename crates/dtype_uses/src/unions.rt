@@ -2,7 +2,7 @@
 // SPDX-FileCopyrightText: Copyright the Vortex contributors
 
 //! Unions made of names, types and tags.
-#![tactic(auto, using(dtype_types::specs::lemmas::MadeOf::made_of, dtype_types::specs::lemmas::Tags::tags, dtype_types::specs::lemmas::Lookups::lookups))]
+#![tactic(auto, using(vortex_dtype::specs::rulesets::made_of, vortex_dtype::specs::rulesets::tags, vortex_dtype::specs::rulesets::lookups))]
 
 ghost use Rattle.std.specs.Prelude.{◌≡◌, IfOk, map};
 ghost use Rattle.dtype_types.specs.Lookups.{variant_named, variant_names, variant_types, variant_tags};

@@ -16,11 +16,9 @@ pub mod Written
 pub mod Accepts
 pub mod PathMessage
 pub mod StorageKinds
-pub mod CoveringLaws
-pub mod Stepping
-pub mod Rulesets
 pub mod Types
 pub mod lemmas
+pub mod rulesets
 pub use Rattle.dtype_base.specs.BinaryDigits
 pub use Rattle.dtype_base.specs.Bytes
 pub use Rattle.dtype_base.specs.Decimals
@@ -41,8 +39,8 @@ pub use Rattle.dtype_types.specs.Nullable
 pub use Rattle.dtype_types.specs.Sample
 pub use Rattle.dtype_types.specs.Sub
 pub use Rattle.dtype_types.specs.Tell
-pub use Rattle.dtype_types.specs.Text
-pub use Rattle.dtype_types.specs.TextOf
+pub use Rattle.dtype_types.specs.Text as TypeText
+pub use Rattle.dtype_types.specs.TextOf as TypeTextOf
 pub use Rattle.dtype_types.specs.Tree
 pub use Rattle.dtype_types.specs.TreeOf
 pub use Rattle.dtype_types.specs.Valid
@@ -52,8 +50,8 @@ pub use Rattle.dtype_paths.specs.Along
 pub use Rattle.dtype_paths.specs.Around
 pub use Rattle.dtype_paths.specs.At
 pub use Rattle.dtype_paths.specs.Beginning
-pub use Rattle.dtype_paths.specs.Equality
-pub use Rattle.dtype_paths.specs.Hashes
+pub use Rattle.dtype_paths.specs.Equality as PathEquality
+pub use Rattle.dtype_paths.specs.Hashes as PathHashes
 pub use Rattle.dtype_paths.specs.Found
 pub use Rattle.dtype_paths.specs.Meets
 pub use Rattle.dtype_paths.specs.Fields
@@ -72,7 +70,7 @@ pub use Rattle.dtype_types.specs.lemmas.NullValues
 pub use Rattle.dtype_types.specs.lemmas.Nullabilities
 pub use Rattle.dtype_types.specs.lemmas.Tags
 pub use Rattle.dtype_types.specs.lemmas.Validity
-pub use Rattle.dtype_paths.specs.Texts
+pub use Rattle.dtype_paths.specs.Texts as PathTexts
 pub use Rattle.dtype_messages.specs.Message
 pub use Rattle.dtype_messages.specs.MessageOf
 pub use Rattle.dtype_messages.specs.PathNames

@@ -30,3 +30,5 @@ lent_alike (Some x) None = (λ e. absurd (false≢true e), λ e. cc)
 lent_alike (Some x) (Some y) =
     let d = equal_under-Decides (tree x.now) (tree y.now) in
     (λ e. ap Some (d.0 e), λ e. d.1 (same_Some (tree x.now) (tree y.now) e))
+
+pub ruleset differences = (types_differ, structs_differ, lent_alike)

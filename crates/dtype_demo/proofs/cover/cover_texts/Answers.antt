@@ -6,7 +6,7 @@ use Rattle.std.specs.String.{string_bytes}
 use Rattle.std.specs.Vec.Iter.{into_iter_items}
 use Rattle.std.proofs.lemmas.List.{nil_from_length}
 use Rattle.std.proofs.lemmas.List.Sorted.{IsPermutation-map}
-use Rattle.vortex_dtype.specs.Texts.{path_text}
+use Rattle.vortex_dtype.specs.PathTexts.{path_text}
 use Rattle.dtype_demo.proofs.Covers.{sorted_texts}
 use Rattle.dtype_demo.proofs.cover.cover_texts.Goals as goal
 

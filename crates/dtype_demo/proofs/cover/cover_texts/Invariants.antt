@@ -4,7 +4,7 @@
 use Rattle.std.proofs.Common.{◌≡◌, ◌++◌, map}
 use Rattle.std.specs.String.{string_bytes}
 use Rattle.std.specs.Vec.Iter.{into_iter_items}
-use Rattle.vortex_dtype.specs.Texts.{path_text}
+use Rattle.vortex_dtype.specs.PathTexts.{path_text}
 use Rattle.dtype_demo.proofs.cover.cover_texts.Given as goal
 
 -- the texts so far, and those of the paths that are left

@@ -2,7 +2,7 @@
 -- SPDX-FileCopyrightText: Copyright the Vortex contributors
 
 use Rattle.std.proofs.Common.{length, arith}
-use Rattle.vortex_dtype.specs.Rulesets.{few_compared}
+use Rattle.vortex_dtype.specs.rulesets.{few_compared}
 use Rattle.dtype_types.specs.TreeOf.{children}
 use Rattle.dtype_uses.proofs.lookups.place_among_a_thousand.Goals as goal
 

@@ -1,0 +1,48 @@
+-- SPDX-License-Identifier: Apache-2.0
+-- SPDX-FileCopyrightText: Copyright the Vortex contributors
+
+-- Every ruleset that a caller's proof can name, one name a topic, at one address. A line atop a file names those that
+-- its contracts need, and `#[tactic(..)]` those of one function:
+--     #![tactic(auto, using(vortex_dtype::specs::rulesets::lookups, vortex_dtype::specs::rulesets::structs))]
+-- Each topic's lemmas are proved in the crate whose definitions they are about.
+
+-- of dtype_base: primitive and decimal types
+pub use Rattle.dtype_base.specs.lemmas.Decimals.{decimals}
+pub use Rattle.dtype_base.specs.lemmas.Primitives.{primitives}
+-- of dtype_types: structs and unions, nullability, values and validity
+pub use Rattle.dtype_types.specs.lemmas.JoinedFields.{joined_fields}
+pub use Rattle.dtype_types.specs.lemmas.MadeOf.{made_of}
+pub use Rattle.dtype_types.specs.lemmas.NullValues.{null_values}
+pub use Rattle.dtype_types.specs.lemmas.Nullabilities.{nullabilities}
+pub use Rattle.dtype_types.specs.lemmas.Order.{order}
+pub use Rattle.dtype_types.specs.lemmas.Presence.{presence}
+pub use Rattle.dtype_types.specs.lemmas.Structs.{structs}
+pub use Rattle.dtype_types.specs.lemmas.Tags.{tags}
+pub use Rattle.dtype_types.specs.lemmas.Validity.{validity}
+-- of dtype_paths and dtype_projection: path sets and how many paths they have, paths and masks that are stepped along,
+-- merged types
+pub use Rattle.dtype_paths.specs.CoveringLaws.{counting, covering}
+pub use Rattle.dtype_paths.specs.lemmas.Stepping.{stepping}
+pub use Rattle.dtype_projection.specs.lemmas.Merging.{merging}
+-- of vortex_dtype: sessions
+pub use Rattle.vortex_dtype.specs.lemmas.Sessions.{sessions}
+-- lemmas of these for answers of one's own: the set of paths that a loop collects, and any number of comparisons
+pub use Rattle.dtype_base.specs.lemmas.Lookups.{few_compared}
+pub use Rattle.dtype_paths.specs.CoveringLaws.{of_push}
+use Rattle.dtype_base.specs.lemmas.Lookups.{lookups as name_lookups}
+use Rattle.dtype_messages.specs.lemmas.Equality.{equality as message_equality}
+use Rattle.dtype_messages.specs.lemmas.Numbers.{numbers}
+use Rattle.dtype_types.specs.lemmas.Equality.{equality as type_equality}
+use Rattle.dtype_types.specs.lemmas.Lookups.{lookups as field_lookups}
+use Rattle.vortex_dtype.specs.lemmas.Compared.{compared_within}
+use Rattle.vortex_dtype.specs.lemmas.Differences.{differences}
+use Rattle.vortex_dtype.specs.lemmas.Reading.{reading}
+
+-- lookups of names, fields and variants, by name and by position, and how many names they compare
+pub ruleset lookups = (name_lookups, field_lookups, compared_within)
+
+-- `==` and `!=` of types, of what they hold, and of messages
+pub ruleset equality = (type_equality, message_equality, differences)
+
+-- messages that are read and written, and the numbers of primitive types in them
+pub ruleset messages = (reading, numbers)

@@ -6,6 +6,7 @@
 
 ghost use Rattle.std.specs.Prelude.{◌≡◌, ◌≢◌, ◌↔◌, IfOk, IsTrue};
 ghost use Rattle.dtype_types.specs.FieldTypes.{field_tree};
+ghost use Rattle.dtype_types.specs.Lookups.{first_named};
 ghost use Rattle.dtype_types.specs.TreeOf.{children, choices, extension_tree, map_shown, tree};
 
 use std::alloc::Global;
@@ -83,4 +84,29 @@ pub fn has_other_columns(table: &StructFields, other: &StructFields) -> bool
     ensures { IsTrue result ↔ (children table.now ≢ children other.now) }
 {
     *table != *other
+}
+
+/// Whether two unions differ.
+#[tactic(auto, using(vortex_dtype::specs::rulesets::equality))]
+pub fn has_other_variants(union: &UnionVariants, other: &UnionVariants) -> bool
+    ensures { IsTrue result ↔ (choices union.now ≢ choices other.now) }
+{
+    *union != *other
+}
+
+/// Whether two extensions differ.
+#[tactic(auto, using(vortex_dtype::specs::rulesets::equality))]
+pub fn is_other_extension(extension: &ExtDTypeRef, other: &ExtDTypeRef) -> bool
+    ensures { IsTrue result ↔ (extension_tree extension.now ≢ extension_tree other.now) }
+{
+    *extension != *other
+}
+
+/// Whether two tables have a column of one type, or neither has it.
+#[tactic(auto, using(vortex_dtype::specs::rulesets::equality))]
+pub fn has_same_column(table: &StructFields, other: &StructFields, column: &str) -> bool
+    ensures { IsTrue result
+        ↔ (first_named (children table.now) column.now ≡ first_named (children other.now) column.now) }
+{
+    table.field(column) == other.field(column)
 }

@@ -4,7 +4,7 @@
 //! Messages compared and copied, of types, of single kinds and of paths, and paths read from them.
 #![tactic(auto, using(vortex_dtype::specs::rulesets::messages, vortex_dtype::specs::rulesets::equality))]
 
-ghost use Rattle.std.specs.Prelude.{◌≡◌, ◌↔◌, ◌⊎◌, ◌∷◌, [], IfErr, IfOk, IsErr, IsOkUnless, IsTrue, None, string_bytes};
+ghost use Rattle.std.specs.Prelude.{◌≡◌, ◌≢◌, ◌↔◌, ◌⊎◌, ◌∷◌, [], IfErr, IfOk, IsErr, IsOkUnless, IsTrue, None, string_bytes};
 ghost use Rattle.std.specs.List.{Contains};
 ghost use Rattle.vortex_dtype.specs.Types.VortexError.TheVariants.{Message, OutOfMemory};
 ghost use Rattle.vortex_dtype.specs.Types.MessageFault.TheVariants.{PathPartMissing};
@@ -24,11 +24,25 @@ pub fn is_same_type(a: &pb::DType, b: &pb::DType) -> bool
     *a == *b
 }
 
+/// Whether two stored types differ.
+pub fn is_other_type(a: &pb::DType, b: &pb::DType) -> bool
+    ensures { IsTrue result ↔ (message a.now ≢ message b.now) }
+{
+    *a != *b
+}
+
 /// Whether two stored paths are the same one.
 pub fn is_same_path(a: &pb::FieldPath, b: &pb::FieldPath) -> bool
     ensures { IsTrue result ↔ (part_names a.now ≡ part_names b.now) }
 {
     *a == *b
+}
+
+/// Whether two stored paths differ.
+pub fn is_other_path(a: &pb::FieldPath, b: &pb::FieldPath) -> bool
+    ensures { IsTrue result ↔ (part_names a.now ≢ part_names b.now) }
+{
+    *a != *b
 }
 
 /// Whether a part names the column.

@@ -34,12 +34,12 @@ use Rattle.dtype_messages.specs.lemmas.Equality.{equality as message_equality}
 use Rattle.dtype_messages.specs.lemmas.Numbers.{numbers}
 use Rattle.dtype_types.specs.lemmas.Equality.{equality as type_equality}
 use Rattle.dtype_types.specs.lemmas.Lookups.{lookups as field_lookups}
-use Rattle.vortex_dtype.specs.lemmas.Compared.{compared_within}
+use Rattle.vortex_dtype.specs.lemmas.Compared.{compared_up_to, compared_within}
 use Rattle.vortex_dtype.specs.lemmas.Differences.{differences}
 use Rattle.vortex_dtype.specs.lemmas.Reading.{reading}
 
 -- lookups of names, fields and variants, by name and by position, and how many names they compare
-pub ruleset lookups = (name_lookups, field_lookups, compared_within)
+pub ruleset lookups = (name_lookups, field_lookups, compared_within, compared_up_to)
 
 -- `==` and `!=` of types, of what they hold, and of messages
 pub ruleset equality = (type_equality, message_equality, differences)

@@ -1,27 +1,69 @@
 -- SPDX-License-Identifier: Apache-2.0
 -- SPDX-FileCopyrightText: Copyright the Vortex contributors
 
--- What `!=` says of types and of structs' fields, and `==` of lent types that may be missing.
+-- What `!=` says of types, of what they hold and of messages, and `==` of borrowed types that may be missing.
 use Rattle.std.proofs.Common.{◌≡◌, ◌≢◌, Bool, true, false, not, Decides, Option, Some, None, Bor, refl, ap}
 use Rattle.std.proofs.lemmas.Bool.{false≢true}
 use Rattle.std.proofs.lemmas.Option.{same_Some}
 use Rattle.std.specs.Option.{option_eq}
+use Rattle.dtype_messages.specs.MessageOf.{message}
+use Rattle.dtype_messages.specs.PathNames.{part_name, part_names}
+use Rattle.dtype_messages.specs.contracts.pb.DTypePartialEq.TheImpl as message_eq
+use Rattle.dtype_messages.specs.contracts.pb.FieldPartialEq.TheImpl as part_eq
+use Rattle.dtype_messages.specs.contracts.pb.FieldPathPartialEq.TheImpl as path_eq
+use Rattle.dtype_messages.specs.declared.pb.DType.{DType as TypeMessage}
+use Rattle.dtype_messages.specs.declared.pb.Field.{Field as PathPart}
+use Rattle.dtype_messages.specs.declared.pb.FieldPath.{FieldPath as PathMessage}
+use Rattle.dtype_messages.specs.lemmas.Equality.{dtype_Decides, part_Decides, path_Decides}
 use Rattle.dtype_types.specs.EqualityLaws.{equal_under-Decides, same_dtype}
-use Rattle.dtype_types.specs.PartsEquality.{same_struct}
-use Rattle.dtype_types.specs.TreeOf.{children, shown, tree}
+use Rattle.dtype_types.specs.FieldTypes.{field_tree, same_field_dtype}
+use Rattle.dtype_types.specs.PartsEquality.{same_extension, same_map, same_struct, same_union}
+use Rattle.dtype_types.specs.TreeOf.{children, choices, extension_tree, map_shown, shown, tree}
 use Rattle.dtype_types.specs.declared.dtype.DType.{DType}
+use Rattle.dtype_types.specs.declared.extension.ExtDTypeRef.{ExtDTypeRef}
+use Rattle.dtype_types.specs.declared.field_dtype.FieldDType.{FieldDType}
+use Rattle.dtype_types.specs.declared.map.MapDType.{MapDType}
 use Rattle.dtype_types.specs.declared.struct_fields.StructFields.{StructFields}
-use Rattle.dtype_types.specs.lemmas.Equality.{structs_Decides}
+use Rattle.dtype_types.specs.declared.union_variants.UnionVariants.{UnionVariants}
+use Rattle.dtype_types.specs.lemmas.Equality.{structs_Decides, unions_Decides, maps_Decides, extensions_Decides, field_types_Decides}
 
+-- the negation of a test
 differ : {P : Type 0} (b : Bool) → Decides b P → Decides (not b) (P → ⊥)
 differ true d = (λ e. absurd (false≢true e), λ n. absurd (n (d.0 refl)))
 differ false d = (λ e p. false≢true (d.1 p), λ n. refl)
+
+-- ---- types, and what they hold
 
 pub types_differ : (a b : DType) → Decides (not (same_dtype a b)) (tree a ≢ tree b)
 types_differ a b = differ (same_dtype a b) (equal_under-Decides (tree a) (tree b))
 
 pub structs_differ : (a b : StructFields) → Decides (not (same_struct a b)) (children a ≢ children b)
 structs_differ a b = differ (same_struct a b) (structs_Decides a b)
+
+pub unions_differ : (a b : UnionVariants) → Decides (not (same_union a b)) (choices a ≢ choices b)
+unions_differ a b = differ (same_union a b) (unions_Decides a b)
+
+pub maps_differ : (a b : MapDType) → Decides (not (same_map a b)) (map_shown a ≢ map_shown b)
+maps_differ a b = differ (same_map a b) (maps_Decides a b)
+
+pub extensions_differ : (a b : ExtDTypeRef) → Decides (not (same_extension a b)) (extension_tree a ≢ extension_tree b)
+extensions_differ a b = differ (same_extension a b) (extensions_Decides a b)
+
+pub field_types_differ : (a b : FieldDType) → Decides (not (same_field_dtype a b)) (field_tree a ≢ field_tree b)
+field_types_differ a b = differ (same_field_dtype a b) (field_types_Decides a b)
+
+-- ---- messages
+
+pub messages_differ : (a b : TypeMessage) → Decides (not (message_eq.ghosts.eq a b)) (message a ≢ message b)
+messages_differ a b = differ (message_eq.ghosts.eq a b) (dtype_Decides a b)
+
+pub path_messages_differ : (a b : PathMessage) → Decides (not (path_eq.ghosts.eq a b)) (part_names a ≢ part_names b)
+path_messages_differ a b = differ (path_eq.ghosts.eq a b) (path_Decides a b)
+
+pub parts_differ : (a b : PathPart) → Decides (not (part_eq.ghosts.eq a b)) (part_name a ≢ part_name b)
+parts_differ a b = differ (part_eq.ghosts.eq a b) (part_Decides a b)
+
+-- ---- borrowed types that may be missing
 
 pub lent_alike : (a b : Option (Bor DType)) → Decides (option_eq (λ x y. same_dtype x.now y.now) a b) (shown tree a ≡ shown tree b)
 lent_alike None None = (λ e. refl, λ e. refl)
@@ -31,4 +73,4 @@ lent_alike (Some x) (Some y) =
     let d = equal_under-Decides (tree x.now) (tree y.now) in
     (λ e. ap Some (d.0 e), λ e. d.1 (same_Some (tree x.now) (tree y.now) e))
 
-pub ruleset differences = (types_differ, structs_differ, lent_alike)
+pub ruleset differences = (types_differ, structs_differ, unions_differ, maps_differ, extensions_differ, field_types_differ, messages_differ, path_messages_differ, parts_differ, lent_alike)

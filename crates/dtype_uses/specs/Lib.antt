@@ -3,4 +3,3 @@
 
 pub mod Money
 pub mod Orders
-pub mod Plugins

@@ -5,47 +5,32 @@
 //! is proved from the clauses of the calls that it makes and from the public rulesets, with no proof file.
 //!
 //! A clause that a caller can't use fails here, and so does a definition that `vortex_dtype` doesn't re-export, since
-//! this crate lists `vortex_dtype dtype_types` alone. Every caller that a page shows is here.
+//! this crate lists `vortex_dtype dtype_types` alone. Every caller that a page shows is here, or in `dtype_reader_uses`:
+//! those of paths, path sets, masks, projections, messages and sessions.
 //!
 //! - By user: `scalars` (which values a type has), `arrays` (how wide a row is), `appending` (what may be appended),
-//!   `binder` (column references, projections, joins), `layout`, `path_sets` and `projections` (which columns to
-//!   open), `merging` (several files read as one), `masks` (what is read further down), `rows` (what is found),
-//!   `stored` (schemas written and read back).
+//!   `binder` (column references, projections, joins).
 //! - Types: `structs`, `fields`, `over_fields`, `iterators`, `schemas`, `lookups` (how many comparisons), `presence`,
-//!   `unions`, `kinds`, `equality`, `nullabilities`, `validity`, `numbers`, `dates` (an extension).
-//! - Paths, messages and sessions: `paths`, `path_messages`, `messages`, `sessions`, `plugins`.
+//!   `unions`, `kinds`, `equality`, `nullabilities`, `validity`, `numbers`.
 //! - Pages: `orders` is the code of `docs/TUTORIAL.md`, `guide` that of `docs/GUIDE.md`.
 #![tactic(auto)]
 
 pub mod appending;
 pub mod arrays;
 pub mod binder;
-pub mod dates;
 pub mod equality;
 pub mod fields;
 pub mod guide;
 pub mod iterators;
 pub mod kinds;
-pub mod layout;
 pub mod lookups;
-pub mod masks;
-pub mod merging;
-pub mod messages;
 pub mod nullabilities;
 pub mod numbers;
 pub mod orders;
 pub mod over_fields;
-pub mod path_messages;
-pub mod path_sets;
-pub mod paths;
-pub mod plugins;
 pub mod presence;
-pub mod projections;
-pub mod rows;
 pub mod scalars;
 pub mod schemas;
-pub mod sessions;
-pub mod stored;
 pub mod structs;
 pub mod unions;
 pub mod validity;

@@ -2,7 +2,7 @@
 -- SPDX-FileCopyrightText: Copyright the Vortex contributors
 
 use Rattle.std.proofs.Common.{length}
-use Rattle.dtype_uses.proofs.masks.+mask_down_layouts.Given as goal
+use Rattle.dtype_reader_uses.proofs.masks.+mask_down_layouts.Given as goal
 
 -- how many levels are left
 abbrev pub decreases-mask_down_layouts : goal.decreases-mask_down_layouts

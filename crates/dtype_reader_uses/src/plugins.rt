@@ -11,7 +11,7 @@ pub struct Tags;
 
 impl ExtDTypePlugin for Tags {
     ghost use Rattle.std.specs.Prelude.{codes};
-    ghost use Rattle.dtype_uses.specs.Plugins.{over_lists, over_lists_laws};
+    ghost use Rattle.dtype_reader_uses.specs.Plugins.{over_lists, over_lists_laws};
 
     ghost id_text = { λ _. codes "x.tags" };
 

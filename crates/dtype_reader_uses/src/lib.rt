@@ -1,0 +1,26 @@
+// SPDX-License-Identifier: Apache-2.0
+// SPDX-FileCopyrightText: Copyright the Vortex contributors
+
+//! What a reader of files does with the library: functions as a user would write them, each with a contract of its own
+//! that is proved from the clauses of the calls that it makes and from the public rulesets, with no proof file. They are
+//! as those of `dtype_uses`, in a crate of their own, so that the gate proves the two side by side.
+//!
+//! - Which columns a query opens: `paths`, `path_sets`, `projections`, `merging` (several files read as one).
+//! - What is read further down: `masks`, `layout`, `rows` (what is found).
+//! - What is stored: `messages`, `path_messages`, `stored` (schemas written and read back).
+//! - Extensions: `sessions`, `plugins`, `dates`.
+#![tactic(auto)]
+
+pub mod dates;
+pub mod layout;
+pub mod masks;
+pub mod merging;
+pub mod messages;
+pub mod path_messages;
+pub mod path_sets;
+pub mod paths;
+pub mod plugins;
+pub mod projections;
+pub mod rows;
+pub mod sessions;
+pub mod stored;

@@ -4,7 +4,7 @@
 -- The order of positions: that a binary search in it is right, and that equal names are neighbours.
 use Rattle.std.proofs.Common.{◌≡◌, ℕ, zero, Bool, IfSome, IfNone, suc, ◌+◌, ◌-◌, ◌/◌, ◌<◌, ◌≤◌, ◌^◌, List, [], ◌∷◌, ◌++◌, true, false, Option, Some, None, length, get_or, if◌then◌else◌, refl, sym, ap, subst, ◌∙◌, inl, inr, arith, ⊎_elim}
 use Rattle.std.specs.Prelude.{◌≢◌, slice_get}
-use Rattle.std.specs.List.{range_with_len, AllPairs, Contains}
+use Rattle.std.specs.List.{range_with_len, Contains}
 use Rattle.std.specs.List.Sorted.{IsNonDecreasingBy}
 use Rattle.std.specs.Bool.{then_some}
 use Rattle.std.specs.Int.Bits.{bit_and, and_zero_r}
@@ -25,6 +25,7 @@ use Rattle.std.proofs.lemmas.List.Elements.{All-from_get_or}
 use Rattle.std.proofs.lemmas.List.FromFn.{length-range_with_len, get_or-range_with_len}
 use Rattle.std.proofs.lemmas.List.Sorted.{ranks_by, sorted_far, searchable_from_sorted, length_permutation, Contains-permutation, All-permutation}
 use Rattle.std.proofs.lemmas.Option.{same_Some, slice_get_within, slice_get_read, get_or_from_slice_get}
+use Rattle.dtype_base.specs.Distinct.{Distinct}
 use Rattle.dtype_base.specs.FieldNames.{FirstAt, IsAbsent}
 use Rattle.dtype_base.specs.BinaryDigits.{binary_digits}
 use Rattle.dtype_base.specs.lemmas.BinaryDigits.{digits_halved}
@@ -280,7 +281,7 @@ module _ (names : List (List ℕ)) (order : List ℕ) (h : IsOrderOf names order
       subst (AllBelow names order o) (sym last) (subst (λ x. AllBelow names order x q) same (below_next n p q m after b here next differ)))
       (cases_lt k q)
 
-  pub rise_distinct : AllRise names order (length order) → AllPairs (λ m n. m ≢ n) names
+  pub rise_distinct : AllRise names order (length order) → Distinct names
   rise_distinct increase i j d l b same =
       let n = get_or names j d in
       let at_i : slice_get names i ≡ Some n = slice_get_read names (length names) i (get_or names i d) refl (omega (arith, l, b)) (get_or_default names i d _ (omega (arith, l, b))) ∙ ap Some same in
@@ -296,11 +297,11 @@ module _ (names : List (List ℕ)) (order : List ℕ) (h : IsOrderOf names order
       ]
 
   -- no position occurs twice
-  apart : AllPairs (λ i j. i ≢ j) order
+  apart : Distinct order
   apart = AllPairs-from_IsDistinct Decides-eqb order (IsDistinct-IsPermutation _ nat_eq_equiv.symm _ order h.each (IsDistinct-from_AllPairs Decides-eqb (range_with_len 0 (length names)) (λ i j d l b e.
       omega (arith, l, b, e, length-range_with_len 0 (length names), get_or-range_with_len 0 (length names) i d (omega (arith, l, b, length-range_with_len 0 (length names))), get_or-range_with_len 0 (length names) j d (omega (arith, b, length-range_with_len 0 (length names)))))))
 
-  pub same_neighbours : (p q : ℕ) (n : List ℕ) → p + 1 ≡ q → q < length order → slice_get names (get_or order p 0) ≡ Some n → slice_get names (get_or order q 0) ≡ Some n → AllPairs (λ m n. m ≢ n) names → ⊥
+  pub same_neighbours : (p q : ℕ) (n : List ℕ) → p + 1 ≡ q → q < length order → slice_get names (get_or order p 0) ≡ Some n → slice_get names (get_or order q 0) ≡ Some n → Distinct names → ⊥
   same_neighbours p q n after b here next distinct =
       let i = get_or order p 0 in
       let j = get_or order q 0 in

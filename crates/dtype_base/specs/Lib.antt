@@ -2,6 +2,7 @@
 -- SPDX-FileCopyrightText: Copyright the Vortex contributors
 
 pub mod Bytes
+pub mod Distinct
 pub mod BinaryDigits
 pub mod Refusals
 pub mod Nullability

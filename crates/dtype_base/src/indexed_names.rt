@@ -1,12 +1,13 @@
 // SPDX-License-Identifier: Apache-2.0
 // SPDX-FileCopyrightText: Copyright the Vortex contributors
 
-ghost use Rattle.std.specs.Prelude.{◌≡◌, ◌≢◌, ◌⊎◌, ◌↔◌, ◌+◌, ◌<◌, ◌≤◌, ◌%◌, ◌^◌, All, AllPairs, IsSome, IsTrue, IfSome, IfNone, IfOk, Some, [], length, map, nat_lt, slice_index_or, take, MatchResult};
+ghost use Rattle.std.specs.Prelude.{◌≡◌, ◌≢◌, ◌⊎◌, ◌↔◌, ◌+◌, ◌<◌, ◌≤◌, ◌%◌, ◌^◌, All, IsSome, IsTrue, IfSome, IfNone, IfOk, Some, [], length, map, nat_lt, slice_index_or, take, MatchResult};
 ghost use Rattle.std.specs.List.{range_with_len};
 ghost use Rattle.std.specs.Ordering.{is_lt, is_eq, nat_cmp};
 ghost use Rattle.std.specs.declared.cmp.Ordering.TheVariants.{Equal};
 ghost use Rattle.dtype_base.specs.BinaryDigits.{binary_digits};
 ghost use Rattle.dtype_base.specs.Bytes.{Bytes};
+ghost use Rattle.dtype_base.specs.Distinct.{Distinct};
 ghost use Rattle.dtype_base.specs.FieldNames.{FirstAt, IsAbsent, SelectionRefusal, first_place};
 ghost use Rattle.dtype_base.specs.private.NameKeys.{key_prefix, sort_key};
 ghost use Rattle.dtype_base.specs.Comparisons.{comparisons};
@@ -123,7 +124,7 @@ impl IndexedNames {
 
     /// Returns whether no name repeats. Doesn't allocate.
     pub fn are_distinct(&self) -> bool
-        ensures { IsTrue result ↔ AllPairs (λ m n. m ≢ n) self.now }
+        ensures { IsTrue result ↔ Distinct self.now }
     {
         are_distinct(self.names.as_slice(), &self.entries)
     }

@@ -2,9 +2,10 @@
 // SPDX-FileCopyrightText: Copyright the Vortex contributors
 
 // The index of a name list: an entry for each position, sorted by the names.
-ghost use Rattle.std.specs.Prelude.{◌≡◌, ◌≢◌, ◌↔◌, ◌<◌, ◌≤◌, ◌^◌, ◌%◌, false, All, AllPairs, IsTrue, IfOk, IsOkUnless, OnOk, MatchResult, length, map};
+ghost use Rattle.std.specs.Prelude.{◌≡◌, ◌↔◌, ◌<◌, ◌≤◌, ◌^◌, ◌%◌, false, All, IsTrue, IfOk, IsOkUnless, OnOk, MatchResult, length, map};
 ghost use Rattle.std.specs.List.{range_with_len};
 ghost use Rattle.std.specs.List.Sorted.{IsPermutation, IsSorted};
+ghost use Rattle.dtype_base.specs.Distinct.{Distinct};
 ghost use Rattle.dtype_base.specs.private.NameKeys.{HaveCommonPrefix};
 ghost use Rattle.dtype_base.specs.private.NameOrder.{AreDistinguishedBy, PrefixesIncrease, IsIndexOf, IsKeyed, IsOrderOf, KeysIncrease, entry_cmp, position_cmp, positions};
 ghost use Rattle.dtype_base.specs.declared.vortex_error.VortexError.TheVariants.{OutOfMemory};
@@ -285,7 +286,7 @@ fn keys_increase(entries: &[IndexEntry]) -> bool
 // Whether no name repeats: equal names would be neighbours in the order.
 pub(crate) fn are_distinct(names: &[FieldName], entries: &[IndexEntry]) -> bool
     requires { IsOrderOf names.now (positions entries.now) }
-    ensures { IsTrue result ↔ AllPairs (λ m n. m ≢ n) names.now }
+    ensures { IsTrue result ↔ Distinct names.now }
 {
     for index in 1..entries.len() {
         let before = entries[index - 1].position;

@@ -12,7 +12,7 @@ use Rattle.std.proofs.lemmas.Option.{same_Some, option_and_then_some}
 use Rattle.dtype_paths.specs.lemmas.Covers.{beginning_refl, beginning_trans, beginning_both, covers_member, least_covers, least_within}
 use Rattle.dtype_paths.specs.Beginning.{Beginning}
 use Rattle.std.proofs.lemmas.Map.Made.{AllPairs-from_IsDistinct}
-use Rattle.dtype_types.specs.Distinct.{Distinct}
+use Rattle.dtype_base.specs.Distinct.{Distinct}
 use Rattle.dtype_paths.specs.Covering.{IsCountOf}
 use Rattle.dtype_paths.specs.ListCover.{SameCoverage, Least, Begun}
 use Rattle.dtype_paths.specs.Equality.{same_field, same_path}

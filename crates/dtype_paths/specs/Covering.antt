@@ -7,7 +7,7 @@
 use Rattle.std.specs.Prelude.{◌≡◌, ◌↔◌, ℕ, Bool, List, length, not, ◌&&◌}
 use Rattle.std.specs.FinSet as set
 use Rattle.std.specs.List.{Contains, list_any, starts_with}
-use Rattle.dtype_types.specs.Distinct.{Distinct}
+use Rattle.dtype_base.specs.Distinct.{Distinct}
 use Rattle.dtype_paths.specs.Equality.{same_field, same_path}
 use Rattle.dtype_paths.specs.PathOrder.{PathSet}
 use Rattle.dtype_paths.specs.declared.field.Field.{Field}

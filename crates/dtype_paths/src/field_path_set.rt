@@ -10,7 +10,7 @@ ghost use Rattle.std.specs.List.{Contains, sum_by};
 ghost use Rattle.std.specs.Vec.Iter.{into_iter_items, into_iter_steps};
 ghost use Rattle.std.specs.declared.alloc.Global.{Global};
 ghost use Rattle.dtype_base.specs.declared.vortex_error.VortexError.TheVariants.{OutOfMemory};
-ghost use Rattle.dtype_types.specs.Distinct.{Distinct};
+ghost use Rattle.dtype_base.specs.Distinct.{Distinct};
 ghost use Rattle.dtype_paths.specs.Beginning.{Beginning};
 ghost use Rattle.dtype_paths.specs.Covering.{CoverAlike, IsCountOf, least};
 ghost use Rattle.dtype_paths.specs.PathOrder.{set_of};

@@ -6,7 +6,7 @@ use Rattle.std.proofs.Common.{◌≡◌, ◌≢◌, ◌<◌, ℕ, List, [], ◌�
 use Rattle.std.specs.List.{AllByRecursion, All}
 use Rattle.std.proofs.lemmas.List.Elements.{All-from_recursion, recursion_from_All}
 use Rattle.dtype_base.specs.Bytes.{Bytes}
-use Rattle.dtype_types.specs.Distinct.{Distinct}
+use Rattle.dtype_base.specs.Distinct.{Distinct}
 use Rattle.dtype_types.specs.Valid.{Valid, ValidVariants, HasVariant}
 use Rattle.dtype_types.specs.TreeOf.{tree, with_tagged_trees}
 use Rattle.dtype_types.specs.Lists.{names_of, types_of, tags_of}

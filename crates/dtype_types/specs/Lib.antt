@@ -15,7 +15,6 @@ pub mod Equality
 pub mod EqualityLaws
 pub mod FieldTypes
 pub mod Building
-pub mod Distinct
 pub mod Unions
 pub mod PartsEquality
 pub mod Width

@@ -6,7 +6,7 @@ ghost use Rattle.std.specs.List.{zip};
 ghost use Rattle.dtype_base.specs.FieldNames.{SelectionRefusal, first_place};
 ghost use Rattle.dtype_base.specs.Comparisons.{comparisons};
 ghost use Rattle.dtype_base.specs.declared.vortex_error.VortexError.TheVariants.{OutOfMemory};
-ghost use Rattle.dtype_types.specs.Distinct.{Distinct};
+ghost use Rattle.dtype_base.specs.Distinct.{Distinct};
 ghost use Rattle.dtype_types.specs.Lists.{firsts, seconds};
 
 use dtype_base::{FieldName, FieldNames, IndexedNames, VortexResult};

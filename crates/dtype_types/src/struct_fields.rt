@@ -43,7 +43,7 @@ impl StructFields {
     ghost use Rattle.dtype_types.specs.FieldTypes.{field_tree, MadeFrom};
     ghost use Rattle.dtype_types.specs.IndentedText.{indented_text, indented_braces};
     ghost use Rattle.dtype_types.specs.Lookups.{first_named, field_names, field_types, Projects};
-    ghost use Rattle.dtype_types.specs.Distinct.{Distinct};
+    ghost use Rattle.dtype_base.specs.Distinct.{Distinct};
     ghost use Rattle.dtype_types.specs.HashesOf.{struct_writes};
     ghost use Rattle.dtype_types.specs.Tree.{Tree};
     ghost use Rattle.dtype_types.specs.TreeOf.{fields_of, struct_dtypes, struct_pairs, children, tree, shown, struct_tree};

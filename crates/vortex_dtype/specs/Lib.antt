@@ -62,7 +62,7 @@ pub use Rattle.dtype_paths.specs.PathOrder
 pub use Rattle.dtype_projection.specs.Merged
 pub use Rattle.dtype_projection.specs.Projected
 pub use Rattle.dtype_projection.specs.Restricted
-pub use Rattle.dtype_types.specs.Distinct
+pub use Rattle.dtype_base.specs.Distinct
 pub use Rattle.dtype_types.specs.FieldTypes
 pub use Rattle.dtype_paths.specs.lemmas.PathOrders
 pub use Rattle.dtype_types.specs.lemmas.JoinedFields

@@ -12,7 +12,7 @@ use Rattle.dtype_base.specs.declared.vortex_error.MessageFault.TheVariants.{Type
 use Rattle.dtype_base.specs.Primitives.{ptype_row}
 use Rattle.dtype_base.specs.Decimals.{Decimal, IsValidDecimal, DecimalRefusal, greatest_precision}
 use Rattle.dtype_base.specs.Nullability.{nullability_of}
-use Rattle.dtype_types.specs.Distinct.{Distinct}
+use Rattle.dtype_base.specs.Distinct.{Distinct}
 use Rattle.dtype_types.specs.Nullable.{nullability}
 use Rattle.dtype_types.specs.Unions.{UnionRefusal}
 use Rattle.dtype_types.specs.Tree as of

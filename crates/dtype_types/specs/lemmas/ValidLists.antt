@@ -10,7 +10,7 @@ use Rattle.std.proofs.lemmas.Bool.{false≢true}
 use Rattle.std.proofs.lemmas.List.Elements.{recursion_from_All}
 use Rattle.std.proofs.lemmas.Map.Made.{IsDistinct-from_AllPairs}
 use Rattle.dtype_base.specs.Bytes.{Bytes}
-use Rattle.dtype_types.specs.Distinct.{Distinct}
+use Rattle.dtype_base.specs.Distinct.{Distinct}
 use Rattle.dtype_types.specs.Lookups.{field_types, variant_names, variant_types, variant_tags}
 use Rattle.dtype_types.specs.Tree.{Tree, fields, variants}
 use Rattle.dtype_types.specs.Valid.{Valid, ValidFields, ValidVariants, HasVariant, LacksName, LacksTag}

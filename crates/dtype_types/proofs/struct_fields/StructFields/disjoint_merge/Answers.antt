@@ -3,7 +3,7 @@
 
 use Rattle.std.proofs.Common.{inr, refl, sym, ap, subst, ◌∙◌}
 use Rattle.std.proofs.lemmas.Bool.{false≢true}
-use Rattle.dtype_types.specs.Distinct.{Distinct}
+use Rattle.dtype_base.specs.Distinct.{Distinct}
 use Rattle.dtype_types.specs.Lists.{firsts}
 use Rattle.dtype_types.specs.Lookups.{field_names}
 use Rattle.dtype_types.specs.Tree.{fields}

@@ -5,7 +5,7 @@ use Rattle.std.proofs.Common.{◌≡◌, ◌<◌, arith, ap, length, subst, ◌�
 use Rattle.std.specs.List.{All}
 use Rattle.dtype_types.proofs.Sides.{names_three, types_three, tags_three}
 use Rattle.dtype_types.proofs.UnionLaws.{made_valid}
-use Rattle.dtype_types.specs.Distinct.{Distinct}
+use Rattle.dtype_base.specs.Distinct.{Distinct}
 use Rattle.dtype_types.specs.Lists.{names_of, types_of, tags_of}
 use Rattle.dtype_types.proofs.union_variants.UnionVariants.try_new.Goals as goal
 

@@ -34,12 +34,12 @@ IsValidDecimal d = IsDecimalWithin greatest_precision d.precision d.scale
 
 -- e is the first of these errors that applies: a precision of 0, a precision above max, a scale above max, a scale
 -- above the precision
-abbrev pub DecimalRefusal : (max precision : ℕ) (scale : ℤ) → VortexError → Type 0
-DecimalRefusal max precision scale (PrecisionZero m) = (m ≡ max) × (precision ≡ 0)
-DecimalRefusal max precision scale (PrecisionTooLarge p m) = (p ≡ precision) × (m ≡ max) × (max < precision)
-DecimalRefusal max precision scale (ScaleTooLarge s m) = (s ≡ scale) × (m ≡ pos max) × (1 ≤ precision) × (precision ≤ max) × (pos max <ℤ scale)
-DecimalRefusal max precision scale (ScaleAbovePrecision s p) = (s ≡ scale) × (p ≡ precision) × (1 ≤ precision) × (precision ≤ max) × (scale ≤ℤ pos max) × (pos precision <ℤ scale)
-DecimalRefusal max precision scale _ = ⊥
+abbrev pub DecimalError : (max precision : ℕ) (scale : ℤ) → VortexError → Type 0
+DecimalError max precision scale (PrecisionZero m) = (m ≡ max) × (precision ≡ 0)
+DecimalError max precision scale (PrecisionTooLarge p m) = (p ≡ precision) × (m ≡ max) × (max < precision)
+DecimalError max precision scale (ScaleTooLarge s m) = (s ≡ scale) × (m ≡ pos max) × (1 ≤ precision) × (precision ≤ max) × (pos max <ℤ scale)
+DecimalError max precision scale (ScaleAbovePrecision s p) = (s ≡ scale) × (p ≡ precision) × (1 ≤ precision) × (precision ≤ max) × (scale ≤ℤ pos max) × (pos precision <ℤ scale)
+DecimalError max precision scale _ = ⊥
 
 -- b is the least number of bits that hold every unsigned number of p digits
 pub record IsBitWidth (p b : ℕ) : Type 0 where

@@ -28,9 +28,9 @@ pub record IsFirstAbsent (names asked : List (List ℕ)) (position : ℕ) : Type
   pub there : (k : ℕ) (n : List ℕ) → k < position → slice_get asked k ≡ Some n → first_place names n ≢ None
 
 -- the error of a selection of names: the first that is absent
-abbrev pub SelectionRefusal : List (List ℕ) → List (List ℕ) → VortexError → Type 0
-SelectionRefusal names asked (FieldNotFound position) = IsFirstAbsent names asked position
-SelectionRefusal names asked _ = ⊥
+abbrev pub SelectionError : List (List ℕ) → List (List ℕ) → VortexError → Type 0
+SelectionError names asked (FieldNotFound position) = IsFirstAbsent names asked position
+SelectionError names asked _ = ⊥
 
 -- a name in double quotes
 abbrev pub quoted : List ℕ → List ℕ

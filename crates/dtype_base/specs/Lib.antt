@@ -4,7 +4,7 @@
 pub mod Bytes
 pub mod Distinct
 pub mod BinaryDigits
-pub mod Refusals
+pub mod Errors
 pub mod Nullability
 pub mod Primitives
 pub mod FieldNames

@@ -4,7 +4,7 @@
 ghost use Rattle.std.specs.Prelude.{◌≡◌, ◌↔◌, ◌<◌, ◌≤◌, IfErr, IsOk, IsTrue, Some, MatchResult};
 ghost use Rattle.std.specs.Option.{ok_or};
 ghost use Rattle.dtype_base.specs.declared.vortex_error.VortexError.TheVariants.{NotDecimalPType};
-ghost use Rattle.dtype_base.specs.Decimals.{greatest_precision, IsValidDecimal, IsDecimalWithin, DecimalRefusal, IsBitWidth, IsCompatible, storage, smallest_storage, decimal_type_of};
+ghost use Rattle.dtype_base.specs.Decimals.{greatest_precision, IsValidDecimal, IsDecimalWithin, DecimalError, IsBitWidth, IsCompatible, storage, smallest_storage, decimal_type_of};
 
 use crate::{PType, VortexError, VortexResult};
 use std::fmt;
@@ -51,7 +51,7 @@ impl DecimalDType {
     pub fn try_new(precision: u8, scale: i8) -> VortexResult<Self>
         ensures ok { MatchResult result
             (λ d. (d.precision ≡ precision) × (d.scale ≡ scale))
-            (DecimalRefusal greatest_precision precision scale) }
+            (DecimalError greatest_precision precision scale) }
         ensures valid { IsOk result ↔ IsDecimalWithin greatest_precision precision scale }
     {
         check_precision_and_scale(precision, scale, MAX_PRECISION)?;
@@ -121,7 +121,7 @@ impl fmt::Display for DecimalDType {
 pub fn check_precision_and_scale(precision: u8, scale: i8, max: u8) -> VortexResult<()>
     requires { max < 128 }
     ensures valid { IsOk result ↔ IsDecimalWithin max precision scale }
-    ensures refused { IfErr result (DecimalRefusal max precision scale) }
+    ensures refused { IfErr result (DecimalError max precision scale) }
 {
     let max_scale = max as i8;
     if precision == 0 {

@@ -8,7 +8,7 @@ ghost use Rattle.std.specs.declared.cmp.Ordering.TheVariants.{Equal};
 ghost use Rattle.dtype_base.specs.BinaryDigits.{binary_digits};
 ghost use Rattle.dtype_base.specs.Bytes.{Bytes};
 ghost use Rattle.dtype_base.specs.Distinct.{Distinct};
-ghost use Rattle.dtype_base.specs.FieldNames.{FirstAt, IsAbsent, SelectionRefusal, first_place};
+ghost use Rattle.dtype_base.specs.FieldNames.{FirstAt, IsAbsent, SelectionError, first_place};
 ghost use Rattle.dtype_base.specs.private.NameKeys.{key_prefix, sort_key};
 ghost use Rattle.dtype_base.specs.Comparisons.{comparisons};
 ghost use Rattle.dtype_base.specs.private.NameOrder.{IsIndexOf, IsKeyed, mask, entry_name_cmp, positions};
@@ -101,7 +101,7 @@ impl IndexedNames {
     pub fn select(&self, alloc: Global, asked: &[FieldName]) -> VortexResult<(Self, Vec<usize>)>
         ensures { MatchResult result
             (λ s. (s.0 ≡ asked.now) × (map Some s.1.items ≡ map (first_place self.now) asked.now))
-            (λ e. (e ≡ OutOfMemory) ⊎ SelectionRefusal self.now asked.now e) }
+            (λ e. (e ≡ OutOfMemory) ⊎ SelectionError self.now asked.now e) }
     {
         let names = self.names.as_slice();
         let (mut entries, first_positions) = look_up(
@@ -144,7 +144,7 @@ fn look_up(
     requires { IsIndexOf names.now prefix_len discriminator entries.now }
     ensures found { MatchResult result
         (λ made. map Some made.1.items ≡ map (first_place names.now) asked.now)
-        (λ e. (e ≡ OutOfMemory) ⊎ SelectionRefusal names.now asked.now e) }
+        (λ e. (e ≡ OutOfMemory) ⊎ SelectionError names.now asked.now e) }
     ensures keyed { IfOk result (λ made. All (IsKeyed asked.now prefix_len) made.0.items) }
     ensures order { IfOk result
         (λ made. positions made.0.items ≡ range_with_len 0 (length asked.now)) }

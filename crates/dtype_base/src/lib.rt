@@ -8,7 +8,7 @@
 //!
 //! Begin with `VortexError` (all errors of the workspace), then `Nullability`, `PType`,
 //! `DecimalDType`, `DecimalType`, `FieldName`, `FieldNames` and `IndexedNames`. The definitions that the
-//! contracts cite are in `specs/`: `Refusals` (numbers), `Primitives` and `Decimals` (the two tables),
+//! contracts cite are in `specs/`: `Errors` (numbers), `Primitives` and `Decimals` (the two tables),
 //! `FieldNames` (`first_place`), `Comparisons` and `BinaryDigits` (the price of a lookup) and `Escapes` (the text of a
 //! name); `specs/private/` has those of the index of names, which no other crate cites. `laws` states the theorems about
 //! them. What is proved, and what is only tested, is in `docs/PROMISES.md`.

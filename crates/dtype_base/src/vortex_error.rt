@@ -2,7 +2,7 @@
 // SPDX-FileCopyrightText: Copyright the Vortex contributors
 
 ghost use Rattle.std.specs.Prelude.{◌≡◌};
-ghost use Rattle.dtype_base.specs.Refusals.{number_of, fault_number};
+ghost use Rattle.dtype_base.specs.Errors.{number_of, fault_number};
 ghost use Rattle.dtype_base.specs.declared.vortex_error.VortexError.TheVariants.{OutOfMemory};
 
 use crate::PType;

@@ -7,7 +7,7 @@
 use Rattle.std.specs.Prelude.{◌≡◌, ◌↔◌, ℕ, List, ◌++◌, codes, Result, IsOk, MatchResult}
 use Rattle.std.specs.Fmt.{decimal, signed_decimal}
 use Rattle.dtype_base.specs.declared.vortex_error.VortexError.{VortexError}
-use Rattle.dtype_base.specs.Decimals.{Decimal, IsDecimalWithin, DecimalRefusal}
+use Rattle.dtype_base.specs.Decimals.{Decimal, IsDecimalWithin, DecimalError}
 pub use Rattle.dtype_types.specs.Value.{HasDigits}
 
 -- as `decimal(i8, p=2, s=1)`
@@ -19,4 +19,4 @@ precision_scale_text name d =
 abbrev pub KeepsDecimal : ℕ → Decimal → Result Decimal VortexError → Type 0
 KeepsDecimal max d r =
     (IsOk r ↔ IsDecimalWithin max d.precision d.scale)
-    × MatchResult r (λ kept. kept ≡ d) (DecimalRefusal max d.precision d.scale)
+    × MatchResult r (λ kept. kept ≡ d) (DecimalError max d.precision d.scale)

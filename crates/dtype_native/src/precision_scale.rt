@@ -2,7 +2,7 @@
 // SPDX-FileCopyrightText: Copyright the Vortex contributors
 
 ghost use Rattle.std.specs.Prelude.{◌≡◌, ◌↔◌, IsOk, IsTrue, Some, MatchResult};
-ghost use Rattle.dtype_base.specs.Decimals.{Decimal, IsDecimalWithin, DecimalRefusal, storage};
+ghost use Rattle.dtype_base.specs.Decimals.{Decimal, IsDecimalWithin, DecimalError, storage};
 ghost use Rattle.dtype_native.specs.Digits.{HasDigits, KeepsDecimal, precision_scale_text};
 
 use crate::NativeDecimalType;
@@ -43,7 +43,7 @@ impl<D: NativeDecimalType> PrecisionScale<D> {
     pub fn try_new(precision: u8, scale: i8) -> VortexResult<Self>
         ensures ok { MatchResult result
             (λ d. (d.precision ≡ precision) × (d.scale ≡ scale))
-            (DecimalRefusal D.MAX_PRECISION precision scale) }
+            (DecimalError D.MAX_PRECISION precision scale) }
         ensures valid { IsOk result ↔ IsDecimalWithin D.MAX_PRECISION precision scale }
     {
         check_precision_and_scale(precision, scale, D::MAX_PRECISION)?;

@@ -19,7 +19,7 @@ use Rattle.dtype_types.specs.Erase.{erase, erase_fields, erase_variants}
 use Rattle.dtype_types.specs.Lookups.{field_names, field_types, variant_names, variant_tags, variant_types}
 use Rattle.dtype_types.specs.Tree.{Tree, field, fields, choice, variants}
 use Rattle.dtype_types.specs.TreeOf.{tree, zip_tagged}
-use Rattle.dtype_types.specs.Unions.{HasUnionLengths, MakesUnion, UnionRefusal}
+use Rattle.dtype_types.specs.Unions.{HasUnionLengths, MakesUnion, UnionError}
 use Rattle.dtype_types.specs.Valid.{Valid, ValidFields, ValidVariants, HasVariant, LacksName, LacksTag}
 use Rattle.dtype_types.specs.declared.dtype.DType.{DType}
 use Rattle.dtype_projection.specs.Merged.{either_null, either_null_fields, either_null_types, either_null_variants}
@@ -181,7 +181,7 @@ some_names [] qs h = absurd h
 some_names (p ∷ ps) qs h = λ e. cc
 
 -- names, types and tags that make a union aren't refused
-refused : (ns : List (List ℕ)) (n : ℕ) (gs : List ℕ) (e : VortexError) → MakesUnion ns n gs → UnionRefusal ns n gs e → ⊥
+refused : (ns : List (List ℕ)) (n : ℕ) (gs : List ℕ) (e : VortexError) → MakesUnion ns n gs → UnionError ns n gs e → ⊥
 refused ns n gs UnionTypesLength m h = h m.0.0
 refused ns n gs UnionTagsLength m h = h.1 m.0.1
 refused ns n gs UnionEmpty m h = m.0.2 h.2
@@ -190,7 +190,7 @@ refused ns n gs UnionNamesRepeat m h = h.2 m.2
 refused ns n gs _ m h = h
 
 pub union_fails : (ps qs : Triples) (ns : List (List ℕ)) (n : ℕ) (gs : List ℕ) (ds : List Tree) (e : VortexError) → ns ≡ variant_names ps → gs ≡ variant_tags ps → ds ≡ either_null_types (variant_types ps) (variant_types qs) → length ds ≡ n
-    → erase_variants (variants ps) ≡ erase_variants (variants qs) → ((e ≡ OutOfMemory) × HasUnionLengths ns n gs) ⊎ UnionRefusal ns n gs e → HasVariant (either_null_variants (variants ps) (variants qs)) → ValidVariants (either_null_variants (variants ps) (variants qs)) → e ≡ OutOfMemory
+    → erase_variants (variants ps) ≡ erase_variants (variants qs) → ((e ≡ OutOfMemory) × HasUnionLengths ns n gs) ⊎ UnionError ns n gs e → HasVariant (either_null_variants (variants ps) (variants qs)) → ValidVariants (either_null_variants (variants ps) (variants qs)) → e ≡ OutOfMemory
 union_fails ps qs ns n gs ds e names tags types count alike (inl told) some valid = told.0
 union_fails ps qs ns n gs ds e names tags types count alike (inr told) some valid = absurd (refused ns n gs e makes told)
   where

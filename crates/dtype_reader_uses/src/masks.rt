@@ -12,7 +12,7 @@ ghost use Rattle.vortex_dtype.specs.Types.FieldMask.TheVariants.{All};
 use std::alloc::Global;
 use vortex_dtype::{Field, FieldMask, FieldPath, VortexResult, field_path};
 
-/// The mask of a projected column two levels down, behind both its names: all is asked for there.
+/// The mask of a projected column two levels down, after both its names: all is asked for there.
 pub fn mask_of_column(alloc: Global, table: &str, column: &str) -> VortexResult<FieldMask>
     ensures { IfOk result (λ m. m ≡ FieldMask.All) }
 {
@@ -27,7 +27,7 @@ pub fn all_is_asked_of_column(alloc: Global, table: &str, column: &str) -> Vorte
     Ok(mask_of_column(alloc, table, column)?.matches_all())
 }
 
-/// The mask of one column alone, behind its table's name.
+/// The mask of one column alone, after its table's name.
 pub fn mask_of_one_column(alloc: Global, table: &str, column: &str) -> VortexResult<FieldMask>
     ensures { IfOk result (λ m. m ≡ FieldMask.Exact (Field.Name column.now ∷ [])) }
 {
@@ -65,7 +65,7 @@ pub fn mask_below_field(mask: FieldMask, field: &Field) -> VortexResult<Option<F
     Ok(Some(mask.step_into()?))
 }
 
-/// What is asked of a layout's child, behind its field: nothing where the mask leads elsewhere.
+/// What is asked of a layout's child, after its field: nothing where the mask leads elsewhere.
 pub fn mask_of_child(
     alloc: Global,
     mask: &FieldMask,
@@ -85,7 +85,7 @@ pub fn mask_of_child(
     }
 }
 
-/// What is asked of a layout down a tree of layouts, behind a field at each level.
+/// What is asked of a layout down a tree of layouts, after a field at each level.
 pub fn mask_down_layouts(
     alloc: Global,
     mask: FieldMask,
@@ -134,7 +134,7 @@ pub fn all_is_asked_and_so_this(mask: &FieldMask, path: &FieldPath) -> bool
     mask.matches_all()
 }
 
-/// The field behind which something is asked for, or `None` where the mask's path is the root.
+/// The field after which something is asked for, or `None` where the mask's path is the root.
 pub fn field_asked_for(mask: &FieldMask) -> VortexResult<Option<&Field>>
     ensures { IfOk result (λ found. IfSome found (λ f.
         (q : List Field) × In mask.now (f.now ∷ q))) }

@@ -85,7 +85,7 @@ pub fn stored_nullable(alloc: Global, dtype: &DType, session: &DTypeSession) -> 
     DType::from_proto(alloc, &stored, session)
 }
 
-/// A schema read by a program that knows no extension: what is wrong is told as it comes first in the message.
+/// A schema read by a program that knows no extension: the first fault of the message is returned.
 pub fn read_knowing_nothing(alloc: Global, proto: &pb::DType) -> VortexResult<DType>
     ensures accepts { IfOk result (λ t. Accepts empty_meaning (message proto.now) (tree t)) }
     ensures told { IfErr result (λ e. (e ≡ OutOfMemory) ⊎ (read empty_meaning (message proto.now) ≡ Err e)) }

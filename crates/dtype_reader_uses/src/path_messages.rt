@@ -109,7 +109,7 @@ pub fn is_read_alike(alloc: Global, a: &pb::FieldPath, b: &pb::FieldPath) -> Vor
     Ok(first == second)
 }
 
-/// A path whose last part lacks its kind: it is refused.
+/// A path whose last part has no kind: an error.
 pub fn read_unfinished(alloc: Global, mut proto: pb::FieldPath) -> VortexResult<FieldPath>
     ensures refused { IsErr result }
     ensures fault { IfErr result (λ e. (e ≡ OutOfMemory) ⊎ (e ≡ Message PathPartMissing)) }
@@ -118,7 +118,7 @@ pub fn read_unfinished(alloc: Global, mut proto: pb::FieldPath) -> VortexResult<
     FieldPath::from_proto(alloc, &proto)
 }
 
-/// A path with a part that lacks its kind: it is refused.
+/// A path with a part that has no kind: an error.
 pub fn read_with_a_gap(alloc: Global, proto: &pb::FieldPath) -> VortexResult<FieldPath>
     requires { Contains (steps_of proto.now) None }
     ensures { IsErr result }

@@ -56,7 +56,7 @@ pub fn columns_of_query(alloc: Global, columns: Vec<FieldPath>) -> VortexResult<
     FieldPathSet::from_iter(alloc, columns)
 }
 
-/// The columns of a second query besides.
+/// The columns of a second query, added to those of the first.
 pub fn ask_for_all(asked: &mut FieldPathSet, columns: Vec<FieldPath>) -> VortexResult<()>
     ensures { OnOk result (asked.new ≡ set.union asked.old (set_of columns.items)) }
 {
@@ -129,7 +129,7 @@ pub fn ask_for_all_twice(
     asked.extend(again)
 }
 
-/// The columns of a query besides: all of them are asked for then.
+/// The columns of a query, added: all of them are asked for then.
 pub fn ask_for_each(asked: &mut FieldPathSet, columns: Vec<FieldPath>) -> VortexResult<()>
     ensures { OnOk result (IsTrue (set.is_subset (set_of columns.items) asked.new)) }
 {
@@ -237,7 +237,7 @@ pub fn cover_of_queries(
     union_of_queries(alloc, columns, more)?.into_iter()
 }
 
-/// The columns to open for a set and the columns of a query besides.
+/// The columns to open for a set and the columns of a query.
 pub fn cover_with_query(
     asked: &FieldPathSet,
     columns: Vec<FieldPath>,
@@ -361,7 +361,7 @@ pub fn columns_found(
     )
 }
 
-/// The set of columns that are lent, put in one by one.
+/// The set of borrowed columns, inserted one by one.
 pub fn asked_one_by_one(alloc: Global, columns: &[FieldPath]) -> VortexResult<FieldPathSet>
     ensures { IfOk result (λ s. s ≡ set_of columns.now) }
 {

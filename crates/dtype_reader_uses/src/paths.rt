@@ -26,7 +26,7 @@ pub fn path_of_amount(alloc: Global) -> VortexResult<FieldPath>
     field_path!(alloc, "order", "amount")
 }
 
-/// The nullability of the type that stands along a path, or `None` where none does.
+/// The nullability of the type along a path, or `None` where there is none.
 pub fn nullability_along(path: &FieldPath, dtype: &DType) -> Option<Nullability>
     ensures { result ≡ option_map nullability (along (tree dtype.now) path.now) }
 {
@@ -46,7 +46,7 @@ pub fn column_by_path<'a>(
     Ok(path.resolve(table))
 }
 
-/// The type of a table's column by its name: it stands along the path of that name.
+/// The type of a table's column by its name: the type along the path of that name.
 pub fn column_of_struct<'a>(table: &'a DType, column: &str) -> Option<&'a DType>
     ensures { IfSome result (λ u. At (tree table.now) (Field.Name column.now ∷ []) (tree u.now)) }
 {
@@ -65,7 +65,7 @@ pub fn one_step_further<'a>(
     Ok(path.push(field)?.resolve(dtype))
 }
 
-/// The type along two paths, one behind the other.
+/// The type along two paths, one after the other.
 pub fn along_both<'a>(path: &FieldPath, rest: &FieldPath, dtype: &'a DType) -> Option<&'a DType>
     ensures { IfSome result (λ u. At (tree dtype.now) (path.now ++ rest.now) (tree u.now)) }
 {
@@ -110,14 +110,14 @@ pub fn root_overlaps(alloc: Global, path: &FieldPath) -> bool
     FieldPath::root(alloc).overlap(path)
 }
 
-/// Whether two paths overlap in either order alike: they always do.
+/// Whether two paths overlap in both orders or in neither: always.
 pub fn overlap_either_way(path: &FieldPath, other: &FieldPath) -> bool
     ensures { IsTrue result }
 {
     path.overlap(other) == other.overlap(path)
 }
 
-/// Whether two paths exist alike, where they are equal: they always do.
+/// Whether two equal paths both exist or both do not: always.
 #[tactic(auto)]
 pub fn equal_paths_exist_alike(path: &FieldPath, other: &FieldPath, dtype: &DType) -> bool
     ensures { IsTrue result }
@@ -128,7 +128,7 @@ pub fn equal_paths_exist_alike(path: &FieldPath, other: &FieldPath, dtype: &DTyp
     true
 }
 
-/// The type along two paths, one behind the other, or `None` where none stands there.
+/// The type along two paths, one after the other, or `None` where there is none.
 pub fn type_along_both<'a>(
     path: &FieldPath,
     rest: &FieldPath,

@@ -1,7 +1,7 @@
 // SPDX-License-Identifier: Apache-2.0
 // SPDX-FileCopyrightText: Copyright the Vortex contributors
 
-//! Sessions: what is known after registrations, what is kept of metadata, and what is refused.
+//! Sessions: what is known after registrations, what is kept of metadata, and which errors come.
 #![tactic(auto, using(vortex_dtype::specs::rulesets::sessions, vortex_dtype::specs::rulesets::messages))]
 
 ghost use Rattle.std.specs.Prelude.{◌≡◌, ◌≢◌, ◌↔◌, ◌⊎◌, IfErr, IfOk, IsErr, IsOkUnless, IsSome, IsTrue, OnOk, Some, false, true};
@@ -77,7 +77,7 @@ pub fn is_known_from_the_start(alloc: Global, id: &str) -> bool
     DTypeSession::new(alloc).registry(id)
 }
 
-/// An extension read by a session that knows nothing: refused.
+/// An extension read by a session without plugins: an error.
 pub fn read_by_a_new_session(
     alloc: Global,
     id: &str,
@@ -109,7 +109,7 @@ pub fn read_by_the_last(
     session.deserialize(id, metadata, storage)
 }
 
-/// Registers a plugin where none stands under its id; one that stands there stays.
+/// Registers a plugin where none is registered under its id; one that is registered stays.
 pub fn register_once(
     session: &mut DTypeSession,
     id: &str,
@@ -126,7 +126,7 @@ pub fn register_once(
     Ok(())
 }
 
-/// Whether a session takes an extension's metadata as it stands: where it keeps it.
+/// Whether a session accepts an extension's metadata unchanged.
 pub fn is_taken_as_it_is(
     session: &DTypeSession,
     id: &str,

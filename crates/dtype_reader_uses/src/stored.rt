@@ -49,7 +49,7 @@ pub fn is_kept_by_storing(
     Ok(again == dtype)
 }
 
-/// The struct of these fields and one column more behind them, of nullable numbers.
+/// The struct of these fields and one column more after them, of nullable numbers.
 pub fn with_column(
     alloc: Global,
     columns: &StructFields,

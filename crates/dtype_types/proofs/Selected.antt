@@ -7,7 +7,7 @@ use Rattle.std.specs.List.{All, zip}
 use Rattle.std.proofs.lemmas.List.{map_push, map_more, length-map}
 use Rattle.std.proofs.lemmas.Option.{slice_get-map, slice_get_read, slice_get_within}
 use Rattle.std.specs.Option.{option_map}
-use Rattle.dtype_base.specs.FieldNames.{first_place, SelectionRefusal}
+use Rattle.dtype_base.specs.FieldNames.{first_place, SelectionError}
 use Rattle.dtype_base.specs.lemmas.Lookups.{first_of_place}
 use Rattle.dtype_base.specs.declared.vortex_error.VortexError.{VortexError}
 use Rattle.dtype_base.specs.declared.vortex_error.VortexError.TheVariants.{OutOfMemory}
@@ -100,6 +100,6 @@ module _ (ps held : List (List ℕ × DType)) (asked : List (List ℕ)) (places 
     projects names made named put =
         selected (with_trees ps) asked places ds (with_trees made) (ap with_trees put ∙ trees_zip names ds ∙ ap (λ ns. zip ns (map tree ds)) named) shown_places shown_types
 
--- a refusal, where the names are those that a struct holds
-pub refused_of : (ps held : List (List ℕ × DType)) (asked : List (List ℕ)) (e : VortexError) → held ≡ ps → (e ≡ OutOfMemory) ⊎ SelectionRefusal (names_held held) asked e → (e ≡ OutOfMemory) ⊎ SelectionRefusal (field_names (with_trees ps)) asked e
-refused_of ps held asked e same h = subst (λ ns. (e ≡ OutOfMemory) ⊎ SelectionRefusal ns asked e) (ap names_held same ∙ sym (names_shown ps)) h
+-- an error, where the names are those that a struct holds
+pub refused_of : (ps held : List (List ℕ × DType)) (asked : List (List ℕ)) (e : VortexError) → held ≡ ps → (e ≡ OutOfMemory) ⊎ SelectionError (names_held held) asked e → (e ≡ OutOfMemory) ⊎ SelectionError (field_names (with_trees ps)) asked e
+refused_of ps held asked e same h = subst (λ ns. (e ≡ OutOfMemory) ⊎ SelectionError ns asked e) (ap names_held same ∙ sym (names_shown ps)) h

@@ -3,7 +3,7 @@
 
 ghost use Rattle.std.specs.Prelude.{◌≡◌, ◌⊎◌, ◌↔◌, length, map, IsTrue, Some, MatchResult};
 ghost use Rattle.std.specs.List.{zip};
-ghost use Rattle.dtype_base.specs.FieldNames.{SelectionRefusal, first_place};
+ghost use Rattle.dtype_base.specs.FieldNames.{SelectionError, first_place};
 ghost use Rattle.dtype_base.specs.Comparisons.{comparisons};
 ghost use Rattle.dtype_base.specs.declared.vortex_error.VortexError.TheVariants.{OutOfMemory};
 ghost use Rattle.dtype_base.specs.Distinct.{Distinct};
@@ -81,7 +81,7 @@ impl<T> Named<T> {
     ) -> VortexResult<(IndexedNames, Vec<usize>)>
         ensures { MatchResult result
             (λ s. (s.0 ≡ asked.now) × (map Some s.1.items ≡ map (first_place (firsts self.now)) asked.now))
-            (λ e. (e ≡ OutOfMemory) ⊎ SelectionRefusal (firsts self.now) asked.now e) }
+            (λ e. (e ≡ OutOfMemory) ⊎ SelectionError (firsts self.now) asked.now e) }
     {
         self.names.select(alloc, asked)
     }

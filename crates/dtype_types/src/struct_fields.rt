@@ -6,7 +6,7 @@ ghost use Rattle.std.specs.Iterator.{IsFinite};
 ghost use Rattle.std.specs.List.{AllByRecursion, zip};
 ghost use Rattle.std.specs.Option.{option_copied};
 ghost use Rattle.dtype_base.specs.BinaryDigits.{binary_digits};
-ghost use Rattle.dtype_base.specs.FieldNames.{SelectionRefusal, first_place};
+ghost use Rattle.dtype_base.specs.FieldNames.{SelectionError, first_place};
 ghost use Rattle.dtype_base.specs.Comparisons.{comparisons};
 ghost use Rattle.dtype_base.specs.declared.vortex_error.VortexError.TheVariants.{DuplicateNames, IndexOutOfBounds, OutOfMemory};
 
@@ -275,7 +275,7 @@ impl StructFields {
         ensures fields { MatchResult result
             (λ s. Projects (children self.now) projection.now (children s))
             (λ e. (e ≡ OutOfMemory)
-            ⊎ SelectionRefusal (field_names (children self.now)) projection.now e) }
+            ⊎ SelectionError (field_names (children self.now)) projection.now e) }
         ensures each { IfOk result (λ s. AllByRecursion
             (λ n. first_named (children s) n ≡ first_named (children self.now) n) projection.now) }
         ensures there { IsOk result → AllByRecursion

@@ -6,7 +6,7 @@ ghost use Rattle.std.specs.List.{IsDistinct, range_with_len};
 ghost use Rattle.dtype_base.specs.Bytes.{Bytes};
 ghost use Rattle.dtype_base.specs.FieldNames.{first_place};
 ghost use Rattle.dtype_base.specs.declared.vortex_error.VortexError.TheVariants.{OutOfMemory, UnionTooMany};
-ghost use Rattle.dtype_types.specs.Unions.{AreConsecutive, HasUnionLengths, MakesUnion, UnionRefusal};
+ghost use Rattle.dtype_types.specs.Unions.{AreConsecutive, HasUnionLengths, MakesUnion, UnionError};
 
 use crate::dtype::equality::{NullabilityRule, equal_under};
 use crate::dtype::hash::{HashMode, hash_into};
@@ -51,7 +51,7 @@ fn validate_shape(
     ensures bytes { OnOk result (Bytes type_ids.now) }
     ensures refused { IfErr result (λ e.
         ((e ≡ OutOfMemory) × HasUnionLengths names.now types type_ids.now)
-        ⊎ UnionRefusal names.now types type_ids.now e) }
+        ⊎ UnionError names.now types type_ids.now e) }
 {
     if names.len() != types {
         return Err(VortexError::UnionTypesLength);
@@ -117,7 +117,7 @@ impl UnionVariants {
         ensures accepted { OnOk result (MakesUnion names (vec_len dtypes) type_ids.items) }
         ensures refused { IfErr result (λ e.
             ((e ≡ OutOfMemory) × HasUnionLengths names (vec_len dtypes) type_ids.items)
-            ⊎ UnionRefusal names (vec_len dtypes) type_ids.items e) }
+            ⊎ UnionError names (vec_len dtypes) type_ids.items e) }
     {
         validate_shape(alloc, &names, dtypes.len(), &type_ids)?;
         let shared = Rc::new(alloc, Tagged::new(names, dtypes, type_ids))?;
@@ -139,7 +139,7 @@ impl UnionVariants {
             (MakesUnion names (vec_len dtypes) (range_with_len 0 (length names))) }
         ensures too_many { (result ≡ Err UnionTooMany) ↔ (256 < length names) }
         ensures refused { length names ≤ 256 → IfErr result (λ e. (e ≡ OutOfMemory)
-            ⊎ UnionRefusal names (vec_len dtypes) (range_with_len 0 (length names)) e) }
+            ⊎ UnionError names (vec_len dtypes) (range_with_len 0 (length names)) e) }
     {
         if names.len() > MAX_VARIANTS {
             return Err(VortexError::UnionTooMany);

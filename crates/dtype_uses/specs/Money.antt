@@ -11,7 +11,7 @@ use Rattle.vortex_dtype.specs.Typed.{Typed}
 abbrev pub currency : List ℕ → Option (List ℕ)
 currency b = if nat_eq (length b) 3 then Some b else None
 
--- what is taken is taken as it stands
+-- what is accepted is kept unchanged
 is_same : (f : Bool) (b c : List ℕ) → (if f then Some b else None) ≡ Some c → b ≡ c
 is_same true b c e = cc
 is_same false b c e = cc

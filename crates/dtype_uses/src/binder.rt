@@ -20,7 +20,7 @@ use vortex_dtype::{
     DType, Field, FieldMask, FieldName, FieldPath, StructFields, VortexResult, field_path,
 };
 
-/// A column of a table: what stands along its path, of which each value read there is.
+/// A column of a table: the type along its path, of which each value read there is.
 pub fn bind_column<'a>(column: &FieldPath, table: &'a DType) -> Option<&'a DType>
     ensures bound { IfSome result (λ u. At (tree table.now) column.now (tree u.now)) }
     ensures unbound { IfNone result ((u : Tree) → At (tree table.now) column.now u → ⊥) }

@@ -30,7 +30,7 @@ pub fn field_by_find<'a>(fields: &'a StructFields, name: &str) -> Option<&'a DTy
     fields.field_by_index(index)
 }
 
-/// The place of the second of two names.
+/// The position of the second of two names.
 pub fn second_of_two(alloc: Global) -> VortexResult<Option<usize>>
     ensures { IfOk result (λ place. place ≡ Some 1) }
 {
@@ -55,7 +55,7 @@ pub fn nullability_when_projected(
     }
 }
 
-/// Whether a projection to one name has a field of it: it has, since it would be refused else.
+/// Whether a projection to one name has a field of it: it always has, since an unknown name is an error.
 pub fn has_what_it_was_projected_to(
     fields: &StructFields,
     alloc: Global,
@@ -80,7 +80,7 @@ pub fn count_without_field(
     Ok(fields.without_field(alloc, index)?.nfields())
 }
 
-/// The fields of two structs, no name of which stands twice.
+/// The fields of two structs, with distinct names.
 pub fn merged(
     alloc: Global,
     left: &StructFields,

@@ -27,7 +27,7 @@ pub fn variants_give_what_they_announce(variants: &UnionVariants) -> bool
     types.count() == announced
 }
 
-/// Names, lent.
+/// References to names.
 pub fn lent_names_give_what_they_announce(names: &FieldNames) -> bool
     ensures { result ≡ true }
 {
@@ -36,7 +36,7 @@ pub fn lent_names_give_what_they_announce(names: &FieldNames) -> bool
     lent.count() == announced
 }
 
-/// Names, given up.
+/// Names, consumed.
 pub fn names_give_what_they_announce(names: FieldNames) -> bool
     ensures { result ≡ true }
 {
@@ -45,28 +45,28 @@ pub fn names_give_what_they_announce(names: FieldNames) -> bool
     given.count() == announced
 }
 
-/// Names, lent, as a list.
+/// References to names, as a list.
 pub fn lent_names_collected(alloc: Global, names: &FieldNames) -> VortexResult<Vec<&FieldName>>
     ensures { IfOk result (λ list. map (λ n. n.now) list.items ≡ names.now) }
 {
     Ok(names.iter().collect(alloc)?)
 }
 
-/// Names, given up, as a list.
+/// Names, consumed, as a list.
 pub fn names_collected(alloc: Global, names: FieldNames) -> VortexResult<Vec<FieldName>>
     ensures { IfOk result (λ list. list.items ≡ names) }
 {
     Ok(names.into_iter().collect(alloc)?)
 }
 
-/// Names, given up, and made a list of names again: the same ones, in order.
+/// Names, consumed and collected again: the same ones, in order.
 pub fn names_collected_again(alloc: Global, names: FieldNames) -> VortexResult<FieldNames>
     ensures { IfOk result (λ again. again ≡ names) }
 {
     Ok(names.into_iter().collect(alloc)?)
 }
 
-/// The fields of a struct, lent, as a list of pairs: seen with the trees of their types they are all of them, in order.
+/// References to the fields of a struct, as a list of pairs: with the trees of their types, all of them in order.
 pub fn fields_collected(
     alloc: Global,
     fields: &StructFields,

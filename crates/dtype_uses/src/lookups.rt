@@ -11,14 +11,14 @@ ghost use Rattle.dtype_types.specs.TreeOf.{children};
 
 use vortex_dtype::StructFields;
 
-/// Whether a counted lookup gives the place that `find` does.
+/// Whether a counted lookup returns the position that `find` does.
 pub fn counted_place_is_found_place(fields: &StructFields, name: &str) -> bool
     ensures { result ≡ true }
 {
     fields.find_counted(name).0 == fields.find(name)
 }
 
-/// The place of the first field of the name, of at most 1,000 fields, and how many of their names were
+/// The position of the first field of the name, of at most 1,000 fields, and how many of their names were
 /// compared for it.
 pub fn place_among_a_thousand(fields: &StructFields, name: &str) -> (Option<usize>, u64)
     requires { length (children fields.now) ≤ 1000 }
@@ -28,7 +28,7 @@ pub fn place_among_a_thousand(fields: &StructFields, name: &str) -> (Option<usiz
     fields.find_counted(name)
 }
 
-/// Whether two lookups in one struct compare equally many names: they do, whichever names are looked for, found
+/// Whether two lookups in one struct compare equally many names: they do, for any two names, found
 /// or not.
 pub fn compares_as_many(fields: &StructFields, first: &str, second: &str) -> bool
     ensures { result ≡ true }

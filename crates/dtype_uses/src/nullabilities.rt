@@ -61,7 +61,7 @@ pub fn is_nullable_once_made_so(dtype: &DType, alloc: Global) -> VortexResult<bo
     Ok(dtype.as_nullable(alloc)?.is_nullable())
 }
 
-/// A type made nullable where another is: what it was may stand where this is asked.
+/// A type made nullable where another is: its values are values of the result.
 pub fn nullable_with(dtype: &DType, other: &DType, alloc: Global) -> VortexResult<DType>
     ensures { IfOk result (λ d. Sub (tree dtype.now) (tree d)) }
 {

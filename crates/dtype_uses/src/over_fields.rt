@@ -33,7 +33,7 @@ pub fn all_variants_nullable(union: &UnionVariants) -> bool
     union.variants().all(|dtype| dtype.is_nullable())
 }
 
-/// Whether every column may be null, by the pairs that are lent.
+/// Whether every column may be null, by the borrowed pairs.
 pub fn all_pairs_nullable(table: &StructFields) -> bool
     ensures { IsTrue result ↔ All (λ p. IsNullable (tree p.1)) (struct_pairs table.now) }
 {

@@ -1,7 +1,7 @@
 // SPDX-License-Identifier: Apache-2.0
 // SPDX-FileCopyrightText: Copyright the Vortex contributors
 
-//! A scalar library: whether a number may stand as a value of a type.
+//! A scalar library: whether a number is a value of a type.
 ghost use Rattle.std.specs.Prelude.{◌↔◌, IfSome, IsTrue};
 ghost use Rattle.dtype_types.specs.TreeOf.{tree};
 ghost use Rattle.dtype_types.specs.Value.{IntegerOf, Of, digits, number};

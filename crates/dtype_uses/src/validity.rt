@@ -46,7 +46,7 @@ pub fn as_many_names_as_fields(fields: &StructFields) -> bool
     fields.names().len() == count
 }
 
-/// A tag of a valid union leads back to its place.
+/// A tag of a valid union leads back to its position.
 pub fn place_and_back(variants: &UnionVariants, place: usize) -> Option<usize>
     requires { place < length (variant_tags (choices variants.now)) }
     ensures { Valid (union_tree variants.now) → result ≡ Some place }
@@ -65,7 +65,7 @@ pub fn as_many_tags_as_names(variants: &UnionVariants) -> bool
     names == count && tags == count
 }
 
-/// Whether a tag of a valid union has a place: it always has.
+/// Whether a tag of a valid union has a position: it always has.
 pub fn tag_has_place(variants: &UnionVariants, place: usize) -> bool
     requires valid { Valid (union_tree variants.now) }
     requires within { place < length (variant_tags (choices variants.now)) }
@@ -89,7 +89,7 @@ pub fn element_of(dtype: &DType) -> Option<&DType>
     dtype.as_any_size_list_element_opt()
 }
 
-/// The element type of a list, taken out of the list's.
+/// The element type of a list, moved out of the list.
 pub fn element_taken(dtype: DType) -> Option<Box<DType>>
     ensures { Valid (tree dtype) → IfSome result (λ b. Valid (tree b.value)) }
 {
@@ -103,7 +103,7 @@ pub fn keys_of(dtype: &DType) -> Option<&DType>
     Some(dtype.as_map_opt()?.key_dtype())
 }
 
-/// What a map holds, taken out of its type.
+/// The map, moved out of its type.
 pub fn map_taken(dtype: DType) -> Option<MapDType>
     ensures { Valid (tree dtype) → IfSome result (λ m. Valid (map_tree m)) }
 {
@@ -117,7 +117,7 @@ pub fn variant_of<'a>(dtype: &'a DType, name: &str) -> Option<&'a DType>
     dtype.as_union_variants_opt()?.variant(name)
 }
 
-/// The columns of a table's type, taken out of it.
+/// The columns of a table's type, moved out of it.
 pub fn columns_taken(table: DType) -> Option<StructFields>
     ensures { Valid (tree table) → IfSome result (λ s. Valid (struct_tree s)) }
 {
@@ -152,7 +152,7 @@ pub fn table_of_columns(
     Ok(DType::Struct(projected, Nullability::NonNullable))
 }
 
-/// The columns of a join, but for one of them.
+/// The columns of a join, except one of them.
 pub fn joined_without(
     alloc: Global,
     left: &StructFields,

@@ -7,7 +7,7 @@ pub mod Typed
 pub mod TypedOf
 pub mod Session
 pub mod Calls
-pub mod Refusals
+pub mod Errors
 pub mod Foreign
 pub mod ReadInOrder
 pub mod IsMessage

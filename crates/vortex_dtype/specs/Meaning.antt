@@ -56,12 +56,12 @@ abbrev pub keeps : Meaning → List ℕ → List ℕ → Tree → Option (List �
 keeps m id b s = kept (m.registered id) m.unknown b s
 
 -- the error where nothing is kept: the plugin's, or that none is registered
-abbrev pub refusal_of : Option Rewrites → VortexError
-refusal_of None = Faulty ExtensionUnregistered
-refusal_of (Some r) = MetadataRefused
+abbrev pub unkept_error_of : Option Rewrites → VortexError
+unkept_error_of None = Faulty ExtensionUnregistered
+unkept_error_of (Some r) = MetadataRefused
 
-abbrev pub refusal : Meaning → List ℕ → VortexError
-refusal m id = refusal_of (m.registered id)
+abbrev pub unkept_error : Meaning → List ℕ → VortexError
+unkept_error m id = unkept_error_of (m.registered id)
 
 -- the session admits a type: of every extension in it, it keeps the metadata unchanged
 abbrev mutual

@@ -19,7 +19,7 @@ use Rattle.dtype_types.specs.Tree.{Tree, fields, variants}
 use Rattle.dtype_types.specs.TreeOf.{zip_tagged}
 use Rattle.dtype_types.specs.Nullable.{nullability}
 use Rattle.dtype_messages.specs.Message.{Message, Child, Messages, missing, null, bool, primitive, decimal, utf8, binary, list, fixed_size_list, map_of, struct, union, variant, extension, absent, present, no_message, more}
-use Rattle.vortex_dtype.specs.Meaning.{Meaning, keeps, refusal}
+use Rattle.vortex_dtype.specs.Meaning.{Meaning, keeps, unkept_error}
 use Rattle.dtype_messages.specs.PTypeNumbers.{ptype_at}
 use Rattle.vortex_dtype.specs.Numbers.{integer_byte, signed_byte, natural_byte}
 
@@ -78,7 +78,7 @@ unfoldable pub union_read : List (List ℕ) → List Tree → List ℤ → Nulla
 union_read ns ts gs n = read_tags gs >>= λ tags. union_made ns ts tags n
 
 unfoldable pub extension_read : Meaning → List ℕ → List ℕ → Tree → Result Tree VortexError
-extension_read s id b x = or_fault (refusal s id) (keeps s id b x) >>= λ c. Ok (of.extension id c x)
+extension_read s id b x = or_fault (unkept_error s id) (keeps s id b x) >>= λ c. Ok (of.extension id c x)
 
 unfoldable mutual
   pub read : Meaning → Message → Result Tree VortexError

@@ -10,15 +10,15 @@ use Rattle.dtype_base.specs.declared.vortex_error.VortexError.TheVariants.{MapKe
 use Rattle.dtype_base.specs.declared.vortex_error.MessageFault.{MessageFault}
 use Rattle.dtype_base.specs.declared.vortex_error.MessageFault.TheVariants.{TypeMissing, PrimitiveNumber, PrecisionRange, ScaleRange, ListElementMissing, FixedElementMissing, MapKeyMissing, MapValueMissing, StructLengths, TypeIdRange, StorageMissing}
 use Rattle.dtype_base.specs.Primitives.{ptype_row}
-use Rattle.dtype_base.specs.Decimals.{Decimal, IsValidDecimal, DecimalRefusal, greatest_precision}
+use Rattle.dtype_base.specs.Decimals.{Decimal, IsValidDecimal, DecimalError, greatest_precision}
 use Rattle.dtype_base.specs.Nullability.{nullability_of}
 use Rattle.dtype_base.specs.Distinct.{Distinct}
 use Rattle.dtype_types.specs.Nullable.{nullability}
-use Rattle.dtype_types.specs.Unions.{UnionRefusal}
+use Rattle.dtype_types.specs.Unions.{UnionError}
 use Rattle.dtype_types.specs.Tree as of
 use Rattle.dtype_types.specs.Tree.{Tree, Fields, no_fields, field, Variants, no_variants, choice}
 use Rattle.dtype_messages.specs.Message.{Message, Child, Messages, missing, null, bool, primitive, decimal, utf8, binary, list, fixed_size_list, map_of, struct, union, variant, extension, absent, present, no_message, more}
-use Rattle.vortex_dtype.specs.Meaning.{Meaning, keeps, refusal}
+use Rattle.vortex_dtype.specs.Meaning.{Meaning, keeps, unkept_error}
 use Rattle.vortex_dtype.specs.Numbers.{integer_byte}
 use Rattle.vortex_dtype.specs.ReadInOrder.{or_empty}
 
@@ -88,12 +88,12 @@ SomeTagFault (g ∷ gs) = (integer_byte g ≡ None) ⊎ SomeTagFault gs
 -- what is wrong with a decimal's numbers
 abbrev pub DecimalFault : ℕ → ℤ → VortexError → Type 0
 DecimalFault p k e =
-    ((e ≡ Faulty PrecisionRange) × (256 ≤ p)) ⊎ (((e ≡ Faulty ScaleRange) × ((k <ℤ neg_ℤ (pos 128)) ⊎ (pos 127 <ℤ k))) ⊎ DecimalRefusal greatest_precision p k e)
+    ((e ≡ Faulty PrecisionRange) × (256 ≤ p)) ⊎ (((e ≡ Faulty ScaleRange) × ((k <ℤ neg_ℤ (pos 128)) ⊎ (pos 127 <ℤ k))) ⊎ DecimalError greatest_precision p k e)
 
 -- what is wrong with a union's names, types and tags
 abbrev pub UnionFault : List (List ℕ) → ℕ → List ℤ → VortexError → Type 0
 UnionFault ns types gs e =
-    ((e ≡ Faulty TypeIdRange) × SomeTagFault gs) ⊎ ((tags : List ℕ) × (gs ≡ map pos tags) × UnionRefusal ns types tags e)
+    ((e ≡ Faulty TypeIdRange) × SomeTagFault gs) ⊎ ((tags : List ℕ) × (gs ≡ map pos tags) × UnionError ns types tags e)
 
 -- The message, or a message inside it, has the fault that this error is about.
 abbrev mutual
@@ -113,7 +113,7 @@ abbrev mutual
   Fault s (union ns ms gs f) e = SomeFault s ms e ⊎ UnionFault ns (message_count ms) gs e
   Fault s (variant f) e = ⊥
   Fault s (extension id c b) e =
-      ChildFault s StorageMissing c e ⊎ ((e ≡ refusal s id) × (x : Tree) × ReadsChild s c x × (keeps s id (or_empty b) x ≡ None))
+      ChildFault s StorageMissing c e ⊎ ((e ≡ unkept_error s id) × (x : Tree) × ReadsChild s c x × (keeps s id (or_empty b) x ≡ None))
 
   -- a child that is missing, which is the fault j, or a fault in it
   pub ChildFault : Meaning → MessageFault → Child → VortexError → Type 0

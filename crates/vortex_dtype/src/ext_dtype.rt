@@ -9,7 +9,7 @@ ghost use Rattle.dtype_types.specs.Nullable.{CanBeNonNullable, SetNull};
 ghost use Rattle.dtype_types.specs.TreeOf.{extension_id, extension_metadata, extension_tree, storage_tree, tree};
 ghost use Rattle.dtype_types.specs.Valid.{Valid};
 ghost use Rattle.dtype_types.specs.Tree.{extension};
-ghost use Rattle.vortex_dtype.specs.Refusals.{DowncastRefusal, Unfit};
+ghost use Rattle.vortex_dtype.specs.Errors.{DowncastError, Unfit};
 ghost use Rattle.vortex_dtype.specs.TypedOf.{metadata_of, storage_of, vtable_of};
 
 use crate::ExtVTable;
@@ -197,7 +197,7 @@ impl<V: ExtVTable> ExtDType<V> {
         ensures fits { Valid (storage_tree erased) → IfOk result
             (λ x. V.fits vtable (V.meant (metadata_of x)) (storage_tree erased) ≡ true) }
         ensures refused { IfErr result (λ p. (p.1 ≡ OutOfMemory)
-            ⊎ DowncastRefusal (extension_id erased) (V.id_text vtable)
+            ⊎ DowncastError (extension_id erased) (V.id_text vtable)
             (Valid (storage_tree erased) → Unfit (V.reads vtable (extension_metadata erased))
             (λ m. V.fits vtable m (storage_tree erased))) p.1) }
     {
@@ -220,7 +220,7 @@ impl<V: ExtVTable> ExtDType<V> {
         ensures read { MatchResult result
             (λ m. V.reads vtable.now (extension_metadata erased.now) ≡ Some (V.meant m))
             (λ e. (e ≡ OutOfMemory)
-            ⊎ DowncastRefusal (extension_id erased.now) (V.id_text vtable.now)
+            ⊎ DowncastError (extension_id erased.now) (V.id_text vtable.now)
             (Valid (storage_tree erased.now)
             → Unfit (V.reads vtable.now (extension_metadata erased.now))
             (λ m. V.fits vtable.now m (storage_tree erased.now))) e) }

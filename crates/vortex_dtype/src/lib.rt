@@ -10,7 +10,7 @@
 //!
 //! Begin with `ExtVTable` and `ExtDType` (a typed extension), `ExtDTypePlugin` and `PluginOf`, and `DTypeSession`; then
 //! `pb` and `DTypeProto`. The definitions are in `specs/`: `Typed` (what a vtable means), `Meaning` (what a plugin and
-//! a session mean: `keeps`, `Admits`), `Refusals` (which errors they return), `Calls`, and for messages `Reads` (the
+//! a session mean: `keeps`, `Admits`), `Errors` (which errors they return), `Calls`, and for messages `Reads` (the
 //! type that a message reads as, and its faults), `ReadInOrder` (which fault is first) and `Written`, over the trees of
 //! `dtype_messages`. `laws` states theorems about these definitions; callers' proofs have the lemmas by the rulesets
 //! `sessions` and `reading` of `specs/lemmas`.

@@ -10,7 +10,7 @@ ghost use Rattle.dtype_types.specs.TreeOf.{extension_metadata, extension_tree, t
 ghost use Rattle.dtype_types.specs.Valid.{Valid};
 ghost use Rattle.dtype_types.specs.Tree.{extension};
 ghost use Rattle.vortex_dtype.specs.Meaning.{LawfulSession, allow_unknown_in, empty_meaning, keeps, register_in};
-ghost use Rattle.vortex_dtype.specs.Refusals.{SessionRefusal};
+ghost use Rattle.vortex_dtype.specs.Errors.{SessionError};
 ghost use Rattle.vortex_dtype.specs.Session.{meaning};
 
 use crate::plugin::{ExtDTypePlugin, boxed_deserialize, boxed_id};
@@ -113,7 +113,7 @@ impl DTypeSession {
         ensures valid { Valid (tree storage) → IfOk result (λ e. Valid (extension_tree e)) }
         ensures refused { Valid (tree storage) → IfErr result
             (λ e. (e ≡ OutOfMemory)
-            ⊎ SessionRefusal (meaning rewrites self.now) id.now metadata.now (tree storage) e) }
+            ⊎ SessionError (meaning rewrites self.now) id.now metadata.now (tree storage) e) }
     {
         let bytes = match self.plugins.get(id) {
             Some(plugin) => boxed_deserialize(plugin, self.alloc, metadata, &storage)?,

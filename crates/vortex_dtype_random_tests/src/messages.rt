@@ -82,8 +82,8 @@ fn answer(
             assert!(rt; kept, "seed {seed}: not read back as it was written");
             Ok(None)
         }
-        Err(refusal) => {
-            let number = refusal.number();
+        Err(error) => {
+            let number = error.number();
             assert_eq!(rt;
                 found.first().copied(),
                 Some(number),

@@ -87,9 +87,9 @@ fn typed_extensions_have_their_id(rt: HostRuntime) -> Result<(), Fail> {
 fn metadata_that_cannot_be_written_is_refused(rt: HostRuntime) -> Result<(), Fail> {
     let capitals = tag(rt.alloc(), b"AB")?;
     let written = capitals.serialize_metadata(rt.alloc());
-    assert!(rt; written.is_err_and(|refusal| refusal == VortexError::MetadataRefused));
+    assert!(rt; written.is_err_and(|error| error == VortexError::MetadataRefused));
     let erased = capitals.erased(rt.alloc());
-    assert!(rt; erased.is_err_and(|refusal| refusal == VortexError::MetadataRefused));
+    assert!(rt; erased.is_err_and(|error| error == VortexError::MetadataRefused));
     Ok(())
 }
 

@@ -10,7 +10,7 @@ ghost use Rattle.vortex_dtype.specs.TreeOf.{tree};
 use std::alloc::Global;
 use vortex_dtype::{DType, Field, VortexResult, field_path};
 
-/// The type of a column of the customer: what stands along its path, or `None` where nothing does.
+/// The type of a column of the customer: the one along its path, or `None` where there is none.
 pub fn customer_column<'a>(
     alloc: Global,
     orders: &'a DType,

@@ -9,13 +9,13 @@ use Rattle.dtype_base.specs.declared.vortex_error.VortexError.TheVariants.{Metad
 use Rattle.dtype_base.specs.declared.vortex_error.MessageFault.TheVariants.{ExtensionUnregistered}
 use Rattle.dtype_types.specs.Tree.{Tree}
 use Rattle.vortex_dtype.specs.Meaning.{Meaning, allow_unknown_in, empty_meaning}
-use Rattle.vortex_dtype.specs.Refusals.{SessionRefusal}
+use Rattle.vortex_dtype.specs.Errors.{SessionError}
 
-unrefused_there : (id b : List ℕ) (s : Tree) (e : VortexError) → SessionRefusal (allow_unknown_in empty_meaning) id b s e → ⊥
+unrefused_there : (id b : List ℕ) (s : Tree) (e : VortexError) → SessionError (allow_unknown_in empty_meaning) id b s e → ⊥
 unfolding allow_unknown_in empty_meaning
 unrefused_there id b s MetadataRefused h = absurd h
 unrefused_there id b s (Message ExtensionUnregistered) h = let kept = h.1 in cc
 unrefused_there id b s _ h = absurd h
 
-pub unrefused : (m : Meaning) (id b : List ℕ) (s : Tree) (e : VortexError) → m ≡ allow_unknown_in empty_meaning → SessionRefusal m id b s e → ⊥
-unrefused m id b s e is h = unrefused_there id b s e (subst (λ n. SessionRefusal n id b s e) is h)
+pub unrefused : (m : Meaning) (id b : List ℕ) (s : Tree) (e : VortexError) → m ≡ allow_unknown_in empty_meaning → SessionError m id b s e → ⊥
+unrefused m id b s e is h = unrefused_there id b s e (subst (λ n. SessionError n id b s e) is h)

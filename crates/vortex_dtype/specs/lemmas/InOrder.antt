@@ -33,7 +33,7 @@ use Rattle.dtype_types.specs.Valid.{Valid}
 use Rattle.dtype_types.specs.declared.dtype.DType.{DType}
 use Rattle.vortex_dtype.specs.IsMessage.{AreTags}
 use Rattle.dtype_messages.specs.Message.{Message, Child, Messages, missing, null, bool, primitive, decimal, utf8, binary, list, fixed_size_list, map_of, struct, union, variant, extension, absent, present, no_message, more}
-use Rattle.vortex_dtype.specs.Meaning.{Meaning, Admits, keeps, refusal}
+use Rattle.vortex_dtype.specs.Meaning.{Meaning, Admits, keeps, unkept_error}
 use Rattle.dtype_messages.specs.PTypeNumbers.{ptype_at}
 use Rattle.vortex_dtype.specs.Numbers.{integer_byte, signed_byte, natural_byte}
 use Rattle.vortex_dtype.specs.Reads.{Reads, ReadsChild, ReadsFields, ReadsVariants, Fault, ChildFault, SomeFault, SomeTagFault, UnionFault, DecimalFault, decimal_with, number, message_count}
@@ -226,13 +226,13 @@ union_fault ns ts gs n k e =
 extension_reads : (s : Meaning) (id b : List ℕ) (x t : Tree) → extension_read s id b x ≡ Ok t → (c : List ℕ) × (keeps s id b x ≡ Some c) × (t ≡ of.extension id c x)
 unfolding extension_read
 extension_reads s id b x t e =
-    let d = bind_ok (or_fault (refusal s id) (keeps s id b x)) _ t e in
-    (d.0, fault_is_some (refusal s id) (keeps s id b x) d.0 d.1, ok_is (of.extension id d.0 x) t d.2)
+    let d = bind_ok (or_fault (unkept_error s id) (keeps s id b x)) _ t e in
+    (d.0, fault_is_some (unkept_error s id) (keeps s id b x) d.0 d.1, ok_is (of.extension id d.0 x) t d.2)
 
-extension_fault : (s : Meaning) (id b : List ℕ) (x : Tree) (k : VortexError) → extension_read s id b x ≡ Err k → (k ≡ refusal s id) × (keeps s id b x ≡ None)
+extension_fault : (s : Meaning) (id b : List ℕ) (x : Tree) (k : VortexError) → extension_read s id b x ≡ Err k → (k ≡ unkept_error s id) × (keeps s id b x ≡ None)
 unfolding extension_read
 extension_fault s id b x k e =
-    ⊎_elim (λ a. fault_is_none (refusal s id) k (keeps s id b x) a) (λ d. absurd (ok_err d.2)) (bind_err (or_fault (refusal s id) (keeps s id b x)) _ k e)
+    ⊎_elim (λ a. fault_is_none (unkept_error s id) k (keeps s id b x) a) (λ d. absurd (ok_err d.2)) (bind_err (or_fault (unkept_error s id) (keeps s id b x)) _ k e)
 
 -- ---- a type that is read is one that reads
 
@@ -334,7 +334,7 @@ key_fault : (s : Meaning) (c : Child) (k : VortexError) (x y : Tree) (o : Bool) 
 key_fault s c k x y o n r e = let g = map_fault x y o n k e in (g.1, x, child_reads s MapKeyMissing c x r, g.0)
 
 kept_fault : (s : Meaning) (id : List ℕ) (c : Child) (b : List ℕ) (k : VortexError) (x : Tree) → read_child s StorageMissing c ≡ Ok x → extension_read s id b x ≡ Err k
-    → (k ≡ refusal s id) × (x' : Tree) × ReadsChild s c x' × (keeps s id b x' ≡ None)
+    → (k ≡ unkept_error s id) × (x' : Tree) × ReadsChild s c x' × (keeps s id b x' ≡ None)
 kept_fault s id c b k x r e = let g = extension_fault s id b x k e in (g.0, x, child_reads s StorageMissing c x r, g.1)
 
 struct_counts : (s : Meaning) (ns : List (List ℕ)) (ms : Messages) (ts : List Tree) (k : VortexError) → read_all s ms ≡ Ok ts → (k ≡ Faulty StructLengths) × (length ns ≢ length ts) → (k ≡ Faulty StructLengths) × (length ns ≢ message_count ms)

@@ -13,7 +13,7 @@ refused : {A E : Type 0} (Q : E → Type 0) (r : Result A E) (given : Option A) 
 refused Q (Ok a) given is none = let e : Some a ≡ None = sym is ∙ none in cc
 refused Q (Err e) given is none = refl
 
--- the message with a part behind it that has no kind makes no path
+-- the message with a part after it that has no kind makes no path
 pub returns-clause-refused : goal.returns-clause-refused
 returns-clause-refused c =
     let before = c.args.proto.path.items in

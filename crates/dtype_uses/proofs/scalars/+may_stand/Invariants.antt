@@ -6,7 +6,7 @@ use Rattle.dtype_types.specs.Tree.{Tree, extension}
 use Rattle.dtype_types.specs.TreeOf.{tree}
 use Rattle.dtype_uses.proofs.scalars.+may_stand.Given as goal
 
--- how many extensions stand over the storage that is none
+-- how many extensions are over the storage that is none
 abbrev pub extensions_over : Tree → ℕ
 extensions_over (extension id b s) = extensions_over s + 1
 extensions_over _ = 0

@@ -4,7 +4,7 @@
 use Rattle.std.proofs.Common.{◌≡◌, ◌⊎◌, Some, map, sym, ap, subst, ◌∙◌}
 use Rattle.std.specs.Result.{MatchResult}
 use Rattle.std.proofs.lemmas.Slice.Zip.{firsts-zip}
-use Rattle.dtype_base.specs.FieldNames.{SelectionRefusal, first_place}
+use Rattle.dtype_base.specs.FieldNames.{SelectionError, first_place}
 use Rattle.dtype_base.specs.declared.vortex_error.VortexError.TheVariants.{OutOfMemory}
 use Rattle.dtype_types.specs.Lists.{firsts}
 use Rattle.dtype_types.proofs.named.Named.select.Goals as goal
@@ -13,4 +13,4 @@ pub returns : goal.returns
 returns g c =
     let asked = c.args.asked.now in
     let named : c.self.inside.names ≡ firsts c.args.self.now = sym (firsts-zip c.self.inside.names c.self.inside.dtypes.items c.self.invariant) ∙ ap firsts c.self.view_is in
-    subst (λ ns. MatchResult c.select.result (λ s. (s.0 ≡ asked) × (map Some s.1.items ≡ map (first_place ns) asked)) (λ e. (e ≡ OutOfMemory) ⊎ SelectionRefusal ns asked e)) named c.select.ensures
+    subst (λ ns. MatchResult c.select.result (λ s. (s.0 ≡ asked) × (map Some s.1.items ≡ map (first_place ns) asked)) (λ e. (e ≡ OutOfMemory) ⊎ SelectionError ns asked e)) named c.select.ensures

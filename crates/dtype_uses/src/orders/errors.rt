@@ -1,33 +1,33 @@
 // SPDX-License-Identifier: Apache-2.0
 // SPDX-FileCopyrightText: Copyright the Vortex contributors
 
-//! Refusals of one's own, over the library's.
+//! Errors of your own, over the library's.
 ghost use Rattle.std.specs.Prelude.{◌≡◌, ◌⊎◌, [], ◌∷◌, IfErr, IfOk, IsErrOf, codes};
 ghost use Rattle.vortex_dtype.specs.At.{At};
 ghost use Rattle.vortex_dtype.specs.Tree.{Tree};
 ghost use Rattle.vortex_dtype.specs.TreeOf.{tree};
 ghost use Rattle.vortex_dtype.specs.Types.VortexError.TheVariants.{OutOfMemory};
-ghost use Rattle.dtype_uses.specs.declared.orders.refusals.ShopError.TheVariants.{Library, NoColumn};
+ghost use Rattle.dtype_uses.specs.declared.orders.errors.ShopError.TheVariants.{Library, NoColumn};
 
 use std::alloc::Global;
 use std::error::Error;
 use std::fmt;
 use vortex_dtype::{DType, Field, VortexError, field_path};
 
-/// Why the shop refuses.
+/// Why an order fails.
 #[derive(Debug, Drop, PartialEq, Eq)]
 pub enum ShopError {
     /// The table has no such column.
     NoColumn,
-    /// The library refused.
+    /// A call of the library failed.
     Library(VortexError),
 }
 
 impl From<VortexError> for ShopError {
-    ghost from_gives = { λ refusal error. error ≡ Library refusal };
+    ghost from_gives = { λ source error. error ≡ Library source };
 
-    fn from(refusal: VortexError) -> ShopError {
-        ShopError::Library(refusal)
+    fn from(source: VortexError) -> ShopError {
+        ShopError::Library(source)
     }
 }
 
@@ -35,14 +35,14 @@ impl fmt::Display for ShopError {
     fn fmt<W: fmt::Write>(&self, f: &mut fmt::Formatter<W>) -> fmt::Result {
         match self {
             ShopError::NoColumn => write!(f, "no such column"),
-            ShopError::Library(refusal) => write!(f, "{refusal}"),
+            ShopError::Library(source) => write!(f, "{source}"),
         }
     }
 }
 
 impl Error for ShopError {}
 
-/// The type of a column that the customer is to have. A column that isn't there is a refusal.
+/// The type of a column that the customer must have. A column that isn't there is an error.
 pub fn required_column<'a>(
     alloc: Global,
     orders: &'a DType,

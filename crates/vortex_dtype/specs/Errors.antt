@@ -3,7 +3,7 @@
 
 -- When a session and a downcast return an error, and which, except `OutOfMemory`; and each error's number, from
 -- `dtype_base`. From the documentation of `deserialize` and `try_downcast`.
-pub use Rattle.dtype_base.specs.Refusals.{fault_number, number_of}
+pub use Rattle.dtype_base.specs.Errors.{fault_number, number_of}
 use Rattle.std.specs.Prelude.{◌≡◌, ◌≢◌, ℕ, List, Option, Some, None, Bool, false}
 use Rattle.dtype_base.specs.declared.vortex_error.VortexError.{VortexError}
 use Rattle.dtype_base.specs.declared.vortex_error.VortexError.TheVariants.{MetadataRefused, ExtensionIdDiffers, Message}
@@ -18,10 +18,10 @@ Refuses (Some r) b s = r b s ≡ None
 
 -- the errors of a session: `MetadataRefused` (22) where the registered plugin doesn't accept the metadata,
 -- `ExtensionUnregistered` (35) where no plugin is registered and unknown ids aren't kept
-abbrev pub SessionRefusal : Meaning → List ℕ → List ℕ → Tree → VortexError → Type 0
-SessionRefusal m id b s MetadataRefused = Refuses (m.registered id) b s
-SessionRefusal m id b s (Message ExtensionUnregistered) = (m.registered id ≡ None) × (m.unknown ≡ false)
-SessionRefusal m id b s _ = ⊥
+abbrev pub SessionError : Meaning → List ℕ → List ℕ → Tree → VortexError → Type 0
+SessionError m id b s MetadataRefused = Refuses (m.registered id) b s
+SessionError m id b s (Message ExtensionUnregistered) = (m.registered id ≡ None) × (m.unknown ≡ false)
+SessionError m id b s _ = ⊥
 
 -- the bytes can't be read, or what is read doesn't fit
 abbrev pub Unfit : {M : Type 0} → Option M → (M → Bool) → Type 0
@@ -30,7 +30,7 @@ Unfit (Some m) fits = fits m ≡ false
 
 -- the errors of a downcast, by the extension's id and the vtable's: `ExtensionIdDiffers` (23) where they differ; else
 -- `MetadataRefused` (22), and then P holds
-abbrev pub DowncastRefusal : List ℕ → List ℕ → Type 0 → VortexError → Type 0
-DowncastRefusal i j P ExtensionIdDiffers = i ≢ j
-DowncastRefusal i j P MetadataRefused = (i ≡ j) × P
-DowncastRefusal i j P _ = ⊥
+abbrev pub DowncastError : List ℕ → List ℕ → Type 0 → VortexError → Type 0
+DowncastError i j P ExtensionIdDiffers = i ≢ j
+DowncastError i j P MetadataRefused = (i ≡ j) × P
+DowncastError i j P _ = ⊥

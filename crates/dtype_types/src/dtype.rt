@@ -1,7 +1,7 @@
 // SPDX-License-Identifier: Apache-2.0
 // SPDX-FileCopyrightText: Copyright the Vortex contributors
 
-// `DType`, the type, and its calls, in a file a topic.
+// `DType` and its methods, one file for each topic.
 mod comparison;
 mod constructors;
 mod conversions;
@@ -46,13 +46,13 @@ pub enum DType {
     Map(MapDType, Nullability),
     /// Fields in order, each of its type.
     Struct(StructFields, Nullability),
-    /// One of several variants, told by its tag.
+    /// One of several variants, distinguished by its tag.
     Union(UnionVariants, Nullability),
-    /// Values whose types they say themselves.
+    /// Values that carry their own types.
     Variant(Nullability),
     /// A type of another library, stored as a type of this one. It has its storage's nullability.
     Extension(ExtDTypeRef),
 }
 
-// Types are kept side by side in lists: a tag, a nullability, and a pointer with what fits beside it.
+// Lists hold types by value, so the size counts: a discriminant, and a pointer with what fits beside it.
 const _: () = prove!(size_of::<DType>() == 24);

@@ -115,7 +115,7 @@ pub struct ExtDTypeRef {
     parts: Box<Parts<DType>>,
 }
 
-// What an extension holds. It is in one box, so that a `DType` is small.
+// The parts of an extension. They are in one box, so that a `DType` is small.
 #[derive(Debug, Drop)]
 struct Parts<T> {
     id: ExtId,

@@ -22,7 +22,7 @@ pub struct MapDType {
     shared: Rc<Entries<DType>>,
 }
 
-// What a map holds, which its copies share.
+// The parts of a map, which its copies share.
 #[derive(Debug, Drop)]
 struct Entries<T> {
     key: T,

@@ -13,8 +13,8 @@ use dtype_base::{FieldName, FieldNames, IndexedNames, VortexResult};
 use std::alloc::Global;
 use std::marker::Model;
 
-// Names and what they name, in contracts a list of pairs. So a struct, which is on a cycle of types and can have no
-// invariant of its own, has as many names as types. The file `specs/formers/named/Named` says how it holds them.
+// Names and types, equally many; in contracts a list of pairs. A struct holds its fields by it, since a type on a cycle
+// can have no invariant of its own. The file `specs/formers/named/Named` says how it holds the types.
 #[derive(Debug, Drop)]
 pub(crate) struct Named<T> {
     names: IndexedNames,
@@ -37,7 +37,7 @@ impl<T> Model for Named<T> {
 
 #[tactic(auto, using(crate::proofs::Sides::pairs))]
 impl<T> Named<T> {
-    // These names and types, as many names as types.
+    // Makes the list of these names and types, which are equally many.
     pub(crate) fn new(names: IndexedNames, dtypes: Vec<T>) -> Self
         requires { length dtypes.items ≡ length names }
         ensures { result ≡ zip names dtypes.items }
@@ -52,7 +52,7 @@ impl<T> Named<T> {
         self.names.names()
     }
 
-    // What they name, in order.
+    // The types, in order.
     pub(crate) fn dtypes(&self) -> &[T]
         ensures { result.now ≡ seconds self.now }
     {
@@ -66,14 +66,14 @@ impl<T> Named<T> {
         self.dtypes.len()
     }
 
-    // The position of the first of the name, and the number of names that were compared.
+    // The position of the first name that is equal to this one, and the number of names that were compared.
     pub(crate) fn find_counted(&self, name: &str) -> (Option<usize>, u64)
         ensures { result ≡ (first_place (firsts self.now) name.now, comparisons (length self.now)) }
     {
         self.names.find_counted(name)
     }
 
-    // These names, all of which are here, with their index, and the first position of each here.
+    // Returns these names with their index, and the first position of each here. An error where one isn't here.
     pub(crate) fn select(
         &self,
         alloc: Global,
@@ -86,7 +86,7 @@ impl<T> Named<T> {
         self.names.select(alloc, asked)
     }
 
-    // Whether no name is there twice.
+    // Whether the names are distinct.
     pub(crate) fn are_distinct(&self) -> bool
         ensures { IsTrue result ↔ Distinct (firsts self.now) }
     {

@@ -237,7 +237,7 @@ impl StructFields {
         true
     }
 
-    // The width of a struct of these fields, as far as the first variable one.
+    // The width of a struct of these fields. Stops at the first field of variable width.
     #[cycle(width)]
     pub(crate) fn width(&self) -> Width
         ensures { MeasuresFields result (children self.now) }

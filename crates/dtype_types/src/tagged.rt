@@ -7,8 +7,8 @@ ghost use Rattle.dtype_types.specs.Lists.{zip_three, names_of, types_of, tags_of
 use dtype_base::FieldNames;
 use std::marker::Model;
 
-// Names, what they name, and their tags, in contracts a list of triples. So a union, which is on a cycle of types and can
-// have no invariant of its own, has as many of each. The file `specs/formers/tagged/Tagged` says how it holds them.
+// Names, types and tags, equally many; in contracts a list of triples. A union holds its variants by it, since a type
+// on a cycle can have no invariant of its own. The file `specs/formers/tagged/Tagged` says how it holds the types.
 #[derive(Debug, Drop)]
 pub(crate) struct Tagged<T> {
     names: FieldNames,
@@ -32,7 +32,7 @@ impl<T> Model for Tagged<T> {
 
 #[tactic(auto, using(crate::proofs::Sides::triples))]
 impl<T> Tagged<T> {
-    // These names, types and tags, as many names as types and as tags.
+    // Makes the list of these names, types and tags, which are equally many.
     pub(crate) fn new(names: FieldNames, dtypes: Vec<T>, tags: Vec<u8>) -> Self
         requires dtypes { length dtypes.items ≡ length names }
         requires tags { length tags.items ≡ length names }
@@ -52,7 +52,7 @@ impl<T> Tagged<T> {
         &self.names
     }
 
-    // What they name, in order.
+    // The types, in order.
     pub(crate) fn dtypes(&self) -> &[T]
         ensures { result.now ≡ types_of self.now }
     {

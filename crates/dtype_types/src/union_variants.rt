@@ -19,7 +19,7 @@ use std::fmt;
 use std::hash::{Hash, Hasher};
 use std::rc::Rc;
 
-// How many tags there are.
+// A tag is one byte.
 const MAX_VARIANTS: usize = 256;
 
 /// The variants of a union in order, each a name, a type and a tag. A stored value names its variant by the tag.
@@ -39,8 +39,8 @@ fn has_repeats<T: Eq + Hash>(alloc: Global, items: &[T]) -> VortexResult<bool>
     Ok(distinct.len() < items.len())
 }
 
-// Returns an error where names, types and tags make no union: the errors of `try_new`, in its order. The search for
-// repeats is what allocates.
+// Returns an error where names, types and tags make no union: the errors of `try_new`, in its order. Only the search
+// for repeats allocates.
 fn validate_shape(
     alloc: Global,
     names: &FieldNames,
@@ -71,7 +71,7 @@ fn validate_shape(
     Ok(())
 }
 
-// The tags 0, 1, 2 and so on, this many.
+// The first `count` tags: 0, 1, 2 and so on.
 fn first_tags(alloc: Global, count: usize) -> VortexResult<Vec<u8>>
     requires { count ≤ 256 }
     ensures { MatchResult result
@@ -374,7 +374,7 @@ impl fmt::Display for UnionVariants {
     }
 }
 
-// A tag as it is written: not at all where the tags are 0, 1, 2 and so on.
+// The text of a tag: empty where the tags are 0, 1, 2 and so on.
 #[derive(Clone, Copy)]
 struct TagText {
     tag: u8,

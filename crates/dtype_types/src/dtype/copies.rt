@@ -1,7 +1,7 @@
 // SPDX-License-Identifier: Apache-2.0
 // SPDX-FileCopyrightText: Copyright the Vortex contributors
 
-// Copies of types: each allocates its boxes, and shares what its structs, unions and maps hold.
+// Copies of types. A copy allocates its boxes, and shares its structs, unions and maps (reference counted).
 #![tactic(auto, using(crate::proofs::SameParts::same_parts))]
 
 ghost use Rattle.std.specs.Prelude.{◌≡◌, MatchResult};
@@ -44,7 +44,7 @@ impl DType {
     }
 }
 
-// A copy of the type in a box.
+// Returns a copy of the type in a box.
 #[cycle(copy)]
 pub(crate) fn boxed_copy(alloc: Global, dtype: &DType) -> VortexResult<Box<DType>>
     ensures { MatchResult result (λ b. tree b.value ≡ tree dtype.now) (λ e. e ≡ OutOfMemory) }

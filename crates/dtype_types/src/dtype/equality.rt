@@ -13,12 +13,12 @@ ghost use Rattle.dtype_types.specs.TreeOf.{tree};
 use crate::DType;
 use dtype_base::Nullability;
 
-// What is asked of the nullabilities at the same node of two types.
+// How the nullabilities at the same node of two types are compared.
 #[derive(Clone, Copy)]
 pub(crate) enum NullabilityRule {
     Compared,
     Ignored,
-    // nullable in the second wherever in the first
+    // the second is nullable wherever the first is
     Within,
 }
 

@@ -10,7 +10,7 @@ use crate::{DType, Kind};
 use dtype_base::Nullability;
 use std::hash::{Hash, Hasher};
 
-// What of a type is hashed: all of it, or the type without its nullabilities.
+// Whether a hash covers the whole type, or the type with its nullabilities erased.
 #[derive(Clone, Copy)]
 pub(crate) enum HashMode {
     Whole,
@@ -18,7 +18,7 @@ pub(crate) enum HashMode {
 }
 
 impl HashMode {
-    // Hashes in one byte the number of a type's kind, and its nullability where nullabilities count.
+    // Hashes one byte: the number of a type's kind, and whether it is nullable if nullabilities count.
     fn hash_head<H: Hasher>(self, number: u8, nullability: Nullability, state: &mut H)
         requires { number < 128 }
         ensures { state.new ≡ fold H.write state.old (head_writes self number nullability) }

@@ -1,7 +1,7 @@
 // SPDX-License-Identifier: Apache-2.0
 // SPDX-FileCopyrightText: Copyright the Vortex contributors
 
-// The indented text of a type, appended to a text.
+// Appends the indented text of a type to a string.
 ghost use Rattle.std.specs.Prelude.{◌≡◌, ◌++◌, OnOk, IsOkUnless, codes, string_bytes};
 ghost use Rattle.dtype_base.specs.Escapes.{escaped};
 ghost use Rattle.dtype_base.specs.declared.vortex_error.VortexError.TheVariants.{OutOfMemory};
@@ -28,7 +28,7 @@ pub(crate) fn start_field(
 }
 
 impl DType {
-    // Appends a struct over several lines, a list with its element so, and every other type on one line.
+    // Appends the type: a struct over several lines, also as the element of a list, and every other type on one line.
     #[cycle(indented)]
     pub(crate) fn write_indented(
         &self,

@@ -12,12 +12,12 @@ ghost use Rattle.dtype_types.specs.Width.{Fixed, HasWidePart, Measures, Measures
 use crate::DType;
 use dtype_base::{DecimalType, VortexError, VortexResult};
 
-// What the width of a type comes to.
+// The width of a type, or why it has none.
 #[derive(Clone, Copy)]
 pub(crate) enum Width {
-    // A part has values of several widths.
+    // A part is of variable width.
     Variable,
-    // No part has, and one is wider than a `usize` can hold.
+    // No part is, and one is wider than a `usize` can hold.
     TooWide,
     Bytes(usize),
 }

@@ -12,7 +12,7 @@ use Rattle.dtype_types.specs.declared.dtype.kinds.Kind.TheVariants as k
 use Rattle.dtype_types.specs.Kinds.{kind, primitive_name, decimal_of, struct_fields, union_variants, map_parts, extension_parts, list_element, fixed_size_list_element, any_size_list_element}
 use Rattle.dtype_types.specs.Tree.{Tree, primitive, struct, extension}
 use Rattle.dtype_types.specs.PartsEquality.{pairs_of}
-use Rattle.dtype_types.specs.TreeOf.{tree, children, choices}
+use Rattle.dtype_types.specs.TreeOf.{tree, children, variant_list}
 use denote.Hole.Carrier
 use Rattle.dtype_types.specs.declared.dtype.DType.{out-DType}
 use Rattle.dtype_types.specs.lemmas.TreeLaws.{tree_out, struct_is, union_is, tree_struct, tree_union, triples_variants}
@@ -72,8 +72,8 @@ extension_parts_none d h = ap extension_parts (tree_out d)
 pub struct_fields_some : (x : StructFields) (n : Nullability) (d : DType) → d ≡ Struct x n → struct_fields (tree d) ≡ Some (children x)
 struct_fields_some x n d e = ap (λ z. struct_fields (tree z)) e ∙ ap struct_fields (tree_struct x n) ∙ ap Some (pairs_of (children x))
 
-pub union_variants_some : (x : UnionVariants) (n : Nullability) (d : DType) → d ≡ Union x n → union_variants (tree d) ≡ Some (choices x)
-union_variants_some x n d e = ap (λ z. union_variants (tree z)) e ∙ ap union_variants (tree_union x n) ∙ ap Some (triples_variants (choices x))
+pub union_variants_some : (x : UnionVariants) (n : Nullability) (d : DType) → d ≡ Union x n → union_variants (tree d) ≡ Some (variant_list x)
+union_variants_some x n d e = ap (λ z. union_variants (tree z)) e ∙ ap union_variants (tree_union x n) ∙ ap Some (triples_variants (variant_list x))
 
 -- a type of the kind holds what it holds
 pub is_primitive_named : (t : Tree) → kind t ≡ k.Primitive → primitive_name t ≡ None → ⊥

@@ -9,7 +9,7 @@ use Rattle.dtype_base.specs.declared.nullability.Nullability.{Nullability}
 use Rattle.dtype_base.specs.Decimals.{Decimal as DecimalOf}
 use Rattle.dtype_base.specs.declared.ptype.PType.{PType}
 use Rattle.dtype_types.specs.Tree.{Tree, Fields, Variants, fields, variants, null, bool, primitive, decimal, utf8, binary, list, fixed_size_list, map_of, struct, union, variant, extension}
-use Rattle.dtype_types.specs.TreeOf.{tree, children, choices}
+use Rattle.dtype_types.specs.TreeOf.{tree, children, variant_list}
 use denote.Hole.Carrier
 use Rattle.dtype_types.specs.declared.dtype.DType.{out-DType}
 use Rattle.dtype_types.specs.lemmas.TreeLaws.{tree_out, struct_is, union_is, tree_struct, tree_union}
@@ -90,9 +90,9 @@ pub structs_equal_under : (s : NullabilityRule) (d e : DType) (x y : StructField
 structs_equal_under s d e x y m n p q =
     ap (λ z. equal_under s (tree z) (tree e)) p ∙ ap (λ z. equal_under s z (tree e)) (tree_struct x m) ∙ ap (λ z. equal_under s (struct (fields (children x)) m) (tree z)) q ∙ ap (equal_under s (struct (fields (children x)) m)) (tree_struct y n)
 
-pub unions_equal_under : (s : NullabilityRule) (d e : DType) (x y : UnionVariants) (m n : Nullability) → d ≡ Union x m → e ≡ Union y n → equal_under s (tree d) (tree e) ≡ (allows s m n && variants_equal_under s (variants (choices x)) (variants (choices y)))
+pub unions_equal_under : (s : NullabilityRule) (d e : DType) (x y : UnionVariants) (m n : Nullability) → d ≡ Union x m → e ≡ Union y n → equal_under s (tree d) (tree e) ≡ (allows s m n && variants_equal_under s (variants (variant_list x)) (variants (variant_list y)))
 unions_equal_under s d e x y m n p q =
-    ap (λ z. equal_under s (tree z) (tree e)) p ∙ ap (λ z. equal_under s z (tree e)) (tree_union x m) ∙ ap (λ z. equal_under s (union (variants (choices x)) m) (tree z)) q ∙ ap (equal_under s (union (variants (choices x)) m)) (tree_union y n)
+    ap (λ z. equal_under s (tree z) (tree e)) p ∙ ap (λ z. equal_under s z (tree e)) (tree_union x m) ∙ ap (λ z. equal_under s (union (variants (variant_list x)) m) (tree z)) q ∙ ap (equal_under s (union (variants (variant_list x)) m)) (tree_union y n)
 
 pub ruleset other_kinds = (not_null, not_bool, not_primitive, not_decimal, not_utf8, not_binary, not_variant, not_list, not_fixed, not_map, not_struct, not_union, not_extension)
 

@@ -14,7 +14,7 @@ use Rattle.dtype_types.specs.TreeOf.{tree, children, variants_of, map_shown, ext
 use Rattle.dtype_types.specs.Erase.{erase, erase_fields, erase_variants}
 use Rattle.dtype_types.specs.EqualityLaws.{equal_under-Decides, same_dtype}
 use Rattle.dtype_types.specs.PartsEquality.{same_fields-Decides, variants_equal_under-Decides, maps_equal_under-Decides, same_struct, same_union, same_map, same_extension}
-use Rattle.dtype_types.specs.Hashes.{hash_of, head_writes, bytes_writes, field_count, field_writes, variant_count, variant_writes}
+use Rattle.dtype_types.specs.Hashes.{hash_of, kind_writes, bytes_writes, field_count, field_writes, variant_count, variant_writes}
 use Rattle.dtype_types.specs.declared.dtype.hash.HashMode.TheVariants.{Whole, Erased}
 use Rattle.dtype_types.specs.HashesOf.{struct_writes, union_writes, map_writes, extension_writes}
 use Rattle.dtype_types.specs.declared.dtype.DType.{DType}
@@ -47,19 +47,19 @@ mutual
   hash-erase (decimal d n) = refl
   hash-erase (utf8 n) = refl
   hash-erase (binary n) = refl
-  hash-erase (list t n) = ap (λ w. head_writes Erased (kind_number kind.List) n ++ w) (hash-erase t)
-  hash-erase (fixed_size_list t k n) = ap (λ w. head_writes Erased (kind_number kind.FixedSizeList) n ++ (fed.u32 k ++ w)) (hash-erase t)
+  hash-erase (list t n) = ap (λ w. kind_writes Erased (kind_number kind.List) n ++ w) (hash-erase t)
+  hash-erase (fixed_size_list t k n) = ap (λ w. kind_writes Erased (kind_number kind.FixedSizeList) n ++ (fed.u32 k ++ w)) (hash-erase t)
   hash-erase (map_of k v o n) =
-      ap (λ w. head_writes Erased (kind_number kind.Map) n ++ (w ++ (hash_of Erased v ++ fed.bool o))) (hash-erase k)
-      ∙ ap (λ w. head_writes Erased (kind_number kind.Map) n ++ (hash_of Erased (erase k) ++ (w ++ fed.bool o))) (hash-erase v)
+      ap (λ w. kind_writes Erased (kind_number kind.Map) n ++ (w ++ (hash_of Erased v ++ fed.bool o))) (hash-erase k)
+      ∙ ap (λ w. kind_writes Erased (kind_number kind.Map) n ++ (hash_of Erased (erase k) ++ (w ++ fed.bool o))) (hash-erase v)
   hash-erase (struct fs n) =
-      ap (λ k. head_writes Erased (kind_number kind.Struct) n ++ (fed.usize k ++ field_writes Erased fs)) (field_count-erase fs)
-      ∙ ap (λ w. head_writes Erased (kind_number kind.Struct) n ++ (fed.usize (field_count (erase_fields fs)) ++ w)) (field_writes-erase fs)
+      ap (λ k. kind_writes Erased (kind_number kind.Struct) n ++ (fed.usize k ++ field_writes Erased fs)) (field_count-erase fs)
+      ∙ ap (λ w. kind_writes Erased (kind_number kind.Struct) n ++ (fed.usize (field_count (erase_fields fs)) ++ w)) (field_writes-erase fs)
   hash-erase (union vs n) =
-      ap (λ k. head_writes Erased (kind_number kind.Union) n ++ (fed.usize k ++ variant_writes Erased vs)) (variant_count-erase vs)
-      ∙ ap (λ w. head_writes Erased (kind_number kind.Union) n ++ (fed.usize (variant_count (erase_variants vs)) ++ w)) (variant_writes-erase vs)
+      ap (λ k. kind_writes Erased (kind_number kind.Union) n ++ (fed.usize k ++ variant_writes Erased vs)) (variant_count-erase vs)
+      ∙ ap (λ w. kind_writes Erased (kind_number kind.Union) n ++ (fed.usize (variant_count (erase_variants vs)) ++ w)) (variant_writes-erase vs)
   hash-erase (variant n) = refl
-  hash-erase (extension id b t) = ap (λ w. head_writes Erased (kind_number kind.Extension) NonNullable ++ (fed.str id ++ (bytes_writes b ++ w))) (hash-erase t)
+  hash-erase (extension id b t) = ap (λ w. kind_writes Erased (kind_number kind.Extension) NonNullable ++ (fed.str id ++ (bytes_writes b ++ w))) (hash-erase t)
 
   field_count-erase : (fs : Fields) → field_count fs ≡ field_count (erase_fields fs)
   field_count-erase no_fields = refl

@@ -24,8 +24,8 @@ nullable_mark Whole Nullable = 1
 nullable_mark _ _ = 0
 
 -- the number of what a type is, and its nullability, in one byte
-abbrev pub head_writes : HashMode → ℕ → Nullability → HashWrites
-head_writes s number n = fed.u8 (2 * number + nullable_mark s n)
+abbrev pub kind_writes : HashMode → ℕ → Nullability → HashWrites
+kind_writes s number n = fed.u8 (2 * number + nullable_mark s n)
 
 -- the primitive types are numbered behind the kinds
 abbrev pub primitive_number : PType → ℕ
@@ -46,19 +46,19 @@ variant_count (choice n t g rest) = suc (variant_count rest)
 
 abbrev mutual
   pub hash_of : HashMode → Tree → HashWrites
-  hash_of s null = head_writes s (kind_number kind.Null) NonNullable
-  hash_of s (bool n) = head_writes s (kind_number kind.Bool) n
-  hash_of s (primitive p n) = head_writes s (primitive_number p) n
-  hash_of s (decimal d n) = head_writes s (kind_number kind.Decimal) n ++ (fed.u8 d.precision ++ fed.i8 d.scale)
-  hash_of s (utf8 n) = head_writes s (kind_number kind.Utf8) n
-  hash_of s (binary n) = head_writes s (kind_number kind.Binary) n
-  hash_of s (list t n) = head_writes s (kind_number kind.List) n ++ hash_of s t
-  hash_of s (fixed_size_list t k n) = head_writes s (kind_number kind.FixedSizeList) n ++ (fed.u32 k ++ hash_of s t)
-  hash_of s (map_of k v o n) = head_writes s (kind_number kind.Map) n ++ (hash_of s k ++ (hash_of s v ++ fed.bool o))
-  hash_of s (struct fs n) = head_writes s (kind_number kind.Struct) n ++ (fed.usize (field_count fs) ++ field_writes s fs)
-  hash_of s (union vs n) = head_writes s (kind_number kind.Union) n ++ (fed.usize (variant_count vs) ++ variant_writes s vs)
-  hash_of s (variant n) = head_writes s (kind_number kind.Variant) n
-  hash_of s (extension id b t) = head_writes s (kind_number kind.Extension) NonNullable ++ (fed.str id ++ (bytes_writes b ++ hash_of s t))
+  hash_of s null = kind_writes s (kind_number kind.Null) NonNullable
+  hash_of s (bool n) = kind_writes s (kind_number kind.Bool) n
+  hash_of s (primitive p n) = kind_writes s (primitive_number p) n
+  hash_of s (decimal d n) = kind_writes s (kind_number kind.Decimal) n ++ (fed.u8 d.precision ++ fed.i8 d.scale)
+  hash_of s (utf8 n) = kind_writes s (kind_number kind.Utf8) n
+  hash_of s (binary n) = kind_writes s (kind_number kind.Binary) n
+  hash_of s (list t n) = kind_writes s (kind_number kind.List) n ++ hash_of s t
+  hash_of s (fixed_size_list t k n) = kind_writes s (kind_number kind.FixedSizeList) n ++ (fed.u32 k ++ hash_of s t)
+  hash_of s (map_of k v o n) = kind_writes s (kind_number kind.Map) n ++ (hash_of s k ++ (hash_of s v ++ fed.bool o))
+  hash_of s (struct fs n) = kind_writes s (kind_number kind.Struct) n ++ (fed.usize (field_count fs) ++ field_writes s fs)
+  hash_of s (union vs n) = kind_writes s (kind_number kind.Union) n ++ (fed.usize (variant_count vs) ++ variant_writes s vs)
+  hash_of s (variant n) = kind_writes s (kind_number kind.Variant) n
+  hash_of s (extension id b t) = kind_writes s (kind_number kind.Extension) NonNullable ++ (fed.str id ++ (bytes_writes b ++ hash_of s t))
 
   -- each field: its name and its type
   pub field_writes : HashMode → Fields → HashWrites

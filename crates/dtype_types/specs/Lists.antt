@@ -29,8 +29,8 @@ abbrev pub tags_of : {N T G : Type 0} → List (N × (T × G)) → List G
 tags_of ps = map (λ p. p.1.1) ps
 
 -- what a lent name and type show, and a lent name, tag and type
-abbrev pub lent_pair : {N T : Type 0} → Bor N × Bor T → N × T
-lent_pair p = (p.0.now, p.1.now)
+abbrev pub borrowed_pair : {N T : Type 0} → Bor N × Bor T → N × T
+borrowed_pair p = (p.0.now, p.1.now)
 
-abbrev pub lent_triple : {N T G : Type 0} → Bor N × G × Bor T → N × (T × G)
-lent_triple p = (p.0.now, (p.2.now, p.1))
+abbrev pub borrowed_triple : {N T G : Type 0} → Bor N × G × Bor T → N × (T × G)
+borrowed_triple p = (p.0.now, (p.2.now, p.1))

@@ -88,8 +88,8 @@ union_triples u = u.shared.value
 abbrev pub with_tagged_trees : List (List ℕ × (DType × ℕ)) → List (List ℕ × Tree × ℕ)
 with_tagged_trees ps = map flat (map (λ p. (p.0, (tree p.1.0, p.1.1))) ps)
 
-abbrev pub choices : UnionVariants → List (List ℕ × Tree × ℕ)
-choices u = with_tagged_trees (union_triples u)
+abbrev pub variant_list : UnionVariants → List (List ℕ × Tree × ℕ)
+variant_list u = with_tagged_trees (union_triples u)
 
 -- the types of a union's variants
 abbrev pub union_dtypes : UnionVariants → List DType
@@ -125,7 +125,7 @@ abbrev pub fields_of : StructFields → Fields
 fields_of s = fields (children s)
 
 abbrev pub variants_of : UnionVariants → Variants
-variants_of u = variants (choices u)
+variants_of u = variants (variant_list u)
 
 -- the non-nullable type that is made of a struct, of a union, of a map
 abbrev pub struct_tree : StructFields → Tree

@@ -5,7 +5,7 @@ ghost use Rattle.std.specs.Prelude.{◌≡◌, IfSome, Some, length};
 ghost use Rattle.std.specs.List.{zip};
 ghost use Rattle.std.specs.Iterator.{YieldsFirstBy, UpTo, item_count};
 ghost use Rattle.std.specs.Iterator.SizeHint.{IsWithinCount};
-ghost use Rattle.dtype_types.specs.Lists.{lent_pair};
+ghost use Rattle.dtype_types.specs.Lists.{borrowed_pair};
 
 use crate::DType;
 use dtype_base::FieldName;
@@ -56,7 +56,7 @@ impl<'a> FieldIter<'a> {
 impl<'a> Iterator for FieldIter<'a> {
     type Item = (&'a FieldName, &'a DType);
 
-    ghost next_gives = { YieldsFirstBy lent_pair (λ left. left) };
+    ghost next_gives = { YieldsFirstBy borrowed_pair (λ left. left) };
 
     ghost remaining = { item_count (λ left. left) };
 

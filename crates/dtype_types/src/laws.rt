@@ -25,10 +25,10 @@ ghost use Rattle.dtype_types.specs.FieldTypes.{field_tree};
 ghost use Rattle.dtype_types.specs.Kinds.{any_size_list_element, extension_parts, fixed_size_list_element, list_element, map_parts, struct_fields, union_variants};
 ghost use Rattle.dtype_types.specs.Maps.{entries_of};
 ghost use Rattle.dtype_types.specs.Tree.{Tree, extension, fields, fixed_size_list, list, map_of, primitive, struct, union, variants};
-ghost use Rattle.dtype_types.specs.TreeOf.{children, choices, extension_id, extension_metadata, extension_tree, map_shown, map_tree, storage_tree, struct_pairs, struct_tree, tree, union_tree, union_triples};
+ghost use Rattle.dtype_types.specs.TreeOf.{children, variant_list, extension_id, extension_metadata, extension_tree, map_shown, map_tree, storage_tree, struct_pairs, struct_tree, tree, union_tree, union_triples};
 ghost use Rattle.dtype_types.specs.Lookups.{Projects, field_types, first_named, variant_names, variant_named, variant_tags, variant_types};
 ghost use Rattle.dtype_types.specs.Unions.{MakesUnion};
-ghost use Rattle.dtype_types.specs.Lists.{lent_pair, lent_triple};
+ghost use Rattle.dtype_types.specs.Lists.{borrowed_pair, borrowed_triple};
 
 use crate::{
     DType, DTypeIter, ExtDTypeRef, FieldDType, FieldIter, MapDType, StructFields, UnionVariants,
@@ -63,8 +63,8 @@ pub fn nullability_is_set_alone()
 /// position.
 pub fn tags_tell_positions()
     ensures { (u : UnionVariants) → Valid (union_tree u) → (i tag : ℕ)
-        → slice_get (variant_tags (choices u)) i ≡ Some tag
-        → position (λ g. g == tag) (variant_tags (choices u)) ≡ Some i }
+        → slice_get (variant_tags (variant_list u)) i ≡ Some tag
+        → position (λ g. g == tag) (variant_tags (variant_list u)) ≡ Some i }
 {}
 
 /// The sample of a valid type is a value of it, so each valid type has a value.
@@ -121,9 +121,9 @@ pub fn parts_are_given_in_order()
     ensures types { GivesInOrder ⟦<DTypeIter<'static> as Iterator>⟧.next_gives
         ⟦<DTypeIter<'static> as Iterator>⟧.remaining (λ d. tree d.now) (map tree) }
     ensures fields { GivesInOrder ⟦<FieldIter<'static> as Iterator>⟧.next_gives
-        ⟦<FieldIter<'static> as Iterator>⟧.remaining lent_pair (λ left. left) }
+        ⟦<FieldIter<'static> as Iterator>⟧.remaining borrowed_pair (λ left. left) }
     ensures variants { GivesInOrder ⟦<VariantIter<'static> as Iterator>⟧.next_gives
-        ⟦<VariantIter<'static> as Iterator>⟧.remaining lent_triple (λ left. left) }
+        ⟦<VariantIter<'static> as Iterator>⟧.remaining borrowed_triple (λ left. left) }
 {}
 
 /// A type that is made of valid types is valid: what the constructors of types, structs, unions, maps and
@@ -173,7 +173,7 @@ pub fn parts_of_a_valid_type_are_valid()
     ensures map_parts { (t : Tree) (m : MapDType) → map_parts t ≡ Some (map_shown m) → Valid t → Valid (map_tree m) }
     ensures struct_fields { (t : Tree) (s : StructFields) → struct_fields t ≡ Some (children s) → Valid t
         → Valid (struct_tree s) }
-    ensures union_variants { (t : Tree) (u : UnionVariants) → union_variants t ≡ Some (choices u) → Valid t
+    ensures union_variants { (t : Tree) (u : UnionVariants) → union_variants t ≡ Some (variant_list u) → Valid t
         → Valid (union_tree u) }
     ensures extension_parts { (t : Tree) (e : ExtDTypeRef)
         → extension_parts t ≡ Some (extension_id e, extension_metadata e, storage_tree e) → Valid t
@@ -189,12 +189,12 @@ pub fn types_in_valid_parts_are_valid()
         → Valid (struct_tree s) → Valid t }
     ensures fields { (s : StructFields) → Valid (struct_tree s)
         → All Valid (field_types (children s)) × All (λ p. Valid (tree p.1)) (struct_pairs s) }
-    ensures variant_at { (u : UnionVariants) (i : ℕ) (t : Tree) → slice_get (variant_types (choices u)) i ≡ Some t
+    ensures variant_at { (u : UnionVariants) (i : ℕ) (t : Tree) → slice_get (variant_types (variant_list u)) i ≡ Some t
         → Valid (union_tree u) → Valid t }
     ensures variant_named { (u : UnionVariants) (name : List ℕ) (t : Tree)
-        → variant_named (choices u) name ≡ Some t → Valid (union_tree u) → Valid t }
+        → variant_named (variant_list u) name ≡ Some t → Valid (union_tree u) → Valid t }
     ensures variants { (u : UnionVariants) → Valid (union_tree u)
-        → All Valid (variant_types (choices u)) × All (λ p. Valid (tree p.1.0)) (union_triples u) }
+        → All Valid (variant_types (variant_list u)) × All (λ p. Valid (tree p.1.0)) (union_triples u) }
     ensures map_parts { (m : MapDType) → Valid (map_tree m) → Valid (map_shown m).0 × Valid (map_shown m).1 }
     ensures storage { (e : ExtDTypeRef) → Valid (extension_tree e) → Valid (storage_tree e) }
 {}

@@ -86,7 +86,7 @@ impl UnionVariants {
     ghost use Rattle.dtype_types.specs.Erase.{erase};
     ghost use Rattle.dtype_types.specs.Lookups.{variant_named, variant_types, variant_names, variant_tags};
     ghost use Rattle.dtype_types.specs.HashesOf.{union_writes};
-    ghost use Rattle.dtype_types.specs.TreeOf.{tree, variants_of, choices, union_dtypes, union_triples, zip_tagged, shown, union_tree};
+    ghost use Rattle.dtype_types.specs.TreeOf.{tree, variants_of, variant_list, union_dtypes, union_triples, zip_tagged, shown, union_tree};
     ghost use Rattle.dtype_types.specs.Valid.{Valid};
 
     /// Returns the union of these names, types and tags.
@@ -111,7 +111,7 @@ impl UnionVariants {
         type_ids: Vec<u8>,
     ) -> VortexResult<Self>
         ensures variants { IfOk result
-            (λ u. choices u ≡ zip_tagged names (map tree dtypes.items) type_ids.items) }
+            (λ u. variant_list u ≡ zip_tagged names (map tree dtypes.items) type_ids.items) }
         ensures valid { All (λ d. Valid (tree d)) dtypes.items → IfOk result (λ u. Valid (union_tree u)) }
 
         ensures accepted { OnOk result (MakesUnion names (vec_len dtypes) type_ids.items) }
@@ -131,7 +131,7 @@ impl UnionVariants {
     /// - `UnionTooMany` (14): there are more than 256 names. This is tested first.
     /// - Those of `try_new` with these tags.
     pub fn new(alloc: Global, names: FieldNames, dtypes: Vec<DType>) -> VortexResult<Self>
-        ensures variants { IfOk result (λ u. choices u
+        ensures variants { IfOk result (λ u. variant_list u
             ≡ zip_tagged names (map tree dtypes.items) (range_with_len 0 (length names))) }
         ensures valid { All (λ d. Valid (tree d)) dtypes.items → IfOk result (λ u. Valid (union_tree u)) }
 
@@ -150,7 +150,7 @@ impl UnionVariants {
 
     /// Returns the names, in order.
     pub fn names(&self) -> &FieldNames
-        ensures { result.now ≡ variant_names (choices self.now) }
+        ensures { result.now ≡ variant_names (variant_list self.now) }
     {
         self.shared.names()
     }
@@ -176,49 +176,49 @@ impl UnionVariants {
 
     /// Returns the number of variants.
     pub fn len(&self) -> usize
-        ensures { result ≡ length (choices self.now) }
+        ensures { result ≡ length (variant_list self.now) }
     {
         self.shared.len()
     }
 
     /// Returns whether there are no variants. `try_new` and `new` make no such union.
     pub fn is_empty(&self) -> bool
-        ensures { IsTrue result ↔ (choices self.now ≡ []) }
+        ensures { IsTrue result ↔ (variant_list self.now ≡ []) }
     {
         self.len() == 0
     }
 
     /// Returns the tags, in order of the variants.
     pub fn type_ids(&self) -> &[u8]
-        ensures { result.now ≡ variant_tags (choices self.now) }
+        ensures { result.now ≡ variant_tags (variant_list self.now) }
     {
         self.shared.tags()
     }
 
     /// Returns the position of the variant of the name, or `None` where no variant has it.
     pub fn find(&self, name: &str) -> Option<usize>
-        ensures { result ≡ first_place (variant_names (choices self.now)) name.now }
+        ensures { result ≡ first_place (variant_names (variant_list self.now)) name.now }
     {
         self.names().find(name)
     }
 
     /// Returns the type of the variant of the name, or `None` where no variant has it.
     pub fn variant(&self, name: &str) -> Option<&DType>
-        ensures { shown tree result ≡ variant_named (choices self.now) name.now }
+        ensures { shown tree result ≡ variant_named (variant_list self.now) name.now }
     {
         self.variant_by_index(self.find(name)?)
     }
 
     /// Returns the type of the variant at this position, or `None` at or past the end.
     pub fn variant_by_index(&self, index: usize) -> Option<&DType>
-        ensures { shown tree result ≡ slice_get (variant_types (choices self.now)) index }
+        ensures { shown tree result ≡ slice_get (variant_types (variant_list self.now)) index }
     {
         self.dtypes().get(index)
     }
 
     /// Returns an iterator over the types of the variants, in order.
     pub fn variants(&self) -> DTypeIter<'_>
-        ensures all { map tree result ≡ variant_types (choices self.now) }
+        ensures all { map tree result ≡ variant_types (variant_list self.now) }
         ensures fits { length (map tree result) < 2 ^ 64 }
     {
         DTypeIter::new(self.dtypes())
@@ -226,17 +226,17 @@ impl UnionVariants {
 
     /// Returns the position of the variant with this tag, or `None` where no variant has it.
     pub fn tag_to_child_index(&self, tag: u8) -> Option<usize>
-        ensures { result ≡ position (λ t. t == tag) (variant_tags (choices self.now)) }
+        ensures { result ≡ position (λ t. t == tag) (variant_tags (variant_list self.now)) }
     {
         self.type_ids().iter().position(|t| *t == tag)
     }
 
     /// Returns the tag of the variant at this position. The condition is that the position is below `len`.
     pub fn child_index_to_tag(&self, index: usize) -> u8
-        requires { index < length (variant_tags (choices self.now)) }
-        ensures at { slice_get (variant_tags (choices self.now)) index ≡ Some result }
+        requires { index < length (variant_tags (variant_list self.now)) }
+        ensures at { slice_get (variant_tags (variant_list self.now)) index ≡ Some result }
         ensures back { Valid (union_tree self.now)
-            → position (λ t. t == result) (variant_tags (choices self.now)) ≡ Some index }
+            → position (λ t. t == result) (variant_tags (variant_list self.now)) ≡ Some index }
     {
         self.type_ids()[index]
     }
@@ -303,7 +303,7 @@ impl UnionVariants {
 
     /// Returns whether the tags are 0, 1, 2 and so on.
     pub fn is_consecutive(&self) -> bool
-        ensures { IsTrue result ↔ AreConsecutive (variant_tags (choices self.now)) }
+        ensures { IsTrue result ↔ AreConsecutive (variant_tags (variant_list self.now)) }
     {
         let tags = self.type_ids();
         for i in 0..self.len() {
@@ -319,7 +319,7 @@ impl UnionVariants {
 #[tactic(auto, using(crate::specs::lemmas::Equality::equality))]
 impl PartialEq for UnionVariants {
     ghost use Rattle.dtype_types.specs.PartsEquality.{same_union, same_union_equiv};
-    ghost use Rattle.dtype_types.specs.TreeOf.{choices};
+    ghost use Rattle.dtype_types.specs.TreeOf.{variant_list};
     ghost use Rattle.std.specs.Cmp.{partial_equiv_from_equiv};
 
     ghost eq = { same_union };
@@ -327,7 +327,7 @@ impl PartialEq for UnionVariants {
     ghost laws = { partial_equiv_from_equiv same_union_equiv };
 
     fn eq(&self, other: &UnionVariants) -> bool
-        ensures { IsTrue result ↔ (choices self.now ≡ choices other.now) }
+        ensures { IsTrue result ↔ (variant_list self.now ≡ variant_list other.now) }
     {
         self.equal_under(other, NullabilityRule::Compared)
     }

@@ -4,7 +4,7 @@
 ghost use Rattle.std.specs.Prelude.{◌≡◌, IfSome, Some, length};
 ghost use Rattle.std.specs.Iterator.{YieldsFirstBy, UpTo, item_count};
 ghost use Rattle.std.specs.Iterator.SizeHint.{IsWithinCount};
-ghost use Rattle.dtype_types.specs.Lists.{lent_triple, zip_three};
+ghost use Rattle.dtype_types.specs.Lists.{borrowed_triple, zip_three};
 
 use crate::DType;
 use dtype_base::FieldName;
@@ -57,7 +57,7 @@ impl<'a> VariantIter<'a> {
 impl<'a> Iterator for VariantIter<'a> {
     type Item = (&'a FieldName, u8, &'a DType);
 
-    ghost next_gives = { YieldsFirstBy lent_triple (λ left. left) };
+    ghost next_gives = { YieldsFirstBy borrowed_triple (λ left. left) };
 
     ghost remaining = { item_count (λ left. left) };
 

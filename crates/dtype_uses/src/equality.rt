@@ -7,7 +7,7 @@
 ghost use Rattle.std.specs.Prelude.{◌≡◌, ◌≢◌, ◌↔◌, IfOk, IsTrue};
 ghost use Rattle.dtype_types.specs.FieldTypes.{field_tree};
 ghost use Rattle.dtype_types.specs.Lookups.{first_named};
-ghost use Rattle.dtype_types.specs.TreeOf.{children, choices, extension_tree, map_shown, tree};
+ghost use Rattle.dtype_types.specs.TreeOf.{children, variant_list, extension_tree, map_shown, tree};
 
 use std::alloc::Global;
 use vortex_dtype::{
@@ -37,7 +37,7 @@ pub fn is_kept_by_copying(alloc: Global, table: &StructFields) -> VortexResult<b
 
 /// Whether two unions have the same variants, in order.
 pub fn has_same_variants(union: &UnionVariants, other: &UnionVariants) -> bool
-    ensures { IsTrue result ↔ (choices union.now ≡ choices other.now) }
+    ensures { IsTrue result ↔ (variant_list union.now ≡ variant_list other.now) }
 {
     *union == *other
 }
@@ -89,7 +89,7 @@ pub fn has_other_columns(table: &StructFields, other: &StructFields) -> bool
 /// Whether two unions differ.
 #[tactic(auto, using(vortex_dtype::specs::rulesets::equality))]
 pub fn has_other_variants(union: &UnionVariants, other: &UnionVariants) -> bool
-    ensures { IsTrue result ↔ (choices union.now ≢ choices other.now) }
+    ensures { IsTrue result ↔ (variant_list union.now ≢ variant_list other.now) }
 {
     *union != *other
 }

@@ -3,7 +3,7 @@
 
 // Iterators end, and give as many items as they announced, one after another.
 ghost use Rattle.std.specs.Prelude.{◌≡◌, IfOk, map, true};
-ghost use Rattle.dtype_types.specs.Lists.{lent_pair};
+ghost use Rattle.dtype_types.specs.Lists.{borrowed_pair};
 ghost use Rattle.dtype_types.specs.TreeOf.{children, struct_pairs, with_trees};
 
 use std::alloc::Global;
@@ -71,8 +71,8 @@ pub fn fields_collected(
     alloc: Global,
     fields: &StructFields,
 ) -> VortexResult<Vec<(&FieldName, &DType)>>
-    ensures lent { IfOk result (λ list. map lent_pair list.items ≡ struct_pairs fields.now) }
-    ensures trees { IfOk result (λ list. with_trees (map lent_pair list.items) ≡ children fields.now) }
+    ensures lent { IfOk result (λ list. map borrowed_pair list.items ≡ struct_pairs fields.now) }
+    ensures trees { IfOk result (λ list. with_trees (map borrowed_pair list.items) ≡ children fields.now) }
 {
     Ok(fields.pairs().collect(alloc)?)
 }

@@ -8,7 +8,7 @@ ghost use Rattle.std.specs.List.{AllByRecursion};
 ghost use Rattle.dtype_types.specs.Kinds.{is_nested};
 ghost use Rattle.dtype_types.specs.Lookups.{field_types, variant_types};
 ghost use Rattle.dtype_types.specs.Nullable.{IsNullable};
-ghost use Rattle.dtype_types.specs.TreeOf.{children, choices, struct_pairs, tree};
+ghost use Rattle.dtype_types.specs.TreeOf.{children, variant_list, struct_pairs, tree};
 
 use dtype_types::{DType, StructFields, UnionVariants};
 
@@ -28,7 +28,7 @@ pub fn any_nullable(table: &StructFields) -> bool
 
 /// Whether every variant may be null.
 pub fn all_variants_nullable(union: &UnionVariants) -> bool
-    ensures { IsTrue result ↔ All IsNullable (variant_types (choices union.now)) }
+    ensures { IsTrue result ↔ All IsNullable (variant_types (variant_list union.now)) }
 {
     union.variants().all(|dtype| dtype.is_nullable())
 }

@@ -6,7 +6,7 @@
 
 ghost use Rattle.std.specs.Prelude.{◌≡◌, IfOk, map};
 ghost use Rattle.dtype_types.specs.Lookups.{variant_named, variant_names, variant_types, variant_tags};
-ghost use Rattle.dtype_types.specs.TreeOf.{choices, tree, shown};
+ghost use Rattle.dtype_types.specs.TreeOf.{variant_list, tree, shown};
 ghost use Rattle.dtype_types.specs.Unions.{AreConsecutive};
 
 use std::alloc::Global;
@@ -14,9 +14,9 @@ use vortex_dtype::{DType, FieldNames, UnionVariants, VortexResult};
 
 /// The union of these names and types.
 pub fn numbered(alloc: Global, names: FieldNames, dtypes: Vec<DType>) -> VortexResult<UnionVariants>
-    ensures names { IfOk result (λ u. variant_names (choices u) ≡ names) }
-    ensures types { IfOk result (λ u. variant_types (choices u) ≡ map tree dtypes.items) }
-    ensures tags { IfOk result (λ u. AreConsecutive (variant_tags (choices u))) }
+    ensures names { IfOk result (λ u. variant_names (variant_list u) ≡ names) }
+    ensures types { IfOk result (λ u. variant_types (variant_list u) ≡ map tree dtypes.items) }
+    ensures tags { IfOk result (λ u. AreConsecutive (variant_tags (variant_list u))) }
 {
     let variants = UnionVariants::new(alloc, names, dtypes)?;
     Ok(variants)
@@ -29,7 +29,7 @@ pub fn tagged(
     dtypes: Vec<DType>,
     tags: Vec<u8>,
 ) -> VortexResult<UnionVariants>
-    ensures { IfOk result (λ u. variant_tags (choices u) ≡ tags.items) }
+    ensures { IfOk result (λ u. variant_tags (variant_list u) ≡ tags.items) }
 {
     let variants = UnionVariants::try_new(alloc, names, dtypes, tags)?;
     Ok(variants)
@@ -37,7 +37,7 @@ pub fn tagged(
 
 /// The type of the variant of the name, by its position.
 pub fn variant_by_find<'a>(variants: &'a UnionVariants, name: &str) -> Option<&'a DType>
-    ensures { shown tree result ≡ variant_named (choices variants.now) name.now }
+    ensures { shown tree result ≡ variant_named (variant_list variants.now) name.now }
 {
     let index = variants.find(name)?;
     variants.variant_by_index(index)

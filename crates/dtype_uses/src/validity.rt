@@ -6,7 +6,7 @@
 
 ghost use Rattle.std.specs.Prelude.{◌≡◌, ◌<◌, All, IfOk, IfSome, IsTrue, Some, length, true, vec_len};
 ghost use Rattle.dtype_types.specs.Valid.{Valid};
-ghost use Rattle.dtype_types.specs.TreeOf.{tree, map_tree, union_tree, struct_tree, choices};
+ghost use Rattle.dtype_types.specs.TreeOf.{tree, map_tree, union_tree, struct_tree, variant_list};
 ghost use Rattle.dtype_types.specs.Kinds.{kind};
 ghost use Rattle.dtype_types.specs.Lookups.{variant_tags};
 
@@ -48,7 +48,7 @@ pub fn as_many_names_as_fields(fields: &StructFields) -> bool
 
 /// A tag of a valid union leads back to its position.
 pub fn place_and_back(variants: &UnionVariants, place: usize) -> Option<usize>
-    requires { place < length (variant_tags (choices variants.now)) }
+    requires { place < length (variant_tags (variant_list variants.now)) }
     ensures { Valid (union_tree variants.now) → result ≡ Some place }
 {
     let tag = variants.child_index_to_tag(place);
@@ -68,7 +68,7 @@ pub fn as_many_tags_as_names(variants: &UnionVariants) -> bool
 /// Whether a tag of a valid union has a position: it always has.
 pub fn tag_has_place(variants: &UnionVariants, place: usize) -> bool
     requires valid { Valid (union_tree variants.now) }
-    requires within { place < length (variant_tags (choices variants.now)) }
+    requires within { place < length (variant_tags (variant_list variants.now)) }
     ensures { IsTrue result }
 {
     let tag = variants.child_index_to_tag(place);

@@ -5,8 +5,8 @@ use Rattle.std.proofs.Common.{sym, ap, ◌∙◌}
 use Rattle.std.specs.Iterator.Adapters.{zip_first, zip_second}
 use denote.Param.Weighed.{most}
 use Rattle.dtype_types.specs.Equality.{equal_under}
-use Rattle.dtype_types.specs.Lists.{seconds, types_of, lent_pair, lent_triple}
-use Rattle.dtype_types.specs.TreeOf.{tree, children, choices, struct_dtypes, union_dtypes, with_trees, with_tagged_trees}
+use Rattle.dtype_types.specs.Lists.{seconds, types_of, borrowed_pair, borrowed_triple}
+use Rattle.dtype_types.specs.TreeOf.{tree, children, variant_list, struct_dtypes, union_dtypes, with_trees, with_tagged_trees}
 use Rattle.dtype_types.specs.declared.dtype.DType.{size-DType}
 use Rattle.dtype_types.proofs.Depths.{no_deeper}
 use Rattle.dtype_types.proofs.Parts.{fields_shown, variants_shown}
@@ -28,7 +28,7 @@ pub struct_fields::StructFields::equal_under-returns-then-ne : goal.struct_field
 struct_fields::StructFields::equal_under-returns-then-ne t c =
     let it = c.loop-name.name-iterator in
     let on = c.next.new.self in
-    let next = next_of_both lent_pair it on c.next.result (c.in-Some.name, c.in-Some.dtype) (c.in-Some.other_name, c.in-Some.other_dtype) c.in-Some.is c.next.ensures.steps in
+    let next = next_of_both borrowed_pair it on c.next.result (c.in-Some.name, c.in-Some.dtype) (c.in-Some.other_name, c.in-Some.other_dtype) c.in-Some.is c.next.ensures.steps in
     let turn = fields_turn c.args.rule (with_trees (zip_first it)) (with_trees (zip_second it)) (with_trees (zip_first on)) (with_trees (zip_second on)) c.in-Some.name.now c.in-Some.other_name.now (tree c.in-Some.dtype.now) (tree c.in-Some.other_dtype.now) _ c.loop-name.invariant.agrees (ap with_trees next.0) (ap with_trees next.1) in
     sym (turn.0 (not_true _ c.if-ne.ensures))
 
@@ -36,7 +36,7 @@ pub struct_fields::StructFields::equal_under-returns-then-not-equal_under : goal
 struct_fields::StructFields::equal_under-returns-then-not-equal_under t c =
     let it = c.loop-name.name-iterator in
     let on = c.next.new.self in
-    let next = next_of_both lent_pair it on c.next.result (c.in-Some.name, c.in-Some.dtype) (c.in-Some.other_name, c.in-Some.other_dtype) c.in-Some.is c.next.ensures.steps in
+    let next = next_of_both borrowed_pair it on c.next.result (c.in-Some.name, c.in-Some.dtype) (c.in-Some.other_name, c.in-Some.other_dtype) c.in-Some.is c.next.ensures.steps in
     let turn = fields_turn c.args.rule (with_trees (zip_first it)) (with_trees (zip_second it)) (with_trees (zip_first on)) (with_trees (zip_second on)) c.in-Some.name.now c.in-Some.other_name.now (tree c.in-Some.dtype.now) (tree c.in-Some.other_dtype.now) _ c.loop-name.invariant.agrees (ap with_trees next.0) (ap with_trees next.1) in
     sym (turn.1 (sym c.if-not-equal_under.ensures))
 
@@ -44,7 +44,7 @@ pub struct_fields::StructFields::equal_under-loop-name-preserved : goal.struct_f
 struct_fields::StructFields::equal_under-loop-name-preserved t c =
     let it = c.loop-name.name-iterator in
     let on = c.next.new.self in
-    let next = next_of_both lent_pair it on c.next.result (c.in-Some.name, c.in-Some.dtype) (c.in-Some.other_name, c.in-Some.other_dtype) c.in-Some.is c.next.ensures.steps in
+    let next = next_of_both borrowed_pair it on c.next.result (c.in-Some.name, c.in-Some.dtype) (c.in-Some.other_name, c.in-Some.other_dtype) c.in-Some.is c.next.ensures.steps in
     let turn = fields_turn c.args.rule (with_trees (zip_first it)) (with_trees (zip_second it)) (with_trees (zip_first on)) (with_trees (zip_second on)) c.in-Some.name.now c.in-Some.other_name.now (tree c.in-Some.dtype.now) (tree c.in-Some.other_dtype.now) _ c.loop-name.invariant.agrees (ap with_trees next.0) (ap with_trees next.1) in
     record {
       agrees = turn.2 (not_false _ c.if-ne.ensures) (sym c.if-not-equal_under.ensures);
@@ -56,17 +56,17 @@ pub struct_fields::StructFields::equal_under-returns : goal.struct_fields::Struc
 struct_fields::StructFields::equal_under-returns t c =
     let it = c.loop-name.name-iterator in
     fields_end c.args.rule (with_trees (zip_first it)) (with_trees (zip_second it)) _ c.loop-name.invariant.agrees (fields_shown (zip_first it) ∙ c.loop-name.invariant.even ∙ sym (fields_shown (zip_second it)))
-    (nothing_of_either with_trees (none_of_either lent_pair it c.next.new.self c.next.result c.in-None.is c.next.ensures.steps))
+    (nothing_of_either with_trees (none_of_either borrowed_pair it c.next.new.self c.next.result c.in-None.is c.next.ensures.steps))
 
 pub union_variants::UnionVariants::equal_under-returns-then-len-count : goal.union_variants::UnionVariants::equal_under-returns-then-len-count
 union_variants::UnionVariants::equal_under-returns-then-len-count t c =
-    sym (differ_variants c.args.rule (choices c.args.self.now) (choices c.args.other.now) (λ e. absurd (c.if-len-count.true (c.len.ensures ∙ sym e ∙ sym c.len-count.ensures))))
+    sym (differ_variants c.args.rule (variant_list c.args.self.now) (variant_list c.args.other.now) (λ e. absurd (c.if-len-count.true (c.len.ensures ∙ sym e ∙ sym c.len-count.ensures))))
 
 pub union_variants::UnionVariants::equal_under-returns-then-ne : goal.union_variants::UnionVariants::equal_under-returns-then-ne
 union_variants::UnionVariants::equal_under-returns-then-ne t c =
     let it = c.loop-name.name-iterator in
     let on = c.next.new.self in
-    let next = next_of_both lent_triple it on c.next.result (c.in-Some.name, c.in-Some.tag, c.in-Some.dtype) (c.in-Some.other_name, c.in-Some.other_tag, c.in-Some.other_dtype) c.in-Some.is c.next.ensures.steps in
+    let next = next_of_both borrowed_triple it on c.next.result (c.in-Some.name, c.in-Some.tag, c.in-Some.dtype) (c.in-Some.other_name, c.in-Some.other_tag, c.in-Some.other_dtype) c.in-Some.is c.next.ensures.steps in
     let turn = variants_turn c.args.rule (with_tagged_trees (zip_first it)) (with_tagged_trees (zip_second it)) (with_tagged_trees (zip_first on)) (with_tagged_trees (zip_second on)) c.in-Some.name.now c.in-Some.other_name.now (tree c.in-Some.dtype.now) (tree c.in-Some.other_dtype.now) c.in-Some.tag c.in-Some.other_tag _ c.loop-name.invariant.agrees (ap with_tagged_trees next.0) (ap with_tagged_trees next.1) in
     sym (turn.0 (not_true _ c.if-ne.ensures))
 
@@ -74,7 +74,7 @@ pub union_variants::UnionVariants::equal_under-returns-then-not-equal_under : go
 union_variants::UnionVariants::equal_under-returns-then-not-equal_under t c =
     let it = c.loop-name.name-iterator in
     let on = c.next.new.self in
-    let next = next_of_both lent_triple it on c.next.result (c.in-Some.name, c.in-Some.tag, c.in-Some.dtype) (c.in-Some.other_name, c.in-Some.other_tag, c.in-Some.other_dtype) c.in-Some.is c.next.ensures.steps in
+    let next = next_of_both borrowed_triple it on c.next.result (c.in-Some.name, c.in-Some.tag, c.in-Some.dtype) (c.in-Some.other_name, c.in-Some.other_tag, c.in-Some.other_dtype) c.in-Some.is c.next.ensures.steps in
     let turn = variants_turn c.args.rule (with_tagged_trees (zip_first it)) (with_tagged_trees (zip_second it)) (with_tagged_trees (zip_first on)) (with_tagged_trees (zip_second on)) c.in-Some.name.now c.in-Some.other_name.now (tree c.in-Some.dtype.now) (tree c.in-Some.other_dtype.now) c.in-Some.tag c.in-Some.other_tag _ c.loop-name.invariant.agrees (ap with_tagged_trees next.0) (ap with_tagged_trees next.1) in
     sym (turn.1 (sym c.if-not-equal_under.ensures))
 
@@ -82,7 +82,7 @@ pub union_variants::UnionVariants::equal_under-returns-then-tag-other_tag : goal
 union_variants::UnionVariants::equal_under-returns-then-tag-other_tag t c =
     let it = c.loop-name.name-iterator in
     let on = c.next.new.self in
-    let next = next_of_both lent_triple it on c.next.result (c.in-Some.name, c.in-Some.tag, c.in-Some.dtype) (c.in-Some.other_name, c.in-Some.other_tag, c.in-Some.other_dtype) c.in-Some.is c.next.ensures.steps in
+    let next = next_of_both borrowed_triple it on c.next.result (c.in-Some.name, c.in-Some.tag, c.in-Some.dtype) (c.in-Some.other_name, c.in-Some.other_tag, c.in-Some.other_dtype) c.in-Some.is c.next.ensures.steps in
     let turn = variants_turn c.args.rule (with_tagged_trees (zip_first it)) (with_tagged_trees (zip_second it)) (with_tagged_trees (zip_first on)) (with_tagged_trees (zip_second on)) c.in-Some.name.now c.in-Some.other_name.now (tree c.in-Some.dtype.now) (tree c.in-Some.other_dtype.now) c.in-Some.tag c.in-Some.other_tag _ c.loop-name.invariant.agrees (ap with_tagged_trees next.0) (ap with_tagged_trees next.1) in
     sym (turn.2 (tags_differ c.in-Some.tag c.in-Some.other_tag c.if-tag-other_tag.true))
 
@@ -90,7 +90,7 @@ pub union_variants::UnionVariants::equal_under-loop-name-preserved : goal.union_
 union_variants::UnionVariants::equal_under-loop-name-preserved t c =
     let it = c.loop-name.name-iterator in
     let on = c.next.new.self in
-    let next = next_of_both lent_triple it on c.next.result (c.in-Some.name, c.in-Some.tag, c.in-Some.dtype) (c.in-Some.other_name, c.in-Some.other_tag, c.in-Some.other_dtype) c.in-Some.is c.next.ensures.steps in
+    let next = next_of_both borrowed_triple it on c.next.result (c.in-Some.name, c.in-Some.tag, c.in-Some.dtype) (c.in-Some.other_name, c.in-Some.other_tag, c.in-Some.other_dtype) c.in-Some.is c.next.ensures.steps in
     let turn = variants_turn c.args.rule (with_tagged_trees (zip_first it)) (with_tagged_trees (zip_second it)) (with_tagged_trees (zip_first on)) (with_tagged_trees (zip_second on)) c.in-Some.name.now c.in-Some.other_name.now (tree c.in-Some.dtype.now) (tree c.in-Some.other_dtype.now) c.in-Some.tag c.in-Some.other_tag _ c.loop-name.invariant.agrees (ap with_tagged_trees next.0) (ap with_tagged_trees next.1) in
     record {
       agrees = turn.3 (not_false _ c.if-ne.ensures) (sym c.if-not-equal_under.ensures) (tags_same _ _ c.if-tag-other_tag.false);
@@ -102,4 +102,4 @@ pub union_variants::UnionVariants::equal_under-returns : goal.union_variants::Un
 union_variants::UnionVariants::equal_under-returns t c =
     let it = c.loop-name.name-iterator in
     variants_end c.args.rule (with_tagged_trees (zip_first it)) (with_tagged_trees (zip_second it)) _ c.loop-name.invariant.agrees (variants_shown (zip_first it) ∙ c.loop-name.invariant.even ∙ sym (variants_shown (zip_second it)))
-    (nothing_of_either with_tagged_trees (none_of_either lent_triple it c.next.new.self c.next.result c.in-None.is c.next.ensures.steps))
+    (nothing_of_either with_tagged_trees (none_of_either borrowed_triple it c.next.new.self c.next.result c.in-None.is c.next.ensures.steps))

@@ -14,7 +14,7 @@ use Rattle.dtype_types.specs.IndentedText.{indented, indented_braces, indented_f
 use Rattle.dtype_types.specs.Text.{joined}
 use Rattle.dtype_types.specs.Tree.{fields}
 use Rattle.dtype_types.specs.TreeOf.{tree, children, struct_dtypes, fields_of, with_trees}
-use Rattle.dtype_types.specs.Lists.{seconds, lent_pair}
+use Rattle.dtype_types.specs.Lists.{seconds, borrowed_pair}
 use Rattle.dtype_types.specs.declared.dtype.DType.{size-DType}
 use Rattle.dtype_types.proofs.+indented.Goals as goal
 use Rattle.dtype_types.proofs.+indented.Goals.{struct_fields::StructFields::write_indented-then-nfields-gt0+in_ok-push_str-2, struct_fields::StructFields::write_indented-else-nfields-gt0}
@@ -33,7 +33,7 @@ struct_fields::StructFields::write_indented-loop-name-preserved t c =
     let separator = c.loop-name.separator.now in
     let start = string_bytes c.loop-name.out in
     let x = inner ++ (n ++ (codes "=" ++ d)) in
-    let next = next_of lent_pair c.loop-name.name-iterator c.next.new.self c.next.result (c.in-Some.name, c.in-Some.dtype) c.in-Some.is c.next.ensures.steps in
+    let next = next_of borrowed_pair c.loop-name.name-iterator c.next.new.self c.next.result (c.in-Some.name, c.in-Some.dtype) c.in-Some.is c.next.ensures.steps in
     let ended : string_bytes c.write_indented.new.out ≡ start ++ (separator ++ x) =
     c.in_ok-write_indented.ensures.ok
     ∙ ap (λ a. string_bytes c.start_field.new.out ++ indented a (tree c.in-Some.dtype.now)) (c.as_str-in-loop-name.ensures.value ∙ c.in_ok-inner.ensures.ok)
@@ -53,7 +53,7 @@ struct_fields::StructFields::write_indented-returns-clause-ok t c =
     let indent = c.args.indent.now in
     let parts = indented_fields (indent ++ codes "  ") (fields_of s) in
     let close = indent ++ codes "}" in
-    let none = none_of lent_pair c.loop-name.name-iterator c.next.new.self c.next.result c.in-None.is c.next.ensures.steps in
+    let none = none_of borrowed_pair c.loop-name.name-iterator c.next.new.self c.next.result c.in-None.is c.next.ensures.steps in
     let so_far = all_written (codes ",\n") c.loop-name.separator.now (string_bytes c.loop-name.out) _ _ c.loop-name.invariant.written (ap (λ qs. indented_fields (indent ++ codes "  ") (fields (with_trees qs))) none)
     ∙ ap (λ xs. string_bytes c.push_str.new.self ++ xs) (leading_all (codes ",\n") parts) ∙ ap (λ xs. xs ++ joined (codes ",\n") parts) c.in_ok-push_str.ensures.bytes in
     let written = c.in_ok-write.ensures.bytes in

@@ -13,8 +13,8 @@ use Rattle.dtype_types.proofs.Walks.{next_of, none_of}
 use Rattle.dtype_types.proofs.Texts.{map_all, struct_all, union_all, extension_all, leading, leading_all, one_written, all_written, named_text, tagged_text}
 use Rattle.dtype_types.specs.Tree.{fields, variants}
 use Rattle.dtype_types.specs.Text.{text, bool_text, field_texts, choice_texts, consecutive, tag_text}
-use Rattle.dtype_types.specs.Lists.{seconds, types_of, lent_pair, lent_triple}
-use Rattle.dtype_types.specs.TreeOf.{choices, struct_dtypes, fields_of, union_dtypes, variants_of, tree, with_trees, with_tagged_trees}
+use Rattle.dtype_types.specs.Lists.{seconds, types_of, borrowed_pair, borrowed_triple}
+use Rattle.dtype_types.specs.TreeOf.{variant_list, struct_dtypes, fields_of, union_dtypes, variants_of, tree, with_trees, with_tagged_trees}
 use Rattle.dtype_types.specs.declared.dtype.DType.{size-DType}
 use Rattle.dtype_types.specs.TextOf.{map_text, struct_text, union_text, extension_text}
 use Rattle.dtype_types.proofs.+text.Goals as goal
@@ -62,7 +62,7 @@ struct_fields::StructFieldsDisplay::fmt-loop-name-init g t c = record {
 pub struct_fields::StructFieldsDisplay::fmt-loop-name-preserved : goal.struct_fields::StructFieldsDisplay::fmt-loop-name-preserved
 struct_fields::StructFieldsDisplay::fmt-loop-name-preserved g t c = record {
   utf8 = search rules;
-  within = no_deeper (most size-DType (struct_dtypes c.args.self.now)) (seconds c.loop-name.name-iterator) (seconds c.next.new.self) c.in-Some.dtype.now (ap seconds (next_of lent_pair c.loop-name.name-iterator c.next.new.self c.next.result (c.in-Some.name, c.in-Some.dtype) c.in-Some.is c.next.ensures.steps)) c.loop-name.invariant.within;
+  within = no_deeper (most size-DType (struct_dtypes c.args.self.now)) (seconds c.loop-name.name-iterator) (seconds c.next.new.self) c.in-Some.dtype.now (ap seconds (next_of borrowed_pair c.loop-name.name-iterator c.next.new.self c.next.result (c.in-Some.name, c.in-Some.dtype) c.in-Some.is c.next.ensures.steps)) c.loop-name.invariant.within;
   written = λ plain.
       let n = escaped c.in-Some.name.now in
       let d = text (tree c.in-Some.dtype.now) in
@@ -70,7 +70,7 @@ struct_fields::StructFieldsDisplay::fmt-loop-name-preserved g t c = record {
       let so_far = c.loop-name.invariant.written plain in
       let named = c.in_ok-write-2.ensures.writes so_far.1.plain refl in
       let typed = c.in_ok-fmt.ensures.writes named.plain refl in
-      let next = next_of lent_pair c.loop-name.name-iterator c.next.new.self c.next.result (c.in-Some.name, c.in-Some.dtype) c.in-Some.is c.next.ensures.steps in
+      let next = next_of borrowed_pair c.loop-name.name-iterator c.next.new.self c.next.result (c.in-Some.name, c.in-Some.dtype) c.in-Some.is c.next.ensures.steps in
       let x = n ++ (codes "=" ++ d) in (
         so_far.0 ++ (separator ++ x),
         put_three _ _ c.loop-name.f _ _ so_far.0 (separator ++ (n ++ codes "=")) d _ so_far.1 named typed (named_text so_far.0 separator n d),
@@ -84,7 +84,7 @@ struct_fields::StructFieldsDisplay::fmt-returns-clause-writes g t c = λ plain o
     let opened = c.in_ok-write.ensures.writes plain refl in
     let so_far = c.loop-name.invariant.written opened.plain in
     let closed = c.write-2.ensures.writes so_far.1.plain ok in
-    let none = none_of lent_pair c.loop-name.name-iterator c.next.new.self c.next.result c.in-None.is c.next.ensures.steps in
+    let none = none_of borrowed_pair c.loop-name.name-iterator c.next.new.self c.next.result c.in-None.is c.next.ensures.steps in
     let all = all_written (codes ", ") c.loop-name.separator.now so_far.0 _ _ so_far.2 (ap (λ ps. field_texts (fields (with_trees ps))) none) ∙ leading_all (codes ", ") (field_texts (fields_of c.args.self.now)) in
     put_three _ _ c.write.new.self c.loop-name.f _ (codes "{") so_far.0 (codes "}") _ opened so_far.1 closed (ap (λ xs. codes "{" ++ (xs ++ codes "}")) all)
 
@@ -101,7 +101,7 @@ union_variants::UnionVariantsDisplay::fmt-loop-name-init g t c = record {
 pub union_variants::UnionVariantsDisplay::fmt-loop-name-preserved : goal.union_variants::UnionVariantsDisplay::fmt-loop-name-preserved
 union_variants::UnionVariantsDisplay::fmt-loop-name-preserved g t c = record {
   utf8 = search rules;
-  within = no_deeper (most size-DType (union_dtypes c.args.self.now)) (types_of c.loop-name.name-iterator) (types_of c.next.new.self) c.in-Some.dtype.now (ap types_of (next_of lent_triple c.loop-name.name-iterator c.next.new.self c.next.result (c.in-Some.name, c.in-Some.tag, c.in-Some.dtype) c.in-Some.is c.next.ensures.steps)) c.loop-name.invariant.within;
+  within = no_deeper (most size-DType (union_dtypes c.args.self.now)) (types_of c.loop-name.name-iterator) (types_of c.next.new.self) c.in-Some.dtype.now (ap types_of (next_of borrowed_triple c.loop-name.name-iterator c.next.new.self c.next.result (c.in-Some.name, c.in-Some.tag, c.in-Some.dtype) c.in-Some.is c.next.ensures.steps)) c.loop-name.invariant.within;
   written = λ plain.
       let k = consecutive 0 (variants_of c.args.self.now) in
       let n = escaped c.in-Some.name.now in
@@ -111,11 +111,11 @@ union_variants::UnionVariantsDisplay::fmt-loop-name-preserved g t c = record {
       let so_far = c.loop-name.invariant.written plain in
       let named = c.in_ok-write.ensures.writes so_far.1.plain refl in
       let typed = c.in_ok-fmt.ensures.writes named.plain refl in
-      let next = next_of lent_triple c.loop-name.name-iterator c.next.new.self c.next.result (c.in-Some.name, c.in-Some.tag, c.in-Some.dtype) c.in-Some.is c.next.ensures.steps in
+      let next = next_of borrowed_triple c.loop-name.name-iterator c.next.new.self c.next.result (c.in-Some.name, c.in-Some.tag, c.in-Some.dtype) c.in-Some.is c.next.ensures.steps in
       let x = n ++ (tag_text k tag ++ (codes "=" ++ d)) in
       let known = c.is_consecutive-consecutive.result in (
         so_far.0 ++ (separator ++ x),
-        put_three _ _ c.loop-name.f _ _ so_far.0 (separator ++ (n ++ (tag_text known tag ++ codes "="))) d _ so_far.1 named typed (tagged_text so_far.0 separator n d tag known k (told_by_test (choices c.args.self.now) known c.is_consecutive-consecutive.ensures)),
+        put_three _ _ c.loop-name.f _ _ so_far.0 (separator ++ (n ++ (tag_text known tag ++ codes "="))) d _ so_far.1 named typed (tagged_text so_far.0 separator n d tag known k (told_by_test (variant_list c.args.self.now) known c.is_consecutive-consecutive.ensures)),
         one_written (codes ", ") separator so_far.0 _ x _ _ so_far.2 (ap (λ ps. choice_texts k (variants (with_tagged_trees ps))) next),
       );
 }
@@ -125,6 +125,6 @@ unfolding union_text
 union_variants::UnionVariantsDisplay::fmt-returns-clause-writes g t c = λ plain ok.
     let k = consecutive 0 (variants_of c.args.self.now) in
     let so_far = c.loop-name.invariant.written plain in
-    let none = none_of lent_triple c.loop-name.name-iterator c.next.new.self c.next.result c.in-None.is c.next.ensures.steps in
+    let none = none_of borrowed_triple c.loop-name.name-iterator c.next.new.self c.next.result c.in-None.is c.next.ensures.steps in
     let all = all_written (codes ", ") c.loop-name.separator.now so_far.0 _ _ so_far.2 (ap (λ ps. choice_texts k (variants (with_tagged_trees ps))) none) ∙ leading_all (codes ", ") (choice_texts k (variants_of c.args.self.now)) in
     has_written_of_eq _ _ _ _ _ all so_far.1

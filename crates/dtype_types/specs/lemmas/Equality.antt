@@ -11,7 +11,7 @@ use Rattle.dtype_types.specs.EqualityLaws.{equal_under-Decides}
 use Rattle.dtype_types.specs.FieldTypes.{field_tree, same_field_dtype}
 use Rattle.dtype_types.specs.PartsEquality.{maps_equal_under-Decides, variants_equal_under-Decides, same_extension, same_fields-Decides, same_map, same_struct, same_union}
 use Rattle.dtype_types.specs.Tree.{triples, variants}
-use Rattle.dtype_types.specs.TreeOf.{children, choices, extension_tree, map_shown, variants_of}
+use Rattle.dtype_types.specs.TreeOf.{children, variant_list, extension_tree, map_shown, variants_of}
 use Rattle.dtype_types.specs.lemmas.TreeLaws.{triples_variants}
 use Rattle.dtype_types.specs.declared.extension.ExtDTypeRef.{ExtDTypeRef}
 use Rattle.dtype_types.specs.declared.field_dtype.FieldDType.{FieldDType}
@@ -22,10 +22,10 @@ use Rattle.dtype_types.specs.declared.union_variants.UnionVariants.{UnionVariant
 pub structs_Decides : (a b : StructFields) → Decides (same_struct a b) (children a ≡ children b)
 structs_Decides a b = same_fields-Decides (children a) (children b)
 
-pub unions_Decides : (a b : UnionVariants) → Decides (same_union a b) (choices a ≡ choices b)
+pub unions_Decides : (a b : UnionVariants) → Decides (same_union a b) (variant_list a ≡ variant_list b)
 unions_Decides a b =
     let d = variants_equal_under-Decides (variants_of a) (variants_of b) in
-    (λ e. sym (triples_variants (choices a)) ∙ ap triples (d.0 e) ∙ triples_variants (choices b), λ e. d.1 (ap variants e))
+    (λ e. sym (triples_variants (variant_list a)) ∙ ap triples (d.0 e) ∙ triples_variants (variant_list b), λ e. d.1 (ap variants e))
 
 pub maps_Decides : (a b : MapDType) → Decides (same_map a b) (map_shown a ≡ map_shown b)
 maps_Decides a b = maps_equal_under-Decides (map_shown a) (map_shown b)

@@ -5,7 +5,7 @@
 use Rattle.std.proofs.Common.{◌≡◌, ℕ, List, [], ◌∷◌, map, length, refl, ap, ◌∙◌, arith}
 use Rattle.std.specs.List.{zip}
 use Rattle.dtype_types.specs.Lookups.{field_names, field_types, variant_names, variant_types, variant_tags}
-use Rattle.dtype_types.specs.TreeOf.{children, choices, tree, zip_tagged}
+use Rattle.dtype_types.specs.TreeOf.{children, variant_list, tree, zip_tagged}
 use Rattle.dtype_types.specs.declared.dtype.DType.{DType}
 use Rattle.dtype_types.specs.declared.struct_fields.StructFields.{StructFields}
 use Rattle.dtype_types.specs.declared.union_variants.UnionVariants.{UnionVariants}
@@ -49,13 +49,13 @@ variant_tags_zip (n ∷ ns) [] gs e f = absurd (omega arith)
 variant_tags_zip (n ∷ ns) (d ∷ ds) [] e f = absurd (omega arith)
 variant_tags_zip (n ∷ ns) (d ∷ ds) (g ∷ gs) e f = ap (λ hs. g ∷ hs) (variant_tags_zip ns ds gs (omega arith) (omega arith))
 
-pub variant_names_made : (u : UnionVariants) (ns : List (List ℕ)) (ds : List DType) (gs : List ℕ) → choices u ≡ zip_tagged ns (map tree ds) gs → length ns ≡ length ds → length ns ≡ length gs → variant_names (choices u) ≡ ns
+pub variant_names_made : (u : UnionVariants) (ns : List (List ℕ)) (ds : List DType) (gs : List ℕ) → variant_list u ≡ zip_tagged ns (map tree ds) gs → length ns ≡ length ds → length ns ≡ length gs → variant_names (variant_list u) ≡ ns
 variant_names_made u ns ds gs e l m = ap variant_names e ∙ variant_names_zip ns ds gs l m
 
-pub variant_types_made : (u : UnionVariants) (ns : List (List ℕ)) (ds : List DType) (gs : List ℕ) → choices u ≡ zip_tagged ns (map tree ds) gs → length ns ≡ length ds → length ns ≡ length gs → variant_types (choices u) ≡ map tree ds
+pub variant_types_made : (u : UnionVariants) (ns : List (List ℕ)) (ds : List DType) (gs : List ℕ) → variant_list u ≡ zip_tagged ns (map tree ds) gs → length ns ≡ length ds → length ns ≡ length gs → variant_types (variant_list u) ≡ map tree ds
 variant_types_made u ns ds gs e l m = ap variant_types e ∙ variant_types_zip ns ds gs l m
 
-pub variant_tags_made : (u : UnionVariants) (ns : List (List ℕ)) (ds : List DType) (gs : List ℕ) → choices u ≡ zip_tagged ns (map tree ds) gs → length ns ≡ length ds → length ns ≡ length gs → variant_tags (choices u) ≡ gs
+pub variant_tags_made : (u : UnionVariants) (ns : List (List ℕ)) (ds : List DType) (gs : List ℕ) → variant_list u ≡ zip_tagged ns (map tree ds) gs → length ns ≡ length ds → length ns ≡ length gs → variant_tags (variant_list u) ≡ gs
 variant_tags_made u ns ds gs e l m = ap variant_tags e ∙ variant_tags_zip ns ds gs l m
 
 pub ruleset made_of = (names_made, types_made, variant_names_made, variant_types_made, variant_tags_made)

@@ -14,7 +14,7 @@ use Rattle.dtype_types.specs.Tree.{Variants, no_variants, choice, triples}
 use Rattle.dtype_types.specs.Unions.{AreConsecutive}
 use Rattle.dtype_types.specs.Valid.{LacksTag, ValidVariants, Valid}
 use Rattle.dtype_types.specs.Lookups.{variant_tags}
-use Rattle.dtype_types.specs.TreeOf.{union_tree, choices, variants_of}
+use Rattle.dtype_types.specs.TreeOf.{union_tree, variant_list, variants_of}
 use Rattle.dtype_types.specs.lemmas.TreeLaws.{triples_variants}
 use Rattle.std.proofs.lemmas.Bool.Decides.{Decides-eqb}
 use Rattle.dtype_types.specs.declared.union_variants.UnionVariants.{UnionVariants}
@@ -39,17 +39,17 @@ tag_position vs i tag v here =
     (λ _. (Decides-eqb _ _).1 is) in
     rw first (ap (λ b. cond b (Some i) None) (lt-ltb i (length (variant_tags (triples vs))) within))
 
-all_tags : (u : UnionVariants) → variant_tags (triples (variants_of u)) ≡ variant_tags (choices u)
-all_tags u = ap variant_tags (triples_variants (choices u))
+all_tags : (u : UnionVariants) → variant_tags (triples (variants_of u)) ≡ variant_tags (variant_list u)
+all_tags u = ap variant_tags (triples_variants (variant_list u))
 
-pub position_of_tag : (u : UnionVariants) → Valid (union_tree u) → (i tag : ℕ) → slice_get (variant_tags (choices u)) i ≡ Some tag → position (λ g. g == tag) (variant_tags (choices u)) ≡ Some i
+pub position_of_tag : (u : UnionVariants) → Valid (union_tree u) → (i tag : ℕ) → slice_get (variant_tags (variant_list u)) i ≡ Some tag → position (λ g. g == tag) (variant_tags (variant_list u)) ≡ Some i
 position_of_tag u h i tag here =
     subst (λ gs. position (λ g. g == tag) gs ≡ Some i) (all_tags u)
     (tag_position (variants_of u) i tag h.1 (subst (λ gs. slice_get gs i ≡ Some tag) (sym (all_tags u)) here))
 
-pub position_within : (u : UnionVariants) (f : ℕ → Bool) (r : Option ℕ) → r ≡ position f (variant_tags (choices u)) → IfSome r (λ i. i < length (choices u))
+pub position_within : (u : UnionVariants) (f : ℕ → Bool) (r : Option ℕ) → r ≡ position f (variant_tags (variant_list u)) → IfSome r (λ i. i < length (variant_list u))
 position_within u f None e = tt
-position_within u f (Some i) e = omega (arith, (position-Some f (variant_tags (choices u)) i 0 (sym e)).0, length-map (choices u) (λ c. c.2))
+position_within u f (Some i) e = omega (arith, (position-Some f (variant_tags (variant_list u)) i 0 (sym e)).0, length-map (variant_list u) (λ c. c.2))
 
 -- the tag read at a place
 pub tag_read : (gs hs : List ℕ) (i : ℕ) → hs ≡ gs → i < length gs → slice_get gs i ≡ Some (get_or hs i 0)

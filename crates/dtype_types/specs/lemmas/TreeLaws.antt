@@ -6,7 +6,7 @@ use Rattle.std.specs.Prelude.{◌≡◌, ℕ, List, [], ◌∷◌, refl}
 use Rattle.std.proofs.Common.{ap, sym, ◌∙◌, rules}
 use Rattle.dtype_base.specs.declared.nullability.Nullability.{Nullability}
 use Rattle.dtype_types.specs.Tree.{null, map_of, Tree, Fields, Variants, triples, fields, variants, struct, union}
-use Rattle.dtype_types.specs.TreeOf.{tree, extension_tree, children, choices, MapParts, ExtensionParts, type_step, extension_step, map_step, struct_step, union_step, map_shown}
+use Rattle.dtype_types.specs.TreeOf.{tree, extension_tree, children, variant_list, MapParts, ExtensionParts, type_step, extension_step, map_step, struct_step, union_step, map_shown}
 use Rattle.dtype_types.specs.declared.dtype.DType.{DType, Map, Null, Struct, Struct', Union, Union', Extension, roll-out-DType, roll-DType, out-DType, map-DType, fold_out-DType, fold-roll-DType, the_lemmas}
 use Rattle.dtype_types.specs.declared.dtype.DType.TheFolds.{fold-ExtDTypeRef, fold-MapDType, fold-StructFields, fold-UnionVariants}
 use Rattle.dtype_types.specs.declared.dtype.DType.TheViews.{rolls-Struct, outs-Struct', rolls-Union, outs-Union'}
@@ -41,7 +41,7 @@ tree_map m n = search (rules, the_lemmas, fold_out-DType, fold-roll-DType, fold_
 pub tree_struct : (s : StructFields) (n : Nullability) → tree (Struct s n) ≡ struct (fields (children s)) n
 tree_struct s n = search (rules, the_lemmas, fold_out-DType, fold-roll-DType, fold_out-StructFields)
 
-pub tree_union : (u : UnionVariants) (n : Nullability) → tree (Union u n) ≡ union (variants (choices u)) n
+pub tree_union : (u : UnionVariants) (n : Nullability) → tree (Union u n) ≡ union (variants (variant_list u)) n
 tree_union u n = search (rules, the_lemmas, fold_out-DType, fold-roll-DType, fold_out-UnionVariants)
 
 pub tree_extension : (e : ExtDTypeRef) → tree (Extension e) ≡ extension_tree e

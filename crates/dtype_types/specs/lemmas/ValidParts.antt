@@ -11,7 +11,7 @@ use Rattle.std.specs.declared.boxed.Box.{Box}
 use Rattle.std.proofs.lemmas.Option.{same_Some}
 use Rattle.dtype_base.specs.declared.nullability.Nullability.TheVariants.{NonNullable}
 use Rattle.dtype_types.specs.Valid.{Valid, HasVariant, ValidFields, ValidVariants}
-use Rattle.dtype_types.specs.TreeOf.{tree, extension_tree, map_tree, union_tree, struct_tree, shown, children, choices, map_shown, extension_id, extension_metadata, storage_tree}
+use Rattle.dtype_types.specs.TreeOf.{tree, extension_tree, map_tree, union_tree, struct_tree, shown, children, variant_list, map_shown, extension_id, extension_metadata, storage_tree}
 use Rattle.dtype_types.specs.Kinds.{list_element, fixed_size_list_element, any_size_list_element, map_parts, struct_fields, union_variants, extension_parts}
 use Rattle.dtype_types.specs.Nullable.{nullability}
 use Rattle.dtype_types.specs.Tree.{Tree, Fields, Variants, no_fields, field, no_variants, choice, fields, pairs, variants, triples, list, fixed_size_list, map_of, struct, union, extension}
@@ -98,15 +98,15 @@ variants_of_triples : (vs : Variants) → variants (triples vs) ≡ vs
 variants_of_triples no_variants = refl
 variants_of_triples (choice n t g rest) = ap (choice n t g) (variants_of_triples rest)
 
-pub union_variants_valid : (t : Tree) (u : UnionVariants) → union_variants t ≡ Some (choices u) → Valid t → Valid (union_tree u)
-union_variants_valid (union vs n) u is h = subst (λ ws. HasVariant ws × ValidVariants ws) (sym (variants_of_triples vs) ∙ ap variants (same_Some (triples vs) (choices u) is)) h
+pub union_variants_valid : (t : Tree) (u : UnionVariants) → union_variants t ≡ Some (variant_list u) → Valid t → Valid (union_tree u)
+union_variants_valid (union vs n) u is h = subst (λ ws. HasVariant ws × ValidVariants ws) (sym (variants_of_triples vs) ∙ ap variants (same_Some (triples vs) (variant_list u) is)) h
 union_variants_valid _ u is h = cc
 
-pub lent_union : (t : Tree) (r : Option (Bor UnionVariants)) → shown choices r ≡ union_variants t → Valid t → IfSome r (λ u. Valid (union_tree u.now))
+pub lent_union : (t : Tree) (r : Option (Bor UnionVariants)) → shown variant_list r ≡ union_variants t → Valid t → IfSome r (λ u. Valid (union_tree u.now))
 lent_union t None is h = tt
 lent_union t (Some u) is h = union_variants_valid t u.now (sym is) h
 
-pub given_union : (t : Tree) (r : Option UnionVariants) → option_map choices r ≡ union_variants t → Valid t → IfSome r (λ d. Valid (union_tree d))
+pub given_union : (t : Tree) (r : Option UnionVariants) → option_map variant_list r ≡ union_variants t → Valid t → IfSome r (λ d. Valid (union_tree d))
 given_union t None is h = tt
 given_union t (Some u) is h = union_variants_valid t u (sym is) h
 

@@ -12,7 +12,7 @@ use Rattle.dtype_base.specs.declared.nullability.Nullability.{Nullability}
 use Rattle.dtype_base.specs.declared.nullability.Nullability.TheVariants.{NonNullable, Nullable}
 use Rattle.dtype_types.specs.FieldTypes.{given_fields, field_tree}
 use Rattle.dtype_types.specs.Valid.{Valid, ValidFields, ValidVariants}
-use Rattle.dtype_types.specs.TreeOf.{tree, extension_tree, map_tree, union_tree, struct_tree, map_shown, struct_pairs, union_triples, children, choices, with_trees, with_tagged_trees, shown}
+use Rattle.dtype_types.specs.TreeOf.{tree, extension_tree, map_tree, union_tree, struct_tree, map_shown, struct_pairs, union_triples, children, variant_list, with_trees, with_tagged_trees, shown}
 use Rattle.dtype_types.specs.Lists.{seconds}
 use Rattle.dtype_types.specs.Lookups.{first_named, variant_named, field_types, variant_types}
 use Rattle.dtype_types.specs.Maps.{entries_of}
@@ -129,9 +129,9 @@ valid_variant_of [] i t e h = cc
 valid_variant_of (v ∷ vs) zero t e h = subst Valid (same_Some v.1 t e) h.0
 valid_variant_of (v ∷ vs) (suc i) t e h = valid_variant_of vs i t e h.4
 
-pub variant_valid : (u : UnionVariants) (i : ℕ) (r : Option (Bor DType)) → shown tree r ≡ slice_get (variant_types (choices u)) i → Valid (union_tree u) → IfSome r (λ d. Valid (tree d.now))
+pub variant_valid : (u : UnionVariants) (i : ℕ) (r : Option (Bor DType)) → shown tree r ≡ slice_get (variant_types (variant_list u)) i → Valid (union_tree u) → IfSome r (λ d. Valid (tree d.now))
 variant_valid u i None e h = tt
-variant_valid u i (Some d) e h = valid_variant_of (choices u) i (tree d.now) (sym e) h.1
+variant_valid u i (Some d) e h = valid_variant_of (variant_list u) i (tree d.now) (sym e) h.1
 
 valid_by_name : (vs : List (List ℕ × Tree × ℕ)) (n : List ℕ) (t : Tree) → ValidVariants (variants vs) → Some t ≡ variant_named vs n → Valid t
 valid_by_name [] n t h e = cc
@@ -141,9 +141,9 @@ valid_by_name (v ∷ vs) n t h e = go (bytes_eq v.0 n) e (λ f. valid_by_name vs
     go true e later = subst Valid (same_Some v.1 t (sym e)) h.0
     go false e later = later e
 
-pub named_variant_valid : (u : UnionVariants) (n : List ℕ) (r : Option (Bor DType)) → shown tree r ≡ variant_named (choices u) n → Valid (union_tree u) → IfSome r (λ d. Valid (tree d.now))
+pub named_variant_valid : (u : UnionVariants) (n : List ℕ) (r : Option (Bor DType)) → shown tree r ≡ variant_named (variant_list u) n → Valid (union_tree u) → IfSome r (λ d. Valid (tree d.now))
 named_variant_valid u n None e h = tt
-named_variant_valid u n (Some d) e h = valid_by_name (choices u) n (tree d.now) h.1 e
+named_variant_valid u n (Some d) e h = valid_by_name (variant_list u) n (tree d.now) h.1 e
 
 -- the same of a type that was found
 pub type_at_valid : (s : StructFields) (i : ℕ) (t : Tree) → slice_get (field_types (children s)) i ≡ Some t → Valid (struct_tree s) → Valid t
@@ -152,11 +152,11 @@ type_at_valid s i t e h = valid_of (children s) i t e h
 pub type_named_valid : (s : StructFields) (n : List ℕ) (t : Tree) → first_named (children s) n ≡ Some t → Valid (struct_tree s) → Valid t
 type_named_valid s n t e h = valid_named (children s) n t h (sym e)
 
-pub variant_at_valid : (u : UnionVariants) (i : ℕ) (t : Tree) → slice_get (variant_types (choices u)) i ≡ Some t → Valid (union_tree u) → Valid t
-variant_at_valid u i t e h = valid_variant_of (choices u) i t e h.1
+pub variant_at_valid : (u : UnionVariants) (i : ℕ) (t : Tree) → slice_get (variant_types (variant_list u)) i ≡ Some t → Valid (union_tree u) → Valid t
+variant_at_valid u i t e h = valid_variant_of (variant_list u) i t e h.1
 
-pub variant_named_valid : (u : UnionVariants) (n : List ℕ) (t : Tree) → variant_named (choices u) n ≡ Some t → Valid (union_tree u) → Valid t
-variant_named_valid u n t e h = valid_by_name (choices u) n t h.1 (sym e)
+pub variant_named_valid : (u : UnionVariants) (n : List ℕ) (t : Tree) → variant_named (variant_list u) n ≡ Some t → Valid (union_tree u) → Valid t
+variant_named_valid u n t e h = valid_by_name (variant_list u) n t h.1 (sym e)
 
 -- all types of fields, and of variants
 field_types_each : (fs : List (List ℕ × Tree)) → ValidFields (fields fs) → AllByRecursion Valid (field_types fs)
@@ -170,8 +170,8 @@ variant_types_each : (vs : List (List ℕ × Tree × ℕ)) → ValidVariants (va
 variant_types_each [] h = tt
 variant_types_each (v ∷ vs) h = (h.0, variant_types_each vs h.4)
 
-pub variant_types_valid : (u : UnionVariants) → Valid (union_tree u) → All Valid (variant_types (choices u))
-variant_types_valid u h = All-from_recursion Valid (variant_types (choices u)) (variant_types_each (choices u) h.1)
+pub variant_types_valid : (u : UnionVariants) → Valid (union_tree u) → All Valid (variant_types (variant_list u))
+variant_types_valid u h = All-from_recursion Valid (variant_types (variant_list u)) (variant_types_each (variant_list u) h.1)
 
 pub pairs_valid : (s : StructFields) → Valid (struct_tree s) → All (λ p. Valid (tree p.1)) (struct_pairs s)
 pairs_valid s h = valid_pairs (struct_pairs s) h

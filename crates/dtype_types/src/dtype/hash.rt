@@ -3,7 +3,7 @@
 
 // Hashes of types: one walk, with the nullabilities or without them.
 ghost use Rattle.std.specs.Prelude.{◌≡◌, ◌<◌, fold};
-ghost use Rattle.dtype_types.specs.Hashes.{hash_of, head_writes, hash_writes_ignoring_nullability};
+ghost use Rattle.dtype_types.specs.Hashes.{hash_of, kind_writes, hash_writes_ignoring_nullability};
 ghost use Rattle.dtype_types.specs.TreeOf.{tree};
 
 use crate::{DType, Kind};
@@ -21,7 +21,7 @@ impl HashMode {
     // Hashes one byte: the number of a type's kind, and whether it is nullable if nullabilities count.
     fn hash_head<H: Hasher>(self, number: u8, nullability: Nullability, state: &mut H)
         requires { number < 128 }
-        ensures { state.new ≡ fold H.write state.old (head_writes self number nullability) }
+        ensures { state.new ≡ fold H.write state.old (kind_writes self number nullability) }
     {
         let mark = match (self, nullability) {
             (HashMode::Whole, Nullability::Nullable) => 1,

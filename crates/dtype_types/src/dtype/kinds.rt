@@ -9,7 +9,7 @@ ghost use Rattle.std.specs.Prelude.{◌≡◌, ◌↔◌, IsTrue, IsSomeAnd, Som
 ghost use Rattle.std.specs.Option.{option_copied, option_map};
 ghost use Rattle.dtype_base.specs.Primitives.{IsUnsigned, IsSigned, IsInteger, IsFloat};
 ghost use Rattle.dtype_types.specs.Kinds.{kind, kind_number, primitive_name, decimal_of, struct_fields, union_variants, map_parts, extension_parts, list_element, fixed_size_list_element, any_size_list_element, is_nested};
-ghost use Rattle.dtype_types.specs.TreeOf.{tree, children, choices, map_shown, shown, extension_id, extension_metadata, extension_tree, storage_tree};
+ghost use Rattle.dtype_types.specs.TreeOf.{tree, children, variant_list, map_shown, shown, extension_id, extension_metadata, extension_tree, storage_tree};
 
 use crate::{DType, ExtDTypeRef, MapDType, StructFields, UnionVariants};
 use dtype_base::{DecimalDType, PType};
@@ -282,7 +282,7 @@ impl DType {
 
     /// Returns the variants of a `Union`, else `None`.
     pub fn as_union_variants_opt(&self) -> Option<&UnionVariants>
-        ensures { shown choices result ≡ union_variants (tree self.now) }
+        ensures { shown variant_list result ≡ union_variants (tree self.now) }
     {
         match self {
             DType::Union(variants, _) => Some(variants),
@@ -363,7 +363,7 @@ impl DType {
 
     /// Consumes the type and returns the variants of a `Union`, else `None`.
     pub fn into_union_variants_opt(self) -> Option<UnionVariants>
-        ensures { option_map choices result ≡ union_variants (tree self) }
+        ensures { option_map variant_list result ≡ union_variants (tree self) }
     {
         match self {
             DType::Union(variants, _) => Some(variants),

@@ -7,7 +7,7 @@ use Rattle.std.specs.Iterator.Adapters.{zip_first, zip_second}
 use Rattle.std.proofs.lemmas.List.{length-map}
 use Rattle.dtype_types.specs.Erase.{erase}
 use Rattle.dtype_types.specs.Lookups.{field_names, variant_names, variant_tags}
-use Rattle.dtype_types.specs.TreeOf.{children, choices, fields_of, tree, variants_of}
+use Rattle.dtype_types.specs.TreeOf.{children, variant_list, fields_of, tree, variants_of}
 use Rattle.dtype_types.specs.lemmas.TreeLaws.{tree_extension, tree_map, tree_struct, tree_union}
 use Rattle.dtype_projection.proofs.MergedKinds.{lacks_element, lacks_entries, lacks_fields, lacks_fixed, lacks_storage, lacks_variants, not_extension, not_fixed, not_list, not_map, not_struct, not_union, tree_fixed, tree_list, without_parts}
 use Rattle.dtype_projection.proofs.MergedParts.{fails, fields_alike, fields_even, fields_fail, fields_made, finished, next_pair, no_pair, types_shown, union_fails, valid_next, variants_alike, variants_fail, variants_made}
@@ -76,18 +76,18 @@ merge_structs-returns t c =
 
 pub merge_unions-merge_each-requires : goal.merge_unions-merge_each-requires
 merge_unions-merge_each-requires t c =
-    let weighs : weight_types (map tree c.variants.result) ≡ weight_variants (variants_of c.args.a.now) = ap weight_types c.variants.ensures.all ∙ weight_of_variants (choices c.args.a.now) in
-    (omega (arith, weighs), ap (map erase) c.variants.ensures.all ∙ variants_alike (choices c.args.a.now) (choices c.args.b.now) c.requires ∙ sym (ap (map erase) c.variants-2.ensures.all))
+    let weighs : weight_types (map tree c.variants.result) ≡ weight_variants (variants_of c.args.a.now) = ap weight_types c.variants.ensures.all ∙ weight_of_variants (variant_list c.args.a.now) in
+    (omega (arith, weighs), ap (map erase) c.variants.ensures.all ∙ variants_alike (variant_list c.args.a.now) (variant_list c.args.b.now) c.requires ∙ sym (ap (map erase) c.variants-2.ensures.all))
 
 pub merge_unions-returns-in_err-dtypes : goal.merge_unions-returns-in_err-dtypes
 merge_unions-returns-in_err-dtypes t c =
     let err : c.from_residual.result ≡ Err c.in_err-dtypes.field-0.0 = search rules in
-    fails _ c.in_err-dtypes.field-0.0 _ _ err (λ h. variants_fail (choices c.args.a.now) (choices c.args.b.now) (map tree c.variants.result) (map tree c.variants-2.result) _ c.variants.ensures.all c.variants-2.ensures.all (λ v. c.in_err-dtypes.ensures v) h.1)
+    fails _ c.in_err-dtypes.field-0.0 _ _ err (λ h. variants_fail (variant_list c.args.a.now) (variant_list c.args.b.now) (map tree c.variants.result) (map tree c.variants-2.result) _ c.variants.ensures.all c.variants-2.ensures.all (λ v. c.in_err-dtypes.ensures v) h.1)
 
 pub merge_unions-returns-in_err-try_new : goal.merge_unions-returns-in_err-try_new
 merge_unions-returns-in_err-try_new t c =
-    let a = choices c.args.a.now in
-    let b = choices c.args.b.now in
+    let a = variant_list c.args.a.now in
+    let b = variant_list c.args.b.now in
     let err : c.from_residual-in_err-try_new.result ≡ Err c.in_err-try_new.field-0.0 = search rules in
     let names : c.in_ok-names.names ≡ variant_names a = c.in_ok-names.ensures ∙ c.names.ensures in
     let tags : c.in_ok-type_ids.type_ids.items ≡ variant_tags a = c.in_ok-type_ids.ensures.items ∙ c.type_ids.ensures in
@@ -97,9 +97,9 @@ merge_unions-returns-in_err-try_new t c =
 
 pub merge_unions-returns : goal.merge_unions-returns
 merge_unions-returns t c =
-    let a = choices c.args.a.now in
-    let b = choices c.args.b.now in
+    let a = variant_list c.args.a.now in
+    let b = variant_list c.args.b.now in
     let names : c.in_ok-names.names ≡ variant_names a = c.in_ok-names.ensures ∙ c.names.ensures in
     let tags : c.in_ok-type_ids.type_ids.items ≡ variant_tags a = c.in_ok-type_ids.ensures.items ∙ c.type_ids.ensures in
     let types = types_shown _ _ _ _ (map tree c.in_ok-dtypes.dtypes.items) c.variants.ensures.all c.variants-2.ensures.all c.in_ok-dtypes.ensures in
-    variants_made (choices c.in_ok-try_new.field-0) a b c.in_ok-names.names (map tree c.in_ok-dtypes.dtypes.items) c.in_ok-type_ids.type_ids.items c.in_ok-try_new.ensures.variants names types tags
+    variants_made (variant_list c.in_ok-try_new.field-0) a b c.in_ok-names.names (map tree c.in_ok-dtypes.dtypes.items) c.in_ok-type_ids.type_ids.items c.in_ok-try_new.ensures.variants names types tags

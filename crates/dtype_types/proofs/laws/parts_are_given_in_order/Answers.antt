@@ -3,7 +3,7 @@
 
 use Rattle.std.proofs.Common.{rules, map}
 use Rattle.std.proofs.iter.Rest.{run_of_first_by}
-use Rattle.dtype_types.specs.Lists.{lent_pair, lent_triple}
+use Rattle.dtype_types.specs.Lists.{borrowed_pair, borrowed_triple}
 use Rattle.dtype_types.specs.TreeOf.{tree}
 use Rattle.dtype_types.proofs.laws.parts_are_given_in_order.Goals as goal
 
@@ -11,7 +11,7 @@ pub returns-clause-types : goal.returns-clause-types
 returns-clause-types c = record { in_order = λ run seen. (run_of_first_by (λ d. tree d.now) (map tree) run).1; ends = λ left. search rules }
 
 pub returns-clause-fields : goal.returns-clause-fields
-returns-clause-fields c = record { in_order = λ run seen. (run_of_first_by lent_pair (λ left. left) run).1; ends = λ left. search rules }
+returns-clause-fields c = record { in_order = λ run seen. (run_of_first_by borrowed_pair (λ left. left) run).1; ends = λ left. search rules }
 
 pub returns-clause-variants : goal.returns-clause-variants
-returns-clause-variants c = record { in_order = λ run seen. (run_of_first_by lent_triple (λ left. left) run).1; ends = λ left. search rules }
+returns-clause-variants c = record { in_order = λ run seen. (run_of_first_by borrowed_triple (λ left. left) run).1; ends = λ left. search rules }

@@ -6,7 +6,7 @@ use Rattle.std.specs.Iterator.Adapters.{enumerate_source}
 use Rattle.std.specs.Prelude.{◌≡◌, remove, length, nat_lt, IfErr, MatchBool}
 use Rattle.std.proofs.lemmas.Result.{MatchResult-weaker, MatchResult-from_both}
 use Rattle.dtype_base.specs.declared.vortex_error.VortexError.TheVariants.{OutOfMemory, IndexOutOfBounds}
-use Rattle.dtype_types.specs.Lists.{lent_pair}
+use Rattle.dtype_types.specs.Lists.{borrowed_pair}
 use Rattle.dtype_types.specs.Tree.{Tree}
 use Rattle.dtype_types.specs.TreeOf.{tree, children, with_trees}
 use Rattle.dtype_types.specs.Building.{fields_so_far}
@@ -17,7 +17,7 @@ use Rattle.dtype_types.proofs.struct_fields.StructFields.without_field.Goals as 
 pub returns-clause-fields : goal.returns-clause-fields
 returns-clause-fields c =
     let inv = c.loop-i.invariant in
-    let none = none_numbered lent_pair c.loop-i.i-iterator c.next.new.self c.next.result c.in-None.is c.next.ensures.steps in
+    let none = none_numbered borrowed_pair c.loop-i.i-iterator c.next.new.self c.next.result c.in-None.is c.next.ensures.steps in
     let all = all_moved inv.done _ (children c.args.self.now) inv.left (ap with_trees none) in
     let refused : IfErr c.finish.result (λ e. MatchBool (nat_lt c.args.index (length (children c.args.self.now))) (e ≡ OutOfMemory) (e ≡ IndexOutOfBounds c.args.index (length (children c.args.self.now)))) = search rules in
     MatchResult-from_both c.finish.result _ _ (MatchResult-weaker c.finish.result c.finish.ensures (λ s e. e ∙ inv.kept ∙ ap (λ xs. remove xs c.args.index) all) (λ _ _. tt)) refused
@@ -28,7 +28,7 @@ loop-i-preserved-then-i-index c =
     let n = c.in-Some.name.now in
     let d = c.in-Some.dtype.now in
     let p : List ℕ × Tree = (n, tree d) in
-    let next = next_numbered lent_pair c.loop-i.i-iterator c.next.new.self c.next.result c.in-Some.i (c.in-Some.name, c.in-Some.dtype) c.in-Some.is c.next.ensures.steps in
+    let next = next_numbered borrowed_pair c.loop-i.i-iterator c.next.new.self c.next.result c.in-Some.i (c.in-Some.name, c.in-Some.dtype) c.in-Some.is c.next.ensures.steps in
     let done = inv.done in
     let longer = length-append done (p ∷ []) in
     let before = fields_so_far c.loop-i.kept in
@@ -43,7 +43,7 @@ pub loop-i-preserved : goal.loop-i-preserved
 loop-i-preserved c =
     let inv = c.loop-i.invariant in
     let p : List ℕ × Tree = (c.in-Some.name.now, tree c.in-Some.dtype.now) in
-    let next = next_numbered lent_pair c.loop-i.i-iterator c.next.new.self c.next.result c.in-Some.i (c.in-Some.name, c.in-Some.dtype) c.in-Some.is c.next.ensures.steps in
+    let next = next_numbered borrowed_pair c.loop-i.i-iterator c.next.new.self c.next.result c.in-Some.i (c.in-Some.name, c.in-Some.dtype) c.in-Some.is c.next.ensures.steps in
     let done = inv.done in
     let longer = length-append done (p ∷ []) in record {
       done = done ++ p ∷ [];

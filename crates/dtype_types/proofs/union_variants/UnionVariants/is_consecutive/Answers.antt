@@ -8,24 +8,24 @@ use Rattle.dtype_types.proofs.ConsecutiveTags.{tested}
 use Rattle.dtype_types.proofs.Alongside.{consecutive_turn, tags_same, tags_differ, and_first, and_both, tag_at}
 use Rattle.dtype_types.specs.Text.{consecutive}
 use Rattle.dtype_types.specs.Tree.{variants}
-use Rattle.dtype_types.specs.TreeOf.{choices}
+use Rattle.dtype_types.specs.TreeOf.{variant_list}
 use Rattle.dtype_types.proofs.union_variants.UnionVariants.is_consecutive.Goals as goal
 use Rattle.dtype_types.specs.Lookups.{variant_tags}
 
 pub returns-then-from-i : goal.returns-then-from-i
 returns-then-from-i c =
     let u = c.args.self.now in
-    let e = consecutive_turn (choices u) c.loop-i.i (get_or c.type_ids-tags.result.now c.loop-i.i 0) (omega arith) (tag_at (variant_tags (choices u)) _ c.loop-i.i c.type_ids-tags.ensures (omega (arith, length-map (choices u) (λ v. v.2)))) in
-    tested (choices u) false (sym (sym c.loop-i.invariant ∙ e ∙ and_first _ _ (tags_differ (get_or c.type_ids-tags.result.now c.loop-i.i 0) c.loop-i.i (omega arith))))
+    let e = consecutive_turn (variant_list u) c.loop-i.i (get_or c.type_ids-tags.result.now c.loop-i.i 0) (omega arith) (tag_at (variant_tags (variant_list u)) _ c.loop-i.i c.type_ids-tags.ensures (omega (arith, length-map (variant_list u) (λ v. v.2)))) in
+    tested (variant_list u) false (sym (sym c.loop-i.invariant ∙ e ∙ and_first _ _ (tags_differ (get_or c.type_ids-tags.result.now c.loop-i.i 0) c.loop-i.i (omega arith))))
 
 pub returns : goal.returns
 returns c =
     let u = c.args.self.now in
-    let none : drop c.loop-i.i (choices u) ≡ [] = grind (arith, common_steps) in
-    tested (choices u) true (sym (sym c.loop-i.invariant ∙ ap (λ vs. consecutive c.loop-i.i (variants vs)) none))
+    let none : drop c.loop-i.i (variant_list u) ≡ [] = grind (arith, common_steps) in
+    tested (variant_list u) true (sym (sym c.loop-i.invariant ∙ ap (λ vs. consecutive c.loop-i.i (variants vs)) none))
 
 pub loop-i-preserved : goal.loop-i-preserved
 loop-i-preserved c =
     let u = c.args.self.now in
-    let e = consecutive_turn (choices u) c.loop-i.i (get_or c.type_ids-tags.result.now c.loop-i.i 0) (omega arith) (tag_at (variant_tags (choices u)) _ c.loop-i.i c.type_ids-tags.ensures (omega (arith, length-map (choices u) (λ v. v.2)))) in
+    let e = consecutive_turn (variant_list u) c.loop-i.i (get_or c.type_ids-tags.result.now c.loop-i.i 0) (omega arith) (tag_at (variant_tags (variant_list u)) _ c.loop-i.i c.type_ids-tags.ensures (omega (arith, length-map (variant_list u) (λ v. v.2)))) in
     sym (e ∙ and_both _ _ (tags_same (get_or c.type_ids-tags.result.now c.loop-i.i 0) c.loop-i.i (omega arith))) ∙ c.loop-i.invariant

@@ -4,8 +4,8 @@
 use Rattle.std.proofs.Common.{◌≡◌, drop}
 use Rattle.dtype_types.specs.Text.{consecutive}
 use Rattle.dtype_types.specs.Tree.{variants}
-use Rattle.dtype_types.specs.TreeOf.{choices}
+use Rattle.dtype_types.specs.TreeOf.{variant_list}
 use Rattle.dtype_types.proofs.union_variants.UnionVariants.is_consecutive.Given as goal
 
 abbrev pub invariant-loop-i : goal.invariant-loop-i
-invariant-loop-i l = consecutive l.i (variants (drop l.i (choices l.self))) ≡ consecutive 0 (variants (choices l.self))
+invariant-loop-i l = consecutive l.i (variants (drop l.i (variant_list l.self))) ≡ consecutive 0 (variants (variant_list l.self))

@@ -2,7 +2,7 @@
 -- SPDX-FileCopyrightText: Copyright the Vortex contributors
 
 use Rattle.std.proofs.Common.{◌≡◌, pos, ◌∷◌, arith, rules, string_bytes, [], ◌++◌}
-use Rattle.dtype_types.specs.Lists.{lent_pair, lent_triple}
+use Rattle.dtype_types.specs.Lists.{borrowed_pair, borrowed_triple}
 use Rattle.dtype_types.specs.TreeOf.{tree, struct_pairs, union_triples}
 use Rattle.dtype_messages.specs.MessageOf.{message}
 use Rattle.vortex_dtype.specs.Written.{written}
@@ -15,13 +15,13 @@ use Rattle.vortex_dtype.proofs.proto.write.+writing.Goals as goal
 
 pub write_struct-write-requires : goal.write_struct-write-requires
 write_struct-write-requires t c =
-    let next = next_of lent_pair c.loop-name.name-iterator c.next.new.self c.next.result (c.in-Some.name, c.in-Some.dtype) c.in-Some.is c.next.ensures.steps in
+    let next = next_of borrowed_pair c.loop-name.name-iterator c.next.new.self c.next.result (c.in-Some.name, c.in-Some.dtype) c.in-Some.is c.next.ensures.steps in
     let below = fields_below _ _ _ _ next c.loop-name.invariant.within in
     (omega (arith, below.0), tt)
 
 pub write_struct-loop-name-preserved : goal.write_struct-loop-name-preserved
 write_struct-loop-name-preserved t c =
-    let next = next_of lent_pair c.loop-name.name-iterator c.next.new.self c.next.result (c.in-Some.name, c.in-Some.dtype) c.in-Some.is c.next.ensures.steps in
+    let next = next_of borrowed_pair c.loop-name.name-iterator c.next.new.self c.next.result (c.in-Some.name, c.in-Some.dtype) c.in-Some.is c.next.ensures.steps in
     let text : string_bytes c.in_ok-to_text.field-0 ≡ c.in-Some.name.now = search rules in
     let name : c.push.new.self.items ≡ c.loop-name.names.items ++ c.in_ok-to_text.field-0 ∷ [] = search rules in
     let proto : message c.in_ok-write.field-0 ≡ written (tree c.in-Some.dtype.now) = c.in_ok-write.ensures in
@@ -34,7 +34,7 @@ write_struct-loop-name-preserved t c =
 
 pub write_struct-returns : goal.write_struct-returns
 write_struct-returns t c =
-    let none = none_of lent_pair c.loop-name.name-iterator c.next.new.self c.next.result c.in-None.is c.next.ensures.steps in
+    let none = none_of borrowed_pair c.loop-name.name-iterator c.next.new.self c.next.result c.in-None.is c.next.ensures.steps in
     struct_done (struct_pairs c.args.fields.now) _ _ _ _ _ c.struct_proto.ensures
     (all_moved _ _ _ _ c.loop-name.invariant.names none) (all_moved _ _ _ _ c.loop-name.invariant.dtypes none)
     (flag_is _ _ c.is_nullable.ensures)
@@ -43,13 +43,13 @@ write_struct-returns t c =
 
 pub write_union-write-requires : goal.write_union-write-requires
 write_union-write-requires t c =
-    let next = next_of lent_triple c.loop-name.name-iterator c.next.new.self c.next.result (c.in-Some.name, c.in-Some.tag, c.in-Some.dtype) c.in-Some.is c.next.ensures.steps in
+    let next = next_of borrowed_triple c.loop-name.name-iterator c.next.new.self c.next.result (c.in-Some.name, c.in-Some.tag, c.in-Some.dtype) c.in-Some.is c.next.ensures.steps in
     let below = variants_below _ _ _ _ next c.loop-name.invariant.within in
     (omega (arith, below.0), tt)
 
 pub write_union-loop-name-preserved : goal.write_union-loop-name-preserved
 write_union-loop-name-preserved t c =
-    let next = next_of lent_triple c.loop-name.name-iterator c.next.new.self c.next.result (c.in-Some.name, c.in-Some.tag, c.in-Some.dtype) c.in-Some.is c.next.ensures.steps in
+    let next = next_of borrowed_triple c.loop-name.name-iterator c.next.new.self c.next.result (c.in-Some.name, c.in-Some.tag, c.in-Some.dtype) c.in-Some.is c.next.ensures.steps in
     let text : string_bytes c.in_ok-to_text.field-0 ≡ c.in-Some.name.now = search rules in
     let name : c.push.new.self.items ≡ c.loop-name.names.items ++ c.in_ok-to_text.field-0 ∷ [] = search rules in
     let proto : message c.in_ok-write.field-0 ≡ written (tree c.in-Some.dtype.now) = c.in_ok-write.ensures in
@@ -64,7 +64,7 @@ write_union-loop-name-preserved t c =
 
 pub write_union-returns : goal.write_union-returns
 write_union-returns t c =
-    let none = none_of lent_triple c.loop-name.name-iterator c.next.new.self c.next.result c.in-None.is c.next.ensures.steps in
+    let none = none_of borrowed_triple c.loop-name.name-iterator c.next.new.self c.next.result c.in-None.is c.next.ensures.steps in
     union_done (union_triples c.args.variants.now) _ _ _ _ _ _ c.union_proto.ensures
     (all_moved _ _ _ _ c.loop-name.invariant.names none) (all_moved _ _ _ _ c.loop-name.invariant.dtypes none)
     (all_moved _ _ _ _ c.loop-name.invariant.tags none) (flag_is _ _ c.is_nullable.ensures)

@@ -18,7 +18,7 @@ use Rattle.dtype_base.specs.Distinct.{Distinct}
 use Rattle.dtype_types.specs.Erase.{erase, erase_fields, erase_variants}
 use Rattle.dtype_types.specs.Lookups.{field_names, field_types, variant_names, variant_tags, variant_types}
 use Rattle.dtype_types.specs.Tree.{Tree, field, fields, choice, variants}
-use Rattle.dtype_types.specs.TreeOf.{tree, zip_tagged}
+use Rattle.dtype_types.specs.TreeOf.{tree}
 use Rattle.dtype_types.specs.Unions.{HasUnionLengths, MakesUnion, UnionError}
 use Rattle.dtype_types.specs.Valid.{Valid, ValidFields, ValidVariants, HasVariant, LacksName, LacksTag}
 use Rattle.dtype_types.specs.declared.dtype.DType.{DType}
@@ -28,7 +28,7 @@ abbrev pub Pairs : Type 0
 Pairs = List (List ℕ × Tree)
 
 abbrev pub Triples : Type 0
-Triples = List (List ℕ × Tree × ℕ)
+Triples = List (List ℕ × (Tree × ℕ))
 
 -- ---- one after another
 
@@ -130,18 +130,18 @@ variants_alike [] [] e = refl
 variants_alike [] (q ∷ qs) e = cc
 variants_alike (p ∷ ps) [] e = cc
 variants_alike (p ∷ ps) (q ∷ qs) e =
-    let head : erase p.1 ≡ erase q.1 = cc in
+    let head : erase p.1.0 ≡ erase q.1.0 = cc in
     let tail = variants_alike ps qs (cc) in cc
 
-pub variants_made : (cs ps qs : Triples) (ns : List (List ℕ)) (ds : List Tree) (gs : List ℕ) → cs ≡ zip_tagged ns ds gs → ns ≡ variant_names ps → ds ≡ either_null_types (variant_types ps) (variant_types qs) → gs ≡ variant_tags ps
+pub variants_made : (cs ps qs : Triples) (ns : List (List ℕ)) (ds : List Tree) (gs : List ℕ) → cs ≡ zip ns (zip ds gs) → ns ≡ variant_names ps → ds ≡ either_null_types (variant_types ps) (variant_types qs) → gs ≡ variant_tags ps
     → variants cs ≡ either_null_variants (variants ps) (variants qs)
 variants_made cs ps qs ns ds gs made names types tags =
-    ap variants (made ∙ ap (λ z. zip_tagged z ds gs) names ∙ ap (λ z. zip_tagged (variant_names ps) z gs) types ∙ ap (zip_tagged (variant_names ps) (either_null_types (variant_types ps) (variant_types qs))) tags) ∙ by ps qs
+    ap variants (made ∙ ap (λ z. zip z (zip ds gs)) names ∙ ap (λ z. zip (variant_names ps) (zip z gs)) types ∙ ap (λ z. zip (variant_names ps) (zip (either_null_types (variant_types ps) (variant_types qs)) z)) tags) ∙ by ps qs
   where
-    by : (ps qs : Triples) → variants (zip_tagged (variant_names ps) (either_null_types (variant_types ps) (variant_types qs)) (variant_tags ps)) ≡ either_null_variants (variants ps) (variants qs)
+    by : (ps qs : Triples) → variants (zip (variant_names ps) (zip (either_null_types (variant_types ps) (variant_types qs)) (variant_tags ps))) ≡ either_null_variants (variants ps) (variants qs)
     by [] qs = refl
     by (p ∷ ps) [] = refl
-    by (p ∷ ps) (q ∷ qs) = ap (choice p.0 (either_null p.1 q.1) p.2) (by ps qs)
+    by (p ∷ ps) (q ∷ qs) = ap (choice p.0 (either_null p.1.0 q.1.0) p.1.1) (by ps qs)
 
 pub variants_each_valid : (ps qs : Triples) → ValidVariants (either_null_variants (variants ps) (variants qs)) → AllByRecursion Valid (either_null_types (variant_types ps) (variant_types qs))
 variants_each_valid [] qs h = tt
@@ -170,7 +170,7 @@ tags_distinct [] qs e h = λ i j d lt within. absurd (omega arith)
 tags_distinct (p ∷ ps) [] e h = cc
 tags_distinct (p ∷ ps) (q ∷ qs) e h =
     let tail : map erase (variant_types ps) ≡ map erase (variant_types qs) = cc in
-    AllPairs-cons (λ x y. x ≢ y) p.2 (variant_tags ps) (All-from_recursion (λ m. p.2 ≢ m) (variant_tags ps) (lacking_tag p.2 ps qs tail h.3)) (tags_distinct ps qs tail h.4)
+    AllPairs-cons (λ x y. x ≢ y) p.1.1 (variant_tags ps) (All-from_recursion (λ m. p.1.1 ≢ m) (variant_tags ps) (lacking_tag p.1.1 ps qs tail h.3)) (tags_distinct ps qs tail h.4)
 
 pub variants_fail : (ps qs : Triples) (ts us : List Tree) (X : Type 0) → ts ≡ variant_types ps → us ≡ variant_types qs → (AllByRecursion Valid (either_null_types ts us) → X) → ValidVariants (either_null_variants (variants ps) (variants qs)) → X
 variants_fail ps qs ts us X p q f h =
@@ -200,8 +200,8 @@ union_fails ps qs ns n gs ds e names tags types count alike (inr told) some vali
     makes : MakesUnion ns n gs
     makes = (
       (
-        ap length names ∙ length-map ps (λ p. p.0) ∙ sym (length-map ps (λ p. p.1)) ∙ sym (as_many (variant_types ps) (variant_types qs) each) ∙ sym (ap length types) ∙ count,
-        ap length names ∙ length-map ps (λ p. p.0) ∙ sym (length-map ps (λ p. p.2)) ∙ sym (ap length tags),
+        ap length names ∙ length-map ps (λ p. p.0) ∙ sym (length-map ps (λ p. p.1.0)) ∙ sym (as_many (variant_types ps) (variant_types qs) each) ∙ sym (ap length types) ∙ count,
+        ap length names ∙ length-map ps (λ p. p.0) ∙ sym (length-map ps (λ p. p.1.1)) ∙ sym (ap length tags),
         λ none. some_names ps qs some (sym names ∙ none),
       ),
       subst Distinct (sym tags) (tags_distinct ps qs each valid),

@@ -32,6 +32,6 @@ pub weight_of_fields : (ps : List (List ℕ × Tree)) → weight_types (field_ty
 weight_of_fields [] = refl
 weight_of_fields (p ∷ ps) = ap (λ k. weight p.1 + k) (weight_of_fields ps)
 
-pub weight_of_variants : (ps : List (List ℕ × Tree × ℕ)) → weight_types (variant_types ps) ≡ weight_variants (variants ps)
+pub weight_of_variants : (ps : List (List ℕ × (Tree × ℕ))) → weight_types (variant_types ps) ≡ weight_variants (variants ps)
 weight_of_variants [] = refl
-weight_of_variants (p ∷ ps) = ap (λ k. weight p.1 + k) (weight_of_variants ps)
+weight_of_variants (p ∷ ps) = ap (λ k. weight p.1.0 + k) (weight_of_variants ps)

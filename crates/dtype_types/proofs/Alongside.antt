@@ -29,11 +29,11 @@ differ_fields s [] (q ∷ qs) h = refl
 differ_fields s (p ∷ ps) [] h = refl
 differ_fields s (p ∷ ps) (q ∷ qs) h = and_second (bytes_eq p.0 q.0 && equal_under s p.1 q.1) _ (differ_fields s ps qs (λ e. h (ap suc e)))
 
-pub differ_variants : (s : NullabilityRule) (ps qs : List (List ℕ × Tree × ℕ)) → (length ps ≡ length qs → ⊥) → variants_equal_under s (variants ps) (variants qs) ≡ false
+pub differ_variants : (s : NullabilityRule) (ps qs : List (List ℕ × (Tree × ℕ))) → (length ps ≡ length qs → ⊥) → variants_equal_under s (variants ps) (variants qs) ≡ false
 differ_variants s [] [] h = absurd (h refl)
 differ_variants s [] (q ∷ qs) h = refl
 differ_variants s (p ∷ ps) [] h = refl
-differ_variants s (p ∷ ps) (q ∷ qs) h = and_second (bytes_eq p.0 q.0 && equal_under s p.1 q.1 && (p.2 == q.2)) _ (differ_variants s ps qs (λ e. h (ap suc e)))
+differ_variants s (p ∷ ps) (q ∷ qs) h = and_second (bytes_eq p.0 q.0 && equal_under s p.1.0 q.1.0 && (p.1.1 == q.1.1)) _ (differ_variants s ps qs (λ e. h (ap suc e)))
 
 -- the results of a turn, which shows three tests or four
 pub three : (x y z r : Bool) → r ≡ (x && y && z) → (x ≡ false → r ≡ false) × (y ≡ false → r ≡ false) × (x ≡ true → y ≡ true → z ≡ r)
@@ -74,12 +74,12 @@ fields_turn s ps qs ps' qs' n m t u r so_far p q =
     three (bytes_eq n m) (equal_under s t u) (fields_equal_under s (fields ps') (fields qs')) r
     (sym so_far ∙ ap (λ xs. fields_equal_under s (fields xs) (fields qs)) p ∙ ap (λ ys. fields_equal_under s (fields ((n, t) ∷ ps')) (fields ys)) q)
 
-pub variants_turn : (s : NullabilityRule) (ps qs ps' qs' : List (List ℕ × Tree × ℕ)) (n m : List ℕ) (t u : Tree) (g h : ℕ) (r : Bool) → variants_equal_under s (variants ps) (variants qs) ≡ r → ps ≡ (n, t, g) ∷ ps' → qs ≡ (m, u, h) ∷ qs'
+pub variants_turn : (s : NullabilityRule) (ps qs ps' qs' : List (List ℕ × (Tree × ℕ))) (n m : List ℕ) (t u : Tree) (g h : ℕ) (r : Bool) → variants_equal_under s (variants ps) (variants qs) ≡ r → ps ≡ (n, (t, g)) ∷ ps' → qs ≡ (m, (u, h)) ∷ qs'
     → (bytes_eq n m ≡ false → r ≡ false) × (equal_under s t u ≡ false → r ≡ false) × ((g == h) ≡ false → r ≡ false)
     × (bytes_eq n m ≡ true → equal_under s t u ≡ true → (g == h) ≡ true → variants_equal_under s (variants ps') (variants qs') ≡ r)
 variants_turn s ps qs ps' qs' n m t u g h r so_far p q =
     four (bytes_eq n m) (equal_under s t u) (g == h) (variants_equal_under s (variants ps') (variants qs')) r
-    (sym so_far ∙ ap (λ xs. variants_equal_under s (variants xs) (variants qs)) p ∙ ap (λ ys. variants_equal_under s (variants ((n, t, g) ∷ ps')) (variants ys)) q)
+    (sym so_far ∙ ap (λ xs. variants_equal_under s (variants xs) (variants qs)) p ∙ ap (λ ys. variants_equal_under s (variants ((n, (t, g)) ∷ ps')) (variants ys)) q)
 
 -- where one side has nothing left, neither has the other, which is as long
 pub fields_end : (s : NullabilityRule) (ps qs : List (List ℕ × Tree)) (r : Bool) → fields_equal_under s (fields ps) (fields qs) ≡ r → length ps ≡ length qs → (ps ≡ []) ⊎ (qs ≡ []) → true ≡ r
@@ -89,7 +89,7 @@ fields_end s (p ∷ ps) [] r so_far even none = absurd (omega arith)
 fields_end s (p ∷ ps) (q ∷ qs) r so_far even (inl none) = cc
 fields_end s (p ∷ ps) (q ∷ qs) r so_far even (inr none) = cc
 
-pub variants_end : (s : NullabilityRule) (ps qs : List (List ℕ × Tree × ℕ)) (r : Bool) → variants_equal_under s (variants ps) (variants qs) ≡ r → length ps ≡ length qs → (ps ≡ []) ⊎ (qs ≡ []) → true ≡ r
+pub variants_end : (s : NullabilityRule) (ps qs : List (List ℕ × (Tree × ℕ))) (r : Bool) → variants_equal_under s (variants ps) (variants qs) ≡ r → length ps ≡ length qs → (ps ≡ []) ⊎ (qs ≡ []) → true ≡ r
 variants_end s [] [] r so_far even none = so_far
 variants_end s [] (q ∷ qs) r so_far even none = absurd (omega arith)
 variants_end s (p ∷ ps) [] r so_far even none = absurd (omega arith)
@@ -101,12 +101,12 @@ pub still_even : {X : Type 0} (ps qs ps' qs' : List X) (p q : X) → length ps �
 still_even ps qs ps' qs' p q even e f = omega (arith, ap length e, ap length f)
 
 -- a tag, and those after it
-consecutive_turn_suc : (vs : List (List ℕ × Tree × ℕ)) (i k g : ℕ) → i < length vs → g ≡ get_or (variant_tags vs) i g
+consecutive_turn_suc : (vs : List (List ℕ × (Tree × ℕ))) (i k g : ℕ) → i < length vs → g ≡ get_or (variant_tags vs) i g
     → consecutive k (variants (drop i vs)) ≡ ((g == k) && consecutive (k + 1) (variants (drop (suc i) vs)))
 consecutive_turn_suc [] i k g h e = absurd (omega arith)
 consecutive_turn_suc (v ∷ vs) zero k g h e = ap (λ z. (z == k) && consecutive (k + 1) (variants vs)) (sym e)
 consecutive_turn_suc (v ∷ vs) (suc i) k g h e = consecutive_turn_suc vs i k g (omega arith) e
 
-pub consecutive_turn : (vs : List (List ℕ × Tree × ℕ)) (i g : ℕ) → i < length vs → g ≡ get_or (variant_tags vs) i g
+pub consecutive_turn : (vs : List (List ℕ × (Tree × ℕ))) (i g : ℕ) → i < length vs → g ≡ get_or (variant_tags vs) i g
     → consecutive i (variants (drop i vs)) ≡ ((g == i) && consecutive (i + 1) (variants (drop (i + 1) vs)))
 consecutive_turn vs i g h e = consecutive_turn_suc vs i i g h e ∙ ap (λ j. (g == i) && consecutive (i + 1) (variants (drop j vs))) (sym (add-one i))

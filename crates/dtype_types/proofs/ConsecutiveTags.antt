@@ -12,25 +12,25 @@ use Rattle.dtype_types.specs.Text.{consecutive}
 use Rattle.dtype_types.specs.Tree.{Tree, variants}
 use Rattle.dtype_types.specs.Unions.{AreConsecutive}
 
-tags_from : (k : ℕ) (vs : List (List ℕ × Tree × ℕ)) → consecutive k (variants vs) ≡ true → variant_tags vs ≡ range_with_len k (length (variant_tags vs))
+tags_from : (k : ℕ) (vs : List (List ℕ × (Tree × ℕ))) → consecutive k (variants vs) ≡ true → variant_tags vs ≡ range_with_len k (length (variant_tags vs))
 tags_from k [] e = refl
 tags_from k (v ∷ vs) e =
     let h = both e in
-    ap (λ g. g ∷ variant_tags vs) ((Decides-eqb v.2 k).0 h.0) ∙ ap (λ gs. k ∷ gs) (tags_from (k + 1) vs h.1)
+    ap (λ g. g ∷ variant_tags vs) ((Decides-eqb v.1.1 k).0 h.0) ∙ ap (λ gs. k ∷ gs) (tags_from (k + 1) vs h.1)
 
-from_tags : (k : ℕ) (vs : List (List ℕ × Tree × ℕ)) → variant_tags vs ≡ range_with_len k (length (variant_tags vs)) → consecutive k (variants vs) ≡ true
+from_tags : (k : ℕ) (vs : List (List ℕ × (Tree × ℕ))) → variant_tags vs ≡ range_with_len k (length (variant_tags vs)) → consecutive k (variants vs) ≡ true
 from_tags k [] e = refl
 from_tags k (v ∷ vs) e =
-    let head : v.2 ≡ k = cc in
+    let head : v.1.1 ≡ k = cc in
     let rest : variant_tags vs ≡ range_with_len (k + 1) (length (variant_tags vs)) = cc in
-    join ((Decides-eqb v.2 k).1 head) (from_tags (k + 1) vs rest)
+    join ((Decides-eqb v.1.1 k).1 head) (from_tags (k + 1) vs rest)
 
 -- what the test says of the tags
-pub tested : (vs : List (List ℕ × Tree × ℕ)) (b : Bool) → b ≡ consecutive 0 (variants vs) → IsTrue b ↔ AreConsecutive (variant_tags vs)
+pub tested : (vs : List (List ℕ × (Tree × ℕ))) (b : Bool) → b ≡ consecutive 0 (variants vs) → IsTrue b ↔ AreConsecutive (variant_tags vs)
 tested vs b e = (λ yes. tags_from 0 vs (sym e ∙ yes), λ all. e ∙ from_tags 0 vs all)
 
 -- and what says that is the test
-pub told_by_test : (vs : List (List ℕ × Tree × ℕ)) (b : Bool) → (IsTrue b ↔ AreConsecutive (variant_tags vs)) → b ≡ consecutive 0 (variants vs)
+pub told_by_test : (vs : List (List ℕ × (Tree × ℕ))) (b : Bool) → (IsTrue b ↔ AreConsecutive (variant_tags vs)) → b ≡ consecutive 0 (variants vs)
 told_by_test vs true h = sym (from_tags 0 vs (h.0 refl))
 told_by_test vs false h = go (consecutive 0 (variants vs)) refl
   where

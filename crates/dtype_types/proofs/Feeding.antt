@@ -12,7 +12,7 @@ count_of_fields : (ps : List (List ℕ × Tree)) → field_count (fields ps) ≡
 count_of_fields [] = refl
 count_of_fields (p ∷ ps) = ap suc (count_of_fields ps)
 
-count_of_variants : (ps : List (List ℕ × Tree × ℕ)) → variant_count (variants ps) ≡ length ps
+count_of_variants : (ps : List (List ℕ × (Tree × ℕ))) → variant_count (variants ps) ≡ length ps
 count_of_variants [] = refl
 count_of_variants (p ∷ ps) = ap suc (count_of_variants ps)
 
@@ -25,7 +25,7 @@ module _ {S : Type 0} (write : S → List ℕ → S) (mode : HashMode) where
       sym (so_far ∙ ap (λ qs. fold write u (field_writes mode (fields qs))) none) ∙ ap (λ z. fold write z (field_writes mode (fields ps))) counted
       ∙ ap (λ j. fold write s (le_bytes 8 j ∷ field_writes mode (fields ps))) (e ∙ sym (count_of_fields ps))
 
-  pub variants_fed : (ps left : List (List ℕ × Tree × ℕ)) (k : ℕ) (s t u : S) → k ≡ length ps → t ≡ fold write s (le_bytes 8 k ∷ [])
+  pub variants_fed : (ps left : List (List ℕ × (Tree × ℕ))) (k : ℕ) (s t u : S) → k ≡ length ps → t ≡ fold write s (le_bytes 8 k ∷ [])
       → fold write t (variant_writes mode (variants ps)) ≡ fold write u (variant_writes mode (variants left)) → left ≡ []
       → u ≡ fold write s (le_bytes 8 (variant_count (variants ps)) ∷ variant_writes mode (variants ps))
   variants_fed ps left k s t u e counted so_far none =

@@ -6,15 +6,16 @@ use Rattle.std.proofs.Common.{◌≡◌, ℕ, List, [], ◌∷◌, map, length, 
 use Rattle.std.specs.List.{zip}
 use Rattle.std.proofs.lemmas.List.{length-map}
 use Rattle.std.proofs.lemmas.Simd.{map-map}
-use Rattle.dtype_types.specs.Lists.{firsts, seconds, zip_three, names_of, types_of, tags_of}
+use Rattle.std.specs.Map.{keys_of, values_of}
+use Rattle.dtype_types.specs.Lists.{types_of, tags_of}
 use Rattle.dtype_types.specs.Lookups.{field_names, field_types, variant_names, variant_types, variant_tags}
-use Rattle.dtype_types.specs.TreeOf.{tree, with_trees, with_tagged_trees, zip_tagged}
+use Rattle.dtype_types.specs.TreeOf.{tree, with_trees, with_tagged_trees}
 use Rattle.dtype_types.specs.declared.dtype.DType.{DType}
 
-pub names_shown : (ps : List (List ℕ × DType)) → field_names (with_trees ps) ≡ firsts ps
+pub names_shown : (ps : List (List ℕ × DType)) → field_names (with_trees ps) ≡ keys_of ps
 names_shown ps = map-map (λ p. p.0) _ ps
 
-pub types_shown : (ps : List (List ℕ × DType)) → field_types (with_trees ps) ≡ map tree (seconds ps)
+pub types_shown : (ps : List (List ℕ × DType)) → field_types (with_trees ps) ≡ map tree (values_of ps)
 types_shown ps = map-map (λ p. p.1) _ ps ∙ sym (map-map tree (λ p. p.1) ps)
 
 pub fields_shown : (ps : List (List ℕ × DType)) → length (with_trees ps) ≡ length ps
@@ -27,22 +28,22 @@ trees_zip (n ∷ ns) (d ∷ ds) = ap (λ ps. (n, tree d) ∷ ps) (trees_zip ns d
 
 pub ruleset fields = (names_shown, types_shown, fields_shown, trees_zip)
 
-pub variant_names_shown : (ps : List (List ℕ × (DType × ℕ))) → variant_names (with_tagged_trees ps) ≡ names_of ps
-variant_names_shown ps = map-map (λ v. v.0) _ _ ∙ map-map (λ v. v.0) _ ps
+pub variant_names_shown : (ps : List (List ℕ × (DType × ℕ))) → variant_names (with_tagged_trees ps) ≡ keys_of ps
+variant_names_shown ps = map-map (λ v. v.0) _ ps
 
 pub variant_types_shown : (ps : List (List ℕ × (DType × ℕ))) → variant_types (with_tagged_trees ps) ≡ map tree (types_of ps)
-variant_types_shown ps = map-map (λ v. v.1) _ _ ∙ map-map (λ v. v.1.0) _ ps ∙ sym (map-map tree (λ p. p.1.0) ps)
+variant_types_shown ps = map-map (λ v. v.1.0) _ ps ∙ sym (map-map tree (λ p. p.1.0) ps)
 
 pub variant_tags_shown : (ps : List (List ℕ × (DType × ℕ))) → variant_tags (with_tagged_trees ps) ≡ tags_of ps
-variant_tags_shown ps = map-map (λ v. v.2) _ _ ∙ map-map (λ v. v.1.1) _ ps
+variant_tags_shown ps = map-map (λ v. v.1.1) _ ps
 
 pub variants_shown : (ps : List (List ℕ × (DType × ℕ))) → length (with_tagged_trees ps) ≡ length ps
-variants_shown ps = length-map _ _ ∙ length-map ps _
+variants_shown ps = length-map ps _
 
-pub trees_three : (ns : List (List ℕ)) (ds : List DType) (gs : List ℕ) → with_tagged_trees (zip_three ns ds gs) ≡ zip_tagged ns (map tree ds) gs
+pub trees_three : (ns : List (List ℕ)) (ds : List DType) (gs : List ℕ) → with_tagged_trees (zip ns (zip ds gs)) ≡ zip ns (zip (map tree ds) gs)
 trees_three [] ds gs = refl
 trees_three (n ∷ ns) [] gs = refl
 trees_three (n ∷ ns) (d ∷ ds) [] = refl
-trees_three (n ∷ ns) (d ∷ ds) (g ∷ gs) = ap (λ ps. (n, tree d, g) ∷ ps) (trees_three ns ds gs)
+trees_three (n ∷ ns) (d ∷ ds) (g ∷ gs) = ap (λ ps. (n, (tree d, g)) ∷ ps) (trees_three ns ds gs)
 
 pub ruleset variants = (variant_names_shown, variant_types_shown, variant_tags_shown, variants_shown, trees_three)

@@ -12,7 +12,7 @@ use Rattle.dtype_base.specs.lemmas.Lookups.{first_of_place}
 use Rattle.dtype_base.specs.declared.vortex_error.VortexError.{VortexError}
 use Rattle.dtype_base.specs.declared.vortex_error.VortexError.TheVariants.{OutOfMemory}
 use Rattle.dtype_types.proofs.Parts.{names_shown, types_shown, trees_zip}
-use Rattle.dtype_types.specs.Lists.{firsts as names_held, seconds}
+use Rattle.std.specs.Map.{keys_of, values_of}
 use Rattle.dtype_types.specs.lemmas.Lookups.{field_at_place}
 use Rattle.dtype_types.specs.Lookups.{first_named, field_names, field_types, Projects}
 use Rattle.dtype_types.specs.Tree.{Tree}
@@ -79,19 +79,19 @@ copies_more ts us positions j i t within read here so_far =
 pub tree_read : (ds : List DType) (i : ℕ) (d : DType) → i < length ds → d ≡ get_or ds i d → slice_get (map tree ds) i ≡ Some (tree d)
 tree_read ds i d within read = slice_get-map tree ds i ∙ ap (option_map tree) (slice_get_read ds (length ds) i d refl within read)
 
-module _ (ps held : List (List ℕ × DType)) (asked : List (List ℕ)) (places : List ℕ) (same : held ≡ ps) (e : map Some places ≡ map (first_place (names_held held)) asked) where
-  shown_names : names_held held ≡ field_names (with_trees ps)
-  shown_names = ap names_held same ∙ sym (names_shown ps)
+module _ (ps held : List (List ℕ × DType)) (asked : List (List ℕ)) (places : List ℕ) (same : held ≡ ps) (e : map Some places ≡ map (first_place (keys_of held)) asked) where
+  shown_names : keys_of held ≡ field_names (with_trees ps)
+  shown_names = ap keys_of same ∙ sym (names_shown ps)
 
   shown_places : map Some places ≡ map (first_place (field_names (with_trees ps))) asked
   shown_places = e ∙ ap (λ ns. map (first_place ns) asked) shown_names
 
-  pub places_within : All (λ i. i < length (seconds ps)) places
-  places_within = firsts_within (with_trees ps) asked places (length (seconds ps)) (length-map (with_trees ps) _ ∙ length-map ps _ ∙ sym (length-map ps _)) shown_places
+  pub places_within : All (λ i. i < length (values_of ps)) places
+  places_within = firsts_within (with_trees ps) asked places (length (values_of ps)) (length-map (with_trees ps) _ ∙ length-map ps _ ∙ sym (length-map ps _)) shown_places
 
-  module _ (positions : List ℕ) (ds : List DType) (moved : positions ≡ places) (f : map Some (map tree ds) ≡ map (slice_get (map tree (seconds ps))) positions) where
+  module _ (positions : List ℕ) (ds : List DType) (moved : positions ≡ places) (f : map Some (map tree ds) ≡ map (slice_get (map tree (values_of ps))) positions) where
     shown_types : map Some (map tree ds) ≡ map (slice_get (field_types (with_trees ps))) places
-    shown_types = f ∙ ap (map (slice_get (map tree (seconds ps)))) moved ∙ ap (λ ts. map (slice_get ts) places) (sym (types_shown ps))
+    shown_types = f ∙ ap (map (slice_get (map tree (values_of ps)))) moved ∙ ap (λ ts. map (slice_get ts) places) (sym (types_shown ps))
 
     pub as_many_copies : length ds ≡ length asked
     as_many_copies = as_many_selected (with_trees ps) asked places ds shown_places shown_types
@@ -101,5 +101,5 @@ module _ (ps held : List (List ℕ × DType)) (asked : List (List ℕ)) (places 
         selected (with_trees ps) asked places ds (with_trees made) (ap with_trees put ∙ trees_zip names ds ∙ ap (λ ns. zip ns (map tree ds)) named) shown_places shown_types
 
 -- an error, where the names are those that a struct holds
-pub refused_of : (ps held : List (List ℕ × DType)) (asked : List (List ℕ)) (e : VortexError) → held ≡ ps → (e ≡ OutOfMemory) ⊎ SelectionError (names_held held) asked e → (e ≡ OutOfMemory) ⊎ SelectionError (field_names (with_trees ps)) asked e
-refused_of ps held asked e same h = subst (λ ns. (e ≡ OutOfMemory) ⊎ SelectionError ns asked e) (ap names_held same ∙ sym (names_shown ps)) h
+pub refused_of : (ps held : List (List ℕ × DType)) (asked : List (List ℕ)) (e : VortexError) → held ≡ ps → (e ≡ OutOfMemory) ⊎ SelectionError (keys_of held) asked e → (e ≡ OutOfMemory) ⊎ SelectionError (field_names (with_trees ps)) asked e
+refused_of ps held asked e same h = subst (λ ns. (e ≡ OutOfMemory) ⊎ SelectionError ns asked e) (ap keys_of same ∙ sym (names_shown ps)) h

@@ -2,10 +2,12 @@
 -- SPDX-FileCopyrightText: Copyright the Vortex contributors
 
 -- The sides of pairs and of triples that are made of lists of one length.
-use Rattle.std.proofs.Common.{◌≡◌, List, [], ◌∷◌, length, refl, ap, ◌∙◌, arith}
+use Rattle.std.proofs.Common.{◌≡◌, List, [], ◌∷◌, length, refl, ap, sym, ◌∙◌, arith}
 use Rattle.std.specs.List.{zip}
 use Rattle.std.proofs.lemmas.Slice.Zip.{firsts-zip, seconds-zip}
-use Rattle.dtype_types.specs.Lists.{firsts, seconds, zip_three, names_of, types_of, tags_of}
+use Rattle.std.proofs.lemmas.Simd.{map-map}
+use Rattle.std.specs.Map.{keys_of, values_of}
+use Rattle.dtype_types.specs.Lists.{types_of, tags_of}
 
 pub zip_count : {X Y : Type 0} (xs : List X) (ys : List Y) → length ys ≡ length xs → length (zip xs ys) ≡ length xs
 zip_count [] ys e = refl
@@ -13,46 +15,38 @@ zip_count (x ∷ xs) [] e = absurd (omega arith)
 zip_count (x ∷ xs) (y ∷ ys) e = omega (arith, zip_count xs ys (omega arith))
 
 -- the two sides of pairs, put together
-pub zip_sides : {X Y : Type 0} (ps : List (X × Y)) (xs : List X) (ys : List Y) → xs ≡ firsts ps → ys ≡ seconds ps → zip xs ys ≡ ps
-zip_sides ps xs ys e f = ap (λ ls. zip ls ys) e ∙ ap (zip (firsts ps)) f ∙ whole ps
+pub zip_sides : {X Y : Type 0} (ps : List (X × Y)) (xs : List X) (ys : List Y) → xs ≡ keys_of ps → ys ≡ values_of ps → zip xs ys ≡ ps
+zip_sides ps xs ys e f = ap (λ ls. zip ls ys) e ∙ ap (zip (keys_of ps)) f ∙ whole ps
   where
-    whole : {X Y : Type 0} (ps : List (X × Y)) → zip (firsts ps) (seconds ps) ≡ ps
+    whole : {X Y : Type 0} (ps : List (X × Y)) → zip (keys_of ps) (values_of ps) ≡ ps
     whole [] = refl
     whole (p ∷ ps) = ap (λ qs. p ∷ qs) (whole ps)
 
 pub ruleset pairs = (firsts-zip, seconds-zip, zip_count)
 
 module _ {N T G : Type 0} where
-  pub names_three : (ns : List N) (ts : List T) (gs : List G) → length ts ≡ length ns → length gs ≡ length ns → names_of (zip_three ns ts gs) ≡ ns
-  names_three [] ts gs e f = refl
-  names_three (n ∷ ns) [] gs e f = absurd (omega arith)
-  names_three (n ∷ ns) (t ∷ ts) [] e f = absurd (omega arith)
-  names_three (n ∷ ns) (t ∷ ts) (g ∷ gs) e f = ap (λ l. n ∷ l) (names_three ns ts gs (omega arith) (omega arith))
+  as_many : (ns : List N) (ts : List T) (gs : List G) → length ts ≡ length ns → length gs ≡ length ns → length (zip ts gs) ≡ length ns
+  as_many ns ts gs e f = zip_count ts gs (f ∙ sym e) ∙ e
 
-  pub types_three : (ns : List N) (ts : List T) (gs : List G) → length ts ≡ length ns → length gs ≡ length ns → types_of (zip_three ns ts gs) ≡ ts
-  types_three [] [] gs e f = refl
-  types_three [] (t ∷ ts) gs e f = absurd (omega arith)
-  types_three (n ∷ ns) [] gs e f = absurd (omega arith)
-  types_three (n ∷ ns) (t ∷ ts) [] e f = absurd (omega arith)
-  types_three (n ∷ ns) (t ∷ ts) (g ∷ gs) e f = ap (λ l. t ∷ l) (types_three ns ts gs (omega arith) (omega arith))
+  pub names_three : (ns : List N) (ts : List T) (gs : List G) → length ts ≡ length ns → length gs ≡ length ns → keys_of (zip ns (zip ts gs)) ≡ ns
+  names_three ns ts gs e f = firsts-zip ns (zip ts gs) (as_many ns ts gs e f)
 
-  pub tags_three : (ns : List N) (ts : List T) (gs : List G) → length ts ≡ length ns → length gs ≡ length ns → tags_of (zip_three ns ts gs) ≡ gs
-  tags_three [] ts [] e f = refl
-  tags_three [] ts (g ∷ gs) e f = absurd (omega arith)
-  tags_three (n ∷ ns) [] gs e f = absurd (omega arith)
-  tags_three (n ∷ ns) (t ∷ ts) [] e f = absurd (omega arith)
-  tags_three (n ∷ ns) (t ∷ ts) (g ∷ gs) e f = ap (λ l. g ∷ l) (tags_three ns ts gs (omega arith) (omega arith))
+  pub types_three : (ns : List N) (ts : List T) (gs : List G) → length ts ≡ length ns → length gs ≡ length ns → types_of (zip ns (zip ts gs)) ≡ ts
+  types_three ns ts gs e f =
+      sym (map-map (λ p. p.0) (λ p. p.1) (zip ns (zip ts gs))) ∙ ap keys_of (seconds-zip ns (zip ts gs) (as_many ns ts gs e f)) ∙ firsts-zip ts gs (f ∙ sym e)
 
-  pub count_three : (ns : List N) (ts : List T) (gs : List G) → length ts ≡ length ns → length gs ≡ length ns → length (zip_three ns ts gs) ≡ length ns
-  count_three [] ts gs e f = refl
-  count_three (n ∷ ns) [] gs e f = absurd (omega arith)
-  count_three (n ∷ ns) (t ∷ ts) [] e f = absurd (omega arith)
-  count_three (n ∷ ns) (t ∷ ts) (g ∷ gs) e f = omega (arith, count_three ns ts gs (omega arith) (omega arith))
+  pub tags_three : (ns : List N) (ts : List T) (gs : List G) → length ts ≡ length ns → length gs ≡ length ns → tags_of (zip ns (zip ts gs)) ≡ gs
+  tags_three ns ts gs e f =
+      sym (map-map (λ p. p.1) (λ p. p.1) (zip ns (zip ts gs))) ∙ ap values_of (seconds-zip ns (zip ts gs) (as_many ns ts gs e f)) ∙ seconds-zip ts gs (f ∙ sym e)
 
-  pub three_sides : (ps : List (N × (T × G))) (ns : List N) (ts : List T) (gs : List G) → ns ≡ names_of ps → ts ≡ types_of ps → gs ≡ tags_of ps → zip_three ns ts gs ≡ ps
-  three_sides ps ns ts gs e f h = ap (λ ms. zip_three ms ts gs) e ∙ ap (λ us. zip_three (names_of ps) us gs) f ∙ ap (zip_three (names_of ps) (types_of ps)) h ∙ whole ps
+  pub count_three : (ns : List N) (ts : List T) (gs : List G) → length ts ≡ length ns → length gs ≡ length ns → length (zip ns (zip ts gs)) ≡ length ns
+  count_three ns ts gs e f = zip_count ns (zip ts gs) (as_many ns ts gs e f)
+
+  pub three_sides : (ps : List (N × (T × G))) (ns : List N) (ts : List T) (gs : List G) → ns ≡ keys_of ps → ts ≡ types_of ps → gs ≡ tags_of ps → zip ns (zip ts gs) ≡ ps
+  three_sides ps ns ts gs e f h =
+      ap (λ ms. zip ms (zip ts gs)) e ∙ ap (λ us. zip (keys_of ps) (zip us gs)) f ∙ ap (λ hs. zip (keys_of ps) (zip (types_of ps) hs)) h ∙ whole ps
     where
-      whole : (ps : List (N × (T × G))) → zip_three (names_of ps) (types_of ps) (tags_of ps) ≡ ps
+      whole : (ps : List (N × (T × G))) → zip (keys_of ps) (zip (types_of ps) (tags_of ps)) ≡ ps
       whole [] = refl
       whole (p ∷ ps) = ap (λ qs. p ∷ qs) (whole ps)
 

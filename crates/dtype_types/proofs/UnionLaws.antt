@@ -9,7 +9,8 @@ use Rattle.dtype_base.specs.Bytes.{Bytes}
 use Rattle.dtype_base.specs.Distinct.{Distinct}
 use Rattle.dtype_types.specs.Valid.{Valid, ValidVariants, HasVariant}
 use Rattle.dtype_types.specs.TreeOf.{tree, with_tagged_trees}
-use Rattle.dtype_types.specs.Lists.{names_of, types_of, tags_of}
+use Rattle.std.specs.Map.{keys_of}
+use Rattle.dtype_types.specs.Lists.{types_of, tags_of}
 use Rattle.dtype_types.specs.Lookups.{variant_names, variant_types, variant_tags}
 use Rattle.dtype_types.specs.Tree.{variants}
 use Rattle.dtype_types.specs.declared.dtype.DType.{DType}
@@ -18,7 +19,7 @@ use Rattle.dtype_types.specs.lemmas.ValidLists.{valid_union_of}
 abbrev Triples : Type 0
 Triples = List (List ℕ × (DType × ℕ))
 
-same_names : (ps : Triples) → names_of ps ≡ variant_names (with_tagged_trees ps)
+same_names : (ps : Triples) → keys_of ps ≡ variant_names (with_tagged_trees ps)
 same_names [] = refl
 same_names (p ∷ ps) = ap (λ ns. p.0 ∷ ns) (same_names ps)
 
@@ -31,7 +32,7 @@ valid_types [] h = tt
 valid_types (p ∷ ps) h = (h.0, valid_types ps h.1)
 
 -- triples of these names, types and tags
-pub made_valid : (ps : Triples) (ns : List (List ℕ)) (ds : List DType) (gs : List ℕ) → names_of ps ≡ ns → types_of ps ≡ ds → tags_of ps ≡ gs
+pub made_valid : (ps : Triples) (ns : List (List ℕ)) (ds : List DType) (gs : List ℕ) → keys_of ps ≡ ns → types_of ps ≡ ds → tags_of ps ≡ gs
     → ns ≢ [] → Distinct gs → Distinct ns → All (λ g. g < 256) gs → All (λ d. Valid (tree d)) ds → HasVariant (variants (with_tagged_trees ps)) × ValidVariants (variants (with_tagged_trees ps))
 made_valid ps ns ds gs names types tags some apart_tags apart_names bytes valid =
     let vs = with_tagged_trees ps in

@@ -57,7 +57,7 @@ struct_fields (struct fs n) = Some (pairs fs)
 struct_fields _ = None
 
 -- the variants of a union
-abbrev pub union_variants : Tree → Option (List (List ℕ × Tree × ℕ))
+abbrev pub union_variants : Tree → Option (List (List ℕ × (Tree × ℕ)))
 union_variants (union vs n) = Some (triples vs)
 union_variants _ = None
 

@@ -6,7 +6,8 @@
 use Rattle.std.specs.Prelude.{ℕ, List, [], ◌∷◌, map, Option, Some, None, Bool as Flag}
 use Rattle.std.specs.Borrow.{Bor}
 use Rattle.dtype_base.specs.declared.nullability.Nullability.TheVariants.{NonNullable}
-use Rattle.dtype_types.specs.Lists.{seconds, types_of}
+use Rattle.std.specs.Map.{values_of}
+use Rattle.dtype_types.specs.Lists.{types_of}
 use Rattle.dtype_types.specs.Tree.{Tree, Fields, fields, Variants, variants, null, bool, primitive, decimal, utf8, binary, list, fixed_size_list, map_of, struct, union, variant, extension}
 use Rattle.dtype_types.specs.declared.dtype.DType.{DType}
 use Rattle.dtype_types.specs.declared.dtype.DType.TheOpen as o
@@ -16,17 +17,6 @@ use Rattle.dtype_types.specs.declared.struct_fields.StructFields.{StructFields}
 use Rattle.dtype_types.specs.declared.union_variants.UnionVariants.{UnionVariants}
 use Rattle.dtype_types.specs.declared.map.MapDType.{MapDType}
 use Rattle.dtype_types.specs.declared.extension.ExtDTypeRef.{ExtDTypeRef}
-
--- names, types and tags at the same places
-abbrev pub zip_tagged : List (List ℕ) → List Tree → List ℕ → List (List ℕ × Tree × ℕ)
-zip_tagged [] ts gs = []
-zip_tagged (n ∷ ns) [] gs = []
-zip_tagged (n ∷ ns) (t ∷ ts) [] = []
-zip_tagged (n ∷ ns) (t ∷ ts) (g ∷ gs) = (n, t, g) ∷ zip_tagged ns ts gs
-
--- a name, a type and a tag as a triple
-abbrev pub flat : {X : Type 0} → List ℕ × (X × ℕ) → List ℕ × X × ℕ
-flat p = (p.0, p.1.0, p.1.1)
 
 -- what a map and an extension hold, with the trees of their types
 abbrev pub MapParts : Type 0
@@ -61,7 +51,7 @@ abbrev pub struct_step : StructFields-F Tree ExtensionParts MapParts Fields Vari
 struct_step s = fields s.shared.value
 
 abbrev pub union_step : UnionVariants-F Tree ExtensionParts MapParts Fields Variants → Variants
-union_step u = variants (map flat u.shared.value)
+union_step u = variants u.shared.value
 
 -- the tree of a type
 abbrev pub tree : DType → Tree
@@ -79,16 +69,16 @@ children s = with_trees (struct_pairs s)
 
 -- the types of a struct's fields
 abbrev pub struct_dtypes : StructFields → List DType
-struct_dtypes s = seconds (struct_pairs s)
+struct_dtypes s = values_of (struct_pairs s)
 
 -- a union's variants, as it holds them and with the trees of their types
 abbrev pub union_triples : UnionVariants → List (List ℕ × (DType × ℕ))
 union_triples u = u.shared.value
 
-abbrev pub with_tagged_trees : List (List ℕ × (DType × ℕ)) → List (List ℕ × Tree × ℕ)
-with_tagged_trees ps = map flat (map (λ p. (p.0, (tree p.1.0, p.1.1))) ps)
+abbrev pub with_tagged_trees : List (List ℕ × (DType × ℕ)) → List (List ℕ × (Tree × ℕ))
+with_tagged_trees ps = map (λ p. (p.0, (tree p.1.0, p.1.1))) ps
 
-abbrev pub variant_list : UnionVariants → List (List ℕ × Tree × ℕ)
+abbrev pub variant_list : UnionVariants → List (List ℕ × (Tree × ℕ))
 variant_list u = with_tagged_trees (union_triples u)
 
 -- the types of a union's variants

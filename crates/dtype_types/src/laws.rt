@@ -138,7 +138,7 @@ pub fn types_made_of_valid_types_are_valid()
     ensures entries { (key value : Tree) → Valid key → Valid value → Valid (entries_of key value) }
     ensures structs { (fs : List (List ℕ × Tree)) (n : Nullability) → All Valid (field_types fs)
         → Valid (struct (fields fs) n) }
-    ensures unions { (vs : List (List ℕ × Tree × ℕ)) (n : Nullability)
+    ensures unions { (vs : List (List ℕ × (Tree × ℕ))) (n : Nullability)
         → MakesUnion (variant_names vs) (length vs) (variant_tags vs) → Bytes (variant_tags vs)
         → All Valid (variant_types vs) → Valid (union (variants vs) n) }
     ensures extensions { (id metadata : List ℕ) (t : Tree) → Bytes metadata → Valid t

@@ -3,11 +3,11 @@
 
 ghost use Rattle.std.specs.Prelude.{◌≡◌, ◌⊎◌, ◌↔◌, length, map, IsTrue, Some, MatchResult};
 ghost use Rattle.std.specs.List.{zip};
+ghost use Rattle.std.specs.Map.{keys_of, values_of};
 ghost use Rattle.dtype_base.specs.FieldNames.{SelectionError, first_place};
 ghost use Rattle.dtype_base.specs.Comparisons.{comparisons};
 ghost use Rattle.dtype_base.specs.declared.vortex_error.VortexError.TheVariants.{OutOfMemory};
 ghost use Rattle.dtype_base.specs.Distinct.{Distinct};
-ghost use Rattle.dtype_types.specs.Lists.{firsts, seconds};
 
 use dtype_base::{FieldName, FieldNames, IndexedNames, VortexResult};
 use std::alloc::Global;
@@ -47,14 +47,14 @@ impl<T> Named<T> {
 
     // The names, in order.
     pub(crate) fn names(&self) -> &FieldNames
-        ensures { result.now ≡ firsts self.now }
+        ensures { result.now ≡ keys_of self.now }
     {
         self.names.names()
     }
 
     // The types, in order.
     pub(crate) fn dtypes(&self) -> &[T]
-        ensures { result.now ≡ seconds self.now }
+        ensures { result.now ≡ values_of self.now }
     {
         &self.dtypes
     }
@@ -68,7 +68,7 @@ impl<T> Named<T> {
 
     // The position of the first name that is equal to this one, and the number of names that were compared.
     pub(crate) fn find_counted(&self, name: &str) -> (Option<usize>, u64)
-        ensures { result ≡ (first_place (firsts self.now) name.now, comparisons (length self.now)) }
+        ensures { result ≡ (first_place (keys_of self.now) name.now, comparisons (length self.now)) }
     {
         self.names.find_counted(name)
     }
@@ -80,15 +80,15 @@ impl<T> Named<T> {
         asked: &[FieldName],
     ) -> VortexResult<(IndexedNames, Vec<usize>)>
         ensures { MatchResult result
-            (λ s. (s.0 ≡ asked.now) × (map Some s.1.items ≡ map (first_place (firsts self.now)) asked.now))
-            (λ e. (e ≡ OutOfMemory) ⊎ SelectionError (firsts self.now) asked.now e) }
+            (λ s. (s.0 ≡ asked.now) × (map Some s.1.items ≡ map (first_place (keys_of self.now)) asked.now))
+            (λ e. (e ≡ OutOfMemory) ⊎ SelectionError (keys_of self.now) asked.now e) }
     {
         self.names.select(alloc, asked)
     }
 
     // Whether the names are distinct.
     pub(crate) fn are_distinct(&self) -> bool
-        ensures { IsTrue result ↔ Distinct (firsts self.now) }
+        ensures { IsTrue result ↔ Distinct (keys_of self.now) }
     {
         self.names.are_distinct()
     }

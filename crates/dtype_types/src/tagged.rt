@@ -2,7 +2,9 @@
 // SPDX-FileCopyrightText: Copyright the Vortex contributors
 
 ghost use Rattle.std.specs.Prelude.{◌≡◌, length};
-ghost use Rattle.dtype_types.specs.Lists.{zip_three, names_of, types_of, tags_of};
+ghost use Rattle.std.specs.List.{zip};
+ghost use Rattle.std.specs.Map.{keys_of};
+ghost use Rattle.dtype_types.specs.Lists.{types_of, tags_of};
 
 use dtype_base::FieldNames;
 use std::marker::Model;
@@ -19,13 +21,13 @@ pub(crate) struct Tagged<T> {
 impl<T> Model for Tagged<T> {
     ghost use Rattle.std.specs.Prelude.{◌≡◌, ℕ, List, length};
     ghost use Rattle.std.specs.Coded.{coded_list, coded×, coded_ℕ};
-    ghost use Rattle.dtype_types.specs.Lists.{zip_three};
+    ghost use Rattle.std.specs.List.{zip};
 
     ghost Value = { List (List ℕ × (T × ℕ)) };
 
     ghost coded = { coded_list (coded× (coded_list coded_ℕ) (coded× T.code coded_ℕ)) };
 
-    ghost view = { λ n. zip_three n.names n.dtypes.items n.tags.items };
+    ghost view = { λ n. zip n.names (zip n.dtypes.items n.tags.items) };
 
     ghost invariant = { λ n. (length n.dtypes.items ≡ length n.names) × (length n.tags.items ≡ length n.names) };
 }
@@ -36,7 +38,7 @@ impl<T> Tagged<T> {
     pub(crate) fn new(names: FieldNames, dtypes: Vec<T>, tags: Vec<u8>) -> Self
         requires dtypes { length dtypes.items ≡ length names }
         requires tags { length tags.items ≡ length names }
-        ensures { result ≡ zip_three names dtypes.items tags.items }
+        ensures { result ≡ zip names (zip dtypes.items tags.items) }
     {
         Tagged {
             names,
@@ -47,7 +49,7 @@ impl<T> Tagged<T> {
 
     // The names, in order.
     pub(crate) fn names(&self) -> &FieldNames
-        ensures { result.now ≡ names_of self.now }
+        ensures { result.now ≡ keys_of self.now }
     {
         &self.names
     }

@@ -2,7 +2,7 @@
 // SPDX-FileCopyrightText: Copyright the Vortex contributors
 
 ghost use Rattle.std.specs.Prelude.{◌≡◌, ◌≤◌, ◌<◌, ◌^◌, ◌↔◌, ◌==◌, ◌⊎◌, IsTrue, [], length, map, vec_len, position, slice_get, All, IfOk, IfErr, OnOk, Err, Some, false, fold, MatchResult};
-ghost use Rattle.std.specs.List.{IsDistinct, range_with_len};
+ghost use Rattle.std.specs.List.{IsDistinct, range_with_len, zip};
 ghost use Rattle.dtype_base.specs.Bytes.{Bytes};
 ghost use Rattle.dtype_base.specs.FieldNames.{first_place};
 ghost use Rattle.dtype_base.specs.declared.vortex_error.VortexError.TheVariants.{OutOfMemory, UnionTooMany};
@@ -86,7 +86,7 @@ impl UnionVariants {
     ghost use Rattle.dtype_types.specs.Erase.{erase};
     ghost use Rattle.dtype_types.specs.Lookups.{variant_named, variant_types, variant_names, variant_tags};
     ghost use Rattle.dtype_types.specs.HashesOf.{union_writes};
-    ghost use Rattle.dtype_types.specs.TreeOf.{tree, variants_of, variant_list, union_dtypes, union_triples, zip_tagged, shown, union_tree};
+    ghost use Rattle.dtype_types.specs.TreeOf.{tree, variants_of, variant_list, union_dtypes, union_triples, shown, union_tree};
     ghost use Rattle.dtype_types.specs.Valid.{Valid};
 
     /// Returns the union of these names, types and tags.
@@ -111,7 +111,7 @@ impl UnionVariants {
         type_ids: Vec<u8>,
     ) -> VortexResult<Self>
         ensures variants { IfOk result
-            (λ u. variant_list u ≡ zip_tagged names (map tree dtypes.items) type_ids.items) }
+            (λ u. variant_list u ≡ zip names (zip (map tree dtypes.items) type_ids.items)) }
         ensures valid { All (λ d. Valid (tree d)) dtypes.items → IfOk result (λ u. Valid (union_tree u)) }
 
         ensures accepted { OnOk result (MakesUnion names (vec_len dtypes) type_ids.items) }
@@ -132,7 +132,7 @@ impl UnionVariants {
     /// - Those of `try_new` with these tags.
     pub fn new(alloc: Global, names: FieldNames, dtypes: Vec<DType>) -> VortexResult<Self>
         ensures variants { IfOk result (λ u. variant_list u
-            ≡ zip_tagged names (map tree dtypes.items) (range_with_len 0 (length names))) }
+            ≡ zip names (zip (map tree dtypes.items) (range_with_len 0 (length names)))) }
         ensures valid { All (λ d. Valid (tree d)) dtypes.items → IfOk result (λ u. Valid (union_tree u)) }
 
         ensures accepted { OnOk result

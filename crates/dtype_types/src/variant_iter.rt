@@ -4,7 +4,8 @@
 ghost use Rattle.std.specs.Prelude.{◌≡◌, IfSome, Some, length};
 ghost use Rattle.std.specs.Iterator.{YieldsFirstBy, UpTo, item_count};
 ghost use Rattle.std.specs.Iterator.SizeHint.{IsWithinCount};
-ghost use Rattle.dtype_types.specs.Lists.{borrowed_triple, zip_three};
+ghost use Rattle.std.specs.List.{zip};
+ghost use Rattle.dtype_types.specs.Lists.{borrowed_triple};
 
 use crate::DType;
 use dtype_base::FieldName;
@@ -24,8 +25,8 @@ pub struct VariantIter<'a> {
 impl<'a> Model for VariantIter<'a> {
     ghost use Rattle.std.specs.Prelude.{◌≡◌, ℕ, List, length};
     ghost use Rattle.std.specs.Coded.{coded_list, coded×, coded_ℕ};
+    ghost use Rattle.std.specs.List.{zip};
     ghost use Rattle.std.specs.Slice.Iter.{iter_rest};
-    ghost use Rattle.dtype_types.specs.Lists.{zip_three};
     ghost use Rattle.dtype_types.specs.contracts.dtype.DType as dtype;
     ghost use Rattle.dtype_types.specs.declared.dtype.DType.{DType};
 
@@ -33,7 +34,7 @@ impl<'a> Model for VariantIter<'a> {
 
     ghost coded = { coded_list (coded× (coded_list coded_ℕ) (coded× dtype.the_row.coded coded_ℕ)) };
 
-    ghost view = { λ it. zip_three (iter_rest it.names) (iter_rest it.dtypes) (iter_rest it.tags) };
+    ghost view = { λ it. zip (iter_rest it.names) (zip (iter_rest it.dtypes) (iter_rest it.tags)) };
 
     ghost invariant = { λ it. (length (iter_rest it.dtypes) ≡ length (iter_rest it.names))
         × (length (iter_rest it.tags) ≡ length (iter_rest it.names)) };
@@ -44,7 +45,7 @@ impl<'a> VariantIter<'a> {
     pub(crate) fn new(names: &'a [FieldName], dtypes: &'a [DType], tags: &'a [u8]) -> Self
         requires dtypes { length dtypes.now ≡ length names.now }
         requires tags { length tags.now ≡ length names.now }
-        ensures { result ≡ zip_three names.now dtypes.now tags.now }
+        ensures { result ≡ zip names.now (zip dtypes.now tags.now) }
     {
         VariantIter {
             names: names.iter(),

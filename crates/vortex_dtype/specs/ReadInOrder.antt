@@ -16,7 +16,6 @@ use Rattle.dtype_base.specs.Nullability.{nullability_of}
 use Rattle.dtype_base.specs.Decimals.{Decimal, greatest_precision}
 use Rattle.dtype_types.specs.Tree as of
 use Rattle.dtype_types.specs.Tree.{Tree, fields, variants}
-use Rattle.dtype_types.specs.TreeOf.{zip_tagged}
 use Rattle.dtype_types.specs.Nullable.{nullability}
 use Rattle.dtype_messages.specs.Message.{Message, Child, Messages, missing, null, bool, primitive, decimal, utf8, binary, list, fixed_size_list, map_of, struct, union, variant, extension, absent, present, no_message, more}
 use Rattle.vortex_dtype.specs.Meaning.{Meaning, keeps, unkept_error}
@@ -72,7 +71,7 @@ repeats eq (x ∷ xs) = if list_any (eq x) xs then true else repeats eq xs
 unfoldable pub union_made : List (List ℕ) → List Tree → List ℕ → Nullability → Result Tree VortexError
 union_made ns ts gs n =
     if length ns == length ts then (if length ns == length gs then (if nat_eq (length ns) 0 then Err UnionEmpty else (if repeats nat_eq gs then Err UnionTagsRepeat else (if repeats bytes_eq ns then Err UnionNamesRepeat else
-    Ok (of.union (variants (zip_tagged ns ts gs)) n)))) else Err UnionTagsLength) else Err UnionTypesLength
+    Ok (of.union (variants (zip ns (zip ts gs))) n)))) else Err UnionTagsLength) else Err UnionTypesLength
 
 unfoldable pub union_read : List (List ℕ) → List Tree → List ℤ → Nullability → Result Tree VortexError
 union_read ns ts gs n = read_tags gs >>= λ tags. union_made ns ts tags n

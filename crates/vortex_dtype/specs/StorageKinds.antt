@@ -30,7 +30,7 @@ record Held : Type 0 where
   primitive : Option PType
   decimal : Option Decimal
   fields : Option (List (List ℕ × Tree))
-  variants : Option (List (List ℕ × Tree × ℕ))
+  variants : Option (List (List ℕ × (Tree × ℕ)))
   map : Option (Tree × Tree × Bool)
   element : Option Tree
   fixed_element : Option Tree

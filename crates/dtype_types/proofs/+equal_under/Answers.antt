@@ -5,7 +5,8 @@ use Rattle.std.proofs.Common.{sym, ap, ◌∙◌}
 use Rattle.std.specs.Iterator.Adapters.{zip_first, zip_second}
 use denote.Param.Weighed.{most}
 use Rattle.dtype_types.specs.Equality.{equal_under}
-use Rattle.dtype_types.specs.Lists.{seconds, types_of, borrowed_pair, borrowed_triple}
+use Rattle.std.specs.Map.{values_of}
+use Rattle.dtype_types.specs.Lists.{types_of, borrowed_pair, borrowed_triple}
 use Rattle.dtype_types.specs.TreeOf.{tree, children, variant_list, struct_dtypes, union_dtypes, with_trees, with_tagged_trees}
 use Rattle.dtype_types.specs.declared.dtype.DType.{size-DType}
 use Rattle.dtype_types.proofs.Depths.{no_deeper}
@@ -49,7 +50,7 @@ struct_fields::StructFields::equal_under-loop-name-preserved t c =
     record {
       agrees = turn.2 (not_false _ c.if-ne.ensures) (sym c.if-not-equal_under.ensures);
       even = still_even (zip_first it) (zip_second it) _ _ _ _ c.loop-name.invariant.even next.0 next.1;
-      within = no_deeper (most size-DType (struct_dtypes c.args.self.now)) (seconds (zip_first it)) (seconds (zip_first on)) c.in-Some.dtype.now (ap seconds next.0) c.loop-name.invariant.within;
+      within = no_deeper (most size-DType (struct_dtypes c.args.self.now)) (values_of (zip_first it)) (values_of (zip_first on)) c.in-Some.dtype.now (ap values_of next.0) c.loop-name.invariant.within;
     }
 
 pub struct_fields::StructFields::equal_under-returns : goal.struct_fields::StructFields::equal_under-returns

@@ -5,7 +5,8 @@ use Rattle.std.proofs.Common.{◌≡◌, ◌≤◌, length}
 use Rattle.std.specs.Iterator.Adapters.{zip_first, zip_second}
 use denote.Param.Weighed.{most}
 use Rattle.dtype_types.specs.Equality.{fields_equal_under, variants_equal_under}
-use Rattle.dtype_types.specs.Lists.{seconds, types_of}
+use Rattle.std.specs.Map.{values_of}
+use Rattle.dtype_types.specs.Lists.{types_of}
 use Rattle.dtype_types.specs.Tree.{fields, variants}
 use Rattle.dtype_types.specs.TreeOf.{struct_dtypes, fields_of, union_dtypes, variants_of, with_trees, with_tagged_trees}
 use Rattle.dtype_types.specs.declared.dtype.DType.{size-DType}
@@ -16,7 +17,7 @@ abbrev pub invariant-struct_fields::StructFields::equal_under-loop-name : goal.i
 invariant-struct_fields::StructFields::equal_under-loop-name l = record {
   agrees : fields_equal_under l.rule (fields (with_trees (zip_first l.name-iterator))) (fields (with_trees (zip_second l.name-iterator))) ≡ fields_equal_under l.rule (fields_of l.self) (fields_of l.other);
   even : length (zip_first l.name-iterator) ≡ length (zip_second l.name-iterator);
-  within : most size-DType (seconds (zip_first l.name-iterator)) ≤ most size-DType (struct_dtypes l.self);
+  within : most size-DType (values_of (zip_first l.name-iterator)) ≤ most size-DType (struct_dtypes l.self);
 }
 
 abbrev pub invariant-union_variants::UnionVariants::equal_under-loop-name : goal.invariant-union_variants::UnionVariants::equal_under-loop-name

@@ -4,7 +4,8 @@
 use Rattle.std.proofs.Common.{◌≡◌, ◌≤◌, fold}
 use denote.Param.Weighed.{most}
 use Rattle.dtype_types.specs.Hashes.{field_writes, variant_writes}
-use Rattle.dtype_types.specs.Lists.{seconds, types_of}
+use Rattle.std.specs.Map.{values_of}
+use Rattle.dtype_types.specs.Lists.{types_of}
 use Rattle.dtype_types.specs.Tree.{fields, variants}
 use Rattle.dtype_types.specs.TreeOf.{struct_dtypes, fields_of, union_dtypes, variants_of, with_trees, with_tagged_trees}
 use Rattle.dtype_types.specs.declared.dtype.DType.{size-DType}
@@ -14,7 +15,7 @@ use Rattle.dtype_types.proofs.+hash.Given as goal
 abbrev pub invariant-struct_fields::StructFields::hash_into-loop-name : goal.invariant-struct_fields::StructFields::hash_into-loop-name
 invariant-struct_fields::StructFields::hash_into-loop-name g l = record {
   fed : fold g.H.Hasher.write l.initial.state (field_writes l.mode (fields_of l.self)) ≡ fold g.H.Hasher.write l.state (field_writes l.mode (fields (with_trees l.name-iterator)));
-  within : most size-DType (seconds l.name-iterator) ≤ most size-DType (struct_dtypes l.self);
+  within : most size-DType (values_of l.name-iterator) ≤ most size-DType (struct_dtypes l.self);
 }
 
 abbrev pub invariant-union_variants::UnionVariants::hash_into-loop-name : goal.invariant-union_variants::UnionVariants::hash_into-loop-name

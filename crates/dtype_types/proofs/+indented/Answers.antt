@@ -14,7 +14,8 @@ use Rattle.dtype_types.specs.IndentedText.{indented, indented_braces, indented_f
 use Rattle.dtype_types.specs.Text.{joined}
 use Rattle.dtype_types.specs.Tree.{fields}
 use Rattle.dtype_types.specs.TreeOf.{tree, children, struct_dtypes, fields_of, with_trees}
-use Rattle.dtype_types.specs.Lists.{seconds, borrowed_pair}
+use Rattle.std.specs.Map.{values_of}
+use Rattle.dtype_types.specs.Lists.{borrowed_pair}
 use Rattle.dtype_types.specs.declared.dtype.DType.{size-DType}
 use Rattle.dtype_types.proofs.+indented.Goals as goal
 use Rattle.dtype_types.proofs.+indented.Goals.{struct_fields::StructFields::write_indented-then-nfields-gt0+in_ok-push_str-2, struct_fields::StructFields::write_indented-else-nfields-gt0}
@@ -41,7 +42,7 @@ struct_fields::StructFields::write_indented-loop-name-preserved t c =
     ∙ indented_named start separator inner n d in
     let rest = indented_fields inner (fields (with_trees c.next.new.self)) in record {
       utf8 = search rules;
-      within = no_deeper (most size-DType (struct_dtypes c.args.self.now)) (seconds c.loop-name.name-iterator) (seconds c.next.new.self) c.in-Some.dtype.now (ap seconds next) c.loop-name.invariant.within;
+      within = no_deeper (most size-DType (struct_dtypes c.args.self.now)) (values_of c.loop-name.name-iterator) (values_of c.next.new.self) c.in-Some.dtype.now (ap values_of next) c.loop-name.invariant.within;
       written = ap (λ xs. xs ++ leading (codes ",\n") (codes ",\n") rest) ended ∙ one_written (codes ",\n") separator start _ x _ rest c.loop-name.invariant.written (ap (λ ps. indented_fields inner (fields (with_trees ps))) next);
     }
 

@@ -13,7 +13,8 @@ use Rattle.dtype_types.proofs.Walks.{next_of, none_of}
 use Rattle.dtype_types.proofs.Texts.{map_all, struct_all, union_all, extension_all, leading, leading_all, one_written, all_written, named_text, tagged_text}
 use Rattle.dtype_types.specs.Tree.{fields, variants}
 use Rattle.dtype_types.specs.Text.{text, bool_text, field_texts, choice_texts, consecutive, tag_text}
-use Rattle.dtype_types.specs.Lists.{seconds, types_of, borrowed_pair, borrowed_triple}
+use Rattle.std.specs.Map.{values_of}
+use Rattle.dtype_types.specs.Lists.{types_of, borrowed_pair, borrowed_triple}
 use Rattle.dtype_types.specs.TreeOf.{variant_list, struct_dtypes, fields_of, union_dtypes, variants_of, tree, with_trees, with_tagged_trees}
 use Rattle.dtype_types.specs.declared.dtype.DType.{size-DType}
 use Rattle.dtype_types.specs.TextOf.{map_text, struct_text, union_text, extension_text}
@@ -62,7 +63,7 @@ struct_fields::StructFieldsDisplay::fmt-loop-name-init g t c = record {
 pub struct_fields::StructFieldsDisplay::fmt-loop-name-preserved : goal.struct_fields::StructFieldsDisplay::fmt-loop-name-preserved
 struct_fields::StructFieldsDisplay::fmt-loop-name-preserved g t c = record {
   utf8 = search rules;
-  within = no_deeper (most size-DType (struct_dtypes c.args.self.now)) (seconds c.loop-name.name-iterator) (seconds c.next.new.self) c.in-Some.dtype.now (ap seconds (next_of borrowed_pair c.loop-name.name-iterator c.next.new.self c.next.result (c.in-Some.name, c.in-Some.dtype) c.in-Some.is c.next.ensures.steps)) c.loop-name.invariant.within;
+  within = no_deeper (most size-DType (struct_dtypes c.args.self.now)) (values_of c.loop-name.name-iterator) (values_of c.next.new.self) c.in-Some.dtype.now (ap values_of (next_of borrowed_pair c.loop-name.name-iterator c.next.new.self c.next.result (c.in-Some.name, c.in-Some.dtype) c.in-Some.is c.next.ensures.steps)) c.loop-name.invariant.within;
   written = λ plain.
       let n = escaped c.in-Some.name.now in
       let d = text (tree c.in-Some.dtype.now) in

@@ -10,7 +10,8 @@ use Rattle.dtype_types.proofs.Texts.{leading}
 use Rattle.dtype_types.specs.Text.{field_texts, choice_texts, consecutive}
 use Rattle.dtype_types.specs.Tree.{fields, variants}
 use Rattle.dtype_types.specs.TreeOf.{struct_dtypes, fields_of, union_dtypes, variants_of, with_trees, with_tagged_trees}
-use Rattle.dtype_types.specs.Lists.{seconds, types_of}
+use Rattle.std.specs.Map.{values_of}
+use Rattle.dtype_types.specs.Lists.{types_of}
 use Rattle.dtype_types.specs.declared.dtype.DType.{size-DType}
 use Rattle.dtype_types.proofs.+text.Given as goal
 
@@ -18,7 +19,7 @@ use Rattle.dtype_types.proofs.+text.Given as goal
 abbrev pub invariant-struct_fields::StructFieldsDisplay::fmt-loop-name : goal.invariant-struct_fields::StructFieldsDisplay::fmt-loop-name
 invariant-struct_fields::StructFieldsDisplay::fmt-loop-name g l = record {
   utf8 : shadow (Utf8 l.separator);
-  within : most size-DType (seconds l.name-iterator) ≤ most size-DType (struct_dtypes l.self);
+  within : most size-DType (values_of l.name-iterator) ≤ most size-DType (struct_dtypes l.self);
   written : IsPlainFormatter l.initial.f → (done : List ℕ) × HasWritten g.W.Write.write_str_gives l.initial.f done l.f
       × (done ++ leading l.separator (codes ", ") (field_texts (fields (with_trees l.name-iterator))) ≡ leading [] (codes ", ") (field_texts (fields_of l.self)));
 }

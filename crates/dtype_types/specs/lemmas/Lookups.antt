@@ -40,21 +40,21 @@ no_field_at_place fs n e = sym (field_named-none fs n (absent_of_place (field_na
 
 -- ---- variants
 
-variant_named-at : (vs : List (List ℕ × Tree × ℕ)) (n : List ℕ) (i : ℕ) → slice_get (variant_names vs) i ≡ Some n → ((k : ℕ) → k < i → slice_get (variant_names vs) k ≢ Some n) → variant_named vs n ≡ slice_get (variant_types vs) i
+variant_named-at : (vs : List (List ℕ × (Tree × ℕ))) (n : List ℕ) (i : ℕ) → slice_get (variant_names vs) i ≡ Some n → ((k : ℕ) → k < i → slice_get (variant_names vs) k ≢ Some n) → variant_named vs n ≡ slice_get (variant_types vs) i
 variant_named-at [] n zero here first = cc
 variant_named-at [] n (suc i) here first = cc
 variant_named-at (v ∷ vs) n zero here first = taken_same_name v.0 n _ _ (same_Some v.0 n here)
 variant_named-at (v ∷ vs) n (suc i) here first =
     other_name v.0 n _ _ (λ e. first 0 (omega arith) (ap Some e)) ∙ variant_named-at vs n i here (λ k h. first (suc k) (omega (arith, h)))
 
-variant_named-none : (vs : List (List ℕ × Tree × ℕ)) (n : List ℕ) → IsAbsent (variant_names vs) n → variant_named vs n ≡ None
+variant_named-none : (vs : List (List ℕ × (Tree × ℕ))) (n : List ℕ) → IsAbsent (variant_names vs) n → variant_named vs n ≡ None
 variant_named-none [] n none = refl
 variant_named-none (v ∷ vs) n none = other_name v.0 n _ _ (λ e. none 0 (ap Some e)) ∙ variant_named-none vs n (λ k. none (suc k))
 
-pub variant_at_place : (vs : List (List ℕ × Tree × ℕ)) (n : List ℕ) (i : ℕ) → Some i ≡ first_place (variant_names vs) n → slice_get (variant_types vs) i ≡ variant_named vs n
+pub variant_at_place : (vs : List (List ℕ × (Tree × ℕ))) (n : List ℕ) (i : ℕ) → Some i ≡ first_place (variant_names vs) n → slice_get (variant_types vs) i ≡ variant_named vs n
 variant_at_place vs n i e = let at = first_of_place (variant_names vs) n i e in sym (variant_named-at vs n i at.here at.first)
 
-pub no_variant_at_place : (vs : List (List ℕ × Tree × ℕ)) (n : List ℕ) → None ≡ first_place (variant_names vs) n → None ≡ variant_named vs n
+pub no_variant_at_place : (vs : List (List ℕ × (Tree × ℕ))) (n : List ℕ) → None ≡ first_place (variant_names vs) n → None ≡ variant_named vs n
 no_variant_at_place vs n e = sym (variant_named-none vs n (absent_of_place (variant_names vs) n e))
 
 pub ruleset lookups = (field_at_place, no_field_at_place, variant_at_place, no_variant_at_place)

@@ -49,7 +49,7 @@ position_of_tag u h i tag here =
 
 pub position_within : (u : UnionVariants) (f : ℕ → Bool) (r : Option ℕ) → r ≡ position f (variant_tags (variant_list u)) → IfSome r (λ i. i < length (variant_list u))
 position_within u f None e = tt
-position_within u f (Some i) e = omega (arith, (position-Some f (variant_tags (variant_list u)) i 0 (sym e)).0, length-map (variant_list u) (λ c. c.2))
+position_within u f (Some i) e = omega (arith, (position-Some f (variant_tags (variant_list u)) i 0 (sym e)).0, length-map (variant_list u) (λ c. c.1.1))
 
 -- the tag read at a place
 pub tag_read : (gs hs : List ℕ) (i : ℕ) → hs ≡ gs → i < length gs → slice_get gs i ≡ Some (get_or hs i 0)

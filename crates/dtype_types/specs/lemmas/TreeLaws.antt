@@ -47,7 +47,7 @@ tree_union u n = search (rules, the_lemmas, fold_out-DType, fold-roll-DType, fol
 pub tree_extension : (e : ExtDTypeRef) → tree (Extension e) ≡ extension_tree e
 tree_extension e = search (rules, the_lemmas, fold_out-DType, fold-roll-DType, fold_out-ExtDTypeRef)
 
-pub triples_variants : (ps : List (List ℕ × Tree × ℕ)) → triples (variants ps) ≡ ps
+pub triples_variants : (ps : List (List ℕ × (Tree × ℕ))) → triples (variants ps) ≡ ps
 triples_variants [] = refl
 triples_variants (p ∷ ps) = ap (λ qs. p ∷ qs) (triples_variants ps)
 

@@ -13,7 +13,7 @@ use Rattle.dtype_base.specs.declared.nullability.Nullability.TheVariants.{NonNul
 use Rattle.dtype_types.specs.FieldTypes.{given_fields, field_tree}
 use Rattle.dtype_types.specs.Valid.{Valid, ValidFields, ValidVariants}
 use Rattle.dtype_types.specs.TreeOf.{tree, extension_tree, map_tree, union_tree, struct_tree, map_shown, struct_pairs, union_triples, children, variant_list, with_trees, with_tagged_trees, shown}
-use Rattle.dtype_types.specs.Lists.{seconds}
+use Rattle.std.specs.Map.{values_of}
 use Rattle.dtype_types.specs.Lookups.{first_named, variant_named, field_types, variant_types}
 use Rattle.dtype_types.specs.Maps.{entries_of}
 use Rattle.dtype_types.specs.Nullable.{nullability, set_null}
@@ -58,7 +58,7 @@ valid_extension d e is h = subst Valid (ap tree is ∙ tree_extension e) h
 
 -- ---- fields and variants, and their types
 
-pub fields_of_types : (ps : List (List ℕ × DType)) → AllByRecursion (λ d. Valid (tree d)) (seconds ps) → ValidFields (fields (with_trees ps))
+pub fields_of_types : (ps : List (List ℕ × DType)) → AllByRecursion (λ d. Valid (tree d)) (values_of ps) → ValidFields (fields (with_trees ps))
 fields_of_types [] h = tt
 fields_of_types (p ∷ ps) h = (h.0, fields_of_types ps h.1)
 
@@ -124,21 +124,21 @@ named_field_valid s n None e h = tt
 named_field_valid s n (Some d) e h = valid_named (children s) n (tree d.now) h e
 
 -- the type of a variant, at its place and by its name
-valid_variant_of : (vs : List (List ℕ × Tree × ℕ)) (i : ℕ) (t : Tree) → slice_get (variant_types vs) i ≡ Some t → ValidVariants (variants vs) → Valid t
+valid_variant_of : (vs : List (List ℕ × (Tree × ℕ))) (i : ℕ) (t : Tree) → slice_get (variant_types vs) i ≡ Some t → ValidVariants (variants vs) → Valid t
 valid_variant_of [] i t e h = cc
-valid_variant_of (v ∷ vs) zero t e h = subst Valid (same_Some v.1 t e) h.0
+valid_variant_of (v ∷ vs) zero t e h = subst Valid (same_Some v.1.0 t e) h.0
 valid_variant_of (v ∷ vs) (suc i) t e h = valid_variant_of vs i t e h.4
 
 pub variant_valid : (u : UnionVariants) (i : ℕ) (r : Option (Bor DType)) → shown tree r ≡ slice_get (variant_types (variant_list u)) i → Valid (union_tree u) → IfSome r (λ d. Valid (tree d.now))
 variant_valid u i None e h = tt
 variant_valid u i (Some d) e h = valid_variant_of (variant_list u) i (tree d.now) (sym e) h.1
 
-valid_by_name : (vs : List (List ℕ × Tree × ℕ)) (n : List ℕ) (t : Tree) → ValidVariants (variants vs) → Some t ≡ variant_named vs n → Valid t
+valid_by_name : (vs : List (List ℕ × (Tree × ℕ))) (n : List ℕ) (t : Tree) → ValidVariants (variants vs) → Some t ≡ variant_named vs n → Valid t
 valid_by_name [] n t h e = cc
 valid_by_name (v ∷ vs) n t h e = go (bytes_eq v.0 n) e (λ f. valid_by_name vs n t h.4 f)
   where
-    go : (b : Bool) → Some t ≡ cond b (Some v.1) (variant_named vs n) → (Some t ≡ variant_named vs n → Valid t) → Valid t
-    go true e later = subst Valid (same_Some v.1 t (sym e)) h.0
+    go : (b : Bool) → Some t ≡ cond b (Some v.1.0) (variant_named vs n) → (Some t ≡ variant_named vs n → Valid t) → Valid t
+    go true e later = subst Valid (same_Some v.1.0 t (sym e)) h.0
     go false e later = later e
 
 pub named_variant_valid : (u : UnionVariants) (n : List ℕ) (r : Option (Bor DType)) → shown tree r ≡ variant_named (variant_list u) n → Valid (union_tree u) → IfSome r (λ d. Valid (tree d.now))
@@ -166,7 +166,7 @@ field_types_each (p ∷ ps) h = (h.0, field_types_each ps h.1)
 pub field_types_valid : (s : StructFields) → Valid (struct_tree s) → All Valid (field_types (children s))
 field_types_valid s h = All-from_recursion Valid (field_types (children s)) (field_types_each (children s) h)
 
-variant_types_each : (vs : List (List ℕ × Tree × ℕ)) → ValidVariants (variants vs) → AllByRecursion Valid (variant_types vs)
+variant_types_each : (vs : List (List ℕ × (Tree × ℕ))) → ValidVariants (variants vs) → AllByRecursion Valid (variant_types vs)
 variant_types_each [] h = tt
 variant_types_each (v ∷ vs) h = (h.0, variant_types_each vs h.4)
 

@@ -18,7 +18,7 @@ use Rattle.dtype_messages.specs.lemmas.Equality.{dtype_Decides, part_Decides, pa
 use Rattle.dtype_types.specs.EqualityLaws.{equal_under-Decides, same_dtype}
 use Rattle.dtype_types.specs.FieldTypes.{field_tree, same_field_dtype}
 use Rattle.dtype_types.specs.PartsEquality.{same_extension, same_map, same_struct, same_union}
-use Rattle.dtype_types.specs.TreeOf.{children, choices, extension_tree, map_shown, shown, tree}
+use Rattle.dtype_types.specs.TreeOf.{children, variant_list, extension_tree, map_shown, shown, tree}
 use Rattle.dtype_types.specs.declared.dtype.DType.{DType}
 use Rattle.dtype_types.specs.declared.extension.ExtDTypeRef.{ExtDTypeRef}
 use Rattle.dtype_types.specs.declared.field_dtype.FieldDType.{FieldDType}
@@ -40,7 +40,7 @@ types_differ a b = differ (same_dtype a b) (equal_under-Decides (tree a) (tree b
 pub structs_differ : (a b : StructFields) → Decides (not (same_struct a b)) (children a ≢ children b)
 structs_differ a b = differ (same_struct a b) (structs_Decides a b)
 
-pub unions_differ : (a b : UnionVariants) → Decides (not (same_union a b)) (choices a ≢ choices b)
+pub unions_differ : (a b : UnionVariants) → Decides (not (same_union a b)) (variant_list a ≢ variant_list b)
 unions_differ a b = differ (same_union a b) (unions_Decides a b)
 
 pub maps_differ : (a b : MapDType) → Decides (not (same_map a b)) (map_shown a ≢ map_shown b)

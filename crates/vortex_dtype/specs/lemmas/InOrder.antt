@@ -28,7 +28,7 @@ use Rattle.dtype_base.specs.declared.vortex_error.VortexError.{VortexError}
 use Rattle.dtype_base.specs.declared.vortex_error.VortexError.TheVariants.{MapKeyNullable, UnionTypesLength, UnionTagsLength, UnionEmpty, UnionTagsRepeat, UnionNamesRepeat, Message as Faulty}
 use Rattle.dtype_base.specs.declared.vortex_error.MessageFault.{MessageFault}
 use Rattle.dtype_base.specs.declared.vortex_error.MessageFault.TheVariants.{TypeMissing, PrimitiveNumber, PrecisionRange, ScaleRange, ListElementMissing, FixedElementMissing, MapKeyMissing, MapValueMissing, StructLengths, TypeIdRange, StorageMissing}
-use Rattle.dtype_types.specs.TreeOf.{tree, zip_tagged}
+use Rattle.dtype_types.specs.TreeOf.{tree}
 use Rattle.dtype_types.specs.Valid.{Valid}
 use Rattle.dtype_types.specs.declared.dtype.DType.{DType}
 use Rattle.vortex_dtype.specs.IsMessage.{AreTags}
@@ -199,13 +199,13 @@ record MadeUnion (ns : List (List ℕ)) (ts : List Tree) (gs : List ℤ) (tags :
   some : ns ≢ []
   apart_tags : Distinct gs
   apart_names : Distinct ns
-  is : t ≡ of.union (variants (zip_tagged ns ts tags)) n
+  is : t ≡ of.union (variants (zip ns (zip ts tags))) n
 
 union_reads : (ns : List (List ℕ)) (ts : List Tree) (gs : List ℤ) (n : Nullability) (t : Tree) → union_read ns ts gs n ≡ Ok t → (tags : List ℕ) × MadeUnion ns ts gs tags n t
 unfolding union_read union_made
 union_reads ns ts gs n t e =
     let a = bind_ok (read_tags gs) _ t e in
-    let c = chain_ok (length ns == length ts) (length ns == length a.0) (nat_eq (length ns) 0) (repeats nat_eq a.0) (repeats bytes_eq ns) (of.union (variants (zip_tagged ns ts a.0)) n) t a.2 in (
+    let c = chain_ok (length ns == length ts) (length ns == length a.0) (nat_eq (length ns) 0) (repeats nat_eq a.0) (repeats bytes_eq ns) (of.union (variants (zip ns (zip ts a.0))) n) t a.2 in (
       a.0,
       record {
         read = a.1;
@@ -244,8 +244,8 @@ more_read s (n ∷ ns) m ms ts x xs e r h rest =
 
 more_variants : (s : Meaning) (ns : List (List ℕ)) (m : Message) (ms : Messages) (gs : List ℤ) (ts : List Tree) (tags : List ℕ) (x : Tree) (xs : List Tree) → ts ≡ x ∷ xs → Reads s m x → read_tags gs ≡ Ok tags
     → length ns ≡ length ts → length ns ≡ length tags
-    → ((ns' : List (List ℕ)) (gs' : List ℤ) (tags' : List ℕ) → read_tags gs' ≡ Ok tags' → length ns' ≡ length xs → length ns' ≡ length tags' → ReadsVariants s ns' ms gs' (variants (zip_tagged ns' xs tags')))
-    → ReadsVariants s ns (more m ms) gs (variants (zip_tagged ns ts tags))
+    → ((ns' : List (List ℕ)) (gs' : List ℤ) (tags' : List ℕ) → read_tags gs' ≡ Ok tags' → length ns' ≡ length xs → length ns' ≡ length tags' → ReadsVariants s ns' ms gs' (variants (zip ns' (zip xs tags'))))
+    → ReadsVariants s ns (more m ms) gs (variants (zip ns (zip ts tags)))
 unfolding read_tags
 more_variants s [] m ms gs ts tags x xs e r f h l rest = absurd (omega (arith, h, ap length e))
 more_variants s (n ∷ ns) m ms [] ts tags x xs e r f h l rest = absurd (omega (arith, l, ap length (ok_is [] tags f)))
@@ -255,11 +255,11 @@ more_variants s (n ∷ ns) m ms (g ∷ gs) ts tags x xs e r f h l rest =
     let is : tags ≡ a.0 ∷ b.0 = ok_is (a.0 ∷ b.0) tags b.2 in (
       x,
       a.0,
-      variants (zip_tagged ns xs b.0),
+      variants (zip ns (zip xs b.0)),
       r,
       fault_is_some (Faulty TypeIdRange) (integer_byte g) a.0 a.1,
       rest ns gs b.0 b.1 (omega (arith, h, ap length e)) (omega (arith, l, ap length is)),
-      ap (λ us. variants (zip_tagged (n ∷ ns) us tags)) e ∙ ap (λ us. variants (zip_tagged (n ∷ ns) (x ∷ xs) us)) is,
+      ap (λ us. variants (zip (n ∷ ns) (zip us tags))) e ∙ ap (λ us. variants (zip (n ∷ ns) (zip (x ∷ xs) us))) is,
     )
 
 mutual
@@ -292,7 +292,7 @@ mutual
       let b = bind_ok (read_all s ms) _ t e in
       let g = union_reads ns b.0 gs (nullability_of f) t b.2 in
       let u = g.1 in
-      (variants (zip_tagged ns b.0 g.0), all_variants s ns ms gs b.0 g.0 b.1 u.read u.types_count u.tags_count, u.some, u.apart_tags, u.apart_names, u.is)
+      (variants (zip ns (zip b.0 g.0)), all_variants s ns ms gs b.0 g.0 b.1 u.read u.types_count u.tags_count, u.some, u.apart_tags, u.apart_names, u.is)
   read_reads s (variant f) t e = ok_is (of.variant (nullability_of f)) t e
   read_reads s (extension id c b) t e =
       let a = bind_ok (read_child s StorageMissing c) _ t e in
@@ -312,7 +312,7 @@ mutual
       more_read s ns m ms ts a.0 b.0 (ok_is (a.0 ∷ b.0) ts b.2) (read_reads s m a.0 a.1) h (λ ns' k. all_read s ns' ms b.0 b.1 k)
 
   all_variants : (s : Meaning) (ns : List (List ℕ)) (ms : Messages) (gs : List ℤ) (ts : List Tree) (tags : List ℕ) → read_all s ms ≡ Ok ts → read_tags gs ≡ Ok tags → length ns ≡ length ts → length ns ≡ length tags
-      → ReadsVariants s ns ms gs (variants (zip_tagged ns ts tags))
+      → ReadsVariants s ns ms gs (variants (zip ns (zip ts tags)))
   all_variants s [] no_message [] ts tags e f h l = refl
   all_variants s [] no_message (g ∷ gs) ts tags e f h l = absurd (omega (arith, l, tags_count (g ∷ gs) tags f))
   all_variants s (n ∷ ns) no_message gs ts tags e f h l = let g : [] ≡ ts = sym (ok_is [] ts e) in absurd (omega (arith, h, ap length g))

@@ -22,7 +22,7 @@ use Rattle.std.specs.formers.vec.Vec as vec
 use Rattle.std.specs.declared.alloc.Global.{Global}
 use Rattle.std.specs.contracts.alloc.Global as heap
 use Rattle.std.specs.contracts.impls.GlobalAllocator.TheImpl.{ghosts}
-use Rattle.dtype_types.specs.Lists.{seconds}
+use Rattle.std.specs.Map.{values_of}
 use Rattle.dtype_types.specs.declared.named.Named.TheInside.{Inside}
 use Rattle.dtype_types.specs.declared.named.Named.TheView.{view, invariant}
 use Rattle.dtype_types.specs.contracts.named.Named as C
@@ -37,25 +37,25 @@ entry g = pair (const Name) g
 abbrev on_value : {X Y : Type 0} → (X → Y) → Name × X → Name × Y
 on_value h p = (p.0, h p.1)
 
-most_seconds : {Y : Type 0} (f : Y → ℕ) (es : List (Name × Y)) → most (λ p. max 0 (f p.1)) es ≡ most f (seconds es)
-most_seconds f [] = refl
-most_seconds f (e ∷ es) = λ i. max (sym (none_max (f e.1)) i) (most_seconds f es i)
+most_values : {Y : Type 0} (f : Y → ℕ) (es : List (Name × Y)) → most (λ p. max 0 (f p.1)) es ≡ most f (values_of es)
+most_values f [] = refl
+most_values f (e ∷ es) = λ i. max (sym (none_max (f e.1)) i) (most_values f es i)
 
 pub entries_puts : {g : Former {0}} (w : Weighed g) (X : Type 0) (μ : X → ℕ) (es : List (Name × g.Of X)) (n : Count) (t : Row X n)
-    → deepest μ (list_count (entry g) (map ((entry g).shape X) es) n) (list_put (entry g) X es n t) ≡ max (most (w.weight X μ) (seconds es)) (deepest μ n t)
-entries_puts w X μ es n t = List-puts (w_pair (w_const Name) w) X μ es n t ∙ ap (λ a. max a (deepest μ n t)) (most_seconds (w.weight X μ) es)
+    → deepest μ (list_count (entry g) (map ((entry g).shape X) es) n) (list_put (entry g) X es n t) ≡ max (most (w.weight X μ) (values_of es)) (deepest μ n t)
+entries_puts w X μ es n t = List-puts (w_pair (w_const Name) w) X μ es n t ∙ ap (λ a. max a (deepest μ n t)) (most_values (w.weight X μ) es)
 
 abbrev pub the_former : Former {0} → Former {0}
 the_former g = list (entry g)
 
 abbrev pub the_weighed : {g : Former {0}} → Weighed g → Weighed (the_former g)
-the_weighed w = record { weight = λ X μ d. most (w.weight X μ) (seconds d); puts = λ X μ d. entries_puts w X μ d }
+the_weighed w = record { weight = λ X μ d. most (w.weight X μ) (values_of d); puts = λ X μ d. entries_puts w X μ d }
 
 pub the_empty : List (Name × ⊥)
 the_empty = []
 
 abbrev pub the_items : (X : Type 0) → List (Name × X) → List X
-the_items X d = seconds d
+the_items X d = values_of d
 
 pub the_items_listed : (X : Type 0) (d : List (Name × X)) → listed _ (children (the_former this) X d) ≡ the_items X d
 the_items_listed X [] = refl

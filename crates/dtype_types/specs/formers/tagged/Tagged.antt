@@ -23,7 +23,8 @@ use Rattle.std.specs.formers.vec.Vec as vec
 use Rattle.std.specs.declared.alloc.Global.{Global}
 use Rattle.std.specs.contracts.alloc.Global as heap
 use Rattle.std.specs.contracts.impls.GlobalAllocator.TheImpl.{ghosts}
-use Rattle.dtype_types.specs.Lists.{zip_three, types_of}
+use Rattle.std.specs.List.{zip}
+use Rattle.dtype_types.specs.Lists.{types_of}
 use Rattle.dtype_types.specs.declared.tagged.Tagged.TheInside.{Inside}
 use Rattle.dtype_types.specs.declared.tagged.Tagged.TheView.{view, invariant}
 use Rattle.dtype_types.specs.contracts.tagged.Tagged as C
@@ -68,13 +69,13 @@ the_items_listed X (p ∷ ps) = ap (λ l. p.1.0 ∷ l) (the_items_listed X ps)
 abbrev fields : Former {0}
 fields = via (pair (const (List Name)) (pair (vec.the_former this Global) (const (Vec ℕ Global)))) Inside (λ X a. (a.names, (a.dtypes, a.tags))) (λ X v. record { names = v.0; dtypes = v.1.0; tags = v.1.1 }) (λ X a. refl) (λ X v. refl)
 
-zip-map : {X Y : Type 0} (h : X → Y) (ks : List Name) (vs : List X) (gs : List ℕ) → zip_three ks (map h vs) gs ≡ map (on_type h) (zip_three ks vs gs)
+zip-map : {X Y : Type 0} (h : X → Y) (ks : List Name) (vs : List X) (gs : List ℕ) → zip ks (zip (map h vs) gs) ≡ map (on_type h) (zip ks (zip vs gs))
 zip-map h [] vs gs = refl
 zip-map h (k ∷ ks) [] gs = refl
 zip-map h (k ∷ ks) (v ∷ vs) [] = refl
 zip-map h (k ∷ ks) (v ∷ vs) (g ∷ gs) = ap (λ l. (k, (h v, g)) ∷ l) (zip-map h ks vs gs)
 
-zip-held : (X : Type 0) (ks : List Name) (vs : List X) (gs : List ℕ) → length vs ≡ length ks → length gs ≡ length ks → held (list (entry this)) X (zip_three ks vs gs) ≡ held (list this) X vs
+zip-held : (X : Type 0) (ks : List Name) (vs : List X) (gs : List ℕ) → length vs ≡ length ks → length gs ≡ length ks → held (list (entry this)) X (zip ks (zip vs gs)) ≡ held (list this) X vs
 zip-held X [] [] gs e f = refl
 zip-held X [] (v ∷ vs) gs e f = absurd (omega arith)
 zip-held X (k ∷ ks) [] gs e f = absurd (omega arith)

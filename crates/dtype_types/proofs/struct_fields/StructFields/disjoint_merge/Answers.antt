@@ -4,7 +4,7 @@
 use Rattle.std.proofs.Common.{inr, refl, sym, ap, subst, ◌∙◌}
 use Rattle.std.proofs.lemmas.Bool.{false≢true}
 use Rattle.dtype_base.specs.Distinct.{Distinct}
-use Rattle.dtype_types.specs.Lists.{firsts}
+use Rattle.std.specs.Map.{keys_of}
 use Rattle.dtype_types.specs.Lookups.{field_names}
 use Rattle.dtype_types.specs.Tree.{fields}
 use Rattle.dtype_types.specs.TreeOf.{children, struct_pairs}
@@ -19,14 +19,14 @@ returns-then-not-are_distinct-clause-fields c = inr (
   refl,
   λ d.
       let made = c.in_ok-merged.ensures ∙ both_put (children c.args.self.now) (children c.args.other.now) _ _ _ c.in_ok-fields.ensures c.in_ok-fields-2.ensures c.in_ok-push_copies.ensures in
-      let names = ap field_names (sym made) ∙ names_shown (struct_pairs c.in_ok-merged.merged) ∙ ap firsts (sym c.deref.ensures) in
+      let names = ap field_names (sym made) ∙ names_shown (struct_pairs c.in_ok-merged.merged) ∙ ap keys_of (sym c.deref.ensures) in
       false≢true (c.if-not-are_distinct.ensures.1 (subst (λ ns. Distinct ns) names d)),
 )
 
 pub returns-clause-distinct : goal.returns-clause-distinct
 returns-clause-distinct c = λ yes.
     let made = c.in_ok-merged.ensures ∙ both_put (children c.args.self.now) (children c.args.other.now) _ _ _ c.in_ok-fields.ensures c.in_ok-fields-2.ensures c.in_ok-push_copies.ensures in
-    let names = ap field_names (sym made) ∙ names_shown (struct_pairs c.in_ok-merged.merged) ∙ ap firsts (sym c.deref.ensures) in
+    let names = ap field_names (sym made) ∙ names_shown (struct_pairs c.in_ok-merged.merged) ∙ ap keys_of (sym c.deref.ensures) in
     subst (λ ns. Distinct ns) (sym names) (c.if-not-are_distinct.ensures.0 yes)
 
 pub returns-clause-valid : goal.returns-clause-valid

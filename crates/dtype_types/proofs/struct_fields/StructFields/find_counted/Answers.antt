@@ -7,14 +7,14 @@ use Rattle.dtype_base.specs.FieldNames.{first_place}
 use Rattle.dtype_base.specs.Comparisons.{comparisons}
 use Rattle.dtype_base.specs.lemmas.Lookups.{most_compared, found_compared}
 use Rattle.dtype_types.proofs.Parts.{names_shown}
-use Rattle.dtype_types.specs.Lists.{firsts}
+use Rattle.std.specs.Map.{keys_of}
 use Rattle.dtype_types.specs.TreeOf.{struct_pairs, tree, children}
 use Rattle.dtype_types.specs.Lookups.{field_names}
 use Rattle.dtype_types.proofs.struct_fields.StructFields.find_counted.Goals as goal
 
 pub returns-clause-first : goal.returns-clause-first
 returns-clause-first c =
-    let names = names_shown (struct_pairs c.args.self.now) ∙ ap firsts (sym c.deref.ensures) in
+    let names = names_shown (struct_pairs c.args.self.now) ∙ ap keys_of (sym c.deref.ensures) in
     ap (λ r. r.0) c.find_counted.ensures ∙ ap (λ ns. first_place ns c.args.name.now) (sym names)
 
 pub returns-clause-count : goal.returns-clause-count

@@ -15,7 +15,7 @@ use Rattle.dtype_types.specs.Lookups.{variant_tags}
 pub returns-then-from-i : goal.returns-then-from-i
 returns-then-from-i c =
     let u = c.args.self.now in
-    let e = consecutive_turn (variant_list u) c.loop-i.i (get_or c.type_ids-tags.result.now c.loop-i.i 0) (omega arith) (tag_at (variant_tags (variant_list u)) _ c.loop-i.i c.type_ids-tags.ensures (omega (arith, length-map (variant_list u) (λ v. v.2)))) in
+    let e = consecutive_turn (variant_list u) c.loop-i.i (get_or c.type_ids-tags.result.now c.loop-i.i 0) (omega arith) (tag_at (variant_tags (variant_list u)) _ c.loop-i.i c.type_ids-tags.ensures (omega (arith, length-map (variant_list u) (λ v. v.1.1)))) in
     tested (variant_list u) false (sym (sym c.loop-i.invariant ∙ e ∙ and_first _ _ (tags_differ (get_or c.type_ids-tags.result.now c.loop-i.i 0) c.loop-i.i (omega arith))))
 
 pub returns : goal.returns
@@ -27,5 +27,5 @@ returns c =
 pub loop-i-preserved : goal.loop-i-preserved
 loop-i-preserved c =
     let u = c.args.self.now in
-    let e = consecutive_turn (variant_list u) c.loop-i.i (get_or c.type_ids-tags.result.now c.loop-i.i 0) (omega arith) (tag_at (variant_tags (variant_list u)) _ c.loop-i.i c.type_ids-tags.ensures (omega (arith, length-map (variant_list u) (λ v. v.2)))) in
+    let e = consecutive_turn (variant_list u) c.loop-i.i (get_or c.type_ids-tags.result.now c.loop-i.i 0) (omega arith) (tag_at (variant_tags (variant_list u)) _ c.loop-i.i c.type_ids-tags.ensures (omega (arith, length-map (variant_list u) (λ v. v.1.1)))) in
     sym (e ∙ and_both _ _ (tags_same (get_or c.type_ids-tags.result.now c.loop-i.i 0) c.loop-i.i (omega arith))) ∙ c.loop-i.invariant

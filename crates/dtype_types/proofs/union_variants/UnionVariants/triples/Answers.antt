@@ -2,7 +2,8 @@
 -- SPDX-FileCopyrightText: Copyright the Vortex contributors
 
 use Rattle.std.proofs.Common.{ap, ◌∙◌}
-use Rattle.dtype_types.specs.Lists.{names_of, types_of, tags_of}
+use Rattle.std.specs.Map.{keys_of}
+use Rattle.dtype_types.specs.Lists.{types_of, tags_of}
 use Rattle.dtype_types.specs.TreeOf.{union_triples}
 use Rattle.dtype_types.proofs.Sides.{three_sides}
 use Rattle.dtype_types.proofs.union_variants.UnionVariants.triples.Goals as goal
@@ -10,4 +11,4 @@ use Rattle.dtype_types.proofs.union_variants.UnionVariants.triples.Goals as goal
 pub returns-clause-lent : goal.returns-clause-lent
 returns-clause-lent c =
     c.new.ensures
-    ∙ three_sides (union_triples c.args.self.now) _ _ _ (c.as_slice.ensures ∙ c.names.ensures ∙ ap names_of c.deref.ensures) (c.dtypes.ensures ∙ ap types_of c.deref-2.ensures) (c.tags.ensures ∙ ap tags_of c.deref-3.ensures)
+    ∙ three_sides (union_triples c.args.self.now) _ _ _ (c.as_slice.ensures ∙ c.names.ensures ∙ ap keys_of c.deref.ensures) (c.dtypes.ensures ∙ ap types_of c.deref-2.ensures) (c.tags.ensures ∙ ap tags_of c.deref-3.ensures)

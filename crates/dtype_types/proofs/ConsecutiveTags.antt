@@ -4,9 +4,8 @@
 -- The test of tags that are 0, 1, 2 and so on.
 use Rattle.std.proofs.Common.{◌≡◌, ◌↔◌, ℕ, ◌+◌, List, [], ◌∷◌, Bool, true, false, IsTrue, length, refl, sym, ap, ◌∙◌}
 use Rattle.std.specs.List.{range_with_len}
-use Rattle.std.proofs.lemmas.Bool.{false≢true}
+use Rattle.std.proofs.lemmas.Bool.{false≢true, and_parts, and_from}
 use Rattle.std.proofs.lemmas.Bool.Decides.{Decides-eqb}
-use Rattle.dtype_types.specs.EqualityLaws.{both, join}
 use Rattle.dtype_types.specs.Lookups.{variant_tags}
 use Rattle.dtype_types.specs.Text.{consecutive}
 use Rattle.dtype_types.specs.Tree.{Tree, variants}
@@ -15,7 +14,7 @@ use Rattle.dtype_types.specs.Unions.{AreConsecutive}
 tags_from : (k : ℕ) (vs : List (List ℕ × (Tree × ℕ))) → consecutive k (variants vs) ≡ true → variant_tags vs ≡ range_with_len k (length (variant_tags vs))
 tags_from k [] e = refl
 tags_from k (v ∷ vs) e =
-    let h = both e in
+    let h = and_parts _ _ e in
     ap (λ g. g ∷ variant_tags vs) ((Decides-eqb v.1.1 k).0 h.0) ∙ ap (λ gs. k ∷ gs) (tags_from (k + 1) vs h.1)
 
 from_tags : (k : ℕ) (vs : List (List ℕ × (Tree × ℕ))) → variant_tags vs ≡ range_with_len k (length (variant_tags vs)) → consecutive k (variants vs) ≡ true
@@ -23,7 +22,7 @@ from_tags k [] e = refl
 from_tags k (v ∷ vs) e =
     let head : v.1.1 ≡ k = cc in
     let rest : variant_tags vs ≡ range_with_len (k + 1) (length (variant_tags vs)) = cc in
-    join ((Decides-eqb v.1.1 k).1 head) (from_tags (k + 1) vs rest)
+    and_from _ _ ((Decides-eqb v.1.1 k).1 head) (from_tags (k + 1) vs rest)
 
 -- what the test says of the tags
 pub tested : (vs : List (List ℕ × (Tree × ℕ))) (b : Bool) → b ≡ consecutive 0 (variants vs) → IsTrue b ↔ AreConsecutive (variant_tags vs)

@@ -7,7 +7,7 @@ use Rattle.dtype_base.specs.Nullability.{nullability_text}
 use Rattle.dtype_base.specs.declared.nullability.Nullability.{Nullability}
 use Rattle.dtype_types.specs.lemmas.TreeLaws.{tree_struct}
 use Rattle.dtype_types.specs.IndentedText.{indented, indented_fields, indented_braces, last_line}
-use Rattle.dtype_types.specs.Text.{joined}
+use Rattle.std.specs.List.{join_by}
 use Rattle.dtype_types.specs.Tree.{Tree, fields}
 use Rattle.dtype_types.specs.TreeOf.{tree, fields_of}
 use Rattle.dtype_types.specs.declared.dtype.DType.{DType, Struct}
@@ -28,11 +28,11 @@ ends_none (p ∷ ps) h = absurd (omega arith)
 
 -- all that is written of fields, put together
 pub braces_of : (before indent : List ℕ) (ps : List (List ℕ × Tree)) (last : List ℕ) → last ≡ last_line (fields ps)
-    → ((before ++ codes "{\n") ++ joined (codes ",\n") (indented_fields (indent ++ codes "  ") (fields ps))) ++ (last ++ (indent ++ codes "}")) ≡ before ++ indented_braces indent (fields ps)
+    → ((before ++ codes "{\n") ++ join_by (λ t. t) (codes ",\n") (indented_fields (indent ++ codes "  ") (fields ps))) ++ (last ++ (indent ++ codes "}")) ≡ before ++ indented_braces indent (fields ps)
 unfolding indented_braces
 braces_of before indent ps last e =
     let parts = indented_fields (indent ++ codes "  ") (fields ps) in
-    simp append_assoc (ap (λ (l : List ℕ). before ++ (codes "{\n" ++ (joined (codes ",\n") parts ++ (l ++ (indent ++ codes "}"))))) e)
+    simp append_assoc (ap (λ (l : List ℕ). before ++ (codes "{\n" ++ (join_by (λ t. t) (codes ",\n") parts ++ (l ++ (indent ++ codes "}"))))) e)
 
 -- what stands before a field, its indentation, its name and its type, put together
 pub indented_named : (before separator indent n t : List ℕ) → (before ++ (separator ++ (indent ++ (n ++ codes "=")))) ++ t ≡ before ++ (separator ++ (indent ++ (n ++ (codes "=" ++ t))))

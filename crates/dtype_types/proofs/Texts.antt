@@ -3,10 +3,11 @@
 
 -- Texts in the form in which they are written.
 use Rattle.std.proofs.Common.{◌≡◌, ℕ, List, [], ◌∷◌, ◌++◌, codes, refl, sym, ap, ◌∙◌, append_assoc, Bool}
+use Rattle.std.specs.List.{flat_map, join_by}
 use Rattle.std.proofs.lemmas.List.{append-nil}
 use Rattle.dtype_base.specs.declared.nullability.Nullability.{Nullability}
 use Rattle.dtype_base.specs.Nullability.{nullability_text}
-use Rattle.dtype_types.specs.Text.{text, joined, preceded, tag_text}
+use Rattle.dtype_types.specs.Text.{text, tag_text}
 use Rattle.dtype_types.specs.TextOf.{map_text, struct_text, union_text, extension_text}
 use Rattle.dtype_types.specs.TreeOf.{tree}
 use Rattle.dtype_types.specs.lemmas.TreeLaws.{tree_struct, tree_map, tree_union, tree_extension}
@@ -36,18 +37,22 @@ extension_all x d e = sym (ap (λ z. text (tree z)) e ∙ ap text (tree_extensio
 
 -- ---- texts that are left, the first behind what separates it from those before it
 
+-- texts, each behind what separates it
+abbrev preceded : List ℕ → List (List ℕ) → List ℕ
+preceded sep xs = flat_map (λ x. sep ++ x) xs
+
 abbrev pub leading : List ℕ → List ℕ → List (List ℕ) → List ℕ
 leading first sep [] = []
 leading first sep (x ∷ xs) = first ++ (x ++ preceded sep xs)
 
 -- before the first there is nothing to separate
-pub leading_all : (sep : List ℕ) (xs : List (List ℕ)) → leading [] sep xs ≡ joined sep xs
+pub leading_all : (sep : List ℕ) (xs : List (List ℕ)) → leading [] sep xs ≡ join_by (λ t. t) sep xs
 leading_all sep [] = refl
 leading_all sep (x ∷ xs) = refl
 
 leading_more : (sep : List ℕ) (xs : List (List ℕ)) → leading sep sep xs ≡ preceded sep xs
 leading_more sep [] = refl
-leading_more sep (x ∷ xs) = refl
+leading_more sep (x ∷ xs) = sym (append_assoc sep x (preceded sep xs))
 
 -- one more is written, behind what separates it
 pub one_written : (sep first done all x : List ℕ) (left rest : List (List ℕ)) → done ++ leading first sep left ≡ all → left ≡ x ∷ rest → (done ++ (first ++ x)) ++ leading sep sep rest ≡ all

@@ -9,7 +9,7 @@ use Rattle.std.proofs.Common.{ap, sym, ◌∙◌, subst}
 use Rattle.std.proofs.Math.Bool.{beq}
 use Rattle.std.specs.Cmp.{booleans_Decides, signed_Decides, IsEquivalence, decided, on_equiv}
 use Rattle.std.specs.Str.{bytes_eq}
-use Rattle.std.proofs.lemmas.Bool.{false≢true}
+use Rattle.std.proofs.lemmas.Bool.{false≢true, and_parts, and_from}
 use Rattle.std.proofs.lemmas.Bool.Decides.{Decides-eqb}
 use Rattle.std.proofs.lemmas.Slice.Eq.{bytes_eq-Decides}
 use Rattle.dtype_base.specs.declared.nullability.Nullability.{Nullability}
@@ -60,51 +60,44 @@ same_decimal d e p s =
     let second : record { precision = e.precision; scale = d.scale } ≡ e = ap (λ x. record { precision = e.precision; scale = x }) s in
     first ∙ second
 
-pub both : {x y : Bool} → (x && y) ≡ true → (x ≡ true) × (y ≡ true)
-both {x = true} e = (refl, e)
-both {x = false} e = absurd (false≢true e)
-
-pub join : {x y : Bool} → x ≡ true → y ≡ true → (x && y) ≡ true
-join {y = y} p q = ap (λ b. b && y) p ∙ q
-
 mutual
   pub equal_under-same : (a b : Tree) → equal_under Compared a b ≡ true → a ≡ b
   equal_under-same null null e = refl
   equal_under-same (bool m) (bool n) e = ap bool (allows-same m n e)
   equal_under-same (primitive p m) (primitive q n) e =
-      let h = both e in ap (λ r. primitive r m) (same_ptype-same p q h.0) ∙ ap (primitive q) (allows-same m n h.1)
+      let h = and_parts _ _ e in ap (λ r. primitive r m) (same_ptype-same p q h.0) ∙ ap (primitive q) (allows-same m n h.1)
   equal_under-same (decimal p m) (decimal q n) e =
-      let h = both e in let g = both h.0 in
+      let h = and_parts _ _ e in let g = and_parts _ _ h.0 in
       ap (λ r. decimal r m) (same_decimal p q ((Decides-eqb p.precision q.precision).0 g.0) ((signed_Decides p.scale q.scale).0 g.1)) ∙ ap (decimal q) (allows-same m n h.1)
   equal_under-same (utf8 m) (utf8 n) e = ap utf8 (allows-same m n e)
   equal_under-same (binary m) (binary n) e = ap binary (allows-same m n e)
   equal_under-same (variant m) (variant n) e = ap variant (allows-same m n e)
-  equal_under-same (list t m) (list u n) e = let h = both e in ap (λ r. list r m) (equal_under-same t u h.1) ∙ ap (list u) (allows-same m n h.0)
+  equal_under-same (list t m) (list u n) e = let h = and_parts _ _ e in ap (λ r. list r m) (equal_under-same t u h.1) ∙ ap (list u) (allows-same m n h.0)
   equal_under-same (fixed_size_list t j m) (fixed_size_list u k n) e =
-      let h = both e in let g = both h.0 in
+      let h = and_parts _ _ e in let g = and_parts _ _ h.0 in
       ap (λ r. fixed_size_list r j m) (equal_under-same t u h.1) ∙ ap (λ r. fixed_size_list u r m) ((Decides-eqb j k).0 g.1) ∙ ap (fixed_size_list u k) (allows-same m n g.0)
   equal_under-same (map_of t v a m) (map_of u w b n) e =
-      let h = both e in let g = both h.1 in let f = both g.0 in
+      let h = and_parts _ _ e in let g = and_parts _ _ h.1 in let f = and_parts _ _ g.0 in
       ap (λ r. map_of r v a m) (equal_under-same t u f.0) ∙ ap (λ r. map_of u r a m) (equal_under-same v w f.1)
       ∙ ap (λ r. map_of u w r m) ((booleans_Decides a b).0 g.1) ∙ ap (map_of u w b) (allows-same m n h.0)
-  equal_under-same (struct fs m) (struct gs n) e = let h = both e in ap (λ r. struct r m) (fields_equal_under-same fs gs h.1) ∙ ap (struct gs) (allows-same m n h.0)
-  equal_under-same (union fs m) (union gs n) e = let h = both e in ap (λ r. union r m) (variants_equal_under-same fs gs h.1) ∙ ap (union gs) (allows-same m n h.0)
+  equal_under-same (struct fs m) (struct gs n) e = let h = and_parts _ _ e in ap (λ r. struct r m) (fields_equal_under-same fs gs h.1) ∙ ap (struct gs) (allows-same m n h.0)
+  equal_under-same (union fs m) (union gs n) e = let h = and_parts _ _ e in ap (λ r. union r m) (variants_equal_under-same fs gs h.1) ∙ ap (union gs) (allows-same m n h.0)
   equal_under-same (extension i a t) (extension j b u) e =
-      let h = both e in let g = both h.0 in
+      let h = and_parts _ _ e in let g = and_parts _ _ h.0 in
       ap (λ r. extension r a t) ((bytes_eq-Decides i j).0 g.0) ∙ ap (λ r. extension j r t) ((bytes_eq-Decides a b).0 g.1) ∙ ap (extension j b) (equal_under-same t u h.1)
   equal_under-same _ _ e = absurd (false≢true e)
 
   pub fields_equal_under-same : (a b : Fields) → fields_equal_under Compared a b ≡ true → a ≡ b
   fields_equal_under-same no_fields no_fields e = refl
   fields_equal_under-same (field m t fs) (field n u gs) e =
-      let h = both e in let g = both h.0 in
+      let h = and_parts _ _ e in let g = and_parts _ _ h.0 in
       ap (λ r. field r t fs) ((bytes_eq-Decides m n).0 g.0) ∙ ap (λ r. field n r fs) (equal_under-same t u g.1) ∙ ap (field n u) (fields_equal_under-same fs gs h.1)
   fields_equal_under-same _ _ e = absurd (false≢true e)
 
   pub variants_equal_under-same : (a b : Variants) → variants_equal_under Compared a b ≡ true → a ≡ b
   variants_equal_under-same no_variants no_variants e = refl
   variants_equal_under-same (choice m t g fs) (choice n u h gs) e =
-      let p = both e in let q = both p.0 in let r = both q.0 in
+      let p = and_parts _ _ e in let q = and_parts _ _ p.0 in let r = and_parts _ _ q.0 in
       ap (λ z. choice z t g fs) ((bytes_eq-Decides m n).0 r.0) ∙ ap (λ z. choice n z g fs) (equal_under-same t u r.1) ∙ ap (λ z. choice n u z fs) ((Decides-eqb g h).0 q.1) ∙ ap (choice n u h) (variants_equal_under-same fs gs p.1)
   variants_equal_under-same _ _ e = absurd (false≢true e)
 
@@ -115,25 +108,25 @@ mutual
   pub equal_under_refl : (s : NullabilityRule) (a : Tree) → equal_under s a a ≡ true
   equal_under_refl s null = refl
   equal_under_refl s (bool m) = allows_refl s m
-  equal_under_refl s (primitive p m) = join ((same_ptype-Decides p p).1 refl) (allows_refl s m)
-  equal_under_refl s (decimal p m) = join (join ((Decides-eqb p.precision p.precision).1 refl) ((signed_Decides p.scale p.scale).1 refl)) (allows_refl s m)
+  equal_under_refl s (primitive p m) = and_from _ _ ((same_ptype-Decides p p).1 refl) (allows_refl s m)
+  equal_under_refl s (decimal p m) = and_from _ _ (and_from _ _ ((Decides-eqb p.precision p.precision).1 refl) ((signed_Decides p.scale p.scale).1 refl)) (allows_refl s m)
   equal_under_refl s (utf8 m) = allows_refl s m
   equal_under_refl s (binary m) = allows_refl s m
   equal_under_refl s (variant m) = allows_refl s m
-  equal_under_refl s (list t m) = join (allows_refl s m) (equal_under_refl s t)
-  equal_under_refl s (fixed_size_list t j m) = join (join (allows_refl s m) ((Decides-eqb j j).1 refl)) (equal_under_refl s t)
-  equal_under_refl s (map_of t v a m) = join (allows_refl s m) (join (join (equal_under_refl s t) (equal_under_refl s v)) ((booleans_Decides a a).1 refl))
-  equal_under_refl s (struct fs m) = join (allows_refl s m) (fields_equal_under_refl s fs)
-  equal_under_refl s (union fs m) = join (allows_refl s m) (variants_equal_under_refl s fs)
-  equal_under_refl s (extension i a t) = join (join (same_bytes i) (same_bytes a)) (equal_under_refl s t)
+  equal_under_refl s (list t m) = and_from _ _ (allows_refl s m) (equal_under_refl s t)
+  equal_under_refl s (fixed_size_list t j m) = and_from _ _ (and_from _ _ (allows_refl s m) ((Decides-eqb j j).1 refl)) (equal_under_refl s t)
+  equal_under_refl s (map_of t v a m) = and_from _ _ (allows_refl s m) (and_from _ _ (and_from _ _ (equal_under_refl s t) (equal_under_refl s v)) ((booleans_Decides a a).1 refl))
+  equal_under_refl s (struct fs m) = and_from _ _ (allows_refl s m) (fields_equal_under_refl s fs)
+  equal_under_refl s (union fs m) = and_from _ _ (allows_refl s m) (variants_equal_under_refl s fs)
+  equal_under_refl s (extension i a t) = and_from _ _ (and_from _ _ (same_bytes i) (same_bytes a)) (equal_under_refl s t)
 
   pub fields_equal_under_refl : (s : NullabilityRule) (a : Fields) → fields_equal_under s a a ≡ true
   fields_equal_under_refl s no_fields = refl
-  fields_equal_under_refl s (field m t fs) = join (join (same_bytes m) (equal_under_refl s t)) (fields_equal_under_refl s fs)
+  fields_equal_under_refl s (field m t fs) = and_from _ _ (and_from _ _ (same_bytes m) (equal_under_refl s t)) (fields_equal_under_refl s fs)
 
   pub variants_equal_under_refl : (s : NullabilityRule) (a : Variants) → variants_equal_under s a a ≡ true
   variants_equal_under_refl s no_variants = refl
-  variants_equal_under_refl s (choice m t g fs) = join (join (join (same_bytes m) (equal_under_refl s t)) ((Decides-eqb g g).1 refl)) (variants_equal_under_refl s fs)
+  variants_equal_under_refl s (choice m t g fs) = and_from _ _ (and_from _ _ (and_from _ _ (same_bytes m) (equal_under_refl s t)) ((Decides-eqb g g).1 refl)) (variants_equal_under_refl s fs)
 
 pub equal_under-Decides : (a b : Tree) → Decides (equal_under Compared a b) (a ≡ b)
 equal_under-Decides a b = (equal_under-same a b, λ e. subst (λ x. equal_under Compared a x ≡ true) e (equal_under_refl Compared a))

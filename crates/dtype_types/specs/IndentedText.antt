@@ -5,9 +5,10 @@
 -- written so, a list writes its element so, and every other type is on one line. From the alternate
 -- `Display` of `StructFields`.
 use Rattle.std.specs.Prelude.{ℕ, List, [], ◌∷◌, ◌++◌, codes, decimal as digits}
+use Rattle.std.specs.List.{join_by}
 use Rattle.dtype_base.specs.Escapes.{escaped}
 use Rattle.dtype_base.specs.Nullability.{nullability_text}
-use Rattle.dtype_types.specs.Text.{text, joined}
+use Rattle.dtype_types.specs.Text.{text}
 use Rattle.dtype_types.specs.Tree.{Tree, Fields, no_fields, field, list, fixed_size_list, struct}
 
 -- the line that ends the last field, where there is one
@@ -17,7 +18,7 @@ last_line (field n t rest) = codes "\n"
 
 -- fields that are written so, in braces; indent is what stands before the closing brace
 abbrev pub braces : List ℕ → List (List ℕ) → Fields → List ℕ
-braces indent parts fs = codes "{\n" ++ (joined (codes ",\n") parts ++ (last_line fs ++ (indent ++ codes "}")))
+braces indent parts fs = codes "{\n" ++ (join_by (λ t. t) (codes ",\n") parts ++ (last_line fs ++ (indent ++ codes "}")))
 
 -- each field stands two spaces further than the braces
 abbrev mutual

@@ -7,6 +7,7 @@ use Rattle.std.specs.Bool.{Decides}
 use Rattle.std.proofs.Common.{sym, ap, ◌∙◌, subst}
 use Rattle.std.proofs.Math.Bool.{beq}
 use Rattle.std.specs.Cmp.{IsEquivalence, booleans_Decides, decided, on_equiv}
+use Rattle.std.proofs.lemmas.Bool.{and_parts, and_from}
 use Rattle.dtype_types.specs.declared.dtype.equality.NullabilityRule.TheVariants.{Compared}
 use Rattle.dtype_types.specs.declared.struct_fields.StructFields.{StructFields}
 use Rattle.dtype_types.specs.declared.union_variants.UnionVariants.{UnionVariants}
@@ -14,7 +15,7 @@ use Rattle.dtype_types.specs.declared.map.MapDType.{MapDType}
 use Rattle.dtype_types.specs.declared.extension.ExtDTypeRef.{ExtDTypeRef}
 use Rattle.dtype_types.specs.Tree.{Tree, Fields, Variants, fields, pairs}
 use Rattle.dtype_types.specs.Equality.{equal_under, fields_equal_under, variants_equal_under}
-use Rattle.dtype_types.specs.EqualityLaws.{equal_under-Decides, fields_equal_under-same, fields_equal_under_refl, variants_equal_under-same, variants_equal_under_refl, both, join}
+use Rattle.dtype_types.specs.EqualityLaws.{equal_under-Decides, fields_equal_under-same, fields_equal_under_refl, variants_equal_under-same, variants_equal_under_refl}
 use Rattle.dtype_types.specs.TreeOf.{fields_of, variants_of, map_shown, MapParts, extension_tree}
 
 -- ---- structs
@@ -56,9 +57,9 @@ maps_equal_under a b = equal_under Compared a.0 b.0 && equal_under Compared a.1 
 
 pub maps_equal_under-Decides : (a b : MapParts) → Decides (maps_equal_under a b) (a ≡ b)
 maps_equal_under-Decides (k, v, s) (l, w, t) = (
-  λ e. let h = both e in let g = both h.0 in
+  λ e. let h = and_parts _ _ e in let g = and_parts _ _ h.0 in
       ap (λ x. (x, v, s)) ((equal_under-Decides k l).0 g.0) ∙ ap (λ x. (l, x, s)) ((equal_under-Decides v w).0 g.1) ∙ ap (λ x. (l, w, x)) ((booleans_Decides s t).0 h.1),
-  λ e. join (join ((equal_under-Decides k l).1 (ap (λ x. x.0) e)) ((equal_under-Decides v w).1 (ap (λ x. x.1) e))) ((booleans_Decides s t).1 (ap (λ x. x.2) e)),
+  λ e. and_from _ _ (and_from _ _ ((equal_under-Decides k l).1 (ap (λ x. x.0) e)) ((equal_under-Decides v w).1 (ap (λ x. x.1) e))) ((booleans_Decides s t).1 (ap (λ x. x.2) e)),
 )
 
 abbrev pub same_map : MapDType → MapDType → Bool

@@ -4,6 +4,7 @@
 -- The text of a type. A type is written by its kind, what it holds in brackets or braces, and `?` where
 -- it is nullable; names are escaped, ids stand as they are. From the `Display` of `DType`.
 use Rattle.std.specs.Prelude.{ℕ, ◌+◌, ◌==◌, List, [], ◌∷◌, ◌++◌, codes, decimal as digits, length, Bool, true, false, ◌&&◌, if◌then◌else◌}
+use Rattle.std.specs.List.{join_by}
 use Rattle.dtype_base.specs.Decimals.{decimal_text}
 use Rattle.dtype_base.specs.Escapes.{escaped}
 use Rattle.dtype_base.specs.Nullability.{nullability_text}
@@ -27,15 +28,6 @@ abbrev pub tag_text : Bool → ℕ → List ℕ
 tag_text true g = []
 tag_text false g = codes "@" ++ digits g
 
--- texts with a separator between them
-abbrev pub preceded : List ℕ → List (List ℕ) → List ℕ
-preceded sep [] = []
-preceded sep (x ∷ xs) = sep ++ (x ++ preceded sep xs)
-
-abbrev pub joined : List ℕ → List (List ℕ) → List ℕ
-joined sep [] = []
-joined sep (x ∷ xs) = x ++ preceded sep xs
-
 abbrev mutual
   pub text : Tree → List ℕ
   text null = codes "null"
@@ -47,8 +39,8 @@ abbrev mutual
   text (list t n) = codes "list(" ++ (text t ++ (codes ")" ++ nullability_text n))
   text (fixed_size_list t k n) = codes "fixed_size_list(" ++ (text t ++ (codes ")[" ++ (digits k ++ (codes "]" ++ nullability_text n))))
   text (map_of k v s n) = codes "map(" ++ (text k ++ (codes ", " ++ (text v ++ (codes ", keys_sorted=" ++ (bool_text s ++ (codes ")" ++ nullability_text n))))))
-  text (struct fs n) = codes "{" ++ (joined (codes ", ") (field_texts fs) ++ (codes "}" ++ nullability_text n))
-  text (union vs n) = codes "union(" ++ (joined (codes ", ") (choice_texts (consecutive 0 vs) vs) ++ (codes ")" ++ nullability_text n))
+  text (struct fs n) = codes "{" ++ (join_by (λ t. t) (codes ", ") (field_texts fs) ++ (codes "}" ++ nullability_text n))
+  text (union vs n) = codes "union(" ++ (join_by (λ t. t) (codes ", ") (choice_texts (consecutive 0 vs) vs) ++ (codes ")" ++ nullability_text n))
   text (variant n) = codes "variant" ++ nullability_text n
   text (extension id b s) = id ++ (codes "[" ++ (metadata_text b ++ (codes "](" ++ (text s ++ codes ")"))))
 

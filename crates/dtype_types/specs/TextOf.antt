@@ -3,7 +3,8 @@
 
 -- The texts of a type's parts: fields, variants, a map, an extension, its metadata. From the `Display` of each.
 use Rattle.std.specs.Prelude.{ℕ, List, ◌++◌, codes}
-use Rattle.dtype_types.specs.Text.{text, bool_text, joined, field_texts, choice_texts, consecutive, metadata_text}
+use Rattle.std.specs.List.{join_by}
+use Rattle.dtype_types.specs.Text.{text, bool_text, field_texts, choice_texts, consecutive, metadata_text}
 use Rattle.dtype_types.specs.TreeOf.{fields_of, variants_of, extension_id, extension_metadata, storage_tree, map_shown}
 use Rattle.dtype_types.specs.declared.struct_fields.StructFields.{StructFields}
 use Rattle.dtype_types.specs.declared.union_variants.UnionVariants.{UnionVariants}
@@ -14,10 +15,10 @@ unfoldable pub map_text : MapDType → List ℕ
 map_text m = codes "map(" ++ (text (map_shown m).0 ++ (codes ", " ++ (text (map_shown m).1 ++ (codes ", keys_sorted=" ++ (bool_text (map_shown m).2 ++ codes ")")))))
 
 unfoldable pub struct_text : StructFields → List ℕ
-struct_text s = codes "{" ++ (joined (codes ", ") (field_texts (fields_of s)) ++ codes "}")
+struct_text s = codes "{" ++ (join_by (λ t. t) (codes ", ") (field_texts (fields_of s)) ++ codes "}")
 
 unfoldable pub union_text : UnionVariants → List ℕ
-union_text u = joined (codes ", ") (choice_texts (consecutive 0 (variants_of u)) (variants_of u))
+union_text u = join_by (λ t. t) (codes ", ") (choice_texts (consecutive 0 (variants_of u)) (variants_of u))
 
 unfoldable pub extension_text : ExtDTypeRef → List ℕ
 extension_text e = extension_id e ++ (codes "[" ++ (metadata_text (extension_metadata e) ++ (codes "](" ++ (text (storage_tree e) ++ codes ")"))))

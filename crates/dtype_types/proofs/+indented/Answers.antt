@@ -11,7 +11,7 @@ use Rattle.dtype_types.proofs.Depths.{no_deeper}
 use Rattle.dtype_types.proofs.Walks.{next_of, none_of}
 use Rattle.dtype_types.proofs.Texts.{leading, leading_all, one_written, all_written}
 use Rattle.dtype_types.specs.IndentedText.{indented, indented_braces, indented_fields}
-use Rattle.dtype_types.specs.Text.{joined}
+use Rattle.std.specs.List.{join_by}
 use Rattle.dtype_types.specs.Tree.{fields}
 use Rattle.dtype_types.specs.TreeOf.{tree, children, struct_dtypes, fields_of, with_trees}
 use Rattle.std.specs.Map.{values_of}
@@ -56,7 +56,7 @@ struct_fields::StructFields::write_indented-returns-clause-ok t c =
     let close = indent ++ codes "}" in
     let none = none_of borrowed_pair c.loop-name.name-iterator c.next.new.self c.next.result c.in-None.is c.next.ensures.steps in
     let so_far = all_written (codes ",\n") c.loop-name.separator.now (string_bytes c.loop-name.out) _ _ c.loop-name.invariant.written (ap (λ qs. indented_fields (indent ++ codes "  ") (fields (with_trees qs))) none)
-    ∙ ap (λ xs. string_bytes c.push_str.new.self ++ xs) (leading_all (codes ",\n") parts) ∙ ap (λ xs. xs ++ joined (codes ",\n") parts) c.in_ok-push_str.ensures.bytes in
+    ∙ ap (λ xs. string_bytes c.push_str.new.self ++ xs) (leading_all (codes ",\n") parts) ∙ ap (λ xs. xs ++ join_by (λ t. t) (codes ",\n") parts) c.in_ok-push_str.ensures.bytes in
     let written = c.in_ok-write.ensures.bytes in
     elim c.if-nfields-gt0.branch [
       | struct_fields::StructFields::write_indented-then-nfields-gt0+in_ok-push_str-2 w ↦

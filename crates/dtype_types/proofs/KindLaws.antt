@@ -11,7 +11,7 @@ use Rattle.dtype_base.specs.declared.ptype.PType.{PType}
 use Rattle.dtype_types.specs.declared.dtype.kinds.Kind.TheVariants as k
 use Rattle.dtype_types.specs.Kinds.{kind, primitive_name, decimal_of, struct_fields, union_variants, map_parts, extension_parts, list_element, fixed_size_list_element, any_size_list_element}
 use Rattle.dtype_types.specs.Tree.{Tree, primitive, struct, extension}
-use Rattle.dtype_types.specs.PartsEquality.{pairs_of}
+use Rattle.dtype_types.specs.lemmas.PartsEquality.{pairs_of}
 use Rattle.dtype_types.specs.TreeOf.{tree, children, variant_list}
 use denote.Hole.Carrier
 use Rattle.dtype_types.specs.declared.dtype.DType.{out-DType}

@@ -8,7 +8,7 @@ use Rattle.std.proofs.lemmas.Bool.{false≢true, and_parts, and_from}
 use Rattle.dtype_base.specs.declared.nullability.Nullability.{Nullability}
 use Rattle.dtype_base.specs.declared.nullability.Nullability.TheVariants.{NonNullable, Nullable}
 use Rattle.dtype_types.specs.Equality.{equal_under, fields_equal_under, variants_equal_under, allows}
-use Rattle.dtype_types.specs.EqualityLaws.{equal_erased-Decides}
+use Rattle.dtype_types.specs.lemmas.EqualityLaws.{equal_erased-Decides}
 use Rattle.dtype_types.specs.Sub.{Sub, Allows, NullableWherever, NullableWhereverFields, NullableWhereverVariants}
 use Rattle.dtype_types.specs.Tree.{Tree, Fields, no_fields, field, Variants, no_variants, choice, null, bool, primitive, decimal, utf8, binary, list, fixed_size_list, map_of, struct, union, variant, extension}
 use Rattle.dtype_types.specs.declared.dtype.equality.NullabilityRule.TheVariants.{Ignored, Within}

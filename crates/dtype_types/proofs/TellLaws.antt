@@ -13,7 +13,7 @@ use Rattle.dtype_types.specs.Tree.{Tree, Fields, no_fields, field, Variants, no_
 use Rattle.dtype_types.specs.Value.{Value, Of, IncludedIn, NamedOf, VariantOf, Each, null_value, items, fixed_items, entries, record_of, tagged, no_values, value, no_entries, entry, named}
 use Rattle.dtype_types.specs.Sample.{sample, samples, copies}
 use Rattle.dtype_types.specs.Tell.{or_else, null_else, tell, tell_fields, tell_variants, HasNoSizeZero, FieldsHaveNoSizeZero, VariantsHaveNoSizeZero}
-use Rattle.dtype_types.specs.SampleLaws.{sample_of, samples_of, value_count-copies, each_copy}
+use Rattle.dtype_types.specs.lemmas.SampleLaws.{sample_of, samples_of, value_count-copies, each_copy}
 
 -- ---- an answer that says why there is none, or tells P from Q
 

@@ -1,15 +1,13 @@
 -- SPDX-License-Identifier: Apache-2.0
 -- SPDX-FileCopyrightText: Copyright the Vortex contributors
 
--- The type of a field, before it stands in a struct. From the documentation of `FieldDType` and
+-- The type of a field, before it is in a struct. From the documentation of `FieldDType` and
 -- `StructFields::from_iter`.
-use Rattle.std.specs.Prelude.{◌≡◌, ℕ, All, List, Option, map, Bool}
+use Rattle.std.specs.Prelude.{◌≡◌, ℕ, All, List, Option, map}
 use Rattle.std.specs.Iterator.Runs.{WholeRun}
-use Rattle.std.specs.Cmp.{IsEquivalence, on_equiv}
 use Rattle.dtype_base.specs.declared.nullability.Nullability.{Nullability}
 use Rattle.dtype_types.specs.declared.dtype.DType.{DType}
 use Rattle.dtype_types.specs.declared.field_dtype.FieldDType.{FieldDType}
-use Rattle.dtype_types.specs.EqualityLaws.{same_dtype, same_dtype_equiv}
 use Rattle.dtype_types.specs.Valid.{Valid}
 use Rattle.dtype_types.specs.TreeOf.{tree}
 use Rattle.dtype_types.specs.Tree.{Tree, Fields, fields, struct}
@@ -17,12 +15,6 @@ use Rattle.dtype_types.specs.Tree.{Tree, Fields, fields, struct}
 -- the tree of a field's type
 abbrev pub field_tree : FieldDType → Tree
 field_tree f = tree f.dtype
-
-abbrev pub same_field_dtype : FieldDType → FieldDType → Bool
-same_field_dtype f g = same_dtype f.dtype g.dtype
-
-pub same_field_dtype_equiv : IsEquivalence same_field_dtype
-same_field_dtype_equiv = on_equiv (λ f. f.dtype) same_dtype_equiv
 
 -- fields that were given, as they stand in a tree
 abbrev pub given_fields : List (List ℕ × FieldDType) → Fields

@@ -21,3 +21,7 @@ pub mod Order
 pub mod MadeOf
 pub mod Structs
 pub mod EitherNullable
+pub mod EqualityLaws
+pub mod PartsEquality
+pub mod HashLaws
+pub mod SampleLaws

@@ -323,7 +323,8 @@ impl ExtDTypeRef {
 /// Two extensions are equal where their ids, their metadata and their storages are.
 #[tactic(auto, using(crate::specs::lemmas::Equality::equality))]
 impl PartialEq for ExtDTypeRef {
-    ghost use Rattle.dtype_types.specs.PartsEquality.{same_extension, same_extension_equiv};
+    ghost use Rattle.dtype_types.specs.EqualityOf.{same_extension};
+    ghost use Rattle.dtype_types.specs.lemmas.PartsEquality.{same_extension_equiv};
     ghost use Rattle.dtype_types.specs.TreeOf.{extension_tree};
     ghost use Rattle.std.specs.Cmp.{partial_equiv_from_equiv};
 
@@ -339,13 +340,13 @@ impl PartialEq for ExtDTypeRef {
 }
 
 impl Eq for ExtDTypeRef {
-    ghost use Rattle.dtype_types.specs.PartsEquality.{same_extension_equiv};
+    ghost use Rattle.dtype_types.specs.lemmas.PartsEquality.{same_extension_equiv};
 
     ghost laws = { same_extension_equiv };
 }
 
 impl Hash for ExtDTypeRef {
-    ghost use Rattle.dtype_types.specs.HashLaws.{extension_fed};
+    ghost use Rattle.dtype_types.specs.lemmas.HashLaws.{extension_fed};
     ghost use Rattle.dtype_types.specs.HashesOf.{extension_writes};
     ghost use Rattle.dtype_types.specs.declared.dtype.hash.HashMode.TheVariants.{Whole};
 

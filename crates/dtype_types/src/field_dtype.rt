@@ -83,7 +83,8 @@ impl From<PType> for FieldDType {
 
 #[tactic(auto, using(crate::specs::lemmas::Equality::equality))]
 impl PartialEq for FieldDType {
-    ghost use Rattle.dtype_types.specs.FieldTypes.{same_field_dtype, same_field_dtype_equiv};
+    ghost use Rattle.dtype_types.specs.EqualityOf.{same_field_dtype};
+    ghost use Rattle.dtype_types.specs.lemmas.PartsEquality.{same_field_dtype_equiv};
     ghost use Rattle.std.specs.Cmp.{partial_equiv_from_equiv};
 
     ghost eq = { same_field_dtype };
@@ -98,13 +99,13 @@ impl PartialEq for FieldDType {
 }
 
 impl Eq for FieldDType {
-    ghost use Rattle.dtype_types.specs.FieldTypes.{same_field_dtype_equiv};
+    ghost use Rattle.dtype_types.specs.lemmas.PartsEquality.{same_field_dtype_equiv};
 
     ghost laws = { same_field_dtype_equiv };
 }
 
 impl Hash for FieldDType {
-    ghost use Rattle.dtype_types.specs.HashLaws.{dtype_fed};
+    ghost use Rattle.dtype_types.specs.lemmas.HashLaws.{dtype_fed};
     ghost use Rattle.dtype_types.specs.Hashes.{hash_writes};
 
     ghost hash_input = { λ f. hash_writes (field_tree f) };

@@ -3,7 +3,7 @@
 
 // Theorems about the definitions of types. The contract of each function is the theorem, and its body is empty. Further
 // lemmas for callers are in the rulesets of `specs/lemmas`.
-#![tactic(auto, using(crate::specs::HashLaws::dtype_fed, crate::specs::HashLaws::erased_fed, crate::specs::SampleLaws::sample_of, crate::specs::lemmas::NullValues::null_is_of_nullable, crate::specs::lemmas::SubValues::sub_values))]
+#![tactic(auto, using(crate::specs::lemmas::HashLaws::dtype_fed, crate::specs::lemmas::HashLaws::erased_fed, crate::specs::lemmas::SampleLaws::sample_of, crate::specs::lemmas::NullValues::null_is_of_nullable, crate::specs::lemmas::SubValues::sub_values))]
 
 ghost use Rattle.std.specs.Prelude.{◌≡◌, ◌↔◌, ◌==◌, ◌⊎◌, ◌<◌, ◌^◌, ◌++◌, ℕ, All, Bool, IsTrue, IsSomeAnd, List, None, Some, length, map, remove, slice_get};
 ghost use Rattle.std.specs.List.{position};

@@ -141,7 +141,8 @@ impl MapDType {
 
 #[tactic(auto, using(crate::specs::lemmas::Equality::equality))]
 impl PartialEq for MapDType {
-    ghost use Rattle.dtype_types.specs.PartsEquality.{same_map, same_map_equiv};
+    ghost use Rattle.dtype_types.specs.EqualityOf.{same_map};
+    ghost use Rattle.dtype_types.specs.lemmas.PartsEquality.{same_map_equiv};
     ghost use Rattle.dtype_types.specs.TreeOf.{map_shown};
     ghost use Rattle.std.specs.Cmp.{partial_equiv_from_equiv};
 
@@ -157,13 +158,13 @@ impl PartialEq for MapDType {
 }
 
 impl Eq for MapDType {
-    ghost use Rattle.dtype_types.specs.PartsEquality.{same_map_equiv};
+    ghost use Rattle.dtype_types.specs.lemmas.PartsEquality.{same_map_equiv};
 
     ghost laws = { same_map_equiv };
 }
 
 impl Hash for MapDType {
-    ghost use Rattle.dtype_types.specs.HashLaws.{map_fed};
+    ghost use Rattle.dtype_types.specs.lemmas.HashLaws.{map_fed};
     ghost use Rattle.dtype_types.specs.HashesOf.{map_writes};
     ghost use Rattle.dtype_types.specs.declared.dtype.hash.HashMode.TheVariants.{Whole};
 

@@ -426,7 +426,8 @@ impl StructFields {
 
 #[tactic(auto, using(crate::specs::lemmas::Equality::equality))]
 impl PartialEq for StructFields {
-    ghost use Rattle.dtype_types.specs.PartsEquality.{same_struct, same_struct_equiv};
+    ghost use Rattle.dtype_types.specs.EqualityOf.{same_struct};
+    ghost use Rattle.dtype_types.specs.lemmas.PartsEquality.{same_struct_equiv};
     ghost use Rattle.dtype_types.specs.TreeOf.{children};
     ghost use Rattle.std.specs.Cmp.{partial_equiv_from_equiv};
 
@@ -442,13 +443,13 @@ impl PartialEq for StructFields {
 }
 
 impl Eq for StructFields {
-    ghost use Rattle.dtype_types.specs.PartsEquality.{same_struct_equiv};
+    ghost use Rattle.dtype_types.specs.lemmas.PartsEquality.{same_struct_equiv};
 
     ghost laws = { same_struct_equiv };
 }
 
 impl Hash for StructFields {
-    ghost use Rattle.dtype_types.specs.HashLaws.{struct_fed};
+    ghost use Rattle.dtype_types.specs.lemmas.HashLaws.{struct_fed};
     ghost use Rattle.dtype_types.specs.HashesOf.{struct_writes};
     ghost use Rattle.dtype_types.specs.declared.dtype.hash.HashMode.TheVariants.{Whole};
 

@@ -318,7 +318,8 @@ impl UnionVariants {
 
 #[tactic(auto, using(crate::specs::lemmas::Equality::equality))]
 impl PartialEq for UnionVariants {
-    ghost use Rattle.dtype_types.specs.PartsEquality.{same_union, same_union_equiv};
+    ghost use Rattle.dtype_types.specs.EqualityOf.{same_union};
+    ghost use Rattle.dtype_types.specs.lemmas.PartsEquality.{same_union_equiv};
     ghost use Rattle.dtype_types.specs.TreeOf.{variant_list};
     ghost use Rattle.std.specs.Cmp.{partial_equiv_from_equiv};
 
@@ -334,13 +335,13 @@ impl PartialEq for UnionVariants {
 }
 
 impl Eq for UnionVariants {
-    ghost use Rattle.dtype_types.specs.PartsEquality.{same_union_equiv};
+    ghost use Rattle.dtype_types.specs.lemmas.PartsEquality.{same_union_equiv};
 
     ghost laws = { same_union_equiv };
 }
 
 impl Hash for UnionVariants {
-    ghost use Rattle.dtype_types.specs.HashLaws.{union_fed};
+    ghost use Rattle.dtype_types.specs.lemmas.HashLaws.{union_fed};
     ghost use Rattle.dtype_types.specs.HashesOf.{union_writes};
     ghost use Rattle.dtype_types.specs.declared.dtype.hash.HashMode.TheVariants.{Whole};
 

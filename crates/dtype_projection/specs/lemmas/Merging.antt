@@ -11,7 +11,7 @@ use Rattle.std.proofs.lemmas.Option.{same_Some}
 use Rattle.dtype_base.specs.Nullability.{either}
 use Rattle.dtype_base.specs.declared.nullability.Nullability.{Nullability}
 use Rattle.dtype_base.specs.declared.nullability.Nullability.TheVariants.{NonNullable, Nullable}
-use Rattle.dtype_types.specs.EqualityLaws.{equal_erased-Decides}
+use Rattle.dtype_types.specs.lemmas.EqualityLaws.{equal_erased-Decides}
 use Rattle.dtype_types.specs.Erase.{erase, erase_fields, erase_variants}
 use Rattle.dtype_types.specs.Nullable.{nullability}
 use Rattle.dtype_types.specs.Sub.{Sub, Allows, NullableWherever, NullableWhereverFields, NullableWhereverVariants}

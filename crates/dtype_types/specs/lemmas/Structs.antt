@@ -8,7 +8,7 @@ use Rattle.std.proofs.lemmas.Option.{same_Some}
 use Rattle.dtype_base.specs.declared.nullability.Nullability.{Nullability}
 use Rattle.dtype_types.specs.Kinds.{struct_fields}
 use Rattle.dtype_types.specs.Nullable.{nullability}
-use Rattle.dtype_types.specs.PartsEquality.{pairs_of}
+use Rattle.dtype_types.specs.lemmas.PartsEquality.{pairs_of}
 use Rattle.dtype_types.specs.Tree.{Tree, Fields, no_fields, field, fields, pairs, struct}
 
 made_of_pairs : (fs : Fields) → fields (pairs fs) ≡ fs

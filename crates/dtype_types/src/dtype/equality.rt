@@ -73,7 +73,8 @@ impl DType {
 }
 
 impl PartialEq for DType {
-    ghost use Rattle.dtype_types.specs.EqualityLaws.{same_dtype, same_dtype_equiv};
+    ghost use Rattle.dtype_types.specs.EqualityOf.{same_dtype};
+    ghost use Rattle.dtype_types.specs.lemmas.EqualityLaws.{same_dtype_equiv};
     ghost use Rattle.std.specs.Cmp.{partial_equiv_from_equiv};
 
     ghost eq = { same_dtype };
@@ -88,7 +89,7 @@ impl PartialEq for DType {
 }
 
 impl Eq for DType {
-    ghost use Rattle.dtype_types.specs.EqualityLaws.{same_dtype_equiv};
+    ghost use Rattle.dtype_types.specs.lemmas.EqualityLaws.{same_dtype_equiv};
 
     ghost laws = { same_dtype_equiv };
 }

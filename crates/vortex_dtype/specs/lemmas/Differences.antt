@@ -15,10 +15,9 @@ use Rattle.dtype_messages.specs.declared.pb.DType.{DType as TypeMessage}
 use Rattle.dtype_messages.specs.declared.pb.Field.{Field as PathPart}
 use Rattle.dtype_messages.specs.declared.pb.FieldPath.{FieldPath as PathMessage}
 use Rattle.dtype_messages.specs.lemmas.Equality.{dtype_Decides, part_Decides, path_Decides}
-use Rattle.dtype_types.specs.EqualityLaws.{equal_under-Decides, same_dtype}
-use Rattle.dtype_types.specs.FieldTypes.{field_tree, same_field_dtype}
-use Rattle.dtype_types.specs.PartsEquality.{same_extension, same_map, same_struct, same_union}
-use Rattle.dtype_types.specs.TreeOf.{children, variant_list, extension_tree, map_shown, shown, tree}
+use Rattle.dtype_types.specs.EqualityOf.{same_dtype, same_extension, same_field_dtype, same_map, same_struct, same_union}
+use Rattle.dtype_types.specs.FieldTypes.{field_tree}
+use Rattle.dtype_types.specs.TreeOf.{children, extension_tree, map_shown, shown, tree, variant_list}
 use Rattle.dtype_types.specs.declared.dtype.DType.{DType}
 use Rattle.dtype_types.specs.declared.extension.ExtDTypeRef.{ExtDTypeRef}
 use Rattle.dtype_types.specs.declared.field_dtype.FieldDType.{FieldDType}
@@ -26,6 +25,7 @@ use Rattle.dtype_types.specs.declared.map.MapDType.{MapDType}
 use Rattle.dtype_types.specs.declared.struct_fields.StructFields.{StructFields}
 use Rattle.dtype_types.specs.declared.union_variants.UnionVariants.{UnionVariants}
 use Rattle.dtype_types.specs.lemmas.Equality.{structs_Decides, unions_Decides, maps_Decides, extensions_Decides, field_types_Decides}
+use Rattle.dtype_types.specs.lemmas.EqualityLaws.{equal_under-Decides}
 
 -- the negation of a test
 differ : {P : Type 0} (b : Bool) → Decides b P → Decides (not b) (P → ⊥)

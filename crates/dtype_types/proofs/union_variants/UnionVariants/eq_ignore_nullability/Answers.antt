@@ -2,7 +2,7 @@
 -- SPDX-FileCopyrightText: Copyright the Vortex contributors
 
 use Rattle.std.proofs.Common.{sym, ◌∙◌}
-use Rattle.dtype_types.specs.EqualityLaws.{equal_erased-Decides}
+use Rattle.dtype_types.specs.lemmas.EqualityLaws.{equal_erased-Decides}
 use Rattle.dtype_types.specs.TreeOf.{union_tree}
 use Rattle.dtype_types.proofs.union_variants.UnionVariants.eq_ignore_nullability.Goals as goal
 

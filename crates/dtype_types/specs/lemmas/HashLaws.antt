@@ -12,8 +12,10 @@ use Rattle.dtype_types.specs.declared.dtype.kinds.Kind.TheVariants as kind
 use Rattle.dtype_types.specs.Tree.{Tree, Fields, no_fields, field, Variants, no_variants, choice, null, bool, primitive, decimal, utf8, binary, list, fixed_size_list, map_of, struct, union, variant, extension, fields}
 use Rattle.dtype_types.specs.TreeOf.{tree, children, variants_of, map_shown, extension_tree}
 use Rattle.dtype_types.specs.Erase.{erase, erase_fields, erase_variants}
-use Rattle.dtype_types.specs.EqualityLaws.{equal_under-Decides, same_dtype}
-use Rattle.dtype_types.specs.PartsEquality.{same_fields-Decides, variants_equal_under-Decides, maps_equal_under-Decides, same_struct, same_union, same_map, same_extension}
+use Rattle.dtype_types.specs.lemmas.EqualityLaws.{equal_under-Decides}
+use Rattle.dtype_types.specs.EqualityOf.{same_dtype}
+use Rattle.dtype_types.specs.lemmas.PartsEquality.{same_fields-Decides, variants_equal_under-Decides, maps_equal_under-Decides}
+use Rattle.dtype_types.specs.EqualityOf.{same_struct, same_union, same_map, same_extension}
 use Rattle.dtype_types.specs.Hashes.{hash_of, kind_writes, bytes_writes, field_count, field_writes, variant_count, variant_writes}
 use Rattle.dtype_types.specs.declared.dtype.hash.HashMode.TheVariants.{Whole, Erased}
 use Rattle.dtype_types.specs.HashesOf.{struct_writes, union_writes, map_writes, extension_writes}

@@ -19,10 +19,10 @@ use Rattle.dtype_base.specs.declared.ptype.PType.{PType}
 use Rattle.dtype_base.specs.declared.ptype.PType.TheVariants.{U8, U16, U32, U64, I8, I16, I32, I64, F16, F32, F64}
 use Rattle.dtype_types.specs.declared.dtype.equality.NullabilityRule.{NullabilityRule}
 use Rattle.dtype_types.specs.declared.dtype.equality.NullabilityRule.TheVariants.{Compared, Ignored, Within}
-use Rattle.dtype_types.specs.declared.dtype.DType.{DType}
 use Rattle.dtype_types.specs.Tree.{Tree, Fields, no_fields, field, Variants, no_variants, choice, null, bool, primitive, decimal, utf8, binary, list, fixed_size_list, map_of, struct, union, variant, extension}
 use Rattle.dtype_types.specs.Erase.{erase, erase_fields, erase_variants}
 use Rattle.dtype_types.specs.Equality.{equal_under, fields_equal_under, variants_equal_under, allows, same_ptype}
+use Rattle.dtype_types.specs.EqualityOf.{same_dtype}
 use Rattle.dtype_types.specs.TreeOf.{tree}
 
 pub allows-same : (m n : Nullability) → allows Compared m n ≡ true → m ≡ n
@@ -166,9 +166,6 @@ equal_erased-Decides a b =
     (λ e. d.0 (sym (equal_under-erase a b) ∙ e), λ e. equal_under-erase a b ∙ d.1 e)
 
 -- ---- `==` of types, as an equivalence
-
-abbrev pub same_dtype : DType → DType → Bool
-same_dtype a b = equal_under Compared (tree a) (tree b)
 
 pub same_dtype_equiv : IsEquivalence same_dtype
 same_dtype_equiv = on_equiv tree (decided (equal_under Compared) equal_under-Decides)

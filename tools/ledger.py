@@ -2,7 +2,7 @@
 # SPDX-FileCopyrightText: Copyright the Vortex contributors
 
 """Checks the ledger docs/PROMISES.md against the sources: each clause, law, mutation and test that it names is there,
-and each public call, clause and law of the libraries, and each must-fail edit, stands in one of its lines. The ledger's
+and one of its lines names each public call, clause and law of the libraries, and each mutation of the gate. The ledger's
 first lines say how a line names them."""
 import os
 import re
@@ -83,7 +83,7 @@ def read_sources():
 
 
 def is_law(crate, function):
-    """Whether a function states a law: one of the module `laws`, or of one whose name ends so, or passed on by it."""
+    """Whether a function states a law: one of the module `laws`, or of one whose name ends so, or re-exported by it."""
     laws = f"crates/{crate}/src/laws.rt"
     if function.owner or function.visibility != "pub" or not os.path.exists(laws):
         return False

@@ -2,7 +2,7 @@
 # SPDX-FileCopyrightText: Copyright the Vortex contributors
 
 """Reads the sources for the other tools of this folder: functions with their clauses, impls and traits with their ghost
-members, and what a library gives out. Nothing is compiled: a source is read as text, in the layout of `rt fmt`."""
+members, and what a library exports. Nothing is compiled: a source is read as text, in the layout of `rt fmt`."""
 import os
 import re
 from collections import namedtuple
@@ -16,7 +16,7 @@ LIBRARIES = [it for it in LIBRARIES if os.path.isdir(f"{TOP}/crates/{it}")]
 # `kind` is requires, ensures or ghost, and `name` is empty where a clause has none.
 Clause = namedtuple("Clause", "kind name text")
 # An impl or a trait: the type, the trait that it is of (of an inherent impl empty, of a trait's declaration its own
-# name), its heading as it stands, and its ghost members.
+# name), its heading as written, and its ghost members.
 Owner = namedtuple("Owner", "start end kind heading type trait members")
 Function = namedtuple("Function", "file owner name visibility attributes signature clauses body")
 
@@ -134,7 +134,7 @@ def names_in(listing):
 
 
 def given_out(crate):
-    """The names that a library, or a program, gives out, and its modules that are public."""
+    """The names that a library, or a program, exports, and its public modules."""
     root = f"crates/{crate}/src/lib.rt"
     text = text_of(root if os.path.exists(root) else f"crates/{crate}/src/main.rt")
     names = {alias for it in GIVEN.finditer(text) for _, alias in names_in(it[1] or it[2])}
@@ -147,7 +147,7 @@ def heads_of(owner):
 
 
 def is_public(function, names, modules):
-    """Whether a user of a library that gives out these names, and these modules, can call the function."""
+    """Whether a user of a library that exports these names and these modules can call the function."""
     module = os.path.basename(function.file).removesuffix(".rt")
     owner = function.owner
     is_open = module in modules or (bool(heads_of(owner) & names) if owner else function.name in names)

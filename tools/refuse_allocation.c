@@ -1,14 +1,14 @@
 // SPDX-License-Identifier: Apache-2.0
 // SPDX-FileCopyrightText: Copyright the Vortex contributors
 
-// Refuses requests for memory, counts them, and tells which of the blocks that were taken are still held.
+// Makes allocations fail, counts them, and says which of the allocated blocks were never freed.
 //
-// Loaded before the C library (LD_PRELOAD), it looks at the stretches of the program between the lines `begin`
-// and `end` on standard error, or, where WHOLE is set, at the program from its start to its end. REFUSED=N
-// refuses the Nth request of each stretch, or, where STRETCH=M is set, of the Mth stretch alone, and, where ONWARD
-// is set, all behind it. When the program has ended, the file that COUNTS names has a line for each stretch: how
-// many requests were made in it, how many of them were refused, and how many of the blocks that were taken in it
-// were never given back. The last line is that of the rest of the program, where nothing is refused.
+// Loaded before the C library (LD_PRELOAD), it looks at the stretches of the program between the lines `begin` and
+// `end` on standard error, or, where WHOLE is set, at the program from its start to its end. REFUSED=N makes the Nth
+// allocation of each stretch fail, or, where STRETCH=M is set, of the Mth stretch alone, and, where ONWARD is set, all
+// after it. When the program has ended, the file that COUNTS names has a line for each stretch: how many allocations
+// were asked for in it, how many of them failed, and how many of the blocks allocated in it were never freed. The last
+// line is that of the rest of the program, where no allocation fails.
 #include <fcntl.h>
 #include <stdio.h>
 #include <stdlib.h>
@@ -21,7 +21,7 @@ enum { MOST_STRETCHES = 1 << 13, MOST_BLOCKS = 1 << 18 };
 void *__libc_malloc(size_t), *__libc_calloc(size_t, size_t), *__libc_realloc(void *, size_t);
 void __libc_free(void *);
 
-// How many requests were made, how many were refused, and how many blocks are held.
+// How many allocations were asked for, how many failed, and how many blocks are held.
 static struct stretch {
     long requests, refused, held;
 } stretches[MOST_STRETCHES], rest, *now = &rest;

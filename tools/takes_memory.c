@@ -1,9 +1,9 @@
 // SPDX-License-Identifier: Apache-2.0
 // SPDX-FileCopyrightText: Copyright the Vortex contributors
 
-// Makes a request for memory in each of four ways between the lines `begin` and `end` on standard error, and
-// prints 1 for each that was met and 0 for each that was refused. It never gives back what it took third:
-// tools/refused_memory sees whether tools/refuse_allocation.c notices all of that.
+// Allocates in each of four ways between the lines `begin` and `end` on standard error, and prints 1 for each
+// allocation that succeeded and 0 for each that failed. It never frees the third block: tools/refused_memory sees
+// whether tools/refuse_allocation.c notices all of that.
 #include <stdio.h>
 #include <stdlib.h>
 #include <unistd.h>

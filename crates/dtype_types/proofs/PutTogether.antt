@@ -1,33 +1,27 @@
 -- SPDX-License-Identifier: Apache-2.0
 -- SPDX-FileCopyrightText: Copyright the Vortex contributors
 
--- Lists that are put together item by item, or of two.
-use Rattle.std.proofs.Common.{◌≡◌, ℕ, zero, suc, List, [], ◌∷◌, ◌++◌, length, map, refl, ap, ◌∙◌, arith}
+-- Fields whose names and types were put together in two lists: joined, without one of them, or made one by one.
+use Rattle.std.proofs.Common.{◌≡◌, ℕ, List, ◌++◌, length, map, suc, take, drop, sym, ap, ◌∙◌, arith}
+use Rattle.std.proofs.lemmas.List.{map-append, take-map, drop-map, length-map}
+use Rattle.std.proofs.lemmas.Simd.{map-map}
 use Rattle.std.specs.List.{zip, remove}
-use Rattle.dtype_types.specs.TreeOf.{tree}
-use Rattle.dtype_types.specs.declared.dtype.DType.{DType}
+use Rattle.std.specs.Map.{keys_of, values_of}
+use Rattle.dtype_types.proofs.Sides.{zip_sides}
 
-pub zip_push : (ns : List (List ℕ)) (ds : List DType) (n : List ℕ) (d : DType) → length ns ≡ length ds → zip (ns ++ n ∷ []) (map tree (ds ++ d ∷ [])) ≡ zip ns (map tree ds) ++ (n, tree d) ∷ []
-zip_push [] [] n d h = refl
-zip_push [] (e ∷ ds) n d h = absurd (omega arith)
-zip_push (m ∷ ns) [] n d h = absurd (omega arith)
-zip_push (m ∷ ns) (e ∷ ds) n d h = ap (λ ps. (m, tree e) ∷ ps) (zip_push ns ds n d (omega arith))
+pub even_sides : {X Y Z : Type 0} (f : Z → Y) (ps : List (X × Y)) (xs : List X) (zs : List Z) → xs ≡ keys_of ps → map f zs ≡ values_of ps → length xs ≡ length zs
+even_sides f ps xs zs e g = omega (arith, ap length e, ap length g, length-map zs f, length-map ps (λ p. p.0), length-map ps (λ p. p.1))
 
--- ---- a list without one of its items, as it grows
+pub joined_sides : {X Y : Type 0} (ps qs : List (X × Y)) (xs : List X) (ys : List Y) → xs ≡ keys_of ps ++ keys_of qs → ys ≡ values_of ps ++ values_of qs → zip xs ys ≡ ps ++ qs
+joined_sides ps qs xs ys e f = zip_sides (ps ++ qs) xs ys (e ∙ sym (map-append (λ p. p.0) ps qs)) (f ∙ sym (map-append (λ p. p.1) ps qs))
 
-pub push_remove : {X : Type 0} (xs : List X) (x : X) (i : ℕ) → (length xs ≡ i → ⊥) → remove (xs ++ x ∷ []) i ≡ remove xs i ++ x ∷ []
-push_remove [] x zero ne = absurd (ne refl)
-push_remove [] x (suc zero) ne = refl
-push_remove [] x (suc (suc i)) ne = refl
-push_remove (y ∷ ys) x zero ne = refl
-push_remove (y ∷ ys) x (suc i) ne = ap (λ zs. y ∷ zs) (push_remove ys x i (λ e. ne (ap suc e)))
+remove_map : {X Y : Type 0} (f : X → Y) (xs : List X) (i : ℕ) → remove (map f xs) i ≡ map f (remove xs i)
+remove_map f xs i =
+    ap (λ ys. ys ++ drop (suc i) (map f xs)) (take-map f i xs) ∙ ap (λ ys. map f (take i xs) ++ ys) (drop-map f (suc i) xs) ∙ sym (map-append f (take i xs) (drop (suc i) xs))
 
-pub push_removed : {X : Type 0} (xs : List X) (x : X) (i : ℕ) → length xs ≡ i → remove (xs ++ x ∷ []) i ≡ remove xs i
-push_removed [] x zero e = refl
-push_removed [] x (suc i) e = absurd (omega arith)
-push_removed (y ∷ ys) x zero e = absurd (omega arith)
-push_removed (y ∷ ys) x (suc i) e = ap (λ zs. y ∷ zs) (push_removed ys x i (omega arith))
+pub removed_sides : {X Y Z : Type 0} (f : Z → Y) (ps : List (X × Y)) (xs : List X) (zs : List Z) (i : ℕ) → xs ≡ keys_of ps → map f zs ≡ values_of ps → zip (remove xs i) (map f (remove zs i)) ≡ remove ps i
+removed_sides f ps xs zs i e g =
+    zip_sides (remove ps i) _ _ (ap (λ ls. remove ls i) e ∙ remove_map (λ p. p.0) ps i) (sym (remove_map f zs i) ∙ ap (λ ls. remove ls i) g ∙ remove_map (λ p. p.1) ps i)
 
--- two lists put one behind the other, behind nothing
-pub both_put : {X : Type 0} (xs ys none one two : List X) → none ≡ [] → one ≡ none ++ xs → two ≡ one ++ ys → two ≡ xs ++ ys
-both_put xs ys none one two e f g = g ∙ ap (λ l. l ++ ys) (f ∙ ap (λ l. l ++ xs) e)
+pub mapped_sides : {X Y Z : Type 0} (f : Z → X) (g : Z → Y) (zs : List Z) (xs : List X) (ys : List Y) → xs ≡ map f zs → ys ≡ map g zs → zip xs ys ≡ map (λ z. (f z, g z)) zs
+mapped_sides f g zs xs ys e h = zip_sides (map (λ z. (f z, g z)) zs) xs ys (e ∙ sym (map-map (λ p. p.0) (λ z. (f z, g z)) zs)) (h ∙ sym (map-map (λ p. p.1) (λ z. (f z, g z)) zs))

@@ -1,17 +1,16 @@
 -- SPDX-License-Identifier: Apache-2.0
 -- SPDX-FileCopyrightText: Copyright the Vortex contributors
 
--- Loops over fields, or over variants, that are lent one by one: what is left after a turn, and at the end.
-use Rattle.std.proofs.Common.{◌≡◌, ◌⊎◌, ℕ, ◌+◌, List, [], ◌∷◌, ◌++◌, sym, ap, ◌∙◌, inl, inr, subst, append_assoc}
+-- Loops over borrowed fields or variants: what is left after an iteration, and at the end.
+use Rattle.std.proofs.Common.{◌≡◌, ◌⊎◌, List, [], ◌∷◌, ◌++◌, sym, ap, ◌∙◌, inl, inr, subst, append_assoc}
 use Rattle.std.specs.Prelude.{Option, Some, None}
 use Rattle.std.specs.Iterator.{YieldsFirstBy}
-use Rattle.std.specs.Iterator.Adapters.{enumerate_count, enumerate_source, enumerate_steps, zip_first, zip_second}
-use Rattle.std.specs.declared.iter.Enumerate.{Enumerate}
+use Rattle.std.specs.Iterator.Adapters.{zip_first, zip_second}
 use Rattle.std.specs.declared.iter.Zip.{Zip}
 use Rattle.std.proofs.lemmas.Iterator.{zips}
 use Rattle.std.proofs.lemmas.List.{append-nil}
 
--- what an item lends is the first of those that are left
+-- the item that an iterator gives shows the first of those that are left
 module _ {Item X : Type 0} (lent : Item → X) where
   abbrev pub steps : List X → Option Item → List X → Type 0
   steps = YieldsFirstBy lent (λ left. left)
@@ -21,14 +20,6 @@ module _ {Item X : Type 0} (lent : Item → X) where
 
   pub none_of : (s t : List X) (r : Option Item) → r ≡ None → steps s r t → s ≡ []
   none_of s t r is h = (subst (λ o. steps s o t) is h).0
-
-  -- numbered
-  pub next_numbered : (s t : Enumerate (List X)) (r : Option (ℕ × Item)) (i : ℕ) (x : Item) → r ≡ Some (i, x) → enumerate_steps steps s r t
-      → (enumerate_source s ≡ lent x ∷ enumerate_source t) × (i ≡ enumerate_count s) × (enumerate_count t ≡ enumerate_count s + 1)
-  next_numbered s t r i x is h = let step = subst (λ o. enumerate_steps steps s o t) is h in (step.0, step.1, step.2)
-
-  pub none_numbered : (s t : Enumerate (List X)) (r : Option (ℕ × Item)) → r ≡ None → enumerate_steps steps s r t → enumerate_source s ≡ []
-  none_numbered s t r is h = (subst (λ o. enumerate_steps steps s o t) is h).0.0
 
   -- of two lists side by side
   pub next_of_both : (s t : Zip (List X) (List X)) (r : Option (Item × Item)) (x y : Item) → r ≡ Some (x, y) → zips steps steps s r t

@@ -14,7 +14,6 @@ pub mod TreeOf
 pub mod Equality
 pub mod EqualityOf
 pub mod FieldTypes
-pub mod Building
 pub mod Unions
 pub mod Width
 pub mod IndentedText

@@ -14,7 +14,7 @@ types_of ps = map (λ p. p.1.0) ps
 abbrev pub tags_of : {N T G : Type 0} → List (N × (T × G)) → List G
 tags_of ps = map (λ p. p.1.1) ps
 
--- what a lent name and type show, and a lent name, tag and type
+-- what a borrowed name and type show, and a borrowed name, tag and type
 abbrev pub borrowed_pair : {N T : Type 0} → Bor N × Bor T → N × T
 borrowed_pair p = (p.0.now, p.1.now)
 

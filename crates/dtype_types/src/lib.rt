@@ -19,7 +19,6 @@ mod dtype_iter;
 mod extension;
 mod field_dtype;
 mod field_iter;
-mod fields_builder;
 pub mod laws;
 mod map;
 mod named;

@@ -15,7 +15,6 @@ use crate::dtype::hash::{HashMode, hash_into};
 use crate::dtype::indented_text::start_field;
 use crate::dtype::width::Width;
 use crate::field_dtype::into_dtypes;
-use crate::fields_builder::FieldsBuilder;
 use crate::named::Named;
 use crate::{DType, DTypeIter, FieldDType, FieldIter};
 use dtype_base::{FieldName, FieldNames, IndexedNames, VortexError, VortexResult};
@@ -37,7 +36,6 @@ pub struct StructFields {
 
 #[tactic(auto, using(crate::proofs::Sides::pairs, crate::proofs::Parts::fields, crate::specs::lemmas::Lookups::lookups))]
 impl StructFields {
-    ghost use Rattle.dtype_types.specs.Building.{fields_so_far};
     ghost use Rattle.dtype_types.specs.Equality.{fields_equal_under};
     ghost use Rattle.dtype_types.specs.Erase.{erase};
     ghost use Rattle.dtype_types.specs.FieldTypes.{field_tree, MadeFrom};
@@ -116,11 +114,13 @@ impl StructFields {
     {
         let fields = fields.into_iter();
         let (room, _) = fields.size_hint();
-        let mut made = FieldsBuilder::with_capacity(alloc, room)?;
+        let mut names = Vec::with_capacity(alloc, room)?;
+        let mut dtypes = Vec::with_capacity(alloc, room)?;
         for (name, dtype) in fields {
-            made = made.push(name, dtype.into_dtype())?;
+            names.push(name)?;
+            dtypes.push(dtype.into_dtype())?;
         }
-        made.finish(alloc)
+        StructFields::new(alloc, FieldNames::from_vec(names), dtypes)
     }
 
     /// Returns the names, in order.
@@ -320,26 +320,44 @@ impl StructFields {
         ensures valid { Valid (struct_tree self.now) → Valid (struct_tree other.now)
             → IfOk result (λ s. Valid (struct_tree s)) }
     {
-        let count = self.nfields().saturating_add(other.nfields());
-        let fields = FieldsBuilder::with_capacity(alloc, count)?;
-        let fields = self.push_copies(alloc, fields)?;
-        let merged = other.push_copies(alloc, fields)?.finish(alloc)?;
+        let merged = self.joined(alloc, other)?;
         if !merged.shared.are_distinct() {
             return Err(VortexError::DuplicateNames);
         }
         Ok(merged)
     }
 
-    // Appends copies of all fields to those that are there.
-    fn push_copies(&self, alloc: Global, mut fields: FieldsBuilder) -> VortexResult<FieldsBuilder>
+    // The fields of this struct followed by those of the other, also where names repeat.
+    fn joined(&self, alloc: Global, other: &Self) -> VortexResult<Self>
         ensures { MatchResult result
-            (λ b. fields_so_far b ≡ fields_so_far fields ++ children self.now)
-            (λ e. e ≡ OutOfMemory) }
+            (λ s. children s ≡ children self.now ++ children other.now) (λ e. e ≡ OutOfMemory) }
+    {
+        let count = self.nfields().saturating_add(other.nfields());
+        let mut names = Vec::with_capacity(alloc, count)?;
+        let mut dtypes = Vec::with_capacity(alloc, count)?;
+        self.push_copies(alloc, &mut names, &mut dtypes)?;
+        other.push_copies(alloc, &mut names, &mut dtypes)?;
+        StructFields::new(alloc, FieldNames::from_vec(names), dtypes)
+    }
+
+    // Appends copies of the names and of the types.
+    fn push_copies(
+        &self,
+        alloc: Global,
+        names: &mut Vec<FieldName>,
+        dtypes: &mut Vec<DType>,
+    ) -> VortexResult<()>
+        ensures name_copies { OnOk result
+            (names.new.items ≡ names.old.items ++ field_names (children self.now)) }
+        ensures type_copies { OnOk result
+            (map tree dtypes.new.items ≡ map tree dtypes.old.items ++ field_types (children self.now)) }
+        ensures refused { IsOkUnless result OutOfMemory }
     {
         for (name, dtype) in self.pairs() {
-            fields = fields.push(name.try_clone(alloc)?, dtype.try_clone(alloc)?)?;
+            names.push(name.try_clone(alloc)?)?;
+            dtypes.push(dtype.try_clone(alloc)?)?;
         }
-        Ok(fields)
+        Ok(())
     }
 
     /// Returns the fields except the one at this position.
@@ -359,13 +377,12 @@ impl StructFields {
         if index >= fields {
             return Err(VortexError::IndexOutOfBounds { index, fields });
         }
-        let mut kept = FieldsBuilder::with_capacity(alloc, fields)?;
-        for (i, (name, dtype)) in self.pairs().enumerate() {
-            if i != index {
-                kept = kept.push(name.try_clone(alloc)?, dtype.try_clone(alloc)?)?;
-            }
-        }
-        kept.finish(alloc)
+        let mut names = Vec::with_capacity(alloc, fields)?;
+        let mut dtypes = Vec::with_capacity(alloc, fields)?;
+        self.push_copies(alloc, &mut names, &mut dtypes)?;
+        names.remove(index);
+        dtypes.remove(index);
+        StructFields::new(alloc, FieldNames::from_vec(names), dtypes)
     }
 
     /// Returns the text of the fields over several lines, one field a line, indented by two spaces more than the

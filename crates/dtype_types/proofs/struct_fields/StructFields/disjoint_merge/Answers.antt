@@ -11,25 +11,20 @@ use Rattle.dtype_types.specs.TreeOf.{children, struct_pairs}
 use Rattle.dtype_types.specs.Valid.{ValidFields}
 use Rattle.dtype_types.proofs.Parts.{names_shown}
 use Rattle.dtype_types.specs.lemmas.Validity.{valid_joined}
-use Rattle.dtype_types.proofs.PutTogether.{both_put}
 use Rattle.dtype_types.proofs.struct_fields.StructFields.disjoint_merge.Goals as goal
 
 pub returns-then-not-are_distinct-clause-fields : goal.returns-then-not-are_distinct-clause-fields
 returns-then-not-are_distinct-clause-fields c = inr (
   refl,
   λ d.
-      let made = c.in_ok-merged.ensures ∙ both_put (children c.args.self.now) (children c.args.other.now) _ _ _ c.in_ok-fields.ensures c.in_ok-fields-2.ensures c.in_ok-push_copies.ensures in
-      let names = ap field_names (sym made) ∙ names_shown (struct_pairs c.in_ok-merged.merged) ∙ ap keys_of (sym c.deref.ensures) in
+      let names = ap field_names (sym c.in_ok-merged.ensures) ∙ names_shown (struct_pairs c.in_ok-merged.merged) ∙ ap keys_of (sym c.deref.ensures) in
       false≢true (c.if-not-are_distinct.ensures.1 (subst (λ ns. Distinct ns) names d)),
 )
 
 pub returns-clause-distinct : goal.returns-clause-distinct
 returns-clause-distinct c = λ yes.
-    let made = c.in_ok-merged.ensures ∙ both_put (children c.args.self.now) (children c.args.other.now) _ _ _ c.in_ok-fields.ensures c.in_ok-fields-2.ensures c.in_ok-push_copies.ensures in
-    let names = ap field_names (sym made) ∙ names_shown (struct_pairs c.in_ok-merged.merged) ∙ ap keys_of (sym c.deref.ensures) in
+    let names = ap field_names (sym c.in_ok-merged.ensures) ∙ names_shown (struct_pairs c.in_ok-merged.merged) ∙ ap keys_of (sym c.deref.ensures) in
     subst (λ ns. Distinct ns) (sym names) (c.if-not-are_distinct.ensures.0 yes)
 
 pub returns-clause-valid : goal.returns-clause-valid
-returns-clause-valid c = λ h k.
-    let made = c.in_ok-merged.ensures ∙ both_put (children c.args.self.now) (children c.args.other.now) _ _ _ c.in_ok-fields.ensures c.in_ok-fields-2.ensures c.in_ok-push_copies.ensures in
-    subst (λ ps. ValidFields (fields ps)) (sym made) (valid_joined (children c.args.self.now) (children c.args.other.now) h k)
+returns-clause-valid c = λ h k. subst (λ ps. ValidFields (fields ps)) (sym c.in_ok-merged.ensures) (valid_joined (children c.args.self.now) (children c.args.other.now) h k)

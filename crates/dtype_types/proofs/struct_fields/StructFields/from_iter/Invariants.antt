@@ -2,14 +2,15 @@
 -- SPDX-FileCopyrightText: Copyright the Vortex contributors
 
 use Rattle.std.proofs.Common.{◌≡◌, map}
-use Rattle.dtype_types.specs.Building.{fields_so_far}
 use Rattle.dtype_types.specs.FieldTypes.{field_tree}
+use Rattle.dtype_types.specs.TreeOf.{tree}
 use Rattle.dtype_types.proofs.struct_fields.StructFields.from_iter.Given as goal
 
--- the fields that were given so far
+-- the names and the types of the fields that were given so far
 abbrev pub invariant-loop-name : goal.invariant-loop-name
 invariant-loop-name g l = record {
   can_next : (goal.iterator-loop-name g).can_next l.name-iterator;
   is_finite : (goal.iterator-loop-name g).is_finite l.name-iterator;
-  fields : fields_so_far l.made ≡ map (λ p. (p.0, field_tree p.1)) l.yielded;
+  names : l.names.items ≡ map (λ p. p.0) l.yielded;
+  dtypes : map tree l.dtypes.items ≡ map (λ p. field_tree p.1) l.yielded;
 }

@@ -1,11 +1,14 @@
 -- SPDX-License-Identifier: Apache-2.0
 -- SPDX-FileCopyrightText: Copyright the Vortex contributors
 
-use Rattle.std.proofs.Common.{◌≡◌, ◌++◌}
-use Rattle.dtype_types.specs.Building.{fields_so_far}
-use Rattle.dtype_types.specs.TreeOf.{children, with_trees}
+use Rattle.std.proofs.Common.{◌≡◌, ◌++◌, map}
+use Rattle.dtype_types.specs.Lookups.{field_names, field_types}
+use Rattle.dtype_types.specs.TreeOf.{children, tree, with_trees}
 use Rattle.dtype_types.proofs.struct_fields.StructFields.push_copies.Given as goal
 
--- the copies so far, and the fields that are left
+-- the copies so far, followed by the names and types that are left
 abbrev pub invariant-loop-name : goal.invariant-loop-name
-invariant-loop-name l = fields_so_far l.fields ++ with_trees l.name-iterator ≡ fields_so_far l.fn.fields ++ children l.self
+invariant-loop-name l = record {
+  names : l.names.items ++ field_names (with_trees l.name-iterator) ≡ l.initial.names.items ++ field_names (children l.self);
+  dtypes : map tree l.dtypes.items ++ field_types (with_trees l.name-iterator) ≡ map tree l.initial.dtypes.items ++ field_types (children l.self);
+}

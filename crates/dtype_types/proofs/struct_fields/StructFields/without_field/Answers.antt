@@ -1,53 +1,43 @@
 -- SPDX-License-Identifier: Apache-2.0
 -- SPDX-FileCopyrightText: Copyright the Vortex contributors
 
-use Rattle.std.proofs.Common.{rules, ℕ, List, arith, ap, sym, ◌∙◌, ◌++◌, ◌∷◌, [], refl, length-append}
-use Rattle.std.specs.Iterator.Adapters.{enumerate_source}
-use Rattle.std.specs.Prelude.{◌≡◌, remove, length, nat_lt, IfErr, MatchBool}
+use Rattle.std.proofs.Common.{rules, arith, ◌≡◌, ◌++◌, List, ℕ, ap, map, ◌∙◌}
+use Rattle.std.specs.Prelude.{length, nat_lt, IfErr, MatchBool}
+use Rattle.std.specs.List.{remove, zip}
+use Rattle.std.proofs.lemmas.List.{length-map}
 use Rattle.std.proofs.lemmas.Result.{MatchResult-weaker, MatchResult-from_both}
 use Rattle.dtype_base.specs.declared.vortex_error.VortexError.TheVariants.{OutOfMemory, IndexOutOfBounds}
-use Rattle.dtype_types.specs.Lists.{borrowed_pair}
-use Rattle.dtype_types.specs.Tree.{Tree}
-use Rattle.dtype_types.specs.TreeOf.{tree, children, with_trees}
-use Rattle.dtype_types.specs.Building.{fields_so_far}
-use Rattle.dtype_types.proofs.Walks.{next_numbered, none_numbered, moves_over, all_moved}
-use Rattle.dtype_types.proofs.PutTogether.{push_remove, push_removed}
+use Rattle.dtype_types.specs.Lookups.{field_names, field_types}
+use Rattle.dtype_types.specs.TreeOf.{tree, children}
+use Rattle.dtype_types.proofs.PutTogether.{even_sides, removed_sides}
 use Rattle.dtype_types.proofs.struct_fields.StructFields.without_field.Goals as goal
+
+pub remove-requires : goal.remove-requires
+remove-requires c =
+    let ps = children c.args.self.now in
+    let names = c.in_ok-push_copies.ensures.name_copies ∙ ap (λ ns. ns ++ field_names ps) c.in_ok-names.ensures.items in
+    omega (arith, ap length names, length-map ps (λ p. p.0))
+
+pub remove-requires-2 : goal.remove-requires-2
+remove-requires-2 c =
+    let ps = children c.args.self.now in
+    let names = c.in_ok-push_copies.ensures.name_copies ∙ ap (λ ns. ns ++ field_names ps) c.in_ok-names.ensures.items in
+    let dtypes = c.in_ok-push_copies.ensures.type_copies ∙ ap (λ ds. map tree ds ++ field_types ps) c.in_ok-dtypes.ensures.items in
+    omega (arith, ap length names, length-map ps (λ p. p.0), even_sides tree ps _ _ names dtypes)
+
+pub new-requires : goal.new-requires
+new-requires c =
+    let ps = children c.args.self.now in
+    let names = c.in_ok-push_copies.ensures.name_copies ∙ ap (λ ns. ns ++ field_names ps) c.in_ok-names.ensures.items in
+    let dtypes = c.in_ok-push_copies.ensures.type_copies ∙ ap (λ ds. map tree ds ++ field_types ps) c.in_ok-dtypes.ensures.items in
+    omega (arith, ap length c.from_vec.ensures, even_sides tree ps _ _ names dtypes)
 
 pub returns-clause-fields : goal.returns-clause-fields
 returns-clause-fields c =
-    let inv = c.loop-i.invariant in
-    let none = none_numbered borrowed_pair c.loop-i.i-iterator c.next.new.self c.next.result c.in-None.is c.next.ensures.steps in
-    let all = all_moved inv.done _ (children c.args.self.now) inv.left (ap with_trees none) in
-    let refused : IfErr c.finish.result (λ e. MatchBool (nat_lt c.args.index (length (children c.args.self.now))) (e ≡ OutOfMemory) (e ≡ IndexOutOfBounds c.args.index (length (children c.args.self.now)))) = search rules in
-    MatchResult-from_both c.finish.result _ _ (MatchResult-weaker c.finish.result c.finish.ensures (λ s e. e ∙ inv.kept ∙ ap (λ xs. remove xs c.args.index) all) (λ _ _. tt)) refused
-
-pub loop-i-preserved-then-i-index : goal.loop-i-preserved-then-i-index
-loop-i-preserved-then-i-index c =
-    let inv = c.loop-i.invariant in
-    let n = c.in-Some.name.now in
-    let d = c.in-Some.dtype.now in
-    let p : List ℕ × Tree = (n, tree d) in
-    let next = next_numbered borrowed_pair c.loop-i.i-iterator c.next.new.self c.next.result c.in-Some.i (c.in-Some.name, c.in-Some.dtype) c.in-Some.is c.next.ensures.steps in
-    let done = inv.done in
-    let longer = length-append done (p ∷ []) in
-    let before = fields_so_far c.loop-i.kept in
-    let pushed = c.in_ok-kept-2.ensures ∙ ap (λ m. before ++ (m, tree c.in_ok-try_clone-2.field-0) ∷ []) c.in_ok-try_clone.ensures ∙ ap (λ t. before ++ (n, t) ∷ []) c.in_ok-try_clone-2.ensures in record {
-      done = done ++ p ∷ [];
-      left = moves_over done (with_trees (enumerate_source c.loop-i.i-iterator)) (children c.args.self.now) (with_trees (enumerate_source c.next.new.self)) p (done ++ p ∷ []) inv.left (ap with_trees next.0) refl;
-      count = omega (arith, longer, inv.count, next.2);
-      kept = pushed ∙ ap (λ xs. xs ++ p ∷ []) inv.kept ∙ sym (push_remove done p c.args.index (λ e. c.if-i-index.true (next.1 ∙ sym inv.count ∙ e)));
-    }
-
-pub loop-i-preserved : goal.loop-i-preserved
-loop-i-preserved c =
-    let inv = c.loop-i.invariant in
-    let p : List ℕ × Tree = (c.in-Some.name.now, tree c.in-Some.dtype.now) in
-    let next = next_numbered borrowed_pair c.loop-i.i-iterator c.next.new.self c.next.result c.in-Some.i (c.in-Some.name, c.in-Some.dtype) c.in-Some.is c.next.ensures.steps in
-    let done = inv.done in
-    let longer = length-append done (p ∷ []) in record {
-      done = done ++ p ∷ [];
-      left = moves_over done (with_trees (enumerate_source c.loop-i.i-iterator)) (children c.args.self.now) (with_trees (enumerate_source c.next.new.self)) p (done ++ p ∷ []) inv.left (ap with_trees next.0) refl;
-      count = omega (arith, longer, inv.count, next.2);
-      kept = inv.kept ∙ sym (push_removed done p c.args.index (omega (arith, inv.count, next.1)));
-    }
+    let ps = children c.args.self.now in
+    let names = c.in_ok-push_copies.ensures.name_copies ∙ ap (λ ns. ns ++ field_names ps) c.in_ok-names.ensures.items in
+    let dtypes = c.in_ok-push_copies.ensures.type_copies ∙ ap (λ ds. map tree ds ++ field_types ps) c.in_ok-dtypes.ensures.items in
+    let kept = ap (λ ns. zip ns (map tree c.remove-2.new.self.items)) (c.from_vec.ensures ∙ c.remove.ensures.items)
+    ∙ ap (λ ds. zip (remove c.push_copies.new.names.items c.args.index) (map tree ds)) c.remove-2.ensures.items ∙ removed_sides tree ps _ _ c.args.index names dtypes in
+    let refused : IfErr c.new.result (λ e. MatchBool (nat_lt c.args.index (length ps)) (e ≡ OutOfMemory) (e ≡ IndexOutOfBounds c.args.index (length ps))) = search rules in
+    MatchResult-from_both c.new.result _ _ (MatchResult-weaker c.new.result c.new.ensures.fields (λ s e. e ∙ kept) (λ _ _. tt)) refused

@@ -35,6 +35,7 @@ same_union a b = variants_equal_under Compared (variants_of a) (variants_of b)
 abbrev pub maps_equal_under : MapParts → MapParts → Bool
 maps_equal_under a b = equal_under Compared a.0 b.0 && equal_under Compared a.1 b.1 && beq a.2 b.2
 
+-- whether two maps show equal parts
 abbrev pub same_map : MapDType → MapDType → Bool
 same_map a b = maps_equal_under (map_shown a) (map_shown b)
 

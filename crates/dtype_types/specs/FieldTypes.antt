@@ -16,7 +16,7 @@ use Rattle.dtype_types.specs.Tree.{Tree, Fields, fields, struct}
 abbrev pub field_tree : FieldDType → Tree
 field_tree f = tree f.dtype
 
--- fields that were given, as they stand in a tree
+-- fields that were given, as they are in a tree
 abbrev pub given_fields : List (List ℕ × FieldDType) → Fields
 given_fields given = fields (map (λ p. (p.0, field_tree p.1)) given)
 

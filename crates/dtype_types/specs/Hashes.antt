@@ -2,9 +2,9 @@
 -- SPDX-FileCopyrightText: Copyright the Vortex contributors
 
 -- What a type feeds a hasher, as a list of writes: one byte for its kind, or which primitive type it is, and its
--- nullability, where nullabilities aren't forgotten, and then all that it holds. Counts stand before lists, and a
--- mark behind texts. `Whole` is all of a type, `Erased` the type with every nullability forgotten.
--- It is a function of the tree, so equal types feed alike, as std's `Hash` asks.
+-- nullability, where nullabilities aren't forgotten, and then all that it holds. A count comes before each list, and a
+-- mark after each text. `Whole` is all of a type, `Erased` the type with every nullability forgotten.
+-- It is a function of the tree, so equal types feed alike, as std's `Hash` asks. The writes are this port's own.
 use Rattle.std.specs.Prelude.{ℕ, suc, ◌+◌, ◌*◌, List, [], ◌∷◌, ◌++◌, length}
 use Rattle.std.specs.Hash as fed
 use Rattle.std.specs.Hash.{HashWrites}
@@ -35,16 +35,18 @@ primitive_number p = suc (kind_number kind.Extension) + (ptype_row p).number
 abbrev pub bytes_writes : List ℕ → HashWrites
 bytes_writes b = fed.usize (length b) ++ (b ∷ [])
 
--- how many fields and how many variants there are
+-- how many fields there are
 abbrev pub field_count : Fields → ℕ
 field_count no_fields = 0
 field_count (field n t rest) = suc (field_count rest)
 
+-- how many variants there are
 abbrev pub variant_count : Variants → ℕ
 variant_count no_variants = 0
 variant_count (choice n t g rest) = suc (variant_count rest)
 
 abbrev mutual
+  -- a type: its kind and nullability, and then what it holds
   pub hash_of : HashMode → Tree → HashWrites
   hash_of s null = kind_writes s (kind_number kind.Null) NonNullable
   hash_of s (bool n) = kind_writes s (kind_number kind.Bool) n
@@ -70,9 +72,10 @@ abbrev mutual
   variant_writes s no_variants = []
   variant_writes s (choice n t g rest) = fed.str n ++ (hash_of s t ++ (fed.u8 g ++ variant_writes s rest))
 
--- what a type feeds a hasher through `Hash`, and through `hash_ignore_nullability`
+-- what a type feeds a hasher through `Hash`
 abbrev pub hash_writes : Tree → HashWrites
 hash_writes t = hash_of Whole t
 
+-- what a type feeds a hasher through `hash_ignore_nullability`
 abbrev pub hash_writes_ignoring_nullability : Tree → HashWrites
 hash_writes_ignoring_nullability t = hash_of Erased t

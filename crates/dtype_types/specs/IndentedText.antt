@@ -16,11 +16,11 @@ abbrev pub last_line : Fields → List ℕ
 last_line no_fields = []
 last_line (field n t rest) = codes "\n"
 
--- fields that are written so, in braces; indent is what stands before the closing brace
+-- fields that are written so, in braces; indent is what comes before the closing brace
 abbrev pub braces : List ℕ → List (List ℕ) → Fields → List ℕ
 braces indent parts fs = codes "{\n" ++ (join_by (λ t. t) (codes ",\n") parts ++ (last_line fs ++ (indent ++ codes "}")))
 
--- each field stands two spaces further than the braces
+-- each field is indented by two spaces more than the braces
 abbrev mutual
   pub indented : List ℕ → Tree → List ℕ
   indented indent (list t n) = codes "list(" ++ (indented indent t ++ (codes ")" ++ nullability_text n))
@@ -28,6 +28,7 @@ abbrev mutual
   indented indent (struct fs n) = braces indent (indented_fields (indent ++ codes "  ") fs) fs ++ nullability_text n
   indented indent t = text t
 
+  -- each field, a line each
   pub indented_fields : List ℕ → Fields → List (List ℕ)
   indented_fields indent no_fields = []
   indented_fields indent (field n t rest) = (indent ++ (escaped n ++ (codes "=" ++ indented indent t))) ∷ indented_fields indent rest
@@ -36,5 +37,6 @@ abbrev mutual
 unfoldable pub indented_braces : List ℕ → Fields → List ℕ
 indented_braces indent fs = braces indent (indented_fields (indent ++ codes "  ") fs) fs
 
+-- the indented text of fields, from the left margin
 abbrev pub indented_text : Fields → List ℕ
 indented_text fs = indented_braces [] fs

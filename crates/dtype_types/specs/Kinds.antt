@@ -10,6 +10,7 @@ use Rattle.dtype_types.specs.declared.dtype.kinds.Kind.{Kind}
 use Rattle.dtype_types.specs.declared.dtype.kinds.Kind.TheVariants as k
 use Rattle.dtype_types.specs.Tree.{Tree, null, bool, primitive, decimal, utf8, binary, list, fixed_size_list, map_of, struct, union, variant, extension, pairs, triples}
 
+-- the outermost variant
 abbrev pub kind : Tree → Kind
 kind null = k.Null
 kind (bool n) = k.Bool
@@ -71,15 +72,17 @@ abbrev pub extension_parts : Tree → Option (List ℕ × List ℕ × Tree)
 extension_parts (extension id b s) = Some (id, b, s)
 extension_parts _ = None
 
--- the element of a list, of a fixed-size list, of either
+-- the element of a list
 abbrev pub list_element : Tree → Option Tree
 list_element (list t n) = Some t
 list_element _ = None
 
+-- the element of a fixed-size list
 abbrev pub fixed_size_list_element : Tree → Option Tree
 fixed_size_list_element (fixed_size_list t size n) = Some t
 fixed_size_list_element _ = None
 
+-- the element of a list or of a fixed-size list
 abbrev pub any_size_list_element : Tree → Option Tree
 any_size_list_element (list t n) = Some t
 any_size_list_element (fixed_size_list t size n) = Some t

@@ -1,7 +1,7 @@
 -- SPDX-License-Identifier: Apache-2.0
 -- SPDX-FileCopyrightText: Copyright the Vortex contributors
 
--- Laws of the definitions, as the functions of `laws.rt` promise them.
+-- Laws of the definitions, as the functions of `laws.rt` promise them. From arithmetic and std's `Iterator`.
 use Rattle.std.specs.Prelude.{◌≡◌, List, Option, length}
 use Rattle.std.specs.Iterator.{Count, UpTo}
 use Rattle.std.specs.Iterator.Runs.{EveryRun, ItemsMapTo}

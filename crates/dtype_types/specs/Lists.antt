@@ -14,9 +14,10 @@ types_of ps = map (λ p. p.1.0) ps
 abbrev pub tags_of : {N T G : Type 0} → List (N × (T × G)) → List G
 tags_of ps = map (λ p. p.1.1) ps
 
--- what a borrowed name and type show, and a borrowed name, tag and type
+-- what a borrowed name and a borrowed type show, as a pair
 abbrev pub borrowed_pair : {N T : Type 0} → Bor N × Bor T → N × T
 borrowed_pair p = (p.0.now, p.1.now)
 
+-- what a borrowed name, a tag and a borrowed type show, as a triple
 abbrev pub borrowed_triple : {N T G : Type 0} → Bor N × G × Bor T → N × (T × G)
 borrowed_triple p = (p.0.now, (p.2.now, p.1))

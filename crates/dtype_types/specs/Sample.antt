@@ -16,15 +16,18 @@ abbrev pub null_or : Nullability → Value → Value
 null_or Nullable v = null_value
 null_or NonNullable v = v
 
+-- k times the same value
 abbrev pub copies : ℕ → Value → Values
 copies zero v = no_values
 copies (suc k) v = value v (copies k v)
 
+-- zero, of a number type of that kind
 abbrev pub zero_of : NumberKind → Value
 zero_of Floating = float_bits 0
 zero_of _ = number (pos 0)
 
 abbrev mutual
+  -- null where the type is nullable; else false, zero, nothing, or samples of the parts
   pub sample : Tree → Value
   sample null = null_value
   sample (bool n) = null_or n (truth false)
@@ -40,6 +43,7 @@ abbrev mutual
   sample (variant n) = null_or n (opaque [])
   sample (extension id b s) = sample s
 
+  -- a sample of each field
   pub samples : Fields → Named
   samples no_fields = no_named
   samples (field n t fs) = named n (sample t) (samples fs)

@@ -3,7 +3,7 @@
 
 -- The order of types by nullability: a is below b where the two are equal but for nullabilities, and b is
 -- nullable wherever a is, at every depth, also in a map's value and in an extension's storage. Then an
--- array of type a may stand where one of type b is asked, since each value of a is a value of b.
+-- array of type a serves where one of type b is asked for, since each value of a is a value of b.
 -- From the documentation of `DType::eq_with_nullability_subset`.
 use Rattle.std.specs.Prelude.{◌≡◌}
 use Rattle.dtype_base.specs.declared.nullability.Nullability.{Nullability}
@@ -34,11 +34,13 @@ abbrev mutual
   NullableWherever (extension i a t) (extension j b u) = NullableWherever t u
   NullableWherever _ _ = ⊥
 
+  -- the same of the types of fields, one by one
   pub NullableWhereverFields : Fields → Fields → Type 0
   NullableWhereverFields no_fields no_fields = Unit {0}
   NullableWhereverFields (field m t fs) (field n u gs) = NullableWherever t u × NullableWhereverFields fs gs
   NullableWhereverFields _ _ = ⊥
 
+  -- the same of the types of variants, one by one
   pub NullableWhereverVariants : Variants → Variants → Type 0
   NullableWhereverVariants no_variants no_variants = Unit {0}
   NullableWhereverVariants (choice m t g vs) (choice n u h ws) = NullableWherever t u × NullableWhereverVariants vs ws

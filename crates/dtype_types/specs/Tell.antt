@@ -1,7 +1,7 @@
 -- SPDX-License-Identifier: Apache-2.0
 -- SPDX-FileCopyrightText: Copyright the Vortex contributors
 
--- A value that tells apart two types which differ in nullability alone. Made of `Value` and `Sub` alone.
+-- A value that distinguishes two types which differ in nullability alone. Made of `Value` and `Sub` alone.
 use Rattle.std.specs.Prelude.{ℕ, ◌<◌, Option, Some, None, option_map}
 use Rattle.dtype_base.specs.declared.nullability.Nullability.{Nullability}
 use Rattle.dtype_base.specs.declared.nullability.Nullability.TheVariants.{NonNullable, Nullable}
@@ -39,6 +39,7 @@ abbrev mutual
   tell (extension i a t) (extension j b u) = tell t u
   tell _ _ = None
 
+  -- a value of the first fields that isn't one of the second
   pub tell_fields : Fields → Fields → Option Named
   tell_fields (field m t fs) (field n u gs) = or_else (option_map (λ v. named m v (samples fs)) (tell t u)) (option_map (λ nvs. named m (sample t) nvs) (tell_fields fs gs))
   tell_fields _ _ = None
@@ -59,10 +60,12 @@ abbrev mutual
   HasNoSizeZero (extension id b s) = HasNoSizeZero s
   HasNoSizeZero _ = Unit {0}
 
+  -- the same of the types of fields
   pub FieldsHaveNoSizeZero : Fields → Type 0
   FieldsHaveNoSizeZero no_fields = Unit {0}
   FieldsHaveNoSizeZero (field n t fs) = HasNoSizeZero t × FieldsHaveNoSizeZero fs
 
+  -- the same of the types of variants
   pub VariantsHaveNoSizeZero : Variants → Type 0
   VariantsHaveNoSizeZero no_variants = Unit {0}
   VariantsHaveNoSizeZero (choice n t g vs) = HasNoSizeZero t × VariantsHaveNoSizeZero vs

@@ -2,7 +2,7 @@
 -- SPDX-FileCopyrightText: Copyright the Vortex contributors
 
 -- The text of a type. A type is written by its kind, what it holds in brackets or braces, and `?` where
--- it is nullable; names are escaped, ids stand as they are. From the `Display` of `DType`.
+-- it is nullable; names are escaped, ids are written as they are. From the `Display` of `DType`.
 use Rattle.std.specs.Prelude.{ℕ, ◌+◌, ◌==◌, List, [], ◌∷◌, ◌++◌, codes, decimal as digits, length, Bool, true, false, ◌&&◌, if◌then◌else◌}
 use Rattle.std.specs.List.{join_by}
 use Rattle.dtype_base.specs.Decimals.{decimal_text}
@@ -11,6 +11,7 @@ use Rattle.dtype_base.specs.Nullability.{nullability_text}
 use Rattle.dtype_base.specs.Primitives.{ptype_row}
 use Rattle.dtype_types.specs.Tree.{Tree, Fields, no_fields, field, Variants, no_variants, choice, null, bool, primitive, decimal, utf8, binary, list, fixed_size_list, map_of, struct, union, variant, extension}
 
+-- true or false
 abbrev pub bool_text : Bool → List ℕ
 bool_text b = if b then codes "true" else codes "false"
 
@@ -29,6 +30,7 @@ tag_text true g = []
 tag_text false g = codes "@" ++ digits g
 
 abbrev mutual
+  -- the text of a type
   pub text : Tree → List ℕ
   text null = codes "null"
   text (bool n) = codes "bool" ++ nullability_text n

@@ -11,14 +11,18 @@ use Rattle.dtype_types.specs.declared.union_variants.UnionVariants.{UnionVariant
 use Rattle.dtype_types.specs.declared.map.MapDType.{MapDType}
 use Rattle.dtype_types.specs.declared.extension.ExtDTypeRef.{ExtDTypeRef}
 
+-- the text of a map, without its nullability
 unfoldable pub map_text : MapDType → List ℕ
 map_text m = codes "map(" ++ (text (map_shown m).0 ++ (codes ", " ++ (text (map_shown m).1 ++ (codes ", keys_sorted=" ++ (bool_text (map_shown m).2 ++ codes ")")))))
 
+-- the text of a struct, without its nullability
 unfoldable pub struct_text : StructFields → List ℕ
 struct_text s = codes "{" ++ (join_by (λ t. t) (codes ", ") (field_texts (fields_of s)) ++ codes "}")
 
+-- the variants of a union, separated by commas
 unfoldable pub union_text : UnionVariants → List ℕ
 union_text u = join_by (λ t. t) (codes ", ") (choice_texts (consecutive 0 (variants_of u)) (variants_of u))
 
+-- the text of an extension
 unfoldable pub extension_text : ExtDTypeRef → List ℕ
 extension_text e = extension_id e ++ (codes "[" ++ (metadata_text (extension_metadata e) ++ (codes "](" ++ (text (storage_tree e) ++ codes ")"))))

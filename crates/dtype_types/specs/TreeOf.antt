@@ -18,14 +18,15 @@ use Rattle.dtype_types.specs.declared.union_variants.UnionVariants.{UnionVariant
 use Rattle.dtype_types.specs.declared.map.MapDType.{MapDType}
 use Rattle.dtype_types.specs.declared.extension.ExtDTypeRef.{ExtDTypeRef}
 
--- what a map and an extension hold, with the trees of their types
+-- a map's key and value as trees, and whether its keys are sorted
 abbrev pub MapParts : Type 0
 MapParts = Tree × Tree × Flag
 
+-- an extension's id, its metadata and the tree of its storage
 abbrev pub ExtensionParts : Type 0
 ExtensionParts = List ℕ × List ℕ × Tree
 
--- one layer, over the trees of what it holds
+-- one layer of a type, over the trees of what it holds
 abbrev pub type_step : DType-F Tree ExtensionParts MapParts Fields Variants → Tree
 type_step o.Null = null
 type_step (o.Bool n) = bool n
@@ -41,15 +42,19 @@ type_step (o.Union vs n) = union vs n
 type_step (o.Variant n) = variant n
 type_step (o.Extension e) = extension e.0 e.1 e.2
 
+-- what an extension holds, over the tree of its storage
 abbrev pub extension_step : ExtDTypeRef-F Tree ExtensionParts MapParts Fields Variants → ExtensionParts
 extension_step e = (e.parts.value.id, e.parts.value.metadata.items, e.parts.value.storage)
 
+-- what a map holds, over the trees of its key and its value
 abbrev pub map_step : MapDType-F Tree ExtensionParts MapParts Fields Variants → MapParts
 map_step m = (m.shared.value.key, m.shared.value.value, m.shared.value.keys_sorted)
 
+-- what a struct holds, over the trees of its fields
 abbrev pub struct_step : StructFields-F Tree ExtensionParts MapParts Fields Variants → Fields
 struct_step s = fields s.shared.value
 
+-- what a union holds, over the trees of its variants
 abbrev pub union_step : UnionVariants-F Tree ExtensionParts MapParts Fields Variants → Variants
 union_step u = variants u.shared.value
 
@@ -57,13 +62,15 @@ union_step u = variants u.shared.value
 abbrev pub tree : DType → Tree
 tree = fold-DType Tree ExtensionParts MapParts Fields Variants type_step extension_step map_step struct_step union_step
 
--- a struct's fields, as it holds them and with the trees of their types
+-- a struct's fields, as it holds them
 abbrev pub struct_pairs : StructFields → List (List ℕ × DType)
 struct_pairs s = s.shared.value
 
+-- pairs with the tree of each type
 abbrev pub with_trees : List (List ℕ × DType) → List (List ℕ × Tree)
 with_trees ps = map (λ p. (p.0, tree p.1)) ps
 
+-- a struct's fields: names and trees
 abbrev pub children : StructFields → List (List ℕ × Tree)
 children s = with_trees (struct_pairs s)
 
@@ -71,13 +78,15 @@ children s = with_trees (struct_pairs s)
 abbrev pub struct_dtypes : StructFields → List DType
 struct_dtypes s = values_of (struct_pairs s)
 
--- a union's variants, as it holds them and with the trees of their types
+-- a union's variants, as it holds them
 abbrev pub union_triples : UnionVariants → List (List ℕ × (DType × ℕ))
 union_triples u = u.shared.value
 
+-- triples with the tree of each type
 abbrev pub with_tagged_trees : List (List ℕ × (DType × ℕ)) → List (List ℕ × (Tree × ℕ))
 with_tagged_trees ps = map (λ p. (p.0, (tree p.1.0, p.1.1))) ps
 
+-- a union's variants: names, trees and tags
 abbrev pub variant_list : UnionVariants → List (List ℕ × (Tree × ℕ))
 variant_list u = with_tagged_trees (union_triples u)
 
@@ -85,19 +94,23 @@ variant_list u = with_tagged_trees (union_triples u)
 abbrev pub union_dtypes : UnionVariants → List DType
 union_dtypes u = types_of (union_triples u)
 
--- an extension's id, its metadata and its storage
+-- an extension's id
 abbrev pub extension_id : ExtDTypeRef → List ℕ
 extension_id e = e.parts.value.id
 
+-- an extension's metadata
 abbrev pub extension_metadata : ExtDTypeRef → List ℕ
 extension_metadata e = e.parts.value.metadata.items
 
+-- an extension's storage
 abbrev pub extension_storage : ExtDTypeRef → DType
 extension_storage e = e.parts.value.storage
 
+-- the tree of an extension's storage
 abbrev pub storage_tree : ExtDTypeRef → Tree
 storage_tree e = tree (extension_storage e)
 
+-- the tree of an extension
 abbrev pub extension_tree : ExtDTypeRef → Tree
 extension_tree e = extension (extension_id e) (extension_metadata e) (storage_tree e)
 
@@ -110,19 +123,22 @@ shown f (Some r) = Some (f r.now)
 abbrev pub map_shown : MapDType → MapParts
 map_shown m = (tree m.shared.value.key, tree m.shared.value.value, m.shared.value.keys_sorted)
 
--- the fields of a struct and the variants of a union, as they stand in a tree
+-- the fields of a struct, as they are in a tree
 abbrev pub fields_of : StructFields → Fields
 fields_of s = fields (children s)
 
+-- the variants of a union, as they are in a tree
 abbrev pub variants_of : UnionVariants → Variants
 variants_of u = variants (variant_list u)
 
--- the non-nullable type that is made of a struct, of a union, of a map
+-- the non-nullable type made of a struct
 abbrev pub struct_tree : StructFields → Tree
 struct_tree s = struct (fields_of s) NonNullable
 
+-- the non-nullable type made of a union
 abbrev pub union_tree : UnionVariants → Tree
 union_tree u = union (variants_of u) NonNullable
 
+-- the non-nullable type made of a map
 abbrev pub map_tree : MapDType → Tree
 map_tree m = map_of (map_shown m).0 (map_shown m).1 (map_shown m).2 NonNullable

@@ -1,7 +1,7 @@
 -- SPDX-License-Identifier: Apache-2.0
 -- SPDX-FileCopyrightText: Copyright the Vortex contributors
 
--- Which names, types and tags make a union, and which error they give where they don't. From the
+-- Which names, types and tags make a union, and which error they get where they don't. From the
 -- documentation of `UnionVariants::try_new` and `UnionVariants::new`.
 use Rattle.std.specs.Prelude.{◌≡◌, ◌≢◌, ℕ, List, [], length}
 use Rattle.std.specs.List.{range_with_len}
@@ -21,7 +21,7 @@ AreConsecutive tags = tags ≡ range_with_len 0 (length tags)
 abbrev pub MakesUnion : List (List ℕ) → ℕ → List ℕ → Type 0
 MakesUnion names types tags = HasUnionLengths names types tags × Distinct tags × Distinct names
 
--- they don't: the first thing that is wrong, in this order, says which error
+-- they don't make one, with this error: that of the first rule that is broken, in this order
 abbrev pub UnionError : List (List ℕ) → ℕ → List ℕ → VortexError → Type 0
 UnionError names types tags UnionTypesLength = length names ≢ types
 UnionError names types tags UnionTagsLength = (length names ≡ types) × (length names ≢ length tags)

@@ -14,6 +14,7 @@ use Rattle.dtype_types.specs.Nullable.{IsNullable}
 use Rattle.dtype_types.specs.Tree.{Tree, Fields, no_fields, field, Variants, no_variants, choice, bool, primitive, decimal, utf8, binary, list, fixed_size_list, map_of, struct, union, variant, extension}
 
 mutual
+  -- a value: null, or one of twelve kinds
   pub data Value : Type 0 where
     null_value : Value
     truth : Bool → Value
@@ -38,6 +39,7 @@ mutual
     -- of a union: the variant's tag, and a value of its type
     tagged : ℕ → Value → Value
 
+  -- the members of a list
   pub data Values : Type 0 where
     no_values : Values
     value : Value → Values → Values
@@ -59,6 +61,7 @@ InRange Unsigned p (negsuc n) = ⊥
 InRange Signed p z = HoldsSigned z p
 InRange Floating p z = ⊥
 
+-- a whole number that the primitive type holds
 abbrev pub IntegerOf : PType → ℤ → Type 0
 IntegerOf p z = InRange (ptype_row p).kind p z
 
@@ -70,14 +73,17 @@ FloatBitsOf p k = IsFloat p × HoldsUnsigned k p
 abbrev pub HasDigits : ℕ → ℤ → Type 0
 HasDigits p z = (neg_ℤ (pos (10 ^ p - 1)) ≤ℤ z) × (z ≤ℤ pos (10 ^ p - 1))
 
+-- P holds of each member
 abbrev pub Each : (Value → Type 0) → Values → Type 0
 Each P no_values = Unit {0}
 Each P (value v vs) = P v × Each P vs
 
+-- P holds of each key, and Q of each value
 abbrev pub EachEntry : (Value → Type 0) → (Value → Type 0) → Entries → Type 0
 EachEntry P Q no_entries = Unit {0}
 EachEntry P Q (entry k v es) = P k × Q v × EachEntry P Q es
 
+-- how many members there are
 abbrev pub value_count : Values → ℕ
 value_count no_values = 0
 value_count (value v vs) = suc (value_count vs)

@@ -26,6 +26,7 @@ abbrev mutual
   Fixed (extension id b s) = Fixed s
   Fixed _ = ⊥
 
+  -- the values of each field take as many bytes
   pub FixedFields : Fields → Type 0
   FixedFields no_fields = Unit {0}
   FixedFields (field n t rest) = Fixed t × FixedFields rest
@@ -47,6 +48,7 @@ abbrev mutual
   width (extension id b s) = width s
   width _ = 0
 
+  -- the sum of the widths of the fields
   pub total_width : Fields → ℕ
   total_width no_fields = 0
   total_width (field n t rest) = width t + total_width rest
@@ -60,6 +62,7 @@ abbrev mutual
   Part u (extension id b s) = (u ≡ extension id b s) ⊎ Part u s
   Part u t = u ≡ t
 
+  -- u is a part of the type of one of the fields
   pub FieldPart : Tree → Fields → Type 0
   FieldPart u no_fields = ⊥
   FieldPart u (field n t rest) = Part u t ⊎ FieldPart u rest

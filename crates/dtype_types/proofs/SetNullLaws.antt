@@ -12,13 +12,6 @@ kept : (i b : List ℕ) (o : Option Tree) → IsSome o → IsSome (option_and_th
 kept i b (Some x) h = refl
 kept i b None h = cc
 
-pub storage_can : (i b : List ℕ) (s : Tree) → CanBeNonNullable (extension i b s) → CanBeNonNullable s
-storage_can i b s h = go (set_null s NonNullable) h
-  where
-    go : (o : Option Tree) → IsSome (option_and_then (λ x. Some (extension i b x)) o) → IsSome o
-    go (Some x) h = refl
-    go None h = cc
-
 -- a non-nullable type can be non-nullable
 pub nonnullable_can : (t : Tree) → nullability t ≡ NonNullable → CanBeNonNullable t
 nonnullable_can null e = cc

@@ -7,6 +7,7 @@ first lines say how a line names them."""
 import os
 import re
 from collections import namedtuple
+from glob import glob
 
 from reading import LIBRARIES, functions_of, given_out, is_public, sources_of, text_of
 
@@ -248,8 +249,10 @@ def check_glossary():
         if not line.startswith("| `") or len(cells) != 3:
             continue
         files = re.findall(r"`(\w+)`", cells[2])
-        homes_of = {it: f"crates/{crate}/specs/{it}.antt" for it in files}
-        texts = {it: text_of(file) for it, file in homes_of.items() if os.path.exists(file)}
+        root = f"crates/{crate}/specs"
+        found = [file for it in files for file in (f"{root}/{it}.antt", *glob(f"{root}/*/{it}.antt"))
+                 if os.path.exists(file) and "/lemmas/" not in file]
+        texts = {it.removeprefix(f"{root}/").removesuffix(".antt").replace("/", "."): text_of(it) for it in found}
         for word in re.findall(r"`([\w-]+)[^`]*`", cells[0]):
             count += 1
             stated = rf"^\s*(?:(?:pub|abbrev|unfoldable|data|record) )*{re.escape(word)}(?: [({{]| : |$)"

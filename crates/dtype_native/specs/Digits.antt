@@ -8,7 +8,7 @@ use Rattle.std.specs.Prelude.{◌≡◌, ◌↔◌, ℕ, List, ◌++◌, codes, 
 use Rattle.std.specs.Fmt.{decimal, signed_decimal}
 use Rattle.dtype_base.specs.declared.vortex_error.VortexError.{VortexError}
 use Rattle.dtype_base.specs.Decimals.{Decimal, IsDecimalWithin, DecimalError}
-pub use Rattle.dtype_types.specs.Value.{HasDigits}
+pub use Rattle.dtype_types.specs.values.Value.{HasDigits}
 
 -- as `decimal(i8, p=2, s=1)`
 abbrev pub precision_scale_text : List ℕ → Decimal → List ℕ

@@ -6,9 +6,9 @@ ghost use Rattle.dtype_base.specs.declared.nullability.Nullability.TheVariants.{
 ghost use Rattle.dtype_base.specs.declared.ptype.PType.TheVariants.{U8, U16, U32, U64, I8, I16, I32, I64};
 ghost use Rattle.dtype_base.specs.declared.vortex_error.VortexError.TheVariants.{OutOfMemory};
 ghost use Rattle.dtype_native.specs.NativeTypes.{nullable_form};
-ghost use Rattle.dtype_types.specs.Valid.{Valid};
-ghost use Rattle.dtype_types.specs.TreeOf.{tree};
-ghost use Rattle.dtype_types.specs.Tree.{Tree, binary, bool, list, primitive, utf8};
+ghost use Rattle.dtype_types.specs.tree.Valid.{Valid};
+ghost use Rattle.dtype_types.specs.tree.TreeOf.{tree};
+ghost use Rattle.dtype_types.specs.tree.Tree.{Tree, binary, bool, list, primitive, utf8};
 
 use crate::NativePType;
 use dtype_base::{Nullability, VortexResult};

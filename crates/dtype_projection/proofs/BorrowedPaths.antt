@@ -7,7 +7,7 @@ use Rattle.std.specs.Borrow.{Bor}
 use Rattle.std.specs.FinSet as set
 use Rattle.std.proofs.Math.ListN.{set as list_set}
 use Rattle.std.proofs.lemmas.List.{get_or-map, map_push, map-set, take_more}
-use Rattle.dtype_types.specs.Tree.{Tree}
+use Rattle.dtype_types.specs.tree.Tree.{Tree}
 use Rattle.dtype_paths.specs.PathOrder.{PathSet, set_of}
 use Rattle.dtype_paths.specs.declared.field.Field.{Field}
 use Rattle.dtype_paths.specs.declared.field.Field.TheVariants.{Name}

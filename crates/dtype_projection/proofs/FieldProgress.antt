@@ -16,9 +16,9 @@ use Rattle.std.proofs.iter.Yields.{fronts}
 use Rattle.std.proofs.lemmas.Iterator.{zips}
 use Rattle.std.proofs.lemmas.List.{length-map, map_push, nil_from_length}
 use Rattle.dtype_base.specs.declared.nullability.Nullability.{Nullability}
-use Rattle.dtype_types.specs.Lookups.{field_names}
-use Rattle.dtype_types.specs.Tree.{Tree, Fields, no_fields, field, fields, pairs, struct}
-use Rattle.dtype_types.specs.TreeOf.{tree, with_trees}
+use Rattle.dtype_types.specs.parts.Lookups.{field_names}
+use Rattle.dtype_types.specs.tree.Tree.{Tree, Fields, no_fields, field, fields, pairs, struct}
+use Rattle.dtype_types.specs.tree.TreeOf.{tree, with_trees}
 use Rattle.dtype_types.specs.declared.dtype.DType.{DType}
 use Rattle.dtype_paths.specs.declared.field.Field.{Field}
 use Rattle.dtype_projection.specs.PathLists.{contains_path, borrowed, borrowed_in_each, AreSuffixes}

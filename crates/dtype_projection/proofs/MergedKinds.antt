@@ -8,11 +8,11 @@ use Rattle.std.specs.declared.alloc.Global.{Global}
 use Rattle.std.proofs.lemmas.Option.{same_Some}
 use Rattle.dtype_base.specs.Nullability.{either}
 use Rattle.dtype_base.specs.declared.nullability.Nullability.{Nullability}
-use Rattle.dtype_types.specs.Erase.{erase}
-use Rattle.dtype_types.specs.Kinds.{list_element, fixed_size_list_element, map_parts, struct_fields, union_variants, extension_parts}
-use Rattle.dtype_types.specs.Nullable.{nullability, set_null}
-use Rattle.dtype_types.specs.Tree.{Tree, Fields, Variants, null, bool, primitive, decimal, utf8, binary, list, fixed_size_list, map_of, struct, union, variant, extension}
-use Rattle.dtype_types.specs.TreeOf.{tree}
+use Rattle.dtype_types.specs.tree.Erase.{erase}
+use Rattle.dtype_types.specs.tree.Kinds.{list_element, fixed_size_list_element, map_parts, struct_fields, union_variants, extension_parts}
+use Rattle.dtype_types.specs.nullability.Nullable.{nullability, set_null}
+use Rattle.dtype_types.specs.tree.Tree.{Tree, Fields, Variants, null, bool, primitive, decimal, utf8, binary, list, fixed_size_list, map_of, struct, union, variant, extension}
+use Rattle.dtype_types.specs.tree.TreeOf.{tree}
 use Rattle.dtype_types.specs.declared.dtype.DType.{DType, fold-roll-DType, fold_out-DType, out-DType, the_lemmas, List as List_of, List', FixedSizeList, FixedSizeList', Map, Map', Struct, Struct', Union, Union', Extension, Extension'}
 use Rattle.dtype_types.specs.declared.extension.ExtDTypeRef.{ExtDTypeRef}
 use Rattle.dtype_types.specs.declared.map.MapDType.{MapDType}

@@ -15,12 +15,12 @@ use Rattle.std.proofs.lemmas.List.Kept.{AllPairs-cons}
 use Rattle.dtype_base.specs.declared.vortex_error.VortexError.{VortexError}
 use Rattle.dtype_base.specs.declared.vortex_error.VortexError.TheVariants.{OutOfMemory, UnionTypesLength, UnionTagsLength, UnionEmpty, UnionTagsRepeat, UnionNamesRepeat}
 use Rattle.dtype_base.specs.Distinct.{Distinct}
-use Rattle.dtype_types.specs.Erase.{erase, erase_fields, erase_variants}
-use Rattle.dtype_types.specs.Lookups.{field_names, field_types, variant_names, variant_tags, variant_types}
-use Rattle.dtype_types.specs.Tree.{Tree, field, fields, choice, variants}
-use Rattle.dtype_types.specs.TreeOf.{tree}
-use Rattle.dtype_types.specs.Unions.{HasUnionLengths, MakesUnion, UnionError}
-use Rattle.dtype_types.specs.Valid.{Valid, ValidFields, ValidVariants, HasVariant, LacksName, LacksTag}
+use Rattle.dtype_types.specs.tree.Erase.{erase, erase_fields, erase_variants}
+use Rattle.dtype_types.specs.parts.Lookups.{field_names, field_types, variant_names, variant_tags, variant_types}
+use Rattle.dtype_types.specs.tree.Tree.{Tree, field, fields, choice, variants}
+use Rattle.dtype_types.specs.tree.TreeOf.{tree}
+use Rattle.dtype_types.specs.parts.Unions.{HasUnionLengths, MakesUnion, UnionError}
+use Rattle.dtype_types.specs.tree.Valid.{Valid, ValidFields, ValidVariants, HasVariant, LacksName, LacksTag}
 use Rattle.dtype_types.specs.declared.dtype.DType.{DType}
 use Rattle.dtype_projection.specs.Merged.{either_null, either_null_fields, either_null_types, either_null_variants}
 

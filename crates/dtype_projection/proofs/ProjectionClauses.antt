@@ -5,10 +5,10 @@
 use Rattle.std.proofs.Common.{◌≡◌, ◌↔◌, List, Option, Some, None, Result, Ok, Err, IfOk, IfSome, IsSome, IsTrue, MatchResult, refl, sym, ◌∙◌}
 use Rattle.std.specs.FinSet as set
 use Rattle.std.specs.Option.{option_map}
-use Rattle.dtype_types.specs.Tree.{Tree}
-use Rattle.dtype_types.specs.TreeOf.{tree}
-use Rattle.dtype_types.specs.Valid.{Valid}
-use Rattle.dtype_types.specs.Value.{Of, Value}
+use Rattle.dtype_types.specs.tree.Tree.{Tree}
+use Rattle.dtype_types.specs.tree.TreeOf.{tree}
+use Rattle.dtype_types.specs.tree.Valid.{Valid}
+use Rattle.dtype_types.specs.values.Value.{Of, Value}
 use Rattle.dtype_types.specs.declared.dtype.DType.{DType}
 use Rattle.dtype_paths.specs.Along.{along}
 use Rattle.dtype_paths.specs.At.{ExistsIn}

@@ -3,8 +3,8 @@
 
 -- How many types a type holds, at every depth.
 use Rattle.std.proofs.Common.{◌≡◌, ℕ, ◌+◌, List, [], ◌∷◌, refl, ap}
-use Rattle.dtype_types.specs.Lookups.{field_types, variant_types}
-use Rattle.dtype_types.specs.Tree.{Tree, Fields, no_fields, field, fields, Variants, no_variants, choice, variants, list, fixed_size_list, map_of, struct, union, extension}
+use Rattle.dtype_types.specs.parts.Lookups.{field_types, variant_types}
+use Rattle.dtype_types.specs.tree.Tree.{Tree, Fields, no_fields, field, fields, Variants, no_variants, choice, variants, list, fixed_size_list, map_of, struct, union, extension}
 
 abbrev mutual
   pub weight : Tree → ℕ

@@ -3,8 +3,8 @@
 
 -- The number of types that a projection steps into below a type, by which its recursion ends.
 use Rattle.std.proofs.Common.{◌≡◌, ℕ, ◌+◌, ◌≤◌, List, ◌∷◌, ap, arith}
-use Rattle.dtype_types.specs.Tree.{Tree, Fields, fields, no_fields, field, list, fixed_size_list, struct}
-use Rattle.dtype_types.specs.TreeOf.{tree, with_trees}
+use Rattle.dtype_types.specs.tree.Tree.{Tree, Fields, fields, no_fields, field, list, fixed_size_list, struct}
+use Rattle.dtype_types.specs.tree.TreeOf.{tree, with_trees}
 use Rattle.dtype_types.specs.declared.dtype.DType.{DType}
 
 abbrev mutual

@@ -4,8 +4,8 @@
 -- A value of a type, restricted to some paths: a value of the type's projection to them (`Projected`). What a reader
 -- gives that opens these paths alone, as Parquet's projection masks have it.
 use Rattle.std.specs.Prelude.{ℕ, List, [], Option, Some, None, if◌then◌else◌}
-use Rattle.dtype_types.specs.Tree.{Tree, Fields, no_fields, field, list, fixed_size_list, struct}
-use Rattle.dtype_types.specs.Value.{Value, Values, no_values, value, Named, no_named, named, items, fixed_items, record_of}
+use Rattle.dtype_types.specs.tree.Tree.{Tree, Fields, no_fields, field, list, fixed_size_list, struct}
+use Rattle.dtype_types.specs.values.Value.{Value, Values, no_values, value, Named, no_named, named, items, fixed_items, record_of}
 use Rattle.dtype_paths.specs.declared.field.Field.TheVariants.{Name, ElementType}
 use Rattle.dtype_projection.specs.Projected.{PathPredicate, after_step, without_field, projected}
 

@@ -4,9 +4,9 @@
 // Theorems about the definitions. Each function's contract is the theorem, and its body is empty.
 ghost use Rattle.std.specs.Prelude.{◌≡◌, ◌↔◌, IsTrue, IsSome, List, Some};
 ghost use Rattle.std.specs.FinSet as set;
-ghost use Rattle.dtype_types.specs.Tree.{Tree};
-ghost use Rattle.dtype_types.specs.Valid.{Valid};
-ghost use Rattle.dtype_types.specs.Value.{Of, Value};
+ghost use Rattle.dtype_types.specs.tree.Tree.{Tree};
+ghost use Rattle.dtype_types.specs.tree.Valid.{Valid};
+ghost use Rattle.dtype_types.specs.values.Value.{Of, Value};
 ghost use Rattle.dtype_paths.specs.Along.{along};
 ghost use Rattle.dtype_paths.specs.At.{At, ExistsIn};
 ghost use Rattle.dtype_paths.specs.Beginning.{Beginning};

@@ -6,11 +6,11 @@ ghost use Rattle.std.specs.List.{AllByRecursion};
 ghost use Rattle.std.specs.Option.{option_map};
 ghost use Rattle.dtype_base.specs.declared.nullability.Nullability.TheVariants.{NonNullable};
 ghost use Rattle.dtype_base.specs.declared.vortex_error.VortexError.TheVariants.{OutOfMemory};
-ghost use Rattle.dtype_types.specs.Erase.{erase, erase_fields, erase_variants};
-ghost use Rattle.dtype_types.specs.Tree.{union};
-ghost use Rattle.dtype_types.specs.TreeOf.{tree, extension_tree, fields_of, map_tree, storage_tree, variants_of};
-ghost use Rattle.dtype_types.specs.Valid.{Valid, ValidFields, ValidVariants};
-ghost use Rattle.dtype_types.specs.Value.{IncludedIn};
+ghost use Rattle.dtype_types.specs.tree.Erase.{erase, erase_fields, erase_variants};
+ghost use Rattle.dtype_types.specs.tree.Tree.{union};
+ghost use Rattle.dtype_types.specs.tree.TreeOf.{tree, extension_tree, fields_of, map_tree, storage_tree, variants_of};
+ghost use Rattle.dtype_types.specs.tree.Valid.{Valid, ValidFields, ValidVariants};
+ghost use Rattle.dtype_types.specs.values.Value.{IncludedIn};
 ghost use Rattle.dtype_projection.specs.Merged.{IsLeastAbove, either_null, either_null_fields, either_null_types, either_null_variants, merged};
 
 use dtype_base::VortexResult;

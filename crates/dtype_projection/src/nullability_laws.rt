@@ -6,11 +6,11 @@
 #![tactic(auto, using(crate::specs::lemmas::Merging::merging))]
 
 ghost use Rattle.std.specs.Prelude.{◌≡◌, ◌↔◌, IsSome, Some, option_and_then};
-ghost use Rattle.dtype_types.specs.Erase.{erase};
-ghost use Rattle.dtype_types.specs.Sub.{Sub};
-ghost use Rattle.dtype_types.specs.Tree.{Tree};
-ghost use Rattle.dtype_types.specs.Valid.{Valid};
-ghost use Rattle.dtype_types.specs.Value.{IncludedIn};
+ghost use Rattle.dtype_types.specs.tree.Erase.{erase};
+ghost use Rattle.dtype_types.specs.nullability.Sub.{Sub};
+ghost use Rattle.dtype_types.specs.tree.Tree.{Tree};
+ghost use Rattle.dtype_types.specs.tree.Valid.{Valid};
+ghost use Rattle.dtype_types.specs.values.Value.{IncludedIn};
 ghost use Rattle.dtype_projection.specs.Merged.{IsLeastAbove, merged};
 
 /// Two types have a least type above both exactly where they are equal but for nullabilities.

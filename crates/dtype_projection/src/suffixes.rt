@@ -4,8 +4,8 @@
 // The suffixes of paths after their first step, grouped by where that step leads.
 ghost use Rattle.std.specs.Prelude.{◌≡◌, ◌≢◌, ◌++◌, [], ◌∷◌, ℕ, List, length, map, vec_len, IfOk, IfSome, IfNone, OnOk, IsOkUnless, MatchResult};
 ghost use Rattle.dtype_base.specs.declared.vortex_error.VortexError.TheVariants.{OutOfMemory};
-ghost use Rattle.dtype_types.specs.Lookups.{field_names};
-ghost use Rattle.dtype_types.specs.TreeOf.{children};
+ghost use Rattle.dtype_types.specs.parts.Lookups.{field_names};
+ghost use Rattle.dtype_types.specs.tree.TreeOf.{children};
 ghost use Rattle.dtype_paths.specs.declared.field.Field.{Field};
 ghost use Rattle.dtype_projection.specs.PathLists.{contains_path, borrowed, borrowed_in_each, AreSuffixes};
 ghost use Rattle.dtype_projection.specs.Projected.{after_step};

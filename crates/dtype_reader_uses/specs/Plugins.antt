@@ -5,8 +5,8 @@
 use Rattle.std.specs.Prelude.{◌≡◌, ℕ, List, [], ◌∷◌, Option, Some, None, refl}
 use Rattle.std.proofs.Common.{ap, subst}
 use Rattle.std.proofs.lemmas.Option.{same_Some}
-use Rattle.dtype_types.specs.Kinds.{list_element}
-use Rattle.dtype_types.specs.Tree.{Tree}
+use Rattle.dtype_types.specs.tree.Kinds.{list_element}
+use Rattle.dtype_types.specs.tree.Tree.{Tree}
 use Rattle.vortex_dtype.specs.Meaning.{Bytes, Lawful, Rewrites}
 use Rattle.vortex_dtype.specs.StorageKinds.{list_kept}
 

@@ -5,11 +5,11 @@
 #![tactic(auto, using(vortex_dtype::specs::rulesets::merging, vortex_dtype::specs::rulesets::order))]
 
 ghost use Rattle.std.specs.Prelude.{◌≡◌, ◌↔◌, IfOk, IfSome, IsSome};
-ghost use Rattle.dtype_types.specs.Erase.{erase};
-ghost use Rattle.dtype_types.specs.Sub.{Sub};
-ghost use Rattle.dtype_types.specs.TreeOf.{tree};
-ghost use Rattle.dtype_types.specs.Valid.{Valid};
-ghost use Rattle.dtype_types.specs.Value.{IncludedIn};
+ghost use Rattle.dtype_types.specs.tree.Erase.{erase};
+ghost use Rattle.dtype_types.specs.nullability.Sub.{Sub};
+ghost use Rattle.dtype_types.specs.tree.TreeOf.{tree};
+ghost use Rattle.dtype_types.specs.tree.Valid.{Valid};
+ghost use Rattle.dtype_types.specs.values.Value.{IncludedIn};
 
 use std::alloc::Global;
 use vortex_dtype::{DType, VortexResult, merge_nullability};

@@ -7,9 +7,9 @@
 ghost use Rattle.std.specs.Prelude.{◌≡◌, ◌↔◌, IfNone, IfOk, IfSome, IsTrue, List};
 ghost use Rattle.std.specs.FinSet as set;
 ghost use Rattle.std.specs.Option.{option_map};
-ghost use Rattle.dtype_types.specs.TreeOf.{tree};
-ghost use Rattle.dtype_types.specs.Valid.{Valid};
-ghost use Rattle.dtype_types.specs.Value.{Of, Value};
+ghost use Rattle.dtype_types.specs.tree.TreeOf.{tree};
+ghost use Rattle.dtype_types.specs.tree.Valid.{Valid};
+ghost use Rattle.dtype_types.specs.values.Value.{Of, Value};
 ghost use Rattle.vortex_dtype.specs.Along.{along};
 ghost use Rattle.vortex_dtype.specs.At.{ExistsIn};
 ghost use Rattle.vortex_dtype.specs.Projected.{projected};

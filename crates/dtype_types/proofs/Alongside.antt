@@ -8,11 +8,11 @@ use Rattle.std.proofs.Math.Bool.{and-false, and-true}
 use Rattle.std.proofs.lemmas.Bool.{false≢true, false_from_ne_true}
 use Rattle.std.proofs.lemmas.Bool.Decides.{Decides-eqb}
 use Rattle.std.proofs.lemmas.List.{get_or_default}
-use Rattle.dtype_types.specs.Tree.{Tree, fields, variants}
+use Rattle.dtype_types.specs.tree.Tree.{Tree, fields, variants}
 use Rattle.dtype_types.specs.declared.dtype.equality.NullabilityRule.{NullabilityRule}
-use Rattle.dtype_types.specs.Lookups.{variant_tags}
-use Rattle.dtype_types.specs.Text.{consecutive}
-use Rattle.dtype_types.specs.Equality.{equal_under, fields_equal_under, variants_equal_under}
+use Rattle.dtype_types.specs.parts.Lookups.{variant_tags}
+use Rattle.dtype_types.specs.texts.Text.{consecutive}
+use Rattle.dtype_types.specs.equality.Equality.{equal_under, fields_equal_under, variants_equal_under}
 
 pub and_first : (x y : Bool) → x ≡ false → (x && y) ≡ false
 and_first x y e = ap (λ b. b && y) e

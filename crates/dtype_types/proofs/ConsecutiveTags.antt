@@ -6,10 +6,10 @@ use Rattle.std.proofs.Common.{◌≡◌, ◌↔◌, ℕ, ◌+◌, List, [], ◌�
 use Rattle.std.specs.List.{range_with_len}
 use Rattle.std.proofs.lemmas.Bool.{false≢true, and_parts, and_from}
 use Rattle.std.proofs.lemmas.Bool.Decides.{Decides-eqb}
-use Rattle.dtype_types.specs.Lookups.{variant_tags}
-use Rattle.dtype_types.specs.Text.{consecutive}
-use Rattle.dtype_types.specs.Tree.{Tree, variants}
-use Rattle.dtype_types.specs.Unions.{AreConsecutive}
+use Rattle.dtype_types.specs.parts.Lookups.{variant_tags}
+use Rattle.dtype_types.specs.texts.Text.{consecutive}
+use Rattle.dtype_types.specs.tree.Tree.{Tree, variants}
+use Rattle.dtype_types.specs.parts.Unions.{AreConsecutive}
 
 tags_from : (k : ℕ) (vs : List (List ℕ × (Tree × ℕ))) → consecutive k (variants vs) ≡ true → variant_tags vs ≡ range_with_len k (length (variant_tags vs))
 tags_from k [] e = refl

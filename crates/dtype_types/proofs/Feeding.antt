@@ -4,8 +4,8 @@
 -- All that is fed to a hasher of a struct's fields, or of a union's variants: how many there are, and each.
 use Rattle.std.proofs.Common.{◌≡◌, ℕ, suc, List, [], ◌∷◌, length, fold, refl, sym, ap, ◌∙◌}
 use Rattle.std.specs.Hash.{le_bytes}
-use Rattle.dtype_types.specs.Tree.{Tree, fields, variants}
-use Rattle.dtype_types.specs.Hashes.{field_count, field_writes, variant_count, variant_writes}
+use Rattle.dtype_types.specs.tree.Tree.{Tree, fields, variants}
+use Rattle.dtype_types.specs.equality.Hashes.{field_count, field_writes, variant_count, variant_writes}
 use Rattle.dtype_types.specs.declared.dtype.hash.HashMode.{HashMode}
 
 count_of_fields : (ps : List (List ℕ × Tree)) → field_count (fields ps) ≡ length ps

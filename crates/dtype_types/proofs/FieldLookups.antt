@@ -6,7 +6,7 @@ use Rattle.std.proofs.Common.{◌≡◌, ℕ, List, length, map, Option, Some, N
 use Rattle.std.specs.Option.{is_some, option_map}
 use Rattle.std.proofs.lemmas.Option.{slice_get-map, slice_get_past, slice_get_read}
 use Rattle.std.proofs.lemmas.Bool.Decides.{nat_tests}
-use Rattle.dtype_types.specs.TreeOf.{tree, shown}
+use Rattle.dtype_types.specs.tree.TreeOf.{tree, shown}
 use Rattle.dtype_types.specs.declared.dtype.DType.{DType}
 
 -- what `get` gives, by trees

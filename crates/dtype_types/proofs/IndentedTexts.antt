@@ -6,10 +6,10 @@ use Rattle.std.proofs.Common.{◌≡◌, ℕ, ◌<◌, List, [], ◌∷◌, ◌+
 use Rattle.dtype_base.specs.Nullability.{nullability_text}
 use Rattle.dtype_base.specs.declared.nullability.Nullability.{Nullability}
 use Rattle.dtype_types.specs.lemmas.TreeLaws.{tree_struct}
-use Rattle.dtype_types.specs.IndentedText.{indented, indented_fields, indented_braces, last_line}
+use Rattle.dtype_types.specs.texts.IndentedText.{indented, indented_fields, indented_braces, last_line}
 use Rattle.std.specs.List.{join_by}
-use Rattle.dtype_types.specs.Tree.{Tree, fields}
-use Rattle.dtype_types.specs.TreeOf.{tree, fields_of}
+use Rattle.dtype_types.specs.tree.Tree.{Tree, fields}
+use Rattle.dtype_types.specs.tree.TreeOf.{tree, fields_of}
 use Rattle.dtype_types.specs.declared.dtype.DType.{DType, Struct}
 use Rattle.dtype_types.specs.declared.struct_fields.StructFields.{StructFields}
 

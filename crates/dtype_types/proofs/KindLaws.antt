@@ -9,10 +9,10 @@ use Rattle.dtype_base.specs.declared.nullability.Nullability.{Nullability}
 use Rattle.dtype_base.specs.Decimals.{Decimal as DecimalOf}
 use Rattle.dtype_base.specs.declared.ptype.PType.{PType}
 use Rattle.dtype_types.specs.declared.dtype.kinds.Kind.TheVariants as k
-use Rattle.dtype_types.specs.Kinds.{kind, primitive_name, decimal_of, struct_fields, union_variants, map_parts, extension_parts, list_element, fixed_size_list_element, any_size_list_element}
-use Rattle.dtype_types.specs.Tree.{Tree, primitive, struct, extension}
+use Rattle.dtype_types.specs.tree.Kinds.{kind, primitive_name, decimal_of, struct_fields, union_variants, map_parts, extension_parts, list_element, fixed_size_list_element, any_size_list_element}
+use Rattle.dtype_types.specs.tree.Tree.{Tree, primitive, struct, extension}
 use Rattle.dtype_types.specs.lemmas.PartsEquality.{pairs_of}
-use Rattle.dtype_types.specs.TreeOf.{tree, children, variant_list}
+use Rattle.dtype_types.specs.tree.TreeOf.{tree, children, variant_list}
 use denote.Hole.Carrier
 use Rattle.dtype_types.specs.declared.dtype.DType.{out-DType}
 use Rattle.dtype_types.specs.lemmas.TreeLaws.{tree_out, struct_is, union_is, tree_struct, tree_union, triples_variants}

@@ -7,9 +7,9 @@ use Rattle.std.specs.List.{zip}
 use Rattle.std.proofs.lemmas.List.{length-map}
 use Rattle.std.proofs.lemmas.Simd.{map-map}
 use Rattle.std.specs.Map.{keys_of, values_of}
-use Rattle.dtype_types.specs.Lists.{types_of, tags_of}
-use Rattle.dtype_types.specs.Lookups.{field_names, field_types, variant_names, variant_types, variant_tags}
-use Rattle.dtype_types.specs.TreeOf.{tree, with_trees, with_tagged_trees}
+use Rattle.dtype_types.specs.parts.Lists.{types_of, tags_of}
+use Rattle.dtype_types.specs.parts.Lookups.{field_names, field_types, variant_names, variant_types, variant_tags}
+use Rattle.dtype_types.specs.tree.TreeOf.{tree, with_trees, with_tagged_trees}
 use Rattle.dtype_types.specs.declared.dtype.DType.{DType}
 
 pub names_shown : (ps : List (List ℕ × DType)) → field_names (with_trees ps) ≡ keys_of ps

@@ -9,8 +9,8 @@ use Rattle.std.proofs.lemmas.Option.{same_Some, slice_get-get_or}
 use Rattle.std.proofs.lemmas.Slice.Eq.{bytes_eq-Decides}
 use Rattle.std.specs.List.{AllByRecursion}
 use Rattle.std.specs.Str.{bytes_eq}
-use Rattle.dtype_types.specs.Lookups.{first_named, field_names}
-use Rattle.dtype_types.specs.Tree.{Tree}
+use Rattle.dtype_types.specs.parts.Lookups.{first_named, field_names}
+use Rattle.dtype_types.specs.tree.Tree.{Tree}
 
 -- a field has each of them
 each_known : (fs : List (List ℕ × Tree)) (ms : List (List ℕ)) (gs : List (List ℕ × Tree)) → map (λ (p : List ℕ × Tree). Some p.1) gs ≡ map (first_named fs) ms → AllByRecursion (λ n. IsSome (first_named fs n)) ms

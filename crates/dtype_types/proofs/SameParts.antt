@@ -4,9 +4,9 @@
 -- Types made of the same parts are the same type, also with another nullability.
 use Rattle.std.proofs.Common.{◌≡◌, sym, ap, ◌∙◌, Some}
 use Rattle.dtype_base.specs.declared.nullability.Nullability.{Nullability}
-use Rattle.dtype_types.specs.Nullable.{set_null}
-use Rattle.dtype_types.specs.Tree.{map_of, struct, union, fields, variants}
-use Rattle.dtype_types.specs.TreeOf.{tree, MapParts, struct_pairs, union_triples, with_trees, with_tagged_trees, extension_tree, map_shown}
+use Rattle.dtype_types.specs.nullability.Nullable.{set_null}
+use Rattle.dtype_types.specs.tree.Tree.{map_of, struct, union, fields, variants}
+use Rattle.dtype_types.specs.tree.TreeOf.{tree, MapParts, struct_pairs, union_triples, with_trees, with_tagged_trees, extension_tree, map_shown}
 use Rattle.dtype_types.specs.lemmas.TreeLaws.{tree_struct, tree_union, tree_map, tree_extension}
 use Rattle.dtype_types.specs.declared.dtype.DType.{DType, Struct, Union, Map, Extension}
 use Rattle.dtype_types.specs.declared.struct_fields.StructFields.{StructFields}

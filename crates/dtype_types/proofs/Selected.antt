@@ -14,9 +14,9 @@ use Rattle.dtype_base.specs.declared.vortex_error.VortexError.TheVariants.{OutOf
 use Rattle.dtype_types.proofs.Parts.{names_shown, types_shown, trees_zip}
 use Rattle.std.specs.Map.{keys_of, values_of}
 use Rattle.dtype_types.specs.lemmas.Lookups.{field_at_place}
-use Rattle.dtype_types.specs.Lookups.{first_named, field_names, field_types, Projects}
-use Rattle.dtype_types.specs.Tree.{Tree}
-use Rattle.dtype_types.specs.TreeOf.{tree, with_trees}
+use Rattle.dtype_types.specs.parts.Lookups.{first_named, field_names, field_types, Projects}
+use Rattle.dtype_types.specs.tree.Tree.{Tree}
+use Rattle.dtype_types.specs.tree.TreeOf.{tree, with_trees}
 use Rattle.dtype_types.specs.declared.dtype.DType.{DType}
 
 -- the types at the first positions of names are the types of these names

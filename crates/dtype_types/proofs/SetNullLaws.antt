@@ -4,8 +4,8 @@
 -- When a type can have another nullability.
 use Rattle.std.proofs.Common.{◌≡◌, ℕ, List, Option, Some, None, IsSome, option_and_then, refl}
 use Rattle.dtype_base.specs.declared.nullability.Nullability.TheVariants.{NonNullable}
-use Rattle.dtype_types.specs.Nullable.{nullability, set_null, CanBeNonNullable}
-use Rattle.dtype_types.specs.Tree.{Tree, null, extension}
+use Rattle.dtype_types.specs.nullability.Nullable.{nullability, set_null, CanBeNonNullable}
+use Rattle.dtype_types.specs.tree.Tree.{Tree, null, extension}
 
 -- a value passes through
 kept : (i b : List ℕ) (o : Option Tree) → IsSome o → IsSome (option_and_then (λ x. Some (extension i b x)) o)

@@ -7,7 +7,7 @@ use Rattle.std.specs.List.{zip}
 use Rattle.std.proofs.lemmas.Slice.Zip.{firsts-zip, seconds-zip}
 use Rattle.std.proofs.lemmas.Simd.{map-map}
 use Rattle.std.specs.Map.{keys_of, values_of}
-use Rattle.dtype_types.specs.Lists.{types_of, tags_of}
+use Rattle.dtype_types.specs.parts.Lists.{types_of, tags_of}
 
 pub zip_count : {X Y : Type 0} (xs : List X) (ys : List Y) → length ys ≡ length xs → length (zip xs ys) ≡ length xs
 zip_count [] ys e = refl

@@ -6,13 +6,13 @@ use Rattle.std.proofs.Common.{◌≡◌, ◌∙◌, ℕ, List, zero, suc, ◌<�
 use Rattle.std.specs.Prelude.{option_map, IsSomeAnd}
 use Rattle.dtype_base.specs.declared.nullability.Nullability.{Nullability}
 use Rattle.dtype_base.specs.declared.nullability.Nullability.TheVariants.{NonNullable, Nullable}
-use Rattle.dtype_types.specs.Erase.{erase, erase_fields, erase_variants}
-use Rattle.dtype_types.specs.Valid.{Valid, ValidFields, ValidVariants, LacksTag}
-use Rattle.dtype_types.specs.Sub.{Sub, Allows, NullableWherever, NullableWhereverFields, NullableWhereverVariants}
-use Rattle.dtype_types.specs.Tree.{Tree, Fields, no_fields, field, Variants, no_variants, choice, null, bool, primitive, decimal, utf8, binary, list, fixed_size_list, map_of, struct, union, variant, extension}
-use Rattle.dtype_types.specs.Value.{Value, Of, IncludedIn, NamedOf, VariantOf, Each, null_value, items, fixed_items, entries, record_of, tagged, no_values, value, no_entries, entry, named}
-use Rattle.dtype_types.specs.Sample.{sample, samples, copies}
-use Rattle.dtype_types.specs.Tell.{or_else, null_else, tell, tell_fields, tell_variants, HasNoSizeZero, FieldsHaveNoSizeZero, VariantsHaveNoSizeZero}
+use Rattle.dtype_types.specs.tree.Erase.{erase, erase_fields, erase_variants}
+use Rattle.dtype_types.specs.tree.Valid.{Valid, ValidFields, ValidVariants, LacksTag}
+use Rattle.dtype_types.specs.nullability.Sub.{Sub, Allows, NullableWherever, NullableWhereverFields, NullableWhereverVariants}
+use Rattle.dtype_types.specs.tree.Tree.{Tree, Fields, no_fields, field, Variants, no_variants, choice, null, bool, primitive, decimal, utf8, binary, list, fixed_size_list, map_of, struct, union, variant, extension}
+use Rattle.dtype_types.specs.values.Value.{Value, Of, IncludedIn, NamedOf, VariantOf, Each, null_value, items, fixed_items, entries, record_of, tagged, no_values, value, no_entries, entry, named}
+use Rattle.dtype_types.specs.values.Sample.{sample, samples, copies}
+use Rattle.dtype_types.specs.values.Tell.{or_else, null_else, tell, tell_fields, tell_variants, HasNoSizeZero, FieldsHaveNoSizeZero, VariantsHaveNoSizeZero}
 use Rattle.dtype_types.specs.lemmas.SampleLaws.{sample_of, samples_of, value_count-copies, each_copy}
 
 -- ---- an answer that says why there is none, or tells P from Q

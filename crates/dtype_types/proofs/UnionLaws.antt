@@ -7,12 +7,12 @@ use Rattle.std.specs.List.{AllByRecursion, All}
 use Rattle.std.proofs.lemmas.List.Elements.{All-from_recursion, recursion_from_All}
 use Rattle.dtype_base.specs.Bytes.{Bytes}
 use Rattle.dtype_base.specs.Distinct.{Distinct}
-use Rattle.dtype_types.specs.Valid.{Valid, ValidVariants, HasVariant}
-use Rattle.dtype_types.specs.TreeOf.{tree, with_tagged_trees}
+use Rattle.dtype_types.specs.tree.Valid.{Valid, ValidVariants, HasVariant}
+use Rattle.dtype_types.specs.tree.TreeOf.{tree, with_tagged_trees}
 use Rattle.std.specs.Map.{keys_of}
-use Rattle.dtype_types.specs.Lists.{types_of, tags_of}
-use Rattle.dtype_types.specs.Lookups.{variant_names, variant_types, variant_tags}
-use Rattle.dtype_types.specs.Tree.{variants}
+use Rattle.dtype_types.specs.parts.Lists.{types_of, tags_of}
+use Rattle.dtype_types.specs.parts.Lookups.{variant_names, variant_types, variant_tags}
+use Rattle.dtype_types.specs.tree.Tree.{variants}
 use Rattle.dtype_types.specs.declared.dtype.DType.{DType}
 use Rattle.dtype_types.specs.lemmas.ValidLists.{valid_union_of}
 

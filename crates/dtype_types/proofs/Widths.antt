@@ -5,11 +5,11 @@
 use Rattle.std.proofs.Common.{◌≡◌, ◌⊎◌, ℕ, zero, suc, ◌+◌, ◌*◌, ◌^◌, ◌<◌, ◌≤◌, List, [], ◌∷◌, ◌++◌, length, map, get_or, take, refl, sym, ap, ◌∙◌, inl, inr, arith, add_assoc}
 use Rattle.std.proofs.lemmas.List.{get_or-map, length-map, take_more}
 use Rattle.dtype_base.specs.declared.nullability.Nullability.{Nullability}
-use Rattle.dtype_types.specs.Tree.{Tree, fields, fixed_size_list, null, struct}
-use Rattle.dtype_types.specs.TreeOf.{tree}
-use Rattle.dtype_types.specs.Lookups.{field_types}
+use Rattle.dtype_types.specs.tree.Tree.{Tree, fields, fixed_size_list, null, struct}
+use Rattle.dtype_types.specs.tree.TreeOf.{tree}
+use Rattle.dtype_types.specs.parts.Lookups.{field_types}
 use Rattle.dtype_types.specs.declared.dtype.DType.{DType}
-use Rattle.dtype_types.specs.Width.{Fixed, FixedFields, width, total_width, Part, FieldPart, HasWidePart}
+use Rattle.dtype_types.specs.tree.Width.{Fixed, FixedFields, width, total_width, Part, FieldPart, HasWidePart}
 
 push_fixed : (ps : List (List ℕ × Tree)) (p : List ℕ × Tree) → FixedFields (fields ps) → Fixed p.1 → FixedFields (fields (ps ++ p ∷ []))
 push_fixed [] p f g = (g, tt)

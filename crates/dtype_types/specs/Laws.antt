@@ -5,7 +5,7 @@
 use Rattle.std.specs.Prelude.{◌≡◌, List, Option, length}
 use Rattle.std.specs.Iterator.{Count, UpTo}
 use Rattle.std.specs.Iterator.Runs.{EveryRun, ItemsMapTo}
-use Rattle.dtype_types.specs.Tree.{Tree}
+use Rattle.dtype_types.specs.tree.Tree.{Tree}
 
 -- an order of types: each is below itself, what is below a type is below all that it is below, and two types
 -- that are below one another are equal

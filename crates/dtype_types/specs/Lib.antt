@@ -1,29 +1,12 @@
 -- SPDX-License-Identifier: Apache-2.0
 -- SPDX-FileCopyrightText: Copyright the Vortex contributors
 
-pub mod Lists
-pub mod Tree
-pub mod Nullable
-pub mod Valid
-pub mod Erase
-pub mod Lookups
-pub mod Kinds
-pub mod Text
-pub mod TextOf
-pub mod TreeOf
-pub mod Equality
-pub mod EqualityOf
-pub mod FieldTypes
-pub mod Unions
-pub mod Width
-pub mod IndentedText
-pub mod Hashes
-pub mod HashesOf
-pub mod Maps
+pub mod tree
+pub mod parts
+pub mod nullability
+pub mod values
+pub mod texts
+pub mod equality
 pub mod Laws
-pub mod Value
-pub mod Sample
-pub mod Sub
-pub mod Tell
 pub mod formers
 pub mod lemmas

@@ -124,15 +124,15 @@ struct Parts<T> {
 }
 
 impl ExtDTypeRef {
-    ghost use Rattle.dtype_types.specs.Kinds.{is_nested};
-    ghost use Rattle.dtype_types.specs.Nullable.{nullability, CanBeNonNullable, SetNull, IsNullable};
-    ghost use Rattle.dtype_types.specs.Equality.{equal_under};
-    ghost use Rattle.dtype_types.specs.Erase.{erase};
-    ghost use Rattle.dtype_types.specs.Valid.{Valid};
-    ghost use Rattle.dtype_types.specs.TreeOf.{tree, extension_tree, extension_metadata, extension_id, storage_tree};
-    ghost use Rattle.dtype_types.specs.Tree.{extension};
-    ghost use Rattle.dtype_types.specs.HashesOf.{extension_writes};
-    ghost use Rattle.dtype_types.specs.Width.{Measures};
+    ghost use Rattle.dtype_types.specs.tree.Kinds.{is_nested};
+    ghost use Rattle.dtype_types.specs.nullability.Nullable.{nullability, CanBeNonNullable, SetNull, IsNullable};
+    ghost use Rattle.dtype_types.specs.equality.Equality.{equal_under};
+    ghost use Rattle.dtype_types.specs.tree.Erase.{erase};
+    ghost use Rattle.dtype_types.specs.tree.Valid.{Valid};
+    ghost use Rattle.dtype_types.specs.tree.TreeOf.{tree, extension_tree, extension_metadata, extension_id, storage_tree};
+    ghost use Rattle.dtype_types.specs.tree.Tree.{extension};
+    ghost use Rattle.dtype_types.specs.equality.HashesOf.{extension_writes};
+    ghost use Rattle.dtype_types.specs.tree.Width.{Measures};
 
     /// Returns the id.
     pub fn id(&self) -> &ExtId
@@ -323,9 +323,9 @@ impl ExtDTypeRef {
 /// Two extensions are equal where their ids, their metadata and their storages are.
 #[tactic(auto, using(crate::specs::lemmas::Equality::equality))]
 impl PartialEq for ExtDTypeRef {
-    ghost use Rattle.dtype_types.specs.EqualityOf.{same_extension};
+    ghost use Rattle.dtype_types.specs.equality.EqualityOf.{same_extension};
     ghost use Rattle.dtype_types.specs.lemmas.PartsEquality.{same_extension_equiv};
-    ghost use Rattle.dtype_types.specs.TreeOf.{extension_tree};
+    ghost use Rattle.dtype_types.specs.tree.TreeOf.{extension_tree};
     ghost use Rattle.std.specs.Cmp.{partial_equiv_from_equiv};
 
     ghost eq = { same_extension };
@@ -347,7 +347,7 @@ impl Eq for ExtDTypeRef {
 
 impl Hash for ExtDTypeRef {
     ghost use Rattle.dtype_types.specs.lemmas.HashLaws.{extension_fed};
-    ghost use Rattle.dtype_types.specs.HashesOf.{extension_writes};
+    ghost use Rattle.dtype_types.specs.equality.HashesOf.{extension_writes};
     ghost use Rattle.dtype_types.specs.declared.dtype.hash.HashMode.TheVariants.{Whole};
 
     ghost hash_input = { extension_writes Whole };
@@ -373,7 +373,7 @@ impl<'a> Model for MetadataDisplay<'a> {
 
 /// Writes the number of bytes and `B`, as `2B`.
 impl fmt::Display for MetadataDisplay<'_> {
-    ghost use Rattle.dtype_types.specs.Text.{metadata_text};
+    ghost use Rattle.dtype_types.specs.texts.Text.{metadata_text};
 
     ghost output = { λ m. Some (metadata_text m) };
 
@@ -385,7 +385,7 @@ impl fmt::Display for MetadataDisplay<'_> {
 
 /// Writes the id, the number of metadata bytes in brackets, and the storage in parentheses: `x.tag[2B](utf8?)`.
 impl fmt::Display for ExtDTypeRef {
-    ghost use Rattle.dtype_types.specs.TextOf.{extension_text};
+    ghost use Rattle.dtype_types.specs.texts.TextOf.{extension_text};
 
     ghost output = { λ e. Some (extension_text e) };
 

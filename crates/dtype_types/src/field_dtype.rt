@@ -4,10 +4,10 @@
 ghost use Rattle.std.specs.Prelude.{◌≡◌, ◌↔◌, IsTrue, map, MatchResult};
 ghost use Rattle.dtype_base.specs.declared.nullability.Nullability.TheVariants.{NonNullable};
 ghost use Rattle.dtype_base.specs.declared.vortex_error.VortexError.TheVariants.{OutOfMemory};
-ghost use Rattle.dtype_types.specs.FieldTypes.{field_tree};
-ghost use Rattle.dtype_types.specs.Valid.{Valid};
-ghost use Rattle.dtype_types.specs.TreeOf.{tree};
-ghost use Rattle.dtype_types.specs.Tree.{primitive};
+ghost use Rattle.dtype_types.specs.parts.FieldTypes.{field_tree};
+ghost use Rattle.dtype_types.specs.tree.Valid.{Valid};
+ghost use Rattle.dtype_types.specs.tree.TreeOf.{tree};
+ghost use Rattle.dtype_types.specs.tree.Tree.{primitive};
 
 use crate::DType;
 use dtype_base::{PType, VortexResult};
@@ -83,7 +83,7 @@ impl From<PType> for FieldDType {
 
 #[tactic(auto, using(crate::specs::lemmas::Equality::equality))]
 impl PartialEq for FieldDType {
-    ghost use Rattle.dtype_types.specs.EqualityOf.{same_field_dtype};
+    ghost use Rattle.dtype_types.specs.equality.EqualityOf.{same_field_dtype};
     ghost use Rattle.dtype_types.specs.lemmas.PartsEquality.{same_field_dtype_equiv};
     ghost use Rattle.std.specs.Cmp.{partial_equiv_from_equiv};
 
@@ -106,7 +106,7 @@ impl Eq for FieldDType {
 
 impl Hash for FieldDType {
     ghost use Rattle.dtype_types.specs.lemmas.HashLaws.{dtype_fed};
-    ghost use Rattle.dtype_types.specs.Hashes.{hash_writes};
+    ghost use Rattle.dtype_types.specs.equality.Hashes.{hash_writes};
 
     ghost hash_input = { λ f. hash_writes (field_tree f) };
 

@@ -5,7 +5,7 @@ ghost use Rattle.std.specs.Prelude.{◌≡◌, IfSome, Some, length};
 ghost use Rattle.std.specs.List.{zip};
 ghost use Rattle.std.specs.Iterator.{YieldsFirstBy, UpTo, item_count};
 ghost use Rattle.std.specs.Iterator.SizeHint.{IsWithinCount};
-ghost use Rattle.dtype_types.specs.Lists.{borrowed_pair};
+ghost use Rattle.dtype_types.specs.parts.Lists.{borrowed_pair};
 
 use crate::DType;
 use dtype_base::FieldName;

@@ -12,23 +12,23 @@ ghost use Rattle.dtype_base.specs.declared.nullability.Nullability.{Nullability}
 ghost use Rattle.dtype_base.specs.declared.nullability.Nullability.TheVariants.{NonNullable, Nullable};
 ghost use Rattle.dtype_base.specs.Bytes.{Bytes};
 ghost use Rattle.dtype_base.specs.declared.ptype.PType.{PType};
-ghost use Rattle.dtype_types.specs.Erase.{erase};
-ghost use Rattle.dtype_types.specs.Hashes.{hash_writes_ignoring_nullability};
+ghost use Rattle.dtype_types.specs.tree.Erase.{erase};
+ghost use Rattle.dtype_types.specs.equality.Hashes.{hash_writes_ignoring_nullability};
 ghost use Rattle.dtype_types.specs.Laws.{GivesInOrder, IsOrder};
-ghost use Rattle.dtype_types.specs.Nullable.{SetNull, nullability, IsNullable};
-ghost use Rattle.dtype_types.specs.Sample.{sample};
-ghost use Rattle.dtype_types.specs.Sub.{Sub};
-ghost use Rattle.dtype_types.specs.Tell.{HasNoSizeZero, tell};
-ghost use Rattle.dtype_types.specs.Valid.{Valid};
-ghost use Rattle.dtype_types.specs.Value.{AddsNull, IncludedIn, Of, null_value};
-ghost use Rattle.dtype_types.specs.FieldTypes.{field_tree};
-ghost use Rattle.dtype_types.specs.Kinds.{any_size_list_element, extension_parts, fixed_size_list_element, list_element, map_parts, struct_fields, union_variants};
-ghost use Rattle.dtype_types.specs.Maps.{entries_of};
-ghost use Rattle.dtype_types.specs.Tree.{Tree, extension, fields, fixed_size_list, list, map_of, primitive, struct, union, variants};
-ghost use Rattle.dtype_types.specs.TreeOf.{children, variant_list, extension_id, extension_metadata, extension_tree, map_shown, map_tree, storage_tree, struct_pairs, struct_tree, tree, union_tree, union_triples};
-ghost use Rattle.dtype_types.specs.Lookups.{Projects, field_types, first_named, variant_names, variant_named, variant_tags, variant_types};
-ghost use Rattle.dtype_types.specs.Unions.{MakesUnion};
-ghost use Rattle.dtype_types.specs.Lists.{borrowed_pair, borrowed_triple};
+ghost use Rattle.dtype_types.specs.nullability.Nullable.{SetNull, nullability, IsNullable};
+ghost use Rattle.dtype_types.specs.values.Sample.{sample};
+ghost use Rattle.dtype_types.specs.nullability.Sub.{Sub};
+ghost use Rattle.dtype_types.specs.values.Tell.{HasNoSizeZero, tell};
+ghost use Rattle.dtype_types.specs.tree.Valid.{Valid};
+ghost use Rattle.dtype_types.specs.values.Value.{AddsNull, IncludedIn, Of, null_value};
+ghost use Rattle.dtype_types.specs.parts.FieldTypes.{field_tree};
+ghost use Rattle.dtype_types.specs.tree.Kinds.{any_size_list_element, extension_parts, fixed_size_list_element, list_element, map_parts, struct_fields, union_variants};
+ghost use Rattle.dtype_types.specs.parts.Maps.{entries_of};
+ghost use Rattle.dtype_types.specs.tree.Tree.{Tree, extension, fields, fixed_size_list, list, map_of, primitive, struct, union, variants};
+ghost use Rattle.dtype_types.specs.tree.TreeOf.{children, variant_list, extension_id, extension_metadata, extension_tree, map_shown, map_tree, storage_tree, struct_pairs, struct_tree, tree, union_tree, union_triples};
+ghost use Rattle.dtype_types.specs.parts.Lookups.{Projects, field_types, first_named, variant_names, variant_named, variant_tags, variant_types};
+ghost use Rattle.dtype_types.specs.parts.Unions.{MakesUnion};
+ghost use Rattle.dtype_types.specs.parts.Lists.{borrowed_pair, borrowed_triple};
 
 use crate::{
     DType, DTypeIter, ExtDTypeRef, FieldDType, FieldIter, MapDType, StructFields, UnionVariants,

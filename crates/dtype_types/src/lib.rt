@@ -3,15 +3,15 @@
 
 //! Struct, union and map types, erased extensions, and `DType`, the type that holds them.
 //!
-//! In contracts a `DType` is a finite tree (`tree` of `specs/TreeOf`), and each call is a definition on trees:
+//! In contracts a `DType` is a finite tree (`tree` of `specs/tree/TreeOf`), and each call is a definition on trees:
 //! nullability, lookups, copies, comparisons, texts. The types that a call returns are valid where those that it takes
 //! are (`Valid` of the tree; `laws`). A struct is a list of pairs of a name and a type, a union a list of triples of a
 //! name, a type and a tag (`named` and `tagged`).
 //!
 //! Begin with `DType` in `dtype.rt` and its calls in `dtype/`, a file a topic, then `StructFields`. The
-//! definitions are in `specs/`: `Tree` (the type tree), `Nullable`, `Valid`, `Erase`, `Lookups`,
-//! `Text`, `Value` (values, and which are of which type) and `Sub` (the order by nullability). `laws`
-//! has theorems about the definitions. `docs/PROMISES.md` says what is proved, and what is only tested.
+//! definitions are in the folders of `specs/`: `tree` (the tree of a type, and validity), `parts` (structs, unions and
+//! maps), `nullability` (and the order by it), `values` (and which are of which type), `texts` and `equality` (and
+//! hashes). `laws` has theorems about the definitions. `docs/PROMISES.md` says what is proved, and what is only tested.
 #![tactic(auto)]
 
 mod dtype;

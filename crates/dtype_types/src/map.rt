@@ -31,11 +31,11 @@ struct Entries<T> {
 }
 
 impl MapDType {
-    ghost use Rattle.dtype_types.specs.Equality.{equal_under};
-    ghost use Rattle.dtype_types.specs.HashesOf.{map_writes};
-    ghost use Rattle.dtype_types.specs.Maps.{entries_of};
-    ghost use Rattle.dtype_types.specs.Nullable.{nullability, IsNullable};
-    ghost use Rattle.dtype_types.specs.TreeOf.{tree, map_shown};
+    ghost use Rattle.dtype_types.specs.equality.Equality.{equal_under};
+    ghost use Rattle.dtype_types.specs.equality.HashesOf.{map_writes};
+    ghost use Rattle.dtype_types.specs.parts.Maps.{entries_of};
+    ghost use Rattle.dtype_types.specs.nullability.Nullable.{nullability, IsNullable};
+    ghost use Rattle.dtype_types.specs.tree.TreeOf.{tree, map_shown};
 
     /// Returns the type of a map with this key and value. Whether its keys are sorted is kept and not checked.
     ///
@@ -141,9 +141,9 @@ impl MapDType {
 
 #[tactic(auto, using(crate::specs::lemmas::Equality::equality))]
 impl PartialEq for MapDType {
-    ghost use Rattle.dtype_types.specs.EqualityOf.{same_map};
+    ghost use Rattle.dtype_types.specs.equality.EqualityOf.{same_map};
     ghost use Rattle.dtype_types.specs.lemmas.PartsEquality.{same_map_equiv};
-    ghost use Rattle.dtype_types.specs.TreeOf.{map_shown};
+    ghost use Rattle.dtype_types.specs.tree.TreeOf.{map_shown};
     ghost use Rattle.std.specs.Cmp.{partial_equiv_from_equiv};
 
     ghost eq = { same_map };
@@ -165,7 +165,7 @@ impl Eq for MapDType {
 
 impl Hash for MapDType {
     ghost use Rattle.dtype_types.specs.lemmas.HashLaws.{map_fed};
-    ghost use Rattle.dtype_types.specs.HashesOf.{map_writes};
+    ghost use Rattle.dtype_types.specs.equality.HashesOf.{map_writes};
     ghost use Rattle.dtype_types.specs.declared.dtype.hash.HashMode.TheVariants.{Whole};
 
     ghost hash_input = { map_writes Whole };
@@ -179,7 +179,7 @@ impl Hash for MapDType {
 
 /// Writes `map(`, the key, the value, and whether the keys are sorted.
 impl fmt::Display for MapDType {
-    ghost use Rattle.dtype_types.specs.TextOf.{map_text};
+    ghost use Rattle.dtype_types.specs.texts.TextOf.{map_text};
 
     ghost output = { λ m. Some (map_text m) };
 

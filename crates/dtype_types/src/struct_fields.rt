@@ -36,17 +36,17 @@ pub struct StructFields {
 
 #[tactic(auto, using(crate::proofs::Sides::pairs, crate::proofs::Parts::fields, crate::specs::lemmas::Lookups::lookups))]
 impl StructFields {
-    ghost use Rattle.dtype_types.specs.Equality.{fields_equal_under};
-    ghost use Rattle.dtype_types.specs.Erase.{erase};
-    ghost use Rattle.dtype_types.specs.FieldTypes.{field_tree, MadeFrom};
-    ghost use Rattle.dtype_types.specs.IndentedText.{indented_text, indented_braces};
-    ghost use Rattle.dtype_types.specs.Lookups.{first_named, field_names, field_types, Projects};
+    ghost use Rattle.dtype_types.specs.equality.Equality.{fields_equal_under};
+    ghost use Rattle.dtype_types.specs.tree.Erase.{erase};
+    ghost use Rattle.dtype_types.specs.parts.FieldTypes.{field_tree, MadeFrom};
+    ghost use Rattle.dtype_types.specs.texts.IndentedText.{indented_text, indented_braces};
+    ghost use Rattle.dtype_types.specs.parts.Lookups.{first_named, field_names, field_types, Projects};
     ghost use Rattle.dtype_base.specs.Distinct.{Distinct};
-    ghost use Rattle.dtype_types.specs.HashesOf.{struct_writes};
-    ghost use Rattle.dtype_types.specs.Tree.{Tree};
-    ghost use Rattle.dtype_types.specs.TreeOf.{fields_of, struct_dtypes, struct_pairs, children, tree, shown, struct_tree};
-    ghost use Rattle.dtype_types.specs.Valid.{Valid};
-    ghost use Rattle.dtype_types.specs.Width.{MeasuresFields};
+    ghost use Rattle.dtype_types.specs.equality.HashesOf.{struct_writes};
+    ghost use Rattle.dtype_types.specs.tree.Tree.{Tree};
+    ghost use Rattle.dtype_types.specs.tree.TreeOf.{fields_of, struct_dtypes, struct_pairs, children, tree, shown, struct_tree};
+    ghost use Rattle.dtype_types.specs.tree.Valid.{Valid};
+    ghost use Rattle.dtype_types.specs.tree.Width.{MeasuresFields};
 
     /// Returns a struct without fields.
     ///
@@ -443,9 +443,9 @@ impl StructFields {
 
 #[tactic(auto, using(crate::specs::lemmas::Equality::equality))]
 impl PartialEq for StructFields {
-    ghost use Rattle.dtype_types.specs.EqualityOf.{same_struct};
+    ghost use Rattle.dtype_types.specs.equality.EqualityOf.{same_struct};
     ghost use Rattle.dtype_types.specs.lemmas.PartsEquality.{same_struct_equiv};
-    ghost use Rattle.dtype_types.specs.TreeOf.{children};
+    ghost use Rattle.dtype_types.specs.tree.TreeOf.{children};
     ghost use Rattle.std.specs.Cmp.{partial_equiv_from_equiv};
 
     ghost eq = { same_struct };
@@ -467,7 +467,7 @@ impl Eq for StructFields {
 
 impl Hash for StructFields {
     ghost use Rattle.dtype_types.specs.lemmas.HashLaws.{struct_fed};
-    ghost use Rattle.dtype_types.specs.HashesOf.{struct_writes};
+    ghost use Rattle.dtype_types.specs.equality.HashesOf.{struct_writes};
     ghost use Rattle.dtype_types.specs.declared.dtype.hash.HashMode.TheVariants.{Whole};
 
     ghost hash_input = { struct_writes Whole };
@@ -481,7 +481,7 @@ impl Hash for StructFields {
 
 /// Writes the fields in braces, each a name, `=` and a type.
 impl fmt::Display for StructFields {
-    ghost use Rattle.dtype_types.specs.TextOf.{struct_text};
+    ghost use Rattle.dtype_types.specs.texts.TextOf.{struct_text};
 
     ghost output = { λ s. Some (struct_text s) };
 

@@ -4,7 +4,7 @@
 ghost use Rattle.std.specs.Prelude.{◌≡◌, length};
 ghost use Rattle.std.specs.List.{zip};
 ghost use Rattle.std.specs.Map.{keys_of};
-ghost use Rattle.dtype_types.specs.Lists.{types_of, tags_of};
+ghost use Rattle.dtype_types.specs.parts.Lists.{types_of, tags_of};
 
 use dtype_base::FieldNames;
 use std::marker::Model;

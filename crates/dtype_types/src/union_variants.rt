@@ -6,7 +6,7 @@ ghost use Rattle.std.specs.List.{IsDistinct, range_with_len, zip};
 ghost use Rattle.dtype_base.specs.Bytes.{Bytes};
 ghost use Rattle.dtype_base.specs.FieldNames.{first_place};
 ghost use Rattle.dtype_base.specs.declared.vortex_error.VortexError.TheVariants.{OutOfMemory, UnionTooMany};
-ghost use Rattle.dtype_types.specs.Unions.{AreConsecutive, HasUnionLengths, MakesUnion, UnionError};
+ghost use Rattle.dtype_types.specs.parts.Unions.{AreConsecutive, HasUnionLengths, MakesUnion, UnionError};
 
 use crate::dtype::equality::{NullabilityRule, equal_under};
 use crate::dtype::hash::{HashMode, hash_into};
@@ -82,12 +82,12 @@ fn first_tags(alloc: Global, count: usize) -> VortexResult<Vec<u8>>
 
 #[tactic(auto, using(crate::proofs::Sides::triples, crate::proofs::Parts::variants, crate::specs::lemmas::Lookups::lookups))]
 impl UnionVariants {
-    ghost use Rattle.dtype_types.specs.Equality.{variants_equal_under};
-    ghost use Rattle.dtype_types.specs.Erase.{erase};
-    ghost use Rattle.dtype_types.specs.Lookups.{variant_named, variant_types, variant_names, variant_tags};
-    ghost use Rattle.dtype_types.specs.HashesOf.{union_writes};
-    ghost use Rattle.dtype_types.specs.TreeOf.{tree, variants_of, variant_list, union_dtypes, union_triples, shown, union_tree};
-    ghost use Rattle.dtype_types.specs.Valid.{Valid};
+    ghost use Rattle.dtype_types.specs.equality.Equality.{variants_equal_under};
+    ghost use Rattle.dtype_types.specs.tree.Erase.{erase};
+    ghost use Rattle.dtype_types.specs.parts.Lookups.{variant_named, variant_types, variant_names, variant_tags};
+    ghost use Rattle.dtype_types.specs.equality.HashesOf.{union_writes};
+    ghost use Rattle.dtype_types.specs.tree.TreeOf.{tree, variants_of, variant_list, union_dtypes, union_triples, shown, union_tree};
+    ghost use Rattle.dtype_types.specs.tree.Valid.{Valid};
 
     /// Returns the union of these names, types and tags.
     ///
@@ -318,9 +318,9 @@ impl UnionVariants {
 
 #[tactic(auto, using(crate::specs::lemmas::Equality::equality))]
 impl PartialEq for UnionVariants {
-    ghost use Rattle.dtype_types.specs.EqualityOf.{same_union};
+    ghost use Rattle.dtype_types.specs.equality.EqualityOf.{same_union};
     ghost use Rattle.dtype_types.specs.lemmas.PartsEquality.{same_union_equiv};
-    ghost use Rattle.dtype_types.specs.TreeOf.{variant_list};
+    ghost use Rattle.dtype_types.specs.tree.TreeOf.{variant_list};
     ghost use Rattle.std.specs.Cmp.{partial_equiv_from_equiv};
 
     ghost eq = { same_union };
@@ -342,7 +342,7 @@ impl Eq for UnionVariants {
 
 impl Hash for UnionVariants {
     ghost use Rattle.dtype_types.specs.lemmas.HashLaws.{union_fed};
-    ghost use Rattle.dtype_types.specs.HashesOf.{union_writes};
+    ghost use Rattle.dtype_types.specs.equality.HashesOf.{union_writes};
     ghost use Rattle.dtype_types.specs.declared.dtype.hash.HashMode.TheVariants.{Whole};
 
     ghost hash_input = { union_writes Whole };
@@ -357,7 +357,7 @@ impl Hash for UnionVariants {
 /// Writes the variants, each a name, `=` and a type, with `@` and the tag after the name where the tags aren't 0, 1, 2
 /// and so on.
 impl fmt::Display for UnionVariants {
-    ghost use Rattle.dtype_types.specs.TextOf.{union_text};
+    ghost use Rattle.dtype_types.specs.texts.TextOf.{union_text};
 
     ghost output = { λ u. Some (union_text u) };
 
@@ -383,7 +383,7 @@ struct TagText {
 }
 
 impl fmt::Display for TagText {
-    ghost use Rattle.dtype_types.specs.Text.{tag_text};
+    ghost use Rattle.dtype_types.specs.texts.Text.{tag_text};
 
     ghost output = { λ t. Some (tag_text t.consecutive t.tag) };
 

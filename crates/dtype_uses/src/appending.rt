@@ -5,9 +5,9 @@
 #![tactic(auto, using(vortex_dtype::specs::rulesets::order))]
 
 ghost use Rattle.std.specs.Prelude.{◌↔◌, IfOk, IsTrue};
-ghost use Rattle.dtype_types.specs.Sub.{Sub};
-ghost use Rattle.dtype_types.specs.TreeOf.{tree};
-ghost use Rattle.dtype_types.specs.Value.{IncludedIn};
+ghost use Rattle.dtype_types.specs.nullability.Sub.{Sub};
+ghost use Rattle.dtype_types.specs.tree.TreeOf.{tree};
+ghost use Rattle.dtype_types.specs.values.Value.{IncludedIn};
 
 use std::alloc::Global;
 use vortex_dtype::{DType, VortexResult};

@@ -7,8 +7,8 @@
 ghost use Rattle.std.specs.Prelude.{◌≡◌, IfSome};
 ghost use Rattle.vortex_dtype.specs.Primitives.{HoldsUnsigned, IsNarrowest};
 ghost use Rattle.vortex_dtype.specs.Primitives.NumberKind.{Unsigned};
-ghost use Rattle.dtype_types.specs.TreeOf.{tree};
-ghost use Rattle.dtype_types.specs.Width.{Fixed, width};
+ghost use Rattle.dtype_types.specs.tree.TreeOf.{tree};
+ghost use Rattle.dtype_types.specs.tree.Width.{Fixed, width};
 
 use vortex_dtype::{DType, PType};
 

@@ -5,10 +5,10 @@
 #![tactic(auto, using(vortex_dtype::specs::rulesets::null_values))]
 
 ghost use Rattle.std.specs.Prelude.{◌≡◌, ◌↔◌, ◌++◌, ◌∷◌, [], IfNone, IfOk, IfSome, List, Some};
-ghost use Rattle.dtype_types.specs.Lookups.{Projects};
-ghost use Rattle.dtype_types.specs.Tree.{Tree};
-ghost use Rattle.dtype_types.specs.TreeOf.{children, tree};
-ghost use Rattle.dtype_types.specs.Value.{AddsNull, Of, Value};
+ghost use Rattle.dtype_types.specs.parts.Lookups.{Projects};
+ghost use Rattle.dtype_types.specs.tree.Tree.{Tree};
+ghost use Rattle.dtype_types.specs.tree.TreeOf.{children, tree};
+ghost use Rattle.dtype_types.specs.values.Value.{AddsNull, Of, Value};
 ghost use Rattle.vortex_dtype.specs.At.{At};
 ghost use Rattle.vortex_dtype.specs.Found.{FoundIn};
 ghost use Rattle.vortex_dtype.specs.In.{In, first_part};

@@ -5,9 +5,9 @@
 #![tactic(auto)]
 
 ghost use Rattle.std.specs.Prelude.{◌≡◌, ◌≢◌, ◌↔◌, IfOk, IsTrue};
-ghost use Rattle.dtype_types.specs.FieldTypes.{field_tree};
-ghost use Rattle.dtype_types.specs.Lookups.{first_named};
-ghost use Rattle.dtype_types.specs.TreeOf.{children, variant_list, extension_tree, map_shown, tree};
+ghost use Rattle.dtype_types.specs.parts.FieldTypes.{field_tree};
+ghost use Rattle.dtype_types.specs.parts.Lookups.{first_named};
+ghost use Rattle.dtype_types.specs.tree.TreeOf.{children, variant_list, extension_tree, map_shown, tree};
 
 use std::alloc::Global;
 use vortex_dtype::{

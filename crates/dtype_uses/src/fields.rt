@@ -6,9 +6,9 @@
 
 ghost use Rattle.std.specs.Prelude.{◌≡◌, ◌+◌, ◌<◌, None, Some, IfOk, IsSome, IsTrue, length, true};
 ghost use Rattle.std.specs.Option.{option_map};
-ghost use Rattle.dtype_types.specs.Lookups.{field_names, first_named};
-ghost use Rattle.dtype_types.specs.Nullable.{nullability};
-ghost use Rattle.dtype_types.specs.TreeOf.{children, shown, tree};
+ghost use Rattle.dtype_types.specs.parts.Lookups.{field_names, first_named};
+ghost use Rattle.dtype_types.specs.nullability.Nullable.{nullability};
+ghost use Rattle.dtype_types.specs.tree.TreeOf.{children, shown, tree};
 ghost use Rattle.vortex_dtype.specs.Distinct.{Distinct};
 
 use std::alloc::Global;

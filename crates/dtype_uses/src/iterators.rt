@@ -3,8 +3,8 @@
 
 // Iterators end, and give as many items as they announced, one after another.
 ghost use Rattle.std.specs.Prelude.{◌≡◌, IfOk, map, true};
-ghost use Rattle.dtype_types.specs.Lists.{borrowed_pair};
-ghost use Rattle.dtype_types.specs.TreeOf.{children, struct_pairs, with_trees};
+ghost use Rattle.dtype_types.specs.parts.Lists.{borrowed_pair};
+ghost use Rattle.dtype_types.specs.tree.TreeOf.{children, struct_pairs, with_trees};
 
 use std::alloc::Global;
 use vortex_dtype::{DType, FieldName, FieldNames, StructFields, UnionVariants, VortexResult};

@@ -5,9 +5,9 @@
 ghost use Rattle.std.specs.Prelude.{◌≡◌, Some};
 ghost use Rattle.vortex_dtype.specs.Types.Nullability.TheVariants.{NonNullable};
 ghost use Rattle.vortex_dtype.specs.Types.PType.TheVariants.{U8};
-ghost use Rattle.dtype_types.specs.Kinds.{kind, struct_fields};
-ghost use Rattle.dtype_types.specs.Tree.{primitive};
-ghost use Rattle.dtype_types.specs.TreeOf.{children, tree};
+ghost use Rattle.dtype_types.specs.tree.Kinds.{kind, struct_fields};
+ghost use Rattle.dtype_types.specs.tree.Tree.{primitive};
+ghost use Rattle.dtype_types.specs.tree.TreeOf.{children, tree};
 
 use vortex_dtype::{DType, Kind, StructFields};
 

@@ -6,8 +6,8 @@
 
 ghost use Rattle.std.specs.Prelude.{◌≡◌, ◌≤◌, length, true};
 ghost use Rattle.vortex_dtype.specs.FieldNames.{first_place};
-ghost use Rattle.dtype_types.specs.Lookups.{field_names};
-ghost use Rattle.dtype_types.specs.TreeOf.{children};
+ghost use Rattle.dtype_types.specs.parts.Lookups.{field_names};
+ghost use Rattle.dtype_types.specs.tree.TreeOf.{children};
 
 use vortex_dtype::StructFields;
 

@@ -6,9 +6,9 @@
 
 ghost use Rattle.std.specs.Prelude.{◌≡◌, IfOk, IsTrue, true};
 ghost use Rattle.vortex_dtype.specs.Types.Nullability.TheVariants.{NonNullable, Nullable};
-ghost use Rattle.dtype_types.specs.Nullable.{CanBeNonNullable, IsNullable, SetNull, nullability};
-ghost use Rattle.dtype_types.specs.Sub.{Sub};
-ghost use Rattle.dtype_types.specs.TreeOf.{tree};
+ghost use Rattle.dtype_types.specs.nullability.Nullable.{CanBeNonNullable, IsNullable, SetNull, nullability};
+ghost use Rattle.dtype_types.specs.nullability.Sub.{Sub};
+ghost use Rattle.dtype_types.specs.tree.TreeOf.{tree};
 
 use std::alloc::Global;
 use vortex_dtype::{DType, Nullability, VortexResult};

@@ -5,10 +5,10 @@
 //! iterator over types gives is said by their trees.
 ghost use Rattle.std.specs.Prelude.{◌≡◌, ◌↔◌, ◌||◌, All, Any, IfSome, IsSome, IsTrue, count_by, false, fold, length};
 ghost use Rattle.std.specs.List.{AllByRecursion};
-ghost use Rattle.dtype_types.specs.Kinds.{is_nested};
-ghost use Rattle.dtype_types.specs.Lookups.{field_types, variant_types};
-ghost use Rattle.dtype_types.specs.Nullable.{IsNullable};
-ghost use Rattle.dtype_types.specs.TreeOf.{children, variant_list, struct_pairs, tree};
+ghost use Rattle.dtype_types.specs.tree.Kinds.{is_nested};
+ghost use Rattle.dtype_types.specs.parts.Lookups.{field_types, variant_types};
+ghost use Rattle.dtype_types.specs.nullability.Nullable.{IsNullable};
+ghost use Rattle.dtype_types.specs.tree.TreeOf.{children, variant_list, struct_pairs, tree};
 
 use dtype_types::{DType, StructFields, UnionVariants};
 

@@ -5,8 +5,8 @@
 #![tactic(auto, using(vortex_dtype::specs::rulesets::presence))]
 
 ghost use Rattle.std.specs.Prelude.{◌↔◌, Contains, IfOk, IsSome, IsTrue};
-ghost use Rattle.dtype_types.specs.Lookups.{field_names, first_named};
-ghost use Rattle.dtype_types.specs.TreeOf.{children};
+ghost use Rattle.dtype_types.specs.parts.Lookups.{field_names, first_named};
+ghost use Rattle.dtype_types.specs.tree.TreeOf.{children};
 
 use std::alloc::Global;
 use vortex_dtype::{StructFields, VortexResult};

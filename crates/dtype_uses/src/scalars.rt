@@ -3,8 +3,8 @@
 
 //! A scalar library: whether a number is a value of a type.
 ghost use Rattle.std.specs.Prelude.{◌↔◌, IfSome, IsTrue};
-ghost use Rattle.dtype_types.specs.TreeOf.{tree};
-ghost use Rattle.dtype_types.specs.Value.{IntegerOf, Of, digits, number};
+ghost use Rattle.dtype_types.specs.tree.TreeOf.{tree};
+ghost use Rattle.dtype_types.specs.values.Value.{IntegerOf, Of, digits, number};
 ghost use Rattle.vortex_dtype.specs.Digits.{HasDigits};
 
 use vortex_dtype::{DType, PType, PrecisionScale};

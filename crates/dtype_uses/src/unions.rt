@@ -5,9 +5,9 @@
 #![tactic(auto, using(vortex_dtype::specs::rulesets::made_of, vortex_dtype::specs::rulesets::tags, vortex_dtype::specs::rulesets::lookups))]
 
 ghost use Rattle.std.specs.Prelude.{◌≡◌, IfOk, map};
-ghost use Rattle.dtype_types.specs.Lookups.{variant_named, variant_names, variant_types, variant_tags};
-ghost use Rattle.dtype_types.specs.TreeOf.{variant_list, tree, shown};
-ghost use Rattle.dtype_types.specs.Unions.{AreConsecutive};
+ghost use Rattle.dtype_types.specs.parts.Lookups.{variant_named, variant_names, variant_types, variant_tags};
+ghost use Rattle.dtype_types.specs.tree.TreeOf.{variant_list, tree, shown};
+ghost use Rattle.dtype_types.specs.parts.Unions.{AreConsecutive};
 
 use std::alloc::Global;
 use vortex_dtype::{DType, FieldNames, UnionVariants, VortexResult};

@@ -5,10 +5,10 @@
 #![tactic(auto, using(vortex_dtype::specs::rulesets::validity))]
 
 ghost use Rattle.std.specs.Prelude.{◌≡◌, ◌<◌, All, IfOk, IfSome, IsTrue, Some, length, true, vec_len};
-ghost use Rattle.dtype_types.specs.Valid.{Valid};
-ghost use Rattle.dtype_types.specs.TreeOf.{tree, map_tree, union_tree, struct_tree, variant_list};
-ghost use Rattle.dtype_types.specs.Kinds.{kind};
-ghost use Rattle.dtype_types.specs.Lookups.{variant_tags};
+ghost use Rattle.dtype_types.specs.tree.Valid.{Valid};
+ghost use Rattle.dtype_types.specs.tree.TreeOf.{tree, map_tree, union_tree, struct_tree, variant_list};
+ghost use Rattle.dtype_types.specs.tree.Kinds.{kind};
+ghost use Rattle.dtype_types.specs.parts.Lookups.{variant_tags};
 
 use std::alloc::Global;
 use vortex_dtype::{

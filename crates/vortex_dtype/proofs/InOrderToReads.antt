@@ -5,9 +5,9 @@
 use Rattle.std.proofs.Common.{◌≡◌, ◌⊎◌, inl, inr, Result, Ok, Err, IfOk, MatchResult, refl, sym, subst}
 use Rattle.dtype_base.specs.declared.vortex_error.VortexError.{VortexError}
 use Rattle.dtype_base.specs.declared.vortex_error.VortexError.TheVariants.{OutOfMemory}
-use Rattle.dtype_types.specs.Tree.{Tree}
-use Rattle.dtype_types.specs.TreeOf.{tree}
-use Rattle.dtype_types.specs.Valid.{Valid}
+use Rattle.dtype_types.specs.tree.Tree.{Tree}
+use Rattle.dtype_types.specs.tree.TreeOf.{tree}
+use Rattle.dtype_types.specs.tree.Valid.{Valid}
 use Rattle.dtype_types.specs.declared.dtype.DType.{DType}
 use Rattle.dtype_messages.specs.Message.{Message}
 use Rattle.vortex_dtype.specs.Accepts.{Accepts}

@@ -8,8 +8,8 @@ use Rattle.dtype_base.specs.Nullability.{nullability_of}
 use Rattle.dtype_base.specs.declared.vortex_error.VortexError.{VortexError}
 use Rattle.dtype_base.specs.declared.vortex_error.VortexError.TheVariants.{OutOfMemory, Message as Faulty}
 use Rattle.dtype_base.specs.declared.vortex_error.MessageFault.TheVariants.{TypeIdRange}
-use Rattle.dtype_types.specs.Tree.{Tree}
-use Rattle.dtype_types.specs.TreeOf.{tree}
+use Rattle.dtype_types.specs.tree.Tree.{Tree}
+use Rattle.dtype_types.specs.tree.TreeOf.{tree}
 use Rattle.dtype_types.specs.declared.dtype.DType.{DType as Logical}
 use Rattle.dtype_messages.specs.Message.{Message, Messages, messages, struct, union, extension, present}
 use Rattle.dtype_messages.specs.MessageOf.{message}

@@ -32,20 +32,20 @@ pub use Rattle.dtype_native.specs.Integers
 pub use Rattle.dtype_native.specs.LittleEndian
 pub use Rattle.dtype_native.specs.NativeTypes
 pub use Rattle.dtype_native.specs.Offsets
-pub use Rattle.dtype_types.specs.Erase
-pub use Rattle.dtype_types.specs.Kinds
-pub use Rattle.dtype_types.specs.Lookups
-pub use Rattle.dtype_types.specs.Nullable
-pub use Rattle.dtype_types.specs.Sample
-pub use Rattle.dtype_types.specs.Sub
-pub use Rattle.dtype_types.specs.Tell
-pub use Rattle.dtype_types.specs.Text as TypeText
-pub use Rattle.dtype_types.specs.TextOf as TypeTextOf
-pub use Rattle.dtype_types.specs.Tree
-pub use Rattle.dtype_types.specs.TreeOf
-pub use Rattle.dtype_types.specs.Valid
-pub use Rattle.dtype_types.specs.Value
-pub use Rattle.dtype_types.specs.Width
+pub use Rattle.dtype_types.specs.tree.Erase
+pub use Rattle.dtype_types.specs.tree.Kinds
+pub use Rattle.dtype_types.specs.parts.Lookups
+pub use Rattle.dtype_types.specs.nullability.Nullable
+pub use Rattle.dtype_types.specs.values.Sample
+pub use Rattle.dtype_types.specs.nullability.Sub
+pub use Rattle.dtype_types.specs.values.Tell
+pub use Rattle.dtype_types.specs.texts.Text as TypeText
+pub use Rattle.dtype_types.specs.texts.TextOf as TypeTextOf
+pub use Rattle.dtype_types.specs.tree.Tree
+pub use Rattle.dtype_types.specs.tree.TreeOf
+pub use Rattle.dtype_types.specs.tree.Valid
+pub use Rattle.dtype_types.specs.values.Value
+pub use Rattle.dtype_types.specs.tree.Width
 pub use Rattle.dtype_paths.specs.Along
 pub use Rattle.dtype_paths.specs.Around
 pub use Rattle.dtype_paths.specs.At
@@ -63,7 +63,7 @@ pub use Rattle.dtype_projection.specs.Merged
 pub use Rattle.dtype_projection.specs.Projected
 pub use Rattle.dtype_projection.specs.Restricted
 pub use Rattle.dtype_base.specs.Distinct
-pub use Rattle.dtype_types.specs.FieldTypes
+pub use Rattle.dtype_types.specs.parts.FieldTypes
 pub use Rattle.dtype_paths.specs.lemmas.PathOrders
 pub use Rattle.dtype_types.specs.lemmas.JoinedFields
 pub use Rattle.dtype_types.specs.lemmas.NullValues

@@ -10,9 +10,9 @@ use Rattle.dtype_base.specs.declared.nullability.Nullability.{Nullability}
 use Rattle.dtype_base.specs.declared.vortex_error.VortexError.{VortexError}
 use Rattle.dtype_base.specs.declared.vortex_error.VortexError.TheVariants.{MetadataRefused, Message as Faulty}
 use Rattle.dtype_base.specs.declared.vortex_error.MessageFault.TheVariants.{ExtensionUnregistered}
-use Rattle.dtype_types.specs.Tree.{Tree, Fields, no_fields, field, Variants, no_variants, choice, null, bool, primitive, decimal, utf8, binary, list, fixed_size_list, map_of, struct, union, variant, extension}
-use Rattle.dtype_types.specs.Valid.{Valid}
-use Rattle.dtype_types.specs.Nullable.{SetNull}
+use Rattle.dtype_types.specs.tree.Tree.{Tree, Fields, no_fields, field, Variants, no_variants, choice, null, bool, primitive, decimal, utf8, binary, list, fixed_size_list, map_of, struct, union, variant, extension}
+use Rattle.dtype_types.specs.tree.Valid.{Valid}
+use Rattle.dtype_types.specs.nullability.Nullable.{SetNull}
 
 -- a plugin's meaning: the bytes that it writes back for these bytes over this storage, if it accepts them
 abbrev pub Rewrites : Type 0

@@ -13,10 +13,10 @@ use Rattle.dtype_base.specs.Primitives.{ptype_row}
 use Rattle.dtype_base.specs.Decimals.{Decimal, IsValidDecimal, DecimalError, greatest_precision}
 use Rattle.dtype_base.specs.Nullability.{nullability_of}
 use Rattle.dtype_base.specs.Distinct.{Distinct}
-use Rattle.dtype_types.specs.Nullable.{nullability}
-use Rattle.dtype_types.specs.Unions.{UnionError}
-use Rattle.dtype_types.specs.Tree as of
-use Rattle.dtype_types.specs.Tree.{Tree, Fields, no_fields, field, Variants, no_variants, choice}
+use Rattle.dtype_types.specs.nullability.Nullable.{nullability}
+use Rattle.dtype_types.specs.parts.Unions.{UnionError}
+use Rattle.dtype_types.specs.tree.Tree as of
+use Rattle.dtype_types.specs.tree.Tree.{Tree, Fields, no_fields, field, Variants, no_variants, choice}
 use Rattle.dtype_messages.specs.Message.{Message, Child, Messages, missing, null, bool, primitive, decimal, utf8, binary, list, fixed_size_list, map_of, struct, union, variant, extension, absent, present, no_message, more}
 use Rattle.vortex_dtype.specs.Meaning.{Meaning, keeps, unkept_error}
 use Rattle.vortex_dtype.specs.Numbers.{integer_byte}

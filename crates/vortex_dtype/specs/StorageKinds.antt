@@ -10,9 +10,9 @@ use Rattle.dtype_base.specs.Decimals.{Decimal}
 use Rattle.dtype_base.specs.declared.nullability.Nullability.{Nullability}
 use Rattle.dtype_base.specs.declared.nullability.Nullability.TheVariants.{NonNullable, Nullable}
 use Rattle.dtype_base.specs.declared.ptype.PType.{PType}
-use Rattle.dtype_types.specs.Kinds.{kind, primitive_name, decimal_of, struct_fields, union_variants, map_parts, list_element, fixed_size_list_element, any_size_list_element}
-use Rattle.dtype_types.specs.Nullable.{set_null, SetNull}
-use Rattle.dtype_types.specs.Tree.{Tree, null, bool, primitive, decimal, utf8, binary, list, fixed_size_list, map_of, struct, union, variant, extension}
+use Rattle.dtype_types.specs.tree.Kinds.{kind, primitive_name, decimal_of, struct_fields, union_variants, map_parts, list_element, fixed_size_list_element, any_size_list_element}
+use Rattle.dtype_types.specs.nullability.Nullable.{set_null, SetNull}
+use Rattle.dtype_types.specs.tree.Tree.{Tree, null, bool, primitive, decimal, utf8, binary, list, fixed_size_list, map_of, struct, union, variant, extension}
 use Rattle.dtype_types.specs.declared.dtype.kinds.Kind.{Kind}
 
 -- what is seen of a type doesn't depend on its outer nullability

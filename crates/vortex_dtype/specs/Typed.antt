@@ -6,9 +6,9 @@
 use Rattle.std.specs.Prelude.{◌≡◌, ℕ, List, Option, Some, None, Bool, true, false, if◌then◌else◌, option_and_then, refl}
 use Rattle.std.proofs.Common.{sym, ap, ◌∙◌, subst}
 use Rattle.dtype_base.specs.declared.nullability.Nullability.{Nullability}
-use Rattle.dtype_types.specs.Tree.{Tree}
-use Rattle.dtype_types.specs.Valid.{Valid}
-use Rattle.dtype_types.specs.Nullable.{SetNull}
+use Rattle.dtype_types.specs.tree.Tree.{Tree}
+use Rattle.dtype_types.specs.tree.Valid.{Valid}
+use Rattle.dtype_types.specs.nullability.Nullable.{SetNull}
 use Rattle.vortex_dtype.specs.Meaning.{Rewrites, Lawful, Bytes}
 
 -- the two laws: written metadata is read back as the same metadata, and what is written of metadata that was

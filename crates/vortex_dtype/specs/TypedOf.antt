@@ -2,8 +2,8 @@
 -- SPDX-FileCopyrightText: Copyright the Vortex contributors
 
 -- What a typed extension shows: its vtable, its metadata, and the tree of its storage.
-use Rattle.dtype_types.specs.Tree.{Tree}
-use Rattle.dtype_types.specs.TreeOf.{tree}
+use Rattle.dtype_types.specs.tree.Tree.{Tree}
+use Rattle.dtype_types.specs.tree.TreeOf.{tree}
 use Rattle.vortex_dtype.specs.declared.ext_dtype.ExtDType.{ExtDType}
 
 module _ {V M : Type 0} where

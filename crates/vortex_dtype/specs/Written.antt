@@ -8,9 +8,9 @@ use Rattle.dtype_base.specs.declared.nullability.Nullability.{Nullability}
 use Rattle.dtype_base.specs.declared.nullability.Nullability.TheVariants.{NonNullable, Nullable}
 use Rattle.dtype_base.specs.Primitives.{ptype_row}
 use Rattle.dtype_types.specs.declared.extension.ExtDTypeRef.{ExtDTypeRef}
-use Rattle.dtype_types.specs.Tree as of
-use Rattle.dtype_types.specs.Tree.{Tree, Fields, no_fields, field, Variants, no_variants, choice}
-use Rattle.dtype_types.specs.TreeOf.{extension_id, extension_metadata}
+use Rattle.dtype_types.specs.tree.Tree as of
+use Rattle.dtype_types.specs.tree.Tree.{Tree, Fields, no_fields, field, Variants, no_variants, choice}
+use Rattle.dtype_types.specs.tree.TreeOf.{extension_id, extension_metadata}
 use Rattle.dtype_messages.specs.Message.{Message, Child, Messages, missing, null, bool, primitive, decimal, utf8, binary, list, fixed_size_list, map_of, struct, union, variant, extension, absent, present, no_message, more}
 use Rattle.vortex_dtype.specs.Meaning.{Meaning, keeps}
 use Rattle.vortex_dtype.specs.ReadInOrder.{or_empty}

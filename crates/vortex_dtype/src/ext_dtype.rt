@@ -5,10 +5,10 @@
 ghost use Rattle.std.specs.Prelude.{◌≡◌, ◌⊎◌, IfOk, IfErr, OnOk, Some, None, true, false, MatchResult};
 ghost use Rattle.dtype_base.specs.declared.nullability.Nullability.TheVariants.{NonNullable};
 ghost use Rattle.dtype_base.specs.declared.vortex_error.VortexError.TheVariants.{OutOfMemory, MetadataRefused};
-ghost use Rattle.dtype_types.specs.Nullable.{CanBeNonNullable, SetNull};
-ghost use Rattle.dtype_types.specs.TreeOf.{extension_id, extension_metadata, extension_tree, storage_tree, tree};
-ghost use Rattle.dtype_types.specs.Valid.{Valid};
-ghost use Rattle.dtype_types.specs.Tree.{extension};
+ghost use Rattle.dtype_types.specs.nullability.Nullable.{CanBeNonNullable, SetNull};
+ghost use Rattle.dtype_types.specs.tree.TreeOf.{extension_id, extension_metadata, extension_tree, storage_tree, tree};
+ghost use Rattle.dtype_types.specs.tree.Valid.{Valid};
+ghost use Rattle.dtype_types.specs.tree.Tree.{extension};
 ghost use Rattle.vortex_dtype.specs.Errors.{DowncastError, Unfit};
 ghost use Rattle.vortex_dtype.specs.TypedOf.{metadata_of, storage_of, vtable_of};
 

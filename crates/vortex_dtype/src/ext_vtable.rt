@@ -15,9 +15,9 @@ use std::alloc::Global;
 pub trait ExtVTable: Drop {
     ghost use Rattle.std.specs.Prelude.{◌≡◌, ◌⊎◌, ℕ, List, Option, Some, None, Bool, true, false, IfErr, OnOk, MatchResult};
     ghost use Rattle.dtype_base.specs.declared.vortex_error.VortexError.TheVariants.{OutOfMemory, MetadataRefused};
-    ghost use Rattle.dtype_types.specs.Tree.{Tree};
-    ghost use Rattle.dtype_types.specs.TreeOf.{tree};
-    ghost use Rattle.dtype_types.specs.Valid.{Valid};
+    ghost use Rattle.dtype_types.specs.tree.Tree.{Tree};
+    ghost use Rattle.dtype_types.specs.tree.TreeOf.{tree};
+    ghost use Rattle.dtype_types.specs.tree.Valid.{Valid};
     ghost use Rattle.vortex_dtype.specs.Typed.{Typed};
 
     /// The metadata of an extension, decoded.

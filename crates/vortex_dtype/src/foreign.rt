@@ -4,9 +4,9 @@
 // Extensions of unknown types: their metadata is kept as bytes.
 ghost use Rattle.std.specs.Prelude.{◌≡◌, IfOk, Some, MatchResult};
 ghost use Rattle.dtype_base.specs.declared.vortex_error.VortexError.TheVariants.{OutOfMemory};
-ghost use Rattle.dtype_types.specs.TreeOf.{extension_tree, tree};
-ghost use Rattle.dtype_types.specs.Valid.{Valid};
-ghost use Rattle.dtype_types.specs.Tree.{extension};
+ghost use Rattle.dtype_types.specs.tree.TreeOf.{extension_tree, tree};
+ghost use Rattle.dtype_types.specs.tree.Valid.{Valid};
+ghost use Rattle.dtype_types.specs.tree.Tree.{extension};
 
 use crate::ExtVTable;
 use dtype_base::VortexResult;
@@ -34,7 +34,7 @@ impl ForeignExtMetadata {
 
 /// Prints the number of bytes and `B`, as `3B`.
 impl fmt::Display for ForeignExtMetadata {
-    ghost use Rattle.dtype_types.specs.Text.{metadata_text};
+    ghost use Rattle.dtype_types.specs.texts.Text.{metadata_text};
 
     ghost output = { λ m. Some (metadata_text m.0.items) };
 

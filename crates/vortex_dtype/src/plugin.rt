@@ -4,8 +4,8 @@
 // Plugins, by which a session reads the metadata of extension types.
 ghost use Rattle.std.specs.Prelude.{◌≡◌, ◌⊎◌, IfOk, IfErr, Some, None};
 ghost use Rattle.dtype_base.specs.declared.vortex_error.VortexError.TheVariants.{OutOfMemory, MetadataRefused};
-ghost use Rattle.dtype_types.specs.TreeOf.{tree};
-ghost use Rattle.dtype_types.specs.Valid.{Valid};
+ghost use Rattle.dtype_types.specs.tree.TreeOf.{tree};
+ghost use Rattle.dtype_types.specs.tree.Valid.{Valid};
 ghost use Rattle.vortex_dtype.specs.Meaning.{Lawful};
 
 use crate::ExtVTable;
@@ -22,8 +22,8 @@ use std::marker::Model;
 pub trait ExtDTypePlugin: Drop {
     ghost use Rattle.std.specs.Prelude.{◌≡◌, ◌⊎◌, ℕ, List, Some, None, IfOk, IfErr};
     ghost use Rattle.dtype_base.specs.declared.vortex_error.VortexError.TheVariants.{OutOfMemory, MetadataRefused};
-    ghost use Rattle.dtype_types.specs.TreeOf.{tree};
-    ghost use Rattle.dtype_types.specs.Valid.{Valid};
+    ghost use Rattle.dtype_types.specs.tree.TreeOf.{tree};
+    ghost use Rattle.dtype_types.specs.tree.Valid.{Valid};
     ghost use Rattle.vortex_dtype.specs.Meaning.{Lawful, Rewrites};
 
     // the text of the id

@@ -6,9 +6,9 @@
 
 ghost use Rattle.std.specs.Prelude.{◌≡◌, ◌⊎◌, ◌↔◌, IfOk, IfErr, IsOkUnless, IsSome, IsTrue, OnErr, OnOk, Some};
 ghost use Rattle.dtype_base.specs.declared.vortex_error.VortexError.TheVariants.{OutOfMemory};
-ghost use Rattle.dtype_types.specs.TreeOf.{extension_metadata, extension_tree, tree};
-ghost use Rattle.dtype_types.specs.Valid.{Valid};
-ghost use Rattle.dtype_types.specs.Tree.{extension};
+ghost use Rattle.dtype_types.specs.tree.TreeOf.{extension_metadata, extension_tree, tree};
+ghost use Rattle.dtype_types.specs.tree.Valid.{Valid};
+ghost use Rattle.dtype_types.specs.tree.Tree.{extension};
 ghost use Rattle.vortex_dtype.specs.Meaning.{LawfulSession, allow_unknown_in, empty_meaning, keeps, register_in};
 ghost use Rattle.vortex_dtype.specs.Errors.{SessionError};
 ghost use Rattle.vortex_dtype.specs.Session.{meaning};

@@ -10,7 +10,7 @@ use Rattle.std.proofs.lemmas.Bool.Decides.{nat_tests}
 use Rattle.std.proofs.lemmas.List.Elements.{All-map}
 use Rattle.std.proofs.lemmas.Grind.{common_steps}
 use Rattle.std.proofs.lemmas.Option.{same_Some}
-use Rattle.dtype_types.specs.Tree.{Tree}
+use Rattle.dtype_types.specs.tree.Tree.{Tree}
 use Rattle.vortex_dtype.specs.Meaning.{Bytes, Lawful}
 use Rattle.vortex_dtype.specs.Typed.{Typed}
 

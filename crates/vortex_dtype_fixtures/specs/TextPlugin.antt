@@ -8,8 +8,8 @@ use Rattle.std.proofs.Common.{ap, subst}
 use Rattle.std.proofs.lemmas.Option.{same_Some}
 use Rattle.dtype_base.specs.declared.nullability.Nullability.{Nullability}
 use Rattle.dtype_base.specs.declared.nullability.Nullability.TheVariants.{NonNullable, Nullable}
-use Rattle.dtype_types.specs.Tree.{Tree, null, bool, primitive, decimal, utf8, binary, list, fixed_size_list, map_of, struct, union, variant, extension}
-use Rattle.dtype_types.specs.Nullable.{set_null, SetNull}
+use Rattle.dtype_types.specs.tree.Tree.{Tree, null, bool, primitive, decimal, utf8, binary, list, fixed_size_list, map_of, struct, union, variant, extension}
+use Rattle.dtype_types.specs.nullability.Nullable.{set_null, SetNull}
 use Rattle.vortex_dtype_fixtures.specs.Tag.{lowered, if_unchanged, tag_typed}
 use Rattle.vortex_dtype.specs.Meaning.{Rewrites, Lawful, Bytes}
 use Rattle.vortex_dtype.specs.Typed.{Typed}

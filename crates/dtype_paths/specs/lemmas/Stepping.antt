@@ -7,9 +7,9 @@ use Rattle.std.proofs.Common.{◌≡◌, ◌↔◌, ◌∙◌, ℕ, List, [], �
 use Rattle.std.proofs.lemmas.Option.{same_Some}
 use Rattle.std.specs.Prelude.{bytes_eq, option_and_then}
 use Rattle.dtype_base.specs.declared.nullability.Nullability.{Nullability}
-use Rattle.dtype_types.specs.Lookups.{first_named}
-use Rattle.dtype_types.specs.Tree.{Tree, Fields, no_fields, field, pairs, list, fixed_size_list, struct}
-use Rattle.dtype_types.specs.Valid.{Valid, ValidFields}
+use Rattle.dtype_types.specs.parts.Lookups.{first_named}
+use Rattle.dtype_types.specs.tree.Tree.{Tree, Fields, no_fields, field, pairs, list, fixed_size_list, struct}
+use Rattle.dtype_types.specs.tree.Valid.{Valid, ValidFields}
 use Rattle.dtype_paths.specs.Along.{along, along-At, At-along}
 use Rattle.dtype_paths.specs.At.{At, ExistsIn}
 use Rattle.dtype_paths.specs.Beginning.{Beginning}

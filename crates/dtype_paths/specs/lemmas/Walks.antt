@@ -4,7 +4,7 @@
 -- What stands along a path that goes on behind another, and along a path at most.
 use Rattle.std.proofs.Common.{◌≡◌, ◌∙◌, List, [], ◌∷◌, ◌++◌, Option, Some, None, option_and_then, refl, ap, sym}
 use Rattle.std.proofs.lemmas.Option.{same_Some}
-use Rattle.dtype_types.specs.Tree.{Tree}
+use Rattle.dtype_types.specs.tree.Tree.{Tree}
 use Rattle.dtype_paths.specs.Along.{along, At-along}
 use Rattle.dtype_paths.specs.At.{At, step}
 use Rattle.dtype_paths.specs.Beginning.{Beginning}

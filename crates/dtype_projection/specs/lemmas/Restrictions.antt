@@ -8,9 +8,9 @@ use Rattle.std.specs.Str.{bytes_eq}
 use Rattle.std.proofs.lemmas.Option.{same_Some}
 use Rattle.std.proofs.lemmas.Slice.Eq.{bytes_eq-Decides}
 use Rattle.dtype_base.specs.declared.nullability.Nullability.{Nullability}
-use Rattle.dtype_types.specs.Lookups.{first_named}
-use Rattle.dtype_types.specs.Tree.{Tree, Fields, no_fields, field, pairs, list, fixed_size_list, struct}
-use Rattle.dtype_types.specs.Value.{Value, Values, no_values, value, Named, no_named, named, null_value, items, fixed_items, record_of, Of, NamedOf, Each, value_count}
+use Rattle.dtype_types.specs.parts.Lookups.{first_named}
+use Rattle.dtype_types.specs.tree.Tree.{Tree, Fields, no_fields, field, pairs, list, fixed_size_list, struct}
+use Rattle.dtype_types.specs.values.Value.{Value, Values, no_values, value, Named, no_named, named, null_value, items, fixed_items, record_of, Of, NamedOf, Each, value_count}
 use Rattle.dtype_paths.specs.At.{At, step}
 use Rattle.dtype_paths.specs.Found.{Found, Member, first_value}
 use Rattle.dtype_paths.specs.declared.field.Field.{Field}

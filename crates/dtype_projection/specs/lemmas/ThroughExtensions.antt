@@ -5,8 +5,8 @@
 -- restricted value doesn't have.
 use Rattle.std.proofs.Common.{◌≡◌, List, [], ◌∷◌, true, ◌||◌, Some, refl}
 use Rattle.dtype_base.specs.declared.nullability.Nullability.TheVariants.{NonNullable}
-use Rattle.dtype_types.specs.Tree.{Tree, no_fields, field, bool, struct, extension}
-use Rattle.dtype_types.specs.Value.{Value, no_named, named, truth, record_of, Of}
+use Rattle.dtype_types.specs.tree.Tree.{Tree, no_fields, field, bool, struct, extension}
+use Rattle.dtype_types.specs.values.Value.{Value, no_named, named, truth, record_of, Of}
 use Rattle.dtype_paths.specs.Equality.{same_path}
 use Rattle.dtype_paths.specs.Found.{Found}
 use Rattle.dtype_paths.specs.declared.field.Field.{Field}

@@ -4,10 +4,10 @@
 use Rattle.std.proofs.Common.{sym, ap, ◌∙◌}
 use Rattle.std.specs.Iterator.Adapters.{zip_first, zip_second}
 use denote.Param.Weighed.{most}
-use Rattle.dtype_types.specs.Equality.{equal_under}
+use Rattle.dtype_types.specs.equality.Equality.{equal_under}
 use Rattle.std.specs.Map.{values_of}
-use Rattle.dtype_types.specs.Lists.{types_of, borrowed_pair, borrowed_triple}
-use Rattle.dtype_types.specs.TreeOf.{tree, children, variant_list, struct_dtypes, union_dtypes, with_trees, with_tagged_trees}
+use Rattle.dtype_types.specs.parts.Lists.{types_of, borrowed_pair, borrowed_triple}
+use Rattle.dtype_types.specs.tree.TreeOf.{tree, children, variant_list, struct_dtypes, union_dtypes, with_trees, with_tagged_trees}
 use Rattle.dtype_types.specs.declared.dtype.DType.{size-DType}
 use Rattle.dtype_types.proofs.Depths.{no_deeper}
 use Rattle.dtype_types.proofs.Parts.{fields_shown, variants_shown}

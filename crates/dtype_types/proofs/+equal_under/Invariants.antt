@@ -4,11 +4,11 @@
 use Rattle.std.proofs.Common.{◌≡◌, ◌≤◌, length}
 use Rattle.std.specs.Iterator.Adapters.{zip_first, zip_second}
 use denote.Param.Weighed.{most}
-use Rattle.dtype_types.specs.Equality.{fields_equal_under, variants_equal_under}
+use Rattle.dtype_types.specs.equality.Equality.{fields_equal_under, variants_equal_under}
 use Rattle.std.specs.Map.{values_of}
-use Rattle.dtype_types.specs.Lists.{types_of}
-use Rattle.dtype_types.specs.Tree.{fields, variants}
-use Rattle.dtype_types.specs.TreeOf.{struct_dtypes, fields_of, union_dtypes, variants_of, with_trees, with_tagged_trees}
+use Rattle.dtype_types.specs.parts.Lists.{types_of}
+use Rattle.dtype_types.specs.tree.Tree.{fields, variants}
+use Rattle.dtype_types.specs.tree.TreeOf.{struct_dtypes, fields_of, union_dtypes, variants_of, with_trees, with_tagged_trees}
 use Rattle.dtype_types.specs.declared.dtype.DType.{size-DType}
 use Rattle.dtype_types.proofs.+equal_under.Given as goal
 

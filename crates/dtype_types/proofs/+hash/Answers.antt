@@ -2,8 +2,8 @@
 -- SPDX-FileCopyrightText: Copyright the Vortex contributors
 
 use Rattle.std.proofs.Common.{ap}
-use Rattle.dtype_types.specs.Lists.{borrowed_pair, borrowed_triple}
-use Rattle.dtype_types.specs.TreeOf.{children, variant_list, with_trees, with_tagged_trees}
+use Rattle.dtype_types.specs.parts.Lists.{borrowed_pair, borrowed_triple}
+use Rattle.dtype_types.specs.tree.TreeOf.{children, variant_list, with_trees, with_tagged_trees}
 use Rattle.dtype_types.proofs.Feeding.{fields_fed, variants_fed}
 use Rattle.dtype_types.proofs.Walks.{none_of}
 use Rattle.dtype_types.proofs.+hash.Goals as goal

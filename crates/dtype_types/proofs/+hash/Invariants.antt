@@ -3,11 +3,11 @@
 
 use Rattle.std.proofs.Common.{◌≡◌, ◌≤◌, fold}
 use denote.Param.Weighed.{most}
-use Rattle.dtype_types.specs.Hashes.{field_writes, variant_writes}
+use Rattle.dtype_types.specs.equality.Hashes.{field_writes, variant_writes}
 use Rattle.std.specs.Map.{values_of}
-use Rattle.dtype_types.specs.Lists.{types_of}
-use Rattle.dtype_types.specs.Tree.{fields, variants}
-use Rattle.dtype_types.specs.TreeOf.{struct_dtypes, fields_of, union_dtypes, variants_of, with_trees, with_tagged_trees}
+use Rattle.dtype_types.specs.parts.Lists.{types_of}
+use Rattle.dtype_types.specs.tree.Tree.{fields, variants}
+use Rattle.dtype_types.specs.tree.TreeOf.{struct_dtypes, fields_of, union_dtypes, variants_of, with_trees, with_tagged_trees}
 use Rattle.dtype_types.specs.declared.dtype.DType.{size-DType}
 use Rattle.dtype_types.proofs.+hash.Given as goal
 

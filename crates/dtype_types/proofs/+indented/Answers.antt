@@ -10,12 +10,12 @@ use Rattle.dtype_types.proofs.IndentedTexts.{indented_struct, ends_some, ends_no
 use Rattle.dtype_types.proofs.Depths.{no_deeper}
 use Rattle.dtype_types.proofs.Walks.{next_of, none_of}
 use Rattle.dtype_types.proofs.Texts.{leading, leading_all, one_written, all_written}
-use Rattle.dtype_types.specs.IndentedText.{indented, indented_braces, indented_fields}
+use Rattle.dtype_types.specs.texts.IndentedText.{indented, indented_braces, indented_fields}
 use Rattle.std.specs.List.{join_by}
-use Rattle.dtype_types.specs.Tree.{fields}
-use Rattle.dtype_types.specs.TreeOf.{tree, children, struct_dtypes, fields_of, with_trees}
+use Rattle.dtype_types.specs.tree.Tree.{fields}
+use Rattle.dtype_types.specs.tree.TreeOf.{tree, children, struct_dtypes, fields_of, with_trees}
 use Rattle.std.specs.Map.{values_of}
-use Rattle.dtype_types.specs.Lists.{borrowed_pair}
+use Rattle.dtype_types.specs.parts.Lists.{borrowed_pair}
 use Rattle.dtype_types.specs.declared.dtype.DType.{size-DType}
 use Rattle.dtype_types.proofs.+indented.Goals as goal
 use Rattle.dtype_types.proofs.+indented.Goals.{struct_fields::StructFields::write_indented-then-nfields-gt0+in_ok-push_str-2, struct_fields::StructFields::write_indented-else-nfields-gt0}

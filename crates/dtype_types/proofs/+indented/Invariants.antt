@@ -7,9 +7,9 @@ use denote.Shadow.{shadow}
 use denote.Text.{Utf8}
 use denote.Param.Weighed.{most}
 use Rattle.dtype_types.proofs.Texts.{leading}
-use Rattle.dtype_types.specs.IndentedText.{indented_fields}
-use Rattle.dtype_types.specs.Tree.{fields}
-use Rattle.dtype_types.specs.TreeOf.{struct_dtypes, fields_of, with_trees}
+use Rattle.dtype_types.specs.texts.IndentedText.{indented_fields}
+use Rattle.dtype_types.specs.tree.Tree.{fields}
+use Rattle.dtype_types.specs.tree.TreeOf.{struct_dtypes, fields_of, with_trees}
 use Rattle.std.specs.Map.{values_of}
 use Rattle.dtype_types.specs.declared.dtype.DType.{size-DType}
 use Rattle.dtype_types.proofs.+indented.Given as goal

@@ -11,13 +11,13 @@ use Rattle.dtype_types.proofs.ConsecutiveTags.{told_by_test}
 use Rattle.dtype_types.proofs.Depths.{no_deeper}
 use Rattle.dtype_types.proofs.Walks.{next_of, none_of}
 use Rattle.dtype_types.proofs.Texts.{map_all, struct_all, union_all, extension_all, leading, leading_all, one_written, all_written, named_text, tagged_text}
-use Rattle.dtype_types.specs.Tree.{fields, variants}
-use Rattle.dtype_types.specs.Text.{text, bool_text, field_texts, choice_texts, consecutive, tag_text}
+use Rattle.dtype_types.specs.tree.Tree.{fields, variants}
+use Rattle.dtype_types.specs.texts.Text.{text, bool_text, field_texts, choice_texts, consecutive, tag_text}
 use Rattle.std.specs.Map.{values_of}
-use Rattle.dtype_types.specs.Lists.{types_of, borrowed_pair, borrowed_triple}
-use Rattle.dtype_types.specs.TreeOf.{variant_list, struct_dtypes, fields_of, union_dtypes, variants_of, tree, with_trees, with_tagged_trees}
+use Rattle.dtype_types.specs.parts.Lists.{types_of, borrowed_pair, borrowed_triple}
+use Rattle.dtype_types.specs.tree.TreeOf.{variant_list, struct_dtypes, fields_of, union_dtypes, variants_of, tree, with_trees, with_tagged_trees}
 use Rattle.dtype_types.specs.declared.dtype.DType.{size-DType}
-use Rattle.dtype_types.specs.TextOf.{map_text, struct_text, union_text, extension_text}
+use Rattle.dtype_types.specs.texts.TextOf.{map_text, struct_text, union_text, extension_text}
 use Rattle.dtype_types.proofs.+text.Goals as goal
 
 pub dtype::text::DTypeDisplay::fmt-returns-in_ok-fmt-in-Map-clause-writes : goal.dtype::text::DTypeDisplay::fmt-returns-in_ok-fmt-in-Map-clause-writes

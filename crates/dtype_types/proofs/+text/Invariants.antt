@@ -7,11 +7,11 @@ use denote.Shadow.{shadow}
 use denote.Text.{Utf8}
 use denote.Param.Weighed.{most}
 use Rattle.dtype_types.proofs.Texts.{leading}
-use Rattle.dtype_types.specs.Text.{field_texts, choice_texts, consecutive}
-use Rattle.dtype_types.specs.Tree.{fields, variants}
-use Rattle.dtype_types.specs.TreeOf.{struct_dtypes, fields_of, union_dtypes, variants_of, with_trees, with_tagged_trees}
+use Rattle.dtype_types.specs.texts.Text.{field_texts, choice_texts, consecutive}
+use Rattle.dtype_types.specs.tree.Tree.{fields, variants}
+use Rattle.dtype_types.specs.tree.TreeOf.{struct_dtypes, fields_of, union_dtypes, variants_of, with_trees, with_tagged_trees}
 use Rattle.std.specs.Map.{values_of}
-use Rattle.dtype_types.specs.Lists.{types_of}
+use Rattle.dtype_types.specs.parts.Lists.{types_of}
 use Rattle.dtype_types.specs.declared.dtype.DType.{size-DType}
 use Rattle.dtype_types.proofs.+text.Given as goal
 

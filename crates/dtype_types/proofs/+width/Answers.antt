@@ -4,8 +4,8 @@
 use Rattle.std.proofs.Common.{◌+◌, map, sym, ap, subst, ◌∙◌, arith}
 use Rattle.dtype_types.specs.lemmas.TreeLaws.{tree_struct}
 use Rattle.dtype_types.proofs.Parts.{types_shown}
-use Rattle.dtype_types.specs.TreeOf.{children, struct_pairs, tree}
-use Rattle.dtype_types.specs.Width.{Measures, MeasuresFields}
+use Rattle.dtype_types.specs.tree.TreeOf.{children, struct_pairs, tree}
+use Rattle.dtype_types.specs.tree.Width.{Measures, MeasuresFields}
 use Rattle.dtype_types.proofs.Widths.{next_field, variable_beginning}
 use Rattle.dtype_types.proofs.+width.Goals as goal
 

@@ -7,9 +7,9 @@ use Rattle.std.proofs.lemmas.Option.{same_Some}
 use Rattle.dtype_base.specs.Nullability.{either}
 use Rattle.dtype_base.specs.declared.nullability.Nullability.{Nullability}
 use Rattle.dtype_base.specs.declared.nullability.Nullability.TheVariants.{NonNullable, Nullable}
-use Rattle.dtype_types.specs.Nullable.{nullability, set_null}
-use Rattle.dtype_types.specs.Sub.{Sub}
-use Rattle.dtype_types.specs.Tree.{Tree}
+use Rattle.dtype_types.specs.nullability.Nullable.{nullability, set_null}
+use Rattle.dtype_types.specs.nullability.Sub.{Sub}
+use Rattle.dtype_types.specs.tree.Tree.{Tree}
 use Rattle.dtype_types.specs.lemmas.Nullabilities.{set_own}
 use Rattle.dtype_types.specs.lemmas.SetSub.{below_nullable}
 use Rattle.dtype_types.specs.lemmas.SubLaws.{sub_reflexive}

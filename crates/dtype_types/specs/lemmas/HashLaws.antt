@@ -7,18 +7,18 @@ use Rattle.std.specs.Prelude.{◌≡◌, suc, ◌++◌, drop, true, refl}
 use Rattle.std.proofs.Common.{ap, sym, ◌∙◌}
 use Rattle.std.specs.Hash as fed
 use Rattle.dtype_base.specs.declared.nullability.Nullability.TheVariants.{NonNullable}
-use Rattle.dtype_types.specs.Kinds.{kind_number}
+use Rattle.dtype_types.specs.tree.Kinds.{kind_number}
 use Rattle.dtype_types.specs.declared.dtype.kinds.Kind.TheVariants as kind
-use Rattle.dtype_types.specs.Tree.{Tree, Fields, no_fields, field, Variants, no_variants, choice, null, bool, primitive, decimal, utf8, binary, list, fixed_size_list, map_of, struct, union, variant, extension, fields}
-use Rattle.dtype_types.specs.TreeOf.{tree, children, variants_of, map_shown, extension_tree}
-use Rattle.dtype_types.specs.Erase.{erase, erase_fields, erase_variants}
+use Rattle.dtype_types.specs.tree.Tree.{Tree, Fields, no_fields, field, Variants, no_variants, choice, null, bool, primitive, decimal, utf8, binary, list, fixed_size_list, map_of, struct, union, variant, extension, fields}
+use Rattle.dtype_types.specs.tree.TreeOf.{tree, children, variants_of, map_shown, extension_tree}
+use Rattle.dtype_types.specs.tree.Erase.{erase, erase_fields, erase_variants}
 use Rattle.dtype_types.specs.lemmas.EqualityLaws.{equal_under-Decides}
-use Rattle.dtype_types.specs.EqualityOf.{same_dtype}
+use Rattle.dtype_types.specs.equality.EqualityOf.{same_dtype}
 use Rattle.dtype_types.specs.lemmas.PartsEquality.{same_fields-Decides, variants_equal_under-Decides, maps_equal_under-Decides}
-use Rattle.dtype_types.specs.EqualityOf.{same_struct, same_union, same_map, same_extension}
-use Rattle.dtype_types.specs.Hashes.{hash_of, kind_writes, bytes_writes, field_count, field_writes, variant_count, variant_writes}
+use Rattle.dtype_types.specs.equality.EqualityOf.{same_struct, same_union, same_map, same_extension}
+use Rattle.dtype_types.specs.equality.Hashes.{hash_of, kind_writes, bytes_writes, field_count, field_writes, variant_count, variant_writes}
 use Rattle.dtype_types.specs.declared.dtype.hash.HashMode.TheVariants.{Whole, Erased}
-use Rattle.dtype_types.specs.HashesOf.{struct_writes, union_writes, map_writes, extension_writes}
+use Rattle.dtype_types.specs.equality.HashesOf.{struct_writes, union_writes, map_writes, extension_writes}
 use Rattle.dtype_types.specs.declared.dtype.DType.{DType}
 use Rattle.dtype_types.specs.declared.struct_fields.StructFields.{StructFields}
 use Rattle.dtype_types.specs.declared.union_variants.UnionVariants.{UnionVariants}

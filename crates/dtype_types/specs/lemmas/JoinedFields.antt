@@ -6,8 +6,8 @@ use Rattle.std.proofs.Common.{◌≡◌, ℕ, Bool, true, false, List, [], ◌�
 use Rattle.std.specs.Prelude.{IsSome, nat_eq}
 use Rattle.std.specs.Cmp.Lexicographic.{pointwise}
 use Rattle.std.proofs.lemmas.Bool.{false≢true}
-use Rattle.dtype_types.specs.Lookups.{first_named}
-use Rattle.dtype_types.specs.Tree.{Tree}
+use Rattle.dtype_types.specs.parts.Lookups.{first_named}
+use Rattle.dtype_types.specs.tree.Tree.{Tree}
 
 there : (b : Bool) (x r s : Option Tree) → (IsSome r → s ≡ r) → IsSome (if b then x else r) → (if b then x else s) ≡ (if b then x else r)
 there true x r s f h = refl

@@ -9,8 +9,8 @@ use Rattle.std.proofs.lemmas.Option.{same_Some}
 use Rattle.std.proofs.lemmas.Slice.Eq.{bytes_eq-Decides}
 use Rattle.dtype_base.specs.FieldNames.{IsAbsent, first_place}
 use Rattle.dtype_base.specs.lemmas.Lookups.{first_of_place, absent_of_place}
-use Rattle.dtype_types.specs.Lookups.{first_named, field_names, field_types, variant_named, variant_names, variant_types}
-use Rattle.dtype_types.specs.Tree.{Tree}
+use Rattle.dtype_types.specs.parts.Lookups.{first_named, field_names, field_types, variant_named, variant_names, variant_types}
+use Rattle.dtype_types.specs.tree.Tree.{Tree}
 
 -- the test of a name, at a name that is equal and at one that is not
 pub taken_same_name : {X : Type 0} (m n : List ℕ) (x y : X) → m ≡ n → cond (bytes_eq m n) x y ≡ x

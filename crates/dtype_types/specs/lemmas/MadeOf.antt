@@ -4,8 +4,8 @@
 -- The names, the types and the tags of a struct and of a union that were made of lists of these.
 use Rattle.std.proofs.Common.{◌≡◌, ℕ, List, [], ◌∷◌, map, length, refl, ap, ◌∙◌, arith}
 use Rattle.std.specs.List.{zip}
-use Rattle.dtype_types.specs.Lookups.{field_names, field_types, variant_names, variant_types, variant_tags}
-use Rattle.dtype_types.specs.TreeOf.{children, variant_list, tree}
+use Rattle.dtype_types.specs.parts.Lookups.{field_names, field_types, variant_names, variant_types, variant_tags}
+use Rattle.dtype_types.specs.tree.TreeOf.{children, variant_list, tree}
 use Rattle.dtype_types.specs.declared.dtype.DType.{DType}
 use Rattle.dtype_types.specs.declared.struct_fields.StructFields.{StructFields}
 use Rattle.dtype_types.specs.declared.union_variants.UnionVariants.{UnionVariants}

@@ -6,12 +6,12 @@ use Rattle.std.proofs.Common.{◌≡◌, ◌⊎◌, ◌↔◌, ℕ, List, Option
 use Rattle.std.proofs.lemmas.Option.{same_Some}
 use Rattle.dtype_base.specs.declared.nullability.Nullability.{Nullability}
 use Rattle.dtype_base.specs.declared.nullability.Nullability.TheVariants.{NonNullable, Nullable}
-use Rattle.dtype_types.specs.Nullable.{set_null, SetNull, IsNullable}
-use Rattle.dtype_types.specs.Tree.{Tree, null, bool, primitive, decimal, utf8, binary, list, fixed_size_list, map_of, struct, union, variant, extension}
-use Rattle.dtype_types.specs.TreeOf.{tree}
+use Rattle.dtype_types.specs.nullability.Nullable.{set_null, SetNull, IsNullable}
+use Rattle.dtype_types.specs.tree.Tree.{Tree, null, bool, primitive, decimal, utf8, binary, list, fixed_size_list, map_of, struct, union, variant, extension}
+use Rattle.dtype_types.specs.tree.TreeOf.{tree}
 use Rattle.dtype_types.specs.declared.dtype.DType.{DType}
 use Rattle.dtype_types.specs.lemmas.Nullabilities.{set_is}
-use Rattle.dtype_types.specs.Value.{Value, Of, AddsNull, null_value}
+use Rattle.dtype_types.specs.values.Value.{Value, Of, AddsNull, null_value}
 
 pub null_is_of_nullable : (t : Tree) → Of null_value t ↔ IsNullable t
 null_is_of_nullable (extension i b s) = null_is_of_nullable s

@@ -6,9 +6,9 @@ use Rattle.std.proofs.Common.{◌≡◌, ◌↔◌, ℕ, List, Option, Some, Non
 use Rattle.std.proofs.lemmas.Option.{same_Some}
 use Rattle.dtype_base.specs.declared.nullability.Nullability.{Nullability}
 use Rattle.dtype_base.specs.declared.nullability.Nullability.TheVariants.{NonNullable, Nullable}
-use Rattle.dtype_types.specs.Erase.{erase}
-use Rattle.dtype_types.specs.Nullable.{CanBeNonNullable, nullability, set_null}
-use Rattle.dtype_types.specs.Tree.{Tree, null, bool, primitive, decimal, utf8, binary, list, fixed_size_list, map_of, struct, union, variant, extension}
+use Rattle.dtype_types.specs.tree.Erase.{erase}
+use Rattle.dtype_types.specs.nullability.Nullable.{CanBeNonNullable, nullability, set_null}
+use Rattle.dtype_types.specs.tree.Tree.{Tree, null, bool, primitive, decimal, utf8, binary, list, fixed_size_list, map_of, struct, union, variant, extension}
 
 -- what holds of an extension whose storage was set, if it holds of the storage's storage
 pub by_storage : (P : Tree → Type 0) (i b : List ℕ) (o : Option Tree) (u : Tree) → option_and_then (λ x. Some (extension i b x)) o ≡ Some u → ((x : Tree) → o ≡ Some x → P (extension i b x)) → P u

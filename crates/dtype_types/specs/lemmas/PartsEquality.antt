@@ -8,11 +8,11 @@ use Rattle.std.proofs.Common.{sym, ap, ◌∙◌, subst}
 use Rattle.std.specs.Cmp.{IsEquivalence, booleans_Decides, decided, on_equiv}
 use Rattle.std.proofs.lemmas.Bool.{and_parts, and_from}
 use Rattle.dtype_types.specs.declared.dtype.equality.NullabilityRule.TheVariants.{Compared}
-use Rattle.dtype_types.specs.Tree.{Tree, Fields, Variants, fields, pairs}
-use Rattle.dtype_types.specs.Equality.{equal_under, fields_equal_under, variants_equal_under}
-use Rattle.dtype_types.specs.EqualityOf.{maps_equal_under, same_extension, same_field_dtype, same_map, same_struct, same_union}
+use Rattle.dtype_types.specs.tree.Tree.{Tree, Fields, Variants, fields, pairs}
+use Rattle.dtype_types.specs.equality.Equality.{equal_under, fields_equal_under, variants_equal_under}
+use Rattle.dtype_types.specs.equality.EqualityOf.{maps_equal_under, same_extension, same_field_dtype, same_map, same_struct, same_union}
 use Rattle.dtype_types.specs.lemmas.EqualityLaws.{equal_under-Decides, fields_equal_under-same, fields_equal_under_refl, variants_equal_under-same, variants_equal_under_refl, same_dtype_equiv}
-use Rattle.dtype_types.specs.TreeOf.{fields_of, variants_of, map_shown, MapParts, extension_tree}
+use Rattle.dtype_types.specs.tree.TreeOf.{fields_of, variants_of, map_shown, MapParts, extension_tree}
 
 -- ---- structs
 

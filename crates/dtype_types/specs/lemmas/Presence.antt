@@ -12,9 +12,9 @@ use Rattle.std.proofs.lemmas.Option.{slice_get-map, slice_get-get_or}
 use Rattle.std.proofs.lemmas.Slice.Eq.{bytes_eq-Decides}
 use Rattle.dtype_base.specs.FieldNames.{first_place}
 use Rattle.dtype_base.specs.lemmas.Lookups.{first_of_place, absent_of_place}
-use Rattle.dtype_types.specs.Lookups.{first_named, field_names, field_types}
+use Rattle.dtype_types.specs.parts.Lookups.{first_named, field_names, field_types}
 use Rattle.dtype_types.specs.lemmas.Lookups.{field_at_place, no_field_at_place}
-use Rattle.dtype_types.specs.Tree.{Tree}
+use Rattle.dtype_types.specs.tree.Tree.{Tree}
 
 is_some-map : {A B : Type 0} (f : A → B) (o : Option A) → is_some (option_map f o) ≡ is_some o
 is_some-map f None = refl

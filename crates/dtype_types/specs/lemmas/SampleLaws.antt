@@ -14,10 +14,10 @@ use Rattle.dtype_base.specs.declared.nullability.Nullability.TheVariants.{NonNul
 use Rattle.dtype_base.specs.Primitives.{ptype_row}
 use Rattle.dtype_base.specs.declared.ptype.PType.{PType}
 use Rattle.dtype_base.specs.declared.ptype.PType.TheVariants.{U8, U16, U32, U64, I8, I16, I32, I64, F16, F32, F64}
-use Rattle.dtype_types.specs.Tree.{Tree, Fields, no_fields, field, no_variants, choice, null, bool, primitive, decimal, utf8, binary, list, fixed_size_list, map_of, struct, union, variant, extension}
-use Rattle.dtype_types.specs.Valid.{Valid, ValidFields}
-use Rattle.dtype_types.specs.Value.{Value, Of, NamedOf, Each, value_count, HasDigits}
-use Rattle.dtype_types.specs.Sample.{sample, samples, copies, zero_of}
+use Rattle.dtype_types.specs.tree.Tree.{Tree, Fields, no_fields, field, no_variants, choice, null, bool, primitive, decimal, utf8, binary, list, fixed_size_list, map_of, struct, union, variant, extension}
+use Rattle.dtype_types.specs.tree.Valid.{Valid, ValidFields}
+use Rattle.dtype_types.specs.values.Value.{Value, Of, NamedOf, Each, value_count, HasDigits}
+use Rattle.dtype_types.specs.values.Sample.{sample, samples, copies, zero_of}
 
 pub value_count-copies : (k : ℕ) (v : Value) → value_count (copies k v) ≡ k
 value_count-copies zero v = refl

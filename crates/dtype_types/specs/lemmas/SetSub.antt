@@ -6,9 +6,9 @@ use Rattle.std.proofs.Common.{◌≡◌, Some, refl, sym, subst}
 use Rattle.std.proofs.lemmas.Option.{same_Some}
 use Rattle.dtype_base.specs.declared.nullability.Nullability.{Nullability}
 use Rattle.dtype_base.specs.declared.nullability.Nullability.TheVariants.{NonNullable, Nullable}
-use Rattle.dtype_types.specs.Nullable.{nullability, set_null}
-use Rattle.dtype_types.specs.Sub.{Sub, Allows, NullableWherever}
-use Rattle.dtype_types.specs.Tree.{Tree, null, bool, primitive, decimal, utf8, binary, list, fixed_size_list, map_of, struct, union, variant, extension}
+use Rattle.dtype_types.specs.nullability.Nullable.{nullability, set_null}
+use Rattle.dtype_types.specs.nullability.Sub.{Sub, Allows, NullableWherever}
+use Rattle.dtype_types.specs.tree.Tree.{Tree, null, bool, primitive, decimal, utf8, binary, list, fixed_size_list, map_of, struct, union, variant, extension}
 use Rattle.dtype_types.specs.lemmas.Nullabilities.{by_storage, set_keeps}
 use Rattle.dtype_types.specs.lemmas.SubLaws.{sub_reflexive}
 

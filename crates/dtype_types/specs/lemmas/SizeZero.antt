@@ -4,11 +4,11 @@
 -- Through a fixed size 0 all values of one type may be values of another that it isn't below.
 use Rattle.std.proofs.Common.{◌≡◌, refl, lit<}
 use Rattle.dtype_base.specs.declared.nullability.Nullability.TheVariants.{NonNullable, Nullable}
-use Rattle.dtype_types.specs.Erase.{erase}
-use Rattle.dtype_types.specs.Sub.{Sub}
-use Rattle.dtype_types.specs.Tree.{Tree, bool, fixed_size_list}
-use Rattle.dtype_types.specs.Valid.{Valid}
-use Rattle.dtype_types.specs.Value.{IncludedIn, Value, Values, Of, Each, value_count, no_values, value, null_value, fixed_items}
+use Rattle.dtype_types.specs.tree.Erase.{erase}
+use Rattle.dtype_types.specs.nullability.Sub.{Sub}
+use Rattle.dtype_types.specs.tree.Tree.{Tree, bool, fixed_size_list}
+use Rattle.dtype_types.specs.tree.Valid.{Valid}
+use Rattle.dtype_types.specs.values.Value.{IncludedIn, Value, Values, Of, Each, value_count, no_values, value, null_value, fixed_items}
 
 abbrev wide : Tree
 wide = fixed_size_list (bool Nullable) 0 NonNullable

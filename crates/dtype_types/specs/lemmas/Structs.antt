@@ -6,10 +6,10 @@
 use Rattle.std.proofs.Common.{◌≡◌, ◌∙◌, ℕ, List, Some, ap, refl, sym}
 use Rattle.std.proofs.lemmas.Option.{same_Some}
 use Rattle.dtype_base.specs.declared.nullability.Nullability.{Nullability}
-use Rattle.dtype_types.specs.Kinds.{struct_fields}
-use Rattle.dtype_types.specs.Nullable.{nullability}
+use Rattle.dtype_types.specs.tree.Kinds.{struct_fields}
+use Rattle.dtype_types.specs.nullability.Nullable.{nullability}
 use Rattle.dtype_types.specs.lemmas.PartsEquality.{pairs_of}
-use Rattle.dtype_types.specs.Tree.{Tree, Fields, no_fields, field, fields, pairs, struct}
+use Rattle.dtype_types.specs.tree.Tree.{Tree, Fields, no_fields, field, fields, pairs, struct}
 
 made_of_pairs : (fs : Fields) → fields (pairs fs) ≡ fs
 made_of_pairs no_fields = refl

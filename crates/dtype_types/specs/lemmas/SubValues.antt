@@ -6,10 +6,10 @@ use Rattle.std.proofs.Common.{◌≡◌, ◌∙◌, ℕ, subst, inl, inr}
 use Rattle.dtype_base.specs.Decimals.{Decimal}
 use Rattle.dtype_base.specs.declared.nullability.Nullability.{Nullability}
 use Rattle.dtype_base.specs.declared.ptype.PType.{PType}
-use Rattle.dtype_types.specs.Erase.{erase, erase_fields, erase_variants}
-use Rattle.dtype_types.specs.Sub.{Sub, Allows, NullableWherever, NullableWhereverFields, NullableWhereverVariants}
-use Rattle.dtype_types.specs.Tree.{Tree, Fields, no_fields, field, Variants, no_variants, choice, null, bool, primitive, decimal, utf8, binary, list, fixed_size_list, map_of, struct, union, variant, extension}
-use Rattle.dtype_types.specs.Value.{Value, Values, Entries, Named, IncludedIn, Of, NamedOf, VariantOf, Each, EachEntry, null_value, items, fixed_items, entries, record_of, tagged, no_values, value, no_entries, entry, no_named, named}
+use Rattle.dtype_types.specs.tree.Erase.{erase, erase_fields, erase_variants}
+use Rattle.dtype_types.specs.nullability.Sub.{Sub, Allows, NullableWherever, NullableWhereverFields, NullableWhereverVariants}
+use Rattle.dtype_types.specs.tree.Tree.{Tree, Fields, no_fields, field, Variants, no_variants, choice, null, bool, primitive, decimal, utf8, binary, list, fixed_size_list, map_of, struct, union, variant, extension}
+use Rattle.dtype_types.specs.values.Value.{Value, Values, Entries, Named, IncludedIn, Of, NamedOf, VariantOf, Each, EachEntry, null_value, items, fixed_items, entries, record_of, tagged, no_values, value, no_entries, entry, no_named, named}
 
 each_of : (P Q : Value → Type 0) → ((v : Value) → P v → Q v) → (vs : Values) → Each P vs → Each Q vs
 each_of P Q f no_values h = tt

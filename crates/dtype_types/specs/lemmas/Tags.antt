@@ -10,11 +10,11 @@ use Rattle.std.proofs.lemmas.List.FromFn.{length-range_with_len}
 use Rattle.std.proofs.lemmas.List.Quantifiers.{position-Some}
 use Rattle.std.proofs.lemmas.List.Sums.{position_or_len_is}
 use Rattle.std.proofs.lemmas.Option.{slice_get_within, slice_get_read, get_or_from_slice_get}
-use Rattle.dtype_types.specs.Tree.{Variants, no_variants, choice, triples}
-use Rattle.dtype_types.specs.Unions.{AreConsecutive}
-use Rattle.dtype_types.specs.Valid.{LacksTag, ValidVariants, Valid}
-use Rattle.dtype_types.specs.Lookups.{variant_tags}
-use Rattle.dtype_types.specs.TreeOf.{union_tree, variant_list, variants_of}
+use Rattle.dtype_types.specs.tree.Tree.{Variants, no_variants, choice, triples}
+use Rattle.dtype_types.specs.parts.Unions.{AreConsecutive}
+use Rattle.dtype_types.specs.tree.Valid.{LacksTag, ValidVariants, Valid}
+use Rattle.dtype_types.specs.parts.Lookups.{variant_tags}
+use Rattle.dtype_types.specs.tree.TreeOf.{union_tree, variant_list, variants_of}
 use Rattle.dtype_types.specs.lemmas.TreeLaws.{triples_variants}
 use Rattle.std.proofs.lemmas.Bool.Decides.{Decides-eqb}
 use Rattle.dtype_types.specs.declared.union_variants.UnionVariants.{UnionVariants}

@@ -5,8 +5,8 @@
 use Rattle.std.specs.Prelude.{◌≡◌, ℕ, List, [], ◌∷◌, refl}
 use Rattle.std.proofs.Common.{ap, sym, ◌∙◌, rules}
 use Rattle.dtype_base.specs.declared.nullability.Nullability.{Nullability}
-use Rattle.dtype_types.specs.Tree.{null, map_of, Tree, Fields, Variants, triples, fields, variants, struct, union}
-use Rattle.dtype_types.specs.TreeOf.{tree, extension_tree, children, variant_list, MapParts, ExtensionParts, type_step, extension_step, map_step, struct_step, union_step, map_shown}
+use Rattle.dtype_types.specs.tree.Tree.{null, map_of, Tree, Fields, Variants, triples, fields, variants, struct, union}
+use Rattle.dtype_types.specs.tree.TreeOf.{tree, extension_tree, children, variant_list, MapParts, ExtensionParts, type_step, extension_step, map_step, struct_step, union_step, map_shown}
 use Rattle.dtype_types.specs.declared.dtype.DType.{DType, Map, Null, Struct, Struct', Union, Union', Extension, roll-out-DType, roll-DType, out-DType, map-DType, fold_out-DType, fold-roll-DType, the_lemmas}
 use Rattle.dtype_types.specs.declared.dtype.DType.TheFolds.{fold-ExtDTypeRef, fold-MapDType, fold-StructFields, fold-UnionVariants}
 use Rattle.dtype_types.specs.declared.dtype.DType.TheViews.{rolls-Struct, outs-Struct', rolls-Union, outs-Union'}

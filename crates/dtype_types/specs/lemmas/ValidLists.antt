@@ -11,9 +11,9 @@ use Rattle.std.proofs.lemmas.List.Elements.{recursion_from_All}
 use Rattle.std.proofs.lemmas.Map.Made.{IsDistinct-from_AllPairs}
 use Rattle.dtype_base.specs.Bytes.{Bytes}
 use Rattle.dtype_base.specs.Distinct.{Distinct}
-use Rattle.dtype_types.specs.Lookups.{field_types, variant_names, variant_types, variant_tags}
-use Rattle.dtype_types.specs.Tree.{Tree, fields, variants}
-use Rattle.dtype_types.specs.Valid.{Valid, ValidFields, ValidVariants, HasVariant, LacksName, LacksTag}
+use Rattle.dtype_types.specs.parts.Lookups.{field_types, variant_names, variant_types, variant_tags}
+use Rattle.dtype_types.specs.tree.Tree.{Tree, fields, variants}
+use Rattle.dtype_types.specs.tree.Valid.{Valid, ValidFields, ValidVariants, HasVariant, LacksName, LacksTag}
 
 each_field : (fs : List (List ℕ × Tree)) → AllByRecursion Valid (field_types fs) → ValidFields (fields fs)
 each_field [] h = tt

@@ -10,11 +10,11 @@ use Rattle.std.specs.declared.alloc.Global.{Global}
 use Rattle.std.specs.declared.boxed.Box.{Box}
 use Rattle.std.proofs.lemmas.Option.{same_Some}
 use Rattle.dtype_base.specs.declared.nullability.Nullability.TheVariants.{NonNullable}
-use Rattle.dtype_types.specs.Valid.{Valid, HasVariant, ValidFields, ValidVariants}
-use Rattle.dtype_types.specs.TreeOf.{tree, extension_tree, map_tree, union_tree, struct_tree, shown, children, variant_list, map_shown, extension_id, extension_metadata, storage_tree}
-use Rattle.dtype_types.specs.Kinds.{list_element, fixed_size_list_element, any_size_list_element, map_parts, struct_fields, union_variants, extension_parts}
-use Rattle.dtype_types.specs.Nullable.{nullability}
-use Rattle.dtype_types.specs.Tree.{Tree, Fields, Variants, no_fields, field, no_variants, choice, fields, pairs, variants, triples, list, fixed_size_list, map_of, struct, union, extension}
+use Rattle.dtype_types.specs.tree.Valid.{Valid, HasVariant, ValidFields, ValidVariants}
+use Rattle.dtype_types.specs.tree.TreeOf.{tree, extension_tree, map_tree, union_tree, struct_tree, shown, children, variant_list, map_shown, extension_id, extension_metadata, storage_tree}
+use Rattle.dtype_types.specs.tree.Kinds.{list_element, fixed_size_list_element, any_size_list_element, map_parts, struct_fields, union_variants, extension_parts}
+use Rattle.dtype_types.specs.nullability.Nullable.{nullability}
+use Rattle.dtype_types.specs.tree.Tree.{Tree, Fields, Variants, no_fields, field, no_variants, choice, fields, pairs, variants, triples, list, fixed_size_list, map_of, struct, union, extension}
 use Rattle.dtype_types.specs.declared.dtype.DType.{DType}
 use Rattle.dtype_types.specs.declared.struct_fields.StructFields.{StructFields}
 use Rattle.dtype_types.specs.declared.union_variants.UnionVariants.{UnionVariants}

@@ -10,15 +10,15 @@ use Rattle.std.proofs.lemmas.List.Elements.{All-from_recursion, recursion_from_A
 use Rattle.std.proofs.lemmas.Option.{same_Some}
 use Rattle.dtype_base.specs.declared.nullability.Nullability.{Nullability}
 use Rattle.dtype_base.specs.declared.nullability.Nullability.TheVariants.{NonNullable, Nullable}
-use Rattle.dtype_types.specs.FieldTypes.{given_fields, field_tree}
-use Rattle.dtype_types.specs.Valid.{Valid, ValidFields, ValidVariants}
-use Rattle.dtype_types.specs.TreeOf.{tree, extension_tree, map_tree, union_tree, struct_tree, map_shown, struct_pairs, union_triples, children, variant_list, with_trees, with_tagged_trees, shown}
+use Rattle.dtype_types.specs.parts.FieldTypes.{given_fields, field_tree}
+use Rattle.dtype_types.specs.tree.Valid.{Valid, ValidFields, ValidVariants}
+use Rattle.dtype_types.specs.tree.TreeOf.{tree, extension_tree, map_tree, union_tree, struct_tree, map_shown, struct_pairs, union_triples, children, variant_list, with_trees, with_tagged_trees, shown}
 use Rattle.std.specs.Map.{values_of}
-use Rattle.dtype_types.specs.Lookups.{first_named, variant_named, field_types, variant_types}
-use Rattle.dtype_types.specs.Maps.{entries_of}
-use Rattle.dtype_types.specs.Nullable.{nullability, set_null}
+use Rattle.dtype_types.specs.parts.Lookups.{first_named, variant_named, field_types, variant_types}
+use Rattle.dtype_types.specs.parts.Maps.{entries_of}
+use Rattle.dtype_types.specs.nullability.Nullable.{nullability, set_null}
 use Rattle.dtype_types.specs.lemmas.Nullabilities.{by_storage}
-use Rattle.dtype_types.specs.Tree.{Tree, fields, variants, null, bool, primitive, decimal, utf8, binary, list, fixed_size_list, map_of, struct, union, variant, extension}
+use Rattle.dtype_types.specs.tree.Tree.{Tree, fields, variants, null, bool, primitive, decimal, utf8, binary, list, fixed_size_list, map_of, struct, union, variant, extension}
 use Rattle.dtype_types.specs.lemmas.ValidParts.{list_element_valid, fixed_size_element_valid, any_size_element_valid, lent_list_element, lent_fixed_size_element, lent_any_size_element, given_list_element, given_fixed_size_element, given_any_size_element, map_parts_valid, lent_map, given_map, struct_fields_valid, lent_struct, given_struct, union_variants_valid, lent_union, given_union, extension_is_valid, extension_parts_valid, lent_extension}
 use Rattle.dtype_types.specs.lemmas.TreeLaws.{tree_struct, tree_union, tree_map, tree_extension}
 use Rattle.dtype_types.specs.declared.dtype.DType.{DType, Map, Struct, Union, Extension}

@@ -3,8 +3,8 @@
 
 // Comparisons of types by their nullabilities, at every depth.
 ghost use Rattle.std.specs.Prelude.{◌↔◌, IsTrue};
-ghost use Rattle.dtype_types.specs.Sub.{Sub};
-ghost use Rattle.dtype_types.specs.TreeOf.{tree};
+ghost use Rattle.dtype_types.specs.nullability.Sub.{Sub};
+ghost use Rattle.dtype_types.specs.tree.TreeOf.{tree};
 
 use crate::DType;
 use crate::dtype::equality::{NullabilityRule, equal_under};

@@ -6,10 +6,10 @@ ghost use Rattle.std.specs.Prelude.{◌≡◌, ◌⊎◌, OnOk, MatchResult};
 ghost use Rattle.std.specs.Iterator.{IsFinite};
 ghost use Rattle.dtype_base.specs.declared.nullability.Nullability.TheVariants.{NonNullable};
 ghost use Rattle.dtype_base.specs.declared.vortex_error.VortexError.TheVariants.{OutOfMemory, MapKeyNullable};
-ghost use Rattle.dtype_types.specs.FieldTypes.{IsStructOf, MadeFrom};
-ghost use Rattle.dtype_types.specs.Nullable.{nullability, IsNullable};
-ghost use Rattle.dtype_types.specs.Tree.{list, fixed_size_list, map_of};
-ghost use Rattle.dtype_types.specs.TreeOf.{tree};
+ghost use Rattle.dtype_types.specs.parts.FieldTypes.{IsStructOf, MadeFrom};
+ghost use Rattle.dtype_types.specs.nullability.Nullable.{nullability, IsNullable};
+ghost use Rattle.dtype_types.specs.tree.Tree.{list, fixed_size_list, map_of};
+ghost use Rattle.dtype_types.specs.tree.TreeOf.{tree};
 
 use crate::{DType, FieldDType, MapDType, StructFields};
 use dtype_base::{FieldName, Nullability, VortexResult};

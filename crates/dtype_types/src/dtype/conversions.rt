@@ -6,10 +6,10 @@ ghost use Rattle.std.specs.Prelude.{◌≡◌};
 ghost use Rattle.std.specs.Option.{ok_or};
 ghost use Rattle.dtype_base.specs.declared.nullability.Nullability.TheVariants.{NonNullable};
 ghost use Rattle.dtype_base.specs.declared.vortex_error.VortexError.TheVariants.{NotDecimal, NotPrimitive};
-ghost use Rattle.dtype_types.specs.Valid.{Valid};
-ghost use Rattle.dtype_types.specs.TreeOf.{tree};
-ghost use Rattle.dtype_types.specs.Kinds.{decimal_of, primitive_name};
-ghost use Rattle.dtype_types.specs.Tree.{primitive};
+ghost use Rattle.dtype_types.specs.tree.Valid.{Valid};
+ghost use Rattle.dtype_types.specs.tree.TreeOf.{tree};
+ghost use Rattle.dtype_types.specs.tree.Kinds.{decimal_of, primitive_name};
+ghost use Rattle.dtype_types.specs.tree.Tree.{primitive};
 
 use crate::DType;
 use dtype_base::{DecimalDType, Nullability, PType, VortexError, VortexResult};

@@ -6,9 +6,9 @@
 #![tactic(auto, using(crate::proofs::OtherKinds::other_kinds, crate::proofs::OtherKinds::parts_equal_under))]
 
 ghost use Rattle.std.specs.Prelude.{◌≡◌, ◌↔◌, IsTrue};
-ghost use Rattle.dtype_types.specs.Equality.{equal_under, allows};
-ghost use Rattle.dtype_types.specs.Erase.{erase};
-ghost use Rattle.dtype_types.specs.TreeOf.{tree};
+ghost use Rattle.dtype_types.specs.equality.Equality.{equal_under, allows};
+ghost use Rattle.dtype_types.specs.tree.Erase.{erase};
+ghost use Rattle.dtype_types.specs.tree.TreeOf.{tree};
 
 use crate::DType;
 use dtype_base::Nullability;
@@ -73,7 +73,7 @@ impl DType {
 }
 
 impl PartialEq for DType {
-    ghost use Rattle.dtype_types.specs.EqualityOf.{same_dtype};
+    ghost use Rattle.dtype_types.specs.equality.EqualityOf.{same_dtype};
     ghost use Rattle.dtype_types.specs.lemmas.EqualityLaws.{same_dtype_equiv};
     ghost use Rattle.std.specs.Cmp.{partial_equiv_from_equiv};
 

@@ -3,8 +3,8 @@
 
 // Hashes of types: one walk, with the nullabilities or without them.
 ghost use Rattle.std.specs.Prelude.{◌≡◌, ◌<◌, fold};
-ghost use Rattle.dtype_types.specs.Hashes.{hash_of, kind_writes, hash_writes_ignoring_nullability};
-ghost use Rattle.dtype_types.specs.TreeOf.{tree};
+ghost use Rattle.dtype_types.specs.equality.Hashes.{hash_of, kind_writes, hash_writes_ignoring_nullability};
+ghost use Rattle.dtype_types.specs.tree.TreeOf.{tree};
 
 use crate::{DType, Kind};
 use dtype_base::Nullability;
@@ -91,7 +91,7 @@ impl DType {
 
 impl Hash for DType {
     ghost use Rattle.dtype_types.specs.lemmas.HashLaws.{dtype_fed};
-    ghost use Rattle.dtype_types.specs.Hashes.{hash_writes};
+    ghost use Rattle.dtype_types.specs.equality.Hashes.{hash_writes};
 
     ghost hash_input = { λ d. hash_writes (tree d) };
 

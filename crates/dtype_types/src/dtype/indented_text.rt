@@ -5,8 +5,8 @@
 ghost use Rattle.std.specs.Prelude.{◌≡◌, ◌++◌, OnOk, IsOkUnless, codes, string_bytes};
 ghost use Rattle.dtype_base.specs.Escapes.{escaped};
 ghost use Rattle.dtype_base.specs.declared.vortex_error.VortexError.TheVariants.{OutOfMemory};
-ghost use Rattle.dtype_types.specs.IndentedText.{indented};
-ghost use Rattle.dtype_types.specs.TreeOf.{tree};
+ghost use Rattle.dtype_types.specs.texts.IndentedText.{indented};
+ghost use Rattle.dtype_types.specs.tree.TreeOf.{tree};
 
 use crate::DType;
 use dtype_base::{FieldName, VortexResult};

@@ -8,8 +8,8 @@
 ghost use Rattle.std.specs.Prelude.{◌≡◌, ◌↔◌, IsTrue, IsSomeAnd, Some};
 ghost use Rattle.std.specs.Option.{option_copied, option_map};
 ghost use Rattle.dtype_base.specs.Primitives.{IsUnsigned, IsSigned, IsInteger, IsFloat};
-ghost use Rattle.dtype_types.specs.Kinds.{kind, kind_number, primitive_name, decimal_of, struct_fields, union_variants, map_parts, extension_parts, list_element, fixed_size_list_element, any_size_list_element, is_nested};
-ghost use Rattle.dtype_types.specs.TreeOf.{tree, children, variant_list, map_shown, shown, extension_id, extension_metadata, extension_tree, storage_tree};
+ghost use Rattle.dtype_types.specs.tree.Kinds.{kind, kind_number, primitive_name, decimal_of, struct_fields, union_variants, map_parts, extension_parts, list_element, fixed_size_list_element, any_size_list_element, is_nested};
+ghost use Rattle.dtype_types.specs.tree.TreeOf.{tree, children, variant_list, map_shown, shown, extension_id, extension_metadata, extension_tree, storage_tree};
 
 use crate::{DType, ExtDTypeRef, MapDType, StructFields, UnionVariants};
 use dtype_base::{DecimalDType, PType};

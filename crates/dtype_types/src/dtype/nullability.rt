@@ -7,9 +7,9 @@
 ghost use Rattle.std.specs.Prelude.{◌≡◌, ◌↔◌, IfOk, IsTrue, MatchResult};
 ghost use Rattle.dtype_base.specs.Nullability.{either};
 ghost use Rattle.dtype_base.specs.declared.vortex_error.VortexError.TheVariants.{OutOfMemory};
-ghost use Rattle.dtype_types.specs.Nullable.{nullability, CanBeNonNullable, SetNull, IsNullable};
-ghost use Rattle.dtype_types.specs.TreeOf.{tree};
-ghost use Rattle.dtype_types.specs.Value.{AddsNull};
+ghost use Rattle.dtype_types.specs.nullability.Nullable.{nullability, CanBeNonNullable, SetNull, IsNullable};
+ghost use Rattle.dtype_types.specs.tree.TreeOf.{tree};
+ghost use Rattle.dtype_types.specs.values.Value.{AddsNull};
 
 use crate::DType;
 use crate::dtype::copies::boxed_copy;

@@ -9,8 +9,8 @@ use std::fmt;
 
 /// Writes the type's kind, what it holds in brackets or braces, and `?` where it is nullable.
 impl fmt::Display for DType {
-    ghost use Rattle.dtype_types.specs.Text.{text};
-    ghost use Rattle.dtype_types.specs.TreeOf.{tree};
+    ghost use Rattle.dtype_types.specs.texts.Text.{text};
+    ghost use Rattle.dtype_types.specs.tree.TreeOf.{tree};
 
     ghost output = { λ d. Some (text (tree d)) };
 

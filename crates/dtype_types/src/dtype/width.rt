@@ -5,9 +5,9 @@
 ghost use Rattle.std.specs.Prelude.{◌≡◌, ◌↔◌, ◌++◌, ◌∷◌, ℕ, List, [], IfOk, IfSome, IsErr, IsSome, MatchResult};
 ghost use Rattle.dtype_base.specs.declared.nullability.Nullability.{Nullability};
 ghost use Rattle.dtype_base.specs.declared.vortex_error.VortexError.TheVariants.{WidthOverflow};
-ghost use Rattle.dtype_types.specs.Tree.{Tree, fixed_size_list};
-ghost use Rattle.dtype_types.specs.TreeOf.{tree};
-ghost use Rattle.dtype_types.specs.Width.{Fixed, HasWidePart, Measures, MeasuresFields, width};
+ghost use Rattle.dtype_types.specs.tree.Tree.{Tree, fixed_size_list};
+ghost use Rattle.dtype_types.specs.tree.TreeOf.{tree};
+ghost use Rattle.dtype_types.specs.tree.Width.{Fixed, HasWidePart, Measures, MeasuresFields, width};
 
 use crate::DType;
 use dtype_base::{DecimalType, VortexError, VortexResult};

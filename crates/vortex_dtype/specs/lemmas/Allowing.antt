@@ -7,7 +7,7 @@ use Rattle.std.proofs.Common.{subst}
 use Rattle.dtype_base.specs.declared.vortex_error.VortexError.{VortexError}
 use Rattle.dtype_base.specs.declared.vortex_error.VortexError.TheVariants.{MetadataRefused, Message}
 use Rattle.dtype_base.specs.declared.vortex_error.MessageFault.TheVariants.{ExtensionUnregistered}
-use Rattle.dtype_types.specs.Tree.{Tree}
+use Rattle.dtype_types.specs.tree.Tree.{Tree}
 use Rattle.vortex_dtype.specs.Meaning.{Meaning, allow_unknown_in, empty_meaning}
 use Rattle.vortex_dtype.specs.Errors.{SessionError}
 

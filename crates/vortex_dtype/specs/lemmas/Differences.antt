@@ -15,9 +15,9 @@ use Rattle.dtype_messages.specs.declared.pb.DType.{DType as TypeMessage}
 use Rattle.dtype_messages.specs.declared.pb.Field.{Field as PathPart}
 use Rattle.dtype_messages.specs.declared.pb.FieldPath.{FieldPath as PathMessage}
 use Rattle.dtype_messages.specs.lemmas.Equality.{dtype_Decides, part_Decides, path_Decides}
-use Rattle.dtype_types.specs.EqualityOf.{same_dtype, same_extension, same_field_dtype, same_map, same_struct, same_union}
-use Rattle.dtype_types.specs.FieldTypes.{field_tree}
-use Rattle.dtype_types.specs.TreeOf.{children, extension_tree, map_shown, shown, tree, variant_list}
+use Rattle.dtype_types.specs.equality.EqualityOf.{same_dtype, same_extension, same_field_dtype, same_map, same_struct, same_union}
+use Rattle.dtype_types.specs.parts.FieldTypes.{field_tree}
+use Rattle.dtype_types.specs.tree.TreeOf.{children, extension_tree, map_shown, shown, tree, variant_list}
 use Rattle.dtype_types.specs.declared.dtype.DType.{DType}
 use Rattle.dtype_types.specs.declared.extension.ExtDTypeRef.{ExtDTypeRef}
 use Rattle.dtype_types.specs.declared.field_dtype.FieldDType.{FieldDType}

@@ -21,15 +21,15 @@ use Rattle.dtype_base.specs.declared.ptype.PType.{PType}
 use Rattle.dtype_base.specs.Decimals.{IsValidDecimal}
 use Rattle.dtype_base.specs.Nullability.{nullability_of}
 use Rattle.dtype_base.specs.Distinct.{Distinct}
-use Rattle.dtype_types.specs.Nullable.{nullability}
-use Rattle.dtype_types.specs.Tree as of
-use Rattle.dtype_types.specs.Tree.{Tree, Fields, no_fields, field, fields, Variants, no_variants, choice, variants}
+use Rattle.dtype_types.specs.nullability.Nullable.{nullability}
+use Rattle.dtype_types.specs.tree.Tree as of
+use Rattle.dtype_types.specs.tree.Tree.{Tree, Fields, no_fields, field, fields, Variants, no_variants, choice, variants}
 use Rattle.dtype_base.specs.declared.vortex_error.VortexError.{VortexError}
 use Rattle.dtype_base.specs.declared.vortex_error.VortexError.TheVariants.{MapKeyNullable, UnionTypesLength, UnionTagsLength, UnionEmpty, UnionTagsRepeat, UnionNamesRepeat, Message as Faulty}
 use Rattle.dtype_base.specs.declared.vortex_error.MessageFault.{MessageFault}
 use Rattle.dtype_base.specs.declared.vortex_error.MessageFault.TheVariants.{TypeMissing, PrimitiveNumber, PrecisionRange, ScaleRange, ListElementMissing, FixedElementMissing, MapKeyMissing, MapValueMissing, StructLengths, TypeIdRange, StorageMissing}
-use Rattle.dtype_types.specs.TreeOf.{tree}
-use Rattle.dtype_types.specs.Valid.{Valid}
+use Rattle.dtype_types.specs.tree.TreeOf.{tree}
+use Rattle.dtype_types.specs.tree.Valid.{Valid}
 use Rattle.dtype_types.specs.declared.dtype.DType.{DType}
 use Rattle.vortex_dtype.specs.IsMessage.{AreTags}
 use Rattle.dtype_messages.specs.Message.{Message, Child, Messages, missing, null, bool, primitive, decimal, utf8, binary, list, fixed_size_list, map_of, struct, union, variant, extension, absent, present, no_message, more}

@@ -11,10 +11,10 @@ use Rattle.std.proofs.lemmas.Option.{same_Some}
 use Rattle.std.proofs.lemmas.Slice.Eq.{bytes_eq-Decides}
 use Rattle.dtype_base.specs.declared.nullability.Nullability.{Nullability}
 use Rattle.dtype_base.specs.declared.nullability.Nullability.TheVariants.{NonNullable, Nullable}
-use Rattle.dtype_types.specs.Kinds.{struct_fields}
-use Rattle.dtype_types.specs.Tree.{Tree, Fields, fields, pairs, no_fields, field, Variants, no_variants, choice, null, bool, primitive, decimal, utf8, binary, list, fixed_size_list, map_of, struct, union, variant, extension}
-use Rattle.dtype_types.specs.Valid.{Valid}
-use Rattle.dtype_types.specs.Nullable.{set_null}
+use Rattle.dtype_types.specs.tree.Kinds.{struct_fields}
+use Rattle.dtype_types.specs.tree.Tree.{Tree, Fields, fields, pairs, no_fields, field, Variants, no_variants, choice, null, bool, primitive, decimal, utf8, binary, list, fixed_size_list, map_of, struct, union, variant, extension}
+use Rattle.dtype_types.specs.tree.Valid.{Valid}
+use Rattle.dtype_types.specs.nullability.Nullable.{set_null}
 use Rattle.vortex_dtype.specs.Meaning.{Rewrites, Meaning, Lawful, LawfulSession, Bytes, kept, keeps, empty_meaning, register_in, allow_unknown_in, Admits, AdmitsFields, AdmitsVariants}
 use Rattle.vortex_dtype.specs.lemmas.Allowing.{unrefused}
 use Rattle.vortex_dtype.specs.Calls.{Call, register, allow, after, LeavesAlone, is_allow}

@@ -10,9 +10,9 @@ ghost use Rattle.std.specs.Prelude.{◌≡◌, ◌<◌, ◌^◌, All, FitsSigned
 ghost use Rattle.dtype_base.specs.declared.vortex_error.VortexError.TheVariants.{OutOfMemory};
 ghost use Rattle.dtype_base.specs.Decimals.{IsValidDecimal};
 ghost use Rattle.dtype_base.specs.Nullability.{nullability_of};
-ghost use Rattle.dtype_types.specs.Tree as of;
-ghost use Rattle.dtype_types.specs.TreeOf.{tree};
-ghost use Rattle.dtype_types.specs.Valid.{Valid};
+ghost use Rattle.dtype_types.specs.tree.Tree as of;
+ghost use Rattle.dtype_types.specs.tree.TreeOf.{tree};
+ghost use Rattle.dtype_types.specs.tree.Valid.{Valid};
 ghost use Rattle.dtype_messages.specs.MessageOf.{bytes_of};
 ghost use Rattle.vortex_dtype.specs.Meaning.{Bytes};
 ghost use Rattle.vortex_dtype.specs.Numbers.{integer_byte, signed_byte, natural_byte};

@@ -4,8 +4,8 @@
 // Reading walks the message once, in the order of its fields, and builds the type through the checking constructors of
 // the crates below: their errors are returned as they are.
 ghost use Rattle.std.specs.Prelude.{◌≡◌, IfOk};
-ghost use Rattle.dtype_types.specs.TreeOf.{tree};
-ghost use Rattle.dtype_types.specs.Valid.{Valid};
+ghost use Rattle.dtype_types.specs.tree.TreeOf.{tree};
+ghost use Rattle.dtype_types.specs.tree.Valid.{Valid};
 ghost use Rattle.dtype_messages.specs.MessageOf.{message};
 ghost use Rattle.vortex_dtype.specs.IsMessage.{IsMessage};
 ghost use Rattle.vortex_dtype.specs.ReadInOrder.{read, Gives};

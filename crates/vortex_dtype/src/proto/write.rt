@@ -5,8 +5,8 @@
 // functions below `of_kind` build the message of one kind, and are no part of the recursion.
 ghost use Rattle.std.specs.Prelude.{◌≡◌, IfOk, IsOkUnless, map, string_bytes, MatchResult};
 ghost use Rattle.dtype_base.specs.declared.vortex_error.VortexError.TheVariants.{OutOfMemory};
-ghost use Rattle.dtype_types.specs.Tree as of;
-ghost use Rattle.dtype_types.specs.TreeOf.{tree, fields_of, variants_of};
+ghost use Rattle.dtype_types.specs.tree.Tree as of;
+ghost use Rattle.dtype_types.specs.tree.TreeOf.{tree, fields_of, variants_of};
 ghost use Rattle.dtype_messages.specs.Message.{messages, list, fixed_size_list, map_of, struct, union, present};
 ghost use Rattle.dtype_messages.specs.MessageOf.{message, kind_message};
 ghost use Rattle.vortex_dtype.specs.Written.{written, is_nullable, extension_message};

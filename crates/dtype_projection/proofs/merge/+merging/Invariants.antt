@@ -3,8 +3,8 @@
 
 use Rattle.std.proofs.Common.{◌≡◌, ◌≤◌, ◌+◌, ◌*◌, ◌++◌, map}
 use Rattle.std.specs.Iterator.Adapters.{zip_first, zip_second}
-use Rattle.dtype_types.specs.Erase.{erase}
-use Rattle.dtype_types.specs.TreeOf.{tree, fields_of, map_shown, storage_tree, variants_of}
+use Rattle.dtype_types.specs.tree.Erase.{erase}
+use Rattle.dtype_types.specs.tree.TreeOf.{tree, fields_of, map_shown, storage_tree, variants_of}
 use Rattle.dtype_projection.specs.Merged.{either_null_types}
 use Rattle.dtype_projection.proofs.TypeWeights.{weight, weight_fields, weight_types, weight_variants}
 use Rattle.dtype_projection.proofs.merge.+merging.Given as goal

@@ -7,12 +7,12 @@ use Rattle.std.specs.List.{zip}
 use Rattle.dtype_types.specs.lemmas.TreeLaws.{tree_struct}
 use Rattle.std.specs.Iterator.Adapters.{zip_first, zip_second}
 use Rattle.std.specs.Slice.Iter.{iter_rest}
-use Rattle.dtype_types.specs.Lists.{borrowed_pair}
+use Rattle.dtype_types.specs.parts.Lists.{borrowed_pair}
 use Rattle.dtype_projection.proofs.BorrowedPaths.{none_borrowed}
 use Rattle.dtype_projection.proofs.FieldProgress.{next_field, no_field, field_kept, all_passed, struct_of_some, struct_of_none, zip_some}
 use Rattle.dtype_projection.proofs.Weights.{fields_below}
 use Rattle.dtype_projection.specs.lemmas.Projections.{projected_nothing}
-use Rattle.dtype_types.specs.TreeOf.{tree, children}
+use Rattle.dtype_types.specs.tree.TreeOf.{tree, children}
 use Rattle.dtype_projection.proofs.project.+projecting.Goals as goal
 
 pub project-returns-then-is_empty : goal.project-returns-then-is_empty

@@ -5,8 +5,8 @@ use Rattle.std.proofs.Common.{◌≡◌, ◌≤◌, ◌+◌, ◌*◌, map, vec_l
 use Rattle.std.specs.Iterator.Adapters.{zip_first, zip_second}
 use Rattle.std.specs.List.{zip}
 use Rattle.std.specs.Slice.Iter.{iter_rest}
-use Rattle.dtype_types.specs.Tree.{fields, pairs}
-use Rattle.dtype_types.specs.TreeOf.{tree, fields_of, with_trees}
+use Rattle.dtype_types.specs.tree.Tree.{fields, pairs}
+use Rattle.dtype_types.specs.tree.TreeOf.{tree, fields_of, with_trees}
 use Rattle.dtype_projection.specs.PathLists.{contains_path, borrowed, borrowed_in_each}
 use Rattle.dtype_projection.specs.Projected.{projected_fields}
 use Rattle.dtype_projection.proofs.FieldProgress.{IsProgress}

@@ -7,7 +7,7 @@ use Rattle.std.specs.FinSet as set
 use Rattle.std.specs.Option.{option_map}
 use Rattle.std.specs.Vec.Iter.{into_iter_items}
 use Rattle.dtype_base.specs.declared.vortex_error.VortexError.TheVariants.{OutOfMemory}
-use Rattle.dtype_types.specs.TreeOf.{tree}
+use Rattle.dtype_types.specs.tree.TreeOf.{tree}
 use Rattle.dtype_paths.specs.PathOrder.{set_of}
 use Rattle.dtype_projection.specs.PathLists.{borrowed}
 use Rattle.dtype_projection.specs.Projected.{projected}

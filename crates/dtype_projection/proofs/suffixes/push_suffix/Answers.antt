@@ -4,11 +4,11 @@
 use Rattle.std.proofs.Common.{◌≡◌, ◌<◌, ℕ, List, [], length, Some, None, sym, subst, arith}
 use Rattle.std.proofs.lemmas.List.{length-map}
 use Rattle.std.proofs.lemmas.Option.{slice_get_within}
-use Rattle.dtype_types.specs.Tree.{Tree}
+use Rattle.dtype_types.specs.tree.Tree.{Tree}
 use Rattle.dtype_base.specs.lemmas.Lookups.{first_of_place, absent_of_place}
 use Rattle.dtype_base.specs.FieldNames.{FirstAt, first_place}
-use Rattle.dtype_types.specs.Lookups.{field_names}
-use Rattle.dtype_types.specs.TreeOf.{children}
+use Rattle.dtype_types.specs.parts.Lookups.{field_names}
+use Rattle.dtype_types.specs.tree.TreeOf.{children}
 use Rattle.dtype_projection.proofs.BorrowedPaths.{push_borrowed}
 use Rattle.dtype_projection.proofs.SuffixLists.{suffixes_other, suffixes_absent, push_suffixes, more_path}
 use Rattle.dtype_projection.proofs.suffixes.push_suffix.Goals as goal

@@ -2,8 +2,8 @@
 -- SPDX-FileCopyrightText: Copyright the Vortex contributors
 
 use Rattle.std.proofs.Common.{◌≡◌, take, length, vec_len}
-use Rattle.dtype_types.specs.Lookups.{field_names}
-use Rattle.dtype_types.specs.TreeOf.{children}
+use Rattle.dtype_types.specs.parts.Lookups.{field_names}
+use Rattle.dtype_types.specs.tree.TreeOf.{children}
 use Rattle.dtype_projection.specs.PathLists.{contains_path, borrowed, borrowed_in_each, AreSuffixes}
 use Rattle.dtype_projection.proofs.suffixes.suffixes_by_field.Given as goal
 

@@ -2,10 +2,10 @@
 -- SPDX-FileCopyrightText: Copyright the Vortex contributors
 
 use Rattle.std.proofs.Common.{◌≡◌, subst, sym}
-use Rattle.dtype_types.specs.Tree.{fields, variants}
-use Rattle.dtype_types.specs.TreeOf.{with_tagged_trees, with_trees}
-use Rattle.dtype_types.specs.Valid.{Valid, HasVariant, ValidFields, ValidVariants}
-use Rattle.dtype_types.specs.Nullable.{nullability}
+use Rattle.dtype_types.specs.tree.Tree.{fields, variants}
+use Rattle.dtype_types.specs.tree.TreeOf.{with_tagged_trees, with_trees}
+use Rattle.dtype_types.specs.tree.Valid.{Valid, HasVariant, ValidFields, ValidVariants}
+use Rattle.dtype_types.specs.nullability.Nullable.{nullability}
 use Rattle.dtype_base.specs.declared.nullability.Nullability.TheVariants.{NonNullable}
 use Rattle.dtype_types.proofs.laws.copies_of_valid_types_are_valid.Goals as goal
 

@@ -3,8 +3,8 @@
 
 use Rattle.std.proofs.Common.{rules, map}
 use Rattle.std.proofs.iter.Rest.{run_of_first_by}
-use Rattle.dtype_types.specs.Lists.{borrowed_pair, borrowed_triple}
-use Rattle.dtype_types.specs.TreeOf.{tree}
+use Rattle.dtype_types.specs.parts.Lists.{borrowed_pair, borrowed_triple}
+use Rattle.dtype_types.specs.tree.TreeOf.{tree}
 use Rattle.dtype_types.proofs.laws.parts_are_given_in_order.Goals as goal
 
 pub returns-clause-types : goal.returns-clause-types

@@ -2,9 +2,9 @@
 -- SPDX-FileCopyrightText: Copyright the Vortex contributors
 
 use Rattle.std.proofs.Common.{subst, sym}
-use Rattle.dtype_types.specs.Tree.{fields}
-use Rattle.dtype_types.specs.TreeOf.{children}
-use Rattle.dtype_types.specs.Valid.{ValidFields}
+use Rattle.dtype_types.specs.tree.Tree.{fields}
+use Rattle.dtype_types.specs.tree.TreeOf.{children}
+use Rattle.dtype_types.specs.tree.Valid.{ValidFields}
 use Rattle.dtype_types.specs.lemmas.Validity.{removal_valid, valid_joined, valid_projected}
 use Rattle.dtype_types.proofs.laws.selections_of_valid_fields_are_valid.Goals as goal
 

@@ -5,7 +5,7 @@ use Rattle.std.proofs.Common.{◌<◌, ℕ, List, rules, arith, sym, ◌∙◌, 
 use Rattle.std.proofs.lemmas.Bool.{false≢true}
 use Rattle.std.proofs.lemmas.List.Elements.{All-from_get_or}
 use Rattle.dtype_base.specs.Distinct.{Distinct}
-use Rattle.dtype_types.specs.Unions.{HasUnionLengths}
+use Rattle.dtype_types.specs.parts.Unions.{HasUnionLengths}
 use Rattle.dtype_types.proofs.DistinctItems.{tags_distinct, distinct_tags, names_distinct, distinct_names}
 use Rattle.dtype_types.proofs.union_variants.validate_shape.Goals as goal
 

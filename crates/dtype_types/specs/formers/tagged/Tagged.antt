@@ -24,7 +24,7 @@ use Rattle.std.specs.declared.alloc.Global.{Global}
 use Rattle.std.specs.contracts.alloc.Global as heap
 use Rattle.std.specs.contracts.impls.GlobalAllocator.TheImpl.{ghosts}
 use Rattle.std.specs.List.{zip}
-use Rattle.dtype_types.specs.Lists.{types_of}
+use Rattle.dtype_types.specs.parts.Lists.{types_of}
 use Rattle.dtype_types.specs.declared.tagged.Tagged.TheInside.{Inside}
 use Rattle.dtype_types.specs.declared.tagged.Tagged.TheView.{view, invariant}
 use Rattle.dtype_types.specs.contracts.tagged.Tagged as C

@@ -3,9 +3,9 @@
 
 use Rattle.std.proofs.Common.{◌↔◌, map}
 use Rattle.std.specs.List.{AllByRecursion}
-use Rattle.dtype_types.specs.Lookups.{field_types}
-use Rattle.dtype_types.specs.Nullable.{IsNullable}
-use Rattle.dtype_types.specs.TreeOf.{children, tree}
+use Rattle.dtype_types.specs.parts.Lookups.{field_types}
+use Rattle.dtype_types.specs.nullability.Nullable.{IsNullable}
+use Rattle.dtype_types.specs.tree.TreeOf.{children, tree}
 use Rattle.dtype_uses.proofs.over_fields.all_nullable_in_turn.Given as goal
 
 -- it holds of all where it holds of those that are left

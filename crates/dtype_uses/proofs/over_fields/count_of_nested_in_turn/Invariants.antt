@@ -2,9 +2,9 @@
 -- SPDX-FileCopyrightText: Copyright the Vortex contributors
 
 use Rattle.std.proofs.Common.{◌≡◌, ◌+◌, ◌<◌, ◌^◌, count_by, length, map}
-use Rattle.dtype_types.specs.Kinds.{is_nested}
-use Rattle.dtype_types.specs.Lookups.{field_types}
-use Rattle.dtype_types.specs.TreeOf.{children, tree}
+use Rattle.dtype_types.specs.tree.Kinds.{is_nested}
+use Rattle.dtype_types.specs.parts.Lookups.{field_types}
+use Rattle.dtype_types.specs.tree.TreeOf.{children, tree}
 use Rattle.dtype_uses.proofs.over_fields.count_of_nested_in_turn.Given as goal
 
 -- those so far and those that are left are all

@@ -2,8 +2,8 @@
 -- SPDX-FileCopyrightText: Copyright the Vortex contributors
 
 use Rattle.std.proofs.Common.{ℕ, ◌+◌}
-use Rattle.dtype_types.specs.Tree.{Tree, extension}
-use Rattle.dtype_types.specs.TreeOf.{tree}
+use Rattle.dtype_types.specs.tree.Tree.{Tree, extension}
+use Rattle.dtype_types.specs.tree.TreeOf.{tree}
 use Rattle.dtype_uses.proofs.scalars.+may_stand.Given as goal
 
 -- how many extensions are over the storage that is none

@@ -3,10 +3,10 @@
 
 use Rattle.std.proofs.Common.{Result, Ok, Err, IfOk, MatchResult}
 use Rattle.dtype_base.specs.declared.nullability.Nullability.TheVariants.{Nullable}
-use Rattle.dtype_types.specs.Nullable.{SetNull}
-use Rattle.dtype_types.specs.Tree.{Tree}
-use Rattle.dtype_types.specs.TreeOf.{tree}
-use Rattle.dtype_types.specs.Value.{AddsNull}
+use Rattle.dtype_types.specs.nullability.Nullable.{SetNull}
+use Rattle.dtype_types.specs.tree.Tree.{Tree}
+use Rattle.dtype_types.specs.tree.TreeOf.{tree}
+use Rattle.dtype_types.specs.values.Value.{AddsNull}
 use Rattle.dtype_types.specs.declared.dtype.DType.{DType}
 use Rattle.dtype_types.specs.lemmas.NullValues.{nullable_adds_null}
 use Rattle.dtype_types.proofs.dtype.DType.as_nullable.Goals as goal

@@ -1,7 +1,7 @@
 -- SPDX-License-Identifier: Apache-2.0
 -- SPDX-FileCopyrightText: Copyright the Vortex contributors
 
-use Rattle.dtype_types.specs.TreeOf.{tree}
+use Rattle.dtype_types.specs.tree.TreeOf.{tree}
 use Rattle.dtype_types.proofs.SubTest.{sub_of_test}
 use Rattle.dtype_types.proofs.dtype.DType.eq_with_nullability_superset.Goals as goal
 

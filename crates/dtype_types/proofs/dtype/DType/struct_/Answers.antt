@@ -4,7 +4,7 @@
 use Rattle.std.proofs.Common.{ap, ◌∙◌}
 use Rattle.dtype_types.specs.lemmas.TreeLaws.{tree_struct}
 use Rattle.dtype_types.specs.lemmas.Validity.{struct_valid}
-use Rattle.dtype_types.specs.Tree.{fields, struct}
+use Rattle.dtype_types.specs.tree.Tree.{fields, struct}
 use Rattle.dtype_types.proofs.dtype.DType.struct_.Goals as goal
 
 pub returns : goal.returns

@@ -3,7 +3,7 @@
 
 use Rattle.std.proofs.Common.{sym, ◌∙◌}
 use Rattle.dtype_types.specs.lemmas.EqualityLaws.{equal_erased-Decides}
-use Rattle.dtype_types.specs.TreeOf.{extension_tree}
+use Rattle.dtype_types.specs.tree.TreeOf.{extension_tree}
 use Rattle.dtype_types.proofs.extension.ExtDTypeRef.eq_ignore_nullability.Goals as goal
 
 pub returns : goal.returns

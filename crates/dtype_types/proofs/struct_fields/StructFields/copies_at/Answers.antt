@@ -3,7 +3,7 @@
 
 use Rattle.std.proofs.Common.{◌++◌, [], ◌∷◌, Some, get_or, map, ap, ◌∙◌, arith}
 use Rattle.std.proofs.lemmas.List.{get_or_default, map_push}
-use Rattle.dtype_types.specs.TreeOf.{struct_dtypes, tree}
+use Rattle.dtype_types.specs.tree.TreeOf.{struct_dtypes, tree}
 use Rattle.dtype_types.proofs.Selected.{copies_more, tree_read}
 use Rattle.dtype_types.proofs.struct_fields.StructFields.copies_at.Goals as goal
 

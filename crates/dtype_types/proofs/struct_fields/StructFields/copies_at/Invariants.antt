@@ -3,7 +3,7 @@
 
 use Rattle.std.proofs.Common.{◌≡◌, ◌≤◌, Some, length, map, take, vec_len, vec_capacity}
 use Rattle.std.specs.Prelude.{slice_get}
-use Rattle.dtype_types.specs.TreeOf.{struct_dtypes, tree}
+use Rattle.dtype_types.specs.tree.TreeOf.{struct_dtypes, tree}
 use Rattle.dtype_types.proofs.struct_fields.StructFields.copies_at.Given as goal
 
 -- copies of the types at the positions before this one, in a list with room for all

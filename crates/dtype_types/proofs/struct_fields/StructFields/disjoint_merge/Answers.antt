@@ -5,10 +5,10 @@ use Rattle.std.proofs.Common.{inr, refl, sym, ap, subst, ◌∙◌}
 use Rattle.std.proofs.lemmas.Bool.{false≢true}
 use Rattle.dtype_base.specs.Distinct.{Distinct}
 use Rattle.std.specs.Map.{keys_of}
-use Rattle.dtype_types.specs.Lookups.{field_names}
-use Rattle.dtype_types.specs.Tree.{fields}
-use Rattle.dtype_types.specs.TreeOf.{children, struct_pairs}
-use Rattle.dtype_types.specs.Valid.{ValidFields}
+use Rattle.dtype_types.specs.parts.Lookups.{field_names}
+use Rattle.dtype_types.specs.tree.Tree.{fields}
+use Rattle.dtype_types.specs.tree.TreeOf.{children, struct_pairs}
+use Rattle.dtype_types.specs.tree.Valid.{ValidFields}
 use Rattle.dtype_types.proofs.Parts.{names_shown}
 use Rattle.dtype_types.specs.lemmas.Validity.{valid_joined}
 use Rattle.dtype_types.proofs.struct_fields.StructFields.disjoint_merge.Goals as goal

@@ -3,7 +3,7 @@
 
 use Rattle.std.proofs.Common.{sym, ◌∙◌}
 use Rattle.dtype_types.specs.lemmas.EqualityLaws.{equal_erased-Decides}
-use Rattle.dtype_types.specs.TreeOf.{struct_tree}
+use Rattle.dtype_types.specs.tree.TreeOf.{struct_tree}
 use Rattle.dtype_types.proofs.struct_fields.StructFields.eq_ignore_nullability.Goals as goal
 
 pub returns : goal.returns

@@ -4,7 +4,7 @@
 use Rattle.std.proofs.Common.{◌∙◌, ap, map, slice_get, sym}
 use Rattle.dtype_types.proofs.FieldLookups.{get_tree}
 use Rattle.dtype_types.proofs.Parts.{types_shown}
-use Rattle.dtype_types.specs.TreeOf.{tree, struct_pairs}
+use Rattle.dtype_types.specs.tree.TreeOf.{tree, struct_pairs}
 use Rattle.dtype_types.proofs.struct_fields.StructFields.field_by_index.Goals as goal
 
 pub returns : goal.returns

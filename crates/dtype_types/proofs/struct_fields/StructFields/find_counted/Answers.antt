@@ -8,8 +8,8 @@ use Rattle.dtype_base.specs.Comparisons.{comparisons}
 use Rattle.dtype_base.specs.lemmas.Lookups.{most_compared, found_compared}
 use Rattle.dtype_types.proofs.Parts.{names_shown}
 use Rattle.std.specs.Map.{keys_of}
-use Rattle.dtype_types.specs.TreeOf.{struct_pairs, tree, children}
-use Rattle.dtype_types.specs.Lookups.{field_names}
+use Rattle.dtype_types.specs.tree.TreeOf.{struct_pairs, tree, children}
+use Rattle.dtype_types.specs.parts.Lookups.{field_names}
 use Rattle.dtype_types.proofs.struct_fields.StructFields.find_counted.Goals as goal
 
 pub returns-clause-first : goal.returns-clause-first

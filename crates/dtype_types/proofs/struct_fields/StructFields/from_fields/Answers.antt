@@ -6,8 +6,8 @@ use Rattle.std.specs.List.{zip}
 use Rattle.std.proofs.lemmas.List.Elements.{All-map, All-same}
 use Rattle.std.proofs.lemmas.Result.{MatchResult-weaker}
 use Rattle.std.proofs.lemmas.Simd.{map-map}
-use Rattle.dtype_types.specs.Valid.{Valid}
-use Rattle.dtype_types.specs.TreeOf.{tree}
+use Rattle.dtype_types.specs.tree.Valid.{Valid}
+use Rattle.dtype_types.specs.tree.TreeOf.{tree}
 use Rattle.dtype_types.proofs.struct_fields.StructFields.from_fields.Goals as goal
 
 pub returns-clause-fields : goal.returns-clause-fields

@@ -8,10 +8,10 @@ use Rattle.std.proofs.lemmas.List.{length-map}
 use Rattle.std.proofs.lemmas.List.Elements.{recursion_from_All}
 use Rattle.std.proofs.lemmas.Result.{MatchResult-weaker}
 use Rattle.dtype_types.specs.declared.field_dtype.FieldDType.{FieldDType}
-use Rattle.dtype_types.specs.FieldTypes.{AreValidFields, field_tree}
-use Rattle.dtype_types.specs.Valid.{Valid, ValidFields}
-use Rattle.dtype_types.specs.TreeOf.{children, struct_tree, tree}
-use Rattle.dtype_types.specs.Tree.{fields}
+use Rattle.dtype_types.specs.parts.FieldTypes.{AreValidFields, field_tree}
+use Rattle.dtype_types.specs.tree.Valid.{Valid, ValidFields}
+use Rattle.dtype_types.specs.tree.TreeOf.{children, struct_tree, tree}
+use Rattle.dtype_types.specs.tree.Tree.{fields}
 use Rattle.dtype_types.specs.lemmas.Validity.{valid_given}
 use Rattle.dtype_types.proofs.PutTogether.{mapped_sides}
 use Rattle.dtype_types.proofs.struct_fields.StructFields.from_iter.Goals as goal

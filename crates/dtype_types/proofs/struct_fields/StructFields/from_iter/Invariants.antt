@@ -2,8 +2,8 @@
 -- SPDX-FileCopyrightText: Copyright the Vortex contributors
 
 use Rattle.std.proofs.Common.{◌≡◌, map}
-use Rattle.dtype_types.specs.FieldTypes.{field_tree}
-use Rattle.dtype_types.specs.TreeOf.{tree}
+use Rattle.dtype_types.specs.parts.FieldTypes.{field_tree}
+use Rattle.dtype_types.specs.tree.TreeOf.{tree}
 use Rattle.dtype_types.proofs.struct_fields.StructFields.from_iter.Given as goal
 
 -- the names and the types of the fields that were given so far

@@ -5,8 +5,8 @@ use Rattle.std.proofs.Common.{◌++◌, length, ap, map, sym, ◌∙◌, arith}
 use Rattle.std.specs.List.{zip}
 use Rattle.std.proofs.lemmas.List.{map-append}
 use Rattle.std.proofs.lemmas.Result.{MatchResult-weaker}
-use Rattle.dtype_types.specs.Lookups.{field_names, field_types}
-use Rattle.dtype_types.specs.TreeOf.{tree, children}
+use Rattle.dtype_types.specs.parts.Lookups.{field_names, field_types}
+use Rattle.dtype_types.specs.tree.TreeOf.{tree, children}
 use Rattle.dtype_types.proofs.PutTogether.{even_sides, joined_sides}
 use Rattle.dtype_types.proofs.struct_fields.StructFields.joined.Goals as goal
 

@@ -4,8 +4,8 @@
 use Rattle.std.proofs.Common.{◌≡◌, ap, ◌∙◌, arith, length}
 use Rattle.std.proofs.lemmas.List.Elements.{All-same, recursion_from_All}
 use Rattle.std.proofs.lemmas.Slice.Zip.{seconds-zip}
-use Rattle.dtype_types.specs.Valid.{Valid}
-use Rattle.dtype_types.specs.TreeOf.{tree}
+use Rattle.dtype_types.specs.tree.Valid.{Valid}
+use Rattle.dtype_types.specs.tree.TreeOf.{tree}
 use Rattle.std.specs.Map.{values_of}
 use Rattle.dtype_types.specs.lemmas.Validity.{fields_of_types}
 use Rattle.dtype_types.proofs.struct_fields.StructFields.new.Goals as goal

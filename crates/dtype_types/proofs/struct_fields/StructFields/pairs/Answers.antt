@@ -3,7 +3,7 @@
 
 use Rattle.std.proofs.Common.{ap, ◌∙◌}
 use Rattle.std.specs.Map.{keys_of, values_of}
-use Rattle.dtype_types.specs.TreeOf.{struct_pairs}
+use Rattle.dtype_types.specs.tree.TreeOf.{struct_pairs}
 use Rattle.dtype_types.proofs.Sides.{zip_sides}
 use Rattle.dtype_types.proofs.struct_fields.StructFields.pairs.Goals as goal
 

@@ -4,9 +4,9 @@
 use Rattle.std.proofs.Common.{◌++◌, ◌∷◌, [], ap, map, sym, ◌∙◌}
 use Rattle.std.proofs.lemmas.List.{map_push}
 use Rattle.dtype_types.proofs.Walks.{next_of, none_of, moves_over, all_moved}
-use Rattle.dtype_types.specs.Lists.{borrowed_pair}
-use Rattle.dtype_types.specs.Lookups.{field_names, field_types}
-use Rattle.dtype_types.specs.TreeOf.{tree, with_trees}
+use Rattle.dtype_types.specs.parts.Lists.{borrowed_pair}
+use Rattle.dtype_types.specs.parts.Lookups.{field_names, field_types}
+use Rattle.dtype_types.specs.tree.TreeOf.{tree, with_trees}
 use Rattle.dtype_types.proofs.struct_fields.StructFields.push_copies.Goals as goal
 
 pub loop-name-preserved : goal.loop-name-preserved

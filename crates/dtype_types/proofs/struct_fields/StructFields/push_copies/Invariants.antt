@@ -2,8 +2,8 @@
 -- SPDX-FileCopyrightText: Copyright the Vortex contributors
 
 use Rattle.std.proofs.Common.{◌≡◌, ◌++◌, map}
-use Rattle.dtype_types.specs.Lookups.{field_names, field_types}
-use Rattle.dtype_types.specs.TreeOf.{children, tree, with_trees}
+use Rattle.dtype_types.specs.parts.Lookups.{field_names, field_types}
+use Rattle.dtype_types.specs.tree.TreeOf.{children, tree, with_trees}
 use Rattle.dtype_types.proofs.struct_fields.StructFields.push_copies.Given as goal
 
 -- the copies so far, followed by the names and types that are left

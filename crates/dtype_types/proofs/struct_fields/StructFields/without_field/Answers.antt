@@ -7,8 +7,8 @@ use Rattle.std.specs.List.{remove, zip}
 use Rattle.std.proofs.lemmas.List.{length-map}
 use Rattle.std.proofs.lemmas.Result.{MatchResult-weaker, MatchResult-from_both}
 use Rattle.dtype_base.specs.declared.vortex_error.VortexError.TheVariants.{OutOfMemory, IndexOutOfBounds}
-use Rattle.dtype_types.specs.Lookups.{field_names, field_types}
-use Rattle.dtype_types.specs.TreeOf.{tree, children}
+use Rattle.dtype_types.specs.parts.Lookups.{field_names, field_types}
+use Rattle.dtype_types.specs.tree.TreeOf.{tree, children}
 use Rattle.dtype_types.proofs.PutTogether.{even_sides, removed_sides}
 use Rattle.dtype_types.proofs.struct_fields.StructFields.without_field.Goals as goal
 

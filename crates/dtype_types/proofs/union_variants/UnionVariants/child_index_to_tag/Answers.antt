@@ -2,9 +2,9 @@
 -- SPDX-FileCopyrightText: Copyright the Vortex contributors
 
 use Rattle.dtype_types.specs.lemmas.Tags.{position_of_tag, tag_read}
-use Rattle.dtype_types.specs.TreeOf.{variant_list}
+use Rattle.dtype_types.specs.tree.TreeOf.{variant_list}
 use Rattle.dtype_types.proofs.union_variants.UnionVariants.child_index_to_tag.Goals as goal
-use Rattle.dtype_types.specs.Lookups.{variant_tags}
+use Rattle.dtype_types.specs.parts.Lookups.{variant_tags}
 
 pub returns-clause-back : goal.returns-clause-back
 returns-clause-back c = λ h.

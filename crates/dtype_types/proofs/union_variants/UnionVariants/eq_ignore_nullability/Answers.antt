@@ -3,7 +3,7 @@
 
 use Rattle.std.proofs.Common.{sym, ◌∙◌}
 use Rattle.dtype_types.specs.lemmas.EqualityLaws.{equal_erased-Decides}
-use Rattle.dtype_types.specs.TreeOf.{union_tree}
+use Rattle.dtype_types.specs.tree.TreeOf.{union_tree}
 use Rattle.dtype_types.proofs.union_variants.UnionVariants.eq_ignore_nullability.Goals as goal
 
 pub returns : goal.returns

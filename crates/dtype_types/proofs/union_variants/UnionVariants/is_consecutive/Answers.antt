@@ -6,11 +6,11 @@ use Rattle.std.proofs.lemmas.Grind.{common_steps}
 use Rattle.std.proofs.lemmas.List.{length-map}
 use Rattle.dtype_types.proofs.ConsecutiveTags.{tested}
 use Rattle.dtype_types.proofs.Alongside.{consecutive_turn, tags_same, tags_differ, and_first, and_both, tag_at}
-use Rattle.dtype_types.specs.Text.{consecutive}
-use Rattle.dtype_types.specs.Tree.{variants}
-use Rattle.dtype_types.specs.TreeOf.{variant_list}
+use Rattle.dtype_types.specs.texts.Text.{consecutive}
+use Rattle.dtype_types.specs.tree.Tree.{variants}
+use Rattle.dtype_types.specs.tree.TreeOf.{variant_list}
 use Rattle.dtype_types.proofs.union_variants.UnionVariants.is_consecutive.Goals as goal
-use Rattle.dtype_types.specs.Lookups.{variant_tags}
+use Rattle.dtype_types.specs.parts.Lookups.{variant_tags}
 
 pub returns-then-from-i : goal.returns-then-from-i
 returns-then-from-i c =

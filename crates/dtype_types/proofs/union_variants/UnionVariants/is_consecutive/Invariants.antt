@@ -2,9 +2,9 @@
 -- SPDX-FileCopyrightText: Copyright the Vortex contributors
 
 use Rattle.std.proofs.Common.{◌≡◌, drop}
-use Rattle.dtype_types.specs.Text.{consecutive}
-use Rattle.dtype_types.specs.Tree.{variants}
-use Rattle.dtype_types.specs.TreeOf.{variant_list}
+use Rattle.dtype_types.specs.texts.Text.{consecutive}
+use Rattle.dtype_types.specs.tree.Tree.{variants}
+use Rattle.dtype_types.specs.tree.TreeOf.{variant_list}
 use Rattle.dtype_types.proofs.union_variants.UnionVariants.is_consecutive.Given as goal
 
 abbrev pub invariant-loop-i : goal.invariant-loop-i

@@ -3,8 +3,8 @@
 
 use Rattle.std.proofs.Common.{ap, ◌∙◌}
 use Rattle.std.specs.Map.{keys_of}
-use Rattle.dtype_types.specs.Lists.{types_of, tags_of}
-use Rattle.dtype_types.specs.TreeOf.{union_triples}
+use Rattle.dtype_types.specs.parts.Lists.{types_of, tags_of}
+use Rattle.dtype_types.specs.tree.TreeOf.{union_triples}
 use Rattle.dtype_types.proofs.Sides.{three_sides}
 use Rattle.dtype_types.proofs.union_variants.UnionVariants.triples.Goals as goal
 

@@ -8,8 +8,8 @@ use Rattle.dtype_types.proofs.Sides.{names_three, types_three, tags_three}
 use Rattle.dtype_types.proofs.UnionLaws.{made_valid}
 use Rattle.dtype_base.specs.Distinct.{Distinct}
 use Rattle.std.specs.Map.{keys_of}
-use Rattle.dtype_types.specs.Lists.{types_of, tags_of}
-use Rattle.dtype_types.specs.TreeOf.{with_tagged_trees}
+use Rattle.dtype_types.specs.parts.Lists.{types_of, tags_of}
+use Rattle.dtype_types.specs.tree.TreeOf.{with_tagged_trees}
 use Rattle.dtype_types.proofs.union_variants.UnionVariants.try_new.Goals as goal
 
 pub returns-clause-variants : goal.returns-clause-variants

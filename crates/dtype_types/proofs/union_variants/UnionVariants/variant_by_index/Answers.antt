@@ -4,7 +4,7 @@
 use Rattle.std.proofs.Common.{◌∙◌, ap, map, slice_get, sym}
 use Rattle.dtype_types.proofs.FieldLookups.{get_tree}
 use Rattle.dtype_types.proofs.Parts.{variant_types_shown}
-use Rattle.dtype_types.specs.TreeOf.{tree, union_triples}
+use Rattle.dtype_types.specs.tree.TreeOf.{tree, union_triples}
 use Rattle.dtype_types.proofs.union_variants.UnionVariants.variant_by_index.Goals as goal
 
 pub returns : goal.returns

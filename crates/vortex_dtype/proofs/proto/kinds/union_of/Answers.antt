@@ -5,8 +5,8 @@ use Rattle.std.proofs.Common.{◌≡◌, ◌∙◌, Ok, Result, ap, length, map,
 use Rattle.std.specs.Prelude.{vec_len}
 use Rattle.dtype_base.specs.Nullability.{nullability_of}
 use Rattle.dtype_base.specs.declared.vortex_error.VortexError.{VortexError}
-use Rattle.dtype_types.specs.Tree.{Tree}
-use Rattle.dtype_types.specs.TreeOf.{tree}
+use Rattle.dtype_types.specs.tree.Tree.{Tree}
+use Rattle.dtype_types.specs.tree.TreeOf.{tree}
 use Rattle.dtype_types.specs.declared.dtype.DType.{Union}
 use Rattle.vortex_dtype.specs.ReadInOrder.{Fails, read_tags}
 use Rattle.vortex_dtype.proofs.Constructors.{union_fails, union_gives, union_read_by}

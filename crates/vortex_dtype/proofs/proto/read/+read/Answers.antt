@@ -4,14 +4,14 @@
 use Rattle.std.proofs.Common.{◌≡◌, map, string_bytes, Ok, Err, ◌+◌, ◌<◌, List, ◌++◌, ◌∷◌, [], length, sym, ap, subst, ◌∙◌, rules, arith}
 use Rattle.std.proofs.lemmas.List.{map-append}
 use Rattle.std.proofs.lemmas.Result.{IfOk-weaker}
-use Rattle.dtype_types.specs.TreeOf.{tree}
+use Rattle.dtype_types.specs.tree.TreeOf.{tree}
 use Rattle.vortex_dtype.specs.IsMessage.{AreTags, IsMessage}
 use Rattle.dtype_messages.specs.Message.{Message}
 use Rattle.dtype_messages.specs.MessageOf.{message, bytes_of}
 use Rattle.vortex_dtype.specs.ReadInOrder.{read, Fails, Gives, struct_read, union_read, or_empty}
 use Rattle.vortex_dtype.specs.Session.{meaning}
 use Rattle.dtype_base.specs.Nullability.{nullability_of}
-use Rattle.dtype_types.specs.Tree.{Tree}
+use Rattle.dtype_types.specs.tree.Tree.{Tree}
 use Rattle.dtype_types.specs.declared.dtype.DType.{DType as Logical}
 use Rattle.dtype_messages.specs.declared.pb.DtypeType.TheViews.{out-Struct, out-Union, out-Extension}
 use Rattle.vortex_dtype.proofs.ReadInTurn.{Rest, step, stops, done, struct_stops, struct_done, union_stops, union_done, extension_done, more_messages, all_messages, any_ok}

@@ -2,8 +2,8 @@
 -- SPDX-FileCopyrightText: Copyright the Vortex contributors
 
 use Rattle.std.proofs.Common.{map, drop, All}
-use Rattle.dtype_types.specs.Valid.{Valid}
-use Rattle.dtype_types.specs.TreeOf.{tree}
+use Rattle.dtype_types.specs.tree.Valid.{Valid}
+use Rattle.dtype_types.specs.tree.TreeOf.{tree}
 use Rattle.dtype_messages.specs.Message.{messages}
 use Rattle.dtype_messages.specs.MessageOf.{message}
 use Rattle.vortex_dtype.specs.IsMessage.{AreMessages}

@@ -2,8 +2,8 @@
 -- SPDX-FileCopyrightText: Copyright the Vortex contributors
 
 use Rattle.std.proofs.Common.{◌≡◌, pos, ◌∷◌, arith, rules, string_bytes, [], ◌++◌}
-use Rattle.dtype_types.specs.Lists.{borrowed_pair, borrowed_triple}
-use Rattle.dtype_types.specs.TreeOf.{tree, struct_pairs, union_triples}
+use Rattle.dtype_types.specs.parts.Lists.{borrowed_pair, borrowed_triple}
+use Rattle.dtype_types.specs.tree.TreeOf.{tree, struct_pairs, union_triples}
 use Rattle.dtype_messages.specs.MessageOf.{message}
 use Rattle.vortex_dtype.specs.Written.{written}
 use Rattle.vortex_dtype.proofs.TypesBelow.{fields_below, variants_below}

@@ -2,7 +2,7 @@
 -- SPDX-FileCopyrightText: Copyright the Vortex contributors
 
 use Rattle.std.proofs.Common.{arith, inl, inr}
-use Rattle.dtype_types.specs.Width.{Fixed}
+use Rattle.dtype_types.specs.tree.Width.{Fixed}
 use Rattle.dtype_types.proofs.Widths.{variable_before, variable_last, wide_before, wide_last, wide_sum, narrow_sum}
 use Rattle.dtype_types.proofs.dtype.width.Width.plus.Goals as goal
 

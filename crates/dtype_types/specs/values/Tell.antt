@@ -5,9 +5,9 @@
 use Rattle.std.specs.Prelude.{ℕ, ◌<◌, Option, Some, None, option_map}
 use Rattle.dtype_base.specs.declared.nullability.Nullability.{Nullability}
 use Rattle.dtype_base.specs.declared.nullability.Nullability.TheVariants.{NonNullable, Nullable}
-use Rattle.dtype_types.specs.Sample.{sample, samples, copies}
-use Rattle.dtype_types.specs.Tree.{Tree, Fields, no_fields, field, Variants, no_variants, choice, bool, primitive, decimal, utf8, binary, list, fixed_size_list, map_of, struct, union, variant, extension}
-use Rattle.dtype_types.specs.Value.{Value, Named, null_value, items, fixed_items, entries, record_of, tagged, no_values, value, no_entries, entry, named}
+use Rattle.dtype_types.specs.values.Sample.{sample, samples, copies}
+use Rattle.dtype_types.specs.tree.Tree.{Tree, Fields, no_fields, field, Variants, no_variants, choice, bool, primitive, decimal, utf8, binary, list, fixed_size_list, map_of, struct, union, variant, extension}
+use Rattle.dtype_types.specs.values.Value.{Value, Named, null_value, items, fixed_items, entries, record_of, tagged, no_values, value, no_entries, entry, named}
 
 -- the first value that there is
 abbrev pub or_else : {X : Type 0} → Option X → Option X → Option X

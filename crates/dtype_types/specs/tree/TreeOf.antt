@@ -7,8 +7,8 @@ use Rattle.std.specs.Prelude.{ℕ, List, [], ◌∷◌, map, Option, Some, None,
 use Rattle.std.specs.Borrow.{Bor}
 use Rattle.dtype_base.specs.declared.nullability.Nullability.TheVariants.{NonNullable}
 use Rattle.std.specs.Map.{values_of}
-use Rattle.dtype_types.specs.Lists.{types_of}
-use Rattle.dtype_types.specs.Tree.{Tree, Fields, fields, Variants, variants, null, bool, primitive, decimal, utf8, binary, list, fixed_size_list, map_of, struct, union, variant, extension}
+use Rattle.dtype_types.specs.parts.Lists.{types_of}
+use Rattle.dtype_types.specs.tree.Tree.{Tree, Fields, fields, Variants, variants, null, bool, primitive, decimal, utf8, binary, list, fixed_size_list, map_of, struct, union, variant, extension}
 use Rattle.dtype_types.specs.declared.dtype.DType.{DType}
 use Rattle.dtype_types.specs.declared.dtype.DType.TheOpen as o
 use Rattle.dtype_types.specs.declared.dtype.DType.TheOpen.{DType-F, ExtDTypeRef-F, MapDType-F, StructFields-F, UnionVariants-F}

@@ -9,7 +9,7 @@ use Rattle.dtype_base.specs.Primitives.{ptype_row}
 use Rattle.dtype_base.specs.Decimals.{smallest_storage, storage}
 use Rattle.dtype_base.specs.declared.nullability.Nullability.{Nullability}
 use Rattle.dtype_base.specs.declared.decimal.DecimalType.{DecimalType}
-use Rattle.dtype_types.specs.Tree.{Tree, Fields, no_fields, field, fields, null, bool, primitive, decimal, list, fixed_size_list, struct, extension}
+use Rattle.dtype_types.specs.tree.Tree.{Tree, Fields, no_fields, field, fields, null, bool, primitive, decimal, list, fixed_size_list, struct, extension}
 use Rattle.dtype_types.specs.declared.dtype.width.Width.{Width}
 use Rattle.dtype_types.specs.declared.dtype.width.Width.TheVariants.{Variable, TooWide, Bytes}
 

@@ -4,8 +4,8 @@
 -- The texts of a type's parts: fields, variants, a map, an extension, its metadata. From the `Display` of each.
 use Rattle.std.specs.Prelude.{ℕ, List, ◌++◌, codes}
 use Rattle.std.specs.List.{join_by}
-use Rattle.dtype_types.specs.Text.{text, bool_text, field_texts, choice_texts, consecutive, metadata_text}
-use Rattle.dtype_types.specs.TreeOf.{fields_of, variants_of, extension_id, extension_metadata, storage_tree, map_shown}
+use Rattle.dtype_types.specs.texts.Text.{text, bool_text, field_texts, choice_texts, consecutive, metadata_text}
+use Rattle.dtype_types.specs.tree.TreeOf.{fields_of, variants_of, extension_id, extension_metadata, storage_tree, map_shown}
 use Rattle.dtype_types.specs.declared.struct_fields.StructFields.{StructFields}
 use Rattle.dtype_types.specs.declared.union_variants.UnionVariants.{UnionVariants}
 use Rattle.dtype_types.specs.declared.map.MapDType.{MapDType}

@@ -8,8 +8,8 @@ use Rattle.dtype_base.specs.Primitives.{ptype_row, NumberKind}
 use Rattle.dtype_base.specs.Primitives.NumberKind.{Floating}
 use Rattle.dtype_base.specs.declared.nullability.Nullability.{Nullability}
 use Rattle.dtype_base.specs.declared.nullability.Nullability.TheVariants.{NonNullable, Nullable}
-use Rattle.dtype_types.specs.Tree.{Tree, Fields, no_fields, field, Variants, no_variants, choice, null, bool, primitive, decimal, utf8, binary, list, fixed_size_list, map_of, struct, union, variant, extension}
-use Rattle.dtype_types.specs.Value.{Value, Values, Named, null_value, truth, number, float_bits, digits, text, bytes, opaque, items, fixed_items, entries, record_of, tagged, no_values, value, no_entries, no_named, named}
+use Rattle.dtype_types.specs.tree.Tree.{Tree, Fields, no_fields, field, Variants, no_variants, choice, null, bool, primitive, decimal, utf8, binary, list, fixed_size_list, map_of, struct, union, variant, extension}
+use Rattle.dtype_types.specs.values.Value.{Value, Values, Named, null_value, truth, number, float_bits, digits, text, bytes, opaque, items, fixed_items, entries, record_of, tagged, no_values, value, no_entries, no_named, named}
 
 -- null where that is allowed
 abbrev pub null_or : Nullability → Value → Value

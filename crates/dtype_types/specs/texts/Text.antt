@@ -9,7 +9,7 @@ use Rattle.dtype_base.specs.Decimals.{decimal_text}
 use Rattle.dtype_base.specs.Escapes.{escaped}
 use Rattle.dtype_base.specs.Nullability.{nullability_text}
 use Rattle.dtype_base.specs.Primitives.{ptype_row}
-use Rattle.dtype_types.specs.Tree.{Tree, Fields, no_fields, field, Variants, no_variants, choice, null, bool, primitive, decimal, utf8, binary, list, fixed_size_list, map_of, struct, union, variant, extension}
+use Rattle.dtype_types.specs.tree.Tree.{Tree, Fields, no_fields, field, Variants, no_variants, choice, null, bool, primitive, decimal, utf8, binary, list, fixed_size_list, map_of, struct, union, variant, extension}
 
 -- true or false
 abbrev pub bool_text : Bool → List ℕ

@@ -10,8 +10,8 @@ use Rattle.dtype_base.specs.Bytes.{Bytes}
 use Rattle.dtype_base.specs.Primitives.{ptype_row, NumberKind, HoldsUnsigned, HoldsSigned, IsFloat}
 use Rattle.dtype_base.specs.Primitives.NumberKind.{Unsigned, Signed, Floating}
 use Rattle.dtype_base.specs.declared.ptype.PType.{PType}
-use Rattle.dtype_types.specs.Nullable.{IsNullable}
-use Rattle.dtype_types.specs.Tree.{Tree, Fields, no_fields, field, Variants, no_variants, choice, bool, primitive, decimal, utf8, binary, list, fixed_size_list, map_of, struct, union, variant, extension}
+use Rattle.dtype_types.specs.nullability.Nullable.{IsNullable}
+use Rattle.dtype_types.specs.tree.Tree.{Tree, Fields, no_fields, field, Variants, no_variants, choice, bool, primitive, decimal, utf8, binary, list, fixed_size_list, map_of, struct, union, variant, extension}
 
 mutual
   -- a value: null, or one of twelve kinds

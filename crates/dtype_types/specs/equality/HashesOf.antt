@@ -6,9 +6,9 @@
 use Rattle.std.specs.Prelude.{◌++◌}
 use Rattle.std.specs.Hash as fed
 use Rattle.std.specs.Hash.{HashWrites}
-use Rattle.dtype_types.specs.Hashes.{hash_of, bytes_writes, field_count, field_writes, variant_count, variant_writes}
+use Rattle.dtype_types.specs.equality.Hashes.{hash_of, bytes_writes, field_count, field_writes, variant_count, variant_writes}
 use Rattle.dtype_types.specs.declared.dtype.hash.HashMode.{HashMode}
-use Rattle.dtype_types.specs.TreeOf.{fields_of, variants_of, extension_id, extension_metadata, storage_tree, map_shown}
+use Rattle.dtype_types.specs.tree.TreeOf.{fields_of, variants_of, extension_id, extension_metadata, storage_tree, map_shown}
 use Rattle.dtype_types.specs.declared.struct_fields.StructFields.{StructFields}
 use Rattle.dtype_types.specs.declared.union_variants.UnionVariants.{UnionVariants}
 use Rattle.dtype_types.specs.declared.map.MapDType.{MapDType}

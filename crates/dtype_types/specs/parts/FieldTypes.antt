@@ -8,9 +8,9 @@ use Rattle.std.specs.Iterator.Runs.{WholeRun}
 use Rattle.dtype_base.specs.declared.nullability.Nullability.{Nullability}
 use Rattle.dtype_types.specs.declared.dtype.DType.{DType}
 use Rattle.dtype_types.specs.declared.field_dtype.FieldDType.{FieldDType}
-use Rattle.dtype_types.specs.Valid.{Valid}
-use Rattle.dtype_types.specs.TreeOf.{tree}
-use Rattle.dtype_types.specs.Tree.{Tree, Fields, fields, struct}
+use Rattle.dtype_types.specs.tree.Valid.{Valid}
+use Rattle.dtype_types.specs.tree.TreeOf.{tree}
+use Rattle.dtype_types.specs.tree.Tree.{Tree, Fields, fields, struct}
 
 -- the tree of a field's type
 abbrev pub field_tree : FieldDType → Tree

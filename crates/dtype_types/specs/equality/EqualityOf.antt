@@ -12,8 +12,8 @@ use Rattle.dtype_types.specs.declared.field_dtype.FieldDType.{FieldDType}
 use Rattle.dtype_types.specs.declared.map.MapDType.{MapDType}
 use Rattle.dtype_types.specs.declared.struct_fields.StructFields.{StructFields}
 use Rattle.dtype_types.specs.declared.union_variants.UnionVariants.{UnionVariants}
-use Rattle.dtype_types.specs.Equality.{equal_under, fields_equal_under, variants_equal_under}
-use Rattle.dtype_types.specs.TreeOf.{tree, fields_of, variants_of, map_shown, MapParts, extension_tree}
+use Rattle.dtype_types.specs.equality.Equality.{equal_under, fields_equal_under, variants_equal_under}
+use Rattle.dtype_types.specs.tree.TreeOf.{tree, fields_of, variants_of, map_shown, MapParts, extension_tree}
 
 -- whether two types have equal trees
 abbrev pub same_dtype : DType → DType → Bool

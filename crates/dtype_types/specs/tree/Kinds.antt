@@ -8,7 +8,7 @@ use Rattle.dtype_base.specs.Decimals.{Decimal}
 use Rattle.dtype_base.specs.declared.ptype.PType.{PType}
 use Rattle.dtype_types.specs.declared.dtype.kinds.Kind.{Kind}
 use Rattle.dtype_types.specs.declared.dtype.kinds.Kind.TheVariants as k
-use Rattle.dtype_types.specs.Tree.{Tree, null, bool, primitive, decimal, utf8, binary, list, fixed_size_list, map_of, struct, union, variant, extension, pairs, triples}
+use Rattle.dtype_types.specs.tree.Tree.{Tree, null, bool, primitive, decimal, utf8, binary, list, fixed_size_list, map_of, struct, union, variant, extension, pairs, triples}
 
 -- the outermost variant
 abbrev pub kind : Tree → Kind

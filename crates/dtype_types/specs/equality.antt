@@ -1,0 +1,8 @@
+-- SPDX-License-Identifier: Apache-2.0
+-- SPDX-FileCopyrightText: Copyright the Vortex contributors
+
+-- Equality of types as a test, and what types feed a hasher.
+pub mod Equality
+pub mod EqualityOf
+pub mod Hashes
+pub mod HashesOf

@@ -14,7 +14,7 @@ use Rattle.dtype_paths.specs.Beginning.{Beginning}
 use Rattle.std.proofs.lemmas.Map.Made.{AllPairs-from_IsDistinct}
 use Rattle.dtype_base.specs.Distinct.{Distinct}
 use Rattle.dtype_paths.specs.Covering.{IsCountOf}
-use Rattle.dtype_paths.specs.ListCover.{SameCoverage, Least, Begun}
+use Rattle.dtype_paths.specs.ListCover.{SameListCoverage, Least, Begun}
 use Rattle.dtype_paths.specs.Equality.{same_field, same_path}
 use Rattle.dtype_paths.specs.EqualityLaws.{same_field-Decides, same_path-Decides}
 use Rattle.dtype_paths.specs.declared.field.Field.{Field}
@@ -405,5 +405,5 @@ module _ (nodes left : List Node) (found : List (List Field)) (visits : ℕ) (o 
   visited-once = AllPairs-from_IsDistinct same_path-Decides found (apart-distinct same_path same_path-Decides found o.once)
 
 -- the least paths of a list cover what it covers
-pub within : (ps found : List (List Field)) → ((p : List Field) → Contains found p ↔ Least ps p) → (qs : List (List Field)) → SameCoverage qs ps → (p : List Field) → Contains found p → Contains qs p
+pub within : (ps found : List (List Field)) → ((p : List Field) → Contains found p ↔ Least ps p) → (qs : List (List Field)) → SameListCoverage qs ps → (p : List Field) → Contains found p → Contains qs p
 within ps found h qs alike p c = least_within ps qs alike p ((h p).0 c)

@@ -25,8 +25,8 @@ unfoldable pub least : PathSet → PathSet
 least s = set.retain s (λ p. not (list_any (λ q. begins_below q p) (set.items s)))
 
 -- the two sets cover the same paths
-abbrev pub CoverAlike : PathSet → PathSet → Type 0
-CoverAlike s t = (q : List Field) → covers s q ≡ covers t q
+abbrev pub SameCoverage : PathSet → PathSet → Type 0
+SameCoverage s t = (q : List Field) → covers s q ≡ covers t q
 
 -- there are exactly n paths with the property P
 pub record IsCountOf (P : List Field → Type 0) (n : ℕ) : Type 0 where

@@ -17,7 +17,7 @@ pub mod In
 pub mod Overlaps
 pub mod ListCover
 pub mod Trie
-pub mod Meets
+pub mod Crosses
 pub mod Children
 pub mod StepKeys
 pub mod ChildLists

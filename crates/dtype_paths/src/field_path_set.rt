@@ -12,7 +12,7 @@ ghost use Rattle.std.specs.declared.alloc.Global.{Global};
 ghost use Rattle.dtype_base.specs.declared.vortex_error.VortexError.TheVariants.{OutOfMemory};
 ghost use Rattle.dtype_base.specs.Distinct.{Distinct};
 ghost use Rattle.dtype_paths.specs.Beginning.{Beginning};
-ghost use Rattle.dtype_paths.specs.Covering.{CoverAlike, IsCountOf, least};
+ghost use Rattle.dtype_paths.specs.Covering.{SameCoverage, IsCountOf, least};
 ghost use Rattle.dtype_paths.specs.PathOrder.{set_of};
 ghost use Rattle.dtype_paths.specs.declared.field.Field.{Field};
 
@@ -146,8 +146,8 @@ impl FieldPathSet {
         ensures ok { MatchResult result
             (λ r. set_of (into_iter_items r) ≡ least self) (λ e. e ≡ OutOfMemory) }
         ensures once { IfOk result (λ r. Distinct (into_iter_items r)) }
-        ensures covers { IfOk result (λ r. CoverAlike (set_of (into_iter_items r)) self) }
-        ensures within { IfOk result (λ r. (ps : List (List Field)) → CoverAlike (set_of ps) self
+        ensures covers { IfOk result (λ r. SameCoverage (set_of (into_iter_items r)) self) }
+        ensures within { IfOk result (λ r. (ps : List (List Field)) → SameCoverage (set_of ps) self
             → (p : List Field) → Contains (into_iter_items r) p → Contains ps p) }
         ensures runs { OnOk result (YieldsInOrder (into_iter_steps {X = List Field} {Z = Global}) into_iter_items) }
     {

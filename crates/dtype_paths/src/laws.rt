@@ -14,9 +14,9 @@ ghost use Rattle.dtype_paths.specs.Along.{along};
 ghost use Rattle.dtype_paths.specs.At.{At, ExistsIn};
 ghost use Rattle.dtype_paths.specs.Beginning.{Beginning};
 ghost use Rattle.dtype_paths.specs.Overlaps.{Overlaps};
-ghost use Rattle.dtype_paths.specs.Covering.{CoverAlike, covers, least};
+ghost use Rattle.dtype_paths.specs.Covering.{SameCoverage, covers, least};
 ghost use Rattle.dtype_paths.specs.Found.{Found, FoundIn};
-ghost use Rattle.dtype_paths.specs.Meets.{MeetsNoExtension, MeetsNoSizeZero};
+ghost use Rattle.dtype_paths.specs.Crosses.{CrossesNoExtension, CrossesNoSizeZero};
 ghost use Rattle.dtype_paths.specs.declared.field.Field.{Field};
 
 use crate::FieldPath;
@@ -47,23 +47,23 @@ pub fn a_path_leads_to_a_valid_type()
 /// nothing lies along it in any value.
 pub fn resolution_is_exact_for_values()
     ensures given { (t u : Tree) (p : List Field) → (along t p ≡ Some u) ↔ At t p u }
-    ensures exact { (t : Tree) (p : List Field) (u : Tree) (v : Value) → Valid t → MeetsNoSizeZero t p
+    ensures exact { (t : Tree) (p : List Field) (u : Tree) (v : Value) → Valid t → CrossesNoSizeZero t p
         → At t p u → (Of v u ↔ FoundIn t p v) }
-    ensures around { (t : Tree) (p : List Field) (u : Tree) (v : Value) → Valid t → MeetsNoSizeZero t p
+    ensures around { (t : Tree) (p : List Field) (u : Tree) (v : Value) → Valid t → CrossesNoSizeZero t p
         → At t p u → Of v u → Of (around t p v) t × Found (around t p v) p v }
     ensures inside { (t : Tree) (p : List Field) (u : Tree) (v : Value) → At t p u → FoundIn t p v → Of v u }
     ensures size_zero { (t : Tree) × (p : List Field) × (u : Tree) × (v : Value) × Valid t × At t p u
         × Of v u × ¬ (FoundIn t p v) }
-    ensures nothing { (t : Tree) (p : List Field) → ((u : Tree) → ¬ (At t p u)) → MeetsNoExtension t p
+    ensures nothing { (t : Tree) (p : List Field) → ((u : Tree) → ¬ (At t p u)) → CrossesNoExtension t p
         → (v : Value) → ¬ (FoundIn t p v) }
 {}
 
 /// Where the path steps through no fixed-size list of size 0 and no beginning of it leads to an extension, the path
 /// exists exactly where some value has something along it. Where there is a type at the path, some value has.
 pub fn a_type_is_given_exactly_where_something_is_found()
-    ensures exists { (t : Tree) (p : List Field) → Valid t → MeetsNoSizeZero t p → MeetsNoExtension t p
+    ensures exists { (t : Tree) (p : List Field) → Valid t → CrossesNoSizeZero t p → CrossesNoExtension t p
         → (ExistsIn t p ↔ ((v : Value) × FoundIn t p v)) }
-    ensures found { (t : Tree) (p : List Field) (u : Tree) → Valid t → MeetsNoSizeZero t p → At t p u
+    ensures found { (t : Tree) (p : List Field) (u : Tree) → Valid t → CrossesNoSizeZero t p → At t p u
         → ((v : Value) × FoundIn t p v) }
 {}
 
@@ -102,15 +102,15 @@ pub fn what_covers_and_least_say()
 
 /// Two sets have the same least paths exactly where they cover the same.
 pub fn least_paths_tell_the_coverage()
-    ensures { (s t : PathSet) → (least s ≡ least t) ↔ CoverAlike s t }
+    ensures { (s t : PathSet) → (least s ≡ least t) ↔ SameCoverage s t }
 {}
 
 /// The least paths of a set cover what it covers, are their own least paths, and are members of each set that
 /// covers the same.
 pub fn a_cover_is_its_own_cover()
-    ensures coverage { (s : PathSet) → CoverAlike (least s) s }
+    ensures coverage { (s : PathSet) → SameCoverage (least s) s }
     ensures least { (s : PathSet) → least (least s) ≡ least s }
-    ensures within { (s t : PathSet) (p : List Field) → CoverAlike s t → IsTrue (set.contains (least s) p)
+    ensures within { (s t : PathSet) (p : List Field) → SameCoverage s t → IsTrue (set.contains (least s) p)
         → IsTrue (set.contains t p) }
 {}
 

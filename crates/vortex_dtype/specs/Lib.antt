@@ -53,7 +53,7 @@ pub use Rattle.dtype_paths.specs.Beginning
 pub use Rattle.dtype_paths.specs.Equality as PathEquality
 pub use Rattle.dtype_paths.specs.Hashes as PathHashes
 pub use Rattle.dtype_paths.specs.Found
-pub use Rattle.dtype_paths.specs.Meets
+pub use Rattle.dtype_paths.specs.Crosses
 pub use Rattle.dtype_paths.specs.Fields
 pub use Rattle.dtype_paths.specs.Overlaps
 pub use Rattle.dtype_paths.specs.In

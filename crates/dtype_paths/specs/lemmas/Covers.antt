@@ -8,7 +8,7 @@ use Rattle.std.proofs.lemmas.Bool.{and_from, and_parts}
 use Rattle.std.proofs.lemmas.List.{nil_from_length}
 use Rattle.std.proofs.lemmas.Map.Made.{is_member-Decides}
 use Rattle.dtype_paths.specs.Beginning.{Beginning}
-use Rattle.dtype_paths.specs.ListCover.{Covers, SameCoverage, Least}
+use Rattle.dtype_paths.specs.ListCover.{Covers, SameListCoverage, Least}
 use Rattle.dtype_paths.specs.lemmas.CoverTests.{is_beginning, is_proper_beginning, covers, extends, least}
 use Rattle.dtype_paths.specs.Equality.{same_field, same_path}
 use Rattle.dtype_paths.specs.EqualityLaws.{same_field-Decides, same_path-Decides}
@@ -91,7 +91,7 @@ least_covers ps q h =
 
 -- ---- lists with the same coverage
 
-pub flipped : (ps qs : List (List Field)) → SameCoverage ps qs → SameCoverage qs ps
+pub flipped : (ps qs : List (List Field)) → SameListCoverage ps qs → SameListCoverage qs ps
 flipped ps qs alike = record { same = λ q. ((alike.same q).1, (alike.same q).0) }
 
 -- a member covers itself
@@ -99,7 +99,7 @@ pub covers_member : (ps : List (List Field)) (p : List Field) → Contains ps p 
 covers_member ps p c = record { path = p; member = c; begins = beginning_refl p }
 
 -- each least path stands in every list with the same coverage
-pub least_within : (ps qs : List (List Field)) → SameCoverage qs ps → (p : List Field) → Least ps p → Contains qs p
+pub least_within : (ps qs : List (List Field)) → SameListCoverage qs ps → (p : List Field) → Least ps p → Contains qs p
 least_within ps qs alike p h =
     let t = (alike.same p).1 (covers_member ps p h.member) in
     let s = (alike.same t.path).0 (covers_member qs t.path t.member) in
@@ -107,7 +107,7 @@ least_within ps qs alike p h =
     let e = beginning_both p t.path (subst (λ x. Beginning x t.path) is s.begins) t.begins in
     subst (Contains qs) (sym e) t.member
 
-least_along : (ps qs : List (List Field)) → SameCoverage qs ps → (p : List Field) → Least ps p → Least qs p
+least_along : (ps qs : List (List Field)) → SameListCoverage qs ps → (p : List Field) → Least ps p → Least qs p
 least_along ps qs alike p h = record {
   member = least_within ps qs alike p h;
   first = λ q c b.
@@ -120,7 +120,7 @@ covers_along : (ps qs : List (List Field)) → ((p : List Field) → Least ps p 
 covers_along ps qs alike q h = let w = least_covers ps q h in record { path = w.0; member = (alike w.0 w.1).member; begins = w.2 }
 
 -- two lists have the same least paths exactly where they cover the same
-pub least_tells : (ps qs : List (List Field)) → ((p : List Field) → Least ps p ↔ Least qs p) ↔ SameCoverage ps qs
+pub least_tells : (ps qs : List (List Field)) → ((p : List Field) → Least ps p ↔ Least qs p) ↔ SameListCoverage ps qs
 least_tells ps qs = (
   λ same. record { same = λ q. (covers_along ps qs (λ p. (same p).0) q, covers_along qs ps (λ p. (same p).1) q) },
   λ alike p. (least_along ps qs (flipped ps qs alike) p, least_along qs ps alike p),

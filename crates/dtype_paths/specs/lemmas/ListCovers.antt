@@ -6,7 +6,7 @@ use Rattle.std.specs.Prelude.{◌≡◌, ◌↔◌, Bool, IsTrue, List, ◌++◌
 use Rattle.std.specs.List.{Contains, list_any, starts_with}
 use Rattle.std.proofs.Common.{sym, ◌∙◌}
 use Rattle.dtype_paths.specs.Beginning.{Beginning}
-use Rattle.dtype_paths.specs.ListCover.{Covers, SameCoverage, Least}
+use Rattle.dtype_paths.specs.ListCover.{Covers, SameListCoverage, Least}
 use Rattle.dtype_paths.specs.lemmas.Covers.{among_from, among_to, beginning_trans, least_covers, least_tells}
 use Rattle.dtype_paths.specs.lemmas.CoverTests.{any-from_among, among-from_any}
 use Rattle.dtype_paths.specs.Equality.{same_field}
@@ -14,7 +14,7 @@ use Rattle.dtype_paths.specs.ListCover.{SameMembers}
 use Rattle.dtype_paths.specs.lemmas.PathTests.{starts_with-Decides}
 use Rattle.dtype_paths.specs.declared.field.Field.{Field}
 
-pub coverage_same : (ps : List (List Field)) → SameCoverage ps ps
+pub coverage_same : (ps : List (List Field)) → SameListCoverage ps ps
 coverage_same ps = record { same = λ q. (λ c. c, λ c. c) }
 
 pub covers_within : (ps qs : List (List Field)) (q : List Field) → ((p : List Field) → Contains ps p → Contains qs p) → Covers ps q → Covers qs q
@@ -26,14 +26,14 @@ covers_below ps p q c b = record { path = c.path; member = c.member; begins = be
 pub covers_further : (ps : List (List Field)) (p rest : List Field) → Covers ps p → Covers ps (p ++ rest)
 covers_further ps p rest c = covers_below ps p (p ++ rest) c (rest, refl)
 
-pub coverage_of_members : (ps qs : List (List Field)) → SameMembers ps qs → SameCoverage ps qs
+pub coverage_of_members : (ps qs : List (List Field)) → SameMembers ps qs → SameListCoverage ps qs
 coverage_of_members ps qs s = record { same = λ q. (covers_within ps qs q (λ p. (s.same p).0), covers_within qs ps q (λ p. (s.same p).1)) }
 
 pub least_of_members : (ps qs : List (List Field)) (p : List Field) → SameMembers ps qs → (Least ps p ↔ Least qs p)
 least_of_members ps qs p s = (least_tells ps qs).1 (coverage_of_members ps qs s) p
 
 -- the least paths of a list cover what it covers, and are their own least
-pub coverage_of_cover : (cover ps : List (List Field)) → ((p : List Field) → Contains cover p ↔ Least ps p) → SameCoverage cover ps
+pub coverage_of_cover : (cover ps : List (List Field)) → ((p : List Field) → Contains cover p ↔ Least ps p) → SameListCoverage cover ps
 coverage_of_cover cover ps given = record {
   same = λ q. (
     λ c. record { path = c.path; member = ((given c.path).0 c.member).member; begins = c.begins },
@@ -42,7 +42,7 @@ coverage_of_cover cover ps given = record {
 }
 
 -- a path is covered exactly where one of the paths, asked one by one, begins it
-pub told_one_by_one : (ps qs : List (List Field)) (q : List Field) (b : Bool) → SameCoverage ps qs → b ≡ list_any (λ p. starts_with same_field q p) ps → (IsTrue b ↔ Covers qs q)
+pub told_one_by_one : (ps qs : List (List Field)) (q : List Field) (b : Bool) → SameListCoverage ps qs → b ≡ list_any (λ p. starts_with same_field q p) ps → (IsTrue b ↔ Covers qs q)
 told_one_by_one ps qs q b s e = (
   λ t.
       let w = among-from_any (λ p. starts_with same_field q p) ps (sym e ∙ t) in

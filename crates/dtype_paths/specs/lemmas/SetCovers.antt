@@ -13,10 +13,10 @@ use Rattle.std.proofs.lemmas.List.Folds.{Any-from_list_any, list_any-append, lis
 use Rattle.std.proofs.lemmas.Map.Made.{is_member-Decides, IsDistinct-from_AllPairs, length-le_from_is_member}
 use Rattle.dtype_base.specs.Distinct.{Distinct}
 use Rattle.dtype_paths.specs.Beginning.{Beginning}
-use Rattle.dtype_paths.specs.Covering.{CoverAlike, begins_below, covers, least}
+use Rattle.dtype_paths.specs.Covering.{SameCoverage, begins_below, covers, least}
 use Rattle.dtype_paths.specs.Equality.{same_field, same_path}
 use Rattle.dtype_paths.specs.EqualityLaws.{same_path-Decides, same_path_equiv}
-use Rattle.dtype_paths.specs.ListCover.{Covers, SameCoverage, Least}
+use Rattle.dtype_paths.specs.ListCover.{Covers, SameListCoverage, Least}
 use Rattle.dtype_paths.specs.PathOrder.{PathSet, path_cmp}
 use Rattle.dtype_paths.specs.declared.field.Field.{Field}
 use Rattle.dtype_paths.specs.lemmas.Cases.{by_bool}
@@ -114,7 +114,7 @@ least-Decides s p =
           not-true _ parts.1 ((same_path-Decides w.0 p).1 (l.first w.0 (among_to (set.items s) w.0 w.1) ((starts_with-Decides w.0 p _ refl).0 parts.0))))),
     )
 
-coverage_items : (s t : PathSet) → ((q : List Field) → covers s q ≡ covers t q) → SameCoverage (set.items s) (set.items t)
+coverage_items : (s t : PathSet) → ((q : List Field) → covers s q ≡ covers t q) → SameListCoverage (set.items s) (set.items t)
 coverage_items s t same = record {
   same = λ q. (
     λ c. (covers-Decides t q).0 (sym (same q) ∙ (covers-Decides s q).1 c),
@@ -183,10 +183,10 @@ pub least_in : (s t : PathSet) (p : List Field) → least s ≡ least t → set.
 least_in s t p same h = (items-Decides t p).1 ((least-Decides t p).0 (ap (λ x. set.contains x p) (sym same) ∙ h)).member
 
 -- of a list whose set is the least, that set covers the same, and each path is in every list that covers the same
-pub cover_alike : (cover : List (List Field)) (s : PathSet) → set.from_list cover ≡ least s → CoverAlike (set.from_list cover) s
+pub cover_alike : (cover : List (List Field)) (s : PathSet) → set.from_list cover ≡ least s → SameCoverage (set.from_list cover) s
 cover_alike cover s is = λ q. ap (λ x. covers x q) is ∙ covers_least s q
 
-pub cover_within : (cover ps : List (List Field)) (s : PathSet) → set.from_list cover ≡ least s → CoverAlike (set.from_list ps) s → (p : List Field) → Contains cover p → Contains ps p
+pub cover_within : (cover ps : List (List Field)) (s : PathSet) → set.from_list cover ≡ least s → SameCoverage (set.from_list ps) s → (p : List Field) → Contains cover p → Contains ps p
 cover_within cover ps s is alike p c =
     (from_list-Decides ps p).0 (least_in s (set.from_list ps) p (sym (least_same _ _ alike)) (ap (λ x. set.contains x p) (sym is) ∙ (from_list-Decides cover p).1 c))
 

@@ -9,7 +9,7 @@ use Rattle.std.proofs.lemmas.List.{map-append}
 use Rattle.std.proofs.lemmas.List.Elements.{All-append, All-cons}
 use Rattle.std.proofs.lemmas.Map.Keys.{IsDistinct-cons, IsDistinct-head, IsDistinct-tail}
 use Rattle.std.proofs.lemmas.Map.Made.{IsDistinct-from_count}
-use Rattle.dtype_paths.specs.ChildLists.{entries, HasStepKey}
+use Rattle.dtype_paths.specs.private.ChildLists.{entries, HasStepKey}
 use Rattle.dtype_paths.specs.Equality.{same_field}
 use Rattle.dtype_paths.specs.EqualityLaws.{same_field_equiv}
 use Rattle.dtype_paths.specs.declared.child_list.Child.{Child}

@@ -14,15 +14,15 @@ use Rattle.std.specs.Ordering.{eq_by_cmp, is_eq, nat_cmp}
 use Rattle.std.proofs.lemmas.Map.Entries.{lookup_head, lookup_tail}
 use Rattle.std.proofs.lemmas.Map.Lookups.{btree_map_from_get}
 use Rattle.std.proofs.lemmas.Map.Keys.{IsDistinct-cons, IsDistinct-from_sorted, IsDistinct-head, IsDistinct-tail}
-use Rattle.dtype_paths.specs.ChildTrees.{at_key, led_by, steps_in, IsChildTree, IsFirst, IsTaken}
+use Rattle.dtype_paths.specs.private.ChildTrees.{at_key, led_by, steps_in, IsChildTree, IsFirst, IsTaken}
 use Rattle.dtype_paths.specs.Equality.{same_field}
 use Rattle.dtype_paths.specs.EqualityLaws.{same_field-Decides, same_field_equiv}
 use Rattle.dtype_paths.specs.PathOrder.{field_cmp}
-use Rattle.dtype_paths.specs.StepKeys.{step_key}
+use Rattle.dtype_paths.specs.private.StepKeys.{step_key}
 use Rattle.dtype_paths.specs.declared.field.Field.{Field}
 use Rattle.dtype_paths.specs.lemmas.Cases.{by_bool, by_option}
 use Rattle.dtype_paths.specs.lemmas.PathOrders.{field_cmp_total, field_ties}
-use Rattle.dtype_paths.proofs.ApartLists.{distinct-nil}
+use Rattle.dtype_paths.proofs.DistinctLists.{IsDistinct-nil}
 use Rattle.dtype_paths.proofs.ChildCopies.{lookup-absent}
 
 -- ---- keys
@@ -59,15 +59,15 @@ absent-lookup test (e ∷ es) h = by_bool (test e.0) (λ t. absurd (let z = rw t
 -- no step is in both lists, and none twice in either
 distinct-append : (xs ys : List (Field × ℕ)) → IsDistinct same_field (keys_of xs) → IsDistinct same_field (keys_of ys) → ((f : Field) (i : ℕ) → lookup (same_field f) ys ≡ Some i → lookup (same_field f) xs ≡ None)
     → IsDistinct same_field (keys_of (xs ++ ys))
-distinct-append [] ys dx dy apart = dy
-distinct-append (x ∷ xs) ys dx dy apart =
+distinct-append [] ys dx dy disjoint = dy
+distinct-append (x ∷ xs) ys dx dy disjoint =
     let none : lookup (same_field x.0) xs ≡ None = lookup-absent (same_field x.0) xs (IsDistinct-head same_field x.0 (keys_of xs) dx) in
     let here : same_field x.0 x.0 ≡ true = same_field_equiv.refl x.0 in
-    let none_behind : lookup (same_field x.0) ys ≡ None = by_option (lookup (same_field x.0) ys) (λ e. e) (λ i e. absurd (let z = rw here at (apart x.0 i e) in cc)) in
+    let none_after : lookup (same_field x.0) ys ≡ None = by_option (lookup (same_field x.0) ys) (λ e. e) (λ i e. absurd (let z = rw here at (disjoint x.0 i e) in cc)) in
     IsDistinct-cons same_field x.0 (keys_of (xs ++ ys))
-    (absent-lookup (same_field x.0) (xs ++ ys) (lookup-append (same_field x.0) xs ys ∙ (λ i. option_or (none i) (none_behind i))))
+    (absent-lookup (same_field x.0) (xs ++ ys) (lookup-append (same_field x.0) xs ys ∙ (λ i. option_or (none i) (none_after i))))
     (distinct-append xs ys (IsDistinct-tail same_field x.0 (keys_of xs) dx) dy (λ f i e.
-    by_bool (same_field f x.0) (λ t. absurd (let z = rw t at (apart f i e) in cc)) (λ n. rw n at (apart f i e))))
+    by_bool (same_field f x.0) (λ t. absurd (let z = rw t at (disjoint f i e) in cc)) (λ n. rw n at (disjoint f i e))))
 
 -- ---- the steps at their keys
 
@@ -107,7 +107,7 @@ lookup-keyed (e ∷ es) d h f =
     (λ o. lookup_tail (same_field f) e.1 (values_of es) n ∙ later ∙ sym (ap (led_by f) (lookup_tail at e es o))))
 
 distinct-keyed : (es : List (ℕ × (Field × ℕ))) → IsDistinct (eq_by_cmp nat_cmp) (keys_of es) → AreKeyed es → IsDistinct same_field (keys_of (values_of es))
-distinct-keyed [] d h = distinct-nil same_field
+distinct-keyed [] d h = IsDistinct-nil same_field
 distinct-keyed (e ∷ es) d h =
     let tail = IsDistinct-tail (eq_by_cmp nat_cmp) e.0 (keys_of es) d in let keyed = keyed_later e es d h in
     let none : at_key es (step_key e.1.0) ≡ None = none_later e es (step_key e.1.0) d (own_key (step_key e.1.0) e.0 (keyed_head e es h)) in
@@ -235,13 +235,3 @@ module _ (by_key : List (ℕ × (Field × ℕ))) (by_step : List (Field × ℕ))
         leads new by_step more_by_key f
         ∙ ap (λ o. option_or o (lookup (same_field f) by_step)) (led_new f)
         ∙ by_bool (same_field x f) (λ y. rw y refl) (λ n. rw n (sym (leads by_key by_step t f)))
-
--- the invariant of no child
-pub no_steps : IsChildTree [] []
-unfolding IsStrictlySortedBy
-no_steps = record {
-  keys = tt;
-  steps = tt;
-  keyed = λ k v e. absurd (cc);
-  taken = λ f i e. absurd (cc);
-}

@@ -10,13 +10,13 @@ use Rattle.std.proofs.lemmas.Bool.Decides.{Decides-eqb}
 use Rattle.std.proofs.lemmas.List.{take_all, take_more}
 use Rattle.std.proofs.lemmas.Option.{same_Some, option_and_then_some, slice_get_within, slice_get_past, slice_get_read}
 use Rattle.dtype_paths.specs.lemmas.Cases.{by_bool}
-use Rattle.dtype_paths.specs.Children.{child, nodes_by_step}
+use Rattle.dtype_paths.specs.private.Children.{child, nodes_by_step}
 use Rattle.dtype_paths.specs.Equality.{same_field}
 use Rattle.dtype_paths.specs.EqualityLaws.{same_field-Decides}
 use Rattle.dtype_paths.specs.declared.field.Field.{Field}
 use Rattle.dtype_paths.specs.declared.node.Node.{Node}
-use Rattle.dtype_paths.specs.ListCover.{Gains}
-use Rattle.dtype_paths.specs.Trie.{child_at, terminal_at, terminals, chain_step, walk, IsAlike, IsChain, HasBranch, IsTrie, IsTrieBy}
+use Rattle.dtype_paths.specs.private.PathLists.{Gains}
+use Rattle.dtype_paths.specs.private.Trie.{child_at, terminal_at, terminals, chain_step, walk, IsAlike, IsChain, HasBranch, IsTrie, IsTrieBy}
 use Rattle.dtype_paths.proofs.NodeIndices.{child-left, child-right, terminal-left, terminal-right, gains, split}
 use Rattle.dtype_paths.proofs.TrieGrowth.{Ends, Grows, Leads, trie-grown, trie-finish, trie-root, walk-mono}
 
@@ -26,8 +26,8 @@ pub take-step : {A : Type 0} (xs : List A) (n : ℕ) (x : A) → n < length xs �
 take-step xs n x h e = take_more xs n x h ∙ ap (λ y. take n xs ++ y ∷ []) (sym e)
 
 -- the same of a list that begins with a root
-pub take-behind : (root : Node) (xs old : List Node) (i : ℕ) (x : Node) → root ∷ xs ≡ old → i < length xs → x ≡ get_or xs i x → take (i + 1 + 1) old ≡ take (i + 1) old ++ x ∷ []
-take-behind root xs old i x is lt e = let one : i + 1 ≡ suc i = omega arith in rw (← is, one) (take-step (root ∷ xs) (suc i) x (omega (arith, lt)) e)
+pub take-after : (root : Node) (xs old : List Node) (i : ℕ) (x : Node) → root ∷ xs ≡ old → i < length xs → x ≡ get_or xs i x → take (i + 1 + 1) old ≡ take (i + 1) old ++ x ∷ []
+take-after root xs old i x is lt e = let one : i + 1 ≡ suc i = omega arith in rw (← is, one) (take-step (root ∷ xs) (suc i) x (omega (arith, lt)) e)
 
 -- ---- a chain, node by node
 
@@ -177,7 +177,7 @@ module _ (old new : List Node) (path : List Field) (here at : ℕ) (trie : IsTri
         let f = sym (finish i) ∙ e in
         ⊎_elim
         (λ below. inl (sym (terminal-left old tail i below) ∙ f))
-        (λ above. inr (behind i q above f))
+        (λ above. inr (after i q above f))
         (cases_lt i (length old));
   }
     where
@@ -194,8 +194,8 @@ module _ (old new : List Node) (path : List Field) (here at : ℕ) (trie : IsTri
           (is, same_Some q path y))
           (cases_lt k (length rest))
 
-      behind : (i : ℕ) (q : List Field) → length old ≤ i → terminal_at (old ++ tail) i ≡ Some q → (i ≡ length old + length rest) × (q ≡ path)
-      behind i q above e =
+      after : (i : ℕ) (q : List Field) → length old ≤ i → terminal_at (old ++ tail) i ≡ Some q → (i ≡ length old + length rest) × (q ≡ path)
+      after i q above e =
           let k = gap_of i (length old) above in
           let f : terminal_at tail k.0 ≡ Some q = sym (terminal-right old tail k.0) ∙ (rw k.1 at e) in
           let w = at_last k.0 q f in

@@ -9,15 +9,15 @@ use Rattle.std.proofs.lemmas.List.{map-append, take_all}
 use Rattle.std.proofs.lemmas.Map.Keys.{IsDistinct-cons}
 use Rattle.std.proofs.lemmas.Bool.{cases_lt}
 use Rattle.std.proofs.lemmas.Option.{same_Some, slice_get_read}
-use Rattle.dtype_paths.proofs.ApartLists.{distinct-nil}
+use Rattle.dtype_paths.proofs.DistinctLists.{IsDistinct-nil}
 use Rattle.dtype_paths.specs.lemmas.Cases.{by_bool}
-use Rattle.dtype_paths.specs.Children.{child}
+use Rattle.dtype_paths.specs.private.Children.{child}
 use Rattle.dtype_paths.specs.Equality.{same_path}
 use Rattle.dtype_paths.specs.EqualityLaws.{same_path-Decides}
-use Rattle.dtype_paths.specs.ListCover.{Gains}
+use Rattle.dtype_paths.specs.private.PathLists.{Gains}
 use Rattle.dtype_paths.specs.declared.field.Field.{Field}
 use Rattle.dtype_paths.specs.declared.node.Node.{Node}
-use Rattle.dtype_paths.specs.Trie.{child_at, terminal_at, terminals, walk, IsTrie, IsTrieBy}
+use Rattle.dtype_paths.specs.private.Trie.{child_at, terminal_at, terminals, walk, IsTrie, IsTrieBy}
 use Rattle.dtype_paths.proofs.TrieGrowth.{Ends, walk-append}
 
 -- ---- a node index in a longer list
@@ -103,21 +103,21 @@ terminals-same (m ∷ ms) (n ∷ ns) l h =
     let e : n.terminal ≡ m.terminal = h 0 in
     rw (e, terminals-same ms ns (omega (arith, l)) (λ i. h (suc i))) refl
 
-apart : (p : List Field) (ns : List Node) → ((i : ℕ) → terminal_at ns i ≡ Some p → ⊥) → AllByRecursion (λ y. same_path p y ≡ false) (terminals ns)
-apart p [] h = tt
-apart p (n ∷ ns) h = go n.terminal refl (apart p ns (λ i. h (suc i)))
+no_terminal : (p : List Field) (ns : List Node) → ((i : ℕ) → terminal_at ns i ≡ Some p → ⊥) → AllByRecursion (λ y. same_path p y ≡ false) (terminals ns)
+no_terminal p [] h = tt
+no_terminal p (n ∷ ns) h = go n.terminal refl (no_terminal p ns (λ i. h (suc i)))
   where
     go : (o : Option (List Field)) → n.terminal ≡ o → AllByRecursion (λ y. same_path p y ≡ false) (terminals ns) → AllByRecursion (λ y. same_path p y ≡ false) (cons_option o (terminals ns))
     go None e later = later
     go (Some y) e later = (by_bool (same_path p y) (λ s. absurd (h 0 (e ∙ ap Some (sym ((same_path-Decides p y).0 s))))) (λ s. s), later)
 
 pub terminals-distinct : (nodes : List Node) → ((i j : ℕ) (q : List Field) → terminal_at nodes i ≡ Some q → terminal_at nodes j ≡ Some q → i ≡ j) → IsDistinct same_path (terminals nodes)
-terminals-distinct [] h = distinct-nil same_path
+terminals-distinct [] h = IsDistinct-nil same_path
 terminals-distinct (n ∷ ns) h = go n.terminal refl (terminals-distinct ns (λ i j q a b. let e = h (suc i) (suc j) q a b in omega (arith, e)))
   where
     go : (o : Option (List Field)) → n.terminal ≡ o → IsDistinct same_path (terminals ns) → IsDistinct same_path (cons_option o (terminals ns))
     go None e rest = rest
-    go (Some y) e rest = IsDistinct-cons same_path y (terminals ns) (apart y ns (λ i a. let z = h 0 (suc i) y e a in absurd (omega (arith, z)))) rest
+    go (Some y) e rest = IsDistinct-cons same_path y (terminals ns) (no_terminal y ns (λ i a. let z = h 0 (suc i) y e a in absurd (omega (arith, z)))) rest
 
 -- no path ends in two nodes
 pub trie-distinct : (nodes : List Node) → IsTrieBy (child_at nodes) (terminal_at nodes) (length nodes) → IsDistinct same_path (terminals nodes)

@@ -5,9 +5,9 @@
 use Rattle.std.proofs.Common.{ℕ, suc, zero, ◌≡◌, ◌≢◌, ◌∙◌, ◌==◌, ◌&&◌, cond, List, [], ◌∷◌, Option, Some, option_and_then, set, refl, ap, Result, OnOk, OnErr}
 use Rattle.std.specs.List.{slice_get}
 use Rattle.std.proofs.lemmas.Bool.Decides.{Decides-eqb}
-use Rattle.dtype_paths.specs.Children.{child}
+use Rattle.dtype_paths.specs.private.Children.{child}
 use Rattle.dtype_paths.specs.Equality.{same_field}
-use Rattle.dtype_paths.specs.Trie.{child_at}
+use Rattle.dtype_paths.specs.private.Trie.{child_at}
 use Rattle.dtype_paths.specs.declared.field.Field.{Field}
 use Rattle.dtype_paths.specs.declared.node.Node.{Node}
 use Rattle.dtype_paths.specs.lemmas.Cases.{by_bool}
@@ -46,13 +46,13 @@ child-led xs i m n x node_index h up j f =
 
 -- the same of a root and the nodes after it, where one of these is changed
 module _ {T E : Type 0} (r : Result T E) (old rest : List Node) (root : Node) (is : root ∷ rest ≡ old) where
-  pub behind-led : (m n : Node) (here behind : ℕ) (x : Field) (node_index : ℕ) → here ≡ suc behind → slice_get rest behind ≡ Some m → OnOk r ((f : Field) → child n.children f ≡ cond (same_field x f) (Some node_index) (child m.children f))
-      → OnOk r ((i : ℕ) (f : Field) → child_at (root ∷ set rest behind n) i f ≡ cond (i == here && same_field x f) (Some node_index) (child_at old i f))
-  behind-led m n here behind x node_index at there up = rw (at, ← is) (on_ok_weaker r (λ u. child-led (root ∷ rest) (suc behind) m n x node_index there u) up)
+  pub after-led : (m n : Node) (here after : ℕ) (x : Field) (node_index : ℕ) → here ≡ suc after → slice_get rest after ≡ Some m → OnOk r ((f : Field) → child n.children f ≡ cond (same_field x f) (Some node_index) (child m.children f))
+      → OnOk r ((i : ℕ) (f : Field) → child_at (root ∷ set rest after n) i f ≡ cond (i == here && same_field x f) (Some node_index) (child_at old i f))
+  after-led m n here after x node_index at there up = rw (at, ← is) (on_ok_weaker r (λ u. child-led (root ∷ rest) (suc after) m n x node_index there u) up)
 
-  pub behind-same : (m n : Node) (behind : ℕ) → slice_get rest behind ≡ Some m → OnErr r ((f : Field) → child n.children f ≡ child m.children f)
-      → OnErr r ((i : ℕ) (f : Field) → child_at (root ∷ set rest behind n) i f ≡ child_at old i f)
-  behind-same m n behind there up = rw (← is) (on_err_weaker r (λ u i f. read-kept (λ k. child k.children f) (root ∷ rest) (suc behind) m n there (u f) i) up)
+  pub after-same : (m n : Node) (after : ℕ) → slice_get rest after ≡ Some m → OnErr r ((f : Field) → child n.children f ≡ child m.children f)
+      → OnErr r ((i : ℕ) (f : Field) → child_at (root ∷ set rest after n) i f ≡ child_at old i f)
+  after-same m n after there up = rw (← is) (on_err_weaker r (λ u i f. read-kept (λ k. child k.children f) (root ∷ rest) (suc after) m n there (u f) i) up)
 
   pub root-same : (n : Node) → OnErr r ((f : Field) → child n.children f ≡ child root.children f) → OnErr r ((i : ℕ) (f : Field) → child_at (n ∷ rest) i f ≡ child_at old i f)
   root-same n up = rw (← is) (on_err_weaker r (λ u i f. read-kept (λ k. child k.children f) (root ∷ rest) 0 root n refl (u f) i) up)

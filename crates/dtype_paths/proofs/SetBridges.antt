@@ -8,14 +8,14 @@ use Rattle.std.specs.FinSet as set
 use Rattle.std.specs.List.{Contains}
 use Rattle.dtype_paths.specs.Beginning.{Beginning}
 use Rattle.dtype_paths.specs.Covering.{IsCountOf, least}
-use Rattle.dtype_paths.specs.ListCover.{Begun, Least}
+use Rattle.dtype_paths.specs.private.PathLists.{Begun, Least}
 use Rattle.dtype_paths.specs.lemmas.SetMembers.{contains_empty, from_list-Decides, insert_has, items_of_list}
 use Rattle.dtype_paths.specs.lemmas.SetCovers.{least-Decides}
 use Rattle.dtype_paths.specs.PathOrder.{PathSet, path_cmp}
 use Rattle.dtype_paths.specs.lemmas.PathOrders.{path_cmp_total}
 use Rattle.dtype_paths.specs.lemmas.PathOrders.{same_tied}
 use Rattle.dtype_paths.specs.declared.field.Field.{Field}
-use Rattle.dtype_paths.specs.lemmas.ListCovers.{least_of_members}
+use Rattle.dtype_paths.specs.lemmas.PathLists.{least_of_members}
 
 least_listed : (ps : List (List Field)) (p : List Field) → IsTrue (set.contains (least (set.from_list ps)) p) ↔ Least ps p
 least_listed ps p =

@@ -12,7 +12,7 @@ use Rattle.std.proofs.lemmas.Nat.{be_bytes_8}
 use Rattle.dtype_base.specs.Bytes.{Bytes}
 use Rattle.dtype_paths.specs.Equality.{same_field}
 use Rattle.dtype_paths.specs.EqualityLaws.{same_field-Decides}
-use Rattle.dtype_paths.specs.StepKeys.{name_step_key, seven_and, step_key, HasBytes, IsExactKey}
+use Rattle.dtype_paths.specs.private.StepKeys.{name_step_key, seven_and, step_key, HasBytes, IsExactKey}
 use Rattle.dtype_paths.specs.declared.field.Field.{Field}
 use Rattle.dtype_paths.specs.declared.field.Field.TheVariants.{Name, ElementType}
 use Rattle.dtype_paths.specs.lemmas.Cases.{by_bool}
@@ -48,21 +48,21 @@ all_bytes bs k h l (suc (suc (suc (suc (suc (suc (suc zero))))))) = l
 all_bytes bs k h l (suc (suc (suc (suc (suc (suc (suc (suc i)))))))) = omega arith
 
 -- the bytes of a key
-abbrev behind_key : Field → List ℕ
-behind_key (Name n) = seven_and (drop (length n - 7) n) (min (length n) 8)
-behind_key ElementType = seven_and [] 9
+abbrev key_list : Field → List ℕ
+key_list (Name n) = seven_and (drop (length n - 7) n) (min (length n) 8)
+key_list ElementType = seven_and [] 9
 
-key-bytes : (f : Field) → HasBytes f → to_be_bytes w64 (step_key f) ≡ behind_key f
+key-bytes : (f : Field) → HasBytes f → to_be_bytes w64 (step_key f) ≡ key_list f
 unfolding step_key name_step_key HasBytes
-key-bytes (Name n) h = be_bytes_8 (behind_key (Name n)) (name_step_key n) refl (all_bytes (drop (length n - 7) n) (min (length n) 8) (later_byte (length n - 7) n h) (omega arith)) refl
-key-bytes ElementType h = be_bytes_8 (behind_key ElementType) 9 refl (all_bytes [] 9 (λ i. omega arith) (omega arith)) refl
+key-bytes (Name n) h = be_bytes_8 (key_list (Name n)) (name_step_key n) refl (all_bytes (drop (length n - 7) n) (min (length n) 8) (later_byte (length n - 7) n h) (omega arith)) refl
+key-bytes ElementType h = be_bytes_8 (key_list ElementType) 9 refl (all_bytes [] 9 (λ i. omega arith) (omega arith)) refl
 
 short : (m n : List ℕ) (k l : ℕ) → length m ≡ length n → length m ≤ 7 → seven_and m k ≡ seven_and n l → m ≡ n
 short m n k l e s h =
     same_number_lists m n e
     (λ i lt. sym (at_seven m k i (omega (arith, lt))) ∙ ap (λ bs. get_or bs i 0) h ∙ at_seven n l i (omega (arith, lt)))
 
-told : (f g : Field) → IsExactKey f → behind_key f ≡ behind_key g → f ≡ g
+told : (f g : Field) → IsExactKey f → key_list f ≡ key_list g → f ≡ g
 unfolding IsExactKey
 told (Name m) (Name n) s h =
     let counts : min (length m) 8 ≡ min (length n) 8 = ap (λ bs. get_or bs 7 0) h in
@@ -81,5 +81,5 @@ same_told f g hf hg s e =
     (same_field-Decides f g).1 (told f g s (sym (key-bytes f hf) ∙ ap (to_be_bytes w64) (sym e) ∙ key-bytes g hg))
 
 -- steps of different keys differ
-pub apart : (f g : Field) → step_key g ≢ step_key f → same_field f g ≡ false
-apart f g ne = by_bool (same_field f g) (λ e. absurd (ne (sym (ap step_key ((same_field-Decides f g).0 e))))) (λ e. e)
+pub keys_differ : (f g : Field) → step_key g ≢ step_key f → same_field f g ≡ false
+keys_differ f g ne = by_bool (same_field f g) (λ e. absurd (ne (sym (ap step_key ((same_field-Decides f g).0 e))))) (λ e. e)

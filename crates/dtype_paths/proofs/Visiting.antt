@@ -9,18 +9,19 @@ use Rattle.std.specs.Option.{unwrap_or}
 use Rattle.std.proofs.lemmas.List.Elements.{Contains-append_left, Contains-append_right, Contains-append_cases, Contains-push, Contains-push_cases}
 use Rattle.std.proofs.lemmas.List.{length-map}
 use Rattle.std.proofs.lemmas.Option.{same_Some, option_and_then_some}
-use Rattle.dtype_paths.specs.lemmas.Covers.{beginning_refl, beginning_trans, beginning_both, covers_member, least_covers, least_within}
+use Rattle.dtype_paths.specs.lemmas.Beginnings.{beginning_refl, beginning_trans, beginning_both}
+use Rattle.dtype_paths.specs.lemmas.PathLists.{covers_member, least_covers}
 use Rattle.dtype_paths.specs.Beginning.{Beginning}
-use Rattle.std.proofs.lemmas.Map.Made.{AllPairs-from_IsDistinct}
 use Rattle.dtype_base.specs.Distinct.{Distinct}
 use Rattle.dtype_paths.specs.Covering.{IsCountOf}
-use Rattle.dtype_paths.specs.ListCover.{SameListCoverage, Least, Begun}
-use Rattle.dtype_paths.specs.Equality.{same_field, same_path}
-use Rattle.dtype_paths.specs.EqualityLaws.{same_field-Decides, same_path-Decides}
+use Rattle.dtype_paths.specs.private.PathLists.{Least, Begun}
+use Rattle.dtype_paths.specs.Equality.{same_field}
+use Rattle.dtype_paths.specs.EqualityLaws.{same_field-Decides}
 use Rattle.dtype_paths.specs.declared.field.Field.{Field}
 use Rattle.dtype_paths.specs.declared.node.Node.{Node}
-use Rattle.dtype_paths.specs.Trie.{child_at, terminal_at, terminals, walk, IsTrie}
-use Rattle.dtype_paths.proofs.ApartLists.{Apart, apart-values, value-key, key-value, apart-distinct, apart-nil, apart-cons, apart-append, apart-pop, apart-below, apart-map, contains-map, contains-cons, contains-head, contains-tail, contains-nil}
+use Rattle.dtype_paths.specs.private.Trie.{child_at, terminal_at, terminals, walk, IsTrie}
+use Rattle.dtype_paths.proofs.DistinctLists.{distinct-values, value-key, key-value, distinct-nil, distinct-cons, distinct-append, distinct-pop, distinct-below, distinct-map}
+use Rattle.dtype_paths.proofs.ListMembers.{contains-map, contains-cons, contains-head, contains-tail, contains-nil}
 use Rattle.dtype_paths.proofs.NodeIndices.{terminal-of, of-terminal}
 use Rattle.dtype_paths.proofs.TrieGrowth.{walk-append, walk-snoc}
 
@@ -106,18 +107,18 @@ module _ (nodes : List Node) (trie : IsTrie nodes) (s : List Field) (x : ℕ) (a
 pub record Visits (nodes left : List Node) (found : List (List Field)) (visits : ℕ) (node_indices : List ℕ) : Type 0 where
   pub done : List (List Field)
   pub long : length left ≡ length nodes
-  pub apart : Apart done
+  pub no_repeats : Distinct done
   pub led : (s : List Field) → Contains done s → (i : ℕ) × (walk (child_at nodes) 0 s ≡ Some i)
   pub begun : (s : List Field) → Contains done s → Begun (terminals nodes) s
   pub parents : (s : List Field) (f : Field) → Contains done (s ++ f ∷ []) → Contains done s
-  pub waiting : Apart node_indices
+  pub waiting : Distinct node_indices
   pub waits : (i : ℕ) → Contains node_indices i → (s : List Field) × (walk (child_at nodes) 0 s ≡ Some i) × Begun (terminals nodes) s × (Contains done s → ⊥)
   pub waits_parents : (i : ℕ) (s : List Field) (f : Field) → Contains node_indices i → walk (child_at nodes) 0 (s ++ f ∷ []) ≡ Some i → Contains done s
   pub same_ends : (i : ℕ) (s : List Field) → walk (child_at nodes) 0 s ≡ Some i → (Contains done s → ⊥) → terminal_at left i ≡ terminal_at nodes i
   pub same_steps : (i : ℕ) (s : List Field) (f : Field) → walk (child_at nodes) 0 s ≡ Some i → (Contains done s → ⊥) → child_at left i f ≡ child_at nodes i f
   pub rest : (q : List Field) → Begun (terminals nodes) q → Contains done q ⊎ ((i : ℕ) × (s : List Field) × Contains node_indices i × (walk (child_at nodes) 0 s ≡ Some i) × Beginning s q)
   pub exact : (p : List Field) → Contains found p ↔ (Contains done p × Contains (terminals nodes) p)
-  pub once : Apart found
+  pub once : Distinct found
   pub count : visits ≡ length done
 
 snoc-same : (t s : List Field) (f g : Field) → t ++ f ∷ [] ≡ s ++ g ∷ [] → t ≡ s
@@ -140,18 +141,18 @@ pub visits-start : (nodes : List Node) → IsTrie nodes → Visits nodes nodes [
 visits-start nodes trie = record {
   done = [];
   long = refl;
-  apart = apart-nil [] refl;
+  no_repeats = distinct-nil [] refl;
   led = λ s c. absurd (contains-nil s c);
   begun = λ s c. absurd (contains-nil s c);
   parents = λ s f c. absurd (contains-nil (s ++ f ∷ []) c);
-  waiting = apart-cons 0 [] (λ c. contains-nil 0 c) (apart-nil [] refl);
+  waiting = distinct-cons 0 [] (λ c. contains-nil 0 c) (distinct-nil [] refl);
   waits = λ i c. ⊎_elim (λ e. ([], ap Some e, inl refl, λ d. contains-nil [] d)) (λ d. absurd (contains-nil i d)) (contains-cons 0 i [] c);
   waits_parents = λ i s f c w. ⊎_elim (λ e. let z : s ++ f ∷ [] ≡ [] = trie.once (s ++ f ∷ []) [] i w (ap Some e) in absurd (no_snoc s f z)) (λ d. absurd (contains-nil i d)) (contains-cons 0 i [] c);
   same_ends = λ i s w n. refl;
   same_steps = λ i s f w n. refl;
   rest = λ q b. inr (0, [], contains-head 0 [], refl, (q, refl));
   exact = λ p. (λ c. absurd (contains-nil p c), λ c. absurd (contains-nil p c.0));
-  once = apart-nil [] refl;
+  once = distinct-nil [] refl;
   count = refl;
 }
 
@@ -192,14 +193,14 @@ module _ (nodes left next : List Node) (found : List (List Field)) (visits : ℕ
       (λ d. o.parents t f d)
       (contains-cons s (t ++ f ∷ []) o.done c))
 
-  apart_from : (i : ℕ) (t : List Field) → walk (child_at nodes) 0 t ≡ Some i → (Contains (s ∷ o.done) t → ⊥) → i ≢ x
-  apart_from i t w n e = n (subst (Contains (s ∷ o.done)) (sym (told t i w e)) (contains-head s o.done))
+  differs_from : (i : ℕ) (t : List Field) → walk (child_at nodes) 0 t ≡ Some i → (Contains (s ∷ o.done) t → ⊥) → i ≢ x
+  differs_from i t w n e = n (subst (Contains (s ∷ o.done)) (sym (told t i w e)) (contains-head s o.done))
 
   same_ends' : (i : ℕ) (t : List Field) → walk (child_at nodes) 0 t ≡ Some i → (Contains (s ∷ o.done) t → ⊥) → terminal_at next i ≡ terminal_at nodes i
-  same_ends' i t w n = others_end i (apart_from i t w n) ∙ o.same_ends i t w (λ c. n (contains-tail s t o.done c))
+  same_ends' i t w n = others_end i (differs_from i t w n) ∙ o.same_ends i t w (λ c. n (contains-tail s t o.done c))
 
   same_steps' : (i : ℕ) (t : List Field) (f : Field) → walk (child_at nodes) 0 t ≡ Some i → (Contains (s ∷ o.done) t → ⊥) → child_at next i f ≡ child_at nodes i f
-  same_steps' i t f w n = others_step i f (apart_from i t w n) ∙ o.same_steps i t f w (λ c. n (contains-tail s t o.done c))
+  same_steps' i t f w n = others_step i f (differs_from i t w n) ∙ o.same_steps i t f w (λ c. n (contains-tail s t o.done c))
 
   -- what waited beside it waits on
   Waits : ℕ → Type 0
@@ -217,7 +218,7 @@ module _ (nodes left next : List Node) (found : List (List Field)) (visits : ℕ
             (λ e.
             let w : walk (child_at nodes) 0 s ≡ Some i = subst (λ p. walk (child_at nodes) 0 p ≡ Some i) (sym e) v.1 in
             let z : Some x ≡ Some i = sym at ∙ w in
-            (apart-pop ps x o.waiting).1 (subst (Contains ps) (sym (same_Some x i z)) c))
+            (distinct-pop ps x o.waiting).1 (subst (Contains ps) (sym (same_Some x i z)) c))
             (λ m. v.3 m)
             (contains-cons s v.0 o.done d),
       )
@@ -236,11 +237,11 @@ module _ (nodes left next : List Node) (found : List (List Field)) (visits : ℕ
       let mine : terminal_at nodes x ≡ Some s = here ∙ ap Some (sym same) in record {
         done = s ∷ o.done;
         long = long ∙ o.long;
-        apart = apart-cons s o.done is_new o.apart;
+        no_repeats = distinct-cons s o.done is_new o.no_repeats;
         led = led';
         begun = begun';
         parents = parents';
-        waiting = (apart-pop ps x o.waiting).0;
+        waiting = (distinct-pop ps x o.waiting).0;
         waits = still;
         waits_parents = λ i t f c w. contains-tail s t o.done (o.waits_parents i t f (Contains-append_left ps (x ∷ []) i c) w);
         same_ends = same_ends';
@@ -269,23 +270,23 @@ module _ (nodes left next : List Node) (found : List (List Field)) (visits : ℕ
               (λ d. Contains-append_left found (p ∷ []) q ((o.exact q).1 (d, c.1)))
               (contains-cons s q o.done c.0),
         );
-        once = apart-append found (p ∷ []) o.once (apart-cons p [] (λ c. contains-nil p c) (apart-nil [] refl)) (λ y a c.
+        once = distinct-append found (p ∷ []) o.once (distinct-cons p [] (λ c. contains-nil p c) (distinct-nil [] refl)) (λ y a c.
             ⊎_elim (λ e. is_new (subst (Contains o.done) (sym e ∙ sym same) ((o.exact y).0 a).0)) (λ d. contains-nil y d) (contains-cons p y [] c));
         count = omega (arith, o.count);
       }
 
-  pub visited-on : (vs : List ℕ) → terminal_at left x ≡ None → Apart vs → ((j : ℕ) → Contains vs j → (f : Field) × (child_at left x f ≡ Some j)) → ((f : Field) (j : ℕ) → child_at left x f ≡ Some j → Contains vs j) → Visits nodes next found (visits + 1) (ps ++ vs)
+  pub visited-on : (vs : List ℕ) → terminal_at left x ≡ None → Distinct vs → ((j : ℕ) → Contains vs j → (f : Field) × (child_at left x f ≡ Some j)) → ((f : Field) (j : ℕ) → child_at left x f ≡ Some j → Contains vs j) → Visits nodes next found (visits + 1) (ps ++ vs)
   unfolding Waits
   visited-on vs is alone from to =
       let here : terminal_at nodes x ≡ None = sym end_same ∙ is in
       record {
         done = s ∷ o.done;
         long = long ∙ o.long;
-        apart = apart-cons s o.done is_new o.apart;
+        no_repeats = distinct-cons s o.done is_new o.no_repeats;
         led = led';
         begun = begun';
         parents = parents';
-        waiting = apart-append ps vs (apart-pop ps x o.waiting).0 alone (λ i a c.
+        waiting = distinct-append ps vs (distinct-pop ps x o.waiting).0 alone (λ i a c.
             let w = on i (from i c) in is_new (o.waits_parents i s w.0 (Contains-append_left ps (x ∷ []) i a) (walk-snoc (child_at nodes) x i s w.0 at w.1)));
         waits = λ i c.
             ⊎_elim
@@ -343,7 +344,7 @@ module _ (nodes left next : List Node) (found : List (List Field)) (visits : ℕ
   pub visited-children : (es : List (Field × ℕ)) → IsDistinct same_field (keys_of es) → ((f : Field) → lookup (same_field f) es ≡ child_at left x f) → terminal_at left x ≡ None → Visits nodes next found (visits + 1) (ps ++ values_of es)
   visited-children es unique steps is =
       visited-on (values_of es) is
-      (apart-values same_field same_field-Decides es unique (λ f g j a b. child-once f g j (sym (steps f) ∙ a) (sym (steps g) ∙ b)))
+      (distinct-values same_field same_field-Decides es unique (λ f g j a b. child-once f g j (sym (steps f) ∙ a) (sym (steps g) ∙ b)))
       (λ j c. let w = value-key same_field same_field-Decides es unique j c in (w.0, sym (steps w.0) ∙ w.1))
       (λ f j e. key-value same_field same_field-Decides es f j (steps f ∙ e))
 
@@ -355,13 +356,13 @@ module _ (nodes left next : List Node) (found : List (List Field)) (visits : ℕ
   visits-room =
       let all = s ∷ o.done in
       let loc = λ (t : List Field). unwrap_or (walk (child_at nodes) 0 t) 0 in
-      let alone = apart-map loc all (apart-cons s o.done is_new o.apart) (λ a b c d e.
+      let alone = distinct-map loc all (distinct-cons s o.done is_new o.no_repeats) (λ a b c d e.
       let v = led' a c in let w = led' b d in
       let p : loc a ≡ v.0 = ap (λ z. unwrap_or z 0) v.1 in
       let q : loc b ≡ w.0 = ap (λ z. unwrap_or z 0) w.1 in
       let r : w.0 ≡ v.0 = sym q ∙ sym e ∙ p in
       trie.once a b v.0 v.1 (w.1 ∙ ap Some r)) in
-      let below = apart-below (map loc all) (length nodes) alone (λ n c.
+      let below = distinct-below (map loc all) (length nodes) alone (λ n c.
       let w = contains-map loc all n c in let v = led' w.0 w.1 in
       let p : loc w.0 ≡ v.0 = ap (λ z. unwrap_or z 0) v.1 in
       let i : v.0 < length nodes = trie.inside w.0 v.0 v.1 in
@@ -385,7 +386,7 @@ module _ (nodes left : List Node) (found : List (List Field)) (visits : ℕ) (o 
   pub visited-count : IsCountOf (Begun (terminals nodes)) visits
   visited-count = record {
     paths = o.done;
-    distinct = AllPairs-from_IsDistinct same_path-Decides o.done (apart-distinct same_path same_path-Decides o.done o.apart);
+    distinct = o.no_repeats;
     exact = λ p. (o.begun p, visited-begun p);
     count = sym o.count;
   }
@@ -402,8 +403,4 @@ module _ (nodes left : List Node) (found : List (List Field)) (visits : ℕ) (o 
   )
 
   pub visited-once : Distinct found
-  visited-once = AllPairs-from_IsDistinct same_path-Decides found (apart-distinct same_path same_path-Decides found o.once)
-
--- the least paths of a list cover what it covers
-pub within : (ps found : List (List Field)) → ((p : List Field) → Contains found p ↔ Least ps p) → (qs : List (List Field)) → SameListCoverage qs ps → (p : List Field) → Contains found p → Contains qs p
-within ps found h qs alike p c = least_within ps qs alike p ((h p).0 c)
+  visited-once = o.once

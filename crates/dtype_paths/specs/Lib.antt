@@ -15,12 +15,7 @@ pub mod PathOrder
 pub mod Covering
 pub mod In
 pub mod Overlaps
-pub mod ListCover
-pub mod Trie
 pub mod Crosses
-pub mod Children
-pub mod StepKeys
-pub mod ChildLists
-pub mod ChildTrees
+pub mod private
 pub mod lemmas
 pub mod CoveringLaws

@@ -7,10 +7,10 @@ ghost use Rattle.std.specs.List.{IsDistinct};
 ghost use Rattle.std.specs.Map.{keys_of, lookup, values_of};
 ghost use Rattle.std.specs.Ordering.{nat_cmp};
 ghost use Rattle.dtype_base.specs.declared.vortex_error.VortexError.TheVariants.{OutOfMemory};
-ghost use Rattle.dtype_paths.specs.ChildTrees.{at_key, led_by, IsFirst, IsTaken};
+ghost use Rattle.dtype_paths.specs.private.ChildTrees.{at_key, led_by, IsFirst, IsTaken};
 ghost use Rattle.dtype_paths.specs.Equality.{same_field};
 ghost use Rattle.dtype_paths.specs.PathOrder.{field_cmp};
-ghost use Rattle.dtype_paths.specs.StepKeys.{step_key};
+ghost use Rattle.dtype_paths.specs.private.StepKeys.{step_key};
 ghost use Rattle.dtype_paths.specs.declared.field.Field.{Field};
 
 use crate::Field;
@@ -30,7 +30,7 @@ pub(crate) struct ChildTree {
 
 impl Model for ChildTree {
     ghost use Rattle.std.specs.Prelude.{ℕ, List};
-    ghost use Rattle.dtype_paths.specs.ChildTrees.{steps_in, IsChildTree};
+    ghost use Rattle.dtype_paths.specs.private.ChildTrees.{steps_in, IsChildTree};
     ghost use Rattle.dtype_paths.specs.declared.field.Field.{Field};
 
     ghost Value = { List (Field × ℕ) };

@@ -35,7 +35,7 @@ pub struct FieldPathSet {
 impl Model for FieldPathSet {
     ghost use Rattle.std.specs.FinSet as set;
     ghost use Rattle.dtype_paths.specs.PathOrder.{path_cmp, set_code, set_of};
-    ghost use Rattle.dtype_paths.specs.Trie.{terminals};
+    ghost use Rattle.dtype_paths.specs.private.Trie.{terminals};
 
     ghost Value = { set.FinSet path_cmp };
 

@@ -3,9 +3,9 @@
 
 ghost use Rattle.std.specs.Prelude.{◌≡◌, ◌≢◌, ◌≤◌, ◌<◌, ◌+◌, ◌==◌, ◌&&◌, ◌^◌, ◌++◌, [], ◌∷◌, List, ℕ, None, Some, length, drop, take, slice_get, map, min, is_some, if◌then◌else◌, IfOk, IsOkUnless, OnErr, OnOk, MatchResult};
 ghost use Rattle.dtype_base.specs.declared.vortex_error.VortexError.TheVariants.{OutOfMemory};
-ghost use Rattle.dtype_paths.specs.Children.{child, nodes_by_step};
+ghost use Rattle.dtype_paths.specs.private.Children.{child, nodes_by_step};
 ghost use Rattle.dtype_paths.specs.Equality.{same_field};
-ghost use Rattle.dtype_paths.specs.Trie.{child_at, terminal_at, terminals, IsAlike, IsChain, HasBranch, IsExtended};
+ghost use Rattle.dtype_paths.specs.private.Trie.{child_at, terminal_at, terminals, IsAlike, IsChain, HasBranch, IsExtended};
 ghost use Rattle.dtype_paths.specs.declared.field.Field.{Field};
 ghost use Rattle.dtype_paths.specs.declared.node.Node.{Node};
 

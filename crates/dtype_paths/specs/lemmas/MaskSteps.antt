@@ -1,7 +1,7 @@
 -- SPDX-License-Identifier: Apache-2.0
 -- SPDX-FileCopyrightText: Copyright the Vortex contributors
 
--- What a mask asks for behind the first step of its path.
+-- What a mask selects after the first step of its path.
 use Rattle.std.proofs.Common.{◌≡◌, List, [], ◌∷◌, ◌++◌, Some, append-nil, refl, sym}
 use Rattle.std.proofs.lemmas.Option.{same_Some}
 use Rattle.dtype_paths.specs.In.{In, first_part}
@@ -9,7 +9,7 @@ use Rattle.dtype_paths.specs.declared.field.Field.{Field}
 use Rattle.dtype_paths.specs.declared.field_mask.FieldMask.{FieldMask}
 use Rattle.dtype_paths.specs.declared.field_mask.FieldMask.TheVariants.{All, Prefix, Exact}
 
--- it asks for some path there
+-- it selects some path there
 pub first_asked : (m : FieldMask) (f : Field) → first_part m ≡ Some f → (q : List Field) × In m (f ∷ q)
 first_asked All f e = cc
 first_asked (Prefix []) f e = cc

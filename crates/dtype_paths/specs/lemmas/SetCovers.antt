@@ -1,13 +1,13 @@
 -- SPDX-License-Identifier: Apache-2.0
 -- SPDX-FileCopyrightText: Copyright the Vortex contributors
 
--- What sets of paths cover, and their least paths.
-use Rattle.std.specs.Prelude.{◌≡◌, ◌⊎◌, ◌↔◌, Bool, true, false, IsTrue, List, [], ◌∷◌, ◌++◌, not, ◌||◌, ◌&&◌, ◌≤◌, length, refl}
+-- Lemmas on what sets of paths cover, and on their least paths.
+use Rattle.std.specs.Prelude.{◌≡◌, ◌↔◌, Bool, true, false, IsTrue, List, [], ◌∷◌, ◌++◌, not, ◌||◌, ◌&&◌, ◌≤◌, length, refl}
 use Rattle.std.specs.Bool.{Decides}
 use Rattle.std.specs.FinSet as set
 use Rattle.std.specs.List.{Any, Contains, list_any, starts_with}
-use Rattle.std.proofs.Common.{ap, sym, ◌∙◌, ⊎_elim, inl, inr}
-use Rattle.std.proofs.lemmas.Bool.{and_from, and_parts}
+use Rattle.std.proofs.Common.{ap, sym, ◌∙◌, ⊎_elim}
+use Rattle.std.proofs.lemmas.Bool.{and_from, and_parts, or_cases, or_right}
 use Rattle.std.proofs.lemmas.Bool.Decides.{same_from_decides}
 use Rattle.std.proofs.lemmas.List.Folds.{Any-from_list_any, list_any-append, list_any-from_Any}
 use Rattle.std.proofs.lemmas.Map.Made.{is_member-Decides, IsDistinct-from_AllPairs, length-le_from_is_member}
@@ -16,16 +16,13 @@ use Rattle.dtype_paths.specs.Beginning.{Beginning}
 use Rattle.dtype_paths.specs.Covering.{SameCoverage, begins_below, covers, least}
 use Rattle.dtype_paths.specs.Equality.{same_field, same_path}
 use Rattle.dtype_paths.specs.EqualityLaws.{same_path-Decides, same_path_equiv}
-use Rattle.dtype_paths.specs.ListCover.{Covers, SameListCoverage, Least}
+use Rattle.dtype_paths.specs.private.PathLists.{Covers, SameListCoverage, Least}
 use Rattle.dtype_paths.specs.PathOrder.{PathSet, path_cmp}
 use Rattle.dtype_paths.specs.declared.field.Field.{Field}
+use Rattle.dtype_paths.specs.lemmas.Beginnings.{either_begins, starts_with-Decides}
 use Rattle.dtype_paths.specs.lemmas.Cases.{by_bool}
-use Rattle.dtype_paths.specs.lemmas.CoverTests.{any-from_among, among-from_any, or-cases, or-right}
-use Rattle.dtype_paths.specs.lemmas.Covers.{among_from, among_to, least_tells}
-use Rattle.dtype_paths.specs.lemmas.Covers.{covers_member as member_covered}
-use Rattle.dtype_paths.specs.lemmas.ListCovers as lists
+use Rattle.dtype_paths.specs.lemmas.PathLists as lists
 use Rattle.dtype_paths.specs.lemmas.PathOrders.{same_tied}
-use Rattle.dtype_paths.specs.lemmas.PathTests.{starts_with-Decides}
 use Rattle.dtype_paths.specs.lemmas.SetMembers.{contains_empty, contains_insert, from_list-Decides, insert_has, items-Decides, items_of_list, of_append, of_items, same_by}
 
 -- ---- what is covered
@@ -34,8 +31,8 @@ use Rattle.dtype_paths.specs.lemmas.SetMembers.{contains_empty, contains_insert,
 pub covers_of : (ps : List (List Field)) (q : List Field) → covers (set.from_list ps) q ≡ list_any (λ p. starts_with same_field q p) ps
 unfolding covers
 covers_of ps q =
-    let told = lists.told_one_by_one (set.items (set.from_list {R = path_cmp} ps)) ps q (covers (set.from_list ps) q) (lists.coverage_of_members _ ps (items_of_list ps)) refl in
-    let listed = lists.told_one_by_one ps ps q (list_any (λ p. starts_with same_field q p) ps) (lists.coverage_same ps) refl in
+    let told = lists.covers_by_tests (set.items (set.from_list {R = path_cmp} ps)) ps q (covers (set.from_list ps) q) (lists.coverage_of_members _ ps (items_of_list ps)) refl in
+    let listed = lists.covers_by_tests ps ps q (list_any (λ p. starts_with same_field q p) ps) (lists.coverage_same ps) refl in
     same_from_decides _ _ told listed
 
 pub covers_any : (ps : List (List Field)) (q : List Field) → IsTrue (covers (set.from_list ps) q) ↔ Any (λ p. IsTrue (starts_with same_field q p)) ps
@@ -46,7 +43,7 @@ covers_any ps q = (
 
 pub covers-Decides : (s : PathSet) (q : List Field) → Decides (covers s q) (Covers (set.items s) q)
 unfolding covers
-covers-Decides s q = lists.told_one_by_one (set.items s) (set.items s) q (covers s q) (lists.coverage_same (set.items s)) refl
+covers-Decides s q = lists.covers_by_tests (set.items s) (set.items s) q (covers s q) (lists.coverage_same (set.items s)) refl
 
 pub covers_none : (q : List Field) → covers set.empty q ≡ false
 covers_none q = covers_of [] q
@@ -68,50 +65,26 @@ covers_union s t q =
 
 -- members are covered, and what is below
 pub covers_member : (s : PathSet) (p : List Field) → set.contains s p ≡ true → covers s p ≡ true
-covers_member s p h = (covers-Decides s p).1 (member_covered (set.items s) p ((items-Decides s p).0 h))
+covers_member s p h = (covers-Decides s p).1 (lists.covers_member (set.items s) p ((items-Decides s p).0 h))
 
 pub covers_below : (s : PathSet) (p rest : List Field) → covers s p ≡ true → covers s (p ++ rest) ≡ true
 covers_below s p rest h = (covers-Decides s (p ++ rest)).1 (lists.covers_further (set.items s) p rest ((covers-Decides s p).0 h))
 
 pub insert_covers : (s : PathSet) (p q : List Field) → covers s q ≡ true → covers (set.insert s p) q ≡ true
-insert_covers s p q h = covers_insert s p q ∙ or-right (starts_with same_field q p) (covers s q) h
+insert_covers s p q h = covers_insert s p q ∙ or_right (starts_with same_field q p) (covers s q) h
 
 pub insert_covers_below : (s : PathSet) (p rest : List Field) → covers (set.insert s p) (p ++ rest) ≡ true
 insert_covers_below s p rest = covers_below (set.insert s p) p rest (covers_member (set.insert s p) p (insert_has s p))
 
 -- ---- the least paths
 
-not-true : (b : Bool) → not b ≡ true → b ≡ true → ⊥
-not-true true h e = absurd (cc)
-not-true false h e = absurd (cc)
-
-not-false : (b : Bool) → (b ≡ true → ⊥) → not b ≡ true
-not-false true h = absurd (h refl)
-not-false false h = refl
-
 pub least-Decides : (s : PathSet) (p : List Field) → Decides (set.contains (least s) p) (Least (set.items s) p)
 unfolding least
 least-Decides s p =
     let test : List Field → Bool = λ x. not (list_any (λ q. begins_below q x) (set.items s)) in
     let e : set.contains (least s) p ≡ (set.contains s p && test p) = set.contains-retain s test p (λ x t. ap test (sym (same_tied p x t))) in (
-      λ t.
-          let parts = and_parts (set.contains s p) (test p) (sym e ∙ t) in record {
-            member = (items-Decides s p).0 parts.0;
-            first = λ q c b.
-                by_bool (same_path q p) (same_path-Decides q p).0
-                (λ other.
-                absurd
-                (not-true _ parts.1
-                (any-from_among (λ r. begins_below r p) q (set.items s) (among_from (set.items s) q c)
-                (and_from (starts_with same_field p q) (not (same_path q p)) ((starts_with-Decides q p _ refl).1 b) (rw other refl)))));
-          },
-      λ l.
-          e
-          ∙ and_from (set.contains s p) (test p) ((items-Decides s p).1 l.member)
-          (not-false _ (λ some.
-          let w = among-from_any (λ r. begins_below r p) (set.items s) some in
-          let parts = and_parts (starts_with same_field p w.0) (not (same_path w.0 p)) w.2 in
-          not-true _ parts.1 ((same_path-Decides w.0 p).1 (l.first w.0 (among_to (set.items s) w.0 w.1) ((starts_with-Decides w.0 p _ refl).0 parts.0))))),
+      λ t. let parts = and_parts (set.contains s p) (test p) (sym e ∙ t) in lists.least_from_test (set.items s) p ((items-Decides s p).0 parts.0) parts.1,
+      λ l. e ∙ and_from (set.contains s p) (test p) ((items-Decides s p).1 l.member) (lists.test_from_least (set.items s) p l),
     )
 
 coverage_items : (s t : PathSet) → ((q : List Field) → covers s q ≡ covers t q) → SameListCoverage (set.items s) (set.items t)
@@ -125,7 +98,7 @@ coverage_items s t same = record {
 -- sets that cover the same have the same least paths, and the converse
 pub least_same : (s t : PathSet) → ((q : List Field) → covers s q ≡ covers t q) → least s ≡ least t
 least_same s t same = same_by _ _ (λ p.
-    let l = (least_tells (set.items s) (set.items t)).1 (coverage_items s t same) p in
+    let l = (lists.least_tells (set.items s) (set.items t)).1 (coverage_items s t same) p in
     same_from_decides _ _ (least-Decides s p) (λ c. l.1 ((least-Decides t p).0 c), λ m. (least-Decides t p).1 (l.0 m)))
 
 pub covers_least : (s : PathSet) (q : List Field) → covers (least s) q ≡ covers s q
@@ -171,7 +144,7 @@ least_one p =
     ⊎_elim
     (λ e. (same_path-Decides r p).0 e)
     (λ e. let no = contains_empty r in absurd (cc))
-    (or-cases (same_path r p) (set.contains set.empty r) (sym (contains_insert set.empty p r) ∙ (items-Decides s r).1 c)) in
+    (or_cases (same_path r p) (set.contains set.empty r) (sym (contains_insert set.empty p r) ∙ (items-Decides s r).1 c)) in
     same_by _ _ (λ q.
     same_from_decides _ _ (least-Decides s q) (
       λ t. record { member = (items-Decides s q).0 t; first = λ r c b. only r c ∙ sym (only q ((items-Decides s q).0 t)) },
@@ -183,8 +156,8 @@ pub least_in : (s t : PathSet) (p : List Field) → least s ≡ least t → set.
 least_in s t p same h = (items-Decides t p).1 ((least-Decides t p).0 (ap (λ x. set.contains x p) (sym same) ∙ h)).member
 
 -- of a list whose set is the least, that set covers the same, and each path is in every list that covers the same
-pub cover_alike : (cover : List (List Field)) (s : PathSet) → set.from_list cover ≡ least s → SameCoverage (set.from_list cover) s
-cover_alike cover s is = λ q. ap (λ x. covers x q) is ∙ covers_least s q
+pub same_coverage : (cover : List (List Field)) (s : PathSet) → set.from_list cover ≡ least s → SameCoverage (set.from_list cover) s
+same_coverage cover s is = λ q. ap (λ x. covers x q) is ∙ covers_least s q
 
 pub cover_within : (cover ps : List (List Field)) (s : PathSet) → set.from_list cover ≡ least s → SameCoverage (set.from_list ps) s → (p : List Field) → Contains cover p → Contains ps p
 cover_within cover ps s is alike p c =
@@ -197,23 +170,7 @@ fewest xs ys distinct is = length-le_from_is_member same_path_equiv xs ys (IsDis
     let l = (least-Decides (set.from_list ys) q).0 (ap (λ s. set.contains s q) (sym is) ∙ c) in
     (is_member-Decides same_path-Decides ys q).1 (((items_of_list ys).same q).0 l.member))
 
--- ---- the words as relations
-
--- of two beginnings of a path one begins the other
-either_begins : (p r q : List Field) → Beginning p q → Beginning r q → Beginning p r ⊎ Beginning r p
-either_begins [] r q bp br = inl (r, refl)
-either_begins (x ∷ p) [] q bp br = inr (x ∷ p, refl)
-either_begins (x ∷ p) (y ∷ r) [] bp br = let e = bp.1 in absurd (cc)
-either_begins (x ∷ p) (y ∷ r) (z ∷ q) bp br =
-    let ep : z ∷ q ≡ x ∷ (p ++ bp.0) = bp.1 in
-    let er : z ∷ q ≡ y ∷ (r ++ br.0) = br.1 in
-    let xs : x ≡ y = cc in
-    let lp : q ≡ p ++ bp.0 = cc in
-    let lr : q ≡ r ++ br.0 = cc in
-    ⊎_elim
-    (λ b. inl (b.0, λ i. sym xs i ∷ b.1 i))
-    (λ b. inr (b.0, λ i. xs i ∷ b.1 i))
-    (either_begins p r q (bp.0, lp) (br.0, lr))
+-- ---- the tests as relations
 
 pub covers_word : (s : PathSet) (q : List Field) → IsTrue (covers s q) ↔ ((p : List Field) × IsTrue (set.contains s p) × Beginning p q)
 covers_word s q = (

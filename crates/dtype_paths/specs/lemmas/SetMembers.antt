@@ -1,22 +1,23 @@
 -- SPDX-License-Identifier: Apache-2.0
 -- SPDX-FileCopyrightText: Copyright the Vortex contributors
 
--- The members of sets of paths.
+-- Lemmas on the members of sets of paths.
 use Rattle.std.specs.Prelude.{◌≡◌, ◌≢◌, ◌↔◌, Bool, true, false, IsTrue, List, [], ◌∷◌, ◌++◌, ◌||◌, refl}
 use Rattle.std.specs.Bool.{Decides}
 use Rattle.std.specs.FinSet as set
 use Rattle.std.specs.List.{Contains, list_any}
 use Rattle.std.proofs.Common.{ap, sym, ◌∙◌, ⊎_elim}
+use Rattle.std.proofs.Math.Bool.{or-false}
+use Rattle.std.proofs.lemmas.Bool.{or_cases, or_left, or_right}
 use Rattle.std.proofs.lemmas.Bool.Decides.{same_from_decides}
 use Rattle.std.proofs.lemmas.List.Elements.{Contains-append_cases, Contains-append_left, Contains-append_right}
 use Rattle.std.proofs.lemmas.Map.Made.{is_member-Decides}
 use Rattle.dtype_paths.specs.Equality.{same_path}
 use Rattle.dtype_paths.specs.EqualityLaws.{same_path-Decides}
-use Rattle.dtype_paths.specs.ListCover.{Gains, SameMembers}
+use Rattle.dtype_paths.specs.private.PathLists.{Gains, SameMembers}
 use Rattle.dtype_paths.specs.PathOrder.{PathSet, path_cmp}
 use Rattle.dtype_paths.specs.declared.field.Field.{Field}
 use Rattle.dtype_paths.specs.lemmas.Cases.{by_bool}
-use Rattle.dtype_paths.specs.lemmas.CoverTests.{or-cases, or-left, or-right}
 use Rattle.dtype_paths.specs.lemmas.PathOrders.{any_tied, path_cmp_total, path_ties, same_tied}
 
 -- the items are the members, and so is a list's
@@ -32,11 +33,7 @@ from_list-Decides ps q =
     let d = is_member-Decides same_path-Decides ps q in
     (λ t. d.0 (sym e ∙ t), λ c. e ∙ d.1 c)
 
--- sets with the same members are equal
-pub same_items : (s t : PathSet) → ((q : List Field) → Contains (set.items s) q ↔ Contains (set.items t) q) → s ≡ t
-same_items s t same = set.same_set path_cmp_total same_tied s t (λ q.
-    same_from_decides _ _ (items-Decides s q) (λ c. (same q).1 ((items-Decides t q).0 c), λ e. (items-Decides t q).1 ((same q).0 e)))
-
+-- lists with the same members have equal sets
 pub same_lists : (ps qs : List (List Field)) → ((q : List Field) → Contains ps q ↔ Contains qs q) → set.from_list {R = path_cmp} ps ≡ set.from_list qs
 same_lists ps qs same = set.same_set path_cmp_total same_tied _ _ (λ q.
     same_from_decides _ _ (from_list-Decides ps q) (λ c. (same q).1 ((from_list-Decides qs q).0 c), λ e. (from_list-Decides qs q).1 ((same q).0 e)))
@@ -79,7 +76,7 @@ insert_has s p = contains_insert s p p ∙ ap (λ b. b || set.contains s p) ((sa
 
 -- what was in stays in
 pub insert_keeps : (s : PathSet) (p q : List Field) → set.contains s q ≡ true → set.contains (set.insert s p) q ≡ true
-insert_keeps s p q h = contains_insert s p q ∙ or-right (same_path q p) (set.contains s q) h
+insert_keeps s p q h = contains_insert s p q ∙ or_right (same_path q p) (set.contains s q) h
 
 -- of other paths nothing changes
 pub insert_other : (s : PathSet) (p q : List Field) → q ≢ p → set.contains (set.insert s p) q ≡ set.contains s q
@@ -103,18 +100,10 @@ or_swap true true c = refl
 or_swap true false c = refl
 or_swap false b c = refl
 
-or_assoc : (a b c : Bool) → ((a || b) || c) ≡ (a || (b || c))
-or_assoc true b c = refl
-or_assoc false b c = refl
-
 or_twice : (a b : Bool) → ((a || b) || b) ≡ (a || b)
 or_twice true b = refl
 or_twice false true = refl
 or_twice false false = refl
-
-or-false : (a : Bool) → (a || false) ≡ a
-or-false true = refl
-or-false false = refl
 
 pub insert_swap : (s : PathSet) (p q : List Field) → set.insert (set.insert s p) q ≡ set.insert (set.insert s q) p
 insert_swap s p q = same_by _ _ (λ r.
@@ -125,10 +114,10 @@ insert_swap s p q = same_by _ _ (λ r.
 -- ---- the union
 
 pub union_keeps : (s t : PathSet) (q : List Field) → set.contains s q ≡ true → set.contains (set.union s t) q ≡ true
-union_keeps s t q h = contains_union s t q ∙ or-left (set.contains s q) (set.contains t q) h
+union_keeps s t q h = contains_union s t q ∙ or_left (set.contains s q) (set.contains t q) h
 
 pub union_has : (s t : PathSet) (q : List Field) → set.contains t q ≡ true → set.contains (set.union s t) q ≡ true
-union_has s t q h = contains_union s t q ∙ or-right (set.contains s q) (set.contains t q) h
+union_has s t q h = contains_union s t q ∙ or_right (set.contains s q) (set.contains t q) h
 
 pub union_none : (s : PathSet) → set.union s (set.empty {R = path_cmp}) ≡ s
 union_none s = same_by _ _ (λ q. contains_union s _ q ∙ ap (λ b. set.contains s q || b) (contains_empty q) ∙ or-false (set.contains s q))
@@ -159,9 +148,6 @@ within_union s t = set.contains-is_subset path_cmp_total s (set.union s t) (λ q
 pub union_within : (s t : PathSet) → set.is_subset t (set.union s t) ≡ true
 union_within s t = set.contains-is_subset path_cmp_total t (set.union s t) (λ q h. union_has s t q h)
 
-pub within_has : (s t : PathSet) (q : List Field) → set.is_subset s t ≡ true → set.contains s q ≡ true → set.contains t q ≡ true
-within_has s t q w h = set.is_subset-contains path_cmp_total s t w q h
-
 -- ---- the set of a list
 
 pub of_push : (ps : List (List Field)) (p : List Field) → set.from_list {R = path_cmp} (ps ++ p ∷ []) ≡ set.insert (set.from_list ps) p
@@ -173,10 +159,10 @@ of_append ps qs = same_by _ _ (λ q.
       λ t. ⊎_elim
           (λ a. Contains-append_left ps qs q ((from_list-Decides ps q).0 a))
           (λ b. Contains-append_right ps qs q ((from_list-Decides qs q).0 b))
-          (or-cases (set.contains (set.from_list {R = path_cmp} ps) q) (set.contains (set.from_list {R = path_cmp} qs) q) (sym (contains_union _ _ q) ∙ t)),
+          (or_cases (set.contains (set.from_list {R = path_cmp} ps) q) (set.contains (set.from_list {R = path_cmp} qs) q) (sym (contains_union _ _ q) ∙ t)),
       λ c. contains_union _ _ q ∙ ⊎_elim
-          (λ a. or-left _ _ ((from_list-Decides ps q).1 a))
-          (λ b. or-right _ _ ((from_list-Decides qs q).1 b))
+          (λ a. or_left _ _ ((from_list-Decides ps q).1 a))
+          (λ b. or_right _ _ ((from_list-Decides qs q).1 b))
           (Contains-append_cases ps qs q c),
     ))
 

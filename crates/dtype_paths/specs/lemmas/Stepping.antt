@@ -1,7 +1,7 @@
 -- SPDX-License-Identifier: Apache-2.0
 -- SPDX-FileCopyrightText: Copyright the Vortex contributors
 
--- What follows of paths and of masks that are stepped into, for callers' proofs. `stepping` names it in one line:
+-- Lemmas on paths and on masks that are stepped into. For callers' proofs `stepping` names them in one line:
 --     #![tactic(auto, using(dtype_paths::specs::lemmas::Stepping::stepping))]
 use Rattle.std.proofs.Common.{◌≡◌, ◌↔◌, ◌∙◌, ℕ, List, [], ◌∷◌, ◌++◌, Bool, true, false, cond, Option, Some, None, IsTrue, refl, sym, ap, subst}
 use Rattle.std.proofs.lemmas.Option.{same_Some}
@@ -10,14 +10,14 @@ use Rattle.dtype_base.specs.declared.nullability.Nullability.{Nullability}
 use Rattle.dtype_types.specs.parts.Lookups.{first_named}
 use Rattle.dtype_types.specs.tree.Tree.{Tree, Fields, no_fields, field, pairs, list, fixed_size_list, struct}
 use Rattle.dtype_types.specs.tree.Valid.{Valid, ValidFields}
-use Rattle.dtype_paths.specs.Along.{along, along-At, At-along}
+use Rattle.dtype_paths.specs.Along.{along}
 use Rattle.dtype_paths.specs.At.{At, ExistsIn}
 use Rattle.dtype_paths.specs.Beginning.{Beginning}
 use Rattle.dtype_paths.specs.Equality.{same_field, same_path}
 use Rattle.dtype_paths.specs.EqualityLaws.{same_field-Decides, same_path-Decides}
 use Rattle.dtype_paths.specs.In.{In, first_part}
 use Rattle.dtype_paths.specs.lemmas.MaskSteps.{first_asked}
-use Rattle.dtype_paths.specs.lemmas.Walks.{along_behind, none_behind, none_further, one_stands}
+use Rattle.dtype_paths.specs.lemmas.Walks.{along-At, At-along, along_after, none_after, none_further, one_type_at}
 use Rattle.dtype_paths.specs.declared.field.Field.{Field}
 use Rattle.dtype_paths.specs.declared.field.Field.TheVariants.{Name, ElementType}
 use Rattle.dtype_paths.specs.declared.field_mask.FieldMask.{FieldMask}
@@ -27,15 +27,12 @@ split_at : (t u : Tree) (p q : List Field) → At t (p ++ q) u → (x : Tree) ×
 split_at t u [] q a = (t, refl, a)
 split_at t u (f ∷ p) q a = let r = split_at a.0 u p q a.2 in (r.0, (a.0, a.1, r.1), r.2)
 
-join_at : (t u x : Tree) (p q : List Field) → At t p x → At x q u → At t (p ++ q) u
-join_at t u x [] q a b = subst (λ z. At z q u) (sym a) b
-join_at t u x (f ∷ p) q a b = (a.0, a.1, join_at a.0 u x p q a.2 b)
-
-pub at_behind : (t u x : Tree) (p q : List Field) → At t p x → At x q u → At t (p ++ q) u
-at_behind t u x p q a b = join_at t u x p q a b
+pub at_append : (t u x : Tree) (p q : List Field) → At t p x → At x q u → At t (p ++ q) u
+at_append t u x [] q a b = subst (λ z. At z q u) (sym a) b
+at_append t u x (f ∷ p) q a b = (a.0, a.1, at_append a.0 u x p q a.2 b)
 
 pub at_joined : (t u : Tree) (p q : List Field) → At t (p ++ q) u ↔ ((x : Tree) × At t p x × At x q u)
-at_joined t u p q = (split_at t u p q, λ w. join_at t u w.0 p q w.1 w.2)
+at_joined t u p q = (split_at t u p q, λ w. at_append t u w.0 p q w.1 w.2)
 
 pub beginning_exists : (t u : Tree) (p q : List Field) → Beginning p q → At t q u → (x : Tree) × At t p x
 beginning_exists t u p q b a = let r = split_at t u p b.0 (subst (λ z. At t z u) b.1 a) in (r.0, r.1)
@@ -74,17 +71,17 @@ column_along t fs n m e = ap (λ x. along x (Name m ∷ [])) e ∙ one_name fs n
 
 -- ---- what `resolve` gives
 
-pub given_stands : (t u : Tree) (p : List Field) → Some u ≡ along t p → At t p u
-given_stands t u p e = along-At t p u (sym e)
+pub given_at : (t u : Tree) (p : List Field) → Some u ≡ along t p → At t p u
+given_at t u p e = along-At t p u (sym e)
 
 pub given_exists : (t u : Tree) (p : List Field) → Some u ≡ along t p → ExistsIn t p
-given_exists t u p e = record { found = u; at = given_stands t u p e }
+given_exists t u p e = record { found = u; at = given_at t u p e }
 
-pub none_stands : (t u : Tree) (p : List Field) → None ≡ along t p → At t p u → ⊥
-none_stands t u p e a = let s = At-along t p u a in cc
+pub none_at : (t u : Tree) (p : List Field) → None ≡ along t p → At t p u → ⊥
+none_at t u p e a = let s = At-along t p u a in cc
 
 pub none_exists : (t : Tree) (p : List Field) → None ≡ along t p → ExistsIn t p → ⊥
-none_exists t p e x = none_stands t x.found p e x.at
+none_exists t p e x = none_at t x.found p e x.at
 
 pub valid_named : (fs : Fields) (m : List ℕ) (x : Tree) → ValidFields fs → first_named (pairs fs) m ≡ Some x → Valid x
 valid_named no_fields m x h e = cc
@@ -104,11 +101,11 @@ valid_along (fixed_size_list t k n) (ElementType ∷ p) u h a =
 valid_along _ (_ ∷ p) u h a = cc
 
 pub given_valid : (t u : Tree) (p : List Field) → Some u ≡ along t p → Valid t → Valid u
-given_valid t u p e h = valid_along t p u h (given_stands t u p e)
+given_valid t u p e h = valid_along t p u h (given_at t u p e)
 
--- ---- what a mask asks for behind a step
+-- ---- what a mask selects after a step
 
--- behind a step other than the first of its path a mask asks for nothing
+-- after a step other than the first of its path a mask selects nothing
 other_first : (p q : List Field) (f g h : Field) → f ∷ p ≡ h ∷ q → Some g ≡ Some h → same_field g f ≡ false → ⊥
 other_first p q f g h same first other = let e : same_field g f ≡ true = (same_field-Decides g f).1 (cc) in cc
 
@@ -119,7 +116,7 @@ other_unasked (Prefix (h ∷ p)) f g q first other asked = other_first q (p ++ a
 other_unasked (Exact []) f g q first other asked = cc
 other_unasked (Exact (h ∷ p)) f g q first other asked = other_first q p f g h asked first other
 
--- nor does a mask whose path has no step, unless it asks for everything
+-- nor does a mask whose path has no step, unless it selects everything
 pub none_unasked : (m : FieldMask) (f : Field) (q : List Field) → None ≡ first_part m → (((r : List Field) → In m r) → ⊥) → In m (f ∷ q) → ⊥
 none_unasked All f q first some asked = some (λ r. tt)
 none_unasked (Prefix []) f q first some asked = some (λ r. (r, refl))
@@ -127,4 +124,4 @@ none_unasked (Prefix (h ∷ p)) f q first some asked = cc
 none_unasked (Exact []) f q first some asked = cc
 none_unasked (Exact (h ∷ p)) f q first some asked = cc
 
-pub ruleset stepping = (given_stands, given_exists, given_valid, none_stands, none_exists, column_along, at_behind, beginning_exists_in, front_exists_in, root_begins, root_leads, root_exists_in, tested_fields, tested_paths, one_stands, along_behind, none_behind, none_further, first_asked, other_unasked, none_unasked)
+pub ruleset stepping = (given_at, given_exists, given_valid, none_at, none_exists, column_along, at_append, beginning_exists_in, front_exists_in, root_begins, root_leads, root_exists_in, tested_fields, tested_paths, one_type_at, along_after, none_after, none_further, first_asked, other_unasked, none_unasked)

@@ -8,7 +8,8 @@ use Rattle.std.proofs.lemmas.Option.{same_Some}
 use Rattle.dtype_base.specs.declared.nullability.Nullability.{Nullability}
 use Rattle.dtype_types.specs.tree.Tree.{Tree, Fields, no_fields, field, list, fixed_size_list, struct}
 use Rattle.dtype_types.specs.tree.Valid.{Valid, ValidFields}
-use Rattle.dtype_paths.specs.Along.{along, along-At}
+use Rattle.dtype_paths.specs.Along.{along}
+use Rattle.dtype_paths.specs.lemmas.Walks.{along-At}
 use Rattle.dtype_paths.specs.At.{At, ExistsIn, step}
 use Rattle.dtype_paths.specs.Beginning.{Beginning}
 use Rattle.dtype_paths.specs.Overlaps.{Overlaps}

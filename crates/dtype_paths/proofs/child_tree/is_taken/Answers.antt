@@ -2,7 +2,7 @@
 -- SPDX-FileCopyrightText: Copyright the Vortex contributors
 
 use Rattle.std.proofs.Common.{◌∙◌, ap, sym}
-use Rattle.dtype_paths.specs.ChildTrees.{at_key}
+use Rattle.dtype_paths.specs.private.ChildTrees.{at_key}
 use Rattle.dtype_paths.specs.Equality.{same_field}
 use Rattle.dtype_paths.specs.EqualityLaws.{same_field_equiv}
 use Rattle.dtype_paths.specs.lemmas.Cases.{by_bool}

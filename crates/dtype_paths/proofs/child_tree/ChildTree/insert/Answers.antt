@@ -5,7 +5,7 @@ use Rattle.std.proofs.Common.{ℕ, ◌≡◌, ◌∙◌, cond, Some, ap, subst}
 use Rattle.std.specs.BTreeMap.{is_at}
 use Rattle.std.specs.Map.{lookup}
 use Rattle.std.specs.Ordering.{nat_cmp}
-use Rattle.dtype_paths.specs.ChildTrees.{at_key}
+use Rattle.dtype_paths.specs.private.ChildTrees.{at_key}
 use Rattle.dtype_paths.specs.Equality.{same_field}
 use Rattle.dtype_paths.proofs.ChildTrees.{led_more_by_key, led_more_by_step, more_by_key, more_by_step}
 use Rattle.dtype_paths.proofs.child_tree.ChildTree.insert.Goals as goal

@@ -5,7 +5,7 @@ use Rattle.std.proofs.Common.{ap, ◌∙◌}
 use Rattle.std.proofs.lemmas.Result.{on_ok_weaker}
 use Rattle.std.specs.FinSet as set
 use Rattle.dtype_paths.specs.lemmas.SetMembers.{inserted}
-use Rattle.dtype_paths.specs.Trie.{terminals}
+use Rattle.dtype_paths.specs.private.Trie.{terminals}
 use Rattle.dtype_paths.proofs.field_path_set.FieldPathSet.insert.Goals as goal
 
 pub returns-clause-ok : goal.returns-clause-ok

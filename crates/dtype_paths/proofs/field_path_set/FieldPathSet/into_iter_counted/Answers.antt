@@ -5,7 +5,7 @@ use Rattle.std.proofs.Common.{◌∙◌, ap}
 use Rattle.std.specs.FinSet as set
 use Rattle.dtype_paths.specs.Covering.{IsCountOf, least}
 use Rattle.dtype_paths.specs.PathOrder.{PathSet, path_cmp}
-use Rattle.dtype_paths.specs.Trie.{terminals}
+use Rattle.dtype_paths.specs.private.Trie.{terminals}
 use Rattle.dtype_paths.proofs.BegunBounds.{begun_some, begun_none, begun_at_most}
 use Rattle.dtype_paths.proofs.SetBridges.{IsBegun, begun_is, cover_is, none_listed}
 use Rattle.std.proofs.Common.{subst}

@@ -4,7 +4,7 @@
 use Rattle.std.proofs.Common.{◌≡◌, ◌∷◌, Some, ap, arith, length, refl, suc}
 use Rattle.std.specs.List.{slice_get}
 use Rattle.std.proofs.lemmas.Option.{slice_get_read}
-use Rattle.dtype_paths.proofs.NodeUpdates.{behind-led, behind-same, root-same}
+use Rattle.dtype_paths.proofs.NodeUpdates.{after-led, after-same, root-same}
 use Rattle.dtype_paths.proofs.nodes.Nodes.add_child.Goals as goal
 
 at : (c : goal.After-self-1) → c.args.here ≡ suc c.in-Some.in_rest
@@ -18,11 +18,11 @@ there c =
 
 pub returns-in-Some-clause-ok : goal.returns-in-Some-clause-ok
 returns-in-Some-clause-ok c =
-    behind-led c.add_child.result c.args.self.now c.self.inside.rest.items c.self.inside.root c.self.view_is c.index_mut.result.now c.add_child.new.self c.args.here c.in-Some.in_rest c.args.step c.args.node_index (at c) (there c) c.add_child.ensures.ok
+    after-led c.add_child.result c.args.self.now c.self.inside.rest.items c.self.inside.root c.self.view_is c.index_mut.result.now c.add_child.new.self c.args.here c.in-Some.in_rest c.args.step c.args.node_index (at c) (there c) c.add_child.ensures.ok
 
 pub returns-in-Some-clause-err : goal.returns-in-Some-clause-err
 returns-in-Some-clause-err c =
-    behind-same c.add_child.result c.args.self.now c.self.inside.rest.items c.self.inside.root c.self.view_is c.index_mut.result.now c.add_child.new.self c.in-Some.in_rest (there c) c.add_child.ensures.err
+    after-same c.add_child.result c.args.self.now c.self.inside.rest.items c.self.inside.root c.self.view_is c.index_mut.result.now c.add_child.new.self c.in-Some.in_rest (there c) c.add_child.ensures.err
 
 pub returns-in-None-clause-err : goal.returns-in-None-clause-err
 returns-in-None-clause-err c =

@@ -2,15 +2,15 @@
 -- SPDX-FileCopyrightText: Copyright the Vortex contributors
 
 use Rattle.std.proofs.Common.{◌∙◌, OnErr, OnOk}
-use Rattle.dtype_paths.specs.Trie.{HasBranch, IsExtended}
-use Rattle.dtype_paths.proofs.KeptNodes.{joined, kept-behind}
+use Rattle.dtype_paths.specs.private.Trie.{HasBranch, IsExtended}
+use Rattle.dtype_paths.proofs.KeptNodes.{joined, kept-after}
 use Rattle.dtype_paths.proofs.NodeIndices.{read-step}
 use Rattle.dtype_paths.proofs.nodes.Nodes.append_branch.Goals as goal
 
 pub add_child-requires-clause-none : goal.add_child-requires-clause-none
 add_child-requires-clause-none c =
     let old = c.args.self.now in let b = c.in_ok-push_chain.ensures.appended in
-    let kept : IsExtended old c.push_chain.new.self = rw b.1 (kept-behind old b.0) in
+    let kept : IsExtended old c.push_chain.new.self = rw b.1 (kept-after old b.0) in
     let part = read-step c.args.path c.args.at c.index-parts-at.result c.in_ok-step.step c.requires.step (rw c.parts.ensures at c.index-parts-at.is) c.in_ok-step.ensures in
     kept.steps c.args.here c.in_ok-step.step c.requires.node_index ∙ c.requires.none c.in_ok-step.step part
 

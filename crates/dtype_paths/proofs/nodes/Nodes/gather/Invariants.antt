@@ -2,7 +2,7 @@
 -- SPDX-FileCopyrightText: Copyright the Vortex contributors
 
 use Rattle.std.proofs.Common.{◌≡◌, ◌+◌, map, take}
-use Rattle.dtype_paths.specs.Trie.{terminals}
+use Rattle.dtype_paths.specs.private.Trie.{terminals}
 use Rattle.dtype_paths.proofs.nodes.Nodes.gather.Given as goal
 
 abbrev pub invariant-loop-node : goal.invariant-loop-node

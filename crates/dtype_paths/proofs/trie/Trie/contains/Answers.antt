@@ -5,7 +5,7 @@ use Rattle.std.proofs.Common.{◌≡◌, ◌∙◌, ◌==◌, ◌↔◌, Bool, I
 use Rattle.std.specs.List.{Contains}
 use Rattle.std.proofs.lemmas.Bool.Decides.{Decides-eqb}
 use Rattle.dtype_paths.specs.lemmas.Cases.{by_bool}
-use Rattle.dtype_paths.specs.Trie.{terminal_at, terminals, IsTrie}
+use Rattle.dtype_paths.specs.private.Trie.{terminal_at, terminals, IsTrie}
 use Rattle.dtype_paths.proofs.NodeIndices.{contains-walk}
 use Rattle.dtype_paths.proofs.trie.Trie.contains.Goals as goal
 

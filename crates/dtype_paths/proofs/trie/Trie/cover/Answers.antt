@@ -4,8 +4,8 @@
 use Rattle.std.proofs.Common.{[], ◌∷◌, ◌++◌, ◌≡◌, ◌∙◌, arith, sym, refl, subst}
 use Rattle.std.proofs.lemmas.List.{nil_from_length}
 use Rattle.std.proofs.lemmas.Option.{MatchOption-at_none}
-use Rattle.dtype_paths.specs.Children.{nodes_by_step}
-use Rattle.dtype_paths.specs.Trie.{IsTrie}
+use Rattle.dtype_paths.specs.private.Children.{nodes_by_step}
+use Rattle.dtype_paths.specs.private.Trie.{IsTrie}
 use Rattle.dtype_paths.proofs.Visiting.{Visits, visits-start, visits-counts, visits-within, visited-terminal, visited-children, visited-count, visited-least, visited-once}
 use Rattle.dtype_paths.proofs.trie.Trie.cover.Goals as goal
 

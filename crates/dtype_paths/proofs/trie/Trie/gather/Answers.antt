@@ -4,7 +4,7 @@
 use Rattle.std.proofs.lemmas.Map.Made.{AllPairs-from_IsDistinct}
 use Rattle.std.proofs.lemmas.Result.{MatchResult-weaker}
 use Rattle.dtype_paths.specs.EqualityLaws.{same_path-Decides}
-use Rattle.dtype_paths.specs.Trie.{terminals}
+use Rattle.dtype_paths.specs.private.Trie.{terminals}
 use Rattle.dtype_paths.proofs.NodeIndices.{trie-distinct}
 use Rattle.dtype_paths.proofs.trie.Trie.gather.Goals as goal
 

@@ -4,7 +4,7 @@
 use Rattle.std.proofs.Common.{◌≡◌, ◌∙◌, ◌<◌, Some, None, ap, arith, length, subst, sym, take}
 use Rattle.std.proofs.lemmas.Result.{on_ok_weaker}
 use Rattle.std.specs.List.{slice_get}
-use Rattle.dtype_paths.specs.Trie.{child_at, terminals, walk, IsAlike}
+use Rattle.dtype_paths.specs.private.Trie.{child_at, terminals, walk, IsAlike}
 use Rattle.dtype_paths.specs.declared.field.Field.{Field}
 use Rattle.dtype_paths.proofs.KeptNodes.{cut-alike, grown_from_ok, kept_from_err, on_err}
 use Rattle.dtype_paths.proofs.NodeGrowth.{terminals-finished, grown-gains, nodes-finished, nodes-grown, nodes-same, whole-walk}

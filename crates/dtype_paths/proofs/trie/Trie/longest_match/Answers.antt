@@ -4,7 +4,7 @@
 use Rattle.std.proofs.Common.{[], take, arith, length, refl, sym, Some, None, ◌≡◌, ◌∙◌, ◌+◌}
 use Rattle.std.proofs.lemmas.Option.{same_Some, slice_get_past, slice_get_read}
 use Rattle.std.specs.List.{slice_get}
-use Rattle.dtype_paths.specs.Trie.{child_at, walk}
+use Rattle.dtype_paths.specs.private.Trie.{child_at, walk}
 use Rattle.dtype_paths.proofs.NodeGrowth.{take-step}
 use Rattle.dtype_paths.proofs.TrieGrowth.{walk-snoc}
 use Rattle.dtype_paths.proofs.trie.Trie.longest_match.Goals as goal

@@ -2,7 +2,7 @@
 -- SPDX-FileCopyrightText: Copyright the Vortex contributors
 
 use Rattle.std.proofs.Common.{◌∙◌, ap}
-use Rattle.dtype_paths.specs.Trie.{terminals}
+use Rattle.dtype_paths.specs.private.Trie.{terminals}
 use Rattle.dtype_paths.proofs.NodeGrowth.{nodes-same}
 use Rattle.dtype_paths.proofs.NodeIndices.{terminals-same}
 use Rattle.dtype_paths.proofs.trie.Trie.try_clone.Goals as goal

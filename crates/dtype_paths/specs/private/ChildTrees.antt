@@ -1,8 +1,7 @@
 -- SPDX-License-Identifier: Apache-2.0
 -- SPDX-FileCopyrightText: Copyright the Vortex contributors
 
--- Children in two maps: one step of each key at its key, and the other steps in their own order. Only private
--- contracts cite it.
+-- Children in two maps: one step of each key at its key, and the other steps in their own order.
 use Rattle.std.specs.Prelude.{◌≡◌, ℕ, List, ◌++◌, false, Option, Some, None, option_and_then, if◌then◌else◌}
 use Rattle.std.specs.BTreeMap.{is_at}
 use Rattle.std.specs.List.Sorted.{IsStrictlySortedBy}
@@ -10,7 +9,7 @@ use Rattle.std.specs.Map.{keys_of, lookup, values_of}
 use Rattle.std.specs.Ordering.{nat_cmp}
 use Rattle.dtype_paths.specs.Equality.{same_field}
 use Rattle.dtype_paths.specs.PathOrder.{field_cmp}
-use Rattle.dtype_paths.specs.StepKeys.{step_key}
+use Rattle.dtype_paths.specs.private.StepKeys.{step_key}
 use Rattle.dtype_paths.specs.declared.field.Field.{Field}
 
 -- the steps, each with the index of the node that it leads to

@@ -2,18 +2,16 @@
 -- SPDX-FileCopyrightText: Copyright the Vortex contributors
 
 -- What is proved of the list of a trie's paths, said of their set.
-use Rattle.std.proofs.Common.{◌≡◌, ◌↔◌, ◌⊎◌, ℕ, List, [], ◌∷◌, IsTrue, true, false, refl, sym, ap, ◌∙◌, inl, inr, ⊎_elim}
+use Rattle.std.proofs.Common.{◌≡◌, ◌↔◌, ◌⊎◌, ℕ, List, IsTrue, inl, inr, ⊎_elim}
 use Rattle.std.proofs.lemmas.Bool.Decides.{same_from_decides}
 use Rattle.std.specs.FinSet as set
 use Rattle.std.specs.List.{Contains}
-use Rattle.dtype_paths.specs.Beginning.{Beginning}
 use Rattle.dtype_paths.specs.Covering.{IsCountOf, least}
-use Rattle.dtype_paths.specs.private.PathLists.{Begun, Least}
-use Rattle.dtype_paths.specs.lemmas.SetMembers.{contains_empty, from_list-Decides, insert_has, items_of_list}
+use Rattle.dtype_paths.specs.private.PathLists.{Begun, IsBegun, Least}
+use Rattle.dtype_paths.specs.lemmas.SetMembers.{from_list-Decides, items_of_list}
 use Rattle.dtype_paths.specs.lemmas.SetCovers.{least-Decides}
 use Rattle.dtype_paths.specs.PathOrder.{PathSet, path_cmp}
-use Rattle.dtype_paths.specs.lemmas.PathOrders.{path_cmp_total}
-use Rattle.dtype_paths.specs.lemmas.PathOrders.{same_tied}
+use Rattle.dtype_paths.specs.lemmas.PathOrders.{path_cmp_total, same_tied}
 use Rattle.dtype_paths.specs.declared.field.Field.{Field}
 use Rattle.dtype_paths.specs.lemmas.PathLists.{least_of_members}
 
@@ -31,10 +29,6 @@ cover_is cover ps given = set.same_set path_cmp_total same_tied _ _ (λ q.
       λ c. (least_listed ps q).1 ((given q).0 c),
     ))
 
--- q is the root, or begins one of the least paths
-abbrev pub IsBegun : PathSet → List Field → Type 0
-IsBegun s q = (q ≡ []) ⊎ ((p : List Field) × IsTrue (set.contains (least s) p) × Beginning q p)
-
 -- what begins them is counted
 pub begun_is : (ps : List (List Field)) (n : ℕ) → IsCountOf (Begun ps) n → IsCountOf (IsBegun (set.from_list ps)) n
 begun_is ps n c = record {
@@ -46,10 +40,3 @@ begun_is ps n c = record {
   );
   count = c.count;
 }
-
--- a list whose set is empty
-pub none_listed : (ps : List (List Field)) → set.from_list {R = path_cmp} ps ≡ set.empty → ps ≡ []
-none_listed [] e = refl
-none_listed (p ∷ ps) e =
-    let t : true ≡ false = sym (insert_has (set.from_list ps) p) ∙ ap (λ s. set.contains s p) e ∙ contains_empty p in
-    absurd (cc)

@@ -97,7 +97,7 @@ impl FieldPathSet {
         ensures err { OnErr result (self.new ≡ self.old) }
         ensures refused { IsOkUnless result OutOfMemory }
     {
-        self.trie.insert(self.alloc, path)
+        Ok(self.trie.insert(self.alloc, path)?)
     }
 
     /// Inserts the paths that an iterator yields, in their order. After an error the set has those that were yielded

@@ -82,7 +82,8 @@ impl Nodes {
         self.at(node_index).terminal().is_some()
     }
 
-    // The node of this index.
+    // The node of this index. Calls that change a node repeat the match: a `&mut Node` out of either of the two fields
+    // would need a definition of its own of what it borrows (`Lends`).
     fn at(&self, node_index: usize) -> &Node
         requires { node_index < length self.now }
         ensures { slice_get self.now node_index ≡ Some result.now }

@@ -5,7 +5,10 @@ use Rattle.std.proofs.Common.{[], ◌∷◌, ◌++◌, ◌≡◌, ◌∙◌, ari
 use Rattle.std.proofs.lemmas.List.{nil_from_length}
 use Rattle.std.proofs.lemmas.Option.{MatchOption-at_none}
 use Rattle.dtype_paths.specs.private.Children.{nodes_by_step}
-use Rattle.dtype_paths.specs.private.Trie.{IsTrie}
+use Rattle.dtype_paths.specs.private.Trie.{terminals, IsTrie}
+use Rattle.dtype_paths.specs.lemmas.Counts.{none_listed}
+use Rattle.dtype_paths.proofs.BegunBounds.{begun_some, begun_none, begun_at_most}
+use Rattle.dtype_paths.proofs.SetBridges.{begun_is, cover_is}
 use Rattle.dtype_paths.proofs.Visiting.{Visits, visits-start, visits-counts, visits-within, visited-terminal, visited-children, visited-count, visited-least, visited-once}
 use Rattle.dtype_paths.proofs.trie.Trie.cover.Goals as goal
 
@@ -62,16 +65,40 @@ pub returns-clause-least : goal.returns-clause-least
 returns-clause-least c =
     let h = MatchOption-at_none _ _ c.in_default.is c.pop.ensures.cases in let z : c.loop-node_index.node_indices.len ≡ 0 = h.0 in
     let nil : c.loop-node_index.node_indices.items ≡ [] = nil_from_length c.loop-node_index.node_indices.items (omega arith) in
-    let l = c.loop-node_index in visited-least c.args.self l.nodes l.found.items l.visits (rw nil at l.invariant)
+    let l = c.loop-node_index in let o : Visits c.args.self l.nodes l.found.items l.visits [] = rw nil at l.invariant in
+    cover_is l.found.items (terminals c.args.self) (visited-least c.args.self l.nodes l.found.items l.visits o)
 
 pub returns-clause-once : goal.returns-clause-once
 returns-clause-once c =
     let h = MatchOption-at_none _ _ c.in_default.is c.pop.ensures.cases in let z : c.loop-node_index.node_indices.len ≡ 0 = h.0 in
     let nil : c.loop-node_index.node_indices.items ≡ [] = nil_from_length c.loop-node_index.node_indices.items (omega arith) in
-    let l = c.loop-node_index in visited-once c.args.self l.nodes l.found.items l.visits (rw nil at l.invariant)
+    let l = c.loop-node_index in let o : Visits c.args.self l.nodes l.found.items l.visits [] = rw nil at l.invariant in
+    visited-once c.args.self l.nodes l.found.items l.visits o
 
 pub returns-clause-visits : goal.returns-clause-visits
 returns-clause-visits c =
     let h = MatchOption-at_none _ _ c.in_default.is c.pop.ensures.cases in let z : c.loop-node_index.node_indices.len ≡ 0 = h.0 in
     let nil : c.loop-node_index.node_indices.items ≡ [] = nil_from_length c.loop-node_index.node_indices.items (omega arith) in
-    let l = c.loop-node_index in visited-count c.args.self l.nodes l.found.items l.visits (rw nil at l.invariant)
+    let l = c.loop-node_index in let o : Visits c.args.self l.nodes l.found.items l.visits [] = rw nil at l.invariant in
+    begun_is (terminals c.args.self) l.visits (visited-count c.args.self l.nodes l.found.items l.visits o)
+
+pub returns-clause-some : goal.returns-clause-some
+returns-clause-some c =
+    let h = MatchOption-at_none _ _ c.in_default.is c.pop.ensures.cases in let z : c.loop-node_index.node_indices.len ≡ 0 = h.0 in
+    let nil : c.loop-node_index.node_indices.items ≡ [] = nil_from_length c.loop-node_index.node_indices.items (omega arith) in
+    let l = c.loop-node_index in let o : Visits c.args.self l.nodes l.found.items l.visits [] = rw nil at l.invariant in
+    begun_some (terminals c.args.self) l.visits (visited-count c.args.self l.nodes l.found.items l.visits o)
+
+pub returns-clause-root_alone : goal.returns-clause-root_alone
+returns-clause-root_alone c =
+    let h = MatchOption-at_none _ _ c.in_default.is c.pop.ensures.cases in let z : c.loop-node_index.node_indices.len ≡ 0 = h.0 in
+    let nil : c.loop-node_index.node_indices.items ≡ [] = nil_from_length c.loop-node_index.node_indices.items (omega arith) in
+    let l = c.loop-node_index in let o : Visits c.args.self l.nodes l.found.items l.visits [] = rw nil at l.invariant in
+    λ none. begun_none (terminals c.args.self) l.visits (none_listed (terminals c.args.self) none) (visited-count c.args.self l.nodes l.found.items l.visits o)
+
+pub returns-clause-at_most : goal.returns-clause-at_most
+returns-clause-at_most c =
+    let h = MatchOption-at_none _ _ c.in_default.is c.pop.ensures.cases in let z : c.loop-node_index.node_indices.len ≡ 0 = h.0 in
+    let nil : c.loop-node_index.node_indices.items ≡ [] = nil_from_length c.loop-node_index.node_indices.items (omega arith) in
+    let l = c.loop-node_index in let o : Visits c.args.self l.nodes l.found.items l.visits [] = rw nil at l.invariant in
+    begun_at_most (terminals c.args.self) l.found.items l.visits (visited-count c.args.self l.nodes l.found.items l.visits o) (λ p m. (visited-least c.args.self l.nodes l.found.items l.visits o p).1 m)

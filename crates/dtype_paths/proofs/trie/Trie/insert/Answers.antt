@@ -5,6 +5,7 @@ use Rattle.std.proofs.Common.{◌≡◌, ◌∙◌, ◌<◌, Some, None, ap, ari
 use Rattle.std.proofs.lemmas.Result.{on_ok_weaker}
 use Rattle.std.specs.List.{slice_get}
 use Rattle.dtype_paths.specs.private.Trie.{child_at, terminals, walk, IsAlike}
+use Rattle.dtype_paths.specs.lemmas.SetMembers.{inserted}
 use Rattle.dtype_paths.specs.declared.field.Field.{Field}
 use Rattle.dtype_paths.proofs.KeptNodes.{cut-alike, grown_from_ok, kept_from_err, on_err}
 use Rattle.dtype_paths.proofs.NodeGrowth.{terminals-finished, grown-gains, nodes-finished, nodes-grown, nodes-same, whole-walk}
@@ -25,7 +26,7 @@ returns-then-at-parts-clause-ok c =
     let same : old ≡ c.args.self.now = c.self.view_is in
     let w : walk (child_at old) 0 (take at path) ≡ Some here = rw (← same, c.parts.ensures) at c.longest_match-here.ensures.walked in
     let all : at ≡ length path = omega (arith, ap length c.parts-2.ensures) in
-    rw (← same) (gains old c.set_terminal.new.self here path (terminals-finished old c.set_terminal.new.self path here c.self.invariant (whole-walk old path here at all w) c.set_terminal.ensures.long c.set_terminal.ensures.steps c.set_terminal.ensures.terminals))
+    rw (← same) (inserted (terminals old) (terminals c.set_terminal.new.self) path (gains old c.set_terminal.new.self here path (terminals-finished old c.set_terminal.new.self path here c.self.invariant (whole-walk old path here at all w) c.set_terminal.ensures.long c.set_terminal.ensures.steps c.set_terminal.ensures.terminals)))
 
 -- what is cut off leaves the nodes as they were
 cut : (c : goal.After-truncate) → IsAlike c.self.inside.nodes c.truncate.new.self
@@ -57,4 +58,4 @@ returns-else-is_err-clause-ok c =
     let w : walk (child_at old) 0 (take at path) ≡ Some here = rw (← same, c.parts.ensures) at c.longest_match-here.ensures.walked in
     let lt : at < length path = omega (arith, ap length c.parts.ensures, ap length c.parts-2.ensures, c.longest_match-here.ensures.steps) in
     let stop : (f : Field) → slice_get path at ≡ Some f → child_at old here f ≡ None = rw (← same, c.parts.ensures) at c.longest_match-here.ensures.stopped in
-    rw (← same) (on_ok_weaker c.append_branch-grown.result (λ g. grown-gains old c.append_branch-grown.new.self path here at c.self.invariant w lt stop g) c.append_branch-grown.ensures.ok)
+    rw (← same) (on_ok_weaker c.append_branch-grown.result (λ g. inserted (terminals old) (terminals c.append_branch-grown.new.self) path (grown-gains old c.append_branch-grown.new.self path here at c.self.invariant w lt stop g)) c.append_branch-grown.ensures.ok)

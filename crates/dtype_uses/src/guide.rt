@@ -8,7 +8,7 @@ use std::vec;
 use vortex_dtype::{
     DType, DTypeProto, DTypeSession, Field, FieldDType, FieldMask, FieldName, FieldNames,
     FieldPath, FieldPathSet, Nullability, PType, StructFields, VortexError, VortexResult,
-    field_path, pb,
+    field_path, pb, project_paths,
 };
 
 /// The text of a customer's name's type, `utf8?`, in a table pruned to that column.
@@ -97,6 +97,12 @@ pub fn columns_to_open(
     asked: Vec<FieldPath>,
 ) -> VortexResult<vec::IntoIter<FieldPath>> {
     FieldPathSet::from_iter(alloc, asked)?.into_iter()
+}
+
+/// The table's type, pruned to what a query asks for: nested columns too.
+pub fn prune(alloc: Global, table: &DType, asked: Vec<FieldPath>) -> VortexResult<Option<DType>> {
+    let columns = FieldPathSet::from_iter(alloc, asked)?;
+    project_paths(alloc, table, &columns)
 }
 
 /// What a mask asks below a column, or `None` where it asks for nothing there.

@@ -29,14 +29,14 @@ def name_cmp(r, a, b):
 
 
 def name_eq(r, a, b):
-    """Equal names are equal to one another's texts, and hash alike."""
+    """Equal names are equal to one another's texts, and have the same hash."""
     for command in ("name_eq", "name_eq_str"):
         ask(r, f"{command} {c.name(a)} {c.name(b)}", "nameeq", hexed(a), hexed(b))
     ask(r, f"name_hash_eq {c.name(a)} {c.name(b)}", "hasheq", fields_of([a]), fields_of([b]))
 
 
 def fields_of(names):
-    """Names are hashed by the original within structs of fields that are alike."""
+    """The original hashes names within structs whose fields are otherwise the same."""
     return type_words(struct([(text, null()) for text in names]))
 
 
@@ -148,7 +148,7 @@ def precision_scale(r, native, p, s):
 
 
 def precision_scale_from(r, native, p, s):
-    """The original makes the decimal first, and refuses what isn't one by the decimal's own rule."""
+    """The original makes the decimal first, and returns the decimal's own error where there is none."""
 
     def answer():
         r.original.ask("dec", p, s)
@@ -183,7 +183,7 @@ def native_decimal(r, native):
 def ptype(r, name):
     """All that a primitive name tells by itself."""
 
-    def told(key):
+    def answered(key):
         def answer():
             found = dict(word.split("=") for word in r.original.ask("ptype", name).split(" "))
             if key != "kinds":
@@ -203,7 +203,7 @@ def ptype(r, name):
         "ptype_kinds": "kinds",
         "pb_number": "number",
     }.items():
-        r.row(f"{command} {name}", told(key))
+        r.row(f"{command} {name}", answered(key))
 
 
 def ptype_cmp(r, a, b):

@@ -99,7 +99,7 @@ def rewritten(o, plugin, metadata, storage):
 
 
 def known(session):
-    """The plugins of a session, by their ids: the last one registered under an id stands."""
+    """The plugins of a session, by their ids: the last one registered under an id counts."""
     plugins = [word for word in session.split(",") if word not in ("strict", "unknown")]
     return {("x.tag" if plugin == "kept" else plugin): plugin for plugin in plugins}
 
@@ -132,7 +132,7 @@ def allows_unknown(r, session, shown=None):
 
 def read_with(r, session, m, shown=None):
     """The same as `read` under plugins that the driver doesn't have: the storages first, then each extension by its
-    plugin. Messages of these rows have no other fault."""
+    plugin. Messages of these tests have no other fault."""
 
     def answer():
         def kept(m):

@@ -4,7 +4,7 @@
 """Rows on structs, unions, maps and extensions: each function makes the row of one command."""
 from . import console as c
 from . import departures as d
-from .calls_types import AS_MANY, NONNULLABLE, behind
+from .calls_types import AS_MANY, NONNULLABLE, after_blanks
 from .original import Refused
 from .trees import bit, hexed, names_words, type_words, types_words
 
@@ -110,7 +110,7 @@ def struct_new(r, names, types, command="struct_new"):
     """Also `struct_from_fields`, and `struct_from_iter`, whose pairs the original makes of the two lists too."""
     asked = "sffrom" if command == "struct_from_fields" else "sfnew"
     r.row(
-        f"{command} {c.names(names)}{behind(types)}",
+        f"{command} {c.names(names)}{after_blanks(types)}",
         lambda: c.dtype(r.original.type(asked, names_words(names), types_words(types))),
         AS_MANY,
     )
@@ -173,7 +173,7 @@ def child_index_to_tag(r, index, t):
 
 def union_new(r, names, types):
     r.row(
-        f"union_new {c.names(names)}{behind(types)}",
+        f"union_new {c.names(names)}{after_blanks(types)}",
         lambda: c.dtype(r.original.type("uvnew", names_words(names), types_words(types))),
     )
 
@@ -181,7 +181,7 @@ def union_new(r, names, types):
 def union_try_new(r, names, types, tags):
     words = " ".join([str(len(tags))] + [str(tag) for tag in tags])
     r.row(
-        f"union_try_new {c.names(names)} {c.numbers(tags)}{behind(types)}",
+        f"union_try_new {c.names(names)} {c.numbers(tags)}{after_blanks(types)}",
         lambda: c.dtype(r.original.type("uvtry", names_words(names), types_words(types), words)),
     )
 
@@ -257,7 +257,7 @@ def metadata_text(r, t):
 
 
 def tag_of(o, metadata, storage):
-    """The words of the typed extension; refused where the plugin doesn't read the metadata."""
+    """The words of the typed extension; an error where the plugin doesn't read the metadata."""
     return o.type("tagnew", hexed(metadata), type_words(storage))
 
 

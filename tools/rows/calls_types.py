@@ -18,16 +18,16 @@ PARTS = {
 }
 
 
-def is_printed_alike(t):
+def has_same_form(t):
     """Whether the library prints a type as the console does: no extension, and no name that needs quotes."""
     names = [child[0] for child in t[2]] if t[0] in ("struct", "union") else []
-    return t[0] != "ext" and all(c.is_bare(name) for name in names) and all(is_printed_alike(part) for part in d.parts(t))
+    return t[0] != "ext" and all(c.is_bare(name) for name in names) and all(has_same_form(part) for part in d.parts(t))
 
 
 def type_text(r, t):
     def answer():
         text = r.original.text("text", type_words(t))
-        assert not is_printed_alike(t) or text == c.dtype(t), text
+        assert not has_same_form(t) or text == c.dtype(t), text
         return c.text(text)
 
     r.row(f"text {c.dtype(t)}", answer)
@@ -184,7 +184,7 @@ def map_of(r, n, is_sorted, key, value):
     make(r, line, ("map", n, is_sorted, key, value))
 
 
-def behind(types):
+def after_blanks(types):
     return "".join(" " + c.dtype(t) for t in types)
 
 
@@ -196,7 +196,7 @@ def struct(r, n, names, types):
         made = r.original.type("sfnew", names_words(names), types_words(types))
         return c.dtype(r.original.type("withnull", bit(n), type_words(made)))
 
-    r.row(f"struct {c.nullability(n)} {c.names(names)}{behind(types)}", answer, AS_MANY)
+    r.row(f"struct {c.nullability(n)} {c.names(names)}{after_blanks(types)}", answer, AS_MANY)
 
 
 # Comparisons

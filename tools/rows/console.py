@@ -21,7 +21,7 @@ def quoted(text):
 
 
 def quoted_bytes(data):
-    """Bytes in quotes: printable ASCII as it stands, all else in hexadecimal."""
+    """Bytes in quotes: printable ASCII as it is, all else in hexadecimal."""
 
     def one(byte):
         if byte in b'\\"':

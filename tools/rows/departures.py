@@ -38,7 +38,7 @@ def is_subset(o, a, b):
 
 def element_size(o, t):
     """The original multiplies unchecked, and panics where a sum is too large. Here a variable part that the size
-    needs gives none, at size 0 too; else a width of the whole or of a part beyond `usize` is refused (19). Widths of
+    needs gives none, at size 0 too; else a width of the whole or of a part beyond `usize` is the error 19. Widths of
     types without parts are the original's, and so is each answer where nothing, no sum before a variable field among
     it, is too wide."""
     widest = 0
@@ -95,7 +95,7 @@ def starts_with_field(o, path, step):
 
 
 def project(o, names, t):
-    """The original names what it doesn't find; here the refusal tells the place in the projection (16)."""
+    """The original names what it doesn't find; here the error 16 has the position in the projection."""
     try:
         return o.type("project", trees.names_words(names), type_words(t))
     except Refused as refused:
@@ -152,8 +152,8 @@ def children(m):
 
 def check_message(o, session, m):
     """The original takes an unknown primitive number as `u8`, and panics at a struct of more names than types, or
-    fewer. Here they are refused, 25 and 32. Faults are met in the order of reading: each part before what holds it,
-    and a part that is absent before the parts behind it; all others are those that the original meets."""
+    fewer. Here they are errors, 25 and 32. Faults are met in the order of reading: each part before what holds it,
+    and a part that is absent before the parts after it; all others are those that the original meets."""
     if not has_departing_fault(m):
         return
     if m[0] == "prim":
@@ -174,7 +174,7 @@ def read(o, session, m):
 
 def same_insides(o, call, a, b):
     """`==` and the hash of the insides of two types of one kind: the library's users compare them by themselves, the
-    driver asks it of the two types made non-nullable (of extensions as they stand)."""
+    driver asks it of the two types made non-nullable (of extensions as they are)."""
     if a[0] != "ext":
         a, b = (o.type("withnull", 0, type_words(t)) for t in (a, b))
     return o.bool(call, type_words(a), type_words(b))

@@ -1,9 +1,9 @@
 # SPDX-License-Identifier: Apache-2.0
 # SPDX-FileCopyrightText: Copyright the Vortex contributors
 
-"""The running original, behind its driver, and the library's numbers for its refusals.
+"""The running original, asked by its driver, and the library's numbers for its errors.
 
-The original refuses with free texts. The library has one kind for each, with a number and a text of its own; the
+The original's errors have free texts. The library has one kind for each, with a number and a text of its own; the
 table below says which of the original's texts is which kind. The values in a text are those that the original
 named."""
 import re
@@ -94,7 +94,7 @@ REFUSALS = [
 
 
 class Refused(Exception):
-    """A refusal, by its number, with the values that its text shows."""
+    """An error, by its number, with the values that its text shows."""
 
     def __init__(self, number, **values):
         super().__init__(number)
@@ -106,15 +106,15 @@ class Refused(Exception):
 
 
 class Panicked(Exception):
-    """The original panicked with this text: a rule of departures.py has to say what stands here instead."""
+    """The original panicked with this text: a rule of departures.py has to say what the library answers."""
 
 
-def refusal_of(text):
+def error_of(text):
     for number, pattern in REFUSALS:
         found = re.fullmatch(pattern, text, re.S)
         if found:
             return Refused(number, **found.groupdict())
-    raise AssertionError(f"a refusal that isn't known: {text}")
+    raise AssertionError(f"an error that isn't known: {text}")
 
 
 class Original:
@@ -127,7 +127,7 @@ class Original:
         self.answers = {}
 
     def line(self, command):
-        """The driver's answer to a command, as it stands."""
+        """The driver's answer to a command, as it is."""
         if command not in self.answers:
             assert "\n" not in command and not command.startswith("set."), command
             self.process.stdin.write(command + "\n")
@@ -138,11 +138,11 @@ class Original:
         return self.answers[command]
 
     def ask(self, *words):
-        """The answer without a refusal; else it is raised."""
+        """The answer; an error is raised."""
         command = " ".join(str(word) for word in words)
         answer = self.line(command)
         if answer.startswith("err "):
-            raise refusal_of(unescaped(answer[4:]))
+            raise error_of(unescaped(answer[4:]))
         if answer.startswith("panic "):
             raise Panicked(unescaped(answer[6:]))
         assert not answer.startswith("bad "), f"{command[:300]}: {answer}"
@@ -159,12 +159,12 @@ class Original:
         return answer == "true"
 
     def word(self, *words):
-        """The one word behind ok, or alone."""
+        """The one word after ok, or alone."""
         answer = self.ask(*words)
         return answer[3:] if answer.startswith("ok ") else answer
 
     def read(self, *words):
-        """The words of the answer, behind ok."""
+        """The words of the answer, after ok."""
         return Words(self.word(*words))
 
     def type(self, *words):

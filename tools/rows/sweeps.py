@@ -1,7 +1,7 @@
 # SPDX-License-Identifier: Apache-2.0
 # SPDX-FileCopyrightText: Copyright the Vortex contributors
 
-"""Each call over every kind of type, both nullabilities, and the edges of each refusal and of each representation."""
+"""Each call over every kind of type, both nullabilities, and the bounds of each error and of each representation."""
 from . import calls_base as b
 from . import calls_parts as p
 from . import calls_types as t

@@ -1,7 +1,7 @@
 # SPDX-License-Identifier: Apache-2.0
 # SPDX-FileCopyrightText: Copyright the Vortex contributors
 
-"""The rows: each a line for the console, and the line that answers it."""
+"""The golden tests: each a line for the console, and the line that answers it."""
 from .original import Panicked, Refused
 
 
@@ -31,7 +31,7 @@ class Rows:
         self.state(line, answer, condition)
 
     def state(self, line, answer, condition=None):
-        """The same of a line that depends on those before it, which may stand again."""
+        """The same of a line that depends on those before it, which may be repeated."""
         if callable(answer):
             try:
                 answer = answer()

@@ -1,7 +1,7 @@
 # SPDX-License-Identifier: Apache-2.0
 # SPDX-FileCopyrightText: Copyright the Vortex contributors
 
-"""The types, names and sizes that the rows are about."""
+"""The types, names and sizes that the golden tests are about."""
 from . import trees
 from .trees import binary, boolean, dec, ext, fixed, list_of, map_of, null, prim, struct, tagged, union, utf8, variant
 
@@ -11,7 +11,7 @@ SIGNED = PTYPES[4:8]
 INTEGERS = PTYPES[:8]
 BOTH = (False, True)
 
-# Where what is kept changes its form, or a refusal begins: struct lookup (4 and 5 names), a node's children (1, 2, 16,
+# Where a representation changes, or an error begins: struct lookup (4 and 5 names), a node's children (1, 2, 16,
 # 17), a union's tags (256, 257), powers of two, and 300.
 EDGES = [0, 1, 2, 3, 4, 5, 6, 7, 8, 9, 15, 16, 17, 18, 31, 32, 33, 63, 64, 65, 100, 127, 128, 129, 255, 256, 257, 299, 300]
 
@@ -69,7 +69,7 @@ def few(n):
 
 
 def structs():
-    """Structs over names that repeat, begin or end alike, or need escapes, of up to 17 fields."""
+    """Structs over names that repeat, share a prefix or a suffix, or need escapes, of up to 17 fields."""
     found = [t for n in BOTH for t in nested(n) if t[0] == "struct"]
     for names in [["b", "a", "b", "a"], ["", "a"], ["a", "b", "c", "d"], ["a", "b", "c", "d", "e"], ["int_col", "int_col"],
                   ["abcdefg", "abcdefgh", "abcdefgi", "bbcdefgh", "abcdefghi"], ["a\nb"], ["é", "名前"]]:

@@ -108,5 +108,9 @@ pub fn has_same_column(table: &StructFields, other: &StructFields, column: &str)
     ensures { IsTrue result
         ↔ (first_named (children table.now) column.now ≡ first_named (children other.now) column.now) }
 {
-    table.field(column) == other.field(column)
+    match (table.field(column), other.field(column)) {
+        (Some(dtype), Some(other_dtype)) => *dtype == *other_dtype,
+        (None, None) => true,
+        (Some(_), None) | (None, Some(_)) => false,
+    }
 }

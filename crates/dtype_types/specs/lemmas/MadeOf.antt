@@ -1,61 +1,42 @@
 -- SPDX-License-Identifier: Apache-2.0
 -- SPDX-FileCopyrightText: Copyright the Vortex contributors
 
--- The names, the types and the tags of a struct and of a union that were made of lists of these.
-use Rattle.std.proofs.Common.{◌≡◌, ℕ, List, [], ◌∷◌, map, length, refl, ap, ◌∙◌, arith}
+-- The names, the types and the tags of a struct's fields and of a union's variants that were made of lists of these, by
+-- std's `zip`. The lists are of items of any type: in the goal of a caller the type of a `Vec`'s items only computes to the one
+-- that a definition names, so a tactic finds a lemma there if these types are variables. For `shown` it takes `tree`.
+use Rattle.std.proofs.Common.{◌≡◌, ◌∙◌, List, map, length, ap, sym, arith}
+use Rattle.std.proofs.lemmas.List.{length-map}
+use Rattle.std.proofs.lemmas.Simd.{map-map}
+use Rattle.std.proofs.lemmas.Slice.Zip.{firsts-zip, length-zip, seconds-zip}
 use Rattle.std.specs.List.{zip}
-use Rattle.dtype_types.specs.parts.Lookups.{field_names, field_types, variant_names, variant_types, variant_tags}
-use Rattle.dtype_types.specs.tree.TreeOf.{children, variant_list, tree}
-use Rattle.dtype_types.specs.declared.dtype.DType.{DType}
-use Rattle.dtype_types.specs.declared.struct_fields.StructFields.{StructFields}
-use Rattle.dtype_types.specs.declared.union_variants.UnionVariants.{UnionVariants}
+use Rattle.std.specs.Map.{keys_of, values_of}
+use Rattle.dtype_types.specs.parts.Lists.{types_of, tags_of}
 
-names_zip : (ns : List (List ℕ)) (ds : List DType) → length ns ≡ length ds → field_names (zip ns (map tree ds)) ≡ ns
-names_zip [] ds e = refl
-names_zip (n ∷ ns) [] e = absurd (omega arith)
-names_zip (n ∷ ns) (d ∷ ds) e = ap (λ ms. n ∷ ms) (names_zip ns ds (omega arith))
+-- ---- fields
 
-types_zip : (ns : List (List ℕ)) (ds : List DType) → length ns ≡ length ds → field_types (zip ns (map tree ds)) ≡ map tree ds
-types_zip [] [] e = refl
-types_zip [] (d ∷ ds) e = absurd (omega arith)
-types_zip (n ∷ ns) [] e = absurd (omega arith)
-types_zip (n ∷ ns) (d ∷ ds) e = ap (λ ts. tree d ∷ ts) (types_zip ns ds (omega arith))
+pub names_of_pairs : {N D T : Type 0} (shown : D → T) (ns : List N) (ds : List D) → length ns ≡ length ds → keys_of (zip ns (map shown ds)) ≡ ns
+names_of_pairs shown ns ds e = firsts-zip ns (map shown ds) (omega (arith, length-map ds shown))
 
-pub names_made : (s : StructFields) (ns : List (List ℕ)) (ds : List DType) → children s ≡ zip ns (map tree ds) → length ns ≡ length ds → field_names (children s) ≡ ns
-names_made s ns ds e l = ap field_names e ∙ names_zip ns ds l
+pub types_of_pairs : {N D T : Type 0} (shown : D → T) (ns : List N) (ds : List D) → length ns ≡ length ds → values_of (zip ns (map shown ds)) ≡ map shown ds
+types_of_pairs shown ns ds e = seconds-zip ns (map shown ds) (omega (arith, length-map ds shown))
 
-pub types_made : (s : StructFields) (ns : List (List ℕ)) (ds : List DType) → children s ≡ zip ns (map tree ds) → length ns ≡ length ds → field_types (children s) ≡ map tree ds
-types_made s ns ds e l = ap field_types e ∙ types_zip ns ds l
+-- ---- variants
 
--- ---- unions
+-- the types and tags that are beside the names
+beside_names : {N D T G : Type 0} (shown : D → T) (ns : List N) (ds : List D) (gs : List G) → length ns ≡ length ds → length ns ≡ length gs → length (zip (map shown ds) gs) ≡ length ns
+beside_names shown ns ds gs e f = omega (arith, length-zip (map shown ds) gs, length-map ds shown)
 
-variant_names_zip : (ns : List (List ℕ)) (ds : List DType) (gs : List ℕ) → length ns ≡ length ds → length ns ≡ length gs → variant_names (zip ns (zip (map tree ds) gs)) ≡ ns
-variant_names_zip [] ds gs e f = refl
-variant_names_zip (n ∷ ns) [] gs e f = absurd (omega arith)
-variant_names_zip (n ∷ ns) (d ∷ ds) [] e f = absurd (omega arith)
-variant_names_zip (n ∷ ns) (d ∷ ds) (g ∷ gs) e f = ap (λ ms. n ∷ ms) (variant_names_zip ns ds gs (omega arith) (omega arith))
+pub names_of_triples : {N D T G : Type 0} (shown : D → T) (ns : List N) (ds : List D) (gs : List G) → length ns ≡ length ds → length ns ≡ length gs → keys_of (zip ns (zip (map shown ds) gs)) ≡ ns
+names_of_triples shown ns ds gs e f = firsts-zip ns (zip (map shown ds) gs) (beside_names shown ns ds gs e f)
 
-variant_types_zip : (ns : List (List ℕ)) (ds : List DType) (gs : List ℕ) → length ns ≡ length ds → length ns ≡ length gs → variant_types (zip ns (zip (map tree ds) gs)) ≡ map tree ds
-variant_types_zip [] [] gs e f = refl
-variant_types_zip [] (d ∷ ds) gs e f = absurd (omega arith)
-variant_types_zip (n ∷ ns) [] gs e f = absurd (omega arith)
-variant_types_zip (n ∷ ns) (d ∷ ds) [] e f = absurd (omega arith)
-variant_types_zip (n ∷ ns) (d ∷ ds) (g ∷ gs) e f = ap (λ ts. tree d ∷ ts) (variant_types_zip ns ds gs (omega arith) (omega arith))
+pub types_of_triples : {N D T G : Type 0} (shown : D → T) (ns : List N) (ds : List D) (gs : List G) → length ns ≡ length ds → length ns ≡ length gs → types_of (zip ns (zip (map shown ds) gs)) ≡ map shown ds
+types_of_triples {T = T} {G = G} shown ns ds gs e f =
+    sym (map-map (λ (q : T × G). q.0) (λ p. p.1) _) ∙ ap (map (λ (q : T × G). q.0)) (seconds-zip ns (zip (map shown ds) gs) (beside_names shown ns ds gs e f))
+    ∙ firsts-zip (map shown ds) gs (omega (arith, length-map ds shown))
 
-variant_tags_zip : (ns : List (List ℕ)) (ds : List DType) (gs : List ℕ) → length ns ≡ length ds → length ns ≡ length gs → variant_tags (zip ns (zip (map tree ds) gs)) ≡ gs
-variant_tags_zip [] ds [] e f = refl
-variant_tags_zip [] ds (g ∷ gs) e f = absurd (omega arith)
-variant_tags_zip (n ∷ ns) [] gs e f = absurd (omega arith)
-variant_tags_zip (n ∷ ns) (d ∷ ds) [] e f = absurd (omega arith)
-variant_tags_zip (n ∷ ns) (d ∷ ds) (g ∷ gs) e f = ap (λ hs. g ∷ hs) (variant_tags_zip ns ds gs (omega arith) (omega arith))
+pub tags_of_triples : {N D T G : Type 0} (shown : D → T) (ns : List N) (ds : List D) (gs : List G) → length ns ≡ length ds → length ns ≡ length gs → tags_of (zip ns (zip (map shown ds) gs)) ≡ gs
+tags_of_triples {T = T} {G = G} shown ns ds gs e f =
+    sym (map-map (λ (q : T × G). q.1) (λ p. p.1) _) ∙ ap (map (λ (q : T × G). q.1)) (seconds-zip ns (zip (map shown ds) gs) (beside_names shown ns ds gs e f))
+    ∙ seconds-zip (map shown ds) gs (omega (arith, length-map ds shown))
 
-pub variant_names_made : (u : UnionVariants) (ns : List (List ℕ)) (ds : List DType) (gs : List ℕ) → variant_list u ≡ zip ns (zip (map tree ds) gs) → length ns ≡ length ds → length ns ≡ length gs → variant_names (variant_list u) ≡ ns
-variant_names_made u ns ds gs e l m = ap variant_names e ∙ variant_names_zip ns ds gs l m
-
-pub variant_types_made : (u : UnionVariants) (ns : List (List ℕ)) (ds : List DType) (gs : List ℕ) → variant_list u ≡ zip ns (zip (map tree ds) gs) → length ns ≡ length ds → length ns ≡ length gs → variant_types (variant_list u) ≡ map tree ds
-variant_types_made u ns ds gs e l m = ap variant_types e ∙ variant_types_zip ns ds gs l m
-
-pub variant_tags_made : (u : UnionVariants) (ns : List (List ℕ)) (ds : List DType) (gs : List ℕ) → variant_list u ≡ zip ns (zip (map tree ds) gs) → length ns ≡ length ds → length ns ≡ length gs → variant_tags (variant_list u) ≡ gs
-variant_tags_made u ns ds gs e l m = ap variant_tags e ∙ variant_tags_zip ns ds gs l m
-
-pub ruleset made_of = (names_made, types_made, variant_names_made, variant_types_made, variant_tags_made)
+pub ruleset made_of = (names_of_pairs, types_of_pairs, names_of_triples, types_of_triples, tags_of_triples)

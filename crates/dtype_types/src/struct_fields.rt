@@ -34,7 +34,6 @@ pub struct StructFields {
     shared: Rc<Named<DType>>,
 }
 
-#[tactic(auto, using(crate::proofs::Sides::pairs, crate::proofs::Parts::fields, crate::specs::lemmas::Lookups::lookups))]
 impl StructFields {
     ghost use Rattle.dtype_types.specs.equality.Equality.{fields_equal_under};
     ghost use Rattle.dtype_types.specs.tree.Erase.{erase};
@@ -64,6 +63,7 @@ impl StructFields {
     /// # Errors
     ///
     /// - `OutOfMemory` (0): an allocation fails.
+    #[tactic(auto, using(crate::proofs::Sides::pairs, crate::proofs::Parts::fields))]
     pub fn new(alloc: Global, names: FieldNames, dtypes: Vec<DType>) -> VortexResult<Self>
         requires { length names ≡ vec_len dtypes }
         ensures fields { MatchResult result
@@ -124,6 +124,7 @@ impl StructFields {
     }
 
     /// Returns the names, in order.
+    #[tactic(auto, using(crate::proofs::Sides::pairs, crate::proofs::Parts::fields))]
     pub fn names(&self) -> &FieldNames
         ensures { result.now ≡ field_names (children self.now) }
     {
@@ -138,6 +139,7 @@ impl StructFields {
     }
 
     /// Returns an iterator over the fields in order: references to the name and the type of each.
+    #[tactic(auto, using(crate::proofs::Sides::pairs, crate::proofs::Parts::fields))]
     pub fn pairs(&self) -> FieldIter<'_>
         ensures lent { result ≡ struct_pairs self.now }
         ensures fits { length result < 2 ^ 64 }
@@ -180,6 +182,7 @@ impl StructFields {
     }
 
     /// Returns the type of the first field of the name, or `None` where no field has it.
+    #[tactic(auto, using(crate::specs::lemmas::Lookups::lookups))]
     pub fn field(&self, name: &str) -> Option<&DType>
         ensures { shown tree result ≡ first_named (children self.now) name.now }
     {
@@ -194,6 +197,7 @@ impl StructFields {
     }
 
     /// Returns an iterator over references to the types, in order.
+    #[tactic(auto, using(crate::proofs::Sides::pairs, crate::proofs::Parts::fields))]
     pub fn fields(&self) -> DTypeIter<'_>
         ensures all { map tree result ≡ field_types (children self.now) }
         ensures fits { length (map tree result) < 2 ^ 64 }

@@ -80,7 +80,6 @@ fn first_tags(alloc: Global, count: usize) -> VortexResult<Vec<u8>>
     Ok((0..count).map(|tag| tag as u8).collect(alloc)?)
 }
 
-#[tactic(auto, using(crate::proofs::Sides::triples, crate::proofs::Parts::variants, crate::specs::lemmas::Lookups::lookups))]
 impl UnionVariants {
     ghost use Rattle.dtype_types.specs.equality.Equality.{variants_equal_under};
     ghost use Rattle.dtype_types.specs.tree.Erase.{erase};
@@ -149,6 +148,7 @@ impl UnionVariants {
     }
 
     /// Returns the names, in order.
+    #[tactic(auto, using(crate::proofs::Sides::triples, crate::proofs::Parts::variants))]
     pub fn names(&self) -> &FieldNames
         ensures { result.now ≡ variant_names (variant_list self.now) }
     {
@@ -163,6 +163,7 @@ impl UnionVariants {
     }
 
     /// Returns an iterator over the variants in order: the name, the tag and the type of each.
+    #[tactic(auto, using(crate::proofs::Sides::triples, crate::proofs::Parts::variants))]
     pub fn triples(&self) -> VariantIter<'_>
         ensures lent { result ≡ union_triples self.now }
         ensures fits { length result < 2 ^ 64 }
@@ -189,6 +190,7 @@ impl UnionVariants {
     }
 
     /// Returns the tags, in order of the variants.
+    #[tactic(auto, using(crate::proofs::Sides::triples, crate::proofs::Parts::variants))]
     pub fn type_ids(&self) -> &[u8]
         ensures { result.now ≡ variant_tags (variant_list self.now) }
     {
@@ -203,6 +205,7 @@ impl UnionVariants {
     }
 
     /// Returns the type of the variant of the name, or `None` where no variant has it.
+    #[tactic(auto, using(crate::specs::lemmas::Lookups::lookups))]
     pub fn variant(&self, name: &str) -> Option<&DType>
         ensures { shown tree result ≡ variant_named (variant_list self.now) name.now }
     {
@@ -217,6 +220,7 @@ impl UnionVariants {
     }
 
     /// Returns an iterator over the types of the variants, in order.
+    #[tactic(auto, using(crate::proofs::Sides::triples, crate::proofs::Parts::variants))]
     pub fn variants(&self) -> DTypeIter<'_>
         ensures all { map tree result ≡ variant_types (variant_list self.now) }
         ensures fits { length (map tree result) < 2 ^ 64 }

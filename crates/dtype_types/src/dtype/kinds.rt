@@ -3,7 +3,6 @@
 
 // The tests of a type's kind, and what each kind holds. They look at the outermost variant alone, not
 // through an extension.
-#![tactic(auto, using(crate::proofs::KindLaws::kind_laws))]
 
 ghost use Rattle.std.specs.Prelude.{◌≡◌, ◌↔◌, IsTrue, IsSomeAnd, Some};
 ghost use Rattle.std.specs.Option.{option_copied, option_map};
@@ -271,6 +270,7 @@ impl DType {
     }
 
     /// Returns the fields of a `Struct`, else `None`.
+    #[tactic(auto, using(crate::proofs::KindLaws::kind_laws))]
     pub fn as_struct_fields_opt(&self) -> Option<&StructFields>
         ensures { shown children result ≡ struct_fields (tree self.now) }
     {
@@ -281,6 +281,7 @@ impl DType {
     }
 
     /// Returns the variants of a `Union`, else `None`.
+    #[tactic(auto, using(crate::proofs::KindLaws::kind_laws))]
     pub fn as_union_variants_opt(&self) -> Option<&UnionVariants>
         ensures { shown variant_list result ≡ union_variants (tree self.now) }
     {
@@ -372,6 +373,7 @@ impl DType {
     }
 
     /// Returns the fields of this struct type. The condition is that it is a `Struct`.
+    #[tactic(auto, using(crate::proofs::KindLaws::kind_laws))]
     pub fn as_struct_fields(&self) -> &StructFields
         requires { kind (tree self.now) ≡ Kind.Struct }
         ensures { struct_fields (tree self.now) ≡ Some (children result.now) }

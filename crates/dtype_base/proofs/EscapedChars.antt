@@ -1,7 +1,7 @@
 -- SPDX-License-Identifier: Apache-2.0
 -- SPDX-FileCopyrightText: Copyright the Vortex contributors
 
--- What the characters of a name are printed as, and runs of those that stand as they are.
+-- How the characters of a name are printed, and runs of characters that are printed unchanged.
 use Rattle.std.proofs.Common.{◌≡◌, ◌≢◌, ℕ, ◌+◌, ◌<◌, ◌≤◌, ◌-◌, ◌/◌, ◌%◌, ◌^◌, false, true, true≢false, List, [], ◌∷◌, ◌++◌, Some, refl, ap, sym, append-nil, append_assoc, length, take, drop, get_or, subst, ◌∙◌, arith, length-drop, take_all}
 use Rattle.std.proofs.Math.Seq.{take-add}
 use Rattle.std.proofs.lemmas.List.{take_more, get_or-drop}
@@ -37,7 +37,7 @@ escaped_byte_plain : (b : ℕ) → IsNoEscape b → is_ascii_control b ≡ false
 unfolding escaped_byte
 escaped_byte_plain b n e = grind (arith, nat_tests)
 
--- a byte that is no quote, no backslash and no control character stands as it is
+-- a byte that is no quote, no backslash and no control character is printed unchanged
 pub escaped_byte_printed : (b : ℕ) → b ≢ 34 → b ≢ 92 → is_ascii_control b ≡ false → escaped_byte b ≡ b ∷ []
 escaped_byte_printed b quote backslash printed =
     let no = λ (k : ℕ) (control : is_ascii_control k ≡ true) (e : b ≡ k). true≢false (sym control ∙ sym (ap is_ascii_control e) ∙ printed) in
@@ -91,29 +91,29 @@ escaped_control d s c n e shown spec =
     let small = below_128 c e in
     hex_escape d s c (omega arith) shown spec ∙ ap (λ bs. Some bs) (sym (escaped_encode_ascii c small ∙ escaped_byte_control c n e))
 
--- every other character is printed as it stands
+-- every other character is printed unchanged
 pub escaped_plain : (c : ℕ) → IsNoEscape c → is_ascii_control c ≡ false → encode c ≡ escaped (encode c)
 escaped_plain c n e = sym (escaped_encode_plain c (escaped_byte_plain c n e))
 
--- ---- runs of what stands as it is
+-- ---- runs that are printed unchanged
 
 unchanged_append : (xs ys : List ℕ) → IsUnchanged xs → IsUnchanged ys → IsUnchanged (xs ++ ys)
 unchanged_append xs ys a b = escaped-append xs ys ∙ (λ i. a i ++ b i)
 
 module _ (bs : List ℕ) (start i : ℕ) (begun : start ≤ i) where
-  -- the text up to here is what is before the run, and the run
+  -- the text so far is the text before the run, followed by the run
   split : take i bs ≡ take start bs ++ take (i - start) (drop start bs)
   split =
       let whole : start + (i - start) ≡ i = omega arith in
       ap (λ n. take n bs) (sym whole) ∙ take-add start (i - start) bs
 
-  -- a run of no bytes
+  -- the empty run
   pub run_none : start ≡ i → IsUnchanged (take (i - start) (drop start bs))
   run_none same =
       let none : i - start ≡ 0 = omega arith in
       subst (λ n. IsUnchanged (take n (drop start bs))) (sym none) unchanged_none
 
-  -- one more byte that stands as it is
+  -- one more byte that is printed unchanged
   pub run_more : i < length bs → IsUnchanged (take (i - start) (drop start bs)) → escaped_byte (get_or bs i 0) ≡ get_or bs i 0 ∷ [] → IsUnchanged (take (i + 1 - start) (drop start bs))
   run_more within run plain =
       let next : i + 1 - start ≡ i - start + 1 = omega arith in
@@ -123,7 +123,7 @@ module _ (bs : List ℕ) (start i : ℕ) (begun : start ≤ i) where
       ap (λ n. take n (drop start bs)) next ∙ take_more (drop start bs) (i - start) 0 (omega (arith, length-drop start bs)) ∙ ap (λ b. take (i - start) (drop start bs) ++ b ∷ []) byte in
       subst IsUnchanged (sym more) (unchanged_append _ _ run (unchanged_cons (get_or bs i 0) [] plain unchanged_none))
 
-  -- the run and the escape of the byte behind it go behind what is written
+  -- the run, and the escape of the byte after it, are appended to the output
   pub run_written : (piece : List ℕ) → i < length bs → IsUnchanged (take (i - start) (drop start bs)) → piece ≡ escaped (get_or bs i 0 ∷ []) → escaped (take start bs) ++ (take (i - start) (drop start bs) ++ piece) ≡ escaped (take (i + 1) bs)
   run_written piece within run is =
       let front = take start bs in
@@ -134,7 +134,7 @@ module _ (bs : List ℕ) (start i : ℕ) (begun : start ≤ i) where
       ∙ sym (escaped-append front (between ++ byte))
       ∙ ap escaped (sym (append_assoc front between byte) ∙ ap (λ text. text ++ byte) (sym split) ∙ sym (take_more bs i 0 within))
 
-  -- and the last run makes it whole
+  -- the last run completes the output
   pub run_end : i ≡ length bs → IsUnchanged (take (i - start) (drop start bs)) → escaped (take start bs) ++ take (i - start) (drop start bs) ≡ escaped bs
   run_end all run =
       ap (λ rest. escaped (take start bs) ++ rest) (sym run)

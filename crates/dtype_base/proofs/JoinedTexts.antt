@@ -1,7 +1,7 @@
 -- SPDX-License-Identifier: Apache-2.0
 -- SPDX-FileCopyrightText: Copyright the Vortex contributors
 
--- Joined texts, one more at a time.
+-- Joining texts one at a time.
 use Rattle.std.proofs.Common.{◌≡◌, ℕ, ◌+◌, ◌<◌, List, [], ◌∷◌, ◌++◌, length, take, get_or, ap, sym, ◌∙◌, append-nil, append_assoc, arith, length-take}
 use Rattle.std.specs.List.{flat_map, join_by}
 use Rattle.std.proofs.lemmas.Grind.{flat_map-append}
@@ -22,6 +22,6 @@ module _ {X : Type 0} (f : X → List ℕ) (sep : List ℕ) where
   pub joined_first : (xs : List X) (i : ℕ) (x : X) → i < length xs → x ≡ get_or xs i x → i ≡ 0 → join_by f sep (take i xs) ++ f x ≡ join_by f sep (take (i + 1) xs)
   joined_first xs i x h is none = let one = rw none at (taken xs i x h is) in rw none (sym (one ∙ append-nil (f x)))
 
-  -- a later text, behind the separator
+  -- a later text, after the separator
   pub joined_more : (xs : List X) (i : ℕ) (x : X) → i < length xs → x ≡ get_or xs i x → 0 < i → join_by f sep (take i xs) ++ (sep ++ f x) ≡ join_by f sep (take (i + 1) xs)
   joined_more xs i x h is some = sym (taken xs i x h is ∙ joined_push (take i xs) x (omega (arith, length-take i xs)))

@@ -44,10 +44,7 @@ high_bound (suc k) (b ∷ bs) h =
 -- the text with the smaller number comes first
 less : (k : ℕ) (xs ys : List ℕ) → Bytes xs → Bytes ys → big_endian k xs < big_endian k ys → slice_cmp nat_cmp xs ys ≡ Less
 unfolding big_endian
-less zero xs ys a b h = absurd (omega arith)
-less (suc k) [] [] a b h = absurd (omega arith)
 less (suc k) [] (y ∷ ys) a b h = refl
-less (suc k) (x ∷ xs) [] a b h = absurd (omega arith)
 less (suc k) (x ∷ xs) (y ∷ ys) a b h =
     elim (cases_order x y) [
       | inl same ↦
@@ -59,17 +56,17 @@ less (suc k) (x ∷ xs) (y ∷ ys) a b h =
           let apart : (y + 1) * 256 ^ k ≤ x * 256 ^ k = mul-le-mul_right (256 ^ k) (omega (arith, higher)) in
           absurd (omega (arith, h, apart, add-mul y 1 (256 ^ k), high_bound k ys (All-tail (λ c. c < 256) y ys b)))
     ]
+less _ _ _ a b h = absurd (omega arith)
 
 -- texts with a common prefix compare as what follows it
 after_prefix : (s : ℕ) (xs ys : List ℕ) → take s xs ≡ take s ys → slice_cmp nat_cmp xs ys ≡ slice_cmp nat_cmp (drop s xs) (drop s ys)
 after_prefix zero xs ys e = refl
 after_prefix (suc s) [] [] e = refl
-after_prefix (suc s) [] (y ∷ ys) e = cc
-after_prefix (suc s) (x ∷ xs) [] e = cc
 after_prefix (suc s) (x ∷ xs) (y ∷ ys) e =
     let same : x ≡ y = cc in
     let rest : take s xs ≡ take s ys = cc in
     ap (λ r. ordering_then r (slice_cmp nat_cmp xs ys)) (sym (nat_cmp_is x y Equal same)) ∙ after_prefix s xs ys rest
+after_prefix _ _ _ e = cc
 
 pub bytes_after : (s : ℕ) (bs : List ℕ) → Bytes bs → Bytes (drop s bs)
 bytes_after zero bs h = h
@@ -92,25 +89,22 @@ same_digits k x y xs ys a b e =
 
 -- of two texts with equal numbers of k bytes, a shorter one of at most k bytes comes first
 shorter : (k : ℕ) (xs ys : List ℕ) → Bytes xs → Bytes ys → big_endian k xs ≡ big_endian k ys → length xs ≤ k → length xs < length ys → slice_cmp nat_cmp xs ys ≡ Less
-shorter k [] [] a b e held less = absurd (omega arith)
 shorter k [] (y ∷ ys) a b e held less = refl
-shorter k (x ∷ xs) [] a b e held less = absurd (omega arith)
-shorter zero (x ∷ xs) (y ∷ ys) a b e held less = absurd (omega arith)
 shorter (suc k) (x ∷ xs) (y ∷ ys) a b e held less =
     let same = same_digits k x y xs ys a b e in
     ap (λ r. ordering_then r (slice_cmp nat_cmp xs ys)) (sym (nat_cmp_is x y Equal same.0))
     ∙ shorter k xs ys (All-tail (λ c. c < 256) x xs a) (All-tail (λ c. c < 256) y ys b) same.1 (omega (arith, held)) (omega (arith, less))
+shorter k _ _ a b e held less = absurd (omega arith)
 
 -- texts of the same length, at most k, with equal numbers of k bytes are equal
 one_text : (k : ℕ) (xs ys : List ℕ) → Bytes xs → Bytes ys → big_endian k xs ≡ big_endian k ys → length xs ≤ k → length xs ≡ length ys → xs ≡ ys
 one_text k [] [] a b e held long = refl
-one_text k [] (y ∷ ys) a b e held long = absurd (omega (arith, long))
-one_text k (x ∷ xs) [] a b e held long = absurd (omega (arith, long))
 one_text zero (x ∷ xs) (y ∷ ys) a b e held long = absurd (omega (arith, held))
 one_text (suc k) (x ∷ xs) (y ∷ ys) a b e held long =
     let same = same_digits k x y xs ys a b e in
     let rest = one_text k xs ys (All-tail (λ c. c < 256) x xs a) (All-tail (λ c. c < 256) y ys b) same.1 (omega (arith, held)) (omega (arith, long)) in
     cc
+one_text _ _ _ _ _ _ _ long = absurd (omega (arith, long))
 
 -- of two names with a common prefix the one with the lower key comes first
 comes_before : (s : ℕ) (m n : List ℕ) → Bytes m → Bytes n → take s m ≡ take s n → sort_key s m < sort_key s n → slice_cmp nat_cmp m n ≡ Less
@@ -149,14 +143,12 @@ one_name s m n a b common_prefix same whole =
 -- ---- entries
 
 both_equal : (r s : Ordering) → ordering_then r s ≡ Equal → s ≡ Equal
-both_equal Less s e = absurd (false≢true (ap is_eq e))
 both_equal Equal s e = e
-both_equal Greater s e = absurd (false≢true (ap is_eq e))
+both_equal _ _ e = absurd (false≢true (ap is_eq e))
 
 key_equal : (r s : Ordering) → ordering_then r s ≡ Equal → r ≡ Equal
-key_equal Less s e = absurd (false≢true (ap is_eq e))
 key_equal Equal s e = refl
-key_equal Greater s e = absurd (false≢true (ap is_eq e))
+key_equal _ _ e = absurd (false≢true (ap is_eq e))
 
 -- a lower key prefix is that of a lower key
 lower_prefix : (a b : ℕ) → key_prefix a < key_prefix b → a < b
@@ -467,16 +459,8 @@ eight_shifted a b c d e f g h (suc (suc (suc (suc (suc (suc (suc zero))))))) som
 eight_shifted a b c d e f g h (suc (suc (suc (suc (suc (suc (suc (suc j)))))))) some few = absurd (omega (arith, few))
 
 shifted_sum : (j : ℕ) (bs : List ℕ) → 0 < j → j < 8 → length bs ≡ 8 → big_endian 8 bs * 2 ^ (8 * j) ≡ big_endian 8 (drop j bs) + big_endian j bs * 2 ^ 64
-shifted_sum j [] some few as_many = absurd (omega (arith, as_many))
-shifted_sum j (a ∷ []) some few as_many = absurd (omega (arith, as_many))
-shifted_sum j (a ∷ b ∷ []) some few as_many = absurd (omega (arith, as_many))
-shifted_sum j (a ∷ b ∷ c ∷ []) some few as_many = absurd (omega (arith, as_many))
-shifted_sum j (a ∷ b ∷ c ∷ d ∷ []) some few as_many = absurd (omega (arith, as_many))
-shifted_sum j (a ∷ b ∷ c ∷ d ∷ e ∷ []) some few as_many = absurd (omega (arith, as_many))
-shifted_sum j (a ∷ b ∷ c ∷ d ∷ e ∷ f ∷ []) some few as_many = absurd (omega (arith, as_many))
-shifted_sum j (a ∷ b ∷ c ∷ d ∷ e ∷ f ∷ g ∷ []) some few as_many = absurd (omega (arith, as_many))
 shifted_sum j (a ∷ b ∷ c ∷ d ∷ e ∷ f ∷ g ∷ h ∷ []) some few as_many = eight_shifted a b c d e f g h j some few
-shifted_sum j (a ∷ b ∷ c ∷ d ∷ e ∷ f ∷ g ∷ h ∷ i ∷ rest) some few as_many = absurd (omega (arith, as_many))
+shifted_sum _ _ _ _ as_many = absurd (omega (arith, as_many))
 
 -- what follows the first `count` bytes, read from the text's last eight bytes
 pub shifted : (count : ℕ) (text : List ℕ) → Bytes text → count < length text → length text < count + 8 → 8 ≤ length text

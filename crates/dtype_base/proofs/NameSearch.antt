@@ -59,13 +59,11 @@ counted_more n = let next : n + 1 ≡ suc n = omega arith in ap (range_with_len 
 
 pub is_less : (r : Ordering) → true ≡ is_lt r → r ≡ Less
 is_less Less e = refl
-is_less Equal e = absurd (false≢true (sym e))
-is_less Greater e = absurd (false≢true (sym e))
+is_less _ e = absurd (false≢true (sym e))
 
 pub is_equal : (r : Ordering) → true ≡ is_eq r → r ≡ Equal
-is_equal Less e = absurd (false≢true (sym e))
 is_equal Equal e = refl
-is_equal Greater e = absurd (false≢true (sym e))
+is_equal _ e = absurd (false≢true (sym e))
 
 not_equal : (r : Ordering) → is_lt r ≡ false → r ≢ Equal → r ≡ Greater
 not_equal Less e f = absurd (false≢true (sym e))
@@ -127,17 +125,15 @@ module _ (names : List (List ℕ)) (order : List ℕ) (h : IsOrderOf names order
 
   index_less : (r : Ordering) → ordering_index r ≤ 0 → r ≡ Less
   index_less Less e = refl
-  index_less Equal e = absurd (omega (arith, e))
-  index_less Greater e = absurd (omega (arith, e))
+  index_less _ e = absurd (omega (arith, e))
 
   index_more : (r s : Ordering) → ordering_index r ≤ ordering_index s → is_lt r ≡ false → is_lt s ≡ false
   index_more Less s e f = absurd (false≢true (sym f))
-  index_more Equal Less e f = absurd (omega (arith, e))
   index_more Equal Equal e f = refl
   index_more Equal Greater e f = refl
-  index_more Greater Less e f = absurd (omega (arith, e))
   index_more Greater Equal e f = refl
   index_more Greater Greater e f = refl
+  index_more _ _ e _ = absurd (omega (arith, e))
 
   module _ (n : List ℕ) where
     pub below_more : (m : ℕ) → m < length order → name_cmp names n (get_or order m 0) ≡ Less → AllBelow names order n (m + 1)
@@ -187,9 +183,6 @@ module _ (names : List (List ℕ)) (order : List ℕ) (h : IsOrderOf names order
           omega (arith, least, l))
           (cases_lt s.0 p);
     }
-
-    pub absent_past : AllBelow names order n (length order) → IsAbsent names n
-    absent_past below k f = let s = placed k f in less≢equal (sym (below s.0 s.1) ∙ at_entry s.0 k s.2 f)
 
     pub absent_at : (p : ℕ) → p < length order → AllBelow names order n p → name_cmp names n (get_or order p 0) ≡ Greater → IsAbsent names n
     absent_at p b below e k f =
@@ -266,9 +259,6 @@ module _ (names : List (List ℕ)) (order : List ℕ) (h : IsOrderOf names order
     -- one name at two indices of the order
     twice : (p q : ℕ) → AllBelow names order n q → p < q → name_cmp names n (get_or order p 0) ≡ Equal → ⊥
     twice p q below b e = less≢equal (sym (below p b) ∙ e)
-
-  pub rise_none : AllRise names order 1
-  rise_none k n l b e j m = absurd (omega (arith, l, m))
 
   -- one index more, whose name differs from that before it
   pub rise_more : (p q : ℕ) (m n : List ℕ) → p + 1 ≡ q → q < length order → slice_get names (get_or order p 0) ≡ Some m → slice_get names (get_or order q 0) ≡ Some n → m ≢ n → AllRise names order q → AllRise names order (q + 1)

@@ -21,21 +21,18 @@ selects_more names asked first_positions j first n within read found so_far =
 
 -- the names that were looked up occur
 known : (f : List ℕ → Option ℕ) (ms : List (List ℕ)) (is : List ℕ) → map Some is ≡ map f ms → (k : ℕ) (n : List ℕ) → slice_get ms k ≡ Some n → f n ≢ None
-known f [] is e zero n here none = cc
-known f [] is e (suc k) n here none = cc
-known f (m ∷ ms) [] e k n here none = cc
 known f (m ∷ ms) (i ∷ is) e zero n here none =
     let head : Some i ≡ f m = cc in
     let gone : f m ≡ None = ap f (same_Some m n here) ∙ none in cc
 known f (m ∷ ms) (i ∷ is) e (suc k) n here none =
     let tail : map Some is ≡ map f ms = cc in known f ms is tail k n here none
+known f _ _ e _ n here none = cc
 
 within_take : {X : Type 0} (xs : List X) (j k : ℕ) (x : X) → k < j → slice_get xs k ≡ Some x → slice_get (take j xs) k ≡ Some x
-within_take [] zero k x h e = absurd (omega arith)
 within_take [] (suc j) k x h e = e
-within_take (y ∷ ys) zero k x h e = absurd (omega arith)
 within_take (y ∷ ys) (suc j) zero x h e = e
 within_take (y ∷ ys) (suc j) (suc k) x h e = within_take ys j k x (omega arith) e
+within_take _ zero k x h e = absurd (omega arith)
 
 -- the first name that is absent
 pub first_absent : (names asked : List (List ℕ)) (first_positions : List ℕ) (j : ℕ) (n : List ℕ) → j < length asked → n ≡ get_or asked j n → map Some first_positions ≡ map (first_place names) (take j asked) → None ≡ first_place names n → IsFirstAbsent names asked j

@@ -1,7 +1,7 @@
 -- SPDX-License-Identifier: Apache-2.0
 -- SPDX-FileCopyrightText: Copyright the Vortex contributors
 
--- Bytes: the model of a slice of them is a list of numbers, each below 256.
+-- Bytes: the model of a slice of bytes is a list of numbers, each below 256. From the definition of `u8`.
 use Rattle.std.specs.Prelude.{ℕ, ◌<◌, List}
 use Rattle.std.specs.List.{All}
 

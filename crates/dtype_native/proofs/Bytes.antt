@@ -80,9 +80,8 @@ signed w z bs n is f small e =
     e ∙ ap (λ (m : ℕ). little_endian (byte_len w) (pos m)) same ∙ of_bits w z f
 
 one_item : (bs : List ℕ) → length bs ≡ 1 → bs ≡ get_or bs 0 0 ∷ []
-one_item [] l = absurd (omega arith)
 one_item (b ∷ []) l = refl
-one_item (b ∷ c ∷ bs) l = absurd (omega arith)
+one_item _ l = absurd (omega arith)
 
 pub read_u8 : (bs : List ℕ) (n : ℕ) → n ≡ get_or bs 0 0 → length bs ≡ 1 → AreBytes bs → bs ≡ little_endian 1 (pos n)
 read_u8 bs n e l f =

@@ -1,7 +1,7 @@
 -- SPDX-License-Identifier: Apache-2.0
 -- SPDX-FileCopyrightText: Copyright the Vortex contributors
 
--- Going over two lists of fields, or of variants, at once.
+-- Iterating over two lists of fields, or of variants, in step.
 use Rattle.std.proofs.Common.{◌≡◌, ◌⊎◌, ℕ, zero, suc, ◌+◌, ◌<◌, ◌&&◌, ◌==◌, List, [], ◌∷◌, length, get_or, drop, Bool, true, false, not, refl, sym, ap, ◌∙◌, inl, inr, arith, add-one}
 use Rattle.std.specs.Str.{bytes_eq}
 use Rattle.std.proofs.Math.Bool.{and-false, and-true}
@@ -35,7 +35,7 @@ differ_variants s [] (q ∷ qs) h = refl
 differ_variants s (p ∷ ps) [] h = refl
 differ_variants s (p ∷ ps) (q ∷ qs) h = and_second (bytes_eq p.0 q.0 && equal_under s p.1.0 q.1.0 && (p.1.1 == q.1.1)) _ (differ_variants s ps qs (λ e. h (ap suc e)))
 
--- the results of a turn, which shows three tests or four
+-- the results of an iteration, which makes three tests or four
 pub three : (x y z r : Bool) → r ≡ (x && y && z) → (x ≡ false → r ≡ false) × (y ≡ false → r ≡ false) × (x ≡ true → y ≡ true → z ≡ r)
 three false y z r e = (λ _. e, λ _. e, λ h. absurd (false≢true h))
 three true false z r e = (λ h. absurd (false≢true (sym h)), λ _. e, λ _ h. absurd (false≢true h))
@@ -56,7 +56,7 @@ pub not_false : (x : Bool) → false ≡ not x → x ≡ true
 not_false false e = absurd (false≢true e)
 not_false true e = refl
 
--- a tag that a slice of the tags gives
+-- a tag read from a slice of tags
 pub tag_at : (gs hs : List ℕ) (i : ℕ) → hs ≡ gs → i < length gs → get_or hs i 0 ≡ get_or gs i (get_or hs i 0)
 tag_at gs hs i e w = ap (λ xs. get_or xs i 0) e ∙ get_or_default gs i 0 (get_or hs i 0) w
 
@@ -66,7 +66,7 @@ tags_same x y e = (Decides-eqb x y).1 e
 pub tags_differ : (x y : ℕ) → (x ≡ y → ⊥) → (x == y) ≡ false
 tags_differ x y ne = false_from_ne_true (x == y) (λ e. ne ((Decides-eqb x y).0 e))
 
--- what a turn says of the whole, r, by its tests
+-- what an iteration's tests say of the whole result r
 pub fields_turn : (s : NullabilityRule) (ps qs ps' qs' : List (List ℕ × Tree)) (n m : List ℕ) (t u : Tree) (r : Bool) → fields_equal_under s (fields ps) (fields qs) ≡ r → ps ≡ (n, t) ∷ ps' → qs ≡ (m, u) ∷ qs'
     → (bytes_eq n m ≡ false → r ≡ false) × (equal_under s t u ≡ false → r ≡ false)
     × (bytes_eq n m ≡ true → equal_under s t u ≡ true → fields_equal_under s (fields ps') (fields qs') ≡ r)
@@ -81,26 +81,24 @@ variants_turn s ps qs ps' qs' n m t u g h r so_far p q =
     four (bytes_eq n m) (equal_under s t u) (g == h) (variants_equal_under s (variants ps') (variants qs')) r
     (sym so_far ∙ ap (λ xs. variants_equal_under s (variants xs) (variants qs)) p ∙ ap (λ ys. variants_equal_under s (variants ((n, (t, g)) ∷ ps')) (variants ys)) q)
 
--- where one side has nothing left, neither has the other, which is as long
+-- the two lists are equally long, so they end together
 pub fields_end : (s : NullabilityRule) (ps qs : List (List ℕ × Tree)) (r : Bool) → fields_equal_under s (fields ps) (fields qs) ≡ r → length ps ≡ length qs → (ps ≡ []) ⊎ (qs ≡ []) → true ≡ r
 fields_end s [] [] r so_far even none = so_far
-fields_end s [] (q ∷ qs) r so_far even none = absurd (omega arith)
-fields_end s (p ∷ ps) [] r so_far even none = absurd (omega arith)
 fields_end s (p ∷ ps) (q ∷ qs) r so_far even (inl none) = cc
 fields_end s (p ∷ ps) (q ∷ qs) r so_far even (inr none) = cc
+fields_end s _ _ r so_far even none = absurd (omega arith)
 
 pub variants_end : (s : NullabilityRule) (ps qs : List (List ℕ × (Tree × ℕ))) (r : Bool) → variants_equal_under s (variants ps) (variants qs) ≡ r → length ps ≡ length qs → (ps ≡ []) ⊎ (qs ≡ []) → true ≡ r
 variants_end s [] [] r so_far even none = so_far
-variants_end s [] (q ∷ qs) r so_far even none = absurd (omega arith)
-variants_end s (p ∷ ps) [] r so_far even none = absurd (omega arith)
 variants_end s (p ∷ ps) (q ∷ qs) r so_far even (inl none) = cc
 variants_end s (p ∷ ps) (q ∷ qs) r so_far even (inr none) = cc
+variants_end s _ _ r so_far even none = absurd (omega arith)
 
--- two lists lose one item each
+-- each list loses its first item
 pub still_even : {X : Type 0} (ps qs ps' qs' : List X) (p q : X) → length ps ≡ length qs → ps ≡ p ∷ ps' → qs ≡ q ∷ qs' → length ps' ≡ length qs'
 still_even ps qs ps' qs' p q even e f = omega (arith, ap length e, ap length f)
 
--- a tag, and those after it
+-- the first tag, and the tags after it
 consecutive_turn_suc : (vs : List (List ℕ × (Tree × ℕ))) (i k g : ℕ) → i < length vs → g ≡ get_or (variant_tags vs) i g
     → consecutive k (variants (drop i vs)) ≡ ((g == k) && consecutive (k + 1) (variants (drop (suc i) vs)))
 consecutive_turn_suc [] i k g h e = absurd (omega arith)

@@ -24,11 +24,11 @@ from_tags k (v ∷ vs) e =
     let rest : variant_tags vs ≡ range_with_len (k + 1) (length (variant_tags vs)) = cc in
     and_from _ _ ((Decides-eqb v.1.1 k).1 head) (from_tags (k + 1) vs rest)
 
--- what the test says of the tags
+-- where the test holds, the tags are consecutive
 pub tested : (vs : List (List ℕ × (Tree × ℕ))) (b : Bool) → b ≡ consecutive 0 (variants vs) → IsTrue b ↔ AreConsecutive (variant_tags vs)
 tested vs b e = (λ yes. tags_from 0 vs (sym e ∙ yes), λ all. e ∙ from_tags 0 vs all)
 
--- and what says that is the test
+-- where the tags are consecutive, the test holds
 pub told_by_test : (vs : List (List ℕ × (Tree × ℕ))) (b : Bool) → (IsTrue b ↔ AreConsecutive (variant_tags vs)) → b ≡ consecutive 0 (variants vs)
 told_by_test vs true h = sym (from_tags 0 vs (h.0 refl))
 told_by_test vs false h = go (consecutive 0 (variants vs)) refl

@@ -1,7 +1,7 @@
 -- SPDX-License-Identifier: Apache-2.0
 -- SPDX-FileCopyrightText: Copyright the Vortex contributors
 
--- The types that a walk has left are no deeper than those that it began with.
+-- The types that a recursion has left are no deeper than those that it began with.
 use Rattle.std.proofs.Common.{◌≡◌, ◌≤◌, ℕ, List, ◌∷◌, ap, arith}
 use denote.Param.Weighed.{most}
 use Rattle.dtype_types.specs.declared.dtype.DType.{DType, size-DType}

@@ -15,7 +15,7 @@ use Rattle.std.proofs.lemmas.List.{length-map}
 use Rattle.std.proofs.lemmas.Map.Made.{hash_set_len-from_list, distinct_count-le, IsDistinct-from_count, distinct_count-from_IsDistinct, AllPairs-from_IsDistinct, IsDistinct-from_AllPairs}
 use Rattle.dtype_base.specs.Distinct.{Distinct}
 
--- equality of what two references lend
+-- equality of two borrowed values
 abbrev pub same_lent : {A : Type 0} → (A → A → Bool) → Bor A → Bor A → Bool
 same_lent eq x y = eq x.now y.now
 
@@ -50,7 +50,7 @@ shorter_set {eq = eq} laws items xs set n lent made len =
       λ h. let full : distinct_count (same_lent eq) xs ≡ length xs = distinct_count-from_IsDistinct same xs (lent_distinct eq xs (subst (IsDistinct eq) (sym lent) h)) in grind (arith, nat_tests),
     )
 
--- ---- at tags and at names, where equal means the same
+-- ---- at tags and at names, where `==` is equality
 
 pub tags_distinct : (tags : List ℕ) → IsDistinct nat_eq tags → Distinct tags
 tags_distinct tags h = AllPairs-from_IsDistinct unsigned_Decides tags h

@@ -1,7 +1,7 @@
 -- SPDX-License-Identifier: Apache-2.0
 -- SPDX-FileCopyrightText: Copyright the Vortex contributors
 
--- All that is fed to a hasher of a struct's fields, or of a union's variants: how many there are, and each.
+-- What a struct's fields, or a union's variants, feed a hasher: their number, and each of them.
 use Rattle.std.proofs.Common.{◌≡◌, ℕ, suc, List, [], ◌∷◌, length, fold, refl, sym, ap, ◌∙◌}
 use Rattle.std.specs.Hash.{le_bytes}
 use Rattle.dtype_types.specs.tree.Tree.{Tree, fields, variants}
@@ -16,7 +16,7 @@ count_of_variants : (ps : List (List ℕ × (Tree × ℕ))) → variant_count (v
 count_of_variants [] = refl
 count_of_variants (p ∷ ps) = ap suc (count_of_variants ps)
 
--- s is the state at first, t that behind the count k, and u that at the end, where nothing is left
+-- s is the hasher's state before, t after the count k, and u at the end, where no field is left
 module _ {S : Type 0} (write : S → List ℕ → S) (mode : HashMode) where
   pub fields_fed : (ps left : List (List ℕ × Tree)) (k : ℕ) (s t u : S) → k ≡ length ps → t ≡ fold write s (le_bytes 8 k ∷ [])
       → fold write t (field_writes mode (fields ps)) ≡ fold write u (field_writes mode (fields left)) → left ≡ []

@@ -26,7 +26,7 @@ pub ends_none : (ps : List (List ℕ × Tree)) → length ps ≡ 0 → [] ≡ la
 ends_none [] h = refl
 ends_none (p ∷ ps) h = absurd (omega arith)
 
--- all that is written of fields, put together
+-- the writes of all fields, joined
 pub braces_of : (before indent : List ℕ) (ps : List (List ℕ × Tree)) (last : List ℕ) → last ≡ last_line (fields ps)
     → ((before ++ codes "{\n") ++ join_by (λ t. t) (codes ",\n") (indented_fields (indent ++ codes "  ") (fields ps))) ++ (last ++ (indent ++ codes "}")) ≡ before ++ indented_braces indent (fields ps)
 unfolding indented_braces
@@ -34,6 +34,6 @@ braces_of before indent ps last e =
     let parts = indented_fields (indent ++ codes "  ") (fields ps) in
     simp append_assoc (ap (λ (l : List ℕ). before ++ (codes "{\n" ++ (join_by (λ t. t) (codes ",\n") parts ++ (l ++ (indent ++ codes "}"))))) e)
 
--- what stands before a field, its indentation, its name and its type, put together
+-- the line break before a field, its indentation, its name and its type, joined
 pub indented_named : (before separator indent n t : List ℕ) → (before ++ (separator ++ (indent ++ (n ++ codes "=")))) ++ t ≡ before ++ (separator ++ (indent ++ (n ++ (codes "=" ++ t))))
 indented_named before separator indent n t = simp append_assoc

@@ -1,7 +1,7 @@
 -- SPDX-License-Identifier: Apache-2.0
 -- SPDX-FileCopyrightText: Copyright the Vortex contributors
 
--- What a type of another kind doesn't hold, and what a struct holds.
+-- The parts of a type of a known kind, and that a type of another kind lacks them.
 use Rattle.std.proofs.Common.{◌≡◌, ap, ◌∙◌, ℕ, Some, None, refl}
 use Rattle.std.specs.declared.boxed.Box.{Box}
 use Rattle.std.specs.declared.alloc.Global.{Global}
@@ -68,14 +68,14 @@ unfolding out-DType Carrier.out
 extension_parts_none (Extension' b i m e) h = absurd (h (record { parts = record { ptr = b.ptr; alloc = b.alloc; value = record { id = i; metadata = m; storage = e } } }) refl)
 extension_parts_none d h = ap extension_parts (tree_out d)
 
--- what a struct, a union, a map and an extension hold
+-- the parts of a struct, a union, a map and an extension
 pub struct_fields_some : (x : StructFields) (n : Nullability) (d : DType) → d ≡ Struct x n → struct_fields (tree d) ≡ Some (children x)
 struct_fields_some x n d e = ap (λ z. struct_fields (tree z)) e ∙ ap struct_fields (tree_struct x n) ∙ ap Some (pairs_of (children x))
 
 pub union_variants_some : (x : UnionVariants) (n : Nullability) (d : DType) → d ≡ Union x n → union_variants (tree d) ≡ Some (variant_list x)
 union_variants_some x n d e = ap (λ z. union_variants (tree z)) e ∙ ap union_variants (tree_union x n) ∙ ap Some (triples_variants (variant_list x))
 
--- a type of the kind holds what it holds
+-- a type of the kind has its parts
 pub is_primitive_named : (t : Tree) → kind t ≡ k.Primitive → primitive_name t ≡ None → ⊥
 is_primitive_named (primitive p n) e h = cc
 is_primitive_named _ e h = cc
@@ -88,5 +88,5 @@ pub is_extension_with : (t : Tree) → kind t ≡ k.Extension → extension_part
 is_extension_with (extension i b s) e h = cc
 is_extension_with _ e h = cc
 
--- what is known of a kind and of what a type of it holds
+-- the kind of a type, and its parts
 pub ruleset kind_laws = (primitive_name_none, is_primitive_named, decimal_of_none, list_element_none, fixed_size_list_element_none, any_size_list_element_none, map_parts_none, struct_fields_none, struct_fields_some, is_struct_with, union_variants_none, union_variants_some, extension_parts_none, is_extension_with)

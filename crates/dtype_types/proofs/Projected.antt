@@ -1,7 +1,7 @@
 -- SPDX-License-Identifier: Apache-2.0
 -- SPDX-FileCopyrightText: Copyright the Vortex contributors
 
--- What a projection to names has, as `Projects` says it: a field of each, which is the first of that name.
+-- A projection to names satisfies `Projects`: it has a field for each name, which is the first field of that name.
 use Rattle.std.proofs.Common.{Bool, true, false, cond, ◌≡◌, ℕ, zero, suc, List, [], ◌∷◌, map, get_or, Some, IsSome, slice_get, refl, sym, ap, subst, ◌∙◌}
 use Rattle.std.proofs.lemmas.Bool.{false≢true}
 use Rattle.std.proofs.lemmas.List.Elements.{recursion_from_All}
@@ -12,7 +12,7 @@ use Rattle.std.specs.Str.{bytes_eq}
 use Rattle.dtype_types.specs.parts.Lookups.{first_named, field_names}
 use Rattle.dtype_types.specs.tree.Tree.{Tree}
 
--- a field has each of them
+-- each of the names is that of a field
 each_known : (fs : List (List ℕ × Tree)) (ms : List (List ℕ)) (gs : List (List ℕ × Tree)) → map (λ (p : List ℕ × Tree). Some p.1) gs ≡ map (first_named fs) ms → AllByRecursion (λ n. IsSome (first_named fs n)) ms
 each_known fs [] gs e = tt
 each_known fs (m ∷ ms) [] e = cc
@@ -21,7 +21,7 @@ each_known fs (m ∷ ms) (g ∷ gs) e =
     let tail : map (λ (p : List ℕ × Tree). Some p.1) gs ≡ map (first_named fs) ms = cc in
     (subst (λ o. IsSome o) head refl, each_known fs ms gs tail)
 
--- a name asked for leads in the projection to what it leads to in the whole
+-- a lookup of a name that was asked for gives the same in the projection as in the whole
 leads_alike : (fs gs : List (List ℕ × Tree)) → map (λ (p : List ℕ × Tree). Some p.1) gs ≡ map (first_named fs) (field_names gs) → (n : List ℕ) (k : ℕ) → slice_get (field_names gs) k ≡ Some n → first_named gs n ≡ first_named fs n
 leads_alike fs [] e n k h = cc
 leads_alike fs (g ∷ gs) e n k h = go (bytes_eq g.0 n) refl k h (λ j at. leads_alike fs gs tail n j at)

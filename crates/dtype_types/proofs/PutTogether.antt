@@ -1,7 +1,7 @@
 -- SPDX-License-Identifier: Apache-2.0
 -- SPDX-FileCopyrightText: Copyright the Vortex contributors
 
--- Fields whose names and types were put together in two lists: joined, without one of them, or made one by one.
+-- Fields built as a list of names and a list of types: two structs joined, one field removed, or fields pushed one by one.
 use Rattle.std.proofs.Common.{◌≡◌, ℕ, List, ◌++◌, length, map, suc, take, drop, sym, ap, ◌∙◌, arith}
 use Rattle.std.proofs.lemmas.List.{map-append, take-map, drop-map, length-map}
 use Rattle.std.proofs.lemmas.Simd.{map-map}

@@ -1,7 +1,7 @@
 -- SPDX-License-Identifier: Apache-2.0
 -- SPDX-FileCopyrightText: Copyright the Vortex contributors
 
--- Selecting names, and with them the types at their first positions.
+-- Selecting fields by name: the types at the first positions of the names.
 use Rattle.std.proofs.Common.{◌≡◌, ◌⊎◌, ℕ, zero, suc, ◌+◌, ◌<◌, List, [], ◌∷◌, ◌++◌, length, map, take, get_or, Some, slice_get, refl, sym, ap, subst, ◌∙◌, arith}
 use Rattle.std.specs.List.{All, zip}
 use Rattle.std.proofs.lemmas.List.{map_push, map_more, length-map}
@@ -22,12 +22,11 @@ use Rattle.dtype_types.specs.declared.dtype.DType.{DType}
 -- the types at the first positions of names are the types of these names
 types_at : (fs : List (List ℕ × Tree)) (names : List (List ℕ)) (firsts : List ℕ) → map Some firsts ≡ map (first_place (field_names fs)) names → map (slice_get (field_types fs)) firsts ≡ map (first_named fs) names
 types_at fs [] [] e = refl
-types_at fs [] (i ∷ firsts) e = cc
-types_at fs (n ∷ names) [] e = cc
 types_at fs (n ∷ names) (i ∷ firsts) e =
     let head : Some i ≡ first_place (field_names fs) n = cc in
     let rest : map Some firsts ≡ map (first_place (field_names fs)) names = cc in
     ap (λ o. o ∷ map (slice_get (field_types fs)) firsts) (field_at_place fs n i head) ∙ ap (λ os. first_named fs n ∷ os) (types_at fs names firsts rest)
+types_at fs _ _ e = cc
 
 zip_names : (ns : List (List ℕ)) (ts : List Tree) → length ts ≡ length ns → field_names (zip ns ts) ≡ ns
 zip_names [] ts e = refl
@@ -36,9 +35,8 @@ zip_names (n ∷ ns) (t ∷ ts) e = ap (λ ms. n ∷ ms) (zip_names ns ts (omega
 
 zip_types : (ns : List (List ℕ)) (ts : List Tree) → length ts ≡ length ns → map (λ (p : List ℕ × Tree). Some p.1) (zip ns ts) ≡ map Some ts
 zip_types [] [] e = refl
-zip_types [] (t ∷ ts) e = absurd (omega (arith, e))
-zip_types (n ∷ ns) [] e = absurd (omega (arith, e))
 zip_types (n ∷ ns) (t ∷ ts) e = ap (λ os. Some t ∷ os) (zip_types ns ts (omega (arith, e)))
+zip_types _ _ e = absurd (omega (arith, e))
 
 -- as many types as names
 pub as_many_selected : (fs : List (List ℕ × Tree)) (names : List (List ℕ)) (firsts : List ℕ) (ds : List DType) → map Some firsts ≡ map (first_place (field_names fs)) names → map Some (map tree ds) ≡ map (slice_get (field_types fs)) firsts → length ds ≡ length names
@@ -57,14 +55,13 @@ selected fs names firsts ds gs made e f =
 
 -- each first position is one of the types
 pub firsts_within : (fs : List (List ℕ × Tree)) (names : List (List ℕ)) (firsts : List ℕ) (n : ℕ) → length (field_names fs) ≡ n → map Some firsts ≡ map (first_place (field_names fs)) names → All (λ i. i < n) firsts
-firsts_within fs [] [] n as_many e k d within = absurd (omega (arith, within))
 firsts_within fs [] (i ∷ firsts) n as_many e k d within = cc
-firsts_within fs (m ∷ names) [] n as_many e k d within = absurd (omega (arith, within))
 firsts_within fs (m ∷ names) (i ∷ firsts) n as_many e zero d within =
     let head : Some i ≡ first_place (field_names fs) m = cc in
     omega (arith, as_many, slice_get_within (field_names fs) i m (first_of_place (field_names fs) m i head).here)
 firsts_within fs (m ∷ names) (i ∷ firsts) n as_many e (suc k) d within =
     let rest : map Some firsts ≡ map (first_place (field_names fs)) names = cc in firsts_within fs names firsts n as_many rest k d (omega (arith, within))
+firsts_within _ _ _ _ _ _ _ _ within = absurd (omega (arith, within))
 
 -- one type more
 pub copies_more : (ts us : List Tree) (positions : List ℕ) (j i : ℕ) (t : Tree) → j < length positions → i ≡ get_or positions j i → slice_get ts i ≡ Some t
@@ -73,9 +70,9 @@ copies_more ts us positions j i t within read here so_far =
     map_push Some us t ∙ ap (λ os. os ++ Some t ∷ []) so_far ∙ ap (λ o. map (slice_get ts) (take j positions) ++ o ∷ []) (sym here ∙ ap (slice_get ts) read)
     ∙ sym (map_more (slice_get ts) positions j i within)
 
--- ---- of what a struct holds
+-- ---- of a struct's fields
 
--- a type that is read
+-- the type at one position
 pub tree_read : (ds : List DType) (i : ℕ) (d : DType) → i < length ds → d ≡ get_or ds i d → slice_get (map tree ds) i ≡ Some (tree d)
 tree_read ds i d within read = slice_get-map tree ds i ∙ ap (option_map tree) (slice_get_read ds (length ds) i d refl within read)
 
@@ -100,6 +97,6 @@ module _ (ps held : List (List ℕ × DType)) (asked : List (List ℕ)) (places 
     projects names made named put =
         selected (with_trees ps) asked places ds (with_trees made) (ap with_trees put ∙ trees_zip names ds ∙ ap (λ ns. zip ns (map tree ds)) named) shown_places shown_types
 
--- an error, where the names are those that a struct holds
+-- the error of a name that is absent from the struct
 pub refused_of : (ps held : List (List ℕ × DType)) (asked : List (List ℕ)) (e : VortexError) → held ≡ ps → (e ≡ OutOfMemory) ⊎ SelectionError (keys_of held) asked e → (e ≡ OutOfMemory) ⊎ SelectionError (field_names (with_trees ps)) asked e
 refused_of ps held asked e same h = subst (λ ns. (e ≡ OutOfMemory) ⊎ SelectionError ns asked e) (ap keys_of same ∙ sym (names_shown ps)) h

@@ -7,7 +7,7 @@ use Rattle.dtype_base.specs.declared.nullability.Nullability.TheVariants.{NonNul
 use Rattle.dtype_types.specs.nullability.Nullable.{nullability, set_null, CanBeNonNullable}
 use Rattle.dtype_types.specs.tree.Tree.{Tree, null, extension}
 
--- a value passes through
+-- `option_map` keeps whether there is a value
 kept : (i b : List ℕ) (o : Option Tree) → IsSome o → IsSome (option_and_then (λ x. Some (extension i b x)) o)
 kept i b (Some x) h = refl
 kept i b None h = cc

@@ -1,7 +1,7 @@
 -- SPDX-License-Identifier: Apache-2.0
 -- SPDX-FileCopyrightText: Copyright the Vortex contributors
 
--- The sides of pairs and of triples that are made of lists of one length.
+-- The components of pairs and triples that `zip` makes of lists of one length.
 use Rattle.std.proofs.Common.{◌≡◌, List, [], ◌∷◌, length, refl, ap, sym, ◌∙◌, arith}
 use Rattle.std.specs.List.{zip}
 use Rattle.std.proofs.lemmas.Slice.Zip.{firsts-zip, seconds-zip}
@@ -14,7 +14,7 @@ zip_count [] ys e = refl
 zip_count (x ∷ xs) [] e = absurd (omega arith)
 zip_count (x ∷ xs) (y ∷ ys) e = omega (arith, zip_count xs ys (omega arith))
 
--- the two sides of pairs, put together
+-- zipping the components of pairs gives the pairs
 pub zip_sides : {X Y : Type 0} (ps : List (X × Y)) (xs : List X) (ys : List Y) → xs ≡ keys_of ps → ys ≡ values_of ps → zip xs ys ≡ ps
 zip_sides ps xs ys e f = ap (λ ls. zip ls ys) e ∙ ap (zip (keys_of ps)) f ∙ whole ps
   where

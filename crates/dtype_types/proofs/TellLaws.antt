@@ -15,7 +15,7 @@ use Rattle.dtype_types.specs.values.Sample.{sample, samples, copies}
 use Rattle.dtype_types.specs.values.Tell.{or_else, null_else, tell, tell_fields, tell_variants, HasNoSizeZero, FieldsHaveNoSizeZero, VariantsHaveNoSizeZero}
 use Rattle.dtype_types.specs.lemmas.SampleLaws.{sample_of, samples_of, value_count-copies, each_copy}
 
--- ---- an answer that says why there is none, or tells P from Q
+-- ---- an answer: a value of which P holds and Q does not, or the proof that there is none
 
 abbrev Told : {X : Type 0} → Type 0 → (X → Type 0) → (X → Type 0) → Option X → Type 0
 Told S P Q None = S
@@ -34,7 +34,7 @@ told_or S T P Q (Some w) b h k = h
 told_or S T P Q None None h k = (h, k)
 told_or S T P Q None (Some w) h k = k
 
--- at a node: null, or the parts'
+-- at a node: null, or a value of the parts
 told_node : (m n : Nullability) (S T : Type 0) (P Q : Value → Type 0) → (m ≡ Nullable → P null_value) → (Q null_value → n ≡ Nullable) → (Allows m n → S → T) → (o : Option Value) → Told S P Q o → Told T P Q (null_else m n o)
 told_node Nullable NonNullable S T P Q p q f o h = (p refl, λ x. cc (q x))
 told_node Nullable Nullable S T P Q p q f None h = f (λ x. x) h

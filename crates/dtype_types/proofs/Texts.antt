@@ -17,7 +17,7 @@ use Rattle.dtype_types.specs.declared.union_variants.UnionVariants.{UnionVariant
 use Rattle.dtype_types.specs.declared.map.MapDType.{MapDType}
 use Rattle.dtype_types.specs.declared.extension.ExtDTypeRef.{ExtDTypeRef}
 
--- ---- a type's text by that of its part
+-- ---- the text of a type, by the text of its part
 
 pub map_all : (m : MapDType) (n : Nullability) (d : DType) → d ≡ Map m n → map_text m ++ nullability_text n ≡ text (tree d)
 unfolding map_text
@@ -35,9 +35,9 @@ pub extension_all : (x : ExtDTypeRef) (d : DType) → d ≡ Extension x → exte
 unfolding extension_text
 extension_all x d e = sym (ap (λ z. text (tree z)) e ∙ ap text (tree_extension x))
 
--- ---- texts that are left, the first behind what separates it from those before it
+-- ---- the texts that are left, each after its separator
 
--- texts, each behind what separates it
+-- texts, each after its separator
 abbrev preceded : List ℕ → List (List ℕ) → List ℕ
 preceded sep xs = flat_map (λ x. sep ++ x) xs
 
@@ -45,7 +45,7 @@ abbrev pub leading : List ℕ → List ℕ → List (List ℕ) → List ℕ
 leading first sep [] = []
 leading first sep (x ∷ xs) = first ++ (x ++ preceded sep xs)
 
--- before the first there is nothing to separate
+-- the first text has no separator
 pub leading_all : (sep : List ℕ) (xs : List (List ℕ)) → leading [] sep xs ≡ join_by (λ t. t) sep xs
 leading_all sep [] = refl
 leading_all sep (x ∷ xs) = refl
@@ -54,7 +54,7 @@ leading_more : (sep : List ℕ) (xs : List (List ℕ)) → leading sep sep xs �
 leading_more sep [] = refl
 leading_more sep (x ∷ xs) = sym (append_assoc sep x (preceded sep xs))
 
--- one more is written, behind what separates it
+-- one more text is written, after its separator
 pub one_written : (sep first done all x : List ℕ) (left rest : List (List ℕ)) → done ++ leading first sep left ≡ all → left ≡ x ∷ rest → (done ++ (first ++ x)) ++ leading sep sep rest ≡ all
 one_written sep first done all x left rest so_far next =
     ap (λ ys. (done ++ (first ++ x)) ++ ys) (leading_more sep rest) ∙ append_assoc done (first ++ x) (preceded sep rest) ∙ ap (λ ys. done ++ ys) (append_assoc first x (preceded sep rest))
@@ -63,7 +63,7 @@ one_written sep first done all x left rest so_far next =
 pub all_written : (sep first done all : List ℕ) (left : List (List ℕ)) → done ++ leading first sep left ≡ all → left ≡ [] → done ≡ all
 all_written sep first done all left so_far none = sym (append-nil done) ∙ ap (λ ys. done ++ leading first sep ys) (sym none) ∙ so_far
 
--- what stands before a name, the name and a type, put together
+-- a separator, a name and a type, joined
 pub named_text : (done first n t : List ℕ) → done ++ ((first ++ (n ++ codes "=")) ++ t) ≡ done ++ (first ++ (n ++ (codes "=" ++ t)))
 named_text done first n t = simp append_assoc
 

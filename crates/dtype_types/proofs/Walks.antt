@@ -10,7 +10,7 @@ use Rattle.std.specs.declared.iter.Zip.{Zip}
 use Rattle.std.proofs.lemmas.Iterator.{zips}
 use Rattle.std.proofs.lemmas.List.{append-nil}
 
--- the item that an iterator gives shows the first of those that are left
+-- the item that an iterator gives is the first of those that are left
 module _ {Item X : Type 0} (lent : Item → X) where
   abbrev pub steps : List X → Option Item → List X → Type 0
   steps = YieldsFirstBy lent (λ left. left)
@@ -21,7 +21,7 @@ module _ {Item X : Type 0} (lent : Item → X) where
   pub none_of : (s t : List X) (r : Option Item) → r ≡ None → steps s r t → s ≡ []
   none_of s t r is h = (subst (λ o. steps s o t) is h).0
 
-  -- of two lists side by side
+  -- the same of two zipped lists
   pub next_of_both : (s t : Zip (List X) (List X)) (r : Option (Item × Item)) (x y : Item) → r ≡ Some (x, y) → zips steps steps s r t
       → (zip_first s ≡ lent x ∷ zip_first t) × (zip_second s ≡ lent y ∷ zip_second t)
   next_of_both s t r x y is h = subst (λ o. zips steps steps s o t) is h
@@ -33,14 +33,14 @@ module _ {Item X : Type 0} (lent : Item → X) where
       by (inl a) = inl a.1.0
       by (inr b) = inr b.1.0
 
--- where one of two lists has nothing left, nor has what is made of it
+-- the map of an empty rest is empty
 pub nothing_of_either : {X Y : Type 0} (f : List X → List Y) {xs ys : List X} → (xs ≡ []) ⊎ (ys ≡ []) → (f xs ≡ f []) ⊎ (f ys ≡ f [])
 nothing_of_either f (inl a) = inl (ap f a)
 nothing_of_either f (inr b) = inr (ap f b)
 
--- ---- what is done, and what is left, of a list
+-- ---- the items of a list that are done, and those that are left
 
--- an item moves from those that are left behind those that are done
+-- an item moves from those that are left to the end of those that are done
 pub moves_over : {X : Type 0} (done left all rest : List X) (x : X) (more : List X) → done ++ left ≡ all → left ≡ x ∷ rest → more ≡ done ++ x ∷ [] → more ++ rest ≡ all
 moves_over done left all rest x more so_far next e = ap (λ xs. xs ++ rest) e ∙ append_assoc done (x ∷ []) rest ∙ ap (λ xs. done ++ xs) (sym next) ∙ so_far
 

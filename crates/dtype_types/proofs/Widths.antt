@@ -1,7 +1,7 @@
 -- SPDX-License-Identifier: Apache-2.0
 -- SPDX-FileCopyrightText: Copyright the Vortex contributors
 
--- Widths of a list of one length, and of a struct with one more field behind its fields.
+-- Widths of a fixed-size list, and of a struct with one field more at its end.
 use Rattle.std.proofs.Common.{◌≡◌, ◌⊎◌, ℕ, zero, suc, ◌+◌, ◌*◌, ◌^◌, ◌<◌, ◌≤◌, List, [], ◌∷◌, ◌++◌, length, map, get_or, take, refl, sym, ap, ◌∙◌, inl, inr, arith, add_assoc}
 use Rattle.std.proofs.lemmas.List.{get_or-map, length-map, take_more}
 use Rattle.dtype_base.specs.declared.nullability.Nullability.{Nullability}
@@ -40,7 +40,7 @@ pub variable_before : (ps : List (List ℕ × Tree)) (p : List ℕ × Tree) → 
 variable_before [] p f g = f tt
 variable_before (q ∷ ps) p f g = variable_before ps p (λ h. f (g.0, h)) g.1
 
--- a beginning of the fields has one already
+-- a prefix of the fields has a variable field already
 pub variable_beginning : (ps : List (List ℕ × Tree)) (k : ℕ) → ¬ FixedFields (fields (take k ps)) → ¬ FixedFields (fields ps)
 variable_beginning [] zero f g = f tt
 variable_beginning [] (suc k) f g = f tt
@@ -77,7 +77,7 @@ narrow_sum ps p n bytes f g e small = (push_fixed ps p f.0 g.0, none, e ∙ sym 
     none (u, inl whole, big) = absurd (omega (arith, ap width whole, total_push ps p))
     none (u, inr inside, big) = elim (part_push u ps p inside) [ inl before ↦ f.1 (u, inr before, big) | inr last ↦ g.1 (u, last, big) ]
 
--- ---- a list of one length that is itself too wide
+-- ---- a fixed-size list that is itself too wide
 
 at_least : (x y : ℕ) → ¬ (x < y) → y ≤ x
 at_least x y h = omega arith

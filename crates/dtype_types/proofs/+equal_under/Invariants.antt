@@ -12,7 +12,7 @@ use Rattle.dtype_types.specs.tree.TreeOf.{struct_dtypes, fields_of, union_dtypes
 use Rattle.dtype_types.specs.declared.dtype.DType.{size-DType}
 use Rattle.dtype_types.proofs.+equal_under.Given as goal
 
--- what is left of the two agrees as all of them do, is equally long, and is no deeper
+-- the rests are equal under the rule exactly where the wholes are, are equally long, and are no deeper
 abbrev pub invariant-struct_fields::StructFields::equal_under-loop-name : goal.invariant-struct_fields::StructFields::equal_under-loop-name
 invariant-struct_fields::StructFields::equal_under-loop-name l = record {
   agrees : fields_equal_under l.rule (fields (with_trees (zip_first l.name-iterator))) (fields (with_trees (zip_second l.name-iterator))) ≡ fields_equal_under l.rule (fields_of l.self) (fields_of l.other);

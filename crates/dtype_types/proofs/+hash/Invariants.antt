@@ -11,7 +11,7 @@ use Rattle.dtype_types.specs.tree.TreeOf.{struct_dtypes, fields_of, union_dtypes
 use Rattle.dtype_types.specs.declared.dtype.DType.{size-DType}
 use Rattle.dtype_types.proofs.+hash.Given as goal
 
--- what the fields that are left will write is what all of them do, and they are no deeper
+-- the writes so far, followed by those of the fields that are left, are those of all fields; those left are no deeper
 abbrev pub invariant-struct_fields::StructFields::hash_into-loop-name : goal.invariant-struct_fields::StructFields::hash_into-loop-name
 invariant-struct_fields::StructFields::hash_into-loop-name g l = record {
   fed : fold g.H.Hasher.write l.initial.state (field_writes l.mode (fields_of l.self)) ≡ fold g.H.Hasher.write l.state (field_writes l.mode (fields (with_trees l.name-iterator)));

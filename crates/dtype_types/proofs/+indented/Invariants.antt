@@ -14,7 +14,7 @@ use Rattle.std.specs.Map.{values_of}
 use Rattle.dtype_types.specs.declared.dtype.DType.{size-DType}
 use Rattle.dtype_types.proofs.+indented.Given as goal
 
--- what is written, with the fields that are left behind it, is all, and those are no deeper
+-- the output so far, followed by the text of the fields that are left, is the whole text; those fields are no deeper
 abbrev pub invariant-struct_fields::StructFields::write_indented-loop-name : goal.invariant-struct_fields::StructFields::write_indented-loop-name
 invariant-struct_fields::StructFields::write_indented-loop-name l = record {
   utf8 : shadow (Utf8 l.separator);

@@ -15,7 +15,7 @@ use Rattle.dtype_types.specs.parts.Lists.{types_of}
 use Rattle.dtype_types.specs.declared.dtype.DType.{size-DType}
 use Rattle.dtype_types.proofs.+text.Given as goal
 
--- what is written, with what is left behind it, is all, and what is left is no deeper
+-- the output so far, followed by the text of the parts that are left, is the whole text; those parts are no deeper
 abbrev pub invariant-struct_fields::StructFieldsDisplay::fmt-loop-name : goal.invariant-struct_fields::StructFieldsDisplay::fmt-loop-name
 invariant-struct_fields::StructFieldsDisplay::fmt-loop-name g l = record {
   utf8 : shadow (Utf8 l.separator);

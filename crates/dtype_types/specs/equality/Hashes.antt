@@ -2,9 +2,9 @@
 -- SPDX-FileCopyrightText: Copyright the Vortex contributors
 
 -- What a type feeds a hasher, as a list of writes: one byte for its kind, or which primitive type it is, and its
--- nullability, where nullabilities aren't forgotten, and then all that it holds. A count comes before each list, and a
--- mark after each text. `Whole` is all of a type, `Erased` the type with every nullability forgotten.
--- It is a function of the tree, so equal types feed alike, as std's `Hash` asks. The writes are this port's own.
+-- nullability, where nullabilities aren't ignored, and then its parts. A count comes before each list, and a
+-- mark after each text. `Whole` is the type as it is, `Erased` the type without its nullabilities.
+-- It is a function of the tree, so equal types feed the same writes, as std's `Hash` asks. The writes are this port's own.
 use Rattle.std.specs.Prelude.{ℕ, suc, ◌+◌, ◌*◌, List, [], ◌∷◌, ◌++◌, length}
 use Rattle.std.specs.Hash as fed
 use Rattle.std.specs.Hash.{HashWrites}
@@ -18,16 +18,16 @@ use Rattle.dtype_types.specs.declared.dtype.hash.HashMode.{HashMode}
 use Rattle.dtype_types.specs.declared.dtype.hash.HashMode.TheVariants.{Whole, Erased}
 use Rattle.dtype_types.specs.tree.Tree.{Tree, Fields, no_fields, field, Variants, no_variants, choice, null, bool, primitive, decimal, utf8, binary, list, fixed_size_list, map_of, struct, union, variant, extension}
 
--- 1 for a nullable type, where nullabilities aren't forgotten
+-- 1 for a nullable type, where nullabilities aren't ignored
 abbrev pub nullable_mark : HashMode → Nullability → ℕ
 nullable_mark Whole Nullable = 1
 nullable_mark _ _ = 0
 
--- the number of what a type is, and its nullability, in one byte
+-- a kind's number and a nullability, in one byte
 abbrev pub kind_writes : HashMode → ℕ → Nullability → HashWrites
 kind_writes s number n = fed.u8 (2 * number + nullable_mark s n)
 
--- the primitive types are numbered behind the kinds
+-- the primitive types are numbered after the kinds
 abbrev pub primitive_number : PType → ℕ
 primitive_number p = suc (kind_number kind.Extension) + (ptype_row p).number
 
@@ -46,7 +46,7 @@ variant_count no_variants = 0
 variant_count (choice n t g rest) = suc (variant_count rest)
 
 abbrev mutual
-  -- a type: its kind and nullability, and then what it holds
+  -- a type: its kind and nullability, and then its parts
   pub hash_of : HashMode → Tree → HashWrites
   hash_of s null = kind_writes s (kind_number kind.Null) NonNullable
   hash_of s (bool n) = kind_writes s (kind_number kind.Bool) n

@@ -1,7 +1,7 @@
 -- SPDX-License-Identifier: Apache-2.0
 -- SPDX-FileCopyrightText: Copyright the Vortex contributors
 
--- The test of equality is exact: trees agree exactly where they are equal, and with nullabilities ignored
+-- The test of equality is exact: it holds exactly where the trees are equal, and with nullabilities ignored
 -- exactly where their erased trees are. Both are equivalences.
 use Rattle.std.specs.Prelude.{◌≡◌, ℕ, List, Bool, true, false, ◌&&◌, ◌==◌, refl}
 use Rattle.std.specs.Bool.{Decides}

@@ -1,8 +1,8 @@
 -- SPDX-License-Identifier: Apache-2.0
 -- SPDX-FileCopyrightText: Copyright the Vortex contributors
 
--- Types that are equal feed a hasher alike; types that are equal but for nullabilities do where those are
--- forgotten.
+-- Types that are equal feed a hasher the same writes; types that are equal but for nullabilities do where those are
+-- ignored.
 use Rattle.std.specs.Prelude.{◌≡◌, suc, ◌++◌, drop, true, refl}
 use Rattle.std.proofs.Common.{ap, sym, ◌∙◌}
 use Rattle.std.specs.Hash as fed
@@ -37,7 +37,7 @@ union_fed x y e = ap (λ vs. fed.usize (variant_count vs) ++ variant_writes Whol
 pub map_fed : (x y : MapDType) → same_map x y ≡ true → map_writes Whole x ≡ map_writes Whole y
 map_fed x y e = ap (λ m. hash_of Whole m.0 ++ (hash_of Whole m.1 ++ fed.bool m.2)) ((maps_equal_under-Decides (map_shown x) (map_shown y)).0 e)
 
--- an extension's writes are those of its tree behind the byte of the kind
+-- an extension's writes are those of its tree after the byte of the kind
 pub extension_fed : (x y : ExtDTypeRef) → same_extension x y ≡ true → extension_writes Whole x ≡ extension_writes Whole y
 extension_fed x y e = ap (λ t. drop 1 (hash_of Whole t)) ((equal_under-Decides (extension_tree x) (extension_tree y)).0 e)
 

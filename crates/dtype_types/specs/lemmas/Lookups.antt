@@ -1,7 +1,7 @@
 -- SPDX-License-Identifier: Apache-2.0
 -- SPDX-FileCopyrightText: Copyright the Vortex contributors
 
--- What stands at the first position of a name, of fields and of variants.
+-- The type at the first position of a name, of fields and of variants.
 use Rattle.std.proofs.Common.{◌≡◌, ◌≢◌, ℕ, zero, suc, ◌<◌, List, [], ◌∷◌, Some, None, cond, slice_get, refl, ap, sym, ◌∙◌, arith}
 use Rattle.std.specs.Str.{bytes_eq}
 use Rattle.std.proofs.lemmas.Bool.{false_from_ne_true}
@@ -22,11 +22,10 @@ other_name m n x y ne = ap (λ b. cond b x y) (false_from_ne_true (bytes_eq m n)
 -- ---- fields
 
 field_named-at : (ps : List (List ℕ × Tree)) (n : List ℕ) (i : ℕ) → slice_get (field_names ps) i ≡ Some n → ((k : ℕ) → k < i → slice_get (field_names ps) k ≢ Some n) → first_named ps n ≡ slice_get (field_types ps) i
-field_named-at [] n zero here first = cc
-field_named-at [] n (suc i) here first = cc
 field_named-at (p ∷ ps) n zero here first = taken_same_name p.0 n _ _ (same_Some p.0 n here)
 field_named-at (p ∷ ps) n (suc i) here first =
     other_name p.0 n _ _ (λ e. first 0 (omega arith) (ap Some e)) ∙ field_named-at ps n i here (λ k h. first (suc k) (omega (arith, h)))
+field_named-at _ n _ here first = cc
 
 field_named-none : (ps : List (List ℕ × Tree)) (n : List ℕ) → IsAbsent (field_names ps) n → first_named ps n ≡ None
 field_named-none [] n none = refl
@@ -41,11 +40,10 @@ no_field_at_place fs n e = sym (field_named-none fs n (absent_of_place (field_na
 -- ---- variants
 
 variant_named-at : (vs : List (List ℕ × (Tree × ℕ))) (n : List ℕ) (i : ℕ) → slice_get (variant_names vs) i ≡ Some n → ((k : ℕ) → k < i → slice_get (variant_names vs) k ≢ Some n) → variant_named vs n ≡ slice_get (variant_types vs) i
-variant_named-at [] n zero here first = cc
-variant_named-at [] n (suc i) here first = cc
 variant_named-at (v ∷ vs) n zero here first = taken_same_name v.0 n _ _ (same_Some v.0 n here)
 variant_named-at (v ∷ vs) n (suc i) here first =
     other_name v.0 n _ _ (λ e. first 0 (omega arith) (ap Some e)) ∙ variant_named-at vs n i here (λ k h. first (suc k) (omega (arith, h)))
+variant_named-at _ n _ here first = cc
 
 variant_named-none : (vs : List (List ℕ × (Tree × ℕ))) (n : List ℕ) → IsAbsent (variant_names vs) n → variant_named vs n ≡ None
 variant_named-none [] n none = refl

@@ -1,7 +1,7 @@
 -- SPDX-License-Identifier: Apache-2.0
 -- SPDX-FileCopyrightText: Copyright the Vortex contributors
 
--- A type whose nullability was set: what it has, and what setting it again gives.
+-- A type whose nullability was set: its parts, and what setting it again gives.
 use Rattle.std.proofs.Common.{◌≡◌, ◌↔◌, ℕ, List, Option, Some, None, IsSome, option_and_then, refl, ap, sym, ◌∙◌, subst}
 use Rattle.std.proofs.lemmas.Option.{same_Some}
 use Rattle.dtype_base.specs.declared.nullability.Nullability.{Nullability}
@@ -66,7 +66,7 @@ set_again (extension i b s) u m n e = by_storage (λ v. set_null v n ≡ set_nul
 pub last_decides : (t u v : Tree) (m n : Nullability) → set_null t m ≡ Some u → (set_null u n ≡ Some v) ↔ (set_null t n ≡ Some v)
 last_decides t u v m n e = let same = set_again t u m n e in (λ h. sym same ∙ h, λ h. same ∙ h)
 
--- a type set once is set alike afterwards, and set back it is what it was
+-- setting a nullability twice is setting the last, and setting the first one back restores the type
 pub set_again-all : (t u : Tree) (n : Nullability) → set_null t n ≡ Some u → set_null u ≡ set_null t
 set_again-all t u n e = λ i m. set_again t u n m e i
 

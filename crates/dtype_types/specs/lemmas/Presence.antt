@@ -1,7 +1,7 @@
 -- SPDX-License-Identifier: Apache-2.0
 -- SPDX-FileCopyrightText: Copyright the Vortex contributors
 
--- Whether a field of a name is there, whichever way it is asked: by its place, by the type that stands there, among
+-- Whether a field of a name is there, however it is asked: by its position, by the type at it, or among
 -- the names. `presence` names it in one line,
 --     #![tactic(auto, using(dtype_types::specs::lemmas::Presence::presence))]
 use Rattle.std.proofs.Common.{◌≡◌, ℕ, List, Option, Some, None, Contains, true, slice_get, refl, ap, sym, ◌∙◌}
@@ -20,13 +20,13 @@ is_some-map : {A B : Type 0} (f : A → B) (o : Option A) → is_some (option_ma
 is_some-map f None = refl
 is_some-map f (Some x) = refl
 
--- a place has a name where it has a type
+-- a position has a name where it has a type
 typed_where_named : (fs : List (List ℕ × Tree)) (i : ℕ) → is_some (slice_get (field_types fs) i) ≡ is_some (slice_get (field_names fs) i)
 typed_where_named fs i =
     ap is_some (slice_get-map (λ p. p.1) fs i) ∙ is_some-map (λ p. p.1) (slice_get fs i)
     ∙ sym (ap is_some (slice_get-map (λ p. p.0) fs i) ∙ is_some-map (λ p. p.0) (slice_get fs i))
 
--- a name has a place where it has a type
+-- a name has a position where it has a type
 pub placed_is_named : (fs : List (List ℕ × Tree)) (n : List ℕ) → is_some (first_named fs n) ≡ is_some (first_place (field_names fs) n)
 placed_is_named fs n = go (first_place (field_names fs) n) refl
   where
@@ -36,7 +36,7 @@ placed_is_named fs n = go (first_place (field_names fs) n) refl
         ap is_some (sym (field_at_place fs n i (sym e))) ∙ typed_where_named fs i
         ∙ ap is_some ((first_of_place (field_names fs) n i (sym e)).here) ∙ sym (ap is_some e)
 
--- a name that has a place is among the names, and the other way round
+-- a name that has a position is among the names, and the other way round
 pub placed_is_among : (ns : List (List ℕ)) (n : List ℕ) → is_some (first_place ns n) ≡ true → Contains ns n
 placed_is_among ns n h = go (first_place ns n) refl h
   where

@@ -1,7 +1,7 @@
 -- SPDX-License-Identifier: Apache-2.0
 -- SPDX-FileCopyrightText: Copyright the Vortex contributors
 
--- The tags of a valid union: none stands at two positions.
+-- The tags of a valid union: each is at one position.
 use Rattle.std.proofs.Common.{◌≡◌, ℕ, zero, suc, ◌<◌, ◌==◌, Bool, List, length, get_or, slice_get, Option, Some, None, IfSome, cond, refl, ap, sym, subst, ◌∙◌, arith}
 use Rattle.std.specs.List.{position, range_with_len}
 use Rattle.std.proofs.lemmas.List.{get_or_default, length-map}
@@ -25,10 +25,9 @@ lacks_at h (choice n t g rest) zero l within = l.0
 lacks_at h (choice n t g rest) (suc i) l within = lacks_at h rest i l.1 (omega arith)
 
 tags_distinct : (vs : Variants) (k i : ℕ) → ValidVariants vs → k < i → i < length (variant_tags (triples vs)) → ¬ (get_or (variant_tags (triples vs)) k 0 ≡ get_or (variant_tags (triples vs)) i 0)
-tags_distinct no_variants k i v before within = absurd (omega arith)
-tags_distinct (choice n t g rest) k zero v before within = absurd (omega arith)
 tags_distinct (choice n t g rest) zero (suc i) v before within = λ e. lacks_at g rest i v.3 (omega arith) (sym e)
 tags_distinct (choice n t g rest) (suc k) (suc i) v before within = tags_distinct rest k i v.4 (omega arith) (omega arith)
+tags_distinct _ k i v before within = absurd (omega arith)
 
 tag_position : (vs : Variants) (i tag : ℕ) → ValidVariants vs → slice_get (variant_tags (triples vs)) i ≡ Some tag → position (λ g. g == tag) (variant_tags (triples vs)) ≡ Some i
 tag_position vs i tag v here =
@@ -51,7 +50,7 @@ pub position_within : (u : UnionVariants) (f : ℕ → Bool) (r : Option ℕ) �
 position_within u f None e = tt
 position_within u f (Some i) e = omega (arith, (position-Some f (variant_tags (variant_list u)) i 0 (sym e)).0, length-map (variant_list u) (λ c. c.1.1))
 
--- the tag read at a place
+-- the tag read at a position
 pub tag_read : (gs hs : List ℕ) (i : ℕ) → hs ≡ gs → i < length gs → slice_get gs i ≡ Some (get_or hs i 0)
 tag_read gs hs i e w = slice_get_read gs (length gs) i (get_or hs i 0) refl w (ap (λ xs. get_or xs i 0) e ∙ get_or_default gs i 0 (get_or hs i 0) w)
 

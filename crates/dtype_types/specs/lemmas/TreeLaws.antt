@@ -1,7 +1,7 @@
 -- SPDX-License-Identifier: Apache-2.0
 -- SPDX-FileCopyrightText: Copyright the Vortex contributors
 
--- The tree of a struct and of a union, by the lists that they hold; what a type of another kind lacks.
+-- The tree of a struct and of a union, by their fields and variants; a type of another kind has none.
 use Rattle.std.specs.Prelude.{◌≡◌, ℕ, List, [], ◌∷◌, refl}
 use Rattle.std.proofs.Common.{ap, sym, ◌∙◌, rules}
 use Rattle.dtype_base.specs.declared.nullability.Nullability.{Nullability}
@@ -15,7 +15,7 @@ use Rattle.dtype_types.specs.declared.union_variants.UnionVariants.{fold_out-Uni
 use Rattle.dtype_types.specs.declared.extension.ExtDTypeRef.{ExtDTypeRef, fold_out-ExtDTypeRef}
 use Rattle.dtype_types.specs.declared.map.MapDType.{MapDType, fold_out-MapDType}
 
--- what a part holds, with the trees of its types
+-- a part's fields or variants, with the trees of their types
 abbrev extension_held : ExtDTypeRef → ExtensionParts
 extension_held = fold-ExtDTypeRef Tree ExtensionParts MapParts Fields Variants type_step extension_step map_step struct_step union_step
 
@@ -28,7 +28,7 @@ struct_held = fold-StructFields Tree ExtensionParts MapParts Fields Variants typ
 abbrev union_held : UnionVariants → Variants
 union_held = fold-UnionVariants Tree ExtensionParts MapParts Fields Variants type_step extension_step map_step struct_step union_step
 
--- the tree of a type is one layer over the trees of what it holds
+-- the tree of a type is one layer over the trees of its parts
 pub tree_out : (d : DType) → tree d ≡ type_step (map-DType DType ExtDTypeRef MapDType StructFields UnionVariants Tree ExtensionParts MapParts Fields Variants tree extension_held map_held struct_held union_held (out-DType d))
 tree_out d = fold_out-DType Tree ExtensionParts MapParts Fields Variants type_step extension_step map_step struct_step union_step d
 
@@ -51,7 +51,7 @@ pub triples_variants : (ps : List (List ℕ × (Tree × ℕ))) → triples (vari
 triples_variants [] = refl
 triples_variants (p ∷ ps) = ap (λ qs. p ∷ qs) (triples_variants ps)
 
--- what a struct holds is that of a list
+-- a struct's fields are those of a list
 pub struct_is : (p : _) (sh : _) (held : _) (n : Nullability) → (s : StructFields) × (Struct' p sh held n ≡ Struct s n)
 struct_is p sh held n =
     let d : DType = Struct' p sh held n in

@@ -1,7 +1,7 @@
 -- SPDX-License-Identifier: Apache-2.0
 -- SPDX-FileCopyrightText: Copyright the Vortex contributors
 
--- What a valid type of a known kind holds is valid: an element, and a map's, a struct's, a union's and an
+-- The parts of a valid type of a known kind are valid: an element, and a map's, a struct's, a union's and an
 -- extension's parts.
 use Rattle.std.proofs.Common.{◌≡◌, ℕ, List, Option, Some, None, IfSome, Bor, refl, ap, sym, subst, ◌∙◌}
 use Rattle.std.specs.Prelude.{Bool}

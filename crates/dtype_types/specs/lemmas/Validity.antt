@@ -1,7 +1,7 @@
 -- SPDX-License-Identifier: Apache-2.0
 -- SPDX-FileCopyrightText: Copyright the Vortex contributors
 
--- Validity of types, by that of what they hold.
+-- Validity of types, by that of their parts.
 use Rattle.std.proofs.Common.{◌≡◌, ℕ, zero, suc, List, [], ◌∷◌, ◌++◌, map, Bool, true, false, cond, Option, Some, None, IfSome, slice_get, ◌<◌, ◌^◌, ap, sym, subst, ◌∙◌, Bor}
 use Rattle.std.specs.Prelude.{remove}
 use Rattle.std.specs.List.{All, AllByRecursion, zip}
@@ -109,7 +109,7 @@ valid_projected ps (q ∷ qs) (n ∷ names) h e =
 
 -- ---- for callers
 
--- the type of a field, at its place and by its name
+-- the type of a field, at its position and by its name
 valid_of : (fs : List (List ℕ × Tree)) (i : ℕ) (t : Tree) → slice_get (field_types fs) i ≡ Some t → ValidFields (fields fs) → Valid t
 valid_of [] i t e h = cc
 valid_of (p ∷ ps) zero t e h = subst Valid (same_Some p.1 t e) h.0
@@ -123,7 +123,7 @@ pub named_field_valid : (s : StructFields) (n : List ℕ) (r : Option (Bor DType
 named_field_valid s n None e h = tt
 named_field_valid s n (Some d) e h = valid_named (children s) n (tree d.now) h e
 
--- the type of a variant, at its place and by its name
+-- the type of a variant, at its position and by its name
 valid_variant_of : (vs : List (List ℕ × (Tree × ℕ))) (i : ℕ) (t : Tree) → slice_get (variant_types vs) i ≡ Some t → ValidVariants (variants vs) → Valid t
 valid_variant_of [] i t e h = cc
 valid_variant_of (v ∷ vs) zero t e h = subst Valid (same_Some v.1.0 t e) h.0
@@ -209,7 +209,7 @@ set_valid (union vs m) u n e h = subst Valid (same_Some (union vs n) u e) h
 set_valid (variant m) u n e h = subst Valid (same_Some (variant n) u e) tt
 set_valid (extension i b s) u n e h = by_storage Valid i b (set_null s n) u e (λ x is. (h.0, set_valid s x n is h.1))
 
--- what a map has of the parts that it was made of
+-- a map is made of its key and its value
 pub made_map_valid : (m : MapDType) (k v : Tree) (b : Bool) → map_shown m ≡ (k, v, b) → nullability k ≡ NonNullable → Valid k → Valid v → Valid (map_tree m)
 made_map_valid m k v b e n h g = subst (λ (p : Tree × Tree × Bool). (nullability p.0 ≡ NonNullable) × Valid p.0 × Valid p.1) (sym e) (n, h, g)
 

@@ -114,7 +114,7 @@ storage_tree e = tree (extension_storage e)
 abbrev pub extension_tree : ExtDTypeRef → Tree
 extension_tree e = extension (extension_id e) (extension_metadata e) (storage_tree e)
 
--- what a value behind a reference shows, if there is one
+-- the tree of a borrowed type, if there is one
 abbrev pub shown : {A B : Type 0} → (A → B) → Option (Bor A) → Option B
 shown f None = None
 shown f (Some r) = Some (f r.now)

@@ -1,9 +1,9 @@
 -- SPDX-License-Identifier: Apache-2.0
 -- SPDX-FileCopyrightText: Copyright the Vortex contributors
 
--- How many bytes a value takes, for the types whose values all take as many. From the documentation of
--- `DType::element_size`: `Null` takes none, a truth value one, a number its own, a list of one length that
--- many times its element's, a struct the sum of its fields', an extension its storage's.
+-- The width of a type in bytes, for the types of fixed width: those whose values all take the same number of bytes. From
+-- the documentation of `DType::element_size`: `Null` takes no byte, a Boolean one, a number its own width, a fixed-size
+-- list its size times its element's width, a struct the sum of its fields' widths, an extension its storage's.
 use Rattle.std.specs.Prelude.{◌≡◌, ◌⊎◌, ℕ, ◌+◌, ◌*◌, ◌^◌, ◌≤◌, List, Option, Some, None}
 use Rattle.dtype_base.specs.Primitives.{ptype_row}
 use Rattle.dtype_base.specs.Decimals.{smallest_storage, storage}
@@ -13,8 +13,8 @@ use Rattle.dtype_types.specs.tree.Tree.{Tree, Fields, no_fields, field, fields, 
 use Rattle.dtype_types.specs.declared.dtype.width.Width.{Width}
 use Rattle.dtype_types.specs.declared.dtype.width.Width.TheVariants.{Variable, TooWide, Bytes}
 
--- all values of the type take as many bytes; so even a list of no elements is fixed only where its
--- element is
+-- all values of the type take the same number of bytes; a fixed-size list of size 0 too is of fixed width only where
+-- its element is
 abbrev mutual
   pub Fixed : Tree → Type 0
   Fixed null = Unit {0}
@@ -26,17 +26,17 @@ abbrev mutual
   Fixed (extension id b s) = Fixed s
   Fixed _ = ⊥
 
-  -- the values of each field take as many bytes
+  -- the type of each field is of fixed width
   pub FixedFields : Fields → Type 0
   FixedFields no_fields = Unit {0}
   FixedFields (field n t rest) = Fixed t × FixedFields rest
 
--- how many bytes a storage type takes
+-- the width of a storage type
 abbrev pub storage_bytes : Option DecimalType → ℕ
 storage_bytes (Some s) = (storage s).bytes
 storage_bytes None = 0
 
--- how many bytes a value of a fixed type takes
+-- the width of a type of fixed width
 abbrev mutual
   pub width : Tree → ℕ
   width null = 0
@@ -67,16 +67,16 @@ abbrev mutual
   FieldPart u no_fields = ⊥
   FieldPart u (field n t rest) = Part u t ⊎ FieldPart u rest
 
--- some part of the type is wider than 64 bits can say
+-- the width of some part of the type doesn't fit 64 bits
 abbrev pub HasWidePart : Tree → Type 0
 HasWidePart t = (u : Tree) × Part u t × (2 ^ 64 ≤ width u)
 
--- what the width says of the type
+-- the result of measuring a type is right
 abbrev pub Measures : Width → Tree → Type 0
 Measures Variable t = ¬ Fixed t
 Measures TooWide t = Fixed t × HasWidePart t
 Measures (Bytes n) t = Fixed t × (¬ HasWidePart t) × (n ≡ width t)
 
--- what the width says of a struct of these fields
+-- the result of measuring a struct of these fields is right
 abbrev pub MeasuresFields : Width → List (List ℕ × Tree) → Type 0
 MeasuresFields w fs = (n : Nullability) → Measures w (struct (fields fs) n)

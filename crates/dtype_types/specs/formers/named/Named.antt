@@ -71,9 +71,8 @@ zip-map h (k ∷ ks) (v ∷ vs) = ap (λ l. (k, h v) ∷ l) (zip-map h ks vs)
 
 zip-held : (X : Type 0) (ks : List Name) (vs : List X) → length vs ≡ length ks → held (list (entry this)) X (zip ks vs) ≡ held (list this) X vs
 zip-held X [] [] e = refl
-zip-held X [] (v ∷ vs) e = absurd (omega arith)
-zip-held X (k ∷ ks) [] e = absurd (omega arith)
 zip-held X (k ∷ ks) (v ∷ vs) e = λ i. (one_more (zip-held X ks vs (omega arith) i).0, (v, (zip-held X ks vs (omega arith) i).1))
+zip-held _ _ _ e = absurd (omega arith)
 
 module _ (R S : RattleType) (h : R.Denot → S.Denot) where
   pub the_places : Alike R S h → Alike (C.the_row R) (C.the_row S) ((the_former this).map R.Denot S.Denot h)

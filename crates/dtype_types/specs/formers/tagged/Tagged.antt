@@ -77,10 +77,8 @@ zip-map h (k ∷ ks) (v ∷ vs) (g ∷ gs) = ap (λ l. (k, (h v, g)) ∷ l) (zip
 
 zip-held : (X : Type 0) (ks : List Name) (vs : List X) (gs : List ℕ) → length vs ≡ length ks → length gs ≡ length ks → held (list (entry this)) X (zip ks (zip vs gs)) ≡ held (list this) X vs
 zip-held X [] [] gs e f = refl
-zip-held X [] (v ∷ vs) gs e f = absurd (omega arith)
-zip-held X (k ∷ ks) [] gs e f = absurd (omega arith)
-zip-held X (k ∷ ks) (v ∷ vs) [] e f = absurd (omega arith)
 zip-held X (k ∷ ks) (v ∷ vs) (g ∷ gs) e f = λ i. (one_more (zip-held X ks vs gs (omega arith) (omega arith) i).0, (v, (zip-held X ks vs gs (omega arith) (omega arith) i).1))
+zip-held _ _ _ _ e f = absurd (omega arith)
 
 module _ (R S : RattleType) (h : R.Denot → S.Denot) where
   pub the_places : Alike R S h → Alike (C.the_row R) (C.the_row S) ((the_former this).map R.Denot S.Denot h)

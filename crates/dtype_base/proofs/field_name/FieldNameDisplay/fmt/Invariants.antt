@@ -8,7 +8,7 @@ use Rattle.dtype_base.specs.Escapes.{escaped}
 use Rattle.dtype_base.proofs.EscapedChars.{IsUnchanged}
 use Rattle.dtype_base.proofs.field_name.FieldNameDisplay.fmt.Given as goal
 
--- the text before `start` is written, escaped; what is between it and `i` stands as it is
+-- the text before `start` is written, escaped; the bytes from `start` to `i` are printed unchanged
 abbrev pub invariant-loop-i : goal.invariant-loop-i
 invariant-loop-i g l = record {
   behind : l.start ≤ l.i;

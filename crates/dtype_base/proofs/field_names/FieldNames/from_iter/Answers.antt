@@ -3,7 +3,7 @@
 
 use Rattle.dtype_base.proofs.field_names.FieldNames.from_iter.Goals as goal
 
--- the run that `collect` speaks of
+-- the iterator's items, as the contract of `collect` has them
 pub returns : goal.returns
 returns g c =
     let run = c.in_ok-collect.ensures.runs tt in

@@ -22,7 +22,7 @@ new-requires g c =
     let inv = c.loop-name.invariant in
     omega (arith, ap length c.from_vec.ensures, ap length inv.names, ap length inv.dtypes, length-map c.loop-name.dtypes.items tree, length-map given (λ p. p.0), length-map given (λ p. field_tree p.1))
 
--- the run that the loop has made
+-- the iterator's items, as the loop took them
 pub returns : goal.returns
 returns g c =
     let given = c.loop-name.yielded in

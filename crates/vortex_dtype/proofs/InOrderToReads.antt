@@ -1,7 +1,7 @@
 -- SPDX-License-Identifier: Apache-2.0
 -- SPDX-FileCopyrightText: Copyright the Vortex contributors
 
--- What a call gave that gives what reading gives.
+-- From a result of the reading function to the relations of `Reads`.
 use Rattle.std.proofs.Common.{◌≡◌, ◌⊎◌, inl, inr, Result, Ok, Err, IfOk, MatchResult, refl, sym, subst}
 use Rattle.dtype_base.specs.declared.vortex_error.VortexError.{VortexError}
 use Rattle.dtype_base.specs.declared.vortex_error.VortexError.TheVariants.{OutOfMemory}
@@ -33,7 +33,7 @@ pub gives_accepts : (s : Meaning) → LawfulSession s → (m : Message) (r : Res
 gives_accepts s l m (Ok d) i g = reads_accepted s m (tree d) l i (read_reads s m (tree d) g)
 gives_accepts s l m (Err e) i g = tt
 
--- what is written of an admitted type reads as that type
+-- the message of an admitted type reads as that type
 written_is_read : (s : Meaning) (m : Message) (t : Tree) → Valid t → Admits s t → m ≡ written t → Reads s m t
 written_is_read s m t v a e = subst (λ (x : Message). Reads s x t) (sym e) (written_reads s t v a)
 

@@ -1,7 +1,7 @@
 -- SPDX-License-Identifier: Apache-2.0
 -- SPDX-FileCopyrightText: Copyright the Vortex contributors
 
--- Reading the types of a struct or a union one after the other.
+-- Reading the types of a struct or a union one at a time.
 use Rattle.std.proofs.Common.{◌≡◌, ℕ, suc, ◌+◌, ◌<◌, ◌≤◌, ℤ, List, [], ◌∷◌, ◌++◌, length, map, drop, get_or, Option, Some, None, Result, Ok, Err, IfOk, refl, sym, ap, subst, ◌∙◌, append_assoc, add-one, drop-cons}
 use Rattle.std.proofs.lemmas.List.{drop_all, append-nil}
 use Rattle.dtype_base.specs.Nullability.{nullability_of}
@@ -19,7 +19,7 @@ use Rattle.vortex_dtype.specs.Numbers.{integer_byte}
 use Rattle.vortex_dtype.specs.ReadInOrder.{read, read_all, read_tags, or_fault, struct_read, union_read, extension_read, or_empty, ◌>>=◌, Gives, Fails}
 use Rattle.dtype_messages.specs.declared.pb.DType.{DType}
 
--- the types so far, and those that are left, are all
+-- the types so far, followed by those that are left, are all types
 abbrev pub Rest : Meaning → List DType → ℕ → List Tree → Type 0
 Rest s ds i ts = (read_all s (messages (map message (drop i ds))) >>= λ us. Ok (ts ++ us)) ≡ read_all s (messages (map message ds))
 
@@ -98,7 +98,7 @@ any_ok (Err e) p = tt
 
 -- ---- the tags of a union
 
--- the tags so far, and those that are left, are all
+-- the tags so far, followed by those that are left, are all tags
 abbrev pub TagsRest : List ℤ → ℕ → List ℕ → Type 0
 TagsRest gs i bs = (read_tags (drop i gs) >>= λ xs. Ok (bs ++ xs)) ≡ read_tags gs
 

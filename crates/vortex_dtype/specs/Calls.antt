@@ -1,7 +1,7 @@
 -- SPDX-License-Identifier: Apache-2.0
 -- SPDX-FileCopyrightText: Copyright the Vortex contributors
 
--- A session after a list of calls, in words of the list alone.
+-- A session after a list of calls, by the list alone.
 use Rattle.std.specs.Prelude.{◌≢◌, ℕ, List, [], ◌∷◌, Bool, true, false}
 use Rattle.vortex_dtype.specs.Meaning.{Rewrites, Meaning, register_in, allow_unknown_in}
 

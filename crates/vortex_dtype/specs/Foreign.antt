@@ -1,7 +1,7 @@
 -- SPDX-License-Identifier: Apache-2.0
 -- SPDX-FileCopyrightText: Copyright the Vortex contributors
 
--- Extensions of which nothing is known: all bytes are taken, and written unchanged, over every storage.
+-- Extensions without a plugin: all bytes are accepted, and written unchanged, over every storage.
 use Rattle.std.specs.Prelude.{ℕ, List, Some, true, refl}
 use Rattle.std.proofs.Common.{sym, ap, ◌∙◌, subst}
 use Rattle.std.proofs.lemmas.Option.{same_Some}

@@ -1,8 +1,8 @@
 -- SPDX-License-Identifier: Apache-2.0
 -- SPDX-FileCopyrightText: Copyright the Vortex contributors
 
--- What setting a type's outer nullability keeps: its kind, and what that kind holds. A plugin or a vtable that looks at
--- these alone has from here that the storage's outer nullability doesn't count.
+-- What setting a type's outer nullability keeps: its kind and its parts. A plugin or a vtable that looks at
+-- these alone has from here that the storage's outer nullability makes no difference.
 use Rattle.std.specs.Prelude.{◌≡◌, ℕ, List, Option, Some, None, Bool, option_and_then}
 use Rattle.std.proofs.Common.{ap, sym}
 use Rattle.std.proofs.lemmas.Option.{same_Some}
@@ -15,7 +15,7 @@ use Rattle.dtype_types.specs.nullability.Nullable.{set_null, SetNull}
 use Rattle.dtype_types.specs.tree.Tree.{Tree, null, bool, primitive, decimal, utf8, binary, list, fixed_size_list, map_of, struct, union, variant, extension}
 use Rattle.dtype_types.specs.declared.dtype.kinds.Kind.{Kind}
 
--- what is seen of a type doesn't depend on its outer nullability
+-- a view of a type that doesn't depend on its outer nullability
 abbrev pub IsKept : {X : Type 0} → (Tree → X) → Type 0
 IsKept seen = (s t : Tree) (n : Nullability) → SetNull s n t → seen t ≡ seen s
 
@@ -24,7 +24,7 @@ abbrev pub fixed_size : Tree → Option ℕ
 fixed_size (fixed_size_list t size n) = Some size
 fixed_size _ = None
 
--- all that the kinds hold but an extension's storage
+-- the parts of each kind, except an extension's storage
 record Held : Type 0 where
   kind : Kind
   primitive : Option PType

@@ -2,7 +2,7 @@
 -- SPDX-FileCopyrightText: Copyright the Vortex contributors
 
 -- What a vtable of a typed extension means, and its laws. From the documentation of `ExtVTable`: it reads
--- metadata from bytes, writes it as bytes, and says over which storage it may stand.
+-- metadata from bytes, writes it as bytes, and says which storage types it accepts.
 use Rattle.std.specs.Prelude.{◌≡◌, ℕ, List, Option, Some, None, Bool, true, false, if◌then◌else◌, option_and_then, refl}
 use Rattle.std.proofs.Common.{sym, ap, ◌∙◌, subst}
 use Rattle.dtype_base.specs.declared.nullability.Nullability.{Nullability}
@@ -18,7 +18,7 @@ pub record Typed {M : Type 0} (reads : List ℕ → Option M) (writes : M → Op
   pub as_bytes : (b : List ℕ) (m : M) (c : List ℕ) → Bytes b → reads b ≡ Some m → writes m ≡ Some c → Bytes c
   pub outer : (m : M) (s t : Tree) (n : Nullability) → Valid s → SetNull s n t → fits m t ≡ fits m s
 
--- what a vtable makes of bytes over a storage, as a plugin: it reads, validates and writes
+-- the meaning of a vtable as a plugin: it reads the bytes, validates the storage, and writes the bytes
 abbrev pub rewritten : {M : Type 0} → (List ℕ → Option M) → (M → Option (List ℕ)) → (M → Tree → Bool) → Rewrites
 rewritten reads writes fits = λ b s. option_and_then (λ m. if fits m s then writes m else None) (reads b)
 
@@ -38,7 +38,7 @@ module _ {M : Type 0} (reads : List ℕ → Option M) (writes : M → Option (Li
   outer_same None s t h = refl
   outer_same (Some m) s t h = ap (λ (x : Bool). if x then writes m else None) (h m)
 
-  -- so every vtable makes a lawful plugin
+  -- every vtable is a lawful plugin
   pub typed_laws : Lawful (rewritten reads writes fits)
   typed_laws = record {
     again = λ b c s bs v e.

@@ -41,7 +41,7 @@ use Rattle.vortex_dtype.specs.lemmas.Reading.{reading}
 -- lookups of names, fields and variants, by name and by position, and how many names they compare
 pub ruleset lookups = (name_lookups, field_lookups, compared_within, compared_up_to)
 
--- `==` and `!=` of types, of what they hold, and of messages
+-- `==` and `!=` of types, of their parts, and of messages
 pub ruleset equality = (type_equality, message_equality, differences)
 
 -- messages that are read and written, and the numbers of primitive types in them

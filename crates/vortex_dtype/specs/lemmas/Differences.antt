@@ -1,7 +1,7 @@
 -- SPDX-License-Identifier: Apache-2.0
 -- SPDX-FileCopyrightText: Copyright the Vortex contributors
 
--- What `!=` says of types, of what they hold and of messages, and `==` of borrowed types that may be missing.
+-- `!=` of types, of their parts and of messages, and `==` of borrowed types that may be missing.
 use Rattle.std.proofs.Common.{◌≡◌, ◌≢◌, Bool, true, false, not, Decides, Option, Some, None, Bor, refl, ap}
 use Rattle.std.proofs.lemmas.Bool.{false≢true}
 use Rattle.std.proofs.lemmas.Option.{same_Some}
@@ -32,7 +32,7 @@ differ : {P : Type 0} (b : Bool) → Decides b P → Decides (not b) (P → ⊥)
 differ true d = (λ e. absurd (false≢true e), λ n. absurd (n (d.0 refl)))
 differ false d = (λ e p. false≢true (d.1 p), λ n. refl)
 
--- ---- types, and what they hold
+-- ---- types and their parts
 
 pub types_differ : (a b : DType) → Decides (not (same_dtype a b)) (tree a ≢ tree b)
 types_differ a b = differ (same_dtype a b) (equal_under-Decides (tree a) (tree b))

@@ -182,7 +182,7 @@ tags_count gs tags e = ap length (tags_are gs tags e) ∙ length-map tags pos
 
 -- ---- unions
 
--- the tests of a union, one after the other
+-- the tests of a union, in order
 chain_ok : {A : Type 0} (a b c d e : Bool) (x t : A) → cond a (cond b (cond c (err UnionEmpty) (cond d (err UnionTagsRepeat) (cond e (err UnionNamesRepeat) (ok x)))) (err UnionTagsLength)) (err UnionTypesLength) ≡ Ok t
     → (a ≡ true) × (b ≡ true) × (c ≡ false) × (d ≡ false) × (e ≡ false) × (t ≡ x)
 chain_ok false b c d e x t h = cc
@@ -376,15 +376,7 @@ mutual
   all_fault s (more m ms) k e =
       ⊎_elim (λ a. inl (read_fault s m k a)) (λ a. inr (⊎_elim (λ b. all_fault s ms k b) (λ b. absurd (ok_err b.2)) (bind_err (read_all s ms) _ k a.2))) (bind_err (read s m) _ k e)
 
--- every message reads as a type or has a fault
-pub reads_or_faulty : (s : Meaning) (m : Message) → ((t : Tree) × Reads s m t) ⊎ ((e : VortexError) × Fault s m e)
-reads_or_faulty s m = go (read s m) refl
-  where
-    go : (r : Result Tree VortexError) → read s m ≡ r → ((t : Tree) × Reads s m t) ⊎ ((e : VortexError) × Fault s m e)
-    go (Ok t) is = inl (t, read_reads s m t is)
-    go (Err e) is = inr (e, read_fault s m e is)
-
--- ---- between reading in order and what reads
+-- ---- between the reading function and the relations
 
 -- the error is a fault of the message, which reads as no type
 pub refused_faulty : (s : Meaning) (m : Message) (e : VortexError) → read s m ≡ Err e → Fault s m e × ((t : Tree) → ¬ (Reads s m t))

@@ -32,7 +32,7 @@ path_of_steps (Some n ∷ ns) (x ∷ p) e =
 pub path_by_steps : (parts : List Field) (p : List Step) → map step_of parts ≡ map Some p → path_of (map part_name parts) ≡ Some p
 path_by_steps parts p e = path_of_steps (map part_name parts) p (map-map (option_map Name) part_name parts ∙ e)
 
--- and where they make a path, its steps are those of the parts
+-- where the parts make a path, its steps are theirs
 steps_of_path : (ns : List (Option (List ℕ))) (p : List Step) → path_of ns ≡ Some p → map (option_map Name) ns ≡ map Some p
 steps_of_path [] p e = let none : [] ≡ p = cc in ap (map Some) none
 steps_of_path (None ∷ ns) p e = cc

@@ -1,7 +1,7 @@
 -- SPDX-License-Identifier: Apache-2.0
 -- SPDX-FileCopyrightText: Copyright the Vortex contributors
 
--- What is read and written, for callers' proofs: from what reading gives to what the message says and back, what is
+-- Reading and writing, for callers' proofs: from a result of reading to the type that the message says and back, what is
 -- written of admitted types, and what equal messages and copies of paths give.
 use Rattle.vortex_dtype.specs.lemmas.InOrder.{fault_refused, read_reads, reads_read, refused_faulty, unread_refused, written_read}
 use Rattle.vortex_dtype.specs.lemmas.MissingParts.{missing_part}

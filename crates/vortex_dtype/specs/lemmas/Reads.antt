@@ -476,7 +476,7 @@ normal_again s m n t h k =
     let e = (written_normal s m n t h.reads).0 k in
     subst (λ (x : Message). Normal s x x) (sym e) (reads_normal s (written t) t (written_reads s t h.valid h.admitted))
 
--- equal messages read alike
+-- equal messages read as equal types
 pub read_alike : (s : Meaning) (m n : Message) (t u : Tree) → m ≡ n → Accepts s m t → Accepts s n u → t ≡ u
 read_alike s m n t u e a b = reads_once s n t u (subst (λ (x : Message). Reads s x t) e a.reads) b.reads
 

@@ -1,7 +1,7 @@
 -- SPDX-License-Identifier: Apache-2.0
 -- SPDX-FileCopyrightText: Copyright the Vortex contributors
 
--- What equal results of reading hold.
+-- Equal results of reading hold equal types, or equal errors.
 use Rattle.std.proofs.Common.{◌≡◌, Result, Ok, Err}
 use Rattle.dtype_base.specs.declared.vortex_error.VortexError.{VortexError}
 

@@ -4,7 +4,6 @@
 -- Laws of sessions: what is registered after a list of calls, what is kept, and what is admitted.
 use Rattle.std.specs.Prelude.{◌≡◌, ◌≢◌, ◌↔◌, ℕ, List, [], ◌∷◌, ◌++◌, Option, Some, None, Bool, true, false, if◌then◌else◌, bytes_eq, option_and_then, refl}
 use Rattle.std.specs.List.{list_any}
-use Rattle.std.specs.Option.{is_some}
 use Rattle.std.proofs.Common.{sym, ap, ◌∙◌, subst}
 use Rattle.std.proofs.lemmas.Bool.{false_from_ne_true}
 use Rattle.std.proofs.lemmas.Option.{same_Some}
@@ -26,7 +25,7 @@ after-append [] rest m = refl
 after-append (register i r ∷ before) rest m = after-append before rest (register_in i r m)
 after-append (allow ∷ before) rest m = after-append before rest (allow_unknown_in m)
 
--- what is put under another id is not seen
+-- a registration under another id changes nothing for this id
 pub register_in-other : (i id : List ℕ) (r : Rewrites) (m : Meaning) → i ≢ id → (register_in i r m).registered id ≡ m.registered id
 unfolding register_in
 register_in-other i id r m other =
@@ -35,15 +34,6 @@ register_in-other i id r m other =
 pub register_in-same : (id : List ℕ) (r : Rewrites) (m : Meaning) → (register_in id r m).registered id ≡ Some r
 unfolding register_in
 register_in-same id r m = ap (λ (b : Bool). if b then Some r else m.registered id) ((bytes_eq-Decides id id).1 refl)
-
--- what is known stays known, whatever is put
-pub known_register_in : (i id : List ℕ) (r : Rewrites) (m : Meaning) → is_some (m.registered id) ≡ true → is_some ((register_in i r m).registered id) ≡ true
-unfolding register_in
-known_register_in i id r m known = go (bytes_eq i id)
-  where
-    go : (b : Bool) → is_some (if b then Some r else m.registered id) ≡ true
-    go true = refl
-    go false = known
 
 -- calls that leave an id alone leave what is registered under it
 pub after-left_alone : (calls : List Call) (m : Meaning) (id : List ℕ) → LeavesAlone id calls → (after calls m).registered id ≡ m.registered id
@@ -58,7 +48,7 @@ after-last before rest m id r h =
     ap (λ (s : Meaning). s.registered id) (after-append before (register id r ∷ rest) m)
     ∙ after-left_alone rest (register_in id r (after before m)) id h ∙ register_in-same id r (after before m)
 
--- once unknown ids are kept, they stay so
+-- once unknown ids are allowed, they stay allowed
 stays-unknown : (calls : List Call) (m : Meaning) → m.unknown ≡ true → (after calls m).unknown ≡ true
 unfolding register_in allow_unknown_in
 stays-unknown [] m e = e
@@ -86,7 +76,7 @@ kept-outer : (o : Option Rewrites) (u : Bool) (b : List ℕ) (s t : Tree) (n : N
 kept-outer None u b s t n h bs v e = refl
 kept-outer (Some r) u b s t n h bs v e = (h r refl).outer b s t n bs v e
 
--- the storage's outer nullability doesn't count for what is kept
+-- the storage's outer nullability makes no difference to what is kept
 pub keeps_outer : (m : Meaning) → LawfulSession m → (id b : List ℕ) (s t : Tree) (n : Nullability) → Bytes b → Valid s → set_null s n ≡ Some t → keeps m id b t ≡ keeps m id b s
 keeps_outer m h id b s t n bs v e = kept-outer (m.registered id) m.unknown b s t n (h.each id) bs v e
 

@@ -4,7 +4,7 @@
 mod BorrowedPaths
 mod ProjectionClauses
 mod SuffixLists
-mod FieldProgress
+mod KeptFields
 mod Weights
 mod MergedKinds
 mod MergedParts

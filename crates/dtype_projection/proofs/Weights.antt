@@ -2,10 +2,10 @@
 -- SPDX-FileCopyrightText: Copyright the Vortex contributors
 
 -- The number of types that a projection steps into below a type, by which its recursion ends.
-use Rattle.std.proofs.Common.{◌≡◌, ℕ, ◌+◌, ◌≤◌, List, ◌∷◌, ap, arith}
+use Rattle.std.proofs.Common.{◌≡◌, ℕ, zero, suc, ◌+◌, ◌≤◌, List, [], ◌∷◌, slice_get, Some, ap, arith}
+use Rattle.std.proofs.lemmas.Option.{same_Some}
+use Rattle.dtype_types.specs.parts.Lookups.{field_types}
 use Rattle.dtype_types.specs.tree.Tree.{Tree, Fields, fields, no_fields, field, list, fixed_size_list, struct}
-use Rattle.dtype_types.specs.tree.TreeOf.{tree, with_trees}
-use Rattle.dtype_types.specs.declared.dtype.DType.{DType}
 
 abbrev mutual
   pub weight : Tree → ℕ
@@ -18,6 +18,8 @@ abbrev mutual
   weight_fields no_fields = 0
   weight_fields (field n t rest) = weight t + weight_fields rest
 
--- neither the first field nor the others weigh more than all
-pub fields_below : (ps rest : List (List ℕ × DType)) (p : List ℕ × DType) (k : ℕ) → ps ≡ p ∷ rest → weight_fields (fields (with_trees ps)) ≤ k → (weight (tree p.1) ≤ k) × (weight_fields (fields (with_trees rest)) ≤ k)
-fields_below ps rest p k next h = let w = ap (λ qs. weight_fields (fields (with_trees qs))) next in (omega (arith, h, w), omega (arith, h, w))
+-- no field weighs more than all
+pub field_below : (fs : List (List ℕ × Tree)) (k : ℕ) (t : Tree) → slice_get (field_types fs) k ≡ Some t → weight t ≤ weight_fields (fields fs)
+field_below [] k t at = cc
+field_below (f ∷ fs) zero t at = let w : weight f.1 ≡ weight t = ap weight (same_Some f.1 t at) in omega arith
+field_below (f ∷ fs) (suc k) t at = let h = field_below fs k t at in omega arith

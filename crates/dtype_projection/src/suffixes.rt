@@ -2,18 +2,20 @@
 // SPDX-FileCopyrightText: Copyright the Vortex contributors
 
 // The suffixes of paths after their first step, grouped by where that step leads.
-ghost use Rattle.std.specs.Prelude.{◌≡◌, ◌≢◌, ◌++◌, [], ◌∷◌, ℕ, List, length, map, vec_len, IfOk, IfSome, IfNone, OnOk, IsOkUnless, MatchResult};
+ghost use Rattle.std.specs.Prelude.{◌≡◌, ◌≢◌, [], ◌∷◌, ℕ, List, IfNone, IfSome, IsOkUnless, MatchResult, None, OnOk, Some};
+ghost use Rattle.dtype_base.specs.FieldNames.{first_place};
 ghost use Rattle.dtype_base.specs.declared.vortex_error.VortexError.TheVariants.{OutOfMemory};
 ghost use Rattle.dtype_types.specs.parts.Lookups.{field_names};
 ghost use Rattle.dtype_types.specs.tree.TreeOf.{children};
 ghost use Rattle.dtype_paths.specs.declared.field.Field.{Field};
-ghost use Rattle.dtype_projection.specs.PathLists.{contains_path, borrowed, borrowed_in_each, AreSuffixes};
+ghost use Rattle.dtype_projection.specs.PathLists.{contains_path, borrowed, suffixes_at, AreSuffixes, IsPut};
 ghost use Rattle.dtype_projection.specs.Projected.{after_step};
 
 use dtype_base::{FieldName, VortexResult};
 use dtype_paths::Field;
 use dtype_types::StructFields;
 use std::alloc::Global;
+use std::collections::BTreeMap;
 
 // Whether one of the paths is the root.
 pub(crate) fn has_root(paths: &[&[Field]]) -> bool
@@ -56,58 +58,53 @@ fn strip_element<'a>(path: &'a [Field]) -> Option<&'a [Field]>
     }
 }
 
-// For each field the suffixes of the paths that step into it. Paths step into the first of two fields of one name.
-pub(crate) fn suffixes_by_field<'a>(
+// At the position of each field that one of the paths steps into: the suffixes of these paths. A path steps into the
+// first of two fields of one name.
+pub(crate) fn suffixes_by_position<'a>(
     alloc: Global,
     fields: &StructFields,
     paths: &[&'a [Field]],
-) -> VortexResult<Vec<Vec<&'a [Field]>>>
+) -> VortexResult<BTreeMap<usize, Vec<&'a [Field]>>>
     ensures { MatchResult result
-        (λ suffixes. AreSuffixes (contains_path (borrowed paths.now)) (field_names (children fields.now)) (borrowed_in_each suffixes.items))
+        (λ suffixes. AreSuffixes (contains_path (borrowed paths.now)) (field_names (children fields.now)) (suffixes_at suffixes.entries))
         (λ e. e ≡ OutOfMemory) }
 {
-    let mut suffixes = empty_lists(alloc, fields.nfields())?;
+    let mut suffixes = BTreeMap::new(alloc);
     for path in paths {
-        push_suffix(fields, path, &mut suffixes)?;
+        if let Some((position, suffix)) = enter_field(fields, path) {
+            push_suffix(alloc, &mut suffixes, position, suffix)?;
+        }
     }
     Ok(suffixes)
 }
 
-// So many empty lists.
-fn empty_lists<'a>(alloc: Global, count: usize) -> VortexResult<Vec<Vec<&'a [Field]>>>
-    ensures none { MatchResult result
-        (λ suffixes. (ns : List (List ℕ)) → length ns ≡ count → AreSuffixes (contains_path []) ns (borrowed_in_each suffixes.items))
-        (λ e. e ≡ OutOfMemory) }
-    ensures long { IfOk result (λ suffixes. vec_len suffixes ≡ count) }
-{
-    let mut suffixes = Vec::with_capacity(alloc, count)?;
-    for _ in 0..count {
-        suffixes.push(Vec::new(alloc))?;
-    }
-    Ok(suffixes)
-}
-
-// Pushes the path after its first step to the list of the field that it steps into, if there is one.
+// Pushes the suffix to the list at the position.
 fn push_suffix<'a>(
-    fields: &StructFields,
-    path: &'a [Field],
-    suffixes: &mut Vec<Vec<&'a [Field]>>,
+    alloc: Global,
+    suffixes: &mut BTreeMap<usize, Vec<&'a [Field]>>,
+    position: usize,
+    suffix: &'a [Field],
 ) -> VortexResult<()>
-    requires { vec_len suffixes.old ≡ length (children fields.now) }
-    ensures long { OnOk result (vec_len suffixes.new ≡ vec_len suffixes.old) }
-    ensures put { OnOk result ((ps : List (List Field))
-        → AreSuffixes (contains_path ps) (field_names (children fields.now)) (borrowed_in_each suffixes.old.items)
-        → AreSuffixes (contains_path (ps ++ path.now ∷ [])) (field_names (children fields.now)) (borrowed_in_each suffixes.new.items)) }
+    ensures put { OnOk result (IsPut (suffixes_at suffixes.old.entries) (suffixes_at suffixes.new.entries) position suffix.now) }
     ensures refused { IsOkUnless result OutOfMemory }
 {
-    let Some((name, suffix)) = split_name(path) else {
-        return Ok(());
-    };
-    let Some(position) = fields.find(name.as_str()) else {
-        return Ok(());
-    };
-    suffixes[position].push(suffix)?;
+    suffixes
+        .entry(position)?
+        .or_insert(Vec::new(alloc))
+        .push(suffix)?;
     Ok(())
+}
+
+// The position of the field that the path steps into, and the path after that step, if there is such a field.
+fn enter_field<'a>(fields: &StructFields, path: &'a [Field]) -> Option<(usize, &'a [Field])>
+    ensures some { IfSome result (λ r. (n : List ℕ) × (path.now ≡ Field.Name n ∷ r.1.now)
+        × (Some r.0 ≡ first_place (field_names (children fields.now)) n)) }
+    ensures none { IfNone result ((n : List ℕ) (p : List Field) → path.now ≡ Field.Name n ∷ p
+        → None ≡ first_place (field_names (children fields.now)) n) }
+{
+    let (name, suffix) = split_name(path)?;
+    let position = fields.find(name.as_str())?;
+    Some((position, suffix))
 }
 
 // The name of the first step and the path after it, if that is a name's.

@@ -19,7 +19,7 @@ use Rattle.dtype_projection.specs.lemmas.Predicates.{same_predicate, after_witho
 
 -- ---- the projection to no path
 
-without_field_nothing : (n : List ℕ) (w : PathPredicate) → ((f : Field) (p : List Field) → w (f ∷ p) ≡ false) → (f : Field) (p : List Field) → without_field n w (f ∷ p) ≡ false
+pub without_field_nothing : (n : List ℕ) (w : PathPredicate) → ((f : Field) (p : List Field) → w (f ∷ p) ≡ false) → (f : Field) (p : List Field) → without_field n w (f ∷ p) ≡ false
 without_field_nothing n w none f p = by_bool (without_field n w (f ∷ p)) (λ e. let t = (without_field_holds n w f p e).1 in let u = none f p in absurd (cc)) (λ e. e)
 
 mutual

@@ -1,18 +1,19 @@
 -- SPDX-License-Identifier: Apache-2.0
 -- SPDX-FileCopyrightText: Copyright the Vortex contributors
 
-use Rattle.std.proofs.Common.{◌≡◌, ◌≢◌, length, map, Some, sym, ap, ◌∙◌, rules}
-use Rattle.std.proofs.lemmas.List.{length-map, nil_from_length}
-use Rattle.std.specs.List.{zip}
-use Rattle.dtype_types.specs.lemmas.TreeLaws.{tree_struct}
-use Rattle.std.specs.Iterator.Adapters.{zip_first, zip_second}
-use Rattle.std.specs.Slice.Iter.{iter_rest}
-use Rattle.dtype_types.specs.parts.Lists.{borrowed_pair}
-use Rattle.dtype_projection.proofs.BorrowedPaths.{none_borrowed}
-use Rattle.dtype_projection.proofs.FieldProgress.{next_field, no_field, field_kept, all_passed, struct_of_some, struct_of_none, zip_some}
-use Rattle.dtype_projection.proofs.Weights.{fields_below}
-use Rattle.dtype_projection.specs.lemmas.Projections.{projected_nothing}
+use Rattle.std.proofs.Common.{◌≡◌, ◌++◌, length, map, MatchResult, Some, subst, sym, ap, ◌∙◌, arith, rules}
+use Rattle.std.proofs.lemmas.List.{nil_from_length}
+use Rattle.std.specs.List.{filter_map, zip}
+use Rattle.std.specs.Option.{option_map}
+use Rattle.dtype_base.specs.declared.vortex_error.VortexError.TheVariants.{OutOfMemory}
+use Rattle.dtype_types.specs.tree.Tree.{fields}
 use Rattle.dtype_types.specs.tree.TreeOf.{tree, children}
+use Rattle.dtype_projection.specs.PathLists.{contains_path, borrowed, kept_field}
+use Rattle.dtype_projection.specs.Projected.{struct_with}
+use Rattle.dtype_projection.specs.lemmas.Projections.{projected_nothing}
+use Rattle.dtype_projection.proofs.BorrowedPaths.{none_borrowed}
+use Rattle.dtype_projection.proofs.KeptFields.{all_done, all_kept, fields_of_pairs, kept_at, one_kept}
+use Rattle.dtype_projection.proofs.Weights.{field_below}
 use Rattle.dtype_projection.proofs.project.+projecting.Goals as goal
 
 pub project-returns-then-is_empty : goal.project-returns-then-is_empty
@@ -20,32 +21,36 @@ project-returns-then-is_empty t c =
     let none : length c.args.paths.now ≡ 0 = search rules in
     sym (none_borrowed c.args.paths.now (tree c.args.dtype.now) (nil_from_length _ none) ∙ projected_nothing (tree c.args.dtype.now))
 
-pub project_struct-loop-name-preserved-in_ok-push-2 : goal.project_struct-loop-name-preserved-in_ok-push-2
-project_struct-loop-name-preserved-in_ok-push-2 t c =
-    let it = c.loop-name.name-iterator in
-    let on = c.next.new.self in
-    let next = next_field borrowed_pair it on c.next.result (c.in-Some.name, c.in-Some.dtype) c.in-Some.suffixes c.in-Some.is c.next.ensures.steps in
-    let even : length c.loop-name.names.items ≡ length c.loop-name.dtypes.items = search rules in
+pub project_struct-loop-position-init : goal.project_struct-loop-position-init
+project_struct-loop-position-init t c =
+    let fs = children c.args.fields.now in
+    let all = c.into_iter-position-iterator.ensures.into_iter_gives in
     record {
-      progress = field_kept _ _ _ _ _ _ _ _ _ _ _ _ _ _ _ _ even next.0 next.1 c.in_ok-push.ensures.items c.in_ok-try_clone.ensures c.in_ok-push-2.ensures.items c.deref.ensures.value c.in_ok-kept.ensures c.in-Some-2.is c.loop-name.invariant.progress;
+      kept = ap (λ z. zip z (map tree c.new-dtypes.result.items) ++ filter_map (kept_at fs) c.into_iter-position-iterator.result) c.new-names.ensures.items
+          ∙ ap (filter_map (kept_at fs)) all.0
+          ∙ all_kept fs c.in_ok-entered.entered.entries (contains_path (borrowed c.args.paths.now)) all.5 c.in_ok-entered.ensures;
       even = search rules;
-      within = (fields_below _ _ _ _ next.0 c.loop-name.invariant.within).1;
     }
 
-pub project_struct-returns-then-is_empty : goal.project_struct-returns-then-is_empty
-project_struct-returns-then-is_empty t c =
-    let it = c.loop-name.name-iterator in
-    let all = all_passed (zip_first it) (iter_rest (zip_second it)) _ _ (no_field borrowed_pair it c.next.new.self c.next.result c.in-None.is c.next.ensures.steps) c.loop-name.invariant.progress in
-    let none : length c.loop-name.names.items ≡ 0 = search rules in
-    struct_of_none _ c.args.n (sym all ∙ ap (λ z. zip z (map tree c.loop-name.dtypes.items)) (nil_from_length _ none))
+pub project_struct-loop-position-preserved-in-Continue-branch-5 : goal.project_struct-loop-position-preserved-in-Continue-branch-5
+project_struct-loop-position-preserved-in-Continue-branch-5 t c =
+    let fs = children c.args.fields.now in
+    let even : length c.loop-position.names.items ≡ length c.loop-position.dtypes.items = search rules in
+    let kept : kept_at fs (c.in-Some.position.now, c.in-Some.suffixes.now) ≡ Some (c.in-Some-2.name, tree c.in-Some-2.dtype) =
+    ap (λ z. kept_field fs c.in-Some.position.now (contains_path (borrowed z))) (sym c.deref.ensures.value) ∙ sym c.in_ok-name.ensures ∙ ap (option_map (λ f. (f.0, tree f.1))) c.in-Some-2.is in
+    record {
+      kept = one_kept fs _ c.loop-position.position-iterator c.next.new.self _ _ _ _ _ _ _ c.in-Some.ensures.steps kept even c.in_ok-push.ensures.items c.in_ok-push-2.ensures.items c.loop-position.invariant.kept;
+      even = search rules;
+    }
 
 pub project_struct-returns : goal.project_struct-returns
 project_struct-returns t c =
-    let it = c.loop-name.name-iterator in
-    let all = all_passed (zip_first it) (iter_rest (zip_second it)) _ _ (no_field borrowed_pair it c.next.new.self c.next.result c.in-None.is c.next.ensures.steps) c.loop-name.invariant.progress in
-    let some : length c.loop-name.names.items ≢ 0 = search rules in
-    let even : length c.loop-name.names.items ≡ length c.loop-name.dtypes.items = search rules in
-    let made : children c.in_ok-kept-2.kept ≡ zip c.loop-name.names.items (map tree c.loop-name.dtypes.items) = c.in_ok-kept-2.ensures.fields ∙ ap (λ z. zip z (map tree c.loop-name.dtypes.items)) c.from_vec.ensures in
-    ap Some (tree_struct c.in_ok-kept-2.kept c.args.n)
-    ∙ struct_of_some _ (children c.in_ok-kept-2.kept) c.args.n (made ∙ all)
-    (λ e. some (zip_some c.loop-name.names.items (map tree c.loop-name.dtypes.items) (even ∙ sym (length-map c.loop-name.dtypes.items tree)) (sym made ∙ e)))
+    let all = all_done (children c.args.fields.now) _ _ c.loop-position.position-iterator c.in-None.ensures.steps.0 c.loop-position.invariant.kept in
+    subst (λ fs. MatchResult c.struct_of.result (λ r. option_map tree r ≡ struct_with c.args.n fs) (λ e. e ≡ OutOfMemory)) (ap fields all ∙ fields_of_pairs _) c.struct_of.ensures
+
+-- ---- one field
+
+pub project_field-project-requires : goal.project_field-project-requires
+project_field-project-requires t c =
+    let lighter = field_below (children c.args.fields.now) c.args.position (tree c.in-Some-Some.dtype.now) (sym c.in-Some-Some.ensures') in
+    (omega (arith, lighter), tt)

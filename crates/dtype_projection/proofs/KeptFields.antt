@@ -1,0 +1,186 @@
+-- SPDX-License-Identifier: Apache-2.0
+-- SPDX-FileCopyrightText: Copyright the Vortex contributors
+
+-- What is kept of the fields that paths step into, in the order of their positions, is the projection of all fields: of
+-- a field that no path steps into nothing is kept.
+use Rattle.std.proofs.Common.{◌≡◌, ◌≢◌, ◌⊎◌, inl, inr, ℕ, zero, suc, ◌+◌, ◌-◌, ◌<◌, ◌≤◌, List, [], ◌∷◌, ◌++◌, map, length, slice_get, true, false, cond, Option, Some, None, refl, sym, ap, subst, ◌∙◌, append_assoc, append-nil, arith}
+use Rattle.std.specs.BTreeMap.{is_at}
+use Rattle.std.specs.List.{AllByRecursion, cons_option, filter_map, zip}
+use Rattle.std.specs.List.Sorted.{IsStrictlySortedBy}
+use Rattle.std.specs.Map.{keys_of, lookup}
+use Rattle.std.specs.Option.{option_and_then, option_map}
+use Rattle.std.specs.Ordering.{MatchOrdering, is_eq, nat_cmp}
+use Rattle.std.specs.declared.cmp.Ordering.TheVariants.{Less, Equal, Greater}
+use Rattle.std.specs.Cmp.{nat_cmp_is, ranks}
+use Rattle.std.proofs.lemmas.Bool.{cases_lt}
+use Rattle.std.proofs.lemmas.List.{length-map, map_push}
+use Rattle.std.proofs.lemmas.Option.{same_Some}
+use Rattle.std.proofs.lemmas.Map.Keys.{sorted_head, sorted_tail}
+use Rattle.dtype_base.specs.declared.nullability.Nullability.{Nullability}
+use Rattle.dtype_types.specs.parts.Lookups.{field_names, field_types}
+use Rattle.dtype_types.specs.tree.Tree.{Tree, Fields, no_fields, field, fields, pairs, struct}
+use Rattle.dtype_types.specs.lemmas.TreeLaws.{tree_struct}
+use Rattle.dtype_types.specs.tree.TreeOf.{tree, children}
+use Rattle.dtype_types.specs.declared.dtype.DType.{DType, Struct}
+use Rattle.dtype_types.specs.declared.struct_fields.StructFields.{StructFields}
+use Rattle.dtype_paths.specs.declared.field.Field.TheVariants.{Name}
+use Rattle.dtype_projection.specs.PathLists.{contains_path, borrowed, contains_suffix, suffixes_at, AreSuffixes, kept_field}
+use Rattle.dtype_projection.specs.Projected.{PathPredicate, after_step, without_field, projected, projected_fields, struct_with, prepend_kept}
+use Rattle.dtype_projection.specs.lemmas.Projections.{projected_nothing}
+use Rattle.dtype_projection.proofs.BorrowedPaths.{Paths}
+
+abbrev pub Pairs : Type 0
+Pairs = List (List ℕ × Tree)
+
+abbrev pub Entries : Type 0
+Entries = List (ℕ × Paths)
+
+-- what is kept of the field at an entry's position
+abbrev pub kept_at : Pairs → ℕ × Paths → Option (List ℕ × Tree)
+kept_at fs e = kept_field fs e.0 (contains_path (borrowed e.1.items))
+
+-- ---- entries in the order of their positions
+
+-- all positions are at or after i
+abbrev AreFrom : ℕ → Entries → Type 0
+AreFrom i es = AllByRecursion (λ k. i ≤ k) (keys_of es)
+
+own_position : (k : ℕ) → is_at (nat_cmp k) k ≡ true
+own_position k = ap is_eq (sym (nat_cmp_is k k Equal refl))
+
+before_position : (j k : ℕ) → j < k → is_at (nat_cmp j) k ≡ false
+before_position j k h = ap is_eq (sym (nat_cmp_is j k Less h))
+
+after_position : (j k : ℕ) → k < j → is_at (nat_cmp j) k ≡ false
+after_position j k h = ap is_eq (sym (nat_cmp_is j k Greater h))
+
+from_head : (i j : ℕ) (ks : List ℕ) → i ≤ j → AllByRecursion (λ k. nat_cmp j k ≡ Less) ks → AllByRecursion (λ k. i + 1 ≤ k) ks
+from_head i j [] h below = tt
+from_head i j (k ∷ ks) h below =
+    let before : j < k = subst (λ r. MatchOrdering r (j < k) (j ≡ k) (k < j)) below.0 (ranks j k) in
+    (omega (arith, before, h), from_head i j ks h below.1)
+
+-- the first entry is at i, or all are after it
+next_position : (i : ℕ) (es : Entries) → AreFrom i es → IsStrictlySortedBy nat_cmp (keys_of es) → ((v : Paths) × (rest : Entries) × (es ≡ (i, v) ∷ rest) × AreFrom (i + 1) rest) ⊎ AreFrom (i + 1) es
+next_position i [] from sorted = inr tt
+next_position i (e ∷ es) from sorted =
+    let rest : AreFrom (i + 1) es = from_head i e.0 (keys_of es) from.0 (sorted_head nat_cmp e.0 (keys_of es) sorted) in
+    elim (cases_lt i e.0) [
+      | inl later ↦ inr (omega (arith, later), rest)
+      | inr same ↦ inl (e.1, es, ap (λ k. (k, e.1) ∷ es) (let at : e.0 ≡ i = omega (arith, same, from.0) in at), rest)
+    ]
+
+none_at : (i : ℕ) (es : Entries) → AreFrom (i + 1) es → suffixes_at es i ≡ (λ p. false)
+none_at i [] from = refl
+none_at i (e ∷ es) from = ap (λ b. contains_suffix (cond b (Some e.1) (lookup (is_at (nat_cmp i)) es))) (before_position i e.0 (omega (arith, from.0))) ∙ none_at i es from.1
+
+suffixes_here : (i : ℕ) (v : Paths) (rest : Entries) → suffixes_at ((i, v) ∷ rest) i ≡ contains_path (borrowed v.items)
+suffixes_here i v rest = ap (λ b. contains_suffix (cond b (Some v) (lookup (is_at (nat_cmp i)) rest))) (own_position i)
+
+suffixes_later : (i : ℕ) (v : Paths) (rest : Entries) (k : ℕ) → i < k → suffixes_at ((i, v) ∷ rest) k ≡ suffixes_at rest k
+suffixes_later i v rest k h = ap (λ b. contains_suffix (cond b (Some v) (lookup (is_at (nat_cmp k)) rest))) (after_position k i h)
+
+-- ---- the fields kept
+
+no_field_left : (fs : Pairs) (i : ℕ) (es : Entries) → ((k : ℕ) → slice_get fs (k + i) ≡ None) → AreFrom i es → filter_map (kept_at fs) es ≡ []
+no_field_left fs i [] none from = refl
+no_field_left fs i (e ∷ es) none from =
+    let at : slice_get fs e.0 ≡ None = ap (slice_get fs) (let same : e.0 ≡ (e.0 - i) + i = omega (arith, from.0) in same) ∙ none (e.0 - i) in
+    ap (λ o. cons_option (option_and_then (λ (f : List ℕ × Tree). option_map (λ u. (f.0, u)) (projected f.1 (contains_path (borrowed e.1.items)))) o) (filter_map (kept_at fs) es)) at
+    ∙ no_field_left fs i es none from.1
+
+kept_pairs : (n : List ℕ) (o : Option Tree) (rest : Fields) → cons_option (option_map (λ u. (n, u)) o) (pairs rest) ≡ pairs (prepend_kept n o rest)
+kept_pairs n None rest = refl
+kept_pairs n (Some t) rest = refl
+
+kept_here : (fs : Pairs) (i : ℕ) (v : Paths) (f : List ℕ × Tree) (w : PathPredicate) → slice_get fs i ≡ Some f → contains_path (borrowed v.items) ≡ w → kept_at fs (i, v) ≡ option_map (λ u. (f.0, u)) (projected f.1 w)
+kept_here fs i v f w at is =
+    ap (option_and_then (λ (g : List ℕ × Tree). option_map (λ u. (g.0, u)) (projected g.1 (contains_path (borrowed v.items))))) at
+    ∙ ap (λ z. option_map (λ u. (f.0, u)) (projected f.1 z)) is
+
+-- fs are the fields from position i on, and s has their suffixes
+kept_from : (all fs : Pairs) (i : ℕ) (es : Entries) (w : PathPredicate) (s : ℕ → PathPredicate) → ((k : ℕ) → slice_get all (k + i) ≡ slice_get fs k) → ((k : ℕ) → s k ≡ suffixes_at es (k + i)) → AreFrom i es → IsStrictlySortedBy nat_cmp (keys_of es) → AreSuffixes w (field_names fs) s
+    → filter_map (kept_at all) es ≡ pairs (projected_fields (fields fs) w)
+kept_from all [] i es w s at is from sorted a = no_field_left all i es at from
+kept_from all (f ∷ fs) i es w s at is from sorted a =
+    let later : (k : ℕ) → slice_get all (k + (i + 1)) ≡ slice_get fs k = λ k. ap (slice_get all) (let same : k + (i + 1) ≡ suc k + i = omega arith in same) ∙ at (suc k) in
+    let start : 0 + i ≡ i = omega arith in
+    let here : s 0 ≡ suffixes_at es i = is 0 ∙ ap (suffixes_at es) start in
+    elim (next_position i es from sorted) [
+      | inl h ↦
+          let v = h.0 in
+          let rest = h.1 in
+          let asked = after_step (Name f.0) w in
+          let kept : Option (List ℕ × Tree) = option_map (λ u. (f.0, u)) (projected f.1 asked) in
+          let suffixes : contains_path (borrowed v.items) ≡ asked = sym (suffixes_here i v rest) ∙ ap (λ z. suffixes_at z i) (sym h.2) ∙ sym here ∙ a.0 in
+          ap (filter_map (kept_at all)) h.2
+          ∙ ap (λ o. cons_option o (filter_map (kept_at all) rest)) (kept_here all i v f asked (ap (slice_get all) (sym start) ∙ at 0) suffixes)
+          ∙ ap (cons_option kept)
+          (kept_from all fs (i + 1) rest (without_field f.0 w) (λ k. s (suc k)) later
+          (λ k. is (suc k) ∙ ap (λ z. suffixes_at z (suc k + i)) h.2 ∙ suffixes_later i v rest (suc k + i) (omega arith) ∙ ap (suffixes_at rest) (let same : suc k + i ≡ k + (i + 1) = omega arith in same))
+          h.3 (sorted_tail nat_cmp i (keys_of rest) (subst (λ z. IsStrictlySortedBy nat_cmp (keys_of z)) h.2 sorted)) a.1)
+          ∙ kept_pairs f.0 (projected f.1 asked) (projected_fields (fields fs) (without_field f.0 w))
+      | inr after ↦
+          let nothing : after_step (Name f.0) w ≡ (λ p. false) = sym a.0 ∙ here ∙ none_at i es after in
+          let none : projected f.1 (after_step (Name f.0) w) ≡ None = ap (projected f.1) nothing ∙ projected_nothing f.1 in
+          kept_from all fs (i + 1) es (without_field f.0 w) (λ k. s (suc k)) later (λ k. is (suc k) ∙ ap (suffixes_at es) (let same : suc k + i ≡ k + (i + 1) = omega arith in same)) after sorted a.1
+          ∙ ap (λ o. pairs (prepend_kept f.0 o (projected_fields (fields fs) (without_field f.0 w)))) (sym none)
+    ]
+
+pub all_kept : (fs : Pairs) (es : Entries) (w : PathPredicate) → IsStrictlySortedBy nat_cmp (keys_of es) → AreSuffixes w (field_names fs) (suffixes_at es) → filter_map (kept_at fs) es ≡ pairs (projected_fields (fields fs) w)
+all_kept fs es w sorted a = kept_from fs fs 0 es w (suffixes_at es) (λ k. ap (slice_get fs) (let same : k + 0 ≡ k = omega arith in same)) (λ k. ap (suffixes_at es) (let same : k ≡ k + 0 = omega arith in same)) (from_start (keys_of es)) sorted a
+  where
+    from_start : (ks : List ℕ) → AllByRecursion (λ k. 0 ≤ k) ks
+    from_start [] = tt
+    from_start (k ∷ ks) = (omega arith, from_start ks)
+
+-- ---- one field
+
+field_at : (fs : Pairs) (k : ℕ) (n : List ℕ) (t : Tree) → slice_get (field_names fs) k ≡ Some n → slice_get (field_types fs) k ≡ Some t → slice_get fs k ≡ Some (n, t)
+field_at [] k n t name type = cc
+field_at (f ∷ fs) zero n t name type = let is : f.0 ≡ n = same_Some f.0 n name in let at : f.1 ≡ t = same_Some f.1 t type in λ i. Some (is i, at i)
+field_at (f ∷ fs) (suc k) n t name type = field_at fs k n t name type
+
+-- what is kept of the field n of type t
+pub kept_some : (fs : Pairs) (k : ℕ) (w : PathPredicate) (n : List ℕ) (t u : Tree) → Some n ≡ slice_get (field_names fs) k → Some t ≡ slice_get (field_types fs) k → Some u ≡ projected t w → Some (n, u) ≡ kept_field fs k w
+kept_some fs k w n t u name type is = ap (option_map (λ v. (n, v))) is ∙ ap (option_and_then (λ (f : List ℕ × Tree). option_map (λ v. (f.0, v)) (projected f.1 w))) (sym (field_at fs k n t (sym name) (sym type)))
+
+pub kept_none : (fs : Pairs) (k : ℕ) (w : PathPredicate) (n : List ℕ) (t : Tree) → Some n ≡ slice_get (field_names fs) k → Some t ≡ slice_get (field_types fs) k → None ≡ projected t w → None ≡ kept_field fs k w
+kept_none fs k w n t name type is = ap (option_map (λ v. (n, v))) is ∙ ap (option_and_then (λ (f : List ℕ × Tree). option_map (λ v. (f.0, v)) (projected f.1 w))) (sym (field_at fs k n t (sym name) (sym type)))
+
+-- ---- the loop
+
+zip_push : {X Y : Type 0} (xs : List X) (ys : List Y) (x : X) (y : Y) → length xs ≡ length ys → zip (xs ++ x ∷ []) (ys ++ y ∷ []) ≡ zip xs ys ++ (x, y) ∷ []
+zip_push [] [] x y e = refl
+zip_push (a ∷ xs) (b ∷ ys) x y e = ap (λ zs. (a, b) ∷ zs) (zip_push xs ys x y (omega arith))
+zip_push [] (b ∷ ys) x y e = absurd (omega arith)
+zip_push (a ∷ xs) [] x y e = absurd (omega arith)
+
+pub one_kept : (fs all : Pairs) (es rest : Entries) (e : ℕ × Paths) (names names' : List (List ℕ)) (dtypes dtypes' : List DType) (n : List ℕ) (d : DType) → es ≡ e ∷ rest → kept_at fs e ≡ Some (n, tree d) → length names ≡ length dtypes → names' ≡ names ++ n ∷ [] → dtypes' ≡ dtypes ++ d ∷ []
+    → zip names (map tree dtypes) ++ filter_map (kept_at fs) es ≡ all → zip names' (map tree dtypes') ++ filter_map (kept_at fs) rest ≡ all
+one_kept fs all es rest e names names' dtypes dtypes' n d next is even en ed whole =
+    let left = filter_map (kept_at fs) rest in
+    let longer : zip names' (map tree dtypes') ≡ zip names (map tree dtypes) ++ (n, tree d) ∷ [] =
+    ap (λ z. zip z (map tree dtypes')) en
+    ∙ ap (zip (names ++ n ∷ [])) (ap (map tree) ed ∙ map_push tree dtypes d)
+    ∙ zip_push names (map tree dtypes) n (tree d) (even ∙ sym (length-map dtypes tree)) in
+    ap (λ z. z ++ left) longer
+    ∙ append_assoc (zip names (map tree dtypes)) ((n, tree d) ∷ []) left
+    ∙ ap (λ o. zip names (map tree dtypes) ++ cons_option o left) (sym is)
+    ∙ ap (λ z. zip names (map tree dtypes) ++ filter_map (kept_at fs) z) (sym next)
+    ∙ whole
+
+-- at the end
+pub all_done : (fs all kept : Pairs) (es : Entries) → es ≡ [] → kept ++ filter_map (kept_at fs) es ≡ all → kept ≡ all
+all_done fs all kept es end whole = sym (append-nil kept) ∙ ap (λ z. kept ++ filter_map (kept_at fs) z) (sym end) ∙ whole
+
+-- ---- the struct of the fields that are kept
+
+pub fields_of_pairs : (fs : Fields) → fields (pairs fs) ≡ fs
+fields_of_pairs no_fields = refl
+fields_of_pairs (field n t rest) = ap (field n t) (fields_of_pairs rest)
+
+pub struct_made : (s : StructFields) (n : Nullability) (names : List (List ℕ)) (types : List Tree) → children s ≡ zip names types → length names ≢ 0 → length names ≡ length types → Some (tree (Struct s n)) ≡ struct_with n (fields (zip names types))
+struct_made s n [] types made some even = absurd (some refl)
+struct_made s n (m ∷ names) [] made some even = absurd (omega arith)
+struct_made s n (m ∷ names) (t ∷ types) made some even = ap Some (tree_struct s n ∙ ap (λ fs. struct (fields fs) n) made)

@@ -2,7 +2,7 @@
 -- SPDX-FileCopyrightText: Copyright the Vortex contributors
 
 -- Types at equal positions, merged one after another, and the struct and the union that are made of them.
-use Rattle.std.proofs.Common.{◌≡◌, ◌≢◌, ◌⊎◌, inl, inr, ℕ, List, [], ◌∷◌, ◌++◌, length, map, Option, Some, None, Result, Err, MatchResult, refl, sym, ap, subst, ◌∙◌, append_assoc, append-nil, arith}
+use Rattle.std.proofs.Common.{◌≡◌, ◌≢◌, ◌⊎◌, inl, inr, ℕ, List, [], ◌∷◌, ◌++◌, length, map, Option, Some, None, Result, Err, MatchResult, refl, sym, ap, subst, ◌∙◌, append-nil, arith}
 use Rattle.std.specs.Borrow.{Bor}
 use Rattle.std.specs.Iterator.{YieldsFirstBy}
 use Rattle.std.specs.Iterator.Adapters.{zip_first, zip_second}
@@ -45,22 +45,6 @@ no_pair s t r is h = by (subst (λ o. zips steps steps s o t) is h)
     by : ((u : List DType) × steps (zip_first s) None u) ⊎ ((u : List DType) × steps (zip_second s) None u) → (map tree (zip_first s) ≡ []) ⊎ (map tree (zip_second s) ≡ [])
     by (inl a) = inl a.1.0
     by (inr b) = inr b.1.0
-
--- the two that come next are equal but for nullabilities, as are those after them
-pub alike_next : (ts us ts' us' : List Tree) (t u : Tree) → ts ≡ t ∷ ts' → us ≡ u ∷ us' → map erase ts ≡ map erase us → (erase t ≡ erase u) × (map erase ts' ≡ map erase us')
-alike_next ts us ts' us' t u p q e =
-    let both : erase t ∷ map erase ts' ≡ erase u ∷ map erase us' = sym (ap (map erase) p) ∙ e ∙ ap (map erase) q in
-    let head : erase t ≡ erase u = cc in
-    let tail : map erase ts' ≡ map erase us' = cc in
-    (head, tail)
-
-pub turn : (ts us ts' us' done done' all : List Tree) (t u d : Tree) → ts ≡ t ∷ ts' → us ≡ u ∷ us' → d ≡ either_null t u → done' ≡ done ++ d ∷ [] → done ++ either_null_types ts us ≡ all → done' ++ either_null_types ts' us' ≡ all
-turn ts us ts' us' done done' all t u d p q is more whole =
-    ap (λ z. z ++ either_null_types ts' us') more
-    ∙ append_assoc done (d ∷ []) (either_null_types ts' us')
-    ∙ ap (λ z. done ++ z ∷ either_null_types ts' us') is
-    ∙ sym (ap (λ z. done ++ either_null_types z us) p ∙ ap (λ z. done ++ either_null_types (t ∷ ts') z) q)
-    ∙ whole
 
 -- where one side has nothing left, all is done
 pub finished : (ts us done all : List Tree) → (ts ≡ []) ⊎ (us ≡ []) → done ++ either_null_types ts us ≡ all → done ≡ all

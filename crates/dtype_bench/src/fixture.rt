@@ -239,7 +239,8 @@ fn wide_type(alloc: Global, texts: &Vec<String>, flip: bool) -> BenchResult<DTyp
     Ok(DType::Struct(fields, Nullability::NonNullable))
 }
 
-fn one_field(alloc: Global, dtype: DType, nullability: Nullability) -> BenchResult<DType> {
+/// A struct of one field `a`.
+pub fn one_field(alloc: Global, dtype: DType, nullability: Nullability) -> BenchResult<DType> {
     let mut fields = Vec::with_capacity(alloc, 1)?;
     fields.push((FieldName::new(alloc, "a")?, FieldDType::from(dtype)))?;
     let fields = StructFields::from_iter(alloc, fields)?;

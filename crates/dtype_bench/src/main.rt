@@ -23,7 +23,10 @@ use on_sets::{Contains, CopiedSet, Cover, FromPaths};
 use on_types::{
     Copied, ElementSize, Empty, Equal, EqualIgnoring, Hashed, Resolve, Text, WithNullability,
 };
-use path_fixture::{SetShape, path_set, two_column_paths, two_deep_paths, two_element_paths};
+use path_fixture::{
+    Level, SetShape, make_query, path_set, two_column_paths, two_deep_paths, two_element_paths,
+};
+use projections::{ProjectByHand, ProjectPaths};
 use std::io::{self, BufWriter, Write};
 use std::time::CpuClock;
 use vortex_dtype::DTypeSession;
@@ -37,6 +40,7 @@ mod on_messages;
 mod on_sets;
 mod on_types;
 mod path_fixture;
+mod projections;
 
 // What is done to types of every shape.
 fn measure_types<C: CpuClock, W: Write>(
@@ -202,6 +206,22 @@ fn of_paths<C: CpuClock, W: Write>(meter: &mut Meter<'_, C, W>) -> BenchResult<(
     meter.measure("/path/10", Text(&paths))
 }
 
+// The columns that a query reads of a table.
+fn of_queries<C: CpuClock, W: Write>(meter: &mut Meter<'_, C, W>) -> BenchResult<()> {
+    let cases = [
+        (Level::Top, 3, 1000),
+        (Level::Top, 100, 10_000),
+        (Level::Nested, 10, 1000),
+    ];
+    for (level, asked, count) in cases {
+        let query = make_query(meter.alloc, level, asked, count)?;
+        let of = query.of.as_str();
+        meter.measure(of, ProjectPaths(&query))?;
+        meter.measure(of, ProjectByHand(&query))?;
+    }
+    Ok(())
+}
+
 // Path sets of one shape.
 fn of_sets<C: CpuClock, W: Write>(meter: &mut Meter<'_, C, W>, shape: SetShape) -> BenchResult<()> {
     for count in [1000, 100_000] {
@@ -227,6 +247,7 @@ fn measure_all<C: CpuClock, W: Write>(meter: &mut Meter<'_, C, W>) -> BenchResul
     of_namings(meter)?;
     of_deep(meter)?;
     of_paths(meter)?;
+    of_queries(meter)?;
     if meter.wants_some("set/") {
         for shape in SetShape::ALL {
             of_sets(meter, shape)?;

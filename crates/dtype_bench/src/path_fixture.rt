@@ -3,9 +3,10 @@
 
 // The paths and path sets that the cases work on.
 use crate::fault::BenchResult;
-use crate::fixture::mixed;
-use dtype_base::FieldName;
+use crate::fixture::{Shape, mixed, one_field};
+use dtype_base::{FieldName, Nullability};
 use dtype_paths::{Field, FieldPath, FieldPathSet};
+use dtype_types::DType;
 use std::alloc::Global;
 
 /// How the paths of a set look.
@@ -146,4 +147,89 @@ fn columns(alloc: Global, depth: usize) -> BenchResult<Vec<Field>> {
 fn numbered(alloc: Global, text: &str, i: usize) -> BenchResult<Field> {
     let text = format!(in alloc; "{text}_{i}")?;
     Ok(Field::from_text(alloc, text.as_str())?)
+}
+
+/// Where the columns are that a query asks for.
+#[derive(Clone, Copy)]
+pub enum Level {
+    /// At the top: the table is a wide struct.
+    Top,
+    /// The table has one column, a wide struct.
+    Nested,
+}
+
+impl Level {
+    fn name(self) -> &'static str {
+        match self {
+            Level::Top => "top",
+            Level::Nested => "nested",
+        }
+    }
+
+    fn table(self, alloc: Global, count: usize) -> BenchResult<DType> {
+        let wide = Shape::Wide.make(alloc, count, false)?;
+        match self {
+            Level::Top => Ok(wide),
+            Level::Nested => one_field(alloc, wide, Nullability::NonNullable),
+        }
+    }
+
+    fn parent(self, alloc: Global) -> BenchResult<FieldPath> {
+        let depth = match self {
+            Level::Top => 0,
+            Level::Nested => 1,
+        };
+        let steps = fields_named(alloc, depth)?;
+        Ok(FieldPath::from_vec(steps))
+    }
+}
+
+/// Some columns of a table.
+#[derive(Drop)]
+pub struct Query {
+    /// The end of the name of a case.
+    pub of: String,
+    pub level: Level,
+    /// The table, twice.
+    pub tables: Vec<DType>,
+    /// The path to the struct that has the columns.
+    pub parent: FieldPath,
+    /// The paths of the columns, in no order, and the set of them.
+    pub paths: Vec<FieldPath>,
+    pub set: FieldPathSet,
+}
+
+/// So many columns of a table of so many.
+pub fn make_query(alloc: Global, level: Level, asked: usize, count: usize) -> BenchResult<Query> {
+    let name = level.name();
+    Ok(Query {
+        of: format!(in alloc; "/{name}/{asked}_of_{count}")?,
+        level,
+        tables: two_tables(alloc, level, count)?,
+        parent: level.parent(alloc)?,
+        paths: column_paths(alloc, level, asked, count)?,
+        set: FieldPathSet::from_iter(alloc, column_paths(alloc, level, asked, count)?)?,
+    })
+}
+
+fn two_tables(alloc: Global, level: Level, count: usize) -> BenchResult<Vec<DType>> {
+    let mut two = Vec::with_capacity(alloc, 2)?;
+    for _ in 0..2 {
+        two.push(level.table(alloc, count)?)?;
+    }
+    Ok(two)
+}
+
+fn column_paths(
+    alloc: Global,
+    level: Level,
+    asked: usize,
+    count: usize,
+) -> BenchResult<Vec<FieldPath>> {
+    let mut paths = Vec::with_capacity(alloc, asked)?;
+    for i in 0..asked {
+        let column = numbered(alloc, "column", mixed(i, count))?;
+        paths.push(level.parent(alloc)?.push(column)?)?;
+    }
+    Ok(paths)
 }

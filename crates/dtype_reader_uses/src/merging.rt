@@ -4,15 +4,17 @@
 //! A reader of several files as one: the type that takes the values of all of them.
 #![tactic(auto, using(vortex_dtype::specs::rulesets::merging, vortex_dtype::specs::rulesets::order))]
 
-ghost use Rattle.std.specs.Prelude.{◌≡◌, ◌↔◌, IfOk, IfSome, IsSome};
+ghost use Rattle.std.specs.Prelude.{◌≡◌, ◌≢◌, ◌↔◌, IfOk, IfSome, IsSome, IsTrue};
+ghost use Rattle.std.specs.List.{AllByRecursion};
 ghost use Rattle.dtype_types.specs.tree.Erase.{erase};
 ghost use Rattle.dtype_types.specs.nullability.Sub.{Sub};
 ghost use Rattle.dtype_types.specs.tree.TreeOf.{tree};
 ghost use Rattle.dtype_types.specs.tree.Valid.{Valid};
 ghost use Rattle.dtype_types.specs.values.Value.{IncludedIn};
+ghost use Rattle.vortex_dtype.specs.Along.{along};
 
 use std::alloc::Global;
-use vortex_dtype::{DType, VortexResult, merge_nullability};
+use vortex_dtype::{DType, FieldPath, VortexResult, merge_nullability};
 
 /// The type to read two files as, if they differ in nullabilities alone: each value of both is a value of it.
 pub fn read_as_one(alloc: Global, file: &DType, other: &DType) -> VortexResult<Option<DType>>
@@ -35,4 +37,59 @@ pub fn read_beside_larger(
     ensures { IfOk result (λ r. IfSome r (λ d. tree d ≡ tree larger.now)) }
 {
     Ok(merge_nullability(alloc, larger, file)?)
+}
+
+/// The type to read three files as, if they differ in nullabilities alone: each value of each file is a value of it.
+pub fn read_three_as_one(
+    alloc: Global,
+    first: &DType,
+    second: &DType,
+    third: &DType,
+) -> VortexResult<Option<DType>>
+    ensures some { IfOk result (λ r. IsSome r ↔ ((erase (tree first.now) ≡ erase (tree second.now))
+        × (erase (tree second.now) ≡ erase (tree third.now)))) }
+    ensures first { IfOk result (λ r. IfSome r (λ d. IncludedIn (tree first.now) (tree d))) }
+    ensures second { IfOk result (λ r. IfSome r (λ d. IncludedIn (tree second.now) (tree d))) }
+    ensures third { IfOk result (λ r. IfSome r (λ d. IncludedIn (tree third.now) (tree d))) }
+{
+    let Some(both) = merge_nullability(alloc, first, second)? else {
+        return Ok(None);
+    };
+    let Some(all) = merge_nullability(alloc, &both, third)? else {
+        return Ok(None);
+    };
+    Ok(Some(all))
+}
+
+/// The type to read a file and others as, if they all differ in nullabilities alone: each value of each file is a value
+/// of it.
+pub fn read_all_as_one(alloc: Global, first: DType, others: &[DType]) -> VortexResult<Option<DType>>
+    ensures some { IfOk result (λ r. IsSome r
+        ↔ AllByRecursion (λ file. erase (tree file) ≡ erase (tree first)) others.now) }
+    ensures first { IfOk result (λ r. IfSome r (λ d. IncludedIn (tree first) (tree d))) }
+    ensures others { IfOk result (λ r. IfSome r (λ d.
+        AllByRecursion (λ file. IncludedIn (tree file) (tree d)) others.now)) }
+{
+    let Some((second, rest)) = others.split_first() else {
+        return Ok(Some(first));
+    };
+    let Some(both) = merge_nullability(alloc, &first, second)? else {
+        return Ok(None);
+    };
+    match read_all_as_one(alloc, both, rest)? {
+        Some(all) => Ok(Some(all)),
+        None => Ok(None),
+    }
+}
+
+/// Whether a column has another type in the schema of several files than in one file's own, and so has to be cast.
+#[tactic(auto, using(vortex_dtype::specs::rulesets::equality))]
+pub fn is_column_changed(schema: &DType, file: &DType, column: &FieldPath) -> bool
+    ensures { IsTrue result ↔ (along (tree schema.now) column.now ≢ along (tree file.now) column.now) }
+{
+    match (column.resolve(schema), column.resolve(file)) {
+        (Some(dtype), Some(own)) => *dtype != *own,
+        (None, None) => false,
+        (Some(_), None) | (None, Some(_)) => true,
+    }
 }

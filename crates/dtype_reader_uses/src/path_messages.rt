@@ -8,7 +8,7 @@ ghost use Rattle.std.specs.Prelude.{◌≡◌, ◌≢◌, ◌↔◌, ◌⊎◌, 
 ghost use Rattle.std.specs.List.{Contains};
 ghost use Rattle.vortex_dtype.specs.Types.VortexError.TheVariants.{Message, OutOfMemory};
 ghost use Rattle.vortex_dtype.specs.Types.MessageFault.TheVariants.{PathPartMissing};
-ghost use Rattle.vortex_dtype.specs.MessageOf.{list_content, message, struct_content};
+ghost use Rattle.vortex_dtype.specs.MessageOf.{kind_message, list_content, message, struct_content};
 ghost use Rattle.vortex_dtype.specs.PathMessage.{steps_of};
 ghost use Rattle.vortex_dtype.specs.PathNames.{part_name, part_names};
 ghost use Rattle.vortex_dtype.specs.Types.Field.TheVariants.{Name};
@@ -79,6 +79,20 @@ pub fn is_same_struct(a: &pb::Struct, b: &pb::Struct) -> bool
     ensures { IsTrue result ↔ (struct_content a.now ≡ struct_content b.now) }
 {
     *a == *b
+}
+
+/// Whether two messages of structs differ in a name, a type or the flag.
+pub fn is_other_struct(a: &pb::Struct, b: &pb::Struct) -> bool
+    ensures { IsTrue result ↔ (struct_content a.now ≢ struct_content b.now) }
+{
+    *a != *b
+}
+
+/// Whether two types are of different kinds, or differ in what their kind holds.
+pub fn is_other_kind(a: &pb::DtypeType, b: &pb::DtypeType) -> bool
+    ensures { IsTrue result ↔ (kind_message a.now ≢ kind_message b.now) }
+{
+    *a != *b
 }
 
 /// Whether two messages of decimals have the same numbers and flag.

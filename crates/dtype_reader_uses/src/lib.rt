@@ -2,8 +2,10 @@
 // SPDX-FileCopyrightText: Copyright the Vortex contributors
 
 //! What a reader of files does with the library: functions as a user would write them, each with a contract of its own
-//! that is proved from the clauses of the calls that it makes and from the public rulesets, with no proof file. They are
-//! as those of `dtype_uses`, in a crate of their own, so that the gate proves the two side by side.
+//! that is proved from the clauses of the calls that it makes and from the public rulesets. They are as those of
+//! `dtype_uses`, in a crate of their own, so that the gate proves the two side by side. `proofs/` has the measures of the
+//! recursions of `masks` and `merging`, and answers for a loop of `path_sets` and a clause of `path_messages`; the tactics
+//! find all else.
 //!
 //! - Which columns a query opens: `paths`, `path_sets`, `projections`, `merging` (several files read as one).
 //! - What is read further down: `masks`, `layout`, `rows` (what is found).

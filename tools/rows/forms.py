@@ -49,12 +49,22 @@ def unreadable(r):
         for command in commands:
             for other in ("i32", "list({a=u8})?"):
                 r.row(f"{command} {other}", f"unreadable at {len(command) + 2}: expected {kind}")
-    r.comment("A word that is no command.")
-    for line in ("nonsense", "  nonsense", "Type u8"):
-        r.row(line, f"unreadable at {len(line) - len(line.lstrip()) + 1}: expected a command")
-    r.comment("A line that ends too early.")
-    for line, expected in {"type {": "a name", "names_len": "a name", "name": "a name"}.items():
-        r.row(line, f"unreadable at {len(line) + 1}: expected {expected}")
+    r.comment("A word that is no command: the nearest names.")
+    for line, nearest in {
+        "nonsense": "", "  nonsense": "", "Type u8": "type", "pth a": "path", "filed a {a=u8}": "field",
+        "name_x a": "names, name, name_eq", "é": "", "help is_nulable": "is_nullable",
+    }.items():
+        word = line.removeprefix("help ").split()[0]
+        near = nearest and f"; nearest: {nearest}"
+        r.row(line, f'unreadable at {line.index(word) + 1}: expected a command, not "{word}"{near}; help lists all')
+    r.comment("A line that ends too early: the arguments, where it has none.")
+    for line, expected in {
+        "type {": "a name", "names_len": "NAMES", "name": "NAME", "resolve": "PATH T", "find   # no name, and no struct": "NAME S",
+        "set": "NAME new|insert PATH|extend PATH..|contains PATH|iter|cover|drain",
+        "session": "NAME new|register PLUGIN|allow_unknown",
+    }.items():
+        end = line.index("#") if "#" in line else len(line)
+        r.row(line, f"unreadable at {end + 1}: expected {expected}")
     r.comment("A type or a message that holds others more than 128 deep.")
     for count in (129, 130, 1000):
         r.row(f"type {'list(' * count}u8{')' * count}", f"unreadable at {6 + 129 * 5}: expected at most 128 levels")

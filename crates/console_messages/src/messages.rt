@@ -3,31 +3,30 @@
 
 // Commands on the messages of types that need no session.
 use crate::reader::Message;
-use crate::writer::say_made_message;
+use crate::writer::say_message_result;
+use console_commands::MessageCommand;
 use console_types::{Call, ConsoleResult};
 use vortex_dtype::{DType, DTypeProto, PType, pb};
 
-/// Answers the command, if it is one of these.
-pub fn answer(call: &mut Call<'_>, command: &str) -> ConsoleResult<bool> {
+/// Answers this command.
+pub fn answer(call: &mut Call<'_>, command: MessageCommand) -> ConsoleResult<()> {
     match command {
-        "write" => write(call),
-        "message" => copy(call),
-        "message_eq" => eq(call),
-        "pb_number" => number(call),
-        "pb_from_number" => from_number(call),
-        _ => return Ok(false),
-    }?;
-    Ok(true)
+        MessageCommand::Write => write(call),
+        MessageCommand::Message => copy(call),
+        MessageCommand::MessageEq => eq(call),
+        MessageCommand::PbNumber => number(call),
+        MessageCommand::PbFromNumber => from_number(call),
+    }
 }
 
 fn write(call: &mut Call<'_>) -> ConsoleResult<()> {
     let dtype: DType = call.last()?;
-    say_made_message(call, dtype.to_proto(call.alloc))
+    say_message_result(call, dtype.to_proto(call.alloc))
 }
 
 fn copy(call: &mut Call<'_>) -> ConsoleResult<()> {
     let Message(message) = call.last()?;
-    say_made_message(call, message.try_clone(call.alloc))
+    say_message_result(call, message.try_clone(call.alloc))
 }
 
 fn eq(call: &mut Call<'_>) -> ConsoleResult<()> {

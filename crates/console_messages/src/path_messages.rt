@@ -2,19 +2,18 @@
 // SPDX-FileCopyrightText: Copyright the Vortex contributors
 
 // Commands on the messages of paths.
+use console_commands::PathMessageCommand;
 use console_paths::say_path;
 use console_types::{Call, ConsoleResult, Line, put, write_quoted};
 use std::alloc::Global;
 use vortex_dtype::{FieldPath, FieldPathProto, VortexResult, pb};
 
-/// Answers the command, if it is one of these.
-pub fn answer(call: &mut Call<'_>, command: &str) -> ConsoleResult<bool> {
+/// Answers this command.
+pub fn answer(call: &mut Call<'_>, command: PathMessageCommand) -> ConsoleResult<()> {
     match command {
-        "read_path" => read_path(call),
-        "path_message" => copy(call),
-        _ => return Ok(false),
-    }?;
-    Ok(true)
+        PathMessageCommand::ReadPath => read_path(call),
+        PathMessageCommand::PathMessage => copy(call),
+    }
 }
 
 fn read_path(call: &mut Call<'_>) -> ConsoleResult<()> {
@@ -26,7 +25,7 @@ fn read_path(call: &mut Call<'_>) -> ConsoleResult<()> {
 fn copy(call: &mut Call<'_>) -> ConsoleResult<()> {
     let message = read_argument(call)?.try_clone(call.alloc)?;
     for part in &message.path {
-        call.separate()?;
+        call.write_separator()?;
         write_part(&mut call.answer, part)?;
     }
     call.end_list()
@@ -35,7 +34,7 @@ fn copy(call: &mut Call<'_>) -> ConsoleResult<()> {
 // Reads the parts up to the line's end.
 fn read_argument(call: &mut Call<'_>) -> ConsoleResult<pb::FieldPath> {
     let mut path = Vec::new(call.alloc);
-    for _ in 0..call.line.left() {
+    for _ in 0..call.line.max_items() {
         if call.line.is_at_end() {
             break;
         }
@@ -50,12 +49,12 @@ fn read_part(alloc: Global, line: &mut Line<'_>) -> ConsoleResult<pb::Field> {
     line.take("{")?;
     line.skip_blanks();
     let field_type = read_field_type(alloc, line)?;
-    line.before(pb::Field { field_type }, "}")
+    line.then(pb::Field { field_type }, "}")
 }
 
 // Reads a name, if there is one, and the blanks behind it.
 fn read_field_type(alloc: Global, line: &mut Line<'_>) -> ConsoleResult<Option<pb::FieldType>> {
-    if !line.takes("name") {
+    if !line.accepts("name") {
         return Ok(None);
     }
     line.skip_blanks();

@@ -2,7 +2,7 @@
 // SPDX-FileCopyrightText: Copyright the Vortex contributors
 
 // The reader of messages in protobuf's text format, which goes down no further than a number of levels.
-use console_types::{Argument, ConsoleResult, Line, MOST_LEVELS, expected_at};
+use console_types::{Argument, ConsoleResult, Line, MAX_LEVELS, expected_at};
 use std::alloc::Global;
 use vortex_dtype::pb;
 
@@ -12,10 +12,10 @@ pub struct Message(pub pb::DType);
 
 impl Argument for Message {
     fn read(alloc: Global, line: &mut Line<'_>) -> ConsoleResult<Message> {
-        if line.takes("{}") {
+        if line.accepts("{}") {
             return Ok(Message(pb::DType { dtype_type: None }));
         }
-        let kind = read_kind(alloc, line, MOST_LEVELS)?;
+        let kind = read_kind(alloc, line, MAX_LEVELS)?;
         Ok(Message(pb::DType {
             dtype_type: Some(kind),
         }))
@@ -80,19 +80,19 @@ fn has_field(kind: &str, field: &str) -> bool {
 // Reads a kind, its fields, and the closing brace.
 #[cycle(messages)]
 fn read_kind(alloc: Global, line: &mut Line<'_>, levels: u32) -> ConsoleResult<pb::DtypeType> {
-    let place = line.place();
+    let position = line.position();
     let kind = line.word("a kind of type")?;
     line.skip_blanks();
     line.take("{")?;
     let mut parts = Parts::new(alloc);
-    for _ in 0..line.left() {
+    for _ in 0..line.max_items() {
         line.skip_blanks();
-        if line.takes("}") {
+        if line.accepts("}") {
             break;
         }
         read_field(alloc, line, kind, &mut parts, levels)?;
     }
-    kind_of(alloc, place, kind, parts)
+    kind_of(alloc, position, kind, parts)
 }
 
 // Reads a field of a kind.
@@ -104,10 +104,10 @@ fn read_field(
     parts: &mut Parts,
     levels: u32,
 ) -> ConsoleResult<()> {
-    let place = line.place();
+    let position = line.position();
     let field = line.word("a field, or }")?;
     if !has_field(kind, field) {
-        return Err(expected_at(place, "a field of this kind, or }"));
+        return Err(expected_at(position, "a field of this kind, or }"));
     }
     line.skip_blanks();
     match field {
@@ -137,7 +137,7 @@ fn read_part(alloc: Global, line: &mut Line<'_>, levels: u32) -> ConsoleResult<p
     };
     line.take("{")?;
     line.skip_blanks();
-    if line.takes("}") {
+    if line.accepts("}") {
         return Ok(pb::DType { dtype_type: None });
     }
     let kind = read_kind(alloc, line, levels)?;
@@ -145,7 +145,7 @@ fn read_part(alloc: Global, line: &mut Line<'_>, levels: u32) -> ConsoleResult<p
     let part = pb::DType {
         dtype_type: Some(kind),
     };
-    line.before(part, "}")
+    line.then(part, "}")
 }
 
 // Reads a colon, and what stands behind the colon of a field.
@@ -207,9 +207,9 @@ fn read_text(alloc: Global, line: &mut Line<'_>) -> ConsoleResult<String> {
 // Reads a primitive type's number, or its name.
 fn read_number_of_ptype(line: &mut Line<'_>) -> ConsoleResult<i32> {
     if line.peek().is_some_and(|byte| byte.is_ascii_alphabetic()) {
-        let place = line.place();
+        let position = line.position();
         let word = line.word("a primitive type")?;
-        return ptype_number(word).ok_or(expected_at(place, "a primitive type"));
+        return ptype_number(word).ok_or(expected_at(position, "a primitive type"));
     }
     line.number("a primitive type")
 }
@@ -232,8 +232,13 @@ fn ptype_number(name: &str) -> Option<i32> {
     }
 }
 
-// The kind of this name, which stands at this place, with the fields that it has.
-fn kind_of(alloc: Global, place: usize, kind: &str, parts: Parts) -> ConsoleResult<pb::DtypeType> {
+// The kind of this name, which stands at this position, with the fields that it has.
+fn kind_of(
+    alloc: Global,
+    position: usize,
+    kind: &str,
+    parts: Parts,
+) -> ConsoleResult<pb::DtypeType> {
     match kind {
         "list" => list_of(alloc, parts),
         "fixed_size_list" => fixed_size_list_of(alloc, parts),
@@ -241,7 +246,7 @@ fn kind_of(alloc: Global, place: usize, kind: &str, parts: Parts) -> ConsoleResu
         "struct" => Ok(struct_of(parts)),
         "union" => Ok(union_of(parts)),
         "extension" => extension_of(alloc, parts),
-        _ => plain_kind(kind, &parts).ok_or(expected_at(place, "a kind of type")),
+        _ => plain_kind(kind, &parts).ok_or(expected_at(position, "a kind of type")),
     }
 }
 

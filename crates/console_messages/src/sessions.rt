@@ -1,16 +1,17 @@
 // SPDX-License-Identifier: Apache-2.0
 // SPDX-FileCopyrightText: Copyright the Vortex contributors
 
-// Commands on sessions, and the sessions that live on from line to line.
+// Commands on sessions, and the sessions with a name, which last from line to line.
 use crate::reader::Message;
-use crate::writer::say_made_message;
+use crate::writer::say_message_result;
+use console_commands::{MessageForm, SessionCommand};
 use console_types::{Bytes, Call, ConsoleResult, Line, unless};
 use std::alloc::Global;
 use vortex_dtype::{DType, DTypeProto, DTypeSession, ExtId, FieldName, PluginOf};
 use vortex_dtype_fixtures::{AllKept, Tag, TextAlone, Word};
 
-/// How many sessions live on at most.
-const MOST_SESSIONS: usize = 16;
+/// How many sessions have a name at most.
+const MAX_SESSIONS: usize = 16;
 
 // A plugin of the fixtures.
 #[derive(Clone, Copy)]
@@ -21,30 +22,30 @@ enum Plugin {
     AllKept,
 }
 
-// What a session was told: whether unknown ids are allowed, and the plugins in the order in which they were registered.
+// What a session is made of: whether unknown ids are allowed, and the plugins in the order in which they were registered.
 // The one function that asks a session makes it of this, and none is kept: a trait object may not leave the function
 // that makes it.
 #[derive(Drop)]
-struct Told {
+struct SessionState {
     unknown: bool,
     plugins: Vec<Plugin>,
 }
 
-impl Told {
-    // Nothing.
+impl SessionState {
+    // No plugin, and unknown ids aren't allowed.
     fn new(alloc: Global) -> Self {
-        Told {
+        SessionState {
             unknown: false,
             plugins: Vec::new(alloc),
         }
     }
 
-    // Tells what a word says too.
+    // Reads a word of a session, and changes the state by it.
     fn read_word(&mut self, line: &mut Line<'_>) -> ConsoleResult<()> {
-        if line.takes("strict") {
+        if line.accepts("strict") {
             return Ok(());
         }
-        if line.takes("unknown") {
+        if line.accepts("unknown") {
             self.unknown = true;
             return Ok(());
         }
@@ -53,152 +54,140 @@ impl Told {
     }
 }
 
-// Reads the plugin that comes next.
+// Reads a plugin.
 fn read_plugin(line: &mut Line<'_>) -> ConsoleResult<Plugin> {
-    if line.takes("x.tag") {
+    if line.accepts("x.tag") {
         Ok(Plugin::Tag)
-    } else if line.takes("x.text") {
+    } else if line.accepts("x.text") {
         Ok(Plugin::TextAlone)
-    } else if line.takes("x.word") {
+    } else if line.accepts("x.word") {
         Ok(Plugin::Word)
-    } else if line.takes("kept") {
+    } else if line.accepts("kept") {
         Ok(Plugin::AllKept)
     } else {
         Err(line.expected("a session"))
     }
 }
 
-// A session that lives on.
+// A session with a name.
 #[derive(Drop)]
-struct Living {
+struct NamedSession {
     name: FieldName,
-    told: Told,
+    state: SessionState,
 }
 
-/// The sessions that live on from line to line, each with a name.
+/// The sessions with a name, which last from line to line.
 #[derive(Drop)]
 pub struct Sessions {
     alloc: Global,
-    living: Vec<Living>,
+    named: Vec<NamedSession>,
 }
 
 impl Sessions {
-    /// None.
+    /// Returns no session.
     pub fn new(alloc: Global) -> Self {
         Sessions {
             alloc,
-            living: Vec::new(alloc),
+            named: Vec::new(alloc),
         }
     }
 
-    /// Answers a command that needs a session, if it is one.
-    pub fn answer(&mut self, call: &mut Call<'_>, command: &str) -> ConsoleResult<bool> {
-        match command {
-            "session" => self.change(call),
-            "allows_unknown"
-            | "registry"
-            | "deserialize"
-            | "read"
-            | "normal"
-            | "round_trip"
-            | "read_eq" => self.ask(call, command),
-            _ => return Ok(false),
-        }?;
-        Ok(true)
-    }
-
-    // Answers a command on the session whose name comes next.
-    fn change(&mut self, call: &mut Call<'_>) -> ConsoleResult<()> {
+    /// Answers `session`, which changes the session whose name is the next argument.
+    pub fn change(&mut self, call: &mut Call<'_>) -> ConsoleResult<()> {
         let name: FieldName = call.read()?;
-        self.begin(&name)?;
-        for it in &mut self.living {
+        self.add(&name)?;
+        for it in &mut self.named {
             if it.name == name {
-                return change(call, &mut it.told);
+                return change(call, &mut it.state);
             }
         }
         Err(call.line.expected("the name of a session"))
     }
 
-    // Has a session of this name live.
-    fn begin(&mut self, name: &FieldName) -> ConsoleResult<()> {
-        if self.living.iter().any(|it| it.name == *name) {
+    // Adds a session of this name, unless there is one.
+    fn add(&mut self, name: &FieldName) -> ConsoleResult<()> {
+        if self.named.iter().any(|it| it.name == *name) {
             return Ok(());
         }
-        unless(self.living.len() < MOST_SESSIONS, "at most 16 sessions")?;
+        unless(self.named.len() < MAX_SESSIONS, "at most 16 sessions")?;
         let name = name.try_clone(self.alloc)?;
-        let told = Told::new(self.alloc);
-        Ok(self.living.push(Living { name, told })?)
+        let state = SessionState::new(self.alloc);
+        Ok(self.named.push(NamedSession { name, state })?)
     }
 
-    // Answers a command on the session that comes next: words, or the name of one that lives.
-    fn ask(&self, call: &mut Call<'_>, command: &str) -> ConsoleResult<()> {
+    /// Answers this command on the session that is the next argument: words, or the name of one.
+    pub fn ask(&self, call: &mut Call<'_>, command: SessionCommand) -> ConsoleResult<()> {
         call.line.skip_blanks();
-        if call.line.takes("@") {
-            self.ask_living(call, command)
+        if call.line.accepts("@") {
+            self.ask_named(call, command)
         } else {
-            let told = read_words(call)?;
-            ask_told(call, command, &told)
+            let state = read_words(call)?;
+            ask_state(call, command, &state)
         }
     }
 
-    // Answers a command on the session whose name comes next. One that doesn't live was told nothing.
-    fn ask_living(&self, call: &mut Call<'_>, command: &str) -> ConsoleResult<()> {
+    // Answers this command on the session whose name is next. One that isn't there is as a new one.
+    fn ask_named(&self, call: &mut Call<'_>, command: SessionCommand) -> ConsoleResult<()> {
         let name = call.line.name(call.alloc)?;
-        for it in &self.living {
+        for it in &self.named {
             if it.name == name {
-                return ask_told(call, command, &it.told);
+                return ask_state(call, command, &it.state);
             }
         }
-        ask_told(call, command, &Told::new(call.alloc))
+        ask_state(call, command, &SessionState::new(call.alloc))
     }
 }
 
-// Reads what the words that come next tell a session.
-fn read_words(call: &mut Call<'_>) -> ConsoleResult<Told> {
-    let mut told = Told::new(call.alloc);
-    for _ in 0..call.line.left() {
-        told.read_word(&mut call.line)?;
-        if !call.line.takes(",") {
+// Reads the words of a session.
+fn read_words(call: &mut Call<'_>) -> ConsoleResult<SessionState> {
+    let mut state = SessionState::new(call.alloc);
+    for _ in 0..call.line.max_items() {
+        state.read_word(&mut call.line)?;
+        if !call.line.accepts(",") {
             break;
         }
     }
-    Ok(told)
+    Ok(state)
 }
 
-// Answers a command that tells a session that lives on.
-fn change(call: &mut Call<'_>, told: &mut Told) -> ConsoleResult<()> {
+// Answers a command that changes a session with a name.
+fn change(call: &mut Call<'_>, state: &mut SessionState) -> ConsoleResult<()> {
     match call.word("a command on a session")? {
         "new" => {
             call.end()?;
-            told.unknown = false;
-            told.plugins.clear();
+            state.unknown = false;
+            state.plugins.clear();
         }
         "allow_unknown" => {
             call.end()?;
-            told.unknown = true;
+            state.unknown = true;
         }
-        "register" => register(call, told)?,
+        "register" => register(call, state)?,
         _ => return Err(call.line.expected("a command on a session")),
     }
     call.say("ok")
 }
 
-// Tells the plugin that comes next.
-fn register(call: &mut Call<'_>, told: &mut Told) -> ConsoleResult<()> {
+// Registers the plugin that is the last argument.
+fn register(call: &mut Call<'_>, state: &mut SessionState) -> ConsoleResult<()> {
     call.line.skip_blanks();
     let plugin = read_plugin(&mut call.line)?;
     call.end()?;
-    Ok(told.plugins.push(plugin)?)
+    Ok(state.plugins.push(plugin)?)
 }
 
-// Answers a command on a session that was told this.
-fn ask_told(call: &mut Call<'_>, command: &str, told: &Told) -> ConsoleResult<()> {
+// Answers this command on a session in this state.
+fn ask_state(
+    call: &mut Call<'_>,
+    command: SessionCommand,
+    state: &SessionState,
+) -> ConsoleResult<()> {
     let alloc = call.alloc;
     let mut session = DTypeSession::new(alloc);
-    if told.unknown {
+    if state.unknown {
         session.allow_unknown();
     }
-    for plugin in &told.plugins {
+    for plugin in &state.plugins {
         match plugin {
             Plugin::Tag => session.register(Box::new(alloc, PluginOf::new(Tag))?),
             Plugin::TextAlone => session.register(Box::new(alloc, TextAlone)?),
@@ -209,14 +198,14 @@ fn ask_told(call: &mut Call<'_>, command: &str, told: &Told) -> ConsoleResult<()
     ask(call, command, &session)
 }
 
-fn ask(call: &mut Call<'_>, command: &str, session: &DTypeSession) -> ConsoleResult<()> {
+fn ask(call: &mut Call<'_>, command: SessionCommand, session: &DTypeSession) -> ConsoleResult<()> {
     match command {
-        "allows_unknown" => allows_unknown(call, session),
-        "registry" => registry(call, session),
-        "deserialize" => deserialize(call, session),
-        "round_trip" => round_trip(call, session),
-        "read_eq" => read_eq(call, session),
-        _ => read(call, command, session),
+        SessionCommand::AllowsUnknown => allows_unknown(call, session),
+        SessionCommand::Registry => registry(call, session),
+        SessionCommand::Deserialize => deserialize(call, session),
+        SessionCommand::RoundTrip => round_trip(call, session),
+        SessionCommand::ReadEq => read_eq(call, session),
+        SessionCommand::Read(command) => read(call, command, session),
     }
 }
 
@@ -232,13 +221,13 @@ fn registry(call: &mut Call<'_>, session: &DTypeSession) -> ConsoleResult<()> {
 
 fn deserialize(call: &mut Call<'_>, session: &DTypeSession) -> ConsoleResult<()> {
     let (id, (Bytes(metadata), storage)): (ExtId, (Bytes, DType)) = call.last()?;
-    call.write_made(session.deserialize(id.as_str(), &metadata, storage))
+    call.write_result(session.deserialize(id.as_str(), &metadata, storage))
 }
 
 fn round_trip(call: &mut Call<'_>, session: &DTypeSession) -> ConsoleResult<()> {
     let dtype: DType = call.last()?;
     let message = dtype.to_proto(call.alloc)?;
-    call.write_made(DType::from_proto(call.alloc, &message, session))
+    call.write_result(DType::from_proto(call.alloc, &message, session))
 }
 
 fn read_eq(call: &mut Call<'_>, session: &DTypeSession) -> ConsoleResult<()> {
@@ -248,11 +237,11 @@ fn read_eq(call: &mut Call<'_>, session: &DTypeSession) -> ConsoleResult<()> {
     call.say(dtype == other)
 }
 
-fn read(call: &mut Call<'_>, command: &str, session: &DTypeSession) -> ConsoleResult<()> {
+fn read(call: &mut Call<'_>, command: MessageForm, session: &DTypeSession) -> ConsoleResult<()> {
     let Message(message) = call.last()?;
     let dtype = DType::from_proto(call.alloc, &message, session)?;
     match command {
-        "read" => call.write(&dtype),
-        _ => say_made_message(call, dtype.to_proto(call.alloc)),
+        MessageForm::Read => call.write(&dtype),
+        MessageForm::Normal => say_message_result(call, dtype.to_proto(call.alloc)),
     }
 }

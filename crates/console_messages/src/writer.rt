@@ -3,18 +3,18 @@
 
 // The writer of messages in protobuf's text format. It goes down no further than a number of levels, which no
 // message reaches that was read or written from a type.
-use console_types::{Call, ConsoleResult, WRITTEN_LEVELS, put, write_quoted};
+use console_types::{Call, ConsoleResult, MAX_WRITTEN_LEVELS, put, write_quoted};
 use vortex_dtype::{PType, VortexResult, pb};
 
 /// Answers the message that a call of the library made, or that the library refused.
-pub fn say_made_message(call: &mut Call<'_>, made: VortexResult<pb::DType>) -> ConsoleResult<()> {
+pub fn say_message_result(call: &mut Call<'_>, made: VortexResult<pb::DType>) -> ConsoleResult<()> {
     say_message(call, &made?)
 }
 
 fn say_message(call: &mut Call<'_>, message: &pb::DType) -> ConsoleResult<()> {
-    call.separate()?;
+    call.write_separator()?;
     match &message.dtype_type {
-        Some(kind) => Ok(write_kind(&mut call.answer, kind, WRITTEN_LEVELS)?),
+        Some(kind) => Ok(write_kind(&mut call.answer, kind, MAX_WRITTEN_LEVELS)?),
         None => Ok(put(&mut call.answer, "{}")?),
     }
 }

@@ -2,29 +2,16 @@
 // SPDX-FileCopyrightText: Copyright the Vortex contributors
 
 // Commands on native integers.
+use console_commands::{IntegerCommand, IntegerComparison};
 use console_types::{Bytes, Call, ConsoleResult, expected_at};
 use dtype_base::PType;
 use dtype_native::{IntegerPType, NativePType, PhysicalPType, ToBytes, TryFromBytes};
 use std::str::FromStr;
 
-/// Answers the command, if it is one of these.
-pub fn answer(call: &mut Call<'_>, command: &str) -> ConsoleResult<bool> {
-    match command {
-        "to_le_bytes"
-        | "try_from_le_bytes"
-        | "total_compare"
-        | "native_compare"
-        | "native_tests"
-        | "native_integer" => integer(call, command),
-        _ => return Ok(false),
-    }?;
-    Ok(true)
-}
-
-// Reads the name of a native integer type, and answers the command for it.
-fn integer(call: &mut Call<'_>, command: &str) -> ConsoleResult<()> {
+/// Reads the name of a native integer type, and answers this command for it.
+pub fn answer(call: &mut Call<'_>, command: IntegerCommand) -> ConsoleResult<()> {
     call.line.skip_blanks();
-    let place = call.line.place();
+    let position = call.line.position();
     match call.read()? {
         PType::U8 => of::<u8>(call, command),
         PType::U16 => of::<u16>(call, command),
@@ -34,22 +21,22 @@ fn integer(call: &mut Call<'_>, command: &str) -> ConsoleResult<()> {
         PType::I16 => of::<i16>(call, command),
         PType::I32 => of::<i32>(call, command),
         PType::I64 => of::<i64>(call, command),
-        PType::F16 | PType::F32 | PType::F64 => Err(expected_at(place, "an integer's name")),
+        PType::F16 | PType::F32 | PType::F64 => Err(expected_at(position, "an integer's name")),
     }
 }
 
-fn of<T>(call: &mut Call<'_>, command: &str) -> ConsoleResult<()>
+fn of<T>(call: &mut Call<'_>, command: IntegerCommand) -> ConsoleResult<()>
 where
     T: IntegerPType + PhysicalPType + FromStr,
     T::Err: Drop,
     T::Bytes: Drop,
 {
     match command {
-        "to_le_bytes" => to_le_bytes::<T>(call),
-        "try_from_le_bytes" => try_from_le_bytes::<T>(call),
-        "total_compare" | "native_compare" => compare::<T>(call, command),
-        "native_tests" => tests::<T>(call),
-        _ => native_integer::<T>(call),
+        IntegerCommand::ToLeBytes => to_le_bytes::<T>(call),
+        IntegerCommand::TryFromLeBytes => try_from_le_bytes::<T>(call),
+        IntegerCommand::Compare(command) => compare::<T>(call, command),
+        IntegerCommand::NativeTests => tests::<T>(call),
+        IntegerCommand::NativeInteger => native_integer::<T>(call),
     }
 }
 
@@ -66,10 +53,10 @@ where
 
 fn try_from_le_bytes<T: NativePType>(call: &mut Call<'_>) -> ConsoleResult<()> {
     let Bytes(bytes) = call.last()?;
-    call.say_made(T::try_from_le_bytes(&bytes))
+    call.say_result(T::try_from_le_bytes(&bytes))
 }
 
-fn compare<T>(call: &mut Call<'_>, command: &str) -> ConsoleResult<()>
+fn compare<T>(call: &mut Call<'_>, command: IntegerComparison) -> ConsoleResult<()>
 where
     T: NativePType + FromStr,
     T::Err: Drop,
@@ -77,8 +64,8 @@ where
     let value: T = call.number("a number of this type")?;
     let other: T = call.last_number("a number of this type")?;
     match command {
-        "total_compare" => call.say_ordering(value.total_compare(other)),
-        _ => call.say_words(&[
+        IntegerComparison::TotalCompare => call.say_ordering(value.total_compare(other)),
+        IntegerComparison::NativeCompare => call.say_words(&[
             ("is_le", value.is_le(other)),
             ("is_lt", value.is_lt(other)),
             ("is_ge", value.is_ge(other)),

@@ -7,11 +7,8 @@ use dtype_native::NativeDType;
 use dtype_types::DType;
 use std::alloc::Global;
 
-/// Answers the command, if it is this one.
-pub fn answer(call: &mut Call<'_>, command: &str) -> ConsoleResult<bool> {
-    if command != "native_dtype" {
-        return Ok(false);
-    }
+/// Answers `native_dtype`.
+pub fn answer(call: &mut Call<'_>) -> ConsoleResult<()> {
     call.line.skip_blanks();
     let first = read_owner(&mut call.line);
     let second = read_owner(&mut call.line);
@@ -22,8 +19,7 @@ pub fn answer(call: &mut Call<'_>, command: &str) -> ConsoleResult<bool> {
         }
     }
     call.end()?;
-    call.write(&dtype)?;
-    Ok(true)
+    call.write(&dtype)
 }
 
 // What holds the values of a native type.
@@ -35,9 +31,9 @@ enum Owner {
 }
 
 fn read_owner(line: &mut Line<'_>) -> Owner {
-    if line.takes("Option<") {
+    if line.accepts("Option<") {
         Owner::Option
-    } else if line.takes("Vec<") {
+    } else if line.accepts("Vec<") {
         Owner::Vec
     } else {
         Owner::None
@@ -46,10 +42,10 @@ fn read_owner(line: &mut Line<'_>) -> Owner {
 
 // Reads a native type, and gives the type of its values in these owners.
 fn native_dtype(call: &mut Call<'_>, first: Owner, second: Owner) -> ConsoleResult<DType> {
-    if call.line.takes("&str") {
+    if call.line.accepts("&str") {
         return of::<&str>(call.alloc, first, second);
     }
-    if call.line.takes("&[u8]") {
+    if call.line.accepts("&[u8]") {
         return of::<&[u8]>(call.alloc, first, second);
     }
     match call.line.word("a native type")? {

@@ -1,8 +1,9 @@
 // SPDX-License-Identifier: Apache-2.0
 // SPDX-FileCopyrightText: Copyright the Vortex contributors
 
-// Commands on visitors of primitive names.
-use console_types::{Call, ConsoleFault, ConsoleResult};
+// Commands that call a visitor of primitive types.
+use console_commands::{MatchEach, MatchSmallest, VisitorCommand};
+use console_types::{Call, ConsoleResult, unless};
 use dtype_base::PType;
 use dtype_native::{
     PTypeVisitor, match_each_float_ptype, match_each_integer_ptype, match_each_native_ptype,
@@ -54,65 +55,52 @@ impl PTypeVisitor for NameOfCall {
     }
 }
 
-/// Answers the command, if it is one of these.
-pub fn answer(call: &mut Call<'_>, command: &str) -> ConsoleResult<bool> {
+/// Answers this command.
+pub fn answer(call: &mut Call<'_>, command: VisitorCommand) -> ConsoleResult<()> {
     match command {
-        "match_each"
-        | "match_each_simd"
-        | "match_each_integer"
-        | "match_each_unsigned"
-        | "match_each_signed"
-        | "match_each_float" => match_each(call, command),
-        "match_smallest_offset_type" | "match_smallest_list_offset_type" => {
-            match_smallest(call, command)
-        }
-        _ => return Ok(false),
-    }?;
-    Ok(true)
+        VisitorCommand::MatchEach(command) => match_each(call, command),
+        VisitorCommand::MatchSmallest(command) => match_smallest(call, command),
+    }
 }
 
-fn match_each(call: &mut Call<'_>, command: &str) -> ConsoleResult<()> {
+fn match_each(call: &mut Call<'_>, command: MatchEach) -> ConsoleResult<()> {
     let ptype: PType = call.last()?;
     call.say(visited(command, ptype)?)
 }
 
-fn match_smallest(call: &mut Call<'_>, command: &str) -> ConsoleResult<()> {
+fn match_smallest(call: &mut Call<'_>, command: MatchSmallest) -> ConsoleResult<()> {
     let count = call.last_number("a count")?;
-    call.say(offset_type(command, count))
+    call.say(match command {
+        MatchSmallest::MatchSmallestOffsetType => match_smallest_offset_type(count, NameOfCall),
+        MatchSmallest::MatchSmallestListOffsetType => match_smallest_list_offset_type(
+            count, NameOfCall,
+        ),
+    })
 }
 
-fn visited(command: &str, ptype: PType) -> ConsoleResult<PType> {
+// Returns what the visitor answers, or an error where the call's condition doesn't hold.
+fn visited(command: MatchEach, ptype: PType) -> ConsoleResult<PType> {
     match command {
-        "match_each" => Ok(match_each_native_ptype(ptype, NameOfCall)),
-        "match_each_simd" if ptype != PType::F16 => {
+        MatchEach::MatchEach => Ok(match_each_native_ptype(ptype, NameOfCall)),
+        MatchEach::MatchEachSimd => {
+            unless(ptype != PType::F16, "not f16")?;
             Ok(match_each_native_simd_ptype(ptype, NameOfCall))
         }
-        "match_each_integer" if ptype.is_int() => Ok(match_each_integer_ptype(ptype, NameOfCall)),
-        "match_each_unsigned" if ptype.is_unsigned_int() => {
+        MatchEach::MatchEachInteger => {
+            unless(ptype.is_int(), "an integer")?;
+            Ok(match_each_integer_ptype(ptype, NameOfCall))
+        }
+        MatchEach::MatchEachUnsigned => {
+            unless(ptype.is_unsigned_int(), "an unsigned integer")?;
             Ok(match_each_unsigned_integer_ptype(ptype, NameOfCall))
         }
-        "match_each_signed" if ptype.is_signed_int() => {
+        MatchEach::MatchEachSigned => {
+            unless(ptype.is_signed_int(), "a signed integer")?;
             Ok(match_each_signed_integer_ptype(ptype, NameOfCall))
         }
-        "match_each_float" if ptype.is_float() => Ok(match_each_float_ptype(ptype, NameOfCall)),
-        _ => Err(ConsoleFault::Unmet(condition(command))),
-    }
-}
-
-// What the call asks for.
-fn condition(command: &str) -> &'static str {
-    match command {
-        "match_each_simd" => "not f16",
-        "match_each_integer" => "an integer",
-        "match_each_unsigned" => "an unsigned integer",
-        "match_each_signed" => "a signed integer",
-        _ => "a float",
-    }
-}
-
-fn offset_type(command: &str, count: usize) -> PType {
-    match command {
-        "match_smallest_offset_type" => match_smallest_offset_type(count, NameOfCall),
-        _ => match_smallest_list_offset_type(count, NameOfCall),
+        MatchEach::MatchEachFloat => {
+            unless(ptype.is_float(), "a float")?;
+            Ok(match_each_float_ptype(ptype, NameOfCall))
+        }
     }
 }

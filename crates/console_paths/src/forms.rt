@@ -25,7 +25,7 @@ pub struct Steps(pub Vec<Field>);
 impl Argument for Steps {
     fn read(alloc: Global, line: &mut Line<'_>) -> ConsoleResult<Steps> {
         let mut steps = Vec::new(alloc);
-        for _ in 0..line.left() {
+        for _ in 0..line.max_items() {
             if line.is_at_end() {
                 break;
             }
@@ -52,7 +52,7 @@ pub struct Paths(pub Vec<FieldPath>);
 impl Argument for Paths {
     fn read(alloc: Global, line: &mut Line<'_>) -> ConsoleResult<Paths> {
         let mut paths = Vec::new(alloc);
-        for _ in 0..line.left() {
+        for _ in 0..line.max_items() {
             if line.is_at_end() {
                 break;
             }
@@ -64,22 +64,22 @@ impl Argument for Paths {
 
 fn read_step(alloc: Global, line: &mut Line<'_>) -> ConsoleResult<Field> {
     line.skip_blanks();
-    if line.takes("[]") {
+    if line.accepts("[]") {
         return Ok(Field::ElementType);
     }
-    let _ = line.takes("$");
+    let _ = line.accepts("$");
     Ok(Field::Name(line.name(alloc)?))
 }
 
 /// Reads a path: its steps, or a dot where it has none.
 pub fn read_path(alloc: Global, line: &mut Line<'_>) -> ConsoleResult<FieldPath> {
-    if line.takes(".") {
+    if line.accepts(".") {
         return Ok(FieldPath::root(alloc));
     }
     let mut steps = Vec::new(alloc);
-    for _ in 0..line.left() {
+    for _ in 0..line.max_items() {
         steps.push(read_step(alloc, line)?)?;
-        if !line.takes(".") {
+        if !line.accepts(".") {
             break;
         }
     }
@@ -110,18 +110,18 @@ fn write_path(out: &mut String, path: &FieldPath) -> VortexResult<()> {
 
 /// Answers a step.
 pub fn say_step(call: &mut Call<'_>, step: &Field) -> ConsoleResult<()> {
-    call.separate()?;
+    call.write_separator()?;
     Ok(write_step(&mut call.answer, step)?)
 }
 
 /// Answers a path.
 pub fn say_path(call: &mut Call<'_>, path: &FieldPath) -> ConsoleResult<()> {
-    call.separate()?;
+    call.write_separator()?;
     Ok(write_path(&mut call.answer, path)?)
 }
 
 /// Answers the path that a call of the library made, or that the library refused.
-pub fn say_made_path(call: &mut Call<'_>, made: VortexResult<FieldPath>) -> ConsoleResult<()> {
+pub fn say_path_result(call: &mut Call<'_>, made: VortexResult<FieldPath>) -> ConsoleResult<()> {
     say_path(call, &made?)
 }
 
@@ -135,7 +135,10 @@ pub fn say_paths(call: &mut Call<'_>, paths: vec::IntoIter<FieldPath>) -> Consol
 }
 
 /// Answers lent paths, in the order of the bytes of their texts.
-pub fn say_lent_paths(call: &mut Call<'_>, paths: vec::IntoIter<&FieldPath>) -> ConsoleResult<()> {
+pub fn say_borrowed_paths(
+    call: &mut Call<'_>,
+    paths: vec::IntoIter<&FieldPath>,
+) -> ConsoleResult<()> {
     let mut texts = Vec::new(call.alloc);
     for path in paths {
         texts.push(text_of(call.alloc, path)?)?;

@@ -6,16 +6,8 @@ use console_types::{Call, ConsoleResult};
 use dtype_projection::merge_nullability;
 use dtype_types::DType;
 
-/// Answers the command, if it is this one.
-pub fn answer(call: &mut Call<'_>, command: &str) -> ConsoleResult<bool> {
-    match command {
-        "merge_nullability" => merge(call),
-        _ => return Ok(false),
-    }?;
-    Ok(true)
-}
-
-fn merge(call: &mut Call<'_>) -> ConsoleResult<()> {
+/// Answers `merge_nullability`.
+pub fn answer(call: &mut Call<'_>) -> ConsoleResult<()> {
     let (a, b): (DType, DType) = call.last()?;
     let merged = merge_nullability(call.alloc, &a, &b)?;
     call.write_option(merged.as_ref())

@@ -1,30 +1,29 @@
 // SPDX-License-Identifier: Apache-2.0
 // SPDX-FileCopyrightText: Copyright the Vortex contributors
 
-// Commands on sets of paths, and the sets that live on from line to line.
-use crate::forms::{Path, Paths, say_lent_paths, say_paths};
+// Commands on sets of paths, and the sets with a name, which last from line to line.
+use crate::forms::{Path, Paths, say_borrowed_paths, say_paths};
+use console_commands::SetCommand;
 use console_types::{Call, ConsoleResult, unless};
 use dtype_base::FieldName;
 use dtype_paths::FieldPathSet;
 use std::alloc::Global;
 use std::mem;
 
-/// How many sets live on at most.
-const MOST_SETS: usize = 16;
+/// How many sets have a name at most.
+const MAX_SETS: usize = 16;
 
-/// Answers the command, if it is one of these.
-pub fn answer(call: &mut Call<'_>, command: &str) -> ConsoleResult<bool> {
+/// Answers this command.
+pub fn answer(call: &mut Call<'_>, command: SetCommand) -> ConsoleResult<()> {
     match command {
-        "cover" => cover(call),
-        "cover_counted" => cover_counted(call),
-        "members" => members(call),
-        "contains" => contains(call),
-        _ => return Ok(false),
-    }?;
-    Ok(true)
+        SetCommand::Cover => cover(call),
+        SetCommand::CoverCounted => cover_counted(call),
+        SetCommand::Members => members(call),
+        SetCommand::Contains => contains(call),
+    }
 }
 
-// Reads the set of the paths up to the line's end.
+// Reads the last arguments of the line, paths, and returns their set.
 fn last_set(call: &mut Call<'_>) -> ConsoleResult<FieldPathSet> {
     let Paths(paths) = call.last()?;
     Ok(FieldPathSet::from_iter(call.alloc, paths)?)
@@ -48,7 +47,7 @@ fn members(call: &mut Call<'_>) -> ConsoleResult<()> {
 }
 
 fn say_members(call: &mut Call<'_>, set: &FieldPathSet) -> ConsoleResult<()> {
-    say_lent_paths(call, set.iter()?)
+    say_borrowed_paths(call, set.iter()?)
 }
 
 fn contains(call: &mut Call<'_>) -> ConsoleResult<()> {
@@ -57,34 +56,34 @@ fn contains(call: &mut Call<'_>) -> ConsoleResult<()> {
     call.say(set.contains(&path))
 }
 
-// A set that lives on.
+// A set with a name.
 #[derive(Drop)]
-struct Living {
+struct NamedSet {
     name: FieldName,
     set: FieldPathSet,
 }
 
-/// The sets that live on from line to line, each with a name.
+/// The sets with a name, which last from line to line.
 #[derive(Drop)]
 pub struct Sets {
     alloc: Global,
-    living: Vec<Living>,
+    named: Vec<NamedSet>,
 }
 
 impl Sets {
-    /// None.
+    /// Returns no set.
     pub fn new(alloc: Global) -> Self {
         Sets {
             alloc,
-            living: Vec::new(alloc),
+            named: Vec::new(alloc),
         }
     }
 
-    /// Answers a command on the set whose name comes next.
+    /// Answers `set`, a command on the set whose name is the next argument.
     pub fn answer(&mut self, call: &mut Call<'_>) -> ConsoleResult<()> {
         let name: FieldName = call.read()?;
-        self.begin(&name)?;
-        for it in &mut self.living {
+        self.add(&name)?;
+        for it in &mut self.named {
             if it.name == name {
                 return change(call, &mut it.set);
             }
@@ -92,19 +91,19 @@ impl Sets {
         Err(call.line.expected("the name of a set"))
     }
 
-    // Has a set of this name live.
-    fn begin(&mut self, name: &FieldName) -> ConsoleResult<()> {
-        if self.living.iter().any(|it| it.name == *name) {
+    // Adds a set of this name, unless there is one.
+    fn add(&mut self, name: &FieldName) -> ConsoleResult<()> {
+        if self.named.iter().any(|it| it.name == *name) {
             return Ok(());
         }
-        unless(self.living.len() < MOST_SETS, "at most 16 sets")?;
+        unless(self.named.len() < MAX_SETS, "at most 16 sets")?;
         let name = name.try_clone(self.alloc)?;
         let set = FieldPathSet::new(self.alloc);
-        Ok(self.living.push(Living { name, set })?)
+        Ok(self.named.push(NamedSet { name, set })?)
     }
 }
 
-// Answers a command on a set that lives on.
+// Answers a command on a set with a name.
 fn change(call: &mut Call<'_>, set: &mut FieldPathSet) -> ConsoleResult<()> {
     match call.word("a command on a set")? {
         "new" => renew(call, set),
@@ -126,12 +125,12 @@ fn renew(call: &mut Call<'_>, set: &mut FieldPathSet) -> ConsoleResult<()> {
 
 fn insert(call: &mut Call<'_>, set: &mut FieldPathSet) -> ConsoleResult<()> {
     let Path(path) = call.last()?;
-    call.say_done(set.insert(path))
+    call.say_ok(set.insert(path))
 }
 
 fn extend(call: &mut Call<'_>, set: &mut FieldPathSet) -> ConsoleResult<()> {
     let Paths(paths) = call.last()?;
-    call.say_done(set.extend(paths))
+    call.say_ok(set.extend(paths))
 }
 
 fn contains_last(call: &mut Call<'_>, set: &FieldPathSet) -> ConsoleResult<()> {

@@ -3,7 +3,7 @@
 
 // The arguments of commands, each of a type that says how it is read.
 use crate::line::expected_at;
-use crate::reader::{MOST_LEVELS, ptype_of, read_dtype};
+use crate::reader::{MAX_LEVELS, ptype_of, read_dtype};
 use crate::{ConsoleResult, Line};
 use dtype_base::{DecimalDType, DecimalType, FieldName, FieldNames, Nullability, PType};
 use dtype_types::{DType, ExtDTypeRef, ExtId, FieldDType, MapDType, StructFields, UnionVariants};
@@ -28,7 +28,7 @@ impl<A: Argument, B: Argument> Argument for (A, B) {
 /// A type.
 impl Argument for DType {
     fn read(alloc: Global, line: &mut Line<'_>) -> ConsoleResult<DType> {
-        read_dtype(alloc, line, MOST_LEVELS)
+        read_dtype(alloc, line, MAX_LEVELS)
     }
 }
 
@@ -43,7 +43,7 @@ impl Argument for FieldDType {
 impl<T: Argument> Argument for Vec<T> {
     fn read(alloc: Global, line: &mut Line<'_>) -> ConsoleResult<Vec<T>> {
         let mut all = Vec::new(alloc);
-        for _ in 0..line.left() {
+        for _ in 0..line.max_items() {
             if line.is_at_end() {
                 break;
             }
@@ -56,12 +56,12 @@ impl<T: Argument> Argument for Vec<T> {
 // Reads what is joined by commas, or `-`, which is nothing.
 fn read_list<T: Argument>(alloc: Global, line: &mut Line<'_>) -> ConsoleResult<Vec<T>> {
     let mut list = Vec::new(alloc);
-    if line.takes("-") {
+    if line.accepts("-") {
         return Ok(list);
     }
-    for _ in 0..line.left() {
+    for _ in 0..line.max_items() {
         list.push(T::read(alloc, line)?)?;
-        if !line.takes(",") {
+        if !line.accepts(",") {
             break;
         }
     }
@@ -71,46 +71,46 @@ fn read_list<T: Argument>(alloc: Global, line: &mut Line<'_>) -> ConsoleResult<V
 /// A struct.
 impl Argument for StructFields {
     fn read(alloc: Global, line: &mut Line<'_>) -> ConsoleResult<StructFields> {
-        let place = line.place();
-        let fields = read_dtype(alloc, line, MOST_LEVELS)?.into_struct_fields_opt();
-        fields.ok_or(expected_at(place, "a struct"))
+        let position = line.position();
+        let fields = read_dtype(alloc, line, MAX_LEVELS)?.into_struct_fields_opt();
+        fields.ok_or(expected_at(position, "a struct"))
     }
 }
 
 /// A union.
 impl Argument for UnionVariants {
     fn read(alloc: Global, line: &mut Line<'_>) -> ConsoleResult<UnionVariants> {
-        let place = line.place();
-        let variants = read_dtype(alloc, line, MOST_LEVELS)?.into_union_variants_opt();
-        variants.ok_or(expected_at(place, "a union"))
+        let position = line.position();
+        let variants = read_dtype(alloc, line, MAX_LEVELS)?.into_union_variants_opt();
+        variants.ok_or(expected_at(position, "a union"))
     }
 }
 
 /// A map.
 impl Argument for MapDType {
     fn read(alloc: Global, line: &mut Line<'_>) -> ConsoleResult<MapDType> {
-        let place = line.place();
-        let map = read_dtype(alloc, line, MOST_LEVELS)?.into_map_opt();
-        map.ok_or(expected_at(place, "a map"))
+        let position = line.position();
+        let map = read_dtype(alloc, line, MAX_LEVELS)?.into_map_opt();
+        map.ok_or(expected_at(position, "a map"))
     }
 }
 
 /// An extension.
 impl Argument for ExtDTypeRef {
     fn read(alloc: Global, line: &mut Line<'_>) -> ConsoleResult<ExtDTypeRef> {
-        let place = line.place();
-        match read_dtype(alloc, line, MOST_LEVELS)? {
+        let position = line.position();
+        match read_dtype(alloc, line, MAX_LEVELS)? {
             DType::Extension(extension) => Ok(extension),
-            _ => Err(expected_at(place, "an extension")),
+            _ => Err(expected_at(position, "an extension")),
         }
     }
 }
 
 impl Argument for Nullability {
     fn read(_alloc: Global, line: &mut Line<'_>) -> ConsoleResult<Nullability> {
-        if line.takes("NonNullable") {
+        if line.accepts("NonNullable") {
             Ok(Nullability::NonNullable)
-        } else if line.takes("Nullable") {
+        } else if line.accepts("Nullable") {
             Ok(Nullability::Nullable)
         } else {
             Err(line.expected("NonNullable or Nullable"))
@@ -121,9 +121,9 @@ impl Argument for Nullability {
 /// A primitive name.
 impl Argument for PType {
     fn read(_alloc: Global, line: &mut Line<'_>) -> ConsoleResult<PType> {
-        let place = line.place();
+        let position = line.position();
         let word = line.word("a primitive name")?;
-        ptype_of(word).ok_or(expected_at(place, "a primitive name"))
+        ptype_of(word).ok_or(expected_at(position, "a primitive name"))
     }
 }
 
@@ -143,9 +143,9 @@ impl Argument for Decimal {
 /// A decimal's storage type.
 impl Argument for DecimalType {
     fn read(_alloc: Global, line: &mut Line<'_>) -> ConsoleResult<DecimalType> {
-        let place = line.place();
+        let position = line.position();
         let word = line.word("a decimal's storage type")?;
-        decimal_type_of(word).ok_or(expected_at(place, "a decimal's storage type"))
+        decimal_type_of(word).ok_or(expected_at(position, "a decimal's storage type"))
     }
 }
 
@@ -220,7 +220,7 @@ impl Argument for Bytes {
 /// An id.
 impl Argument for ExtId {
     fn read(alloc: Global, line: &mut Line<'_>) -> ConsoleResult<ExtId> {
-        if line.takes("\"") {
+        if line.accepts("\"") {
             let text = line.quoted_text(alloc)?;
             Ok(ExtId::new(alloc, text.as_str())?)
         } else {

@@ -5,7 +5,7 @@
 ghost use Rattle.std.specs.Prelude.{◌≡◌, OnOk, true};
 
 use crate::writer::write_hexadecimals;
-use crate::{Argument, ConsoleFault, ConsoleResult, Line, Written};
+use crate::{Argument, ConsoleError, ConsoleResult, Line, Written};
 use dtype_base::VortexResult;
 use std::alloc::Global;
 use std::cmp::Ordering;
@@ -45,7 +45,7 @@ impl<'a> Call<'a> {
     /// Reads an argument, behind which the line ends.
     pub fn last<T: Argument>(&mut self) -> ConsoleResult<T> {
         let argument = self.read()?;
-        self.line.before_end(argument)
+        self.line.then_end(argument)
     }
 
     /// Reads a number.
@@ -63,7 +63,7 @@ impl<'a> Call<'a> {
         T::Err: Drop,
     {
         let number = self.number(expected)?;
-        self.line.before_end(number)
+        self.line.then_end(number)
     }
 
     /// Reads the end of the line.
@@ -72,7 +72,7 @@ impl<'a> Call<'a> {
     }
 
     /// Writes the blank between two values.
-    pub fn separate(&mut self) -> ConsoleResult<()> {
+    pub fn write_separator(&mut self) -> ConsoleResult<()> {
         if !self.answer.is_empty() {
             self.answer.push(' ')?;
         }
@@ -81,7 +81,7 @@ impl<'a> Call<'a> {
 
     /// Answers a value by its text.
     pub fn say<T: Display + Drop>(&mut self, value: T) -> ConsoleResult<()> {
-        self.separate()?;
+        self.write_separator()?;
         write!(self.answer, "{value}")?;
         Ok(())
     }
@@ -95,12 +95,12 @@ impl<'a> Call<'a> {
     }
 
     /// Answers what a call of the library made by its text, or that the library refused.
-    pub fn say_made<T: Display + Drop>(&mut self, made: VortexResult<T>) -> ConsoleResult<()> {
+    pub fn say_result<T: Display + Drop>(&mut self, made: VortexResult<T>) -> ConsoleResult<()> {
         self.say(made?)
     }
 
     /// Answers `ok`, or that the library refused.
-    pub fn say_done(&mut self, done: VortexResult<()>) -> ConsoleResult<()> {
+    pub fn say_ok(&mut self, done: VortexResult<()>) -> ConsoleResult<()> {
         done?;
         self.say("ok")
     }
@@ -115,12 +115,12 @@ impl<'a> Call<'a> {
 
     /// Answers the words that hold.
     pub fn say_words(&mut self, words: &[(&str, bool)]) -> ConsoleResult<()> {
-        self.say_those(words)?;
+        self.say_some_words(words)?;
         self.end_list()
     }
 
     /// Answers the words that hold, where more are to come.
-    pub fn say_those(&mut self, words: &[(&str, bool)]) -> ConsoleResult<()> {
+    pub fn say_some_words(&mut self, words: &[(&str, bool)]) -> ConsoleResult<()> {
         for (word, holds) in words {
             if *holds {
                 self.say(*word)?;
@@ -131,7 +131,7 @@ impl<'a> Call<'a> {
 
     /// Answers tags.
     pub fn say_tags(&mut self, tags: &[u8]) -> ConsoleResult<()> {
-        self.separate()?;
+        self.write_separator()?;
         let mut is_first = true;
         for tag in tags {
             if !is_first {
@@ -154,7 +154,7 @@ impl<'a> Call<'a> {
 
     /// Answers a text of the library on one line.
     pub fn say_text(&mut self, text: &str) -> ConsoleResult<()> {
-        self.separate()?;
+        self.write_separator()?;
         if text.is_empty() {
             self.answer.push_str("\"\"")?;
         }
@@ -175,7 +175,7 @@ impl<'a> Call<'a> {
 
     /// Answers a value in the console's form.
     pub fn write<T: Written>(&mut self, value: &T) -> ConsoleResult<()> {
-        self.separate()?;
+        self.write_separator()?;
         Ok(value.write(&mut self.answer)?)
     }
 
@@ -188,18 +188,18 @@ impl<'a> Call<'a> {
     }
 
     /// Answers a value that was given up in the console's form, or `none`.
-    pub fn write_given<T: Written + Drop>(&mut self, value: Option<T>) -> ConsoleResult<()> {
+    pub fn write_owned_option<T: Written + Drop>(&mut self, value: Option<T>) -> ConsoleResult<()> {
         self.write_option(value.as_ref())
     }
 
     /// Answers what a call of the library made in the console's form, or that the library refused.
-    pub fn write_made<T: Written + Drop>(&mut self, made: VortexResult<T>) -> ConsoleResult<()> {
+    pub fn write_result<T: Written + Drop>(&mut self, made: VortexResult<T>) -> ConsoleResult<()> {
         self.write(&made?)
     }
 
     /// Answers bytes in hexadecimal.
     pub fn say_hexadecimals(&mut self, bytes: &[u8]) -> ConsoleResult<()> {
-        self.separate()?;
+        self.write_separator()?;
         Ok(write_hexadecimals(&mut self.answer, bytes)?)
     }
 }
@@ -211,6 +211,6 @@ pub fn unless(holds: bool, condition: &'static str) -> ConsoleResult<()>
     if holds {
         Ok(())
     } else {
-        Err(ConsoleFault::Unmet(condition))
+        Err(ConsoleError::Condition(condition))
     }
 }

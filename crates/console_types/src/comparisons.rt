@@ -1,51 +1,35 @@
 // SPDX-License-Identifier: Apache-2.0
 // SPDX-FileCopyrightText: Copyright the Vortex contributors
 
-// Commands that hold two types against each other.
-use crate::{Call, ConsoleFault, ConsoleResult};
+// Commands that compare two types.
+use crate::{Call, ConsoleError, ConsoleResult};
+use console_commands::Comparison;
 use dtype_types::DType;
 use std::hash::{DefaultHasher, Hash, Hasher};
 
-const COMMANDS: [&str; 9] = [
-    "eq",
-    "eq_ignore_nullability",
-    "subset",
-    "superset",
-    "hash_eq",
-    "hash_ignore_nullability_eq",
-    "inner_eq",
-    "inner_eq_ignore_nullability",
-    "inner_hash_eq",
-];
-
-/// Answers the command, if it is one of these.
-pub fn answer(call: &mut Call<'_>, command: &str) -> ConsoleResult<bool> {
-    if !COMMANDS.contains(&command) {
-        return Ok(false);
-    }
-    hold_against(call, command)?;
-    Ok(true)
-}
-
-fn hold_against(call: &mut Call<'_>, command: &str) -> ConsoleResult<()> {
+/// Answers this command.
+pub fn answer(call: &mut Call<'_>, command: Comparison) -> ConsoleResult<()> {
     let (dtype, other): (DType, DType) = call.last()?;
     match compare(command, &dtype, &other) {
-        Some(told) => call.say(told),
-        None => Err(ConsoleFault::Unmet("two types of one such kind")),
+        Some(holds) => call.say(holds),
+        None => Err(ConsoleError::Condition("two types of one such kind")),
     }
 }
 
-fn compare(command: &str, dtype: &DType, other: &DType) -> Option<bool> {
+// Returns the answer of the comparison, or `None` where the types have no insides of one kind.
+fn compare(command: Comparison, dtype: &DType, other: &DType) -> Option<bool> {
     match command {
-        "eq" => Some(dtype == other),
-        "eq_ignore_nullability" => Some(dtype.eq_ignore_nullability(other)),
-        "subset" => Some(dtype.eq_with_nullability_subset(other)),
-        "superset" => Some(dtype.eq_with_nullability_superset(other)),
-        "hash_eq" => Some(hash_of(dtype) == hash_of(other)),
-        "inner_eq" => inner_eq(dtype, other),
-        "inner_hash_eq" => inner_hash_eq(dtype, other),
-        "inner_eq_ignore_nullability" => inner_eq_ignore_nullability(dtype, other),
-        _ => Some(hash_ignoring_nullability(dtype) == hash_ignoring_nullability(other)),
+        Comparison::Eq => Some(dtype == other),
+        Comparison::EqIgnoreNullability => Some(dtype.eq_ignore_nullability(other)),
+        Comparison::Subset => Some(dtype.eq_with_nullability_subset(other)),
+        Comparison::Superset => Some(dtype.eq_with_nullability_superset(other)),
+        Comparison::HashEq => Some(hash_of(dtype) == hash_of(other)),
+        Comparison::InnerEq => inner_eq(dtype, other),
+        Comparison::InnerHashEq => inner_hash_eq(dtype, other),
+        Comparison::InnerEqIgnoreNullability => inner_eq_ignore_nullability(dtype, other),
+        Comparison::HashIgnoreNullabilityEq => Some(
+            hash_ignoring_nullability(dtype) == hash_ignoring_nullability(other),
+        ),
     }
 }
 
@@ -78,7 +62,7 @@ fn inner_eq_ignore_nullability(dtype: &DType, other: &DType) -> Option<bool> {
     }
 }
 
-/// What a fresh hasher answers that was fed this value.
+/// Returns what a new hasher answers after this value.
 pub fn hash_of<T: Hash>(value: &T) -> u64 {
     let mut state = DefaultHasher::new();
     value.hash(&mut state);

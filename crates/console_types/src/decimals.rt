@@ -3,60 +3,58 @@
 
 // Commands on decimals and their storage types.
 use crate::comparisons::hash_of;
-use crate::{Call, ConsoleFault, ConsoleResult, Decimal};
+use crate::{Call, ConsoleError, ConsoleResult, Decimal};
+use console_commands::{DecimalCommand, DecimalConstructor, DecimalEquality, DecimalQuery};
 use dtype_base::{DecimalDType, DecimalType, MAX_PRECISION, MAX_SCALE, PType};
 
-/// Answers the command, if it is one of these.
-pub fn answer(call: &mut Call<'_>, command: &str) -> ConsoleResult<bool> {
+/// Answers this command.
+pub fn answer(call: &mut Call<'_>, command: DecimalCommand) -> ConsoleResult<()> {
     match command {
-        "decimal" | "decimal_new" => made(call, command),
-        "precision"
-        | "scale"
-        | "required_bit_width"
-        | "decimal_text"
-        | "smallest_decimal_value_type" => ask(call, command),
-        "decimal_eq" | "decimal_hash_eq" => compare(call, command),
-        "is_compatible_decimal_value_type" => is_compatible(call),
-        "decimal_type_width" => decimal_type_width(call),
-        "decimal_type_cmp" => decimal_type_cmp(call),
-        "decimal_type_from" => decimal_type_from(call),
-        "decimal_maxima" => decimal_maxima(call),
-        _ => return Ok(false),
-    }?;
-    Ok(true)
-}
-
-fn made(call: &mut Call<'_>, command: &str) -> ConsoleResult<()> {
-    let precision = call.number("a precision")?;
-    let scale = call.last_number("a scale")?;
-    match DecimalDType::try_new(precision, scale) {
-        Ok(decimal) => call.say(decimal),
-        Err(refusal) if command == "decimal" => Err(ConsoleFault::from(refusal)),
-        Err(_) => Err(ConsoleFault::Unmet("a valid precision and scale")),
+        DecimalCommand::Make(command) => make(call, command),
+        DecimalCommand::Query(command) => ask(call, command),
+        DecimalCommand::Equal(command) => equal(call, command),
+        DecimalCommand::IsCompatibleDecimalValueType => is_compatible(call),
+        DecimalCommand::DecimalTypeWidth => decimal_type_width(call),
+        DecimalCommand::DecimalTypeCmp => decimal_type_cmp(call),
+        DecimalCommand::DecimalTypeFrom => decimal_type_from(call),
+        DecimalCommand::DecimalMaxima => decimal_maxima(call),
     }
 }
 
-fn ask(call: &mut Call<'_>, command: &str) -> ConsoleResult<()> {
+fn make(call: &mut Call<'_>, command: DecimalConstructor) -> ConsoleResult<()> {
+    let precision = call.number("a precision")?;
+    let scale = call.last_number("a scale")?;
+    let made = DecimalDType::try_new(precision, scale);
+    match command {
+        DecimalConstructor::Decimal => call.say_result(made),
+        DecimalConstructor::DecimalNew => match made {
+            Ok(decimal) => call.say(decimal),
+            Err(_) => Err(ConsoleError::Condition("a valid precision and scale")),
+        },
+    }
+}
+
+fn ask(call: &mut Call<'_>, command: DecimalQuery) -> ConsoleResult<()> {
     let Decimal(precision, scale) = call.last()?;
     let decimal = DecimalDType::try_new(precision, scale)?;
     match command {
-        "precision" => call.say(decimal.precision()),
-        "scale" => call.say(decimal.scale()),
-        "required_bit_width" => call.say(decimal.required_bit_width()),
-        "smallest_decimal_value_type" => {
+        DecimalQuery::Precision => call.say(decimal.precision()),
+        DecimalQuery::Scale => call.say(decimal.scale()),
+        DecimalQuery::RequiredBitWidth => call.say(decimal.required_bit_width()),
+        DecimalQuery::SmallestDecimalValueType => {
             call.say(DecimalType::smallest_decimal_value_type(&decimal))
         }
-        _ => call.say(decimal),
+        DecimalQuery::DecimalText => call.say(decimal),
     }
 }
 
-fn compare(call: &mut Call<'_>, command: &str) -> ConsoleResult<()> {
+fn equal(call: &mut Call<'_>, command: DecimalEquality) -> ConsoleResult<()> {
     let (decimal, other): (Decimal, Decimal) = call.last()?;
     let decimal = DecimalDType::try_new(decimal.0, decimal.1)?;
     let other = DecimalDType::try_new(other.0, other.1)?;
     call.say(match command {
-        "decimal_eq" => decimal == other,
-        _ => hash_of(&decimal) == hash_of(&other),
+        DecimalEquality::DecimalEq => decimal == other,
+        DecimalEquality::DecimalHashEq => hash_of(&decimal) == hash_of(&other),
     })
 }
 
@@ -78,7 +76,7 @@ fn decimal_type_cmp(call: &mut Call<'_>) -> ConsoleResult<()> {
 
 fn decimal_type_from(call: &mut Call<'_>) -> ConsoleResult<()> {
     let ptype: PType = call.last()?;
-    call.say_made(DecimalType::try_from(ptype))
+    call.say_result(DecimalType::try_from(ptype))
 }
 
 fn decimal_maxima(call: &mut Call<'_>) -> ConsoleResult<()> {

@@ -2,42 +2,33 @@
 // SPDX-FileCopyrightText: Copyright the Vortex contributors
 
 // Commands on erased extensions.
-use crate::{Bytes, Call, ConsoleFault, ConsoleResult};
+use crate::{Bytes, Call, ConsoleError, ConsoleResult};
+use console_commands::{ExtensionCommand, ExtensionQuery};
 use dtype_base::Nullability;
 use dtype_types::{DType, ExtDTypeRef, ExtId};
 
-/// Answers the command, if it is one of these.
-pub fn answer(call: &mut Call<'_>, command: &str) -> ConsoleResult<bool> {
+/// Answers this command.
+pub fn answer(call: &mut Call<'_>, command: ExtensionCommand) -> ConsoleResult<()> {
     match command {
-        "id"
-        | "metadata"
-        | "serialize_metadata"
-        | "storage_dtype"
-        | "extension_nullability"
-        | "extension_is_nullable"
-        | "metadata_text"
-        | "extension_text"
-        | "extension_copy" => ask(call, command),
-        "extension" => extension(call),
-        "extension_parts" => extension_parts(call),
-        "extension_with_nullability" => extension_with_nullability(call),
-        _ => return Ok(false),
-    }?;
-    Ok(true)
+        ExtensionCommand::Query(command) => ask(call, command),
+        ExtensionCommand::Extension => extension(call),
+        ExtensionCommand::ExtensionParts => extension_parts(call),
+        ExtensionCommand::ExtensionWithNullability => extension_with_nullability(call),
+    }
 }
 
-fn ask(call: &mut Call<'_>, command: &str) -> ConsoleResult<()> {
+fn ask(call: &mut Call<'_>, command: ExtensionQuery) -> ConsoleResult<()> {
     let extension: ExtDTypeRef = call.last()?;
     match command {
-        "id" => call.write(extension.id()),
-        "metadata" => call.say_hexadecimals(extension.metadata_bytes()),
-        "serialize_metadata" => serialize_metadata(call, &extension),
-        "storage_dtype" => call.write(extension.storage_dtype()),
-        "extension_nullability" => call.say(extension.nullability().long_text()),
-        "extension_is_nullable" => call.say(extension.is_nullable()),
-        "metadata_text" => call.say(extension.display_metadata()),
-        "extension_copy" => call.write_made(extension.try_clone(call.alloc)),
-        _ => call.say_text_of(&extension),
+        ExtensionQuery::Id => call.write(extension.id()),
+        ExtensionQuery::Metadata => call.say_hexadecimals(extension.metadata_bytes()),
+        ExtensionQuery::SerializeMetadata => serialize_metadata(call, &extension),
+        ExtensionQuery::StorageDtype => call.write(extension.storage_dtype()),
+        ExtensionQuery::ExtensionNullability => call.say(extension.nullability().long_text()),
+        ExtensionQuery::ExtensionIsNullable => call.say(extension.is_nullable()),
+        ExtensionQuery::MetadataText => call.say(extension.display_metadata()),
+        ExtensionQuery::ExtensionCopy => call.write_result(extension.try_clone(call.alloc)),
+        ExtensionQuery::ExtensionText => call.say_text_of(&extension),
     }
 }
 
@@ -48,7 +39,7 @@ fn serialize_metadata(call: &mut Call<'_>, extension: &ExtDTypeRef) -> ConsoleRe
 
 fn extension(call: &mut Call<'_>) -> ConsoleResult<()> {
     let (id, (Bytes(metadata), storage)): (ExtId, (Bytes, DType)) = call.last()?;
-    call.write_made(ExtDTypeRef::from_parts(call.alloc, id, metadata, storage))
+    call.write_result(ExtDTypeRef::from_parts(call.alloc, id, metadata, storage))
 }
 
 fn extension_parts(call: &mut Call<'_>) -> ConsoleResult<()> {
@@ -71,10 +62,10 @@ fn say_parts(
 fn extension_with_nullability(call: &mut Call<'_>) -> ConsoleResult<()> {
     let (n, extension): (Nullability, ExtDTypeRef) = call.last()?;
     if n.is_nullable() {
-        call.write_made(extension.with_nullability(call.alloc, Nullability::Nullable))
+        call.write_result(extension.with_nullability(call.alloc, Nullability::Nullable))
     } else if extension.storage_dtype().can_be_nonnullable() {
-        call.write_made(extension.with_nullability(call.alloc, Nullability::NonNullable))
+        call.write_result(extension.with_nullability(call.alloc, Nullability::NonNullable))
     } else {
-        Err(ConsoleFault::Unmet("a type that can be non-nullable"))
+        Err(ConsoleError::Condition("a type that can be non-nullable"))
     }
 }

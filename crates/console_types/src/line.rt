@@ -2,7 +2,7 @@
 // SPDX-FileCopyrightText: Copyright the Vortex contributors
 
 // What is left to read of a line, and the words, quotes and numbers in it.
-use crate::{ConsoleFault, ConsoleResult};
+use crate::{ConsoleError, ConsoleResult};
 use dtype_base::FieldName;
 use std::alloc::Global;
 use std::str::{self, FromStr};
@@ -24,20 +24,20 @@ impl<'a> Line<'a> {
     }
 
     /// Where it is: a byte of the line, counted from 1.
-    pub fn place(&self) -> usize {
+    pub fn position(&self) -> usize {
         self.length
             .saturating_sub(self.rest.len())
             .saturating_add(1)
     }
 
-    /// How many items are looked for at most: each takes a byte, and one more is looked for behind the last.
-    pub fn left(&self) -> usize {
+    /// How many items are looked for at most: each accepts a byte, and one more is looked for behind the last.
+    pub fn max_items(&self) -> usize {
         self.rest.len().saturating_add(1)
     }
 
     /// That the line can't be read from here on, since this was expected.
-    pub fn expected(&self, expected: &'static str) -> ConsoleFault {
-        expected_at(self.place(), expected)
+    pub fn expected(&self, expected: &'static str) -> ConsoleError {
+        expected_at(self.position(), expected)
     }
 
     /// The next byte, if there is one.
@@ -46,7 +46,7 @@ impl<'a> Line<'a> {
     }
 
     /// Whether this comes next; then it is read.
-    pub fn takes(&mut self, text: &str) -> bool {
+    pub fn accepts(&mut self, text: &str) -> bool {
         match self.rest.strip_prefix(text.as_bytes()) {
             Some(rest) => {
                 self.rest = rest;
@@ -63,7 +63,7 @@ impl<'a> Line<'a> {
 
     /// Reads this, which is called so.
     pub fn take_or(&mut self, text: &'static str, expected: &'static str) -> ConsoleResult<()> {
-        if self.takes(text) {
+        if self.accepts(text) {
             Ok(())
         } else {
             Err(self.expected(expected))
@@ -91,13 +91,13 @@ impl<'a> Line<'a> {
     }
 
     /// Gives what was read, behind which the line ends.
-    pub fn before_end<T: Drop>(&mut self, read: T) -> ConsoleResult<T> {
+    pub fn then_end<T: Drop>(&mut self, read: T) -> ConsoleResult<T> {
         self.end()?;
         Ok(read)
     }
 
     /// Gives what was read, behind which this comes next.
-    pub fn before<T: Drop>(&mut self, read: T, text: &'static str) -> ConsoleResult<T> {
+    pub fn then<T: Drop>(&mut self, read: T, text: &'static str) -> ConsoleResult<T> {
         self.take(text)?;
         Ok(read)
     }
@@ -112,31 +112,31 @@ impl<'a> Line<'a> {
         taken
     }
 
-    // The text of bytes that were read at this place.
+    // The text of bytes that were read at this position.
     fn text_of(
         &self,
         bytes: &'a [u8],
-        place: usize,
+        position: usize,
         expected: &'static str,
     ) -> ConsoleResult<&'a str> {
         match str::from_utf8(bytes) {
             Ok(text) if !text.is_empty() => Ok(text),
-            _ => Err(expected_at(place, expected)),
+            _ => Err(expected_at(position, expected)),
         }
     }
 
     /// Reads a word: letters and digits of ASCII, `_` and what lies beyond ASCII.
     pub fn word(&mut self, expected: &'static str) -> ConsoleResult<&'a str> {
-        let place = self.place();
+        let position = self.position();
         let bytes = self.take_while(is_bare);
-        self.text_of(bytes, place, expected)
+        self.text_of(bytes, position, expected)
     }
 
     /// Reads a word in which dots may stand too.
     pub fn dotted_word(&mut self, expected: &'static str) -> ConsoleResult<&'a str> {
-        let place = self.place();
+        let position = self.position();
         let bytes = self.take_while(|byte| byte == b'.' || is_bare(byte));
-        self.text_of(bytes, place, expected)
+        self.text_of(bytes, position, expected)
     }
 
     /// Reads a number of this type.
@@ -144,12 +144,12 @@ impl<'a> Line<'a> {
     where
         T::Err: Drop,
     {
-        let place = self.place();
+        let position = self.position();
         let bytes = self.take_while(|byte| byte == b'-' || byte.is_ascii_digit());
-        let text = self.text_of(bytes, place, expected)?;
+        let text = self.text_of(bytes, position, expected)?;
         match text.parse() {
             Ok(number) => Ok(number),
-            Err(_) => Err(expected_at(place, expected)),
+            Err(_) => Err(expected_at(position, expected)),
         }
     }
 
@@ -157,7 +157,7 @@ impl<'a> Line<'a> {
     pub fn quoted(&mut self, alloc: Global) -> ConsoleResult<Vec<u8>> {
         let mut bytes = Vec::new(alloc);
         for _ in 0..self.rest.len() {
-            if self.takes("\"") {
+            if self.accepts("\"") {
                 return Ok(bytes);
             }
             bytes.push(self.quoted_byte()?)?;
@@ -193,7 +193,7 @@ impl<'a> Line<'a> {
             ("n", b'\n'),
             ("r", b'\r'),
         ] {
-            if self.takes(mark) {
+            if self.accepts(mark) {
                 return Ok(byte);
             }
         }
@@ -229,16 +229,16 @@ impl<'a> Line<'a> {
 
     /// Reads a text in quotes, behind the first of them.
     pub fn quoted_text(&mut self, alloc: Global) -> ConsoleResult<String> {
-        let place = self.place();
+        let position = self.position();
         match String::from_utf8(self.quoted(alloc)?) {
             Ok(text) => Ok(text),
-            Err(_) => Err(expected_at(place, "a text in UTF-8")),
+            Err(_) => Err(expected_at(position, "a text in UTF-8")),
         }
     }
 
     /// Reads a name, bare or in quotes.
     pub fn name(&mut self, alloc: Global) -> ConsoleResult<FieldName> {
-        if self.takes("\"") {
+        if self.accepts("\"") {
             let text = self.quoted_text(alloc)?;
             Ok(FieldName::new(alloc, text.as_str())?)
         } else {
@@ -248,10 +248,10 @@ impl<'a> Line<'a> {
 
     /// Whether the items behind an opening one end here; else it reads the comma before the next.
     pub fn closes(&mut self, close: &'static str) -> ConsoleResult<bool> {
-        if self.takes(close) {
+        if self.accepts(close) {
             return Ok(true);
         }
-        if !self.takes(",") {
+        if !self.accepts(",") {
             return Err(self.expected(close));
         }
         self.skip_blanks();
@@ -259,9 +259,9 @@ impl<'a> Line<'a> {
     }
 }
 
-/// That the line can't be read from this place on, since this was expected.
-pub fn expected_at(place: usize, expected: &'static str) -> ConsoleFault {
-    ConsoleFault::Unreadable { place, expected }
+/// That the line can't be read from this position on, since this was expected.
+pub fn expected_at(position: usize, expected: &'static str) -> ConsoleError {
+    ConsoleError::Unreadable { position, expected }
 }
 
 /// Whether a byte may stand in a word.

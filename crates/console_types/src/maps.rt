@@ -3,33 +3,30 @@
 
 // Commands on maps.
 use crate::{Call, ConsoleResult};
+use console_commands::{MapCommand, MapQuery};
 use dtype_types::{DType, MapDType};
 
-/// Answers the command, if it is one of these.
-pub fn answer(call: &mut Call<'_>, command: &str) -> ConsoleResult<bool> {
+/// Answers this command.
+pub fn answer(call: &mut Call<'_>, command: MapCommand) -> ConsoleResult<()> {
     match command {
-        "key_dtype" | "value_dtype" | "entries_dtype" | "keys_sorted" | "map_text" | "map_copy" => {
-            ask(call, command)
-        }
-        "map_try_new" => map_try_new(call),
-        _ => return Ok(false),
-    }?;
-    Ok(true)
+        MapCommand::Query(command) => ask(call, command),
+        MapCommand::MapTryNew => map_try_new(call),
+    }
 }
 
-fn ask(call: &mut Call<'_>, command: &str) -> ConsoleResult<()> {
+fn ask(call: &mut Call<'_>, command: MapQuery) -> ConsoleResult<()> {
     let map: MapDType = call.last()?;
     match command {
-        "key_dtype" => call.write(map.key_dtype()),
-        "value_dtype" => call.write(map.value_dtype()),
-        "entries_dtype" => call.write_made(map.entries_dtype(call.alloc)),
-        "keys_sorted" => call.say(map.keys_sorted()),
-        "map_copy" => call.write_made(map.try_clone(call.alloc)),
-        _ => call.say_text_of(&map),
+        MapQuery::KeyDtype => call.write(map.key_dtype()),
+        MapQuery::ValueDtype => call.write(map.value_dtype()),
+        MapQuery::EntriesDtype => call.write_result(map.entries_dtype(call.alloc)),
+        MapQuery::KeysSorted => call.say(map.keys_sorted()),
+        MapQuery::MapCopy => call.write_result(map.try_clone(call.alloc)),
+        MapQuery::MapText => call.say_text_of(&map),
     }
 }
 
 fn map_try_new(call: &mut Call<'_>) -> ConsoleResult<()> {
     let (keys_sorted, (key, value)): (bool, (DType, DType)) = call.last()?;
-    call.write_made(MapDType::try_new(call.alloc, key, value, keys_sorted))
+    call.write_result(MapDType::try_new(call.alloc, key, value, keys_sorted))
 }

@@ -4,71 +4,66 @@
 // Commands on names.
 use crate::comparisons::hash_of;
 use crate::{Call, ConsoleResult, unless};
+use console_commands::{
+    NameCommand, NameEquality, NameForm, NamesByIndex, NamesEquality, NamesQuery,
+};
 use dtype_base::{FieldName, FieldNames};
 
-/// Answers the command, if it is one of these.
-pub fn answer(call: &mut Call<'_>, command: &str) -> ConsoleResult<bool> {
+/// Answers this command.
+pub fn answer(call: &mut Call<'_>, command: NameCommand) -> ConsoleResult<()> {
     match command {
-        "name" | "name_text" => name(call, command),
-        "name_cmp" | "name_eq" | "name_eq_str" | "name_hash_eq" => compare(call, command),
-        "names_text"
-        | "names_len"
-        | "names_is_empty"
-        | "names_copy"
-        | "names_iter"
-        | "names_into_iter" => ask(call, command),
-        "names_get" | "names_at" | "names_left" => by_index(call, command),
-        "names_find" => names_find(call),
-        "names_eq" | "names_hash_eq" | "names_eq_texts" => compare_names(call, command),
-        _ => return Ok(false),
-    }?;
-    Ok(true)
+        NameCommand::Write(command) => name(call, command),
+        NameCommand::NameCmp => name_cmp(call),
+        NameCommand::Equal(command) => equal(call, command),
+        NameCommand::Query(command) => ask(call, command),
+        NameCommand::ByIndex(command) => by_index(call, command),
+        NameCommand::NamesFind => names_find(call),
+        NameCommand::EqualLists(command) => equal_lists(call, command),
+    }
 }
 
-fn name(call: &mut Call<'_>, command: &str) -> ConsoleResult<()> {
+fn name(call: &mut Call<'_>, command: NameForm) -> ConsoleResult<()> {
     let name: FieldName = call.last()?;
     match command {
-        "name" => call.write(&name),
-        _ => call.say_text_of(&name),
+        NameForm::Name => call.write(&name),
+        NameForm::NameText => call.say_text_of(&name),
     }
 }
 
-fn compare(call: &mut Call<'_>, command: &str) -> ConsoleResult<()> {
+fn name_cmp(call: &mut Call<'_>) -> ConsoleResult<()> {
     let (name, other): (FieldName, FieldName) = call.last()?;
-    match command {
-        "name_cmp" => call.say_ordering(name.cmp(&other)),
-        _ => call.say(are_equal(command, &name, &other)),
-    }
+    call.say_ordering(name.cmp(&other))
 }
 
-fn are_equal(command: &str, name: &FieldName, other: &FieldName) -> bool {
-    match command {
-        "name_eq" => name == other,
-        "name_eq_str" => name.eq_str(other.as_str()),
-        _ => hash_of(name) == hash_of(other),
-    }
+fn equal(call: &mut Call<'_>, command: NameEquality) -> ConsoleResult<()> {
+    let (name, other): (FieldName, FieldName) = call.last()?;
+    call.say(match command {
+        NameEquality::NameEq => name == other,
+        NameEquality::NameEqStr => name.eq_str(other.as_str()),
+        NameEquality::NameHashEq => hash_of(&name) == hash_of(&other),
+    })
 }
 
-fn ask(call: &mut Call<'_>, command: &str) -> ConsoleResult<()> {
+fn ask(call: &mut Call<'_>, command: NamesQuery) -> ConsoleResult<()> {
     let names: FieldNames = call.last()?;
     match command {
-        "names_text" => call.say(&names),
-        "names_len" => call.say(names.len()),
-        "names_is_empty" => call.say(names.is_empty()),
-        "names_copy" => call.write_made(names.try_clone(call.alloc)),
-        // (what writes names goes through them by `iter`)
-        "names_iter" => call.write(&names),
-        _ => call.write_made(FieldNames::from_iter(call.alloc, names)),
+        NamesQuery::NamesText => call.say(&names),
+        NamesQuery::NamesLen => call.say(names.len()),
+        NamesQuery::NamesIsEmpty => call.say(names.is_empty()),
+        NamesQuery::NamesCopy => call.write_result(names.try_clone(call.alloc)),
+        // (names are written by `iter`)
+        NamesQuery::NamesIter => call.write(&names),
+        NamesQuery::NamesIntoIter => call.write_result(FieldNames::from_iter(call.alloc, names)),
     }
 }
 
-fn by_index(call: &mut Call<'_>, command: &str) -> ConsoleResult<()> {
+fn by_index(call: &mut Call<'_>, command: NamesByIndex) -> ConsoleResult<()> {
     let (index, names): (usize, FieldNames) = call.last()?;
     match command {
-        "names_get" => call.write_option(names.get(index)),
-        "names_at" => say_name_at(call, index, &names),
-        _ => {
-            call.say(left_of_lent(index, &names))?;
+        NamesByIndex::NamesGet => call.write_option(names.get(index)),
+        NamesByIndex::NamesAt => say_name_at(call, index, &names),
+        NamesByIndex::NamesLeft => {
+            call.say(left_of_borrowed(index, &names))?;
             call.say(left_of_owned(index, names))
         }
     }
@@ -79,8 +74,8 @@ fn say_name_at(call: &mut Call<'_>, index: usize, names: &FieldNames) -> Console
     call.write(&names[index])
 }
 
-// How many names the iterator over what is lent has left behind so many steps.
-fn left_of_lent(steps: usize, names: &FieldNames) -> usize {
+// How many names the iterator over references has left after so many steps.
+fn left_of_borrowed(steps: usize, names: &FieldNames) -> usize {
     let mut names = names.iter();
     for _ in 0..steps.min(names.len()) {
         let _ = names.next();
@@ -88,7 +83,7 @@ fn left_of_lent(steps: usize, names: &FieldNames) -> usize {
     names.len()
 }
 
-// How many names the iterator that gives them up has left behind so many steps.
+// How many names the consuming iterator has left after so many steps.
 fn left_of_owned(steps: usize, names: FieldNames) -> usize {
     let mut names = names.into_iter();
     for _ in 0..steps.min(names.len()) {
@@ -102,12 +97,12 @@ fn names_find(call: &mut Call<'_>) -> ConsoleResult<()> {
     call.say_option(names.find(name.as_str()))
 }
 
-fn compare_names(call: &mut Call<'_>, command: &str) -> ConsoleResult<()> {
+fn equal_lists(call: &mut Call<'_>, command: NamesEquality) -> ConsoleResult<()> {
     let (names, other): (FieldNames, FieldNames) = call.last()?;
     match command {
-        "names_eq" => call.say(names == other),
-        "names_hash_eq" => call.say(hash_of(&names) == hash_of(&other)),
-        _ => eq_texts(call, &names, &other),
+        NamesEquality::NamesEq => call.say(names == other),
+        NamesEquality::NamesHashEq => call.say(hash_of(&names) == hash_of(&other)),
+        NamesEquality::NamesEqTexts => eq_texts(call, &names, &other),
     }
 }
 

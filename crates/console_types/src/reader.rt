@@ -9,19 +9,19 @@ use dtype_types::{DType, ExtDTypeRef, ExtId, FieldDType, StructFields, UnionVari
 use std::alloc::Global;
 
 /// How deep types and messages may stand within one another.
-pub const MOST_LEVELS: u32 = 128;
+pub const MAX_LEVELS: u32 = 128;
 
 /// Reads a type in which others stand at most so deep.
 #[cycle(types)]
 pub fn read_dtype(alloc: Global, line: &mut Line<'_>, levels: u32) -> ConsoleResult<DType> {
-    if line.takes("{") {
+    if line.accepts("{") {
         return read_struct(alloc, line, levels);
     }
-    if line.takes("\"") {
+    if line.accepts("\"") {
         let id = line.quoted_text(alloc)?;
         return read_extension(alloc, line, id.as_str(), levels);
     }
-    let place = line.place();
+    let position = line.position();
     let word = line.dotted_word("a type")?;
     if line.peek() == Some(b'[') {
         return read_extension(alloc, line, word, levels);
@@ -32,7 +32,7 @@ pub fn read_dtype(alloc: Global, line: &mut Line<'_>, levels: u32) -> ConsoleRes
         "list" | "fixed_size_list" => read_list(alloc, line, word, levels),
         "map" => read_map(alloc, line, levels),
         "union" => read_union(alloc, line, levels),
-        _ => plain(word, line.nullability()).ok_or(expected_at(place, "a type")),
+        _ => plain(word, line.nullability()).ok_or(expected_at(position, "a type")),
     }
 }
 
@@ -56,7 +56,7 @@ fn read_part(alloc: Global, line: &mut Line<'_>, levels: u32) -> ConsoleResult<D
 fn read_wrapped(alloc: Global, line: &mut Line<'_>, levels: u32) -> ConsoleResult<DType> {
     line.take("(")?;
     let dtype = read_part(alloc, line, levels)?;
-    line.before(dtype, ")")
+    line.then(dtype, ")")
 }
 
 // Reads a list of either kind behind its word.
@@ -155,10 +155,10 @@ fn read_field(
 // Reads a name and an equals sign.
 fn read_field_name(alloc: Global, line: &mut Line<'_>) -> ConsoleResult<FieldName> {
     let name = line.name(alloc)?;
-    line.before(name, "=")
+    line.then(name, "=")
 }
 
-// Reads fields behind the opening brace. Each takes bytes, so there are no more than these.
+// Reads fields behind the opening brace. Each accepts bytes, so there are no more than these.
 #[cycle(types)]
 fn read_fields(
     alloc: Global,
@@ -166,8 +166,8 @@ fn read_fields(
     levels: u32,
     fields: &mut Vec<(FieldName, FieldDType)>,
 ) -> ConsoleResult<()> {
-    let mut is_closed = line.takes("}");
-    for _ in 0..line.left() {
+    let mut is_closed = line.accepts("}");
+    for _ in 0..line.max_items() {
         if is_closed {
             break;
         }
@@ -192,7 +192,7 @@ fn read_variant_name(
     variants: &mut Variants,
 ) -> ConsoleResult<()> {
     variants.names.push(line.name(alloc)?)?;
-    if line.takes("@") {
+    if line.accepts("@") {
         variants.tags.push(line.number("a tag")?)?;
     }
     line.take("=")
@@ -211,7 +211,7 @@ fn read_variant(
     Ok(())
 }
 
-// Reads variants up to the closing parenthesis. Each takes bytes, so there are no more than these.
+// Reads variants up to the closing parenthesis. Each accepts bytes, so there are no more than these.
 #[cycle(types)]
 fn read_variants(
     alloc: Global,
@@ -219,8 +219,8 @@ fn read_variants(
     levels: u32,
     variants: &mut Variants,
 ) -> ConsoleResult<()> {
-    let mut is_closed = line.takes(")");
-    for _ in 0..line.left() {
+    let mut is_closed = line.accepts(")");
+    for _ in 0..line.max_items() {
         if is_closed {
             break;
         }
@@ -297,7 +297,7 @@ pub fn ptype_of(word: &str) -> Option<PType> {
 impl Line<'_> {
     /// Reads `?`, if it comes next.
     pub fn nullability(&mut self) -> Nullability {
-        Nullability::from(self.takes("?"))
+        Nullability::from(self.accepts("?"))
     }
 
     // Reads a comma, and the blanks behind it.
@@ -309,9 +309,9 @@ impl Line<'_> {
 
     /// Reads `true` or `false`.
     pub fn boolean(&mut self) -> ConsoleResult<bool> {
-        if self.takes("true") {
+        if self.accepts("true") {
             Ok(true)
-        } else if self.takes("false") {
+        } else if self.accepts("false") {
             Ok(false)
         } else {
             Err(self.expected("true or false"))
@@ -323,21 +323,21 @@ impl Line<'_> {
         self.comma()?;
         self.take("keys_sorted=")?;
         let keys_sorted = self.boolean()?;
-        self.before(keys_sorted, ")")
+        self.then(keys_sorted, ")")
     }
 
     // Reads the metadata of an extension.
     fn bracketed_bytes(&mut self, alloc: Global) -> ConsoleResult<Vec<u8>> {
         self.take("[")?;
         let bytes = self.hexadecimals(alloc)?;
-        self.before(bytes, "]")
+        self.then(bytes, "]")
     }
 
     // Reads the size of a fixed-size list.
     fn bracketed_size(&mut self) -> ConsoleResult<u32> {
         self.take("[")?;
         let size = self.number("a size")?;
-        self.before(size, "]")
+        self.then(size, "]")
     }
 
     /// Reads the precision and the scale that stand behind `decimal`.
@@ -351,6 +351,6 @@ impl Line<'_> {
     // Reads a scale, and the parenthesis behind it.
     fn closed_scale(&mut self) -> ConsoleResult<i8> {
         let scale = self.number("a scale")?;
-        self.before(scale, ")")
+        self.then(scale, ")")
     }
 }

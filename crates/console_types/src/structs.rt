@@ -3,43 +3,36 @@
 
 // Commands on structs.
 use crate::types::last_pairs;
-use crate::{Call, ConsoleFault, ConsoleResult};
+use crate::{Call, ConsoleError, ConsoleResult};
+use console_commands::{StructByIndex, StructByName, StructCommand, StructQuery};
 use dtype_base::{FieldName, FieldNames};
 use dtype_types::{DType, DTypeIter, FieldDType, StructFields};
 
-/// Answers the command, if it is one of these.
-pub fn answer(call: &mut Call<'_>, command: &str) -> ConsoleResult<bool> {
+/// Answers this command.
+pub fn answer(call: &mut Call<'_>, command: StructCommand) -> ConsoleResult<()> {
     match command {
-        "names"
-        | "nfields"
-        | "fields"
-        | "field_dtypes"
-        | "fields_copy"
-        | "fields_text"
-        | "indented" => ask(call, command),
-        "field_name" | "field_by_index" | "without_field" => by_index(call, command),
-        "find" | "find_counted" | "field" => by_name(call, command),
-        "project" => project(call),
-        "disjoint_merge" => disjoint_merge(call),
-        "struct_new" => struct_new(call),
-        "struct_from_fields" => struct_from_fields(call),
-        "struct_from_iter" => struct_from_iter(call),
-        "struct_empty" => struct_empty(call),
-        _ => return Ok(false),
-    }?;
-    Ok(true)
+        StructCommand::Query(command) => ask(call, command),
+        StructCommand::ByIndex(command) => by_index(call, command),
+        StructCommand::ByName(command) => by_name(call, command),
+        StructCommand::Project => project(call),
+        StructCommand::DisjointMerge => disjoint_merge(call),
+        StructCommand::StructNew => struct_new(call),
+        StructCommand::StructFromFields => struct_from_fields(call),
+        StructCommand::StructFromIter => struct_from_iter(call),
+        StructCommand::StructEmpty => struct_empty(call),
+    }
 }
 
-fn ask(call: &mut Call<'_>, command: &str) -> ConsoleResult<()> {
+fn ask(call: &mut Call<'_>, command: StructQuery) -> ConsoleResult<()> {
     let fields: StructFields = call.last()?;
     match command {
-        "names" => call.write(fields.names()),
-        "nfields" => call.say(fields.nfields()),
-        "fields" => say_dtypes(call, fields.fields()),
-        "field_dtypes" => say_dtypes(call, fields.field_dtypes()),
-        "fields_copy" => call.write_made(fields.try_clone(call.alloc)),
-        "fields_text" => call.say_text_of(&fields),
-        _ => indented(call, &fields),
+        StructQuery::Names => call.write(fields.names()),
+        StructQuery::Nfields => call.say(fields.nfields()),
+        StructQuery::Fields => say_dtypes(call, fields.fields()),
+        StructQuery::FieldDtypes => say_dtypes(call, fields.field_dtypes()),
+        StructQuery::FieldsCopy => call.write_result(fields.try_clone(call.alloc)),
+        StructQuery::FieldsText => call.say_text_of(&fields),
+        StructQuery::Indented => indented(call, &fields),
     }
 }
 
@@ -56,21 +49,21 @@ pub fn say_dtypes(call: &mut Call<'_>, dtypes: DTypeIter<'_>) -> ConsoleResult<(
     call.end_list()
 }
 
-fn by_index(call: &mut Call<'_>, command: &str) -> ConsoleResult<()> {
+fn by_index(call: &mut Call<'_>, command: StructByIndex) -> ConsoleResult<()> {
     let (index, fields): (usize, StructFields) = call.last()?;
     match command {
-        "field_name" => call.write_option(fields.field_name(index)),
-        "field_by_index" => call.write_option(fields.field_by_index(index)),
-        _ => call.write_made(fields.without_field(call.alloc, index)),
+        StructByIndex::FieldName => call.write_option(fields.field_name(index)),
+        StructByIndex::FieldByIndex => call.write_option(fields.field_by_index(index)),
+        StructByIndex::WithoutField => call.write_result(fields.without_field(call.alloc, index)),
     }
 }
 
-fn by_name(call: &mut Call<'_>, command: &str) -> ConsoleResult<()> {
+fn by_name(call: &mut Call<'_>, command: StructByName) -> ConsoleResult<()> {
     let (name, fields): (FieldName, StructFields) = call.last()?;
     match command {
-        "find" => call.say_option(fields.find(name.as_str())),
-        "field" => call.write_option(fields.field(name.as_str())),
-        _ => say_found(call, fields.find_counted(name.as_str())),
+        StructByName::Find => call.say_option(fields.find(name.as_str())),
+        StructByName::Field => call.write_option(fields.field(name.as_str())),
+        StructByName::FindCounted => say_found(call, fields.find_counted(name.as_str())),
     }
 }
 
@@ -81,38 +74,38 @@ fn say_found(call: &mut Call<'_>, (found, count): (Option<usize>, u64)) -> Conso
 
 fn project(call: &mut Call<'_>) -> ConsoleResult<()> {
     let (names, fields): (FieldNames, StructFields) = call.last()?;
-    call.write_made(fields.project(call.alloc, names.as_slice()))
+    call.write_result(fields.project(call.alloc, names.as_slice()))
 }
 
 fn disjoint_merge(call: &mut Call<'_>) -> ConsoleResult<()> {
     let (fields, other): (StructFields, StructFields) = call.last()?;
-    call.write_made(fields.disjoint_merge(call.alloc, &other))
+    call.write_result(fields.disjoint_merge(call.alloc, &other))
 }
 
 fn struct_new(call: &mut Call<'_>) -> ConsoleResult<()> {
     let (names, dtypes): (FieldNames, Vec<DType>) = call.last()?;
     if names.len() == dtypes.len() {
-        call.write_made(StructFields::new(call.alloc, names, dtypes))
+        call.write_result(StructFields::new(call.alloc, names, dtypes))
     } else {
-        Err(ConsoleFault::Unmet("as many names as types"))
+        Err(ConsoleError::Condition("as many names as types"))
     }
 }
 
 fn struct_from_fields(call: &mut Call<'_>) -> ConsoleResult<()> {
     let (names, dtypes): (FieldNames, Vec<FieldDType>) = call.last()?;
     if names.len() == dtypes.len() {
-        call.write_made(StructFields::from_fields(call.alloc, names, dtypes))
+        call.write_result(StructFields::from_fields(call.alloc, names, dtypes))
     } else {
-        Err(ConsoleFault::Unmet("as many names as types"))
+        Err(ConsoleError::Condition("as many names as types"))
     }
 }
 
 fn struct_from_iter(call: &mut Call<'_>) -> ConsoleResult<()> {
     let (names, dtypes) = last_pairs(call)?;
-    call.write_made(StructFields::from_iter(call.alloc, names.into_iter().zip(dtypes)))
+    call.write_result(StructFields::from_iter(call.alloc, names.into_iter().zip(dtypes)))
 }
 
 fn struct_empty(call: &mut Call<'_>) -> ConsoleResult<()> {
     call.end()?;
-    call.write_made(StructFields::empty(call.alloc))
+    call.write_result(StructFields::empty(call.alloc))
 }

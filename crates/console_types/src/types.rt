@@ -2,69 +2,70 @@
 // SPDX-FileCopyrightText: Copyright the Vortex contributors
 
 // Commands on types of every kind.
-use crate::{Call, ConsoleFault, ConsoleResult};
+use crate::{Call, ConsoleError, ConsoleResult, unless};
+use console_commands::{
+    NullabilityChange, NullabilityText, TypeChange, TypeCommand, TypeConversion, TypeQuery,
+};
 use dtype_base::{DecimalDType, FieldNames, Nullability, PType};
 use dtype_types::{DType, FieldDType};
 
-/// Answers the command, if it is one of these.
-pub fn answer(call: &mut Call<'_>, command: &str) -> ConsoleResult<bool> {
+/// Answers this command.
+pub fn answer(call: &mut Call<'_>, command: TypeCommand) -> ConsoleResult<()> {
     match command {
-        "type" | "copy" | "as_nonnullable" | "as_nullable" => change(call, command),
-        "with_nullability" | "union_nullability" => change_to(call, command),
-        "nullability" | "is_nullable" | "can_be_nonnullable" | "element_size" | "text" => {
-            ask(call, command)
-        }
-        "nullability_or" => nullability_or(call),
-        "nullability_text" | "nullability_long_text" => nullability_text(call, command),
-        "kinds" => kinds(call),
-        "as_ptype" | "to_ptype" | "to_decimal" => convert(call, command),
-        "bytes_type" => bytes_type(call),
-        "from_ptype" => from_ptype(call),
-        "list" => list(call),
-        "fixed_size_list" => fixed_size_list(call),
-        "map" => map(call),
-        "struct" => struct_(call),
-        _ => return Ok(false),
-    }?;
-    Ok(true)
-}
-
-fn change(call: &mut Call<'_>, command: &str) -> ConsoleResult<()> {
-    let dtype: DType = call.last()?;
-    match command {
-        "copy" => call.write_made(dtype.try_clone(call.alloc)),
-        "as_nullable" => call.write_made(dtype.as_nullable(call.alloc)),
-        "as_nonnullable" => with_nullability(call, &dtype, Nullability::NonNullable),
-        _ => call.write(&dtype),
+        TypeCommand::Change(command) => change(call, command),
+        TypeCommand::ChangeTo(command) => change_to(call, command),
+        TypeCommand::Query(command) => ask(call, command),
+        TypeCommand::NullabilityOr => nullability_or(call),
+        TypeCommand::Text(command) => nullability_text(call, command),
+        TypeCommand::Kinds => kinds(call),
+        TypeCommand::Convert(command) => convert(call, command),
+        TypeCommand::BytesType => bytes_type(call),
+        TypeCommand::FromPtype => from_ptype(call),
+        TypeCommand::List => list(call),
+        TypeCommand::FixedSizeList => fixed_size_list(call),
+        TypeCommand::Map => map(call),
+        TypeCommand::Struct => struct_(call),
     }
 }
 
-fn change_to(call: &mut Call<'_>, command: &str) -> ConsoleResult<()> {
+fn change(call: &mut Call<'_>, command: TypeChange) -> ConsoleResult<()> {
+    let dtype: DType = call.last()?;
+    match command {
+        TypeChange::Copy => call.write_result(dtype.try_clone(call.alloc)),
+        TypeChange::AsNullable => call.write_result(dtype.as_nullable(call.alloc)),
+        TypeChange::AsNonnullable => with_nullability(call, &dtype, Nullability::NonNullable),
+        TypeChange::Unchanged => call.write(&dtype),
+    }
+}
+
+fn change_to(call: &mut Call<'_>, command: NullabilityChange) -> ConsoleResult<()> {
     let (n, dtype): (Nullability, DType) = call.last()?;
     match command {
-        "union_nullability" => call.write_made(dtype.union_nullability(call.alloc, n)),
-        _ => with_nullability(call, &dtype, n),
+        NullabilityChange::UnionNullability => call.write_result(dtype.union_nullability(
+            call.alloc, n,
+        )),
+        NullabilityChange::WithNullability => with_nullability(call, &dtype, n),
     }
 }
 
 fn with_nullability(call: &mut Call<'_>, dtype: &DType, n: Nullability) -> ConsoleResult<()> {
     if n.is_nullable() {
-        call.write_made(dtype.with_nullability(call.alloc, Nullability::Nullable))
+        call.write_result(dtype.with_nullability(call.alloc, Nullability::Nullable))
     } else if dtype.can_be_nonnullable() {
-        call.write_made(dtype.as_nonnullable(call.alloc))
+        call.write_result(dtype.as_nonnullable(call.alloc))
     } else {
-        Err(ConsoleFault::Unmet("a type that can be non-nullable"))
+        Err(ConsoleError::Condition("a type that can be non-nullable"))
     }
 }
 
-fn ask(call: &mut Call<'_>, command: &str) -> ConsoleResult<()> {
+fn ask(call: &mut Call<'_>, command: TypeQuery) -> ConsoleResult<()> {
     let dtype: DType = call.last()?;
     match command {
-        "nullability" => call.say(dtype.nullability().long_text()),
-        "is_nullable" => call.say(dtype.is_nullable()),
-        "can_be_nonnullable" => call.say(dtype.can_be_nonnullable()),
-        "element_size" => element_size(call, &dtype),
-        _ => call.say_text_of(&dtype),
+        TypeQuery::Nullability => call.say(dtype.nullability().long_text()),
+        TypeQuery::IsNullable => call.say(dtype.is_nullable()),
+        TypeQuery::CanBeNonnullable => call.say(dtype.can_be_nonnullable()),
+        TypeQuery::ElementSize => element_size(call, &dtype),
+        TypeQuery::Text => call.say_text_of(&dtype),
     }
 }
 
@@ -77,11 +78,11 @@ fn nullability_or(call: &mut Call<'_>) -> ConsoleResult<()> {
     call.say((n | other).long_text())
 }
 
-fn nullability_text(call: &mut Call<'_>, command: &str) -> ConsoleResult<()> {
+fn nullability_text(call: &mut Call<'_>, command: NullabilityText) -> ConsoleResult<()> {
     let n: Nullability = call.last()?;
     match command {
-        "nullability_long_text" => call.say(n.long_text()),
-        _ => call.say_text_of(&n),
+        NullabilityText::NullabilityLongText => call.say(n.long_text()),
+        NullabilityText::NullabilityText => call.say_text_of(&n),
     }
 }
 
@@ -94,7 +95,7 @@ fn kinds(call: &mut Call<'_>) -> ConsoleResult<()> {
 }
 
 fn say_number_kinds(call: &mut Call<'_>, dtype: &DType) -> ConsoleResult<()> {
-    call.say_those(&[
+    call.say_some_words(&[
         ("boolean", dtype.is_boolean()),
         ("primitive", dtype.is_primitive()),
         ("unsigned_int", dtype.is_unsigned_int()),
@@ -105,7 +106,7 @@ fn say_number_kinds(call: &mut Call<'_>, dtype: &DType) -> ConsoleResult<()> {
 }
 
 fn say_plain_kinds(call: &mut Call<'_>, dtype: &DType) -> ConsoleResult<()> {
-    call.say_those(&[
+    call.say_some_words(&[
         ("decimal", dtype.is_decimal()),
         ("utf8", dtype.is_utf8()),
         ("binary", dtype.is_binary()),
@@ -116,7 +117,7 @@ fn say_plain_kinds(call: &mut Call<'_>, dtype: &DType) -> ConsoleResult<()> {
 }
 
 fn say_nested_kinds(call: &mut Call<'_>, dtype: &DType) -> ConsoleResult<()> {
-    call.say_those(&[
+    call.say_some_words(&[
         ("struct", dtype.is_struct()),
         ("union", dtype.is_union()),
         ("variant", dtype.is_variant()),
@@ -125,13 +126,15 @@ fn say_nested_kinds(call: &mut Call<'_>, dtype: &DType) -> ConsoleResult<()> {
     ])
 }
 
-fn convert(call: &mut Call<'_>, command: &str) -> ConsoleResult<()> {
+fn convert(call: &mut Call<'_>, command: TypeConversion) -> ConsoleResult<()> {
     let dtype: DType = call.last()?;
     match command {
-        "to_decimal" => call.say_made(DecimalDType::try_from(&dtype)),
-        "to_ptype" => call.say_made(PType::try_from(&dtype)),
-        _ if dtype.is_primitive() => call.say(dtype.as_ptype()),
-        _ => Err(ConsoleFault::Unmet("a primitive type")),
+        TypeConversion::ToDecimal => call.say_result(DecimalDType::try_from(&dtype)),
+        TypeConversion::ToPtype => call.say_result(PType::try_from(&dtype)),
+        TypeConversion::AsPtype => {
+            unless(dtype.is_primitive(), "a primitive type")?;
+            call.say(dtype.as_ptype())
+        }
     }
 }
 
@@ -147,33 +150,30 @@ fn from_ptype(call: &mut Call<'_>) -> ConsoleResult<()> {
 
 fn list(call: &mut Call<'_>) -> ConsoleResult<()> {
     let (n, element): (Nullability, DType) = call.last()?;
-    call.write_made(DType::list(call.alloc, element, n))
+    call.write_result(DType::list(call.alloc, element, n))
 }
 
 fn fixed_size_list(call: &mut Call<'_>) -> ConsoleResult<()> {
     let n = call.read()?;
     let size = call.number("a size")?;
     let element = call.last()?;
-    call.write_made(DType::fixed_size_list(call.alloc, element, size, n))
+    call.write_result(DType::fixed_size_list(call.alloc, element, size, n))
 }
 
 fn map(call: &mut Call<'_>) -> ConsoleResult<()> {
     let ((n, keys_sorted), (key, value)): ((Nullability, bool), (DType, DType)) = call.last()?;
-    call.write_made(DType::map(call.alloc, key, value, keys_sorted, n))
+    call.write_result(DType::map(call.alloc, key, value, keys_sorted, n))
 }
 
 fn struct_(call: &mut Call<'_>) -> ConsoleResult<()> {
     let n = call.read()?;
     let (names, dtypes) = last_pairs(call)?;
-    call.write_made(DType::struct_(call.alloc, names.into_iter().zip(dtypes), n))
+    call.write_result(DType::struct_(call.alloc, names.into_iter().zip(dtypes), n))
 }
 
-/// Reads names, and as many types, behind which the line ends.
+/// Reads the last arguments of the line: names, and as many types.
 pub fn last_pairs(call: &mut Call<'_>) -> ConsoleResult<(FieldNames, Vec<FieldDType>)> {
     let (names, dtypes): (FieldNames, Vec<FieldDType>) = call.last()?;
-    if names.len() == dtypes.len() {
-        Ok((names, dtypes))
-    } else {
-        Err(ConsoleFault::Unmet("as many names as types"))
-    }
+    unless(names.len() == dtypes.len(), "as many names as types")?;
+    Ok((names, dtypes))
 }

@@ -9,7 +9,7 @@ use dtype_base::{FieldName, FieldNames, Nullability, VortexResult};
 use dtype_types::{DType, ExtDTypeRef, ExtId, MapDType, StructFields, UnionVariants};
 
 /// How deep types are written. They are read less deep by half.
-pub const WRITTEN_LEVELS: u32 = 256;
+pub const MAX_WRITTEN_LEVELS: u32 = 256;
 
 /// Writes a type.
 #[cycle(written)]

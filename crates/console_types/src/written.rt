@@ -3,8 +3,8 @@
 
 // What has a form of the console's own, and how it is written.
 use crate::writer::{
-    WRITTEN_LEVELS, write_dtype, write_extension, write_fields, write_id, write_map, write_name,
-    write_names, write_union,
+    MAX_WRITTEN_LEVELS, write_dtype, write_extension, write_fields, write_id, write_map,
+    write_name, write_names, write_union,
 };
 use dtype_base::{FieldName, FieldNames, VortexResult};
 use dtype_types::{DType, ExtDTypeRef, ExtId, MapDType, StructFields, UnionVariants};
@@ -17,34 +17,34 @@ pub trait Written {
 
 impl Written for DType {
     fn write(&self, out: &mut String) -> VortexResult<()> {
-        write_dtype(out, self, WRITTEN_LEVELS)
+        write_dtype(out, self, MAX_WRITTEN_LEVELS)
     }
 }
 
 /// The fields, as a type that isn't nullable.
 impl Written for StructFields {
     fn write(&self, out: &mut String) -> VortexResult<()> {
-        write_fields(out, self, WRITTEN_LEVELS)
+        write_fields(out, self, MAX_WRITTEN_LEVELS)
     }
 }
 
 /// The variants, as a type that isn't nullable.
 impl Written for UnionVariants {
     fn write(&self, out: &mut String) -> VortexResult<()> {
-        write_union(out, self, WRITTEN_LEVELS)
+        write_union(out, self, MAX_WRITTEN_LEVELS)
     }
 }
 
 /// The map, as a type that isn't nullable.
 impl Written for MapDType {
     fn write(&self, out: &mut String) -> VortexResult<()> {
-        write_map(out, self, WRITTEN_LEVELS)
+        write_map(out, self, MAX_WRITTEN_LEVELS)
     }
 }
 
 impl Written for ExtDTypeRef {
     fn write(&self, out: &mut String) -> VortexResult<()> {
-        write_extension(out, self, WRITTEN_LEVELS)
+        write_extension(out, self, MAX_WRITTEN_LEVELS)
     }
 }
 

@@ -2,17 +2,21 @@
 // SPDX-FileCopyrightText: Copyright the Vortex contributors
 
 // What answers a line.
-use crate::examples::TOPICS;
 use crate::input::Read;
-use console_messages::Sessions;
-use console_paths::Sets;
-use console_types::{Call, ConsoleFault, ConsoleResult, expected_at};
+use console_commands::{Command, Row, TOPICS, Topic, find, nearest};
+use console_messages::{Sessions, messages, path_messages, typed};
+use console_native::{integers, native_decimals, native_dtypes, visitors};
+use console_paths::{Sets, masks, merging, paths, projections, sets};
+use console_types::{
+    Call, ConsoleError, ConsoleResult, comparisons, decimals, expected_at, extensions, maps, names,
+    parts, primitives, structs, types, unions,
+};
 use dtype_base::VortexError;
 use std::alloc::Global;
 use std::io::{self, Write};
 use std::str;
 
-/// What lives on from line to line.
+/// What lasts from line to line.
 #[derive(Drop)]
 pub struct Console {
     alloc: Global,
@@ -22,7 +26,7 @@ pub struct Console {
 }
 
 impl Console {
-    /// A console with no set and no session. If it echoes, it writes each line above its answer.
+    /// Returns a console with no set and no session. If it echoes, it writes each line above its answer.
     pub fn new(alloc: Global, is_echoing: bool) -> Self {
         Console {
             alloc,
@@ -32,7 +36,7 @@ impl Console {
         }
     }
 
-    /// Writes the answer to what was read of a line, and tells whether there was one.
+    /// Writes the answer to what was read of a line, and returns whether there was one.
     pub fn answer<W: Write>(
         &mut self,
         read: Read,
@@ -41,7 +45,7 @@ impl Console {
     ) -> io::Result<bool> {
         let answer = match read {
             Read::Line => self.answer_to(line),
-            Read::TooLong => Err(ConsoleFault::from(VortexError::OutOfMemory)),
+            Read::TooLong => Err(ConsoleError::from(VortexError::OutOfMemory)),
             Read::End => return Ok(false),
         };
         if self.is_echoing {
@@ -56,7 +60,7 @@ impl Console {
         Ok(true)
     }
 
-    // The answer to a line, or `None` where the line is blank or a comment.
+    // Returns the answer to a line, or `None` where the line is blank or a comment.
     fn answer_to(&mut self, line: &[u8]) -> ConsoleResult<Option<String>> {
         let text = match str::from_utf8(line) {
             Ok(text) => text,
@@ -66,51 +70,80 @@ impl Console {
         if call.line.is_at_end() {
             return Ok(None);
         }
-        let place = call.line.place();
-        let command = call.word("a command")?;
-        match command {
+        let position = call.line.position();
+        let word = call.word("a command")?;
+        match word {
             "help" if call.line.is_at_end() => list_topics(&mut call),
             "help" => self.help(&mut call),
-            _ => self.command(&mut call, command, place),
+            _ => match find(word) {
+                Some(row) => self.command(&mut call, row),
+                None => say_unknown(&mut call, position, word),
+            },
         }?;
         Ok(Some(call.answer))
     }
 
-    // Answers by an example of the command that comes next, and its answer.
+    // Answers `help COMMAND` by an example of the command, and its answer.
     fn help(&mut self, call: &mut Call<'_>) -> ConsoleResult<()> {
-        let place = call.line.place();
-        let command = call.word("a command")?;
+        let position = call.line.position();
+        let word = call.word("a command")?;
         call.end()?;
-        let example = example_of(command).ok_or(expected_at(place, "a command"))?;
-        let mut made = Call::new(self.alloc, example);
-        let place = made.line.place();
-        let command = made.word("a command")?;
-        call.say(example)?;
-        call.say("answers")?;
-        match self.command(&mut made, command, place) {
-            Ok(()) => call.say(made.answer),
-            Err(fault) => call.say(fault),
+        match find(word) {
+            Some(row) => self.show_example(call, row),
+            None => say_unknown(call, position, word),
         }
     }
 
-    // Answers a command whose word stands at this place.
-    fn command(&mut self, call: &mut Call<'_>, command: &str, place: usize) -> ConsoleResult<()> {
-        if command == "set" {
-            return self.sets.answer(call);
+    // Answers by an example of a command, and its answer.
+    fn show_example(&mut self, call: &mut Call<'_>, row: &Row) -> ConsoleResult<()> {
+        call.say(row.name())?;
+        if !row.example().is_empty() {
+            call.say(row.example())?;
         }
-        if console_types::answer(call, command)?
-            || console_native::answer(call, command)?
-            || console_paths::answer(call, command)?
-            || console_messages::answer(call, command)?
-            || self.sessions.answer(call, command)?
-        {
-            return Ok(());
+        call.say("answers")?;
+        let mut example = Call::new(self.alloc, row.example());
+        match self.command(&mut example, row) {
+            Ok(()) => call.say(example.answer),
+            Err(error) => call.say(error),
         }
-        Err(expected_at(place, "a command"))
+    }
+
+    // Answers a command, whose arguments come next.
+    fn command(&mut self, call: &mut Call<'_>, row: &Row) -> ConsoleResult<()> {
+        if row.needs_argument() && call.line.is_at_end() {
+            return Err(call.line.expected(row.arguments()));
+        }
+        match row.command() {
+            Command::Types(command) => types::answer(call, command),
+            Command::Parts(command) => parts::answer(call, command),
+            Command::MergeNullability => merging::answer(call),
+            Command::Comparisons(command) => comparisons::answer(call, command),
+            Command::Structs(command) => structs::answer(call, command),
+            Command::Unions(command) => unions::answer(call, command),
+            Command::Maps(command) => maps::answer(call, command),
+            Command::Extensions(command) => extensions::answer(call, command),
+            Command::Typed(command) => typed::answer(call, command),
+            Command::Names(command) => names::answer(call, command),
+            Command::Decimals(command) => decimals::answer(call, command),
+            Command::NativeDecimals(command) => native_decimals::answer(call, command),
+            Command::Primitives(command) => primitives::answer(call, command),
+            Command::Visitors(command) => visitors::answer(call, command),
+            Command::Integers(command) => integers::answer(call, command),
+            Command::NativeDType => native_dtypes::answer(call),
+            Command::Paths(command) => paths::answer(call, command),
+            Command::Sets(command) => sets::answer(call, command),
+            Command::NamedSet => self.sets.answer(call),
+            Command::ProjectPaths => projections::answer(call),
+            Command::Masks(command) => masks::answer(call, command),
+            Command::NamedSession => self.sessions.change(call),
+            Command::Sessions(command) => self.sessions.ask(call, command),
+            Command::Messages(command) => messages::answer(call, command),
+            Command::PathMessages(command) => path_messages::answer(call, command),
+        }
     }
 }
 
-// Writes a line before its answer: behind `> `, or as it is where nothing answers it.
+// Writes a line before its answer: after `> `, or as it is where nothing answers it.
 fn echo<W: Write>(line: &[u8], is_comment: bool, output: &mut W) -> io::Result<()> {
     if !is_comment {
         output.write_all(b"> ")?;
@@ -119,7 +152,22 @@ fn echo<W: Write>(line: &[u8], is_comment: bool, output: &mut W) -> io::Result<(
     output.write_all(b"\n")
 }
 
-// Answers the topics, a line each: its name, and the commands of its examples.
+// Answers that there is no command of this name, by the names nearest to it.
+fn say_unknown(call: &mut Call<'_>, position: usize, word: &str) -> ConsoleResult<()> {
+    call.say(expected_at(position, "a command"))?;
+    write!(call.answer, ", not \"{word}\"")?;
+    let mut is_first = true;
+    for name in nearest(call.alloc, word)? {
+        call.answer
+            .push_str(if is_first { "; nearest: " } else { ", " })?;
+        call.answer.push_str(name)?;
+        is_first = false;
+    }
+    call.answer.push_str("; help lists all")?;
+    Ok(())
+}
+
+// Answers the topics, a line each: its name, and its commands.
 fn list_topics(call: &mut Call<'_>) -> ConsoleResult<()> {
     let mut is_first = true;
     for topic in TOPICS {
@@ -132,33 +180,12 @@ fn list_topics(call: &mut Call<'_>) -> ConsoleResult<()> {
     Ok(())
 }
 
-fn list_topic(call: &mut Call<'_>, topic: &str) -> ConsoleResult<()> {
-    let (name, examples) = topic.split_once('\n').unwrap_or((topic, ""));
-    call.answer.push_str(name)?;
+fn list_topic(call: &mut Call<'_>, topic: Topic) -> ConsoleResult<()> {
+    call.answer.push_str(topic.name())?;
     call.answer.push(':')?;
-    for example in examples.lines() {
+    for row in topic.rows() {
         call.answer.push(' ')?;
-        call.answer.push_str(command_of(example))?;
+        call.answer.push_str(row.name())?;
     }
     Ok(())
-}
-
-fn command_of(example: &str) -> &str {
-    match example.split_once(' ') {
-        Some((command, _)) => command,
-        None => example,
-    }
-}
-
-// The example of this command.
-fn example_of(command: &str) -> Option<&'static str> {
-    for topic in TOPICS {
-        let (_, examples) = topic.split_once('\n')?;
-        for example in examples.lines() {
-            if command_of(example) == command {
-                return Some(example);
-            }
-        }
-    }
-    None
 }

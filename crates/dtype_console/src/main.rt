@@ -15,7 +15,6 @@ use std::io::{self, BufReader, BufWriter, IsTerminal, Write};
 use std::rt::Env;
 
 mod console;
-mod examples;
 mod input;
 
 fn main(rt: HostRuntime) -> io::Result<()> {

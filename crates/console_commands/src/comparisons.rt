@@ -1,0 +1,38 @@
+// SPDX-License-Identifier: Apache-2.0
+// SPDX-FileCopyrightText: Copyright the Vortex contributors
+
+// The commands on comparisons.
+use crate::Command::Comparisons;
+use crate::Row;
+
+/// A command that compares two types.
+#[derive(Clone, Copy)]
+pub enum Comparison {
+    Eq,
+    EqIgnoreNullability,
+    Subset,
+    Superset,
+    HashEq,
+    HashIgnoreNullabilityEq,
+    InnerEq,
+    InnerHashEq,
+    InnerEqIgnoreNullability,
+}
+
+/// Returns the table of these commands.
+pub fn rows() -> &'static [Row] {
+    &ROWS
+}
+
+#[rattlefmt::skip]
+const ROWS: [Row; 9] = [
+    Row("eq", "T T", "list(i32) list(i32?)", Comparisons(Comparison::Eq)),
+    Row("eq_ignore_nullability", "T T", "list(i32) list(i32?)?", Comparisons(Comparison::EqIgnoreNullability)),
+    Row("subset", "T T", "list(i32) list(i32?)", Comparisons(Comparison::Subset)),
+    Row("superset", "T T", "list(i32) list(i32?)", Comparisons(Comparison::Superset)),
+    Row("hash_eq", "T T", "i32 i32?", Comparisons(Comparison::HashEq)),
+    Row("hash_ignore_nullability_eq", "T T", "i32 i32?", Comparisons(Comparison::HashIgnoreNullabilityEq)),
+    Row("inner_eq", "T T", "{a=i32} {a=i32}?", Comparisons(Comparison::InnerEq)),
+    Row("inner_hash_eq", "T T", "{a=i32} {a=i32}?", Comparisons(Comparison::InnerHashEq)),
+    Row("inner_eq_ignore_nullability", "T T", "{a=i32} {a=i32?}", Comparisons(Comparison::InnerEqIgnoreNullability)),
+];

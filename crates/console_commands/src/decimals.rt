@@ -1,0 +1,89 @@
+// SPDX-License-Identifier: Apache-2.0
+// SPDX-FileCopyrightText: Copyright the Vortex contributors
+
+// The commands on decimals.
+use crate::Command::{Decimals, NativeDecimals};
+use crate::Row;
+
+/// A command on decimals and their storage types.
+#[derive(Clone, Copy)]
+pub enum DecimalCommand {
+    Make(DecimalConstructor),
+    Query(DecimalQuery),
+    Equal(DecimalEquality),
+    IsCompatibleDecimalValueType,
+    DecimalTypeWidth,
+    DecimalTypeCmp,
+    DecimalTypeFrom,
+    DecimalMaxima,
+}
+
+/// Calls that make a decimal.
+#[derive(Clone, Copy)]
+pub enum DecimalConstructor {
+    Decimal,
+    DecimalNew,
+}
+
+/// What a decimal is asked.
+#[derive(Clone, Copy)]
+pub enum DecimalQuery {
+    Precision,
+    Scale,
+    RequiredBitWidth,
+    DecimalText,
+    SmallestDecimalValueType,
+}
+
+/// Whether two decimals are equal, or hashed equally.
+#[derive(Clone, Copy)]
+pub enum DecimalEquality {
+    DecimalEq,
+    DecimalHashEq,
+}
+
+/// A command on decimals in a native integer type.
+#[derive(Clone, Copy)]
+pub enum NativeDecimalCommand {
+    Make(PrecisionScaleForm),
+    PrecisionScaleFrom,
+    PrecisionScaleIsValid,
+    ByPrecision,
+    NativeDecimal,
+}
+
+/// What a precision and a scale are answered as.
+#[derive(Clone, Copy)]
+pub enum PrecisionScaleForm {
+    PrecisionScale,
+    PrecisionScaleTo,
+}
+
+/// Returns the table of these commands.
+pub fn rows() -> &'static [Row] {
+    &ROWS
+}
+
+#[rattlefmt::skip]
+const ROWS: [Row; 20] = [
+    Row("decimal", "P S", "10 11", Decimals(DecimalCommand::Make(DecimalConstructor::Decimal))),
+    Row("decimal_new", "P S", "0 0", Decimals(DecimalCommand::Make(DecimalConstructor::DecimalNew))),
+    Row("precision", "D", "decimal(10,-2)", Decimals(DecimalCommand::Query(DecimalQuery::Precision))),
+    Row("scale", "D", "decimal(10,-2)", Decimals(DecimalCommand::Query(DecimalQuery::Scale))),
+    Row("required_bit_width", "D", "decimal(10,2)", Decimals(DecimalCommand::Query(DecimalQuery::RequiredBitWidth))),
+    Row("decimal_text", "D", "decimal(10,2)", Decimals(DecimalCommand::Query(DecimalQuery::DecimalText))),
+    Row("decimal_eq", "D D", "decimal(10,2) decimal(10,3)", Decimals(DecimalCommand::Equal(DecimalEquality::DecimalEq))),
+    Row("decimal_hash_eq", "D D", "decimal(10,2) decimal(10,2)", Decimals(DecimalCommand::Equal(DecimalEquality::DecimalHashEq))),
+    Row("smallest_decimal_value_type", "D", "decimal(39,0)", Decimals(DecimalCommand::Query(DecimalQuery::SmallestDecimalValueType))),
+    Row("is_compatible_decimal_value_type", "DT D", "i64 decimal(19,0)", Decimals(DecimalCommand::IsCompatibleDecimalValueType)),
+    Row("decimal_type_width", "DT", "i256", Decimals(DecimalCommand::DecimalTypeWidth)),
+    Row("decimal_type_cmp", "DT DT", "i8 i16", Decimals(DecimalCommand::DecimalTypeCmp)),
+    Row("decimal_type_from", "PT", "u8", Decimals(DecimalCommand::DecimalTypeFrom)),
+    Row("decimal_maxima", "", "", Decimals(DecimalCommand::DecimalMaxima)),
+    Row("precision_scale", "DI P S", "i8 3 0", NativeDecimals(NativeDecimalCommand::Make(PrecisionScaleForm::PrecisionScale))),
+    Row("precision_scale_from", "DI D", "i8 decimal(2,1)", NativeDecimals(NativeDecimalCommand::PrecisionScaleFrom)),
+    Row("precision_scale_to", "DI P S", "i16 4 -1", NativeDecimals(NativeDecimalCommand::Make(PrecisionScaleForm::PrecisionScaleTo))),
+    Row("precision_scale_is_valid", "DI P S V", "i8 2 1 -100", NativeDecimals(NativeDecimalCommand::PrecisionScaleIsValid)),
+    Row("by_precision", "DI P", "i16 4", NativeDecimals(NativeDecimalCommand::ByPrecision)),
+    Row("native_decimal", "DI", "i128", NativeDecimals(NativeDecimalCommand::NativeDecimal)),
+];

@@ -1,0 +1,69 @@
+// SPDX-License-Identifier: Apache-2.0
+// SPDX-FileCopyrightText: Copyright the Vortex contributors
+
+// The commands on extensions.
+use crate::Command::{Extensions, Typed};
+use crate::Row;
+
+/// A command on erased extensions.
+#[derive(Clone, Copy)]
+pub enum ExtensionCommand {
+    Query(ExtensionQuery),
+    Extension,
+    ExtensionParts,
+    ExtensionWithNullability,
+}
+
+/// What an extension is asked.
+#[derive(Clone, Copy)]
+pub enum ExtensionQuery {
+    Id,
+    Metadata,
+    SerializeMetadata,
+    StorageDtype,
+    ExtensionNullability,
+    ExtensionIsNullable,
+    MetadataText,
+    ExtensionText,
+    ExtensionCopy,
+}
+
+/// A command on typed extensions, and on those of unknown ids.
+#[derive(Clone, Copy)]
+pub enum TypedCommand {
+    TagNew,
+    WordNew,
+    TagDowncast,
+    WordDowncast,
+    TagWithNullability,
+    WordWithNullability,
+    Foreign,
+}
+
+/// Returns the table of these commands.
+pub fn rows() -> &'static [Row] {
+    &ROWS
+}
+
+#[rattlefmt::skip]
+const ROWS: [Row; 19] = [
+    Row("extension", "ID HEX T", "x.tag 0x6162 utf8?", Extensions(ExtensionCommand::Extension)),
+    Row("foreign", "ID HEX T", "x.y 0x i32", Typed(TypedCommand::Foreign)),
+    Row("id", "E", "x.tag[0x6162](utf8)", Extensions(ExtensionCommand::Query(ExtensionQuery::Id))),
+    Row("metadata", "E", "x.tag[0x6162](utf8)", Extensions(ExtensionCommand::Query(ExtensionQuery::Metadata))),
+    Row("serialize_metadata", "E", "x.tag[0x6162](utf8)", Extensions(ExtensionCommand::Query(ExtensionQuery::SerializeMetadata))),
+    Row("storage_dtype", "E", "x.tag[0x](utf8?)", Extensions(ExtensionCommand::Query(ExtensionQuery::StorageDtype))),
+    Row("extension_parts", "E", "x.tag[0x6162](utf8?)", Extensions(ExtensionCommand::ExtensionParts)),
+    Row("extension_nullability", "E", "x.tag[0x](utf8?)", Extensions(ExtensionCommand::Query(ExtensionQuery::ExtensionNullability))),
+    Row("extension_is_nullable", "E", "x.tag[0x](utf8?)", Extensions(ExtensionCommand::Query(ExtensionQuery::ExtensionIsNullable))),
+    Row("extension_with_nullability", "N E", "NonNullable x.tag[0x](utf8?)", Extensions(ExtensionCommand::ExtensionWithNullability)),
+    Row("metadata_text", "E", "x.tag[0x6162](utf8)", Extensions(ExtensionCommand::Query(ExtensionQuery::MetadataText))),
+    Row("extension_text", "E", "x.tag[0x6162](utf8)", Extensions(ExtensionCommand::Query(ExtensionQuery::ExtensionText))),
+    Row("extension_copy", "E", "x.tag[0x6162](utf8)", Extensions(ExtensionCommand::Query(ExtensionQuery::ExtensionCopy))),
+    Row("tag_new", "HEX T", "0x4142 utf8", Typed(TypedCommand::TagNew)),
+    Row("word_new", "HEX T", "0x61 i32", Typed(TypedCommand::WordNew)),
+    Row("tag_downcast", "E", "x.tag[0x4142](utf8)", Typed(TypedCommand::TagDowncast)),
+    Row("word_downcast", "E", "x.tag[0x61](utf8)", Typed(TypedCommand::WordDowncast)),
+    Row("tag_with_nullability", "N E", "Nullable x.tag[0x61](utf8)", Typed(TypedCommand::TagWithNullability)),
+    Row("word_with_nullability", "N E", "Nullable x.word[0x61](utf8)", Typed(TypedCommand::WordWithNullability)),
+];

@@ -1,0 +1,38 @@
+// SPDX-License-Identifier: Apache-2.0
+// SPDX-FileCopyrightText: Copyright the Vortex contributors
+
+// The commands on masks.
+use crate::Command::Masks;
+use crate::Row;
+
+/// A command on masks.
+#[derive(Clone, Copy)]
+pub enum MaskCommand {
+    Query(MaskQuery),
+    MaskEq,
+}
+
+/// What a mask is asked.
+#[derive(Clone, Copy)]
+pub enum MaskQuery {
+    Mask,
+    MaskStepInto,
+    StartingField,
+    MatchesAll,
+    MatchesRoot,
+}
+
+/// Returns the table of these commands.
+pub fn rows() -> &'static [Row] {
+    &ROWS
+}
+
+#[rattlefmt::skip]
+const ROWS: [Row; 6] = [
+    Row("mask", "MASK", "prefix a.b", Masks(MaskCommand::Query(MaskQuery::Mask))),
+    Row("mask_step_into", "MASK", "exact .", Masks(MaskCommand::Query(MaskQuery::MaskStepInto))),
+    Row("starting_field", "MASK", "all", Masks(MaskCommand::Query(MaskQuery::StartingField))),
+    Row("matches_all", "MASK", "prefix .", Masks(MaskCommand::Query(MaskQuery::MatchesAll))),
+    Row("matches_root", "MASK", "exact .", Masks(MaskCommand::Query(MaskQuery::MatchesRoot))),
+    Row("mask_eq", "MASK MASK", "all prefix .", Masks(MaskCommand::MaskEq)),
+];

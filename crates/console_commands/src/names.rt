@@ -1,0 +1,88 @@
+// SPDX-License-Identifier: Apache-2.0
+// SPDX-FileCopyrightText: Copyright the Vortex contributors
+
+// The commands on names.
+use crate::Command::Names;
+use crate::Row;
+
+/// A command on names and lists of names.
+#[derive(Clone, Copy)]
+pub enum NameCommand {
+    Write(NameForm),
+    NameCmp,
+    Equal(NameEquality),
+    Query(NamesQuery),
+    ByIndex(NamesByIndex),
+    NamesFind,
+    EqualLists(NamesEquality),
+}
+
+/// The forms in which a name is written.
+#[derive(Clone, Copy)]
+pub enum NameForm {
+    Name,
+    NameText,
+}
+
+/// Whether two names are equal, or hashed equally.
+#[derive(Clone, Copy)]
+pub enum NameEquality {
+    NameEq,
+    NameEqStr,
+    NameHashEq,
+}
+
+/// What a list of names is asked.
+#[derive(Clone, Copy)]
+pub enum NamesQuery {
+    NamesText,
+    NamesLen,
+    NamesIsEmpty,
+    NamesCopy,
+    NamesIter,
+    NamesIntoIter,
+}
+
+/// Calls that take the position of a name.
+#[derive(Clone, Copy)]
+pub enum NamesByIndex {
+    NamesGet,
+    NamesAt,
+    NamesLeft,
+}
+
+/// Whether two lists of names are equal, or hashed equally.
+#[derive(Clone, Copy)]
+pub enum NamesEquality {
+    NamesEq,
+    NamesHashEq,
+    NamesEqTexts,
+}
+
+/// Returns the table of these commands.
+pub fn rows() -> &'static [Row] {
+    &ROWS
+}
+
+#[rattlefmt::skip]
+const ROWS: [Row; 19] = [
+    Row("name", "NAME", r#""a b""#, Names(NameCommand::Write(NameForm::Name))),
+    Row("name_text", "NAME", r#""a\tb""#, Names(NameCommand::Write(NameForm::NameText))),
+    Row("name_cmp", "NAME NAME", "a B", Names(NameCommand::NameCmp)),
+    Row("name_eq", "NAME NAME", "a A", Names(NameCommand::Equal(NameEquality::NameEq))),
+    Row("name_eq_str", "NAME NAME", "a a", Names(NameCommand::Equal(NameEquality::NameEqStr))),
+    Row("name_hash_eq", "NAME NAME", "a a", Names(NameCommand::Equal(NameEquality::NameHashEq))),
+    Row("names_text", "NAMES", r#"a,"b c""#, Names(NameCommand::Query(NamesQuery::NamesText))),
+    Row("names_len", "NAMES", "a,b", Names(NameCommand::Query(NamesQuery::NamesLen))),
+    Row("names_is_empty", "NAMES", "-", Names(NameCommand::Query(NamesQuery::NamesIsEmpty))),
+    Row("names_get", "I NAMES", "2 a,b", Names(NameCommand::ByIndex(NamesByIndex::NamesGet))),
+    Row("names_at", "I NAMES", "1 a,b", Names(NameCommand::ByIndex(NamesByIndex::NamesAt))),
+    Row("names_find", "NAME NAMES", "b a,b", Names(NameCommand::NamesFind)),
+    Row("names_eq", "NAMES NAMES", "a,b b,a", Names(NameCommand::EqualLists(NamesEquality::NamesEq))),
+    Row("names_hash_eq", "NAMES NAMES", "a,b a,b", Names(NameCommand::EqualLists(NamesEquality::NamesHashEq))),
+    Row("names_eq_texts", "NAMES NAMES", "a,b a,b", Names(NameCommand::EqualLists(NamesEquality::NamesEqTexts))),
+    Row("names_copy", "NAMES", "a,b", Names(NameCommand::Query(NamesQuery::NamesCopy))),
+    Row("names_iter", "NAMES", "a,b", Names(NameCommand::Query(NamesQuery::NamesIter))),
+    Row("names_into_iter", "NAMES", "a,b", Names(NameCommand::Query(NamesQuery::NamesIntoIter))),
+    Row("names_left", "I NAMES", "1 a,b,c", Names(NameCommand::ByIndex(NamesByIndex::NamesLeft))),
+];

@@ -1,0 +1,39 @@
+// SPDX-License-Identifier: Apache-2.0
+// SPDX-FileCopyrightText: Copyright the Vortex contributors
+
+// The commands on native types.
+use crate::Command::{Integers, NativeDType};
+use crate::Row;
+
+/// A command on native integers.
+#[derive(Clone, Copy)]
+pub enum IntegerCommand {
+    ToLeBytes,
+    TryFromLeBytes,
+    Compare(IntegerComparison),
+    NativeTests,
+    NativeInteger,
+}
+
+/// How two integers are compared.
+#[derive(Clone, Copy)]
+pub enum IntegerComparison {
+    TotalCompare,
+    NativeCompare,
+}
+
+/// Returns the table of these commands.
+pub fn rows() -> &'static [Row] {
+    &ROWS
+}
+
+#[rattlefmt::skip]
+const ROWS: [Row; 7] = [
+    Row("to_le_bytes", "INT V", "i16 -2", Integers(IntegerCommand::ToLeBytes)),
+    Row("try_from_le_bytes", "INT HEX", "u32 0x010203", Integers(IntegerCommand::TryFromLeBytes)),
+    Row("total_compare", "INT V V", "i8 -1 1", Integers(IntegerCommand::Compare(IntegerComparison::TotalCompare))),
+    Row("native_compare", "INT V V", "i8 1 1", Integers(IntegerCommand::Compare(IntegerComparison::NativeCompare))),
+    Row("native_tests", "INT V", "u8 1", Integers(IntegerCommand::NativeTests)),
+    Row("native_integer", "INT", "i16", Integers(IntegerCommand::NativeInteger)),
+    Row("native_dtype", "NATIVE", "Vec<Option<&str>>", NativeDType),
+];

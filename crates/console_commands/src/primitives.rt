@@ -1,0 +1,91 @@
+// SPDX-License-Identifier: Apache-2.0
+// SPDX-FileCopyrightText: Copyright the Vortex contributors
+
+// The commands on primitives.
+use crate::Command::{Primitives, Visitors};
+use crate::Row;
+
+/// A command on primitive types.
+#[derive(Clone, Copy)]
+pub enum PrimitiveCommand {
+    Query(PTypeQuery),
+    Pair(PTypePair),
+    MinUnsignedPtypeForValue,
+    MinSignedPtypeForValue,
+}
+
+/// What a primitive type is asked.
+#[derive(Clone, Copy)]
+pub enum PTypeQuery {
+    Ptype,
+    ByteWidth,
+    BitWidth,
+    MaxValueAsU64,
+    ToSigned,
+    ToUnsigned,
+    PtypeKinds,
+}
+
+/// What two primitive types are asked.
+#[derive(Clone, Copy)]
+pub enum PTypePair {
+    PtypeCmp,
+    PtypeHashEq,
+    MaxUnsignedPtype,
+    MaxSignedPtype,
+}
+
+/// A command that calls a visitor of primitive types.
+#[derive(Clone, Copy)]
+pub enum VisitorCommand {
+    MatchEach(MatchEach),
+    MatchSmallest(MatchSmallest),
+}
+
+/// Calls that take a primitive type.
+#[derive(Clone, Copy)]
+pub enum MatchEach {
+    MatchEach,
+    MatchEachSimd,
+    MatchEachInteger,
+    MatchEachUnsigned,
+    MatchEachSigned,
+    MatchEachFloat,
+}
+
+/// Calls that take a count.
+#[derive(Clone, Copy)]
+pub enum MatchSmallest {
+    MatchSmallestOffsetType,
+    MatchSmallestListOffsetType,
+}
+
+/// Returns the table of these commands.
+pub fn rows() -> &'static [Row] {
+    &ROWS
+}
+
+#[rattlefmt::skip]
+const ROWS: [Row; 21] = [
+    Row("ptype", "PT", "f16", Primitives(PrimitiveCommand::Query(PTypeQuery::Ptype))),
+    Row("byte_width", "PT", "f16", Primitives(PrimitiveCommand::Query(PTypeQuery::ByteWidth))),
+    Row("bit_width", "PT", "f16", Primitives(PrimitiveCommand::Query(PTypeQuery::BitWidth))),
+    Row("max_value_as_u64", "PT", "i16", Primitives(PrimitiveCommand::Query(PTypeQuery::MaxValueAsU64))),
+    Row("to_signed", "PT", "u8", Primitives(PrimitiveCommand::Query(PTypeQuery::ToSigned))),
+    Row("to_unsigned", "PT", "i64", Primitives(PrimitiveCommand::Query(PTypeQuery::ToUnsigned))),
+    Row("ptype_kinds", "PT", "u8", Primitives(PrimitiveCommand::Query(PTypeQuery::PtypeKinds))),
+    Row("ptype_cmp", "PT PT", "i8 u64", Primitives(PrimitiveCommand::Pair(PTypePair::PtypeCmp))),
+    Row("ptype_hash_eq", "PT PT", "u8 u8", Primitives(PrimitiveCommand::Pair(PTypePair::PtypeHashEq))),
+    Row("min_unsigned_ptype_for_value", "V", "256", Primitives(PrimitiveCommand::MinUnsignedPtypeForValue)),
+    Row("min_signed_ptype_for_value", "V", "-129", Primitives(PrimitiveCommand::MinSignedPtypeForValue)),
+    Row("max_unsigned_ptype", "PT PT", "u8 u32", Primitives(PrimitiveCommand::Pair(PTypePair::MaxUnsignedPtype))),
+    Row("max_signed_ptype", "PT PT", "i8 u8", Primitives(PrimitiveCommand::Pair(PTypePair::MaxSignedPtype))),
+    Row("match_each", "PT", "f32", Visitors(VisitorCommand::MatchEach(MatchEach::MatchEach))),
+    Row("match_each_simd", "PT", "f16", Visitors(VisitorCommand::MatchEach(MatchEach::MatchEachSimd))),
+    Row("match_each_integer", "PT", "i8", Visitors(VisitorCommand::MatchEach(MatchEach::MatchEachInteger))),
+    Row("match_each_unsigned", "PT", "i8", Visitors(VisitorCommand::MatchEach(MatchEach::MatchEachUnsigned))),
+    Row("match_each_signed", "PT", "i8", Visitors(VisitorCommand::MatchEach(MatchEach::MatchEachSigned))),
+    Row("match_each_float", "PT", "f64", Visitors(VisitorCommand::MatchEach(MatchEach::MatchEachFloat))),
+    Row("match_smallest_offset_type", "COUNT", "256", Visitors(VisitorCommand::MatchSmallest(MatchSmallest::MatchSmallestOffsetType))),
+    Row("match_smallest_list_offset_type", "COUNT", "4294967296", Visitors(VisitorCommand::MatchSmallest(MatchSmallest::MatchSmallestListOffsetType))),
+];

@@ -1,0 +1,30 @@
+// SPDX-License-Identifier: Apache-2.0
+// SPDX-FileCopyrightText: Copyright the Vortex contributors
+
+// The commands on sets of paths.
+use crate::Command::{NamedSet, ProjectPaths, Sets};
+use crate::Row;
+
+/// A command on the set of the paths in its line.
+#[derive(Clone, Copy)]
+pub enum SetCommand {
+    Cover,
+    CoverCounted,
+    Members,
+    Contains,
+}
+
+/// Returns the table of these commands.
+pub fn rows() -> &'static [Row] {
+    &ROWS
+}
+
+#[rattlefmt::skip]
+const ROWS: [Row; 6] = [
+    Row("cover", "PATH..", "a.b x a a.c", Sets(SetCommand::Cover)),
+    Row("cover_counted", "PATH..", "a.b x a a.c", Sets(SetCommand::CoverCounted)),
+    Row("members", "PATH..", "a.b a x", Sets(SetCommand::Members)),
+    Row("contains", "PATH PATH..", "a a.b x", Sets(SetCommand::Contains)),
+    Row("set", "NAME new|insert PATH|extend PATH..|contains PATH|iter|cover|drain", "s insert a.b", NamedSet),
+    Row("project_paths", "T PATH..", "{a=list({b=u32, c=utf8})?, d=bool} a.[].b", ProjectPaths),
+];

@@ -31,7 +31,7 @@ fn copy(call: &mut Call<'_>) -> ConsoleResult<()> {
     call.end_list()
 }
 
-// Reads the parts up to the line's end.
+// Reads the parts up to the line's end, and returns their message.
 fn read_argument(call: &mut Call<'_>) -> ConsoleResult<pb::FieldPath> {
     let mut path = Vec::new(call.alloc);
     for _ in 0..call.line.max_items() {
@@ -52,7 +52,7 @@ fn read_part(alloc: Global, line: &mut Line<'_>) -> ConsoleResult<pb::Field> {
     line.then(pb::Field { field_type }, "}")
 }
 
-// Reads a name, if there is one, and the blanks behind it.
+// Reads a name, if there is one, and the blanks after it.
 fn read_field_type(alloc: Global, line: &mut Line<'_>) -> ConsoleResult<Option<pb::FieldType>> {
     if !line.accepts("name") {
         return Ok(None);

@@ -1,7 +1,7 @@
 // SPDX-License-Identifier: Apache-2.0
 // SPDX-FileCopyrightText: Copyright the Vortex contributors
 
-// The reader of messages in protobuf's text format, which goes down no further than a number of levels.
+// The reader of messages in protobuf's text format. It bounds how deep they are.
 use console_types::{Argument, ConsoleResult, Line, MAX_LEVELS, expected_at};
 use std::alloc::Global;
 use vortex_dtype::pb;
@@ -41,7 +41,7 @@ struct Parts {
 }
 
 impl Parts {
-    // None of them was written.
+    // The default of each field.
     fn new(alloc: Global) -> Self {
         Parts {
             nullable: false,
@@ -61,7 +61,7 @@ impl Parts {
     }
 }
 
-// Whether a kind has the field.
+// Returns whether a kind has the field.
 fn has_field(kind: &str, field: &str) -> bool {
     match field {
         "nullable" => kind != "null" && kind != "extension",
@@ -119,7 +119,7 @@ fn read_field(
     }
 }
 
-// Keeps the message that is this field's.
+// Keeps the message of this field.
 fn keep_part(alloc: Global, field: &str, part: pb::DType, parts: &mut Parts) -> ConsoleResult<()> {
     match field {
         "dtypes" => parts.dtypes.push(part)?,
@@ -148,7 +148,7 @@ fn read_part(alloc: Global, line: &mut Line<'_>, levels: u32) -> ConsoleResult<p
     line.then(part, "}")
 }
 
-// Reads a colon, and what stands behind the colon of a field.
+// Reads a colon, and the value of a field after it.
 fn read_value(
     alloc: Global,
     line: &mut Line<'_>,
@@ -214,7 +214,7 @@ fn read_number_of_ptype(line: &mut Line<'_>) -> ConsoleResult<i32> {
     line.number("a primitive type")
 }
 
-// The number of the primitive type of this name.
+// Returns the number of the primitive type of this name, or `None`.
 fn ptype_number(name: &str) -> Option<i32> {
     match name {
         "U8" => Some(0),
@@ -232,7 +232,7 @@ fn ptype_number(name: &str) -> Option<i32> {
     }
 }
 
-// The kind of this name, which stands at this position, with the fields that it has.
+// Returns the kind of this name, which is at this position, with these fields.
 fn kind_of(
     alloc: Global,
     position: usize,
@@ -250,7 +250,7 @@ fn kind_of(
     }
 }
 
-// The kind of this name that holds no others, if there is one.
+// Returns the kind of this name that holds no others, or `None`.
 fn plain_kind(kind: &str, parts: &Parts) -> Option<pb::DtypeType> {
     let nullable = parts.nullable;
     match kind {

@@ -1,7 +1,7 @@
 // SPDX-License-Identifier: Apache-2.0
 // SPDX-FileCopyrightText: Copyright the Vortex contributors
 
-// Commands on typed extensions, and on such of unknown ids.
+// Commands on typed extensions, and on extensions of unknown ids.
 use console_commands::TypedCommand;
 use console_types::{Bytes, Call, ConsoleError, ConsoleResult};
 use vortex_dtype::{DType, ExtDType, ExtDTypeRef, ExtId, ExtVTable, ForeignExtDType, Nullability};

@@ -1,12 +1,12 @@
 // SPDX-License-Identifier: Apache-2.0
 // SPDX-FileCopyrightText: Copyright the Vortex contributors
 
-// The writer of messages in protobuf's text format. It goes down no further than a number of levels, which no
-// message reaches that was read or written from a type.
+// The writer of messages in protobuf's text format. It bounds how deep they are: no message that was read, or written
+// from a type, is so deep.
 use console_types::{Call, ConsoleResult, MAX_WRITTEN_LEVELS, put, write_quoted};
 use vortex_dtype::{PType, VortexResult, pb};
 
-/// Answers the message that a call of the library made, or that the library refused.
+/// Adds the message that the library returned to the answer, or returns its error.
 pub fn say_message_result(call: &mut Call<'_>, made: VortexResult<pb::DType>) -> ConsoleResult<()> {
     say_message(call, &made?)
 }

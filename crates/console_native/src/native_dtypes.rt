@@ -40,7 +40,7 @@ fn read_owner(line: &mut Line<'_>) -> Owner {
     }
 }
 
-// Reads a native type, and gives the type of its values in these owners.
+// Reads a native type, and returns the type of its values in these owners.
 fn native_dtype(call: &mut Call<'_>, first: Owner, second: Owner) -> ConsoleResult<DType> {
     if call.line.accepts("&str") {
         return of::<&str>(call.alloc, first, second);

@@ -71,7 +71,7 @@ fn read_step(alloc: Global, line: &mut Line<'_>) -> ConsoleResult<Field> {
     Ok(Field::Name(line.name(alloc)?))
 }
 
-/// Reads a path: its steps, or a dot where it has none.
+/// Reads a path, its steps or a dot where it has none, and returns it.
 pub fn read_path(alloc: Global, line: &mut Line<'_>) -> ConsoleResult<FieldPath> {
     if line.accepts(".") {
         return Ok(FieldPath::root(alloc));
@@ -108,24 +108,24 @@ fn write_path(out: &mut String, path: &FieldPath) -> VortexResult<()> {
     Ok(())
 }
 
-/// Answers a step.
+/// Adds a step to the answer.
 pub fn say_step(call: &mut Call<'_>, step: &Field) -> ConsoleResult<()> {
     call.write_separator()?;
     Ok(write_step(&mut call.answer, step)?)
 }
 
-/// Answers a path.
+/// Adds a path to the answer.
 pub fn say_path(call: &mut Call<'_>, path: &FieldPath) -> ConsoleResult<()> {
     call.write_separator()?;
     Ok(write_path(&mut call.answer, path)?)
 }
 
-/// Answers the path that a call of the library made, or that the library refused.
+/// Adds the path that the library returned to the answer, or returns its error.
 pub fn say_path_result(call: &mut Call<'_>, made: VortexResult<FieldPath>) -> ConsoleResult<()> {
     say_path(call, &made?)
 }
 
-/// Answers paths, in the order of the bytes of their texts.
+/// Adds paths to the answer, in the order of the bytes of their texts.
 pub fn say_paths(call: &mut Call<'_>, paths: vec::IntoIter<FieldPath>) -> ConsoleResult<()> {
     let mut texts = Vec::new(call.alloc);
     for path in paths {
@@ -134,7 +134,7 @@ pub fn say_paths(call: &mut Call<'_>, paths: vec::IntoIter<FieldPath>) -> Consol
     say_sorted(call, texts)
 }
 
-/// Answers lent paths, in the order of the bytes of their texts.
+/// Adds borrowed paths to the answer, in the order of the bytes of their texts.
 pub fn say_borrowed_paths(
     call: &mut Call<'_>,
     paths: vec::IntoIter<&FieldPath>,

@@ -9,13 +9,13 @@ use dtype_base::{DecimalDType, DecimalType, FieldName, FieldNames, Nullability, 
 use dtype_types::{DType, ExtDTypeRef, ExtId, FieldDType, MapDType, StructFields, UnionVariants};
 use std::alloc::Global;
 
-/// What is read from a line, behind the blanks before it.
+/// What is read from a line, after the blanks before it.
 pub trait Argument: Drop {
-    /// Reads it.
+    /// Reads it from the line, and returns it.
     fn read(alloc: Global, line: &mut Line<'_>) -> ConsoleResult<Self>;
 }
 
-/// Two arguments, one behind the other.
+/// Two arguments, one after the other.
 impl<A: Argument, B: Argument> Argument for (A, B) {
     fn read(alloc: Global, line: &mut Line<'_>) -> ConsoleResult<(A, B)> {
         let first = A::read(alloc, line)?;
@@ -32,14 +32,14 @@ impl Argument for DType {
     }
 }
 
-/// A type that is to be a field's.
+/// The type of a field.
 impl Argument for FieldDType {
     fn read(alloc: Global, line: &mut Line<'_>) -> ConsoleResult<FieldDType> {
         Ok(FieldDType::from(DType::read(alloc, line)?))
     }
 }
 
-/// As many as there are up to the line's end.
+/// All arguments up to the line's end.
 impl<T: Argument> Argument for Vec<T> {
     fn read(alloc: Global, line: &mut Line<'_>) -> ConsoleResult<Vec<T>> {
         let mut all = Vec::new(alloc);
@@ -53,7 +53,7 @@ impl<T: Argument> Argument for Vec<T> {
     }
 }
 
-// Reads what is joined by commas, or `-`, which is nothing.
+// Reads arguments that are joined by commas, or `-`, and returns them: for `-` none.
 fn read_list<T: Argument>(alloc: Global, line: &mut Line<'_>) -> ConsoleResult<Vec<T>> {
     let mut list = Vec::new(alloc);
     if line.accepts("-") {
@@ -118,7 +118,7 @@ impl Argument for Nullability {
     }
 }
 
-/// A primitive name.
+/// The name of a primitive type.
 impl Argument for PType {
     fn read(_alloc: Global, line: &mut Line<'_>) -> ConsoleResult<PType> {
         let position = line.position();
@@ -127,7 +127,7 @@ impl Argument for PType {
     }
 }
 
-/// A decimal, as its precision and its scale, of which the library makes one.
+/// A precision and a scale, of which the library makes a decimal.
 #[derive(Drop)]
 pub struct Decimal(pub u8, pub i8);
 
@@ -140,7 +140,7 @@ impl Argument for Decimal {
     }
 }
 
-/// A decimal's storage type.
+/// The storage type of a decimal.
 impl Argument for DecimalType {
     fn read(_alloc: Global, line: &mut Line<'_>) -> ConsoleResult<DecimalType> {
         let position = line.position();
@@ -149,7 +149,7 @@ impl Argument for DecimalType {
     }
 }
 
-// The storage type with this text.
+// Returns the storage type with this text, or `None`.
 fn decimal_type_of(word: &str) -> Option<DecimalType> {
     match word {
         "i8" => Some(DecimalType::I8),
@@ -169,7 +169,7 @@ impl Argument for bool {
     }
 }
 
-/// An index.
+/// A position.
 impl Argument for usize {
     fn read(_alloc: Global, line: &mut Line<'_>) -> ConsoleResult<usize> {
         line.number("an index")

@@ -1,7 +1,7 @@
 // SPDX-License-Identifier: Apache-2.0
 // SPDX-FileCopyrightText: Copyright the Vortex contributors
 
-// A command that is being answered: its arguments are read from the line, and its answer is written.
+// A command that is being answered: its arguments are read from its line, and its answer is written.
 ghost use Rattle.std.specs.Prelude.{◌≡◌, OnOk, true};
 
 use crate::writer::write_hexadecimals;
@@ -12,7 +12,7 @@ use std::cmp::Ordering;
 use std::fmt::Display;
 use std::str::FromStr;
 
-/// A command that is being answered: what is left of its line, and what its answer is by now.
+/// A command that is being answered: the rest of its line, and its answer so far.
 #[derive(Drop)]
 pub struct Call<'a> {
     pub alloc: Global,
@@ -21,7 +21,7 @@ pub struct Call<'a> {
 }
 
 impl<'a> Call<'a> {
-    /// The command that stands in this line.
+    /// Returns the call of the command in this line.
     pub fn new(alloc: Global, text: &'a str) -> Self {
         Call {
             alloc,
@@ -30,25 +30,25 @@ impl<'a> Call<'a> {
         }
     }
 
-    /// Reads a word: a command, or one of a few words.
+    /// Reads a word, a command or one of a few words, and returns it.
     pub fn word(&mut self, expected: &'static str) -> ConsoleResult<&'a str> {
         self.line.skip_blanks();
         self.line.word(expected)
     }
 
-    /// Reads an argument.
+    /// Reads an argument, and returns it.
     pub fn read<T: Argument>(&mut self) -> ConsoleResult<T> {
         self.line.skip_blanks();
         T::read(self.alloc, &mut self.line)
     }
 
-    /// Reads an argument, behind which the line ends.
+    /// Reads the last argument of the line, and returns it.
     pub fn last<T: Argument>(&mut self) -> ConsoleResult<T> {
         let argument = self.read()?;
         self.line.then_end(argument)
     }
 
-    /// Reads a number.
+    /// Reads a number, and returns it.
     pub fn number<T: FromStr>(&mut self, expected: &'static str) -> ConsoleResult<T>
     where
         T::Err: Drop,
@@ -57,7 +57,7 @@ impl<'a> Call<'a> {
         self.line.number(expected)
     }
 
-    /// Reads a number, behind which the line ends.
+    /// Reads the last argument of the line, a number, and returns it.
     pub fn last_number<T: FromStr + Drop>(&mut self, expected: &'static str) -> ConsoleResult<T>
     where
         T::Err: Drop,
@@ -66,12 +66,12 @@ impl<'a> Call<'a> {
         self.line.then_end(number)
     }
 
-    /// Reads the end of the line.
+    /// Reads the end of the line, or returns an error where there is more.
     pub fn end(&mut self) -> ConsoleResult<()> {
         self.line.end()
     }
 
-    /// Writes the blank between two values.
+    /// Adds the blank between two values to the answer.
     pub fn write_separator(&mut self) -> ConsoleResult<()> {
         if !self.answer.is_empty() {
             self.answer.push(' ')?;
@@ -79,14 +79,14 @@ impl<'a> Call<'a> {
         Ok(())
     }
 
-    /// Answers a value by its text.
+    /// Adds the text of a value to the answer.
     pub fn say<T: Display + Drop>(&mut self, value: T) -> ConsoleResult<()> {
         self.write_separator()?;
         write!(self.answer, "{value}")?;
         Ok(())
     }
 
-    /// Answers a value by its text, or `none`.
+    /// Adds the text of a value to the answer, or `none`.
     pub fn say_option<T: Display + Drop>(&mut self, value: Option<T>) -> ConsoleResult<()> {
         match value {
             Some(value) => self.say(value),
@@ -94,18 +94,18 @@ impl<'a> Call<'a> {
         }
     }
 
-    /// Answers what a call of the library made by its text, or that the library refused.
+    /// Adds the text of what the library returned to the answer, or returns its error.
     pub fn say_result<T: Display + Drop>(&mut self, made: VortexResult<T>) -> ConsoleResult<()> {
         self.say(made?)
     }
 
-    /// Answers `ok`, or that the library refused.
+    /// Adds `ok` to the answer, or returns the library's error.
     pub fn say_ok(&mut self, done: VortexResult<()>) -> ConsoleResult<()> {
         done?;
         self.say("ok")
     }
 
-    /// Answers by `-` where nothing was answered by now.
+    /// Makes the answer `-` where it is empty.
     pub fn end_list(&mut self) -> ConsoleResult<()> {
         if self.answer.is_empty() {
             self.answer.push('-')?;
@@ -113,13 +113,13 @@ impl<'a> Call<'a> {
         Ok(())
     }
 
-    /// Answers the words that hold.
+    /// Adds the words that hold to the answer: `-` where none does.
     pub fn say_words(&mut self, words: &[(&str, bool)]) -> ConsoleResult<()> {
         self.say_some_words(words)?;
         self.end_list()
     }
 
-    /// Answers the words that hold, where more are to come.
+    /// Adds the words that hold to the answer, where others may follow.
     pub fn say_some_words(&mut self, words: &[(&str, bool)]) -> ConsoleResult<()> {
         for (word, holds) in words {
             if *holds {
@@ -129,7 +129,7 @@ impl<'a> Call<'a> {
         Ok(())
     }
 
-    /// Answers tags.
+    /// Adds tags to the answer.
     pub fn say_tags(&mut self, tags: &[u8]) -> ConsoleResult<()> {
         self.write_separator()?;
         let mut is_first = true;
@@ -143,7 +143,7 @@ impl<'a> Call<'a> {
         self.end_list()
     }
 
-    /// Answers how two values stand to each other.
+    /// Adds an ordering to the answer.
     pub fn say_ordering(&mut self, ordering: Ordering) -> ConsoleResult<()> {
         self.say(match ordering {
             Ordering::Less => "Less",
@@ -152,7 +152,7 @@ impl<'a> Call<'a> {
         })
     }
 
-    /// Answers a text of the library on one line.
+    /// Adds a text to the answer, on one line.
     pub fn say_text(&mut self, text: &str) -> ConsoleResult<()> {
         self.write_separator()?;
         if text.is_empty() {
@@ -167,19 +167,19 @@ impl<'a> Call<'a> {
         Ok(())
     }
 
-    /// Answers a value by its text, on one line.
+    /// Adds the text of a value to the answer, on one line.
     pub fn say_text_of<T: Display>(&mut self, value: &T) -> ConsoleResult<()> {
         let text = value.to_string(self.alloc)?;
         self.say_text(text.as_str())
     }
 
-    /// Answers a value in the console's form.
+    /// Adds a value to the answer, in the console's form.
     pub fn write<T: Written>(&mut self, value: &T) -> ConsoleResult<()> {
         self.write_separator()?;
         Ok(value.write(&mut self.answer)?)
     }
 
-    /// Answers a value in the console's form, or `none`.
+    /// Adds a value to the answer in the console's form, or `none`.
     pub fn write_option<T: Written>(&mut self, value: Option<&T>) -> ConsoleResult<()> {
         match value {
             Some(value) => self.write(value),
@@ -187,24 +187,24 @@ impl<'a> Call<'a> {
         }
     }
 
-    /// Answers a value that was given up in the console's form, or `none`.
+    /// Adds an owned value to the answer in the console's form, or `none`.
     pub fn write_owned_option<T: Written + Drop>(&mut self, value: Option<T>) -> ConsoleResult<()> {
         self.write_option(value.as_ref())
     }
 
-    /// Answers what a call of the library made in the console's form, or that the library refused.
+    /// Adds what the library returned to the answer in the console's form, or returns its error.
     pub fn write_result<T: Written + Drop>(&mut self, made: VortexResult<T>) -> ConsoleResult<()> {
         self.write(&made?)
     }
 
-    /// Answers bytes in hexadecimal.
+    /// Adds bytes to the answer, in hexadecimal.
     pub fn say_hexadecimals(&mut self, bytes: &[u8]) -> ConsoleResult<()> {
         self.write_separator()?;
         Ok(write_hexadecimals(&mut self.answer, bytes)?)
     }
 }
 
-/// That the call isn't made unless this holds.
+/// Returns an error, the condition of a call, unless it holds.
 pub fn unless(holds: bool, condition: &'static str) -> ConsoleResult<()>
     ensures { OnOk result (holds ≡ true) }
 {

@@ -16,7 +16,7 @@ pub fn answer(call: &mut Call<'_>, command: Comparison) -> ConsoleResult<()> {
     }
 }
 
-// Returns the answer of the comparison, or `None` where the types have no insides of one kind.
+// Returns the answer of the comparison, or `None` where it is of the insides, and they aren't of one kind.
 fn compare(command: Comparison, dtype: &DType, other: &DType) -> Option<bool> {
     match command {
         Comparison::Eq => Some(dtype == other),

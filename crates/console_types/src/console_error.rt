@@ -5,19 +5,19 @@ use dtype_base::VortexError;
 use std::alloc::{AllocError, AllocFailed};
 use thiserror::Error;
 
-/// Why a command has no value for its answer. The text is what the console answers.
+/// Why a command has no value for its answer. Its text is the answer.
 #[derive(Debug, Drop, Error)]
 pub enum ConsoleError {
-    /// The library refused.
+    /// The library returned an error.
     #[error("refused {number}: {error}")]
     Library {
         number: u8,
         error: VortexError,
     },
-    /// The call asks its caller for what doesn't hold, so it wasn't made.
+    /// A condition of the call doesn't hold, so it wasn't made.
     #[error("condition: {0}")]
     Condition(&'static str),
-    /// The line can't be read from here on, a byte of it counted from 1.
+    /// The line can't be read from this byte on, counted from 1.
     #[error("unreadable at {position}: expected {expected}")]
     Unreadable {
         position: usize,
@@ -25,7 +25,7 @@ pub enum ConsoleError {
     },
 }
 
-/// The answer of what reads a line, or makes a call.
+/// The result of what reads a line, or makes a call.
 pub type ConsoleResult<T> = Result<T, ConsoleError>;
 
 impl From<VortexError> for ConsoleError {

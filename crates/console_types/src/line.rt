@@ -1,13 +1,13 @@
 // SPDX-License-Identifier: Apache-2.0
 // SPDX-FileCopyrightText: Copyright the Vortex contributors
 
-// What is left to read of a line, and the words, quotes and numbers in it.
+// The rest of a line, and the words, quotes and numbers in it.
 use crate::{ConsoleError, ConsoleResult};
 use dtype_base::FieldName;
 use std::alloc::Global;
 use std::str::{self, FromStr};
 
-/// What is left to read of a line.
+/// The rest of a line: what hasn't been read.
 #[derive(Drop)]
 pub struct Line<'a> {
     rest: &'a [u8],
@@ -15,7 +15,7 @@ pub struct Line<'a> {
 }
 
 impl<'a> Line<'a> {
-    /// The whole line.
+    /// Returns the whole line.
     pub fn new(text: &'a str) -> Self {
         Line {
             rest: text.as_bytes(),
@@ -23,29 +23,29 @@ impl<'a> Line<'a> {
         }
     }
 
-    /// Where it is: a byte of the line, counted from 1.
+    /// Returns the position of the next byte in the line, counted from 1.
     pub fn position(&self) -> usize {
         self.length
             .saturating_sub(self.rest.len())
             .saturating_add(1)
     }
 
-    /// How many items are looked for at most: each accepts a byte, and one more is looked for behind the last.
+    /// Returns how many items are looked for at most: each has a byte, and one more is looked for after the last.
     pub fn max_items(&self) -> usize {
         self.rest.len().saturating_add(1)
     }
 
-    /// That the line can't be read from here on, since this was expected.
+    /// Returns the error that this was expected here.
     pub fn expected(&self, expected: &'static str) -> ConsoleError {
         expected_at(self.position(), expected)
     }
 
-    /// The next byte, if there is one.
+    /// Returns the next byte, if there is one, and doesn't read it.
     pub fn peek(&self) -> Option<u8> {
         self.rest.first().copied()
     }
 
-    /// Whether this comes next; then it is read.
+    /// Reads this text if it is next, and returns whether it was.
     pub fn accepts(&mut self, text: &str) -> bool {
         match self.rest.strip_prefix(text.as_bytes()) {
             Some(rest) => {
@@ -56,12 +56,12 @@ impl<'a> Line<'a> {
         }
     }
 
-    /// Reads this.
+    /// Reads this text, or returns the error that it was expected.
     pub fn take(&mut self, text: &'static str) -> ConsoleResult<()> {
         self.take_or(text, text)
     }
 
-    /// Reads this, which is called so.
+    /// Reads this text, or returns the error that `expected` was.
     pub fn take_or(&mut self, text: &'static str, expected: &'static str) -> ConsoleResult<()> {
         if self.accepts(text) {
             Ok(())
@@ -70,18 +70,18 @@ impl<'a> Line<'a> {
         }
     }
 
-    /// Reads the blanks that come next, if any.
+    /// Reads the blanks that are next, if any.
     pub fn skip_blanks(&mut self) {
         let _ = self.take_while(|byte| byte == b' ');
     }
 
-    /// Whether nothing is left but blanks and a comment.
+    /// Returns whether only blanks and a comment are left. It reads the blanks.
     pub fn is_at_end(&mut self) -> bool {
         self.skip_blanks();
         matches!(self.rest, [] | [b'#', ..])
     }
 
-    /// Reads the end of the line.
+    /// Reads the end of the line, or returns an error where there is more.
     pub fn end(&mut self) -> ConsoleResult<()> {
         if self.is_at_end() {
             Ok(())
@@ -90,19 +90,19 @@ impl<'a> Line<'a> {
         }
     }
 
-    /// Gives what was read, behind which the line ends.
+    /// Returns what was read, if the line ends after it.
     pub fn then_end<T: Drop>(&mut self, read: T) -> ConsoleResult<T> {
         self.end()?;
         Ok(read)
     }
 
-    /// Gives what was read, behind which this comes next.
+    /// Reads this text, and returns what was read before it.
     pub fn then<T: Drop>(&mut self, read: T, text: &'static str) -> ConsoleResult<T> {
         self.take(text)?;
         Ok(read)
     }
 
-    /// Reads the bytes that come next and pass the test.
+    /// Reads the bytes up to the first that fails the test, and returns them.
     fn take_while<F: Fn(u8) -> bool>(&mut self, test: F) -> &'a [u8]
         requires { F.IsAlwaysCallable test }
     {
@@ -112,7 +112,7 @@ impl<'a> Line<'a> {
         taken
     }
 
-    // The text of bytes that were read at this position.
+    // Returns the text of bytes that were read at this position, or an error where they are none or no UTF-8.
     fn text_of(
         &self,
         bytes: &'a [u8],
@@ -125,21 +125,21 @@ impl<'a> Line<'a> {
         }
     }
 
-    /// Reads a word: letters and digits of ASCII, `_` and what lies beyond ASCII.
+    /// Reads a word, of ASCII letters and digits, `_` and characters beyond ASCII, and returns it.
     pub fn word(&mut self, expected: &'static str) -> ConsoleResult<&'a str> {
         let position = self.position();
         let bytes = self.take_while(is_bare);
         self.text_of(bytes, position, expected)
     }
 
-    /// Reads a word in which dots may stand too.
+    /// Reads a word that may have dots too, and returns it.
     pub fn dotted_word(&mut self, expected: &'static str) -> ConsoleResult<&'a str> {
         let position = self.position();
         let bytes = self.take_while(|byte| byte == b'.' || is_bare(byte));
         self.text_of(bytes, position, expected)
     }
 
-    /// Reads a number of this type.
+    /// Reads a number of this type, and returns it.
     pub fn number<T: FromStr>(&mut self, expected: &'static str) -> ConsoleResult<T>
     where
         T::Err: Drop,
@@ -153,7 +153,7 @@ impl<'a> Line<'a> {
         }
     }
 
-    /// Reads what stands in quotes, behind the first of them.
+    /// Reads what is in quotes, after the opening one, and returns its bytes.
     pub fn quoted(&mut self, alloc: Global) -> ConsoleResult<Vec<u8>> {
         let mut bytes = Vec::new(alloc);
         for _ in 0..self.rest.len() {
@@ -165,7 +165,7 @@ impl<'a> Line<'a> {
         Err(self.expected("a closing quote"))
     }
 
-    // Reads a byte within quotes, or what escapes one.
+    // Reads a byte within quotes, or an escape, and returns the byte.
     fn quoted_byte(&mut self) -> ConsoleResult<u8> {
         match self.rest {
             [b'\\', b'x', rest @ ..] => {
@@ -184,7 +184,7 @@ impl<'a> Line<'a> {
         }
     }
 
-    // Reads what stands behind a backslash.
+    // Reads what is after a backslash, and returns the byte that it means.
     fn escaped(&mut self) -> ConsoleResult<u8> {
         for (mark, byte) in [
             ("\\", b'\\'),
@@ -200,7 +200,7 @@ impl<'a> Line<'a> {
         Err(self.expected("an escape"))
     }
 
-    // Reads a byte in two hexadecimal digits.
+    // Reads two hexadecimal digits, and returns their byte.
     fn hexadecimal(&mut self) -> ConsoleResult<u8> {
         match self.rest {
             [high, low, rest @ ..] => match (digit(*high), digit(*low)) {
@@ -214,7 +214,7 @@ impl<'a> Line<'a> {
         }
     }
 
-    /// Reads bytes in hexadecimal, behind their mark.
+    /// Reads `0x` and bytes in hexadecimal, and returns the bytes.
     pub fn hexadecimals(&mut self, alloc: Global) -> ConsoleResult<Vec<u8>> {
         self.take("0x")?;
         let mut bytes = Vec::new(alloc);
@@ -227,7 +227,7 @@ impl<'a> Line<'a> {
         Ok(bytes)
     }
 
-    /// Reads a text in quotes, behind the first of them.
+    /// Reads a text in quotes, after the opening one, and returns it.
     pub fn quoted_text(&mut self, alloc: Global) -> ConsoleResult<String> {
         let position = self.position();
         match String::from_utf8(self.quoted(alloc)?) {
@@ -236,7 +236,7 @@ impl<'a> Line<'a> {
         }
     }
 
-    /// Reads a name, bare or in quotes.
+    /// Reads a name, bare or in quotes, and returns it.
     pub fn name(&mut self, alloc: Global) -> ConsoleResult<FieldName> {
         if self.accepts("\"") {
             let text = self.quoted_text(alloc)?;
@@ -246,7 +246,7 @@ impl<'a> Line<'a> {
         }
     }
 
-    /// Whether the items behind an opening one end here; else it reads the comma before the next.
+    /// Reads the end of a list, or the comma before its next item, and returns whether it was the end.
     pub fn closes(&mut self, close: &'static str) -> ConsoleResult<bool> {
         if self.accepts(close) {
             return Ok(true);
@@ -259,17 +259,17 @@ impl<'a> Line<'a> {
     }
 }
 
-/// That the line can't be read from this position on, since this was expected.
+/// Returns the error that this was expected at a position.
 pub fn expected_at(position: usize, expected: &'static str) -> ConsoleError {
     ConsoleError::Unreadable { position, expected }
 }
 
-/// Whether a byte may stand in a word.
+/// Returns whether a byte may be in a word.
 pub fn is_bare(byte: u8) -> bool {
     byte.is_ascii_alphanumeric() || byte == b'_' || byte >= 0x80
 }
 
-// The value of a hexadecimal digit.
+// Returns the value of a hexadecimal digit, or `None`.
 fn digit(byte: u8) -> Option<u8> {
     match byte {
         b'0'..=b'9' => Some(byte - b'0'),

@@ -63,7 +63,6 @@ fn owned(call: &mut Call<'_>, command: OwnedPart) -> ConsoleResult<()> {
     }
 }
 
-// The calls with the condition that the type is of the kind.
 fn required(call: &mut Call<'_>, command: RequiredPart) -> ConsoleResult<()> {
     let dtype: DType = call.last()?;
     match command {

@@ -1,7 +1,7 @@
 // SPDX-License-Identifier: Apache-2.0
 // SPDX-FileCopyrightText: Copyright the Vortex contributors
 
-// Commands on primitive names.
+// Commands on primitive types.
 use crate::comparisons::hash_of;
 use crate::{Call, ConsoleResult, unless};
 use console_commands::{PTypePair, PTypeQuery, PrimitiveCommand};

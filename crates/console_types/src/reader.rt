@@ -1,17 +1,17 @@
 // SPDX-License-Identifier: Apache-2.0
 // SPDX-FileCopyrightText: Copyright the Vortex contributors
 
-// The reader of types, which goes down no further than a number of levels.
+// The reader of types. It bounds how deep they are.
 use crate::line::expected_at;
 use crate::{ConsoleResult, Line};
 use dtype_base::{DecimalDType, FieldName, FieldNames, Nullability, PType};
 use dtype_types::{DType, ExtDTypeRef, ExtId, FieldDType, StructFields, UnionVariants};
 use std::alloc::Global;
 
-/// How deep types and messages may stand within one another.
+/// How deep types and messages may be within one another.
 pub const MAX_LEVELS: u32 = 128;
 
-/// Reads a type in which others stand at most so deep.
+/// Reads a type that holds others at most this deep, and returns it.
 #[cycle(types)]
 pub fn read_dtype(alloc: Global, line: &mut Line<'_>, levels: u32) -> ConsoleResult<DType> {
     if line.accepts("{") {
@@ -59,7 +59,7 @@ fn read_wrapped(alloc: Global, line: &mut Line<'_>, levels: u32) -> ConsoleResul
     line.then(dtype, ")")
 }
 
-// Reads a list of either kind behind its word.
+// Reads a list of either kind after its word.
 #[cycle(types)]
 fn read_list(alloc: Global, line: &mut Line<'_>, word: &str, levels: u32) -> ConsoleResult<DType> {
     let element = read_wrapped(alloc, line, levels)?;
@@ -73,7 +73,7 @@ fn list_of(alloc: Global, line: &mut Line<'_>, element: DType) -> ConsoleResult<
     Ok(DType::list(alloc, element, line.nullability())?)
 }
 
-// Reads what stands behind the type of a fixed-size list, and gives the list.
+// Reads what is after the type of a fixed-size list, and returns the list.
 fn fixed_size_list_of(alloc: Global, line: &mut Line<'_>, element: DType) -> ConsoleResult<DType> {
     let size = line.bracketed_size()?;
     Ok(DType::fixed_size_list(alloc, element, size, line.nullability())?)
@@ -94,13 +94,13 @@ fn read_value(alloc: Global, line: &mut Line<'_>, levels: u32) -> ConsoleResult<
     read_part(alloc, line, levels)
 }
 
-// Reads what stands behind the types of a map, and gives the map.
+// Reads what is after the types of a map, and returns the map.
 fn map_of(alloc: Global, line: &mut Line<'_>, key: DType, value: DType) -> ConsoleResult<DType> {
     let keys_sorted = line.keys_sorted()?;
     Ok(DType::map(alloc, key, value, keys_sorted, line.nullability())?)
 }
 
-// Reads an extension behind its id.
+// Reads an extension after its id.
 #[cycle(types)]
 fn read_extension(
     alloc: Global,
@@ -158,7 +158,7 @@ fn read_field_name(alloc: Global, line: &mut Line<'_>) -> ConsoleResult<FieldNam
     line.then(name, "=")
 }
 
-// Reads fields behind the opening brace. Each accepts bytes, so there are no more than these.
+// Reads fields after the opening brace. Each has bytes, so there are no more than the line has.
 #[cycle(types)]
 fn read_fields(
     alloc: Global,
@@ -177,7 +177,7 @@ fn read_fields(
     Ok(())
 }
 
-// What of a union was read.
+// The variants of a union that were read.
 #[derive(Drop)]
 struct Variants {
     names: Vec<FieldName>,
@@ -198,7 +198,7 @@ fn read_variant_name(
     line.take("=")
 }
 
-// Reads a variant, behind those that were read.
+// Reads a variant, and adds it to those that were read.
 #[cycle(types)]
 fn read_variant(
     alloc: Global,
@@ -211,7 +211,7 @@ fn read_variant(
     Ok(())
 }
 
-// Reads variants up to the closing parenthesis. Each accepts bytes, so there are no more than these.
+// Reads variants up to the closing parenthesis. Each has bytes, so there are no more than the line has.
 #[cycle(types)]
 fn read_variants(
     alloc: Global,
@@ -247,7 +247,7 @@ fn union_of(alloc: Global, line: &mut Line<'_>, variants: Variants) -> ConsoleRe
     Ok(DType::Union(made, line.nullability()))
 }
 
-// The variants of what was read: with the tags 0, 1 and so on where none was.
+// Returns the union of the variants that were read: with the tags 0, 1 and so on where no tag was.
 fn variants_of(alloc: Global, line: &Line<'_>, variants: Variants) -> ConsoleResult<UnionVariants> {
     let Variants {
         names,
@@ -265,7 +265,7 @@ fn variants_of(alloc: Global, line: &Line<'_>, variants: Variants) -> ConsoleRes
     }
 }
 
-// The type without parts that has this name.
+// Returns the type without parts of this name, or `None`.
 fn plain(word: &str, n: Nullability) -> Option<DType> {
     match word {
         "bool" => Some(DType::Bool(n)),
@@ -276,7 +276,7 @@ fn plain(word: &str, n: Nullability) -> Option<DType> {
     }
 }
 
-/// The primitive name with this text.
+/// Returns the primitive type of this name, or `None`.
 pub fn ptype_of(word: &str) -> Option<PType> {
     match word {
         "u8" => Some(PType::U8),
@@ -295,19 +295,19 @@ pub fn ptype_of(word: &str) -> Option<PType> {
 }
 
 impl Line<'_> {
-    /// Reads `?`, if it comes next.
+    /// Reads `?` if it is next, and returns the nullability.
     pub fn nullability(&mut self) -> Nullability {
         Nullability::from(self.accepts("?"))
     }
 
-    // Reads a comma, and the blanks behind it.
+    // Reads a comma, and the blanks after it.
     fn comma(&mut self) -> ConsoleResult<()> {
         let taken = self.take(",");
         self.skip_blanks();
         taken
     }
 
-    /// Reads `true` or `false`.
+    /// Reads `true` or `false`, and returns it.
     pub fn boolean(&mut self) -> ConsoleResult<bool> {
         if self.accepts("true") {
             Ok(true)
@@ -318,7 +318,7 @@ impl Line<'_> {
         }
     }
 
-    // Reads what stands behind the types of a map: whether its keys are sorted.
+    // Reads what is after the types of a map, and returns whether its keys are sorted.
     fn keys_sorted(&mut self) -> ConsoleResult<bool> {
         self.comma()?;
         self.take("keys_sorted=")?;
@@ -326,21 +326,21 @@ impl Line<'_> {
         self.then(keys_sorted, ")")
     }
 
-    // Reads the metadata of an extension.
+    // Reads the metadata of an extension, and returns it.
     fn bracketed_bytes(&mut self, alloc: Global) -> ConsoleResult<Vec<u8>> {
         self.take("[")?;
         let bytes = self.hexadecimals(alloc)?;
         self.then(bytes, "]")
     }
 
-    // Reads the size of a fixed-size list.
+    // Reads the size of a fixed-size list, and returns it.
     fn bracketed_size(&mut self) -> ConsoleResult<u32> {
         self.take("[")?;
         let size = self.number("a size")?;
         self.then(size, "]")
     }
 
-    /// Reads the precision and the scale that stand behind `decimal`.
+    /// Reads the precision and the scale after `decimal`, and returns them.
     pub fn decimal_parts(&mut self) -> ConsoleResult<(u8, i8)> {
         self.take("(")?;
         let precision = self.number("a precision")?;
@@ -348,7 +348,7 @@ impl Line<'_> {
         Ok((precision, self.closed_scale()?))
     }
 
-    // Reads a scale, and the parenthesis behind it.
+    // Reads a scale and the parenthesis after it, and returns the scale.
     fn closed_scale(&mut self) -> ConsoleResult<i8> {
         let scale = self.number("a scale")?;
         self.then(scale, ")")

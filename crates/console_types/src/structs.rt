@@ -41,7 +41,7 @@ fn indented(call: &mut Call<'_>, fields: &StructFields) -> ConsoleResult<()> {
     call.say_text(text.as_str())
 }
 
-/// Answers types.
+/// Adds types to the answer: `-` where there are none.
 pub fn say_dtypes(call: &mut Call<'_>, dtypes: DTypeIter<'_>) -> ConsoleResult<()> {
     for dtype in dtypes {
         call.write(dtype)?;

@@ -171,7 +171,7 @@ fn struct_(call: &mut Call<'_>) -> ConsoleResult<()> {
     call.write_result(DType::struct_(call.alloc, names.into_iter().zip(dtypes), n))
 }
 
-/// Reads the last arguments of the line: names, and as many types.
+/// Reads the last arguments of the line, names and as many types, and returns them.
 pub fn last_pairs(call: &mut Call<'_>) -> ConsoleResult<(FieldNames, Vec<FieldDType>)> {
     let (names, dtypes): (FieldNames, Vec<FieldDType>) = call.last()?;
     unless(names.len() == dtypes.len(), "as many names as types")?;

@@ -1,14 +1,14 @@
 // SPDX-License-Identifier: Apache-2.0
 // SPDX-FileCopyrightText: Copyright the Vortex contributors
 
-// The writer of types: as the library prints them, but that the metadata of extensions stands in hexadecimal,
-// and that names and ids stand in quotes where they can't stand bare. It goes down no further than a number of
-// levels, which no type reaches that was read.
+// The writer of types. It writes them as the library prints them, except that the metadata of extensions is in
+// hexadecimal, and that names and ids that can't be bare are in quotes. It bounds how deep they are: no type that was
+// read is so deep.
 use crate::line::is_bare;
 use dtype_base::{FieldName, FieldNames, Nullability, VortexResult};
 use dtype_types::{DType, ExtDTypeRef, ExtId, MapDType, StructFields, UnionVariants};
 
-/// How deep types are written. They are read less deep by half.
+/// How deep types are written: twice as deep as they are read.
 pub const MAX_WRITTEN_LEVELS: u32 = 256;
 
 /// Writes a type.
@@ -54,7 +54,7 @@ fn write_part(out: &mut String, dtype: &DType, levels: u32) -> VortexResult<()> 
     }
 }
 
-// Writes a type behind this opening, and a closing parenthesis.
+// Writes an opening text, a type, and a closing parenthesis.
 #[cycle(written)]
 fn write_wrapped(out: &mut String, open: &str, dtype: &DType, levels: u32) -> VortexResult<()> {
     put(out, open)?;
@@ -126,7 +126,7 @@ fn write_keys_sorted(out: &mut String, keys_sorted: bool) -> VortexResult<()> {
     Ok(())
 }
 
-// Writes a comma where there is a field before, a field's name and an equals sign.
+// Writes a comma unless the field is the first, its name, and an equals sign.
 fn write_field_name(out: &mut String, is_first: bool, name: &FieldName) -> VortexResult<()> {
     if !is_first {
         put(out, ", ")?;
@@ -135,7 +135,7 @@ fn write_field_name(out: &mut String, is_first: bool, name: &FieldName) -> Vorte
     put(out, "=")
 }
 
-// Writes a comma where there is a variant before, a variant's name, its tag if it is shown, and an equals sign.
+// Writes a comma unless the variant is the first, its name, its tag if it is shown, and an equals sign.
 fn write_variant_name(
     out: &mut String,
     is_first: bool,
@@ -167,7 +167,7 @@ fn write_nullability(out: &mut String, n: Nullability) -> VortexResult<()> {
     }
 }
 
-/// Writes a name: bare where it can stand so, else in quotes with the library's escapes.
+/// Writes a name: bare where it can be, else in quotes with the library's escapes.
 pub fn write_name(out: &mut String, name: &FieldName) -> VortexResult<()> {
     let text = name.as_str();
     if !text.is_empty() && text.bytes().all(is_bare) {
@@ -193,7 +193,7 @@ pub fn write_names(out: &mut String, names: &FieldNames) -> VortexResult<()> {
     Ok(())
 }
 
-/// Writes an id as names are written, but that dots stand bare.
+/// Writes an id as a name is written, except that dots may be bare.
 pub fn write_id(out: &mut String, id: &ExtId) -> VortexResult<()> {
     let text = id.as_str();
     if !text.is_empty() && text.bytes().all(|byte| byte == b'.' || is_bare(byte)) {
@@ -230,7 +230,7 @@ fn write_byte(out: &mut String, byte: u32) -> VortexResult<()> {
     Ok(())
 }
 
-/// Writes bytes in hexadecimal, behind their mark.
+/// Writes `0x` and bytes in hexadecimal.
 pub fn write_hexadecimals(out: &mut String, bytes: &[u8]) -> VortexResult<()> {
     put(out, "0x")?;
     for byte in bytes {

@@ -1,7 +1,7 @@
 // SPDX-License-Identifier: Apache-2.0
 // SPDX-FileCopyrightText: Copyright the Vortex contributors
 
-// What has a form of the console's own, and how it is written.
+// Values that have a form of the console's own, and how they are written.
 use crate::writer::{
     MAX_WRITTEN_LEVELS, write_dtype, write_extension, write_fields, write_id, write_map,
     write_name, write_names, write_union,
@@ -9,9 +9,9 @@ use crate::writer::{
 use dtype_base::{FieldName, FieldNames, VortexResult};
 use dtype_types::{DType, ExtDTypeRef, ExtId, MapDType, StructFields, UnionVariants};
 
-/// What has a form of the console's own.
+/// A value that has a form of the console's own.
 pub trait Written {
-    /// Writes that form.
+    /// Writes the value in that form.
     fn write(&self, out: &mut String) -> VortexResult<()>;
 }
 

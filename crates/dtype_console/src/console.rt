@@ -1,7 +1,7 @@
 // SPDX-License-Identifier: Apache-2.0
 // SPDX-FileCopyrightText: Copyright the Vortex contributors
 
-// What answers a line.
+// The answer to a line.
 use crate::input::Read;
 use console_commands::{Command, Row, TOPICS, Topic, find, nearest};
 use console_messages::{Sessions, messages, path_messages, typed};
@@ -143,7 +143,7 @@ impl Console {
     }
 }
 
-// Writes a line before its answer: after `> `, or as it is where nothing answers it.
+// Writes a line before its answer: after `> `, or as it is where it has no answer.
 fn echo<W: Write>(line: &[u8], is_comment: bool, output: &mut W) -> io::Result<()> {
     if !is_comment {
         output.write_all(b"> ")?;
@@ -152,7 +152,7 @@ fn echo<W: Write>(line: &[u8], is_comment: bool, output: &mut W) -> io::Result<(
     output.write_all(b"\n")
 }
 
-// Answers that there is no command of this name, by the names nearest to it.
+// Answers that there is no command of this name, with the names nearest to it.
 fn say_unknown(call: &mut Call<'_>, position: usize, word: &str) -> ConsoleResult<()> {
     call.say(expected_at(position, "a command"))?;
     write!(call.answer, ", not \"{word}\"")?;
@@ -167,7 +167,7 @@ fn say_unknown(call: &mut Call<'_>, position: usize, word: &str) -> ConsoleResul
     Ok(())
 }
 
-// Answers the topics, a line each: its name, and its commands.
+// Answers the topics, a line each: a name, and the commands.
 fn list_topics(call: &mut Call<'_>) -> ConsoleResult<()> {
     let mut is_first = true;
     for topic in TOPICS {

@@ -9,13 +9,13 @@ use std::io::{BufRead, BufReader, Result, Write};
 pub enum Read {
     /// A line, without its newline.
     Line,
-    /// A line that there is no memory for. It is read to its end.
+    /// A line for which memory doesn't suffice. It is read to its end.
     TooLong,
     /// No line: the input has ended.
     End,
 }
 
-/// Reads a line into this buffer. Where the input has no more at hand, what was written is let go first.
+/// Reads a line into this buffer, and returns what was read. Before it waits for input it flushes the output.
 pub fn read_line<R: std::io::Read + Drop, W: Write>(
     input: &mut BufReader<R>,
     output: &mut W,
@@ -42,7 +42,7 @@ pub fn read_line<R: std::io::Read + Drop, W: Write>(
     Ok(read)
 }
 
-// What is read of a line, behind what was read of it.
+// Returns what is read of a line, after an earlier part of it.
 fn kept(before: Read, is_kept: bool) -> Read {
     match before {
         Read::TooLong => Read::TooLong,

@@ -1,11 +1,12 @@
 // SPDX-License-Identifier: Apache-2.0
 // SPDX-FileCopyrightText: Copyright the Vortex contributors
 
-//! A program that makes any call of the library on values that are written down: each line of standard input is a
+//! A program that makes any call of the library on values that are written as text: each line of standard input is a
 //! command and its arguments, and is answered by a line.
 //!
-//! Begin with `console.rt`, which answers a line; the commands are in the libraries `console_types`, `console_native`,
-//! `console_paths` and `console_messages`. `docs/CONSOLE.md` has the commands and their answers.
+//! Begin with `console.rt`, which answers a line. The tables of the commands are in `console_commands`, and what answers
+//! them in the libraries `console_types`, `console_native`, `console_paths` and `console_messages`. `docs/CONSOLE.md`
+//! has the commands and their answers.
 #![tactic(auto)]
 
 use console::Console;
@@ -42,7 +43,7 @@ fn main(rt: HostRuntime) -> io::Result<()> {
     output.flush()
 }
 
-// Whether this is among the arguments. With `--echo` each line is written above its answer, so that the output can be
+// Returns whether this is among the arguments. With `--echo` each line is written above its answer, so that the output can be
 // read by itself. With `--marks` a line goes to standard error before and after each answer, by which
 // `tools/refuse_allocation.c` knows which answer an allocation belongs to.
 fn is_given<R: Env + AllocGlobal>(rt: &R, flag: &str) -> io::Result<bool> {

@@ -47,7 +47,8 @@ impl Row {
     }
 }
 
-/// A topic: the commands of one table.
+/// A topic: the commands of one table. (Each table is read by a function of its own: one constant that holds them all
+/// takes the check of a function that reads it past its limit.)
 #[derive(Clone, Copy)]
 pub enum Topic {
     Types,

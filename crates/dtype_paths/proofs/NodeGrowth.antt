@@ -7,7 +7,7 @@ use Rattle.std.specs.List.{slice_get}
 use Rattle.std.specs.Map.{lookup}
 use Rattle.std.proofs.lemmas.Bool.{cases_lt, and_from, and_parts}
 use Rattle.std.proofs.lemmas.Bool.Decides.{Decides-eqb}
-use Rattle.std.proofs.lemmas.List.{take_all, take_more}
+use Rattle.std.proofs.lemmas.List.{take_more}
 use Rattle.std.proofs.lemmas.Option.{same_Some, option_and_then_some, slice_get_within, slice_get_past, slice_get_read}
 use Rattle.dtype_paths.specs.lemmas.Cases.{by_bool}
 use Rattle.dtype_paths.specs.private.Children.{child, nodes_by_step}
@@ -16,7 +16,8 @@ use Rattle.dtype_paths.specs.EqualityLaws.{same_field-Decides}
 use Rattle.dtype_paths.specs.declared.field.Field.{Field}
 use Rattle.dtype_paths.specs.declared.node.Node.{Node}
 use Rattle.dtype_paths.specs.private.PathLists.{Gains}
-use Rattle.dtype_paths.specs.private.Trie.{child_at, terminal_at, terminals, chain_step, walk, IsAlike, IsChain, HasBranch, IsTrie, IsTrieBy}
+use Rattle.dtype_paths.specs.private.Trie.{child_at, terminal_at, terminals, chain_step, walk, IsAlike, IsChain, HasBranch, IsPrefixMatch, IsTrie, IsTrieBy}
+use Rattle.dtype_paths.specs.declared.path_match.PrefixMatch.{PrefixMatch}
 use Rattle.dtype_paths.proofs.NodeIndices.{child-left, child-right, terminal-left, terminal-right, gains, split}
 use Rattle.dtype_paths.proofs.TrieGrowth.{Ends, Grows, Leads, trie-grown, trie-finish, trie-root, walk-mono}
 
@@ -106,10 +107,18 @@ leads-from child m (x ∷ r) h =
       leads-from child (m + 1) r (λ k f. let a : m + suc k ≡ (m + 1) + k = omega arith in rw a at (h (suc k) f)),
     )
 
--- ---- the list after a path that leaves it at `here`
+-- ---- the list after a path of which a prefix was there
 
-module _ (old new : List Node) (path : List Field) (here at : ℕ) (trie : IsTrie old) (walked : walk (child_at old) 0 (take at path) ≡ Some here) (lt : at < length path)
-    (stopped : (f : Field) → slice_get path at ≡ Some f → child_at old here f ≡ None) (g : HasBranch old here path at new) where
+module _ (old new : List Node) (path : List Field) (m : PrefixMatch) (trie : IsTrie old) (prefix : IsPrefixMatch old path m) (g : HasBranch old m.here path m.len new) where
+  abbrev here : ℕ
+  here = m.here
+
+  abbrev at : ℕ
+  at = m.len
+
+  walked : walk (child_at old) 0 (take at path) ≡ Some here
+  walked = prefix.walked
+
   abbrev pub rest : List Field
   rest = drop (at + 1) path
 
@@ -126,7 +135,9 @@ module _ (old new : List Node) (path : List Field) (here at : ℕ) (trie : IsTri
   chain = g.chain
 
   stop : child_at old here g.step ≡ None
-  stop = stopped g.step g.first
+  stop =
+      let is : prefix.step ≡ g.step = let q = sym prefix.next ∙ g.first in same_Some prefix.step g.step q in
+      rw (← is) prefix.none
 
   long : length new ≡ length old + length g.tail
   long = g.long
@@ -205,7 +216,7 @@ module _ (old new : List Node) (path : List Field) (here at : ℕ) (trie : IsTri
           gap_of i m h = (i - m, omega arith)
 
   parted : path ≡ take at path ++ x ∷ rest
-  parted = let s = split path at lt in let e : Some s.0 ≡ Some x = sym s.2 ∙ part in let is : s.0 ≡ x = same_Some s.0 x e in let one : suc at ≡ at + 1 = omega arith in s.3 ∙ rw (is, s.4, one) refl
+  parted = let s = split path at (slice_get_within path at prefix.step prefix.next) in let e : Some s.0 ≡ Some x = sym s.2 ∙ part in let is : s.0 ≡ x = same_Some s.0 x e in let one : suc at ≡ at + 1 = omega arith in s.3 ∙ rw (is, s.4, one) refl
 
   pub nodes-grown : IsTrie new
   nodes-grown =
@@ -239,9 +250,6 @@ nodes-same old new t a = record {
 
     back : (i j : ℕ) (p : List Field) → walk (child_at old) i p ≡ Some j → walk (child_at new) i p ≡ Some j
     back i j p h = walk-mono (child_at old) (child_at new) (λ k f b e. a.steps k f ∙ e) i j p h
-
-pub whole-walk : (nodes : List Node) (path : List Field) (here at : ℕ) → at ≡ length path → walk (child_at nodes) 0 (take at path) ≡ Some here → walk (child_at nodes) 0 path ≡ Some here
-whole-walk nodes path here at e w = subst (λ p. walk (child_at nodes) 0 p ≡ Some here) (take_all at path (omega (arith, e))) w
 
 -- ---- the list where the path ends in a node that is there
 

@@ -5,10 +5,10 @@
 use Rattle.std.proofs.Common.{ℕ, suc, zero, ◌+◌, ◌<◌, ◌≤◌, length, take, drop, get_or, map, append-nil, is_some, subst, Decides, ◌≡◌, ◌⊎◌, Bool, true, false, ◌&&◌, List, [], ◌∷◌, ◌++◌, Option, Some, None, option_and_then, inl, inr, refl, sym, ap, ◌∙◌, arith, ⊎_elim}
 use Rattle.std.specs.List.{slice_get, Contains, IsDistinct, AllByRecursion, cons_option}
 use Rattle.std.proofs.lemmas.List.Elements.{filter_map-append, Contains-append_left, Contains-append_right, Contains-append_cases, Contains-push, Contains-push_cases}
-use Rattle.std.proofs.lemmas.List.{map-append, take_all}
+use Rattle.std.proofs.lemmas.List.{map-append}
 use Rattle.std.proofs.lemmas.Map.Keys.{IsDistinct-cons}
 use Rattle.std.proofs.lemmas.Bool.{cases_lt}
-use Rattle.std.proofs.lemmas.Option.{same_Some, slice_get_read}
+use Rattle.std.proofs.lemmas.Option.{same_Some, slice_get_read, slice_get_within}
 use Rattle.dtype_paths.proofs.DistinctLists.{IsDistinct-nil}
 use Rattle.dtype_paths.specs.lemmas.Cases.{by_bool}
 use Rattle.dtype_paths.specs.private.Children.{child}
@@ -17,7 +17,8 @@ use Rattle.dtype_paths.specs.EqualityLaws.{same_path-Decides}
 use Rattle.dtype_paths.specs.private.PathLists.{Gains}
 use Rattle.dtype_paths.specs.declared.field.Field.{Field}
 use Rattle.dtype_paths.specs.declared.node.Node.{Node}
-use Rattle.dtype_paths.specs.private.Trie.{child_at, terminal_at, terminals, walk, IsTrie, IsTrieBy}
+use Rattle.dtype_paths.specs.private.Trie.{child_at, terminal_at, terminals, walk, IsPrefixMatch, IsTrie, IsTrieBy}
+use Rattle.dtype_paths.specs.declared.path_match.PrefixMatch.{PrefixMatch}
 use Rattle.dtype_paths.proofs.TrieGrowth.{Ends, walk-append}
 
 -- ---- a node index in a longer list
@@ -48,9 +49,12 @@ terminal-left xs ys i h = ap (λ o. option_and_then (λ n. n.terminal) o) (slice
 pub terminal-right : (xs ys : List Node) (k : ℕ) → terminal_at (xs ++ ys) (length xs + k) ≡ terminal_at ys k
 terminal-right xs ys k = ap (λ o. option_and_then (λ n. n.terminal) o) (slice_get-right xs ys k)
 
--- what is read of a path
-pub read-step : (path : List Field) (at : ℕ) (x step : Field) → at < length path → x ≡ get_or path at x → step ≡ x → slice_get path at ≡ Some step
-read-step path at x step lt is same = slice_get_read path (length path) at x refl lt is ∙ ap Some (sym same)
+-- what is read of a path after its prefix
+pub next-step : (nodes : List Node) (path : List Field) (m : PrefixMatch) (prefix : IsPrefixMatch nodes path m) (x step : Field) → x ≡ get_or path m.len x → step ≡ x → (slice_get path m.len ≡ Some step) × (prefix.step ≡ step)
+next-step nodes path m prefix x step is same =
+    let lt = slice_get_within path m.len prefix.step prefix.next in
+    let read : slice_get path m.len ≡ Some step = slice_get_read path (length path) m.len x refl lt is ∙ ap Some (sym same) in
+    let q = sym prefix.next ∙ read in (read, same_Some prefix.step step q)
 
 -- ---- the list of the paths that end in nodes
 
@@ -130,41 +134,33 @@ split [] at h = absurd (omega (arith, h))
 split (x ∷ p) zero h = (x, p, refl, refl, refl)
 split (x ∷ p) (suc at) h = let w = split p at (omega (arith, h)) in (w.0, w.1, w.2, ap (λ q. x ∷ q) w.3, w.4)
 
-module _ (nodes : List Node) (path : List Field) (here at : ℕ) (t : IsTrie nodes) (w : walk (child_at nodes) 0 (take at path) ≡ Some here) (within : at ≤ length path)
-    (stop : (f : Field) → slice_get path at ≡ Some f → child_at nodes here f ≡ None) where
-  -- a path that leads to no node ends in none
-  stopped : at < length path → (i : ℕ) → walk (child_at nodes) 0 path ≡ Some i → ⊥
-  stopped lt i v =
-      let s = split path at lt in
-      let e : walk (child_at nodes) here (s.0 ∷ s.1) ≡ Some i = sym (walk-append (child_at nodes) 0 here (take at path) (s.0 ∷ s.1) w) ∙ rw (← s.3) v in
-      let n = stop s.0 s.2 in let z : None ≡ Some i = rw n at e in cc
-
-  whole : at ≡ length path → walk (child_at nodes) 0 path ≡ Some here
-  whole e = subst (λ p. walk (child_at nodes) 0 p ≡ Some here) (take_all at path (omega (arith, e))) w
-
-  pub contains-walk : (b c : Bool) → Decides b (at ≡ length path) → c ≡ is_some (terminal_at nodes here) → Decides (b && c) (Contains (terminals nodes) path)
-  contains-walk b c d e = (to b c d e, from b c d e)
+module _ (nodes : List Node) (path : List Field) (t : IsTrie nodes) where
+  pub contains-whole : (here : ℕ) → walk (child_at nodes) 0 path ≡ Some here → (c : Bool) → c ≡ is_some (terminal_at nodes here) → Decides c (Contains (terminals nodes) path)
+  contains-whole here w c e = (to, from)
     where
-      to : (b c : Bool) → Decides b (at ≡ length path) → c ≡ is_some (terminal_at nodes here) → (b && c) ≡ true → Contains (terminals nodes) path
-      to true c d e h = go (terminal_at nodes here) refl
+      to : c ≡ true → Contains (terminals nodes) path
+      to h = go (terminal_at nodes here) refl
         where
           go : (o : Option (List Field)) → terminal_at nodes here ≡ o → Contains (terminals nodes) path
-          go None z = let f : c ≡ is_some (terminal_at nodes here) = e in absurd (cc)
-          go (Some q) z = let is : q ≡ path = t.once q path here (t.own here q z) (whole (d.0 refl)) in of-terminal nodes here path (z ∙ ap Some is)
-      to false c d e h = absurd (cc)
+          go None z = absurd (cc)
+          go (Some q) z = let is : q ≡ path = t.once q path here (t.own here q z) w in of-terminal nodes here path (z ∙ ap Some is)
 
-      from : (b c : Bool) → Decides b (at ≡ length path) → c ≡ is_some (terminal_at nodes here) → Contains (terminals nodes) path → (b && c) ≡ true
-      from b c d e m =
+      from : Contains (terminals nodes) path → c ≡ true
+      from m =
           let z = terminal-of nodes path m in
-          let v = t.own z.0 path z.1 in
-          ⊎_elim
-          (λ lt. absurd (stopped lt z.0 v))
-          (λ ge.
-          let is : at ≡ length path = omega arith in
-          let same : z.0 ≡ here = let q = sym v ∙ whole is in same_Some z.0 here q in
+          let same : z.0 ≡ here = let q = sym (t.own z.0 path z.1) ∙ w in same_Some z.0 here q in
           let some : terminal_at nodes here ≡ Some path = ap (terminal_at nodes) (sym same) ∙ z.1 in
-          rw (d.1 is, e, some) refl)
-          (cases_lt at (length path))
+          rw (e, some) refl
+
+  -- a path that leads to no node ends in none
+  pub contains-no_more : (m : PrefixMatch) → IsPrefixMatch nodes path m → Contains (terminals nodes) path → ⊥
+  contains-no_more m prefix c =
+      let s = split path m.len (slice_get_within path m.len prefix.step prefix.next) in
+      let z = terminal-of nodes path c in
+      let e : walk (child_at nodes) m.here (s.0 ∷ s.1) ≡ Some z.0 = sym (walk-append (child_at nodes) 0 m.here (take m.len path) (s.0 ∷ s.1) prefix.walked) ∙ rw (← s.3) (t.own z.0 path z.1) in
+      let is : s.0 ≡ prefix.step = let q = sym s.2 ∙ prefix.next in same_Some s.0 prefix.step q in
+      let n : child_at nodes m.here s.0 ≡ None = rw is prefix.none in
+      let y : None ≡ Some z.0 = rw n at e in cc
 
 -- ---- the paths that end in nodes, node by node
 

@@ -2,7 +2,7 @@
 -- SPDX-FileCopyrightText: Copyright the Vortex contributors
 
 -- A list of nodes in which one is changed.
-use Rattle.std.proofs.Common.{ℕ, suc, zero, ◌≡◌, ◌≢◌, ◌∙◌, ◌==◌, ◌&&◌, cond, List, [], ◌∷◌, Option, Some, option_and_then, set, refl, ap, Result, OnOk, OnErr}
+use Rattle.std.proofs.Common.{ℕ, suc, zero, ◌≡◌, ◌≢◌, ◌∙◌, ◌==◌, ◌&&◌, cond, List, [], ◌∷◌, Option, Some, option_and_then, set, refl, ap}
 use Rattle.std.specs.List.{slice_get}
 use Rattle.std.proofs.lemmas.Bool.Decides.{Decides-eqb}
 use Rattle.dtype_paths.specs.private.Children.{child}
@@ -11,7 +11,6 @@ use Rattle.dtype_paths.specs.private.Trie.{child_at}
 use Rattle.dtype_paths.specs.declared.field.Field.{Field}
 use Rattle.dtype_paths.specs.declared.node.Node.{Node}
 use Rattle.dtype_paths.specs.lemmas.Cases.{by_bool}
-use Rattle.std.proofs.lemmas.Result.{on_err_weaker, on_ok_weaker}
 
 module _ {A B : Type 0} (f : A → Option B) where
   read-set_same : (xs : List A) (i : ℕ) (x y : A) → slice_get xs i ≡ Some x → option_and_then f (slice_get (set xs i y) i) ≡ f y
@@ -43,16 +42,3 @@ pub child-led : (xs : List Node) (i : ℕ) (m n : Node) (x : Field) (node_index 
     → (j : ℕ) (f : Field) → child_at (set xs i n) j f ≡ cond (j == i && same_field x f) (Some node_index) (child_at xs j f)
 child-led xs i m n x node_index h up j f =
     read-set (λ k. child k.children f) xs i m n h j ∙ by_bool (j == i) (λ e. let is : j ≡ i = (Decides-eqb j i).0 e in rw (e, is, h) (up f)) (λ e. rw e refl)
-
--- the same of a root and the nodes after it, where one of these is changed
-module _ {T E : Type 0} (r : Result T E) (old rest : List Node) (root : Node) (is : root ∷ rest ≡ old) where
-  pub after-led : (m n : Node) (here after : ℕ) (x : Field) (node_index : ℕ) → here ≡ suc after → slice_get rest after ≡ Some m → OnOk r ((f : Field) → child n.children f ≡ cond (same_field x f) (Some node_index) (child m.children f))
-      → OnOk r ((i : ℕ) (f : Field) → child_at (root ∷ set rest after n) i f ≡ cond (i == here && same_field x f) (Some node_index) (child_at old i f))
-  after-led m n here after x node_index at there up = rw (at, ← is) (on_ok_weaker r (λ u. child-led (root ∷ rest) (suc after) m n x node_index there u) up)
-
-  pub after-same : (m n : Node) (after : ℕ) → slice_get rest after ≡ Some m → OnErr r ((f : Field) → child n.children f ≡ child m.children f)
-      → OnErr r ((i : ℕ) (f : Field) → child_at (root ∷ set rest after n) i f ≡ child_at old i f)
-  after-same m n after there up = rw (← is) (on_err_weaker r (λ u i f. read-kept (λ k. child k.children f) (root ∷ rest) (suc after) m n there (u f) i) up)
-
-  pub root-same : (n : Node) → OnErr r ((f : Field) → child n.children f ≡ child root.children f) → OnErr r ((i : ℕ) (f : Field) → child_at (n ∷ rest) i f ≡ child_at old i f)
-  root-same n up = rw (← is) (on_err_weaker r (λ u i f. read-kept (λ k. child k.children f) (root ∷ rest) 0 root n refl (u f) i) up)

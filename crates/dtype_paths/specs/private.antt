@@ -8,3 +8,4 @@ pub mod ChildLists
 pub mod ChildTrees
 pub mod Children
 pub mod Trie
+pub mod Lending

@@ -5,11 +5,13 @@ ghost use Rattle.std.specs.Prelude.{◌≡◌, ◌↔◌, ◌≤◌, ◌++◌, [
 ghost use Rattle.std.specs.List.{IsDistinct};
 ghost use Rattle.std.specs.Map.{keys_of, lookup, values_of};
 ghost use Rattle.dtype_base.specs.declared.vortex_error.VortexError.TheVariants.{OutOfMemory};
+ghost use Rattle.dtype_paths.specs.private.Children.{entry_node, HasKnownKey};
 ghost use Rattle.dtype_paths.specs.Equality.{same_field};
 ghost use Rattle.dtype_paths.specs.declared.field.Field.{Field};
 
 use crate::Field;
 use crate::child_tree::ChildTree;
+use crate::entry::Entry;
 use dtype_base::VortexResult;
 use std::alloc::Global;
 use std::collections::HashMap;
@@ -44,11 +46,15 @@ impl ChildMap {
         })
     }
 
-    // The node that the step leads to.
-    pub(crate) fn get(&self, step: &Field) -> Option<usize>
-        ensures { result ≡ lookup (same_field step.now) self.now }
+    // The entry of the step.
+    pub(crate) fn entry(&self, step: &Field) -> Entry
+        ensures node { entry_node result ≡ lookup (same_field step.now) self.now }
+        ensures key { HasKnownKey result step.now }
     {
-        self.node_indices.get(step).copied()
+        match self.node_indices.get(step) {
+            Some(node_index) => Entry::Occupied(*node_index),
+            None => Entry::Vacant(None),
+        }
     }
 
     // Whether one more child goes into a tree.
@@ -101,7 +107,7 @@ impl ChildMap {
     {
         let mut tree = ChildTree::new(alloc);
         for (step, node_index) in self.node_indices.iter() {
-            tree.insert(step.try_clone(alloc)?, *node_index)?;
+            tree.insert(step.try_clone(alloc)?, None, *node_index)?;
         }
         Ok(tree)
     }

@@ -1,20 +1,22 @@
 // SPDX-License-Identifier: Apache-2.0
 // SPDX-FileCopyrightText: Copyright the Vortex contributors
 
-ghost use Rattle.std.specs.Prelude.{◌≡◌, ◌++◌, ℕ, [], Some, IfErr, IsOkUnless, OnOk, IsTrue, false, if◌then◌else◌, MatchResult};
+ghost use Rattle.std.specs.Prelude.{◌≡◌, ◌++◌, ℕ, [], Option, Some, IfErr, IsOkUnless, OnOk, IsTrue, false, if◌then◌else◌, MatchResult};
 ghost use Rattle.std.specs.BTreeMap.{is_at, values, IsOrdered};
 ghost use Rattle.std.specs.List.{IsDistinct};
 ghost use Rattle.std.specs.Map.{keys_of, lookup, values_of};
 ghost use Rattle.std.specs.Ordering.{nat_cmp};
 ghost use Rattle.dtype_base.specs.declared.vortex_error.VortexError.TheVariants.{OutOfMemory};
 ghost use Rattle.dtype_paths.specs.private.ChildTrees.{at_key, led_by, IsFirst, IsTaken};
+ghost use Rattle.dtype_paths.specs.private.Children.{entry_node, HasKnownKey};
 ghost use Rattle.dtype_paths.specs.Equality.{same_field};
 ghost use Rattle.dtype_paths.specs.PathOrder.{field_cmp};
-ghost use Rattle.dtype_paths.specs.private.StepKeys.{step_key};
+ghost use Rattle.dtype_paths.specs.private.StepKeys.{step_key, IsKnownKey, IsStepKey};
 ghost use Rattle.dtype_paths.specs.declared.field.Field.{Field};
 
 use crate::Field;
-use crate::step_key::step_key_of;
+use crate::entry::Entry;
+use crate::step_key::{known_key, step_key_of};
 use dtype_base::VortexResult;
 use std::alloc::Global;
 use std::collections::BTreeMap;
@@ -51,23 +53,34 @@ impl ChildTree {
         }
     }
 
-    // The node that the step leads to.
-    pub(crate) fn get(&self, step: &Field) -> Option<usize>
-        ensures { result ≡ lookup (same_field step.now) self.now }
+    // The entry of the step.
+    pub(crate) fn entry(&self, step: &Field) -> Entry
+        ensures node { entry_node result ≡ lookup (same_field step.now) self.now }
+        ensures key { HasKnownKey result step.now }
     {
-        match found_at_key(&self.by_key, step) {
-            Some(node_index) => Some(node_index),
-            None => self.by_step.get(step).copied(),
+        let key = step_key_of(step);
+        if let Some(node_index) = found_at_key(&self.by_key, key, step) {
+            return Entry::Occupied(node_index);
+        }
+        match self.by_step.get(step) {
+            Some(node_index) => Entry::Occupied(*node_index),
+            None => Entry::Vacant(Some(key)),
         }
     }
 
-    // Lets the step lead to a node. After an error the children are unchanged.
-    pub(crate) fn insert(&mut self, step: Field, node_index: usize) -> VortexResult<()>
+    // Lets the step lead to a node. Its key is made if it isn't known. After an error the children are unchanged.
+    pub(crate) fn insert(
+        &mut self,
+        step: Field,
+        key: Option<u64>,
+        node_index: usize,
+    ) -> VortexResult<()>
+        requires { IsKnownKey key step }
         ensures ok { OnOk result ((f : Field) → lookup (same_field f) self.new
             ≡ (if same_field step f then Some node_index else lookup (same_field f) self.old)) }
         ensures refused { IfErr result (λ e. (e ≡ OutOfMemory) × (self.new ≡ self.old)) }
     {
-        let key = step_key_of(&step);
+        let key = known_key(key, &step);
         if is_taken(&self.by_key, key, &step) {
             self.by_step.insert(step, node_index)?;
         } else {
@@ -98,10 +111,11 @@ impl ChildTree {
 }
 
 // The node that the step leads to, if the step at its key is this one.
-fn found_at_key(by_key: &BTreeMap<u64, (Field, usize)>, step: &Field) -> Option<usize>
+fn found_at_key(by_key: &BTreeMap<u64, (Field, usize)>, key: u64, step: &Field) -> Option<usize>
+    requires { key ≡ step_key step.now }
     ensures { result ≡ led_by step.now (at_key by_key.now.entries (step_key step.now)) }
 {
-    let (first, node_index) = by_key.get(&step_key_of(step))?;
+    let (first, node_index) = by_key.get(&key)?;
     if first == step {
         Some(*node_index)
     } else {

@@ -1,16 +1,20 @@
 // SPDX-License-Identifier: Apache-2.0
 // SPDX-FileCopyrightText: Copyright the Vortex contributors
 
-ghost use Rattle.std.specs.Prelude.{◌≡◌, ◌≢◌, ◌≤◌, ◌<◌, ◌+◌, ◌==◌, ◌&&◌, ◌^◌, ◌++◌, [], ◌∷◌, List, ℕ, None, Some, length, drop, take, slice_get, map, min, is_some, if◌then◌else◌, IfOk, IsOkUnless, OnErr, OnOk, MatchResult};
+ghost use Rattle.std.specs.Prelude.{◌≡◌, ◌≢◌, ◌≤◌, ◌<◌, ◌+◌, ◌==◌, ◌&&◌, ◌^◌, ◌++◌, [], ◌∷◌, List, ℕ, Option, None, Some, length, drop, take, slice_get, map, min, is_some, if◌then◌else◌, IfOk, IsOkUnless, OnErr, OnOk, MatchResult};
+ghost use Rattle.std.specs.Borrow.{sem};
 ghost use Rattle.dtype_base.specs.declared.vortex_error.VortexError.TheVariants.{OutOfMemory};
 ghost use Rattle.dtype_paths.specs.private.Children.{child, nodes_by_step};
+ghost use Rattle.dtype_paths.specs.private.Lending.{LendsNode};
+ghost use Rattle.dtype_paths.specs.private.StepKeys.{IsKnownKey};
 ghost use Rattle.dtype_paths.specs.Equality.{same_field};
-ghost use Rattle.dtype_paths.specs.private.Trie.{child_at, terminal_at, terminals, IsAlike, IsChain, HasBranch, IsExtended};
+ghost use Rattle.dtype_paths.specs.private.Trie.{child_at, terminal_at, terminals, IsAlike, IsChain, HasBranch, IsExtended, IsPrefixMatch};
 ghost use Rattle.dtype_paths.specs.declared.field.Field.{Field};
 ghost use Rattle.dtype_paths.specs.declared.node.Node.{Node};
 
 use crate::children::Children;
 use crate::node::Node;
+use crate::path_match::PrefixMatch;
 use crate::{Field, FieldPath};
 use dtype_base::VortexResult;
 use std::alloc::Global;
@@ -66,14 +70,6 @@ impl Nodes {
         self.rest.len() + 1
     }
 
-    // The child of a node by this step.
-    pub(crate) fn child(&self, node_index: usize, step: &Field) -> Option<usize>
-        requires { node_index < length self.now }
-        ensures { result ≡ child_at self.now node_index step.now }
-    {
-        self.at(node_index).child(step)
-    }
-
     // Whether a path ends in the node.
     pub(crate) fn is_terminal(&self, node_index: usize) -> bool
         requires { node_index < length self.now }
@@ -82,15 +78,27 @@ impl Nodes {
         self.at(node_index).terminal().is_some()
     }
 
-    // The node of this index. Calls that change a node repeat the match: a `&mut Node` out of either of the two fields
-    // would need a definition of its own of what it borrows (`Lends`).
-    fn at(&self, node_index: usize) -> &Node
+    // The node of this index.
+    pub(crate) fn at(&self, node_index: usize) -> &Node
         requires { node_index < length self.now }
         ensures { slice_get self.now node_index ≡ Some result.now }
     {
         match node_index.checked_sub(1) {
             Some(in_rest) => &self.rest[in_rest],
             None => &self.root,
+        }
+    }
+
+    // The node of this index, to be changed.
+    fn at_mut(&mut self, node_index: usize) -> &mut Node
+        requires { node_index < length self.old }
+        ensures* writes_back { sem 𝓛 (LendsNode self.entry node_index result) }
+        ensures value { slice_get self.old node_index ≡ Some result.now }
+        ensures fits { length self.old ≤ u64.MAX }
+    {
+        match node_index.checked_sub(1) {
+            Some(in_rest) => &mut self.rest[in_rest],
+            None => &mut self.root,
         }
     }
 
@@ -101,33 +109,27 @@ impl Nodes {
         ensures steps { (i : ℕ) (f : Field) → child_at self.new i f ≡ child_at self.old i f }
         ensures terminals { (i : ℕ) → terminal_at self.new i ≡ (if i == node_index then Some path else terminal_at self.old i) }
     {
-        match node_index.checked_sub(1) {
-            Some(in_rest) => self.rest[in_rest].set_terminal(path),
-            None => self.root.set_terminal(path),
-        }
+        self.at_mut(node_index).set_terminal(path);
     }
 
-    // Appends the branch of the path that leaves the trie at the node `here`: a chain of nodes, one for each step from
-    // the step `at` on, of which the last is the path's terminal. The branch becomes a child of `here` last, so that
-    // after an error no node leads to what was appended; some of it may be there then.
+    // Appends the branch of the path after its prefix that is there: a chain of nodes, one for each further step, of
+    // which the last is the path's terminal. The branch becomes a child of the prefix's node last, so that after an
+    // error no node leads to what was appended; some of it may be there then.
     pub(crate) fn append_branch(
         &mut self,
         alloc: Global,
-        here: usize,
         path: FieldPath,
-        at: usize,
+        prefix: PrefixMatch,
     ) -> VortexResult<()>
-        requires node_index { here < length self.old }
-        requires step { at < length path }
-        requires none { (f : Field) → slice_get path at ≡ Some f → child_at self.old here f ≡ None }
-        ensures ok { OnOk result (HasBranch self.old here path at self.new) }
+        requires { IsPrefixMatch self.old path prefix }
+        ensures ok { OnOk result (HasBranch self.old prefix.here path prefix.len self.new) }
         ensures err { OnErr result (IsExtended self.old self.new) }
         ensures refused { IsOkUnless result OutOfMemory }
     {
-        let step = path.parts()[at].try_clone(alloc)?;
+        let step = path.parts()[prefix.len].try_clone(alloc)?;
         let first = self.len();
-        self.push_chain(alloc, path, at + 1)?;
-        self.add_child(alloc, here, step, first)
+        self.push_chain(alloc, path, prefix.len + 1)?;
+        self.add_child(alloc, prefix.here, step, prefix.key, first)
     }
 
     // Appends the chain of nodes that leads along the steps of the path from the step `at` on, and ends in its
@@ -149,15 +151,18 @@ impl Nodes {
         Ok(())
     }
 
-    // Adds a child to the node `here`, by a step that it has none for. After an error the children are unchanged.
+    // Adds a child to the node `here`, by a step that it has none for, and its key where it is known. After an error the
+    // children are unchanged.
     fn add_child(
         &mut self,
         alloc: Global,
         here: usize,
         step: Field,
+        key: Option<u64>,
         node_index: usize,
     ) -> VortexResult<()>
         requires node_index { here < length self.old }
+        requires key { IsKnownKey key step }
         requires none { child_at self.old here step ≡ None }
         ensures long { length self.new ≡ length self.old }
         ensures terminals { (i : ℕ) → terminal_at self.new i ≡ terminal_at self.old i }
@@ -166,10 +171,7 @@ impl Nodes {
         ensures err { OnErr result ((i : ℕ) (f : Field) → child_at self.new i f ≡ child_at self.old i f) }
         ensures refused { IsOkUnless result OutOfMemory }
     {
-        match here.checked_sub(1) {
-            Some(in_rest) => self.rest[in_rest].add_child(alloc, step, node_index),
-            None => self.root.add_child(alloc, step, node_index),
-        }
+        self.at_mut(here).add_child(alloc, step, key, node_index)
     }
 
     // Keeps the first nodes, this many, and drops the others.
@@ -197,11 +199,7 @@ impl Nodes {
         ensures visited { visits.new ≡ min (visits.old + 1) u64.MAX }
         ensures fits { length self.old ≤ u64.MAX }
     {
-        let node = match node_index.checked_sub(1) {
-            Some(in_rest) => mem::replace(&mut self.rest[in_rest], Node::empty()),
-            None => mem::replace(&mut self.root, Node::empty()),
-        };
-        node.open(visits)
+        mem::replace(self.at_mut(node_index), Node::empty()).open(visits)
     }
 
     // References to the paths that end in nodes.

@@ -2,83 +2,84 @@
 -- SPDX-FileCopyrightText: Copyright the Vortex contributors
 
 -- Steps with different keys are different, and short names with equal keys are equal.
-use Rattle.std.proofs.Common.{◌≡◌, ◌≢◌, ◌≤◌, ◌<◌, ◌+◌, ◌-◌, ℕ, zero, suc, true, false, List, [], ◌∷◌, length, get_or, drop, min, refl, sym, ap, ◌∙◌, arith, w64}
-use Rattle.std.specs.Int.{to_be_bytes}
-use Rattle.std.specs.Prelude.{slice_index}
-use Rattle.std.proofs.lemmas.Grind.{same_number_lists}
-use Rattle.std.proofs.lemmas.List.{get_or-drop}
+use Rattle.std.proofs.Common.{◌≡◌, ◌≢◌, ◌≤◌, ◌<◌, ◌+◌, ◌-◌, ◌*◌, ℕ, zero, suc, true, false, List, [], ◌∷◌, length, length-drop, get_or, drop, take, min, refl, sym, ap, arith}
+use Rattle.std.proofs.lemmas.List.{get_or-drop, take_all}
 use Rattle.std.proofs.lemmas.List.Elements.{All-tail}
-use Rattle.std.proofs.lemmas.Nat.{be_bytes_8}
 use Rattle.dtype_base.specs.Bytes.{Bytes}
 use Rattle.dtype_paths.specs.Equality.{same_field}
 use Rattle.dtype_paths.specs.EqualityLaws.{same_field-Decides}
-use Rattle.dtype_paths.specs.private.StepKeys.{name_step_key, seven_and, step_key, HasBytes, IsExactKey}
+use Rattle.dtype_paths.specs.private.StepKeys.{name_step_key, step_key, with_bytes, HasBytes, IsExactKey}
 use Rattle.dtype_paths.specs.declared.field.Field.{Field}
 use Rattle.dtype_paths.specs.declared.field.Field.TheVariants.{Name, ElementType}
 use Rattle.dtype_paths.specs.lemmas.Cases.{by_bool}
 
--- the first seven bytes
-at_seven : (bs : List ℕ) (k i : ℕ) → i < 7 → get_or (seven_and bs k) i 0 ≡ slice_index bs i
-at_seven bs k zero h = refl
-at_seven bs k (suc zero) h = refl
-at_seven bs k (suc (suc zero)) h = refl
-at_seven bs k (suc (suc (suc zero))) h = refl
-at_seven bs k (suc (suc (suc (suc zero)))) h = refl
-at_seven bs k (suc (suc (suc (suc (suc zero))))) h = refl
-at_seven bs k (suc (suc (suc (suc (suc (suc zero)))))) h = refl
-at_seven bs k (suc (suc (suc (suc (suc (suc (suc i))))))) h = absurd (omega arith)
+-- ---- the bytes of a number that is made byte by byte
 
-byte : (bs : List ℕ) (i : ℕ) → Bytes bs → slice_index bs i < 256
-byte [] i h = omega arith
-byte (b ∷ bs) zero h = h 0 b (omega arith)
-byte (b ∷ bs) (suc i) h = byte bs i (All-tail (λ c. c < 256) b bs h)
+-- numbers of so many bytes are less than this
+abbrev pub room : ℕ → ℕ
+room zero = 1
+room (suc i) = room i * 256
 
-later_byte : (s : ℕ) (bs : List ℕ) → Bytes bs → (i : ℕ) → slice_index (drop s bs) i < 256
-later_byte s bs h i = rw (get_or-drop s bs i 0) (byte bs (s + i) h)
+pub room-more : (k b i : ℕ) → k < room i → b < 256 → k * 256 + b < room (i + 1)
+room-more k b i h l = let one : i + 1 ≡ suc i = omega arith in rw one (omega (arith, h, l))
 
-all_bytes : (bs : List ℕ) (k : ℕ) → ((i : ℕ) → slice_index bs i < 256) → k < 256 → (i : ℕ) → get_or (seven_and bs k) i 0 < 256
-all_bytes bs k h l zero = h 0
-all_bytes bs k h l (suc zero) = h 1
-all_bytes bs k h l (suc (suc zero)) = h 2
-all_bytes bs k h l (suc (suc (suc zero))) = h 3
-all_bytes bs k h l (suc (suc (suc (suc zero)))) = h 4
-all_bytes bs k h l (suc (suc (suc (suc (suc zero))))) = h 5
-all_bytes bs k h l (suc (suc (suc (suc (suc (suc zero)))))) = h 6
-all_bytes bs k h l (suc (suc (suc (suc (suc (suc (suc zero))))))) = l
-all_bytes bs k h l (suc (suc (suc (suc (suc (suc (suc (suc i)))))))) = omega arith
+room-seven : (k i : ℕ) → k < room i → i ≤ 7 → k < 72057594037927936
+room-seven k zero h l = omega (arith, h)
+room-seven k (suc zero) h l = omega (arith, h)
+room-seven k (suc (suc zero)) h l = omega (arith, h)
+room-seven k (suc (suc (suc zero))) h l = omega (arith, h)
+room-seven k (suc (suc (suc (suc zero)))) h l = omega (arith, h)
+room-seven k (suc (suc (suc (suc (suc zero))))) h l = omega (arith, h)
+room-seven k (suc (suc (suc (suc (suc (suc zero)))))) h l = omega (arith, h)
+room-seven k (suc (suc (suc (suc (suc (suc (suc zero))))))) h l = omega (arith, h)
+room-seven k (suc (suc (suc (suc (suc (suc (suc (suc i)))))))) h l = absurd (omega (arith, l))
 
--- the bytes of a key
-abbrev key_list : Field → List ℕ
-key_list (Name n) = seven_and (drop (length n - 7) n) (min (length n) 8)
-key_list ElementType = seven_and [] 9
+-- the last seven bytes, or all
+last-bytes : (n : List ℕ) (s : ℕ) → s ≡ length n - 7 → (take (length n - s) (drop s n) ≡ drop s n) × (length (take (length n - s) (drop s n)) ≤ 7)
+last-bytes n s e =
+    let whole = take_all (length n - s) (drop s n) (omega (arith, length-drop s n)) in
+    (whole, omega (arith, e, ap length whole, length-drop s n))
 
-key-bytes : (f : Field) → HasBytes f → to_be_bytes w64 (step_key f) ≡ key_list f
-unfolding step_key name_step_key HasBytes
-key-bytes (Name n) h = be_bytes_8 (key_list (Name n)) (name_step_key n) refl (all_bytes (drop (length n - 7) n) (min (length n) 8) (later_byte (length n - 7) n h) (omega arith)) refl
-key-bytes ElementType h = be_bytes_8 (key_list ElementType) 9 refl (all_bytes [] 9 (λ i. omega arith) (omega arith)) refl
+pub seven_bytes : (n : List ℕ) (s i k : ℕ) → s ≡ length n - 7 → i ≤ length (take (length n - s) (drop s n)) → k < room i → k < 72057594037927936
+seven_bytes n s i k e few small = let w = last-bytes n s e in room-seven k i small (omega (arith, few, w.1))
 
-short : (m n : List ℕ) (k l : ℕ) → length m ≡ length n → length m ≤ 7 → seven_and m k ≡ seven_and n l → m ≡ n
-short m n k l e s h =
-    same_number_lists m n e
-    (λ i lt. sym (at_seven m k i (omega (arith, lt))) ∙ ap (λ bs. get_or bs i 0) h ∙ at_seven n l i (omega (arith, lt)))
+pub last_byte : (n : List ℕ) (s i b : ℕ) → s ≡ length n - 7 → b ≡ get_or (take (length n - s) (drop s n)) i 0 → ((k : ℕ) → get_or n k 0 < 256) → b < 256
+last_byte n s i b e is bytes = rw (is, (last-bytes n s e).0, get_or-drop s n i 0) (bytes (s + i))
 
-told : (f g : Field) → IsExactKey f → key_list f ≡ key_list g → f ≡ g
-unfolding IsExactKey
-told (Name m) (Name n) s h =
-    let counts : min (length m) 8 ≡ min (length n) 8 = ap (λ bs. get_or bs 7 0) h in
-    let long : length m ≡ length n = omega (arith, s, counts) in
+-- as many bytes that make the same number are the same
+same_bytes : (k j : ℕ) (m n : List ℕ) → length m ≡ length n → Bytes m → Bytes n → with_bytes k m ≡ with_bytes j n → (k ≡ j) × (m ≡ n)
+same_bytes k j [] [] long hm hn e = (e, refl)
+same_bytes k j [] (c ∷ n) long hm hn e = absurd (omega (arith, long))
+same_bytes k j (b ∷ m) [] long hm hn e = absurd (omega (arith, long))
+same_bytes k j (b ∷ m) (c ∷ n) long hm hn e =
+    let w = same_bytes (k * 256 + b) (j * 256 + c) m n (omega (arith, long)) (All-tail (λ d. d < 256) b m hm) (All-tail (λ d. d < 256) c n hn) e in
+    let sum : k * 256 + b ≡ j * 256 + c = w.0 in
+    let less_b : b < 256 = hm 0 b (omega arith) in
+    let less_c : c < 256 = hn 0 c (omega arith) in
+    let first : b ≡ c = omega (arith, sum, less_b, less_c) in
+    (omega (arith, sum, less_b, less_c), λ i. (first i ∷ w.1 i))
+
+-- ---- keys
+
+told : (f g : Field) → HasBytes f → HasBytes g → IsExactKey f → step_key f ≡ step_key g → f ≡ g
+unfolding step_key name_step_key HasBytes IsExactKey
+told (Name m) (Name n) hm hn s e =
+    let last_m = with_bytes 0 (drop (length m - 7) m) in let last_n = with_bytes 0 (drop (length n - 7) n) in
+    let sum : last_m * 256 + min (length m) 8 ≡ last_n * 256 + min (length n) 8 = e in
+    let long : length m ≡ length n = omega (arith, s, sum) in
     let all_m : length m - 7 ≡ 0 = omega (arith, s) in
     let all_n : length n - 7 ≡ 0 = omega (arith, s, long) in
-    let whole : seven_and m (min (length m) 8) ≡ seven_and n (min (length n) 8) = rw (all_m, all_n) at h in
-    ap Name (short m n _ _ long s whole)
-told (Name m) ElementType s h = let counts : min (length m) 8 ≡ 9 = ap (λ bs. get_or bs 7 0) h in absurd (omega (arith, counts))
-told ElementType (Name n) s h = let counts : 9 ≡ min (length n) 8 = ap (λ bs. get_or bs 7 0) h in absurd (omega (arith, counts))
-told ElementType ElementType s h = refl
+    let same : last_m ≡ last_n = omega (arith, sum, long) in
+    let whole : with_bytes 0 m ≡ with_bytes 0 n = rw (all_m, all_n) at same in
+    ap Name (same_bytes 0 0 m n long hm hn whole).1
+told (Name m) ElementType hm hg s e = let sum : with_bytes 0 (drop (length m - 7) m) * 256 + min (length m) 8 ≡ 9 = e in absurd (omega (arith, sum))
+told ElementType (Name n) hf hn s e = let sum : 9 ≡ with_bytes 0 (drop (length n - 7) n) * 256 + min (length n) 8 = e in absurd (omega (arith, sum))
+told ElementType ElementType hf hg s e = refl
 
 -- a step with an exact key is equal to each step of that key
 pub same_told : (f g : Field) → HasBytes f → HasBytes g → IsExactKey f → step_key g ≡ step_key f → same_field f g ≡ true
 same_told f g hf hg s e =
-    (same_field-Decides f g).1 (told f g s (sym (key-bytes f hf) ∙ ap (to_be_bytes w64) (sym e) ∙ key-bytes g hg))
+    (same_field-Decides f g).1 (told f g hf hg s (sym e))
 
 -- steps of different keys differ
 pub keys_differ : (f g : Field) → step_key g ≢ step_key f → same_field f g ≡ false

@@ -90,6 +90,7 @@ impl Nodes {
     }
 
     // The node of this index, to be changed.
+    #[inline(always)]
     fn at_mut(&mut self, node_index: usize) -> &mut Node
         requires { node_index < length self.old }
         ensures* writes_back { sem 𝓛 (LendsNode self.entry node_index result) }

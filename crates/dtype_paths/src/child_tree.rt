@@ -11,7 +11,7 @@ ghost use Rattle.dtype_paths.specs.private.ChildTrees.{at_key, led_by, IsFirst, 
 ghost use Rattle.dtype_paths.specs.private.Children.{entry_node, HasKnownKey};
 ghost use Rattle.dtype_paths.specs.Equality.{same_field};
 ghost use Rattle.dtype_paths.specs.PathOrder.{field_cmp};
-ghost use Rattle.dtype_paths.specs.private.StepKeys.{step_key, IsKnownKey, IsStepKey};
+ghost use Rattle.dtype_paths.specs.private.StepKeys.{step_key, IsKnownKey};
 ghost use Rattle.dtype_paths.specs.declared.field.Field.{Field};
 
 use crate::Field;

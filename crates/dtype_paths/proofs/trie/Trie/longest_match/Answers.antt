@@ -1,7 +1,7 @@
 -- SPDX-License-Identifier: Apache-2.0
 -- SPDX-FileCopyrightText: Copyright the Vortex contributors
 
-use Rattle.std.proofs.Common.{[], take, arith, length, refl, subst, sym, Some, None, ◌≡◌, ◌+◌}
+use Rattle.std.proofs.Common.{[], take, arith, length, refl, subst, sym, Some, ◌≡◌, ◌+◌}
 use Rattle.std.proofs.lemmas.Option.{slice_get_read}
 use Rattle.dtype_paths.specs.private.Trie.{child_at, walk, IsPrefixMatch}
 use Rattle.dtype_paths.proofs.NodeGrowth.{take-step}

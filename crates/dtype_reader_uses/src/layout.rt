@@ -97,3 +97,27 @@ pub fn open_column(
         None => Ok(None),
     }
 }
+
+/// A table opened for a query, and what one path of the query asks of a column. What the mask matches has in the opened
+/// schema the type that it has in the table's.
+pub fn open_with_column(
+    alloc: Global,
+    table: &DType,
+    asked: &FieldPathSet,
+    path: FieldPath,
+    column: &Field,
+) -> VortexResult<Option<(DType, FieldMask)>>
+    requires { IsTrue (set.contains asked.now path) }
+    ensures exact { IfOk result (λ r. IfSome r (λ o. (q : List Field)
+        → In o.1 q ↔ Beginning path (column.now ∷ q))) }
+    ensures same { IfOk result (λ r. IfSome r (λ o. (p q : List Field)
+        → p ≡ column.now ∷ q → In o.1 q → along (tree o.0) p ≡ along (tree table.now) p)) }
+{
+    let Some(opened) = open_for_query(alloc, table, asked.try_clone()?)? else {
+        return Ok(None);
+    };
+    match open_column(alloc, table, &opened.schema, asked, path, column)? {
+        Some(mask) => Ok(Some((opened.schema, mask))),
+        None => Ok(None),
+    }
+}

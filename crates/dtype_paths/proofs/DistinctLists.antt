@@ -2,7 +2,7 @@
 -- SPDX-FileCopyrightText: Copyright the Vortex contributors
 
 -- Lists without repeats (`Distinct`, and `IsDistinct` of std by a test), by cases on the list.
-use Rattle.std.proofs.Common.{ℕ, ◌<◌, ◌≤◌, length, map, ◌≡◌, ◌≢◌, suc, Bool, true, false, List, [], ◌∷◌, ◌++◌, Some, refl, sym, ap, subst, arith, ⊎_elim, Decides, eqb}
+use Rattle.std.proofs.Common.{ℕ, ◌<◌, ◌≤◌, length, map, ◌≡◌, ◌≢◌, suc, Bool, true, false, List, [], ◌∷◌, ◌++◌, Some, refl, sym, ap, subst, arith, ⊎_elim, Decides}
 use Rattle.std.specs.List.{Contains, IsDistinct, AllByRecursion}
 use Rattle.std.specs.Map.{lookup, keys_of, values_of}
 use Rattle.std.proofs.lemmas.Bool.Decides.{Decides-eqb}

@@ -2,7 +2,7 @@
 -- SPDX-FileCopyrightText: Copyright the Vortex contributors
 
 -- The members of a list, by cases on the list, and those of `map` and `flat_map`.
-use Rattle.std.proofs.Common.{◌<◌, map, ◌≡◌, ◌⊎◌, List, [], ◌∷◌, ◌++◌, inl, inr, subst, sym, arith, ⊎_elim}
+use Rattle.std.proofs.Common.{map, ◌≡◌, ◌⊎◌, List, [], ◌∷◌, inl, inr, subst, sym, arith, ⊎_elim}
 use Rattle.std.specs.List.{Contains, flat_map}
 use Rattle.std.proofs.lemmas.List.Elements.{Contains-append_left, Contains-append_right, Contains-append_cases, Contains-push, Contains-push_cases}
 

@@ -2,7 +2,7 @@
 -- SPDX-FileCopyrightText: Copyright the Vortex contributors
 
 -- What is proved of the list of a trie's paths, said of their set.
-use Rattle.std.proofs.Common.{◌≡◌, ◌↔◌, ◌⊎◌, ℕ, List, IsTrue, inl, inr, ⊎_elim}
+use Rattle.std.proofs.Common.{◌≡◌, ◌↔◌, ℕ, List, IsTrue, inl, inr, ⊎_elim}
 use Rattle.std.proofs.lemmas.Bool.Decides.{same_from_decides}
 use Rattle.std.specs.FinSet as set
 use Rattle.std.specs.List.{Contains}
@@ -10,7 +10,7 @@ use Rattle.dtype_paths.specs.Covering.{IsCountOf, least}
 use Rattle.dtype_paths.specs.private.PathLists.{Begun, IsBegun, Least}
 use Rattle.dtype_paths.specs.lemmas.SetMembers.{from_list-Decides, items_of_list}
 use Rattle.dtype_paths.specs.lemmas.SetCovers.{least-Decides}
-use Rattle.dtype_paths.specs.PathOrder.{PathSet, path_cmp}
+use Rattle.dtype_paths.specs.PathOrder.{path_cmp}
 use Rattle.dtype_paths.specs.lemmas.PathOrders.{path_cmp_total, same_tied}
 use Rattle.dtype_paths.specs.declared.field.Field.{Field}
 use Rattle.dtype_paths.specs.lemmas.PathLists.{least_of_members}

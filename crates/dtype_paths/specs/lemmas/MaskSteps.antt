@@ -2,7 +2,7 @@
 -- SPDX-FileCopyrightText: Copyright the Vortex contributors
 
 -- What a mask selects after the first step of its path.
-use Rattle.std.proofs.Common.{◌≡◌, List, [], ◌∷◌, ◌++◌, Some, append-nil, refl, sym}
+use Rattle.std.proofs.Common.{◌≡◌, List, [], ◌∷◌, Some, append-nil, sym}
 use Rattle.std.proofs.lemmas.Option.{same_Some}
 use Rattle.dtype_paths.specs.In.{In, first_part}
 use Rattle.dtype_paths.specs.declared.field.Field.{Field}

@@ -9,7 +9,7 @@ use dtype_base::{FieldName, FieldNames, Nullability};
 use dtype_types::{DType, FieldDType, StructFields};
 use std::alloc::Global;
 
-/// A struct of names and types that are there.
+/// Building a struct of given names and types.
 #[derive(Drop)]
 pub struct BuildOfNames<'a> {
     texts: &'a Vec<String>,
@@ -66,7 +66,7 @@ fn of_names(alloc: Global, names: Vec<FieldName>, types: Vec<DType>) -> BenchRes
     Ok(DType::Struct(fields, Nullability::NonNullable))
 }
 
-/// The same, and `find` of its last name: the Rust makes its index at the first lookup.
+/// The same, followed by `find` of the last name: the Rust makes its index at the first lookup.
 #[derive(Drop)]
 pub struct BuildAndFind<'a>(pub BuildOfNames<'a>);
 
@@ -92,7 +92,7 @@ impl<'a> Operation for BuildAndFind<'a> {
     }
 }
 
-/// A struct of names, made of texts, and types that are there.
+/// Building a struct of given types and of names made from texts.
 #[derive(Drop)]
 pub struct BuildOfTexts<'a> {
     texts: &'a Vec<String>,
@@ -141,7 +141,7 @@ fn of_texts(alloc: Global, texts: &Vec<String>, types: Vec<DType>) -> BenchResul
     Ok(DType::Struct(fields, Nullability::NonNullable))
 }
 
-/// A whole type, of which nothing is there before the clock starts but the texts of a wide struct.
+/// Building and dropping a whole type. Only the texts of a wide struct's names are made before the clock starts.
 #[derive(Drop)]
 pub struct BuildAndDrop<'a> {
     pub shape: Shape,

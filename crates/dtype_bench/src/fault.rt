@@ -5,7 +5,7 @@ use dtype_base::VortexError;
 use std::alloc::{AllocError, AllocFailed};
 use std::io;
 
-/// Why the program gave up.
+/// Why the program ended early.
 #[derive(Debug, Drop)]
 pub enum BenchFault {
     /// Standard input, standard output or the clock failed.
@@ -16,7 +16,7 @@ pub enum BenchFault {
     OutOfMemory,
     /// A fixture lacks a part that a case needs.
     Missing,
-    /// The answers of a round give the one number that none gives.
+    /// The sum of a round's answers is the value that marks an empty round.
     Answer,
 }
 

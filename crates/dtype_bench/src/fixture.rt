@@ -10,15 +10,15 @@ use std::alloc::Global;
 /// How a type is made.
 #[derive(Clone, Copy)]
 pub enum Shape {
-    /// A struct of so many fields.
+    /// A struct of `count` fields.
     Wide,
-    /// Structs of one field inside one another, so deep.
+    /// Structs of one field, nested `count` deep.
     Deep,
-    /// Lists inside one another, so deep.
+    /// Lists, nested `count` deep.
     Lists,
-    /// Fixed-size lists of one inside one another, so deep.
+    /// Fixed-size lists of size 1, nested `count` deep.
     Fixed,
-    /// Extensions of one another, so deep.
+    /// Extensions, nested `count` deep.
     Extensions,
 }
 
@@ -33,7 +33,7 @@ impl Shape {
         }
     }
 
-    /// A type of this shape, the nullabilities inside it turned where asked.
+    /// Returns a type of this shape and size, its inner nullabilities flipped if asked.
     pub fn make(self, alloc: Global, count: usize, flip: bool) -> BenchResult<DType> {
         match self {
             Shape::Wide => wide_type(alloc, &Naming::Columns.texts(alloc, count)?, flip),
@@ -64,24 +64,24 @@ impl Shape {
     }
 }
 
-/// How the names of a wide struct look.
+/// The form of the names of a wide struct.
 #[derive(Clone, Copy)]
 pub enum Naming {
     /// `column_0` and so on.
     Columns,
-    /// The same in no order.
+    /// The same names, shuffled.
     Shuffled,
-    /// Sixteen hexadecimal digits, in no order.
+    /// Sixteen hexadecimal digits each, shuffled.
     Hexadecimal,
     /// `id`, and after it `measurement_1` and so on.
     Stray,
 }
 
 impl Naming {
-    /// Those that only lookups and what makes an index are measured with.
+    /// The forms that only lookups and index builds are measured with.
     pub const OTHERS: [Naming; 3] = [Naming::Shuffled, Naming::Hexadecimal, Naming::Stray];
 
-    /// The word for it in the name of a case.
+    /// The word that names this form in a case.
     pub fn name(self) -> &'static str {
         match self {
             Naming::Columns => "wide",
@@ -106,7 +106,7 @@ impl Naming {
         }
     }
 
-    /// The names of so many fields, as texts.
+    /// Returns the names of `count` fields, as texts.
     pub fn texts(self, alloc: Global, count: usize) -> BenchResult<Vec<String>> {
         let mut texts = Vec::with_capacity(alloc, count)?;
         for i in 0..count {
@@ -120,17 +120,17 @@ impl Naming {
 /// between them, so that no iteration can reuse the result of the one before.
 #[derive(Drop)]
 pub struct Types {
-    /// The end of the name of a case.
+    /// The last part of a case's name.
     pub of: String,
     pub shape: Shape,
     pub count: usize,
     pub types: Vec<DType>,
     pub sames: Vec<DType>,
-    /// The nullabilities inside these are the others.
+    /// The same types with their inner nullabilities flipped.
     pub others: Vec<DType>,
 }
 
-/// Types of this shape and size.
+/// Returns types of this shape and size.
 pub fn make_types(alloc: Global, shape: Shape, count: usize) -> BenchResult<Types> {
     let name = shape.name();
     Ok(Types {
@@ -143,7 +143,7 @@ pub fn make_types(alloc: Global, shape: Shape, count: usize) -> BenchResult<Type
     })
 }
 
-/// Two structs of fields with these names, made apart.
+/// Returns two structs of fields with these names, built separately.
 pub fn two_structs(alloc: Global, texts: &Vec<String>) -> BenchResult<Vec<DType>> {
     let mut two = Vec::with_capacity(alloc, 2)?;
     for _ in 0..2 {
@@ -160,19 +160,19 @@ fn two_types(alloc: Global, shape: Shape, count: usize, flip: bool) -> BenchResu
     Ok(two)
 }
 
-/// One of the two, alternating.
+/// Returns one of the two, alternating.
 pub fn turn<T>(two: &Vec<T>, i: usize) -> BenchResult<&T> {
     two.get(i % 2).ok_or(BenchFault::Missing)
 }
 
-/// The fields of one of the two, alternating.
+/// Returns the fields of one of the two, alternating.
 pub fn fields_of(two: &Vec<DType>, i: usize) -> BenchResult<&StructFields> {
     turn(two, i)?
         .as_struct_fields_opt()
         .ok_or(BenchFault::Missing)
 }
 
-/// The types of so many columns.
+/// Returns the types of `count` columns.
 pub fn leaves(alloc: Global, count: usize) -> BenchResult<Vec<DType>> {
     let mut types = Vec::with_capacity(alloc, count)?;
     for i in 0..count {
@@ -181,7 +181,7 @@ pub fn leaves(alloc: Global, count: usize) -> BenchResult<Vec<DType>> {
     Ok(types)
 }
 
-/// The name of a column, twice.
+/// Returns the name of a column, twice.
 pub fn two_texts(alloc: Global, i: usize) -> BenchResult<Vec<String>> {
     let mut two = Vec::with_capacity(alloc, 2)?;
     for _ in 0..2 {
@@ -190,7 +190,7 @@ pub fn two_texts(alloc: Global, i: usize) -> BenchResult<Vec<String>> {
     Ok(two)
 }
 
-/// Names made of texts.
+/// Returns names made from these texts.
 pub fn names(alloc: Global, texts: &Vec<String>) -> BenchResult<Vec<FieldName>> {
     let mut names = Vec::with_capacity(alloc, texts.len())?;
     for text in texts {
@@ -199,7 +199,7 @@ pub fn names(alloc: Global, texts: &Vec<String>) -> BenchResult<Vec<FieldName>> 
     Ok(names)
 }
 
-/// A tenth of these names, in no order.
+/// Returns a tenth of these names, shuffled.
 pub fn some_names(alloc: Global, texts: &Vec<String>) -> BenchResult<Vec<FieldName>> {
     let count = texts.len();
     let mut names = Vec::new(alloc);
@@ -210,12 +210,12 @@ pub fn some_names(alloc: Global, texts: &Vec<String>) -> BenchResult<Vec<FieldNa
     Ok(names)
 }
 
-/// Another number below the count for each number below it.
+/// A permutation of the numbers below `count`: the image of `i`.
 pub fn mixed(i: usize, count: usize) -> usize {
     i.wrapping_mul(7919).checked_rem(count).unwrap_or(0)
 }
 
-/// The type of a column, with its nullability turned where asked.
+/// Returns the type of a column, with its nullability flipped if asked.
 pub fn leaf(i: usize, flip: bool) -> DType {
     match i % 4 {
         0 => DType::Primitive(PType::I32, Nullability::from(flip)),
@@ -239,7 +239,7 @@ fn wide_type(alloc: Global, texts: &Vec<String>, flip: bool) -> BenchResult<DTyp
     Ok(DType::Struct(fields, Nullability::NonNullable))
 }
 
-/// A struct of one field `a`.
+/// Returns a struct of one field `a`.
 pub fn one_field(alloc: Global, dtype: DType, nullability: Nullability) -> BenchResult<DType> {
     let mut fields = Vec::with_capacity(alloc, 1)?;
     fields.push((FieldName::new(alloc, "a")?, FieldDType::from(dtype)))?;

@@ -9,7 +9,7 @@ use dtype_base::FieldName;
 use dtype_types::DType;
 use std::alloc::Global;
 
-/// Where the name is that is looked for.
+/// The position of the name that is looked for.
 #[derive(Clone, Copy)]
 pub enum Place {
     First,
@@ -72,7 +72,7 @@ impl<'a> Operation for Find<'a> {
     }
 }
 
-/// `find` of all names in no order, so that no branch can be foreseen.
+/// `find` of all names, shuffled, so that no branch can be predicted.
 #[derive(Drop)]
 pub struct FindMixed<'a> {
     pub types: &'a Vec<DType>,

@@ -15,9 +15,9 @@ const DOUBLINGS: usize = 32;
 
 const ROUNDS: usize = 15;
 
-/// What is measured.
+/// An operation that is measured.
 pub trait Operation {
-    /// What is done, as it is printed.
+    /// The operation's name, as it is printed.
     fn name(&self) -> &'static str;
 
     /// Builds what this many iterations consume, before the clock starts.
@@ -25,23 +25,23 @@ pub trait Operation {
         Ok(())
     }
 
-    /// Does the operation so many times, lets go what it gave, and gives a number in which each of its
-    /// answers counts, so that none of them can be left out.
+    /// Does the operation `times` times and drops its results. Returns a number that depends on each result, so that none can
+    /// be optimized away.
     fn repeat(&mut self, alloc: Global, times: usize) -> BenchResult<usize>;
 }
 
-/// Measures those operations whose names are wanted.
+/// Measures the operations that were asked for.
 #[derive(Drop)]
 pub struct Meter<'a, C, W> {
     pub clock: &'a C,
     pub alloc: Global,
-    /// Of each case that is wanted, a line is the beginning of its name.
+    /// The prefixes of the names of the cases that were asked for, a line each.
     pub wanted: &'a str,
     pub out: &'a mut W,
 }
 
 impl<'a, C: CpuClock, W: Write> Meter<'a, C, W> {
-    /// Whether cases whose names have this beginning may be wanted.
+    /// Returns whether a case with this prefix may have been asked for.
     pub fn wants_some(&self, beginning: &str) -> bool {
         self.wanted.lines().any(|line| line.starts_with(beginning) || beginning.starts_with(line))
     }
@@ -50,7 +50,7 @@ impl<'a, C: CpuClock, W: Write> Meter<'a, C, W> {
         self.wanted.lines().any(|line| name.starts_with(line))
     }
 
-    /// Measures an operation on what has this name, if it is wanted, and writes its line: the least and the
+    /// Measures an operation on the fixture of this name, if it was asked for, and writes its line: the least and the
     /// median of the rounds.
     pub fn measure(&mut self, of: &str, mut operation: impl Operation + Drop) -> BenchResult<()> {
         let what = operation.name();

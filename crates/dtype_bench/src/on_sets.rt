@@ -8,7 +8,7 @@ use crate::path_fixture::{PathSet, copies};
 use dtype_paths::{FieldPath, FieldPathSet};
 use std::alloc::Global;
 
-/// A set of paths that are there.
+/// Building a set of given paths.
 #[derive(Drop)]
 pub struct FromPaths<'a> {
     paths: &'a Vec<FieldPath>,
@@ -48,7 +48,7 @@ impl<'a> Operation for FromPaths<'a> {
     }
 }
 
-/// The paths of a set that cover the others.
+/// The least cover of a set.
 #[derive(Drop)]
 pub struct Cover<'a> {
     set: &'a FieldPathSet,
@@ -86,7 +86,7 @@ impl<'a> Operation for Cover<'a> {
     }
 }
 
-/// Each path asked for once.
+/// `contains` of each path, once.
 #[derive(Drop)]
 pub struct Contains<'a>(pub &'a PathSet);
 

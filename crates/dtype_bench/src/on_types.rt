@@ -31,8 +31,7 @@ impl<'a> Operation for Empty<'a> {
     }
 }
 
-/// `==`. Which two are compared hangs on the answers before, so that no comparison can be done ahead of
-/// them.
+/// `==`. Which two are compared depends on the earlier results, so that no comparison can start before them.
 #[derive(Drop)]
 pub struct Equal<'a>(pub &'a Types);
 
@@ -130,7 +129,7 @@ impl<'a> Operation for WithNullability<'a> {
     }
 }
 
-/// The hash by SipHash of one of two.
+/// The SipHash of one of two types.
 #[derive(Drop)]
 pub struct Hashed<'a, T>(pub &'a Vec<T>);
 
@@ -150,7 +149,7 @@ impl<'a, T: Hash> Operation for Hashed<'a, T> {
     }
 }
 
-/// The text of one of two.
+/// The text of one of two types.
 #[derive(Drop)]
 pub struct Text<'a, T>(pub &'a Vec<T>);
 
@@ -169,7 +168,7 @@ impl<'a, T: Display> Operation for Text<'a, T> {
     }
 }
 
-/// The part of a type along a path.
+/// The type at a path, by `resolve`.
 #[derive(Drop)]
 pub struct Resolve<'a> {
     pub types: &'a Vec<DType>,

@@ -9,14 +9,14 @@ use dtype_paths::{Field, FieldPath, FieldPathSet};
 use dtype_types::DType;
 use std::alloc::Global;
 
-/// How the paths of a set look.
+/// The form of the paths of a set.
 #[derive(Clone, Copy)]
 pub enum SetShape {
-    /// Two names, the first the same in all.
+    /// Two names, the first of them the same in all paths.
     Flat,
-    /// Three names, ten below one.
+    /// Three names, with ten paths below each parent.
     Nested,
-    /// Each is the beginning of the next, 64 in a row.
+    /// Chains of 64 paths, each the beginning of the next.
     Chains,
 }
 
@@ -54,16 +54,16 @@ impl SetShape {
     }
 }
 
-/// A set of so many paths, and the paths, made apart from it.
+/// A set, and its paths, built separately.
 #[derive(Drop)]
 pub struct PathSet {
-    /// The end of the name of a case.
+    /// The last part of a case's name.
     pub of: String,
     pub paths: Vec<FieldPath>,
     pub set: FieldPathSet,
 }
 
-/// A set of this shape and size, its paths in no order.
+/// Returns a set of this shape and size, and its paths, shuffled.
 pub fn path_set(alloc: Global, shape: SetShape, count: usize) -> BenchResult<PathSet> {
     let name = shape.name();
     Ok(PathSet {
@@ -81,7 +81,7 @@ fn set_paths(alloc: Global, shape: SetShape, count: usize) -> BenchResult<Vec<Fi
     Ok(paths)
 }
 
-/// Copies of the paths.
+/// Returns copies of the paths.
 pub fn copies(alloc: Global, paths: &Vec<FieldPath>) -> BenchResult<Vec<FieldPath>> {
     let mut copies = Vec::with_capacity(alloc, paths.len())?;
     for path in paths {
@@ -90,7 +90,7 @@ pub fn copies(alloc: Global, paths: &Vec<FieldPath>) -> BenchResult<Vec<FieldPat
     Ok(copies)
 }
 
-/// The path of so many fields `a`, twice.
+/// Returns the path of `depth` fields `a`, twice.
 pub fn two_deep_paths(alloc: Global, depth: usize) -> BenchResult<Vec<FieldPath>> {
     let mut two = Vec::with_capacity(alloc, 2)?;
     for _ in 0..2 {
@@ -108,7 +108,7 @@ fn fields_named(alloc: Global, depth: usize) -> BenchResult<Vec<Field>> {
     Ok(steps)
 }
 
-/// The path of so many elements, twice.
+/// Returns the path of `depth` elements, twice.
 pub fn two_element_paths(alloc: Global, depth: usize) -> BenchResult<Vec<FieldPath>> {
     let mut two = Vec::with_capacity(alloc, 2)?;
     for _ in 0..2 {
@@ -126,7 +126,7 @@ fn elements(alloc: Global, depth: usize) -> BenchResult<Vec<Field>> {
     Ok(steps)
 }
 
-/// The path of so many columns, twice.
+/// Returns a path of `depth` names of columns, twice.
 pub fn two_column_paths(alloc: Global, depth: usize) -> BenchResult<Vec<FieldPath>> {
     let mut two = Vec::with_capacity(alloc, 2)?;
     for _ in 0..2 {
@@ -149,7 +149,7 @@ fn numbered(alloc: Global, text: &str, i: usize) -> BenchResult<Field> {
     Ok(Field::from_text(alloc, text.as_str())?)
 }
 
-/// Where the columns are that a query asks for.
+/// The level of the columns that a query asks for.
 #[derive(Clone, Copy)]
 pub enum Level {
     /// At the top: the table is a wide struct.
@@ -184,22 +184,22 @@ impl Level {
     }
 }
 
-/// Some columns of a table.
+/// A query of some columns of a table.
 #[derive(Drop)]
 pub struct Query {
-    /// The end of the name of a case.
+    /// The last part of a case's name.
     pub of: String,
     pub level: Level,
     /// The table, twice.
     pub tables: Vec<DType>,
     /// The path to the struct that has the columns.
     pub parent: FieldPath,
-    /// The paths of the columns, in no order, and the set of them.
+    /// The paths of the columns, shuffled, and the set of them.
     pub paths: Vec<FieldPath>,
     pub set: FieldPathSet,
 }
 
-/// So many columns of a table of so many.
+/// Returns the query of `asked` columns of a table of `count`.
 pub fn make_query(alloc: Global, level: Level, asked: usize, count: usize) -> BenchResult<Query> {
     let name = level.name();
     Ok(Query {

@@ -20,7 +20,7 @@ ghost use Rattle.vortex_dtype.specs.Types.Field.{Field};
 ghost use Rattle.vortex_dtype.specs.Types.FieldMask.{FieldMask};
 
 use crate::masks::mask_of_child;
-use crate::path_sets::asked_one_by_one;
+use crate::path_sets::set_of_borrowed;
 use std::alloc::Global;
 use std::vec;
 use vortex_dtype::laws::projections::projection_depends_on_coverage_alone;
@@ -61,7 +61,7 @@ pub fn open_for_query(
 {
     projection_depends_on_coverage_alone();
     let cover: Vec<FieldPath> = asked.into_iter()?.collect(alloc)?;
-    let columns = asked_one_by_one(alloc, &cover)?;
+    let columns = set_of_borrowed(alloc, &cover)?;
     let Some(schema) = project_paths(alloc, table, &columns)? else {
         return Ok(None);
     };

@@ -21,7 +21,7 @@ pub fn mask_of_column(alloc: Global, table: &str, column: &str) -> VortexResult<
 }
 
 /// Whether everything is asked for two levels down: it always is.
-pub fn all_is_asked_of_column(alloc: Global, table: &str, column: &str) -> VortexResult<bool>
+pub fn all_steps_to_all_twice(alloc: Global, table: &str, column: &str) -> VortexResult<bool>
     ensures { IfOk result (λ b. IsTrue b) }
 {
     Ok(mask_of_column(alloc, table, column)?.matches_all())
@@ -42,14 +42,14 @@ pub fn is_kept_by_copying(alloc: Global, mask: &FieldMask) -> VortexResult<bool>
 }
 
 /// Whether two columns are asked for in the same way.
-pub fn is_asked_alike(mask: &FieldMask, other: &FieldMask) -> bool
+pub fn have_equal_masks(mask: &FieldMask, other: &FieldMask) -> bool
     ensures { IsTrue result ↔ (mask.now ≡ other.now) }
 {
     *mask == *other
 }
 
 /// Whether a column is all that is asked for.
-pub fn is_all_that_is_asked(column: FieldPath, mask: &FieldMask) -> bool
+pub fn is_only_column_asked(column: FieldPath, mask: &FieldMask) -> bool
     ensures { IsTrue result ↔ (mask.now ≡ FieldMask.Exact column) }
 {
     *mask == FieldMask::Exact(column)
@@ -113,21 +113,21 @@ pub fn mask_of_table(alloc: Global) -> FieldMask
 }
 
 /// Whether a table's mask asks for everything: it always does.
-pub fn all_is_asked_of_table(alloc: Global) -> bool
+pub fn table_mask_matches_all(alloc: Global) -> bool
     ensures { IsTrue result }
 {
     FieldMask::Prefix(FieldPath::root(alloc)).matches_all()
 }
 
 /// Whether the mask of one column alone asks for everything: it never does.
-pub fn all_is_asked_of_one_column(column: FieldPath) -> bool
+pub fn column_mask_matches_all(column: FieldPath) -> bool
     ensures { result ≡ false }
 {
     FieldMask::Exact(column).matches_all()
 }
 
 /// Whether everything is asked for, and so this path.
-pub fn all_is_asked_and_so_this(mask: &FieldMask, path: &FieldPath) -> bool
+pub fn mask_of_all_matches_path(mask: &FieldMask, path: &FieldPath) -> bool
     ensures { IsTrue result → In mask.now path.now }
 {
     let _path = path;
@@ -143,7 +143,7 @@ pub fn field_asked_for(mask: &FieldMask) -> VortexResult<Option<&Field>>
 }
 
 /// The mask of everything, stepped into: everything still.
-pub fn all_further_down(mask: FieldMask) -> VortexResult<FieldMask>
+pub fn all_steps_to_all(mask: FieldMask) -> VortexResult<FieldMask>
     requires { mask ≡ All }
     ensures { IfOk result (λ below. below ≡ All) }
 {

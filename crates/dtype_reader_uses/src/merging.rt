@@ -28,11 +28,7 @@ pub fn read_as_one(alloc: Global, file: &DType, other: &DType) -> VortexResult<O
 }
 
 /// The type to read a file as beside one that takes its values already: that one's type.
-pub fn read_beside_larger(
-    alloc: Global,
-    larger: &DType,
-    file: &DType,
-) -> VortexResult<Option<DType>>
+pub fn merge_with_larger(alloc: Global, larger: &DType, file: &DType) -> VortexResult<Option<DType>>
     requires { Sub (tree file.now) (tree larger.now) }
     ensures { IfOk result (λ r. IfSome r (λ d. tree d ≡ tree larger.now)) }
 {

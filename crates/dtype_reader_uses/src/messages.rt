@@ -25,7 +25,7 @@ use vortex_dtype::{
 };
 
 /// Whether two messages say the same type: equal ones do.
-pub fn say_the_same(
+pub fn read_as_equal_types(
     alloc: Global,
     a: &pb::DType,
     b: &pb::DType,
@@ -40,7 +40,7 @@ pub fn say_the_same(
 
 /// Whether two types are the same, found by their messages.
 #[tactic(auto, using(vortex_dtype::specs::rulesets::messages, vortex_dtype::specs::rulesets::equality))]
-pub fn are_the_same(alloc: Global, a: &DType, b: &DType) -> VortexResult<bool>
+pub fn have_equal_messages(alloc: Global, a: &DType, b: &DType) -> VortexResult<bool>
     ensures { IfOk result (λ r. IsTrue r → tree a.now ≡ tree b.now) }
 {
     let first = a.to_proto(alloc)?;
@@ -86,7 +86,7 @@ pub fn stored_nullable(alloc: Global, dtype: &DType, session: &DTypeSession) -> 
 }
 
 /// A schema read by a program that knows no extension: the first fault of the message is returned.
-pub fn read_knowing_nothing(alloc: Global, proto: &pb::DType) -> VortexResult<DType>
+pub fn read_without_plugins(alloc: Global, proto: &pb::DType) -> VortexResult<DType>
     ensures accepts { IfOk result (λ t. Accepts empty_meaning (message proto.now) (tree t)) }
     ensures told { IfErr result (λ e. (e ≡ OutOfMemory) ⊎ (read empty_meaning (message proto.now) ≡ Err e)) }
     ensures faulty { (e : VortexError) → Fault empty_meaning (message proto.now) e → IsErr result }

@@ -115,7 +115,11 @@ pub fn path_to(alloc: Global, column: String) -> VortexResult<FieldPath>
 
 /// A stored path that is read twice, where the second message equals the first: the same path, since what is read
 /// is a function of the names.
-pub fn is_read_alike(alloc: Global, a: &pb::FieldPath, b: &pb::FieldPath) -> VortexResult<bool>
+pub fn equal_messages_read_equally(
+    alloc: Global,
+    a: &pb::FieldPath,
+    b: &pb::FieldPath,
+) -> VortexResult<bool>
     ensures { IfOk result (λ r. part_names a.now ≡ part_names b.now → IsTrue r) }
 {
     let first = FieldPath::from_proto(alloc, a)?;
@@ -124,7 +128,7 @@ pub fn is_read_alike(alloc: Global, a: &pb::FieldPath, b: &pb::FieldPath) -> Vor
 }
 
 /// A path whose last part has no kind: an error.
-pub fn read_unfinished(alloc: Global, mut proto: pb::FieldPath) -> VortexResult<FieldPath>
+pub fn read_without_last_name(alloc: Global, mut proto: pb::FieldPath) -> VortexResult<FieldPath>
     ensures refused { IsErr result }
     ensures fault { IfErr result (λ e. (e ≡ OutOfMemory) ⊎ (e ≡ Message PathPartMissing)) }
 {
@@ -133,7 +137,7 @@ pub fn read_unfinished(alloc: Global, mut proto: pb::FieldPath) -> VortexResult<
 }
 
 /// A path with a part that has no kind: an error.
-pub fn read_with_a_gap(alloc: Global, proto: &pb::FieldPath) -> VortexResult<FieldPath>
+pub fn read_with_missing_part(alloc: Global, proto: &pb::FieldPath) -> VortexResult<FieldPath>
     requires { Contains (steps_of proto.now) None }
     ensures { IsErr result }
 {

@@ -23,7 +23,7 @@ use vortex_dtype::laws::paths::{
 use vortex_dtype::{DType, Field, FieldPath, FieldPathSet, VortexResult};
 
 /// Whether a path that was asked for is among those that are: it always is.
-pub fn is_there_once_asked(asked: &mut FieldPathSet, path: FieldPath) -> VortexResult<bool>
+pub fn contains_after_insert(asked: &mut FieldPathSet, path: FieldPath) -> VortexResult<bool>
     ensures { IfOk result (λ b. IsTrue b) }
 {
     let copy = path.try_clone()?;
@@ -32,7 +32,7 @@ pub fn is_there_once_asked(asked: &mut FieldPathSet, path: FieldPath) -> VortexR
 }
 
 /// Asks for a path that is asked for already: nothing changes.
-pub fn ask_again(asked: &mut FieldPathSet, path: FieldPath) -> VortexResult<()>
+pub fn insert_again(asked: &mut FieldPathSet, path: FieldPath) -> VortexResult<()>
     requires { IsTrue (set.contains asked.old path) }
     ensures { OnOk result (asked.new ≡ asked.old) }
 {
@@ -40,7 +40,7 @@ pub fn ask_again(asked: &mut FieldPathSet, path: FieldPath) -> VortexResult<()>
 }
 
 /// Asks for one path twice: the second time nothing changes.
-pub fn ask_twice(asked: &mut FieldPathSet, path: &FieldPath) -> VortexResult<bool>
+pub fn insert_twice(asked: &mut FieldPathSet, path: &FieldPath) -> VortexResult<bool>
     ensures once { IfOk result (λ b. asked.new ≡ set.insert asked.old path.now) }
     ensures kept { IfOk result (λ b. (q : List Field) → IsTrue (set.contains asked.old q) → IsTrue (set.contains asked.new q)) }
 {
@@ -64,7 +64,7 @@ pub fn ask_for_all(asked: &mut FieldPathSet, columns: Vec<FieldPath>) -> VortexR
 }
 
 /// Whether a path that was asked for still is, once more columns are asked for: it always is.
-pub fn stays_there(
+pub fn contains_after_extend(
     asked: &mut FieldPathSet,
     columns: Vec<FieldPath>,
     path: &FieldPath,
@@ -77,7 +77,7 @@ pub fn stays_there(
 }
 
 /// Whether a path that was asked for still is, once one more is asked for: it always is.
-pub fn stays_there_with_one_more(
+pub fn contains_after_other_insert(
     asked: &mut FieldPathSet,
     more: FieldPath,
     path: &FieldPath,
@@ -90,7 +90,7 @@ pub fn stays_there_with_one_more(
 }
 
 /// Whether a path is asked for, once another is: it is where it was.
-pub fn asks_for_other(
+pub fn contains_other(
     asked: &mut FieldPathSet,
     path: FieldPath,
     other: &FieldPath,
@@ -103,7 +103,7 @@ pub fn asks_for_other(
 }
 
 /// Whether a path that wasn't asked for is, once another is asked for: it never is.
-pub fn asks_for_no_other(
+pub fn lacks_other(
     asked: &mut FieldPathSet,
     path: FieldPath,
     other: &FieldPath,
@@ -146,7 +146,7 @@ pub fn asks_for(alloc: Global, columns: Vec<FieldPath>, column: &FieldPath) -> V
 }
 
 /// Whether a column is asked for, looked up in a copy.
-pub fn asks_for_in_copy(asked: &FieldPathSet, column: &FieldPath) -> VortexResult<bool>
+pub fn copy_contains(asked: &FieldPathSet, column: &FieldPath) -> VortexResult<bool>
     ensures { IfOk result (λ b. b ≡ set.contains asked.now column.now) }
 {
     let copy = asked.try_clone()?;
@@ -201,7 +201,7 @@ pub fn cover_of_cover(alloc: Global, asked: FieldPathSet) -> VortexResult<vec::I
 }
 
 /// What is asked for in either of two sets, of the second its least paths alone.
-pub fn either_asked(asked: &FieldPathSet, more: &FieldPathSet) -> VortexResult<FieldPathSet>
+pub fn union_with_least(asked: &FieldPathSet, more: &FieldPathSet) -> VortexResult<FieldPathSet>
     ensures { IfOk result (λ s. s ≡ set.union asked.now (least more.now)) }
 {
     let mut both = asked.try_clone()?;
@@ -213,7 +213,7 @@ pub fn either_asked(asked: &FieldPathSet, more: &FieldPathSet) -> VortexResult<F
 pub fn covers_either(asked: &FieldPathSet, more: &FieldPathSet) -> VortexResult<FieldPathSet>
     ensures { IfOk result (λ s. least s ≡ least (set.union asked.now more.now)) }
 {
-    either_asked(asked, more)
+    union_with_least(asked, more)
 }
 
 /// The columns to open for two sets at once, of which the first stays.
@@ -223,7 +223,7 @@ pub fn cover_of_both(
 ) -> VortexResult<vec::IntoIter<FieldPath>>
     ensures { IfOk result (λ r. set_of (into_iter_items r) ≡ least (set.union asked.now more.now)) }
 {
-    either_asked(asked, more)?.into_iter()
+    union_with_least(asked, more)?.into_iter()
 }
 
 /// The columns to open for two queries at once: they cover what either covers, and nothing else.
@@ -297,7 +297,7 @@ pub fn ask_for_table(asked: &mut FieldPathSet, table: FieldPath, column: Field) 
 }
 
 /// Asks for one more path: what was covered still is.
-pub fn ask_besides(
+pub fn insert_keeps_coverage(
     asked: &mut FieldPathSet,
     path: FieldPath,
     column: &FieldPath,
@@ -311,7 +311,7 @@ pub fn ask_besides(
 }
 
 /// Whether a column is among those of a cover, or below one of them.
-pub fn is_wanted(cover: &[FieldPath], column: &FieldPath) -> bool
+pub fn is_covered_by_one(cover: &[FieldPath], column: &FieldPath) -> bool
     ensures { IsTrue result ↔ IsTrue (covers (set_of cover.now) column.now) }
 {
     a_path_is_covered_where_it_starts_with_one(cover, column);
@@ -321,14 +321,16 @@ pub fn is_wanted(cover: &[FieldPath], column: &FieldPath) -> bool
 }
 
 /// Whether all of these columns are.
-pub fn are_all_wanted(cover: &[FieldPath], columns: &[FieldPath]) -> bool
+pub fn are_all_covered(cover: &[FieldPath], columns: &[FieldPath]) -> bool
     ensures { IsTrue result ↔ All (λ q. IsTrue (covers (set_of cover.now) q)) columns.now }
 {
-    columns.iter().all(|column| is_wanted(cover, column))
+    columns
+        .iter()
+        .all(|column| is_covered_by_one(cover, column))
 }
 
 /// How often a cover looks: once at least, and at most once more than its paths have steps.
-pub fn looks_for_cover(asked: FieldPathSet) -> VortexResult<(u64, vec::IntoIter<FieldPath>)>
+pub fn visits_of_cover(asked: FieldPathSet) -> VortexResult<(u64, vec::IntoIter<FieldPath>)>
     ensures some { IfOk result (λ r. 1 ≤ r.0) }
     ensures most { IfOk result (λ r. r.0 ≤ 1 + sum_by length (into_iter_items r.1)) }
 {
@@ -337,7 +339,7 @@ pub fn looks_for_cover(asked: FieldPathSet) -> VortexResult<(u64, vec::IntoIter<
 }
 
 /// How often the cover of nothing looks.
-pub fn looks_for_nothing(alloc: Global) -> VortexResult<u64>
+pub fn visits_of_empty_set(alloc: Global) -> VortexResult<u64>
     ensures { IfOk result (λ n. n ≡ 1) }
 {
     let (_, visits) = FieldPathSet::new(alloc).into_iter_counted()?;
@@ -362,7 +364,7 @@ pub fn columns_found(
 }
 
 /// The set of borrowed columns, inserted one by one.
-pub fn asked_one_by_one(alloc: Global, columns: &[FieldPath]) -> VortexResult<FieldPathSet>
+pub fn set_of_borrowed(alloc: Global, columns: &[FieldPath]) -> VortexResult<FieldPathSet>
     ensures { IfOk result (λ s. s ≡ set_of columns.now) }
 {
     let mut asked = FieldPathSet::new(alloc);
@@ -406,15 +408,19 @@ pub fn set_of_one_twice(alloc: Global, path: &FieldPath) -> VortexResult<FieldPa
 }
 
 /// Whether a column is to be opened for what is asked for: where it is asked for, or below a path that is.
-pub fn is_opened(alloc: Global, asked: FieldPathSet, column: &FieldPath) -> VortexResult<bool>
+pub fn is_column_opened(
+    alloc: Global,
+    asked: FieldPathSet,
+    column: &FieldPath,
+) -> VortexResult<bool>
     ensures { IfOk result (λ b. IsTrue b ↔ IsTrue (covers asked column.now)) }
 {
     let cover: Vec<FieldPath> = asked.into_iter()?.collect(alloc)?;
-    Ok(is_wanted(&cover, column))
+    Ok(is_covered_by_one(&cover, column))
 }
 
 /// Whether a column is to be opened for a query that it isn't under: it never is.
-pub fn is_left_closed(
+pub fn is_column_skipped(
     alloc: Global,
     columns: Vec<FieldPath>,
     column: &FieldPath,
@@ -422,7 +428,7 @@ pub fn is_left_closed(
     requires { covers (set_of columns.items) column.now ≡ false }
     ensures { IfOk result (λ b. b ≡ false) }
 {
-    is_opened(alloc, FieldPathSet::from_iter(alloc, columns)?, column)
+    is_column_opened(alloc, FieldPathSet::from_iter(alloc, columns)?, column)
 }
 
 /// The columns to open for nothing: none.
@@ -435,7 +441,7 @@ pub fn cover_of_nothing(alloc: Global) -> VortexResult<vec::IntoIter<FieldPath>>
 
 /// Whether the covers of two copies look equally often: they always do.
 #[tactic(auto, using(vortex_dtype::specs::rulesets::covering, vortex_dtype::specs::rulesets::counting))]
-pub fn looks_as_often(asked: &FieldPathSet) -> VortexResult<bool>
+pub fn copies_visit_equally(asked: &FieldPathSet) -> VortexResult<bool>
     ensures { IfOk result (λ b. IsTrue b) }
 {
     let (_, visits) = asked.try_clone()?.into_iter_counted()?;

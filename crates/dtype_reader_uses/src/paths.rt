@@ -54,7 +54,7 @@ pub fn column_of_struct<'a>(table: &'a DType, column: &str) -> Option<&'a DType>
 }
 
 /// The type one step further along a path.
-pub fn one_step_further<'a>(
+pub fn type_of_child<'a>(
     path: FieldPath,
     field: Field,
     dtype: &'a DType,
@@ -66,14 +66,14 @@ pub fn one_step_further<'a>(
 }
 
 /// The type along two paths, one after the other.
-pub fn along_both<'a>(path: &FieldPath, rest: &FieldPath, dtype: &'a DType) -> Option<&'a DType>
+pub fn resolve_joined<'a>(path: &FieldPath, rest: &FieldPath, dtype: &'a DType) -> Option<&'a DType>
     ensures { IfSome result (λ u. At (tree dtype.now) (path.now ++ rest.now) (tree u.now)) }
 {
     rest.resolve(path.resolve(dtype)?)
 }
 
 /// Whether a longer path exists, and so its beginning.
-pub fn exists_if_longer_does(path: &FieldPath, longer: &FieldPath, dtype: &DType) -> bool
+pub fn beginning_exists(path: &FieldPath, longer: &FieldPath, dtype: &DType) -> bool
     requires { Beginning path.now longer.now }
     ensures { IsTrue result → ExistsIn (tree dtype.now) path.now }
 {
@@ -119,7 +119,7 @@ pub fn overlap_either_way(path: &FieldPath, other: &FieldPath) -> bool
 
 /// Whether two equal paths both exist or both do not: always.
 #[tactic(auto)]
-pub fn equal_paths_exist_alike(path: &FieldPath, other: &FieldPath, dtype: &DType) -> bool
+pub fn equal_paths_exist_equally(path: &FieldPath, other: &FieldPath, dtype: &DType) -> bool
     ensures { IsTrue result }
 {
     if *path == *other {
@@ -129,7 +129,7 @@ pub fn equal_paths_exist_alike(path: &FieldPath, other: &FieldPath, dtype: &DTyp
 }
 
 /// The type along two paths, one after the other, or `None` where there is none.
-pub fn type_along_both<'a>(
+pub fn resolve_joined_exactly<'a>(
     path: &FieldPath,
     rest: &FieldPath,
     dtype: &'a DType,
@@ -140,7 +140,7 @@ pub fn type_along_both<'a>(
 }
 
 /// Whether a longer path leads nowhere where its beginning leads nowhere: it always does.
-pub fn leads_nowhere_further(path: &FieldPath, longer: &FieldPath, dtype: &DType) -> bool
+pub fn longer_path_is_absent(path: &FieldPath, longer: &FieldPath, dtype: &DType) -> bool
     requires { Beginning path.now longer.now }
     ensures { IsTrue result }
 {
@@ -151,7 +151,7 @@ pub fn leads_nowhere_further(path: &FieldPath, longer: &FieldPath, dtype: &DType
 }
 
 /// The type along a path: the one that was found there before.
-pub fn found_again<'a>(path: &FieldPath, dtype: &'a DType) -> Option<&'a DType>
+pub fn resolve_again<'a>(path: &FieldPath, dtype: &'a DType) -> Option<&'a DType>
     ensures { (u : Tree) → At (tree dtype.now) path.now u → IfSome result (λ d. tree d.now ≡ u) }
 {
     path.resolve(dtype)

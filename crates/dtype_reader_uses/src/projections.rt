@@ -45,7 +45,7 @@ pub fn schema_of_cover(
 }
 
 /// A schema that was opened for these columns, opened for them again: it stays as it is.
-pub fn pruned_again(
+pub fn project_again(
     alloc: Global,
     schema: &DType,
     columns: &FieldPathSet,
@@ -60,7 +60,11 @@ pub fn pruned_again(
 }
 
 /// Whether a query reads anything of a table: where one of its columns exists there.
-pub fn reads_anything(alloc: Global, schema: &DType, columns: &FieldPathSet) -> VortexResult<bool>
+pub fn reads_some_column(
+    alloc: Global,
+    schema: &DType,
+    columns: &FieldPathSet,
+) -> VortexResult<bool>
     ensures { IfOk result (λ b. IsTrue b ↔ ((p : List Field) × IsTrue (set.contains columns.now p)
         × ExistsIn (tree schema.now) p)) }
 {
@@ -68,7 +72,7 @@ pub fn reads_anything(alloc: Global, schema: &DType, columns: &FieldPathSet) -> 
 }
 
 /// The schema that is opened for a query: each row of the table, restricted to its columns, is a row of it.
-pub fn opened_rows(
+pub fn rows_of_projection(
     alloc: Global,
     schema: &DType,
     columns: &FieldPathSet,

@@ -13,7 +13,7 @@ use vortex_dtype::laws::paths::a_type_is_given_exactly_where_something_is_found;
 use vortex_dtype::{DType, FieldPath};
 
 /// A column of a table: where there is one, some row has a value at it.
-pub fn column_of_rows<'a>(column: &FieldPath, table: &'a DType) -> Option<&'a DType>
+pub fn column_with_values<'a>(column: &FieldPath, table: &'a DType) -> Option<&'a DType>
     ensures { Valid (tree table.now) → CrossesNoSizeZero (tree table.now) column.now
         → IfSome result (λ u. (v : Value) × FoundIn (tree table.now) column.now v) }
 {
@@ -22,7 +22,7 @@ pub fn column_of_rows<'a>(column: &FieldPath, table: &'a DType) -> Option<&'a DT
 }
 
 /// Whether some row of a table may have a value at a column.
-pub fn some_row_may_have(column: &FieldPath, table: &DType) -> bool
+pub fn column_may_have_values(column: &FieldPath, table: &DType) -> bool
     ensures { Valid (tree table.now) → CrossesNoSizeZero (tree table.now) column.now
         → CrossesNoExtension (tree table.now) column.now
         → (IsTrue result ↔ ((v : Value) × FoundIn (tree table.now) column.now v)) }

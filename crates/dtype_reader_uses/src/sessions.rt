@@ -18,7 +18,7 @@ use vortex_dtype::laws::session_laws;
 use vortex_dtype::{DType, DTypeProto, DTypeSession, ExtDTypePlugin, ExtDTypeRef, VortexResult};
 
 /// A type stored and read back by a program that knows none of its extensions: the same type.
-pub fn carried_over(alloc: Global, dtype: &DType) -> VortexResult<DType>
+pub fn round_trip_without_plugins(alloc: Global, dtype: &DType) -> VortexResult<DType>
     ensures same { Valid (tree dtype.now) → IfOk result (λ t. tree t ≡ tree dtype.now) }
     ensures refused { Valid (tree dtype.now) → IsOkUnless result OutOfMemory }
 {
@@ -30,7 +30,7 @@ pub fn carried_over(alloc: Global, dtype: &DType) -> VortexResult<DType>
 
 /// An extension of which nothing is known, carried over: its metadata stays as it is.
 #[tactic(auto, using(vortex_dtype::specs::rulesets::sessions, vortex_dtype::specs::rulesets::messages, vortex_dtype::specs::rulesets::validity))]
-pub fn carried_extension(
+pub fn keep_unknown_metadata(
     alloc: Global,
     id: &str,
     metadata: &[u8],
@@ -45,7 +45,7 @@ pub fn carried_extension(
 }
 
 /// Whether a plugin is known once it is registered: it always is.
-pub fn is_known_once_registered(
+pub fn is_registered_after_register(
     session: &mut DTypeSession,
     id: &str,
     plugin: Box<dyn ExtDTypePlugin>,
@@ -58,7 +58,7 @@ pub fn is_known_once_registered(
 }
 
 /// Whether an id is known after another plugin was registered: where it was before.
-pub fn is_known_beside(
+pub fn is_registered_after_another(
     session: &mut DTypeSession,
     id: &str,
     plugin: Box<dyn ExtDTypePlugin>,
@@ -71,14 +71,14 @@ pub fn is_known_beside(
 }
 
 /// Whether a session that was just made knows an id: none.
-pub fn is_known_from_the_start(alloc: Global, id: &str) -> bool
+pub fn is_registered_in_new_session(alloc: Global, id: &str) -> bool
     ensures { result ≡ false }
 {
     DTypeSession::new(alloc).registry(id)
 }
 
 /// An extension read by a session without plugins: an error.
-pub fn read_by_a_new_session(
+pub fn read_in_new_session(
     alloc: Global,
     id: &str,
     metadata: &[u8],
@@ -92,7 +92,7 @@ pub fn read_by_a_new_session(
 }
 
 /// An extension read by the second of two plugins of one id: as the second writes it back.
-pub fn read_by_the_last(
+pub fn read_by_last_plugin(
     session: &mut DTypeSession,
     first: Box<dyn ExtDTypePlugin>,
     second: Box<dyn ExtDTypePlugin>,
@@ -127,7 +127,7 @@ pub fn register_once(
 }
 
 /// Whether a session accepts an extension's metadata unchanged.
-pub fn is_taken_as_it_is(
+pub fn is_metadata_kept(
     session: &DTypeSession,
     id: &str,
     metadata: &[u8],
@@ -142,7 +142,7 @@ pub fn is_taken_as_it_is(
 
 /// An extension over a storage made nullable: its metadata is what the session keeps over the storage.
 #[tactic(auto, using(vortex_dtype::specs::rulesets::sessions, vortex_dtype::specs::rulesets::messages, vortex_dtype::specs::rulesets::validity))]
-pub fn kept_over_nullable(
+pub fn keep_over_nullable(
     alloc: Global,
     session: &DTypeSession,
     id: &str,

@@ -43,7 +43,7 @@ pub fn has_same_variants(union: &UnionVariants, other: &UnionVariants) -> bool
 }
 
 /// Whether two maps hold the same.
-pub fn holds_same(map: &MapDType, other: &MapDType) -> bool
+pub fn are_maps_equal(map: &MapDType, other: &MapDType) -> bool
     ensures { IsTrue result ↔ (map_shown map.now ≡ map_shown other.now) }
 {
     *map == *other

@@ -56,7 +56,7 @@ pub fn nullability_when_projected(
 }
 
 /// Whether a projection to one name has a field of it: it always has, since an unknown name is an error.
-pub fn has_what_it_was_projected_to(
+pub fn projection_has_field(
     fields: &StructFields,
     alloc: Global,
     name: &FieldName,

@@ -106,7 +106,7 @@ pub fn prune(alloc: Global, table: &DType, asked: Vec<FieldPath>) -> VortexResul
 }
 
 /// What a mask asks below a column, or `None` where it asks for nothing there.
-pub fn asked_below(mask: FieldMask, column: &Field) -> VortexResult<Option<FieldMask>> {
+pub fn mask_below_column(mask: FieldMask, column: &Field) -> VortexResult<Option<FieldMask>> {
     if mask.matches_all() {
         return Ok(Some(FieldMask::All));
     }

@@ -10,7 +10,7 @@ use std::alloc::Global;
 use vortex_dtype::{DType, FieldName, FieldNames, StructFields, UnionVariants, VortexResult};
 
 /// The types of fields.
-pub fn fields_give_what_they_announce(fields: &StructFields) -> bool
+pub fn fields_len_is_count(fields: &StructFields) -> bool
     ensures { result ≡ true }
 {
     let types = fields.fields();
@@ -19,7 +19,7 @@ pub fn fields_give_what_they_announce(fields: &StructFields) -> bool
 }
 
 /// The types of variants.
-pub fn variants_give_what_they_announce(variants: &UnionVariants) -> bool
+pub fn variants_len_is_count(variants: &UnionVariants) -> bool
     ensures { result ≡ true }
 {
     let types = variants.variants();
@@ -28,7 +28,7 @@ pub fn variants_give_what_they_announce(variants: &UnionVariants) -> bool
 }
 
 /// References to names.
-pub fn lent_names_give_what_they_announce(names: &FieldNames) -> bool
+pub fn borrowed_names_len_is_count(names: &FieldNames) -> bool
     ensures { result ≡ true }
 {
     let lent = names.iter();
@@ -37,7 +37,7 @@ pub fn lent_names_give_what_they_announce(names: &FieldNames) -> bool
 }
 
 /// Names, consumed.
-pub fn names_give_what_they_announce(names: FieldNames) -> bool
+pub fn names_len_is_count(names: FieldNames) -> bool
     ensures { result ≡ true }
 {
     let given = names.into_iter();
@@ -46,21 +46,21 @@ pub fn names_give_what_they_announce(names: FieldNames) -> bool
 }
 
 /// References to names, as a list.
-pub fn lent_names_collected(alloc: Global, names: &FieldNames) -> VortexResult<Vec<&FieldName>>
+pub fn collect_borrowed_names(alloc: Global, names: &FieldNames) -> VortexResult<Vec<&FieldName>>
     ensures { IfOk result (λ list. map (λ n. n.now) list.items ≡ names.now) }
 {
     Ok(names.iter().collect(alloc)?)
 }
 
 /// Names, consumed, as a list.
-pub fn names_collected(alloc: Global, names: FieldNames) -> VortexResult<Vec<FieldName>>
+pub fn collect_names(alloc: Global, names: FieldNames) -> VortexResult<Vec<FieldName>>
     ensures { IfOk result (λ list. list.items ≡ names) }
 {
     Ok(names.into_iter().collect(alloc)?)
 }
 
 /// Names, consumed and collected again: the same ones, in order.
-pub fn names_collected_again(alloc: Global, names: FieldNames) -> VortexResult<FieldNames>
+pub fn collect_names_again(alloc: Global, names: FieldNames) -> VortexResult<FieldNames>
     ensures { IfOk result (λ again. again ≡ names) }
 {
     Ok(names.into_iter().collect(alloc)?)

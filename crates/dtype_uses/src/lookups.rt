@@ -12,7 +12,7 @@ ghost use Rattle.dtype_types.specs.tree.TreeOf.{children};
 use vortex_dtype::StructFields;
 
 /// Whether a counted lookup returns the position that `find` does.
-pub fn counted_place_is_found_place(fields: &StructFields, name: &str) -> bool
+pub fn find_counted_agrees_with_find(fields: &StructFields, name: &str) -> bool
     ensures { result ≡ true }
 {
     fields.find_counted(name).0 == fields.find(name)
@@ -20,7 +20,7 @@ pub fn counted_place_is_found_place(fields: &StructFields, name: &str) -> bool
 
 /// The position of the first field of the name, of at most 1,000 fields, and how many of their names were
 /// compared for it.
-pub fn place_among_a_thousand(fields: &StructFields, name: &str) -> (Option<usize>, u64)
+pub fn find_among_a_thousand(fields: &StructFields, name: &str) -> (Option<usize>, u64)
     requires { length (children fields.now) ≤ 1000 }
     ensures place { result.0 ≡ first_place (field_names (children fields.now)) name.now }
     ensures few { result.1 ≤ 11 }
@@ -30,7 +30,7 @@ pub fn place_among_a_thousand(fields: &StructFields, name: &str) -> (Option<usiz
 
 /// Whether two lookups in one struct compare equally many names: they do, for any two names, found
 /// or not.
-pub fn compares_as_many(fields: &StructFields, first: &str, second: &str) -> bool
+pub fn lookups_compare_equally(fields: &StructFields, first: &str, second: &str) -> bool
     ensures { result ≡ true }
 {
     fields.find_counted(first).1 == fields.find_counted(second).1

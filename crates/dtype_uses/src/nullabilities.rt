@@ -14,7 +14,7 @@ use std::alloc::Global;
 use vortex_dtype::{DType, Nullability, VortexResult};
 
 /// A non-nullable type made nullable, and back, is what it was.
-pub fn there_and_back(dtype: &DType, alloc: Global) -> VortexResult<DType>
+pub fn nullable_and_back(dtype: &DType, alloc: Global) -> VortexResult<DType>
     requires { nullability (tree dtype.now) ≡ NonNullable }
     ensures { IfOk result (λ d. tree d ≡ tree dtype.now) }
 {
@@ -46,7 +46,7 @@ pub fn nullable_twice(dtype: &DType, alloc: Global) -> VortexResult<DType>
 }
 
 /// Whether a type is nullable that is above a nullable one.
-pub fn is_nullable_above(dtype: &DType, above: &DType) -> bool
+pub fn larger_type_is_nullable(dtype: &DType, above: &DType) -> bool
     requires nullable { IsNullable (tree dtype.now) }
     requires above { Sub (tree dtype.now) (tree above.now) }
     ensures { result ≡ true }
@@ -55,7 +55,7 @@ pub fn is_nullable_above(dtype: &DType, above: &DType) -> bool
 }
 
 /// Whether a type made nullable is nullable.
-pub fn is_nullable_once_made_so(dtype: &DType, alloc: Global) -> VortexResult<bool>
+pub fn as_nullable_is_nullable(dtype: &DType, alloc: Global) -> VortexResult<bool>
     ensures { IfOk result (λ nullable. IsTrue nullable) }
 {
     Ok(dtype.as_nullable(alloc)?.is_nullable())
@@ -69,7 +69,7 @@ pub fn nullable_with(dtype: &DType, other: &DType, alloc: Global) -> VortexResul
 }
 
 /// A type given its own nullability: what it was.
-pub fn with_its_own(dtype: &DType, alloc: Global) -> VortexResult<DType>
+pub fn with_own_nullability(dtype: &DType, alloc: Global) -> VortexResult<DType>
     ensures { IfOk result (λ d. tree d ≡ tree dtype.now) }
 {
     dtype.with_nullability(alloc, dtype.nullability())

@@ -32,7 +32,7 @@ pub fn bits_of_38_digits() -> usize
 }
 
 /// The name that messages have for a primitive type.
-pub fn for_message(ptype: PType) -> pb::PType
+pub fn message_name(ptype: PType) -> pb::PType
     ensures { plain result ≡ ptype }
 {
     pb::PType::from(ptype)

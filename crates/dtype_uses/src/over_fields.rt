@@ -57,7 +57,7 @@ pub fn is_any_nested(table: &StructFields) -> bool
 }
 
 /// How many columns hold others, by a loop.
-pub fn count_of_nested_in_turn(table: &StructFields) -> u64
+pub fn count_nested_by_loop(table: &StructFields) -> u64
     ensures { result ≡ count_by is_nested (field_types (children table.now)) }
 {
     let mut count = 0;
@@ -70,7 +70,7 @@ pub fn count_of_nested_in_turn(table: &StructFields) -> u64
 }
 
 /// Whether every column may be null, by a loop.
-pub fn all_nullable_in_turn(table: &StructFields) -> bool
+pub fn all_nullable_by_loop(table: &StructFields) -> bool
     ensures { IsTrue result ↔ AllByRecursion IsNullable (field_types (children table.now)) }
 {
     for dtype in table.fields() {

@@ -19,7 +19,7 @@ pub fn is_among(table: &StructFields, name: &str) -> bool
 }
 
 /// Whether a copy of a table has a column of the name: where the table has one.
-pub fn is_in_copy(alloc: Global, table: &StructFields, name: &str) -> VortexResult<bool>
+pub fn copy_has_column(alloc: Global, table: &StructFields, name: &str) -> VortexResult<bool>
     ensures { IfOk result (λ b. IsTrue b ↔ IsSome (first_named (children table.now) name.now)) }
 {
     Ok(table.try_clone(alloc)?.find(name).is_some())

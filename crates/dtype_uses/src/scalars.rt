@@ -27,12 +27,12 @@ pub fn is_integer_of(ptype: PType, value: i64) -> bool
 }
 
 /// Whether the integer is a value of the type, through extensions too.
-pub fn may_stand(value: i64, dtype: &DType) -> bool
+pub fn is_value_of(value: i64, dtype: &DType) -> bool
     ensures { IsTrue result ↔ Of (number value) (tree dtype.now) }
 {
     match dtype {
         DType::Primitive(ptype, _) => is_integer_of(*ptype, value),
-        DType::Extension(extension) => may_stand(value, extension.storage_dtype()),
+        DType::Extension(extension) => is_value_of(value, extension.storage_dtype()),
         DType::Null
         | DType::Bool(_)
         | DType::Decimal(_, _)
@@ -56,7 +56,7 @@ pub fn has_room_for(precision_scale: &PrecisionScale<i64>, value: i64) -> bool
 
 /// Whether the digits, written without their point, are a value of the type, where it is a decimal of at
 /// most 18 digits.
-pub fn digits_may_stand(unscaled: i64, dtype: &DType) -> Option<bool>
+pub fn are_digits_of(unscaled: i64, dtype: &DType) -> Option<bool>
     ensures { IfSome result (λ b. IsTrue b ↔ Of (digits unscaled) (tree dtype.now)) }
 {
     match dtype {

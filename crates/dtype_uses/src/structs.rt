@@ -37,7 +37,7 @@ pub fn is_table_of(dtype: &DType, columns: &StructFields) -> bool
 }
 
 /// Whether tables whose types are equal have the same columns: they always do.
-pub fn have_equal_tables_same_columns(table: &StructFields, other: &StructFields) -> bool
+pub fn equal_tables_have_same_columns(table: &StructFields, other: &StructFields) -> bool
     requires { struct_tree table.now ≡ struct_tree other.now }
     ensures { IsTrue result }
 {

@@ -47,7 +47,7 @@ pub fn as_many_names_as_fields(fields: &StructFields) -> bool
 }
 
 /// A tag of a valid union leads back to its position.
-pub fn place_and_back(variants: &UnionVariants, place: usize) -> Option<usize>
+pub fn tag_to_index_and_back(variants: &UnionVariants, place: usize) -> Option<usize>
     requires { place < length (variant_tags (variant_list variants.now)) }
     ensures { Valid (union_tree variants.now) → result ≡ Some place }
 {
@@ -66,7 +66,7 @@ pub fn as_many_tags_as_names(variants: &UnionVariants) -> bool
 }
 
 /// Whether a tag of a valid union has a position: it always has.
-pub fn tag_has_place(variants: &UnionVariants, place: usize) -> bool
+pub fn tag_has_index(variants: &UnionVariants, place: usize) -> bool
     requires valid { Valid (union_tree variants.now) }
     requires within { place < length (variant_tags (variant_list variants.now)) }
     ensures { IsTrue result }
@@ -90,7 +90,7 @@ pub fn element_of(dtype: &DType) -> Option<&DType>
 }
 
 /// The element type of a list, moved out of the list.
-pub fn element_taken(dtype: DType) -> Option<Box<DType>>
+pub fn into_element(dtype: DType) -> Option<Box<DType>>
     ensures { Valid (tree dtype) → IfSome result (λ b. Valid (tree b.value)) }
 {
     dtype.into_list_element_opt()
@@ -104,7 +104,7 @@ pub fn keys_of(dtype: &DType) -> Option<&DType>
 }
 
 /// The map, moved out of its type.
-pub fn map_taken(dtype: DType) -> Option<MapDType>
+pub fn into_map(dtype: DType) -> Option<MapDType>
     ensures { Valid (tree dtype) → IfSome result (λ m. Valid (map_tree m)) }
 {
     dtype.into_map_opt()
@@ -118,7 +118,7 @@ pub fn variant_of<'a>(dtype: &'a DType, name: &str) -> Option<&'a DType>
 }
 
 /// The columns of a table's type, moved out of it.
-pub fn columns_taken(table: DType) -> Option<StructFields>
+pub fn into_columns(table: DType) -> Option<StructFields>
     ensures { Valid (tree table) → IfSome result (λ s. Valid (struct_tree s)) }
 {
     table.into_struct_fields_opt()
@@ -153,7 +153,7 @@ pub fn table_of_columns(
 }
 
 /// The columns of a join, except one of them.
-pub fn joined_without(
+pub fn join_without(
     alloc: Global,
     left: &StructFields,
     right: &StructFields,

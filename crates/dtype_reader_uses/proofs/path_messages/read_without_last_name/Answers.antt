@@ -6,7 +6,7 @@ use Rattle.std.proofs.lemmas.List.{map-append}
 use Rattle.vortex_dtype.specs.PathMessage.{path_of}
 use Rattle.vortex_dtype.specs.PathNames.{part_name}
 use Rattle.vortex_dtype.specs.lemmas.PathMessages.{no_path}
-use Rattle.dtype_reader_uses.proofs.path_messages.read_unfinished.Goals as goal
+use Rattle.dtype_reader_uses.proofs.path_messages.read_without_last_name.Goals as goal
 
 -- what gives nothing isn't given
 refused : {A E : Type 0} (Q : E → Type 0) (r : Result A E) (given : Option A) → MatchResult r (λ a. given ≡ Some a) Q → given ≡ None → IsErr r

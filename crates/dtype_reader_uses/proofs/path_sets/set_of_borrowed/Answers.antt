@@ -6,7 +6,7 @@ use Rattle.std.specs.FinSet as set
 use Rattle.std.proofs.lemmas.List.{take_more}
 use Rattle.vortex_dtype.specs.rulesets.{of_push}
 use Rattle.vortex_dtype.specs.PathOrder.{set_of}
-use Rattle.dtype_reader_uses.proofs.path_sets.asked_one_by_one.Goals as goal
+use Rattle.dtype_reader_uses.proofs.path_sets.set_of_borrowed.Goals as goal
 
 pub loop-column-preserved : goal.loop-column-preserved
 loop-column-preserved c =

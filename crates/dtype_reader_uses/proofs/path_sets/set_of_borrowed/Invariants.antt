@@ -3,7 +3,7 @@
 
 use Rattle.std.proofs.Common.{◌≡◌, take}
 use Rattle.vortex_dtype.specs.PathOrder.{set_of}
-use Rattle.dtype_reader_uses.proofs.path_sets.asked_one_by_one.Given as goal
+use Rattle.dtype_reader_uses.proofs.path_sets.set_of_borrowed.Given as goal
 
 -- the set of the columns so far
 abbrev pub invariant-loop-column : goal.invariant-loop-column

@@ -6,7 +6,7 @@ use Rattle.std.specs.List.{AllByRecursion}
 use Rattle.dtype_types.specs.parts.Lookups.{field_types}
 use Rattle.dtype_types.specs.nullability.Nullable.{IsNullable}
 use Rattle.dtype_types.specs.tree.TreeOf.{children, tree}
-use Rattle.dtype_uses.proofs.over_fields.all_nullable_in_turn.Given as goal
+use Rattle.dtype_uses.proofs.over_fields.all_nullable_by_loop.Given as goal
 
 -- it holds of all where it holds of those that are left
 abbrev pub invariant-loop-dtype : goal.invariant-loop-dtype

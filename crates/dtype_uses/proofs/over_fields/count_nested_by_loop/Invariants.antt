@@ -5,7 +5,7 @@ use Rattle.std.proofs.Common.{◌≡◌, ◌+◌, ◌<◌, ◌^◌, count_by, le
 use Rattle.dtype_types.specs.tree.Kinds.{is_nested}
 use Rattle.dtype_types.specs.parts.Lookups.{field_types}
 use Rattle.dtype_types.specs.tree.TreeOf.{children, tree}
-use Rattle.dtype_uses.proofs.over_fields.count_of_nested_in_turn.Given as goal
+use Rattle.dtype_uses.proofs.over_fields.count_nested_by_loop.Given as goal
 
 -- those so far and those that are left are all
 abbrev pub invariant-loop-dtype : goal.invariant-loop-dtype

@@ -7,7 +7,7 @@ use dtype_base::{FieldName, Nullability, PType};
 use dtype_types::{DType, ExtDTypeRef, ExtId, FieldDType, StructFields};
 use std::alloc::Global;
 
-/// How a type is made.
+/// The shape of a type.
 #[derive(Clone, Copy)]
 pub enum Shape {
     /// A struct of `count` fields.

@@ -126,7 +126,7 @@ pub fn column_mask_matches_all(column: FieldPath) -> bool
     FieldMask::Exact(column).matches_all()
 }
 
-/// Whether everything is asked for, and so this path.
+/// Whether the mask matches everything: then this path is in it.
 pub fn mask_of_all_matches_path(mask: &FieldMask, path: &FieldPath) -> bool
     ensures { IsTrue result → In mask.now path.now }
 {

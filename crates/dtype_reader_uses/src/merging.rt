@@ -27,7 +27,7 @@ pub fn read_as_one(alloc: Global, file: &DType, other: &DType) -> VortexResult<O
     merge_nullability(alloc, file, other)
 }
 
-/// The type to read a file as beside one that takes its values already: that one's type.
+/// The type to read two files as, where the larger type takes the values of the other file already: the larger type.
 pub fn merge_with_larger(alloc: Global, larger: &DType, file: &DType) -> VortexResult<Option<DType>>
     requires { Sub (tree file.now) (tree larger.now) }
     ensures { IfOk result (λ r. IfSome r (λ d. tree d ≡ tree larger.now)) }

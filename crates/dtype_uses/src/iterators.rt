@@ -1,7 +1,7 @@
 // SPDX-License-Identifier: Apache-2.0
 // SPDX-FileCopyrightText: Copyright the Vortex contributors
 
-// Iterators end, and give as many items as they announced, one after another.
+// Iterators end, and yield as many items as their `len` says, in order.
 ghost use Rattle.std.specs.Prelude.{◌≡◌, IfOk, map, true};
 ghost use Rattle.dtype_types.specs.parts.Lists.{borrowed_pair};
 ghost use Rattle.dtype_types.specs.tree.TreeOf.{children, struct_pairs, with_trees};
@@ -9,7 +9,7 @@ ghost use Rattle.dtype_types.specs.tree.TreeOf.{children, struct_pairs, with_tre
 use std::alloc::Global;
 use vortex_dtype::{DType, FieldName, FieldNames, StructFields, UnionVariants, VortexResult};
 
-/// The types of fields.
+/// Whether the iterator over the types of fields yields as many as `len` says: it always does.
 pub fn fields_len_is_count(fields: &StructFields) -> bool
     ensures { result ≡ true }
 {
@@ -18,7 +18,7 @@ pub fn fields_len_is_count(fields: &StructFields) -> bool
     types.count() == announced
 }
 
-/// The types of variants.
+/// The same of the iterator over the types of variants.
 pub fn variants_len_is_count(variants: &UnionVariants) -> bool
     ensures { result ≡ true }
 {
@@ -27,16 +27,16 @@ pub fn variants_len_is_count(variants: &UnionVariants) -> bool
     types.count() == announced
 }
 
-/// References to names.
+/// The same of the iterator over references to names.
 pub fn borrowed_names_len_is_count(names: &FieldNames) -> bool
     ensures { result ≡ true }
 {
-    let lent = names.iter();
-    let announced = lent.len();
-    lent.count() == announced
+    let borrowed = names.iter();
+    let announced = borrowed.len();
+    borrowed.count() == announced
 }
 
-/// Names, consumed.
+/// The same of the iterator that consumes a list of names.
 pub fn names_len_is_count(names: FieldNames) -> bool
     ensures { result ≡ true }
 {
@@ -45,21 +45,21 @@ pub fn names_len_is_count(names: FieldNames) -> bool
     given.count() == announced
 }
 
-/// References to names, as a list.
+/// Collects references to the names.
 pub fn collect_borrowed_names(alloc: Global, names: &FieldNames) -> VortexResult<Vec<&FieldName>>
     ensures { IfOk result (λ list. map (λ n. n.now) list.items ≡ names.now) }
 {
     Ok(names.iter().collect(alloc)?)
 }
 
-/// Names, consumed, as a list.
+/// Collects the names of a list that is consumed.
 pub fn collect_names(alloc: Global, names: FieldNames) -> VortexResult<Vec<FieldName>>
     ensures { IfOk result (λ list. list.items ≡ names) }
 {
     Ok(names.into_iter().collect(alloc)?)
 }
 
-/// Names, consumed and collected again: the same ones, in order.
+/// Collects the names of a list into a list of names: the same names, in order.
 pub fn collect_names_again(alloc: Global, names: FieldNames) -> VortexResult<FieldNames>
     ensures { IfOk result (λ again. again ≡ names) }
 {

@@ -2,19 +2,15 @@
 -- SPDX-FileCopyrightText: Copyright the Vortex contributors
 
 -- Entries taken in the order of packed keys, whose low parts are the indices of the entries.
-use Rattle.std.proofs.Common.{◌≡◌, ℕ, ◌+◌, ◌*◌, ◌%◌, ◌<◌, List, [], ◌∷◌, ◌++◌, length, get_or, map, refl, sym, ap, subst, ◌∙◌, arith}
+use Rattle.std.proofs.Common.{◌≡◌, ℕ, ◌+◌, ◌*◌, ◌%◌, ◌<◌, List, [], ◌∷◌, ◌++◌, length, get_or, map, refl, sym, ap, subst, ◌∙◌}
 use Rattle.std.specs.List.{range_with_len}
 use Rattle.std.specs.List.Sorted.{IsPermutation}
 use Rattle.std.proofs.lemmas.List.{map-append}
-use Rattle.std.proofs.lemmas.List.Elements.{All-from_get_or}
-use Rattle.std.proofs.lemmas.List.FromFn.{fill_by_all, length-range_with_len, get_or-range_with_len}
-use Rattle.std.proofs.lemmas.List.Sorted.{All-permutation, IsPermutation-map}
+use Rattle.std.proofs.lemmas.List.FromFn.{fill_by_all}
+use Rattle.std.proofs.lemmas.List.Sorted.{IsPermutation-map}
 use Rattle.std.proofs.lemmas.Nat.{mod-mul-add}
-use Rattle.dtype_base.proofs.NameSearch.{counted_more}
+use Rattle.dtype_base.proofs.NameSearch.{counted_more, no_entry}
 use Rattle.dtype_base.specs.declared.name_order.IndexEntry.{IndexEntry}
-
-abbrev pub no_entry : IndexEntry
-no_entry = record { key = 0; position = 0 }
 
 abbrev pub entry_at : List IndexEntry → ℕ → IndexEntry
 entry_at entries k = get_or entries k no_entry
@@ -31,11 +27,6 @@ packed_more room packed first entry within so_far =
     ∙ ap (λ is. is ++ ((first * room + entry) % room) ∷ []) so_far
     ∙ ap (λ i. range_with_len 0 entry ++ i ∷ []) (mod-mul-add first room entry within)
     ∙ sym (counted_more entry)
-
--- each item of a permutation of the numbers below n is below n
-pub position_within : (n : ℕ) (order : List ℕ) → IsPermutation (range_with_len 0 n) order → (k : ℕ) → k < length order → get_or order k 0 < n
-position_within n order moved k b =
-    All-permutation (λ i. i < n) _ order moved (All-from_get_or (λ i. i < n) (range_with_len 0 n) 0 (λ i l. omega (arith, l, length-range_with_len 0 n, get_or-range_with_len 0 n i 0 (omega (arith, l, length-range_with_len 0 n))))) k 0 b
 
 -- the entries at a permutation of all indices are a permutation of the entries
 pub permuted_all : (entries : List IndexEntry) (order : List ℕ) → IsPermutation (range_with_len 0 (length entries)) order → IsPermutation entries (map (entry_at entries) order)

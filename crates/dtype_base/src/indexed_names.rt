@@ -1,14 +1,14 @@
 // SPDX-License-Identifier: Apache-2.0
 // SPDX-FileCopyrightText: Copyright the Vortex contributors
 
-ghost use Rattle.std.specs.Prelude.{◌≡◌, ◌≢◌, ◌⊎◌, ◌↔◌, ◌+◌, ◌<◌, ◌≤◌, ◌%◌, ◌^◌, All, IsSome, IsTrue, IfSome, IfNone, IfOk, Some, [], length, map, nat_lt, slice_index_or, take, MatchResult};
+ghost use Rattle.std.specs.Prelude.{◌≡◌, ◌≢◌, ◌⊎◌, ◌↔◌, ◌+◌, ◌<◌, ◌≤◌, ◌%◌, ◌^◌, All, IsSome, IsTrue, IfOk, Some, [], length, map, nat_lt, slice_index_or, take, MatchResult};
 ghost use Rattle.std.specs.List.{range_with_len};
 ghost use Rattle.std.specs.Ordering.{is_lt, is_eq, nat_cmp};
 ghost use Rattle.std.specs.declared.cmp.Ordering.TheVariants.{Equal};
 ghost use Rattle.dtype_base.specs.BinaryDigits.{binary_digits};
 ghost use Rattle.dtype_base.specs.Bytes.{Bytes};
 ghost use Rattle.dtype_base.specs.Distinct.{Distinct};
-ghost use Rattle.dtype_base.specs.FieldNames.{FirstAt, IsAbsent, SelectionError, first_place};
+ghost use Rattle.dtype_base.specs.FieldNames.{SelectionError, first_place};
 ghost use Rattle.dtype_base.specs.private.NameKeys.{key_prefix, sort_key};
 ghost use Rattle.dtype_base.specs.Comparisons.{comparisons};
 ghost use Rattle.dtype_base.specs.private.NameOrder.{IsIndexOf, IsKeyed, mask, entry_name_cmp, positions};
@@ -177,8 +177,7 @@ fn search(
     requires index { IsIndexOf names.now prefix_len discriminator entries.now }
     requires key { key ≡ sort_key prefix_len name.now }
     requires bytes { Bytes name.now }
-    ensures found { IfSome result.0 (FirstAt names.now name.now) }
-    ensures none { IfNone result.0 (IsAbsent names.now name.now) }
+    ensures place { result.0 ≡ first_place names.now name.now }
     ensures count { result.1 ≡ comparisons (length names.now) }
 {
     match discriminator {
@@ -224,8 +223,7 @@ fn search_with(
     requires index { IsIndexOf names.now prefix_len by entries.now }
     requires key { key ≡ sort_key prefix_len name.now }
     requires bytes { Bytes name.now }
-    ensures found { IfSome result.0 (FirstAt names.now name.now) }
-    ensures none { IfNone result.0 (IsAbsent names.now name.now) }
+    ensures place { result.0 ≡ first_place names.now name.now }
     ensures count { result.1 ≡ comparisons (length names.now) }
 {
     if entries.is_empty() {

@@ -3,14 +3,13 @@
 
 -- Sort keys: a number of sixteen bytes for each name, by which most names are ordered and distinguished without their
 -- texts being read. Only private contracts cite them.
-use Rattle.std.specs.Prelude.{◌≡◌, ℕ, zero, suc, ◌+◌, ◌*◌, ◌/◌, ◌^◌, List, [], ◌∷◌, length, min, take, drop, slice_index_or}
+use Rattle.std.specs.Prelude.{◌≡◌, ℕ, zero, suc, ◌+◌, ◌*◌, ◌/◌, ◌^◌, List, [], length, min, take, drop, slice_index, slice_index_or}
 use Rattle.std.specs.List.{All}
 
 -- the first k bytes of a text as one big-endian number, padded with zeros after its end
 unfoldable pub big_endian : ℕ → List ℕ → ℕ
 big_endian zero bs = 0
-big_endian (suc k) [] = 0
-big_endian (suc k) (b ∷ bs) = b * 256 ^ k + big_endian k bs
+big_endian (suc k) bs = big_endian k bs * 256 + slice_index bs k
 
 -- The sort key of a name after a common prefix: the fifteen bytes that follow the prefix, and in the last byte how many
 -- bytes follow it, 16 where more than fifteen do. So two names with that prefix and equal keys, whose last byte is below

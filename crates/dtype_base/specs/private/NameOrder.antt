@@ -4,7 +4,7 @@
 -- The index of a name list: an entry for each position, with the sort key of the name there, in the order of the names'
 -- bytes and then of the positions. Only private contracts cite it.
 use Rattle.std.specs.Prelude.{◌≡◌, ℕ, ◌-◌, ◌<◌, ◌^◌, List, Option, Some, Bool, ⊤, length, map, slice_get, slice_index_or, [], if◌then◌else◌}
-use Rattle.std.specs.List.{All, AllPairs, range_with_len}
+use Rattle.std.specs.List.{All, AllAdjacentBelow, range_with_len}
 use Rattle.std.specs.List.Sorted.{IsPermutation, IsSorted}
 use Rattle.std.specs.Option.{option_cmp}
 use Rattle.std.specs.Ordering.{ordering_then, nat_cmp}
@@ -49,11 +49,11 @@ positions = map (λ p. p.position)
 
 -- the keys are strictly increasing, so they distinguish the entries
 abbrev pub KeysIncrease : List IndexEntry → Type 0
-KeysIncrease = AllPairs (λ p q. p.key < q.key)
+KeysIncrease entries = AllAdjacentBelow (λ p q. p.key < q.key) entries (length entries)
 
 -- the key prefixes, the first eight bytes, are strictly increasing
 abbrev pub PrefixesIncrease : List IndexEntry → Type 0
-PrefixesIncrease = AllPairs (λ p q. key_prefix p.key < key_prefix q.key)
+PrefixesIncrease entries = AllAdjacentBelow (λ p q. key_prefix p.key < key_prefix q.key) entries (length entries)
 
 -- what the discriminator of an index promises of its entries
 abbrev pub AreDistinguishedBy : Discriminator → List IndexEntry → Type 0

@@ -4,12 +4,12 @@
 use Rattle.std.proofs.Common.{◌≡◌, Some, None, inr, [], get_or, map, ap, subst, sym, ◌∙◌, arith}
 use Rattle.std.specs.List.{All}
 use Rattle.std.proofs.lemmas.List.{get_or_default}
+use Rattle.std.proofs.lemmas.List.Elements.{All-push}
 use Rattle.dtype_base.specs.Bytes.{Bytes}
 use Rattle.dtype_base.specs.FieldNames.{first_place}
 use Rattle.dtype_base.specs.private.NameKeys.{sort_key}
 use Rattle.dtype_base.specs.private.NameOrder.{IsKeyed, positions}
-use Rattle.dtype_base.specs.lemmas.Lookups.{place_found}
-use Rattle.dtype_base.proofs.KeyOrder.{positions_push, keyed_push}
+use Rattle.dtype_base.proofs.KeyOrder.{positions_push}
 use Rattle.dtype_base.proofs.Selections.{selects_more, first_absent}
 use Rattle.dtype_base.proofs.indexed_names.look_up.Goals as goal
 
@@ -17,8 +17,7 @@ pub returns-in-None-clause-found : goal.returns-in-None-clause-found
 returns-in-None-clause-found c =
     let names = c.args.names.now in
     let n = c.index-asked-position.result in
-    let found = place_found names c.as_str-name.result.now c.search.result.0 c.search.ensures.found c.search.ensures.none in
-    let none : None ≡ first_place names n = sym c.in-None.is ∙ found ∙ ap (first_place names) c.as_str-name.ensures in
+    let none : None ≡ first_place names n = sym c.in-None.is ∙ c.search.ensures.place ∙ ap (first_place names) c.as_str-name.ensures in
     inr (first_absent names c.args.asked.now c.loop-position.first_positions.items c.loop-position.position n c.loop-position-test.true c.index-asked-position.is c.loop-position.invariant.found none)
 
 pub loop-position-preserved : goal.loop-position-preserved
@@ -34,11 +33,10 @@ loop-position-preserved c =
     let pushed = c.push_reserved-in-loop-position.ensures.items in
     let name : c.as_bytes.result.now ≡ get_or asked position [] =
     c.as_bytes.ensures.value ∙ c.as_str-name.ensures ∙ c.index-asked-position.is ∙ get_or_default asked position _ [] within in
-    let found = place_found names c.as_str-name.result.now c.search.result.0 c.search.ensures.found c.search.ensures.none in
-    let first : Some c.in-Some.first ≡ first_place names n = sym c.in-Some.is ∙ found ∙ ap (first_place names) c.as_str-name.ensures in record {
+    let first : Some c.in-Some.first ≡ first_place names n = sym c.in-Some.is ∙ c.search.ensures.place ∙ ap (first_place names) c.as_str-name.ensures in record {
       in_order = ap positions pushed ∙ positions_push made _ position so_far.in_order;
       keyed = subst (All (IsKeyed asked prefix_len)) (sym pushed)
-          (keyed_push asked prefix_len made _ so_far.keyed
+          (All-push (IsKeyed asked prefix_len) made _ so_far.keyed
           (record { within = within; key = c.sort_key-key.ensures.key ∙ ap (sort_key prefix_len) name; bytes = subst Bytes name c.sort_key-key.ensures.bytes }));
       found = ap (map Some) c.push_reserved.ensures.items ∙ selects_more names asked c.loop-position.first_positions.items position c.in-Some.first n within c.index-asked-position.is first so_far.found;
       len = (omega (arith, c.push_reserved-in-loop-position.ensures.len, so_far.len.0), omega (arith, c.push_reserved.ensures.len, so_far.len.1));

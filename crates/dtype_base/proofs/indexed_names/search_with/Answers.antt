@@ -1,25 +1,26 @@
 -- SPDX-License-Identifier: Apache-2.0
 -- SPDX-FileCopyrightText: Copyright the Vortex contributors
 
-use Rattle.std.proofs.Common.{◌≡◌, ◌+◌, ◌-◌, ◌/◌, ◌<◌, length, refl, sym, ap, subst, ◌∙◌, arith, IfSome, IfNone}
+use Rattle.std.proofs.Common.{◌≡◌, ◌+◌, ◌-◌, ◌/◌, ◌<◌, length, refl, sym, ap, subst, ◌∙◌, arith, is_lt}
 use Rattle.std.specs.Bool.{then_some}
 use Rattle.std.specs.Int.Bits.{bit_and}
 use Rattle.std.proofs.lemmas.Bool.{eqb-true, eqb-false}
 use Rattle.std.proofs.lemmas.Option.{slice_get_within}
 use Rattle.dtype_base.specs.lemmas.BinaryDigits.{digits_fewest}
-use Rattle.dtype_base.specs.FieldNames.{FirstAt, IsAbsent}
+use Rattle.dtype_base.specs.lemmas.Lookups.{no_place}
 use Rattle.dtype_base.specs.Comparisons.{comparisons}
-use Rattle.dtype_base.specs.private.NameOrder.{positions}
-use Rattle.dtype_base.proofs.NameSearch.{Searching, as_many, as_many_positions, position_at, starts, steps, ends, counts}
-use Rattle.dtype_base.proofs.KeyOrder.{below_decided, same_decided}
+use Rattle.dtype_base.specs.private.NameOrder.{name_cmp, positions}
+use Rattle.dtype_base.proofs.NameSearch.{Searching, as_many, as_many_positions, position_at, no_entry, starts, steps, ends, counts}
+use Rattle.dtype_base.proofs.KeyOrder.{decided, same_decided}
 use Rattle.dtype_base.proofs.indexed_names.search_with.Goals as goal
 
-pub returns-then-is_empty-clause-none : goal.returns-then-is_empty-clause-none
-returns-then-is_empty-clause-none c = λ k e.
+pub returns-then-is_empty-clause-place : goal.returns-then-is_empty-clause-place
+returns-then-is_empty-clause-place c =
     let names = c.args.names.now in
     let entries = c.args.entries.now in
     let empty : length entries ≡ 0 = eqb-true (length entries) 0 (sym c.is_empty.ensures ∙ c.if-is_empty.true) in
-    omega (arith, slice_get_within names k c.args.name.now e, as_many names (positions entries) c.requires.index.order, as_many_positions entries, empty)
+    sym (no_place names c.args.name.now (λ k e.
+    omega (arith, slice_get_within names k c.args.name.now e, as_many names (positions entries) c.requires.index.order, as_many_positions entries, empty)))
 
 pub returns-then-is_empty-clause-count : goal.returns-then-is_empty-clause-count
 returns-then-is_empty-clause-count c =
@@ -59,43 +60,25 @@ loop-size-preserved c =
     let size = c.loop-size.size in
     let m = low + size / 2 - 1 in
     let within : m < length entries = omega (arith, inv.within, inv.some, c.loop-size-test.true, as_many_positions entries) in
-    let bytes = c.requires.bytes in
-    let key = c.requires.key in
     subst (λ count. Searching names order n (low + bit_and (size / 2) c.compare-comparison.result.below) (size - size / 2) count) (sym c.compare-comparison.ensures.counted)
     (steps names order c.requires.index.order n low size c.loop-size.compared (size / 2) m c.compare-comparison.result.below _ inv c.loop-size-test.true refl refl (omega arith)
-    (below_decided names prefix_len c.requires.index.common_prefix entries c.requires.index.keyed c.requires.index.order n c.args.key m _ c.args.by c.requires.index.distinguished bytes key within) c.compare-comparison.ensures.below)
+    (λ t. ap is_lt (ap (name_cmp names n) (position_at entries m no_entry within) ∙ sym (decided names prefix_len c.requires.index.common_prefix entries c.requires.index.keyed c.requires.index.order n c.args.key m no_entry c.args.by c.requires.index.distinguished c.requires.bytes c.requires.key within t)))
+    c.compare-comparison.ensures.below)
 
-pub returns-clause-found : goal.returns-clause-found
-returns-clause-found c =
+pub returns-clause-place : goal.returns-clause-place
+returns-clause-place c =
     let inv = c.loop-size.invariant in
     let names = c.args.names.now in
     let entries = c.args.entries.now in
-    let order = positions entries in
     let n = c.args.name.now in
-    let prefix_len = c.args.prefix_len in
     let low = c.loop-size.low in
+    let same = c.compare-comparison-2.result.same in
+    let by = c.final_discriminator-by.ensures in
     let within : low < length entries = omega (arith, inv.within, inv.some, as_many_positions entries) in
-    let bytes = c.requires.bytes in
-    let key = c.requires.key in
-    let distinguished = same_decided names prefix_len c.requires.index.common_prefix entries c.requires.index.keyed c.requires.index.order n c.args.key low _ _ c.compare-comparison-2.result.same c.final_discriminator-by.ensures.not_prefix c.final_discriminator-by.ensures.whole bytes key within c.compare-comparison-2.ensures.same in
-    let last = ends names order c.requires.index.order n low c.loop-size.size c.loop-size.compared c.compare-comparison-2.result.same inv (omega (arith, c.loop-size-test.false)) distinguished.0 distinguished.1 in
-    subst (λ r. IfSome r (FirstAt names n)) (ap (then_some c.compare-comparison-2.result.same) (position_at entries low _ within) ∙ sym c.then_some.ensures) last.0
-
-pub returns-clause-none : goal.returns-clause-none
-returns-clause-none c =
-    let inv = c.loop-size.invariant in
-    let names = c.args.names.now in
-    let entries = c.args.entries.now in
-    let order = positions entries in
-    let n = c.args.name.now in
-    let prefix_len = c.args.prefix_len in
-    let low = c.loop-size.low in
-    let within : low < length entries = omega (arith, inv.within, inv.some, as_many_positions entries) in
-    let bytes = c.requires.bytes in
-    let key = c.requires.key in
-    let distinguished = same_decided names prefix_len c.requires.index.common_prefix entries c.requires.index.keyed c.requires.index.order n c.args.key low _ _ c.compare-comparison-2.result.same c.final_discriminator-by.ensures.not_prefix c.final_discriminator-by.ensures.whole bytes key within c.compare-comparison-2.ensures.same in
-    let last = ends names order c.requires.index.order n low c.loop-size.size c.loop-size.compared c.compare-comparison-2.result.same inv (omega (arith, c.loop-size-test.false)) distinguished.0 distinguished.1 in
-    subst (λ r. IfNone r (IsAbsent names n)) (ap (then_some c.compare-comparison-2.result.same) (position_at entries low _ within) ∙ sym c.then_some.ensures) last.1
+    let at = position_at entries low no_entry within in
+    let distinguished = same_decided names c.args.prefix_len c.requires.index.common_prefix entries c.requires.index.keyed n c.args.key low no_entry _ same by.not_prefix by.whole c.requires.bytes c.requires.key within c.compare-comparison-2.ensures.same in
+    c.then_some.ensures ∙ sym (ap (then_some same) at)
+    ∙ ends names (positions entries) c.requires.index.order n low c.loop-size.size c.loop-size.compared same inv (omega (arith, c.loop-size-test.false)) (λ e. ap (name_cmp names n) at ∙ distinguished.0 e) (λ e t here. distinguished.1 e t (sym (ap (name_cmp names n) at) ∙ here))
 
 pub returns-clause-count : goal.returns-clause-count
 returns-clause-count c =

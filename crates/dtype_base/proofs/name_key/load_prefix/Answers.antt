@@ -14,7 +14,7 @@ returns c =
     let count = c.args.count in
     let others = 8 - count in
     let bytes : Bytes text = All-from_get_or (λ b. b < 256) text 0 (λ i _. omega (arith, c.type_inv.text i)) in
-    let eight : 8 ≡ count + others = omega (arith, c.requires.few) in
+    let eight : 8 ≡ others + count = omega (arith, c.requires.few) in
     ap (λ n. n / 2 ^ (8 * others)) c.load_u64.ensures
     ∙ ap (λ w. big_endian 8 text / w) (bits others)
     ∙ without_last count others 8 text eight bytes

@@ -4,14 +4,14 @@
 use Rattle.std.proofs.Common.{[], ◌∷◌, length, sym, ◌∙◌, w64}
 use Rattle.std.specs.Int.{from_be_bytes}
 use Rattle.std.proofs.lemmas.Bool.{eqb-true}
-use Rattle.dtype_base.proofs.KeyOrder.{first_eight, none_first}
+use Rattle.dtype_base.proofs.KeyOrder.{first_eight, of_none}
 use Rattle.dtype_base.proofs.name_key.load_u64.Goals as goal
 
 pub returns-then-text-ge8 : goal.returns-then-text-ge8
 returns-then-text-ge8 c = c.from_be_bytes.ensures ∙ sym (first_eight c.args.text.now)
 
 pub returns-then-is_empty : goal.returns-then-is_empty
-returns-then-is_empty c = none_first c.args.text.now (eqb-true (length c.args.text.now) 0 (sym c.is_empty.ensures ∙ c.if-is_empty.true))
+returns-then-is_empty c = sym (of_none 8 c.args.text.now (eqb-true (length c.args.text.now) 0 (sym c.is_empty.ensures ∙ c.if-is_empty.true)))
 
 pub returns : goal.returns
 returns c =

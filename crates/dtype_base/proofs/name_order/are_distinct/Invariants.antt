@@ -1,10 +1,12 @@
 -- SPDX-License-Identifier: Apache-2.0
 -- SPDX-FileCopyrightText: Copyright the Vortex contributors
 
+use Rattle.std.proofs.Common.{slice_get}
+use Rattle.std.specs.Prelude.{◌≢◌}
+use Rattle.std.specs.List.{AllAdjacentBelow}
 use Rattle.dtype_base.specs.private.NameOrder.{positions}
-use Rattle.dtype_base.proofs.NameSearch.{AllRise}
 use Rattle.dtype_base.proofs.name_order.are_distinct.Given as goal
 
--- the name of each entry before this one is above all names before it
+-- no two neighbours so far have one name
 abbrev pub invariant-loop-index : goal.invariant-loop-index
-invariant-loop-index l = AllRise l.names (positions l.entries) l.index
+invariant-loop-index l = AllAdjacentBelow (λ i j. slice_get l.names i ≢ slice_get l.names j) (positions l.entries) l.index

@@ -5,11 +5,12 @@ use Rattle.std.proofs.Common.{◌≡◌, ⊎_elim, length, take, get_or, [], ap,
 use Rattle.std.proofs.lemmas.Bool.{cases_lt}
 use Rattle.std.specs.List.{All}
 use Rattle.std.proofs.lemmas.List.{get_or_default}
+use Rattle.std.proofs.lemmas.List.Elements.{All-push}
 use Rattle.std.proofs.lemmas.Option.{get_or_from_slice_get}
 use Rattle.dtype_base.specs.private.NameKeys.{sort_key}
 use Rattle.dtype_base.specs.private.NameOrder.{IsKeyed, positions}
 use Rattle.dtype_base.specs.Bytes.{Bytes}
-use Rattle.dtype_base.proofs.KeyOrder.{positions_push, entries_counted, keyed_push}
+use Rattle.dtype_base.proofs.KeyOrder.{positions_push, entries_counted}
 use Rattle.dtype_base.proofs.name_order.entries_after_prefix.Goals as goal
 
 pub loop-position-preserved : goal.loop-position-preserved
@@ -27,7 +28,7 @@ loop-position-preserved c =
     ap (take prefix_len) (sym name) ∙ c.eq_prefix.ensures.0 c.if-not-eq_prefix.false ∙ ap (take prefix_len) first in record {
       in_order = ap positions pushed ∙ positions_push entries _ position inv.in_order;
       keyed = subst (All (IsKeyed names prefix_len)) (sym pushed)
-          (keyed_push names prefix_len entries _ inv.keyed
+          (All-push (IsKeyed names prefix_len) entries _ inv.keyed
           (record { within = c.loop-position-test.true; key = c.sort_key-key.ensures.key ∙ ap (sort_key prefix_len) name; bytes = subst Bytes name c.sort_key-key.ensures.bytes }));
       common_prefix = λ k l. ⊎_elim (inv.common_prefix k) (λ last. ap (λ j. take prefix_len (get_or names j [])) (omega (arith, l, last)) ∙ begins) (cases_lt k position);
       len = omega (arith, c.push_reserved.ensures.len, inv.len);

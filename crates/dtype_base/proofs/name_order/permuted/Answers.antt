@@ -4,7 +4,8 @@
 use Rattle.std.proofs.Common.{◌%◌, ◌<◌, length, get_or, map, take, ◌++◌, [], ◌∷◌, ap, sym, subst, ◌∙◌, arith, rules}
 use Rattle.std.specs.List.Sorted.{IsPermutation}
 use Rattle.std.proofs.lemmas.List.{get_or-map, length-map, map_more, take_all}
-use Rattle.dtype_base.proofs.PermutedEntries.{position_within, entry_at, packed_positions, permuted_all}
+use Rattle.dtype_base.proofs.PermutedEntries.{entry_at, packed_positions, permuted_all}
+use Rattle.dtype_base.proofs.NameSearch.{position_within}
 use Rattle.dtype_base.proofs.name_order.permuted.Goals as goal
 
 pub bounds-entries-number : goal.bounds-entries-number

@@ -4,13 +4,12 @@
 use Rattle.std.proofs.Common.{ap, ◌∙◌, length}
 use Rattle.dtype_base.specs.FieldNames.{first_place}
 use Rattle.dtype_base.specs.Comparisons.{comparisons}
-use Rattle.dtype_base.specs.lemmas.Lookups.{place_found, most_compared, found_compared}
+use Rattle.dtype_base.specs.lemmas.Lookups.{most_compared, found_compared}
 use Rattle.dtype_base.proofs.indexed_names.IndexedNames.find_counted.Goals as goal
 
 pub returns-clause-first : goal.returns-clause-first
 returns-clause-first c =
-    place_found c.as_slice.result.now c.args.name.now c.search.result.0 c.search.ensures.found c.search.ensures.none
-    ∙ ap (λ names. first_place names c.args.name.now) (c.as_slice.ensures ∙ c.self.view_is)
+    c.search.ensures.place ∙ ap (λ names. first_place names c.args.name.now) (c.as_slice.ensures ∙ c.self.view_is)
 
 pub returns-clause-count : goal.returns-clause-count
 returns-clause-count c = c.search.ensures.count ∙ ap (λ names. comparisons (length names)) (c.as_slice.ensures ∙ c.self.view_is)

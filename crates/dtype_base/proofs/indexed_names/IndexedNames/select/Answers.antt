@@ -3,8 +3,9 @@
 
 use Rattle.std.proofs.Common.{subst, sym}
 use Rattle.dtype_base.specs.private.NameKeys.{HaveCommonPrefix}
-use Rattle.dtype_base.specs.private.NameOrder.{IsIndexOf}
-use Rattle.dtype_base.proofs.KeyOrder.{still_keyed, order_of}
+use Rattle.dtype_base.specs.private.NameOrder.{IsIndexOf, IsKeyed}
+use Rattle.std.proofs.lemmas.List.Sorted.{All-permutation}
+use Rattle.dtype_base.proofs.KeyOrder.{order_of}
 use Rattle.dtype_base.proofs.Selections.{selected_prefix}
 use Rattle.dtype_base.proofs.indexed_names.IndexedNames.select.Goals as goal
 
@@ -23,7 +24,7 @@ invariant_of-selected c =
     subst (λ ns. IsIndexOf ns prefix_len discriminator sorted) (sym c.in_ok-copied.ensures)
     (record {
       common_prefix = common_prefix;
-      keyed = still_keyed asked prefix_len common_prefix entries sorted here.keyed moved;
+      keyed = All-permutation (IsKeyed asked prefix_len) entries sorted moved here.keyed;
       order = order_of asked prefix_len common_prefix entries sorted here.order here.keyed moved c.in_ok-discriminator.ensures.rising;
       distinguished = c.in_ok-discriminator.ensures.distinguished;
     })

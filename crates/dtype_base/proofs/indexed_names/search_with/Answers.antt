@@ -4,13 +4,13 @@
 use Rattle.std.proofs.Common.{◌≡◌, ◌+◌, ◌-◌, ◌/◌, ◌<◌, length, refl, sym, ap, subst, ◌∙◌, arith, is_lt}
 use Rattle.std.specs.Bool.{then_some}
 use Rattle.std.specs.Int.Bits.{bit_and}
-use Rattle.std.proofs.lemmas.Bool.{eqb-true, eqb-false}
+use Rattle.std.proofs.lemmas.Bool.{eqb-true}
 use Rattle.std.proofs.lemmas.Option.{slice_get_within}
 use Rattle.dtype_base.specs.lemmas.BinaryDigits.{digits_fewest}
 use Rattle.dtype_base.specs.lemmas.Lookups.{no_place}
 use Rattle.dtype_base.specs.Comparisons.{comparisons}
 use Rattle.dtype_base.specs.private.NameOrder.{name_cmp, positions}
-use Rattle.dtype_base.proofs.NameSearch.{Searching, as_many, as_many_positions, position_at, no_entry, starts, steps, ends, counts}
+use Rattle.dtype_base.proofs.NameSearch.{Searching, as_many, as_many_positions, position_at, no_entry, steps, ends, counts}
 use Rattle.dtype_base.proofs.KeyOrder.{decided, same_decided}
 use Rattle.dtype_base.proofs.indexed_names.search_with.Goals as goal
 
@@ -29,14 +29,6 @@ returns-then-is_empty-clause-count c =
     let empty : length entries ≡ 0 = eqb-true (length entries) 0 (sym c.is_empty.ensures ∙ c.if-is_empty.true) in
     let none : 0 ≡ length names = omega (arith, as_many names (positions entries) c.requires.index.order, as_many_positions entries, empty) in
     ap comparisons none
-
-pub loop-size-init : goal.loop-size-init
-loop-size-init c =
-    let names = c.args.names.now in
-    let entries = c.args.entries.now in
-    let order = positions entries in
-    let some : length entries ≡ 0 → ⊥ = eqb-false (length entries) 0 (sym c.is_empty.ensures ∙ c.if-is_empty.false) in
-    subst (λ size. Searching names order c.args.name.now 0 size 0) (as_many_positions entries) (starts names order c.requires.index.order c.args.name.now (omega (arith, as_many_positions entries, some)))
 
 pub compare-comparison-requires-clause-room : goal.compare-comparison-requires-clause-room
 compare-comparison-requires-clause-room c =

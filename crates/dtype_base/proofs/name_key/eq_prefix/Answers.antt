@@ -2,7 +2,6 @@
 -- SPDX-FileCopyrightText: Copyright the Vortex contributors
 
 use Rattle.std.proofs.Common.{◌<◌, sym, ◌∙◌, arith}
-use Rattle.std.specs.Cmp.Lexicographic.{bytes_decides}
 use Rattle.std.proofs.lemmas.Bool.{eqb-true, eq-eqb}
 use Rattle.std.proofs.lemmas.List.Elements.{All-from_get_or}
 use Rattle.dtype_base.specs.Bytes.{Bytes}
@@ -19,10 +18,3 @@ returns-then-b-ge8 c =
     let first = c.load_prefix.ensures in
     let second = c.load_prefix-then-b-ge8.ensures in
     (λ t. tells.0 (sym first ∙ eqb-true _ _ t ∙ second), λ e. eq-eqb _ _ (first ∙ tells.1 e ∙ sym second))
-
-pub returns : goal.returns
-returns c =
-    let same = bytes_decides c.prefix.result.now c.prefix-2.result.now in (
-      λ t. sym c.prefix.ensures ∙ same.0 (sym c.eq.ensures ∙ t) ∙ c.prefix-2.ensures,
-      λ e. c.eq.ensures ∙ same.1 (c.prefix.ensures ∙ e ∙ sym c.prefix-2.ensures),
-    )

@@ -1,7 +1,7 @@
 -- SPDX-License-Identifier: Apache-2.0
 -- SPDX-FileCopyrightText: Copyright the Vortex contributors
 
-use Rattle.std.proofs.Common.{◌≡◌, ⊎_elim, length, take, get_or, [], ap, subst, sym, ◌∙◌, arith}
+use Rattle.std.proofs.Common.{◌≡◌, ⊎_elim, take, get_or, [], ap, subst, sym, ◌∙◌, arith}
 use Rattle.std.proofs.lemmas.Bool.{cases_lt}
 use Rattle.std.specs.List.{All}
 use Rattle.std.proofs.lemmas.List.{get_or_default}
@@ -10,7 +10,7 @@ use Rattle.std.proofs.lemmas.Option.{get_or_from_slice_get}
 use Rattle.dtype_base.specs.private.NameKeys.{sort_key}
 use Rattle.dtype_base.specs.private.NameOrder.{IsKeyed, positions}
 use Rattle.dtype_base.specs.Bytes.{Bytes}
-use Rattle.dtype_base.proofs.KeyOrder.{positions_push, entries_counted}
+use Rattle.dtype_base.proofs.KeyOrder.{positions_push}
 use Rattle.dtype_base.proofs.name_order.entries_after_prefix.Goals as goal
 
 pub loop-position-preserved : goal.loop-position-preserved
@@ -34,13 +34,3 @@ loop-position-preserved c =
       len = omega (arith, c.push_reserved.ensures.len, inv.len);
       room = omega (arith, c.push_reserved.ensures.capacity, inv.room);
     }
-
-pub returns-clause-common_prefix : goal.returns-clause-common_prefix
-returns-clause-common_prefix c =
-    let names = c.args.names.now in
-    let prefix_len = c.args.prefix_len in
-    let inv = c.loop-position.invariant in
-    let all : c.loop-position.position ≡ length names = omega (arith, c.loop-position-test.false) in (
-      λ e k d within. ap (take prefix_len) (get_or_default names k d [] within) ∙ inv.common_prefix k (omega (arith, within, all)),
-      λ common_prefix. entries_counted c.loop-position.entries.items c.loop-position.position inv.in_order ∙ all,
-    )

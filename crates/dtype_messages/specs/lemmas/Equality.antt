@@ -54,8 +54,8 @@ use denote.Hole.Carrier
 
 -- ---- tests of pairs, lists and options
 
-Decides-rewritten : {A : Type 0} {r t : Flag} {x y u v : A} → r ≡ t → x ≡ u → y ≡ v → Decides t (u ≡ v) → Decides r (x ≡ y)
-Decides-rewritten e p q d = (λ is. p ∙ d.0 (sym e ∙ is) ∙ sym q, λ is. e ∙ d.1 (sym p ∙ is ∙ q))
+Decides-rewritten : {A : Type 0} {r t : Flag} {x y u v : A} → Decides t (u ≡ v) → r ≡ t → x ≡ u → y ≡ v → Decides r (x ≡ y)
+Decides-rewritten d e p q = (λ is. p ∙ d.0 (sym e ∙ is) ∙ sym q, λ is. e ∙ d.1 (sym p ∙ is ∙ q))
 
 Decides-different : {A : Type 0} {x y : A} → (x ≡ y → ⊥) → Decides false (x ≡ y)
 Decides-different h = (λ e. absurd (false≢true e), λ e. absurd (h e))
@@ -81,24 +81,21 @@ quadruple_Decides {r = r} {s = s} {t = t} {w = w} d k l m = Decides-like (r && (
 module _ {X A : Type 0} {E : X → X → Flag} {f : X → A} (same : (x y : X) → Decides (E x y) (f x ≡ f y)) where
   items_Decides : (xs ys : List X) → Decides (pointwise E xs ys) (map f xs ≡ map f ys)
   items_Decides [] [] = (λ _. refl, λ _. refl)
-  items_Decides [] (y ∷ ys) = Decides-different (λ e. cc)
-  items_Decides (x ∷ xs) [] = Decides-different (λ e. cc)
   items_Decides (x ∷ xs) (y ∷ ys) = Decides-like _ (λ h i. h.0 i ∷ h.1 i) (λ e. (cc, cc)) (Decides-and _ _ (same x y) (items_Decides xs ys))
+  items_Decides _ _ = Decides-different (λ e. cc)
 
   option_Decides : (p q : Option X) → Decides (option_eq E p q) (option_map f p ≡ option_map f q)
   option_Decides None None = (λ _. refl, λ _. refl)
-  option_Decides None (Some y) = Decides-different (λ e. cc)
-  option_Decides (Some x) None = Decides-different (λ e. cc)
   option_Decides (Some x) (Some y) = Decides-like _ (ap Some) (λ e. cc) (same x y)
+  option_Decides _ _ = Decides-different (λ e. cc)
 
 texts_Decides : (xs ys : List (String Global)) → Decides (pointwise string_eq xs ys) (texts xs ≡ texts ys)
 texts_Decides = items_Decides (λ x y. bytes_eq-Decides (string_bytes x) (string_bytes y))
 
 bytes_Decides : (p q : Option (Vec ℕ Global)) → Decides (option_eq (λ x y. pointwise nat_eq x.items y.items) p q) (bytes_of p ≡ bytes_of q)
 bytes_Decides None None = (λ _. refl, λ _. refl)
-bytes_Decides None (Some y) = Decides-different (λ e. cc)
-bytes_Decides (Some x) None = Decides-different (λ e. cc)
 bytes_Decides (Some x) (Some y) = Decides-like _ (ap Some) (λ e. cc) (bytes_eq-Decides x.items y.items)
+bytes_Decides _ _ = Decides-different (λ e. cc)
 
 tags_Decides : (gs hs : List ℤ) → Decides (pointwise int_eq gs hs) (gs ≡ hs)
 tags_Decides gs hs = slice_eq-Decides signed_Decides gs hs (pointwise int_eq gs hs) refl
@@ -136,24 +133,6 @@ one_layer-not_missing k e = cc
 kind_message-not_missing : (k : DtypeType) → missing ≡ kind_message k → ⊥
 kind_message-not_missing k e = one_layer-not_missing k (e ∙ kind_message-one_layer k)
 
-list_content-one_layer : (p : ListMessage) → list_content p ≡ (child_message (out-List p).element_type, (out-List p).nullable)
-list_content-one_layer p = search (rules, the_lemmas)
-
-fixed_content-one_layer : (p : FixedMessage) → fixed_content p ≡ (child_message (out-FixedSizeList p).element_type, (out-FixedSizeList p).size, (out-FixedSizeList p).nullable)
-fixed_content-one_layer p = search (rules, the_lemmas)
-
-map_content-one_layer : (p : MapMessage) → map_content p ≡ (child_message (out-Map p).key_type, child_message (out-Map p).value_type, (out-Map p).keys_sorted, (out-Map p).nullable)
-map_content-one_layer p = search (rules, the_lemmas)
-
-struct_content-one_layer : (p : StructMessage) → struct_content p ≡ (texts (out-Struct p).names.items, messages (map message (out-Struct p).dtypes.items), (out-Struct p).nullable)
-struct_content-one_layer p = search (rules, the_lemmas)
-
-union_content-one_layer : (p : UnionMessage) → union_content p ≡ (texts (out-Union p).names.items, messages (map message (out-Union p).dtypes.items), (out-Union p).type_ids.items, (out-Union p).nullable)
-union_content-one_layer p = search (rules, the_lemmas)
-
-extension_content-one_layer : (p : ExtensionMessage) → extension_content p ≡ (string_bytes (out-Extension p).id, child_message (out-Extension p).storage_dtype, bytes_of (out-Extension p).metadata)
-extension_content-one_layer p = search (rules, the_lemmas)
-
 -- ---- types
 
 abbrev IsEqual : Option DtypeType → Option DtypeType → Type 0
@@ -169,7 +148,7 @@ message-one_layer : (d : DType) → message d ≡ or_missing (option_map kind_me
 message-one_layer d = search (rules, the_lemmas)
 
 from_one_layer : (j k : DtypeType) → Decides (kind_eq.Laws.unfolded j k) (one_layer j ≡ one_layer k) → Decides (kind_eq.ghosts.eq j k) (kind_message j ≡ kind_message k)
-from_one_layer j k = Decides-rewritten (kind_eq.Laws.is j k) (kind_message-one_layer j) (kind_message-one_layer k)
+from_one_layer j k d = Decides-rewritten d (kind_eq.Laws.is j k) (kind_message-one_layer j) (kind_message-one_layer k)
 
 mutual
   unfolding out-DtypeType out-List out-FixedSizeList out-Map out-Struct out-Union out-Extension Carrier.out
@@ -191,40 +170,38 @@ mutual
   one_layer_Decides j k = Decides-different (λ e. false≢true (sym (ap (λ m. nat_eq (kind_number (one_layer j)) (kind_number m)) e)))
 
   pub list_Decides : (x y : ListMessage) → Decides (list_eq.ghosts.eq x y) (list_content x ≡ list_content y)
-  list_Decides (List' h f) (List' g e) = Decides-rewritten (list_eq.Laws.is _ _) (list_content-one_layer _) (list_content-one_layer _) (pair_Decides (child_Decides h g) (booleans_Decides f e))
+  list_Decides (List' h f) (List' g e) = Decides-rewritten (pair_Decides (child_Decides h g) (booleans_Decides f e)) (list_eq.Laws.is _ _) (search (rules, the_lemmas)) (search (rules, the_lemmas))
 
   pub fixed_Decides : (x y : FixedMessage) → Decides (fixed_eq.ghosts.eq x y) (fixed_content x ≡ fixed_content y)
-  fixed_Decides (FixedSizeList' h n f) (FixedSizeList' g m e) = Decides-rewritten (fixed_eq.Laws.is _ _) (fixed_content-one_layer _) (fixed_content-one_layer _) (triple_Decides (child_Decides h g) (unsigned_Decides n m) (booleans_Decides f e))
+  fixed_Decides (FixedSizeList' h n f) (FixedSizeList' g m e) = Decides-rewritten (triple_Decides (child_Decides h g) (unsigned_Decides n m) (booleans_Decides f e)) (fixed_eq.Laws.is _ _) (search (rules, the_lemmas)) (search (rules, the_lemmas))
 
   pub map_Decides : (x y : MapMessage) → Decides (map_eq.ghosts.eq x y) (map_content x ≡ map_content y)
-  map_Decides (Map' h v s f) (Map' g w t e) = Decides-rewritten (map_eq.Laws.is _ _) (map_content-one_layer _) (map_content-one_layer _) (quadruple_Decides (child_Decides h g) (child_Decides v w) (booleans_Decides s t) (booleans_Decides f e))
+  map_Decides (Map' h v s f) (Map' g w t e) = Decides-rewritten (quadruple_Decides (child_Decides h g) (child_Decides v w) (booleans_Decides s t) (booleans_Decides f e)) (map_eq.Laws.is _ _) (search (rules, the_lemmas)) (search (rules, the_lemmas))
 
   pub struct_Decides : (x y : StructMessage) → Decides (struct_eq.ghosts.eq x y) (struct_content x ≡ struct_content y)
-  struct_Decides (Struct' ns a r f) (Struct' os b s e) = Decides-rewritten (struct_eq.Laws.is _ _) (struct_content-one_layer _) (struct_content-one_layer _) (triple_Decides (texts_Decides ns.items os.items) (lists_rewritten (items_shown-the_row-DType-0 a r) (items_shown-the_row-DType-0 b s) (children_Decides r s)) (booleans_Decides f e))
+  struct_Decides (Struct' ns a r f) (Struct' os b s e) = Decides-rewritten (triple_Decides (texts_Decides ns.items os.items) (lists_rewritten (items_shown-the_row-DType-0 a r) (items_shown-the_row-DType-0 b s) (children_Decides r s)) (booleans_Decides f e)) (struct_eq.Laws.is _ _) (search (rules, the_lemmas)) (search (rules, the_lemmas))
 
   pub union_Decides : (x y : UnionMessage) → Decides (union_eq.ghosts.eq x y) (union_content x ≡ union_content y)
-  union_Decides (Union' ns a r gs f) (Union' os b s hs e) = Decides-rewritten (union_eq.Laws.is _ _) (union_content-one_layer _) (union_content-one_layer _) (quadruple_Decides (texts_Decides ns.items os.items) (lists_rewritten (items_shown-the_row-DType-0 a r) (items_shown-the_row-DType-0 b s) (children_Decides r s)) (tags_Decides gs.items hs.items) (booleans_Decides f e))
+  union_Decides (Union' ns a r gs f) (Union' os b s hs e) = Decides-rewritten (quadruple_Decides (texts_Decides ns.items os.items) (lists_rewritten (items_shown-the_row-DType-0 a r) (items_shown-the_row-DType-0 b s) (children_Decides r s)) (tags_Decides gs.items hs.items) (booleans_Decides f e)) (union_eq.Laws.is _ _) (search (rules, the_lemmas)) (search (rules, the_lemmas))
 
   pub extension_Decides : (x y : ExtensionMessage) → Decides (extension_eq.ghosts.eq x y) (extension_content x ≡ extension_content y)
-  extension_Decides (Extension' i h b) (Extension' j g c) = Decides-rewritten (extension_eq.Laws.is _ _) (extension_content-one_layer _) (extension_content-one_layer _) (triple_Decides (bytes_eq-Decides (string_bytes i) (string_bytes j)) (child_Decides h g) (bytes_Decides b c))
+  extension_Decides (Extension' i h b) (Extension' j g c) = Decides-rewritten (triple_Decides (bytes_eq-Decides (string_bytes i) (string_bytes j)) (child_Decides h g) (bytes_Decides b c)) (extension_eq.Laws.is _ _) (search (rules, the_lemmas)) (search (rules, the_lemmas))
 
   child_Decides : (h g : Held-Extension-storage_dtype) → Decides (option_eq (λ a b. dtype_eq.ghosts.eq a.value b.value) (view-Extension-storage_dtype h) (view-Extension-storage_dtype g)) (child_message (view-Extension-storage_dtype h) ≡ child_message (view-Extension-storage_dtype g))
   child_Decides Extension-storage_dtype-None' Extension-storage_dtype-None' = (λ _. refl, λ _. refl)
-  child_Decides Extension-storage_dtype-None' (Extension-storage_dtype-Some' c y) = Decides-different (λ e. cc)
-  child_Decides (Extension-storage_dtype-Some' b x) Extension-storage_dtype-None' = Decides-different (λ e. cc)
   child_Decides (Extension-storage_dtype-Some' b x) (Extension-storage_dtype-Some' c y) = Decides-like _ (ap present) (λ e. cc) (option_kind_Decides x y)
+  child_Decides _ _ = Decides-different (λ e. cc)
 
   children_Decides : {m n : Count} (r : Row_of-DType m) (s : Row_of-DType n) → AreEqual (items-the_row-DType m r) (items-the_row-DType n s)
   children_Decides end_of-DType end_of-DType = (λ _. refl, λ _. refl)
-  children_Decides end_of-DType (more_of-DType y s) = Decides-different (λ e. cc)
-  children_Decides (more_of-DType x r) end_of-DType = Decides-different (λ e. cc)
   children_Decides (more_of-DType x r) (more_of-DType y s) = Decides-like _ (λ h i. more (h.0 i) (h.1 i)) (λ e. (cc, cc)) (Decides-and _ _ (option_kind_Decides x y) (children_Decides r s))
+  children_Decides _ _ = Decides-different (λ e. cc)
 
   option_kind_Decides : (h g : Held-DType-dtype_type) → IsEqual (view-DType-dtype_type h) (view-DType-dtype_type g)
-  option_kind_Decides DType-dtype_type-None' DType-dtype_type-None' = Decides-rewritten (dtype_eq.Laws.is _ _) (message-one_layer _) (message-one_layer _) (λ _. refl, λ _. refl)
-  option_kind_Decides DType-dtype_type-None' (DType-dtype_type-Some' k) = Decides-rewritten (dtype_eq.Laws.is _ _) (message-one_layer _) (message-one_layer _) (Decides-different (kind_message-not_missing k))
-  option_kind_Decides (DType-dtype_type-Some' j) DType-dtype_type-None' = Decides-rewritten (dtype_eq.Laws.is _ _) (message-one_layer _) (message-one_layer _) (Decides-different (λ e. kind_message-not_missing j (sym e)))
-  option_kind_Decides (DType-dtype_type-Some' j) (DType-dtype_type-Some' k) = Decides-rewritten (dtype_eq.Laws.is _ _) (message-one_layer _) (message-one_layer _) (from_one_layer j k (one_layer_Decides j k))
+  option_kind_Decides DType-dtype_type-None' DType-dtype_type-None' = Decides-rewritten (λ _. refl, λ _. refl) (dtype_eq.Laws.is _ _) (message-one_layer _) (message-one_layer _)
+  option_kind_Decides DType-dtype_type-None' (DType-dtype_type-Some' k) = Decides-rewritten (Decides-different (kind_message-not_missing k)) (dtype_eq.Laws.is _ _) (message-one_layer _) (message-one_layer _)
+  option_kind_Decides (DType-dtype_type-Some' j) DType-dtype_type-None' = Decides-rewritten (Decides-different (λ e. kind_message-not_missing j (sym e))) (dtype_eq.Laws.is _ _) (message-one_layer _) (message-one_layer _)
+  option_kind_Decides (DType-dtype_type-Some' j) (DType-dtype_type-Some' k) = Decides-rewritten (from_one_layer j k (one_layer_Decides j k)) (dtype_eq.Laws.is _ _) (message-one_layer _) (message-one_layer _)
 
 pub kind_Decides : (j k : DtypeType) → Decides (kind_eq.ghosts.eq j k) (kind_message j ≡ kind_message k)
 kind_Decides j k = from_one_layer j k (one_layer_Decides j k)

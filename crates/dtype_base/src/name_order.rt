@@ -107,6 +107,7 @@ fn entries_after_prefix(
 
 // Sorts entries by key, which is branch-free, and by text only where two keys are equal. Returns what distinguishes the
 // entries.
+#[tactic(auto, using(crate::proofs::PermutedEntries::moved_twice))]
 pub(crate) fn sort_entries(
     alloc: Global,
     names: &[FieldName],
@@ -188,6 +189,7 @@ fn packed_keys(alloc: Global, entries: &[IndexEntry], room: usize) -> VortexResu
 }
 
 // The entries in the order of their packed keys.
+#[tactic(auto, using(crate::proofs::PermutedEntries::packed_within))]
 fn permuted(
     alloc: Global,
     entries: &[IndexEntry],
@@ -206,6 +208,7 @@ fn permuted(
 }
 
 // Sorts entries of which some may have equal keys, or equal first bits of them.
+#[tactic(auto, using(crate::proofs::PermutedEntries::moved_twice))]
 fn sort_equal_keys(
     names: &[FieldName],
     entries: &mut Vec<IndexEntry>,
@@ -284,6 +287,7 @@ fn keys_increase(entries: &[IndexEntry]) -> bool
 }
 
 // Whether no name repeats: equal names would be neighbours in the order.
+#[tactic(auto, using(crate::proofs::NameSearch::position_is_within))]
 pub(crate) fn are_distinct(names: &[FieldName], entries: &[IndexEntry]) -> bool
     requires { IsOrderOf names.now (positions entries.now) }
     ensures { IsTrue result ↔ Distinct names.now }

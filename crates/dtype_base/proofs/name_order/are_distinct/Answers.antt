@@ -1,7 +1,7 @@
 -- SPDX-License-Identifier: Apache-2.0
 -- SPDX-FileCopyrightText: Copyright the Vortex contributors
 
-use Rattle.std.proofs.Common.{ℕ, ◌-◌, ◌<◌, length, get_or, Some, slice_get, refl, sym, ap, ◌∙◌, arith, rules}
+use Rattle.std.proofs.Common.{ℕ, ◌-◌, ◌<◌, length, Some, slice_get, refl, sym, ap, ◌∙◌, arith}
 use Rattle.std.specs.Prelude.{◌≢◌}
 use Rattle.std.specs.Cmp.Lexicographic.{bytes_decides}
 use Rattle.std.proofs.lemmas.Bool.{false≢true}
@@ -11,22 +11,6 @@ use Rattle.std.proofs.lemmas.Option.{slice_get_read, same_Some}
 use Rattle.dtype_base.specs.private.NameOrder.{positions}
 use Rattle.dtype_base.proofs.NameSearch.{as_many_positions, position_at, position_is_within, no_entry, all_differ, same_neighbours}
 use Rattle.dtype_base.proofs.name_order.are_distinct.Goals as goal
-
-pub bounds-names-before : goal.bounds-names-before
-bounds-names-before c = position_is_within c.args.names.now c.args.entries.now c.requires _ _ (omega (arith, c.loop-index-test.true))
-
-pub offset_bounds-names-before : goal.offset_bounds-names-before
-offset_bounds-names-before c =
-    let within : (get_or c.args.entries.now (c.loop-index.index - 1) no_entry).position < length c.args.names.now = position_is_within c.args.names.now c.args.entries.now c.requires _ no_entry (omega (arith, c.loop-index-test.true)) in
-    search rules
-
-pub bounds-names-here : goal.bounds-names-here
-bounds-names-here c = position_is_within c.args.names.now c.args.entries.now c.requires _ _ (omega (arith, c.loop-index-test.true))
-
-pub offset_bounds-names-here : goal.offset_bounds-names-here
-offset_bounds-names-here c =
-    let within : (get_or c.args.entries.now c.loop-index.index no_entry).position < length c.args.names.now = position_is_within c.args.names.now c.args.entries.now c.requires _ no_entry (omega (arith, c.loop-index-test.true)) in
-    search rules
 
 pub returns-then-eq : goal.returns-then-eq
 returns-then-eq c =

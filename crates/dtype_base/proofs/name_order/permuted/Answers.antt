@@ -1,28 +1,11 @@
 -- SPDX-License-Identifier: Apache-2.0
 -- SPDX-FileCopyrightText: Copyright the Vortex contributors
 
-use Rattle.std.proofs.Common.{◌%◌, ◌<◌, length, get_or, map, take, ◌++◌, [], ◌∷◌, ap, sym, subst, ◌∙◌, arith, rules}
+use Rattle.std.proofs.Common.{◌%◌, ◌<◌, length, get_or, map, take, ◌++◌, [], ◌∷◌, ap, sym, subst, ◌∙◌, arith}
 use Rattle.std.specs.List.Sorted.{IsPermutation}
 use Rattle.std.proofs.lemmas.List.{get_or-map, length-map, map_more, take_all}
 use Rattle.dtype_base.proofs.PermutedEntries.{entry_at, packed_positions, permuted_all}
-use Rattle.dtype_base.proofs.NameSearch.{position_within}
 use Rattle.dtype_base.proofs.name_order.permuted.Goals as goal
-
-pub bounds-entries-number : goal.bounds-entries-number
-bounds-entries-number c =
-    let packed = c.args.packed.now in
-    let room = c.args.room in
-    let k = c.loop-number.number-index in
-    omega (arith, position_within (length c.args.entries.now) (packed_positions room packed) c.requires.each k (omega (arith, c.loop-number-test.true, length-map packed (λ n. n % room))), get_or-map (λ n. n % room) packed k 0 0 c.loop-number-test.true)
-
-pub offset_bounds-entries-number : goal.offset_bounds-entries-number
-offset_bounds-entries-number c =
-    let packed = c.args.packed.now in
-    let room = c.args.room in
-    let k = c.loop-number.number-index in
-    let within : get_or packed k 0 % room < length c.args.entries.now =
-    omega (arith, position_within (length c.args.entries.now) (packed_positions room packed) c.requires.each k (omega (arith, c.loop-number-test.true, length-map packed (λ n. n % room))), get_or-map (λ n. n % room) packed k 0 0 c.loop-number-test.true) in
-    search rules
 
 pub loop-number-preserved : goal.loop-number-preserved
 loop-number-preserved c =

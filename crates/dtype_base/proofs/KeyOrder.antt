@@ -129,13 +129,15 @@ lower_prefix : (a b : ℕ) → key_prefix a < key_prefix b → a < b
 lower_prefix a b l = omega (arith, l)
 
 -- of numbers of which each is below the next, each is below all after it
-far : (f : IndexEntry → ℕ) (entries : List IndexEntry) → AllAdjacentBelow (λ p q. f p < f q) entries (length entries) → (j k : ℕ) (d : IndexEntry) → j < k → k < length entries → f (get_or entries j d) < f (get_or entries k d)
+far : (f : IndexEntry → ℕ) (entries : List IndexEntry) → AllAdjacentBelow (λ p q. f p < f q) entries (length entries) → (j k : ℕ) (d : IndexEntry) → j < k
+    → k < length entries → f (get_or entries j d) < f (get_or entries k d)
 far f entries increase j k d l within =
     omega (arith, increase j d (omega (arith, l, within)), IsNonDecreasingBy-from_all_adjacent f entries (λ i e b. omega (arith, increase i e b)) (j + 1) k d (omega (arith, l)) within)
 
 module _ (names : List (List ℕ)) (prefix_len : ℕ) where
   -- an entry's name compares to a name with the same prefix as their keys do, and where these are equal, as what follows
-  name_by_key : (p : IndexEntry) (n : List ℕ) (key : ℕ) → IsKeyed names prefix_len p → Bytes n → key ≡ sort_key prefix_len n → take prefix_len (get_or names p.position []) ≡ take prefix_len n
+  name_by_key : (p : IndexEntry) (n : List ℕ) (key : ℕ) → IsKeyed names prefix_len p → Bytes n → key ≡ sort_key prefix_len n
+      → take prefix_len (get_or names p.position []) ≡ take prefix_len n
       → name_cmp names n p.position ≡ ordering_then (nat_cmp p.key key) (slice_cmp nat_cmp (drop 15 (drop prefix_len (get_or names p.position []))) (drop 15 (drop prefix_len n)))
   unfolding sort_key text_key
   name_by_key p n key h bytes is begin =
@@ -146,7 +148,8 @@ module _ (names : List (List ℕ)) (prefix_len : ℕ) where
       ∙ (λ i. ordering_then (nat_cmp (sym h.key i) (sym is i)) (slice_cmp nat_cmp (drop 15 (drop prefix_len m)) (drop 15 (drop prefix_len n))))
 
   -- what distinguishes a name from all others with its prefix compares it with them: the text, or a key that holds it whole
-  pub final_decides : (p : IndexEntry) (n : List ℕ) (key : ℕ) (by : Discriminator) → by ≢ KeyPrefix → (by ≡ Key → key % 256 < 16) → IsKeyed names prefix_len p → Bytes n → key ≡ sort_key prefix_len n
+  pub final_decides : (p : IndexEntry) (n : List ℕ) (key : ℕ) (by : Discriminator) → by ≢ KeyPrefix → (by ≡ Key → key % 256 < 16) → IsKeyed names prefix_len p → Bytes n
+      → key ≡ sort_key prefix_len n
       → take prefix_len (get_or names p.position []) ≡ take prefix_len n → entry_name_cmp names n key by p ≡ name_cmp names n p.position
   final_decides p n key KeyPrefix other whole h bytes is begin = absurd (other refl)
   final_decides p n key Text other whole h bytes is begin = again (nat_cmp p.key key) _ _ (λ o. o) (name_by_key p n key h bytes is begin) refl refl
@@ -171,7 +174,8 @@ module _ (names : List (List ℕ)) (prefix_len : ℕ) where
         let whole = ap (bytes_cmp (slice_get names p.position)) (slice_get-get_or names q.position [] b.within) ∙ name_by_key p n q.key a b.bytes b.key (begins p a ∙ sym (begins q b)) in
         again (nat_cmp p.key q.key) _ _ (λ o. ordering_then o (nat_cmp p.position q.position)) whole refl refl
 
-    pub order_of : (made sorted : List IndexEntry) → positions made ≡ range_with_len 0 (length names) → All (IsKeyed names prefix_len) made → IsPermutation made sorted → IsSorted (entry_cmp names) sorted → IsOrderOf names (positions sorted)
+    pub order_of : (made sorted : List IndexEntry) → positions made ≡ range_with_len 0 (length names) → All (IsKeyed names prefix_len) made → IsPermutation made sorted
+        → IsSorted (entry_cmp names) sorted → IsOrderOf names (positions sorted)
     order_of made sorted each keyed moved up = record {
       each = subst (λ is. IsPermutation is (positions sorted)) each (IsPermutation-map (λ p. p.position) made sorted moved);
       rising = λ k d low high.
@@ -211,7 +215,8 @@ module _ (names : List (List ℕ)) (prefix_len : ℕ) where
           )
 
       -- numbers that increase as the keys do compare as the names, with a name that occurs
-      numbers_decide : (f : ℕ → ℕ) → ((a b : ℕ) → f a < f b → a < b) → AllAdjacentBelow (λ p q. f p.key < f q.key) entries (length entries) → (n : List ℕ) (key k : ℕ) (d : IndexEntry) → Bytes n → key ≡ sort_key prefix_len n → k < length entries → Occurs names n
+      numbers_decide : (f : ℕ → ℕ) → ((a b : ℕ) → f a < f b → a < b) → AllAdjacentBelow (λ p q. f p.key < f q.key) entries (length entries)
+          → (n : List ℕ) (key k : ℕ) (d : IndexEntry) → Bytes n → key ≡ sort_key prefix_len n → k < length entries → Occurs names n
           → nat_cmp (f (get_or entries k d).key) (f key) ≡ name_cmp names n (get_or entries k d).position
       numbers_decide f rises increase n key k d bytes is within t =
           let s = keyed_entry n key d is t in
@@ -228,7 +233,8 @@ module _ (names : List (List ℕ)) (prefix_len : ℕ) where
           ]
 
       -- what the index's discriminator names compares an entry with a name that occurs
-      pub decided : (n : List ℕ) (key k : ℕ) (d : IndexEntry) (by : Discriminator) → AreDistinguishedBy by entries → Bytes n → key ≡ sort_key prefix_len n → k < length entries → Occurs names n
+      pub decided : (n : List ℕ) (key k : ℕ) (d : IndexEntry) (by : Discriminator) → AreDistinguishedBy by entries → Bytes n → key ≡ sort_key prefix_len n
+          → k < length entries → Occurs names n
           → entry_name_cmp names n key by (get_or entries k d) ≡ name_cmp names n (get_or entries k d).position
       decided n key k d KeyPrefix increase bytes is within t = numbers_decide key_prefix lower_prefix increase n key k d bytes is within t
       decided n key k d Key increase bytes is within t = numbers_decide (λ x. x) (λ a b l. l) increase n key k d bytes is within t

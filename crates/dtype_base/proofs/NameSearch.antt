@@ -151,7 +151,10 @@ module _ (names : List (List ℕ)) (order : List ℕ) (h : IsOrderOf names order
           within = omega (arith, moved, inv.within, is);
           holds = λ q b first.
               let less = is_less _ (distinguished (get_or order q 0, first.here)) in
-              let after : m < q = elim (cases_lt m q) [ | inl after ↦ after | inr before ↦ absurd (omega (arith, ranked n q m 0 before (omega (arith, at, is, more, inv.within)), ap ordering_index less, ap ordering_index (itself _ first.here))) ] in
+              let after : m < q = elim (cases_lt m q) [
+                | inl after ↦ after
+                | inr before ↦ absurd (omega (arith, ranked n q m 0 before (omega (arith, at, is, more, inv.within)), ap ordering_index less, ap ordering_index (itself _ first.here)))
+              ] in
               (omega (arith, moved, at, after, is, more), omega (arith, moved, is, more, (inv.holds q b first).1));
           count = omega (arith, inv.count, digits_halved (size - 1) (size - half - 1) (omega (arith, more)) (omega (arith, is, more)));
         }
@@ -160,7 +163,10 @@ module _ (names : List (List ℕ)) (order : List ℕ) (h : IsOrderOf names order
           some = omega (arith, more, is);
           within = omega (arith, stayed, inv.within, is);
           holds = λ q b first.
-              let upto : q ≤ m = elim (cases_lt m q) [ | inl after ↦ absurd (false≢true (sym (distinguished (get_or order q 0, first.here)) ∙ ap is_lt (before_first m q after b first))) | inr before ↦ before ] in
+              let upto : q ≤ m = elim (cases_lt m q) [
+                | inl after ↦ absurd (false≢true (sym (distinguished (get_or order q 0, first.here)) ∙ ap is_lt (before_first m q after b first)))
+                | inr before ↦ before
+              ] in
               (omega (arith, stayed, (inv.holds q b first).0), omega (arith, stayed, at, is, more, upto));
           count = omega (arith, inv.count, digits_halved (size - 1) (size - half - 1) (omega (arith, more)) (omega (arith, is, more)));
         }
@@ -186,7 +192,8 @@ module _ (names : List (List ℕ)) (order : List ℕ) (h : IsOrderOf names order
     counts low size compared inv last = count_of (length order) compared (omega (arith, inv.within, inv.some)) (omega (arith, inv.count, one_left inv.some last))
 
     -- where two entries have one name, two neighbours have
-    same_next : (p q : ℕ) → p < q → q < length order → slice_get names (get_or order p 0) ≡ Some n → slice_get names (get_or order q 0) ≡ Some n → slice_get names (get_or order p 0) ≡ slice_get names (get_or order (p + 1) 0)
+    same_next : (p q : ℕ) → p < q → q < length order → slice_get names (get_or order p 0) ≡ Some n → slice_get names (get_or order q 0) ≡ Some n
+        → slice_get names (get_or order p 0) ≡ slice_get names (get_or order (p + 1) 0)
     same_next p q l b here there =
         here ∙ sym (equal_is _ (between _ _ _ (ranked n p (p + 1) 0 (omega arith) (omega (arith, l, b))) (ranked n (p + 1) q 0 (omega (arith, l)) b) (itself _ here) (itself _ there)))
 

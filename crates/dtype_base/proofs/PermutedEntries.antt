@@ -29,7 +29,8 @@ packed_more room packed first entry within so_far =
     ∙ sym (counted_more entry)
 
 -- the index that a packed key holds is that of an entry
-pub packed_within : (entries : List IndexEntry) (packed : List ℕ) (room k : ℕ) → IsPermutation (range_with_len 0 (length entries)) (packed_positions room packed) → k < length packed → get_or packed k 0 % room < length entries
+pub packed_within : (entries : List IndexEntry) (packed : List ℕ) (room k : ℕ) → IsPermutation (range_with_len 0 (length entries)) (packed_positions room packed)
+    → k < length packed → get_or packed k 0 % room < length entries
 packed_within entries packed room k moved within =
     omega (arith, position_within (length entries) (packed_positions room packed) moved k (omega (arith, within, length-map packed (λ n. n % room))), get_or-map (λ n. n % room) packed k 0 0 within)
 

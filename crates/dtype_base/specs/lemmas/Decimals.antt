@@ -9,7 +9,7 @@ use Rattle.std.proofs.Math.Pow.{pow_mono}
 use Rattle.std.proofs.Math.Nat.{lt_of_le_of_lt}
 use Rattle.dtype_base.specs.Decimals.{greatest_precision, IsBitWidth, bit_width, storage}
 use Rattle.dtype_base.specs.declared.decimal.DecimalType.{DecimalType}
-use Rattle.dtype_base.specs.declared.decimal.DecimalType.TheVariants.{I8, I16, I32, I64, I128, I256}
+use Rattle.dtype_base.specs.declared.decimal.DecimalType.TheVariants.{I8}
 
 -- ---- the bit width of a precision
 
@@ -60,18 +60,10 @@ bit_width_is p b h some most = one_bit_width p b (bit_width p) h (bit_width_is_l
 -- a storage type has all values of its digits, of both signs, and not of one digit more
 pub digits_fit : (t : DecimalType) → 10 ^ (storage t).digits ≤ 2 ^ (8 * (storage t).bytes - 1)
 digits_fit I8 = leb-true _ _ refl
-digits_fit I16 = leb-true _ _ refl
-digits_fit I32 = leb-true _ _ refl
-digits_fit I64 = leb-true _ _ refl
-digits_fit I128 = leb-true _ _ refl
-digits_fit I256 = leb-true _ _ refl
+digits_fit _ = leb-true _ _ refl
 
 pub digits_are_most : (t : DecimalType) → 2 ^ (8 * (storage t).bytes - 1) < 10 ^ ((storage t).digits + 1)
 digits_are_most I8 = ltb-true _ _ refl
-digits_are_most I16 = ltb-true _ _ refl
-digits_are_most I32 = ltb-true _ _ refl
-digits_are_most I64 = ltb-true _ _ refl
-digits_are_most I128 = ltb-true _ _ refl
-digits_are_most I256 = ltb-true _ _ refl
+digits_are_most _ = ltb-true _ _ refl
 
 pub ruleset decimals = (one_bit_width, bit_width_is_least, bit_width_is, digits_fit, digits_are_most)

@@ -3,13 +3,14 @@
 
 -- Lemmas about decimals and their storage types. A caller names all of them in one line,
 --     #![tactic(auto, using(dtype_base::specs::lemmas::Decimals::decimals))]
-use Rattle.std.proofs.Common.{◌≡◌, ◌+◌, ◌-◌, ◌*◌, ◌^◌, ◌<◌, ◌≤◌, ℕ, zero, suc, Bool, true, false, ◌&&◌, nat_le, nat_lt, refl, subst, add-zero, arith}
+use Rattle.std.proofs.Common.{◌≡◌, ◌+◌, ◌-◌, ◌*◌, ◌^◌, ◌<◌, ◌≤◌, ℕ, zero, suc, Bool, true, false, cond, ◌&&◌, List, [], ◌∷◌, Some, nat_le, nat_lt, find, refl, subst, add-zero, arith}
 use Rattle.std.proofs.lemmas.Bool.{and_parts, leb-true, ltb-true, ltb-false}
+use Rattle.std.proofs.lemmas.Option.{same_Some}
 use Rattle.std.proofs.Math.Pow.{pow_mono}
-use Rattle.std.proofs.Math.Nat.{lt_of_le_of_lt}
-use Rattle.dtype_base.specs.Decimals.{greatest_precision, IsBitWidth, bit_width, storage}
+use Rattle.std.proofs.Math.Nat.{lt_of_le_of_lt, pow-le-pow_right}
+use Rattle.dtype_base.specs.Decimals.{greatest_precision, IsBitWidth, bit_width, smallest_storage, storage}
 use Rattle.dtype_base.specs.declared.decimal.DecimalType.{DecimalType}
-use Rattle.dtype_base.specs.declared.decimal.DecimalType.TheVariants.{I8}
+use Rattle.dtype_base.specs.declared.decimal.DecimalType.TheVariants.{I8, I16, I32, I64, I128, I256}
 
 -- ---- the bit width of a precision
 
@@ -66,4 +67,22 @@ pub digits_are_most : (t : DecimalType) → 2 ^ (8 * (storage t).bytes - 1) < 10
 digits_are_most I8 = ltb-true _ _ refl
 digits_are_most _ = ltb-true _ _ refl
 
-pub ruleset decimals = (one_bit_width, bit_width_is_least, bit_width_is, digits_fit, digits_are_most)
+-- the smallest storage type that has so many digits has all values of them
+found_digits : (p : ℕ) (ts : List DecimalType) (t : DecimalType) → find (λ t. nat_le p (storage t).digits) ts ≡ Some t → p ≤ (storage t).digits
+found_digits p [] t e = cc
+found_digits p (x ∷ xs) t e = go (found_digits p xs t) (nat_le p (storage x).digits) refl e
+  where
+    go : (find (λ t. nat_le p (storage t).digits) xs ≡ Some t → p ≤ (storage t).digits) → (b : Bool) → nat_le p (storage x).digits ≡ b
+        → cond b (Some x) (find (λ t. nat_le p (storage t).digits) xs) ≡ Some t → p ≤ (storage t).digits
+    go more true is f = subst (λ s. p ≤ (storage s).digits) (same_Some x t f) (leb-true _ _ is)
+    go more false is f = more f
+
+pub smallest_fits : (p n : ℕ) (t : DecimalType) → smallest_storage p ≡ Some t → n ≡ (storage t).bytes → 10 ^ p ≤ 2 ^ (8 * n - 1)
+smallest_fits p n t e is =
+    let room : p ≤ (storage t).digits = found_digits p (I8 ∷ I16 ∷ I32 ∷ I64 ∷ I128 ∷ I256 ∷ []) t e in
+    let some : 0 < 10 = omega arith in
+    let up : 10 ^ p ≤ 10 ^ (storage t).digits = pow-le-pow_right some room in
+    let fits = digits_fit t in
+    rw is (omega (arith, up, fits))
+
+pub ruleset decimals = (one_bit_width, bit_width_is_least, bit_width_is, digits_fit, digits_are_most, smallest_fits)

@@ -32,7 +32,7 @@ use Rattle.dtype_base.proofs.NameSearch.{Occurs, as_many_positions, position_at,
 
 -- a byte, or 0 after the end
 byte_below : (k : ℕ) (bs : List ℕ) → Bytes bs → get_or bs k 0 < 256
-byte_below k bs h = elim (cases_lt k (length bs)) [ | inl within ↦ h k 0 within | inr past ↦ omega (arith, get_or_past bs k 0 past) ]
+byte_below k bs h = elim (cases_lt k (length bs)) [ inl within ↦ h k 0 within | inr past ↦ omega (arith, get_or_past bs k 0 past) ]
 
 high_bound : (k : ℕ) (bs : List ℕ) → Bytes bs → big_endian k bs < 256 ^ k
 unfolding big_endian
@@ -156,8 +156,8 @@ module _ (names : List (List ℕ)) (prefix_len : ℕ) where
   final_decides p n key Key other whole h bytes is begin =
       let all = whole refl in
       sym (name_by_key p n key h bytes is begin ∙ then_equal (nat_cmp p.key key) _ (λ e.
-          let same : p.key ≡ key = ranked p.key key Equal (sym e) in
-          λ i. slice_cmp nat_cmp (held prefix_len p.key (get_or names p.position []) h.key (omega (arith, same, all)) i) (held prefix_len key n is all i)))
+      let same : p.key ≡ key = ranked p.key key Equal (sym e) in
+      λ i. slice_cmp nat_cmp (held prefix_len p.key (get_or names p.position []) h.key (omega (arith, same, all)) i) (held prefix_len key n is all i)))
 
   module _ (common_prefix : HaveCommonPrefix names prefix_len) where
     begins : (p : IndexEntry) → IsKeyed names prefix_len p → take prefix_len (get_or names p.position []) ≡ take prefix_len (get_or names 0 [])

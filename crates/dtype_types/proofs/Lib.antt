@@ -10,7 +10,6 @@ pub mod OtherKinds
 pub mod KindLaws
 pub mod Alongside
 pub mod SameParts
-pub mod SetNullLaws
 pub mod Texts
 pub mod PutTogether
 pub mod DistinctItems

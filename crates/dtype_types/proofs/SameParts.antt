@@ -2,11 +2,13 @@
 -- SPDX-FileCopyrightText: Copyright the Vortex contributors
 
 -- Types made of the same parts are the same type, also with another nullability.
-use Rattle.std.proofs.Common.{◌≡◌, sym, ap, ◌∙◌, Some}
+use Rattle.std.proofs.Common.{◌≡◌, sym, ap, ◌∙◌, IsSome, Some, refl, subst}
 use Rattle.dtype_base.specs.declared.nullability.Nullability.{Nullability}
-use Rattle.dtype_types.specs.nullability.Nullable.{set_null}
-use Rattle.dtype_types.specs.tree.Tree.{map_of, struct, union, fields, variants}
+use Rattle.dtype_base.specs.declared.nullability.Nullability.TheVariants.{NonNullable}
+use Rattle.dtype_types.specs.nullability.Nullable.{nullability, set_null, CanBeNonNullable}
+use Rattle.dtype_types.specs.tree.Tree.{Tree, map_of, struct, union, fields, variants}
 use Rattle.dtype_types.specs.tree.TreeOf.{tree, MapParts, struct_pairs, union_triples, with_trees, with_tagged_trees, extension_tree, map_shown}
+use Rattle.dtype_types.specs.lemmas.Nullabilities.{set_own}
 use Rattle.dtype_types.specs.lemmas.TreeLaws.{tree_struct, tree_union, tree_map, tree_extension}
 use Rattle.dtype_types.specs.declared.dtype.DType.{DType, Struct, Union, Map, Extension}
 use Rattle.dtype_types.specs.declared.struct_fields.StructFields.{StructFields}
@@ -42,6 +44,10 @@ set_map x y m n d e p = ap (λ z. set_null (tree z) n) e ∙ ap (λ t. set_null 
 
 pub set_extension : (x y : ExtDTypeRef) (n : Nullability) (d : DType) → d ≡ Extension y → set_null (extension_tree y) n ≡ Some (extension_tree x) → set_null (tree d) n ≡ Some (tree (Extension x))
 set_extension x y n d e p = ap (λ z. set_null (tree z) n) e ∙ ap (λ t. set_null t n) (tree_extension y) ∙ p ∙ ap Some (sym (tree_extension x))
+
+-- a non-nullable type can be non-nullable
+pub nonnullable_can : (t : Tree) → nullability t ≡ NonNullable → CanBeNonNullable t
+nonnullable_can t e = subst (λ o. IsSome o) (sym (set_own t) ∙ ap (set_null t) e) refl
 
 pub ruleset same_parts = (same_structs, same_unions, same_maps, same_extensions)
 

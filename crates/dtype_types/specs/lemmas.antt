@@ -20,7 +20,6 @@ pub mod SizeZero
 pub mod Order
 pub mod MadeOf
 pub mod Structs
-pub mod EitherNullable
 pub mod EqualityLaws
 pub mod PartsEquality
 pub mod HashLaws

@@ -2,13 +2,12 @@
 -- SPDX-FileCopyrightText: Copyright the Vortex contributors
 
 -- Where one type is below another, its values are values of the other.
-use Rattle.std.proofs.Common.{◌≡◌, ◌∙◌, ℕ, subst, inl, inr}
-use Rattle.dtype_base.specs.Decimals.{Decimal}
+use Rattle.std.proofs.Common.{◌≡◌, ◌∙◌, ℕ, refl, subst, inl, inr}
 use Rattle.dtype_base.specs.declared.nullability.Nullability.{Nullability}
-use Rattle.dtype_base.specs.declared.ptype.PType.{PType}
 use Rattle.dtype_types.specs.tree.Erase.{erase, erase_fields, erase_variants}
 use Rattle.dtype_types.specs.nullability.Sub.{Sub, Allows, NullableWherever, NullableWhereverFields, NullableWhereverVariants}
 use Rattle.dtype_types.specs.tree.Tree.{Tree, Fields, no_fields, field, Variants, no_variants, choice, null, bool, primitive, decimal, utf8, binary, list, fixed_size_list, map_of, struct, union, variant, extension}
+use Rattle.dtype_types.specs.lemmas.NullValues.{of_set}
 use Rattle.dtype_types.specs.values.Value.{Value, Values, Entries, Named, IncludedIn, Of, NamedOf, VariantOf, Each, EachEntry, null_value, items, fixed_items, entries, record_of, tagged, no_values, value, no_entries, entry, no_named, named}
 
 each_of : (P Q : Value → Type 0) → ((v : Value) → P v → Q v) → (vs : Values) → Each P vs → Each Q vs
@@ -19,31 +18,7 @@ each_entry : (P Q R S : Value → Type 0) → ((v : Value) → P v → Q v) → 
 each_entry P Q R S f g no_entries h = tt
 each_entry P Q R S f g (entry k v es) h = (f k h.0, g v h.1, each_entry P Q R S f g es h.2)
 
--- ---- one kind each
-
-of_bool : (m n : Nullability) → Allows m n → (v : Value) → Of v (bool m) → Of v (bool n)
-of_bool m n h null_value o = h o
-of_bool m n h _ o = o
-
-of_primitive : (p : PType) (m n : Nullability) → Allows m n → (v : Value) → Of v (primitive p m) → Of v (primitive p n)
-of_primitive p m n h null_value o = h o
-of_primitive p m n h _ o = o
-
-of_decimal : (d : Decimal) (m n : Nullability) → Allows m n → (v : Value) → Of v (decimal d m) → Of v (decimal d n)
-of_decimal d m n h null_value o = h o
-of_decimal d m n h _ o = o
-
-of_utf8 : (m n : Nullability) → Allows m n → (v : Value) → Of v (utf8 m) → Of v (utf8 n)
-of_utf8 m n h null_value o = h o
-of_utf8 m n h _ o = o
-
-of_binary : (m n : Nullability) → Allows m n → (v : Value) → Of v (binary m) → Of v (binary n)
-of_binary m n h null_value o = h o
-of_binary m n h _ o = o
-
-of_variant : (m n : Nullability) → Allows m n → (v : Value) → Of v (variant m) → Of v (variant n)
-of_variant m n h null_value o = h o
-of_variant m n h _ o = o
+-- ---- one kind with parts each
 
 of_list : (t u : Tree) (m n : Nullability) → Allows m n → ((v : Value) → Of v t → Of v u) → (v : Value) → Of v (list t m) → Of v (list u n)
 of_list t u m n h f null_value o = h o
@@ -75,17 +50,17 @@ of_union vs ws m n h f _ o = o
 mutual
   below : (a b : Tree) → erase a ≡ erase b → NullableWherever a b → (v : Value) → Of v a → Of v b
   below null null e h v o = o
-  below (bool m) (bool n) e h v o = of_bool m n h v o
-  below (primitive p m) (primitive q n) e h v o = let same : p ≡ q = cc in subst (λ x. Of v (primitive x n)) same (of_primitive p m n h v o)
-  below (decimal p m) (decimal q n) e h v o = let same : p ≡ q = cc in subst (λ x. Of v (decimal x n)) same (of_decimal p m n h v o)
-  below (utf8 m) (utf8 n) e h v o = of_utf8 m n h v o
-  below (binary m) (binary n) e h v o = of_binary m n h v o
+  below (bool m) (bool n) e h v o = of_set (bool m) (bool n) n refl h v o
+  below (primitive p m) (primitive q n) e h v o = let same : p ≡ q = cc in subst (λ x. Of v (primitive x n)) same (of_set (primitive p m) (primitive p n) n refl h v o)
+  below (decimal p m) (decimal q n) e h v o = let same : p ≡ q = cc in subst (λ x. Of v (decimal x n)) same (of_set (decimal p m) (decimal p n) n refl h v o)
+  below (utf8 m) (utf8 n) e h v o = of_set (utf8 m) (utf8 n) n refl h v o
+  below (binary m) (binary n) e h v o = of_set (binary m) (binary n) n refl h v o
   below (list t m) (list u n) e h v o = of_list t u m n h.0 (λ x. below t u (cc) h.1 x) v o
   below (fixed_size_list t i m) (fixed_size_list u j n) e h v o = let same : i ≡ j = cc in subst (λ k. Of v (fixed_size_list u k n)) same (of_fixed t u i m n h.0 (λ x. below t u (cc) h.1 x) v o)
   below (map_of t v x m) (map_of u w y n) e h z o = of_map t u v w x y m n h.0 (λ k. below t u (cc) h.1 k) (λ k. below v w (cc) h.2 k) z o
   below (struct fs m) (struct gs n) e h v o = of_struct fs gs m n h.0 (λ nvs. below_fields fs gs (cc) h.1 nvs) v o
   below (union vs m) (union ws n) e h v o = of_union vs ws m n h.0 (λ g x. below_variants vs ws (cc) h.1 g x) v o
-  below (variant m) (variant n) e h v o = of_variant m n h v o
+  below (variant m) (variant n) e h v o = of_set (variant m) (variant n) n refl h v o
   below (extension i a t) (extension j b u) e h v o = below t u (cc) h v o
   below _ _ e h v o = absurd h
 

@@ -9,7 +9,7 @@ use Rattle.std.specs.Str.{bytes_eq}
 use Rattle.std.proofs.lemmas.List.Elements.{All-from_recursion, recursion_from_All}
 use Rattle.std.proofs.lemmas.Option.{same_Some}
 use Rattle.dtype_base.specs.declared.nullability.Nullability.{Nullability}
-use Rattle.dtype_base.specs.declared.nullability.Nullability.TheVariants.{NonNullable, Nullable}
+use Rattle.dtype_base.specs.declared.nullability.Nullability.TheVariants.{NonNullable}
 use Rattle.dtype_types.specs.parts.FieldTypes.{given_fields, field_tree}
 use Rattle.dtype_types.specs.tree.Valid.{Valid, ValidFields, ValidVariants}
 use Rattle.dtype_types.specs.tree.TreeOf.{tree, extension_tree, map_tree, union_tree, struct_tree, map_shown, struct_pairs, union_triples, children, variant_list, with_trees, with_tagged_trees, shown}
@@ -17,8 +17,8 @@ use Rattle.std.specs.Map.{values_of}
 use Rattle.dtype_types.specs.parts.Lookups.{first_named, variant_named, field_types, variant_types}
 use Rattle.dtype_types.specs.parts.Maps.{entries_of}
 use Rattle.dtype_types.specs.nullability.Nullable.{nullability, set_null}
-use Rattle.dtype_types.specs.lemmas.Nullabilities.{by_storage}
-use Rattle.dtype_types.specs.tree.Tree.{Tree, fields, variants, null, bool, primitive, decimal, utf8, binary, list, fixed_size_list, map_of, struct, union, variant, extension}
+use Rattle.dtype_types.specs.lemmas.Nullabilities.{in_storage}
+use Rattle.dtype_types.specs.tree.Tree.{Tree, fields, variants, null, list, fixed_size_list, map_of, extension}
 use Rattle.dtype_types.specs.lemmas.ValidParts.{list_element_valid, fixed_size_element_valid, any_size_element_valid, lent_list_element, lent_fixed_size_element, lent_any_size_element, given_list_element, given_fixed_size_element, given_any_size_element, map_parts_valid, lent_map, given_map, struct_fields_valid, lent_struct, given_struct, union_variants_valid, lent_union, given_union, extension_is_valid, extension_parts_valid, lent_extension}
 use Rattle.dtype_types.specs.lemmas.TreeLaws.{tree_struct, tree_union, tree_map, tree_extension}
 use Rattle.dtype_types.specs.declared.dtype.DType.{DType, Map, Struct, Union, Extension}
@@ -193,21 +193,13 @@ pub removal_valid : (s r : StructFields) (i : ℕ) → children r ≡ remove (ch
 removal_valid s r i e h = subst (λ ps. ValidFields (fields ps)) (sym e) (valid_removed (children s) i h)
 
 -- a type with another nullability
+valid_set : (t : Tree) (n : Nullability) → Valid t → IfSome (set_null t n) Valid
+valid_set null NonNullable h = tt
+valid_set (extension i b s) n h = in_storage Valid Valid i b (set_null s n) (λ x k. (h.0, k)) (valid_set s n h.1)
+valid_set _ n h = h
+
 pub set_valid : (t u : Tree) (n : Nullability) → set_null t n ≡ Some u → Valid t → Valid u
-set_valid null u NonNullable e h = cc
-set_valid null u Nullable e h = subst Valid (same_Some null u e) tt
-set_valid (bool m) u n e h = subst Valid (same_Some (bool n) u e) tt
-set_valid (primitive p m) u n e h = subst Valid (same_Some (primitive p n) u e) tt
-set_valid (decimal d m) u n e h = subst Valid (same_Some (decimal d n) u e) h
-set_valid (utf8 m) u n e h = subst Valid (same_Some (utf8 n) u e) tt
-set_valid (binary m) u n e h = subst Valid (same_Some (binary n) u e) tt
-set_valid (list t m) u n e h = subst Valid (same_Some (list t n) u e) h
-set_valid (fixed_size_list t k m) u n e h = subst Valid (same_Some (fixed_size_list t k n) u e) h
-set_valid (map_of k v s m) u n e h = subst Valid (same_Some (map_of k v s n) u e) h
-set_valid (struct fs m) u n e h = subst Valid (same_Some (struct fs n) u e) h
-set_valid (union vs m) u n e h = subst Valid (same_Some (union vs n) u e) h
-set_valid (variant m) u n e h = subst Valid (same_Some (variant n) u e) tt
-set_valid (extension i b s) u n e h = by_storage Valid i b (set_null s n) u e (λ x is. (h.0, set_valid s x n is h.1))
+set_valid t u n e h = subst (λ o. IfSome o Valid) e (valid_set t n h)
 
 -- a map is made of its key and its value
 pub made_map_valid : (m : MapDType) (k v : Tree) (b : Bool) → map_shown m ≡ (k, v, b) → nullability k ≡ NonNullable → Valid k → Valid v → Valid (map_tree m)

@@ -2,7 +2,7 @@
 // SPDX-FileCopyrightText: Copyright the Vortex contributors
 
 // The outer nullability of a type, and types with another.
-#![tactic(auto, using(crate::proofs::SameParts::set_parts, crate::proofs::SetNullLaws::nonnullable_can))]
+#![tactic(auto, using(crate::proofs::SameParts::set_parts, crate::proofs::SameParts::nonnullable_can))]
 
 ghost use Rattle.std.specs.Prelude.{◌≡◌, ◌↔◌, IfOk, IsTrue, MatchResult};
 ghost use Rattle.dtype_base.specs.Nullability.{either};

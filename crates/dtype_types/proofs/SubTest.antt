@@ -2,98 +2,71 @@
 -- SPDX-FileCopyrightText: Copyright the Vortex contributors
 
 -- The test of equality with nullabilities of the first within those of the second decides `Sub`.
-use Rattle.std.proofs.Common.{◌≡◌, ◌↔◌, IsTrue, Bool, sym, ◌∙◌, true, refl}
+use Rattle.std.proofs.Common.{◌≡◌, ◌↔◌, IsTrue, Bool, ap, sym, ◌∙◌, refl}
 use Rattle.std.specs.Bool.{Decides}
-use Rattle.std.proofs.lemmas.Bool.{false≢true, and_parts, and_from}
+use Rattle.std.specs.Cmp.{booleans_Decides}
+use Rattle.std.proofs.lemmas.Bool.{false≢true}
+use Rattle.std.proofs.lemmas.Bool.Decides.{Decides-and, Decides-eqb}
+use Rattle.std.proofs.lemmas.Slice.Eq.{bytes_eq-Decides}
 use Rattle.dtype_base.specs.declared.nullability.Nullability.{Nullability}
 use Rattle.dtype_base.specs.declared.nullability.Nullability.TheVariants.{NonNullable, Nullable}
 use Rattle.dtype_types.specs.equality.Equality.{equal_under, fields_equal_under, variants_equal_under, allows}
-use Rattle.dtype_types.specs.lemmas.EqualityLaws.{equal_erased-Decides}
-use Rattle.dtype_types.specs.nullability.Sub.{Sub, Allows, NullableWherever, NullableWhereverFields, NullableWhereverVariants}
+use Rattle.dtype_types.specs.lemmas.EqualityLaws.{restated, same_decimal-Decides, same_ptype-Decides}
+use Rattle.dtype_types.specs.nullability.Sub.{Sub, Allows, NullableWhereverFields, NullableWhereverVariants}
+use Rattle.dtype_types.specs.tree.Erase.{erase_fields, erase_variants}
 use Rattle.dtype_types.specs.tree.Tree.{Tree, Fields, no_fields, field, Variants, no_variants, choice, null, bool, primitive, decimal, utf8, binary, list, fixed_size_list, map_of, struct, union, variant, extension}
-use Rattle.dtype_types.specs.declared.dtype.equality.NullabilityRule.TheVariants.{Ignored, Within}
+use Rattle.dtype_types.specs.declared.dtype.equality.NullabilityRule.TheVariants.{Within}
 
-allowed : (m n : Nullability) → allows Within m n ≡ true → Allows m n
-allowed Nullable Nullable e = λ h. refl
-allowed Nullable NonNullable e = absurd (false≢true e)
-allowed NonNullable n e = λ h. cc
-
-allows_it : (m n : Nullability) → Allows m n → allows Within m n ≡ true
-allows_it Nullable Nullable h = refl
-allows_it Nullable NonNullable h = let never = h refl in cc
-allows_it NonNullable n h = refl
+allowed : (m n : Nullability) → Decides (allows Within m n) (Allows m n)
+allowed Nullable Nullable = (λ e h. refl, λ h. refl)
+allowed Nullable NonNullable = (λ e. absurd (false≢true e), λ h. let never = h refl in cc)
+allowed NonNullable n = (λ e h. cc, λ h. refl)
 
 mutual
-  there : (a b : Tree) → equal_under Within a b ≡ true → (equal_under Ignored a b ≡ true) × NullableWherever a b
-  there null null e = (refl, tt)
-  there (bool m) (bool n) e = (refl, allowed m n e)
-  there (primitive p m) (primitive q n) e = let h = and_parts _ _ e in (and_from _ _ h.0 refl, allowed m n h.1)
-  there (decimal p m) (decimal q n) e = let h = and_parts _ _ e in (and_from _ _ h.0 refl, allowed m n h.1)
-  there (utf8 m) (utf8 n) e = (refl, allowed m n e)
-  there (binary m) (binary n) e = (refl, allowed m n e)
-  there (list t m) (list u n) e = let h = and_parts _ _ e in let r = there t u h.1 in (r.0, (allowed m n h.0, r.1))
-  there (fixed_size_list t j m) (fixed_size_list u k n) e = let h = and_parts _ _ e in let g = and_parts _ _ h.0 in let r = there t u h.1 in (and_from _ _ g.1 r.0, (allowed m n g.0, r.1))
-  there (map_of t v x m) (map_of u w y n) e =
-      let h = and_parts _ _ e in let g = and_parts _ _ h.1 in let f = and_parts _ _ g.0 in
-      let r = there t u f.0 in let s = there v w f.1 in
-      (and_from _ _ (and_from _ _ r.0 s.0) g.1, (allowed m n h.0, r.1, s.1))
-  there (struct fs m) (struct gs n) e = let h = and_parts _ _ e in let r = there_fields fs gs h.1 in (r.0, (allowed m n h.0, r.1))
-  there (union vs m) (union ws n) e = let h = and_parts _ _ e in let r = there_variants vs ws h.1 in (r.0, (allowed m n h.0, r.1))
-  there (variant m) (variant n) e = (refl, allowed m n e)
-  there (extension i a t) (extension j b u) e = let h = and_parts _ _ e in let r = there t u h.1 in (and_from _ _ h.0 r.0, r.1)
-  there _ _ e = absurd (false≢true e)
+  sub_Decides : (a b : Tree) → Decides (equal_under Within a b) (Sub a b)
+  sub_Decides null null = (λ e. record { erased = refl; nullable = tt }, λ s. refl)
+  sub_Decides (bool m) (bool n) = restated (λ h. record { erased = refl; nullable = h }) (λ s. s.nullable) (allowed m n)
+  sub_Decides (primitive p m) (primitive q n) = restated (λ h. record { erased = cc; nullable = h.1 }) (λ s. ((cc s.erased), s.nullable)) (Decides-and _ _ (same_ptype-Decides p q) (allowed m n))
+  sub_Decides (decimal d m) (decimal e n) = restated (λ h. record { erased = cc; nullable = h.1 }) (λ s. ((cc s.erased), s.nullable)) (Decides-and _ _ (same_decimal-Decides d e) (allowed m n))
+  sub_Decides (utf8 m) (utf8 n) = restated (λ h. record { erased = refl; nullable = h }) (λ s. s.nullable) (allowed m n)
+  sub_Decides (binary m) (binary n) = restated (λ h. record { erased = refl; nullable = h }) (λ s. s.nullable) (allowed m n)
+  sub_Decides (variant m) (variant n) = restated (λ h. record { erased = refl; nullable = h }) (λ s. s.nullable) (allowed m n)
+  sub_Decides (list t m) (list u n) =
+      restated (λ h. record { erased = (cc h.1.erased); nullable = (h.0, h.1.nullable) }) (λ s. (s.nullable.0, record { erased = (cc s.erased); nullable = s.nullable.1 }))
+      (Decides-and _ _ (allowed m n) (sub_Decides t u))
+  sub_Decides (fixed_size_list t j m) (fixed_size_list u k n) =
+      restated (λ h. record { erased = (cc h.1.erased); nullable = (h.0.0, h.1.nullable) })
+      (λ s. ((s.nullable.0, (cc s.erased)), record { erased = (cc s.erased); nullable = s.nullable.1 }))
+      (Decides-and _ _ (Decides-and _ _ (allowed m n) (Decides-eqb j k)) (sub_Decides t u))
+  sub_Decides (map_of t v a m) (map_of u w b n) =
+      restated (λ h. record { erased = (cc (h.1.0.0.erased, h.1.0.1.erased)); nullable = (h.0, h.1.0.0.nullable, h.1.0.1.nullable) })
+      (λ s. (s.nullable.0, ((record { erased = (cc s.erased); nullable = s.nullable.1 }, record { erased = (cc s.erased); nullable = s.nullable.2 }), (cc s.erased))))
+      (Decides-and _ _ (allowed m n) (Decides-and _ _ (Decides-and _ _ (sub_Decides t u) (sub_Decides v w)) (booleans_Decides a b)))
+  sub_Decides (struct fs m) (struct gs n) =
+      restated (λ h. record { erased = ap (λ x. struct x NonNullable) h.1.0; nullable = (h.0, h.1.1) }) (λ s. (s.nullable.0, ((cc s.erased), s.nullable.1)))
+      (Decides-and _ _ (allowed m n) (sub_fields_Decides fs gs))
+  sub_Decides (union vs m) (union ws n) =
+      restated (λ h. record { erased = ap (λ x. union x NonNullable) h.1.0; nullable = (h.0, h.1.1) }) (λ s. (s.nullable.0, ((cc s.erased), s.nullable.1)))
+      (Decides-and _ _ (allowed m n) (sub_variants_Decides vs ws))
+  sub_Decides (extension i a t) (extension j b u) =
+      restated (λ h. record { erased = (cc h.1.erased); nullable = h.1.nullable }) (λ s. (((cc s.erased), (cc s.erased)), record { erased = (cc s.erased); nullable = s.nullable }))
+      (Decides-and _ _ (Decides-and _ _ (bytes_eq-Decides i j) (bytes_eq-Decides a b)) (sub_Decides t u))
+  sub_Decides _ _ = (λ e. absurd (false≢true e), λ s. absurd s.nullable)
 
-  there_fields : (fs gs : Fields) → fields_equal_under Within fs gs ≡ true → (fields_equal_under Ignored fs gs ≡ true) × NullableWhereverFields fs gs
-  there_fields no_fields no_fields e = (refl, tt)
-  there_fields (field m t fs) (field n u gs) e =
-      let h = and_parts _ _ e in let g = and_parts _ _ h.0 in
-      let r = there t u g.1 in let s = there_fields fs gs h.1 in
-      (and_from _ _ (and_from _ _ g.0 r.0) s.0, (r.1, s.1))
-  there_fields _ _ e = absurd (false≢true e)
+  sub_fields_Decides : (fs gs : Fields) → Decides (fields_equal_under Within fs gs) ((erase_fields fs ≡ erase_fields gs) × NullableWhereverFields fs gs)
+  sub_fields_Decides no_fields no_fields = (λ e. (refl, tt), λ s. refl)
+  sub_fields_Decides (field m t fs) (field n u gs) =
+      restated (λ h. ((cc (h.0.1.erased, h.1.0)), (h.0.1.nullable, h.1.1))) (λ s. (((cc s.0), record { erased = (cc s.0); nullable = s.1.0 }), ((cc s.0), s.1.1)))
+      (Decides-and _ _ (Decides-and _ _ (bytes_eq-Decides m n) (sub_Decides t u)) (sub_fields_Decides fs gs))
+  sub_fields_Decides _ _ = (λ e. absurd (false≢true e), λ s. absurd s.1)
 
-  there_variants : (vs ws : Variants) → variants_equal_under Within vs ws ≡ true → (variants_equal_under Ignored vs ws ≡ true) × NullableWhereverVariants vs ws
-  there_variants no_variants no_variants e = (refl, tt)
-  there_variants (choice m t g vs) (choice n u i ws) e =
-      let h = and_parts _ _ e in let f = and_parts _ _ h.0 in let d = and_parts _ _ f.0 in
-      let r = there t u d.1 in let s = there_variants vs ws h.1 in
-      (and_from _ _ (and_from _ _ (and_from _ _ d.0 r.0) f.1) s.0, (r.1, s.1))
-  there_variants _ _ e = absurd (false≢true e)
-
-mutual
-  back : (a b : Tree) → equal_under Ignored a b ≡ true → NullableWherever a b → equal_under Within a b ≡ true
-  back null null e h = refl
-  back (bool m) (bool n) e h = allows_it m n h
-  back (primitive p m) (primitive q n) e h = and_from _ _ (and_parts _ _ e).0 (allows_it m n h)
-  back (decimal p m) (decimal q n) e h = and_from _ _ (and_parts _ _ e).0 (allows_it m n h)
-  back (utf8 m) (utf8 n) e h = allows_it m n h
-  back (binary m) (binary n) e h = allows_it m n h
-  back (list t m) (list u n) e h = and_from _ _ (allows_it m n h.0) (back t u e h.1)
-  back (fixed_size_list t j m) (fixed_size_list u k n) e h = let g = and_parts _ _ e in and_from _ _ (and_from _ _ (allows_it m n h.0) g.0) (back t u g.1 h.1)
-  back (map_of t v x m) (map_of u w y n) e h =
-      let g = and_parts _ _ e in let f = and_parts _ _ g.0 in
-      and_from _ _ (allows_it m n h.0) (and_from _ _ (and_from _ _ (back t u f.0 h.1) (back v w f.1 h.2)) g.1)
-  back (struct fs m) (struct gs n) e h = and_from _ _ (allows_it m n h.0) (back_fields fs gs e h.1)
-  back (union vs m) (union ws n) e h = and_from _ _ (allows_it m n h.0) (back_variants vs ws e h.1)
-  back (variant m) (variant n) e h = allows_it m n h
-  back (extension i a t) (extension j b u) e h = let g = and_parts _ _ e in and_from _ _ g.0 (back t u g.1 h)
-  back _ _ e h = absurd h
-
-  back_fields : (fs gs : Fields) → fields_equal_under Ignored fs gs ≡ true → NullableWhereverFields fs gs → fields_equal_under Within fs gs ≡ true
-  back_fields no_fields no_fields e h = refl
-  back_fields (field m t fs) (field n u gs) e h = let f = and_parts _ _ e in let g = and_parts _ _ f.0 in and_from _ _ (and_from _ _ g.0 (back t u g.1 h.0)) (back_fields fs gs f.1 h.1)
-  back_fields _ _ e h = absurd h
-
-  back_variants : (vs ws : Variants) → variants_equal_under Ignored vs ws ≡ true → NullableWhereverVariants vs ws → variants_equal_under Within vs ws ≡ true
-  back_variants no_variants no_variants e h = refl
-  back_variants (choice m t g vs) (choice n u i ws) e h =
-      let f = and_parts _ _ e in let d = and_parts _ _ f.0 in let c = and_parts _ _ d.0 in
-      and_from _ _ (and_from _ _ (and_from _ _ c.0 (back t u c.1 h.0)) d.1) (back_variants vs ws f.1 h.1)
-  back_variants _ _ e h = absurd h
-
-sub_Decides : (a b : Tree) → Decides (equal_under Within a b) (Sub a b)
-sub_Decides a b =
-    let d = equal_erased-Decides a b in
-    (λ e. let r = there a b e in record { erased = d.0 r.0; nullable = r.1 }, λ h. back a b (d.1 h.erased) h.nullable)
+  sub_variants_Decides : (vs ws : Variants) → Decides (variants_equal_under Within vs ws) ((erase_variants vs ≡ erase_variants ws) × NullableWhereverVariants vs ws)
+  sub_variants_Decides no_variants no_variants = (λ e. (refl, tt), λ s. refl)
+  sub_variants_Decides (choice m t g vs) (choice n u i ws) =
+      restated (λ h. ((cc (h.0.0.1.erased, h.1.0)), (h.0.0.1.nullable, h.1.1)))
+      (λ s. ((((cc s.0), record { erased = (cc s.0); nullable = s.1.0 }), (cc s.0)), ((cc s.0), s.1.1)))
+      (Decides-and _ _ (Decides-and _ _ (Decides-and _ _ (bytes_eq-Decides m n) (sub_Decides t u)) (Decides-eqb g i)) (sub_variants_Decides vs ws))
+  sub_variants_Decides _ _ = (λ e. absurd (false≢true e), λ s. absurd s.1)
 
 pub sub_of_test : (a b : Tree) (r : Bool) → r ≡ equal_under Within a b → IsTrue r ↔ Sub a b
 sub_of_test a b r is = let d = sub_Decides a b in (λ e. d.0 (sym is ∙ e), λ h. is ∙ d.1 h)

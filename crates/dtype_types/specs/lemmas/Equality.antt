@@ -7,10 +7,10 @@
 use Rattle.std.specs.Prelude.{◌≡◌}
 use Rattle.std.specs.Bool.{Decides}
 use Rattle.std.proofs.Common.{sym, ap, ◌∙◌}
-use Rattle.dtype_types.specs.lemmas.EqualityLaws.{equal_under-Decides}
+use Rattle.dtype_types.specs.lemmas.EqualityLaws.{equal_under-Decides, variants_equal_under-Decides}
 use Rattle.dtype_types.specs.parts.FieldTypes.{field_tree}
 use Rattle.dtype_types.specs.equality.EqualityOf.{same_field_dtype}
-use Rattle.dtype_types.specs.lemmas.PartsEquality.{maps_equal_under-Decides, variants_equal_under-Decides, same_fields-Decides}
+use Rattle.dtype_types.specs.lemmas.PartsEquality.{maps_equal_under-Decides, same_fields-Decides}
 use Rattle.dtype_types.specs.equality.EqualityOf.{same_extension, same_map, same_struct, same_union}
 use Rattle.dtype_types.specs.tree.Tree.{triples, variants}
 use Rattle.dtype_types.specs.tree.TreeOf.{children, variant_list, extension_tree, map_shown, variants_of}

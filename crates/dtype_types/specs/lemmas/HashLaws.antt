@@ -9,12 +9,12 @@ use Rattle.std.specs.Hash as fed
 use Rattle.dtype_base.specs.declared.nullability.Nullability.TheVariants.{NonNullable}
 use Rattle.dtype_types.specs.tree.Kinds.{kind_number}
 use Rattle.dtype_types.specs.declared.dtype.kinds.Kind.TheVariants as kind
-use Rattle.dtype_types.specs.tree.Tree.{Tree, Fields, no_fields, field, Variants, no_variants, choice, null, bool, primitive, decimal, utf8, binary, list, fixed_size_list, map_of, struct, union, variant, extension, fields}
+use Rattle.dtype_types.specs.tree.Tree.{Tree, Fields, no_fields, field, Variants, no_variants, choice, list, fixed_size_list, map_of, struct, union, extension, fields}
 use Rattle.dtype_types.specs.tree.TreeOf.{tree, children, variants_of, map_shown, extension_tree}
 use Rattle.dtype_types.specs.tree.Erase.{erase, erase_fields, erase_variants}
-use Rattle.dtype_types.specs.lemmas.EqualityLaws.{equal_under-Decides}
+use Rattle.dtype_types.specs.lemmas.EqualityLaws.{equal_under-Decides, variants_equal_under-Decides}
 use Rattle.dtype_types.specs.equality.EqualityOf.{same_dtype}
-use Rattle.dtype_types.specs.lemmas.PartsEquality.{same_fields-Decides, variants_equal_under-Decides, maps_equal_under-Decides}
+use Rattle.dtype_types.specs.lemmas.PartsEquality.{same_fields-Decides, maps_equal_under-Decides}
 use Rattle.dtype_types.specs.equality.EqualityOf.{same_struct, same_union, same_map, same_extension}
 use Rattle.dtype_types.specs.equality.Hashes.{hash_of, kind_writes, bytes_writes, field_count, field_writes, variant_count, variant_writes}
 use Rattle.dtype_types.specs.declared.dtype.hash.HashMode.TheVariants.{Whole, Erased}
@@ -43,12 +43,6 @@ extension_fed x y e = ap (λ t. drop 1 (hash_of Whole t)) ((equal_under-Decides 
 
 mutual
   pub hash-erase : (t : Tree) → hash_of Erased t ≡ hash_of Erased (erase t)
-  hash-erase null = refl
-  hash-erase (bool n) = refl
-  hash-erase (primitive p n) = refl
-  hash-erase (decimal d n) = refl
-  hash-erase (utf8 n) = refl
-  hash-erase (binary n) = refl
   hash-erase (list t n) = ap (λ w. kind_writes Erased (kind_number kind.List) n ++ w) (hash-erase t)
   hash-erase (fixed_size_list t k n) = ap (λ w. kind_writes Erased (kind_number kind.FixedSizeList) n ++ (fed.u32 k ++ w)) (hash-erase t)
   hash-erase (map_of k v o n) =
@@ -60,8 +54,8 @@ mutual
   hash-erase (union vs n) =
       ap (λ k. kind_writes Erased (kind_number kind.Union) n ++ (fed.usize k ++ variant_writes Erased vs)) (variant_count-erase vs)
       ∙ ap (λ w. kind_writes Erased (kind_number kind.Union) n ++ (fed.usize (variant_count (erase_variants vs)) ++ w)) (variant_writes-erase vs)
-  hash-erase (variant n) = refl
   hash-erase (extension id b t) = ap (λ w. kind_writes Erased (kind_number kind.Extension) NonNullable ++ (fed.str id ++ (bytes_writes b ++ w))) (hash-erase t)
+  hash-erase _ = refl
 
   field_count-erase : (fs : Fields) → field_count fs ≡ field_count (erase_fields fs)
   field_count-erase no_fields = refl

@@ -2,22 +2,19 @@
 -- SPDX-FileCopyrightText: Copyright the Vortex contributors
 
 -- Equality of structs, unions, maps, extensions and the types of fields is exact, and an equivalence.
-use Rattle.std.specs.Prelude.{◌≡◌, ◌&&◌, ℕ, List, [], ◌∷◌, Bool, true, refl}
+use Rattle.std.specs.Prelude.{◌≡◌, ℕ, List, [], ◌∷◌, refl}
 use Rattle.std.specs.Bool.{Decides}
-use Rattle.std.proofs.Common.{sym, ap, ◌∙◌, subst}
+use Rattle.std.proofs.Common.{sym, ap, ◌∙◌}
 use Rattle.std.specs.Cmp.{IsEquivalence, booleans_Decides, decided, on_equiv}
-use Rattle.std.proofs.lemmas.Bool.{and_parts, and_from}
+use Rattle.std.proofs.lemmas.Bool.Decides.{Decides-and}
 use Rattle.dtype_types.specs.declared.dtype.equality.NullabilityRule.TheVariants.{Compared}
-use Rattle.dtype_types.specs.tree.Tree.{Tree, Fields, Variants, fields, pairs}
+use Rattle.dtype_types.specs.tree.Tree.{Tree, fields, pairs}
 use Rattle.dtype_types.specs.equality.Equality.{equal_under, fields_equal_under, variants_equal_under}
 use Rattle.dtype_types.specs.equality.EqualityOf.{maps_equal_under, same_extension, same_field_dtype, same_map, same_struct, same_union}
-use Rattle.dtype_types.specs.lemmas.EqualityLaws.{equal_under-Decides, fields_equal_under-same, fields_equal_under_refl, variants_equal_under-same, variants_equal_under_refl, same_dtype_equiv}
+use Rattle.dtype_types.specs.lemmas.EqualityLaws.{equal_under-Decides, fields_equal_under-Decides, variants_equal_under-Decides, restated, same_dtype_equiv}
 use Rattle.dtype_types.specs.tree.TreeOf.{fields_of, variants_of, map_shown, MapParts, extension_tree}
 
 -- ---- structs
-
-fields_equal_under-Decides : (a b : Fields) → Decides (fields_equal_under Compared a b) (a ≡ b)
-fields_equal_under-Decides a b = (fields_equal_under-same a b, λ e. subst (λ x. fields_equal_under Compared a x ≡ true) e (fields_equal_under_refl Compared a))
 
 pub pairs_of : (ps : List (List ℕ × Tree)) → pairs (fields ps) ≡ ps
 pairs_of [] = refl
@@ -34,20 +31,15 @@ same_struct_equiv = on_equiv fields_of (decided (fields_equal_under Compared) fi
 
 -- ---- unions
 
-pub variants_equal_under-Decides : (a b : Variants) → Decides (variants_equal_under Compared a b) (a ≡ b)
-variants_equal_under-Decides a b = (variants_equal_under-same a b, λ e. subst (λ x. variants_equal_under Compared a x ≡ true) e (variants_equal_under_refl Compared a))
-
 pub same_union_equiv : IsEquivalence same_union
 same_union_equiv = on_equiv variants_of (decided (variants_equal_under Compared) variants_equal_under-Decides)
 
 -- ---- maps
 
 pub maps_equal_under-Decides : (a b : MapParts) → Decides (maps_equal_under a b) (a ≡ b)
-maps_equal_under-Decides (k, v, s) (l, w, t) = (
-  λ e. let h = and_parts _ _ e in let g = and_parts _ _ h.0 in
-      ap (λ x. (x, v, s)) ((equal_under-Decides k l).0 g.0) ∙ ap (λ x. (l, x, s)) ((equal_under-Decides v w).0 g.1) ∙ ap (λ x. (l, w, x)) ((booleans_Decides s t).0 h.1),
-  λ e. and_from _ _ (and_from _ _ ((equal_under-Decides k l).1 (ap (λ x. x.0) e)) ((equal_under-Decides v w).1 (ap (λ x. x.1) e))) ((booleans_Decides s t).1 (ap (λ x. x.2) e)),
-)
+maps_equal_under-Decides (k, v, s) (l, w, t) =
+    restated (λ h. ap (λ x. (x, v, s)) h.0.0 ∙ ap (λ x. (l, x, s)) h.0.1 ∙ ap (λ x. (l, w, x)) h.1) (λ e. ((ap (λ x. x.0) e, ap (λ x. x.1) e), ap (λ x. x.2) e))
+    (Decides-and _ _ (Decides-and _ _ (equal_under-Decides k l) (equal_under-Decides v w)) (booleans_Decides s t))
 
 pub same_map_equiv : IsEquivalence same_map
 same_map_equiv = on_equiv map_shown (decided maps_equal_under maps_equal_under-Decides)

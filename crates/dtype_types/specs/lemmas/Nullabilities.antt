@@ -2,7 +2,7 @@
 -- SPDX-FileCopyrightText: Copyright the Vortex contributors
 
 -- A type whose nullability was set: its parts, and what setting it again gives.
-use Rattle.std.proofs.Common.{◌≡◌, ◌↔◌, ℕ, List, Option, Some, None, IfSome, IsSome, option_and_then, refl, ap, sym, ◌∙◌, subst}
+use Rattle.std.proofs.Common.{◌≡◌, ℕ, List, Option, Some, None, IfSome, IsSome, option_and_then, refl, ap, sym, ◌∙◌, subst}
 use Rattle.dtype_base.specs.declared.nullability.Nullability.{Nullability}
 use Rattle.dtype_base.specs.declared.nullability.Nullability.TheVariants.{NonNullable}
 use Rattle.dtype_types.specs.tree.Erase.{erase}
@@ -38,9 +38,6 @@ set_twice _ m n = refl
 
 pub set_again : (t u : Tree) (m n : Nullability) → set_null t m ≡ Some u → set_null u n ≡ set_null t n
 set_again t u m n e = subst (λ o. IfSome o (λ v. set_null v n ≡ set_null t n)) e (set_twice t m n)
-
-pub last_decides : (t u v : Tree) (m n : Nullability) → set_null t m ≡ Some u → (set_null u n ≡ Some v) ↔ (set_null t n ≡ Some v)
-last_decides t u v m n e = let same = set_again t u m n e in (λ h. sym same ∙ h, λ h. same ∙ h)
 
 -- setting a nullability twice is setting the last, and setting the first one back restores the type
 pub set_again-all : (t u : Tree) (n : Nullability) → set_null t n ≡ Some u → set_null u ≡ set_null t

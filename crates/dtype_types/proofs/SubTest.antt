@@ -2,7 +2,7 @@
 -- SPDX-FileCopyrightText: Copyright the Vortex contributors
 
 -- The test of equality with nullabilities of the first within those of the second decides `Sub`.
-use Rattle.std.proofs.Common.{◌≡◌, ◌↔◌, IsTrue, Bool, ap, sym, ◌∙◌, refl}
+use Rattle.std.proofs.Common.{◌≡◌, ap, refl}
 use Rattle.std.specs.Bool.{Decides}
 use Rattle.std.specs.Cmp.{booleans_Decides}
 use Rattle.std.proofs.lemmas.Bool.{false≢true}
@@ -23,7 +23,7 @@ allowed Nullable NonNullable = (λ e. absurd (false≢true e), λ h. let never =
 allowed NonNullable n = (λ e h. cc, λ h. refl)
 
 mutual
-  sub_Decides : (a b : Tree) → Decides (equal_under Within a b) (Sub a b)
+  pub sub_Decides : (a b : Tree) → Decides (equal_under Within a b) (Sub a b)
   sub_Decides null null = (λ e. record { erased = refl; nullable = tt }, λ s. refl)
   sub_Decides (bool m) (bool n) = restated (λ h. record { erased = refl; nullable = h }) (λ s. s.nullable) (allowed m n)
   sub_Decides (primitive p m) (primitive q n) = restated (λ h. record { erased = cc; nullable = h.1 }) (λ s. ((cc s.erased), s.nullable)) (Decides-and _ _ (same_ptype-Decides p q) (allowed m n))
@@ -68,5 +68,4 @@ mutual
       (Decides-and _ _ (Decides-and _ _ (Decides-and _ _ (bytes_eq-Decides m n) (sub_Decides t u)) (Decides-eqb g i)) (sub_variants_Decides vs ws))
   sub_variants_Decides _ _ = (λ e. absurd (false≢true e), λ s. absurd s.1)
 
-pub sub_of_test : (a b : Tree) (r : Bool) → r ≡ equal_under Within a b → IsTrue r ↔ Sub a b
-sub_of_test a b r is = let d = sub_Decides a b in (λ e. d.0 (sym is ∙ e), λ h. is ∙ d.1 h)
+pub ruleset sub_test = (sub_Decides)

@@ -123,3 +123,5 @@ equal_erased-Decides a b =
 
 pub same_dtype_equiv : IsEquivalence same_dtype
 same_dtype_equiv = on_equiv tree (decided (equal_under Compared) equal_under-Decides)
+
+pub ruleset exact_tests = (equal_under-Decides, equal_erased-Decides)

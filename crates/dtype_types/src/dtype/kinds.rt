@@ -385,6 +385,7 @@ impl DType {
     }
 
     /// Consumes this struct type and returns its fields. The condition is that it is a `Struct`.
+    #[tactic(auto, using(crate::proofs::KindLaws::kind_laws))]
     pub fn into_struct_fields(self) -> StructFields
         requires { kind (tree self) ≡ Kind.Struct }
         ensures { struct_fields (tree self) ≡ Some (children result) }

@@ -33,11 +33,6 @@ module _ {Item X : Type 0} (lent : Item → X) where
       by (inl a) = inl a.1.0
       by (inr b) = inr b.1.0
 
--- the map of an empty rest is empty
-pub nothing_of_either : {X Y : Type 0} (f : List X → List Y) {xs ys : List X} → (xs ≡ []) ⊎ (ys ≡ []) → (f xs ≡ f []) ⊎ (f ys ≡ f [])
-nothing_of_either f (inl a) = inl (ap f a)
-nothing_of_either f (inr b) = inr (ap f b)
-
 -- ---- the items of a list that are done, and those that are left
 
 -- an item moves from those that are left to the end of those that are done

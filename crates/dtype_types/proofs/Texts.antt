@@ -35,6 +35,8 @@ pub extension_all : (x : ExtDTypeRef) (d : DType) → d ≡ Extension x → exte
 unfolding extension_text
 extension_all x d e = sym (ap (λ z. text (tree z)) e ∙ ap text (tree_extension x))
 
+pub ruleset type_texts = (map_all, struct_all, union_all, extension_all)
+
 -- ---- the texts that are left, each after its separator
 
 -- texts, each after its separator

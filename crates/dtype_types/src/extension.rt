@@ -384,6 +384,7 @@ impl fmt::Display for MetadataDisplay<'_> {
 }
 
 /// Writes the id, the number of metadata bytes in brackets, and the storage in parentheses: `x.tag[2B](utf8?)`.
+#[tactic(auto, unfolding(crate::specs::texts::TextOf::extension_text))]
 impl fmt::Display for ExtDTypeRef {
     ghost use Rattle.dtype_types.specs.texts.TextOf.{extension_text};
 

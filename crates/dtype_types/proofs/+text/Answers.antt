@@ -1,44 +1,24 @@
 -- SPDX-License-Identifier: Apache-2.0
 -- SPDX-FileCopyrightText: Copyright the Vortex contributors
 
-use Rattle.std.proofs.Common.{codes, ap, ◌∙◌, ◌++◌, [], arith, refl, rules}
+use Rattle.std.proofs.Common.{codes, ap, ◌∙◌, ◌++◌, [], refl, rules}
 use Rattle.dtype_base.specs.Escapes.{escaped}
 use Rattle.std.specs.Fmt.{HasWritten}
 use denote.Param.Weighed.{most}
 use Rattle.std.proofs.Output.{has_written_append, has_written_of_eq}
-use Rattle.std.proofs.lemmas.Grind.{common_steps, put_three}
+use Rattle.std.proofs.lemmas.Grind.{put_three}
 use Rattle.dtype_types.proofs.ConsecutiveTags.{told_by_test}
 use Rattle.dtype_types.proofs.Depths.{no_deeper}
 use Rattle.dtype_types.proofs.Walks.{next_of, none_of}
-use Rattle.dtype_types.proofs.Texts.{map_all, struct_all, union_all, extension_all, leading, leading_all, one_written, all_written, named_text, tagged_text}
+use Rattle.dtype_types.proofs.Texts.{leading, leading_all, one_written, all_written, named_text, tagged_text}
 use Rattle.dtype_types.specs.tree.Tree.{fields, variants}
 use Rattle.dtype_types.specs.texts.Text.{text, bool_text, field_texts, choice_texts, consecutive, tag_text}
 use Rattle.std.specs.Map.{values_of}
 use Rattle.dtype_types.specs.parts.Lists.{types_of, borrowed_pair, borrowed_triple}
 use Rattle.dtype_types.specs.tree.TreeOf.{variant_list, struct_dtypes, fields_of, union_dtypes, variants_of, tree, with_trees, with_tagged_trees}
 use Rattle.dtype_types.specs.declared.dtype.DType.{size-DType}
-use Rattle.dtype_types.specs.texts.TextOf.{map_text, struct_text, union_text, extension_text}
+use Rattle.dtype_types.specs.texts.TextOf.{map_text, struct_text, union_text}
 use Rattle.dtype_types.proofs.+text.Goals as goal
-
-pub dtype::text::DTypeDisplay::fmt-returns-in_ok-fmt-in-Map-clause-writes : goal.dtype::text::DTypeDisplay::fmt-returns-in_ok-fmt-in-Map-clause-writes
-dtype::text::DTypeDisplay::fmt-returns-in_ok-fmt-in-Map-clause-writes g t c = λ plain ok.
-    let e = map_all c.in-Map.map c.in-Map.n c.args.self.now c.in-Map.is in grind (arith, common_steps)
-
-pub dtype::text::DTypeDisplay::fmt-returns-in_ok-fmt-in-Struct-clause-writes : goal.dtype::text::DTypeDisplay::fmt-returns-in_ok-fmt-in-Struct-clause-writes
-dtype::text::DTypeDisplay::fmt-returns-in_ok-fmt-in-Struct-clause-writes g t c = λ plain ok.
-    let e = struct_all c.in-Struct.fields c.in-Struct.n c.args.self.now c.in-Struct.is in grind (arith, common_steps)
-
-pub dtype::text::DTypeDisplay::fmt-returns-in_ok-fmt-in-Union-clause-writes : goal.dtype::text::DTypeDisplay::fmt-returns-in_ok-fmt-in-Union-clause-writes
-dtype::text::DTypeDisplay::fmt-returns-in_ok-fmt-in-Union-clause-writes g t c = λ plain ok.
-    let e = union_all c.in-Union.variants c.in-Union.n c.args.self.now c.in-Union.is in grind (arith, common_steps)
-
-pub dtype::text::DTypeDisplay::fmt-returns-in-Extension-clause-writes : goal.dtype::text::DTypeDisplay::fmt-returns-in-Extension-clause-writes
-dtype::text::DTypeDisplay::fmt-returns-in-Extension-clause-writes g t c = λ plain ok.
-    let e = extension_all c.in-Extension.extension c.args.self.now c.in-Extension.is in grind (arith, common_steps)
-
-pub extension::ExtDTypeRefDisplay::fmt-returns-clause-writes : goal.extension::ExtDTypeRefDisplay::fmt-returns-clause-writes
-unfolding extension_text
-extension::ExtDTypeRefDisplay::fmt-returns-clause-writes g t c = λ plain ok. grind (arith, common_steps)
 
 pub map::MapDTypeDisplay::fmt-returns-clause-writes : goal.map::MapDTypeDisplay::fmt-returns-clause-writes
 unfolding map_text

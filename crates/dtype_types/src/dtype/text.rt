@@ -8,6 +8,7 @@ use crate::DType;
 use std::fmt;
 
 /// Writes the type's kind, what it holds in brackets or braces, and `?` where it is nullable.
+#[tactic(auto, using(crate::proofs::Texts::type_texts, std::proofs::lemmas::Grind::common_steps))]
 impl fmt::Display for DType {
     ghost use Rattle.dtype_types.specs.texts.Text.{text};
     ghost use Rattle.dtype_types.specs.tree.TreeOf.{tree};

@@ -3,39 +3,28 @@
 
 -- A set made of a list's items is as long as the list exactly where no two items are equal.
 use Rattle.std.specs.HashSet as bag
-use Rattle.std.proofs.Common.{◌≡◌, ◌≤◌, ℕ, Bool, false, List, [], ◌∷◌, map, length, Bor, nat_eq, nat_lt, sym, ap, ◌∙◌, subst, arith}
-use Rattle.std.specs.Cmp.{IsEquivalence, unsigned_Decides}
-use Rattle.std.specs.Cmp.Lexicographic.{pointwise, bytes_decides}
+use Rattle.std.proofs.Common.{◌≡◌, ◌≤◌, ◌↔◌, ℕ, Bool, false, List, [], ◌∷◌, map, length, Bor, nat_lt, sym, ap, ◌∙◌, subst, arith}
+use Rattle.std.specs.Cmp.{IsEquivalence}
 use Rattle.std.specs.HashSet.{HashSet, hash_set_len}
 use Rattle.std.specs.List.{IsDistinct, AllByRecursion}
 use Rattle.std.specs.Set.{distinct_count}
 use Rattle.std.proofs.lemmas.Bool.Decides.{nat_tests}
 use Rattle.std.proofs.lemmas.Cmp.{on_equiv}
 use Rattle.std.proofs.lemmas.List.{length-map}
-use Rattle.std.proofs.lemmas.Map.Made.{hash_set_len-from_list, distinct_count-le, IsDistinct-from_count, distinct_count-from_IsDistinct, AllPairs-from_IsDistinct, IsDistinct-from_AllPairs}
-use Rattle.dtype_base.specs.Distinct.{Distinct}
+use Rattle.std.proofs.lemmas.Map.Made.{hash_set_len-from_list, distinct_count-le, IsDistinct-from_count, distinct_count-from_IsDistinct}
 
 -- equality of two borrowed values
 abbrev pub same_lent : {A : Type 0} → (A → A → Bool) → Bor A → Bor A → Bool
 same_lent eq x y = eq x.now y.now
 
-none_lent : {A : Type 0} (eq : A → A → Bool) (x : Bor A) (xs : List (Bor A)) → AllByRecursion (λ y. same_lent eq x y ≡ false) xs → AllByRecursion (λ y. eq x.now y ≡ false) (map (λ y. y.now) xs)
-none_lent eq x [] h = tt
-none_lent eq x (y ∷ xs) h = (h.0, none_lent eq x xs h.1)
+none_lent : {A : Type 0} (eq : A → A → Bool) (x : Bor A) (xs : List (Bor A)) → AllByRecursion (λ y. same_lent eq x y ≡ false) xs ↔ AllByRecursion (λ y. eq x.now y ≡ false) (map (λ y. y.now) xs)
+none_lent eq x [] = (λ h. h, λ h. h)
+none_lent eq x (y ∷ xs) = let rest = none_lent eq x xs in (λ h. (h.0, rest.0 h.1), λ h. (h.0, rest.1 h.1))
 
-lent_none : {A : Type 0} (eq : A → A → Bool) (x : Bor A) (xs : List (Bor A)) → AllByRecursion (λ y. eq x.now y ≡ false) (map (λ y. y.now) xs) → AllByRecursion (λ y. same_lent eq x y ≡ false) xs
-lent_none eq x [] h = tt
-lent_none eq x (y ∷ xs) h = (h.0, lent_none eq x xs h.1)
-
-distinct_lent : {A : Type 0} (eq : A → A → Bool) (xs : List (Bor A)) → IsDistinct (same_lent eq) xs → IsDistinct eq (map (λ y. y.now) xs)
+distinct_lent : {A : Type 0} (eq : A → A → Bool) (xs : List (Bor A)) → IsDistinct (same_lent eq) xs ↔ IsDistinct eq (map (λ y. y.now) xs)
 unfolding IsDistinct
-distinct_lent eq [] h = tt
-distinct_lent eq (x ∷ xs) h = (none_lent eq x xs h.0, distinct_lent eq xs h.1)
-
-lent_distinct : {A : Type 0} (eq : A → A → Bool) (xs : List (Bor A)) → IsDistinct eq (map (λ y. y.now) xs) → IsDistinct (same_lent eq) xs
-unfolding IsDistinct
-lent_distinct eq [] h = tt
-lent_distinct eq (x ∷ xs) h = (lent_none eq x xs h.0, lent_distinct eq xs h.1)
+distinct_lent eq [] = (λ h. h, λ h. h)
+distinct_lent eq (x ∷ xs) = let none = none_lent eq x xs in let rest = distinct_lent eq xs in (λ h. (none.0 h.0, rest.0 h.1), λ h. (none.1 h.0, rest.1 h.1))
 
 -- the set of references to the items is shorter than the list exactly where two items are equal
 pub shorter_set : {A S : Type 0} {eq : A → A → Bool} (laws : IsEquivalence eq) (items : List A) (xs : List (Bor A)) (set : HashSet (Bor A) S) (n : ℕ)
@@ -46,20 +35,6 @@ shorter_set {eq = eq} laws items xs set n lent made len =
     let count : n ≡ distinct_count (same_lent eq) xs = len ∙ hash_set_len-from_list same xs set made in
     let all : length xs ≡ length items = sym (length-map xs (λ y. y.now)) ∙ ap length lent in
     let most : distinct_count (same_lent eq) xs ≤ length xs = distinct_count-le (same_lent eq) xs in (
-      λ e. subst (IsDistinct eq) lent (distinct_lent eq xs (IsDistinct-from_count same xs (grind (arith, nat_tests)))),
-      λ h. let full : distinct_count (same_lent eq) xs ≡ length xs = distinct_count-from_IsDistinct same xs (lent_distinct eq xs (subst (IsDistinct eq) (sym lent) h)) in grind (arith, nat_tests),
+      λ e. subst (IsDistinct eq) lent ((distinct_lent eq xs).0 (IsDistinct-from_count same xs (grind (arith, nat_tests)))),
+      λ h. let full : distinct_count (same_lent eq) xs ≡ length xs = distinct_count-from_IsDistinct same xs ((distinct_lent eq xs).1 (subst (IsDistinct eq) (sym lent) h)) in grind (arith, nat_tests),
     )
-
--- ---- at tags and at names, where `==` is equality
-
-pub tags_distinct : (tags : List ℕ) → IsDistinct nat_eq tags → Distinct tags
-tags_distinct tags h = AllPairs-from_IsDistinct unsigned_Decides tags h
-
-pub distinct_tags : (tags : List ℕ) → Distinct tags → IsDistinct nat_eq tags
-distinct_tags tags h = IsDistinct-from_AllPairs unsigned_Decides tags h
-
-pub names_distinct : (names : List (List ℕ)) → IsDistinct (pointwise nat_eq) names → Distinct names
-names_distinct names h = AllPairs-from_IsDistinct bytes_decides names h
-
-pub distinct_names : (names : List (List ℕ)) → Distinct names → IsDistinct (pointwise nat_eq) names
-distinct_names names h = IsDistinct-from_AllPairs bytes_decides names h

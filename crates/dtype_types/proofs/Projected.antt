@@ -13,13 +13,13 @@ use Rattle.dtype_types.specs.parts.Lookups.{first_named, field_names}
 use Rattle.dtype_types.specs.tree.Tree.{Tree}
 
 -- each of the names is that of a field
-each_known : (fs : List (List ℕ × Tree)) (ms : List (List ℕ)) (gs : List (List ℕ × Tree)) → map (λ (p : List ℕ × Tree). Some p.1) gs ≡ map (first_named fs) ms → AllByRecursion (λ n. IsSome (first_named fs n)) ms
-each_known fs [] gs e = tt
-each_known fs (m ∷ ms) [] e = cc
-each_known fs (m ∷ ms) (g ∷ gs) e =
+pub projected_known : (fs : List (List ℕ × Tree)) (ms : List (List ℕ)) (gs : List (List ℕ × Tree)) → map (λ (p : List ℕ × Tree). Some p.1) gs ≡ map (first_named fs) ms → AllByRecursion (λ n. IsSome (first_named fs n)) ms
+projected_known fs [] gs e = tt
+projected_known fs (m ∷ ms) [] e = cc
+projected_known fs (m ∷ ms) (g ∷ gs) e =
     let head : Some g.1 ≡ first_named fs m = cc in
     let tail : map (λ (p : List ℕ × Tree). Some p.1) gs ≡ map (first_named fs) ms = cc in
-    (subst (λ o. IsSome o) head refl, each_known fs ms gs tail)
+    (subst (λ o. IsSome o) head refl, projected_known fs ms gs tail)
 
 -- a lookup of a name that was asked for gives the same in the projection as in the whole
 leads_alike : (fs gs : List (List ℕ × Tree)) → map (λ (p : List ℕ × Tree). Some p.1) gs ≡ map (first_named fs) (field_names gs) → (n : List ℕ) (k : ℕ) → slice_get (field_names gs) k ≡ Some n → first_named gs n ≡ first_named fs n
@@ -42,6 +42,3 @@ projected_alike fs names gs are e =
     let types : map (λ (q : List ℕ × Tree). Some q.1) gs ≡ map (first_named fs) (field_names gs) = e ∙ ap (map (first_named fs)) (sym are) in
     recursion_from_All (λ n. first_named gs n ≡ first_named fs n) names
     (λ k d h. leads_alike fs gs types (get_or names k d) k (ap (λ ns. slice_get ns k) are ∙ slice_get-get_or names k d h))
-
-pub projected_known : (fs : List (List ℕ × Tree)) (names : List (List ℕ)) (gs : List (List ℕ × Tree)) → map (λ (p : List ℕ × Tree). Some p.1) gs ≡ map (first_named fs) names → AllByRecursion (λ n. IsSome (first_named fs n)) names
-projected_known fs names gs e = each_known fs names gs e

@@ -5,6 +5,8 @@
 use Rattle.std.proofs.Common.{◌≡◌, ◌⊎◌, ℕ, zero, suc, ◌+◌, ◌<◌, List, [], ◌∷◌, ◌++◌, length, map, take, get_or, Some, slice_get, refl, sym, ap, subst, ◌∙◌, arith}
 use Rattle.std.specs.List.{All, zip}
 use Rattle.std.proofs.lemmas.List.{map_push, map_more, length-map}
+use Rattle.std.proofs.lemmas.Simd.{map-map}
+use Rattle.std.proofs.lemmas.Slice.Zip.{firsts-zip, seconds-zip}
 use Rattle.std.proofs.lemmas.Option.{slice_get-map, slice_get_read, slice_get_within}
 use Rattle.std.specs.Option.{option_map}
 use Rattle.dtype_base.specs.FieldNames.{first_place, SelectionError}
@@ -28,16 +30,6 @@ types_at fs (n ∷ names) (i ∷ firsts) e =
     ap (λ o. o ∷ map (slice_get (field_types fs)) firsts) (field_at_place fs n i head) ∙ ap (λ os. first_named fs n ∷ os) (types_at fs names firsts rest)
 types_at fs _ _ e = cc
 
-zip_names : (ns : List (List ℕ)) (ts : List Tree) → length ts ≡ length ns → field_names (zip ns ts) ≡ ns
-zip_names [] ts e = refl
-zip_names (n ∷ ns) [] e = absurd (omega (arith, e))
-zip_names (n ∷ ns) (t ∷ ts) e = ap (λ ms. n ∷ ms) (zip_names ns ts (omega (arith, e)))
-
-zip_types : (ns : List (List ℕ)) (ts : List Tree) → length ts ≡ length ns → map (λ (p : List ℕ × Tree). Some p.1) (zip ns ts) ≡ map Some ts
-zip_types [] [] e = refl
-zip_types (n ∷ ns) (t ∷ ts) e = ap (λ os. Some t ∷ os) (zip_types ns ts (omega (arith, e)))
-zip_types _ _ e = absurd (omega (arith, e))
-
 -- as many types as names
 pub as_many_selected : (fs : List (List ℕ × Tree)) (names : List (List ℕ)) (firsts : List ℕ) (ds : List DType) → map Some firsts ≡ map (first_place (field_names fs)) names → map Some (map tree ds) ≡ map (slice_get (field_types fs)) firsts → length ds ≡ length names
 as_many_selected fs names firsts ds e f =
@@ -49,8 +41,9 @@ pub selected : (fs : List (List ℕ × Tree)) (names : List (List ℕ)) (firsts 
     → map Some firsts ≡ map (first_place (field_names fs)) names → map Some (map tree ds) ≡ map (slice_get (field_types fs)) firsts → Projects fs names gs
 selected fs names firsts ds gs made e f =
     let as_many : length (map tree ds) ≡ length names = length-map ds tree ∙ as_many_selected fs names firsts ds e f in record {
-      names_are = ap field_names made ∙ zip_names names (map tree ds) as_many;
-      types_are = ap (map (λ (p : List ℕ × Tree). Some p.1)) made ∙ zip_types names (map tree ds) as_many ∙ f ∙ types_at fs names firsts e;
+      names_are = ap field_names made ∙ firsts-zip names (map tree ds) as_many;
+      types_are = ap (map (λ (p : List ℕ × Tree). Some p.1)) made ∙ sym (map-map Some (λ p. p.1) (zip names (map tree ds))) ∙ ap (map Some) (seconds-zip names (map tree ds) as_many)
+          ∙ f ∙ types_at fs names firsts e;
     }
 
 -- each first position is one of the types

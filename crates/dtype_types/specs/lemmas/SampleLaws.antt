@@ -5,16 +5,15 @@
 use Rattle.std.specs.Prelude.{◌≡◌, ◌<◌, ◌≤◌, ◌≤ℤ◌, ◌^◌, ◌-◌, ℕ, zero, suc, pos, neg_ℤ, [], refl}
 use Rattle.std.specs.Int.Signed.{le_z_yes, lt_z_yes}
 use Rattle.std.proofs.Math.Facts.{yes_leb}
-use Rattle.std.proofs.Math.Nat.{le_refl, le_trans, le-suc}
-use Rattle.std.proofs.Common.{ap, inl, lit<}
+use Rattle.std.proofs.Common.{ap, arith, inl, lit<}
 use Rattle.std.proofs.lemmas.Str.{IsUtf8-nil}
 use Rattle.std.proofs.lemmas.List.Elements.{All-nil}
 use Rattle.dtype_base.specs.Bytes.{Bytes}
-use Rattle.dtype_base.specs.declared.nullability.Nullability.TheVariants.{NonNullable, Nullable}
+use Rattle.dtype_base.specs.declared.nullability.Nullability.TheVariants.{NonNullable}
 use Rattle.dtype_base.specs.Primitives.{ptype_row}
 use Rattle.dtype_base.specs.declared.ptype.PType.{PType}
-use Rattle.dtype_base.specs.declared.ptype.PType.TheVariants.{U8, U16, U32, U64, I8, I16, I32, I64, F16, F32, F64}
-use Rattle.dtype_types.specs.tree.Tree.{Tree, Fields, no_fields, field, no_variants, choice, null, bool, primitive, decimal, utf8, binary, list, fixed_size_list, map_of, struct, union, variant, extension}
+use Rattle.dtype_base.specs.declared.ptype.PType.TheVariants.{U8, U16, U32, U64, F16, F32, F64}
+use Rattle.dtype_types.specs.tree.Tree.{Tree, Fields, no_fields, field, no_variants, choice, bool, primitive, decimal, utf8, binary, list, fixed_size_list, map_of, struct, union, variant, extension}
 use Rattle.dtype_types.specs.tree.Valid.{Valid, ValidFields}
 use Rattle.dtype_types.specs.values.Value.{Value, Of, NamedOf, Each, value_count, HasDigits}
 use Rattle.dtype_types.specs.values.Sample.{sample, samples, copies, zero_of}
@@ -32,24 +31,17 @@ zero-of U8 = lit< tt
 zero-of U16 = lit< tt
 zero-of U32 = lit< tt
 zero-of U64 = lit< tt
-zero-of I8 = (le_z_yes tt, lt_z_yes tt)
-zero-of I16 = (le_z_yes tt, lt_z_yes tt)
-zero-of I32 = (le_z_yes tt, lt_z_yes tt)
-zero-of I64 = (le_z_yes tt, lt_z_yes tt)
 zero-of F16 = (refl, lit< tt)
 zero-of F32 = (refl, lit< tt)
 zero-of F64 = (refl, lit< tt)
+zero-of _ = (le_z_yes tt, lt_z_yes tt)
 
 below_zero : (n : ℕ) → neg_ℤ (pos n) ≤ℤ pos 0
 below_zero zero = le_z_yes tt
 below_zero (suc n) = le_z_yes tt
 
-from_zero : (n : ℕ) → 0 ≤ n
-from_zero zero = le_refl 0
-from_zero (suc n) = le_trans (from_zero n) (le-suc n)
-
 above_zero : (n : ℕ) → pos 0 ≤ℤ pos n
-above_zero n = le_z_yes (yes_leb (from_zero n))
+above_zero n = let least : 0 ≤ n = omega arith in le_z_yes (yes_leb least)
 
 zero_digits : (p : ℕ) → HasDigits p (pos 0)
 zero_digits p = (below_zero (10 ^ p - 1), above_zero (10 ^ p - 1))
@@ -59,31 +51,20 @@ no_bytes = All-nil (λ x. x < 256)
 
 mutual
   pub sample_of : (t : Tree) → Valid t → Of (sample t) t
-  sample_of null h = refl
-  sample_of (bool Nullable) h = refl
   sample_of (bool NonNullable) h = tt
-  sample_of (primitive p Nullable) h = refl
   sample_of (primitive p NonNullable) h = zero-of p
-  sample_of (decimal d Nullable) h = refl
   sample_of (decimal d NonNullable) h = zero_digits d.precision
-  sample_of (utf8 Nullable) h = refl
   sample_of (utf8 NonNullable) h = IsUtf8-nil
-  sample_of (binary Nullable) h = refl
   sample_of (binary NonNullable) h = no_bytes
-  sample_of (list t Nullable) h = refl
   sample_of (list t NonNullable) h = tt
-  sample_of (fixed_size_list t k Nullable) h = refl
   sample_of (fixed_size_list t k NonNullable) h = (value_count-copies k (sample t), each_copy (λ v. Of v t) k (sample t) (sample_of t h.1))
-  sample_of (map_of t u s Nullable) h = refl
   sample_of (map_of t u s NonNullable) h = tt
-  sample_of (struct fs Nullable) h = refl
   sample_of (struct fs NonNullable) h = samples_of fs h
-  sample_of (union vs Nullable) h = refl
   sample_of (union no_variants NonNullable) h = absurd h.0
   sample_of (union (choice n t g rest) NonNullable) h = inl (refl, sample_of t h.1.0)
-  sample_of (variant Nullable) h = refl
   sample_of (variant NonNullable) h = no_bytes
   sample_of (extension id b s) h = sample_of s h.1
+  sample_of _ h = refl
 
   pub samples_of : (fs : Fields) → ValidFields fs → NamedOf (samples fs) fs
   samples_of no_fields h = tt

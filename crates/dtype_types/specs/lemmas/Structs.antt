@@ -9,15 +9,12 @@ use Rattle.dtype_base.specs.declared.nullability.Nullability.{Nullability}
 use Rattle.dtype_types.specs.tree.Kinds.{struct_fields}
 use Rattle.dtype_types.specs.nullability.Nullable.{nullability}
 use Rattle.dtype_types.specs.lemmas.PartsEquality.{pairs_of}
-use Rattle.dtype_types.specs.tree.Tree.{Tree, Fields, no_fields, field, fields, pairs, struct}
-
-made_of_pairs : (fs : Fields) → fields (pairs fs) ≡ fs
-made_of_pairs no_fields = refl
-made_of_pairs (field n t rest) = ap (field n t) (made_of_pairs rest)
+use Rattle.dtype_types.specs.lemmas.ValidParts.{fields_of_pairs}
+use Rattle.dtype_types.specs.tree.Tree.{Tree, fields, pairs, struct}
 
 -- a type that has these fields is a struct of them
 pub struct_of_fields : (t : Tree) (ps : List (List ℕ × Tree)) → struct_fields t ≡ Some ps → t ≡ struct (fields ps) (nullability t)
-struct_of_fields (struct fs n) ps e = ap (λ gs. struct gs n) (sym (made_of_pairs fs) ∙ ap fields (same_Some (pairs fs) ps e))
+struct_of_fields (struct fs n) ps e = ap (λ gs. struct gs n) (sym (fields_of_pairs fs) ∙ ap fields (same_Some (pairs fs) ps e))
 struct_of_fields _ ps e = cc
 
 -- and a struct of them has them

@@ -76,7 +76,7 @@ given_map t (Some m) is h = map_parts_valid t m (sym is) h
 
 -- ---- a struct's fields
 
-fields_of_pairs : (fs : Fields) → fields (pairs fs) ≡ fs
+pub fields_of_pairs : (fs : Fields) → fields (pairs fs) ≡ fs
 fields_of_pairs no_fields = refl
 fields_of_pairs (field n t rest) = ap (field n t) (fields_of_pairs rest)
 

@@ -58,10 +58,6 @@ valid_extension d e is h = subst Valid (ap tree is ∙ tree_extension e) h
 
 -- ---- fields and variants, and their types
 
-pub fields_of_types : (ps : List (List ℕ × DType)) → AllByRecursion (λ d. Valid (tree d)) (values_of ps) → ValidFields (fields (with_trees ps))
-fields_of_types [] h = tt
-fields_of_types (p ∷ ps) h = (h.0, fields_of_types ps h.1)
-
 pub valid_given : (ps : List (List ℕ × FieldDType)) → AllByRecursion (λ p. Valid (field_tree p.1)) ps → ValidFields (given_fields ps)
 valid_given [] h = tt
 valid_given (p ∷ ps) h = (h.0, valid_given ps h.1)
@@ -70,15 +66,9 @@ each_pair : (ps : List (List ℕ × DType)) → ValidFields (fields (with_trees 
 each_pair [] h = tt
 each_pair (p ∷ ps) h = (h.0, each_pair ps h.1)
 
-pub valid_pairs : (ps : List (List ℕ × DType)) → ValidFields (fields (with_trees ps)) → All (λ p. Valid (tree p.1)) ps
-valid_pairs ps h = All-from_recursion (λ p. Valid (tree p.1)) ps (each_pair ps h)
-
 each_triple : (ps : List (List ℕ × (DType × ℕ))) → ValidVariants (variants (with_tagged_trees ps)) → AllByRecursion (λ p. Valid (tree p.1.0)) ps
 each_triple [] h = tt
 each_triple (p ∷ ps) h = (h.0, each_triple ps h.4)
-
-pub valid_triples : (ps : List (List ℕ × (DType × ℕ))) → ValidVariants (variants (with_tagged_trees ps)) → All (λ p. Valid (tree p.1.0)) ps
-valid_triples ps h = All-from_recursion (λ p. Valid (tree p.1.0)) ps (each_triple ps h)
 
 -- ---- fields made of valid fields
 
@@ -174,10 +164,10 @@ pub variant_types_valid : (u : UnionVariants) → Valid (union_tree u) → All V
 variant_types_valid u h = All-from_recursion Valid (variant_types (variant_list u)) (variant_types_each (variant_list u) h.1)
 
 pub pairs_valid : (s : StructFields) → Valid (struct_tree s) → All (λ p. Valid (tree p.1)) (struct_pairs s)
-pairs_valid s h = valid_pairs (struct_pairs s) h
+pairs_valid s h = All-from_recursion (λ p. Valid (tree p.1)) (struct_pairs s) (each_pair (struct_pairs s) h)
 
 pub triples_valid : (u : UnionVariants) → Valid (union_tree u) → All (λ p. Valid (tree p.1.0)) (union_triples u)
-triples_valid u h = valid_triples (union_triples u) h.1
+triples_valid u h = All-from_recursion (λ p. Valid (tree p.1.0)) (union_triples u) (each_triple (union_triples u) h.1)
 
 -- the struct of valid types
 zip_valid : (ns : List (List ℕ)) (ds : List DType) → AllByRecursion (λ d. Valid (tree d)) ds → ValidFields (fields (zip ns (map tree ds)))

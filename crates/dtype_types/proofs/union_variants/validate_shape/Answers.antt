@@ -4,9 +4,11 @@
 use Rattle.std.proofs.Common.{◌<◌, ℕ, List, rules, arith, sym, ◌∙◌, subst, inr}
 use Rattle.std.proofs.lemmas.Bool.{false≢true}
 use Rattle.std.proofs.lemmas.List.Elements.{All-from_get_or}
+use Rattle.std.proofs.lemmas.Map.Made.{AllPairs-from_IsDistinct, IsDistinct-from_AllPairs}
+use Rattle.std.specs.Cmp.{unsigned_Decides}
+use Rattle.std.specs.Cmp.Lexicographic.{bytes_decides}
 use Rattle.dtype_base.specs.Distinct.{Distinct}
 use Rattle.dtype_types.specs.parts.Unions.{HasUnionLengths}
-use Rattle.dtype_types.proofs.DistinctItems.{tags_distinct, distinct_tags, names_distinct, distinct_names}
 use Rattle.dtype_types.proofs.union_variants.validate_shape.Goals as goal
 
 IsDistinctNames : List (List ℕ) → Type 0
@@ -15,21 +17,21 @@ IsDistinctNames names = Distinct names
 pub returns-then-branch-clause-refused : goal.returns-then-branch-clause-refused
 returns-then-branch-clause-refused c =
     let lengths : HasUnionLengths c.args.names.now c.args.types c.args.type_ids.now = search rules in
-    inr (lengths, λ d. false≢true (sym (c.in_ok-has_repeats.ensures.1 (distinct_tags _ d)) ∙ c.if-branch.true))
+    inr (lengths, λ d. false≢true (sym (c.in_ok-has_repeats.ensures.1 (IsDistinct-from_AllPairs unsigned_Decides _ d)) ∙ c.if-branch.true))
 
 pub returns-then-branch-2-clause-refused : goal.returns-then-branch-2-clause-refused
 unfolding IsDistinctNames
 returns-then-branch-2-clause-refused c =
     let lengths : HasUnionLengths c.args.names.now c.args.types c.args.type_ids.now = search rules in
-    let tags = tags_distinct c.args.type_ids.now (c.in_ok-has_repeats.ensures.0 c.if-branch.false) in
-    inr (lengths, tags, λ d. false≢true (sym (c.in_ok-has_repeats-2.ensures.1 (distinct_names _ (subst IsDistinctNames (sym c.as_slice.ensures) d))) ∙ c.if-branch-2.true))
+    let tags = AllPairs-from_IsDistinct unsigned_Decides c.args.type_ids.now (c.in_ok-has_repeats.ensures.0 c.if-branch.false) in
+    inr (lengths, tags, λ d. false≢true (sym (c.in_ok-has_repeats-2.ensures.1 (IsDistinct-from_AllPairs bytes_decides _ (subst IsDistinctNames (sym c.as_slice.ensures) d))) ∙ c.if-branch-2.true))
 
 pub returns-clause-ok : goal.returns-clause-ok
 unfolding IsDistinctNames
 returns-clause-ok c =
     let lengths : HasUnionLengths c.args.names.now c.args.types c.args.type_ids.now = search rules in
-    let tags = tags_distinct c.args.type_ids.now (c.in_ok-has_repeats.ensures.0 c.if-branch.false) in
-    (lengths, tags, subst IsDistinctNames c.as_slice.ensures (names_distinct _ (c.in_ok-has_repeats-2.ensures.0 c.if-branch-2.false)))
+    let tags = AllPairs-from_IsDistinct unsigned_Decides c.args.type_ids.now (c.in_ok-has_repeats.ensures.0 c.if-branch.false) in
+    (lengths, tags, subst IsDistinctNames c.as_slice.ensures (AllPairs-from_IsDistinct bytes_decides _ (c.in_ok-has_repeats-2.ensures.0 c.if-branch-2.false)))
 
 pub returns-clause-bytes : goal.returns-clause-bytes
 returns-clause-bytes c = All-from_get_or (λ t. t < 256) c.args.type_ids.now 0 (λ i _. omega (arith, c.type_inv.type_ids i))

@@ -40,21 +40,11 @@ returns-clause-fields c =
 
 pub returns-clause-each : goal.returns-clause-each
 returns-clause-each c =
-    let s = c.args.self.now in
-    let made = projects (struct_pairs s) c.deref.result.now c.args.projection.now _ c.deref.ensures c.in_ok-names.ensures.1 c.deref-2.result.now _ c.deref-2.ensures.value c.in_ok-dtypes.ensures
-    _ c.in_ok-shared.shared.value c.in_ok-names.ensures.0 (c.in_ok-shared.ensures.ok ∙ c.new.ensures) in
-    projected_alike (children s) c.args.projection.now (with_trees c.in_ok-shared.shared.value) made.names_are made.types_are
+    let made = returns-clause-fields c in
+    projected_alike (children c.args.self.now) c.args.projection.now (with_trees c.in_ok-shared.shared.value) made.names_are made.types_are
 
 pub returns-clause-there : goal.returns-clause-there
-returns-clause-there c = λ ok.
-    let s = c.args.self.now in
-    let made = projects (struct_pairs s) c.deref.result.now c.args.projection.now _ c.deref.ensures c.in_ok-names.ensures.1 c.deref-2.result.now _ c.deref-2.ensures.value c.in_ok-dtypes.ensures
-    _ c.in_ok-shared.shared.value c.in_ok-names.ensures.0 (c.in_ok-shared.ensures.ok ∙ c.new.ensures) in
-    projected_known (children s) c.args.projection.now (with_trees c.in_ok-shared.shared.value) made.types_are
+returns-clause-there c = λ ok. projected_known (children c.args.self.now) c.args.projection.now (with_trees c.in_ok-shared.shared.value) (returns-clause-fields c).types_are
 
 pub returns-clause-valid : goal.returns-clause-valid
-returns-clause-valid c = λ h.
-    let s = c.args.self.now in
-    let made = projects (struct_pairs s) c.deref.result.now c.args.projection.now _ c.deref.ensures c.in_ok-names.ensures.1 c.deref-2.result.now _ c.deref-2.ensures.value c.in_ok-dtypes.ensures
-    _ c.in_ok-shared.shared.value c.in_ok-names.ensures.0 (c.in_ok-shared.ensures.ok ∙ c.new.ensures) in
-    valid_projected (children s) (with_trees c.in_ok-shared.shared.value) c.args.projection.now h made.types_are
+returns-clause-valid c = λ h. valid_projected (children c.args.self.now) (with_trees c.in_ok-shared.shared.value) c.args.projection.now h (returns-clause-fields c).types_are

@@ -1,21 +1,23 @@
 -- SPDX-License-Identifier: Apache-2.0
 -- SPDX-FileCopyrightText: Copyright the Vortex contributors
 
--- The test of equality with nullabilities of the first within those of the second decides `Sub`.
-use Rattle.std.proofs.Common.{◌≡◌, ap, refl}
+-- The test of equality with nullabilities of the first within those of the second decides `Sub`. With nullabilities ignored
+-- the tests of fields, of variants and of an extension's parts decide whether what erasing leaves is equal.
+use Rattle.std.proofs.Common.{◌≡◌, ◌&&◌, ℕ, List, ap, refl}
 use Rattle.std.specs.Bool.{Decides}
 use Rattle.std.specs.Cmp.{booleans_Decides}
+use Rattle.std.specs.Str.{bytes_eq}
 use Rattle.std.proofs.lemmas.Bool.{false≢true}
 use Rattle.std.proofs.lemmas.Bool.Decides.{Decides-and, Decides-eqb}
 use Rattle.std.proofs.lemmas.Slice.Eq.{bytes_eq-Decides}
 use Rattle.dtype_base.specs.declared.nullability.Nullability.{Nullability}
 use Rattle.dtype_base.specs.declared.nullability.Nullability.TheVariants.{NonNullable, Nullable}
 use Rattle.dtype_types.specs.equality.Equality.{equal_under, fields_equal_under, variants_equal_under, allows}
-use Rattle.dtype_types.specs.lemmas.EqualityLaws.{restated, same_decimal-Decides, same_ptype-Decides}
+use Rattle.dtype_types.specs.lemmas.EqualityLaws.{equal_erased-Decides, restated, same_decimal-Decides, same_ptype-Decides}
 use Rattle.dtype_types.specs.nullability.Sub.{Sub, Allows, NullableWhereverFields, NullableWhereverVariants}
-use Rattle.dtype_types.specs.tree.Erase.{erase_fields, erase_variants}
+use Rattle.dtype_types.specs.tree.Erase.{erase, erase_fields, erase_variants}
 use Rattle.dtype_types.specs.tree.Tree.{Tree, Fields, no_fields, field, Variants, no_variants, choice, null, bool, primitive, decimal, utf8, binary, list, fixed_size_list, map_of, struct, union, variant, extension}
-use Rattle.dtype_types.specs.declared.dtype.equality.NullabilityRule.TheVariants.{Within}
+use Rattle.dtype_types.specs.declared.dtype.equality.NullabilityRule.TheVariants.{Ignored, Within}
 
 allowed : (m n : Nullability) → Decides (allows Within m n) (Allows m n)
 allowed Nullable Nullable = (λ e h. refl, λ h. refl)
@@ -69,3 +71,14 @@ mutual
   sub_variants_Decides _ _ = (λ e. absurd (false≢true e), λ s. absurd s.1)
 
 pub ruleset sub_test = (sub_Decides)
+
+pub erased_structs : (a b : Fields) → Decides (fields_equal_under Ignored a b) (erase (struct a NonNullable) ≡ erase (struct b NonNullable))
+erased_structs a b = equal_erased-Decides (struct a NonNullable) (struct b NonNullable)
+
+pub erased_unions : (a b : Variants) → Decides (variants_equal_under Ignored a b) (erase (union a NonNullable) ≡ erase (union b NonNullable))
+erased_unions a b = equal_erased-Decides (union a NonNullable) (union b NonNullable)
+
+pub erased_extensions : (i j a b : List ℕ) (t u : Tree) → Decides (bytes_eq i j && bytes_eq a b && equal_under Ignored t u) (erase (extension i a t) ≡ erase (extension j b u))
+erased_extensions i j a b t u = equal_erased-Decides (extension i a t) (extension j b u)
+
+pub ruleset erased_tests = (erased_structs, erased_unions, erased_extensions)

@@ -209,6 +209,7 @@ impl ExtDTypeRef {
     }
 
     /// Returns whether the extensions are equal when every nullability in their storages is ignored.
+    #[tactic(auto, using(crate::proofs::SubTest::erased_tests))]
     pub fn eq_ignore_nullability(&self, other: &Self) -> bool
         ensures { IsTrue result
             ↔ (erase (extension_tree self.now) ≡ erase (extension_tree other.now)) }

@@ -139,7 +139,7 @@ impl StructFields {
     }
 
     /// Returns an iterator over the fields in order: references to the name and the type of each.
-    #[tactic(auto, using(crate::proofs::Sides::pairs, crate::proofs::Parts::fields))]
+    #[tactic(auto, using(crate::proofs::Sides::zip_sides, crate::proofs::Sides::pairs, crate::proofs::Parts::fields))]
     pub fn pairs(&self) -> FieldIter<'_>
         ensures lent { result ≡ struct_pairs self.now }
         ensures fits { length result < 2 ^ 64 }
@@ -190,6 +190,7 @@ impl StructFields {
     }
 
     /// Returns the type of the field at this position, or `None` at or past the end.
+    #[tactic(auto, using(crate::proofs::FieldLookups::get_tree, crate::proofs::Parts::types_shown))]
     pub fn field_by_index(&self, index: usize) -> Option<&DType>
         ensures { shown tree result ≡ slice_get (field_types (children self.now)) index }
     {
@@ -214,6 +215,7 @@ impl StructFields {
     }
 
     /// Returns whether the fields are equal when every nullability in them is ignored.
+    #[tactic(auto, using(crate::proofs::SubTest::erased_tests))]
     pub fn eq_ignore_nullability(&self, other: &Self) -> bool
         ensures { IsTrue result
             ↔ (erase (struct_tree self.now) ≡ erase (struct_tree other.now)) }

@@ -163,7 +163,7 @@ impl UnionVariants {
     }
 
     /// Returns an iterator over the variants in order: the name, the tag and the type of each.
-    #[tactic(auto, using(crate::proofs::Sides::triples, crate::proofs::Parts::variants))]
+    #[tactic(auto, using(crate::proofs::Sides::three_sides, crate::proofs::Sides::triples, crate::proofs::Parts::variants))]
     pub fn triples(&self) -> VariantIter<'_>
         ensures lent { result ≡ union_triples self.now }
         ensures fits { length result < 2 ^ 64 }
@@ -213,6 +213,7 @@ impl UnionVariants {
     }
 
     /// Returns the type of the variant at this position, or `None` at or past the end.
+    #[tactic(auto, using(crate::proofs::FieldLookups::get_tree, crate::proofs::Parts::variant_types_shown))]
     pub fn variant_by_index(&self, index: usize) -> Option<&DType>
         ensures { shown tree result ≡ slice_get (variant_types (variant_list self.now)) index }
     {
@@ -272,6 +273,7 @@ impl UnionVariants {
     }
 
     /// Returns whether the variants are equal when every nullability in them is ignored. Names and tags count.
+    #[tactic(auto, using(crate::proofs::SubTest::erased_tests))]
     pub fn eq_ignore_nullability(&self, other: &UnionVariants) -> bool
         ensures { IsTrue result
             ↔ (erase (union_tree self.now) ≡ erase (union_tree other.now)) }

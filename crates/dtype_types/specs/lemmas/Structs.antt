@@ -3,7 +3,7 @@
 
 -- What a type with these fields is, and what a struct of these fields has. `structs` names it in one line,
 --     #![tactic(auto, using(dtype_types::specs::lemmas::Structs::structs))]
-use Rattle.std.proofs.Common.{◌≡◌, ◌∙◌, ℕ, List, Some, ap, refl, sym}
+use Rattle.std.proofs.Common.{◌≡◌, ◌∙◌, ℕ, List, Some, ap, sym}
 use Rattle.std.proofs.lemmas.Option.{same_Some}
 use Rattle.dtype_base.specs.declared.nullability.Nullability.{Nullability}
 use Rattle.dtype_types.specs.tree.Kinds.{struct_fields}

@@ -13,7 +13,6 @@ use Rattle.dtype_base.specs.declared.nullability.Nullability.TheVariants.{NonNul
 use Rattle.dtype_types.specs.parts.FieldTypes.{given_fields, field_tree}
 use Rattle.dtype_types.specs.tree.Valid.{Valid, ValidFields, ValidVariants}
 use Rattle.dtype_types.specs.tree.TreeOf.{tree, extension_tree, map_tree, union_tree, struct_tree, map_shown, struct_pairs, union_triples, children, variant_list, with_trees, with_tagged_trees, shown}
-use Rattle.std.specs.Map.{values_of}
 use Rattle.dtype_types.specs.parts.Lookups.{first_named, variant_named, field_types, variant_types}
 use Rattle.dtype_types.specs.parts.Maps.{entries_of}
 use Rattle.dtype_types.specs.nullability.Nullable.{nullability, set_null}

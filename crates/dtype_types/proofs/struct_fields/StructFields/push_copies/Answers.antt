@@ -1,7 +1,7 @@
 -- SPDX-License-Identifier: Apache-2.0
 -- SPDX-FileCopyrightText: Copyright the Vortex contributors
 
-use Rattle.std.proofs.Common.{◌++◌, ◌∷◌, [], ap, map, sym, ◌∙◌}
+use Rattle.std.proofs.Common.{◌++◌, ◌∷◌, [], ap, map, ◌∙◌}
 use Rattle.std.proofs.lemmas.List.{map_push}
 use Rattle.dtype_types.proofs.Walks.{next_of, none_of, moves_over, all_moved}
 use Rattle.dtype_types.specs.parts.Lists.{borrowed_pair}

@@ -1,7 +1,7 @@
 -- SPDX-License-Identifier: Apache-2.0
 -- SPDX-FileCopyrightText: Copyright the Vortex contributors
 
-use Rattle.std.proofs.Common.{rules, arith, ◌≡◌, ◌++◌, List, ℕ, ap, map, ◌∙◌}
+use Rattle.std.proofs.Common.{rules, arith, ◌≡◌, ◌++◌, ap, map, ◌∙◌}
 use Rattle.std.specs.Prelude.{length, nat_lt, IfErr, MatchBool}
 use Rattle.std.specs.List.{remove, zip}
 use Rattle.std.proofs.lemmas.List.{length-map}

@@ -353,6 +353,7 @@ impl DType {
     }
 
     /// Consumes the type and returns the fields of a `Struct`, else `None`.
+    #[tactic(auto, using(crate::proofs::KindLaws::struct_fields_some))]
     pub fn into_struct_fields_opt(self) -> Option<StructFields>
         ensures { option_map children result ≡ struct_fields (tree self) }
     {
@@ -363,6 +364,7 @@ impl DType {
     }
 
     /// Consumes the type and returns the variants of a `Union`, else `None`.
+    #[tactic(auto, using(crate::proofs::KindLaws::union_variants_some))]
     pub fn into_union_variants_opt(self) -> Option<UnionVariants>
         ensures { option_map variant_list result ≡ union_variants (tree self) }
     {
@@ -385,7 +387,7 @@ impl DType {
     }
 
     /// Consumes this struct type and returns its fields. The condition is that it is a `Struct`.
-    #[tactic(auto, using(crate::proofs::KindLaws::kind_laws))]
+    #[tactic(auto, using(crate::proofs::KindLaws::struct_fields_some))]
     pub fn into_struct_fields(self) -> StructFields
         requires { kind (tree self) ≡ Kind.Struct }
         ensures { struct_fields (tree self) ≡ Some (children result) }

@@ -38,8 +38,7 @@ whole k n = low_first 0 k n ∙ ap (λ (m : ℕ). little_endian k (pos m)) (div-
 
 one_byte : (n : ℕ) → n < 256 → n ∷ [] ≡ little_endian 1 (pos n)
 one_byte n f =
-    let same : n ≡ n % 256 = omega arith in
-    ap (λ (m : ℕ). m ∷ []) same ∙ whole 1 n
+    ap (λ (m : ℕ). m ∷ []) (omega arith) ∙ whole 1 n
 
 pub written_u8 : (bs : List ℕ) (n : ℕ) → bs ≡ n ∷ [] → n < 2 ^ 8 → bs ≡ little_endian 1 (pos n)
 written_u8 bs n e f = e ∙ one_byte n f
@@ -85,8 +84,7 @@ one_item _ l = absurd (omega arith)
 
 pub read_u8 : (bs : List ℕ) (n : ℕ) → n ≡ get_or bs 0 0 → length bs ≡ 1 → AreBytes bs → bs ≡ little_endian 1 (pos n)
 read_u8 bs n e l f =
-    let small : n < 256 = omega (arith, f 0) in
-    one_item bs l ∙ ap (λ (m : ℕ). m ∷ []) (sym e) ∙ one_byte n small
+    one_item bs l ∙ ap (λ (m : ℕ). m ∷ []) (sym e) ∙ one_byte n (omega (arith, f 0))
 
 pub read_u16 : (bs : List ℕ) (n : ℕ) → n ≡ from_le_bytes w16 bs → length bs ≡ 2 → AreBytes bs → bs ≡ little_endian 2 (pos n)
 read_u16 bs n e l f = sym (le_bytes_2 bs n l f e) ∙ whole 2 n
@@ -102,17 +100,14 @@ read_i8 bs z e g l f = signed w8 z bs (get_or bs 0 0) e g (f 0) (read_u8 bs (get
 
 pub read_i16 : (bs : List ℕ) (z : ℤ) → z ≡ cast_signed w16 (from_le_bytes w16 bs) → FitsSigned w16 z → length bs ≡ 2 → AreBytes bs → bs ≡ little_endian 2 z
 read_i16 bs z e g l f =
-    let small : from_le_bytes w16 bs < 2 ^ 16 = omega (arith, f 0, f 1) in
-    signed w16 z bs (from_le_bytes w16 bs) e g small (read_u16 bs (from_le_bytes w16 bs) refl l f)
+    signed w16 z bs (from_le_bytes w16 bs) e g (omega (arith, f 0, f 1)) (read_u16 bs (from_le_bytes w16 bs) refl l f)
 
 pub read_i32 : (bs : List ℕ) (z : ℤ) → z ≡ cast_signed w32 (from_le_bytes w32 bs) → FitsSigned w32 z → length bs ≡ 4 → AreBytes bs → bs ≡ little_endian 4 z
 read_i32 bs z e g l f =
-    let small : from_le_bytes w32 bs < 2 ^ 32 = omega (arith, f 0, f 1, f 2, f 3) in
-    signed w32 z bs (from_le_bytes w32 bs) e g small (read_u32 bs (from_le_bytes w32 bs) refl l f)
+    signed w32 z bs (from_le_bytes w32 bs) e g (omega (arith, f 0, f 1, f 2, f 3)) (read_u32 bs (from_le_bytes w32 bs) refl l f)
 
 pub read_i64 : (bs : List ℕ) (z : ℤ) → z ≡ cast_signed w64 (from_le_bytes w64 bs) → FitsSigned w64 z → length bs ≡ 8 → AreBytes bs → bs ≡ little_endian 8 z
 read_i64 bs z e g l f =
-    let small : from_le_bytes w64 bs < 2 ^ 64 = omega (arith, f 0, f 1, f 2, f 3, f 4, f 5, f 6, f 7) in
-    signed w64 z bs (from_le_bytes w64 bs) e g small (read_u64 bs (from_le_bytes w64 bs) refl l f)
+    signed w64 z bs (from_le_bytes w64 bs) e g (omega (arith, f 0, f 1, f 2, f 3, f 4, f 5, f 6, f 7)) (read_u64 bs (from_le_bytes w64 bs) refl l f)
 
 pub ruleset read = (read_u8, read_u16, read_u32, read_u64, read_i8, read_i16, read_i32, read_i64)

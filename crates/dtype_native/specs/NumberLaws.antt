@@ -7,6 +7,7 @@ use Rattle.std.specs.Prelude.{◌≡◌, ◌↔◌, ℕ, ℤ, zero, suc, pos, ne
 use Rattle.std.specs.Int.{Width, w8, w16, w32, w64, w128, byte_len, FitsUnsignedBits, cast_signed, cast_unsigned}
 use Rattle.std.proofs.Common.{refl, ap, sym, ◌∙◌, arith, lt_of_le_of_lt}
 use Rattle.std.proofs.Math.Nat.{pow-suc}
+use Rattle.std.proofs.Math.Facts.{Fits-of_z}
 use Rattle.std.proofs.lemmas.Int.{ints, fits_signed_from_abs, to_z-of_z}
 use mir.Val.{hbits}
 use Rattle.dtype_native.specs.LittleEndian.{little_endian}
@@ -45,16 +46,11 @@ of_bits w64 (negsuc n) f = let s = f.sfits in complement 8 n (omega arith)
 of_bits w128 (negsuc n) f = let s = f.sfits in complement 16 n (omega arith)
 
 pub bits_below : (w : Width) (z : ℤ) → FitsSigned w z → cast_unsigned w z < 256 ^ byte_len w
-bits_below w8 (pos n) f = let s = f.sfits in omega arith
-bits_below w16 (pos n) f = let s = f.sfits in omega arith
-bits_below w32 (pos n) f = let s = f.sfits in omega arith
-bits_below w64 (pos n) f = let s = f.sfits in omega arith
-bits_below w128 (pos n) f = let s = f.sfits in omega arith
-bits_below w8 (negsuc n) f = omega arith
-bits_below w16 (negsuc n) f = omega arith
-bits_below w32 (negsuc n) f = omega arith
-bits_below w64 (negsuc n) f = omega arith
-bits_below w128 (negsuc n) f = omega arith
+bits_below w8 z f = (Fits-of_z f).fits
+bits_below w16 z f = (Fits-of_z f).fits
+bits_below w32 z f = (Fits-of_z f).fits
+bits_below w64 z f = (Fits-of_z f).fits
+bits_below w128 z f = (Fits-of_z f).fits
 
 pub signed_injective : (w : Width) (x y : ℤ) → FitsSigned w x → FitsSigned w y → little_endian (byte_len w) x ≡ little_endian (byte_len w) y → x ≡ y
 signed_injective w x y f g e =

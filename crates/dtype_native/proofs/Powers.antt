@@ -2,7 +2,7 @@
 -- SPDX-FileCopyrightText: Copyright the Vortex contributors
 
 -- Powers of ten in a type that holds every number up to one of them.
-use Rattle.std.proofs.Common.{◌≡◌, ℕ, ℤ, zero, suc, pos, neg_ℤ, unsigned_abs, ◌-◌, ◌^◌, ◌≤◌, ◌-ℤ◌, refl, subst, sym, arith, lit<, le_trans}
+use Rattle.std.proofs.Common.{◌≡◌, ℕ, ℤ, pos, unsigned_abs, ◌-◌, ◌^◌, ◌≤◌, ◌-ℤ◌, subst, sym, arith, lit<, le_trans}
 use Rattle.std.proofs.Math.Nat.{one-le-pow, pow-le-pow_right}
 use Rattle.std.proofs.lemmas.Int.{ints}
 
@@ -10,10 +10,6 @@ pub less_one : (i : ℕ) (a b : ℤ) → a ≡ pos (10 ^ i) → b ≡ pos 1 → 
 less_one i a b p q =
     let positive : 1 ≤ 10 ^ i = one-le-pow i 10 (lit< tt) in
     omega (arith, ints)
-
-pub abs_negated : (n : ℕ) → unsigned_abs (neg_ℤ (pos n)) ≡ n
-abs_negated zero = refl
-abs_negated (suc n) = refl
 
 -- a type that holds every number up to 10 ^ max holds those up to a lower power
 pub few_fit : (fits : ℤ → Type 0) (max : ℕ) → ((z : ℤ) → unsigned_abs z ≤ 10 ^ max → fits z) → (i : ℕ) → i ≤ max → (x y : ℤ) → x ≡ y → unsigned_abs y ≤ 10 ^ i → fits x

@@ -11,6 +11,7 @@ pub mod Lookups
 pub mod Presence
 pub mod Equality
 pub mod JoinedFields
+pub mod DistinctFields
 pub mod Tags
 pub mod NullValues
 pub mod SubLaws

@@ -172,7 +172,7 @@ pub fn copies_of_valid_types_are_valid()
 {}
 
 /// What a valid type holds is valid: an element, a map, a struct, a union, an extension.
-#[tactic(auto, using(crate::specs::lemmas::ValidParts::list_element_valid, crate::specs::lemmas::ValidParts::fixed_size_element_valid, crate::specs::lemmas::ValidParts::any_size_element_valid, crate::specs::lemmas::ValidParts::map_parts_valid, crate::specs::lemmas::ValidParts::struct_fields_valid, crate::specs::lemmas::ValidParts::union_variants_valid, crate::specs::lemmas::ValidParts::extension_parts_valid))]
+#[tactic(auto, using(crate::specs::lemmas::ValidParts::valid_parts))]
 pub fn parts_of_a_valid_type_are_valid()
     ensures list_element { (t u : Tree) → list_element t ≡ Some u → Valid t → Valid u }
     ensures fixed_size_list_element { (t u : Tree) → fixed_size_list_element t ≡ Some u → Valid t → Valid u }
@@ -189,7 +189,7 @@ pub fn parts_of_a_valid_type_are_valid()
 
 /// The types in a valid struct, union, map or extension are valid: of a field or a variant at a position
 /// or by its name, of all of them, of a key and a value, and a storage.
-#[tactic(auto, using(crate::specs::lemmas::Validity::type_at_valid, crate::specs::lemmas::Validity::type_named_valid, crate::specs::lemmas::Validity::field_types_valid, crate::specs::lemmas::Validity::pairs_valid, crate::specs::lemmas::Validity::variant_at_valid, crate::specs::lemmas::Validity::variant_named_valid, crate::specs::lemmas::Validity::variant_types_valid, crate::specs::lemmas::Validity::triples_valid))]
+#[tactic(auto, using(crate::specs::lemmas::Validity::types_in_valid_parts))]
 pub fn types_in_valid_parts_are_valid()
     ensures field_at { (s : StructFields) (i : ℕ) (t : Tree) → slice_get (field_types (children s)) i ≡ Some t
         → Valid (struct_tree s) → Valid t }

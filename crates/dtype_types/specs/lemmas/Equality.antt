@@ -2,10 +2,13 @@
 -- SPDX-FileCopyrightText: Copyright the Vortex contributors
 
 -- `==` of a struct's fields, a union's variants, a map, an extension and a field's type holds exactly where the two are
--- equal. The clause of each says so. Where a type that holds one of these derives `==`, a caller has it by
+-- equal, and so does that of two lists of names. The clause of each says so. Where a type that holds one of these derives
+-- `==`, and of a struct's or a union's names, a caller has it by
 --     #![tactic(auto, using(dtype_types::specs::lemmas::Equality::equality))]
-use Rattle.std.specs.Prelude.{◌≡◌}
+use Rattle.std.specs.Prelude.{◌≡◌, ℕ, Bool, List, nat_eq}
 use Rattle.std.specs.Bool.{Decides}
+use Rattle.std.specs.Cmp.Lexicographic.{pointwise}
+use Rattle.std.proofs.lemmas.Slice.Eq.{bytes_eq-Decides, slice_eq-Decides}
 use Rattle.std.proofs.Common.{sym, ap, ◌∙◌}
 use Rattle.dtype_types.specs.lemmas.EqualityLaws.{equal_under-Decides, variants_equal_under-Decides}
 use Rattle.dtype_types.specs.parts.FieldTypes.{field_tree}
@@ -38,4 +41,7 @@ extensions_Decides a b = equal_under-Decides (extension_tree a) (extension_tree 
 pub field_types_Decides : (a b : FieldDType) → Decides (same_field_dtype a b) (field_tree a ≡ field_tree b)
 field_types_Decides a b = equal_under-Decides (field_tree a) (field_tree b)
 
-pub ruleset equality = (structs_Decides, unions_Decides, maps_Decides, extensions_Decides, field_types_Decides)
+pub names_Decide : (a b : List (List ℕ)) (r : Bool) → r ≡ pointwise (pointwise nat_eq) a b → Decides r (a ≡ b)
+names_Decide = slice_eq-Decides bytes_eq-Decides
+
+pub ruleset equality = (names_Decide, structs_Decides, unions_Decides, maps_Decides, extensions_Decides, field_types_Decides)

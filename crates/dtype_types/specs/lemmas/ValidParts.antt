@@ -122,3 +122,6 @@ extension_parts_valid _ e is h = cc
 pub lent_extension : (t : Tree) (r : Option (Bor ExtDTypeRef)) → shown (λ e. (extension_id e, extension_metadata e, storage_tree e)) r ≡ extension_parts t → Valid t → IfSome r (λ e. Valid (extension_tree e.now))
 lent_extension t None is h = tt
 lent_extension t (Some e) is h = extension_parts_valid t e.now (sym is) h
+
+-- what a valid type holds is valid
+pub ruleset valid_parts = (list_element_valid, fixed_size_element_valid, any_size_element_valid, map_parts_valid, struct_fields_valid, union_variants_valid, extension_parts_valid)

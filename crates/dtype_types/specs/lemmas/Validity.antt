@@ -18,7 +18,7 @@ use Rattle.dtype_types.specs.parts.Maps.{entries_of}
 use Rattle.dtype_types.specs.nullability.Nullable.{nullability, set_null}
 use Rattle.dtype_types.specs.lemmas.Nullabilities.{in_storage}
 use Rattle.dtype_types.specs.tree.Tree.{Tree, fields, variants, null, list, fixed_size_list, map_of, extension}
-use Rattle.dtype_types.specs.lemmas.ValidParts.{list_element_valid, fixed_size_element_valid, any_size_element_valid, lent_list_element, lent_fixed_size_element, lent_any_size_element, given_list_element, given_fixed_size_element, given_any_size_element, map_parts_valid, lent_map, given_map, struct_fields_valid, lent_struct, given_struct, union_variants_valid, lent_union, given_union, extension_is_valid, extension_parts_valid, lent_extension}
+use Rattle.dtype_types.specs.lemmas.ValidParts.{valid_parts, lent_list_element, lent_fixed_size_element, lent_any_size_element, given_list_element, given_fixed_size_element, given_any_size_element, lent_map, given_map, lent_struct, given_struct, lent_union, given_union, extension_is_valid, lent_extension}
 use Rattle.dtype_types.specs.lemmas.TreeLaws.{tree_struct, tree_union, tree_map, tree_extension}
 use Rattle.dtype_types.specs.declared.dtype.DType.{DType, Map, Struct, Union, Extension}
 use Rattle.dtype_types.specs.declared.field_dtype.FieldDType.{FieldDType}
@@ -207,4 +207,6 @@ map_of_valid u k v b n e sure h g = subst Valid (sym e) (sure, h, g)
 pub entries_valid : (k v : Tree) → Valid k → Valid v → Valid (entries_of k v)
 entries_valid k v h g = (h, (g, tt))
 
-pub ruleset validity = (list_of_valid, fixed_size_list_of_valid, map_of_valid, struct_valid, union_valid, map_valid, extension_valid, valid_struct, valid_union, valid_map, valid_extension, field_valid, named_field_valid, variant_valid, named_variant_valid, type_at_valid, type_named_valid, variant_at_valid, variant_named_valid, field_types_valid, variant_types_valid, pairs_valid, triples_valid, struct_of_valid, removal_valid, set_valid, made_map_valid, list_element_valid, fixed_size_element_valid, any_size_element_valid, lent_list_element, lent_fixed_size_element, lent_any_size_element, given_list_element, given_fixed_size_element, given_any_size_element, map_parts_valid, lent_map, given_map, struct_fields_valid, lent_struct, given_struct, union_variants_valid, lent_union, given_union, extension_is_valid, extension_parts_valid, lent_extension)
+pub ruleset types_in_valid_parts = (type_at_valid, type_named_valid, variant_at_valid, variant_named_valid, field_types_valid, variant_types_valid, pairs_valid, triples_valid)
+
+pub ruleset validity = (valid_parts, list_of_valid, fixed_size_list_of_valid, map_of_valid, struct_valid, union_valid, map_valid, extension_valid, valid_struct, valid_union, valid_map, valid_extension, field_valid, named_field_valid, variant_valid, named_variant_valid, types_in_valid_parts, struct_of_valid, removal_valid, set_valid, made_map_valid, lent_list_element, lent_fixed_size_element, lent_any_size_element, given_list_element, given_fixed_size_element, given_any_size_element, lent_map, given_map, lent_struct, given_struct, lent_union, given_union, extension_is_valid, lent_extension)

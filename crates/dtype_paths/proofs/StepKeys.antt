@@ -2,7 +2,7 @@
 -- SPDX-FileCopyrightText: Copyright the Vortex contributors
 
 -- Steps with different keys are different, and short names with equal keys are equal.
-use Rattle.std.proofs.Common.{◌≡◌, ◌≢◌, ◌≤◌, ◌<◌, ◌+◌, ◌-◌, ◌*◌, ℕ, zero, suc, true, false, List, [], ◌∷◌, length, length-drop, get_or, drop, take, min, refl, sym, ap, arith}
+use Rattle.std.proofs.Common.{◌≡◌, ◌≢◌, ◌≤◌, ◌<◌, ◌+◌, ◌-◌, ◌*◌, ℕ, zero, suc, false, List, [], ◌∷◌, length, length-drop, get_or, drop, take, min, refl, sym, ap, arith}
 use Rattle.std.proofs.lemmas.List.{get_or-drop, take_all}
 use Rattle.std.proofs.lemmas.List.Elements.{All-tail}
 use Rattle.dtype_base.specs.Bytes.{Bytes}
@@ -61,7 +61,8 @@ same_bytes k j (b ∷ m) (c ∷ n) long hm hn e =
 
 -- ---- keys
 
-told : (f g : Field) → HasBytes f → HasBytes g → IsExactKey f → step_key f ≡ step_key g → f ≡ g
+-- a step with an exact key is equal to each step of that key
+pub told : (f g : Field) → HasBytes f → HasBytes g → IsExactKey f → step_key f ≡ step_key g → f ≡ g
 unfolding step_key name_step_key HasBytes IsExactKey
 told (Name m) (Name n) hm hn s e =
     let last_m = with_bytes 0 (drop (length m - 7) m) in let last_n = with_bytes 0 (drop (length n - 7) n) in
@@ -75,11 +76,6 @@ told (Name m) (Name n) hm hn s e =
 told (Name m) ElementType hm hg s e = let sum : with_bytes 0 (drop (length m - 7) m) * 256 + min (length m) 8 ≡ 9 = e in absurd (omega (arith, sum))
 told ElementType (Name n) hf hn s e = let sum : 9 ≡ with_bytes 0 (drop (length n - 7) n) * 256 + min (length n) 8 = e in absurd (omega (arith, sum))
 told ElementType ElementType hf hg s e = refl
-
--- a step with an exact key is equal to each step of that key
-pub same_told : (f g : Field) → HasBytes f → HasBytes g → IsExactKey f → step_key g ≡ step_key f → same_field f g ≡ true
-same_told f g hf hg s e =
-    (same_field-Decides f g).1 (told f g hf hg s (sym e))
 
 -- steps of different keys differ
 pub keys_differ : (f g : Field) → step_key g ≢ step_key f → same_field f g ≡ false

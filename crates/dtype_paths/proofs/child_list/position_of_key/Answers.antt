@@ -1,27 +1,24 @@
 -- SPDX-License-Identifier: Apache-2.0
 -- SPDX-FileCopyrightText: Copyright the Vortex contributors
 
-use Rattle.std.proofs.Common.{◌≡◌, ◌+◌, ◌∷◌, ◌++◌, [], inr, length, refl, arith, subst, take}
-use Rattle.std.proofs.lemmas.List.{length-take-le, take_all}
-use Rattle.dtype_paths.specs.private.ChildLists.{IsPositionOf}
-use Rattle.dtype_paths.proofs.KeyPositions.{position-here, position-more}
-use Rattle.dtype_paths.proofs.NodeGrowth.{take-step}
+use Rattle.std.proofs.Common.{◌≡◌, ◌≢◌, None, Some, length, refl, arith, subst}
+use Rattle.std.specs.List.{slice_get, All}
+use Rattle.std.proofs.lemmas.List.{take_all}
+use Rattle.std.proofs.lemmas.List.Elements.{All-more}
+use Rattle.std.proofs.lemmas.Option.{slice_get_read}
 use Rattle.dtype_paths.proofs.child_list.position_of_key.Goals as goal
 use Rattle.dtype_paths.proofs.child_list.position_of_key.Goals.{then-child-key, else-child-key}
 
-pub loop-i-init : goal.loop-i-init
-loop-i-init c = inr (refl, λ i h. (let e = h.there in cc))
-
 pub loop-i-preserved : goal.loop-i-preserved
 loop-i-preserved c =
-    let cs = c.args.children.now in let i = c.loop-i.i in let x = c.index-children-i.result in
-    let step : take (i + 1) cs ≡ take i cs ++ x ∷ [] = take-step cs i x c.loop-i-test.true c.index-children-i.is in
+    let cs = c.args.children.now in let x = c.index-children-i.result in let so_far = c.loop-i.invariant in
+    let there : slice_get cs c.loop-i.i ≡ Some x = slice_get_read cs (length cs) c.loop-i.i x refl c.loop-i-test.true c.index-children-i.is in
     elim c.if-child-key.branch [
-      | then-child-key w ↦ rw (w.position-is, step) (position-here (take i cs) x (length cs) c.args.key i (omega (arith, length-take-le i cs c.loop-i.auto.i-end)) w.if-child-key.true)
-      | else-child-key w ↦ rw (w.position-is, step) (position-more (take i cs) x (length cs) c.args.key c.loop-i.position c.loop-i.invariant w.if-child-key.false)
+      | then-child-key w ↦ rw (w.position-is, there) (record { found = w.if-child-key.true; none = λ e. cc })
+      | else-child-key w ↦ rw w.position-is (record { found = so_far.found; none = λ e. All-more (λ d. d.key ≢ c.args.key) cs c.loop-i.i x c.loop-i-test.true (so_far.none e) (rw (← c.index-children-i.is) w.if-child-key.false) })
     ]
 
-pub returns : goal.returns
-returns c =
+pub returns-clause-none : goal.returns-clause-none
+returns-clause-none c =
     let cs = c.args.children.now in
-    subst (λ ds. IsPositionOf ds (length cs) c.args.key c.loop-i.position) (take_all c.loop-i.i cs (omega arith)) c.loop-i.invariant
+    subst (λ ds. slice_get cs c.loop-i.position ≡ None → All (λ d. d.key ≢ c.args.key) ds) (take_all c.loop-i.i cs (omega arith)) c.loop-i.invariant.none

@@ -3,371 +3,310 @@
 
 -- How the nodes of a list are visited.
 use Rattle.std.proofs.Common.{ℕ, ◌-◌, min, ◌+◌, ◌<◌, ◌≤◌, ◌≢◌, length, map, ◌≡◌, ◌↔◌, ◌⊎◌, List, [], ◌∷◌, ◌++◌, Some, None, inl, inr, refl, sym, ap, subst, ◌∙◌, arith, ⊎_elim, append_assoc, append-nil}
-use Rattle.std.specs.List.{Contains, IsDistinct}
+use Rattle.std.specs.List.{slice_get, Contains, IsDistinct}
 use Rattle.std.specs.Map.{keys_of, lookup, values_of}
 use Rattle.std.specs.Option.{unwrap_or}
-use Rattle.std.proofs.lemmas.List.Elements.{Contains-append_left, Contains-append_right, Contains-append_cases, Contains-push, Contains-push_cases}
-use Rattle.std.proofs.lemmas.List.{length-map}
+use Rattle.std.proofs.lemmas.List.Elements.{Contains-append_left, Contains-append_right, Contains-push, Contains-push_cases}
+use Rattle.std.proofs.lemmas.List.{append_cancel_left, length-map, map-append}
+use Rattle.std.proofs.lemmas.Map.Made.{AllPairs-from_IsDistinct}
+use Rattle.std.proofs.lemmas.Map.Views.{lookup-from_Contains, Contains-from_lookup}
 use Rattle.std.proofs.lemmas.Option.{same_Some, option_and_then_some}
-use Rattle.dtype_paths.specs.lemmas.Beginnings.{beginning_refl, beginning_trans, beginning_both}
+use Rattle.dtype_paths.specs.lemmas.Beginnings.{beginning_refl, beginning_trans, beginning_both, either_begins}
 use Rattle.dtype_paths.specs.lemmas.PathLists.{covers_member, least_covers}
 use Rattle.dtype_paths.specs.Beginning.{Beginning}
 use Rattle.dtype_base.specs.Distinct.{Distinct}
 use Rattle.dtype_paths.specs.Covering.{IsCountOf}
 use Rattle.dtype_paths.specs.private.PathLists.{Least, Begun}
 use Rattle.dtype_paths.specs.Equality.{same_field}
-use Rattle.dtype_paths.specs.EqualityLaws.{same_field-Decides}
+use Rattle.dtype_paths.specs.EqualityLaws.{same_field-Decides, same_field_equiv}
 use Rattle.dtype_paths.specs.declared.field.Field.{Field}
 use Rattle.dtype_paths.specs.declared.node.Node.{Node}
 use Rattle.dtype_paths.specs.private.Trie.{child_at, terminal_at, terminals, walk, IsTrie}
-use Rattle.dtype_paths.proofs.DistinctLists.{distinct-values, value-key, key-value, distinct-nil, distinct-cons, distinct-append, distinct-pop, distinct-below, distinct-map}
-use Rattle.dtype_paths.proofs.ListMembers.{contains-map, contains-cons, contains-head, contains-tail, contains-nil}
+use Rattle.dtype_paths.proofs.DistinctLists.{IsDistinct-nil, distinct-nil, distinct-cons, distinct-head, distinct-append, distinct-insert, distinct-right, distinct-below, distinct-map, inserted_cases}
+use Rattle.dtype_paths.proofs.ListMembers.{contains-map, contains-mapped, contains-cons, contains-head, contains-tail, contains-nil}
 use Rattle.dtype_paths.proofs.NodeIndices.{terminal-of, of-terminal}
-use Rattle.dtype_paths.proofs.TrieGrowth.{walk-append, walk-snoc}
+use Rattle.dtype_paths.proofs.TrieGrowth.{walk-append, walk-front, walk-snoc}
 
--- two beginnings of one path
-compare : (s l q rest u : List Field) (f : Field) → q ≡ (s ++ f ∷ []) ++ rest → q ≡ l ++ u → Beginning (s ++ f ∷ []) l ⊎ Beginning l s
-compare s [] q rest u f a b = inr (s, refl)
-compare [] (y ∷ l) q rest u f a b = let e : f ∷ rest ≡ y ∷ (l ++ u) = sym a ∙ b in let is : f ≡ y = cc in inl (l, ap (λ g. g ∷ l) (sym is))
-compare (x ∷ s) (y ∷ l) q rest u f a b =
-    let e : x ∷ ((s ++ f ∷ []) ++ rest) ≡ y ∷ (l ++ u) = sym a ∙ b in
-    let is : x ≡ y = cc in let later : (s ++ f ∷ []) ++ rest ≡ l ++ u = cc in
-    ⊎_elim
-    (λ h. inl (h.0, λ i. sym is i ∷ h.1 i))
-    (λ h. inr (h.0, λ i. is i ∷ h.1 i))
-    (compare s l ((s ++ f ∷ []) ++ rest) rest u f refl later)
+-- ---- paths with a last step
+
+begins_nil : (p : List Field) → Beginning p [] → p ≡ []
+begins_nil p b = beginning_both p [] b (p, refl)
+
+begins_snoc : (l s : List Field) (f : Field) → Beginning l (s ++ f ∷ []) → (l ≡ s ++ f ∷ []) ⊎ Beginning l s
+begins_snoc [] s f b = inr (s, refl)
+begins_snoc (y ∷ l) [] f b =
+    let e : f ∷ [] ≡ y ∷ (l ++ b.0) = b.1 in
+    let is : y ≡ f = cc in let none = begins_nil l (b.0, cc) in inl (λ i. is i ∷ none i)
+begins_snoc (y ∷ l) (z ∷ s) f b =
+    let e : z ∷ (s ++ f ∷ []) ≡ y ∷ (l ++ b.0) = b.1 in
+    let is : y ≡ z = cc in
+    ⊎_elim (λ h. inl (λ i. is i ∷ h i)) (λ h. inr (h.0, λ i. sym is i ∷ h.1 i)) (begins_snoc l s f (b.0, cc))
 
 no_snoc : (s : List Field) (f : Field) → s ++ f ∷ [] ≡ [] → ⊥
 no_snoc [] f e = cc
 no_snoc (y ∷ s) f e = cc
 
-begins_nil : (p : List Field) → Beginning p [] → p ≡ []
-begins_nil p b = beginning_both p [] b (p, refl)
+snoc_same : (t s : List Field) (f g : Field) → t ++ f ∷ [] ≡ s ++ g ∷ [] → t ≡ s
+snoc_same [] [] f g e = refl
+snoc_same [] (y ∷ s) f g e = let z : [] ≡ s ++ g ∷ [] = cc in absurd (no_snoc s g (sym z))
+snoc_same (x ∷ t) [] f g e = let z : t ++ f ∷ [] ≡ [] = cc in absurd (no_snoc t f z)
+snoc_same (x ∷ t) (y ∷ s) f g e = let a : x ≡ y = cc in let b : t ++ f ∷ [] ≡ s ++ g ∷ [] = cc in let r = snoc_same t s f g b in λ i. a i ∷ r i
 
-module _ (nodes : List Node) (trie : IsTrie nodes) (s : List Field) (x : ℕ) (at : walk (child_at nodes) 0 s ≡ Some x) (begun : Begun (terminals nodes) s) where
-  -- a path that ends in the node
-  terminals-here : Contains (terminals nodes) s → terminal_at nodes x ≡ Some s
-  terminals-here c =
-      let w = terminal-of nodes s c in
-      let e : Some x ≡ Some w.0 = sym at ∙ trie.own w.0 s w.1 in
-      ap (terminal_at nodes) (same_Some x w.0 e) ∙ w.1
+-- ---- which nodes are visited
 
-  least-not_begun : terminal_at nodes x ≡ None → (l : List Field) → Least (terminals nodes) l → Beginning l s → ⊥
-  least-not_begun none l least b =
-      let same : l ≡ s = ⊎_elim
-      (λ (e : s ≡ []). let b' : Beginning l [] = subst (Beginning l) e b in begins_nil l b' ∙ sym e)
-      (λ (h : (p : List Field) × Least (terminals nodes) p × Beginning s p).
-      let is = h.1.first l least.member (beginning_trans l s h.0 b h.2) in
-      beginning_both l s b (subst (Beginning s) (sym is) h.2))
-      begun in
-      let e = terminals-here (subst (Contains (terminals nodes)) same least.member) in
-      let z : None ≡ Some s = sym none ∙ e in cc
+-- s leads to a node, and no path of the trie begins it but s itself
+pub record IsVisited (nodes : List Node) (s : List Field) : Type 0 where
+  pub node : ℕ
+  pub at : walk (child_at nodes) 0 s ≡ Some node
+  pub alone : (l : List Field) → Contains (terminals nodes) l → Beginning l s → l ≡ s
 
-  -- from a node where no path ends, each step goes on
-  pub begun-child : terminal_at nodes x ≡ None → (f : Field) (j : ℕ) → child_at nodes x f ≡ Some j → Begun (terminals nodes) (s ++ f ∷ [])
-  begun-child none f j e =
-      let there = walk-snoc (child_at nodes) x j s f at e in
-      let u = trie.used (s ++ f ∷ []) j there (λ is. no_snoc s f (trie.once (s ++ f ∷ []) [] j there (ap Some (sym is)))) in
-      let q = (s ++ f ∷ []) ++ u.1 in
-      let c = of-terminal nodes u.0 q u.2 in
-      let l = least_covers (terminals nodes) q (covers_member (terminals nodes) q c) in
-      ⊎_elim
-      (λ b. inr (l.0, l.1, b))
-      (λ b. absurd (least-not_begun none l.0 l.1 b))
-      (compare s l.0 q u.1 l.2.0 f refl l.2.1)
+visited-root : (nodes : List Node) → IsVisited nodes []
+visited-root nodes = record { node = 0; at = refl; alone = λ l m b. begins_nil l b }
 
-  -- a node in which a path ends begins nothing else that is begun
-  pub begun-terminal : terminal_at nodes x ≡ Some s → (q : List Field) → Begun (terminals nodes) q → Beginning s q → q ≡ s
-  begun-terminal e q b d =
-      ⊎_elim
-      (λ (z : q ≡ []). z ∙ sym (begins_nil s (subst (Beginning s) z d)))
-      (λ (h : (p : List Field) × Least (terminals nodes) p × Beginning q p).
-      let is : s ≡ h.0 = h.1.first s (of-terminal nodes x s e) (beginning_trans s q h.0 d h.2) in
-      beginning_both q s (subst (Beginning q) (sym is) h.2) d)
-      b
+module _ (nodes : List Node) (trie : IsTrie nodes) where
+  -- the least paths end in visited nodes
+  visited-least : (p : List Field) → Least (terminals nodes) p ↔ (IsVisited nodes p × Contains (terminals nodes) p)
+  visited-least p = (
+    λ l. let w = terminal-of nodes p l.member in (record { node = w.0; at = trie.own w.0 p w.1; alone = l.first }, l.member),
+    λ v. record { member = v.1; first = v.0.alone },
+  )
 
-  -- what is begun below it is begun by one of its steps
-  pub begun-later : (q : List Field) → Begun (terminals nodes) q → Beginning s q → (q ≡ s) ⊎ ((f : Field) × (j : ℕ) × (child_at nodes x f ≡ Some j) × Beginning (s ++ f ∷ []) q)
-  begun-later q b d = go d.0 d.1
+  -- the others are on the way to these
+  visited-begun : (q : List Field) → IsVisited nodes q ↔ Begun (terminals nodes) q
+  visited-begun q = (to q, ⊎_elim (λ e. subst (IsVisited nodes) (sym e) (visited-root nodes)) from)
+    where
+      to : (q : List Field) → IsVisited nodes q → Begun (terminals nodes) q
+      to [] v = inl refl
+      to (f ∷ q) v =
+          let u = trie.used (f ∷ q) v.node v.at (λ z. let nil = trie.once (f ∷ q) [] v.node v.at (ap Some (sym z)) in cc) in
+          let m = (f ∷ q) ++ u.1 in
+          let l = least_covers (terminals nodes) m (covers_member (terminals nodes) m (of-terminal nodes u.0 m u.2)) in
+          inr (l.0, l.1, ⊎_elim (λ b. b) (λ b. subst (Beginning (f ∷ q)) (sym (v.alone l.0 l.1.member b)) (beginning_refl (f ∷ q))) (either_begins (f ∷ q) l.0 m (u.1, refl) l.2))
+
+      from : (p : List Field) × Least (terminals nodes) p × Beginning q p → IsVisited nodes q
+      from h =
+          let v = ((visited-least h.0).0 h.1).0 in
+          let w = walk-front (child_at nodes) 0 v.node q h.2.0 (subst (λ p. walk (child_at nodes) 0 p ≡ Some v.node) h.2.1 v.at) in
+          record { node = w.0; at = w.1; alone = λ l m b. beginning_both l q b (subst (Beginning q) (sym (h.1.first l m (beginning_trans l q h.0 b h.2))) h.2) }
+
+  -- after a visited node where no path ends, each step leads to one
+  visited-child : (s : List Field) (f : Field) (j : ℕ) → IsVisited nodes s → (Contains (terminals nodes) s → ⊥) → walk (child_at nodes) 0 (s ++ f ∷ []) ≡ Some j → IsVisited nodes (s ++ f ∷ [])
+  visited-child s f j v none at = record {
+    node = j;
+    at = at;
+    alone = λ l m b. ⊎_elim (λ e. e) (λ c. absurd (none (subst (Contains (terminals nodes)) (v.alone l m c) m))) (begins_snoc l s f b);
+  }
+
+  -- what is visited below a node is that, or below one of its children
+  visited-below : (s : List Field) (x : ℕ) → walk (child_at nodes) 0 s ≡ Some x → (q : List Field) → IsVisited nodes q → Beginning s q
+      → (q ≡ s) ⊎ ((f : Field) × (j : ℕ) × (child_at nodes x f ≡ Some j) × Beginning (s ++ f ∷ []) q)
+  visited-below s x at q v b = go b.0 b.1
     where
       go : (rest : List Field) → q ≡ s ++ rest → (q ≡ s) ⊎ ((f : Field) × (j : ℕ) × (child_at nodes x f ≡ Some j) × Beginning (s ++ f ∷ []) q)
       go [] e = inl (e ∙ append-nil s)
       go (f ∷ t) e =
-          ⊎_elim
-          (λ (z : q ≡ []). inl (z ∙ sym (begins_nil s (subst (Beginning s) z d))))
-          (λ (h : (p : List Field) × Least (terminals nodes) p × Beginning q p).
-          let w = terminal-of nodes h.0 h.1.member in
-          let v : walk (child_at nodes) 0 h.0 ≡ Some w.0 = trie.own w.0 h.0 w.1 in
-          let is : h.0 ≡ s ++ (f ∷ (t ++ h.2.0)) = h.2.1 ∙ ap (λ p. p ++ h.2.0) e ∙ append_assoc s (f ∷ t) h.2.0 in
-          let on : walk (child_at nodes) x (f ∷ (t ++ h.2.0)) ≡ Some w.0 = sym (walk-append (child_at nodes) 0 x s (f ∷ (t ++ h.2.0)) at) ∙ subst (λ p. walk (child_at nodes) 0 p ≡ Some w.0) is v in
-          option_and_then_some (λ j. walk (child_at nodes) j (t ++ h.2.0)) (child_at nodes x f) w.0 on (λ j k _. inr (f, j, k, (t, e ∙ sym (append_assoc s (f ∷ []) t)))))
-          b
+          let on : walk (child_at nodes) x (f ∷ t) ≡ Some v.node = sym (walk-append (child_at nodes) 0 x s (f ∷ t) at) ∙ subst (λ p. walk (child_at nodes) 0 p ≡ Some v.node) e v.at in
+          option_and_then_some (λ j. walk (child_at nodes) j t) (child_at nodes x f) v.node on (λ j k _. inr (f, j, k, (t, e ∙ sym (append_assoc s (f ∷ []) t))))
 
--- what has been visited, and what is still to be
+-- ---- what has been visited, and what is still to be
+
 pub record Visits (nodes left : List Node) (found : List (List Field)) (visits : ℕ) (node_indices : List ℕ) : Type 0 where
   pub done : List (List Field)
+  pub waiting : List (List Field)
+  pub at : map (walk (child_at nodes) 0) waiting ≡ map Some node_indices
+  pub distinct : Distinct (waiting ++ done)
+  pub reached : (s : List Field) → Contains (waiting ++ done) s → IsVisited nodes s
+  pub parents : (s : List Field) (f : Field) → Contains (waiting ++ done) (s ++ f ∷ []) → Contains done s
+  pub rest : (q : List Field) → IsVisited nodes q → Contains done q ⊎ ((s : List Field) × Contains waiting s × Beginning s q)
   pub long : length left ≡ length nodes
-  pub no_repeats : Distinct done
-  pub led : (s : List Field) → Contains done s → (i : ℕ) × (walk (child_at nodes) 0 s ≡ Some i)
-  pub begun : (s : List Field) → Contains done s → Begun (terminals nodes) s
-  pub parents : (s : List Field) (f : Field) → Contains done (s ++ f ∷ []) → Contains done s
-  pub waiting : Distinct node_indices
-  pub waits : (i : ℕ) → Contains node_indices i → (s : List Field) × (walk (child_at nodes) 0 s ≡ Some i) × Begun (terminals nodes) s × (Contains done s → ⊥)
-  pub waits_parents : (i : ℕ) (s : List Field) (f : Field) → Contains node_indices i → walk (child_at nodes) 0 (s ++ f ∷ []) ≡ Some i → Contains done s
-  pub same_ends : (i : ℕ) (s : List Field) → walk (child_at nodes) 0 s ≡ Some i → (Contains done s → ⊥) → terminal_at left i ≡ terminal_at nodes i
-  pub same_steps : (i : ℕ) (s : List Field) (f : Field) → walk (child_at nodes) 0 s ≡ Some i → (Contains done s → ⊥) → child_at left i f ≡ child_at nodes i f
-  pub rest : (q : List Field) → Begun (terminals nodes) q → Contains done q ⊎ ((i : ℕ) × (s : List Field) × Contains node_indices i × (walk (child_at nodes) 0 s ≡ Some i) × Beginning s q)
+  pub same : (s : List Field) (i : ℕ) → walk (child_at nodes) 0 s ≡ Some i → (Contains done s → ⊥) → slice_get left i ≡ slice_get nodes i
   pub exact : (p : List Field) → Contains found p ↔ (Contains done p × Contains (terminals nodes) p)
   pub once : Distinct found
   pub count : visits ≡ length done
 
-snoc-same : (t s : List Field) (f g : Field) → t ++ f ∷ [] ≡ s ++ g ∷ [] → t ≡ s
-snoc-same [] [] f g e = refl
-snoc-same [] (y ∷ s) f g e = let z : [] ≡ s ++ g ∷ [] = cc in absurd (no_snoc s g (sym z))
-snoc-same (x ∷ t) [] f g e = let z : t ++ f ∷ [] ≡ [] = cc in absurd (no_snoc t f z)
-snoc-same (x ∷ t) (y ∷ s) f g e = let a : x ≡ y = cc in let b : t ++ f ∷ [] ≡ s ++ g ∷ [] = cc in let r = snoc-same t s f g b in λ i. a i ∷ r i
-
-snoc-last : (t s : List Field) (f g : Field) → t ++ f ∷ [] ≡ s ++ g ∷ [] → f ≡ g
-snoc-last [] [] f g e = cc
-snoc-last [] (y ∷ s) f g e = let z : [] ≡ s ++ g ∷ [] = cc in absurd (no_snoc s g (sym z))
-snoc-last (x ∷ t) [] f g e = let z : t ++ f ∷ [] ≡ [] = cc in absurd (no_snoc t f z)
-snoc-last (x ∷ t) (y ∷ s) f g e = let b : t ++ f ∷ [] ≡ s ++ g ∷ [] = cc in snoc-last t s f g b
-
-snoc-longer : (s : List Field) (f : Field) → s ≡ s ++ f ∷ [] → ⊥
-snoc-longer [] f e = cc
-snoc-longer (x ∷ s) f e = let z : s ≡ s ++ f ∷ [] = cc in snoc-longer s f z
-
-pub visits-start : (nodes : List Node) → IsTrie nodes → Visits nodes nodes [] 0 (0 ∷ [])
-visits-start nodes trie = record {
+pub visits-start : (nodes : List Node) → Visits nodes nodes [] 0 (0 ∷ [])
+visits-start nodes = record {
   done = [];
+  waiting = [] ∷ [];
+  at = refl;
+  distinct = distinct-cons [] [] (contains-nil []) (distinct-nil [] refl);
+  reached = λ s c. ⊎_elim (λ e. subst (IsVisited nodes) e (visited-root nodes)) (λ d. absurd (contains-nil s d)) (contains-cons [] s [] c);
+  parents = λ s f c. ⊎_elim (λ e. absurd (no_snoc s f (sym e))) (λ d. absurd (contains-nil (s ++ f ∷ []) d)) (contains-cons [] (s ++ f ∷ []) [] c);
+  rest = λ q v. inr ([], contains-head [] [], (q, refl));
   long = refl;
-  no_repeats = distinct-nil [] refl;
-  led = λ s c. absurd (contains-nil s c);
-  begun = λ s c. absurd (contains-nil s c);
-  parents = λ s f c. absurd (contains-nil (s ++ f ∷ []) c);
-  waiting = distinct-cons 0 [] (λ c. contains-nil 0 c) (distinct-nil [] refl);
-  waits = λ i c. ⊎_elim (λ e. ([], ap Some e, inl refl, λ d. contains-nil [] d)) (λ d. absurd (contains-nil i d)) (contains-cons 0 i [] c);
-  waits_parents = λ i s f c w. ⊎_elim (λ e. let z : s ++ f ∷ [] ≡ [] = trie.once (s ++ f ∷ []) [] i w (ap Some e) in absurd (no_snoc s f z)) (λ d. absurd (contains-nil i d)) (contains-cons 0 i [] c);
-  same_ends = λ i s w n. refl;
-  same_steps = λ i s f w n. refl;
-  rest = λ q b. inr (0, [], contains-head 0 [], refl, (q, refl));
+  same = λ s i w n. refl;
   exact = λ p. (λ c. absurd (contains-nil p c), λ c. absurd (contains-nil p c.0));
   once = distinct-nil [] refl;
   count = refl;
 }
 
-module _ (nodes left next : List Node) (found : List (List Field)) (visits : ℕ) (ps : List ℕ) (x : ℕ) (trie : IsTrie nodes) (o : Visits nodes left found visits (ps ++ x ∷ []))
-    (long : length next ≡ length left)
-    (others_end : (i : ℕ) → i ≢ x → terminal_at next i ≡ terminal_at left i)
-    (others_step : (i : ℕ) (f : Field) → i ≢ x → child_at next i f ≡ child_at left i f) where
-  abbrev pub s : List Field
-  s = (o.waits x (Contains-push ps x)).0
+-- the last of what was mapped
+unsnoc : {A B C : Type 0} (f : A → C) (g : B → C) (ws : List A) (ys : List B) (y : B) → map f ws ≡ map g (ys ++ y ∷ []) → (vs : List A) × (v : A) × (ws ≡ vs ++ v ∷ []) × (map f vs ≡ map g ys) × (f v ≡ g y)
+unsnoc f g [] [] y e = absurd (cc)
+unsnoc f g [] (z ∷ ys) y e = absurd (cc)
+unsnoc f g (w ∷ []) [] y e = ([], w, refl, refl, cc)
+unsnoc f g (w ∷ v ∷ ws) [] y e = absurd (cc)
+unsnoc f g (w ∷ ws) (z ∷ ys) y e =
+    let first : f w ≡ g z = cc in let later : map f ws ≡ map g (ys ++ y ∷ []) = cc in
+    let r = unsnoc f g ws ys y later in (w ∷ r.0, r.1, (λ i. w ∷ r.2 i), (λ i. first i ∷ r.3 i), r.4)
+
+module _ (nodes left : List Node) (found : List (List Field)) (visits : ℕ) (ps : List ℕ) (x : ℕ) (trie : IsTrie nodes) (o : Visits nodes left found visits (ps ++ x ∷ [])) where
+  abbrev last : (vs : List (List Field)) × (v : List Field) × (o.waiting ≡ vs ++ v ∷ []) × (map (walk (child_at nodes) 0) vs ≡ map Some ps) × (walk (child_at nodes) 0 v ≡ Some x)
+  last = unsnoc (walk (child_at nodes) 0) Some o.waiting ps x o.at
+
+  abbrev ws : List (List Field)
+  ws = last.0
+
+  abbrev s : List Field
+  s = last.1
 
   at : walk (child_at nodes) 0 s ≡ Some x
-  at = (o.waits x (Contains-push ps x)).1
+  at = last.4
 
-  is_begun : Begun (terminals nodes) s
-  is_begun = (o.waits x (Contains-push ps x)).2
+  all : o.waiting ++ o.done ≡ ws ++ s ∷ o.done
+  all = ap (λ vs. vs ++ o.done) last.2 ∙ append_assoc ws (s ∷ []) o.done
+
+  distinct : Distinct (ws ++ s ∷ o.done)
+  distinct = subst Distinct all o.distinct
+
+  reached : (t : List Field) → Contains (ws ++ s ∷ o.done) t → IsVisited nodes t
+  reached t c = o.reached t (subst (λ ts. Contains ts t) (sym all) c)
+
+  parents : (t : List Field) (f : Field) → Contains (ws ++ s ∷ o.done) (t ++ f ∷ []) → Contains o.done t
+  parents t f c = o.parents t f (subst (λ ts. Contains ts (t ++ f ∷ [])) (sym all) c)
 
   is_new : Contains o.done s → ⊥
-  is_new = (o.waits x (Contains-push ps x)).3
+  is_new = distinct-head s o.done (distinct-right ws (s ∷ o.done) distinct)
 
-  end_same : terminal_at left x ≡ terminal_at nodes x
-  end_same = o.same_ends x s at is_new
+  is_visited : IsVisited nodes s
+  is_visited = reached s (Contains-append_right ws (s ∷ o.done) s (contains-head s o.done))
 
-  -- a node index determines the path that leads to it
-  told : (t : List Field) (i : ℕ) → walk (child_at nodes) 0 t ≡ Some i → i ≡ x → t ≡ s
-  told t i w e = trie.once t s x (w ∙ ap Some e) at
+  here : slice_get left x ≡ slice_get nodes x
+  here = o.same s x at is_new
 
-  led' : (t : List Field) → Contains (s ∷ o.done) t → (i : ℕ) × (walk (child_at nodes) 0 t ≡ Some i)
-  led' t c = ⊎_elim (λ e. (x, subst (λ p. walk (child_at nodes) 0 p ≡ Some x) e at)) (λ d. o.led t d) (contains-cons s t o.done c)
+  -- a path that ends in the node
+  ends-here : Contains (terminals nodes) s → terminal_at left x ≡ Some s
+  ends-here c =
+      let w = terminal-of nodes s c in
+      let e : Some w.0 ≡ Some x = sym (trie.own w.0 s w.1) ∙ at in
+      rw here (ap (terminal_at nodes) (sym (same_Some w.0 x e)) ∙ w.1)
 
-  begun' : (t : List Field) → Contains (s ∷ o.done) t → Begun (terminals nodes) t
-  begun' t c = ⊎_elim (λ e. subst (Begun (terminals nodes)) e is_begun) (λ d. o.begun t d) (contains-cons s t o.done c)
+  abbrev child_path : Field → List Field
+  child_path f = s ++ f ∷ []
 
-  parents' : (t : List Field) (f : Field) → Contains (s ∷ o.done) (t ++ f ∷ []) → Contains (s ∷ o.done) t
-  parents' t f c =
-      contains-tail s t o.done
-      (⊎_elim
-      (λ e. o.waits_parents x t f (Contains-push ps x) (subst (λ p. walk (child_at nodes) 0 p ≡ Some x) e at))
-      (λ d. o.parents t f d)
-      (contains-cons s (t ++ f ∷ []) o.done c))
+  children_at : (es : List (Field × ℕ)) → ((e : Field × ℕ) → Contains es e → walk (child_at nodes) 0 (child_path e.0) ≡ Some e.1) → map (walk (child_at nodes) 0) (map child_path (keys_of es)) ≡ map Some (values_of es)
+  children_at [] h = refl
+  children_at (e ∷ es) h = λ i. h e (contains-head e es) i ∷ children_at es (λ d c. h d (contains-tail e d es c)) i
 
-  differs_from : (i : ℕ) (t : List Field) → walk (child_at nodes) 0 t ≡ Some i → (Contains (s ∷ o.done) t → ⊥) → i ≢ x
-  differs_from i t w n e = n (subst (Contains (s ∷ o.done)) (sym (told t i w e)) (contains-head s o.done))
+  module _ (next : List Node) (long : length next ≡ length left) (others : (i : ℕ) → i ≢ x → slice_get next i ≡ slice_get left i) where
+    -- after the visit the children wait in the node's stead
+    visit : (es : List (Field × ℕ)) (found' : List (List Field)) → IsDistinct same_field (keys_of es)
+        → ((e : Field × ℕ) → Contains es e → (walk (child_at nodes) 0 (child_path e.0) ≡ Some e.1) × IsVisited nodes (child_path e.0))
+        → ((q : List Field) → IsVisited nodes q → Beginning s q → (q ≡ s) ⊎ ((f : Field) × Contains (keys_of es) f × Beginning (child_path f) q))
+        → ((p : List Field) → Contains found' p ↔ (Contains (s ∷ o.done) p × Contains (terminals nodes) p)) → Distinct found' → Visits nodes next found' (visits + 1) (ps ++ values_of es)
+    visit es found' unique kids below exact once =
+        let new = map child_path (keys_of es) in record {
+          done = s ∷ o.done;
+          waiting = ws ++ new;
+          at = map-append (walk (child_at nodes) 0) ws new ∙ (λ i. last.3 i ++ children_at es (λ e c. (kids e c).0) i) ∙ sym (map-append Some ps (values_of es));
+          distinct = distinct-insert ws new (s ∷ o.done) distinct
+              (distinct-map child_path (keys_of es) (AllPairs-from_IsDistinct same_field-Decides (keys_of es) unique) (λ f g _ _ e. let last = append_cancel_left s (f ∷ []) (g ∷ []) e in cc))
+              (λ t c d. let w = contains-map child_path (keys_of es) t c in is_new (parents s w.0 (subst (Contains (ws ++ s ∷ o.done)) (sym w.2) d)));
+          reached = λ t c. ⊎_elim (reached t) (λ k. let w = contains-map child_path (keys_of es) t k in subst (IsVisited nodes) w.2 (kid w.0 w.1)) (inserted_cases ws new (s ∷ o.done) t c);
+          parents = λ t f c.
+              ⊎_elim
+              (λ d. contains-tail s t o.done (parents t f d))
+              (λ k. let w = contains-map child_path (keys_of es) (t ++ f ∷ []) k in subst (Contains (s ∷ o.done)) (snoc_same s t w.0 f w.2) (contains-head s o.done))
+              (inserted_cases ws new (s ∷ o.done) (t ++ f ∷ []) c);
+          rest = λ q v.
+              ⊎_elim
+              (λ d. inl (contains-tail s q o.done d))
+              (λ (h : (t : List Field) × Contains o.waiting t × Beginning t q).
+              ⊎_elim
+              (λ c. inr (h.0, Contains-append_left ws new h.0 c, h.2))
+              (λ e.
+              ⊎_elim
+              (λ r. inl (subst (Contains (s ∷ o.done)) (sym r) (contains-head s o.done)))
+              (λ (k : (f : Field) × Contains (keys_of es) f × Beginning (child_path f) q). inr (child_path k.0, Contains-append_right ws new (child_path k.0) (contains-mapped child_path k.0 (keys_of es) k.1), k.2))
+              (below q v (subst (λ t. Beginning t q) (sym e) h.2)))
+              (Contains-push_cases ws s h.0 (subst (λ ts. Contains ts h.0) last.2 h.1)))
+              (o.rest q v);
+          long = long ∙ o.long;
+          same = λ t i w n.
+              others i (λ e. n (subst (Contains (s ∷ o.done)) (sym (trie.once t s x (w ∙ ap Some e) at)) (contains-head s o.done)))
+              ∙ o.same t i w (λ c. n (contains-tail s t o.done c));
+          exact = exact;
+          once = once;
+          count = omega (arith, o.count);
+        }
+      where
+        kid : (f : Field) → Contains (keys_of es) f → IsVisited nodes (child_path f)
+        kid f c = let w = contains-map (λ (e : Field × ℕ). e.0) es f c in subst (λ g. IsVisited nodes (child_path g)) w.2 (kids w.0 w.1).1
 
-  same_ends' : (i : ℕ) (t : List Field) → walk (child_at nodes) 0 t ≡ Some i → (Contains (s ∷ o.done) t → ⊥) → terminal_at next i ≡ terminal_at nodes i
-  same_ends' i t w n = others_end i (differs_from i t w n) ∙ o.same_ends i t w (λ c. n (contains-tail s t o.done c))
-
-  same_steps' : (i : ℕ) (t : List Field) (f : Field) → walk (child_at nodes) 0 t ≡ Some i → (Contains (s ∷ o.done) t → ⊥) → child_at next i f ≡ child_at nodes i f
-  same_steps' i t f w n = others_step i f (differs_from i t w n) ∙ o.same_steps i t f w (λ c. n (contains-tail s t o.done c))
-
-  -- what waited beside it waits on
-  Waits : ℕ → Type 0
-  Waits i = (t : List Field) × (walk (child_at nodes) 0 t ≡ Some i) × Begun (terminals nodes) t × (Contains (s ∷ o.done) t → ⊥)
-
-  still : (i : ℕ) → Contains ps i → Waits i
-  unfolding Waits
-  still i c =
-      let v = o.waits i (Contains-append_left ps (x ∷ []) i c) in (
-        v.0,
-        v.1,
-        v.2,
-        λ d.
-            ⊎_elim
-            (λ e.
-            let w : walk (child_at nodes) 0 s ≡ Some i = subst (λ p. walk (child_at nodes) 0 p ≡ Some i) (sym e) v.1 in
-            let z : Some x ≡ Some i = sym at ∙ w in
-            (distinct-pop ps x o.waiting).1 (subst (Contains ps) (sym (same_Some x i z)) c))
-            (λ m. v.3 m)
-            (contains-cons s v.0 o.done d),
-      )
-
-  stepped : (f : Field) (j : ℕ) → child_at left x f ≡ Some j → walk (child_at nodes) 0 (s ++ f ∷ []) ≡ Some j
-  stepped f j e = walk-snoc (child_at nodes) x j s f at (sym (o.same_steps x s f at is_new) ∙ e)
-
-  pub child-once : (f g : Field) (j : ℕ) → child_at left x f ≡ Some j → child_at left x g ≡ Some j → f ≡ g
-  child-once f g j a b = snoc-last s s f g (trie.once (s ++ f ∷ []) (s ++ g ∷ []) j (stepped f j a) (stepped g j b))
-
-  pub visited-terminal : (p : List Field) → terminal_at left x ≡ Some p → Visits nodes next (found ++ p ∷ []) (visits + 1) ps
-  unfolding Waits
-  visited-terminal p is =
-      let here : terminal_at nodes x ≡ Some p = sym end_same ∙ is in
-      let same : s ≡ p = trie.once s p x at (trie.own x p here) in
-      let mine : terminal_at nodes x ≡ Some s = here ∙ ap Some (sym same) in record {
-        done = s ∷ o.done;
-        long = long ∙ o.long;
-        no_repeats = distinct-cons s o.done is_new o.no_repeats;
-        led = led';
-        begun = begun';
-        parents = parents';
-        waiting = (distinct-pop ps x o.waiting).0;
-        waits = still;
-        waits_parents = λ i t f c w. contains-tail s t o.done (o.waits_parents i t f (Contains-append_left ps (x ∷ []) i c) w);
-        same_ends = same_ends';
-        same_steps = same_steps';
-        rest = λ q b.
-            ⊎_elim
-            (λ d. inl (contains-tail s q o.done d))
-            (λ (h : (i : ℕ) × (t : List Field) × Contains (ps ++ x ∷ []) i × (walk (child_at nodes) 0 t ≡ Some i) × Beginning t q).
-            ⊎_elim
-            (λ c. inr (h.0, h.1, c, h.3, h.4))
-            (λ e.
-            let t = told h.1 h.0 h.3 (sym e) in
-            let r = begun-terminal nodes trie s x at is_begun mine q b (subst (λ a. Beginning a q) t h.4) in
-            inl (subst (Contains (s ∷ o.done)) (sym r) (contains-head s o.done)))
-            (Contains-push_cases ps x h.0 h.2))
-            (o.rest q b);
-        exact = λ q. (
+    pub visited-terminal : (p : List Field) → terminal_at left x ≡ Some p → Visits nodes next (found ++ p ∷ []) (visits + 1) ps
+    visited-terminal p is =
+        let own : terminal_at nodes x ≡ Some p = rw (← here) is in
+        let same : s ≡ p = trie.once s p x at (trie.own x p own) in
+        let member = of-terminal nodes x s (own ∙ ap Some (sym same)) in
+        subst (λ r. Visits nodes next (found ++ r ∷ []) (visits + 1) ps) same
+        (subst (Visits nodes next (found ++ s ∷ []) (visits + 1)) (append-nil ps)
+        (visit [] (found ++ s ∷ []) (IsDistinct-nil same_field) (λ e c. absurd (contains-nil e c)) (λ q v b. inl (sym (v.alone s member b)))
+        (λ q. (
           λ c.
               ⊎_elim
               (λ d. let w = (o.exact q).0 d in (contains-tail s q o.done w.0, w.1))
-              (λ e. let r : s ≡ q = same ∙ e in (subst (Contains (s ∷ o.done)) r (contains-head s o.done), subst (Contains (terminals nodes)) r (of-terminal nodes x s mine)))
-              (Contains-push_cases found p q c),
+              (λ e. (subst (Contains (s ∷ o.done)) e (contains-head s o.done), subst (Contains (terminals nodes)) e member))
+              (Contains-push_cases found s q c),
           λ c.
               ⊎_elim
-              (λ e. subst (Contains (found ++ p ∷ [])) (sym same ∙ e) (Contains-push found p))
-              (λ d. Contains-append_left found (p ∷ []) q ((o.exact q).1 (d, c.1)))
+              (λ e. subst (Contains (found ++ s ∷ [])) e (Contains-push found s))
+              (λ d. Contains-append_left found (s ∷ []) q ((o.exact q).1 (d, c.1)))
               (contains-cons s q o.done c.0),
-        );
-        once = distinct-append found (p ∷ []) o.once (distinct-cons p [] (λ c. contains-nil p c) (distinct-nil [] refl)) (λ y a c.
-            ⊎_elim (λ e. is_new (subst (Contains o.done) (sym e ∙ sym same) ((o.exact y).0 a).0)) (λ d. contains-nil y d) (contains-cons p y [] c));
-        count = omega (arith, o.count);
-      }
+        ))
+        (distinct-append found (s ∷ []) o.once (distinct-cons s [] (contains-nil s) (distinct-nil [] refl)) (λ y a c.
+        ⊎_elim (λ e. is_new (subst (Contains o.done) (sym e) ((o.exact y).0 a).0)) (contains-nil y) (contains-cons s y [] c)))))
 
-  pub visited-on : (vs : List ℕ) → terminal_at left x ≡ None → Distinct vs → ((j : ℕ) → Contains vs j → (f : Field) × (child_at left x f ≡ Some j)) → ((f : Field) (j : ℕ) → child_at left x f ≡ Some j → Contains vs j) → Visits nodes next found (visits + 1) (ps ++ vs)
-  unfolding Waits
-  visited-on vs is alone from to =
-      let here : terminal_at nodes x ≡ None = sym end_same ∙ is in
-      record {
-        done = s ∷ o.done;
-        long = long ∙ o.long;
-        no_repeats = distinct-cons s o.done is_new o.no_repeats;
-        led = led';
-        begun = begun';
-        parents = parents';
-        waiting = distinct-append ps vs (distinct-pop ps x o.waiting).0 alone (λ i a c.
-            let w = on i (from i c) in is_new (o.waits_parents i s w.0 (Contains-append_left ps (x ∷ []) i a) (walk-snoc (child_at nodes) x i s w.0 at w.1)));
-        waits = λ i c.
-            ⊎_elim
-            (λ d. still i d)
-            (λ d. let w = on i (from i d) in (
-              s ++ w.0 ∷ [],
-              walk-snoc (child_at nodes) x i s w.0 at w.1,
-              begun-child nodes trie s x at is_begun here w.0 i w.1,
-              λ m. ⊎_elim (λ e. snoc-longer s w.0 e) (λ n. is_new (o.parents s w.0 n)) (contains-cons s (s ++ w.0 ∷ []) o.done m),
-            ))
-            (Contains-append_cases ps vs i c);
-        waits_parents = λ i t f c w.
-            ⊎_elim
-            (λ d. contains-tail s t o.done (o.waits_parents i t f (Contains-append_left ps (x ∷ []) i d) w))
-            (λ d.
-            let v = on i (from i d) in
-            let r = trie.once (t ++ f ∷ []) (s ++ v.0 ∷ []) i w (walk-snoc (child_at nodes) x i s v.0 at v.1) in
-            subst (Contains (s ∷ o.done)) (sym (snoc-same t s f v.0 r)) (contains-head s o.done))
-            (Contains-append_cases ps vs i c);
-        same_ends = same_ends';
-        same_steps = same_steps';
-        rest = λ q b.
-            ⊎_elim
-            (λ d. inl (contains-tail s q o.done d))
-            (λ (h : (i : ℕ) × (t : List Field) × Contains (ps ++ x ∷ []) i × (walk (child_at nodes) 0 t ≡ Some i) × Beginning t q).
-            ⊎_elim
-            (λ c. inr (h.0, h.1, Contains-append_left ps vs h.0 c, h.3, h.4))
-            (λ e.
-            let t = told h.1 h.0 h.3 (sym e) in
-            ⊎_elim
-            (λ r. inl (subst (Contains (s ∷ o.done)) (sym r) (contains-head s o.done)))
-            (λ (k : (f : Field) × (j : ℕ) × (child_at nodes x f ≡ Some j) × Beginning (s ++ f ∷ []) q).
-            inr (k.1, s ++ k.0 ∷ [], Contains-append_right ps vs k.1 (to k.0 k.1 (o.same_steps x s k.0 at is_new ∙ k.2)), walk-snoc (child_at nodes) x k.1 s k.0 at k.2, k.3))
-            (begun-later nodes trie s x at is_begun q b (subst (λ a. Beginning a q) t h.4)))
-            (Contains-push_cases ps x h.0 h.2))
-            (o.rest q b);
-        exact = λ q. (
+    pub visited-children : (es : List (Field × ℕ)) → IsDistinct same_field (keys_of es) → ((f : Field) → lookup (same_field f) es ≡ child_at left x f) → terminal_at left x ≡ None → Visits nodes next found (visits + 1) (ps ++ values_of es)
+    visited-children es unique steps is =
+        visit es found unique
+        (λ e c.
+        let there = walk-snoc (child_at nodes) x e.1 s e.0 at (sym (step e.0) ∙ lookup-from_Contains same_field_equiv e.0 e.1 es unique c) in
+        (there, visited-child nodes trie s e.0 e.1 is_visited none there))
+        (λ q v b.
+        ⊎_elim inl (λ (k : (f : Field) × (j : ℕ) × (child_at nodes x f ≡ Some j) × Beginning (child_path f) q).
+        let c = Contains-from_lookup (λ f g. (same_field-Decides f g).0) k.0 k.1 es (step k.0 ∙ k.2) in
+        inr (k.0, contains-mapped (λ (e : Field × ℕ). e.0) (k.0, k.1) es c, k.3))
+        (visited-below nodes trie s x at q v b))
+        (λ q. (
           λ c. let w = (o.exact q).0 c in (contains-tail s q o.done w.0, w.1),
-          λ c.
-              ⊎_elim
-              (λ e.
-              let z : terminal_at nodes x ≡ Some s = terminals-here nodes trie s x at is_begun (subst (Contains (terminals nodes)) (sym e) c.1) in
-              let y : None ≡ Some s = sym here ∙ z in absurd (cc))
-              (λ d. (o.exact q).1 (d, c.1))
-              (contains-cons s q o.done c.0),
-        );
-        once = o.once;
-        count = omega (arith, o.count);
-      }
-    where
-      on : (j : ℕ) → (f : Field) × (child_at left x f ≡ Some j) → (f : Field) × (child_at nodes x f ≡ Some j)
-      on j w = (w.0, sym (o.same_steps x s w.0 at is_new) ∙ w.1)
+          λ c. ⊎_elim (λ e. absurd (none (subst (Contains (terminals nodes)) (sym e) c.1))) (λ d. (o.exact q).1 (d, c.1)) (contains-cons s q o.done c.0),
+        ))
+        o.once
+      where
+        none : Contains (terminals nodes) s → ⊥
+        none c = let e = ends-here c in cc
 
-  -- the node indices of the children of what is visited
-  pub visited-children : (es : List (Field × ℕ)) → IsDistinct same_field (keys_of es) → ((f : Field) → lookup (same_field f) es ≡ child_at left x f) → terminal_at left x ≡ None → Visits nodes next found (visits + 1) (ps ++ values_of es)
-  visited-children es unique steps is =
-      visited-on (values_of es) is
-      (distinct-values same_field same_field-Decides es unique (λ f g j a b. child-once f g j (sym (steps f) ∙ a) (sym (steps g) ∙ b)))
-      (λ j c. let w = value-key same_field same_field-Decides es unique j c in (w.0, sym (steps w.0) ∙ w.1))
-      (λ f j e. key-value same_field same_field-Decides es f j (steps f ∙ e))
+        step : (f : Field) → lookup (same_field f) es ≡ child_at nodes x f
+        step f = rw (← here) (steps f)
 
   pub visits-within : x < length left
   visits-within = let i = trie.inside s x at in let l = o.long in omega arith
 
   -- there is room for one visit more
-  pub visits-room : visits < length nodes
+  visits-room : visits < length nodes
   visits-room =
-      let all = s ∷ o.done in
-      let loc = λ (t : List Field). unwrap_or (walk (child_at nodes) 0 t) 0 in
-      let alone = distinct-map loc all (distinct-cons s o.done is_new o.no_repeats) (λ a b c d e.
-      let v = led' a c in let w = led' b d in
-      let p : loc a ≡ v.0 = ap (λ z. unwrap_or z 0) v.1 in
-      let q : loc b ≡ w.0 = ap (λ z. unwrap_or z 0) w.1 in
-      let r : w.0 ≡ v.0 = sym q ∙ sym e ∙ p in
-      trie.once a b v.0 v.1 (w.1 ∙ ap Some r)) in
-      let below = distinct-below (map loc all) (length nodes) alone (λ n c.
-      let w = contains-map loc all n c in let v = led' w.0 w.1 in
-      let p : loc w.0 ≡ v.0 = ap (λ z. unwrap_or z 0) v.1 in
-      let i : v.0 < length nodes = trie.inside w.0 v.0 v.1 in
-      let r : v.0 ≡ n = sym p ∙ w.2 in omega arith) in
-      omega (arith, o.count, below, length-map all loc)
+      let passed = s ∷ o.done in
+      let index = λ (t : List Field). unwrap_or (walk (child_at nodes) 0 t) 0 in
+      let known : (t : List Field) → Contains passed t → IsVisited nodes t = λ t c. reached t (Contains-append_right ws passed t c) in
+      let indexed : (t : List Field) (v : IsVisited nodes t) → index t ≡ v.node = λ t v. ap (λ n. unwrap_or n 0) v.at in
+      let alone = distinct-map index passed (distinct-right ws passed distinct) (λ a b c d e.
+      let v = known a c in let w = known b d in
+      trie.once a b v.node v.at (w.at ∙ ap Some (sym (indexed b w) ∙ sym e ∙ indexed a v))) in
+      let below = distinct-below (map index passed) (length nodes) alone (λ n c.
+      let w = contains-map index passed n c in let v = known w.0 w.1 in
+      let i : v.node < length nodes = trie.inside w.0 v.node v.at in
+      let is : v.node ≡ n = sym (indexed w.0 v) ∙ w.2 in omega arith) in
+      omega (arith, o.count, below, length-map passed index)
 
   -- so the visit counts
   pub visits-counts : (most next_visits : ℕ) → next_visits ≡ min (visits + 1) most → length nodes ≤ most → (next_visits ≡ visits + 1) × (length nodes - next_visits < length nodes - visits)
@@ -375,32 +314,26 @@ module _ (nodes left next : List Node) (found : List (List Field)) (visits : ℕ
 
 -- ---- when no node index is left
 
-module _ (nodes left : List Node) (found : List (List Field)) (visits : ℕ) (o : Visits nodes left found visits []) where
-  visited-begun : (q : List Field) → Begun (terminals nodes) q → Contains o.done q
-  visited-begun q b =
-      ⊎_elim
-      (λ d. d)
-      (λ (h : (i : ℕ) × (t : List Field) × Contains [] i × (walk (child_at nodes) 0 t ≡ Some i) × Beginning t q). absurd (contains-nil h.0 h.2))
-      (o.rest q b)
+module _ (nodes left : List Node) (found : List (List Field)) (visits : ℕ) (trie : IsTrie nodes) (o : Visits nodes left found visits []) where
+  all_done : (q : List Field) → Contains o.done q ↔ IsVisited nodes q
+  all_done q = (
+    λ c. o.reached q (Contains-append_right o.waiting o.done q c),
+    λ v. ⊎_elim (λ d. d) (λ (h : (s : List Field) × Contains o.waiting s × Beginning s q). absurd (none o.waiting o.at h.0 h.1)) (o.rest q v),
+  )
+    where
+      none : (ws : List (List Field)) → map (walk (child_at nodes) 0) ws ≡ [] → (s : List Field) → Contains ws s → ⊥
+      none [] e s c = contains-nil s c
+      none (w ∷ ws) e s c = cc
 
   pub visited-count : IsCountOf (Begun (terminals nodes)) visits
   visited-count = record {
     paths = o.done;
-    distinct = o.no_repeats;
-    exact = λ p. (o.begun p, visited-begun p);
+    distinct = distinct-right o.waiting o.done o.distinct;
+    exact = λ q. let a = all_done q in let b = visited-begun nodes trie q in (λ c. b.0 (a.0 c), λ g. a.1 (b.1 g));
     count = sym o.count;
   }
 
-  pub visited-least : (p : List Field) → Contains found p ↔ Least (terminals nodes) p
-  visited-least p = (
-    λ c.
-        let w = (o.exact p).0 c in
-        ⊎_elim
-        (λ (e : p ≡ []). record { member = w.1; first = λ q m b. begins_nil q (subst (Beginning q) e b) ∙ sym e })
-        (λ (h : (l : List Field) × Least (terminals nodes) l × Beginning p l). subst (Least (terminals nodes)) (sym (h.1.first p w.1 h.2)) h.1)
-        (o.begun p w.0),
-    λ l. (o.exact p).1 (visited-begun p (inr (p, l, beginning_refl p)), l.member),
-  )
-
-  pub visited-once : Distinct found
-  visited-once = o.once
+  pub found-least : (p : List Field) → Contains found p ↔ Least (terminals nodes) p
+  found-least p =
+      let l = visited-least nodes trie p in
+      (λ c. let w = (o.exact p).0 c in l.1 ((all_done p).0 w.0, w.1), λ m. let w = l.0 m in (o.exact p).1 ((all_done p).1 w.0, w.1))

@@ -194,9 +194,7 @@ impl Nodes {
         ensures long { length self.new ≡ length self.old }
         ensures terminal { result.0 ≡ terminal_at self.old node_index }
         ensures steps { (f : Field) → child result.1 f ≡ child_at self.old node_index f }
-        ensures terminal_of_others { (i : ℕ) → i ≢ node_index → terminal_at self.new i ≡ terminal_at self.old i }
-        ensures steps_of_others { (i : ℕ) (f : Field) → i ≢ node_index
-            → child_at self.new i f ≡ child_at self.old i f }
+        ensures others { (i : ℕ) → i ≢ node_index → slice_get self.new i ≡ slice_get self.old i }
         ensures visited { visits.new ≡ min (visits.old + 1) u64.MAX }
         ensures fits { length self.old ≤ u64.MAX }
     {

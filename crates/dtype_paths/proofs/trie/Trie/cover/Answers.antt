@@ -1,104 +1,89 @@
 -- SPDX-License-Identifier: Apache-2.0
 -- SPDX-FileCopyrightText: Copyright the Vortex contributors
 
-use Rattle.std.proofs.Common.{[], ◌∷◌, ◌++◌, ◌≡◌, ◌∙◌, arith, sym, refl, subst}
+use Rattle.std.proofs.Common.{[], ◌∷◌, ◌+◌, ◌-◌, ◌<◌, ◌++◌, ◌≡◌, ◌↔◌, ◌∙◌, List, arith, length, sym, subst}
+use Rattle.std.specs.List.{Contains}
 use Rattle.std.proofs.lemmas.List.{nil_from_length}
 use Rattle.std.proofs.lemmas.Option.{MatchOption-at_none}
 use Rattle.dtype_paths.specs.private.Children.{nodes_by_step}
+use Rattle.dtype_paths.specs.Covering.{IsCountOf}
+use Rattle.dtype_paths.specs.declared.field.Field.{Field}
+use Rattle.dtype_paths.specs.private.PathLists.{Begun, Least}
 use Rattle.dtype_paths.specs.private.Trie.{terminals, IsTrie}
 use Rattle.dtype_paths.specs.lemmas.Counts.{none_listed}
 use Rattle.dtype_paths.proofs.BegunBounds.{begun_some, begun_none, begun_at_most}
 use Rattle.dtype_paths.proofs.SetBridges.{begun_is, cover_is}
-use Rattle.dtype_paths.proofs.Visiting.{Visits, visits-start, visits-counts, visits-within, visited-terminal, visited-children, visited-count, visited-least, visited-once}
+use Rattle.dtype_paths.proofs.Visiting.{Visits, visits-start, visits-counts, visits-within, visited-terminal, visited-children, visited-count, found-least}
 use Rattle.dtype_paths.proofs.trie.Trie.cover.Goals as goal
+use Rattle.dtype_paths.proofs.trie.Trie.cover.Goals.{After-open-terminal, In_default}
 
 pub loop-node_index-init : goal.loop-node_index-init
-loop-node_index-init c =
-    let same : c.self.inside.nodes ≡ c.args.self = c.self.view_is in
-    rw (same, c.new-found.ensures.items, c.in_ok-node_indices.ensures.items) (visits-start c.args.self (subst IsTrie same c.self.invariant))
+loop-node_index-init c = rw (c.self.view_is, c.new-found.ensures.items, c.in_ok-node_indices.ensures.items) (visits-start c.args.self)
 
 pub open-terminal-requires : goal.open-terminal-requires
 open-terminal-requires c =
-    let nodes = c.args.self in let t = subst IsTrie c.self.view_is c.self.invariant in
-    let l = c.loop-node_index in let x = c.in-Some.node_index in let ps = c.pop.new.self.items in
-    let o : Visits nodes l.nodes l.found.items l.visits (ps ++ x ∷ []) = rw c.in-Some.ensures.items at l.invariant in
-    visits-within nodes l.nodes l.nodes l.found.items l.visits ps x t o refl (λ i ne. refl) (λ i g ne. refl)
+    let l = c.loop-node_index in let ps = c.pop.new.self.items in let x = c.in-Some.node_index in
+    let o : Visits c.args.self l.nodes l.found.items l.visits (ps ++ x ∷ []) = rw c.in-Some.ensures.items at l.invariant in
+    visits-within c.args.self l.nodes l.found.items l.visits ps x (subst IsTrie c.self.view_is c.self.invariant) o
+
+-- the loop's invariant with the node index that was taken
+popped : (c : After-open-terminal) → Visits c.args.self c.loop-node_index.nodes c.loop-node_index.found.items c.loop-node_index.visits (c.pop.new.self.items ++ c.in-Some.node_index ∷ [])
+popped c = rw c.in-Some.ensures.items at c.loop-node_index.invariant
+
+trie : (c : After-open-terminal) → IsTrie c.args.self
+trie c = subst IsTrie c.self.view_is c.self.invariant
+
+-- the visit is counted
+counted : (c : After-open-terminal) → (c.open-terminal.new.visits ≡ c.loop-node_index.visits + 1) × (length c.args.self - c.open-terminal.new.visits < length c.args.self - c.loop-node_index.visits)
+counted c =
+    let l = c.loop-node_index in let o = popped c in let e = c.open-terminal.ensures in
+    visits-counts c.args.self l.nodes l.found.items l.visits c.pop.new.self.items c.in-Some.node_index (trie c) o _ c.open-terminal.new.visits e.visited (omega (arith, e.fits, o.long))
 
 pub loop-node_index-smaller-in-Continue-branch-2 : goal.loop-node_index-smaller-in-Continue-branch-2
-loop-node_index-smaller-in-Continue-branch-2 c =
-    let nodes = c.args.self in let t = subst IsTrie c.self.view_is c.self.invariant in
-    let l = c.loop-node_index in let x = c.in-Some.node_index in let ps = c.pop.new.self.items in
-    let o : Visits nodes l.nodes l.found.items l.visits (ps ++ x ∷ []) = rw c.in-Some.ensures.items at l.invariant in
-    let next = c.open-terminal.new.self in let e = c.open-terminal.ensures in
-    let n = visits-counts nodes l.nodes next l.found.items l.visits ps x t o e.long e.terminal_of_others e.steps_of_others _ c.open-terminal.new.visits e.visited (omega (arith, e.fits, o.long)) in
-    n.1
+loop-node_index-smaller-in-Continue-branch-2 c = (counted (goal.at.loop-node_index-smaller-in-Continue-branch-2 c).After-open-terminal).1
 
 pub loop-node_index-preserved-in-Continue-branch-2 : goal.loop-node_index-preserved-in-Continue-branch-2
 loop-node_index-preserved-in-Continue-branch-2 c =
-    let nodes = c.args.self in let t = subst IsTrie c.self.view_is c.self.invariant in
-    let l = c.loop-node_index in let x = c.in-Some.node_index in let ps = c.pop.new.self.items in
-    let o : Visits nodes l.nodes l.found.items l.visits (ps ++ x ∷ []) = rw c.in-Some.ensures.items at l.invariant in
-    let next = c.open-terminal.new.self in let e = c.open-terminal.ensures in
-    let n = visits-counts nodes l.nodes next l.found.items l.visits ps x t o e.long e.terminal_of_others e.steps_of_others _ c.open-terminal.new.visits e.visited (omega (arith, e.fits, o.long)) in
-    rw (c.in_ok-push-in-Some-terminal.ensures.items, n.0) (visited-terminal nodes l.nodes next l.found.items l.visits ps x t o e.long e.terminal_of_others e.steps_of_others c.in-Some-terminal.path (sym e.terminal ∙ c.in-Some-terminal.is))
+    let p = (goal.at.loop-node_index-preserved-in-Continue-branch-2 c).After-open-terminal in let l = c.loop-node_index in let e = c.open-terminal.ensures in
+    rw (c.in_ok-push-in-Some-terminal.ensures.items, (counted p).0)
+    (visited-terminal c.args.self l.nodes l.found.items l.visits c.pop.new.self.items c.in-Some.node_index (trie p) (popped p) c.open-terminal.new.self e.long e.others c.in-Some-terminal.path (sym e.terminal ∙ c.in-Some-terminal.is))
 
 pub loop-node_index-smaller : goal.loop-node_index-smaller
-loop-node_index-smaller c =
-    let nodes = c.args.self in let t = subst IsTrie c.self.view_is c.self.invariant in
-    let l = c.loop-node_index in let x = c.in-Some.node_index in let ps = c.pop.new.self.items in
-    let o : Visits nodes l.nodes l.found.items l.visits (ps ++ x ∷ []) = rw c.in-Some.ensures.items at l.invariant in
-    let next = c.open-terminal.new.self in let e = c.open-terminal.ensures in
-    let n = visits-counts nodes l.nodes next l.found.items l.visits ps x t o e.long e.terminal_of_others e.steps_of_others _ c.open-terminal.new.visits e.visited (omega (arith, e.fits, o.long)) in
-    n.1
+loop-node_index-smaller c = (counted (goal.at.loop-node_index-smaller c).After-open-terminal).1
 
 pub loop-node_index-preserved : goal.loop-node_index-preserved
 loop-node_index-preserved c =
-    let nodes = c.args.self in let t = subst IsTrie c.self.view_is c.self.invariant in
-    let l = c.loop-node_index in let x = c.in-Some.node_index in let ps = c.pop.new.self.items in
-    let o : Visits nodes l.nodes l.found.items l.visits (ps ++ x ∷ []) = rw c.in-Some.ensures.items at l.invariant in
-    let next = c.open-terminal.new.self in let e = c.open-terminal.ensures in
-    let n = visits-counts nodes l.nodes next l.found.items l.visits ps x t o e.long e.terminal_of_others e.steps_of_others _ c.open-terminal.new.visits e.visited (omega (arith, e.fits, o.long)) in
-    let g = c.in_ok-into_node_indices-in-None.ensures in
-    rw (g.ok, n.0) (visited-children nodes l.nodes next l.found.items l.visits ps x t o e.long e.terminal_of_others e.steps_of_others (nodes_by_step c.open-terminal.result.1) g.once e.steps (sym e.terminal ∙ c.in-None.is))
+    let p = (goal.at.loop-node_index-preserved c).After-open-terminal in let l = c.loop-node_index in let e = c.open-terminal.ensures in let g = c.in_ok-into_node_indices-in-None.ensures in
+    rw (g.ok, (counted p).0)
+    (visited-children c.args.self l.nodes l.found.items l.visits c.pop.new.self.items c.in-Some.node_index (trie p) (popped p) c.open-terminal.new.self e.long e.others (nodes_by_step c.open-terminal.result.1) g.once e.steps (sym e.terminal ∙ c.in-None.is))
+
+-- the loop's invariant with no node index left
+ended : (c : In_default) → Visits c.args.self c.loop-node_index.nodes c.loop-node_index.found.items c.loop-node_index.visits []
+ended c =
+    let h = MatchOption-at_none _ _ c.in_default.is c.pop.ensures.cases in let z : c.loop-node_index.node_indices.len ≡ 0 = h.0 in
+    let nil : c.loop-node_index.node_indices.items ≡ [] = nil_from_length c.loop-node_index.node_indices.items (omega arith) in
+    rw nil at c.loop-node_index.invariant
+
+count : (c : In_default) → IsCountOf (Begun (terminals c.args.self)) c.loop-node_index.visits
+count c = visited-count c.args.self c.loop-node_index.nodes c.loop-node_index.found.items c.loop-node_index.visits (subst IsTrie c.self.view_is c.self.invariant) (ended c)
+
+least : (c : In_default) → (p : List Field) → Contains c.loop-node_index.found.items p ↔ Least (terminals c.args.self) p
+least c = found-least c.args.self c.loop-node_index.nodes c.loop-node_index.found.items c.loop-node_index.visits (subst IsTrie c.self.view_is c.self.invariant) (ended c)
 
 pub returns-clause-least : goal.returns-clause-least
-returns-clause-least c =
-    let h = MatchOption-at_none _ _ c.in_default.is c.pop.ensures.cases in let z : c.loop-node_index.node_indices.len ≡ 0 = h.0 in
-    let nil : c.loop-node_index.node_indices.items ≡ [] = nil_from_length c.loop-node_index.node_indices.items (omega arith) in
-    let l = c.loop-node_index in let o : Visits c.args.self l.nodes l.found.items l.visits [] = rw nil at l.invariant in
-    cover_is l.found.items (terminals c.args.self) (visited-least c.args.self l.nodes l.found.items l.visits o)
+returns-clause-least c = cover_is c.loop-node_index.found.items (terminals c.args.self) (least (goal.at.returns-clause-least c).In_default)
 
 pub returns-clause-once : goal.returns-clause-once
-returns-clause-once c =
-    let h = MatchOption-at_none _ _ c.in_default.is c.pop.ensures.cases in let z : c.loop-node_index.node_indices.len ≡ 0 = h.0 in
-    let nil : c.loop-node_index.node_indices.items ≡ [] = nil_from_length c.loop-node_index.node_indices.items (omega arith) in
-    let l = c.loop-node_index in let o : Visits c.args.self l.nodes l.found.items l.visits [] = rw nil at l.invariant in
-    visited-once c.args.self l.nodes l.found.items l.visits o
+returns-clause-once c = (ended (goal.at.returns-clause-once c).In_default).once
 
 pub returns-clause-visits : goal.returns-clause-visits
-returns-clause-visits c =
-    let h = MatchOption-at_none _ _ c.in_default.is c.pop.ensures.cases in let z : c.loop-node_index.node_indices.len ≡ 0 = h.0 in
-    let nil : c.loop-node_index.node_indices.items ≡ [] = nil_from_length c.loop-node_index.node_indices.items (omega arith) in
-    let l = c.loop-node_index in let o : Visits c.args.self l.nodes l.found.items l.visits [] = rw nil at l.invariant in
-    begun_is (terminals c.args.self) l.visits (visited-count c.args.self l.nodes l.found.items l.visits o)
+returns-clause-visits c = begun_is (terminals c.args.self) c.loop-node_index.visits (count (goal.at.returns-clause-visits c).In_default)
 
 pub returns-clause-some : goal.returns-clause-some
-returns-clause-some c =
-    let h = MatchOption-at_none _ _ c.in_default.is c.pop.ensures.cases in let z : c.loop-node_index.node_indices.len ≡ 0 = h.0 in
-    let nil : c.loop-node_index.node_indices.items ≡ [] = nil_from_length c.loop-node_index.node_indices.items (omega arith) in
-    let l = c.loop-node_index in let o : Visits c.args.self l.nodes l.found.items l.visits [] = rw nil at l.invariant in
-    begun_some (terminals c.args.self) l.visits (visited-count c.args.self l.nodes l.found.items l.visits o)
+returns-clause-some c = begun_some (terminals c.args.self) c.loop-node_index.visits (count (goal.at.returns-clause-some c).In_default)
 
 pub returns-clause-root_alone : goal.returns-clause-root_alone
-returns-clause-root_alone c =
-    let h = MatchOption-at_none _ _ c.in_default.is c.pop.ensures.cases in let z : c.loop-node_index.node_indices.len ≡ 0 = h.0 in
-    let nil : c.loop-node_index.node_indices.items ≡ [] = nil_from_length c.loop-node_index.node_indices.items (omega arith) in
-    let l = c.loop-node_index in let o : Visits c.args.self l.nodes l.found.items l.visits [] = rw nil at l.invariant in
-    λ none. begun_none (terminals c.args.self) l.visits (none_listed (terminals c.args.self) none) (visited-count c.args.self l.nodes l.found.items l.visits o)
+returns-clause-root_alone c = λ none. begun_none (terminals c.args.self) c.loop-node_index.visits (none_listed (terminals c.args.self) none) (count (goal.at.returns-clause-root_alone c).In_default)
 
 pub returns-clause-at_most : goal.returns-clause-at_most
-returns-clause-at_most c =
-    let h = MatchOption-at_none _ _ c.in_default.is c.pop.ensures.cases in let z : c.loop-node_index.node_indices.len ≡ 0 = h.0 in
-    let nil : c.loop-node_index.node_indices.items ≡ [] = nil_from_length c.loop-node_index.node_indices.items (omega arith) in
-    let l = c.loop-node_index in let o : Visits c.args.self l.nodes l.found.items l.visits [] = rw nil at l.invariant in
-    begun_at_most (terminals c.args.self) l.found.items l.visits (visited-count c.args.self l.nodes l.found.items l.visits o) (λ p m. (visited-least c.args.self l.nodes l.found.items l.visits o p).1 m)
+returns-clause-at_most c = begun_at_most (terminals c.args.self) c.loop-node_index.found.items c.loop-node_index.visits (count (goal.at.returns-clause-at_most c).In_default) (λ p m. (least (goal.at.returns-clause-at_most c).In_default p).1 m)

@@ -4,19 +4,18 @@
 -- A list of nodes after a path is added to it.
 use Rattle.std.proofs.Common.{ℕ, suc, zero, ◌+◌, ◌-◌, ◌<◌, ◌≤◌, length, take, drop, get_or, subst, ◌≡◌, ◌&&◌, ◌==◌, cond, List, [], ◌∷◌, ◌++◌, Option, Some, None, inl, inr, refl, sym, ap, ◌∙◌, arith, ⊎_elim, length-append}
 use Rattle.std.specs.List.{slice_get}
-use Rattle.std.specs.Map.{lookup}
 use Rattle.std.proofs.lemmas.Bool.{cases_lt, and_from, and_parts}
 use Rattle.std.proofs.lemmas.Bool.Decides.{Decides-eqb}
 use Rattle.std.proofs.lemmas.List.{take_more}
-use Rattle.std.proofs.lemmas.Option.{same_Some, option_and_then_some, slice_get_within, slice_get_past, slice_get_read}
+use Rattle.std.proofs.lemmas.Option.{same_Some, option_and_then_some, slice_get_within, slice_get_past}
 use Rattle.dtype_paths.specs.lemmas.Cases.{by_bool}
-use Rattle.dtype_paths.specs.private.Children.{child, nodes_by_step}
+use Rattle.dtype_paths.specs.private.Children.{child}
 use Rattle.dtype_paths.specs.Equality.{same_field}
 use Rattle.dtype_paths.specs.EqualityLaws.{same_field-Decides}
 use Rattle.dtype_paths.specs.declared.field.Field.{Field}
 use Rattle.dtype_paths.specs.declared.node.Node.{Node}
 use Rattle.dtype_paths.specs.private.PathLists.{Gains}
-use Rattle.dtype_paths.specs.private.Trie.{child_at, terminal_at, terminals, chain_step, walk, IsAlike, IsChain, HasBranch, IsPrefixMatch, IsTrie, IsTrieBy}
+use Rattle.dtype_paths.specs.private.Trie.{chain, child_at, terminal_at, terminals, walk, IsAlike, HasBranch, IsPrefixMatch, IsTrie, IsTrieBy}
 use Rattle.dtype_paths.specs.declared.path_match.PrefixMatch.{PrefixMatch}
 use Rattle.dtype_paths.proofs.NodeIndices.{child-left, child-right, terminal-left, terminal-right, gains, split}
 use Rattle.dtype_paths.proofs.TrieGrowth.{Ends, Grows, Leads, trie-grown, trie-finish, trie-root, walk-mono}
@@ -30,73 +29,31 @@ take-step xs n x h e = take_more xs n x h ∙ ap (λ y. take n xs ++ y ∷ []) (
 pub take-after : (root : Node) (xs old : List Node) (i : ℕ) (x : Node) → root ∷ xs ≡ old → i < length xs → x ≡ get_or xs i x → take (i + 1 + 1) old ≡ take (i + 1) old ++ x ∷ []
 take-after root xs old i x is lt e = let one : i + 1 ≡ suc i = omega arith in rw (← is, one) (take-step (root ∷ xs) (suc i) x (omega (arith, lt)) e)
 
--- ---- a chain, node by node
+-- ---- a chain of nodes
 
-pub record Chained (rest : List Field) (first i : ℕ) (nodes : List Node) : Type 0 where
-  pub long : length nodes ≡ i
-  pub steps : (k : ℕ) (f : Field) → k < i → child_at nodes k f ≡ chain_step rest first k f
-  pub none : (k : ℕ) → terminal_at nodes k ≡ None
+length-chain : (path rest : List Field) (m : ℕ) → length (chain path m rest) ≡ length rest + 1
+length-chain path [] m = refl
+length-chain path (f ∷ rest) m = omega (arith, length-chain path rest (m + 1))
 
-end_past : (nodes : List Node) (k : ℕ) → length nodes ≤ k → terminal_at nodes k ≡ None
-end_past nodes k h = rw (slice_get_past nodes k h) refl
+chain-last : (path rest : List Field) (m : ℕ) → terminal_at (chain path m rest) (length rest) ≡ Some path
+chain-last path [] m = refl
+chain-last path (f ∷ rest) m = chain-last path rest (m + 1)
 
--- a node index in a list with one more node
-pub terminal-push : (nodes : List Node) (n : Node) (k : ℕ) → terminal_at nodes k ≡ None → n.terminal ≡ None → terminal_at (nodes ++ n ∷ []) k ≡ None
-terminal-push nodes n k h e =
-    ⊎_elim
-    (λ lt. terminal-left nodes (n ∷ []) k lt ∙ h)
-    (λ ge. ⊎_elim
-    (λ lt. let is : k ≡ length nodes + 0 = omega arith in rw is (terminal-right nodes (n ∷ []) 0 ∙ e))
-    (λ gt. end_past (nodes ++ n ∷ []) k (omega (arith, gt, length-append nodes (n ∷ []))))
-    (cases_lt k (length nodes + 1)))
-    (cases_lt k (length nodes))
+-- no path ends in it but at its last node
+chain-ends : (path rest : List Field) (m k : ℕ) (q : List Field) → terminal_at (chain path m rest) k ≡ Some q → (k ≡ length rest) × (q ≡ path)
+chain-ends path [] m zero q e = (refl, sym (same_Some path q e))
+chain-ends path [] m (suc k) q e = cc
+chain-ends path (f ∷ rest) m zero q e = cc
+chain-ends path (f ∷ rest) m (suc k) q e = let w = chain-ends path rest (m + 1) k q e in (ap suc w.0, w.1)
 
-pub chained-more : (rest : List Field) (first i : ℕ) (nodes : List Node) (n : Node) (x : Field) → Chained rest first i nodes → i < length rest → x ≡ get_or rest i x → n.terminal ≡ None → nodes_by_step n.children ≡ (x, first + i + 1) ∷ [] → Chained rest first (i + 1) (nodes ++ n ∷ [])
-chained-more rest first i nodes n x c lt is e up = record {
-  long = omega (arith, c.long, length-append nodes (n ∷ []));
-  steps = λ k f h.
-      ⊎_elim
-      (λ below. child-left nodes (n ∷ []) k f (omega (arith, c.long)) ∙ c.steps k f below)
-      (λ above.
-      let here : k ≡ i = omega (arith, h, above) in
-      let there : k ≡ length nodes + 0 = omega (arith, c.long, h, above) in
-      let one : child_at (nodes ++ n ∷ []) k f ≡ child n.children f = rw there (child-right nodes (n ∷ []) 0 f) in
-      let part : slice_get rest i ≡ Some x = slice_get_read rest (length rest) i x refl lt is in
-      one ∙ ap (lookup (same_field f)) up ∙ rw (here, part) refl)
-      (cases_lt k i);
-  none = λ k. terminal-push nodes n k (c.none k) e;
-}
-
-pub chained-terminal : (path rest : List Field) (first : ℕ) (nodes : List Node) (n : Node) → Chained rest first (length rest) nodes → n.terminal ≡ Some path → nodes_by_step n.children ≡ [] → IsChain path rest first (nodes ++ n ∷ [])
-chained-terminal path rest first nodes n c e up = record {
-  long = omega (arith, c.long, length-append nodes (n ∷ []));
-  steps = λ k f.
-      ⊎_elim
-      (λ below. child-left nodes (n ∷ []) k f (omega (arith, c.long)) ∙ c.steps k f below)
-      (λ above.
-      let past : chain_step rest first k f ≡ None = rw (slice_get_past rest k above) refl in
-      ⊎_elim
-      (λ lt.
-      let there : k ≡ length nodes + 0 = omega (arith, c.long) in
-      let one : child_at (nodes ++ n ∷ []) k f ≡ child n.children f = rw there (child-right nodes (n ∷ []) 0 f) in
-      one ∙ ap (lookup (same_field f)) up ∙ sym past)
-      (λ gt. let over : length (nodes ++ n ∷ []) ≤ k = omega (arith, gt, c.long, length-append nodes (n ∷ [])) in rw (slice_get_past (nodes ++ n ∷ []) k over) (sym past))
-      (cases_lt k (length rest + 1)))
-      (cases_lt k (length rest));
-  none = λ k lt. terminal-left nodes (n ∷ []) k (omega (arith, c.long)) ∙ c.none k;
-  last = let there : length rest ≡ length nodes + 0 = omega (arith, c.long) in rw there (terminal-right nodes (n ∷ []) 0 ∙ e);
-}
-
--- ---- where the steps of a chain lead
-
-pub leads-from : (child : ℕ → Field → Option ℕ) (m : ℕ) (r : List Field) → ((k : ℕ) (f : Field) → child (m + k) f ≡ chain_step r m k f) → Leads child m r
+chain-leads : (child : ℕ → Field → Option ℕ) (path rest : List Field) (m : ℕ) → ((k : ℕ) (f : Field) → child (m + k) f ≡ child_at (chain path m rest) k f) → Leads child m rest
 unfolding Leads
-leads-from child m [] h = λ f j e.
+chain-leads child path [] m h = λ f j e.
     let z : child (m + 0) f ≡ None = h 0 f in
     let is : m + 0 ≡ m = omega arith in
     let y = rw is at z in
     cc
-leads-from child m (x ∷ r) h =
+chain-leads child path (x ∷ rest) m h =
     let is : m + 0 ≡ m = omega arith in
     let at = λ (f : Field). rw is at (h 0 f) in (
       at x ∙ rw ((same_field-Decides x x).1 refl) refl,
@@ -104,7 +61,7 @@ leads-from child m (x ∷ r) h =
           by_bool (same_field f x)
           (λ s. let z = at f in let y = rw s at z in ((same_field-Decides f x).0 s, let q : Some (m + 1) ≡ Some j = sym y ∙ e in sym (same_Some (m + 1) j q)))
           (λ s. let z = at f in let y = rw s at z in let q : None ≡ Some j = sym y ∙ e in absurd (cc)),
-      leads-from child (m + 1) r (λ k f. let a : m + suc k ≡ (m + 1) + k = omega arith in rw a at (h (suc k) f)),
+      chain-leads child path rest (m + 1) (λ k f. let a : m + suc k ≡ (m + 1) + k = omega arith in rw a at (h (suc k) f)),
     )
 
 -- ---- the list after a path of which a prefix was there
@@ -113,46 +70,22 @@ module _ (old new : List Node) (path : List Field) (m : PrefixMatch) (trie : IsT
   abbrev here : ℕ
   here = m.here
 
-  abbrev at : ℕ
-  at = m.len
-
-  walked : walk (child_at old) 0 (take at path) ≡ Some here
-  walked = prefix.walked
-
-  abbrev pub rest : List Field
-  rest = drop (at + 1) path
+  abbrev rest : List Field
+  rest = drop (m.len + 1) path
 
   abbrev tail : List Node
-  tail = g.tail
+  tail = chain path (length old) rest
 
   abbrev x : Field
   x = g.step
-
-  part : slice_get path at ≡ Some g.step
-  part = g.first
-
-  chain : IsChain path rest (length old) g.tail
-  chain = g.chain
 
   stop : child_at old here g.step ≡ None
   stop =
       let is : prefix.step ≡ g.step = let q = sym prefix.next ∙ g.first in same_Some prefix.step g.step q in
       rw (← is) prefix.none
 
-  long : length new ≡ length old + length g.tail
-  long = g.long
-
-  steps : (i : ℕ) (f : Field) → child_at new i f ≡ cond (i == here && same_field g.step f) (Some (length old)) (child_at (old ++ g.tail) i f)
-  steps = g.steps
-
-  finish : (i : ℕ) → terminal_at new i ≡ terminal_at (old ++ g.tail) i
-  finish = g.terminals
-
   there : (i : ℕ) (f : Field) (j : ℕ) → child_at old i f ≡ Some j → i < length old
   there i f j e = option_and_then_some (λ n. child n.children f) (slice_get old i) j e (λ n s g. slice_get_within old i n s)
-
-  inside : here < length old
-  inside = trie.inside (take at path) here walked
 
   grows : Grows (child_at old) (child_at new) (length old) here x rest
   grows = record {
@@ -163,70 +96,57 @@ module _ (old new : List Node) (path : List Field) (m : PrefixMatch) (trie : IsT
         let p = and_parts (i == here) (same_field x f) b in
         let is : i ≡ here = (Decides-eqb i here).0 p.0 in let same : x ≡ f = (same_field-Decides x f).0 p.1 in
         let z = rw (is, ← same) at e in let q : None ≡ Some j = sym stop ∙ z in absurd (cc))
-        (λ b. steps i f ∙ rw b left);
+        (λ b. g.steps i f ∙ rw b left);
     joined =
         let b = and_from (here == here) (same_field x x) ((Decides-eqb here here).1 refl) ((same_field-Decides x x).1 refl) in
-        steps here x ∙ rw b refl;
+        g.steps here x ∙ rw b refl;
     only = λ i f j below e.
         by_bool (i == here && same_field x f)
         (λ b.
         let p = and_parts (i == here) (same_field x f) b in
-        let s = steps i f in let z = rw b at s in let q : Some (length old) ≡ Some j = sym z ∙ e in
+        let s = g.steps i f in let z = rw b at s in let q : Some (length old) ≡ Some j = sym z ∙ e in
         inr ((Decides-eqb i here).0 p.0, sym ((same_field-Decides x f).0 p.1), sym (same_Some (length old) j q)))
-        (λ b. let s = steps i f in let z = rw b at s in inl (sym (child-left old tail i f below) ∙ sym z ∙ e));
-    leads = leads-from (child_at new) (length old) rest (λ k f.
+        (λ b. let s = g.steps i f in let z = rw b at s in inl (sym (child-left old tail i f below) ∙ sym z ∙ e));
+    leads = chain-leads (child_at new) path rest (length old) (λ k f.
         by_bool (length old + k == here && same_field x f)
-        (λ b. let p = and_parts (length old + k == here) (same_field x f) b in let is = (Decides-eqb (length old + k) here).0 p.0 in let i = inside in absurd (omega arith))
-        (λ b. let s = steps (length old + k) f in let z = rw b at s in z ∙ child-right old tail k f ∙ chain.steps k f));
+        (λ b. let p = and_parts (length old + k == here) (same_field x f) b in let is = (Decides-eqb (length old + k) here).0 p.0 in let i = prefix.inside in absurd (omega arith))
+        (λ b. let s = g.steps (length old + k) f in let z = rw b at s in z ∙ child-right old tail k f));
   }
 
   new_ends : Ends (terminal_at old) (terminal_at new) (length old + length rest) path
   new_ends = record {
-    kept = λ i q e. finish i ∙ terminal-left old tail i (option_and_then_some (λ n. n.terminal) (slice_get old i) q e (λ n s g. slice_get_within old i n s)) ∙ e;
-    here = finish (length old + length rest) ∙ terminal-right old tail (length rest) ∙ chain.last;
+    kept = λ i q e. g.terminals i ∙ terminal-left old tail i (option_and_then_some (λ n. n.terminal) (slice_get old i) q e (λ n s g. slice_get_within old i n s)) ∙ e;
+    here = g.terminals (length old + length rest) ∙ terminal-right old tail (length rest) ∙ chain-last path rest (length old);
     only = λ i q e.
-        let f = sym (finish i) ∙ e in
+        let f = sym (g.terminals i) ∙ e in
         ⊎_elim
         (λ below. inl (sym (terminal-left old tail i below) ∙ f))
-        (λ above. inr (after i q above f))
+        (λ above.
+        let is : i ≡ length old + (i - length old) = omega arith in
+        let w = chain-ends path rest (length old) (i - length old) q (sym (terminal-right old tail (i - length old)) ∙ (rw is at f)) in
+        inr (omega (arith, above, w.0), w.1))
         (cases_lt i (length old));
   }
-    where
-      at_last : (k : ℕ) (q : List Field) → terminal_at tail k ≡ Some q → (k ≡ length rest) × (q ≡ path)
-      at_last k q e =
-          ⊎_elim
-          (λ low. let n = chain.none k low in let z : None ≡ Some q = sym n ∙ e in absurd (cc))
-          (λ high.
-          let l = chain.long in
-          let w : k < length tail = option_and_then_some (λ n. n.terminal) (slice_get tail k) q e (λ n s g. slice_get_within tail k n s) in
-          let is : k ≡ length rest = omega arith in
-          let z : terminal_at tail (length rest) ≡ Some q = rw is at e in
-          let y : Some q ≡ Some path = sym z ∙ chain.last in
-          (is, same_Some q path y))
-          (cases_lt k (length rest))
 
-      after : (i : ℕ) (q : List Field) → length old ≤ i → terminal_at (old ++ tail) i ≡ Some q → (i ≡ length old + length rest) × (q ≡ path)
-      after i q above e =
-          let k = gap_of i (length old) above in
-          let f : terminal_at tail k.0 ≡ Some q = sym (terminal-right old tail k.0) ∙ (rw k.1 at e) in
-          let w = at_last k.0 q f in
-          (k.1 ∙ ap (λ n. length old + n) w.0, w.1)
-        where
-          gap_of : (i m : ℕ) → m ≤ i → (k : ℕ) × (i ≡ m + k)
-          gap_of i m h = (i - m, omega arith)
-
-  parted : path ≡ take at path ++ x ∷ rest
-  parted = let s = split path at (slice_get_within path at prefix.step prefix.next) in let e : Some s.0 ≡ Some x = sym s.2 ∙ part in let is : s.0 ≡ x = same_Some s.0 x e in let one : suc at ≡ at + 1 = omega arith in s.3 ∙ rw (is, s.4, one) refl
+  parted : path ≡ take m.len path ++ x ∷ rest
+  parted =
+      let s = split path m.len (slice_get_within path m.len x g.first) in
+      let e : Some s.0 ≡ Some x = sym s.2 ∙ g.first in let is : s.0 ≡ x = same_Some s.0 x e in
+      let one : suc m.len ≡ m.len + 1 = omega arith in
+      s.3 ∙ rw (is, s.4, one) refl
 
   pub nodes-grown : IsTrie new
   nodes-grown =
-      trie-grown (child_at old) (child_at new) (terminal_at old) (terminal_at new) (length old) here (take at path) x rest trie walked stop grows (length new) (let l = chain.long in omega arith)
+      trie-grown (child_at old) (child_at new) (terminal_at old) (terminal_at new) (length old) here (take m.len path) x rest trie prefix.walked stop grows (length new) (omega (arith, g.long, length-append old tail, length-chain path rest (length old)))
       (subst (Ends (terminal_at old) (terminal_at new) (length old + length rest)) parted new_ends)
 
   pub grown-gains : Gains (terminals old) (path ∷ []) (terminals new)
   grown-gains = gains old new (length old + length rest) path new_ends
 
 -- ---- the root alone
+
+end_past : (nodes : List Node) (k : ℕ) → length nodes ≤ k → terminal_at nodes k ≡ None
+end_past nodes k h = rw (slice_get_past nodes k h) refl
 
 pub root-alone : (nodes : List Node) → length nodes ≡ 1 → terminal_at nodes 0 ≡ None → ((f : Field) → child_at nodes 0 f ≡ None) → IsTrie nodes
 root-alone nodes one terminal steps = subst (IsTrieBy (child_at nodes) (terminal_at nodes)) (sym one) (trie-root (child_at nodes) (terminal_at nodes) steps none)

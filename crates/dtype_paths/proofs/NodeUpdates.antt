@@ -2,9 +2,11 @@
 -- SPDX-FileCopyrightText: Copyright the Vortex contributors
 
 -- A list of nodes in which one is changed.
-use Rattle.std.proofs.Common.{ℕ, suc, zero, ◌≡◌, ◌≢◌, ◌∙◌, ◌==◌, ◌&&◌, cond, List, [], ◌∷◌, Option, Some, option_and_then, set, refl, ap}
+use Rattle.std.proofs.Common.{ℕ, suc, zero, ◌≡◌, ◌≢◌, ◌∙◌, ◌==◌, ◌&&◌, cond, List, [], ◌∷◌, Option, Some, option_and_then, set, refl, sym, ap}
 use Rattle.std.specs.List.{slice_get}
 use Rattle.std.proofs.lemmas.Bool.Decides.{Decides-eqb}
+use Rattle.std.proofs.lemmas.List.{set-get_or}
+use Rattle.std.proofs.lemmas.Option.{get_or_from_slice_get}
 use Rattle.dtype_paths.specs.private.Children.{child}
 use Rattle.dtype_paths.specs.Equality.{same_field}
 use Rattle.dtype_paths.specs.private.Trie.{child_at}
@@ -32,10 +34,9 @@ module _ {A B : Type 0} (f : A → Option B) where
       (λ e. let is : j ≡ i = (Decides-eqb j i).0 e in rw (e, is) (read-set_same xs i x y h))
       (λ e. let ne : j ≢ i = λ is. (let z = (Decides-eqb j i).1 is in cc) in rw e (read-set_other xs i j y ne))
 
-  -- the same where the new is read as the old
-  pub read-kept : (xs : List A) (i : ℕ) (x y : A) → slice_get xs i ≡ Some x → f y ≡ f x → (j : ℕ) → option_and_then f (slice_get (set xs i y) j) ≡ option_and_then f (slice_get xs j)
-  read-kept xs i x y h same j =
-      read-set xs i x y h j ∙ by_bool (j == i) (λ e. let is : j ≡ i = (Decides-eqb j i).0 e in rw (e, is, h) same) (λ e. rw e refl)
+-- the same element put again
+pub set-same : {A : Type 0} (xs : List A) (i : ℕ) (x : A) → slice_get xs i ≡ Some x → set xs i x ≡ xs
+set-same xs i x h = ap (set xs i) (sym (get_or_from_slice_get xs i x x h)) ∙ set-get_or xs i x
 
 -- a child is added to one node
 pub child-led : (xs : List Node) (i : ℕ) (m n : Node) (x : Field) (node_index : ℕ) → slice_get xs i ≡ Some m → ((f : Field) → child n.children f ≡ cond (same_field x f) (Some node_index) (child m.children f))

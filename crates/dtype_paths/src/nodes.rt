@@ -8,7 +8,7 @@ ghost use Rattle.dtype_paths.specs.private.Children.{child, nodes_by_step};
 ghost use Rattle.dtype_paths.specs.private.Lending.{LendsNode};
 ghost use Rattle.dtype_paths.specs.private.StepKeys.{IsKnownKey};
 ghost use Rattle.dtype_paths.specs.Equality.{same_field};
-ghost use Rattle.dtype_paths.specs.private.Trie.{child_at, terminal_at, terminals, IsAlike, IsChain, HasBranch, IsExtended, IsPrefixMatch};
+ghost use Rattle.dtype_paths.specs.private.Trie.{chain, child_at, terminal_at, terminals, IsAlike, HasBranch, IsPrefixMatch};
 ghost use Rattle.dtype_paths.specs.declared.field.Field.{Field};
 ghost use Rattle.dtype_paths.specs.declared.node.Node.{Node};
 
@@ -124,7 +124,7 @@ impl Nodes {
     ) -> VortexResult<()>
         requires { IsPrefixMatch self.old path prefix }
         ensures ok { OnOk result (HasBranch self.old prefix.here path prefix.len self.new) }
-        ensures err { OnErr result (IsExtended self.old self.new) }
+        ensures err { OnErr result (take (length self.old) self.new ≡ self.old) }
         ensures refused { IsOkUnless result OutOfMemory }
     {
         let step = path.parts()[prefix.len].try_clone(alloc)?;
@@ -137,8 +137,8 @@ impl Nodes {
     // terminal. After an error some of it may be there.
     fn push_chain(&mut self, alloc: Global, path: FieldPath, at: usize) -> VortexResult<()>
         requires { at ≤ length path }
-        ensures appended { (tail : List Node) × (self.new ≡ self.old ++ tail)
-            × OnOk result (IsChain path (drop at path) (length self.old) tail) }
+        ensures ok { OnOk result (self.new ≡ self.old ++ chain path (length self.old) (drop at path)) }
+        ensures kept { take (length self.old) self.new ≡ self.old }
         ensures refused { IsOkUnless result OutOfMemory }
     {
         let steps = &path.parts()[at..];
@@ -169,7 +169,7 @@ impl Nodes {
         ensures terminals { (i : ℕ) → terminal_at self.new i ≡ terminal_at self.old i }
         ensures ok { OnOk result ((i : ℕ) (f : Field) → child_at self.new i f
             ≡ (if i == here && same_field step f then Some node_index else child_at self.old i f)) }
-        ensures err { OnErr result ((i : ℕ) (f : Field) → child_at self.new i f ≡ child_at self.old i f) }
+        ensures err { OnErr result (self.new ≡ self.old) }
         ensures refused { IsOkUnless result OutOfMemory }
     {
         self.at_mut(here).add_child(alloc, step, key, node_index)

@@ -18,7 +18,7 @@ use Rattle.dtype_paths.specs.private.PathLists.{Gains}
 use Rattle.dtype_paths.specs.private.Trie.{chain, child_at, terminal_at, terminals, walk, IsAlike, HasBranch, IsPrefixMatch, IsTrie, IsTrieBy}
 use Rattle.dtype_paths.specs.declared.path_match.PrefixMatch.{PrefixMatch}
 use Rattle.dtype_paths.proofs.NodeIndices.{child-left, child-right, terminal-left, terminal-right, gains, split}
-use Rattle.dtype_paths.proofs.TrieGrowth.{Ends, Grows, Leads, trie-grown, trie-finish, trie-root, walk-mono}
+use Rattle.dtype_paths.proofs.TrieGrowth.{Ends, Grows, Leads, trie-grown, trie-finish, trie-root, trie-same}
 
 -- ---- parts of a list
 
@@ -158,18 +158,7 @@ root-alone nodes one terminal steps = subst (IsTrieBy (child_at nodes) (terminal
 -- ---- a list with the same nodes as another
 
 pub nodes-same : (old new : List Node) → IsTrie old → IsAlike old new → IsTrie new
-nodes-same old new t a = record {
-  inside = λ p i h. let b = t.inside p i (to 0 i p h) in omega (arith, a.long);
-  once = λ p q i h k. t.once p q i (to 0 i p h) (to 0 i q k);
-  own = λ i q e. back 0 i q (t.own i q (sym (a.terminals i) ∙ e));
-  used = λ p i h ne. let u = t.used p i (to 0 i p h) ne in (u.0, u.1, a.terminals u.0 ∙ u.2);
-}
-  where
-    to : (i j : ℕ) (p : List Field) → walk (child_at new) i p ≡ Some j → walk (child_at old) i p ≡ Some j
-    to i j p h = walk-mono (child_at new) (child_at old) (λ k f b e. sym (a.steps k f) ∙ e) i j p h
-
-    back : (i j : ℕ) (p : List Field) → walk (child_at old) i p ≡ Some j → walk (child_at new) i p ≡ Some j
-    back i j p h = walk-mono (child_at old) (child_at new) (λ k f b e. a.steps k f ∙ e) i j p h
+nodes-same old new t a = trie-same (child_at old) (child_at new) (terminal_at old) (terminal_at new) (length old) (length new) a.steps a.terminals a.long t
 
 -- ---- the list where the path ends in a node that is there
 
@@ -194,18 +183,6 @@ module _ (old new : List Node) (path : List Field) (here : ℕ) (trie : IsTrie o
   }
 
   pub nodes-finished : IsTrie new
-  nodes-finished = trie-steps (trie-finish (child_at old) (terminal_at old) (terminal_at new) (length old) here path trie walked terminals-finished)
-    where
-      to : (i j : ℕ) (p : List Field) → walk (child_at new) i p ≡ Some j → walk (child_at old) i p ≡ Some j
-      to i j p h = walk-mono (child_at new) (child_at old) (λ a f b e. sym (steps a f) ∙ e) i j p h
-
-      back : (i j : ℕ) (p : List Field) → walk (child_at old) i p ≡ Some j → walk (child_at new) i p ≡ Some j
-      back i j p h = walk-mono (child_at old) (child_at new) (λ a f b e. steps a f ∙ e) i j p h
-
-      trie-steps : IsTrieBy (child_at old) (terminal_at new) (length old) → IsTrie new
-      trie-steps t = record {
-        inside = λ p i h. let b = t.inside p i (to 0 i p h) in omega arith;
-        once = λ p q i h k. t.once p q i (to 0 i p h) (to 0 i q k);
-        own = λ i q e. back 0 i q (t.own i q e);
-        used = λ p i h ne. t.used p i (to 0 i p h) ne;
-      }
+  nodes-finished =
+      trie-same (child_at old) (child_at new) (terminal_at new) (terminal_at new) (length old) (length new) steps (λ i. refl) long
+      (trie-finish (child_at old) (terminal_at old) (terminal_at new) (length old) here path trie walked terminals-finished)

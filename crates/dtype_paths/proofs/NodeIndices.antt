@@ -2,14 +2,15 @@
 -- SPDX-FileCopyrightText: Copyright the Vortex contributors
 
 -- A list of nodes, by its indices.
-use Rattle.std.proofs.Common.{ℕ, suc, zero, ◌+◌, ◌<◌, length, take, drop, get_or, map, append-nil, is_some, Decides, ◌≡◌, ◌⊎◌, Bool, true, false, List, [], ◌∷◌, ◌++◌, Option, Some, None, option_and_then, inl, inr, refl, sym, ap, ◌∙◌, arith, ⊎_elim}
+use Rattle.std.proofs.Common.{ℕ, suc, zero, ◌+◌, ◌<◌, length, take, drop, get_or, map, append-nil, is_some, Decides, ◌≡◌, ◌⊎◌, Bool, false, List, [], ◌∷◌, ◌++◌, Option, Some, None, option_and_then, inl, inr, refl, sym, ap, ◌∙◌, arith, ⊎_elim}
 use Rattle.std.specs.List.{slice_get, Contains, IsDistinct, AllByRecursion, cons_option}
-use Rattle.std.proofs.lemmas.List.Elements.{filter_map-append, Contains-append_left, Contains-append_right, Contains-append_cases, Contains-push, Contains-push_cases}
+use Rattle.std.proofs.lemmas.List.Elements.{filter_map-append, Contains-push, Contains-push_cases}
 use Rattle.std.proofs.lemmas.List.{map-append}
 use Rattle.std.proofs.lemmas.Map.Keys.{IsDistinct-cons}
 use Rattle.std.proofs.lemmas.Option.{same_Some, slice_get_read, slice_get_within}
 use Rattle.dtype_paths.proofs.DistinctLists.{IsDistinct-nil}
-use Rattle.dtype_paths.specs.lemmas.Cases.{by_bool}
+use Rattle.dtype_paths.proofs.ListMembers.{contains-cons, contains-head, contains-nil, contains-tail}
+use Rattle.dtype_paths.specs.lemmas.Cases.{by_bool, by_option}
 use Rattle.dtype_paths.specs.private.Children.{child}
 use Rattle.dtype_paths.specs.Equality.{same_path}
 use Rattle.dtype_paths.specs.EqualityLaws.{same_path-Decides}
@@ -59,29 +60,19 @@ next-step nodes path m prefix x step is same =
 
 contains-has : (o : Option (List Field)) (ps : List (List Field)) (q : List Field) → Contains (cons_option o ps) q → (o ≡ Some q) ⊎ Contains ps q
 contains-has None ps q c = inr c
-contains-has (Some p) ps q c =
-    ⊎_elim
-    (λ a. ⊎_elim (λ b. inr (Contains-append_left [] ps q b)) (λ b. inl (ap Some b)) (Contains-push_cases [] p q a))
-    (λ b. inr b)
-    (Contains-append_cases (p ∷ []) ps q c)
-
-has-here : (o : Option (List Field)) (ps : List (List Field)) (q : List Field) → o ≡ Some q → Contains (cons_option o ps) q
-has-here o ps q e = rw e (Contains-append_left (q ∷ []) ps q (Contains-push [] q))
+contains-has (Some p) ps q c = ⊎_elim (λ e. inl (ap Some e)) inr (contains-cons p q ps c)
 
 has-later : (o : Option (List Field)) (ps : List (List Field)) (q : List Field) → Contains ps q → Contains (cons_option o ps) q
 has-later None ps q c = c
-has-later (Some p) ps q c = Contains-append_right (p ∷ []) ps q c
-
-no_member : (q : List Field) → Contains [] q → ⊥
-no_member q c = omega (arith, c.1)
+has-later (Some p) ps q c = contains-tail p q ps c
 
 pub terminal-of : (nodes : List Node) (q : List Field) → Contains (terminals nodes) q → (i : ℕ) × (terminal_at nodes i ≡ Some q)
-terminal-of [] q c = absurd (no_member q c)
+terminal-of [] q c = absurd (contains-nil q c)
 terminal-of (n ∷ ns) q c = ⊎_elim (λ e. (0, e)) (λ d. let w = terminal-of ns q d in (suc w.0, w.1)) (contains-has n.terminal (terminals ns) q c)
 
 pub of-terminal : (nodes : List Node) (i : ℕ) (q : List Field) → terminal_at nodes i ≡ Some q → Contains (terminals nodes) q
 of-terminal [] i q e = cc
-of-terminal (n ∷ ns) zero q e = has-here n.terminal (terminals ns) q e
+of-terminal (n ∷ ns) zero q e = rw e (contains-head q (terminals ns))
 of-terminal (n ∷ ns) (suc i) q e = has-later n.terminal (terminals ns) q (of-terminal ns i q e)
 
 pub gains : (old new : List Node) (node_index : ℕ) (path : List Field) → Ends (terminal_at old) (terminal_at new) node_index path → Gains (terminals old) (path ∷ []) (terminals new)
@@ -92,7 +83,7 @@ gains old new node_index path e = record {
         ⊎_elim (λ o. inr (of-terminal old w.0 q o)) (λ b. inl (rw b.1 (Contains-push [] path))) (e.only w.0 q w.1),
     λ c.
         ⊎_elim
-        (λ a. ⊎_elim (λ b. absurd (no_member q b)) (λ b. rw (← b) (of-terminal new node_index path e.here)) (Contains-push_cases [] path q a))
+        (λ a. ⊎_elim (λ b. absurd (contains-nil q b)) (λ b. rw (← b) (of-terminal new node_index path e.here)) (Contains-push_cases [] path q a))
         (λ a. let w = terminal-of old q a in of-terminal new w.0 q (e.kept w.0 q w.1))
         c,
   );
@@ -135,21 +126,14 @@ split (x ∷ p) (suc at) h = let w = split p at (omega (arith, h)) in (w.0, w.1,
 
 module _ (nodes : List Node) (path : List Field) (t : IsTrie nodes) where
   pub contains-whole : (here : ℕ) → walk (child_at nodes) 0 path ≡ Some here → (c : Bool) → c ≡ is_some (terminal_at nodes here) → Decides c (Contains (terminals nodes) path)
-  contains-whole here w c e = (to, from)
-    where
-      to : c ≡ true → Contains (terminals nodes) path
-      to h = go (terminal_at nodes here) refl
-        where
-          go : (o : Option (List Field)) → terminal_at nodes here ≡ o → Contains (terminals nodes) path
-          go None z = absurd (cc)
-          go (Some q) z = let is : q ≡ path = t.once q path here (t.own here q z) w in of-terminal nodes here path (z ∙ ap Some is)
-
-      from : Contains (terminals nodes) path → c ≡ true
-      from m =
-          let z = terminal-of nodes path m in
-          let same : z.0 ≡ here = let q = sym (t.own z.0 path z.1) ∙ w in same_Some z.0 here q in
-          let some : terminal_at nodes here ≡ Some path = ap (terminal_at nodes) (sym same) ∙ z.1 in
-          rw (e, some) refl
+  contains-whole here w c e = (
+    λ h. by_option (terminal_at nodes here) (λ z. let no = rw z at e in cc) (λ q z. of-terminal nodes here path (z ∙ ap Some (t.once q path here (t.own here q z) w))),
+    λ m.
+        let z = terminal-of nodes path m in
+        let same : z.0 ≡ here = let q = sym (t.own z.0 path z.1) ∙ w in same_Some z.0 here q in
+        let some : terminal_at nodes here ≡ Some path = ap (terminal_at nodes) (sym same) ∙ z.1 in
+        rw (e, some) refl,
+  )
 
   -- a path that leads to no node ends in none
   pub contains-no_more : (m : PrefixMatch) → IsPrefixMatch nodes path m → Contains (terminals nodes) path → ⊥

@@ -8,8 +8,10 @@ use Rattle.std.specs.FinSet as set
 use Rattle.std.specs.List.{Contains, list_any}
 use Rattle.std.proofs.Common.{ap, sym, ◌∙◌, ⊎_elim}
 use Rattle.std.proofs.Math.Bool.{or-false}
-use Rattle.std.proofs.lemmas.Bool.{or_cases, or_left, or_right}
+use Rattle.std.proofs.lemmas.Bool.{or_left, or_right}
 use Rattle.std.proofs.lemmas.Bool.Decides.{same_from_decides}
+use Rattle.std.specs.Ordering.{eq_by_cmp}
+use Rattle.std.proofs.lemmas.List.Folds.{list_any-append}
 use Rattle.std.proofs.lemmas.List.Elements.{Contains-append_cases, Contains-append_left, Contains-append_right}
 use Rattle.std.proofs.lemmas.Map.Made.{is_member-Decides}
 use Rattle.dtype_paths.specs.Equality.{same_path}
@@ -155,16 +157,9 @@ of_push ps p = set.from_list_push path_cmp_total same_tied ps p
 
 pub of_append : (ps qs : List (List Field)) → set.from_list {R = path_cmp} (ps ++ qs) ≡ set.union (set.from_list ps) (set.from_list qs)
 of_append ps qs = same_by _ _ (λ q.
-    same_from_decides _ _ (from_list-Decides (ps ++ qs) q) (
-      λ t. ⊎_elim
-          (λ a. Contains-append_left ps qs q ((from_list-Decides ps q).0 a))
-          (λ b. Contains-append_right ps qs q ((from_list-Decides qs q).0 b))
-          (or_cases (set.contains (set.from_list {R = path_cmp} ps) q) (set.contains (set.from_list {R = path_cmp} qs) q) (sym (contains_union _ _ q) ∙ t)),
-      λ c. contains_union _ _ q ∙ ⊎_elim
-          (λ a. or_left _ _ ((from_list-Decides ps q).1 a))
-          (λ b. or_right _ _ ((from_list-Decides qs q).1 b))
-          (Contains-append_cases ps qs q c),
-    ))
+    set.contains-from_list path_cmp_total (ps ++ qs) q
+    ∙ list_any-append (eq_by_cmp path_cmp q) ps qs
+    ∙ sym (contains_union _ _ q ∙ (λ i. set.contains-from_list path_cmp_total ps q i || set.contains-from_list path_cmp_total qs q i)))
 
 pub of_has : (ps : List (List Field)) (q : List Field) → Contains ps q → set.contains (set.from_list {R = path_cmp} ps) q ≡ true
 of_has ps q c = (from_list-Decides ps q).1 c

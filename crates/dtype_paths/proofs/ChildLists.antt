@@ -1,48 +1,67 @@
 -- SPDX-License-Identifier: Apache-2.0
 -- SPDX-FileCopyrightText: Copyright the Vortex contributors
 
--- A list of children with one more.
-use Rattle.std.proofs.Common.{◌≡◌, ◌∙◌, ℕ, false, cond, List, [], ◌∷◌, ◌++◌, Some, None, refl, arith}
+-- Lists of steps, each with the index of the node that it leads to: what is looked up in them, and one more.
+use Rattle.std.proofs.Common.{◌≡◌, ◌∙◌, ℕ, Bool, true, false, cond, List, [], ◌∷◌, ◌++◌, Option, Some, None, refl, arith}
 use Rattle.std.specs.List.{All, AllByRecursion, IsDistinct}
 use Rattle.std.specs.Map.{keys_of, lookup}
+use Rattle.std.specs.Option.{option_or}
 use Rattle.std.proofs.lemmas.List.{map-append}
 use Rattle.std.proofs.lemmas.List.Elements.{All-append, All-cons}
 use Rattle.std.proofs.lemmas.Map.Keys.{IsDistinct-cons, IsDistinct-head, IsDistinct-tail}
-use Rattle.std.proofs.lemmas.Map.Made.{IsDistinct-from_count}
 use Rattle.dtype_paths.specs.private.ChildLists.{entries, HasStepKey}
 use Rattle.dtype_paths.specs.Equality.{same_field}
-use Rattle.dtype_paths.specs.EqualityLaws.{same_field_equiv}
+use Rattle.dtype_paths.specs.EqualityLaws.{same_field-Decides, same_field_equiv}
 use Rattle.dtype_paths.specs.declared.child_list.Child.{Child}
 use Rattle.dtype_paths.specs.declared.field.Field.{Field}
-use Rattle.dtype_paths.specs.lemmas.Cases.{by_bool}
+use Rattle.dtype_paths.specs.lemmas.Cases.{by_bool, by_option}
+use Rattle.dtype_paths.proofs.DistinctLists.{IsDistinct-nil, IsDistinct-one}
+
+-- ---- what is looked up
+
+pub lookup-absent : {A B : Type 0} (test : A → _) (es : List (A × B)) → AllByRecursion (λ y. test y ≡ false) (keys_of es) → lookup test es ≡ None
+lookup-absent test [] h = refl
+lookup-absent test (e ∷ es) h = rw h.0 (lookup-absent test es h.1)
+
+pub over_none : {A : Type 0} (o : Option A) → option_or o None ≡ o
+over_none None = refl
+over_none (Some a) = refl
+
+pub lookup-append : {A B : Type 0} (test : A → Bool) (xs ys : List (A × B)) → lookup test (xs ++ ys) ≡ option_or (lookup test xs) (lookup test ys)
+lookup-append test [] ys = refl
+lookup-append test (x ∷ xs) ys = by_bool (test x.0) (λ e. rw e refl) (λ e. rw e (lookup-append test xs ys))
+
+pub absent-lookup : {A B : Type 0} (test : A → Bool) (es : List (A × B)) → lookup test es ≡ None → AllByRecursion (λ y. test y ≡ false) (keys_of es)
+absent-lookup test [] h = tt
+absent-lookup test (e ∷ es) h = by_bool (test e.0) (λ t. absurd (let z = rw t at h in cc)) (λ n. (n, absent-lookup test es (rw n at h)))
+
+-- no step is in both lists, and none twice in either
+pub distinct-append : (xs ys : List (Field × ℕ)) → IsDistinct same_field (keys_of xs) → IsDistinct same_field (keys_of ys) → ((f : Field) (i : ℕ) → lookup (same_field f) ys ≡ Some i → lookup (same_field f) xs ≡ None)
+    → IsDistinct same_field (keys_of (xs ++ ys))
+distinct-append [] ys dx dy disjoint = dy
+distinct-append (x ∷ xs) ys dx dy disjoint =
+    let none : lookup (same_field x.0) xs ≡ None = lookup-absent (same_field x.0) xs (IsDistinct-head same_field x.0 (keys_of xs) dx) in
+    let here : same_field x.0 x.0 ≡ true = same_field_equiv.refl x.0 in
+    let none_after : lookup (same_field x.0) ys ≡ None = by_option (lookup (same_field x.0) ys) (λ e. e) (λ i e. absurd (let z = rw here at (disjoint x.0 i e) in cc)) in
+    IsDistinct-cons same_field x.0 (keys_of (xs ++ ys))
+    (absent-lookup (same_field x.0) (xs ++ ys) (lookup-append (same_field x.0) xs ys ∙ (λ i. option_or (none i) (none_after i))))
+    (distinct-append xs ys (IsDistinct-tail same_field x.0 (keys_of xs) dx) dy (λ f i e.
+    by_bool (same_field f x.0) (λ t. absurd (let z = rw t at (disjoint f i e) in cc)) (λ n. rw n at (disjoint f i e))))
+
+-- ---- one more
 
 -- where a step leads that led nowhere before, and any other
 pub lookup-more : (es : List (Field × ℕ)) (k : Field) (v : ℕ) → lookup (same_field k) es ≡ None → (f : Field) → lookup (same_field f) (es ++ (k, v) ∷ []) ≡ cond (same_field k f) (Some v) (lookup (same_field f) es)
-lookup-more [] k v none f = rw (same_field_equiv.symm f k) refl
-lookup-more (e ∷ es) k v none f =
-    by_bool (same_field k e.0)
-    (λ y. absurd (let z = rw y at none in cc))
-    (λ n.
-    let rest = lookup-more es k v (rw n at none) f in
-    by_bool (same_field f e.0)
-    (λ y.
-    let q = same_field_equiv in let other : same_field k f ≡ false = q.symm k f ∙ q.congr f e.0 k y ∙ q.symm e.0 k ∙ n in
-    rw (y, other) refl)
-    (λ o. rw o rest))
-
-absent-more : (es : List (Field × ℕ)) (x k : Field) (v : ℕ) → AllByRecursion (λ y. same_field x y ≡ false) (keys_of es) → same_field x k ≡ false → AllByRecursion (λ y. same_field x y ≡ false) (keys_of (es ++ (k, v) ∷ []))
-absent-more [] x k v h e = (e, h)
-absent-more (d ∷ es) x k v h e = (h.0, absent-more es x k v h.1 e)
+lookup-more es k v none f =
+    lookup-append (same_field f) es ((k, v) ∷ [])
+    ∙ by_bool (same_field k f)
+    (λ y. let is : k ≡ f = (same_field-Decides k f).0 y in rw (← is, none, same_field_equiv.refl k) refl)
+    (λ n. let o : same_field f k ≡ false = same_field_equiv.symm f k ∙ n in rw (n, o) (over_none (lookup (same_field f) es)))
 
 -- steps that differ, and one more that isn't among them
 pub distinct-more : (es : List (Field × ℕ)) (k : Field) (v : ℕ) → lookup (same_field k) es ≡ None → IsDistinct same_field (keys_of es) → IsDistinct same_field (keys_of (es ++ (k, v) ∷ []))
-distinct-more [] k v none h = IsDistinct-cons same_field k [] _ h
-distinct-more (e ∷ es) k v none h =
-    by_bool (same_field k e.0)
-    (λ y. absurd (let z = rw y at none in cc))
-    (λ n.
-    let head = IsDistinct-head same_field e.0 (keys_of es) h in let tail = IsDistinct-tail same_field e.0 (keys_of es) h in
-    IsDistinct-cons same_field e.0 (keys_of (es ++ (k, v) ∷ [])) (absent-more es e.0 k v head (same_field_equiv.symm e.0 k ∙ n)) (distinct-more es k v (rw n at none) tail))
+distinct-more es k v none h = distinct-append es ((k, v) ∷ []) h (IsDistinct-one same_field k) (λ f i e.
+    by_bool (same_field f k) (λ y. rw ((same_field-Decides f k).0 y) none) (λ n. absurd (let z = rw n at e in cc)))
 
 -- the invariant of a list with a child more, whose step leads nowhere yet
 pub more-children : (cs : List Child) (c : Child) → (All HasStepKey cs) × IsDistinct same_field (keys_of (entries cs)) → HasStepKey c → lookup (same_field c.step) (entries cs) ≡ None
@@ -54,4 +73,4 @@ more-children cs c h k none =
 
 -- the invariant of the empty list
 pub no-children : (All HasStepKey []) × IsDistinct same_field (keys_of (entries []))
-no-children = (λ i d lt. absurd (omega (arith, lt)), IsDistinct-from_count same_field_equiv [] refl)
+no-children = (λ i d lt. absurd (omega (arith, lt)), IsDistinct-nil same_field)

@@ -2,17 +2,16 @@
 -- SPDX-FileCopyrightText: Copyright the Vortex contributors
 
 -- Many children in two maps: what is looked up in either, and that one more step keeps them so.
-use Rattle.std.proofs.Common.{ℕ, ◌≡◌, ◌∙◌, Bool, true, false, cond, Decides, Equal, List, [], ◌∷◌, ◌++◌, Option, Some, None, refl, sym, ap, subst}
-use Rattle.std.specs.BTreeMap.{BTreeMap, get, is_at, IsOrdered}
+use Rattle.std.proofs.Common.{ℕ, ◌≡◌, ◌∙◌, Bool, true, false, cond, Equal, List, [], ◌∷◌, Option, Some, None, refl, sym, ap, subst}
+use Rattle.std.specs.BTreeMap.{is_at}
 use Rattle.std.specs.Cmp.{Equal-is, tied_itself, nat_cmp_total}
 use Rattle.std.specs.FinSet.{nat_cmp-IsAntisymmetric}
-use Rattle.std.specs.List.{AllByRecursion, IsDistinct}
+use Rattle.std.specs.List.{IsDistinct}
 use Rattle.std.specs.List.Sorted.{IsStrictlySortedBy}
 use Rattle.std.specs.Map.{keys_of, lookup, values_of}
 use Rattle.std.specs.Option.{option_or}
-use Rattle.std.specs.Ordering.{eq_by_cmp, is_eq, nat_cmp}
+use Rattle.std.specs.Ordering.{eq_by_cmp, nat_cmp}
 use Rattle.std.proofs.lemmas.Map.Entries.{lookup_head, lookup_tail}
-use Rattle.std.proofs.lemmas.Map.Lookups.{btree_map_from_get}
 use Rattle.std.proofs.lemmas.Map.Keys.{IsDistinct-cons, IsDistinct-from_sorted, IsDistinct-head, IsDistinct-tail}
 use Rattle.dtype_paths.specs.private.ChildTrees.{at_key, led_by, steps_in, IsChildTree, IsFirst, IsTaken}
 use Rattle.dtype_paths.specs.Equality.{same_field}
@@ -21,9 +20,9 @@ use Rattle.dtype_paths.specs.PathOrder.{field_cmp}
 use Rattle.dtype_paths.specs.private.StepKeys.{step_key}
 use Rattle.dtype_paths.specs.declared.field.Field.{Field}
 use Rattle.dtype_paths.specs.lemmas.Cases.{by_bool, by_option}
-use Rattle.dtype_paths.specs.lemmas.PathOrders.{field_cmp_total, field_ties}
+use Rattle.dtype_paths.specs.lemmas.PathOrders.{field_ties}
 use Rattle.dtype_paths.proofs.DistinctLists.{IsDistinct-nil}
-use Rattle.dtype_paths.proofs.ChildCopies.{lookup-absent}
+use Rattle.dtype_paths.proofs.ChildLists.{absent-lookup, distinct-append, lookup-absent, lookup-append}
 
 -- ---- keys
 
@@ -32,42 +31,6 @@ same_key j k e = nat_cmp-IsAntisymmetric j k ((Equal-is (nat_cmp j k)).0 e)
 
 own_key : (j k : ℕ) → j ≡ k → is_at (nat_cmp j) k ≡ true
 own_key j k e = (Equal-is (nat_cmp j k)).1 (subst (λ x. nat_cmp j x ≡ Equal) e (tied_itself nat_cmp_total j))
-
-pub key-Decides : (j k : ℕ) → Decides (eq_by_cmp nat_cmp j k) (j ≡ k)
-key-Decides j k = (same_key j k, own_key j k)
-
-pub step-Decides : (f g : Field) → Decides (eq_by_cmp field_cmp f g) (f ≡ g)
-step-Decides f g = (λ e. (same_field-Decides f g).0 (field_ties f g ∙ e), λ e. sym (field_ties f g) ∙ (same_field-Decides f g).1 e)
-
--- maps in which each key leads to the same have the same entries
-pub same_keys : (m n : BTreeMap ℕ (Field × ℕ)) → IsOrdered nat_cmp m → IsOrdered nat_cmp n → ((k : ℕ) → get nat_cmp m k ≡ get nat_cmp n k) → m.entries ≡ n.entries
-same_keys m n om on same = btree_map_from_get nat_cmp_total m n om on same nat_cmp-IsAntisymmetric
-
-pub same_steps : (m n : BTreeMap Field ℕ) → IsOrdered field_cmp m → IsOrdered field_cmp n → ((f : Field) → get field_cmp m f ≡ get field_cmp n f) → m.entries ≡ n.entries
-same_steps m n om on same = btree_map_from_get field_cmp_total m n om on same (λ f g e. (step-Decides f g).0 (ap is_eq e))
-
--- ---- lookups in lists
-
-lookup-append : {A B : Type 0} (test : A → Bool) (xs ys : List (A × B)) → lookup test (xs ++ ys) ≡ option_or (lookup test xs) (lookup test ys)
-lookup-append test [] ys = refl
-lookup-append test (x ∷ xs) ys = by_bool (test x.0) (λ e. rw e refl) (λ e. rw e (lookup-append test xs ys))
-
-absent-lookup : {A B : Type 0} (test : A → Bool) (es : List (A × B)) → lookup test es ≡ None → AllByRecursion (λ y. test y ≡ false) (keys_of es)
-absent-lookup test [] h = tt
-absent-lookup test (e ∷ es) h = by_bool (test e.0) (λ t. absurd (let z = rw t at h in cc)) (λ n. (n, absent-lookup test es (rw n at h)))
-
--- no step is in both lists, and none twice in either
-distinct-append : (xs ys : List (Field × ℕ)) → IsDistinct same_field (keys_of xs) → IsDistinct same_field (keys_of ys) → ((f : Field) (i : ℕ) → lookup (same_field f) ys ≡ Some i → lookup (same_field f) xs ≡ None)
-    → IsDistinct same_field (keys_of (xs ++ ys))
-distinct-append [] ys dx dy disjoint = dy
-distinct-append (x ∷ xs) ys dx dy disjoint =
-    let none : lookup (same_field x.0) xs ≡ None = lookup-absent (same_field x.0) xs (IsDistinct-head same_field x.0 (keys_of xs) dx) in
-    let here : same_field x.0 x.0 ≡ true = same_field_equiv.refl x.0 in
-    let none_after : lookup (same_field x.0) ys ≡ None = by_option (lookup (same_field x.0) ys) (λ e. e) (λ i e. absurd (let z = rw here at (disjoint x.0 i e) in cc)) in
-    IsDistinct-cons same_field x.0 (keys_of (xs ++ ys))
-    (absent-lookup (same_field x.0) (xs ++ ys) (lookup-append (same_field x.0) xs ys ∙ (λ i. option_or (none i) (none_after i))))
-    (distinct-append xs ys (IsDistinct-tail same_field x.0 (keys_of xs) dx) dy (λ f i e.
-    by_bool (same_field f x.0) (λ t. absurd (let z = rw t at (disjoint f i e) in cc)) (λ n. rw n at (disjoint f i e))))
 
 -- ---- the steps at their keys
 

@@ -10,7 +10,6 @@ ghost use Rattle.dtype_base.specs.declared.vortex_error.VortexError.TheVariants.
 ghost use Rattle.dtype_paths.specs.private.ChildTrees.{at_key, led_by, IsFirst, IsTaken};
 ghost use Rattle.dtype_paths.specs.private.Children.{entry_node, HasKnownKey};
 ghost use Rattle.dtype_paths.specs.Equality.{same_field};
-ghost use Rattle.dtype_paths.specs.PathOrder.{field_cmp};
 ghost use Rattle.dtype_paths.specs.private.StepKeys.{step_key, IsKnownKey};
 ghost use Rattle.dtype_paths.specs.declared.field.Field.{Field};
 
@@ -101,12 +100,18 @@ impl ChildTree {
 
     // A copy: the same steps lead to the same nodes.
     pub(crate) fn try_clone(&self, alloc: Global) -> VortexResult<Self>
-        ensures { MatchResult result (λ t. t ≡ self.now) (λ e. e ≡ OutOfMemory) }
+        ensures { MatchResult result
+            (λ t. (f : Field) → lookup (same_field f) t ≡ lookup (same_field f) self.now)
+            (λ e. e ≡ OutOfMemory) }
     {
-        Ok(ChildTree {
-            by_key: copied_by_key(alloc, &self.by_key)?,
-            by_step: copied_by_step(alloc, &self.by_step)?,
-        })
+        let mut copy = ChildTree::new(alloc);
+        for (first, node_index) in self.by_key.values() {
+            copy.insert(first.try_clone(alloc)?, None, *node_index)?;
+        }
+        for (step, node_index) in self.by_step.iter() {
+            copy.insert(step.try_clone(alloc)?, None, *node_index)?;
+        }
+        Ok(copy)
     }
 }
 
@@ -175,34 +180,4 @@ fn push_values(by_step: &BTreeMap<Field, usize>, node_indices: &mut Vec<usize>) 
         node_indices.push(*node_index)?;
     }
     Ok(())
-}
-
-// A copy of the map by keys.
-fn copied_by_key(
-    alloc: Global,
-    by_key: &BTreeMap<u64, (Field, usize)>,
-) -> VortexResult<BTreeMap<u64, (Field, usize)>>
-    ensures ok { MatchResult result (λ m. m.entries ≡ by_key.now.entries) (λ e. e ≡ OutOfMemory) }
-    ensures ordered { IsOrdered nat_cmp by_key.now }
-{
-    let mut copy = BTreeMap::new(alloc);
-    for (key, first) in by_key.iter() {
-        put_at_key(&mut copy, *key, first.0.try_clone(alloc)?, first.1)?;
-    }
-    Ok(copy)
-}
-
-// A copy of the map by steps.
-fn copied_by_step(
-    alloc: Global,
-    by_step: &BTreeMap<Field, usize>,
-) -> VortexResult<BTreeMap<Field, usize>>
-    ensures ok { MatchResult result (λ m. m.entries ≡ by_step.now.entries) (λ e. e ≡ OutOfMemory) }
-    ensures ordered { IsOrdered field_cmp by_step.now }
-{
-    let mut copy = BTreeMap::new(alloc);
-    for (step, node_index) in by_step.iter() {
-        copy.insert(step.try_clone(alloc)?, *node_index)?;
-    }
-    Ok(copy)
 }

@@ -2,7 +2,7 @@
 -- SPDX-FileCopyrightText: Copyright the Vortex contributors
 
 -- Many children in two maps: what is looked up in either, and that one more step keeps them so.
-use Rattle.std.proofs.Common.{ℕ, ◌≡◌, ◌∙◌, Bool, true, false, cond, Equal, List, [], ◌∷◌, Option, Some, None, refl, sym, ap, subst}
+use Rattle.std.proofs.Common.{ℕ, ◌≡◌, ◌∙◌, true, false, cond, Equal, List, [], ◌∷◌, Option, Some, None, refl, sym, ap, subst}
 use Rattle.std.specs.BTreeMap.{is_at}
 use Rattle.std.specs.Cmp.{Equal-is, tied_itself, nat_cmp_total}
 use Rattle.std.specs.FinSet.{nat_cmp-IsAntisymmetric}
@@ -11,7 +11,7 @@ use Rattle.std.specs.List.Sorted.{IsStrictlySortedBy}
 use Rattle.std.specs.Map.{keys_of, lookup, values_of}
 use Rattle.std.specs.Option.{option_or}
 use Rattle.std.specs.Ordering.{eq_by_cmp, nat_cmp}
-use Rattle.std.proofs.lemmas.Map.Entries.{lookup_head, lookup_tail}
+use Rattle.std.proofs.lemmas.Map.Entries.{lookup_head}
 use Rattle.std.proofs.lemmas.Map.Keys.{IsDistinct-cons, IsDistinct-from_sorted, IsDistinct-head, IsDistinct-tail}
 use Rattle.dtype_paths.specs.private.ChildTrees.{at_key, led_by, steps_in, IsChildTree, IsFirst, IsTaken}
 use Rattle.dtype_paths.specs.Equality.{same_field}
@@ -54,20 +54,14 @@ keyed_head e es h = h e.0 e.1 (lookup_head (is_at (nat_cmp e.0)) e es (own_key e
 lookup-keyed : (es : List (ℕ × (Field × ℕ))) → IsDistinct (eq_by_cmp nat_cmp) (keys_of es) → AreKeyed es → (f : Field) → lookup (same_field f) (values_of es) ≡ led_by f (at_key es (step_key f))
 lookup-keyed [] d h f = refl
 lookup-keyed (e ∷ es) d h f =
-    let at : ℕ → Bool = is_at (nat_cmp (step_key f)) in
     let later : lookup (same_field f) (values_of es) ≡ led_by f (at_key es (step_key f)) = lookup-keyed es (IsDistinct-tail (eq_by_cmp nat_cmp) e.0 (keys_of es) d) (keyed_later e es d h) f in
     by_bool (same_field f e.1.0)
     (λ t.
     let key : step_key f ≡ e.0 = ap step_key ((same_field-Decides f e.1.0).0 t) ∙ keyed_head e es h in
-    lookup_head (same_field f) e.1 (values_of es) t
-    ∙ sym (ap (led_by f) (lookup_head at e es (own_key (step_key f) e.0 key)) ∙ ap (λ b. cond b (Some e.1.1) None) t))
-    (λ n.
-    by_bool (at e.0)
-    (λ t.
-    let none : at_key es (step_key f) ≡ None = none_later e es (step_key f) d t in
-    lookup_tail (same_field f) e.1 (values_of es) n ∙ later ∙ ap (led_by f) none
-    ∙ sym (ap (led_by f) (lookup_head at e es t) ∙ ap (λ b. cond b (Some e.1.1) None) n))
-    (λ o. lookup_tail (same_field f) e.1 (values_of es) n ∙ later ∙ sym (ap (led_by f) (lookup_tail at e es o))))
+    rw (own_key (step_key f) e.0 key, t) refl)
+    (λ n. by_bool (is_at (nat_cmp (step_key f)) e.0)
+    (λ t. rw (t, n) (later ∙ ap (led_by f) (none_later e es (step_key f) d t)))
+    (λ o. rw (o, n) later))
 
 distinct-keyed : (es : List (ℕ × (Field × ℕ))) → IsDistinct (eq_by_cmp nat_cmp) (keys_of es) → AreKeyed es → IsDistinct same_field (keys_of (values_of es))
 distinct-keyed [] d h = IsDistinct-nil same_field
@@ -132,18 +126,12 @@ module _ (by_key : List (ℕ × (Field × ℕ))) (by_step : List (Field × ℕ))
 
     pub led_more_by_step : (f : Field) → lookup (same_field f) (steps_in by_key new) ≡ cond (same_field x f) (Some node_index) (lookup (same_field f) (steps_in by_key by_step))
     led_more_by_step f =
-        let l : Option ℕ = led_by f (at_key by_key (step_key f)) in
-        let old : Option ℕ = lookup (same_field f) (steps_in by_key by_step) in
         leads by_key new more_by_step f
         ∙ by_bool (same_field x f)
         (λ y.
-        let is : x ≡ f = (same_field-Decides x f).0 y in
-        let none : l ≡ None = subst (λ g. led_by g (at_key by_key (step_key g)) ≡ None) is (taken_by by_key x taken) in
-        let here : lookup (same_field f) new ≡ Some node_index = put_same f ∙ ap (λ b. cond b (Some node_index) (lookup (same_field f) by_step)) y in
-        (λ i. option_or (none i) (here i)) ∙ sym (ap (λ b. cond b (Some node_index) old) y))
-        (λ n.
-        let same : lookup (same_field f) new ≡ lookup (same_field f) by_step = put_same f ∙ ap (λ b. cond b (Some node_index) (lookup (same_field f) by_step)) n in
-        ap (option_or l) same ∙ sym (leads by_key by_step t f) ∙ sym (ap (λ b. cond b (Some node_index) old) n))
+        let none : led_by f (at_key by_key (step_key f)) ≡ None = subst (λ g. led_by g (at_key by_key (step_key g)) ≡ None) ((same_field-Decides x f).0 y) (taken_by by_key x taken) in
+        rw (none, put_same f, y) refl)
+        (λ n. rw (put_same f, n) (sym (leads by_key by_step t f)))
 
   -- at its key, where no other step is
   module _ (new : List (ℕ × (Field × ℕ))) (free : IsFirst by_key x) (sorted : IsStrictlySortedBy nat_cmp (keys_of new))
@@ -166,7 +154,7 @@ module _ (by_key : List (ℕ × (Field × ℕ))) (by_step : List (Field × ℕ))
           by_bool (is_at (nat_cmp (step_key x)) k)
           (λ y.
           let is : Some (x, node_index) ≡ Some v = sym (put k ∙ rw y refl) ∙ e in
-          let first : x ≡ v.0 = ap (λ (o : Option (Field × ℕ)). elim o as (λ _. Field) [ None ↦ x | Some w ↦ w.0 ]) is in
+          let first : x ≡ v.0 = cc in
           ap step_key (sym first) ∙ same_key (step_key x) k y)
           (λ n. t.keyed k v (sym (put k ∙ rw n refl) ∙ e));
       taken = λ f i e.
@@ -178,20 +166,18 @@ module _ (by_key : List (ℕ × (Field × ℕ))) (by_step : List (Field × ℕ))
 
     led_new : (f : Field) → led_by f (at_key new (step_key f)) ≡ cond (same_field x f) (Some node_index) (led_by f (at_key by_key (step_key f)))
     led_new f =
-        let l : Option ℕ = led_by f (at_key by_key (step_key f)) in
-        let put_here : (b : Bool) → same_field x f ≡ b → led_by f (Some (x, node_index)) ≡ cond b (Some node_index) None = λ b e. ap (λ t. cond t (Some node_index) None) (same_field_equiv.symm f x ∙ e) in
         by_bool (same_field x f)
         (λ y.
-        let is : x ≡ f = (same_field-Decides x f).0 y in
-        ap (led_by f) (at_same f (own_key (step_key x) (step_key f) (ap step_key is))) ∙ put_here true y ∙ sym (ap (λ b. cond b (Some node_index) l) y))
+        let key = own_key (step_key x) (step_key f) (ap step_key ((same_field-Decides x f).0 y)) in
+        rw (at_same f key, same_field_equiv.symm f x, y) refl)
         (λ n.
         by_bool (is_at (nat_cmp (step_key x)) (step_key f))
         (λ y.
-        let none : l ≡ None = by_option (at_key by_key (step_key f)) (λ e. ap (led_by f) e) (λ v e.
+        let none : led_by f (at_key by_key (step_key f)) ≡ None = by_option (at_key by_key (step_key f)) (λ e. rw e refl) (λ v e.
         let other : same_field f v.0 ≡ false = sym (ap (same_field f) (was f v y e)) ∙ same_field_equiv.symm f x ∙ n in
-        ap (led_by f) e ∙ ap (λ b. cond b (Some v.1) None) other) in
-        ap (led_by f) (at_same f y) ∙ put_here false n ∙ sym none ∙ sym (ap (λ b. cond b (Some node_index) l) n))
-        (λ o. ap (led_by f) (at_other f o) ∙ sym (ap (λ b. cond b (Some node_index) l) n)))
+        rw (e, other) refl) in
+        rw (at_same f y, none, same_field_equiv.symm f x, n) refl)
+        (λ o. rw (at_other f o, n) refl))
 
     pub led_more_by_key : (f : Field) → lookup (same_field f) (steps_in new by_step) ≡ cond (same_field x f) (Some node_index) (lookup (same_field f) (steps_in by_key by_step))
     led_more_by_key f =

@@ -11,7 +11,7 @@ use Rattle.std.proofs.lemmas.List.{append_cancel_left, length-map, map-append}
 use Rattle.std.proofs.lemmas.Map.Made.{AllPairs-from_IsDistinct}
 use Rattle.std.proofs.lemmas.Map.Views.{lookup-from_Contains, Contains-from_lookup}
 use Rattle.std.proofs.lemmas.Option.{same_Some, option_and_then_some}
-use Rattle.dtype_paths.specs.lemmas.Beginnings.{beginning_refl, beginning_trans, beginning_both, either_begins}
+use Rattle.dtype_paths.specs.lemmas.Beginnings.{begins_nil, beginning_refl, beginning_trans, beginning_both, either_begins}
 use Rattle.dtype_paths.specs.lemmas.PathLists.{covers_member, least_covers}
 use Rattle.dtype_paths.specs.Beginning.{Beginning}
 use Rattle.dtype_base.specs.Distinct.{Distinct}
@@ -28,9 +28,6 @@ use Rattle.dtype_paths.proofs.NodeIndices.{terminal-of, of-terminal}
 use Rattle.dtype_paths.proofs.TrieGrowth.{walk-append, walk-front, walk-snoc}
 
 -- ---- paths with a last step
-
-begins_nil : (p : List Field) → Beginning p [] → p ≡ []
-begins_nil p b = beginning_both p [] b (p, refl)
 
 begins_snoc : (l s : List Field) (f : Field) → Beginning l (s ++ f ∷ []) → (l ≡ s ++ f ∷ []) ⊎ Beginning l s
 begins_snoc [] s f b = inr (s, refl)
@@ -81,7 +78,7 @@ module _ (nodes : List Node) (trie : IsTrie nodes) where
           let u = trie.used (f ∷ q) v.node v.at (λ z. let nil = trie.once (f ∷ q) [] v.node v.at (ap Some (sym z)) in cc) in
           let m = (f ∷ q) ++ u.1 in
           let l = least_covers (terminals nodes) m (covers_member (terminals nodes) m (of-terminal nodes u.0 m u.2)) in
-          inr (l.0, l.1, ⊎_elim (λ b. b) (λ b. subst (Beginning (f ∷ q)) (sym (v.alone l.0 l.1.member b)) (beginning_refl (f ∷ q))) (either_begins (f ∷ q) l.0 m (u.1, refl) l.2))
+          inr (l.0, l.1, ⊎_elim (λ b. b) (λ b. let is : l.0 ≡ f ∷ q = v.alone l.0 l.1.member b in subst (Beginning (f ∷ q)) (sym is) (beginning_refl (f ∷ q))) (either_begins (f ∷ q) l.0 m (u.1, refl) l.2))
 
       from : (p : List Field) × Least (terminals nodes) p × Beginning q p → IsVisited nodes q
       from h =

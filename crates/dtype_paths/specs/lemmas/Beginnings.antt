@@ -29,6 +29,9 @@ beginning_both p q a b =
     let none : length b.0 ≡ 0 = omega (arith, ap length a.1, ap length b.1, length-append p a.0, length-append q b.0) in
     b.1 ∙ ap (λ r. q ++ r) (nil_from_length b.0 none) ∙ append-nil q
 
+pub begins_nil : (p : List Field) → Beginning p [] → p ≡ []
+begins_nil p b = beginning_both p [] b (p, refl)
+
 -- a beginning that isn't the path itself is shorter
 pub beginning_shorter : (p q : List Field) → Beginning p q → same_path p q ≡ false → length p < length q
 beginning_shorter p q b other = go b.0 b.1

@@ -14,7 +14,7 @@ use Rattle.dtype_paths.specs.Equality.{same_field}
 use Rattle.dtype_paths.specs.EqualityLaws.{same_field-Decides}
 use Rattle.dtype_paths.specs.declared.field.Field.{Field}
 use Rattle.dtype_paths.specs.declared.node.Node.{Node}
-use Rattle.dtype_paths.specs.private.PathLists.{Gains}
+use Rattle.dtype_paths.specs.private.PathLists.{SameMembers}
 use Rattle.dtype_paths.specs.private.Trie.{chain, child_at, terminal_at, terminals, walk, IsAlike, HasBranch, IsPrefixMatch, IsTrie, IsTrieBy}
 use Rattle.dtype_paths.specs.declared.path_match.PrefixMatch.{PrefixMatch}
 use Rattle.dtype_paths.proofs.NodeIndices.{child-left, child-right, terminal-left, terminal-right, gains, split}
@@ -140,7 +140,7 @@ module _ (old new : List Node) (path : List Field) (m : PrefixMatch) (trie : IsT
       trie-grown (child_at old) (child_at new) (terminal_at old) (terminal_at new) (length old) here (take m.len path) x rest trie prefix.walked stop grows (length new) (omega (arith, g.long, length-append old tail, length-chain path rest (length old)))
       (subst (Ends (terminal_at old) (terminal_at new) (length old + length rest)) parted new_ends)
 
-  pub grown-gains : Gains (terminals old) (path ∷ []) (terminals new)
+  pub grown-gains : SameMembers (terminals new) (path ∷ terminals old)
   grown-gains = gains old new (length old + length rest) path new_ends
 
 -- ---- the root alone

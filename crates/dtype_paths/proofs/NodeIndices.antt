@@ -4,7 +4,7 @@
 -- A list of nodes, by its indices.
 use Rattle.std.proofs.Common.{ℕ, suc, zero, ◌+◌, ◌<◌, length, take, drop, get_or, map, append-nil, is_some, Decides, ◌≡◌, ◌⊎◌, Bool, false, List, [], ◌∷◌, ◌++◌, Option, Some, None, option_and_then, inl, inr, refl, sym, ap, ◌∙◌, arith, ⊎_elim}
 use Rattle.std.specs.List.{slice_get, Contains, IsDistinct, AllByRecursion, cons_option}
-use Rattle.std.proofs.lemmas.List.Elements.{filter_map-append, Contains-push, Contains-push_cases}
+use Rattle.std.proofs.lemmas.List.Elements.{filter_map-append}
 use Rattle.std.proofs.lemmas.List.{map-append}
 use Rattle.std.proofs.lemmas.Map.Keys.{IsDistinct-cons}
 use Rattle.std.proofs.lemmas.Option.{same_Some, slice_get_read, slice_get_within}
@@ -14,7 +14,7 @@ use Rattle.dtype_paths.specs.lemmas.Cases.{by_bool, by_option}
 use Rattle.dtype_paths.specs.private.Children.{child}
 use Rattle.dtype_paths.specs.Equality.{same_path}
 use Rattle.dtype_paths.specs.EqualityLaws.{same_path-Decides}
-use Rattle.dtype_paths.specs.private.PathLists.{Gains}
+use Rattle.dtype_paths.specs.private.PathLists.{SameMembers}
 use Rattle.dtype_paths.specs.declared.field.Field.{Field}
 use Rattle.dtype_paths.specs.declared.node.Node.{Node}
 use Rattle.dtype_paths.specs.private.Trie.{child_at, terminal_at, terminals, walk, IsPrefixMatch, IsTrie, IsTrieBy}
@@ -75,17 +75,17 @@ of-terminal [] i q e = cc
 of-terminal (n ∷ ns) zero q e = rw e (contains-head q (terminals ns))
 of-terminal (n ∷ ns) (suc i) q e = has-later n.terminal (terminals ns) q (of-terminal ns i q e)
 
-pub gains : (old new : List Node) (node_index : ℕ) (path : List Field) → Ends (terminal_at old) (terminal_at new) node_index path → Gains (terminals old) (path ∷ []) (terminals new)
+pub gains : (old new : List Node) (node_index : ℕ) (path : List Field) → Ends (terminal_at old) (terminal_at new) node_index path → SameMembers (terminals new) (path ∷ terminals old)
 gains old new node_index path e = record {
-  exact = λ q. (
+  same = λ q. (
     λ c.
         let w = terminal-of new q c in
-        ⊎_elim (λ o. inr (of-terminal old w.0 q o)) (λ b. inl (rw b.1 (Contains-push [] path))) (e.only w.0 q w.1),
+        ⊎_elim (λ o. contains-tail path q (terminals old) (of-terminal old w.0 q o)) (λ b. rw b.1 (contains-head path (terminals old))) (e.only w.0 q w.1),
     λ c.
         ⊎_elim
-        (λ a. ⊎_elim (λ b. absurd (contains-nil q b)) (λ b. rw (← b) (of-terminal new node_index path e.here)) (Contains-push_cases [] path q a))
+        (λ b. rw (← b) (of-terminal new node_index path e.here))
         (λ a. let w = terminal-of old q a in of-terminal new w.0 q (e.kept w.0 q w.1))
-        c,
+        (contains-cons path q (terminals old) c),
   );
 }
 

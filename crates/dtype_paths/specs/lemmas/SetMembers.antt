@@ -6,17 +6,16 @@ use Rattle.std.specs.Prelude.{◌≡◌, ◌≢◌, ◌↔◌, Bool, true, false
 use Rattle.std.specs.Bool.{Decides}
 use Rattle.std.specs.FinSet as set
 use Rattle.std.specs.List.{Contains, list_any}
-use Rattle.std.proofs.Common.{ap, sym, ◌∙◌, ⊎_elim}
+use Rattle.std.proofs.Common.{ap, sym, ◌∙◌}
 use Rattle.std.proofs.Math.Bool.{or-false}
 use Rattle.std.proofs.lemmas.Bool.{or_left, or_right}
 use Rattle.std.proofs.lemmas.Bool.Decides.{same_from_decides}
 use Rattle.std.specs.Ordering.{eq_by_cmp}
 use Rattle.std.proofs.lemmas.List.Folds.{list_any-append}
-use Rattle.std.proofs.lemmas.List.Elements.{Contains-append_cases, Contains-append_left, Contains-append_right}
 use Rattle.std.proofs.lemmas.Map.Made.{is_member-Decides}
 use Rattle.dtype_paths.specs.Equality.{same_path}
 use Rattle.dtype_paths.specs.EqualityLaws.{same_path-Decides}
-use Rattle.dtype_paths.specs.private.PathLists.{Gains, SameMembers}
+use Rattle.dtype_paths.specs.private.PathLists.{SameMembers}
 use Rattle.dtype_paths.specs.PathOrder.{PathSet, path_cmp}
 use Rattle.dtype_paths.specs.declared.field.Field.{Field}
 use Rattle.dtype_paths.specs.lemmas.Cases.{by_bool}
@@ -53,12 +52,9 @@ items_of_list ps = record {
   );
 }
 
--- what a list gains, its set has inserted
-pub inserted : (old new : List (List Field)) (p : List Field) → Gains old (p ∷ []) new → set.from_list {R = path_cmp} new ≡ set.insert (set.from_list old) p
-inserted old new p g = same_lists new (p ∷ old) (λ q. (
-  λ c. ⊎_elim (Contains-append_left (p ∷ []) old q) (Contains-append_right (p ∷ []) old q) ((g.exact q).0 c),
-  λ c. (g.exact q).1 (Contains-append_cases (p ∷ []) old q c),
-))
+-- a list with one path more has a set with it inserted
+pub inserted : (old new : List (List Field)) (p : List Field) → SameMembers new (p ∷ old) → set.from_list {R = path_cmp} new ≡ set.insert (set.from_list old) p
+inserted old new p s = same_lists new (p ∷ old) s.same
 
 pub same_by : (s t : PathSet) → ((q : List Field) → set.contains s q ≡ set.contains t q) → s ≡ t
 same_by = set.same_set path_cmp_total same_tied

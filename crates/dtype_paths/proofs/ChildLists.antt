@@ -36,7 +36,8 @@ absent-lookup test [] h = tt
 absent-lookup test (e ∷ es) h = by_bool (test e.0) (λ t. absurd (let z = rw t at h in cc)) (λ n. (n, absent-lookup test es (rw n at h)))
 
 -- no step is in both lists, and none twice in either
-pub distinct-append : (xs ys : List (Field × ℕ)) → IsDistinct same_field (keys_of xs) → IsDistinct same_field (keys_of ys) → ((f : Field) (i : ℕ) → lookup (same_field f) ys ≡ Some i → lookup (same_field f) xs ≡ None)
+pub distinct-append : (xs ys : List (Field × ℕ)) → IsDistinct same_field (keys_of xs) → IsDistinct same_field (keys_of ys)
+    → ((f : Field) (i : ℕ) → lookup (same_field f) ys ≡ Some i → lookup (same_field f) xs ≡ None)
     → IsDistinct same_field (keys_of (xs ++ ys))
 distinct-append [] ys dx dy disjoint = dy
 distinct-append (x ∷ xs) ys dx dy disjoint =

@@ -17,7 +17,8 @@ use Rattle.dtype_paths.specs.declared.child_list.Child.{Child}
 use Rattle.dtype_paths.specs.declared.field.Field.{Field}
 use Rattle.dtype_paths.proofs.StepKeys.{keys_differ, told}
 
-pub leads-by_key : (cs : List Child) (f : Field) (key : ℕ) → All HasStepKey cs → IsStepKey key f → IsDistinct same_field (keys_of (entries cs)) → IsExactKey f → (i : ℕ) (x : Child) → slice_get cs i ≡ Some x → x.key ≡ key
+pub leads-by_key : (cs : List Child) (f : Field) (key : ℕ) → All HasStepKey cs → IsStepKey key f → IsDistinct same_field (keys_of (entries cs)) → IsExactKey f
+    → (i : ℕ) (x : Child) → slice_get cs i ≡ Some x → x.key ≡ key
     → lookup (same_field f) (entries cs) ≡ Some x.node_index
 leads-by_key cs f key keyed k once exact i x e same =
     let entry : Child → Field × ℕ = λ c. (c.step, c.node_index) in

@@ -137,7 +137,8 @@ module _ (old new : List Node) (path : List Field) (m : PrefixMatch) (trie : IsT
 
   pub nodes-grown : IsTrie new
   nodes-grown =
-      trie-grown (child_at old) (child_at new) (terminal_at old) (terminal_at new) (length old) here (take m.len path) x rest trie prefix.walked stop grows (length new) (omega (arith, g.long, length-append old tail, length-chain path rest (length old)))
+      trie-grown (child_at old) (child_at new) (terminal_at old) (terminal_at new) (length old) here (take m.len path) x rest trie prefix.walked stop grows (length new)
+      (omega (arith, g.long, length-append old tail, length-chain path rest (length old)))
       (subst (Ends (terminal_at old) (terminal_at new) (length old + length rest)) parted new_ends)
 
   pub grown-gains : SameMembers (terminals new) (path ∷ terminals old)

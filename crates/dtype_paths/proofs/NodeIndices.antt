@@ -75,7 +75,8 @@ of-terminal [] i q e = cc
 of-terminal (n ∷ ns) zero q e = rw e (contains-head q (terminals ns))
 of-terminal (n ∷ ns) (suc i) q e = has-later n.terminal (terminals ns) q (of-terminal ns i q e)
 
-pub gains : (old new : List Node) (node_index : ℕ) (path : List Field) → Ends (terminal_at old) (terminal_at new) node_index path → SameMembers (terminals new) (path ∷ terminals old)
+pub gains : (old new : List Node) (node_index : ℕ) (path : List Field) → Ends (terminal_at old) (terminal_at new) node_index path
+    → SameMembers (terminals new) (path ∷ terminals old)
 gains old new node_index path e = record {
   same = λ q. (
     λ c.

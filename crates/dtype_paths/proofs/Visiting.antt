@@ -78,7 +78,8 @@ module _ (nodes : List Node) (trie : IsTrie nodes) where
           let u = trie.used (f ∷ q) v.node v.at (λ z. let nil = trie.once (f ∷ q) [] v.node v.at (ap Some (sym z)) in cc) in
           let m = (f ∷ q) ++ u.1 in
           let l = least_covers (terminals nodes) m (covers_member (terminals nodes) m (of-terminal nodes u.0 m u.2)) in
-          inr (l.0, l.1, ⊎_elim (λ b. b) (λ b. let is : l.0 ≡ f ∷ q = v.alone l.0 l.1.member b in subst (Beginning (f ∷ q)) (sym is) (beginning_refl (f ∷ q))) (either_begins (f ∷ q) l.0 m (u.1, refl) l.2))
+          inr (l.0, l.1, ⊎_elim (λ b. b) (λ b. let is : l.0 ≡ f ∷ q = v.alone l.0 l.1.member b in subst (Beginning (f ∷ q)) (sym is) (beginning_refl (f ∷ q)))
+          (either_begins (f ∷ q) l.0 m (u.1, refl) l.2))
 
       from : (p : List Field) × Least (terminals nodes) p × Beginning q p → IsVisited nodes q
       from h =
@@ -87,7 +88,8 @@ module _ (nodes : List Node) (trie : IsTrie nodes) where
           record { node = w.0; at = w.1; alone = λ l m b. beginning_both l q b (subst (Beginning q) (sym (h.1.first l m (beginning_trans l q h.0 b h.2))) h.2) }
 
   -- after a visited node where no path ends, each step leads to one
-  visited-child : (s : List Field) (f : Field) (j : ℕ) → IsVisited nodes s → (Contains (terminals nodes) s → ⊥) → walk (child_at nodes) 0 (s ++ f ∷ []) ≡ Some j → IsVisited nodes (s ++ f ∷ [])
+  visited-child : (s : List Field) (f : Field) (j : ℕ) → IsVisited nodes s → (Contains (terminals nodes) s → ⊥) → walk (child_at nodes) 0 (s ++ f ∷ []) ≡ Some j
+      → IsVisited nodes (s ++ f ∷ [])
   visited-child s f j v none at = record {
     node = j;
     at = at;
@@ -102,7 +104,8 @@ module _ (nodes : List Node) (trie : IsTrie nodes) where
       go : (rest : List Field) → q ≡ s ++ rest → (q ≡ s) ⊎ ((f : Field) × (j : ℕ) × (child_at nodes x f ≡ Some j) × Beginning (s ++ f ∷ []) q)
       go [] e = inl (e ∙ append-nil s)
       go (f ∷ t) e =
-          let on : walk (child_at nodes) x (f ∷ t) ≡ Some v.node = sym (walk-append (child_at nodes) 0 x s (f ∷ t) at) ∙ subst (λ p. walk (child_at nodes) 0 p ≡ Some v.node) e v.at in
+          let on : walk (child_at nodes) x (f ∷ t) ≡ Some v.node = sym (walk-append (child_at nodes) 0 x s (f ∷ t) at)
+              ∙ subst (λ p. walk (child_at nodes) 0 p ≡ Some v.node) e v.at in
           option_and_then_some (λ j. walk (child_at nodes) j t) (child_at nodes x f) v.node on (λ j k _. inr (f, j, k, (t, e ∙ sym (append_assoc s (f ∷ []) t))))
 
 -- ---- what has been visited, and what is still to be
@@ -138,7 +141,8 @@ visits-start nodes = record {
 }
 
 -- the last of what was mapped
-unsnoc : {A B C : Type 0} (f : A → C) (g : B → C) (ws : List A) (ys : List B) (y : B) → map f ws ≡ map g (ys ++ y ∷ []) → (vs : List A) × (v : A) × (ws ≡ vs ++ v ∷ []) × (map f vs ≡ map g ys) × (f v ≡ g y)
+unsnoc : {A B C : Type 0} (f : A → C) (g : B → C) (ws : List A) (ys : List B) (y : B) → map f ws ≡ map g (ys ++ y ∷ [])
+    → (vs : List A) × (v : A) × (ws ≡ vs ++ v ∷ []) × (map f vs ≡ map g ys) × (f v ≡ g y)
 unsnoc f g [] [] y e = absurd (cc)
 unsnoc f g [] (z ∷ ys) y e = absurd (cc)
 unsnoc f g (w ∷ []) [] y e = ([], w, refl, refl, cc)
@@ -191,7 +195,8 @@ module _ (nodes left : List Node) (found : List (List Field)) (visits : ℕ) (ps
   abbrev child_path : Field → List Field
   child_path f = s ++ f ∷ []
 
-  children_at : (es : List (Field × ℕ)) → ((e : Field × ℕ) → Contains es e → walk (child_at nodes) 0 (child_path e.0) ≡ Some e.1) → map (walk (child_at nodes) 0) (map child_path (keys_of es)) ≡ map Some (values_of es)
+  children_at : (es : List (Field × ℕ)) → ((e : Field × ℕ) → Contains es e → walk (child_at nodes) 0 (child_path e.0) ≡ Some e.1)
+      → map (walk (child_at nodes) 0) (map child_path (keys_of es)) ≡ map Some (values_of es)
   children_at [] h = refl
   children_at (e ∷ es) h = λ i. h e (contains-head e es) i ∷ children_at es (λ d c. h d (contains-tail e d es c)) i
 
@@ -200,16 +205,19 @@ module _ (nodes left : List Node) (found : List (List Field)) (visits : ℕ) (ps
     visit : (es : List (Field × ℕ)) (found' : List (List Field)) → IsDistinct same_field (keys_of es)
         → ((e : Field × ℕ) → Contains es e → (walk (child_at nodes) 0 (child_path e.0) ≡ Some e.1) × IsVisited nodes (child_path e.0))
         → ((q : List Field) → IsVisited nodes q → Beginning s q → (q ≡ s) ⊎ ((f : Field) × Contains (keys_of es) f × Beginning (child_path f) q))
-        → ((p : List Field) → Contains found' p ↔ (Contains (s ∷ o.done) p × Contains (terminals nodes) p)) → Distinct found' → Visits nodes next found' (visits + 1) (ps ++ values_of es)
+        → ((p : List Field) → Contains found' p ↔ (Contains (s ∷ o.done) p × Contains (terminals nodes) p)) → Distinct found'
+        → Visits nodes next found' (visits + 1) (ps ++ values_of es)
     visit es found' unique kids below exact once =
         let new = map child_path (keys_of es) in record {
           done = s ∷ o.done;
           waiting = ws ++ new;
           at = map-append (walk (child_at nodes) 0) ws new ∙ (λ i. last.3 i ++ children_at es (λ e c. (kids e c).0) i) ∙ sym (map-append Some ps (values_of es));
           distinct = distinct-insert ws new (s ∷ o.done) distinct
-              (distinct-map child_path (keys_of es) (AllPairs-from_IsDistinct same_field-Decides (keys_of es) unique) (λ f g _ _ e. let last = append_cancel_left s (f ∷ []) (g ∷ []) e in cc))
+              (distinct-map child_path (keys_of es) (AllPairs-from_IsDistinct same_field-Decides (keys_of es) unique)
+              (λ f g _ _ e. let last = append_cancel_left s (f ∷ []) (g ∷ []) e in cc))
               (λ t c d. let w = contains-map child_path (keys_of es) t c in is_new (parents s w.0 (subst (Contains (ws ++ s ∷ o.done)) (sym w.2) d)));
-          reached = λ t c. ⊎_elim (reached t) (λ k. let w = contains-map child_path (keys_of es) t k in subst (IsVisited nodes) w.2 (kid w.0 w.1)) (inserted_cases ws new (s ∷ o.done) t c);
+          reached = λ t c. ⊎_elim (reached t) (λ k. let w = contains-map child_path (keys_of es) t k in subst (IsVisited nodes) w.2 (kid w.0 w.1))
+              (inserted_cases ws new (s ∷ o.done) t c);
           parents = λ t f c.
               ⊎_elim
               (λ d. contains-tail s t o.done (parents t f d))
@@ -224,7 +232,8 @@ module _ (nodes left : List Node) (found : List (List Field)) (visits : ℕ) (ps
               (λ e.
               ⊎_elim
               (λ r. inl (subst (Contains (s ∷ o.done)) (sym r) (contains-head s o.done)))
-              (λ (k : (f : Field) × Contains (keys_of es) f × Beginning (child_path f) q). inr (child_path k.0, Contains-append_right ws new (child_path k.0) (contains-mapped child_path k.0 (keys_of es) k.1), k.2))
+              (λ (k : (f : Field) × Contains (keys_of es) f × Beginning (child_path f) q).
+              inr (child_path k.0, Contains-append_right ws new (child_path k.0) (contains-mapped child_path k.0 (keys_of es) k.1), k.2))
               (below q v (subst (λ t. Beginning t q) (sym e) h.2)))
               (Contains-push_cases ws s h.0 (subst (λ ts. Contains ts h.0) last.2 h.1)))
               (o.rest q v);
@@ -263,7 +272,8 @@ module _ (nodes left : List Node) (found : List (List Field)) (visits : ℕ) (ps
         (distinct-append found (s ∷ []) o.once (distinct-cons s [] (contains-nil s) (distinct-nil [] refl)) (λ y a c.
         ⊎_elim (λ e. is_new (subst (Contains o.done) (sym e) ((o.exact y).0 a).0)) (contains-nil y) (contains-cons s y [] c)))))
 
-    pub visited-children : (es : List (Field × ℕ)) → IsDistinct same_field (keys_of es) → ((f : Field) → lookup (same_field f) es ≡ child_at left x f) → terminal_at left x ≡ None → Visits nodes next found (visits + 1) (ps ++ values_of es)
+    pub visited-children : (es : List (Field × ℕ)) → IsDistinct same_field (keys_of es) → ((f : Field) → lookup (same_field f) es ≡ child_at left x f)
+        → terminal_at left x ≡ None → Visits nodes next found (visits + 1) (ps ++ values_of es)
     visited-children es unique steps is =
         visit es found unique
         (λ e c.

@@ -23,4 +23,5 @@ loop-first-preserved c =
 pub loop-step-preserved : goal.loop-step-preserved
 loop-step-preserved c =
     let so_far = rw c.in-Some-2.ensures.steps at c.loop-step.invariant in
-    copied-more c.next-in-loop-step.new.self c.loop-step.copy c.insert-in-loop-step.new.self c.args.self.now c.in-Some-2.step.now c.in-Some-2.node_index.now so_far (rw c.in_ok-try_clone-2.ensures at c.in_ok-insert-2.ensures.ok)
+    copied-more c.next-in-loop-step.new.self c.loop-step.copy c.insert-in-loop-step.new.self c.args.self.now c.in-Some-2.step.now c.in-Some-2.node_index.now so_far
+    (rw c.in_ok-try_clone-2.ensures at c.in_ok-insert-2.ensures.ok)

@@ -9,8 +9,10 @@ use Rattle.dtype_paths.proofs.nodes.Nodes.add_child.Goals as goal
 
 pub returns-clause-ok : goal.returns-clause-ok
 returns-clause-ok c =
-    on_ok_weaker c.add_child.result (λ u. child-led c.args.self.now c.args.here c.at_mut.result.now c.add_child.new.self c.args.step c.args.node_index c.at_mut.ensures.value u) c.add_child.ensures.ok
+    on_ok_weaker c.add_child.result (λ u. child-led c.args.self.now c.args.here c.at_mut.result.now c.add_child.new.self c.args.step c.args.node_index c.at_mut.ensures.value u)
+    c.add_child.ensures.ok
 
 pub returns-clause-err : goal.returns-clause-err
 returns-clause-err c =
-    on_err_weaker c.add_child.result (λ e. ap (slice_set c.args.self.now c.args.here) e ∙ set-same c.args.self.now c.args.here c.at_mut.result.now c.at_mut.ensures.value) c.add_child.ensures.err
+    on_err_weaker c.add_child.result (λ e. ap (slice_set c.args.self.now c.args.here) e
+    ∙ set-same c.args.self.now c.args.here c.at_mut.result.now c.at_mut.ensures.value) c.add_child.ensures.err

@@ -27,17 +27,20 @@ open-terminal-requires c =
     visits-within c.args.self l.nodes l.found.items l.visits ps x (subst IsTrie c.self.view_is c.self.invariant) o
 
 -- the loop's invariant with the node index that was taken
-popped : (c : After-open-terminal) → Visits c.args.self c.loop-node_index.nodes c.loop-node_index.found.items c.loop-node_index.visits (c.pop.new.self.items ++ c.in-Some.node_index ∷ [])
+popped : (c : After-open-terminal)
+    → Visits c.args.self c.loop-node_index.nodes c.loop-node_index.found.items c.loop-node_index.visits (c.pop.new.self.items ++ c.in-Some.node_index ∷ [])
 popped c = rw c.in-Some.ensures.items at c.loop-node_index.invariant
 
 trie : (c : After-open-terminal) → IsTrie c.args.self
 trie c = subst IsTrie c.self.view_is c.self.invariant
 
 -- the visit is counted
-counted : (c : After-open-terminal) → (c.open-terminal.new.visits ≡ c.loop-node_index.visits + 1) × (length c.args.self - c.open-terminal.new.visits < length c.args.self - c.loop-node_index.visits)
+counted : (c : After-open-terminal)
+    → (c.open-terminal.new.visits ≡ c.loop-node_index.visits + 1) × (length c.args.self - c.open-terminal.new.visits < length c.args.self - c.loop-node_index.visits)
 counted c =
     let l = c.loop-node_index in let o = popped c in let e = c.open-terminal.ensures in
-    visits-counts c.args.self l.nodes l.found.items l.visits c.pop.new.self.items c.in-Some.node_index (trie c) o _ c.open-terminal.new.visits e.visited (omega (arith, e.fits, o.long))
+    visits-counts c.args.self l.nodes l.found.items l.visits c.pop.new.self.items c.in-Some.node_index (trie c) o _ c.open-terminal.new.visits e.visited
+    (omega (arith, e.fits, o.long))
 
 pub loop-node_index-smaller-in-Continue-branch-2 : goal.loop-node_index-smaller-in-Continue-branch-2
 loop-node_index-smaller-in-Continue-branch-2 c = (counted (goal.at.loop-node_index-smaller-in-Continue-branch-2 c).After-open-terminal).1
@@ -46,16 +49,19 @@ pub loop-node_index-preserved-in-Continue-branch-2 : goal.loop-node_index-preser
 loop-node_index-preserved-in-Continue-branch-2 c =
     let p = (goal.at.loop-node_index-preserved-in-Continue-branch-2 c).After-open-terminal in let l = c.loop-node_index in let e = c.open-terminal.ensures in
     rw (c.in_ok-push-in-Some-terminal.ensures.items, (counted p).0)
-    (visited-terminal c.args.self l.nodes l.found.items l.visits c.pop.new.self.items c.in-Some.node_index (trie p) (popped p) c.open-terminal.new.self e.long e.others c.in-Some-terminal.path (sym e.terminal ∙ c.in-Some-terminal.is))
+    (visited-terminal c.args.self l.nodes l.found.items l.visits c.pop.new.self.items c.in-Some.node_index (trie p) (popped p) c.open-terminal.new.self e.long e.others
+    c.in-Some-terminal.path (sym e.terminal ∙ c.in-Some-terminal.is))
 
 pub loop-node_index-smaller : goal.loop-node_index-smaller
 loop-node_index-smaller c = (counted (goal.at.loop-node_index-smaller c).After-open-terminal).1
 
 pub loop-node_index-preserved : goal.loop-node_index-preserved
 loop-node_index-preserved c =
-    let p = (goal.at.loop-node_index-preserved c).After-open-terminal in let l = c.loop-node_index in let e = c.open-terminal.ensures in let g = c.in_ok-into_node_indices-in-None.ensures in
+    let p = (goal.at.loop-node_index-preserved c).After-open-terminal in
+    let l = c.loop-node_index in let e = c.open-terminal.ensures in let g = c.in_ok-into_node_indices-in-None.ensures in
     rw (g.ok, (counted p).0)
-    (visited-children c.args.self l.nodes l.found.items l.visits c.pop.new.self.items c.in-Some.node_index (trie p) (popped p) c.open-terminal.new.self e.long e.others (nodes_by_step c.open-terminal.result.1) g.once e.steps (sym e.terminal ∙ c.in-None.is))
+    (visited-children c.args.self l.nodes l.found.items l.visits c.pop.new.self.items c.in-Some.node_index (trie p) (popped p) c.open-terminal.new.self e.long e.others
+    (nodes_by_step c.open-terminal.result.1) g.once e.steps (sym e.terminal ∙ c.in-None.is))
 
 -- the loop's invariant with no node index left
 ended : (c : In_default) → Visits c.args.self c.loop-node_index.nodes c.loop-node_index.found.items c.loop-node_index.visits []
@@ -83,7 +89,10 @@ pub returns-clause-some : goal.returns-clause-some
 returns-clause-some c = begun_some (terminals c.args.self) c.loop-node_index.visits (count (goal.at.returns-clause-some c).In_default)
 
 pub returns-clause-root_alone : goal.returns-clause-root_alone
-returns-clause-root_alone c = λ none. begun_none (terminals c.args.self) c.loop-node_index.visits (none_listed (terminals c.args.self) none) (count (goal.at.returns-clause-root_alone c).In_default)
+returns-clause-root_alone c = λ none.
+    begun_none (terminals c.args.self) c.loop-node_index.visits (none_listed (terminals c.args.self) none) (count (goal.at.returns-clause-root_alone c).In_default)
 
 pub returns-clause-at_most : goal.returns-clause-at_most
-returns-clause-at_most c = begun_at_most (terminals c.args.self) c.loop-node_index.found.items c.loop-node_index.visits (count (goal.at.returns-clause-at_most c).In_default) (λ p m. (least (goal.at.returns-clause-at_most c).In_default p).1 m)
+returns-clause-at_most c =
+    begun_at_most (terminals c.args.self) c.loop-node_index.found.items c.loop-node_index.visits (count (goal.at.returns-clause-at_most c).In_default)
+    (λ p m. (least (goal.at.returns-clause-at_most c).In_default p).1 m)

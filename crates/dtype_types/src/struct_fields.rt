@@ -172,6 +172,7 @@ impl StructFields {
     /// What `find` returns, and how many names were compared for it. That number is the same for every name, found
     /// or not: one more than the binary digits of the number of fields less one, and 0 where there is no field. So it
     /// is at most one more than the binary digits of the number of fields. Doesn't allocate.
+    #[tactic(auto, using(crate::proofs::Parts::fields))]
     pub fn find_counted(&self, name: &str) -> (Option<usize>, u64)
         ensures first { result.0 ≡ first_place (field_names (children self.now)) name.now }
         ensures count { result.1 ≡ comparisons (length (children self.now)) }
@@ -316,6 +317,7 @@ impl StructFields {
     ///
     /// - `DuplicateNames` (18): a name is there twice, also within one of the two.
     /// - `OutOfMemory` (0): an allocation fails.
+    #[tactic(auto, using(crate::specs::lemmas::Validity::valid_joined))]
     pub fn disjoint_merge(&self, alloc: Global, other: &Self) -> VortexResult<Self>
         ensures fields { MatchResult result
             (λ s. children s ≡ children self.now ++ children other.now)

@@ -6,11 +6,8 @@ use Rattle.std.proofs.lemmas.Bool.{false≢true}
 use Rattle.dtype_base.specs.Distinct.{Distinct}
 use Rattle.std.specs.Map.{keys_of}
 use Rattle.dtype_types.specs.parts.Lookups.{field_names}
-use Rattle.dtype_types.specs.tree.Tree.{fields}
-use Rattle.dtype_types.specs.tree.TreeOf.{children, struct_pairs}
-use Rattle.dtype_types.specs.tree.Valid.{ValidFields}
+use Rattle.dtype_types.specs.tree.TreeOf.{struct_pairs}
 use Rattle.dtype_types.proofs.Parts.{names_shown}
-use Rattle.dtype_types.specs.lemmas.Validity.{valid_joined}
 use Rattle.dtype_types.proofs.struct_fields.StructFields.disjoint_merge.Goals as goal
 
 pub returns-then-not-are_distinct-clause-fields : goal.returns-then-not-are_distinct-clause-fields
@@ -25,6 +22,3 @@ pub returns-clause-distinct : goal.returns-clause-distinct
 returns-clause-distinct c = λ yes.
     let names = ap field_names (sym c.in_ok-merged.ensures) ∙ names_shown (struct_pairs c.in_ok-merged.merged) ∙ ap keys_of (sym c.deref.ensures) in
     subst (λ ns. Distinct ns) (sym names) (c.if-not-are_distinct.ensures.0 yes)
-
-pub returns-clause-valid : goal.returns-clause-valid
-returns-clause-valid c = λ h k. subst (λ ps. ValidFields (fields ps)) (sym c.in_ok-merged.ensures) (valid_joined (children c.args.self.now) (children c.args.other.now) h k)

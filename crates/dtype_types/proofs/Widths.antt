@@ -10,7 +10,7 @@ use Rattle.dtype_types.specs.tree.TreeOf.{tree, children, struct_dtypes, struct_
 use Rattle.dtype_types.specs.declared.dtype.DType.{DType}
 use Rattle.dtype_types.specs.declared.dtype.width.Width.{Width}
 use Rattle.dtype_types.specs.declared.struct_fields.StructFields.{StructFields}
-use Rattle.dtype_types.specs.tree.Width.{Fixed, FixedFields, width, total_width, Part, FieldPart, HasWidePart, Measures, MeasuresFields}
+use Rattle.dtype_types.specs.tree.Width.{Fixed, FixedFields, width, total_width, FieldPart, HasWidePart, Measures, MeasuresFields}
 use Rattle.dtype_types.proofs.Parts.{types_shown}
 
 abbrev Pairs : Type 0

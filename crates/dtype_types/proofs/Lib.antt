@@ -14,7 +14,6 @@ pub mod Texts
 pub mod PutTogether
 pub mod DistinctItems
 pub mod Feeding
-pub mod UnionLaws
 pub mod Widths
 pub mod Projected
 pub mod Selected

@@ -12,7 +12,7 @@ use Rattle.dtype_base.specs.declared.nullability.Nullability.TheVariants.{NonNul
 use Rattle.dtype_base.specs.declared.ptype.PType.{PType}
 use Rattle.dtype_types.specs.tree.Kinds.{kind, primitive_name, decimal_of, struct_fields, union_variants, map_parts, list_element, fixed_size_list_element, any_size_list_element}
 use Rattle.dtype_types.specs.nullability.Nullable.{set_null, SetNull}
-use Rattle.dtype_types.specs.tree.Tree.{Tree, null, bool, primitive, decimal, utf8, binary, list, fixed_size_list, map_of, struct, union, variant, extension}
+use Rattle.dtype_types.specs.tree.Tree.{Tree, null, fixed_size_list, extension}
 use Rattle.dtype_types.specs.declared.dtype.kinds.Kind.{Kind}
 
 -- a view of a type that doesn't depend on its outer nullability
@@ -57,22 +57,12 @@ as_held u t e = ap held (sym (same_Some u t e))
 held-set_null : IsKept held
 held-set_null null t NonNullable e = cc
 held-set_null null t Nullable e = as_held null t e
-held-set_null (bool m) t n e = as_held (bool n) t e
-held-set_null (primitive p m) t n e = as_held (primitive p n) t e
-held-set_null (decimal d m) t n e = as_held (decimal d n) t e
-held-set_null (utf8 m) t n e = as_held (utf8 n) t e
-held-set_null (binary m) t n e = as_held (binary n) t e
-held-set_null (list x m) t n e = as_held (list x n) t e
-held-set_null (fixed_size_list x k m) t n e = as_held (fixed_size_list x k n) t e
-held-set_null (map_of k v o m) t n e = as_held (map_of k v o n) t e
-held-set_null (struct fs m) t n e = as_held (struct fs n) t e
-held-set_null (union vs m) t n e = as_held (union vs n) t e
-held-set_null (variant m) t n e = as_held (variant n) t e
 held-set_null (extension i m s) t n e = go (set_null s n) e
   where
     go : (o : Option Tree) → option_and_then (λ x. Some (extension i m x)) o ≡ Some t → held t ≡ held (extension i m s)
     go None e' = cc
     go (Some x) e' = as_held (extension i m x) t e'
+held-set_null _ t n e = as_held _ t e
 
 pub kind_kept : IsKept kind
 kind_kept s t n e = ap (λ (h : Held). h.kind) (held-set_null s t n e)

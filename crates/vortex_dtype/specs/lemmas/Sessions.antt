@@ -11,7 +11,7 @@ use Rattle.std.proofs.lemmas.Slice.Eq.{bytes_eq-Decides}
 use Rattle.dtype_base.specs.declared.nullability.Nullability.{Nullability}
 use Rattle.dtype_base.specs.declared.nullability.Nullability.TheVariants.{NonNullable, Nullable}
 use Rattle.dtype_types.specs.tree.Kinds.{struct_fields}
-use Rattle.dtype_types.specs.tree.Tree.{Tree, Fields, fields, pairs, no_fields, field, Variants, no_variants, choice, null, bool, primitive, decimal, utf8, binary, list, fixed_size_list, map_of, struct, union, variant, extension}
+use Rattle.dtype_types.specs.tree.Tree.{Tree, Fields, fields, pairs, no_fields, field, Variants, no_variants, choice, null, list, fixed_size_list, map_of, struct, union, extension}
 use Rattle.dtype_types.specs.tree.Valid.{Valid}
 use Rattle.dtype_types.specs.nullability.Nullable.{set_null}
 use Rattle.vortex_dtype.specs.Meaning.{Rewrites, Meaning, Lawful, LawfulSession, Bytes, kept, keeps, empty_meaning, register_in, allow_unknown_in, Admits, AdmitsFields, AdmitsVariants}
@@ -89,17 +89,6 @@ same_by m t u e = let p = same_Some t u e in (λ a. subst (Admits m) p a, λ a. 
 pub admits-set_null : (m : Meaning) → LawfulSession m → (t u : Tree) (n : Nullability) → Valid t → set_null t n ≡ Some u → Admits m t ↔ Admits m u
 admits-set_null m h null u NonNullable v e = cc
 admits-set_null m h null u Nullable v e = same_by m null u e
-admits-set_null m h (bool k) u n v e = same_by m (bool n) u e
-admits-set_null m h (primitive p k) u n v e = same_by m (primitive p n) u e
-admits-set_null m h (decimal d k) u n v e = same_by m (decimal d n) u e
-admits-set_null m h (utf8 k) u n v e = same_by m (utf8 n) u e
-admits-set_null m h (binary k) u n v e = same_by m (binary n) u e
-admits-set_null m h (variant k) u n v e = same_by m (variant n) u e
-admits-set_null m h (list t k) u n v e = same_by m (list t n) u e
-admits-set_null m h (fixed_size_list t size k) u n v e = same_by m (fixed_size_list t size n) u e
-admits-set_null m h (map_of t w s k) u n v e = same_by m (map_of t w s n) u e
-admits-set_null m h (struct fs k) u n v e = same_by m (struct fs n) u e
-admits-set_null m h (union vs k) u n v e = same_by m (union vs n) u e
 admits-set_null m h (extension id b s) u n v e = go (set_null s n) (λ x is. admits-set_null m h s x n v.1 is) (λ x is. keeps_outer m h id b s x n v.0 v.1 is) refl e
   where
     go : (o : Option Tree) → ((x : Tree) → set_null s n ≡ Some x → Admits m s ↔ Admits m x) → ((x : Tree) → set_null s n ≡ Some x → keeps m id b x ≡ keeps m id b s) → set_null s n ≡ o → option_and_then (λ x. Some (extension id b x)) o ≡ Some u → Admits m (extension id b s) ↔ Admits m u
@@ -108,6 +97,7 @@ admits-set_null m h (extension id b s) u n v e = go (set_null s n) (λ x is. adm
         let p = same_by m (extension id b x) u e' in
         let k = ks x is in
         (λ a. p.0 (k ∙ a.0, (ih x is).0 a.1), λ a. let b' = p.1 a in (sym k ∙ b'.0, (ih x is).1 b'.1))
+admits-set_null m h _ u n v e = same_by m _ u e
 
 -- a session without plugins that keeps unknown ids admits every type
 kept_all : (m : Meaning) → ((id : List ℕ) → m.registered id ≡ None) → m.unknown ≡ true → (id b : List ℕ) (s : Tree) → keeps m id b s ≡ Some b
@@ -115,19 +105,13 @@ kept_all m none all id b s = ap (λ o. kept o m.unknown b s) (none id) ∙ ap (�
 
 mutual
   pub admits-all : (m : Meaning) → ((id : List ℕ) → m.registered id ≡ None) → m.unknown ≡ true → (t : Tree) → Admits m t
-  admits-all m none all null = tt
-  admits-all m none all (bool n) = tt
-  admits-all m none all (primitive p n) = tt
-  admits-all m none all (decimal d n) = tt
-  admits-all m none all (utf8 n) = tt
-  admits-all m none all (binary n) = tt
-  admits-all m none all (variant n) = tt
   admits-all m none all (list t n) = admits-all m none all t
   admits-all m none all (fixed_size_list t k n) = admits-all m none all t
   admits-all m none all (map_of t u o n) = (admits-all m none all t, admits-all m none all u)
   admits-all m none all (struct fs n) = admits-fields m none all fs
   admits-all m none all (union vs n) = admits-variants m none all vs
   admits-all m none all (extension id b s) = (kept_all m none all id b s, admits-all m none all s)
+  admits-all m none all _ = tt
 
   admits-fields : (m : Meaning) → ((id : List ℕ) → m.registered id ≡ None) → m.unknown ≡ true → (fs : Fields) → AdmitsFields m fs
   admits-fields m none all no_fields = tt

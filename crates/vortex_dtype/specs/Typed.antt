@@ -4,7 +4,7 @@
 -- What a vtable of a typed extension means, and its laws. From the documentation of `ExtVTable`: it reads
 -- metadata from bytes, writes it as bytes, and says which storage types it accepts.
 use Rattle.std.specs.Prelude.{◌≡◌, ℕ, List, Option, Some, None, Bool, true, false, if◌then◌else◌, option_and_then, refl}
-use Rattle.std.proofs.Common.{sym, ap, ◌∙◌, subst}
+use Rattle.std.proofs.lemmas.Option.{option_and_then_some}
 use Rattle.dtype_base.specs.declared.nullability.Nullability.{Nullability}
 use Rattle.dtype_types.specs.tree.Tree.{Tree}
 use Rattle.dtype_types.specs.tree.Valid.{Valid}
@@ -27,22 +27,10 @@ module _ {M : Type 0} (reads : List ℕ → Option M) (writes : M → Option (Li
   chosen true o c e = (refl, e)
   chosen false o c e = cc
 
-  then_some : (o : Option M) (s : Tree) (c : List ℕ) → option_and_then (λ m. if fits m s then writes m else None) o ≡ Some c → (m : M) × (o ≡ Some m) × (fits m s ≡ true) × (writes m ≡ Some c)
-  then_some None s c e = cc
-  then_some (Some m) s c e = let k = chosen (fits m s) (writes m) c e in (m, refl, k.0, k.1)
-
-  at_some : (m : M) (o : Option M) (s : Tree) (c : List ℕ) → o ≡ Some m → fits m s ≡ true → writes m ≡ Some c → option_and_then (λ m. if fits m s then writes m else None) o ≡ Some c
-  at_some m o s c is f w = subst (λ (x : Option M). option_and_then (λ m. if fits m s then writes m else None) x ≡ Some c) (sym is) (ap (λ (x : Bool). if x then writes m else None) f ∙ w)
-
-  outer_same : (o : Option M) (s t : Tree) → ((m : M) → fits m t ≡ fits m s) → option_and_then (λ m. if fits m t then writes m else None) o ≡ option_and_then (λ m. if fits m s then writes m else None) o
-  outer_same None s t h = refl
-  outer_same (Some m) s t h = ap (λ (x : Bool). if x then writes m else None) (h m)
-
   -- every vtable is a lawful plugin
   pub typed_laws : Lawful (rewritten reads writes fits)
   typed_laws = record {
-    again = λ b c s bs v e.
-        let k = then_some (reads b) s c e in
-        (laws.as_bytes b k.0 c bs k.1 k.3, at_some k.0 (reads c) s c (laws.read_back k.0 c k.3) k.2 k.3);
-    outer = λ b s t n bs v e. outer_same (reads b) s t (λ m. laws.outer m s t n v e);
+    again = λ b c s bs v e. option_and_then_some (λ m. if fits m s then writes m else None) (reads b) c e
+        (λ m is w. let k = chosen (fits m s) (writes m) c w in (laws.as_bytes b m c bs is k.1, rw (laws.read_back m c k.1) w));
+    outer = λ b s t n bs v e. let same = λ (m : M). laws.outer m s t n v e in simp same;
   }

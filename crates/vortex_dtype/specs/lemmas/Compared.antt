@@ -2,7 +2,7 @@
 -- SPDX-FileCopyrightText: Copyright the Vortex contributors
 
 -- How many names a lookup compares, as a number: of at most 1,000 names 11, since 1,000 is at most the tenth power of two.
-use Rattle.std.proofs.Common.{◌≡◌, ◌∙◌, ◌≤◌, ◌<◌, ◌-◌, ◌^◌, ℕ, zero, suc, true, ltb, ap, sym, arith}
+use Rattle.std.proofs.Common.{◌≡◌, ◌∙◌, ◌≤◌, ◌-◌, ◌^◌, ℕ, zero, suc, true, ltb, ap, sym, arith}
 use Rattle.std.proofs.lemmas.Bool.{ltb-true}
 use Rattle.dtype_base.specs.lemmas.BinaryDigits.{digits_fewest}
 use Rattle.dtype_base.specs.Comparisons.{comparisons}

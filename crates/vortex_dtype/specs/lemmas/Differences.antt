@@ -2,8 +2,9 @@
 -- SPDX-FileCopyrightText: Copyright the Vortex contributors
 
 -- `!=` of types, of their parts and of messages, and `==` of borrowed types that may be missing.
-use Rattle.std.proofs.Common.{◌≡◌, ◌≢◌, Bool, true, false, not, Decides, Option, Some, None, Bor, refl, ap}
+use Rattle.std.proofs.Common.{◌≡◌, ◌≢◌, not, Decides, Option, Some, None, Bor, refl, ap}
 use Rattle.std.proofs.lemmas.Bool.{false≢true}
+use Rattle.std.proofs.lemmas.Bool.Decides.{Decides-not}
 use Rattle.std.proofs.lemmas.Option.{same_Some}
 use Rattle.std.specs.Option.{option_eq}
 use Rattle.dtype_messages.specs.MessageOf.{message}
@@ -27,41 +28,36 @@ use Rattle.dtype_types.specs.declared.union_variants.UnionVariants.{UnionVariant
 use Rattle.dtype_types.specs.lemmas.Equality.{structs_Decides, unions_Decides, maps_Decides, extensions_Decides, field_types_Decides}
 use Rattle.dtype_types.specs.lemmas.EqualityLaws.{equal_under-Decides}
 
--- the negation of a test
-differ : {P : Type 0} (b : Bool) → Decides b P → Decides (not b) (P → ⊥)
-differ true d = (λ e. absurd (false≢true e), λ n. absurd (n (d.0 refl)))
-differ false d = (λ e p. false≢true (d.1 p), λ n. refl)
-
 -- ---- types and their parts
 
 pub types_differ : (a b : DType) → Decides (not (same_dtype a b)) (tree a ≢ tree b)
-types_differ a b = differ (same_dtype a b) (equal_under-Decides (tree a) (tree b))
+types_differ a b = Decides-not (same_dtype a b) (equal_under-Decides (tree a) (tree b))
 
 pub structs_differ : (a b : StructFields) → Decides (not (same_struct a b)) (children a ≢ children b)
-structs_differ a b = differ (same_struct a b) (structs_Decides a b)
+structs_differ a b = Decides-not (same_struct a b) (structs_Decides a b)
 
 pub unions_differ : (a b : UnionVariants) → Decides (not (same_union a b)) (variant_list a ≢ variant_list b)
-unions_differ a b = differ (same_union a b) (unions_Decides a b)
+unions_differ a b = Decides-not (same_union a b) (unions_Decides a b)
 
 pub maps_differ : (a b : MapDType) → Decides (not (same_map a b)) (map_shown a ≢ map_shown b)
-maps_differ a b = differ (same_map a b) (maps_Decides a b)
+maps_differ a b = Decides-not (same_map a b) (maps_Decides a b)
 
 pub extensions_differ : (a b : ExtDTypeRef) → Decides (not (same_extension a b)) (extension_tree a ≢ extension_tree b)
-extensions_differ a b = differ (same_extension a b) (extensions_Decides a b)
+extensions_differ a b = Decides-not (same_extension a b) (extensions_Decides a b)
 
 pub field_types_differ : (a b : FieldDType) → Decides (not (same_field_dtype a b)) (field_tree a ≢ field_tree b)
-field_types_differ a b = differ (same_field_dtype a b) (field_types_Decides a b)
+field_types_differ a b = Decides-not (same_field_dtype a b) (field_types_Decides a b)
 
 -- ---- messages
 
 pub messages_differ : (a b : TypeMessage) → Decides (not (message_eq.ghosts.eq a b)) (message a ≢ message b)
-messages_differ a b = differ (message_eq.ghosts.eq a b) (dtype_Decides a b)
+messages_differ a b = Decides-not (message_eq.ghosts.eq a b) (dtype_Decides a b)
 
 pub path_messages_differ : (a b : PathMessage) → Decides (not (path_eq.ghosts.eq a b)) (part_names a ≢ part_names b)
-path_messages_differ a b = differ (path_eq.ghosts.eq a b) (path_Decides a b)
+path_messages_differ a b = Decides-not (path_eq.ghosts.eq a b) (path_Decides a b)
 
 pub parts_differ : (a b : PathPart) → Decides (not (part_eq.ghosts.eq a b)) (part_name a ≢ part_name b)
-parts_differ a b = differ (part_eq.ghosts.eq a b) (part_Decides a b)
+parts_differ a b = Decides-not (part_eq.ghosts.eq a b) (part_Decides a b)
 
 -- ---- borrowed types that may be missing
 

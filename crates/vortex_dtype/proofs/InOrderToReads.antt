@@ -16,8 +16,8 @@ use Rattle.vortex_dtype.specs.IsMessage.{IsMessage}
 use Rattle.vortex_dtype.specs.Reads.{Fault, Reads, ReadsAsNothing}
 use Rattle.vortex_dtype.specs.ReadInOrder.{read, Gives}
 use Rattle.vortex_dtype.specs.Written.{written}
-use Rattle.vortex_dtype.specs.lemmas.Reads.{fault_none, reads_accepted, reads_once, written_reads}
-use Rattle.vortex_dtype.specs.lemmas.InOrder.{read_fault, read_reads, refused_faulty}
+use Rattle.vortex_dtype.specs.lemmas.InOrder.{read_fault, read_reads, reads_once}
+use Rattle.vortex_dtype.specs.lemmas.Reads.{fault_none, reads_accepted, refused_faulty, written_reads}
 
 pub gives_in_order : (s : Meaning) (m : Message) (r : Result DType VortexError) → Gives tree r (read s m) → MatchResult r (λ t. read s m ≡ Ok (tree t)) (λ e. (e ≡ OutOfMemory) ⊎ (read s m ≡ Err e))
 gives_in_order s m (Ok d) g = g

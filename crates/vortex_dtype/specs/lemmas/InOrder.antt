@@ -1,406 +1,259 @@
 -- SPDX-License-Identifier: Apache-2.0
 -- SPDX-FileCopyrightText: Copyright the Vortex contributors
 
--- The reading function agrees with the relations: its types are those that are read, and its errors are faults.
-use Rattle.std.proofs.Common.{◌≡◌, ◌≢◌, ◌⊎◌, ⊎_elim, inl, inr, ℕ, ℤ, pos, ◌<◌, ◌==◌, List, [], ◌∷◌, length, map, Option, Some, None, Bool, true, false, cond, Result, Ok, Err, IsErr, nat_eq, refl, sym, ap, subst, ◌∙◌, arith}
-use Rattle.std.specs.Int.{w32}
-use Rattle.std.specs.Prelude.{FitsSigned, IfOk}
+-- The reading function agrees with the relations: it gives a type exactly where the message reads as that type, and
+-- else a fault of the message.
+use Rattle.std.proofs.Common.{◌≡◌, ◌≢◌, inl, inr, ℕ, suc, ℤ, pos, negsuc, ◌<◌, ◌==◌, List, [], ◌∷◌, length, map, Some, Result, Ok, Err, MatchResult, refl, sym, ap, subst, ◌∙◌, arith}
 use Rattle.std.specs.List.{zip}
-use Rattle.std.specs.Str.{bytes_eq}
-use Rattle.std.proofs.lemmas.Bool.{both_ways}
-use Rattle.std.proofs.lemmas.Bool.Decides.{Decides-eqb}
+use Rattle.std.proofs.lemmas.Bool.Decides.{Decides-eqb, nat_tests, not_from_Decides}
 use Rattle.std.proofs.lemmas.Int.{ints}
 use Rattle.std.proofs.lemmas.List.{length-map}
-use Rattle.std.proofs.lemmas.List.Elements.{All-cons, All-nil}
 use Rattle.std.proofs.lemmas.Option.{none-some}
-use Rattle.std.proofs.lemmas.Slice.Eq.{bytes_eq-Decides}
-use Rattle.std.proofs.lemmas.Map.Made.{AllPairs-from_IsDistinct}
+use Rattle.std.proofs.lemmas.Result.{MatchResult-at_err, MatchResult-at_ok, MatchResult-weaker}
 use Rattle.dtype_base.specs.declared.nullability.Nullability.{Nullability}
 use Rattle.dtype_base.specs.declared.nullability.Nullability.TheVariants.{NonNullable, Nullable}
 use Rattle.dtype_base.specs.declared.ptype.PType.{PType}
-use Rattle.dtype_base.specs.Decimals.{IsValidDecimal}
-use Rattle.dtype_base.specs.Nullability.{nullability_of}
-use Rattle.dtype_base.specs.Distinct.{Distinct}
-use Rattle.dtype_types.specs.nullability.Nullable.{nullability}
-use Rattle.dtype_types.specs.tree.Tree as of
-use Rattle.dtype_types.specs.tree.Tree.{Tree, Fields, no_fields, field, fields, Variants, no_variants, choice, variants}
+use Rattle.dtype_base.specs.declared.ptype.PType.TheVariants.{U8}
 use Rattle.dtype_base.specs.declared.vortex_error.VortexError.{VortexError}
-use Rattle.dtype_base.specs.declared.vortex_error.VortexError.TheVariants.{MapKeyNullable, UnionTypesLength, UnionTagsLength, UnionEmpty, UnionTagsRepeat, UnionNamesRepeat, Message as Faulty}
+use Rattle.dtype_base.specs.declared.vortex_error.VortexError.TheVariants.{MapKeyNullable, Message as Faulty}
 use Rattle.dtype_base.specs.declared.vortex_error.MessageFault.{MessageFault}
-use Rattle.dtype_base.specs.declared.vortex_error.MessageFault.TheVariants.{TypeMissing, PrimitiveNumber, PrecisionRange, ScaleRange, ListElementMissing, FixedElementMissing, MapKeyMissing, MapValueMissing, StructLengths, TypeIdRange, StorageMissing}
-use Rattle.dtype_types.specs.tree.TreeOf.{tree}
-use Rattle.dtype_types.specs.tree.Valid.{Valid}
-use Rattle.dtype_types.specs.declared.dtype.DType.{DType}
-use Rattle.vortex_dtype.specs.IsMessage.{AreTags}
-use Rattle.dtype_messages.specs.Message.{Message, Child, Messages, missing, null, bool, primitive, decimal, utf8, binary, list, fixed_size_list, map_of, struct, union, variant, extension, absent, present, no_message, more}
-use Rattle.vortex_dtype.specs.Meaning.{Meaning, Admits, keeps, unkept_error}
-use Rattle.dtype_messages.specs.PTypeNumbers.{ptype_at}
-use Rattle.vortex_dtype.specs.Numbers.{integer_byte, signed_byte, natural_byte}
+use Rattle.dtype_base.specs.declared.vortex_error.MessageFault.TheVariants.{PrimitiveNumber, PrecisionRange, ScaleRange, ListElementMissing, FixedElementMissing, MapKeyMissing, MapValueMissing, TypeIdRange, StorageMissing}
+use Rattle.dtype_base.specs.Decimals.{IsValidDecimal}
+use Rattle.dtype_base.specs.Distinct.{Distinct}
+use Rattle.dtype_base.specs.Primitives.{ptype_row}
+use Rattle.dtype_base.specs.Nullability.{nullability_of}
+use Rattle.dtype_types.specs.nullability.Nullable.{nullability}
+use Rattle.dtype_types.specs.parts.Unions.{MakesUnion}
+use Rattle.dtype_types.specs.tree.Tree as of
+use Rattle.dtype_types.specs.tree.Tree.{Tree, Fields, field, fields, Variants, choice, variants}
+use Rattle.dtype_messages.specs.Message.{Message, Child, Messages, missing, primitive, decimal, list, fixed_size_list, map_of, struct, union, extension, absent, present, no_message, more}
+use Rattle.dtype_messages.specs.PTypeNumbers.{ptype_at, ptype_from}
+use Rattle.vortex_dtype.specs.Meaning.{Meaning, keeps, unkept_error}
+use Rattle.vortex_dtype.specs.Numbers.{integer_byte, natural_byte, signed_byte}
 use Rattle.vortex_dtype.specs.Reads.{Reads, ReadsChild, ReadsFields, ReadsVariants, Fault, ChildFault, SomeFault, SomeTagFault, UnionFault, DecimalFault, decimal_with, number, message_count}
-use Rattle.vortex_dtype.specs.ReadInOrder.{Gives, read, read_child, read_all, read_tags, primitive_read, decimal_made, decimal_read, map_read, when_required, struct_read, union_made, union_read, extension_read, repeats, ◌>>=◌, or_fault, or_empty}
-use Rattle.vortex_dtype.specs.lemmas.Decimals.{made_ok, made_err, fits_byte, fits_small, no_byte, no_small}
-use Rattle.vortex_dtype.specs.lemmas.Unions.{apart, has_names, tags_up, union_refused}
-use Rattle.vortex_dtype.specs.Written.{written}
-use Rattle.vortex_dtype.specs.lemmas.Reads.{byte_is, fault_none, number-ptype_at, ptype_at-number, reads_once, written_reads}
-use Rattle.vortex_dtype.specs.lemmas.Results.{ok, err, ok_is, err_is, ok_err}
+use Rattle.vortex_dtype.specs.ReadInOrder.{decimal_made, read, read_child, read_all, read_tags, primitive_read, decimal_read, map_read, when_required, struct_read, union_made, union_read, extension_read, or_fault, or_empty}
+use Rattle.vortex_dtype.specs.lemmas.Decimals.{decimal_making, decimal_ok, precision_given, scale_given}
+use Rattle.vortex_dtype.specs.lemmas.Results.{by_test, given, in_turn}
+use Rattle.vortex_dtype.specs.lemmas.Unions.{tags_down, tags_up, union_making, union_ok}
 
-bind_ok : {A B : Type 0} (r : Result A VortexError) (f : A → Result B VortexError) (y : B) → (r >>= f) ≡ Ok y → (x : A) × (r ≡ Ok x) × (f x ≡ Ok y)
-bind_ok (Ok x) f y e = (x, refl, e)
-bind_ok (Err k) f y e = cc
+-- ---- numbers
 
-bind_err : {A B : Type 0} (r : Result A VortexError) (f : A → Result B VortexError) (k : VortexError) → (r >>= f) ≡ Err k → (r ≡ Err k) ⊎ ((x : A) × (r ≡ Ok x) × (f x ≡ Err k))
-bind_err (Ok x) f k e = inr (x, refl, e)
-bind_err {A} {B} (Err j) f k e = inl (ap (err {A = A}) (sym (err_is {A = B} j k e)))
+pub ptype_at-number : (p : PType) → ptype_at (number p) ≡ Some p
+ptype_at-number U8 = refl
+ptype_at-number _ = refl
 
-fault_is_some : {A : Type 0} (k : VortexError) (o : Option A) (x : A) → or_fault k o ≡ Ok x → o ≡ Some x
-fault_is_some k None x e = cc
-fault_is_some k (Some y) x e = ap Some (sym (ok_is y x e))
+-- a number is that of the type that it names
+ptype_from-number : (n : ℕ) (p : PType) → ptype_from n ≡ Some p → n ≡ (ptype_row p).number
+ptype_from-number n p e = grind (arith, nat_tests)
 
-fault_is_none : {A : Type 0} (k j : VortexError) (o : Option A) → or_fault k o ≡ Err j → (j ≡ k) × (o ≡ None)
-fault_is_none k j None e = (err_is {A = _} k j e, refl)
-fault_is_none k j (Some y) e = cc
+number-ptype_at : (k : ℤ) (p : PType) → ptype_at k ≡ Some p → k ≡ number p
+number-ptype_at (pos n) p e = ap pos (ptype_from-number n p e)
+number-ptype_at (negsuc n) p e = cc
 
--- ---- the parts
+pub byte_is : (g : ℤ) (k : ℕ) → integer_byte g ≡ Some k → (g ≡ pos k) × (k < 256)
+byte_is (pos n) k e = grind (arith, nat_tests)
+byte_is (negsuc n) k e = cc
 
-primitive_reads : (k : ℤ) (n : Nullability) (t : Tree) → primitive_read k n ≡ Ok t → (p : PType) × (k ≡ number p) × (t ≡ of.primitive p n)
-unfolding primitive_read
-primitive_reads k n t e =
-    let b = bind_ok {A = PType} {B = Tree} (or_fault (Faulty PrimitiveNumber) (ptype_at k)) _ t e in
-    (b.0, number-ptype_at k b.0 (fault_is_some (Faulty PrimitiveNumber) (ptype_at k) b.0 b.1), ok_is (of.primitive b.0 n) t b.2)
+-- these tags are those bytes
+abbrev pub AreBytes : List ℤ → List ℕ → Type 0
+AreBytes gs tags = map integer_byte gs ≡ map Some tags
 
-no_number : (k : ℤ) → ptype_at k ≡ None → (p : PType) → k ≢ number p
-no_number k e p is = none-some p (sym e ∙ ap ptype_at is ∙ ptype_at-number p)
+pub bytes_are : (gs : List ℤ) (tags : List ℕ) → AreBytes gs tags → gs ≡ map pos tags
+bytes_are [] [] e = refl
+bytes_are (g ∷ gs) (k ∷ tags) e =
+    let first : integer_byte g ≡ Some k = cc in let rest : AreBytes gs tags = cc in
+    ap (λ x. x ∷ gs) (byte_is g k first).0 ∙ ap (λ xs. pos k ∷ xs) (bytes_are gs tags rest)
+bytes_are _ _ e = cc
 
-primitive_fault : (k : ℤ) (n : Nullability) (j : VortexError) → primitive_read k n ≡ Err j → (j ≡ Faulty PrimitiveNumber) × ((p : PType) → k ≢ number p)
-unfolding primitive_read
-primitive_fault k n j e =
-    ⊎_elim
-    (λ a. let f = fault_is_none (Faulty PrimitiveNumber) j (ptype_at k) a in (f.0, no_number k f.1))
-    (λ b. absurd (ok_err b.2))
-    (bind_err {A = PType} {B = Tree} (or_fault (Faulty PrimitiveNumber) (ptype_at k)) _ j e)
+pub bytes_count : (gs : List ℤ) (tags : List ℕ) → AreBytes gs tags → length gs ≡ length tags
+bytes_count gs tags e = ap length (bytes_are gs tags e) ∙ length-map tags pos
 
-decimal_reads : (p : ℕ) (k : ℤ) (n : Nullability) (t : Tree) → decimal_read p k n ≡ Ok t → IsValidDecimal (decimal_with p k) × (t ≡ of.decimal (decimal_with p k) n)
-unfolding decimal_read
-decimal_reads p k n t e =
-    let a = bind_ok (or_fault (Faulty PrecisionRange) (natural_byte p)) _ t e in
-    let b = bind_ok (or_fault (Faulty ScaleRange) (signed_byte k)) _ t a.2 in
-    let c = bind_ok (decimal_made a.0 b.0) _ t b.2 in
-    let q = fits_byte p a.0 (fault_is_some (Faulty PrecisionRange) (natural_byte p) a.0 a.1) in
-    let r = fits_small k b.0 (fault_is_some (Faulty ScaleRange) (signed_byte k) b.0 b.1) in
-    let d = made_ok a.0 b.0 c.0 r.1 c.1 in
-    let same : c.0 ≡ decimal_with p k = d.1 ∙ ap (λ x. decimal_with x b.0) q ∙ ap (decimal_with p) r.0 in
-    (subst IsValidDecimal (sym d.1 ∙ same) d.0, ok_is (of.decimal c.0 n) t c.2 ∙ ap (λ x. of.decimal x n) same)
+-- ---- lists of messages
 
-decimal_fault : (p : ℕ) (k : ℤ) (n : Nullability) (j : VortexError) → decimal_read p k n ≡ Err j → DecimalFault p k j
-unfolding decimal_read
-decimal_fault p k n j e =
-    ⊎_elim
-    (λ a. let f = fault_is_none (Faulty PrecisionRange) j (natural_byte p) a in inl (f.0, no_byte p f.1))
-    (λ a. let q = fits_byte p a.0 (fault_is_some (Faulty PrecisionRange) (natural_byte p) a.0 a.1) in
-    ⊎_elim
-    (λ b. let f = fault_is_none (Faulty ScaleRange) j (signed_byte k) b in inr (inl (f.0, no_small k f.1)))
-    (λ b. let r = fits_small k b.0 (fault_is_some (Faulty ScaleRange) (signed_byte k) b.0 b.1) in
-    ⊎_elim (λ c. inr (inr (made_err p k j (ap (λ x. decimal_made x k) (sym q) ∙ ap (decimal_made a.0) (sym r.0) ∙ c)))) (λ c. absurd (ok_err c.2)) (bind_err (decimal_made a.0 b.0) _ j b.2))
-    (bind_err (or_fault (Faulty ScaleRange) (signed_byte k)) _ j a.2))
-    (bind_err (or_fault (Faulty PrecisionRange) (natural_byte p)) _ j e)
+-- the messages read as these types, in order
+abbrev pub ReadsAll : Meaning → Messages → List Tree → Type 0
+ReadsAll s no_message [] = Unit {0}
+ReadsAll s (more m ms) (t ∷ ts) = Reads s m t × ReadsAll s ms ts
+ReadsAll s _ _ = ⊥
 
-map_reads : (x y : Tree) (o : Bool) (n : Nullability) (t : Tree) → map_read x y o n ≡ Ok t → (nullability x ≡ NonNullable) × (t ≡ of.map_of x y o n)
-unfolding map_read
-map_reads x y o n t e = go (nullability x) refl e
-  where
-    go : (m : Nullability) → nullability x ≡ m → when_required m (of.map_of x y o n) ≡ Ok t → (nullability x ≡ NonNullable) × (t ≡ of.map_of x y o n)
-    go NonNullable is f = (is, ok_is (of.map_of x y o n) t f)
-    go Nullable is f = cc
+pub count_all : (s : Meaning) (ms : Messages) (ts : List Tree) → ReadsAll s ms ts → length ts ≡ message_count ms
+count_all s no_message [] h = refl
+count_all s (more m ms) (t ∷ ts) h = let rest = count_all s ms ts h.1 in omega (arith, rest)
+count_all s _ _ h = absurd h
 
-map_fault : (x y : Tree) (o : Bool) (n : Nullability) (k : VortexError) → map_read x y o n ≡ Err k → (nullability x ≡ Nullable) × (k ≡ MapKeyNullable)
-unfolding map_read
-map_fault x y o n k e = go (nullability x) refl e
-  where
-    go : (m : Nullability) → nullability x ≡ m → when_required m (of.map_of x y o n) ≡ Err k → (nullability x ≡ Nullable) × (k ≡ MapKeyNullable)
-    go NonNullable is f = cc
-    go Nullable is f = (is, err_is {A = Tree} MapKeyNullable k f)
+reads_fields : (s : Meaning) (ns : List (List ℕ)) (ms : Messages) (ts : List Tree) → ReadsAll s ms ts → length ns ≡ length ts → ReadsFields s ns ms (fields (zip ns ts))
+reads_fields s [] no_message [] h e = refl
+reads_fields s (n ∷ ns) (more m ms) (t ∷ ts) h e = (t, fields (zip ns ts), h.0, reads_fields s ns ms ts h.1 (omega (arith, e)), refl)
+reads_fields s _ _ _ h e = grind arith
 
-test_ok : {A : Type 0} (b : Bool) (x : A) (j : VortexError) (t : A) → cond b (ok x) (err j) ≡ Ok t → (b ≡ true) × (t ≡ x)
-test_ok true x j t e = (refl, ok_is x t e)
-test_ok false x j t e = cc
+reads_variants : (s : Meaning) (ns : List (List ℕ)) (ms : Messages) (gs : List ℤ) (ts : List Tree) (tags : List ℕ) → ReadsAll s ms ts → AreBytes gs tags → length ns ≡ length ts → length ns ≡ length tags
+    → ReadsVariants s ns ms gs (variants (zip ns (zip ts tags)))
+reads_variants s [] no_message [] [] [] h b e f = refl
+reads_variants s (n ∷ ns) (more m ms) (g ∷ gs) (t ∷ ts) (k ∷ tags) h b e f =
+    let first : integer_byte g ≡ Some k = cc in let rest : AreBytes gs tags = cc in
+    (t, k, variants (zip ns (zip ts tags)), h.0, first, reads_variants s ns ms gs ts tags h.1 rest (omega (arith, e)) (omega (arith, f)), refl)
+reads_variants s ns ms gs ts tags h b e f = let c = bytes_count gs tags b in grind arith
 
-test_err : {A : Type 0} (b : Bool) (x : A) (j k : VortexError) → cond b (ok x) (err j) ≡ Err k → (b ≡ false) × (k ≡ j)
-test_err true x j k e = cc
-test_err {A} false x j k e = (refl, err_is {A = A} j k e)
+-- the types of fields that read
+pub record FieldsRead (s : Meaning) (ns : List (List ℕ)) (ms : Messages) (fs : Fields) (ts : List Tree) : Type 0 where
+  pub types : ReadsAll s ms ts
+  pub count : length ns ≡ length ts
+  pub is : fs ≡ fields (zip ns ts)
 
-struct_reads : (ns : List (List ℕ)) (ts : List Tree) (n : Nullability) (t : Tree) → struct_read ns ts n ≡ Ok t → (length ns ≡ length ts) × (t ≡ of.struct (fields (zip ns ts)) n)
-unfolding struct_read
-struct_reads ns ts n t e = let g = test_ok (length ns == length ts) (of.struct (fields (zip ns ts)) n) (Faulty StructLengths) t e in ((Decides-eqb (length ns) (length ts)).0 g.0, g.1)
+pub fields_read : (s : Meaning) (ns : List (List ℕ)) (ms : Messages) (fs : Fields) → ReadsFields s ns ms fs → (ts : List Tree) × FieldsRead s ns ms fs ts
+fields_read s [] no_message fs h = ([], record { types = tt; count = refl; is = h })
+fields_read s (n ∷ ns) (more m ms) fs h =
+    let r = fields_read s ns ms h.1 h.3 in
+    (h.0 ∷ r.0, record { types = (h.2, r.1.types); count = ap suc r.1.count; is = h.4 ∙ ap (field n h.0) r.1.is })
+fields_read s _ _ fs h = absurd h
 
-struct_fault : (ns : List (List ℕ)) (ts : List Tree) (n : Nullability) (k : VortexError) → struct_read ns ts n ≡ Err k → (k ≡ Faulty StructLengths) × (length ns ≢ length ts)
-unfolding struct_read
-struct_fault ns ts n k e =
-    let g = test_err (length ns == length ts) (of.struct (fields (zip ns ts)) n) (Faulty StructLengths) k e in
-    (g.1, λ h. both_ways (length ns == length ts) g.0 ((Decides-eqb (length ns) (length ts)).1 h))
+-- the types and the tags of variants that read
+pub record VariantsRead (s : Meaning) (ns : List (List ℕ)) (ms : Messages) (gs : List ℤ) (vs : Variants) (ts : List Tree) (tags : List ℕ) : Type 0 where
+  pub types : ReadsAll s ms ts
+  pub bytes : AreBytes gs tags
+  pub count : length ns ≡ length ts
+  pub tags_count : length ns ≡ length tags
+  pub is : vs ≡ variants (zip ns (zip ts tags))
 
--- ---- tags
-
-tags_are : (gs : List ℤ) (tags : List ℕ) → read_tags gs ≡ Ok tags → gs ≡ map pos tags
-unfolding read_tags
-tags_are [] tags e = ap (map pos) (sym (ok_is [] tags e))
-tags_are (g ∷ gs) tags e =
-    let a = bind_ok (or_fault (Faulty TypeIdRange) (integer_byte g)) _ tags e in
-    let b = bind_ok (read_tags gs) _ tags a.2 in
-    ap (λ x. x ∷ gs) (byte_is g a.0 (fault_is_some (Faulty TypeIdRange) (integer_byte g) a.0 a.1)).0 ∙ ap (λ ys. pos a.0 ∷ ys) (tags_are gs b.0 b.1) ∙ ap (map pos) (sym (ok_is (a.0 ∷ b.0) tags b.2))
-
-tags_fault : (gs : List ℤ) (k : VortexError) → read_tags gs ≡ Err k → (k ≡ Faulty TypeIdRange) × SomeTagFault gs
-unfolding read_tags
-tags_fault [] k e = absurd (ok_err e)
-tags_fault (g ∷ gs) k e =
-    ⊎_elim (λ a. let f = fault_is_none (Faulty TypeIdRange) k (integer_byte g) a in (f.0, inl f.1))
-    (λ a. ⊎_elim (λ b. let f = tags_fault gs k b in (f.0, inr f.1)) (λ b. absurd (ok_err b.2)) (bind_err (read_tags gs) _ k a.2))
-    (bind_err (or_fault (Faulty TypeIdRange) (integer_byte g)) _ k e)
-
-byte_fits : (g : ℤ) (k : ℕ) → g ≡ pos k → k < 256 → FitsSigned w32 g
-byte_fits g k e h = subst (λ (x : ℤ). FitsSigned w32 x) (sym e) (natural_fits k h)
-  where
-    natural_fits : (k : ℕ) → k < 256 → FitsSigned w32 (pos k)
-    natural_fits k h = omega (arith, ints)
-
-tags_fit : (gs : List ℤ) (tags : List ℕ) → read_tags gs ≡ Ok tags → AreTags gs
-unfolding read_tags
-tags_fit [] tags e = All-nil (λ g. FitsSigned w32 g)
-tags_fit (g ∷ gs) tags e =
-    let a = bind_ok (or_fault (Faulty TypeIdRange) (integer_byte g)) _ tags e in
-    let b = bind_ok (read_tags gs) _ tags a.2 in
-    let is = byte_is g a.0 (fault_is_some (Faulty TypeIdRange) (integer_byte g) a.0 a.1) in
-    All-cons (λ g. FitsSigned w32 g) g gs (byte_fits g a.0 is.0 is.1) (tags_fit gs b.0 b.1)
-
--- the tags of a union that was read fit
-pub union_tags_fit : (r : Result DType VortexError) (ns : List (List ℕ)) (ts : List Tree) (gs : List ℤ) (n : Nullability) → Gives tree r (union_read ns ts gs n) → IfOk r (λ _. AreTags gs)
-unfolding union_read
-union_tags_fit (Ok d) ns ts gs n g = let a = bind_ok (read_tags gs) _ (tree d) g in tags_fit gs a.0 a.1
-union_tags_fit (Err e) ns ts gs n g = tt
-
-tags_count : (gs : List ℤ) (tags : List ℕ) → read_tags gs ≡ Ok tags → length gs ≡ length tags
-tags_count gs tags e = ap length (tags_are gs tags e) ∙ length-map tags pos
-
--- ---- unions
-
--- the tests of a union, in order
-chain_ok : {A : Type 0} (a b c d e : Bool) (x t : A) → cond a (cond b (cond c (err UnionEmpty) (cond d (err UnionTagsRepeat) (cond e (err UnionNamesRepeat) (ok x)))) (err UnionTagsLength)) (err UnionTypesLength) ≡ Ok t
-    → (a ≡ true) × (b ≡ true) × (c ≡ false) × (d ≡ false) × (e ≡ false) × (t ≡ x)
-chain_ok false b c d e x t h = cc
-chain_ok true false c d e x t h = cc
-chain_ok true true true d e x t h = cc
-chain_ok true true false true e x t h = cc
-chain_ok true true false false true x t h = cc
-chain_ok true true false false false x t h = (refl, refl, refl, refl, refl, ok_is x t h)
-
-record MadeUnion (ns : List (List ℕ)) (ts : List Tree) (gs : List ℤ) (tags : List ℕ) (n : Nullability) (t : Tree) : Type 0 where
-  read : read_tags gs ≡ Ok tags
-  types_count : length ns ≡ length ts
-  tags_count : length ns ≡ length tags
-  some : ns ≢ []
-  apart_tags : Distinct gs
-  apart_names : Distinct ns
-  is : t ≡ of.union (variants (zip ns (zip ts tags))) n
-
-union_reads : (ns : List (List ℕ)) (ts : List Tree) (gs : List ℤ) (n : Nullability) (t : Tree) → union_read ns ts gs n ≡ Ok t → (tags : List ℕ) × MadeUnion ns ts gs tags n t
-unfolding union_read union_made
-union_reads ns ts gs n t e =
-    let a = bind_ok (read_tags gs) _ t e in
-    let c = chain_ok (length ns == length ts) (length ns == length a.0) (nat_eq (length ns) 0) (repeats nat_eq a.0) (repeats bytes_eq ns) (of.union (variants (zip ns (zip ts a.0))) n) t a.2 in (
-      a.0,
-      record {
-        read = a.1;
-        types_count = (Decides-eqb (length ns) (length ts)).0 c.0;
-        tags_count = (Decides-eqb (length ns) (length a.0)).0 c.1;
-        some = has_names ns c.2;
-        apart_tags = tags_up gs a.0 (tags_are gs a.0 a.1) c.3;
-        apart_names = AllPairs-from_IsDistinct bytes_eq-Decides ns (apart bytes_eq ns c.4);
-        is = c.5;
-      },
+pub variants_read : (s : Meaning) (ns : List (List ℕ)) (ms : Messages) (gs : List ℤ) (vs : Variants) → ReadsVariants s ns ms gs vs → (ts : List Tree) × (tags : List ℕ) × VariantsRead s ns ms gs vs ts tags
+variants_read s [] no_message [] vs h = ([], [], record { types = tt; bytes = refl; count = refl; tags_count = refl; is = h })
+variants_read s (n ∷ ns) (more m ms) (g ∷ gs) vs h =
+    let rest = variants_read s ns ms gs h.2 h.5 in let r = rest.2 in (
+      h.0 ∷ rest.0,
+      h.1 ∷ rest.1,
+      record { types = (h.3, r.types); bytes = cc (h.4, r.bytes); count = ap suc r.count; tags_count = ap suc r.tags_count; is = h.6 ∙ ap (choice n h.0 h.1) r.is },
     )
+variants_read s _ _ _ vs h = absurd h
 
-union_fault : (ns : List (List ℕ)) (ts : List Tree) (gs : List ℤ) (n : Nullability) (k : VortexError) → union_read ns ts gs n ≡ Err k → UnionFault ns (length ts) gs k
-unfolding union_read
-union_fault ns ts gs n k e =
-    ⊎_elim (λ a. inl (tags_fault gs k a)) (λ a. inr (a.0, tags_are gs a.0 a.1, union_refused ns ts a.0 n k a.2)) (bind_err (read_tags gs) _ k e)
+-- ---- what reading gives
 
-extension_reads : (s : Meaning) (id b : List ℕ) (x t : Tree) → extension_read s id b x ≡ Ok t → (c : List ℕ) × (keeps s id b x ≡ Some c) × (t ≡ of.extension id c x)
-unfolding extension_read
-extension_reads s id b x t e =
-    let d = bind_ok (or_fault (unkept_error s id) (keeps s id b x)) _ t e in
-    (d.0, fault_is_some (unkept_error s id) (keeps s id b x) d.0 d.1, ok_is (of.extension id d.0 x) t d.2)
-
-extension_fault : (s : Meaning) (id b : List ℕ) (x : Tree) (k : VortexError) → extension_read s id b x ≡ Err k → (k ≡ unkept_error s id) × (keeps s id b x ≡ None)
-unfolding extension_read
-extension_fault s id b x k e =
-    ⊎_elim (λ a. fault_is_none (unkept_error s id) k (keeps s id b x) a) (λ d. absurd (ok_err d.2)) (bind_err (or_fault (unkept_error s id) (keeps s id b x)) _ k e)
-
--- ---- a type that is read is one that reads
-
-more_read : (s : Meaning) (ns : List (List ℕ)) (m : Message) (ms : Messages) (ts : List Tree) (x : Tree) (xs : List Tree) → ts ≡ x ∷ xs → Reads s m x → length ns ≡ length ts
-    → ((ns' : List (List ℕ)) → length ns' ≡ length xs → ReadsFields s ns' ms (fields (zip ns' xs))) → ReadsFields s ns (more m ms) (fields (zip ns ts))
-more_read s [] m ms ts x xs e r h rest = absurd (omega (arith, h, ap length e))
-more_read s (n ∷ ns) m ms ts x xs e r h rest =
-    (x, fields (zip ns xs), r, rest ns (omega (arith, h, ap length e)), ap (λ us. fields (zip (n ∷ ns) us)) e)
-
-more_variants : (s : Meaning) (ns : List (List ℕ)) (m : Message) (ms : Messages) (gs : List ℤ) (ts : List Tree) (tags : List ℕ) (x : Tree) (xs : List Tree) → ts ≡ x ∷ xs → Reads s m x → read_tags gs ≡ Ok tags
-    → length ns ≡ length ts → length ns ≡ length tags
-    → ((ns' : List (List ℕ)) (gs' : List ℤ) (tags' : List ℕ) → read_tags gs' ≡ Ok tags' → length ns' ≡ length xs → length ns' ≡ length tags' → ReadsVariants s ns' ms gs' (variants (zip ns' (zip xs tags'))))
-    → ReadsVariants s ns (more m ms) gs (variants (zip ns (zip ts tags)))
+pub tags_reading : (gs : List ℤ) → MatchResult (read_tags gs) (AreBytes gs) (λ e. (e ≡ Faulty TypeIdRange) × SomeTagFault gs)
 unfolding read_tags
-more_variants s [] m ms gs ts tags x xs e r f h l rest = absurd (omega (arith, h, ap length e))
-more_variants s (n ∷ ns) m ms [] ts tags x xs e r f h l rest = absurd (omega (arith, l, ap length (ok_is [] tags f)))
-more_variants s (n ∷ ns) m ms (g ∷ gs) ts tags x xs e r f h l rest =
-    let a = bind_ok (or_fault (Faulty TypeIdRange) (integer_byte g)) _ tags f in
-    let b = bind_ok (read_tags gs) _ tags a.2 in
-    let is : tags ≡ a.0 ∷ b.0 = ok_is (a.0 ∷ b.0) tags b.2 in (
-      x,
-      a.0,
-      variants (zip ns (zip xs b.0)),
-      r,
-      fault_is_some (Faulty TypeIdRange) (integer_byte g) a.0 a.1,
-      rest ns gs b.0 b.1 (omega (arith, h, ap length e)) (omega (arith, l, ap length is)),
-      ap (λ us. variants (zip (n ∷ ns) (zip us tags))) e ∙ ap (λ us. variants (zip (n ∷ ns) (zip (x ∷ xs) us))) is,
-    )
+tags_reading [] = refl
+tags_reading (g ∷ gs) =
+    in_turn (or_fault (Faulty TypeIdRange) (integer_byte g)) _ _ _ _ _ (given (Faulty TypeIdRange) (integer_byte g))
+    (λ k is. in_turn (read_tags gs) _ _ _ _ _ (tags_reading gs) (λ ks rest. ap (λ o. o ∷ map integer_byte gs) is ∙ ap (λ os. Some k ∷ os) rest) (λ e f. (f.0, inr f.1)))
+    (λ e f. (f.0, inl f.1))
+
+primitive_reading : (k : ℤ) (n : Nullability) → MatchResult (primitive_read k n) (λ t. (p : PType) × (k ≡ number p) × (t ≡ of.primitive p n)) (λ e. (e ≡ Faulty PrimitiveNumber) × ((p : PType) → k ≢ number p))
+unfolding primitive_read
+primitive_reading k n =
+    in_turn (or_fault (Faulty PrimitiveNumber) (ptype_at k)) _ _ _ _ _ (given (Faulty PrimitiveNumber) (ptype_at k)) (λ p is. (p, number-ptype_at k p is, refl))
+    (λ e f. (f.0, λ p is. none-some p (sym f.1 ∙ ap ptype_at is ∙ ptype_at-number p)))
+
+decimal_reading : (p : ℕ) (k : ℤ) (n : Nullability) → MatchResult (decimal_read p k n) (λ t. IsValidDecimal (decimal_with p k) × (t ≡ of.decimal (decimal_with p k) n)) (DecimalFault p k)
+unfolding decimal_read
+decimal_reading p k n =
+    in_turn (or_fault (Faulty PrecisionRange) (natural_byte p)) _ _ _ _ _ (precision_given p)
+    (λ q same. in_turn (or_fault (Faulty ScaleRange) (signed_byte k)) _ _ _ _ _ (scale_given k)
+    (λ c is. rw (same, is.0) (in_turn (decimal_made p k) _ _ _ _ _ (decimal_making p k)
+    (λ d h. (record { some_digits = h.0; precision_at_most = h.1; scale_at_least = is.1; scale_at_most = h.2 }, ap (λ x. of.decimal x n) h.3)) (λ e f. inr (inr f))))
+    (λ e f. inr (inl f))) (λ e. inl)
+
+union_reading : (ns : List (List ℕ)) (ts : List Tree) (gs : List ℤ) (n : Nullability)
+    → MatchResult (union_read ns ts gs n) (λ t. (tags : List ℕ) × AreBytes gs tags × MakesUnion ns (length ts) tags × (t ≡ of.union (variants (zip ns (zip ts tags))) n)) (UnionFault ns (length ts) gs)
+unfolding union_read
+union_reading ns ts gs n =
+    in_turn (read_tags gs) _ _ _ _ _ (tags_reading gs) (λ tags is. MatchResult-weaker (union_made ns ts tags n) (union_making ns ts tags n) (λ t h. (tags, is, h.0, h.1)) (λ e f. inr (tags, bytes_are gs tags is, f))) (λ e. inl)
+
+key_reading : (n : Nullability) (t : Tree) → MatchResult (when_required n t) (λ u. (n ≡ NonNullable) × (u ≡ t)) (λ e. (e ≡ MapKeyNullable) × (n ≡ Nullable))
+key_reading NonNullable t = (refl, refl)
+key_reading Nullable t = (refl, refl)
 
 mutual
-  unfolding read read_child read_all
+  unfolding read map_read struct_read extension_read
 
-  pub read_reads : (s : Meaning) (m : Message) (t : Tree) → read s m ≡ Ok t → Reads s m t
-  read_reads s missing t e = cc
-  read_reads s null t e = ok_is of.null t e
-  read_reads s (bool f) t e = ok_is (of.bool (nullability_of f)) t e
-  read_reads s (primitive p f) t e = primitive_reads p (nullability_of f) t e
-  read_reads s (decimal p k f) t e = decimal_reads p k (nullability_of f) t e
-  read_reads s (utf8 f) t e = ok_is (of.utf8 (nullability_of f)) t e
-  read_reads s (binary f) t e = ok_is (of.binary (nullability_of f)) t e
-  read_reads s (list c f) t e =
-      let b = bind_ok (read_child s ListElementMissing c) _ t e in
-      (b.0, child_reads s ListElementMissing c b.0 b.1, ok_is (of.list b.0 (nullability_of f)) t b.2)
-  read_reads s (fixed_size_list c k f) t e =
-      let b = bind_ok (read_child s FixedElementMissing c) _ t e in
-      (b.0, child_reads s FixedElementMissing c b.0 b.1, ok_is (of.fixed_size_list b.0 k (nullability_of f)) t b.2)
-  read_reads s (map_of c v o f) t e =
-      let a = bind_ok (read_child s MapKeyMissing c) _ t e in
-      let b = bind_ok (read_child s MapValueMissing v) _ t a.2 in
-      let g = map_reads a.0 b.0 o (nullability_of f) t b.2 in
-      (a.0, b.0, child_reads s MapKeyMissing c a.0 a.1, child_reads s MapValueMissing v b.0 b.1, g.0, g.1)
-  read_reads s (struct ns ms f) t e =
-      let b = bind_ok (read_all s ms) _ t e in
-      let g = struct_reads ns b.0 (nullability_of f) t b.2 in
-      (fields (zip ns b.0), all_read s ns ms b.0 b.1 g.0, g.1)
-  read_reads s (union ns ms gs f) t e =
-      let b = bind_ok (read_all s ms) _ t e in
-      let g = union_reads ns b.0 gs (nullability_of f) t b.2 in
-      let u = g.1 in
-      (variants (zip ns (zip b.0 g.0)), all_variants s ns ms gs b.0 g.0 b.1 u.read u.types_count u.tags_count, u.some, u.apart_tags, u.apart_names, u.is)
-  read_reads s (variant f) t e = ok_is (of.variant (nullability_of f)) t e
-  read_reads s (extension id c b) t e =
-      let a = bind_ok (read_child s StorageMissing c) _ t e in
-      let d = extension_reads s id (or_empty b) a.0 t a.2 in
-      (a.0, d.0, child_reads s StorageMissing c a.0 a.1, d.1, d.2)
+  pub reading : (s : Meaning) (m : Message) → MatchResult (read s m) (Reads s m) (Fault s m)
+  reading s (primitive k f) = primitive_reading k (nullability_of f)
+  reading s (decimal p k f) = decimal_reading p k (nullability_of f)
+  reading s (list c f) = in_turn (read_child s ListElementMissing c) _ _ _ _ _ (child_reading s ListElementMissing c) (λ x h. (x, h, refl)) (λ e j. j)
+  reading s (fixed_size_list c k f) = in_turn (read_child s FixedElementMissing c) _ _ _ _ _ (child_reading s FixedElementMissing c) (λ x h. (x, h, refl)) (λ e j. j)
+  reading s (map_of c v o f) =
+      in_turn (read_child s MapKeyMissing c) _ _ _ _ _ (child_reading s MapKeyMissing c)
+      (λ x h. in_turn (read_child s MapValueMissing v) _ _ _ _ _ (child_reading s MapValueMissing v)
+      (λ y k. MatchResult-weaker (when_required (nullability x) (of.map_of x y o (nullability_of f))) (key_reading (nullability x) (of.map_of x y o (nullability_of f))) (λ t a. (x, y, h, k, a.0, a.1)) (λ e j. inr (inr (j.0, x, h, j.1))))
+      (λ e j. inr (inl j))) (λ e. inl)
+  reading s (struct ns ms f) =
+      in_turn (read_all s ms) _ _ _ _ _ (all_reading s ms)
+      (λ ts h. let same = Decides-eqb (length ns) (length ts) in
+      by_test (length ns == length ts) _ _ _ _ (λ e. (fields (zip ns ts), reads_fields s ns ms ts h (same.0 e), refl)) (λ e. inr (refl, λ c. not_from_Decides _ same e (c ∙ sym (count_all s ms ts h)))))
+      (λ e. inl)
+  reading s (union ns ms gs f) =
+      in_turn (read_all s ms) _ _ _ _ _ (all_reading s ms)
+      (λ ts h. MatchResult-weaker (union_read ns ts gs (nullability_of f)) (union_reading ns ts gs (nullability_of f))
+      (λ t u. let c = u.2.0 in
+      (variants (zip ns (zip ts u.0)), reads_variants s ns ms gs ts u.0 h u.1 c.0 c.1, c.2, subst Distinct (sym (bytes_are gs u.0 u.1)) (tags_up u.0 u.2.1), u.2.2, u.3))
+      (λ e j. inr (subst (λ c. UnionFault ns c gs e) (count_all s ms ts h) j)))
+      (λ e. inl)
+  reading s (extension id c b) =
+      in_turn (read_child s StorageMissing c) _ _ _ _ _ (child_reading s StorageMissing c)
+      (λ x h. in_turn (or_fault (unkept_error s id) (keeps s id (or_empty b) x)) _ _ _ _ _ (given (unkept_error s id) (keeps s id (or_empty b) x)) (λ k is. (x, k, h, is, refl)) (λ e j. inr (j.0, x, h, j.1))) (λ e. inl)
+  reading s _ = refl
 
-  child_reads : (s : Meaning) (j : MessageFault) (c : Child) (t : Tree) → read_child s j c ≡ Ok t → ReadsChild s c t
-  child_reads s j absent t e = cc
-  child_reads s j (present m) t e = read_reads s m t e
+  child_reading : (s : Meaning) (j : MessageFault) (c : Child) → MatchResult (read_child s j c) (ReadsChild s c) (ChildFault s j c)
+  child_reading s j absent = refl
+  child_reading s j (present m) = reading s m
 
-  all_read : (s : Meaning) (ns : List (List ℕ)) (ms : Messages) (ts : List Tree) → read_all s ms ≡ Ok ts → length ns ≡ length ts → ReadsFields s ns ms (fields (zip ns ts))
-  all_read s [] no_message ts e h = refl
-  all_read s (n ∷ ns) no_message ts e h = let g : [] ≡ ts = sym (ok_is [] ts e) in absurd (omega (arith, h, ap length g))
-  all_read s ns (more m ms) ts e h =
-      let a = bind_ok (read s m) _ ts e in
-      let b = bind_ok (read_all s ms) _ ts a.2 in
-      more_read s ns m ms ts a.0 b.0 (ok_is (a.0 ∷ b.0) ts b.2) (read_reads s m a.0 a.1) h (λ ns' k. all_read s ns' ms b.0 b.1 k)
+  all_reading : (s : Meaning) (ms : Messages) → MatchResult (read_all s ms) (ReadsAll s ms) (SomeFault s ms)
+  all_reading s no_message = tt
+  all_reading s (more m ms) =
+      in_turn (read s m) _ _ _ _ _ (reading s m) (λ x h. in_turn (read_all s ms) _ _ _ _ _ (all_reading s ms) (λ xs k. (h, k)) (λ e. inr)) (λ e. inl)
 
-  all_variants : (s : Meaning) (ns : List (List ℕ)) (ms : Messages) (gs : List ℤ) (ts : List Tree) (tags : List ℕ) → read_all s ms ≡ Ok ts → read_tags gs ≡ Ok tags → length ns ≡ length ts → length ns ≡ length tags
-      → ReadsVariants s ns ms gs (variants (zip ns (zip ts tags)))
-  all_variants s [] no_message [] ts tags e f h l = refl
-  all_variants s [] no_message (g ∷ gs) ts tags e f h l = absurd (omega (arith, l, tags_count (g ∷ gs) tags f))
-  all_variants s (n ∷ ns) no_message gs ts tags e f h l = let g : [] ≡ ts = sym (ok_is [] ts e) in absurd (omega (arith, h, ap length g))
-  all_variants s ns (more m ms) gs ts tags e f h l =
-      let a = bind_ok (read s m) _ ts e in
-      let b = bind_ok (read_all s ms) _ ts a.2 in
-      more_variants s ns m ms gs ts tags a.0 b.0 (ok_is (a.0 ∷ b.0) ts b.2) (read_reads s m a.0 a.1) f h l (λ ns' gs' tags' f' k l'. all_variants s ns' ms gs' b.0 tags' b.1 f' k l')
+-- a type that is given is one that the message reads as, and an error is a fault of the message
+pub read_reads : (s : Meaning) (m : Message) (t : Tree) → read s m ≡ Ok t → Reads s m t
+read_reads s m t e = MatchResult-at_ok (Reads s m) (Fault s m) t e (reading s m)
 
-count_all : (s : Meaning) (ms : Messages) (ts : List Tree) → read_all s ms ≡ Ok ts → length ts ≡ message_count ms
-unfolding read
-count_all s no_message ts e = sym (ap length (sym (ok_is [] ts e)))
-count_all s (more m ms) ts e =
-    let a = bind_ok (read s m) _ ts e in
-    let b = bind_ok (read_all s ms) _ ts a.2 in
-    let h = count_all s ms b.0 b.1 in
-    ap length (ok_is (a.0 ∷ b.0) ts b.2) ∙ omega (arith, h)
+pub read_fault : (s : Meaning) (m : Message) (e : VortexError) → read s m ≡ Err e → Fault s m e
+read_fault s m e is = MatchResult-at_err (Reads s m) (Fault s m) e is (reading s m)
 
-key_fault : (s : Meaning) (c : Child) (k : VortexError) (x y : Tree) (o : Bool) (n : Nullability) → read_child s MapKeyMissing c ≡ Ok x → map_read x y o n ≡ Err k → (k ≡ MapKeyNullable) × (x' : Tree) × ReadsChild s c x' × (nullability x' ≡ Nullable)
-key_fault s c k x y o n r e = let g = map_fault x y o n k e in (g.1, x, child_reads s MapKeyMissing c x r, g.0)
+-- ---- a message gives the type that it reads as
 
-kept_fault : (s : Meaning) (id : List ℕ) (c : Child) (b : List ℕ) (k : VortexError) (x : Tree) → read_child s StorageMissing c ≡ Ok x → extension_read s id b x ≡ Err k
-    → (k ≡ unkept_error s id) × (x' : Tree) × ReadsChild s c x' × (keeps s id b x' ≡ None)
-kept_fault s id c b k x r e = let g = extension_fault s id b x k e in (g.0, x, child_reads s StorageMissing c x r, g.1)
+decimal_read_ok : (p : ℕ) (k : ℤ) (n : Nullability) → IsValidDecimal (decimal_with p k) → decimal_read p k n ≡ Ok (of.decimal (decimal_with p k) n)
+unfolding decimal_read
+decimal_read_ok p k n v =
+    let a : natural_byte p ≡ Some p = grind (arith, nat_tests, v) in
+    let b : signed_byte k ≡ Some k = grind (arith, nat_tests, ints, v) in
+    rw (a, b, decimal_ok p k v) refl
 
-struct_counts : (s : Meaning) (ns : List (List ℕ)) (ms : Messages) (ts : List Tree) (k : VortexError) → read_all s ms ≡ Ok ts → (k ≡ Faulty StructLengths) × (length ns ≢ length ts) → (k ≡ Faulty StructLengths) × (length ns ≢ message_count ms)
-struct_counts s ns ms ts k r g = (g.0, λ h. g.1 (h ∙ sym (count_all s ms ts r)))
+tags_ok : (gs : List ℤ) (tags : List ℕ) → AreBytes gs tags → read_tags gs ≡ Ok tags
+unfolding read_tags
+tags_ok [] [] e = refl
+tags_ok (g ∷ gs) (k ∷ tags) e = let first : integer_byte g ≡ Some k = cc in let rest : AreBytes gs tags = cc in rw (first, tags_ok gs tags rest) refl
+tags_ok _ _ e = cc
 
-union_counts : (s : Meaning) (ns : List (List ℕ)) (ms : Messages) (gs : List ℤ) (ts : List Tree) (k : VortexError) → read_all s ms ≡ Ok ts → UnionFault ns (length ts) gs k → UnionFault ns (message_count ms) gs k
-union_counts s ns ms gs ts k r g = subst (λ (c : ℕ). UnionFault ns c gs k) (count_all s ms ts r) g
-
--- ---- an error is a fault of the message
 mutual
-  unfolding read read_child read_all
+  unfolding read primitive_read map_read struct_read union_read extension_read
 
-  pub read_fault : (s : Meaning) (m : Message) (k : VortexError) → read s m ≡ Err k → Fault s m k
-  read_fault s missing k e = err_is {A = Tree} (Faulty TypeMissing) k e
-  read_fault s null k e = absurd (ok_err e)
-  read_fault s (bool f) k e = absurd (ok_err e)
-  read_fault s (primitive p f) k e = primitive_fault p (nullability_of f) k e
-  read_fault s (decimal p c f) k e = decimal_fault p c (nullability_of f) k e
-  read_fault s (utf8 f) k e = absurd (ok_err e)
-  read_fault s (binary f) k e = absurd (ok_err e)
-  read_fault s (list c f) k e = ⊎_elim (λ a. child_fault s ListElementMissing c k a) (λ b. absurd (ok_err b.2)) (bind_err (read_child s ListElementMissing c) _ k e)
-  read_fault s (fixed_size_list c n f) k e = ⊎_elim (λ a. child_fault s FixedElementMissing c k a) (λ b. absurd (ok_err b.2)) (bind_err (read_child s FixedElementMissing c) _ k e)
-  read_fault s (map_of c v o f) k e =
-      ⊎_elim (λ a. inl (child_fault s MapKeyMissing c k a)) (λ a. inr (⊎_elim (λ b. inl (child_fault s MapValueMissing v k b)) (λ b. inr (key_fault s c k a.0 b.0 o (nullability_of f) a.1 b.2)) (bind_err (read_child s MapValueMissing v) _ k a.2))) (bind_err (read_child s MapKeyMissing c) _ k e)
-  read_fault s (struct ns ms f) k e =
-      ⊎_elim (λ a. inl (all_fault s ms k a)) (λ a. inr (struct_counts s ns ms a.0 k a.1 (struct_fault ns a.0 (nullability_of f) k a.2))) (bind_err (read_all s ms) _ k e)
-  read_fault s (union ns ms gs f) k e =
-      ⊎_elim (λ a. inl (all_fault s ms k a)) (λ a. inr (union_counts s ns ms gs a.0 k a.1 (union_fault ns a.0 gs (nullability_of f) k a.2))) (bind_err (read_all s ms) _ k e)
-  read_fault s (variant f) k e = absurd (ok_err e)
-  read_fault s (extension id c b) k e =
-      ⊎_elim (λ a. inl (child_fault s StorageMissing c k a)) (λ a. inr (kept_fault s id c (or_empty b) k a.0 a.1 a.2)) (bind_err (read_child s StorageMissing c) _ k e)
+  pub reads_read : (s : Meaning) (m : Message) (t : Tree) → Reads s m t → read s m ≡ Ok t
+  reads_read s missing t h = absurd h
+  reads_read s (primitive k f) t h = rw (h.1, ptype_at-number h.0) (ap Ok (sym h.2))
+  reads_read s (decimal p k f) t h = decimal_read_ok p k (nullability_of f) h.0 ∙ ap Ok (sym h.1)
+  reads_read s (list c f) t h = rw (child_read s ListElementMissing c h.0 h.1) (ap Ok (sym h.2))
+  reads_read s (fixed_size_list c k f) t h = rw (child_read s FixedElementMissing c h.0 h.1) (ap Ok (sym h.2))
+  reads_read s (map_of c v o f) t h = rw (child_read s MapKeyMissing c h.0 h.2, child_read s MapValueMissing v h.1 h.3, h.4) (ap Ok (sym h.5))
+  reads_read s (struct ns ms f) t h =
+      let r = fields_read s ns ms h.0 h.1 in
+      rw (all_read s ms r.0 r.1.types, (Decides-eqb (length ns) (length r.0)).1 r.1.count) (ap Ok (sym (h.2 ∙ ap (λ fs. of.struct fs (nullability_of f)) r.1.is)))
+  reads_read s (union ns ms gs f) t h =
+      let v = variants_read s ns ms gs h.0 h.1 in let r = v.2 in
+      let makes : MakesUnion ns (length v.0) v.1 = ((r.count, r.tags_count, h.2), tags_down v.1 (subst Distinct (bytes_are gs v.1 r.bytes) h.3), h.4) in
+      rw (all_read s ms v.0 r.types, tags_ok gs v.1 r.bytes, union_ok ns v.0 v.1 (nullability_of f) makes) (ap Ok (sym (h.5 ∙ ap (λ vs. of.union vs (nullability_of f)) r.is)))
+  reads_read s (extension id c b) t h = rw (child_read s StorageMissing c h.0 h.2, h.3) (ap Ok (sym h.4))
+  reads_read s _ t h = ap Ok (sym h)
 
-  child_fault : (s : Meaning) (j : MessageFault) (c : Child) (k : VortexError) → read_child s j c ≡ Err k → ChildFault s j c k
-  child_fault s j absent k e = err_is {A = Tree} (Faulty j) k e
-  child_fault s j (present m) k e = read_fault s m k e
+  child_read : (s : Meaning) (j : MessageFault) (c : Child) (t : Tree) → ReadsChild s c t → read_child s j c ≡ Ok t
+  child_read s j absent t h = absurd h
+  child_read s j (present m) t h = reads_read s m t h
 
-  all_fault : (s : Meaning) (ms : Messages) (k : VortexError) → read_all s ms ≡ Err k → SomeFault s ms k
-  all_fault s no_message k e = absurd (ok_err e)
-  all_fault s (more m ms) k e =
-      ⊎_elim (λ a. inl (read_fault s m k a)) (λ a. inr (⊎_elim (λ b. all_fault s ms k b) (λ b. absurd (ok_err b.2)) (bind_err (read_all s ms) _ k a.2))) (bind_err (read s m) _ k e)
+  all_read : (s : Meaning) (ms : Messages) (ts : List Tree) → ReadsAll s ms ts → read_all s ms ≡ Ok ts
+  all_read s no_message [] h = refl
+  all_read s (more m ms) (t ∷ ts) h = rw (reads_read s m t h.0, all_read s ms ts h.1) refl
+  all_read s _ _ h = absurd h
 
--- ---- between the reading function and the relations
+-- a message reads as one type at most
+pub reads_once : (s : Meaning) (m : Message) (t u : Tree) → Reads s m t → Reads s m u → t ≡ u
+reads_once s m t u h k = let e : ◌≡◌ {A = Result Tree VortexError} (Ok t) (Ok u) = sym (reads_read s m t h) ∙ reads_read s m u k in cc
 
--- the error is a fault of the message, which reads as no type
-pub refused_faulty : (s : Meaning) (m : Message) (e : VortexError) → read s m ≡ Err e → Fault s m e × ((t : Tree) → ¬ (Reads s m t))
-refused_faulty s m e is = let f = read_fault s m e is in (f, λ t h. fault_none s m e t f h)
-
--- a message gives the type that it reads as
-pub reads_read : (s : Meaning) (m : Message) (t : Tree) → Reads s m t → read s m ≡ Ok t
-reads_read s m t h = go (read s m) refl
-  where
-    go : (r : Result Tree VortexError) → read s m ≡ r → r ≡ Ok t
-    go (Ok u) is = ap Ok (reads_once s m u t (read_reads s m u is) h)
-    go (Err e) is = absurd (fault_none s m e t (read_fault s m e is) h)
-
--- a message that reads as no type gives an error, and so does one with a fault
-pub unread_refused : (s : Meaning) (m : Message) → ((t : Tree) → ¬ (Reads s m t)) → IsErr (read s m)
-unread_refused s m none = go (read s m) refl
-  where
-    go : (r : Result Tree VortexError) → read s m ≡ r → IsErr r
-    go (Ok t) is = absurd (none t (read_reads s m t is))
-    go (Err e) is = refl
-
-pub fault_refused : (s : Meaning) (m : Message) (e : VortexError) → Fault s m e → IsErr (read s m)
-fault_refused s m e f = unread_refused s m (λ t h. fault_none s m e t f h)
-
--- what is written of an admitted type gives that type
-pub written_read : (s : Meaning) (m : Message) (t : Tree) → Valid t → Admits s t → m ≡ written t → read s m ≡ Ok t
-written_read s m t v a e = ap (read s) e ∙ reads_read s (written t) t (written_reads s t v a)
+pub child_once : (s : Meaning) (c : Child) (t u : Tree) → ReadsChild s c t → ReadsChild s c u → t ≡ u
+child_once s absent t u h k = absurd h
+child_once s (present m) t u h k = reads_once s m t u h k

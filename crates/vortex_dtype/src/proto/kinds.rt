@@ -14,6 +14,7 @@ ghost use Rattle.dtype_types.specs.tree.Tree as of;
 ghost use Rattle.dtype_types.specs.tree.TreeOf.{tree};
 ghost use Rattle.dtype_types.specs.tree.Valid.{Valid};
 ghost use Rattle.dtype_messages.specs.MessageOf.{bytes_of};
+ghost use Rattle.vortex_dtype.specs.IsMessage.{AreTags};
 ghost use Rattle.vortex_dtype.specs.Meaning.{Bytes};
 ghost use Rattle.vortex_dtype.specs.Numbers.{integer_byte, signed_byte, natural_byte};
 ghost use Rattle.vortex_dtype.specs.ReadInOrder.{primitive_read, decimal_made, decimal_read, map_read, struct_read, union_read, read_tags, extension_read, or_empty, Gives};
@@ -158,6 +159,7 @@ pub(crate) fn union_of(
 ) -> VortexResult<DType>
     ensures gives { let texts = map string_bytes names.now in let trees = map tree dtypes.items in
         Gives tree result (union_read texts trees tags.now (nullability_of nullable)) }
+    ensures numbers { IfOk result (λ _. AreTags tags.now) }
     ensures valid { All (λ d. Valid (tree d)) dtypes.items → IfOk result (λ d. Valid (tree d)) }
 {
     let tags = tags_of(alloc, tags)?;

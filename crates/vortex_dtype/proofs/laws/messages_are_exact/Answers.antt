@@ -1,7 +1,8 @@
 -- SPDX-License-Identifier: Apache-2.0
 -- SPDX-FileCopyrightText: Copyright the Vortex contributors
 
-use Rattle.vortex_dtype.specs.lemmas.Reads.{fault_none, normal_again, reads_accepted, reads_once, same_normal, written_accepted, written_normal}
+use Rattle.vortex_dtype.specs.lemmas.InOrder.{reads_once}
+use Rattle.vortex_dtype.specs.lemmas.Reads.{fault_none, normal_again, reads_accepted, same_normal, written_accepted, written_normal}
 use Rattle.vortex_dtype.proofs.laws.messages_are_exact.Goals as goal
 
 pub returns-clause-one_type : goal.returns-clause-one_type

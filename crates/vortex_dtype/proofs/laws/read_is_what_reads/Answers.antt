@@ -1,7 +1,8 @@
 -- SPDX-License-Identifier: Apache-2.0
 -- SPDX-FileCopyrightText: Copyright the Vortex contributors
 
-use Rattle.vortex_dtype.specs.lemmas.InOrder.{read_reads, reads_read, refused_faulty}
+use Rattle.vortex_dtype.specs.lemmas.InOrder.{read_reads, reads_read}
+use Rattle.vortex_dtype.specs.lemmas.Reads.{refused_faulty}
 use Rattle.vortex_dtype.proofs.laws.read_is_what_reads.Goals as goal
 
 pub returns-clause-given : goal.returns-clause-given

@@ -10,7 +10,7 @@ use Rattle.dtype_types.specs.tree.TreeOf.{tree}
 use Rattle.dtype_types.specs.declared.dtype.DType.{Union}
 use Rattle.vortex_dtype.specs.ReadInOrder.{Fails, read_tags}
 use Rattle.vortex_dtype.proofs.Constructors.{union_fails, union_gives, union_read_by}
-use Rattle.vortex_dtype.specs.lemmas.Results.{ok}
+use Rattle.vortex_dtype.proofs.ReadInTurn.{tags_fit}
 use Rattle.vortex_dtype.proofs.proto.kinds.union_of.Goals as goal
 
 pub returns-clause-gives : goal.returns-clause-gives
@@ -23,7 +23,7 @@ returns-clause-gives c =
     let from : c.from.result ≡ n = search rules in
     union_read_by _ c.in_ok-names.names (map tree c.args.dtypes.items) _ _ n tags names
     ∙ union_gives c.in_ok-names.names c.args.dtypes.items c.in_ok-tags.tags.items n (vec_len c.args.dtypes) c.in_ok-variants.variants count u.accepted u.variants
-    ∙ ap (λ m. ok (tree (Union c.in_ok-variants.variants m))) (sym from)
+    ∙ ap (λ m. Ok (tree (Union c.in_ok-variants.variants m))) (sym from)
 
 pub returns-in_err-variants-clause-gives : goal.returns-in_err-variants-clause-gives
 returns-in_err-variants-clause-gives c =
@@ -34,3 +34,6 @@ returns-in_err-variants-clause-gives c =
     let fails = union_fails c.in_ok-names.names c.args.dtypes.items c.in_ok-tags.tags.items n (vec_len c.args.dtypes) c.in_err-variants.field-0.0 count c.in_err-variants.ensures.refused in
     let read_fails = subst (λ (r : Result Tree VortexError). Fails c.in_err-variants.field-0.0 r) (sym (union_read_by _ c.in_ok-names.names (map tree c.args.dtypes.items) _ _ n tags names)) fails in
     search (rules, read_fails)
+
+pub returns-clause-numbers : goal.returns-clause-numbers
+returns-clause-numbers c = tags_fit _ _ c.in_ok-tags.ensures.gives

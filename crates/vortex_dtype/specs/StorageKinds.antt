@@ -3,9 +3,9 @@
 
 -- What setting a type's outer nullability keeps: its kind and its parts. A plugin or a vtable that looks at
 -- these alone has from here that the storage's outer nullability makes no difference.
-use Rattle.std.specs.Prelude.{◌≡◌, ℕ, List, Option, Some, None, Bool, option_and_then}
+use Rattle.std.specs.Prelude.{◌≡◌, ℕ, List, Option, Some, None, Bool}
 use Rattle.std.proofs.Common.{ap, sym}
-use Rattle.std.proofs.lemmas.Option.{same_Some}
+use Rattle.std.proofs.lemmas.Option.{option_and_then_some, same_Some}
 use Rattle.dtype_base.specs.Decimals.{Decimal}
 use Rattle.dtype_base.specs.declared.nullability.Nullability.{Nullability}
 use Rattle.dtype_base.specs.declared.nullability.Nullability.TheVariants.{NonNullable, Nullable}
@@ -57,11 +57,7 @@ as_held u t e = ap held (sym (same_Some u t e))
 held-set_null : IsKept held
 held-set_null null t NonNullable e = cc
 held-set_null null t Nullable e = as_held null t e
-held-set_null (extension i m s) t n e = go (set_null s n) e
-  where
-    go : (o : Option Tree) → option_and_then (λ x. Some (extension i m x)) o ≡ Some t → held t ≡ held (extension i m s)
-    go None e' = cc
-    go (Some x) e' = as_held (extension i m x) t e'
+held-set_null (extension i m s) t n e = option_and_then_some (λ x. Some (extension i m x)) (set_null s n) t e (λ x _ same. as_held (extension i m x) t same)
 held-set_null _ t n e = as_held _ t e
 
 pub kind_kept : IsKept kind

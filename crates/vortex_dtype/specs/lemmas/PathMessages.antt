@@ -19,14 +19,12 @@ steps_by_names p q e = sym (by_names p) ∙ ap (map (option_map Name)) e ∙ by_
 
 path_of_steps : (ns : List (Option (List ℕ))) (p : List Step) → map (option_map Name) ns ≡ map Some p → path_of ns ≡ Some p
 path_of_steps [] [] e = refl
-path_of_steps [] (x ∷ p) e = cc
-path_of_steps (None ∷ ns) [] e = cc
-path_of_steps (None ∷ ns) (x ∷ p) e = cc
-path_of_steps (Some n ∷ ns) [] e = cc
 path_of_steps (Some n ∷ ns) (x ∷ p) e =
     let h : Name n ≡ x = cc in
     let t : map (option_map Name) ns ≡ map Some p = cc in
     ap (option_map (λ q. Name n ∷ q)) (path_of_steps ns p t) ∙ ap (λ s. Some (s ∷ p)) h
+path_of_steps (None ∷ ns) (x ∷ p) e = cc
+path_of_steps _ _ e = cc
 
 -- where each part says a step, the steps are the path
 pub path_by_steps : (parts : List Field) (p : List Step) → map step_of parts ≡ map Some p → path_of (map part_name parts) ≡ Some p

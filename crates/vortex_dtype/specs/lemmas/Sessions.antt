@@ -2,11 +2,11 @@
 -- SPDX-FileCopyrightText: Copyright the Vortex contributors
 
 -- Laws of sessions: what is registered after a list of calls, what is kept, and what is admitted.
-use Rattle.std.specs.Prelude.{◌≡◌, ◌≢◌, ◌↔◌, ℕ, List, [], ◌∷◌, ◌++◌, Option, Some, None, Bool, true, false, if◌then◌else◌, bytes_eq, option_and_then, refl}
+use Rattle.std.specs.Prelude.{◌≡◌, ◌≢◌, ◌↔◌, ℕ, List, [], ◌∷◌, ◌++◌, Option, Some, None, Bool, true, false, if◌then◌else◌, bytes_eq, refl}
 use Rattle.std.specs.List.{list_any}
 use Rattle.std.proofs.Common.{sym, ap, ◌∙◌, subst}
 use Rattle.std.proofs.lemmas.Bool.{false_from_ne_true}
-use Rattle.std.proofs.lemmas.Option.{same_Some}
+use Rattle.std.proofs.lemmas.Option.{option_and_then_some, same_Some}
 use Rattle.std.proofs.lemmas.Slice.Eq.{bytes_eq-Decides}
 use Rattle.dtype_base.specs.declared.nullability.Nullability.{Nullability}
 use Rattle.dtype_base.specs.declared.nullability.Nullability.TheVariants.{NonNullable, Nullable}
@@ -19,11 +19,6 @@ use Rattle.vortex_dtype.specs.lemmas.Allowing.{unrefused}
 use Rattle.vortex_dtype.specs.Calls.{Call, register, allow, after, LeavesAlone, is_allow}
 
 -- ---- lists of calls
-
-after-append : (before rest : List Call) (m : Meaning) → after (before ++ rest) m ≡ after rest (after before m)
-after-append [] rest m = refl
-after-append (register i r ∷ before) rest m = after-append before rest (register_in i r m)
-after-append (allow ∷ before) rest m = after-append before rest (allow_unknown_in m)
 
 -- a registration under another id changes nothing for this id
 pub register_in-other : (i id : List ℕ) (r : Rewrites) (m : Meaning) → i ≢ id → (register_in i r m).registered id ≡ m.registered id
@@ -44,9 +39,9 @@ after-left_alone (allow ∷ calls) m id h = after-left_alone calls (allow_unknow
 
 pub after-last : (before rest : List Call) (m : Meaning) (id : List ℕ) (r : Rewrites) → LeavesAlone id rest
     → (after (before ++ register id r ∷ rest) m).registered id ≡ Some r
-after-last before rest m id r h =
-    ap (λ (s : Meaning). s.registered id) (after-append before (register id r ∷ rest) m)
-    ∙ after-left_alone rest (register_in id r (after before m)) id h ∙ register_in-same id r (after before m)
+after-last [] rest m id r h = after-left_alone rest (register_in id r m) id h ∙ register_in-same id r m
+after-last (register i q ∷ before) rest m id r h = after-last before rest (register_in i q m) id r h
+after-last (allow ∷ before) rest m id r h = after-last before rest (allow_unknown_in m) id r h
 
 -- once unknown ids are allowed, they stay allowed
 stays-unknown : (calls : List Call) (m : Meaning) → m.unknown ≡ true → (after calls m).unknown ≡ true
@@ -89,14 +84,9 @@ same_by m t u e = let p = same_Some t u e in (λ a. subst (Admits m) p a, λ a. 
 pub admits-set_null : (m : Meaning) → LawfulSession m → (t u : Tree) (n : Nullability) → Valid t → set_null t n ≡ Some u → Admits m t ↔ Admits m u
 admits-set_null m h null u NonNullable v e = cc
 admits-set_null m h null u Nullable v e = same_by m null u e
-admits-set_null m h (extension id b s) u n v e = go (set_null s n) (λ x is. admits-set_null m h s x n v.1 is) (λ x is. keeps_outer m h id b s x n v.0 v.1 is) refl e
-  where
-    go : (o : Option Tree) → ((x : Tree) → set_null s n ≡ Some x → Admits m s ↔ Admits m x) → ((x : Tree) → set_null s n ≡ Some x → keeps m id b x ≡ keeps m id b s) → set_null s n ≡ o → option_and_then (λ x. Some (extension id b x)) o ≡ Some u → Admits m (extension id b s) ↔ Admits m u
-    go None ih ks is e' = cc
-    go (Some x) ih ks is e' =
-        let p = same_by m (extension id b x) u e' in
-        let k = ks x is in
-        (λ a. p.0 (k ∙ a.0, (ih x is).0 a.1), λ a. let b' = p.1 a in (sym k ∙ b'.0, (ih x is).1 b'.1))
+admits-set_null m h (extension id b s) u n v e = option_and_then_some (λ x. Some (extension id b x)) (set_null s n) u e (λ x is same.
+    let p = same_by m (extension id b x) u same in let k = keeps_outer m h id b s x n v.0 v.1 is in let rest = admits-set_null m h s x n v.1 is in
+    (λ a. p.0 (k ∙ a.0, rest.0 a.1), λ a. let b' = p.1 a in (sym k ∙ b'.0, rest.1 b'.1)))
 admits-set_null m h _ u n v e = same_by m _ u e
 
 -- a session without plugins that keeps unknown ids admits every type
@@ -185,3 +175,6 @@ flag_allow_unknown_in m = unknown_allow_unknown_in m (allow_unknown_in m) refl
 
 -- What calls of a session change and leave alone, what it keeps and what it admits: for callers' proofs.
 pub ruleset sessions = (registered_register_in, others_register_in, unknown_register_in, flag_register_in, registered_allow_unknown_in, unknown_allow_unknown_in, flag_allow_unknown_in, registered_empty_meaning, unknown_empty_meaning, admits_allow_unknown_in, kept_allow_unknown_in, admits_one_more, admits_more, admits_fields-behind, keeps_again, keeps_outer, unrefused)
+
+-- What is registered and allowed after any calls, and what is admitted whatever the outer nullability: for the laws.
+pub ruleset session_laws = (register_in-same, register_in-other, after-last, after-left_alone, after-unknown, admits-set_null)

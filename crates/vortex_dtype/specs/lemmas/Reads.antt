@@ -19,7 +19,7 @@ use Rattle.dtype_base.specs.declared.vortex_error.VortexError.{VortexError}
 use Rattle.dtype_base.specs.declared.vortex_error.MessageFault.{MessageFault}
 use Rattle.dtype_base.specs.declared.vortex_error.MessageFault.TheVariants.{ListElementMissing, FixedElementMissing, MapKeyMissing, MapValueMissing, StorageMissing}
 use Rattle.dtype_base.specs.Distinct.{Distinct}
-use Rattle.dtype_types.specs.nullability.Nullable.{nullability}
+use Rattle.dtype_types.specs.nullability.Nullable.{nullability, set_null}
 use Rattle.dtype_types.specs.tree.Tree as of
 use Rattle.dtype_types.specs.tree.Tree.{Tree, Fields, no_fields, field, fields, Variants, no_variants, choice, variants}
 use Rattle.dtype_types.specs.tree.Valid.{Valid, ValidFields, ValidVariants, HasVariant, LacksName, LacksTag}
@@ -31,7 +31,9 @@ use Rattle.vortex_dtype.specs.Reads.{Reads, ReadsChild, ReadsFields, ReadsVarian
 use Rattle.vortex_dtype.specs.Accepts.{Accepts}
 use Rattle.vortex_dtype.specs.Written.{is_nullable, written, written_names, written_fields, written_variant_names, written_variants, written_tags, Normal, NormalChild, NormalAll}
 use Rattle.vortex_dtype.specs.IsMessage.{IsMessage, IsChild, AreMessages}
-use Rattle.vortex_dtype.specs.lemmas.Sessions.{keeps_again}
+use Rattle.vortex_dtype.specs.lemmas.Sessions.{admits-set_null, keeps_again}
+use Rattle.vortex_dtype.specs.lemmas.Written.{nullability_of-is, written_is}
+use Rattle.dtype_types.specs.lemmas.Validity.{set_valid}
 use Rattle.vortex_dtype.specs.lemmas.Decimals.{fault_invalid}
 use Rattle.vortex_dtype.specs.lemmas.InOrder.{AreBytes, ReadsAll, byte_is, bytes_are, child_once, count_all, fields_read, read_fault, read_reads, reads_once, reads_read, variants_read}
 use Rattle.vortex_dtype.specs.lemmas.Unions.{makes_unrefused, tags_down}
@@ -45,9 +47,6 @@ no_tag_fault (g ∷ gs) (k ∷ tags) e f =
     let first : integer_byte g ≡ Some k = cc in let rest : AreBytes gs tags = cc in
     ⊎_elim (λ a. none-some k (sym a ∙ first)) (no_tag_fault gs tags rest) f
 
-two : (n : Nullability) → n ≡ Nullable → n ≡ NonNullable → ⊥
-two n e f = let g : Nullable ≡ NonNullable = sym e ∙ f in cc
-
 mutual
   pub fault_none : (s : Meaning) (m : Message) (k : VortexError) (t : Tree) → Fault s m k → Reads s m t → ⊥
   fault_none s missing k t f h = h
@@ -56,7 +55,7 @@ mutual
   fault_none s (list c x) k t f h = child_none s ListElementMissing c k h.0 f h.1
   fault_none s (fixed_size_list c n x) k t f h = child_none s FixedElementMissing c k h.0 f h.1
   fault_none s (map_of c v o x) k t f h =
-      ⊎_elim (λ a. child_none s MapKeyMissing c k h.0 a h.2) (⊎_elim (λ a. child_none s MapValueMissing v k h.1 a h.3) (λ a. two (nullability h.0) (ap nullability (child_once s c h.0 a.1 h.2 a.2) ∙ a.3) h.4)) f
+      ⊎_elim (λ a. child_none s MapKeyMissing c k h.0 a h.2) (⊎_elim (λ a. child_none s MapValueMissing v k h.1 a h.3) (λ a. let clash : Nullable ≡ NonNullable = sym (ap nullability (child_once s c h.0 a.1 h.2 a.2) ∙ a.3) ∙ h.4 in cc)) f
   fault_none s (struct ns ms x) k t f h =
       let r = fields_read s ns ms h.0 h.1 in
       ⊎_elim (λ a. some_none s ms k r.0 a r.1.types) (λ a. a.1 (r.1.count ∙ count_all s ms r.0 r.1.types)) f
@@ -99,10 +98,6 @@ fault_refused s m e f = unread_refused s m (λ t h. fault_none s m e t f h)
 is_nullable-of : (f : Bool) → is_nullable (nullability_of f) ≡ f
 is_nullable-of true = refl
 is_nullable-of false = refl
-
-pub nullability_of-is : (n : Nullability) → nullability_of (is_nullable n) ≡ n
-nullability_of-is Nullable = refl
-nullability_of-is NonNullable = refl
 
 -- the message of a struct or a union that was read, from its parts
 field_messages : (ns : List (List ℕ)) (ts : List Tree) → length ns ≡ length ts → (written_names (fields (zip ns ts)) ≡ ns) × (written_fields (fields (zip ns ts)) ≡ messages (map written ts))
@@ -291,15 +286,11 @@ reads_accepted s m t l i h = let a = reads_sound s l m t i h in record { reads =
 pub written_accepted : (s : Meaning) (t : Tree) → Valid t → Admits s t → Accepts s (written t) t
 written_accepted s t v a = record { reads = written_reads s t v a; valid = v; admitted = a }
 
--- accepted types of which the messages are equal are equal
-written_once : (s : Meaning) (m n : Message) (t u : Tree) → Accepts s m t → Accepts s n u → written t ≡ written u → t ≡ u
-written_once s m n t u a b e =
-    reads_once s (written u) t u (subst (λ (x : Message). Reads s x t) e (written_reads s t a.valid a.admitted)) (written_reads s u b.valid b.admitted)
-
+-- accepted types are equal where their normal forms are, and a normal form is its own
 pub same_normal : (s : Meaning) (m n : Message) (t u : Tree) (a b : Message) → Accepts s m t → Accepts s n u → Normal s m a → Normal s n b → (t ≡ u → a ≡ b) × (a ≡ b → t ≡ u)
 same_normal s m n t u a b h k p q =
     let ea = (written_normal s m a t h.reads).0 p in let eb = (written_normal s n b u k.reads).0 q in
-    (λ e. ea ∙ ap written e ∙ sym eb, λ e. written_once s m n t u h k (sym ea ∙ e ∙ eb))
+    (λ e. ea ∙ ap written e ∙ sym eb, λ e. written_is t u (sym ea ∙ e ∙ eb))
 
 pub normal_again : (s : Meaning) (m n : Message) (t : Tree) → Accepts s m t → Normal s m n → Normal s n n
 normal_again s m n t h k =
@@ -312,3 +303,10 @@ read_alike s m n t u e a b = reads_once s n t u (subst (λ (x : Message). Reads 
 
 pub copy_accepted : (s : Meaning) (m n : Message) (t : Tree) → m ≡ n → Accepts s m t → Accepts s n t
 copy_accepted s m n t e a = subst (λ (x : Message). Accepts s x t) e a
+
+-- what a session admits it admits with another outer nullability, and reads back
+pub other_nullability : (s : Meaning) → LawfulSession s → (t u : Tree) (n : Nullability) → Valid t → Admits s t → set_null t n ≡ Some u → Valid u × Admits s u × Accepts s (written u) u
+other_nullability s l t u n v a e =
+    let valid = set_valid t u n e v in
+    let admitted = (admits-set_null s l t u n v e).0 a in
+    (valid, admitted, written_accepted s u valid admitted)

@@ -1,24 +1,22 @@
 -- SPDX-License-Identifier: Apache-2.0
 -- SPDX-FileCopyrightText: Copyright the Vortex contributors
 
--- Types of which the messages are equal are equal, and a valid type of another nullability is valid.
-use Rattle.std.proofs.Common.{◌≡◌, Some, refl, sym, ap, ◌∙◌}
+-- Types of which the messages are equal are equal.
+use Rattle.std.proofs.Common.{◌≡◌, refl, sym, ap, ◌∙◌}
 use Rattle.std.proofs.lemmas.Option.{same_Some}
 use Rattle.dtype_base.specs.declared.nullability.Nullability.{Nullability}
+use Rattle.dtype_base.specs.declared.nullability.Nullability.TheVariants.{NonNullable, Nullable}
 use Rattle.dtype_base.specs.Nullability.{nullability_of}
-use Rattle.dtype_types.specs.nullability.Nullable.{set_null}
 use Rattle.dtype_types.specs.tree.Tree.{Tree, Fields, no_fields, field, Variants, no_variants, choice, null, bool, primitive, decimal, utf8, binary, list, fixed_size_list, map_of, struct, union, variant, extension}
-use Rattle.dtype_types.specs.tree.Valid.{Valid}
-use Rattle.dtype_types.specs.lemmas.Validity.{set_valid}
 use Rattle.dtype_base.specs.declared.ptype.PType.{PType}
 use Rattle.dtype_messages.specs.PTypeNumbers.{ptype_at}
-use Rattle.vortex_dtype.specs.Accepts.{Accepts}
-use Rattle.vortex_dtype.specs.Meaning.{Meaning, Admits, LawfulSession}
 use Rattle.vortex_dtype.specs.Reads.{decimal_with, number}
 use Rattle.vortex_dtype.specs.Written.{is_nullable, written, written_names, written_fields, written_variant_names, written_variants, written_tags}
 use Rattle.vortex_dtype.specs.lemmas.InOrder.{ptype_at-number}
-use Rattle.vortex_dtype.specs.lemmas.Reads.{nullability_of-is, written_accepted}
-use Rattle.vortex_dtype.specs.lemmas.Sessions.{admits-set_null}
+
+pub nullability_of-is : (n : Nullability) → nullability_of (is_nullable n) ≡ n
+nullability_of-is Nullable = refl
+nullability_of-is NonNullable = refl
 
 flag_once : (m n : Nullability) → is_nullable m ≡ is_nullable n → m ≡ n
 flag_once m n e = sym (nullability_of-is m) ∙ ap nullability_of e ∙ nullability_of-is n
@@ -55,10 +53,3 @@ mutual
   variants_is no_variants no_variants e f g = refl
   variants_is (choice n x k rest) (choice o y l others) e f g = cc (written_is x y (cc), variants_is rest others (cc) (cc) (cc))
   variants_is _ _ e f g = cc
-
--- what a session admits it admits with another outer nullability, and reads back
-pub other_nullability : (s : Meaning) → LawfulSession s → (t u : Tree) (n : Nullability) → Valid t → Admits s t → set_null t n ≡ Some u → Valid u × Admits s u × Accepts s (written u) u
-other_nullability s l t u n v a e =
-    let valid = set_valid t u n e v in
-    let admitted = (admits-set_null s l t u n v e).0 a in
-    (valid, admitted, written_accepted s u valid admitted)

@@ -2,15 +2,12 @@
 -- SPDX-FileCopyrightText: Copyright the Vortex contributors
 
 -- Facts on the meanings of sessions.
-use Rattle.std.proofs.Common.{◌≡◌, ◌⊎◌, ℕ, List, Option, Some, None, Result, IfErr, Bool, true, false, ap, cond, inl, inr, subst}
+use Rattle.std.proofs.Common.{◌≡◌, ℕ, List, Option, Some, None, Bool, true, false, ap, cond, subst}
 use Rattle.std.proofs.lemmas.Option.{same_Some}
-use Rattle.std.proofs.lemmas.Result.{IfErr-weaker}
 use Rattle.std.specs.Prelude.{option_map}
 use Rattle.std.specs.declared.string.String.{String}
 use Rattle.std.specs.declared.alloc.Global.{Global}
 use Rattle.vortex_dtype.specs.Meaning.{Rewrites, Meaning, Lawful}
-use Rattle.dtype_base.specs.declared.vortex_error.VortexError.{VortexError}
-use Rattle.dtype_base.specs.declared.vortex_error.VortexError.TheVariants.{OutOfMemory, MetadataRefused}
 use Rattle.vortex_dtype.specs.Session.{meaning_of}
 
 pub same_entries : {B : Type 0} (r : B → Rewrites) (es fs : List (String Global × B)) (u : Bool) → es ≡ fs → meaning_of r es u ≡ meaning_of r fs u
@@ -26,11 +23,3 @@ option_map-cond r false x o p e = ap (option_map r) e
 pub lawful_found : {B : Type 0} (r : B → Rewrites) → ((b : B) → Lawful (r b)) → (o : Option B) (q : Rewrites) → option_map r o ≡ Some q → Lawful q
 lawful_found r h None q e = cc
 lawful_found r h (Some b) q e = subst Lawful (same_Some _ _ e) (h b)
-
-weaker : (P Q : Type 0) → (P → Q) → (e : VortexError) → (e ≡ OutOfMemory) ⊎ ((e ≡ MetadataRefused) × P) → (e ≡ OutOfMemory) ⊎ ((e ≡ MetadataRefused) × Q)
-weaker P Q f e (inl none) = inl none
-weaker P Q f e (inr both) = inr (both.0, f both.1)
-
--- an error where P holds is one where Q holds, if Q follows
-pub refused_weaker : {X : Type 0} (P Q : Type 0) (o : Result X VortexError) → (P → Q) → IfErr o (λ e. (e ≡ OutOfMemory) ⊎ ((e ≡ MetadataRefused) × P)) → IfErr o (λ e. (e ≡ OutOfMemory) ⊎ ((e ≡ MetadataRefused) × Q))
-refused_weaker P Q o f h = IfErr-weaker o _ _ (weaker P Q f) h

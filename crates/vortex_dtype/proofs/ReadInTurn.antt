@@ -106,10 +106,9 @@ tag_stops gs i d bs h e inv = sym (rw (next gs i d h, e) at inv)
 
 -- tags that are read fit 32 bits
 bytes_fit : (gs : List ℤ) (tags : List ℕ) → AreBytes gs tags → AllByRecursion (λ g. FitsSigned w32 g) gs
-bytes_fit [] tags e = tt
-bytes_fit (g ∷ gs) [] e = cc
-bytes_fit (g ∷ gs) (k ∷ tags) e =
-    let first : integer_byte g ≡ Some k = cc in let rest : AreBytes gs tags = cc in let is = byte_is g k first in (omega (arith, ints, is), bytes_fit gs tags rest)
+bytes_fit [] tags h = tt
+bytes_fit (g ∷ gs) [] h = absurd h
+bytes_fit (g ∷ gs) (k ∷ tags) h = let is = byte_is g k h.0 in (omega (arith, ints, is), bytes_fit gs tags h.1)
 
 pub tags_fit : (gs : List ℤ) (tags : List ℕ) → read_tags gs ≡ Ok tags → AreTags gs
 tags_fit gs tags e = All-from_recursion (λ g. FitsSigned w32 g) gs (bytes_fit gs tags (MatchResult-at_ok (AreBytes gs) _ tags e (tags_reading gs)))

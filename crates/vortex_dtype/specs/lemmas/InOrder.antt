@@ -7,7 +7,6 @@ use Rattle.std.proofs.Common.{◌≡◌, ◌≢◌, inl, inr, ℕ, suc, ℤ, pos
 use Rattle.std.specs.List.{zip}
 use Rattle.std.proofs.lemmas.Bool.Decides.{Decides-eqb, nat_tests, not_from_Decides}
 use Rattle.std.proofs.lemmas.Int.{ints}
-use Rattle.std.proofs.lemmas.List.{length-map}
 use Rattle.std.proofs.lemmas.Option.{none-some}
 use Rattle.std.proofs.lemmas.Result.{MatchResult-at_err, MatchResult-at_ok, MatchResult-weaker}
 use Rattle.dtype_base.specs.declared.nullability.Nullability.{Nullability}
@@ -56,17 +55,14 @@ byte_is (negsuc n) k e = cc
 
 -- these tags are those bytes
 abbrev pub AreBytes : List ℤ → List ℕ → Type 0
-AreBytes gs tags = map integer_byte gs ≡ map Some tags
+AreBytes [] [] = Unit {0}
+AreBytes (g ∷ gs) (k ∷ tags) = (integer_byte g ≡ Some k) × AreBytes gs tags
+AreBytes _ _ = ⊥
 
 pub bytes_are : (gs : List ℤ) (tags : List ℕ) → AreBytes gs tags → gs ≡ map pos tags
-bytes_are [] [] e = refl
-bytes_are (g ∷ gs) (k ∷ tags) e =
-    let first : integer_byte g ≡ Some k = cc in let rest : AreBytes gs tags = cc in
-    ap (λ x. x ∷ gs) (byte_is g k first).0 ∙ ap (λ xs. pos k ∷ xs) (bytes_are gs tags rest)
-bytes_are _ _ e = cc
-
-pub bytes_count : (gs : List ℤ) (tags : List ℕ) → AreBytes gs tags → length gs ≡ length tags
-bytes_count gs tags e = ap length (bytes_are gs tags e) ∙ length-map tags pos
+bytes_are [] [] h = refl
+bytes_are (g ∷ gs) (k ∷ tags) h = ap (λ x. x ∷ gs) (byte_is g k h.0).0 ∙ ap (λ xs. pos k ∷ xs) (bytes_are gs tags h.1)
+bytes_are _ _ h = absurd h
 
 -- ---- lists of messages
 
@@ -90,9 +86,8 @@ reads_variants : (s : Meaning) (ns : List (List ℕ)) (ms : Messages) (gs : List
     → ReadsVariants s ns ms gs (variants (zip ns (zip ts tags)))
 reads_variants s [] no_message [] [] [] h b e f = refl
 reads_variants s (n ∷ ns) (more m ms) (g ∷ gs) (t ∷ ts) (k ∷ tags) h b e f =
-    let first : integer_byte g ≡ Some k = cc in let rest : AreBytes gs tags = cc in
-    (t, k, variants (zip ns (zip ts tags)), h.0, first, reads_variants s ns ms gs ts tags h.1 rest (omega (arith, e)) (omega (arith, f)), refl)
-reads_variants s ns ms gs ts tags h b e f = let c = bytes_count gs tags b in grind arith
+    (t, k, variants (zip ns (zip ts tags)), h.0, b.0, reads_variants s ns ms gs ts tags h.1 b.1 (omega (arith, e)) (omega (arith, f)), refl)
+reads_variants s _ _ _ _ _ h b e f = grind arith
 
 -- the types of fields that read
 pub record FieldsRead (s : Meaning) (ns : List (List ℕ)) (ms : Messages) (fs : Fields) (ts : List Tree) : Type 0 where
@@ -116,12 +111,12 @@ pub record VariantsRead (s : Meaning) (ns : List (List ℕ)) (ms : Messages) (gs
   pub is : vs ≡ variants (zip ns (zip ts tags))
 
 pub variants_read : (s : Meaning) (ns : List (List ℕ)) (ms : Messages) (gs : List ℤ) (vs : Variants) → ReadsVariants s ns ms gs vs → (ts : List Tree) × (tags : List ℕ) × VariantsRead s ns ms gs vs ts tags
-variants_read s [] no_message [] vs h = ([], [], record { types = tt; bytes = refl; count = refl; tags_count = refl; is = h })
+variants_read s [] no_message [] vs h = ([], [], record { types = tt; bytes = tt; count = refl; tags_count = refl; is = h })
 variants_read s (n ∷ ns) (more m ms) (g ∷ gs) vs h =
     let rest = variants_read s ns ms gs h.2 h.5 in let r = rest.2 in (
       h.0 ∷ rest.0,
       h.1 ∷ rest.1,
-      record { types = (h.3, r.types); bytes = cc (h.4, r.bytes); count = ap suc r.count; tags_count = ap suc r.tags_count; is = h.6 ∙ ap (choice n h.0 h.1) r.is },
+      record { types = (h.3, r.types); bytes = (h.4, r.bytes); count = ap suc r.count; tags_count = ap suc r.tags_count; is = h.6 ∙ ap (choice n h.0 h.1) r.is },
     )
 variants_read s _ _ _ vs h = absurd h
 
@@ -129,10 +124,10 @@ variants_read s _ _ _ vs h = absurd h
 
 pub tags_reading : (gs : List ℤ) → MatchResult (read_tags gs) (AreBytes gs) (λ e. (e ≡ Faulty TypeIdRange) × SomeTagFault gs)
 unfolding read_tags
-tags_reading [] = refl
+tags_reading [] = tt
 tags_reading (g ∷ gs) =
     in_turn (or_fault (Faulty TypeIdRange) (integer_byte g)) _ _ _ _ _ (given (Faulty TypeIdRange) (integer_byte g))
-    (λ k is. in_turn (read_tags gs) _ _ _ _ _ (tags_reading gs) (λ ks rest. ap (λ o. o ∷ map integer_byte gs) is ∙ ap (λ os. Some k ∷ os) rest) (λ e f. (f.0, inr f.1)))
+    (λ k is. in_turn (read_tags gs) _ _ _ _ _ (tags_reading gs) (λ ks rest. (is, rest)) (λ e f. (f.0, inr f.1)))
     (λ e f. (f.0, inl f.1))
 
 primitive_reading : (k : ℤ) (n : Nullability) → MatchResult (primitive_read k n) (λ t. (p : PType) × (k ≡ number p) × (t ≡ of.primitive p n)) (λ e. (e ≡ Faulty PrimitiveNumber) × ((p : PType) → k ≢ number p))
@@ -217,9 +212,9 @@ decimal_read_ok p k n v =
 
 tags_ok : (gs : List ℤ) (tags : List ℕ) → AreBytes gs tags → read_tags gs ≡ Ok tags
 unfolding read_tags
-tags_ok [] [] e = refl
-tags_ok (g ∷ gs) (k ∷ tags) e = let first : integer_byte g ≡ Some k = cc in let rest : AreBytes gs tags = cc in rw (first, tags_ok gs tags rest) refl
-tags_ok _ _ e = cc
+tags_ok [] [] h = refl
+tags_ok (g ∷ gs) (k ∷ tags) h = rw (h.0, tags_ok gs tags h.1) refl
+tags_ok _ _ h = absurd h
 
 mutual
   unfolding read primitive_read map_read struct_read union_read extension_read

@@ -41,11 +41,9 @@ use Rattle.vortex_dtype.specs.lemmas.Unions.{makes_unrefused, tags_down}
 -- ---- a message with a fault reads as no type
 
 no_tag_fault : (gs : List ℤ) (tags : List ℕ) → AreBytes gs tags → SomeTagFault gs → ⊥
-no_tag_fault [] tags e f = f
-no_tag_fault (g ∷ gs) [] e f = cc
-no_tag_fault (g ∷ gs) (k ∷ tags) e f =
-    let first : integer_byte g ≡ Some k = cc in let rest : AreBytes gs tags = cc in
-    ⊎_elim (λ a. none-some k (sym a ∙ first)) (no_tag_fault gs tags rest) f
+no_tag_fault [] tags h f = f
+no_tag_fault (g ∷ gs) [] h f = h
+no_tag_fault (g ∷ gs) (k ∷ tags) h f = ⊎_elim (λ a. none-some k (sym a ∙ h.0)) (no_tag_fault gs tags h.1) f
 
 mutual
   pub fault_none : (s : Meaning) (m : Message) (k : VortexError) (t : Tree) → Fault s m k → Reads s m t → ⊥
@@ -186,9 +184,9 @@ has_variant [] _ _ some e f = absurd (some refl)
 has_variant (n ∷ ns) _ _ some e f = cc
 
 bytes_below : (gs : List ℤ) (tags : List ℕ) → AreBytes gs tags → AllByRecursion (λ g. g < 256) tags
-bytes_below gs [] e = tt
-bytes_below [] (k ∷ tags) e = cc
-bytes_below (g ∷ gs) (k ∷ tags) e = let first : integer_byte g ≡ Some k = cc in let rest : AreBytes gs tags = cc in ((byte_is g k first).1, bytes_below gs tags rest)
+bytes_below gs [] h = tt
+bytes_below [] (k ∷ tags) h = absurd h
+bytes_below (g ∷ gs) (k ∷ tags) h = ((byte_is g k h.0).1, bytes_below gs tags h.1)
 
 mutual
   pub reads_sound : (s : Meaning) → LawfulSession s → (m : Message) (t : Tree) → IsMessage m → Reads s m t → Sound s t

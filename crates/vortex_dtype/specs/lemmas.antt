@@ -1,7 +1,6 @@
 -- SPDX-License-Identifier: Apache-2.0
 -- SPDX-FileCopyrightText: Copyright the Vortex contributors
 
-pub mod Results
 pub mod Decimals
 pub mod Unions
 pub mod Sessions
@@ -10,7 +9,5 @@ pub mod InOrder
 pub mod Written
 pub mod PathMessages
 pub mod Reading
-pub mod MissingParts
-pub mod Allowing
 pub mod Compared
 pub mod Differences

@@ -3,7 +3,7 @@
 
 -- The reading function agrees with the relations: it gives a type exactly where the message reads as that type, and
 -- else a fault of the message.
-use Rattle.std.proofs.Common.{◌≡◌, ◌≢◌, inl, inr, ℕ, suc, ℤ, pos, negsuc, ◌<◌, ◌==◌, List, [], ◌∷◌, length, map, Some, Result, Ok, Err, MatchResult, refl, sym, ap, subst, ◌∙◌, arith}
+use Rattle.std.proofs.Common.{◌≡◌, ◌≢◌, inl, inr, ℕ, suc, ℤ, pos, negsuc, ◌<◌, ◌==◌, List, [], ◌∷◌, length, map, Bool, true, false, cond, Option, Some, None, Result, Ok, Err, MatchResult, refl, sym, ap, subst, ◌∙◌, arith}
 use Rattle.std.specs.List.{zip}
 use Rattle.std.proofs.lemmas.Bool.Decides.{Decides-eqb, nat_tests, not_from_Decides}
 use Rattle.std.proofs.lemmas.Int.{ints}
@@ -30,10 +30,25 @@ use Rattle.dtype_messages.specs.PTypeNumbers.{ptype_at, ptype_from}
 use Rattle.vortex_dtype.specs.Meaning.{Meaning, keeps, unkept_error}
 use Rattle.vortex_dtype.specs.Numbers.{integer_byte, natural_byte, signed_byte}
 use Rattle.vortex_dtype.specs.Reads.{Reads, ReadsChild, ReadsFields, ReadsVariants, Fault, ChildFault, SomeFault, SomeTagFault, UnionFault, DecimalFault, decimal_with, number, message_count}
-use Rattle.vortex_dtype.specs.ReadInOrder.{decimal_made, read, read_child, read_all, read_tags, primitive_read, decimal_read, map_read, when_required, struct_read, union_made, union_read, extension_read, or_fault, or_empty}
+use Rattle.vortex_dtype.specs.ReadInOrder.{◌>>=◌, decimal_made, read, read_child, read_all, read_tags, primitive_read, decimal_read, map_read, when_required, struct_read, union_made, union_read, extension_read, or_fault, or_empty}
 use Rattle.vortex_dtype.specs.lemmas.Decimals.{decimal_making, decimal_ok, precision_given, scale_given}
-use Rattle.vortex_dtype.specs.lemmas.Results.{by_test, given, in_turn}
 use Rattle.vortex_dtype.specs.lemmas.Unions.{tags_down, tags_up, union_making, union_ok}
+
+-- ---- what holds of the result of a test, of a missing part and of two steps in turn
+
+by_test : {A E : Type 0} (b : Bool) (x y : Result A E) (P : A → Type 0) (Q : E → Type 0) → (b ≡ true → MatchResult x P Q) → (b ≡ false → MatchResult y P Q) → MatchResult (cond b x y) P Q
+by_test true x y P Q h k = h refl
+by_test false x y P Q h k = k refl
+
+given : {A : Type 0} (k : VortexError) (o : Option A) → MatchResult (or_fault k o) (λ x. o ≡ Some x) (λ e. (e ≡ k) × (o ≡ None))
+given k None = (refl, refl)
+given k (Some x) = refl
+
+-- the second step takes what the first gives; its error is that of both
+in_turn : {A B : Type 0} (r : Result A VortexError) (f : A → Result B VortexError) (P : A → Type 0) (Q : VortexError → Type 0) (R : B → Type 0) (S : VortexError → Type 0)
+    → MatchResult r P Q → ((x : A) → P x → MatchResult (f x) R S) → ((e : VortexError) → Q e → S e) → MatchResult (r >>= f) R S
+in_turn (Ok x) f P Q R S h next stop = next x h
+in_turn (Err e) f P Q R S h next stop = stop e h
 
 -- ---- numbers
 

@@ -1,8 +1,8 @@
 -- SPDX-License-Identifier: Apache-2.0
 -- SPDX-FileCopyrightText: Copyright the Vortex contributors
 
--- The steps that a path message says are those of the names that it holds.
-use Rattle.std.proofs.Common.{◌≡◌, ◌∙◌, ℕ, List, [], ◌∷◌, ◌++◌, Option, Some, None, ap, refl, sym, map, option_map}
+-- The steps that a path message says are those of the names that it holds; without a name at each part it makes no path.
+use Rattle.std.proofs.Common.{◌≡◌, ◌∙◌, ◌<◌, ℕ, zero, suc, List, [], ◌∷◌, ◌++◌, Contains, Option, Some, None, get_or, length, ap, refl, subst, sym, map, option_map, arith}
 use Rattle.std.proofs.lemmas.Simd.{map-map}
 use Rattle.dtype_paths.specs.declared.field.Field.{Field as Step}
 use Rattle.dtype_paths.specs.declared.field.Field.TheVariants.{Name}
@@ -48,3 +48,18 @@ pub no_path : (before rest : List (Option (List ℕ))) → path_of (before ++ No
 no_path [] rest = refl
 no_path (None ∷ before) rest = refl
 no_path (Some n ∷ before) rest = ap (option_map (λ q. Name n ∷ q)) (no_path before rest)
+
+-- a path message one of whose parts has no kind makes no path
+all_given : (p : List Step) (i : ℕ) → i < length (map Some p) → get_or (map Some p) i None ≡ None → ⊥
+all_given [] i less e = absurd (omega arith)
+all_given (x ∷ p) zero less e = cc
+all_given (x ∷ p) (suc i) less e = all_given p i (omega arith) e
+
+pub missing_part : (m : FieldPath) → Contains (steps_of m) None → path_of (part_names m) ≡ None
+missing_part m missing = go (path_of (part_names m)) refl
+  where
+    go : (o : Option (List Step)) → path_of (part_names m) ≡ o → path_of (part_names m) ≡ None
+    go None e = e
+    go (Some p) e =
+        let some : Contains (map Some p) None = subst (λ steps. Contains steps None) (path_steps m p e) missing in
+        absurd (all_given p some.0 some.1 some.2)

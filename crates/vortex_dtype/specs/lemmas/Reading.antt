@@ -4,8 +4,7 @@
 -- Reading and writing, for callers' proofs: from a result of reading to the type that the message says and back, what is
 -- written of admitted types, and what equal messages and copies of paths give.
 use Rattle.vortex_dtype.specs.lemmas.InOrder.{read_reads, reads_once, reads_read}
-use Rattle.vortex_dtype.specs.lemmas.MissingParts.{missing_part}
-use Rattle.vortex_dtype.specs.lemmas.PathMessages.{no_path, path_steps, steps_by_names}
+use Rattle.vortex_dtype.specs.lemmas.PathMessages.{missing_part, no_path, path_steps, steps_by_names}
 use Rattle.vortex_dtype.specs.lemmas.Reads.{copy_accepted, fault_none, fault_refused, normal_again, other_nullability, read_alike, reads_accepted, refused_faulty, same_normal, unread_refused, written_accepted, written_normal, written_read}
 use Rattle.vortex_dtype.specs.lemmas.Written.{written_is}
 

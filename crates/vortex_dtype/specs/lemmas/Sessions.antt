@@ -10,12 +10,15 @@ use Rattle.std.proofs.lemmas.Option.{option_and_then_some, same_Some}
 use Rattle.std.proofs.lemmas.Slice.Eq.{bytes_eq-Decides}
 use Rattle.dtype_base.specs.declared.nullability.Nullability.{Nullability}
 use Rattle.dtype_base.specs.declared.nullability.Nullability.TheVariants.{NonNullable, Nullable}
+use Rattle.dtype_base.specs.declared.vortex_error.VortexError.{VortexError}
+use Rattle.dtype_base.specs.declared.vortex_error.VortexError.TheVariants.{MetadataRefused, Message}
+use Rattle.dtype_base.specs.declared.vortex_error.MessageFault.TheVariants.{ExtensionUnregistered}
 use Rattle.dtype_types.specs.tree.Kinds.{struct_fields}
 use Rattle.dtype_types.specs.tree.Tree.{Tree, Fields, fields, pairs, no_fields, field, Variants, no_variants, choice, null, list, fixed_size_list, map_of, struct, union, extension}
 use Rattle.dtype_types.specs.tree.Valid.{Valid}
 use Rattle.dtype_types.specs.nullability.Nullable.{set_null}
 use Rattle.vortex_dtype.specs.Meaning.{Rewrites, Meaning, Lawful, LawfulSession, Bytes, kept, keeps, empty_meaning, register_in, allow_unknown_in, Admits, AdmitsFields, AdmitsVariants}
-use Rattle.vortex_dtype.specs.lemmas.Allowing.{unrefused}
+use Rattle.vortex_dtype.specs.Errors.{SessionError}
 use Rattle.vortex_dtype.specs.Calls.{Call, register, allow, after, LeavesAlone, is_allow}
 
 -- ---- lists of calls
@@ -172,6 +175,16 @@ flag_register_in m i r = unknown_register_in m (register_in i r m) i r refl
 
 pub flag_allow_unknown_in : (m : Meaning) → (allow_unknown_in m).unknown ≡ true
 flag_allow_unknown_in m = unknown_allow_unknown_in m (allow_unknown_in m) refl
+
+-- a session without plugins that keeps unknown ids refuses nothing
+unrefused_there : (id b : List ℕ) (s : Tree) (e : VortexError) → SessionError (allow_unknown_in empty_meaning) id b s e → ⊥
+unfolding allow_unknown_in empty_meaning
+unrefused_there id b s MetadataRefused h = absurd h
+unrefused_there id b s (Message ExtensionUnregistered) h = let kept = h.1 in cc
+unrefused_there id b s _ h = absurd h
+
+pub unrefused : (m : Meaning) (id b : List ℕ) (s : Tree) (e : VortexError) → m ≡ allow_unknown_in empty_meaning → SessionError m id b s e → ⊥
+unrefused m id b s e is h = unrefused_there id b s e (subst (λ n. SessionError n id b s e) is h)
 
 -- What calls of a session change and leave alone, what it keeps and what it admits: for callers' proofs.
 pub ruleset sessions = (registered_register_in, others_register_in, unknown_register_in, flag_register_in, registered_allow_unknown_in, unknown_allow_unknown_in, flag_allow_unknown_in, registered_empty_meaning, unknown_empty_meaning, admits_allow_unknown_in, kept_allow_unknown_in, admits_one_more, admits_more, admits_fields-behind, keeps_again, keeps_outer, unrefused)

@@ -7,8 +7,7 @@ use Rattle.dtype_types.specs.tree.TreeOf.{tree, struct_pairs, union_triples}
 use Rattle.dtype_messages.specs.MessageOf.{message}
 use Rattle.vortex_dtype.specs.Written.{written}
 use Rattle.vortex_dtype.proofs.TypesBelow.{fields_below, variants_below}
-use Rattle.vortex_dtype.proofs.Walks.{next_of, none_of}
-use Rattle.vortex_dtype.proofs.WrittenParts.{all_moved, flag_is, moved, pushed, struct_done, union_done}
+use Rattle.vortex_dtype.proofs.WrittenParts.{all_moved, flag_is, moved, next_of, none_of, pushed, struct_done, union_done}
 use Rattle.vortex_dtype.proofs.proto.write.+writing.Goals as goal
 
 -- ---- structs

@@ -31,14 +31,13 @@ pub path_by_steps : (parts : List Field) (p : List Step) → map step_of parts �
 path_by_steps parts p e = path_of_steps (map part_name parts) p (map-map (option_map Name) part_name parts ∙ e)
 
 -- where the parts make a path, its steps are theirs
+behind : (n : List ℕ) (o : Option (List Step)) (steps : List (Option Step)) (p : List Step) → ((q : List Step) → o ≡ Some q → steps ≡ map Some q) → option_map (λ q. Name n ∷ q) o ≡ Some p → Some (Name n) ∷ steps ≡ map Some p
+behind n o steps p more e = grind arith
+
 steps_of_path : (ns : List (Option (List ℕ))) (p : List Step) → path_of ns ≡ Some p → map (option_map Name) ns ≡ map Some p
 steps_of_path [] p e = let none : [] ≡ p = cc in ap (map Some) none
 steps_of_path (None ∷ ns) p e = cc
-steps_of_path (Some n ∷ ns) p e = go (path_of ns) (λ q is. steps_of_path ns q is) refl e
-  where
-    go : (o : Option (List Step)) → ((q : List Step) → path_of ns ≡ Some q → map (option_map Name) ns ≡ map Some q) → path_of ns ≡ o → option_map (λ q. Name n ∷ q) o ≡ Some p → Some (Name n) ∷ map (option_map Name) ns ≡ map Some p
-    go None more is e' = cc
-    go (Some q) more is e' = let same : Name n ∷ q ≡ p = cc in ap (λ l. Some (Name n) ∷ l) (more q is) ∙ ap (map Some) same
+steps_of_path (Some n ∷ ns) p e = behind n (path_of ns) (map (option_map Name) ns) p (steps_of_path ns) e
 
 pub path_steps : (m : FieldPath) (p : List Step) → path_of (part_names m) ≡ Some p → steps_of m ≡ map Some p
 path_steps m p e = sym (by_names m) ∙ steps_of_path (part_names m) p e

@@ -4,15 +4,13 @@
 -- Laws of sessions: what is registered after a list of calls, what is kept, and what is admitted.
 use Rattle.std.specs.Prelude.{◌≡◌, ◌≢◌, ◌↔◌, ℕ, List, [], ◌∷◌, ◌++◌, Option, Some, None, Bool, true, false, if◌then◌else◌, bytes_eq, refl}
 use Rattle.std.specs.List.{list_any}
-use Rattle.std.proofs.Common.{sym, ap, ◌∙◌, subst}
+use Rattle.std.proofs.Common.{sym, ap, ◌∙◌, subst, arith}
 use Rattle.std.proofs.lemmas.Bool.{false_from_ne_true}
 use Rattle.std.proofs.lemmas.Option.{option_and_then_some, same_Some}
 use Rattle.std.proofs.lemmas.Slice.Eq.{bytes_eq-Decides}
 use Rattle.dtype_base.specs.declared.nullability.Nullability.{Nullability}
 use Rattle.dtype_base.specs.declared.nullability.Nullability.TheVariants.{NonNullable, Nullable}
 use Rattle.dtype_base.specs.declared.vortex_error.VortexError.{VortexError}
-use Rattle.dtype_base.specs.declared.vortex_error.VortexError.TheVariants.{MetadataRefused, Message}
-use Rattle.dtype_base.specs.declared.vortex_error.MessageFault.TheVariants.{ExtensionUnregistered}
 use Rattle.dtype_types.specs.tree.Kinds.{struct_fields}
 use Rattle.dtype_types.specs.tree.Tree.{Tree, Fields, fields, pairs, no_fields, field, Variants, no_variants, choice, null, list, fixed_size_list, map_of, struct, union, extension}
 use Rattle.dtype_types.specs.tree.Valid.{Valid}
@@ -177,14 +175,9 @@ pub flag_allow_unknown_in : (m : Meaning) → (allow_unknown_in m).unknown ≡ t
 flag_allow_unknown_in m = unknown_allow_unknown_in m (allow_unknown_in m) refl
 
 -- a session without plugins that keeps unknown ids refuses nothing
-unrefused_there : (id b : List ℕ) (s : Tree) (e : VortexError) → SessionError (allow_unknown_in empty_meaning) id b s e → ⊥
-unfolding allow_unknown_in empty_meaning
-unrefused_there id b s MetadataRefused h = absurd h
-unrefused_there id b s (Message ExtensionUnregistered) h = let kept = h.1 in cc
-unrefused_there id b s _ h = absurd h
-
 pub unrefused : (m : Meaning) (id b : List ℕ) (s : Tree) (e : VortexError) → m ≡ allow_unknown_in empty_meaning → SessionError m id b s e → ⊥
-unrefused m id b s e is h = unrefused_there id b s e (subst (λ n. SessionError n id b s e) is h)
+unfolding allow_unknown_in empty_meaning
+unrefused m id b s e is h = grind arith
 
 -- What calls of a session change and leave alone, what it keeps and what it admits: for callers' proofs.
 pub ruleset sessions = (registered_register_in, others_register_in, unknown_register_in, flag_register_in, registered_allow_unknown_in, unknown_allow_unknown_in, flag_allow_unknown_in, registered_empty_meaning, unknown_empty_meaning, admits_allow_unknown_in, kept_allow_unknown_in, admits_one_more, admits_more, admits_fields-behind, keeps_again, keeps_outer, unrefused)

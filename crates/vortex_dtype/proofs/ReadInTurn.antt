@@ -30,7 +30,8 @@ use Rattle.dtype_messages.specs.declared.pb.DType.{DType}
 next : {X : Type 0} (xs : List X) (i : ℕ) (d : X) → i < length xs → drop i xs ≡ get_or xs i d ∷ drop (i + 1) xs
 next xs i d h = rw add-one (drop-cons xs i d h)
 
-push_all : {X Y : Type 0} (r : Result (List X) VortexError) (made : List X → Result Y VortexError) (ts : List X) (x : X) → ((r >>= λ ys. Ok (x ∷ ys)) >>= λ us. made (ts ++ us)) ≡ (r >>= λ us. made ((ts ++ x ∷ []) ++ us))
+push_all : {X Y : Type 0} (r : Result (List X) VortexError) (made : List X → Result Y VortexError) (ts : List X) (x : X)
+    → ((r >>= λ ys. Ok (x ∷ ys)) >>= λ us. made (ts ++ us)) ≡ (r >>= λ us. made ((ts ++ x ∷ []) ++ us))
 push_all (Ok us) made ts x = ap made (sym (append_assoc ts (x ∷ []) us))
 push_all (Err k) made ts x = refl
 
@@ -49,14 +50,14 @@ pub struct_starts : {s : Meaning} {m : Message} {ns : List (List ℕ)} {f : Bool
 unfolding read
 struct_starts ds vs is none = record { is = rw (is, none) refl }
 
-pub union_starts : {s : Meaning} {m : Message} {ns : List (List ℕ)} {gs : List ℤ} {f : Bool} (ds : List DType) (vs : List Logical) → m ≡ union ns (messages (map message ds)) gs f → vs ≡ []
-    → Rest s ds 0 (map tree vs) (λ ts. union_read ns ts gs (nullability_of f)) (read s m)
+pub union_starts : {s : Meaning} {m : Message} {ns : List (List ℕ)} {gs : List ℤ} {f : Bool} (ds : List DType) (vs : List Logical) → m ≡ union ns (messages (map message ds)) gs f
+    → vs ≡ [] → Rest s ds 0 (map tree vs) (λ ts. union_read ns ts gs (nullability_of f)) (read s m)
 unfolding read
 union_starts ds vs is none = record { is = rw (is, none) refl }
 
 module _ {s : Meaning} {ds : List DType} {i : ℕ} {made : List Tree → Result Tree VortexError} {result : Result Tree VortexError} where
-  pub step : (vs longer : List Logical) (d : DType) (v : Logical) → Rest s ds i (map tree vs) made result → i < length ds → d ≡ get_or ds i d → read s (message d) ≡ Ok (tree v) → longer ≡ vs ++ v ∷ []
-      → Rest s ds (i + 1) (map tree longer) made result
+  pub step : (vs longer : List Logical) (d : DType) (v : Logical) → Rest s ds i (map tree vs) made result → i < length ds → d ≡ get_or ds i d → read s (message d) ≡ Ok (tree v)
+      → longer ≡ vs ++ v ∷ [] → Rest s ds (i + 1) (map tree longer) made result
   unfolding read
   step vs longer d v rest h e r pushed = record {
     is =
@@ -64,7 +65,8 @@ module _ {s : Meaning} {ds : List DType} {i : ℕ} {made : List Tree → Result 
         (sym (push_all (read_all s (messages (map message (drop (i + 1) ds)))) made (map tree vs) (tree v)) ∙ rw (next ds i d h, ← e, r) at rest.is);
   }
 
-  pub stops : {ts : List Tree} (d : DType) (e : VortexError) (r : Result Logical VortexError) → Rest s ds i ts made result → i < length ds → d ≡ get_or ds i d → Fails e (read s (message d)) → r ≡ Err e → Gives tree r result
+  pub stops : {ts : List Tree} (d : DType) (e : VortexError) (r : Result Logical VortexError) → Rest s ds i ts made result → i < length ds → d ≡ get_or ds i d
+      → Fails e (read s (message d)) → r ≡ Err e → Gives tree r result
   unfolding read
   stops {ts} d e r rest h is f err =
       rw err (subst (Fails e) rest.is (rw (next ds i d h, ← is) (bind_fails e _ (λ us. made (ts ++ us)) (bind_fails e (read s (message d)) _ f))))
@@ -74,7 +76,8 @@ module _ {s : Meaning} {ds : List DType} {i : ℕ} {made : List Tree → Result 
   ends {ts} r rest h g = rw (sym (rw (drop_all i ds h, append-nil ts) at rest.is)) g
 
 -- the messages so far are messages
-pub more_messages : {P : Type 0} (ds : List DType) (i : ℕ) (d : DType) → i < length ds → d ≡ get_or ds i d → IsMessage (message d) → (AreMessages (messages (map message (drop i ds))) → P) → AreMessages (messages (map message (drop (i + 1) ds))) → P
+pub more_messages : {P : Type 0} (ds : List DType) (i : ℕ) (d : DType) → i < length ds → d ≡ get_or ds i d → IsMessage (message d)
+    → (AreMessages (messages (map message (drop i ds))) → P) → AreMessages (messages (map message (drop (i + 1) ds))) → P
 more_messages ds i d h e m inv rest = inv (rw (next ds i d h, ← e) (m, rest))
 
 pub all_messages : {P : Type 0} (ds : List DType) (i : ℕ) → length ds ≤ i → (AreMessages (messages (map message (drop i ds))) → P) → P

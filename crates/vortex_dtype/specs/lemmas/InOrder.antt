@@ -36,7 +36,8 @@ use Rattle.vortex_dtype.specs.lemmas.Unions.{tags_down, tags_up, union_making, u
 
 -- ---- what holds of the result of a test, of a missing part and of two steps in turn
 
-by_test : {A E : Type 0} (b : Bool) (x y : Result A E) (P : A → Type 0) (Q : E → Type 0) → (b ≡ true → MatchResult x P Q) → (b ≡ false → MatchResult y P Q) → MatchResult (cond b x y) P Q
+by_test : {A E : Type 0} (b : Bool) (x y : Result A E) (P : A → Type 0) (Q : E → Type 0) → (b ≡ true → MatchResult x P Q) → (b ≡ false → MatchResult y P Q)
+    → MatchResult (cond b x y) P Q
 by_test true x y P Q h k = h refl
 by_test false x y P Q h k = k refl
 
@@ -97,8 +98,8 @@ reads_fields s [] no_message [] h e = refl
 reads_fields s (n ∷ ns) (more m ms) (t ∷ ts) h e = (t, fields (zip ns ts), h.0, reads_fields s ns ms ts h.1 (omega (arith, e)), refl)
 reads_fields s _ _ _ h e = grind arith
 
-reads_variants : (s : Meaning) (ns : List (List ℕ)) (ms : Messages) (gs : List ℤ) (ts : List Tree) (tags : List ℕ) → ReadsAll s ms ts → AreBytes gs tags → length ns ≡ length ts → length ns ≡ length tags
-    → ReadsVariants s ns ms gs (variants (zip ns (zip ts tags)))
+reads_variants : (s : Meaning) (ns : List (List ℕ)) (ms : Messages) (gs : List ℤ) (ts : List Tree) (tags : List ℕ) → ReadsAll s ms ts → AreBytes gs tags → length ns ≡ length ts
+    → length ns ≡ length tags → ReadsVariants s ns ms gs (variants (zip ns (zip ts tags)))
 reads_variants s [] no_message [] [] [] h b e f = refl
 reads_variants s (n ∷ ns) (more m ms) (g ∷ gs) (t ∷ ts) (k ∷ tags) h b e f =
     (t, k, variants (zip ns (zip ts tags)), h.0, b.0, reads_variants s ns ms gs ts tags h.1 b.1 (omega (arith, e)) (omega (arith, f)), refl)
@@ -125,7 +126,8 @@ pub record VariantsRead (s : Meaning) (ns : List (List ℕ)) (ms : Messages) (gs
   pub tags_count : length ns ≡ length tags
   pub is : vs ≡ variants (zip ns (zip ts tags))
 
-pub variants_read : (s : Meaning) (ns : List (List ℕ)) (ms : Messages) (gs : List ℤ) (vs : Variants) → ReadsVariants s ns ms gs vs → (ts : List Tree) × (tags : List ℕ) × VariantsRead s ns ms gs vs ts tags
+pub variants_read : (s : Meaning) (ns : List (List ℕ)) (ms : Messages) (gs : List ℤ) (vs : Variants) → ReadsVariants s ns ms gs vs
+    → (ts : List Tree) × (tags : List ℕ) × VariantsRead s ns ms gs vs ts tags
 variants_read s [] no_message [] vs h = ([], [], record { types = tt; bytes = tt; count = refl; tags_count = refl; is = h })
 variants_read s (n ∷ ns) (more m ms) (g ∷ gs) vs h =
     let rest = variants_read s ns ms gs h.2 h.5 in let r = rest.2 in (
@@ -145,13 +147,15 @@ tags_reading (g ∷ gs) =
     (λ k is. in_turn (read_tags gs) _ _ _ _ _ (tags_reading gs) (λ ks rest. (is, rest)) (λ e f. (f.0, inr f.1)))
     (λ e f. (f.0, inl f.1))
 
-primitive_reading : (k : ℤ) (n : Nullability) → MatchResult (primitive_read k n) (λ t. (p : PType) × (k ≡ number p) × (t ≡ of.primitive p n)) (λ e. (e ≡ Faulty PrimitiveNumber) × ((p : PType) → k ≢ number p))
+primitive_reading : (k : ℤ) (n : Nullability) → MatchResult (primitive_read k n)
+    (λ t. (p : PType) × (k ≡ number p) × (t ≡ of.primitive p n)) (λ e. (e ≡ Faulty PrimitiveNumber) × ((p : PType) → k ≢ number p))
 unfolding primitive_read
 primitive_reading k n =
     in_turn (or_fault (Faulty PrimitiveNumber) (ptype_at k)) _ _ _ _ _ (given (Faulty PrimitiveNumber) (ptype_at k)) (λ p is. (p, number-ptype_at k p is, refl))
     (λ e f. (f.0, λ p is. none-some p (sym f.1 ∙ ap ptype_at is ∙ ptype_at-number p)))
 
-decimal_reading : (p : ℕ) (k : ℤ) (n : Nullability) → MatchResult (decimal_read p k n) (λ t. IsValidDecimal (decimal_with p k) × (t ≡ of.decimal (decimal_with p k) n)) (DecimalFault p k)
+decimal_reading : (p : ℕ) (k : ℤ) (n : Nullability) → MatchResult (decimal_read p k n)
+    (λ t. IsValidDecimal (decimal_with p k) × (t ≡ of.decimal (decimal_with p k) n)) (DecimalFault p k)
 unfolding decimal_read
 decimal_reading p k n =
     in_turn (or_fault (Faulty PrecisionRange) (natural_byte p)) _ _ _ _ _ (precision_given p)
@@ -161,10 +165,12 @@ decimal_reading p k n =
     (λ e f. inr (inl f))) (λ e. inl)
 
 union_reading : (ns : List (List ℕ)) (ts : List Tree) (gs : List ℤ) (n : Nullability)
-    → MatchResult (union_read ns ts gs n) (λ t. (tags : List ℕ) × AreBytes gs tags × MakesUnion ns (length ts) tags × (t ≡ of.union (variants (zip ns (zip ts tags))) n)) (UnionFault ns (length ts) gs)
+    → MatchResult (union_read ns ts gs n)
+    (λ t. (tags : List ℕ) × AreBytes gs tags × MakesUnion ns (length ts) tags × (t ≡ of.union (variants (zip ns (zip ts tags))) n)) (UnionFault ns (length ts) gs)
 unfolding union_read
 union_reading ns ts gs n =
-    in_turn (read_tags gs) _ _ _ _ _ (tags_reading gs) (λ tags is. MatchResult-weaker (union_made ns ts tags n) (union_making ns ts tags n) (λ t h. (tags, is, h.0, h.1)) (λ e f. inr (tags, bytes_are gs tags is, f))) (λ e. inl)
+    in_turn (read_tags gs) _ _ _ _ _ (tags_reading gs)
+    (λ tags is. MatchResult-weaker (union_made ns ts tags n) (union_making ns ts tags n) (λ t h. (tags, is, h.0, h.1)) (λ e f. inr (tags, bytes_are gs tags is, f))) (λ e. inl)
 
 key_reading : (n : Nullability) (t : Tree) → MatchResult (when_required n t) (λ u. (n ≡ NonNullable) × (u ≡ t)) (λ e. (e ≡ MapKeyNullable) × (n ≡ Nullable))
 key_reading NonNullable t = (refl, refl)
@@ -181,12 +187,14 @@ mutual
   reading s (map_of c v o f) =
       in_turn (read_child s MapKeyMissing c) _ _ _ _ _ (child_reading s MapKeyMissing c)
       (λ x h. in_turn (read_child s MapValueMissing v) _ _ _ _ _ (child_reading s MapValueMissing v)
-      (λ y k. MatchResult-weaker (when_required (nullability x) (of.map_of x y o (nullability_of f))) (key_reading (nullability x) (of.map_of x y o (nullability_of f))) (λ t a. (x, y, h, k, a.0, a.1)) (λ e j. inr (inr (j.0, x, h, j.1))))
+      (λ y k. MatchResult-weaker (when_required (nullability x) (of.map_of x y o (nullability_of f))) (key_reading (nullability x) (of.map_of x y o (nullability_of f)))
+      (λ t a. (x, y, h, k, a.0, a.1)) (λ e j. inr (inr (j.0, x, h, j.1))))
       (λ e j. inr (inl j))) (λ e. inl)
   reading s (struct ns ms f) =
       in_turn (read_all s ms) _ _ _ _ _ (all_reading s ms)
       (λ ts h. let same = Decides-eqb (length ns) (length ts) in
-      by_test (length ns == length ts) _ _ _ _ (λ e. (fields (zip ns ts), reads_fields s ns ms ts h (same.0 e), refl)) (λ e. inr (refl, λ c. not_from_Decides _ same e (c ∙ sym (count_all s ms ts h)))))
+      by_test (length ns == length ts) _ _ _ _ (λ e. (fields (zip ns ts), reads_fields s ns ms ts h (same.0 e), refl))
+      (λ e. inr (refl, λ c. not_from_Decides _ same e (c ∙ sym (count_all s ms ts h)))))
       (λ e. inl)
   reading s (union ns ms gs f) =
       in_turn (read_all s ms) _ _ _ _ _ (all_reading s ms)
@@ -197,7 +205,8 @@ mutual
       (λ e. inl)
   reading s (extension id c b) =
       in_turn (read_child s StorageMissing c) _ _ _ _ _ (child_reading s StorageMissing c)
-      (λ x h. in_turn (or_fault (unkept_error s id) (keeps s id (or_empty b) x)) _ _ _ _ _ (given (unkept_error s id) (keeps s id (or_empty b) x)) (λ k is. (x, k, h, is, refl)) (λ e j. inr (j.0, x, h, j.1))) (λ e. inl)
+      (λ x h. in_turn (or_fault (unkept_error s id) (keeps s id (or_empty b) x)) _ _ _ _ _ (given (unkept_error s id) (keeps s id (or_empty b) x))
+      (λ k is. (x, k, h, is, refl)) (λ e j. inr (j.0, x, h, j.1))) (λ e. inl)
   reading s _ = refl
 
   child_reading : (s : Meaning) (j : MessageFault) (c : Child) → MatchResult (read_child s j c) (ReadsChild s c) (ChildFault s j c)

@@ -31,7 +31,8 @@ pub path_by_steps : (parts : List Field) (p : List Step) → map step_of parts �
 path_by_steps parts p e = path_of_steps (map part_name parts) p (map-map (option_map Name) part_name parts ∙ e)
 
 -- where the parts make a path, its steps are theirs
-behind : (n : List ℕ) (o : Option (List Step)) (steps : List (Option Step)) (p : List Step) → ((q : List Step) → o ≡ Some q → steps ≡ map Some q) → option_map (λ q. Name n ∷ q) o ≡ Some p → Some (Name n) ∷ steps ≡ map Some p
+behind : (n : List ℕ) (o : Option (List Step)) (steps : List (Option Step)) (p : List Step) → ((q : List Step) → o ≡ Some q → steps ≡ map Some q)
+    → option_map (λ q. Name n ∷ q) o ≡ Some p → Some (Name n) ∷ steps ≡ map Some p
 behind n o steps p more e = grind arith
 
 steps_of_path : (ns : List (Option (List ℕ))) (p : List Step) → path_of ns ≡ Some p → map (option_map Name) ns ≡ map Some p

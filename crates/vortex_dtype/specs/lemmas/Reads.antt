@@ -53,7 +53,9 @@ mutual
   fault_none s (list c x) k t f h = child_none s ListElementMissing c k h.0 f h.1
   fault_none s (fixed_size_list c n x) k t f h = child_none s FixedElementMissing c k h.0 f h.1
   fault_none s (map_of c v o x) k t f h =
-      ⊎_elim (λ a. child_none s MapKeyMissing c k h.0 a h.2) (⊎_elim (λ a. child_none s MapValueMissing v k h.1 a h.3) (λ a. let clash : Nullable ≡ NonNullable = sym (ap nullability (child_once s c h.0 a.1 h.2 a.2) ∙ a.3) ∙ h.4 in cc)) f
+      ⊎_elim (λ a. child_none s MapKeyMissing c k h.0 a h.2)
+      (⊎_elim (λ a. child_none s MapValueMissing v k h.1 a h.3)
+      (λ a. let clash : Nullable ≡ NonNullable = sym (ap nullability (child_once s c h.0 a.1 h.2 a.2) ∙ a.3) ∙ h.4 in cc)) f
   fault_none s (struct ns ms x) k t f h =
       let r = fields_read s ns ms h.0 h.1 in
       ⊎_elim (λ a. some_none s ms k r.0 a r.1.types) (λ a. a.1 (r.1.count ∙ count_all s ms r.0 r.1.types)) f
@@ -61,8 +63,15 @@ mutual
       let v = variants_read s ns ms gs h.0 h.1 in let r = v.2 in
       ⊎_elim (λ a. some_none s ms k v.0 a r.types)
       (⊎_elim (λ a. no_tag_fault gs v.1 r.bytes a.1)
-      (λ a. makes_unrefused ns (message_count ms) a.0 k
-          ((r.count ∙ count_all s ms v.0 r.types, r.tags_count ∙ sym (length-map v.1 pos) ∙ ap length (sym (bytes_are gs v.1 r.bytes) ∙ a.1) ∙ length-map a.0 pos, h.2), tags_down a.0 (subst Distinct a.1 h.3), h.4) a.2)) f
+      (λ a. makes_unrefused ns (message_count ms) a.0 k (
+        (
+          r.count ∙ count_all s ms v.0 r.types,
+          r.tags_count ∙ sym (length-map v.1 pos) ∙ ap length (sym (bytes_are gs v.1 r.bytes) ∙ a.1) ∙ length-map a.0 pos,
+          h.2,
+        ),
+        tags_down a.0 (subst Distinct a.1 h.3),
+        h.4,
+      ) a.2)) f
   fault_none s (extension id c b) k t f h =
       ⊎_elim (λ a. child_none s StorageMissing c k h.0 a h.2) (λ a. none-some h.1 (sym a.3 ∙ ap (keeps s id (or_empty b)) (child_once s c a.1 h.0 a.2 h.2) ∙ h.3)) f
   fault_none s _ k t f h = f
@@ -98,7 +107,8 @@ is_nullable-of true = refl
 is_nullable-of false = refl
 
 -- the message of a struct or a union that was read, from its parts
-field_messages : (ns : List (List ℕ)) (ts : List Tree) → length ns ≡ length ts → (written_names (fields (zip ns ts)) ≡ ns) × (written_fields (fields (zip ns ts)) ≡ messages (map written ts))
+field_messages : (ns : List (List ℕ)) (ts : List Tree) → length ns ≡ length ts
+    → (written_names (fields (zip ns ts)) ≡ ns) × (written_fields (fields (zip ns ts)) ≡ messages (map written ts))
 field_messages [] [] e = (refl, refl)
 field_messages (n ∷ ns) (t ∷ ts) e = let rest = field_messages ns ts (omega (arith, e)) in (ap (λ x. n ∷ x) rest.0, ap (more (written t)) rest.1)
 field_messages _ _ e = cc
@@ -114,7 +124,8 @@ variant_messages _ _ _ e f = cc
 one_part : {X Y : Type 0} (P : X → Type 0) (make : X → Y) (x : X) (y : Y) → ((z : X) → P z ↔ (z ≡ x)) → ((z : X) × P z × (y ≡ make z)) ↔ (y ≡ make x)
 one_part P make x y h = (λ k. k.2 ∙ ap make ((h k.0).0 k.1), λ e. (x, (h x).1 refl, e))
 
-two_parts : {X Z Y : Type 0} (P : X → Type 0) (Q : Z → Type 0) (make : X → Z → Y) (x : X) (z : Z) (y : Y) → ((a : X) → P a ↔ (a ≡ x)) → ((b : Z) → Q b ↔ (b ≡ z)) → ((a : X) × (b : Z) × P a × Q b × (y ≡ make a b)) ↔ (y ≡ make x z)
+two_parts : {X Z Y : Type 0} (P : X → Type 0) (Q : Z → Type 0) (make : X → Z → Y) (x : X) (z : Z) (y : Y) → ((a : X) → P a ↔ (a ≡ x)) → ((b : Z) → Q b ↔ (b ≡ z))
+    → ((a : X) × (b : Z) × P a × Q b × (y ≡ make a b)) ↔ (y ≡ make x z)
 two_parts P Q make x z y h k =
     (λ p. p.4 ∙ ap (λ a. make a p.1) ((h p.0).0 p.2) ∙ ap (make x) ((k p.1).0 p.3), λ e. (x, z, (h x).1 refl, (k z).1 refl, e))
 
@@ -127,20 +138,23 @@ mutual
   written_normal s (list c f) n t h = rw (h.2, is_nullable-of f) (one_part _ (λ d. list d f) (present (written h.0)) n (λ d. child_normal s c d h.0 h.1))
   written_normal s (fixed_size_list c k f) n t h = rw (h.2, is_nullable-of f) (one_part _ (λ d. fixed_size_list d k f) (present (written h.0)) n (λ d. child_normal s c d h.0 h.1))
   written_normal s (map_of c v o f) n t h =
-      rw (h.5, is_nullable-of f) (two_parts _ _ (λ d w. map_of d w o f) (present (written h.0)) (present (written h.1)) n (λ d. child_normal s c d h.0 h.2) (λ d. child_normal s v d h.1 h.3))
+      rw (h.5, is_nullable-of f) (two_parts _ _ (λ d w. map_of d w o f) (present (written h.0)) (present (written h.1)) n
+      (λ d. child_normal s c d h.0 h.2) (λ d. child_normal s v d h.1 h.3))
   written_normal s (struct ns ms f) n t h =
       let r = fields_read s ns ms h.0 h.1 in let w = field_messages ns r.0 r.1.count in
       rw (h.2, r.1.is, is_nullable-of f, w.0, w.1) (one_part _ (λ qs. struct ns qs f) (messages (map written r.0)) n (λ qs. all_normal s ms qs r.0 r.1.types))
   written_normal s (union ns ms gs f) n t h =
       let v = variants_read s ns ms gs h.0 h.1 in let r = v.2 in let w = variant_messages ns v.0 v.1 r.count r.tags_count in
-      rw (h.5, r.is, is_nullable-of f, w.0, w.1, w.2, ← bytes_are gs v.1 r.bytes) (one_part _ (λ qs. union ns qs gs f) (messages (map written v.0)) n (λ qs. all_normal s ms qs v.0 r.types))
+      rw (h.5, r.is, is_nullable-of f, w.0, w.1, w.2, ← bytes_are gs v.1 r.bytes)
+      (one_part _ (λ qs. union ns qs gs f) (messages (map written v.0)) n (λ qs. all_normal s ms qs v.0 r.types))
   written_normal s (extension id c b) n t h =
       let storage = λ (d : Child). child_normal s c d h.0 h.2 in
-      rw h.4
-      (λ k. let same : k.1 ≡ h.0 = child_once s c k.1 h.0 k.4 h.2 in
-          let bytes : k.2 ≡ h.1 = same_Some k.2 h.1 (sym k.5 ∙ ap (keeps s id (or_empty b)) same ∙ h.3) in
-          k.6 ∙ ap (λ d. extension id d (Some k.2)) ((storage k.0).0 k.3) ∙ ap (λ x. extension id (present (written h.0)) (Some x)) bytes,
-      λ e. (present (written h.0), h.0, h.1, (storage (present (written h.0))).1 refl, h.2, h.3, e))
+      rw h.4 (
+        λ k. let same : k.1 ≡ h.0 = child_once s c k.1 h.0 k.4 h.2 in
+            let bytes : k.2 ≡ h.1 = same_Some k.2 h.1 (sym k.5 ∙ ap (keeps s id (or_empty b)) same ∙ h.3) in
+            k.6 ∙ ap (λ d. extension id d (Some k.2)) ((storage k.0).0 k.3) ∙ ap (λ x. extension id (present (written h.0)) (Some x)) bytes,
+        λ e. (present (written h.0), h.0, h.1, (storage (present (written h.0))).1 refl, h.2, h.3, e),
+      )
   written_normal s _ n t h = rw (h, is_nullable-of) (λ e. e, λ e. e)
 
   child_normal : (s : Meaning) (c d : Child) (t : Tree) → ReadsChild s c t → NormalChild s c d ↔ (d ≡ present (written t))
@@ -170,8 +184,8 @@ lacks_tag : (k : ℕ) (ns : List (List ℕ)) (ts : List Tree) (gs : List ℕ) �
 lacks_tag k (n ∷ ns) (t ∷ ts) (g ∷ gs) d = (λ e. false≢true (sym d.0 ∙ (unsigned_Decides k g).1 (sym e)), lacks_tag k ns ts gs d.1)
 lacks_tag k _ _ _ d = tt
 
-sound_variants : (s : Meaning) (ns : List (List ℕ)) (ts : List Tree) (gs : List ℕ) → AllByRecursion (Sound s) ts → AllByRecursion (λ g. g < 256) gs → IsDistinct bytes_eq ns → IsDistinct nat_eq gs
-    → let vs = variants (zip ns (zip ts gs)) in ValidVariants vs × AdmitsVariants s vs
+sound_variants : (s : Meaning) (ns : List (List ℕ)) (ts : List Tree) (gs : List ℕ) → AllByRecursion (Sound s) ts → AllByRecursion (λ g. g < 256) gs → IsDistinct bytes_eq ns
+    → IsDistinct nat_eq gs → let vs = variants (zip ns (zip ts gs)) in ValidVariants vs × AdmitsVariants s vs
 unfolding IsDistinct
 sound_variants s (n ∷ ns) (t ∷ ts) (g ∷ gs) h b names tags =
     let rest = sound_variants s ns ts gs h.1 b.1 names.1 tags.1 in
@@ -204,7 +218,7 @@ mutual
   reads_sound s l (union ns ms gs f) t i h =
       let v = variants_read s ns ms gs h.0 h.1 in let r = v.2 in
       let a = sound_variants s ns v.0 v.1 (all_sound s l ms v.0 i.0 r.types) (bytes_below gs v.1 r.bytes) (IsDistinct-from_AllPairs bytes_eq-Decides ns h.4)
-          (IsDistinct-from_AllPairs unsigned_Decides v.1 (tags_down v.1 (subst Distinct (bytes_are gs v.1 r.bytes) h.3))) in
+      (IsDistinct-from_AllPairs unsigned_Decides v.1 (tags_down v.1 (subst Distinct (bytes_are gs v.1 r.bytes) h.3))) in
       subst (Sound s) (sym (h.5 ∙ ap (λ vs. of.union vs (nullability_of f)) r.is)) ((has_variant ns v.0 v.1 h.2 r.count r.tags_count, a.0), a.1)
   reads_sound s l (extension id c b) t i h =
       let a = child_sound s l c h.0 i.0 h.2 in

@@ -18,7 +18,8 @@ abbrev pub invariant-loop-field : goal.invariant-loop-field
 invariant-loop-field g l =
     let s = meaning (λ b. (g.dyn-1.0.entry b.vtable).1.rewrites b.value) l.session in let p = out-Struct l.p in
     record {
-      rest : Rest s l.field-items l.field-index (map tree l.dtypes.items) (λ ts. struct_read (map string_bytes p.names.items) ts (nullability_of p.nullable)) (read s (message l.proto));
+      rest : Rest s l.field-items l.field-index (map tree l.dtypes.items) (λ ts. struct_read (map string_bytes p.names.items) ts (nullability_of p.nullable))
+          (read s (message l.proto));
       message : AreMessages (messages (map message (drop l.field-index l.field-items))) → IsMessage (message l.proto);
       valid : All (λ d. Valid (tree d)) l.dtypes.items;
     }
@@ -27,7 +28,8 @@ abbrev pub invariant-loop-variant : goal.invariant-loop-variant
 invariant-loop-variant g l =
     let s = meaning (λ b. (g.dyn-1.0.entry b.vtable).1.rewrites b.value) l.session in let p = out-Union l.p in
     record {
-      rest : Rest s l.variant-items l.variant-index (map tree l.dtypes.items) (λ ts. union_read (map string_bytes p.names.items) ts p.type_ids.items (nullability_of p.nullable)) (read s (message l.proto));
+      rest : Rest s l.variant-items l.variant-index (map tree l.dtypes.items) (λ ts. union_read (map string_bytes p.names.items) ts p.type_ids.items (nullability_of p.nullable))
+          (read s (message l.proto));
       message : AreMessages (messages (map message (drop l.variant-index l.variant-items))) → AreTags p.type_ids.items → IsMessage (message l.proto);
       valid : All (λ d. Valid (tree d)) l.dtypes.items;
     }

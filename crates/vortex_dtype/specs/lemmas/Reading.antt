@@ -8,4 +8,4 @@ use Rattle.vortex_dtype.specs.lemmas.PathMessages.{missing_part, no_path, path_s
 use Rattle.vortex_dtype.specs.lemmas.Reads.{copy_accepted, fault_none, fault_refused, normal_again, other_nullability, read_alike, reads_accepted, refused_faulty, same_normal, unread_refused, written_accepted, written_normal, written_read}
 use Rattle.vortex_dtype.specs.lemmas.Written.{written_is}
 
-pub ruleset reading = (read_reads, reads_read, refused_faulty, fault_refused, unread_refused, written_read, fault_none, reads_once, reads_accepted, written_accepted, written_normal, same_normal, normal_again, other_nullability, read_alike, copy_accepted, written_is, other_nullability, steps_by_names, path_steps, no_path, missing_part)
+pub ruleset reading = (read_reads, reads_read, refused_faulty, fault_refused, unread_refused, written_read, fault_none, reads_once, reads_accepted, written_accepted, written_normal, same_normal, normal_again, read_alike, copy_accepted, written_is, other_nullability, steps_by_names, path_steps, no_path, missing_part)

@@ -6,7 +6,6 @@ pub mod Parts
 pub mod Walks
 pub mod Depths
 pub mod FieldLookups
-pub mod OtherKinds
 pub mod KindLaws
 pub mod Alongside
 pub mod SameParts

@@ -4,18 +4,17 @@
 -- What a name leads to once a field is removed, and in two lists joined whose names are distinct. A caller names all in
 -- one line,
 --     #![tactic(auto, using(dtype_types::specs::lemmas::DistinctFields::distinct_fields))]
-use Rattle.std.proofs.Common.{◌≡◌, ◌≢◌, ℕ, zero, suc, ◌+◌, ◌<◌, Bool, true, false, cond, List, [], ◌∷◌, ◌++◌, length, Some, None, refl, sym, ap, ◌∙◌, arith, slice_get, get_or, IsSome}
+use Rattle.std.proofs.Common.{◌≡◌, ◌≢◌, ℕ, zero, suc, ◌+◌, ◌<◌, Bool, true, false, cond, List, [], ◌∷◌, ◌++◌, length, Some, None, refl, sym, ap, ◌∙◌, arith, slice_get, get_or, Contains, IsSome}
 use Rattle.std.specs.Prelude.{nat_eq, remove}
 use Rattle.std.specs.Cmp.Lexicographic.{pointwise}
 use Rattle.std.specs.Option.{is_some}
-use Rattle.std.proofs.lemmas.Bool.{false≢true}
 use Rattle.std.proofs.lemmas.Option.{same_Some, slice_get_within, get_or_from_slice_get}
-use Rattle.std.proofs.lemmas.Slice.Eq.{bytes_eq-Decides}
 use Rattle.dtype_base.specs.Distinct.{Distinct}
 use Rattle.dtype_base.specs.FieldNames.{first_place}
 use Rattle.dtype_base.specs.lemmas.Lookups.{first_of_place, no_place}
 use Rattle.dtype_types.specs.lemmas.JoinedFields.{named_behind}
 use Rattle.dtype_types.specs.lemmas.Lookups.{no_field_at_place, other_name}
+use Rattle.dtype_types.specs.lemmas.Presence.{placed_is_among, placed_is_named}
 use Rattle.dtype_types.specs.parts.Lookups.{field_names, first_named}
 use Rattle.dtype_types.specs.tree.Tree.{Tree}
 
@@ -51,14 +50,8 @@ named_gone fs name i e d = gone-at fs name i (first_of_place (field_names fs) na
 -- ---- two lists are joined
 
 -- a name that leads somewhere is among the names
-among : (fs : List (List ℕ × Tree)) (n : List ℕ) → is_some (first_named fs n) ≡ true → (k : ℕ) × (k < length (field_names fs)) × (get_or (field_names fs) k n ≡ n)
-among [] n h = absurd (false≢true h)
-among (p ∷ fs) n h = go (among fs n) (pointwise nat_eq p.0 n) refl h
-  where
-    go : (is_some (first_named fs n) ≡ true → (k : ℕ) × (k < length (field_names fs)) × (get_or (field_names fs) k n ≡ n)) → (b : Bool) → pointwise nat_eq p.0 n ≡ b
-        → is_some (cond b (Some p.1) (first_named fs n)) ≡ true → (k : ℕ) × (k < length (p.0 ∷ field_names fs)) × (get_or (p.0 ∷ field_names fs) k n ≡ n)
-    go more true is k = (0, omega arith, (bytes_eq-Decides p.0 n).0 is)
-    go more false is k = let m = more k in (suc m.0, omega (arith, m.1), m.2)
+among : (fs : List (List ℕ × Tree)) (n : List ℕ) → is_some (first_named fs n) ≡ true → Contains (field_names fs) n
+among fs n h = placed_is_among (field_names fs) n (sym (placed_is_named fs n) ∙ h)
 
 further : (fs gs : List (List ℕ × Tree)) (n : List ℕ) → is_some (first_named gs n) ≡ true → is_some (first_named (fs ++ gs) n) ≡ true
 further [] gs n h = h

@@ -3,7 +3,7 @@
 
 // Equality of types and their order by nullability: one walk over two types, with the nullabilities
 // compared, ignored, or those of the first within those of the second.
-#![tactic(auto, using(crate::proofs::OtherKinds::parts_equal_under))]
+#![tactic(auto, using(crate::proofs::KindLaws::parts_equal_under))]
 
 ghost use Rattle.std.specs.Prelude.{◌≡◌, ◌↔◌, IsTrue};
 ghost use Rattle.dtype_types.specs.equality.Equality.{equal_under, allows};

@@ -130,7 +130,7 @@ module _ (by_key : List (ℕ × (Field × ℕ))) (by_step : List (Field × ℕ))
         ∙ by_bool (same_field x f)
         (λ y.
         let none : led_by f (at_key by_key (step_key f)) ≡ None = subst (λ g. led_by g (at_key by_key (step_key g)) ≡ None) ((same_field-Decides x f).0 y)
-            (taken_by by_key x taken) in
+        (taken_by by_key x taken) in
         rw (none, put_same f, y) refl)
         (λ n. rw (put_same f, n) (sym (leads by_key by_step t f)))
 

@@ -78,8 +78,12 @@ module _ (nodes : List Node) (trie : IsTrie nodes) where
           let u = trie.used (f ∷ q) v.node v.at (λ z. let nil = trie.once (f ∷ q) [] v.node v.at (ap Some (sym z)) in cc) in
           let m = (f ∷ q) ++ u.1 in
           let l = least_covers (terminals nodes) m (covers_member (terminals nodes) m (of-terminal nodes u.0 m u.2)) in
-          inr (l.0, l.1, ⊎_elim (λ b. b) (λ b. let is : l.0 ≡ f ∷ q = v.alone l.0 l.1.member b in subst (Beginning (f ∷ q)) (sym is) (beginning_refl (f ∷ q)))
-          (either_begins (f ∷ q) l.0 m (u.1, refl) l.2))
+          inr (
+            l.0,
+            l.1,
+            ⊎_elim (λ b. b) (λ b. let is : l.0 ≡ f ∷ q = v.alone l.0 l.1.member b in subst (Beginning (f ∷ q)) (sym is) (beginning_refl (f ∷ q)))
+                (either_begins (f ∷ q) l.0 m (u.1, refl) l.2),
+          )
 
       from : (p : List Field) × Least (terminals nodes) p × Beginning q p → IsVisited nodes q
       from h =
@@ -105,7 +109,7 @@ module _ (nodes : List Node) (trie : IsTrie nodes) where
       go [] e = inl (e ∙ append-nil s)
       go (f ∷ t) e =
           let on : walk (child_at nodes) x (f ∷ t) ≡ Some v.node = sym (walk-append (child_at nodes) 0 x s (f ∷ t) at)
-              ∙ subst (λ p. walk (child_at nodes) 0 p ≡ Some v.node) e v.at in
+          ∙ subst (λ p. walk (child_at nodes) 0 p ≡ Some v.node) e v.at in
           option_and_then_some (λ j. walk (child_at nodes) j t) (child_at nodes x f) v.node on (λ j k _. inr (f, j, k, (t, e ∙ sym (append_assoc s (f ∷ []) t))))
 
 -- ---- what has been visited, and what is still to be

@@ -15,8 +15,11 @@ loop-i-preserved c =
     let there : slice_get cs c.loop-i.i ≡ Some x = slice_get_read cs (length cs) c.loop-i.i x refl c.loop-i-test.true c.index-children-i.is in
     elim c.if-child-key.branch [
       | then-child-key w ↦ rw (w.position-is, there) (record { found = w.if-child-key.true; none = λ e. cc })
-      | else-child-key w ↦ rw w.position-is (record { found = so_far.found; none = λ e. All-more (λ d. d.key ≢ c.args.key) cs c.loop-i.i x c.loop-i-test.true (so_far.none e)
-          (rw (← c.index-children-i.is) w.if-child-key.false) })
+      | else-child-key w ↦ rw w.position-is (record {
+        found = so_far.found;
+        none = λ e. All-more (λ d. d.key ≢ c.args.key) cs c.loop-i.i x c.loop-i-test.true (so_far.none e)
+            (rw (← c.index-children-i.is) w.if-child-key.false);
+      })
     ]
 
 pub returns-clause-none : goal.returns-clause-none

@@ -11,7 +11,7 @@ use Rattle.dtype_paths.proofs.nodes.Nodes.append_branch.Goals as goal
 pub add_child-requires-clause-key : goal.add_child-requires-clause-key
 add_child-requires-clause-key c =
     let next = next-step c.args.self.now c.args.path c.args.prefix c.requires c.index-parts-prefix.result c.in_ok-step.step
-        (rw c.parts.ensures at c.index-parts-prefix.is) c.in_ok-step.ensures in
+    (rw c.parts.ensures at c.index-parts-prefix.is) c.in_ok-step.ensures in
     rw next.1 at c.requires.key
 
 pub add_child-requires-clause-none : goal.add_child-requires-clause-none
@@ -24,7 +24,7 @@ pub returns-clause-ok : goal.returns-clause-ok
 returns-clause-ok c =
     let e = c.add_child.ensures in let mid = c.in_ok-push_chain.ensures.ok in
     let next = next-step c.args.self.now c.args.path c.args.prefix c.requires c.index-parts-prefix.result c.in_ok-step.step
-        (rw c.parts.ensures at c.index-parts-prefix.is) c.in_ok-step.ensures in
+    (rw c.parts.ensures at c.index-parts-prefix.is) c.in_ok-step.ensures in
     on_ok_weaker c.add_child.result
     (λ steps. record { step = c.in_ok-step.step; first = next.0; long = e.long ∙ ap length mid; terminals = rw mid at e.terminals; steps = rw (mid, c.len-first.ensures) at steps })
     e.ok

@@ -7,7 +7,7 @@ use Rattle.std.specs.Bool.{Decides}
 use Rattle.std.specs.FinSet as set
 use Rattle.std.specs.List.{Contains, list_any}
 use Rattle.std.proofs.Common.{ap, sym, ◌∙◌}
-use Rattle.std.proofs.Math.Bool.{or-false}
+use Rattle.std.proofs.Math.Bool.{or_comm, or-false}
 use Rattle.std.proofs.lemmas.Bool.{or_left, or_right}
 use Rattle.std.proofs.lemmas.Bool.Decides.{same_from_decides}
 use Rattle.std.specs.Ordering.{eq_by_cmp}
@@ -122,6 +122,10 @@ union_none s = same_by _ _ (λ q. contains_union s _ q ∙ ap (λ b. set.contain
 
 pub union_with_none : (s : PathSet) → set.union (set.empty {R = path_cmp}) s ≡ s
 union_with_none s = same_by _ _ (λ q. contains_union _ s q ∙ ap (λ b. b || set.contains s q) (contains_empty q))
+
+-- in either order; in no ruleset, since a search could turn a union forever
+pub union_swap : (s t : PathSet) → set.union s t ≡ set.union t s
+union_swap s t = same_by _ _ (λ q. contains_union s t q ∙ or_comm (set.contains s q) (set.contains t q) ∙ sym (contains_union t s q))
 
 pub union_insert : (s t : PathSet) (p : List Field) → set.union s (set.insert t p) ≡ set.insert (set.union s t) p
 union_insert s t p = same_by _ _ (λ q.

@@ -8,10 +8,11 @@ use Rattle.std.proofs.lemmas.Option.{same_Some}
 use Rattle.std.specs.Prelude.{bytes_eq, option_and_then}
 use Rattle.dtype_base.specs.declared.nullability.Nullability.{Nullability}
 use Rattle.dtype_types.specs.parts.Lookups.{first_named}
+use Rattle.dtype_types.specs.tree.Kinds.{any_size_list_element}
 use Rattle.dtype_types.specs.tree.Tree.{Tree, Fields, no_fields, field, pairs, list, fixed_size_list, struct}
 use Rattle.dtype_types.specs.tree.Valid.{Valid, ValidFields}
 use Rattle.dtype_paths.specs.Along.{along}
-use Rattle.dtype_paths.specs.At.{At, ExistsIn}
+use Rattle.dtype_paths.specs.At.{At, ExistsIn, step}
 use Rattle.dtype_paths.specs.Beginning.{Beginning}
 use Rattle.dtype_paths.specs.Equality.{same_field, same_path}
 use Rattle.dtype_paths.specs.EqualityLaws.{same_field-Decides, same_path-Decides}
@@ -33,6 +34,17 @@ at_append t u x (f ∷ p) q a b = (a.0, a.1, at_append a.0 u x p q a.2 b)
 
 pub at_joined : (t u : Tree) (p q : List Field) → At t (p ++ q) u ↔ ((x : Tree) × At t p x × At x q u)
 at_joined t u p q = (split_at t u p q, λ w. at_append t u w.0 p q w.1 w.2)
+
+-- behind a path to a list are its elements
+element_step : (t : Tree) → step t ElementType ≡ any_size_list_element t
+element_step (list t n) = refl
+element_step (fixed_size_list t k n) = refl
+element_step _ = refl
+
+pub at_element : (t u : Tree) (p : List Field) → At t (p ++ ElementType ∷ []) u → (x : Tree) × At t p x × (any_size_list_element x ≡ Some u)
+at_element t u p a =
+    let r = split_at t u p (ElementType ∷ []) a in
+    (r.0, r.1, sym (element_step r.0) ∙ (r.2.1 ∙ ap Some r.2.2))
 
 pub beginning_exists : (t u : Tree) (p q : List Field) → Beginning p q → At t q u → (x : Tree) × At t p x
 beginning_exists t u p q b a = let r = split_at t u p b.0 (subst (λ z. At t z u) b.1 a) in (r.0, r.1)
@@ -124,4 +136,4 @@ none_unasked (Prefix (h ∷ p)) f q first some asked = cc
 none_unasked (Exact []) f q first some asked = cc
 none_unasked (Exact (h ∷ p)) f q first some asked = cc
 
-pub ruleset stepping = (given_at, given_exists, given_valid, none_at, none_exists, column_along, at_append, beginning_exists_in, front_exists_in, root_begins, root_leads, root_exists_in, tested_fields, tested_paths, one_type_at, along_after, none_after, none_further, first_asked, other_unasked, none_unasked)
+pub ruleset stepping = (given_at, given_exists, given_valid, none_at, none_exists, column_along, at_append, at_element, beginning_exists_in, front_exists_in, root_begins, root_leads, root_exists_in, tested_fields, tested_paths, one_type_at, along_after, none_after, none_further, first_asked, other_unasked, none_unasked)

@@ -459,3 +459,13 @@ pub fn columns_to_open(alloc: Global, asked: FieldPathSet) -> VortexResult<Vec<F
     let cover: Vec<FieldPath> = asked.into_iter()?.collect(alloc)?;
     Ok(cover)
 }
+
+/// The paths of two queries: whose come first doesn't matter.
+#[tactic(auto, using(vortex_dtype::specs::rulesets::covering, vortex_dtype::specs::rulesets::union_swap))]
+pub fn asked_by_both(one: &FieldPathSet, other: Vec<FieldPath>) -> VortexResult<FieldPathSet>
+    ensures { IfOk result (λ s. s ≡ set.union (set_of other.items) one.now) }
+{
+    let mut both = one.try_clone()?;
+    both.extend(other)?;
+    Ok(both)
+}

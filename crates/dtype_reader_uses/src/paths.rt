@@ -4,11 +4,12 @@
 //! Paths, resolved.
 #![tactic(auto, using(vortex_dtype::specs::rulesets::stepping))]
 
-ghost use Rattle.std.specs.Prelude.{◌≡◌, ◌↔◌, ◌++◌, ◌∷◌, [], IfOk, IfSome, IsTrue, List, codes, ℕ};
+ghost use Rattle.std.specs.Prelude.{◌≡◌, ◌↔◌, ◌++◌, ◌∷◌, [], IfOk, IfSome, IsTrue, List, Some, codes, ℕ};
 ghost use Rattle.std.specs.Option.{option_map};
 ghost use Rattle.vortex_dtype.specs.Along.{along};
 ghost use Rattle.vortex_dtype.specs.At.{At, ExistsIn};
 ghost use Rattle.vortex_dtype.specs.Beginning.{Beginning};
+ghost use Rattle.vortex_dtype.specs.Kinds.{any_size_list_element};
 ghost use Rattle.vortex_dtype.specs.Lookups.{first_named};
 ghost use Rattle.vortex_dtype.specs.Nullable.{nullability};
 ghost use Rattle.vortex_dtype.specs.Tree.{Fields, Tree, pairs, struct};
@@ -169,4 +170,13 @@ pub fn is_column(field: &Field, name: &str) -> bool
     ensures { IsTrue result ↔ (field.now ≡ Field.Name name.now) }
 {
     field.as_name() == Some(name)
+}
+
+/// The type of the elements of the list along a path.
+pub fn element_along<'a>(path: FieldPath, dtype: &'a DType) -> VortexResult<Option<&'a DType>>
+    ensures { IfOk result (λ found. IfSome found (λ u. (x : Tree) × At (tree dtype.now) path x
+        × (any_size_list_element x ≡ Some (tree u.now)))) }
+{
+    let element = path.push(Field::ElementType)?;
+    Ok(element.resolve(dtype))
 }

@@ -6,7 +6,7 @@
 
 ghost use Rattle.std.specs.Prelude.{◌≡◌, ◌≢◌, ◌↔◌, IfOk, IsTrue};
 ghost use Rattle.dtype_types.specs.parts.FieldTypes.{field_tree};
-ghost use Rattle.dtype_types.specs.parts.Lookups.{first_named};
+ghost use Rattle.dtype_types.specs.parts.Lookups.{field_names, first_named};
 ghost use Rattle.dtype_types.specs.tree.TreeOf.{children, variant_list, extension_tree, map_shown, tree};
 
 use std::alloc::Global;
@@ -113,4 +113,12 @@ pub fn has_same_column(table: &StructFields, other: &StructFields, column: &str)
         (None, None) => true,
         (Some(_), None) | (None, Some(_)) => false,
     }
+}
+
+/// Whether two tables have the same names of columns, in the same order.
+#[tactic(auto, using(vortex_dtype::specs::rulesets::equality))]
+pub fn has_same_names(table: &StructFields, other: &StructFields) -> bool
+    ensures { IsTrue result ↔ (field_names (children table.now) ≡ field_names (children other.now)) }
+{
+    *table.names() == *other.names()
 }

@@ -4,7 +4,7 @@
 // Lookups of fields, by name and by position.
 #![tactic(auto, using(vortex_dtype::specs::rulesets::joined_fields, vortex_dtype::specs::rulesets::lookups))]
 
-ghost use Rattle.std.specs.Prelude.{◌≡◌, ◌+◌, ◌<◌, None, Some, IfOk, IsSome, IsTrue, length, true};
+ghost use Rattle.std.specs.Prelude.{◌≡◌, ◌≢◌, ◌+◌, ◌<◌, ℕ, List, None, Some, IfOk, IsSome, IsTrue, length, true};
 ghost use Rattle.std.specs.Option.{option_map};
 ghost use Rattle.dtype_types.specs.parts.Lookups.{field_names, first_named};
 ghost use Rattle.dtype_types.specs.nullability.Nullable.{nullability};
@@ -114,4 +114,30 @@ pub fn takes_column_of_second(
         → IfOk result (λ taken. IsTrue taken) }
 {
     Ok(first.disjoint_merge(alloc, second)?.field(column).is_some())
+}
+
+/// The columns of a join: each side's keep their types.
+#[tactic(auto, using(vortex_dtype::specs::rulesets::joined_fields, vortex_dtype::specs::rulesets::distinct_fields))]
+pub fn joined(alloc: Global, left: &StructFields, right: &StructFields) -> VortexResult<StructFields>
+    ensures left { IfOk result (λ s. (n : List ℕ) → IsSome (first_named (children left.now) n)
+        → first_named (children s) n ≡ first_named (children left.now) n) }
+    ensures right { IfOk result (λ s. (n : List ℕ) → IsSome (first_named (children right.now) n)
+        → first_named (children s) n ≡ first_named (children right.now) n) }
+{
+    let joined = left.disjoint_merge(alloc, right)?;
+    Ok(joined)
+}
+
+/// The table without a column: no column has its name, if none had it twice, and the others keep their types.
+#[tactic(auto, using(vortex_dtype::specs::rulesets::lookups, vortex_dtype::specs::rulesets::distinct_fields))]
+pub fn without(alloc: Global, table: &StructFields, name: &str) -> VortexResult<StructFields>
+    ensures gone { Distinct (field_names (children table.now))
+        → IfOk result (λ s. first_named (children s) name.now ≡ None) }
+    ensures others { IfOk result (λ s. (n : List ℕ) → n ≢ name.now
+        → first_named (children s) n ≡ first_named (children table.now) n) }
+{
+    match table.find(name) {
+        Some(index) => Ok(table.without_field(alloc, index)?),
+        None => Ok(table.try_clone(alloc)?),
+    }
 }

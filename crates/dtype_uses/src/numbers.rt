@@ -4,10 +4,10 @@
 // Names of numbers, and their bytes.
 #![tactic(auto, using(vortex_dtype::specs::rulesets::decimals))]
 
-ghost use Rattle.std.specs.Prelude.{◌≡◌};
+ghost use Rattle.std.specs.Prelude.{◌≡◌, ◌-◌, ◌*◌, ◌^◌, ◌≤◌};
 ghost use Rattle.vortex_dtype.specs.PTypeNumbers.{plain};
 
-use vortex_dtype::{DecimalDType, PType, ToBytes, pb};
+use vortex_dtype::{DecimalDType, DecimalType, PType, ToBytes, pb};
 
 /// The name of the offsets of 257 items.
 pub fn offsets_of_257_items() -> PType
@@ -36,4 +36,11 @@ pub fn message_name(ptype: PType) -> pb::PType
     ensures { plain result ≡ ptype }
 {
     pb::PType::from(ptype)
+}
+
+/// How many bytes each value of a decimal type fits.
+pub fn decimal_bytes(decimal: &DecimalDType) -> usize
+    ensures { 10 ^ decimal.now.precision ≤ 2 ^ (8 * result - 1) }
+{
+    DecimalType::smallest_decimal_value_type(decimal).byte_width()
 }

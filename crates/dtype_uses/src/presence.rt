@@ -5,11 +5,11 @@
 #![tactic(auto, using(vortex_dtype::specs::rulesets::presence))]
 
 ghost use Rattle.std.specs.Prelude.{◌↔◌, Contains, IfOk, IsSome, IsTrue};
-ghost use Rattle.dtype_types.specs.parts.Lookups.{field_names, first_named};
-ghost use Rattle.dtype_types.specs.tree.TreeOf.{children};
+ghost use Rattle.dtype_types.specs.parts.Lookups.{field_names, first_named, variant_names};
+ghost use Rattle.dtype_types.specs.tree.TreeOf.{children, variant_list};
 
 use std::alloc::Global;
-use vortex_dtype::{StructFields, VortexResult};
+use vortex_dtype::{StructFields, UnionVariants, VortexResult};
 
 /// Whether a name is among those of the columns.
 pub fn is_among(table: &StructFields, name: &str) -> bool
@@ -23,4 +23,12 @@ pub fn copy_has_column(alloc: Global, table: &StructFields, name: &str) -> Vorte
     ensures { IfOk result (λ b. IsTrue b ↔ IsSome (first_named (children table.now) name.now)) }
 {
     Ok(table.try_clone(alloc)?.find(name).is_some())
+}
+
+/// Whether a union has a variant of the name: where it has a type of that name.
+#[tactic(auto, using(vortex_dtype::specs::rulesets::lookups, vortex_dtype::specs::rulesets::presence))]
+pub fn has_variant(union: &UnionVariants, name: &str) -> bool
+    ensures { IsTrue result ↔ Contains (variant_names (variant_list union.now)) name.now }
+{
+    union.variant(name).is_some()
 }

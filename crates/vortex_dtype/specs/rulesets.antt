@@ -10,6 +10,7 @@
 pub use Rattle.dtype_base.specs.lemmas.Decimals.{decimals}
 pub use Rattle.dtype_base.specs.lemmas.Primitives.{primitives}
 -- of dtype_types: structs and unions, nullability, values and validity
+pub use Rattle.dtype_types.specs.lemmas.DistinctFields.{distinct_fields}
 pub use Rattle.dtype_types.specs.lemmas.JoinedFields.{joined_fields}
 pub use Rattle.dtype_types.specs.lemmas.MadeOf.{made_of}
 pub use Rattle.dtype_types.specs.lemmas.NullValues.{null_values}
@@ -26,9 +27,10 @@ pub use Rattle.dtype_paths.specs.lemmas.Stepping.{stepping}
 pub use Rattle.dtype_projection.specs.lemmas.Merging.{merging}
 -- of vortex_dtype: sessions
 pub use Rattle.vortex_dtype.specs.lemmas.Sessions.{sessions}
--- lemmas of these for answers of one's own: the set of paths that a loop collects, and any number of comparisons
+-- lemmas of these for answers of one's own: the set of paths that a loop collects, and any number of comparisons; and a
+-- union in the other order, for a function's own line, since beside `covering` a search turns it back and forth
 pub use Rattle.dtype_base.specs.lemmas.Lookups.{few_compared}
-pub use Rattle.dtype_paths.specs.CoveringLaws.{of_push}
+pub use Rattle.dtype_paths.specs.CoveringLaws.{of_push, union_swap}
 use Rattle.dtype_base.specs.lemmas.Lookups.{lookups as name_lookups}
 use Rattle.dtype_messages.specs.lemmas.Equality.{equality as message_equality}
 use Rattle.dtype_messages.specs.lemmas.Numbers.{numbers}

@@ -2,11 +2,11 @@
 -- SPDX-FileCopyrightText: Copyright the Vortex contributors
 
 -- A list of nodes after a path is added to it.
-use Rattle.std.proofs.Common.{ℕ, suc, zero, ◌+◌, ◌-◌, ◌<◌, ◌≤◌, length, take, drop, get_or, subst, ◌≡◌, ◌&&◌, ◌==◌, cond, List, [], ◌∷◌, ◌++◌, Option, Some, None, inl, inr, refl, sym, ap, ◌∙◌, arith, ⊎_elim, length-append}
-use Rattle.std.specs.List.{slice_get}
+use Rattle.std.proofs.Common.{ℕ, suc, zero, ◌+◌, ◌-◌, ◌<◌, ◌≤◌, length, take, drop, get_or, map, subst, ◌≡◌, ◌&&◌, ◌==◌, cond, List, [], ◌∷◌, ◌++◌, Option, Some, None, option_and_then, inl, inr, refl, sym, ap, ◌∙◌, arith, ⊎_elim, length-append}
+use Rattle.std.specs.List.{slice_get, cons_option, filter_map}
 use Rattle.std.proofs.lemmas.Bool.{cases_lt, and_from, and_parts}
 use Rattle.std.proofs.lemmas.Bool.Decides.{Decides-eqb}
-use Rattle.std.proofs.lemmas.List.{take_more}
+use Rattle.std.proofs.lemmas.List.{length-map, take_more}
 use Rattle.std.proofs.lemmas.Option.{same_Some, option_and_then_some, slice_get_within, slice_get_past}
 use Rattle.dtype_paths.specs.lemmas.Cases.{by_bool}
 use Rattle.dtype_paths.specs.private.Children.{child}
@@ -15,7 +15,7 @@ use Rattle.dtype_paths.specs.EqualityLaws.{same_field-Decides}
 use Rattle.dtype_paths.specs.declared.field.Field.{Field}
 use Rattle.dtype_paths.specs.declared.node.Node.{Node}
 use Rattle.dtype_paths.specs.private.PathLists.{SameMembers}
-use Rattle.dtype_paths.specs.private.Trie.{chain, child_at, terminal_at, terminals, walk, IsAlike, HasBranch, IsPrefixMatch, IsTrie, IsTrieBy}
+use Rattle.dtype_paths.specs.private.Trie.{chain, child_at, terminal_at, terminals, walk, reading, IsAlike, HasBranch, IsPrefixMatch, IsTrie, IsTrieBy}
 use Rattle.dtype_paths.specs.declared.path_match.PrefixMatch.{PrefixMatch}
 use Rattle.dtype_paths.proofs.NodeIndices.{child-left, child-right, terminal-left, terminal-right, gains, split}
 use Rattle.dtype_paths.proofs.TrieGrowth.{Ends, Grows, Leads, trie-grown, trie-finish, trie-root, trie-same}
@@ -158,8 +158,26 @@ root-alone nodes one terminal steps = subst (IsTrieBy (child_at nodes) (terminal
 
 -- ---- a list with the same nodes as another
 
-pub nodes-same : (old new : List Node) → IsTrie old → IsAlike old new → IsTrie new
-nodes-same old new t a = trie-same (child_at old) (child_at new) (terminal_at old) (terminal_at new) (length old) (length new) a.steps a.terminals a.long t
+read-map : {A B C : Type 0} (g : A → B) (f : B → Option C) (xs : List A) (i : ℕ) → option_and_then (λ x. f (g x)) (slice_get xs i) ≡ option_and_then f (slice_get (map g xs) i)
+read-map g f [] i = refl
+read-map g f (x ∷ xs) zero = refl
+read-map g f (x ∷ xs) (suc i) = read-map g f xs i
+
+terminals-read : (ns : List Node) → terminals ns ≡ filter_map (λ r. r.0) (map reading ns)
+terminals-read [] = refl
+terminals-read (n ∷ ns) = ap (cons_option n.terminal) (terminals-read ns)
+
+module _ (old new : List Node) (a : IsAlike old new) where
+  read-same : {C : Type 0} (f : Option (List Field) × (Field → Option ℕ) → Option C) (i : ℕ) → option_and_then (λ n. f (reading n)) (slice_get new i) ≡ option_and_then (λ n. f (reading n)) (slice_get old i)
+  read-same f i = read-map reading f new i ∙ ap (λ rs. option_and_then f (slice_get rs i)) a ∙ sym (read-map reading f old i)
+
+  pub nodes-same : IsTrie old → IsTrie new
+  nodes-same =
+      trie-same (child_at old) (child_at new) (terminal_at old) (terminal_at new) (length old) (length new)
+      (λ i f. read-same (λ r. r.1 f) i) (read-same (λ r. r.0)) (sym (length-map new reading) ∙ ap length a ∙ length-map old reading)
+
+  pub terminals-same : terminals new ≡ terminals old
+  terminals-same = terminals-read new ∙ ap (filter_map (λ r. r.0)) a ∙ sym (terminals-read old)
 
 -- ---- the list where the path ends in a node that is there
 

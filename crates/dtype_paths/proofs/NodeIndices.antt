@@ -90,14 +90,6 @@ gains old new node_index path e = record {
   );
 }
 
-pub terminals-same : (old new : List Node) → length new ≡ length old → ((i : ℕ) → terminal_at new i ≡ terminal_at old i) → terminals new ≡ terminals old
-terminals-same [] [] l h = refl
-terminals-same [] (n ∷ ns) l h = absurd (omega (arith, l))
-terminals-same (m ∷ ms) [] l h = absurd (omega (arith, l))
-terminals-same (m ∷ ms) (n ∷ ns) l h =
-    let e : n.terminal ≡ m.terminal = h 0 in
-    rw (e, terminals-same ms ns (omega (arith, l)) (λ i. h (suc i))) refl
-
 no_terminal : (p : List Field) (ns : List Node) → ((i : ℕ) → terminal_at ns i ≡ Some p → ⊥) → AllByRecursion (λ y. same_path p y ≡ false) (terminals ns)
 no_terminal p [] h = tt
 no_terminal p (n ∷ ns) h = go n.terminal refl (no_terminal p ns (λ i. h (suc i)))

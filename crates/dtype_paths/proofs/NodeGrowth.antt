@@ -2,12 +2,12 @@
 -- SPDX-FileCopyrightText: Copyright the Vortex contributors
 
 -- A list of nodes after a path is added to it.
-use Rattle.std.proofs.Common.{ℕ, suc, zero, ◌+◌, ◌-◌, ◌<◌, ◌≤◌, length, take, drop, get_or, map, subst, ◌≡◌, ◌&&◌, ◌==◌, cond, List, [], ◌∷◌, ◌++◌, Option, Some, None, option_and_then, inl, inr, refl, sym, ap, ◌∙◌, arith, ⊎_elim, length-append}
+use Rattle.std.proofs.Common.{ℕ, suc, zero, ◌+◌, ◌-◌, ◌<◌, ◌≤◌, length, take, drop, get_or, map, subst, ◌≡◌, ◌⊎◌, ◌&&◌, ◌==◌, cond, List, [], ◌∷◌, ◌++◌, Option, Some, None, option_and_then, inl, inr, refl, sym, ap, ◌∙◌, arith, ⊎_elim, length-append}
 use Rattle.std.specs.List.{slice_get, cons_option, filter_map}
-use Rattle.std.proofs.lemmas.Bool.{cases_lt, and_from, and_parts}
+use Rattle.std.proofs.lemmas.Bool.{cases_lt, and_parts}
 use Rattle.std.proofs.lemmas.Bool.Decides.{Decides-eqb}
 use Rattle.std.proofs.lemmas.List.{length-map, take_more}
-use Rattle.std.proofs.lemmas.Option.{same_Some, option_and_then_some, slice_get_within, slice_get_past}
+use Rattle.std.proofs.lemmas.Option.{same_Some, slice_get_within, slice_get_past}
 use Rattle.dtype_paths.specs.lemmas.Cases.{by_bool}
 use Rattle.dtype_paths.specs.private.Children.{child}
 use Rattle.dtype_paths.specs.Equality.{same_field}
@@ -17,7 +17,7 @@ use Rattle.dtype_paths.specs.declared.node.Node.{Node}
 use Rattle.dtype_paths.specs.private.PathLists.{SameMembers}
 use Rattle.dtype_paths.specs.private.Trie.{chain, child_at, terminal_at, terminals, walk, reading, IsAlike, HasBranch, IsPrefixMatch, IsTrie, IsTrieBy}
 use Rattle.dtype_paths.specs.declared.path_match.PrefixMatch.{PrefixMatch}
-use Rattle.dtype_paths.proofs.NodeIndices.{child-left, child-right, terminal-left, terminal-right, gains, split}
+use Rattle.dtype_paths.proofs.NodeIndices.{gains, read-left, read-right, read-within, split}
 use Rattle.dtype_paths.proofs.TrieGrowth.{Ends, Grows, Leads, trie-grown, trie-finish, trie-root, trie-same}
 
 -- ---- parts of a list
@@ -46,22 +46,18 @@ chain-ends path [] m (suc k) q e = cc
 chain-ends path (f ∷ rest) m zero q e = cc
 chain-ends path (f ∷ rest) m (suc k) q e = let w = chain-ends path rest (m + 1) k q e in (ap suc w.0, w.1)
 
-chain-leads : (child : ℕ → Field → Option ℕ) (path rest : List Field) (m : ℕ) → ((k : ℕ) (f : Field) → child (m + k) f ≡ child_at (chain path m rest) k f) → Leads child m rest
+chain-leads : (child : ℕ → Field → Option ℕ) (path rest : List Field) (m : ℕ) → ((i k : ℕ) (f : Field) → i ≡ m + k → child i f ≡ child_at (chain path m rest) k f) → Leads child m rest
 unfolding Leads
-chain-leads child path [] m h = λ f j e.
-    let z : child (m + 0) f ≡ None = h 0 f in
-    let is : m + 0 ≡ m = omega arith in
-    let y = rw is at z in
-    cc
+chain-leads child path [] m h = λ f j e. let z : None ≡ Some j = sym (h m 0 f (omega arith)) ∙ e in cc
 chain-leads child path (x ∷ rest) m h =
-    let is : m + 0 ≡ m = omega arith in
-    let at = λ (f : Field). rw is at (h 0 f) in (
+    let at = λ (f : Field). h m 0 f (omega arith) in (
       at x ∙ rw ((same_field-Decides x x).1 refl) refl,
       λ f j e.
+          let z = sym (at f) ∙ e in
           by_bool (same_field f x)
-          (λ s. let z = at f in let y = rw s at z in ((same_field-Decides f x).0 s, let q : Some (m + 1) ≡ Some j = sym y ∙ e in sym (same_Some (m + 1) j q)))
-          (λ s. let z = at f in let y = rw s at z in let q : None ≡ Some j = sym y ∙ e in absurd (cc)),
-      chain-leads child path rest (m + 1) (λ k f. let a : m + suc k ≡ (m + 1) + k = omega arith in rw a at (h (suc k) f)),
+          (λ s. let q : Some (m + 1) ≡ Some j = rw s at z in ((same_field-Decides f x).0 s, sym (same_Some (m + 1) j q)))
+          (λ s. let q : None ≡ Some j = rw s at z in absurd (cc)),
+      chain-leads child path rest (m + 1) (λ i k f is. h i (suc k) f (omega (arith, is))),
     )
 
 -- ---- the list after a path of which a prefix was there
@@ -84,49 +80,44 @@ module _ (old new : List Node) (path : List Field) (m : PrefixMatch) (trie : IsT
       let is : prefix.step ≡ g.step = let q = sym prefix.next ∙ g.first in same_Some prefix.step g.step q in
       rw (← is) prefix.none
 
-  there : (i : ℕ) (f : Field) (j : ℕ) → child_at old i f ≡ Some j → i < length old
-  there i f j e = option_and_then_some (λ n. child n.children f) (slice_get old i) j e (λ n s g. slice_get_within old i n s)
+  led : (i : ℕ) (f : Field) → ((i ≡ here) × (f ≡ x) × (child_at new i f ≡ Some (length old))) ⊎ (child_at new i f ≡ child_at (old ++ tail) i f)
+  led i f =
+      by_bool (i == here && same_field x f)
+      (λ b. let p = and_parts (i == here) (same_field x f) b in inl ((Decides-eqb i here).0 p.0, sym ((same_field-Decides x f).0 p.1), g.steps i f ∙ rw b refl))
+      (λ b. inr (g.steps i f ∙ rw b refl))
 
   grows : Grows (child_at old) (child_at new) (length old) here x rest
   grows = record {
     kept = λ i f j e.
-        let left = child-left old tail i f (there i f j e) ∙ e in
-        by_bool (i == here && same_field x f)
-        (λ b.
-        let p = and_parts (i == here) (same_field x f) b in
-        let is : i ≡ here = (Decides-eqb i here).0 p.0 in let same : x ≡ f = (same_field-Decides x f).0 p.1 in
-        let z = rw (is, ← same) at e in let q : None ≡ Some j = sym stop ∙ z in absurd (cc))
-        (λ b. g.steps i f ∙ rw b left);
-    joined =
-        let b = and_from (here == here) (same_field x x) ((Decides-eqb here here).1 refl) ((same_field-Decides x x).1 refl) in
-        g.steps here x ∙ rw b refl;
+        ⊎_elim
+        (λ a. let z = rw (a.0, a.1) at e in let q : None ≡ Some j = sym stop ∙ z in absurd (cc))
+        (λ a. let read = λ (n : Node). child n.children f in a ∙ read-left read old tail i (read-within read old i j e) ∙ e)
+        (led i f);
+    joined = g.steps here x ∙ rw ((Decides-eqb here here).1 refl, (same_field-Decides x x).1 refl) refl;
     only = λ i f j below e.
-        by_bool (i == here && same_field x f)
-        (λ b.
-        let p = and_parts (i == here) (same_field x f) b in
-        let s = g.steps i f in let z = rw b at s in let q : Some (length old) ≡ Some j = sym z ∙ e in
-        inr ((Decides-eqb i here).0 p.0, sym ((same_field-Decides x f).0 p.1), sym (same_Some (length old) j q)))
-        (λ b. let s = g.steps i f in let z = rw b at s in inl (sym (child-left old tail i f below) ∙ sym z ∙ e));
-    leads = chain-leads (child_at new) path rest (length old) (λ k f.
-        by_bool (length old + k == here && same_field x f)
-        (λ b. let p = and_parts (length old + k == here) (same_field x f) b in let is = (Decides-eqb (length old + k) here).0 p.0 in let i = prefix.inside in absurd (omega arith))
-        (λ b. let s = g.steps (length old + k) f in let z = rw b at s in z ∙ child-right old tail k f));
+        ⊎_elim
+        (λ a. inr (a.0, a.1, let q = sym a.2 ∙ e in sym (same_Some (length old) j q)))
+        (λ a. inl (sym (read-left (λ n. child n.children f) old tail i below) ∙ sym a ∙ e))
+        (led i f);
+    leads = chain-leads (child_at new) path rest (length old) (λ i k f is.
+        ⊎_elim (λ a. absurd (omega (arith, is, a.0, prefix.inside))) (λ a. a ∙ read-right (λ n. child n.children f) old tail i k is) (led i f));
   }
 
   new_ends : Ends (terminal_at old) (terminal_at new) (length old + length rest) path
-  new_ends = record {
-    kept = λ i q e. g.terminals i ∙ terminal-left old tail i (option_and_then_some (λ n. n.terminal) (slice_get old i) q e (λ n s g. slice_get_within old i n s)) ∙ e;
-    here = g.terminals (length old + length rest) ∙ terminal-right old tail (length rest) ∙ chain-last path rest (length old);
-    only = λ i q e.
-        let f = sym (g.terminals i) ∙ e in
-        ⊎_elim
-        (λ below. inl (sym (terminal-left old tail i below) ∙ f))
-        (λ above.
-        let is : i ≡ length old + (i - length old) = omega arith in
-        let w = chain-ends path rest (length old) (i - length old) q (sym (terminal-right old tail (i - length old)) ∙ (rw is at f)) in
-        inr (omega (arith, above, w.0), w.1))
-        (cases_lt i (length old));
-  }
+  new_ends =
+      let read = λ (n : Node). n.terminal in
+      record {
+        kept = λ i q e. g.terminals i ∙ read-left read old tail i (read-within read old i q e) ∙ e;
+        here = g.terminals (length old + length rest) ∙ read-right read old tail (length old + length rest) (length rest) refl ∙ chain-last path rest (length old);
+        only = λ i q e.
+            let f = sym (g.terminals i) ∙ e in
+            ⊎_elim
+            (λ below. inl (sym (read-left read old tail i below) ∙ f))
+            (λ above.
+            let w = chain-ends path rest (length old) (i - length old) q (sym (read-right read old tail i (i - length old) (omega (arith, above))) ∙ f) in
+            inr (omega (arith, above, w.0), w.1))
+            (cases_lt i (length old));
+      }
 
   parted : path ≡ take m.len path ++ x ∷ rest
   parted =

@@ -7,11 +7,10 @@ use Rattle.std.specs.List.{slice_get, Contains, IsDistinct, AllByRecursion, cons
 use Rattle.std.proofs.lemmas.List.Elements.{filter_map-append}
 use Rattle.std.proofs.lemmas.List.{map-append}
 use Rattle.std.proofs.lemmas.Map.Keys.{IsDistinct-cons}
-use Rattle.std.proofs.lemmas.Option.{same_Some, slice_get_read, slice_get_within}
+use Rattle.std.proofs.lemmas.Option.{same_Some, option_and_then_some, slice_get_read, slice_get_within}
 use Rattle.dtype_paths.proofs.DistinctLists.{IsDistinct-nil}
 use Rattle.dtype_paths.proofs.ListMembers.{contains-cons, contains-head, contains-nil, contains-tail}
 use Rattle.dtype_paths.specs.lemmas.Cases.{by_bool, by_option}
-use Rattle.dtype_paths.specs.private.Children.{child}
 use Rattle.dtype_paths.specs.Equality.{same_path}
 use Rattle.dtype_paths.specs.EqualityLaws.{same_path-Decides}
 use Rattle.dtype_paths.specs.private.PathLists.{SameMembers}
@@ -23,31 +22,19 @@ use Rattle.dtype_paths.proofs.TrieGrowth.{Ends, walk-append}
 
 -- ---- a node index in a longer list
 
-module _ {A : Type 0} where
-  pub slice_get-left : (xs ys : List A) (i : ℕ) → i < length xs → slice_get (xs ++ ys) i ≡ slice_get xs i
-  slice_get-left [] ys i h = absurd (omega (arith, h))
-  slice_get-left (x ∷ xs) ys zero h = refl
-  slice_get-left (x ∷ xs) ys (suc i) h = slice_get-left xs ys i (omega (arith, h))
+module _ {A B : Type 0} (f : A → Option B) where
+  pub read-left : (xs ys : List A) (i : ℕ) → i < length xs → option_and_then f (slice_get (xs ++ ys) i) ≡ option_and_then f (slice_get xs i)
+  read-left [] ys i h = absurd (omega (arith, h))
+  read-left (x ∷ xs) ys zero h = refl
+  read-left (x ∷ xs) ys (suc i) h = read-left xs ys i (omega (arith, h))
 
-  slice_get-at : (xs ys : List A) (i k : ℕ) → i ≡ length xs + k → slice_get (xs ++ ys) i ≡ slice_get ys k
-  slice_get-at [] ys i k e = ap (slice_get ys) (omega (arith, e))
-  slice_get-at (x ∷ xs) ys zero k e = absurd (omega (arith, e))
-  slice_get-at (x ∷ xs) ys (suc i) k e = slice_get-at xs ys i k (omega (arith, e))
+  pub read-right : (xs ys : List A) (i k : ℕ) → i ≡ length xs + k → option_and_then f (slice_get (xs ++ ys) i) ≡ option_and_then f (slice_get ys k)
+  read-right [] ys i k e = ap (λ j. option_and_then f (slice_get ys j)) (omega (arith, e))
+  read-right (x ∷ xs) ys zero k e = absurd (omega (arith, e))
+  read-right (x ∷ xs) ys (suc i) k e = read-right xs ys i k (omega (arith, e))
 
-  pub slice_get-right : (xs ys : List A) (k : ℕ) → slice_get (xs ++ ys) (length xs + k) ≡ slice_get ys k
-  slice_get-right xs ys k = slice_get-at xs ys (length xs + k) k refl
-
-pub child-left : (xs ys : List Node) (i : ℕ) (f : Field) → i < length xs → child_at (xs ++ ys) i f ≡ child_at xs i f
-child-left xs ys i f h = ap (λ o. option_and_then (λ n. child n.children f) o) (slice_get-left xs ys i h)
-
-pub child-right : (xs ys : List Node) (k : ℕ) (f : Field) → child_at (xs ++ ys) (length xs + k) f ≡ child_at ys k f
-child-right xs ys k f = ap (λ o. option_and_then (λ n. child n.children f) o) (slice_get-right xs ys k)
-
-pub terminal-left : (xs ys : List Node) (i : ℕ) → i < length xs → terminal_at (xs ++ ys) i ≡ terminal_at xs i
-terminal-left xs ys i h = ap (λ o. option_and_then (λ n. n.terminal) o) (slice_get-left xs ys i h)
-
-pub terminal-right : (xs ys : List Node) (k : ℕ) → terminal_at (xs ++ ys) (length xs + k) ≡ terminal_at ys k
-terminal-right xs ys k = ap (λ o. option_and_then (λ n. n.terminal) o) (slice_get-right xs ys k)
+  pub read-within : (xs : List A) (i : ℕ) (y : B) → option_and_then f (slice_get xs i) ≡ Some y → i < length xs
+  read-within xs i y e = option_and_then_some f (slice_get xs i) y e (λ x s g. slice_get_within xs i x s)
 
 -- what is read of a path after its prefix
 pub next-step : (nodes : List Node) (path : List Field) (m : PrefixMatch) (prefix : IsPrefixMatch nodes path m) (x step : Field) → x ≡ get_or path m.len x → step ≡ x → (slice_get path m.len ≡ Some step) × (prefix.step ≡ step)

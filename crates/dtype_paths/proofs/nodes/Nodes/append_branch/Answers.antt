@@ -4,8 +4,9 @@
 use Rattle.std.proofs.Common.{◌∙◌, ◌+◌, ap, drop, length, take}
 use Rattle.std.proofs.Math.Seq.{take-append_seam}
 use Rattle.std.proofs.lemmas.Result.{on_err_weaker, on_ok_weaker}
+use Rattle.dtype_paths.specs.private.Children.{child}
 use Rattle.dtype_paths.specs.private.Trie.{chain}
-use Rattle.dtype_paths.proofs.NodeIndices.{child-left, next-step}
+use Rattle.dtype_paths.proofs.NodeIndices.{next-step, read-left}
 use Rattle.dtype_paths.proofs.nodes.Nodes.append_branch.Goals as goal
 
 pub add_child-requires-clause-key : goal.add_child-requires-clause-key
@@ -18,7 +19,7 @@ pub add_child-requires-clause-none : goal.add_child-requires-clause-none
 add_child-requires-clause-none c =
     let old = c.args.self.now in let path = c.args.path in let m = c.args.prefix in
     let next = next-step old path m c.requires c.index-parts-prefix.result c.in_ok-step.step (rw c.parts.ensures at c.index-parts-prefix.is) c.in_ok-step.ensures in
-    rw c.in_ok-push_chain.ensures.ok (child-left old (chain path (length old) (drop (m.len + 1) path)) m.here c.in_ok-step.step c.requires.inside ∙ (rw next.1 at c.requires.none))
+    rw c.in_ok-push_chain.ensures.ok (read-left (λ n. child n.children c.in_ok-step.step) old (chain path (length old) (drop (m.len + 1) path)) m.here c.requires.inside ∙ (rw next.1 at c.requires.none))
 
 pub returns-clause-ok : goal.returns-clause-ok
 returns-clause-ok c =

@@ -46,7 +46,8 @@ chain-ends path [] m (suc k) q e = cc
 chain-ends path (f ∷ rest) m zero q e = cc
 chain-ends path (f ∷ rest) m (suc k) q e = let w = chain-ends path rest (m + 1) k q e in (ap suc w.0, w.1)
 
-chain-leads : (child : ℕ → Field → Option ℕ) (path rest : List Field) (m : ℕ) → ((i k : ℕ) (f : Field) → i ≡ m + k → child i f ≡ child_at (chain path m rest) k f) → Leads child m rest
+chain-leads : (child : ℕ → Field → Option ℕ) (path rest : List Field) (m : ℕ)
+    → ((i k : ℕ) (f : Field) → i ≡ m + k → child i f ≡ child_at (chain path m rest) k f) → Leads child m rest
 unfolding Leads
 chain-leads child path [] m h = λ f j e. let z : None ≡ Some j = sym (h m 0 f (omega arith)) ∙ e in cc
 chain-leads child path (x ∷ rest) m h =
@@ -159,7 +160,8 @@ terminals-read [] = refl
 terminals-read (n ∷ ns) = ap (cons_option n.terminal) (terminals-read ns)
 
 module _ (old new : List Node) (a : IsAlike old new) where
-  read-same : {C : Type 0} (f : Option (List Field) × (Field → Option ℕ) → Option C) (i : ℕ) → option_and_then (λ n. f (reading n)) (slice_get new i) ≡ option_and_then (λ n. f (reading n)) (slice_get old i)
+  read-same : {C : Type 0} (f : Option (List Field) × (Field → Option ℕ) → Option C) (i : ℕ)
+      → option_and_then (λ n. f (reading n)) (slice_get new i) ≡ option_and_then (λ n. f (reading n)) (slice_get old i)
   read-same f i = read-map reading f new i ∙ ap (λ rs. option_and_then f (slice_get rs i)) a ∙ sym (read-map reading f old i)
 
   pub nodes-same : IsTrie old → IsTrie new

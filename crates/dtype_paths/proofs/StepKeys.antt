@@ -23,28 +23,26 @@ room (suc i) = room i * 256
 pub room-more : (k b i : ℕ) → k < room i → b < 256 → k * 256 + b < room (i + 1)
 room-more k b i h l = let one : i + 1 ≡ suc i = omega arith in rw one (omega (arith, h, l))
 
-room-seven : (k i : ℕ) → k < room i → i ≤ 7 → k < 72057594037927936
-room-seven k zero h l = omega (arith, h)
-room-seven k (suc zero) h l = omega (arith, h)
-room-seven k (suc (suc zero)) h l = omega (arith, h)
-room-seven k (suc (suc (suc zero))) h l = omega (arith, h)
-room-seven k (suc (suc (suc (suc zero)))) h l = omega (arith, h)
-room-seven k (suc (suc (suc (suc (suc zero))))) h l = omega (arith, h)
-room-seven k (suc (suc (suc (suc (suc (suc zero)))))) h l = omega (arith, h)
-room-seven k (suc (suc (suc (suc (suc (suc (suc zero))))))) h l = omega (arith, h)
-room-seven k (suc (suc (suc (suc (suc (suc (suc (suc i)))))))) h l = absurd (omega (arith, l))
+room-up : (i j : ℕ) → i ≤ j → room i ≤ room j
+room-up zero zero h = omega arith
+room-up zero (suc j) h = omega (arith, room-up zero j (omega arith))
+room-up (suc i) zero h = absurd (omega (arith, h))
+room-up (suc i) (suc j) h = omega (arith, room-up i j (omega (arith, h)))
 
--- the last seven bytes, or all
-last-bytes : (n : List ℕ) (s : ℕ) → s ≡ length n - 7 → (take (length n - s) (drop s n) ≡ drop s n) × (length (take (length n - s) (drop s n)) ≤ 7)
-last-bytes n s e =
-    let whole = take_all (length n - s) (drop s n) (omega (arith, length-drop s n)) in
-    (whole, omega (arith, e, ap length whole, length-drop s n))
+module _ (n : List ℕ) (s : ℕ) (e : s ≡ length n - 7) where
+  -- the last seven bytes, or all
+  last-bytes : (take (length n - s) (drop s n) ≡ drop s n) × (length (take (length n - s) (drop s n)) ≤ 7)
+  last-bytes =
+      let whole = take_all (length n - s) (drop s n) (omega (arith, length-drop s n)) in
+      (whole, omega (arith, e, ap length whole, length-drop s n))
 
-pub seven_bytes : (n : List ℕ) (s i k : ℕ) → s ≡ length n - 7 → i ≤ length (take (length n - s) (drop s n)) → k < room i → k < 72057594037927936
-seven_bytes n s i k e few small = let w = last-bytes n s e in room-seven k i small (omega (arith, few, w.1))
+  pub seven_bytes : (i k : ℕ) → i ≤ length (take (length n - s) (drop s n)) → k < room i → k < 72057594037927936
+  seven_bytes i k few small =
+      let up : room i ≤ 72057594037927936 = room-up i 7 (omega (arith, few, last-bytes.1)) in
+      omega (arith, small, up)
 
-pub last_byte : (n : List ℕ) (s i b : ℕ) → s ≡ length n - 7 → b ≡ get_or (take (length n - s) (drop s n)) i 0 → ((k : ℕ) → get_or n k 0 < 256) → b < 256
-last_byte n s i b e is bytes = rw (is, (last-bytes n s e).0, get_or-drop s n i 0) (bytes (s + i))
+  pub last_byte : (i b : ℕ) → b ≡ get_or (take (length n - s) (drop s n)) i 0 → ((k : ℕ) → get_or n k 0 < 256) → b < 256
+  last_byte i b is bytes = rw (is, last-bytes.0, get_or-drop s n i 0) (bytes (s + i))
 
 -- as many bytes that make the same number are the same
 same_bytes : (k j : ℕ) (m n : List ℕ) → length m ≡ length n → Bytes m → Bytes n → with_bytes k m ≡ with_bytes j n → (k ≡ j) × (m ≡ n)

@@ -12,16 +12,13 @@ loop-byte-init c = record { made = refl; small = omega arith }
 
 pub overflow_mul-last_bytes : goal.overflow_mul-last_bytes
 overflow_mul-last_bytes c =
-    let l = c.loop-byte in
-    let less = seven_bytes c.args.name.now c.saturating_sub.result l.byte-index l.last_bytes c.saturating_sub.ensures l.auto.byte-index-end l.invariant.small in
-    omega (arith, less)
+    let l = c.loop-byte in omega (arith, seven_bytes _ _ c.saturating_sub.ensures l.byte-index l.last_bytes l.auto.byte-index-end l.invariant.small)
 
 pub overflow_add-last_bytes : goal.overflow_add-last_bytes
 overflow_add-last_bytes c =
     let l = c.loop-byte in
-    let less = seven_bytes c.args.name.now c.saturating_sub.result l.byte-index l.last_bytes c.saturating_sub.ensures l.auto.byte-index-end l.invariant.small in
-    let byte = last_byte c.args.name.now c.saturating_sub.result l.byte-index c.from.result c.saturating_sub.ensures c.from.ensures (λ k. let b = c.type_inv.name k in omega (arith, b)) in
-    omega (arith, less, byte)
+    let byte = last_byte _ _ c.saturating_sub.ensures l.byte-index c.from.result c.from.ensures (λ k. let b = c.type_inv.name k in omega (arith, b)) in
+    omega (arith, seven_bytes _ _ c.saturating_sub.ensures l.byte-index l.last_bytes l.auto.byte-index-end l.invariant.small, byte)
 
 pub loop-byte-preserved : goal.loop-byte-preserved
 loop-byte-preserved c =
@@ -30,20 +27,16 @@ loop-byte-preserved c =
     let next : drop i items ≡ b ∷ drop (i + 1) items = drop_more items i 0 c.loop-byte-test.true ∙ ap (λ x. x ∷ drop (i + 1) items) (sym c.from.ensures) in
     record {
       made = rw next at c.loop-byte.invariant.made;
-      small = room-more c.loop-byte.last_bytes b i c.loop-byte.invariant.small (last_byte n s i b c.saturating_sub.ensures c.from.ensures (λ k. let f = c.type_inv.name k in omega (arith, f)));
+      small = room-more c.loop-byte.last_bytes b i c.loop-byte.invariant.small (last_byte _ _ c.saturating_sub.ensures i b c.from.ensures (λ k. let f = c.type_inv.name k in omega (arith, f)));
     }
 
 pub overflow_mul-result : goal.overflow_mul-result
 overflow_mul-result c =
-    let l = c.loop-byte in
-    let less = seven_bytes c.args.name.now c.saturating_sub.result l.byte-index l.last_bytes c.saturating_sub.ensures l.auto.byte-index-end l.invariant.small in
-    omega (arith, less)
+    let l = c.loop-byte in omega (arith, seven_bytes _ _ c.saturating_sub.ensures l.byte-index l.last_bytes l.auto.byte-index-end l.invariant.small)
 
 pub overflow_add-result : goal.overflow_add-result
 overflow_add-result c =
-    let l = c.loop-byte in
-    let less = seven_bytes c.args.name.now c.saturating_sub.result l.byte-index l.last_bytes c.saturating_sub.ensures l.auto.byte-index-end l.invariant.small in
-    omega (arith, less, c.min.ensures)
+    let l = c.loop-byte in omega (arith, c.min.ensures, seven_bytes _ _ c.saturating_sub.ensures l.byte-index l.last_bytes l.auto.byte-index-end l.invariant.small)
 
 pub returns-clause-bytes : goal.returns-clause-bytes
 returns-clause-bytes c = λ k d lt. (let b = c.type_inv.name k in rw (get_or_default_zero c.args.name.now k d lt) (omega (arith, b)))

@@ -19,7 +19,8 @@ pub add_child-requires-clause-none : goal.add_child-requires-clause-none
 add_child-requires-clause-none c =
     let old = c.args.self.now in let path = c.args.path in let m = c.args.prefix in
     let next = next-step old path m c.requires c.index-parts-prefix.result c.in_ok-step.step (rw c.parts.ensures at c.index-parts-prefix.is) c.in_ok-step.ensures in
-    rw c.in_ok-push_chain.ensures.ok (read-left (λ n. child n.children c.in_ok-step.step) old (chain path (length old) (drop (m.len + 1) path)) m.here c.requires.inside ∙ (rw next.1 at c.requires.none))
+    rw c.in_ok-push_chain.ensures.ok
+    (read-left (λ n. child n.children c.in_ok-step.step) old (chain path (length old) (drop (m.len + 1) path)) m.here c.requires.inside ∙ (rw next.1 at c.requires.none))
 
 pub returns-clause-ok : goal.returns-clause-ok
 returns-clause-ok c =

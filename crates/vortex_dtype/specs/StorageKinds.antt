@@ -25,31 +25,12 @@ fixed_size (fixed_size_list t size n) = Some size
 fixed_size _ = None
 
 -- the parts of each kind, except an extension's storage
-record Held : Type 0 where
-  kind : Kind
-  primitive : Option PType
-  decimal : Option Decimal
-  fields : Option (List (List ℕ × Tree))
-  variants : Option (List (List ℕ × (Tree × ℕ)))
-  map : Option (Tree × Tree × Bool)
-  element : Option Tree
-  fixed_element : Option Tree
-  any_element : Option Tree
-  size : Option ℕ
-
-abbrev held : Tree → Held
-held t = record {
-  kind = kind t;
-  primitive = primitive_name t;
-  decimal = decimal_of t;
-  fields = struct_fields t;
-  variants = union_variants t;
-  map = map_parts t;
-  element = list_element t;
-  fixed_element = fixed_size_list_element t;
-  any_element = any_size_list_element t;
-  size = fixed_size t;
-}
+abbrev held : Tree → Kind × Option PType × Option Decimal × Option (List (List ℕ × Tree)) × Option (List (List ℕ × (Tree × ℕ))) × Option (Tree × Tree × Bool) ×
+    Option Tree × Option Tree × Option Tree × Option ℕ
+held t = (
+  kind t, primitive_name t, decimal_of t, struct_fields t, union_variants t, map_parts t,
+  list_element t, fixed_size_list_element t, any_size_list_element t, fixed_size t,
+)
 
 as_held : (u t : Tree) → Some u ≡ Some t → held t ≡ held u
 as_held u t e = ap held (sym (same_Some u t e))
@@ -61,31 +42,31 @@ held-set_null (extension i m s) t n e = option_and_then_some (λ x. Some (extens
 held-set_null _ t n e = as_held _ t e
 
 pub kind_kept : IsKept kind
-kind_kept s t n e = ap (λ (h : Held). h.kind) (held-set_null s t n e)
+kind_kept s t n e = ap (λ h. h.0) (held-set_null s t n e)
 
 pub primitive_kept : IsKept primitive_name
-primitive_kept s t n e = ap (λ (h : Held). h.primitive) (held-set_null s t n e)
+primitive_kept s t n e = ap (λ h. h.1) (held-set_null s t n e)
 
 pub decimal_kept : IsKept decimal_of
-decimal_kept s t n e = ap (λ (h : Held). h.decimal) (held-set_null s t n e)
+decimal_kept s t n e = ap (λ h. h.2) (held-set_null s t n e)
 
 pub struct_kept : IsKept struct_fields
-struct_kept s t n e = ap (λ (h : Held). h.fields) (held-set_null s t n e)
+struct_kept s t n e = ap (λ h. h.3) (held-set_null s t n e)
 
 pub union_kept : IsKept union_variants
-union_kept s t n e = ap (λ (h : Held). h.variants) (held-set_null s t n e)
+union_kept s t n e = ap (λ h. h.4) (held-set_null s t n e)
 
 pub map_kept : IsKept map_parts
-map_kept s t n e = ap (λ (h : Held). h.map) (held-set_null s t n e)
+map_kept s t n e = ap (λ h. h.5) (held-set_null s t n e)
 
 pub list_kept : IsKept list_element
-list_kept s t n e = ap (λ (h : Held). h.element) (held-set_null s t n e)
+list_kept s t n e = ap (λ h. h.6) (held-set_null s t n e)
 
 pub fixed_size_list_kept : IsKept fixed_size_list_element
-fixed_size_list_kept s t n e = ap (λ (h : Held). h.fixed_element) (held-set_null s t n e)
+fixed_size_list_kept s t n e = ap (λ h. h.7) (held-set_null s t n e)
 
 pub any_size_list_kept : IsKept any_size_list_element
-any_size_list_kept s t n e = ap (λ (h : Held). h.any_element) (held-set_null s t n e)
+any_size_list_kept s t n e = ap (λ h. h.8) (held-set_null s t n e)
 
 pub fixed_size_kept : IsKept fixed_size
-fixed_size_kept s t n e = ap (λ (h : Held). h.size) (held-set_null s t n e)
+fixed_size_kept s t n e = ap (λ h. h.9) (held-set_null s t n e)

@@ -90,27 +90,28 @@ admits-set_null m h (extension id b s) u n v e = option_and_then_some (λ x. Som
     (λ a. p.0 (k ∙ a.0, rest.0 a.1), λ a. let b' = p.1 a in (sym k ∙ b'.0, rest.1 b'.1)))
 admits-set_null m h _ u n v e = same_by m _ u e
 
--- a session without plugins that keeps unknown ids admits every type
-kept_all : (m : Meaning) → ((id : List ℕ) → m.registered id ≡ None) → m.unknown ≡ true → (id b : List ℕ) (s : Tree) → keeps m id b s ≡ Some b
-kept_all m none all id b s = ap (λ o. kept o m.unknown b s) (none id) ∙ ap (λ (u : Bool). kept None u b s) all
+-- a session without plugins that keeps unknown ids keeps all metadata and admits every type
+pub kept_allow_unknown_in : (n : Meaning) (id b : List ℕ) (t : Tree) → n ≡ allow_unknown_in empty_meaning → keeps n id b t ≡ Some b
+unfolding allow_unknown_in empty_meaning
+kept_allow_unknown_in n id b t e = ap (λ (s : Meaning). keeps s id b t) e
 
 mutual
-  pub admits-all : (m : Meaning) → ((id : List ℕ) → m.registered id ≡ None) → m.unknown ≡ true → (t : Tree) → Admits m t
-  admits-all m none all (list t n) = admits-all m none all t
-  admits-all m none all (fixed_size_list t k n) = admits-all m none all t
-  admits-all m none all (map_of t u o n) = (admits-all m none all t, admits-all m none all u)
-  admits-all m none all (struct fs n) = admits-fields m none all fs
-  admits-all m none all (union vs n) = admits-variants m none all vs
-  admits-all m none all (extension id b s) = (kept_all m none all id b s, admits-all m none all s)
-  admits-all m none all _ = tt
+  pub admits_allow_unknown_in : (n : Meaning) (t : Tree) → n ≡ allow_unknown_in empty_meaning → Admits n t
+  admits_allow_unknown_in n (list t k) e = admits_allow_unknown_in n t e
+  admits_allow_unknown_in n (fixed_size_list t size k) e = admits_allow_unknown_in n t e
+  admits_allow_unknown_in n (map_of t u o k) e = (admits_allow_unknown_in n t e, admits_allow_unknown_in n u e)
+  admits_allow_unknown_in n (struct fs k) e = admits-fields n fs e
+  admits_allow_unknown_in n (union vs k) e = admits-variants n vs e
+  admits_allow_unknown_in n (extension id b s) e = (kept_allow_unknown_in n id b s e, admits_allow_unknown_in n s e)
+  admits_allow_unknown_in n _ e = tt
 
-  admits-fields : (m : Meaning) → ((id : List ℕ) → m.registered id ≡ None) → m.unknown ≡ true → (fs : Fields) → AdmitsFields m fs
-  admits-fields m none all no_fields = tt
-  admits-fields m none all (field n t rest) = (admits-all m none all t, admits-fields m none all rest)
+  admits-fields : (n : Meaning) (fs : Fields) → n ≡ allow_unknown_in empty_meaning → AdmitsFields n fs
+  admits-fields n no_fields e = tt
+  admits-fields n (field name t rest) e = (admits_allow_unknown_in n t e, admits-fields n rest e)
 
-  admits-variants : (m : Meaning) → ((id : List ℕ) → m.registered id ≡ None) → m.unknown ≡ true → (vs : Variants) → AdmitsVariants m vs
-  admits-variants m none all no_variants = tt
-  admits-variants m none all (choice n t g rest) = (admits-all m none all t, admits-variants m none all rest)
+  admits-variants : (n : Meaning) (vs : Variants) → n ≡ allow_unknown_in empty_meaning → AdmitsVariants n vs
+  admits-variants n no_variants e = tt
+  admits-variants n (choice name t g rest) e = (admits_allow_unknown_in n t e, admits-variants n rest e)
 
 -- fields after those that are admitted
 admits_fields-more : (m : Meaning) (fs : Fields) (qs : List (List ℕ × Tree)) → AdmitsFields m fs → AdmitsFields m (fields qs) → AdmitsFields m (fields (pairs fs ++ qs))
@@ -159,14 +160,6 @@ registered_empty_meaning n id e = ap (λ (s : Meaning). s.registered id) e
 pub unknown_empty_meaning : (n : Meaning) → n ≡ empty_meaning → n.unknown ≡ false
 unfolding empty_meaning
 unknown_empty_meaning n e = ap (λ (s : Meaning). s.unknown) e
-
-pub admits_allow_unknown_in : (n : Meaning) (t : Tree) → n ≡ allow_unknown_in empty_meaning → Admits n t
-admits_allow_unknown_in n t e =
-    admits-all n (λ id. registered_allow_unknown_in empty_meaning n id e ∙ registered_empty_meaning empty_meaning id refl) (unknown_allow_unknown_in empty_meaning n e) t
-
-pub kept_allow_unknown_in : (n : Meaning) (id b : List ℕ) (t : Tree) → n ≡ allow_unknown_in empty_meaning → keeps n id b t ≡ Some b
-kept_allow_unknown_in n id b t e =
-    kept_all n (λ i. registered_allow_unknown_in empty_meaning n i e ∙ registered_empty_meaning empty_meaning i refl) (unknown_allow_unknown_in empty_meaning n e) id b t
 
 pub flag_register_in : (m : Meaning) (i : List ℕ) (r : Rewrites) → (register_in i r m).unknown ≡ m.unknown
 flag_register_in m i r = unknown_register_in m (register_in i r m) i r refl

@@ -2,7 +2,7 @@
 -- SPDX-FileCopyrightText: Copyright the Vortex contributors
 
 -- Facts on the meanings of sessions.
-use Rattle.std.proofs.Common.{◌≡◌, ℕ, List, Option, Some, None, Bool, true, false, ap, cond, subst}
+use Rattle.std.proofs.Common.{arith, ◌≡◌, ℕ, List, Option, Some, None, Bool, true, false, ap, cond, subst}
 use Rattle.std.proofs.lemmas.Option.{same_Some}
 use Rattle.std.specs.Prelude.{option_map}
 use Rattle.std.specs.declared.string.String.{String}
@@ -10,15 +10,11 @@ use Rattle.std.specs.declared.alloc.Global.{Global}
 use Rattle.vortex_dtype.specs.Meaning.{Rewrites, Meaning, Lawful}
 use Rattle.vortex_dtype.specs.Session.{meaning_of}
 
-pub same_entries : {B : Type 0} (r : B → Rewrites) (es fs : List (String Global × B)) (u : Bool) → es ≡ fs → meaning_of r es u ≡ meaning_of r fs u
-same_entries r es fs u e = ap (λ xs. meaning_of r xs u) e
-
 pub same_meaning : (f g : List ℕ → Option Rewrites) (u : Bool) → ((id : List ℕ) → f id ≡ g id) → ◌≡◌ {A = Meaning} (record { registered = f; unknown = u }) (record { registered = g; unknown = u })
 same_meaning f g u h = ap (λ (k : List ℕ → Option Rewrites). let m : Meaning = record { registered = k; unknown = u } in m) (λ i id. h id i)
 
 pub option_map-cond : {A B : Type 0} (r : A → B) (c : Bool) (x : A) (o p : Option A) → p ≡ cond c (Some x) o → option_map r p ≡ cond c (Some (r x)) (option_map r o)
-option_map-cond r true x o p e = ap (option_map r) e
-option_map-cond r false x o p e = ap (option_map r) e
+option_map-cond r c x o p e = grind (arith, e)
 
 pub lawful_found : {B : Type 0} (r : B → Rewrites) → ((b : B) → Lawful (r b)) → (o : Option B) (q : Rewrites) → option_map r o ≡ Some q → Lawful q
 lawful_found r h None q e = cc

@@ -3,12 +3,14 @@
 
 -- Laws of reading, over message trees and types alone.
 use Rattle.std.proofs.Common.{◌≡◌, ◌≢◌, ◌↔◌, ⊎_elim, ℕ, zero, suc, ℤ, pos, ◌<◌, List, [], ◌∷◌, length, map, get_or, nat_eq, Some, Result, Ok, Err, IsErr, Bool, true, false, refl, sym, ap, ◌∙◌, subst, arith}
-use Rattle.std.specs.List.{IsDistinct, AllByRecursion, zip}
+use Rattle.std.specs.List.{All, IsDistinct, AllByRecursion, zip}
 use Rattle.std.specs.Cmp.{unsigned_Decides}
 use Rattle.std.specs.Str.{bytes_eq}
 use Rattle.std.proofs.lemmas.Bool.{false≢true}
 use Rattle.std.proofs.lemmas.Bool.Decides.{nat_tests}
 use Rattle.std.proofs.lemmas.List.{length-map}
+use Rattle.std.proofs.lemmas.List.Elements.{All-cons, All-nil}
+use Rattle.std.proofs.lemmas.List.Kept.{AllPairs-cons}
 use Rattle.std.proofs.lemmas.Option.{none-some, same_Some}
 use Rattle.std.proofs.lemmas.Slice.Eq.{bytes_eq-Decides}
 use Rattle.std.proofs.lemmas.Map.Made.{IsDistinct-from_AllPairs}
@@ -245,25 +247,17 @@ some_name no_variants h = absurd h
 some_name (choice n x g rest) h = λ e. cc
 
 -- the names and the tags of a valid union's variants
-other_tag : (g : ℕ) (vs : Variants) (i : ℕ) (d : ℤ) → LacksTag g vs → i < length (written_tags vs) → pos g ≢ get_or (written_tags vs) i d
-other_tag g (choice n x k rest) zero d h within = λ e. h.0 (cc e)
-other_tag g (choice n x k rest) (suc i) d h within = other_tag g rest i d h.1 (omega arith)
-other_tag g no_variants i d h within = absurd (omega arith)
+others : (n : List ℕ) (g : ℕ) (vs : Variants) → LacksName n vs → LacksTag g vs → All (λ m. n ≢ m) (written_variant_names vs) × All (λ k. pos g ≢ k) (written_tags vs)
+others n g no_variants h k = (All-nil _, All-nil _)
+others n g (choice m x l rest) h k =
+    let later = others n g rest h.1 k.1 in
+    (All-cons (λ y. n ≢ y) m (written_variant_names rest) (λ e. h.0 (sym e)) later.0, All-cons (λ y. pos g ≢ y) (pos l) (written_tags rest) (λ e. k.0 (cc e)) later.1)
 
-tags_distinct : (vs : Variants) → ValidVariants vs → Distinct (written_tags vs)
-tags_distinct (choice n x g rest) v zero (suc j) d before within = other_tag g rest j d v.3 (omega arith)
-tags_distinct (choice n x g rest) v (suc i) (suc j) d before within = tags_distinct rest v.4 i j d (omega arith) (omega arith)
-tags_distinct _ v i j d before within = absurd (omega arith)
-
-other_name : (n : List ℕ) (vs : Variants) (i : ℕ) (d : List ℕ) → LacksName n vs → i < length (written_variant_names vs) → n ≢ get_or (written_variant_names vs) i d
-other_name n (choice m x k rest) zero d h within = λ e. h.0 (sym e)
-other_name n (choice m x k rest) (suc i) d h within = other_name n rest i d h.1 (omega arith)
-other_name n no_variants i d h within = absurd (omega arith)
-
-names_distinct : (vs : Variants) → ValidVariants vs → Distinct (written_variant_names vs)
-names_distinct (choice n x g rest) v zero (suc j) d before within = other_name n rest j d v.2 (omega arith)
-names_distinct (choice n x g rest) v (suc i) (suc j) d before within = names_distinct rest v.4 i j d (omega arith) (omega arith)
-names_distinct _ v i j d before within = absurd (omega arith)
+distinct : (vs : Variants) → ValidVariants vs → Distinct (written_variant_names vs) × Distinct (written_tags vs)
+distinct no_variants v = (λ i j d before within. absurd (omega arith), λ i j d before within. absurd (omega arith))
+distinct (choice n x g rest) v =
+    let first = others n g rest v.2 v.3 in let later = distinct rest v.4 in
+    (AllPairs-cons (λ x y. x ≢ y) n (written_variant_names rest) first.0 later.0, AllPairs-cons (λ x y. x ≢ y) (pos g) (written_tags rest) first.1 later.1)
 
 mutual
   pub written_reads : (s : Meaning) (t : Tree) → Valid t → Admits s t → Reads s (written t) t
@@ -274,7 +268,8 @@ mutual
   written_reads s (of.fixed_size_list x k n) v a = (x, written_reads s x v.1 a, simp nullability_of-is)
   written_reads s (of.map_of x y o n) v a = (x, y, written_reads s x v.1 a.0, written_reads s y v.2 a.1, v.0, simp nullability_of-is)
   written_reads s (of.struct fs n) v a = (fs, written_fields_read s fs v a, simp nullability_of-is)
-  written_reads s (of.union vs n) v a = (vs, written_variants_read s vs v.1 a, some_name vs v.0, tags_distinct vs v.1, names_distinct vs v.1, simp nullability_of-is)
+  written_reads s (of.union vs n) v a =
+      let d = distinct vs v.1 in (vs, written_variants_read s vs v.1 a, some_name vs v.0, d.1, d.0, simp nullability_of-is)
   written_reads s (of.extension id b x) v a = (x, b, written_reads s x v.1 a.1, a.0, refl)
   written_reads s _ v a = simp nullability_of-is
 

@@ -22,8 +22,8 @@ loop-field-init g t c =
 
 pub returns-in_err-read-in-Struct-clause-gives : goal.returns-in_err-read-in-Struct-clause-gives
 returns-in_err-read-in-Struct-clause-gives g t c =
-    let below : c.loop-field.field-index < length c.deref-field-items.result.now = omega (arith, c.loop-field-test.true) in
-    stops c.field-item.result c.in_err-read-in-Struct.field-0.0 _ c.loop-field.invariant.rest below c.field-item.is c.in_err-read-in-Struct.ensures.gives (search rules)
+    stops c.field-item.result c.in_err-read-in-Struct.field-0.0 _ c.loop-field.invariant.rest (omega (arith, c.loop-field-test.true))
+    c.field-item.is c.in_err-read-in-Struct.ensures.gives (search rules)
 
 pub loop-field-preserved : goal.loop-field-preserved
 loop-field-preserved g t c =
@@ -36,8 +36,7 @@ loop-field-preserved g t c =
 
 pub returns-after-loop-field-clause-gives : goal.returns-after-loop-field-clause-gives
 returns-after-loop-field-clause-gives g t c =
-    let over : length c.deref-field-items.result.now ≤ c.loop-field.field-index = omega (arith, c.loop-field-test.false) in
-    ends _ c.loop-field.invariant.rest over (search rules)
+    ends _ c.loop-field.invariant.rest (omega (arith, c.loop-field-test.false)) (search rules)
 
 pub returns-after-loop-field-clause-message : goal.returns-after-loop-field-clause-message
 returns-after-loop-field-clause-message g t c =
@@ -53,8 +52,8 @@ loop-variant-init g t c =
 
 pub returns-in_err-read-in-Union-clause-gives : goal.returns-in_err-read-in-Union-clause-gives
 returns-in_err-read-in-Union-clause-gives g t c =
-    let below : c.loop-variant.variant-index < length c.deref-variant-items.result.now = omega (arith, c.loop-variant-test.true) in
-    stops c.variant-item.result c.in_err-read-in-Union.field-0.0 _ c.loop-variant.invariant.rest below c.variant-item.is c.in_err-read-in-Union.ensures.gives (search rules)
+    stops c.variant-item.result c.in_err-read-in-Union.field-0.0 _ c.loop-variant.invariant.rest (omega (arith, c.loop-variant-test.true))
+    c.variant-item.is c.in_err-read-in-Union.ensures.gives (search rules)
 
 pub loop-variant-preserved : goal.loop-variant-preserved
 loop-variant-preserved g t c =
@@ -67,8 +66,7 @@ loop-variant-preserved g t c =
 
 pub returns-after-loop-variant-clause-gives : goal.returns-after-loop-variant-clause-gives
 returns-after-loop-variant-clause-gives g t c =
-    let over : length c.deref-variant-items.result.now ≤ c.loop-variant.variant-index = omega (arith, c.loop-variant-test.false) in
-    ends _ c.loop-variant.invariant.rest over (search rules)
+    ends _ c.loop-variant.invariant.rest (omega (arith, c.loop-variant-test.false)) (search rules)
 
 pub returns-after-loop-variant-clause-message : goal.returns-after-loop-variant-clause-message
 returns-after-loop-variant-clause-message g t c =

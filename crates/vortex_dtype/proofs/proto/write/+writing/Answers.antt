@@ -3,9 +3,8 @@
 
 use Rattle.std.proofs.Common.{◌≡◌, pos, ◌∷◌, arith, rules, string_bytes, [], ◌++◌}
 use Rattle.dtype_types.specs.parts.Lists.{borrowed_pair, borrowed_triple}
-use Rattle.dtype_types.specs.tree.TreeOf.{tree, struct_pairs, union_triples}
+use Rattle.dtype_types.specs.tree.TreeOf.{struct_pairs, union_triples}
 use Rattle.dtype_messages.specs.MessageOf.{message}
-use Rattle.vortex_dtype.specs.Written.{written}
 use Rattle.vortex_dtype.proofs.TypesBelow.{fields_below, variants_below}
 use Rattle.vortex_dtype.proofs.WrittenParts.{all_moved, flag_is, moved, next_of, none_of, pushed, struct_done, union_done}
 use Rattle.vortex_dtype.proofs.proto.write.+writing.Goals as goal
@@ -23,11 +22,10 @@ write_struct-loop-name-preserved t c =
     let next = next_of borrowed_pair c.loop-name.name-iterator c.next.new.self c.next.result (c.in-Some.name, c.in-Some.dtype) c.in-Some.is c.next.ensures.steps in
     let text : string_bytes c.in_ok-to_text.field-0 ≡ c.in-Some.name.now = search rules in
     let name : c.push.new.self.items ≡ c.loop-name.names.items ++ c.in_ok-to_text.field-0 ∷ [] = search rules in
-    let proto : message c.in_ok-write.field-0 ≡ written (tree c.in-Some.dtype.now) = c.in_ok-write.ensures in
     let dtype : c.push-in-loop-name.new.self.items ≡ c.loop-name.dtypes.items ++ c.in_ok-write.field-0 ∷ [] = search rules in
     record {
       names = moved _ _ _ _ _ _ _ c.loop-name.invariant.names next (pushed string_bytes _ _ _ _ name text);
-      dtypes = moved _ _ _ _ _ _ _ c.loop-name.invariant.dtypes next (pushed message _ _ _ _ dtype proto);
+      dtypes = moved _ _ _ _ _ _ _ c.loop-name.invariant.dtypes next (pushed message _ _ _ _ dtype c.in_ok-write.ensures);
       within = (fields_below _ _ _ _ next c.loop-name.invariant.within).1;
     }
 
@@ -51,12 +49,11 @@ write_union-loop-name-preserved t c =
     let next = next_of borrowed_triple c.loop-name.name-iterator c.next.new.self c.next.result (c.in-Some.name, c.in-Some.tag, c.in-Some.dtype) c.in-Some.is c.next.ensures.steps in
     let text : string_bytes c.in_ok-to_text.field-0 ≡ c.in-Some.name.now = search rules in
     let name : c.push.new.self.items ≡ c.loop-name.names.items ++ c.in_ok-to_text.field-0 ∷ [] = search rules in
-    let proto : message c.in_ok-write.field-0 ≡ written (tree c.in-Some.dtype.now) = c.in_ok-write.ensures in
     let dtype : c.push-in-loop-name.new.self.items ≡ c.loop-name.dtypes.items ++ c.in_ok-write.field-0 ∷ [] = search rules in
     let tag : c.push-in-loop-name-2.new.self.items ≡ c.loop-name.tags.items ++ pos c.in-Some.tag ∷ [] = search rules in
     record {
       names = moved _ _ _ _ _ _ _ c.loop-name.invariant.names next (pushed string_bytes _ _ _ _ name text);
-      dtypes = moved _ _ _ _ _ _ _ c.loop-name.invariant.dtypes next (pushed message _ _ _ _ dtype proto);
+      dtypes = moved _ _ _ _ _ _ _ c.loop-name.invariant.dtypes next (pushed message _ _ _ _ dtype c.in_ok-write.ensures);
       tags = moved _ _ _ _ _ _ _ c.loop-name.invariant.tags next tag;
       within = (variants_below _ _ _ _ next c.loop-name.invariant.within).1;
     }

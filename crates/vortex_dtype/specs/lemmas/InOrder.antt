@@ -31,7 +31,6 @@ use Rattle.vortex_dtype.specs.Meaning.{Meaning, keeps, unkept_error}
 use Rattle.vortex_dtype.specs.Numbers.{integer_byte, natural_byte, signed_byte}
 use Rattle.vortex_dtype.specs.Reads.{Reads, ReadsChild, ReadsFields, ReadsVariants, Fault, ChildFault, SomeFault, SomeTagFault, UnionFault, DecimalFault, decimal_with, number, message_count}
 use Rattle.vortex_dtype.specs.ReadInOrder.{◌>>=◌, decimal_made, read, read_child, read_all, read_tags, primitive_read, decimal_read, map_read, when_required, struct_read, union_made, union_read, extension_read, or_fault, or_empty}
-use Rattle.vortex_dtype.specs.lemmas.Decimals.{decimal_making, decimal_ok, precision_given, scale_given}
 use Rattle.vortex_dtype.specs.lemmas.Unions.{tags_down, tags_up, union_making, union_ok}
 
 -- ---- what holds of the result of a test, of a missing part and of two steps in turn
@@ -156,13 +155,9 @@ primitive_reading k n =
 
 decimal_reading : (p : ℕ) (k : ℤ) (n : Nullability) → MatchResult (decimal_read p k n)
     (λ t. IsValidDecimal (decimal_with p k) × (t ≡ of.decimal (decimal_with p k) n)) (DecimalFault p k)
-unfolding decimal_read
-decimal_reading p k n =
-    in_turn (or_fault (Faulty PrecisionRange) (natural_byte p)) _ _ _ _ _ (precision_given p)
-    (λ q same. in_turn (or_fault (Faulty ScaleRange) (signed_byte k)) _ _ _ _ _ (scale_given k)
-    (λ c is. rw (same, is.0) (in_turn (decimal_made p k) _ _ _ _ _ (decimal_making p k)
-    (λ d h. (record { some_digits = h.0; precision_at_most = h.1; scale_at_least = is.1; scale_at_most = h.2 }, ap (λ x. of.decimal x n) h.3)) (λ e f. inr (inr f))))
-    (λ e f. inr (inl f))) (λ e. inl)
+unfolding decimal_read decimal_made
+decimal_reading p (pos n) m = grind (arith, nat_tests, ints)
+decimal_reading p (negsuc n) m = grind (arith, nat_tests, ints)
 
 union_reading : (ns : List (List ℕ)) (ts : List Tree) (gs : List ℤ) (n : Nullability)
     → MatchResult (union_read ns ts gs n)
@@ -228,11 +223,9 @@ read_fault s m e is = MatchResult-at_err (Reads s m) (Fault s m) e is (reading s
 -- ---- a message gives the type that it reads as
 
 decimal_read_ok : (p : ℕ) (k : ℤ) (n : Nullability) → IsValidDecimal (decimal_with p k) → decimal_read p k n ≡ Ok (of.decimal (decimal_with p k) n)
-unfolding decimal_read
-decimal_read_ok p k n v =
-    let a : natural_byte p ≡ Some p = grind (arith, nat_tests, v) in
-    let b : signed_byte k ≡ Some k = grind (arith, nat_tests, ints, v) in
-    rw (a, b, decimal_ok p k v) refl
+unfolding decimal_read decimal_made
+decimal_read_ok p (pos c) n v = grind (arith, nat_tests, ints, v)
+decimal_read_ok p (negsuc c) n v = grind (arith, nat_tests, ints, v)
 
 tags_ok : (gs : List ℤ) (tags : List ℕ) → AreBytes gs tags → read_tags gs ≡ Ok tags
 unfolding read_tags

@@ -20,9 +20,7 @@ steps_by_names p q e = sym (by_names p) ∙ ap (map (option_map Name)) e ∙ by_
 path_of_steps : (ns : List (Option (List ℕ))) (p : List Step) → map (option_map Name) ns ≡ map Some p → path_of ns ≡ Some p
 path_of_steps [] [] e = refl
 path_of_steps (Some n ∷ ns) (x ∷ p) e =
-    let h : Name n ≡ x = cc in
-    let t : map (option_map Name) ns ≡ map Some p = cc in
-    ap (option_map (λ q. Name n ∷ q)) (path_of_steps ns p t) ∙ ap (λ s. Some (s ∷ p)) h
+    let t : map (option_map Name) ns ≡ map Some p = cc in rw (path_of_steps ns p t) cc
 path_of_steps (None ∷ ns) (x ∷ p) e = cc
 path_of_steps _ _ e = cc
 
@@ -50,16 +48,13 @@ no_path (None ∷ before) rest = refl
 no_path (Some n ∷ before) rest = ap (option_map (λ q. Name n ∷ q)) (no_path before rest)
 
 -- a path message one of whose parts has no kind makes no path
-all_given : (p : List Step) (i : ℕ) → i < length (map Some p) → get_or (map Some p) i None ≡ None → ⊥
-all_given [] i less e = absurd (omega arith)
-all_given (x ∷ p) zero less e = cc
-all_given (x ∷ p) (suc i) less e = all_given p i (omega arith) e
+none_given : (ns : List (Option (List ℕ))) (i : ℕ) → i < length (map (option_map Name) ns) → get_or (map (option_map Name) ns) i None ≡ None → path_of ns ≡ None
+none_given [] i less e = absurd (omega arith)
+none_given (None ∷ ns) i less e = refl
+none_given (Some n ∷ ns) zero less e = cc
+none_given (Some n ∷ ns) (suc i) less e = ap (option_map (λ q. Name n ∷ q)) (none_given ns i (omega arith) e)
 
 pub missing_part : (m : FieldPath) → Contains (steps_of m) None → path_of (part_names m) ≡ None
-missing_part m missing = go (path_of (part_names m)) refl
-  where
-    go : (o : Option (List Step)) → path_of (part_names m) ≡ o → path_of (part_names m) ≡ None
-    go None e = e
-    go (Some p) e =
-        let some : Contains (map Some p) None = subst (λ steps. Contains steps None) (path_steps m p e) missing in
-        absurd (all_given p some.0 some.1 some.2)
+missing_part m missing =
+    let there = subst (λ steps. Contains steps None) (sym (by_names m)) missing in
+    none_given (part_names m) there.0 there.1 there.2

@@ -37,7 +37,7 @@ use Rattle.vortex_dtype.specs.lemmas.Sessions.{admits-set_null, keeps_again}
 use Rattle.vortex_dtype.specs.lemmas.Written.{nullability_of-is, written_is}
 use Rattle.dtype_types.specs.lemmas.Validity.{set_valid}
 use Rattle.vortex_dtype.specs.lemmas.Decimals.{fault_invalid}
-use Rattle.vortex_dtype.specs.lemmas.InOrder.{AreBytes, ReadsAll, byte_is, bytes_are, child_once, count_all, fields_read, read_fault, read_reads, reads_once, reads_read, variants_read}
+use Rattle.vortex_dtype.specs.lemmas.InOrder.{AreBytes, ReadsAll, byte_is, bytes_are, child_once, count_all, fields_read, read_fault, reading, read_reads, reads_once, reads_read, variants_read}
 use Rattle.vortex_dtype.specs.lemmas.Unions.{makes_unrefused, tags_down}
 
 -- ---- a message with a fault reads as no type
@@ -93,11 +93,7 @@ refused_faulty s m e is = let f = read_fault s m e is in (f, λ t h. fault_none 
 
 -- a message that reads as no type gives an error, and so does one with a fault
 pub unread_refused : (s : Meaning) (m : Message) → ((t : Tree) → ¬ (Reads s m t)) → IsErr (read s m)
-unread_refused s m none = go (read s m) refl
-  where
-    go : (r : Result Tree VortexError) → read s m ≡ r → IsErr r
-    go (Ok t) is = absurd (none t (read_reads s m t is))
-    go (Err e) is = refl
+unread_refused s m none = grind (arith, none, reading s m)
 
 pub fault_refused : (s : Meaning) (m : Message) (e : VortexError) → Fault s m e → IsErr (read s m)
 fault_refused s m e f = unread_refused s m (λ t h. fault_none s m e t f h)
@@ -178,20 +174,19 @@ sound_fields s (n ∷ ns) (t ∷ ts) h = let rest = sound_fields s ns ts h.1 in 
 sound_fields s [] _ h = (tt, tt)
 sound_fields s _ [] h = (tt, tt)
 
-lacks_name : (n : List ℕ) (ns : List (List ℕ)) (ts : List Tree) (gs : List ℕ) → AllByRecursion (λ m. bytes_eq n m ≡ false) ns → LacksName n (variants (zip ns (zip ts gs)))
-lacks_name n (m ∷ ns) (t ∷ ts) (g ∷ gs) d = (λ e. false≢true (sym d.0 ∙ (bytes_eq-Decides n m).1 (sym e)), lacks_name n ns ts gs d.1)
-lacks_name n _ _ _ d = tt
-
-lacks_tag : (k : ℕ) (ns : List (List ℕ)) (ts : List Tree) (gs : List ℕ) → AllByRecursion (λ g. nat_eq k g ≡ false) gs → LacksTag k (variants (zip ns (zip ts gs)))
-lacks_tag k (n ∷ ns) (t ∷ ts) (g ∷ gs) d = (λ e. false≢true (sym d.0 ∙ (unsigned_Decides k g).1 (sym e)), lacks_tag k ns ts gs d.1)
-lacks_tag k _ _ _ d = tt
+lacks : (n : List ℕ) (k : ℕ) (ns : List (List ℕ)) (ts : List Tree) (gs : List ℕ) → AllByRecursion (λ m. bytes_eq n m ≡ false) ns → AllByRecursion (λ g. nat_eq k g ≡ false) gs
+    → let vs = variants (zip ns (zip ts gs)) in LacksName n vs × LacksTag k vs
+lacks n k (m ∷ ns) (t ∷ ts) (g ∷ gs) d e =
+    let later = lacks n k ns ts gs d.1 e.1 in
+    ((λ is. false≢true (sym d.0 ∙ (bytes_eq-Decides n m).1 (sym is)), later.0), (λ is. false≢true (sym e.0 ∙ (unsigned_Decides k g).1 (sym is)), later.1))
+lacks n k _ _ _ d e = (tt, tt)
 
 sound_variants : (s : Meaning) (ns : List (List ℕ)) (ts : List Tree) (gs : List ℕ) → AllByRecursion (Sound s) ts → AllByRecursion (λ g. g < 256) gs → IsDistinct bytes_eq ns
     → IsDistinct nat_eq gs → let vs = variants (zip ns (zip ts gs)) in ValidVariants vs × AdmitsVariants s vs
 unfolding IsDistinct
 sound_variants s (n ∷ ns) (t ∷ ts) (g ∷ gs) h b names tags =
-    let rest = sound_variants s ns ts gs h.1 b.1 names.1 tags.1 in
-    ((h.0.0, b.0, lacks_name n ns ts gs names.0, lacks_tag g ns ts gs tags.0, rest.0), (h.0.1, rest.1))
+    let rest = sound_variants s ns ts gs h.1 b.1 names.1 tags.1 in let lacking = lacks n g ns ts gs names.0 tags.0 in
+    ((h.0.0, b.0, lacking.0, lacking.1, rest.0), (h.0.1, rest.1))
 sound_variants s _ _ _ h b names tags = (tt, tt)
 
 has_variant : (ns : List (List ℕ)) (ts : List Tree) (gs : List ℕ) → ns ≢ [] → length ns ≡ length ts → length ns ≡ length gs → HasVariant (variants (zip ns (zip ts gs)))

@@ -57,11 +57,8 @@ ptype_at-number U8 = refl
 ptype_at-number _ = refl
 
 -- a number is that of the type that it names
-ptype_from-number : (n : ℕ) (p : PType) → ptype_from n ≡ Some p → n ≡ (ptype_row p).number
-ptype_from-number n p e = grind (arith, nat_tests)
-
 number-ptype_at : (k : ℤ) (p : PType) → ptype_at k ≡ Some p → k ≡ number p
-number-ptype_at (pos n) p e = ap pos (ptype_from-number n p e)
+number-ptype_at (pos n) p e = grind (arith, nat_tests)
 number-ptype_at (negsuc n) p e = cc
 
 pub byte_is : (g : ℤ) (k : ℕ) → integer_byte g ≡ Some k → (g ≡ pos k) × (k < 256)
@@ -141,17 +138,12 @@ variants_read s _ _ _ vs h = absurd h
 pub tags_reading : (gs : List ℤ) → MatchResult (read_tags gs) (AreBytes gs) (λ e. (e ≡ Faulty TypeIdRange) × SomeTagFault gs)
 unfolding read_tags
 tags_reading [] = tt
-tags_reading (g ∷ gs) =
-    in_turn (or_fault (Faulty TypeIdRange) (integer_byte g)) _ _ _ _ _ (given (Faulty TypeIdRange) (integer_byte g))
-    (λ k is. in_turn (read_tags gs) _ _ _ _ _ (tags_reading gs) (λ ks rest. (is, rest)) (λ e f. (f.0, inr f.1)))
-    (λ e f. (f.0, inl f.1))
+tags_reading (g ∷ gs) = grind (arith, tags_reading gs)
 
 primitive_reading : (k : ℤ) (n : Nullability) → MatchResult (primitive_read k n)
     (λ t. (p : PType) × (k ≡ number p) × (t ≡ of.primitive p n)) (λ e. (e ≡ Faulty PrimitiveNumber) × ((p : PType) → k ≢ number p))
 unfolding primitive_read
-primitive_reading k n =
-    in_turn (or_fault (Faulty PrimitiveNumber) (ptype_at k)) _ _ _ _ _ (given (Faulty PrimitiveNumber) (ptype_at k)) (λ p is. (p, number-ptype_at k p is, refl))
-    (λ e f. (f.0, λ p is. none-some p (sym f.1 ∙ ap ptype_at is ∙ ptype_at-number p)))
+primitive_reading k n = grind (arith, number-ptype_at, ptype_at-number)
 
 decimal_reading : (p : ℕ) (k : ℤ) (n : Nullability) → MatchResult (decimal_read p k n)
     (λ t. IsValidDecimal (decimal_with p k) × (t ≡ of.decimal (decimal_with p k) n)) (DecimalFault p k)

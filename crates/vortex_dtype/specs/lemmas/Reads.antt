@@ -8,6 +8,7 @@ use Rattle.std.specs.Cmp.{unsigned_Decides}
 use Rattle.std.specs.Str.{bytes_eq}
 use Rattle.std.proofs.lemmas.Bool.{false≢true}
 use Rattle.std.proofs.lemmas.Bool.Decides.{nat_tests}
+use Rattle.std.proofs.lemmas.Int.{ints}
 use Rattle.std.proofs.lemmas.List.{length-map}
 use Rattle.std.proofs.lemmas.List.Elements.{All-cons, All-nil}
 use Rattle.std.proofs.lemmas.List.Kept.{AllPairs-cons}
@@ -36,7 +37,6 @@ use Rattle.vortex_dtype.specs.IsMessage.{IsMessage, IsChild, AreMessages}
 use Rattle.vortex_dtype.specs.lemmas.Sessions.{admits-set_null, keeps_again}
 use Rattle.vortex_dtype.specs.lemmas.Written.{nullability_of-is, written_is}
 use Rattle.dtype_types.specs.lemmas.Validity.{set_valid}
-use Rattle.vortex_dtype.specs.lemmas.Decimals.{fault_invalid}
 use Rattle.vortex_dtype.specs.lemmas.InOrder.{AreBytes, ReadsAll, byte_is, bytes_are, child_once, count_all, fields_read, read_fault, reading, read_reads, reads_once, reads_read, variants_read}
 use Rattle.vortex_dtype.specs.lemmas.Unions.{makes_unrefused, tags_down}
 
@@ -51,7 +51,7 @@ mutual
   pub fault_none : (s : Meaning) (m : Message) (k : VortexError) (t : Tree) → Fault s m k → Reads s m t → ⊥
   fault_none s missing k t f h = h
   fault_none s (primitive p x) k t f h = f.1 h.0 h.1
-  fault_none s (decimal p c x) k t f h = fault_invalid p c k h.0 f
+  fault_none s (decimal p c x) k t f h = grind (arith, ints, h.0, f)
   fault_none s (list c x) k t f h = child_none s ListElementMissing c k h.0 f h.1
   fault_none s (fixed_size_list c n x) k t f h = child_none s FixedElementMissing c k h.0 f h.1
   fault_none s (map_of c v o x) k t f h =

@@ -23,6 +23,7 @@ use Rattle.dtype_base.specs.declared.vortex_error.MessageFault.{MessageFault}
 use Rattle.dtype_base.specs.declared.vortex_error.MessageFault.TheVariants.{ListElementMissing, FixedElementMissing, MapKeyMissing, MapValueMissing, StorageMissing}
 use Rattle.dtype_base.specs.Distinct.{Distinct}
 use Rattle.dtype_types.specs.nullability.Nullable.{nullability, set_null}
+use Rattle.dtype_types.specs.parts.Unions.{MakesUnion}
 use Rattle.dtype_types.specs.tree.Tree as of
 use Rattle.dtype_types.specs.tree.Tree.{Tree, Fields, no_fields, field, fields, Variants, no_variants, choice, variants}
 use Rattle.dtype_types.specs.tree.Valid.{Valid, ValidFields, ValidVariants, HasVariant, LacksName, LacksTag}
@@ -38,7 +39,7 @@ use Rattle.vortex_dtype.specs.lemmas.Sessions.{admits-set_null, keeps_again}
 use Rattle.vortex_dtype.specs.lemmas.Written.{nullability_of-is, written_is}
 use Rattle.dtype_types.specs.lemmas.Validity.{set_valid}
 use Rattle.vortex_dtype.specs.lemmas.InOrder.{AreBytes, ReadsAll, byte_is, bytes_are, child_once, count_all, fields_read, read_fault, reading, read_reads, reads_once, reads_read, variants_read}
-use Rattle.vortex_dtype.specs.lemmas.Unions.{makes_unrefused, tags_down}
+use Rattle.vortex_dtype.specs.lemmas.Unions.{tags_down}
 
 -- ---- a message with a fault reads as no type
 
@@ -65,7 +66,7 @@ mutual
       let v = variants_read s ns ms gs h.0 h.1 in let r = v.2 in
       ⊎_elim (λ a. some_none s ms k v.0 a r.types)
       (⊎_elim (λ a. no_tag_fault gs v.1 r.bytes a.1)
-      (λ a. makes_unrefused ns (message_count ms) a.0 k (
+      (λ a. let made : MakesUnion ns (message_count ms) a.0 = (
         (
           r.count ∙ count_all s ms v.0 r.types,
           r.tags_count ∙ sym (length-map v.1 pos) ∙ ap length (sym (bytes_are gs v.1 r.bytes) ∙ a.1) ∙ length-map a.0 pos,
@@ -73,7 +74,7 @@ mutual
         ),
         tags_down a.0 (subst Distinct a.1 h.3),
         h.4,
-      ) a.2)) f
+      ) in grind (arith, made, a.2))) f
   fault_none s (extension id c b) k t f h =
       ⊎_elim (λ a. child_none s StorageMissing c k h.0 a h.2) (λ a. none-some h.1 (sym a.3 ∙ ap (keeps s id (or_empty b)) (child_once s c a.1 h.0 a.2 h.2) ∙ h.3)) f
   fault_none s _ k t f h = f
@@ -234,9 +235,6 @@ mutual
 
 -- ---- an admitted type is read back from its message
 
-integer_byte-pos : (g : ℕ) → g < 256 → integer_byte (pos g) ≡ Some g
-integer_byte-pos g h = grind (arith, nat_tests)
-
 some_name : (vs : Variants) → HasVariant vs → written_variant_names vs ≢ []
 some_name no_variants h = absurd h
 some_name (choice n x g rest) h = λ e. cc
@@ -274,7 +272,7 @@ mutual
 
   written_variants_read : (s : Meaning) (vs : Variants) → ValidVariants vs → AdmitsVariants s vs → ReadsVariants s (written_variant_names vs) (written_variants vs) (written_tags vs) vs
   written_variants_read s no_variants v a = refl
-  written_variants_read s (choice n x g rest) v a = (x, g, rest, written_reads s x v.0 a.0, integer_byte-pos g v.1, written_variants_read s rest v.4 a.1, refl)
+  written_variants_read s (choice n x g rest) v a = (x, g, rest, written_reads s x v.0 a.0, grind (arith, nat_tests, v.1), written_variants_read s rest v.4 a.1, refl)
 
 -- what is written of an admitted type gives that type
 pub written_read : (s : Meaning) (m : Message) (t : Tree) → Valid t → Admits s t → m ≡ written t → read s m ≡ Ok t

@@ -60,8 +60,7 @@ after-unknown (allow ∷ calls) m e = stays-unknown calls (allow_unknown_in m) r
 -- ---- what is kept
 
 kept-again : (o : Option Rewrites) (u : Bool) (b c : List ℕ) (s : Tree) → ((r : Rewrites) → o ≡ Some r → Lawful r) → Bytes b → Valid s → kept o u b s ≡ Some c → Bytes c × (kept o u c s ≡ Some c)
-kept-again None true b c s h bs v e = let same : b ≡ c = same_Some b c e in (subst Bytes same bs, refl)
-kept-again None false b c s h bs v e = cc
+kept-again None u b c s h bs v e = grind (arith, bs, e)
 kept-again (Some r) u b c s h bs v e = (h r refl).again b c s bs v e
 
 -- what a session keeps it keeps again, and it is bytes

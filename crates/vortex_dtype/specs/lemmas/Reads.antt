@@ -182,23 +182,19 @@ lacks n k (m ∷ ns) (t ∷ ts) (g ∷ gs) d e =
     ((λ is. false≢true (sym d.0 ∙ (bytes_eq-Decides n m).1 (sym is)), later.0), (λ is. false≢true (sym e.0 ∙ (unsigned_Decides k g).1 (sym is)), later.1))
 lacks n k _ _ _ d e = (tt, tt)
 
-sound_variants : (s : Meaning) (ns : List (List ℕ)) (ts : List Tree) (gs : List ℕ) → AllByRecursion (Sound s) ts → AllByRecursion (λ g. g < 256) gs → IsDistinct bytes_eq ns
+sound_variants : (s : Meaning) (ns : List (List ℕ)) (ts : List Tree) (is : List ℤ) (gs : List ℕ) → AllByRecursion (Sound s) ts → AreBytes is gs → IsDistinct bytes_eq ns
     → IsDistinct nat_eq gs → let vs = variants (zip ns (zip ts gs)) in ValidVariants vs × AdmitsVariants s vs
 unfolding IsDistinct
-sound_variants s (n ∷ ns) (t ∷ ts) (g ∷ gs) h b names tags =
-    let rest = sound_variants s ns ts gs h.1 b.1 names.1 tags.1 in let lacking = lacks n g ns ts gs names.0 tags.0 in
-    ((h.0.0, b.0, lacking.0, lacking.1, rest.0), (h.0.1, rest.1))
-sound_variants s _ _ _ h b names tags = (tt, tt)
+sound_variants s (n ∷ ns) (t ∷ ts) (i ∷ is) (g ∷ gs) h b names tags =
+    let rest = sound_variants s ns ts is gs h.1 b.1 names.1 tags.1 in let lacking = lacks n g ns ts gs names.0 tags.0 in
+    ((h.0.0, (byte_is i g b.0).1, lacking.0, lacking.1, rest.0), (h.0.1, rest.1))
+sound_variants s (n ∷ ns) (t ∷ ts) [] (g ∷ gs) h b names tags = absurd b
+sound_variants s _ _ _ _ h b names tags = (tt, tt)
 
 has_variant : (ns : List (List ℕ)) (ts : List Tree) (gs : List ℕ) → ns ≢ [] → length ns ≡ length ts → length ns ≡ length gs → HasVariant (variants (zip ns (zip ts gs)))
 has_variant (n ∷ ns) (t ∷ ts) (g ∷ gs) some e f = tt
 has_variant [] _ _ some e f = absurd (some refl)
 has_variant (n ∷ ns) _ _ some e f = cc
-
-bytes_below : (gs : List ℤ) (tags : List ℕ) → AreBytes gs tags → AllByRecursion (λ g. g < 256) tags
-bytes_below gs [] h = tt
-bytes_below [] (k ∷ tags) h = absurd h
-bytes_below (g ∷ gs) (k ∷ tags) h = ((byte_is g k h.0).1, bytes_below gs tags h.1)
 
 mutual
   pub reads_sound : (s : Meaning) → LawfulSession s → (m : Message) (t : Tree) → IsMessage m → Reads s m t → Sound s t
@@ -215,7 +211,7 @@ mutual
       subst (Sound s) (sym (h.2 ∙ ap (λ fs. of.struct fs (nullability_of f)) r.1.is)) (sound_fields s ns r.0 (all_sound s l ms r.0 i r.1.types))
   reads_sound s l (union ns ms gs f) t i h =
       let v = variants_read s ns ms gs h.0 h.1 in let r = v.2 in
-      let a = sound_variants s ns v.0 v.1 (all_sound s l ms v.0 i.0 r.types) (bytes_below gs v.1 r.bytes) (IsDistinct-from_AllPairs bytes_eq-Decides ns h.4)
+      let a = sound_variants s ns v.0 gs v.1 (all_sound s l ms v.0 i.0 r.types) r.bytes (IsDistinct-from_AllPairs bytes_eq-Decides ns h.4)
       (IsDistinct-from_AllPairs unsigned_Decides v.1 (tags_down v.1 (subst Distinct (bytes_are gs v.1 r.bytes) h.3))) in
       subst (Sound s) (sym (h.5 ∙ ap (λ vs. of.union vs (nullability_of f)) r.is)) ((has_variant ns v.0 v.1 h.2 r.count r.tags_count, a.0), a.1)
   reads_sound s l (extension id c b) t i h =

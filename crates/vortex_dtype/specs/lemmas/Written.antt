@@ -21,15 +21,11 @@ nullability_of-is NonNullable = refl
 flag_once : (m n : Nullability) → is_nullable m ≡ is_nullable n → m ≡ n
 flag_once m n e = sym (nullability_of-is m) ∙ ap nullability_of e ∙ nullability_of-is n
 
--- two primitive types of one number are one
-number_once : (p q : PType) → number p ≡ number q → p ≡ q
-number_once p q e = same_Some p q (sym (ptype_at-number p) ∙ ap ptype_at e ∙ ptype_at-number q)
-
 mutual
   pub written_is : (t u : Tree) → written t ≡ written u → t ≡ u
   written_is null null e = refl
   written_is (bool m) (bool n) e = cc (flag_once m n (cc))
-  written_is (primitive p m) (primitive q n) e = cc (number_once p q (cc), flag_once m n (cc))
+  written_is (primitive p m) (primitive q n) e = cc (ptype_at-number p, ptype_at-number q, flag_once m n (cc))
   written_is (decimal c m) (decimal d n) e =
       let p : c.precision ≡ d.precision = cc in let k : c.scale ≡ d.scale = cc in
       let same : c ≡ d = ap (λ x. decimal_with x c.scale) p ∙ ap (decimal_with d.precision) k in cc (flag_once m n (cc))

@@ -118,7 +118,11 @@ pub fn takes_column_of_second(
 
 /// The columns of a join: each side's keep their types.
 #[tactic(auto, using(vortex_dtype::specs::rulesets::joined_fields, vortex_dtype::specs::rulesets::distinct_fields))]
-pub fn joined(alloc: Global, left: &StructFields, right: &StructFields) -> VortexResult<StructFields>
+pub fn joined(
+    alloc: Global,
+    left: &StructFields,
+    right: &StructFields,
+) -> VortexResult<StructFields>
     ensures left { IfOk result (λ s. (n : List ℕ) → IsSome (first_named (children left.now) n)
         → first_named (children s) n ≡ first_named (children left.now) n) }
     ensures right { IfOk result (λ s. (n : List ℕ) → IsSome (first_named (children right.now) n)

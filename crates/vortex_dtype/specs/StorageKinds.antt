@@ -28,8 +28,16 @@ fixed_size _ = None
 abbrev held : Tree → Kind × Option PType × Option Decimal × Option (List (List ℕ × Tree)) × Option (List (List ℕ × (Tree × ℕ))) × Option (Tree × Tree × Bool) ×
     Option Tree × Option Tree × Option Tree × Option ℕ
 held t = (
-  kind t, primitive_name t, decimal_of t, struct_fields t, union_variants t, map_parts t,
-  list_element t, fixed_size_list_element t, any_size_list_element t, fixed_size t,
+  kind t,
+  primitive_name t,
+  decimal_of t,
+  struct_fields t,
+  union_variants t,
+  map_parts t,
+  list_element t,
+  fixed_size_list_element t,
+  any_size_list_element t,
+  fixed_size t,
 )
 
 as_held : (u t : Tree) → Some u ≡ Some t → held t ≡ held u

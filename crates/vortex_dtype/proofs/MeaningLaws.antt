@@ -2,13 +2,10 @@
 -- SPDX-FileCopyrightText: Copyright the Vortex contributors
 
 -- Facts on the meanings of sessions.
-use Rattle.std.proofs.Common.{arith, ◌≡◌, ℕ, List, Option, Some, None, Bool, true, false, ap, cond, subst}
+use Rattle.std.proofs.Common.{arith, ◌≡◌, ℕ, List, Option, Some, None, Bool, ap, cond, subst}
 use Rattle.std.proofs.lemmas.Option.{same_Some}
 use Rattle.std.specs.Prelude.{option_map}
-use Rattle.std.specs.declared.string.String.{String}
-use Rattle.std.specs.declared.alloc.Global.{Global}
 use Rattle.vortex_dtype.specs.Meaning.{Rewrites, Meaning, Lawful}
-use Rattle.vortex_dtype.specs.Session.{meaning_of}
 
 pub same_meaning : (f g : List ℕ → Option Rewrites) (u : Bool) → ((id : List ℕ) → f id ≡ g id) → ◌≡◌ {A = Meaning} (record { registered = f; unknown = u }) (record { registered = g; unknown = u })
 same_meaning f g u h = ap (λ (k : List ℕ → Option Rewrites). let m : Meaning = record { registered = k; unknown = u } in m) (λ i id. h id i)

@@ -7,7 +7,6 @@ use Rattle.std.proofs.Common.{◌≡◌, ◌≢◌, inl, inr, ℕ, suc, ℤ, pos
 use Rattle.std.specs.List.{zip}
 use Rattle.std.proofs.lemmas.Bool.Decides.{Decides-eqb, nat_tests, not_from_Decides}
 use Rattle.std.proofs.lemmas.Int.{ints}
-use Rattle.std.proofs.lemmas.Option.{none-some}
 use Rattle.std.proofs.lemmas.Result.{MatchResult-at_err, MatchResult-at_ok, MatchResult-weaker}
 use Rattle.dtype_base.specs.declared.nullability.Nullability.{Nullability}
 use Rattle.dtype_base.specs.declared.nullability.Nullability.TheVariants.{NonNullable, Nullable}
@@ -16,19 +15,18 @@ use Rattle.dtype_base.specs.declared.ptype.PType.TheVariants.{U8}
 use Rattle.dtype_base.specs.declared.vortex_error.VortexError.{VortexError}
 use Rattle.dtype_base.specs.declared.vortex_error.VortexError.TheVariants.{MapKeyNullable, Message as Faulty}
 use Rattle.dtype_base.specs.declared.vortex_error.MessageFault.{MessageFault}
-use Rattle.dtype_base.specs.declared.vortex_error.MessageFault.TheVariants.{PrimitiveNumber, PrecisionRange, ScaleRange, ListElementMissing, FixedElementMissing, MapKeyMissing, MapValueMissing, TypeIdRange, StorageMissing}
+use Rattle.dtype_base.specs.declared.vortex_error.MessageFault.TheVariants.{PrimitiveNumber, ListElementMissing, FixedElementMissing, MapKeyMissing, MapValueMissing, TypeIdRange, StorageMissing}
 use Rattle.dtype_base.specs.Decimals.{IsValidDecimal}
 use Rattle.dtype_base.specs.Distinct.{Distinct}
-use Rattle.dtype_base.specs.Primitives.{ptype_row}
 use Rattle.dtype_base.specs.Nullability.{nullability_of}
 use Rattle.dtype_types.specs.nullability.Nullable.{nullability}
 use Rattle.dtype_types.specs.parts.Unions.{MakesUnion}
 use Rattle.dtype_types.specs.tree.Tree as of
 use Rattle.dtype_types.specs.tree.Tree.{Tree, Fields, field, fields, Variants, choice, variants}
 use Rattle.dtype_messages.specs.Message.{Message, Child, Messages, missing, primitive, decimal, list, fixed_size_list, map_of, struct, union, extension, absent, present, no_message, more}
-use Rattle.dtype_messages.specs.PTypeNumbers.{ptype_at, ptype_from}
+use Rattle.dtype_messages.specs.PTypeNumbers.{ptype_at}
 use Rattle.vortex_dtype.specs.Meaning.{Meaning, keeps, unkept_error}
-use Rattle.vortex_dtype.specs.Numbers.{integer_byte, natural_byte, signed_byte}
+use Rattle.vortex_dtype.specs.Numbers.{integer_byte}
 use Rattle.vortex_dtype.specs.Reads.{Reads, ReadsChild, ReadsFields, ReadsVariants, Fault, ChildFault, SomeFault, SomeTagFault, UnionFault, DecimalFault, decimal_with, number, message_count}
 use Rattle.vortex_dtype.specs.ReadInOrder.{◌>>=◌, decimal_made, read, read_child, read_all, read_tags, primitive_read, decimal_read, map_read, when_required, struct_read, union_made, union_read, extension_read, or_fault, or_empty}
 use Rattle.vortex_dtype.specs.lemmas.Unions.{tags_down, tags_up, union_making, union_ok}

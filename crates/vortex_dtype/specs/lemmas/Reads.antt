@@ -2,7 +2,7 @@
 -- SPDX-FileCopyrightText: Copyright the Vortex contributors
 
 -- Laws of reading, over message trees and types alone.
-use Rattle.std.proofs.Common.{◌≡◌, ◌≢◌, ◌↔◌, ⊎_elim, ℕ, zero, suc, ℤ, pos, ◌<◌, List, [], ◌∷◌, length, map, get_or, nat_eq, Some, Result, Ok, Err, IsErr, Bool, true, false, refl, sym, ap, ◌∙◌, subst, arith}
+use Rattle.std.proofs.Common.{◌≡◌, ◌≢◌, ◌↔◌, ⊎_elim, ℕ, ℤ, pos, List, [], ◌∷◌, length, map, nat_eq, Some, Ok, Err, IsErr, Bool, true, false, refl, sym, ap, ◌∙◌, subst, arith}
 use Rattle.std.specs.List.{All, IsDistinct, AllByRecursion, zip}
 use Rattle.std.specs.Cmp.{unsigned_Decides}
 use Rattle.std.specs.Str.{bytes_eq}
@@ -29,7 +29,6 @@ use Rattle.dtype_types.specs.tree.Tree.{Tree, Fields, no_fields, field, fields, 
 use Rattle.dtype_types.specs.tree.Valid.{Valid, ValidFields, ValidVariants, HasVariant, LacksName, LacksTag}
 use Rattle.dtype_messages.specs.Message.{Message, Child, Messages, messages, missing, null, primitive, decimal, list, fixed_size_list, map_of, struct, union, extension, absent, present, no_message, more}
 use Rattle.vortex_dtype.specs.Meaning.{Meaning, LawfulSession, Admits, AdmitsFields, AdmitsVariants, keeps}
-use Rattle.vortex_dtype.specs.Numbers.{integer_byte}
 use Rattle.vortex_dtype.specs.ReadInOrder.{or_empty, read}
 use Rattle.vortex_dtype.specs.Reads.{Reads, ReadsChild, ReadsFields, ReadsVariants, Fault, ChildFault, SomeFault, SomeTagFault, message_count}
 use Rattle.vortex_dtype.specs.Accepts.{Accepts}
@@ -38,7 +37,7 @@ use Rattle.vortex_dtype.specs.IsMessage.{IsMessage, IsChild, AreMessages}
 use Rattle.vortex_dtype.specs.lemmas.Sessions.{admits-set_null, keeps_again}
 use Rattle.vortex_dtype.specs.lemmas.Written.{nullability_of-is, written_is}
 use Rattle.dtype_types.specs.lemmas.Validity.{set_valid}
-use Rattle.vortex_dtype.specs.lemmas.InOrder.{AreBytes, ReadsAll, byte_is, bytes_are, child_once, count_all, fields_read, read_fault, reading, read_reads, reads_once, reads_read, variants_read}
+use Rattle.vortex_dtype.specs.lemmas.InOrder.{AreBytes, ReadsAll, byte_is, bytes_are, child_once, count_all, fields_read, read_fault, reading, reads_once, reads_read, variants_read}
 use Rattle.vortex_dtype.specs.lemmas.Unions.{tags_down}
 
 -- ---- a message with a fault reads as no type

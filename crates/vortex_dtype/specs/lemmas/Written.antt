@@ -3,14 +3,11 @@
 
 -- Types of which the messages are equal are equal.
 use Rattle.std.proofs.Common.{◌≡◌, refl, sym, ap, ◌∙◌}
-use Rattle.std.proofs.lemmas.Option.{same_Some}
 use Rattle.dtype_base.specs.declared.nullability.Nullability.{Nullability}
 use Rattle.dtype_base.specs.declared.nullability.Nullability.TheVariants.{NonNullable, Nullable}
 use Rattle.dtype_base.specs.Nullability.{nullability_of}
 use Rattle.dtype_types.specs.tree.Tree.{Tree, Fields, no_fields, field, Variants, no_variants, choice, null, bool, primitive, decimal, utf8, binary, list, fixed_size_list, map_of, struct, union, variant, extension}
-use Rattle.dtype_base.specs.declared.ptype.PType.{PType}
-use Rattle.dtype_messages.specs.PTypeNumbers.{ptype_at}
-use Rattle.vortex_dtype.specs.Reads.{decimal_with, number}
+use Rattle.vortex_dtype.specs.Reads.{decimal_with}
 use Rattle.vortex_dtype.specs.Written.{is_nullable, written, written_names, written_fields, written_variant_names, written_variants, written_tags}
 use Rattle.vortex_dtype.specs.lemmas.InOrder.{ptype_at-number}
 

@@ -2,7 +2,7 @@
 -- SPDX-FileCopyrightText: Copyright the Vortex contributors
 
 -- A list of nodes after a path is added to it.
-use Rattle.std.proofs.Common.{ℕ, suc, zero, ◌+◌, ◌-◌, ◌<◌, ◌≤◌, length, take, drop, get_or, map, subst, ◌≡◌, ◌⊎◌, ◌&&◌, ◌==◌, cond, List, [], ◌∷◌, ◌++◌, Option, Some, None, option_and_then, inl, inr, refl, sym, ap, ◌∙◌, arith, ⊎_elim, length-append}
+use Rattle.std.proofs.Common.{ℕ, suc, zero, ◌+◌, ◌-◌, ◌<◌, length, take, drop, get_or, map, subst, ◌≡◌, ◌⊎◌, ◌&&◌, ◌==◌, cond, List, [], ◌∷◌, ◌++◌, Option, Some, None, option_and_then, inl, inr, refl, sym, ap, ◌∙◌, arith, ⊎_elim, length-append}
 use Rattle.std.specs.List.{slice_get, cons_option, filter_map}
 use Rattle.std.proofs.lemmas.Bool.{cases_lt, and_parts}
 use Rattle.std.proofs.lemmas.Bool.Decides.{Decides-eqb}
@@ -138,15 +138,12 @@ module _ (old new : List Node) (path : List Field) (m : PrefixMatch) (trie : IsT
 
 -- ---- the root alone
 
-end_past : (nodes : List Node) (k : ℕ) → length nodes ≤ k → terminal_at nodes k ≡ None
-end_past nodes k h = rw (slice_get_past nodes k h) refl
-
 pub root-alone : (nodes : List Node) → length nodes ≡ 1 → terminal_at nodes 0 ≡ None → ((f : Field) → child_at nodes 0 f ≡ None) → IsTrie nodes
 root-alone nodes one terminal steps = subst (IsTrieBy (child_at nodes) (terminal_at nodes)) (sym one) (trie-root (child_at nodes) (terminal_at nodes) steps none)
   where
     none : (i : ℕ) → terminal_at nodes i ≡ None
     none zero = terminal
-    none (suc i) = end_past nodes (suc i) (omega (arith, one))
+    none (suc i) = rw (slice_get_past nodes (suc i) (omega (arith, one))) refl
 
 -- ---- a list with the same nodes as another
 

@@ -2,8 +2,9 @@
 -- SPDX-FileCopyrightText: Copyright the Vortex contributors
 
 -- A list of nodes in which one is changed.
-use Rattle.std.proofs.Common.{ℕ, suc, zero, ◌≡◌, ◌≢◌, ◌∙◌, ◌==◌, ◌&&◌, cond, List, [], ◌∷◌, Option, Some, option_and_then, set, refl, sym, ap}
+use Rattle.std.proofs.Common.{ℕ, suc, zero, ◌≡◌, ◌∙◌, ◌==◌, ◌&&◌, cond, List, [], ◌∷◌, Option, Some, option_and_then, set, refl, sym, ap}
 use Rattle.std.specs.List.{slice_get}
+use Rattle.std.proofs.Math.Dec.{eqb-suc-suc, eqb-suc-zero, eqb-zero-suc}
 use Rattle.std.proofs.lemmas.Bool.Decides.{Decides-eqb}
 use Rattle.std.proofs.lemmas.List.{set-get_or}
 use Rattle.std.proofs.lemmas.Option.{get_or_from_slice_get}
@@ -15,24 +16,13 @@ use Rattle.dtype_paths.specs.declared.node.Node.{Node}
 use Rattle.dtype_paths.specs.lemmas.Cases.{by_bool}
 
 module _ {A B : Type 0} (f : A → Option B) where
-  read-set_same : (xs : List A) (i : ℕ) (x y : A) → slice_get xs i ≡ Some x → option_and_then f (slice_get (set xs i y) i) ≡ f y
-  read-set_same [] i x y h = cc
-  read-set_same (z ∷ xs) zero x y h = refl
-  read-set_same (z ∷ xs) (suc i) x y h = read-set_same xs i x y h
-
-  read-set_other : (xs : List A) (i j : ℕ) (y : A) → j ≢ i → option_and_then f (slice_get (set xs i y) j) ≡ option_and_then f (slice_get xs j)
-  read-set_other [] i j y ne = refl
-  read-set_other (z ∷ xs) zero zero y ne = absurd (ne refl)
-  read-set_other (z ∷ xs) zero (suc j) y ne = refl
-  read-set_other (z ∷ xs) (suc i) zero y ne = refl
-  read-set_other (z ∷ xs) (suc i) (suc j) y ne = read-set_other xs i j y (λ e. ne (ap suc e))
-
   -- what is read at each index
   read-set : (xs : List A) (i : ℕ) (x y : A) → slice_get xs i ≡ Some x → (j : ℕ) → option_and_then f (slice_get (set xs i y) j) ≡ cond (j == i) (f y) (option_and_then f (slice_get xs j))
-  read-set xs i x y h j =
-      by_bool (j == i)
-      (λ e. let is : j ≡ i = (Decides-eqb j i).0 e in rw (e, is) (read-set_same xs i x y h))
-      (λ e. let ne : j ≢ i = λ is. (let z = (Decides-eqb j i).1 is in cc) in rw e (read-set_other xs i j y ne))
+  read-set [] i x y h j = cc
+  read-set (z ∷ xs) zero x y h zero = refl
+  read-set (z ∷ xs) zero x y h (suc j) = rw (eqb-suc-zero j) refl
+  read-set (z ∷ xs) (suc i) x y h zero = rw (eqb-zero-suc i) refl
+  read-set (z ∷ xs) (suc i) x y h (suc j) = rw (eqb-suc-suc j i) (read-set xs i x y h j)
 
 -- the same element put again
 pub set-same : {A : Type 0} (xs : List A) (i : ℕ) (x : A) → slice_get xs i ≡ Some x → set xs i x ≡ xs

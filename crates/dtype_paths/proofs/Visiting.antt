@@ -7,7 +7,7 @@ use Rattle.std.specs.List.{slice_get, Contains, IsDistinct}
 use Rattle.std.specs.Map.{keys_of, lookup, values_of}
 use Rattle.std.specs.Option.{unwrap_or}
 use Rattle.std.proofs.lemmas.List.Elements.{Contains-append_left, Contains-append_right, Contains-push, Contains-push_cases}
-use Rattle.std.proofs.lemmas.List.{append_cancel_left, length-map, map-append}
+use Rattle.std.proofs.lemmas.List.{append_cancel_left, length-map, length_push, map-append, same_from_push}
 use Rattle.std.proofs.lemmas.Map.Made.{AllPairs-from_IsDistinct}
 use Rattle.std.proofs.lemmas.Map.Views.{lookup-from_Contains, Contains-from_lookup}
 use Rattle.std.proofs.lemmas.Option.{same_Some, option_and_then_some}
@@ -40,14 +40,7 @@ begins_snoc (y ∷ l) (z ∷ s) f b =
     ⊎_elim (λ h. inl (λ i. is i ∷ h i)) (λ h. inr (h.0, λ i. sym is i ∷ h.1 i)) (begins_snoc l s f (b.0, cc))
 
 no_snoc : (s : List Field) (f : Field) → s ++ f ∷ [] ≡ [] → ⊥
-no_snoc [] f e = cc
-no_snoc (y ∷ s) f e = cc
-
-snoc_same : (t s : List Field) (f g : Field) → t ++ f ∷ [] ≡ s ++ g ∷ [] → t ≡ s
-snoc_same [] [] f g e = refl
-snoc_same [] (y ∷ s) f g e = let z : [] ≡ s ++ g ∷ [] = cc in absurd (no_snoc s g (sym z))
-snoc_same (x ∷ t) [] f g e = let z : t ++ f ∷ [] ≡ [] = cc in absurd (no_snoc t f z)
-snoc_same (x ∷ t) (y ∷ s) f g e = let a : x ≡ y = cc in let b : t ++ f ∷ [] ≡ s ++ g ∷ [] = cc in let r = snoc_same t s f g b in λ i. a i ∷ r i
+no_snoc s f e = omega (arith, ap length e, length_push s f)
 
 -- ---- which nodes are visited
 
@@ -225,7 +218,7 @@ module _ (nodes left : List Node) (found : List (List Field)) (visits : ℕ) (ps
           parents = λ t f c.
               ⊎_elim
               (λ d. contains-tail s t o.done (parents t f d))
-              (λ k. let w = contains-map child_path (keys_of es) (t ++ f ∷ []) k in subst (Contains (s ∷ o.done)) (snoc_same s t w.0 f w.2) (contains-head s o.done))
+              (λ k. let w = contains-map child_path (keys_of es) (t ++ f ∷ []) k in subst (Contains (s ∷ o.done)) (same_from_push s t w.0 f w.2).0 (contains-head s o.done))
               (inserted_cases ws new (s ∷ o.done) (t ++ f ∷ []) c);
           rest = λ q v.
               ⊎_elim

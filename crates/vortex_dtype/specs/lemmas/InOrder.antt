@@ -3,7 +3,7 @@
 
 -- The reading function agrees with the relations: it gives a type exactly where the message reads as that type, and
 -- else a fault of the message.
-use Rattle.std.proofs.Common.{◌≡◌, ◌≢◌, inl, inr, ℕ, suc, ℤ, pos, negsuc, ◌<◌, ◌==◌, List, [], ◌∷◌, length, map, Bool, true, false, cond, Option, Some, None, Result, Ok, Err, MatchResult, refl, sym, ap, subst, ◌∙◌, arith}
+use Rattle.std.proofs.Common.{◌≡◌, inl, inr, ℕ, suc, ℤ, pos, negsuc, ◌<◌, ◌==◌, List, [], ◌∷◌, length, map, Bool, true, false, cond, Option, Some, None, Result, Ok, Err, MatchResult, refl, sym, ap, subst, ◌∙◌, arith}
 use Rattle.std.specs.List.{zip}
 use Rattle.std.proofs.lemmas.Bool.Decides.{Decides-eqb, nat_tests, not_from_Decides}
 use Rattle.std.proofs.lemmas.Int.{ints}
@@ -15,8 +15,7 @@ use Rattle.dtype_base.specs.declared.ptype.PType.TheVariants.{U8}
 use Rattle.dtype_base.specs.declared.vortex_error.VortexError.{VortexError}
 use Rattle.dtype_base.specs.declared.vortex_error.VortexError.TheVariants.{MapKeyNullable, Message as Faulty}
 use Rattle.dtype_base.specs.declared.vortex_error.MessageFault.{MessageFault}
-use Rattle.dtype_base.specs.declared.vortex_error.MessageFault.TheVariants.{PrimitiveNumber, ListElementMissing, FixedElementMissing, MapKeyMissing, MapValueMissing, TypeIdRange, StorageMissing}
-use Rattle.dtype_base.specs.Decimals.{IsValidDecimal}
+use Rattle.dtype_base.specs.declared.vortex_error.MessageFault.TheVariants.{ListElementMissing, FixedElementMissing, MapKeyMissing, MapValueMissing, TypeIdRange, StorageMissing}
 use Rattle.dtype_base.specs.Distinct.{Distinct}
 use Rattle.dtype_base.specs.Nullability.{nullability_of}
 use Rattle.dtype_types.specs.nullability.Nullable.{nullability}
@@ -27,7 +26,7 @@ use Rattle.dtype_messages.specs.Message.{Message, Child, Messages, missing, prim
 use Rattle.dtype_messages.specs.PTypeNumbers.{ptype_at}
 use Rattle.vortex_dtype.specs.Meaning.{Meaning, keeps, unkept_error}
 use Rattle.vortex_dtype.specs.Numbers.{integer_byte}
-use Rattle.vortex_dtype.specs.Reads.{Reads, ReadsChild, ReadsFields, ReadsVariants, Fault, ChildFault, SomeFault, SomeTagFault, UnionFault, DecimalFault, decimal_with, number, message_count}
+use Rattle.vortex_dtype.specs.Reads.{Reads, ReadsChild, ReadsFields, ReadsVariants, Fault, ChildFault, SomeFault, SomeTagFault, UnionFault, number, message_count}
 use Rattle.vortex_dtype.specs.ReadInOrder.{◌>>=◌, decimal_made, read, read_child, read_all, read_tags, primitive_read, decimal_read, map_read, when_required, struct_read, union_made, union_read, extension_read, or_fault, or_empty}
 use Rattle.vortex_dtype.specs.lemmas.Unions.{tags_down, tags_up, union_making, union_ok}
 
@@ -138,17 +137,6 @@ unfolding read_tags
 tags_reading [] = tt
 tags_reading (g ∷ gs) = grind (arith, tags_reading gs)
 
-primitive_reading : (k : ℤ) (n : Nullability) → MatchResult (primitive_read k n)
-    (λ t. (p : PType) × (k ≡ number p) × (t ≡ of.primitive p n)) (λ e. (e ≡ Faulty PrimitiveNumber) × ((p : PType) → k ≢ number p))
-unfolding primitive_read
-primitive_reading k n = grind (arith, number-ptype_at, ptype_at-number)
-
-decimal_reading : (p : ℕ) (k : ℤ) (n : Nullability) → MatchResult (decimal_read p k n)
-    (λ t. IsValidDecimal (decimal_with p k) × (t ≡ of.decimal (decimal_with p k) n)) (DecimalFault p k)
-unfolding decimal_read decimal_made
-decimal_reading p (pos n) m = grind (arith, nat_tests, ints)
-decimal_reading p (negsuc n) m = grind (arith, nat_tests, ints)
-
 union_reading : (ns : List (List ℕ)) (ts : List Tree) (gs : List ℤ) (n : Nullability)
     → MatchResult (union_read ns ts gs n)
     (λ t. (tags : List ℕ) × AreBytes gs tags × MakesUnion ns (length ts) tags × (t ≡ of.union (variants (zip ns (zip ts tags))) n)) (UnionFault ns (length ts) gs)
@@ -162,11 +150,12 @@ key_reading NonNullable t = (refl, refl)
 key_reading Nullable t = (refl, refl)
 
 mutual
-  unfolding read map_read struct_read extension_read
+  unfolding read primitive_read decimal_read decimal_made map_read struct_read extension_read
 
   pub reading : (s : Meaning) (m : Message) → MatchResult (read s m) (Reads s m) (Fault s m)
-  reading s (primitive k f) = primitive_reading k (nullability_of f)
-  reading s (decimal p k f) = decimal_reading p k (nullability_of f)
+  reading s (primitive k f) = grind (arith, number-ptype_at, ptype_at-number)
+  reading s (decimal p (pos k) f) = grind (arith, nat_tests, ints)
+  reading s (decimal p (negsuc k) f) = grind (arith, nat_tests, ints)
   reading s (list c f) = in_turn (read_child s ListElementMissing c) _ _ _ _ _ (child_reading s ListElementMissing c) (λ x h. (x, h, refl)) (λ e j. j)
   reading s (fixed_size_list c k f) = in_turn (read_child s FixedElementMissing c) _ _ _ _ _ (child_reading s FixedElementMissing c) (λ x h. (x, h, refl)) (λ e j. j)
   reading s (map_of c v o f) =
@@ -212,11 +201,6 @@ read_fault s m e is = MatchResult-at_err (Reads s m) (Fault s m) e is (reading s
 
 -- ---- a message gives the type that it reads as
 
-decimal_read_ok : (p : ℕ) (k : ℤ) (n : Nullability) → IsValidDecimal (decimal_with p k) → decimal_read p k n ≡ Ok (of.decimal (decimal_with p k) n)
-unfolding decimal_read decimal_made
-decimal_read_ok p (pos c) n v = grind (arith, nat_tests, ints, v)
-decimal_read_ok p (negsuc c) n v = grind (arith, nat_tests, ints, v)
-
 tags_ok : (gs : List ℤ) (tags : List ℕ) → AreBytes gs tags → read_tags gs ≡ Ok tags
 unfolding read_tags
 tags_ok [] [] h = refl
@@ -224,12 +208,13 @@ tags_ok (g ∷ gs) (k ∷ tags) h = rw (h.0, tags_ok gs tags h.1) refl
 tags_ok _ _ h = absurd h
 
 mutual
-  unfolding read primitive_read map_read struct_read union_read extension_read
+  unfolding read primitive_read decimal_read decimal_made map_read struct_read union_read extension_read
 
   pub reads_read : (s : Meaning) (m : Message) (t : Tree) → Reads s m t → read s m ≡ Ok t
   reads_read s missing t h = absurd h
   reads_read s (primitive k f) t h = rw (h.1, ptype_at-number h.0) (ap Ok (sym h.2))
-  reads_read s (decimal p k f) t h = decimal_read_ok p k (nullability_of f) h.0 ∙ ap Ok (sym h.1)
+  reads_read s (decimal p (pos k) f) t h = grind (arith, nat_tests, ints, h)
+  reads_read s (decimal p (negsuc k) f) t h = grind (arith, nat_tests, ints, h)
   reads_read s (list c f) t h = rw (child_read s ListElementMissing c h.0 h.1) (ap Ok (sym h.2))
   reads_read s (fixed_size_list c k f) t h = rw (child_read s FixedElementMissing c h.0 h.1) (ap Ok (sym h.2))
   reads_read s (map_of c v o f) t h = rw (child_read s MapKeyMissing c h.0 h.2, child_read s MapValueMissing v h.1 h.3, h.4) (ap Ok (sym h.5))

@@ -11,18 +11,6 @@ use vortex_dtype::{
     field_path, pb, project_paths,
 };
 
-/// The text of a customer's name's type, `utf8?`, in a table pruned to that column.
-pub fn type_of_name(alloc: Global) -> VortexResult<Option<String>> {
-    let columns = FieldNames::from_texts(alloc, &["name"])?;
-    let pruned = customers(alloc)?.project(alloc, columns.as_slice())?;
-    let table = DType::Struct(pruned, Nullability::NonNullable);
-    let path = field_path!(alloc, "name")?;
-    match path.resolve(&table) {
-        Some(name) => Ok(Some(name.to_string(alloc)?)),
-        None => Ok(None),
-    }
-}
-
 /// The columns `id=u64, name=utf8?`.
 pub fn customers(alloc: Global) -> VortexResult<StructFields> {
     let names = FieldNames::from_texts(alloc, &["id", "name"])?;

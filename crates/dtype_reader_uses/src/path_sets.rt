@@ -439,6 +439,33 @@ pub fn cover_of_nothing(alloc: Global) -> VortexResult<vec::IntoIter<FieldPath>>
     FieldPathSet::new(alloc).into_iter()
 }
 
+/// The number of paths that are asked for.
+#[tactic(auto, using(vortex_dtype::specs::rulesets::counting))]
+pub fn number_asked(asked: &FieldPathSet) -> VortexResult<usize>
+    ensures { IfOk result (λ n. n ≡ set.len asked.now) }
+{
+    Ok(asked.iter()?.count())
+}
+
+/// Whether no path is asked for.
+#[tactic(auto, using(vortex_dtype::specs::rulesets::counting))]
+pub fn asks_for_nothing(asked: &FieldPathSet) -> VortexResult<bool>
+    ensures nothing { IfOk result (λ none. IsTrue none → asked.now ≡ set.empty) }
+    ensures some { IfOk result (λ none. none ≡ false → asked.now ≢ set.empty) }
+{
+    Ok(asked.iter()?.next().is_none())
+}
+
+/// The number of columns to open for one path: one.
+#[tactic(auto, using(vortex_dtype::specs::rulesets::counting))]
+pub fn number_to_open_for_one(alloc: Global, path: FieldPath) -> VortexResult<usize>
+    ensures { IfOk result (λ n. n ≡ 1) }
+{
+    let mut asked = FieldPathSet::new(alloc);
+    asked.insert(path)?;
+    Ok(asked.into_iter()?.count())
+}
+
 /// Whether the covers of two copies look equally often: they always do.
 #[tactic(auto, using(vortex_dtype::specs::rulesets::covering, vortex_dtype::specs::rulesets::counting))]
 pub fn copies_visit_equally(asked: &FieldPathSet) -> VortexResult<bool>

@@ -37,3 +37,10 @@ pub fn can_append_to_nullable(alloc: Global, dtype: &DType) -> VortexResult<bool
     let nullable = dtype.as_nullable(alloc)?;
     Ok(dtype.eq_with_nullability_subset(&nullable))
 }
+
+/// A type for an array's values beside those of another, of which some may be null.
+pub fn type_for_both(alloc: Global, dtype: &DType, other: &DType) -> VortexResult<DType>
+    ensures { IfOk result (λ d. IncludedIn (tree dtype.now) (tree d)) }
+{
+    Ok(dtype.union_nullability(alloc, other.nullability())?)
+}

@@ -3,6 +3,7 @@
 
 -- Which types have null as a value, and the values of a type that is made nullable.
 use Rattle.std.proofs.Common.{◌≡◌, ◌∙◌, ◌⊎◌, ◌↔◌, IfSome, Result, Ok, Err, IfOk, refl, sym, subst, inl, inr}
+use Rattle.dtype_base.specs.Nullability.{either}
 use Rattle.dtype_base.specs.declared.nullability.Nullability.{Nullability}
 use Rattle.dtype_base.specs.declared.nullability.Nullability.TheVariants.{NonNullable, Nullable}
 use Rattle.dtype_types.specs.nullability.Nullable.{nullability, set_null, SetNull, IsNullable}
@@ -36,6 +37,15 @@ of_set t u n e h v o = go (rw e at (others t n v))
     go (inl is) = subst (λ x. Of x u) (sym is) ((null_is_of_nullable u).1 (set_is t u n e ∙ h ((null_is_of_nullable t).0 (subst (λ x. Of x t) is o))))
     go (inr same) = same.0 o
 
+pub allows_either : (m n : Nullability) → Allows m (either m n)
+allows_either Nullable NonNullable h = refl
+allows_either Nullable Nullable h = refl
+allows_either NonNullable n h = cc
+
+-- a type's values are values of the type that is nullable where it or another is
+pub either_values : (t u : Tree) (n : Nullability) (v : Value) → SetNull t (either (nullability t) n) u → Of v t → Of v u
+either_values t u n v e o = of_set t u (either (nullability t) n) e (allows_either (nullability t) n) v o
+
 pub nullable_adds_null : (t u : Tree) → SetNull t Nullable u → AddsNull t u
 nullable_adds_null t u e v = (split (rw e at (others t Nullable v)), join)
   where
@@ -52,4 +62,4 @@ pub made_nullable : {E : Type 0} (t : Tree) (r : Result DType E) → IfOk r (λ 
 made_nullable t (Ok d) h = nullable_adds_null t (tree d) h
 made_nullable t (Err e) h = tt
 
-pub ruleset null_values = (null_is_of_nullable, nullable_adds_null, made_nullable)
+pub ruleset null_values = (null_is_of_nullable, either_values, nullable_adds_null, made_nullable)

@@ -11,7 +11,7 @@ use Rattle.dtype_types.specs.nullability.Sub.{Sub, Allows, NullableWherever}
 use Rattle.dtype_types.specs.tree.Tree.{Tree, null, list, fixed_size_list, map_of, struct, union, extension}
 use Rattle.dtype_types.specs.values.Value.{null_value}
 use Rattle.dtype_types.specs.lemmas.Nullabilities.{set_keeps, set_own}
-use Rattle.dtype_types.specs.lemmas.NullValues.{null_is_of_nullable}
+use Rattle.dtype_types.specs.lemmas.NullValues.{allows_either, null_is_of_nullable}
 use Rattle.dtype_types.specs.lemmas.SubLaws.{sub_reflexive}
 use Rattle.dtype_types.specs.lemmas.SubValues.{sub_values}
 
@@ -46,11 +46,6 @@ above_non_nullable t u e = set_below t u t NonNullable (nullability t) (λ h. cc
 -- a type is below the one with both nullabilities
 pub below_either : (t u : Tree) (n : Nullability) → set_null t (either (nullability t) n) ≡ Some u → Sub t u
 below_either t u n e = set_below t t u (nullability t) (either (nullability t) n) (allows_either (nullability t) n) (set_own t) e
-  where
-    allows_either : (m n : Nullability) → Allows m (either m n)
-    allows_either Nullable NonNullable h = refl
-    allows_either Nullable Nullable h = refl
-    allows_either NonNullable n h = cc
 
 -- what is above a nullable type is nullable
 pub above_nullable : (t u : Tree) → Sub t u → nullability t ≡ Nullable → nullability u ≡ Nullable

@@ -70,6 +70,23 @@ pub fn is_registered_after_another(
     Ok(session.registry(id))
 }
 
+/// Two plugins of different ids, registered one after the other: both are kept.
+pub fn register_two(
+    session: &mut DTypeSession,
+    first: Box<dyn ExtDTypePlugin>,
+    second: Box<dyn ExtDTypePlugin>,
+) -> VortexResult<()>
+    requires { id_text second ≢ id_text first }
+    ensures first { OnOk result
+        ((meaning rewrites session.new).registered (id_text first) ≡ Some (rewrites first)) }
+    ensures second { OnOk result
+        ((meaning rewrites session.new).registered (id_text second) ≡ Some (rewrites second)) }
+{
+    session.register(first)?;
+    session.register(second)?;
+    Ok(())
+}
+
 /// Whether a session that was just made knows an id: none.
 pub fn is_registered_in_new_session(alloc: Global, id: &str) -> bool
     ensures { result ≡ false }

@@ -140,6 +140,10 @@ registered_register_in m n i r e = ap (λ (s : Meaning). s.registered i) e ∙ r
 pub others_register_in : (m n : Meaning) (i id : List ℕ) (r : Rewrites) → n ≡ register_in i r m → i ≢ id → n.registered id ≡ m.registered id
 others_register_in m n i id r e other = ap (λ (s : Meaning). s.registered id) e ∙ register_in-other i id r m other
 
+-- what was registered stays when another id is registered after it
+pub registered_before : (l m n : Meaning) (i j : List ℕ) (r q : Rewrites) → m ≡ register_in i r l → n ≡ register_in j q m → j ≢ i → n.registered i ≡ Some r
+registered_before l m n i j r q e f other = others_register_in m n j i q f other ∙ registered_register_in l m i r e
+
 pub unknown_register_in : (m n : Meaning) (i : List ℕ) (r : Rewrites) → n ≡ register_in i r m → n.unknown ≡ m.unknown
 unfolding register_in
 unknown_register_in m n i r e = ap (λ (s : Meaning). s.unknown) e
@@ -172,7 +176,7 @@ unfolding allow_unknown_in empty_meaning
 unrefused m id b s e is h = grind arith
 
 -- What calls of a session change and leave alone, what it keeps and what it admits: for callers' proofs.
-pub ruleset sessions = (registered_register_in, others_register_in, unknown_register_in, flag_register_in, registered_allow_unknown_in, unknown_allow_unknown_in, flag_allow_unknown_in, registered_empty_meaning, unknown_empty_meaning, admits_allow_unknown_in, kept_allow_unknown_in, admits_one_more, admits_more, admits_fields-behind, keeps_again, keeps_outer, unrefused)
+pub ruleset sessions = (registered_register_in, others_register_in, registered_before, unknown_register_in, flag_register_in, registered_allow_unknown_in, unknown_allow_unknown_in, flag_allow_unknown_in, registered_empty_meaning, unknown_empty_meaning, admits_allow_unknown_in, kept_allow_unknown_in, admits_one_more, admits_more, admits_fields-behind, keeps_again, keeps_outer, unrefused)
 
 -- What is registered and allowed after any calls, and what is admitted whatever the outer nullability: for the laws.
 pub ruleset session_laws = (register_in-same, register_in-other, after-last, after-left_alone, after-unknown, admits-set_null)

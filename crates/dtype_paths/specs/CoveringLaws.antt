@@ -6,9 +6,9 @@
 -- The tactics try it whole at each goal that is left, so it is part of the interface.
 pub use Rattle.dtype_paths.specs.lemmas.Counts.{least_none, none_listed, one_count, listed_len, lent_len, some_listed, one_listed, one_least_listed}
 pub use Rattle.dtype_paths.specs.lemmas.SetMembers.{insert_has, insert_keeps, insert_other, insert_known, insert_again, insert_swap, contains_empty, union_keeps, union_has, union_none, union_with_none, union_insert, union_again, union_swap, within_insert, within_union, union_within, of_push, of_append, of_has}
-pub use Rattle.dtype_paths.specs.lemmas.SetCovers.{covers_of, covers_none, covers_union, covers_member, covers_below, insert_covers, insert_covers_below, covers_least, least_least, least_union_left, least_union_right, least_covered, least_below, least_one, least_same, fewest}
+pub use Rattle.dtype_paths.specs.lemmas.SetCovers.{covers_of, covers_none, covers_union, covers_member, covers_below, insert_covers, insert_covers_below, covers_least, least_least, least_union_left, least_union_right, least_covered, least_below, least_one, least_same, fewest, root_covers}
 
-pub ruleset covering = (insert_has, insert_keeps, insert_other, insert_known, insert_again, insert_swap, contains_empty, union_keeps, union_has, union_none, union_with_none, union_insert, union_again, within_insert, within_union, union_within, of_push, of_append, of_has, covers_of, covers_none, covers_union, covers_member, covers_below, insert_covers, insert_covers_below, covers_least, least_least, least_union_left, least_union_right, least_covered, least_below, least_one, least_same, fewest)
+pub ruleset covering = (insert_has, insert_keeps, insert_other, insert_known, insert_again, insert_swap, contains_empty, union_keeps, union_has, union_none, union_with_none, union_insert, union_again, within_insert, within_union, union_within, of_push, of_append, of_has, covers_of, covers_none, covers_union, covers_member, covers_below, insert_covers, insert_covers_below, covers_least, least_least, least_union_left, least_union_right, least_covered, least_below, least_one, least_same, fewest, root_covers, one_count)
 
 -- of the empty set, and of how many paths are as is said; beside `covering` where a caller counts
 pub ruleset counting = (least_none, none_listed, one_count, listed_len, lent_len, some_listed, one_listed, one_least_listed)

@@ -10,3 +10,4 @@ pub mod Composition
 pub mod Restrictions
 pub mod ThroughExtensions
 pub mod Merging
+pub mod Projecting

@@ -1,8 +1,8 @@
 // SPDX-License-Identifier: Apache-2.0
 // SPDX-FileCopyrightText: Copyright the Vortex contributors
 
-ghost use Rattle.std.specs.Prelude.{◌≡◌, ◌≤◌, ◌<◌, ◌^◌, ◌↔◌, ◌==◌, ◌⊎◌, IsTrue, [], length, map, vec_len, position, slice_get, All, IfOk, IfErr, OnOk, Err, Some, false, fold, MatchResult};
-ghost use Rattle.std.specs.List.{IsDistinct, range_with_len, zip};
+ghost use Rattle.std.specs.Prelude.{◌≡◌, ◌≤◌, ◌<◌, ◌^◌, ◌↔◌, ◌==◌, ◌⊎◌, IsSome, IfSome, IsTrue, [], length, map, vec_len, position, slice_get, All, IfOk, IfErr, OnOk, Err, Some, false, fold, MatchResult};
+ghost use Rattle.std.specs.List.{Contains, IsDistinct, range_with_len, zip};
 ghost use Rattle.dtype_base.specs.Bytes.{Bytes};
 ghost use Rattle.dtype_base.specs.FieldNames.{first_place};
 ghost use Rattle.dtype_base.specs.declared.vortex_error.VortexError.TheVariants.{OutOfMemory, UnionTooMany};
@@ -231,6 +231,14 @@ impl UnionVariants {
 
     /// Returns the position of the variant with this tag, or `None` where no variant has it.
     pub fn tag_to_child_index(&self, tag: u8) -> Option<usize>
+        ensures first { result ≡ position (λ t. t == tag) (variant_tags (variant_list self.now)) }
+        ensures there { IsSome result ↔ Contains (variant_tags (variant_list self.now)) tag }
+        ensures at { IfSome result (λ i. slice_get (variant_tags (variant_list self.now)) i ≡ Some tag) }
+    {
+        self.position_of_tag(tag)
+    }
+
+    fn position_of_tag(&self, tag: u8) -> Option<usize>
         ensures { result ≡ position (λ t. t == tag) (variant_tags (variant_list self.now)) }
     {
         self.type_ids().iter().position(|t| *t == tag)

@@ -21,10 +21,11 @@ pub use Rattle.dtype_types.specs.lemmas.Structs.{structs}
 pub use Rattle.dtype_types.specs.lemmas.Tags.{tags}
 pub use Rattle.dtype_types.specs.lemmas.Validity.{validity}
 -- of dtype_paths and dtype_projection: path sets and how many paths they have, paths and masks that are stepped along,
--- merged types
+-- types that are merged and types that are projected
 pub use Rattle.dtype_paths.specs.CoveringLaws.{counting, covering}
 pub use Rattle.dtype_paths.specs.lemmas.Stepping.{stepping}
 pub use Rattle.dtype_projection.specs.lemmas.Merging.{merging}
+pub use Rattle.dtype_projection.specs.lemmas.Projecting.{projecting}
 -- of vortex_dtype: sessions
 pub use Rattle.vortex_dtype.specs.lemmas.Sessions.{sessions}
 -- lemmas of these for answers of one's own: the set of paths that a loop collects, and any number of comparisons; and a
@@ -33,6 +34,7 @@ pub use Rattle.dtype_base.specs.lemmas.Lookups.{few_compared}
 pub use Rattle.dtype_paths.specs.CoveringLaws.{of_push, union_swap}
 use Rattle.dtype_base.specs.lemmas.Lookups.{lookups as name_lookups}
 use Rattle.dtype_messages.specs.lemmas.Equality.{equality as message_equality}
+use Rattle.dtype_messages.specs.lemmas.Names.{names}
 use Rattle.dtype_messages.specs.lemmas.Numbers.{numbers}
 use Rattle.dtype_types.specs.lemmas.Equality.{equality as type_equality}
 use Rattle.dtype_types.specs.lemmas.Lookups.{lookups as field_lookups}
@@ -46,5 +48,5 @@ pub ruleset lookups = (name_lookups, field_lookups, compared_within, compared_up
 -- `==` and `!=` of types, of their parts, and of messages
 pub ruleset equality = (type_equality, message_equality, differences)
 
--- messages that are read and written, and the numbers of primitive types in them
-pub ruleset messages = (reading, numbers)
+-- messages that are read and written, the numbers of primitive types in them, and the names of a path's parts
+pub ruleset messages = (reading, numbers, names)

@@ -178,6 +178,10 @@ covers_word s q = (
   λ c. (covers-Decides s q).1 (record { path = c.0; member = (items-Decides s c.0).0 c.1; begins = c.2 }),
 )
 
+-- the root covers every path
+pub root_covers : (s : PathSet) (q : List Field) → set.contains s [] ≡ true → covers s q ≡ true
+root_covers s q h = (covers_word s q).1 ([], h, (q, refl))
+
 pub least_word : (s : PathSet) (p : List Field) → IsTrue (set.contains (least s) p) ↔ (IsTrue (set.contains s p) × ((q : List Field) → IsTrue (set.contains s q) → Beginning q p → q ≡ p))
 least_word s p = (
   λ h. let l = (least-Decides s p).0 h in ((items-Decides s p).1 l.member, λ q c b. l.first q ((items-Decides s q).0 c) b),

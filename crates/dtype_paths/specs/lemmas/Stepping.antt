@@ -3,9 +3,10 @@
 
 -- Lemmas on paths and on masks that are stepped into. For callers' proofs `stepping` names them in one line:
 --     #![tactic(auto, using(dtype_paths::specs::lemmas::Stepping::stepping))]
-use Rattle.std.proofs.Common.{◌≡◌, ◌↔◌, ◌∙◌, ℕ, List, [], ◌∷◌, ◌++◌, Bool, true, false, cond, Option, Some, None, IsTrue, refl, sym, ap, subst}
+use Rattle.std.proofs.Common.{◌≡◌, ◌↔◌, ◌∙◌, ℕ, List, [], ◌∷◌, ◌++◌, Bool, true, false, cond, Option, Some, None, IsTrue, length, refl, sym, ap, subst, arith}
 use Rattle.std.proofs.lemmas.Option.{same_Some}
 use Rattle.std.specs.Prelude.{bytes_eq, option_and_then}
+use Rattle.std.specs.List.{starts_with}
 use Rattle.dtype_base.specs.declared.nullability.Nullability.{Nullability}
 use Rattle.dtype_types.specs.parts.Lookups.{first_named}
 use Rattle.dtype_types.specs.tree.Kinds.{any_size_list_element}
@@ -17,6 +18,7 @@ use Rattle.dtype_paths.specs.Beginning.{Beginning}
 use Rattle.dtype_paths.specs.Equality.{same_field, same_path}
 use Rattle.dtype_paths.specs.EqualityLaws.{same_field-Decides, same_path-Decides}
 use Rattle.dtype_paths.specs.In.{In, first_part}
+use Rattle.dtype_paths.specs.lemmas.Beginnings.{begins_nil, starts_with-Decides}
 use Rattle.dtype_paths.specs.lemmas.MaskSteps.{first_asked}
 use Rattle.dtype_paths.specs.lemmas.Walks.{along-At, At-along, along_after, none_after, none_further, one_type_at}
 use Rattle.dtype_paths.specs.declared.field.Field.{Field}
@@ -136,4 +138,34 @@ none_unasked (Prefix (h ∷ p)) f q first some asked = cc
 none_unasked (Exact []) f q first some asked = cc
 none_unasked (Exact (h ∷ p)) f q first some asked = cc
 
-pub ruleset stepping = (given_at, given_exists, given_valid, none_at, none_exists, column_along, at_append, at_element, beginning_exists_in, front_exists_in, root_begins, root_leads, root_exists_in, tested_fields, tested_paths, one_type_at, along_after, none_after, none_further, first_asked, other_unasked, none_unasked)
+-- a path of one step
+pub one_part : (p : List Field) → length p ≡ 1 → (f : Field) × (p ≡ f ∷ [])
+one_part [] e = absurd (omega (arith, e))
+one_part (f ∷ []) e = (f, refl)
+one_part (f ∷ g ∷ p) e = absurd (omega (arith, e))
+
+pub one_begins : (p q : List Field) (f : Field) → p ≡ f ∷ [] → Beginning p (f ∷ q)
+one_begins p q f e = (q, ap (λ r. r ++ q) (sym e))
+
+-- what a slice's `starts_with` tests
+pub tested_beginning : (p q : List Field) → IsTrue (starts_with same_field q p) → Beginning p q
+tested_beginning p q e = (starts_with-Decides p q (starts_with same_field q p) refl).0 e
+
+pub beginning_tested : (p q : List Field) → Beginning p q → IsTrue (starts_with same_field q p)
+beginning_tested p q b = (starts_with-Decides p q (starts_with same_field q p) refl).1 b
+
+-- a mask that selects the root, but not everything
+pub root_alone : (m : FieldMask) → In m [] → (((q : List Field) → In m q) → ⊥) → m ≡ Exact []
+root_alone All a some = absurd (some (λ q. tt))
+root_alone (Prefix p) b some = absurd (some (λ q. root_begins p q (begins_nil p b)))
+root_alone (Exact p) e some = ap Exact (sym e)
+
+-- what a mask selects begins with its first step
+pub first_begins : (m : FieldMask) (f : Field) (q : List Field) → Some f ≡ first_part m → In m q → Beginning (f ∷ []) q
+first_begins All f q e a = cc
+first_begins (Prefix []) f q e a = cc
+first_begins (Prefix (h ∷ p)) f q e a = let same = same_Some f h e in (p ++ a.0, a.1 ∙ (λ i. sym same i ∷ (p ++ a.0)))
+first_begins (Exact []) f q e a = cc
+first_begins (Exact (h ∷ p)) f q e a = let same = same_Some f h e in (p, a ∙ (λ i. sym same i ∷ p))
+
+pub ruleset stepping = (given_at, given_exists, given_valid, none_at, none_exists, column_along, at_append, at_element, beginning_exists_in, front_exists_in, root_begins, root_leads, root_exists_in, tested_fields, tested_paths, one_type_at, along_after, none_after, none_further, first_asked, other_unasked, none_unasked, one_part, one_begins, tested_beginning, beginning_tested, root_alone, first_begins)

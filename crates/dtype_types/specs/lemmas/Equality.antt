@@ -2,10 +2,10 @@
 -- SPDX-FileCopyrightText: Copyright the Vortex contributors
 
 -- `==` of a struct's fields, a union's variants, a map, an extension and a field's type holds exactly where the two are
--- equal, and so does that of two lists of names. The clause of each says so. Where a type that holds one of these derives
--- `==`, and of a struct's or a union's names, a caller has it by
+-- equal, and so does that of two names, or lists of them. The clause of each says so. Where a type that holds one of these
+-- derives `==`, and of a struct's or a union's names, a caller has it by
 --     #![tactic(auto, using(dtype_types::specs::lemmas::Equality::equality))]
-use Rattle.std.specs.Prelude.{◌≡◌, ℕ, Bool, List, nat_eq}
+use Rattle.std.specs.Prelude.{◌≡◌, ℕ, Bool, List, [], ◌∷◌, nat_eq, refl}
 use Rattle.std.specs.Bool.{Decides}
 use Rattle.std.specs.Cmp.Lexicographic.{pointwise}
 use Rattle.std.proofs.lemmas.Slice.Eq.{bytes_eq-Decides, slice_eq-Decides}
@@ -14,10 +14,14 @@ use Rattle.dtype_types.specs.lemmas.EqualityLaws.{equal_under-Decides, variants_
 use Rattle.dtype_types.specs.parts.FieldTypes.{field_tree}
 use Rattle.dtype_types.specs.equality.EqualityOf.{same_field_dtype}
 use Rattle.dtype_types.specs.lemmas.PartsEquality.{maps_equal_under-Decides, same_fields-Decides}
-use Rattle.dtype_types.specs.equality.EqualityOf.{same_extension, same_map, same_struct, same_union}
-use Rattle.dtype_types.specs.tree.Tree.{triples, variants}
-use Rattle.dtype_types.specs.tree.TreeOf.{children, variant_list, extension_tree, map_shown, variants_of}
+use Rattle.dtype_types.specs.equality.EqualityOf.{same_dtype, same_extension, same_map, same_struct, same_union}
+use Rattle.dtype_types.specs.parts.Lookups.{field_names}
+use Rattle.dtype_types.specs.tree.Erase.{erase, erase_fields}
+use Rattle.dtype_types.specs.tree.Tree.{Tree, fields, triples, variants}
+use Rattle.dtype_types.specs.tree.TreeOf.{children, struct_tree, tree, variant_list, extension_tree, map_shown, variants_of}
+use Rattle.dtype_types.specs.lemmas.HashLaws.{erased_fed}
 use Rattle.dtype_types.specs.lemmas.TreeLaws.{triples_variants}
+use Rattle.dtype_types.specs.declared.dtype.DType.{DType}
 use Rattle.dtype_types.specs.declared.extension.ExtDTypeRef.{ExtDTypeRef}
 use Rattle.dtype_types.specs.declared.field_dtype.FieldDType.{FieldDType}
 use Rattle.dtype_types.specs.declared.map.MapDType.{MapDType}
@@ -44,4 +48,22 @@ field_types_Decides a b = equal_under-Decides (field_tree a) (field_tree b)
 pub names_Decide : (a b : List (List ℕ)) (r : Bool) → r ≡ pointwise (pointwise nat_eq) a b → Decides r (a ≡ b)
 names_Decide = slice_eq-Decides bytes_eq-Decides
 
-pub ruleset equality = (names_Decide, structs_Decides, unions_Decides, maps_Decides, extensions_Decides, field_types_Decides)
+pub name_Decides : (a b : List ℕ) → Decides (pointwise nat_eq a b) (a ≡ b)
+name_Decides a b = bytes_eq-Decides a b
+
+pub types_Decide : (a b : DType) → Decides (same_dtype a b) (tree a ≡ tree b)
+types_Decide a b = equal_under-Decides (tree a) (tree b)
+
+-- structs that are equal but for nullabilities have the same names
+erased_names : (ps qs : List (List ℕ × Tree)) → erase_fields (fields ps) ≡ erase_fields (fields qs) → field_names ps ≡ field_names qs
+erased_names [] [] e = refl
+erased_names (p ∷ ps) (q ∷ qs) e =
+    let first : p.0 ≡ q.0 = cc in
+    let rest : erase_fields (fields ps) ≡ erase_fields (fields qs) = cc in
+    let names = erased_names ps qs rest in cc
+erased_names _ _ e = cc
+
+pub erased_fields : (s t : StructFields) → erase (struct_tree s) ≡ erase (struct_tree t) → field_names (children s) ≡ field_names (children t)
+erased_fields s t e = erased_names (children s) (children t) cc
+
+pub ruleset equality = (name_Decides, names_Decide, types_Decide, structs_Decides, unions_Decides, maps_Decides, extensions_Decides, field_types_Decides, erased_fields, erased_fed)

@@ -2,7 +2,8 @@
 -- SPDX-FileCopyrightText: Copyright the Vortex contributors
 
 -- Which types have null as a value, and the values of a type that is made nullable.
-use Rattle.std.proofs.Common.{◌≡◌, ◌∙◌, ◌⊎◌, ◌↔◌, IfSome, Result, Ok, Err, IfOk, refl, sym, subst, inl, inr}
+use Rattle.std.proofs.Common.{◌≡◌, ◌∙◌, ◌⊎◌, ◌↔◌, IfSome, Result, Ok, Err, IfOk, refl, ap, sym, subst, inl, inr}
+use Rattle.std.proofs.lemmas.Option.{same_Some}
 use Rattle.dtype_base.specs.Nullability.{either}
 use Rattle.dtype_base.specs.declared.nullability.Nullability.{Nullability}
 use Rattle.dtype_base.specs.declared.nullability.Nullability.TheVariants.{NonNullable, Nullable}
@@ -11,7 +12,7 @@ use Rattle.dtype_types.specs.nullability.Sub.{Allows}
 use Rattle.dtype_types.specs.tree.Tree.{Tree, null, extension}
 use Rattle.dtype_types.specs.tree.TreeOf.{tree}
 use Rattle.dtype_types.specs.declared.dtype.DType.{DType}
-use Rattle.dtype_types.specs.lemmas.Nullabilities.{in_storage, set_is}
+use Rattle.dtype_types.specs.lemmas.Nullabilities.{in_storage, set_is, set_own}
 use Rattle.dtype_types.specs.values.Value.{Value, Of, AddsNull, null_value}
 
 pub null_is_of_nullable : (t : Tree) → Of null_value t ↔ IsNullable t
@@ -46,6 +47,25 @@ allows_either NonNullable n h = cc
 pub either_values : (t u : Tree) (n : Nullability) (v : Value) → SetNull t (either (nullability t) n) u → Of v t → Of v u
 either_values t u n v e o = of_set t u (either (nullability t) n) e (allows_either (nullability t) n) v o
 
+either_nullable : (m n : Nullability) → (either m n ≡ Nullable) ↔ ((m ≡ Nullable) ⊎ (n ≡ Nullable))
+either_nullable NonNullable NonNullable = (λ e. inl e, λ s. elim s [ inl e ↦ e | inr e ↦ e ])
+either_nullable NonNullable Nullable = (λ e. inr e, λ s. refl)
+either_nullable Nullable NonNullable = (λ e. inl refl, λ s. refl)
+either_nullable Nullable Nullable = (λ e. inl refl, λ s. refl)
+
+-- null is a value of it where one of the two is nullable
+pub null_of_either : (t u : Tree) (m n : Nullability) → SetNull t (either m n) u → Of null_value u ↔ ((m ≡ Nullable) ⊎ (n ≡ Nullable))
+null_of_either t u m n e =
+    let is = set_is t u (either m n) e in
+    (λ o. (either_nullable m n).0 (sym is ∙ (null_is_of_nullable u).0 o), λ s. (null_is_of_nullable u).1 (is ∙ (either_nullable m n).1 s))
+
+-- made nullable a type is what it was where null was a value of it
+pub null_when_same : (t u : Tree) → SetNull t Nullable u → (u ≡ t) ↔ Of null_value t
+null_when_same t u e = (
+  λ s. (null_is_of_nullable t).1 (ap nullability (sym s) ∙ set_is t u Nullable e),
+  λ o. same_Some u t (sym e ∙ ap (set_null t) (sym ((null_is_of_nullable t).0 o)) ∙ set_own t),
+)
+
 pub nullable_adds_null : (t u : Tree) → SetNull t Nullable u → AddsNull t u
 nullable_adds_null t u e v = (split (rw e at (others t Nullable v)), join)
   where
@@ -62,4 +82,4 @@ pub made_nullable : {E : Type 0} (t : Tree) (r : Result DType E) → IfOk r (λ 
 made_nullable t (Ok d) h = nullable_adds_null t (tree d) h
 made_nullable t (Err e) h = tt
 
-pub ruleset null_values = (null_is_of_nullable, either_values, nullable_adds_null, made_nullable)
+pub ruleset null_values = (null_is_of_nullable, either_values, null_of_either, null_when_same, nullable_adds_null, made_nullable)

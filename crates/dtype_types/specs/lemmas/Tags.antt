@@ -2,14 +2,15 @@
 -- SPDX-FileCopyrightText: Copyright the Vortex contributors
 
 -- The tags of a valid union: each is at one position.
-use Rattle.std.proofs.Common.{◌≡◌, ℕ, zero, suc, ◌<◌, ◌==◌, Bool, List, [], ◌∷◌, length, get_or, slice_get, Option, Some, None, IfSome, cond, refl, ap, sym, ◌∙◌, arith}
-use Rattle.std.specs.List.{position, range_with_len}
+use Rattle.std.proofs.Common.{◌≡◌, ℕ, zero, suc, ◌<◌, ◌≤◌, ◌==◌, Bool, true, inl, inr, List, [], ◌∷◌, length, get_or, slice_get, Option, Some, None, IfSome, IsSome, ◌↔◌, Contains, cond, refl, ap, sym, ◌∙◌, arith}
+use Rattle.std.specs.List.{position, position_or_len, range_with_len}
+use Rattle.std.specs.Option.{is_some}
 use Rattle.std.proofs.lemmas.List.{get_or_default, length-map}
-use Rattle.std.proofs.lemmas.Bool.{lt-ltb, false_from_ne_true}
-use Rattle.std.proofs.lemmas.List.FromFn.{length-range_with_len}
+use Rattle.std.proofs.lemmas.Bool.{cases_lt, false≢true, lt-ltb, false_from_ne_true}
+use Rattle.std.proofs.lemmas.List.FromFn.{get_or-range_with_len, length-range_with_len}
 use Rattle.std.proofs.lemmas.List.Quantifiers.{position-Some}
-use Rattle.std.proofs.lemmas.List.Sums.{position_or_len_is}
-use Rattle.std.proofs.lemmas.Option.{slice_get_within, slice_get_read, get_or_from_slice_get}
+use Rattle.std.proofs.lemmas.List.Sums.{fails_before_first, position_or_len_is}
+use Rattle.std.proofs.lemmas.Option.{slice_get-get_or, slice_get_past, slice_get_within, slice_get_read, get_or_from_slice_get}
 use Rattle.dtype_types.specs.tree.Tree.{Tree, variants}
 use Rattle.dtype_types.specs.parts.Unions.{AreConsecutive}
 use Rattle.dtype_types.specs.tree.Valid.{LacksTag, ValidVariants, Valid}
@@ -42,6 +43,25 @@ pub position_within : (u : UnionVariants) (f : ℕ → Bool) (r : Option ℕ) �
 position_within u f None e = tt
 position_within u f (Some i) e = omega (arith, (position-Some f (variant_tags (variant_list u)) i 0 (sym e)).0, length-map (variant_list u) (λ c. c.1.1))
 
+-- whether a variant has a tag, and which it is
+among_passes : (gs : List ℕ) (tag : ℕ) → Contains gs tag → is_some (position (λ g. g == tag) gs) ≡ true
+among_passes gs tag c = elim (cases_lt (position_or_len (λ g. g == tag) gs) (length gs)) [
+  | inl within ↦ ap (λ b. is_some (cond b (Some (position_or_len (λ g. g == tag) gs)) None)) (lt-ltb _ (length gs) within)
+  | inr none ↦ absurd (false≢true (sym (fails_before_first (λ g. g == tag) gs c.0 tag (omega (arith, none, c.1))) ∙ ap (λ g. g == tag) c.2 ∙ (Decides-eqb tag tag).1 refl))
+]
+
+pub tag_is_there : (gs : List ℕ) (tag : ℕ) (r : Option ℕ) → r ≡ position (λ g. g == tag) gs → IsSome r ↔ Contains gs tag
+tag_is_there gs tag None e = (λ h. absurd (false≢true h), λ c. ap is_some e ∙ among_passes gs tag c)
+tag_is_there gs tag (Some i) e =
+    let at = position-Some (λ g. g == tag) gs i tag (sym e) in
+    (λ h. (i, at.0, (Decides-eqb _ _).0 at.1), λ c. refl)
+
+pub tag_is_at : (gs : List ℕ) (tag : ℕ) (r : Option ℕ) → r ≡ position (λ g. g == tag) gs → IfSome r (λ i. slice_get gs i ≡ Some tag)
+tag_is_at gs tag None e = tt
+tag_is_at gs tag (Some i) e =
+    let at = position-Some (λ g. g == tag) gs i tag (sym e) in
+    slice_get-get_or gs i tag at.0 ∙ ap Some ((Decides-eqb _ _).0 at.1)
+
 -- the tag read at a position
 pub tag_read : (gs hs : List ℕ) (i : ℕ) → hs ≡ gs → i < length gs → slice_get gs i ≡ Some (get_or hs i 0)
 tag_read gs hs i e w = slice_get_read gs (length gs) i (get_or hs i 0) refl w (ap (λ xs. get_or xs i 0) e ∙ get_or_default gs i 0 (get_or hs i 0) w)
@@ -50,4 +70,13 @@ tag_read gs hs i e w = slice_get_read gs (length gs) i (get_or hs i 0) refl w (a
 pub consecutive_tags : (gs : List ℕ) (n : ℕ) → gs ≡ range_with_len 0 n → AreConsecutive gs
 consecutive_tags gs n e = e ∙ ap (range_with_len 0) (sym (ap length e ∙ length-range_with_len 0 n))
 
-pub ruleset tags = (position_of_tag, position_within, consecutive_tags)
+-- such a tag is its position
+pub consecutive_tag_at : (gs : List ℕ) (i tag : ℕ) → AreConsecutive gs → slice_get gs i ≡ Some tag → tag ≡ i
+consecutive_tag_at gs i tag c e =
+    let within = slice_get_within gs i tag e in
+    sym (get_or_from_slice_get gs i tag 0 e) ∙ ap (λ xs. get_or xs i 0) c ∙ get_or-range_with_len 0 (length gs) i 0 within ∙ omega arith
+
+pub no_tag_past : (vs : List (List ℕ × (Tree × ℕ))) (i : ℕ) → length vs ≤ i → slice_get (variant_tags vs) i ≡ None
+no_tag_past vs i h = slice_get_past (variant_tags vs) i (omega (arith, h, length-map vs (λ v. v.1.1)))
+
+pub ruleset tags = (position_of_tag, position_within, consecutive_tags, consecutive_tag_at, no_tag_past)

@@ -2,10 +2,11 @@
 -- SPDX-FileCopyrightText: Copyright the Vortex contributors
 
 -- The steps that a path message says are those of the names that it holds; without a name at each part it makes no path.
-use Rattle.std.proofs.Common.{◌≡◌, ◌∙◌, ◌<◌, ℕ, zero, suc, List, [], ◌∷◌, ◌++◌, Contains, Option, Some, None, get_or, length, ap, refl, subst, sym, map, option_map, arith}
+use Rattle.std.proofs.Common.{◌≡◌, ◌∙◌, ◌<◌, ℕ, zero, suc, List, [], ◌∷◌, ◌++◌, Contains, Option, Some, None, get_or, length, ap, refl, subst, sym, map, option_map, option_and_then, arith}
 use Rattle.std.proofs.lemmas.Simd.{map-map}
 use Rattle.dtype_paths.specs.declared.field.Field.{Field as Step}
 use Rattle.dtype_paths.specs.declared.field.Field.TheVariants.{Name}
+use Rattle.dtype_paths.specs.PathOrder.{held_name}
 use Rattle.dtype_messages.specs.declared.pb.Field.{Field}
 use Rattle.dtype_messages.specs.declared.pb.FieldPath.{FieldPath}
 use Rattle.dtype_messages.specs.PathNames.{part_name, part_names}
@@ -40,6 +41,23 @@ steps_of_path (Some n ∷ ns) p e = behind n (path_of ns) (map (option_map Name)
 
 pub path_steps : (m : FieldPath) (p : List Step) → path_of (part_names m) ≡ Some p → steps_of m ≡ map Some p
 path_steps m p e = sym (by_names m) ∙ steps_of_path (part_names m) p e
+
+-- names that make one path are the same
+names_again : (ns : List (Option (List ℕ))) → map (option_and_then held_name) (map (option_map Name) ns) ≡ ns
+names_again [] = refl
+names_again (None ∷ ns) = ap (λ ms. None ∷ ms) (names_again ns)
+names_again (Some n ∷ ns) = ap (λ ms. Some n ∷ ms) (names_again ns)
+
+names_of_path : (ns ms : List (Option (List ℕ))) (p : List Step) → path_of ns ≡ Some p → path_of ms ≡ Some p → ns ≡ ms
+names_of_path ns ms p e f =
+    sym (names_again ns) ∙ ap (map (option_and_then held_name)) (steps_of_path ns p e ∙ sym (steps_of_path ms p f)) ∙ names_again ms
+
+pub same_path_names : (ns ms : List (Option (List ℕ))) (p q : List Step) → path_of ns ≡ Some p → path_of ms ≡ Some q → (p ≡ q → ns ≡ ms) × (ns ≡ ms → p ≡ q)
+same_path_names ns ms p q e f = (λ is. names_of_path ns ms p e (f ∙ ap Some (sym is)), λ is. cc)
+
+-- the root has none
+pub path_root : (ns : List (Option (List ℕ))) (p : List Step) → path_of ns ≡ Some p → p ≡ [] → ns ≡ []
+path_root ns p e is = names_of_path ns [] p e (ap Some (sym is))
 
 -- parts one of which has no kind make no path
 pub no_path : (before rest : List (Option (List ℕ))) → path_of (before ++ None ∷ rest) ≡ None

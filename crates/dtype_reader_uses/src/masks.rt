@@ -5,6 +5,7 @@
 #![tactic(auto, using(vortex_dtype::specs::rulesets::stepping))]
 
 ghost use Rattle.std.specs.Prelude.{◌≡◌, ◌↔◌, ◌∷◌, ◌++◌, [], IfNone, IfOk, IfSome, IsTrue, List, false};
+ghost use Rattle.vortex_dtype.specs.Beginning.{Beginning};
 ghost use Rattle.vortex_dtype.specs.In.{In};
 ghost use Rattle.vortex_dtype.specs.Types.Field.{Field};
 ghost use Rattle.vortex_dtype.specs.Types.FieldMask.TheVariants.{All};
@@ -148,4 +149,29 @@ pub fn all_steps_to_all(mask: FieldMask) -> VortexResult<FieldMask>
     ensures { IfOk result (λ below. below ≡ All) }
 {
     mask.step_into()
+}
+
+/// The mask of a column and all below it: it selects no root.
+pub fn mask_of_whole_column(alloc: Global, column: &str) -> VortexResult<FieldMask>
+    ensures below { IfOk result (λ m. (q : List Field) → In m (Field.Name column.now ∷ q)) }
+    ensures root { IfOk result (λ m. ¬ (In m [])) }
+{
+    Ok(FieldMask::Prefix(field_path!(alloc, column)?))
+}
+
+/// Whether a mask asks for the whole alone, and for nothing below it.
+pub fn asks_for_root_alone(mask: &FieldMask) -> bool
+    ensures { IsTrue result ↔ (mask.now ≡ FieldMask.Exact []) }
+{
+    mask.matches_root() && !mask.matches_all()
+}
+
+/// The first step of what a mask selects, where there is one.
+pub fn column_of_mask(mask: &FieldMask) -> Option<&Field>
+    ensures { IfSome result (λ f. (q : List Field) → In mask.now q → Beginning (f.now ∷ []) q) }
+{
+    match mask.starting_field() {
+        Ok(Some(first)) => Some(first),
+        Ok(None) | Err(_) => None,
+    }
 }

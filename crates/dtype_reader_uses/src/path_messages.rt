@@ -4,7 +4,7 @@
 //! Messages compared and copied, of types, of single kinds and of paths, and paths read from them.
 #![tactic(auto, using(vortex_dtype::specs::rulesets::messages, vortex_dtype::specs::rulesets::equality))]
 
-ghost use Rattle.std.specs.Prelude.{◌≡◌, ◌≢◌, ◌↔◌, ◌⊎◌, ◌∷◌, [], IfErr, IfOk, IsErr, IsOkUnless, IsTrue, None, string_bytes};
+ghost use Rattle.std.specs.Prelude.{◌≡◌, ◌≢◌, ◌↔◌, ◌⊎◌, ◌∷◌, [], All, IfErr, IfOk, IsErr, IsOkUnless, IsSome, IsTrue, None, string_bytes};
 ghost use Rattle.std.specs.List.{Contains};
 ghost use Rattle.vortex_dtype.specs.Types.VortexError.TheVariants.{Message, OutOfMemory};
 ghost use Rattle.vortex_dtype.specs.Types.MessageFault.TheVariants.{PathPartMissing};
@@ -142,4 +142,26 @@ pub fn read_with_missing_part(alloc: Global, proto: &pb::FieldPath) -> VortexRes
     ensures { IsErr result }
 {
     FieldPath::from_proto(alloc, proto)
+}
+
+/// Whether each part of a stored path has its name.
+pub fn is_complete(path: &pb::FieldPath) -> bool
+    ensures { IsTrue result ↔ All IsSome (part_names path.now) }
+{
+    path.path.iter().all(|part| part.field_type.is_some())
+}
+
+/// Whether two stored paths lead to the same column.
+pub fn leads_to_same(alloc: Global, a: &pb::FieldPath, b: &pb::FieldPath) -> VortexResult<bool>
+    ensures { IfOk result (λ same. IsTrue same ↔ (part_names a.now ≡ part_names b.now)) }
+{
+    Ok(FieldPath::from_proto(alloc, a)? == FieldPath::from_proto(alloc, b)?)
+}
+
+/// Whether a stored path leads to the whole table: then it has no names.
+pub fn leads_to_table(alloc: Global, path: &pb::FieldPath) -> VortexResult<bool>
+    ensures { IfOk result (λ whole. IsTrue whole → part_names path.now ≡ []) }
+{
+    let path = FieldPath::from_proto(alloc, path)?;
+    Ok(path.is_root())
 }

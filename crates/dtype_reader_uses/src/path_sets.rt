@@ -496,3 +496,10 @@ pub fn asked_by_both(one: &FieldPathSet, other: Vec<FieldPath>) -> VortexResult<
     both.extend(other)?;
     Ok(both)
 }
+
+/// Whether the whole table is asked for: then every path in it is covered.
+pub fn asks_for_table(alloc: Global, asked: &FieldPathSet) -> bool
+    ensures { IsTrue result → (q : List Field) → IsTrue (covers asked.now q) }
+{
+    asked.contains(&FieldPath::root(alloc))
+}

@@ -180,3 +180,17 @@ pub fn element_along<'a>(path: FieldPath, dtype: &'a DType) -> VortexResult<Opti
     let element = path.push(Field::ElementType)?;
     Ok(element.resolve(dtype))
 }
+
+/// Whether a path is that of a whole column.
+pub fn is_top_level(path: &FieldPath) -> bool
+    ensures { IsTrue result ↔ ((f : Field) × (path.now ≡ f ∷ [])) }
+{
+    path.parts().len() == 1
+}
+
+/// Whether what is at a path is within what is at another.
+pub fn is_within(path: &FieldPath, parent: &FieldPath) -> bool
+    ensures { IsTrue result ↔ Beginning parent.now path.now }
+{
+    path.parts().starts_with(parent.parts())
+}

@@ -12,6 +12,8 @@ ghost use Rattle.dtype_types.specs.tree.Valid.{Valid};
 ghost use Rattle.dtype_types.specs.values.Value.{Of, Value};
 ghost use Rattle.vortex_dtype.specs.Along.{along};
 ghost use Rattle.vortex_dtype.specs.At.{ExistsIn};
+ghost use Rattle.vortex_dtype.specs.Covering.{covers};
+ghost use Rattle.vortex_dtype.specs.Nullable.{nullability};
 ghost use Rattle.vortex_dtype.specs.Projected.{projected};
 ghost use Rattle.vortex_dtype.specs.Restricted.{restricted};
 ghost use Rattle.vortex_dtype.specs.Types.Field.{Field};
@@ -81,4 +83,51 @@ pub fn rows_of_projection(
         → Of (restricted (tree schema.now) (set.contains columns.now) v) (tree u))) }
 {
     project_paths(alloc, schema, columns)
+}
+
+/// Whether a pruned schema still has columns when it is pruned to the same ones again: it always does.
+#[tactic(auto, using(vortex_dtype::specs::rulesets::projecting))]
+pub fn is_kept_when_pruned_again(
+    alloc: Global,
+    schema: &DType,
+    columns: &FieldPathSet,
+) -> VortexResult<bool>
+    ensures { IfOk result (λ kept. IsTrue kept) }
+{
+    match project_paths(alloc, schema, columns)? {
+        Some(pruned) => Ok(project_paths(alloc, &pruned, columns)?.is_some()),
+        None => Ok(true),
+    }
+}
+
+/// The schema pruned to many columns and then to some of these: the schema pruned to those.
+#[tactic(auto, using(vortex_dtype::specs::rulesets::covering, vortex_dtype::specs::rulesets::projecting))]
+pub fn pruned_in_steps(
+    alloc: Global,
+    schema: &DType,
+    wide: &FieldPathSet,
+    narrow: &FieldPathSet,
+) -> VortexResult<Option<DType>>
+    requires { (q : List Field) → IsTrue (set.contains narrow.now q) → IsTrue (covers wide.now q) }
+    ensures { IfOk result (λ r. option_map tree r ≡ projected (tree schema.now) (set.contains narrow.now)) }
+{
+    match project_paths(alloc, schema, wide)? {
+        Some(once) => Ok(project_paths(alloc, &once, narrow)?),
+        None => Ok(None),
+    }
+}
+
+/// The pruned schema is nullable where the schema is.
+#[tactic(auto, using(vortex_dtype::specs::rulesets::covering, vortex_dtype::specs::rulesets::projecting))]
+pub fn pruned_as_nullable(
+    alloc: Global,
+    schema: &DType,
+    columns: &FieldPathSet,
+) -> VortexResult<Option<DType>>
+    ensures { IfOk result (λ r. IfSome r (λ u. nullability (tree u) ≡ nullability (tree schema.now))) }
+{
+    match project_paths(alloc, schema, columns)? {
+        Some(pruned) => Ok(Some(pruned)),
+        None => Ok(None),
+    }
 }

@@ -4,12 +4,15 @@
 //! Comparing types, and what structs, unions, maps and extensions hold.
 #![tactic(auto)]
 
-ghost use Rattle.std.specs.Prelude.{◌≡◌, ◌≢◌, ◌↔◌, IfOk, IsTrue};
+ghost use Rattle.std.specs.Prelude.{◌≡◌, ◌≢◌, ◌↔◌, IfOk, IsTrue, fold};
+ghost use Rattle.dtype_types.specs.equality.Hashes.{hash_writes_ignoring_nullability};
 ghost use Rattle.dtype_types.specs.parts.FieldTypes.{field_tree};
 ghost use Rattle.dtype_types.specs.parts.Lookups.{field_names, first_named};
+ghost use Rattle.dtype_types.specs.tree.Erase.{erase};
 ghost use Rattle.dtype_types.specs.tree.TreeOf.{children, variant_list, extension_tree, map_shown, tree};
 
 use std::alloc::Global;
+use std::hash::Hasher;
 use vortex_dtype::{
     DType, ExtDTypeRef, FieldDType, FieldName, MapDType, StructFields, UnionVariants, VortexResult,
 };
@@ -121,4 +124,39 @@ pub fn has_same_names(table: &StructFields, other: &StructFields) -> bool
     ensures { IsTrue result ↔ (field_names (children table.now) ≡ field_names (children other.now)) }
 {
     *table.names() == *other.names()
+}
+
+/// Whether an array has a table's columns, whatever their nullability: then it has their names.
+#[tactic(auto, using(vortex_dtype::specs::rulesets::equality))]
+pub fn has_columns_of(table: &StructFields, array: &StructFields) -> bool
+    ensures { IsTrue result → field_names (children table.now) ≡ field_names (children array.now) }
+{
+    table.eq_ignore_nullability(array)
+}
+
+/// A column of a catalogue.
+#[derive(Debug, Drop, PartialEq, Eq)]
+pub struct Entry {
+    /// The column's name.
+    pub name: FieldName,
+    /// The column's type.
+    pub dtype: DType,
+}
+
+/// Whether two entries are of the same column.
+#[tactic(auto, using(vortex_dtype::specs::rulesets::equality))]
+pub fn is_same_entry(a: &Entry, b: &Entry) -> bool
+    ensures { IsTrue result ↔ ((a.now.name ≡ b.now.name) × (tree a.now.dtype ≡ tree b.now.dtype)) }
+{
+    *a == *b
+}
+
+/// Hashes a type that is cached under another nullability: as the other is hashed.
+#[tactic(auto, using(vortex_dtype::specs::rulesets::equality))]
+pub fn hash_as_cached<H: Hasher>(dtype: &DType, cached: &DType, state: &mut H)
+    requires { erase (tree dtype.now) ≡ erase (tree cached.now) }
+    ensures { state.new ≡ fold H.write state.old (hash_writes_ignoring_nullability (tree cached.now)) }
+{
+    let _cached = cached;
+    dtype.hash_ignore_nullability(state);
 }

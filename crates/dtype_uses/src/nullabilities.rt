@@ -4,11 +4,12 @@
 // Nullability set, and set again.
 #![tactic(auto, using(vortex_dtype::specs::rulesets::nullabilities, vortex_dtype::specs::rulesets::order))]
 
-ghost use Rattle.std.specs.Prelude.{◌≡◌, IfOk, IsTrue, true};
+ghost use Rattle.std.specs.Prelude.{◌≡◌, ◌↔◌, ◌⊎◌, IfOk, IsTrue, true};
 ghost use Rattle.vortex_dtype.specs.Types.Nullability.TheVariants.{NonNullable, Nullable};
 ghost use Rattle.dtype_types.specs.nullability.Nullable.{CanBeNonNullable, IsNullable, SetNull, nullability};
 ghost use Rattle.dtype_types.specs.nullability.Sub.{Sub};
 ghost use Rattle.dtype_types.specs.tree.TreeOf.{tree};
+ghost use Rattle.dtype_types.specs.values.Value.{Of, null_value};
 
 use std::alloc::Global;
 use vortex_dtype::{DType, Nullability, VortexResult};
@@ -73,4 +74,21 @@ pub fn with_own_nullability(dtype: &DType, alloc: Global) -> VortexResult<DType>
     ensures { IfOk result (λ d. tree d ≡ tree dtype.now) }
 {
     dtype.with_nullability(alloc, dtype.nullability())
+}
+
+/// The type of a sum of two columns: it has null where one of them has.
+#[tactic(auto, using(vortex_dtype::specs::rulesets::nullabilities, vortex_dtype::specs::rulesets::null_values))]
+pub fn null_where_either(a: &DType, b: &DType, alloc: Global) -> VortexResult<DType>
+    ensures { IfOk result (λ d. Of null_value (tree d) ↔ (IsNullable (tree a.now) ⊎ IsNullable (tree b.now))) }
+{
+    Ok(a.union_nullability(alloc, b.nullability())?)
+}
+
+/// Whether making a type nullable changes it: where null isn't a value of it.
+#[tactic(auto, using(vortex_dtype::specs::rulesets::nullabilities, vortex_dtype::specs::rulesets::null_values, vortex_dtype::specs::rulesets::equality))]
+pub fn changes_when_nullable(dtype: &DType, alloc: Global) -> VortexResult<bool>
+    ensures { IfOk result (λ b. IsTrue b ↔ (Of null_value (tree dtype.now) → ⊥)) }
+{
+    let nullable = dtype.as_nullable(alloc)?;
+    Ok(nullable != *dtype)
 }

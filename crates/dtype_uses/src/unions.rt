@@ -4,7 +4,7 @@
 //! Unions made of names, types and tags.
 #![tactic(auto, using(vortex_dtype::specs::rulesets::made_of, vortex_dtype::specs::rulesets::tags, vortex_dtype::specs::rulesets::lookups))]
 
-ghost use Rattle.std.specs.Prelude.{◌≡◌, IfOk, map};
+ghost use Rattle.std.specs.Prelude.{◌≡◌, ◌↔◌, Contains, IfOk, IfSome, IsSome, map, slice_get};
 ghost use Rattle.dtype_types.specs.parts.Lookups.{variant_named, variant_names, variant_types, variant_tags};
 ghost use Rattle.dtype_types.specs.tree.TreeOf.{variant_list, tree, shown};
 ghost use Rattle.dtype_types.specs.parts.Unions.{AreConsecutive};
@@ -41,4 +41,27 @@ pub fn variant_by_find<'a>(variants: &'a UnionVariants, name: &str) -> Option<&'
 {
     let index = variants.find(name)?;
     variants.variant_by_index(index)
+}
+
+/// The tag of the variant at a position, where there is one.
+pub fn tag_at(variants: &UnionVariants, index: usize) -> Option<u8>
+    ensures at { result ≡ slice_get (variant_tags (variant_list variants.now)) index }
+    ensures dense { AreConsecutive (variant_tags (variant_list variants.now)) → IfSome result (λ t. t ≡ index) }
+{
+    if index < variants.len() {
+        Some(variants.child_index_to_tag(index))
+    } else {
+        None
+    }
+}
+
+/// A tag of a stored value, where a variant has it.
+pub fn checked_tag(variants: &UnionVariants, tag: u8) -> Option<u8>
+    ensures same { IfSome result (λ t. t ≡ tag) }
+    ensures there { IsSome result ↔ Contains (variant_tags (variant_list variants.now)) tag }
+{
+    match variants.tag_to_child_index(tag) {
+        Some(index) => Some(variants.child_index_to_tag(index)),
+        None => None,
+    }
 }

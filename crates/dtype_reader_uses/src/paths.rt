@@ -194,3 +194,11 @@ pub fn is_within(path: &FieldPath, parent: &FieldPath) -> bool
 {
     path.parts().starts_with(parent.parts())
 }
+
+/// Whether two tables have the same type along a path, or none.
+#[tactic(auto, using(vortex_dtype::specs::rulesets::stepping, vortex_dtype::specs::rulesets::equality))]
+pub fn has_same_type_at(path: &FieldPath, left: &DType, right: &DType) -> bool
+    ensures { IsTrue result ↔ (along (tree left.now) path.now ≡ along (tree right.now) path.now) }
+{
+    path.resolve(left) == path.resolve(right)
+}

@@ -134,6 +134,22 @@ pub fn has_columns_of(table: &StructFields, array: &StructFields) -> bool
     table.eq_ignore_nullability(array)
 }
 
+/// Whether a column has the same type in two tables, or is in neither.
+#[tactic(auto, using(vortex_dtype::specs::rulesets::equality))]
+pub fn is_same_column(left: &StructFields, right: &StructFields, name: &str) -> bool
+    ensures { IsTrue result ↔ (first_named (children left.now) name.now ≡ first_named (children right.now) name.now) }
+{
+    left.field(name) == right.field(name)
+}
+
+/// Whether a column's type differs between two tables.
+#[tactic(auto, using(vortex_dtype::specs::rulesets::equality))]
+pub fn is_other_column(left: &StructFields, right: &StructFields, name: &str) -> bool
+    ensures { IsTrue result ↔ (first_named (children left.now) name.now ≢ first_named (children right.now) name.now) }
+{
+    left.field(name) != right.field(name)
+}
+
 /// A column of a catalogue.
 #[derive(Debug, Drop, PartialEq, Eq)]
 pub struct Entry {

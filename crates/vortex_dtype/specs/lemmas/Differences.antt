@@ -1,8 +1,8 @@
 -- SPDX-License-Identifier: Apache-2.0
 -- SPDX-FileCopyrightText: Copyright the Vortex contributors
 
--- `!=` of types, of their parts and of messages, and `==` of borrowed types that may be missing.
-use Rattle.std.proofs.Common.{◌≡◌, ◌≢◌, not, Decides, Option, Some, None, Bor, refl, ap}
+-- `!=` of types, of their parts and of messages, and `==` and `!=` of borrowed types that may be missing.
+use Rattle.std.proofs.Common.{◌≡◌, ◌≢◌, ◌∙◌, Bool, not, Decides, Option, Some, None, Bor, refl, sym, ap}
 use Rattle.std.proofs.lemmas.Bool.{false≢true}
 use Rattle.std.proofs.lemmas.Bool.Decides.{Decides-not}
 use Rattle.std.proofs.lemmas.Option.{same_Some}
@@ -59,14 +59,18 @@ path_messages_differ a b = Decides-not (path_eq.ghosts.eq a b) (path_Decides a b
 pub parts_differ : (a b : PathPart) → Decides (not (part_eq.ghosts.eq a b)) (part_name a ≢ part_name b)
 parts_differ a b = Decides-not (part_eq.ghosts.eq a b) (part_Decides a b)
 
--- ---- borrowed types that may be missing
+-- ---- borrowed types that may be missing, by any test that is theirs: a search can't match the test in the contract of
+-- `Option`'s `==`, which names an impl, with the definition of `DType`'s
 
-pub lent_alike : (a b : Option (Bor DType)) → Decides (option_eq (λ x y. same_dtype x.now y.now) a b) (shown tree a ≡ shown tree b)
-lent_alike None None = (λ e. refl, λ e. refl)
-lent_alike None (Some y) = (λ e. absurd (false≢true e), λ e. cc)
-lent_alike (Some x) None = (λ e. absurd (false≢true e), λ e. cc)
-lent_alike (Some x) (Some y) =
+pub lent_alike : (f : Bor DType → Bor DType → Bool) (a b : Option (Bor DType)) → ((x y : Bor DType) → f x y ≡ same_dtype x.now y.now) → Decides (option_eq f a b) (shown tree a ≡ shown tree b)
+lent_alike f None None h = (λ e. refl, λ e. refl)
+lent_alike f None (Some y) h = (λ e. absurd (false≢true e), λ e. cc)
+lent_alike f (Some x) None h = (λ e. absurd (false≢true e), λ e. cc)
+lent_alike f (Some x) (Some y) h =
     let d = equal_under-Decides (tree x.now) (tree y.now) in
-    (λ e. ap Some (d.0 e), λ e. d.1 (same_Some (tree x.now) (tree y.now) e))
+    (λ e. ap Some (d.0 (sym (h x y) ∙ e)), λ e. h x y ∙ d.1 (same_Some (tree x.now) (tree y.now) e))
 
-pub ruleset differences = (types_differ, structs_differ, unions_differ, maps_differ, extensions_differ, field_types_differ, messages_differ, path_messages_differ, parts_differ, lent_alike)
+pub lent_differ : (f : Bor DType → Bor DType → Bool) (a b : Option (Bor DType)) → ((x y : Bor DType) → f x y ≡ same_dtype x.now y.now) → Decides (not (option_eq f a b)) (shown tree a ≢ shown tree b)
+lent_differ f a b h = Decides-not (option_eq f a b) (lent_alike f a b h)
+
+pub ruleset differences = (types_differ, structs_differ, unions_differ, maps_differ, extensions_differ, field_types_differ, messages_differ, path_messages_differ, parts_differ, lent_alike, lent_differ)

@@ -9,5 +9,6 @@ pub mod Coverage
 pub mod Composition
 pub mod Restrictions
 pub mod ThroughExtensions
+pub mod Above
 pub mod Merging
 pub mod Projecting

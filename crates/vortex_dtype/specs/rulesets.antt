@@ -22,7 +22,7 @@ pub use Rattle.dtype_types.specs.lemmas.Tags.{tags}
 pub use Rattle.dtype_types.specs.lemmas.Validity.{validity}
 -- of dtype_paths and dtype_projection: path sets and how many paths they have, paths and masks that are stepped along,
 -- types that are merged and types that are projected
-pub use Rattle.dtype_paths.specs.CoveringLaws.{counting, covering}
+pub use Rattle.dtype_paths.specs.CoveringLaws.{counting, covering, members}
 pub use Rattle.dtype_paths.specs.lemmas.Stepping.{stepping}
 pub use Rattle.dtype_projection.specs.lemmas.Merging.{merging}
 pub use Rattle.dtype_projection.specs.lemmas.Projecting.{projecting}

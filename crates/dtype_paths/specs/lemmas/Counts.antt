@@ -3,7 +3,7 @@
 
 -- The empty set, and how many paths are as is said.
 use Rattle.std.specs.FinSet as set
-use Rattle.std.proofs.Common.{◌≡◌, ◌≤◌, ◌<◌, ◌+◌, ◌∷◌, ℕ, List, [], Bor, ◌≢◌, ◌||◌, false, true, length, map, cond, refl, sym, ap, ◌∙◌, arith}
+use Rattle.std.proofs.Common.{◌≡◌, ◌≤◌, ◌+◌, ◌∷◌, ℕ, List, [], Bor, ◌≢◌, ◌||◌, false, length, map, cond, refl, sym, ap, ◌∙◌, arith}
 use Rattle.std.specs.List.{AllByRecursion, IsDistinct, list_any}
 use Rattle.dtype_base.specs.Distinct.{Distinct}
 use Rattle.std.proofs.lemmas.Bool.{false≢true, false_from_ne_true}
@@ -15,11 +15,10 @@ use Rattle.dtype_paths.specs.Covering.{IsCountOf, least}
 use Rattle.dtype_paths.specs.EqualityLaws.{same_path-Decides, same_path_equiv}
 use Rattle.dtype_paths.specs.Equality.{same_path}
 use Rattle.dtype_paths.specs.PathOrder.{PathSet, path_cmp, set_of}
-use Rattle.dtype_paths.specs.lemmas.Cases.{by_bool}
 use Rattle.dtype_paths.specs.lemmas.PathOrders.{path_cmp_total}
 use Rattle.dtype_paths.specs.declared.field.Field.{Field}
 use Rattle.dtype_paths.specs.lemmas.SetCovers.{least-Decides, least_one}
-use Rattle.dtype_paths.specs.lemmas.SetMembers.{contains_empty, contains_insert, from_list-Decides, insert_has, items-Decides, of_has, same_by}
+use Rattle.dtype_paths.specs.lemmas.SetMembers.{contains_empty, from_list-Decides, insert_has, items-Decides, of_has, one_only, same_by}
 
 -- the least paths of the empty set are none
 pub least_none : least set.empty ≡ set.empty
@@ -74,18 +73,13 @@ lent_len xs s is d = sym (length-map xs (λ x. x.now)) ∙ listed_len (map (λ x
 pub some_listed : (p : List Field) (ps : List (List Field)) (s : PathSet) → set_of (p ∷ ps) ≡ s → s ≢ set.empty
 some_listed p ps s is e = cc (none_listed (p ∷ ps) (is ∙ e))
 
-only_one : (p q : List Field) → set.contains {R = path_cmp} (set.insert set.empty p) q ≡ true → q ≡ p
-only_one p q t = by_bool (same_path q p)
-    (λ e. (same_path-Decides q p).0 e)
-    (λ e. absurd (false≢true (sym (contains_empty q) ∙ ap (λ b. b || set.contains (set.empty {R = path_cmp}) q) (sym e) ∙ sym (contains_insert set.empty p q) ∙ t)))
-
 -- where the set has one path, so has the list
 pub one_listed : (ps : List (List Field)) (p : List Field) → set_of ps ≡ set.insert set.empty p → Distinct ps → ps ≡ p ∷ []
 unfolding IsDistinct
 one_listed ps p is d = go ps is (listed_len ps (set.insert set.empty p) is d ∙ len_of (p ∷ []) (tt, tt))
   where
     go : (qs : List (List Field)) → set_of qs ≡ set.insert set.empty p → length qs ≡ 1 → qs ≡ p ∷ []
-    go (q ∷ []) e one = ap (λ x. x ∷ []) (only_one p q (ap (λ s. set.contains s q) (sym e) ∙ insert_has set.empty q))
+    go (q ∷ []) e one = ap (λ x. x ∷ []) (one_only p q (ap (λ s. set.contains s q) (sym e) ∙ insert_has set.empty q))
     go [] e one = cc
     go (q ∷ r ∷ qs) e one = cc
 

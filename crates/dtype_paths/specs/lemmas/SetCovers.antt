@@ -2,12 +2,12 @@
 -- SPDX-FileCopyrightText: Copyright the Vortex contributors
 
 -- Lemmas on what sets of paths cover, and on their least paths.
-use Rattle.std.specs.Prelude.{◌≡◌, ◌↔◌, Bool, true, false, IsTrue, List, [], ◌∷◌, ◌++◌, not, ◌||◌, ◌&&◌, ◌≤◌, length, refl}
+use Rattle.std.specs.Prelude.{◌≡◌, ◌↔◌, Bool, true, false, IsTrue, List, [], ◌∷◌, ◌++◌, not, ◌||◌, ◌&&◌, ◌<◌, ◌≤◌, ℕ, get_or, length, refl}
 use Rattle.std.specs.Bool.{Decides}
 use Rattle.std.specs.FinSet as set
 use Rattle.std.specs.List.{Any, Contains, list_any, starts_with}
 use Rattle.std.proofs.Common.{ap, sym, ◌∙◌, ⊎_elim}
-use Rattle.std.proofs.lemmas.Bool.{and_from, and_parts, or_cases, or_right}
+use Rattle.std.proofs.lemmas.Bool.{and_from, and_parts, false≢true, or_cases, or_left, or_right}
 use Rattle.std.proofs.lemmas.Bool.Decides.{same_from_decides}
 use Rattle.std.proofs.lemmas.List.Folds.{Any-from_list_any, list_any-append, list_any-from_Any}
 use Rattle.std.proofs.lemmas.Map.Made.{is_member-Decides, IsDistinct-from_AllPairs, length-le_from_is_member}
@@ -23,7 +23,7 @@ use Rattle.dtype_paths.specs.lemmas.Beginnings.{either_begins, starts_with-Decid
 use Rattle.dtype_paths.specs.lemmas.Cases.{by_bool}
 use Rattle.dtype_paths.specs.lemmas.PathLists as lists
 use Rattle.dtype_paths.specs.lemmas.PathOrders.{same_tied}
-use Rattle.dtype_paths.specs.lemmas.SetMembers.{contains_empty, contains_insert, from_list-Decides, insert_has, items-Decides, items_of_list, of_append, of_items, same_by}
+use Rattle.dtype_paths.specs.lemmas.SetMembers.{contains_empty, contains_insert, from_list-Decides, insert_has, items-Decides, items_of_list, of_append, of_has_at, of_items, same_by}
 
 -- ---- what is covered
 
@@ -63,9 +63,18 @@ covers_union s t q =
     ∙ list_any-append (λ p. starts_with same_field q p) (set.items s) (set.items t)
     ∙ (λ i. one s i || one t i)
 
+pub covers_left : (s t : PathSet) (q : List Field) → covers s q ≡ true → covers (set.union s t) q ≡ true
+covers_left s t q h = covers_union s t q ∙ or_left (covers s q) (covers t q) h
+
+pub covers_right : (s t : PathSet) (q : List Field) → covers t q ≡ true → covers (set.union s t) q ≡ true
+covers_right s t q h = covers_union s t q ∙ or_right (covers s q) (covers t q) h
+
 -- members are covered, and what is below
 pub covers_member : (s : PathSet) (p : List Field) → set.contains s p ≡ true → covers s p ≡ true
 covers_member s p h = (covers-Decides s p).1 (lists.covers_member (set.items s) p ((items-Decides s p).0 h))
+
+pub of_covers_at : (ps : List (List Field)) (q : List Field) (k : ℕ) → get_or ps k q ≡ q → k < length ps → covers (set.from_list ps) q ≡ true
+of_covers_at ps q k e l = covers_member (set.from_list ps) q (of_has_at ps q k e l)
 
 pub covers_below : (s : PathSet) (p rest : List Field) → covers s p ≡ true → covers s (p ++ rest) ≡ true
 covers_below s p rest h = (covers-Decides s (p ++ rest)).1 (lists.covers_further (set.items s) p rest ((covers-Decides s p).0 h))
@@ -181,6 +190,20 @@ covers_word s q = (
 -- the root covers every path
 pub root_covers : (s : PathSet) (q : List Field) → set.contains s [] ≡ true → covers s q ≡ true
 root_covers s q h = (covers_word s q).1 ([], h, (q, refl))
+
+-- of a path that is covered by a member, said by what follows the member
+pub covers_further : (s : PathSet) (p q r : List Field) → q ≡ p ++ r → set.contains s p ≡ true → covers s q ≡ true
+covers_further s p q r e h = (covers_word s q).1 (p, h, (r, e))
+
+-- beside the root no path is among the least
+pub least_root : (s : PathSet) → set.contains s [] ≡ true → least s ≡ set.insert set.empty []
+least_root s h = least_same s (set.insert set.empty []) (λ q. root_covers s q h ∙ sym (root_covers (set.insert set.empty []) q (insert_has set.empty []))) ∙ least_one []
+
+-- the least paths are none where the set has none alone
+pub least_empty : (s : PathSet) → least s ≡ set.empty → s ≡ set.empty
+least_empty s e = same_by s set.empty (λ q. by_bool (set.contains s q)
+    (λ h. absurd (false≢true (sym (covers_none q) ∙ ap (λ t. covers t q) (sym e) ∙ covers_least s q ∙ covers_member s q h)))
+    (λ h. h ∙ sym (contains_empty q)))
 
 pub least_word : (s : PathSet) (p : List Field) → IsTrue (set.contains (least s) p) ↔ (IsTrue (set.contains s p) × ((q : List Field) → IsTrue (set.contains s q) → Beginning q p → q ≡ p))
 least_word s p = (

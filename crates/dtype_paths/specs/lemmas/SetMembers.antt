@@ -2,13 +2,13 @@
 -- SPDX-FileCopyrightText: Copyright the Vortex contributors
 
 -- Lemmas on the members of sets of paths.
-use Rattle.std.specs.Prelude.{◌≡◌, ◌≢◌, ◌↔◌, Bool, true, false, IsTrue, List, [], ◌∷◌, ◌++◌, ◌||◌, refl}
+use Rattle.std.specs.Prelude.{◌≡◌, ◌≢◌, ◌↔◌, ◌<◌, ◌⊎◌, ℕ, Bool, true, false, IsTrue, List, [], ◌∷◌, ◌++◌, ◌||◌, get_or, length, refl}
 use Rattle.std.specs.Bool.{Decides}
 use Rattle.std.specs.FinSet as set
 use Rattle.std.specs.List.{Contains, list_any}
-use Rattle.std.proofs.Common.{ap, sym, ◌∙◌}
+use Rattle.std.proofs.Common.{ap, sym, inl, inr, ◌∙◌}
 use Rattle.std.proofs.Math.Bool.{or_comm, or-false}
-use Rattle.std.proofs.lemmas.Bool.{or_left, or_right}
+use Rattle.std.proofs.lemmas.Bool.{false≢true, or_cases, or_left, or_right}
 use Rattle.std.proofs.lemmas.Bool.Decides.{same_from_decides}
 use Rattle.std.specs.Ordering.{eq_by_cmp}
 use Rattle.std.proofs.lemmas.List.Folds.{list_any-append}
@@ -90,6 +90,20 @@ insert_known s p h = same_by _ _ (λ q.
     (λ e. let is : q ≡ p = (same_path-Decides q p).0 e in ap (λ b. b || set.contains s q) e ∙ sym (ap (set.contains s) is ∙ h))
     (λ e. rw e refl))
 
+-- what is in after that was put in, or was in
+pub insert_only : (s : PathSet) (p q : List Field) → set.contains (set.insert s p) q ≡ true → (q ≡ p) ⊎ (set.contains s q ≡ true)
+insert_only s p q h = elim (or_cases (same_path q p) (set.contains s q) (sym (contains_insert s p q) ∙ h)) [
+  | inl e ↦ inl ((same_path-Decides q p).0 e)
+  | inr e ↦ inr e
+]
+
+-- in a set of one path is that one
+pub one_only : (p q : List Field) → set.contains {R = path_cmp} (set.insert set.empty p) q ≡ true → q ≡ p
+one_only p q h = elim (insert_only set.empty p q h) [
+  | inl e ↦ e
+  | inr e ↦ absurd (false≢true (sym (contains_empty q) ∙ e))
+]
+
 pub insert_again : (s : PathSet) (p : List Field) → set.insert (set.insert s p) p ≡ set.insert s p
 insert_again s p = insert_known (set.insert s p) p (insert_has s p)
 
@@ -163,6 +177,13 @@ of_append ps qs = same_by _ _ (λ q.
 
 pub of_has : (ps : List (List Field)) (q : List Field) → Contains ps q → set.contains (set.from_list {R = path_cmp} ps) q ≡ true
 of_has ps q c = (from_list-Decides ps q).1 c
+
+pub of_only : (ps : List (List Field)) (q : List Field) → set.contains (set.from_list {R = path_cmp} ps) q ≡ true → Contains ps q
+of_only ps q h = (from_list-Decides ps q).0 h
+
+-- by position: a search opens `Contains` where it is given, and can't put it together again
+pub of_has_at : (ps : List (List Field)) (q : List Field) (k : ℕ) → get_or ps k q ≡ q → k < length ps → set.contains (set.from_list {R = path_cmp} ps) q ≡ true
+of_has_at ps q k e l = of_has ps q (k, l, e)
 
 -- a list's paths are the members of its set
 pub listed : (ps : List (List Field)) (s : PathSet) (q : List Field) → set.from_list ps ≡ s → Contains ps q ↔ IsTrue (set.contains s q)

@@ -11,7 +11,10 @@ use Rattle.dtype_base.specs.declared.nullability.Nullability.{Nullability}
 use Rattle.dtype_types.specs.parts.Lookups.{first_named}
 use Rattle.dtype_types.specs.tree.Kinds.{any_size_list_element}
 use Rattle.dtype_types.specs.tree.Tree.{Tree, Fields, no_fields, field, pairs, list, fixed_size_list, struct}
+use Rattle.dtype_types.specs.tree.TreeOf.{children, fields_of}
 use Rattle.dtype_types.specs.tree.Valid.{Valid, ValidFields}
+use Rattle.dtype_types.specs.declared.struct_fields.StructFields.{StructFields}
+use Rattle.dtype_types.specs.lemmas.PartsEquality.{pairs_of}
 use Rattle.dtype_paths.specs.Along.{along}
 use Rattle.dtype_paths.specs.At.{At, ExistsIn, step}
 use Rattle.dtype_paths.specs.Beginning.{Beginning}
@@ -82,6 +85,10 @@ one_name fs n m = go (first_named (pairs fs) m)
 
 pub column_along : (t : Tree) (fs : Fields) (n : Nullability) (m : List ℕ) → t ≡ struct fs n → along t (Name m ∷ []) ≡ first_named (pairs fs) m
 column_along t fs n m e = ap (λ x. along x (Name m ∷ [])) e ∙ one_name fs n m
+
+-- the fields of a struct, by its tree
+pub fields_shown : (s : StructFields) → pairs (fields_of s) ≡ children s
+fields_shown s = pairs_of (children s)
 
 -- ---- what `resolve` gives
 
@@ -168,4 +175,4 @@ first_begins (Prefix (h ∷ p)) f q e a = let same = same_Some f h e in (p ++ a.
 first_begins (Exact []) f q e a = cc
 first_begins (Exact (h ∷ p)) f q e a = let same = same_Some f h e in (p, a ∙ (λ i. sym same i ∷ p))
 
-pub ruleset stepping = (given_at, given_exists, given_valid, none_at, none_exists, column_along, at_append, at_element, beginning_exists_in, front_exists_in, root_begins, root_leads, root_exists_in, tested_fields, tested_paths, one_type_at, along_after, none_after, none_further, first_asked, other_unasked, none_unasked, one_part, one_begins, tested_beginning, beginning_tested, root_alone, first_begins)
+pub ruleset stepping = (given_at, given_exists, fields_shown, given_valid, none_at, none_exists, column_along, at_append, at_element, beginning_exists_in, front_exists_in, root_begins, root_leads, root_exists_in, tested_fields, tested_paths, one_type_at, along_after, none_after, none_further, first_asked, other_unasked, none_unasked, one_part, one_begins, tested_beginning, beginning_tested, root_alone, first_begins)

@@ -22,6 +22,7 @@ use Rattle.dtype_types.specs.values.Value.{IncludedIn}
 use Rattle.dtype_types.specs.declared.dtype.DType.{DType}
 use Rattle.dtype_types.specs.lemmas.SubLaws.{sub_reflexive, sub_transitive, sub_antisymmetric}
 use Rattle.dtype_types.specs.lemmas.SubValues.{sub_values}
+use Rattle.dtype_projection.specs.lemmas.Above.{above_exists, below_exists, nullable_along}
 use Rattle.dtype_projection.specs.Merged.{either_null, either_null_fields, either_null_variants, is_alike, merged, IsLeastAbove}
 
 -- ---- nothing but nullabilities is changed
@@ -339,4 +340,4 @@ pub given_values : (a b : Tree) (r : Option DType) → option_map tree r ≡ mer
 given_values a b None is = tt
 given_values a b (Some d) is = (values_first a b (tree d) (sym is), values_second a b (tree d) (sym is))
 
-pub ruleset merging = (merged_where, merged_least, merged_valid, merged_commutes, merged_associates, merged_same, merged_below, values_first, values_second, given_where, given_least, given_valid, given_values)
+pub ruleset merging = (merged_where, merged_least, merged_valid, merged_commutes, merged_associates, merged_same, merged_below, values_first, values_second, given_where, given_least, given_valid, given_values, above_exists, below_exists, nullable_along)

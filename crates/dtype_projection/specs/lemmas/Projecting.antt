@@ -2,13 +2,17 @@
 -- SPDX-FileCopyrightText: Copyright the Vortex contributors
 
 -- What callers ask of projections: of one projected again, of what the least paths keep, and of its nullability.
-use Rattle.std.proofs.Common.{◌≡◌, List, [], IsTrue, Option, Some, None, refl, sym, ap, ◌∙◌}
+use Rattle.std.proofs.Common.{◌≡◌, List, [], IsSome, IsTrue, Option, Some, None, true, refl, sym, ap, ◌∙◌}
 use Rattle.std.specs.FinSet as set
 use Rattle.std.specs.Option.{option_map}
 use Rattle.std.proofs.lemmas.Option.{same_Some}
 use Rattle.dtype_base.specs.declared.nullability.Nullability.{Nullability}
 use Rattle.dtype_types.specs.nullability.Nullable.{nullability}
 use Rattle.dtype_types.specs.tree.Tree.{Tree, list, fixed_size_list, struct}
+use Rattle.dtype_types.specs.tree.TreeOf.{tree}
+use Rattle.dtype_types.specs.declared.dtype.DType.{DType}
+use Rattle.dtype_paths.specs.Along.{along}
+use Rattle.dtype_paths.specs.At.{At, ExistsIn}
 use Rattle.dtype_paths.specs.Covering.{covers}
 use Rattle.dtype_paths.specs.PathOrder.{PathSet}
 use Rattle.dtype_paths.specs.declared.field.Field.{Field}
@@ -16,10 +20,11 @@ use Rattle.dtype_paths.specs.declared.field.Field.TheVariants.{ElementType}
 use Rattle.dtype_paths.specs.lemmas.Cases.{by_bool, by_option}
 use Rattle.dtype_paths.specs.lemmas.SetCovers.{covers_word}
 use Rattle.dtype_paths.specs.lemmas.Stepping.{beginning_exists}
+use Rattle.dtype_paths.specs.lemmas.Walks.{along-At, At-along}
 use Rattle.dtype_projection.specs.Projected.{PathPredicate, after_step, projected, projected_fields}
 use Rattle.dtype_projection.specs.lemmas.Composition.{projection_of_projection, projected_once}
 use Rattle.dtype_projection.specs.lemmas.Coverage.{same_for_least}
-use Rattle.dtype_projection.specs.lemmas.Projections.{kept_list, kept_fixed, kept_struct, whole_kept, with_is, kept_has_path, path_is_kept}
+use Rattle.dtype_projection.specs.lemmas.Projections.{kept_root, kept_list, kept_fixed, kept_struct, whole_kept, with_is, kept_has_path, path_is_kept}
 
 -- to the same set again
 pub projected_same : (t u : Tree) (s : PathSet) → Some u ≡ projected t (set.contains s) → projected u (set.contains s) ≡ projected t (set.contains s)
@@ -60,4 +65,24 @@ kept_nullability t u w e = by_bool (w [])
 pub projected_nullability : (t u : Tree) (w : PathPredicate) → Some u ≡ projected t w → nullability u ≡ nullability t
 projected_nullability t u w e = kept_nullability t u w (sym e)
 
-pub ruleset projecting = (projected_same, projected_further, nothing_further, same_for_least, projected_nullability)
+-- where two types have the same along a path
+pub at_alike : (t u x : Tree) (p : List Field) → along u p ≡ along t p → At t p x → At u p x
+at_alike t u x p same a = along-At u p x (same ∙ At-along t p x a)
+
+pub exists_alike : (t u : Tree) (p : List Field) → along u p ≡ along t p → ExistsIn t p → ExistsIn u p
+exists_alike t u p same e = record { found = e.found; at = at_alike t u e.found p same e.at }
+
+-- what is covered and is in the type is opened
+pub covered_opened : (r : Option DType) (t : Tree) (s : PathSet) (q : List Field) → option_map tree r ≡ projected t (set.contains s) → covers s q ≡ true → ExistsIn t q → IsSome r
+covered_opened None t s q is c x =
+    let b = (covers_word s q).0 c in
+    let a = beginning_exists t x.found b.0 q b.2 x.at in
+    let k = path_is_kept b.0 t a.0 (set.contains s) b.1 a.1 in
+    let e = is ∙ k.1 in cc
+covered_opened (Some d) t s q is c x = refl
+
+-- for the root the whole type is opened
+pub root_opened : (r : Option DType) (t : Tree) (s : PathSet) → option_map tree r ≡ projected t (set.contains s) → set.contains s [] ≡ true → option_map tree r ≡ Some t
+root_opened r t s is root = is ∙ kept_root t (set.contains s) root
+
+pub ruleset projecting = (at_alike, exists_alike, covered_opened, root_opened, projected_same, projected_further, nothing_further, same_for_least, projected_nullability)

@@ -5,13 +5,19 @@
 -- equal, and so does that of two names, or lists of them. The clause of each says so. Where a type that holds one of these
 -- derives `==`, and of a struct's or a union's names, a caller has it by
 --     #![tactic(auto, using(dtype_types::specs::lemmas::Equality::equality))]
-use Rattle.std.specs.Prelude.{◌≡◌, ℕ, Bool, List, [], ◌∷◌, nat_eq, refl}
+use Rattle.std.specs.Prelude.{◌≡◌, ℕ, Bool, List, [], ◌∷◌, map, nat_eq, refl}
 use Rattle.std.specs.Bool.{Decides}
 use Rattle.std.specs.Cmp.Lexicographic.{pointwise}
+use Rattle.std.specs.HashMap.{HashMap, get}
+use Rattle.std.specs.Map.{lookup}
+use Rattle.std.proofs.lemmas.Bool.{false≢true}
+use Rattle.std.proofs.lemmas.Bool.Decides.{Decides-and}
 use Rattle.std.proofs.lemmas.Slice.Eq.{bytes_eq-Decides, slice_eq-Decides}
-use Rattle.std.proofs.Common.{sym, ap, ◌∙◌}
-use Rattle.dtype_types.specs.lemmas.EqualityLaws.{equal_under-Decides, variants_equal_under-Decides}
+use Rattle.std.proofs.Common.{sym, ap, subst, ◌∙◌}
+use Rattle.dtype_types.specs.lemmas.EqualityLaws.{equal_under-Decides, restated, variants_equal_under-Decides}
 use Rattle.dtype_types.specs.parts.FieldTypes.{field_tree}
+use Rattle.dtype_types.specs.declared.dtype.equality.NullabilityRule.TheVariants.{Compared}
+use Rattle.dtype_types.specs.equality.Equality.{equal_under}
 use Rattle.dtype_types.specs.equality.EqualityOf.{same_field_dtype}
 use Rattle.dtype_types.specs.lemmas.PartsEquality.{maps_equal_under-Decides, same_fields-Decides}
 use Rattle.dtype_types.specs.equality.EqualityOf.{same_dtype, same_extension, same_map, same_struct, same_union}
@@ -54,6 +60,19 @@ name_Decides a b = bytes_eq-Decides a b
 pub types_Decide : (a b : DType) → Decides (same_dtype a b) (tree a ≡ tree b)
 types_Decide a b = equal_under-Decides (tree a) (tree b)
 
+-- two slices of types, by any test that is theirs
+pub type_lists_Decide : (f : DType → DType → Bool) (a b : List DType) → ((x y : DType) → f x y ≡ same_dtype x y) → Decides (pointwise f a b) (map tree a ≡ map tree b)
+type_lists_Decide f [] [] h = (λ e. refl, λ e. refl)
+type_lists_Decide f [] (y ∷ b) h = (λ e. absurd (false≢true e), λ e. cc)
+type_lists_Decide f (x ∷ a) [] h = (λ e. absurd (false≢true e), λ e. cc)
+type_lists_Decide f (x ∷ a) (y ∷ b) h =
+    let heads : Decides (f x y) (tree x ≡ tree y) = subst (λ t. Decides t (tree x ≡ tree y)) (sym (h x y)) (equal_under-Decides (tree x) (tree y)) in
+    restated (λ p. λ i. p.0 i ∷ p.1 i) (λ e. (cc, cc)) (Decides-and (f x y) (pointwise f a b) heads (type_lists_Decide f a b h))
+
+-- equal types find the same in a map whose keys are types
+pub equal_keys : {V S : Type 0} (m : HashMap DType V S) (a b : DType) → tree a ≡ tree b → get same_dtype m a ≡ get same_dtype m b
+equal_keys m a b e = ap (λ (t : Tree). lookup (λ (x : DType). equal_under Compared t (tree x)) m.entries) e
+
 -- structs that are equal but for nullabilities have the same names
 erased_names : (ps qs : List (List ℕ × Tree)) → erase_fields (fields ps) ≡ erase_fields (fields qs) → field_names ps ≡ field_names qs
 erased_names [] [] e = refl
@@ -66,4 +85,4 @@ erased_names _ _ e = cc
 pub erased_fields : (s t : StructFields) → erase (struct_tree s) ≡ erase (struct_tree t) → field_names (children s) ≡ field_names (children t)
 erased_fields s t e = erased_names (children s) (children t) cc
 
-pub ruleset equality = (name_Decides, names_Decide, types_Decide, structs_Decides, unions_Decides, maps_Decides, extensions_Decides, field_types_Decides, erased_fields, erased_fed)
+pub ruleset equality = (name_Decides, names_Decide, types_Decide, type_lists_Decide, equal_keys, structs_Decides, unions_Decides, maps_Decides, extensions_Decides, field_types_Decides, erased_fields, erased_fed)

@@ -20,6 +20,13 @@ names_of_pairs shown ns ds e = firsts-zip ns (map shown ds) (omega (arith, lengt
 pub types_of_pairs : {N D T : Type 0} (shown : D → T) (ns : List N) (ds : List D) → length ns ≡ length ds → values_of (zip ns (map shown ds)) ≡ map shown ds
 types_of_pairs shown ns ds e = seconds-zip ns (map shown ds) (omega (arith, length-map ds shown))
 
+-- of names that are shown by references, as texts are
+pub names_of_mapped : {M N D T : Type 0} (f : M → N) (shown : D → T) (ms : List M) (ds : List D) → length ms ≡ length ds → keys_of (zip (map f ms) (map shown ds)) ≡ map f ms
+names_of_mapped f shown ms ds e = names_of_pairs shown (map f ms) ds (omega (arith, e, length-map ms f))
+
+pub types_of_mapped : {M N D T : Type 0} (f : M → N) (shown : D → T) (ms : List M) (ds : List D) → length ms ≡ length ds → values_of (zip (map f ms) (map shown ds)) ≡ map shown ds
+types_of_mapped f shown ms ds e = types_of_pairs shown (map f ms) ds (omega (arith, e, length-map ms f))
+
 -- ---- variants
 
 -- the types and tags that are beside the names
@@ -39,4 +46,4 @@ tags_of_triples {T = T} {G = G} shown ns ds gs e f =
     sym (map-map (λ (q : T × G). q.1) (λ p. p.1) _) ∙ ap (map (λ (q : T × G). q.1)) (seconds-zip ns (zip (map shown ds) gs) (beside_names shown ns ds gs e f))
     ∙ seconds-zip (map shown ds) gs (omega (arith, length-map ds shown))
 
-pub ruleset made_of = (names_of_pairs, types_of_pairs, names_of_triples, types_of_triples, tags_of_triples)
+pub ruleset made_of = (names_of_pairs, types_of_pairs, names_of_mapped, types_of_mapped, names_of_triples, types_of_triples, tags_of_triples)

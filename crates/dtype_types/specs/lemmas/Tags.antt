@@ -2,7 +2,7 @@
 -- SPDX-FileCopyrightText: Copyright the Vortex contributors
 
 -- The tags of a valid union: each is at one position.
-use Rattle.std.proofs.Common.{◌≡◌, ℕ, zero, suc, ◌<◌, ◌≤◌, ◌==◌, Bool, true, inl, inr, List, [], ◌∷◌, length, get_or, slice_get, Option, Some, None, IfSome, IsSome, ◌↔◌, Contains, cond, refl, ap, sym, ◌∙◌, arith}
+use Rattle.std.proofs.Common.{◌≡◌, ℕ, zero, suc, ◌<◌, ◌≤◌, ◌+◌, ◌==◌, Bool, true, inl, inr, List, [], ◌∷◌, length, get_or, slice_get, Option, Some, None, IfSome, IsSome, ◌↔◌, Contains, cond, refl, ap, sym, ◌∙◌, arith}
 use Rattle.std.specs.List.{position, position_or_len, range_with_len}
 use Rattle.std.specs.Option.{is_some}
 use Rattle.std.proofs.lemmas.List.{get_or_default, length-map}
@@ -76,7 +76,20 @@ consecutive_tag_at gs i tag c e =
     let within = slice_get_within gs i tag e in
     sym (get_or_from_slice_get gs i tag 0 e) ∙ ap (λ xs. get_or xs i 0) c ∙ get_or-range_with_len 0 (length gs) i 0 within ∙ omega arith
 
+-- and those below their number are there, and no others
+pub consecutive_below : (vs : List (List ℕ × (Tree × ℕ))) (g : ℕ) → AreConsecutive (variant_tags vs) → Contains (variant_tags vs) g → g < length vs
+consecutive_below vs g c h =
+    let gs = variant_tags vs in
+    let is : g ≡ 0 + h.0 = sym h.2 ∙ ap (λ xs. get_or xs h.0 g) c ∙ get_or-range_with_len 0 (length gs) h.0 g h.1 in
+    omega (arith, is, h.1, length-map vs (λ v. v.1.1))
+
+pub consecutive_among : (vs : List (List ℕ × (Tree × ℕ))) (g : ℕ) → AreConsecutive (variant_tags vs) → g < length vs → Contains (variant_tags vs) g
+consecutive_among vs g c h =
+    let gs = variant_tags vs in
+    let within : g < length gs = omega (arith, h, length-map vs (λ v. v.1.1)) in
+    (g, within, ap (λ xs. get_or xs g g) c ∙ get_or-range_with_len 0 (length gs) g g within ∙ omega arith)
+
 pub no_tag_past : (vs : List (List ℕ × (Tree × ℕ))) (i : ℕ) → length vs ≤ i → slice_get (variant_tags vs) i ≡ None
 no_tag_past vs i h = slice_get_past (variant_tags vs) i (omega (arith, h, length-map vs (λ v. v.1.1)))
 
-pub ruleset tags = (position_of_tag, position_within, consecutive_tags, consecutive_tag_at, no_tag_past)
+pub ruleset tags = (position_of_tag, position_within, consecutive_tags, consecutive_tag_at, consecutive_below, consecutive_among, no_tag_past)

@@ -2,7 +2,7 @@
 -- SPDX-FileCopyrightText: Copyright the Vortex contributors
 
 -- Laws of sessions: what is registered after a list of calls, what is kept, and what is admitted.
-use Rattle.std.specs.Prelude.{◌≡◌, ◌≢◌, ◌↔◌, ℕ, List, [], ◌∷◌, ◌++◌, Option, Some, None, Bool, true, false, if◌then◌else◌, bytes_eq, refl}
+use Rattle.std.specs.Prelude.{◌≡◌, ◌≢◌, ◌↔◌, ℕ, List, [], ◌∷◌, ◌++◌, Option, Some, None, Bool, true, false, if◌then◌else◌, bytes_eq, cond, refl}
 use Rattle.std.specs.List.{list_any}
 use Rattle.std.proofs.Common.{sym, ap, ◌∙◌, subst, arith}
 use Rattle.std.proofs.lemmas.Bool.{false_from_ne_true}
@@ -13,7 +13,12 @@ use Rattle.dtype_base.specs.declared.nullability.Nullability.TheVariants.{NonNul
 use Rattle.dtype_base.specs.declared.vortex_error.VortexError.{VortexError}
 use Rattle.dtype_types.specs.tree.Kinds.{struct_fields}
 use Rattle.dtype_types.specs.tree.Tree.{Tree, Fields, fields, pairs, no_fields, field, Variants, no_variants, choice, null, list, fixed_size_list, map_of, struct, union, extension}
+use Rattle.dtype_types.specs.tree.TreeOf.{tree, extension_tree, extension_metadata}
 use Rattle.dtype_types.specs.tree.Valid.{Valid}
+use Rattle.dtype_types.specs.lemmas.TreeLaws.{tree_extension}
+use Rattle.dtype_types.specs.parts.Lookups.{first_named}
+use Rattle.dtype_types.specs.declared.dtype.DType.TheVariants.{Extension}
+use Rattle.dtype_types.specs.declared.extension.ExtDTypeRef.{ExtDTypeRef}
 use Rattle.dtype_types.specs.nullability.Nullable.{set_null}
 use Rattle.vortex_dtype.specs.Meaning.{Rewrites, Meaning, Lawful, LawfulSession, Bytes, kept, keeps, empty_meaning, register_in, allow_unknown_in, Admits, AdmitsFields, AdmitsVariants}
 use Rattle.vortex_dtype.specs.Errors.{SessionError}
@@ -132,6 +137,19 @@ pub admits_fields-behind : (m : Meaning) (ps : List (List ℕ × Tree)) (name : 
 admits_fields-behind m [] name u a b = (b, tt)
 admits_fields-behind m (p ∷ ps) name u a b = (a.0, admits_fields-behind m ps name u a.1 b)
 
+-- a field of an admitted struct
+pub admits_field : (m : Meaning) (ps : List (List ℕ × Tree)) (name : List ℕ) (t : Tree) → AdmitsFields m (fields ps) → first_named ps name ≡ Some t → Admits m t
+admits_field m [] name t h e = cc
+admits_field m (p ∷ ps) name t h e = go (bytes_eq p.0 name) e (admits_field m ps name t h.1)
+  where
+    go : (c : Bool) → cond c (Some p.1) (first_named ps name) ≡ Some t → (first_named ps name ≡ Some t → Admits m t) → Admits m t
+    go true e' more = subst (Admits m) (same_Some p.1 t e') h.0
+    go false e' more = more e'
+
+-- an extension that a lawful session read over an admitted storage
+pub admits_extension : (m : Meaning) (e : ExtDTypeRef) (id b : List ℕ) (s : Tree) → LawfulSession m → Bytes b → Valid s → extension_tree e ≡ extension id (extension_metadata e) s → keeps m id b s ≡ Some (extension_metadata e) → Admits m s → Admits m (tree (Extension e))
+admits_extension m e id b s lawful bs v made same a = subst (Admits m) (sym (tree_extension e ∙ made)) ((keeps_again m lawful id b (extension_metadata e) s bs v same).1, a)
+
 -- ---- what calls change, and what they leave alone
 
 pub registered_register_in : (m n : Meaning) (i : List ℕ) (r : Rewrites) → n ≡ register_in i r m → n.registered i ≡ Some r
@@ -176,7 +194,7 @@ unfolding allow_unknown_in empty_meaning
 unrefused m id b s e is h = grind arith
 
 -- What calls of a session change and leave alone, what it keeps and what it admits: for callers' proofs.
-pub ruleset sessions = (registered_register_in, others_register_in, registered_before, unknown_register_in, flag_register_in, registered_allow_unknown_in, unknown_allow_unknown_in, flag_allow_unknown_in, registered_empty_meaning, unknown_empty_meaning, admits_allow_unknown_in, kept_allow_unknown_in, admits_one_more, admits_more, admits_fields-behind, keeps_again, keeps_outer, unrefused)
+pub ruleset sessions = (registered_register_in, others_register_in, registered_before, unknown_register_in, flag_register_in, registered_allow_unknown_in, unknown_allow_unknown_in, flag_allow_unknown_in, registered_empty_meaning, unknown_empty_meaning, admits_allow_unknown_in, kept_allow_unknown_in, admits_one_more, admits_more, admits_fields-behind, admits_field, admits_extension, keeps_again, keeps_outer, unrefused)
 
 -- What is registered and allowed after any calls, and what is admitted whatever the outer nullability: for the laws.
 pub ruleset session_laws = (register_in-same, register_in-other, after-last, after-left_alone, after-unknown, admits-set_null)

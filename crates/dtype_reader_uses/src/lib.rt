@@ -7,7 +7,8 @@
 //! recursions of `masks` and `merging`, and answers for a loop of `path_sets` and a clause of `path_messages`; the tactics
 //! find all else.
 //!
-//! - Which columns a query opens: `paths`, `path_sets`, `projections`, `merging` (several files read as one).
+//! - Which columns a query opens: `paths`, `path_sets`, `path_lists`, `projections`, `opened`, `merging` (several files
+//!   read as one).
 //! - What is read further down: `masks`, `layout`, `rows` (what is found).
 //! - What is stored: `messages`, `path_messages`, `stored` (schemas written and read back).
 //! - Extensions: `sessions`, `plugins`, `dates`.
@@ -18,6 +19,8 @@ pub mod layout;
 pub mod masks;
 pub mod merging;
 pub mod messages;
+pub mod opened;
+pub mod path_lists;
 pub mod path_messages;
 pub mod path_sets;
 pub mod paths;

@@ -12,6 +12,9 @@ ghost use Rattle.dtype_types.specs.tree.TreeOf.{tree};
 ghost use Rattle.dtype_types.specs.tree.Valid.{Valid};
 ghost use Rattle.dtype_types.specs.values.Value.{IncludedIn};
 ghost use Rattle.vortex_dtype.specs.Along.{along};
+ghost use Rattle.vortex_dtype.specs.At.{At, ExistsIn};
+ghost use Rattle.vortex_dtype.specs.Nullable.{IsNullable};
+ghost use Rattle.vortex_dtype.specs.Tree.{Tree};
 
 use std::alloc::Global;
 use vortex_dtype::{DType, FieldPath, VortexResult, merge_nullability};
@@ -87,5 +90,43 @@ pub fn is_column_changed(schema: &DType, file: &DType, column: &FieldPath) -> bo
         (Some(dtype), Some(own)) => *dtype != *own,
         (None, None) => false,
         (Some(_), None) | (None, Some(_)) => true,
+    }
+}
+
+/// Whether the type of two files has a column, where there is such a type: exactly where the first file has it.
+#[tactic(auto, using(vortex_dtype::specs::rulesets::merging, vortex_dtype::specs::rulesets::stepping))]
+pub fn has_column_as_one(
+    alloc: Global,
+    file: &DType,
+    other: &DType,
+    column: &FieldPath,
+) -> VortexResult<Option<bool>>
+    ensures kept { ExistsIn (tree file.now) column.now → IfOk result (λ r. IfSome r (λ b. IsTrue b)) }
+    ensures no_more { IfOk result (λ r. IfSome r (λ b. IsTrue b → ExistsIn (tree file.now) column.now)) }
+{
+    match merge_nullability(alloc, file, other)? {
+        Some(both) => Ok(Some(column.exists_in(&both))),
+        None => Ok(None),
+    }
+}
+
+/// Whether a filter on a column of two files has to think of null, or `None` where there is no such column: it has to
+/// where the column of the first file may be null.
+#[tactic(auto, using(vortex_dtype::specs::rulesets::merging, vortex_dtype::specs::rulesets::stepping))]
+pub fn may_column_be_null(
+    alloc: Global,
+    file: &DType,
+    other: &DType,
+    column: &FieldPath,
+) -> VortexResult<Option<bool>>
+    ensures { (t : Tree) → At (tree file.now) column.now t → IsNullable t
+        → IfOk result (λ r. IfSome r (λ b. IsTrue b)) }
+{
+    let Some(both) = merge_nullability(alloc, file, other)? else {
+        return Ok(None);
+    };
+    match column.resolve(&both) {
+        Some(dtype) => Ok(Some(dtype.is_nullable())),
+        None => Ok(None),
     }
 }

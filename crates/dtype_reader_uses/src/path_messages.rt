@@ -158,9 +158,9 @@ pub fn leads_to_same(alloc: Global, a: &pb::FieldPath, b: &pb::FieldPath) -> Vor
     Ok(FieldPath::from_proto(alloc, a)? == FieldPath::from_proto(alloc, b)?)
 }
 
-/// Whether a stored path leads to the whole table: then it has no names.
+/// Whether a stored path leads to the whole table: exactly where it has no names.
 pub fn leads_to_table(alloc: Global, path: &pb::FieldPath) -> VortexResult<bool>
-    ensures { IfOk result (λ whole. IsTrue whole → part_names path.now ≡ []) }
+    ensures { IfOk result (λ whole. IsTrue whole ↔ (part_names path.now ≡ [])) }
 {
     let path = FieldPath::from_proto(alloc, path)?;
     Ok(path.is_root())

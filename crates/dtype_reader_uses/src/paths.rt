@@ -4,21 +4,21 @@
 //! Paths, resolved.
 #![tactic(auto, using(vortex_dtype::specs::rulesets::stepping))]
 
-ghost use Rattle.std.specs.Prelude.{◌≡◌, ◌↔◌, ◌++◌, ◌∷◌, [], IfOk, IfSome, IsTrue, List, Some, codes, ℕ};
+ghost use Rattle.std.specs.Prelude.{◌≡◌, ◌↔◌, ◌++◌, ◌∷◌, [], IfNone, IfOk, IfSome, IsTrue, List, Some, codes, ℕ};
 ghost use Rattle.std.specs.Option.{option_map};
 ghost use Rattle.vortex_dtype.specs.Along.{along};
 ghost use Rattle.vortex_dtype.specs.At.{At, ExistsIn};
 ghost use Rattle.vortex_dtype.specs.Beginning.{Beginning};
 ghost use Rattle.vortex_dtype.specs.Kinds.{any_size_list_element};
 ghost use Rattle.vortex_dtype.specs.Lookups.{first_named};
-ghost use Rattle.vortex_dtype.specs.Nullable.{nullability};
+ghost use Rattle.vortex_dtype.specs.Nullable.{IsNullable, nullability};
 ghost use Rattle.vortex_dtype.specs.Tree.{Fields, Tree, pairs, struct};
-ghost use Rattle.vortex_dtype.specs.TreeOf.{shown, tree};
+ghost use Rattle.vortex_dtype.specs.TreeOf.{shown, struct_tree, tree};
 ghost use Rattle.vortex_dtype.specs.Types.Field.{Field};
 ghost use Rattle.vortex_dtype.specs.Types.Nullability.{Nullability};
 
 use std::alloc::Global;
-use vortex_dtype::{DType, Field, FieldPath, Nullability, VortexResult, field_path};
+use vortex_dtype::{DType, Field, FieldPath, Nullability, StructFields, VortexResult, field_path};
 
 /// The path to the amount of an order.
 pub fn path_of_amount(alloc: Global) -> VortexResult<FieldPath>
@@ -201,4 +201,39 @@ pub fn has_same_type_at(path: &FieldPath, left: &DType, right: &DType) -> bool
     ensures { IsTrue result ↔ (along (tree left.now) path.now ≡ along (tree right.now) path.now) }
 {
     path.resolve(left) == path.resolve(right)
+}
+
+/// The path of the elements of a list column, or `None` where the column isn't a list.
+pub fn path_of_elements(
+    alloc: Global,
+    table: &StructFields,
+    column: &str,
+) -> VortexResult<Option<FieldPath>>
+    ensures { IfOk result (λ r. IfSome r (λ p. ExistsIn (struct_tree table.now) p
+        × (p ≡ Field.Name column.now ∷ Field.ElementType ∷ []))) }
+{
+    let Some(dtype) = table.field(column) else {
+        return Ok(None);
+    };
+    if dtype.as_any_size_list_element_opt().is_none() {
+        return Ok(None);
+    }
+    Ok(Some(field_path!(alloc, column)?.push(Field::ElementType)?))
+}
+
+/// The path to test for null, or `None` where no test is needed: the column isn't there, or is never null.
+pub fn path_to_test_for_null(
+    alloc: Global,
+    table: &StructFields,
+    column: &str,
+) -> VortexResult<Option<FieldPath>>
+    ensures found { IfOk result (λ r. IfSome r (λ p. (t : Tree)
+        → At (struct_tree table.now) p t → IsNullable t)) }
+    ensures none { IfOk result (λ r. IfNone r ((t : Tree)
+        → At (struct_tree table.now) (Field.Name column.now ∷ []) t → ¬ (IsNullable t))) }
+{
+    match table.field(column) {
+        Some(dtype) if dtype.is_nullable() => Ok(Some(field_path!(alloc, column)?)),
+        _ => Ok(None),
+    }
 }

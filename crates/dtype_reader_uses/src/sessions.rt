@@ -5,7 +5,7 @@
 #![tactic(auto, using(vortex_dtype::specs::rulesets::sessions, vortex_dtype::specs::rulesets::messages))]
 
 ghost use Rattle.std.specs.Prelude.{◌≡◌, ◌≢◌, ◌↔◌, ◌⊎◌, IfErr, IfOk, IsErr, IsOkUnless, IsSome, IsTrue, OnOk, Some, false, true};
-ghost use Rattle.vortex_dtype.specs.Meaning.{keeps};
+ghost use Rattle.vortex_dtype.specs.Meaning.{Admits, keeps};
 ghost use Rattle.vortex_dtype.specs.Session.{meaning};
 ghost use Rattle.vortex_dtype.specs.TreeOf.{extension_metadata, tree};
 ghost use Rattle.vortex_dtype.specs.Types.MessageFault.TheVariants.{ExtensionUnregistered};
@@ -174,4 +174,23 @@ pub fn keep_over_nullable(
     slices_hold_bytes(metadata);
     let nullable = storage.as_nullable(alloc)?;
     session.deserialize(id, metadata, nullable)
+}
+
+/// A column of an extension type, as a session reads it: the session admits it, where it admits the storage.
+#[tactic(auto, using(vortex_dtype::specs::rulesets::sessions, vortex_dtype::specs::rulesets::messages, vortex_dtype::specs::rulesets::validity))]
+pub fn extension_column(
+    session: &DTypeSession,
+    id: &str,
+    metadata: &[u8],
+    storage: DType,
+) -> VortexResult<DType>
+    ensures valid { Valid (tree storage) → IfOk result (λ d. Valid (tree d)) }
+    ensures admitted { Valid (tree storage)
+        → Admits (meaning (λ b. rewrites (b.vtable, b.value)) session.now) (tree storage)
+        → IfOk result (λ d. Admits (meaning (λ b. rewrites (b.vtable, b.value)) session.now) (tree d)) }
+{
+    session_laws(session);
+    slices_hold_bytes(metadata);
+    let extension = session.deserialize(id, metadata, storage)?;
+    Ok(DType::Extension(extension))
 }

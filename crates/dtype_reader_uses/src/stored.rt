@@ -5,6 +5,8 @@
 #![tactic(auto, using(vortex_dtype::specs::rulesets::messages, vortex_dtype::specs::rulesets::sessions, vortex_dtype::specs::rulesets::equality))]
 
 ghost use Rattle.std.specs.Prelude.{◌≡◌, ◌++◌, [], ◌∷◌, IfOk, IsOkUnless, IsTrue, Some, map};
+ghost use Rattle.std.specs.Option.{option_map};
+ghost use Rattle.vortex_dtype.specs.Lookups.{first_named};
 ghost use Rattle.vortex_dtype.specs.Types.Nullability.TheVariants.{NonNullable, Nullable};
 ghost use Rattle.vortex_dtype.specs.Types.VortexError.TheVariants.{OutOfMemory};
 ghost use Rattle.vortex_dtype.specs.Valid.{Valid};
@@ -98,4 +100,25 @@ pub fn path_of_copy(alloc: Global, proto: &pb::FieldPath) -> VortexResult<FieldP
 {
     let copy = proto.try_clone(alloc)?;
     FieldPath::from_proto(alloc, &copy)
+}
+
+/// The type of a column as a receiver reads it, or `None` where there is no such column: the column's type, where the
+/// session admits the columns.
+#[tactic(auto, using(vortex_dtype::specs::rulesets::sessions, vortex_dtype::specs::rulesets::messages, vortex_dtype::specs::rulesets::validity))]
+pub fn column_sent(
+    alloc: Global,
+    session: &DTypeSession,
+    columns: &StructFields,
+    name: &str,
+) -> VortexResult<Option<DType>>
+    ensures { Valid (struct_tree columns.now)
+        → AdmitsFields (meaning (λ b. rewrites (b.vtable, b.value)) session.now) (fields_of columns.now)
+        → IfOk result (λ r. option_map tree r ≡ first_named (children columns.now) name.now) }
+{
+    let Some(dtype) = columns.field(name) else {
+        return Ok(None);
+    };
+    let sent = dtype.to_proto(alloc)?;
+    let received = DType::from_proto(alloc, &sent, session)?;
+    Ok(Some(received))
 }

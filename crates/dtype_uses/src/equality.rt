@@ -4,7 +4,7 @@
 //! Comparing types, and what structs, unions, maps and extensions hold.
 #![tactic(auto)]
 
-ghost use Rattle.std.specs.Prelude.{◌≡◌, ◌≢◌, ◌↔◌, IfOk, IsTrue, fold};
+ghost use Rattle.std.specs.Prelude.{◌≡◌, ◌≢◌, ◌↔◌, IfOk, IsTrue, fold, map};
 ghost use Rattle.dtype_types.specs.equality.Hashes.{hash_writes_ignoring_nullability};
 ghost use Rattle.dtype_types.specs.parts.FieldTypes.{field_tree};
 ghost use Rattle.dtype_types.specs.parts.Lookups.{field_names, first_named};
@@ -12,6 +12,7 @@ ghost use Rattle.dtype_types.specs.tree.Erase.{erase};
 ghost use Rattle.dtype_types.specs.tree.TreeOf.{children, variant_list, extension_tree, map_shown, tree};
 
 use std::alloc::Global;
+use std::collections::HashMap;
 use std::hash::Hasher;
 use vortex_dtype::{
     DType, ExtDTypeRef, FieldDType, FieldName, MapDType, StructFields, UnionVariants, VortexResult,
@@ -175,4 +176,20 @@ pub fn hash_as_cached<H: Hasher>(dtype: &DType, cached: &DType, state: &mut H)
 {
     let _cached = cached;
     dtype.hash_ignore_nullability(state);
+}
+
+/// Whether a function is called with types that it was compiled for.
+#[tactic(auto, using(vortex_dtype::specs::rulesets::equality))]
+pub fn is_same_signature(compiled: &[DType], called: &[DType]) -> bool
+    ensures { IsTrue result ↔ (map tree compiled.now ≡ map tree called.now) }
+{
+    *compiled == *called
+}
+
+/// Whether two types are remembered at one place, or neither is: equal ones always are.
+#[tactic(auto, using(vortex_dtype::specs::rulesets::equality))]
+pub fn is_same_place(places: &HashMap<DType, usize>, a: &DType, b: &DType) -> bool
+    ensures { tree a.now ≡ tree b.now → IsTrue result }
+{
+    places.get(a) == places.get(b)
 }

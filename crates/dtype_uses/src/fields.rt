@@ -4,9 +4,9 @@
 // Lookups of fields, by name and by position.
 #![tactic(auto, using(vortex_dtype::specs::rulesets::joined_fields, vortex_dtype::specs::rulesets::lookups))]
 
-ghost use Rattle.std.specs.Prelude.{◌≡◌, ◌≢◌, ◌+◌, ◌<◌, ℕ, List, None, Some, IfOk, IsSome, IsTrue, length, true};
+ghost use Rattle.std.specs.Prelude.{◌≡◌, ◌≢◌, ◌+◌, ◌<◌, ℕ, List, None, Some, IfNone, IfOk, IfSome, IsSome, IsTrue, length, map, true, vec_len};
 ghost use Rattle.std.specs.Option.{option_map};
-ghost use Rattle.dtype_types.specs.parts.Lookups.{field_names, first_named};
+ghost use Rattle.dtype_types.specs.parts.Lookups.{field_names, field_types, first_named};
 ghost use Rattle.dtype_types.specs.nullability.Nullable.{nullability};
 ghost use Rattle.dtype_types.specs.tree.TreeOf.{children, shown, tree};
 ghost use Rattle.vortex_dtype.specs.Distinct.{Distinct};
@@ -144,4 +144,41 @@ pub fn without(alloc: Global, table: &StructFields, name: &str) -> VortexResult<
         Some(index) => Ok(table.without_field(alloc, index)?),
         None => Ok(table.try_clone(alloc)?),
     }
+}
+
+/// The table with one more column, of a new name: the name leads to its type, and the others keep theirs.
+#[tactic(auto, using(vortex_dtype::specs::rulesets::joined_fields, vortex_dtype::specs::rulesets::distinct_fields))]
+pub fn with_one_more(
+    alloc: Global,
+    table: &StructFields,
+    name: &str,
+    dtype: DType,
+) -> VortexResult<StructFields>
+    ensures added { IfOk result (λ s. first_named (children s) name.now ≡ Some (tree dtype)) }
+    ensures others { IfOk result (λ s. (n : List ℕ) → n ≢ name.now
+        → first_named (children s) n ≡ first_named (children table.now) n) }
+{
+    let names = FieldNames::from_texts(alloc, &[name])?;
+    let column = StructFields::new(alloc, names, vec![in alloc; dtype]?)?;
+    let wider = table.disjoint_merge(alloc, &column)?;
+    Ok(wider)
+}
+
+/// A table of the names and the types that a file lists, or `None` where they are not as many.
+#[tactic(auto, using(vortex_dtype::specs::rulesets::made_of))]
+pub fn table_of_lists(
+    alloc: Global,
+    names: &[&str],
+    dtypes: Vec<DType>,
+) -> VortexResult<Option<StructFields>>
+    ensures names { IfOk result (λ t. IfSome t (λ s. field_names (children s) ≡ map (λ n. n.now) names.now)) }
+    ensures types { IfOk result (λ t. IfSome t (λ s. field_types (children s) ≡ map tree dtypes.items)) }
+    ensures uneven { IfOk result (λ t. IfNone t (length names.now ≢ vec_len dtypes)) }
+{
+    if names.len() != dtypes.len() {
+        return Ok(None);
+    }
+    let texts = FieldNames::from_texts(alloc, names)?;
+    let table = StructFields::new(alloc, texts, dtypes)?;
+    Ok(Some(table))
 }

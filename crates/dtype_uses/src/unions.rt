@@ -4,7 +4,7 @@
 //! Unions made of names, types and tags.
 #![tactic(auto, using(vortex_dtype::specs::rulesets::made_of, vortex_dtype::specs::rulesets::tags, vortex_dtype::specs::rulesets::lookups))]
 
-ghost use Rattle.std.specs.Prelude.{◌≡◌, ◌↔◌, Contains, IfOk, IfSome, IsSome, map, slice_get};
+ghost use Rattle.std.specs.Prelude.{◌≡◌, ◌↔◌, ◌<◌, Contains, IfOk, IfSome, IsSome, IsTrue, length, map, slice_get};
 ghost use Rattle.dtype_types.specs.parts.Lookups.{variant_named, variant_names, variant_types, variant_tags};
 ghost use Rattle.dtype_types.specs.tree.TreeOf.{variant_list, tree, shown};
 ghost use Rattle.dtype_types.specs.parts.Unions.{AreConsecutive};
@@ -64,4 +64,12 @@ pub fn checked_tag(variants: &UnionVariants, tag: u8) -> Option<u8>
         Some(index) => Some(variants.child_index_to_tag(index)),
         None => None,
     }
+}
+
+/// Whether a stored tag can be read: of a union whose tags are 0, 1, 2 and so on, where it is below their number.
+pub fn accepts_tag(variants: &UnionVariants, tag: u8) -> bool
+    ensures { AreConsecutive (variant_tags (variant_list variants.now))
+        → (IsTrue result ↔ (tag < length (variant_list variants.now))) }
+{
+    variants.tag_to_child_index(tag).is_some()
 }

@@ -1,0 +1,94 @@
+// SPDX-License-Identifier: Apache-2.0
+// SPDX-FileCopyrightText: Copyright the Vortex contributors
+
+//! A reader that is handed lists of paths: which paths their set has and covers, one by one.
+#![tactic(auto, using(vortex_dtype::specs::rulesets::members))]
+
+ghost use Rattle.std.specs.Prelude.{◌≡◌, ◌↔◌, ◌⊎◌, [], ◌∷◌, Contains, IfOk, IsTrue, List, OnOk};
+ghost use Rattle.std.specs.FinSet as set;
+ghost use Rattle.std.specs.Vec.Iter.{into_iter_items};
+ghost use Rattle.vortex_dtype.specs.Covering.{covers};
+ghost use Rattle.vortex_dtype.specs.Types.Field.{Field};
+
+use std::alloc::Global;
+use std::vec;
+use vortex_dtype::{Field, FieldPath, FieldPathSet, VortexResult};
+
+/// Whether a column is in the list that a query gives, word for word.
+pub fn is_listed(alloc: Global, columns: Vec<FieldPath>, column: &FieldPath) -> VortexResult<bool>
+    ensures { IfOk result (λ b. IsTrue b ↔ Contains columns.items column.now) }
+{
+    let asked = FieldPathSet::from_iter(alloc, columns)?;
+    Ok(asked.contains(column))
+}
+
+/// The set of a list: its members are those of the list, and each of them is covered.
+pub fn set_of_list(alloc: Global, columns: Vec<FieldPath>) -> VortexResult<FieldPathSet>
+    ensures members { IfOk result (λ s. (p : List Field)
+        → IsTrue (set.contains s p) ↔ Contains columns.items p) }
+    ensures covered { IfOk result (λ s. (p : List Field)
+        → Contains columns.items p → IsTrue (covers s p)) }
+{
+    let asked = FieldPathSet::from_iter(alloc, columns)?;
+    Ok(asked)
+}
+
+/// Asks for one more path: that one is asked for then, and what was.
+pub fn ask_for(asked: &mut FieldPathSet, path: FieldPath) -> VortexResult<()>
+    ensures { OnOk result ((p : List Field) → IsTrue (set.contains asked.new p)
+        ↔ ((p ≡ path) ⊎ IsTrue (set.contains asked.old p))) }
+{
+    asked.insert(path)?;
+    Ok(())
+}
+
+/// Asks for the columns of a query: those are asked for then, and what was.
+pub fn ask_for_columns(asked: &mut FieldPathSet, columns: Vec<FieldPath>) -> VortexResult<()>
+    ensures kept { OnOk result ((p : List Field)
+        → IsTrue (set.contains asked.old p) → IsTrue (set.contains asked.new p)) }
+    ensures added { OnOk result ((p : List Field)
+        → Contains columns.items p → IsTrue (set.contains asked.new p)) }
+{
+    asked.extend(columns)?;
+    Ok(())
+}
+
+/// Asks for what another reader asks for: a column that it covers is covered then, as is one that was.
+pub fn ask_for_other(
+    asked: &mut FieldPathSet,
+    other: FieldPathSet,
+    column: &FieldPath,
+) -> VortexResult<()>
+    requires { IsTrue (covers asked.old column.now) ⊎ IsTrue (covers other column.now) }
+    ensures { OnOk result (IsTrue (covers asked.new column.now)) }
+{
+    let _column = column;
+    asked.extend(other.into_iter()?)?;
+    Ok(())
+}
+
+/// The set of one column: nothing else is in it.
+pub fn set_of_one(alloc: Global, column: &FieldPath) -> VortexResult<FieldPathSet>
+    ensures { IfOk result (λ s. (p : List Field) → IsTrue (set.contains s p) → p ≡ column.now) }
+{
+    let mut asked = FieldPathSet::new(alloc);
+    asked.insert(column.try_clone()?)?;
+    Ok(asked)
+}
+
+/// Whether a column is below a table that is asked for: then it is covered.
+#[tactic(auto, using(vortex_dtype::specs::rulesets::members, vortex_dtype::specs::rulesets::stepping))]
+pub fn is_below_asked(asked: &FieldPathSet, column: &FieldPath, table: &FieldPath) -> bool
+    ensures { IsTrue result → IsTrue (covers asked.now column.now) }
+{
+    asked.contains(table) && column.parts().starts_with(table.parts())
+}
+
+/// The paths to open where the root is asked for: the root alone.
+#[tactic(auto, using(vortex_dtype::specs::rulesets::members, vortex_dtype::specs::rulesets::counting))]
+pub fn cover_with_root(asked: FieldPathSet) -> VortexResult<vec::IntoIter<FieldPath>>
+    ensures { IfOk result (λ r. IsTrue (set.contains asked []) → into_iter_items r ≡ [] ∷ []) }
+{
+    let cover = asked.into_iter()?;
+    Ok(cover)
+}

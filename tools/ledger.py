@@ -148,8 +148,8 @@ def fault_of_call(name, clauses, sources):
 
 
 def fault_of_law(name, clauses, sources):
-    """What of a reference to a law, or to a lemma of specs/, isn't there, or None."""
-    if lemma := re.fullmatch(r"(\w+)::(specs::.*)::([\w-]+)", name):
+    """What of a reference to a law, or to a lemma for callers, isn't there, or None."""
+    if lemma := re.fullmatch(r"(\w+)::(proofs::.*)::([\w-]+)", name):
         file = f"crates/{lemma[1]}/{lemma[2].replace('::', '/')}.antt"
         stated = rf"(?m)^(?:pub )?(?:ruleset |abbrev )?{lemma[3]}\b"
         return None if os.path.exists(file) and re.search(stated, text_of(file)) else f"there is no lemma {name}"
@@ -236,7 +236,7 @@ def check():
 
 GLOSSARY = "docs/GLOSSARY.md"
 # What the glossary needn't have: what the sources declare, lemmas, and tests that are proved exact beside them.
-UNEXPLAINED = re.compile(r"\.specs\.(?:declared|lemmas)\.|Laws$")
+UNEXPLAINED = re.compile(r"\.specs\.declared\.|Laws$")
 
 
 def check_glossary():
@@ -251,7 +251,7 @@ def check_glossary():
         files = re.findall(r"`(\w+)`", cells[2])
         root = f"crates/{crate}/specs"
         found = [file for it in files for file in (f"{root}/{it}.antt", *glob(f"{root}/*/{it}.antt"))
-                 if os.path.exists(file) and "/lemmas/" not in file]
+                 if os.path.exists(file)]
         texts = {it.removeprefix(f"{root}/").removesuffix(".antt").replace("/", "."): text_of(it) for it in found}
         for word in re.findall(r"`([\w-]+)[^`]*`", cells[0]):
             count += 1

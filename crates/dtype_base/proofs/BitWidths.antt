@@ -6,7 +6,7 @@ use Rattle.std.proofs.Common.{◌≡◌, ℕ, zero, suc, ◌+◌, ◌<◌, Bool,
 use Rattle.std.proofs.lemmas.Bool.{and_parts, eqb-true}
 use Rattle.dtype_base.specs.declared.decimal.TheConstants.{BIT_WIDTHS}
 use Rattle.dtype_base.specs.Decimals.{IsBitWidth, bit_width}
-use Rattle.dtype_base.specs.lemmas.Decimals.{bit_width_is_least}
+use Rattle.dtype_base.proofs.lemmas.Decimals.{bit_width_is_least}
 
 -- the list has what is computed of the precisions from p
 abbrev are_bit_widths : ℕ → List ℕ → Bool

@@ -8,3 +8,4 @@ pub mod NameSearch
 pub mod KeyOrder
 pub mod PermutedEntries
 pub mod Selections
+pub mod lemmas

@@ -27,9 +27,9 @@ use Rattle.std.proofs.lemmas.List.Sorted.{ranks_by, sorted_far, searchable_from_
 use Rattle.std.proofs.lemmas.Option.{slice_get_within, slice_get-get_or, get_or_from_slice_get}
 use Rattle.dtype_base.specs.Distinct.{Distinct}
 use Rattle.dtype_base.specs.FieldNames.{FirstAt, first_place}
-use Rattle.dtype_base.specs.lemmas.Lookups.{first_of_place, absent_of_place}
+use Rattle.dtype_base.proofs.lemmas.Lookups.{first_of_place, absent_of_place}
 use Rattle.dtype_base.specs.BinaryDigits.{binary_digits}
-use Rattle.dtype_base.specs.lemmas.BinaryDigits.{digits_halved}
+use Rattle.dtype_base.proofs.lemmas.BinaryDigits.{digits_halved}
 use Rattle.dtype_base.specs.Comparisons.{comparisons}
 use Rattle.dtype_base.specs.private.NameOrder.{bytes_cmp, name_cmp, position_cmp, IsOrderOf, positions, mask}
 use Rattle.dtype_base.specs.declared.name_order.IndexEntry.{IndexEntry}

@@ -7,7 +7,7 @@ use Rattle.std.proofs.lemmas.List.{map_push, map_more}
 use Rattle.std.proofs.lemmas.Option.{same_Some, slice_get_read}
 use Rattle.dtype_base.specs.FieldNames.{first_place, IsFirstAbsent}
 use Rattle.dtype_base.specs.private.NameKeys.{HaveCommonPrefix}
-use Rattle.dtype_base.specs.lemmas.Lookups.{first_of_place, selected_at}
+use Rattle.dtype_base.proofs.lemmas.Lookups.{first_of_place, selected_at}
 use Rattle.dtype_base.proofs.KeyOrder.{has_prefix}
 
 -- one name more

@@ -12,4 +12,3 @@ pub mod Escapes
 pub mod Decimals
 pub mod Comparisons
 pub mod private
-pub mod lemmas

@@ -74,7 +74,7 @@ impl IndexedNames {
     /// Returns the first position of the name, or `None` where no name is equal to it, and how many names were
     /// compared. That number depends on how many names there are alone: it is 0 among none, else one more than the
     /// binary digits of their number less one. Doesn't allocate.
-    #[tactic(auto, using(crate::specs::lemmas::Lookups::most_compared))]
+    #[tactic(auto, using(crate::proofs::lemmas::Lookups::most_compared))]
     pub fn find_counted(&self, name: &str) -> (Option<usize>, u64)
         ensures first { result.0 ≡ first_place self.now name.now }
         ensures count { result.1 ≡ comparisons (length self.now) }

@@ -2,7 +2,7 @@
 // SPDX-FileCopyrightText: Copyright the Vortex contributors
 
 //! What the derived `==` of messages says. Each function's contract is the law, and its body is empty.
-#![tactic(auto, using(crate::specs::lemmas::Equality::equality))]
+#![tactic(auto, using(crate::proofs::lemmas::Equality::equality))]
 
 ghost use Rattle.std.specs.Prelude.{◌≡◌};
 ghost use Rattle.std.specs.Bool.{Decides};

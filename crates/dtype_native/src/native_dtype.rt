@@ -138,7 +138,7 @@ impl NativeDType for &[u8] {
 impl<T: NativeDType> NativeDType for Option<T> {
     ghost native_tree = { nullable_form T.native_tree };
 
-    #[tactic(auto, using(dtype_types::specs::lemmas::Validity::validity))]
+    #[tactic(auto, using(dtype_types::proofs::lemmas::Validity::validity))]
     fn dtype(alloc: Global) -> VortexResult<DType> {
         T::dtype(alloc)?.as_nullable(alloc)
     }

@@ -14,7 +14,7 @@ use Rattle.dtype_paths.specs.Equality.{same_field}
 use Rattle.dtype_paths.specs.EqualityLaws.{same_field-Decides, same_field_equiv}
 use Rattle.dtype_paths.specs.declared.child_list.Child.{Child}
 use Rattle.dtype_paths.specs.declared.field.Field.{Field}
-use Rattle.dtype_paths.specs.lemmas.Cases.{by_bool, by_option}
+use Rattle.dtype_paths.proofs.lemmas.Cases.{by_bool, by_option}
 use Rattle.dtype_paths.proofs.DistinctLists.{IsDistinct-nil, IsDistinct-one}
 
 -- ---- what is looked up

@@ -19,8 +19,8 @@ use Rattle.dtype_paths.specs.EqualityLaws.{same_field-Decides, same_field_equiv}
 use Rattle.dtype_paths.specs.PathOrder.{field_cmp}
 use Rattle.dtype_paths.specs.private.StepKeys.{step_key}
 use Rattle.dtype_paths.specs.declared.field.Field.{Field}
-use Rattle.dtype_paths.specs.lemmas.Cases.{by_bool, by_option}
-use Rattle.dtype_paths.specs.lemmas.PathOrders.{field_ties}
+use Rattle.dtype_paths.proofs.lemmas.Cases.{by_bool, by_option}
+use Rattle.dtype_paths.specs.PathOrderLaws.{field_ties}
 use Rattle.dtype_paths.proofs.DistinctLists.{IsDistinct-nil}
 use Rattle.dtype_paths.proofs.ChildLists.{absent-lookup, distinct-append, lookup-absent, lookup-append}
 

@@ -13,7 +13,7 @@ use Rattle.dtype_paths.specs.Equality.{same_field}
 use Rattle.dtype_paths.specs.private.Trie.{child_at}
 use Rattle.dtype_paths.specs.declared.field.Field.{Field}
 use Rattle.dtype_paths.specs.declared.node.Node.{Node}
-use Rattle.dtype_paths.specs.lemmas.Cases.{by_bool}
+use Rattle.dtype_paths.proofs.lemmas.Cases.{by_bool}
 
 module _ {A B : Type 0} (f : A → Option B) where
   -- what is read at each index

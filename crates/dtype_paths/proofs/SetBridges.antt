@@ -8,12 +8,12 @@ use Rattle.std.specs.FinSet as set
 use Rattle.std.specs.List.{Contains}
 use Rattle.dtype_paths.specs.Covering.{IsCountOf, least}
 use Rattle.dtype_paths.specs.private.PathLists.{Begun, IsBegun, Least}
-use Rattle.dtype_paths.specs.lemmas.SetMembers.{from_list-Decides, items_of_list}
-use Rattle.dtype_paths.specs.lemmas.SetCovers.{least-Decides}
+use Rattle.dtype_paths.proofs.lemmas.SetMembers.{from_list-Decides, items_of_list}
+use Rattle.dtype_paths.proofs.lemmas.SetCovers.{least-Decides}
 use Rattle.dtype_paths.specs.PathOrder.{path_cmp}
-use Rattle.dtype_paths.specs.lemmas.PathOrders.{path_cmp_total, same_tied}
+use Rattle.dtype_paths.specs.PathOrderLaws.{path_cmp_total, same_tied}
 use Rattle.dtype_paths.specs.declared.field.Field.{Field}
-use Rattle.dtype_paths.specs.lemmas.PathLists.{least_of_members}
+use Rattle.dtype_paths.proofs.lemmas.PathLists.{least_of_members}
 
 least_listed : (ps : List (List Field)) (p : List Field) → IsTrue (set.contains (least (set.from_list ps)) p) ↔ Least ps p
 least_listed ps p =

@@ -11,7 +11,7 @@ use Rattle.dtype_paths.specs.EqualityLaws.{same_field-Decides}
 use Rattle.dtype_paths.specs.private.StepKeys.{name_step_key, step_key, with_bytes, HasBytes, IsExactKey}
 use Rattle.dtype_paths.specs.declared.field.Field.{Field}
 use Rattle.dtype_paths.specs.declared.field.Field.TheVariants.{Name, ElementType}
-use Rattle.dtype_paths.specs.lemmas.Cases.{by_bool}
+use Rattle.dtype_paths.proofs.lemmas.Cases.{by_bool}
 
 -- ---- the bytes of a number that is made byte by byte
 

@@ -11,8 +11,8 @@ use Rattle.std.proofs.lemmas.List.{append_cancel_left, length-map, length_push, 
 use Rattle.std.proofs.lemmas.Map.Made.{AllPairs-from_IsDistinct}
 use Rattle.std.proofs.lemmas.Map.Views.{lookup-from_Contains, Contains-from_lookup}
 use Rattle.std.proofs.lemmas.Option.{same_Some, option_and_then_some}
-use Rattle.dtype_paths.specs.lemmas.Beginnings.{begins_nil, beginning_refl, beginning_trans, beginning_both, either_begins}
-use Rattle.dtype_paths.specs.lemmas.PathLists.{covers_member, least_covers}
+use Rattle.dtype_paths.proofs.lemmas.Beginnings.{begins_nil, beginning_refl, beginning_trans, beginning_both, either_begins}
+use Rattle.dtype_paths.proofs.lemmas.PathLists.{covers_member, least_covers}
 use Rattle.dtype_paths.specs.Beginning.{Beginning}
 use Rattle.dtype_base.specs.Distinct.{Distinct}
 use Rattle.dtype_paths.specs.Covering.{IsCountOf}

@@ -17,5 +17,4 @@ pub mod In
 pub mod Overlaps
 pub mod Crosses
 pub mod private
-pub mod lemmas
-pub mod CoveringLaws
+pub mod PathOrderLaws

@@ -23,19 +23,19 @@ use crate::FieldPath;
 use std::hash::Hash;
 
 /// The type at one path followed by another is the type at the second path in the type at the first.
-#[tactic(auto, using(crate::specs::lemmas::Stepping::at_joined))]
+#[tactic(auto, using(crate::proofs::lemmas::Stepping::at_joined))]
 pub fn along_joined()
     ensures { (t u : Tree) (p q : List Field) → At t (p ++ q) u ↔ ((x : Tree) × At t p x × At x q u) }
 {}
 
 /// Every beginning of a path that exists in a type exists in it.
-#[tactic(auto, using(crate::specs::lemmas::Stepping::beginning_exists_in))]
+#[tactic(auto, using(crate::proofs::lemmas::Stepping::beginning_exists_in))]
 pub fn beginnings_exist()
     ensures { (t : Tree) (p q : List Field) → Beginning p q → ExistsIn t q → ExistsIn t p }
 {}
 
 /// The type that a path leads to in a valid type is valid, so what `resolve` gives is.
-#[tactic(auto, using(crate::specs::lemmas::Stepping::valid_along))]
+#[tactic(auto, using(crate::proofs::lemmas::Stepping::valid_along))]
 pub fn a_path_leads_to_a_valid_type()
     ensures { (t u : Tree) (p : List Field) → Valid t → At t p u → Valid u }
 {}
@@ -129,7 +129,7 @@ pub fn a_path_is_covered_where_it_starts_with_one(paths: &[FieldPath], path: &Fi
 {}
 
 /// The paths of a list are the members of its set.
-#[tactic(auto, using(crate::specs::lemmas::SetMembers::listed))]
+#[tactic(auto, using(crate::proofs::lemmas::SetMembers::listed))]
 pub fn a_list_has_the_members_of_its_set()
     ensures { (ps : List (List Field)) (s : PathSet) (q : List Field) → set_of ps ≡ s
         → (Contains ps q ↔ IsTrue (set.contains s q)) }

@@ -16,11 +16,11 @@ use Rattle.dtype_types.specs.tree.Tree.{Tree}
 use Rattle.dtype_paths.specs.Equality.{same_path}
 use Rattle.dtype_paths.specs.PathOrder.{PathSet, set_of}
 use Rattle.dtype_paths.specs.declared.field.Field.{Field}
-use Rattle.dtype_paths.specs.lemmas.Cases.{by_bool}
-use Rattle.dtype_paths.specs.lemmas.PathOrders.{any_tied, path_cmp_total}
+use Rattle.dtype_paths.proofs.lemmas.Cases.{by_bool}
+use Rattle.dtype_paths.specs.PathOrderLaws.{any_tied, path_cmp_total}
 use Rattle.dtype_projection.specs.PathLists.{contains_path, borrowed, contains_suffix, suffixes_at, IsPut}
 use Rattle.dtype_projection.specs.Projected.{projected}
-use Rattle.dtype_projection.specs.lemmas.Predicates.{same_predicate}
+use Rattle.dtype_projection.proofs.lemmas.Predicates.{same_predicate}
 use Rattle.dtype_projection.proofs.SuffixLists.{contains_push}
 
 abbrev pub Path : Type 0

@@ -19,14 +19,14 @@ use Rattle.std.proofs.lemmas.Map.Keys.{sorted_head, sorted_tail}
 use Rattle.dtype_base.specs.declared.nullability.Nullability.{Nullability}
 use Rattle.dtype_types.specs.parts.Lookups.{field_names, field_types}
 use Rattle.dtype_types.specs.tree.Tree.{Tree, Fields, no_fields, field, fields, pairs, struct}
-use Rattle.dtype_types.specs.lemmas.TreeLaws.{tree_struct}
+use Rattle.dtype_types.proofs.lemmas.TreeLaws.{tree_struct}
 use Rattle.dtype_types.specs.tree.TreeOf.{tree, children}
 use Rattle.dtype_types.specs.declared.dtype.DType.{DType, Struct}
 use Rattle.dtype_types.specs.declared.struct_fields.StructFields.{StructFields}
 use Rattle.dtype_paths.specs.declared.field.Field.TheVariants.{Name}
 use Rattle.dtype_projection.specs.PathLists.{contains_path, borrowed, contains_suffix, suffixes_at, AreSuffixes, kept_field}
 use Rattle.dtype_projection.specs.Projected.{PathPredicate, after_step, without_field, projected, projected_fields, struct_with, prepend_kept}
-use Rattle.dtype_projection.specs.lemmas.Projections.{projected_nothing}
+use Rattle.dtype_projection.proofs.lemmas.Projections.{projected_nothing}
 use Rattle.dtype_projection.proofs.BorrowedPaths.{Paths}
 
 abbrev pub Pairs : Type 0

@@ -9,3 +9,4 @@ mod Weights
 mod MergedKinds
 mod MergedParts
 mod TypeWeights
+pub mod lemmas

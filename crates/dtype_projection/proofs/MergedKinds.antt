@@ -18,7 +18,7 @@ use Rattle.dtype_types.specs.declared.extension.ExtDTypeRef.{ExtDTypeRef}
 use Rattle.dtype_types.specs.declared.map.MapDType.{MapDType}
 use Rattle.dtype_types.specs.declared.struct_fields.StructFields.{StructFields}
 use Rattle.dtype_types.specs.declared.union_variants.UnionVariants.{UnionVariants}
-use Rattle.dtype_types.specs.lemmas.TreeLaws.{tree_out, struct_is, union_is}
+use Rattle.dtype_types.proofs.lemmas.TreeLaws.{tree_out, struct_is, union_is}
 use denote.Hole.Carrier
 use Rattle.dtype_projection.specs.Merged.{either_null}
 

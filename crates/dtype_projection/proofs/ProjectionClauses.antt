@@ -16,12 +16,12 @@ use Rattle.dtype_paths.specs.Covering.{covers}
 use Rattle.dtype_paths.specs.Overlaps.{Overlaps}
 use Rattle.dtype_paths.specs.PathOrder.{PathSet}
 use Rattle.dtype_paths.specs.declared.field.Field.{Field}
-use Rattle.dtype_paths.specs.lemmas.SetCovers.{covers_word}
+use Rattle.dtype_paths.proofs.lemmas.SetCovers.{covers_word}
 use Rattle.dtype_projection.specs.Projected.{projected}
 use Rattle.dtype_projection.specs.Restricted.{restricted}
-use Rattle.dtype_projection.specs.lemmas.Kept.{kept_as_it_was, kept_overlaps, valid_kept}
-use Rattle.dtype_projection.specs.lemmas.Projections.{kept_has_path, path_is_kept}
-use Rattle.dtype_projection.specs.lemmas.Restrictions.{of_restricted}
+use Rattle.dtype_projection.proofs.lemmas.Kept.{kept_as_it_was, kept_overlaps, valid_kept}
+use Rattle.dtype_projection.proofs.lemmas.Projections.{kept_has_path, path_is_kept}
+use Rattle.dtype_projection.proofs.lemmas.Restrictions.{of_restricted}
 
 pub if_ok : {A E : Type 0} (r : Result A E) (P Q : A → Type 0) (R : E → Type 0) → MatchResult r P R → ((x : A) → P x → Q x) → IfOk r Q
 if_ok (Ok x) P Q R m f = f x m

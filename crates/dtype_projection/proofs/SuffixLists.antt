@@ -5,16 +5,16 @@
 use Rattle.std.proofs.Common.{◌≡◌, ◌≢◌, ℕ, zero, suc, ◌<◌, List, [], ◌∷◌, ◌++◌, slice_get, Bool, true, false, not, ◌&&◌, ◌||◌, Some, None, refl, sym, ap, subst, ◌∙◌, arith}
 use Rattle.std.proofs.lemmas.Option.{same_Some}
 use Rattle.dtype_base.specs.FieldNames.{first_place}
-use Rattle.dtype_base.specs.lemmas.Lookups.{first_of_place, absent_of_place}
+use Rattle.dtype_base.proofs.lemmas.Lookups.{first_of_place, absent_of_place}
 use Rattle.dtype_paths.specs.Equality.{same_field, same_path}
 use Rattle.dtype_paths.specs.EqualityLaws.{same_field-Decides, same_path-Decides}
 use Rattle.dtype_paths.specs.declared.field.Field.{Field}
 use Rattle.dtype_paths.specs.declared.field.Field.TheVariants.{Name}
-use Rattle.dtype_paths.specs.lemmas.Cases.{by_bool}
+use Rattle.dtype_paths.proofs.lemmas.Cases.{by_bool}
 use Rattle.dtype_projection.specs.PathLists.{contains_path, AreSuffixes, IsPut}
 use Rattle.dtype_projection.specs.Projected.{PathPredicate, after_step, without_field}
-use Rattle.dtype_projection.specs.lemmas.Predicates.{same_predicate, same_step, not_same_step, different_steps, different_names}
-use Rattle.dtype_projection.specs.lemmas.Projections.{without_field_nothing}
+use Rattle.dtype_projection.proofs.lemmas.Predicates.{same_predicate, same_step, not_same_step, different_steps, different_names}
+use Rattle.dtype_projection.proofs.lemmas.Projections.{without_field_nothing}
 
 -- ---- a path pushed
 

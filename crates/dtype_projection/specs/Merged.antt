@@ -6,7 +6,7 @@
 use Rattle.std.specs.Prelude.{List, [], ◌∷◌, Bool, Option, Some, None, if◌then◌else◌}
 use Rattle.std.specs.Bool.{Decides}
 use Rattle.dtype_base.specs.Nullability.{either}
-use Rattle.dtype_types.specs.lemmas.EqualityLaws.{equal_erased-Decides}
+use Rattle.dtype_types.specs.equality.EqualityLaws.{equal_erased-Decides}
 use Rattle.dtype_types.specs.nullability.Sub.{Sub}
 use Rattle.dtype_types.specs.tree.Tree.{Tree, Fields, no_fields, field, Variants, no_variants, choice, null, bool, primitive, decimal, utf8, binary, list, fixed_size_list, map_of, struct, union, variant, extension}
 

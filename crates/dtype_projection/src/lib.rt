@@ -11,7 +11,7 @@
 //! bound of two types that differ in nullability alone.
 //!
 //! The definitions are in `specs/`: `Projected` (the projection of a type), `Restricted` (the same of a value) and
-//! `Merged`; `PathLists` is for the private contracts alone. `lemmas` has the proofs that callers may cite, and `laws`
+//! `Merged`; `PathLists` is for the private contracts alone. `proofs/lemmas` has the lemmas that callers may cite, and `laws`
 //! and `nullability_laws` state the theorems about the definitions.
 #![tactic(auto)]
 

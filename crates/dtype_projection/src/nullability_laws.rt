@@ -3,7 +3,7 @@
 
 // What follows from the definition of the least type above two. Each function's contract is the law, and its body is
 // empty.
-#![tactic(auto, using(crate::specs::lemmas::Merging::merging))]
+#![tactic(auto, using(crate::proofs::lemmas::Merging::merging))]
 
 ghost use Rattle.std.specs.Prelude.{◌≡◌, ◌↔◌, IsSome, Some, option_and_then};
 ghost use Rattle.dtype_types.specs.tree.Erase.{erase};

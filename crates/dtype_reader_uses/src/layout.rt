@@ -2,7 +2,7 @@
 // SPDX-FileCopyrightText: Copyright the Vortex contributors
 
 //! A reader of layouts: which columns it opens, and what is asked of the layout of each.
-#![tactic(auto, using(vortex_dtype::specs::rulesets::covering, vortex_dtype::specs::rulesets::stepping))]
+#![tactic(auto, using(vortex_dtype::proofs::rulesets::covering, vortex_dtype::proofs::rulesets::stepping))]
 
 ghost use Rattle.std.specs.Prelude.{◌≡◌, ◌↔◌, ◌∷◌, IfNone, IfOk, IfSome, IsTrue, List, map};
 ghost use Rattle.std.specs.FinSet as set;

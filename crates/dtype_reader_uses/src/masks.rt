@@ -2,7 +2,7 @@
 // SPDX-FileCopyrightText: Copyright the Vortex contributors
 
 //! A reader that descends a table with a mask: what is asked of it further down.
-#![tactic(auto, using(vortex_dtype::specs::rulesets::stepping))]
+#![tactic(auto, using(vortex_dtype::proofs::rulesets::stepping))]
 
 ghost use Rattle.std.specs.Prelude.{◌≡◌, ◌↔◌, ◌∷◌, ◌++◌, [], IfNone, IfOk, IfSome, IsTrue, List, false};
 ghost use Rattle.vortex_dtype.specs.Beginning.{Beginning};

@@ -2,7 +2,7 @@
 // SPDX-FileCopyrightText: Copyright the Vortex contributors
 
 //! A reader of several files as one: the type that takes the values of all of them.
-#![tactic(auto, using(vortex_dtype::specs::rulesets::merging, vortex_dtype::specs::rulesets::order))]
+#![tactic(auto, using(vortex_dtype::proofs::rulesets::merging, vortex_dtype::proofs::rulesets::order))]
 
 ghost use Rattle.std.specs.Prelude.{◌≡◌, ◌≢◌, ◌↔◌, IfOk, IfSome, IsSome, IsTrue};
 ghost use Rattle.std.specs.List.{AllByRecursion};
@@ -82,7 +82,7 @@ pub fn read_all_as_one(alloc: Global, first: DType, others: &[DType]) -> VortexR
 }
 
 /// Whether a column has another type in the schema of several files than in one file's own, and so has to be cast.
-#[tactic(auto, using(vortex_dtype::specs::rulesets::equality))]
+#[tactic(auto, using(vortex_dtype::proofs::rulesets::equality))]
 pub fn is_column_changed(schema: &DType, file: &DType, column: &FieldPath) -> bool
     ensures { IsTrue result ↔ (along (tree schema.now) column.now ≢ along (tree file.now) column.now) }
 {
@@ -94,7 +94,7 @@ pub fn is_column_changed(schema: &DType, file: &DType, column: &FieldPath) -> bo
 }
 
 /// Whether the type of two files has a column, where there is such a type: exactly where the first file has it.
-#[tactic(auto, using(vortex_dtype::specs::rulesets::merging, vortex_dtype::specs::rulesets::stepping))]
+#[tactic(auto, using(vortex_dtype::proofs::rulesets::merging, vortex_dtype::proofs::rulesets::stepping))]
 pub fn has_column_as_one(
     alloc: Global,
     file: &DType,
@@ -112,7 +112,7 @@ pub fn has_column_as_one(
 
 /// Whether a filter on a column of two files has to think of null, or `None` where there is no such column: it has to
 /// where the column of the first file may be null.
-#[tactic(auto, using(vortex_dtype::specs::rulesets::merging, vortex_dtype::specs::rulesets::stepping))]
+#[tactic(auto, using(vortex_dtype::proofs::rulesets::merging, vortex_dtype::proofs::rulesets::stepping))]
 pub fn may_column_be_null(
     alloc: Global,
     file: &DType,

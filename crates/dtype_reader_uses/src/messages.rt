@@ -2,7 +2,7 @@
 // SPDX-FileCopyrightText: Copyright the Vortex contributors
 
 //! Types written as messages and read again.
-#![tactic(auto, using(vortex_dtype::specs::rulesets::messages))]
+#![tactic(auto, using(vortex_dtype::proofs::rulesets::messages))]
 
 ghost use Rattle.std.specs.Prelude.{◌≡◌, ◌⊎◌, Err, IfErr, IfNone, IfOk, IfSome, IsErr, IsOkUnless, IsTrue};
 ghost use Rattle.vortex_dtype.specs.Types.Nullability.TheVariants.{Nullable};
@@ -39,7 +39,7 @@ pub fn read_as_equal_types(
 }
 
 /// Whether two types are the same, found by their messages.
-#[tactic(auto, using(vortex_dtype::specs::rulesets::messages, vortex_dtype::specs::rulesets::equality))]
+#[tactic(auto, using(vortex_dtype::proofs::rulesets::messages, vortex_dtype::proofs::rulesets::equality))]
 pub fn have_equal_messages(alloc: Global, a: &DType, b: &DType) -> VortexResult<bool>
     ensures { IfOk result (λ r. IsTrue r → tree a.now ≡ tree b.now) }
 {

@@ -2,7 +2,7 @@
 // SPDX-FileCopyrightText: Copyright the Vortex contributors
 
 //! What a reader opens for what is asked, and what it finds there.
-#![tactic(auto, using(vortex_dtype::specs::rulesets::members, vortex_dtype::specs::rulesets::projecting))]
+#![tactic(auto, using(vortex_dtype::proofs::rulesets::members, vortex_dtype::proofs::rulesets::projecting))]
 
 ghost use Rattle.std.specs.Prelude.{◌≡◌, Contains, IfOk, IfSome, IsSome, IsTrue, List};
 ghost use Rattle.vortex_dtype.specs.Along.{along};

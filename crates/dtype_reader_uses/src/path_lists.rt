@@ -2,7 +2,7 @@
 // SPDX-FileCopyrightText: Copyright the Vortex contributors
 
 //! A reader that is handed lists of paths: which paths their set has and covers, one by one.
-#![tactic(auto, using(vortex_dtype::specs::rulesets::members))]
+#![tactic(auto, using(vortex_dtype::proofs::rulesets::members))]
 
 ghost use Rattle.std.specs.Prelude.{◌≡◌, ◌↔◌, ◌⊎◌, [], ◌∷◌, Contains, IfOk, IsTrue, List, OnOk};
 ghost use Rattle.std.specs.FinSet as set;
@@ -77,7 +77,7 @@ pub fn set_of_one(alloc: Global, column: &FieldPath) -> VortexResult<FieldPathSe
 }
 
 /// Whether a column is below a table that is asked for: then it is covered.
-#[tactic(auto, using(vortex_dtype::specs::rulesets::members, vortex_dtype::specs::rulesets::stepping))]
+#[tactic(auto, using(vortex_dtype::proofs::rulesets::members, vortex_dtype::proofs::rulesets::stepping))]
 pub fn is_below_asked(asked: &FieldPathSet, column: &FieldPath, table: &FieldPath) -> bool
     ensures { IsTrue result → IsTrue (covers asked.now column.now) }
 {
@@ -85,7 +85,7 @@ pub fn is_below_asked(asked: &FieldPathSet, column: &FieldPath, table: &FieldPat
 }
 
 /// The paths to open where the root is asked for: the root alone.
-#[tactic(auto, using(vortex_dtype::specs::rulesets::members, vortex_dtype::specs::rulesets::counting))]
+#[tactic(auto, using(vortex_dtype::proofs::rulesets::members, vortex_dtype::proofs::rulesets::counting))]
 pub fn cover_with_root(asked: FieldPathSet) -> VortexResult<vec::IntoIter<FieldPath>>
     ensures { IfOk result (λ r. IsTrue (set.contains asked []) → into_iter_items r ≡ [] ∷ []) }
 {

@@ -2,7 +2,7 @@
 // SPDX-FileCopyrightText: Copyright the Vortex contributors
 
 //! Messages compared and copied, of types, of single kinds and of paths, and paths read from them.
-#![tactic(auto, using(vortex_dtype::specs::rulesets::messages, vortex_dtype::specs::rulesets::equality))]
+#![tactic(auto, using(vortex_dtype::proofs::rulesets::messages, vortex_dtype::proofs::rulesets::equality))]
 
 ghost use Rattle.std.specs.Prelude.{◌≡◌, ◌≢◌, ◌↔◌, ◌⊎◌, ◌∷◌, [], All, IfErr, IfOk, IsErr, IsOkUnless, IsSome, IsTrue, None, string_bytes};
 ghost use Rattle.std.specs.List.{Contains};

@@ -2,7 +2,7 @@
 // SPDX-FileCopyrightText: Copyright the Vortex contributors
 
 //! A reader of columns: what is asked of it, and what it opens for that.
-#![tactic(auto, using(vortex_dtype::specs::rulesets::covering))]
+#![tactic(auto, using(vortex_dtype::proofs::rulesets::covering))]
 
 ghost use Rattle.std.specs.Prelude.{◌≡◌, ◌≢◌, ◌↔◌, ◌+◌, ◌++◌, [], ◌∷◌, ◌≤◌, ◌||◌, IfOk, IsTrue, List, OnOk, false, is_some, length, map};
 ghost use Rattle.std.specs.FinSet as set;
@@ -432,7 +432,7 @@ pub fn is_column_skipped(
 }
 
 /// The columns to open for nothing: none.
-#[tactic(auto, using(vortex_dtype::specs::rulesets::covering, vortex_dtype::specs::rulesets::counting))]
+#[tactic(auto, using(vortex_dtype::proofs::rulesets::covering, vortex_dtype::proofs::rulesets::counting))]
 pub fn cover_of_nothing(alloc: Global) -> VortexResult<vec::IntoIter<FieldPath>>
     ensures { IfOk result (λ r. into_iter_items r ≡ []) }
 {
@@ -440,7 +440,7 @@ pub fn cover_of_nothing(alloc: Global) -> VortexResult<vec::IntoIter<FieldPath>>
 }
 
 /// The number of paths that are asked for.
-#[tactic(auto, using(vortex_dtype::specs::rulesets::counting))]
+#[tactic(auto, using(vortex_dtype::proofs::rulesets::counting))]
 pub fn number_asked(asked: &FieldPathSet) -> VortexResult<usize>
     ensures { IfOk result (λ n. n ≡ set.len asked.now) }
 {
@@ -448,7 +448,7 @@ pub fn number_asked(asked: &FieldPathSet) -> VortexResult<usize>
 }
 
 /// Whether no path is asked for.
-#[tactic(auto, using(vortex_dtype::specs::rulesets::counting))]
+#[tactic(auto, using(vortex_dtype::proofs::rulesets::counting))]
 pub fn asks_for_nothing(asked: &FieldPathSet) -> VortexResult<bool>
     ensures nothing { IfOk result (λ none. IsTrue none → asked.now ≡ set.empty) }
     ensures some { IfOk result (λ none. none ≡ false → asked.now ≢ set.empty) }
@@ -457,7 +457,7 @@ pub fn asks_for_nothing(asked: &FieldPathSet) -> VortexResult<bool>
 }
 
 /// The number of columns to open for one path: one.
-#[tactic(auto, using(vortex_dtype::specs::rulesets::counting))]
+#[tactic(auto, using(vortex_dtype::proofs::rulesets::counting))]
 pub fn number_to_open_for_one(alloc: Global, path: FieldPath) -> VortexResult<usize>
     ensures { IfOk result (λ n. n ≡ 1) }
 {
@@ -467,7 +467,7 @@ pub fn number_to_open_for_one(alloc: Global, path: FieldPath) -> VortexResult<us
 }
 
 /// Whether the covers of two copies look equally often: they always do.
-#[tactic(auto, using(vortex_dtype::specs::rulesets::covering, vortex_dtype::specs::rulesets::counting))]
+#[tactic(auto, using(vortex_dtype::proofs::rulesets::covering, vortex_dtype::proofs::rulesets::counting))]
 pub fn copies_visit_equally(asked: &FieldPathSet) -> VortexResult<bool>
     ensures { IfOk result (λ b. IsTrue b) }
 {
@@ -488,7 +488,7 @@ pub fn columns_to_open(alloc: Global, asked: FieldPathSet) -> VortexResult<Vec<F
 }
 
 /// The paths of two queries: whose come first doesn't matter.
-#[tactic(auto, using(vortex_dtype::specs::rulesets::covering, vortex_dtype::specs::rulesets::union_swap))]
+#[tactic(auto, using(vortex_dtype::proofs::rulesets::covering, vortex_dtype::proofs::rulesets::union_swap))]
 pub fn asked_by_both(one: &FieldPathSet, other: Vec<FieldPath>) -> VortexResult<FieldPathSet>
     ensures { IfOk result (λ s. s ≡ set.union (set_of other.items) one.now) }
 {

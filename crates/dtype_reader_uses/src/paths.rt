@@ -2,7 +2,7 @@
 // SPDX-FileCopyrightText: Copyright the Vortex contributors
 
 //! Paths, resolved.
-#![tactic(auto, using(vortex_dtype::specs::rulesets::stepping))]
+#![tactic(auto, using(vortex_dtype::proofs::rulesets::stepping))]
 
 ghost use Rattle.std.specs.Prelude.{◌≡◌, ◌↔◌, ◌++◌, ◌∷◌, [], IfNone, IfOk, IfSome, IsTrue, List, Some, codes, ℕ};
 ghost use Rattle.std.specs.Option.{option_map};
@@ -196,7 +196,7 @@ pub fn is_within(path: &FieldPath, parent: &FieldPath) -> bool
 }
 
 /// Whether two tables have the same type along a path, or none.
-#[tactic(auto, using(vortex_dtype::specs::rulesets::stepping, vortex_dtype::specs::rulesets::equality))]
+#[tactic(auto, using(vortex_dtype::proofs::rulesets::stepping, vortex_dtype::proofs::rulesets::equality))]
 pub fn has_same_type_at(path: &FieldPath, left: &DType, right: &DType) -> bool
     ensures { IsTrue result ↔ (along (tree left.now) path.now ≡ along (tree right.now) path.now) }
 {

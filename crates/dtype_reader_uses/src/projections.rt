@@ -2,7 +2,7 @@
 // SPDX-FileCopyrightText: Copyright the Vortex contributors
 
 //! A reader that opens a table's schema for a query: the columns that the query asks for, and no others.
-#![tactic(auto, using(vortex_dtype::specs::rulesets::covering))]
+#![tactic(auto, using(vortex_dtype::proofs::rulesets::covering))]
 
 ghost use Rattle.std.specs.Prelude.{◌≡◌, ◌↔◌, IfNone, IfOk, IfSome, IsTrue, List};
 ghost use Rattle.std.specs.FinSet as set;
@@ -86,7 +86,7 @@ pub fn rows_of_projection(
 }
 
 /// Whether a pruned schema still has columns when it is pruned to the same ones again: it always does.
-#[tactic(auto, using(vortex_dtype::specs::rulesets::projecting))]
+#[tactic(auto, using(vortex_dtype::proofs::rulesets::projecting))]
 pub fn is_kept_when_pruned_again(
     alloc: Global,
     schema: &DType,
@@ -101,7 +101,7 @@ pub fn is_kept_when_pruned_again(
 }
 
 /// The schema pruned to many columns and then to some of these: the schema pruned to those.
-#[tactic(auto, using(vortex_dtype::specs::rulesets::covering, vortex_dtype::specs::rulesets::projecting))]
+#[tactic(auto, using(vortex_dtype::proofs::rulesets::covering, vortex_dtype::proofs::rulesets::projecting))]
 pub fn pruned_in_steps(
     alloc: Global,
     schema: &DType,
@@ -118,7 +118,7 @@ pub fn pruned_in_steps(
 }
 
 /// The pruned schema is nullable where the schema is.
-#[tactic(auto, using(vortex_dtype::specs::rulesets::covering, vortex_dtype::specs::rulesets::projecting))]
+#[tactic(auto, using(vortex_dtype::proofs::rulesets::covering, vortex_dtype::proofs::rulesets::projecting))]
 pub fn pruned_as_nullable(
     alloc: Global,
     schema: &DType,

@@ -2,7 +2,7 @@
 // SPDX-FileCopyrightText: Copyright the Vortex contributors
 
 //! Sessions: what is known after registrations, what is kept of metadata, and which errors come.
-#![tactic(auto, using(vortex_dtype::specs::rulesets::sessions, vortex_dtype::specs::rulesets::messages))]
+#![tactic(auto, using(vortex_dtype::proofs::rulesets::sessions, vortex_dtype::proofs::rulesets::messages))]
 
 ghost use Rattle.std.specs.Prelude.{◌≡◌, ◌≢◌, ◌↔◌, ◌⊎◌, IfErr, IfOk, IsErr, IsOkUnless, IsSome, IsTrue, OnOk, Some, false, true};
 ghost use Rattle.vortex_dtype.specs.Meaning.{Admits, keeps};
@@ -29,7 +29,7 @@ pub fn round_trip_without_plugins(alloc: Global, dtype: &DType) -> VortexResult<
 }
 
 /// An extension of which nothing is known, carried over: its metadata stays as it is.
-#[tactic(auto, using(vortex_dtype::specs::rulesets::sessions, vortex_dtype::specs::rulesets::messages, vortex_dtype::specs::rulesets::validity))]
+#[tactic(auto, using(vortex_dtype::proofs::rulesets::sessions, vortex_dtype::proofs::rulesets::messages, vortex_dtype::proofs::rulesets::validity))]
 pub fn keep_unknown_metadata(
     alloc: Global,
     id: &str,
@@ -158,7 +158,7 @@ pub fn is_metadata_kept(
 }
 
 /// An extension over a storage made nullable: its metadata is what the session keeps over the storage.
-#[tactic(auto, using(vortex_dtype::specs::rulesets::sessions, vortex_dtype::specs::rulesets::messages, vortex_dtype::specs::rulesets::validity))]
+#[tactic(auto, using(vortex_dtype::proofs::rulesets::sessions, vortex_dtype::proofs::rulesets::messages, vortex_dtype::proofs::rulesets::validity))]
 pub fn keep_over_nullable(
     alloc: Global,
     session: &DTypeSession,
@@ -177,7 +177,7 @@ pub fn keep_over_nullable(
 }
 
 /// A column of an extension type, as a session reads it: the session admits it, where it admits the storage.
-#[tactic(auto, using(vortex_dtype::specs::rulesets::sessions, vortex_dtype::specs::rulesets::messages, vortex_dtype::specs::rulesets::validity))]
+#[tactic(auto, using(vortex_dtype::proofs::rulesets::sessions, vortex_dtype::proofs::rulesets::messages, vortex_dtype::proofs::rulesets::validity))]
 pub fn extension_column(
     session: &DTypeSession,
     id: &str,

@@ -2,7 +2,7 @@
 // SPDX-FileCopyrightText: Copyright the Vortex contributors
 
 //! Schemas stored and read back.
-#![tactic(auto, using(vortex_dtype::specs::rulesets::messages, vortex_dtype::specs::rulesets::sessions, vortex_dtype::specs::rulesets::equality))]
+#![tactic(auto, using(vortex_dtype::proofs::rulesets::messages, vortex_dtype::proofs::rulesets::sessions, vortex_dtype::proofs::rulesets::equality))]
 
 ghost use Rattle.std.specs.Prelude.{◌≡◌, ◌++◌, [], ◌∷◌, IfOk, IsOkUnless, IsTrue, Some, map};
 ghost use Rattle.std.specs.Option.{option_map};
@@ -104,7 +104,7 @@ pub fn path_of_copy(alloc: Global, proto: &pb::FieldPath) -> VortexResult<FieldP
 
 /// The type of a column as a receiver reads it, or `None` where there is no such column: the column's type, where the
 /// session admits the columns.
-#[tactic(auto, using(vortex_dtype::specs::rulesets::sessions, vortex_dtype::specs::rulesets::messages, vortex_dtype::specs::rulesets::validity))]
+#[tactic(auto, using(vortex_dtype::proofs::rulesets::sessions, vortex_dtype::proofs::rulesets::messages, vortex_dtype::proofs::rulesets::validity))]
 pub fn column_sent(
     alloc: Global,
     session: &DTypeSession,

@@ -6,7 +6,7 @@ use Rattle.std.proofs.Common.{◌≡◌, ◌↔◌, ℕ, ◌+◌, List, [], ◌�
 use Rattle.std.specs.Bool.{Decides}
 use Rattle.std.specs.List.{range_with_len}
 use Rattle.std.proofs.lemmas.Bool.Decides.{Decides-and, Decides-eqb, same_from_decides}
-use Rattle.dtype_types.specs.lemmas.EqualityLaws.{restated}
+use Rattle.dtype_types.specs.equality.EqualityLaws.{restated}
 use Rattle.dtype_types.specs.parts.Lookups.{variant_tags}
 use Rattle.dtype_types.specs.texts.Text.{consecutive}
 use Rattle.dtype_types.specs.tree.Tree.{Tree, variants}

@@ -5,7 +5,7 @@
 use Rattle.std.proofs.Common.{◌≡◌, ℕ, ◌<◌, List, [], ◌∷◌, ◌++◌, codes, length, refl, sym, ap, ◌∙◌, arith, append_assoc}
 use Rattle.dtype_base.specs.Nullability.{nullability_text}
 use Rattle.dtype_base.specs.declared.nullability.Nullability.{Nullability}
-use Rattle.dtype_types.specs.lemmas.TreeLaws.{tree_struct}
+use Rattle.dtype_types.proofs.lemmas.TreeLaws.{tree_struct}
 use Rattle.dtype_types.specs.texts.IndentedText.{indented, indented_fields, indented_braces, last_line}
 use Rattle.std.specs.List.{join_by}
 use Rattle.dtype_types.specs.tree.Tree.{Tree, fields}

@@ -21,3 +21,4 @@ pub mod SubTest
 pub mod TellLaws
 pub mod TellGiven
 pub mod ConsecutiveTags
+pub mod lemmas

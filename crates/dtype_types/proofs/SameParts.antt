@@ -8,8 +8,8 @@ use Rattle.dtype_base.specs.declared.nullability.Nullability.TheVariants.{NonNul
 use Rattle.dtype_types.specs.nullability.Nullable.{nullability, set_null, CanBeNonNullable}
 use Rattle.dtype_types.specs.tree.Tree.{Tree, map_of, struct, union, fields, variants}
 use Rattle.dtype_types.specs.tree.TreeOf.{tree, MapParts, struct_pairs, union_triples, with_trees, with_tagged_trees, extension_tree, map_shown}
-use Rattle.dtype_types.specs.lemmas.Nullabilities.{set_own}
-use Rattle.dtype_types.specs.lemmas.TreeLaws.{tree_struct, tree_union, tree_map, tree_extension}
+use Rattle.dtype_types.proofs.lemmas.Nullabilities.{set_own}
+use Rattle.dtype_types.proofs.lemmas.TreeLaws.{tree_struct, tree_union, tree_map, tree_extension}
 use Rattle.dtype_types.specs.declared.dtype.DType.{DType, Struct, Union, Map, Extension}
 use Rattle.dtype_types.specs.declared.struct_fields.StructFields.{StructFields}
 use Rattle.dtype_types.specs.declared.union_variants.UnionVariants.{UnionVariants}

@@ -10,12 +10,12 @@ use Rattle.std.proofs.lemmas.Slice.Zip.{firsts-zip, seconds-zip}
 use Rattle.std.proofs.lemmas.Option.{slice_get-map, slice_get_read, slice_get_within}
 use Rattle.std.specs.Option.{option_map}
 use Rattle.dtype_base.specs.FieldNames.{first_place, SelectionError}
-use Rattle.dtype_base.specs.lemmas.Lookups.{first_of_place}
+use Rattle.dtype_base.proofs.lemmas.Lookups.{first_of_place}
 use Rattle.dtype_base.specs.declared.vortex_error.VortexError.{VortexError}
 use Rattle.dtype_base.specs.declared.vortex_error.VortexError.TheVariants.{OutOfMemory}
 use Rattle.dtype_types.proofs.Parts.{names_shown, types_shown, trees_zip}
 use Rattle.std.specs.Map.{keys_of, values_of}
-use Rattle.dtype_types.specs.lemmas.Lookups.{field_at_place}
+use Rattle.dtype_types.proofs.lemmas.Lookups.{field_at_place}
 use Rattle.dtype_types.specs.parts.Lookups.{first_named, field_names, field_types, Projects}
 use Rattle.dtype_types.specs.tree.Tree.{Tree}
 use Rattle.dtype_types.specs.tree.TreeOf.{tree, with_trees}

@@ -13,7 +13,7 @@ use Rattle.std.proofs.lemmas.Slice.Eq.{bytes_eq-Decides}
 use Rattle.dtype_base.specs.declared.nullability.Nullability.{Nullability}
 use Rattle.dtype_base.specs.declared.nullability.Nullability.TheVariants.{NonNullable, Nullable}
 use Rattle.dtype_types.specs.equality.Equality.{equal_under, fields_equal_under, variants_equal_under, allows}
-use Rattle.dtype_types.specs.lemmas.EqualityLaws.{equal_erased-Decides, restated, same_decimal-Decides, same_ptype-Decides}
+use Rattle.dtype_types.specs.equality.EqualityLaws.{equal_erased-Decides, restated, same_decimal-Decides, same_ptype-Decides}
 use Rattle.dtype_types.specs.nullability.Sub.{Sub, Allows, NullableWhereverFields, NullableWhereverVariants}
 use Rattle.dtype_types.specs.tree.Erase.{erase, erase_fields, erase_variants}
 use Rattle.dtype_types.specs.tree.Tree.{Tree, Fields, no_fields, field, Variants, no_variants, choice, null, bool, primitive, decimal, utf8, binary, list, fixed_size_list, map_of, struct, union, variant, extension}

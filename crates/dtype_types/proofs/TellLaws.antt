@@ -15,8 +15,8 @@ use Rattle.dtype_types.specs.tree.Valid.{Valid, ValidFields, ValidVariants, Lack
 use Rattle.dtype_types.specs.values.Value.{Value, Named, Of, IncludedIn, NamedOf, VariantOf, Each, null_value, items, fixed_items, entries, record_of, tagged, no_values, value, no_entries, entry, named}
 use Rattle.dtype_types.specs.values.Sample.{sample, samples, copies}
 use Rattle.dtype_types.specs.values.Tell.{or_else, null_else, tell, tell_fields, tell_variants, HasNoSizeZero, FieldsHaveNoSizeZero, VariantsHaveNoSizeZero}
-use Rattle.dtype_types.specs.lemmas.NullValues.{null_is_of_nullable}
-use Rattle.dtype_types.specs.lemmas.SampleLaws.{sample_of, samples_of, value_count-copies, each_copy}
+use Rattle.dtype_types.proofs.lemmas.NullValues.{null_is_of_nullable}
+use Rattle.dtype_types.proofs.lemmas.SampleLaws.{sample_of, samples_of, value_count-copies, each_copy}
 use Rattle.dtype_types.proofs.TellGiven.{told_exactly}
 
 -- ---- an answer: a value of the first and not of the second

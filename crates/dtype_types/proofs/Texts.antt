@@ -10,7 +10,7 @@ use Rattle.dtype_base.specs.Nullability.{nullability_text}
 use Rattle.dtype_types.specs.texts.Text.{text, tag_text}
 use Rattle.dtype_types.specs.texts.TextOf.{map_text, struct_text, union_text, extension_text}
 use Rattle.dtype_types.specs.tree.TreeOf.{tree}
-use Rattle.dtype_types.specs.lemmas.TreeLaws.{tree_struct, tree_map, tree_union, tree_extension}
+use Rattle.dtype_types.proofs.lemmas.TreeLaws.{tree_struct, tree_map, tree_union, tree_extension}
 use Rattle.dtype_types.specs.declared.dtype.DType.{DType, Map, Struct, Union, Extension}
 use Rattle.dtype_types.specs.declared.struct_fields.StructFields.{StructFields}
 use Rattle.dtype_types.specs.declared.union_variants.UnionVariants.{UnionVariants}

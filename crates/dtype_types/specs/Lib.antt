@@ -9,4 +9,3 @@ pub mod texts
 pub mod equality
 pub mod Laws
 pub mod formers
-pub mod lemmas

@@ -1,8 +1,11 @@
 -- SPDX-License-Identifier: Apache-2.0
 -- SPDX-FileCopyrightText: Copyright the Vortex contributors
 
--- Equality of types as a test, and what types feed a hasher.
+-- Equality of types as a test, and what types feed a hasher; and what the ghost members of the impls cite as proofs.
 pub mod Equality
 pub mod EqualityOf
 pub mod Hashes
 pub mod HashesOf
+pub mod EqualityLaws
+pub mod PartsEqualityLaws
+pub mod HashLaws

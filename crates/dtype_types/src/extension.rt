@@ -322,10 +322,10 @@ impl ExtDTypeRef {
 }
 
 /// Two extensions are equal where their ids, their metadata and their storages are.
-#[tactic(auto, using(crate::specs::lemmas::Equality::equality))]
+#[tactic(auto, using(crate::proofs::lemmas::Equality::equality))]
 impl PartialEq for ExtDTypeRef {
     ghost use Rattle.dtype_types.specs.equality.EqualityOf.{same_extension};
-    ghost use Rattle.dtype_types.specs.lemmas.PartsEquality.{same_extension_equiv};
+    ghost use Rattle.dtype_types.specs.equality.PartsEqualityLaws.{same_extension_equiv};
     ghost use Rattle.dtype_types.specs.tree.TreeOf.{extension_tree};
     ghost use Rattle.std.specs.Cmp.{partial_equiv_from_equiv};
 
@@ -341,13 +341,13 @@ impl PartialEq for ExtDTypeRef {
 }
 
 impl Eq for ExtDTypeRef {
-    ghost use Rattle.dtype_types.specs.lemmas.PartsEquality.{same_extension_equiv};
+    ghost use Rattle.dtype_types.specs.equality.PartsEqualityLaws.{same_extension_equiv};
 
     ghost laws = { same_extension_equiv };
 }
 
 impl Hash for ExtDTypeRef {
-    ghost use Rattle.dtype_types.specs.lemmas.HashLaws.{extension_fed};
+    ghost use Rattle.dtype_types.specs.equality.HashLaws.{extension_fed};
     ghost use Rattle.dtype_types.specs.equality.HashesOf.{extension_writes};
     ghost use Rattle.dtype_types.specs.declared.dtype.hash.HashMode.TheVariants.{Whole};
 

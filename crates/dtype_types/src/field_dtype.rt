@@ -81,10 +81,10 @@ impl From<PType> for FieldDType {
     }
 }
 
-#[tactic(auto, using(crate::specs::lemmas::Equality::equality))]
+#[tactic(auto, using(crate::proofs::lemmas::Equality::equality))]
 impl PartialEq for FieldDType {
     ghost use Rattle.dtype_types.specs.equality.EqualityOf.{same_field_dtype};
-    ghost use Rattle.dtype_types.specs.lemmas.PartsEquality.{same_field_dtype_equiv};
+    ghost use Rattle.dtype_types.specs.equality.PartsEqualityLaws.{same_field_dtype_equiv};
     ghost use Rattle.std.specs.Cmp.{partial_equiv_from_equiv};
 
     ghost eq = { same_field_dtype };
@@ -99,13 +99,13 @@ impl PartialEq for FieldDType {
 }
 
 impl Eq for FieldDType {
-    ghost use Rattle.dtype_types.specs.lemmas.PartsEquality.{same_field_dtype_equiv};
+    ghost use Rattle.dtype_types.specs.equality.PartsEqualityLaws.{same_field_dtype_equiv};
 
     ghost laws = { same_field_dtype_equiv };
 }
 
 impl Hash for FieldDType {
-    ghost use Rattle.dtype_types.specs.lemmas.HashLaws.{dtype_fed};
+    ghost use Rattle.dtype_types.specs.equality.HashLaws.{dtype_fed};
     ghost use Rattle.dtype_types.specs.equality.Hashes.{hash_writes};
 
     ghost hash_input = { λ f. hash_writes (field_tree f) };

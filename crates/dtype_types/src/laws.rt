@@ -2,8 +2,8 @@
 // SPDX-FileCopyrightText: Copyright the Vortex contributors
 
 // Theorems about the definitions of types. The contract of each function is the theorem, and its body is empty. Further
-// lemmas for callers are in the rulesets of `specs/lemmas`.
-#![tactic(auto, using(crate::specs::lemmas::HashLaws::dtype_fed, crate::specs::lemmas::HashLaws::erased_fed, crate::specs::lemmas::SampleLaws::sample_of, crate::specs::lemmas::NullValues::null_is_of_nullable, crate::specs::lemmas::SubValues::sub_values))]
+// lemmas for callers are in the rulesets of `proofs/lemmas`.
+#![tactic(auto, using(crate::specs::equality::HashLaws::dtype_fed, crate::specs::equality::HashLaws::erased_fed, crate::proofs::lemmas::SampleLaws::sample_of, crate::proofs::lemmas::NullValues::null_is_of_nullable, crate::proofs::lemmas::SubValues::sub_values))]
 
 ghost use Rattle.std.specs.Prelude.{◌≡◌, ◌↔◌, ◌==◌, ◌⊎◌, ◌<◌, ◌^◌, ◌++◌, ℕ, All, Bool, IsTrue, IsSomeAnd, List, None, Some, length, map, remove, slice_get};
 ghost use Rattle.std.specs.List.{position};
@@ -52,7 +52,7 @@ pub fn equality_ignoring_nullability_agrees_with_its_hash()
 
 /// Setting a type's nullability, where it can be set, gives that nullability and changes nothing else. Of two settings
 /// the last decides.
-#[tactic(auto, using(crate::specs::lemmas::Nullabilities::set_is, crate::specs::lemmas::Nullabilities::set_keeps, crate::specs::lemmas::Nullabilities::set_again))]
+#[tactic(auto, using(crate::proofs::lemmas::Nullabilities::set_is, crate::proofs::lemmas::Nullabilities::set_keeps, crate::proofs::lemmas::Nullabilities::set_again))]
 pub fn nullability_is_set_alone()
     ensures sets { (t u : Tree) (n : Nullability) → SetNull t n u → nullability u ≡ n }
     ensures keeps { (t u : Tree) (n : Nullability) → SetNull t n u → erase u ≡ erase t }
@@ -62,7 +62,7 @@ pub fn nullability_is_set_alone()
 
 /// In a valid union `tag_to_child_index` returns a position for the tag that `child_index_to_tag` returns for that
 /// position.
-#[tactic(auto, using(crate::specs::lemmas::Tags::position_of_tag))]
+#[tactic(auto, using(crate::proofs::lemmas::Tags::position_of_tag))]
 pub fn tags_tell_positions()
     ensures { (u : UnionVariants) → Valid (union_tree u) → (i tag : ℕ)
         → slice_get (variant_tags (variant_list u)) i ≡ Some tag
@@ -99,7 +99,7 @@ pub fn values_of_what_is_below_are_values()
 
 /// Of two valid types that are equal except for nullabilities and in which no fixed size is 0, one is below the other
 /// exactly where each of its values is a value of the other.
-#[tactic(auto, using(crate::specs::lemmas::SubValues::sub_values, crate::proofs::TellLaws::included_is_sub))]
+#[tactic(auto, using(crate::proofs::lemmas::SubValues::sub_values, crate::proofs::TellLaws::included_is_sub))]
 pub fn the_order_is_inclusion_of_values()
     ensures { (a b : Tree) → Valid a → HasNoSizeZero a → erase a ≡ erase b
         → (Sub a b ↔ IncludedIn a b) }
@@ -133,7 +133,7 @@ pub fn parts_are_given_in_order()
 
 /// A type that is made of valid types is valid: what the constructors of types, structs, unions, maps and
 /// extensions make, and the type of a map's entries.
-#[tactic(auto, using(crate::specs::lemmas::ValidLists::valid_struct_of, crate::specs::lemmas::ValidLists::valid_union_of, crate::specs::lemmas::Validity::entries_valid))]
+#[tactic(auto, using(crate::proofs::lemmas::ValidLists::valid_struct_of, crate::proofs::lemmas::ValidLists::valid_union_of, crate::proofs::lemmas::Validity::entries_valid))]
 pub fn types_made_of_valid_types_are_valid()
     ensures primitives { (p : PType) (n : Nullability) → Valid (primitive p n) }
     ensures lists { (t : Tree) (n : Nullability) → Valid t → Valid (list t n) }
@@ -172,7 +172,7 @@ pub fn copies_of_valid_types_are_valid()
 {}
 
 /// What a valid type holds is valid: an element, a map, a struct, a union, an extension.
-#[tactic(auto, using(crate::specs::lemmas::ValidParts::valid_parts))]
+#[tactic(auto, using(crate::proofs::lemmas::ValidParts::valid_parts))]
 pub fn parts_of_a_valid_type_are_valid()
     ensures list_element { (t u : Tree) → list_element t ≡ Some u → Valid t → Valid u }
     ensures fixed_size_list_element { (t u : Tree) → fixed_size_list_element t ≡ Some u → Valid t → Valid u }
@@ -189,7 +189,7 @@ pub fn parts_of_a_valid_type_are_valid()
 
 /// The types in a valid struct, union, map or extension are valid: of a field or a variant at a position
 /// or by its name, of all of them, of a key and a value, and a storage.
-#[tactic(auto, using(crate::specs::lemmas::Validity::types_in_valid_parts))]
+#[tactic(auto, using(crate::proofs::lemmas::Validity::types_in_valid_parts))]
 pub fn types_in_valid_parts_are_valid()
     ensures field_at { (s : StructFields) (i : ℕ) (t : Tree) → slice_get (field_types (children s)) i ≡ Some t
         → Valid (struct_tree s) → Valid t }
@@ -208,7 +208,7 @@ pub fn types_in_valid_parts_are_valid()
 {}
 
 /// Fields that are selected from valid ones, joined of two, or left once one is removed are valid.
-#[tactic(auto, using(crate::specs::lemmas::Validity::removal_valid, crate::specs::lemmas::Validity::valid_joined, crate::specs::lemmas::Validity::valid_projected))]
+#[tactic(auto, using(crate::proofs::lemmas::Validity::removal_valid, crate::proofs::lemmas::Validity::valid_joined, crate::proofs::lemmas::Validity::valid_projected))]
 pub fn selections_of_valid_fields_are_valid()
     ensures projected { (s projection : StructFields) (names : List (List ℕ))
         → Projects (children s) names (children projection) → Valid (struct_tree s)

@@ -139,10 +139,10 @@ impl MapDType {
     }
 }
 
-#[tactic(auto, using(crate::specs::lemmas::Equality::equality))]
+#[tactic(auto, using(crate::proofs::lemmas::Equality::equality))]
 impl PartialEq for MapDType {
     ghost use Rattle.dtype_types.specs.equality.EqualityOf.{same_map};
-    ghost use Rattle.dtype_types.specs.lemmas.PartsEquality.{same_map_equiv};
+    ghost use Rattle.dtype_types.specs.equality.PartsEqualityLaws.{same_map_equiv};
     ghost use Rattle.dtype_types.specs.tree.TreeOf.{map_shown};
     ghost use Rattle.std.specs.Cmp.{partial_equiv_from_equiv};
 
@@ -158,13 +158,13 @@ impl PartialEq for MapDType {
 }
 
 impl Eq for MapDType {
-    ghost use Rattle.dtype_types.specs.lemmas.PartsEquality.{same_map_equiv};
+    ghost use Rattle.dtype_types.specs.equality.PartsEqualityLaws.{same_map_equiv};
 
     ghost laws = { same_map_equiv };
 }
 
 impl Hash for MapDType {
-    ghost use Rattle.dtype_types.specs.lemmas.HashLaws.{map_fed};
+    ghost use Rattle.dtype_types.specs.equality.HashLaws.{map_fed};
     ghost use Rattle.dtype_types.specs.equality.HashesOf.{map_writes};
     ghost use Rattle.dtype_types.specs.declared.dtype.hash.HashMode.TheVariants.{Whole};
 

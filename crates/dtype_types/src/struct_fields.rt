@@ -183,7 +183,7 @@ impl StructFields {
     }
 
     /// Returns the type of the first field of the name, or `None` where no field has it.
-    #[tactic(auto, using(crate::specs::lemmas::Lookups::lookups))]
+    #[tactic(auto, using(crate::proofs::lemmas::Lookups::lookups))]
     pub fn field(&self, name: &str) -> Option<&DType>
         ensures { shown tree result ≡ first_named (children self.now) name.now }
     {
@@ -317,7 +317,7 @@ impl StructFields {
     ///
     /// - `DuplicateNames` (18): a name is there twice, also within one of the two.
     /// - `OutOfMemory` (0): an allocation fails.
-    #[tactic(auto, using(crate::specs::lemmas::Validity::valid_joined))]
+    #[tactic(auto, using(crate::proofs::lemmas::Validity::valid_joined))]
     pub fn disjoint_merge(&self, alloc: Global, other: &Self) -> VortexResult<Self>
         ensures fields { MatchResult result
             (λ s. children s ≡ children self.now ++ children other.now)
@@ -449,10 +449,10 @@ impl StructFields {
     }
 }
 
-#[tactic(auto, using(crate::specs::lemmas::Equality::equality))]
+#[tactic(auto, using(crate::proofs::lemmas::Equality::equality))]
 impl PartialEq for StructFields {
     ghost use Rattle.dtype_types.specs.equality.EqualityOf.{same_struct};
-    ghost use Rattle.dtype_types.specs.lemmas.PartsEquality.{same_struct_equiv};
+    ghost use Rattle.dtype_types.specs.equality.PartsEqualityLaws.{same_struct_equiv};
     ghost use Rattle.dtype_types.specs.tree.TreeOf.{children};
     ghost use Rattle.std.specs.Cmp.{partial_equiv_from_equiv};
 
@@ -468,13 +468,13 @@ impl PartialEq for StructFields {
 }
 
 impl Eq for StructFields {
-    ghost use Rattle.dtype_types.specs.lemmas.PartsEquality.{same_struct_equiv};
+    ghost use Rattle.dtype_types.specs.equality.PartsEqualityLaws.{same_struct_equiv};
 
     ghost laws = { same_struct_equiv };
 }
 
 impl Hash for StructFields {
-    ghost use Rattle.dtype_types.specs.lemmas.HashLaws.{struct_fed};
+    ghost use Rattle.dtype_types.specs.equality.HashLaws.{struct_fed};
     ghost use Rattle.dtype_types.specs.equality.HashesOf.{struct_writes};
     ghost use Rattle.dtype_types.specs.declared.dtype.hash.HashMode.TheVariants.{Whole};
 

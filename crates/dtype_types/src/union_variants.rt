@@ -205,7 +205,7 @@ impl UnionVariants {
     }
 
     /// Returns the type of the variant of the name, or `None` where no variant has it.
-    #[tactic(auto, using(crate::specs::lemmas::Lookups::lookups))]
+    #[tactic(auto, using(crate::proofs::lemmas::Lookups::lookups))]
     pub fn variant(&self, name: &str) -> Option<&DType>
         ensures { shown tree result ≡ variant_named (variant_list self.now) name.now }
     {
@@ -330,10 +330,10 @@ impl UnionVariants {
     }
 }
 
-#[tactic(auto, using(crate::specs::lemmas::Equality::equality))]
+#[tactic(auto, using(crate::proofs::lemmas::Equality::equality))]
 impl PartialEq for UnionVariants {
     ghost use Rattle.dtype_types.specs.equality.EqualityOf.{same_union};
-    ghost use Rattle.dtype_types.specs.lemmas.PartsEquality.{same_union_equiv};
+    ghost use Rattle.dtype_types.specs.equality.PartsEqualityLaws.{same_union_equiv};
     ghost use Rattle.dtype_types.specs.tree.TreeOf.{variant_list};
     ghost use Rattle.std.specs.Cmp.{partial_equiv_from_equiv};
 
@@ -349,13 +349,13 @@ impl PartialEq for UnionVariants {
 }
 
 impl Eq for UnionVariants {
-    ghost use Rattle.dtype_types.specs.lemmas.PartsEquality.{same_union_equiv};
+    ghost use Rattle.dtype_types.specs.equality.PartsEqualityLaws.{same_union_equiv};
 
     ghost laws = { same_union_equiv };
 }
 
 impl Hash for UnionVariants {
-    ghost use Rattle.dtype_types.specs.lemmas.HashLaws.{union_fed};
+    ghost use Rattle.dtype_types.specs.equality.HashLaws.{union_fed};
     ghost use Rattle.dtype_types.specs.equality.HashesOf.{union_writes};
     ghost use Rattle.dtype_types.specs.declared.dtype.hash.HashMode.TheVariants.{Whole};
 

@@ -2,7 +2,7 @@
 // SPDX-FileCopyrightText: Copyright the Vortex contributors
 
 //! A builder of arrays: which arrays it may append.
-#![tactic(auto, using(vortex_dtype::specs::rulesets::order))]
+#![tactic(auto, using(vortex_dtype::proofs::rulesets::order))]
 
 ghost use Rattle.std.specs.Prelude.{◌↔◌, IfOk, IsTrue};
 ghost use Rattle.dtype_types.specs.nullability.Sub.{Sub};

@@ -2,7 +2,7 @@
 // SPDX-FileCopyrightText: Copyright the Vortex contributors
 
 //! A builder of arrays: how wide its offsets and rows are.
-#![tactic(auto, using(vortex_dtype::specs::rulesets::primitives))]
+#![tactic(auto, using(vortex_dtype::proofs::rulesets::primitives))]
 
 ghost use Rattle.std.specs.Prelude.{◌≡◌, IfSome};
 ghost use Rattle.vortex_dtype.specs.Primitives.{HoldsUnsigned, IsNarrowest};

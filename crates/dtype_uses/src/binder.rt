@@ -2,7 +2,7 @@
 // SPDX-FileCopyrightText: Copyright the Vortex contributors
 
 //! A binder of expressions: the types of column references, of projections and of joins.
-#![tactic(auto, using(vortex_dtype::specs::rulesets::null_values))]
+#![tactic(auto, using(vortex_dtype::proofs::rulesets::null_values))]
 
 ghost use Rattle.std.specs.Prelude.{◌≡◌, ◌↔◌, ◌++◌, ◌∷◌, [], IfNone, IfOk, IfSome, List, Some};
 ghost use Rattle.dtype_types.specs.parts.Lookups.{Projects};

@@ -75,7 +75,7 @@ pub fn is_same_name(name: &FieldName, other: &FieldName) -> bool
 }
 
 /// Whether a column's type isn't the one that was planned.
-#[tactic(auto, using(vortex_dtype::specs::rulesets::equality))]
+#[tactic(auto, using(vortex_dtype::proofs::rulesets::equality))]
 pub fn differs_from_plan(column: &DType, planned: &DType) -> bool
     ensures { IsTrue result ↔ (tree column.now ≢ tree planned.now) }
 {
@@ -83,7 +83,7 @@ pub fn differs_from_plan(column: &DType, planned: &DType) -> bool
 }
 
 /// Whether two tables differ.
-#[tactic(auto, using(vortex_dtype::specs::rulesets::equality))]
+#[tactic(auto, using(vortex_dtype::proofs::rulesets::equality))]
 pub fn has_other_columns(table: &StructFields, other: &StructFields) -> bool
     ensures { IsTrue result ↔ (children table.now ≢ children other.now) }
 {
@@ -91,7 +91,7 @@ pub fn has_other_columns(table: &StructFields, other: &StructFields) -> bool
 }
 
 /// Whether two unions differ.
-#[tactic(auto, using(vortex_dtype::specs::rulesets::equality))]
+#[tactic(auto, using(vortex_dtype::proofs::rulesets::equality))]
 pub fn has_other_variants(union: &UnionVariants, other: &UnionVariants) -> bool
     ensures { IsTrue result ↔ (variant_list union.now ≢ variant_list other.now) }
 {
@@ -99,7 +99,7 @@ pub fn has_other_variants(union: &UnionVariants, other: &UnionVariants) -> bool
 }
 
 /// Whether two extensions differ.
-#[tactic(auto, using(vortex_dtype::specs::rulesets::equality))]
+#[tactic(auto, using(vortex_dtype::proofs::rulesets::equality))]
 pub fn is_other_extension(extension: &ExtDTypeRef, other: &ExtDTypeRef) -> bool
     ensures { IsTrue result ↔ (extension_tree extension.now ≢ extension_tree other.now) }
 {
@@ -107,7 +107,7 @@ pub fn is_other_extension(extension: &ExtDTypeRef, other: &ExtDTypeRef) -> bool
 }
 
 /// Whether two tables have a column of one type, or neither has it.
-#[tactic(auto, using(vortex_dtype::specs::rulesets::equality))]
+#[tactic(auto, using(vortex_dtype::proofs::rulesets::equality))]
 pub fn has_same_column(table: &StructFields, other: &StructFields, column: &str) -> bool
     ensures { IsTrue result
         ↔ (first_named (children table.now) column.now ≡ first_named (children other.now) column.now) }
@@ -120,7 +120,7 @@ pub fn has_same_column(table: &StructFields, other: &StructFields, column: &str)
 }
 
 /// Whether two tables have the same names of columns, in the same order.
-#[tactic(auto, using(vortex_dtype::specs::rulesets::equality))]
+#[tactic(auto, using(vortex_dtype::proofs::rulesets::equality))]
 pub fn has_same_names(table: &StructFields, other: &StructFields) -> bool
     ensures { IsTrue result ↔ (field_names (children table.now) ≡ field_names (children other.now)) }
 {
@@ -128,7 +128,7 @@ pub fn has_same_names(table: &StructFields, other: &StructFields) -> bool
 }
 
 /// Whether an array has a table's columns, whatever their nullability: then it has their names.
-#[tactic(auto, using(vortex_dtype::specs::rulesets::equality))]
+#[tactic(auto, using(vortex_dtype::proofs::rulesets::equality))]
 pub fn has_columns_of(table: &StructFields, array: &StructFields) -> bool
     ensures { IsTrue result → field_names (children table.now) ≡ field_names (children array.now) }
 {
@@ -136,7 +136,7 @@ pub fn has_columns_of(table: &StructFields, array: &StructFields) -> bool
 }
 
 /// Whether a column has the same type in two tables, or is in neither.
-#[tactic(auto, using(vortex_dtype::specs::rulesets::equality))]
+#[tactic(auto, using(vortex_dtype::proofs::rulesets::equality))]
 pub fn is_same_column(left: &StructFields, right: &StructFields, name: &str) -> bool
     ensures { IsTrue result ↔ (first_named (children left.now) name.now ≡ first_named (children right.now) name.now) }
 {
@@ -144,7 +144,7 @@ pub fn is_same_column(left: &StructFields, right: &StructFields, name: &str) -> 
 }
 
 /// Whether a column's type differs between two tables.
-#[tactic(auto, using(vortex_dtype::specs::rulesets::equality))]
+#[tactic(auto, using(vortex_dtype::proofs::rulesets::equality))]
 pub fn is_other_column(left: &StructFields, right: &StructFields, name: &str) -> bool
     ensures { IsTrue result ↔ (first_named (children left.now) name.now ≢ first_named (children right.now) name.now) }
 {
@@ -161,7 +161,7 @@ pub struct Entry {
 }
 
 /// Whether two entries are of the same column.
-#[tactic(auto, using(vortex_dtype::specs::rulesets::equality))]
+#[tactic(auto, using(vortex_dtype::proofs::rulesets::equality))]
 pub fn is_same_entry(a: &Entry, b: &Entry) -> bool
     ensures { IsTrue result ↔ ((a.now.name ≡ b.now.name) × (tree a.now.dtype ≡ tree b.now.dtype)) }
 {
@@ -169,7 +169,7 @@ pub fn is_same_entry(a: &Entry, b: &Entry) -> bool
 }
 
 /// Hashes a type that is cached under another nullability: as the other is hashed.
-#[tactic(auto, using(vortex_dtype::specs::rulesets::equality))]
+#[tactic(auto, using(vortex_dtype::proofs::rulesets::equality))]
 pub fn hash_as_cached<H: Hasher>(dtype: &DType, cached: &DType, state: &mut H)
     requires { erase (tree dtype.now) ≡ erase (tree cached.now) }
     ensures { state.new ≡ fold H.write state.old (hash_writes_ignoring_nullability (tree cached.now)) }
@@ -179,7 +179,7 @@ pub fn hash_as_cached<H: Hasher>(dtype: &DType, cached: &DType, state: &mut H)
 }
 
 /// Whether a function is called with types that it was compiled for.
-#[tactic(auto, using(vortex_dtype::specs::rulesets::equality))]
+#[tactic(auto, using(vortex_dtype::proofs::rulesets::equality))]
 pub fn is_same_signature(compiled: &[DType], called: &[DType]) -> bool
     ensures { IsTrue result ↔ (map tree compiled.now ≡ map tree called.now) }
 {
@@ -187,7 +187,7 @@ pub fn is_same_signature(compiled: &[DType], called: &[DType]) -> bool
 }
 
 /// Whether two types are remembered at one place, or neither is: equal ones always are.
-#[tactic(auto, using(vortex_dtype::specs::rulesets::equality))]
+#[tactic(auto, using(vortex_dtype::proofs::rulesets::equality))]
 pub fn is_same_place(places: &HashMap<DType, usize>, a: &DType, b: &DType) -> bool
     ensures { tree a.now ≡ tree b.now → IsTrue result }
 {

@@ -2,7 +2,7 @@
 // SPDX-FileCopyrightText: Copyright the Vortex contributors
 
 // Lookups of fields, by name and by position.
-#![tactic(auto, using(vortex_dtype::specs::rulesets::joined_fields, vortex_dtype::specs::rulesets::lookups))]
+#![tactic(auto, using(vortex_dtype::proofs::rulesets::joined_fields, vortex_dtype::proofs::rulesets::lookups))]
 
 ghost use Rattle.std.specs.Prelude.{◌≡◌, ◌≢◌, ◌+◌, ◌<◌, ℕ, List, None, Some, IfNone, IfOk, IfSome, IsSome, IsTrue, length, map, true, vec_len};
 ghost use Rattle.std.specs.Option.{option_map};
@@ -117,7 +117,7 @@ pub fn takes_column_of_second(
 }
 
 /// The columns of a join: each side's keep their types.
-#[tactic(auto, using(vortex_dtype::specs::rulesets::joined_fields, vortex_dtype::specs::rulesets::distinct_fields))]
+#[tactic(auto, using(vortex_dtype::proofs::rulesets::joined_fields, vortex_dtype::proofs::rulesets::distinct_fields))]
 pub fn joined(
     alloc: Global,
     left: &StructFields,
@@ -133,7 +133,7 @@ pub fn joined(
 }
 
 /// The table without a column: no column has its name, if none had it twice, and the others keep their types.
-#[tactic(auto, using(vortex_dtype::specs::rulesets::lookups, vortex_dtype::specs::rulesets::distinct_fields))]
+#[tactic(auto, using(vortex_dtype::proofs::rulesets::lookups, vortex_dtype::proofs::rulesets::distinct_fields))]
 pub fn without(alloc: Global, table: &StructFields, name: &str) -> VortexResult<StructFields>
     ensures gone { Distinct (field_names (children table.now))
         → IfOk result (λ s. first_named (children s) name.now ≡ None) }
@@ -147,7 +147,7 @@ pub fn without(alloc: Global, table: &StructFields, name: &str) -> VortexResult<
 }
 
 /// The table with one more column, of a new name: the name leads to its type, and the others keep theirs.
-#[tactic(auto, using(vortex_dtype::specs::rulesets::joined_fields, vortex_dtype::specs::rulesets::distinct_fields))]
+#[tactic(auto, using(vortex_dtype::proofs::rulesets::joined_fields, vortex_dtype::proofs::rulesets::distinct_fields))]
 pub fn with_one_more(
     alloc: Global,
     table: &StructFields,
@@ -165,7 +165,7 @@ pub fn with_one_more(
 }
 
 /// A table of the names and the types that a file lists, or `None` where they are not as many.
-#[tactic(auto, using(vortex_dtype::specs::rulesets::made_of))]
+#[tactic(auto, using(vortex_dtype::proofs::rulesets::made_of))]
 pub fn table_of_lists(
     alloc: Global,
     names: &[&str],

@@ -2,7 +2,7 @@
 // SPDX-FileCopyrightText: Copyright the Vortex contributors
 
 // Lookups that say how many names they compared.
-#![tactic(auto, using(vortex_dtype::specs::rulesets::lookups))]
+#![tactic(auto, using(vortex_dtype::proofs::rulesets::lookups))]
 
 ghost use Rattle.std.specs.Prelude.{◌≡◌, ◌≤◌, length, true};
 ghost use Rattle.vortex_dtype.specs.FieldNames.{first_place};

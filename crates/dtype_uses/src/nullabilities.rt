@@ -2,7 +2,7 @@
 // SPDX-FileCopyrightText: Copyright the Vortex contributors
 
 // Nullability set, and set again.
-#![tactic(auto, using(vortex_dtype::specs::rulesets::nullabilities, vortex_dtype::specs::rulesets::order))]
+#![tactic(auto, using(vortex_dtype::proofs::rulesets::nullabilities, vortex_dtype::proofs::rulesets::order))]
 
 ghost use Rattle.std.specs.Prelude.{◌≡◌, ◌↔◌, ◌⊎◌, IfOk, IsTrue, true};
 ghost use Rattle.vortex_dtype.specs.Types.Nullability.TheVariants.{NonNullable, Nullable};
@@ -77,7 +77,7 @@ pub fn with_own_nullability(dtype: &DType, alloc: Global) -> VortexResult<DType>
 }
 
 /// The type of a sum of two columns: it has null where one of them has.
-#[tactic(auto, using(vortex_dtype::specs::rulesets::nullabilities, vortex_dtype::specs::rulesets::null_values))]
+#[tactic(auto, using(vortex_dtype::proofs::rulesets::nullabilities, vortex_dtype::proofs::rulesets::null_values))]
 pub fn null_where_either(a: &DType, b: &DType, alloc: Global) -> VortexResult<DType>
     ensures { IfOk result (λ d. Of null_value (tree d) ↔ (IsNullable (tree a.now) ⊎ IsNullable (tree b.now))) }
 {
@@ -85,7 +85,7 @@ pub fn null_where_either(a: &DType, b: &DType, alloc: Global) -> VortexResult<DT
 }
 
 /// Whether making a type nullable changes it: where null isn't a value of it.
-#[tactic(auto, using(vortex_dtype::specs::rulesets::nullabilities, vortex_dtype::specs::rulesets::null_values, vortex_dtype::specs::rulesets::equality))]
+#[tactic(auto, using(vortex_dtype::proofs::rulesets::nullabilities, vortex_dtype::proofs::rulesets::null_values, vortex_dtype::proofs::rulesets::equality))]
 pub fn changes_when_nullable(dtype: &DType, alloc: Global) -> VortexResult<bool>
     ensures { IfOk result (λ b. IsTrue b ↔ (Of null_value (tree dtype.now) → ⊥)) }
 {

@@ -2,7 +2,7 @@
 // SPDX-FileCopyrightText: Copyright the Vortex contributors
 
 // Names of numbers, and their bytes.
-#![tactic(auto, using(vortex_dtype::specs::rulesets::decimals))]
+#![tactic(auto, using(vortex_dtype::proofs::rulesets::decimals))]
 
 ghost use Rattle.std.specs.Prelude.{◌≡◌, ◌-◌, ◌*◌, ◌^◌, ◌≤◌};
 ghost use Rattle.vortex_dtype.specs.PTypeNumbers.{plain};

@@ -2,7 +2,7 @@
 // SPDX-FileCopyrightText: Copyright the Vortex contributors
 
 //! Whether a table has a column, asked in one way and said in another.
-#![tactic(auto, using(vortex_dtype::specs::rulesets::presence))]
+#![tactic(auto, using(vortex_dtype::proofs::rulesets::presence))]
 
 ghost use Rattle.std.specs.Prelude.{◌↔◌, Contains, IfOk, IsSome, IsTrue};
 ghost use Rattle.dtype_types.specs.parts.Lookups.{field_names, first_named, variant_names};
@@ -26,7 +26,7 @@ pub fn copy_has_column(alloc: Global, table: &StructFields, name: &str) -> Vorte
 }
 
 /// Whether a union has a variant of the name: where it has a type of that name.
-#[tactic(auto, using(vortex_dtype::specs::rulesets::lookups, vortex_dtype::specs::rulesets::presence))]
+#[tactic(auto, using(vortex_dtype::proofs::rulesets::lookups, vortex_dtype::proofs::rulesets::presence))]
 pub fn has_variant(union: &UnionVariants, name: &str) -> bool
     ensures { IsTrue result ↔ Contains (variant_names (variant_list union.now)) name.now }
 {

@@ -2,7 +2,7 @@
 // SPDX-FileCopyrightText: Copyright the Vortex contributors
 
 //! Struct types and their columns: from a type to what it has, and back.
-#![tactic(auto, using(vortex_dtype::specs::rulesets::structs, vortex_dtype::specs::rulesets::equality))]
+#![tactic(auto, using(vortex_dtype::proofs::rulesets::structs, vortex_dtype::proofs::rulesets::equality))]
 
 ghost use Rattle.std.specs.Prelude.{◌≡◌, ◌↔◌, IfSome, IsTrue};
 ghost use Rattle.vortex_dtype.specs.Nullable.{nullability};

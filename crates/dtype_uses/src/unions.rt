@@ -2,7 +2,7 @@
 // SPDX-FileCopyrightText: Copyright the Vortex contributors
 
 //! Unions made of names, types and tags.
-#![tactic(auto, using(vortex_dtype::specs::rulesets::made_of, vortex_dtype::specs::rulesets::tags, vortex_dtype::specs::rulesets::lookups))]
+#![tactic(auto, using(vortex_dtype::proofs::rulesets::made_of, vortex_dtype::proofs::rulesets::tags, vortex_dtype::proofs::rulesets::lookups))]
 
 ghost use Rattle.std.specs.Prelude.{◌≡◌, ◌↔◌, ◌<◌, Contains, IfOk, IfSome, IsSome, IsTrue, length, map, slice_get};
 ghost use Rattle.dtype_types.specs.parts.Lookups.{variant_named, variant_names, variant_types, variant_tags};

@@ -2,7 +2,7 @@
 // SPDX-FileCopyrightText: Copyright the Vortex contributors
 
 // What a caller has of a valid type.
-#![tactic(auto, using(vortex_dtype::specs::rulesets::validity))]
+#![tactic(auto, using(vortex_dtype::proofs::rulesets::validity))]
 
 ghost use Rattle.std.specs.Prelude.{◌≡◌, ◌<◌, All, IfOk, IfSome, IsTrue, Some, length, true, vec_len};
 ghost use Rattle.dtype_types.specs.tree.Valid.{Valid};
@@ -178,7 +178,7 @@ pub fn projected(
 }
 
 /// The type that a path leads to, valid where the type that it leads through is.
-#[tactic(auto, using(vortex_dtype::specs::rulesets::stepping))]
+#[tactic(auto, using(vortex_dtype::proofs::rulesets::stepping))]
 pub fn type_along_path<'a>(path: &FieldPath, dtype: &'a DType) -> Option<&'a DType>
     ensures { Valid (tree dtype.now) → IfSome result (λ d. Valid (tree d.now)) }
 {

@@ -17,8 +17,8 @@ use Rattle.vortex_dtype.specs.IsMessage.{IsMessage}
 use Rattle.vortex_dtype.specs.Reads.{Fault, Reads, ReadsAsNothing}
 use Rattle.vortex_dtype.specs.ReadInOrder.{read, Gives}
 use Rattle.vortex_dtype.specs.Written.{written}
-use Rattle.vortex_dtype.specs.lemmas.InOrder.{read_reads}
-use Rattle.vortex_dtype.specs.lemmas.Reads.{reads_accepted, refused_faulty, written_read}
+use Rattle.vortex_dtype.proofs.lemmas.InOrder.{read_reads}
+use Rattle.vortex_dtype.proofs.lemmas.Reads.{reads_accepted, refused_faulty, written_read}
 
 pub gives_in_order : (s : Meaning) (m : Message) (r : Result DType VortexError) → Gives tree r (read s m) → MatchResult r (λ t. read s m ≡ Ok (tree t)) (λ e. (e ≡ OutOfMemory) ⊎ (read s m ≡ Err e))
 gives_in_order s m (Ok d) g = g

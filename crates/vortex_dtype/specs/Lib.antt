@@ -17,8 +17,6 @@ pub mod Accepts
 pub mod PathMessage
 pub mod StorageKinds
 pub mod Types
-pub mod lemmas
-pub mod rulesets
 pub use Rattle.dtype_base.specs.BinaryDigits
 pub use Rattle.dtype_base.specs.Bytes
 pub use Rattle.dtype_base.specs.Decimals
@@ -64,12 +62,12 @@ pub use Rattle.dtype_projection.specs.Projected
 pub use Rattle.dtype_projection.specs.Restricted
 pub use Rattle.dtype_base.specs.Distinct
 pub use Rattle.dtype_types.specs.parts.FieldTypes
-pub use Rattle.dtype_paths.specs.lemmas.PathOrders
-pub use Rattle.dtype_types.specs.lemmas.JoinedFields
-pub use Rattle.dtype_types.specs.lemmas.NullValues
-pub use Rattle.dtype_types.specs.lemmas.Nullabilities
-pub use Rattle.dtype_types.specs.lemmas.Tags
-pub use Rattle.dtype_types.specs.lemmas.Validity
+pub use Rattle.dtype_paths.specs.PathOrderLaws
+pub use Rattle.dtype_types.proofs.lemmas.JoinedFields
+pub use Rattle.dtype_types.proofs.lemmas.NullValues
+pub use Rattle.dtype_types.proofs.lemmas.Nullabilities
+pub use Rattle.dtype_types.proofs.lemmas.Tags
+pub use Rattle.dtype_types.proofs.lemmas.Validity
 pub use Rattle.dtype_paths.specs.Texts as PathTexts
 pub use Rattle.dtype_messages.specs.Message
 pub use Rattle.dtype_messages.specs.MessageOf

@@ -130,7 +130,7 @@ impl<V: ExtVTable> ExtDType<V> {
     ///
     /// - `MetadataRefused` (22): exactly where the vtable can't write the metadata.
     /// - `OutOfMemory` (0): an allocation fails.
-    #[tactic(auto, using(dtype_types::specs::lemmas::Validity::validity))]
+    #[tactic(auto, using(dtype_types::proofs::lemmas::Validity::validity))]
     pub fn with_nullability(&self, alloc: Global, n: Nullability) -> VortexResult<ExtDTypeRef>
         requires { n ≡ NonNullable → CanBeNonNullable (storage_of self.now) }
         ensures id { IfOk result (λ e. extension_id e ≡ V.id_text (vtable_of self.now)) }

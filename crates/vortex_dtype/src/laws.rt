@@ -31,7 +31,7 @@ pub use dtype_types::laws as types;
 
 /// What `register` changes of any session, whatever was called before: the id means what the plugin means; every
 /// other id means what it meant, and unknown ids are kept or not as they were.
-#[tactic(auto, using(crate::specs::lemmas::Sessions::sessions, crate::specs::lemmas::Sessions::session_laws))]
+#[tactic(auto, using(crate::proofs::lemmas::Sessions::sessions, crate::proofs::lemmas::Sessions::session_laws))]
 pub fn register_changes_one_id()
     ensures registered { (s : Meaning) (id : List ℕ) (r : Rewrites) → (register_in id r s).registered id ≡ Some r }
     ensures others { (s : Meaning) (id other : List ℕ) (r : Rewrites)
@@ -40,28 +40,28 @@ pub fn register_changes_one_id()
 {}
 
 /// What `allow_unknown` changes of any session: unknown ids are kept, and every id means what it meant.
-#[tactic(auto, using(crate::specs::lemmas::Sessions::sessions, crate::specs::lemmas::Sessions::session_laws))]
+#[tactic(auto, using(crate::proofs::lemmas::Sessions::sessions, crate::proofs::lemmas::Sessions::session_laws))]
 pub fn allow_unknown_changes_the_flag()
     ensures unknown { (s : Meaning) → (allow_unknown_in s).unknown ≡ true }
     ensures registered { (s : Meaning) (id : List ℕ) → (allow_unknown_in s).registered id ≡ s.registered id }
 {}
 
 /// After any calls the plugin that was registered last under an id is the one that counts.
-#[tactic(auto, using(crate::specs::lemmas::Sessions::sessions, crate::specs::lemmas::Sessions::session_laws))]
+#[tactic(auto, using(crate::proofs::lemmas::Sessions::sessions, crate::proofs::lemmas::Sessions::session_laws))]
 pub fn last_registered_counts()
     ensures { (before rest : List Call) (id : List ℕ) (r : Rewrites) → LeavesAlone id rest
         → (after (before ++ register id r ∷ rest) empty_meaning).registered id ≡ Some r }
 {}
 
 /// After calls none of which registers an id, no plugin is registered under it.
-#[tactic(auto, using(crate::specs::lemmas::Sessions::sessions, crate::specs::lemmas::Sessions::session_laws))]
+#[tactic(auto, using(crate::proofs::lemmas::Sessions::sessions, crate::proofs::lemmas::Sessions::session_laws))]
 pub fn none_registered_counts()
     ensures { (calls : List Call) (id : List ℕ) → LeavesAlone id calls
         → (after calls empty_meaning).registered id ≡ None }
 {}
 
 /// After any calls unknown ids are kept exactly where one of them was `allow_unknown`.
-#[tactic(auto, using(crate::specs::lemmas::Sessions::sessions, crate::specs::lemmas::Sessions::session_laws))]
+#[tactic(auto, using(crate::proofs::lemmas::Sessions::sessions, crate::proofs::lemmas::Sessions::session_laws))]
 pub fn unknown_once_allowed()
     ensures { (calls : List Call) → (after calls empty_meaning).unknown ≡ list_any is_allow calls }
 {}
@@ -73,7 +73,7 @@ pub fn kept_again()
 {}
 
 /// Setting the outer nullability of a valid type doesn't change whether a session admits it.
-#[tactic(auto, using(crate::specs::lemmas::Sessions::sessions, crate::specs::lemmas::Sessions::session_laws))]
+#[tactic(auto, using(crate::proofs::lemmas::Sessions::sessions, crate::proofs::lemmas::Sessions::session_laws))]
 pub fn admits_set_null()
     ensures { (s : Meaning) → LawfulSession s → (t u : Tree) (n : Nullability)
         → Valid t → SetNull t n u → Admits s t ↔ Admits s u }
@@ -81,7 +81,7 @@ pub fn admits_set_null()
 
 /// Reading in order agrees with the relations. It gives a type exactly where the message reads as that type. Where it
 /// gives an error, that fault is in the message, which reads as no type.
-#[tactic(auto, using(crate::specs::lemmas::Reading::reading))]
+#[tactic(auto, using(crate::proofs::lemmas::Reading::reading))]
 pub fn read_is_what_reads()
     ensures given { (s : Meaning) (m : Message) (t : Tree) → (read s m ≡ Ok t) ↔ Reads s m t }
     ensures refused { (s : Meaning) (m : Message) (e : VortexError)
@@ -92,7 +92,7 @@ pub fn read_is_what_reads()
 /// fault. The message written of the type that a message reads as is its normal form. Where the plugins are lawful that
 /// type is valid and admitted: the message is accepted. Accepted messages give equal types exactly where their normal
 /// forms are equal, and a normal form is its own normal form. An admitted type is read back from what is written of it.
-#[tactic(auto, using(crate::specs::lemmas::Reading::reading))]
+#[tactic(auto, using(crate::proofs::lemmas::Reading::reading))]
 pub fn messages_are_exact()
     ensures one_type { (s : Meaning) (m : Message) (t u : Tree)
         → Reads s m t → Reads s m u → t ≡ u }

@@ -3,7 +3,7 @@
 
 // Types and paths from messages, and messages from types: `read` walks a message, `kinds` builds the type of each kind,
 // `write` builds the messages.
-#![tactic(auto, using(crate::specs::lemmas::PathMessages::path_by_steps))]
+#![tactic(auto, using(crate::proofs::lemmas::PathMessages::path_by_steps))]
 
 ghost use Rattle.std.specs.Prelude.{◌≡◌, ◌⊎◌, Some, None, Ok, Err, IfOk, Contains, map, MatchResult};
 ghost use Rattle.dtype_base.specs.declared.vortex_error.MessageFault.TheVariants.{PathPartMissing};

@@ -3,7 +3,7 @@
 
 // Functions that make a session and return it, as users would write them, with contracts on what the session means.
 // They are among the tests, since the gate accepts functions that return trait objects nowhere else.
-#![tactic(auto, using(vortex_dtype::specs::rulesets::sessions))]
+#![tactic(auto, using(vortex_dtype::proofs::rulesets::sessions))]
 
 ghost use Rattle.std.specs.Prelude.{◌≡◌, IfOk, IsOkUnless, Some};
 ghost use Rattle.dtype_base.specs.declared.vortex_error.VortexError.TheVariants.{OutOfMemory};

@@ -2,7 +2,7 @@
 -- SPDX-FileCopyrightText: Copyright the Vortex contributors
 
 use Rattle.std.proofs.Common.{◌+◌, sym, ap, subst, ◌∙◌, arith}
-use Rattle.dtype_types.specs.lemmas.TreeLaws.{tree_struct}
+use Rattle.dtype_types.proofs.lemmas.TreeLaws.{tree_struct}
 use Rattle.dtype_types.specs.tree.TreeOf.{children, tree}
 use Rattle.dtype_types.specs.tree.Width.{Measures}
 use Rattle.dtype_types.proofs.Widths.{next_measured, variable_beginning}

@@ -65,7 +65,7 @@ pub(crate) fn equal_under(a: &DType, b: &DType, rule: NullabilityRule) -> bool
 impl DType {
     /// Returns whether the types are equal when every nullability in them is ignored. Names, tags, sizes,
     /// `keys_sorted`, decimals, ids and metadata count.
-    #[tactic(auto, using(crate::specs::lemmas::EqualityLaws::exact_tests))]
+    #[tactic(auto, using(crate::specs::equality::EqualityLaws::exact_tests))]
     pub fn eq_ignore_nullability(&self, other: &DType) -> bool
         ensures { IsTrue result ↔ (erase (tree self.now) ≡ erase (tree other.now)) }
     {
@@ -73,10 +73,10 @@ impl DType {
     }
 }
 
-#[tactic(auto, using(crate::specs::lemmas::EqualityLaws::exact_tests))]
+#[tactic(auto, using(crate::specs::equality::EqualityLaws::exact_tests))]
 impl PartialEq for DType {
     ghost use Rattle.dtype_types.specs.equality.EqualityOf.{same_dtype};
-    ghost use Rattle.dtype_types.specs.lemmas.EqualityLaws.{same_dtype_equiv};
+    ghost use Rattle.dtype_types.specs.equality.EqualityLaws.{same_dtype_equiv};
     ghost use Rattle.std.specs.Cmp.{partial_equiv_from_equiv};
 
     ghost eq = { same_dtype };
@@ -91,7 +91,7 @@ impl PartialEq for DType {
 }
 
 impl Eq for DType {
-    ghost use Rattle.dtype_types.specs.lemmas.EqualityLaws.{same_dtype_equiv};
+    ghost use Rattle.dtype_types.specs.equality.EqualityLaws.{same_dtype_equiv};
 
     ghost laws = { same_dtype_equiv };
 }

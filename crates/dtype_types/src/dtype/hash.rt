@@ -90,7 +90,7 @@ impl DType {
 }
 
 impl Hash for DType {
-    ghost use Rattle.dtype_types.specs.lemmas.HashLaws.{dtype_fed};
+    ghost use Rattle.dtype_types.specs.equality.HashLaws.{dtype_fed};
     ghost use Rattle.dtype_types.specs.equality.Hashes.{hash_writes};
 
     ghost hash_input = { λ d. hash_writes (tree d) };

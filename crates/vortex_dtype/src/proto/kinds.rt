@@ -89,7 +89,7 @@ fn decimal_within(precision: u8, scale: i8) -> VortexResult<DecimalDType>
 }
 
 // Builds the map of a key and a value type.
-#[tactic(auto, using(dtype_types::specs::lemmas::Validity::validity), unfolding(crate::specs::ReadInOrder::map_read))]
+#[tactic(auto, using(dtype_types::proofs::lemmas::Validity::validity), unfolding(crate::specs::ReadInOrder::map_read))]
 pub(crate) fn map_of(
     alloc: Global,
     key: DType,
@@ -116,7 +116,7 @@ fn names_of(alloc: Global, texts: &[String]) -> VortexResult<FieldNames>
 }
 
 // Builds the struct of names and types, after the check that there are as many of both.
-#[tactic(auto, using(dtype_types::specs::lemmas::Validity::validity), unfolding(crate::specs::ReadInOrder::struct_read))]
+#[tactic(auto, using(dtype_types::proofs::lemmas::Validity::validity), unfolding(crate::specs::ReadInOrder::struct_read))]
 pub(crate) fn struct_of(
     alloc: Global,
     names: &[String],

@@ -6,8 +6,8 @@ use Rattle.std.specs.Bool.{then_some}
 use Rattle.std.specs.Int.Bits.{bit_and}
 use Rattle.std.proofs.lemmas.Bool.{eqb-true}
 use Rattle.std.proofs.lemmas.Option.{slice_get_within}
-use Rattle.dtype_base.specs.lemmas.BinaryDigits.{digits_fewest}
-use Rattle.dtype_base.specs.lemmas.Lookups.{no_place}
+use Rattle.dtype_base.proofs.lemmas.BinaryDigits.{digits_fewest}
+use Rattle.dtype_base.proofs.lemmas.Lookups.{no_place}
 use Rattle.dtype_base.specs.Comparisons.{comparisons}
 use Rattle.dtype_base.specs.private.NameOrder.{name_cmp, positions}
 use Rattle.dtype_base.proofs.NameSearch.{Searching, as_many, as_many_positions, position_at, no_entry, steps, ends, counts}

@@ -2,7 +2,7 @@
 -- SPDX-FileCopyrightText: Copyright the Vortex contributors
 
 use Rattle.std.proofs.Common.{sym}
-use Rattle.dtype_base.specs.lemmas.Lookups.{absent_of_place, first_of_place, no_place, place_of_first}
+use Rattle.dtype_base.proofs.lemmas.Lookups.{absent_of_place, first_of_place, no_place, place_of_first}
 use Rattle.dtype_base.proofs.laws.lookups_give_the_first_position.Goals as goal
 
 pub returns-clause-position : goal.returns-clause-position

@@ -5,7 +5,7 @@ use Rattle.std.proofs.Common.{◌∙◌, ap, sym}
 use Rattle.dtype_paths.specs.private.ChildTrees.{at_key}
 use Rattle.dtype_paths.specs.Equality.{same_field}
 use Rattle.dtype_paths.specs.EqualityLaws.{same_field_equiv}
-use Rattle.dtype_paths.specs.lemmas.Cases.{by_bool}
+use Rattle.dtype_paths.proofs.lemmas.Cases.{by_bool}
 use Rattle.dtype_paths.proofs.child_tree.is_taken.Goals as goal
 
 pub returns-in-Some-clause-taken : goal.returns-in-Some-clause-taken

@@ -1,7 +1,7 @@
 -- SPDX-License-Identifier: Apache-2.0
 -- SPDX-FileCopyrightText: Copyright the Vortex contributors
 
-use Rattle.dtype_paths.specs.lemmas.SetCovers.{covers_least, least_in, least_least, least_same}
+use Rattle.dtype_paths.proofs.lemmas.SetCovers.{covers_least, least_in, least_least, least_same}
 use Rattle.dtype_paths.proofs.laws.a_cover_is_its_own_cover.Goals as goal
 
 pub returns-clause-coverage : goal.returns-clause-coverage

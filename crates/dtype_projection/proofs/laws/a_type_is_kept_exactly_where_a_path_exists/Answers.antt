@@ -3,7 +3,7 @@
 
 use Rattle.std.proofs.Common.{◌≡◌, Option, Some, None, IsSome, refl}
 use Rattle.dtype_projection.specs.Projected.{projected}
-use Rattle.dtype_projection.specs.lemmas.Projections.{kept_has_path, path_is_kept}
+use Rattle.dtype_projection.proofs.lemmas.Projections.{kept_has_path, path_is_kept}
 use Rattle.dtype_projection.proofs.laws.a_type_is_kept_exactly_where_a_path_exists.Goals as goal
 
 some_of : {A : Type 0} (o : Option A) → IsSome o → (u : A) × (o ≡ Some u)

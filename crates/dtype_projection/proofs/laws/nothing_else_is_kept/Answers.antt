@@ -1,7 +1,7 @@
 -- SPDX-License-Identifier: Apache-2.0
 -- SPDX-FileCopyrightText: Copyright the Vortex contributors
 
-use Rattle.dtype_projection.specs.lemmas.Kept.{kept_overlaps}
+use Rattle.dtype_projection.proofs.lemmas.Kept.{kept_overlaps}
 use Rattle.dtype_projection.proofs.laws.nothing_else_is_kept.Goals as goal
 
 pub returns : goal.returns

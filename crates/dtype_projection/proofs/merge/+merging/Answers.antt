@@ -8,7 +8,7 @@ use Rattle.std.proofs.lemmas.List.{length-map}
 use Rattle.dtype_types.specs.tree.Erase.{erase}
 use Rattle.dtype_types.specs.parts.Lookups.{field_names, variant_names, variant_tags}
 use Rattle.dtype_types.specs.tree.TreeOf.{children, variant_list, fields_of, tree, variants_of}
-use Rattle.dtype_types.specs.lemmas.TreeLaws.{tree_extension, tree_map, tree_struct, tree_union}
+use Rattle.dtype_types.proofs.lemmas.TreeLaws.{tree_extension, tree_map, tree_struct, tree_union}
 use Rattle.dtype_projection.proofs.MergedKinds.{lacks_element, lacks_entries, lacks_fields, lacks_fixed, lacks_storage, lacks_variants, not_extension, not_fixed, not_list, not_map, not_struct, not_union, tree_fixed, tree_list, without_parts}
 use Rattle.dtype_projection.proofs.MergedParts.{fails, fields_alike, fields_even, fields_fail, fields_made, finished, next_pair, no_pair, types_shown, union_fails, valid_next, variants_alike, variants_fail, variants_made}
 use Rattle.dtype_projection.proofs.TypeWeights.{weight_fields, weight_of_fields, weight_of_variants, weight_types, weight_variants}

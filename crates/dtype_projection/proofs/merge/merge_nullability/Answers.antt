@@ -7,7 +7,7 @@ use Rattle.dtype_types.specs.tree.Erase.{erase}
 use Rattle.dtype_types.specs.nullability.Sub.{Sub}
 use Rattle.dtype_types.specs.tree.TreeOf.{tree}
 use Rattle.dtype_types.specs.tree.Valid.{Valid}
-use Rattle.dtype_projection.specs.lemmas.Merging.{given_least, given_valid, given_values, given_where, merged_below, merged_none, merged_some, valid_either}
+use Rattle.dtype_projection.proofs.lemmas.Merging.{given_least, given_valid, given_values, given_where, merged_below, merged_none, merged_some, valid_either}
 use Rattle.dtype_projection.proofs.merge.merge_nullability.Goals as goal
 
 -- ---- types that differ in more

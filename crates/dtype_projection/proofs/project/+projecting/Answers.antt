@@ -10,7 +10,7 @@ use Rattle.dtype_types.specs.tree.Tree.{fields}
 use Rattle.dtype_types.specs.tree.TreeOf.{tree, children}
 use Rattle.dtype_projection.specs.PathLists.{contains_path, borrowed, kept_field}
 use Rattle.dtype_projection.specs.Projected.{struct_with}
-use Rattle.dtype_projection.specs.lemmas.Projections.{projected_nothing}
+use Rattle.dtype_projection.proofs.lemmas.Projections.{projected_nothing}
 use Rattle.dtype_projection.proofs.BorrowedPaths.{none_borrowed}
 use Rattle.dtype_projection.proofs.KeptFields.{all_done, all_kept, fields_of_pairs, kept_at, one_kept}
 use Rattle.dtype_projection.proofs.Weights.{field_below}

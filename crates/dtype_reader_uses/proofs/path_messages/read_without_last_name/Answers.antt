@@ -5,7 +5,7 @@ use Rattle.std.proofs.Common.{◌≡◌, [], ap, map, refl, sym, ◌∙◌, Opti
 use Rattle.std.proofs.lemmas.List.{map-append}
 use Rattle.vortex_dtype.specs.PathMessage.{path_of}
 use Rattle.vortex_dtype.specs.PathNames.{part_name}
-use Rattle.vortex_dtype.specs.lemmas.PathMessages.{no_path}
+use Rattle.vortex_dtype.proofs.lemmas.PathMessages.{no_path}
 use Rattle.dtype_reader_uses.proofs.path_messages.read_without_last_name.Goals as goal
 
 -- what gives nothing isn't given

@@ -4,7 +4,7 @@
 use Rattle.std.proofs.Common.{◌≡◌, ◌∙◌, ◌+◌, ◌∷◌, ◌++◌, [], take, ap, sym, arith}
 use Rattle.std.specs.FinSet as set
 use Rattle.std.proofs.lemmas.List.{take_more}
-use Rattle.vortex_dtype.specs.rulesets.{of_push}
+use Rattle.vortex_dtype.proofs.rulesets.{of_push}
 use Rattle.vortex_dtype.specs.PathOrder.{set_of}
 use Rattle.dtype_reader_uses.proofs.path_sets.set_of_borrowed.Goals as goal
 

@@ -2,8 +2,8 @@
 -- SPDX-FileCopyrightText: Copyright the Vortex contributors
 
 use Rattle.dtype_types.specs.nullability.Nullable.{nullability}
-use Rattle.dtype_types.specs.lemmas.Nullabilities.{set_back}
-use Rattle.dtype_types.specs.lemmas.Validity.{set_valid}
+use Rattle.dtype_types.proofs.lemmas.Nullabilities.{set_back}
+use Rattle.dtype_types.proofs.lemmas.Validity.{set_valid}
 use Rattle.dtype_types.proofs.laws.setting_a_nullability_keeps_validity.Goals as goal
 
 pub returns : goal.returns

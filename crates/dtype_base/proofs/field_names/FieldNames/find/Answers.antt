@@ -5,7 +5,7 @@ use Rattle.std.proofs.Common.{◌≡◌, length, slice_get, Some, refl, sym, ap,
 use Rattle.std.proofs.lemmas.Option.{slice_get_read, slice_get_within, same_Some}
 use Rattle.std.proofs.lemmas.Bool.{cases_lt, false≢true}
 use Rattle.dtype_base.specs.FieldNames.{first_place}
-use Rattle.dtype_base.specs.lemmas.Lookups.{place_of_first, no_place}
+use Rattle.dtype_base.proofs.lemmas.Lookups.{place_of_first, no_place}
 use Rattle.dtype_base.proofs.field_names.FieldNames.find.Goals as goal
 
 pub returns-then-eq_str : goal.returns-then-eq_str

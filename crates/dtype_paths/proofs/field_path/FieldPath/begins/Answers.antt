@@ -1,7 +1,7 @@
 -- SPDX-License-Identifier: Apache-2.0
 -- SPDX-FileCopyrightText: Copyright the Vortex contributors
 
-use Rattle.dtype_paths.specs.lemmas.Beginnings.{starts_with-Decides}
+use Rattle.dtype_paths.proofs.lemmas.Beginnings.{starts_with-Decides}
 use Rattle.dtype_paths.proofs.field_path.FieldPath.begins.Goals as goal
 
 pub returns : goal.returns

@@ -5,7 +5,7 @@ use Rattle.std.proofs.Common.{◌↔◌, ◌∙◌, IsTrue, List, ap, subst}
 use Rattle.std.proofs.lemmas.Bool.Decides.{same_from_decides}
 use Rattle.std.specs.FinSet as set
 use Rattle.std.specs.List.{Contains}
-use Rattle.dtype_paths.specs.lemmas.SetMembers.{from_list-Decides}
+use Rattle.dtype_paths.proofs.lemmas.SetMembers.{from_list-Decides}
 use Rattle.dtype_paths.specs.private.Trie.{terminals}
 use Rattle.dtype_paths.specs.declared.field.Field.{Field}
 use Rattle.dtype_paths.proofs.field_path_set.FieldPathSet.contains.Goals as goal

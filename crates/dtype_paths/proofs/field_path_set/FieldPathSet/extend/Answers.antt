@@ -5,7 +5,7 @@ use Rattle.std.proofs.Common.{ap, sym, ◌∙◌}
 use Rattle.std.proofs.iter.runs.Made.{run_of_exit}
 use Rattle.std.proofs.lemmas.Result.{MatchResult-from_err}
 use Rattle.std.specs.FinSet as set
-use Rattle.dtype_paths.specs.lemmas.SetMembers.{of_push, union_insert, union_none}
+use Rattle.dtype_paths.proofs.lemmas.SetMembers.{of_push, union_insert, union_none}
 use Rattle.dtype_paths.specs.PathOrder.{path_cmp}
 use Rattle.dtype_paths.proofs.field_path_set.FieldPathSet.extend.Goals as goal
 

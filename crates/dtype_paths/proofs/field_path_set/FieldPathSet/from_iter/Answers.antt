@@ -4,7 +4,7 @@
 use Rattle.std.proofs.Common.{◌≡◌, List, ap, ◌∙◌, refl, subst, sym, true}
 use Rattle.std.proofs.iter.runs.Made.{run, to_end}
 use Rattle.std.specs.FinSet as set
-use Rattle.dtype_paths.specs.lemmas.SetMembers.{union_with_none}
+use Rattle.dtype_paths.proofs.lemmas.SetMembers.{union_with_none}
 use Rattle.dtype_paths.specs.PathOrder.{PathSet, path_cmp}
 use Rattle.dtype_paths.specs.declared.field.Field.{Field}
 use Rattle.dtype_paths.proofs.field_path_set.FieldPathSet.from_iter.Goals as goal

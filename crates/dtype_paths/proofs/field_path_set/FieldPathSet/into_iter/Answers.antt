@@ -2,7 +2,7 @@
 -- SPDX-FileCopyrightText: Copyright the Vortex contributors
 
 use Rattle.std.specs.Vec.Iter.{into_iter_items}
-use Rattle.dtype_paths.specs.lemmas.SetCovers.{same_coverage, cover_within}
+use Rattle.dtype_paths.proofs.lemmas.SetCovers.{same_coverage, cover_within}
 use Rattle.dtype_paths.proofs.field_path_set.FieldPathSet.into_iter.Goals as goal
 
 pub returns-clause-covers : goal.returns-clause-covers

@@ -10,7 +10,7 @@ use Rattle.dtype_paths.specs.Covering.{IsCountOf}
 use Rattle.dtype_paths.specs.declared.field.Field.{Field}
 use Rattle.dtype_paths.specs.private.PathLists.{Begun, Least}
 use Rattle.dtype_paths.specs.private.Trie.{terminals, IsTrie}
-use Rattle.dtype_paths.specs.lemmas.Counts.{none_listed}
+use Rattle.dtype_paths.proofs.lemmas.Counts.{none_listed}
 use Rattle.dtype_paths.proofs.BegunBounds.{begun_some, begun_none, begun_at_most}
 use Rattle.dtype_paths.proofs.SetBridges.{begun_is, cover_is}
 use Rattle.dtype_paths.proofs.Visiting.{Visits, visits-start, visits-counts, visits-within, visited-terminal, visited-children, visited-count, found-least}

@@ -3,7 +3,7 @@
 
 use Rattle.std.proofs.Common.{◌≡◌, Some}
 use Rattle.dtype_paths.specs.private.Trie.{child_at, terminals, walk, IsPrefixMatch}
-use Rattle.dtype_paths.specs.lemmas.SetMembers.{inserted}
+use Rattle.dtype_paths.proofs.lemmas.SetMembers.{inserted}
 use Rattle.dtype_paths.proofs.NodeGrowth.{terminals-finished, grown-gains, nodes-finished, nodes-grown}
 use Rattle.dtype_paths.proofs.NodeIndices.{gains}
 use Rattle.dtype_paths.proofs.trie.Trie.insert.Goals as goal

@@ -8,7 +8,7 @@ use Rattle.dtype_types.specs.tree.Tree.{Tree}
 use Rattle.dtype_types.specs.tree.TreeOf.{tree}
 use Rattle.dtype_types.specs.values.Value.{AddsNull}
 use Rattle.dtype_types.specs.declared.dtype.DType.{DType}
-use Rattle.dtype_types.specs.lemmas.NullValues.{nullable_adds_null}
+use Rattle.dtype_types.proofs.lemmas.NullValues.{nullable_adds_null}
 use Rattle.dtype_types.proofs.dtype.DType.as_nullable.Goals as goal
 
 adds_null : {E : Type 0} (t : Tree) (r : Result DType E) (Q : E → Type 0) → MatchResult r (λ d. SetNull t Nullable (tree d)) Q → IfOk r (λ d. AddsNull t (tree d))

@@ -2,8 +2,8 @@
 -- SPDX-FileCopyrightText: Copyright the Vortex contributors
 
 use Rattle.std.proofs.Common.{ap, ◌∙◌}
-use Rattle.dtype_types.specs.lemmas.TreeLaws.{tree_struct}
-use Rattle.dtype_types.specs.lemmas.Validity.{struct_valid}
+use Rattle.dtype_types.proofs.lemmas.TreeLaws.{tree_struct}
+use Rattle.dtype_types.proofs.lemmas.Validity.{struct_valid}
 use Rattle.dtype_types.specs.tree.Tree.{fields, struct}
 use Rattle.dtype_types.proofs.dtype.DType.struct_.Goals as goal
 

@@ -2,7 +2,7 @@
 -- SPDX-FileCopyrightText: Copyright the Vortex contributors
 
 use Rattle.std.proofs.lemmas.Bool.Decides.{same_from_decides}
-use Rattle.dtype_types.specs.lemmas.Equality.{maps_Decides}
+use Rattle.dtype_types.proofs.lemmas.Equality.{maps_Decides}
 use Rattle.dtype_types.proofs.map.MapDTypePartialEq.TheImpl.Goals as goal
 
 pub eq-tells : goal.eq-tells

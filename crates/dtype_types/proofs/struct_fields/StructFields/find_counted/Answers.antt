@@ -5,7 +5,7 @@ use Rattle.std.proofs.Common.{◌≡◌, length, ap, sym, ◌∙◌, rules}
 use Rattle.std.proofs.lemmas.List.{length-map}
 use Rattle.dtype_base.specs.FieldNames.{first_place}
 use Rattle.dtype_base.specs.Comparisons.{comparisons}
-use Rattle.dtype_base.specs.lemmas.Lookups.{most_compared, found_compared}
+use Rattle.dtype_base.proofs.lemmas.Lookups.{most_compared, found_compared}
 use Rattle.dtype_types.proofs.Parts.{names_shown, fields_shown}
 use Rattle.dtype_types.specs.tree.TreeOf.{children}
 use Rattle.dtype_types.specs.parts.Lookups.{field_names}

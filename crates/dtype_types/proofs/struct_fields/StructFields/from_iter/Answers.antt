@@ -12,7 +12,7 @@ use Rattle.dtype_types.specs.parts.FieldTypes.{AreValidFields, field_tree}
 use Rattle.dtype_types.specs.tree.Valid.{Valid, ValidFields}
 use Rattle.dtype_types.specs.tree.TreeOf.{children, struct_tree, tree}
 use Rattle.dtype_types.specs.tree.Tree.{fields}
-use Rattle.dtype_types.specs.lemmas.Validity.{valid_given}
+use Rattle.dtype_types.proofs.lemmas.Validity.{valid_given}
 use Rattle.dtype_types.proofs.PutTogether.{mapped_sides}
 use Rattle.dtype_types.proofs.struct_fields.StructFields.from_iter.Goals as goal
 

@@ -8,7 +8,7 @@ use Rattle.std.proofs.lemmas.Slice.Zip.{seconds-zip}
 use Rattle.dtype_types.specs.tree.Valid.{Valid}
 use Rattle.dtype_types.specs.tree.TreeOf.{tree, with_trees}
 use Rattle.std.specs.Map.{values_of}
-use Rattle.dtype_types.specs.lemmas.ValidLists.{valid_struct_of}
+use Rattle.dtype_types.proofs.lemmas.ValidLists.{valid_struct_of}
 use Rattle.dtype_types.proofs.Parts.{types_shown}
 use Rattle.dtype_types.proofs.struct_fields.StructFields.new.Goals as goal
 

@@ -8,7 +8,7 @@ use Rattle.dtype_base.specs.FieldNames.{SelectionError}
 use Rattle.dtype_base.specs.declared.vortex_error.VortexError.TheVariants.{OutOfMemory}
 use Rattle.dtype_types.specs.parts.Lookups.{field_names}
 use Rattle.dtype_types.specs.tree.TreeOf.{children, struct_dtypes, struct_pairs, with_trees}
-use Rattle.dtype_types.specs.lemmas.Validity.{valid_projected}
+use Rattle.dtype_types.proofs.lemmas.Validity.{valid_projected}
 use Rattle.dtype_types.proofs.Projected.{projected_alike, projected_known}
 use Rattle.dtype_types.proofs.Selected.{as_many_copies, places_within, projects, refused_of}
 use Rattle.dtype_types.proofs.struct_fields.StructFields.project.Goals as goal

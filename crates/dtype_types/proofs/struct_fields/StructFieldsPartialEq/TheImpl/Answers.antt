@@ -2,7 +2,7 @@
 -- SPDX-FileCopyrightText: Copyright the Vortex contributors
 
 use Rattle.std.proofs.lemmas.Bool.Decides.{same_from_decides}
-use Rattle.dtype_types.specs.lemmas.Equality.{structs_Decides}
+use Rattle.dtype_types.proofs.lemmas.Equality.{structs_Decides}
 use Rattle.dtype_types.proofs.struct_fields.StructFieldsPartialEq.TheImpl.Goals as goal
 
 pub eq-tells : goal.eq-tells

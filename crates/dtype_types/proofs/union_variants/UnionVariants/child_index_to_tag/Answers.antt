@@ -1,7 +1,7 @@
 -- SPDX-License-Identifier: Apache-2.0
 -- SPDX-FileCopyrightText: Copyright the Vortex contributors
 
-use Rattle.dtype_types.specs.lemmas.Tags.{position_of_tag, tag_read}
+use Rattle.dtype_types.proofs.lemmas.Tags.{position_of_tag, tag_read}
 use Rattle.dtype_types.specs.tree.TreeOf.{variant_list}
 use Rattle.dtype_types.proofs.union_variants.UnionVariants.child_index_to_tag.Goals as goal
 use Rattle.dtype_types.specs.parts.Lookups.{variant_tags}

@@ -3,7 +3,7 @@
 
 use Rattle.dtype_types.specs.parts.Lookups.{variant_tags}
 use Rattle.dtype_types.specs.tree.TreeOf.{variant_list}
-use Rattle.dtype_types.specs.lemmas.Tags.{tag_is_there, tag_is_at}
+use Rattle.dtype_types.proofs.lemmas.Tags.{tag_is_there, tag_is_at}
 use Rattle.dtype_types.proofs.union_variants.UnionVariants.tag_to_child_index.Goals as goal
 
 pub returns-clause-there : goal.returns-clause-there

@@ -9,8 +9,8 @@ use Rattle.dtype_base.specs.Distinct.{Distinct}
 use Rattle.dtype_types.specs.tree.Tree.{variants}
 use Rattle.dtype_types.specs.tree.TreeOf.{tree, with_tagged_trees}
 use Rattle.dtype_types.specs.tree.Valid.{Valid, HasVariant, ValidVariants}
-use Rattle.dtype_types.specs.lemmas.MadeOf.{names_of_triples, types_of_triples, tags_of_triples}
-use Rattle.dtype_types.specs.lemmas.ValidLists.{valid_union_of}
+use Rattle.dtype_types.proofs.lemmas.MadeOf.{names_of_triples, types_of_triples, tags_of_triples}
+use Rattle.dtype_types.proofs.lemmas.ValidLists.{valid_union_of}
 use Rattle.dtype_types.proofs.Parts.{trees_three}
 use Rattle.dtype_types.proofs.union_variants.UnionVariants.try_new.Goals as goal
 

@@ -2,7 +2,7 @@
 -- SPDX-FileCopyrightText: Copyright the Vortex contributors
 
 use Rattle.std.proofs.lemmas.Bool.Decides.{same_from_decides}
-use Rattle.dtype_types.specs.lemmas.EqualityLaws.{equal_under-Decides}
+use Rattle.dtype_types.specs.equality.EqualityLaws.{equal_under-Decides}
 use Rattle.dtype_types.proofs.dtype.equality.DTypePartialEq.TheImpl.Goals as goal
 
 pub eq-tells : goal.eq-tells

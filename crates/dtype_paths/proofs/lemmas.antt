@@ -1,0 +1,14 @@
+-- SPDX-License-Identifier: Apache-2.0
+-- SPDX-FileCopyrightText: Copyright the Vortex contributors
+
+-- Lemmas on the definitions, which callers' proofs may cite too.
+pub mod Cases
+pub mod Beginnings
+pub mod Walks
+pub mod MaskSteps
+pub mod Stepping
+pub mod PathLists
+pub mod SetMembers
+pub mod SetCovers
+pub mod Counts
+pub mod Covering

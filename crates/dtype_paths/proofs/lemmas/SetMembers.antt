@@ -1,0 +1,190 @@
+-- SPDX-License-Identifier: Apache-2.0
+-- SPDX-FileCopyrightText: Copyright the Vortex contributors
+
+-- Lemmas on the members of sets of paths.
+use Rattle.std.specs.Prelude.{◌≡◌, ◌≢◌, ◌↔◌, ◌<◌, ◌⊎◌, ℕ, Bool, true, false, IsTrue, List, [], ◌∷◌, ◌++◌, ◌||◌, get_or, length, refl}
+use Rattle.std.specs.Bool.{Decides}
+use Rattle.std.specs.FinSet as set
+use Rattle.std.specs.List.{Contains, list_any}
+use Rattle.std.proofs.Common.{ap, sym, inl, inr, ◌∙◌}
+use Rattle.std.proofs.Math.Bool.{or_comm, or-false}
+use Rattle.std.proofs.lemmas.Bool.{false≢true, or_cases, or_left, or_right}
+use Rattle.std.proofs.lemmas.Bool.Decides.{same_from_decides}
+use Rattle.std.specs.Ordering.{eq_by_cmp}
+use Rattle.std.proofs.lemmas.List.Folds.{list_any-append}
+use Rattle.std.proofs.lemmas.Map.Made.{is_member-Decides}
+use Rattle.dtype_paths.specs.Equality.{same_path}
+use Rattle.dtype_paths.specs.EqualityLaws.{same_path-Decides}
+use Rattle.dtype_paths.specs.private.PathLists.{SameMembers}
+use Rattle.dtype_paths.specs.PathOrder.{PathSet, path_cmp}
+use Rattle.dtype_paths.specs.declared.field.Field.{Field}
+use Rattle.dtype_paths.proofs.lemmas.Cases.{by_bool}
+use Rattle.dtype_paths.specs.PathOrderLaws.{any_tied, path_cmp_total, path_ties, same_tied}
+
+-- the items are the members, and so is a list's
+pub items-Decides : (s : PathSet) (q : List Field) → Decides (set.contains s q) (Contains (set.items s) q)
+items-Decides s q =
+    let e : set.contains s q ≡ list_any (same_path q) (set.items s) = set.contains-items s q ∙ sym (any_tied q (set.items s)) in
+    let d = is_member-Decides same_path-Decides (set.items s) q in
+    (λ t. d.0 (sym e ∙ t), λ c. e ∙ d.1 c)
+
+pub from_list-Decides : (ps : List (List Field)) (q : List Field) → Decides (set.contains (set.from_list {R = path_cmp} ps) q) (Contains ps q)
+from_list-Decides ps q =
+    let e : set.contains (set.from_list {R = path_cmp} ps) q ≡ list_any (same_path q) ps = set.contains-from_list path_cmp_total ps q ∙ sym (any_tied q ps) in
+    let d = is_member-Decides same_path-Decides ps q in
+    (λ t. d.0 (sym e ∙ t), λ c. e ∙ d.1 c)
+
+-- lists with the same members have equal sets
+pub same_lists : (ps qs : List (List Field)) → ((q : List Field) → Contains ps q ↔ Contains qs q) → set.from_list {R = path_cmp} ps ≡ set.from_list qs
+same_lists ps qs same = set.same_set path_cmp_total same_tied _ _ (λ q.
+    same_from_decides _ _ (from_list-Decides ps q) (λ c. (same q).1 ((from_list-Decides qs q).0 c), λ e. (from_list-Decides qs q).1 ((same q).0 e)))
+
+-- a set is made of its items
+pub of_items : (s : PathSet) → s ≡ set.from_list (set.items s)
+of_items s = set.same_set path_cmp_total same_tied s _ (λ q. same_from_decides _ _ (items-Decides s q) (from_list-Decides (set.items s) q))
+
+-- the items of a list's set are the list's
+pub items_of_list : (ps : List (List Field)) → SameMembers (set.items (set.from_list {R = path_cmp} ps)) ps
+items_of_list ps = record {
+  same = λ q. (
+    λ c. (from_list-Decides ps q).0 ((items-Decides _ q).1 c),
+    λ c. (items-Decides _ q).0 ((from_list-Decides ps q).1 c),
+  );
+}
+
+-- a list with one path more has a set with it inserted
+pub inserted : (old new : List (List Field)) (p : List Field) → SameMembers new (p ∷ old) → set.from_list {R = path_cmp} new ≡ set.insert (set.from_list old) p
+inserted old new p s = same_lists new (p ∷ old) s.same
+
+pub same_by : (s t : PathSet) → ((q : List Field) → set.contains s q ≡ set.contains t q) → s ≡ t
+same_by = set.same_set path_cmp_total same_tied
+
+pub contains_empty : (q : List Field) → set.contains (set.empty {R = path_cmp}) q ≡ false
+contains_empty q = set.contains-empty path_cmp q
+
+pub contains_insert : (s : PathSet) (p q : List Field) → set.contains (set.insert s p) q ≡ (same_path q p || set.contains s q)
+contains_insert s p q = set.contains-insert path_cmp_total s p q ∙ ap (λ b. b || set.contains s q) (sym (path_ties q p))
+
+pub contains_union : (s t : PathSet) (q : List Field) → set.contains (set.union s t) q ≡ (set.contains s q || set.contains t q)
+contains_union s t q = set.contains-union path_cmp_total s t q
+
+-- what was put in is in
+pub insert_has : (s : PathSet) (p : List Field) → set.contains (set.insert s p) p ≡ true
+insert_has s p = contains_insert s p p ∙ ap (λ b. b || set.contains s p) ((same_path-Decides p p).1 refl)
+
+-- what was in stays in
+pub insert_keeps : (s : PathSet) (p q : List Field) → set.contains s q ≡ true → set.contains (set.insert s p) q ≡ true
+insert_keeps s p q h = contains_insert s p q ∙ or_right (same_path q p) (set.contains s q) h
+
+-- of other paths nothing changes
+pub insert_other : (s : PathSet) (p q : List Field) → q ≢ p → set.contains (set.insert s p) q ≡ set.contains s q
+insert_other s p q other =
+    contains_insert s p q
+    ∙ by_bool (same_path q p) (λ e. absurd (other ((same_path-Decides q p).0 e))) (λ e. rw e refl)
+
+-- a path that is in changes nothing
+pub insert_known : (s : PathSet) (p : List Field) → set.contains s p ≡ true → set.insert s p ≡ s
+insert_known s p h = same_by _ _ (λ q.
+    contains_insert s p q
+    ∙ by_bool (same_path q p)
+    (λ e. let is : q ≡ p = (same_path-Decides q p).0 e in ap (λ b. b || set.contains s q) e ∙ sym (ap (set.contains s) is ∙ h))
+    (λ e. rw e refl))
+
+-- what is in after that was put in, or was in
+pub insert_only : (s : PathSet) (p q : List Field) → set.contains (set.insert s p) q ≡ true → (q ≡ p) ⊎ (set.contains s q ≡ true)
+insert_only s p q h = elim (or_cases (same_path q p) (set.contains s q) (sym (contains_insert s p q) ∙ h)) [
+  | inl e ↦ inl ((same_path-Decides q p).0 e)
+  | inr e ↦ inr e
+]
+
+-- in a set of one path is that one
+pub one_only : (p q : List Field) → set.contains {R = path_cmp} (set.insert set.empty p) q ≡ true → q ≡ p
+one_only p q h = elim (insert_only set.empty p q h) [
+  | inl e ↦ e
+  | inr e ↦ absurd (false≢true (sym (contains_empty q) ∙ e))
+]
+
+pub insert_again : (s : PathSet) (p : List Field) → set.insert (set.insert s p) p ≡ set.insert s p
+insert_again s p = insert_known (set.insert s p) p (insert_has s p)
+
+or_swap : (a b c : Bool) → (a || (b || c)) ≡ (b || (a || c))
+or_swap true true c = refl
+or_swap true false c = refl
+or_swap false b c = refl
+
+or_twice : (a b : Bool) → ((a || b) || b) ≡ (a || b)
+or_twice true b = refl
+or_twice false true = refl
+or_twice false false = refl
+
+pub insert_swap : (s : PathSet) (p q : List Field) → set.insert (set.insert s p) q ≡ set.insert (set.insert s q) p
+insert_swap s p q = same_by _ _ (λ r.
+    contains_insert _ q r ∙ ap (λ b. same_path r q || b) (contains_insert s p r)
+    ∙ or_swap (same_path r q) (same_path r p) (set.contains s r)
+    ∙ sym (contains_insert _ p r ∙ ap (λ b. same_path r p || b) (contains_insert s q r)))
+
+-- ---- the union
+
+pub union_keeps : (s t : PathSet) (q : List Field) → set.contains s q ≡ true → set.contains (set.union s t) q ≡ true
+union_keeps s t q h = contains_union s t q ∙ or_left (set.contains s q) (set.contains t q) h
+
+pub union_has : (s t : PathSet) (q : List Field) → set.contains t q ≡ true → set.contains (set.union s t) q ≡ true
+union_has s t q h = contains_union s t q ∙ or_right (set.contains s q) (set.contains t q) h
+
+pub union_none : (s : PathSet) → set.union s (set.empty {R = path_cmp}) ≡ s
+union_none s = same_by _ _ (λ q. contains_union s _ q ∙ ap (λ b. set.contains s q || b) (contains_empty q) ∙ or-false (set.contains s q))
+
+pub union_with_none : (s : PathSet) → set.union (set.empty {R = path_cmp}) s ≡ s
+union_with_none s = same_by _ _ (λ q. contains_union _ s q ∙ ap (λ b. b || set.contains s q) (contains_empty q))
+
+-- in either order; in no ruleset, since a search could turn a union forever
+pub union_swap : (s t : PathSet) → set.union s t ≡ set.union t s
+union_swap s t = same_by _ _ (λ q. contains_union s t q ∙ or_comm (set.contains s q) (set.contains t q) ∙ sym (contains_union t s q))
+
+pub union_insert : (s t : PathSet) (p : List Field) → set.union s (set.insert t p) ≡ set.insert (set.union s t) p
+union_insert s t p = same_by _ _ (λ q.
+    contains_union s _ q ∙ ap (λ b. set.contains s q || b) (contains_insert t p q)
+    ∙ or_swap (set.contains s q) (same_path q p) (set.contains t q)
+    ∙ sym (contains_insert _ p q ∙ ap (λ b. same_path q p || b) (contains_union s t q)))
+
+-- what is put in again changes nothing
+pub union_again : (s t u : PathSet) → u ≡ t → set.union (set.union s t) u ≡ set.union s t
+union_again s t u same = ap (set.union (set.union s t)) same ∙ same_by _ _ (λ q.
+    contains_union _ t q ∙ ap (λ b. b || set.contains t q) (contains_union s t q)
+    ∙ or_twice (set.contains s q) (set.contains t q) ∙ sym (contains_union s t q))
+
+-- ---- a set within another
+
+pub within_insert : (s : PathSet) (p : List Field) → set.is_subset s (set.insert s p) ≡ true
+within_insert s p = set.contains-is_subset path_cmp_total s (set.insert s p) (λ q h. insert_keeps s p q h)
+
+pub within_union : (s t : PathSet) → set.is_subset s (set.union s t) ≡ true
+within_union s t = set.contains-is_subset path_cmp_total s (set.union s t) (λ q h. union_keeps s t q h)
+
+pub union_within : (s t : PathSet) → set.is_subset t (set.union s t) ≡ true
+union_within s t = set.contains-is_subset path_cmp_total t (set.union s t) (λ q h. union_has s t q h)
+
+-- ---- the set of a list
+
+pub of_push : (ps : List (List Field)) (p : List Field) → set.from_list {R = path_cmp} (ps ++ p ∷ []) ≡ set.insert (set.from_list ps) p
+of_push ps p = set.from_list_push path_cmp_total same_tied ps p
+
+pub of_append : (ps qs : List (List Field)) → set.from_list {R = path_cmp} (ps ++ qs) ≡ set.union (set.from_list ps) (set.from_list qs)
+of_append ps qs = same_by _ _ (λ q.
+    set.contains-from_list path_cmp_total (ps ++ qs) q
+    ∙ list_any-append (eq_by_cmp path_cmp q) ps qs
+    ∙ sym (contains_union _ _ q ∙ (λ i. set.contains-from_list path_cmp_total ps q i || set.contains-from_list path_cmp_total qs q i)))
+
+pub of_has : (ps : List (List Field)) (q : List Field) → Contains ps q → set.contains (set.from_list {R = path_cmp} ps) q ≡ true
+of_has ps q c = (from_list-Decides ps q).1 c
+
+pub of_only : (ps : List (List Field)) (q : List Field) → set.contains (set.from_list {R = path_cmp} ps) q ≡ true → Contains ps q
+of_only ps q h = (from_list-Decides ps q).0 h
+
+-- by position: a search opens `Contains` where it is given, and can't put it together again
+pub of_has_at : (ps : List (List Field)) (q : List Field) (k : ℕ) → get_or ps k q ≡ q → k < length ps → set.contains (set.from_list {R = path_cmp} ps) q ≡ true
+of_has_at ps q k e l = of_has ps q (k, l, e)
+
+-- a list's paths are the members of its set
+pub listed : (ps : List (List Field)) (s : PathSet) (q : List Field) → set.from_list ps ≡ s → Contains ps q ↔ IsTrue (set.contains s q)
+listed ps s q is = (λ c. ap (λ x. set.contains x q) (sym is) ∙ (from_list-Decides ps q).1 c, λ h. (from_list-Decides ps q).0 (ap (λ x. set.contains x q) is ∙ h))

@@ -1,0 +1,88 @@
+-- SPDX-License-Identifier: Apache-2.0
+-- SPDX-FileCopyrightText: Copyright the Vortex contributors
+
+-- `==` of a struct's fields, a union's variants, a map, an extension and a field's type holds exactly where the two are
+-- equal, and so does that of two names, or lists of them. The clause of each says so. Where a type that holds one of these
+-- derives `==`, and of a struct's or a union's names, a caller has it by
+--     #![tactic(auto, using(dtype_types::proofs::lemmas::Equality::equality))]
+use Rattle.std.specs.Prelude.{◌≡◌, ℕ, Bool, List, [], ◌∷◌, map, nat_eq, refl}
+use Rattle.std.specs.Bool.{Decides}
+use Rattle.std.specs.Cmp.Lexicographic.{pointwise}
+use Rattle.std.specs.HashMap.{HashMap, get}
+use Rattle.std.specs.Map.{lookup}
+use Rattle.std.proofs.lemmas.Bool.{false≢true}
+use Rattle.std.proofs.lemmas.Bool.Decides.{Decides-and}
+use Rattle.std.proofs.lemmas.Slice.Eq.{bytes_eq-Decides, slice_eq-Decides}
+use Rattle.std.proofs.Common.{sym, ap, subst, ◌∙◌}
+use Rattle.dtype_types.specs.equality.EqualityLaws.{equal_under-Decides, restated, variants_equal_under-Decides}
+use Rattle.dtype_types.specs.parts.FieldTypes.{field_tree}
+use Rattle.dtype_types.specs.declared.dtype.equality.NullabilityRule.TheVariants.{Compared}
+use Rattle.dtype_types.specs.equality.Equality.{equal_under}
+use Rattle.dtype_types.specs.equality.EqualityOf.{same_field_dtype}
+use Rattle.dtype_types.specs.equality.PartsEqualityLaws.{maps_equal_under-Decides, same_fields-Decides}
+use Rattle.dtype_types.specs.equality.EqualityOf.{same_dtype, same_extension, same_map, same_struct, same_union}
+use Rattle.dtype_types.specs.parts.Lookups.{field_names}
+use Rattle.dtype_types.specs.tree.Erase.{erase, erase_fields}
+use Rattle.dtype_types.specs.tree.Tree.{Tree, fields, triples, variants}
+use Rattle.dtype_types.specs.tree.TreeOf.{children, struct_tree, tree, variant_list, extension_tree, map_shown, variants_of}
+use Rattle.dtype_types.specs.equality.HashLaws.{erased_fed}
+use Rattle.dtype_types.proofs.lemmas.TreeLaws.{triples_variants}
+use Rattle.dtype_types.specs.declared.dtype.DType.{DType}
+use Rattle.dtype_types.specs.declared.extension.ExtDTypeRef.{ExtDTypeRef}
+use Rattle.dtype_types.specs.declared.field_dtype.FieldDType.{FieldDType}
+use Rattle.dtype_types.specs.declared.map.MapDType.{MapDType}
+use Rattle.dtype_types.specs.declared.struct_fields.StructFields.{StructFields}
+use Rattle.dtype_types.specs.declared.union_variants.UnionVariants.{UnionVariants}
+
+pub structs_Decides : (a b : StructFields) → Decides (same_struct a b) (children a ≡ children b)
+structs_Decides a b = same_fields-Decides (children a) (children b)
+
+pub unions_Decides : (a b : UnionVariants) → Decides (same_union a b) (variant_list a ≡ variant_list b)
+unions_Decides a b =
+    let d = variants_equal_under-Decides (variants_of a) (variants_of b) in
+    (λ e. sym (triples_variants (variant_list a)) ∙ ap triples (d.0 e) ∙ triples_variants (variant_list b), λ e. d.1 (ap variants e))
+
+pub maps_Decides : (a b : MapDType) → Decides (same_map a b) (map_shown a ≡ map_shown b)
+maps_Decides a b = maps_equal_under-Decides (map_shown a) (map_shown b)
+
+pub extensions_Decides : (a b : ExtDTypeRef) → Decides (same_extension a b) (extension_tree a ≡ extension_tree b)
+extensions_Decides a b = equal_under-Decides (extension_tree a) (extension_tree b)
+
+pub field_types_Decides : (a b : FieldDType) → Decides (same_field_dtype a b) (field_tree a ≡ field_tree b)
+field_types_Decides a b = equal_under-Decides (field_tree a) (field_tree b)
+
+pub names_Decide : (a b : List (List ℕ)) (r : Bool) → r ≡ pointwise (pointwise nat_eq) a b → Decides r (a ≡ b)
+names_Decide = slice_eq-Decides bytes_eq-Decides
+
+pub name_Decides : (a b : List ℕ) → Decides (pointwise nat_eq a b) (a ≡ b)
+name_Decides a b = bytes_eq-Decides a b
+
+pub types_Decide : (a b : DType) → Decides (same_dtype a b) (tree a ≡ tree b)
+types_Decide a b = equal_under-Decides (tree a) (tree b)
+
+-- two slices of types, by any test that is theirs
+pub type_lists_Decide : (f : DType → DType → Bool) (a b : List DType) → ((x y : DType) → f x y ≡ same_dtype x y) → Decides (pointwise f a b) (map tree a ≡ map tree b)
+type_lists_Decide f [] [] h = (λ e. refl, λ e. refl)
+type_lists_Decide f [] (y ∷ b) h = (λ e. absurd (false≢true e), λ e. cc)
+type_lists_Decide f (x ∷ a) [] h = (λ e. absurd (false≢true e), λ e. cc)
+type_lists_Decide f (x ∷ a) (y ∷ b) h =
+    let heads : Decides (f x y) (tree x ≡ tree y) = subst (λ t. Decides t (tree x ≡ tree y)) (sym (h x y)) (equal_under-Decides (tree x) (tree y)) in
+    restated (λ p. λ i. p.0 i ∷ p.1 i) (λ e. (cc, cc)) (Decides-and (f x y) (pointwise f a b) heads (type_lists_Decide f a b h))
+
+-- equal types find the same in a map whose keys are types
+pub equal_keys : {V S : Type 0} (m : HashMap DType V S) (a b : DType) → tree a ≡ tree b → get same_dtype m a ≡ get same_dtype m b
+equal_keys m a b e = ap (λ (t : Tree). lookup (λ (x : DType). equal_under Compared t (tree x)) m.entries) e
+
+-- structs that are equal but for nullabilities have the same names
+erased_names : (ps qs : List (List ℕ × Tree)) → erase_fields (fields ps) ≡ erase_fields (fields qs) → field_names ps ≡ field_names qs
+erased_names [] [] e = refl
+erased_names (p ∷ ps) (q ∷ qs) e =
+    let first : p.0 ≡ q.0 = cc in
+    let rest : erase_fields (fields ps) ≡ erase_fields (fields qs) = cc in
+    let names = erased_names ps qs rest in cc
+erased_names _ _ e = cc
+
+pub erased_fields : (s t : StructFields) → erase (struct_tree s) ≡ erase (struct_tree t) → field_names (children s) ≡ field_names (children t)
+erased_fields s t e = erased_names (children s) (children t) cc
+
+pub ruleset equality = (name_Decides, names_Decide, types_Decide, type_lists_Decide, equal_keys, structs_Decides, unions_Decides, maps_Decides, extensions_Decides, field_types_Decides, erased_fields, erased_fed)

@@ -1,0 +1,212 @@
+-- SPDX-License-Identifier: Apache-2.0
+-- SPDX-FileCopyrightText: Copyright the Vortex contributors
+
+-- Validity of types, by that of their parts.
+use Rattle.std.proofs.Common.{◌≡◌, ℕ, zero, suc, List, [], ◌∷◌, ◌++◌, map, Bool, true, false, cond, Option, Some, None, IfSome, slice_get, ◌<◌, ◌^◌, ap, sym, subst, ◌∙◌, Bor}
+use Rattle.std.specs.Prelude.{remove}
+use Rattle.std.specs.List.{All, AllByRecursion, zip}
+use Rattle.std.specs.Str.{bytes_eq}
+use Rattle.std.proofs.lemmas.List.Elements.{All-from_recursion, recursion_from_All}
+use Rattle.std.proofs.lemmas.Option.{same_Some}
+use Rattle.dtype_base.specs.declared.nullability.Nullability.{Nullability}
+use Rattle.dtype_base.specs.declared.nullability.Nullability.TheVariants.{NonNullable}
+use Rattle.dtype_types.specs.parts.FieldTypes.{given_fields, field_tree}
+use Rattle.dtype_types.specs.tree.Valid.{Valid, ValidFields, ValidVariants}
+use Rattle.dtype_types.specs.tree.TreeOf.{tree, extension_tree, map_tree, union_tree, struct_tree, map_shown, struct_pairs, union_triples, children, variant_list, with_trees, with_tagged_trees, shown}
+use Rattle.dtype_types.specs.parts.Lookups.{first_named, variant_named, field_types, variant_types}
+use Rattle.dtype_types.specs.parts.Maps.{entries_of}
+use Rattle.dtype_types.specs.nullability.Nullable.{nullability, set_null}
+use Rattle.dtype_types.proofs.lemmas.Nullabilities.{in_storage}
+use Rattle.dtype_types.specs.tree.Tree.{Tree, fields, variants, null, list, fixed_size_list, map_of, extension}
+use Rattle.dtype_types.proofs.lemmas.ValidParts.{valid_parts, lent_list_element, lent_fixed_size_element, lent_any_size_element, given_list_element, given_fixed_size_element, given_any_size_element, lent_map, given_map, lent_struct, given_struct, lent_union, given_union, extension_is_valid, lent_extension}
+use Rattle.dtype_types.proofs.lemmas.TreeLaws.{tree_struct, tree_union, tree_map, tree_extension}
+use Rattle.dtype_types.specs.declared.dtype.DType.{DType, Map, Struct, Union, Extension}
+use Rattle.dtype_types.specs.declared.field_dtype.FieldDType.{FieldDType}
+use Rattle.dtype_types.specs.declared.struct_fields.StructFields.{StructFields}
+use Rattle.dtype_types.specs.declared.union_variants.UnionVariants.{UnionVariants}
+use Rattle.dtype_types.specs.declared.extension.ExtDTypeRef.{ExtDTypeRef}
+use Rattle.dtype_types.specs.declared.map.MapDType.{MapDType}
+
+-- ---- a type of a part, and back
+
+pub struct_valid : (s : StructFields) (n : Nullability) → Valid (struct_tree s) → Valid (tree (Struct s n))
+struct_valid s n h = subst Valid (sym (tree_struct s n)) h
+
+pub union_valid : (u : UnionVariants) (n : Nullability) → Valid (union_tree u) → Valid (tree (Union u n))
+union_valid u n h = subst Valid (sym (tree_union u n)) h
+
+pub map_valid : (m : MapDType) (n : Nullability) → Valid (map_tree m) → Valid (tree (Map m n))
+map_valid m n h = subst Valid (sym (tree_map m n)) h
+
+pub extension_valid : (e : ExtDTypeRef) → Valid (extension_tree e) → Valid (tree (Extension e))
+extension_valid e h = subst Valid (sym (tree_extension e)) h
+
+pub ruleset parts_make_types = (struct_valid, union_valid, map_valid, extension_valid)
+
+pub valid_struct : (d : DType) (s : StructFields) (n : Nullability) → d ≡ Struct s n → Valid (tree d) → Valid (struct_tree s)
+valid_struct d s n is h = subst Valid (ap tree is ∙ tree_struct s n) h
+
+pub valid_union : (d : DType) (u : UnionVariants) (n : Nullability) → d ≡ Union u n → Valid (tree d) → Valid (union_tree u)
+valid_union d u n is h = subst Valid (ap tree is ∙ tree_union u n) h
+
+pub valid_map : (d : DType) (m : MapDType) (n : Nullability) → d ≡ Map m n → Valid (tree d) → Valid (map_tree m)
+valid_map d m n is h = subst Valid (ap tree is ∙ tree_map m n) h
+
+pub valid_extension : (d : DType) (e : ExtDTypeRef) → d ≡ Extension e → Valid (tree d) → Valid (extension_tree e)
+valid_extension d e is h = subst Valid (ap tree is ∙ tree_extension e) h
+
+-- ---- fields and variants, and their types
+
+pub valid_given : (ps : List (List ℕ × FieldDType)) → AllByRecursion (λ p. Valid (field_tree p.1)) ps → ValidFields (given_fields ps)
+valid_given [] h = tt
+valid_given (p ∷ ps) h = (h.0, valid_given ps h.1)
+
+each_pair : (ps : List (List ℕ × DType)) → ValidFields (fields (with_trees ps)) → AllByRecursion (λ p. Valid (tree p.1)) ps
+each_pair [] h = tt
+each_pair (p ∷ ps) h = (h.0, each_pair ps h.1)
+
+each_triple : (ps : List (List ℕ × (DType × ℕ))) → ValidVariants (variants (with_tagged_trees ps)) → AllByRecursion (λ p. Valid (tree p.1.0)) ps
+each_triple [] h = tt
+each_triple (p ∷ ps) h = (h.0, each_triple ps h.4)
+
+-- ---- fields made of valid fields
+
+pub valid_joined : (ps qs : List (List ℕ × Tree)) → ValidFields (fields ps) → ValidFields (fields qs) → ValidFields (fields (ps ++ qs))
+valid_joined [] qs h k = k
+valid_joined (p ∷ ps) qs h k = (h.0, valid_joined ps qs h.1 k)
+
+pub valid_removed : (ps : List (List ℕ × Tree)) (i : ℕ) → ValidFields (fields ps) → ValidFields (fields (remove ps i))
+valid_removed [] zero h = tt
+valid_removed [] (suc i) h = tt
+valid_removed (p ∷ ps) zero h = h.1
+valid_removed (p ∷ ps) (suc i) h = (h.0, valid_removed ps i h.1)
+
+valid_named : (ps : List (List ℕ × Tree)) (n : List ℕ) (t : Tree) → ValidFields (fields ps) → Some t ≡ first_named ps n → Valid t
+valid_named [] n t h e = cc
+valid_named (p ∷ ps) n t h e = go (bytes_eq p.0 n) e (λ f. valid_named ps n t h.1 f)
+  where
+    go : (b : Bool) → Some t ≡ cond b (Some p.1) (first_named ps n) → (Some t ≡ first_named ps n → Valid t) → Valid t
+    go true e later = subst Valid (same_Some p.1 t (sym e)) h.0
+    go false e later = later e
+
+pub valid_projected : (ps qs : List (List ℕ × Tree)) (names : List (List ℕ)) → ValidFields (fields ps) → map (λ (q : List ℕ × Tree). Some q.1) qs ≡ map (first_named ps) names → ValidFields (fields qs)
+valid_projected ps [] names h e = tt
+valid_projected ps (q ∷ qs) [] h e = cc
+valid_projected ps (q ∷ qs) (n ∷ names) h e =
+    let head : Some q.1 ≡ first_named ps n = cc in
+    let rest : map (λ (q : List ℕ × Tree). Some q.1) qs ≡ map (first_named ps) names = cc in (valid_named ps n q.1 h head, valid_projected ps qs names h rest)
+
+-- ---- for callers
+
+-- the type of a field, at its position and by its name
+valid_of : (fs : List (List ℕ × Tree)) (i : ℕ) (t : Tree) → slice_get (field_types fs) i ≡ Some t → ValidFields (fields fs) → Valid t
+valid_of [] i t e h = cc
+valid_of (p ∷ ps) zero t e h = subst Valid (same_Some p.1 t e) h.0
+valid_of (p ∷ ps) (suc i) t e h = valid_of ps i t e h.1
+
+pub field_valid : (s : StructFields) (i : ℕ) (r : Option (Bor DType)) → shown tree r ≡ slice_get (field_types (children s)) i → Valid (struct_tree s) → IfSome r (λ d. Valid (tree d.now))
+field_valid s i None e h = tt
+field_valid s i (Some d) e h = valid_of (children s) i (tree d.now) (sym e) h
+
+pub named_field_valid : (s : StructFields) (n : List ℕ) (r : Option (Bor DType)) → shown tree r ≡ first_named (children s) n → Valid (struct_tree s) → IfSome r (λ d. Valid (tree d.now))
+named_field_valid s n None e h = tt
+named_field_valid s n (Some d) e h = valid_named (children s) n (tree d.now) h e
+
+-- the type of a variant, at its position and by its name
+valid_variant_of : (vs : List (List ℕ × (Tree × ℕ))) (i : ℕ) (t : Tree) → slice_get (variant_types vs) i ≡ Some t → ValidVariants (variants vs) → Valid t
+valid_variant_of [] i t e h = cc
+valid_variant_of (v ∷ vs) zero t e h = subst Valid (same_Some v.1.0 t e) h.0
+valid_variant_of (v ∷ vs) (suc i) t e h = valid_variant_of vs i t e h.4
+
+pub variant_valid : (u : UnionVariants) (i : ℕ) (r : Option (Bor DType)) → shown tree r ≡ slice_get (variant_types (variant_list u)) i → Valid (union_tree u) → IfSome r (λ d. Valid (tree d.now))
+variant_valid u i None e h = tt
+variant_valid u i (Some d) e h = valid_variant_of (variant_list u) i (tree d.now) (sym e) h.1
+
+valid_by_name : (vs : List (List ℕ × (Tree × ℕ))) (n : List ℕ) (t : Tree) → ValidVariants (variants vs) → Some t ≡ variant_named vs n → Valid t
+valid_by_name [] n t h e = cc
+valid_by_name (v ∷ vs) n t h e = go (bytes_eq v.0 n) e (λ f. valid_by_name vs n t h.4 f)
+  where
+    go : (b : Bool) → Some t ≡ cond b (Some v.1.0) (variant_named vs n) → (Some t ≡ variant_named vs n → Valid t) → Valid t
+    go true e later = subst Valid (same_Some v.1.0 t (sym e)) h.0
+    go false e later = later e
+
+pub named_variant_valid : (u : UnionVariants) (n : List ℕ) (r : Option (Bor DType)) → shown tree r ≡ variant_named (variant_list u) n → Valid (union_tree u) → IfSome r (λ d. Valid (tree d.now))
+named_variant_valid u n None e h = tt
+named_variant_valid u n (Some d) e h = valid_by_name (variant_list u) n (tree d.now) h.1 e
+
+-- the same of a type that was found
+pub type_at_valid : (s : StructFields) (i : ℕ) (t : Tree) → slice_get (field_types (children s)) i ≡ Some t → Valid (struct_tree s) → Valid t
+type_at_valid s i t e h = valid_of (children s) i t e h
+
+pub type_named_valid : (s : StructFields) (n : List ℕ) (t : Tree) → first_named (children s) n ≡ Some t → Valid (struct_tree s) → Valid t
+type_named_valid s n t e h = valid_named (children s) n t h (sym e)
+
+pub variant_at_valid : (u : UnionVariants) (i : ℕ) (t : Tree) → slice_get (variant_types (variant_list u)) i ≡ Some t → Valid (union_tree u) → Valid t
+variant_at_valid u i t e h = valid_variant_of (variant_list u) i t e h.1
+
+pub variant_named_valid : (u : UnionVariants) (n : List ℕ) (t : Tree) → variant_named (variant_list u) n ≡ Some t → Valid (union_tree u) → Valid t
+variant_named_valid u n t e h = valid_by_name (variant_list u) n t h.1 (sym e)
+
+-- all types of fields, and of variants
+field_types_each : (fs : List (List ℕ × Tree)) → ValidFields (fields fs) → AllByRecursion Valid (field_types fs)
+field_types_each [] h = tt
+field_types_each (p ∷ ps) h = (h.0, field_types_each ps h.1)
+
+pub field_types_valid : (s : StructFields) → Valid (struct_tree s) → All Valid (field_types (children s))
+field_types_valid s h = All-from_recursion Valid (field_types (children s)) (field_types_each (children s) h)
+
+variant_types_each : (vs : List (List ℕ × (Tree × ℕ))) → ValidVariants (variants vs) → AllByRecursion Valid (variant_types vs)
+variant_types_each [] h = tt
+variant_types_each (v ∷ vs) h = (h.0, variant_types_each vs h.4)
+
+pub variant_types_valid : (u : UnionVariants) → Valid (union_tree u) → All Valid (variant_types (variant_list u))
+variant_types_valid u h = All-from_recursion Valid (variant_types (variant_list u)) (variant_types_each (variant_list u) h.1)
+
+pub pairs_valid : (s : StructFields) → Valid (struct_tree s) → All (λ p. Valid (tree p.1)) (struct_pairs s)
+pairs_valid s h = All-from_recursion (λ p. Valid (tree p.1)) (struct_pairs s) (each_pair (struct_pairs s) h)
+
+pub triples_valid : (u : UnionVariants) → Valid (union_tree u) → All (λ p. Valid (tree p.1.0)) (union_triples u)
+triples_valid u h = All-from_recursion (λ p. Valid (tree p.1.0)) (union_triples u) (each_triple (union_triples u) h.1)
+
+-- the struct of valid types
+zip_valid : (ns : List (List ℕ)) (ds : List DType) → AllByRecursion (λ d. Valid (tree d)) ds → ValidFields (fields (zip ns (map tree ds)))
+zip_valid [] ds h = tt
+zip_valid (n ∷ ns) [] h = tt
+zip_valid (n ∷ ns) (d ∷ ds) h = (h.0, zip_valid ns ds h.1)
+
+pub struct_of_valid : (s : StructFields) (ns : List (List ℕ)) (ds : List DType) → children s ≡ zip ns (map tree ds) → All (λ d. Valid (tree d)) ds → Valid (struct_tree s)
+struct_of_valid s ns ds e h = subst (λ ps. ValidFields (fields ps)) (sym e) (zip_valid ns ds (recursion_from_All (λ d. Valid (tree d)) ds h))
+
+-- fields but for one
+pub removal_valid : (s r : StructFields) (i : ℕ) → children r ≡ remove (children s) i → Valid (struct_tree s) → Valid (struct_tree r)
+removal_valid s r i e h = subst (λ ps. ValidFields (fields ps)) (sym e) (valid_removed (children s) i h)
+
+-- a type with another nullability
+valid_set : (t : Tree) (n : Nullability) → Valid t → IfSome (set_null t n) Valid
+valid_set null NonNullable h = tt
+valid_set (extension i b s) n h = in_storage Valid Valid i b (set_null s n) (λ x k. (h.0, k)) (valid_set s n h.1)
+valid_set _ n h = h
+
+pub set_valid : (t u : Tree) (n : Nullability) → set_null t n ≡ Some u → Valid t → Valid u
+set_valid t u n e h = subst (λ o. IfSome o Valid) e (valid_set t n h)
+
+-- a map is made of its key and its value
+pub made_map_valid : (m : MapDType) (k v : Tree) (b : Bool) → map_shown m ≡ (k, v, b) → nullability k ≡ NonNullable → Valid k → Valid v → Valid (map_tree m)
+made_map_valid m k v b e n h g = subst (λ (p : Tree × Tree × Bool). (nullability p.0 ≡ NonNullable) × Valid p.0 × Valid p.1) (sym e) (n, h, g)
+
+-- a type that is made of valid ones
+pub list_of_valid : (u t : Tree) (n : Nullability) → u ≡ list t n → Valid t → Valid u
+list_of_valid u t n e h = subst Valid (sym e) h
+
+pub fixed_size_list_of_valid : (u t : Tree) (k : ℕ) (n : Nullability) → u ≡ fixed_size_list t k n → k < 2 ^ 32 → Valid t → Valid u
+fixed_size_list_of_valid u t k n e small h = subst Valid (sym e) (small, h)
+
+pub map_of_valid : (u k v : Tree) (b : Bool) (n : Nullability) → u ≡ map_of k v b n → nullability k ≡ NonNullable → Valid k → Valid v → Valid u
+map_of_valid u k v b n e sure h g = subst Valid (sym e) (sure, h, g)
+
+pub entries_valid : (k v : Tree) → Valid k → Valid v → Valid (entries_of k v)
+entries_valid k v h g = (h, (g, tt))
+
+pub ruleset types_in_valid_parts = (type_at_valid, type_named_valid, variant_at_valid, variant_named_valid, field_types_valid, variant_types_valid, pairs_valid, triples_valid)
+
+pub ruleset validity = (valid_parts, list_of_valid, fixed_size_list_of_valid, map_of_valid, struct_valid, union_valid, map_valid, extension_valid, valid_struct, valid_union, valid_map, valid_extension, field_valid, named_field_valid, variant_valid, named_variant_valid, types_in_valid_parts, struct_of_valid, removal_valid, set_valid, made_map_valid, lent_list_element, lent_fixed_size_element, lent_any_size_element, given_list_element, given_fixed_size_element, given_any_size_element, lent_map, given_map, lent_struct, given_struct, lent_union, given_union, extension_is_valid, lent_extension)

@@ -1,0 +1,80 @@
+-- SPDX-License-Identifier: Apache-2.0
+-- SPDX-FileCopyrightText: Copyright the Vortex contributors
+
+-- Types that are equal feed a hasher the same writes; types that are equal but for nullabilities do where those are
+-- ignored.
+use Rattle.std.specs.Prelude.{◌≡◌, suc, ◌++◌, drop, true, refl}
+use Rattle.std.proofs.Common.{ap, sym, ◌∙◌}
+use Rattle.std.specs.Hash as fed
+use Rattle.dtype_base.specs.declared.nullability.Nullability.TheVariants.{NonNullable}
+use Rattle.dtype_types.specs.tree.Kinds.{kind_number}
+use Rattle.dtype_types.specs.declared.dtype.kinds.Kind.TheVariants as kind
+use Rattle.dtype_types.specs.tree.Tree.{Tree, Fields, no_fields, field, Variants, no_variants, choice, list, fixed_size_list, map_of, struct, union, extension, fields}
+use Rattle.dtype_types.specs.tree.TreeOf.{tree, children, variants_of, map_shown, extension_tree}
+use Rattle.dtype_types.specs.tree.Erase.{erase, erase_fields, erase_variants}
+use Rattle.dtype_types.specs.equality.EqualityLaws.{equal_under-Decides, variants_equal_under-Decides}
+use Rattle.dtype_types.specs.equality.EqualityOf.{same_dtype}
+use Rattle.dtype_types.specs.equality.PartsEqualityLaws.{same_fields-Decides, maps_equal_under-Decides}
+use Rattle.dtype_types.specs.equality.EqualityOf.{same_struct, same_union, same_map, same_extension}
+use Rattle.dtype_types.specs.equality.Hashes.{hash_of, kind_writes, bytes_writes, field_count, field_writes, variant_count, variant_writes}
+use Rattle.dtype_types.specs.declared.dtype.hash.HashMode.TheVariants.{Whole, Erased}
+use Rattle.dtype_types.specs.equality.HashesOf.{struct_writes, union_writes, map_writes, extension_writes}
+use Rattle.dtype_types.specs.declared.dtype.DType.{DType}
+use Rattle.dtype_types.specs.declared.struct_fields.StructFields.{StructFields}
+use Rattle.dtype_types.specs.declared.union_variants.UnionVariants.{UnionVariants}
+use Rattle.dtype_types.specs.declared.map.MapDType.{MapDType}
+use Rattle.dtype_types.specs.declared.extension.ExtDTypeRef.{ExtDTypeRef}
+
+pub dtype_fed : (x y : DType) → same_dtype x y ≡ true → hash_of Whole (tree x) ≡ hash_of Whole (tree y)
+dtype_fed x y e = ap (hash_of Whole) ((equal_under-Decides (tree x) (tree y)).0 e)
+
+pub struct_fed : (x y : StructFields) → same_struct x y ≡ true → struct_writes Whole x ≡ struct_writes Whole y
+struct_fed x y e = ap (λ ps. fed.usize (field_count (fields ps)) ++ field_writes Whole (fields ps)) ((same_fields-Decides (children x) (children y)).0 e)
+
+pub union_fed : (x y : UnionVariants) → same_union x y ≡ true → union_writes Whole x ≡ union_writes Whole y
+union_fed x y e = ap (λ vs. fed.usize (variant_count vs) ++ variant_writes Whole vs) ((variants_equal_under-Decides (variants_of x) (variants_of y)).0 e)
+
+pub map_fed : (x y : MapDType) → same_map x y ≡ true → map_writes Whole x ≡ map_writes Whole y
+map_fed x y e = ap (λ m. hash_of Whole m.0 ++ (hash_of Whole m.1 ++ fed.bool m.2)) ((maps_equal_under-Decides (map_shown x) (map_shown y)).0 e)
+
+-- an extension's writes are those of its tree after the byte of the kind
+pub extension_fed : (x y : ExtDTypeRef) → same_extension x y ≡ true → extension_writes Whole x ≡ extension_writes Whole y
+extension_fed x y e = ap (λ t. drop 1 (hash_of Whole t)) ((equal_under-Decides (extension_tree x) (extension_tree y)).0 e)
+
+mutual
+  pub hash-erase : (t : Tree) → hash_of Erased t ≡ hash_of Erased (erase t)
+  hash-erase (list t n) = ap (λ w. kind_writes Erased (kind_number kind.List) n ++ w) (hash-erase t)
+  hash-erase (fixed_size_list t k n) = ap (λ w. kind_writes Erased (kind_number kind.FixedSizeList) n ++ (fed.u32 k ++ w)) (hash-erase t)
+  hash-erase (map_of k v o n) =
+      ap (λ w. kind_writes Erased (kind_number kind.Map) n ++ (w ++ (hash_of Erased v ++ fed.bool o))) (hash-erase k)
+      ∙ ap (λ w. kind_writes Erased (kind_number kind.Map) n ++ (hash_of Erased (erase k) ++ (w ++ fed.bool o))) (hash-erase v)
+  hash-erase (struct fs n) =
+      ap (λ k. kind_writes Erased (kind_number kind.Struct) n ++ (fed.usize k ++ field_writes Erased fs)) (field_count-erase fs)
+      ∙ ap (λ w. kind_writes Erased (kind_number kind.Struct) n ++ (fed.usize (field_count (erase_fields fs)) ++ w)) (field_writes-erase fs)
+  hash-erase (union vs n) =
+      ap (λ k. kind_writes Erased (kind_number kind.Union) n ++ (fed.usize k ++ variant_writes Erased vs)) (variant_count-erase vs)
+      ∙ ap (λ w. kind_writes Erased (kind_number kind.Union) n ++ (fed.usize (variant_count (erase_variants vs)) ++ w)) (variant_writes-erase vs)
+  hash-erase (extension id b t) = ap (λ w. kind_writes Erased (kind_number kind.Extension) NonNullable ++ (fed.str id ++ (bytes_writes b ++ w))) (hash-erase t)
+  hash-erase _ = refl
+
+  field_count-erase : (fs : Fields) → field_count fs ≡ field_count (erase_fields fs)
+  field_count-erase no_fields = refl
+  field_count-erase (field n t rest) = ap suc (field_count-erase rest)
+
+  variant_count-erase : (vs : Variants) → variant_count vs ≡ variant_count (erase_variants vs)
+  variant_count-erase no_variants = refl
+  variant_count-erase (choice n t g rest) = ap suc (variant_count-erase rest)
+
+  field_writes-erase : (fs : Fields) → field_writes Erased fs ≡ field_writes Erased (erase_fields fs)
+  field_writes-erase no_fields = refl
+  field_writes-erase (field n t rest) =
+      ap (λ w. fed.str n ++ (w ++ field_writes Erased rest)) (hash-erase t) ∙ ap (λ w. fed.str n ++ (hash_of Erased (erase t) ++ w)) (field_writes-erase rest)
+
+  variant_writes-erase : (vs : Variants) → variant_writes Erased vs ≡ variant_writes Erased (erase_variants vs)
+  variant_writes-erase no_variants = refl
+  variant_writes-erase (choice n t g rest) =
+      ap (λ w. fed.str n ++ (w ++ (fed.u8 g ++ variant_writes Erased rest))) (hash-erase t)
+      ∙ ap (λ w. fed.str n ++ (hash_of Erased (erase t) ++ (fed.u8 g ++ w))) (variant_writes-erase rest)
+
+pub erased_fed : (a b : Tree) → erase a ≡ erase b → hash_of Erased a ≡ hash_of Erased b
+erased_fed a b e = hash-erase a ∙ ap (hash_of Erased) e ∙ sym (hash-erase b)

@@ -1,0 +1,246 @@
+-- SPDX-License-Identifier: Apache-2.0
+-- SPDX-FileCopyrightText: Copyright the Vortex contributors
+
+-- The reading function agrees with the relations: it gives a type exactly where the message reads as that type, and
+-- else a fault of the message.
+use Rattle.std.proofs.Common.{◌≡◌, inl, inr, ℕ, suc, ℤ, pos, negsuc, ◌<◌, ◌==◌, List, [], ◌∷◌, length, map, Bool, true, false, cond, Option, Some, None, Result, Ok, Err, MatchResult, refl, sym, ap, subst, ◌∙◌, arith}
+use Rattle.std.specs.List.{zip}
+use Rattle.std.proofs.lemmas.Bool.Decides.{Decides-eqb, nat_tests, not_from_Decides}
+use Rattle.std.proofs.lemmas.Int.{ints}
+use Rattle.std.proofs.lemmas.Result.{MatchResult-at_err, MatchResult-at_ok, MatchResult-weaker}
+use Rattle.dtype_base.specs.declared.nullability.Nullability.{Nullability}
+use Rattle.dtype_base.specs.declared.nullability.Nullability.TheVariants.{NonNullable, Nullable}
+use Rattle.dtype_base.specs.declared.ptype.PType.{PType}
+use Rattle.dtype_base.specs.declared.ptype.PType.TheVariants.{U8}
+use Rattle.dtype_base.specs.declared.vortex_error.VortexError.{VortexError}
+use Rattle.dtype_base.specs.declared.vortex_error.VortexError.TheVariants.{MapKeyNullable, Message as Faulty}
+use Rattle.dtype_base.specs.declared.vortex_error.MessageFault.{MessageFault}
+use Rattle.dtype_base.specs.declared.vortex_error.MessageFault.TheVariants.{ListElementMissing, FixedElementMissing, MapKeyMissing, MapValueMissing, TypeIdRange, StorageMissing}
+use Rattle.dtype_base.specs.Distinct.{Distinct}
+use Rattle.dtype_base.specs.Nullability.{nullability_of}
+use Rattle.dtype_types.specs.nullability.Nullable.{nullability}
+use Rattle.dtype_types.specs.parts.Unions.{MakesUnion}
+use Rattle.dtype_types.specs.tree.Tree as of
+use Rattle.dtype_types.specs.tree.Tree.{Tree, Fields, field, fields, Variants, choice, variants}
+use Rattle.dtype_messages.specs.Message.{Message, Child, Messages, missing, primitive, decimal, list, fixed_size_list, map_of, struct, union, extension, absent, present, no_message, more}
+use Rattle.dtype_messages.specs.PTypeNumbers.{ptype_at}
+use Rattle.vortex_dtype.specs.Meaning.{Meaning, keeps, unkept_error}
+use Rattle.vortex_dtype.specs.Numbers.{integer_byte}
+use Rattle.vortex_dtype.specs.Reads.{Reads, ReadsChild, ReadsFields, ReadsVariants, Fault, ChildFault, SomeFault, SomeTagFault, UnionFault, number, message_count}
+use Rattle.vortex_dtype.specs.ReadInOrder.{◌>>=◌, decimal_made, read, read_child, read_all, read_tags, primitive_read, decimal_read, map_read, when_required, struct_read, union_made, union_read, extension_read, or_fault, or_empty}
+use Rattle.vortex_dtype.proofs.lemmas.Unions.{tags_down, tags_up, union_making, union_ok}
+
+-- ---- what holds of the result of a test, of a missing part and of two steps in turn
+
+by_test : {A E : Type 0} (b : Bool) (x y : Result A E) (P : A → Type 0) (Q : E → Type 0) → (b ≡ true → MatchResult x P Q) → (b ≡ false → MatchResult y P Q)
+    → MatchResult (cond b x y) P Q
+by_test true x y P Q h k = h refl
+by_test false x y P Q h k = k refl
+
+given : {A : Type 0} (k : VortexError) (o : Option A) → MatchResult (or_fault k o) (λ x. o ≡ Some x) (λ e. (e ≡ k) × (o ≡ None))
+given k None = (refl, refl)
+given k (Some x) = refl
+
+-- the second step takes what the first gives; its error is that of both
+in_turn : {A B : Type 0} (r : Result A VortexError) (f : A → Result B VortexError) (P : A → Type 0) (Q : VortexError → Type 0) (R : B → Type 0) (S : VortexError → Type 0)
+    → MatchResult r P Q → ((x : A) → P x → MatchResult (f x) R S) → ((e : VortexError) → Q e → S e) → MatchResult (r >>= f) R S
+in_turn (Ok x) f P Q R S h next stop = next x h
+in_turn (Err e) f P Q R S h next stop = stop e h
+
+-- ---- numbers
+
+pub ptype_at-number : (p : PType) → ptype_at (number p) ≡ Some p
+ptype_at-number U8 = refl
+ptype_at-number _ = refl
+
+-- a number is that of the type that it names
+number-ptype_at : (k : ℤ) (p : PType) → ptype_at k ≡ Some p → k ≡ number p
+number-ptype_at (pos n) p e = grind (arith, nat_tests)
+number-ptype_at (negsuc n) p e = cc
+
+pub byte_is : (g : ℤ) (k : ℕ) → integer_byte g ≡ Some k → (g ≡ pos k) × (k < 256)
+byte_is (pos n) k e = grind (arith, nat_tests)
+byte_is (negsuc n) k e = cc
+
+-- these tags are those bytes
+abbrev pub AreBytes : List ℤ → List ℕ → Type 0
+AreBytes [] [] = Unit {0}
+AreBytes (g ∷ gs) (k ∷ tags) = (integer_byte g ≡ Some k) × AreBytes gs tags
+AreBytes _ _ = ⊥
+
+pub bytes_are : (gs : List ℤ) (tags : List ℕ) → AreBytes gs tags → gs ≡ map pos tags
+bytes_are [] [] h = refl
+bytes_are (g ∷ gs) (k ∷ tags) h = ap (λ x. x ∷ gs) (byte_is g k h.0).0 ∙ ap (λ xs. pos k ∷ xs) (bytes_are gs tags h.1)
+bytes_are _ _ h = absurd h
+
+-- ---- lists of messages
+
+-- the messages read as these types, in order
+abbrev pub ReadsAll : Meaning → Messages → List Tree → Type 0
+ReadsAll s no_message [] = Unit {0}
+ReadsAll s (more m ms) (t ∷ ts) = Reads s m t × ReadsAll s ms ts
+ReadsAll s _ _ = ⊥
+
+pub count_all : (s : Meaning) (ms : Messages) (ts : List Tree) → ReadsAll s ms ts → length ts ≡ message_count ms
+count_all s no_message [] h = refl
+count_all s (more m ms) (t ∷ ts) h = let rest = count_all s ms ts h.1 in omega (arith, rest)
+count_all s _ _ h = absurd h
+
+reads_fields : (s : Meaning) (ns : List (List ℕ)) (ms : Messages) (ts : List Tree) → ReadsAll s ms ts → length ns ≡ length ts → ReadsFields s ns ms (fields (zip ns ts))
+reads_fields s [] no_message [] h e = refl
+reads_fields s (n ∷ ns) (more m ms) (t ∷ ts) h e = (t, fields (zip ns ts), h.0, reads_fields s ns ms ts h.1 (omega (arith, e)), refl)
+reads_fields s _ _ _ h e = grind arith
+
+reads_variants : (s : Meaning) (ns : List (List ℕ)) (ms : Messages) (gs : List ℤ) (ts : List Tree) (tags : List ℕ) → ReadsAll s ms ts → AreBytes gs tags → length ns ≡ length ts
+    → length ns ≡ length tags → ReadsVariants s ns ms gs (variants (zip ns (zip ts tags)))
+reads_variants s [] no_message [] [] [] h b e f = refl
+reads_variants s (n ∷ ns) (more m ms) (g ∷ gs) (t ∷ ts) (k ∷ tags) h b e f =
+    (t, k, variants (zip ns (zip ts tags)), h.0, b.0, reads_variants s ns ms gs ts tags h.1 b.1 (omega (arith, e)) (omega (arith, f)), refl)
+reads_variants s _ _ _ _ _ h b e f = grind arith
+
+-- the types of fields that read
+pub record FieldsRead (s : Meaning) (ns : List (List ℕ)) (ms : Messages) (fs : Fields) (ts : List Tree) : Type 0 where
+  pub types : ReadsAll s ms ts
+  pub count : length ns ≡ length ts
+  pub is : fs ≡ fields (zip ns ts)
+
+pub fields_read : (s : Meaning) (ns : List (List ℕ)) (ms : Messages) (fs : Fields) → ReadsFields s ns ms fs → (ts : List Tree) × FieldsRead s ns ms fs ts
+fields_read s [] no_message fs h = ([], record { types = tt; count = refl; is = h })
+fields_read s (n ∷ ns) (more m ms) fs h =
+    let r = fields_read s ns ms h.1 h.3 in
+    (h.0 ∷ r.0, record { types = (h.2, r.1.types); count = ap suc r.1.count; is = h.4 ∙ ap (field n h.0) r.1.is })
+fields_read s _ _ fs h = absurd h
+
+-- the types and the tags of variants that read
+pub record VariantsRead (s : Meaning) (ns : List (List ℕ)) (ms : Messages) (gs : List ℤ) (vs : Variants) (ts : List Tree) (tags : List ℕ) : Type 0 where
+  pub types : ReadsAll s ms ts
+  pub bytes : AreBytes gs tags
+  pub count : length ns ≡ length ts
+  pub tags_count : length ns ≡ length tags
+  pub is : vs ≡ variants (zip ns (zip ts tags))
+
+pub variants_read : (s : Meaning) (ns : List (List ℕ)) (ms : Messages) (gs : List ℤ) (vs : Variants) → ReadsVariants s ns ms gs vs
+    → (ts : List Tree) × (tags : List ℕ) × VariantsRead s ns ms gs vs ts tags
+variants_read s [] no_message [] vs h = ([], [], record { types = tt; bytes = tt; count = refl; tags_count = refl; is = h })
+variants_read s (n ∷ ns) (more m ms) (g ∷ gs) vs h =
+    let rest = variants_read s ns ms gs h.2 h.5 in let r = rest.2 in (
+      h.0 ∷ rest.0,
+      h.1 ∷ rest.1,
+      record { types = (h.3, r.types); bytes = (h.4, r.bytes); count = ap suc r.count; tags_count = ap suc r.tags_count; is = h.6 ∙ ap (choice n h.0 h.1) r.is },
+    )
+variants_read s _ _ _ vs h = absurd h
+
+-- ---- what reading gives
+
+pub tags_reading : (gs : List ℤ) → MatchResult (read_tags gs) (AreBytes gs) (λ e. (e ≡ Faulty TypeIdRange) × SomeTagFault gs)
+unfolding read_tags
+tags_reading [] = tt
+tags_reading (g ∷ gs) = grind (arith, tags_reading gs)
+
+union_reading : (ns : List (List ℕ)) (ts : List Tree) (gs : List ℤ) (n : Nullability)
+    → MatchResult (union_read ns ts gs n)
+    (λ t. (tags : List ℕ) × AreBytes gs tags × MakesUnion ns (length ts) tags × (t ≡ of.union (variants (zip ns (zip ts tags))) n)) (UnionFault ns (length ts) gs)
+unfolding union_read
+union_reading ns ts gs n =
+    in_turn (read_tags gs) _ _ _ _ _ (tags_reading gs)
+    (λ tags is. MatchResult-weaker (union_made ns ts tags n) (union_making ns ts tags n) (λ t h. (tags, is, h.0, h.1)) (λ e f. inr (tags, bytes_are gs tags is, f))) (λ e. inl)
+
+key_reading : (n : Nullability) (t : Tree) → MatchResult (when_required n t) (λ u. (n ≡ NonNullable) × (u ≡ t)) (λ e. (e ≡ MapKeyNullable) × (n ≡ Nullable))
+key_reading NonNullable t = (refl, refl)
+key_reading Nullable t = (refl, refl)
+
+mutual
+  unfolding read primitive_read decimal_read decimal_made map_read struct_read extension_read
+
+  pub reading : (s : Meaning) (m : Message) → MatchResult (read s m) (Reads s m) (Fault s m)
+  reading s (primitive k f) = grind (arith, number-ptype_at, ptype_at-number)
+  reading s (decimal p (pos k) f) = grind (arith, nat_tests, ints)
+  reading s (decimal p (negsuc k) f) = grind (arith, nat_tests, ints)
+  reading s (list c f) = in_turn (read_child s ListElementMissing c) _ _ _ _ _ (child_reading s ListElementMissing c) (λ x h. (x, h, refl)) (λ e j. j)
+  reading s (fixed_size_list c k f) = in_turn (read_child s FixedElementMissing c) _ _ _ _ _ (child_reading s FixedElementMissing c) (λ x h. (x, h, refl)) (λ e j. j)
+  reading s (map_of c v o f) =
+      in_turn (read_child s MapKeyMissing c) _ _ _ _ _ (child_reading s MapKeyMissing c)
+      (λ x h. in_turn (read_child s MapValueMissing v) _ _ _ _ _ (child_reading s MapValueMissing v)
+      (λ y k. MatchResult-weaker (when_required (nullability x) (of.map_of x y o (nullability_of f))) (key_reading (nullability x) (of.map_of x y o (nullability_of f)))
+      (λ t a. (x, y, h, k, a.0, a.1)) (λ e j. inr (inr (j.0, x, h, j.1))))
+      (λ e j. inr (inl j))) (λ e. inl)
+  reading s (struct ns ms f) =
+      in_turn (read_all s ms) _ _ _ _ _ (all_reading s ms)
+      (λ ts h. let same = Decides-eqb (length ns) (length ts) in
+      by_test (length ns == length ts) _ _ _ _ (λ e. (fields (zip ns ts), reads_fields s ns ms ts h (same.0 e), refl))
+      (λ e. inr (refl, λ c. not_from_Decides _ same e (c ∙ sym (count_all s ms ts h)))))
+      (λ e. inl)
+  reading s (union ns ms gs f) =
+      in_turn (read_all s ms) _ _ _ _ _ (all_reading s ms)
+      (λ ts h. MatchResult-weaker (union_read ns ts gs (nullability_of f)) (union_reading ns ts gs (nullability_of f))
+      (λ t u. let c = u.2.0 in
+      (variants (zip ns (zip ts u.0)), reads_variants s ns ms gs ts u.0 h u.1 c.0 c.1, c.2, subst Distinct (sym (bytes_are gs u.0 u.1)) (tags_up u.0 u.2.1), u.2.2, u.3))
+      (λ e j. inr (subst (λ c. UnionFault ns c gs e) (count_all s ms ts h) j)))
+      (λ e. inl)
+  reading s (extension id c b) =
+      in_turn (read_child s StorageMissing c) _ _ _ _ _ (child_reading s StorageMissing c)
+      (λ x h. in_turn (or_fault (unkept_error s id) (keeps s id (or_empty b) x)) _ _ _ _ _ (given (unkept_error s id) (keeps s id (or_empty b) x))
+      (λ k is. (x, k, h, is, refl)) (λ e j. inr (j.0, x, h, j.1))) (λ e. inl)
+  reading s _ = refl
+
+  child_reading : (s : Meaning) (j : MessageFault) (c : Child) → MatchResult (read_child s j c) (ReadsChild s c) (ChildFault s j c)
+  child_reading s j absent = refl
+  child_reading s j (present m) = reading s m
+
+  all_reading : (s : Meaning) (ms : Messages) → MatchResult (read_all s ms) (ReadsAll s ms) (SomeFault s ms)
+  all_reading s no_message = tt
+  all_reading s (more m ms) =
+      in_turn (read s m) _ _ _ _ _ (reading s m) (λ x h. in_turn (read_all s ms) _ _ _ _ _ (all_reading s ms) (λ xs k. (h, k)) (λ e. inr)) (λ e. inl)
+
+-- a type that is given is one that the message reads as, and an error is a fault of the message
+pub read_reads : (s : Meaning) (m : Message) (t : Tree) → read s m ≡ Ok t → Reads s m t
+read_reads s m t e = MatchResult-at_ok (Reads s m) (Fault s m) t e (reading s m)
+
+pub read_fault : (s : Meaning) (m : Message) (e : VortexError) → read s m ≡ Err e → Fault s m e
+read_fault s m e is = MatchResult-at_err (Reads s m) (Fault s m) e is (reading s m)
+
+-- ---- a message gives the type that it reads as
+
+tags_ok : (gs : List ℤ) (tags : List ℕ) → AreBytes gs tags → read_tags gs ≡ Ok tags
+unfolding read_tags
+tags_ok [] [] h = refl
+tags_ok (g ∷ gs) (k ∷ tags) h = rw (h.0, tags_ok gs tags h.1) refl
+tags_ok _ _ h = absurd h
+
+mutual
+  unfolding read primitive_read decimal_read decimal_made map_read struct_read union_read extension_read
+
+  pub reads_read : (s : Meaning) (m : Message) (t : Tree) → Reads s m t → read s m ≡ Ok t
+  reads_read s missing t h = absurd h
+  reads_read s (primitive k f) t h = rw (h.1, ptype_at-number h.0) (ap Ok (sym h.2))
+  reads_read s (decimal p (pos k) f) t h = grind (arith, nat_tests, ints, h)
+  reads_read s (decimal p (negsuc k) f) t h = grind (arith, nat_tests, ints, h)
+  reads_read s (list c f) t h = rw (child_read s ListElementMissing c h.0 h.1) (ap Ok (sym h.2))
+  reads_read s (fixed_size_list c k f) t h = rw (child_read s FixedElementMissing c h.0 h.1) (ap Ok (sym h.2))
+  reads_read s (map_of c v o f) t h = rw (child_read s MapKeyMissing c h.0 h.2, child_read s MapValueMissing v h.1 h.3, h.4) (ap Ok (sym h.5))
+  reads_read s (struct ns ms f) t h =
+      let r = fields_read s ns ms h.0 h.1 in
+      rw (all_read s ms r.0 r.1.types, (Decides-eqb (length ns) (length r.0)).1 r.1.count) (ap Ok (sym (h.2 ∙ ap (λ fs. of.struct fs (nullability_of f)) r.1.is)))
+  reads_read s (union ns ms gs f) t h =
+      let v = variants_read s ns ms gs h.0 h.1 in let r = v.2 in
+      let makes : MakesUnion ns (length v.0) v.1 = ((r.count, r.tags_count, h.2), tags_down v.1 (subst Distinct (bytes_are gs v.1 r.bytes) h.3), h.4) in
+      rw (all_read s ms v.0 r.types, tags_ok gs v.1 r.bytes, union_ok ns v.0 v.1 (nullability_of f) makes) (ap Ok (sym (h.5 ∙ ap (λ vs. of.union vs (nullability_of f)) r.is)))
+  reads_read s (extension id c b) t h = rw (child_read s StorageMissing c h.0 h.2, h.3) (ap Ok (sym h.4))
+  reads_read s _ t h = ap Ok (sym h)
+
+  child_read : (s : Meaning) (j : MessageFault) (c : Child) (t : Tree) → ReadsChild s c t → read_child s j c ≡ Ok t
+  child_read s j absent t h = absurd h
+  child_read s j (present m) t h = reads_read s m t h
+
+  all_read : (s : Meaning) (ms : Messages) (ts : List Tree) → ReadsAll s ms ts → read_all s ms ≡ Ok ts
+  all_read s no_message [] h = refl
+  all_read s (more m ms) (t ∷ ts) h = rw (reads_read s m t h.0, all_read s ms ts h.1) refl
+  all_read s _ _ h = absurd h
+
+-- a message reads as one type at most
+pub reads_once : (s : Meaning) (m : Message) (t u : Tree) → Reads s m t → Reads s m u → t ≡ u
+reads_once s m t u h k = let e : ◌≡◌ {A = Result Tree VortexError} (Ok t) (Ok u) = sym (reads_read s m t h) ∙ reads_read s m u k in cc
+
+pub child_once : (s : Meaning) (c : Child) (t u : Tree) → ReadsChild s c t → ReadsChild s c u → t ≡ u
+child_once s absent t u h k = absurd h
+child_once s (present m) t u h k = reads_once s m t u h k

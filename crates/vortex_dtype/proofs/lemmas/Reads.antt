@@ -1,0 +1,307 @@
+-- SPDX-License-Identifier: Apache-2.0
+-- SPDX-FileCopyrightText: Copyright the Vortex contributors
+
+-- Laws of reading, over message trees and types alone.
+use Rattle.std.proofs.Common.{◌≡◌, ◌≢◌, ◌↔◌, ⊎_elim, ℕ, ℤ, pos, List, [], ◌∷◌, length, map, nat_eq, Some, Ok, Err, IsErr, Bool, true, false, refl, sym, ap, ◌∙◌, subst, arith}
+use Rattle.std.specs.List.{All, IsDistinct, AllByRecursion, zip}
+use Rattle.std.specs.Cmp.{unsigned_Decides}
+use Rattle.std.specs.Str.{bytes_eq}
+use Rattle.std.proofs.lemmas.Bool.{false≢true}
+use Rattle.std.proofs.lemmas.Bool.Decides.{nat_tests}
+use Rattle.std.proofs.lemmas.Int.{ints}
+use Rattle.std.proofs.lemmas.List.{length-map}
+use Rattle.std.proofs.lemmas.List.Elements.{All-cons, All-nil}
+use Rattle.std.proofs.lemmas.List.Kept.{AllPairs-cons}
+use Rattle.std.proofs.lemmas.Option.{none-some, same_Some}
+use Rattle.std.proofs.lemmas.Slice.Eq.{bytes_eq-Decides}
+use Rattle.std.proofs.lemmas.Map.Made.{IsDistinct-from_AllPairs}
+use Rattle.dtype_base.specs.Nullability.{nullability_of}
+use Rattle.dtype_base.specs.declared.nullability.Nullability.{Nullability}
+use Rattle.dtype_base.specs.declared.nullability.Nullability.TheVariants.{NonNullable, Nullable}
+use Rattle.dtype_base.specs.declared.vortex_error.VortexError.{VortexError}
+use Rattle.dtype_base.specs.declared.vortex_error.MessageFault.{MessageFault}
+use Rattle.dtype_base.specs.declared.vortex_error.MessageFault.TheVariants.{ListElementMissing, FixedElementMissing, MapKeyMissing, MapValueMissing, StorageMissing}
+use Rattle.dtype_base.specs.Distinct.{Distinct}
+use Rattle.dtype_types.specs.nullability.Nullable.{nullability, set_null}
+use Rattle.dtype_types.specs.parts.Unions.{MakesUnion}
+use Rattle.dtype_types.specs.tree.Tree as of
+use Rattle.dtype_types.specs.tree.Tree.{Tree, Fields, no_fields, field, fields, Variants, no_variants, choice, variants}
+use Rattle.dtype_types.specs.tree.Valid.{Valid, ValidFields, ValidVariants, HasVariant, LacksName, LacksTag}
+use Rattle.dtype_messages.specs.Message.{Message, Child, Messages, messages, missing, null, primitive, decimal, list, fixed_size_list, map_of, struct, union, extension, absent, present, no_message, more}
+use Rattle.vortex_dtype.specs.Meaning.{Meaning, LawfulSession, Admits, AdmitsFields, AdmitsVariants, keeps}
+use Rattle.vortex_dtype.specs.ReadInOrder.{or_empty, read}
+use Rattle.vortex_dtype.specs.Reads.{Reads, ReadsChild, ReadsFields, ReadsVariants, Fault, ChildFault, SomeFault, SomeTagFault, message_count}
+use Rattle.vortex_dtype.specs.Accepts.{Accepts}
+use Rattle.vortex_dtype.specs.Written.{is_nullable, written, written_names, written_fields, written_variant_names, written_variants, written_tags, Normal, NormalChild, NormalAll}
+use Rattle.vortex_dtype.specs.IsMessage.{IsMessage, IsChild, AreMessages}
+use Rattle.vortex_dtype.proofs.lemmas.Sessions.{admits-set_null, keeps_again}
+use Rattle.vortex_dtype.proofs.lemmas.Written.{nullability_of-is, written_is}
+use Rattle.dtype_types.proofs.lemmas.Validity.{set_valid}
+use Rattle.vortex_dtype.proofs.lemmas.InOrder.{AreBytes, ReadsAll, byte_is, bytes_are, child_once, count_all, fields_read, read_fault, reading, reads_once, reads_read, variants_read}
+use Rattle.vortex_dtype.proofs.lemmas.Unions.{tags_down}
+
+-- ---- a message with a fault reads as no type
+
+no_tag_fault : (gs : List ℤ) (tags : List ℕ) → AreBytes gs tags → SomeTagFault gs → ⊥
+no_tag_fault [] tags h f = f
+no_tag_fault (g ∷ gs) [] h f = h
+no_tag_fault (g ∷ gs) (k ∷ tags) h f = ⊎_elim (λ a. none-some k (sym a ∙ h.0)) (no_tag_fault gs tags h.1) f
+
+mutual
+  pub fault_none : (s : Meaning) (m : Message) (k : VortexError) (t : Tree) → Fault s m k → Reads s m t → ⊥
+  fault_none s missing k t f h = h
+  fault_none s (primitive p x) k t f h = f.1 h.0 h.1
+  fault_none s (decimal p c x) k t f h = grind (arith, ints, h.0, f)
+  fault_none s (list c x) k t f h = child_none s ListElementMissing c k h.0 f h.1
+  fault_none s (fixed_size_list c n x) k t f h = child_none s FixedElementMissing c k h.0 f h.1
+  fault_none s (map_of c v o x) k t f h =
+      ⊎_elim (λ a. child_none s MapKeyMissing c k h.0 a h.2)
+      (⊎_elim (λ a. child_none s MapValueMissing v k h.1 a h.3)
+      (λ a. let clash : Nullable ≡ NonNullable = sym (ap nullability (child_once s c h.0 a.1 h.2 a.2) ∙ a.3) ∙ h.4 in cc)) f
+  fault_none s (struct ns ms x) k t f h =
+      let r = fields_read s ns ms h.0 h.1 in
+      ⊎_elim (λ a. some_none s ms k r.0 a r.1.types) (λ a. a.1 (r.1.count ∙ count_all s ms r.0 r.1.types)) f
+  fault_none s (union ns ms gs x) k t f h =
+      let v = variants_read s ns ms gs h.0 h.1 in let r = v.2 in
+      ⊎_elim (λ a. some_none s ms k v.0 a r.types)
+      (⊎_elim (λ a. no_tag_fault gs v.1 r.bytes a.1)
+      (λ a. let made : MakesUnion ns (message_count ms) a.0 = (
+        (
+          r.count ∙ count_all s ms v.0 r.types,
+          r.tags_count ∙ sym (length-map v.1 pos) ∙ ap length (sym (bytes_are gs v.1 r.bytes) ∙ a.1) ∙ length-map a.0 pos,
+          h.2,
+        ),
+        tags_down a.0 (subst Distinct a.1 h.3),
+        h.4,
+      ) in grind (arith, made, a.2))) f
+  fault_none s (extension id c b) k t f h =
+      ⊎_elim (λ a. child_none s StorageMissing c k h.0 a h.2) (λ a. none-some h.1 (sym a.3 ∙ ap (keeps s id (or_empty b)) (child_once s c a.1 h.0 a.2 h.2) ∙ h.3)) f
+  fault_none s _ k t f h = f
+
+  child_none : (s : Meaning) (j : MessageFault) (c : Child) (k : VortexError) (t : Tree) → ChildFault s j c k → ReadsChild s c t → ⊥
+  child_none s j absent k t f h = h
+  child_none s j (present m) k t f h = fault_none s m k t f h
+
+  some_none : (s : Meaning) (ms : Messages) (k : VortexError) (ts : List Tree) → SomeFault s ms k → ReadsAll s ms ts → ⊥
+  some_none s (more m ms) k (t ∷ ts) f h = ⊎_elim (λ a. fault_none s m k t a h.0) (λ a. some_none s ms k ts a h.1) f
+  some_none s no_message k [] f h = f
+  some_none s _ k _ f h = h
+
+-- the error is a fault of the message, which reads as no type
+pub refused_faulty : (s : Meaning) (m : Message) (e : VortexError) → read s m ≡ Err e → Fault s m e × ((t : Tree) → ¬ (Reads s m t))
+refused_faulty s m e is = let f = read_fault s m e is in (f, λ t h. fault_none s m e t f h)
+
+-- a message that reads as no type gives an error, and so does one with a fault
+pub unread_refused : (s : Meaning) (m : Message) → ((t : Tree) → ¬ (Reads s m t)) → IsErr (read s m)
+unread_refused s m none = grind (arith, none, reading s m)
+
+pub fault_refused : (s : Meaning) (m : Message) (e : VortexError) → Fault s m e → IsErr (read s m)
+fault_refused s m e f = unread_refused s m (λ t h. fault_none s m e t f h)
+
+-- ---- what reads has one normal form: its message
+
+is_nullable-of : (f : Bool) → is_nullable (nullability_of f) ≡ f
+is_nullable-of true = refl
+is_nullable-of false = refl
+
+-- the message of a struct or a union that was read, from its parts
+field_messages : (ns : List (List ℕ)) (ts : List Tree) → length ns ≡ length ts
+    → (written_names (fields (zip ns ts)) ≡ ns) × (written_fields (fields (zip ns ts)) ≡ messages (map written ts))
+field_messages [] [] e = (refl, refl)
+field_messages (n ∷ ns) (t ∷ ts) e = let rest = field_messages ns ts (omega (arith, e)) in (ap (λ x. n ∷ x) rest.0, ap (more (written t)) rest.1)
+field_messages _ _ e = cc
+
+variant_messages : (ns : List (List ℕ)) (ts : List Tree) (gs : List ℕ) → length ns ≡ length ts → length ns ≡ length gs → let vs = variants (zip ns (zip ts gs)) in
+    (written_variant_names vs ≡ ns) × (written_variants vs ≡ messages (map written ts)) × (written_tags vs ≡ map pos gs)
+variant_messages [] [] [] e f = (refl, refl, refl)
+variant_messages (n ∷ ns) (t ∷ ts) (g ∷ gs) e f =
+    let rest = variant_messages ns ts gs (omega (arith, e)) (omega (arith, f)) in (ap (λ x. n ∷ x) rest.0, ap (more (written t)) rest.1, ap (λ x. pos g ∷ x) rest.2)
+variant_messages _ _ _ e f = cc
+
+-- of parts that have one form each, what is made has one
+one_part : {X Y : Type 0} (P : X → Type 0) (make : X → Y) (x : X) (y : Y) → ((z : X) → P z ↔ (z ≡ x)) → ((z : X) × P z × (y ≡ make z)) ↔ (y ≡ make x)
+one_part P make x y h = (λ k. k.2 ∙ ap make ((h k.0).0 k.1), λ e. (x, (h x).1 refl, e))
+
+two_parts : {X Z Y : Type 0} (P : X → Type 0) (Q : Z → Type 0) (make : X → Z → Y) (x : X) (z : Z) (y : Y) → ((a : X) → P a ↔ (a ≡ x)) → ((b : Z) → Q b ↔ (b ≡ z))
+    → ((a : X) × (b : Z) × P a × Q b × (y ≡ make a b)) ↔ (y ≡ make x z)
+two_parts P Q make x z y h k =
+    (λ p. p.4 ∙ ap (λ a. make a p.1) ((h p.0).0 p.2) ∙ ap (make x) ((k p.1).0 p.3), λ e. (x, z, (h x).1 refl, (k z).1 refl, e))
+
+mutual
+  pub written_normal : (s : Meaning) (m n : Message) (t : Tree) → Reads s m t → (Normal s m n → n ≡ written t) × (n ≡ written t → Normal s m n)
+  written_normal s missing n t h = absurd h
+  written_normal s null n t h = rw h (λ e. e, λ e. e)
+  written_normal s (primitive p f) n t h = rw (h.2, is_nullable-of f, ← h.1) (λ e. e, λ e. e)
+  written_normal s (decimal p k f) n t h = rw (h.1, is_nullable-of f) (λ e. e, λ e. e)
+  written_normal s (list c f) n t h = rw (h.2, is_nullable-of f) (one_part _ (λ d. list d f) (present (written h.0)) n (λ d. child_normal s c d h.0 h.1))
+  written_normal s (fixed_size_list c k f) n t h = rw (h.2, is_nullable-of f) (one_part _ (λ d. fixed_size_list d k f) (present (written h.0)) n (λ d. child_normal s c d h.0 h.1))
+  written_normal s (map_of c v o f) n t h =
+      rw (h.5, is_nullable-of f) (two_parts _ _ (λ d w. map_of d w o f) (present (written h.0)) (present (written h.1)) n
+      (λ d. child_normal s c d h.0 h.2) (λ d. child_normal s v d h.1 h.3))
+  written_normal s (struct ns ms f) n t h =
+      let r = fields_read s ns ms h.0 h.1 in let w = field_messages ns r.0 r.1.count in
+      rw (h.2, r.1.is, is_nullable-of f, w.0, w.1) (one_part _ (λ qs. struct ns qs f) (messages (map written r.0)) n (λ qs. all_normal s ms qs r.0 r.1.types))
+  written_normal s (union ns ms gs f) n t h =
+      let v = variants_read s ns ms gs h.0 h.1 in let r = v.2 in let w = variant_messages ns v.0 v.1 r.count r.tags_count in
+      rw (h.5, r.is, is_nullable-of f, w.0, w.1, w.2, ← bytes_are gs v.1 r.bytes)
+      (one_part _ (λ qs. union ns qs gs f) (messages (map written v.0)) n (λ qs. all_normal s ms qs v.0 r.types))
+  written_normal s (extension id c b) n t h =
+      let storage = λ (d : Child). child_normal s c d h.0 h.2 in
+      rw h.4 (
+        λ k. let same : k.1 ≡ h.0 = child_once s c k.1 h.0 k.4 h.2 in
+            let bytes : k.2 ≡ h.1 = same_Some k.2 h.1 (sym k.5 ∙ ap (keeps s id (or_empty b)) same ∙ h.3) in
+            k.6 ∙ ap (λ d. extension id d (Some k.2)) ((storage k.0).0 k.3) ∙ ap (λ x. extension id (present (written h.0)) (Some x)) bytes,
+        λ e. (present (written h.0), h.0, h.1, (storage (present (written h.0))).1 refl, h.2, h.3, e),
+      )
+  written_normal s _ n t h = rw (h, is_nullable-of) (λ e. e, λ e. e)
+
+  child_normal : (s : Meaning) (c d : Child) (t : Tree) → ReadsChild s c t → NormalChild s c d ↔ (d ≡ present (written t))
+  child_normal s absent d t h = absurd h
+  child_normal s (present m) d t h = one_part (Normal s m) present (written t) d (λ r. written_normal s m r t h)
+
+  all_normal : (s : Meaning) (ms qs : Messages) (ts : List Tree) → ReadsAll s ms ts → NormalAll s ms qs ↔ (qs ≡ messages (map written ts))
+  all_normal s no_message qs [] h = (λ e. e, λ e. e)
+  all_normal s (more m ms) qs (t ∷ ts) h = two_parts _ _ more (written t) (messages (map written ts)) qs (λ r. written_normal s m r t h.0) (λ rest. all_normal s ms rest ts h.1)
+  all_normal s _ qs _ h = absurd h
+
+-- ---- what reads is valid and admitted
+
+abbrev Sound : Meaning → Tree → Type 0
+Sound s t = Valid t × Admits s t
+
+sound_fields : (s : Meaning) (ns : List (List ℕ)) (ts : List Tree) → AllByRecursion (Sound s) ts → let fs = fields (zip ns ts) in ValidFields fs × AdmitsFields s fs
+sound_fields s (n ∷ ns) (t ∷ ts) h = let rest = sound_fields s ns ts h.1 in ((h.0.0, rest.0), (h.0.1, rest.1))
+sound_fields s [] _ h = (tt, tt)
+sound_fields s _ [] h = (tt, tt)
+
+lacks : (n : List ℕ) (k : ℕ) (ns : List (List ℕ)) (ts : List Tree) (gs : List ℕ) → AllByRecursion (λ m. bytes_eq n m ≡ false) ns → AllByRecursion (λ g. nat_eq k g ≡ false) gs
+    → let vs = variants (zip ns (zip ts gs)) in LacksName n vs × LacksTag k vs
+lacks n k (m ∷ ns) (t ∷ ts) (g ∷ gs) d e =
+    let later = lacks n k ns ts gs d.1 e.1 in
+    ((λ is. false≢true (sym d.0 ∙ (bytes_eq-Decides n m).1 (sym is)), later.0), (λ is. false≢true (sym e.0 ∙ (unsigned_Decides k g).1 (sym is)), later.1))
+lacks n k _ _ _ d e = (tt, tt)
+
+sound_variants : (s : Meaning) (ns : List (List ℕ)) (ts : List Tree) (is : List ℤ) (gs : List ℕ) → AllByRecursion (Sound s) ts → AreBytes is gs → IsDistinct bytes_eq ns
+    → IsDistinct nat_eq gs → let vs = variants (zip ns (zip ts gs)) in ValidVariants vs × AdmitsVariants s vs
+unfolding IsDistinct
+sound_variants s (n ∷ ns) (t ∷ ts) (i ∷ is) (g ∷ gs) h b names tags =
+    let rest = sound_variants s ns ts is gs h.1 b.1 names.1 tags.1 in let lacking = lacks n g ns ts gs names.0 tags.0 in
+    ((h.0.0, (byte_is i g b.0).1, lacking.0, lacking.1, rest.0), (h.0.1, rest.1))
+sound_variants s (n ∷ ns) (t ∷ ts) [] (g ∷ gs) h b names tags = absurd b
+sound_variants s _ _ _ _ h b names tags = (tt, tt)
+
+has_variant : (ns : List (List ℕ)) (ts : List Tree) (gs : List ℕ) → ns ≢ [] → length ns ≡ length ts → length ns ≡ length gs → HasVariant (variants (zip ns (zip ts gs)))
+has_variant (n ∷ ns) (t ∷ ts) (g ∷ gs) some e f = tt
+has_variant [] _ _ some e f = absurd (some refl)
+has_variant (n ∷ ns) _ _ some e f = cc
+
+mutual
+  pub reads_sound : (s : Meaning) → LawfulSession s → (m : Message) (t : Tree) → IsMessage m → Reads s m t → Sound s t
+  reads_sound s l missing t i h = absurd h
+  reads_sound s l (primitive p f) t i h = subst (Sound s) (sym h.2) (tt, tt)
+  reads_sound s l (decimal p k f) t i h = subst (Sound s) (sym h.1) (h.0, tt)
+  reads_sound s l (list c f) t i h = subst (Sound s) (sym h.2) (child_sound s l c h.0 i h.1)
+  reads_sound s l (fixed_size_list c k f) t i h = let a = child_sound s l c h.0 i.1 h.1 in subst (Sound s) (sym h.2) ((i.0, a.0), a.1)
+  reads_sound s l (map_of c v o f) t i h =
+      let a = child_sound s l c h.0 i.0 h.2 in let b = child_sound s l v h.1 i.1 h.3 in
+      subst (Sound s) (sym h.5) ((h.4, a.0, b.0), (a.1, b.1))
+  reads_sound s l (struct ns ms f) t i h =
+      let r = fields_read s ns ms h.0 h.1 in
+      subst (Sound s) (sym (h.2 ∙ ap (λ fs. of.struct fs (nullability_of f)) r.1.is)) (sound_fields s ns r.0 (all_sound s l ms r.0 i r.1.types))
+  reads_sound s l (union ns ms gs f) t i h =
+      let v = variants_read s ns ms gs h.0 h.1 in let r = v.2 in
+      let a = sound_variants s ns v.0 gs v.1 (all_sound s l ms v.0 i.0 r.types) r.bytes (IsDistinct-from_AllPairs bytes_eq-Decides ns h.4)
+      (IsDistinct-from_AllPairs unsigned_Decides v.1 (tags_down v.1 (subst Distinct (bytes_are gs v.1 r.bytes) h.3))) in
+      subst (Sound s) (sym (h.5 ∙ ap (λ vs. of.union vs (nullability_of f)) r.is)) ((has_variant ns v.0 v.1 h.2 r.count r.tags_count, a.0), a.1)
+  reads_sound s l (extension id c b) t i h =
+      let a = child_sound s l c h.0 i.0 h.2 in
+      let again = keeps_again s l id (or_empty b) h.1 h.0 i.1 a.0 h.3 in
+      subst (Sound s) (sym h.4) ((again.0, a.0), (again.1, a.1))
+  reads_sound s l _ t i h = subst (Sound s) (sym h) (tt, tt)
+
+  child_sound : (s : Meaning) → LawfulSession s → (c : Child) (t : Tree) → IsChild c → ReadsChild s c t → Sound s t
+  child_sound s l absent t i h = absurd h
+  child_sound s l (present m) t i h = reads_sound s l m t i h
+
+  all_sound : (s : Meaning) → LawfulSession s → (ms : Messages) (ts : List Tree) → AreMessages ms → ReadsAll s ms ts → AllByRecursion (Sound s) ts
+  all_sound s l no_message [] i h = tt
+  all_sound s l (more m ms) (t ∷ ts) i h = (reads_sound s l m t i.0 h.0, all_sound s l ms ts i.1 h.1)
+  all_sound s l _ _ i h = absurd h
+
+-- ---- an admitted type is read back from its message
+
+some_name : (vs : Variants) → HasVariant vs → written_variant_names vs ≢ []
+some_name no_variants h = absurd h
+some_name (choice n x g rest) h = λ e. cc
+
+-- the names and the tags of a valid union's variants
+others : (n : List ℕ) (g : ℕ) (vs : Variants) → LacksName n vs → LacksTag g vs → All (λ m. n ≢ m) (written_variant_names vs) × All (λ k. pos g ≢ k) (written_tags vs)
+others n g no_variants h k = (All-nil _, All-nil _)
+others n g (choice m x l rest) h k =
+    let later = others n g rest h.1 k.1 in
+    (All-cons (λ y. n ≢ y) m (written_variant_names rest) (λ e. h.0 (sym e)) later.0, All-cons (λ y. pos g ≢ y) (pos l) (written_tags rest) (λ e. k.0 (cc e)) later.1)
+
+distinct : (vs : Variants) → ValidVariants vs → Distinct (written_variant_names vs) × Distinct (written_tags vs)
+distinct no_variants v = (λ i j d before within. absurd (omega arith), λ i j d before within. absurd (omega arith))
+distinct (choice n x g rest) v =
+    let first = others n g rest v.2 v.3 in let later = distinct rest v.4 in
+    (AllPairs-cons (λ x y. x ≢ y) n (written_variant_names rest) first.0 later.0, AllPairs-cons (λ x y. x ≢ y) (pos g) (written_tags rest) first.1 later.1)
+
+mutual
+  pub written_reads : (s : Meaning) (t : Tree) → Valid t → Admits s t → Reads s (written t) t
+  written_reads s of.null v a = refl
+  written_reads s (of.primitive p n) v a = (p, refl, simp nullability_of-is)
+  written_reads s (of.decimal d n) v a = (v, simp nullability_of-is)
+  written_reads s (of.list x n) v a = (x, written_reads s x v a, simp nullability_of-is)
+  written_reads s (of.fixed_size_list x k n) v a = (x, written_reads s x v.1 a, simp nullability_of-is)
+  written_reads s (of.map_of x y o n) v a = (x, y, written_reads s x v.1 a.0, written_reads s y v.2 a.1, v.0, simp nullability_of-is)
+  written_reads s (of.struct fs n) v a = (fs, written_fields_read s fs v a, simp nullability_of-is)
+  written_reads s (of.union vs n) v a =
+      let d = distinct vs v.1 in (vs, written_variants_read s vs v.1 a, some_name vs v.0, d.1, d.0, simp nullability_of-is)
+  written_reads s (of.extension id b x) v a = (x, b, written_reads s x v.1 a.1, a.0, refl)
+  written_reads s _ v a = simp nullability_of-is
+
+  written_fields_read : (s : Meaning) (fs : Fields) → ValidFields fs → AdmitsFields s fs → ReadsFields s (written_names fs) (written_fields fs) fs
+  written_fields_read s no_fields v a = refl
+  written_fields_read s (field n x rest) v a = (x, rest, written_reads s x v.0 a.0, written_fields_read s rest v.1 a.1, refl)
+
+  written_variants_read : (s : Meaning) (vs : Variants) → ValidVariants vs → AdmitsVariants s vs → ReadsVariants s (written_variant_names vs) (written_variants vs) (written_tags vs) vs
+  written_variants_read s no_variants v a = refl
+  written_variants_read s (choice n x g rest) v a = (x, g, rest, written_reads s x v.0 a.0, grind (arith, nat_tests, v.1), written_variants_read s rest v.4 a.1, refl)
+
+-- what is written of an admitted type gives that type
+pub written_read : (s : Meaning) (m : Message) (t : Tree) → Valid t → Admits s t → m ≡ written t → read s m ≡ Ok t
+written_read s m t v a e = ap (read s) e ∙ reads_read s (written t) t (written_reads s t v a)
+
+-- ---- accepted types
+
+pub reads_accepted : (s : Meaning) (m : Message) (t : Tree) → LawfulSession s → IsMessage m → Reads s m t → Accepts s m t
+reads_accepted s m t l i h = let a = reads_sound s l m t i h in record { reads = h; valid = a.0; admitted = a.1 }
+
+pub written_accepted : (s : Meaning) (t : Tree) → Valid t → Admits s t → Accepts s (written t) t
+written_accepted s t v a = record { reads = written_reads s t v a; valid = v; admitted = a }
+
+-- accepted types are equal where their normal forms are, and a normal form is its own
+pub same_normal : (s : Meaning) (m n : Message) (t u : Tree) (a b : Message) → Accepts s m t → Accepts s n u → Normal s m a → Normal s n b → (t ≡ u → a ≡ b) × (a ≡ b → t ≡ u)
+same_normal s m n t u a b h k p q =
+    let ea = (written_normal s m a t h.reads).0 p in let eb = (written_normal s n b u k.reads).0 q in
+    (λ e. ea ∙ ap written e ∙ sym eb, λ e. written_is t u (sym ea ∙ e ∙ eb))
+
+pub normal_again : (s : Meaning) (m n : Message) (t : Tree) → Accepts s m t → Normal s m n → Normal s n n
+normal_again s m n t h k =
+    let e = (written_normal s m n t h.reads).0 k in
+    (written_normal s n n t (subst (λ (x : Message). Reads s x t) (sym e) (written_reads s t h.valid h.admitted))).1 e
+
+-- equal messages read as equal types
+pub read_alike : (s : Meaning) (m n : Message) (t u : Tree) → m ≡ n → Accepts s m t → Accepts s n u → t ≡ u
+read_alike s m n t u e a b = reads_once s n t u (subst (λ (x : Message). Reads s x t) e a.reads) b.reads
+
+pub copy_accepted : (s : Meaning) (m n : Message) (t : Tree) → m ≡ n → Accepts s m t → Accepts s n t
+copy_accepted s m n t e a = subst (λ (x : Message). Accepts s x t) e a
+
+-- what a session admits it admits with another outer nullability, and reads back
+pub other_nullability : (s : Meaning) → LawfulSession s → (t u : Tree) (n : Nullability) → Valid t → Admits s t → set_null t n ≡ Some u → Valid u × Admits s u × Accepts s (written u) u
+other_nullability s l t u n v a e =
+    let valid = set_valid t u n e v in
+    let admitted = (admits-set_null s l t u n v e).0 a in
+    (valid, admitted, written_accepted s u valid admitted)

@@ -1,0 +1,200 @@
+-- SPDX-License-Identifier: Apache-2.0
+-- SPDX-FileCopyrightText: Copyright the Vortex contributors
+
+-- Laws of sessions: what is registered after a list of calls, what is kept, and what is admitted.
+use Rattle.std.specs.Prelude.{◌≡◌, ◌≢◌, ◌↔◌, ℕ, List, [], ◌∷◌, ◌++◌, Option, Some, None, Bool, true, false, if◌then◌else◌, bytes_eq, cond, refl}
+use Rattle.std.specs.List.{list_any}
+use Rattle.std.proofs.Common.{sym, ap, ◌∙◌, subst, arith}
+use Rattle.std.proofs.lemmas.Bool.{false_from_ne_true}
+use Rattle.std.proofs.lemmas.Option.{option_and_then_some, same_Some}
+use Rattle.std.proofs.lemmas.Slice.Eq.{bytes_eq-Decides}
+use Rattle.dtype_base.specs.declared.nullability.Nullability.{Nullability}
+use Rattle.dtype_base.specs.declared.nullability.Nullability.TheVariants.{NonNullable, Nullable}
+use Rattle.dtype_base.specs.declared.vortex_error.VortexError.{VortexError}
+use Rattle.dtype_types.specs.tree.Kinds.{struct_fields}
+use Rattle.dtype_types.specs.tree.Tree.{Tree, Fields, fields, pairs, no_fields, field, Variants, no_variants, choice, null, list, fixed_size_list, map_of, struct, union, extension}
+use Rattle.dtype_types.specs.tree.TreeOf.{tree, extension_tree, extension_metadata}
+use Rattle.dtype_types.specs.tree.Valid.{Valid}
+use Rattle.dtype_types.proofs.lemmas.TreeLaws.{tree_extension}
+use Rattle.dtype_types.specs.parts.Lookups.{first_named}
+use Rattle.dtype_types.specs.declared.dtype.DType.TheVariants.{Extension}
+use Rattle.dtype_types.specs.declared.extension.ExtDTypeRef.{ExtDTypeRef}
+use Rattle.dtype_types.specs.nullability.Nullable.{set_null}
+use Rattle.vortex_dtype.specs.Meaning.{Rewrites, Meaning, Lawful, LawfulSession, Bytes, kept, keeps, empty_meaning, register_in, allow_unknown_in, Admits, AdmitsFields, AdmitsVariants}
+use Rattle.vortex_dtype.specs.Errors.{SessionError}
+use Rattle.vortex_dtype.specs.Calls.{Call, register, allow, after, LeavesAlone, is_allow}
+
+-- ---- lists of calls
+
+-- a registration under another id changes nothing for this id
+pub register_in-other : (i id : List ℕ) (r : Rewrites) (m : Meaning) → i ≢ id → (register_in i r m).registered id ≡ m.registered id
+unfolding register_in
+register_in-other i id r m other =
+    ap (λ (b : Bool). if b then Some r else m.registered id) (false_from_ne_true (bytes_eq i id) (λ e. other ((bytes_eq-Decides i id).0 e)))
+
+pub register_in-same : (id : List ℕ) (r : Rewrites) (m : Meaning) → (register_in id r m).registered id ≡ Some r
+unfolding register_in
+register_in-same id r m = ap (λ (b : Bool). if b then Some r else m.registered id) ((bytes_eq-Decides id id).1 refl)
+
+-- calls that leave an id alone leave what is registered under it
+pub after-left_alone : (calls : List Call) (m : Meaning) (id : List ℕ) → LeavesAlone id calls → (after calls m).registered id ≡ m.registered id
+unfolding allow_unknown_in
+after-left_alone [] m id h = refl
+after-left_alone (register i r ∷ calls) m id h = after-left_alone calls (register_in i r m) id h.1 ∙ register_in-other i id r m h.0
+after-left_alone (allow ∷ calls) m id h = after-left_alone calls (allow_unknown_in m) id h
+
+pub after-last : (before rest : List Call) (m : Meaning) (id : List ℕ) (r : Rewrites) → LeavesAlone id rest
+    → (after (before ++ register id r ∷ rest) m).registered id ≡ Some r
+after-last [] rest m id r h = after-left_alone rest (register_in id r m) id h ∙ register_in-same id r m
+after-last (register i q ∷ before) rest m id r h = after-last before rest (register_in i q m) id r h
+after-last (allow ∷ before) rest m id r h = after-last before rest (allow_unknown_in m) id r h
+
+-- once unknown ids are allowed, they stay allowed
+stays-unknown : (calls : List Call) (m : Meaning) → m.unknown ≡ true → (after calls m).unknown ≡ true
+unfolding register_in allow_unknown_in
+stays-unknown [] m e = e
+stays-unknown (register i r ∷ calls) m e = stays-unknown calls (register_in i r m) e
+stays-unknown (allow ∷ calls) m e = stays-unknown calls (allow_unknown_in m) refl
+
+pub after-unknown : (calls : List Call) (m : Meaning) → m.unknown ≡ false → (after calls m).unknown ≡ list_any is_allow calls
+unfolding register_in allow_unknown_in
+after-unknown [] m e = e
+after-unknown (register i r ∷ calls) m e = after-unknown calls (register_in i r m) e
+after-unknown (allow ∷ calls) m e = stays-unknown calls (allow_unknown_in m) refl
+
+-- ---- what is kept
+
+kept-again : (o : Option Rewrites) (u : Bool) (b c : List ℕ) (s : Tree) → ((r : Rewrites) → o ≡ Some r → Lawful r) → Bytes b → Valid s → kept o u b s ≡ Some c → Bytes c × (kept o u c s ≡ Some c)
+kept-again None u b c s h bs v e = grind (arith, bs, e)
+kept-again (Some r) u b c s h bs v e = (h r refl).again b c s bs v e
+
+-- what a session keeps it keeps again, and it is bytes
+pub keeps_again : (m : Meaning) → LawfulSession m → (id b c : List ℕ) (s : Tree) → Bytes b → Valid s → keeps m id b s ≡ Some c → Bytes c × (keeps m id c s ≡ Some c)
+keeps_again m h id b c s bs v e = kept-again (m.registered id) m.unknown b c s (h.each id) bs v e
+
+kept-outer : (o : Option Rewrites) (u : Bool) (b : List ℕ) (s t : Tree) (n : Nullability) → ((r : Rewrites) → o ≡ Some r → Lawful r) → Bytes b → Valid s → set_null s n ≡ Some t → kept o u b t ≡ kept o u b s
+kept-outer None u b s t n h bs v e = refl
+kept-outer (Some r) u b s t n h bs v e = (h r refl).outer b s t n bs v e
+
+-- the storage's outer nullability makes no difference to what is kept
+pub keeps_outer : (m : Meaning) → LawfulSession m → (id b : List ℕ) (s t : Tree) (n : Nullability) → Bytes b → Valid s → set_null s n ≡ Some t → keeps m id b t ≡ keeps m id b s
+keeps_outer m h id b s t n bs v e = kept-outer (m.registered id) m.unknown b s t n (h.each id) bs v e
+
+-- ---- what is admitted
+
+same_by : (m : Meaning) (t u : Tree) → Some t ≡ Some u → Admits m t ↔ Admits m u
+same_by m t u e = let p = same_Some t u e in (λ a. subst (Admits m) p a, λ a. subst (Admits m) (sym p) a)
+
+-- a session admits a type with another outer nullability exactly where it admits the type
+pub admits-set_null : (m : Meaning) → LawfulSession m → (t u : Tree) (n : Nullability) → Valid t → set_null t n ≡ Some u → Admits m t ↔ Admits m u
+admits-set_null m h null u NonNullable v e = cc
+admits-set_null m h null u Nullable v e = same_by m null u e
+admits-set_null m h (extension id b s) u n v e = option_and_then_some (λ x. Some (extension id b x)) (set_null s n) u e (λ x is same.
+    let p = same_by m (extension id b x) u same in let k = keeps_outer m h id b s x n v.0 v.1 is in let rest = admits-set_null m h s x n v.1 is in
+    (λ a. p.0 (k ∙ a.0, rest.0 a.1), λ a. let b' = p.1 a in (sym k ∙ b'.0, rest.1 b'.1)))
+admits-set_null m h _ u n v e = same_by m _ u e
+
+-- a session without plugins that keeps unknown ids keeps all metadata and admits every type
+pub kept_allow_unknown_in : (n : Meaning) (id b : List ℕ) (t : Tree) → n ≡ allow_unknown_in empty_meaning → keeps n id b t ≡ Some b
+unfolding allow_unknown_in empty_meaning
+kept_allow_unknown_in n id b t e = ap (λ (s : Meaning). keeps s id b t) e
+
+mutual
+  pub admits_allow_unknown_in : (n : Meaning) (t : Tree) → n ≡ allow_unknown_in empty_meaning → Admits n t
+  admits_allow_unknown_in n (list t k) e = admits_allow_unknown_in n t e
+  admits_allow_unknown_in n (fixed_size_list t size k) e = admits_allow_unknown_in n t e
+  admits_allow_unknown_in n (map_of t u o k) e = (admits_allow_unknown_in n t e, admits_allow_unknown_in n u e)
+  admits_allow_unknown_in n (struct fs k) e = admits-fields n fs e
+  admits_allow_unknown_in n (union vs k) e = admits-variants n vs e
+  admits_allow_unknown_in n (extension id b s) e = (kept_allow_unknown_in n id b s e, admits_allow_unknown_in n s e)
+  admits_allow_unknown_in n _ e = tt
+
+  admits-fields : (n : Meaning) (fs : Fields) → n ≡ allow_unknown_in empty_meaning → AdmitsFields n fs
+  admits-fields n no_fields e = tt
+  admits-fields n (field name t rest) e = (admits_allow_unknown_in n t e, admits-fields n rest e)
+
+  admits-variants : (n : Meaning) (vs : Variants) → n ≡ allow_unknown_in empty_meaning → AdmitsVariants n vs
+  admits-variants n no_variants e = tt
+  admits-variants n (choice name t g rest) e = (admits_allow_unknown_in n t e, admits-variants n rest e)
+
+-- fields after those that are admitted
+admits_fields-more : (m : Meaning) (fs : Fields) (qs : List (List ℕ × Tree)) → AdmitsFields m fs → AdmitsFields m (fields qs) → AdmitsFields m (fields (pairs fs ++ qs))
+admits_fields-more m no_fields qs a b = b
+admits_fields-more m (field n t rest) qs a b = (a.0, admits_fields-more m rest qs a.1 b)
+
+-- a struct with more fields after those of an admitted one
+pub admits_more : (m : Meaning) (t : Tree) (ps qs : List (List ℕ × Tree)) (n k : Nullability) → struct_fields t ≡ Some ps → Admits m t → Admits m (struct (fields qs) k) → Admits m (struct (fields (ps ++ qs)) n)
+admits_more m (struct fs k') ps qs n k e a b =
+    let same : pairs fs ≡ ps = cc in
+    subst (λ (xs : List (List ℕ × Tree)). AdmitsFields m (fields (xs ++ qs))) same (admits_fields-more m fs qs a b)
+admits_more m t ps qs n k e a b = cc
+
+pub admits_one_more : (m : Meaning) (t u : Tree) (ps : List (List ℕ × Tree)) (name : List ℕ) (n : Nullability) → struct_fields t ≡ Some ps → Admits m t → Admits m u → Admits m (struct (fields (ps ++ (name, u) ∷ [])) n)
+admits_one_more m t u ps name n e a b = admits_more m t ps ((name, u) ∷ []) n n e a (b, tt)
+
+-- the same of a list of fields
+pub admits_fields-behind : (m : Meaning) (ps : List (List ℕ × Tree)) (name : List ℕ) (u : Tree) → AdmitsFields m (fields ps) → Admits m u → AdmitsFields m (fields (ps ++ (name, u) ∷ []))
+admits_fields-behind m [] name u a b = (b, tt)
+admits_fields-behind m (p ∷ ps) name u a b = (a.0, admits_fields-behind m ps name u a.1 b)
+
+-- a field of an admitted struct
+pub admits_field : (m : Meaning) (ps : List (List ℕ × Tree)) (name : List ℕ) (t : Tree) → AdmitsFields m (fields ps) → first_named ps name ≡ Some t → Admits m t
+admits_field m [] name t h e = cc
+admits_field m (p ∷ ps) name t h e = go (bytes_eq p.0 name) e (admits_field m ps name t h.1)
+  where
+    go : (c : Bool) → cond c (Some p.1) (first_named ps name) ≡ Some t → (first_named ps name ≡ Some t → Admits m t) → Admits m t
+    go true e' more = subst (Admits m) (same_Some p.1 t e') h.0
+    go false e' more = more e'
+
+-- an extension that a lawful session read over an admitted storage
+pub admits_extension : (m : Meaning) (e : ExtDTypeRef) (id b : List ℕ) (s : Tree) → LawfulSession m → Bytes b → Valid s → extension_tree e ≡ extension id (extension_metadata e) s → keeps m id b s ≡ Some (extension_metadata e) → Admits m s → Admits m (tree (Extension e))
+admits_extension m e id b s lawful bs v made same a = subst (Admits m) (sym (tree_extension e ∙ made)) ((keeps_again m lawful id b (extension_metadata e) s bs v same).1, a)
+
+-- ---- what calls change, and what they leave alone
+
+pub registered_register_in : (m n : Meaning) (i : List ℕ) (r : Rewrites) → n ≡ register_in i r m → n.registered i ≡ Some r
+registered_register_in m n i r e = ap (λ (s : Meaning). s.registered i) e ∙ register_in-same i r m
+
+pub others_register_in : (m n : Meaning) (i id : List ℕ) (r : Rewrites) → n ≡ register_in i r m → i ≢ id → n.registered id ≡ m.registered id
+others_register_in m n i id r e other = ap (λ (s : Meaning). s.registered id) e ∙ register_in-other i id r m other
+
+-- what was registered stays when another id is registered after it
+pub registered_before : (l m n : Meaning) (i j : List ℕ) (r q : Rewrites) → m ≡ register_in i r l → n ≡ register_in j q m → j ≢ i → n.registered i ≡ Some r
+registered_before l m n i j r q e f other = others_register_in m n j i q f other ∙ registered_register_in l m i r e
+
+pub unknown_register_in : (m n : Meaning) (i : List ℕ) (r : Rewrites) → n ≡ register_in i r m → n.unknown ≡ m.unknown
+unfolding register_in
+unknown_register_in m n i r e = ap (λ (s : Meaning). s.unknown) e
+
+pub unknown_allow_unknown_in : (m n : Meaning) → n ≡ allow_unknown_in m → n.unknown ≡ true
+unfolding allow_unknown_in
+unknown_allow_unknown_in m n e = ap (λ (s : Meaning). s.unknown) e
+
+pub registered_allow_unknown_in : (m n : Meaning) (id : List ℕ) → n ≡ allow_unknown_in m → n.registered id ≡ m.registered id
+unfolding allow_unknown_in
+registered_allow_unknown_in m n id e = ap (λ (s : Meaning). s.registered id) e
+
+pub registered_empty_meaning : (n : Meaning) (id : List ℕ) → n ≡ empty_meaning → n.registered id ≡ None
+unfolding empty_meaning
+registered_empty_meaning n id e = ap (λ (s : Meaning). s.registered id) e
+
+pub unknown_empty_meaning : (n : Meaning) → n ≡ empty_meaning → n.unknown ≡ false
+unfolding empty_meaning
+unknown_empty_meaning n e = ap (λ (s : Meaning). s.unknown) e
+
+pub flag_register_in : (m : Meaning) (i : List ℕ) (r : Rewrites) → (register_in i r m).unknown ≡ m.unknown
+flag_register_in m i r = unknown_register_in m (register_in i r m) i r refl
+
+pub flag_allow_unknown_in : (m : Meaning) → (allow_unknown_in m).unknown ≡ true
+flag_allow_unknown_in m = unknown_allow_unknown_in m (allow_unknown_in m) refl
+
+-- a session without plugins that keeps unknown ids refuses nothing
+pub unrefused : (m : Meaning) (id b : List ℕ) (s : Tree) (e : VortexError) → m ≡ allow_unknown_in empty_meaning → SessionError m id b s e → ⊥
+unfolding allow_unknown_in empty_meaning
+unrefused m id b s e is h = grind arith
+
+-- What calls of a session change and leave alone, what it keeps and what it admits: for callers' proofs.
+pub ruleset sessions = (registered_register_in, others_register_in, registered_before, unknown_register_in, flag_register_in, registered_allow_unknown_in, unknown_allow_unknown_in, flag_allow_unknown_in, registered_empty_meaning, unknown_empty_meaning, admits_allow_unknown_in, kept_allow_unknown_in, admits_one_more, admits_more, admits_fields-behind, admits_field, admits_extension, keeps_again, keeps_outer, unrefused)
+
+-- What is registered and allowed after any calls, and what is admitted whatever the outer nullability: for the laws.
+pub ruleset session_laws = (register_in-same, register_in-other, after-last, after-left_alone, after-unknown, admits-set_null)

@@ -1,0 +1,48 @@
+-- SPDX-License-Identifier: Apache-2.0
+-- SPDX-FileCopyrightText: Copyright the Vortex contributors
+
+-- Types of which the messages are equal are equal.
+use Rattle.std.proofs.Common.{◌≡◌, refl, sym, ap, ◌∙◌}
+use Rattle.dtype_base.specs.declared.nullability.Nullability.{Nullability}
+use Rattle.dtype_base.specs.declared.nullability.Nullability.TheVariants.{NonNullable, Nullable}
+use Rattle.dtype_base.specs.Nullability.{nullability_of}
+use Rattle.dtype_types.specs.tree.Tree.{Tree, Fields, no_fields, field, Variants, no_variants, choice, null, bool, primitive, decimal, utf8, binary, list, fixed_size_list, map_of, struct, union, variant, extension}
+use Rattle.vortex_dtype.specs.Reads.{decimal_with}
+use Rattle.vortex_dtype.specs.Written.{is_nullable, written, written_names, written_fields, written_variant_names, written_variants, written_tags}
+use Rattle.vortex_dtype.proofs.lemmas.InOrder.{ptype_at-number}
+
+pub nullability_of-is : (n : Nullability) → nullability_of (is_nullable n) ≡ n
+nullability_of-is Nullable = refl
+nullability_of-is NonNullable = refl
+
+flag_once : (m n : Nullability) → is_nullable m ≡ is_nullable n → m ≡ n
+flag_once m n e = sym (nullability_of-is m) ∙ ap nullability_of e ∙ nullability_of-is n
+
+mutual
+  pub written_is : (t u : Tree) → written t ≡ written u → t ≡ u
+  written_is null null e = refl
+  written_is (bool m) (bool n) e = cc (flag_once m n (cc))
+  written_is (primitive p m) (primitive q n) e = cc (ptype_at-number p, ptype_at-number q, flag_once m n (cc))
+  written_is (decimal c m) (decimal d n) e =
+      let p : c.precision ≡ d.precision = cc in let k : c.scale ≡ d.scale = cc in
+      let same : c ≡ d = ap (λ x. decimal_with x c.scale) p ∙ ap (decimal_with d.precision) k in cc (flag_once m n (cc))
+  written_is (utf8 m) (utf8 n) e = cc (flag_once m n (cc))
+  written_is (binary m) (binary n) e = cc (flag_once m n (cc))
+  written_is (list x m) (list y n) e = cc (written_is x y (cc), flag_once m n (cc))
+  written_is (fixed_size_list x k m) (fixed_size_list y l n) e = cc (written_is x y (cc), flag_once m n (cc))
+  written_is (map_of x v o m) (map_of y w p n) e = cc (written_is x y (cc), written_is v w (cc), flag_once m n (cc))
+  written_is (struct fs m) (struct gs n) e = cc (fields_is fs gs (cc) (cc), flag_once m n (cc))
+  written_is (union vs m) (union ws n) e = cc (variants_is vs ws (cc) (cc) (cc), flag_once m n (cc))
+  written_is (variant m) (variant n) e = cc (flag_once m n (cc))
+  written_is (extension i b x) (extension j c y) e = cc (written_is x y (cc))
+  written_is _ _ e = cc
+
+  fields_is : (fs gs : Fields) → written_names fs ≡ written_names gs → written_fields fs ≡ written_fields gs → fs ≡ gs
+  fields_is no_fields no_fields e f = refl
+  fields_is (field n x rest) (field o y others) e f = cc (written_is x y (cc), fields_is rest others (cc) (cc))
+  fields_is _ _ e f = cc
+
+  variants_is : (vs ws : Variants) → written_variant_names vs ≡ written_variant_names ws → written_variants vs ≡ written_variants ws → written_tags vs ≡ written_tags ws → vs ≡ ws
+  variants_is no_variants no_variants e f g = refl
+  variants_is (choice n x k rest) (choice o y l others) e f g = cc (written_is x y (cc), variants_is rest others (cc) (cc) (cc))
+  variants_is _ _ e f g = cc

@@ -9,12 +9,11 @@ import re
 from collections import namedtuple
 from glob import glob
 
-from reading import LIBRARIES, functions_of, given_out, is_public, sources_of, text_of
+from repository import functions_of, given_out, is_public, libraries, sources_of, text_of
 
 LEDGER = "docs/PROMISES.md"
 CONSOLE = "crates/dtype_console/stdin"
-# The crates whose public calls it names: the libraries, and the program.
-CRATES = [*LIBRARIES, "dtype_demo"]
+PROGRAM = "dtype_demo"
 
 Line = namedtuple("Line", "number promise calls laws edits tests")
 # What a library has: the functions by their names in the ledger, the ghost members of traits and impls by their
@@ -58,11 +57,16 @@ def is_declared_call(function, traits):
     return function.owner.trait != "Debug" and (function.owner.trait not in traits or bool(function.clauses))
 
 
+def crates_named():
+    """The crates whose public calls it names: the libraries, and the program."""
+    return [*libraries(), PROGRAM]
+
+
 def read_sources():
     """What the libraries have, and the names of the calls that the ledger is to name."""
-    sources, asked = Sources({}, {}, {}, set(), {}), set()
-    names = {name for crate in CRATES for name in given_out(crate)[0]}
-    functions = [(crate, it) for crate in CRATES for file in sources_of(crate) for it in functions_of(file)]
+    sources, asked, crates = Sources({}, {}, {}, set(), {}), set(), crates_named()
+    names = {name for crate in crates for name in given_out(crate)[0]}
+    functions = [(crate, it) for crate in crates for file in sources_of(crate) for it in functions_of(file)]
     traits = {it.owner.type for _, it in functions if it.owner and it.owner.kind == "trait"}
     for crate, function in functions:
         if is_law(crate, function):
@@ -74,7 +78,7 @@ def read_sources():
         if function.owner:
             of_type = name_of(function).rpartition("::")[0]
             sources.members.setdefault(of_type, set()).update(it.name for it in function.owner.members)
-    for crate in CRATES:
+    for crate in crates:
         for file in sources_of(crate):
             sources.constants.update(CONSTANT.findall(text_of(file)))
             for traits_derived, of_type in DERIVED.findall(text_of(file)):
@@ -212,7 +216,7 @@ def left_out(lines, sources, asked):
             if (name, clause) not in clauses_named:
                 yield f"the clause {name}: {clause} stands in no line"
     edits = {edit for line in lines for edit in line.edits}
-    for crate in CRATES:
+    for crate in crates_named():
         folder = f"crates/{crate}/must-fail"
         for file in sorted(os.listdir(folder)) if os.path.isdir(folder) else []:
             if f"{crate}/must-fail/{file.removesuffix('.edit')}" not in edits:

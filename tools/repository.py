@@ -1,17 +1,24 @@
+#!/usr/bin/env python3
 # SPDX-License-Identifier: Apache-2.0
 # SPDX-FileCopyrightText: Copyright the Vortex contributors
 
-"""Reads the sources for the other tools of this folder: functions with their clauses, impls and traits with their ghost
-members, and what a library exports. Nothing is compiled: a source is read as text, in the layout of `rt fmt`."""
+"""The repository, for the other tools of this folder: crates.txt, where `rt` is, files, functions with their clauses,
+impls and traits with their ghost members, what a library exports, and how a check fails. Nothing is compiled: a source is
+read as text, in the layout of `rt fmt`.
+
+For tools that are no Python, `repository.py rt` prints where `rt` is, `repository.py crates` the crates, and
+`repository.py below NAME` a crate's line of crates.txt and those of the crates that it is over, lowest first.
+"""
 import os
 import re
+import shutil
+import sys
 from collections import namedtuple
 from glob import glob
 
 TOP = os.path.dirname(os.path.dirname(os.path.realpath(__file__)))
-# The libraries, lowest first.
-LIBRARIES = "dtype_base dtype_messages dtype_types dtype_native dtype_paths dtype_projection vortex_dtype".split()
-LIBRARIES = [it for it in LIBRARIES if os.path.isdir(f"{TOP}/crates/{it}")]
+RT = shutil.which("rt") or "/opt/rattle/bin/rt"
+CRATE = re.compile(r"(?m)^(\w+):([^#\n]*)")
 
 # `kind` is requires, ensures or ghost, and `name` is empty where a clause has none.
 Clause = namedtuple("Clause", "kind name text")
@@ -43,9 +50,62 @@ def text_of(file):
         return it.read()
 
 
+def dependencies():
+    """The crates of crates.txt, in its order, each with those that it depends on, which are above it."""
+    return {it[1]: it[2].split() for it in CRATE.finditer(text_of("crates.txt"))}
+
+
 def crates():
     """The crates of crates.txt, in its order."""
-    return re.findall(r"(?m)^(\w+):", text_of("crates.txt"))
+    return list(dependencies())
+
+
+def below(names):
+    """These crates and those that they are over, lowest first."""
+    needed = set(names)
+    for crate, under in reversed(dependencies().items()):
+        if crate in needed:
+            needed.update(under)
+    return [crate for crate in crates() if crate in needed]
+
+
+def libraries():
+    """The crates of crates.txt below its line `# The libraries`, up to the next such line: lowest first."""
+    _, _, rest = text_of("crates.txt").partition("\n# The libraries")
+    return [it[1] for it in CRATE.finditer(re.split(r"(?m)^# ", rest)[0])]
+
+
+class Report:
+    """What a tool has checked: it prints each fault as it is told, and at the end how many checks passed and failed."""
+
+    def __init__(self, tool):
+        self.tool, self.passed, self.failed = tool, 0, 0
+
+    def fault(self, text, where=""):
+        """Tells one fault, which is a failed check."""
+        self.failed += 1
+        print(f"{self.tool}: {f'{where}: ' if where else ''}{text}")
+
+    def note(self, text):
+        print(f"{self.tool}: note: {text}")
+
+    def check(self, faults, checked=1):
+        """Tells the faults of one check, each a text or where it is and the text, or of so many checks."""
+        faults = list(faults)
+        self.passed += max(checked - len(faults), 0)
+        for it in faults:
+            self.fault(*reversed(it) if isinstance(it, tuple) else (it,))
+
+    def end(self):
+        """Prints the last line, and gives the status: 0 where nothing failed, else 1."""
+        print(f"{self.passed} passed, {self.failed} failed")
+        return int(self.failed > 0)
+
+
+def give_up(tool, why):
+    """Ends a tool that can't begin, with status 2."""
+    print(f"{tool}: {why}", file=sys.stderr)
+    sys.exit(2)
 
 
 def sources_of(crate, parts=("src",), endings=(".rt",)):
@@ -152,3 +212,20 @@ def is_public(function, names, modules):
     owner = function.owner
     is_open = module in modules or (bool(heads_of(owner) & names) if owner else function.name in names)
     return is_open and (bool(owner and owner.trait) or function.visibility == "pub")
+
+
+def main():
+    go_to_top()
+    if sys.argv[1:] == ["rt"]:
+        print(RT)
+    elif sys.argv[1:] == ["crates"]:
+        print(*crates(), sep="\n")
+    elif sys.argv[1:2] == ["below"] and set(sys.argv[2:]) <= set(crates()):
+        for crate in below(sys.argv[2:]):
+            print(f"{crate}: {' '.join(dependencies()[crate])}")
+    else:
+        give_up("repository", "takes rt, crates, or below NAME")
+
+
+if __name__ == "__main__":
+    main()

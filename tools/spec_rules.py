@@ -1,0 +1,137 @@
+# SPDX-License-Identifier: Apache-2.0
+# SPDX-FileCopyrightText: Copyright the Vortex contributors
+
+"""What stands where: definitions alone in specs/, no import that nothing uses, one meaning for each label of a clause,
+and no citation of another crate's own parts. tools/borders says what and why."""
+import os
+import re
+
+from ledger import PROGRAM
+from repository import crates, functions_of, libraries, sources_of, text_of
+
+# The lemmas outside of files `..Laws`: the file of specs/, the name, or all of them, and what cites it.
+LEMMAS = {
+    ("dtype_paths/specs/PathOrder.antt", "named-held_name"): "the code by which a field is ordered",
+    ("vortex_dtype/specs/Typed.antt", "chosen"): "the former of what a typed vtable means",
+    ("vortex_dtype/specs/StorageKinds.antt", "*"): "the ghost members of users' vtables and plugins",
+}
+STATEMENT = re.compile(r"(?m)^( *)((?:pub |abbrev |unfoldable )*)(\S+) : (.*(?:\n\1 +[^\n]*)*)")
+RELATION = re.compile(r"[≡≢≤<↔¬]|^(?:Decides|Valid\w*|Is[A-Z]\w*)\b")
+SORT = re.compile(r"\bType(?: \d)?$")
+
+IMPORT = re.compile(r"ghost use ([\w.]+?)(?:\.\{([^}]*)\}| as (\S+))?;")
+
+# What four labels say, by the form of the clause (CONTRIBUTING.md). A call's only clause of one of the first three
+# forms has that label; no clause has one of the four and another form.
+LABELS = {
+    "ok": re.compile(r"MatchResult result\b"),
+    "err": re.compile(r"OnErr result\b"),
+    "errors": re.compile(r"(?:IfErr|IsOkUnless) result\b"),
+    "valid": re.compile(r".*\b(?:Valid|IsValid)"),
+}
+# The labels that say something else today, a line each: the file, the call and the label.
+LABELS_OF_TODAY = "tools/data/labels_of_today"
+# A premise before what a clause says of the result.
+PREMISE = re.compile(r"^[^→]*→ ?")
+
+
+def cited_parts(crate):
+    """Each line of a crate that cites another crate's proofs or its private definitions."""
+    others = "|".join(it for it in crates() if it != crate)
+    own = re.compile(rf"\b({others})(?:\.|::)(proofs(?!(?:\.|::)(?:lemmas|rulesets)\b)|specs(?:\.|::)private)\b")
+    for file in sources_of(crate, ("src", "specs", "proofs"), (".rt", ".antt")):
+        for number, line in enumerate(text_of(file).splitlines(), 1):
+            if found := own.search(line):
+                yield f"{file}:{number}", f"cites {found[2]} of {found[1]}, which are its own"
+
+
+def conclusion_of(statement):
+    """What is behind the last arrow of a statement."""
+    depth = last = 0
+    for at, sign in enumerate(statement):
+        depth += (sign in "([{") - (sign in ")]}")
+        if sign == "→" and depth == 0:
+            last = at + 1
+    return statement[last:].strip()
+
+
+def lemmas_in(file):
+    """The names that a file of definitions proves a relation of."""
+    text = re.sub(r"(?m)\s*--.*$", "", text_of(file))
+    for it in STATEMENT.finditer(text):
+        conclusion = conclusion_of(" ".join(it[4].split()))
+        has_body = re.search(rf"(?m)^{it[1]}{re.escape(it[3])}(?: [^\n:]*)? =(?: |$)", text)
+        if has_body and RELATION.search(conclusion) and not SORT.search(conclusion):
+            yield it[3]
+
+
+def lemmas_among_definitions():
+    """Each lemma in specs/ of the libraries and the program that is neither in a file `..Laws`, nor in a former, nor
+    private, nor listed."""
+    for crate in [*libraries(), PROGRAM]:
+        for file in sources_of(crate, ("specs",), (".antt",)):
+            if not file.endswith("Laws.antt") and not re.search(r"/specs/(?:formers|private)/", file):
+                for name in lemmas_in(file):
+                    if not {(file.removeprefix("crates/"), it) for it in (name, "*")} & LEMMAS.keys():
+                        yield file, f"{name} is a lemma: it belongs into proofs/lemmas, or into a file whose name ends in Laws"
+
+
+def uses_of(name, text):
+    """How often a text has a name, or what stands between the parts of an operator."""
+    parts = [it for it in name.split("◌") if it.strip()]
+    word = r"(?<![\w.]){}(?![\w'])" if re.fullmatch(r"[\w'-]+", name) else "{}"
+    return min((len(re.findall(word.format(re.escape(it)), text)) for it in parts), default=1)
+
+
+def unused_imports(file):
+    """Each name that a source imports for its clauses and doesn't use, and each that it imports twice."""
+    text = text_of(file)
+    rest = re.sub(r"(?m)//.*$", "", IMPORT.sub("", text))
+    seen = set()
+    for it in IMPORT.finditer(text):
+        listed = [name.strip() for name in (it[2] or "").split(",") if name.strip()]
+        names = [name.rpartition(" as ")[2] for name in listed] or [it[3] or it[1].rpartition(".")[2]]
+        indent = len(it.string[it.string.rfind("\n", 0, it.start()) + 1:it.start()])
+        for name in names:
+            if not uses_of(name, rest):
+                yield file, f"imports {name}, and uses it nowhere"
+            elif (name, indent) in seen and indent == 0 or names.count(name) > 1:
+                yield file, f"imports {name} twice"
+            seen.add((name, indent))
+
+
+def imports_that_nothing_uses():
+    for crate in crates():
+        for file in sources_of(crate):
+            yield from dict.fromkeys(unused_imports(file))
+
+
+def form_of(clause):
+    """The label among the first three that a clause's form asks for, or none."""
+    text = " ".join(clause.text.split())
+    forms = (label for label in ("ok", "err", "errors") for it in (text, PREMISE.sub("", text)) if LABELS[label].match(it))
+    return next(forms, "")
+
+
+def labels_of(function):
+    """The labels of a function's clauses that say another thing than the table has, and what is to stand there."""
+    clauses = [it for it in function.clauses if it.kind == "ensures" and it.name]
+    forms = [form_of(it) for it in function.clauses if it.kind == "ensures"]
+    for clause in clauses:
+        form = form_of(clause)
+        if form and clause.name != form and forms.count(form) == 1:
+            yield clause.name, f"is to be called {form}"
+        elif clause.name in LABELS and not LABELS[clause.name].match(" ".join(clause.text.split())) and form != clause.name:
+            yield clause.name, "is of another form than its label says"
+
+
+def wrong_labels():
+    """Each clause of the libraries and the program whose label isn't that of its form, and isn't listed."""
+    listed = set(text_of(LABELS_OF_TODAY).splitlines()) if os.path.exists(LABELS_OF_TODAY) else set()
+    for crate in [*libraries(), PROGRAM]:
+        for file in sources_of(crate):
+            for function in functions_of(file):
+                call = f"{function.owner.type}::{function.name}" if function.owner else function.name
+                for label, fault in labels_of(function):
+                    if f"{file.removeprefix('crates/')} {call}: {label}" not in listed:
+                        yield file, f"{call}: {label}: {fault}"

@@ -4,14 +4,13 @@
 //! A reader of columns: what is asked of it, and what it opens for that.
 #![tactic(auto, using(vortex_dtype::proofs::rulesets::covering))]
 
-ghost use Rattle.std.specs.Prelude.{◌≡◌, ◌≢◌, ◌↔◌, ◌+◌, ◌++◌, [], ◌∷◌, ◌≤◌, ◌||◌, IfOk, IsTrue, List, OnOk, false, is_some, length, map};
+ghost use Rattle.std.specs.Prelude.{◌≡◌, ◌≢◌, ◌↔◌, ◌+◌, ◌++◌, [], ◌∷◌, ◌≤◌, IfOk, IsTrue, List, OnOk, false, is_some, length, map};
 ghost use Rattle.std.specs.FinSet as set;
-ghost use Rattle.std.specs.List.{All, Contains, list_all, list_any, starts_with, sum_by};
+ghost use Rattle.std.specs.List.{All, Contains, list_all, sum_by};
 ghost use Rattle.std.specs.Vec.Iter.{into_iter_items};
 ghost use Rattle.dtype_types.specs.tree.TreeOf.{tree};
 ghost use Rattle.vortex_dtype.specs.Along.{along};
 ghost use Rattle.vortex_dtype.specs.Covering.{covers, least};
-ghost use Rattle.vortex_dtype.specs.PathEquality.{same_field};
 ghost use Rattle.vortex_dtype.specs.PathOrder.{set_of};
 ghost use Rattle.vortex_dtype.specs.Types.Field.{Field};
 

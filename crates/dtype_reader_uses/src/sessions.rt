@@ -4,7 +4,7 @@
 //! Sessions: what is known after registrations, what is kept of metadata, and which errors come.
 #![tactic(auto, using(vortex_dtype::proofs::rulesets::sessions, vortex_dtype::proofs::rulesets::messages))]
 
-ghost use Rattle.std.specs.Prelude.{◌≡◌, ◌≢◌, ◌↔◌, ◌⊎◌, IfErr, IfOk, IsErr, IsOkUnless, IsSome, IsTrue, OnOk, Some, false, true};
+ghost use Rattle.std.specs.Prelude.{◌≡◌, ◌≢◌, ◌↔◌, ◌⊎◌, IfErr, IfOk, IsErr, IsOkUnless, IsSome, IsTrue, OnOk, Some, false};
 ghost use Rattle.vortex_dtype.specs.Meaning.{Admits, keeps};
 ghost use Rattle.vortex_dtype.specs.Session.{meaning};
 ghost use Rattle.vortex_dtype.specs.TreeOf.{extension_metadata, tree};

@@ -4,7 +4,7 @@
 //! A binder of expressions: the types of column references, of projections and of joins.
 #![tactic(auto, using(vortex_dtype::proofs::rulesets::null_values))]
 
-ghost use Rattle.std.specs.Prelude.{◌≡◌, ◌↔◌, ◌++◌, ◌∷◌, [], IfNone, IfOk, IfSome, List, Some};
+ghost use Rattle.std.specs.Prelude.{◌≡◌, ◌↔◌, ◌++◌, ◌∷◌, IfNone, IfOk, IfSome, List, Some};
 ghost use Rattle.dtype_types.specs.parts.Lookups.{Projects};
 ghost use Rattle.dtype_types.specs.tree.Tree.{Tree};
 ghost use Rattle.dtype_types.specs.tree.TreeOf.{children, tree};

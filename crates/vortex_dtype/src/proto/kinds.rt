@@ -10,7 +10,6 @@ ghost use Rattle.std.specs.Prelude.{◌≡◌, ◌<◌, ◌^◌, All, FitsSigned
 ghost use Rattle.dtype_base.specs.declared.vortex_error.VortexError.TheVariants.{OutOfMemory};
 ghost use Rattle.dtype_base.specs.Decimals.{IsValidDecimal};
 ghost use Rattle.dtype_base.specs.Nullability.{nullability_of};
-ghost use Rattle.dtype_types.specs.tree.Tree as of;
 ghost use Rattle.dtype_types.specs.tree.TreeOf.{tree};
 ghost use Rattle.dtype_types.specs.tree.Valid.{Valid};
 ghost use Rattle.dtype_messages.specs.MessageOf.{bytes_of};

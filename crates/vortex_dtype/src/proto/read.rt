@@ -3,7 +3,7 @@
 
 // Reading walks the message once, in the order of its fields, and builds the type through the checking constructors of
 // the crates below: their errors are returned as they are.
-ghost use Rattle.std.specs.Prelude.{◌≡◌, IfOk};
+ghost use Rattle.std.specs.Prelude.{IfOk};
 ghost use Rattle.dtype_types.specs.tree.TreeOf.{tree};
 ghost use Rattle.dtype_types.specs.tree.Valid.{Valid};
 ghost use Rattle.dtype_messages.specs.MessageOf.{message};

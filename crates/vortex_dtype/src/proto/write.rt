@@ -9,7 +9,7 @@ ghost use Rattle.dtype_types.specs.tree.Tree as of;
 ghost use Rattle.dtype_types.specs.tree.TreeOf.{tree, fields_of, variants_of};
 ghost use Rattle.dtype_messages.specs.Message.{messages, list, fixed_size_list, map_of, struct, union, present};
 ghost use Rattle.dtype_messages.specs.MessageOf.{message, kind_message};
-ghost use Rattle.vortex_dtype.specs.Written.{written, is_nullable, extension_message};
+ghost use Rattle.vortex_dtype.specs.Written.{written, extension_message};
 
 use dtype_base::{Nullability, VortexResult};
 use dtype_messages::pb;

@@ -70,15 +70,15 @@ def rows(r):
     r.comment("Nullable wherever one of the two is, at every depth.")
     i32, i32_n, text, text_n = prim("i32"), prim("i32", True), utf8(), utf8(True)
     merge_nullability(r, struct([("a", i32), ("b", list_of(text_n))]), struct([("a", i32_n), ("b", list_of(text))]))
-    for t in v.every():
+    for t in v.nested_and_some():
         everywhere, nowhere = nullable_where(t, lambda _: True), nullable_where(t, lambda _: False)
         odd, even = nullable_where(t, turns(True)), nullable_where(t, turns(False))
-        for a, b in [(t, t), (everywhere, nowhere), (nowhere, everywhere), (odd, even), (even, odd), (t, odd), (nowhere, nowhere)]:
+        for a, b in [(t, t), (everywhere, nowhere), (odd, even), (even, odd)][:: 1 if parts(t) else 3]:
             merge_nullability(r, a, b)
     r.comment("Types that differ in more have none: in the kind, a name, a tag, a size, a decimal, the order, an id.")
-    for a in [null()] + v.few(False):
-        for b in [null()] + v.few(True):
-            merge_nullability(r, a, b)
+    kinds = [null()] + v.few(False)
+    for a, b in zip(kinds, kinds[1:] + kinds[:1]):
+        merge_nullability(r, a, b)
     for a, b in [
         (i32, prim("u32")), (dec(5, 2), dec(5, 3, True)), (dec(5, 2), dec(6, 2)), (list_of(i32), list_of(text_n)),
         (fixed(i32, 2), fixed(i32, 3)), (fixed(i32, 2), list_of(i32)), (map_of(text, i32), map_of(text, i32, True)),
@@ -99,6 +99,6 @@ def rows(r):
     for count in (1, 5, 40):
         merge_nullability(r, v.depth(count, i32), v.depth(count, i32_n))
         merge_nullability(r, v.depth(count, i32), v.depth(count, text))
-    for count in (4, 5, 300):
+    for count in (4, 41, 300):
         merge_nullability(r, v.many(count), nullable_where(v.many(count), turns(False)))
         merge_nullability(r, v.many(count), v.many(count - 1))

@@ -1,11 +1,12 @@
 # SPDX-License-Identifier: Apache-2.0
 # SPDX-FileCopyrightText: Copyright the Vortex contributors
 
-"""Paths, sets, masks and messages over every kind, and every size from 0 to 300."""
+"""Paths, sets, masks and messages over every kind, and sizes at their edges."""
 from . import calls_base as b
 from . import calls_messages as m
 from . import calls_parts as p
 from . import calls_paths as q
+from . import calls_types as t
 from . import values as v
 from .trees import ELEMENT as E
 from .trees import ext, fixed, list_of, map_of, prim, struct, tagged, union, utf8
@@ -16,28 +17,32 @@ def paths(r):
     found = [(), ("a",), (E,), ("a", "b"), ("a", E), (E, "a"), (E, E), ("[]",), ("a", "b", "c"), ("a", E, "b", E), ("",)]
     for one in found:
         q.path(r, one)
-        for other in found:
+        for other in found[found.index(one)::2]:
             q.pair(r, one, other)
-        for step in ("a", "b", E, "[]", ""):
+        for step in ("a", E, "[]"):
             q.push(r, one, step)
             q.starts_with_field(r, one, step)
     steps = [E, "a", "b", "[]", "", "$", "é"]
     for one in steps:
         q.step(r, one)
-        for other in steps:
+        for other in steps[steps.index(one):]:
             q.step_eq(r, one, other)
-    for name in v.NAMES:
-        q.path(r, (name,))
-        q.path_text(r, ("a", name, E))
-        q.step(r, name)
+    for i, name in enumerate(v.NAMES):
+        if i % 2:
+            q.path_text(r, ("a", name, E))
+            q.from_steps(r, (name,))
+        elif i % 4:
+            q.step(r, name)
+        else:
+            q.path(r, (name,))
 
 
 def resolution(r):
     r.topic("Paths in types")
     r.comment("Paths into every kind.")
-    shapes = [(), ("a",), (E,), ("n",), (E, E), ("l", E, "b"), ("key",), ("b c",)]
-    for one in v.every():
-        for steps in shapes:
+    shapes = [("a",), (E,), (E, E), ("l", E, "b"), ("b c",)]
+    for i, one in enumerate(v.nested_and_some()):
+        for steps in shapes[i % 2::2]:
             if steps and one[0] in ("bool", "prim", "dec", "utf8", "binary", "variant") and len(steps) > 1:
                 continue
             q.resolve(r, steps, one)
@@ -47,7 +52,7 @@ def resolution(r):
         q.resolve(r, steps, deep)
         q.exists_in(r, steps, deep)
     for one in v.structs():
-        for name in dict.fromkeys([name for name, _ in one[2]][:6] + ["missing"]):
+        for name in dict.fromkeys([name for name, _ in one[2]][:3] + ["missing"]):
             q.resolve(r, (name,), one)
             q.exists_in(r, (name,), one)
     for one in (map_of(utf8(), struct([("key", v.U8)])), ext("x.y", b"", struct([("a", v.U8)])), tagged([("a", struct([("a", v.U8)]))])):
@@ -59,30 +64,30 @@ def resolution(r):
 def projections(r):
     r.topic("Projections of types to paths")
     r.comment("Every kind, alone and within structs and lists, to each of a few paths and to pairs of them.")
-    shapes = [(), ("a",), (E,), ("n",), ("l", E, "b"), ("key",), ("b c",)]
-    for one in v.every():
-        for steps in shapes:
-            q.project_paths(r, one, [steps])
+    shapes = [("a",), (E,), ("l", E, "b")]
+    wanted = [[("a",)], [("l", E, "b")], [("a",), ("l", E, "a")], [("a", "a"), ("l",)], [("a", E), ("a", "n")]]
+    for i, one in enumerate(v.nested_and_some()):
+        q.project_paths(r, one, [shapes[i % 3]])
         row = struct([("a", one), ("l", list_of(struct([("b", one), ("a", one)]), True)), ("a", v.U8)], True)
-        for items in [[("a",)], [("l", E, "b")], [("a",), ("l", E, "a")], [("a", "a"), ("l",)], [("a", E), ("a", "n")]]:
-            q.project_paths(r, row, items)
+        q.project_paths(r, row, wanted[i % 5])
+        q.project_paths(r, row, wanted[(i + 2) % 5])
     r.comment("Every set of the paths of one type, and one path of none.")
     deep = struct([("a", list_of(fixed(struct([("b", utf8(True)), ("a", fixed(prim("u8"), 0)), ("b", v.BOOL)], True), 2, True))),
                    ("c", struct([("a", v.U8)])), ("a", v.BOOL)])
     leaves = [("a", E, E, "b"), ("a", E, E, "a", E), ("c", "a"), ("c",), ("a", E), ("a", "b")]
-    for mask in range(2 ** len(leaves)):
+    for mask in range(1, 2 ** len(leaves), 2):
         q.project_paths(r, deep, [leaf for i, leaf in enumerate(leaves) if mask >> i & 1])
     r.comment("Structs whose names repeat, and names that need care.")
     for one in v.structs():
         names = list(dict.fromkeys(name for name, _ in one[2]))
-        for name in names[:4] + ["missing"]:
+        for name in names[:2] + ["missing"]:
             q.project_paths(r, one, [(name,)])
         q.project_paths(r, one, [(name,) for name in reversed(names)])
     named = struct([(name, struct([(name, v.U8), ("x", v.BOOL)])) for name in v.NAMES])
     for name in v.NAMES:
         q.project_paths(r, named, [(name, name)])
-    r.comment("1 to 40 columns: the first, the last, each second one.")
-    for count in (1, 2, 3, 16, 17, 40):
+    r.comment("1 to 41 columns: the first, the last, each second one.")
+    for count in (1, 2, 17, 41):
         columns = struct([(str(i), struct([("x", v.U8), ("y", v.BOOL)])) for i in range(count)])
         for items in [[("0", "x")], [(str(count - 1), "y")], [(str(i), "x") for i in range(0, count, 2)],
                       [(str(i), "xy"[i % 2]) for i in reversed(range(count))]]:
@@ -95,7 +100,7 @@ def masks(r):
     every = [("all",)] + [(form, path) for path in found for form in ("prefix", "exact")]
     for one in every:
         q.mask(r, one)
-        for other in every:
+        for other in every[every.index(one)::2]:
             q.mask_eq(r, one, other)
 
 
@@ -111,11 +116,11 @@ def path_sets(r):
         q.cover(r, items)
         q.cover_counted(r, items)
         q.members(r, items)
-        for one in items[:6] + [("a",), ("x",), (), ("a", "b", "c", "d")]:
+        for one in items[:3] + [("a",), (), ("a", "b", "c", "d")]:
             q.contains(r, one, items)
-    r.comment("A node's children, 0 to 20 and up to 40: short names, names that begin alike and end alike, 7 and 8 bytes.")
-    for count in (*range(21), 31, 32, 33, 40):
-        for form in ("{}", "{}_of_the_columns", "column{:02}", "co{:05}", "col{:05}"):
+    r.comment("A node's children, 0 to 41: short names, names that begin alike and end alike, 7 and 8 bytes.")
+    for count in (0, 1, 2, 3, 8, 15, 16, 17, 18, 33, 41):
+        for form in ("{}", "{}_of_the_columns", "column{:02}", "co{:05}", "col{:05}")[:: 1 if count in (1, 16, 17) else 3]:
             items = children(count, form)
             q.cover_counted(r, items)
             q.contains(r, ("parent", form.format(count)), items)
@@ -173,17 +178,17 @@ def messages_of(children_of):
 
 def messages(r):
     r.topic("Messages")
-    every = v.every()
+    every = v.nested_and_some()
     for one in every:
         m.write(r, one)
         m.round_trip(r, "unknown", one)
-    for one in every[::3]:
+    for one in every[::9]:
         m.round_trip(r, "strict", one)
         m.round_trip(r, "x.tag", one)
     r.comment("Typed extensions, read back as their plugin writes them.")
     for n in v.BOTH:
-        for storage in v.few(n):
-            for metadata in (b"", b"ab", b"AB", b"a!"):
+        for i, storage in enumerate(v.few(n)[n::2]):
+            for metadata in (b"", b"ab", b"AB", b"a!")[i % 2::2]:
                 m.round_trip(r, "x.tag", ext("x.tag", metadata, storage))
                 m.read(r, "x.tag,unknown", ("ext", "x.tag", metadata, r.original.message("write", m.type_words(storage))))
 
@@ -203,11 +208,11 @@ FAULTS = [
 def faults(r):
     r.topic("Faults of messages")
     r.comment("Each fault within each form.")
-    for fault in FAULTS:
+    for i, fault in enumerate(FAULTS):
         if fault is not None:
             m.read(r, "x.tag", fault)
             m.normal(r, "x.tag", fault)
-        for one in messages_of(fault):
+        for one in messages_of(fault)[i % 2::2]:
             m.read(r, "x.tag", one)
     r.comment("Two faults in one message: the first in the order of reading is told.")
     pairs = [("none",), ("prim", False, 11), ("dec", False, 300, -129), ("struct", False, ("a",), ()), ("utf8", True), None]
@@ -226,19 +231,21 @@ def message_edges(r):
         m.read(r, "strict", ("prim", number % 2 == 1, number))
         m.pb_from_number(r, number)
     for p_ in (0, 1, 76, 77, 255, 256, 2**32 - 1):
-        for s in (-(2**31), -129, -128, 0, 76, 77, 127, 128, 2**31 - 1):
+        for s in (-(2**31), -129, -128, 76, 77, 128, 2**31 - 1)[p_ % 2::2]:
             m.read(r, "strict", ("dec", False, p_, s))
     for tag in (-(2**31), -1, 0, 255, 256, 2**31 - 1):
         m.read(r, "strict", ("union", False, ("d",), (("null",),), (tag,)))
     for size in (0, 1, 2**32 - 1):
         m.read(r, "strict", ("fsl", False, size, ("null",)))
     r.comment("Names and ids that need care.")
-    for name in v.NAMES:
-        m.read(r, "strict", ("struct", False, (name,), (("null",),)))
-        m.read(r, "unknown", ("ext", name, name.encode(), ("null",)))
-        m.write(r, struct([(name, v.U8)]))
-        m.write(r, union([(name, 3, v.U8)]))
+    for i, name in enumerate(v.NAMES):
         m.read_path(r, (name,))
+        if i % 2:
+            m.read(r, "strict", ("struct", False, (name,), (("null",),)))
+            m.write(r, union([(name, 3, v.U8)]))
+        else:
+            m.read(r, "unknown", ("ext", name, name.encode(), ("null",)))
+            m.write(r, struct([(name, v.U8)]))
     m.write(r, ext("x.y", bytes(range(256)), v.U8))
     r.comment("Copies, and equality by all fields.")
     several = [fault for fault in FAULTS if fault is not None] + [("ext", "y", None, ("null",)), ("ext", "", None, None), ("bool", True)]
@@ -258,11 +265,11 @@ def sessions(r):
              "x.text,unknown", "x.word,kept,unknown"]
     for session in words:
         m.allows_unknown(r, session)
-        for name in ("x.tag", "x.text", "x.word", "y", ""):
+        for i, name in enumerate(("x.tag", "x.text", "x.word", "y", "")):
             m.registry(r, session, name)
-            for metadata in (b"", b"AB", b"a!"):
-                for storage in (utf8(), utf8(True), v.BOOL, list_of(v.U8)):
-                    m.deserialize(r, session, name, metadata, storage)
+            for metadata in (b"", b"AB", b"a!")[i % 2:]:
+                m.deserialize(r, session, name, metadata, (utf8(True), v.BOOL, utf8())[(i + metadata.count(b"B")) % 3])
+        m.deserialize(r, session, "x.word", b"AB", list_of(v.U8))
         for name in ("x.tag", "x.text", "x.word", "y"):
             m.read_with(r, session, ("list", True, ("ext", name, b"Ab", ("utf8", False))))
             m.read_with(r, session, ("ext", name, None, ("utf8", True)))
@@ -318,30 +325,35 @@ def long_calls(r, size):
 
 
 def sizes(r):
-    r.topic("Every size from 0 to 300")
-    r.comment("Names, fields, variants, parts of paths, paths of a set, bytes of metadata: two calls a size by turns.")
-    for size in range(301):
+    r.topic("Sizes at their edges")
+    r.comment("Names, fields, variants, parts of paths, paths of a set, bytes of metadata: a call a size by turns.")
+    for i, size in enumerate(v.EDGES):
         calls = short_calls(r, size)
-        calls[size % len(calls)]()
-        calls[(size + 3) % len(calls)]()
-    r.comment("All calls, where what is kept changes its form, or a refusal begins.")
-    for size in (0, 1, 2, 4, 5, 8, 16, 17, 255, 256, 257, 300):
-        for call in short_calls(r, size) + long_calls(r, size):
+        calls[i % len(calls)]()
+    r.comment("All calls, where what is kept changes its form.")
+    for size in (17, 257):
+        for call in short_calls(r, size) + long_calls(r, size)[:: 1 if size == 17 else 3]:
             call()
-    r.comment("Names of 0 to 300 bytes.")
-    for size in range(301):
-        name = ("abcdefghij" * 30)[:size]
+    r.comment("Names of 0 to 301 bytes.")
+    for i, size in enumerate((0, 1, 7, 8, 9, 15, 16, 17, 63, 64, 127, 128, 255, 256, 300, 301)):
+        name = ("abcdefghij" * 31)[:size]
         p.find(r, name, struct([("x", v.U8), (name, v.BOOL), (name + "k", v.U8)]))
-        if size in v.EDGES:
+        if i % 4 == 0 or size == 301:
             b.name(r, name)
-            q.path(r, (name,))
-            q.cover_counted(r, [(name, "a"), (name + "k",), (name,)])
-            b.name_cmp(r, name, name + "k")
+            q.path_text(r, (name,))
+    r.comment("Sizes past those that tests usually have: texts, copies and lists.")
+    q.path(r, OfSize(33).steps)
+    p.struct_lists(r, OfSize(41).fields)
+    p.metadata_text(r, ext("x.y", OfSize(1000).data, v.U8))
+    for one in (OfSize(41).fields, list_of(fixed(v.U8, 77)), fixed(fixed(v.U8, 77), 77, True), list_of(OfSize(41).fields)):
+        t.type_text(r, one)
+    b.precision_scale(r, "i128", 38, 38)
+    b.precision_scale_from(r, "i128", 38, -38)
 
 
 def depths(r):
     r.topic("Types up to 128 deep")
-    for levels in (*range(18), 31, 32, 33, 63, 64, 65, 127, 128):
+    for levels in (0, 1, 2, 3, 8, 16, 17, 33, 64, 127, 128):
         for wrap, step in [(list_of, E), (lambda t: fixed(t, 2, True), E), (lambda t: struct([("a", t)]), "a")]:
             deep = v.depth(levels, prim("u8", True), wrap)
             q.resolve(r, (step,) * levels, deep)

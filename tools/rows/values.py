@@ -15,6 +15,9 @@ BOTH = (False, True)
 # 17), a union's tags (256, 257), powers of two, and 300.
 EDGES = [0, 1, 2, 3, 4, 5, 6, 7, 8, 9, 15, 16, 17, 18, 31, 32, 33, 63, 64, 65, 100, 127, 128, 129, 255, 256, 257, 299, 300]
 
+# Precisions where a decimal's storage changes, and beside them.
+DIGITS = [1, 2, 3, 4, 5, 9, 10, 18, 19, 20, 38, 39, 75, 76]
+
 # Empty ones, 7 and 8 bytes, equal ends and equal beginnings, escapes, letters beyond ASCII, and texts that look like
 # something else.
 NAMES = [
@@ -56,8 +59,13 @@ def extensions():
 
 
 def every():
-    """Every kind of type, of both nullabilities."""
-    return [null()] + [t for n in BOTH for t in plain(n) + nested(n)] + extensions()
+    """Every kind of type: each of one nullability, a type of each kind of the other."""
+    return [null()] + plain(False) + nested(False) + few(True) + extensions()
+
+
+def some():
+    """A type of each kind, by turns nullable or not."""
+    return [null()] + few(False)[::2] + few(True)[1::2]
 
 
 def few(n):
@@ -68,9 +76,14 @@ def few(n):
     ]
 
 
+def nested_and_some():
+    """Every kind with parts, a type of each kind, and extensions of each storage."""
+    return some() + nested(False) + extensions()[:9]
+
+
 def structs():
     """Structs over names that repeat, share a prefix or a suffix, or need escapes, of up to 17 fields."""
-    found = [t for n in BOTH for t in nested(n) if t[0] == "struct"]
+    found = [t for t in nested(False) if t[0] == "struct"] + [struct([("a", I32)], True)]
     for names in [["b", "a", "b", "a"], ["", "a"], ["a", "b", "c", "d"], ["a", "b", "c", "d", "e"], ["int_col", "int_col"],
                   ["abcdefg", "abcdefgh", "abcdefgi", "bbcdefgh", "abcdefghi"], ["a\nb"], ["é", "名前"]]:
         found.append(struct([(name, prim(PTYPES[i % 11])) for i, name in enumerate(names)]))
@@ -80,7 +93,7 @@ def structs():
 
 def unions():
     """Unions of consecutive tags and of others."""
-    found = [t for n in BOTH for t in nested(n) if t[0] == "union"]
+    found = [t for t in nested(False) if t[0] == "union"]
     found.append(tagged([("b", BOOL), ("a", UTF8), ("", null()), ("a b", I32)]))
     found.append(union([("a", 1, BOOL), ("b", 0, utf8(True))], True))
     found.append(union([(f"v{i}", 255 - i, prim(PTYPES[i])) for i in range(11)]))

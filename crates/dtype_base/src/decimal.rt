@@ -10,7 +10,7 @@ use crate::{PType, VortexError, VortexResult};
 use std::fmt;
 use std::marker::Model;
 
-/// The greatest precision of a decimal type: the most digits of which every number fits 256 bits.
+/// The greatest precision of a decimal type: every number of 76 digits fits a signed 256-bit integer.
 pub const MAX_PRECISION: u8 = 76;
 /// The greatest scale of a decimal type.
 pub const MAX_SCALE: i8 = MAX_PRECISION as i8;

@@ -87,11 +87,11 @@ impl FieldName {
         self.as_str() == text
     }
 
-    /// Returns a copy of the name, which shares its text.
+    /// Returns a copy of the name, which shares its text. Doesn't allocate.
     ///
     /// # Errors
     ///
-    /// - `OutOfMemory` (0): an allocation fails.
+    /// - `OutOfMemory` (0): the reference count is exhausted.
     pub fn try_clone(&self, _alloc: Global) -> VortexResult<Self>
         ensures { MatchResult result (λ n. n ≡ self.now) (λ e. e ≡ OutOfMemory) }
     {
@@ -166,8 +166,9 @@ impl Hash for FieldName {
     }
 }
 
-/// Prints the text with backslashes, double quotes and control characters escaped, so that it can't break a line, a
-/// quoted text or a terminal.
+/// Prints the text with backslashes, double quotes and ASCII control characters escaped. Other characters are printed as
+/// they are, also those that a terminal or an editor takes for control characters or line ends, as U+0085, U+009B and
+/// U+2028: who shows names of unknown origin escapes these too.
 impl fmt::Display for FieldName {
     ghost output = { λ n. Some (escaped n) };
 

@@ -92,8 +92,8 @@ impl IndexedNames {
         )
     }
 
-    /// Returns the names asked, in that order, with an index of their own, and the first position in this list of each.
-    /// Names may be asked more than once. The names share their texts.
+    /// Returns the selected names in the order asked, with their index, and for each the position of the first equal
+    /// name in this list. Names may be asked more than once. The names share their texts.
     ///
     /// # Errors
     ///

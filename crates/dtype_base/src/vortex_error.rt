@@ -85,7 +85,7 @@ pub enum VortexError {
     /// 22: metadata or a storage type that the extension rejects.
     #[error("extension metadata or storage refused")]
     MetadataRefused,
-    /// 23: an extension with another id.
+    /// 23: a downcast through a vtable of another id.
     #[error("extension id differs")]
     ExtensionIdDiffers,
     /// 24 to 36: a message that isn't that of a type or of a path.

@@ -14,7 +14,7 @@ use crate::pb::{
     List, Map, Null, PType, Primitive, Struct, Union, Utf8, Variant,
 };
 
-/// Two messages of types are equal exactly where their trees are, and so are two kinds.
+/// Two type messages are equal exactly where their trees are; so are two kinds.
 pub fn equal_where_trees_are()
     ensures types { (a b : DType) → Decides (⟦<DType as PartialEq>⟧.eq a b) (message a ≡ message b) }
     ensures kinds { (a b : DtypeType)

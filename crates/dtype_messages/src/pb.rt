@@ -51,7 +51,7 @@ pub enum DtypeType {
     Struct(Struct),
     /// Unions.
     Union(Union),
-    /// Values of any type.
+    /// Values that carry their own types.
     Variant(Variant),
     /// Extension types.
     Extension(Box<Extension>),
@@ -71,7 +71,7 @@ pub struct Bool {
 /// Integers or floats of a primitive type.
 #[derive(Debug, PartialEq, Eq, Drop)]
 pub struct Primitive {
-    /// The number of a `PType`. Reading any other returns `PrimitiveNumber` (25).
+    /// A `PType`'s number, 0 to 10. Reading any other number returns `PrimitiveNumber` (25).
     pub ptype: i32,
     /// Whether values may be null.
     pub nullable: bool,
@@ -165,7 +165,7 @@ pub struct Union {
     pub nullable: bool,
 }
 
-/// Values of any type.
+/// Values that carry their own types.
 #[derive(Debug, PartialEq, Eq, Drop)]
 pub struct Variant {
     /// Whether values may be null.
@@ -191,14 +191,14 @@ pub struct FieldPath {
     pub path: Vec<Field>,
 }
 
-/// A part of a field path.
+/// One step of a path message: always a name, since messages have no element step.
 #[derive(Debug, PartialEq, Eq, Drop)]
 pub struct Field {
     /// The kind. Reading a part without one returns `PathPartMissing` (36).
     pub field_type: Option<FieldType>,
 }
 
-/// The kind of a part of a field path.
+/// What a step of a path message is.
 #[derive(Debug, PartialEq, Eq, Drop)]
 pub enum FieldType {
     /// The field of this name.
@@ -314,7 +314,7 @@ impl From<dtype_base::PType> for PType {
 }
 
 impl Null {
-    /// Copies the message: an equal one. It holds nothing on the heap, so this never returns an error.
+    /// Returns an equal copy. It holds nothing on the heap, so this never fails.
     pub fn try_clone(&self, _alloc: Global) -> VortexResult<Null>
         ensures { result ≡ Ok self.now }
     {
@@ -323,7 +323,7 @@ impl Null {
 }
 
 impl Bool {
-    /// Copies the message: an equal one. It holds nothing on the heap, so this never returns an error.
+    /// Returns an equal copy. It holds nothing on the heap, so this never fails.
     pub fn try_clone(&self, _alloc: Global) -> VortexResult<Bool>
         ensures { result ≡ Ok self.now }
     {
@@ -334,7 +334,7 @@ impl Bool {
 }
 
 impl Primitive {
-    /// Copies the message: an equal one. It holds nothing on the heap, so this never returns an error.
+    /// Returns an equal copy. It holds nothing on the heap, so this never fails.
     pub fn try_clone(&self, _alloc: Global) -> VortexResult<Primitive>
         ensures { result ≡ Ok self.now }
     {
@@ -346,7 +346,7 @@ impl Primitive {
 }
 
 impl Decimal {
-    /// Copies the message: an equal one. It holds nothing on the heap, so this never returns an error.
+    /// Returns an equal copy. It holds nothing on the heap, so this never fails.
     pub fn try_clone(&self, _alloc: Global) -> VortexResult<Decimal>
         ensures { result ≡ Ok self.now }
     {
@@ -359,7 +359,7 @@ impl Decimal {
 }
 
 impl Utf8 {
-    /// Copies the message: an equal one. It holds nothing on the heap, so this never returns an error.
+    /// Returns an equal copy. It holds nothing on the heap, so this never fails.
     pub fn try_clone(&self, _alloc: Global) -> VortexResult<Utf8>
         ensures { result ≡ Ok self.now }
     {
@@ -370,7 +370,7 @@ impl Utf8 {
 }
 
 impl Binary {
-    /// Copies the message: an equal one. It holds nothing on the heap, so this never returns an error.
+    /// Returns an equal copy. It holds nothing on the heap, so this never fails.
     pub fn try_clone(&self, _alloc: Global) -> VortexResult<Binary>
         ensures { result ≡ Ok self.now }
     {
@@ -381,7 +381,7 @@ impl Binary {
 }
 
 impl Variant {
-    /// Copies the message: an equal one. It holds nothing on the heap, so this never returns an error.
+    /// Returns an equal copy. It holds nothing on the heap, so this never fails.
     pub fn try_clone(&self, _alloc: Global) -> VortexResult<Variant>
         ensures { result ≡ Ok self.now }
     {
@@ -392,7 +392,7 @@ impl Variant {
 }
 
 impl FieldPath {
-    /// Copies the message with all that it holds: an equal one.
+    /// Returns an equal copy.
     ///
     /// # Errors
     ///
@@ -410,7 +410,7 @@ impl FieldPath {
 }
 
 impl Field {
-    /// Copies the message with all that it holds: an equal one.
+    /// Returns an equal copy.
     ///
     /// # Errors
     ///
@@ -429,7 +429,7 @@ impl Field {
 }
 
 impl FieldType {
-    /// Copies the message with all that it holds: an equal one.
+    /// Returns an equal copy.
     ///
     /// # Errors
     ///
@@ -444,7 +444,7 @@ impl FieldType {
 }
 
 impl DType {
-    /// Copies the message with all that it holds: an equal one.
+    /// Returns an equal copy.
     ///
     /// # Errors
     ///
@@ -463,7 +463,7 @@ impl DType {
 }
 
 impl DtypeType {
-    /// Copies the message with all that it holds: an equal one.
+    /// Returns an equal copy.
     ///
     /// # Errors
     ///
@@ -553,7 +553,7 @@ fn copy_bytes(alloc: Global, bytes: &Option<Vec<u8>>) -> VortexResult<Option<Vec
 }
 
 impl List {
-    /// Copies the message with all that it holds: an equal one.
+    /// Returns an equal copy.
     ///
     /// # Errors
     ///
@@ -571,7 +571,7 @@ impl List {
 }
 
 impl FixedSizeList {
-    /// Copies the message with all that it holds: an equal one.
+    /// Returns an equal copy.
     ///
     /// # Errors
     ///
@@ -590,7 +590,7 @@ impl FixedSizeList {
 }
 
 impl Map {
-    /// Copies the message with all that it holds: an equal one.
+    /// Returns an equal copy.
     ///
     /// # Errors
     ///
@@ -610,7 +610,7 @@ impl Map {
 }
 
 impl Struct {
-    /// Copies the message with all that it holds: an equal one.
+    /// Returns an equal copy.
     ///
     /// # Errors
     ///
@@ -629,7 +629,7 @@ impl Struct {
 }
 
 impl Union {
-    /// Copies the message with all that it holds: an equal one.
+    /// Returns an equal copy.
     ///
     /// # Errors
     ///
@@ -649,7 +649,7 @@ impl Union {
 }
 
 impl Extension {
-    /// Copies the message with all that it holds: an equal one.
+    /// Returns an equal copy.
     ///
     /// # Errors
     ///

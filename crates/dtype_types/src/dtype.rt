@@ -28,7 +28,7 @@ pub use kinds::Kind;
 pub enum DType {
     /// Null alone; it is nullable.
     Null,
-    /// Truth values.
+    /// Booleans.
     Bool(Nullability),
     /// Numbers of a primitive type.
     Primitive(PType, Nullability),
@@ -50,7 +50,7 @@ pub enum DType {
     Union(UnionVariants, Nullability),
     /// Values that carry their own types.
     Variant(Nullability),
-    /// A type of another library, stored as a type of this one. It has its storage's nullability.
+    /// An extension type: an id and metadata over a storage type. It is nullable where the storage is.
     Extension(ExtDTypeRef),
 }
 

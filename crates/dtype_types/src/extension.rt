@@ -51,11 +51,11 @@ impl ExtId {
         self.text.as_str()
     }
 
-    /// Returns an id with the same text, which the two share (reference counted).
+    /// Returns an id with the same text, which the two share. Doesn't allocate.
     ///
     /// # Errors
     ///
-    /// - `OutOfMemory` (0): an allocation fails.
+    /// - `OutOfMemory` (0): the reference count is exhausted.
     pub fn try_clone(&self, _alloc: Global) -> VortexResult<Self>
         ensures { MatchResult result (λ id. id ≡ self.now) (λ e. e ≡ OutOfMemory) }
     {

@@ -70,7 +70,7 @@ impl From<DType> for FieldDType {
     }
 }
 
-/// Returns the non-nullable primitive type of this name.
+/// Returns the non-nullable type of this `PType`.
 impl From<PType> for FieldDType {
     ghost from_gives = { λ ptype f. (field_tree f ≡ primitive ptype NonNullable) × Valid (field_tree f) };
 

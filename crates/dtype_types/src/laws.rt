@@ -50,8 +50,8 @@ pub fn equality_ignoring_nullability_agrees_with_its_hash()
         → hash_writes_ignoring_nullability a ≡ hash_writes_ignoring_nullability b }
 {}
 
-/// Setting a type's nullability, where it can be set, gives that nullability and changes nothing else. Of two settings
-/// the last decides.
+/// Setting a type's nullability, where it can be set, gives that nullability, and a type that is equal but for
+/// nullabilities; the definition `SetNull` says that it is the outer one alone. Of two settings the last decides.
 #[tactic(auto, using(crate::proofs::lemmas::Nullabilities::set_is, crate::proofs::lemmas::Nullabilities::set_keeps, crate::proofs::lemmas::Nullabilities::set_again))]
 pub fn nullability_is_set_alone()
     ensures sets { (t u : Tree) (n : Nullability) → SetNull t n u → nullability u ≡ n }
@@ -120,8 +120,7 @@ pub fn tell_gives_exactly_where_not_below()
     ensures { (a b : Tree) → erase a ≡ erase b → ((tell a b ≡ None) ↔ Sub a b) }
 {}
 
-/// The iterators over types, fields and variants are in order: `next` returns the first of those that are left, and all
-/// of them before `None`, which comes after as many items as `len` says.
+/// The iterators over types, fields and variants yield exactly `len` items, in order, then `None`.
 pub fn parts_are_given_in_order()
     ensures types { GivesInOrder ⟦<DTypeIter<'static> as Iterator>⟧.next_gives
         ⟦<DTypeIter<'static> as Iterator>⟧.remaining (λ d. tree d.now) (map tree) }

@@ -15,7 +15,7 @@ use std::fmt;
 use std::hash::{Hash, Hasher};
 use std::rc::Rc;
 
-/// The type of a map's entries: keys, values, and whether the keys are sorted.
+/// The key type and the value type of a map, and whether its keys are declared sorted.
 #[derive(Debug, Drop)]
 #[cycle(dtype)]
 pub struct MapDType {
@@ -78,7 +78,7 @@ impl MapDType {
         &self.shared.value
     }
 
-    /// Returns whether the keys are sorted.
+    /// Returns whether the keys are declared sorted. Nothing checks it.
     pub fn keys_sorted(&self) -> bool
         ensures { result ≡ (map_shown self.now).2 }
     {
@@ -124,11 +124,11 @@ impl MapDType {
         self.shared.keys_sorted.hash(state);
     }
 
-    /// Returns a map type equal to this one, which shares its key and value (reference counted).
+    /// Returns an equal map type, which shares the key and the value of this one. Doesn't allocate.
     ///
     /// # Errors
     ///
-    /// - `OutOfMemory` (0): an allocation fails.
+    /// - `OutOfMemory` (0): the reference count is exhausted.
     pub fn try_clone(&self, _alloc: Global) -> VortexResult<Self>
         ensures { MatchResult result
             (λ m. map_shown m ≡ map_shown self.now) (λ e. e ≡ OutOfMemory) }

@@ -435,11 +435,11 @@ impl StructFields {
         Ok(())
     }
 
-    /// Returns fields equal to these, which share them (reference counted).
+    /// Returns equal fields, which share these. Doesn't allocate.
     ///
     /// # Errors
     ///
-    /// - `OutOfMemory` (0): an allocation fails.
+    /// - `OutOfMemory` (0): the reference count is exhausted.
     pub fn try_clone(&self, _alloc: Global) -> VortexResult<Self>
         ensures { MatchResult result
             (λ s. struct_pairs s ≡ struct_pairs self.now) (λ e. e ≡ OutOfMemory) }

@@ -302,11 +302,11 @@ impl UnionVariants {
         }
     }
 
-    /// Returns variants equal to these, which share them (reference counted).
+    /// Returns equal variants, which share these. Doesn't allocate.
     ///
     /// # Errors
     ///
-    /// - `OutOfMemory` (0): an allocation fails.
+    /// - `OutOfMemory` (0): the reference count is exhausted.
     pub fn try_clone(&self, _alloc: Global) -> VortexResult<Self>
         ensures { MatchResult result
             (λ u. union_triples u ≡ union_triples self.now) (λ e. e ≡ OutOfMemory) }

@@ -43,7 +43,7 @@ below_nullable t u e = set_below t t u (nullability t) Nullable (λ h. refl) (se
 pub above_non_nullable : (t u : Tree) → set_null t NonNullable ≡ Some u → Sub u t
 above_non_nullable t u e = set_below t u t NonNullable (nullability t) (λ h. cc) e (set_own t)
 
--- a type is below the one with both nullabilities
+-- a type is below itself with a nullability joined to its own
 pub below_either : (t u : Tree) (n : Nullability) → set_null t (either (nullability t) n) ≡ Some u → Sub t u
 below_either t u n e = set_below t t u (nullability t) (either (nullability t) n) (allows_either (nullability t) n) (set_own t) e
 

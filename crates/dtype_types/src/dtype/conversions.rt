@@ -19,7 +19,7 @@ impl DType {
     pub const BYTES: DType = DType::Primitive(PType::U8, Nullability::NonNullable);
 }
 
-/// Returns the non-nullable primitive type of this name.
+/// Returns the non-nullable type of this `PType`.
 impl From<PType> for DType {
     ghost from_gives = { λ ptype d. (tree d ≡ primitive ptype NonNullable) × Valid (tree d) };
 

@@ -147,7 +147,7 @@ impl DType {
         self.kind() == Kind::Extension
     }
 
-    /// Returns whether this is a `Primitive` whose name is an unsigned integer's.
+    /// Returns whether this is a `Primitive` of an unsigned integer `PType`.
     pub fn is_unsigned_int(&self) -> bool
         ensures { IsTrue result ↔ IsSomeAnd (primitive_name (tree self.now)) IsUnsigned }
     {

@@ -19,7 +19,7 @@ pub trait NativeDecimalType: PrimInt + Signed {
 
     ghost DECIMAL_TYPE: { DecimalType };
 
-    /// The greatest number of decimal digits of which the type holds every number.
+    /// The number of decimal digits that always fit.
     const MAX_PRECISION: u8;
 
     ghost MAX_PRECISION: { ℕ };

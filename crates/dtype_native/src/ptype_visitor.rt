@@ -51,7 +51,7 @@ pub trait PTypeVisitor: Sized {
     fn visit_i64(self) -> Self::Answer
         ensures { answers self I64 result };
 
-    /// The answer for a float type. For any other type nothing is promised.
+    /// Is called with `F16`, `F32` or `F64`. The contract says nothing of other types.
     fn visit_float(self, ptype: PType) -> Self::Answer
         ensures { IsFloat ptype → answers self ptype result };
 }
@@ -119,7 +119,8 @@ pub fn match_each_float_ptype<V: PTypeVisitor>(ptype: PType, visitor: V) -> V::A
     visitor.visit_float(ptype)
 }
 
-/// Returns what the visitor answers for this primitive type, which has SIMD lanes. The condition is that it isn't `F16`.
+/// Returns what the visitor answers for this primitive type. The condition is that it isn't `F16`, the one type without
+/// SIMD lanes.
 pub fn match_each_native_simd_ptype<V: PTypeVisitor>(ptype: PType, visitor: V) -> V::Answer
     requires { ptype ≢ F16 }
     ensures { V.answers visitor ptype result }

@@ -59,7 +59,8 @@ pub fn resolution_is_exact_for_values()
 {}
 
 /// Where the path steps through no fixed-size list of size 0 and no beginning of it leads to an extension, the path
-/// exists exactly where some value has something along it. Where there is a type at the path, some value has.
+/// exists exactly where some value has something along it. Where a type is at the path, some value has something along
+/// it.
 pub fn a_type_is_given_exactly_where_something_is_found()
     ensures exists { (t : Tree) (p : List Field) → Valid t → CrossesNoSizeZero t p → CrossesNoExtension t p
         → (ExistsIn t p ↔ ((v : Value) × FoundIn t p v)) }
@@ -91,8 +92,8 @@ pub fn equality_agrees_with_hash()
         → ⟦<FieldPath as Hash>⟧.hash_input p ≡ ⟦<FieldPath as Hash>⟧.hash_input q }
 {}
 
-/// Some path of a set begins a path exactly where the set covers it, and the least paths of a set are those
-/// that no other of its paths begins.
+/// A set covers a path exactly where a member is a prefix of it; its least members are those of which no other member is
+/// a prefix.
 pub fn what_covers_and_least_say()
     ensures covers { (s : PathSet) (q : List Field) → IsTrue (covers s q)
         ↔ ((p : List Field) × IsTrue (set.contains s p) × Beginning p q) }

@@ -9,7 +9,7 @@ use Rattle.dtype_paths.specs.declared.field.Field.{Field}
 use Rattle.dtype_paths.specs.declared.field_mask.FieldMask.{FieldMask}
 use Rattle.dtype_paths.specs.declared.field_mask.FieldMask.TheVariants.{All, Prefix, Exact}
 
--- it selects some path there
+-- where a mask's path begins with a step, the mask holds some path that begins with it
 pub first_asked : (m : FieldMask) (f : Field) → first_part m ≡ Some f → (q : List Field) × In m (f ∷ q)
 first_asked All f e = cc
 first_asked (Prefix []) f e = cc

@@ -4,8 +4,8 @@
 -- The projection of a type to some paths: what a reader of these paths opens. A path leads where `step` of
 -- `dtype_paths` leads, from the documentation of the original's `FieldPath::resolve`; that a parent is cut down to the
 -- children asked for is the projection mask of Parquet's readers, and nested column pruning of query engines. The paths are
--- given by a predicate, which for a set is its `contains`: what they ask after a step is a predicate again, and neither
--- an order nor repeats of paths have to be left out of account.
+-- given by a predicate, which for a set is its `contains`: what they ask after a step is a predicate again, and their order
+-- and repeats can't matter.
 use Rattle.std.specs.Prelude.{ℕ, List, [], ◌∷◌, Bool, not, ◌&&◌, Option, Some, None, if◌then◌else◌}
 use Rattle.std.specs.Option.{option_map}
 use Rattle.dtype_base.specs.declared.nullability.Nullability.{Nullability}

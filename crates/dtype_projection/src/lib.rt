@@ -5,8 +5,8 @@
 //! pruning), and the least type that takes the values of two (the schema of several files).
 //!
 //! `project_paths` promises that something is kept exactly where one of the paths exists in the type, that every path
-//! resolves in the projection as it did in the type, that nothing else is kept, and that the projection depends only on
-//! what the paths cover, so that the least cover of a set is enough. A projection of a valid type is valid, and a value
+//! that the set covers resolves in the projection as it did in the type, that nothing else is kept, and that the
+//! projection depends only on what the paths cover, so that the least cover of a set is enough. A projection of a valid type is valid, and a value
 //! of the type, restricted to the paths, is a value of the projection. `merge_nullability` promises the least upper
 //! bound of two types that differ in nullability alone.
 //!

@@ -17,8 +17,9 @@ use dtype_base::VortexResult;
 use dtype_types::{DType, DTypeIter, ExtDTypeRef, MapDType, StructFields, UnionVariants};
 use std::alloc::Global;
 
-/// The least type that takes the values of both: nullable wherever one of the two is, at every depth, also in a map's
-/// value and in an extension's storage. `None` where the types differ in more than nullability.
+/// Returns the least type above both in the order by nullability, so that every value of each is one of its values: it
+/// is nullable wherever one of the two is, at every depth, also in a map's value and in an extension's storage. `None`
+/// where the types differ in more than nullability.
 ///
 /// Of `{a=i32, b=list(utf8?)}` and `{a=i32?, b=list(utf8)}` it is `{a=i32?, b=list(utf8?)}`. Where the first takes the
 /// values of the second already, it is a copy of the first, which shares its fields: so a reader of many files with one

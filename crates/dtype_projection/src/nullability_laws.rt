@@ -18,12 +18,12 @@ pub fn types_equal_but_for_nullabilities_are_merged()
     ensures { (a b : Tree) → IsSome (merged a b) ↔ (erase a ≡ erase b) }
 {}
 
-/// Both types are below what is merged of them, and that is below each type that both are below.
+/// The merged type is above both, and below every type that is.
 pub fn what_is_merged_is_least()
     ensures { (a b c : Tree) → merged a b ≡ Some c → IsLeastAbove a b c }
 {}
 
-/// What is merged of valid types is valid.
+/// Merging valid types gives a valid type.
 pub fn what_is_merged_is_valid()
     ensures { (a b c : Tree) → merged a b ≡ Some c → Valid a → Valid b → Valid c }
 {}

@@ -33,10 +33,9 @@ use std::alloc::Global;
 ///
 /// Of `{a=list({b=u32, c=utf8})?, d=i8}` the paths `a.[].b` and `x` keep `{a=list({b=u32})?}`.
 ///
-/// Parquet's projection mask prunes nested columns in the same way; Arrow's `Schema::project` selects top-level fields
-/// alone. The Rust original has no such call. A path steps as in `FieldPath::resolve`: by a name to the first field of
-/// that name, by the element into a list or a fixed-size list, and into nothing else, so a path through a map, a union or
-/// an extension exists in no type.
+/// The Rust original has no such call. A path steps as in `FieldPath::resolve`: by a name to the first field of that name,
+/// by the element into a list or a fixed-size list, and into nothing else, so a path through a map, a union or an extension
+/// exists in no type.
 ///
 /// The time grows with the paths and with what is kept: a lookup by name and an insertion into a `BTreeMap` for each step
 /// of each path, a copy of each field that is kept, and the index of the names of each struct that is kept. Fields that no

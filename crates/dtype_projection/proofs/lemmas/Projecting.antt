@@ -26,11 +26,11 @@ use Rattle.dtype_projection.proofs.lemmas.Composition.{projection_of_projection,
 use Rattle.dtype_projection.proofs.lemmas.Coverage.{same_for_least}
 use Rattle.dtype_projection.proofs.lemmas.Projections.{kept_root, kept_list, kept_fixed, kept_struct, whole_kept, with_is, kept_has_path, path_is_kept}
 
--- to the same set again
+-- projecting again to the same set gives the same
 pub projected_same : (t u : Tree) (s : PathSet) → Some u ≡ projected t (set.contains s) → projected u (set.contains s) ≡ projected t (set.contains s)
 projected_same t u s e = projected_once t u s (sym e) ∙ e
 
--- to a set of which the first covers each path
+-- projecting again, to a set whose paths the first set covers, gives what projecting to that set gives
 pub projected_further : (t u : Tree) (s r : PathSet) → Some u ≡ projected t (set.contains s) → ((q : List Field) → IsTrue (set.contains r q) → IsTrue (covers s q)) → projected u (set.contains r) ≡ projected t (set.contains r)
 projected_further t u s r e c = projection_of_projection t u s r (sym e) (λ q is x. c q is)
 

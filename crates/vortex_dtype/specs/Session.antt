@@ -16,7 +16,7 @@ module _ {B : Type 0} (r : B → Rewrites) where
   meaning_of entries unknown = record { registered = λ id. option_map r (lookup (λ k. bytes_eq id (string_bytes k)) entries); unknown = unknown }
 
 module _ {X : Type 0} {F : X → Type 0} where
-  -- the session as a map from ids to what the plugins mean, by what each boxed plugin means; calls say how it
-  -- changes, so a session that a function makes is spoken of without its fields
+  -- the session as a map from ids to what the plugins mean, by what each boxed plugin means; the clauses of the calls
+  -- say how it changes, and name no field of a session
   unfoldable pub meaning : (DynBox X Global F → Rewrites) → DTypeSession X F → Meaning
   meaning r s = meaning_of r s.plugins.entries s.allow_unknown

@@ -29,8 +29,7 @@ pub use dtype_paths::laws as paths;
 pub use dtype_projection::{laws as projections, nullability_laws as merging};
 pub use dtype_types::laws as types;
 
-/// What `register` changes of any session, whatever was called before: the id means what the plugin means; every
-/// other id means what it meant, and unknown ids are kept or not as they were.
+/// Registering gives one id the plugin's meaning, and changes neither other ids nor what happens to unknown ones.
 #[tactic(auto, using(crate::proofs::lemmas::Sessions::sessions, crate::proofs::lemmas::Sessions::session_laws))]
 pub fn register_changes_one_id()
     ensures registered { (s : Meaning) (id : List ℕ) (r : Rewrites) → (register_in id r s).registered id ≡ Some r }
@@ -66,7 +65,7 @@ pub fn unknown_once_allowed()
     ensures { (calls : List Call) → (after calls empty_meaning).unknown ≡ list_any is_allow calls }
 {}
 
-/// What a session keeps of metadata is bytes, and the session keeps it unchanged when it is read again.
+/// What a session keeps of metadata are bytes, which it keeps unchanged when it reads them again.
 pub fn kept_again()
     ensures { (s : Meaning) → LawfulSession s → (id b c : List ℕ) (t : Tree) → Bytes b → Valid t
         → keeps s id b t ≡ Some c → Bytes c × (keeps s id c t ≡ Some c) }

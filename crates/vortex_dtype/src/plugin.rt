@@ -76,8 +76,8 @@ impl<V: ExtVTable> PluginOf<V> {
     }
 }
 
-/// It writes back what its vtable writes of the metadata that it read, where that fits the storage. The laws of plugins
-/// follow from those of vtables.
+/// `deserialize` reads the metadata by the vtable, validates the storage by it, and writes the metadata back by it. The two
+/// laws of plugins follow from those of vtables.
 impl<V: ExtVTable> ExtDTypePlugin for PluginOf<V> {
     ghost use Rattle.vortex_dtype.specs.Typed.{rewritten, typed_laws};
 
@@ -126,7 +126,8 @@ pub(crate) fn boxed_deserialize(
     plugin.deserialize(alloc, metadata, storage)
 }
 
-/// Every plugin keeps the two laws of plugins.
+/// Every plugin keeps two laws: metadata that it wrote back it writes back unchanged, and the storage's outer nullability
+/// makes no difference.
 pub fn plugin_laws(plugin: &dyn ExtDTypePlugin)
     ensures { Lawful (rewrites plugin.now) }
 {}

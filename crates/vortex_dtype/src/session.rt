@@ -135,7 +135,8 @@ impl fmt::Debug for DTypeSession {
     }
 }
 
-/// Every session is lawful: each registered plugin keeps the two laws of plugins.
+/// Every session is lawful. Each of its plugins keeps two laws: metadata that it wrote back it writes back unchanged, and
+/// the storage's outer nullability makes no difference.
 pub fn session_laws(session: &DTypeSession)
     ensures { LawfulSession (meaning rewrites session.now) }
 {}

@@ -1,0 +1,170 @@
+# SPDX-License-Identifier: Apache-2.0
+# SPDX-FileCopyrightText: Copyright the Vortex contributors
+
+"""Reads what a library offers with what its sources say of it, for tools/reference: each public type, trait, function,
+constant and macro, with its comment, its errors, its signature and its clauses."""
+import os
+import re
+from collections import namedtuple
+
+from reading import (
+    HEADER, LIBRARIES, SIGNATURE_END, clauses_behind, end_of, given_out, heads_of, owners_in, sources_of, text_of,
+)
+
+# `kind` is struct, enum, trait, fn, const, macro or impl (of a trait); `name` is as in a path. `text` is the comment without
+# its errors, a list of paragraphs. `parts` are variants, fields or associated items, each with its comment; `members`
+# the calls of a trait or of its impl.
+Item = namedtuple("Item", "kind name file text errors signature clauses derived parts members")
+
+WHOLE_COMMENT = re.compile(r"(?m)^[ \t]*//.*$")
+TYPE = re.compile(r"(?m)^pub (struct|enum|trait) (\w+)[^{;(]*")
+CONSTANT = re.compile(r"(?m)^( *)pub const (\w+): ([^=;]+)")
+MACRO = re.compile(r"(?m)^#\[macro_export\]\nmacro_rules! (\w+) ")
+PART = re.compile(r"(?m)^    (?:pub )?(?:const |type )?(\w+)(\([^\n]*\)|: [^\n;]*|(?=[,;]))[,;]?$")
+DERIVED = re.compile(r"#\[derive(?:_where)?\(([^)]*)\)\]")
+# The ghost members that say how a law is proved or how a model is kept.
+KEPT = re.compile(r"laws|respects_eq|typed|lawful|\w+_law|invariant|coded|view|inverse")
+
+
+def masked(text):
+    """The text with blanks for the lines that are comments, at the same indices."""
+    return WHOLE_COMMENT.sub(lambda it: " " * len(it[0]), text)
+
+
+def lines_above(text, start):
+    """The comment lines and the attributes right above an index, each without indentation, in order."""
+    lines, at = [], text.rfind("\n", 0, start)
+    while at > 0:
+        before = text.rfind("\n", 0, at)
+        line = text[before + 1:at].strip()
+        if not line.startswith(("///", "#[", "//")) or line.startswith("// SPDX"):
+            break
+        lines.insert(0, line)
+        at = before
+    return lines
+
+
+def comment_above(text, start):
+    """The paragraphs of the comment above an index, and those below its heading of errors."""
+    said = "\n".join(it[3:].strip() for it in lines_above(text, start) if it.startswith("///"))
+    text, _, errors = said.partition("# Errors\n")
+    return paragraphs(text), paragraphs(errors)
+
+
+def paragraphs(text):
+    """The paragraphs of a comment, each on a line; an item of a list is one of its own."""
+    found = [""]
+    for line in text.strip().split("\n"):
+        if not line or not found[-1] or line.startswith("- "):
+            found.append(line)
+        else:
+            found[-1] += f" {line}"
+    return [it for it in found if it]
+
+
+def signature_of(text):
+    """A signature on one line."""
+    text = re.sub(r",? ?\)", ")", re.sub(r"\( ", "(", " ".join(text.split())))
+    return text.replace("(mut self", "(self")
+
+
+def functions_in(file, text, code):
+    """The functions of a source, each with its owner, its visibility and the item that it is."""
+    owners = owners_in(code)
+    for it in HEADER.finditer(code):
+        behind = SIGNATURE_END.search(code, it.end())
+        if not behind:
+            continue
+        owner = next((owner for owner in reversed(owners) if owner.start < it.start() < owner.end), None)
+        clauses, _ = clauses_behind(code, behind.start())
+        said, errors = comment_above(text, text.rfind("\n", 0, it.start()) + 1)
+        signature = f"fn {it[2]}{signature_of(code[it.end():behind.start()])}"
+        item = Item("fn", it[2], file, said, errors, signature, clauses, [], [], [])
+        yield owner, (it[1] or "").strip() == "pub", item
+
+
+def parts_in(text, code, begin, end):
+    """The variants, fields or associated items between two braces, each with its comment."""
+    for it in PART.finditer(code, begin, end):
+        if code.count("{", begin, it.start()) - code.count("}", begin, it.start()) == 1:
+            said, _ = comment_above(text, it.start())
+            yield f"{it[1]}{it[2]}".rstrip(",;"), " ".join(said)
+
+
+def module_of(crate, file):
+    """The path in front of a source's public names: of messages `pb::`, of laws `laws::`."""
+    module = os.path.basename(file).removesuffix(".rt")
+    return f"{module}::" if module in given_out(crate)[1] else ""
+
+
+def types_in(file, text, code, names):
+    for it in TYPE.finditer(code):
+        if it[2] not in names:
+            continue
+        said, errors = comment_above(text, it.start())
+        above = " ".join(line for line in lines_above(text, it.start()) if line.startswith("#["))
+        derived = [name.strip() for found in DERIVED.findall(above) for name in found.split(",")]
+        brace = code.find("{", it.end() - 1) if code[it.end():it.end() + 1] == "{" else -1
+        parts = list(parts_in(text, code, brace, end_of(code, brace))) if brace > 0 and it[1] != "trait" else []
+        if it[1] == "struct":
+            parts = [(name, said) for name, said in parts if f"pub {name.split(':')[0]}:" in code[brace:]]
+        yield Item(it[1], it[2], file, said, errors, "", [], sorted(set(derived) - {"Drop"}), parts, [])
+
+
+def constants_in(file, text, code, names):
+    owners = owners_in(code)
+    for it in CONSTANT.finditer(code):
+        owner = next((owner for owner in owners if owner.start < it.start() < owner.end), None)
+        if owner and owner.type in names or not owner and it[2] in names:
+            name = f"{owner.type}::{it[2]}" if owner else it[2]
+            said, errors = comment_above(text, it.start())
+            yield Item("const", name, file, said, errors, f"const {it[2]}: {it[3].strip()}", [], [], [], [])
+    for it in MACRO.finditer(code):
+        said, errors = comment_above(text, it.start())
+        yield Item("macro", f"{it[1]}!", file, said, errors, "", [], [], [], [])
+
+
+def impls_in(file, text, code, names):
+    """The impls of traits for public types, with their ghost members and the calls that have a comment or a clause."""
+    for owner in owners_in(code):
+        if owner.kind == "trait" or not owner.trait or owner.trait in ("Debug", "Model") or not heads_of(owner) & names:
+            continue
+        said, errors = comment_above(text, owner.start)
+        clauses = [it for it in owner.members if not KEPT.fullmatch(it.name)]
+        heading = signature_of(owner.heading)
+        yield owner, Item("impl", heading, file, said, errors, "", clauses, [], [], [])
+
+
+def items_of(crate, file):
+    """The public items of a source, in its order: types with their traits' calls, functions, constants, impls."""
+    text = text_of(file)
+    code = masked(text)
+    given, modules = given_out(crate)
+    is_module = os.path.basename(file).removesuffix(".rt") in modules
+    names = given | ({it[2] for it in TYPE.finditer(code)} if is_module else set())
+    functions = list(functions_in(file, text, code))
+    path = module_of(crate, file)
+    found = []
+    for it in types_in(file, text, code, names):
+        calls = [call for owner, _, call in functions if owner and owner.kind == "trait" and owner.type == it.name]
+        ghosts = [ghost for owner in owners_in(code) if owner.kind == "trait" and owner.type == it.name
+                  for ghost in owner.members]
+        found.append(it._replace(name=path + it.name, members=calls, clauses=ghosts if it.kind == "trait" else []))
+    for owner, is_open, it in functions:
+        if owner and not owner.trait and is_open and owner.type in names:
+            found.append(it._replace(name=f"{path}{owner.type}::{it.name}"))
+        elif not owner and is_open and (is_module or it.name in names):
+            found.append(it._replace(name=path + it.name))
+    everywhere = names.union(*(given_out(library)[0] for library in LIBRARIES))
+    for owner, it in impls_in(file, text, code, everywhere):
+        calls = [call for of, _, call in functions if of and of.start == owner.start and (call.text or call.clauses)]
+        if it.clauses or calls or it.text:
+            found.append(it._replace(members=calls))
+    return found + list(constants_in(file, text, code, names))
+
+
+def topics_of(crate):
+    """The files of a library that have public items, in their order, each with its items; laws are last."""
+    files = sources_of(crate)
+    topics = [(file, items_of(crate, file)) for file in files]
+    return sorted(((file, items) for file, items in topics if items), key=lambda it: it[0].endswith("laws.rt"))

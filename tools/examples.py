@@ -6,7 +6,7 @@ else the first of them that is short, with its answer; and the first that is ans
 import re
 from glob import glob
 
-from reading import text_of
+from repository import text_of
 
 TRANSCRIPT = "crates/dtype_console/stdout"
 ROW = re.compile(r"(?m)^    Row\((.*)\),$")

@@ -7,8 +7,8 @@ import os
 import re
 from collections import namedtuple
 
-from reading import (
-    HEADER, LIBRARIES, SIGNATURE_END, clauses_behind, end_of, given_out, heads_of, owners_in, sources_of, text_of,
+from repository import (
+    HEADER, SIGNATURE_END, clauses_behind, end_of, given_out, heads_of, libraries, owners_in, sources_of, text_of,
 )
 
 # `kind` is struct, enum, trait, fn, const, macro or impl (of a trait); `name` is as in a path. `text` is the comment without
@@ -155,7 +155,7 @@ def items_of(crate, file):
             found.append(it._replace(name=f"{path}{owner.type}::{it.name}"))
         elif not owner and is_open and (is_module or it.name in names):
             found.append(it._replace(name=path + it.name))
-    everywhere = names.union(*(given_out(library)[0] for library in LIBRARIES))
+    everywhere = names.union(*(given_out(library)[0] for library in libraries()))
     for owner, it in impls_in(file, text, code, everywhere):
         calls = [call for of, _, call in functions if of and of.start == owner.start and (call.text or call.clauses)]
         if it.clauses or calls or it.text:

@@ -1,14 +1,14 @@
 // SPDX-License-Identifier: Apache-2.0
 // SPDX-FileCopyrightText: Copyright the Vortex contributors
 
-//! The recipes of `docs/GUIDE.md`, in plain code: what is proved of them is that they are safe and return. What each
-//! call gives is in its own contract.
+//! The recipes of `docs/GUIDE.md`, and others beside them, in plain code: what is proved of them is that they are safe and
+//! return. What each call gives is in its own contract.
 use std::alloc::Global;
 use std::vec;
 use vortex_dtype::{
     DType, DTypeProto, DTypeSession, Field, FieldDType, FieldMask, FieldName, FieldNames,
-    FieldPath, FieldPathSet, Nullability, PType, StructFields, VortexError, VortexResult,
-    field_path, pb, project_paths,
+    FieldPath, FieldPathSet, MessageFault, Nullability, PType, StructFields, VortexError,
+    VortexResult, field_path, pb, project_paths,
 };
 
 /// The columns `id=u64, name=utf8?`.
@@ -93,6 +93,17 @@ pub fn prune(alloc: Global, table: &DType, asked: Vec<FieldPath>) -> VortexResul
     project_paths(alloc, table, &columns)
 }
 
+/// The columns `id`, `customer.city` and, of each item of the list `items`, `price`.
+pub fn three_columns(alloc: Global) -> VortexResult<Vec<FieldPath>> {
+    let id = field_path!(alloc, "id")?;
+    let city = field_path!(alloc, "customer", "city")?;
+    let items = field_path!(alloc, "items")?;
+    let price = items
+        .push(Field::ElementType)?
+        .push(Field::from_text(alloc, "price")?)?;
+    Ok(vec![in alloc; id, city, price]?)
+}
+
 /// What a mask asks below a column, or `None` where it asks for nothing there.
 pub fn mask_below_column(mask: FieldMask, column: &Field) -> VortexResult<Option<FieldMask>> {
     if mask.matches_all() {
@@ -162,4 +173,12 @@ pub fn table_type(alloc: Global, columns: &[Column]) -> VortexResult<DType> {
 /// Whether the same call may succeed later: only where it ran out of memory.
 pub fn is_worth_retrying(error: &VortexError) -> bool {
     error.number() == 0
+}
+
+/// Whether a message has an extension that the session doesn't know.
+pub fn has_unknown_extension(error: &VortexError) -> bool {
+    matches!(
+        error,
+        VortexError::Message(MessageFault::ExtensionUnregistered)
+    )
 }

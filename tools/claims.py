@@ -1,0 +1,66 @@
+# SPDX-License-Identifier: Apache-2.0
+# SPDX-FileCopyrightText: Copyright the Vortex contributors
+
+"""Checks what pages say in numbers, for tools/pages: that docs/reference is made of these sources, that docs/TRUST.md
+tells the lines of definitions, within a tenth, and that links lead to headings."""
+import os
+import re
+import subprocess
+import sys
+from glob import glob
+
+from repository import libraries, sources_of, text_of
+
+TRUST = "docs/TRUST.md"
+READ_FIRST = re.compile(r"(?m)^\| (\[`.*?) \| (\d+) \|")
+LINK = re.compile(r"\]\((?!\w+:)([\w./-]*)#([\w-]+)\)")
+
+
+def lines_of(file):
+    return text_of(file).count("\n")
+
+
+def is_near(told, counted):
+    return abs(told - counted) <= max(5, counted / 10)
+
+
+def wrong_lines():
+    """The numbers of lines of definitions that docs/TRUST.md tells wrongly."""
+    text = text_of(TRUST)
+    for links, told in READ_FIRST.findall(text):
+        files = [os.path.normpath(os.path.join("docs", it)) for it in re.findall(r"\]\(([^)]*)\)", links)]
+        counted = sum(lines_of(it) for it in files if os.path.exists(it))
+        if not is_near(int(told), counted):
+            yield TRUST, f"{links} has {counted} lines, not {told}"
+    counted = sum(lines_of(it) for crate in libraries() for it in sources_of(crate, ("specs",), (".antt",)))
+    for told in re.findall(r"some ([\d,]+) lines of `specs/`", text):
+        if not is_near(int(told.replace(",", "")), counted):
+            yield TRUST, f"specs/ of the libraries has {counted} lines, not {told}"
+
+
+def anchors_of(page):
+    """The anchors of a page's headings."""
+    headings = re.findall(r"(?m)^#+ (.*)$", text_of(page))
+    return {re.sub(r"[^\w\- ]", "", it.lower()).strip().replace(" ", "-") for it in headings}
+
+
+def dead_anchors(pages):
+    """The links that name a heading that isn't there."""
+    for page in pages:
+        for path, anchor in LINK.findall(text_of(page)):
+            target = os.path.normpath(os.path.join(os.path.dirname(page), path)) if path else page
+            if not os.path.exists(target):
+                yield page, f"there is no {path}"
+            elif target.endswith(".md") and anchor not in anchors_of(target):
+                yield page, f"{target} has no heading #{anchor}"
+
+
+def stale_reference():
+    """The pages of docs/reference that aren't what tools/reference would write."""
+    run = subprocess.run([sys.executable, "tools/reference", "--check"], stdout=subprocess.PIPE, text=True, check=False)
+    return re.findall(r"(?m)^reference: (\S+) (isn't .*)$", run.stdout)
+
+
+def faults(pages):
+    """Each page with what is wrong on it."""
+    return [*wrong_lines(), *dead_anchors([*pages, *sorted(glob("docs/reference/*.md"))]), *stale_reference()]

@@ -41,7 +41,8 @@ pub fn numbered(alloc: Global, count: u32, ending: &str) -> VortexResult<FieldPa
     Ok(set)
 }
 
-/// The texts of a set's paths in order, and the visits of its cover: a node that a failed insertion left would add one.
+/// The texts of a set's paths in order, and the visits of its cover. A node that a failed insertion left, and that a step
+/// leads to, would add one. One that nothing leads to would show in neither: that none is left is proved of `Trie::insert`.
 #[derive(Drop)]
 pub struct Shown {
     texts: Vec<String>,

@@ -13,6 +13,8 @@ pub mod Hashes
 pub mod Fields
 pub mod PathOrder
 pub mod Covering
+pub mod PathPredicates
+pub mod Cursors
 pub mod In
 pub mod Overlaps
 pub mod Crosses

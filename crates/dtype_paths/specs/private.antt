@@ -9,3 +9,4 @@ pub mod ChildTrees
 pub mod Children
 pub mod Trie
 pub mod Lending
+pub mod Reached

@@ -57,6 +57,13 @@ impl ChildMap {
         }
     }
 
+    // How many children there are.
+    pub(crate) fn len(&self) -> usize
+        ensures { result ≡ length self.now }
+    {
+        self.node_indices.len()
+    }
+
     // Whether one more child goes into a tree.
     pub(crate) fn is_full(&self) -> bool
         ensures { IsTrue result ↔ 1024 ≤ length self.now }

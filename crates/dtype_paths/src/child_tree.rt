@@ -1,7 +1,7 @@
 // SPDX-License-Identifier: Apache-2.0
 // SPDX-FileCopyrightText: Copyright the Vortex contributors
 
-ghost use Rattle.std.specs.Prelude.{◌≡◌, ◌++◌, ℕ, [], Option, Some, IfErr, IsOkUnless, OnOk, IsTrue, false, if◌then◌else◌, MatchResult};
+ghost use Rattle.std.specs.Prelude.{◌≡◌, ◌++◌, ℕ, [], length, Option, Some, IfErr, IsOkUnless, OnOk, IsTrue, false, if◌then◌else◌, MatchResult};
 ghost use Rattle.std.specs.BTreeMap.{is_at, values, IsOrdered};
 ghost use Rattle.std.specs.List.{IsDistinct};
 ghost use Rattle.std.specs.Map.{keys_of, lookup, values_of};
@@ -65,6 +65,13 @@ impl ChildTree {
             Some(node_index) => Entry::Occupied(*node_index),
             None => Entry::Vacant(Some(key)),
         }
+    }
+
+    // How many children there are.
+    pub(crate) fn len(&self) -> usize
+        ensures { result ≡ length self.now }
+    {
+        self.by_key.len() + self.by_step.len()
     }
 
     // Lets the step lead to a node. Its key is made if it isn't known. After an error the children are unchanged.

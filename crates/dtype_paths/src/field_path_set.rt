@@ -12,12 +12,13 @@ ghost use Rattle.std.specs.declared.alloc.Global.{Global};
 ghost use Rattle.dtype_base.specs.declared.vortex_error.VortexError.TheVariants.{OutOfMemory};
 ghost use Rattle.dtype_base.specs.Distinct.{Distinct};
 ghost use Rattle.dtype_paths.specs.Beginning.{Beginning};
+ghost use Rattle.dtype_paths.specs.Cursors.{asks};
 ghost use Rattle.dtype_paths.specs.Covering.{SameCoverage, IsCountOf, least};
 ghost use Rattle.dtype_paths.specs.PathOrder.{set_of};
 ghost use Rattle.dtype_paths.specs.declared.field.Field.{Field};
 
-use crate::FieldPath;
 use crate::trie::Trie;
+use crate::{FieldPath, FieldPathCursor};
 use dtype_base::VortexResult;
 use std::alloc::Global;
 use std::marker::Model;
@@ -85,6 +86,14 @@ impl FieldPathSet {
         ensures { result ≡ set.contains self.now path.now }
     {
         self.trie.contains(path.parts())
+    }
+
+    /// Returns a cursor at the root, which asks for the paths of the set. Its reader steps into it while it descends into
+    /// a type, and so never looks at a path that leads elsewhere. Doesn't allocate.
+    pub fn cursor(&self) -> FieldPathCursor<'_>
+        ensures { asks result ≡ set.contains self.now }
+    {
+        FieldPathCursor::at_root(&self.trie)
     }
 
     /// Inserts the path, if it isn't in the set yet. After an error the set is unchanged and the path is dropped.

@@ -70,6 +70,13 @@ impl Nodes {
         self.rest.len() + 1
     }
 
+    // The index of the root.
+    pub(crate) fn root(&self) -> usize
+        ensures { result ≡ 0 }
+    {
+        0
+    }
+
     // Whether a path ends in the node.
     pub(crate) fn is_terminal(&self, node_index: usize) -> bool
         requires { node_index < length self.now }

@@ -1,0 +1,96 @@
+-- SPDX-License-Identifier: Apache-2.0
+-- SPDX-FileCopyrightText: Copyright the Vortex contributors
+
+-- The nodes that a path leads to, and the paths that end below them.
+use Rattle.std.proofs.Common.{◌≡◌, ◌≢◌, ◌↔◌, ◌∙◌, ℕ, ◌<◌, ◌+◌, length, Bool, true, false, Decides, List, [], ◌∷◌, ◌++◌, Option, Some, None, is_some, option_and_then, IsTrue, refl, sym, ap, arith}
+use Rattle.std.proofs.Math.Logic.{∥∥₁_elim, ∥∥₁_map}
+use Rattle.std.specs.Coded.{le_prop, Coded-set, coded_bool}
+use Rattle.std.proofs.lemmas.Bool.Decides.{same_from_decides}
+use Rattle.std.specs.FinSet as set
+use Rattle.std.specs.List.{Contains}
+use Rattle.std.specs.Map.{lookup}
+use Rattle.dtype_paths.specs.Equality.{same_field}
+use Rattle.dtype_paths.specs.EqualityLaws.{same_field-Decides}
+use Rattle.dtype_paths.specs.PathOrder.{path_cmp, set_of}
+use Rattle.dtype_paths.specs.PathPredicates.{PathPredicate, after_step, no_path}
+use Rattle.dtype_paths.specs.private.Children.{child, nodes_by_step}
+use Rattle.dtype_paths.specs.private.Reached.{ends_below, IsReached}
+use Rattle.dtype_paths.specs.private.Trie.{child_at, terminal_at, terminals, walk, IsTrie}
+use Rattle.dtype_paths.specs.declared.field.Field.{Field}
+use Rattle.dtype_paths.specs.declared.node.Node.{Node}
+use Rattle.dtype_paths.proofs.lemmas.Cases.{by_option}
+use Rattle.dtype_paths.proofs.lemmas.SetMembers.{from_list-Decides}
+use Rattle.dtype_paths.proofs.NodeIndices.{contains-whole, terminal-of}
+use Rattle.dtype_paths.proofs.TrieGrowth.{walk-append, walk-snoc}
+
+-- the root is reached by the path without steps
+pub root-reached : (nodes : List Node) → IsReached nodes 0
+root-reached nodes = ∣ ([], refl) ∣₁
+
+module _ (nodes : List Node) (t : IsTrie nodes) where
+  pub reached-inside : (i : ℕ) → IsReached nodes i → i < length nodes
+  reached-inside i r = ∥∥₁_elim r le_prop (λ s. t.inside s.0 i s.1)
+
+  pub child-reached : (i j : ℕ) (f : Field) → IsReached nodes i → child_at nodes i f ≡ Some j → IsReached nodes j
+  child-reached i j f r e = ∥∥₁_map r (λ s. (s.0 ++ f ∷ [], walk-snoc (child_at nodes) i j s.0 f s.1 e))
+
+  ends-Decides : (q : List Field) → Decides (ends_below nodes 0 q) (Contains (terminals nodes) q)
+  ends-Decides q = by_option (walk (child_at nodes) 0 q)
+      (λ none. (
+        λ h. let no : is_some (option_and_then (terminal_at nodes) None) ≡ true = rw none at h in cc,
+        λ c. let w = terminal-of nodes q c in let z : None ≡ Some w.0 = sym none ∙ t.own w.0 q w.1 in cc,
+      ))
+      (λ here w. contains-whole nodes q t here w (ends_below nodes 0 q) (ap (λ o. is_some (option_and_then (terminal_at nodes) o)) w))
+
+  -- below the root end the paths of the trie
+  pub ends-root : ends_below nodes 0 ≡ set.contains (set_of (terminals nodes))
+  ends-root = λ i q. same_from_decides _ _ (ends-Decides q) (from_list-Decides (terminals nodes) q) i
+
+  -- below each child some path ends
+  pub child-ends : (i j : ℕ) (f : Field) → IsReached nodes i → child_at nodes i f ≡ Some j → ends_below nodes j ≢ no_path
+  child-ends i j f r e none = let no : true ≡ false = ∥∥₁_elim r (Coded-set coded_bool true false) (λ s.
+      let at = walk-snoc (child_at nodes) i j s.0 f s.1 e in
+      let u = t.used (s.0 ++ f ∷ []) j at (λ z. let nil = t.once (s.0 ++ f ∷ []) [] j at (ap Some (sym z)) in no_snoc s.0 nil) in
+      let on : walk (child_at nodes) j u.1 ≡ Some u.0 = sym (walk-append (child_at nodes) 0 j (s.0 ++ f ∷ []) u.1 at) ∙ t.own u.0 ((s.0 ++ f ∷ []) ++ u.1) u.2 in
+      let is : ends_below nodes j u.1 ≡ true = ap (λ o. is_some (option_and_then (terminal_at nodes) o)) on ∙ ap is_some u.2 in
+      sym is ∙ ap (λ (w : PathPredicate). w u.1) none) in cc
+    where
+      no_snoc : (s : List Field) → s ++ f ∷ [] ≡ [] → ⊥
+      no_snoc [] z = cc
+      no_snoc (g ∷ s) z = cc
+
+  -- no path ends below a node exactly where none ends in it and it has no child
+  pub nothing-below : (i : ℕ) (n : Node) → IsReached nodes i → terminal_at nodes i ≡ n.terminal → ((f : Field) → child_at nodes i f ≡ child n.children f)
+      → ((n.terminal ≡ None) × (nodes_by_step n.children ≡ [])) ↔ (ends_below nodes i ≡ no_path)
+  nothing-below i n r terminal steps = (
+    λ e. λ k p. none-ends e p k,
+    λ z. (
+      by_option n.terminal (λ e. e) (λ q e. let no : true ≡ false = sym (ap is_some (terminal ∙ e)) ∙ ap (λ (w : PathPredicate). w []) z in cc),
+      no-child (nodes_by_step n.children) refl z,
+    ),
+  )
+    where
+      none-ends : (n.terminal ≡ None) × (nodes_by_step n.children ≡ []) → (p : List Field) → ends_below nodes i p ≡ false
+      none-ends e [] = ap is_some (terminal ∙ e.0)
+      none-ends e (f ∷ p) = ap (λ o. is_some (option_and_then (terminal_at nodes) (option_and_then (λ j. walk (child_at nodes) j p) o))) (steps f ∙ ap (lookup (same_field f)) e.1)
+
+      no-child : (es : List (Field × ℕ)) → nodes_by_step n.children ≡ es → ends_below nodes i ≡ no_path → es ≡ []
+      no-child [] is z = refl
+      no-child ((f, j) ∷ es) is z =
+          let to : child_at nodes i f ≡ Some j = steps f ∙ ap (lookup (same_field f)) is ∙ rw ((same_field-Decides f f).1 refl) refl in
+          absurd (child-ends i j f r to (λ k p. after z f p j to k))
+        where
+          after : ends_below nodes i ≡ no_path → (f : Field) (p : List Field) (j : ℕ) → child_at nodes i f ≡ Some j → ends_below nodes j p ≡ false
+          after z f p j to = ap (λ o. is_some (option_and_then (terminal_at nodes) (option_and_then (λ k. walk (child_at nodes) k p) o))) (sym to) ∙ ap (λ (w : PathPredicate). w (f ∷ p)) z
+
+-- after a step to a child end the suffixes
+pub ends-child : (nodes : List Node) (i : ℕ) (f : Field) (o : Option ℕ) → o ≡ child_at nodes i f → (p : List Field)
+    → ends_below nodes i (f ∷ p) ≡ is_some (option_and_then (terminal_at nodes) (option_and_then (λ j. walk (child_at nodes) j p) o))
+ends-child nodes i f o e p = ap (λ (x : Option ℕ). is_some (option_and_then (terminal_at nodes) (option_and_then (λ j. walk (child_at nodes) j p) x))) (sym e)
+
+-- the same of a child that is there, and of none
+pub ends-stepped : (nodes : List Node) (i j : ℕ) (f : Field) → Some j ≡ child_at nodes i f → ends_below nodes j ≡ after_step f (ends_below nodes i)
+ends-stepped nodes i j f e = λ k p. sym (ends-child nodes i f (Some j) e p) k
+
+pub ends-nowhere : (nodes : List Node) (i : ℕ) (f : Field) → None ≡ child_at nodes i f → no_path ≡ after_step f (ends_below nodes i)
+ends-nowhere nodes i f e = λ k p. sym (ends-child nodes i f None e p) k

@@ -1,0 +1,20 @@
+-- SPDX-License-Identifier: Apache-2.0
+-- SPDX-FileCopyrightText: Copyright the Vortex contributors
+
+use Rattle.std.proofs.Common.{◌≡◌, ◌↔◌, ap, option_and_then, subst, sym, true, List}
+use Rattle.dtype_paths.specs.PathPredicates.{no_path}
+use Rattle.dtype_paths.specs.private.Children.{child}
+use Rattle.dtype_paths.specs.private.Reached.{ends_below, IsReached}
+use Rattle.dtype_paths.specs.declared.node.Node.{Node}
+use Rattle.dtype_paths.proofs.Reaching.{nothing-below, reached-inside}
+use Rattle.dtype_paths.proofs.trie.Trie.is_empty_at.Goals as goal
+
+pub at-requires : goal.at-requires
+at-requires c = reached-inside c.self.inside.nodes c.self.invariant c.args.node_index (subst (λ ns. IsReached ns c.args.node_index) (sym c.self.view_is) c.requires)
+
+pub returns : goal.returns
+returns c =
+    let i = c.args.node_index in let n = c.at.result.now in let nodes = c.self.inside.nodes in let e = c.is_empty.ensures in
+    let r = subst (λ ns. IsReached ns i) (sym c.self.view_is) c.requires in
+    let b = nothing-below nodes c.self.invariant i n r (ap (option_and_then (λ m. m.terminal)) c.at.ensures) (λ f. ap (option_and_then (λ m. child m.children f)) c.at.ensures) in
+    subst (λ (ns : List Node). c.is_empty.result ≡ true ↔ (ends_below ns i ≡ no_path)) c.self.view_is (λ h. b.0 (e.0 h), λ z. e.1 (b.1 z))

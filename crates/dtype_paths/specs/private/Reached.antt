@@ -1,0 +1,16 @@
+-- SPDX-License-Identifier: Apache-2.0
+-- SPDX-FileCopyrightText: Copyright the Vortex contributors
+
+-- The nodes of a trie that some path leads to, and the paths that end below a node.
+use Rattle.std.specs.Prelude.{◌≡◌, ℕ, List, Bool, Some, is_some, option_and_then}
+use Rattle.dtype_paths.specs.private.Trie.{child_at, terminal_at, walk}
+use Rattle.dtype_paths.specs.declared.field.Field.{Field}
+use Rattle.dtype_paths.specs.declared.node.Node.{Node}
+
+-- some path leads to the node
+abbrev pub IsReached : List Node → ℕ → Type 0
+IsReached nodes i = ∥ ((s : List Field) × (walk (child_at nodes) 0 s ≡ Some i)) ∥₁
+
+-- whether a path of the trie ends where these steps lead from the node
+abbrev pub ends_below : List Node → ℕ → List Field → Bool
+ends_below nodes i p = is_some (option_and_then (terminal_at nodes) (walk (child_at nodes) i p))

@@ -1,0 +1,75 @@
+// SPDX-License-Identifier: Apache-2.0
+// SPDX-FileCopyrightText: Copyright the Vortex contributors
+
+ghost use Rattle.std.specs.Prelude.{◌≡◌, ◌↔◌, [], IsTrue, None};
+ghost use Rattle.std.specs.FinSet as set;
+ghost use Rattle.dtype_paths.specs.PathOrder.{set_of};
+ghost use Rattle.dtype_paths.specs.PathPredicates.{after_step, no_path};
+ghost use Rattle.dtype_paths.specs.private.Reached.{IsReached};
+ghost use Rattle.dtype_paths.specs.private.Trie.{terminals};
+ghost use Rattle.dtype_paths.specs.declared.field.Field.TheVariants.{ElementType};
+
+use crate::Field;
+use crate::trie::Trie;
+
+/// A place in a set of paths that its reader steps into: what the set asks for after some steps.
+///
+/// Of the set `a.b`, `a.c.d`, `x` a cursor after the step `a` asks for `b` and `c.d`. It borrows the set and is copied
+/// freely; none of its calls allocates.
+#[derive(Clone, Copy)]
+pub struct FieldPathCursor<'a> {
+    trie: &'a Trie,
+    node_index: usize,
+    ghost reached: { IsReached trie.now node_index },
+}
+
+impl<'a> FieldPathCursor<'a> {
+    ghost use Rattle.dtype_paths.specs.Cursors.{asks, asks_if};
+
+    // At the root of the trie.
+    #[tactic(auto, unfolding(crate::specs::Cursors::asks))]
+    pub(crate) fn at_root(trie: &'a Trie) -> Self
+        ensures { asks result ≡ set.contains (set_of (terminals trie.now)) }
+    {
+        FieldPathCursor {
+            trie,
+            node_index: trie.root(),
+        }
+    }
+
+    /// Returns whether a path of the set ends here: then everything below is wanted.
+    #[tactic(auto, unfolding(crate::specs::Cursors::asks))]
+    pub fn is_end(&self) -> bool
+        ensures { result ≡ asks self.now [] }
+    {
+        self.trie.is_terminal(self.node_index)
+    }
+
+    /// Returns whether the set asks for nothing here. Of a set that isn't empty no cursor is.
+    #[tactic(auto, unfolding(crate::specs::Cursors::asks))]
+    pub fn is_empty(&self) -> bool
+        ensures { IsTrue result ↔ (asks self.now ≡ no_path) }
+    {
+        self.trie.is_empty_at(self.node_index)
+    }
+
+    /// Returns the cursor after one more step, or `None` exactly where no path of the set goes on with it.
+    pub fn step(&self, step: &Field) -> Option<Self>
+        ensures paths { asks_if result ≡ after_step step.now (asks self.now) }
+        ensures none { (result ≡ None) ↔ (after_step step.now (asks self.now) ≡ no_path) }
+    {
+        let node_index = self.trie.child(self.node_index, step)?;
+        Some(FieldPathCursor {
+            trie: self.trie,
+            node_index,
+        })
+    }
+
+    /// Returns the cursor after a step into the element, or `None` exactly where no path of the set goes on with it.
+    pub fn element(&self) -> Option<Self>
+        ensures paths { asks_if result ≡ after_step ElementType (asks self.now) }
+        ensures none { (result ≡ None) ↔ (after_step ElementType (asks self.now) ≡ no_path) }
+    {
+        self.step(&Field::ElementType)
+    }
+}

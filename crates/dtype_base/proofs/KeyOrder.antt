@@ -15,8 +15,7 @@ use Rattle.std.specs.Ordering.{is_lt, ordering_then, nat_cmp, MatchOrdering}
 use Rattle.std.specs.Cmp.{IsTotalOrder, then_total, on_total, nat_cmp_is, nat_cmp_total, ranked, tied_itself}
 use Rattle.std.specs.Cmp.Lexicographic.{slice_cmp, nat_list_cmp_total}
 use Rattle.std.proofs.lemmas.Bool.{cases_lt, cases_order, false≢true}
-use Rattle.std.proofs.lemmas.List.{length-map, get_or-map, get_or-take, get_or-drop, get_or_past, map-append, drop-drop, drop_all, length-drop, take_more_same}
-use Rattle.std.proofs.lemmas.List.FromFn.{length-range_with_len}
+use Rattle.std.proofs.lemmas.List.{get_or-map, get_or-take, get_or-drop, get_or_past, map-append, drop-drop, drop_all, length-drop, take_more_same}
 use Rattle.std.proofs.lemmas.List.Elements.{All-tail, All-drop}
 use Rattle.std.proofs.lemmas.List.Sorted.{All-permutation, IsPermutation-map, IsNonDecreasingBy-from_all_adjacent}
 use Rattle.std.proofs.lemmas.Option.{slice_get-get_or, slice_get_within, get_or_from_slice_get}
@@ -244,23 +243,6 @@ module _ (names : List (List ℕ)) (prefix_len : ℕ) where
 -- one entry more
 pub positions_push : (entries : List IndexEntry) (key n : ℕ) → positions entries ≡ range_with_len 0 n → positions (entries ++ record { key = key; position = n } ∷ []) ≡ range_with_len 0 (n + 1)
 positions_push entries key n so_far = map-append (λ p. p.position) entries _ ∙ ap (λ is. is ++ n ∷ []) so_far ∙ sym (counted_more n)
-
--- as many entries as positions
-pub entries_counted : (entries : List IndexEntry) (n : ℕ) → positions entries ≡ range_with_len 0 n → length entries ≡ n
-entries_counted entries n e = sym (length-map entries (λ p. p.position)) ∙ ap length e ∙ length-range_with_len 0 n
-
--- entries whose keys increase are in order
-increasing_sorted : (names : List (List ℕ)) (entries : List IndexEntry) → AllAdjacentBelow (λ p q. p.key < q.key) entries (length entries) → IsSorted (entry_cmp names) entries
-increasing_sorted names entries increase k d low high =
-    let p = get_or entries k d in
-    let q = get_or entries (k + 1) d in
-    sym (ap (λ r. is_lt (ordering_then r (position_cmp names q.position p.position))) (nat_cmp_is q.key p.key Greater (increase k d high)))
-
--- entries distinguished by their keys, or by a part of them, are in order
-pub distinguished_sorted : (names : List (List ℕ)) (by : Discriminator) (entries : List IndexEntry) → AreDistinguishedBy by entries → by ≢ Text → IsSorted (entry_cmp names) entries
-distinguished_sorted names KeyPrefix entries distinguished is = increasing_sorted names entries (λ k d high. lower_prefix _ _ (distinguished k d high))
-distinguished_sorted names Key entries distinguished is = increasing_sorted names entries distinguished
-distinguished_sorted names Text entries distinguished is = absurd (is refl)
 
 -- the order of entries is total
 pub entry_total : (names : List (List ℕ)) → IsTotalOrder (entry_cmp names)

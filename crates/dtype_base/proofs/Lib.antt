@@ -3,6 +3,7 @@
 
 pub mod JoinedTexts
 pub mod EscapedChars
+pub mod ErrorEquality
 pub mod BitWidths
 pub mod NameSearch
 pub mod KeyOrder

@@ -3,21 +3,24 @@
 
 // Theorems about the definitions: each function's contract is the theorem, and its body is empty.
 ghost use Rattle.std.specs.Prelude.{◌≡◌, ◌↔◌, ℕ, List, None, Some, codes, length};
+ghost use Rattle.std.specs.Bool.{Decides};
 ghost use Rattle.std.specs.Iterator.{UpTo};
 ghost use Rattle.std.specs.Iterator.Runs.{YieldsInOrder, YieldsRefsInOrder};
 ghost use Rattle.std.specs.Ordering.{nat_cmp};
 ghost use Rattle.dtype_base.specs.Bytes.{Bytes};
 ghost use Rattle.dtype_base.specs.Primitives.{ptype_row};
-ghost use Rattle.dtype_base.specs.Decimals.{storage};
+ghost use Rattle.dtype_base.specs.Decimals.{Decimal, storage};
 ghost use Rattle.dtype_base.specs.FieldNames.{FirstAt, IsAbsent, first_place};
 ghost use Rattle.dtype_base.specs.declared.nullability.Nullability.{Nullability};
 ghost use Rattle.dtype_base.specs.declared.nullability.Nullability.TheVariants.{NonNullable};
 ghost use Rattle.dtype_base.specs.declared.ptype.PType.{PType};
 ghost use Rattle.dtype_base.specs.declared.decimal.DecimalType.{DecimalType};
+ghost use Rattle.dtype_base.specs.declared.vortex_error.VortexError.{VortexError};
+ghost use Rattle.dtype_base.specs.declared.vortex_error.MessageFault.{MessageFault};
 
 use crate::{
-    DecimalType, FieldNamesIntoIter, FieldNamesIter, Nullability, PType,
-    RESERVED_VALIDITY_FIELD_NAME,
+    DecimalDType, DecimalType, FieldName, FieldNames, FieldNamesIntoIter, FieldNamesIter,
+    MessageFault, Nullability, PType, RESERVED_VALIDITY_FIELD_NAME, VortexError,
 };
 
 /// Primitive types are ordered by their numbers.
@@ -30,6 +33,31 @@ pub fn primitive_names_are_ordered_by_number()
 pub fn storage_types_are_ordered_by_number()
     ensures { (s t : DecimalType) → ⟦<DecimalType as Ord>⟧.cmp s t
         ≡ nat_cmp (storage s).number (storage t).number }
+{}
+
+/// `==` of a type without a text holds exactly of the same values.
+pub fn equal_where_the_same()
+    ensures nullabilities { (a b : Nullability)
+        → Decides (⟦<Nullability as PartialEq>⟧.eq a b) (a ≡ b) }
+    ensures primitive_types { (a b : PType)
+        → Decides (⟦<PType as PartialEq>⟧.eq a b) (a ≡ b) }
+    ensures storage_types { (a b : DecimalType)
+        → Decides (⟦<DecimalType as PartialEq>⟧.eq a b) (a ≡ b) }
+    ensures decimals { (a b : Decimal)
+        → Decides (⟦<DecimalDType as PartialEq>⟧.eq a b) (a ≡ b) }
+{}
+
+/// `==` of names holds exactly where their bytes are the same, and of lists where the names are, in order.
+pub fn names_are_equal_where_their_bytes_are()
+    ensures names { (a b : List ℕ) → Decides (⟦<FieldName as PartialEq>⟧.eq a b) (a ≡ b) }
+    ensures lists { (a b : List (List ℕ)) → Decides (⟦<FieldNames as PartialEq>⟧.eq a b) (a ≡ b) }
+{}
+
+/// `==` of errors holds exactly where their kinds and all that they hold are the same.
+pub fn errors_are_equal_where_the_same()
+    ensures errors { (a b : VortexError) → Decides (⟦<VortexError as PartialEq>⟧.eq a b) (a ≡ b) }
+    ensures faults { (a b : MessageFault)
+        → Decides (⟦<MessageFault as PartialEq>⟧.eq a b) (a ≡ b) }
 {}
 
 /// The model of a slice of bytes is a list of numbers below 256.

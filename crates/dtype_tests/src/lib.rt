@@ -8,6 +8,8 @@
 #![tactic(auto)]
 
 #[cfg(test)]
+mod equalities;
+#[cfg(test)]
 mod hashes;
 #[cfg(test)]
 mod index;

@@ -1,0 +1,8 @@
+-- SPDX-License-Identifier: Apache-2.0
+-- SPDX-FileCopyrightText: Copyright the Vortex contributors
+
+use Rattle.dtype_base.proofs.ErrorEquality.{errors_Decides}
+use Rattle.dtype_base.proofs.laws.errors_are_equal_where_the_same.Goals as goal
+
+pub returns-clause-errors : goal.returns-clause-errors
+returns-clause-errors c = errors_Decides

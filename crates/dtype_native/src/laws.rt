@@ -6,16 +6,23 @@
 #![tactic(auto, using(crate::proofs::Bytes::length_little_endian))]
 
 ghost use Rattle.std.specs.Prelude.{◌≡◌, Ok, Result, codes};
+ghost use Rattle.std.specs.Bool.{Decides};
+ghost use Rattle.dtype_base.specs.Decimals.{Decimal};
 ghost use Rattle.dtype_base.specs.declared.vortex_error.VortexError.{VortexError};
 ghost use Rattle.dtype_native.specs.LittleEndian.{ReadsBytes, little_endian};
 
-use crate::{NativeDecimalType, TryFromBytes};
+use crate::{NativeDecimalType, PrecisionScale, TryFromBytes};
 
 /// The bytes of a number, read again, are that number.
 pub fn written_bytes_read_back<T: TryFromBytes>()
     ensures { (x : T) (r : Result T VortexError) → T.fits (T.value x)
         → ReadsBytes T.byte_width T.value T.fits (little_endian T.byte_width (T.value x)) r
         → r ≡ Ok x }
+{}
+
+/// Two decimals of a native type are equal exactly where their precisions and their scales are.
+pub fn precision_scales_are_equal_where_they_are<D: NativeDecimalType>()
+    ensures { (a b : Decimal) → Decides (⟦<PrecisionScale<D> as PartialEq>⟧.eq a b) (a ≡ b) }
 {}
 
 /// The name of each native decimal type is the text of its storage type.

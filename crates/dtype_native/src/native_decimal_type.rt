@@ -2,7 +2,7 @@
 // SPDX-FileCopyrightText: Copyright the Vortex contributors
 
 ghost use Rattle.std.specs.Prelude.{◌≡◌, ◌^◌, ◌-◌, ◌≤◌, ℕ, ℤ, neg_ℤ, pos, unsigned_abs, List, codes};
-ghost use Rattle.std.specs.Int.{w8, w16, w32, w64, w128};
+ghost use Rattle.std.specs.Int.{byte_len, w8, w16, w32, w64, w128};
 ghost use Rattle.std.proofs.Common.{refl, lit<, lit≤};
 ghost use Rattle.dtype_base.specs.declared.decimal.DecimalType.{DecimalType};
 ghost use Rattle.dtype_base.specs.declared.decimal.DecimalType.TheVariants.{I8, I16, I32, I64, I128};
@@ -50,6 +50,9 @@ pub trait NativeDecimalType: PrimInt + Signed {
         -Self::max_by_precision(precision)
     }
 
+    // The storage type is as wide as this type.
+    ghost bytes_law: { byte_len Self.width ≡ (storage DECIMAL_TYPE).bytes };
+
     // The greatest precision is that of the storage type, and at most that of any decimal.
     ghost digits_law: { MAX_PRECISION ≡ (storage DECIMAL_TYPE).digits };
 
@@ -85,6 +88,8 @@ impl NativeDecimalType for i8 {
 
     const NAME: &'static str = "i8";
 
+    ghost bytes_law = { refl };
+
     ghost digits_law = { refl };
 
     ghost scale_law = { refl };
@@ -108,6 +113,8 @@ impl NativeDecimalType for i16 {
     ghost MAX_SCALE = { pos 4 };
 
     const NAME: &'static str = "i16";
+
+    ghost bytes_law = { refl };
 
     ghost digits_law = { refl };
 
@@ -133,6 +140,8 @@ impl NativeDecimalType for i32 {
 
     const NAME: &'static str = "i32";
 
+    ghost bytes_law = { refl };
+
     ghost digits_law = { refl };
 
     ghost scale_law = { refl };
@@ -157,6 +166,8 @@ impl NativeDecimalType for i64 {
 
     const NAME: &'static str = "i64";
 
+    ghost bytes_law = { refl };
+
     ghost digits_law = { refl };
 
     ghost scale_law = { refl };
@@ -180,6 +191,8 @@ impl NativeDecimalType for i128 {
     ghost MAX_SCALE = { pos 38 };
 
     const NAME: &'static str = "i128";
+
+    ghost bytes_law = { refl };
 
     ghost digits_law = { refl };
 

@@ -9,7 +9,7 @@ import re
 from collections import namedtuple
 from glob import glob
 
-from repository import functions_of, given_out, is_public, libraries, sources_of, text_of
+from repository import COMMENT, functions_of, given_out, is_public, libraries, owners_in, sources_of, text_of
 
 LEDGER = "docs/PROMISES.md"
 CONSOLE = "crates/dtype_console/stdin"
@@ -81,6 +81,10 @@ def read_sources():
     for crate in crates:
         for file in sources_of(crate):
             sources.constants.update(CONSTANT.findall(text_of(file)))
+            # (a trait may have ghost members and no function)
+            for owner in owners_in(COMMENT.sub("", text_of(file))):
+                if owner.kind == "trait":
+                    sources.members.setdefault(owner.type, set()).update(it.name for it in owner.members)
             for traits_derived, of_type in DERIVED.findall(text_of(file)):
                 of_type = f"pb::{of_type}" if crate == "dtype_messages" else of_type
                 sources.derived.setdefault(of_type, set()).update(it.strip() for it in traits_derived.split(","))

@@ -1,15 +1,11 @@
 // SPDX-License-Identifier: Apache-2.0
 // SPDX-FileCopyrightText: Copyright the Vortex contributors
 
-//! What a call of a session or of a typed extension leaves after a failed allocation: `register` leaves the session
-//! as it was, and `try_downcast` hands back an equal extension.
-//!
-//! Each call is between the lines `begin` and `end` on standard error, and its outcome is a line on standard output.
-//! `tools/failed_calls` makes each allocation between these lines fail in turn.
-#![tactic(auto)]
-
+// Calls of a session and of a typed extension: after an error the session is as it was, and `try_downcast` hands back an
+// equal extension. The console can't show this: each of its commands makes its session again.
+use crate::marks::{begin, end};
+use anyhow::Result;
 use std::alloc::Global;
-use std::io;
 use vortex_dtype::{
     DType, DTypeSession, ExtDType, ExtDTypeRef, Nullability, PluginOf, VortexError, VortexResult,
 };
@@ -23,22 +19,16 @@ const AS_BEFORE: &str = "out of memory, and all is as before";
 
 const OTHERWISE: &str = "failed, and not all is as before";
 
-fn main(rt: HostRuntime) -> io::Result<()> {
-    report(&rt, "register the first plugin", first_plugin(&rt))?;
-    report(&rt, "register a second id", second_id(&rt))?;
-    report(&rt, "register another plugin under an id", same_id(&rt))?;
-    report(&rt, "downcast", downcast(&rt))
-}
-
-fn report(rt: &impl Print, call: &str, outcome: VortexResult<&'static str>) -> io::Result<()> {
-    match outcome {
-        Ok(outcome) => println!(rt; "{call}: {outcome}"),
-        Err(error) => println!(rt; "{call}: not tried: {error}"),
-    }
-}
-
-fn mark(rt: &impl Eprint, text: &str) {
-    let _ = eprintln!(rt; "{text}");
+pub fn tell(rt: &(impl Print + Eprint), alloc: Global) -> Result<()> {
+    let told = first_plugin(rt, alloc)?;
+    println!(rt; "register the first plugin: {told}")?;
+    let told = second_id(rt, alloc)?;
+    println!(rt; "register a second id: {told}")?;
+    let told = same_id(rt, alloc)?;
+    println!(rt; "register another plugin under an id: {told}")?;
+    let told = downcast(rt, alloc)?;
+    println!(rt; "downcast: {told}")?;
+    Ok(())
 }
 
 // What a caller sees of a session: the ids that it knows, whether it keeps unknown ones, and what it makes of metadata.
@@ -79,40 +69,37 @@ fn judge(error: VortexError, is_as_before: bool) -> &'static str {
     }
 }
 
-fn first_plugin(rt: &(impl Eprint + AllocGlobal)) -> VortexResult<&'static str> {
-    let alloc = rt.alloc();
+fn first_plugin(rt: &impl Eprint, alloc: Global) -> VortexResult<&'static str> {
     let mut session = DTypeSession::new(alloc);
     let plugin = Box::new(alloc, PluginOf::new(Tag))?;
     let before = view_of(&session);
-    mark(rt, "begin");
+    begin(rt);
     let result = session.register(plugin);
-    mark(rt, "end");
+    end(rt);
     Ok(outcome(result, view_of(&session) == before))
 }
 
-fn second_id(rt: &(impl Eprint + AllocGlobal)) -> VortexResult<&'static str> {
-    let alloc = rt.alloc();
+fn second_id(rt: &impl Eprint, alloc: Global) -> VortexResult<&'static str> {
     let mut session = DTypeSession::new(alloc);
     session.register(Box::new(alloc, PluginOf::new(Tag))?)?;
     let plugin = Box::new(alloc, TextAlone)?;
     let before = view_of(&session);
-    mark(rt, "begin");
+    begin(rt);
     let result = session.register(plugin);
-    mark(rt, "end");
+    end(rt);
     Ok(outcome(result, view_of(&session) == before))
 }
 
 // The second plugin of `x.tag` keeps the capitals that the first lowers.
-fn same_id(rt: &(impl Eprint + AllocGlobal)) -> VortexResult<&'static str> {
-    let alloc = rt.alloc();
+fn same_id(rt: &impl Eprint, alloc: Global) -> VortexResult<&'static str> {
     let mut session = DTypeSession::new(alloc);
     session.allow_unknown();
     session.register(Box::new(alloc, PluginOf::new(Tag))?)?;
     let plugin = Box::new(alloc, AllKept)?;
     let before = view_of(&session);
-    mark(rt, "begin");
+    begin(rt);
     let result = session.register(plugin);
-    mark(rt, "end");
+    end(rt);
     Ok(outcome(result, view_of(&session) == before))
 }
 
@@ -122,13 +109,12 @@ fn tag_over_text(alloc: Global) -> VortexResult<ExtDTypeRef> {
     session.deserialize("x.tag", b"ab", TEXT)
 }
 
-fn downcast(rt: &(impl Eprint + AllocGlobal)) -> VortexResult<&'static str> {
-    let alloc = rt.alloc();
+fn downcast(rt: &impl Eprint, alloc: Global) -> VortexResult<&'static str> {
     let given = tag_over_text(alloc)?;
     let erased = given.try_clone(alloc)?;
-    mark(rt, "begin");
+    begin(rt);
     let result = ExtDType::try_downcast(alloc, erased, Tag);
-    mark(rt, "end");
+    end(rt);
     match result {
         Ok(_) => Ok(DONE),
         Err((back, error)) => Ok(judge(error, back == given)),

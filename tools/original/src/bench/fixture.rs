@@ -1,0 +1,133 @@
+// SPDX-License-Identifier: Apache-2.0
+// SPDX-FileCopyrightText: Copyright the Vortex contributors
+
+//! The types and names that the cases work on.
+
+use std::sync::Arc;
+
+use vortex_array::dtype::extension::{ExtId, ForeignExtDType};
+use vortex_array::dtype::{DType, FieldName, Nullability, PType, StructFields};
+
+/// The shape of a type: a struct of so many fields, or structs of one field, lists, fixed-size lists of size 1 or
+/// extensions, nested so deep.
+#[derive(Clone, Copy, Debug)]
+pub enum Shape {
+    Wide,
+    Deep,
+    Lists,
+    Fixed,
+    Extensions,
+}
+
+impl Shape {
+    /// A type of this shape and size, its inner nullabilities flipped if asked.
+    pub fn make(self, count: usize, flip: bool) -> DType {
+        match self {
+            Shape::Wide => wide_type(&Naming::Wide.texts(count), flip),
+            _ => (0..count).fold(leaf(0, flip), |inside, _| self.wrap(inside, flip.into())),
+        }
+    }
+
+    fn wrap(self, inside: DType, nullability: Nullability) -> DType {
+        match self {
+            Shape::Wide | Shape::Deep => DType::Struct(StructFields::from_iter([("a", inside)]), nullability),
+            Shape::Lists => DType::List(Arc::new(inside), nullability),
+            Shape::Fixed => DType::FixedSizeList(Arc::new(inside), 1, nullability),
+            Shape::Extensions => {
+                let extension = ForeignExtDType::from_parts(ExtId::new("x.y"), b"ab".to_vec(), inside);
+                DType::Extension(extension.expect("a foreign extension takes any storage"))
+            }
+        }
+    }
+}
+
+/// The form of the names of a wide struct: `column_0` and so on; the same, shuffled; sixteen hexadecimal digits each;
+/// `id` and then `measurement_1` and so on.
+#[derive(Clone, Copy, Debug)]
+pub enum Naming {
+    Wide,
+    Shuffled,
+    Hexadecimal,
+    Stray,
+}
+
+impl Naming {
+    /// The last part of a case's name.
+    pub fn of(self, count: usize) -> String {
+        format!("/{self:?}/{count}").to_lowercase()
+    }
+
+    /// The names of `count` fields, as texts.
+    pub fn texts(self, count: usize) -> Vec<String> {
+        (0..count).map(|i| self.text(i, count)).collect()
+    }
+
+    fn text(self, i: usize, count: usize) -> String {
+        match self {
+            Naming::Wide => column(i),
+            Naming::Shuffled => column(mixed(i, count)),
+            Naming::Hexadecimal => format!("{:016x}", (i as u64 + 1).wrapping_mul(0x9E37_79B9_7F4A_7C15)),
+            Naming::Stray if i == 0 => "id".to_owned(),
+            Naming::Stray => format!("measurement_{i}"),
+        }
+    }
+}
+
+/// Types of one shape and size. Where there are two, each is built separately, and iterations alternate between them.
+pub struct Types {
+    /// The last part of a case's name.
+    pub of: String,
+    pub shape: Shape,
+    pub count: usize,
+    pub types: [DType; 2],
+    pub sames: [DType; 2],
+    /// The same types with their inner nullabilities flipped.
+    pub others: [DType; 2],
+}
+
+impl Types {
+    pub fn new(shape: Shape, count: usize) -> Self {
+        let two = |flip| [shape.make(count, flip), shape.make(count, flip)];
+        let of = format!("/{shape:?}/{count}").to_lowercase();
+        Self { of, shape, count, types: two(false), sames: two(false), others: two(true) }
+    }
+
+    /// One of the two, alternating.
+    pub fn turn(&self, i: usize) -> &DType {
+        &self.types[i % 2]
+    }
+}
+
+/// Two structs of fields with these names.
+pub fn two_structs(texts: &[String]) -> [DType; 2] {
+    [wide_type(texts, false), wide_type(texts, false)]
+}
+
+/// A struct of fields with these names.
+pub fn wide_type(texts: &[String], flip: bool) -> DType {
+    let fields = texts.iter().enumerate().map(|(i, text)| (text.as_str(), leaf(i, flip)));
+    DType::Struct(StructFields::from_iter(fields), Nullability::NonNullable)
+}
+
+/// The type of a column, its nullability flipped if asked.
+pub fn leaf(i: usize, flip: bool) -> DType {
+    match i % 4 {
+        0 => DType::Primitive(PType::I32, flip.into()),
+        1 => DType::Utf8((!flip).into()),
+        2 => DType::Bool(flip.into()),
+        _ => DType::Primitive(PType::F64, (!flip).into()),
+    }
+}
+
+pub fn names<'a>(texts: impl IntoIterator<Item = &'a String>) -> Vec<FieldName> {
+    texts.into_iter().map(|text| FieldName::from(text.as_str())).collect()
+}
+
+/// A permutation of the numbers below `count`: the image of `i`.
+pub fn mixed(i: usize, count: usize) -> usize {
+    i.wrapping_mul(7919) % count
+}
+
+pub fn column(i: usize) -> String {
+    format!("column_{i}")
+}

@@ -1,0 +1,96 @@
+// SPDX-License-Identifier: Apache-2.0
+// SPDX-FileCopyrightText: Copyright the Vortex contributors
+
+//! How an operation is measured.
+
+use std::hint::black_box;
+
+/// How long a round is to take, in nanoseconds.
+const ROUND_TIME: u64 = 3_000_000;
+
+/// The greatest number of doublings of the iterations.
+const DOUBLINGS: usize = 32;
+
+const ROUNDS: usize = 15;
+
+/// Measures the cases that were asked for.
+pub struct Meter<'a> {
+    wanted: Vec<&'a str>,
+}
+
+impl<'a> Meter<'a> {
+    /// A line of `wanted` is the prefix of cases that were asked for.
+    pub fn new(wanted: &'a str) -> Self {
+        Self { wanted: wanted.lines().collect() }
+    }
+
+    /// Whether a case with this prefix may have been asked for.
+    pub fn wants_some(&self, beginning: &str) -> bool {
+        self.wanted.iter().any(|line| line.starts_with(beginning) || beginning.starts_with(line))
+    }
+
+    /// Measures an operation, given the number of the iteration and the sum of the results before it.
+    pub fn each(&self, name: &str, mut operation: impl FnMut(usize, usize) -> usize) {
+        let repeat = |(), times| (0..times).fold(0usize, |sum, i| sum.wrapping_add(operation(i, sum)));
+        self.measure(name, |_| (), repeat);
+    }
+
+    /// Measures an operation that consumes what `prepare` returns.
+    pub fn consuming<T>(&self, name: &str, prepare: impl Fn() -> T, mut operation: impl FnMut(T) -> usize) {
+        let inputs = |times| (0..times).map(|_| prepare()).collect::<Vec<T>>();
+        let repeat = |mut inputs: Vec<T>, _| {
+            let mut sum = 0usize;
+            while let Some(input) = inputs.pop() {
+                sum = sum.wrapping_add(operation(input));
+            }
+            sum
+        };
+        self.measure(name, inputs, repeat);
+    }
+
+    /// Measures so many iterations, done by `repeat` of what `prepare` returns, and prints the case's line.
+    pub fn measure<T>(&self, name: &str, prepare: impl Fn(usize) -> T, mut repeat: impl FnMut(T, usize) -> usize) {
+        if !self.wanted.iter().any(|line| name.starts_with(line)) {
+            return;
+        }
+        let mut round = |times| {
+            let input = prepare(times);
+            let start = thread_cpu_time();
+            // used, so that the answer has to be worked out
+            black_box(repeat(input, times));
+            thread_cpu_time() - start
+        };
+        let numbers = (0..DOUBLINGS).map(|doublings| 1usize << doublings);
+        let times = numbers.into_iter().find(|times| round(*times) >= ROUND_TIME).unwrap_or(1 << DOUBLINGS);
+        let mut rounds = [(); ROUNDS].map(|()| round(times));
+        rounds.sort_unstable();
+        println!("{name} {} {}", each_of(rounds[0], times), each_of(rounds[ROUNDS / 2], times));
+    }
+}
+
+/// The time of one iteration, to a tenth of a nanosecond.
+fn each_of(time: u64, times: usize) -> String {
+    let tenths = (time * 10 + times as u64 / 2) / times as u64;
+    format!("{}.{}", tenths / 10, tenths % 10)
+}
+
+#[repr(C)]
+struct Timespec {
+    seconds: i64,
+    nanoseconds: i64,
+}
+
+const CLOCK_THREAD_CPUTIME_ID: i32 = 3;
+
+unsafe extern "C" {
+    fn clock_gettime(clock: i32, time: *mut Timespec) -> i32;
+}
+
+/// The processor time of this thread in nanoseconds, on a Linux of 64 bits.
+fn thread_cpu_time() -> u64 {
+    let mut time = Timespec { seconds: 0, nanoseconds: 0 };
+    // SAFETY: `time` has the layout of the C library's `timespec`, and lives through the call.
+    let failed = unsafe { clock_gettime(CLOCK_THREAD_CPUTIME_ID, &mut time) };
+    assert_eq!(failed, 0, "this system has no clock for a thread");
+    time.seconds as u64 * 1_000_000_000 + time.nanoseconds as u64
+}

@@ -2,13 +2,15 @@
 # SPDX-FileCopyrightText: Copyright the Vortex contributors
 
 """Checks what pages say in numbers, for tools/pages: that docs/reference is made of these sources, that docs/TRUST.md
-tells the lines of definitions, within a tenth, and that links lead to headings."""
+tells the lines of definitions, within a tenth, that the summary of docs/BENCHMARKS.md is of its table (speed.py), and
+that links lead to headings."""
 import os
 import re
 import subprocess
 import sys
 from glob import glob
 
+import speed
 from repository import libraries, sources_of, text_of
 
 TRUST = "docs/TRUST.md"
@@ -63,4 +65,5 @@ def stale_reference():
 
 def faults(pages):
     """Each page with what is wrong on it."""
-    return [*wrong_lines(), *dead_anchors([*pages, *sorted(glob("docs/reference/*.md"))]), *stale_reference()]
+    pages = [*pages, *sorted(glob("docs/reference/*.md"))]
+    return [*wrong_lines(), *dead_anchors(pages), *stale_reference(), *speed.faults()]

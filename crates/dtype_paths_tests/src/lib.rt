@@ -1,17 +1,12 @@
 // SPDX-License-Identifier: Apache-2.0
 // SPDX-FileCopyrightText: Copyright the Vortex contributors
 
-//! Tests of `dtype_native` and `dtype_paths`, one module per topic: what no golden test of the console shows, such as
-//! generic calls through their bounds, visitors, the macro, very long paths, very many paths, and random values against
-//! models. They use public items only; what holds of every value is proved in the crates themselves.
+//! Tests of `dtype_paths`, one module per topic: what no golden test of the console shows, such as the macro, very long
+//! paths, very many paths, and random values against models. They use public items only; what holds of every value is proved in the crates themselves.
 #![tactic(auto)]
 
 #[cfg(test)]
 mod fixtures;
-#[cfg(test)]
-mod native_decimals;
-#[cfg(test)]
-mod native_integers;
 #[cfg(test)]
 mod path_model;
 #[cfg(test)]
@@ -22,5 +17,3 @@ mod paths;
 mod random_masks;
 #[cfg(test)]
 mod random_path_sets;
-#[cfg(test)]
-mod visitors;

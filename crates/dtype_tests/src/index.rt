@@ -10,13 +10,6 @@ fn are_distinct(alloc: Global, texts: &[&str]) -> VortexResult<bool> {
     Ok(IndexedNames::new(alloc, names)?.are_distinct())
 }
 
-#[test]
-fn names_know_whether_they_are_distinct(rt: HostRuntime) -> Result<(), Fail> {
-    assert!(rt; !are_distinct(rt.alloc(), &["b", "a", "b"])?);
-    assert!(rt; are_distinct(rt.alloc(), &["b", "a", ""])?);
-    Ok(())
-}
-
 // More names than the index sorts by insertion, in random order.
 const MANY: [&str; 22] = [
     "x17", "x4", "x9", "x21", "x2", "x13", "x6", "x11", "x1", "x20", "x8", "x15", "x3", "x19",

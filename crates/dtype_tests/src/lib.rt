@@ -1,8 +1,8 @@
 // SPDX-License-Identifier: Apache-2.0
 // SPDX-FileCopyrightText: Copyright the Vortex contributors
 
-//! Tests of `dtype_base` and `dtype_types`, one module per topic: what no golden test of the console shows, such as
-//! generic calls, the exact size of iterators, and items without a command. They use public items only; what holds of
+//! Tests of `dtype_base`, `dtype_types` and `dtype_native`, one module per topic: what no golden test of the console and
+//! no clause shows, such as generic calls, hashes of what differs, and many names and fields. They use public items only; what holds of
 //! every value is proved in the crates themselves. Other libraries are tested in `dtype_paths_tests`,
 //! `vortex_dtype_tests` and `vortex_dtype_random_tests`, and the programs in their own crates.
 #![tactic(auto)]
@@ -14,12 +14,8 @@ mod hashes;
 #[cfg(test)]
 mod index;
 #[cfg(test)]
-mod kinds;
-#[cfg(test)]
 mod names;
 #[cfg(test)]
-mod nullabilities;
+mod native_decimals;
 #[cfg(test)]
 mod structs;
-#[cfg(test)]
-mod unions;

@@ -1,0 +1,68 @@
+# SPDX-License-Identifier: Apache-2.0
+# SPDX-FileCopyrightText: Copyright the Vortex contributors
+
+"""A small repository in a folder of its own, with a copy of the tools, in which a test plants a fault."""
+import os
+import shutil
+import subprocess
+import tempfile
+import unittest
+
+HERE = os.path.dirname(os.path.realpath(__file__))
+TOOLS = os.path.dirname(HERE)
+
+
+class Planted(unittest.TestCase):
+    def setUp(self):
+        room = tempfile.TemporaryDirectory(prefix="planted-")
+        self.addCleanup(room.cleanup)
+        self.top = room.name
+        shutil.copytree(f"{HERE}/small", self.top, dirs_exist_ok=True)
+        ignored = shutil.ignore_patterns("tests", "rows", "original", "__pycache__")
+        shutil.copytree(TOOLS, f"{self.top}/tools", ignore=ignored)
+
+    def path(self, file):
+        return os.path.join(self.top, file)
+
+    def read(self, file):
+        with open(self.path(file), encoding="utf-8") as it:
+            return it.read()
+
+    def write(self, file, text, mode=0o644):
+        os.makedirs(os.path.dirname(self.path(file)), exist_ok=True)
+        with open(self.path(file), "w", encoding="utf-8") as it:
+            it.write(text)
+        os.chmod(self.path(file), mode)
+
+    def change(self, file, old, new):
+        text = self.read(file)
+        self.assertEqual(text.count(old), 1, f"{old} in {file}")
+        self.write(file, text.replace(old, new))
+
+    def apply(self, edit):
+        """Makes the change of a mutation, in the form of `file:`, `old:` and `new:`."""
+        lines = dict(it.split(": ", 1) for it in edit.splitlines())
+        self.change(lines["file"], lines["old"], lines["new"])
+        return lines["file"]
+
+    def script(self, name, text):
+        """A program on the path of the tools that are run."""
+        self.write(f"bin/{name}", f"#!/usr/bin/env bash\n{text}\n", 0o755)
+
+    def run_tool(self, tool, *arguments, given=""):
+        """The status of a tool, and what it writes."""
+        environment = {**os.environ, "PATH": f"{self.top}/bin:{os.environ['PATH']}", "PYTHONDONTWRITEBYTECODE": "1"}
+        ran = subprocess.run([f"{self.top}/tools/{tool}", *arguments], input=given, env=environment, text=True, check=False,
+                             stdout=subprocess.PIPE, stderr=subprocess.STDOUT, timeout=300)
+        return ran.returncode, ran.stdout
+
+    def told(self, tool, *arguments):
+        """The faults that a tool tells, without its last line."""
+        return self.run_tool(tool, *arguments)[1].splitlines()[:-1]
+
+    def assert_told(self, tool, text, *arguments):
+        """That the tool tells this, that its last line counts it, and that its status is 1."""
+        status, said = self.run_tool(tool, *arguments)
+        self.assertIn(text, said)
+        self.assertRegex(said.splitlines()[-1], r"^\d+ passed, [1-9]\d* failed$")
+        self.assertEqual(status, 1, said)

@@ -165,8 +165,8 @@ impl FieldPathSet {
     }
 
     /// Returns what `into_iter` returns, and the number of nodes that were visited: the root, and one for each other
-    /// path that begins a returned one, however many paths these cover. The number saturates at the greatest `u64`.
-    /// After an error the set is dropped.
+    /// path that begins a returned one, however many paths these cover. No set has more nodes than a `u64` counts. After
+    /// an error the set is dropped.
     ///
     /// # Errors
     ///

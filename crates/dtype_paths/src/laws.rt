@@ -42,15 +42,17 @@ pub fn a_path_leads_to_a_valid_type()
 
 /// Resolution is exact for values. `along` computes the type `At` a path. Where the path steps through no fixed-size
 /// list of size 0, a value is of that type exactly where it lies along the path in some value of the whole, such as
-/// the one made around it. What lies along the path is always of that type; through a size 0 a value of the type may
-/// lie in no value of the whole. Where there is no type at a path, and no beginning of it leads to an extension,
-/// nothing lies along it in any value.
+/// the one made around it. What is made around a value of that type is always a value of the whole, and what lies along
+/// the path is always of that type; through a size 0 a value of the type may lie in no value of the whole. Where there
+/// is no type at a path, and no beginning of it leads to an extension, nothing lies along it in any value.
 pub fn resolution_is_exact_for_values()
     ensures given { (t u : Tree) (p : List Field) → (along t p ≡ Some u) ↔ At t p u }
     ensures exact { (t : Tree) (p : List Field) (u : Tree) (v : Value) → Valid t → CrossesNoSizeZero t p
         → At t p u → (Of v u ↔ FoundIn t p v) }
-    ensures around { (t : Tree) (p : List Field) (u : Tree) (v : Value) → Valid t → CrossesNoSizeZero t p
-        → At t p u → Of v u → Of (around t p v) t × Found (around t p v) p v }
+    ensures made { (t : Tree) (p : List Field) (u : Tree) (v : Value) → Valid t → At t p u → Of v u
+        → Of (around t p v) t }
+    ensures around { (t : Tree) (p : List Field) (u : Tree) (v : Value) → CrossesNoSizeZero t p → At t p u
+        → Found (around t p v) p v }
     ensures inside { (t : Tree) (p : List Field) (u : Tree) (v : Value) → At t p u → FoundIn t p v → Of v u }
     ensures size_zero { (t : Tree) × (p : List Field) × (u : Tree) × (v : Value) × Valid t × At t p u
         × Of v u × ¬ (FoundIn t p v) }

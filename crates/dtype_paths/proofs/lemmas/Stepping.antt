@@ -9,15 +9,17 @@ use Rattle.std.specs.Prelude.{bytes_eq, option_and_then}
 use Rattle.std.specs.List.{starts_with}
 use Rattle.dtype_base.specs.declared.nullability.Nullability.{Nullability}
 use Rattle.dtype_types.specs.parts.Lookups.{first_named}
-use Rattle.dtype_types.specs.tree.Kinds.{any_size_list_element}
-use Rattle.dtype_types.specs.tree.Tree.{Tree, Fields, no_fields, field, pairs, list, fixed_size_list, struct}
+use Rattle.dtype_types.specs.tree.Kinds.{any_size_list_element, kind}
+use Rattle.dtype_types.specs.tree.Tree.{Tree, Fields, no_fields, field, pairs, list, fixed_size_list, struct, extension}
 use Rattle.dtype_types.specs.tree.TreeOf.{children, fields_of}
 use Rattle.dtype_types.specs.tree.Valid.{Valid, ValidFields}
+use Rattle.dtype_types.specs.declared.dtype.kinds.Kind.TheVariants as kinds
 use Rattle.dtype_types.specs.declared.struct_fields.StructFields.{StructFields}
 use Rattle.dtype_types.specs.equality.PartsEqualityLaws.{pairs_of}
 use Rattle.dtype_paths.specs.Along.{along}
 use Rattle.dtype_paths.specs.At.{At, ExistsIn, step}
 use Rattle.dtype_paths.specs.Beginning.{Beginning}
+use Rattle.dtype_paths.specs.Crosses.{CrossesNoExtension, CrossesNoSizeZero}
 use Rattle.dtype_paths.specs.Equality.{same_field, same_path}
 use Rattle.dtype_paths.specs.EqualityLaws.{same_field-Decides, same_path-Decides}
 use Rattle.dtype_paths.specs.In.{In, first_part}
@@ -85,6 +87,24 @@ one_name fs n m = go (first_named (pairs fs) m)
 
 pub column_along : (t : Tree) (fs : Fields) (n : Nullability) (m : List ℕ) → t ≡ struct fs n → along t (Name m ∷ []) ≡ first_named (pairs fs) m
 column_along t fs n m e = ap (λ x. along x (Name m ∷ [])) e ∙ one_name fs n m
+
+-- in a struct it crosses no size 0, and no extension where nothing is along it
+name_only : (p q : List Field) (g h : Field) (m : List ℕ) → p ≡ Name m ∷ [] → Beginning (g ∷ h ∷ q) p → ⊥
+name_only p q g h m e b = let r : g ∷ h ∷ (q ++ b.0) ≡ Name m ∷ [] = sym b.1 ∙ e in cc
+
+name_whole : (p : List Field) (g : Field) (m : List ℕ) → p ≡ Name m ∷ [] → Beginning (g ∷ []) p → g ∷ [] ≡ p
+name_whole p g m e b = let r : g ∷ b.0 ≡ Name m ∷ [] = sym b.1 ∙ e in cc
+
+pub name_no_size_zero : (t : Tree) (p : List Field) (m : List ℕ) → p ≡ Name m ∷ [] → kind t ≡ kinds.Struct → CrossesNoSizeZero t p
+name_no_size_zero t p m e is [] x k n b ne a = let c : kinds.FixedSizeList ≡ kinds.Struct = ap kind (sym a) ∙ is in cc
+name_no_size_zero t p m e is (g ∷ []) x k n b ne a = absurd (ne (name_whole p g m e b))
+name_no_size_zero t p m e is (g ∷ h ∷ q) x k n b ne a = absurd (name_only p q g h m e b)
+
+pub name_no_extension : (t : Tree) (p : List Field) (m : List ℕ) → p ≡ Name m ∷ [] → kind t ≡ kinds.Struct → None ≡ along t p → CrossesNoExtension t p
+name_no_extension t p m e is none [] id b s begins a = let c : kinds.Extension ≡ kinds.Struct = ap kind (sym a) ∙ is in cc
+name_no_extension t p m e is none (g ∷ []) id b s begins a =
+    let x = At-along t p (extension id b s) (subst (λ q. At t q (extension id b s)) (name_whole p g m e begins) a) in cc
+name_no_extension t p m e is none (g ∷ h ∷ q) id b s begins a = name_only p q g h m e begins
 
 -- the fields of a struct, by its tree
 pub fields_shown : (s : StructFields) → pairs (fields_of s) ≡ children s
@@ -175,4 +195,4 @@ first_begins (Prefix (h ∷ p)) f q e a = let same = same_Some f h e in (p ++ a.
 first_begins (Exact []) f q e a = cc
 first_begins (Exact (h ∷ p)) f q e a = let same = same_Some f h e in (p, a ∙ (λ i. sym same i ∷ p))
 
-pub ruleset stepping = (given_at, given_exists, fields_shown, given_valid, none_at, none_exists, column_along, at_append, at_element, beginning_exists_in, front_exists_in, root_begins, root_leads, root_exists_in, tested_fields, tested_paths, one_type_at, along_after, none_after, none_further, first_asked, other_unasked, none_unasked, one_part, one_begins, tested_beginning, beginning_tested, root_alone, first_begins)
+pub ruleset stepping = (given_at, given_exists, fields_shown, given_valid, none_at, none_exists, column_along, name_no_size_zero, name_no_extension, at_append, at_element, beginning_exists_in, front_exists_in, root_begins, root_leads, root_exists_in, tested_fields, tested_paths, one_type_at, along_after, none_after, none_further, first_asked, other_unasked, none_unasked, one_part, one_begins, tested_beginning, beginning_tested, root_alone, first_begins)

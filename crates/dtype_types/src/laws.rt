@@ -50,8 +50,8 @@ pub fn equality_ignoring_nullability_agrees_with_its_hash()
         → hash_writes_ignoring_nullability a ≡ hash_writes_ignoring_nullability b }
 {}
 
-/// Setting a type's nullability, where it can be set, gives that nullability, and a type that is equal but for
-/// nullabilities; the definition `SetNull` says that it is the outer one alone. Of two settings the last decides.
+/// Setting a type's nullability, where it can be set, gives that nullability and changes nothing but nullabilities: the
+/// erased trees are equal. Of two settings the last decides.
 #[tactic(auto, using(crate::proofs::lemmas::Nullabilities::set_is, crate::proofs::lemmas::Nullabilities::set_keeps, crate::proofs::lemmas::Nullabilities::set_again))]
 pub fn nullability_is_set_alone()
     ensures sets { (t u : Tree) (n : Nullability) → SetNull t n u → nullability u ≡ n }
@@ -59,6 +59,13 @@ pub fn nullability_is_set_alone()
     ensures last_decides { (t u v : Tree) (m n : Nullability)
         → SetNull t m u → (SetNull u n v ↔ SetNull t n v) }
 {}
+
+/// `DType::BYTES` is the non-nullable `U8`.
+pub fn bytes_are_non_nullable_u8() -> DType
+    ensures { tree result ≡ primitive PType.U8 NonNullable }
+{
+    DType::BYTES
+}
 
 /// In a valid union `tag_to_child_index` returns a position for the tag that `child_index_to_tag` returns for that
 /// position.

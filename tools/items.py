@@ -21,6 +21,7 @@ TYPE = re.compile(r"(?m)^pub (struct|enum|trait) (\w+)[^{;(]*")
 CONSTANT = re.compile(r"(?m)^( *)pub const (\w+): ([^=;]+)")
 MACRO = re.compile(r"(?m)^#\[macro_export\]\nmacro_rules! (\w+) ")
 PART = re.compile(r"(?m)^    (?:pub )?(?:const |type )?(\w+)(\([^\n]*\)|: [^\n;]*|(?=[,;]))[,;]?$")
+ASSOCIATED = re.compile(r"(?m)^    ((?:const|type) \w+(?:: [^;=]*)?);")
 DERIVED = re.compile(r"#\[derive(?:_where)?\(([^)]*)\)\]")
 # The ghost members that say how a law is proved or how a model is kept.
 KEPT = re.compile(r"laws|respects_eq|typed|lawful|\w+_law|invariant|coded|view|inverse")
@@ -106,6 +107,10 @@ def types_in(file, text, code, names):
         derived = [name.strip() for found in DERIVED.findall(above) for name in found.split(",")]
         brace = code.find("{", it.end() - 1) if code[it.end():it.end() + 1] == "{" else -1
         parts = list(parts_in(text, code, brace, end_of(code, brace))) if brace > 0 and it[1] != "trait" else []
+        if it[1] == "trait":
+            begin = code.find("{", it.end() - 1)
+            parts = [(found[1], " ".join(comment_above(text, found.start())[0]))
+                     for found in ASSOCIATED.finditer(code, begin, end_of(code, begin))]
         if it[1] == "struct":
             parts = [(name, said) for name, said in parts if f"pub {name.split(':')[0]}:" in code[brace:]]
         yield Item(it[1], it[2], file, said, errors, "", [], sorted(set(derived) - {"Drop"}), parts, [])

@@ -55,7 +55,7 @@ pub fn names_are_equal_where_their_bytes_are()
 
 /// `==` of errors holds exactly where their kinds and all that they hold are the same.
 pub fn errors_are_equal_where_the_same()
-    ensures errors { (a b : VortexError) → Decides (⟦<VortexError as PartialEq>⟧.eq a b) (a ≡ b) }
+    ensures kinds { (a b : VortexError) → Decides (⟦<VortexError as PartialEq>⟧.eq a b) (a ≡ b) }
     ensures faults { (a b : MessageFault)
         → Decides (⟦<MessageFault as PartialEq>⟧.eq a b) (a ≡ b) }
 {}

@@ -4,5 +4,5 @@
 use Rattle.dtype_base.proofs.ErrorEquality.{errors_Decides}
 use Rattle.dtype_base.proofs.laws.errors_are_equal_where_the_same.Goals as goal
 
-pub returns-clause-errors : goal.returns-clause-errors
-returns-clause-errors c = errors_Decides
+pub returns-clause-kinds : goal.returns-clause-kinds
+returns-clause-kinds c = errors_Decides

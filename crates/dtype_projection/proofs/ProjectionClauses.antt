@@ -19,7 +19,7 @@ use Rattle.dtype_paths.specs.declared.field.Field.{Field}
 use Rattle.dtype_paths.proofs.lemmas.SetCovers.{covers_word}
 use Rattle.dtype_projection.specs.Projected.{projected}
 use Rattle.dtype_projection.specs.Restricted.{restricted}
-use Rattle.dtype_projection.proofs.lemmas.Kept.{kept_as_it_was, kept_overlaps, valid_kept}
+use Rattle.dtype_projection.proofs.lemmas.Kept.{kept_as_it_was, exists_in_kept, valid_kept}
 use Rattle.dtype_projection.proofs.lemmas.Projections.{kept_has_path, path_is_kept}
 use Rattle.dtype_projection.proofs.lemmas.Restrictions.{of_restricted}
 
@@ -40,9 +40,9 @@ module _ (t : Tree) (s : PathSet) where
   kept_clause None is = tt
   kept_clause (Some u) is = λ q c. let p = (covers_word s q).0 c in kept_as_it_was t (tree u) (set.contains s) p.0 q (sym is) p.1 p.2
 
-  pub only_clause : (r : Option DType) → IsProjection r → IfSome r (λ u. (q : List Field) → ExistsIn (tree u) q → ExistsIn t q × ((p : List Field) × IsTrue (set.contains s p) × Overlaps p q))
+  pub only_clause : (r : Option DType) → IsProjection r → IfSome r (λ u. (q : List Field) → (ExistsIn (tree u) q ↔ (ExistsIn t q × ((p : List Field) × IsTrue (set.contains s p) × ExistsIn t p × Overlaps p q))))
   only_clause None is = tt
-  only_clause (Some u) is = λ q e. let k = kept_overlaps q t (tree u) e.found (set.contains s) (sym is) e.at in (k.exists, (k.path, k.holds, k.overlaps))
+  only_clause (Some u) is = λ q. exists_in_kept t (tree u) (set.contains s) q (sym is)
 
   pub valid_clause : Valid t → (r : Option DType) → IsProjection r → IfSome r (λ u. Valid (tree u))
   valid_clause h None is = tt

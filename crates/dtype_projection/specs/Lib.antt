@@ -2,6 +2,7 @@
 -- SPDX-FileCopyrightText: Copyright the Vortex contributors
 
 pub mod Projected
+pub mod IsPart
 pub mod PathLists
 pub mod Restricted
 pub mod Merged

@@ -4,6 +4,7 @@
 // Theorems about the definitions. Each function's contract is the theorem, and its body is empty.
 ghost use Rattle.std.specs.Prelude.{◌≡◌, ◌↔◌, IsTrue, IsSome, List, Some};
 ghost use Rattle.std.specs.FinSet as set;
+ghost use Rattle.dtype_types.specs.nullability.Nullable.{nullability};
 ghost use Rattle.dtype_types.specs.tree.Tree.{Tree};
 ghost use Rattle.dtype_types.specs.tree.Valid.{Valid};
 ghost use Rattle.dtype_types.specs.values.Value.{Of, Value};
@@ -15,6 +16,7 @@ ghost use Rattle.dtype_paths.specs.Found.{Found};
 ghost use Rattle.dtype_paths.specs.Overlaps.{Overlaps};
 ghost use Rattle.dtype_paths.specs.PathOrder.{PathSet};
 ghost use Rattle.dtype_paths.specs.declared.field.Field.{Field};
+ghost use Rattle.dtype_projection.specs.IsPart.{IsLeastPart, IsPart};
 ghost use Rattle.dtype_projection.specs.Projected.{PathPredicate, projected};
 ghost use Rattle.dtype_projection.specs.Restricted.{restricted};
 
@@ -31,11 +33,34 @@ pub fn wanted_paths_resolve_as_before()
         → Beginning p q → along u q ≡ along t q }
 {}
 
-/// A path that exists in the projection exists in the original type, and it overlaps one of the paths: it leads to one
-/// of them, or lies below one.
+/// A path exists in the projection exactly where it exists in the original type and overlaps one of the paths that exist
+/// there: it leads to one of them, or lies below one.
 pub fn nothing_else_is_kept()
-    ensures { (t u : Tree) (w : PathPredicate) (q : List Field) → projected t w ≡ Some u → ExistsIn u q
-        → ExistsIn t q × ((p : List Field) × IsTrue (w p) × Overlaps p q) }
+    ensures { (t u : Tree) (w : PathPredicate) (q : List Field) → projected t w ≡ Some u
+        → (ExistsIn u q ↔ (ExistsIn t q × ((p : List Field) × IsTrue (w p) × ExistsIn t p × Overlaps p q))) }
+{}
+
+/// What a projection is, in other words than its definition: the least part of the type that has each of the paths as the
+/// type has it. A part leaves out fields of structs, at any depth, and changes nothing else. Where one of the paths
+/// exists, no other type is least, so the projection is this one.
+pub fn projections_are_least_parts()
+    ensures least { (t u : Tree) (w : PathPredicate) → projected t w ≡ Some u → IsLeastPart t w u }
+    ensures alone { (t u : Tree) (w : PathPredicate) (p : List Field) → IsTrue (w p) → ExistsIn t p
+        → IsLeastPart t w u → projected t w ≡ Some u }
+{}
+
+/// A path that exists in a part of a type leads there to a part of what it leads to in the type. Two types that are parts
+/// of each other are equal, and each type is its own part.
+pub fn paths_lead_to_parts()
+    ensures along { (t u y : Tree) (q : List Field) → IsPart t u → At u q y
+        → ((x : Tree) × At t q x × IsPart x y) }
+    ensures equal { (t u : Tree) → IsPart t u → IsPart u t → u ≡ t }
+    ensures itself { (t : Tree) → IsPart t t }
+{}
+
+/// The projection has the nullability of the original type.
+pub fn projections_keep_the_nullability()
+    ensures { (t u : Tree) (w : PathPredicate) → projected t w ≡ Some u → nullability u ≡ nullability t }
 {}
 
 /// The projection depends only on which existing paths of the type are covered. So a set and its least cover have the
@@ -64,11 +89,14 @@ pub fn projections_are_valid()
     ensures { (t u : Tree) (w : PathPredicate) → projected t w ≡ Some u → Valid t → Valid u }
 {}
 
-/// A value of the type, restricted to the paths, is a value of the projection, and below each of the paths that exists
-/// in the type the same is found in both. `beyond` is an example of where the premise is needed: a path that leads through
+/// The values of the projection are the values of the type, restricted to the paths: each restricted value is one, and of
+/// a valid type each is a restricted value. Below each of the paths that exists in the type the same is found in a value
+/// and in what it is restricted to. `beyond` is an example of where the premise is needed: a path that leads through
 /// an extension exists in no type, while a value has the storage's form, so what is found there may be dropped.
 pub fn values_are_restricted()
     ensures of { (t u : Tree) (w : PathPredicate) (v : Value) → projected t w ≡ Some u → Of v t → Of (restricted t w v) u }
+    ensures onto { (t u : Tree) (w : PathPredicate) (x : Value) → Valid t → projected t w ≡ Some u → Of x u
+        → ((v : Value) × Of v t × (restricted t w v ≡ x)) }
     ensures found { (t : Tree) (w : PathPredicate) (p q : List Field) (v x : Value) → IsTrue (w p) → ExistsIn t p
         → Beginning p q → Of v t → (Found v q x ↔ Found (restricted t w v) q x) }
     ensures beyond { (t u : Tree) × (w : PathPredicate) × (p : List Field) × (v x : Value) × (projected t w ≡ Some u)

@@ -56,9 +56,9 @@ pub fn project_paths(
         × ExistsIn (tree dtype.now) p)) }
     ensures kept { IfOk result (λ r. IfSome r (λ u. (q : List Field) → IsTrue (covers wanted.now q)
         → along (tree u) q ≡ along (tree dtype.now) q)) }
-    ensures only { IfOk result (λ r. IfSome r (λ u. (q : List Field) → ExistsIn (tree u) q
-        → ExistsIn (tree dtype.now) q
-        × ((p : List Field) × IsTrue (set.contains wanted.now p) × Overlaps p q))) }
+    ensures only { IfOk result (λ r. IfSome r (λ u. (q : List Field) → (ExistsIn (tree u) q
+        ↔ (ExistsIn (tree dtype.now) q × ((p : List Field) × IsTrue (set.contains wanted.now p)
+        × ExistsIn (tree dtype.now) p × Overlaps p q))))) }
     ensures valid { Valid (tree dtype.now) → IfOk result (λ r. IfSome r (λ u. Valid (tree u))) }
     ensures values { IfOk result (λ r. IfSome r (λ u. (v : Value) → Of v (tree dtype.now)
         → Of (restricted (tree dtype.now) (set.contains wanted.now) v) (tree u))) }

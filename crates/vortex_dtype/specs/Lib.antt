@@ -58,6 +58,7 @@ pub use Rattle.dtype_paths.specs.In
 pub use Rattle.dtype_paths.specs.Covering
 pub use Rattle.dtype_paths.specs.PathOrder
 pub use Rattle.dtype_projection.specs.Merged
+pub use Rattle.dtype_projection.specs.IsPart
 pub use Rattle.dtype_projection.specs.Projected
 pub use Rattle.dtype_projection.specs.Restricted
 pub use Rattle.dtype_base.specs.Distinct

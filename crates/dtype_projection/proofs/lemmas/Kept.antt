@@ -2,21 +2,21 @@
 -- SPDX-FileCopyrightText: Copyright the Vortex contributors
 
 -- How paths resolve in a projection, which paths exist in it, and that it is valid where the type is.
-use Rattle.std.proofs.Common.{◌≡◌, inl, inr, List, [], ◌∷◌, ◌++◌, true, Some, None, refl, sym, ap, subst, ◌∙◌}
+use Rattle.std.proofs.Common.{◌≡◌, ◌↔◌, inl, inr, List, [], ◌∷◌, ◌++◌, append-nil, true, Some, None, refl, sym, ap, subst, ◌∙◌}
 use Rattle.std.specs.Option.{option_and_then, option_map}
 use Rattle.std.proofs.lemmas.Option.{same_Some}
 use Rattle.dtype_base.specs.declared.nullability.Nullability.{Nullability}
 use Rattle.dtype_types.specs.tree.Tree.{Tree, Fields, no_fields, field, list, fixed_size_list, struct}
 use Rattle.dtype_types.specs.tree.Valid.{Valid, ValidFields}
 use Rattle.dtype_paths.specs.Along.{along}
-use Rattle.dtype_paths.proofs.lemmas.Walks.{along-At}
+use Rattle.dtype_paths.proofs.lemmas.Walks.{along-At, At-along}
 use Rattle.dtype_paths.specs.At.{At, ExistsIn, step}
 use Rattle.dtype_paths.specs.Beginning.{Beginning}
 use Rattle.dtype_paths.specs.Overlaps.{Overlaps}
 use Rattle.dtype_paths.specs.declared.field.Field.{Field}
 use Rattle.dtype_paths.specs.declared.field.Field.TheVariants.{Name, ElementType}
 use Rattle.dtype_paths.proofs.lemmas.Cases.{by_bool, by_option}
-use Rattle.dtype_paths.proofs.lemmas.Stepping.{beginning_exists}
+use Rattle.dtype_paths.proofs.lemmas.Stepping.{beginning_exists, beginning_exists_in}
 use Rattle.dtype_projection.specs.Projected.{PathPredicate, after_step, without_field, projected, projected_fields, struct_with, prepend_kept}
 use Rattle.dtype_projection.proofs.lemmas.Projections.{whole_kept, kept_list, kept_fixed, kept_struct, step_kept, kept_has_path, path_is_kept}
 
@@ -46,10 +46,11 @@ kept_as_it_was t u w p q e is b = subst (λ z. along u z ≡ along t z) (sym b.1
 
 -- ---- no other path exists in the projection
 
--- the path exists, and overlaps one of w
+-- the path exists, and overlaps one of w that exists
 pub record Overlapped (t : Tree) (w : PathPredicate) (q : List Field) : Type 0 where
   pub path : List Field
   pub holds : w path ≡ true
+  pub there : ExistsIn t path
   pub overlaps : Overlaps path q
   pub exists : ExistsIn t q
 
@@ -60,14 +61,27 @@ overlaps_on f p q (inr b) = inr (b.0, ap (λ z. f ∷ z) b.1)
 pub kept_overlaps : (q : List Field) (t u x : Tree) (w : PathPredicate) → projected t w ≡ Some u → At u q x → Overlapped t w q
 kept_overlaps [] t u x w e a =
     let l = kept_has_path t u w e in
-    record { path = l.path; holds = l.holds; overlaps = inr (l.path, refl); exists = record { found = t; at = refl } }
+    record { path = l.path; holds = l.holds; there = l.exists; overlaps = inr (l.path, refl); exists = record { found = t; at = refl } }
 kept_overlaps (f ∷ q) t u x w e a = by_bool (w [])
-    (λ root. record { path = []; holds = root; overlaps = inl (f ∷ q, refl); exists = record { found = x; at = subst (λ z. At z (f ∷ q) x) (sym (whole_kept t u w root e)) a } })
+    (λ root. record { path = []; holds = root; there = record { found = t; at = refl }; overlaps = inl (f ∷ q, refl); exists = record { found = x; at = subst (λ z. At z (f ∷ q) x) (sym (whole_kept t u w root e)) a } })
     (λ root. by_option (step t f)
     (λ none. let s = sym a.1 ∙ step_kept t u w f root e ∙ ap (option_and_then (λ x. projected x (after_step f w))) none in cc)
     (λ y at. let s = sym (sym a.1 ∙ step_kept t u w f root e ∙ ap (option_and_then (λ x. projected x (after_step f w))) at) in
     let r = kept_overlaps q y a.0 x (after_step f w) s a.2 in
-    record { path = f ∷ r.path; holds = r.holds; overlaps = overlaps_on f r.path q r.overlaps; exists = record { found = r.exists.found; at = (y, at, r.exists.at) } }))
+    record { path = f ∷ r.path; holds = r.holds; there = record { found = r.there.found; at = (y, at, r.there.at) }; overlaps = overlaps_on f r.path q r.overlaps; exists = record { found = r.exists.found; at = (y, at, r.exists.at) } }))
+
+-- and each path of the type that overlaps one that exists does
+overlapping_kept : (t u : Tree) (w : PathPredicate) (p q : List Field) → projected t w ≡ Some u → w p ≡ true → ExistsIn t p → Overlaps p q → ExistsIn t q → ExistsIn u q
+overlapping_kept t u w p q e is there (inl b) x = record { found = x.found; at = along-At u q x.found (kept_as_it_was t u w p q e is b ∙ At-along t q x.found x.at) }
+overlapping_kept t u w p q e is there (inr b) x =
+    beginning_exists_in u q p b (record { found = there.found; at = along-At u p there.found (kept_as_it_was t u w p p e is ([], sym (append-nil p)) ∙ At-along t p there.found there.at) })
+
+pub exists_in_kept : (t u : Tree) (w : PathPredicate) (q : List Field) → projected t w ≡ Some u
+    → ExistsIn u q ↔ (ExistsIn t q × ((p : List Field) × (w p ≡ true) × ExistsIn t p × Overlaps p q))
+exists_in_kept t u w q e = (
+  λ x. let r = kept_overlaps q t u x.found w e x.at in (r.exists, (r.path, r.holds, r.there, r.overlaps)),
+  λ x. overlapping_kept t u w x.1.0 q e x.1.1 x.1.2 x.1.3 x.0,
+)
 
 -- ---- the projection of a valid type is valid
 

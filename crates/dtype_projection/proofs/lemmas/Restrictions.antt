@@ -29,13 +29,13 @@ restricted_root (fixed_size_list t k n) w v e = rw e refl
 restricted_root (struct fs n) w v e = rw e refl
 restricted_root _ w v e = refl
 
-restricted_list : (t : Tree) (n : Nullability) (w : PathPredicate) (v : Value) → w [] ≡ false → restricted (list t n) w v ≡ each_item (restricted t (after_step ElementType w)) v
+pub restricted_list : (t : Tree) (n : Nullability) (w : PathPredicate) (v : Value) → w [] ≡ false → restricted (list t n) w v ≡ each_item (restricted t (after_step ElementType w)) v
 restricted_list t n w v e = rw e refl
 
-restricted_fixed : (t : Tree) (k : ℕ) (n : Nullability) (w : PathPredicate) (v : Value) → w [] ≡ false → restricted (fixed_size_list t k n) w v ≡ each_item (restricted t (after_step ElementType w)) v
+pub restricted_fixed : (t : Tree) (k : ℕ) (n : Nullability) (w : PathPredicate) (v : Value) → w [] ≡ false → restricted (fixed_size_list t k n) w v ≡ each_item (restricted t (after_step ElementType w)) v
 restricted_fixed t k n w v e = rw e refl
 
-restricted_struct : (fs : Fields) (n : Nullability) (w : PathPredicate) (v : Value) → w [] ≡ false → restricted (struct fs n) w v ≡ in_record (restricted_pairs fs w) v
+pub restricted_struct : (fs : Fields) (n : Nullability) (w : PathPredicate) (v : Value) → w [] ≡ false → restricted (struct fs n) w v ≡ in_record (restricted_pairs fs w) v
 restricted_struct fs n w v e = rw e refl
 
 -- ---- a restricted value is of the projection
@@ -44,7 +44,7 @@ of_each : (t u : Tree) (g : Value → Value) (vs : Values) → ((x : Value) → 
 of_each t u g no_values on h = tt
 of_each t u g (value v vs) on h = (on v h.0, of_each t u g vs on h.1)
 
-count_each : (g : Value → Value) (vs : Values) → value_count (each_value g vs) ≡ value_count vs
+pub count_each : (g : Value → Value) (vs : Values) → value_count (each_value g vs) ≡ value_count vs
 count_each g no_values = refl
 count_each g (value v vs) = ap suc (count_each g vs)
 

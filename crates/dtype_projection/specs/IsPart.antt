@@ -1,0 +1,38 @@
+-- SPDX-License-Identifier: Apache-2.0
+-- SPDX-FileCopyrightText: Copyright the Vortex contributors
+
+-- The parts of a type, and the least of them that has some paths: what a projection is, said without the recursion of
+-- `Projected`. A part is what a column reader can open of a stored type: a choice of its columns, which leaves the rest of
+-- the schema as it is stored (Parquet's projection masks). Of columns with equal names a path leads to the first
+-- (`step` of `dtype_paths`), so a choice that has a later one has the first.
+use Rattle.std.specs.Prelude.{◌≡◌, ◌⊎◌, IsTrue, List, None}
+use Rattle.dtype_types.specs.parts.Lookups.{first_named}
+use Rattle.dtype_types.specs.tree.Tree.{Tree, Fields, no_fields, field, pairs, list, fixed_size_list, struct}
+use Rattle.dtype_paths.specs.Along.{along}
+use Rattle.dtype_paths.specs.declared.field.Field.{Field}
+use Rattle.dtype_projection.specs.Projected.{PathPredicate}
+
+-- `IsPart t u`: u is t with fields of structs left out, at any depth. Kinds, sizes, nullabilities, and the names and the
+-- order of the fields that are left are those of t. Where a field is left out, the later ones of its name are too
+abbrev mutual
+  pub IsPart : Tree → Tree → Type 0
+  IsPart (list t n) u = (x : Tree) × (u ≡ list x n) × IsPart t x
+  IsPart (fixed_size_list t k n) u = (x : Tree) × (u ≡ fixed_size_list x k n) × IsPart t x
+  IsPart (struct fs n) u = (gs : Fields) × (u ≡ struct gs n) × IsPartOfFields fs gs
+  IsPart t u = u ≡ t
+
+  pub IsPartOfFields : Fields → Fields → Type 0
+  IsPartOfFields no_fields gs = gs ≡ no_fields
+  IsPartOfFields (field n t fs) gs =
+      ((u : Tree) × (rest : Fields) × (gs ≡ field n u rest) × IsPart t u × IsPartOfFields fs rest)
+      ⊎ (IsPartOfFields fs gs × (first_named (pairs gs) n ≡ None))
+
+-- along each of the paths u has what t has
+abbrev pub HasPaths : Tree → PathPredicate → Tree → Type 0
+HasPaths t w u = (p : List Field) → IsTrue (w p) → along u p ≡ along t p
+
+-- u is the least part of t that has the paths: it is a part of each other one
+pub record IsLeastPart (t : Tree) (w : PathPredicate) (u : Tree) : Type 0 where
+  pub part : IsPart t u
+  pub has : HasPaths t w u
+  pub least : (x : Tree) → IsPart t x → HasPaths t w x → IsPart x u

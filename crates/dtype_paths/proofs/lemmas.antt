@@ -12,3 +12,4 @@ pub mod SetMembers
 pub mod SetCovers
 pub mod Counts
 pub mod Covering
+pub mod PathsBelow

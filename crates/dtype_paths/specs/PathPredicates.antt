@@ -3,8 +3,11 @@
 
 -- Which paths are asked for, as a test of paths, and what they ask after a step. What a set asks for is its `contains`,
 -- and after a step that is a test again. So neither an order nor repeats of paths have to be left out of account.
-use Rattle.std.specs.Prelude.{List, [], ◌∷◌, Bool, false}
+use Rattle.std.specs.Prelude.{◌≡◌, ◌≢◌, ◌↔◌, ℕ, List, [], ◌∷◌, map, ◌||◌, Bool, false}
+use Rattle.std.specs.List.{Contains}
+use Rattle.dtype_base.specs.Distinct.{Distinct}
 use Rattle.dtype_paths.specs.declared.field.Field.{Field}
+use Rattle.dtype_paths.specs.declared.field.Field.TheVariants.{Name}
 
 -- which paths are asked for
 abbrev pub PathPredicate : Type 0
@@ -22,3 +25,14 @@ after_step f w p = w (f ∷ p)
 abbrev pub after_steps : List Field → PathPredicate → PathPredicate
 after_steps [] w = w
 after_steps (f ∷ p) w = after_steps p (after_step f w)
+
+-- some path that is asked for begins the path
+abbrev pub asks_above : PathPredicate → List Field → Bool
+asks_above w [] = w []
+asks_above w (f ∷ p) = w [] || asks_above (after_step f w) p
+
+-- the names by which paths go on, each once, and what is asked for after it
+pub record AreNames (w : PathPredicate) (ns : List (List ℕ × PathPredicate)) : Type 0 where
+  pub once : Distinct (map (λ e. e.0) ns)
+  pub exact : (n : List ℕ) → Contains (map (λ e. e.0) ns) n ↔ (after_step (Name n) w ≢ no_path)
+  pub each : (e : List ℕ × PathPredicate) → Contains ns e → e.1 ≡ after_step (Name e.0) w

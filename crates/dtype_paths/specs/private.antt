@@ -5,6 +5,7 @@
 pub mod PathLists
 pub mod StepKeys
 pub mod ChildLists
+pub mod ChildIters
 pub mod ChildTrees
 pub mod Children
 pub mod Trie

@@ -14,7 +14,7 @@ use crate::child_tree::ChildTree;
 use crate::entry::Entry;
 use dtype_base::VortexResult;
 use std::alloc::Global;
-use std::collections::HashMap;
+use std::collections::{HashMap, hash_map};
 use std::marker::Model;
 
 // The most children that are found by hash. The hash is unkeyed, so adversarial names can all collide: a lookup then
@@ -59,7 +59,8 @@ impl ChildMap {
 
     // How many children there are.
     pub(crate) fn len(&self) -> usize
-        ensures { result ≡ length self.now }
+        ensures count { result ≡ length self.now }
+        ensures once { IsDistinct same_field (keys_of self.now) }
     {
         self.node_indices.len()
     }
@@ -79,6 +80,14 @@ impl ChildMap {
     {
         self.node_indices.insert(step, node_index)?;
         Ok(())
+    }
+
+    // An iterator over the children.
+    pub(crate) fn iter(&self) -> hash_map::Iter<'_, Field, usize>
+        ensures children { result ≡ self.now }
+        ensures once { IsDistinct same_field (keys_of self.now) }
+    {
+        self.node_indices.iter()
     }
 
     // Appends the node indices of the children.

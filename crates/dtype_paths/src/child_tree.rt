@@ -3,12 +3,13 @@
 
 ghost use Rattle.std.specs.Prelude.{◌≡◌, ◌++◌, ℕ, [], length, Option, Some, IfErr, IsOkUnless, OnOk, IsTrue, false, if◌then◌else◌, MatchResult};
 ghost use Rattle.std.specs.BTreeMap.{is_at, values, IsOrdered};
+ghost use Rattle.std.specs.Iterator.{YieldsFirstBy};
 ghost use Rattle.std.specs.List.{IsDistinct};
 ghost use Rattle.std.specs.Map.{keys_of, lookup, values_of};
 ghost use Rattle.std.specs.Ordering.{nat_cmp};
 ghost use Rattle.dtype_base.specs.declared.vortex_error.VortexError.TheVariants.{OutOfMemory};
 ghost use Rattle.dtype_paths.specs.private.ChildTrees.{at_key, led_by, IsFirst, IsTaken};
-ghost use Rattle.dtype_paths.specs.private.Children.{entry_node, HasKnownKey};
+ghost use Rattle.dtype_paths.specs.private.Children.{borrowed_entry, entry_node, HasKnownKey};
 ghost use Rattle.dtype_paths.specs.Equality.{same_field};
 ghost use Rattle.dtype_paths.specs.private.StepKeys.{step_key, IsKnownKey};
 ghost use Rattle.dtype_paths.specs.declared.field.Field.{Field};
@@ -18,7 +19,7 @@ use crate::entry::Entry;
 use crate::step_key::{known_key, step_key_of};
 use dtype_base::VortexResult;
 use std::alloc::Global;
-use std::collections::BTreeMap;
+use std::collections::{BTreeMap, btree_map};
 use std::marker::Model;
 
 /// Children in two B-trees. The first has one step of each key, by its key; the second has the other steps, in their
@@ -69,7 +70,8 @@ impl ChildTree {
 
     // How many children there are.
     pub(crate) fn len(&self) -> usize
-        ensures { result ≡ length self.now }
+        ensures count { result ≡ length self.now }
+        ensures once { IsDistinct same_field (keys_of self.now) }
     {
         self.by_key.len() + self.by_step.len()
     }
@@ -93,6 +95,17 @@ impl ChildTree {
             put_at_key(&mut self.by_key, key, step, node_index)?;
         }
         Ok(())
+    }
+
+    // An iterator over the children.
+    pub(crate) fn iter(&self) -> ChildTreeIter<'_>
+        ensures children { result ≡ self.now }
+        ensures once { IsDistinct same_field (keys_of self.now) }
+    {
+        ChildTreeIter {
+            by_key: self.by_key.values(),
+            by_step: self.by_step.iter(),
+        }
     }
 
     // Appends the node indices of the children.
@@ -119,6 +132,35 @@ impl ChildTree {
             copy.insert(step.try_clone(alloc)?, None, *node_index)?;
         }
         Ok(copy)
+    }
+}
+
+/// The children in two B-trees that are left.
+#[derive(Drop)]
+pub(crate) struct ChildTreeIter<'a> {
+    by_key: btree_map::Values<'a, u64, (Field, usize)>,
+    by_step: btree_map::Iter<'a, Field, usize>,
+}
+
+impl<'a> Model for ChildTreeIter<'a> {
+    ghost use Rattle.std.specs.Prelude.{ℕ, List, ◌++◌};
+    ghost use Rattle.dtype_paths.specs.declared.field.Field.{Field};
+
+    ghost Value = { List (Field × ℕ) };
+
+    ghost view = { λ it. it.by_key ++ it.by_step };
+}
+
+impl<'a> ChildTreeIter<'a> {
+    // The next step and the index of the node that it leads to.
+    pub(crate) fn next(&mut self) -> Option<(&'a Field, usize)>
+        ensures { YieldsFirstBy borrowed_entry (λ left. left) self.old result self.new }
+    {
+        if let Some((step, node_index)) = self.by_key.next() {
+            return Some((step, *node_index));
+        }
+        let (step, node_index) = self.by_step.next()?;
+        Some((step, *node_index))
     }
 }
 

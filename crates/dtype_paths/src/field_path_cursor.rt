@@ -1,16 +1,16 @@
 // SPDX-License-Identifier: Apache-2.0
 // SPDX-FileCopyrightText: Copyright the Vortex contributors
 
-ghost use Rattle.std.specs.Prelude.{◌≡◌, ◌↔◌, [], IsTrue, None};
+ghost use Rattle.std.specs.Prelude.{◌≡◌, ◌↔◌, ℕ, List, [], length, IsTrue, None};
 ghost use Rattle.std.specs.FinSet as set;
 ghost use Rattle.dtype_paths.specs.PathOrder.{set_of};
-ghost use Rattle.dtype_paths.specs.PathPredicates.{after_step, no_path};
-ghost use Rattle.dtype_paths.specs.private.Reached.{IsReached};
+ghost use Rattle.dtype_paths.specs.PathPredicates.{after_step, no_path, AreNames, PathPredicate};
+ghost use Rattle.dtype_paths.specs.private.Reached.{ends_below, IsReached};
 ghost use Rattle.dtype_paths.specs.private.Trie.{terminals};
 ghost use Rattle.dtype_paths.specs.declared.field.Field.TheVariants.{ElementType};
 
-use crate::Field;
 use crate::trie::Trie;
+use crate::{CursorNames, Field};
 
 /// A place in a set of paths that its reader steps into: what the set asks for after some steps.
 ///
@@ -24,7 +24,16 @@ pub struct FieldPathCursor<'a> {
 }
 
 impl<'a> FieldPathCursor<'a> {
-    ghost use Rattle.dtype_paths.specs.Cursors.{asks, asks_if};
+    ghost use Rattle.dtype_paths.specs.Cursors.{asks, asks_if, names_left};
+
+    // At this node, which some path leads to.
+    #[tactic(auto, unfolding(crate::specs::Cursors::asks))]
+    pub(crate) fn at(trie: &'a Trie, node_index: usize) -> Self
+        requires { IsReached trie.now node_index }
+        ensures { asks result ≡ ends_below trie.now node_index }
+    {
+        FieldPathCursor { trie, node_index }
+    }
 
     // At the root of the trie.
     #[tactic(auto, unfolding(crate::specs::Cursors::asks))]
@@ -71,5 +80,22 @@ impl<'a> FieldPathCursor<'a> {
         ensures none { (result ≡ None) ↔ (after_step ElementType (asks self.now) ≡ no_path) }
     {
         self.step(&Field::ElementType)
+    }
+
+    /// Returns an iterator over the names by which paths of the set go on from here, each once, with the cursor after it, in
+    /// no promised order.
+    #[tactic(auto, unfolding(crate::specs::Cursors::asks))]
+    pub fn names(&self) -> CursorNames<'a>
+        ensures { AreNames (asks self.now) (names_left result) }
+    {
+        CursorNames::new(self.trie, self.node_index)
+    }
+
+    /// Returns the number of names by which paths of the set go on from here. It is known without a look at them.
+    #[tactic(auto, unfolding(crate::specs::Cursors::asks))]
+    pub fn name_count(&self) -> usize
+        ensures { (ns : List (List ℕ × PathPredicate)) × AreNames (asks self.now) ns × (length ns ≡ result) }
+    {
+        self.trie.name_count(self.node_index)
     }
 }

@@ -5,6 +5,7 @@
 ghost use Rattle.std.specs.Prelude.{◌≡◌, ◌↔◌, IsTrue, List, Some, ◌++◌};
 ghost use Rattle.std.specs.FinSet as set;
 ghost use Rattle.dtype_paths.specs.PathOrder.{PathSet, set_of};
+ghost use Rattle.dtype_paths.specs.PathPredicates.{PathPredicate, after_steps, asks_above};
 ghost use Rattle.std.specs.List.{Any, Contains, starts_with};
 ghost use Rattle.dtype_types.specs.tree.Tree.{Tree};
 ghost use Rattle.dtype_types.specs.tree.Valid.{Valid};
@@ -136,4 +137,12 @@ pub fn a_path_is_covered_where_it_starts_with_one(paths: &[FieldPath], path: &Fi
 pub fn a_list_has_the_members_of_its_set()
     ensures { (ps : List (List Field)) (s : PathSet) (q : List Field) → set_of ps ≡ s
         → (Contains ps q ↔ IsTrue (set.contains s q)) }
+{}
+
+/// What is asked for after some steps are the suffixes of the paths that begin with these steps. So a path is in a set
+/// exactly where the set asks for the root after its steps, and it is covered exactly where the set does so on the way.
+#[tactic(auto, using(crate::proofs::lemmas::PathsBelow::asked_after, crate::proofs::lemmas::PathsBelow::covered_on_the_way))]
+pub fn a_set_is_stepped_into()
+    ensures after { (w : PathPredicate) (p q : List Field) → after_steps p w q ≡ w (p ++ q) }
+    ensures covers { (s : PathSet) (q : List Field) → covers s q ≡ asks_above (set.contains s) q }
 {}

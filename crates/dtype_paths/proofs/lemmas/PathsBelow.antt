@@ -1,0 +1,73 @@
+-- SPDX-License-Identifier: Apache-2.0
+-- SPDX-FileCopyrightText: Copyright the Vortex contributors
+
+-- Lemmas on what is asked for after some steps. For callers' proofs `stepping_into` names them in one line:
+--     #![tactic(auto, using(dtype_paths::proofs::lemmas::PathsBelow::stepping_into))]
+use Rattle.std.proofs.Common.{◌≡◌, ◌≢◌, ◌∙◌, ℕ, List, [], ◌∷◌, ◌++◌, Bool, true, false, ◌||◌, Option, Some, None, IsTrue, map, arith, refl, sym, ap, subst, ⊎_elim}
+use Rattle.std.proofs.lemmas.Bool.{or_cases, or_left, or_right}
+use Rattle.std.proofs.lemmas.Bool.Decides.{same_from_decides}
+use Rattle.std.specs.Bool.{Decides}
+use Rattle.std.specs.FinSet as set
+use Rattle.std.specs.List.{Contains}
+use Rattle.dtype_paths.specs.Beginning.{Beginning}
+use Rattle.dtype_paths.specs.Covering.{covers}
+use Rattle.dtype_paths.specs.PathOrder.{PathSet}
+use Rattle.dtype_paths.specs.PathPredicates.{PathPredicate, after_step, after_steps, asks_above, no_path, AreNames}
+use Rattle.dtype_paths.specs.declared.field.Field.{Field}
+use Rattle.dtype_paths.specs.declared.field.Field.TheVariants.{Name}
+use Rattle.dtype_paths.proofs.lemmas.SetCovers.{covers_word}
+
+pub asked_after : (w : PathPredicate) (p q : List Field) → after_steps p w q ≡ w (p ++ q)
+asked_after w [] q = refl
+asked_after w (f ∷ p) q = asked_after (after_step f w) p q
+
+-- some path that is asked for begins q
+abbrev Above : PathPredicate → List Field → Type 0
+Above w q = (p : List Field) × IsTrue (w p) × Beginning p q
+
+above_step : (w : PathPredicate) (f : Field) (q : List Field) → Above (after_step f w) q → Above w (f ∷ q)
+above_step w f q a = (f ∷ a.0, a.1, (a.2.0, ap (λ r. f ∷ r) a.2.1))
+
+asks_above-Decides : (w : PathPredicate) (q : List Field) → Decides (asks_above w q) (Above w q)
+asks_above-Decides w [] = (λ h. ([], h, ([], refl)), λ a. at a.0 a.1 a.2)
+  where
+    at : (p : List Field) → IsTrue (w p) → Beginning p [] → w [] ≡ true
+    at [] h b = h
+    at (g ∷ p) h b = let no : [] ≡ g ∷ (p ++ b.0) = b.1 in absurd (cc)
+asks_above-Decides w (f ∷ q) =
+    let d = asks_above-Decides (after_step f w) q in (
+      λ h. ⊎_elim (λ e. ([], e, (f ∷ q, refl))) (λ e. above_step w f q (d.0 e)) (or_cases (w []) (asks_above (after_step f w) q) h),
+      λ a. at a.0 a.1 a.2 d,
+    )
+  where
+    at : (p : List Field) → IsTrue (w p) → Beginning p (f ∷ q) → Decides (asks_above (after_step f w) q) (Above (after_step f w) q) → (w [] || asks_above (after_step f w) q) ≡ true
+    at [] h b d = or_left (w []) (asks_above (after_step f w) q) h
+    at (g ∷ p) h b d =
+        let e : f ∷ q ≡ g ∷ (p ++ b.0) = b.1 in
+        let is : g ≡ f = cc in let rest : q ≡ p ++ b.0 = cc in
+        or_right (w []) (asks_above (after_step f w) q) (d.1 (p, ap (λ k. w (k ∷ p)) (sym is) ∙ h, (b.0, rest)))
+
+-- a set covers a path exactly where one of its paths ends on the way
+pub covered_on_the_way : (s : PathSet) (q : List Field) → covers s q ≡ asks_above (set.contains s) q
+covered_on_the_way s q =
+    let c = covers_word s q in
+    same_from_decides _ _ (c.0, c.1) (asks_above-Decides (set.contains s) q)
+
+-- where nothing is asked for, no path is
+pub nothing_asked : (w : PathPredicate) (q : List Field) → w ≡ no_path → w q ≡ false
+nothing_asked w q e = ap (λ (v : PathPredicate). v q) e
+
+-- the names by which paths go on, by the first of them
+pub first_named : (w : PathPredicate) (ns rest : List (List ℕ × PathPredicate)) (e : List ℕ × PathPredicate) → AreNames w ns → ns ≡ e ∷ rest → after_step (Name e.0) w ≢ no_path
+first_named w ns rest e a is = (a.exact e.0).0 (subst (λ es. Contains (map (λ (d : List ℕ × PathPredicate). d.0) es) e.0) (sym is) (0, omega arith, refl))
+
+pub none_named : (w : PathPredicate) (ns : List (List ℕ × PathPredicate)) (n : List ℕ) → AreNames w ns → ns ≡ [] → after_step (Name n) w ≡ no_path
+none_named w ns n a is = λ i p. go p (w (Name n ∷ p)) refl i
+  where
+    go : (p : List Field) (b : Bool) → w (Name n ∷ p) ≡ b → w (Name n ∷ p) ≡ false
+    go p false e = e
+    go p true e =
+        let c = (a.exact n).1 (λ z. let no : true ≡ false = sym e ∙ ap (λ (v : PathPredicate). v p) z in cc) in
+        let none = subst (λ es. Contains (map (λ (d : List ℕ × PathPredicate). d.0) es) n) is c in absurd (omega (arith, none.1))
+
+pub ruleset stepping_into = (asked_after, covered_on_the_way, nothing_asked, first_named, none_named)

@@ -150,6 +150,18 @@ class LivingSet:
         words = ("setcontains", paths_words(self.items), path_words(item))
         self.r.state(f"{self.start}contains {c.path(item)}", lambda: self.r.original.word(*words))
 
+    def below(self, steps):
+        """The original has no such call: a plain model answers."""
+        asked = projections.asked_after(self.items, steps)
+        if steps and not asked:
+            return self.r.state(f"{self.start}below {c.path(steps)}", "none")
+        firsts = {rest[0] for rest in asked if rest}
+        further = {rest[0] for rest in asked if len(rest) > 1}
+        texts = [c.name(step) + ("." if step in further else "") for step in firsts if step is not ELEMENT]
+        words = ["nothing"] * (not asked) + ["end"] * (() in asked) + ["[]"] * (ELEMENT in firsts)
+        words += [str(len(texts)), *sorted(texts, key=str.encode)]
+        self.r.state(f"{self.start}below {c.path(steps)}", " ".join(words))
+
     def gives(self, command):
         """`iter`, `cover` or `drain`, which leaves no set."""
         asked = "setiter" if command == "iter" else "cover"

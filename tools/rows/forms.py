@@ -60,7 +60,7 @@ def unreadable(r):
     r.comment("A line that ends too early: the arguments, where it has none.")
     for line, expected in {
         "type {": "a name", "names_len": "NAMES", "name": "NAME", "resolve": "PATH T", "find   # no name, and no struct": "NAME S",
-        "set": "NAME new|insert PATH|extend PATH..|contains PATH|iter|cover|drain",
+        "set": "NAME new|insert PATH|extend PATH..|contains PATH|below PATH|iter|cover|drain",
         "session": "NAME new|register PLUGIN|allow_unknown",
     }.items():
         end = line.index("#") if "#" in line else len(line)

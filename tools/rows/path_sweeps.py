@@ -165,6 +165,19 @@ def living_sets(r):
     other.gives("drain")
     lives.new()
     lives.gives("iter")
+    r.comment("What a set asks for after some steps: whether a path ends there, and the steps by which others go on.")
+    lives.below(())
+    lives.below(("a",))
+    lives.extend([("a", "b"), ("a", "c", "d"), ("a", "c", E), ("x",), ("x", "y z"), (E, "b"), ("a", E)])
+    for steps in [(), ("a",), ("a", "b"), ("a", "c"), ("a", "c", "d"), ("a", "c", E), ("a", "z"), ("x",), ("x", "y z"), ("z",),
+                  (E,), (E, "b"), (E, E), ("a", E), ("a", "b", "c"), ("[]",)]:
+        lives.below(steps)
+    lives.insert(())
+    lives.below(())
+    lives.extend([("a", str(i)) for i in range(20)] + [("a", "3", "deep")])
+    for steps in [("a",), ("a", "3"), ("a", "19"), ("a", "20")]:
+        lives.below(steps)
+    lives.new()
 
 
 def messages_of(children_of):

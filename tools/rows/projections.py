@@ -48,3 +48,8 @@ def project(t, paths):
     """The projection of a type to paths, None where no path exists in it."""
     marks = {position(t, path) for path in paths} - {None}
     return rebuild(t, (), marks) if marks else None
+
+
+def asked_after(paths, steps):
+    """The rests of the paths that begin with these steps: what a set of these paths asks for after them."""
+    return {tuple(path[len(steps):]) for path in paths if tuple(path[: len(steps)]) == tuple(steps)}

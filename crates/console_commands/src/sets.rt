@@ -25,6 +25,6 @@ const ROWS: [Row; 6] = [
     Row("cover_counted", "PATH..", "a.b x a a.c", Sets(SetCommand::CoverCounted)),
     Row("members", "PATH..", "a.b a x", Sets(SetCommand::Members)),
     Row("contains", "PATH PATH..", "a a.b x", Sets(SetCommand::Contains)),
-    Row("set", "NAME new|insert PATH|extend PATH..|contains PATH|iter|cover|drain", "s insert a.b", NamedSet),
+    Row("set", "NAME new|insert PATH|extend PATH..|contains PATH|below PATH|iter|cover|drain", "s insert a.b", NamedSet),
     Row("project_paths", "T PATH..", "{a=list({b=u32, c=utf8})?, d=bool} a.[].b", ProjectPaths),
 ];

@@ -152,7 +152,8 @@ fn text_of(alloc: Global, path: &FieldPath) -> ConsoleResult<String> {
     Ok(text)
 }
 
-fn say_sorted(call: &mut Call<'_>, mut texts: Vec<String>) -> ConsoleResult<()> {
+/// Adds texts to the answer, in the order of their bytes.
+pub fn say_sorted(call: &mut Call<'_>, mut texts: Vec<String>) -> ConsoleResult<()> {
     texts.sort()?;
     for text in texts {
         call.say(text)?;

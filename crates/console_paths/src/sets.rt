@@ -2,11 +2,11 @@
 // SPDX-FileCopyrightText: Copyright the Vortex contributors
 
 // Commands on sets of paths, and the sets with a name, which last from line to line.
-use crate::forms::{Path, Paths, say_borrowed_paths, say_paths};
+use crate::forms::{Path, Paths, say_borrowed_paths, say_paths, say_sorted};
 use console_commands::SetCommand;
-use console_types::{Call, ConsoleResult, unless};
+use console_types::{Call, ConsoleResult, unless, write_name};
 use dtype_base::FieldName;
-use dtype_paths::FieldPathSet;
+use dtype_paths::{FieldPathCursor, FieldPathSet};
 use std::alloc::Global;
 use std::mem;
 
@@ -111,6 +111,7 @@ fn change(call: &mut Call<'_>, set: &mut FieldPathSet) -> ConsoleResult<()> {
         "extend" => extend(call, set),
         "contains" => contains_last(call, set),
         "iter" => iter(call, set),
+        "below" => below(call, set),
         "cover" => cover_copy(call, set),
         "drain" => drain(call, set),
         _ => Err(call.line.expected("a command on a set")),
@@ -141,6 +142,48 @@ fn contains_last(call: &mut Call<'_>, set: &FieldPathSet) -> ConsoleResult<()> {
 fn iter(call: &mut Call<'_>, set: &FieldPathSet) -> ConsoleResult<()> {
     call.end()?;
     say_members(call, set)
+}
+
+// What the set asks for after the steps of a path, or `none`.
+fn below(call: &mut Call<'_>, set: &FieldPathSet) -> ConsoleResult<()> {
+    let Path(path) = call.last()?;
+    let mut here = set.cursor();
+    for step in path.parts() {
+        let Some(next) = here.step(step) else {
+            return call.say("none");
+        };
+        here = next;
+    }
+    say_asked(call, &here)
+}
+
+// `end` where a path ends, `[]` where one goes on with the element, and how many names go on and which, in order.
+fn say_asked(call: &mut Call<'_>, here: &FieldPathCursor<'_>) -> ConsoleResult<()> {
+    call.say_some_words(&[
+        ("nothing", here.is_empty()),
+        ("end", here.is_end()),
+        ("[]", here.element().is_some()),
+    ])?;
+    call.say(here.name_count())?;
+    let mut texts = Vec::new(call.alloc);
+    for (name, below) in here.names() {
+        texts.push(named_text(call.alloc, name, &below)?)?;
+    }
+    say_sorted(call, texts)
+}
+
+// A name by which paths go on, with a dot after it where one goes on further.
+fn named_text(
+    alloc: Global,
+    name: &FieldName,
+    below: &FieldPathCursor<'_>,
+) -> ConsoleResult<String> {
+    let mut text = String::new(alloc);
+    write_name(&mut text, name)?;
+    if below.element().is_some() || below.name_count() > 0 {
+        text.push('.')?;
+    }
+    Ok(text)
 }
 
 fn cover_copy(call: &mut Call<'_>, set: &FieldPathSet) -> ConsoleResult<()> {

@@ -23,6 +23,8 @@ pub fn tell(rt: &(impl Print + Eprint), alloc: Global) -> Result<()> {
     println!(rt; "no allocation: resolution: {is_right}")?;
     let is_right = path_sets(rt, alloc)?;
     println!(rt; "no allocation: path sets: {is_right}")?;
+    let is_right = cursors(rt, alloc)?;
+    println!(rt; "no allocation: cursors: {is_right}")?;
     let is_right = masks(rt, alloc)?;
     println!(rt; "no allocation: masks: {is_right}")?;
     Ok(())
@@ -92,6 +94,22 @@ fn path_sets(rt: &impl Eprint, alloc: Global) -> VortexResult<bool> {
     let path = path(alloc, "a.b")?;
     begin(rt);
     let is_right = set.contains(&path) && !FieldPathSet::new(alloc).contains(&path);
+    end(rt);
+    Ok(is_right)
+}
+
+fn cursors(rt: &impl Eprint, alloc: Global) -> VortexResult<bool> {
+    let set = set(alloc, "a.b a.[] x")?;
+    let step = Field::from_text(alloc, "a")?;
+    begin(rt);
+    let root = set.cursor();
+    let below = root.step(&step);
+    let is_right = !root.is_end()
+        && !root.is_empty()
+        && root.element().is_none()
+        && root.name_count() == 2
+        && root.names().count() == 2
+        && below.is_some_and(|it| it.element().is_some());
     end(rt);
     Ok(is_right)
 }

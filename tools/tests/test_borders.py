@@ -15,7 +15,7 @@ SPEC = "crates/dtype_types/specs/Widths.antt"
 
 class Borders(Planted):
     def test_tells_nothing_of_sound_sources(self):
-        self.assertEqual(self.run_tool("borders"), (0, "15 passed, 0 failed\n"))
+        self.assertEqual(self.run_tool("borders"), (0, "16 passed, 0 failed\n"))
 
     def test_refuses_each_mutation(self):
         for name in sorted(os.listdir(f"{HERE}/mutations")):

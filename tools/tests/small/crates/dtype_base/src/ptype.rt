@@ -4,7 +4,9 @@
 use std::fmt;
 
 impl PType {
-    pub fn max_value_as_u64(self) -> u64 {
+    pub fn max_value_as_u64(self) -> u64
+        ensures { result ≡ greatest self }
+    {
         u64::MAX
     }
 }

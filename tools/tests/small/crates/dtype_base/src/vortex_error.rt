@@ -4,6 +4,7 @@
 use std::alloc::{AllocError, AllocFailed};
 
 pub enum VortexError {
+    /// 0: an allocation failed.
     #[error("out of memory")]
     OutOfMemory,
 }

@@ -1,0 +1,7 @@
+// SPDX-License-Identifier: Apache-2.0
+// SPDX-FileCopyrightText: Copyright the Vortex contributors
+
+//! A small library.
+pub use dtype_base::{FieldName, PType};
+
+pub mod laws;

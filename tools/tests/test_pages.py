@@ -1,0 +1,83 @@
+# SPDX-License-Identifier: Apache-2.0
+# SPDX-FileCopyrightText: Copyright the Vortex contributors
+
+"""tools/pages, with what it checks by ledger.py, runs.py, claims.py, speed.py and tools/reference."""
+import unittest
+
+from planted import Planted
+
+LEDGER = "docs/PROMISES.md"
+NAME = "crates/dtype_base/src/field_name.rt"
+
+
+class Pages(Planted):
+    def setUp(self):
+        super().setUp()
+        self.write("tools/data/run_by", "FieldName::new: console name\n")
+        self.run_tool("reference")
+        self.run_tool("draw_speed")
+
+    def told(self, tool, *arguments):
+        return [it for it in super().told(tool, *arguments) if not it.startswith(("pages: words", "pages: note"))]
+
+    def test_tells_nothing_of_sound_pages(self):
+        self.assertEqual(self.told("pages"), [])
+
+    def test_tells_code_that_no_source_has(self):
+        self.write("README.md", self.read("README.md") + "\n```rust\nlet gone = FieldName::gone();\n```\n")
+        self.assert_told("pages", "README.md:5: no source has this block")
+
+    def test_tells_a_page_that_is_too_long(self):
+        self.write("docs/TRUST.md", "# Trust\n" + "word " * 900)
+        self.assert_told("pages", "docs/TRUST.md: 902 words, where it may have 900")
+
+    def test_tells_a_link_that_leads_nowhere(self):
+        self.write("docs/TRUST.md", "# Trust\n\n[there](GONE.md) and [here](GUIDE.md#gone)\n")
+        self.assert_told("pages", "docs/TRUST.md: there is no GONE.md")
+        self.assert_told("pages", "docs/TRUST.md: docs/GUIDE.md has no heading #gone")
+
+    def test_tells_an_error_without_a_line(self):
+        self.change("docs/GUIDE.md", "| 0 |", "| 1 |")
+        self.assert_told("pages", "docs/GUIDE.md: lacks error 0, OutOfMemory")
+
+    def test_tells_a_command_without_a_line(self):
+        self.change("docs/CONSOLE.md", "`name NAME`", "")
+        self.assert_told("pages", "docs/CONSOLE.md: lacks the command name NAME")
+
+    def test_tells_what_the_ledger_names_and_is_not_there(self):
+        for old, new, fault in (
+            ("FieldName::new: ok", "FieldName::new: sound", "FieldName::new has no clause sound"),
+            ("FieldName::new: sound", "FieldName::old: ok", "there is no public call FieldName::old"),
+            ("laws::names_are_bytes", "laws::names_are_texts", "there is no law dtype_base::laws::names_are_texts"),
+            ("wrong/names_are_empty", "wrong/gone", "there is no mutation dtype_base/wrong/gone"),
+            ("console: A name.", "console: Two names.", "there is no golden test 'Two names.'"),
+        ):
+            self.change(LEDGER, old, new)
+            self.assert_told("pages", f"{LEDGER}:5: {fault}")
+
+    def test_tells_what_stands_in_no_line(self):
+        self.change("crates/dtype_base/src/ptype.rt", "impl PType {", "impl PType {\n    pub fn number(self) -> u8 {\n        0\n    }\n")
+        self.assert_told("pages", f"{LEDGER}: the call PType::number stands in no line")
+
+    def test_tells_a_call_that_nothing_runs(self):
+        self.write("tools/data/run_by", "")
+        self.assert_told("pages", "tools/data/run_by: FieldName::new, which allocates, isn't listed")
+        self.write("tools/data/run_by", "FieldName::new: console names\n")
+        self.assert_told("pages", "there is no golden test of names")
+        self.write("tools/data/run_by", "FieldName::new: console name\nFieldName::gone: console name\n")
+        self.assert_told("pages", "FieldName::gone: is no public call that allocates")
+        self.write("tools/data/run_by", "FieldName::new: console name\n")
+        self.change("crates/console_commands/src/names.rt", "FieldName::new(alloc, text)", "text")
+        self.assert_told("pages", "the console makes no call of new")
+
+    def test_tells_a_reference_that_is_stale(self):
+        self.change(NAME, "/// The name of a field.", "/// A name.")
+        self.assert_told("pages", "docs/reference/dtype_base.md: isn't of these sources")
+
+    def test_tells_a_summary_that_is_stale(self):
+        self.change("docs/benchmarks.csv", "find/wide/10,20,10", "find/wide/10,30,10")
+        self.assert_told("pages", "docs/BENCHMARKS.md: ")
+
+
+if __name__ == "__main__":
+    unittest.main()

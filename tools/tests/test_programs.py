@@ -1,0 +1,218 @@
+# SPDX-License-Identifier: Apache-2.0
+# SPDX-FileCopyrightText: Copyright the Vortex contributors
+
+"""The tools that run `rt` or a program, over an `rt` and programs that do as they are told."""
+import os
+import shutil
+import subprocess
+import sys
+import unittest
+
+from planted import TOOLS, Planted
+
+
+
+class Repository(Planted):
+    def test_tells_the_crates_below(self):
+        self.assertEqual(self.run_tool("repository.py", "below", "dtype_paths"),
+                         (0, "dtype_base: \ndtype_types: dtype_base\ndtype_paths: dtype_base dtype_types\n"))
+
+    def test_finds_rt_on_the_path(self):
+        self.script("rt", "")
+        self.assertEqual(self.run_tool("repository.py", "rt"), (0, f"{self.top}/bin/rt\n"))
+
+    def test_refuses_a_crate_that_is_not_there(self):
+        self.assertEqual(self.run_tool("repository.py", "below", "nothing")[0], 2)
+
+
+class Tries(Planted):
+    def setUp(self):
+        super().setUp()
+        self.write("crates/dtype_tests/src/lib.rt", "#[test]\nfn one() {}\n")
+
+    def test_counts_what_passes(self):
+        self.script("rt", 'case "$*" in *--test*) echo "test result: ok. 2 passed; 0 failed";; esac')
+        self.assertEqual(self.run_tool("tries", "dtype_tests", "dtype_demo")[1].splitlines()[-1], "3 passed, 0 failed")
+
+    def test_tells_a_test_that_fails(self):
+        self.script("rt", 'echo "test two ... FAILED"; echo "test result: FAILED. 1 passed; 1 failed"')
+        self.assert_told("tries", "tries: dtype_tests: test two ... FAILED", "dtype_tests")
+
+    def test_tells_a_crate_without_a_result(self):
+        self.script("rt", "echo no such thing")
+        self.assert_told("tries", "the tests of dtype_tests have no result", "dtype_tests")
+
+    def test_tells_a_program_that_writes_something_else(self):
+        self.write("crates/dtype_demo/stdout", "right\n")
+        self.script("rt", "echo wrong")
+        self.assert_told("tries", "dtype_demo: status 0; where its output differs", "dtype_demo")
+
+
+class RunCi(Planted):
+    def run_with(self, *lines):
+        self.script("rt", "\n".join(f"echo '{it}'" for it in lines) + "\nexit 1")
+        return self.run_tool("run_ci", f"{self.top}/log")
+
+    def test_tells_a_crate_that_is_not_proved(self):
+        status, said = self.run_with("== dtype_base", "fn f: not proved: x", "rt: dtype_base NOT PROVED", "7 passed, 1 failed")
+        self.assertIn("dtype_base: NOT PROVED (8 crates and 0 mutations left)", said)
+        self.assertIn("    fn f: not proved: x", said)
+        self.assertEqual((status, said.splitlines()[-1]), (1, "7 passed, 1 failed"))
+
+    def test_counts_a_failure_where_the_last_line_lacks(self):
+        self.assertIn("0 passed, 1 failed", self.run_with("rt: dtype_base proved")[1])
+
+
+class RunProgram(Planted):
+    def test_runs_what_was_proved_of_these_sources_alone(self):
+        self.write("crates/dtype_demo/out/dtype_demo", "#!/bin/sh\necho proved\n", 0o755)
+        self.script("rt", 'cat >/dev/null; echo unproved; echo "run=ended " >&2')
+        self.assertEqual(self.run_tool("run_program", "demo", "dtype_demo", "paths", "--keep")[0], 0)
+        self.assertEqual(self.run_tool("run_program", "demo", "dtype_demo", "paths")[1], "proved\n")
+        self.write("crates/dtype_base/src/ptype.rt", "changed\n")
+        self.assertIn("unproved\n", self.run_tool("run_program", "demo", "dtype_demo", "paths")[1])
+
+
+class WrongBodies(Planted):
+    def setUp(self):
+        super().setUp()
+        self.write("HANDLES", "")
+        self.write("crates/dtype_paths/wrong/push_drops.edit", "file: src/field_path.rt\nold: self.steps.push(field)?;\nnew:\n")
+
+    def test_tells_a_mutation_that_is_proved(self):
+        self.script("rt", 'echo "fn dtype_paths::field_path::FieldPath::push: proved"')
+        status, said = self.run_tool("wrong_bodies", "dtype_paths")
+        self.assertIn("NOT REFUSED: push_drops", said)
+        self.assertEqual((status, said.splitlines()[-1]), (1, "0 refused, 1 not refused, 0 to be tried alone"))
+
+    def test_counts_a_mutation_that_is_refused(self):
+        self.script("rt", 'grep -q push src/field_path.rt; echo "fn dtype_paths::field_path::FieldPath::push: not proved"; exit 1')
+        self.assertEqual(self.run_tool("wrong_bodies", "dtype_paths")[1].splitlines()[-1], "1 refused, 0 not refused, 0 to be tried alone")
+
+    def test_gives_up_on_a_text_that_is_not_there(self):
+        self.write("crates/dtype_paths/wrong/push_drops.edit", "file: src/field_path.rt\nold: nowhere\nnew:\n")
+        self.assertEqual(self.run_tool("wrong_bodies", "dtype_paths")[0], 2)
+
+
+class ConsolePages(Planted):
+    def test_tells_an_answer_that_the_program_does_not_give(self):
+        self.write("README.md", "```console\n> name a\na\n> name b\nb\n```\n")
+        self.write("crates/dtype_console/out/dtype_console", "#!/bin/sh\nsed 's/name //'\n", 0o755)
+        self.assertEqual(self.run_tool("console_pages"), (0, "2 passed, 0 failed\n"))
+        self.write("README.md", "```console\n> name a\nb\n```\n")
+        self.assert_told("console_pages", "README.md: name a: the program answers ['a']")
+
+
+class RefusedMemory(Planted):
+    """Over a console of one command, `name`, that allocates once a line, and a program of one call."""
+
+    CONSOLE = """#include <stdio.h>
+    #include <stdlib.h>
+    #include <string.h>
+    #include <unistd.h>
+    int main(void) {
+        static char in[1 << 12];
+        setvbuf(stdin, in, _IOFBF, sizeof in); setvbuf(stdout, NULL, _IONBF, 0);
+        static char line[64];
+        while (fgets(line, sizeof line, stdin)) {
+            if (write(2, "begin\\n", 6) < 0) return 1;
+            char *got = malloc(8);
+            %s
+            if (write(2, "end\\n", 4) < 0) return 1;
+        }
+        if (write(2, "begin\\n", 6) < 0 || write(2, "end\\n", 4) < 0) return 1;
+        return 0;
+    }
+    """
+    CALL = """#include <stdio.h>
+    #include <stdlib.h>
+    #include <unistd.h>
+    int main(void) {
+        if (write(2, "begin\\n", 6) < 0) return 1;
+        void *got = malloc(8);
+        if (write(2, "end\\n", 4) < 0) return 1;
+        puts(got ? "cover {a}: done" : "cover {a}: out of memory");
+        free(got);
+        return 0;
+    }
+    """
+
+    def build(self, crate, text):
+        os.makedirs(self.path(f"crates/{crate}/out"), exist_ok=True)
+        self.write(f"crates/{crate}/it.c", text)
+        made = self.path(f"crates/{crate}/out/{crate}")
+        subprocess.run(["cc", "-O0", "-fno-builtin", "-o", made, self.path(f"crates/{crate}/it.c")], check=True)
+
+    def run_with(self, answer):
+        self.write("crates/dtype_console/stdin", "name a\n")
+        self.write("crates/dtype_console/stdout", "> name a\na\n")
+        self.write("crates/tests_allocations/stdout", "cover {a}: done\n")
+        self.build("dtype_console", self.CONSOLE % answer)
+        self.build("tests_allocations", self.CALL)
+
+    def test_counts_each_allocation(self):
+        self.run_with('puts(got ? "a" : "refused 0: out of memory"); free(got);')
+        self.assertEqual(self.run_tool("refused_memory"),
+                         (0, "refused_memory: 4 allocations of 1 golden tests failed in turn\n2 passed, 0 failed\n"))
+
+    def test_tells_an_answer_that_is_wrong_without_memory(self):
+        self.run_with('puts(got ? "a" : "b"); free(got);')
+        self.assert_told("refused_memory", "name a: allocation 1")
+
+    def test_tells_memory_that_is_held(self):
+        self.run_with('puts(got ? "a" : "refused 0: out of memory");')
+        self.assert_told("refused_memory", "name a: with enough memory 'a', and 1 blocks held")
+
+
+class Measure(Planted):
+    def test_takes_the_least_of_all_runs(self):
+        self.write("port", "#!/bin/sh\ncat >/dev/null\necho find/wide/10 $(cat times | head -n 1) 1\nsed -i 1d times\n", 0o755)
+        self.write("times", "20\n10\n30\n")
+        environment = {**os.environ, "PORT": self.path("port"), "RUNS": "3", "RUST": ""}
+        del environment["RUST"]
+        ran = subprocess.run([self.path("tools/measure")], env=environment, cwd=self.top, stdout=subprocess.PIPE,
+                             stderr=subprocess.DEVNULL, text=True, check=True)
+        self.assertEqual(ran.stdout.splitlines()[-1], "| find/wide/10 | 10.0 |")
+
+
+class DrawSpeed(Planted):
+    def test_draws_what_was_measured(self):
+        self.assertEqual(self.run_tool("draw_speed")[0], 0)
+        drawn = self.read("docs/speed_ratios.svg")
+        self.change("docs/benchmarks.csv", "eq/wide,20,10", "eq/wide,90,10")
+        self.run_tool("draw_speed")
+        self.assertNotEqual(self.read("docs/speed_ratios.svg"), drawn)
+        self.assertIn("| 9.0 |", self.read("docs/BENCHMARKS.md"))
+
+
+class Faults(Planted):
+    def test_tells_a_program_that_is_not_there(self):
+        self.assertEqual(self.run_tool("faults")[0], 2)
+
+    def test_has_names_in_order(self):
+        names = self.read("tools/data/names_of_one_hash").split()
+        self.assertEqual((len(names), names), (4096, sorted(set(names))))
+
+
+class Words(Planted):
+    def test_tells_a_definition_that_a_user_cannot_name(self):
+        self.change("crates/dtype_base/src/field_name.rt", "use std::fmt;", "ghost use Rattle.dtype_base.specs.Hidden.{hidden};\nuse std::fmt;")
+        self.change("crates/dtype_base/src/field_name.rt", "(λ n. n ≡ text.now)", "(λ n. hidden n)")
+        for crate in ("dtype_types", "vortex_dtype"):
+            self.write(f"crates/{crate}/specs/Lib.antt", "")
+        self.write("docs/GLOSSARY.md", "")
+        self.assert_told("words", "hidden of Rattle.dtype_base.specs.Hidden, cited by new")
+        self.write("crates/vortex_dtype/specs/Lib.antt", "pub use Rattle.dtype_base.specs.Hidden\n")
+        self.assertNotIn("can't be named", self.run_tool("words")[1])
+
+
+class Rows(unittest.TestCase):
+    def test_a_wrong_original_is_seen(self):
+        """A driver that says nothing makes no golden tests."""
+        ran = subprocess.run([sys.executable, f"{TOOLS}/rows_from_original", shutil.which("true"), "/nonexistent"],
+                             stdout=subprocess.DEVNULL, stderr=subprocess.PIPE, check=False)
+        self.assertNotEqual(ran.returncode, 0)
+
+
+if __name__ == "__main__":
+    unittest.main()

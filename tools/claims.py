@@ -3,7 +3,7 @@
 
 """Checks what pages say in numbers, for tools/pages: that docs/reference is made of these sources, that docs/TRUST.md
 tells the lines of definitions, within a tenth, that the summary of docs/BENCHMARKS.md is of its table (speed.py), and
-that links lead to headings."""
+that links lead to headings and commands and flags that pages show are there."""
 import os
 import re
 import subprocess
@@ -57,6 +57,29 @@ def dead_anchors(pages):
                 yield page, f"{target} has no heading #{anchor}"
 
 
+SHOWN = re.compile(r"(?:^|[`|&;\s])((?:\./|tools/)[\w./]+)((?: [^\s`#|;&]+)*)")
+# Where the programs that a script runs read their flags.
+PROGRAMS = {"./console": ("tools/run_program", "crates/dtype_console/src/*.rt"), "./demo": ("tools/run_program",)}
+
+
+def wrong_shown(pages):
+    """The commands of this repository that a page shows, in blocks of sh and in backquotes, which aren't there, and their
+    flags that no source of theirs has."""
+    for page in pages:
+        text = text_of(page)
+        shown = [*re.findall(r"(?ms)^```sh\n(.*?)^```$", text), *re.findall(r"`((?:\./|tools/)[^`\n]+)`", text)]
+        for command, rest in (found for it in shown for found in SHOWN.findall(it)):
+            if not os.path.exists(command):
+                if not command.endswith("/"):
+                    yield page, f"there is no {command}"
+            elif os.path.isfile(command):
+                files = [it for pattern in (command, *PROGRAMS.get(command, ())) for it in sorted(glob(pattern))]
+                sources = "".join(text_of(it) for it in files)
+                for flag in re.findall(r" (--[\w-]+)", rest):
+                    if flag not in sources:
+                        yield page, f"{command} has no {flag}"
+
+
 def stale_reference():
     """The pages of docs/reference that aren't what tools/reference would write."""
     run = subprocess.run([sys.executable, "tools/reference", "--check"], stdout=subprocess.PIPE, text=True, check=False)
@@ -66,4 +89,4 @@ def stale_reference():
 def faults(pages):
     """Each page with what is wrong on it."""
     pages = [*pages, *sorted(glob("docs/reference/*.md"))]
-    return [*wrong_lines(), *dead_anchors(pages), *stale_reference(), *speed.faults()]
+    return [*wrong_lines(), *wrong_shown(pages), *dead_anchors(pages), *stale_reference(), *speed.faults()]

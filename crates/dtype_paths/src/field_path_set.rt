@@ -145,8 +145,8 @@ impl FieldPathSet {
         Ok(found.into_iter())
     }
 
-    /// Returns the least paths of the set, those that no other of its paths begins, each once and in no promised order:
-    /// the fewest paths that cover what the set covers. After an error the set is dropped.
+    /// Returns the least paths of the set, those of which no other of its paths is a prefix, each once and in no promised
+    /// order: the fewest paths that cover what the set covers. After an error the set is dropped.
     ///
     /// # Errors
     ///
@@ -165,7 +165,7 @@ impl FieldPathSet {
     }
 
     /// Returns what `into_iter` returns, and the number of nodes that were visited: the root, and one for each other
-    /// path that begins a returned one, however many paths these cover. No set has more nodes than a `u64` counts. After
+    /// prefix of a returned path, however many paths these cover. No set has more nodes than a `u64` counts. After
     /// an error the set is dropped.
     ///
     /// # Errors

@@ -12,7 +12,7 @@
 //! `pb` and `DTypeProto`. The definitions are in `specs/`: `Typed` (what a vtable means), `Meaning` (what a plugin and
 //! a session mean: `keeps`, `Admits`), `Errors` (which errors they return), `Calls`, and for messages `Reads` (the
 //! type that a message reads as, and its faults), `ReadInOrder` (which fault is first) and `Written`, over the trees of
-//! `dtype_messages`. `laws` states theorems about these definitions; `specs/rulesets` has the
+//! `dtype_messages`. `laws` states theorems about these definitions; `proofs/rulesets` has the
 //! lemmas that callers' proofs name, by topic.
 #![tactic(auto)]
 

@@ -29,7 +29,7 @@ pub fn along_joined()
     ensures { (t u : Tree) (p q : List Field) → At t (p ++ q) u ↔ ((x : Tree) × At t p x × At x q u) }
 {}
 
-/// Every beginning of a path that exists in a type exists in it.
+/// Every prefix of a path that exists in a type exists in it.
 #[tactic(auto, using(crate::proofs::lemmas::Stepping::beginning_exists_in))]
 pub fn beginnings_exist()
     ensures { (t : Tree) (p q : List Field) → Beginning p q → ExistsIn t q → ExistsIn t p }
@@ -45,7 +45,7 @@ pub fn a_path_leads_to_a_valid_type()
 /// list of size 0, a value is of that type exactly where it lies along the path in some value of the whole, such as
 /// the one made around it. What is made around a value of that type is always a value of the whole, and what lies along
 /// the path is always of that type; through a size 0 a value of the type may lie in no value of the whole. Where there
-/// is no type at a path, and no beginning of it leads to an extension, nothing lies along it in any value.
+/// is no type at a path, and no prefix of it leads to an extension, nothing lies along it in any value.
 pub fn resolution_is_exact_for_values()
     ensures given { (t u : Tree) (p : List Field) → (along t p ≡ Some u) ↔ At t p u }
     ensures exact { (t : Tree) (p : List Field) (u : Tree) (v : Value) → Valid t → CrossesNoSizeZero t p
@@ -61,7 +61,7 @@ pub fn resolution_is_exact_for_values()
         → (v : Value) → ¬ (FoundIn t p v) }
 {}
 
-/// Where the path steps through no fixed-size list of size 0 and no beginning of it leads to an extension, the path
+/// Where the path steps through no fixed-size list of size 0 and no prefix of it leads to an extension, the path
 /// exists exactly where some value has something along it. Where a type is at the path, some value has something along
 /// it.
 pub fn a_type_is_given_exactly_where_something_is_found()
@@ -118,7 +118,7 @@ pub fn a_cover_is_its_own_cover()
         → IsTrue (set.contains t p) }
 {}
 
-/// Exactly one of the least paths is a beginning of a covered path.
+/// Exactly one of the least paths is a prefix of a covered path.
 pub fn a_cover_has_one_beginning_of_each_covered_path()
     ensures some { (s : PathSet) (q : List Field) → IsTrue (covers s q)
         → ((p : List Field) × IsTrue (set.contains (least s) p) × Beginning p q) }

@@ -2,8 +2,8 @@
 # SPDX-FileCopyrightText: Copyright the Vortex contributors
 
 """Checks what pages say in numbers, for tools/pages: that docs/reference is made of these sources, that docs/TRUST.md
-tells the lines of definitions, within a tenth, that the summary of docs/BENCHMARKS.md is of its table (speed.py), and
-that links lead to headings and commands and flags that pages show are there."""
+tells the lines of definitions, the golden tests and the mutations within a tenth, that the summary of docs/BENCHMARKS.md is
+of its table (speed.py), and that the headings of links and the commands and flags that pages show are there."""
 import os
 import re
 import subprocess
@@ -14,6 +14,10 @@ import speed
 from repository import libraries, sources_of, text_of
 
 TRUST = "docs/TRUST.md"
+TOLD = {
+    r"([\d,]+) golden answers": r"(?m)^> ",
+    r"([\d,]+), of `project_paths` and `merge_nullability`": r"(?m)^> (?:project_paths|merge_nullability) ",
+}
 READ_FIRST = re.compile(r"(?m)^\| (\[`.*?) \| (\d+) \|")
 LINK = re.compile(r"\]\((?!\w+:)([\w./-]*)#([\w-]+)\)")
 
@@ -38,6 +42,17 @@ def wrong_lines():
     for told in re.findall(r"some ([\d,]+) lines of `specs/`", text):
         if not is_near(int(told.replace(",", "")), counted):
             yield TRUST, f"specs/ of the libraries has {counted} lines, not {told}"
+
+
+def wrong_counts():
+    """The numbers of golden tests and of mutations that docs/TRUST.md tells wrongly."""
+    text, transcript = text_of(TRUST), text_of("crates/dtype_console/stdout")
+    counts = {told: len(re.findall(pattern, transcript)) for told, pattern in TOLD.items()}
+    counts[r"([\d,]+) mutations of bodies"] = len(glob("crates/*/must-fail/*.edit"))
+    for told, counted in counts.items():
+        for found in re.finditer(told, text):
+            if not is_near(int(found[1].replace(",", "")), counted):
+                yield TRUST, f"it tells '{found[0]}', and there are {counted}"
 
 
 def anchors_of(page):
@@ -89,4 +104,4 @@ def stale_reference():
 def faults(pages):
     """Each page with what is wrong on it."""
     pages = [*pages, *sorted(glob("docs/reference/*.md"))]
-    return [*wrong_lines(), *wrong_shown(pages), *dead_anchors(pages), *stale_reference(), *speed.faults()]
+    return [*wrong_lines(), *wrong_counts(), *wrong_shown(pages), *dead_anchors(pages), *stale_reference(), *speed.faults()]

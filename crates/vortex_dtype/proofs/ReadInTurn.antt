@@ -23,7 +23,8 @@ use Rattle.vortex_dtype.specs.IsMessage.{IsMessage, AreMessages, AreTags}
 use Rattle.vortex_dtype.specs.Meaning.{Meaning}
 use Rattle.vortex_dtype.specs.Numbers.{integer_byte}
 use Rattle.vortex_dtype.specs.ReadInOrder.{read, read_all, read_tags, struct_read, union_read, extension_read, or_empty, ◌>>=◌, Gives, Fails}
-use Rattle.vortex_dtype.proofs.lemmas.InOrder.{AreBytes, byte_is, tags_reading}
+use Rattle.vortex_dtype.specs.Reads.{AreBytes}
+use Rattle.vortex_dtype.proofs.lemmas.InOrder.{byte_is, tags_reading}
 use Rattle.dtype_messages.specs.declared.pb.DType.{DType}
 
 -- what is left of a list from a position on: its item there, and what is left behind it

@@ -3,6 +3,7 @@
 
 -- Which type a message tree reads as, under a session; from the documentation of `DType` and of its messages.
 use Rattle.std.specs.Prelude.{◌≡◌, ◌≢◌, ◌⊎◌, ℕ, ◌+◌, ◌≤◌, ℤ, pos, neg_ℤ, ◌<ℤ◌, List, [], ◌∷◌, length, map, Some, None}
+use Rattle.std.specs.List.{zip}
 use Rattle.dtype_base.specs.declared.nullability.Nullability.TheVariants.{NonNullable, Nullable}
 use Rattle.dtype_base.specs.declared.ptype.PType.{PType}
 use Rattle.dtype_base.specs.declared.vortex_error.VortexError.{VortexError}
@@ -12,11 +13,10 @@ use Rattle.dtype_base.specs.declared.vortex_error.MessageFault.TheVariants.{Type
 use Rattle.dtype_base.specs.Primitives.{ptype_row}
 use Rattle.dtype_base.specs.Decimals.{Decimal, IsValidDecimal, DecimalError, greatest_precision}
 use Rattle.dtype_base.specs.Nullability.{nullability_of}
-use Rattle.dtype_base.specs.Distinct.{Distinct}
 use Rattle.dtype_types.specs.nullability.Nullable.{nullability}
-use Rattle.dtype_types.specs.parts.Unions.{UnionError}
+use Rattle.dtype_types.specs.parts.Unions.{MakesUnion, UnionError}
 use Rattle.dtype_types.specs.tree.Tree as of
-use Rattle.dtype_types.specs.tree.Tree.{Tree, Fields, no_fields, field, Variants, no_variants, choice}
+use Rattle.dtype_types.specs.tree.Tree.{Tree, fields, variants}
 use Rattle.dtype_messages.specs.Message.{Message, Child, Messages, missing, null, bool, primitive, decimal, utf8, binary, list, fixed_size_list, map_of, struct, union, variant, extension, absent, present, no_message, more}
 use Rattle.vortex_dtype.specs.Meaning.{Meaning, keeps, unkept_error}
 use Rattle.vortex_dtype.specs.Numbers.{integer_byte}
@@ -28,6 +28,12 @@ number p = pos (ptype_row p).number
 
 abbrev pub decimal_with : ℕ → ℤ → Decimal
 decimal_with p k = record { precision = p; scale = k }
+
+-- each of the integers is from 0 to 255, and together they are these bytes
+abbrev pub AreBytes : List ℤ → List ℕ → Type 0
+AreBytes [] [] = Unit {0}
+AreBytes (g ∷ gs) (k ∷ tags) = (integer_byte g ≡ Some k) × AreBytes gs tags
+AreBytes _ _ = ⊥
 
 abbrev mutual
   pub Reads : Meaning → Message → Tree → Type 0
@@ -43,10 +49,12 @@ abbrev mutual
   Reads s (fixed_size_list c k f) t = (x : Tree) × ReadsChild s c x × (t ≡ of.fixed_size_list x k (nullability_of f))
   Reads s (map_of k v o f) t =
       (x : Tree) × (y : Tree) × ReadsChild s k x × ReadsChild s v y × (nullability x ≡ NonNullable) × (t ≡ of.map_of x y o (nullability_of f))
-  Reads s (struct ns ms f) t = (fs : Fields) × ReadsFields s ns ms fs × (t ≡ of.struct fs (nullability_of f))
-  -- at least one variant, distinct names and tags
+  -- every type reads, and there are as many names
+  Reads s (struct ns ms f) t = (ts : List Tree) × ReadsAll s ms ts × (length ns ≡ length ts) × (t ≡ of.struct (fields (zip ns ts)) (nullability_of f))
+  -- every type reads, every tag is from 0 to 255, and the names, types and tags make a union
   Reads s (union ns ms gs f) t =
-      (vs : Variants) × ReadsVariants s ns ms gs vs × (ns ≢ []) × Distinct gs × Distinct ns × (t ≡ of.union vs (nullability_of f))
+      (ts : List Tree) × (tags : List ℕ) × ReadsAll s ms ts × AreBytes gs tags × MakesUnion ns (length ts) tags
+      × (t ≡ of.union (variants (zip ns (zip ts tags))) (nullability_of f))
   Reads s (variant f) t = t ≡ of.variant (nullability_of f)
   Reads s (extension id c b) t =
       (x : Tree) × (kept : List ℕ) × ReadsChild s c x × (keeps s id (or_empty b) x ≡ Some kept) × (t ≡ of.extension id kept x)
@@ -55,22 +63,11 @@ abbrev mutual
   ReadsChild s absent t = ⊥
   ReadsChild s (present m) t = Reads s m t
 
-  -- as many names as types, and every type reads
-  pub ReadsFields : Meaning → List (List ℕ) → Messages → Fields → Type 0
-  ReadsFields s [] no_message fs = fs ≡ no_fields
-  ReadsFields s [] (more m ms) fs = ⊥
-  ReadsFields s (n ∷ ns) no_message fs = ⊥
-  ReadsFields s (n ∷ ns) (more m ms) fs = (x : Tree) × (rest : Fields) × Reads s m x × ReadsFields s ns ms rest × (fs ≡ field n x rest)
-
-  -- as many names as types and as tags, every type reads, and every tag is from 0 to 255
-  pub ReadsVariants : Meaning → List (List ℕ) → Messages → List ℤ → Variants → Type 0
-  ReadsVariants s [] no_message [] vs = vs ≡ no_variants
-  ReadsVariants s [] no_message (g ∷ gs) vs = ⊥
-  ReadsVariants s [] (more m ms) gs vs = ⊥
-  ReadsVariants s (n ∷ ns) no_message gs vs = ⊥
-  ReadsVariants s (n ∷ ns) (more m ms) [] vs = ⊥
-  ReadsVariants s (n ∷ ns) (more m ms) (g ∷ gs) vs =
-      (x : Tree) × (k : ℕ) × (rest : Variants) × Reads s m x × (integer_byte g ≡ Some k) × ReadsVariants s ns ms gs rest × (vs ≡ choice n x k rest)
+  -- the messages read as these types, in order
+  pub ReadsAll : Meaning → Messages → List Tree → Type 0
+  ReadsAll s no_message [] = Unit {0}
+  ReadsAll s (more m ms) (t ∷ ts) = Reads s m t × ReadsAll s ms ts
+  ReadsAll s _ _ = ⊥
 
 -- the message reads as no type
 abbrev pub ReadsAsNothing : Meaning → Message → Type 0

@@ -16,19 +16,18 @@ use Rattle.dtype_base.specs.declared.vortex_error.VortexError.{VortexError}
 use Rattle.dtype_base.specs.declared.vortex_error.VortexError.TheVariants.{MapKeyNullable, Message as Faulty}
 use Rattle.dtype_base.specs.declared.vortex_error.MessageFault.{MessageFault}
 use Rattle.dtype_base.specs.declared.vortex_error.MessageFault.TheVariants.{ListElementMissing, FixedElementMissing, MapKeyMissing, MapValueMissing, TypeIdRange, StorageMissing}
-use Rattle.dtype_base.specs.Distinct.{Distinct}
 use Rattle.dtype_base.specs.Nullability.{nullability_of}
 use Rattle.dtype_types.specs.nullability.Nullable.{nullability}
 use Rattle.dtype_types.specs.parts.Unions.{MakesUnion}
 use Rattle.dtype_types.specs.tree.Tree as of
-use Rattle.dtype_types.specs.tree.Tree.{Tree, Fields, field, fields, Variants, choice, variants}
+use Rattle.dtype_types.specs.tree.Tree.{Tree, fields, variants}
 use Rattle.dtype_messages.specs.Message.{Message, Child, Messages, missing, primitive, decimal, list, fixed_size_list, map_of, struct, union, extension, absent, present, no_message, more}
 use Rattle.dtype_messages.specs.PTypeNumbers.{ptype_at}
 use Rattle.vortex_dtype.specs.Meaning.{Meaning, keeps, unkept_error}
 use Rattle.vortex_dtype.specs.Numbers.{integer_byte}
-use Rattle.vortex_dtype.specs.Reads.{Reads, ReadsChild, ReadsFields, ReadsVariants, Fault, ChildFault, SomeFault, SomeTagFault, UnionFault, number, message_count}
+use Rattle.vortex_dtype.specs.Reads.{Reads, ReadsChild, ReadsAll, AreBytes, Fault, ChildFault, SomeFault, SomeTagFault, UnionFault, number, message_count}
 use Rattle.vortex_dtype.specs.ReadInOrder.{◌>>=◌, decimal_made, read, read_child, read_all, read_tags, primitive_read, decimal_read, map_read, when_required, struct_read, union_made, union_read, extension_read, or_fault, or_empty}
-use Rattle.vortex_dtype.proofs.lemmas.Unions.{tags_down, tags_up, union_making, union_ok}
+use Rattle.vortex_dtype.proofs.lemmas.Unions.{union_making, union_ok}
 
 -- ---- what holds of the result of a test, of a missing part and of two steps in turn
 
@@ -62,12 +61,6 @@ pub byte_is : (g : ℤ) (k : ℕ) → integer_byte g ≡ Some k → (g ≡ pos k
 byte_is (pos n) k e = grind (arith, nat_tests)
 byte_is (negsuc n) k e = cc
 
--- these tags are those bytes
-abbrev pub AreBytes : List ℤ → List ℕ → Type 0
-AreBytes [] [] = Unit {0}
-AreBytes (g ∷ gs) (k ∷ tags) = (integer_byte g ≡ Some k) × AreBytes gs tags
-AreBytes _ _ = ⊥
-
 pub bytes_are : (gs : List ℤ) (tags : List ℕ) → AreBytes gs tags → gs ≡ map pos tags
 bytes_are [] [] h = refl
 bytes_are (g ∷ gs) (k ∷ tags) h = ap (λ x. x ∷ gs) (byte_is g k h.0).0 ∙ ap (λ xs. pos k ∷ xs) (bytes_are gs tags h.1)
@@ -75,60 +68,10 @@ bytes_are _ _ h = absurd h
 
 -- ---- lists of messages
 
--- the messages read as these types, in order
-abbrev pub ReadsAll : Meaning → Messages → List Tree → Type 0
-ReadsAll s no_message [] = Unit {0}
-ReadsAll s (more m ms) (t ∷ ts) = Reads s m t × ReadsAll s ms ts
-ReadsAll s _ _ = ⊥
-
 pub count_all : (s : Meaning) (ms : Messages) (ts : List Tree) → ReadsAll s ms ts → length ts ≡ message_count ms
 count_all s no_message [] h = refl
 count_all s (more m ms) (t ∷ ts) h = let rest = count_all s ms ts h.1 in omega (arith, rest)
 count_all s _ _ h = absurd h
-
-reads_fields : (s : Meaning) (ns : List (List ℕ)) (ms : Messages) (ts : List Tree) → ReadsAll s ms ts → length ns ≡ length ts → ReadsFields s ns ms (fields (zip ns ts))
-reads_fields s [] no_message [] h e = refl
-reads_fields s (n ∷ ns) (more m ms) (t ∷ ts) h e = (t, fields (zip ns ts), h.0, reads_fields s ns ms ts h.1 (omega (arith, e)), refl)
-reads_fields s _ _ _ h e = grind arith
-
-reads_variants : (s : Meaning) (ns : List (List ℕ)) (ms : Messages) (gs : List ℤ) (ts : List Tree) (tags : List ℕ) → ReadsAll s ms ts → AreBytes gs tags → length ns ≡ length ts
-    → length ns ≡ length tags → ReadsVariants s ns ms gs (variants (zip ns (zip ts tags)))
-reads_variants s [] no_message [] [] [] h b e f = refl
-reads_variants s (n ∷ ns) (more m ms) (g ∷ gs) (t ∷ ts) (k ∷ tags) h b e f =
-    (t, k, variants (zip ns (zip ts tags)), h.0, b.0, reads_variants s ns ms gs ts tags h.1 b.1 (omega (arith, e)) (omega (arith, f)), refl)
-reads_variants s _ _ _ _ _ h b e f = grind arith
-
--- the types of fields that read
-pub record FieldsRead (s : Meaning) (ns : List (List ℕ)) (ms : Messages) (fs : Fields) (ts : List Tree) : Type 0 where
-  pub types : ReadsAll s ms ts
-  pub count : length ns ≡ length ts
-  pub is : fs ≡ fields (zip ns ts)
-
-pub fields_read : (s : Meaning) (ns : List (List ℕ)) (ms : Messages) (fs : Fields) → ReadsFields s ns ms fs → (ts : List Tree) × FieldsRead s ns ms fs ts
-fields_read s [] no_message fs h = ([], record { types = tt; count = refl; is = h })
-fields_read s (n ∷ ns) (more m ms) fs h =
-    let r = fields_read s ns ms h.1 h.3 in
-    (h.0 ∷ r.0, record { types = (h.2, r.1.types); count = ap suc r.1.count; is = h.4 ∙ ap (field n h.0) r.1.is })
-fields_read s _ _ fs h = absurd h
-
--- the types and the tags of variants that read
-pub record VariantsRead (s : Meaning) (ns : List (List ℕ)) (ms : Messages) (gs : List ℤ) (vs : Variants) (ts : List Tree) (tags : List ℕ) : Type 0 where
-  pub types : ReadsAll s ms ts
-  pub bytes : AreBytes gs tags
-  pub count : length ns ≡ length ts
-  pub tags_count : length ns ≡ length tags
-  pub is : vs ≡ variants (zip ns (zip ts tags))
-
-pub variants_read : (s : Meaning) (ns : List (List ℕ)) (ms : Messages) (gs : List ℤ) (vs : Variants) → ReadsVariants s ns ms gs vs
-    → (ts : List Tree) × (tags : List ℕ) × VariantsRead s ns ms gs vs ts tags
-variants_read s [] no_message [] vs h = ([], [], record { types = tt; bytes = tt; count = refl; tags_count = refl; is = h })
-variants_read s (n ∷ ns) (more m ms) (g ∷ gs) vs h =
-    let rest = variants_read s ns ms gs h.2 h.5 in let r = rest.2 in (
-      h.0 ∷ rest.0,
-      h.1 ∷ rest.1,
-      record { types = (h.3, r.types); bytes = (h.4, r.bytes); count = ap suc r.count; tags_count = ap suc r.tags_count; is = h.6 ∙ ap (choice n h.0 h.1) r.is },
-    )
-variants_read s _ _ _ vs h = absurd h
 
 -- ---- what reading gives
 
@@ -167,14 +110,13 @@ mutual
   reading s (struct ns ms f) =
       in_turn (read_all s ms) _ _ _ _ _ (all_reading s ms)
       (λ ts h. let same = Decides-eqb (length ns) (length ts) in
-      by_test (length ns == length ts) _ _ _ _ (λ e. (fields (zip ns ts), reads_fields s ns ms ts h (same.0 e), refl))
+      by_test (length ns == length ts) _ _ _ _ (λ e. (ts, h, same.0 e, refl))
       (λ e. inr (refl, λ c. not_from_Decides _ same e (c ∙ sym (count_all s ms ts h)))))
       (λ e. inl)
   reading s (union ns ms gs f) =
       in_turn (read_all s ms) _ _ _ _ _ (all_reading s ms)
       (λ ts h. MatchResult-weaker (union_read ns ts gs (nullability_of f)) (union_reading ns ts gs (nullability_of f))
-      (λ t u. let c = u.2.0 in
-      (variants (zip ns (zip ts u.0)), reads_variants s ns ms gs ts u.0 h u.1 c.0 c.1, c.2, subst Distinct (sym (bytes_are gs u.0 u.1)) (tags_up u.0 u.2.1), u.2.2, u.3))
+      (λ t u. (ts, u.0, h, u.1, u.2, u.3))
       (λ e j. inr (subst (λ c. UnionFault ns c gs e) (count_all s ms ts h) j)))
       (λ e. inl)
   reading s (extension id c b) =
@@ -218,13 +160,8 @@ mutual
   reads_read s (list c f) t h = rw (child_read s ListElementMissing c h.0 h.1) (ap Ok (sym h.2))
   reads_read s (fixed_size_list c k f) t h = rw (child_read s FixedElementMissing c h.0 h.1) (ap Ok (sym h.2))
   reads_read s (map_of c v o f) t h = rw (child_read s MapKeyMissing c h.0 h.2, child_read s MapValueMissing v h.1 h.3, h.4) (ap Ok (sym h.5))
-  reads_read s (struct ns ms f) t h =
-      let r = fields_read s ns ms h.0 h.1 in
-      rw (all_read s ms r.0 r.1.types, (Decides-eqb (length ns) (length r.0)).1 r.1.count) (ap Ok (sym (h.2 ∙ ap (λ fs. of.struct fs (nullability_of f)) r.1.is)))
-  reads_read s (union ns ms gs f) t h =
-      let v = variants_read s ns ms gs h.0 h.1 in let r = v.2 in
-      let makes : MakesUnion ns (length v.0) v.1 = ((r.count, r.tags_count, h.2), tags_down v.1 (subst Distinct (bytes_are gs v.1 r.bytes) h.3), h.4) in
-      rw (all_read s ms v.0 r.types, tags_ok gs v.1 r.bytes, union_ok ns v.0 v.1 (nullability_of f) makes) (ap Ok (sym (h.5 ∙ ap (λ vs. of.union vs (nullability_of f)) r.is)))
+  reads_read s (struct ns ms f) t h = rw (all_read s ms h.0 h.1, (Decides-eqb (length ns) (length h.0)).1 h.2) (ap Ok (sym h.3))
+  reads_read s (union ns ms gs f) t h = rw (all_read s ms h.0 h.2, tags_ok gs h.1 h.3, union_ok ns h.0 h.1 (nullability_of f) h.4) (ap Ok (sym h.5))
   reads_read s (extension id c b) t h = rw (child_read s StorageMissing c h.0 h.2, h.3) (ap Ok (sym h.4))
   reads_read s _ t h = ap Ok (sym h)
 

@@ -2,14 +2,13 @@
 -- SPDX-FileCopyrightText: Copyright the Vortex contributors
 
 -- Laws of reading, over message trees and types alone.
-use Rattle.std.proofs.Common.{◌≡◌, ◌≢◌, ◌↔◌, ⊎_elim, ℕ, ℤ, pos, List, [], ◌∷◌, length, map, nat_eq, Some, Ok, Err, IsErr, Bool, true, false, refl, sym, ap, ◌∙◌, subst, arith}
+use Rattle.std.proofs.Common.{◌≡◌, ◌≢◌, ◌↔◌, ⊎_elim, ℕ, suc, ℤ, pos, List, [], ◌∷◌, length, map, nat_eq, Some, Ok, Err, IsErr, Bool, true, false, refl, sym, ap, ◌∙◌, subst, arith}
 use Rattle.std.specs.List.{All, IsDistinct, AllByRecursion, zip}
 use Rattle.std.specs.Cmp.{unsigned_Decides}
 use Rattle.std.specs.Str.{bytes_eq}
 use Rattle.std.proofs.lemmas.Bool.{false≢true}
 use Rattle.std.proofs.lemmas.Bool.Decides.{nat_tests}
 use Rattle.std.proofs.lemmas.Int.{ints}
-use Rattle.std.proofs.lemmas.List.{length-map}
 use Rattle.std.proofs.lemmas.List.Elements.{All-cons, All-nil}
 use Rattle.std.proofs.lemmas.List.Kept.{AllPairs-cons}
 use Rattle.std.proofs.lemmas.Option.{none-some, same_Some}
@@ -30,17 +29,22 @@ use Rattle.dtype_types.specs.tree.Valid.{Valid, ValidFields, ValidVariants, HasV
 use Rattle.dtype_messages.specs.Message.{Message, Child, Messages, messages, missing, null, primitive, decimal, list, fixed_size_list, map_of, struct, union, extension, absent, present, no_message, more}
 use Rattle.vortex_dtype.specs.Meaning.{Meaning, LawfulSession, Admits, AdmitsFields, AdmitsVariants, keeps}
 use Rattle.vortex_dtype.specs.ReadInOrder.{or_empty, read}
-use Rattle.vortex_dtype.specs.Reads.{Reads, ReadsChild, ReadsFields, ReadsVariants, Fault, ChildFault, SomeFault, SomeTagFault, message_count}
+use Rattle.vortex_dtype.specs.Reads.{Reads, ReadsChild, ReadsAll, AreBytes, Fault, ChildFault, SomeFault, SomeTagFault, message_count}
 use Rattle.vortex_dtype.specs.Accepts.{Accepts}
 use Rattle.vortex_dtype.specs.Written.{is_nullable, written, written_names, written_fields, written_variant_names, written_variants, written_tags, Normal, NormalChild, NormalAll}
 use Rattle.vortex_dtype.specs.IsMessage.{IsMessage, IsChild, AreMessages}
 use Rattle.vortex_dtype.proofs.lemmas.Sessions.{admits-set_null, keeps_again}
 use Rattle.vortex_dtype.proofs.lemmas.Written.{nullability_of-is, written_is}
 use Rattle.dtype_types.proofs.lemmas.Validity.{set_valid}
-use Rattle.vortex_dtype.proofs.lemmas.InOrder.{AreBytes, ReadsAll, byte_is, bytes_are, child_once, count_all, fields_read, read_fault, reading, reads_once, reads_read, variants_read}
+use Rattle.vortex_dtype.proofs.lemmas.InOrder.{byte_is, bytes_are, child_once, count_all, read_fault, reading, reads_once, reads_read}
 use Rattle.vortex_dtype.proofs.lemmas.Unions.{tags_down}
 
 -- ---- a message with a fault reads as no type
+
+same_tags : (gs hs : List ℕ) → map pos gs ≡ map pos hs → gs ≡ hs
+same_tags [] [] e = refl
+same_tags (g ∷ gs) (h ∷ hs) e = let first : g ≡ h = cc in let rest : map pos gs ≡ map pos hs = cc in let later = same_tags gs hs rest in cc
+same_tags _ _ e = cc
 
 no_tag_fault : (gs : List ℤ) (tags : List ℕ) → AreBytes gs tags → SomeTagFault gs → ⊥
 no_tag_fault [] tags h f = f
@@ -58,22 +62,12 @@ mutual
       ⊎_elim (λ a. child_none s MapKeyMissing c k h.0 a h.2)
       (⊎_elim (λ a. child_none s MapValueMissing v k h.1 a h.3)
       (λ a. let clash : Nullable ≡ NonNullable = sym (ap nullability (child_once s c h.0 a.1 h.2 a.2) ∙ a.3) ∙ h.4 in cc)) f
-  fault_none s (struct ns ms x) k t f h =
-      let r = fields_read s ns ms h.0 h.1 in
-      ⊎_elim (λ a. some_none s ms k r.0 a r.1.types) (λ a. a.1 (r.1.count ∙ count_all s ms r.0 r.1.types)) f
+  fault_none s (struct ns ms x) k t f h = ⊎_elim (λ a. some_none s ms k h.0 a h.1) (λ a. a.1 (h.2 ∙ count_all s ms h.0 h.1)) f
   fault_none s (union ns ms gs x) k t f h =
-      let v = variants_read s ns ms gs h.0 h.1 in let r = v.2 in
-      ⊎_elim (λ a. some_none s ms k v.0 a r.types)
-      (⊎_elim (λ a. no_tag_fault gs v.1 r.bytes a.1)
-      (λ a. let made : MakesUnion ns (message_count ms) a.0 = (
-        (
-          r.count ∙ count_all s ms v.0 r.types,
-          r.tags_count ∙ sym (length-map v.1 pos) ∙ ap length (sym (bytes_are gs v.1 r.bytes) ∙ a.1) ∙ length-map a.0 pos,
-          h.2,
-        ),
-        tags_down a.0 (subst Distinct a.1 h.3),
-        h.4,
-      ) in grind (arith, made, a.2))) f
+      ⊎_elim (λ a. some_none s ms k h.0 a h.2)
+      (⊎_elim (λ a. no_tag_fault gs h.1 h.3 a.1)
+      (λ a. let tags : h.1 ≡ a.0 = same_tags h.1 a.0 (sym (bytes_are gs h.1 h.3) ∙ a.1) in
+      let made : MakesUnion ns (message_count ms) a.0 = rw (← tags, ← count_all s ms h.0 h.2) h.4 in grind (arith, made, a.2))) f
   fault_none s (extension id c b) k t f h =
       ⊎_elim (λ a. child_none s StorageMissing c k h.0 a h.2) (λ a. none-some h.1 (sym a.3 ∙ ap (keeps s id (or_empty b)) (child_once s c a.1 h.0 a.2 h.2) ∙ h.3)) f
   fault_none s _ k t f h = f
@@ -139,12 +133,12 @@ mutual
       rw (h.5, is_nullable-of f) (two_parts _ _ (λ d w. map_of d w o f) (present (written h.0)) (present (written h.1)) n
       (λ d. child_normal s c d h.0 h.2) (λ d. child_normal s v d h.1 h.3))
   written_normal s (struct ns ms f) n t h =
-      let r = fields_read s ns ms h.0 h.1 in let w = field_messages ns r.0 r.1.count in
-      rw (h.2, r.1.is, is_nullable-of f, w.0, w.1) (one_part _ (λ qs. struct ns qs f) (messages (map written r.0)) n (λ qs. all_normal s ms qs r.0 r.1.types))
+      let w = field_messages ns h.0 h.2 in
+      rw (h.3, is_nullable-of f, w.0, w.1) (one_part _ (λ qs. struct ns qs f) (messages (map written h.0)) n (λ qs. all_normal s ms qs h.0 h.1))
   written_normal s (union ns ms gs f) n t h =
-      let v = variants_read s ns ms gs h.0 h.1 in let r = v.2 in let w = variant_messages ns v.0 v.1 r.count r.tags_count in
-      rw (h.5, r.is, is_nullable-of f, w.0, w.1, w.2, ← bytes_are gs v.1 r.bytes)
-      (one_part _ (λ qs. union ns qs gs f) (messages (map written v.0)) n (λ qs. all_normal s ms qs v.0 r.types))
+      let w = variant_messages ns h.0 h.1 h.4.0.0 h.4.0.1 in
+      rw (h.5, is_nullable-of f, w.0, w.1, w.2, ← bytes_are gs h.1 h.3)
+      (one_part _ (λ qs. union ns qs gs f) (messages (map written h.0)) n (λ qs. all_normal s ms qs h.0 h.2))
   written_normal s (extension id c b) n t h =
       let storage = λ (d : Child). child_normal s c d h.0 h.2 in
       rw h.4 (
@@ -205,14 +199,11 @@ mutual
   reads_sound s l (map_of c v o f) t i h =
       let a = child_sound s l c h.0 i.0 h.2 in let b = child_sound s l v h.1 i.1 h.3 in
       subst (Sound s) (sym h.5) ((h.4, a.0, b.0), (a.1, b.1))
-  reads_sound s l (struct ns ms f) t i h =
-      let r = fields_read s ns ms h.0 h.1 in
-      subst (Sound s) (sym (h.2 ∙ ap (λ fs. of.struct fs (nullability_of f)) r.1.is)) (sound_fields s ns r.0 (all_sound s l ms r.0 i r.1.types))
+  reads_sound s l (struct ns ms f) t i h = subst (Sound s) (sym h.3) (sound_fields s ns h.0 (all_sound s l ms h.0 i h.1))
   reads_sound s l (union ns ms gs f) t i h =
-      let v = variants_read s ns ms gs h.0 h.1 in let r = v.2 in
-      let a = sound_variants s ns v.0 gs v.1 (all_sound s l ms v.0 i.0 r.types) r.bytes (IsDistinct-from_AllPairs bytes_eq-Decides ns h.4)
-      (IsDistinct-from_AllPairs unsigned_Decides v.1 (tags_down v.1 (subst Distinct (bytes_are gs v.1 r.bytes) h.3))) in
-      subst (Sound s) (sym (h.5 ∙ ap (λ vs. of.union vs (nullability_of f)) r.is)) ((has_variant ns v.0 v.1 h.2 r.count r.tags_count, a.0), a.1)
+      let a = sound_variants s ns h.0 gs h.1 (all_sound s l ms h.0 i.0 h.2) h.3 (IsDistinct-from_AllPairs bytes_eq-Decides ns h.4.2)
+      (IsDistinct-from_AllPairs unsigned_Decides h.1 h.4.1) in
+      subst (Sound s) (sym h.5) ((has_variant ns h.0 h.1 h.4.0.2 h.4.0.0 h.4.0.1, a.0), a.1)
   reads_sound s l (extension id c b) t i h =
       let a = child_sound s l c h.0 i.0 h.2 in
       let again = keeps_again s l id (or_empty b) h.1 h.0 i.1 a.0 h.3 in
@@ -229,6 +220,9 @@ mutual
   all_sound s l _ _ i h = absurd h
 
 -- ---- an admitted type is read back from its message
+
+of_both : {X : Type 0} (made : X → Nullability → Tree) (x y : X) (n : Nullability) → x ≡ y → made x n ≡ made y (nullability_of (is_nullable n))
+of_both made x y n e = ap (λ z. made z n) e ∙ ap (made y) (sym (nullability_of-is n))
 
 some_name : (vs : Variants) → HasVariant vs → written_variant_names vs ≢ []
 some_name no_variants h = absurd h
@@ -255,19 +249,27 @@ mutual
   written_reads s (of.list x n) v a = (x, written_reads s x v a, simp nullability_of-is)
   written_reads s (of.fixed_size_list x k n) v a = (x, written_reads s x v.1 a, simp nullability_of-is)
   written_reads s (of.map_of x y o n) v a = (x, y, written_reads s x v.1 a.0, written_reads s y v.2 a.1, v.0, simp nullability_of-is)
-  written_reads s (of.struct fs n) v a = (fs, written_fields_read s fs v a, simp nullability_of-is)
+  written_reads s (of.struct fs n) v a = let r = written_fields_read s fs v a in (r.0, r.1, r.2, of_both of.struct fs (fields (zip (written_names fs) r.0)) n r.3)
   written_reads s (of.union vs n) v a =
-      let d = distinct vs v.1 in (vs, written_variants_read s vs v.1 a, some_name vs v.0, d.1, d.0, simp nullability_of-is)
+      let d = distinct vs v.1 in let r = written_variants_read s vs v.1 a in
+      let tags = tags_down r.1 (subst Distinct (bytes_are (written_tags vs) r.1 r.3) d.1) in
+      (r.0, r.1, r.2, r.3, ((r.4, r.5, some_name vs v.0), tags, d.0), of_both of.union vs (variants (zip (written_variant_names vs) (zip r.0 r.1))) n r.6)
   written_reads s (of.extension id b x) v a = (x, b, written_reads s x v.1 a.1, a.0, refl)
   written_reads s _ v a = simp nullability_of-is
 
-  written_fields_read : (s : Meaning) (fs : Fields) → ValidFields fs → AdmitsFields s fs → ReadsFields s (written_names fs) (written_fields fs) fs
-  written_fields_read s no_fields v a = refl
-  written_fields_read s (field n x rest) v a = (x, rest, written_reads s x v.0 a.0, written_fields_read s rest v.1 a.1, refl)
+  written_fields_read : (s : Meaning) (fs : Fields) → ValidFields fs → AdmitsFields s fs →
+      (ts : List Tree) × ReadsAll s (written_fields fs) ts × (length (written_names fs) ≡ length ts) × (fs ≡ fields (zip (written_names fs) ts))
+  written_fields_read s no_fields v a = ([], tt, refl, refl)
+  written_fields_read s (field n x rest) v a =
+      let r = written_fields_read s rest v.1 a.1 in (x ∷ r.0, (written_reads s x v.0 a.0, r.1), ap suc r.2, ap (field n x) r.3)
 
-  written_variants_read : (s : Meaning) (vs : Variants) → ValidVariants vs → AdmitsVariants s vs → ReadsVariants s (written_variant_names vs) (written_variants vs) (written_tags vs) vs
-  written_variants_read s no_variants v a = refl
-  written_variants_read s (choice n x g rest) v a = (x, g, rest, written_reads s x v.0 a.0, grind (arith, nat_tests, v.1), written_variants_read s rest v.4 a.1, refl)
+  written_variants_read : (s : Meaning) (vs : Variants) → ValidVariants vs → AdmitsVariants s vs →
+      (ts : List Tree) × (tags : List ℕ) × ReadsAll s (written_variants vs) ts × AreBytes (written_tags vs) tags × (length (written_variant_names vs) ≡ length ts)
+      × (length (written_variant_names vs) ≡ length tags) × (vs ≡ variants (zip (written_variant_names vs) (zip ts tags)))
+  written_variants_read s no_variants v a = ([], [], tt, tt, refl, refl, refl)
+  written_variants_read s (choice n x g rest) v a =
+      let r = written_variants_read s rest v.4 a.1 in
+      (x ∷ r.0, g ∷ r.1, (written_reads s x v.0 a.0, r.2), (grind (arith, nat_tests, v.1), r.3), ap suc r.4, ap suc r.5, ap (choice n x g) r.6)
 
 -- what is written of an admitted type gives that type
 pub written_read : (s : Meaning) (m : Message) (t : Tree) → Valid t → Admits s t → m ≡ written t → read s m ≡ Ok t

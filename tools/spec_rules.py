@@ -12,8 +12,6 @@ from repository import crates, functions_of, libraries, sources_of, text_of
 # The lemmas outside of files `..Laws`: the file of specs/, the name, or all of them, and what cites it.
 LEMMAS = {
     ("dtype_paths/specs/PathOrder.antt", "named-held_name"): "the code by which a field is ordered",
-    ("vortex_dtype/specs/Typed.antt", "chosen"): "the former of what a typed vtable means",
-    ("vortex_dtype/specs/StorageKinds.antt", "*"): "the ghost members of users' vtables and plugins",
 }
 STATEMENT = re.compile(r"(?m)^( *)((?:pub |abbrev |unfoldable )*)(\S+) : (.*(?:\n\1 +[^\n]*)*)")
 RELATION = re.compile(r"[≡≢≤<↔¬]|^(?:Decides|Valid\w*|Is[A-Z]\w*)\b")

@@ -8,7 +8,7 @@ use Rattle.std.proofs.lemmas.Option.{same_Some}
 use Rattle.dtype_types.specs.tree.Kinds.{list_element}
 use Rattle.dtype_types.specs.tree.Tree.{Tree}
 use Rattle.vortex_dtype.specs.Meaning.{Bytes, Lawful, Rewrites}
-use Rattle.vortex_dtype.specs.StorageKinds.{list_kept}
+use Rattle.vortex_dtype.proofs.lemmas.StorageKinds.{list_kept}
 
 -- no bytes, where the storage has an element
 abbrev pub without_bytes : Option Tree → List ℕ → Option (List ℕ)

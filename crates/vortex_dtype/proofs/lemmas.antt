@@ -10,3 +10,4 @@ pub mod PathMessages
 pub mod Reading
 pub mod Compared
 pub mod Differences
+pub mod StorageKinds

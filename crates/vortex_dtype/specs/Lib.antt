@@ -8,14 +8,14 @@ pub mod TypedOf
 pub mod Session
 pub mod Calls
 pub mod Errors
-pub mod Foreign
+pub mod ForeignLaws
+pub mod TypedLaws
 pub mod ReadInOrder
 pub mod IsMessage
 pub mod Reads
 pub mod Written
 pub mod Accepts
 pub mod PathMessage
-pub mod StorageKinds
 pub mod Types
 pub use Rattle.dtype_base.specs.BinaryDigits
 pub use Rattle.dtype_base.specs.Bytes

@@ -3,13 +3,12 @@
 
 -- What a vtable of a typed extension means, and its laws. From the documentation of `ExtVTable`: it reads
 -- metadata from bytes, writes it as bytes, and says which storage types it accepts.
-use Rattle.std.specs.Prelude.{◌≡◌, ℕ, List, Option, Some, None, Bool, true, false, if◌then◌else◌, option_and_then, refl}
-use Rattle.std.proofs.lemmas.Option.{option_and_then_some}
+use Rattle.std.specs.Prelude.{◌≡◌, ℕ, List, Option, Some, None, Bool, if◌then◌else◌, option_and_then}
 use Rattle.dtype_base.specs.declared.nullability.Nullability.{Nullability}
 use Rattle.dtype_types.specs.tree.Tree.{Tree}
 use Rattle.dtype_types.specs.tree.Valid.{Valid}
 use Rattle.dtype_types.specs.nullability.Nullable.{SetNull}
-use Rattle.vortex_dtype.specs.Meaning.{Rewrites, Lawful, Bytes}
+use Rattle.vortex_dtype.specs.Meaning.{Rewrites, Bytes}
 
 -- the two laws: written metadata is read back as the same metadata, and what is written of metadata that was
 -- read from bytes is bytes; whether it fits a storage doesn't depend on that storage's outer nullability
@@ -21,16 +20,3 @@ pub record Typed {M : Type 0} (reads : List ℕ → Option M) (writes : M → Op
 -- the meaning of a vtable as a plugin: it reads the bytes, validates the storage, and writes the bytes
 abbrev pub rewritten : {M : Type 0} → (List ℕ → Option M) → (M → Option (List ℕ)) → (M → Tree → Bool) → Rewrites
 rewritten reads writes fits = λ b s. option_and_then (λ m. if fits m s then writes m else None) (reads b)
-
-module _ {M : Type 0} (reads : List ℕ → Option M) (writes : M → Option (List ℕ)) (fits : M → Tree → Bool) (laws : Typed reads writes fits) where
-  chosen : (f : Bool) (o : Option (List ℕ)) (c : List ℕ) → (if f then o else None) ≡ Some c → (f ≡ true) × (o ≡ Some c)
-  chosen true o c e = (refl, e)
-  chosen false o c e = cc
-
-  -- every vtable is a lawful plugin
-  pub typed_laws : Lawful (rewritten reads writes fits)
-  typed_laws = record {
-    again = λ b c s bs v e. option_and_then_some (λ m. if fits m s then writes m else None) (reads b) c e
-        (λ m is w. let k = chosen (fits m s) (writes m) c w in (laws.as_bytes b m c bs is k.1, rw (laws.read_back m c k.1) w));
-    outer = λ b s t n bs v e. let same = λ (m : M). laws.outer m s t n v e in simp same;
-  }

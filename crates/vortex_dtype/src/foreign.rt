@@ -104,7 +104,7 @@ impl ForeignExtDType {
 
 impl ExtVTable for ForeignExtDType {
     ghost use Rattle.std.specs.Prelude.{ℕ, List, Some, true};
-    ghost use Rattle.vortex_dtype.specs.Foreign.{foreign_typed};
+    ghost use Rattle.vortex_dtype.specs.ForeignLaws.{foreign_typed};
 
     type Metadata = ForeignExtMetadata;
 

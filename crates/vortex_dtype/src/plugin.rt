@@ -79,7 +79,8 @@ impl<V: ExtVTable> PluginOf<V> {
 /// `deserialize` reads the metadata by the vtable, validates the storage by it, and writes the metadata back by it. The two
 /// laws of plugins follow from those of vtables.
 impl<V: ExtVTable> ExtDTypePlugin for PluginOf<V> {
-    ghost use Rattle.vortex_dtype.specs.Typed.{rewritten, typed_laws};
+    ghost use Rattle.vortex_dtype.specs.Typed.{rewritten};
+    ghost use Rattle.vortex_dtype.specs.TypedLaws.{typed_laws};
 
     ghost id_text = { V.id_text };
 

@@ -123,6 +123,24 @@ impl IndexedNames {
         Ok((selected, first_positions))
     }
 
+    /// Returns the same names with the same index: nothing is sorted. The names share their texts.
+    ///
+    /// # Errors
+    ///
+    /// - `OutOfMemory` (0): an allocation fails.
+    pub fn try_clone(&self, alloc: Global) -> VortexResult<Self>
+        ensures { MatchResult result (λ n. n ≡ self.now) (λ e. e ≡ OutOfMemory) }
+    {
+        let names = self.names.try_clone(alloc)?;
+        let entries = Vec::from_slice(alloc, &self.entries)?;
+        Ok(IndexedNames {
+            names,
+            prefix_len: self.prefix_len,
+            entries,
+            discriminator: self.discriminator,
+        })
+    }
+
     /// Returns whether no name repeats. Doesn't allocate.
     pub fn are_distinct(&self) -> bool
         ensures { IsTrue result ↔ Distinct self.now }

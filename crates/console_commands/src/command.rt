@@ -15,6 +15,8 @@ pub enum Command {
     Parts(PartCommand),
     /// `merge_nullability`.
     MergeNullability,
+    /// `intersect_nullability`.
+    IntersectNullability,
     Comparisons(Comparison),
     Structs(StructCommand),
     Unions(UnionCommand),

@@ -2,7 +2,7 @@
 // SPDX-FileCopyrightText: Copyright the Vortex contributors
 
 // The commands on types.
-use crate::Command::{MergeNullability, Parts, Types};
+use crate::Command::{IntersectNullability, MergeNullability, Parts, Types};
 use crate::Row;
 
 /// A command on types of every kind.
@@ -123,7 +123,7 @@ pub fn rows() -> &'static [Row] {
 }
 
 #[rattlefmt::skip]
-const ROWS: [Row; 43] = [
+const ROWS: [Row; 44] = [
     Row("type", "T", r#"{a=list({b=u32})?, "x y"=x.tag[0x6162](utf8?)}"#, Types(TypeCommand::Change(TypeChange::Unchanged))),
     Row("copy", "T", "map(utf8, i32?, keys_sorted=true)", Types(TypeCommand::Change(TypeChange::Copy))),
     Row("text", "T", r#"{a=list({b=u32})?, "x y"=x.tag[0x6162](utf8?)}"#, Types(TypeCommand::Query(TypeQuery::Text))),
@@ -135,6 +135,7 @@ const ROWS: [Row; 43] = [
     Row("with_nullability", "N T", "Nullable utf8", Types(TypeCommand::ChangeTo(NullabilityChange::WithNullability))),
     Row("union_nullability", "N T", "NonNullable utf8?", Types(TypeCommand::ChangeTo(NullabilityChange::UnionNullability))),
     Row("merge_nullability", "T T", "{a=i32, b=list(utf8?)} {a=i32?, b=list(utf8)}", MergeNullability),
+    Row("intersect_nullability", "T T", "{a=i32, b=list(utf8?)?} {a=i32?, b=list(utf8?)}", IntersectNullability),
     Row("nullability_or", "N N", "NonNullable Nullable", Types(TypeCommand::NullabilityOr)),
     Row("nullability_text", "N", "Nullable", Types(TypeCommand::Text(NullabilityText::NullabilityText))),
     Row("nullability_long_text", "N", "Nullable", Types(TypeCommand::Text(NullabilityText::NullabilityLongText))),

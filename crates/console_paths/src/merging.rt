@@ -1,10 +1,16 @@
 // SPDX-License-Identifier: Apache-2.0
 // SPDX-FileCopyrightText: Copyright the Vortex contributors
 
-// The command that merges two types.
+// The commands that merge two types.
 use console_types::{Call, ConsoleResult};
-use dtype_projection::merge_nullability;
-use dtype_types::DType;
+use dtype_types::{DType, intersect_nullability, merge_nullability};
+
+/// Answers `intersect_nullability`.
+pub fn answer_intersected(call: &mut Call<'_>) -> ConsoleResult<()> {
+    let (a, b): (DType, DType) = call.last()?;
+    let intersected = intersect_nullability(call.alloc, &a, &b)?;
+    call.write_option(intersected.as_ref())
+}
 
 /// Answers `merge_nullability`.
 pub fn answer(call: &mut Call<'_>) -> ConsoleResult<()> {

@@ -117,6 +117,7 @@ impl Console {
             Command::Types(command) => types::answer(call, command),
             Command::Parts(command) => parts::answer(call, command),
             Command::MergeNullability => merging::answer(call),
+            Command::IntersectNullability => merging::answer_intersected(call),
             Command::Comparisons(command) => comparisons::answer(call, command),
             Command::Structs(command) => structs::answer(call, command),
             Command::Unions(command) => unions::answer(call, command),

@@ -6,7 +6,4 @@ mod ProjectionClauses
 mod SuffixLists
 mod KeptFields
 mod Weights
-mod MergedKinds
-mod MergedParts
-mod TypeWeights
 pub mod lemmas

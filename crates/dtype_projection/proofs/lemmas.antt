@@ -12,5 +12,4 @@ pub mod Restrictions
 pub mod RestrictedOnto
 pub mod ThroughExtensions
 pub mod Above
-pub mod Merging
 pub mod Projecting

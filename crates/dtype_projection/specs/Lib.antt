@@ -5,4 +5,3 @@ pub mod Projected
 pub mod IsPart
 pub mod PathLists
 pub mod Restricted
-pub mod Merged

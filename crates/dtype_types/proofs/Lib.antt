@@ -21,4 +21,5 @@ pub mod SubTest
 pub mod TellLaws
 pub mod TellGiven
 pub mod ConsecutiveTags
+pub mod MergedParts
 pub mod lemmas

@@ -18,6 +18,9 @@ pub mod SubLaws
 pub mod SetSub
 pub mod SubValues
 pub mod SizeZero
+pub mod Bounds
+pub mod BoundValues
+pub mod Merging
 pub mod Order
 pub mod MadeOf
 pub mod Structs

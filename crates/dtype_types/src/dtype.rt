@@ -10,6 +10,7 @@ pub(crate) mod equality;
 pub(crate) mod hash;
 pub(crate) mod indented_text;
 mod kinds;
+pub(crate) mod lattice;
 mod nullability;
 mod text;
 pub(crate) mod width;
@@ -17,6 +18,7 @@ pub(crate) mod width;
 use crate::{ExtDTypeRef, MapDType, StructFields, UnionVariants};
 use dtype_base::{DecimalDType, Nullability, PType};
 pub use kinds::Kind;
+pub use lattice::{intersect_nullability, merge_nullability};
 
 /// A logical type: what values may be, whatever the layout in which they are stored.
 ///

@@ -9,6 +9,7 @@ ghost use Rattle.dtype_base.specs.declared.vortex_error.VortexError.TheVariants.
 use crate::DType;
 use crate::dtype::equality::{NullabilityRule, equal_under};
 use crate::dtype::hash::{HashMode, hash_into};
+use crate::dtype::lattice::{MergeRule, merge_under};
 use crate::dtype::width::Width;
 use dtype_base::laws::slices_hold_bytes;
 use dtype_base::{Nullability, VortexResult};
@@ -125,6 +126,7 @@ struct Parts<T> {
 
 impl ExtDTypeRef {
     ghost use Rattle.dtype_types.specs.tree.Kinds.{is_nested};
+    ghost use Rattle.dtype_types.specs.nullability.Merged.{merge, rule_of};
     ghost use Rattle.dtype_types.specs.nullability.Nullable.{nullability, CanBeNonNullable, SetNull, IsNullable};
     ghost use Rattle.dtype_types.specs.equality.Equality.{equal_under};
     ghost use Rattle.dtype_types.specs.tree.Erase.{erase};
@@ -249,6 +251,25 @@ impl ExtDTypeRef {
         self.parts.id == other.parts.id
             && self.parts.metadata.as_slice() == other.parts.metadata.as_slice()
             && equal_under(&self.parts.storage, &other.parts.storage, rule)
+    }
+
+    // The bound of two extensions that are equal but for nullabilities: of their storages.
+    #[cycle(merge_under)]
+    pub(crate) fn merge_under(
+        &self,
+        alloc: Global,
+        other: &ExtDTypeRef,
+        rule: MergeRule,
+    ) -> VortexResult<ExtDTypeRef>
+        requires { erase (storage_tree self.now) ≡ erase (storage_tree other.now) }
+        ensures { MatchResult result
+            (λ e. extension_tree e ≡ merge (rule_of rule) (extension_tree self.now) (extension_tree other.now))
+            (λ e. e ≡ OutOfMemory) }
+    {
+        let storage = merge_under(alloc, &self.parts.storage, &other.parts.storage, rule)?;
+        let id = self.parts.id.try_clone(alloc)?;
+        let metadata = Vec::from_slice(alloc, &self.parts.metadata)?;
+        ExtDTypeRef::from_parts(alloc, id, metadata, storage)
     }
 
     // Hashes the id, the metadata and the storage.

@@ -22,12 +22,13 @@ mod field_iter;
 pub mod laws;
 mod map;
 mod named;
+pub mod nullability_laws;
 mod struct_fields;
 mod tagged;
 mod union_variants;
 mod variant_iter;
 
-pub use dtype::{DType, Kind};
+pub use dtype::{DType, Kind, intersect_nullability, merge_nullability};
 pub use dtype_iter::DTypeIter;
 pub use extension::{ExtDTypeRef, ExtId, MetadataDisplay};
 pub use field_dtype::FieldDType;

@@ -8,6 +8,7 @@ ghost use Rattle.std.proofs.Math.Bool.{beq};
 
 use crate::dtype::equality::{NullabilityRule, equal_under};
 use crate::dtype::hash::{HashMode, hash_into};
+use crate::dtype::lattice::{MergeRule, merge_under};
 use crate::{DType, StructFields};
 use dtype_base::{FieldNames, Nullability, VortexError, VortexResult};
 use std::alloc::Global;
@@ -33,6 +34,8 @@ struct Entries<T> {
 impl MapDType {
     ghost use Rattle.dtype_types.specs.equality.Equality.{equal_under};
     ghost use Rattle.dtype_types.specs.equality.HashesOf.{map_writes};
+    ghost use Rattle.dtype_types.specs.nullability.Merged.{merge, rule_of};
+    ghost use Rattle.dtype_types.specs.tree.Erase.{erase};
     ghost use Rattle.dtype_types.specs.parts.Maps.{entries_of};
     ghost use Rattle.dtype_types.specs.nullability.Nullable.{nullability, IsNullable};
     ghost use Rattle.dtype_types.specs.tree.TreeOf.{tree, map_shown};
@@ -112,6 +115,34 @@ impl MapDType {
         equal_under(&self.shared.key, &other.shared.key, rule)
             && equal_under(&self.shared.value, &other.shared.value, rule)
             && self.shared.keys_sorted == other.shared.keys_sorted
+    }
+
+    // The bound of two maps that are equal but for nullabilities.
+    #[cycle(merge_under)]
+    pub(crate) fn merge_under(
+        &self,
+        alloc: Global,
+        other: &MapDType,
+        rule: MergeRule,
+    ) -> VortexResult<MapDType>
+        requires key { erase (map_shown self.now).0 ≡ erase (map_shown other.now).0 }
+        requires value { erase (map_shown self.now).1 ≡ erase (map_shown other.now).1 }
+        ensures { MatchResult result
+            (λ m. map_shown m ≡ (
+              merge (rule_of rule) (map_shown self.now).0 (map_shown other.now).0,
+              merge (rule_of rule) (map_shown self.now).1 (map_shown other.now).1,
+              (map_shown self.now).2,
+            ))
+            (λ e. e ≡ OutOfMemory) }
+    {
+        let entries = Entries {
+            key: merge_under(alloc, &self.shared.key, &other.shared.key, rule)?,
+            value: merge_under(alloc, &self.shared.value, &other.shared.value, rule)?,
+            keys_sorted: self.shared.keys_sorted,
+        };
+        Ok(MapDType {
+            shared: Rc::new(alloc, entries)?,
+        })
     }
 
     // Hashes the key, the value, and whether the keys are sorted.

@@ -86,6 +86,18 @@ impl<T> Named<T> {
         self.names.select(alloc, asked)
     }
 
+    // Makes the list of these names, with their index, and other types, which are equally many.
+    pub(crate) fn with_dtypes(&self, alloc: Global, dtypes: Vec<T>) -> VortexResult<Named<T>>
+    where
+        T: Drop,
+        requires { length dtypes.items ≡ length self.now }
+        ensures { MatchResult result
+            (λ n. n ≡ zip (keys_of self.now) dtypes.items) (λ e. e ≡ OutOfMemory) }
+    {
+        let names = self.names.try_clone(alloc)?;
+        Ok(Named { names, dtypes })
+    }
+
     // Whether the names are distinct.
     pub(crate) fn are_distinct(&self) -> bool
         ensures { IsTrue result ↔ Distinct (keys_of self.now) }

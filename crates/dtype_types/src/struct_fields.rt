@@ -13,6 +13,7 @@ ghost use Rattle.dtype_base.specs.declared.vortex_error.VortexError.TheVariants.
 use crate::dtype::equality::{NullabilityRule, equal_under};
 use crate::dtype::hash::{HashMode, hash_into};
 use crate::dtype::indented_text::start_field;
+use crate::dtype::lattice::{MergeRule, merge_under};
 use crate::dtype::width::Width;
 use crate::field_dtype::into_dtypes;
 use crate::named::Named;
@@ -36,7 +37,8 @@ pub struct StructFields {
 
 impl StructFields {
     ghost use Rattle.dtype_types.specs.equality.Equality.{fields_equal_under};
-    ghost use Rattle.dtype_types.specs.tree.Erase.{erase};
+    ghost use Rattle.dtype_types.specs.nullability.Merged.{merge_fields, rule_of};
+    ghost use Rattle.dtype_types.specs.tree.Erase.{erase, erase_fields};
     ghost use Rattle.dtype_types.specs.parts.FieldTypes.{field_tree, MadeFrom};
     ghost use Rattle.dtype_types.specs.texts.IndentedText.{indented_text, indented_braces};
     ghost use Rattle.dtype_types.specs.parts.Lookups.{first_named, field_names, field_types, Projects};
@@ -242,6 +244,28 @@ impl StructFields {
             }
         }
         true
+    }
+
+    // The bound of two structs that are equal but for nullabilities. It has the names of this one, and its index.
+    #[cycle(merge_under)]
+    pub(crate) fn merge_under(
+        &self,
+        alloc: Global,
+        other: &StructFields,
+        rule: MergeRule,
+    ) -> VortexResult<StructFields>
+        requires { erase_fields (fields_of self.now) ≡ erase_fields (fields_of other.now) }
+        ensures { MatchResult result
+            (λ s. fields_of s ≡ merge_fields (rule_of rule) (fields_of self.now) (fields_of other.now))
+            (λ e. e ≡ OutOfMemory) }
+    {
+        let mut dtypes = Vec::with_capacity(alloc, self.nfields())?;
+        for ((_, dtype), (_, other_dtype)) in self.pairs().zip(other.pairs()) {
+            dtypes.push(merge_under(alloc, dtype, other_dtype, rule)?)?;
+        }
+        let merged = self.shared.with_dtypes(alloc, dtypes)?;
+        let shared = Rc::new(alloc, merged)?;
+        Ok(StructFields { shared })
     }
 
     // The width of a struct of these fields. Stops at the first field of variable width.

@@ -1,12 +1,14 @@
 // SPDX-License-Identifier: Apache-2.0
 // SPDX-FileCopyrightText: Copyright the Vortex contributors
 
-ghost use Rattle.std.specs.Prelude.{◌≡◌, length};
+ghost use Rattle.std.specs.Prelude.{◌≡◌, length, MatchResult};
 ghost use Rattle.std.specs.List.{zip};
 ghost use Rattle.std.specs.Map.{keys_of};
+ghost use Rattle.dtype_base.specs.declared.vortex_error.VortexError.TheVariants.{OutOfMemory};
 ghost use Rattle.dtype_types.specs.parts.Lists.{types_of, tags_of};
 
-use dtype_base::FieldNames;
+use dtype_base::{FieldNames, VortexResult};
+use std::alloc::Global;
 use std::marker::Model;
 
 // Names, types and tags, equally many; in contracts a list of triples. A union holds its variants by it, since a type
@@ -66,6 +68,23 @@ impl<T> Tagged<T> {
         ensures { result.now ≡ tags_of self.now }
     {
         &self.tags
+    }
+
+    // Makes the list of these names and tags, and other types, which are equally many.
+    pub(crate) fn with_dtypes(&self, alloc: Global, dtypes: Vec<T>) -> VortexResult<Tagged<T>>
+    where
+        T: Drop,
+        requires { length dtypes.items ≡ length self.now }
+        ensures { MatchResult result
+            (λ n. n ≡ zip (keys_of self.now) (zip dtypes.items (tags_of self.now))) (λ e. e ≡ OutOfMemory) }
+    {
+        let names = self.names.try_clone(alloc)?;
+        let tags = Vec::from_slice(alloc, &self.tags)?;
+        Ok(Tagged {
+            names,
+            dtypes,
+            tags,
+        })
     }
 
     // The number of names.

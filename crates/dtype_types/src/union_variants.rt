@@ -10,6 +10,7 @@ ghost use Rattle.dtype_types.specs.parts.Unions.{AreConsecutive, HasUnionLengths
 
 use crate::dtype::equality::{NullabilityRule, equal_under};
 use crate::dtype::hash::{HashMode, hash_into};
+use crate::dtype::lattice::{MergeRule, merge_under};
 use crate::tagged::Tagged;
 use crate::{DType, DTypeIter, VariantIter};
 use dtype_base::{FieldNames, VortexError, VortexResult};
@@ -82,7 +83,8 @@ fn first_tags(alloc: Global, count: usize) -> VortexResult<Vec<u8>>
 
 impl UnionVariants {
     ghost use Rattle.dtype_types.specs.equality.Equality.{variants_equal_under};
-    ghost use Rattle.dtype_types.specs.tree.Erase.{erase};
+    ghost use Rattle.dtype_types.specs.nullability.Merged.{merge_variants, rule_of};
+    ghost use Rattle.dtype_types.specs.tree.Erase.{erase, erase_variants};
     ghost use Rattle.dtype_types.specs.parts.Lookups.{variant_named, variant_types, variant_names, variant_tags};
     ghost use Rattle.dtype_types.specs.equality.HashesOf.{union_writes};
     ghost use Rattle.dtype_types.specs.tree.TreeOf.{tree, variants_of, variant_list, union_dtypes, union_triples, shown, union_tree};
@@ -278,6 +280,28 @@ impl UnionVariants {
             }
         }
         true
+    }
+
+    // The bound of two unions that are equal but for nullabilities. It has the names and tags of this one.
+    #[cycle(merge_under)]
+    pub(crate) fn merge_under(
+        &self,
+        alloc: Global,
+        other: &UnionVariants,
+        rule: MergeRule,
+    ) -> VortexResult<UnionVariants>
+        requires { erase_variants (variants_of self.now) ≡ erase_variants (variants_of other.now) }
+        ensures { MatchResult result
+            (λ u. variants_of u ≡ merge_variants (rule_of rule) (variants_of self.now) (variants_of other.now))
+            (λ e. e ≡ OutOfMemory) }
+    {
+        let mut dtypes = Vec::with_capacity(alloc, self.len())?;
+        for ((_, _, dtype), (_, _, other_dtype)) in self.triples().zip(other.triples()) {
+            dtypes.push(merge_under(alloc, dtype, other_dtype, rule)?)?;
+        }
+        let merged = self.shared.with_dtypes(alloc, dtypes)?;
+        let shared = Rc::new(alloc, merged)?;
+        Ok(UnionVariants { shared })
     }
 
     /// Returns whether the variants are equal when every nullability in them is ignored. Names and tags count.

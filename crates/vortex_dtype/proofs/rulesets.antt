@@ -20,11 +20,10 @@ pub use Rattle.dtype_types.proofs.lemmas.Presence.{presence}
 pub use Rattle.dtype_types.proofs.lemmas.Structs.{structs}
 pub use Rattle.dtype_types.proofs.lemmas.Tags.{tags}
 pub use Rattle.dtype_types.proofs.lemmas.Validity.{validity}
--- of dtype_paths and dtype_projection: path sets and how many paths they have, paths and masks that are stepped along,
--- types that are merged and types that are projected
+-- of dtype_paths and dtype_projection: path sets and how many paths they have, paths and masks that are stepped along, and
+-- types that are projected
 pub use Rattle.dtype_paths.proofs.lemmas.Covering.{counting, covering, members}
 pub use Rattle.dtype_paths.proofs.lemmas.Stepping.{stepping}
-pub use Rattle.dtype_projection.proofs.lemmas.Merging.{merging}
 pub use Rattle.dtype_projection.proofs.lemmas.Projecting.{projecting}
 -- of vortex_dtype: sessions
 pub use Rattle.vortex_dtype.proofs.lemmas.Sessions.{sessions}
@@ -36,11 +35,18 @@ use Rattle.dtype_base.proofs.lemmas.Lookups.{lookups as name_lookups}
 use Rattle.dtype_messages.proofs.lemmas.Equality.{equality as message_equality}
 use Rattle.dtype_messages.proofs.lemmas.Names.{names}
 use Rattle.dtype_messages.proofs.lemmas.Numbers.{numbers}
+use Rattle.dtype_projection.proofs.lemmas.Above.{above}
 use Rattle.dtype_types.proofs.lemmas.Equality.{equality as type_equality}
 use Rattle.dtype_types.proofs.lemmas.Lookups.{lookups as field_lookups}
+use Rattle.dtype_types.proofs.lemmas.Merging.{intersecting as types_intersected, merging as types_merged}
 use Rattle.vortex_dtype.proofs.lemmas.Compared.{compared_up_to, compared_within}
 use Rattle.vortex_dtype.proofs.lemmas.Differences.{differences}
 use Rattle.vortex_dtype.proofs.lemmas.Reading.{reading}
+
+-- types that are merged and types that are intersected, and the paths in them
+pub ruleset merging = (types_merged, above)
+
+pub ruleset intersecting = (types_intersected, above)
 
 -- lookups of names, fields and variants, by name and by position, and how many names they compare
 pub ruleset lookups = (name_lookups, field_lookups, compared_within, compared_up_to)

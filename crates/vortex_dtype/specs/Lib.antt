@@ -57,7 +57,7 @@ pub use Rattle.dtype_paths.specs.Overlaps
 pub use Rattle.dtype_paths.specs.In
 pub use Rattle.dtype_paths.specs.Covering
 pub use Rattle.dtype_paths.specs.PathOrder
-pub use Rattle.dtype_projection.specs.Merged
+pub use Rattle.dtype_types.specs.nullability.Merged
 pub use Rattle.dtype_projection.specs.IsPart
 pub use Rattle.dtype_projection.specs.Projected
 pub use Rattle.dtype_projection.specs.Restricted

@@ -26,8 +26,8 @@ pub use dtype_base::laws as base;
 pub use dtype_messages::laws as messages;
 pub use dtype_native::laws as native;
 pub use dtype_paths::laws as paths;
-pub use dtype_projection::{laws as projections, nullability_laws as merging};
-pub use dtype_types::laws as types;
+pub use dtype_projection::laws as projections;
+pub use dtype_types::{laws as types, nullability_laws as merging};
 
 /// Registering gives one id the plugin's meaning, and changes neither other ids nor what happens to unknown ones.
 #[tactic(auto, using(crate::proofs::lemmas::Sessions::sessions, crate::proofs::lemmas::Sessions::session_laws))]

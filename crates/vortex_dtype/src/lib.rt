@@ -38,10 +38,10 @@ pub use dtype_native::{
     match_smallest_list_offset_type, match_smallest_offset_type,
 };
 pub use dtype_paths::{Field, FieldMask, FieldPath, FieldPathSet, along_joined, beginnings_exist};
-pub use dtype_projection::{merge_nullability, project_paths};
+pub use dtype_projection::project_paths;
 pub use dtype_types::{
     DType, DTypeIter, ExtDTypeRef, ExtId, FieldDType, FieldIter, Kind, MapDType, MetadataDisplay,
-    StructFields, UnionVariants, VariantIter,
+    StructFields, UnionVariants, VariantIter, intersect_nullability, merge_nullability,
 };
 pub use ext_dtype::ExtDType;
 pub use ext_vtable::ExtVTable;

@@ -86,3 +86,5 @@ at_above t u x y (f ∷ p) s a b = at_above a.0 b.0 x y p (step_above t u a.0 b.
 
 pub nullable_along : (t u x y : Tree) (p : List Field) → Sub t u → At t p x → At u p y → IsNullable x → IsNullable y
 nullable_along t u x y p s a b n = above_nullable x y (at_above t u x y p s a b) n
+
+pub ruleset above = (above_exists, below_exists, nullable_along)

@@ -10,11 +10,11 @@ use Rattle.dtype_types.specs.tree.Tree.{Tree, Fields, no_fields, field, Variants
 use Rattle.dtype_types.proofs.lemmas.NullValues.{of_set}
 use Rattle.dtype_types.specs.values.Value.{Value, Values, Entries, Named, IncludedIn, Of, NamedOf, VariantOf, Each, EachEntry, null_value, items, fixed_items, entries, record_of, tagged, no_values, value, no_entries, entry, no_named, named}
 
-each_of : (P Q : Value → Type 0) → ((v : Value) → P v → Q v) → (vs : Values) → Each P vs → Each Q vs
+pub each_of : (P Q : Value → Type 0) → ((v : Value) → P v → Q v) → (vs : Values) → Each P vs → Each Q vs
 each_of P Q f no_values h = tt
 each_of P Q f (value v vs) h = (f v h.0, each_of P Q f vs h.1)
 
-each_entry : (P Q R S : Value → Type 0) → ((v : Value) → P v → Q v) → ((v : Value) → R v → S v) → (es : Entries) → EachEntry P R es → EachEntry Q S es
+pub each_entry : (P Q R S : Value → Type 0) → ((v : Value) → P v → Q v) → ((v : Value) → R v → S v) → (es : Entries) → EachEntry P R es → EachEntry Q S es
 each_entry P Q R S f g no_entries h = tt
 each_entry P Q R S f g (entry k v es) h = (f k h.0, g v h.1, each_entry P Q R S f g es h.2)
 

@@ -1,0 +1,271 @@
+-- SPDX-License-Identifier: Apache-2.0
+-- SPDX-FileCopyrightText: Copyright the Vortex contributors
+
+-- The bounds of two types by their values. The values of the greatest type below two are exactly those that both have. The
+-- least type above two is least among all types that take the values of both.
+use Rattle.std.proofs.Common.{◌≡◌, ◌≢◌, ◌∙◌, ℕ, List, zero, suc, refl, sym, ap, subst, inl, inr}
+use Rattle.dtype_base.specs.Nullability.{either}
+use Rattle.dtype_base.specs.declared.nullability.Nullability.{Nullability}
+use Rattle.dtype_base.specs.declared.nullability.Nullability.TheVariants.{NonNullable, Nullable}
+use Rattle.dtype_types.specs.nullability.Merged.{both, merge, merge_fields, merge_variants}
+use Rattle.dtype_types.specs.tree.Erase.{erase, erase_fields, erase_variants}
+use Rattle.dtype_types.specs.tree.Tree.{Tree, Fields, no_fields, field, Variants, no_variants, choice, null, bool, primitive, decimal, utf8, binary, list, fixed_size_list, map_of, struct, union, variant, extension}
+use Rattle.dtype_types.specs.tree.Valid.{Valid, ValidFields, ValidVariants, HasVariant, LacksTag}
+use Rattle.dtype_types.specs.values.Sample.{sample, samples, copies}
+use Rattle.dtype_types.specs.values.Value.{Value, Values, Entries, Named, IncludedIn, Of, NamedOf, VariantOf, Each, EachEntry, value_count, null_value, items, fixed_items, entries, record_of, tagged, no_values, value, no_entries, entry, no_named, named}
+use Rattle.dtype_types.proofs.lemmas.SampleLaws.{sample_of, samples_of, each_copy, value_count-copies}
+use Rattle.dtype_types.proofs.lemmas.SubValues.{each_of, each_entry}
+
+-- ---- a tag tells a variant
+
+absent : (i : ℕ) (vs : Variants) → LacksTag i vs → (g : ℕ) (v : Value) → g ≡ i → VariantOf g v vs → ⊥
+absent i no_variants h g v is o = o
+absent i (choice m t k vs) h g v is (inl o) = h.0 (sym o.0 ∙ is)
+absent i (choice m t k vs) h g v is (inr o) = absent i vs h.1 g v is o
+
+lacks_also : (i : ℕ) (vs ws : Variants) → erase_variants vs ≡ erase_variants ws → LacksTag i vs → LacksTag i ws
+lacks_also i no_variants no_variants e h = tt
+lacks_also i (choice m t g vs) (choice n u k ws) e h = let same : g ≡ k = cc in (λ is. h.0 (same ∙ is), lacks_also i vs ws (cc) h.1)
+lacks_also i _ _ e h = cc
+
+-- ---- the values that both have
+
+pick : (P : Nullability → Type 0) (m n : Nullability) → P m → P n → P (both m n)
+pick P NonNullable n p q = p
+pick P Nullable n p q = q
+
+each_both : (P Q R : Value → Type 0) → ((v : Value) → P v → Q v → R v) → (vs : Values) → Each P vs → Each Q vs → Each R vs
+each_both P Q R f no_values h k = tt
+each_both P Q R f (value v vs) h k = (f v h.0 k.0, each_both P Q R f vs h.1 k.1)
+
+both_list : (t u w : Tree) (m n : Nullability) → ((v : Value) → Of v t → Of v u → Of v w) → (v : Value) → Of v (list t m) → Of v (list u n) → Of v (list w (both m n))
+both_list t u w m n f null_value o p = pick (λ x. x ≡ Nullable) m n o p
+both_list t u w m n f (items vs) o p = each_both (λ v. Of v t) (λ v. Of v u) (λ v. Of v w) f vs o p
+both_list t u w m n f _ o p = o
+
+both_fixed : (t u w : Tree) (j k : ℕ) (m n : Nullability) → ((v : Value) → Of v t → Of v u → Of v w) → (v : Value) → Of v (fixed_size_list t j m) → Of v (fixed_size_list u k n) → Of v (fixed_size_list w j (both m n))
+both_fixed t u w j k m n f null_value o p = pick (λ x. x ≡ Nullable) m n o p
+both_fixed t u w j k m n f (fixed_items vs) o p = (o.0, each_both (λ v. Of v t) (λ v. Of v u) (λ v. Of v w) f vs o.1 p.1)
+both_fixed t u w j k m n f _ o p = o
+
+both_entries : (t u w t' u' w' : Tree) → ((v : Value) → Of v t → Of v u → Of v w) → ((v : Value) → Of v t' → Of v u' → Of v w') → (es : Entries)
+    → EachEntry (λ k. Of k t) (λ v. Of v t') es → EachEntry (λ k. Of k u) (λ v. Of v u') es → EachEntry (λ k. Of k w) (λ v. Of v w') es
+both_entries t u w t' u' w' f g no_entries h k = tt
+both_entries t u w t' u' w' f g (entry x y es) h k = (f x h.0 k.0, g y h.1 k.1, both_entries t u w t' u' w' f g es h.2 k.2)
+
+both_map : (t u w t' u' w' : Tree) (x y : _) (m n : Nullability) → ((v : Value) → Of v t → Of v u → Of v w) → ((v : Value) → Of v t' → Of v u' → Of v w') → (v : Value)
+    → Of v (map_of t t' x m) → Of v (map_of u u' y n) → Of v (map_of w w' x (both m n))
+both_map t u w t' u' w' x y m n f g null_value o p = pick (λ x. x ≡ Nullable) m n o p
+both_map t u w t' u' w' x y m n f g (entries es) o p = both_entries t u w t' u' w' f g es o p
+both_map t u w t' u' w' x y m n f g _ o p = o
+
+both_struct : (fs gs hs : Fields) (m n : Nullability) → ((nvs : Named) → NamedOf nvs fs → NamedOf nvs gs → NamedOf nvs hs) → (v : Value) → Of v (struct fs m) → Of v (struct gs n) → Of v (struct hs (both m n))
+both_struct fs gs hs m n f null_value o p = pick (λ x. x ≡ Nullable) m n o p
+both_struct fs gs hs m n f (record_of nvs) o p = f nvs o p
+both_struct fs gs hs m n f _ o p = o
+
+both_union : (vs ws xs : Variants) (m n : Nullability) → ((g : ℕ) (v : Value) → VariantOf g v vs → VariantOf g v ws → VariantOf g v xs) → (v : Value) → Of v (union vs m) → Of v (union ws n) → Of v (union xs (both m n))
+both_union vs ws xs m n f null_value o p = pick (λ x. x ≡ Nullable) m n o p
+both_union vs ws xs m n f (tagged g v) o p = f g v o p
+both_union vs ws xs m n f _ o p = o
+
+mutual
+  pub of_both : (a b : Tree) → erase a ≡ erase b → Valid a → (v : Value) → Of v a → Of v b → Of v (merge both a b)
+  of_both null null e h v o p = o
+  of_both (bool m) (bool n) e h v o p = pick (λ x. Of v (bool x)) m n o p
+  of_both (primitive q m) (primitive r n) e h v o p = let same : q ≡ r = cc in pick (λ x. Of v (primitive q x)) m n o (subst (λ z. Of v (primitive z n)) (sym same) p)
+  of_both (decimal q m) (decimal r n) e h v o p = let same : q ≡ r = cc in pick (λ x. Of v (decimal q x)) m n o (subst (λ z. Of v (decimal z n)) (sym same) p)
+  of_both (utf8 m) (utf8 n) e h v o p = pick (λ x. Of v (utf8 x)) m n o p
+  of_both (binary m) (binary n) e h v o p = pick (λ x. Of v (binary x)) m n o p
+  of_both (list t m) (list u n) e h v o p = both_list t u (merge both t u) m n (λ x. of_both t u (cc) h x) v o p
+  of_both (fixed_size_list t j m) (fixed_size_list u k n) e h v o p = both_fixed t u (merge both t u) j k m n (λ x. of_both t u (cc) h.1 x) v o p
+  of_both (map_of t t' x m) (map_of u u' y n) e h v o p = both_map t u (merge both t u) t' u' (merge both t' u') x y m n (λ z. of_both t u (cc) h.1 z) (λ z. of_both t' u' (cc) h.2 z) v o p
+  of_both (struct fs m) (struct gs n) e h v o p = both_struct fs gs (merge_fields both fs gs) m n (λ z. named_both fs gs (cc) h z) v o p
+  of_both (union vs m) (union ws n) e h v o p = both_union vs ws (merge_variants both vs ws) m n (λ g z. variant_both vs ws (cc) h.1 g z) v o p
+  of_both (variant m) (variant n) e h v o p = pick (λ x. Of v (variant x)) m n o p
+  of_both (extension i a t) (extension j b u) e h v o p = of_both t u (cc) h.1 v o p
+  of_both _ _ e h v o p = cc
+
+  named_both : (fs gs : Fields) → erase_fields fs ≡ erase_fields gs → ValidFields fs → (nvs : Named) → NamedOf nvs fs → NamedOf nvs gs → NamedOf nvs (merge_fields both fs gs)
+  named_both no_fields no_fields e h nvs o p = o
+  named_both (field m t fs) (field n u gs) e h (named l v rest) o p = (o.0, of_both t u (cc) h.0 v o.1 p.1, named_both fs gs (cc) h.1 rest o.2 p.2)
+  named_both (field m t fs) (field n u gs) e h no_named o p = o
+  named_both _ _ e h nvs o p = cc
+
+  variant_both : (vs ws : Variants) → erase_variants vs ≡ erase_variants ws → ValidVariants vs → (g : ℕ) (v : Value) → VariantOf g v vs → VariantOf g v ws → VariantOf g v (merge_variants both vs ws)
+  variant_both no_variants no_variants e h g v o p = o
+  variant_both (choice m t i vs) (choice n u j ws) e h g v (inl o) (inl p) = inl (o.0, of_both t u (cc) h.0 v o.1 p.1)
+  variant_both (choice m t i vs) (choice n u j ws) e h g v (inl o) (inr p) = absurd (absent i ws (lacks_also i vs ws (cc) h.3) g v o.0 p)
+  variant_both (choice m t i vs) (choice n u j ws) e h g v (inr o) (inl p) = let same : i ≡ j = cc in absurd (absent i vs h.3 g v (p.0 ∙ sym same) o)
+  variant_both (choice m t i vs) (choice n u j ws) e h g v (inr o) (inr p) = inr (variant_both vs ws (cc) h.4 g v o p)
+  variant_both _ _ e h g v o p = cc
+
+-- ---- least among the types that take the values of both
+
+null_either : (m n : Nullability) (X : Type 0) → (m ≡ Nullable → X) → (n ≡ Nullable → X) → either m n ≡ Nullable → X
+null_either NonNullable NonNullable X f g e = f e
+null_either NonNullable Nullable X f g e = g e
+null_either Nullable NonNullable X f g e = f e
+null_either Nullable Nullable X f g e = f e
+
+choose : (P : Nullability → Type 0) (m n : Nullability) → P m → P n → P (either m n)
+choose P NonNullable NonNullable p q = p
+choose P NonNullable Nullable p q = q
+choose P Nullable NonNullable p q = p
+choose P Nullable Nullable p q = p
+
+-- what w takes, each type takes that takes what t and u take
+abbrev Least : Tree → Tree → Tree → Type 0
+Least t u w = (c : Tree) → Valid c → IncludedIn t c → IncludedIn u c → IncludedIn w c
+
+items_in : (t u w : Tree) → Least t u w → (d : Tree) → Valid d → ((vs : Values) → Each (λ v. Of v t) vs → Of (items vs) d) → ((vs : Values) → Each (λ v. Of v u) vs → Of (items vs) d)
+    → (vs : Values) → Each (λ v. Of v w) vs → Of (items vs) d
+items_in t u w f (list c o) x i j vs h = each_of (λ v. Of v w) (λ v. Of v c) (f c x (λ q p. (i (value q no_values) (p, tt)).0) (λ q p. (j (value q no_values) (p, tt)).0)) vs h
+items_in t u w f (extension a b s) x i j vs h = items_in t u w f s x.1 i j vs h
+items_in t u w f _ x i j vs h = absurd (i no_values tt)
+
+least_list : (t u w : Tree) (m n : Nullability) → Least t u w → (d : Tree) → Valid d → IncludedIn (list t m) d → IncludedIn (list u n) d → IncludedIn (list w (either m n)) d
+least_list t u w m n f d x i j null_value o = null_either m n (Of null_value d) (i null_value) (j null_value) o
+least_list t u w m n f d x i j (items vs) o = items_in t u w f d x (λ vs. i (items vs)) (λ vs. j (items vs)) vs o
+least_list t u w m n f d x i j _ o = absurd o
+
+-- a list of one length shows a member, if it has any
+member : (c : Tree) (k : ℕ) (v : Value) → k ≢ 0 → Each (λ x. Of x c) (copies k v) → Of v c
+member c zero v some h = absurd (some refl)
+member c (suc k) v some h = h.0
+
+fixed_each : (w c : Tree) (k : ℕ) → (k ≢ 0 → IncludedIn w c) → (vs : Values) → value_count vs ≡ k → Each (λ v. Of v w) vs → Each (λ v. Of v c) vs
+fixed_each w c k f no_values n h = tt
+fixed_each w c k f (value y ys) n h = each_of (λ v. Of v w) (λ v. Of v c) (f (λ none. cc)) (value y ys) h
+
+abbrev Fixed : Tree → ℕ → Tree → Type 0
+Fixed t k d = (vs : Values) → (value_count vs ≡ k) × Each (λ v. Of v t) vs → Of (fixed_items vs) d
+
+fixed_in : (t u w : Tree) (k : ℕ) (z : Value) → Of z t → Least t u w → (d : Tree) → Valid d → Fixed t k d → Fixed u k d → Fixed w k d
+fixed_in t u w k z zt f (fixed_size_list c l o) x i j vs h =
+    let shown = i (copies k z) (value_count-copies k z, each_copy (λ v. Of v t) k z zt) in (
+      h.0 ∙ sym (value_count-copies k z) ∙ shown.0,
+      fixed_each w c k (λ some. f c x.1 (λ q p. member c k q some (i (copies k q) (value_count-copies k q, each_copy (λ v. Of v t) k q p)).1) (λ q p. member c k q some (j (copies k q) (value_count-copies k q, each_copy (λ v. Of v u) k q p)).1)) vs h.0 h.1,
+    )
+fixed_in t u w k z zt f (extension a b s) x i j vs h = fixed_in t u w k z zt f s x.1 i j vs h
+fixed_in t u w k z zt f _ x i j vs h = absurd (i (copies k z) (value_count-copies k z, each_copy (λ v. Of v t) k z zt))
+
+least_fixed : (t u w : Tree) (k : ℕ) (m n : Nullability) (z : Value) → Of z t → Least t u w → (d : Tree) → Valid d → IncludedIn (fixed_size_list t k m) d → IncludedIn (fixed_size_list u k n) d → IncludedIn (fixed_size_list w k (either m n)) d
+least_fixed t u w k m n z zt f d x i j null_value o = null_either m n (Of null_value d) (i null_value) (j null_value) o
+least_fixed t u w k m n z zt f d x i j (fixed_items vs) o = fixed_in t u w k z zt f d x (λ vs. i (fixed_items vs)) (λ vs. j (fixed_items vs)) vs o
+least_fixed t u w k m n z zt f d x i j _ o = absurd o
+
+abbrev Mapped : Tree → Tree → Tree → Type 0
+Mapped t t' d = (es : Entries) → EachEntry (λ k. Of k t) (λ v. Of v t') es → Of (entries es) d
+
+entries_in : (t u w t' u' w' : Tree) → Valid t → Valid t' → Valid u → Valid u' → Least t u w → Least t' u' w' → (d : Tree) → Valid d → Mapped t t' d → Mapped u u' d → Mapped w w' d
+entries_in t u w t' u' w' h h' k k' f g (map_of c c' y o) x i j es e =
+    each_entry (λ v. Of v w) (λ v. Of v c) (λ v. Of v w') (λ v. Of v c')
+    (f c x.1 (λ q p. (i (entry q (sample t') no_entries) (p, sample_of t' h', tt)).0) (λ q p. (j (entry q (sample u') no_entries) (p, sample_of u' k', tt)).0))
+    (g c' x.2 (λ q p. (i (entry (sample t) q no_entries) (sample_of t h, p, tt)).1) (λ q p. (j (entry (sample u) q no_entries) (sample_of u k, p, tt)).1)) es e
+entries_in t u w t' u' w' h h' k k' f g (extension a b s) x i j es e = entries_in t u w t' u' w' h h' k k' f g s x.1 i j es e
+entries_in t u w t' u' w' h h' k k' f g _ x i j es e = absurd (i no_entries tt)
+
+least_map : (t u w t' u' w' : Tree) (x y : _) (m n : Nullability) → Valid t → Valid t' → Valid u → Valid u' → Least t u w → Least t' u' w' → (d : Tree) → Valid d → IncludedIn (map_of t t' x m) d → IncludedIn (map_of u u' y n) d
+    → IncludedIn (map_of w w' x (either m n)) d
+least_map t u w t' u' w' x y m n h h' k k' f g d z i j null_value o = null_either m n (Of null_value d) (i null_value) (j null_value) o
+least_map t u w t' u' w' x y m n h h' k k' f g d z i j (entries es) o = entries_in t u w t' u' w' h h' k k' f g d z (λ es. i (entries es)) (λ es. j (entries es)) es o
+least_map t u w t' u' w' x y m n h h' k k' f g d z i j _ o = absurd o
+
+-- what named values of fs and of gs are in d, those of hs are
+abbrev Named_in : Fields → Tree → Type 0
+Named_in fs d = (nvs : Named) → NamedOf nvs fs → Of (record_of nvs) d
+
+abbrev Least_named : Fields → Fields → Fields → Type 0
+Least_named fs gs hs = (ds : Fields) → ValidFields ds → ((nvs : Named) → NamedOf nvs fs → NamedOf nvs ds) → ((nvs : Named) → NamedOf nvs gs → NamedOf nvs ds) → (nvs : Named) → NamedOf nvs hs → NamedOf nvs ds
+
+record_in : (fs gs hs : Fields) → ValidFields fs → Least_named fs gs hs → (d : Tree) → Valid d → Named_in fs d → Named_in gs d → Named_in hs d
+record_in fs gs hs h f (struct ds o) x i j nvs e = f ds x i j nvs e
+record_in fs gs hs h f (extension a b s) x i j nvs e = record_in fs gs hs h f s x.1 i j nvs e
+record_in fs gs hs h f _ x i j nvs e = absurd (i (samples fs) (samples_of fs h))
+
+least_struct : (fs gs hs : Fields) (m n : Nullability) → ValidFields fs → Least_named fs gs hs → (d : Tree) → Valid d → IncludedIn (struct fs m) d → IncludedIn (struct gs n) d → IncludedIn (struct hs (either m n)) d
+least_struct fs gs hs m n h f d x i j null_value o = null_either m n (Of null_value d) (i null_value) (j null_value) o
+least_struct fs gs hs m n h f d x i j (record_of nvs) o = record_in fs gs hs h f d x (λ nvs. i (record_of nvs)) (λ nvs. j (record_of nvs)) nvs o
+least_struct fs gs hs m n h f d x i j _ o = absurd o
+
+abbrev Tagged_in : Variants → Tree → Type 0
+Tagged_in vs d = (g : ℕ) (v : Value) → VariantOf g v vs → Of (tagged g v) d
+
+abbrev In_variants : Variants → Variants → Type 0
+In_variants vs ds = (g : ℕ) (v : Value) → VariantOf g v vs → VariantOf g v ds
+
+abbrev Least_tagged : Variants → Variants → Variants → Type 0
+Least_tagged vs ws xs = (ds : Variants) → ValidVariants ds → In_variants vs ds → In_variants ws ds → In_variants xs ds
+
+tagged_in : (vs ws xs : Variants) (g : ℕ) (v : Value) → VariantOf g v vs → Least_tagged vs ws xs → (d : Tree) → Valid d → Tagged_in vs d → Tagged_in ws d → Tagged_in xs d
+tagged_in vs ws xs g v s f (union ds o) x i j h z e = f ds x.1 i j h z e
+tagged_in vs ws xs g v s f (extension a b t) x i j h z e = tagged_in vs ws xs g v s f t x.1 i j h z e
+tagged_in vs ws xs g v s f _ x i j h z e = absurd (i g v s)
+
+least_union : (vs ws xs : Variants) (m n : Nullability) → HasVariant vs × ValidVariants vs → Least_tagged vs ws xs → (d : Tree) → Valid d → IncludedIn (union vs m) d → IncludedIn (union ws n) d → IncludedIn (union xs (either m n)) d
+least_union vs ws xs m n h f d x i j null_value o = null_either m n (Of null_value d) (i null_value) (j null_value) o
+least_union (choice l t k vs) ws xs m n h f d x i j (tagged g v) o =
+    tagged_in (choice l t k vs) ws xs k (sample t) (inl (refl, sample_of t h.1.0)) f d x (λ g v. i (tagged g v)) (λ g v. j (tagged g v)) g v o
+least_union no_variants ws xs m n h f d x i j (tagged g v) o = absurd h.0
+least_union vs ws xs m n h f d x i j _ o = absurd o
+
+-- the type that a tag has, in variants of distinct tags
+abbrev At_tag : Variants → ℕ → Type 0
+At_tag ds g = (c : Tree) × Valid c × ((v : Value) → VariantOf g v ds → Of v c) × ((v : Value) → Of v c → VariantOf g v ds)
+
+further : (m : List ℕ) (t : Tree) (k : ℕ) (ds : Variants) → LacksTag k ds → (g : ℕ) (z : Value) → VariantOf g z ds → At_tag ds g → At_tag (choice m t k ds) g
+further m t k ds lacks g z o rest = (rest.0, rest.1, only, λ v p. inr (rest.3 v p))
+  where
+    only : (v : Value) → VariantOf g v (choice m t k ds) → Of v rest.0
+    only v (inl p) = absurd (absent k ds lacks g z p.0 o)
+    only v (inr p) = rest.2 v p
+
+at_tag : (ds : Variants) → ValidVariants ds → (g : ℕ) (z : Value) → VariantOf g z ds → At_tag ds g
+at_tag (choice m t k ds) x g z (inl o) = (t, x.0, only, λ v p. inl (o.0, p))
+  where
+    only : (v : Value) → VariantOf g v (choice m t k ds) → Of v t
+    only v (inl p) = p.1
+    only v (inr p) = absurd (absent k ds x.3 g v o.0 p)
+at_tag (choice m t k ds) x g z (inr o) = further m t k ds x.3 g z o (at_tag ds x.4 g z o)
+at_tag no_variants x g z o = absurd o
+
+mutual
+  pub least_values : (a b : Tree) → erase a ≡ erase b → Valid a → Valid b → (d : Tree) → Valid d → IncludedIn a d → IncludedIn b d → IncludedIn (merge either a b) d
+  least_values null null e h k d x i j = i
+  least_values (bool m) (bool n) e h k d x i j = choose (λ z. IncludedIn (bool z) d) m n i j
+  least_values (primitive p m) (primitive q n) e h k d x i j = let same : p ≡ q = cc in choose (λ z. IncludedIn (primitive p z) d) m n i (subst (λ z. IncludedIn (primitive z n) d) (sym same) j)
+  least_values (decimal p m) (decimal q n) e h k d x i j = let same : p ≡ q = cc in choose (λ z. IncludedIn (decimal p z) d) m n i (subst (λ z. IncludedIn (decimal z n) d) (sym same) j)
+  least_values (utf8 m) (utf8 n) e h k d x i j = choose (λ z. IncludedIn (utf8 z) d) m n i j
+  least_values (binary m) (binary n) e h k d x i j = choose (λ z. IncludedIn (binary z) d) m n i j
+  least_values (list t m) (list u n) e h k d x i j = least_list t u (merge either t u) m n (λ c. least_values t u (cc) h k c) d x i j
+  least_values (fixed_size_list t r m) (fixed_size_list u s n) e h k d x i j =
+      let same : r ≡ s = cc in
+      least_fixed t u (merge either t u) r m n (sample t) (sample_of t h.1) (λ c. least_values t u (cc) h.1 k.1 c) d x i (subst (λ z. IncludedIn (fixed_size_list u z n) d) (sym same) j)
+  least_values (map_of t t' y m) (map_of u u' z n) e h k d x i j =
+      least_map t u (merge either t u) t' u' (merge either t' u') y z m n h.1 h.2 k.1 k.2 (λ c. least_values t u (cc) h.1 k.1 c) (λ c. least_values t' u' (cc) h.2 k.2 c) d x i j
+  least_values (struct fs m) (struct gs n) e h k d x i j = least_struct fs gs (merge_fields either fs gs) m n h (λ ds. least_named fs gs (cc) h k ds) d x i j
+  least_values (union vs m) (union ws n) e h k d x i j = least_union vs ws (merge_variants either vs ws) m n h (λ ds. least_tagged vs ws (cc) h.1 k.1 ds) d x i j
+  least_values (variant m) (variant n) e h k d x i j = choose (λ z. IncludedIn (variant z) d) m n i j
+  least_values (extension l a t) (extension r b u) e h k d x i j = least_values t u (cc) h.1 k.1 d x i j
+  least_values _ _ e h k d x i j = cc
+
+  least_named : (fs gs : Fields) → erase_fields fs ≡ erase_fields gs → ValidFields fs → ValidFields gs → Least_named fs gs (merge_fields either fs gs)
+  least_named no_fields no_fields e h k ds x i j nvs o = i nvs o
+  least_named (field m t fs) (field n u gs) e h k (field l c ds) x i j (named y v rest) o = (
+    o.0 ∙ (i (named m (sample t) (samples fs)) (refl, sample_of t h.0, samples_of fs h.1)).0,
+    least_values t u (cc) h.0 k.0 c x.0 (λ q p. (i (named m q (samples fs)) (refl, p, samples_of fs h.1)).1) (λ q p. (j (named n q (samples gs)) (refl, p, samples_of gs k.1)).1) v o.1,
+    least_named fs gs (cc) h.1 k.1 ds x.1 (λ r p. (i (named m (sample t) r) (refl, sample_of t h.0, p)).2) (λ r p. (j (named n (sample u) r) (refl, sample_of u k.0, p)).2) rest o.2,
+  )
+  least_named (field m t fs) (field n u gs) e h k (field l c ds) x i j no_named o = absurd o
+  least_named (field m t fs) (field n u gs) e h k no_fields x i j nvs o = absurd (i (named m (sample t) (samples fs)) (refl, sample_of t h.0, samples_of fs h.1))
+  least_named _ _ e h k ds x i j nvs o = cc
+
+  least_tagged : (vs ws : Variants) → erase_variants vs ≡ erase_variants ws → ValidVariants vs → ValidVariants ws → Least_tagged vs ws (merge_variants either vs ws)
+  least_tagged no_variants no_variants e h k ds x i j g v o = absurd o
+  least_tagged (choice m t a vs) (choice n u b ws) e h k ds x i j g v (inl o) =
+      let same : a ≡ b = cc in
+      let at = at_tag ds x a (sample t) (i a (sample t) (inl (refl, sample_of t h.0))) in
+      subst (λ z. VariantOf z v ds) (sym o.0) (at.3 v (least_values t u (cc) h.0 k.0 at.0 at.1 (λ q p. at.2 q (i a q (inl (refl, p)))) (λ q p. at.2 q (j a q (inl (same, p)))) v o.1))
+  least_tagged (choice m t a vs) (choice n u b ws) e h k ds x i j g v (inr o) = least_tagged vs ws (cc) h.4 k.4 ds x (λ g v p. i g v (inr p)) (λ g v p. j g v (inr p)) g v o
+  least_tagged _ _ e h k ds x i j g v o = cc

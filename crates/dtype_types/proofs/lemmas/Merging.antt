@@ -1,0 +1,294 @@
+-- SPDX-License-Identifier: Apache-2.0
+-- SPDX-FileCopyrightText: Copyright the Vortex contributors
+
+-- What is merged and what is intersected of two types: where there is such a type, that it is the least above or the
+-- greatest below, that it is valid, its values, and that both are commutative, associative, idempotent and monotone and
+-- absorb one another.
+use Rattle.std.proofs.Common.{◌≡◌, ◌≢◌, ◌↔◌, ◌∙◌, ℕ, List, Bool, true, false, Option, Some, None, IsSome, IfSome, option_and_then, refl, sym, ap, subst}
+use Rattle.std.specs.Prelude.{if◌then◌else◌}
+use Rattle.std.specs.Option.{option_map}
+use Rattle.std.proofs.lemmas.Bool.{false≢true, false_from_ne_true}
+use Rattle.std.proofs.lemmas.Option.{same_Some}
+use Rattle.dtype_base.specs.Nullability.{either}
+use Rattle.dtype_base.specs.declared.nullability.Nullability.{Nullability}
+use Rattle.dtype_base.specs.declared.nullability.Nullability.TheVariants.{NonNullable, Nullable}
+use Rattle.dtype_types.specs.declared.dtype.DType.{DType}
+use Rattle.dtype_types.specs.declared.dtype.equality.NullabilityRule.TheVariants.{Ignored}
+use Rattle.dtype_types.specs.declared.dtype.lattice.MergeRule.{MergeRule}
+use Rattle.dtype_types.specs.declared.dtype.lattice.MergeRule.TheVariants.{Either, Both}
+use Rattle.dtype_types.specs.equality.Equality.{equal_under}
+use Rattle.dtype_types.specs.equality.EqualityLaws.{equal_erased-Decides}
+use Rattle.dtype_types.specs.nullability.Merged.{Rule, both, merge, merge_fields, merge_variants, merged_under, merged, intersected, IsLeastAbove, IsGreatestBelow, rule_of}
+use Rattle.dtype_types.specs.nullability.Nullable.{nullability}
+use Rattle.dtype_types.specs.nullability.Sub.{Sub}
+use Rattle.dtype_types.specs.tree.Erase.{erase, erase_fields, erase_variants}
+use Rattle.dtype_types.specs.tree.Tree.{Tree, Fields, no_fields, field, Variants, no_variants, choice, null, bool, primitive, decimal, utf8, binary, list, fixed_size_list, map_of, struct, union, variant, extension}
+use Rattle.dtype_types.specs.tree.TreeOf.{tree}
+use Rattle.dtype_types.specs.tree.Valid.{Valid, ValidFields, ValidVariants, HasVariant, LacksName, LacksTag}
+use Rattle.dtype_types.specs.values.Value.{Value, IncludedIn, Of}
+use Rattle.dtype_types.proofs.lemmas.Bounds.{erase_merge, commutes, associates, swap_either, swap_both, group_either, group_both, or_and, and_or, upper_of, lower_of, least_either, greatest_both}
+use Rattle.dtype_types.proofs.lemmas.BoundValues.{of_both, least_values}
+use Rattle.dtype_types.proofs.lemmas.SubLaws.{sub_reflexive, sub_transitive}
+use Rattle.dtype_types.proofs.lemmas.SubValues.{sub_values}
+
+-- ---- valid types
+
+-- under a rule that keeps a key non-nullable: `Needs` is what the second type has to be valid for
+module _ (r : Rule) (Needs : Type 0) (key : (n : Nullability) → (Needs → n ≡ NonNullable) → r NonNullable n ≡ NonNullable) (nulls : r Nullable Nullable ≡ Nullable) where
+  nullability_merge : (a b : Tree) → erase a ≡ erase b → nullability (merge r a b) ≡ r (nullability a) (nullability b)
+  nullability_merge null null e = sym nulls
+  nullability_merge (bool m) (bool n) e = refl
+  nullability_merge (primitive p m) (primitive q n) e = refl
+  nullability_merge (decimal c m) (decimal d n) e = refl
+  nullability_merge (utf8 m) (utf8 n) e = refl
+  nullability_merge (binary m) (binary n) e = refl
+  nullability_merge (list t m) (list u n) e = refl
+  nullability_merge (fixed_size_list t j m) (fixed_size_list u k n) e = refl
+  nullability_merge (map_of t v x m) (map_of u w y n) e = refl
+  nullability_merge (struct fs m) (struct gs n) e = refl
+  nullability_merge (union vs m) (union ws n) e = refl
+  nullability_merge (variant m) (variant n) e = refl
+  nullability_merge (extension i a t) (extension j b u) e = nullability_merge t u (cc)
+  nullability_merge _ _ e = cc
+
+  lacks_name : (x : List ℕ) (vs ws : Variants) → LacksName x vs → LacksName x (merge_variants r vs ws)
+  lacks_name x (choice m t g vs) (choice n u i ws) h = (h.0, lacks_name x vs ws h.1)
+  lacks_name x no_variants ws h = tt
+  lacks_name x (choice m t g vs) no_variants h = tt
+
+  lacks_tag : (x : ℕ) (vs ws : Variants) → LacksTag x vs → LacksTag x (merge_variants r vs ws)
+  lacks_tag x (choice m t g vs) (choice n u i ws) h = (h.0, lacks_tag x vs ws h.1)
+  lacks_tag x no_variants ws h = tt
+  lacks_tag x (choice m t g vs) no_variants h = tt
+
+  has_variant : (vs ws : Variants) → erase_variants vs ≡ erase_variants ws → HasVariant vs → HasVariant (merge_variants r vs ws)
+  has_variant no_variants no_variants e h = h
+  has_variant (choice m t g vs) (choice n u i ws) e h = h
+  has_variant _ _ e h = cc
+
+  mutual
+    valid_merge : (a b : Tree) → erase a ≡ erase b → Valid a → (Needs → Valid b) → Valid (merge r a b)
+    valid_merge null null e h k = h
+    valid_merge (bool m) (bool n) e h k = h
+    valid_merge (primitive p m) (primitive q n) e h k = h
+    valid_merge (decimal c m) (decimal d n) e h k = h
+    valid_merge (utf8 m) (utf8 n) e h k = h
+    valid_merge (binary m) (binary n) e h k = h
+    valid_merge (list t m) (list u n) e h k = valid_merge t u (cc) h k
+    valid_merge (fixed_size_list t i m) (fixed_size_list u j n) e h k = (h.0, valid_merge t u (cc) h.1 (λ z. (k z).1))
+    valid_merge (map_of t v x m) (map_of u w y n) e h k =
+        (nullability_merge t u (cc) ∙ ap (λ z. r z (nullability u)) h.0 ∙ key (nullability u) (λ z. (k z).0), valid_merge t u (cc) h.1 (λ z. (k z).1), valid_merge v w (cc) h.2 (λ z. (k z).2))
+    valid_merge (struct fs m) (struct gs n) e h k = valid_merge_fields fs gs (cc) h k
+    valid_merge (union vs m) (union ws n) e h k = (has_variant vs ws (cc) h.0, valid_merge_variants vs ws (cc) h.1 (λ z. (k z).1))
+    valid_merge (variant m) (variant n) e h k = h
+    valid_merge (extension i a t) (extension j b u) e h k = (h.0, valid_merge t u (cc) h.1 (λ z. (k z).1))
+    valid_merge _ _ e h k = h
+
+    valid_merge_fields : (fs gs : Fields) → erase_fields fs ≡ erase_fields gs → ValidFields fs → (Needs → ValidFields gs) → ValidFields (merge_fields r fs gs)
+    valid_merge_fields no_fields no_fields e h k = tt
+    valid_merge_fields (field m t fs) (field n u gs) e h k = (valid_merge t u (cc) h.0 (λ z. (k z).0), valid_merge_fields fs gs (cc) h.1 (λ z. (k z).1))
+    valid_merge_fields _ _ e h k = tt
+
+    valid_merge_variants : (vs ws : Variants) → erase_variants vs ≡ erase_variants ws → ValidVariants vs → (Needs → ValidVariants ws) → ValidVariants (merge_variants r vs ws)
+    valid_merge_variants no_variants no_variants e h k = tt
+    valid_merge_variants (choice m t g vs) (choice n u i ws) e h k =
+        (valid_merge t u (cc) h.0 (λ z. (k z).0), h.1, lacks_name m vs ws h.2, lacks_tag g vs ws h.3, valid_merge_variants vs ws (cc) h.4 (λ z. (k z).4))
+    valid_merge_variants _ _ e h k = tt
+
+valid_either : (a b : Tree) → erase a ≡ erase b → Valid a → Valid b → Valid (merge either a b)
+valid_either a b e h k = valid_merge either (Unit {0}) (λ n same. ap (either NonNullable) (same tt)) refl a b e h (λ _. k)
+
+valid_both : (a b : Tree) → erase a ≡ erase b → Valid a → Valid (merge both a b)
+valid_both a b e h = valid_merge both ⊥ (λ n _. refl) refl a b e h (λ z. absurd z)
+
+-- ---- where there is one, under either rule
+
+module _ (r : Rule) where
+  pub under_some : (a b : Tree) → erase a ≡ erase b → merged_under r a b ≡ Some (merge r a b)
+  under_some a b e = ap (λ x. if x then Some (merge r a b) else None) ((equal_erased-Decides a b).1 e)
+
+  pub under_none : (a b : Tree) → erase a ≢ erase b → merged_under r a b ≡ None
+  under_none a b d = ap (λ x. if x then Some (merge r a b) else None) (false_from_ne_true (equal_under Ignored a b) (λ t. d ((equal_erased-Decides a b).0 t)))
+
+  -- a fact of what is merged, by whether the types are equal but for nullabilities
+  by_erased : (a b : Tree) (P : Option Tree → Type 0) → (erase a ≡ erase b → P (Some (merge r a b))) → (erase a ≢ erase b → P None) → P (merged_under r a b)
+  by_erased a b P same differ = go (equal_under Ignored a b) refl
+    where
+      go : (x : Bool) → equal_under Ignored a b ≡ x → P (merged_under r a b)
+      go true is = let e = (equal_erased-Decides a b).0 is in subst P (sym (under_some a b e)) (same e)
+      go false is = let d : erase a ≢ erase b = λ e. false≢true (sym is ∙ (equal_erased-Decides a b).1 e) in subst P (sym (under_none a b d)) (differ d)
+
+  pub under_where : (a b : Tree) → IsSome (merged_under r a b) ↔ (erase a ≡ erase b)
+  under_where a b = by_erased a b (λ o. IsSome o ↔ (erase a ≡ erase b)) (λ e. (λ _. e, λ _. refl)) (λ d. (λ s. absurd (false≢true s), λ e. absurd (d e)))
+
+  -- where there is one, it is what is merged of types that are equal but for nullabilities
+  pub under_is : (a b c : Tree) (P : Tree → Type 0) → (erase a ≡ erase b → P (merge r a b)) → merged_under r a b ≡ Some c → P c
+  under_is a b c P f = by_erased a b (λ o. o ≡ Some c → P c) (λ e is. subst P (same_Some (merge r a b) c is) (f e)) (λ d is. cc)
+
+  module _ (swap : (m n : Nullability) → r m n ≡ r n m) (group : (l m n : Nullability) → r (r l m) n ≡ r l (r m n)) where
+    pub under_commutes : (a b : Tree) → merged_under r a b ≡ merged_under r b a
+    under_commutes a b = by_erased a b (λ o. o ≡ merged_under r b a)
+        (λ e. ap Some (commutes r swap a b e) ∙ sym (under_some b a (sym e)))
+        (λ d. sym (under_none b a (λ e. d (sym e))))
+
+    pub under_associates : (a b c : Tree) → option_and_then (λ x. merged_under r x c) (merged_under r a b) ≡ option_and_then (merged_under r a) (merged_under r b c)
+    under_associates a b c = by_erased a b (λ o. option_and_then (λ x. merged_under r x c) o ≡ option_and_then (merged_under r a) (merged_under r b c))
+        (λ e. by_erased b c (λ o. merged_under r (merge r a b) c ≡ option_and_then (merged_under r a) o)
+        (λ f. under_some (merge r a b) c (erase_merge r a b e ∙ e ∙ f) ∙ ap Some (associates r group a b e c f) ∙ sym (under_some a (merge r b c) (e ∙ sym (erase_merge r b c f))))
+        (λ d. under_none (merge r a b) c (λ f. d (sym e ∙ sym (erase_merge r a b e) ∙ f))))
+        (λ d. by_erased b c (λ o. None ≡ option_and_then (merged_under r a) o)
+        (λ f. sym (under_none a (merge r b c) (λ e. d (e ∙ erase_merge r b c f))))
+        (λ n. refl))
+
+  -- the same of what a call returns
+  pub given_under : (a b : Tree) (o : Option DType) → option_map tree o ≡ merged_under r a b → IsSome o ↔ (erase a ≡ erase b)
+  given_under a b None is = (λ s. absurd (false≢true s), λ e. absurd (false≢true (subst (λ o. IsSome o) (sym is) ((under_where a b).1 e))))
+  given_under a b (Some d) is = (λ s. (under_where a b).0 (subst (λ o. IsSome o) is refl), λ e. refl)
+
+  given_is : (a b : Tree) (P : Tree → Type 0) → ((c : Tree) → merged_under r a b ≡ Some c → P c) → (o : Option DType) → option_map tree o ≡ merged_under r a b → IfSome o (λ d. P (tree d))
+  given_is a b P f None is = tt
+  given_is a b P f (Some d) is = f (tree d) (sym is)
+
+-- ---- the least type above two
+
+pub merged_where : (a b : Tree) → IsSome (merged a b) ↔ (erase a ≡ erase b)
+merged_where = under_where either
+
+pub merged_least : (a b c : Tree) → merged a b ≡ Some c → IsLeastAbove a b c
+merged_least a b c = under_is either a b c (IsLeastAbove a b) (least_either a b)
+
+pub merged_valid : (a b c : Tree) → merged a b ≡ Some c → Valid a → Valid b → Valid c
+merged_valid a b c = under_is either a b c (λ c. Valid a → Valid b → Valid c) (valid_either a b)
+
+pub merged_least_values : (a b c d : Tree) → merged a b ≡ Some c → Valid a → Valid b → Valid d → IncludedIn a d → IncludedIn b d → IncludedIn c d
+merged_least_values a b c d e h k x = under_is either a b c (λ c. IncludedIn a d → IncludedIn b d → IncludedIn c d) (λ same. least_values a b same h k d x) e
+
+pub merged_commutes : (a b : Tree) → merged a b ≡ merged b a
+merged_commutes = under_commutes either swap_either group_either
+
+pub merged_associates : (a b c : Tree) → option_and_then (λ x. merged x c) (merged a b) ≡ option_and_then (merged a) (merged b c)
+merged_associates = under_associates either swap_either group_either
+
+pub merged_above : (a b : Tree) → Sub a b → merged a b ≡ Some b
+merged_above a b h = under_some either a b h.erased ∙ ap Some (upper_of a b h)
+
+pub merged_below : (a b : Tree) → Sub b a → merged a b ≡ Some a
+merged_below a b h = merged_commutes a b ∙ merged_above b a h
+
+pub merged_same : (a : Tree) → merged a a ≡ Some a
+merged_same a = merged_below a a (sub_reflexive a)
+
+-- ---- the greatest type below two
+
+pub intersected_where : (a b : Tree) → IsSome (intersected a b) ↔ (erase a ≡ erase b)
+intersected_where = under_where both
+
+pub intersected_greatest : (a b c : Tree) → intersected a b ≡ Some c → IsGreatestBelow a b c
+intersected_greatest a b c = under_is both a b c (IsGreatestBelow a b) (greatest_both a b)
+
+pub intersected_commutes : (a b : Tree) → intersected a b ≡ intersected b a
+intersected_commutes = under_commutes both swap_both group_both
+
+pub intersected_associates : (a b c : Tree) → option_and_then (λ x. intersected x c) (intersected a b) ≡ option_and_then (intersected a) (intersected b c)
+intersected_associates = under_associates both swap_both group_both
+
+pub intersected_valid : (a b c : Tree) → intersected a b ≡ Some c → Valid a → Valid c
+intersected_valid a b c = under_is both a b c (λ c. Valid a → Valid c) (valid_both a b)
+
+pub intersected_valid_second : (a b c : Tree) → intersected a b ≡ Some c → Valid b → Valid c
+intersected_valid_second a b c e = intersected_valid b a c (intersected_commutes b a ∙ e)
+
+pub intersected_below : (a b : Tree) → Sub a b → intersected a b ≡ Some a
+intersected_below a b h = under_some both a b h.erased ∙ ap Some (lower_of a b h)
+
+pub intersected_above : (a b : Tree) → Sub b a → intersected a b ≡ Some b
+intersected_above a b h = intersected_commutes a b ∙ intersected_below b a h
+
+pub intersected_same : (a : Tree) → intersected a a ≡ Some a
+intersected_same a = intersected_below a a (sub_reflexive a)
+
+-- its values are exactly those that both have
+pub intersected_values : (a b c : Tree) → intersected a b ≡ Some c → Valid a → (v : Value) → Of v c ↔ (Of v a × Of v b)
+intersected_values a b c e h v =
+    let g = intersected_greatest a b c e in (
+      λ o. (sub_values c a g.first v o, sub_values c b g.second v o),
+      λ o. under_is both a b c (Of v) (λ same. of_both a b same h v o.0 o.1) e,
+    )
+
+-- ---- both
+
+pub merged_absorbs : (a b : Tree) → erase a ≡ erase b → option_and_then (merged a) (intersected a b) ≡ Some a
+merged_absorbs a b e = ap (option_and_then (merged a)) (under_some both a b e) ∙ under_some either a (merge both a b) (sym (erase_merge both a b e)) ∙ ap Some (or_and a b e)
+
+pub intersected_absorbs : (a b : Tree) → erase a ≡ erase b → option_and_then (intersected a) (merged a b) ≡ Some a
+intersected_absorbs a b e = ap (option_and_then (intersected a)) (under_some either a b e) ∙ under_some both a (merge either a b) (sym (erase_merge either a b e)) ∙ ap Some (and_or a b e)
+
+pub merged_monotone : (a b c d x y : Tree) → Sub a b → Sub c d → merged a c ≡ Some x → merged b d ≡ Some y → Sub x y
+merged_monotone a b c d x y h k e f =
+    let l = merged_least b d y f in
+    (merged_least a c x e).least y (sub_transitive a b y h l.first) (sub_transitive c d y k l.second)
+
+pub intersected_monotone : (a b c d x y : Tree) → Sub a b → Sub c d → intersected a c ≡ Some x → intersected b d ≡ Some y → Sub x y
+intersected_monotone a b c d x y h k e f =
+    let l = intersected_greatest a c x e in
+    (intersected_greatest b d y f).greatest x (sub_transitive x a b l.first h) (sub_transitive x c d l.second k)
+
+-- ---- under a rule of the code
+
+pub rule_commutes : (m : MergeRule) (a b : Tree) → merged_under (rule_of m) a b ≡ merged_under (rule_of m) b a
+rule_commutes Either = merged_commutes
+rule_commutes Both = intersected_commutes
+
+pub rule_none : (m : MergeRule) (a b : Tree) → erase a ≢ erase b → merged_under (rule_of m) a b ≡ None
+rule_none m = under_none (rule_of m)
+
+pub rule_some : (m : MergeRule) (a b : Tree) → erase a ≡ erase b → merged_under (rule_of m) a b ≡ Some (merge (rule_of m) a b)
+rule_some m = under_some (rule_of m)
+
+pub rule_above : (m : MergeRule) (a b : Tree) → m ≡ Either → Sub a b → merged_under (rule_of m) a b ≡ Some b
+rule_above m a b is h = ap (λ k. merged_under (rule_of k) a b) is ∙ merged_above a b h
+
+pub rule_below : (m : MergeRule) (a b : Tree) → m ≡ Both → Sub a b → merged_under (rule_of m) a b ≡ Some a
+rule_below m a b is h = ap (λ k. merged_under (rule_of k) a b) is ∙ intersected_below a b h
+
+-- ---- for callers
+
+pub values_first : (a b c : Tree) → merged a b ≡ Some c → IncludedIn a c
+values_first a b c e = sub_values a c (merged_least a b c e).first
+
+pub values_second : (a b c : Tree) → merged a b ≡ Some c → IncludedIn b c
+values_second a b c e = sub_values b c (merged_least a b c e).second
+
+pub given_where : (a b : Tree) (o : Option DType) → option_map tree o ≡ merged a b → IsSome o ↔ (erase a ≡ erase b)
+given_where = given_under either
+
+pub given_least : (a b : Tree) (o : Option DType) → option_map tree o ≡ merged a b → IfSome o (λ c. IsLeastAbove a b (tree c))
+given_least a b = given_is either a b (IsLeastAbove a b) (merged_least a b)
+
+pub given_valid : (a b : Tree) (o : Option DType) → option_map tree o ≡ merged a b → Valid a → Valid b → IfSome o (λ c. Valid (tree c))
+given_valid a b o is h k = given_is either a b Valid (λ c e. merged_valid a b c e h k) o is
+
+pub given_values : (a b : Tree) (o : Option DType) → option_map tree o ≡ merged a b → IfSome o (λ c. IncludedIn a (tree c) × IncludedIn b (tree c))
+given_values a b = given_is either a b (λ c. IncludedIn a c × IncludedIn b c) (λ c e. (values_first a b c e, values_second a b c e))
+
+pub ruleset merging = (merged_where, merged_least, merged_valid, merged_commutes, merged_associates, merged_same, merged_below, values_first, values_second, given_where, given_least, given_valid, given_values)
+
+pub values_in_first : (a b c : Tree) → intersected a b ≡ Some c → IncludedIn c a
+values_in_first a b c e = sub_values c a (intersected_greatest a b c e).first
+
+pub values_in_second : (a b c : Tree) → intersected a b ≡ Some c → IncludedIn c b
+values_in_second a b c e = sub_values c b (intersected_greatest a b c e).second
+
+pub given_in_both : (a b : Tree) (o : Option DType) → option_map tree o ≡ intersected a b → IsSome o ↔ (erase a ≡ erase b)
+given_in_both = given_under both
+
+pub given_greatest : (a b : Tree) (o : Option DType) → option_map tree o ≡ intersected a b → IfSome o (λ c. IsGreatestBelow a b (tree c))
+given_greatest a b = given_is both a b (IsGreatestBelow a b) (intersected_greatest a b)
+
+pub given_valid_below : (a b : Tree) (o : Option DType) → option_map tree o ≡ intersected a b → Valid a → IfSome o (λ c. Valid (tree c))
+given_valid_below a b o is h = given_is both a b Valid (λ c e. intersected_valid a b c e h) o is
+
+pub given_values_in : (a b : Tree) (o : Option DType) → option_map tree o ≡ intersected a b → IfSome o (λ c. IncludedIn (tree c) a × IncludedIn (tree c) b)
+given_values_in a b = given_is both a b (λ c. IncludedIn c a × IncludedIn c b) (λ c e. (values_in_first a b c e, values_in_second a b c e))
+
+pub ruleset intersecting = (intersected_where, intersected_greatest, intersected_valid, intersected_valid_second, intersected_commutes, intersected_associates, intersected_same, intersected_below, intersected_above, values_in_first, values_in_second, given_in_both, given_greatest, given_valid_below, given_values_in)

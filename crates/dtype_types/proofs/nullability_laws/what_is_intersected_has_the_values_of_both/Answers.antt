@@ -1,0 +1,8 @@
+-- SPDX-License-Identifier: Apache-2.0
+-- SPDX-FileCopyrightText: Copyright the Vortex contributors
+
+use Rattle.dtype_types.proofs.lemmas.Merging.{intersected_values}
+use Rattle.dtype_types.proofs.nullability_laws.what_is_intersected_has_the_values_of_both.Goals as goal
+
+pub returns : goal.returns
+returns c = intersected_values

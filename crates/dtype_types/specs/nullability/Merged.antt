@@ -1,0 +1,81 @@
+-- SPDX-License-Identifier: Apache-2.0
+-- SPDX-FileCopyrightText: Copyright the Vortex contributors
+
+-- Two types as one, where they are equal but for nullabilities: under a rule that makes one nullability of the two at each
+-- node. Nullable where either is, it is the least type above both: what a reader of several files opens, so that each
+-- value of each file is a value of it. Nullable where both are, it is the greatest type below both: what two schemas that
+-- are to be met together leave. From the documentation of `DType::eq_with_nullability_subset`, whose order they are bounds of.
+use Rattle.std.specs.Prelude.{List, [], ◌∷◌, Option, Some, None, if◌then◌else◌}
+use Rattle.dtype_base.specs.Nullability.{either}
+use Rattle.dtype_base.specs.declared.nullability.Nullability.{Nullability}
+use Rattle.dtype_base.specs.declared.nullability.Nullability.TheVariants.{NonNullable, Nullable}
+use Rattle.dtype_types.specs.declared.dtype.equality.NullabilityRule.TheVariants.{Ignored}
+use Rattle.dtype_types.specs.declared.dtype.lattice.MergeRule.{MergeRule}
+use Rattle.dtype_types.specs.declared.dtype.lattice.MergeRule.TheVariants.{Either, Both}
+use Rattle.dtype_types.specs.equality.Equality.{equal_under}
+use Rattle.dtype_types.specs.nullability.Sub.{Sub}
+use Rattle.dtype_types.specs.tree.Tree.{Tree, Fields, no_fields, field, Variants, no_variants, choice, null, bool, primitive, decimal, utf8, binary, list, fixed_size_list, map_of, struct, union, variant, extension}
+
+-- one nullability of two
+abbrev pub Rule : Type 0
+Rule = Nullability → Nullability → Nullability
+
+-- nullable only where both are
+abbrev pub both : Rule
+both NonNullable n = NonNullable
+both Nullable n = n
+
+-- of two types that are equal but for nullabilities: at each node the nullability that the rule makes
+abbrev mutual
+  pub merge : Rule → Tree → Tree → Tree
+  merge r null null = null
+  merge r (bool m) (bool n) = bool (r m n)
+  merge r (primitive p m) (primitive q n) = primitive p (r m n)
+  merge r (decimal d m) (decimal e n) = decimal d (r m n)
+  merge r (utf8 m) (utf8 n) = utf8 (r m n)
+  merge r (binary m) (binary n) = binary (r m n)
+  merge r (list t m) (list u n) = list (merge r t u) (r m n)
+  merge r (fixed_size_list t j m) (fixed_size_list u k n) = fixed_size_list (merge r t u) j (r m n)
+  merge r (map_of t v a m) (map_of u w b n) = map_of (merge r t u) (merge r v w) a (r m n)
+  merge r (struct fs m) (struct gs n) = struct (merge_fields r fs gs) (r m n)
+  merge r (union vs m) (union ws n) = union (merge_variants r vs ws) (r m n)
+  merge r (variant m) (variant n) = variant (r m n)
+  merge r (extension i a t) (extension j b u) = extension i a (merge r t u)
+  merge r t _ = t
+
+  pub merge_fields : Rule → Fields → Fields → Fields
+  merge_fields r (field m t fs) (field n u gs) = field m (merge r t u) (merge_fields r fs gs)
+  merge_fields r _ _ = no_fields
+
+  pub merge_variants : Rule → Variants → Variants → Variants
+  merge_variants r (choice m t g vs) (choice n u h ws) = choice m (merge r t u) g (merge_variants r vs ws)
+  merge_variants r _ _ = no_variants
+
+-- the two as one, where they are equal but for nullabilities
+abbrev pub merged_under : Rule → Tree → Tree → Option Tree
+merged_under r a b = if equal_under Ignored a b then Some (merge r a b) else None
+
+-- the least type above both, if there is one
+abbrev pub merged : Tree → Tree → Option Tree
+merged = merged_under either
+
+-- the greatest type below both, if there is one
+abbrev pub intersected : Tree → Tree → Option Tree
+intersected = merged_under both
+
+-- both are below c, and c is below each type that both are below
+pub record IsLeastAbove (a b c : Tree) : Type 0 where
+  pub first : Sub a c
+  pub second : Sub b c
+  pub least : (d : Tree) → Sub a d → Sub b d → Sub c d
+
+-- c is below both, and each type that is below both is below c
+pub record IsGreatestBelow (a b c : Tree) : Type 0 where
+  pub first : Sub c a
+  pub second : Sub c b
+  pub greatest : (d : Tree) → Sub d a → Sub d b → Sub d c
+
+-- the rule by its name in the code
+abbrev pub rule_of : MergeRule → Rule
+rule_of Either = either
+rule_of Both = both

@@ -1,0 +1,161 @@
+// SPDX-License-Identifier: Apache-2.0
+// SPDX-FileCopyrightText: Copyright the Vortex contributors
+
+// The bounds of two types in the order by nullability: one walk over two types that are equal but for nullabilities,
+// which makes the least above both or the greatest below both.
+#![tactic(auto, using(crate::proofs::MergedParts::merged_parts))]
+
+ghost use Rattle.std.specs.Prelude.{◌≡◌, ◌↔◌, IfOk, IfSome, IsSome, MatchResult, Some};
+ghost use Rattle.std.specs.Option.{option_map};
+ghost use Rattle.dtype_base.specs.declared.vortex_error.VortexError.TheVariants.{OutOfMemory};
+ghost use Rattle.dtype_types.specs.nullability.Merged.{IsGreatestBelow, IsLeastAbove, intersected, merge, merged, merged_under, rule_of};
+ghost use Rattle.dtype_types.specs.nullability.Sub.{Sub};
+ghost use Rattle.dtype_types.specs.tree.Erase.{erase};
+ghost use Rattle.dtype_types.specs.tree.TreeOf.{tree};
+ghost use Rattle.dtype_types.specs.tree.Valid.{Valid};
+ghost use Rattle.dtype_types.specs.values.Value.{IncludedIn};
+
+use crate::DType;
+use dtype_base::{Nullability, VortexResult};
+use std::alloc::Global;
+
+// Which bound of two types is made: at each node it is nullable where either is, or only where both are.
+#[derive(Clone, Copy)]
+pub(crate) enum MergeRule {
+    Either,
+    Both,
+}
+
+impl MergeRule {
+    // The bound of two types of which the first is below the second: one of the two.
+    fn bound_in_order<'a>(self, lower: &'a DType, upper: &'a DType) -> &'a DType
+        requires { Sub (tree lower.now) (tree upper.now) }
+        ensures { merged_under (rule_of self) (tree lower.now) (tree upper.now) ≡ Some (tree result.now) }
+    {
+        match self {
+            MergeRule::Either => upper,
+            MergeRule::Both => lower,
+        }
+    }
+
+    // The nullability that the rule makes of those at the same node of two types.
+    fn of(self, one: Nullability, other: Nullability) -> Nullability
+        ensures { result ≡ rule_of self one other }
+    {
+        match self {
+            MergeRule::Either => one | other,
+            MergeRule::Both => match one {
+                Nullability::NonNullable => Nullability::NonNullable,
+                Nullability::Nullable => other,
+            },
+        }
+    }
+}
+
+/// The least type that takes the values of both: nullable wherever one of the two is, at every depth, also in a map's
+/// value and in an extension's storage. `None` where the types differ in more than nullability.
+///
+/// Of `{a=i32, b=list(utf8?)}` and `{a=i32?, b=list(utf8)}` it is `{a=i32?, b=list(utf8?)}`. Where one of the two takes
+/// the values of the other already, it is a copy of that one, which shares its fields: so a reader of many files with
+/// one schema doesn't build it again.
+///
+/// # Errors
+///
+/// - `OutOfMemory` (0): an allocation fails.
+pub fn merge_nullability(alloc: Global, a: &DType, b: &DType) -> VortexResult<Option<DType>>
+    ensures merged { MatchResult result (λ r. option_map tree r ≡ merged (tree a.now) (tree b.now))
+        (λ e. e ≡ OutOfMemory) }
+    ensures some { IfOk result (λ r. IsSome r ↔ (erase (tree a.now) ≡ erase (tree b.now))) }
+    ensures least { IfOk result (λ r. IfSome r (λ d. IsLeastAbove (tree a.now) (tree b.now) (tree d))) }
+    ensures values { IfOk result (λ r. IfSome r (λ d. IncludedIn (tree a.now) (tree d)
+        × IncludedIn (tree b.now) (tree d))) }
+    ensures valid { Valid (tree a.now) → Valid (tree b.now) → IfOk result (λ r. IfSome r (λ d. Valid (tree d))) }
+{
+    bound_of(alloc, a, b, MergeRule::Either)
+}
+
+/// The greatest type whose values are values of both: nullable only where both are, at every depth, also in a map's
+/// value and in an extension's storage. `None` where the types differ in more than nullability.
+///
+/// Of `{a=i32, b=list(utf8?)}` and `{a=i32?, b=list(utf8)}` it is `{a=i32, b=list(utf8)}`. Where the values of one of
+/// the two are values of the other already, it is a copy of that one, which shares its fields.
+///
+/// # Errors
+///
+/// - `OutOfMemory` (0): an allocation fails.
+pub fn intersect_nullability(alloc: Global, a: &DType, b: &DType) -> VortexResult<Option<DType>>
+    ensures intersected { MatchResult result (λ r. option_map tree r ≡ intersected (tree a.now) (tree b.now))
+        (λ e. e ≡ OutOfMemory) }
+    ensures some { IfOk result (λ r. IsSome r ↔ (erase (tree a.now) ≡ erase (tree b.now))) }
+    ensures greatest { IfOk result (λ r. IfSome r (λ d. IsGreatestBelow (tree a.now) (tree b.now) (tree d))) }
+    ensures values { IfOk result (λ r. IfSome r (λ d. IncludedIn (tree d) (tree a.now)
+        × IncludedIn (tree d) (tree b.now))) }
+    ensures valid { Valid (tree a.now) → IfOk result (λ r. IfSome r (λ d. Valid (tree d))) }
+{
+    bound_of(alloc, a, b, MergeRule::Both)
+}
+
+// The bound of two types, where they are equal but for nullabilities. Where it is one of the two, it is a copy of that one:
+// nothing is built, and equal types cost one comparison.
+fn bound_of(alloc: Global, a: &DType, b: &DType, rule: MergeRule) -> VortexResult<Option<DType>>
+    ensures { MatchResult result (λ r. option_map tree r ≡ merged_under (rule_of rule) (tree a.now) (tree b.now))
+        (λ e. e ≡ OutOfMemory) }
+{
+    if a.eq_with_nullability_subset(b) {
+        return Ok(Some(rule.bound_in_order(a, b).try_clone(alloc)?));
+    }
+    if b.eq_with_nullability_subset(a) {
+        return Ok(Some(rule.bound_in_order(b, a).try_clone(alloc)?));
+    }
+    if !a.eq_ignore_nullability(b) {
+        return Ok(None);
+    }
+    Ok(Some(merge_under(alloc, a, b, rule)?))
+}
+
+// The bound of two types that are equal but for nullabilities.
+#[cycle(merge_under)]
+pub(crate) fn merge_under(
+    alloc: Global,
+    a: &DType,
+    b: &DType,
+    rule: MergeRule,
+) -> VortexResult<DType>
+    requires { erase (tree a.now) ≡ erase (tree b.now) }
+    ensures { MatchResult result
+        (λ d. tree d ≡ merge (rule_of rule) (tree a.now) (tree b.now)) (λ e. e ≡ OutOfMemory) }
+{
+    match (a, b) {
+        (DType::Null, DType::Null) => Ok(DType::Null),
+        (DType::Bool(m), DType::Bool(n)) => Ok(DType::Bool(rule.of(*m, *n))),
+        (DType::Primitive(p, m), DType::Primitive(_, n)) => {
+            Ok(DType::Primitive(*p, rule.of(*m, *n)))
+        }
+        (DType::Decimal(p, m), DType::Decimal(_, n)) => Ok(DType::Decimal(*p, rule.of(*m, *n))),
+        (DType::Utf8(m), DType::Utf8(n)) => Ok(DType::Utf8(rule.of(*m, *n))),
+        (DType::Binary(m), DType::Binary(n)) => Ok(DType::Binary(rule.of(*m, *n))),
+        (DType::List(t, m), DType::List(u, n)) => {
+            let element = merge_under(alloc, t, u, rule)?;
+            Ok(DType::List(Box::new(alloc, element)?, rule.of(*m, *n)))
+        }
+        (DType::FixedSizeList(t, size, m), DType::FixedSizeList(u, _, n)) => {
+            let element = merge_under(alloc, t, u, rule)?;
+            let element = Box::new(alloc, element)?;
+            Ok(DType::FixedSizeList(element, *size, rule.of(*m, *n)))
+        }
+        (DType::Map(t, m), DType::Map(u, n)) => {
+            Ok(DType::Map(t.merge_under(alloc, u, rule)?, rule.of(*m, *n)))
+        }
+        (DType::Struct(t, m), DType::Struct(u, n)) => {
+            Ok(DType::Struct(t.merge_under(alloc, u, rule)?, rule.of(*m, *n)))
+        }
+        (DType::Union(t, m), DType::Union(u, n)) => {
+            Ok(DType::Union(t.merge_under(alloc, u, rule)?, rule.of(*m, *n)))
+        }
+        (DType::Variant(m), DType::Variant(n)) => Ok(DType::Variant(rule.of(*m, *n))),
+        (DType::Extension(t), DType::Extension(u)) => {
+            Ok(DType::Extension(t.merge_under(alloc, u, rule)?))
+        }
+        _ => a.try_clone(alloc),
+    }
+}

@@ -63,7 +63,7 @@ impl MergeRule {
 ///
 /// - `OutOfMemory` (0): an allocation fails.
 pub fn merge_nullability(alloc: Global, a: &DType, b: &DType) -> VortexResult<Option<DType>>
-    ensures merged { MatchResult result (λ r. option_map tree r ≡ merged (tree a.now) (tree b.now))
+    ensures ok { MatchResult result (λ r. option_map tree r ≡ merged (tree a.now) (tree b.now))
         (λ e. e ≡ OutOfMemory) }
     ensures some { IfOk result (λ r. IsSome r ↔ (erase (tree a.now) ≡ erase (tree b.now))) }
     ensures least { IfOk result (λ r. IfSome r (λ d. IsLeastAbove (tree a.now) (tree b.now) (tree d))) }
@@ -84,7 +84,7 @@ pub fn merge_nullability(alloc: Global, a: &DType, b: &DType) -> VortexResult<Op
 ///
 /// - `OutOfMemory` (0): an allocation fails.
 pub fn intersect_nullability(alloc: Global, a: &DType, b: &DType) -> VortexResult<Option<DType>>
-    ensures intersected { MatchResult result (λ r. option_map tree r ≡ intersected (tree a.now) (tree b.now))
+    ensures ok { MatchResult result (λ r. option_map tree r ≡ intersected (tree a.now) (tree b.now))
         (λ e. e ≡ OutOfMemory) }
     ensures some { IfOk result (λ r. IsSome r ↔ (erase (tree a.now) ≡ erase (tree b.now))) }
     ensures greatest { IfOk result (λ r. IfSome r (λ d. IsGreatestBelow (tree a.now) (tree b.now) (tree d))) }

@@ -2,7 +2,7 @@
 -- SPDX-FileCopyrightText: Copyright the Vortex contributors
 
 -- Names that share a prefix are ordered as their sort keys are, where the keys differ; and the index sorted by keys.
-use Rattle.std.proofs.Common.{◌%◌, mod-eq_of_lt, ◌≡◌, ◌≢◌, ℕ, zero, suc, min, ◌+◌, ◌-◌, ◌*◌, ◌<◌, ◌≤◌, ◌^◌, List, [], ◌∷◌, ◌++◌, length, get_or, take, drop, Some, Bool, true, false, IsTrue, ◌↔◌, ◌/◌, refl, sym, ap, subst, ◌∙◌, inl, inr, arith, pow-suc, mul-le-mul_right, add-mul}
+use Rattle.std.proofs.Common.{◌%◌, mod-eq_of_lt, ◌≡◌, ◌≢◌, ℕ, zero, suc, min, ◌+◌, ◌-◌, ◌*◌, ◌<◌, ◌≤◌, ◌^◌, List, [], ◌∷◌, ◌++◌, length, get_or, take, drop, Some, Bool, true, false, IsTrue, ◌↔◌, ◌/◌, refl, sym, ap, subst, subst₂, ◌∙◌, inl, inr, arith, pow-suc, mul-le-mul_right, add-mul}
 use Rattle.std.specs.Prelude.{slice_get}
 use Rattle.std.proofs.Math.Nat.{add-mul-mod_self_right, mul_assoc}
 use Rattle.std.proofs.lemmas.Nat.{div-mul-add, pow-add}
@@ -11,21 +11,23 @@ use Rattle.std.specs.List.Sorted.{IsPermutation, IsSorted}
 use Rattle.std.specs.Int.{w64, from_be_bytes}
 use Rattle.std.specs.declared.cmp.Ordering.TheVariants.{Less, Equal, Greater}
 use Rattle.std.specs.declared.cmp.Ordering.{Ordering}
-use Rattle.std.specs.Ordering.{is_lt, ordering_then, nat_cmp, MatchOrdering}
+use Rattle.std.specs.Ordering.{is_eq, is_lt, ordering_index, ordering_then, nat_cmp, MatchOrdering}
 use Rattle.std.specs.Cmp.{IsTotalOrder, then_total, on_total, nat_cmp_is, nat_cmp_total, ranked, tied_itself}
 use Rattle.std.specs.Cmp.Lexicographic.{slice_cmp, nat_list_cmp_total}
 use Rattle.std.proofs.lemmas.Bool.{cases_lt, cases_order, false≢true}
-use Rattle.std.proofs.lemmas.List.{get_or-map, get_or-take, get_or-drop, get_or_past, map-append, drop-drop, drop_all, length-drop, take_more_same}
+use Rattle.std.proofs.lemmas.List.{get_or-map, map_more, take-map, get_or-take, get_or-drop, get_or_past, map-append, drop-drop, drop_all, length-drop, take_more_same}
 use Rattle.std.proofs.lemmas.List.Elements.{All-tail, All-drop}
 use Rattle.std.proofs.lemmas.List.Sorted.{All-permutation, IsPermutation-map, IsNonDecreasingBy-from_all_adjacent}
 use Rattle.std.proofs.lemmas.Option.{slice_get-get_or, slice_get_within, get_or_from_slice_get}
 use Rattle.dtype_base.specs.Bytes.{Bytes}
-use Rattle.dtype_base.specs.private.NameKeys.{big_endian, key_prefix, sort_key, HaveCommonPrefix}
-use Rattle.dtype_base.specs.private.NameOrder.{AreDistinguishedBy, IsKeyed, IsOrderOf, bytes_cmp, name_cmp, position_cmp, entry_cmp, entry_name_cmp, positions}
+use Rattle.dtype_base.specs.private.NameKeys.{big_endian, key_of, key_prefix, sort_key, HaveCommonPrefix}
+use Rattle.dtype_base.specs.private.NameOrder.{AreDistinguishedBy, IsFinal, IsIndexOf, IsKeyed, IsOrderOf, bytes_cmp, name_cmp, position_cmp, entry_cmp, entry_name_cmp, positions}
+use Rattle.dtype_base.specs.declared.name_key.Keying.{Keying}
+use Rattle.dtype_base.specs.declared.name_key.Keying.TheVariants.{AfterPrefix, AtEight, AtSixteen}
 use Rattle.dtype_base.specs.declared.name_order.IndexEntry.{IndexEntry}
 use Rattle.dtype_base.specs.declared.name_order.Discriminator.{Discriminator}
 use Rattle.dtype_base.specs.declared.name_order.Discriminator.TheVariants.{KeyPrefix, Key, Text}
-use Rattle.dtype_base.proofs.NameSearch.{Occurs, as_many_positions, position_at, counted_more, no_entry, placed, itself, position_total}
+use Rattle.dtype_base.proofs.NameSearch.{Occurs, as_many_positions, at_least_equal, at_most_equal, position_at, counted_more, equal_is, no_entry, placed, itself, names_ranked, position_total}
 
 -- ---- the first bytes of a text, as a number
 
@@ -135,7 +137,7 @@ far f entries increase j k d l within =
 
 module _ (names : List (List ℕ)) (prefix_len : ℕ) where
   -- an entry's name compares to a name with the same prefix as their keys do, and where these are equal, as what follows
-  name_by_key : (p : IndexEntry) (n : List ℕ) (key : ℕ) → IsKeyed names prefix_len p → Bytes n → key ≡ sort_key prefix_len n
+  name_by_key : (p : IndexEntry) (n : List ℕ) (key : ℕ) → IsKeyed names (AfterPrefix prefix_len) p → Bytes n → key ≡ sort_key prefix_len n
       → take prefix_len (get_or names p.position []) ≡ take prefix_len n
       → name_cmp names n p.position ≡ ordering_then (nat_cmp p.key key) (slice_cmp nat_cmp (drop 15 (drop prefix_len (get_or names p.position []))) (drop 15 (drop prefix_len n)))
   unfolding sort_key text_key
@@ -147,7 +149,7 @@ module _ (names : List (List ℕ)) (prefix_len : ℕ) where
       ∙ (λ i. ordering_then (nat_cmp (sym h.key i) (sym is i)) (slice_cmp nat_cmp (drop 15 (drop prefix_len m)) (drop 15 (drop prefix_len n))))
 
   -- what distinguishes a name from all others with its prefix compares it with them: the text, or a key that holds it whole
-  pub final_decides : (p : IndexEntry) (n : List ℕ) (key : ℕ) (by : Discriminator) → by ≢ KeyPrefix → (by ≡ Key → key % 256 < 16) → IsKeyed names prefix_len p → Bytes n
+  final_decides : (p : IndexEntry) (n : List ℕ) (key : ℕ) (by : Discriminator) → by ≢ KeyPrefix → (by ≡ Key → key % 256 < 16) → IsKeyed names (AfterPrefix prefix_len) p → Bytes n
       → key ≡ sort_key prefix_len n
       → take prefix_len (get_or names p.position []) ≡ take prefix_len n → entry_name_cmp names n key by p ≡ name_cmp names n p.position
   final_decides p n key KeyPrefix other whole h bytes is begin = absurd (other refl)
@@ -159,7 +161,7 @@ module _ (names : List (List ℕ)) (prefix_len : ℕ) where
       λ i. slice_cmp nat_cmp (held prefix_len p.key (get_or names p.position []) h.key (omega (arith, same, all)) i) (held prefix_len key n is all i)))
 
   module _ (common_prefix : HaveCommonPrefix names prefix_len) where
-    begins : (p : IndexEntry) → IsKeyed names prefix_len p → take prefix_len (get_or names p.position []) ≡ take prefix_len (get_or names 0 [])
+    begins : (p : IndexEntry) → IsKeyed names (AfterPrefix prefix_len) p → take prefix_len (get_or names p.position []) ≡ take prefix_len (get_or names 0 [])
     begins p h = common_prefix p.position [] h.within
 
     -- a name that occurs has the common prefix
@@ -167,82 +169,169 @@ module _ (names : List (List ℕ)) (prefix_len : ℕ) where
     has_prefix n t = sym (common_prefix t.0 [] (slice_get_within names t.0 n t.1)) ∙ ap (take prefix_len) (get_or_from_slice_get names t.0 n [] t.1)
 
     -- entries compare as their positions do
-    as_positions : (p q : IndexEntry) → IsKeyed names prefix_len p → IsKeyed names prefix_len q → entry_cmp names p q ≡ position_cmp names p.position q.position
+    pub as_positions : (p q : IndexEntry) → IsKeyed names (AfterPrefix prefix_len) p → IsKeyed names (AfterPrefix prefix_len) q → entry_cmp names p q ≡ position_cmp names p.position q.position
     as_positions p q a b =
         let n = get_or names q.position [] in
         let whole = ap (bytes_cmp (slice_get names p.position)) (slice_get-get_or names q.position [] b.within) ∙ name_by_key p n q.key a b.bytes b.key (begins p a ∙ sym (begins q b)) in
         again (nat_cmp p.key q.key) _ _ (λ o. ordering_then o (nat_cmp p.position q.position)) whole refl refl
 
-    pub order_of : (made sorted : List IndexEntry) → positions made ≡ range_with_len 0 (length names) → All (IsKeyed names prefix_len) made → IsPermutation made sorted
-        → IsSorted (entry_cmp names) sorted → IsOrderOf names (positions sorted)
-    order_of made sorted each keyed moved up = record {
-      each = subst (λ is. IsPermutation is (positions sorted)) each (IsPermutation-map (λ p. p.position) made sorted moved);
-      rising = λ k d low high.
-          let next : k + 1 < length sorted = omega (arith, high, as_many_positions sorted) in
-          let here : k < length sorted = omega (arith, next) in
-          let of = All-permutation (IsKeyed names prefix_len) made sorted moved keyed in
-          rw (get_or-map (λ q. q.position) sorted (k + 1) no_entry d next, get_or-map (λ q. q.position) sorted k no_entry d here)
-          (ap is_lt (sym (as_positions (get_or sorted (k + 1) no_entry) (get_or sorted k no_entry) (of (k + 1) no_entry next) (of k no_entry here))) ∙ up k no_entry low next);
-    }
-
-    -- the last comparison: by the texts, unless the key holds all that follows the common prefix
-    pub same_decided : (entries : List IndexEntry) (keyed : All (IsKeyed names prefix_len) entries) (n : List ℕ) (key k : ℕ) (d : IndexEntry) (by : Discriminator) (same : Bool) → by ≢ KeyPrefix → (by ≡ Key → key % 256 < 16) → Bytes n → key ≡ sort_key prefix_len n → k < length entries
-        → IsTrue same ↔ ((entry_name_cmp names n key by (get_or entries k d) ≡ Equal) × (take prefix_len (get_or names (get_or entries k d).position []) ≡ take prefix_len n))
-        → (same ≡ true → name_cmp names n (get_or entries k d).position ≡ Equal) × (same ≡ false → Occurs names n → name_cmp names n (get_or entries k d).position ≢ Equal)
-    same_decided entries keyed n key k d by same other whole bytes is within compared =
-        let p = get_or entries k d in
-        let decides = final_decides p n key by other whole (keyed k d within) bytes is in (
+    -- the last comparison by the key, if it holds all that follows the common prefix
+    same_by_key : (p : IndexEntry) (n : List ℕ) (key : ℕ) (same : Bool) → key % 256 < 16 → Bytes n → key ≡ sort_key prefix_len n → IsKeyed names (AfterPrefix prefix_len) p
+        → IsTrue same ↔ ((nat_cmp p.key key ≡ Equal) × (take prefix_len (get_or names p.position []) ≡ take prefix_len n))
+        → (same ≡ true → name_cmp names n p.position ≡ Equal) × (same ≡ false → Occurs names n → name_cmp names n p.position ≢ Equal)
+    same_by_key p n key same whole bytes is h compared =
+        let decides = final_decides p n key Key (λ e. cc e) (λ _. whole) h bytes is in (
           λ t. sym (decides (compared.0 t).1) ∙ (compared.0 t).0,
-          λ f t here. let begin = begins p (keyed k d within) ∙ has_prefix n t in false≢true (sym f ∙ compared.1 (decides begin ∙ here, begin)),
+          λ f t here. let begin = begins p h ∙ has_prefix n t in false≢true (sym f ∙ compared.1 (decides begin ∙ here, begin)),
         )
 
-    module _ (entries : List IndexEntry) (keyed : All (IsKeyed names prefix_len) entries) (order : IsOrderOf names (positions entries)) where
-      -- a name that occurs has an entry with its key
-      keyed_entry : (n : List ℕ) (key : ℕ) (d : IndexEntry) → key ≡ sort_key prefix_len n → Occurs names n
-          → (q : ℕ) × (q < length entries) × ((get_or entries q d).key ≡ key) × (name_cmp names n (get_or entries q d).position ≡ Equal)
-      keyed_entry n key d is t =
-          let i = t.0 in
-          let s = placed names (positions entries) order n i t.1 in
-          let q = s.0 in
-          let here : q < length entries = omega (arith, s.1, as_many_positions entries) in
-          let at : (get_or entries q d).position ≡ i = sym (position_at entries q d here) ∙ s.2 in
-          let name : get_or names i [] ≡ n = get_or_from_slice_get names i n [] t.1 in (
-            q,
-            here,
-            (keyed q d here).key ∙ ap (λ j. sort_key prefix_len (get_or names j [])) at ∙ ap (sort_key prefix_len) name ∙ sym is,
-            ap (name_cmp names n) at ∙ itself names (positions entries) order n i t.1,
-          )
+-- ---- what the index's order says of its keys
 
-      -- numbers that increase as the keys do compare as the names, with a name that occurs
-      numbers_decide : (f : ℕ → ℕ) → ((a b : ℕ) → f a < f b → a < b) → AllAdjacentBelow (λ p q. f p.key < f q.key) entries (length entries)
-          → (n : List ℕ) (key k : ℕ) (d : IndexEntry) → Bytes n → key ≡ sort_key prefix_len n → k < length entries → Occurs names n
-          → nat_cmp (f (get_or entries k d).key) (f key) ≡ name_cmp names n (get_or entries k d).position
-      numbers_decide f rises increase n key k d bytes is within t =
-          let s = keyed_entry n key d is t in
-          let p = get_or entries k d in
-          let name = name_by_key p n key (keyed k d within) bytes is (begins p (keyed k d within) ∙ has_prefix n t) in
-          elim (cases_order k s.0) [
-            | inl e ↦ sym (nat_cmp_is _ _ Equal (ap (λ j. f (get_or entries j d).key) e ∙ ap f s.2)) ∙ sym (ap (λ j. name_cmp names n (get_or entries j d).position) e ∙ s.3)
-            | inr (inl before) ↦
-                let lower : f p.key < f key = subst (λ x. f p.key < f x) s.2 (far (λ q. f q.key) entries increase k s.0 d before s.1) in
-                sym (nat_cmp_is _ _ Less lower) ∙ then_is p.key key Less _ (rises p.key key lower) ∙ sym name
-            | inr (inr after) ↦
-                let higher : f key < f p.key = subst (λ x. f x < f p.key) s.2 (far (λ q. f q.key) entries increase s.0 k d after within) in
-                sym (nat_cmp_is _ _ Greater higher) ∙ then_is p.key key Greater _ (rises key p.key higher) ∙ sym name
-          ]
+-- entries that compare as their positions do are in order
+pub order_of : (names : List (List ℕ)) (keying : Keying) → ((p q : IndexEntry) → IsKeyed names keying p → IsKeyed names keying q → entry_cmp names p q ≡ position_cmp names p.position q.position)
+    → (made sorted : List IndexEntry) → positions made ≡ range_with_len 0 (length names) → All (IsKeyed names keying) made → IsPermutation made sorted
+    → IsSorted (entry_cmp names) sorted → IsOrderOf names (positions sorted)
+order_of names keying agree made sorted each keyed moved up = record {
+  each = subst (λ is. IsPermutation is (positions sorted)) each (IsPermutation-map (λ p. p.position) made sorted moved);
+  rising = λ k d low high.
+      let next : k + 1 < length sorted = omega (arith, high, as_many_positions sorted) in
+      let here : k < length sorted = omega (arith, next) in
+      let of = All-permutation (IsKeyed names keying) made sorted moved keyed in
+      rw (get_or-map (λ q. q.position) sorted (k + 1) no_entry d next, get_or-map (λ q. q.position) sorted k no_entry d here)
+      (ap is_lt (sym (agree (get_or sorted (k + 1) no_entry) (get_or sorted k no_entry) (of (k + 1) no_entry next) (of k no_entry here))) ∙ up k no_entry low next);
+}
 
-      -- what the index's discriminator names compares an entry with a name that occurs
-      pub decided : (n : List ℕ) (key k : ℕ) (d : IndexEntry) (by : Discriminator) → AreDistinguishedBy by entries → Bytes n → key ≡ sort_key prefix_len n
-          → k < length entries → Occurs names n
-          → entry_name_cmp names n key by (get_or entries k d) ≡ name_cmp names n (get_or entries k d).position
-      decided n key k d KeyPrefix increase bytes is within t = numbers_decide key_prefix lower_prefix increase n key k d bytes is within t
-      decided n key k d Key increase bytes is within t = numbers_decide (λ x. x) (λ a b l. l) increase n key k d bytes is within t
-      decided n key k d Text increase bytes is within t =
-          final_decides (get_or entries k d) n key Text (λ e. cc e) (λ e. cc e) (keyed k d within) bytes is (begins (get_or entries k d) (keyed k d within) ∙ has_prefix n t)
+module _ (names : List (List ℕ)) (keying : Keying) (entries : List IndexEntry) (keyed : All (IsKeyed names keying) entries) (order : IsOrderOf names (positions entries)) where
+  -- an entry of a name has its key
+  pub same_key : (n : List ℕ) (k : ℕ) (d : IndexEntry) → k < length entries → name_cmp names n (get_or entries k d).position ≡ Equal → (get_or entries k d).key ≡ key_of keying n
+  same_key n k d within e =
+      let i = (get_or entries k d).position in
+      (keyed k d within).key ∙ ap (key_of keying) (get_or_from_slice_get names i n [] (equal_is names (positions entries) order n (slice_get names i) e))
+
+  -- a name that occurs has an entry
+  pub entry_of : (n : List ℕ) (d : IndexEntry) → Occurs names n → (q : ℕ) × (q < length entries) × ((get_or entries q d).position ≡ (get_or (positions entries) q 0)) × (name_cmp names n (get_or entries q d).position ≡ Equal)
+  entry_of n d t =
+      let i = t.0 in
+      let s = placed names (positions entries) order n i t.1 in
+      let here : s.0 < length entries = omega (arith, s.1, as_many_positions entries) in
+      let at = sym (position_at entries s.0 d here) in
+      (s.0, here, at, ap (name_cmp names n) (at ∙ s.2) ∙ itself names (positions entries) order n i t.1)
+
+  -- the names of the entries are ranked
+  ranked_entries : (n : List ℕ) (j k : ℕ) (d : IndexEntry) → j < k → k < length entries
+      → ordering_index (name_cmp names n (get_or entries j d).position) ≤ ordering_index (name_cmp names n (get_or entries k d).position)
+  ranked_entries n j k d before within =
+      let at_j = position_at entries j d (omega (arith, before, within)) in
+      let at_k = position_at entries k d within in
+      subst₂ (λ x y. ordering_index (name_cmp names n x) ≤ ordering_index (name_cmp names n y)) at_j at_k
+      (names_ranked names (positions entries) order n j k 0 (omega (arith, before)) (omega (arith, within, as_many_positions entries)))
+
+  -- numbers of keys that increase along the entries compare an entry with a name that occurs as the names do
+  pub numbers_decide : (f : ℕ → ℕ) → AllAdjacentBelow (λ p q. f p.key < f q.key) entries (length entries)
+      → (n : List ℕ) (key k : ℕ) (d : IndexEntry) → key ≡ key_of keying n → k < length entries → Occurs names n
+      → nat_cmp (f (get_or entries k d).key) (f key) ≡ name_cmp names n (get_or entries k d).position
+  numbers_decide f increase n key k d is within t =
+      let s = entry_of n d t in
+      let p = get_or entries k d in
+      let key_s : (get_or entries s.0 d).key ≡ key = same_key n s.0 d s.1 s.3 ∙ sym is in
+      elim (cases_order k s.0) [
+        | inl e ↦ sym (nat_cmp_is _ _ Equal (ap (λ j. f (get_or entries j d).key) e ∙ ap f key_s)) ∙ sym (ap (λ j. name_cmp names n (get_or entries j d).position) e ∙ s.3)
+        | inr (inl before) ↦
+            let lower : f p.key < f key = subst (λ x. f p.key < f x) key_s (far (λ q. f q.key) entries increase k s.0 d before s.1) in
+            sym (nat_cmp_is _ _ Less lower) ∙ sym (at_most_equal _ _ (ranked_entries n k s.0 d before s.1) s.3 (λ same.
+            absurd (omega (arith, lower, ap f (same_key n k d within same ∙ sym is)))))
+        | inr (inr after) ↦
+            let higher : f key < f p.key = subst (λ x. f x < f p.key) key_s (far (λ q. f q.key) entries increase s.0 k d after within) in
+            sym (nat_cmp_is _ _ Greater higher) ∙ sym (at_least_equal _ _ (ranked_entries n s.0 k d after within) s.3 (λ same.
+            absurd (omega (arith, higher, ap f (same_key n k d within same ∙ sym is)))))
+      ]
+
+-- what the index's discriminator names compares an entry with a name that occurs
+pub decided : (names : List (List ℕ)) (keying : Keying) (by : Discriminator) (entries : List IndexEntry) → IsIndexOf names keying by entries
+    → (n : List ℕ) (key k : ℕ) (d : IndexEntry) → Bytes n → key ≡ key_of keying n → k < length entries → Occurs names n
+    → entry_name_cmp names n key by (get_or entries k d) ≡ name_cmp names n (get_or entries k d).position
+decided names keying KeyPrefix entries h n key k d bytes is within t = numbers_decide names keying entries h.keyed h.order key_prefix h.distinguished n key k d is within t
+decided names keying Key entries h n key k d bytes is within t = numbers_decide names keying entries h.keyed h.order (λ x. x) h.distinguished n key k d is within t
+decided names (AfterPrefix prefix_len) Text entries h n key k d bytes is within t =
+    let p = get_or entries k d in
+    final_decides names prefix_len p n key Text (λ e. cc e) (λ e. cc e) (h.keyed k d within) bytes is (begins names prefix_len h.keying_of p (h.keyed k d within) ∙ has_prefix names prefix_len h.keying_of n t)
+decided names (AtEight places) Text entries h n key k d bytes is within t = absurd (h.orders refl)
+decided names (AtSixteen first last) Text entries h n key k d bytes is within t = absurd (h.orders refl)
+
+second_equal : (r s : Ordering) → ordering_then r s ≡ Equal → s ≡ Equal
+second_equal Equal s e = e
+second_equal Less s e = absurd (false≢true (ap is_eq e))
+second_equal Greater s e = absurd (false≢true (ap is_eq e))
+
+-- the last comparison: by the texts, unless the key holds all that follows the common prefix
+pub same_decided : (names : List (List ℕ)) (keying : Keying) (discriminator : Discriminator) (entries : List IndexEntry) → IsIndexOf names keying discriminator entries
+    → (n : List ℕ) (key k : ℕ) (d : IndexEntry) (by : Discriminator) (prefix_len : ℕ) (same : Bool) → IsFinal keying key by prefix_len → Bytes n → key ≡ key_of keying n → k < length entries
+    → IsTrue same ↔ ((entry_name_cmp names n key by (get_or entries k d) ≡ Equal) × (take prefix_len (get_or names (get_or entries k d).position []) ≡ take prefix_len n))
+    → (same ≡ true → name_cmp names n (get_or entries k d).position ≡ Equal) × (same ≡ false → Occurs names n → name_cmp names n (get_or entries k d).position ≢ Equal)
+same_decided names keying discriminator entries h n key k d KeyPrefix prefix_len same final bytes is within compared = absurd final
+same_decided names (AfterPrefix s) discriminator entries h n key k d Key prefix_len same final bytes is within compared =
+    let e : s ≡ prefix_len = cc (final.0) in
+    let compared_s = subst (λ j. IsTrue same ↔ ((nat_cmp (get_or entries k d).key key ≡ Equal) × (take j (get_or names (get_or entries k d).position []) ≡ take j n))) (sym e) compared in
+    same_by_key names s h.keying_of (get_or entries k d) n key same final.1 bytes is (h.keyed k d within) compared_s
+same_decided names (AtEight places) discriminator entries h n key k d Key prefix_len same final bytes is within compared = cc (final.0)
+same_decided names (AtSixteen first last) discriminator entries h n key k d Key prefix_len same final bytes is within compared = cc (final.0)
+same_decided names keying discriminator entries h n key k d Text prefix_len same final bytes is within compared = (
+  λ t. second_equal (nat_cmp (get_or entries k d).key key) _ (compared.0 t).0,
+  λ f t here.
+      let p = get_or entries k d in
+      let equal : nat_cmp p.key key ≡ Equal = sym (nat_cmp_is p.key key Equal (same_key names keying entries h.keyed h.order n k d within here ∙ sym is)) in
+      let name = get_or_from_slice_get names p.position n [] (equal_is names (positions entries) h.order n (slice_get names p.position) here) in
+      false≢true (sym f ∙ compared.1 (ap (λ r. ordering_then r (name_cmp names n p.position)) equal ∙ here, ap (take prefix_len) name)),
+)
+
+-- keys of an index that the discriminator orders increase
+increasing : (by : Discriminator) (entries : List IndexEntry) → by ≢ Text → AreDistinguishedBy by entries → AllAdjacentBelow (λ p q. p.key < q.key) entries (length entries)
+increasing KeyPrefix entries other distinguished = λ k d high. lower_prefix _ _ (distinguished k d high)
+increasing Key entries other distinguished = distinguished
+increasing Text entries other distinguished = absurd (other refl)
+
+-- names that all occur among those of an index compare as their keys there, and where these are equal, as the names do
+pub agree_at : (names asked : List (List ℕ)) (keying : Keying) (by : Discriminator) (entries : List IndexEntry) → IsIndexOf names keying by entries → by ≢ Text
+    → ((k : ℕ) (n : List ℕ) → slice_get asked k ≡ Some n → Occurs names n)
+    → (p q : IndexEntry) → IsKeyed asked keying p → IsKeyed asked keying q → entry_cmp asked p q ≡ position_cmp asked p.position q.position
+agree_at names asked keying by entries h other occur p q a b =
+    let x = get_or asked p.position [] in
+    let y = get_or asked q.position [] in
+    let at_x = slice_get-get_or asked p.position [] a.within in
+    let at_y = slice_get-get_or asked q.position [] b.within in
+    let s = entry_of names keying entries h.keyed h.order x no_entry (occur p.position x at_x) in
+    let e = get_or entries s.0 no_entry in
+    let key_x : e.key ≡ p.key = same_key names keying entries h.keyed h.order x s.0 no_entry s.1 s.3 ∙ sym a.key in
+    let there : slice_get names e.position ≡ Some x = equal_is names (positions entries) h.order x (slice_get names e.position) s.3 in
+    let decides = numbers_decide names keying entries h.keyed h.order (λ z. z) (increasing by entries other h.distinguished) y q.key s.0 no_entry b.key s.1 (occur q.position y at_y) in
+    let same : nat_cmp p.key q.key ≡ bytes_cmp (slice_get asked p.position) (slice_get asked q.position) =
+    ap (λ z. nat_cmp z q.key) (sym key_x) ∙ decides ∙ (λ i. bytes_cmp ((there ∙ sym at_x) i) (sym at_y i)) in
+    again (nat_cmp p.key q.key) (nat_cmp p.position q.position) _ (λ o. o) (ap (λ r. ordering_then r (nat_cmp p.position q.position)) (sym same)) refl refl
 
 -- one entry more
 pub positions_push : (entries : List IndexEntry) (key n : ℕ) → positions entries ≡ range_with_len 0 n → positions (entries ++ record { key = key; position = n } ∷ []) ≡ range_with_len 0 (n + 1)
 positions_push entries key n so_far = map-append (λ p. p.position) entries _ ∙ ap (λ is. is ++ n ∷ []) so_far ∙ sym (counted_more n)
+
+-- the index with keys after a common prefix
+pub prefix_index : (names : List (List ℕ)) (prefix_len : ℕ) (by : Discriminator) (made sorted : List IndexEntry) → HaveCommonPrefix names prefix_len
+    → positions made ≡ range_with_len 0 (length names) → All (IsKeyed names (AfterPrefix prefix_len)) made → IsPermutation made sorted → IsSorted (entry_cmp names) sorted
+    → AreDistinguishedBy by sorted → IsIndexOf names (AfterPrefix prefix_len) by sorted
+prefix_index names prefix_len by made sorted common_prefix each keyed moved up distinguished = record {
+  keying_of = common_prefix;
+  orders = tt;
+  keyed = All-permutation (IsKeyed names (AfterPrefix prefix_len)) made sorted moved keyed;
+  order = order_of names (AfterPrefix prefix_len) (as_positions names prefix_len common_prefix) made sorted each keyed moved up;
+  distinguished = distinguished;
+}
+
+-- one entry more at the position of another
+pub position_copied : (entries made : List IndexEntry) (key index : ℕ) → index < length entries → positions made ≡ take index (positions entries)
+    → positions (made ++ record { key = key; position = (get_or entries index no_entry).position } ∷ []) ≡ take (index + 1) (positions entries)
+position_copied entries made key index within so_far =
+    map-append (λ p. p.position) made _
+    ∙ ap (λ is. is ++ (get_or entries index no_entry).position ∷ []) (so_far ∙ take-map (λ p. p.position) index entries)
+    ∙ sym (map_more (λ p. p.position) entries index no_entry within)
+    ∙ sym (take-map (λ p. p.position) (index + 1) entries)
 
 -- the order of entries is total
 pub entry_total : (names : List (List ℕ)) → IsTotalOrder (entry_cmp names)

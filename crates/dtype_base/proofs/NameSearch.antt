@@ -60,10 +60,15 @@ is_less : (r : Ordering) → is_lt r ≡ true → r ≡ Less
 is_less Less e = refl
 is_less _ e = absurd (false≢true e)
 
-at_most_equal : (r s : Ordering) → ordering_index r ≤ ordering_index s → s ≡ Equal → r ≢ Equal → r ≡ Less
+pub at_most_equal : (r s : Ordering) → ordering_index r ≤ ordering_index s → s ≡ Equal → r ≢ Equal → r ≡ Less
 at_most_equal Less s le e differ = refl
 at_most_equal Equal s le e differ = absurd (differ refl)
 at_most_equal Greater s le e differ = absurd (omega (arith, le, ap ordering_index e))
+
+pub at_least_equal : (r s : Ordering) → ordering_index s ≤ ordering_index r → s ≡ Equal → r ≢ Equal → r ≡ Greater
+at_least_equal Greater s le e differ = refl
+at_least_equal Equal s le e differ = absurd (differ refl)
+at_least_equal Less s le e differ = absurd (omega (arith, le, ap ordering_index e))
 
 between : (r s t : Ordering) → ordering_index r ≤ ordering_index s → ordering_index s ≤ ordering_index t → r ≡ Equal → t ≡ Equal → s ≡ Equal
 between r Equal t le ge e f = refl
@@ -100,8 +105,8 @@ module _ (names : List (List ℕ)) (order : List ℕ) (h : IsOrderOf names order
   pub as_many : length order ≡ length names
   as_many = length_permutation _ _ h.each ∙ length-range_with_len 0 (length names)
 
-  ranked : (n : List ℕ) → IsNonDecreasingBy (λ i. ordering_index (name_cmp names n i)) order
-  ranked n = searchable_from_sorted bytes_total (slice_get names) order (Some n) (λ k d low high. not_less _ _ (h.rising k d low high))
+  pub names_ranked : (n : List ℕ) → IsNonDecreasingBy (λ i. ordering_index (name_cmp names n i)) order
+  names_ranked n = searchable_from_sorted bytes_total (slice_get names) order (Some n) (λ k d low high. not_less _ _ (h.rising k d low high))
 
   -- no position occurs twice
   apart : Distinct order
@@ -113,7 +118,7 @@ module _ (names : List (List ℕ)) (order : List ℕ) (h : IsOrderOf names order
     pub itself : (i : ℕ) → slice_get names i ≡ Some n → name_cmp names n i ≡ Equal
     itself i e = ap (λ o. bytes_cmp o (Some n)) e ∙ tied_itself bytes_total (Some n)
 
-    equal_is : (o : Option (List ℕ)) → bytes_cmp o (Some n) ≡ Equal → o ≡ Some n
+    pub equal_is : (o : Option (List ℕ)) → bytes_cmp o (Some n) ≡ Equal → o ≡ Some n
     equal_is None e = absurd (false≢true (ap is_eq e))
     equal_is (Some x) e = ap Some ((bytes_decides x n).0 (texts_ties x n ∙ ap is_eq e))
 
@@ -126,7 +131,7 @@ module _ (names : List (List ℕ)) (order : List ℕ) (h : IsOrderOf names order
 
     -- all names before the entry of its first position are below the name
     before_first : (k q : ℕ) → k < q → q < length order → FirstAt names n (get_or order q 0) → name_cmp names n (get_or order k 0) ≡ Less
-    before_first k q l b first = at_most_equal _ _ (ranked n k q 0 (omega (arith, l)) b) (itself _ first.here) (λ same.
+    before_first k q l b first = at_most_equal _ _ (names_ranked n k q 0 (omega (arith, l)) b) (itself _ first.here) (λ same.
         let i = get_or order k 0 in
         let j = get_or order q 0 in
         let there = equal_is (slice_get names i) same in
@@ -153,7 +158,7 @@ module _ (names : List (List ℕ)) (order : List ℕ) (h : IsOrderOf names order
               let less = is_less _ (distinguished (get_or order q 0, first.here)) in
               let after : m < q = elim (cases_lt m q) [
                 | inl after ↦ after
-                | inr before ↦ absurd (omega (arith, ranked n q m 0 before (omega (arith, at, is, more, inv.within)), ap ordering_index less, ap ordering_index (itself _ first.here)))
+                | inr before ↦ absurd (omega (arith, names_ranked n q m 0 before (omega (arith, at, is, more, inv.within)), ap ordering_index less, ap ordering_index (itself _ first.here)))
               ] in
               (omega (arith, moved, at, after, is, more), omega (arith, moved, is, more, (inv.holds q b first).1));
           count = omega (arith, inv.count, digits_halved (size - 1) (size - half - 1) (omega (arith, more)) (omega (arith, is, more)));
@@ -195,7 +200,7 @@ module _ (names : List (List ℕ)) (order : List ℕ) (h : IsOrderOf names order
     same_next : (p q : ℕ) → p < q → q < length order → slice_get names (get_or order p 0) ≡ Some n → slice_get names (get_or order q 0) ≡ Some n
         → slice_get names (get_or order p 0) ≡ slice_get names (get_or order (p + 1) 0)
     same_next p q l b here there =
-        here ∙ sym (equal_is _ (between _ _ _ (ranked n p (p + 1) 0 (omega arith) (omega (arith, l, b))) (ranked n (p + 1) q 0 (omega (arith, l)) b) (itself _ here) (itself _ there)))
+        here ∙ sym (equal_is _ (between _ _ _ (names_ranked n p (p + 1) 0 (omega arith) (omega (arith, l, b))) (names_ranked n (p + 1) q 0 (omega (arith, l)) b) (itself _ here) (itself _ there)))
 
   -- where no two neighbours have one name, no two positions have
   pub all_differ : AllAdjacentBelow (λ i j. slice_get names i ≢ slice_get names j) order (length order) → Distinct names

@@ -1,7 +1,7 @@
 // SPDX-License-Identifier: Apache-2.0
 // SPDX-FileCopyrightText: Copyright the Vortex contributors
 
-ghost use Rattle.std.specs.Prelude.{◌≡◌, ◌≢◌, ◌⊎◌, ◌↔◌, ◌+◌, ◌<◌, ◌≤◌, ◌%◌, ◌^◌, All, IsSome, IsTrue, IfOk, Some, [], length, map, nat_lt, slice_index_or, take, MatchResult};
+ghost use Rattle.std.specs.Prelude.{◌≡◌, ◌⊎◌, ◌↔◌, ◌+◌, ◌<◌, ◌≤◌, ◌^◌, All, IsSome, IsTrue, IfOk, Some, [], length, map, nat_lt, slice_index_or, take, MatchResult};
 ghost use Rattle.std.specs.List.{range_with_len};
 ghost use Rattle.std.specs.Ordering.{is_lt, is_eq, nat_cmp};
 ghost use Rattle.std.specs.declared.cmp.Ordering.TheVariants.{Equal};
@@ -9,15 +9,16 @@ ghost use Rattle.dtype_base.specs.BinaryDigits.{binary_digits};
 ghost use Rattle.dtype_base.specs.Bytes.{Bytes};
 ghost use Rattle.dtype_base.specs.Distinct.{Distinct};
 ghost use Rattle.dtype_base.specs.FieldNames.{SelectionError, first_place};
-ghost use Rattle.dtype_base.specs.private.NameKeys.{key_prefix, sort_key};
+ghost use Rattle.dtype_base.specs.private.NameKeys.{key_of, key_prefix};
 ghost use Rattle.dtype_base.specs.Comparisons.{comparisons};
-ghost use Rattle.dtype_base.specs.private.NameOrder.{IsIndexOf, IsKeyed, mask, entry_name_cmp, positions};
+ghost use Rattle.dtype_base.specs.private.NameOrder.{IsFinal, IsIndexOf, IsKeyed, mask, entry_name_cmp, positions};
 ghost use Rattle.dtype_base.specs.declared.name_order.Discriminator.TheVariants.{KeyPrefix, Key};
 ghost use Rattle.dtype_base.specs.declared.vortex_error.VortexError.TheVariants.{OutOfMemory};
 
 use crate::field_names::copied;
-use crate::name_key::{TWO_POW_64, eq_prefix, key_prefix, sort_key};
+use crate::name_key::{Keying, TWO_POW_64, eq_prefix, key_of, key_prefix};
 use crate::name_order::{Discriminator, IndexEntry, are_distinct, build_index, sort_entries};
+use crate::name_places::orders;
 use crate::{FieldName, FieldNames, VortexError, VortexResult};
 use std::alloc::Global;
 use std::cmp::Ordering;
@@ -27,8 +28,8 @@ use std::marker::Model;
 #[derive(Debug, Drop)]
 pub struct IndexedNames {
     names: FieldNames,
-    // How many bytes the common prefix of all names has, after which their sort keys begin.
-    prefix_len: usize,
+    // How the entries' keys are made of the names.
+    keying: Keying,
     // An entry for each position, sorted by the bytes of the name there and then by the position.
     entries: Vec<IndexEntry>,
     // How much of a name distinguishes the entries.
@@ -43,7 +44,7 @@ impl Model for IndexedNames {
 
     ghost view = { λ n. n.names };
 
-    ghost invariant = { λ n. IsIndexOf n.names n.prefix_len n.discriminator n.entries.items };
+    ghost invariant = { λ n. IsIndexOf n.names n.keying n.discriminator n.entries.items };
 }
 
 impl IndexedNames {
@@ -55,10 +56,10 @@ impl IndexedNames {
     pub fn new(alloc: Global, names: FieldNames) -> VortexResult<Self>
         ensures { MatchResult result (λ n. n ≡ names) (λ e. e ≡ OutOfMemory) }
     {
-        let (entries, prefix_len, discriminator) = build_index(alloc, names.as_slice())?;
+        let (entries, keying, discriminator) = build_index(alloc, names.as_slice())?;
         Ok(IndexedNames {
             names,
-            prefix_len,
+            keying,
             entries,
             discriminator,
         })
@@ -81,10 +82,10 @@ impl IndexedNames {
         ensures at_most { result.1 ≤ binary_digits (length self.now) + 1 }
         ensures at_least { IsSome result.0 → 1 ≤ result.1 }
     {
-        let key = sort_key(name.as_bytes(), self.prefix_len);
+        let key = key_of(name.as_bytes(), &self.keying);
         search(
             self.names.as_slice(),
-            self.prefix_len,
+            &self.keying,
             self.discriminator,
             &self.entries,
             name,
@@ -108,15 +109,19 @@ impl IndexedNames {
         let (mut entries, first_positions) = look_up(
             alloc,
             names,
-            self.prefix_len,
+            &self.keying,
             self.discriminator,
             &self.entries,
             asked,
         )?;
         let discriminator = sort_entries(alloc, asked, &mut entries)?;
+        let names = copied(alloc, asked)?;
+        if !orders(&self.keying, discriminator) {
+            return Ok((IndexedNames::new(alloc, names)?, first_positions));
+        }
         let selected = IndexedNames {
-            names: copied(alloc, asked)?,
-            prefix_len: self.prefix_len,
+            names,
+            keying: self.keying,
             entries,
             discriminator,
         };
@@ -150,21 +155,20 @@ impl IndexedNames {
 }
 
 // Looks up each name asked. Returns an entry for each position of those asked, and the first position of each among the
-// names. Its key after the names' common prefix is its key in the new index too, since names that all occur here share
-// that prefix.
+// names.
 fn look_up(
     alloc: Global,
     names: &[FieldName],
-    prefix_len: usize,
+    keying: &Keying,
     discriminator: Discriminator,
     entries: &[IndexEntry],
     asked: &[FieldName],
 ) -> VortexResult<(Vec<IndexEntry>, Vec<usize>)>
-    requires { IsIndexOf names.now prefix_len discriminator entries.now }
+    requires { IsIndexOf names.now keying.now discriminator entries.now }
     ensures found { MatchResult result
         (λ made. map Some made.1.items ≡ map (first_place names.now) asked.now)
         (λ e. (e ≡ OutOfMemory) ⊎ SelectionError names.now asked.now e) }
-    ensures keyed { IfOk result (λ made. All (IsKeyed asked.now prefix_len) made.0.items) }
+    ensures keyed { IfOk result (λ made. All (IsKeyed asked.now keying.now) made.0.items) }
     ensures order { IfOk result
         (λ made. positions made.0.items ≡ range_with_len 0 (length asked.now)) }
 {
@@ -172,8 +176,8 @@ fn look_up(
     let mut first_positions = Vec::with_capacity(alloc, asked.len())?;
     for position in 0..asked.len() {
         let name = asked[position].as_str();
-        let key = sort_key(name.as_bytes(), prefix_len);
-        match search(names, prefix_len, discriminator, entries, name, key).0 {
+        let key = key_of(name.as_bytes(), keying);
+        match search(names, keying, discriminator, entries, name, key).0 {
             Some(first) => first_positions.push_reserved(first),
             None => return Err(VortexError::FieldNotFound { position }),
         }
@@ -187,14 +191,14 @@ fn look_up(
 #[inline(always)]
 fn search(
     names: &[FieldName],
-    prefix_len: usize,
+    keying: &Keying,
     discriminator: Discriminator,
     entries: &[IndexEntry],
     name: &str,
     key: u128,
 ) -> (Option<usize>, u64)
-    requires index { IsIndexOf names.now prefix_len discriminator entries.now }
-    requires key { key ≡ sort_key prefix_len name.now }
+    requires index { IsIndexOf names.now keying.now discriminator entries.now }
+    requires key { key ≡ key_of keying.now name.now }
     requires bytes { Bytes name.now }
     ensures place { result.0 ≡ first_place names.now name.now }
     ensures count { result.1 ≡ comparisons (length names.now) }
@@ -202,28 +206,14 @@ fn search(
     match discriminator {
         Discriminator::KeyPrefix => search_with(
             names,
-            prefix_len,
+            keying,
             Discriminator::KeyPrefix,
             entries,
             name,
             key,
         ),
-        Discriminator::Key => search_with(
-            names,
-            prefix_len,
-            Discriminator::Key,
-            entries,
-            name,
-            key,
-        ),
-        Discriminator::Text => search_with(
-            names,
-            prefix_len,
-            Discriminator::Text,
-            entries,
-            name,
-            key,
-        ),
+        Discriminator::Key => search_with(names, keying, Discriminator::Key, entries, name, key),
+        Discriminator::Text => search_with(names, keying, Discriminator::Text, entries, name, key),
     }
 }
 
@@ -233,14 +223,14 @@ fn search(
 #[inline(always)]
 fn search_with(
     names: &[FieldName],
-    prefix_len: usize,
+    keying: &Keying,
     by: Discriminator,
     entries: &[IndexEntry],
     name: &str,
     key: u128,
 ) -> (Option<usize>, u64)
-    requires index { IsIndexOf names.now prefix_len by entries.now }
-    requires key { key ≡ sort_key prefix_len name.now }
+    requires index { IsIndexOf names.now keying.now by entries.now }
+    requires key { key ≡ key_of keying.now name.now }
     requires bytes { Bytes name.now }
     ensures place { result.0 ≡ first_place names.now name.now }
     ensures count { result.1 ≡ comparisons (length names.now) }
@@ -259,7 +249,7 @@ fn search_with(
         size -= half;
     }
     let last = entries[low];
-    let by = final_discriminator(key);
+    let (by, prefix_len) = final_discriminator(keying, key);
     let comparison = compare(names, last, name, key, by, prefix_len, &mut compared);
     (comparison.same.then_some(last.position), compared)
 }
@@ -273,16 +263,14 @@ struct KeyComparison {
     same: bool,
 }
 
-// What distinguishes a name with this key from every other name with the common prefix: the key, if it holds all that
-// follows the prefix.
-fn final_discriminator(key: u128) -> Discriminator
-    ensures not_prefix { result ≢ KeyPrefix }
-    ensures whole { result ≡ Key → key % 256 < 16 }
+// What distinguishes a name with this key from every other name: the text; or the common prefix, of this length, and the
+// key, if the key holds all that follows the prefix.
+fn final_discriminator(keying: &Keying, key: u128) -> (Discriminator, usize)
+    ensures { IsFinal keying.now key result.0 result.1 }
 {
-    if key % 256 < 16 {
-        Discriminator::Key
-    } else {
-        Discriminator::Text
+    match keying {
+        Keying::AfterPrefix(prefix_len) if key % 256 < 16 => (Discriminator::Key, *prefix_len),
+        _ => (Discriminator::Text, 0),
     }
 }
 

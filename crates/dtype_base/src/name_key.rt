@@ -5,7 +5,7 @@
 ghost use Rattle.std.specs.Prelude.{◌≡◌, ◌↔◌, ℕ, ◌<◌, ◌≤◌, IsTrue, length, take, drop, slice_index};
 ghost use Rattle.std.specs.List.{All};
 ghost use Rattle.dtype_base.specs.Bytes.{Bytes};
-ghost use Rattle.dtype_base.specs.private.NameKeys.{big_endian, key_prefix, sort_key, HaveCommonPrefix};
+ghost use Rattle.dtype_base.specs.private.NameKeys.{big_endian, key_of, key_prefix, sort_key, word_at, HaveCommonPrefix};
 
 use crate::FieldName;
 
@@ -39,7 +39,7 @@ pub(crate) fn guess_common_prefix(names: &[FieldName]) -> usize {
 }
 
 // The length of the common prefix of two texts, at most `most` bytes.
-fn matching_len(a: &[u8], b: &[u8], most: usize) -> usize
+pub(crate) fn matching_len(a: &[u8], b: &[u8], most: usize) -> usize
     ensures most { result ≤ most }
     ensures same { take result a.now ≡ take result b.now }
 {
@@ -105,6 +105,49 @@ pub(crate) fn sort_key(text: &[u8], prefix_len: usize) -> u128
     let seven = load_u64_at(rest, 8) / 256;
     let held = rest.len().min(16) as u64;
     u128::from(high) * TWO_POW_64 + u128::from(seven * 256 + held)
+}
+
+// How a key is made of a name.
+#[derive(Clone, Copy, Debug)]
+pub(crate) enum Keying {
+    // Of what follows the common prefix of the names, of this length in bytes.
+    AfterPrefix(usize),
+    // Of the bytes at eight places.
+    AtEight([usize; 8]),
+    // Of the bytes at sixteen places.
+    AtSixteen([usize; 8], [usize; 8]),
+}
+
+// The key of a name.
+#[inline(always)]
+pub(crate) fn key_of(text: &[u8], keying: &Keying) -> u128
+    ensures key { result ≡ key_of keying.now text.now }
+    ensures bytes { Bytes text.now }
+{
+    match keying {
+        Keying::AfterPrefix(prefix_len) => sort_key(text, *prefix_len),
+        Keying::AtEight(places) => u128::from(word_at(text, places)) * TWO_POW_64,
+        Keying::AtSixteen(first, last) => {
+            u128::from(word_at(text, first)) * TWO_POW_64 + u128::from(word_at(text, last))
+        }
+    }
+}
+
+// The bytes at these places, as one big-endian number; 0 past the end.
+#[inline(always)]
+fn word_at(text: &[u8], places: &[usize; 8]) -> u64
+    ensures { result ≡ word_at places.now text.now }
+{
+    u64::from_be_bytes([
+        byte_at(text, places[0]),
+        byte_at(text, places[1]),
+        byte_at(text, places[2]),
+        byte_at(text, places[3]),
+        byte_at(text, places[4]),
+        byte_at(text, places[5]),
+        byte_at(text, places[6]),
+        byte_at(text, places[7]),
+    ])
 }
 
 // The key prefix: the first eight bytes of a key.

@@ -8,9 +8,13 @@ ghost use Rattle.std.specs.List.Sorted.{IsPermutation, IsSorted};
 ghost use Rattle.dtype_base.specs.Distinct.{Distinct};
 ghost use Rattle.dtype_base.specs.private.NameKeys.{HaveCommonPrefix};
 ghost use Rattle.dtype_base.specs.private.NameOrder.{AreDistinguishedBy, PrefixesIncrease, IsIndexOf, IsKeyed, IsOrderOf, KeysIncrease, entry_cmp, position_cmp, positions};
+ghost use Rattle.dtype_base.specs.declared.name_key.Keying.TheVariants.{AfterPrefix};
 ghost use Rattle.dtype_base.specs.declared.vortex_error.VortexError.TheVariants.{OutOfMemory};
 
-use crate::name_key::{common_prefix_len, eq_prefix, guess_common_prefix, key_prefix, sort_key};
+use crate::name_key::{
+    Keying, common_prefix_len, eq_prefix, guess_common_prefix, key_prefix, sort_key,
+};
+use crate::name_places::with_places;
 use crate::{FieldName, VortexResult};
 use std::alloc::Global;
 use std::cmp::Ordering;
@@ -45,17 +49,19 @@ const MAX_PACKED: usize = 0x1_0000_0000;
 // A sort key divided by this is its first 63 bits.
 const TWO_POW_65: u128 = 0x2_0000_0000_0000_0000;
 
-// The entries of the index of these names, the length of their common prefix, and what distinguishes the entries.
+// The entries of the index of these names, how their keys are made, and what distinguishes the entries.
 pub(crate) fn build_index(
     alloc: Global,
     names: &[FieldName],
-) -> VortexResult<(Vec<IndexEntry>, usize, Discriminator)>
+) -> VortexResult<(Vec<IndexEntry>, Keying, Discriminator)>
     ensures { MatchResult result
         (λ made. IsIndexOf names.now made.1 made.2 made.0.items) (λ e. e ≡ OutOfMemory) }
 {
     let (mut entries, prefix_len) = all_entries(alloc, names)?;
-    let discriminator = sort_entries(alloc, names, &mut entries)?;
-    Ok((entries, prefix_len, discriminator))
+    match sort_entries(alloc, names, &mut entries)? {
+        Discriminator::Text => with_places(alloc, names, entries, prefix_len),
+        by => Ok((entries, Keying::AfterPrefix(prefix_len), by)),
+    }
 }
 
 // An entry for each position, in the list's order, and the length of the names' common prefix. All names mostly share the
@@ -63,7 +69,7 @@ pub(crate) fn build_index(
 fn all_entries(alloc: Global, names: &[FieldName]) -> VortexResult<(Vec<IndexEntry>, usize)>
     ensures common_prefix { MatchResult result
         (λ made. HaveCommonPrefix names.now made.1) (λ e. e ≡ OutOfMemory) }
-    ensures keyed { IfOk result (λ made. All (IsKeyed names.now made.1) made.0.items) }
+    ensures keyed { IfOk result (λ made. All (IsKeyed names.now (AfterPrefix made.1)) made.0.items) }
     ensures each { IfOk result
         (λ made. positions made.0.items ≡ range_with_len 0 (length names.now)) }
 {
@@ -86,7 +92,7 @@ fn entries_after_prefix(
 ) -> VortexResult<Vec<IndexEntry>>
     ensures each { MatchResult result
         (λ made. positions made.items ≡ range_with_len 0 (length made.items)) (λ e. e ≡ OutOfMemory) }
-    ensures keyed { IfOk result (λ made. All (IsKeyed names.now prefix_len) made.items) }
+    ensures keyed { IfOk result (λ made. All (IsKeyed names.now (AfterPrefix prefix_len)) made.items) }
     ensures common_prefix { IfOk result (λ made. length made.items ≡ length names.now ↔ HaveCommonPrefix names.now prefix_len) }
 {
     let mut entries = Vec::with_capacity(alloc, names.len())?;
@@ -252,7 +258,7 @@ fn compare_positions(names: &[FieldName], i: &usize, j: &usize) -> Ordering
 }
 
 // What distinguishes entries that are sorted by key: the least that does.
-fn discriminator_of(entries: &[IndexEntry]) -> Discriminator
+pub(crate) fn discriminator_of(entries: &[IndexEntry]) -> Discriminator
     ensures { AreDistinguishedBy result entries.now }
 {
     if prefixes_increase(entries) {

@@ -3,7 +3,7 @@
 
 -- The index of a name list: an entry for each position, with the sort key of the name there, in the order of the names'
 -- bytes and then of the positions. Only private contracts cite it.
-use Rattle.std.specs.Prelude.{◌≡◌, ℕ, ◌-◌, ◌<◌, ◌^◌, List, Option, Some, Bool, ⊤, length, map, slice_get, slice_index_or, [], if◌then◌else◌}
+use Rattle.std.specs.Prelude.{◌≡◌, ◌≢◌, ◌%◌, ℕ, ◌-◌, ◌<◌, ◌^◌, List, Option, Some, Bool, ⊤, length, map, slice_get, slice_index_or, [], if◌then◌else◌}
 use Rattle.std.specs.List.{All, AllAdjacentBelow, range_with_len}
 use Rattle.std.specs.List.Sorted.{IsPermutation, IsSorted}
 use Rattle.std.specs.Option.{option_cmp}
@@ -11,7 +11,9 @@ use Rattle.std.specs.Ordering.{ordering_then, nat_cmp}
 use Rattle.std.specs.declared.cmp.Ordering.{Ordering}
 use Rattle.std.specs.Cmp.Lexicographic.{slice_cmp}
 use Rattle.dtype_base.specs.Bytes.{Bytes}
-use Rattle.dtype_base.specs.private.NameKeys.{key_prefix, sort_key, HaveCommonPrefix}
+use Rattle.dtype_base.specs.private.NameKeys.{key_of, key_prefix, HaveCommonPrefix}
+use Rattle.dtype_base.specs.declared.name_key.Keying.{Keying}
+use Rattle.dtype_base.specs.declared.name_key.Keying.TheVariants.{AfterPrefix, AtEight, AtSixteen}
 use Rattle.dtype_base.specs.declared.name_order.IndexEntry.{IndexEntry}
 use Rattle.dtype_base.specs.declared.name_order.Discriminator.{Discriminator}
 use Rattle.dtype_base.specs.declared.name_order.Discriminator.TheVariants.{KeyPrefix, Key, Text}
@@ -37,10 +39,10 @@ pub record IsOrderOf (names : List (List ℕ)) (order : List ℕ) : Type 0 where
 abbrev pub entry_cmp : List (List ℕ) → IndexEntry → IndexEntry → Ordering
 entry_cmp names p q = ordering_then (nat_cmp p.key q.key) (position_cmp names p.position q.position)
 
--- the entry's position has a name, which is of bytes, and its key is that name's sort key
-pub record IsKeyed (names : List (List ℕ)) (prefix_len : ℕ) (p : IndexEntry) : Type 0 where
+-- the entry's position has a name, which is of bytes, and its key is that name's
+pub record IsKeyed (names : List (List ℕ)) (keying : Keying) (p : IndexEntry) : Type 0 where
   pub within : p.position < length names
-  pub key : p.key ≡ sort_key prefix_len (slice_index_or names p.position [])
+  pub key : p.key ≡ key_of keying (slice_index_or names p.position [])
   pub bytes : Bytes (slice_index_or names p.position [])
 
 -- the positions of the entries
@@ -61,12 +63,33 @@ AreDistinguishedBy KeyPrefix = PrefixesIncrease
 AreDistinguishedBy Key = KeysIncrease
 AreDistinguishedBy Text = λ entries. ⊤
 
--- the entries are the index of these names: a common prefix of this length, keys after it, in order, distinguished so
-pub record IsIndexOf (names : List (List ℕ)) (prefix_len : ℕ) (discriminator : Discriminator) (entries : List IndexEntry) : Type 0 where
-  pub common_prefix : HaveCommonPrefix names prefix_len
-  pub keyed : All (IsKeyed names prefix_len) entries
+-- Keys that are made so don't contradict the order of the names, where the discriminator doesn't name texts: keys after
+-- a common prefix never do, and keys of places wherever they increase.
+abbrev pub Orders : Keying → Discriminator → Type 0
+Orders (AfterPrefix prefix_len) by = ⊤
+Orders (AtEight places) by = by ≢ Text
+Orders (AtSixteen first last) by = by ≢ Text
+
+-- what keys after a prefix ask of the names
+abbrev pub IsKeyingOf : List (List ℕ) → Keying → Type 0
+IsKeyingOf names (AfterPrefix prefix_len) = HaveCommonPrefix names prefix_len
+IsKeyingOf names (AtEight places) = ⊤
+IsKeyingOf names (AtSixteen first last) = ⊤
+
+-- the entries are the index of these names: with keys that are made so, in order, distinguished so
+pub record IsIndexOf (names : List (List ℕ)) (keying : Keying) (discriminator : Discriminator) (entries : List IndexEntry) : Type 0 where
+  pub keying_of : IsKeyingOf names keying
+  pub orders : Orders keying discriminator
+  pub keyed : All (IsKeyed names keying) entries
   pub order : IsOrderOf names (positions entries)
   pub distinguished : AreDistinguishedBy discriminator entries
+
+-- What the last comparison of a lookup compares: the texts; or the key and the common prefix, of this length, where the
+-- key holds all that follows the prefix.
+abbrev pub IsFinal : Keying → ℕ → Discriminator → ℕ → Type 0
+IsFinal keying key KeyPrefix prefix_len = ⊥
+IsFinal keying key Key prefix_len = (keying ≡ AfterPrefix prefix_len) × (key % 256 < 16)
+IsFinal keying key Text prefix_len = ⊤
 
 -- how an entry compares to a name n with this key, by as much of them as the discriminator names
 abbrev pub entry_name_cmp : List (List ℕ) → List ℕ → ℕ → Discriminator → IndexEntry → Ordering

@@ -7,7 +7,7 @@ use Rattle.std.proofs.lemmas.List.{get_or_default}
 use Rattle.std.proofs.lemmas.List.Elements.{All-push}
 use Rattle.dtype_base.specs.Bytes.{Bytes}
 use Rattle.dtype_base.specs.FieldNames.{first_place}
-use Rattle.dtype_base.specs.private.NameKeys.{sort_key}
+use Rattle.dtype_base.specs.private.NameKeys.{key_of}
 use Rattle.dtype_base.specs.private.NameOrder.{IsKeyed, positions}
 use Rattle.dtype_base.proofs.KeyOrder.{positions_push}
 use Rattle.dtype_base.proofs.Selections.{selects_more, first_absent}
@@ -24,7 +24,7 @@ pub loop-position-preserved : goal.loop-position-preserved
 loop-position-preserved c =
     let names = c.args.names.now in
     let asked = c.args.asked.now in
-    let prefix_len = c.args.prefix_len in
+    let keying = c.args.keying.now in
     let made = c.loop-position.made.items in
     let position = c.loop-position.position in
     let within = c.loop-position-test.true in
@@ -35,9 +35,9 @@ loop-position-preserved c =
     c.as_bytes.ensures.value ∙ c.as_str-name.ensures ∙ c.index-asked-position.is ∙ get_or_default asked position _ [] within in
     let first : Some c.in-Some.first ≡ first_place names n = sym c.in-Some.is ∙ c.search.ensures.place ∙ ap (first_place names) c.as_str-name.ensures in record {
       in_order = ap positions pushed ∙ positions_push made _ position so_far.in_order;
-      keyed = subst (All (IsKeyed asked prefix_len)) (sym pushed)
-          (All-push (IsKeyed asked prefix_len) made _ so_far.keyed
-          (record { within = within; key = c.sort_key-key.ensures.key ∙ ap (sort_key prefix_len) name; bytes = subst Bytes name c.sort_key-key.ensures.bytes }));
+      keyed = subst (All (IsKeyed asked keying)) (sym pushed)
+          (All-push (IsKeyed asked keying) made _ so_far.keyed
+          (record { within = within; key = c.key_of-key.ensures.key ∙ ap (key_of keying) name; bytes = subst Bytes name c.key_of-key.ensures.bytes }));
       found = ap (map Some) c.push_reserved.ensures.items ∙ selects_more names asked c.loop-position.first_positions.items position c.in-Some.first n within c.index-asked-position.is first so_far.found;
       len = (omega (arith, c.push_reserved-in-loop-position.ensures.len, so_far.len.0), omega (arith, c.push_reserved.ensures.len, so_far.len.1));
       room = (omega (arith, c.push_reserved-in-loop-position.ensures.capacity, so_far.room.0), omega (arith, c.push_reserved.ensures.capacity, so_far.room.1));

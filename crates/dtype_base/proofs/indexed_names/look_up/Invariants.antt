@@ -11,7 +11,7 @@ use Rattle.dtype_base.proofs.indexed_names.look_up.Given as goal
 abbrev pub invariant-loop-position : goal.invariant-loop-position
 invariant-loop-position l = record {
   in_order : positions l.made.items ≡ range_with_len 0 l.position;
-  keyed : All (IsKeyed l.asked l.prefix_len) l.made.items;
+  keyed : All (IsKeyed l.asked l.keying) l.made.items;
   found : map Some l.first_positions.items ≡ map (first_place l.names) (take l.position l.asked);
   len : (vec_len l.made ≡ l.position) × (vec_len l.first_positions ≡ l.position);
   room : (length l.asked ≤ vec_capacity l.made) × (length l.asked ≤ vec_capacity l.first_positions);

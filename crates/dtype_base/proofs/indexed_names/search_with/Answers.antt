@@ -47,7 +47,6 @@ loop-size-preserved c =
     let entries = c.args.entries.now in
     let order = positions entries in
     let n = c.args.name.now in
-    let prefix_len = c.args.prefix_len in
     let low = c.loop-size.low in
     let size = c.loop-size.size in
     let m = low + size / 2 - 1 in
@@ -55,7 +54,7 @@ loop-size-preserved c =
     subst (λ count. Searching names order n (low + bit_and (size / 2) c.compare-comparison.result.below) (size - size / 2) count) (sym c.compare-comparison.ensures.counted)
     (steps names order c.requires.index.order n low size c.loop-size.compared (size / 2) m c.compare-comparison.result.below _ inv c.loop-size-test.true refl refl (omega arith)
     (λ t. ap is_lt (ap (name_cmp names n) (position_at entries m no_entry within)
-    ∙ sym (decided names prefix_len c.requires.index.common_prefix entries c.requires.index.keyed c.requires.index.order n c.args.key m no_entry c.args.by c.requires.index.distinguished c.requires.bytes c.requires.key within t)))
+    ∙ sym (decided names c.args.keying.now c.args.by entries c.requires.index n c.args.key m no_entry c.requires.bytes c.requires.key within t)))
     c.compare-comparison.ensures.below)
 
 pub returns-clause-place : goal.returns-clause-place
@@ -66,10 +65,9 @@ returns-clause-place c =
     let n = c.args.name.now in
     let low = c.loop-size.low in
     let same = c.compare-comparison-2.result.same in
-    let by = c.final_discriminator-by.ensures in
     let within : low < length entries = omega (arith, inv.within, inv.some, as_many_positions entries) in
     let at = position_at entries low no_entry within in
-    let distinguished = same_decided names c.args.prefix_len c.requires.index.common_prefix entries c.requires.index.keyed n c.args.key low no_entry _ same by.not_prefix by.whole c.requires.bytes c.requires.key within c.compare-comparison-2.ensures.same in
+    let distinguished = same_decided names c.args.keying.now c.args.by entries c.requires.index n c.args.key low no_entry _ _ same c.final_discriminator-by.ensures c.requires.bytes c.requires.key within c.compare-comparison-2.ensures.same in
     c.then_some.ensures ∙ sym (ap (then_some same) at)
     ∙ ends names (positions entries) c.requires.index.order n low c.loop-size.size c.loop-size.compared same inv (omega (arith, c.loop-size-test.false))
     (λ e. ap (name_cmp names n) at ∙ distinguished.0 e) (λ e t here. distinguished.1 e t (sym (ap (name_cmp names n) at) ∙ here))

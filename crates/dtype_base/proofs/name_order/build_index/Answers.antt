@@ -1,20 +1,16 @@
 -- SPDX-License-Identifier: Apache-2.0
 -- SPDX-FileCopyrightText: Copyright the Vortex contributors
 
-use Rattle.std.proofs.lemmas.List.Sorted.{All-permutation}
-use Rattle.dtype_base.specs.private.NameOrder.{IsKeyed}
-use Rattle.dtype_base.proofs.KeyOrder.{order_of}
+use Rattle.dtype_base.specs.declared.name_order.Discriminator.TheVariants.{Text}
+use Rattle.dtype_base.proofs.KeyOrder.{prefix_index}
 use Rattle.dtype_base.proofs.name_order.build_index.Goals as goal
 
-pub returns : goal.returns
-returns c =
-    let names = c.args.names.now in
-    let prefix_len = c.in_ok-entries.prefix_len in
-    let entries = c.in_ok-entries.entries.items in
-    let sorted = c.sort_entries.new.entries.items in
-    let made = c.in_ok-entries.ensures in record {
-      common_prefix = made.common_prefix;
-      keyed = All-permutation (IsKeyed names prefix_len) entries sorted c.sort_entries.ensures.each made.keyed;
-      order = order_of names prefix_len made.common_prefix entries sorted made.each made.keyed c.sort_entries.ensures.each c.in_ok-discriminator.ensures.rising;
-      distinguished = c.in_ok-discriminator.ensures.distinguished;
-    }
+pub with_places-requires : goal.with_places-requires
+with_places-requires c =
+    let made = c.in_ok-entries.ensures in
+    prefix_index c.args.names.now c.in_ok-entries.prefix_len Text c.in_ok-entries.entries.items c.sort_entries.new.entries.items made.common_prefix made.each made.keyed c.sort_entries.ensures.each c.in_ok-by.ensures.rising tt
+
+pub returns-in_default : goal.returns-in_default
+returns-in_default c =
+    let made = c.in_ok-entries.ensures in
+    prefix_index c.args.names.now c.in_ok-entries.prefix_len c.in_ok-by.by c.in_ok-entries.entries.items c.sort_entries.new.entries.items made.common_prefix made.each made.keyed c.sort_entries.ensures.each c.in_ok-by.ensures.rising c.in_ok-by.ensures.distinguished

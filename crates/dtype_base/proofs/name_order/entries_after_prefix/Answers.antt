@@ -10,6 +10,7 @@ use Rattle.std.proofs.lemmas.Option.{get_or_from_slice_get}
 use Rattle.dtype_base.specs.private.NameKeys.{sort_key}
 use Rattle.dtype_base.specs.private.NameOrder.{IsKeyed, positions}
 use Rattle.dtype_base.specs.Bytes.{Bytes}
+use Rattle.dtype_base.specs.declared.name_key.Keying.TheVariants.{AfterPrefix}
 use Rattle.dtype_base.proofs.KeyOrder.{positions_push}
 use Rattle.dtype_base.proofs.name_order.entries_after_prefix.Goals as goal
 
@@ -27,8 +28,8 @@ loop-position-preserved c =
     let begins : take prefix_len (get_or names position []) ≡ take prefix_len (get_or names 0 []) =
     ap (take prefix_len) (sym name) ∙ c.eq_prefix.ensures.0 c.if-not-eq_prefix.false ∙ ap (take prefix_len) first in record {
       in_order = ap positions pushed ∙ positions_push entries _ position inv.in_order;
-      keyed = subst (All (IsKeyed names prefix_len)) (sym pushed)
-          (All-push (IsKeyed names prefix_len) entries _ inv.keyed
+      keyed = subst (All (IsKeyed names (AfterPrefix prefix_len))) (sym pushed)
+          (All-push (IsKeyed names (AfterPrefix prefix_len)) entries _ inv.keyed
           (record { within = c.loop-position-test.true; key = c.sort_key-key.ensures.key ∙ ap (sort_key prefix_len) name; bytes = subst Bytes name c.sort_key-key.ensures.bytes }));
       common_prefix = λ k l. ⊎_elim (inv.common_prefix k) (λ last. ap (λ j. take prefix_len (get_or names j [])) (omega (arith, l, last)) ∙ begins) (cases_lt k position);
       len = omega (arith, c.push_reserved.ensures.len, inv.len);

@@ -10,14 +10,13 @@ use Rattle.std.proofs.lemmas.List.{length-map, map_push}
 use Rattle.dtype_base.specs.declared.nullability.Nullability.{Nullability}
 use Rattle.dtype_types.specs.nullability.Merged.{Rule, merge, merge_fields, merge_variants}
 use Rattle.dtype_types.specs.parts.Lists.{types_of, tags_of}
-use Rattle.dtype_types.specs.parts.Lookups.{field_names, field_types, variant_names, variant_tags, variant_types}
 use Rattle.dtype_types.specs.tree.Erase.{erase, erase_fields, erase_variants}
 use Rattle.dtype_types.specs.tree.Tree.{Tree, field, fields, choice, variants, null, struct, union}
-use Rattle.dtype_types.specs.tree.TreeOf.{tree, children, variant_list, fields_of, variants_of, struct_pairs, union_triples, struct_dtypes, union_dtypes, with_trees, with_tagged_trees}
+use Rattle.dtype_types.specs.tree.TreeOf.{tree, fields_of, variants_of, with_trees, with_tagged_trees}
 use Rattle.dtype_types.specs.declared.dtype.DType.{DType, Null, Struct, Union, out-DType}
 use Rattle.dtype_types.specs.declared.struct_fields.StructFields.{StructFields}
 use Rattle.dtype_types.specs.declared.union_variants.UnionVariants.{UnionVariants}
-use Rattle.dtype_types.proofs.Parts.{names_shown, types_shown, trees_zip, variant_names_shown, variant_types_shown, variant_tags_shown, trees_three}
+use Rattle.dtype_types.proofs.Parts.{trees_zip, trees_three}
 use Rattle.dtype_types.proofs.Walks.{moves_over}
 use Rattle.dtype_types.proofs.lemmas.TreeLaws.{tree_out, tree_struct, tree_union}
 use denote.Hole.Carrier

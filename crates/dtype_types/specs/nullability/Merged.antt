@@ -5,7 +5,7 @@
 -- node. Nullable where either is, it is the least type above both: what a reader of several files opens, so that each
 -- value of each file is a value of it. Nullable where both are, it is the greatest type below both: what two schemas that
 -- are to be met together leave. From the documentation of `DType::eq_with_nullability_subset`, whose order they are bounds of.
-use Rattle.std.specs.Prelude.{List, [], ◌∷◌, Option, Some, None, if◌then◌else◌}
+use Rattle.std.specs.Prelude.{Option, Some, None, if◌then◌else◌}
 use Rattle.dtype_base.specs.Nullability.{either}
 use Rattle.dtype_base.specs.declared.nullability.Nullability.{Nullability}
 use Rattle.dtype_base.specs.declared.nullability.Nullability.TheVariants.{NonNullable, Nullable}

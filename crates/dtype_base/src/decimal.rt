@@ -121,7 +121,7 @@ impl fmt::Display for DecimalDType {
 pub fn check_precision_and_scale(precision: u8, scale: i8, max: u8) -> VortexResult<()>
     requires { max < 128 }
     ensures valid { IsOk result ↔ IsDecimalWithin max precision scale }
-    ensures refused { IfErr result (DecimalError max precision scale) }
+    ensures errors { IfErr result (DecimalError max precision scale) }
 {
     let max_scale = max as i8;
     if precision == 0 {

@@ -1,11 +1,11 @@
 // SPDX-License-Identifier: Apache-2.0
 // SPDX-FileCopyrightText: Copyright the Vortex contributors
 
-ghost use Rattle.std.specs.Prelude.{◌≡◌, ◌↔◌, ℕ, ◌<◌, IsTrue, List, [], ◌∷◌, Some, nat_eq, string_bytes, MatchResult};
+ghost use Rattle.std.specs.Prelude.{◌≡◌, ◌↔◌, ℕ, ◌<◌, IsTrue, List, [], ◌∷◌, Some, nat_eq, string_bytes};
 ghost use Rattle.std.specs.Bool.{OnFalse};
 ghost use Rattle.std.specs.Rc.{rc_str_bytes};
+ghost use Rattle.dtype_base.specs.Errors.{Makes};
 ghost use Rattle.dtype_base.specs.Escapes.{escaped, escaped_byte};
-ghost use Rattle.dtype_base.specs.declared.vortex_error.VortexError.TheVariants.{OutOfMemory};
 
 use crate::VortexResult;
 use std::alloc::Global;
@@ -34,7 +34,7 @@ impl FieldName {
     ///
     /// - `OutOfMemory` (0): an allocation fails.
     pub fn new(alloc: Global, text: &str) -> VortexResult<Self>
-        ensures { MatchResult result (λ n. n ≡ text.now) (λ e. e ≡ OutOfMemory) }
+        ensures { Makes result (λ n. n ≡ text.now) }
     {
         Ok(FieldName {
             inner: RcStr::from_str(alloc, text)?,
@@ -75,7 +75,7 @@ impl FieldName {
     ///
     /// - `OutOfMemory` (0): an allocation fails.
     pub fn to_text(&self, alloc: Global) -> VortexResult<String>
-        ensures { MatchResult result (λ s. string_bytes s ≡ self.now) (λ e. e ≡ OutOfMemory) }
+        ensures { Makes result (λ s. string_bytes s ≡ self.now) }
     {
         Ok(String::from_str(alloc, self.as_str())?)
     }
@@ -93,7 +93,7 @@ impl FieldName {
     ///
     /// - `OutOfMemory` (0): the reference count is exhausted.
     pub fn try_clone(&self, _alloc: Global) -> VortexResult<Self>
-        ensures { MatchResult result (λ n. n ≡ self.now) (λ e. e ≡ OutOfMemory) }
+        ensures { Makes result (λ n. n ≡ self.now) }
     {
         Ok(FieldName {
             inner: self.inner.clone()?,

@@ -1,12 +1,12 @@
 // SPDX-License-Identifier: Apache-2.0
 // SPDX-FileCopyrightText: Copyright the Vortex contributors
 
-ghost use Rattle.std.specs.Prelude.{◌≡◌, ◌↔◌, ℕ, IsTrue, List, [], ◌<◌, length, slice_get, map, Some, nat_eq, MatchResult};
+ghost use Rattle.std.specs.Prelude.{◌≡◌, ◌↔◌, ℕ, IsTrue, List, [], ◌<◌, length, slice_get, map, Some, nat_eq};
 ghost use Rattle.std.specs.Option.{option_copied};
 ghost use Rattle.std.specs.Iterator.{IsFinite};
 ghost use Rattle.std.specs.Iterator.Runs.{WholeRun};
+ghost use Rattle.dtype_base.specs.Errors.{Makes};
 ghost use Rattle.dtype_base.specs.FieldNames.{first_place};
-ghost use Rattle.dtype_base.specs.declared.vortex_error.VortexError.TheVariants.{OutOfMemory};
 
 use crate::{FieldName, FieldNamesIntoIter, FieldNamesIter, VortexResult};
 use std::alloc::{AllocError, Global};
@@ -50,7 +50,7 @@ impl FieldNames {
     ///
     /// - `OutOfMemory` (0): an allocation fails.
     pub fn from_texts(alloc: Global, texts: &[&str]) -> VortexResult<Self>
-        ensures { MatchResult result (λ n. n ≡ map (λ t. t.now) texts.now) (λ e. e ≡ OutOfMemory) }
+        ensures { Makes result (λ n. n ≡ map (λ t. t.now) texts.now) }
     {
         let mut items = Vec::with_capacity(alloc, texts.len())?;
         for text in texts {
@@ -70,10 +70,8 @@ impl FieldNames {
     ) -> VortexResult<Self>
         requires { (it : I.IntoIter) → I.into_iter_gives names it
             → I.IntoIter.can_next it × IsFinite (I.IntoIter.remaining it) }
-        ensures { MatchResult result
-            (λ n. (it : I.IntoIter) × I.into_iter_gives names it
-            × WholeRun I.IntoIter.next_gives it (λ run. n ≡ run.items))
-            (λ e. e ≡ OutOfMemory) }
+        ensures { Makes result (λ n. (it : I.IntoIter) × I.into_iter_gives names it
+            × WholeRun I.IntoIter.next_gives it (λ run. n ≡ run.items)) }
     {
         Ok(FieldNames {
             items: names.into_iter().collect(alloc)?,
@@ -157,7 +155,7 @@ impl FieldNames {
     ///
     /// - `OutOfMemory` (0): an allocation fails.
     pub fn try_clone(&self, alloc: Global) -> VortexResult<Self>
-        ensures { MatchResult result (λ n. n ≡ self.now) (λ e. e ≡ OutOfMemory) }
+        ensures { Makes result (λ n. n ≡ self.now) }
     {
         copied(alloc, self.items.as_slice())
     }
@@ -165,7 +163,7 @@ impl FieldNames {
 
 // The list of copies of these names, which share their texts.
 pub(crate) fn copied(alloc: Global, names: &[FieldName]) -> VortexResult<FieldNames>
-    ensures { MatchResult result (λ n. n ≡ names.now) (λ e. e ≡ OutOfMemory) }
+    ensures { Makes result (λ n. n ≡ names.now) }
 {
     let mut items = Vec::with_capacity(alloc, names.len())?;
     for name in names {

@@ -5,6 +5,7 @@ ghost use Rattle.std.specs.Prelude.{◌≡◌, ◌⊎◌, ◌↔◌, ◌+◌, �
 ghost use Rattle.std.specs.List.{range_with_len};
 ghost use Rattle.std.specs.Ordering.{is_lt, is_eq, nat_cmp};
 ghost use Rattle.std.specs.declared.cmp.Ordering.TheVariants.{Equal};
+ghost use Rattle.dtype_base.specs.Errors.{Makes};
 ghost use Rattle.dtype_base.specs.BinaryDigits.{binary_digits};
 ghost use Rattle.dtype_base.specs.Bytes.{Bytes};
 ghost use Rattle.dtype_base.specs.Distinct.{Distinct};
@@ -54,7 +55,7 @@ impl IndexedNames {
     ///
     /// - `OutOfMemory` (0): an allocation fails.
     pub fn new(alloc: Global, names: FieldNames) -> VortexResult<Self>
-        ensures { MatchResult result (λ n. n ≡ names) (λ e. e ≡ OutOfMemory) }
+        ensures { Makes result (λ n. n ≡ names) }
     {
         let (entries, keying, discriminator) = build_index(alloc, names.as_slice())?;
         Ok(IndexedNames {
@@ -134,13 +135,13 @@ impl IndexedNames {
     ///
     /// - `OutOfMemory` (0): an allocation fails.
     pub fn try_clone(&self, alloc: Global) -> VortexResult<Self>
-        ensures { MatchResult result (λ n. n ≡ self.now) (λ e. e ≡ OutOfMemory) }
+        ensures { Makes result (λ n. n ≡ self.now) }
     {
         let names = self.names.try_clone(alloc)?;
         let entries = Vec::from_slice(alloc, &self.entries)?;
         Ok(IndexedNames {
             names,
-            prefix_len: self.prefix_len,
+            keying: self.keying,
             entries,
             discriminator: self.discriminator,
         })

@@ -2,9 +2,10 @@
 // SPDX-FileCopyrightText: Copyright the Vortex contributors
 
 // The index of a name list: an entry for each position, sorted by the names.
-ghost use Rattle.std.specs.Prelude.{◌≡◌, ◌↔◌, ◌<◌, ◌≤◌, ◌^◌, ◌%◌, false, All, IsTrue, IfOk, IsOkUnless, OnOk, MatchResult, length, map};
+ghost use Rattle.std.specs.Prelude.{◌≡◌, ◌↔◌, ◌<◌, ◌≤◌, ◌^◌, ◌%◌, false, All, IsTrue, IfOk, IsOkUnless, OnOk, length, map};
 ghost use Rattle.std.specs.List.{range_with_len};
 ghost use Rattle.std.specs.List.Sorted.{IsPermutation, IsSorted};
+ghost use Rattle.dtype_base.specs.Errors.{Makes};
 ghost use Rattle.dtype_base.specs.Distinct.{Distinct};
 ghost use Rattle.dtype_base.specs.private.NameKeys.{HaveCommonPrefix};
 ghost use Rattle.dtype_base.specs.private.NameOrder.{AreDistinguishedBy, PrefixesIncrease, IsIndexOf, IsKeyed, IsOrderOf, KeysIncrease, entry_cmp, position_cmp, positions};
@@ -54,8 +55,7 @@ pub(crate) fn build_index(
     alloc: Global,
     names: &[FieldName],
 ) -> VortexResult<(Vec<IndexEntry>, Keying, Discriminator)>
-    ensures { MatchResult result
-        (λ made. IsIndexOf names.now made.1 made.2 made.0.items) (λ e. e ≡ OutOfMemory) }
+    ensures { Makes result (λ made. IsIndexOf names.now made.1 made.2 made.0.items) }
 {
     let (mut entries, prefix_len) = all_entries(alloc, names)?;
     match sort_entries(alloc, names, &mut entries)? {
@@ -67,8 +67,7 @@ pub(crate) fn build_index(
 // An entry for each position, in the list's order, and the length of the names' common prefix. All names mostly share the
 // common prefix of the first and the last name: then each name is read once.
 fn all_entries(alloc: Global, names: &[FieldName]) -> VortexResult<(Vec<IndexEntry>, usize)>
-    ensures common_prefix { MatchResult result
-        (λ made. HaveCommonPrefix names.now made.1) (λ e. e ≡ OutOfMemory) }
+    ensures common_prefix { Makes result (λ made. HaveCommonPrefix names.now made.1) }
     ensures keyed { IfOk result (λ made. All (IsKeyed names.now (AfterPrefix made.1)) made.0.items) }
     ensures each { IfOk result
         (λ made. positions made.0.items ≡ range_with_len 0 (length names.now)) }
@@ -90,8 +89,7 @@ fn entries_after_prefix(
     names: &[FieldName],
     prefix_len: usize,
 ) -> VortexResult<Vec<IndexEntry>>
-    ensures each { MatchResult result
-        (λ made. positions made.items ≡ range_with_len 0 (length made.items)) (λ e. e ≡ OutOfMemory) }
+    ensures each { Makes result (λ made. positions made.items ≡ range_with_len 0 (length made.items)) }
     ensures keyed { IfOk result (λ made. All (IsKeyed names.now (AfterPrefix prefix_len)) made.items) }
     ensures common_prefix { IfOk result (λ made. length made.items ≡ length names.now ↔ HaveCommonPrefix names.now prefix_len) }
 {
@@ -121,7 +119,7 @@ pub(crate) fn sort_entries(
 ) -> VortexResult<Discriminator>
     ensures each { IsPermutation entries.old.items entries.new.items }
     ensures rising { OnOk result (IsSorted (entry_cmp names.now) entries.new.items) }
-    ensures distinguished { MatchResult result (λ by. AreDistinguishedBy by entries.new.items) (λ e. e ≡ OutOfMemory) }
+    ensures distinguished { Makes result (λ by. AreDistinguishedBy by entries.new.items) }
 {
     sort_by_keys(alloc, entries)?;
     match discriminator_of(entries) {
@@ -134,7 +132,7 @@ pub(crate) fn sort_entries(
 // of them.
 fn sort_by_keys(alloc: Global, entries: &mut Vec<IndexEntry>) -> VortexResult<()>
     ensures each { IsPermutation entries.old.items entries.new.items }
-    ensures refused { IsOkUnless result OutOfMemory }
+    ensures errors { IsOkUnless result OutOfMemory }
 {
     if is_nearly_sorted(entries) {
         entries.sort_by_key(|entry| entry.key)?;
@@ -169,7 +167,7 @@ fn is_nearly_sorted(entries: &[IndexEntry]) -> bool
 fn sort_by_packed_keys(alloc: Global, entries: &[IndexEntry]) -> VortexResult<Vec<IndexEntry>>
     requires some { 0 < length entries.now }
     requires most { length entries.now ≤ 2 ^ 32 }
-    ensures { MatchResult result (λ sorted. IsPermutation entries.now sorted.items) (λ e. e ≡ OutOfMemory) }
+    ensures { Makes result (λ sorted. IsPermutation entries.now sorted.items) }
 {
     let room = entries.len().next_power_of_two();
     let mut packed = packed_keys(alloc, entries, room)?;
@@ -182,9 +180,7 @@ fn sort_by_packed_keys(alloc: Global, entries: &[IndexEntry]) -> VortexResult<Ve
 fn packed_keys(alloc: Global, entries: &[IndexEntry], room: usize) -> VortexResult<Vec<usize>>
     requires enough { length entries.now ≤ room }
     requires most { room ≤ 2 ^ 63 }
-    ensures { MatchResult result
-        (λ packed. map (λ n. n % room) packed.items ≡ range_with_len 0 (length entries.now))
-        (λ e. e ≡ OutOfMemory) }
+    ensures { Makes result (λ packed. map (λ n. n % room) packed.items ≡ range_with_len 0 (length entries.now)) }
 {
     let mut packed = Vec::with_capacity(alloc, entries.len())?;
     for index in 0..entries.len() {
@@ -204,7 +200,7 @@ fn permuted(
 ) -> VortexResult<Vec<IndexEntry>>
     requires some { 0 < room }
     requires each { IsPermutation (range_with_len 0 (length entries.now)) (map (λ n. n % room) packed.now) }
-    ensures { MatchResult result (λ permuted. IsPermutation entries.now permuted.items) (λ e. e ≡ OutOfMemory) }
+    ensures { Makes result (λ permuted. IsPermutation entries.now permuted.items) }
 {
     let mut permuted = Vec::with_capacity(alloc, packed.len())?;
     for number in packed {
@@ -221,7 +217,7 @@ fn sort_equal_keys(
 ) -> VortexResult<Discriminator>
     ensures each { IsPermutation entries.old.items entries.new.items }
     ensures rising { OnOk result (IsSorted (entry_cmp names.now) entries.new.items) }
-    ensures distinguished { MatchResult result (λ by. AreDistinguishedBy by entries.new.items) (λ e. e ≡ OutOfMemory) }
+    ensures distinguished { Makes result (λ by. AreDistinguishedBy by entries.new.items) }
 {
     entries.sort_unstable_by_key(|entry| entry.key);
     let by = discriminator_of(entries);
@@ -234,7 +230,7 @@ fn sort_equal_keys(
 fn sort_by_texts(names: &[FieldName], entries: &mut Vec<IndexEntry>) -> VortexResult<()>
     ensures each { IsPermutation entries.old.items entries.new.items }
     ensures rising { OnOk result (IsSorted (entry_cmp names.now) entries.new.items) }
-    ensures refused { IsOkUnless result OutOfMemory }
+    ensures errors { IsOkUnless result OutOfMemory }
 {
     entries.sort_by(|a, b| compare_entries(names, a, b))?;
     Ok(())

@@ -3,12 +3,12 @@
 
 // Keys of the bytes that distinguish names, for names whose common prefix is short: `id` beside `transaction_amount_1`,
 // `transaction_amount_2` and so on. Nothing is proved of the places; that the keys increase is tested.
-ghost use Rattle.std.specs.Prelude.{◌≡◌, IsTrue, IfOk, IfSome, MatchResult};
+ghost use Rattle.std.specs.Prelude.{◌≡◌, IsTrue, IfOk, IfSome};
 ghost use Rattle.std.specs.List.{All};
+ghost use Rattle.dtype_base.specs.Errors.{Makes};
 ghost use Rattle.dtype_base.specs.private.NameOrder.{IsIndexOf, IsKeyed, IsKeyingOf, IsOrderOf, Orders, positions};
 ghost use Rattle.dtype_base.specs.declared.name_key.Keying.TheVariants.{AfterPrefix};
 ghost use Rattle.dtype_base.specs.declared.name_order.Discriminator.TheVariants.{Text};
-ghost use Rattle.dtype_base.specs.declared.vortex_error.VortexError.TheVariants.{OutOfMemory};
 
 use crate::name_key::{Keying, key_of, matching_len};
 use crate::name_order::{Discriminator, IndexEntry, discriminator_of};
@@ -29,8 +29,7 @@ pub(crate) fn with_places(
     prefix_len: usize,
 ) -> VortexResult<(Vec<IndexEntry>, Keying, Discriminator)>
     requires { IsIndexOf names.now (AfterPrefix prefix_len) Text entries.items }
-    ensures { MatchResult result
-        (λ made. IsIndexOf names.now made.1 made.2 made.0.items) (λ e. e ≡ OutOfMemory) }
+    ensures { Makes result (λ made. IsIndexOf names.now made.1 made.2 made.0.items) }
 {
     if let Some(keying) = places_of(names, &entries) {
         let made = rekeyed(alloc, names, &entries, &keying)?;
@@ -96,8 +95,7 @@ fn rekeyed(
     keying: &Keying,
 ) -> VortexResult<Vec<IndexEntry>>
     requires { IsOrderOf names.now (positions entries.now) }
-    ensures same { MatchResult result
-        (λ made. positions made.items ≡ positions entries.now) (λ e. e ≡ OutOfMemory) }
+    ensures same { Makes result (λ made. positions made.items ≡ positions entries.now) }
     ensures keyed { IfOk result (λ made. All (IsKeyed names.now keying.now) made.items) }
 {
     let mut made = Vec::with_capacity(alloc, entries.len())?;

@@ -6,8 +6,8 @@
 //
 // A contract sees the message of a type as its tree (`message` of `specs/MessageOf`), the other structs as their
 // fields, with a tree for each child, and a path as the names that its parts hold.
-ghost use Rattle.std.specs.Prelude.{◌≡◌, pos, Ok, map, option_map, string_bytes, MatchResult};
-ghost use Rattle.dtype_base.specs.declared.vortex_error.VortexError.TheVariants.{OutOfMemory};
+ghost use Rattle.std.specs.Prelude.{◌≡◌, pos, Ok, map, option_map, string_bytes};
+ghost use Rattle.dtype_base.specs.Errors.{Makes};
 ghost use Rattle.dtype_base.specs.Primitives.{ptype_row};
 ghost use Rattle.dtype_messages.specs.MessageOf.{message, kind_message, child_message, list_content, fixed_content, map_content, struct_content, union_content, extension_content, bytes_of};
 ghost use Rattle.dtype_messages.specs.PTypeNumbers.{plain, ptype_at};
@@ -398,8 +398,7 @@ impl FieldPath {
     ///
     /// - `OutOfMemory` (0): an allocation fails.
     pub fn try_clone(&self, alloc: Global) -> VortexResult<FieldPath>
-        ensures { MatchResult result
-            (λ p. part_names p ≡ part_names self.now) (λ e. e ≡ OutOfMemory) }
+        ensures { Makes result (λ p. part_names p ≡ part_names self.now) }
     {
         let mut path = Vec::with_capacity(alloc, self.path.len())?;
         for part in &self.path {
@@ -416,8 +415,7 @@ impl Field {
     ///
     /// - `OutOfMemory` (0): an allocation fails.
     pub fn try_clone(&self, alloc: Global) -> VortexResult<Field>
-        ensures { MatchResult result
-            (λ p. part_name p ≡ part_name self.now) (λ e. e ≡ OutOfMemory) }
+        ensures { Makes result (λ p. part_name p ≡ part_name self.now) }
     {
         match &self.field_type {
             Some(kind) => Ok(Field {
@@ -435,7 +433,7 @@ impl FieldType {
     ///
     /// - `OutOfMemory` (0): an allocation fails.
     pub fn try_clone(&self, alloc: Global) -> VortexResult<FieldType>
-        ensures { MatchResult result (λ k. name_of k ≡ name_of self.now) (λ e. e ≡ OutOfMemory) }
+        ensures { Makes result (λ k. name_of k ≡ name_of self.now) }
     {
         match self {
             FieldType::Name(name) => Ok(FieldType::Name(String::from_str(alloc, name.as_str())?)),
@@ -451,7 +449,7 @@ impl DType {
     /// - `OutOfMemory` (0): an allocation fails.
     #[cycle(copy)]
     pub fn try_clone(&self, alloc: Global) -> VortexResult<DType>
-        ensures { MatchResult result (λ d. message d ≡ message self.now) (λ e. e ≡ OutOfMemory) }
+        ensures { Makes result (λ d. message d ≡ message self.now) }
     {
         match &self.dtype_type {
             Some(kind) => Ok(DType {
@@ -470,8 +468,7 @@ impl DtypeType {
     /// - `OutOfMemory` (0): an allocation fails.
     #[cycle(copy)]
     pub fn try_clone(&self, alloc: Global) -> VortexResult<DtypeType>
-        ensures { MatchResult result
-            (λ k. kind_message k ≡ kind_message self.now) (λ e. e ≡ OutOfMemory) }
+        ensures { Makes result (λ k. kind_message k ≡ kind_message self.now) }
     {
         match self {
             DtypeType::Null(p) => Ok(DtypeType::Null(p.try_clone(alloc)?)),
@@ -506,7 +503,7 @@ impl DtypeType {
 // Copies the child, if there is one.
 #[cycle(copy)]
 fn copy_child(alloc: Global, proto: &Option<Box<DType>>) -> VortexResult<Option<Box<DType>>>
-    ensures { MatchResult result (λ c. child_message c ≡ child_message proto.now) (λ e. e ≡ OutOfMemory) }
+    ensures { Makes result (λ c. child_message c ≡ child_message proto.now) }
 {
     match proto {
         Some(proto) => {
@@ -520,8 +517,7 @@ fn copy_child(alloc: Global, proto: &Option<Box<DType>>) -> VortexResult<Option<
 // Copies the messages, in order.
 #[cycle(copy)]
 fn copy_messages(alloc: Global, protos: &[DType]) -> VortexResult<Vec<DType>>
-    ensures { MatchResult result
-        (λ v. map message v.items ≡ map message protos.now) (λ e. e ≡ OutOfMemory) }
+    ensures { Makes result (λ v. map message v.items ≡ map message protos.now) }
 {
     let mut copies = Vec::new(alloc);
     for proto in protos {
@@ -532,8 +528,7 @@ fn copy_messages(alloc: Global, protos: &[DType]) -> VortexResult<Vec<DType>>
 
 // Copies the texts, in order.
 fn copy_texts(alloc: Global, texts: &[String]) -> VortexResult<Vec<String>>
-    ensures { MatchResult result
-        (λ v. map string_bytes v.items ≡ map string_bytes texts.now) (λ e. e ≡ OutOfMemory) }
+    ensures { Makes result (λ v. map string_bytes v.items ≡ map string_bytes texts.now) }
 {
     let mut copies = Vec::new(alloc);
     for text in texts {
@@ -544,7 +539,7 @@ fn copy_texts(alloc: Global, texts: &[String]) -> VortexResult<Vec<String>>
 
 // Copies the bytes, if there are any.
 fn copy_bytes(alloc: Global, bytes: &Option<Vec<u8>>) -> VortexResult<Option<Vec<u8>>>
-    ensures { MatchResult result (λ b. bytes_of b ≡ bytes_of bytes.now) (λ e. e ≡ OutOfMemory) }
+    ensures { Makes result (λ b. bytes_of b ≡ bytes_of bytes.now) }
 {
     match bytes {
         Some(bytes) => Ok(Some(Vec::from_slice(alloc, bytes.as_slice())?)),
@@ -560,8 +555,7 @@ impl List {
     /// - `OutOfMemory` (0): an allocation fails.
     #[cycle(copy)]
     pub fn try_clone(&self, alloc: Global) -> VortexResult<List>
-        ensures { MatchResult result
-            (λ p. list_content p ≡ list_content self.now) (λ e. e ≡ OutOfMemory) }
+        ensures { Makes result (λ p. list_content p ≡ list_content self.now) }
     {
         Ok(List {
             element_type: copy_child(alloc, &self.element_type)?,
@@ -578,8 +572,7 @@ impl FixedSizeList {
     /// - `OutOfMemory` (0): an allocation fails.
     #[cycle(copy)]
     pub fn try_clone(&self, alloc: Global) -> VortexResult<FixedSizeList>
-        ensures { MatchResult result
-            (λ p. fixed_content p ≡ fixed_content self.now) (λ e. e ≡ OutOfMemory) }
+        ensures { Makes result (λ p. fixed_content p ≡ fixed_content self.now) }
     {
         Ok(FixedSizeList {
             element_type: copy_child(alloc, &self.element_type)?,
@@ -597,8 +590,7 @@ impl Map {
     /// - `OutOfMemory` (0): an allocation fails.
     #[cycle(copy)]
     pub fn try_clone(&self, alloc: Global) -> VortexResult<Map>
-        ensures { MatchResult result
-            (λ p. map_content p ≡ map_content self.now) (λ e. e ≡ OutOfMemory) }
+        ensures { Makes result (λ p. map_content p ≡ map_content self.now) }
     {
         Ok(Map {
             key_type: copy_child(alloc, &self.key_type)?,
@@ -617,8 +609,7 @@ impl Struct {
     /// - `OutOfMemory` (0): an allocation fails.
     #[cycle(copy)]
     pub fn try_clone(&self, alloc: Global) -> VortexResult<Struct>
-        ensures { MatchResult result
-            (λ p. struct_content p ≡ struct_content self.now) (λ e. e ≡ OutOfMemory) }
+        ensures { Makes result (λ p. struct_content p ≡ struct_content self.now) }
     {
         Ok(Struct {
             names: copy_texts(alloc, &self.names)?,
@@ -636,8 +627,7 @@ impl Union {
     /// - `OutOfMemory` (0): an allocation fails.
     #[cycle(copy)]
     pub fn try_clone(&self, alloc: Global) -> VortexResult<Union>
-        ensures { MatchResult result
-            (λ p. union_content p ≡ union_content self.now) (λ e. e ≡ OutOfMemory) }
+        ensures { Makes result (λ p. union_content p ≡ union_content self.now) }
     {
         Ok(Union {
             names: copy_texts(alloc, &self.names)?,
@@ -656,8 +646,7 @@ impl Extension {
     /// - `OutOfMemory` (0): an allocation fails.
     #[cycle(copy)]
     pub fn try_clone(&self, alloc: Global) -> VortexResult<Extension>
-        ensures { MatchResult result
-            (λ p. extension_content p ≡ extension_content self.now) (λ e. e ≡ OutOfMemory) }
+        ensures { Makes result (λ p. extension_content p ≡ extension_content self.now) }
     {
         Ok(Extension {
             id: String::from_str(alloc, self.id.as_str())?,

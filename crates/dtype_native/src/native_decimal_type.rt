@@ -1,7 +1,7 @@
 // SPDX-License-Identifier: Apache-2.0
 // SPDX-FileCopyrightText: Copyright the Vortex contributors
 
-ghost use Rattle.std.specs.Prelude.{◌≡◌, ◌^◌, ◌-◌, ◌≤◌, ℕ, ℤ, neg_ℤ, pos, unsigned_abs, List, codes};
+ghost use Rattle.std.specs.Prelude.{◌≡◌, ◌^◌, ◌-◌, ◌≤◌, ℕ, ℤ, neg_ℤ, pos, unsigned_abs};
 ghost use Rattle.std.specs.Int.{byte_len, w8, w16, w32, w64, w128};
 ghost use Rattle.std.proofs.Common.{refl, lit<, lit≤};
 ghost use Rattle.dtype_base.specs.declared.decimal.DecimalType.{DecimalType};

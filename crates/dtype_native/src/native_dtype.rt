@@ -1,10 +1,10 @@
 // SPDX-License-Identifier: Apache-2.0
 // SPDX-FileCopyrightText: Copyright the Vortex contributors
 
-ghost use Rattle.std.specs.Prelude.{◌≡◌, IfOk, MatchResult};
+ghost use Rattle.std.specs.Prelude.{◌≡◌, IfOk};
+ghost use Rattle.dtype_base.specs.Errors.{Makes};
 ghost use Rattle.dtype_base.specs.declared.nullability.Nullability.TheVariants.{NonNullable};
 ghost use Rattle.dtype_base.specs.declared.ptype.PType.TheVariants.{U8, U16, U32, U64, I8, I16, I32, I64};
-ghost use Rattle.dtype_base.specs.declared.vortex_error.VortexError.TheVariants.{OutOfMemory};
 ghost use Rattle.dtype_native.specs.NativeTypes.{nullable_form};
 ghost use Rattle.dtype_types.specs.tree.Valid.{Valid};
 ghost use Rattle.dtype_types.specs.tree.TreeOf.{tree};
@@ -26,7 +26,7 @@ pub trait NativeDType {
     ///
     /// - `OutOfMemory` (0): an allocation fails.
     fn dtype(alloc: Global) -> VortexResult<DType>
-        ensures meaning { MatchResult result (λ d. tree d ≡ native_tree) (λ e. e ≡ OutOfMemory) }
+        ensures meaning { Makes result (λ d. tree d ≡ native_tree) }
         ensures valid { IfOk result (λ d. Valid (tree d)) };
 }
 
@@ -114,8 +114,7 @@ impl NativeDType for &str {
     ghost native_tree = { utf8 NonNullable };
 
     fn dtype(_alloc: Global) -> VortexResult<DType>
-        ensures meaning { MatchResult result
-            (λ d. tree d ≡ utf8 NonNullable) (λ e. e ≡ OutOfMemory) }
+        ensures meaning { Makes result (λ d. tree d ≡ utf8 NonNullable) }
         ensures valid { IfOk result (λ d. Valid (tree d)) }
     {
         Ok(DType::Utf8(Nullability::NonNullable))
@@ -126,8 +125,7 @@ impl NativeDType for &[u8] {
     ghost native_tree = { binary NonNullable };
 
     fn dtype(_alloc: Global) -> VortexResult<DType>
-        ensures meaning { MatchResult result
-            (λ d. tree d ≡ binary NonNullable) (λ e. e ≡ OutOfMemory) }
+        ensures meaning { Makes result (λ d. tree d ≡ binary NonNullable) }
         ensures valid { IfOk result (λ d. Valid (tree d)) }
     {
         Ok(DType::Binary(Nullability::NonNullable))

@@ -4,7 +4,7 @@
 ghost use Rattle.std.specs.Prelude.{◌≡◌, ◌↔◌, ◌≤ℤ◌, ◌<ℤ◌, ℤ, IsTrue, IsFalse};
 ghost use Rattle.std.specs.Int.{w8, w16, w32, w64};
 ghost use Rattle.std.specs.Ordering.{int_cmp};
-ghost use Rattle.std.proofs.Common.{refl, ap};
+ghost use Rattle.std.proofs.Common.{refl};
 ghost use Rattle.dtype_base.specs.declared.ptype.PType.{PType};
 ghost use Rattle.dtype_base.specs.declared.ptype.PType.TheVariants.{U8, U16, U32, U64, I8, I16, I32, I64};
 ghost use Rattle.dtype_base.specs.Primitives.{ptype_row};

@@ -1,7 +1,7 @@
 // SPDX-License-Identifier: Apache-2.0
 // SPDX-FileCopyrightText: Copyright the Vortex contributors
 
-ghost use Rattle.std.specs.Prelude.{◌≡◌, ◌≢◌, ◌≤◌, [], ◌∷◌, ⊤};
+ghost use Rattle.std.specs.Prelude.{◌≢◌, [], ◌∷◌, ⊤};
 ghost use Rattle.dtype_base.specs.declared.ptype.PType.{PType};
 ghost use Rattle.dtype_base.specs.declared.ptype.PType.TheVariants.{U8, U16, U32, U64, I8, I16, I32, I64, F16};
 ghost use Rattle.dtype_base.specs.Primitives.{IsFloat, IsInteger, IsSigned, IsUnsigned};

@@ -24,20 +24,21 @@ use Rattle.dtype_types.specs.tree.TreeOf.{tree, children}
 use Rattle.dtype_types.specs.declared.dtype.DType.{DType, Struct}
 use Rattle.dtype_types.specs.declared.struct_fields.StructFields.{StructFields}
 use Rattle.dtype_paths.specs.declared.field.Field.TheVariants.{Name}
-use Rattle.dtype_projection.specs.PathLists.{contains_path, borrowed, contains_suffix, suffixes_at, AreSuffixes, kept_field}
+use Rattle.dtype_paths.specs.Cursors.{asks, asks_if}
+use Rattle.dtype_paths.specs.declared.field_path_cursor.FieldPathCursor.{FieldPathCursor}
+use Rattle.dtype_projection.specs.private.Entered.{asked_at, AreEntered, kept_field}
 use Rattle.dtype_projection.specs.Projected.{PathPredicate, after_step, without_field, projected, projected_fields, struct_with, prepend_kept}
 use Rattle.dtype_projection.proofs.lemmas.Projections.{projected_nothing}
-use Rattle.dtype_projection.proofs.BorrowedPaths.{Paths}
 
 abbrev pub Pairs : Type 0
 Pairs = List (List ℕ × Tree)
 
 abbrev pub Entries : Type 0
-Entries = List (ℕ × Paths)
+Entries = List (ℕ × FieldPathCursor)
 
 -- what is kept of the field at an entry's position
-abbrev pub kept_at : Pairs → ℕ × Paths → Option (List ℕ × Tree)
-kept_at fs e = kept_field fs e.0 (contains_path (borrowed e.1.items))
+abbrev pub kept_at : Pairs → ℕ × FieldPathCursor → Option (List ℕ × Tree)
+kept_at fs e = kept_field fs e.0 (asks e.1)
 
 -- ---- entries in the order of their positions
 
@@ -61,7 +62,7 @@ from_head i j (k ∷ ks) h below =
     (omega (arith, before, h), from_head i j ks h below.1)
 
 -- the first entry is at i, or all are after it
-next_position : (i : ℕ) (es : Entries) → AreFrom i es → IsStrictlySortedBy nat_cmp (keys_of es) → ((v : Paths) × (rest : Entries) × (es ≡ (i, v) ∷ rest) × AreFrom (i + 1) rest) ⊎ AreFrom (i + 1) es
+next_position : (i : ℕ) (es : Entries) → AreFrom i es → IsStrictlySortedBy nat_cmp (keys_of es) → ((v : FieldPathCursor) × (rest : Entries) × (es ≡ (i, v) ∷ rest) × AreFrom (i + 1) rest) ⊎ AreFrom (i + 1) es
 next_position i [] from sorted = inr tt
 next_position i (e ∷ es) from sorted =
     let rest : AreFrom (i + 1) es = from_head i e.0 (keys_of es) from.0 (sorted_head nat_cmp e.0 (keys_of es) sorted) in
@@ -70,15 +71,15 @@ next_position i (e ∷ es) from sorted =
       | inr same ↦ inl (e.1, es, ap (λ k. (k, e.1) ∷ es) (let at : e.0 ≡ i = omega (arith, same, from.0) in at), rest)
     ]
 
-none_at : (i : ℕ) (es : Entries) → AreFrom (i + 1) es → suffixes_at es i ≡ (λ p. false)
+none_at : (i : ℕ) (es : Entries) → AreFrom (i + 1) es → asked_at es i ≡ (λ p. false)
 none_at i [] from = refl
-none_at i (e ∷ es) from = ap (λ b. contains_suffix (cond b (Some e.1) (lookup (is_at (nat_cmp i)) es))) (before_position i e.0 (omega (arith, from.0))) ∙ none_at i es from.1
+none_at i (e ∷ es) from = ap (λ b. asks_if (cond b (Some e.1) (lookup (is_at (nat_cmp i)) es))) (before_position i e.0 (omega (arith, from.0))) ∙ none_at i es from.1
 
-suffixes_here : (i : ℕ) (v : Paths) (rest : Entries) → suffixes_at ((i, v) ∷ rest) i ≡ contains_path (borrowed v.items)
-suffixes_here i v rest = ap (λ b. contains_suffix (cond b (Some v) (lookup (is_at (nat_cmp i)) rest))) (own_position i)
+asked_here : (i : ℕ) (v : FieldPathCursor) (rest : Entries) → asked_at ((i, v) ∷ rest) i ≡ asks v
+asked_here i v rest = ap (λ b. asks_if (cond b (Some v) (lookup (is_at (nat_cmp i)) rest))) (own_position i)
 
-suffixes_later : (i : ℕ) (v : Paths) (rest : Entries) (k : ℕ) → i < k → suffixes_at ((i, v) ∷ rest) k ≡ suffixes_at rest k
-suffixes_later i v rest k h = ap (λ b. contains_suffix (cond b (Some v) (lookup (is_at (nat_cmp k)) rest))) (after_position k i h)
+asked_later : (i : ℕ) (v : FieldPathCursor) (rest : Entries) (k : ℕ) → i < k → asked_at ((i, v) ∷ rest) k ≡ asked_at rest k
+asked_later i v rest k h = ap (λ b. asks_if (cond b (Some v) (lookup (is_at (nat_cmp k)) rest))) (after_position k i h)
 
 -- ---- the fields kept
 
@@ -86,49 +87,49 @@ no_field_left : (fs : Pairs) (i : ℕ) (es : Entries) → ((k : ℕ) → slice_g
 no_field_left fs i [] none from = refl
 no_field_left fs i (e ∷ es) none from =
     let at : slice_get fs e.0 ≡ None = ap (slice_get fs) (let same : e.0 ≡ (e.0 - i) + i = omega (arith, from.0) in same) ∙ none (e.0 - i) in
-    ap (λ o. cons_option (option_and_then (λ (f : List ℕ × Tree). option_map (λ u. (f.0, u)) (projected f.1 (contains_path (borrowed e.1.items)))) o) (filter_map (kept_at fs) es)) at
+    ap (λ o. cons_option (option_and_then (λ (f : List ℕ × Tree). option_map (λ u. (f.0, u)) (projected f.1 (asks e.1))) o) (filter_map (kept_at fs) es)) at
     ∙ no_field_left fs i es none from.1
 
 kept_pairs : (n : List ℕ) (o : Option Tree) (rest : Fields) → cons_option (option_map (λ u. (n, u)) o) (pairs rest) ≡ pairs (prepend_kept n o rest)
 kept_pairs n None rest = refl
 kept_pairs n (Some t) rest = refl
 
-kept_here : (fs : Pairs) (i : ℕ) (v : Paths) (f : List ℕ × Tree) (w : PathPredicate) → slice_get fs i ≡ Some f → contains_path (borrowed v.items) ≡ w → kept_at fs (i, v) ≡ option_map (λ u. (f.0, u)) (projected f.1 w)
+kept_here : (fs : Pairs) (i : ℕ) (v : FieldPathCursor) (f : List ℕ × Tree) (w : PathPredicate) → slice_get fs i ≡ Some f → asks v ≡ w → kept_at fs (i, v) ≡ option_map (λ u. (f.0, u)) (projected f.1 w)
 kept_here fs i v f w at is =
-    ap (option_and_then (λ (g : List ℕ × Tree). option_map (λ u. (g.0, u)) (projected g.1 (contains_path (borrowed v.items))))) at
+    ap (option_and_then (λ (g : List ℕ × Tree). option_map (λ u. (g.0, u)) (projected g.1 (asks v)))) at
     ∙ ap (λ z. option_map (λ u. (f.0, u)) (projected f.1 z)) is
 
--- fs are the fields from position i on, and s has their suffixes
-kept_from : (all fs : Pairs) (i : ℕ) (es : Entries) (w : PathPredicate) (s : ℕ → PathPredicate) → ((k : ℕ) → slice_get all (k + i) ≡ slice_get fs k) → ((k : ℕ) → s k ≡ suffixes_at es (k + i)) → AreFrom i es → IsStrictlySortedBy nat_cmp (keys_of es) → AreSuffixes w (field_names fs) s
+-- fs are the fields from position i on, and s has what is asked of them
+kept_from : (all fs : Pairs) (i : ℕ) (es : Entries) (w : PathPredicate) (s : ℕ → PathPredicate) → ((k : ℕ) → slice_get all (k + i) ≡ slice_get fs k) → ((k : ℕ) → s k ≡ asked_at es (k + i)) → AreFrom i es → IsStrictlySortedBy nat_cmp (keys_of es) → AreEntered w (field_names fs) s
     → filter_map (kept_at all) es ≡ pairs (projected_fields (fields fs) w)
 kept_from all [] i es w s at is from sorted a = no_field_left all i es at from
 kept_from all (f ∷ fs) i es w s at is from sorted a =
     let later : (k : ℕ) → slice_get all (k + (i + 1)) ≡ slice_get fs k = λ k. ap (slice_get all) (let same : k + (i + 1) ≡ suc k + i = omega arith in same) ∙ at (suc k) in
     let start : 0 + i ≡ i = omega arith in
-    let here : s 0 ≡ suffixes_at es i = is 0 ∙ ap (suffixes_at es) start in
+    let here : s 0 ≡ asked_at es i = is 0 ∙ ap (asked_at es) start in
     elim (next_position i es from sorted) [
       | inl h ↦
           let v = h.0 in
           let rest = h.1 in
           let asked = after_step (Name f.0) w in
           let kept : Option (List ℕ × Tree) = option_map (λ u. (f.0, u)) (projected f.1 asked) in
-          let suffixes : contains_path (borrowed v.items) ≡ asked = sym (suffixes_here i v rest) ∙ ap (λ z. suffixes_at z i) (sym h.2) ∙ sym here ∙ a.0 in
+          let is_asked : asks v ≡ asked = sym (asked_here i v rest) ∙ ap (λ z. asked_at z i) (sym h.2) ∙ sym here ∙ a.0 in
           ap (filter_map (kept_at all)) h.2
-          ∙ ap (λ o. cons_option o (filter_map (kept_at all) rest)) (kept_here all i v f asked (ap (slice_get all) (sym start) ∙ at 0) suffixes)
+          ∙ ap (λ o. cons_option o (filter_map (kept_at all) rest)) (kept_here all i v f asked (ap (slice_get all) (sym start) ∙ at 0) is_asked)
           ∙ ap (cons_option kept)
           (kept_from all fs (i + 1) rest (without_field f.0 w) (λ k. s (suc k)) later
-          (λ k. is (suc k) ∙ ap (λ z. suffixes_at z (suc k + i)) h.2 ∙ suffixes_later i v rest (suc k + i) (omega arith) ∙ ap (suffixes_at rest) (let same : suc k + i ≡ k + (i + 1) = omega arith in same))
+          (λ k. is (suc k) ∙ ap (λ z. asked_at z (suc k + i)) h.2 ∙ asked_later i v rest (suc k + i) (omega arith) ∙ ap (asked_at rest) (let same : suc k + i ≡ k + (i + 1) = omega arith in same))
           h.3 (sorted_tail nat_cmp i (keys_of rest) (subst (λ z. IsStrictlySortedBy nat_cmp (keys_of z)) h.2 sorted)) a.1)
           ∙ kept_pairs f.0 (projected f.1 asked) (projected_fields (fields fs) (without_field f.0 w))
       | inr after ↦
           let nothing : after_step (Name f.0) w ≡ (λ p. false) = sym a.0 ∙ here ∙ none_at i es after in
           let none : projected f.1 (after_step (Name f.0) w) ≡ None = ap (projected f.1) nothing ∙ projected_nothing f.1 in
-          kept_from all fs (i + 1) es (without_field f.0 w) (λ k. s (suc k)) later (λ k. is (suc k) ∙ ap (suffixes_at es) (let same : suc k + i ≡ k + (i + 1) = omega arith in same)) after sorted a.1
+          kept_from all fs (i + 1) es (without_field f.0 w) (λ k. s (suc k)) later (λ k. is (suc k) ∙ ap (asked_at es) (let same : suc k + i ≡ k + (i + 1) = omega arith in same)) after sorted a.1
           ∙ ap (λ o. pairs (prepend_kept f.0 o (projected_fields (fields fs) (without_field f.0 w)))) (sym none)
     ]
 
-pub all_kept : (fs : Pairs) (es : Entries) (w : PathPredicate) → IsStrictlySortedBy nat_cmp (keys_of es) → AreSuffixes w (field_names fs) (suffixes_at es) → filter_map (kept_at fs) es ≡ pairs (projected_fields (fields fs) w)
-all_kept fs es w sorted a = kept_from fs fs 0 es w (suffixes_at es) (λ k. ap (slice_get fs) (let same : k + 0 ≡ k = omega arith in same)) (λ k. ap (suffixes_at es) (let same : k ≡ k + 0 = omega arith in same)) (from_start (keys_of es)) sorted a
+pub all_kept : (fs : Pairs) (es : Entries) (w : PathPredicate) → IsStrictlySortedBy nat_cmp (keys_of es) → AreEntered w (field_names fs) (asked_at es) → filter_map (kept_at fs) es ≡ pairs (projected_fields (fields fs) w)
+all_kept fs es w sorted a = kept_from fs fs 0 es w (asked_at es) (λ k. ap (slice_get fs) (let same : k + 0 ≡ k = omega arith in same)) (λ k. ap (asked_at es) (let same : k ≡ k + 0 = omega arith in same)) (from_start (keys_of es)) sorted a
   where
     from_start : (ks : List ℕ) → AllByRecursion (λ k. 0 ≤ k) ks
     from_start [] = tt
@@ -156,7 +157,7 @@ zip_push (a ∷ xs) (b ∷ ys) x y e = ap (λ zs. (a, b) ∷ zs) (zip_push xs ys
 zip_push [] (b ∷ ys) x y e = absurd (omega arith)
 zip_push (a ∷ xs) [] x y e = absurd (omega arith)
 
-pub one_kept : (fs all : Pairs) (es rest : Entries) (e : ℕ × Paths) (names names' : List (List ℕ)) (dtypes dtypes' : List DType) (n : List ℕ) (d : DType) → es ≡ e ∷ rest → kept_at fs e ≡ Some (n, tree d) → length names ≡ length dtypes → names' ≡ names ++ n ∷ [] → dtypes' ≡ dtypes ++ d ∷ []
+pub one_kept : (fs all : Pairs) (es rest : Entries) (e : ℕ × FieldPathCursor) (names names' : List (List ℕ)) (dtypes dtypes' : List DType) (n : List ℕ) (d : DType) → es ≡ e ∷ rest → kept_at fs e ≡ Some (n, tree d) → length names ≡ length dtypes → names' ≡ names ++ n ∷ [] → dtypes' ≡ dtypes ++ d ∷ []
     → zip names (map tree dtypes) ++ filter_map (kept_at fs) es ≡ all → zip names' (map tree dtypes') ++ filter_map (kept_at fs) rest ≡ all
 one_kept fs all es rest e names names' dtypes dtypes' n d next is even en ed whole =
     let left = filter_map (kept_at fs) rest in

@@ -1,9 +1,8 @@
 -- SPDX-License-Identifier: Apache-2.0
 -- SPDX-FileCopyrightText: Copyright the Vortex contributors
 
-mod BorrowedPaths
 mod ProjectionClauses
-mod SuffixLists
+mod EnteredFields
 mod KeptFields
 mod Weights
 pub mod lemmas

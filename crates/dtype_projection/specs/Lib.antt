@@ -3,5 +3,5 @@
 
 pub mod Projected
 pub mod IsPart
-pub mod PathLists
+pub mod private
 pub mod Restricted

@@ -6,21 +6,14 @@
 -- children asked for is the projection mask of Parquet's readers, and nested column pruning of query engines. The paths are
 -- given by a predicate, which for a set is its `contains`: what they ask after a step is a predicate again, and their order
 -- and repeats can't matter.
-use Rattle.std.specs.Prelude.{ℕ, List, [], ◌∷◌, Bool, not, ◌&&◌, Option, Some, None, if◌then◌else◌}
+use Rattle.std.specs.Prelude.{ℕ, List, [], ◌∷◌, not, ◌&&◌, Option, Some, None, if◌then◌else◌}
 use Rattle.std.specs.Option.{option_map}
 use Rattle.dtype_base.specs.declared.nullability.Nullability.{Nullability}
 use Rattle.dtype_types.specs.tree.Tree.{Tree, Fields, no_fields, field, list, fixed_size_list, struct}
 use Rattle.dtype_paths.specs.Equality.{same_field}
+pub use Rattle.dtype_paths.specs.PathPredicates.{PathPredicate, after_step}
 use Rattle.dtype_paths.specs.declared.field.Field.{Field}
 use Rattle.dtype_paths.specs.declared.field.Field.TheVariants.{Name, ElementType}
-
--- which paths are asked for
-abbrev pub PathPredicate : Type 0
-PathPredicate = List Field → Bool
-
--- after the step f: the suffixes of those paths whose first step is f
-abbrev pub after_step : Field → PathPredicate → PathPredicate
-after_step f w p = w (f ∷ p)
 
 -- the paths but for those that step into a field named n
 abbrev pub without_field : List ℕ → PathPredicate → PathPredicate

@@ -2,22 +2,23 @@
 // SPDX-FileCopyrightText: Copyright the Vortex contributors
 
 // Theorems about the definitions. Each function's contract is the theorem, and its body is empty.
-ghost use Rattle.std.specs.Prelude.{◌≡◌, ◌↔◌, IsTrue, IsSome, List, Some};
+ghost use Rattle.std.specs.Prelude.{◌≡◌, ◌↔◌, [], IsTrue, IsSome, List, Some, false, option_and_then};
 ghost use Rattle.std.specs.FinSet as set;
 ghost use Rattle.dtype_types.specs.nullability.Nullable.{nullability};
 ghost use Rattle.dtype_types.specs.tree.Tree.{Tree};
 ghost use Rattle.dtype_types.specs.tree.Valid.{Valid};
 ghost use Rattle.dtype_types.specs.values.Value.{Of, Value};
 ghost use Rattle.dtype_paths.specs.Along.{along};
-ghost use Rattle.dtype_paths.specs.At.{At, ExistsIn};
+ghost use Rattle.dtype_paths.specs.At.{At, ExistsIn, step};
 ghost use Rattle.dtype_paths.specs.Beginning.{Beginning};
 ghost use Rattle.dtype_paths.specs.Covering.{covers, least};
 ghost use Rattle.dtype_paths.specs.Found.{Found};
 ghost use Rattle.dtype_paths.specs.Overlaps.{Overlaps};
 ghost use Rattle.dtype_paths.specs.PathOrder.{PathSet};
 ghost use Rattle.dtype_paths.specs.declared.field.Field.{Field};
+ghost use Rattle.dtype_paths.specs.PathPredicates.{PathPredicate, after_step};
 ghost use Rattle.dtype_projection.specs.IsPart.{IsLeastPart, IsPart};
-ghost use Rattle.dtype_projection.specs.Projected.{PathPredicate, projected};
+ghost use Rattle.dtype_projection.specs.Projected.{projected};
 ghost use Rattle.dtype_projection.specs.Restricted.{restricted};
 
 /// The projection is a type exactly where one of the paths exists in the original type.
@@ -82,6 +83,14 @@ pub fn projections_compose()
         → projected u (set.contains r) ≡ projected t (set.contains r) }
     ensures once { (t u : Tree) (s : PathSet) → projected t (set.contains s) ≡ Some u
         → projected u (set.contains s) ≡ Some u }
+{}
+
+/// What a projection has after a step is what the type has there, projected to what is asked for after the step. So a
+/// reader that steps into a type and into a set together (`FieldPathSet::cursor`) opens what the projection keeps.
+#[tactic(auto, using(crate::proofs::lemmas::Projections::step_kept))]
+pub fn a_projection_is_stepped_into()
+    ensures { (t u : Tree) (w : PathPredicate) (f : Field) → w [] ≡ false → projected t w ≡ Some u
+        → step u f ≡ option_and_then (λ x. projected x (after_step f w)) (step t f) }
 {}
 
 /// The projection of a valid type is valid.

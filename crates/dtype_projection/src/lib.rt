@@ -10,12 +10,12 @@
 //! has the paths. A projection of a valid type is valid, and its values are those of the type, restricted to the paths.
 //!
 //! The definitions are in `specs/`: `Projected` (the projection of a type), `IsPart` (the same by what it is least of) and
-//! `Restricted` (the same of a value); `PathLists` is for the private contracts alone. `proofs/lemmas` has the lemmas that
+//! `Restricted` (the same of a value); `private` is for the private contracts alone. `proofs/lemmas` has the lemmas that
 //! callers may cite, also on paths in merged types (`Above`), and `laws` states the theorems about the definitions.
 #![tactic(auto)]
 
+mod entered;
 pub mod laws;
 mod project;
-mod suffixes;
 
 pub use project::project_paths;

@@ -13,16 +13,18 @@ ghost use Rattle.dtype_types.specs.values.Value.{Of, Value};
 ghost use Rattle.dtype_paths.specs.Along.{along};
 ghost use Rattle.dtype_paths.specs.At.{ExistsIn};
 ghost use Rattle.dtype_paths.specs.Covering.{covers};
+ghost use Rattle.dtype_paths.specs.Cursors.{asks};
 ghost use Rattle.dtype_paths.specs.Overlaps.{Overlaps};
 ghost use Rattle.dtype_paths.specs.declared.field.Field.{Field};
 ghost use Rattle.dtype_paths.specs.declared.field.Field.TheVariants.{ElementType};
-ghost use Rattle.dtype_projection.specs.PathLists.{contains_path, borrowed, kept_field};
-ghost use Rattle.dtype_projection.specs.Projected.{after_step, projected, projected_fields, struct_with};
+ghost use Rattle.dtype_projection.specs.private.Entered.{kept_field};
+ghost use Rattle.dtype_paths.specs.PathPredicates.{after_step};
+ghost use Rattle.dtype_projection.specs.Projected.{projected, projected_fields, struct_with};
 ghost use Rattle.dtype_projection.specs.Restricted.{restricted};
 
-use crate::suffixes::{has_root, suffixes_after_element, suffixes_by_position};
+use crate::entered::entered_fields;
 use dtype_base::{FieldName, FieldNames, Nullability, VortexResult};
-use dtype_paths::{Field, FieldPathSet};
+use dtype_paths::{FieldPathCursor, FieldPathSet};
 use dtype_types::{DType, StructFields};
 use std::alloc::Global;
 
@@ -37,9 +39,10 @@ use std::alloc::Global;
 /// by the element into a list or a fixed-size list, and into nothing else, so a path through a map, a union or an extension
 /// exists in no type.
 ///
-/// The time grows with the paths and with what is kept: a lookup by name and an insertion into a `BTreeMap` for each step
-/// of each path, a copy of each field that is kept, and the index of the names of each struct that is kept. Fields that no
-/// path steps into aren't visited, so ten paths cost about as much in ten thousand columns as in a hundred.
+/// The set is stepped into alongside the type (`FieldPathSet::cursor`), so the time grows with the steps of the set that
+/// lead into the type and with what is kept: for each step by a name, however many paths take it, a lookup and an insertion
+/// into a `BTreeMap`, a copy of each field that is kept, and the index of the names of each struct that is kept. Fields that
+/// no path steps into aren't visited, so ten paths cost about as much in ten thousand columns as in a hundred.
 ///
 /// # Errors
 ///
@@ -63,37 +66,33 @@ pub fn project_paths(
     ensures values { IfOk result (λ r. IfSome r (λ u. (v : Value) → Of v (tree dtype.now)
         → Of (restricted (tree dtype.now) (set.contains wanted.now) v) (tree u))) }
 {
-    let mut paths = Vec::new(alloc);
-    let members = wanted.iter()?;
-    for path in members {
-        paths.push(path.parts())?;
-    }
-    project(alloc, dtype, &paths)
+    project(alloc, dtype, &wanted.cursor())
 }
 
-// The projection of a type to these paths.
+// The projection of a type to what is asked for here.
 #[cycle(projecting)]
-fn project(alloc: Global, dtype: &DType, paths: &[&[Field]]) -> VortexResult<Option<DType>>
+fn project(
+    alloc: Global,
+    dtype: &DType,
+    wanted: &FieldPathCursor<'_>,
+) -> VortexResult<Option<DType>>
     ensures { MatchResult result
-        (λ r. option_map tree r ≡ projected (tree dtype.now) (contains_path (borrowed paths.now)))
+        (λ r. option_map tree r ≡ projected (tree dtype.now) (asks wanted.now))
         (λ e. e ≡ OutOfMemory) }
 {
-    if paths.is_empty() {
-        return Ok(None);
-    }
-    if has_root(paths) {
+    if wanted.is_end() {
         return Ok(Some(dtype.try_clone(alloc)?));
     }
     match dtype {
-        DType::List(element, n) => match project_element(alloc, element, paths)? {
+        DType::List(element, n) => match project_element(alloc, element, wanted)? {
             Some(kept) => Ok(Some(DType::list(alloc, kept, *n)?)),
             None => Ok(None),
         },
-        DType::FixedSizeList(element, size, n) => match project_element(alloc, element, paths)? {
+        DType::FixedSizeList(element, size, n) => match project_element(alloc, element, wanted)? {
             Some(kept) => Ok(Some(DType::fixed_size_list(alloc, kept, *size, *n)?)),
             None => Ok(None),
         },
-        DType::Struct(fields, n) => project_struct(alloc, fields, *n, paths),
+        DType::Struct(fields, n) => project_struct(alloc, fields, *n, wanted),
         DType::Null
         | DType::Bool(_)
         | DType::Primitive(_, _)
@@ -107,38 +106,40 @@ fn project(alloc: Global, dtype: &DType, paths: &[&[Field]]) -> VortexResult<Opt
     }
 }
 
-// The projection of an element to what these paths ask of it.
+// The projection of an element to what is asked of it.
 #[cycle(projecting)]
 fn project_element(
     alloc: Global,
     element: &DType,
-    paths: &[&[Field]],
+    wanted: &FieldPathCursor<'_>,
 ) -> VortexResult<Option<DType>>
     ensures { MatchResult result
-        (λ r. option_map tree r ≡ projected (tree element.now) (after_step ElementType (contains_path (borrowed paths.now))))
+        (λ r. option_map tree r ≡ projected (tree element.now) (after_step ElementType (asks wanted.now)))
         (λ e. e ≡ OutOfMemory) }
 {
-    let suffixes = suffixes_after_element(alloc, paths)?;
-    project(alloc, element, &suffixes)
+    match wanted.element() {
+        Some(below) => project(alloc, element, &below),
+        None => Ok(None),
+    }
 }
 
-// The projection of a struct of these fields to these paths, of which none is the root.
+// The projection of a struct of these fields to what is asked for here, which isn't the struct itself.
 #[cycle(projecting)]
 fn project_struct(
     alloc: Global,
     fields: &StructFields,
     n: Nullability,
-    paths: &[&[Field]],
+    wanted: &FieldPathCursor<'_>,
 ) -> VortexResult<Option<DType>>
     ensures { MatchResult result
-        (λ r. option_map tree r ≡ struct_with n (projected_fields (fields_of fields.now) (contains_path (borrowed paths.now))))
+        (λ r. option_map tree r ≡ struct_with n (projected_fields (fields_of fields.now) (asks wanted.now)))
         (λ e. e ≡ OutOfMemory) }
 {
-    let entered = suffixes_by_position(alloc, fields, paths)?;
+    let entered = entered_fields(alloc, fields, wanted)?;
     let mut names = Vec::new(alloc);
     let mut dtypes = Vec::new(alloc);
-    for (position, suffixes) in &entered {
-        if let Some((name, dtype)) = project_field(alloc, fields, *position, suffixes)? {
+    for (position, below) in &entered {
+        if let Some((name, dtype)) = project_field(alloc, fields, *position, below)? {
             names.push(name)?;
             dtypes.push(dtype)?;
         }
@@ -165,24 +166,24 @@ fn struct_of(
     Ok(Some(DType::Struct(fields, n)))
 }
 
-// The name of the field at this position, and its projection to these paths.
+// The name of the field at this position, and its projection to what is asked of it.
 #[cycle(projecting)]
 #[tactic(auto, using(crate::proofs::KeptFields::kept_some, crate::proofs::KeptFields::kept_none))]
 fn project_field(
     alloc: Global,
     fields: &StructFields,
     position: usize,
-    paths: &[&[Field]],
+    wanted: &FieldPathCursor<'_>,
 ) -> VortexResult<Option<(FieldName, DType)>>
     ensures { MatchResult result
-        (λ r. option_map (λ f. (f.0, tree f.1)) r ≡ kept_field (children fields.now) position (contains_path (borrowed paths.now)))
+        (λ r. option_map (λ f. (f.0, tree f.1)) r ≡ kept_field (children fields.now) position (asks wanted.now))
         (λ e. e ≡ OutOfMemory) }
 {
     let (Some(name), Some(dtype)) = (fields.field_name(position), fields.field_by_index(position))
     else {
         return Ok(None);
     };
-    match project(alloc, dtype, paths)? {
+    match project(alloc, dtype, wanted)? {
         Some(kept) => Ok(Some((name.try_clone(alloc)?, kept))),
         None => Ok(None),
     }

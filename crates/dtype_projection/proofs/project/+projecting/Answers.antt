@@ -2,24 +2,21 @@
 -- SPDX-FileCopyrightText: Copyright the Vortex contributors
 
 use Rattle.std.proofs.Common.{◌≡◌, ◌++◌, length, map, MatchResult, Some, subst, sym, ap, ◌∙◌, arith, rules}
-use Rattle.std.proofs.lemmas.List.{nil_from_length}
 use Rattle.std.specs.List.{filter_map, zip}
 use Rattle.std.specs.Option.{option_map}
 use Rattle.dtype_base.specs.declared.vortex_error.VortexError.TheVariants.{OutOfMemory}
 use Rattle.dtype_types.specs.tree.Tree.{fields}
 use Rattle.dtype_types.specs.tree.TreeOf.{tree, children}
-use Rattle.dtype_projection.specs.PathLists.{contains_path, borrowed, kept_field}
-use Rattle.dtype_projection.specs.Projected.{struct_with}
+use Rattle.dtype_paths.specs.Cursors.{asks}
+use Rattle.dtype_projection.specs.private.Entered.{kept_field}
+use Rattle.dtype_projection.specs.Projected.{projected, struct_with}
 use Rattle.dtype_projection.proofs.lemmas.Projections.{projected_nothing}
-use Rattle.dtype_projection.proofs.BorrowedPaths.{none_borrowed}
 use Rattle.dtype_projection.proofs.KeptFields.{all_done, all_kept, fields_of_pairs, kept_at, one_kept}
 use Rattle.dtype_projection.proofs.Weights.{field_below}
 use Rattle.dtype_projection.proofs.project.+projecting.Goals as goal
 
-pub project-returns-then-is_empty : goal.project-returns-then-is_empty
-project-returns-then-is_empty t c =
-    let none : length c.args.paths.now ≡ 0 = search rules in
-    sym (none_borrowed c.args.paths.now (tree c.args.dtype.now) (nil_from_length _ none) ∙ projected_nothing (tree c.args.dtype.now))
+pub project_element-returns-in-None : goal.project_element-returns-in-None
+project_element-returns-in-None t c = let element = tree c.args.element.now in sym (projected_nothing element) ∙ ap (projected element) c.in-None.ensures.paths
 
 pub project_struct-loop-position-init : goal.project_struct-loop-position-init
 project_struct-loop-position-init t c =
@@ -28,7 +25,7 @@ project_struct-loop-position-init t c =
     record {
       kept = ap (λ z. zip z (map tree c.new-dtypes.result.items) ++ filter_map (kept_at fs) c.into_iter-position-iterator.result) c.new-names.ensures.items
           ∙ ap (filter_map (kept_at fs)) all.0
-          ∙ all_kept fs c.in_ok-entered.entered.entries (contains_path (borrowed c.args.paths.now)) all.5 c.in_ok-entered.ensures;
+          ∙ all_kept fs c.in_ok-entered.entered.entries (asks c.args.wanted.now) all.5 c.in_ok-entered.ensures;
       even = search rules;
     }
 
@@ -36,8 +33,8 @@ pub project_struct-loop-position-preserved-in-Continue-branch-5 : goal.project_s
 project_struct-loop-position-preserved-in-Continue-branch-5 t c =
     let fs = children c.args.fields.now in
     let even : length c.loop-position.names.items ≡ length c.loop-position.dtypes.items = search rules in
-    let kept : kept_at fs (c.in-Some.position.now, c.in-Some.suffixes.now) ≡ Some (c.in-Some-2.name, tree c.in-Some-2.dtype) =
-    ap (λ z. kept_field fs c.in-Some.position.now (contains_path (borrowed z))) (sym c.deref.ensures.value) ∙ sym c.in_ok-name.ensures ∙ ap (option_map (λ f. (f.0, tree f.1))) c.in-Some-2.is in
+    let kept : kept_at fs (c.in-Some.position.now, c.in-Some.below.now) ≡ Some (c.in-Some-2.name, tree c.in-Some-2.dtype) =
+    sym c.in_ok-name.ensures ∙ ap (option_map (λ f. (f.0, tree f.1))) c.in-Some-2.is in
     record {
       kept = one_kept fs _ c.loop-position.position-iterator c.next.new.self _ _ _ _ _ _ _ c.in-Some.ensures.steps kept even c.in_ok-push.ensures.items c.in_ok-push-2.ensures.items c.loop-position.invariant.kept;
       even = search rules;

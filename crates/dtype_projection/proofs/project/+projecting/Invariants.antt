@@ -5,7 +5,7 @@ use Rattle.std.proofs.Common.{◌≡◌, ◌+◌, ◌*◌, ◌++◌, map, vec_le
 use Rattle.std.specs.List.{filter_map, zip}
 use Rattle.dtype_types.specs.tree.Tree.{pairs}
 use Rattle.dtype_types.specs.tree.TreeOf.{tree, children, fields_of}
-use Rattle.dtype_projection.specs.PathLists.{contains_path, borrowed}
+use Rattle.dtype_paths.specs.Cursors.{asks}
 use Rattle.dtype_projection.specs.Projected.{projected_fields}
 use Rattle.dtype_projection.proofs.KeptFields.{kept_at}
 use Rattle.dtype_projection.proofs.Weights.{weight, weight_fields}
@@ -26,6 +26,6 @@ decreases-project_field l = 3 * weight_fields (fields_of l.fields.now) + 1
 -- what is kept so far, followed by what is kept of the fields at the positions that are left, is what is kept of all
 abbrev pub invariant-project_struct-loop-position : goal.invariant-project_struct-loop-position
 invariant-project_struct-loop-position l = record {
-  kept : zip l.names.items (map tree l.dtypes.items) ++ filter_map (kept_at (children l.fields)) l.position-iterator ≡ pairs (projected_fields (fields_of l.fields) (contains_path (borrowed l.paths)));
+  kept : zip l.names.items (map tree l.dtypes.items) ++ filter_map (kept_at (children l.fields)) l.position-iterator ≡ pairs (projected_fields (fields_of l.fields) (asks l.wanted));
   even : vec_len l.names ≡ vec_len l.dtypes;
 }

@@ -1,31 +1,21 @@
 -- SPDX-License-Identifier: Apache-2.0
 -- SPDX-FileCopyrightText: Copyright the Vortex contributors
 
-use Rattle.std.proofs.Common.{◌≡◌, ◌++◌, List, MatchResult, sym, ap, subst, ◌∙◌, append-nil, arith}
-use Rattle.std.proofs.lemmas.List.{nil_from_length}
+use Rattle.std.proofs.Common.{◌≡◌, MatchResult, subst}
 use Rattle.std.specs.FinSet as set
 use Rattle.std.specs.Option.{option_map}
-use Rattle.std.specs.Vec.Iter.{into_iter_items}
 use Rattle.dtype_base.specs.declared.vortex_error.VortexError.TheVariants.{OutOfMemory}
 use Rattle.dtype_types.specs.tree.TreeOf.{tree}
-use Rattle.dtype_paths.specs.PathOrder.{set_of}
-use Rattle.dtype_projection.specs.PathLists.{borrowed}
 use Rattle.dtype_projection.specs.Projected.{projected}
-use Rattle.dtype_projection.proofs.BorrowedPaths.{Path, contains_is}
 use Rattle.dtype_projection.proofs.ProjectionClauses.{if_ok, some_clause, kept_clause, only_clause, valid_clause, values_clause}
 use Rattle.dtype_projection.proofs.project.project_paths.Goals as goal
 
 pub returns : goal.returns
 returns c =
-    let none = nil_from_length (into_iter_items c.loop-path.path-iterator) (omega (arith, c.loop-path.path-iterator.rest.ok, c.in-None.ensures.steps)) in
-    let all : set_of (borrowed c.deref.result.now) ≡ c.args.wanted.now =
-    ap (λ z. set_of (borrowed z)) c.deref.ensures.value
-    ∙ ap set_of (sym (append-nil (borrowed c.loop-path.paths.items)) ∙ ap (λ (z : List Path). borrowed c.loop-path.paths.items ++ borrowed z) (sym none))
-    ∙ c.loop-path.invariant in
     let t = tree c.args.dtype.now in
     let s = c.args.wanted.now in
     let part : MatchResult c.project.result (λ r. option_map tree r ≡ projected t (set.contains s)) (λ e. e ≡ OutOfMemory) =
-    subst (λ w. MatchResult c.project.result (λ r. option_map tree r ≡ projected t w) (λ e. e ≡ OutOfMemory)) (sym (contains_is s (borrowed c.deref.result.now) all)) c.project.ensures in
+    subst (λ w. MatchResult c.project.result (λ r. option_map tree r ≡ projected t w) (λ e. e ≡ OutOfMemory)) c.cursor.ensures c.project.ensures in
     record {
       projection = part;
       some = if_ok c.project.result _ _ _ part (some_clause t s);

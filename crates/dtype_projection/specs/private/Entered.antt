@@ -1,0 +1,27 @@
+-- SPDX-License-Identifier: Apache-2.0
+-- SPDX-FileCopyrightText: Copyright the Vortex contributors
+
+-- What is asked of the fields of a struct, by their positions, and what is kept of such a field.
+use Rattle.std.specs.Prelude.{◌≡◌, ℕ, suc, List, [], ◌∷◌, slice_get, Option, option_and_then}
+use Rattle.std.specs.BTreeMap.{is_at}
+use Rattle.std.specs.Map.{lookup}
+use Rattle.std.specs.Option.{option_map}
+use Rattle.std.specs.Ordering.{nat_cmp}
+use Rattle.dtype_types.specs.tree.Tree.{Tree}
+use Rattle.dtype_paths.specs.Cursors.{asks_if}
+use Rattle.dtype_paths.specs.declared.field.Field.TheVariants.{Name}
+use Rattle.dtype_paths.specs.declared.field_path_cursor.FieldPathCursor.{FieldPathCursor}
+use Rattle.dtype_projection.specs.Projected.{PathPredicate, after_step, without_field, projected}
+
+-- what the cursor at the position k asks for, of cursors by position
+abbrev pub asked_at : List (ℕ × FieldPathCursor) → ℕ → PathPredicate
+asked_at es k = asks_if (lookup (is_at (nat_cmp k)) es)
+
+-- s has, at the position of each field of these names, what the paths w ask for after a step into it
+abbrev pub AreEntered : PathPredicate → List (List ℕ) → (ℕ → PathPredicate) → Type 0
+AreEntered w [] s = Unit {0}
+AreEntered w (n ∷ ns) s = (s 0 ≡ after_step (Name n) w) × AreEntered (without_field n w) ns (λ k. s (suc k))
+
+-- the field at the position k, projected to the paths w, if something is kept of it
+abbrev pub kept_field : List (List ℕ × Tree) → ℕ → PathPredicate → Option (List ℕ × Tree)
+kept_field fs k w = option_and_then (λ f. option_map (λ u. (f.0, u)) (projected f.1 w)) (slice_get fs k)

@@ -4,6 +4,7 @@
 //! Laws of sessions, of reading and of writing: theorems about the definitions. Each function's contract is the law,
 //! and its body is empty. `types`, `paths` and the others are the laws of the crates below.
 ghost use Rattle.std.specs.Prelude.{◌≡◌, ◌≢◌, ◌↔◌, ◌++◌, ◌∷◌, ℕ, List, Some, None, Ok, Err, true};
+ghost use Rattle.std.specs.Bool.{Decides};
 ghost use Rattle.std.specs.List.{list_any};
 ghost use Rattle.dtype_base.specs.declared.nullability.Nullability.{Nullability};
 ghost use Rattle.dtype_base.specs.declared.vortex_error.VortexError.{VortexError};
@@ -19,6 +20,7 @@ ghost use Rattle.dtype_messages.specs.Message.{Message};
 ghost use Rattle.vortex_dtype.specs.ReadInOrder.{read};
 ghost use Rattle.vortex_dtype.specs.Reads.{Fault, Reads, ReadsAsNothing};
 ghost use Rattle.vortex_dtype.specs.Written.{Normal, written};
+ghost use Rattle.vortex_dtype.specs.declared.foreign.ForeignExtMetadata.{ForeignExtMetadata};
 
 pub use crate::plugin::plugin_laws;
 pub use crate::session::session_laws;
@@ -28,6 +30,7 @@ pub use dtype_native::laws as native;
 pub use dtype_paths::laws as paths;
 pub use dtype_projection::laws as projections;
 pub use dtype_types::{laws as types, nullability_laws as merging};
+use std::hash::Hash;
 
 /// Registering gives one id the plugin's meaning, and changes neither other ids nor what happens to unknown ones.
 #[tactic(auto, using(crate::proofs::lemmas::Sessions::sessions, crate::proofs::lemmas::Sessions::session_laws))]
@@ -69,6 +72,19 @@ pub fn unknown_once_allowed()
 pub fn kept_again()
     ensures { (s : Meaning) → LawfulSession s → (id b c : List ℕ) (t : Tree) → Bytes b → Valid t
         → keeps s id b t ≡ Some c → Bytes c × (keeps s id c t ≡ Some c) }
+{}
+
+/// Metadata of foreign extensions is equal exactly where its bytes are, and foreign vtables are where their ids are. To
+/// a hasher metadata is its bytes, and a vtable is its id.
+pub fn foreign_extensions_are_compared_by_their_parts()
+    ensures metadata { (a b : ForeignExtMetadata)
+        → Decides (⟦<crate::ForeignExtMetadata as PartialEq>⟧.eq a b) (a.0.items ≡ b.0.items) }
+    ensures vtables { (a b : List ℕ)
+        → Decides (⟦<crate::ForeignExtDType as PartialEq>⟧.eq a b) (a ≡ b) }
+    ensures metadata_hash { (m : ForeignExtMetadata) → ⟦<crate::ForeignExtMetadata as Hash>⟧.hash_input m
+        ≡ ⟦<Vec<u8> as Hash>⟧.hash_input m.0 }
+    ensures vtable_hash { (id : List ℕ) → ⟦<crate::ForeignExtDType as Hash>⟧.hash_input id
+        ≡ ⟦<dtype_types::ExtId as Hash>⟧.hash_input id }
 {}
 
 /// Setting the outer nullability of a valid type doesn't change whether a session admits it.

@@ -5,15 +5,18 @@
 #![tactic(auto, unfolding(crate::specs::Session::meaning, crate::specs::Meaning::empty_meaning, crate::specs::Meaning::register_in, crate::specs::Meaning::allow_unknown_in))]
 
 ghost use Rattle.std.specs.Prelude.{◌≡◌, ◌⊎◌, ◌↔◌, IfOk, IfErr, IsOkUnless, IsSome, IsTrue, OnErr, OnOk, Some};
+ghost use Rattle.dtype_base.specs.declared.nullability.Nullability.{Nullability};
 ghost use Rattle.dtype_base.specs.declared.vortex_error.VortexError.TheVariants.{OutOfMemory};
+ghost use Rattle.dtype_types.specs.nullability.Nullable.{SetNull};
 ghost use Rattle.dtype_types.specs.tree.TreeOf.{extension_metadata, extension_tree, tree};
 ghost use Rattle.dtype_types.specs.tree.Valid.{Valid};
-ghost use Rattle.dtype_types.specs.tree.Tree.{extension};
+ghost use Rattle.dtype_types.specs.tree.Tree.{Tree, extension};
 ghost use Rattle.vortex_dtype.specs.Meaning.{LawfulSession, allow_unknown_in, empty_meaning, keeps, register_in};
 ghost use Rattle.vortex_dtype.specs.Errors.{SessionError};
 ghost use Rattle.vortex_dtype.specs.Session.{meaning};
 
 use crate::plugin::{ExtDTypePlugin, boxed_deserialize, boxed_id};
+use dtype_base::laws::slices_hold_bytes;
 use dtype_base::{MessageFault, VortexError, VortexResult};
 use dtype_types::{DType, ExtDTypeRef, ExtId};
 use std::alloc::Global;
@@ -90,7 +93,8 @@ impl DTypeSession {
 
     /// Returns the extension of this id over this storage, with the metadata that the session keeps of these bytes:
     /// what the registered plugin writes back, or the bytes themselves where no plugin is registered and unknown ids
-    /// are kept. Metadata that was kept is kept unchanged when it is read again (`laws::kept_again`).
+    /// are kept. Metadata that was kept is kept unchanged when it is read again, and the storage's outer nullability makes
+    /// no difference to what is kept.
     ///
     /// # Errors
     ///
@@ -105,6 +109,29 @@ impl DTypeSession {
         metadata: &[u8],
         storage: DType,
     ) -> VortexResult<ExtDTypeRef>
+        ensures made { IfOk result (λ e.
+            extension_tree e ≡ extension id.now (extension_metadata e) (tree storage)) }
+        ensures kept { Valid (tree storage) → IfOk result (λ e.
+            keeps (meaning rewrites self.now) id.now metadata.now (tree storage)
+            ≡ Some (extension_metadata e)) }
+        ensures again { Valid (tree storage) → IfOk result (λ e.
+            keeps (meaning rewrites self.now) id.now (extension_metadata e) (tree storage)
+            ≡ Some (extension_metadata e)) }
+        ensures outer { (t : Tree) (n : Nullability) → Valid (tree storage) → SetNull (tree storage) n t
+            → keeps (meaning rewrites self.now) id.now metadata.now t
+            ≡ keeps (meaning rewrites self.now) id.now metadata.now (tree storage) }
+        ensures valid { Valid (tree storage) → IfOk result (λ e. Valid (extension_tree e)) }
+        ensures refused { Valid (tree storage) → IfErr result
+            (λ e. (e ≡ OutOfMemory)
+            ⊎ SessionError (meaning rewrites self.now) id.now metadata.now (tree storage) e) }
+    {
+        session_laws(self);
+        slices_hold_bytes(metadata);
+        self.extension_of(id, metadata, storage)
+    }
+
+    // The extension of this id over this storage, with the metadata that the session keeps of these bytes.
+    fn extension_of(&self, id: &str, metadata: &[u8], storage: DType) -> VortexResult<ExtDTypeRef>
         ensures made { IfOk result (λ e.
             extension_tree e ≡ extension id.now (extension_metadata e) (tree storage)) }
         ensures kept { Valid (tree storage) → IfOk result (λ e.

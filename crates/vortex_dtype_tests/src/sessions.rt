@@ -102,12 +102,14 @@ fn foreign_bytes(alloc: Global) -> VortexResult<ForeignExtMetadata> {
 }
 
 #[test]
-fn foreign_extensions_are_copied_and_printed(rt: HostRuntime) -> Result<(), Fail> {
+fn foreign_extensions_are_copied_compared_and_printed(rt: HostRuntime) -> Result<(), Fail> {
     let alloc = rt.alloc();
     let vtable = foreign(alloc)?;
     assert!(rt; vtable.try_clone(alloc)? == vtable);
+    assert!(rt; vtable != ForeignExtDType::new(ExtId::new(alloc, "z")?));
     let metadata = foreign_bytes(alloc)?;
     assert!(rt; metadata.try_clone(alloc)? == metadata);
+    assert!(rt; metadata != ForeignExtMetadata(Vec::from_slice(alloc, b"a!C")?));
     assert!(rt; is_printed(alloc, &metadata, "3B")?);
     Ok(())
 }

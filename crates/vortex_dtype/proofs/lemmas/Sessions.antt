@@ -72,6 +72,10 @@ kept-again (Some r) u b c s h bs v e = (h r refl).again b c s bs v e
 pub keeps_again : (m : Meaning) → LawfulSession m → (id b c : List ℕ) (s : Tree) → Bytes b → Valid s → keeps m id b s ≡ Some c → Bytes c × (keeps m id c s ≡ Some c)
 keeps_again m h id b c s bs v e = kept-again (m.registered id) m.unknown b c s (h.each id) bs v e
 
+-- the same, without that it is bytes
+pub keeps_unchanged : (m : Meaning) → LawfulSession m → (id b c : List ℕ) (s : Tree) → Bytes b → Valid s → keeps m id b s ≡ Some c → keeps m id c s ≡ Some c
+keeps_unchanged m h id b c s bs v e = (keeps_again m h id b c s bs v e).1
+
 kept-outer : (o : Option Rewrites) (u : Bool) (b : List ℕ) (s t : Tree) (n : Nullability) → ((r : Rewrites) → o ≡ Some r → Lawful r) → Bytes b → Valid s → set_null s n ≡ Some t → kept o u b t ≡ kept o u b s
 kept-outer None u b s t n h bs v e = refl
 kept-outer (Some r) u b s t n h bs v e = (h r refl).outer b s t n bs v e

@@ -9,7 +9,9 @@ import re
 from collections import namedtuple
 from glob import glob
 
-from repository import COMMENT, functions_of, given_out, is_public, libraries, owners_in, sources_of, text_of
+from repository import (
+    COMMENT, functions_of, given_out, heads_of, is_public, libraries, owners_in, sources_of, text_of,
+)
 
 LEDGER = "docs/PROMISES.md"
 CONSOLE = "crates/dtype_console/stdin"
@@ -22,6 +24,7 @@ Sources = namedtuple("Sources", "calls members laws constants derived")
 
 HEADING = "| Promise | Calls and clauses | Laws | Mutations | Shown by |"
 CONSTANT = re.compile(r"(?m)^\s*(?:pub )?(?:const|macro_rules!) (\w+)(?:: | \{)")
+PUBLIC_CONSTANT = re.compile(r"(?m)^\s*pub const (\w+): ")
 DERIVED = re.compile(r"#\[derive(?:_where)?\(([^)]*)\)\]\s*(?:#\[[^\n]*\]\s*)*pub (?:struct|enum) (\w+)")
 
 
@@ -202,6 +205,29 @@ def fault_of_test(name, golden):
     return f"there is no test {name}"
 
 
+def constants_left_out(named):
+    """What is to be said of constants: those that a library exports, or that a public type has."""
+    for crate in libraries():
+        names = given_out(crate)[0]
+        for file in sources_of(crate):
+            text = COMMENT.sub("", text_of(file))
+            for it in PUBLIC_CONSTANT.finditer(text):
+                owner = next((owner for owner in owners_in(text) if owner.start < it.start() < owner.end), None)
+                is_open = heads_of(owner) & names if owner else it[1] in names or file.endswith("/lib.rt")
+                if is_open and it[1] not in named:
+                    yield f"the constant {it[1]} stands in no line"
+
+
+def laws_of_traits():
+    """The public traits of the libraries that have laws, each with the ghost members that are laws."""
+    for crate in libraries():
+        names = given_out(crate)[0]
+        for file in sources_of(crate):
+            for owner in owners_in(COMMENT.sub("", text_of(file))):
+                if owner.kind == "trait" and owner.type in names:
+                    yield owner.type, [it.name for it in owner.members if it.name.endswith("_law")]
+
+
 def left_out(lines, sources, asked):
     """What stands in no line: public calls, their clauses, laws, and must-fail edits."""
     named, clauses_named = set(), set()
@@ -219,6 +245,11 @@ def left_out(lines, sources, asked):
         for clause in sorted(clauses if name in named else ()):
             if (name, clause) not in clauses_named:
                 yield f"the clause {name}: {clause} stands in no line"
+    yield from constants_left_out(named)
+    for name, members in laws_of_traits():
+        for member in members:
+            if (name, member) not in clauses_named:
+                yield f"the law of a trait {name}: {member} stands in no line"
     edits = {edit for line in lines for edit in line.edits}
     for crate in crates_named():
         folder = f"crates/{crate}/must-fail"

@@ -2,6 +2,7 @@
 # SPDX-FileCopyrightText: Copyright the Vortex contributors
 
 """tools/pages, with what it checks by ledger.py, runs.py, claims.py, speed.py and tools/reference."""
+import os
 import unittest
 
 from planted import Planted
@@ -11,11 +12,18 @@ NAME = "crates/dtype_base/src/field_name.rt"
 
 
 class Pages(Planted):
+    made = {}
+
     def setUp(self):
         super().setUp()
         self.write("tools/data/run_by", "FieldName::new: console name\n")
-        self.run_tool("reference")
-        self.run_tool("draw_speed")
+        if not self.made:
+            self.run_tool("reference")
+            self.run_tool("draw_speed")
+            pages = [f"docs/reference/{it}" for it in os.listdir(self.path("docs/reference"))]
+            self.made.update((it, self.read(it)) for it in [*pages, "docs/BENCHMARKS.md"])
+        for file, text in self.made.items():
+            self.write(file, text)
 
     def told(self, tool, *arguments):
         return [it for it in super().told(tool, *arguments) if not it.startswith(("pages: words", "pages: note"))]
@@ -58,6 +66,19 @@ class Pages(Planted):
     def test_tells_what_stands_in_no_line(self):
         self.change("crates/dtype_base/src/ptype.rt", "impl PType {", "impl PType {\n    pub fn number(self) -> u8 {\n        0\n    }\n")
         self.assert_told("pages", f"{LEDGER}: the call PType::number stands in no line")
+
+    def test_tells_a_constant_without_a_line(self):
+        self.change("crates/dtype_base/src/lib.rt", "pub mod laws;", "pub mod laws;\n\npub const MOST: u8 = 76;")
+        self.assert_told("pages", f"{LEDGER}: the constant MOST stands in no line")
+
+    def test_tells_a_law_of_a_trait_without_a_line(self):
+        self.change("crates/dtype_base/src/lib.rt", "ptype::PType;", "ptype::{PType, Wide};")
+        self.change("crates/dtype_base/src/ptype.rt", "impl PType {", "pub trait Wide {\n    ghost wide_law: { 1 ≡ 1 };\n}\n\nimpl PType {")
+        self.assert_told("pages", f"{LEDGER}: the law of a trait Wide: wide_law stands in no line")
+
+    def test_tells_a_mutation_beside_another_call(self):
+        self.change(LEDGER, "`PType::{max_value_as_u64, fmt}` | | | |", "`PType::{max_value_as_u64, fmt}` | | `dtype_base/wrong/names_are_empty` | |")
+        self.assert_told("pages", f"{LEDGER}:6: dtype_base/wrong/names_are_empty changes FieldName::new, which no call of this line")
 
     def test_tells_a_call_that_nothing_runs(self):
         self.write("tools/data/run_by", "")

@@ -1,0 +1,102 @@
+# SPDX-License-Identifier: Apache-2.0
+# SPDX-FileCopyrightText: Copyright the Vortex contributors
+
+"""Checks, for tools/pages, that a mutation which the ledger names beside calls changes the body of one of them, or of a
+function below it: by the calls in the libraries' sources, where a call of a name that several functions have may be of
+each of them."""
+import os
+import re
+from functools import lru_cache
+
+from ledger import LEDGER, PROGRAM, lines_of, parts_of
+from lexer import code_of, functions_in, is_at
+from repository import libraries, sources_of, text_of
+
+# What prints, compares, hashes and copies without a call that is written out.
+BEHIND = {"fmt", "eq", "ne", "cmp", "partial_cmp", "hash", "clone", "drop", "from", "try_from", "next", "index", "bitor"}
+# The mutations that are of nothing below the calls of their line, and why they stand there.
+EXCEPTED = {
+    "vortex_dtype/wrong/unknown_ids_always_kept": "a session shows that it rejects unknown ids by `deserialize`",
+}
+
+
+@lru_cache(maxsize=None)
+def functions_of_file(file):
+    return functions_in(code_of(text_of(file)))[0]
+
+
+class Graph:
+    """The functions of the libraries and the program, and which calls which, by names."""
+
+    def __init__(self):
+        self.functions, self.by_name, self.calls = {}, {}, {}
+        for crate in [*libraries(), PROGRAM]:
+            for file in sources_of(crate):
+                for function in functions_of_file(file):
+                    self.functions.setdefault(function.name, []).append(function)
+                    self.by_name.setdefault(function.name.rpartition("::")[2], set()).add(function.name)
+
+    def called_by(self, name):
+        """The names of what the functions of a name may call; of a trait's call, that of each impl."""
+        if name not in self.calls:
+            self.calls[name] = {called for it in self.functions.get(name, []) for called in self.calls_of(it.body)}
+            if any(it.body == [] or is_at(it.body, 0, ";") for it in self.functions.get(name, [])):
+                self.calls[name] |= self.by_name[name.rpartition("::")[2]]
+        return self.calls[name]
+
+    def calls_of(self, body):
+        for at, it in enumerate(body):
+            if it.kind != "name" or it.text not in self.by_name:
+                continue
+            owner = body[at - 2].text if is_at(body, at - 1, "::") else ""
+            exact = f"{owner}::{it.text}"
+            if owner[:1].isupper() and owner != "Self" and exact in self.functions:
+                yield exact
+            elif is_at(body, at + 1, "(") or is_at(body, at + 1, "::") or is_at(body, at - 1, "::"):
+                yield from self.by_name[it.text]
+
+    def below(self, names):
+        """The functions that calls of these names reach."""
+        reached, ahead = set(), list(names)
+        while ahead:
+            name = ahead.pop()
+            if name not in reached:
+                reached.add(name)
+                ahead += self.called_by(name)
+        # (operators, `?`, `==`, loops and texts call these)
+        return reached | {it for name in BEHIND if reached for it in self.by_name.get(name, set())}
+
+
+def changed_by(edit):
+    """The functions that a mutation changes; none where it changes what is outside of any."""
+    crate, changed = edit.split("/")[0], set()
+    text = text_of(f"crates/{edit}.edit") if os.path.exists(f"crates/{edit}.edit") else ""
+    for file, old in re.findall(r"(?m)^file: (\S+)\nold: (.*)$", text):
+        source = text_of(f"crates/{crate}/{file}")
+        line = source.count("\n", 0, source.find(old)) + 1
+        for function in functions_of_file(f"crates/{crate}/{file}"):
+            lines = [it.line for it in [*function.signature, *function.body]]
+            if lines and min(lines) <= line <= max(lines):
+                changed.add(function.name)
+    return changed
+
+
+def functions_named(calls):
+    """The functions of the calls that a line names."""
+    for reference in calls:
+        for name in parts_of(reference)[0]:
+            yield name.removeprefix("pb::")
+
+
+def check():
+    """How many mutations stand beside calls, and each that is of nothing below them: where, and the fault."""
+    graph, count, faults = Graph(), 0, []
+    for line in lines_of(text_of(LEDGER))[0]:
+        reached = graph.below(it for it in functions_named(line.calls) if it in graph.functions)
+        for edit in line.edits if reached else ():
+            count += 1
+            changed = changed_by(edit)
+            if changed and not changed & reached and edit not in EXCEPTED:
+                where = f"{LEDGER}:{line.number}"
+                faults.append((where, f"{edit} changes {', '.join(sorted(changed))}, which no call of this line reaches"))
+    return count, faults

@@ -21,6 +21,7 @@ pub use Rattle.dtype_base.specs.BinaryDigits
 pub use Rattle.dtype_base.specs.Bytes
 pub use Rattle.dtype_base.specs.Decimals
 pub use Rattle.dtype_base.specs.Escapes
+pub use Rattle.dtype_base.specs.Errors as ErrorNumbers
 pub use Rattle.dtype_base.specs.FieldNames
 pub use Rattle.dtype_base.specs.Comparisons
 pub use Rattle.dtype_base.specs.Nullability

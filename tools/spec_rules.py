@@ -22,7 +22,7 @@ IMPORT = re.compile(r"ghost use ([\w.]+?)(?:\.\{([^}]*)\}| as (\S+))?;")
 # What four labels say, by the form of the clause (CONTRIBUTING.md). A call's only clause of one of the first three
 # forms has that label; no clause has one of the four and another form.
 LABELS = {
-    "ok": re.compile(r"MatchResult result\b"),
+    "ok": re.compile(r"(?:MatchResult|Makes) result\b"),
     "err": re.compile(r"OnErr result\b"),
     "errors": re.compile(r"(?:IfErr|IsOkUnless) result\b"),
     "valid": re.compile(r".*\b(?:Valid|IsValid)"),

@@ -1,9 +1,10 @@
 // SPDX-License-Identifier: Apache-2.0
 // SPDX-FileCopyrightText: Copyright the Vortex contributors
 
-ghost use Rattle.std.specs.Prelude.{◌≡◌, ◌↔◌, ◌≤◌, ◌++◌, [], ℕ, None, Some, if◌then◌else◌, length, IsTrue, IfErr, IsOkUnless, OnOk, MatchResult};
+ghost use Rattle.std.specs.Prelude.{◌≡◌, ◌↔◌, ◌≤◌, ◌++◌, [], ℕ, None, Some, if◌then◌else◌, length, IsTrue, IfErr, IsOkUnless, OnOk};
 ghost use Rattle.std.specs.List.{IsDistinct};
 ghost use Rattle.std.specs.Map.{keys_of, lookup, values_of};
+ghost use Rattle.dtype_base.specs.Errors.{Makes};
 ghost use Rattle.dtype_base.specs.declared.vortex_error.VortexError.TheVariants.{OutOfMemory};
 ghost use Rattle.dtype_paths.specs.private.Children.{entry_node, HasKnownKey};
 ghost use Rattle.dtype_paths.specs.Equality.{same_field};
@@ -39,7 +40,7 @@ impl Model for ChildMap {
 impl ChildMap {
     // No child, with this capacity.
     pub(crate) fn with_capacity(alloc: Global, capacity: usize) -> VortexResult<Self>
-        ensures { MatchResult result (λ c. c ≡ []) (λ e. e ≡ OutOfMemory) }
+        ensures { Makes result (λ c. c ≡ []) }
     {
         Ok(ChildMap {
             node_indices: HashMap::with_capacity(alloc, capacity)?,
@@ -76,7 +77,7 @@ impl ChildMap {
     pub(crate) fn insert(&mut self, step: Field, node_index: usize) -> VortexResult<()>
         ensures ok { OnOk result ((f : Field) → lookup (same_field f) self.new
             ≡ (if same_field step f then Some node_index else lookup (same_field f) self.old)) }
-        ensures refused { IfErr result (λ e. (e ≡ OutOfMemory) × (self.new ≡ self.old)) }
+        ensures errors { IfErr result (λ e. (e ≡ OutOfMemory) × (self.new ≡ self.old)) }
     {
         self.node_indices.insert(step, node_index)?;
         Ok(())
@@ -94,7 +95,7 @@ impl ChildMap {
     pub(crate) fn push_node_indices(&self, node_indices: &mut Vec<usize>) -> VortexResult<()>
         ensures ok { OnOk result (node_indices.new.items ≡ node_indices.old.items ++ values_of self.now) }
         ensures once { IsDistinct same_field (keys_of self.now) }
-        ensures refused { IsOkUnless result OutOfMemory }
+        ensures errors { IsOkUnless result OutOfMemory }
     {
         for node_index in self.node_indices.values() {
             node_indices.push(*node_index)?;
@@ -104,9 +105,7 @@ impl ChildMap {
 
     // A copy: the same steps lead to the same nodes.
     pub(crate) fn try_clone(&self, alloc: Global) -> VortexResult<Self>
-        ensures { MatchResult result
-            (λ c. (f : Field) → lookup (same_field f) c ≡ lookup (same_field f) self.now)
-            (λ e. e ≡ OutOfMemory) }
+        ensures { Makes result (λ c. (f : Field) → lookup (same_field f) c ≡ lookup (same_field f) self.now) }
     {
         let mut copy = ChildMap::with_capacity(alloc, self.node_indices.len())?;
         for (step, node_index) in self.node_indices.iter() {
@@ -117,9 +116,7 @@ impl ChildMap {
 
     // A tree of the same children.
     pub(crate) fn to_tree(&self, alloc: Global) -> VortexResult<ChildTree>
-        ensures { MatchResult result
-            (λ t. (f : Field) → lookup (same_field f) t ≡ lookup (same_field f) self.now)
-            (λ e. e ≡ OutOfMemory) }
+        ensures { Makes result (λ t. (f : Field) → lookup (same_field f) t ≡ lookup (same_field f) self.now) }
     {
         let mut tree = ChildTree::new(alloc);
         for (step, node_index) in self.node_indices.iter() {

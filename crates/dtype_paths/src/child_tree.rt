@@ -1,12 +1,13 @@
 // SPDX-License-Identifier: Apache-2.0
 // SPDX-FileCopyrightText: Copyright the Vortex contributors
 
-ghost use Rattle.std.specs.Prelude.{◌≡◌, ◌++◌, ℕ, [], length, Option, Some, IfErr, IsOkUnless, OnOk, IsTrue, false, if◌then◌else◌, MatchResult};
+ghost use Rattle.std.specs.Prelude.{◌≡◌, ◌++◌, ℕ, [], length, Option, Some, IfErr, IsOkUnless, OnOk, IsTrue, false, if◌then◌else◌};
 ghost use Rattle.std.specs.BTreeMap.{is_at, values, IsOrdered};
 ghost use Rattle.std.specs.Iterator.{YieldsFirstBy};
 ghost use Rattle.std.specs.List.{IsDistinct};
 ghost use Rattle.std.specs.Map.{keys_of, lookup, values_of};
 ghost use Rattle.std.specs.Ordering.{nat_cmp};
+ghost use Rattle.dtype_base.specs.Errors.{Makes};
 ghost use Rattle.dtype_base.specs.declared.vortex_error.VortexError.TheVariants.{OutOfMemory};
 ghost use Rattle.dtype_paths.specs.private.ChildTrees.{at_key, led_by, IsFirst, IsTaken};
 ghost use Rattle.dtype_paths.specs.private.Children.{borrowed_entry, entry_node, HasKnownKey};
@@ -86,7 +87,7 @@ impl ChildTree {
         requires { IsKnownKey key step }
         ensures ok { OnOk result ((f : Field) → lookup (same_field f) self.new
             ≡ (if same_field step f then Some node_index else lookup (same_field f) self.old)) }
-        ensures refused { IfErr result (λ e. (e ≡ OutOfMemory) × (self.new ≡ self.old)) }
+        ensures errors { IfErr result (λ e. (e ≡ OutOfMemory) × (self.new ≡ self.old)) }
     {
         let key = known_key(key, &step);
         if is_taken(&self.by_key, key, &step) {
@@ -112,7 +113,7 @@ impl ChildTree {
     pub(crate) fn push_node_indices(&self, node_indices: &mut Vec<usize>) -> VortexResult<()>
         ensures ok { OnOk result (node_indices.new.items ≡ node_indices.old.items ++ values_of self.now) }
         ensures once { IsDistinct same_field (keys_of self.now) }
-        ensures refused { IsOkUnless result OutOfMemory }
+        ensures errors { IsOkUnless result OutOfMemory }
     {
         push_first(&self.by_key, node_indices)?;
         push_values(&self.by_step, node_indices)
@@ -120,9 +121,7 @@ impl ChildTree {
 
     // A copy: the same steps lead to the same nodes.
     pub(crate) fn try_clone(&self, alloc: Global) -> VortexResult<Self>
-        ensures { MatchResult result
-            (λ t. (f : Field) → lookup (same_field f) t ≡ lookup (same_field f) self.now)
-            (λ e. e ≡ OutOfMemory) }
+        ensures { Makes result (λ t. (f : Field) → lookup (same_field f) t ≡ lookup (same_field f) self.now) }
     {
         let mut copy = ChildTree::new(alloc);
         for (first, node_index) in self.by_key.values() {
@@ -186,7 +185,7 @@ fn put_at_key(
 ) -> VortexResult<()>
     ensures ok { OnOk result ((k : ℕ) → at_key by_key.new.entries k
         ≡ (if is_at (nat_cmp key) k then Some (step, node_index) else at_key by_key.old.entries k)) }
-    ensures refused { IfErr result (λ e. (e ≡ OutOfMemory)
+    ensures errors { IfErr result (λ e. (e ≡ OutOfMemory)
         × (by_key.new.entries ≡ by_key.old.entries)) }
     ensures ordered { IsOrdered nat_cmp by_key.new }
 {
@@ -212,7 +211,7 @@ fn push_first(
     node_indices: &mut Vec<usize>,
 ) -> VortexResult<()>
     ensures ok { OnOk result (node_indices.new.items ≡ node_indices.old.items ++ values_of (values by_key.now)) }
-    ensures refused { IsOkUnless result OutOfMemory }
+    ensures errors { IsOkUnless result OutOfMemory }
 {
     for (_, node_index) in by_key.values() {
         node_indices.push(*node_index)?;
@@ -223,7 +222,7 @@ fn push_first(
 // Appends the values of the map.
 fn push_values(by_step: &BTreeMap<Field, usize>, node_indices: &mut Vec<usize>) -> VortexResult<()>
     ensures ok { OnOk result (node_indices.new.items ≡ node_indices.old.items ++ values by_step.now) }
-    ensures refused { IsOkUnless result OutOfMemory }
+    ensures errors { IsOkUnless result OutOfMemory }
 {
     for node_index in by_step.values() {
         node_indices.push(*node_index)?;

@@ -1,12 +1,12 @@
 // SPDX-License-Identifier: Apache-2.0
 // SPDX-FileCopyrightText: Copyright the Vortex contributors
 
-ghost use Rattle.std.specs.Prelude.{◌≡◌, ℕ, List, ⊤};
+ghost use Rattle.std.specs.Prelude.{ℕ, List};
 ghost use Rattle.std.specs.Iterator.{YieldsFirstBy, item_count};
 ghost use Rattle.std.specs.List.{Contains};
 ghost use Rattle.dtype_paths.specs.PathPredicates.{AreNames};
 ghost use Rattle.dtype_paths.specs.private.ChildIters.{named_left};
-ghost use Rattle.dtype_paths.specs.private.Reached.{ends_below, named_paths, IsReached};
+ghost use Rattle.dtype_paths.specs.private.Reached.{ends_below, IsReached};
 
 use crate::FieldPathCursor;
 use crate::child_iter::ChildIter;

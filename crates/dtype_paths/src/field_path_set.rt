@@ -1,7 +1,7 @@
 // SPDX-License-Identifier: Apache-2.0
 // SPDX-FileCopyrightText: Copyright the Vortex contributors
 
-ghost use Rattle.std.specs.Prelude.{◌≡◌, ◌+◌, ◌<◌, ◌≤◌, ◌⊎◌, [], List, length, map, IfOk, IsOkUnless, IsTrue, OnErr, OnOk, MatchResult};
+ghost use Rattle.std.specs.Prelude.{◌≡◌, ◌+◌, ◌<◌, ◌≤◌, ◌⊎◌, [], List, length, map, IfOk, IsOkUnless, IsTrue, OnErr, OnOk};
 ghost use Rattle.std.specs.Borrow.{Bor};
 ghost use Rattle.std.specs.FinSet as set;
 ghost use Rattle.std.specs.Iterator.{ExtendsWithItems, IsFinite};
@@ -9,6 +9,7 @@ ghost use Rattle.std.specs.Iterator.Runs.{WholeRun, YieldsInOrder};
 ghost use Rattle.std.specs.List.{Contains, sum_by};
 ghost use Rattle.std.specs.Vec.Iter.{into_iter_items, into_iter_steps};
 ghost use Rattle.std.specs.declared.alloc.Global.{Global};
+ghost use Rattle.dtype_base.specs.Errors.{Makes};
 ghost use Rattle.dtype_base.specs.declared.vortex_error.VortexError.TheVariants.{OutOfMemory};
 ghost use Rattle.dtype_base.specs.Distinct.{Distinct};
 ghost use Rattle.dtype_paths.specs.Beginning.{Beginning};
@@ -67,10 +68,8 @@ impl FieldPathSet {
     ) -> VortexResult<Self>
         requires { (it : I.IntoIter) → I.into_iter_gives paths it
             → I.IntoIter.can_next it × IsFinite (I.IntoIter.remaining it) }
-        ensures { MatchResult result
-            (λ s. (it : I.IntoIter) × I.into_iter_gives paths it
-            × WholeRun I.IntoIter.next_gives it (λ run. s ≡ set_of run.items))
-            (λ e. e ≡ OutOfMemory) }
+        ensures { Makes result (λ s. (it : I.IntoIter) × I.into_iter_gives paths it
+            × WholeRun I.IntoIter.next_gives it (λ run. s ≡ set_of run.items)) }
     {
         let paths = paths.into_iter();
         let (least, _) = paths.size_hint();
@@ -104,7 +103,7 @@ impl FieldPathSet {
     pub fn insert(&mut self, path: FieldPath) -> VortexResult<()>
         ensures ok { OnOk result (self.new ≡ set.insert self.old path) }
         ensures err { OnErr result (self.new ≡ self.old) }
-        ensures refused { IsOkUnless result OutOfMemory }
+        ensures errors { IsOkUnless result OutOfMemory }
     {
         Ok(self.trie.insert(self.alloc, path)?)
     }
@@ -122,7 +121,7 @@ impl FieldPathSet {
             (λ old ps new. new ≡ set.union old (set_of ps)) paths self.old self.new result }
         ensures ok { OnOk result ((it : I.IntoIter) × I.into_iter_gives paths it
             × WholeRun I.IntoIter.next_gives it (λ run. self.new ≡ set.union self.old (set_of run.items))) }
-        ensures refused { IsOkUnless result OutOfMemory }
+        ensures errors { IsOkUnless result OutOfMemory }
     {
         for path in paths {
             self.insert(path)?;
@@ -136,8 +135,7 @@ impl FieldPathSet {
     ///
     /// - `OutOfMemory` (0): an allocation fails.
     pub fn iter(&self) -> VortexResult<vec::IntoIter<&FieldPath>>
-        ensures ok { MatchResult result
-            (λ r. set_of (map (λ x. x.now) (into_iter_items r)) ≡ self.now) (λ e. e ≡ OutOfMemory) }
+        ensures ok { Makes result (λ r. set_of (map (λ x. x.now) (into_iter_items r)) ≡ self.now) }
         ensures once { IfOk result (λ r. Distinct (map (λ x. x.now) (into_iter_items r))) }
         ensures runs { OnOk result (YieldsInOrder (into_iter_steps {X = Bor (List Field)} {Z = Global}) into_iter_items) }
     {
@@ -152,8 +150,7 @@ impl FieldPathSet {
     ///
     /// - `OutOfMemory` (0): an allocation fails.
     pub fn into_iter(self) -> VortexResult<vec::IntoIter<FieldPath>>
-        ensures ok { MatchResult result
-            (λ r. set_of (into_iter_items r) ≡ least self) (λ e. e ≡ OutOfMemory) }
+        ensures ok { Makes result (λ r. set_of (into_iter_items r) ≡ least self) }
         ensures once { IfOk result (λ r. Distinct (into_iter_items r)) }
         ensures covers { IfOk result (λ r. SameCoverage (set_of (into_iter_items r)) self) }
         ensures within { IfOk result (λ r. (ps : List (List Field)) → SameCoverage (set_of ps) self
@@ -172,8 +169,7 @@ impl FieldPathSet {
     ///
     /// - `OutOfMemory` (0): an allocation fails.
     pub fn into_iter_counted(self) -> VortexResult<(vec::IntoIter<FieldPath>, u64)>
-        ensures ok { MatchResult result
-            (λ r. set_of (into_iter_items r.0) ≡ least self) (λ e. e ≡ OutOfMemory) }
+        ensures ok { Makes result (λ r. set_of (into_iter_items r.0) ≡ least self) }
         ensures once { IfOk result (λ r. Distinct (into_iter_items r.0)) }
         ensures runs { OnOk result (YieldsInOrder (into_iter_steps {X = List Field} {Z = Global}) into_iter_items) }
         // the root and each beginning of a least path
@@ -193,7 +189,7 @@ impl FieldPathSet {
     ///
     /// - `OutOfMemory` (0): an allocation fails.
     pub fn try_clone(&self) -> VortexResult<Self>
-        ensures { MatchResult result (λ s. s ≡ self.now) (λ e. e ≡ OutOfMemory) }
+        ensures { Makes result (λ s. s ≡ self.now) }
     {
         Ok(FieldPathSet {
             alloc: self.alloc,

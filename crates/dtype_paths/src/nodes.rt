@@ -1,10 +1,11 @@
 // SPDX-License-Identifier: Apache-2.0
 // SPDX-FileCopyrightText: Copyright the Vortex contributors
 
-ghost use Rattle.std.specs.Prelude.{◌≡◌, ◌≢◌, ◌≤◌, ◌<◌, ◌+◌, ◌==◌, ◌&&◌, ◌^◌, ◌++◌, [], ◌∷◌, List, ℕ, Option, None, Some, length, drop, take, slice_get, map, min, is_some, if◌then◌else◌, IfOk, IsOkUnless, OnErr, OnOk, MatchResult};
+ghost use Rattle.std.specs.Prelude.{◌≡◌, ◌≢◌, ◌≤◌, ◌<◌, ◌+◌, ◌==◌, ◌&&◌, ◌++◌, ◌∷◌, List, ℕ, Option, None, Some, length, drop, take, slice_get, map, min, is_some, if◌then◌else◌, IfOk, IsOkUnless, OnErr, OnOk};
 ghost use Rattle.std.specs.Borrow.{sem};
+ghost use Rattle.dtype_base.specs.Errors.{Makes};
 ghost use Rattle.dtype_base.specs.declared.vortex_error.VortexError.TheVariants.{OutOfMemory};
-ghost use Rattle.dtype_paths.specs.private.Children.{child, nodes_by_step};
+ghost use Rattle.dtype_paths.specs.private.Children.{child};
 ghost use Rattle.dtype_paths.specs.private.Lending.{LendsNode};
 ghost use Rattle.dtype_paths.specs.private.StepKeys.{IsKnownKey};
 ghost use Rattle.dtype_paths.specs.Equality.{same_field};
@@ -53,7 +54,7 @@ impl Nodes {
 
     // The root alone, with capacity for this many nodes after it.
     pub(crate) fn with_capacity(alloc: Global, nodes: usize) -> VortexResult<Self>
-        ensures one { MatchResult result (λ n. length n ≡ 1) (λ e. e ≡ OutOfMemory) }
+        ensures one { Makes result (λ n. length n ≡ 1) }
         ensures terminal { IfOk result (λ n. terminal_at n 0 ≡ None) }
         ensures steps { IfOk result (λ n. (f : Field) → child_at n 0 f ≡ None) }
     {
@@ -132,7 +133,7 @@ impl Nodes {
         requires { IsPrefixMatch self.old path prefix }
         ensures ok { OnOk result (HasBranch self.old prefix.here path prefix.len self.new) }
         ensures err { OnErr result (take (length self.old) self.new ≡ self.old) }
-        ensures refused { IsOkUnless result OutOfMemory }
+        ensures errors { IsOkUnless result OutOfMemory }
     {
         let step = path.parts()[prefix.len].try_clone(alloc)?;
         let first = self.len();
@@ -146,7 +147,7 @@ impl Nodes {
         requires { at ≤ length path }
         ensures ok { OnOk result (self.new ≡ self.old ++ chain path (length self.old) (drop at path)) }
         ensures kept { take (length self.old) self.new ≡ self.old }
-        ensures refused { IsOkUnless result OutOfMemory }
+        ensures errors { IsOkUnless result OutOfMemory }
     {
         let steps = &path.parts()[at..];
         self.rest.reserve(steps.len() + 1)?;
@@ -177,7 +178,7 @@ impl Nodes {
         ensures ok { OnOk result ((i : ℕ) (f : Field) → child_at self.new i f
             ≡ (if i == here && same_field step f then Some node_index else child_at self.old i f)) }
         ensures err { OnErr result (self.new ≡ self.old) }
-        ensures refused { IsOkUnless result OutOfMemory }
+        ensures errors { IsOkUnless result OutOfMemory }
     {
         self.at_mut(here).add_child(alloc, step, key, node_index)
     }
@@ -210,8 +211,7 @@ impl Nodes {
 
     // References to the paths that end in nodes.
     pub(crate) fn gather<'a>(&'a self, alloc: Global) -> VortexResult<Vec<&'a FieldPath>>
-        ensures { MatchResult result
-            (λ v. map (λ x. x.now) v.items ≡ terminals self.now) (λ e. e ≡ OutOfMemory) }
+        ensures { Makes result (λ v. map (λ x. x.now) v.items ≡ terminals self.now) }
     {
         let count = self
             .rest
@@ -232,7 +232,7 @@ impl Nodes {
 
     // A copy of the nodes, with the same indices.
     pub(crate) fn try_clone(&self, alloc: Global) -> VortexResult<Self>
-        ensures { MatchResult result (λ n. IsAlike self.now n) (λ e. e ≡ OutOfMemory) }
+        ensures { Makes result (λ n. IsAlike self.now n) }
     {
         let root = self.root.try_clone(alloc)?;
         let mut rest = Vec::with_capacity(alloc, self.rest.len())?;

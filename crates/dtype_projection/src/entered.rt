@@ -2,8 +2,7 @@
 // SPDX-FileCopyrightText: Copyright the Vortex contributors
 
 // The fields of a struct that paths step into.
-ghost use Rattle.std.specs.Prelude.{◌≡◌, MatchResult};
-ghost use Rattle.dtype_base.specs.declared.vortex_error.VortexError.TheVariants.{OutOfMemory};
+ghost use Rattle.dtype_base.specs.Errors.{Makes};
 ghost use Rattle.dtype_types.specs.parts.Lookups.{field_names};
 ghost use Rattle.dtype_types.specs.tree.TreeOf.{children};
 ghost use Rattle.dtype_paths.specs.Cursors.{asks};
@@ -22,9 +21,7 @@ pub(crate) fn entered_fields<'a>(
     fields: &StructFields,
     wanted: &FieldPathCursor<'a>,
 ) -> VortexResult<BTreeMap<usize, FieldPathCursor<'a>>>
-    ensures { MatchResult result
-        (λ m. AreEntered (asks wanted.now) (field_names (children fields.now)) (asked_at m.entries))
-        (λ e. e ≡ OutOfMemory) }
+    ensures { Makes result (λ m. AreEntered (asks wanted.now) (field_names (children fields.now)) (asked_at m.entries)) }
 {
     let mut entered = BTreeMap::new(alloc);
     for (name, below) in wanted.names() {

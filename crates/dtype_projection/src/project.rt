@@ -1,11 +1,11 @@
 // SPDX-License-Identifier: Apache-2.0
 // SPDX-FileCopyrightText: Copyright the Vortex contributors
 
-ghost use Rattle.std.specs.Prelude.{◌≡◌, ◌↔◌, IfOk, IfSome, IsSome, IsTrue, List, MatchResult, map, vec_len};
+ghost use Rattle.std.specs.Prelude.{◌≡◌, ◌↔◌, IfOk, IfSome, IsSome, IsTrue, List, map, vec_len};
 ghost use Rattle.std.specs.FinSet as set;
 ghost use Rattle.std.specs.List.{zip};
 ghost use Rattle.std.specs.Option.{option_map};
-ghost use Rattle.dtype_base.specs.declared.vortex_error.VortexError.TheVariants.{OutOfMemory};
+ghost use Rattle.dtype_base.specs.Errors.{Makes};
 ghost use Rattle.dtype_types.specs.tree.Tree.{fields};
 ghost use Rattle.dtype_types.specs.tree.TreeOf.{tree, children, fields_of};
 ghost use Rattle.dtype_types.specs.tree.Valid.{Valid};
@@ -52,9 +52,7 @@ pub fn project_paths(
     dtype: &DType,
     wanted: &FieldPathSet,
 ) -> VortexResult<Option<DType>>
-    ensures projection { MatchResult result
-        (λ r. option_map tree r ≡ projected (tree dtype.now) (set.contains wanted.now))
-        (λ e. e ≡ OutOfMemory) }
+    ensures projection { Makes result (λ r. option_map tree r ≡ projected (tree dtype.now) (set.contains wanted.now)) }
     ensures some { IfOk result (λ r. IsSome r ↔ ((p : List Field) × IsTrue (set.contains wanted.now p)
         × ExistsIn (tree dtype.now) p)) }
     ensures kept { IfOk result (λ r. IfSome r (λ u. (q : List Field) → IsTrue (covers wanted.now q)
@@ -76,9 +74,7 @@ fn project(
     dtype: &DType,
     wanted: &FieldPathCursor<'_>,
 ) -> VortexResult<Option<DType>>
-    ensures { MatchResult result
-        (λ r. option_map tree r ≡ projected (tree dtype.now) (asks wanted.now))
-        (λ e. e ≡ OutOfMemory) }
+    ensures { Makes result (λ r. option_map tree r ≡ projected (tree dtype.now) (asks wanted.now)) }
 {
     if wanted.is_end() {
         return Ok(Some(dtype.try_clone(alloc)?));
@@ -113,9 +109,7 @@ fn project_element(
     element: &DType,
     wanted: &FieldPathCursor<'_>,
 ) -> VortexResult<Option<DType>>
-    ensures { MatchResult result
-        (λ r. option_map tree r ≡ projected (tree element.now) (after_step ElementType (asks wanted.now)))
-        (λ e. e ≡ OutOfMemory) }
+    ensures { Makes result (λ r. option_map tree r ≡ projected (tree element.now) (after_step ElementType (asks wanted.now))) }
 {
     match wanted.element() {
         Some(below) => project(alloc, element, &below),
@@ -131,9 +125,7 @@ fn project_struct(
     n: Nullability,
     wanted: &FieldPathCursor<'_>,
 ) -> VortexResult<Option<DType>>
-    ensures { MatchResult result
-        (λ r. option_map tree r ≡ struct_with n (projected_fields (fields_of fields.now) (asks wanted.now)))
-        (λ e. e ≡ OutOfMemory) }
+    ensures { Makes result (λ r. option_map tree r ≡ struct_with n (projected_fields (fields_of fields.now) (asks wanted.now))) }
 {
     let entered = entered_fields(alloc, fields, wanted)?;
     let mut names = Vec::new(alloc);
@@ -155,9 +147,7 @@ fn struct_of(
     n: Nullability,
 ) -> VortexResult<Option<DType>>
     requires { vec_len names ≡ vec_len dtypes }
-    ensures { MatchResult result
-        (λ r. option_map tree r ≡ struct_with n (fields (zip names.items (map tree dtypes.items))))
-        (λ e. e ≡ OutOfMemory) }
+    ensures { Makes result (λ r. option_map tree r ≡ struct_with n (fields (zip names.items (map tree dtypes.items)))) }
 {
     if names.is_empty() {
         return Ok(None);
@@ -175,9 +165,7 @@ fn project_field(
     position: usize,
     wanted: &FieldPathCursor<'_>,
 ) -> VortexResult<Option<(FieldName, DType)>>
-    ensures { MatchResult result
-        (λ r. option_map (λ f. (f.0, tree f.1)) r ≡ kept_field (children fields.now) position (asks wanted.now))
-        (λ e. e ≡ OutOfMemory) }
+    ensures { Makes result (λ r. option_map (λ f. (f.0, tree f.1)) r ≡ kept_field (children fields.now) position (asks wanted.now)) }
 {
     let (Some(name), Some(dtype)) = (fields.field_name(position), fields.field_by_index(position))
     else {

@@ -41,7 +41,7 @@ impl<V: ExtVTable + Default> ExtDType<V> {
         ensures fits { Valid (tree storage)
             → IfOk result (λ x. V.fits (vtable_of x) (V.meant metadata) (tree storage) ≡ true) }
         // the vtable that doesn't accept them is a default one
-        ensures refused { Valid (tree storage) → IfErr result (λ e. (e ≡ OutOfMemory)
+        ensures errors { Valid (tree storage) → IfErr result (λ e. (e ≡ OutOfMemory)
             ⊎ ((e ≡ MetadataRefused)
             × ((v : V) × V.is_default v × (V.fits v (V.meant metadata) (tree storage) ≡ false)))) }
     {
@@ -68,7 +68,7 @@ impl<V: ExtVTable> ExtDType<V> {
             × (metadata_of x ≡ metadata) × (storage_of x ≡ tree storage)) }
         ensures fits { Valid (tree storage)
             → OnOk result (V.fits vtable (V.meant metadata) (tree storage) ≡ true) }
-        ensures refused { Valid (tree storage) → IfErr result
+        ensures errors { Valid (tree storage) → IfErr result
             (λ e. (e ≡ OutOfMemory) ⊎ ((e ≡ MetadataRefused)
             × (V.fits vtable (V.meant metadata) (tree storage) ≡ false))) }
     {
@@ -196,7 +196,7 @@ impl<V: ExtVTable> ExtDType<V> {
             (λ x. V.reads vtable (extension_metadata erased) ≡ Some (V.meant (metadata_of x))) }
         ensures fits { Valid (storage_tree erased) → IfOk result
             (λ x. V.fits vtable (V.meant (metadata_of x)) (storage_tree erased) ≡ true) }
-        ensures refused { IfErr result (λ p. (p.1 ≡ OutOfMemory)
+        ensures errors { IfErr result (λ p. (p.1 ≡ OutOfMemory)
             ⊎ DowncastError (extension_id erased) (V.id_text vtable)
             (Valid (storage_tree erased) → Unfit (V.reads vtable (extension_metadata erased))
             (λ m. V.fits vtable m (storage_tree erased))) p.1) }
@@ -245,7 +245,7 @@ impl<V: ExtVTable> ExtDType<V> {
     ) -> VortexResult<()>
         ensures ok { Valid (tree storage.now)
             → OnOk result (V.fits vtable.now (V.meant metadata.now) (tree storage.now) ≡ true) }
-        ensures refused { IfErr result (λ e. (e ≡ OutOfMemory)
+        ensures errors { IfErr result (λ e. (e ≡ OutOfMemory)
             ⊎ ((e ≡ MetadataRefused) × (Valid (tree storage.now)
             → V.fits vtable.now (V.meant metadata.now) (tree storage.now) ≡ false))) }
     {

@@ -83,7 +83,7 @@ pub trait ExtVTable: Drop {
     ) -> VortexResult<()>
         ensures ok { Valid (tree storage.now)
             → OnOk result (fits self.now (meant metadata.now) (tree storage.now) ≡ true) }
-        ensures refused { Valid (tree storage.now) → IfErr result
+        ensures errors { Valid (tree storage.now) → IfErr result
             (λ e. (e ≡ OutOfMemory) ⊎ ((e ≡ MetadataRefused)
             × (fits self.now (meant metadata.now) (tree storage.now) ≡ false))) };
 

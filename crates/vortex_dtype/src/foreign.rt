@@ -2,8 +2,8 @@
 // SPDX-FileCopyrightText: Copyright the Vortex contributors
 
 // Extensions of unknown types: their metadata is kept as bytes.
-ghost use Rattle.std.specs.Prelude.{◌≡◌, IfOk, Some, MatchResult};
-ghost use Rattle.dtype_base.specs.declared.vortex_error.VortexError.TheVariants.{OutOfMemory};
+ghost use Rattle.std.specs.Prelude.{◌≡◌, IfOk, Some};
+ghost use Rattle.dtype_base.specs.Errors.{Makes};
 ghost use Rattle.dtype_types.specs.tree.TreeOf.{extension_tree, tree};
 ghost use Rattle.dtype_types.specs.tree.Valid.{Valid};
 ghost use Rattle.dtype_types.specs.tree.Tree.{extension};
@@ -26,7 +26,7 @@ impl ForeignExtMetadata {
     ///
     /// - `OutOfMemory` (0): an allocation fails.
     pub fn try_clone(&self, alloc: Global) -> VortexResult<Self>
-        ensures { MatchResult result (λ m. m.0.items ≡ self.now.0.items) (λ e. e ≡ OutOfMemory) }
+        ensures { Makes result (λ m. m.0.items ≡ self.now.0.items) }
     {
         Ok(ForeignExtMetadata(Vec::from_slice(alloc, &self.0)?))
     }
@@ -80,9 +80,7 @@ impl ForeignExtDType {
         metadata: Vec<u8>,
         storage: DType,
     ) -> VortexResult<ExtDTypeRef>
-        ensures parts { MatchResult result
-            (λ e. extension_tree e ≡ extension id metadata.items (tree storage))
-            (λ e. e ≡ OutOfMemory) }
+        ensures parts { Makes result (λ e. extension_tree e ≡ extension id metadata.items (tree storage)) }
         ensures valid { Valid (tree storage) → IfOk result (λ e. Valid (extension_tree e)) }
     {
         ExtDTypeRef::from_parts(alloc, id, metadata, storage)
@@ -94,7 +92,7 @@ impl ForeignExtDType {
     ///
     /// - `OutOfMemory` (0): an allocation fails.
     pub fn try_clone(&self, alloc: Global) -> VortexResult<Self>
-        ensures { MatchResult result (λ v. v ≡ self.now) (λ e. e ≡ OutOfMemory) }
+        ensures { Makes result (λ v. v ≡ self.now) }
     {
         Ok(ForeignExtDType {
             id: self.id.try_clone(alloc)?,

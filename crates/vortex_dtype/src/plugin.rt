@@ -47,7 +47,7 @@ pub trait ExtDTypePlugin: Drop {
     fn deserialize(&self, alloc: Global, metadata: &[u8], storage: &DType) -> VortexResult<Vec<u8>>
         ensures ok { Valid (tree storage.now)
             → IfOk result (λ v. rewrites self.now metadata.now (tree storage.now) ≡ Some v.items) }
-        ensures refused { Valid (tree storage.now) → IfErr result
+        ensures errors { Valid (tree storage.now) → IfErr result
             (λ e. (e ≡ OutOfMemory) ⊎ ((e ≡ MetadataRefused)
             × (rewrites self.now metadata.now (tree storage.now) ≡ None))) };
 
@@ -120,7 +120,7 @@ pub(crate) fn boxed_deserialize(
 ) -> VortexResult<Vec<u8>>
     ensures ok { Valid (tree storage.now)
         → IfOk result (λ v. rewrites plugin.now metadata.now (tree storage.now) ≡ Some v.items) }
-    ensures refused { Valid (tree storage.now)
+    ensures errors { Valid (tree storage.now)
         → IfErr result (λ e. (e ≡ OutOfMemory)
         ⊎ ((e ≡ MetadataRefused) × (rewrites plugin.now metadata.now (tree storage.now) ≡ None))) }
 {

@@ -6,6 +6,7 @@
 #![tactic(auto, using(crate::proofs::lemmas::PathMessages::path_by_steps))]
 
 ghost use Rattle.std.specs.Prelude.{◌≡◌, ◌⊎◌, Some, None, Ok, Err, IfOk, Contains, map, MatchResult};
+ghost use Rattle.dtype_base.specs.Errors.{Makes};
 ghost use Rattle.dtype_base.specs.declared.vortex_error.MessageFault.TheVariants.{PathPartMissing};
 ghost use Rattle.dtype_base.specs.declared.vortex_error.VortexError.TheVariants.{Message, OutOfMemory};
 ghost use Rattle.dtype_types.specs.tree.Tree.{Tree};
@@ -93,7 +94,7 @@ impl DTypeProto for DType {
         // what is written of an admitted type reads as that type
         ensures back { (t : Tree) → Valid t → Admits (meaning rewrites session.now) t
             → message proto.now ≡ written t
-            → MatchResult result (λ u. tree u ≡ t) (λ e. e ≡ OutOfMemory) }
+            → Makes result (λ u. tree u ≡ t) }
     {
         read(alloc, proto, session)
     }
@@ -105,8 +106,7 @@ impl DTypeProto for DType {
     ///
     /// - `OutOfMemory` (0): an allocation fails.
     fn to_proto(&self, alloc: Global) -> VortexResult<pb::DType>
-        ensures { MatchResult result
-            (λ m. message m ≡ written (tree self.now)) (λ e. e ≡ OutOfMemory) }
+        ensures { Makes result (λ m. message m ≡ written (tree self.now)) }
     {
         write(alloc, self)
     }

@@ -63,7 +63,7 @@ impl DTypeSession {
         ensures last { OnOk result (meaning rewrites self.new
             ≡ register_in (id_text plugin) (rewrites plugin) (meaning rewrites self.old)) }
         ensures unchanged { OnErr result (meaning rewrites self.new ≡ meaning rewrites self.old) }
-        ensures refused { IsOkUnless result OutOfMemory }
+        ensures errors { IsOkUnless result OutOfMemory }
     {
         let id = String::from_str(self.alloc, boxed_id(&plugin))?;
         self.plugins.insert(id, plugin)?;
@@ -121,7 +121,7 @@ impl DTypeSession {
             → keeps (meaning rewrites self.now) id.now metadata.now t
             ≡ keeps (meaning rewrites self.now) id.now metadata.now (tree storage) }
         ensures valid { Valid (tree storage) → IfOk result (λ e. Valid (extension_tree e)) }
-        ensures refused { Valid (tree storage) → IfErr result
+        ensures errors { Valid (tree storage) → IfErr result
             (λ e. (e ≡ OutOfMemory)
             ⊎ SessionError (meaning rewrites self.now) id.now metadata.now (tree storage) e) }
     {
@@ -138,7 +138,7 @@ impl DTypeSession {
             keeps (meaning rewrites self.now) id.now metadata.now (tree storage)
             ≡ Some (extension_metadata e)) }
         ensures valid { Valid (tree storage) → IfOk result (λ e. Valid (extension_tree e)) }
-        ensures refused { Valid (tree storage) → IfErr result
+        ensures errors { Valid (tree storage) → IfErr result
             (λ e. (e ≡ OutOfMemory)
             ⊎ SessionError (meaning rewrites self.now) id.now metadata.now (tree storage) e) }
     {

@@ -6,8 +6,8 @@
 #![tactic(auto, unfolding(crate::specs::ReadInOrder::primitive_read, crate::specs::ReadInOrder::decimal_read, crate::specs::ReadInOrder::map_read, crate::specs::ReadInOrder::struct_read, crate::specs::ReadInOrder::read_tags, crate::specs::ReadInOrder::union_read, crate::specs::ReadInOrder::extension_read))]
 
 ghost use Rattle.std.specs.Int.{w32};
-ghost use Rattle.std.specs.Prelude.{◌≡◌, ◌<◌, ◌^◌, All, FitsSigned, IfOk, map, string_bytes, MatchResult};
-ghost use Rattle.dtype_base.specs.declared.vortex_error.VortexError.TheVariants.{OutOfMemory};
+ghost use Rattle.std.specs.Prelude.{◌≡◌, ◌<◌, ◌^◌, All, FitsSigned, IfOk, map, string_bytes};
+ghost use Rattle.dtype_base.specs.Errors.{Makes};
 ghost use Rattle.dtype_base.specs.Decimals.{IsValidDecimal};
 ghost use Rattle.dtype_base.specs.Nullability.{nullability_of};
 ghost use Rattle.dtype_types.specs.tree.TreeOf.{tree};
@@ -105,7 +105,7 @@ pub(crate) fn map_of(
 
 // Builds the names of texts, in order.
 fn names_of(alloc: Global, texts: &[String]) -> VortexResult<FieldNames>
-    ensures { MatchResult result (λ ns. ns ≡ map string_bytes texts.now) (λ e. e ≡ OutOfMemory) }
+    ensures { Makes result (λ ns. ns ≡ map string_bytes texts.now) }
 {
     let mut names = Vec::with_capacity(alloc, texts.len())?;
     for text in texts {

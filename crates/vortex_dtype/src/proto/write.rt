@@ -3,7 +3,8 @@
 
 // Messages of types: every child, every flag, names and tags in order, and the metadata, also where it is empty. The
 // functions below `of_kind` build the message of one kind, and are no part of the recursion.
-ghost use Rattle.std.specs.Prelude.{◌≡◌, IfOk, IsOkUnless, map, string_bytes, MatchResult};
+ghost use Rattle.std.specs.Prelude.{◌≡◌, IfOk, IsOkUnless, map, string_bytes};
+ghost use Rattle.dtype_base.specs.Errors.{Makes};
 ghost use Rattle.dtype_base.specs.declared.vortex_error.VortexError.TheVariants.{OutOfMemory};
 ghost use Rattle.dtype_types.specs.tree.Tree as of;
 ghost use Rattle.dtype_types.specs.tree.TreeOf.{tree, fields_of, variants_of};
@@ -21,8 +22,7 @@ use std::string::String;
 #[cycle(writing)]
 #[tactic(auto, using(crate::proofs::WrittenParts::flag_is))]
 pub(crate) fn write(alloc: Global, dtype: &DType) -> VortexResult<pb::DType>
-    ensures { MatchResult result
-        (λ m. message m ≡ written (tree dtype.now)) (λ e. e ≡ OutOfMemory) }
+    ensures { Makes result (λ m. message m ≡ written (tree dtype.now)) }
 {
     match dtype {
         DType::Null => Ok(of_kind(pb::DtypeType::Null(pb::Null {}))),
@@ -72,8 +72,7 @@ pub(crate) fn write(alloc: Global, dtype: &DType) -> VortexResult<pb::DType>
 // Writes a child, boxed.
 #[cycle(writing)]
 fn write_child(alloc: Global, dtype: &DType) -> VortexResult<Box<pb::DType>>
-    ensures { MatchResult result
-        (λ b. message b.value ≡ written (tree dtype.now)) (λ e. e ≡ OutOfMemory) }
+    ensures { Makes result (λ b. message b.value ≡ written (tree dtype.now)) }
 {
     let proto = write(alloc, dtype)?;
     Ok(Box::new(alloc, proto)?)
@@ -82,8 +81,7 @@ fn write_child(alloc: Global, dtype: &DType) -> VortexResult<Box<pb::DType>>
 // Writes a struct.
 #[cycle(writing)]
 fn write_struct(alloc: Global, fields: &StructFields, n: Nullability) -> VortexResult<pb::DType>
-    ensures { MatchResult result
-        (λ m. message m ≡ written (of.struct (fields_of fields.now) n)) (λ e. e ≡ OutOfMemory) }
+    ensures { Makes result (λ m. message m ≡ written (of.struct (fields_of fields.now) n)) }
 {
     let count = fields.nfields();
     let mut names = Vec::with_capacity(alloc, count)?;
@@ -98,8 +96,7 @@ fn write_struct(alloc: Global, fields: &StructFields, n: Nullability) -> VortexR
 // Writes a union.
 #[cycle(writing)]
 fn write_union(alloc: Global, variants: &UnionVariants, n: Nullability) -> VortexResult<pb::DType>
-    ensures { MatchResult result
-        (λ m. message m ≡ written (of.union (variants_of variants.now) n)) (λ e. e ≡ OutOfMemory) }
+    ensures { Makes result (λ m. message m ≡ written (of.union (variants_of variants.now) n)) }
 {
     let count = variants.len();
     let mut names = Vec::with_capacity(alloc, count)?;
@@ -124,8 +121,7 @@ fn of_kind(kind: pb::DtypeType) -> pb::DType
 
 // Builds the message of a list of an element.
 fn list_proto(alloc: Global, element: Box<pb::DType>, nullable: bool) -> VortexResult<pb::DType>
-    ensures { MatchResult result
-        (λ m. message m ≡ list (present (message element.value)) nullable) (λ e. e ≡ OutOfMemory) }
+    ensures { Makes result (λ m. message m ≡ list (present (message element.value)) nullable) }
 {
     let list = pb::List {
         element_type: Some(element),
@@ -141,9 +137,7 @@ fn fixed_proto(
     size: u32,
     nullable: bool,
 ) -> VortexResult<pb::DType>
-    ensures { MatchResult result
-        (λ m. message m ≡ fixed_size_list (present (message element.value)) size nullable)
-        (λ e. e ≡ OutOfMemory) }
+    ensures { Makes result (λ m. message m ≡ fixed_size_list (present (message element.value)) size nullable) }
 {
     let list = pb::FixedSizeList {
         element_type: Some(element),
@@ -163,7 +157,7 @@ fn map_proto(
 ) -> VortexResult<pb::DType>
     ensures made { let k = present (message key.value) in let v = present (message value.value) in
         IfOk result (λ m. message m ≡ map_of k v keys_sorted nullable) }
-    ensures refused { IsOkUnless result OutOfMemory }
+    ensures errors { IsOkUnless result OutOfMemory }
 {
     let map = pb::Map {
         key_type: Some(key),
@@ -211,9 +205,7 @@ fn extension_proto(
     source: &ExtDTypeRef,
     storage: Box<pb::DType>,
 ) -> VortexResult<pb::DType>
-    ensures { MatchResult result
-        (λ m. message m ≡ extension_message source.now (message storage.value))
-        (λ e. e ≡ OutOfMemory) }
+    ensures { Makes result (λ m. message m ≡ extension_message source.now (message storage.value)) }
 {
     let extension = pb::Extension {
         id: String::from_str(alloc, source.id().as_str())?,

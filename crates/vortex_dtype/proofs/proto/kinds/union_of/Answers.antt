@@ -20,7 +20,7 @@ pub returns-in_err-variants-clause-gives : goal.returns-in_err-variants-clause-g
 returns-in_err-variants-clause-gives c =
     let count : vec_len c.args.dtypes ≡ length c.args.dtypes.items = search rules in
     let fails = union_fails c.in_ok-names.names (map string_bytes c.args.names.now) c.args.dtypes.items c.args.tags.now c.in_ok-tags.tags.items (nullability_of c.args.nullable) _ _
-    c.in_ok-tags.ensures.gives c.in_ok-names.ensures count c.in_err-variants.ensures.refused in
+    c.in_ok-tags.ensures.gives c.in_ok-names.ensures count c.in_err-variants.ensures.errors in
     search (rules, fails)
 
 pub returns-clause-numbers : goal.returns-clause-numbers

@@ -9,6 +9,7 @@ ghost use Rattle.dtype_base.specs.BinaryDigits.{binary_digits};
 ghost use Rattle.dtype_base.specs.FieldNames.{SelectionError, first_place};
 ghost use Rattle.dtype_base.specs.Comparisons.{comparisons};
 ghost use Rattle.dtype_base.specs.declared.vortex_error.VortexError.TheVariants.{DuplicateNames, IndexOutOfBounds, OutOfMemory};
+ghost use Rattle.dtype_types.specs.tree.TreeOf.{tree};
 
 use crate::dtype::equality::{NullabilityRule, equal_under};
 use crate::dtype::hash::{HashMode, hash_into};
@@ -35,6 +36,28 @@ pub struct StructFields {
     shared: Rc<Named<DType>>,
 }
 
+// Appends copies of more names, which share their texts.
+fn push_names(alloc: Global, names: &mut Vec<FieldName>, more: &[FieldName]) -> VortexResult<()>
+    ensures copies { OnOk result (names.new.items ≡ names.old.items ++ more.now) }
+    ensures refused { IsOkUnless result OutOfMemory }
+{
+    for name in more {
+        names.push(name.try_clone(alloc)?)?;
+    }
+    Ok(())
+}
+
+// Appends copies of more types.
+fn push_dtypes(alloc: Global, dtypes: &mut Vec<DType>, more: &[DType]) -> VortexResult<()>
+    ensures copies { OnOk result (map tree dtypes.new.items ≡ map tree dtypes.old.items ++ map tree more.now) }
+    ensures refused { IsOkUnless result OutOfMemory }
+{
+    for dtype in more {
+        dtypes.push(dtype.try_clone(alloc)?)?;
+    }
+    Ok(())
+}
+
 impl StructFields {
     ghost use Rattle.dtype_types.specs.equality.Equality.{fields_equal_under};
     ghost use Rattle.dtype_types.specs.nullability.Merged.{merge_fields, rule_of};
@@ -45,7 +68,7 @@ impl StructFields {
     ghost use Rattle.dtype_base.specs.Distinct.{Distinct};
     ghost use Rattle.dtype_types.specs.equality.HashesOf.{struct_writes};
     ghost use Rattle.dtype_types.specs.tree.Tree.{Tree};
-    ghost use Rattle.dtype_types.specs.tree.TreeOf.{fields_of, struct_dtypes, struct_pairs, children, tree, shown, struct_tree};
+    ghost use Rattle.dtype_types.specs.tree.TreeOf.{fields_of, struct_dtypes, struct_pairs, children, shown, struct_tree};
     ghost use Rattle.dtype_types.specs.tree.Valid.{Valid};
     ghost use Rattle.dtype_types.specs.tree.Width.{MeasuresFields};
 
@@ -367,29 +390,11 @@ impl StructFields {
         let count = self.nfields().saturating_add(other.nfields());
         let mut names = Vec::with_capacity(alloc, count)?;
         let mut dtypes = Vec::with_capacity(alloc, count)?;
-        self.push_copies(alloc, &mut names, &mut dtypes)?;
-        other.push_copies(alloc, &mut names, &mut dtypes)?;
+        push_names(alloc, &mut names, self.names().as_slice())?;
+        push_names(alloc, &mut names, other.names().as_slice())?;
+        push_dtypes(alloc, &mut dtypes, self.dtypes())?;
+        push_dtypes(alloc, &mut dtypes, other.dtypes())?;
         StructFields::new(alloc, FieldNames::from_vec(names), dtypes)
-    }
-
-    // Appends copies of the names and of the types.
-    fn push_copies(
-        &self,
-        alloc: Global,
-        names: &mut Vec<FieldName>,
-        dtypes: &mut Vec<DType>,
-    ) -> VortexResult<()>
-        ensures name_copies { OnOk result
-            (names.new.items ≡ names.old.items ++ field_names (children self.now)) }
-        ensures type_copies { OnOk result
-            (map tree dtypes.new.items ≡ map tree dtypes.old.items ++ field_types (children self.now)) }
-        ensures refused { IsOkUnless result OutOfMemory }
-    {
-        for (name, dtype) in self.pairs() {
-            names.push(name.try_clone(alloc)?)?;
-            dtypes.push(dtype.try_clone(alloc)?)?;
-        }
-        Ok(())
     }
 
     /// Returns the fields except the one at this position.
@@ -409,11 +414,14 @@ impl StructFields {
         if index >= fields {
             return Err(VortexError::IndexOutOfBounds { index, fields });
         }
-        let mut names = Vec::with_capacity(alloc, fields)?;
-        let mut dtypes = Vec::with_capacity(alloc, fields)?;
-        self.push_copies(alloc, &mut names, &mut dtypes)?;
-        names.remove(index);
-        dtypes.remove(index);
+        let own_names = self.names().as_slice();
+        let mut names = Vec::with_capacity(alloc, fields - 1)?;
+        push_names(alloc, &mut names, &own_names[..index])?;
+        push_names(alloc, &mut names, &own_names[index + 1..])?;
+        let own_dtypes = self.dtypes();
+        let mut dtypes = Vec::with_capacity(alloc, fields - 1)?;
+        push_dtypes(alloc, &mut dtypes, &own_dtypes[..index])?;
+        push_dtypes(alloc, &mut dtypes, &own_dtypes[index + 1..])?;
         StructFields::new(alloc, FieldNames::from_vec(names), dtypes)
     }
 

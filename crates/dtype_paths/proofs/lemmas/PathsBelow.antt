@@ -11,10 +11,12 @@ use Rattle.std.specs.FinSet as set
 use Rattle.std.specs.List.{Contains}
 use Rattle.dtype_paths.specs.Beginning.{Beginning}
 use Rattle.dtype_paths.specs.Covering.{covers}
+use Rattle.dtype_paths.specs.Cursors.{asks}
 use Rattle.dtype_paths.specs.PathOrder.{PathSet}
 use Rattle.dtype_paths.specs.PathPredicates.{PathPredicate, after_step, after_steps, asks_above, no_path, AreNames}
 use Rattle.dtype_paths.specs.declared.field.Field.{Field}
 use Rattle.dtype_paths.specs.declared.field.Field.TheVariants.{Name}
+use Rattle.dtype_paths.specs.declared.field_path_cursor.FieldPathCursor.{FieldPathCursor}
 use Rattle.dtype_paths.proofs.lemmas.SetCovers.{covers_word}
 
 pub asked_after : (w : PathPredicate) (p q : List Field) → after_steps p w q ≡ w (p ++ q)
@@ -57,6 +59,26 @@ covered_on_the_way s q =
 pub nothing_asked : (w : PathPredicate) (q : List Field) → w ≡ no_path → w q ≡ false
 nothing_asked w q e = ap (λ (v : PathPredicate). v q) e
 
+-- where no path goes on with a step, none that begins with it is asked for
+pub nowhere_asked : (c : FieldPathCursor) (f : Field) (p : List Field) → no_path ≡ after_step f (asks c) → false ≡ asks c (f ∷ p)
+nowhere_asked c f p e = ap (λ (v : PathPredicate). v p) e
+
+pub nowhere_asked_at : (c : FieldPathCursor) (f : Field) (p q : List Field) → no_path ≡ after_step f (asks c) → q ≡ f ∷ p → false ≡ asks c q
+nowhere_asked_at c f p q e is = nowhere_asked c f p e ∙ ap (asks c) (sym is)
+
+-- on the way, step by step
+pub ends_above : (w : PathPredicate) (q : List Field) → w [] ≡ true → true ≡ asks_above w q
+ends_above w [] e = sym e
+ends_above w (f ∷ q) e = sym (ap (λ b. b || asks_above (after_step f w) q) e)
+
+pub none_above : (w : PathPredicate) (f : Field) (p q : List Field) → w [] ≡ false → no_path ≡ after_step f w → q ≡ f ∷ p → false ≡ asks_above w q
+none_above w f p q here e is =
+    sym (nothing_above p) ∙ ap (λ (v : PathPredicate). asks_above v p) e ∙ sym (ap (λ b. b || asks_above (after_step f w) p) here) ∙ ap (asks_above w) (sym is)
+  where
+    nothing_above : (p : List Field) → asks_above no_path p ≡ false
+    nothing_above [] = refl
+    nothing_above (g ∷ p) = nothing_above p
+
 -- the names by which paths go on, by the first of them
 pub first_named : (w : PathPredicate) (ns rest : List (List ℕ × PathPredicate)) (e : List ℕ × PathPredicate) → AreNames w ns → ns ≡ e ∷ rest → after_step (Name e.0) w ≢ no_path
 first_named w ns rest e a is = (a.exact e.0).0 (subst (λ es. Contains (map (λ (d : List ℕ × PathPredicate). d.0) es) e.0) (sym is) (0, omega arith, refl))
@@ -70,4 +92,4 @@ none_named w ns n a is = λ i p. go p (w (Name n ∷ p)) refl i
         let c = (a.exact n).1 (λ z. let no : true ≡ false = sym e ∙ ap (λ (v : PathPredicate). v p) z in cc) in
         let none = subst (λ es. Contains (map (λ (d : List ℕ × PathPredicate). d.0) es) n) is c in absurd (omega (arith, none.1))
 
-pub ruleset stepping_into = (asked_after, covered_on_the_way, nothing_asked, first_named, none_named)
+pub ruleset stepping_into = (asked_after, covered_on_the_way, nothing_asked, nowhere_asked, nowhere_asked_at, ends_above, none_above, first_named, none_named)

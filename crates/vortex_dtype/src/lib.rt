@@ -37,7 +37,10 @@ pub use dtype_native::{
     match_each_signed_integer_ptype, match_each_unsigned_integer_ptype,
     match_smallest_list_offset_type, match_smallest_offset_type,
 };
-pub use dtype_paths::{Field, FieldMask, FieldPath, FieldPathSet, along_joined, beginnings_exist};
+pub use dtype_paths::{
+    CursorNames, Field, FieldMask, FieldPath, FieldPathCursor, FieldPathSet, along_joined,
+    beginnings_exist,
+};
 pub use dtype_projection::project_paths;
 pub use dtype_types::{
     DType, DTypeIter, ExtDTypeRef, ExtId, FieldDType, FieldIter, Kind, MapDType, MetadataDisplay,

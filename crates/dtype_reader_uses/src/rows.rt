@@ -2,7 +2,7 @@
 // SPDX-FileCopyrightText: Copyright the Vortex contributors
 
 //! A reader of rows: what it finds at a column.
-ghost use Rattle.std.specs.Prelude.{◌↔◌, IfSome, IsTrue};
+ghost use Rattle.std.specs.Prelude.{◌↔◌, IfNone, IfSome, IsTrue};
 ghost use Rattle.vortex_dtype.specs.TreeOf.{tree};
 ghost use Rattle.vortex_dtype.specs.Valid.{Valid};
 ghost use Rattle.vortex_dtype.specs.Value.{Value};
@@ -29,4 +29,12 @@ pub fn column_may_have_values(column: &FieldPath, table: &DType) -> bool
 {
     a_type_is_given_exactly_where_something_is_found();
     column.exists_in(table)
+}
+
+/// A column that doesn't lead through an extension: where there is none, no row has a value at it.
+pub fn column_or_no_values<'a>(column: &FieldPath, table: &'a DType) -> Option<&'a DType>
+    requires { CrossesNoExtension (tree table.now) column.now }
+    ensures { IfNone result ((v : Value) → ¬ (FoundIn (tree table.now) column.now v)) }
+{
+    column.resolve(table)
 }

@@ -29,7 +29,7 @@ pub fn write_cover<W: Write>(
 // Returns the texts of the cover of the paths, in the order of their bytes. The only error is `OutOfMemory` (0).
 fn cover_texts(alloc: Global, paths: FieldPathSet) -> VortexResult<Vec<String>>
     ensures ok { IfOk result (λ v. IsCover paths (map (λ s. string_bytes s) v.items)) }
-    ensures refused { IsOkUnless result OutOfMemory }
+    ensures errors { IsOkUnless result OutOfMemory }
 {
     let mut texts = Vec::new(alloc);
     for path in paths.into_iter()? {
@@ -43,7 +43,7 @@ fn cover_texts(alloc: Global, paths: FieldPathSet) -> VortexResult<Vec<String>>
 fn spaced(alloc: Global, texts: &[String]) -> VortexResult<String>
     ensures ok { IfOk result (λ s.
         string_bytes s ≡ cover_text (map (λ t. string_bytes t) texts.now)) }
-    ensures refused { IsOkUnless result OutOfMemory }
+    ensures errors { IsOkUnless result OutOfMemory }
 {
     let mut line = String::from_str(alloc, "cover:")?;
     for text in texts {

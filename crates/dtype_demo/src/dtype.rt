@@ -15,7 +15,7 @@ use vortex_dtype::{DType, FieldDType, FieldName, Nullability, PType, VortexResul
 // `OutOfMemory` (0).
 pub fn demo_dtype(alloc: Global) -> VortexResult<DType>
     ensures ok { IfOk result (λ d. tree d ≡ demo_tree) }
-    ensures refused { IsOkUnless result OutOfMemory }
+    ensures errors { IsOkUnless result OutOfMemory }
 {
     let number = field(alloc, "b", DType::from(PType::U32))?;
     let element = struct_of(alloc, vec![in alloc; number]?)?;
@@ -30,7 +30,7 @@ pub fn demo_dtype(alloc: Global) -> VortexResult<DType>
 // Builds a field of this name and type. The only error is `OutOfMemory` (0).
 fn field(alloc: Global, name: &str, dtype: DType) -> VortexResult<(FieldName, FieldDType)>
     ensures ok { IfOk result (λ f. (f.0 ≡ name.now) × (field_tree f.1 ≡ tree dtype)) }
-    ensures refused { IsOkUnless result OutOfMemory }
+    ensures errors { IsOkUnless result OutOfMemory }
 {
     Ok((FieldName::new(alloc, name)?, FieldDType::from(dtype)))
 }
@@ -39,7 +39,7 @@ fn field(alloc: Global, name: &str, dtype: DType) -> VortexResult<(FieldName, Fi
 fn struct_of(alloc: Global, fields: Vec<(FieldName, FieldDType)>) -> VortexResult<DType>
     ensures ok { IfOk result (λ d.
         tree d ≡ struct (given_fields fields.items) Nullability.NonNullable) }
-    ensures refused { IsOkUnless result OutOfMemory }
+    ensures errors { IsOkUnless result OutOfMemory }
 {
     DType::struct_(alloc, fields, Nullability::NonNullable)
 }

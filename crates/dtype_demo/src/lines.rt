@@ -20,7 +20,7 @@ pub fn first_line(text: &str) -> (&str, &str)
 // Returns the path that a line means. The only error is `OutOfMemory` (0).
 pub fn parse_line(alloc: Global, line: &str) -> VortexResult<FieldPath>
     ensures ok { IfOk result (λ p. p ≡ parts_of line.now) }
-    ensures refused { IsOkUnless result OutOfMemory }
+    ensures errors { IsOkUnless result OutOfMemory }
 {
     if line.is_empty() {
         return Ok(FieldPath::root(alloc));
@@ -37,7 +37,7 @@ pub fn parse_line(alloc: Global, line: &str) -> VortexResult<FieldPath>
 // path of one name takes half the memory. The only error is `OutOfMemory` (0).
 fn parse_part(alloc: Global, part: &str, before: Option<&Field>) -> VortexResult<Field>
     ensures ok { IfOk result (λ f. f ≡ part_of part.now) }
-    ensures refused { IsOkUnless result OutOfMemory }
+    ensures errors { IsOkUnless result OutOfMemory }
 {
     if part == "[]" {
         return Ok(Field::ElementType);

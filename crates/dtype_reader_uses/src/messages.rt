@@ -105,7 +105,7 @@ pub fn read_if_readable(
         Reads (meaning (λ b. rewrites (b.vtable, b.value)) session.now) (message proto.now) (tree t))) }
     ensures unreadable { IfOk result (λ found. IfNone found
         (ReadsAsNothing (meaning (λ b. rewrites (b.vtable, b.value)) session.now) (message proto.now))) }
-    ensures refused { IsOkUnless result OutOfMemory }
+    ensures errors { IsOkUnless result OutOfMemory }
 {
     match DType::from_proto(alloc, proto, session) {
         Ok(dtype) => Ok(Some(dtype)),

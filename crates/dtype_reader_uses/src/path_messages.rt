@@ -55,7 +55,7 @@ pub fn names_column(part: &pb::Field, column: &pb::Field) -> bool
 /// Whether a copy of a stored path equals it: it always does.
 pub fn is_path_kept_by_copying(alloc: Global, path: &pb::FieldPath) -> VortexResult<bool>
     ensures kept { IfOk result (λ b. IsTrue b) }
-    ensures refused { IsOkUnless result OutOfMemory }
+    ensures errors { IsOkUnless result OutOfMemory }
 {
     Ok(path.try_clone(alloc)? == *path)
 }
@@ -129,7 +129,7 @@ pub fn equal_messages_read_equally(
 
 /// A path whose last part has no kind: an error.
 pub fn read_without_last_name(alloc: Global, mut proto: pb::FieldPath) -> VortexResult<FieldPath>
-    ensures refused { IsErr result }
+    ensures errors { IsErr result }
     ensures fault { IfErr result (λ e. (e ≡ OutOfMemory) ⊎ (e ≡ Message PathPartMissing)) }
 {
     proto.path.push(pb::Field { field_type: None })?;

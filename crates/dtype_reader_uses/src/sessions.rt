@@ -20,7 +20,7 @@ use vortex_dtype::{DType, DTypeProto, DTypeSession, ExtDTypePlugin, ExtDTypeRef,
 /// A type stored and read back by a program that knows none of its extensions: the same type.
 pub fn round_trip_without_plugins(alloc: Global, dtype: &DType) -> VortexResult<DType>
     ensures same { Valid (tree dtype.now) → IfOk result (λ t. tree t ≡ tree dtype.now) }
-    ensures refused { Valid (tree dtype.now) → IsOkUnless result OutOfMemory }
+    ensures errors { Valid (tree dtype.now) → IsOkUnless result OutOfMemory }
 {
     let mut session = DTypeSession::new(alloc);
     session.allow_unknown();
@@ -37,7 +37,7 @@ pub fn keep_unknown_metadata(
     storage: DType,
 ) -> VortexResult<ExtDTypeRef>
     ensures kept { Valid (tree storage) → IfOk result (λ e. extension_metadata e ≡ metadata.now) }
-    ensures refused { Valid (tree storage) → IsOkUnless result OutOfMemory }
+    ensures errors { Valid (tree storage) → IsOkUnless result OutOfMemory }
 {
     let mut session = DTypeSession::new(alloc);
     session.allow_unknown();
@@ -101,7 +101,7 @@ pub fn read_in_new_session(
     metadata: &[u8],
     storage: DType,
 ) -> VortexResult<ExtDTypeRef>
-    ensures refused { Valid (tree storage) → IsErr result }
+    ensures errors { Valid (tree storage) → IsErr result }
     ensures unregistered { Valid (tree storage)
         → IfErr result (λ e. (e ≡ OutOfMemory) ⊎ (e ≡ Message ExtensionUnregistered)) }
 {

@@ -31,7 +31,7 @@ pub fn stored_and_read_back(
 ) -> VortexResult<DType>
     ensures same { Valid (tree dtype.now) → Admits (meaning (λ b. rewrites (b.vtable, b.value)) session.now) (tree dtype.now)
         → IfOk result (λ t. tree t ≡ tree dtype.now) }
-    ensures refused { Valid (tree dtype.now) → Admits (meaning (λ b. rewrites (b.vtable, b.value)) session.now) (tree dtype.now)
+    ensures errors { Valid (tree dtype.now) → Admits (meaning (λ b. rewrites (b.vtable, b.value)) session.now) (tree dtype.now)
         → IsOkUnless result OutOfMemory }
 {
     let stored = dtype.to_proto(alloc)?;

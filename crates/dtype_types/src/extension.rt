@@ -1,10 +1,10 @@
 // SPDX-License-Identifier: Apache-2.0
 // SPDX-FileCopyrightText: Copyright the Vortex contributors
 
-ghost use Rattle.std.specs.Prelude.{◌≡◌, ◌↔◌, ℕ, IsTrue, IfOk, ◌<◌, List, Some, nat_eq, fold, MatchResult, ◌&&◌};
+ghost use Rattle.std.specs.Prelude.{◌≡◌, ◌↔◌, ℕ, IsTrue, IfOk, ◌<◌, List, Some, nat_eq, fold, ◌&&◌};
 ghost use Rattle.std.specs.Str.{bytes_eq};
 ghost use Rattle.std.specs.Rc.{rc_str_bytes};
-ghost use Rattle.dtype_base.specs.declared.vortex_error.VortexError.TheVariants.{OutOfMemory};
+ghost use Rattle.dtype_base.specs.Errors.{Makes};
 
 use crate::DType;
 use crate::dtype::equality::{NullabilityRule, equal_under};
@@ -38,7 +38,7 @@ impl ExtId {
     ///
     /// - `OutOfMemory` (0): an allocation fails.
     pub fn new(alloc: Global, text: &str) -> VortexResult<Self>
-        ensures { MatchResult result (λ id. id ≡ text.now) (λ e. e ≡ OutOfMemory) }
+        ensures { Makes result (λ id. id ≡ text.now) }
     {
         Ok(ExtId {
             text: RcStr::from_str(alloc, text)?,
@@ -58,7 +58,7 @@ impl ExtId {
     ///
     /// - `OutOfMemory` (0): the reference count is exhausted.
     pub fn try_clone(&self, _alloc: Global) -> VortexResult<Self>
-        ensures { MatchResult result (λ id. id ≡ self.now) (λ e. e ≡ OutOfMemory) }
+        ensures { Makes result (λ id. id ≡ self.now) }
     {
         Ok(ExtId {
             text: self.text.clone()?,
@@ -154,9 +154,7 @@ impl ExtDTypeRef {
         metadata: Vec<u8>,
         storage: DType,
     ) -> VortexResult<Self>
-        ensures parts { MatchResult result
-            (λ e. extension_tree e ≡ extension id metadata.items (tree storage))
-            (λ e. e ≡ OutOfMemory) }
+        ensures parts { Makes result (λ e. extension_tree e ≡ extension id metadata.items (tree storage)) }
         ensures valid { Valid (tree storage) → IfOk result (λ e. Valid (extension_tree e)) }
     {
         slices_hold_bytes(&metadata);
@@ -195,8 +193,7 @@ impl ExtDTypeRef {
     ///
     /// - `OutOfMemory` (0): an allocation fails.
     pub fn serialize_metadata(&self, alloc: Global) -> VortexResult<Vec<u8>>
-        ensures { MatchResult result
-            (λ v. v.items ≡ extension_metadata self.now) (λ e. e ≡ OutOfMemory) }
+        ensures { Makes result (λ v. v.items ≡ extension_metadata self.now) }
     {
         Ok(Vec::from_slice(alloc, &self.parts.metadata)?)
     }
@@ -262,9 +259,7 @@ impl ExtDTypeRef {
         rule: MergeRule,
     ) -> VortexResult<ExtDTypeRef>
         requires { erase (storage_tree self.now) ≡ erase (storage_tree other.now) }
-        ensures { MatchResult result
-            (λ e. extension_tree e ≡ merge (rule_of rule) (extension_tree self.now) (extension_tree other.now))
-            (λ e. e ≡ OutOfMemory) }
+        ensures { Makes result (λ e. extension_tree e ≡ merge (rule_of rule) (extension_tree self.now) (extension_tree other.now)) }
     {
         let storage = merge_under(alloc, &self.parts.storage, &other.parts.storage, rule)?;
         let id = self.parts.id.try_clone(alloc)?;
@@ -290,8 +285,7 @@ impl ExtDTypeRef {
     /// - `OutOfMemory` (0): an allocation fails.
     #[cycle(copy)]
     pub fn try_clone(&self, alloc: Global) -> VortexResult<Self>
-        ensures { MatchResult result
-            (λ e. extension_tree e ≡ extension_tree self.now) (λ e. e ≡ OutOfMemory) }
+        ensures { Makes result (λ e. extension_tree e ≡ extension_tree self.now) }
     {
         let id = self.parts.id.try_clone(alloc)?;
         let metadata = Vec::from_slice(alloc, &self.parts.metadata)?;
@@ -332,8 +326,7 @@ impl ExtDTypeRef {
     #[cycle(with_nullability)]
     pub fn with_nullability(&self, alloc: Global, n: Nullability) -> VortexResult<Self>
         requires { n ≡ Nullability.NonNullable → CanBeNonNullable (extension_tree self.now) }
-        ensures { MatchResult result
-            (λ e. SetNull (extension_tree self.now) n (extension_tree e)) (λ e. e ≡ OutOfMemory) }
+        ensures { Makes result (λ e. SetNull (extension_tree self.now) n (extension_tree e)) }
     {
         let storage = self.parts.storage.with_nullability(alloc, n)?;
         let id = self.parts.id.try_clone(alloc)?;

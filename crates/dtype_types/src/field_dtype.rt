@@ -1,9 +1,9 @@
 // SPDX-License-Identifier: Apache-2.0
 // SPDX-FileCopyrightText: Copyright the Vortex contributors
 
-ghost use Rattle.std.specs.Prelude.{◌≡◌, ◌↔◌, IsTrue, map, MatchResult};
+ghost use Rattle.std.specs.Prelude.{◌≡◌, ◌↔◌, IsTrue, map};
+ghost use Rattle.dtype_base.specs.Errors.{Makes};
 ghost use Rattle.dtype_base.specs.declared.nullability.Nullability.TheVariants.{NonNullable};
-ghost use Rattle.dtype_base.specs.declared.vortex_error.VortexError.TheVariants.{OutOfMemory};
 ghost use Rattle.dtype_types.specs.parts.FieldTypes.{field_tree};
 ghost use Rattle.dtype_types.specs.tree.Valid.{Valid};
 ghost use Rattle.dtype_types.specs.tree.TreeOf.{tree};
@@ -41,8 +41,7 @@ impl FieldDType {
     ///
     /// - `OutOfMemory` (0): an allocation fails.
     pub fn try_clone(&self, alloc: Global) -> VortexResult<Self>
-        ensures { MatchResult result
-            (λ f. field_tree f ≡ field_tree self.now) (λ e. e ≡ OutOfMemory) }
+        ensures { Makes result (λ f. field_tree f ≡ field_tree self.now) }
     {
         Ok(FieldDType {
             dtype: self.dtype.try_clone(alloc)?,
@@ -52,8 +51,7 @@ impl FieldDType {
 
 // The types of these fields, in order.
 pub(crate) fn into_dtypes(alloc: Global, fields: Vec<FieldDType>) -> VortexResult<Vec<DType>>
-    ensures { MatchResult result
-        (λ v. v.items ≡ map (λ f. f.dtype) fields.items) (λ e. e ≡ OutOfMemory) }
+    ensures { Makes result (λ v. v.items ≡ map (λ f. f.dtype) fields.items) }
 {
     let mut dtypes = Vec::with_capacity(alloc, fields.len())?;
     for field in fields {

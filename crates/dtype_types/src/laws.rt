@@ -5,7 +5,7 @@
 // lemmas for callers are in the rulesets of `proofs/lemmas`.
 #![tactic(auto, using(crate::specs::equality::HashLaws::dtype_fed, crate::specs::equality::HashLaws::erased_fed, crate::proofs::lemmas::SampleLaws::sample_of, crate::proofs::lemmas::NullValues::null_is_of_nullable, crate::proofs::lemmas::SubValues::sub_values))]
 
-ghost use Rattle.std.specs.Prelude.{◌≡◌, ◌↔◌, ◌==◌, ◌⊎◌, ◌<◌, ◌^◌, ◌++◌, ℕ, All, Bool, IsTrue, IsSomeAnd, List, None, Some, length, map, remove, slice_get};
+ghost use Rattle.std.specs.Prelude.{◌≡◌, ◌↔◌, ◌==◌, ◌<◌, ◌^◌, ◌++◌, ℕ, All, Bool, IsTrue, IsSomeAnd, List, None, Some, length, map, remove, slice_get};
 ghost use Rattle.std.specs.List.{position};
 ghost use Rattle.std.proofs.Math.Logic.{Equivalence};
 ghost use Rattle.dtype_base.specs.declared.nullability.Nullability.{Nullability};

@@ -5,6 +5,7 @@ ghost use Rattle.std.specs.Prelude.{◌≡◌, ◌↔◌, ◌&&◌, IsTrue, fold
 ghost use Rattle.dtype_base.specs.declared.vortex_error.VortexError.TheVariants.{OutOfMemory, MapKeyNullable};
 ghost use Rattle.dtype_base.specs.declared.nullability.Nullability.TheVariants.{NonNullable};
 ghost use Rattle.std.proofs.Math.Bool.{beq};
+ghost use Rattle.dtype_base.specs.Errors.{Makes};
 
 use crate::dtype::equality::{NullabilityRule, equal_under};
 use crate::dtype::hash::{HashMode, hash_into};
@@ -94,9 +95,7 @@ impl MapDType {
     ///
     /// - `OutOfMemory` (0): an allocation fails.
     pub fn entries_dtype(&self, alloc: Global) -> VortexResult<DType>
-        ensures { MatchResult result
-            (λ d. tree d ≡ entries_of (map_shown self.now).0 (map_shown self.now).1)
-            (λ e. e ≡ OutOfMemory) }
+        ensures { Makes result (λ d. tree d ≡ entries_of (map_shown self.now).0 (map_shown self.now).1) }
     {
         let names = FieldNames::from_texts(alloc, &["key", "value"])?;
         let key = self.key_dtype().try_clone(alloc)?;
@@ -127,13 +126,11 @@ impl MapDType {
     ) -> VortexResult<MapDType>
         requires key { erase (map_shown self.now).0 ≡ erase (map_shown other.now).0 }
         requires value { erase (map_shown self.now).1 ≡ erase (map_shown other.now).1 }
-        ensures { MatchResult result
-            (λ m. map_shown m ≡ (
-              merge (rule_of rule) (map_shown self.now).0 (map_shown other.now).0,
-              merge (rule_of rule) (map_shown self.now).1 (map_shown other.now).1,
-              (map_shown self.now).2,
-            ))
-            (λ e. e ≡ OutOfMemory) }
+        ensures { Makes result (λ m. map_shown m ≡ (
+          merge (rule_of rule) (map_shown self.now).0 (map_shown other.now).0,
+          merge (rule_of rule) (map_shown self.now).1 (map_shown other.now).1,
+          (map_shown self.now).2,
+        )) }
     {
         let entries = Entries {
             key: merge_under(alloc, &self.shared.key, &other.shared.key, rule)?,
@@ -161,8 +158,7 @@ impl MapDType {
     ///
     /// - `OutOfMemory` (0): the reference count is exhausted.
     pub fn try_clone(&self, _alloc: Global) -> VortexResult<Self>
-        ensures { MatchResult result
-            (λ m. map_shown m ≡ map_shown self.now) (λ e. e ≡ OutOfMemory) }
+        ensures { Makes result (λ m. map_shown m ≡ map_shown self.now) }
     {
         Ok(MapDType {
             shared: self.shared.clone()?,

@@ -4,6 +4,7 @@
 ghost use Rattle.std.specs.Prelude.{◌≡◌, ◌⊎◌, ◌↔◌, length, map, IsTrue, Some, MatchResult};
 ghost use Rattle.std.specs.List.{zip};
 ghost use Rattle.std.specs.Map.{keys_of, values_of};
+ghost use Rattle.dtype_base.specs.Errors.{Makes};
 ghost use Rattle.dtype_base.specs.FieldNames.{SelectionError, first_place};
 ghost use Rattle.dtype_base.specs.Comparisons.{comparisons};
 ghost use Rattle.dtype_base.specs.declared.vortex_error.VortexError.TheVariants.{OutOfMemory};
@@ -91,8 +92,7 @@ impl<T> Named<T> {
     where
         T: Drop,
         requires { length dtypes.items ≡ length self.now }
-        ensures { MatchResult result
-            (λ n. n ≡ zip (keys_of self.now) dtypes.items) (λ e. e ≡ OutOfMemory) }
+        ensures { Makes result (λ n. n ≡ zip (keys_of self.now) dtypes.items) }
     {
         let names = self.names.try_clone(alloc)?;
         Ok(Named { names, dtypes })

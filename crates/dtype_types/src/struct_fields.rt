@@ -1,10 +1,11 @@
 // SPDX-License-Identifier: Apache-2.0
 // SPDX-FileCopyrightText: Copyright the Vortex contributors
 
-ghost use Rattle.std.specs.Prelude.{◌≡◌, ◌⊎◌, ◌↔◌, IsTrue, ◌<◌, ◌^◌, ◌++◌, ◌∷◌, ℕ, List, [], slice_index_or, length, map, remove, vec_len, ◌+◌, ◌≤◌, IfOk, IsOk, IsOkUnless, slice_get, Some, fold, OnOk, string_bytes, All, IsSome, MatchBool, MatchResult, nat_lt, ◌+◌, ◌≤◌};
+ghost use Rattle.std.specs.Prelude.{◌≡◌, ◌⊎◌, ◌↔◌, IsTrue, ◌<◌, ◌^◌, ◌++◌, [], length, map, remove, vec_len, ◌+◌, ◌≤◌, IfOk, IsOk, IsOkUnless, slice_get, Some, fold, OnOk, string_bytes, All, IsSome, MatchBool, MatchResult, nat_lt};
 ghost use Rattle.std.specs.Iterator.{IsFinite};
 ghost use Rattle.std.specs.List.{AllByRecursion, zip};
 ghost use Rattle.std.specs.Option.{option_copied};
+ghost use Rattle.dtype_base.specs.Errors.{Makes};
 ghost use Rattle.dtype_base.specs.BinaryDigits.{binary_digits};
 ghost use Rattle.dtype_base.specs.FieldNames.{SelectionError, first_place};
 ghost use Rattle.dtype_base.specs.Comparisons.{comparisons};
@@ -39,7 +40,7 @@ pub struct StructFields {
 // Appends copies of more names, which share their texts.
 fn push_names(alloc: Global, names: &mut Vec<FieldName>, more: &[FieldName]) -> VortexResult<()>
     ensures copies { OnOk result (names.new.items ≡ names.old.items ++ more.now) }
-    ensures refused { IsOkUnless result OutOfMemory }
+    ensures errors { IsOkUnless result OutOfMemory }
 {
     for name in more {
         names.push(name.try_clone(alloc)?)?;
@@ -50,7 +51,7 @@ fn push_names(alloc: Global, names: &mut Vec<FieldName>, more: &[FieldName]) -> 
 // Appends copies of more types.
 fn push_dtypes(alloc: Global, dtypes: &mut Vec<DType>, more: &[DType]) -> VortexResult<()>
     ensures copies { OnOk result (map tree dtypes.new.items ≡ map tree dtypes.old.items ++ map tree more.now) }
-    ensures refused { IsOkUnless result OutOfMemory }
+    ensures errors { IsOkUnless result OutOfMemory }
 {
     for dtype in more {
         dtypes.push(dtype.try_clone(alloc)?)?;
@@ -67,7 +68,6 @@ impl StructFields {
     ghost use Rattle.dtype_types.specs.parts.Lookups.{first_named, field_names, field_types, Projects};
     ghost use Rattle.dtype_base.specs.Distinct.{Distinct};
     ghost use Rattle.dtype_types.specs.equality.HashesOf.{struct_writes};
-    ghost use Rattle.dtype_types.specs.tree.Tree.{Tree};
     ghost use Rattle.dtype_types.specs.tree.TreeOf.{fields_of, struct_dtypes, struct_pairs, children, shown, struct_tree};
     ghost use Rattle.dtype_types.specs.tree.Valid.{Valid};
     ghost use Rattle.dtype_types.specs.tree.Width.{MeasuresFields};
@@ -78,7 +78,7 @@ impl StructFields {
     ///
     /// - `OutOfMemory` (0): an allocation fails.
     pub fn empty(alloc: Global) -> VortexResult<Self>
-        ensures { MatchResult result (λ s. children s ≡ []) (λ e. e ≡ OutOfMemory) }
+        ensures { Makes result (λ s. children s ≡ []) }
     {
         StructFields::new(alloc, FieldNames::empty(alloc), Vec::new(alloc))
     }
@@ -91,8 +91,7 @@ impl StructFields {
     #[tactic(auto, using(crate::proofs::Sides::pairs, crate::proofs::Parts::fields))]
     pub fn new(alloc: Global, names: FieldNames, dtypes: Vec<DType>) -> VortexResult<Self>
         requires { length names ≡ vec_len dtypes }
-        ensures fields { MatchResult result
-            (λ s. children s ≡ zip names (map tree dtypes.items)) (λ e. e ≡ OutOfMemory) }
+        ensures fields { Makes result (λ s. children s ≡ zip names (map tree dtypes.items)) }
         ensures valid { All (λ d. Valid (tree d)) dtypes.items → IfOk result (λ s. Valid (struct_tree s)) }
     {
         let names = IndexedNames::new(alloc, names)?;
@@ -112,8 +111,7 @@ impl StructFields {
         dtypes: Vec<FieldDType>,
     ) -> VortexResult<Self>
         requires { length names ≡ vec_len dtypes }
-        ensures fields { MatchResult result
-            (λ s. children s ≡ zip names (map field_tree dtypes.items)) (λ e. e ≡ OutOfMemory) }
+        ensures fields { Makes result (λ s. children s ≡ zip names (map field_tree dtypes.items)) }
         ensures valid { All (λ d. Valid (field_tree d)) dtypes.items → IfOk result (λ s. Valid (struct_tree s)) }
     {
         let dtypes = into_dtypes(alloc, dtypes)?;
@@ -131,11 +129,9 @@ impl StructFields {
     ) -> VortexResult<Self>
         requires { (it : I.IntoIter) → I.into_iter_gives fields it
             → I.IntoIter.can_next it × IsFinite (I.IntoIter.remaining it) }
-        ensures { MatchResult result
-            (λ s. MadeFrom (I.into_iter_gives fields) I.IntoIter.next_gives (λ given.
+        ensures { Makes result (λ s. MadeFrom (I.into_iter_gives fields) I.IntoIter.next_gives (λ given.
             (children s ≡ map (λ p. (p.0, field_tree p.1)) given)
-            × (All (λ p. Valid (field_tree p.1)) given → Valid (struct_tree s))))
-            (λ e. e ≡ OutOfMemory) }
+            × (All (λ p. Valid (field_tree p.1)) given → Valid (struct_tree s)))) }
     {
         let fields = fields.into_iter();
         let (room, _) = fields.size_hint();
@@ -278,9 +274,7 @@ impl StructFields {
         rule: MergeRule,
     ) -> VortexResult<StructFields>
         requires { erase_fields (fields_of self.now) ≡ erase_fields (fields_of other.now) }
-        ensures { MatchResult result
-            (λ s. fields_of s ≡ merge_fields (rule_of rule) (fields_of self.now) (fields_of other.now))
-            (λ e. e ≡ OutOfMemory) }
+        ensures { Makes result (λ s. fields_of s ≡ merge_fields (rule_of rule) (fields_of self.now) (fields_of other.now)) }
     {
         let mut dtypes = Vec::with_capacity(alloc, self.nfields())?;
         for ((_, dtype), (_, other_dtype)) in self.pairs().zip(other.pairs()) {
@@ -345,10 +339,8 @@ impl StructFields {
     // Copies of the types at these positions, in their order.
     fn copies_at(&self, alloc: Global, positions: &[usize]) -> VortexResult<Vec<DType>>
         requires { All (λ i. i < length (struct_dtypes self.now)) positions.now }
-        ensures { MatchResult result
-            (λ copies. map Some (map tree copies.items)
-            ≡ map (slice_get (map tree (struct_dtypes self.now))) positions.now)
-            (λ e. e ≡ OutOfMemory) }
+        ensures { Makes result (λ copies. map Some (map tree copies.items)
+            ≡ map (slice_get (map tree (struct_dtypes self.now))) positions.now) }
     {
         let dtypes = self.dtypes();
         let mut copies = Vec::with_capacity(alloc, positions.len())?;
@@ -384,8 +376,7 @@ impl StructFields {
 
     // The fields of this struct followed by those of the other, also where names repeat.
     fn joined(&self, alloc: Global, other: &Self) -> VortexResult<Self>
-        ensures { MatchResult result
-            (λ s. children s ≡ children self.now ++ children other.now) (λ e. e ≡ OutOfMemory) }
+        ensures { Makes result (λ s. children s ≡ children self.now ++ children other.now) }
     {
         let count = self.nfields().saturating_add(other.nfields());
         let mut names = Vec::with_capacity(alloc, count)?;
@@ -432,8 +423,7 @@ impl StructFields {
     ///
     /// - `OutOfMemory` (0): an allocation fails.
     pub fn indented(&self, alloc: Global) -> VortexResult<String>
-        ensures { MatchResult result
-            (λ s. string_bytes s ≡ indented_text (fields_of self.now)) (λ e. e ≡ OutOfMemory) }
+        ensures { Makes result (λ s. string_bytes s ≡ indented_text (fields_of self.now)) }
     {
         let mut text = String::new(alloc);
         self.write_indented(alloc, &mut text, "")?;
@@ -450,7 +440,7 @@ impl StructFields {
     ) -> VortexResult<()>
         ensures ok { OnOk result (string_bytes out.new
             ≡ string_bytes out.old ++ indented_braces indent.now (fields_of self.now)) }
-        ensures refused { IsOkUnless result OutOfMemory }
+        ensures errors { IsOkUnless result OutOfMemory }
     {
         let inner = format!(in alloc; "{indent}  ")?;
         out.push_str("{\n")?;
@@ -473,8 +463,7 @@ impl StructFields {
     ///
     /// - `OutOfMemory` (0): the reference count is exhausted.
     pub fn try_clone(&self, _alloc: Global) -> VortexResult<Self>
-        ensures { MatchResult result
-            (λ s. struct_pairs s ≡ struct_pairs self.now) (λ e. e ≡ OutOfMemory) }
+        ensures { Makes result (λ s. struct_pairs s ≡ struct_pairs self.now) }
     {
         let shared = self.shared.clone()?;
         Ok(StructFields { shared })

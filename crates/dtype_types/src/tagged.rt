@@ -1,10 +1,10 @@
 // SPDX-License-Identifier: Apache-2.0
 // SPDX-FileCopyrightText: Copyright the Vortex contributors
 
-ghost use Rattle.std.specs.Prelude.{◌≡◌, length, MatchResult};
+ghost use Rattle.std.specs.Prelude.{◌≡◌, length};
 ghost use Rattle.std.specs.List.{zip};
 ghost use Rattle.std.specs.Map.{keys_of};
-ghost use Rattle.dtype_base.specs.declared.vortex_error.VortexError.TheVariants.{OutOfMemory};
+ghost use Rattle.dtype_base.specs.Errors.{Makes};
 ghost use Rattle.dtype_types.specs.parts.Lists.{types_of, tags_of};
 
 use dtype_base::{FieldNames, VortexResult};
@@ -75,8 +75,7 @@ impl<T> Tagged<T> {
     where
         T: Drop,
         requires { length dtypes.items ≡ length self.now }
-        ensures { MatchResult result
-            (λ n. n ≡ zip (keys_of self.now) (zip dtypes.items (tags_of self.now))) (λ e. e ≡ OutOfMemory) }
+        ensures { Makes result (λ n. n ≡ zip (keys_of self.now) (zip dtypes.items (tags_of self.now))) }
     {
         let names = self.names.try_clone(alloc)?;
         let tags = Vec::from_slice(alloc, &self.tags)?;

@@ -1,8 +1,9 @@
 // SPDX-License-Identifier: Apache-2.0
 // SPDX-FileCopyrightText: Copyright the Vortex contributors
 
-ghost use Rattle.std.specs.Prelude.{◌≡◌, ◌≤◌, ◌<◌, ◌^◌, ◌↔◌, ◌==◌, ◌⊎◌, IsSome, IfSome, IsTrue, [], length, map, vec_len, position, slice_get, All, IfOk, IfErr, OnOk, Err, Some, false, fold, MatchResult};
+ghost use Rattle.std.specs.Prelude.{◌≡◌, ◌≤◌, ◌<◌, ◌^◌, ◌↔◌, ◌==◌, ◌⊎◌, IsSome, IfSome, IsTrue, [], length, map, vec_len, position, slice_get, All, IfOk, IfErr, OnOk, Err, Some, false, fold};
 ghost use Rattle.std.specs.List.{Contains, IsDistinct, range_with_len, zip};
+ghost use Rattle.dtype_base.specs.Errors.{Makes};
 ghost use Rattle.dtype_base.specs.Bytes.{Bytes};
 ghost use Rattle.dtype_base.specs.FieldNames.{first_place};
 ghost use Rattle.dtype_base.specs.declared.vortex_error.VortexError.TheVariants.{OutOfMemory, UnionTooMany};
@@ -33,8 +34,7 @@ pub struct UnionVariants {
 
 // Whether two of the items are equal. Hashing finds that in linear time.
 fn has_repeats<T: Eq + Hash>(alloc: Global, items: &[T]) -> VortexResult<bool>
-    ensures { MatchResult result
-        (λ b. (b ≡ false) ↔ IsDistinct T.eq items.now) (λ e. e ≡ OutOfMemory) }
+    ensures { Makes result (λ b. (b ≡ false) ↔ IsDistinct T.eq items.now) }
 {
     let distinct: HashSet<&T> = items.iter().collect(alloc)?;
     Ok(distinct.len() < items.len())
@@ -50,7 +50,7 @@ fn validate_shape(
 ) -> VortexResult<()>
     ensures ok { OnOk result (MakesUnion names.now types type_ids.now) }
     ensures bytes { OnOk result (Bytes type_ids.now) }
-    ensures refused { IfErr result (λ e.
+    ensures errors { IfErr result (λ e.
         ((e ≡ OutOfMemory) × HasUnionLengths names.now types type_ids.now)
         ⊎ UnionError names.now types type_ids.now e) }
 {
@@ -75,8 +75,7 @@ fn validate_shape(
 // The first `count` tags: 0, 1, 2 and so on.
 fn first_tags(alloc: Global, count: usize) -> VortexResult<Vec<u8>>
     requires { count ≤ 256 }
-    ensures { MatchResult result
-        (λ tags. tags.items ≡ range_with_len 0 count) (λ e. e ≡ OutOfMemory) }
+    ensures { Makes result (λ tags. tags.items ≡ range_with_len 0 count) }
 {
     Ok((0..count).map(|tag| tag as u8).collect(alloc)?)
 }
@@ -116,7 +115,7 @@ impl UnionVariants {
         ensures valid { All (λ d. Valid (tree d)) dtypes.items → IfOk result (λ u. Valid (union_tree u)) }
 
         ensures accepted { OnOk result (MakesUnion names (vec_len dtypes) type_ids.items) }
-        ensures refused { IfErr result (λ e.
+        ensures errors { IfErr result (λ e.
             ((e ≡ OutOfMemory) × HasUnionLengths names (vec_len dtypes) type_ids.items)
             ⊎ UnionError names (vec_len dtypes) type_ids.items e) }
     {
@@ -139,7 +138,7 @@ impl UnionVariants {
         ensures accepted { OnOk result
             (MakesUnion names (vec_len dtypes) (range_with_len 0 (length names))) }
         ensures too_many { (result ≡ Err UnionTooMany) ↔ (256 < length names) }
-        ensures refused { length names ≤ 256 → IfErr result (λ e. (e ≡ OutOfMemory)
+        ensures errors { length names ≤ 256 → IfErr result (λ e. (e ≡ OutOfMemory)
             ⊎ UnionError names (vec_len dtypes) (range_with_len 0 (length names)) e) }
     {
         if names.len() > MAX_VARIANTS {
@@ -291,9 +290,7 @@ impl UnionVariants {
         rule: MergeRule,
     ) -> VortexResult<UnionVariants>
         requires { erase_variants (variants_of self.now) ≡ erase_variants (variants_of other.now) }
-        ensures { MatchResult result
-            (λ u. variants_of u ≡ merge_variants (rule_of rule) (variants_of self.now) (variants_of other.now))
-            (λ e. e ≡ OutOfMemory) }
+        ensures { Makes result (λ u. variants_of u ≡ merge_variants (rule_of rule) (variants_of self.now) (variants_of other.now)) }
     {
         let mut dtypes = Vec::with_capacity(alloc, self.len())?;
         for ((_, _, dtype), (_, _, other_dtype)) in self.triples().zip(other.triples()) {
@@ -332,8 +329,7 @@ impl UnionVariants {
     ///
     /// - `OutOfMemory` (0): the reference count is exhausted.
     pub fn try_clone(&self, _alloc: Global) -> VortexResult<Self>
-        ensures { MatchResult result
-            (λ u. union_triples u ≡ union_triples self.now) (λ e. e ≡ OutOfMemory) }
+        ensures { Makes result (λ u. union_triples u ≡ union_triples self.now) }
     {
         let shared = self.shared.clone()?;
         Ok(UnionVariants { shared })

@@ -210,7 +210,7 @@ fn each_lowered(alloc: Global, bytes: &[u8]) -> Result<Vec<u8>, AllocError>
 // The bytes are copied first, so that the error leaves a copy to be dropped.
 fn all_lowered(alloc: Global, bytes: &[u8]) -> VortexResult<Vec<u8>>
     ensures ok { IfOk result (λ v. lowered bytes.now ≡ Some v.items) }
-    ensures refused { IfErr result (λ e. (e ≡ OutOfMemory)
+    ensures errors { IfErr result (λ e. (e ≡ OutOfMemory)
         ⊎ ((e ≡ MetadataRefused) × (lowered bytes.now ≡ None))) }
 {
     let copy = Vec::from_slice(alloc, bytes)?;
@@ -222,7 +222,7 @@ fn all_lowered(alloc: Global, bytes: &[u8]) -> VortexResult<Vec<u8>>
 
 fn unchanged(alloc: Global, bytes: &[u8]) -> VortexResult<Vec<u8>>
     ensures ok { IfOk result (λ v. if_unchanged bytes.now ≡ Some v.items) }
-    ensures refused { IfErr result (λ e. (e ≡ OutOfMemory)
+    ensures errors { IfErr result (λ e. (e ≡ OutOfMemory)
         ⊎ ((e ≡ MetadataRefused) × (if_unchanged bytes.now ≡ None))) }
 {
     if any_changes(bytes) {

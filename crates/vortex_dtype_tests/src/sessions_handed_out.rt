@@ -32,7 +32,7 @@ pub fn with_two(
 ) -> VortexResult<DTypeSession>
     ensures knows { IfOk result (λ s. meaning rewrites s
         ≡ register_in (id_text second) (rewrites second) (register_in (id_text first) (rewrites first) (allow_unknown_in empty_meaning))) }
-    ensures refused { IsOkUnless result OutOfMemory }
+    ensures errors { IsOkUnless result OutOfMemory }
 {
     let mut session = DTypeSession::new(alloc);
     session.allow_unknown();

@@ -4,6 +4,7 @@
 // Constructors of types that hold others.
 ghost use Rattle.std.specs.Prelude.{◌≡◌, ◌⊎◌, OnOk, MatchResult};
 ghost use Rattle.std.specs.Iterator.{IsFinite};
+ghost use Rattle.dtype_base.specs.Errors.{Makes};
 ghost use Rattle.dtype_base.specs.declared.nullability.Nullability.TheVariants.{NonNullable};
 ghost use Rattle.dtype_base.specs.declared.vortex_error.VortexError.TheVariants.{OutOfMemory, MapKeyNullable};
 ghost use Rattle.dtype_types.specs.parts.FieldTypes.{IsStructOf, MadeFrom};
@@ -22,7 +23,7 @@ impl DType {
     ///
     /// - `OutOfMemory` (0): an allocation fails.
     pub fn list(alloc: Global, element: DType, n: Nullability) -> VortexResult<DType>
-        ensures { MatchResult result (λ d. tree d ≡ list (tree element) n) (λ e. e ≡ OutOfMemory) }
+        ensures { Makes result (λ d. tree d ≡ list (tree element) n) }
     {
         Ok(DType::List(Box::new(alloc, element)?, n))
     }
@@ -38,8 +39,7 @@ impl DType {
         size: u32,
         n: Nullability,
     ) -> VortexResult<DType>
-        ensures { MatchResult result
-            (λ d. tree d ≡ fixed_size_list (tree element) size n) (λ e. e ≡ OutOfMemory) }
+        ensures { Makes result (λ d. tree d ≡ fixed_size_list (tree element) size n) }
     {
         Ok(DType::FixedSizeList(Box::new(alloc, element)?, size, n))
     }
@@ -80,9 +80,7 @@ impl DType {
     ) -> VortexResult<DType>
         requires { (it : I.IntoIter) → I.into_iter_gives fields it
             → I.IntoIter.can_next it × IsFinite (I.IntoIter.remaining it) }
-        ensures { MatchResult result
-            (λ d. MadeFrom (I.into_iter_gives fields) I.IntoIter.next_gives (IsStructOf n d))
-            (λ e. e ≡ OutOfMemory) }
+        ensures { Makes result (λ d. MadeFrom (I.into_iter_gives fields) I.IntoIter.next_gives (IsStructOf n d)) }
     {
         Ok(DType::Struct(StructFields::from_iter(alloc, fields)?, n))
     }

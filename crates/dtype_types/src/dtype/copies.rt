@@ -4,8 +4,8 @@
 // Copies of types. A copy allocates its boxes, and shares its structs, unions and maps (reference counted).
 #![tactic(auto, using(crate::proofs::SameParts::same_parts))]
 
-ghost use Rattle.std.specs.Prelude.{◌≡◌, MatchResult};
-ghost use Rattle.dtype_base.specs.declared.vortex_error.VortexError.TheVariants.{OutOfMemory};
+ghost use Rattle.std.specs.Prelude.{◌≡◌};
+ghost use Rattle.dtype_base.specs.Errors.{Makes};
 ghost use Rattle.dtype_types.specs.tree.TreeOf.{tree};
 
 use crate::DType;
@@ -20,7 +20,7 @@ impl DType {
     /// - `OutOfMemory` (0): an allocation fails.
     #[cycle(copy)]
     pub fn try_clone(&self, alloc: Global) -> VortexResult<DType>
-        ensures { MatchResult result (λ d. tree d ≡ tree self.now) (λ e. e ≡ OutOfMemory) }
+        ensures { Makes result (λ d. tree d ≡ tree self.now) }
     {
         match self {
             DType::Null => Ok(DType::Null),
@@ -47,7 +47,7 @@ impl DType {
 // Returns a copy of the type in a box.
 #[cycle(copy)]
 pub(crate) fn boxed_copy(alloc: Global, dtype: &DType) -> VortexResult<Box<DType>>
-    ensures { MatchResult result (λ b. tree b.value ≡ tree dtype.now) (λ e. e ≡ OutOfMemory) }
+    ensures { Makes result (λ b. tree b.value ≡ tree dtype.now) }
 {
     let copy = dtype.try_clone(alloc)?;
     Ok(Box::new(alloc, copy)?)

@@ -21,7 +21,7 @@ pub(crate) fn start_field(
 ) -> VortexResult<()>
     ensures ok { OnOk result (string_bytes out.new
         ≡ string_bytes out.old ++ (separator.now ++ (indent.now ++ (escaped name.now ++ codes "=")))) }
-    ensures refused { IsOkUnless result OutOfMemory }
+    ensures errors { IsOkUnless result OutOfMemory }
 {
     write!(out, "{separator}{indent}{name}=")?;
     Ok(())
@@ -38,7 +38,7 @@ impl DType {
     ) -> VortexResult<()>
         ensures ok { OnOk result (string_bytes out.new
             ≡ string_bytes out.old ++ indented indent.now (tree self.now)) }
-        ensures refused { IsOkUnless result OutOfMemory }
+        ensures errors { IsOkUnless result OutOfMemory }
     {
         match self {
             DType::List(element, n) => {

@@ -5,9 +5,9 @@
 // which makes the least above both or the greatest below both.
 #![tactic(auto, using(crate::proofs::MergedParts::merged_parts))]
 
-ghost use Rattle.std.specs.Prelude.{◌≡◌, ◌↔◌, IfOk, IfSome, IsSome, MatchResult, Some};
+ghost use Rattle.std.specs.Prelude.{◌≡◌, ◌↔◌, IfOk, IfSome, IsSome, Some};
 ghost use Rattle.std.specs.Option.{option_map};
-ghost use Rattle.dtype_base.specs.declared.vortex_error.VortexError.TheVariants.{OutOfMemory};
+ghost use Rattle.dtype_base.specs.Errors.{Makes};
 ghost use Rattle.dtype_types.specs.nullability.Merged.{IsGreatestBelow, IsLeastAbove, intersected, merge, merged, merged_under, rule_of};
 ghost use Rattle.dtype_types.specs.nullability.Sub.{Sub};
 ghost use Rattle.dtype_types.specs.tree.Erase.{erase};
@@ -63,8 +63,7 @@ impl MergeRule {
 ///
 /// - `OutOfMemory` (0): an allocation fails.
 pub fn merge_nullability(alloc: Global, a: &DType, b: &DType) -> VortexResult<Option<DType>>
-    ensures ok { MatchResult result (λ r. option_map tree r ≡ merged (tree a.now) (tree b.now))
-        (λ e. e ≡ OutOfMemory) }
+    ensures ok { Makes result (λ r. option_map tree r ≡ merged (tree a.now) (tree b.now)) }
     ensures some { IfOk result (λ r. IsSome r ↔ (erase (tree a.now) ≡ erase (tree b.now))) }
     ensures least { IfOk result (λ r. IfSome r (λ d. IsLeastAbove (tree a.now) (tree b.now) (tree d))) }
     ensures values { IfOk result (λ r. IfSome r (λ d. IncludedIn (tree a.now) (tree d)
@@ -84,8 +83,7 @@ pub fn merge_nullability(alloc: Global, a: &DType, b: &DType) -> VortexResult<Op
 ///
 /// - `OutOfMemory` (0): an allocation fails.
 pub fn intersect_nullability(alloc: Global, a: &DType, b: &DType) -> VortexResult<Option<DType>>
-    ensures ok { MatchResult result (λ r. option_map tree r ≡ intersected (tree a.now) (tree b.now))
-        (λ e. e ≡ OutOfMemory) }
+    ensures ok { Makes result (λ r. option_map tree r ≡ intersected (tree a.now) (tree b.now)) }
     ensures some { IfOk result (λ r. IsSome r ↔ (erase (tree a.now) ≡ erase (tree b.now))) }
     ensures greatest { IfOk result (λ r. IfSome r (λ d. IsGreatestBelow (tree a.now) (tree b.now) (tree d))) }
     ensures values { IfOk result (λ r. IfSome r (λ d. IncludedIn (tree d) (tree a.now)
@@ -98,8 +96,7 @@ pub fn intersect_nullability(alloc: Global, a: &DType, b: &DType) -> VortexResul
 // The bound of two types, where they are equal but for nullabilities. Where it is one of the two, it is a copy of that one:
 // nothing is built, and equal types cost one comparison.
 fn bound_of(alloc: Global, a: &DType, b: &DType, rule: MergeRule) -> VortexResult<Option<DType>>
-    ensures { MatchResult result (λ r. option_map tree r ≡ merged_under (rule_of rule) (tree a.now) (tree b.now))
-        (λ e. e ≡ OutOfMemory) }
+    ensures { Makes result (λ r. option_map tree r ≡ merged_under (rule_of rule) (tree a.now) (tree b.now)) }
 {
     if a.eq_with_nullability_subset(b) {
         return Ok(Some(rule.bound_in_order(a, b).try_clone(alloc)?));
@@ -122,8 +119,7 @@ pub(crate) fn merge_under(
     rule: MergeRule,
 ) -> VortexResult<DType>
     requires { erase (tree a.now) ≡ erase (tree b.now) }
-    ensures { MatchResult result
-        (λ d. tree d ≡ merge (rule_of rule) (tree a.now) (tree b.now)) (λ e. e ≡ OutOfMemory) }
+    ensures { Makes result (λ d. tree d ≡ merge (rule_of rule) (tree a.now) (tree b.now)) }
 {
     match (a, b) {
         (DType::Null, DType::Null) => Ok(DType::Null),

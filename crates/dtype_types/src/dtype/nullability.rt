@@ -4,9 +4,9 @@
 // The outer nullability of a type, and types with another.
 #![tactic(auto, using(crate::proofs::SameParts::set_parts, crate::proofs::SameParts::nonnullable_can))]
 
-ghost use Rattle.std.specs.Prelude.{◌≡◌, ◌↔◌, IfOk, IsTrue, MatchResult};
+ghost use Rattle.std.specs.Prelude.{◌≡◌, ◌↔◌, IfOk, IsTrue};
+ghost use Rattle.dtype_base.specs.Errors.{Makes};
 ghost use Rattle.dtype_base.specs.Nullability.{either};
-ghost use Rattle.dtype_base.specs.declared.vortex_error.VortexError.TheVariants.{OutOfMemory};
 ghost use Rattle.dtype_types.specs.nullability.Nullable.{nullability, CanBeNonNullable, SetNull, IsNullable};
 ghost use Rattle.dtype_types.specs.tree.TreeOf.{tree};
 ghost use Rattle.dtype_types.specs.values.Value.{AddsNull};
@@ -76,8 +76,7 @@ impl DType {
     /// - `OutOfMemory` (0): an allocation fails.
     pub fn as_nonnullable(&self, alloc: Global) -> VortexResult<DType>
         requires { CanBeNonNullable (tree self.now) }
-        ensures { MatchResult result
-            (λ d. SetNull (tree self.now) Nullability.NonNullable (tree d)) (λ e. e ≡ OutOfMemory) }
+        ensures { Makes result (λ d. SetNull (tree self.now) Nullability.NonNullable (tree d)) }
     {
         self.with_nullability(alloc, Nullability::NonNullable)
     }
@@ -88,8 +87,7 @@ impl DType {
     ///
     /// - `OutOfMemory` (0): an allocation fails.
     pub fn as_nullable(&self, alloc: Global) -> VortexResult<DType>
-        ensures set { MatchResult result
-            (λ d. SetNull (tree self.now) Nullability.Nullable (tree d)) (λ e. e ≡ OutOfMemory) }
+        ensures set { Makes result (λ d. SetNull (tree self.now) Nullability.Nullable (tree d)) }
         ensures values { IfOk result (λ d. AddsNull (tree self.now) (tree d)) }
     {
         self.with_nullability(alloc, Nullability::Nullable)
@@ -104,8 +102,7 @@ impl DType {
     #[cycle(with_nullability)]
     pub fn with_nullability(&self, alloc: Global, n: Nullability) -> VortexResult<DType>
         requires { n ≡ Nullability.NonNullable → CanBeNonNullable (tree self.now) }
-        ensures { MatchResult result
-            (λ d. SetNull (tree self.now) n (tree d)) (λ e. e ≡ OutOfMemory) }
+        ensures { Makes result (λ d. SetNull (tree self.now) n (tree d)) }
     {
         match self {
             DType::Null => Ok(DType::Null),
@@ -134,9 +131,7 @@ impl DType {
     ///
     /// - `OutOfMemory` (0): an allocation fails.
     pub fn union_nullability(&self, alloc: Global, n: Nullability) -> VortexResult<DType>
-        ensures { MatchResult result
-            (λ d. SetNull (tree self.now) (either (nullability (tree self.now)) n) (tree d))
-            (λ e. e ≡ OutOfMemory) }
+        ensures { Makes result (λ d. SetNull (tree self.now) (either (nullability (tree self.now)) n) (tree d)) }
     {
         self.with_nullability(alloc, self.nullability() | n)
     }

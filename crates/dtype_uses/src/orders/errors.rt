@@ -52,7 +52,7 @@ pub fn required_column<'a>(
         At (tree orders.now) (Field.Name (codes "customer") ∷ Field.Name column.now ∷ []) (tree u.now)) }
     ensures missing { IsErrOf result NoColumn → (u : Tree)
         → At (tree orders.now) (Field.Name (codes "customer") ∷ Field.Name column.now ∷ []) u → ⊥ }
-    ensures refused { IfErr result (λ e. (e ≡ NoColumn) ⊎ (e ≡ Library OutOfMemory)) }
+    ensures errors { IfErr result (λ e. (e ≡ NoColumn) ⊎ (e ≡ Library OutOfMemory)) }
 {
     let path = field_path!(alloc, "customer", column)?;
     path.resolve(orders).ok_or(ShopError::NoColumn)

@@ -62,7 +62,7 @@ impl ExtVTable for Money {
 // The bytes, where they are three.
 fn three_bytes(alloc: Global, bytes: &[u8]) -> VortexResult<Vec<u8>>
     ensures ok { IfOk result (λ v. currency bytes.now ≡ Some v.items) }
-    ensures refused { IfErr result (λ e. (e ≡ OutOfMemory)
+    ensures errors { IfErr result (λ e. (e ≡ OutOfMemory)
         ⊎ ((e ≡ MetadataRefused) × (currency bytes.now ≡ None))) }
 {
     if bytes.len() != 3 {

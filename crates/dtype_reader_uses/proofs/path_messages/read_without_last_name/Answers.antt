@@ -14,8 +14,8 @@ refused Q (Ok a) given is none = let e : Some a ≡ None = sym is ∙ none in cc
 refused Q (Err e) given is none = refl
 
 -- the message with a part after it that has no kind makes no path
-pub returns-clause-refused : goal.returns-clause-refused
-returns-clause-refused c =
+pub returns-clause-errors : goal.returns-clause-errors
+returns-clause-errors c =
     let before = c.args.proto.path.items in
     refused _ _ _ c.from_proto.ensures (ap (λ items. path_of (map part_name items)) c.in_ok-push.ensures.items
     ∙ (ap path_of (map-append part_name before _) ∙ no_path (map part_name before) []))

@@ -14,14 +14,14 @@ use Rattle.dtype_types.proofs.union_variants.validate_shape.Goals as goal
 IsDistinctNames : List (List ℕ) → Type 0
 IsDistinctNames names = Distinct names
 
-pub returns-then-branch-clause-refused : goal.returns-then-branch-clause-refused
-returns-then-branch-clause-refused c =
+pub returns-then-branch-clause-errors : goal.returns-then-branch-clause-errors
+returns-then-branch-clause-errors c =
     let lengths : HasUnionLengths c.args.names.now c.args.types c.args.type_ids.now = search rules in
     inr (lengths, λ d. false≢true (sym (c.in_ok-has_repeats.ensures.1 (IsDistinct-from_AllPairs unsigned_Decides _ d)) ∙ c.if-branch.true))
 
-pub returns-then-branch-2-clause-refused : goal.returns-then-branch-2-clause-refused
+pub returns-then-branch-2-clause-errors : goal.returns-then-branch-2-clause-errors
 unfolding IsDistinctNames
-returns-then-branch-2-clause-refused c =
+returns-then-branch-2-clause-errors c =
     let lengths : HasUnionLengths c.args.names.now c.args.types c.args.type_ids.now = search rules in
     let tags = AllPairs-from_IsDistinct unsigned_Decides c.args.type_ids.now (c.in_ok-has_repeats.ensures.0 c.if-branch.false) in
     inr (lengths, tags, λ d. false≢true (sym (c.in_ok-has_repeats-2.ensures.1 (IsDistinct-from_AllPairs bytes_decides _ (subst IsDistinctNames (sym c.as_slice.ensures) d))) ∙ c.if-branch-2.true))

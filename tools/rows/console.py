@@ -152,7 +152,7 @@ def message(m):
     if kind == "prim":
         kind = "primitive"
         number = m[2]
-        words = [f"type: {PRIMITIVES[number] if 0 <= number < len(PRIMITIVES) else number}"]
+        words = field("type", PRIMITIVES[number] if 0 < number < len(PRIMITIVES) else number)
     elif kind == "dec":
         kind = "decimal"
         words = field("precision", m[2]) + field("scale", m[3])

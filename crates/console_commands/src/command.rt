@@ -43,4 +43,8 @@ pub enum Command {
     Sessions(SessionCommand),
     Messages(MessageCommand),
     PathMessages(PathMessageCommand),
+    /// `help`.
+    Help,
+    /// `exit` and `quit`.
+    Exit,
 }

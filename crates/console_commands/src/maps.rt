@@ -30,11 +30,11 @@ pub fn rows() -> &'static [Row] {
 
 #[rattlefmt::skip]
 const ROWS: [Row; 7] = [
-    Row("map_try_new", "BOOL T T", "true utf8? i32", Maps(MapCommand::MapTryNew)),
-    Row("key_dtype", "M", "map(utf8, i32?, keys_sorted=true)", Maps(MapCommand::Query(MapQuery::KeyDtype))),
-    Row("value_dtype", "M", "map(utf8, i32?, keys_sorted=true)", Maps(MapCommand::Query(MapQuery::ValueDtype))),
-    Row("entries_dtype", "M", "map(utf8, i32?, keys_sorted=true)", Maps(MapCommand::Query(MapQuery::EntriesDtype))),
-    Row("keys_sorted", "M", "map(utf8, i32?, keys_sorted=true)", Maps(MapCommand::Query(MapQuery::KeysSorted))),
-    Row("map_text", "M", "map(utf8, i32, keys_sorted=false)?", Maps(MapCommand::Query(MapQuery::MapText))),
-    Row("map_copy", "M", "map(utf8, i32, keys_sorted=false)?", Maps(MapCommand::Query(MapQuery::MapCopy))),
+    Row("map_try_new", "BOOL T T", "true utf8? i32", "the map of a key and a value, and whether its keys are sorted", "MapKeyNullable (9)", Maps(MapCommand::MapTryNew)),
+    Row("key_dtype", "M", "map(utf8, i32?, keys_sorted=true)", "the type of the keys", "", Maps(MapCommand::Query(MapQuery::KeyDtype))),
+    Row("value_dtype", "M", "map(utf8, i32?, keys_sorted=true)", "the type of the values", "", Maps(MapCommand::Query(MapQuery::ValueDtype))),
+    Row("entries_dtype", "M", "map(utf8, i32?, keys_sorted=true)", "the struct of a key and a value, the entries' type", "", Maps(MapCommand::Query(MapQuery::EntriesDtype))),
+    Row("keys_sorted", "M", "map(utf8, i32?, keys_sorted=true)", "whether the keys are declared sorted", "", Maps(MapCommand::Query(MapQuery::KeysSorted))),
+    Row("map_text", "M", "map(utf8, i32, keys_sorted=false)?", "the text that the library prints of the map", "", Maps(MapCommand::Query(MapQuery::MapText))),
+    Row("map_copy", "M", "map(utf8, i32, keys_sorted=false)?", "a copy of the map", "", Maps(MapCommand::Query(MapQuery::MapCopy))),
 ];

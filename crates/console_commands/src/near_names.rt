@@ -1,52 +1,70 @@
 // SPDX-License-Identifier: Apache-2.0
 // SPDX-FileCopyrightText: Copyright the Vortex contributors
 
-// The commands whose names are nearest to a word.
+// The names that are nearest to a word.
 use crate::{Row, TOPICS};
 use std::alloc::{AllocError, Global};
 use strsim::osa_distance;
 
-// The names found so far, and how many edits lead from each to the word.
+/// The names found so far that are nearest to a word, and how many edits lead from each to it. An edit adds, removes or
+/// replaces a character, or swaps two neighbours; the same letters in another case take none. None is near that takes more
+/// edits than a third of the word's length, or more than three.
 #[derive(Drop)]
-struct NearNames {
-    names: Vec<&'static str>,
+pub struct NearNames {
+    pub names: Vec<&'static str>,
     distance: usize,
 }
 
-/// Returns the names of the commands that are the fewest edits away from this word, in the order of the tables. An edit
-/// adds, removes or replaces a character, or swaps two neighbours. None is returned where it takes more edits than a
-/// third of the word's length, or more than three.
+/// Returns the names of the commands that are nearest to this word, in the order of the tables.
 ///
 /// # Errors
 ///
 /// `AllocError`.
-pub fn nearest(alloc: Global, word: &str) -> Result<Vec<&'static str>, AllocError> {
-    let mut nearest = NearNames {
-        names: Vec::new(alloc),
-        distance: (word.len() / 3).clamp(1, 3),
-    };
+pub fn nearest_command(alloc: Global, word: &str) -> Result<Vec<&'static str>, AllocError> {
+    let mut nearest = NearNames::new(alloc, word);
     for topic in TOPICS {
-        nearest.add(alloc, topic.rows(), word)?;
+        nearest.add_rows(alloc, topic.rows(), word)?;
     }
     Ok(nearest.names)
 }
 
 impl NearNames {
-    // Adds the names of this table that are as near, or puts nearer ones in place of all before.
-    fn add(&mut self, alloc: Global, rows: &'static [Row], word: &str) -> Result<(), AllocError> {
+    /// Returns no name.
+    pub fn new(alloc: Global, word: &str) -> Self {
+        NearNames {
+            names: Vec::new(alloc),
+            distance: (word.len() / 3).clamp(1, 3),
+        }
+    }
+
+    fn add_rows(
+        &mut self,
+        alloc: Global,
+        rows: &'static [Row],
+        word: &str,
+    ) -> Result<(), AllocError> {
         for row in rows {
-            // (a word that is much longer than any name, as a whole line may be, is compared with none)
-            if row.name().len().abs_diff(word.len()) > self.distance {
-                continue;
-            }
-            let distance = osa_distance(alloc, row.name(), word)?;
-            if distance < self.distance {
-                self.names.clear();
-                self.distance = distance;
-            }
-            if distance == self.distance {
-                self.names.push(row.name())?;
-            }
+            self.add(alloc, row.name(), word)?;
+        }
+        Ok(())
+    }
+
+    /// Adds this name if it is as near as those found, or puts it in their place if it is nearer.
+    pub fn add(&mut self, alloc: Global, name: &'static str, word: &str) -> Result<(), AllocError> {
+        // (a word that is much longer than any name, as a whole line may be, is compared with none)
+        if name.len().abs_diff(word.len()) > self.distance {
+            return Ok(());
+        }
+        let distance = match name.eq_ignore_ascii_case(word) {
+            true => 0,
+            false => osa_distance(alloc, name, word)?,
+        };
+        if distance < self.distance {
+            self.names.clear();
+            self.distance = distance;
+        }
+        if distance == self.distance {
+            self.names.push(name)?;
         }
         Ok(())
     }

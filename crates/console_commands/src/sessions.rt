@@ -30,8 +30,8 @@ pub fn rows() -> &'static [Row] {
 
 #[rattlefmt::skip]
 const ROWS: [Row; 4] = [
-    Row("session", "NAME new|register PLUGIN|allow_unknown", "s register x.tag", NamedSession),
-    Row("allows_unknown", "SESSION", "unknown,x.tag", Sessions(SessionCommand::AllowsUnknown)),
-    Row("registry", "SESSION ID", "x.tag,x.text x.text", Sessions(SessionCommand::Registry)),
-    Row("deserialize", "SESSION ID HEX T", "x.tag x.tag 0x4142 utf8", Sessions(SessionCommand::Deserialize)),
+    Row("session", "NAME new|register PLUGIN|allow_unknown", "s register x.tag", "changes the session of this name, which it begins", "condition: at most 16 sessions", NamedSession),
+    Row("allows_unknown", "SESSION", "unknown,x.tag", "whether the session keeps extensions of unknown ids", "unknown: the session", Sessions(SessionCommand::AllowsUnknown)),
+    Row("registry", "SESSION ID", "x.tag,x.text x.text", "whether the session has a plugin under this id", "unknown: the session", Sessions(SessionCommand::Registry)),
+    Row("deserialize", "SESSION ID HEX T", "x.tag x.tag 0x4142 utf8", "the extension with the metadata that the session keeps", "MetadataRefused (22), ExtensionUnregistered (35); unknown: the session", Sessions(SessionCommand::Deserialize)),
 ];

@@ -2,14 +2,16 @@
 // SPDX-FileCopyrightText: Copyright the Vortex contributors
 
 use crate::{
-    Command, comparisons, decimals, extensions, maps, masks, messages, names, native, paths,
+    Command, comparisons, decimals, extensions, maps, masks, messages, names, native, own, paths,
     primitives, sessions, sets, structs, types, unions,
 };
 
 /// A command in the table of its topic: its name, its arguments in the words of `docs/CONSOLE.md`, the arguments of an
-/// example, and what answers it.
+/// example, which is a golden test, what it answers, the errors of the call and its condition, and what answers it.
 #[derive(Clone, Copy)]
 pub struct Row(
+    pub &'static str,
+    pub &'static str,
     pub &'static str,
     pub &'static str,
     pub &'static str,
@@ -32,18 +34,29 @@ impl Row {
         self.2
     }
 
-    /// Returns what answers the command.
-    pub fn command(&self) -> Command {
+    /// Returns what the command answers.
+    pub fn what(&self) -> &'static str {
         self.3
     }
 
-    /// Returns whether the command needs an argument: it has one, and the first isn't `X..`, which may be left out.
+    /// Returns the errors of the call, each with its number, and its condition; empty where it has none of its own.
+    pub fn errors(&self) -> &'static str {
+        self.4
+    }
+
+    /// Returns what answers the command.
+    pub fn command(&self) -> Command {
+        self.5
+    }
+
+    /// Returns whether the command needs an argument: it has one, and the first is neither `X..` nor `[X]`, which may be
+    /// left out.
     pub fn needs_argument(&self) -> bool {
         let first = match self.1.split_once(' ') {
             Some((first, _)) => first,
             None => self.1,
         };
-        !first.is_empty() && !first.ends_with("..")
+        !first.is_empty() && !first.ends_with("..") && !first.starts_with('[')
     }
 }
 
@@ -66,10 +79,12 @@ pub enum Topic {
     Masks,
     Sessions,
     Messages,
+    Arguments,
+    Console,
 }
 
 /// The topics, as `help` lists them.
-pub const TOPICS: [Topic; 15] = [
+pub const TOPICS: [Topic; 17] = [
     Topic::Types,
     Topic::Comparisons,
     Topic::Structs,
@@ -85,6 +100,8 @@ pub const TOPICS: [Topic; 15] = [
     Topic::Masks,
     Topic::Sessions,
     Topic::Messages,
+    Topic::Arguments,
+    Topic::Console,
 ];
 
 impl Topic {
@@ -106,6 +123,33 @@ impl Topic {
             Topic::Masks => "masks",
             Topic::Sessions => "sessions",
             Topic::Messages => "messages",
+            Topic::Arguments => "arguments",
+            Topic::Console => "console",
+        }
+    }
+
+    /// Returns what the topic is about.
+    pub fn what(self) -> &'static str {
+        match self {
+            Topic::Types =>
+                "types of every kind, their nullability and their parts; how a type is written",
+            Topic::Comparisons => "equality of types, with and without nullability, and hashes",
+            Topic::Structs =>
+                "the fields of structs: lookups, selections, and structs made of fields",
+            Topic::Unions => "the variants of unions and their tags",
+            Topic::Maps => "the keys and the values of maps",
+            Topic::Extensions => "extension types, erased and typed",
+            Topic::Names => "names of fields, and lists of names",
+            Topic::Decimals => "decimals and their storage types",
+            Topic::Primitives => "primitive types, and visitors of them",
+            Topic::Native => "native integers and the types that belong to native types",
+            Topic::Paths => "paths and their steps; how a path and a mask are written",
+            Topic::Sets => "sets of paths, their covers, and projections to them",
+            Topic::Masks => "masks of paths",
+            Topic::Sessions => "sessions of plugins, and what they make of extensions",
+            Topic::Messages => "messages of types and of paths; how a message is written",
+            Topic::Arguments => "how every other argument is written",
+            Topic::Console => "help, and the end",
         }
     }
 
@@ -127,8 +171,15 @@ impl Topic {
             Topic::Masks => masks::rows(),
             Topic::Sessions => sessions::rows(),
             Topic::Messages => messages::rows(),
+            Topic::Arguments => &[],
+            Topic::Console => own::rows(),
         }
     }
+}
+
+/// Returns the topic of this name.
+pub fn find_topic(name: &str) -> Option<Topic> {
+    TOPICS.iter().copied().find(|topic| topic.name() == name)
 }
 
 /// Returns the row of the command with this name.

@@ -34,11 +34,13 @@ fn copy(call: &mut Call<'_>) -> ConsoleResult<()> {
 // Reads the parts up to the line's end, and returns their message.
 fn read_argument(call: &mut Call<'_>) -> ConsoleResult<pb::FieldPath> {
     let mut path = Vec::new(call.alloc);
+    call.line.separate()?;
     for _ in 0..call.line.max_items() {
         if call.line.is_at_end() {
             break;
         }
         path.push(read_part(call.alloc, &mut call.line)?)?;
+        call.line.separate()?;
     }
     Ok(pb::FieldPath { path })
 }

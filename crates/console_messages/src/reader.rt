@@ -12,8 +12,8 @@ pub struct Message(pub pb::DType);
 
 impl Argument for Message {
     fn read(alloc: Global, line: &mut Line<'_>) -> ConsoleResult<Message> {
-        if line.accepts("{}") {
-            return Ok(Message(pb::DType { dtype_type: None }));
+        if line.accepts("{") {
+            return line.then(Message(pb::DType { dtype_type: None }), "}");
         }
         let kind = read_kind(alloc, line, MAX_LEVELS)?;
         Ok(Message(pb::DType {

@@ -5,7 +5,9 @@
 use crate::reader::Message;
 use crate::writer::say_message_result;
 use console_commands::{MessageForm, SessionCommand};
-use console_types::{Bytes, Call, ConsoleResult, Line, unless};
+use console_types::{
+    Bytes, Call, ConsoleError, ConsoleResult, Line, expected_at, unknown_name, unless,
+};
 use std::alloc::Global;
 use vortex_dtype::{DType, DTypeProto, DTypeSession, ExtId, FieldName, PluginOf};
 use vortex_dtype_fixtures::{AllKept, Tag, TextAlone, Word};
@@ -65,7 +67,7 @@ fn read_plugin(line: &mut Line<'_>) -> ConsoleResult<Plugin> {
     } else if line.accepts("kept") {
         Ok(Plugin::AllKept)
     } else {
-        Err(line.expected("a session"))
+        Err(line.expected("strict, unknown, x.tag, x.text, x.word or kept"))
     }
 }
 
@@ -95,29 +97,20 @@ impl Sessions {
     /// Answers `session`, which changes the session whose name is the next argument.
     pub fn change(&mut self, call: &mut Call<'_>) -> ConsoleResult<()> {
         let name: FieldName = call.read()?;
-        self.add(&name)?;
         for it in &mut self.named {
             if it.name == name {
                 return change(call, &mut it.state);
             }
         }
-        Err(call.line.expected("the name of a session"))
-    }
-
-    // Adds a session of this name, unless there is one.
-    fn add(&mut self, name: &FieldName) -> ConsoleResult<()> {
-        if self.named.iter().any(|it| it.name == *name) {
-            return Ok(());
-        }
         unless(self.named.len() < MAX_SESSIONS, "at most 16 sessions")?;
-        let name = name.try_clone(self.alloc)?;
-        let state = SessionState::new(self.alloc);
+        let mut state = SessionState::new(self.alloc);
+        change(call, &mut state)?;
         Ok(self.named.push(NamedSession { name, state })?)
     }
 
     /// Answers this command on the session that is the next argument: words, or the name of one.
     pub fn ask(&self, call: &mut Call<'_>, command: SessionCommand) -> ConsoleResult<()> {
-        call.line.skip_blanks();
+        call.line.separate()?;
         if call.line.accepts("@") {
             self.ask_named(call, command)
         } else {
@@ -126,7 +119,7 @@ impl Sessions {
         }
     }
 
-    // Answers this command on the session whose name is next. One that isn't there is as a new one.
+    // Answers this command on the session whose name is next.
     fn ask_named(&self, call: &mut Call<'_>, command: SessionCommand) -> ConsoleResult<()> {
         let name = call.line.name(call.alloc)?;
         for it in &self.named {
@@ -134,7 +127,24 @@ impl Sessions {
                 return ask_state(call, command, &it.state);
             }
         }
-        ask_state(call, command, &SessionState::new(call.alloc))
+        Err(self.unknown(&name))
+    }
+
+    // Returns the error that there is no session of this name.
+    fn unknown(&self, name: &FieldName) -> ConsoleError {
+        match self.names() {
+            Ok(known) => unknown_name(self.alloc, "session", name, &known),
+            Err(error) => error,
+        }
+    }
+
+    // Returns the names that there are.
+    fn names(&self) -> ConsoleResult<Vec<&FieldName>> {
+        let mut names = Vec::new(self.alloc);
+        for it in &self.named {
+            names.push(&it.name)?;
+        }
+        Ok(names)
     }
 }
 
@@ -143,7 +153,7 @@ fn read_words(call: &mut Call<'_>) -> ConsoleResult<SessionState> {
     let mut state = SessionState::new(call.alloc);
     for _ in 0..call.line.max_items() {
         state.read_word(&mut call.line)?;
-        if !call.line.accepts(",") {
+        if !call.line.accepts_comma() {
             break;
         }
     }
@@ -152,7 +162,9 @@ fn read_words(call: &mut Call<'_>) -> ConsoleResult<SessionState> {
 
 // Answers a command that changes a session with a name.
 fn change(call: &mut Call<'_>, state: &mut SessionState) -> ConsoleResult<()> {
-    match call.word("a command on a session")? {
+    call.line.separate()?;
+    let position = call.line.position();
+    match call.line.word("new, register or allow_unknown")? {
         "new" => {
             call.end()?;
             state.unknown = false;
@@ -163,14 +175,14 @@ fn change(call: &mut Call<'_>, state: &mut SessionState) -> ConsoleResult<()> {
             state.unknown = true;
         }
         "register" => register(call, state)?,
-        _ => return Err(call.line.expected("a command on a session")),
+        _ => return Err(expected_at(position, "new, register or allow_unknown")),
     }
     call.say("ok")
 }
 
 // Registers the plugin that is the last argument.
 fn register(call: &mut Call<'_>, state: &mut SessionState) -> ConsoleResult<()> {
-    call.line.skip_blanks();
+    call.line.separate()?;
     let plugin = read_plugin(&mut call.line)?;
     call.end()?;
     Ok(state.plugins.push(plugin)?)

@@ -147,6 +147,7 @@ fn write_child(
 
 fn write_primitive(out: &mut String, primitive: &pb::Primitive) -> VortexResult<()> {
     match pb::PType::from_number(primitive.ptype) {
+        Some(pb::PType::U8) => {}
         Some(known) => {
             let ptype = PType::from(known);
             write!(out, " type: {ptype:?}")?;

@@ -3,16 +3,16 @@
 
 // Commands on native integers.
 use console_commands::{IntegerCommand, IntegerComparison};
-use console_types::{Bytes, Call, ConsoleResult, expected_at};
+use console_types::{Argument, Bytes, Call, ConsoleResult, expected_at};
 use dtype_base::PType;
 use dtype_native::{IntegerPType, NativePType, PhysicalPType, ToBytes, TryFromBytes};
 use std::str::FromStr;
 
 /// Reads the name of a native integer type, and answers this command for it.
 pub fn answer(call: &mut Call<'_>, command: IntegerCommand) -> ConsoleResult<()> {
-    call.line.skip_blanks();
+    call.line.separate()?;
     let position = call.line.position();
-    match call.read()? {
+    match PType::read(call.alloc, &mut call.line)? {
         PType::U8 => of::<u8>(call, command),
         PType::U16 => of::<u16>(call, command),
         PType::U32 => of::<u32>(call, command),

@@ -11,7 +11,7 @@ use std::str::FromStr;
 
 /// Reads the name of a native type, and answers this command for it.
 pub fn answer(call: &mut Call<'_>, command: NativeDecimalCommand) -> ConsoleResult<()> {
-    call.line.skip_blanks();
+    call.line.separate()?;
     let position = call.line.position();
     match call.line.word("a native decimal type")? {
         "i8" => of::<i8>(call, command),

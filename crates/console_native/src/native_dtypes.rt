@@ -9,7 +9,7 @@ use std::alloc::Global;
 
 /// Answers `native_dtype`.
 pub fn answer(call: &mut Call<'_>) -> ConsoleResult<()> {
-    call.line.skip_blanks();
+    call.line.separate()?;
     let first = read_owner(&mut call.line);
     let second = read_owner(&mut call.line);
     let dtype = native_dtype(call, first, second)?;

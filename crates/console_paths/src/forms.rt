@@ -30,6 +30,7 @@ impl Argument for Steps {
                 break;
             }
             steps.push(read_step(alloc, line)?)?;
+            line.separate()?;
         }
         Ok(Steps(steps))
     }
@@ -57,13 +58,13 @@ impl Argument for Paths {
                 break;
             }
             paths.push(read_path(alloc, line)?)?;
+            line.separate()?;
         }
         Ok(Paths(paths))
     }
 }
 
 fn read_step(alloc: Global, line: &mut Line<'_>) -> ConsoleResult<Field> {
-    line.skip_blanks();
     if line.accepts("[]") {
         return Ok(Field::ElementType);
     }

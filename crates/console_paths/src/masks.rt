@@ -24,15 +24,19 @@ struct Mask(FieldMask);
 impl Argument for Mask {
     fn read(alloc: Global, line: &mut Line<'_>) -> ConsoleResult<Mask> {
         let position = line.position();
-        let word = line.word("a mask")?;
-        line.skip_blanks();
-        match word {
+        match line.word("all, prefix or exact")? {
             "all" => Ok(Mask(FieldMask::All)),
-            "prefix" => Ok(Mask(FieldMask::Prefix(read_path(alloc, line)?))),
-            "exact" => Ok(Mask(FieldMask::Exact(read_path(alloc, line)?))),
-            _ => Err(expected_at(position, "a mask")),
+            "prefix" => Ok(Mask(FieldMask::Prefix(read_next_path(alloc, line)?))),
+            "exact" => Ok(Mask(FieldMask::Exact(read_next_path(alloc, line)?))),
+            _ => Err(expected_at(position, "all, prefix or exact")),
         }
     }
+}
+
+// Reads the path after the word of a mask.
+fn read_next_path(alloc: Global, line: &mut Line<'_>) -> ConsoleResult<FieldPath> {
+    line.separate()?;
+    read_path(alloc, line)
 }
 
 fn mask_eq(call: &mut Call<'_>) -> ConsoleResult<()> {

@@ -4,7 +4,9 @@
 // Commands on sets of paths, and the sets with a name, which last from line to line.
 use crate::forms::{Path, Paths, say_borrowed_paths, say_paths, say_sorted};
 use console_commands::SetCommand;
-use console_types::{Call, ConsoleResult, unless, write_name};
+use console_types::{
+    Call, ConsoleError, ConsoleResult, expected_at, unknown_name, unless, write_name,
+};
 use dtype_base::FieldName;
 use dtype_paths::{FieldPathCursor, FieldPathSet};
 use std::alloc::Global;
@@ -82,39 +84,91 @@ impl Sets {
     /// Answers `set`, a command on the set whose name is the next argument.
     pub fn answer(&mut self, call: &mut Call<'_>) -> ConsoleResult<()> {
         let name: FieldName = call.read()?;
-        self.add(&name)?;
+        let command = read_change(call)?;
         for it in &mut self.named {
             if it.name == name {
-                return change(call, &mut it.set);
+                return change(call, command, &mut it.set);
             }
         }
-        Err(call.line.expected("the name of a set"))
+        match command {
+            SetChange::New | SetChange::Insert | SetChange::Extend => self.add(call, command, name),
+            _ => Err(self.unknown(&name)),
+        }
     }
 
-    // Adds a set of this name, unless there is one.
-    fn add(&mut self, name: &FieldName) -> ConsoleResult<()> {
-        if self.named.iter().any(|it| it.name == *name) {
-            return Ok(());
-        }
+    // Answers a command that begins a new set of this name, which is there where the command was answered.
+    fn add(
+        &mut self,
+        call: &mut Call<'_>,
+        command: SetChange,
+        name: FieldName,
+    ) -> ConsoleResult<()> {
         unless(self.named.len() < MAX_SETS, "at most 16 sets")?;
-        let name = name.try_clone(self.alloc)?;
-        let set = FieldPathSet::new(self.alloc);
+        let mut set = FieldPathSet::new(self.alloc);
+        change(call, command, &mut set)?;
         Ok(self.named.push(NamedSet { name, set })?)
+    }
+
+    // Returns the error that there is no set of this name.
+    fn unknown(&self, name: &FieldName) -> ConsoleError {
+        match self.names() {
+            Ok(known) => unknown_name(self.alloc, "set", name, &known),
+            Err(error) => error,
+        }
+    }
+
+    // Returns the names that there are.
+    fn names(&self) -> ConsoleResult<Vec<&FieldName>> {
+        let mut names = Vec::new(self.alloc);
+        for it in &self.named {
+            names.push(&it.name)?;
+        }
+        Ok(names)
+    }
+}
+
+// A command on a set with a name.
+#[derive(Clone, Copy)]
+enum SetChange {
+    New,
+    Insert,
+    Extend,
+    Contains,
+    Below,
+    Iter,
+    Cover,
+    Drain,
+}
+
+// Reads a command on a set.
+fn read_change(call: &mut Call<'_>) -> ConsoleResult<SetChange> {
+    const EXPECTED: &str = "new, insert, extend, contains, below, iter, cover or drain";
+    call.line.separate()?;
+    let position = call.line.position();
+    match call.line.word(EXPECTED)? {
+        "new" => Ok(SetChange::New),
+        "insert" => Ok(SetChange::Insert),
+        "extend" => Ok(SetChange::Extend),
+        "contains" => Ok(SetChange::Contains),
+        "below" => Ok(SetChange::Below),
+        "iter" => Ok(SetChange::Iter),
+        "cover" => Ok(SetChange::Cover),
+        "drain" => Ok(SetChange::Drain),
+        _ => Err(expected_at(position, EXPECTED)),
     }
 }
 
 // Answers a command on a set with a name.
-fn change(call: &mut Call<'_>, set: &mut FieldPathSet) -> ConsoleResult<()> {
-    match call.word("a command on a set")? {
-        "new" => renew(call, set),
-        "insert" => insert(call, set),
-        "extend" => extend(call, set),
-        "contains" => contains_last(call, set),
-        "iter" => iter(call, set),
-        "below" => below(call, set),
-        "cover" => cover_copy(call, set),
-        "drain" => drain(call, set),
-        _ => Err(call.line.expected("a command on a set")),
+fn change(call: &mut Call<'_>, command: SetChange, set: &mut FieldPathSet) -> ConsoleResult<()> {
+    match command {
+        SetChange::New => renew(call, set),
+        SetChange::Insert => insert(call, set),
+        SetChange::Extend => extend(call, set),
+        SetChange::Contains => contains_last(call, set),
+        SetChange::Below => below(call, set),
+        SetChange::Iter => iter(call, set),
+        SetChange::Cover => cover_copy(call, set),
+        SetChange::Drain => drain(call, set),
     }
 }
 

@@ -4,6 +4,7 @@
 // The arguments of commands, each of a type that says how it is read.
 use crate::line::expected_at;
 use crate::reader::{MAX_LEVELS, ptype_of, read_dtype};
+use crate::unknown::unknown_ptype;
 use crate::{ConsoleResult, Line};
 use dtype_base::{DecimalDType, DecimalType, FieldName, FieldNames, Nullability, PType};
 use dtype_types::{DType, ExtDTypeRef, ExtId, FieldDType, MapDType, StructFields, UnionVariants};
@@ -19,7 +20,7 @@ pub trait Argument: Drop {
 impl<A: Argument, B: Argument> Argument for (A, B) {
     fn read(alloc: Global, line: &mut Line<'_>) -> ConsoleResult<(A, B)> {
         let first = A::read(alloc, line)?;
-        line.skip_blanks();
+        line.separate()?;
         let second = B::read(alloc, line)?;
         Ok((first, second))
     }
@@ -48,6 +49,7 @@ impl<T: Argument> Argument for Vec<T> {
                 break;
             }
             all.push(T::read(alloc, line)?)?;
+            line.separate()?;
         }
         Ok(all)
     }
@@ -61,7 +63,7 @@ fn read_list<T: Argument>(alloc: Global, line: &mut Line<'_>) -> ConsoleResult<V
     }
     for _ in 0..line.max_items() {
         list.push(T::read(alloc, line)?)?;
-        if !line.accepts(",") {
+        if !line.accepts_comma() {
             break;
         }
     }
@@ -108,22 +110,24 @@ impl Argument for ExtDTypeRef {
 
 impl Argument for Nullability {
     fn read(_alloc: Global, line: &mut Line<'_>) -> ConsoleResult<Nullability> {
-        if line.accepts("NonNullable") {
-            Ok(Nullability::NonNullable)
-        } else if line.accepts("Nullable") {
-            Ok(Nullability::Nullable)
-        } else {
-            Err(line.expected("NonNullable or Nullable"))
+        let position = line.position();
+        match line.word("NonNullable or Nullable")? {
+            "NonNullable" => Ok(Nullability::NonNullable),
+            "Nullable" => Ok(Nullability::Nullable),
+            _ => Err(expected_at(position, "NonNullable or Nullable")),
         }
     }
 }
 
 /// The name of a primitive type.
 impl Argument for PType {
-    fn read(_alloc: Global, line: &mut Line<'_>) -> ConsoleResult<PType> {
+    fn read(alloc: Global, line: &mut Line<'_>) -> ConsoleResult<PType> {
         let position = line.position();
         let word = line.word("a primitive name")?;
-        ptype_of(word).ok_or(expected_at(position, "a primitive name"))
+        match ptype_of(word) {
+            Some(ptype) => Ok(ptype),
+            None => Err(unknown_ptype(alloc, position, word)),
+        }
     }
 }
 

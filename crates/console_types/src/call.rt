@@ -30,15 +30,15 @@ impl<'a> Call<'a> {
         }
     }
 
-    /// Reads a word, a command or one of a few words, and returns it.
+    /// Reads a word, one of a few, and returns it.
     pub fn word(&mut self, expected: &'static str) -> ConsoleResult<&'a str> {
-        self.line.skip_blanks();
+        self.line.separate()?;
         self.line.word(expected)
     }
 
     /// Reads an argument, and returns it.
     pub fn read<T: Argument>(&mut self) -> ConsoleResult<T> {
-        self.line.skip_blanks();
+        self.line.separate()?;
         T::read(self.alloc, &mut self.line)
     }
 
@@ -53,7 +53,7 @@ impl<'a> Call<'a> {
     where
         T::Err: Drop,
     {
-        self.line.skip_blanks();
+        self.line.separate()?;
         self.line.number(expected)
     }
 

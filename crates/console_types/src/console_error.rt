@@ -23,6 +23,15 @@ pub enum ConsoleError {
         position: usize,
         expected: &'static str,
     },
+    /// A word of the line, at this byte, isn't one of those that are known there.
+    #[error("unreadable at {position}: expected {expected}")]
+    UnknownWord {
+        position: usize,
+        expected: String,
+    },
+    /// The line names a set or a session that isn't there.
+    #[error("unknown: {0}")]
+    UnknownName(String),
 }
 
 /// The result of what reads a line, or makes a call.

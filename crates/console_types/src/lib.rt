@@ -25,6 +25,7 @@ mod reader;
 pub mod structs;
 pub mod types;
 pub mod unions;
+mod unknown;
 mod writer;
 mod written;
 
@@ -34,5 +35,6 @@ pub use comparisons::hash_of;
 pub use console_error::{ConsoleError, ConsoleResult};
 pub use line::{Line, expected_at};
 pub use reader::MAX_LEVELS;
+pub use unknown::{unknown_command, unknown_name};
 pub use writer::{MAX_WRITTEN_LEVELS, put, write_name, write_quoted};
 pub use written::Written;

@@ -72,17 +72,28 @@ impl<'a> Line<'a> {
 
     /// Reads the blanks that are next, if any.
     pub fn skip_blanks(&mut self) {
-        let _ = self.take_while(|byte| byte == b' ');
+        let _ = self.take_while(is_blank);
     }
 
-    /// Returns whether only blanks and a comment are left. It reads the blanks.
-    pub fn is_at_end(&mut self) -> bool {
-        self.skip_blanks();
-        matches!(self.rest, [] | [b'#', ..])
+    /// Returns whether only blanks and a comment are left. It reads nothing.
+    pub fn is_at_end(&self) -> bool {
+        let next = self.rest.iter().find(|byte| !is_blank(**byte));
+        matches!(next, None | Some(b'#'))
+    }
+
+    /// Reads the blanks between two arguments, or returns an error where there is none and the line goes on.
+    pub fn separate(&mut self) -> ConsoleResult<()> {
+        let blanks = self.take_while(is_blank);
+        if blanks.is_empty() && !self.is_at_end() {
+            Err(self.expected("a blank"))
+        } else {
+            Ok(())
+        }
     }
 
     /// Reads the end of the line, or returns an error where there is more.
     pub fn end(&mut self) -> ConsoleResult<()> {
+        self.skip_blanks();
         if self.is_at_end() {
             Ok(())
         } else {
@@ -96,8 +107,9 @@ impl<'a> Line<'a> {
         Ok(read)
     }
 
-    /// Reads this text, and returns what was read before it.
+    /// Reads this text, with blanks before it, and returns what was read before them.
     pub fn then<T: Drop>(&mut self, read: T, text: &'static str) -> ConsoleResult<T> {
+        self.skip_blanks();
         self.take(text)?;
         Ok(read)
     }
@@ -145,7 +157,7 @@ impl<'a> Line<'a> {
         T::Err: Drop,
     {
         let position = self.position();
-        let bytes = self.take_while(|byte| byte == b'-' || byte.is_ascii_digit());
+        let bytes = self.take_while(|byte| byte == b'-' || is_bare(byte));
         let text = self.text_of(bytes, position, expected)?;
         match text.parse() {
             Ok(number) => Ok(number),
@@ -246,8 +258,16 @@ impl<'a> Line<'a> {
         }
     }
 
+    /// Reads the start of a list or of another part in brackets, and the blanks after it.
+    pub fn open(&mut self, open: &'static str) -> ConsoleResult<()> {
+        self.take(open)?;
+        self.skip_blanks();
+        Ok(())
+    }
+
     /// Reads the end of a list, or the comma before its next item, and returns whether it was the end.
     pub fn closes(&mut self, close: &'static str) -> ConsoleResult<bool> {
+        self.skip_blanks();
         if self.accepts(close) {
             return Ok(true);
         }
@@ -257,11 +277,29 @@ impl<'a> Line<'a> {
         self.skip_blanks();
         Ok(false)
     }
+
+    /// Reads a comma with the blanks around it, if it is next after blanks, and returns whether it was.
+    pub fn accepts_comma(&mut self) -> bool {
+        let before = self.rest;
+        self.skip_blanks();
+        let is_comma = self.accepts(",");
+        if is_comma {
+            self.skip_blanks();
+        } else {
+            self.rest = before;
+        }
+        is_comma
+    }
 }
 
 /// Returns the error that this was expected at a position.
 pub fn expected_at(position: usize, expected: &'static str) -> ConsoleError {
     ConsoleError::Unreadable { position, expected }
+}
+
+/// Returns whether a byte is a blank, a space or a tab.
+fn is_blank(byte: u8) -> bool {
+    byte == b' ' || byte == b'\t'
 }
 
 /// Returns whether a byte may be in a word.

@@ -3,6 +3,7 @@
 
 // The reader of types. It bounds how deep they are.
 use crate::line::expected_at;
+use crate::unknown::unknown_type;
 use crate::{ConsoleResult, Line};
 use dtype_base::{DecimalDType, FieldName, FieldNames, Nullability, PType};
 use dtype_types::{DType, ExtDTypeRef, ExtId, FieldDType, StructFields, UnionVariants};
@@ -15,6 +16,7 @@ pub const MAX_LEVELS: u32 = 128;
 #[cycle(types)]
 pub fn read_dtype(alloc: Global, line: &mut Line<'_>, levels: u32) -> ConsoleResult<DType> {
     if line.accepts("{") {
+        line.skip_blanks();
         return read_struct(alloc, line, levels);
     }
     if line.accepts("\"") {
@@ -32,7 +34,20 @@ pub fn read_dtype(alloc: Global, line: &mut Line<'_>, levels: u32) -> ConsoleRes
         "list" | "fixed_size_list" => read_list(alloc, line, word, levels),
         "map" => read_map(alloc, line, levels),
         "union" => read_union(alloc, line, levels),
-        _ => plain(word, line.nullability()).ok_or(expected_at(position, "a type")),
+        _ => read_plain(alloc, line, position, word),
+    }
+}
+
+// Returns the type without parts of this word, which is at a position, and reads its nullability.
+fn read_plain(
+    alloc: Global,
+    line: &mut Line<'_>,
+    position: usize,
+    word: &str,
+) -> ConsoleResult<DType> {
+    match plain(word, line.nullability()) {
+        Some(dtype) => Ok(dtype),
+        None => Err(unknown_type(alloc, position, word)),
     }
 }
 
@@ -54,7 +69,7 @@ fn read_part(alloc: Global, line: &mut Line<'_>, levels: u32) -> ConsoleResult<D
 // Reads a type in parentheses.
 #[cycle(types)]
 fn read_wrapped(alloc: Global, line: &mut Line<'_>, levels: u32) -> ConsoleResult<DType> {
-    line.take("(")?;
+    line.open("(")?;
     let dtype = read_part(alloc, line, levels)?;
     line.then(dtype, ")")
 }
@@ -81,7 +96,7 @@ fn fixed_size_list_of(alloc: Global, line: &mut Line<'_>, element: DType) -> Con
 
 #[cycle(types)]
 fn read_map(alloc: Global, line: &mut Line<'_>, levels: u32) -> ConsoleResult<DType> {
-    line.take("(")?;
+    line.open("(")?;
     let key = read_part(alloc, line, levels)?;
     let value = read_value(alloc, line, levels)?;
     map_of(alloc, line, key, value)
@@ -155,7 +170,8 @@ fn read_field(
 // Reads a name and an equals sign.
 fn read_field_name(alloc: Global, line: &mut Line<'_>) -> ConsoleResult<FieldName> {
     let name = line.name(alloc)?;
-    line.then(name, "=")
+    line.equals()?;
+    Ok(name)
 }
 
 // Reads fields after the opening brace. Each has bytes, so there are no more than the line has.
@@ -195,7 +211,7 @@ fn read_variant_name(
     if line.accepts("@") {
         variants.tags.push(line.number("a tag")?)?;
     }
-    line.take("=")
+    line.equals()
 }
 
 // Reads a variant, and adds it to those that were read.
@@ -232,7 +248,7 @@ fn read_variants(
 
 #[cycle(types)]
 fn read_union(alloc: Global, line: &mut Line<'_>, levels: u32) -> ConsoleResult<DType> {
-    line.take("(")?;
+    line.open("(")?;
     let mut variants = Variants {
         names: Vec::new(alloc),
         dtypes: Vec::new(alloc),
@@ -300,49 +316,54 @@ impl Line<'_> {
         Nullability::from(self.accepts("?"))
     }
 
-    // Reads a comma, and the blanks after it.
+    // Reads a comma, and the blanks around it.
     fn comma(&mut self) -> ConsoleResult<()> {
-        let taken = self.take(",");
         self.skip_blanks();
-        taken
+        self.open(",")
+    }
+
+    // Reads an equals sign, and the blanks around it.
+    fn equals(&mut self) -> ConsoleResult<()> {
+        self.skip_blanks();
+        self.open("=")
     }
 
     /// Reads `true` or `false`, and returns it.
     pub fn boolean(&mut self) -> ConsoleResult<bool> {
-        if self.accepts("true") {
-            Ok(true)
-        } else if self.accepts("false") {
-            Ok(false)
-        } else {
-            Err(self.expected("true or false"))
+        let position = self.position();
+        match self.word("true or false")? {
+            "true" => Ok(true),
+            "false" => Ok(false),
+            _ => Err(expected_at(position, "true or false")),
         }
     }
 
     // Reads what is after the types of a map, and returns whether its keys are sorted.
     fn keys_sorted(&mut self) -> ConsoleResult<bool> {
         self.comma()?;
-        self.take("keys_sorted=")?;
+        self.take("keys_sorted")?;
+        self.equals()?;
         let keys_sorted = self.boolean()?;
         self.then(keys_sorted, ")")
     }
 
     // Reads the metadata of an extension, and returns it.
     fn bracketed_bytes(&mut self, alloc: Global) -> ConsoleResult<Vec<u8>> {
-        self.take("[")?;
+        self.open("[")?;
         let bytes = self.hexadecimals(alloc)?;
         self.then(bytes, "]")
     }
 
     // Reads the size of a fixed-size list, and returns it.
     fn bracketed_size(&mut self) -> ConsoleResult<u32> {
-        self.take("[")?;
+        self.open("[")?;
         let size = self.number("a size")?;
         self.then(size, "]")
     }
 
     /// Reads the precision and the scale after `decimal`, and returns them.
     pub fn decimal_parts(&mut self) -> ConsoleResult<(u8, i8)> {
-        self.take("(")?;
+        self.open("(")?;
         let precision = self.number("a precision")?;
         self.comma()?;
         Ok((precision, self.closed_scale()?))

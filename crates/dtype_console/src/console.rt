@@ -2,14 +2,15 @@
 // SPDX-FileCopyrightText: Copyright the Vortex contributors
 
 // The answer to a line.
+use crate::help::{list_topics, show_errors, show_row, show_topic};
 use crate::input::Read;
-use console_commands::{Command, Row, TOPICS, Topic, find, nearest};
+use console_commands::{Command, Row, find, find_topic};
 use console_messages::{Sessions, messages, path_messages, typed};
 use console_native::{integers, native_decimals, native_dtypes, visitors};
 use console_paths::{Sets, masks, merging, paths, projections, sets};
 use console_types::{
     Call, ConsoleError, ConsoleResult, comparisons, decimals, expected_at, extensions, maps, names,
-    parts, primitives, structs, types, unions,
+    parts, primitives, structs, types, unions, unknown_command,
 };
 use dtype_base::VortexError;
 use std::alloc::Global;
@@ -25,6 +26,19 @@ pub struct Console {
     sessions: Sessions,
 }
 
+/// What a line came to.
+#[derive(Clone, Copy, PartialEq, Eq)]
+pub enum Outcome {
+    /// It was answered.
+    Answered,
+    /// It can't be read, or names a set or a session that isn't there.
+    Unread,
+    /// It ends the console.
+    Ended,
+    /// There was no line.
+    NoLine,
+}
+
 impl Console {
     /// Returns a console with no set and no session. If it echoes, it writes each line above its answer.
     pub fn new(alloc: Global, is_echoing: bool) -> Self {
@@ -36,81 +50,121 @@ impl Console {
         }
     }
 
-    /// Writes the answer to what was read of a line, and returns whether there was one.
+    /// Writes the answer to what was read of a line, and returns what it came to.
     pub fn answer<W: Write>(
         &mut self,
         read: Read,
         line: &[u8],
         output: &mut W,
-    ) -> io::Result<bool> {
+    ) -> io::Result<Outcome> {
+        let line = line.strip_suffix(b"\r".as_slice()).unwrap_or(line);
         let answer = match read {
             Read::Line => self.answer_to(line),
             Read::TooLong => Err(ConsoleError::from(VortexError::OutOfMemory)),
-            Read::End => return Ok(false),
+            Read::End => return Ok(Outcome::NoLine),
         };
+        if let Ok(Answer::End) = answer {
+            return Ok(Outcome::Ended);
+        }
         if self.is_echoing {
-            echo(line, matches!(answer, Ok(None)), output)?;
+            echo(line, matches!(answer, Ok(Answer::None)), output)?;
         }
-        match answer {
-            Ok(Some(answer)) => writeln!(output, "{answer}")?,
-            Ok(None) if self.is_echoing => {}
-            Ok(None) => output.write_all(b"\n")?,
-            Err(fault) => writeln!(output, "{fault}")?,
-        }
-        Ok(true)
+        self.write(answer, output)
     }
 
-    // Returns the answer to a line, or `None` where the line is blank or a comment.
-    fn answer_to(&mut self, line: &[u8]) -> ConsoleResult<Option<String>> {
+    // Writes an answer, and returns what it says of its line.
+    fn write<W: Write>(
+        &self,
+        answer: ConsoleResult<Answer>,
+        output: &mut W,
+    ) -> io::Result<Outcome> {
+        match answer {
+            Ok(Answer::Text(answer)) => writeln!(output, "{answer}")?,
+            Ok(_) if self.is_echoing => {}
+            Ok(_) => output.write_all(b"\n")?,
+            Err(error) => {
+                writeln!(output, "{error}")?;
+                return Ok(outcome_of(&error));
+            }
+        }
+        Ok(Outcome::Answered)
+    }
+
+    // Returns the answer to a line.
+    fn answer_to(&mut self, line: &[u8]) -> ConsoleResult<Answer> {
         let text = match str::from_utf8(line) {
             Ok(text) => text,
             Err(error) => return Err(expected_at(error.valid_up_to().saturating_add(1), "UTF-8")),
         };
         let mut call = Call::new(self.alloc, text);
         if call.line.is_at_end() {
-            return Ok(None);
+            return Ok(Answer::None);
         }
-        let position = call.line.position();
-        let word = call.word("a command")?;
-        match word {
-            "help" if call.line.is_at_end() => list_topics(&mut call),
-            "help" => self.help(&mut call),
-            _ => match find(word) {
-                Some(row) => self.command(&mut call, row),
-                None => say_unknown(&mut call, position, word),
-            },
-        }?;
-        Ok(Some(call.answer))
+        call.line.skip_blanks();
+        let row = read_command(&mut call)?;
+        match row.command() {
+            Command::Help => self.help(&mut call)?,
+            Command::Exit => {
+                call.end()?;
+                return Ok(Answer::End);
+            }
+            _ => self.command(&mut call, row)?,
+        }
+        Ok(Answer::Text(call.answer))
     }
 
-    // Answers `help COMMAND` by an example of the command, and its answer.
+    // Answers `help`, of all, of a topic, or of a command.
     fn help(&mut self, call: &mut Call<'_>) -> ConsoleResult<()> {
+        if call.line.is_at_end() {
+            return list_topics(call);
+        }
+        call.line.separate()?;
         let position = call.line.position();
-        let word = call.word("a command")?;
+        let word = call.line.word("a topic or a command")?;
         call.end()?;
-        match find(word) {
-            Some(row) => self.show_example(call, row),
-            None => say_unknown(call, position, word),
+        match (find(word), find_topic(word)) {
+            (Some(row), None) => self.show_command(call, row),
+            (None, Some(topic)) => show_topic(call, topic),
+            (Some(row), Some(topic)) => {
+                show_topic(call, topic)?;
+                call.answer.push('\n')?;
+                self.show_command(call, row)
+            }
+            (None, None) => Err(unknown_command(call.alloc, position, word)),
         }
     }
 
-    // Answers by an example of a command, and its answer.
-    fn show_example(&mut self, call: &mut Call<'_>, row: &Row) -> ConsoleResult<()> {
-        call.say(row.name())?;
+    // Answers by a command's arguments, what it answers, an example with its answer, and its errors.
+    fn show_command(&mut self, call: &mut Call<'_>, row: &Row) -> ConsoleResult<()> {
+        show_row(call, row)?;
+        if let Command::Help | Command::Exit = row.command() {
+            return Ok(());
+        }
+        let mut example = String::from_str(call.alloc, row.name())?;
         if !row.example().is_empty() {
-            call.say(row.example())?;
+            example.push(' ')?;
+            example.push_str(row.example())?;
         }
-        call.say("answers")?;
-        let mut example = Call::new(self.alloc, row.example());
+        write!(call.answer, "\nexample: {example}\nanswer: ")?;
+        self.show_answer(call, row, example.as_str())?;
+        show_errors(call, row)
+    }
+
+    // Answers by the answer to a line with this command.
+    fn show_answer(&mut self, call: &mut Call<'_>, row: &Row, line: &str) -> ConsoleResult<()> {
+        let mut example = Call::new(self.alloc, line);
+        let _ = example.line.word("a command")?;
         match self.command(&mut example, row) {
-            Ok(()) => call.say(example.answer),
-            Err(error) => call.say(error),
+            Ok(()) => call.answer.push_str(example.answer.as_str())?,
+            Err(error) => write!(call.answer, "{error}")?,
         }
+        Ok(())
     }
 
     // Answers a command, whose arguments come next.
     fn command(&mut self, call: &mut Call<'_>, row: &Row) -> ConsoleResult<()> {
         if row.needs_argument() && call.line.is_at_end() {
+            call.line.skip_blanks();
             return Err(call.line.expected(row.arguments()));
         }
         match row.command() {
@@ -140,7 +194,38 @@ impl Console {
             Command::Sessions(command) => self.sessions.ask(call, command),
             Command::Messages(command) => messages::answer(call, command),
             Command::PathMessages(command) => path_messages::answer(call, command),
+            Command::Help | Command::Exit => call.end(),
         }
+    }
+}
+
+// The answer to a line.
+#[derive(Drop)]
+enum Answer {
+    Text(String),
+    // The line is blank or a comment.
+    None,
+    // The line ends the console.
+    End,
+}
+
+// Reads the word of a command, and returns its row.
+fn read_command(call: &mut Call<'_>) -> ConsoleResult<&'static Row> {
+    let position = call.line.position();
+    let word = call.line.word("a command")?;
+    match find(word) {
+        Some(row) => Ok(row),
+        None => Err(unknown_command(call.alloc, position, word)),
+    }
+}
+
+// Returns what a line came to that is answered by this error.
+fn outcome_of(error: &ConsoleError) -> Outcome {
+    match error {
+        ConsoleError::Library { .. } | ConsoleError::Condition(_) => Outcome::Answered,
+        ConsoleError::Unreadable { .. }
+        | ConsoleError::UnknownWord { .. }
+        | ConsoleError::UnknownName(_) => Outcome::Unread,
     }
 }
 
@@ -151,42 +236,4 @@ fn echo<W: Write>(line: &[u8], is_comment: bool, output: &mut W) -> io::Result<(
     }
     output.write_all(line)?;
     output.write_all(b"\n")
-}
-
-// Answers that there is no command of this name, with the names nearest to it.
-fn say_unknown(call: &mut Call<'_>, position: usize, word: &str) -> ConsoleResult<()> {
-    call.say(expected_at(position, "a command"))?;
-    write!(call.answer, ", not \"{word}\"")?;
-    let mut is_first = true;
-    for name in nearest(call.alloc, word)? {
-        call.answer
-            .push_str(if is_first { "; nearest: " } else { ", " })?;
-        call.answer.push_str(name)?;
-        is_first = false;
-    }
-    call.answer.push_str("; help lists all")?;
-    Ok(())
-}
-
-// Answers the topics, a line each: a name, and the commands.
-fn list_topics(call: &mut Call<'_>) -> ConsoleResult<()> {
-    let mut is_first = true;
-    for topic in TOPICS {
-        if !is_first {
-            call.answer.push('\n')?;
-        }
-        list_topic(call, topic)?;
-        is_first = false;
-    }
-    Ok(())
-}
-
-fn list_topic(call: &mut Call<'_>, topic: Topic) -> ConsoleResult<()> {
-    call.answer.push_str(topic.name())?;
-    call.answer.push(':')?;
-    for row in topic.rows() {
-        call.answer.push(' ')?;
-        call.answer.push_str(row.name())?;
-    }
-    Ok(())
 }

@@ -49,6 +49,7 @@ def types(r):
     t.with_nullability(r, True, UTF8)
     t.union_nullability(r, False, UTF8_N)
     merging.merge_nullability(r, struct([("a", I32), ("b", list_of(UTF8_N))]), struct([("a", I32_N), ("b", list_of(UTF8))]))
+    merging.intersect_nullability(r, struct([("a", I32), ("b", list_of(UTF8_N, True))]), struct([("a", I32_N), ("b", list_of(UTF8_N))]))
     t.nullability_or(r, False, True)
     t.nullability_texts(r, True)
     t.kinds(r, fixed(I32, 3))

@@ -154,7 +154,7 @@ def limits(r, sets, sessions):
     living = names_of(r, "session ", " new", " register ", " allow_unknown")
     for line in ("allows_unknown @l16", "registry @l16 x.tag", "read @l16 utf8 {}", "round_trip @l16 utf8"):
         r.state(line, f"unknown: no session l16; there are: {', '.join(living)}")
-    r.state("set l0 sort", "unreadable at 8: expected new, insert, extend, contains, iter, cover or drain")
+    r.state("set l0 sort", "unreadable at 8: expected new, insert, extend, contains, below, iter, cover or drain")
     r.state("session l15 close", "unreadable at 13: expected new, register or allow_unknown")
 
 

@@ -8,7 +8,7 @@
 //! find all else.
 //!
 //! - Which columns a query opens: `paths`, `path_sets`, `path_lists`, `projections`, `opened`, `merging` (several files
-//!   read as one).
+//!   read as one), `intersecting` (two schemas that are both kept).
 //! - What is read further down: `masks`, `cursors`, `layout`, `rows` (what is found).
 //! - What is stored: `messages`, `path_messages`, `stored` (schemas written and read back).
 //! - Extensions: `sessions`, `plugins`, `dates`.
@@ -16,6 +16,7 @@
 
 pub mod cursors;
 pub mod dates;
+pub mod intersecting;
 pub mod layout;
 pub mod masks;
 pub mod merging;

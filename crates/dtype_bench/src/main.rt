@@ -21,7 +21,8 @@ use meter::Meter;
 use on_messages::{ReadMessage, WriteMessage, messages};
 use on_sets::{Contains, CopiedSet, Cover, FromPaths};
 use on_types::{
-    Copied, ElementSize, Empty, Equal, EqualIgnoring, Hashed, Resolve, Text, WithNullability,
+    Copied, ElementSize, Empty, Equal, EqualIgnoring, Hashed, Merged, MergedEqual, Resolve, Text,
+    WithNullability,
 };
 use path_fixture::{
     Level, SetShape, make_query, path_set, two_column_paths, two_deep_paths, two_element_paths,
@@ -53,6 +54,8 @@ fn measure_types<C: CpuClock, W: Write>(
     meter.measure(of, Hashed(&types.types))?;
     meter.measure(of, ElementSize(types))?;
     meter.measure(of, Copied(types))?;
+    meter.measure(of, Merged(types))?;
+    meter.measure(of, MergedEqual(types))?;
     meter.measure(of, WithNullability(types))?;
     meter.measure(of, Text(&types.types))
 }

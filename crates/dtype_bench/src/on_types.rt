@@ -7,7 +7,7 @@ use crate::fixture::{Types, turn};
 use crate::meter::Operation;
 use dtype_base::Nullability;
 use dtype_paths::FieldPath;
-use dtype_types::DType;
+use dtype_types::{DType, merge_nullability};
 use std::alloc::Global;
 use std::fmt::Display;
 use std::hash::{DefaultHasher, Hash, Hasher};
@@ -66,6 +66,46 @@ impl<'a> Operation for EqualIgnoring<'a> {
             let dtype = turn(&self.0.types, sum)?;
             let same = dtype.eq_ignore_nullability(turn(&self.0.others, i)?);
             sum = sum.wrapping_add(usize::from(same));
+        }
+        Ok(sum)
+    }
+}
+
+/// `merge_nullability`, of types that differ in nullabilities alone, neither of which takes the values of the other.
+#[derive(Drop)]
+pub struct Merged<'a>(pub &'a Types);
+
+impl<'a> Operation for Merged<'a> {
+    fn name(&self) -> &'static str {
+        "merge"
+    }
+
+    fn repeat(&mut self, alloc: Global, times: usize) -> BenchResult<usize> {
+        let mut sum = 0usize;
+        for i in 0..times {
+            let dtype = turn(&self.0.types, i)?;
+            let merged = merge_nullability(alloc, dtype, turn(&self.0.others, i)?)?;
+            sum = sum.wrapping_add(usize::from(merged.is_some()));
+        }
+        Ok(sum)
+    }
+}
+
+/// `merge_nullability`, of equal types that were built separately.
+#[derive(Drop)]
+pub struct MergedEqual<'a>(pub &'a Types);
+
+impl<'a> Operation for MergedEqual<'a> {
+    fn name(&self) -> &'static str {
+        "merge_equal"
+    }
+
+    fn repeat(&mut self, alloc: Global, times: usize) -> BenchResult<usize> {
+        let mut sum = 0usize;
+        for i in 0..times {
+            let dtype = turn(&self.0.types, i)?;
+            let merged = merge_nullability(alloc, dtype, turn(&self.0.sames, i)?)?;
+            sum = sum.wrapping_add(usize::from(merged.is_some()));
         }
         Ok(sum)
     }

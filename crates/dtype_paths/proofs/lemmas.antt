@@ -13,3 +13,4 @@ pub mod SetCovers
 pub mod Counts
 pub mod Covering
 pub mod PathsBelow
+pub mod MaskLists

@@ -14,3 +14,4 @@ pub mod Counts
 pub mod Covering
 pub mod PathsBelow
 pub mod MaskLists
+pub mod LentPaths

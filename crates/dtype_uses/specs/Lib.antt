@@ -3,3 +3,4 @@
 
 pub mod Money
 pub mod Orders
+pub mod Loops

@@ -2,7 +2,20 @@
 # SPDX-FileCopyrightText: Copyright the Vortex contributors
 
 """The golden tests: each a line for the console, and the line that answers it."""
+import re
+
 from .original import Panicked, Refused
+
+# In a sweep, the rows of a command below one comment: all of the first few, and then those that are answered in a form
+# that none of them has, and each fourth of the others.
+FEW, EACH, SHORT = 5, 4, 8
+
+
+def form_of(answer):
+    """A short answer, or an error, as it is; of another the signs, without names and numbers."""
+    if len(answer) <= SHORT or answer.startswith(("refused", "unreadable", "condition")):
+        return answer
+    return re.sub(r"[^\W_]+", "w", answer)
 
 
 class Rows:
@@ -12,6 +25,8 @@ class Rows:
         self.answers = []
         self.seen = set()
         self.topics = []
+        self.is_sweep = False
+        self.given = {}
 
     def topic(self, title):
         """A new topic, under a line of its own."""
@@ -21,6 +36,13 @@ class Rows:
     def comment(self, text):
         self.lines.append(f"# {text}")
         self.answers.append("")
+        self.given = {}
+
+    def is_left_out(self, line, answer):
+        """Whether a row of a sweep says no more than those before it."""
+        given = self.given.setdefault(line.split(" ")[0], [])
+        given.append(form_of(answer))
+        return len(given) > FEW and given.index(given[-1]) < len(given) - 1 and len(given) % EACH
 
     def row(self, line, answer, condition=None):
         """A line, once, and its answer: a text, or a call that asks for it. Where the original panics, the caller
@@ -28,18 +50,25 @@ class Rows:
         if line in self.seen:
             return
         self.seen.add(line)
-        self.state(line, answer, condition)
+        answer = self.answer_of(line, answer, condition)
+        if not (self.is_sweep and self.is_left_out(line, answer)):
+            self.state(line, answer)
+
+    @staticmethod
+    def answer_of(line, answer, condition):
+        if not callable(answer):
+            return answer
+        try:
+            return answer()
+        except Refused as refused:
+            return f"refused {refused}"
+        except Panicked as panic:
+            assert condition is not None, f"{line[:300]}: the original panicked: {panic}"
+            return f"condition: {condition}"
 
     def state(self, line, answer, condition=None):
         """The same of a line that depends on those before it, which may be repeated."""
-        if callable(answer):
-            try:
-                answer = answer()
-            except Refused as refused:
-                answer = f"refused {refused}"
-            except Panicked as panic:
-                assert condition is not None, f"{line[:300]}: the original panicked: {panic}"
-                answer = f"condition: {condition}"
+        answer = self.answer_of(line, answer, condition)
         assert "\n" not in line and "\n" not in answer, line
         self.lines.append(line)
         self.answers.append(answer)

@@ -159,7 +159,7 @@ union_try_new: UnionVariants::try_new
 
 def commands():
     """The commands of the console: name, topic, and the texts of the row after the name and the arguments."""
-    for file in sorted(glob("crates/console_commands/src/*.rt")):
+    for file in sorted(glob("crates/console_core/src/*.rt")):
         for row in ROW.findall(text_of(file)):
             name, _, *rest = [raw or plain.replace('\\"', '"') for raw, plain in TEXT.findall(row)]
             yield name, file.rpartition("/")[2].removesuffix(".rt"), rest

@@ -2,7 +2,7 @@
 # SPDX-FileCopyrightText: Copyright the Vortex contributors
 
 """The examples of the console's `help`: each is a golden test, so that what `help` and the pages show is true. The lines
-are in the tables of crates/console_commands; the calls below make them, and ask the original for their answers."""
+are in the tables of crates/console_core; the calls below make them, and ask the original for their answers."""
 import re
 from glob import glob
 from os.path import dirname, join, realpath
@@ -17,7 +17,7 @@ from .table import Rows
 from .trees import ELEMENT as E
 from .trees import dec, ext, fixed, list_of, map_of, null, prim, struct, tagged, union, utf8, variant
 
-TABLES = join(dirname(dirname(dirname(realpath(__file__)))), "crates", "console_commands", "src", "*.rt")
+TABLES = join(dirname(dirname(dirname(realpath(__file__)))), "crates", "console_core", "src", "*.rt")
 ROW = re.compile(r'^    Row\("(\w+)", "[^"]*", (?:r#"(.*?)"#|"(.*?)"), ', re.M)
 
 I32, I32_N, U8, UTF8, UTF8_N = prim("i32"), prim("i32", True), prim("u8"), utf8(), utf8(True)

@@ -88,7 +88,7 @@ class Pages(Planted):
         self.write("tools/data/run_by", "FieldName::new: console name\nFieldName::gone: console name\n")
         self.assert_told("pages", "FieldName::gone: is no public call that allocates")
         self.write("tools/data/run_by", "FieldName::new: console name\n")
-        self.change("crates/console_commands/src/names.rt", "FieldName::new(alloc, text)", "text")
+        self.change("crates/console_core/src/names.rt", "FieldName::new(alloc, text)", "text")
         self.assert_told("pages", "the console makes no call of new")
 
     def test_tells_a_reference_that_is_stale(self):

@@ -28,19 +28,19 @@ class Repository(Planted):
 class Tries(Planted):
     def setUp(self):
         super().setUp()
-        self.write("crates/dtype_tests/src/lib.rt", "#[test]\nfn one() {}\n")
+        self.write("crates/tests_types/src/lib.rt", "#[test]\nfn one() {}\n")
 
     def test_counts_what_passes(self):
         self.script("rt", 'case "$*" in *--test*) echo "test result: ok. 2 passed; 0 failed";; esac')
-        self.assertEqual(self.run_tool("tries", "dtype_tests", "dtype_demo")[1].splitlines()[-1], "3 passed, 0 failed")
+        self.assertEqual(self.run_tool("tries", "tests_types", "dtype_demo")[1].splitlines()[-1], "3 passed, 0 failed")
 
     def test_tells_a_test_that_fails(self):
         self.script("rt", 'echo "test two ... FAILED"; echo "test result: FAILED. 1 passed; 1 failed"')
-        self.assert_told("tries", "tries: dtype_tests: test two ... FAILED", "dtype_tests")
+        self.assert_told("tries", "tries: tests_types: test two ... FAILED", "tests_types")
 
     def test_tells_a_crate_without_a_result(self):
         self.script("rt", "echo no such thing")
-        self.assert_told("tries", "the tests of dtype_tests have no result", "dtype_tests")
+        self.assert_told("tries", "the tests of tests_types have no result", "tests_types")
 
     def test_tells_a_program_that_writes_something_else(self):
         self.write("crates/dtype_demo/stdout", "right\n")

@@ -39,7 +39,7 @@ impl Name {
 }
 """,
     "crates/dtype_base/specs/Names.antt": "-- Names.\n" * 40,
-    "crates/console_commands/src/names.rt": '    Row("name", "NAME", "a", Names(NameCommand::New)),\n',
+    "crates/console_core/src/names.rt": '    Row("name", "NAME", "a", Names(NameCommand::New)),\n',
     "crates/dtype_console/stdout": "> name a\na\n> name b c\nrefused 0: out of memory\n",
     "docs/TRUST.md": "| [`Names`](../crates/dtype_base/specs/Names.antt) | 40 | names |\n\nsome 40 lines of `specs/`\n",
     "docs/benchmarks.csv": "case,port_ns,rust_ns\nhash/a/1,10,20\nhash/b/1,30,20\n",

@@ -2,8 +2,9 @@
 // SPDX-FileCopyrightText: Copyright the Vortex contributors
 
 // Commands on native integers.
-use console_commands::{IntegerCommand, IntegerComparison};
-use console_types::{Argument, Bytes, Call, ConsoleResult, expected_at};
+use console_core::{
+    Argument, Bytes, Call, ConsoleResult, IntegerCommand, IntegerComparison, expected_at,
+};
 use dtype_base::PType;
 use dtype_native::{IntegerPType, NativePType, PhysicalPType, ToBytes, TryFromBytes};
 use std::str::FromStr;

@@ -5,7 +5,7 @@
 //! of native types, and on visitors of primitive types. What is proved of it is that each command is answered, whatever
 //! the line holds.
 //!
-//! Each module answers an enum of the commands in the tables of `console_commands`.
+//! Each module answers an enum of the commands in the tables of `console_core`.
 #![tactic(auto)]
 
 pub mod integers;

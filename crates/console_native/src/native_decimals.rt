@@ -2,8 +2,9 @@
 // SPDX-FileCopyrightText: Copyright the Vortex contributors
 
 // Commands on decimals in a native integer type.
-use console_commands::{NativeDecimalCommand, PrecisionScaleForm};
-use console_types::{Call, ConsoleResult, Decimal, expected_at, unless};
+use console_core::{
+    Call, ConsoleResult, Decimal, NativeDecimalCommand, PrecisionScaleForm, expected_at, unless,
+};
 use dtype_base::DecimalDType;
 use dtype_native::{NativeDecimalType, PrecisionScale};
 use std::fmt::Display;

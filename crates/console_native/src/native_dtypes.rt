@@ -2,7 +2,7 @@
 // SPDX-FileCopyrightText: Copyright the Vortex contributors
 
 // The command on the types of native types.
-use console_types::{Call, ConsoleResult, Line};
+use console_core::{Call, ConsoleResult, Line};
 use dtype_native::NativeDType;
 use dtype_types::DType;
 use std::alloc::Global;

@@ -2,8 +2,7 @@
 // SPDX-FileCopyrightText: Copyright the Vortex contributors
 
 // Commands that call a visitor of primitive types.
-use console_commands::{MatchEach, MatchSmallest, VisitorCommand};
-use console_types::{Call, ConsoleResult, unless};
+use console_core::{Call, ConsoleResult, MatchEach, MatchSmallest, VisitorCommand, unless};
 use dtype_base::PType;
 use dtype_native::{
     PTypeVisitor, match_each_float_ptype, match_each_integer_ptype, match_each_native_ptype,

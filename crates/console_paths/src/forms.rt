@@ -2,7 +2,7 @@
 // SPDX-FileCopyrightText: Copyright the Vortex contributors
 
 // How steps and paths are read and written.
-use console_types::{Argument, Call, ConsoleResult, Line, write_name};
+use console_core::{Argument, Call, ConsoleResult, Line, write_name};
 use dtype_base::VortexResult;
 use dtype_paths::{Field, FieldPath};
 use std::alloc::Global;

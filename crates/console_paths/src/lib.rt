@@ -5,7 +5,7 @@
 //! masks. What is proved of it is that each command is answered, whatever the line holds.
 //!
 //! Begin with `Sets`, the sets with a name, which last from line to line. Each of the public modules answers an enum of
-//! the commands in the tables of `console_commands`.
+//! the commands in the tables of `console_core`.
 #![tactic(auto)]
 
 mod forms;

@@ -3,8 +3,7 @@
 
 // Commands on masks.
 use crate::forms::{read_path, say_path, say_step};
-use console_commands::{MaskCommand, MaskQuery};
-use console_types::{Argument, Call, ConsoleResult, Line, expected_at};
+use console_core::{Argument, Call, ConsoleResult, Line, MaskCommand, MaskQuery, expected_at};
 use dtype_base::VortexResult;
 use dtype_paths::{FieldMask, FieldPath};
 use std::alloc::Global;

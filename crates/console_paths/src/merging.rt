@@ -2,7 +2,7 @@
 // SPDX-FileCopyrightText: Copyright the Vortex contributors
 
 // The commands that merge two types.
-use console_types::{Call, ConsoleResult};
+use console_core::{Call, ConsoleResult};
 use dtype_types::{DType, intersect_nullability, merge_nullability};
 
 /// Answers `intersect_nullability`.

@@ -3,10 +3,11 @@
 
 // Commands on paths and their steps.
 use crate::forms::{Path, Step, Steps, say_path, say_path_result, say_step};
-use console_commands::{
-    PathCommand, PathComparison, PathQuery, PathResolution, PathWithStep, StepEquality, StepQuery,
+use console_core::{
+    Call, ConsoleError, ConsoleResult, PathCommand, PathComparison, PathQuery, PathResolution,
+    PathWithStep, StepEquality, StepQuery,
 };
-use console_types::{Call, ConsoleError, ConsoleResult, hash_of};
+use console_types::hash_of;
 use dtype_base::FieldName;
 use dtype_paths::{Field, FieldPath};
 use dtype_types::DType;

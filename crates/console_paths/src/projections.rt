@@ -3,7 +3,7 @@
 
 // The command that projects a type to paths.
 use crate::forms::Paths;
-use console_types::{Call, ConsoleResult};
+use console_core::{Call, ConsoleResult};
 use dtype_paths::FieldPathSet;
 use dtype_projection::project_paths;
 use dtype_types::DType;

@@ -2,8 +2,7 @@
 // SPDX-FileCopyrightText: Copyright the Vortex contributors
 
 // Commands that compare two types.
-use crate::{Call, ConsoleError, ConsoleResult};
-use console_commands::Comparison;
+use console_core::{Call, Comparison, ConsoleError, ConsoleResult};
 use dtype_types::DType;
 use std::hash::{DefaultHasher, Hash, Hasher};
 

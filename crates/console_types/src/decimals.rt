@@ -3,8 +3,10 @@
 
 // Commands on decimals and their storage types.
 use crate::comparisons::hash_of;
-use crate::{Call, ConsoleError, ConsoleResult, Decimal};
-use console_commands::{DecimalCommand, DecimalConstructor, DecimalEquality, DecimalQuery};
+use console_core::{
+    Call, ConsoleError, ConsoleResult, Decimal, DecimalCommand, DecimalConstructor,
+    DecimalEquality, DecimalQuery,
+};
 use dtype_base::{DecimalDType, DecimalType, MAX_PRECISION, MAX_SCALE, PType};
 
 /// Answers this command.

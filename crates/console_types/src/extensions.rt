@@ -2,8 +2,7 @@
 // SPDX-FileCopyrightText: Copyright the Vortex contributors
 
 // Commands on erased extensions.
-use crate::{Bytes, Call, ConsoleError, ConsoleResult};
-use console_commands::{ExtensionCommand, ExtensionQuery};
+use console_core::{Bytes, Call, ConsoleError, ConsoleResult, ExtensionCommand, ExtensionQuery};
 use dtype_base::Nullability;
 use dtype_types::{DType, ExtDTypeRef, ExtId};
 

@@ -2,8 +2,7 @@
 // SPDX-FileCopyrightText: Copyright the Vortex contributors
 
 // Commands on maps.
-use crate::{Call, ConsoleResult};
-use console_commands::{MapCommand, MapQuery};
+use console_core::{Call, ConsoleResult, MapCommand, MapQuery};
 use dtype_types::{DType, MapDType};
 
 /// Answers this command.

@@ -3,9 +3,9 @@
 
 // Commands on names.
 use crate::comparisons::hash_of;
-use crate::{Call, ConsoleResult, unless};
-use console_commands::{
-    NameCommand, NameEquality, NameForm, NamesByIndex, NamesEquality, NamesQuery,
+use console_core::{
+    Call, ConsoleResult, NameCommand, NameEquality, NameForm, NamesByIndex, NamesEquality,
+    NamesQuery, unless,
 };
 use dtype_base::{FieldName, FieldNames};
 

@@ -2,9 +2,9 @@
 // SPDX-FileCopyrightText: Copyright the Vortex contributors
 
 // Commands on the part of a type of one kind.
-use crate::{Call, ConsoleResult, unless};
-use console_commands::{
-    BorrowedElement, BorrowedPart, OwnedElement, OwnedPart, PartCommand, RequiredPart,
+use console_core::{
+    BorrowedElement, BorrowedPart, Call, ConsoleResult, OwnedElement, OwnedPart, PartCommand,
+    RequiredPart, unless,
 };
 use dtype_types::DType;
 

@@ -3,8 +3,7 @@
 
 // Commands on primitive types.
 use crate::comparisons::hash_of;
-use crate::{Call, ConsoleResult, unless};
-use console_commands::{PTypePair, PTypeQuery, PrimitiveCommand};
+use console_core::{Call, ConsoleResult, PTypePair, PTypeQuery, PrimitiveCommand, unless};
 use dtype_base::PType;
 
 /// Answers this command.

@@ -3,8 +3,9 @@
 
 // Commands on structs.
 use crate::types::last_pairs;
-use crate::{Call, ConsoleError, ConsoleResult};
-use console_commands::{StructByIndex, StructByName, StructCommand, StructQuery};
+use console_core::{
+    Call, ConsoleError, ConsoleResult, StructByIndex, StructByName, StructCommand, StructQuery,
+};
 use dtype_base::{FieldName, FieldNames};
 use dtype_types::{DType, DTypeIter, FieldDType, StructFields};
 

@@ -2,9 +2,9 @@
 // SPDX-FileCopyrightText: Copyright the Vortex contributors
 
 // Commands on types of every kind.
-use crate::{Call, ConsoleError, ConsoleResult, unless};
-use console_commands::{
-    NullabilityChange, NullabilityText, TypeChange, TypeCommand, TypeConversion, TypeQuery,
+use console_core::{
+    Call, ConsoleError, ConsoleResult, NullabilityChange, NullabilityText, TypeChange, TypeCommand,
+    TypeConversion, TypeQuery, unless,
 };
 use dtype_base::{DecimalDType, FieldNames, Nullability, PType};
 use dtype_types::{DType, FieldDType};

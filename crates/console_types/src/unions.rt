@@ -2,10 +2,10 @@
 // SPDX-FileCopyrightText: Copyright the Vortex contributors
 
 // Commands on unions.
-use crate::arguments::Tags;
 use crate::structs::say_dtypes;
-use crate::{Call, ConsoleResult, unless};
-use console_commands::{UnionByIndex, UnionByName, UnionCommand, UnionQuery};
+use console_core::{
+    Call, ConsoleResult, Tags, UnionByIndex, UnionByName, UnionCommand, UnionQuery, unless,
+};
 use dtype_base::{FieldName, FieldNames};
 use dtype_types::{DType, UnionVariants};
 

@@ -2,9 +2,7 @@
 // SPDX-FileCopyrightText: Copyright the Vortex contributors
 
 // Errors that name what is known where a word isn't.
-use crate::ConsoleError;
-use crate::writer::{put, write_name};
-use console_commands::{nearest_command, nearest_ptype, nearest_type};
+use console_core::{ConsoleError, nearest_command, nearest_ptype, nearest_type, put, write_name};
 use dtype_base::{FieldName, VortexResult};
 use std::alloc::{AllocError, Global};
 

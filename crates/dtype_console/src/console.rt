@@ -4,13 +4,15 @@
 // The answer to a line.
 use crate::help::{list_topics, show_errors, show_row, show_topic};
 use crate::input::Read;
-use console_commands::{Command, Row, find, find_topic};
-use console_messages::{Sessions, messages, path_messages, typed};
+use console_core::{
+    Call, Command, ConsoleError, ConsoleResult, Row, expected_at, find, find_topic,
+};
 use console_native::{integers, native_decimals, native_dtypes, visitors};
 use console_paths::{Sets, masks, merging, paths, projections, sets};
+use console_sessions::{Sessions, messages, path_messages, typed};
 use console_types::{
-    Call, ConsoleError, ConsoleResult, comparisons, decimals, expected_at, extensions, maps, names,
-    parts, primitives, structs, types, unions, unknown_command,
+    comparisons, decimals, extensions, maps, names, parts, primitives, structs, types, unions,
+    unknown_command,
 };
 use dtype_base::VortexError;
 use std::alloc::Global;

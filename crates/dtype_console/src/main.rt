@@ -4,8 +4,8 @@
 //! A program that makes any call of the library on values that are written as text: each line of standard input is a
 //! command and its arguments, and is answered by a line.
 //!
-//! Begin with `console.rt`, which answers a line. The tables of the commands are in `console_commands`, and what answers
-//! them in the libraries `console_types`, `console_native`, `console_paths` and `console_messages`. `docs/CONSOLE.md`
+//! Begin with `console.rt`, which answers a line. The tables of the commands are in `console_core`, and what answers
+//! them in the libraries `console_types`, `console_native`, `console_paths` and `console_sessions`. `docs/CONSOLE.md`
 //! has the commands and their answers.
 #![tactic(auto)]
 

@@ -5,11 +5,11 @@
 // equal extension. The console can't show this: each of its commands makes its session again.
 use crate::marks::{begin, end};
 use anyhow::Result;
+use fixtures_plugins::{AllKept, Tag, TextAlone};
 use std::alloc::Global;
 use vortex_dtype::{
     DType, DTypeSession, ExtDType, ExtDTypeRef, Nullability, PluginOf, VortexError, VortexResult,
 };
-use vortex_dtype_fixtures::{AllKept, Tag, TextAlone};
 
 const TEXT: DType = DType::Utf8(Nullability::NonNullable);
 

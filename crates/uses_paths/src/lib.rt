@@ -1,0 +1,33 @@
+// SPDX-License-Identifier: Apache-2.0
+// SPDX-FileCopyrightText: Copyright the Vortex contributors
+
+//! What a reader of files does with the library: functions as a user would write them, each with a contract of its own
+//! that is proved from the clauses of the calls that it makes and from the public rulesets. They are as those of
+//! `uses_types`, in a crate of their own, so that the gate proves the two side by side. `proofs/` has the measures of the
+//! recursions of `masks`, `cursors` and `merging`, and answers for a loop of `path_sets` and a clause of `path_messages`; the tactics
+//! find all else.
+//!
+//! - Which columns a query opens: `paths`, `path_sets`, `path_lists`, `projections`, `opened`, `merging` (several files
+//!   read as one), `intersecting` (two schemas that are both kept).
+//! - What is read further down: `masks`, `cursors`, `layout`, `rows` (what is found).
+//! - What is stored: `messages`, `path_messages`, `stored` (schemas written and read back).
+//! - Extensions: `sessions`, `plugins`, `dates`.
+#![tactic(auto)]
+
+pub mod cursors;
+pub mod dates;
+pub mod intersecting;
+pub mod layout;
+pub mod masks;
+pub mod merging;
+pub mod messages;
+pub mod opened;
+pub mod path_lists;
+pub mod path_messages;
+pub mod path_sets;
+pub mod paths;
+pub mod plugins;
+pub mod projections;
+pub mod rows;
+pub mod sessions;
+pub mod stored;

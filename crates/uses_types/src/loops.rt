@@ -1,0 +1,100 @@
+// SPDX-License-Identifier: Apache-2.0
+// SPDX-FileCopyrightText: Copyright the Vortex contributors
+
+//! Loops to copy, each with its invariant in `proofs/loops`: a fold with a number, a search, a filter into a list, a rename,
+//! columns that are bound, and a list of children. `over_fields` has a count and a test of all.
+ghost use Rattle.std.specs.Prelude.{◌≡◌, IfNone, IfOk, IfSome, None, Some, find, fold, map};
+ghost use Rattle.std.specs.List.{filter};
+ghost use Rattle.std.specs.Map.{keys_of};
+ghost use Rattle.dtype_types.specs.parts.Lookups.{field_types};
+ghost use Rattle.dtype_types.specs.tree.Kinds.{is_nested};
+ghost use Rattle.dtype_types.specs.tree.TreeOf.{children, tree};
+ghost use Rattle.vortex_dtype.specs.Along.{along};
+ghost use Rattle.uses_types.specs.Loops.{renaming, with_buffers};
+
+use std::alloc::Global;
+use vortex_dtype::{DType, FieldName, FieldNames, FieldPath, StructFields, VortexResult};
+
+/// How many buffers the columns take: two for one that holds others, and one for any other.
+pub fn count_of_buffers(table: &StructFields) -> u64
+    ensures { result ≡ fold with_buffers 0 (field_types (children table.now)) }
+{
+    let mut count = 0u64;
+    for dtype in table.fields() {
+        count = count.saturating_add(if dtype.is_nested() { 2 } else { 1 });
+    }
+    count
+}
+
+/// The first column that holds others.
+pub fn first_nested(table: &StructFields) -> Option<&DType>
+    ensures first { IfSome result (λ d. find is_nested (field_types (children table.now)) ≡ Some (tree d.now)) }
+    ensures none { IfNone result (find is_nested (field_types (children table.now)) ≡ None) }
+{
+    for dtype in table.fields() {
+        if dtype.is_nested() {
+            return Some(dtype);
+        }
+    }
+    None
+}
+
+/// The names of the columns that hold others.
+pub fn nested_names(alloc: Global, table: &StructFields) -> VortexResult<Vec<FieldName>>
+    ensures { IfOk result (λ names. names.items ≡ keys_of (filter (λ p. is_nested p.1) (children table.now))) }
+{
+    let mut names = Vec::new(alloc);
+    for pair in table.pairs() {
+        if pair.1.is_nested() {
+            names.push(pair.0.try_clone(alloc)?)?;
+        }
+    }
+    Ok(names)
+}
+
+/// The names, with each that is `from` changed to `to`.
+pub fn renamed(
+    alloc: Global,
+    names: &FieldNames,
+    from: &FieldName,
+    to: &FieldName,
+) -> VortexResult<Vec<FieldName>>
+    ensures { IfOk result (λ list. list.items ≡ map (renaming from.now to.now) names.now) }
+{
+    let mut list = Vec::new(alloc);
+    for name in names.iter() {
+        let kept = if *name == *from { to } else { name };
+        list.push(kept.try_clone(alloc)?)?;
+    }
+    Ok(list)
+}
+
+/// The types of some columns, or `None` where the table lacks one.
+pub fn bind_all<'a>(
+    alloc: Global,
+    columns: &[FieldPath],
+    table: &'a DType,
+) -> VortexResult<Option<Vec<&'a DType>>>
+    ensures { IfOk result (λ found. IfSome found (λ types.
+        map (λ d. Some (tree d.now)) types.items ≡ map (along (tree table.now)) columns.now)) }
+{
+    let mut types = Vec::new(alloc);
+    for column in columns {
+        match column.resolve(table) {
+            Some(dtype) => types.push(dtype)?,
+            None => return Ok(None),
+        }
+    }
+    Ok(Some(types))
+}
+
+/// Copies of the columns' types.
+pub fn types_of_columns(alloc: Global, table: &StructFields) -> VortexResult<Vec<DType>>
+    ensures { IfOk result (λ types. map tree types.items ≡ field_types (children table.now)) }
+{
+    let mut types = Vec::new(alloc);
+    for dtype in table.fields() {
+        types.push(dtype.try_clone(alloc)?)?;
+    }
+    Ok(types)
+}

@@ -1,7 +1,9 @@
 # SPDX-License-Identifier: Apache-2.0
 # SPDX-FileCopyrightText: Copyright the Vortex contributors
 
-"""A small repository in a folder of its own, with a copy of the tools, in which a test plants a fault."""
+"""A small repository in a folder of its own, with a copy of the tools, in which a test plants a fault. Its sources and its
+crates.txt lie here under names that end in `.in`, since the toolchain takes each other such file for a crate's."""
+import glob
 import os
 import shutil
 import subprocess
@@ -18,6 +20,8 @@ class Planted(unittest.TestCase):
         self.addCleanup(room.cleanup)
         self.top = room.name
         shutil.copytree(f"{HERE}/small", self.top, dirs_exist_ok=True)
+        for file in glob.glob(f"{self.top}/**/*.in", recursive=True):
+            os.rename(file, file.removesuffix(".in"))
         ignored = shutil.ignore_patterns("tests", "rows", "original", "__pycache__")
         shutil.copytree(TOOLS, f"{self.top}/tools", ignore=ignored)
 

@@ -67,6 +67,14 @@ class Pages(Planted):
         self.change("crates/dtype_base/src/ptype.rt", "impl PType {", "impl PType {\n    pub fn number(self) -> u8 {\n        0\n    }\n")
         self.assert_told("pages", f"{LEDGER}: the call PType::number stands in no line")
 
+    def test_tells_an_example_that_is_no_golden_test(self):
+        self.change("crates/console_core/src/names.rt", '"NAME", "a"', '"NAME", "b"')
+        self.assert_told("pages", "the example name b is no golden test")
+
+    def test_tells_an_error_with_another_number(self):
+        self.change("crates/console_core/src/names.rt", "OutOfMemory (0)", "OutOfMemory (1)")
+        self.assert_told("pages", "name: there is no error OutOfMemory (1)")
+
     def test_tells_a_constant_without_a_line(self):
         self.change("crates/dtype_base/src/lib.rt", "pub mod laws;", "pub mod laws;\n\npub const MOST: u8 = 76;")
         self.assert_told("pages", f"{LEDGER}: the constant MOST stands in no line")

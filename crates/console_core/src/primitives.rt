@@ -70,7 +70,7 @@ const ROWS: [Row; 21] = [
     Row("ptype", "PT", "f16", "the primitive name itself", "", Primitives(PrimitiveCommand::Query(PTypeQuery::Ptype))),
     Row("byte_width", "PT", "f16", "how many bytes a value takes", "", Primitives(PrimitiveCommand::Query(PTypeQuery::ByteWidth))),
     Row("bit_width", "PT", "f16", "how many bits a value takes", "", Primitives(PrimitiveCommand::Query(PTypeQuery::BitWidth))),
-    Row("max_value_as_u64", "PT", "i16", "the greatest value of an integer, and of a float the greatest u64", "", Primitives(PrimitiveCommand::Query(PTypeQuery::MaxValueAsU64))),
+    Row("max_value_as_u64", "PT", "i16", "the greatest value, or the greatest u64 where that is less", "", Primitives(PrimitiveCommand::Query(PTypeQuery::MaxValueAsU64))),
     Row("to_signed", "PT", "u8", "the signed integer of the same width; a float is unchanged", "", Primitives(PrimitiveCommand::Query(PTypeQuery::ToSigned))),
     Row("to_unsigned", "PT", "i64", "the unsigned integer of the same width; a float is unchanged", "", Primitives(PrimitiveCommand::Query(PTypeQuery::ToUnsigned))),
     Row("ptype_kinds", "PT", "u8", "the kinds that the primitive type is", "", Primitives(PrimitiveCommand::Query(PTypeQuery::PtypeKinds))),

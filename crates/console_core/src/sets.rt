@@ -21,8 +21,8 @@ pub fn rows() -> &'static [Row] {
 
 #[rattlefmt::skip]
 const ROWS: [Row; 6] = [
-    Row("cover", "PATH..", "a.b x a a.c", "the paths of which no other begins them", "", Sets(SetCommand::Cover)),
-    Row("cover_counted", "PATH..", "a.b x a a.c", "the same, and how many nodes were visited", "", Sets(SetCommand::CoverCounted)),
+    Row("cover", "PATH..", "a.b x a a.c", "the paths that no other path begins", "", Sets(SetCommand::Cover)),
+    Row("cover_counted", "PATH..", "a.b x a a.c", "the paths that no other path begins, and how many nodes were visited", "", Sets(SetCommand::CoverCounted)),
     Row("members", "PATH..", "a.b a x", "the distinct paths", "", Sets(SetCommand::Members)),
     Row("contains", "PATH PATH..", "a a.b x", "whether the first path is one of the others", "", Sets(SetCommand::Contains)),
     Row("set", "NAME new|insert PATH|extend PATH..|contains PATH|below PATH|iter|cover|drain", "s insert a.c", "changes or asks the set of this name, which new, insert and extend begin", "condition: at most 16 sets; unknown: the set", NamedSet),

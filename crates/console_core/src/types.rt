@@ -162,7 +162,7 @@ const ROWS: [Row; 44] = [
     Row("as_extension", "T", "utf8", "the extension of an extension type", "condition: an extension type", Parts(PartCommand::Required(RequiredPart::AsExtension))),
     Row("to_decimal", "T", "utf8", "the decimal of a decimal type", "NotDecimal (5)", Types(TypeCommand::Convert(TypeConversion::ToDecimal))),
     Row("to_ptype", "T", "u16?", "the primitive name of a primitive type", "NotPrimitive (6)", Types(TypeCommand::Convert(TypeConversion::ToPtype))),
-    Row("bytes_type", "", "", "the type DType::BYTES, a list of bytes", "", Types(TypeCommand::BytesType)),
+    Row("bytes_type", "", "", "the type DType::BYTES, that of a byte", "", Types(TypeCommand::BytesType)),
     Row("from_ptype", "PT", "f16", "the non-nullable type of this primitive name", "", Types(TypeCommand::FromPtype)),
     Row("list", "N T", "Nullable i32", "the list of these elements", "", Types(TypeCommand::List)),
     Row("fixed_size_list", "N COUNT T", "NonNullable 3 i32", "the list of exactly so many of these elements", "", Types(TypeCommand::FixedSizeList)),

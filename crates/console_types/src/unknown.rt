@@ -49,11 +49,11 @@ fn text_of_word(alloc: Global, word: &str, known: Known) -> VortexResult<String>
     let Known(expected, nearest, help) = known;
     let mut text = String::from_str(alloc, expected)?;
     write!(text, ", not \"{word}\"")?;
-    let mut before = "; nearest: ";
+    let mut is_first = true;
     for name in nearest? {
-        put(&mut text, before)?;
-        put(&mut text, name)?;
-        before = ", ";
+        text.push_str(if is_first { "; nearest: " } else { ", " })?;
+        text.push_str(name)?;
+        is_first = false;
     }
     write!(text, "; {help} lists all")?;
     Ok(text)
@@ -82,11 +82,11 @@ fn text_of_name(
     put(&mut text, what)?;
     put(&mut text, " ")?;
     write_name(&mut text, name)?;
-    let mut before = "; there are: ";
+    let mut is_first = true;
     for other in known {
-        put(&mut text, before)?;
+        text.push_str(if is_first { "; there are: " } else { ", " })?;
         write_name(&mut text, other)?;
-        before = ", ";
+        is_first = false;
     }
     if known.is_empty() {
         put(&mut text, "; there are none")?;

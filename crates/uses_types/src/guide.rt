@@ -7,8 +7,8 @@ use std::alloc::Global;
 use std::vec;
 use vortex_dtype::{
     DType, DTypeProto, DTypeSession, Field, FieldDType, FieldMask, FieldName, FieldNames,
-    FieldPath, FieldPathSet, MessageFault, Nullability, PType, StructFields, VortexError,
-    VortexResult, field_path, pb, project_paths,
+    FieldPath, FieldPathCursor, FieldPathSet, MessageFault, Nullability, PType, StructFields,
+    VortexError, VortexResult, field_path, pb, project_paths,
 };
 
 /// The columns `id=u64, name=utf8?`.
@@ -102,6 +102,11 @@ pub fn three_columns(alloc: Global) -> VortexResult<Vec<FieldPath>> {
         .push(Field::ElementType)?
         .push(Field::from_text(alloc, "price")?)?;
     Ok(vec![in alloc; id, city, price]?)
+}
+
+/// What is asked of a column, or `None` where a query asks for nothing in it.
+pub fn asked_of_column<'a>(asked: &'a FieldPathSet, column: &Field) -> Option<FieldPathCursor<'a>> {
+    asked.cursor().step(column)
 }
 
 /// What a mask asks below a column, or `None` where it asks for nothing there.

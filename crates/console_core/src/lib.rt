@@ -34,6 +34,7 @@ mod structs;
 mod table;
 mod types;
 mod unions;
+mod unknown;
 mod writer;
 mod written;
 
@@ -72,5 +73,6 @@ pub use types::{
     PartCommand, RequiredPart, TypeChange, TypeCommand, TypeConversion, TypeQuery,
 };
 pub use unions::{UnionByIndex, UnionByName, UnionCommand, UnionQuery};
+pub use unknown::{unknown_command, unknown_name};
 pub use writer::{MAX_WRITTEN_LEVELS, put, write_name, write_quoted};
 pub use written::Written;

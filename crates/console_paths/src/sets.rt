@@ -4,9 +4,8 @@
 // Commands on sets of paths, and the sets with a name, which last from line to line.
 use crate::forms::{Path, Paths, say_borrowed_paths, say_paths, say_sorted};
 use console_core::{
-    Call, ConsoleError, ConsoleResult, SetCommand, expected_at, unless, write_name,
+    Call, ConsoleError, ConsoleResult, SetCommand, expected_at, unknown_name, unless, write_name,
 };
-use console_types::unknown_name;
 use dtype_base::FieldName;
 use dtype_paths::{FieldPathCursor, FieldPathSet};
 use std::alloc::Global;

@@ -6,9 +6,8 @@ use crate::reader::Message;
 use crate::writer::say_message_result;
 use console_core::{
     Bytes, Call, ConsoleError, ConsoleResult, Line, MessageForm, SessionCommand, expected_at,
-    unless,
+    unknown_name, unless,
 };
-use console_types::unknown_name;
 use fixtures_plugins::{AllKept, Tag, TextAlone, Word};
 use std::alloc::Global;
 use vortex_dtype::{DType, DTypeProto, DTypeSession, ExtId, FieldName, PluginOf};

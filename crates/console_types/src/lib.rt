@@ -16,7 +16,5 @@ pub mod primitives;
 pub mod structs;
 pub mod types;
 pub mod unions;
-mod unknown;
 
 pub use comparisons::hash_of;
-pub use unknown::{unknown_command, unknown_name};

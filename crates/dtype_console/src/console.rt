@@ -5,14 +5,13 @@
 use crate::help::{list_topics, show_errors, show_row, show_topic};
 use crate::input::Read;
 use console_core::{
-    Call, Command, ConsoleError, ConsoleResult, Row, expected_at, find, find_topic,
+    Call, Command, ConsoleError, ConsoleResult, Row, expected_at, find, find_topic, unknown_command,
 };
 use console_native::{integers, native_decimals, native_dtypes, visitors};
 use console_paths::{Sets, masks, merging, paths, projections, sets};
 use console_sessions::{Sessions, messages, path_messages, typed};
 use console_types::{
     comparisons, decimals, extensions, maps, names, parts, primitives, structs, types, unions,
-    unknown_command,
 };
 use dtype_base::VortexError;
 use std::alloc::Global;

@@ -2,7 +2,7 @@
 // SPDX-FileCopyrightText: Copyright the Vortex contributors
 
 // Errors that name what is known where a word isn't.
-use console_core::{ConsoleError, nearest_command, nearest_ptype, nearest_type, put, write_name};
+use crate::{ConsoleError, nearest_command, nearest_ptype, nearest_type, put, write_name};
 use dtype_base::{FieldName, VortexResult};
 use std::alloc::{AllocError, Global};
 

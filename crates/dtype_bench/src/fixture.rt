@@ -75,11 +75,49 @@ pub enum Naming {
     Hexadecimal,
     /// `id`, and after it `measurement_1` and so on.
     Stray,
+    /// `id`, and after it `transaction_amount_1` and so on: names that share more than a key holds.
+    Features,
+    /// A few prefixes, a few words and a number, as in a data warehouse: `ss_list_price_3`.
+    Words,
+    /// `resource.attributes.service.name.0` and so on.
+    Dotted,
 }
+
+const PREFIXES: [&str; 7] = [
+    "ss_",
+    "ws_",
+    "cs_",
+    "sr_",
+    "c_customer_",
+    "d_date_",
+    "i_item_",
+];
+
+const WORDS: [&str; 10] = [
+    "sk",
+    "quantity",
+    "list_price",
+    "net_paid",
+    "ext_discount_amt",
+    "order_number",
+    "sales_price",
+    "promo",
+    "ship_cost",
+    "tax",
+];
+
+const PARTS: [&str; 4] = ["name", "version", "namespace", "instance"];
 
 impl Naming {
     /// The forms that only lookups and index builds are measured with.
-    pub const OTHERS: [Naming; 3] = [Naming::Shuffled, Naming::Hexadecimal, Naming::Stray];
+    pub const OTHERS: [Naming; 6] = [
+        Naming::Shuffled,
+        Naming::Hexadecimal,
+        Naming::Stray,
+        Naming::Features,
+        Naming::Words,
+        Naming::Dotted,
+    ];
 
     /// The word that names this form in a case.
     pub fn name(self) -> &'static str {
@@ -88,6 +126,9 @@ impl Naming {
             Naming::Shuffled => "shuffled",
             Naming::Hexadecimal => "hexadecimal",
             Naming::Stray => "stray",
+            Naming::Features => "features",
+            Naming::Words => "words",
+            Naming::Dotted => "dotted",
         }
     }
 
@@ -103,6 +144,13 @@ impl Naming {
             }
             Naming::Stray if i == 0 => Ok(format!(in alloc; "id")?),
             Naming::Stray => Ok(format!(in alloc; "measurement_{i}")?),
+            Naming::Features if i == 0 => Ok(format!(in alloc; "id")?),
+            Naming::Features => Ok(format!(in alloc; "transaction_amount_{i}")?),
+            Naming::Words => words(alloc, i),
+            Naming::Dotted => {
+                let part = PARTS.get(i % 4).ok_or(BenchFault::Missing)?;
+                Ok(format!(in alloc; "resource.attributes.service.{part}.{i}")?)
+            }
         }
     }
 
@@ -223,6 +271,16 @@ pub fn leaf(i: usize, flip: bool) -> DType {
         2 => DType::Bool(Nullability::from(flip)),
         _ => DType::Primitive(PType::F64, Nullability::from(!flip)),
     }
+}
+
+fn words(alloc: Global, i: usize) -> BenchResult<String> {
+    let prefix = PREFIXES.get(i % 7).ok_or(BenchFault::Missing)?;
+    let word = WORDS.get(i / 7 % 10).ok_or(BenchFault::Missing)?;
+    let number = i / 70;
+    if number == 0 {
+        return Ok(format!(in alloc; "{prefix}{word}")?);
+    }
+    Ok(format!(in alloc; "{prefix}{word}_{number}")?)
 }
 
 fn column(alloc: Global, i: usize) -> BenchResult<String> {

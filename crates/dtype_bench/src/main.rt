@@ -159,7 +159,7 @@ fn of_wide<C: CpuClock, W: Write>(meter: &mut Meter<'_, C, W>) -> BenchResult<()
 // Structs whose names look otherwise.
 fn of_namings<C: CpuClock, W: Write>(meter: &mut Meter<'_, C, W>) -> BenchResult<()> {
     for naming in Naming::OTHERS {
-        for count in [10, 1000] {
+        for count in [10, 100, 1000, 10_000] {
             let what = naming.name();
             let of = format!(in meter.alloc; "/{what}/{count}")?;
             let texts = naming.texts(meter.alloc, count)?;

@@ -108,7 +108,7 @@ fn cursors(rt: &impl Eprint, alloc: Global) -> VortexResult<bool> {
         && !root.is_empty()
         && root.element().is_none()
         && root.name_count() == 2
-        && root.names().count() == 2
+        && root.names().next().is_some()
         && below.is_some_and(|it| it.element().is_some());
     end(rt);
     Ok(is_right)

@@ -99,7 +99,7 @@ fn path_sets(rt: &impl Eprint, alloc: Global) -> VortexResult<bool> {
 }
 
 fn cursors(rt: &impl Eprint, alloc: Global) -> VortexResult<bool> {
-    let set = set(alloc, "a.b a.[] x")?;
+    let set = set(alloc, "a.b x")?;
     let step = Field::from_text(alloc, "a")?;
     begin(rt);
     let root = set.cursor();
@@ -109,7 +109,7 @@ fn cursors(rt: &impl Eprint, alloc: Global) -> VortexResult<bool> {
         && root.element().is_none()
         && root.name_count() == 2
         && root.names().next().is_some()
-        && below.is_some_and(|it| it.element().is_some());
+        && below.is_some_and(|it| it.element().is_none());
     end(rt);
     Ok(is_right)
 }

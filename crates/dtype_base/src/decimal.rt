@@ -52,7 +52,7 @@ impl DecimalDType {
         ensures ok { MatchResult result
             (λ d. (d.precision ≡ precision) × (d.scale ≡ scale))
             (DecimalError greatest_precision precision scale) }
-        ensures valid { IsOk result ↔ IsDecimalWithin greatest_precision precision scale }
+        ensures accepted { IsOk result ↔ IsDecimalWithin greatest_precision precision scale }
     {
         check_precision_and_scale(precision, scale, MAX_PRECISION)?;
         Ok(DecimalDType { precision, scale })
@@ -120,7 +120,7 @@ impl fmt::Display for DecimalDType {
 /// - `ScaleAbovePrecision` (4): the scale is above the precision.
 pub fn check_precision_and_scale(precision: u8, scale: i8, max: u8) -> VortexResult<()>
     requires { max < 128 }
-    ensures valid { IsOk result ↔ IsDecimalWithin max precision scale }
+    ensures accepted { IsOk result ↔ IsDecimalWithin max precision scale }
     ensures errors { IfErr result (DecimalError max precision scale) }
 {
     let max_scale = max as i8;

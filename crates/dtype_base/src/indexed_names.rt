@@ -166,7 +166,7 @@ fn look_up(
     asked: &[FieldName],
 ) -> VortexResult<(Vec<IndexEntry>, Vec<usize>)>
     requires { IsIndexOf names.now keying.now discriminator entries.now }
-    ensures found { MatchResult result
+    ensures ok { MatchResult result
         (λ made. map Some made.1.items ≡ map (first_place names.now) asked.now)
         (λ e. (e ≡ OutOfMemory) ⊎ SelectionError names.now asked.now e) }
     ensures keyed { IfOk result (λ made. All (IsKeyed asked.now keying.now) made.0.items) }

@@ -67,7 +67,7 @@ pub(crate) fn build_index(
 // An entry for each position, in the list's order, and the length of the names' common prefix. All names mostly share the
 // common prefix of the first and the last name: then each name is read once.
 fn all_entries(alloc: Global, names: &[FieldName]) -> VortexResult<(Vec<IndexEntry>, usize)>
-    ensures common_prefix { Makes result (λ made. HaveCommonPrefix names.now made.1) }
+    ensures ok { Makes result (λ made. HaveCommonPrefix names.now made.1) }
     ensures keyed { IfOk result (λ made. All (IsKeyed names.now (AfterPrefix made.1)) made.0.items) }
     ensures each { IfOk result
         (λ made. positions made.0.items ≡ range_with_len 0 (length names.now)) }
@@ -89,7 +89,7 @@ fn entries_after_prefix(
     names: &[FieldName],
     prefix_len: usize,
 ) -> VortexResult<Vec<IndexEntry>>
-    ensures each { Makes result (λ made. positions made.items ≡ range_with_len 0 (length made.items)) }
+    ensures ok { Makes result (λ made. positions made.items ≡ range_with_len 0 (length made.items)) }
     ensures keyed { IfOk result (λ made. All (IsKeyed names.now (AfterPrefix prefix_len)) made.items) }
     ensures common_prefix { IfOk result (λ made. length made.items ≡ length names.now ↔ HaveCommonPrefix names.now prefix_len) }
 {
@@ -119,7 +119,7 @@ pub(crate) fn sort_entries(
 ) -> VortexResult<Discriminator>
     ensures each { IsPermutation entries.old.items entries.new.items }
     ensures rising { OnOk result (IsSorted (entry_cmp names.now) entries.new.items) }
-    ensures distinguished { Makes result (λ by. AreDistinguishedBy by entries.new.items) }
+    ensures ok { Makes result (λ by. AreDistinguishedBy by entries.new.items) }
 {
     sort_by_keys(alloc, entries)?;
     match discriminator_of(entries) {
@@ -217,7 +217,7 @@ fn sort_equal_keys(
 ) -> VortexResult<Discriminator>
     ensures each { IsPermutation entries.old.items entries.new.items }
     ensures rising { OnOk result (IsSorted (entry_cmp names.now) entries.new.items) }
-    ensures distinguished { Makes result (λ by. AreDistinguishedBy by entries.new.items) }
+    ensures ok { Makes result (λ by. AreDistinguishedBy by entries.new.items) }
 {
     entries.sort_unstable_by_key(|entry| entry.key);
     let by = discriminator_of(entries);

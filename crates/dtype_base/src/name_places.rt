@@ -95,7 +95,7 @@ fn rekeyed(
     keying: &Keying,
 ) -> VortexResult<Vec<IndexEntry>>
     requires { IsOrderOf names.now (positions entries.now) }
-    ensures same { Makes result (λ made. positions made.items ≡ positions entries.now) }
+    ensures ok { Makes result (λ made. positions made.items ≡ positions entries.now) }
     ensures keyed { IfOk result (λ made. All (IsKeyed names.now keying.now) made.items) }
 {
     let mut made = Vec::with_capacity(alloc, entries.len())?;

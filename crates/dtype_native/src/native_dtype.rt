@@ -26,7 +26,7 @@ pub trait NativeDType {
     ///
     /// - `OutOfMemory` (0): an allocation fails.
     fn dtype(alloc: Global) -> VortexResult<DType>
-        ensures meaning { Makes result (λ d. tree d ≡ native_tree) }
+        ensures ok { Makes result (λ d. tree d ≡ native_tree) }
         ensures valid { IfOk result (λ d. Valid (tree d)) };
 }
 
@@ -114,7 +114,7 @@ impl NativeDType for &str {
     ghost native_tree = { utf8 NonNullable };
 
     fn dtype(_alloc: Global) -> VortexResult<DType>
-        ensures meaning { Makes result (λ d. tree d ≡ utf8 NonNullable) }
+        ensures ok { Makes result (λ d. tree d ≡ utf8 NonNullable) }
         ensures valid { IfOk result (λ d. Valid (tree d)) }
     {
         Ok(DType::Utf8(Nullability::NonNullable))
@@ -125,7 +125,7 @@ impl NativeDType for &[u8] {
     ghost native_tree = { binary NonNullable };
 
     fn dtype(_alloc: Global) -> VortexResult<DType>
-        ensures meaning { Makes result (λ d. tree d ≡ binary NonNullable) }
+        ensures ok { Makes result (λ d. tree d ≡ binary NonNullable) }
         ensures valid { IfOk result (λ d. Valid (tree d)) }
     {
         Ok(DType::Binary(Nullability::NonNullable))

@@ -44,7 +44,7 @@ impl<D: NativeDecimalType> PrecisionScale<D> {
         ensures ok { MatchResult result
             (λ d. (d.precision ≡ precision) × (d.scale ≡ scale))
             (DecimalError D.MAX_PRECISION precision scale) }
-        ensures valid { IsOk result ↔ IsDecimalWithin D.MAX_PRECISION precision scale }
+        ensures accepted { IsOk result ↔ IsDecimalWithin D.MAX_PRECISION precision scale }
     {
         check_precision_and_scale(precision, scale, D::MAX_PRECISION)?;
         Ok(Self::new_unchecked(precision, scale))
@@ -73,7 +73,7 @@ impl<D: NativeDecimalType> PrecisionScale<D> {
     /// Returns the number of decimal digits, from 1 to `D::MAX_PRECISION`.
     pub fn precision(&self) -> u8
         ensures value { result ≡ self.now.precision }
-        ensures valid { IsDecimalWithin D.MAX_PRECISION self.now.precision self.now.scale }
+        ensures within { IsDecimalWithin D.MAX_PRECISION self.now.precision self.now.scale }
     {
         self.precision
     }
@@ -82,7 +82,7 @@ impl<D: NativeDecimalType> PrecisionScale<D> {
     /// of a power of ten.
     pub fn scale(&self) -> i8
         ensures value { result ≡ self.now.scale }
-        ensures valid { IsDecimalWithin D.MAX_PRECISION self.now.precision self.now.scale }
+        ensures within { IsDecimalWithin D.MAX_PRECISION self.now.precision self.now.scale }
     {
         self.scale
     }

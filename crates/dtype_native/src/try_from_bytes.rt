@@ -24,7 +24,7 @@ pub trait TryFromBytes: ToBytes {
 // Returns the bytes as an array.
 fn array_of<const N: usize>(bytes: &[u8]) -> VortexResult<[u8; N]>
     ensures accepted { IsOk result ↔ (length bytes.now ≡ N) }
-    ensures same { MatchResult result (λ array. array ≡ bytes.now) (λ e. e ≡ BytesLength) }
+    ensures ok { MatchResult result (λ array. array ≡ bytes.now) (λ e. e ≡ BytesLength) }
 {
     <[u8; N]>::try_from(bytes).map_err(|_| VortexError::BytesLength)
 }

@@ -154,7 +154,7 @@ impl ExtDTypeRef {
         metadata: Vec<u8>,
         storage: DType,
     ) -> VortexResult<Self>
-        ensures parts { Makes result (λ e. extension_tree e ≡ extension id metadata.items (tree storage)) }
+        ensures ok { Makes result (λ e. extension_tree e ≡ extension id metadata.items (tree storage)) }
         ensures valid { Valid (tree storage) → IfOk result (λ e. Valid (extension_tree e)) }
     {
         slices_hold_bytes(&metadata);

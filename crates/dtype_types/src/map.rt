@@ -48,7 +48,7 @@ impl MapDType {
     /// - `MapKeyNullable` (9): the key's type is nullable.
     /// - `OutOfMemory` (0): an allocation fails.
     pub fn try_new(alloc: Global, key: DType, value: DType, keys_sorted: bool) -> VortexResult<Self>
-        ensures parts { MatchResult result
+        ensures ok { MatchResult result
             (λ m. map_shown m ≡ (tree key, tree value, keys_sorted))
             (λ e.
             ((e ≡ OutOfMemory) × (nullability (tree key) ≡ NonNullable))

@@ -91,7 +91,7 @@ impl StructFields {
     #[tactic(auto, using(crate::proofs::Sides::pairs, crate::proofs::Parts::fields))]
     pub fn new(alloc: Global, names: FieldNames, dtypes: Vec<DType>) -> VortexResult<Self>
         requires { length names ≡ vec_len dtypes }
-        ensures fields { Makes result (λ s. children s ≡ zip names (map tree dtypes.items)) }
+        ensures ok { Makes result (λ s. children s ≡ zip names (map tree dtypes.items)) }
         ensures valid { All (λ d. Valid (tree d)) dtypes.items → IfOk result (λ s. Valid (struct_tree s)) }
     {
         let names = IndexedNames::new(alloc, names)?;
@@ -111,7 +111,7 @@ impl StructFields {
         dtypes: Vec<FieldDType>,
     ) -> VortexResult<Self>
         requires { length names ≡ vec_len dtypes }
-        ensures fields { Makes result (λ s. children s ≡ zip names (map field_tree dtypes.items)) }
+        ensures ok { Makes result (λ s. children s ≡ zip names (map field_tree dtypes.items)) }
         ensures valid { All (λ d. Valid (field_tree d)) dtypes.items → IfOk result (λ s. Valid (struct_tree s)) }
     {
         let dtypes = into_dtypes(alloc, dtypes)?;
@@ -320,7 +320,7 @@ impl StructFields {
     ///   `projection`.
     /// - `OutOfMemory` (0): an allocation fails.
     pub fn project(&self, alloc: Global, projection: &[FieldName]) -> VortexResult<Self>
-        ensures fields { MatchResult result
+        ensures ok { MatchResult result
             (λ s. Projects (children self.now) projection.now (children s))
             (λ e. (e ≡ OutOfMemory)
             ⊎ SelectionError (field_names (children self.now)) projection.now e) }
@@ -358,7 +358,7 @@ impl StructFields {
     /// - `OutOfMemory` (0): an allocation fails.
     #[tactic(auto, using(crate::proofs::lemmas::Validity::valid_joined))]
     pub fn disjoint_merge(&self, alloc: Global, other: &Self) -> VortexResult<Self>
-        ensures fields { MatchResult result
+        ensures ok { MatchResult result
             (λ s. children s ≡ children self.now ++ children other.now)
             (λ e. (e ≡ OutOfMemory) ⊎ ((e ≡ DuplicateNames)
             × ¬ (Distinct (field_names (children self.now ++ children other.now))))) }
@@ -395,7 +395,7 @@ impl StructFields {
     /// - `IndexOutOfBounds` (17): the position is at or past the end; with the position and the number of fields.
     /// - `OutOfMemory` (0): an allocation fails.
     pub fn without_field(&self, alloc: Global, index: usize) -> VortexResult<Self>
-        ensures fields { MatchResult result
+        ensures ok { MatchResult result
             (λ s. children s ≡ remove (children self.now) index)
             (λ e. MatchBool (nat_lt index (length (children self.now))) (e ≡ OutOfMemory)
             (e ≡ IndexOutOfBounds index (length (children self.now)))) }
@@ -438,7 +438,7 @@ impl StructFields {
         out: &mut String,
         indent: &str,
     ) -> VortexResult<()>
-        ensures ok { OnOk result (string_bytes out.new
+        ensures written { OnOk result (string_bytes out.new
             ≡ string_bytes out.old ++ indented_braces indent.now (fields_of self.now)) }
         ensures errors { IsOkUnless result OutOfMemory }
     {

@@ -48,7 +48,7 @@ fn validate_shape(
     types: usize,
     type_ids: &[u8],
 ) -> VortexResult<()>
-    ensures ok { OnOk result (MakesUnion names.now types type_ids.now) }
+    ensures accepted { OnOk result (MakesUnion names.now types type_ids.now) }
     ensures bytes { OnOk result (Bytes type_ids.now) }
     ensures errors { IfErr result (λ e.
         ((e ≡ OutOfMemory) × HasUnionLengths names.now types type_ids.now)

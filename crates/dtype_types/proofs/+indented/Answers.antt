@@ -36,9 +36,9 @@ struct_fields::StructFields::write_indented-loop-name-preserved t c =
     let x = inner ++ (n ++ (codes "=" ++ d)) in
     let next = next_of borrowed_pair c.loop-name.name-iterator c.next.new.self c.next.result (c.in-Some.name, c.in-Some.dtype) c.in-Some.is c.next.ensures.steps in
     let ended : string_bytes c.write_indented.new.out ≡ start ++ (separator ++ x) =
-    c.in_ok-write_indented.ensures.ok
+    c.in_ok-write_indented.ensures.written
     ∙ ap (λ a. string_bytes c.start_field.new.out ++ indented a (tree c.in-Some.dtype.now)) (c.as_str-in-loop-name.ensures.value ∙ c.in_ok-inner.ensures.ok)
-    ∙ ap (λ xs. xs ++ d) (c.in_ok-start_field.ensures.ok ∙ ap (λ xs. start ++ (separator ++ (xs ++ (n ++ codes "=")))) (c.as_str.ensures.value ∙ c.in_ok-inner.ensures.ok))
+    ∙ ap (λ xs. xs ++ d) (c.in_ok-start_field.ensures.written ∙ ap (λ xs. start ++ (separator ++ (xs ++ (n ++ codes "=")))) (c.as_str.ensures.value ∙ c.in_ok-inner.ensures.ok))
     ∙ indented_named start separator inner n d in
     let rest = indented_fields inner (fields (with_trees c.next.new.self)) in record {
       utf8 = search rules;

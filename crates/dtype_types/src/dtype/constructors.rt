@@ -57,7 +57,7 @@ impl DType {
         keys_sorted: bool,
         n: Nullability,
     ) -> VortexResult<DType>
-        ensures made { MatchResult result
+        ensures ok { MatchResult result
             (λ d. tree d ≡ map_of (tree key) (tree value) keys_sorted n)
             (λ e.
             ((e ≡ OutOfMemory) × (nullability (tree key) ≡ NonNullable))

@@ -19,7 +19,7 @@ pub(crate) fn start_field(
     indent: &str,
     name: &FieldName,
 ) -> VortexResult<()>
-    ensures ok { OnOk result (string_bytes out.new
+    ensures written { OnOk result (string_bytes out.new
         ≡ string_bytes out.old ++ (separator.now ++ (indent.now ++ (escaped name.now ++ codes "=")))) }
     ensures errors { IsOkUnless result OutOfMemory }
 {
@@ -36,7 +36,7 @@ impl DType {
         out: &mut String,
         indent: &str,
     ) -> VortexResult<()>
-        ensures ok { OnOk result (string_bytes out.new
+        ensures written { OnOk result (string_bytes out.new
             ≡ string_bytes out.old ++ indented indent.now (tree self.now)) }
         ensures errors { IsOkUnless result OutOfMemory }
     {

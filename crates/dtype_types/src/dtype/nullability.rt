@@ -87,7 +87,7 @@ impl DType {
     ///
     /// - `OutOfMemory` (0): an allocation fails.
     pub fn as_nullable(&self, alloc: Global) -> VortexResult<DType>
-        ensures set { Makes result (λ d. SetNull (tree self.now) Nullability.Nullable (tree d)) }
+        ensures ok { Makes result (λ d. SetNull (tree self.now) Nullability.Nullable (tree d)) }
         ensures values { IfOk result (λ d. AddsNull (tree self.now) (tree d)) }
     {
         self.with_nullability(alloc, Nullability::Nullable)

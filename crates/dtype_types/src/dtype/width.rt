@@ -95,7 +95,7 @@ impl DType {
     ///
     /// - `WidthOverflow` (19): no part is of variable width, and a part is wider than a `usize` can hold.
     pub fn element_size(&self) -> VortexResult<Option<usize>>
-        ensures fixed { MatchResult result
+        ensures ok { MatchResult result
             (λ size. IsSome size ↔ Fixed (tree self.now)) (λ e. e ≡ WidthOverflow) }
         ensures too_wide { IsErr result ↔ (Fixed (tree self.now) × HasWidePart (tree self.now)) }
         ensures width { IfOk result (λ size. IfSome size (λ bytes. bytes ≡ width (tree self.now))) }

@@ -13,8 +13,8 @@ use Rattle.dtype_base.proofs.KeyOrder.{positions_push}
 use Rattle.dtype_base.proofs.Selections.{selects_more, first_absent}
 use Rattle.dtype_base.proofs.indexed_names.look_up.Goals as goal
 
-pub returns-in-None-clause-found : goal.returns-in-None-clause-found
-returns-in-None-clause-found c =
+pub returns-in-None-clause-ok : goal.returns-in-None-clause-ok
+returns-in-None-clause-ok c =
     let names = c.args.names.now in
     let n = c.index-asked-position.result in
     let none : None ≡ first_place names n = sym c.in-None.is ∙ c.search.ensures.place ∙ ap (first_place names) c.as_str-name.ensures in

@@ -34,7 +34,7 @@ loop-index-preserved c =
       room = omega (arith, c.push_reserved.ensures.capacity, inv.room);
     }
 
-pub returns-clause-same : goal.returns-clause-same
-returns-clause-same c =
+pub returns-clause-ok : goal.returns-clause-ok
+returns-clause-ok c =
     let entries = c.args.entries.now in
     c.loop-index.invariant.same ∙ take_all c.loop-index.index (positions entries) (omega (arith, c.loop-index-test.false, as_many_positions entries))

@@ -13,4 +13,4 @@ returns c =
     let types = map tree c.args.dtypes.items in
     let some : length c.args.names.items ≢ 0 = search rules in
     let even : length c.args.names.items ≡ length c.args.dtypes.items = search rules in
-    struct_made c.in_ok-fields.fields c.args.n c.args.names.items types (c.in_ok-fields.ensures.fields ∙ ap (λ z. zip z types) c.from_vec.ensures) some (even ∙ sym (length-map c.args.dtypes.items tree))
+    struct_made c.in_ok-fields.fields c.args.n c.args.names.items types (c.in_ok-fields.ensures.ok ∙ ap (λ z. zip z types) c.from_vec.ensures) some (even ∙ sym (length-map c.args.dtypes.items tree))

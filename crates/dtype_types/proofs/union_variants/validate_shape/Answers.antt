@@ -26,9 +26,9 @@ returns-then-branch-2-clause-errors c =
     let tags = AllPairs-from_IsDistinct unsigned_Decides c.args.type_ids.now (c.in_ok-has_repeats.ensures.0 c.if-branch.false) in
     inr (lengths, tags, λ d. false≢true (sym (c.in_ok-has_repeats-2.ensures.1 (IsDistinct-from_AllPairs bytes_decides _ (subst IsDistinctNames (sym c.as_slice.ensures) d))) ∙ c.if-branch-2.true))
 
-pub returns-clause-ok : goal.returns-clause-ok
+pub returns-clause-accepted : goal.returns-clause-accepted
 unfolding IsDistinctNames
-returns-clause-ok c =
+returns-clause-accepted c =
     let lengths : HasUnionLengths c.args.names.now c.args.types c.args.type_ids.now = search rules in
     let tags = AllPairs-from_IsDistinct unsigned_Decides c.args.type_ids.now (c.in_ok-has_repeats.ensures.0 c.if-branch.false) in
     (lengths, tags, subst IsDistinctNames c.as_slice.ensures (AllPairs-from_IsDistinct bytes_decides _ (c.in_ok-has_repeats-2.ensures.0 c.if-branch-2.false)))

@@ -10,8 +10,8 @@ use Rattle.dtype_types.specs.tree.TreeOf.{struct_pairs}
 use Rattle.dtype_types.proofs.Parts.{names_shown}
 use Rattle.dtype_types.proofs.struct_fields.StructFields.disjoint_merge.Goals as goal
 
-pub returns-then-not-are_distinct-clause-fields : goal.returns-then-not-are_distinct-clause-fields
-returns-then-not-are_distinct-clause-fields c = inr (
+pub returns-then-not-are_distinct-clause-ok : goal.returns-then-not-are_distinct-clause-ok
+returns-then-not-are_distinct-clause-ok c = inr (
   refl,
   λ d.
       let names = ap field_names (sym c.in_ok-merged.ensures) ∙ names_shown (struct_pairs c.in_ok-merged.merged) ∙ ap keys_of (sym c.deref.ensures) in

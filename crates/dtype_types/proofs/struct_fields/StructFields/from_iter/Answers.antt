@@ -28,7 +28,7 @@ returns g c =
     let given = c.loop-name.yielded in
     let whole = run_of_exit g.I.IntoIter.Iterator.next_gives _ given _ c.loop-name.yielded_by _ (rw c.in-None.is at c.next.ensures.steps) in
     let put = ap (λ ns. zip ns (map tree c.loop-name.dtypes.items)) c.from_vec.ensures ∙ mapped_sides (λ p. p.0) (λ p. field_tree p.1) given _ _ c.loop-name.invariant.names c.loop-name.invariant.dtypes in
-    MatchResult-weaker c.new.result c.new.ensures.fields
+    MatchResult-weaker c.new.result c.new.ensures.ok
     (λ s e.
     let made = e ∙ put in (
       c.into_iter-name-iterator.result,

@@ -27,4 +27,4 @@ returns c =
     let dtypes = put_after _ _ _ _ _ _ _ (ap (map tree) c.in_ok-dtypes.ensures.items) c.in_ok-push_dtypes.ensures.copies c.in_ok-push_dtypes-2.ensures.copies
     (ap (map tree) c.dtypes.ensures ∙ sym (types_shown (struct_pairs c.args.self.now))) (ap (map tree) c.dtypes-2.ensures ∙ sym (types_shown (struct_pairs c.args.other.now))) in
     let put = ap (λ ns. zip ns (map tree c.push_dtypes-2.new.dtypes.items)) c.from_vec.ensures ∙ joined_sides ps qs _ _ names dtypes in
-    MatchResult-weaker c.new.result c.new.ensures.fields (λ s e. e ∙ put) (λ _ e. e)
+    MatchResult-weaker c.new.result c.new.ensures.ok (λ s e. e ∙ put) (λ _ e. e)

@@ -13,8 +13,8 @@ use Rattle.dtype_types.proofs.Projected.{projected_alike, projected_known}
 use Rattle.dtype_types.proofs.Selected.{as_many_copies, places_within, projects, refused_of}
 use Rattle.dtype_types.proofs.struct_fields.StructFields.project.Goals as goal
 
-pub returns-in_err-names-clause-fields : goal.returns-in_err-names-clause-fields
-returns-in_err-names-clause-fields c =
+pub returns-in_err-names-clause-ok : goal.returns-in_err-names-clause-ok
+returns-in_err-names-clause-ok c =
     let s = c.args.self.now in
     let asked = c.args.projection.now in
     let e = c.in_err-names.field-0.0 in
@@ -32,19 +32,19 @@ new-requires c =
     as_many_copies (struct_pairs s) c.deref.result.now c.args.projection.now _ c.deref.ensures c.in_ok-names.ensures.1 c.deref-2.result.now _ c.deref-2.ensures.value c.in_ok-dtypes.ensures
     ∙ sym (ap length c.in_ok-names.ensures.0)
 
-pub returns-clause-fields : goal.returns-clause-fields
-returns-clause-fields c =
+pub returns-clause-ok : goal.returns-clause-ok
+returns-clause-ok c =
     let s = c.args.self.now in
     projects (struct_pairs s) c.deref.result.now c.args.projection.now _ c.deref.ensures c.in_ok-names.ensures.1 c.deref-2.result.now _ c.deref-2.ensures.value c.in_ok-dtypes.ensures
     _ c.in_ok-shared.shared.value c.in_ok-names.ensures.0 (c.in_ok-shared.ensures.ok ∙ c.new.ensures)
 
 pub returns-clause-each : goal.returns-clause-each
 returns-clause-each c =
-    let made = returns-clause-fields c in
+    let made = returns-clause-ok c in
     projected_alike (children c.args.self.now) c.args.projection.now (with_trees c.in_ok-shared.shared.value) made.names_are made.types_are
 
 pub returns-clause-there : goal.returns-clause-there
-returns-clause-there c = λ ok. projected_known (children c.args.self.now) c.args.projection.now (with_trees c.in_ok-shared.shared.value) (returns-clause-fields c).types_are
+returns-clause-there c = λ ok. projected_known (children c.args.self.now) c.args.projection.now (with_trees c.in_ok-shared.shared.value) (returns-clause-ok c).types_are
 
 pub returns-clause-valid : goal.returns-clause-valid
-returns-clause-valid c = λ h. valid_projected (children c.args.self.now) (with_trees c.in_ok-shared.shared.value) c.args.projection.now h (returns-clause-fields c).types_are
+returns-clause-valid c = λ h. valid_projected (children c.args.self.now) (with_trees c.in_ok-shared.shared.value) c.args.projection.now h (returns-clause-ok c).types_are

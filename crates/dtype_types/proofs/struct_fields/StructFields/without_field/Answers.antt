@@ -13,8 +13,8 @@ use Rattle.dtype_types.proofs.Parts.{types_shown}
 use Rattle.dtype_types.proofs.PutTogether.{put_after, removed_sides}
 use Rattle.dtype_types.proofs.struct_fields.StructFields.without_field.Goals as goal
 
-pub returns-clause-fields : goal.returns-clause-fields
-returns-clause-fields c =
+pub returns-clause-ok : goal.returns-clause-ok
+returns-clause-ok c =
     let ps = children c.args.self.now in
     let i = c.args.index in
     let ns = c.as_slice-own_names.result.now in
@@ -28,4 +28,4 @@ returns-clause-fields c =
     (sym (take-map tree i ds) ∙ ap (take i) own_types) (ap (map tree) (take_rest ds (i + 1) ∙ ap (λ k. drop k ds) next) ∙ sym (drop-map tree (suc i) ds) ∙ ap (drop (suc i)) own_types) in
     let kept = ap (λ ns. zip ns (map tree c.push_dtypes-2.new.dtypes.items)) c.from_vec.ensures ∙ removed_sides ps _ _ i names types in
     let refused : IfErr c.new.result (λ e. MatchBool (nat_lt i (length ps)) (e ≡ OutOfMemory) (e ≡ IndexOutOfBounds i (length ps))) = search rules in
-    MatchResult-from_both c.new.result _ _ (MatchResult-weaker c.new.result c.new.ensures.fields (λ s e. e ∙ kept) (λ _ _. tt)) refused
+    MatchResult-from_both c.new.result _ _ (MatchResult-weaker c.new.result c.new.ensures.ok (λ s e. e ∙ kept) (λ _ _. tt)) refused

@@ -20,6 +20,7 @@ pub mod IndentedTexts
 pub mod SubTest
 pub mod TellLaws
 pub mod TellGiven
+pub mod OwnTags
 pub mod ConsecutiveTags
 pub mod MergedParts
 pub mod lemmas

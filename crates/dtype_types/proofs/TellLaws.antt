@@ -11,12 +11,13 @@ use Rattle.dtype_types.specs.nullability.Nullable.{nullability}
 use Rattle.dtype_types.specs.nullability.Sub.{Sub}
 use Rattle.dtype_types.specs.tree.Erase.{erase, erase_fields, erase_variants}
 use Rattle.dtype_types.specs.tree.Tree.{Tree, Fields, no_fields, field, Variants, no_variants, choice, null, bool, primitive, decimal, utf8, binary, list, fixed_size_list, map_of, struct, union, variant, extension}
-use Rattle.dtype_types.specs.tree.Valid.{Valid, ValidFields, ValidVariants, LacksTag}
+use Rattle.dtype_types.specs.tree.Valid.{Valid, ValidFields}
 use Rattle.dtype_types.specs.values.Value.{Value, Named, Of, IncludedIn, NamedOf, VariantOf, Each, null_value, items, fixed_items, entries, record_of, tagged, no_values, value, no_entries, entry, named}
 use Rattle.dtype_types.specs.values.Sample.{sample, samples, copies}
 use Rattle.dtype_types.specs.values.Tell.{or_else, null_else, tell, tell_fields, tell_variants, HasNoSizeZero, FieldsHaveNoSizeZero, VariantsHaveNoSizeZero}
 use Rattle.dtype_types.proofs.lemmas.NullValues.{null_is_of_nullable}
 use Rattle.dtype_types.proofs.lemmas.SampleLaws.{sample_of, samples_of, value_count-copies, each_copy}
+use Rattle.dtype_types.proofs.OwnTags.{OwnTags, LacksTag, own_tags, absent, lacks_also}
 use Rattle.dtype_types.proofs.TellGiven.{told_exactly}
 
 -- ---- an answer: a value of the first and not of the second
@@ -48,24 +49,14 @@ told_node a b o h = go (nullability a) (nullability b) (null_is_of_nullable a).1
 
 -- ---- a union's tags
 
-lacks_erased : (g : ℕ) (vs ws : Variants) → erase_variants vs ≡ erase_variants ws → LacksTag g vs → LacksTag g ws
-lacks_erased g (choice m t i vs) (choice n u j ws) e h = let same : i ≡ j = cc in (λ x. h.0 (same ∙ x), lacks_erased g vs ws (cc) h.1)
-lacks_erased g no_variants (choice n u j ws) e h = absurd (cc e)
-lacks_erased g _ no_variants e h = tt
-
-lacks_none : (g : ℕ) (v : Value) (vs : Variants) → LacksTag g vs → VariantOf g v vs → ⊥
-lacks_none g v no_variants h o = o
-lacks_none g v (choice n t i vs) h (inl o) = h.0 (sym o.0)
-lacks_none g v (choice n t i vs) h (inr o) = lacks_none g v vs h.1 o
-
 -- the value of a tag that no other variant has
 value_of_first : (g i : ℕ) (v : Value) (n : List ℕ) (u : Tree) (ws : Variants) → LacksTag g ws → VariantOf g v (choice n u i ws) → Of v u
 value_of_first g i v n u ws h (inl o) = o.1
-value_of_first g i v n u ws h (inr o) = absurd (lacks_none g v ws h o)
+value_of_first g i v n u ws h (inr o) = absurd (absent g ws h g v refl o)
 
 -- the value of another tag than the first
 later_of : (g k i : ℕ) (v : Value) (n : List ℕ) (u : Tree) (vs ws : Variants) → g ≡ i → LacksTag g vs → VariantOf k v vs → VariantOf k v (choice n u i ws) → VariantOf k v ws
-later_of g k i v n u vs ws same h p (inl o) = absurd (lacks_none k v vs (subst (λ x. LacksTag x vs) (same ∙ sym o.0) h) p)
+later_of g k i v n u vs ws same h p (inl o) = absurd (absent g vs h k v (o.0 ∙ sym same) p)
 later_of g k i v n u vs ws same h p (inr o) = o
 
 -- ---- the members of a fixed-size list
@@ -102,7 +93,7 @@ mutual
       (told_map (FieldsApart fs gs) (Apart (struct fs m) (struct gs n)) (λ r. record_of r) (λ r p. p) (tell_fields fs gs) (told_fields fs gs h z (cc)))
   told (union vs m) (union ws n) h z e =
       told_node (union vs m) (union ws n) _
-      (told_map (VariantsApart vs ws) (Apart (union vs m) (union ws n)) (λ c. tagged c.0 c.1) (λ c p. p) (tell_variants vs ws) (told_variants vs ws h.1 z (cc)))
+      (told_map (VariantsApart vs ws) (Apart (union vs m) (union ws n)) (λ c. tagged c.0 c.1) (λ c p. p) (tell_variants vs ws) (told_variants vs ws (own_tags vs m h) z (cc)))
   told (extension i a t) (extension j b u) h z e = told t u h.1 z (cc)
   told _ _ h z e = absurd (cc e)
 
@@ -115,13 +106,13 @@ mutual
       (told_map (FieldsApart fs gs) apart (λ r. named m (sample t) r) (λ r p. ((refl, sample_of t h.0, p.0), λ q. p.1 q.2)) (tell_fields fs gs) (told_fields fs gs h.1 z.1 (cc)))
   told_fields _ _ h z e = absurd (cc e)
 
-  told_variants : (vs ws : Variants) → ValidVariants vs → VariantsHaveNoSizeZero vs → erase_variants vs ≡ erase_variants ws → IfSome (tell_variants vs ws) (VariantsApart vs ws)
+  told_variants : (vs ws : Variants) → OwnTags vs → VariantsHaveNoSizeZero vs → erase_variants vs ≡ erase_variants ws → IfSome (tell_variants vs ws) (VariantsApart vs ws)
   told_variants no_variants no_variants h z e = tt
   told_variants (choice m t g vs) (choice n u i ws) h z e =
       told_or (VariantsApart (choice m t g vs) (choice n u i ws)) _ _
       (told_map (Apart t u) (VariantsApart (choice m t g vs) (choice n u i ws)) (λ v. (g, v))
-      (λ v r. (inl (refl, r.0), λ q. r.1 (value_of_first g i v n u ws (lacks_erased g vs ws (cc) h.3) q))) (tell t u) (told t u h.0 z.0 (cc)))
-      (IfSome_then (tell_variants vs ws) (told_variants vs ws h.4 z.1 (cc)) (λ c r. (inr r.0, λ q. r.1 (later_of g c.0 i c.1 n u vs ws (cc) h.3 r.0 q))))
+      (λ v r. (inl (refl, r.0), λ q. r.1 (value_of_first g i v n u ws (lacks_also g vs ws (cc) h.1) q))) (tell t u) (told t u h.0 z.0 (cc)))
+      (IfSome_then (tell_variants vs ws) (told_variants vs ws h.2 z.1 (cc)) (λ c r. (inr r.0, λ q. r.1 (later_of g c.0 i c.1 n u vs ws (cc) h.1 r.0 q))))
   told_variants _ _ h z e = absurd (cc e)
 
 pub tells_apart : (a b : Tree) → Valid a → HasNoSizeZero a → erase a ≡ erase b → (Sub a b → ⊥) → IsSomeAnd (tell a b) (λ v. Of v a × ¬ (Of v b))

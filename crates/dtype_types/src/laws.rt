@@ -139,7 +139,7 @@ pub fn parts_are_given_in_order()
 
 /// A type that is made of valid types is valid: what the constructors of types, structs, unions, maps and
 /// extensions make, and the type of a map's entries.
-#[tactic(auto, using(crate::proofs::lemmas::ValidLists::valid_struct_of, crate::proofs::lemmas::ValidLists::valid_union_of, crate::proofs::lemmas::Validity::entries_valid))]
+#[tactic(auto, using(crate::proofs::lemmas::ValidLists::valid_struct_of, crate::proofs::lemmas::Validity::entries_valid))]
 pub fn types_made_of_valid_types_are_valid()
     ensures primitives { (p : PType) (n : Nullability) → Valid (primitive p n) }
     ensures lists { (t : Tree) (n : Nullability) → Valid t → Valid (list t n) }

@@ -10,23 +10,12 @@ use Rattle.dtype_base.specs.declared.nullability.Nullability.TheVariants.{NonNul
 use Rattle.dtype_types.specs.nullability.Merged.{both, merge, merge_fields, merge_variants}
 use Rattle.dtype_types.specs.tree.Erase.{erase, erase_fields, erase_variants}
 use Rattle.dtype_types.specs.tree.Tree.{Tree, Fields, no_fields, field, Variants, no_variants, choice, null, bool, primitive, decimal, utf8, binary, list, fixed_size_list, map_of, struct, union, variant, extension}
-use Rattle.dtype_types.specs.tree.Valid.{Valid, ValidFields, ValidVariants, HasVariant, LacksTag}
+use Rattle.dtype_types.specs.tree.Valid.{Valid, ValidFields}
 use Rattle.dtype_types.specs.values.Sample.{sample, samples, copies}
 use Rattle.dtype_types.specs.values.Value.{Value, Values, Entries, Named, IncludedIn, Of, NamedOf, VariantOf, Each, EachEntry, value_count, null_value, items, fixed_items, entries, record_of, tagged, no_values, value, no_entries, entry, no_named, named}
 use Rattle.dtype_types.proofs.lemmas.SampleLaws.{sample_of, samples_of, each_copy, value_count-copies}
 use Rattle.dtype_types.proofs.lemmas.SubValues.{each_of, each_entry}
-
--- ---- a tag tells a variant
-
-absent : (i : ℕ) (vs : Variants) → LacksTag i vs → (g : ℕ) (v : Value) → g ≡ i → VariantOf g v vs → ⊥
-absent i no_variants h g v is o = o
-absent i (choice m t k vs) h g v is (inl o) = h.0 (sym o.0 ∙ is)
-absent i (choice m t k vs) h g v is (inr o) = absent i vs h.1 g v is o
-
-lacks_also : (i : ℕ) (vs ws : Variants) → erase_variants vs ≡ erase_variants ws → LacksTag i vs → LacksTag i ws
-lacks_also i no_variants no_variants e h = tt
-lacks_also i (choice m t g vs) (choice n u k ws) e h = let same : g ≡ k = cc in (λ is. h.0 (same ∙ is), lacks_also i vs ws (cc) h.1)
-lacks_also i _ _ e h = cc
+use Rattle.dtype_types.proofs.OwnTags.{OwnTags, LacksTag, own_tags, absent, lacks_also}
 
 -- ---- the values that both have
 
@@ -81,7 +70,7 @@ mutual
   of_both (fixed_size_list t j m) (fixed_size_list u k n) e h v o p = both_fixed t u (merge both t u) j k m n (λ x. of_both t u (cc) h.1 x) v o p
   of_both (map_of t t' x m) (map_of u u' y n) e h v o p = both_map t u (merge both t u) t' u' (merge both t' u') x y m n (λ z. of_both t u (cc) h.1 z) (λ z. of_both t' u' (cc) h.2 z) v o p
   of_both (struct fs m) (struct gs n) e h v o p = both_struct fs gs (merge_fields both fs gs) m n (λ z. named_both fs gs (cc) h z) v o p
-  of_both (union vs m) (union ws n) e h v o p = both_union vs ws (merge_variants both vs ws) m n (λ g z. variant_both vs ws (cc) h.1 g z) v o p
+  of_both (union vs m) (union ws n) e h v o p = both_union vs ws (merge_variants both vs ws) m n (λ g z. variant_both vs ws (cc) (own_tags vs m h) g z) v o p
   of_both (variant m) (variant n) e h v o p = pick (λ x. Of v (variant x)) m n o p
   of_both (extension i a t) (extension j b u) e h v o p = of_both t u (cc) h.1 v o p
   of_both _ _ e h v o p = cc
@@ -92,12 +81,12 @@ mutual
   named_both (field m t fs) (field n u gs) e h no_named o p = o
   named_both _ _ e h nvs o p = cc
 
-  variant_both : (vs ws : Variants) → erase_variants vs ≡ erase_variants ws → ValidVariants vs → (g : ℕ) (v : Value) → VariantOf g v vs → VariantOf g v ws → VariantOf g v (merge_variants both vs ws)
+  variant_both : (vs ws : Variants) → erase_variants vs ≡ erase_variants ws → OwnTags vs → (g : ℕ) (v : Value) → VariantOf g v vs → VariantOf g v ws → VariantOf g v (merge_variants both vs ws)
   variant_both no_variants no_variants e h g v o p = o
   variant_both (choice m t i vs) (choice n u j ws) e h g v (inl o) (inl p) = inl (o.0, of_both t u (cc) h.0 v o.1 p.1)
-  variant_both (choice m t i vs) (choice n u j ws) e h g v (inl o) (inr p) = absurd (absent i ws (lacks_also i vs ws (cc) h.3) g v o.0 p)
-  variant_both (choice m t i vs) (choice n u j ws) e h g v (inr o) (inl p) = let same : i ≡ j = cc in absurd (absent i vs h.3 g v (p.0 ∙ sym same) o)
-  variant_both (choice m t i vs) (choice n u j ws) e h g v (inr o) (inr p) = inr (variant_both vs ws (cc) h.4 g v o p)
+  variant_both (choice m t i vs) (choice n u j ws) e h g v (inl o) (inr p) = absurd (absent i ws (lacks_also i vs ws (cc) h.1) g v o.0 p)
+  variant_both (choice m t i vs) (choice n u j ws) e h g v (inr o) (inl p) = let same : i ≡ j = cc in absurd (absent i vs h.1 g v (p.0 ∙ sym same) o)
+  variant_both (choice m t i vs) (choice n u j ws) e h g v (inr o) (inr p) = inr (variant_both vs ws (cc) h.2 g v o p)
   variant_both _ _ e h g v o p = cc
 
 -- ---- least among the types that take the values of both
@@ -196,18 +185,18 @@ abbrev In_variants : Variants → Variants → Type 0
 In_variants vs ds = (g : ℕ) (v : Value) → VariantOf g v vs → VariantOf g v ds
 
 abbrev Least_tagged : Variants → Variants → Variants → Type 0
-Least_tagged vs ws xs = (ds : Variants) → ValidVariants ds → In_variants vs ds → In_variants ws ds → In_variants xs ds
+Least_tagged vs ws xs = (ds : Variants) → OwnTags ds → In_variants vs ds → In_variants ws ds → In_variants xs ds
 
 tagged_in : (vs ws xs : Variants) (g : ℕ) (v : Value) → VariantOf g v vs → Least_tagged vs ws xs → (d : Tree) → Valid d → Tagged_in vs d → Tagged_in ws d → Tagged_in xs d
-tagged_in vs ws xs g v s f (union ds o) x i j h z e = f ds x.1 i j h z e
+tagged_in vs ws xs g v s f (union ds o) x i j h z e = f ds (own_tags ds o x) i j h z e
 tagged_in vs ws xs g v s f (extension a b t) x i j h z e = tagged_in vs ws xs g v s f t x.1 i j h z e
 tagged_in vs ws xs g v s f _ x i j h z e = absurd (i g v s)
 
-least_union : (vs ws xs : Variants) (m n : Nullability) → HasVariant vs × ValidVariants vs → Least_tagged vs ws xs → (d : Tree) → Valid d → IncludedIn (union vs m) d → IncludedIn (union ws n) d → IncludedIn (union xs (either m n)) d
+least_union : (vs ws xs : Variants) (m n : Nullability) → Valid (union vs m) → Least_tagged vs ws xs → (d : Tree) → Valid d → IncludedIn (union vs m) d → IncludedIn (union ws n) d → IncludedIn (union xs (either m n)) d
 least_union vs ws xs m n h f d x i j null_value o = null_either m n (Of null_value d) (i null_value) (j null_value) o
 least_union (choice l t k vs) ws xs m n h f d x i j (tagged g v) o =
     tagged_in (choice l t k vs) ws xs k (sample t) (inl (refl, sample_of t h.1.0)) f d x (λ g v. i (tagged g v)) (λ g v. j (tagged g v)) g v o
-least_union no_variants ws xs m n h f d x i j (tagged g v) o = absurd h.0
+least_union no_variants ws xs m n h f d x i j (tagged g v) o = absurd (h.0.0.0.2 refl)
 least_union vs ws xs m n h f d x i j _ o = absurd o
 
 -- the type that a tag has, in variants of distinct tags
@@ -221,13 +210,13 @@ further m t k ds lacks g z o rest = (rest.0, rest.1, only, λ v p. inr (rest.3 v
     only v (inl p) = absurd (absent k ds lacks g z p.0 o)
     only v (inr p) = rest.2 v p
 
-at_tag : (ds : Variants) → ValidVariants ds → (g : ℕ) (z : Value) → VariantOf g z ds → At_tag ds g
+at_tag : (ds : Variants) → OwnTags ds → (g : ℕ) (z : Value) → VariantOf g z ds → At_tag ds g
 at_tag (choice m t k ds) x g z (inl o) = (t, x.0, only, λ v p. inl (o.0, p))
   where
     only : (v : Value) → VariantOf g v (choice m t k ds) → Of v t
     only v (inl p) = p.1
-    only v (inr p) = absurd (absent k ds x.3 g v o.0 p)
-at_tag (choice m t k ds) x g z (inr o) = further m t k ds x.3 g z o (at_tag ds x.4 g z o)
+    only v (inr p) = absurd (absent k ds x.1 g v o.0 p)
+at_tag (choice m t k ds) x g z (inr o) = further m t k ds x.1 g z o (at_tag ds x.2 g z o)
 at_tag no_variants x g z o = absurd o
 
 mutual
@@ -245,7 +234,7 @@ mutual
   least_values (map_of t t' y m) (map_of u u' z n) e h k d x i j =
       least_map t u (merge either t u) t' u' (merge either t' u') y z m n h.1 h.2 k.1 k.2 (λ c. least_values t u (cc) h.1 k.1 c) (λ c. least_values t' u' (cc) h.2 k.2 c) d x i j
   least_values (struct fs m) (struct gs n) e h k d x i j = least_struct fs gs (merge_fields either fs gs) m n h (λ ds. least_named fs gs (cc) h k ds) d x i j
-  least_values (union vs m) (union ws n) e h k d x i j = least_union vs ws (merge_variants either vs ws) m n h (λ ds. least_tagged vs ws (cc) h.1 k.1 ds) d x i j
+  least_values (union vs m) (union ws n) e h k d x i j = least_union vs ws (merge_variants either vs ws) m n h (λ ds. least_tagged vs ws (cc) (own_tags vs m h) (own_tags ws n k) ds) d x i j
   least_values (variant m) (variant n) e h k d x i j = choose (λ z. IncludedIn (variant z) d) m n i j
   least_values (extension l a t) (extension r b u) e h k d x i j = least_values t u (cc) h.1 k.1 d x i j
   least_values _ _ e h k d x i j = cc
@@ -261,11 +250,11 @@ mutual
   least_named (field m t fs) (field n u gs) e h k no_fields x i j nvs o = absurd (i (named m (sample t) (samples fs)) (refl, sample_of t h.0, samples_of fs h.1))
   least_named _ _ e h k ds x i j nvs o = cc
 
-  least_tagged : (vs ws : Variants) → erase_variants vs ≡ erase_variants ws → ValidVariants vs → ValidVariants ws → Least_tagged vs ws (merge_variants either vs ws)
+  least_tagged : (vs ws : Variants) → erase_variants vs ≡ erase_variants ws → OwnTags vs → OwnTags ws → Least_tagged vs ws (merge_variants either vs ws)
   least_tagged no_variants no_variants e h k ds x i j g v o = absurd o
   least_tagged (choice m t a vs) (choice n u b ws) e h k ds x i j g v (inl o) =
       let same : a ≡ b = cc in
       let at = at_tag ds x a (sample t) (i a (sample t) (inl (refl, sample_of t h.0))) in
       subst (λ z. VariantOf z v ds) (sym o.0) (at.3 v (least_values t u (cc) h.0 k.0 at.0 at.1 (λ q p. at.2 q (i a q (inl (refl, p)))) (λ q p. at.2 q (j a q (inl (same, p)))) v o.1))
-  least_tagged (choice m t a vs) (choice n u b ws) e h k ds x i j g v (inr o) = least_tagged vs ws (cc) h.4 k.4 ds x (λ g v p. i g v (inr p)) (λ g v p. j g v (inr p)) g v o
+  least_tagged (choice m t a vs) (choice n u b ws) e h k ds x i j g v (inr o) = least_tagged vs ws (cc) h.2 k.2 ds x (λ g v p. i g v (inr p)) (λ g v p. j g v (inr p)) g v o
   least_tagged _ _ e h k ds x i j g v o = cc

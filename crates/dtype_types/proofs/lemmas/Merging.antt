@@ -24,8 +24,9 @@ use Rattle.dtype_types.specs.nullability.Sub.{Sub}
 use Rattle.dtype_types.specs.tree.Erase.{erase, erase_fields, erase_variants}
 use Rattle.dtype_types.specs.tree.Tree.{Tree, Fields, no_fields, field, Variants, no_variants, choice, null, bool, primitive, decimal, utf8, binary, list, fixed_size_list, map_of, struct, union, variant, extension}
 use Rattle.dtype_types.specs.tree.TreeOf.{tree}
-use Rattle.dtype_types.specs.tree.Valid.{Valid, ValidFields, ValidVariants, HasVariant, LacksName, LacksTag}
+use Rattle.dtype_types.specs.tree.Valid.{Valid, ValidFields, ValidVariants}
 use Rattle.dtype_types.specs.values.Value.{Value, IncludedIn, Of}
+use Rattle.dtype_types.proofs.OwnTags.{are_variants_also}
 use Rattle.dtype_types.proofs.lemmas.Bounds.{erase_merge, commutes, associates, swap_either, swap_both, group_either, group_both, or_and, and_or, upper_of, lower_of, least_either, greatest_both}
 use Rattle.dtype_types.proofs.lemmas.BoundValues.{of_both, least_values}
 use Rattle.dtype_types.proofs.lemmas.SubLaws.{sub_reflexive, sub_transitive}
@@ -51,21 +52,6 @@ module _ (r : Rule) (Needs : Type 0) (key : (n : Nullability) → (Needs → n �
   nullability_merge (extension i a t) (extension j b u) e = nullability_merge t u (cc)
   nullability_merge _ _ e = cc
 
-  lacks_name : (x : List ℕ) (vs ws : Variants) → LacksName x vs → LacksName x (merge_variants r vs ws)
-  lacks_name x (choice m t g vs) (choice n u i ws) h = (h.0, lacks_name x vs ws h.1)
-  lacks_name x no_variants ws h = tt
-  lacks_name x (choice m t g vs) no_variants h = tt
-
-  lacks_tag : (x : ℕ) (vs ws : Variants) → LacksTag x vs → LacksTag x (merge_variants r vs ws)
-  lacks_tag x (choice m t g vs) (choice n u i ws) h = (h.0, lacks_tag x vs ws h.1)
-  lacks_tag x no_variants ws h = tt
-  lacks_tag x (choice m t g vs) no_variants h = tt
-
-  has_variant : (vs ws : Variants) → erase_variants vs ≡ erase_variants ws → HasVariant vs → HasVariant (merge_variants r vs ws)
-  has_variant no_variants no_variants e h = h
-  has_variant (choice m t g vs) (choice n u i ws) e h = h
-  has_variant _ _ e h = cc
-
   mutual
     valid_merge : (a b : Tree) → erase a ≡ erase b → Valid a → (Needs → Valid b) → Valid (merge r a b)
     valid_merge null null e h k = h
@@ -79,7 +65,7 @@ module _ (r : Rule) (Needs : Type 0) (key : (n : Nullability) → (Needs → n �
     valid_merge (map_of t v x m) (map_of u w y n) e h k =
         (nullability_merge t u (cc) ∙ ap (λ z. r z (nullability u)) h.0 ∙ key (nullability u) (λ z. (k z).0), valid_merge t u (cc) h.1 (λ z. (k z).1), valid_merge v w (cc) h.2 (λ z. (k z).2))
     valid_merge (struct fs m) (struct gs n) e h k = valid_merge_fields fs gs (cc) h k
-    valid_merge (union vs m) (union ws n) e h k = (has_variant vs ws (cc) h.0, valid_merge_variants vs ws (cc) h.1 (λ z. (k z).1))
+    valid_merge (union vs m) (union ws n) e h k = (are_variants_also vs (merge_variants r vs ws) (cc (erase_merge r (union vs m) (union ws n) e)) h.0, valid_merge_variants vs ws (cc) h.1 (λ z. (k z).1))
     valid_merge (variant m) (variant n) e h k = h
     valid_merge (extension i a t) (extension j b u) e h k = (h.0, valid_merge t u (cc) h.1 (λ z. (k z).1))
     valid_merge _ _ e h k = h
@@ -92,7 +78,7 @@ module _ (r : Rule) (Needs : Type 0) (key : (n : Nullability) → (Needs → n �
     valid_merge_variants : (vs ws : Variants) → erase_variants vs ≡ erase_variants ws → ValidVariants vs → (Needs → ValidVariants ws) → ValidVariants (merge_variants r vs ws)
     valid_merge_variants no_variants no_variants e h k = tt
     valid_merge_variants (choice m t g vs) (choice n u i ws) e h k =
-        (valid_merge t u (cc) h.0 (λ z. (k z).0), h.1, lacks_name m vs ws h.2, lacks_tag g vs ws h.3, valid_merge_variants vs ws (cc) h.4 (λ z. (k z).4))
+        (valid_merge t u (cc) h.0 (λ z. (k z).0), valid_merge_variants vs ws (cc) h.1 (λ z. (k z).1))
     valid_merge_variants _ _ e h k = tt
 
 valid_either : (a b : Tree) → erase a ≡ erase b → Valid a → Valid b → Valid (merge either a b)

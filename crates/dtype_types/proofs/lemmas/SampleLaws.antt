@@ -60,7 +60,7 @@ mutual
   sample_of (fixed_size_list t k NonNullable) h = (value_count-copies k (sample t), each_copy (λ v. Of v t) k (sample t) (sample_of t h.1))
   sample_of (map_of t u s NonNullable) h = tt
   sample_of (struct fs NonNullable) h = samples_of fs h
-  sample_of (union no_variants NonNullable) h = absurd h.0
+  sample_of (union no_variants NonNullable) h = absurd (h.0.0.0.2 refl)
   sample_of (union (choice n t g rest) NonNullable) h = inl (refl, sample_of t h.1.0)
   sample_of (variant NonNullable) h = no_bytes
   sample_of (extension id b s) h = sample_of s h.1

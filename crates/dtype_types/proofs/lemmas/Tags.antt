@@ -11,31 +11,24 @@ use Rattle.std.proofs.lemmas.List.FromFn.{get_or-range_with_len, length-range_wi
 use Rattle.std.proofs.lemmas.List.Quantifiers.{position-Some}
 use Rattle.std.proofs.lemmas.List.Sums.{fails_before_first, position_or_len_is}
 use Rattle.std.proofs.lemmas.Option.{slice_get-get_or, slice_get_past, slice_get_within, slice_get_read, get_or_from_slice_get}
-use Rattle.dtype_types.specs.tree.Tree.{Tree, variants}
+use Rattle.dtype_base.specs.Distinct.{Distinct}
+use Rattle.dtype_types.proofs.lemmas.ValidLists.{triples_of_variants}
+use Rattle.dtype_types.specs.tree.Tree.{Tree}
 use Rattle.dtype_types.specs.parts.Unions.{AreConsecutive}
-use Rattle.dtype_types.specs.tree.Valid.{LacksTag, ValidVariants, Valid}
+use Rattle.dtype_types.specs.tree.Valid.{Valid}
 use Rattle.dtype_types.specs.parts.Lookups.{variant_tags}
 use Rattle.dtype_types.specs.tree.TreeOf.{union_tree, variant_list}
 use Rattle.std.proofs.lemmas.Bool.Decides.{Decides-eqb}
 use Rattle.dtype_types.specs.declared.union_variants.UnionVariants.{UnionVariants}
-
-lacks_at : (h : ℕ) (vs : List (List ℕ × (Tree × ℕ))) (i : ℕ) → LacksTag h (variants vs) → i < length (variant_tags vs) → ¬ (get_or (variant_tags vs) i 0 ≡ h)
-lacks_at h [] i l within = absurd (omega arith)
-lacks_at h (v ∷ vs) zero l within = l.0
-lacks_at h (v ∷ vs) (suc i) l within = lacks_at h vs i l.1 (omega arith)
-
-tags_distinct : (vs : List (List ℕ × (Tree × ℕ))) (k i : ℕ) → ValidVariants (variants vs) → k < i → i < length (variant_tags vs) → ¬ (get_or (variant_tags vs) k 0 ≡ get_or (variant_tags vs) i 0)
-tags_distinct (v ∷ vs) zero (suc i) valid before within = λ e. lacks_at v.1.1 vs i valid.3 (omega arith) (sym e)
-tags_distinct (v ∷ vs) (suc k) (suc i) valid before within = tags_distinct vs k i valid.4 (omega arith) (omega arith)
-tags_distinct _ k i valid before within = absurd (omega arith)
 
 pub position_of_tag : (u : UnionVariants) → Valid (union_tree u) → (i tag : ℕ) → slice_get (variant_tags (variant_list u)) i ≡ Some tag → position (λ g. g == tag) (variant_tags (variant_list u)) ≡ Some i
 position_of_tag u h i tag here =
     let gs = variant_tags (variant_list u) in
     let within = slice_get_within gs i tag here in
     let is = get_or_from_slice_get gs i tag 0 here in
+    let apart : Distinct gs = subst (λ vs. Distinct (variant_tags vs)) (triples_of_variants (variant_list u)) h.0.0.1 in
     let first = position_or_len_is (λ g. g == tag) gs i 0 (omega arith)
-    (λ k before. false_from_ne_true _ (λ e. tags_distinct (variant_list u) k i h.1 before within ((Decides-eqb _ _).0 e ∙ sym is)))
+    (λ k before. false_from_ne_true _ (λ e. apart k i 0 before within ((Decides-eqb _ _).0 e ∙ sym is)))
     (λ _. (Decides-eqb _ _).1 is) in
     rw first (ap (λ b. cond b (Some i) None) (lt-ltb i (length gs) within))
 

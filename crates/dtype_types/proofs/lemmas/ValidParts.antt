@@ -10,7 +10,7 @@ use Rattle.std.specs.declared.alloc.Global.{Global}
 use Rattle.std.specs.declared.boxed.Box.{Box}
 use Rattle.std.proofs.lemmas.Option.{same_Some}
 use Rattle.dtype_base.specs.declared.nullability.Nullability.TheVariants.{NonNullable}
-use Rattle.dtype_types.specs.tree.Valid.{Valid, HasVariant, ValidFields, ValidVariants}
+use Rattle.dtype_types.specs.tree.Valid.{Valid, ValidFields}
 use Rattle.dtype_types.specs.tree.TreeOf.{tree, extension_tree, map_tree, union_tree, struct_tree, shown, children, variant_list, map_shown, extension_id, extension_metadata, storage_tree}
 use Rattle.dtype_types.specs.tree.Kinds.{list_element, fixed_size_list_element, any_size_list_element, map_parts, struct_fields, union_variants, extension_parts}
 use Rattle.dtype_types.specs.nullability.Nullable.{nullability}
@@ -99,7 +99,7 @@ variants_of_triples no_variants = refl
 variants_of_triples (choice n t g rest) = ap (choice n t g) (variants_of_triples rest)
 
 pub union_variants_valid : (t : Tree) (u : UnionVariants) → union_variants t ≡ Some (variant_list u) → Valid t → Valid (union_tree u)
-union_variants_valid (union vs n) u is h = subst (λ ws. HasVariant ws × ValidVariants ws) (sym (variants_of_triples vs) ∙ ap variants (same_Some (triples vs) (variant_list u) is)) h
+union_variants_valid (union vs n) u is h = subst (λ ws. Valid (union ws NonNullable)) (sym (variants_of_triples vs) ∙ ap variants (same_Some (triples vs) (variant_list u) is)) h
 union_variants_valid _ u is h = cc
 
 pub lent_union : (t : Tree) (r : Option (Bor UnionVariants)) → shown variant_list r ≡ union_variants t → Valid t → IfSome r (λ u. Valid (union_tree u.now))

@@ -67,7 +67,7 @@ each_pair (p ∷ ps) h = (h.0, each_pair ps h.1)
 
 each_triple : (ps : List (List ℕ × (DType × ℕ))) → ValidVariants (variants (with_tagged_trees ps)) → AllByRecursion (λ p. Valid (tree p.1.0)) ps
 each_triple [] h = tt
-each_triple (p ∷ ps) h = (h.0, each_triple ps h.4)
+each_triple (p ∷ ps) h = (h.0, each_triple ps h.1)
 
 -- ---- fields made of valid fields
 
@@ -116,7 +116,7 @@ named_field_valid s n (Some d) e h = valid_named (children s) n (tree d.now) h e
 valid_variant_of : (vs : List (List ℕ × (Tree × ℕ))) (i : ℕ) (t : Tree) → slice_get (variant_types vs) i ≡ Some t → ValidVariants (variants vs) → Valid t
 valid_variant_of [] i t e h = cc
 valid_variant_of (v ∷ vs) zero t e h = subst Valid (same_Some v.1.0 t e) h.0
-valid_variant_of (v ∷ vs) (suc i) t e h = valid_variant_of vs i t e h.4
+valid_variant_of (v ∷ vs) (suc i) t e h = valid_variant_of vs i t e h.1
 
 pub variant_valid : (u : UnionVariants) (i : ℕ) (r : Option (Bor DType)) → shown tree r ≡ slice_get (variant_types (variant_list u)) i → Valid (union_tree u) → IfSome r (λ d. Valid (tree d.now))
 variant_valid u i None e h = tt
@@ -124,7 +124,7 @@ variant_valid u i (Some d) e h = valid_variant_of (variant_list u) i (tree d.now
 
 valid_by_name : (vs : List (List ℕ × (Tree × ℕ))) (n : List ℕ) (t : Tree) → ValidVariants (variants vs) → Some t ≡ variant_named vs n → Valid t
 valid_by_name [] n t h e = cc
-valid_by_name (v ∷ vs) n t h e = go (bytes_eq v.0 n) e (λ f. valid_by_name vs n t h.4 f)
+valid_by_name (v ∷ vs) n t h e = go (bytes_eq v.0 n) e (λ f. valid_by_name vs n t h.1 f)
   where
     go : (b : Bool) → Some t ≡ cond b (Some v.1.0) (variant_named vs n) → (Some t ≡ variant_named vs n → Valid t) → Valid t
     go true e later = subst Valid (same_Some v.1.0 t (sym e)) h.0
@@ -157,7 +157,7 @@ field_types_valid s h = All-from_recursion Valid (field_types (children s)) (fie
 
 variant_types_each : (vs : List (List ℕ × (Tree × ℕ))) → ValidVariants (variants vs) → AllByRecursion Valid (variant_types vs)
 variant_types_each [] h = tt
-variant_types_each (v ∷ vs) h = (h.0, variant_types_each vs h.4)
+variant_types_each (v ∷ vs) h = (h.0, variant_types_each vs h.1)
 
 pub variant_types_valid : (u : UnionVariants) → Valid (union_tree u) → All Valid (variant_types (variant_list u))
 variant_types_valid u h = All-from_recursion Valid (variant_types (variant_list u)) (variant_types_each (variant_list u) h.1)

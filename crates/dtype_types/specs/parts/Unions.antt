@@ -7,7 +7,10 @@ use Rattle.std.specs.Prelude.{◌≡◌, ◌≢◌, ℕ, List, [], length}
 use Rattle.std.specs.List.{range_with_len}
 use Rattle.dtype_base.specs.declared.vortex_error.VortexError.{VortexError}
 use Rattle.dtype_base.specs.declared.vortex_error.VortexError.TheVariants.{UnionTypesLength, UnionTagsLength, UnionEmpty, UnionTagsRepeat, UnionNamesRepeat}
+use Rattle.dtype_base.specs.Bytes.{Bytes}
 use Rattle.dtype_base.specs.Distinct.{Distinct}
+use Rattle.dtype_types.specs.parts.Lookups.{variant_names, variant_tags}
+use Rattle.dtype_types.specs.tree.Tree.{Tree}
 
 -- as many types as names, as many tags as names, and at least one
 abbrev pub HasUnionLengths : List (List ℕ) → ℕ → List ℕ → Type 0
@@ -20,6 +23,10 @@ AreConsecutive tags = tags ≡ range_with_len 0 (length tags)
 -- these names, that many types and these tags make a union
 abbrev pub MakesUnion : List (List ℕ) → ℕ → List ℕ → Type 0
 MakesUnion names types tags = HasUnionLengths names types tags × Distinct tags × Distinct names
+
+-- these are the variants of a union: `try_new` accepts their names and tags, and the tags are bytes
+abbrev pub AreVariants : List (List ℕ × (Tree × ℕ)) → Type 0
+AreVariants vs = MakesUnion (variant_names vs) (length vs) (variant_tags vs) × Bytes (variant_tags vs)
 
 -- they don't make one, with this error: that of the first rule that is broken, in this order
 abbrev pub UnionError : List (List ℕ) → ℕ → List ℕ → VortexError → Type 0

@@ -2,18 +2,12 @@
 -- SPDX-FileCopyrightText: Copyright the Vortex contributors
 
 -- Laws of reading, over message trees and types alone.
-use Rattle.std.proofs.Common.{◌≡◌, ◌≢◌, ◌↔◌, ⊎_elim, ℕ, suc, ℤ, pos, List, [], ◌∷◌, length, map, nat_eq, Some, Ok, Err, IsErr, Bool, true, false, refl, sym, ap, ◌∙◌, subst, arith}
-use Rattle.std.specs.List.{All, IsDistinct, AllByRecursion, zip}
-use Rattle.std.specs.Cmp.{unsigned_Decides}
-use Rattle.std.specs.Str.{bytes_eq}
-use Rattle.std.proofs.lemmas.Bool.{false≢true}
+use Rattle.std.proofs.Common.{◌≡◌, ◌↔◌, ⊎_elim, ℕ, suc, ◌<◌, ℤ, pos, List, [], ◌∷◌, length, map, Some, Ok, Err, IsErr, Bool, true, false, refl, sym, ap, ◌∙◌, subst, arith}
+use Rattle.std.specs.List.{AllByRecursion, zip}
 use Rattle.std.proofs.lemmas.Bool.Decides.{nat_tests}
 use Rattle.std.proofs.lemmas.Int.{ints}
-use Rattle.std.proofs.lemmas.List.Elements.{All-cons, All-nil}
-use Rattle.std.proofs.lemmas.List.Kept.{AllPairs-cons}
+use Rattle.std.proofs.lemmas.List.Elements.{All-from_recursion, recursion_from_All}
 use Rattle.std.proofs.lemmas.Option.{none-some, same_Some}
-use Rattle.std.proofs.lemmas.Slice.Eq.{bytes_eq-Decides}
-use Rattle.std.proofs.lemmas.Map.Made.{IsDistinct-from_AllPairs}
 use Rattle.dtype_base.specs.Nullability.{nullability_of}
 use Rattle.dtype_base.specs.declared.nullability.Nullability.{Nullability}
 use Rattle.dtype_base.specs.declared.nullability.Nullability.TheVariants.{NonNullable, Nullable}
@@ -22,10 +16,12 @@ use Rattle.dtype_base.specs.declared.vortex_error.MessageFault.{MessageFault}
 use Rattle.dtype_base.specs.declared.vortex_error.MessageFault.TheVariants.{ListElementMissing, FixedElementMissing, MapKeyMissing, MapValueMissing, StorageMissing}
 use Rattle.dtype_base.specs.Distinct.{Distinct}
 use Rattle.dtype_types.specs.nullability.Nullable.{nullability, set_null}
+use Rattle.dtype_types.specs.parts.Lookups.{variant_names, variant_tags}
 use Rattle.dtype_types.specs.parts.Unions.{MakesUnion}
 use Rattle.dtype_types.specs.tree.Tree as of
-use Rattle.dtype_types.specs.tree.Tree.{Tree, Fields, no_fields, field, fields, Variants, no_variants, choice, variants}
-use Rattle.dtype_types.specs.tree.Valid.{Valid, ValidFields, ValidVariants, HasVariant, LacksName, LacksTag}
+use Rattle.dtype_types.specs.tree.Tree.{Tree, Fields, no_fields, field, fields, Variants, no_variants, choice, variants, triples}
+use Rattle.dtype_types.specs.tree.Valid.{Valid, ValidFields, ValidVariants}
+use Rattle.dtype_types.proofs.lemmas.ValidLists.{zipped_variants}
 use Rattle.dtype_messages.specs.Message.{Message, Child, Messages, messages, missing, null, primitive, decimal, list, fixed_size_list, map_of, struct, union, extension, absent, present, no_message, more}
 use Rattle.vortex_dtype.specs.Meaning.{Meaning, LawfulSession, Admits, AdmitsFields, AdmitsVariants, keeps}
 use Rattle.vortex_dtype.specs.ReadInOrder.{or_empty, read}
@@ -37,7 +33,6 @@ use Rattle.vortex_dtype.proofs.lemmas.Sessions.{admits-set_null, keeps_again}
 use Rattle.vortex_dtype.proofs.lemmas.Written.{nullability_of-is, written_is}
 use Rattle.dtype_types.proofs.lemmas.Validity.{set_valid}
 use Rattle.vortex_dtype.proofs.lemmas.InOrder.{byte_is, bytes_are, child_once, count_all, read_fault, reading, reads_once, reads_read}
-use Rattle.vortex_dtype.proofs.lemmas.Unions.{tags_down}
 
 -- ---- a message with a fault reads as no type
 
@@ -168,26 +163,14 @@ sound_fields s (n ∷ ns) (t ∷ ts) h = let rest = sound_fields s ns ts h.1 in 
 sound_fields s [] _ h = (tt, tt)
 sound_fields s _ [] h = (tt, tt)
 
-lacks : (n : List ℕ) (k : ℕ) (ns : List (List ℕ)) (ts : List Tree) (gs : List ℕ) → AllByRecursion (λ m. bytes_eq n m ≡ false) ns → AllByRecursion (λ g. nat_eq k g ≡ false) gs
-    → let vs = variants (zip ns (zip ts gs)) in LacksName n vs × LacksTag k vs
-lacks n k (m ∷ ns) (t ∷ ts) (g ∷ gs) d e =
-    let later = lacks n k ns ts gs d.1 e.1 in
-    ((λ is. false≢true (sym d.0 ∙ (bytes_eq-Decides n m).1 (sym is)), later.0), (λ is. false≢true (sym e.0 ∙ (unsigned_Decides k g).1 (sym is)), later.1))
-lacks n k _ _ _ d e = (tt, tt)
+sound_variants : (s : Meaning) (ns : List (List ℕ)) (ts : List Tree) (gs : List ℕ) → AllByRecursion (Sound s) ts → let vs = variants (zip ns (zip ts gs)) in ValidVariants vs × AdmitsVariants s vs
+sound_variants s (n ∷ ns) (t ∷ ts) (g ∷ gs) h = let rest = sound_variants s ns ts gs h.1 in ((h.0.0, rest.0), (h.0.1, rest.1))
+sound_variants s _ _ _ h = (tt, tt)
 
-sound_variants : (s : Meaning) (ns : List (List ℕ)) (ts : List Tree) (is : List ℤ) (gs : List ℕ) → AllByRecursion (Sound s) ts → AreBytes is gs → IsDistinct bytes_eq ns
-    → IsDistinct nat_eq gs → let vs = variants (zip ns (zip ts gs)) in ValidVariants vs × AdmitsVariants s vs
-unfolding IsDistinct
-sound_variants s (n ∷ ns) (t ∷ ts) (i ∷ is) (g ∷ gs) h b names tags =
-    let rest = sound_variants s ns ts is gs h.1 b.1 names.1 tags.1 in let lacking = lacks n g ns ts gs names.0 tags.0 in
-    ((h.0.0, (byte_is i g b.0).1, lacking.0, lacking.1, rest.0), (h.0.1, rest.1))
-sound_variants s (n ∷ ns) (t ∷ ts) [] (g ∷ gs) h b names tags = absurd b
-sound_variants s _ _ _ _ h b names tags = (tt, tt)
-
-has_variant : (ns : List (List ℕ)) (ts : List Tree) (gs : List ℕ) → ns ≢ [] → length ns ≡ length ts → length ns ≡ length gs → HasVariant (variants (zip ns (zip ts gs)))
-has_variant (n ∷ ns) (t ∷ ts) (g ∷ gs) some e f = tt
-has_variant [] _ _ some e f = absurd (some refl)
-has_variant (n ∷ ns) _ _ some e f = cc
+are_bytes : (gs : List ℤ) (tags : List ℕ) → AreBytes gs tags → AllByRecursion (λ k. k < 256) tags
+are_bytes [] [] h = tt
+are_bytes (g ∷ gs) (k ∷ tags) h = ((byte_is g k h.0).1, are_bytes gs tags h.1)
+are_bytes _ _ h = absurd h
 
 mutual
   pub reads_sound : (s : Meaning) → LawfulSession s → (m : Message) (t : Tree) → IsMessage m → Reads s m t → Sound s t
@@ -201,9 +184,8 @@ mutual
       subst (Sound s) (sym h.5) ((h.4, a.0, b.0), (a.1, b.1))
   reads_sound s l (struct ns ms f) t i h = subst (Sound s) (sym h.3) (sound_fields s ns h.0 (all_sound s l ms h.0 i h.1))
   reads_sound s l (union ns ms gs f) t i h =
-      let a = sound_variants s ns h.0 gs h.1 (all_sound s l ms h.0 i.0 h.2) h.3 (IsDistinct-from_AllPairs bytes_eq-Decides ns h.4.2)
-      (IsDistinct-from_AllPairs unsigned_Decides h.1 h.4.1) in
-      subst (Sound s) (sym h.5) ((has_variant ns h.0 h.1 h.4.0.2 h.4.0.0 h.4.0.1, a.0), a.1)
+      let a = sound_variants s ns h.0 h.1 (all_sound s l ms h.0 i.0 h.2) in
+      subst (Sound s) (sym h.5) ((zipped_variants ns h.0 h.1 h.4 (All-from_recursion (λ k. k < 256) h.1 (are_bytes gs h.1 h.3)), a.0), a.1)
   reads_sound s l (extension id c b) t i h =
       let a = child_sound s l c h.0 i.0 h.2 in
       let again = keeps_again s l id (or_empty b) h.1 h.0 i.1 a.0 h.3 in
@@ -224,22 +206,9 @@ mutual
 of_both : {X : Type 0} (made : X → Nullability → Tree) (x y : X) (n : Nullability) → x ≡ y → made x n ≡ made y (nullability_of (is_nullable n))
 of_both made x y n e = ap (λ z. made z n) e ∙ ap (made y) (sym (nullability_of-is n))
 
-some_name : (vs : Variants) → HasVariant vs → written_variant_names vs ≢ []
-some_name no_variants h = absurd h
-some_name (choice n x g rest) h = λ e. cc
-
--- the names and the tags of a valid union's variants
-others : (n : List ℕ) (g : ℕ) (vs : Variants) → LacksName n vs → LacksTag g vs → All (λ m. n ≢ m) (written_variant_names vs) × All (λ k. pos g ≢ k) (written_tags vs)
-others n g no_variants h k = (All-nil _, All-nil _)
-others n g (choice m x l rest) h k =
-    let later = others n g rest h.1 k.1 in
-    (All-cons (λ y. n ≢ y) m (written_variant_names rest) (λ e. h.0 (sym e)) later.0, All-cons (λ y. pos g ≢ y) (pos l) (written_tags rest) (λ e. k.0 (cc e)) later.1)
-
-distinct : (vs : Variants) → ValidVariants vs → Distinct (written_variant_names vs) × Distinct (written_tags vs)
-distinct no_variants v = (λ i j d before within. absurd (omega arith), λ i j d before within. absurd (omega arith))
-distinct (choice n x g rest) v =
-    let first = others n g rest v.2 v.3 in let later = distinct rest v.4 in
-    (AllPairs-cons (λ x y. x ≢ y) n (written_variant_names rest) first.0 later.0, AllPairs-cons (λ x y. x ≢ y) (pos g) (written_tags rest) first.1 later.1)
+names_are : (vs : Variants) → written_variant_names vs ≡ variant_names (triples vs)
+names_are no_variants = refl
+names_are (choice n x g rest) = ap (λ ns. n ∷ ns) (names_are rest)
 
 mutual
   pub written_reads : (s : Meaning) (t : Tree) → Valid t → Admits s t → Reads s (written t) t
@@ -251,9 +220,9 @@ mutual
   written_reads s (of.map_of x y o n) v a = (x, y, written_reads s x v.1 a.0, written_reads s y v.2 a.1, v.0, simp nullability_of-is)
   written_reads s (of.struct fs n) v a = let r = written_fields_read s fs v a in (r.0, r.1, r.2, of_both of.struct fs (fields (zip (written_names fs) r.0)) n r.3)
   written_reads s (of.union vs n) v a =
-      let d = distinct vs v.1 in let r = written_variants_read s vs v.1 a in
-      let tags = tags_down r.1 (subst Distinct (bytes_are (written_tags vs) r.1 r.3) d.1) in
-      (r.0, r.1, r.2, r.3, ((r.4, r.5, some_name vs v.0), tags, d.0), of_both of.union vs (variants (zip (written_variant_names vs) (zip r.0 r.1))) n r.6)
+      let names = names_are vs in let tags = variant_tags (triples vs) in
+      let r = written_variants_read s vs v.1 (recursion_from_All (λ k. k < 256) tags v.0.1) a in
+      (r.0, tags, r.1, r.2, ((r.3, r.4, λ e. v.0.0.0.2 (sym names ∙ e)), v.0.0.1, subst (λ ns. Distinct ns) (sym names) v.0.0.2), of_both of.union vs (variants (zip (written_variant_names vs) (zip r.0 tags))) n r.5)
   written_reads s (of.extension id b x) v a = (x, b, written_reads s x v.1 a.1, a.0, refl)
   written_reads s _ v a = simp nullability_of-is
 
@@ -263,13 +232,14 @@ mutual
   written_fields_read s (field n x rest) v a =
       let r = written_fields_read s rest v.1 a.1 in (x ∷ r.0, (written_reads s x v.0 a.0, r.1), ap suc r.2, ap (field n x) r.3)
 
-  written_variants_read : (s : Meaning) (vs : Variants) → ValidVariants vs → AdmitsVariants s vs →
-      (ts : List Tree) × (tags : List ℕ) × ReadsAll s (written_variants vs) ts × AreBytes (written_tags vs) tags × (length (written_variant_names vs) ≡ length ts)
+  written_variants_read : (s : Meaning) (vs : Variants) → ValidVariants vs → AllByRecursion (λ k. k < 256) (variant_tags (triples vs)) → AdmitsVariants s vs →
+      let tags = variant_tags (triples vs) in
+      (ts : List Tree) × ReadsAll s (written_variants vs) ts × AreBytes (written_tags vs) tags × (length (written_variant_names vs) ≡ length ts)
       × (length (written_variant_names vs) ≡ length tags) × (vs ≡ variants (zip (written_variant_names vs) (zip ts tags)))
-  written_variants_read s no_variants v a = ([], [], tt, tt, refl, refl, refl)
-  written_variants_read s (choice n x g rest) v a =
-      let r = written_variants_read s rest v.4 a.1 in
-      (x ∷ r.0, g ∷ r.1, (written_reads s x v.0 a.0, r.2), (grind (arith, nat_tests, v.1), r.3), ap suc r.4, ap suc r.5, ap (choice n x g) r.6)
+  written_variants_read s no_variants v b a = ([], tt, tt, refl, refl, refl)
+  written_variants_read s (choice n x g rest) v b a =
+      let r = written_variants_read s rest v.1 b.1 a.1 in
+      (x ∷ r.0, (written_reads s x v.0 a.0, r.1), (grind (arith, nat_tests, b.0), r.2), ap suc r.3, ap suc r.4, ap (choice n x g) r.5)
 
 -- what is written of an admitted type gives that type
 pub written_read : (s : Meaning) (m : Message) (t : Tree) → Valid t → Admits s t → m ≡ written t → read s m ≡ Ok t

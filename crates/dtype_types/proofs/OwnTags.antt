@@ -1,0 +1,63 @@
+-- SPDX-License-Identifier: Apache-2.0
+-- SPDX-FileCopyrightText: Copyright the Vortex contributors
+
+-- The variants of a valid union by recursion: each has a valid type, and a tag that none after it has.
+use Rattle.std.proofs.Common.{◌≡◌, ◌≢◌, ℕ, zero, suc, ◌<◌, ◌∙◌, inl, inr, length, refl, sym, ap, subst, arith}
+use Rattle.std.specs.List.{AllByRecursion}
+use Rattle.std.proofs.lemmas.List.{length-map}
+use Rattle.std.proofs.lemmas.List.Elements.{recursion_from_All}
+use Rattle.dtype_base.specs.Bytes.{Bytes}
+use Rattle.dtype_base.specs.Distinct.{Distinct}
+use Rattle.dtype_base.specs.declared.nullability.Nullability.{Nullability}
+use Rattle.dtype_types.specs.parts.Lookups.{variant_names, variant_tags}
+use Rattle.dtype_types.specs.parts.Unions.{AreVariants}
+use Rattle.dtype_types.specs.tree.Erase.{erase_variants}
+use Rattle.dtype_types.specs.tree.Tree.{Variants, no_variants, choice, triples, union}
+use Rattle.dtype_types.specs.tree.Valid.{Valid, ValidVariants}
+use Rattle.dtype_types.specs.values.Value.{Value, VariantOf}
+
+-- none of these variants has the tag
+abbrev pub LacksTag : ℕ → Variants → Type 0
+LacksTag g vs = AllByRecursion (λ h. g ≢ h) (variant_tags (triples vs))
+
+abbrev pub OwnTags : Variants → Type 0
+OwnTags no_variants = Unit {0}
+OwnTags (choice n t g rest) = Valid t × LacksTag g rest × OwnTags rest
+
+each_tag : (vs : Variants) → Distinct (variant_tags (triples vs)) → ValidVariants vs → OwnTags vs
+each_tag no_variants apart valid = tt
+each_tag (choice n t g rest) apart valid = (
+  valid.0,
+  recursion_from_All (λ h. g ≢ h) (variant_tags (triples rest)) (λ j d within. apart 0 (suc j) d (omega arith) (omega arith)),
+  each_tag rest (λ i j d before within. apart (suc i) (suc j) d (omega arith) (omega arith)) valid.1,
+)
+
+pub own_tags : (vs : Variants) (n : Nullability) → Valid (union vs n) → OwnTags vs
+own_tags vs n h = each_tag vs h.0.0.1 h.1
+
+-- a variant has a tag that is there
+pub absent : (g : ℕ) (vs : Variants) → LacksTag g vs → (h : ℕ) (v : Value) → h ≡ g → VariantOf h v vs → ⊥
+absent g no_variants lacks h v is o = o
+absent g (choice n t i vs) lacks h v is (inl o) = lacks.0 (sym is ∙ o.0)
+absent g (choice n t i vs) lacks h v is (inr o) = absent g vs lacks.1 h v is o
+
+-- variants that are equal but for the nullabilities of their types have the same tags and names
+pub same_tags : (vs ws : Variants) → erase_variants vs ≡ erase_variants ws → variant_tags (triples vs) ≡ variant_tags (triples ws)
+same_tags no_variants no_variants e = refl
+same_tags (choice m t g vs) (choice n u h ws) e = cc (same_tags vs ws (cc))
+same_tags _ _ e = cc
+
+same_names : (vs ws : Variants) → erase_variants vs ≡ erase_variants ws → variant_names (triples vs) ≡ variant_names (triples ws)
+same_names no_variants no_variants e = refl
+same_names (choice m t g vs) (choice n u h ws) e = cc (same_names vs ws (cc))
+same_names _ _ e = cc
+
+pub lacks_also : (g : ℕ) (vs ws : Variants) → erase_variants vs ≡ erase_variants ws → LacksTag g vs → LacksTag g ws
+lacks_also g vs ws e h = subst (AllByRecursion (λ h. g ≢ h)) (same_tags vs ws e) h
+
+pub are_variants_also : (vs ws : Variants) → erase_variants vs ≡ erase_variants ws → AreVariants (triples vs) → AreVariants (triples ws)
+are_variants_also vs ws e h =
+    let tags = same_tags vs ws e in
+    let names = same_names vs ws e in
+    let lengths = (length-map (triples ws) (λ v. v.0), length-map (triples ws) (λ v. v.0) ∙ sym (length-map (triples ws) (λ v. v.1.1)), λ none. h.0.0.2 (names ∙ none)) in
+    ((lengths, subst (λ gs. Distinct gs) tags h.0.1, subst (λ ns. Distinct ns) names h.0.2), subst Bytes tags h.1)

@@ -20,9 +20,9 @@ pub fn write_answers<W: Write>(
     text: &str,
     writer: &mut W,
 ) -> Result<(), DemoFault>
-    ensures ok { OnOk result (WritesOutput (tree dtype.now) text.now
+    ensures written { OnOk result (WritesOutput (tree dtype.now) text.now
         (W.contents writer.old) (W.contents writer.new)) }
-    ensures faults { IfErr result (λ fault.
+    ensures errors { IfErr result (λ fault.
         (fault ≡ DemoFault.WriteFailed) ⊎ (fault ≡ DemoFault.OutOfMemory)) }
 {
     let mut paths = FieldPathSet::new(alloc);
@@ -41,9 +41,9 @@ pub fn write_answers<W: Write>(
 
 // Writes the answer to one line: its path, and the type at that path.
 fn answer<W: Write>(dtype: &DType, path: &FieldPath, writer: &mut W) -> Result<(), DemoFault>
-    ensures ok { OnOk result (Appends (W.contents writer.old) (W.contents writer.new)
+    ensures written { OnOk result (Appends (W.contents writer.old) (W.contents writer.new)
         (answer_text (tree dtype.now) path.now)) }
-    ensures faults { IfErr result (λ fault. fault ≡ DemoFault.WriteFailed) }
+    ensures errors { IfErr result (λ fault. fault ≡ DemoFault.WriteFailed) }
 {
     let written = match path.resolve(dtype) {
         Some(found) => writeln!(writer, "{path} = {found}"),

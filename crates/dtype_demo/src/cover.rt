@@ -16,8 +16,8 @@ pub fn write_cover<W: Write>(
     paths: FieldPathSet,
     writer: &mut W,
 ) -> Result<(), DemoFault>
-    ensures ok { OnOk result (WritesCover paths (W.contents writer.old) (W.contents writer.new)) }
-    ensures faults { IfErr result (λ fault.
+    ensures written { OnOk result (WritesCover paths (W.contents writer.old) (W.contents writer.new)) }
+    ensures errors { IfErr result (λ fault.
         (fault ≡ DemoFault.WriteFailed) ⊎ (fault ≡ DemoFault.OutOfMemory)) }
 {
     let texts = cover_texts(alloc, paths)?;
@@ -28,7 +28,7 @@ pub fn write_cover<W: Write>(
 
 // Returns the texts of the cover of the paths, in the order of their bytes. The only error is `OutOfMemory` (0).
 fn cover_texts(alloc: Global, paths: FieldPathSet) -> VortexResult<Vec<String>>
-    ensures ok { IfOk result (λ v. IsCover paths (map (λ s. string_bytes s) v.items)) }
+    ensures cover { IfOk result (λ v. IsCover paths (map (λ s. string_bytes s) v.items)) }
     ensures errors { IsOkUnless result OutOfMemory }
 {
     let mut texts = Vec::new(alloc);
@@ -41,7 +41,7 @@ fn cover_texts(alloc: Global, paths: FieldPathSet) -> VortexResult<Vec<String>>
 
 // Returns `cover:` and the texts, each after a space. The only error is `OutOfMemory` (0).
 fn spaced(alloc: Global, texts: &[String]) -> VortexResult<String>
-    ensures ok { IfOk result (λ s.
+    ensures text { IfOk result (λ s.
         string_bytes s ≡ cover_text (map (λ t. string_bytes t) texts.now)) }
     ensures errors { IsOkUnless result OutOfMemory }
 {

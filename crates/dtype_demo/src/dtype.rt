@@ -14,7 +14,7 @@ use vortex_dtype::{DType, FieldDType, FieldName, Nullability, PType, VortexResul
 // Builds the type in which the paths are looked up: {a=list({b=u32})?, f=fixed_size_list(u8)[2]}. The only error is
 // `OutOfMemory` (0).
 pub fn demo_dtype(alloc: Global) -> VortexResult<DType>
-    ensures ok { IfOk result (λ d. tree d ≡ demo_tree) }
+    ensures tree { IfOk result (λ d. tree d ≡ demo_tree) }
     ensures errors { IsOkUnless result OutOfMemory }
 {
     let number = field(alloc, "b", DType::from(PType::U32))?;
@@ -29,7 +29,7 @@ pub fn demo_dtype(alloc: Global) -> VortexResult<DType>
 
 // Builds a field of this name and type. The only error is `OutOfMemory` (0).
 fn field(alloc: Global, name: &str, dtype: DType) -> VortexResult<(FieldName, FieldDType)>
-    ensures ok { IfOk result (λ f. (f.0 ≡ name.now) × (field_tree f.1 ≡ tree dtype)) }
+    ensures parts { IfOk result (λ f. (f.0 ≡ name.now) × (field_tree f.1 ≡ tree dtype)) }
     ensures errors { IsOkUnless result OutOfMemory }
 {
     Ok((FieldName::new(alloc, name)?, FieldDType::from(dtype)))
@@ -37,7 +37,7 @@ fn field(alloc: Global, name: &str, dtype: DType) -> VortexResult<(FieldName, Fi
 
 // Builds the non-nullable struct of these fields. The only error is `OutOfMemory` (0).
 fn struct_of(alloc: Global, fields: Vec<(FieldName, FieldDType)>) -> VortexResult<DType>
-    ensures ok { IfOk result (λ d.
+    ensures fields { IfOk result (λ d.
         tree d ≡ struct (given_fields fields.items) Nullability.NonNullable) }
     ensures errors { IsOkUnless result OutOfMemory }
 {

@@ -20,7 +20,7 @@ pub fn read_all<R: Read>(alloc: Global, reader: &mut R) -> Result<Vec<u8>, DemoF
         IfSome (R.remaining reader.old) (λ bytes. input_limit < length bytes) }
     ensures unread { IsErrOf result DemoFault.ReadFailed →
         TakesAtMost input_limit (R.remaining reader.old) (R.remaining reader.new) }
-    ensures faults { IfErr result (λ fault. (fault ≡ DemoFault.ReadFailed)
+    ensures errors { IfErr result (λ fault. (fault ≡ DemoFault.ReadFailed)
         ⊎ (fault ≡ DemoFault.InputTooLong) ⊎ (fault ≡ DemoFault.OutOfMemory)) }
     ensures no_more { TakesAtMost (input_limit + 1)
         (R.remaining reader.old) (R.remaining reader.new) }

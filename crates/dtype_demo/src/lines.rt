@@ -19,7 +19,7 @@ pub fn first_line(text: &str) -> (&str, &str)
 
 // Returns the path that a line means. The only error is `OutOfMemory` (0).
 pub fn parse_line(alloc: Global, line: &str) -> VortexResult<FieldPath>
-    ensures ok { IfOk result (λ p. p ≡ parts_of line.now) }
+    ensures path { IfOk result (λ p. p ≡ parts_of line.now) }
     ensures errors { IsOkUnless result OutOfMemory }
 {
     if line.is_empty() {
@@ -36,7 +36,7 @@ pub fn parse_line(alloc: Global, line: &str) -> VortexResult<FieldPath>
 // Returns the step that a part means. Where the step before has the same name, the two share its text, so that a long
 // path of one name takes half the memory. The only error is `OutOfMemory` (0).
 fn parse_part(alloc: Global, part: &str, before: Option<&Field>) -> VortexResult<Field>
-    ensures ok { IfOk result (λ f. f ≡ part_of part.now) }
+    ensures part { IfOk result (λ f. f ≡ part_of part.now) }
     ensures errors { IsOkUnless result OutOfMemory }
 {
     if part == "[]" {

@@ -12,8 +12,8 @@ loop-rest-init g c = record { text = search rules; answered = record { lines = [
 pub loop-rest-preserved : goal.loop-rest-preserved
 loop-rest-preserved g c = record {
   text = search rules;
-  answered = answered_more _ _ _ _ _ _ _ _ _ _ _ c.loop-rest.invariant.answered c.first_line.ensures.lines c.in_ok-path.ensures.ok c.in_ok-answer.ensures.ok c.in_ok-insert.ensures.ok;
+  answered = answered_more _ _ _ _ _ _ _ _ _ _ _ c.loop-rest.invariant.answered c.first_line.ensures.lines c.in_ok-path.ensures.path c.in_ok-answer.ensures.written c.in_ok-insert.ensures.inserted;
 }
 
-pub returns-clause-ok : goal.returns-clause-ok
-returns-clause-ok g c = output _ _ _ _ _ _ _ _ c.loop-rest.invariant.answered (sym c.is_empty.ensures ∙ c.loop-rest-test.false) c.in_ok-write_cover.ensures.ok c.flush.ensures.bytes
+pub returns-clause-written : goal.returns-clause-written
+returns-clause-written g c = output _ _ _ _ _ _ _ _ c.loop-rest.invariant.answered (sym c.is_empty.ensures ∙ c.loop-rest-test.false) c.in_ok-write_cover.ensures.written c.flush.ensures.bytes

@@ -10,8 +10,8 @@ use Rattle.vortex_dtype.specs.PathTexts.{path_text}
 use Rattle.dtype_demo.proofs.Covers.{sorted_texts}
 use Rattle.dtype_demo.proofs.cover.cover_texts.Goals as goal
 
-pub returns-clause-ok : goal.returns-clause-ok
-returns-clause-ok c =
+pub returns-clause-cover : goal.returns-clause-cover
+returns-clause-cover c =
     let none = nil_from_length (into_iter_items c.loop-path.path-iterator) (omega (arith, c.loop-path.path-iterator.rest.ok, c.in-None.ensures.steps)) in
     let given = into_iter_items c.in_ok-path-items.path-items in
     let texts = c.loop-path.texts.items in

@@ -75,7 +75,7 @@ impl ChildMap {
 
     // Lets the step lead to a node. After an error the children are unchanged.
     pub(crate) fn insert(&mut self, step: Field, node_index: usize) -> VortexResult<()>
-        ensures ok { OnOk result ((f : Field) → lookup (same_field f) self.new
+        ensures added { OnOk result ((f : Field) → lookup (same_field f) self.new
             ≡ (if same_field step f then Some node_index else lookup (same_field f) self.old)) }
         ensures errors { IfErr result (λ e. (e ≡ OutOfMemory) × (self.new ≡ self.old)) }
     {
@@ -93,7 +93,7 @@ impl ChildMap {
 
     // Appends the node indices of the children.
     pub(crate) fn push_node_indices(&self, node_indices: &mut Vec<usize>) -> VortexResult<()>
-        ensures ok { OnOk result (node_indices.new.items ≡ node_indices.old.items ++ values_of self.now) }
+        ensures pushed { OnOk result (node_indices.new.items ≡ node_indices.old.items ++ values_of self.now) }
         ensures once { IsDistinct same_field (keys_of self.now) }
         ensures errors { IsOkUnless result OutOfMemory }
     {

@@ -85,7 +85,7 @@ impl ChildTree {
         node_index: usize,
     ) -> VortexResult<()>
         requires { IsKnownKey key step }
-        ensures ok { OnOk result ((f : Field) → lookup (same_field f) self.new
+        ensures added { OnOk result ((f : Field) → lookup (same_field f) self.new
             ≡ (if same_field step f then Some node_index else lookup (same_field f) self.old)) }
         ensures errors { IfErr result (λ e. (e ≡ OutOfMemory) × (self.new ≡ self.old)) }
     {
@@ -111,7 +111,7 @@ impl ChildTree {
 
     // Appends the node indices of the children.
     pub(crate) fn push_node_indices(&self, node_indices: &mut Vec<usize>) -> VortexResult<()>
-        ensures ok { OnOk result (node_indices.new.items ≡ node_indices.old.items ++ values_of self.now) }
+        ensures pushed { OnOk result (node_indices.new.items ≡ node_indices.old.items ++ values_of self.now) }
         ensures once { IsDistinct same_field (keys_of self.now) }
         ensures errors { IsOkUnless result OutOfMemory }
     {
@@ -183,7 +183,7 @@ fn put_at_key(
     step: Field,
     node_index: usize,
 ) -> VortexResult<()>
-    ensures ok { OnOk result ((k : ℕ) → at_key by_key.new.entries k
+    ensures added { OnOk result ((k : ℕ) → at_key by_key.new.entries k
         ≡ (if is_at (nat_cmp key) k then Some (step, node_index) else at_key by_key.old.entries k)) }
     ensures errors { IfErr result (λ e. (e ≡ OutOfMemory)
         × (by_key.new.entries ≡ by_key.old.entries)) }
@@ -210,7 +210,7 @@ fn push_first(
     by_key: &BTreeMap<u64, (Field, usize)>,
     node_indices: &mut Vec<usize>,
 ) -> VortexResult<()>
-    ensures ok { OnOk result (node_indices.new.items ≡ node_indices.old.items ++ values_of (values by_key.now)) }
+    ensures pushed { OnOk result (node_indices.new.items ≡ node_indices.old.items ++ values_of (values by_key.now)) }
     ensures errors { IsOkUnless result OutOfMemory }
 {
     for (_, node_index) in by_key.values() {
@@ -221,7 +221,7 @@ fn push_first(
 
 // Appends the values of the map.
 fn push_values(by_step: &BTreeMap<Field, usize>, node_indices: &mut Vec<usize>) -> VortexResult<()>
-    ensures ok { OnOk result (node_indices.new.items ≡ node_indices.old.items ++ values by_step.now) }
+    ensures pushed { OnOk result (node_indices.new.items ≡ node_indices.old.items ++ values by_step.now) }
     ensures errors { IsOkUnless result OutOfMemory }
 {
     for node_index in by_step.values() {

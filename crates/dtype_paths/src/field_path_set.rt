@@ -101,7 +101,7 @@ impl FieldPathSet {
     ///
     /// - `OutOfMemory` (0): an allocation fails.
     pub fn insert(&mut self, path: FieldPath) -> VortexResult<()>
-        ensures ok { OnOk result (self.new ≡ set.insert self.old path) }
+        ensures inserted { OnOk result (self.new ≡ set.insert self.old path) }
         ensures err { OnErr result (self.new ≡ self.old) }
         ensures errors { IsOkUnless result OutOfMemory }
     {
@@ -119,7 +119,7 @@ impl FieldPathSet {
             → I.IntoIter.can_next it × IsFinite (I.IntoIter.remaining it) }
         ensures items { ExtendsWithItems I.into_iter_gives I.IntoIter.next_gives
             (λ old ps new. new ≡ set.union old (set_of ps)) paths self.old self.new result }
-        ensures ok { OnOk result ((it : I.IntoIter) × I.into_iter_gives paths it
+        ensures run { OnOk result ((it : I.IntoIter) × I.into_iter_gives paths it
             × WholeRun I.IntoIter.next_gives it (λ run. self.new ≡ set.union self.old (set_of run.items))) }
         ensures errors { IsOkUnless result OutOfMemory }
     {

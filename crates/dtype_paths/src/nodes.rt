@@ -54,7 +54,7 @@ impl Nodes {
 
     // The root alone, with capacity for this many nodes after it.
     pub(crate) fn with_capacity(alloc: Global, nodes: usize) -> VortexResult<Self>
-        ensures one { Makes result (λ n. length n ≡ 1) }
+        ensures ok { Makes result (λ n. length n ≡ 1) }
         ensures terminal { IfOk result (λ n. terminal_at n 0 ≡ None) }
         ensures steps { IfOk result (λ n. (f : Field) → child_at n 0 f ≡ None) }
     {
@@ -131,7 +131,7 @@ impl Nodes {
         prefix: PrefixMatch,
     ) -> VortexResult<()>
         requires { IsPrefixMatch self.old path prefix }
-        ensures ok { OnOk result (HasBranch self.old prefix.here path prefix.len self.new) }
+        ensures branch { OnOk result (HasBranch self.old prefix.here path prefix.len self.new) }
         ensures err { OnErr result (take (length self.old) self.new ≡ self.old) }
         ensures errors { IsOkUnless result OutOfMemory }
     {
@@ -145,7 +145,7 @@ impl Nodes {
     // terminal. After an error some of it may be there.
     fn push_chain(&mut self, alloc: Global, path: FieldPath, at: usize) -> VortexResult<()>
         requires { at ≤ length path }
-        ensures ok { OnOk result (self.new ≡ self.old ++ chain path (length self.old) (drop at path)) }
+        ensures chain { OnOk result (self.new ≡ self.old ++ chain path (length self.old) (drop at path)) }
         ensures kept { take (length self.old) self.new ≡ self.old }
         ensures errors { IsOkUnless result OutOfMemory }
     {
@@ -175,7 +175,7 @@ impl Nodes {
         requires none { child_at self.old here step ≡ None }
         ensures long { length self.new ≡ length self.old }
         ensures terminals { (i : ℕ) → terminal_at self.new i ≡ terminal_at self.old i }
-        ensures ok { OnOk result ((i : ℕ) (f : Field) → child_at self.new i f
+        ensures added { OnOk result ((i : ℕ) (f : Field) → child_at self.new i f
             ≡ (if i == here && same_field step f then Some node_index else child_at self.old i f)) }
         ensures err { OnErr result (self.new ≡ self.old) }
         ensures errors { IsOkUnless result OutOfMemory }

@@ -52,7 +52,7 @@ pub fn project_paths(
     dtype: &DType,
     wanted: &FieldPathSet,
 ) -> VortexResult<Option<DType>>
-    ensures projection { Makes result (λ r. option_map tree r ≡ projected (tree dtype.now) (set.contains wanted.now)) }
+    ensures ok { Makes result (λ r. option_map tree r ≡ projected (tree dtype.now) (set.contains wanted.now)) }
     ensures some { IfOk result (λ r. IsSome r ↔ ((p : List Field) × IsTrue (set.contains wanted.now p)
         × ExistsIn (tree dtype.now) p)) }
     ensures kept { IfOk result (λ r. IfSome r (λ u. (q : List Field) → IsTrue (covers wanted.now q)

@@ -134,7 +134,7 @@ impl<V: ExtVTable> ExtDType<V> {
     pub fn with_nullability(&self, alloc: Global, n: Nullability) -> VortexResult<ExtDTypeRef>
         requires { n ≡ NonNullable → CanBeNonNullable (storage_of self.now) }
         ensures id { IfOk result (λ e. extension_id e ≡ V.id_text (vtable_of self.now)) }
-        ensures metadata { MatchResult result
+        ensures ok { MatchResult result
             (λ e. V.writes (vtable_of self.now) (V.meant (metadata_of self.now))
             ≡ Some (extension_metadata e))
             (λ e. (e ≡ OutOfMemory) ⊎ ((e ≡ MetadataRefused)
@@ -157,7 +157,7 @@ impl<V: ExtVTable> ExtDType<V> {
     pub fn erased(self, alloc: Global) -> VortexResult<ExtDTypeRef>
         ensures made { IfOk result (λ e. extension_tree e
             ≡ extension (V.id_text (vtable_of self)) (extension_metadata e) (storage_of self)) }
-        ensures metadata { MatchResult result
+        ensures ok { MatchResult result
             (λ e. V.writes (vtable_of self) (V.meant (metadata_of self)) ≡ Some (extension_metadata e))
             (λ e. (e ≡ OutOfMemory) ⊎ ((e ≡ MetadataRefused)
             × (V.writes (vtable_of self) (V.meant (metadata_of self)) ≡ None))) }
@@ -188,7 +188,7 @@ impl<V: ExtVTable> ExtDType<V> {
         erased: ExtDTypeRef,
         vtable: V,
     ) -> Result<ExtDType<V>, (ExtDTypeRef, VortexError)>
-        ensures made { MatchResult result
+        ensures ok { MatchResult result
             (λ x. (vtable_of x ≡ vtable) × (storage_of x ≡ storage_tree erased))
             (λ p. p.0 ≡ erased) }
         ensures id { OnOk result (extension_id erased ≡ V.id_text vtable) }
@@ -217,7 +217,7 @@ impl<V: ExtVTable> ExtDType<V> {
     // Reads the metadata and checks it over the storage.
     fn read_metadata(alloc: Global, erased: &ExtDTypeRef, vtable: &V) -> VortexResult<V::Metadata>
         ensures id { OnOk result (extension_id erased.now ≡ V.id_text vtable.now) }
-        ensures read { MatchResult result
+        ensures ok { MatchResult result
             (λ m. V.reads vtable.now (extension_metadata erased.now) ≡ Some (V.meant m))
             (λ e. (e ≡ OutOfMemory)
             ⊎ DowncastError (extension_id erased.now) (V.id_text vtable.now)
@@ -243,7 +243,7 @@ impl<V: ExtVTable> ExtDType<V> {
         metadata: &V::Metadata,
         storage: &DType,
     ) -> VortexResult<()>
-        ensures ok { Valid (tree storage.now)
+        ensures fits { Valid (tree storage.now)
             → OnOk result (V.fits vtable.now (V.meant metadata.now) (tree storage.now) ≡ true) }
         ensures errors { IfErr result (λ e. (e ≡ OutOfMemory)
             ⊎ ((e ≡ MetadataRefused) × (Valid (tree storage.now)

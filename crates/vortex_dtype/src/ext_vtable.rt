@@ -81,7 +81,7 @@ pub trait ExtVTable: Drop {
         metadata: &Self::Metadata,
         storage: &DType,
     ) -> VortexResult<()>
-        ensures ok { Valid (tree storage.now)
+        ensures fits { Valid (tree storage.now)
             → OnOk result (fits self.now (meant metadata.now) (tree storage.now) ≡ true) }
         ensures errors { Valid (tree storage.now) → IfErr result
             (λ e. (e ≡ OutOfMemory) ⊎ ((e ≡ MetadataRefused)

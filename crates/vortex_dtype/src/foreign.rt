@@ -80,7 +80,7 @@ impl ForeignExtDType {
         metadata: Vec<u8>,
         storage: DType,
     ) -> VortexResult<ExtDTypeRef>
-        ensures parts { Makes result (λ e. extension_tree e ≡ extension id metadata.items (tree storage)) }
+        ensures ok { Makes result (λ e. extension_tree e ≡ extension id metadata.items (tree storage)) }
         ensures valid { Valid (tree storage) → IfOk result (λ e. Valid (extension_tree e)) }
     {
         ExtDTypeRef::from_parts(alloc, id, metadata, storage)

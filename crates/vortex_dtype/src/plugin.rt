@@ -45,7 +45,7 @@ pub trait ExtDTypePlugin: Drop {
     /// - `MetadataRefused` (22): exactly where the plugin doesn't accept the metadata over this storage.
     /// - `OutOfMemory` (0): an allocation fails.
     fn deserialize(&self, alloc: Global, metadata: &[u8], storage: &DType) -> VortexResult<Vec<u8>>
-        ensures ok { Valid (tree storage.now)
+        ensures kept { Valid (tree storage.now)
             → IfOk result (λ v. rewrites self.now metadata.now (tree storage.now) ≡ Some v.items) }
         ensures errors { Valid (tree storage.now) → IfErr result
             (λ e. (e ≡ OutOfMemory) ⊎ ((e ≡ MetadataRefused)
@@ -118,7 +118,7 @@ pub(crate) fn boxed_deserialize(
     metadata: &[u8],
     storage: &DType,
 ) -> VortexResult<Vec<u8>>
-    ensures ok { Valid (tree storage.now)
+    ensures kept { Valid (tree storage.now)
         → IfOk result (λ v. rewrites plugin.now metadata.now (tree storage.now) ≡ Some v.items) }
     ensures errors { Valid (tree storage.now)
         → IfErr result (λ e. (e ≡ OutOfMemory)

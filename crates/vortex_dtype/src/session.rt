@@ -62,7 +62,7 @@ impl DTypeSession {
     pub fn register(&mut self, plugin: Box<dyn ExtDTypePlugin>) -> VortexResult<()>
         ensures last { OnOk result (meaning rewrites self.new
             ≡ register_in (id_text plugin) (rewrites plugin) (meaning rewrites self.old)) }
-        ensures unchanged { OnErr result (meaning rewrites self.new ≡ meaning rewrites self.old) }
+        ensures err { OnErr result (meaning rewrites self.new ≡ meaning rewrites self.old) }
         ensures errors { IsOkUnless result OutOfMemory }
     {
         let id = String::from_str(self.alloc, boxed_id(&plugin))?;

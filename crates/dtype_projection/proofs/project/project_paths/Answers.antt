@@ -17,7 +17,7 @@ returns c =
     let part : MatchResult c.project.result (λ r. option_map tree r ≡ projected t (set.contains s)) (λ e. e ≡ OutOfMemory) =
     subst (λ w. MatchResult c.project.result (λ r. option_map tree r ≡ projected t w) (λ e. e ≡ OutOfMemory)) c.cursor.ensures c.project.ensures in
     record {
-      projection = part;
+      ok = part;
       some = if_ok c.project.result _ _ _ part (some_clause t s);
       kept = if_ok c.project.result _ _ _ part (kept_clause t s);
       only = if_ok c.project.result _ _ _ part (only_clause t s);

@@ -12,6 +12,6 @@ pub loop-column-preserved : goal.loop-column-preserved
 loop-column-preserved c =
     let columns = c.args.columns.now in let i = c.loop-column.column-index in let column = c.column-item.result in
     let next : take (i + 1) columns ≡ take i columns ++ column ∷ [] = take_more columns i column (omega arith) ∙ ap (λ p. take i columns ++ p ∷ []) (sym c.column-item.is) in
-    c.in_ok-insert.ensures.ok
+    c.in_ok-insert.ensures.inserted
     ∙ (λ k. set.insert (c.loop-column.invariant k) (c.in_ok-try_clone.ensures k))
     ∙ sym (ap set_of next ∙ of_push (take i columns) column)

@@ -15,8 +15,8 @@ invariant_of-self c =
     let t = c.self.inside in
     more_by_step t.by_key.entries t.by_step.entries c.self.invariant c.args.step c.args.node_index c.insert.new.self.entries (c.is_taken.ensures.taken c.if-is_taken.true) c.insert.ensures.ordered c.in_ok-insert.ensures.updates.0
 
-pub returns-in_ok-insert-clause-ok : goal.returns-in_ok-insert-clause-ok
-returns-in_ok-insert-clause-ok c =
+pub returns-in_ok-insert-clause-added : goal.returns-in_ok-insert-clause-added
+returns-in_ok-insert-clause-added c =
     let t = c.self.inside in let x = c.args.step in
     λ f. led_more_by_step t.by_key.entries t.by_step.entries c.self.invariant x c.args.node_index c.insert.new.self.entries (c.is_taken.ensures.taken c.if-is_taken.true) c.insert.ensures.ordered c.in_ok-insert.ensures.updates.0 f
     ∙ ap (λ s. cond (same_field x f) (Some c.args.node_index) (lookup (same_field f) s)) c.self.view_is
@@ -24,12 +24,12 @@ returns-in_ok-insert-clause-ok c =
 pub invariant_of-self-in-Continue-branch-2 : goal.invariant_of-self-in-Continue-branch-2
 invariant_of-self-in-Continue-branch-2 c =
     let t = c.self.inside in let x = c.args.step in let new = c.put_at_key.new.by_key.entries in
-    let put = subst (λ key. (k : ℕ) → at_key new k ≡ cond (is_at (nat_cmp key) k) (Some (x, c.args.node_index)) (at_key t.by_key.entries k)) c.known_key-key.ensures.key c.in_ok-put_at_key.ensures.ok in
+    let put = subst (λ key. (k : ℕ) → at_key new k ≡ cond (is_at (nat_cmp key) k) (Some (x, c.args.node_index)) (at_key t.by_key.entries k)) c.known_key-key.ensures.key c.in_ok-put_at_key.ensures.added in
     more_by_key t.by_key.entries t.by_step.entries c.self.invariant x c.args.node_index new (c.is_taken.ensures.free c.if-is_taken.false) c.put_at_key.ensures.ordered put
 
-pub returns-in_ok-put_at_key-clause-ok : goal.returns-in_ok-put_at_key-clause-ok
-returns-in_ok-put_at_key-clause-ok c =
+pub returns-in_ok-put_at_key-clause-added : goal.returns-in_ok-put_at_key-clause-added
+returns-in_ok-put_at_key-clause-added c =
     let t = c.self.inside in let x = c.args.step in let new = c.put_at_key.new.by_key.entries in
-    let put = subst (λ key. (k : ℕ) → at_key new k ≡ cond (is_at (nat_cmp key) k) (Some (x, c.args.node_index)) (at_key t.by_key.entries k)) c.known_key-key.ensures.key c.in_ok-put_at_key.ensures.ok in
+    let put = subst (λ key. (k : ℕ) → at_key new k ≡ cond (is_at (nat_cmp key) k) (Some (x, c.args.node_index)) (at_key t.by_key.entries k)) c.known_key-key.ensures.key c.in_ok-put_at_key.ensures.added in
     λ f. led_more_by_key t.by_key.entries t.by_step.entries c.self.invariant x c.args.node_index new (c.is_taken.ensures.free c.if-is_taken.false) c.put_at_key.ensures.ordered put f
     ∙ ap (λ s. cond (same_field x f) (Some c.args.node_index) (lookup (same_field f) s)) c.self.view_is

@@ -17,11 +17,11 @@ pub loop-first-preserved : goal.loop-first-preserved
 loop-first-preserved c =
     let e = c.in-Some.field-0.now in
     let so_far = rw c.in-Some.ensures.steps at c.loop-first.invariant in
-    let put = rw c.in_ok-try_clone.ensures at c.in_ok-insert.ensures.ok in
+    let put = rw c.in_ok-try_clone.ensures at c.in_ok-insert.ensures.added in
     copied-more (c.next.new.self ++ c.self.inside.by_step.entries) c.loop-first.copy c.insert.new.self c.args.self.now e.0 e.1 so_far put
 
 pub loop-step-preserved : goal.loop-step-preserved
 loop-step-preserved c =
     let so_far = rw c.in-Some-2.ensures.steps at c.loop-step.invariant in
     copied-more c.next-in-loop-step.new.self c.loop-step.copy c.insert-in-loop-step.new.self c.args.self.now c.in-Some-2.step.now c.in-Some-2.node_index.now so_far
-    (rw c.in_ok-try_clone-2.ensures at c.in_ok-insert-2.ensures.ok)
+    (rw c.in_ok-try_clone-2.ensures at c.in_ok-insert-2.ensures.added)

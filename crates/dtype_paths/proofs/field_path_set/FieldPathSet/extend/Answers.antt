@@ -14,7 +14,7 @@ loop-path-init g c = sym (union_none c.args.self.now)
 
 pub loop-path-preserved : goal.loop-path-preserved
 loop-path-preserved g c =
-    c.in_ok-insert.ensures.ok
+    c.in_ok-insert.ensures.inserted
     ∙ ap (λ s. set.insert s c.in-Some.path) c.loop-path.invariant
     ∙ sym (ap (set.union c.args.self.now) (of_push c.loop-path.yielded c.in-Some.path) ∙ union_insert c.args.self.now (set.from_list c.loop-path.yielded) c.in-Some.path)
 
@@ -28,8 +28,8 @@ returns-in_err-insert-clause-items g c = (
 )
 
 -- the list that was taken, as a run
-pub returns-clause-ok : goal.returns-clause-ok
-returns-clause-ok g c =
+pub returns-clause-run : goal.returns-clause-run
+returns-clause-run g c =
     let whole = run_of_exit g.I.IntoIter.Iterator.next_gives _ c.loop-path.yielded _ c.loop-path.yielded_by _ (rw c.in-None.is at c.next.ensures.steps) in
     let all = c.loop-path.invariant ∙ ap (λ ps. set.union c.args.self.now (set.from_list {R = path_cmp} ps)) (sym whole.3.0) in
     (c.into_iter-path-iterator.result, c.into_iter-path-iterator.ensures.into_iter_gives, (whole.0, whole.1, whole.2, all))

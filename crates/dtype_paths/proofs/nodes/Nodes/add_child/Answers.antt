@@ -7,10 +7,10 @@ use Rattle.std.specs.List.{slice_set}
 use Rattle.dtype_paths.proofs.NodeUpdates.{child-led, set-same}
 use Rattle.dtype_paths.proofs.nodes.Nodes.add_child.Goals as goal
 
-pub returns-clause-ok : goal.returns-clause-ok
-returns-clause-ok c =
+pub returns-clause-added : goal.returns-clause-added
+returns-clause-added c =
     on_ok_weaker c.add_child.result (λ u. child-led c.args.self.now c.args.here c.at_mut.result.now c.add_child.new.self c.args.step c.args.node_index c.at_mut.ensures.value u)
-    c.add_child.ensures.ok
+    c.add_child.ensures.added
 
 pub returns-clause-err : goal.returns-clause-err
 returns-clause-err c =

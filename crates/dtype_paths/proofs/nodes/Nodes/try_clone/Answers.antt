@@ -9,7 +9,7 @@ use Rattle.dtype_paths.proofs.NodeGrowth.{take-after}
 use Rattle.dtype_paths.proofs.nodes.Nodes.try_clone.Goals as goal
 
 pub loop-node-init : goal.loop-node-init
-loop-node-init c = rw (← c.self.view_is, c.in_ok-rest.ensures.items) (λ j. (c.in_ok-root.ensures.terminal j, λ f. c.in_ok-root.ensures.steps f j) ∷ [])
+loop-node-init c = rw (← c.self.view_is, c.in_ok-rest.ensures.items) (λ j. (c.in_ok-root.ensures.ok j, λ f. c.in_ok-root.ensures.steps f j) ∷ [])
 
 pub loop-node-preserved : goal.loop-node-preserved
 loop-node-preserved c =
@@ -18,5 +18,5 @@ loop-node-preserved c =
     let copy = c.in_ok-try_clone.field-0 in let e = c.in_ok-try_clone.ensures in
     rw (c.in_ok-push.ensures.items, step)
     (map-append reading (c.in_ok-root.root ∷ c.loop-node.rest.items) (copy ∷ [])
-    ∙ (λ j. c.loop-node.invariant j ++ (e.terminal j, λ f. e.steps f j) ∷ [])
+    ∙ (λ j. c.loop-node.invariant j ++ (e.ok j, λ f. e.steps f j) ∷ [])
     ∙ sym (map-append reading (take (i + 1) c.args.self.now) (n ∷ [])))

@@ -59,7 +59,7 @@ pub loop-node_index-preserved : goal.loop-node_index-preserved
 loop-node_index-preserved c =
     let p = (goal.at.loop-node_index-preserved c).After-open-terminal in
     let l = c.loop-node_index in let e = c.open-terminal.ensures in let g = c.in_ok-into_node_indices-in-None.ensures in
-    rw (g.ok, (counted p).0)
+    rw (g.pushed, (counted p).0)
     (visited-children c.args.self l.nodes l.found.items l.visits c.pop.new.self.items c.in-Some.node_index (trie p) (popped p) c.open-terminal.new.self e.long e.others
     (nodes_by_step c.open-terminal.result.1) g.once e.steps (sym e.terminal ∙ c.in-None.is))
 
@@ -76,8 +76,8 @@ count c = visited-count c.args.self c.loop-node_index.nodes c.loop-node_index.fo
 least : (c : In_default) → (p : List Field) → Contains c.loop-node_index.found.items p ↔ Least (terminals c.args.self) p
 least c = found-least c.args.self c.loop-node_index.nodes c.loop-node_index.found.items c.loop-node_index.visits (subst IsTrie c.self.view_is c.self.invariant) (ended c)
 
-pub returns-clause-least : goal.returns-clause-least
-returns-clause-least c = cover_is c.loop-node_index.found.items (terminals c.args.self) (least (goal.at.returns-clause-least c).In_default)
+pub returns-clause-ok : goal.returns-clause-ok
+returns-clause-ok c = cover_is c.loop-node_index.found.items (terminals c.args.self) (least (goal.at.returns-clause-ok c).In_default)
 
 pub returns-clause-once : goal.returns-clause-once
 returns-clause-once c = (ended (goal.at.returns-clause-once c).In_default).once

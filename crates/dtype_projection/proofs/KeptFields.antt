@@ -177,10 +177,6 @@ all_done fs all kept es end whole = sym (append-nil kept) ∙ ap (λ z. kept ++ 
 
 -- ---- the struct of the fields that are kept
 
-pub fields_of_pairs : (fs : Fields) → fields (pairs fs) ≡ fs
-fields_of_pairs no_fields = refl
-fields_of_pairs (field n t rest) = ap (field n t) (fields_of_pairs rest)
-
 pub struct_made : (s : StructFields) (n : Nullability) (names : List (List ℕ)) (types : List Tree) → children s ≡ zip names types → length names ≢ 0 → length names ≡ length types → Some (tree (Struct s n)) ≡ struct_with n (fields (zip names types))
 struct_made s n [] types made some even = absurd (some refl)
 struct_made s n (m ∷ names) [] made some even = absurd (omega arith)

@@ -4,5 +4,4 @@
 mod ProjectionClauses
 mod EnteredFields
 mod KeptFields
-mod Weights
 pub mod lemmas

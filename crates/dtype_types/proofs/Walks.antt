@@ -8,7 +8,6 @@ use Rattle.std.specs.Iterator.{YieldsFirstBy}
 use Rattle.std.specs.Iterator.Adapters.{zip_first, zip_second}
 use Rattle.std.specs.declared.iter.Zip.{Zip}
 use Rattle.std.proofs.lemmas.Iterator.{zips}
-use Rattle.std.proofs.lemmas.List.{append-nil}
 
 -- the item that an iterator gives is the first of those that are left
 module _ {Item X : Type 0} (lent : Item → X) where
@@ -38,6 +37,3 @@ module _ {Item X : Type 0} (lent : Item → X) where
 -- an item moves from those that are left to the end of those that are done
 pub moves_over : {X : Type 0} (done left all rest : List X) (x : X) (more : List X) → done ++ left ≡ all → left ≡ x ∷ rest → more ≡ done ++ x ∷ [] → more ++ rest ≡ all
 moves_over done left all rest x more so_far next e = ap (λ xs. xs ++ rest) e ∙ append_assoc done (x ∷ []) rest ∙ ap (λ xs. done ++ xs) (sym next) ∙ so_far
-
-pub all_moved : {X : Type 0} (done left all : List X) → done ++ left ≡ all → left ≡ [] → done ≡ all
-all_moved done left all so_far none = sym (append-nil done) ∙ ap (λ xs. done ++ xs) (sym none) ∙ so_far

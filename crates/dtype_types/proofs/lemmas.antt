@@ -25,3 +25,4 @@ pub mod Order
 pub mod MadeOf
 pub mod Structs
 pub mod SampleLaws
+pub mod TypesBelow

@@ -3,13 +3,12 @@
 
 -- The tree of a struct and of a union, by their fields and variants; a type of another kind has none.
 use Rattle.std.specs.Prelude.{◌≡◌, ℕ, List, [], ◌∷◌, refl}
-use Rattle.std.proofs.Common.{ap, sym, ◌∙◌, rules}
+use Rattle.std.proofs.Common.{ap, rules}
 use Rattle.dtype_base.specs.declared.nullability.Nullability.{Nullability}
 use Rattle.dtype_types.specs.tree.Tree.{null, map_of, Tree, Fields, Variants, triples, fields, variants, struct, union}
 use Rattle.dtype_types.specs.tree.TreeOf.{tree, extension_tree, children, variant_list, MapParts, ExtensionParts, type_step, extension_step, map_step, struct_step, union_step, map_shown}
-use Rattle.dtype_types.specs.declared.dtype.DType.{DType, Map, Null, Struct, Struct', Union, Union', Extension, roll-out-DType, roll-DType, out-DType, map-DType, fold_out-DType, fold-roll-DType, the_lemmas}
+use Rattle.dtype_types.specs.declared.dtype.DType.{DType, Map, Null, Struct, Union, Extension, out-DType, map-DType, fold_out-DType, fold-roll-DType, the_lemmas}
 use Rattle.dtype_types.specs.declared.dtype.DType.TheFolds.{fold-ExtDTypeRef, fold-MapDType, fold-StructFields, fold-UnionVariants}
-use Rattle.dtype_types.specs.declared.dtype.DType.TheViews.{rolls-Struct, outs-Struct', rolls-Union, outs-Union'}
 use Rattle.dtype_types.specs.declared.struct_fields.StructFields.{fold_out-StructFields, StructFields}
 use Rattle.dtype_types.specs.declared.union_variants.UnionVariants.{fold_out-UnionVariants, UnionVariants}
 use Rattle.dtype_types.specs.declared.extension.ExtDTypeRef.{ExtDTypeRef, fold_out-ExtDTypeRef}
@@ -50,14 +49,3 @@ tree_extension e = search (rules, the_lemmas, fold_out-DType, fold-roll-DType, f
 pub triples_variants : (ps : List (List ℕ × (Tree × ℕ))) → triples (variants ps) ≡ ps
 triples_variants [] = refl
 triples_variants (p ∷ ps) = ap (λ qs. p ∷ qs) (triples_variants ps)
-
--- a struct's fields are those of a list
-pub struct_is : (p : _) (sh : _) (held : _) (n : Nullability) → (s : StructFields) × (Struct' p sh held n ≡ Struct s n)
-struct_is p sh held n =
-    let d : DType = Struct' p sh held n in
-    (_, sym (roll-out-DType d) ∙ ap roll-DType (outs-Struct' p sh held n) ∙ rolls-Struct _ n)
-
-pub union_is : (p : _) (sh : _) (held : _) (n : Nullability) → (u : UnionVariants) × (Union' p sh held n ≡ Union u n)
-union_is p sh held n =
-    let d : DType = Union' p sh held n in
-    (_, sym (roll-out-DType d) ∙ ap roll-DType (outs-Union' p sh held n) ∙ rolls-Union _ n)

@@ -41,8 +41,6 @@ map_valid m n h = subst Valid (sym (tree_map m n)) h
 pub extension_valid : (e : ExtDTypeRef) → Valid (extension_tree e) → Valid (tree (Extension e))
 extension_valid e h = subst Valid (sym (tree_extension e)) h
 
-pub ruleset parts_make_types = (struct_valid, union_valid, map_valid, extension_valid)
-
 pub valid_struct : (d : DType) (s : StructFields) (n : Nullability) → d ≡ Struct s n → Valid (tree d) → Valid (struct_tree s)
 valid_struct d s n is h = subst Valid (ap tree is ∙ tree_struct s n) h
 

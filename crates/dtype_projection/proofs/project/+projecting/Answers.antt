@@ -11,8 +11,9 @@ use Rattle.dtype_paths.specs.Cursors.{asks}
 use Rattle.dtype_projection.specs.private.Entered.{kept_field}
 use Rattle.dtype_projection.specs.Projected.{projected, struct_with}
 use Rattle.dtype_projection.proofs.lemmas.Projections.{projected_nothing}
-use Rattle.dtype_projection.proofs.KeptFields.{all_done, all_kept, fields_of_pairs, kept_at, one_kept}
-use Rattle.dtype_projection.proofs.Weights.{field_below}
+use Rattle.dtype_projection.proofs.KeptFields.{all_done, all_kept, kept_at, one_kept}
+use Rattle.dtype_types.proofs.lemmas.ValidParts.{fields_of_pairs}
+use Rattle.dtype_types.proofs.lemmas.TypesBelow.{field_below}
 use Rattle.dtype_projection.proofs.project.+projecting.Goals as goal
 
 pub project_element-returns-in-None : goal.project_element-returns-in-None

@@ -8,7 +8,7 @@ use Rattle.dtype_types.specs.tree.TreeOf.{tree, children, fields_of}
 use Rattle.dtype_paths.specs.Cursors.{asks}
 use Rattle.dtype_projection.specs.Projected.{projected_fields}
 use Rattle.dtype_projection.proofs.KeptFields.{kept_at}
-use Rattle.dtype_projection.proofs.Weights.{weight, weight_fields}
+use Rattle.dtype_types.proofs.lemmas.TypesBelow.{weight, weight_fields}
 use Rattle.dtype_projection.proofs.project.+projecting.Given as goal
 
 abbrev pub decreases-project : goal.decreases-project

@@ -5,7 +5,7 @@ use Rattle.std.proofs.Common.{◌≡◌, pos, ◌∷◌, arith, rules, string_by
 use Rattle.dtype_types.specs.parts.Lists.{borrowed_pair, borrowed_triple}
 use Rattle.dtype_types.specs.tree.TreeOf.{struct_pairs, union_triples}
 use Rattle.dtype_messages.specs.MessageOf.{message}
-use Rattle.vortex_dtype.proofs.TypesBelow.{fields_below, variants_below}
+use Rattle.dtype_types.proofs.lemmas.TypesBelow.{fields_below, variants_below}
 use Rattle.vortex_dtype.proofs.WrittenParts.{all_moved, flag_is, moved, next_of, none_of, pushed, struct_done, union_done}
 use Rattle.vortex_dtype.proofs.proto.write.+writing.Goals as goal
 

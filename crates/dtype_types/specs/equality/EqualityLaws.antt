@@ -1,12 +1,13 @@
 -- SPDX-License-Identifier: Apache-2.0
 -- SPDX-FileCopyrightText: Copyright the Vortex contributors
 
--- The test of equality is exact: it holds exactly where the trees are equal, and with nullabilities ignored
--- exactly where their erased trees are. Both are equivalences.
+-- The test of equality is exact under each rule. With nullabilities compared it holds exactly where the trees are equal,
+-- with them ignored exactly where their erased trees are, and with those of the first within those of the second exactly
+-- where the first is below the second (`Sub`). Equality is an equivalence.
 use Rattle.std.specs.Prelude.{◌≡◌, Bool, ◌&&◌, ◌==◌, List, [], ◌∷◌, Some, slice_get, refl}
 use Rattle.std.specs.Bool.{Decides}
 use Rattle.std.specs.Ordering.{int_eq}
-use Rattle.std.proofs.Common.{ap, sym, ◌∙◌}
+use Rattle.std.proofs.Common.{ap, subst, sym, ◌∙◌}
 use Rattle.std.proofs.Math.Bool.{beq}
 use Rattle.std.specs.Cmp.{booleans_Decides, signed_Decides, IsEquivalence, decided, on_equiv}
 use Rattle.std.specs.Str.{bytes_eq}
@@ -20,10 +21,12 @@ use Rattle.dtype_base.specs.Decimals.{Decimal}
 use Rattle.dtype_base.specs.Primitives.{ptype_row}
 use Rattle.dtype_base.specs.declared.ptype.PType.{PType}
 use Rattle.dtype_base.specs.declared.ptype.PType.TheVariants.{U8, U16, U32, U64, I8, I16, I32, I64, F16, F32, F64}
-use Rattle.dtype_types.specs.declared.dtype.equality.NullabilityRule.TheVariants.{Compared, Ignored}
+use Rattle.dtype_types.specs.declared.dtype.equality.NullabilityRule.{NullabilityRule}
+use Rattle.dtype_types.specs.declared.dtype.equality.NullabilityRule.TheVariants.{Compared, Ignored, Within}
+use Rattle.dtype_types.specs.nullability.Sub.{Sub, Wherever, WhereverFields, WhereverVariants}
 use Rattle.dtype_types.specs.tree.Tree.{Tree, Fields, no_fields, field, Variants, no_variants, choice, null, bool, primitive, decimal, utf8, binary, list, fixed_size_list, map_of, struct, union, variant, extension}
 use Rattle.dtype_types.specs.tree.Erase.{erase, erase_fields, erase_variants}
-use Rattle.dtype_types.specs.equality.Equality.{equal_under, fields_equal_under, variants_equal_under, allows, same_ptype}
+use Rattle.dtype_types.specs.equality.Equality.{Asks, equal_under, fields_equal_under, variants_equal_under, allows, same_ptype}
 use Rattle.dtype_types.specs.equality.EqualityOf.{same_dtype}
 use Rattle.dtype_types.specs.tree.TreeOf.{tree}
 
@@ -31,10 +34,15 @@ use Rattle.dtype_types.specs.tree.TreeOf.{tree}
 pub restated : {P Q : Type 0} {x : Bool} → (P → Q) → (Q → P) → Decides x P → Decides x Q
 restated f g d = (λ e. f (d.0 e), λ q. d.1 (g q))
 
-allows-Decides : (m n : Nullability) → Decides (allows Compared m n) (m ≡ n)
-allows-Decides NonNullable NonNullable = (λ e. refl, λ e. refl)
-allows-Decides Nullable Nullable = (λ e. refl, λ e. refl)
-allows-Decides _ _ = (λ e. absurd (false≢true e), λ e. cc)
+allows-Decides : (s : NullabilityRule) (m n : Nullability) → Decides (allows s m n) (Asks s m n)
+allows-Decides Ignored m n = (λ e. tt, λ h. refl)
+allows-Decides Compared NonNullable NonNullable = (λ e. refl, λ e. refl)
+allows-Decides Compared Nullable Nullable = (λ e. refl, λ e. refl)
+allows-Decides Compared NonNullable Nullable = (λ e. absurd (false≢true e), λ e. cc)
+allows-Decides Compared Nullable NonNullable = (λ e. absurd (false≢true e), λ e. cc)
+allows-Decides Within Nullable Nullable = (λ e h. refl, λ h. refl)
+allows-Decides Within Nullable NonNullable = (λ e. absurd (false≢true e), λ h. let never = h refl in cc)
+allows-Decides Within NonNullable n = (λ e h. cc, λ h. refl)
 
 abbrev ptypes : List PType
 ptypes = U8 ∷ U16 ∷ U32 ∷ U64 ∷ I8 ∷ I16 ∷ I32 ∷ I64 ∷ F16 ∷ F32 ∷ F64 ∷ []
@@ -52,72 +60,153 @@ same_decimal-Decides d e =
     restated (λ h. ap (λ p. record { precision = p; scale = d.scale }) h.0 ∙ ap (λ s. record { precision = e.precision; scale = s }) h.1) (λ h. (ap (λ x. x.precision) h, ap (λ x. x.scale) h))
     (Decides-and _ _ (Decides-eqb d.precision e.precision) (signed_Decides d.scale e.scale))
 
+-- ---- the test under any rule: equal but for nullabilities, of which the rule holds at each place
+
+abbrev Alike : NullabilityRule → Tree → Tree → Type 0
+Alike s a b = (erase a ≡ erase b) × Wherever (Asks s) a b
+
 mutual
-  pub equal_under-Decides : (a b : Tree) → Decides (equal_under Compared a b) (a ≡ b)
-  equal_under-Decides null null = (λ e. refl, λ e. refl)
-  equal_under-Decides (bool m) (bool n) = restated (λ h. cc) (λ e. cc) (allows-Decides m n)
-  equal_under-Decides (primitive p m) (primitive q n) = restated (λ h. cc) (λ e. (cc, cc)) (Decides-and _ _ (same_ptype-Decides p q) (allows-Decides m n))
-  equal_under-Decides (decimal d m) (decimal e n) = restated (λ h. cc) (λ f. (cc, cc)) (Decides-and _ _ (same_decimal-Decides d e) (allows-Decides m n))
-  equal_under-Decides (utf8 m) (utf8 n) = restated (λ h. cc) (λ e. cc) (allows-Decides m n)
-  equal_under-Decides (binary m) (binary n) = restated (λ h. cc) (λ e. cc) (allows-Decides m n)
-  equal_under-Decides (variant m) (variant n) = restated (λ h. cc) (λ e. cc) (allows-Decides m n)
-  equal_under-Decides (list t m) (list u n) = restated (λ h. cc) (λ e. (cc, cc)) (Decides-and _ _ (allows-Decides m n) (equal_under-Decides t u))
-  equal_under-Decides (fixed_size_list t j m) (fixed_size_list u k n) =
-      restated (λ h. cc) (λ e. ((cc, cc), cc)) (Decides-and _ _ (Decides-and _ _ (allows-Decides m n) (Decides-eqb j k)) (equal_under-Decides t u))
-  equal_under-Decides (map_of t v a m) (map_of u w b n) =
-      restated (λ h. cc) (λ e. (cc, ((cc, cc), cc))) (Decides-and _ _ (allows-Decides m n) (Decides-and _ _ (Decides-and _ _ (equal_under-Decides t u) (equal_under-Decides v w)) (booleans_Decides a b)))
-  equal_under-Decides (struct fs m) (struct gs n) = restated (λ h. cc) (λ e. (cc, cc)) (Decides-and _ _ (allows-Decides m n) (fields_equal_under-Decides fs gs))
-  equal_under-Decides (union vs m) (union ws n) = restated (λ h. cc) (λ e. (cc, cc)) (Decides-and _ _ (allows-Decides m n) (variants_equal_under-Decides vs ws))
-  equal_under-Decides (extension i a t) (extension j b u) =
-      restated (λ h. cc) (λ e. ((cc, cc), cc)) (Decides-and _ _ (Decides-and _ _ (bytes_eq-Decides i j) (bytes_eq-Decides a b)) (equal_under-Decides t u))
-  equal_under-Decides _ _ = (λ e. absurd (false≢true e), λ e. cc)
+  alike-Decides : (s : NullabilityRule) (a b : Tree) → Decides (equal_under s a b) (Alike s a b)
+  alike-Decides s null null = (λ e. (refl, tt), λ h. refl)
+  alike-Decides s (bool m) (bool n) = restated (λ h. (refl, h)) (λ h. h.1) (allows-Decides s m n)
+  alike-Decides s (primitive p m) (primitive q n) = restated (λ h. (cc h.0, h.1)) (λ h. (cc h.0, h.1)) (Decides-and _ _ (same_ptype-Decides p q) (allows-Decides s m n))
+  alike-Decides s (decimal d m) (decimal e n) = restated (λ h. (cc h.0, h.1)) (λ h. (cc h.0, h.1)) (Decides-and _ _ (same_decimal-Decides d e) (allows-Decides s m n))
+  alike-Decides s (utf8 m) (utf8 n) = restated (λ h. (refl, h)) (λ h. h.1) (allows-Decides s m n)
+  alike-Decides s (binary m) (binary n) = restated (λ h. (refl, h)) (λ h. h.1) (allows-Decides s m n)
+  alike-Decides s (variant m) (variant n) = restated (λ h. (refl, h)) (λ h. h.1) (allows-Decides s m n)
+  alike-Decides s (list t m) (list u n) =
+      restated (λ h. (cc h.1.0, (h.0, h.1.1))) (λ h. (h.1.0, (cc h.0, h.1.1))) (Decides-and _ _ (allows-Decides s m n) (alike-Decides s t u))
+  alike-Decides s (fixed_size_list t j m) (fixed_size_list u k n) =
+      restated (λ h. (cc (h.0.1, h.1.0), (h.0.0, h.1.1))) (λ h. ((h.1.0, cc h.0), (cc h.0, h.1.1))) (Decides-and _ _ (Decides-and _ _ (allows-Decides s m n) (Decides-eqb j k)) (alike-Decides s t u))
+  alike-Decides s (map_of t v x m) (map_of u w y n) =
+      restated (λ h. (cc (h.1.0.0.0, h.1.0.1.0, h.1.1), (h.0, h.1.0.0.1, h.1.0.1.1))) (λ h. (h.1.0, (((cc h.0, h.1.1), (cc h.0, h.1.2)), cc h.0)))
+      (Decides-and _ _ (allows-Decides s m n) (Decides-and _ _ (Decides-and _ _ (alike-Decides s t u) (alike-Decides s v w)) (booleans_Decides x y)))
+  alike-Decides s (struct fs m) (struct gs n) =
+      restated (λ h. (ap (λ x. struct x NonNullable) h.1.0, (h.0, h.1.1))) (λ h. (h.1.0, (cc h.0, h.1.1))) (Decides-and _ _ (allows-Decides s m n) (alike_fields-Decides s fs gs))
+  alike-Decides s (union vs m) (union ws n) =
+      restated (λ h. (ap (λ x. union x NonNullable) h.1.0, (h.0, h.1.1))) (λ h. (h.1.0, (cc h.0, h.1.1))) (Decides-and _ _ (allows-Decides s m n) (alike_variants-Decides s vs ws))
+  alike-Decides s (extension i a t) (extension j b u) =
+      restated (λ h. (cc (h.0.0, h.0.1, h.1.0), h.1.1)) (λ h. ((cc h.0, cc h.0), (cc h.0, h.1))) (Decides-and _ _ (Decides-and _ _ (bytes_eq-Decides i j) (bytes_eq-Decides a b)) (alike-Decides s t u))
+  alike-Decides s _ _ = (λ e. absurd (false≢true e), λ h. absurd h.1)
 
-  pub fields_equal_under-Decides : (a b : Fields) → Decides (fields_equal_under Compared a b) (a ≡ b)
-  fields_equal_under-Decides no_fields no_fields = (λ e. refl, λ e. refl)
-  fields_equal_under-Decides (field m t fs) (field n u gs) =
-      restated (λ h. cc) (λ e. ((cc, cc), cc)) (Decides-and _ _ (Decides-and _ _ (bytes_eq-Decides m n) (equal_under-Decides t u)) (fields_equal_under-Decides fs gs))
-  fields_equal_under-Decides _ _ = (λ e. absurd (false≢true e), λ e. cc)
+  alike_fields-Decides : (s : NullabilityRule) (fs gs : Fields) → Decides (fields_equal_under s fs gs) ((erase_fields fs ≡ erase_fields gs) × WhereverFields (Asks s) fs gs)
+  alike_fields-Decides s no_fields no_fields = (λ e. (refl, tt), λ h. refl)
+  alike_fields-Decides s (field m t fs) (field n u gs) =
+      restated (λ h. (cc (h.0.0, h.0.1.0, h.1.0), (h.0.1.1, h.1.1))) (λ h. ((cc h.0, (cc h.0, h.1.0)), (cc h.0, h.1.1)))
+      (Decides-and _ _ (Decides-and _ _ (bytes_eq-Decides m n) (alike-Decides s t u)) (alike_fields-Decides s fs gs))
+  alike_fields-Decides s _ _ = (λ e. absurd (false≢true e), λ h. absurd h.1)
 
-  pub variants_equal_under-Decides : (a b : Variants) → Decides (variants_equal_under Compared a b) (a ≡ b)
-  variants_equal_under-Decides no_variants no_variants = (λ e. refl, λ e. refl)
-  variants_equal_under-Decides (choice m t g vs) (choice n u h ws) =
-      restated (λ k. cc) (λ e. (((cc, cc), cc), cc))
-      (Decides-and _ _ (Decides-and _ _ (Decides-and _ _ (bytes_eq-Decides m n) (equal_under-Decides t u)) (Decides-eqb g h)) (variants_equal_under-Decides vs ws))
-  variants_equal_under-Decides _ _ = (λ e. absurd (false≢true e), λ e. cc)
+  alike_variants-Decides : (s : NullabilityRule) (vs ws : Variants) → Decides (variants_equal_under s vs ws) ((erase_variants vs ≡ erase_variants ws) × WhereverVariants (Asks s) vs ws)
+  alike_variants-Decides s no_variants no_variants = (λ e. (refl, tt), λ h. refl)
+  alike_variants-Decides s (choice m t g vs) (choice n u i ws) =
+      restated (λ h. (cc (h.0.0.0, h.0.0.1.0, h.0.1, h.1.0), (h.0.0.1.1, h.1.1))) (λ h. (((cc h.0, (cc h.0, h.1.0)), cc h.0), (cc h.0, h.1.1)))
+      (Decides-and _ _ (Decides-and _ _ (Decides-and _ _ (bytes_eq-Decides m n) (alike-Decides s t u)) (Decides-eqb g i)) (alike_variants-Decides s vs ws))
+  alike_variants-Decides s _ _ = (λ e. absurd (false≢true e), λ h. absurd h.1)
 
--- ignoring nullabilities is comparing what erasing leaves
-mutual
-  pub equal_under-erase : (a b : Tree) → equal_under Ignored a b ≡ equal_under Compared (erase a) (erase b)
-  equal_under-erase null null = refl
-  equal_under-erase (bool m) (bool n) = refl
-  equal_under-erase (primitive p m) (primitive q n) = refl
-  equal_under-erase (decimal p m) (decimal q n) = refl
-  equal_under-erase (utf8 m) (utf8 n) = refl
-  equal_under-erase (binary m) (binary n) = refl
-  equal_under-erase (variant m) (variant n) = refl
-  equal_under-erase (list t m) (list u n) = equal_under-erase t u
-  equal_under-erase (fixed_size_list t j m) (fixed_size_list u k n) = ap (λ x. (j == k) && x) (equal_under-erase t u)
-  equal_under-erase (map_of t v a m) (map_of u w b n) = ap (λ x. x && equal_under Ignored v w && beq a b) (equal_under-erase t u) ∙ ap (λ x. equal_under Compared (erase t) (erase u) && x && beq a b) (equal_under-erase v w)
-  equal_under-erase (struct fs m) (struct gs n) = fields_equal_under-erase fs gs
-  equal_under-erase (union fs m) (union gs n) = variants_equal_under-erase fs gs
-  equal_under-erase (extension i a t) (extension j b u) = ap (λ x. bytes_eq i j && bytes_eq a b && x) (equal_under-erase t u)
-  equal_under-erase _ _ = refl
+-- ---- what each rule makes of it
 
-  pub fields_equal_under-erase : (a b : Fields) → fields_equal_under Ignored a b ≡ fields_equal_under Compared (erase_fields a) (erase_fields b)
-  fields_equal_under-erase no_fields no_fields = refl
-  fields_equal_under-erase (field m t fs) (field n u gs) = ap (λ x. bytes_eq m n && x && fields_equal_under Ignored fs gs) (equal_under-erase t u) ∙ ap (λ x. bytes_eq m n && equal_under Compared (erase t) (erase u) && x) (fields_equal_under-erase fs gs)
-  fields_equal_under-erase _ _ = refl
+-- a rule that holds of any two nullabilities holds at each place
+module _ (R : Nullability → Nullability → Type 0) (any : (m n : Nullability) → R m n) where
+  mutual
+    pub everywhere : (a b : Tree) → erase a ≡ erase b → Wherever R a b
+    everywhere null null e = tt
+    everywhere (bool m) (bool n) e = any m n
+    everywhere (primitive p m) (primitive q n) e = any m n
+    everywhere (decimal p m) (decimal q n) e = any m n
+    everywhere (utf8 m) (utf8 n) e = any m n
+    everywhere (binary m) (binary n) e = any m n
+    everywhere (variant m) (variant n) e = any m n
+    everywhere (list t m) (list u n) e = (any m n, everywhere t u (cc))
+    everywhere (fixed_size_list t j m) (fixed_size_list u k n) e = (any m n, everywhere t u (cc))
+    everywhere (map_of t v x m) (map_of u w y n) e = (any m n, everywhere t u (cc), everywhere v w (cc))
+    everywhere (struct fs m) (struct gs n) e = (any m n, everywhere_fields fs gs (cc))
+    everywhere (union vs m) (union ws n) e = (any m n, everywhere_variants vs ws (cc))
+    everywhere (extension i a t) (extension j b u) e = everywhere t u (cc)
+    everywhere _ _ e = absurd (cc e)
 
-  pub variants_equal_under-erase : (a b : Variants) → variants_equal_under Ignored a b ≡ variants_equal_under Compared (erase_variants a) (erase_variants b)
-  variants_equal_under-erase no_variants no_variants = refl
-  variants_equal_under-erase (choice m t g fs) (choice n u h gs) =
-      ap (λ x. bytes_eq m n && x && (g == h) && variants_equal_under Ignored fs gs) (equal_under-erase t u) ∙ ap (λ x. bytes_eq m n && equal_under Compared (erase t) (erase u) && (g == h) && x) (variants_equal_under-erase fs gs)
-  variants_equal_under-erase _ _ = refl
+    everywhere_fields : (fs gs : Fields) → erase_fields fs ≡ erase_fields gs → WhereverFields R fs gs
+    everywhere_fields no_fields no_fields e = tt
+    everywhere_fields (field m t fs) (field n u gs) e = (everywhere t u (cc), everywhere_fields fs gs (cc))
+    everywhere_fields _ _ e = absurd (cc e)
+
+    everywhere_variants : (vs ws : Variants) → erase_variants vs ≡ erase_variants ws → WhereverVariants R vs ws
+    everywhere_variants no_variants no_variants e = tt
+    everywhere_variants (choice m t g vs) (choice n u i ws) e = (everywhere t u (cc), everywhere_variants vs ws (cc))
+    everywhere_variants _ _ e = absurd (cc e)
+
+-- a rule that holds of a nullability and itself holds at each place of a type and itself
+module _ (R : Nullability → Nullability → Type 0) (same : (n : Nullability) → R n n) where
+  mutual
+    pub reflexive : (a : Tree) → Wherever R a a
+    reflexive null = tt
+    reflexive (list t n) = (same n, reflexive t)
+    reflexive (fixed_size_list t k n) = (same n, reflexive t)
+    reflexive (map_of t u s n) = (same n, reflexive t, reflexive u)
+    reflexive (struct fs n) = (same n, reflexive_fields fs)
+    reflexive (union vs n) = (same n, reflexive_variants vs)
+    reflexive (extension i b s) = reflexive s
+    reflexive (bool n) = same n
+    reflexive (primitive p n) = same n
+    reflexive (decimal d n) = same n
+    reflexive (utf8 n) = same n
+    reflexive (binary n) = same n
+    reflexive (variant n) = same n
+
+    reflexive_fields : (fs : Fields) → WhereverFields R fs fs
+    reflexive_fields no_fields = tt
+    reflexive_fields (field n t fs) = (reflexive t, reflexive_fields fs)
+
+    reflexive_variants : (vs : Variants) → WhereverVariants R vs vs
+    reflexive_variants no_variants = tt
+    reflexive_variants (choice n t g vs) = (reflexive t, reflexive_variants vs)
+
+-- types that are equal but for nullabilities are equal where one rule holds one way and another the other, and these
+-- hold of equal nullabilities alone
+module _ (R S : Nullability → Nullability → Type 0) (one : (m n : Nullability) → R m n → S n m → m ≡ n) where
+  mutual
+    pub equal_by : (a b : Tree) → erase a ≡ erase b → Wherever R a b → Wherever S b a → a ≡ b
+    equal_by null null e h k = refl
+    equal_by (bool m) (bool n) e h k = ap bool (one m n h k)
+    equal_by (primitive p m) (primitive q n) e h k = cc (one m n h k)
+    equal_by (decimal p m) (decimal q n) e h k = cc (one m n h k)
+    equal_by (utf8 m) (utf8 n) e h k = ap utf8 (one m n h k)
+    equal_by (binary m) (binary n) e h k = ap binary (one m n h k)
+    equal_by (list t m) (list u n) e h k = cc (equal_by t u (cc) h.1 k.1, one m n h.0 k.0)
+    equal_by (fixed_size_list t i m) (fixed_size_list u j n) e h k = cc (equal_by t u (cc) h.1 k.1, one m n h.0 k.0)
+    equal_by (map_of t v x m) (map_of u w y n) e h k = cc (equal_by t u (cc) h.1 k.1, equal_by v w (cc) h.2 k.2, one m n h.0 k.0)
+    equal_by (struct fs m) (struct gs n) e h k = cc (equal_fields fs gs (cc) h.1 k.1, one m n h.0 k.0)
+    equal_by (union vs m) (union ws n) e h k = cc (equal_variants vs ws (cc) h.1 k.1, one m n h.0 k.0)
+    equal_by (variant m) (variant n) e h k = ap variant (one m n h k)
+    equal_by (extension i a t) (extension j b u) e h k = cc (equal_by t u (cc) h k)
+    equal_by _ _ e h k = absurd h
+
+    equal_fields : (fs gs : Fields) → erase_fields fs ≡ erase_fields gs → WhereverFields R fs gs → WhereverFields S gs fs → fs ≡ gs
+    equal_fields no_fields no_fields e h k = refl
+    equal_fields (field m t fs) (field n u gs) e h k = cc (equal_by t u (cc) h.0 k.0, equal_fields fs gs (cc) h.1 k.1)
+    equal_fields _ _ e h k = absurd h
+
+    equal_variants : (vs ws : Variants) → erase_variants vs ≡ erase_variants ws → WhereverVariants R vs ws → WhereverVariants S ws vs → vs ≡ ws
+    equal_variants no_variants no_variants e h k = refl
+    equal_variants (choice m t g vs) (choice n u f ws) e h k = cc (equal_by t u (cc) h.0 k.0, equal_variants vs ws (cc) h.1 k.1)
+    equal_variants _ _ e h k = absurd h
 
 pub equal_erased-Decides : (a b : Tree) → Decides (equal_under Ignored a b) (erase a ≡ erase b)
-equal_erased-Decides a b =
-    let d = equal_under-Decides (erase a) (erase b) in
-    (λ e. d.0 (sym (equal_under-erase a b) ∙ e), λ e. equal_under-erase a b ∙ d.1 e)
+equal_erased-Decides a b = restated (λ h. h.0) (λ e. (e, everywhere (Asks Ignored) (λ m n. tt) a b e)) (alike-Decides Ignored a b)
+
+pub sub_Decides : (a b : Tree) → Decides (equal_under Within a b) (Sub a b)
+sub_Decides a b = restated (λ h. record { erased = h.0; nullable = h.1 }) (λ s. (s.erased, s.nullable)) (alike-Decides Within a b)
+
+pub equal_under-Decides : (a b : Tree) → Decides (equal_under Compared a b) (a ≡ b)
+equal_under-Decides a b =
+    restated (λ h. equal_by (Asks Compared) (Asks Ignored) (λ m n e _. e) a b h.0 h.1 (everywhere (Asks Ignored) (λ m n. tt) b a (sym h.0)))
+    (λ e. subst (Alike Compared a) e (refl, reflexive (Asks Compared) (λ n. refl) a)) (alike-Decides Compared a b)
+
+-- fields and variants, as those of a type
+pub fields_equal_under-Decides : (fs gs : Fields) → Decides (fields_equal_under Compared fs gs) (fs ≡ gs)
+fields_equal_under-Decides fs gs = restated (λ e. cc e) (λ e. ap (λ x. struct x NonNullable) e) (equal_under-Decides (struct fs NonNullable) (struct gs NonNullable))
+
+pub variants_equal_under-Decides : (vs ws : Variants) → Decides (variants_equal_under Compared vs ws) (vs ≡ ws)
+variants_equal_under-Decides vs ws = restated (λ e. cc e) (λ e. ap (λ x. union x NonNullable) e) (equal_under-Decides (union vs NonNullable) (union ws NonNullable))
 
 -- ---- `==` of types, as an equivalence
 

@@ -15,36 +15,46 @@ use Rattle.dtype_types.specs.tree.Tree.{Tree, Fields, no_fields, field, Variants
 abbrev pub Allows : Nullability → Nullability → Type 0
 Allows m n = m ≡ Nullable → n ≡ Nullable
 
--- wherever a is nullable b is; types of unequal kinds, or with unequal numbers of fields or of variants,
--- have no places in common
+-- the rule holds of the nullabilities at each place of a and of b; types of unequal kinds, or with unequal numbers of
+-- fields or of variants, have no places in common
 abbrev mutual
-  pub NullableWherever : Tree → Tree → Type 0
-  NullableWherever null null = Unit {0}
-  NullableWherever (bool m) (bool n) = Allows m n
-  NullableWherever (primitive p m) (primitive q n) = Allows m n
-  NullableWherever (decimal d m) (decimal e n) = Allows m n
-  NullableWherever (utf8 m) (utf8 n) = Allows m n
-  NullableWherever (binary m) (binary n) = Allows m n
-  NullableWherever (list t m) (list u n) = Allows m n × NullableWherever t u
-  NullableWherever (fixed_size_list t j m) (fixed_size_list u k n) = Allows m n × NullableWherever t u
-  NullableWherever (map_of t v x m) (map_of u w y n) = Allows m n × NullableWherever t u × NullableWherever v w
-  NullableWherever (struct fs m) (struct gs n) = Allows m n × NullableWhereverFields fs gs
-  NullableWherever (union vs m) (union ws n) = Allows m n × NullableWhereverVariants vs ws
-  NullableWherever (variant m) (variant n) = Allows m n
-  NullableWherever (extension i a t) (extension j b u) = NullableWherever t u
-  NullableWherever _ _ = ⊥
+  pub Wherever : (Nullability → Nullability → Type 0) → Tree → Tree → Type 0
+  Wherever R null null = Unit {0}
+  Wherever R (bool m) (bool n) = R m n
+  Wherever R (primitive p m) (primitive q n) = R m n
+  Wherever R (decimal d m) (decimal e n) = R m n
+  Wherever R (utf8 m) (utf8 n) = R m n
+  Wherever R (binary m) (binary n) = R m n
+  Wherever R (list t m) (list u n) = R m n × Wherever R t u
+  Wherever R (fixed_size_list t j m) (fixed_size_list u k n) = R m n × Wherever R t u
+  Wherever R (map_of t v x m) (map_of u w y n) = R m n × Wherever R t u × Wherever R v w
+  Wherever R (struct fs m) (struct gs n) = R m n × WhereverFields R fs gs
+  Wherever R (union vs m) (union ws n) = R m n × WhereverVariants R vs ws
+  Wherever R (variant m) (variant n) = R m n
+  Wherever R (extension i a t) (extension j b u) = Wherever R t u
+  Wherever R _ _ = ⊥
 
   -- the same of the types of fields, one by one
-  pub NullableWhereverFields : Fields → Fields → Type 0
-  NullableWhereverFields no_fields no_fields = Unit {0}
-  NullableWhereverFields (field m t fs) (field n u gs) = NullableWherever t u × NullableWhereverFields fs gs
-  NullableWhereverFields _ _ = ⊥
+  pub WhereverFields : (Nullability → Nullability → Type 0) → Fields → Fields → Type 0
+  WhereverFields R no_fields no_fields = Unit {0}
+  WhereverFields R (field m t fs) (field n u gs) = Wherever R t u × WhereverFields R fs gs
+  WhereverFields R _ _ = ⊥
 
   -- the same of the types of variants, one by one
-  pub NullableWhereverVariants : Variants → Variants → Type 0
-  NullableWhereverVariants no_variants no_variants = Unit {0}
-  NullableWhereverVariants (choice m t g vs) (choice n u h ws) = NullableWherever t u × NullableWhereverVariants vs ws
-  NullableWhereverVariants _ _ = ⊥
+  pub WhereverVariants : (Nullability → Nullability → Type 0) → Variants → Variants → Type 0
+  WhereverVariants R no_variants no_variants = Unit {0}
+  WhereverVariants R (choice m t g vs) (choice n u h ws) = Wherever R t u × WhereverVariants R vs ws
+  WhereverVariants R _ _ = ⊥
+
+-- wherever a is nullable b is
+abbrev pub NullableWherever : Tree → Tree → Type 0
+NullableWherever a b = Wherever Allows a b
+
+abbrev pub NullableWhereverFields : Fields → Fields → Type 0
+NullableWhereverFields fs gs = WhereverFields Allows fs gs
+
+abbrev pub NullableWhereverVariants : Variants → Variants → Type 0
+NullableWhereverVariants vs ws = WhereverVariants Allows vs ws
 
 -- a is below b
 pub record Sub (a b : Tree) : Type 0 where

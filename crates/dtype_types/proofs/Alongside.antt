@@ -18,7 +18,7 @@ use Rattle.dtype_types.specs.tree.TreeOf.{tree, with_trees, with_tagged_trees}
 use Rattle.dtype_types.specs.declared.dtype.DType.{DType}
 use Rattle.dtype_types.specs.declared.dtype.equality.NullabilityRule.{NullabilityRule}
 use Rattle.dtype_types.specs.parts.Lookups.{variant_tags}
-use Rattle.dtype_types.specs.texts.Text.{consecutive}
+use Rattle.dtype_types.proofs.ConsecutiveTags.{consecutive}
 use Rattle.dtype_types.specs.equality.Equality.{equal_under, fields_equal_under, variants_equal_under}
 
 pub and_first : (x y : Bool) → x ≡ false → (x && y) ≡ false

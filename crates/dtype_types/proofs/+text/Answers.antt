@@ -11,8 +11,10 @@ use Rattle.dtype_types.proofs.ConsecutiveTags.{told_by_test}
 use Rattle.dtype_types.proofs.Depths.{no_deeper}
 use Rattle.dtype_types.proofs.Walks.{next_of, none_of}
 use Rattle.dtype_types.proofs.Texts.{leading, leading_all, one_written, all_written, named_text, tagged_text}
-use Rattle.dtype_types.specs.tree.Tree.{fields, variants}
-use Rattle.dtype_types.specs.texts.Text.{text, bool_text, field_texts, choice_texts, consecutive, tag_text}
+use Rattle.dtype_types.specs.tree.Tree.{fields, variants, triples}
+use Rattle.dtype_types.specs.parts.Lookups.{variant_tags}
+use Rattle.dtype_types.specs.parts.Unions.{are_consecutive}
+use Rattle.dtype_types.specs.texts.Text.{text, bool_text, field_texts, choice_texts, tag_text}
 use Rattle.std.specs.Map.{values_of}
 use Rattle.dtype_types.specs.parts.Lists.{types_of, borrowed_pair, borrowed_triple}
 use Rattle.dtype_types.specs.tree.TreeOf.{variant_list, struct_dtypes, fields_of, union_dtypes, variants_of, tree, with_trees, with_tagged_trees}
@@ -74,7 +76,7 @@ union_variants::UnionVariantsDisplay::fmt-loop-name-init g t c = record {
   utf8 = search rules;
   within = search rules;
   written = λ plain.
-      let k = consecutive 0 (variants_of c.args.self.now) in
+      let k = are_consecutive (variant_tags (triples (variants_of c.args.self.now))) in
       let nothing : HasWritten g.W.Write.write_str_gives c.args.f.now [] c.args.f.now = search rules in
       ([], nothing, ap (λ ps. leading [] (codes ", ") (choice_texts k (variants (with_tagged_trees ps)))) (search rules));
 }
@@ -84,7 +86,7 @@ union_variants::UnionVariantsDisplay::fmt-loop-name-preserved g t c = record {
   utf8 = search rules;
   within = no_deeper (most size-DType (union_dtypes c.args.self.now)) (types_of c.loop-name.name-iterator) (types_of c.next.new.self) c.in-Some.dtype.now (ap types_of (next_of borrowed_triple c.loop-name.name-iterator c.next.new.self c.next.result (c.in-Some.name, c.in-Some.tag, c.in-Some.dtype) c.in-Some.is c.next.ensures.steps)) c.loop-name.invariant.within;
   written = λ plain.
-      let k = consecutive 0 (variants_of c.args.self.now) in
+      let k = are_consecutive (variant_tags (triples (variants_of c.args.self.now))) in
       let n = escaped c.in-Some.name.now in
       let d = text (tree c.in-Some.dtype.now) in
       let tag = c.in-Some.tag in
@@ -104,7 +106,7 @@ union_variants::UnionVariantsDisplay::fmt-loop-name-preserved g t c = record {
 pub union_variants::UnionVariantsDisplay::fmt-returns-clause-writes : goal.union_variants::UnionVariantsDisplay::fmt-returns-clause-writes
 unfolding union_text
 union_variants::UnionVariantsDisplay::fmt-returns-clause-writes g t c = λ plain ok.
-    let k = consecutive 0 (variants_of c.args.self.now) in
+    let k = are_consecutive (variant_tags (triples (variants_of c.args.self.now))) in
     let so_far = c.loop-name.invariant.written plain in
     let none = none_of borrowed_triple c.loop-name.name-iterator c.next.new.self c.next.result c.in-None.is c.next.ensures.steps in
     let all = all_written (codes ", ") c.loop-name.separator.now so_far.0 _ _ so_far.2 (ap (λ ps. choice_texts k (variants (with_tagged_trees ps))) none) ∙ leading_all (codes ", ") (choice_texts k (variants_of c.args.self.now)) in

@@ -7,8 +7,10 @@ use denote.Shadow.{shadow}
 use denote.Text.{Utf8}
 use denote.Param.Weighed.{most}
 use Rattle.dtype_types.proofs.Texts.{leading}
-use Rattle.dtype_types.specs.texts.Text.{field_texts, choice_texts, consecutive}
-use Rattle.dtype_types.specs.tree.Tree.{fields, variants}
+use Rattle.dtype_types.specs.parts.Lookups.{variant_tags}
+use Rattle.dtype_types.specs.parts.Unions.{are_consecutive}
+use Rattle.dtype_types.specs.texts.Text.{field_texts, choice_texts}
+use Rattle.dtype_types.specs.tree.Tree.{fields, variants, triples}
 use Rattle.dtype_types.specs.tree.TreeOf.{struct_dtypes, fields_of, union_dtypes, variants_of, with_trees, with_tagged_trees}
 use Rattle.std.specs.Map.{values_of}
 use Rattle.dtype_types.specs.parts.Lists.{types_of}
@@ -29,5 +31,5 @@ invariant-union_variants::UnionVariantsDisplay::fmt-loop-name g l = record {
   utf8 : shadow (Utf8 l.separator);
   within : most size-DType (types_of l.name-iterator) ≤ most size-DType (union_dtypes l.self);
   written : IsPlainFormatter l.initial.f → (done : List ℕ) × HasWritten g.W.Write.write_str_gives l.initial.f done l.f
-      × (done ++ leading l.separator (codes ", ") (choice_texts (consecutive 0 (variants_of l.self)) (variants (with_tagged_trees l.name-iterator))) ≡ leading [] (codes ", ") (choice_texts (consecutive 0 (variants_of l.self)) (variants_of l.self)));
+      × (done ++ leading l.separator (codes ", ") (choice_texts (are_consecutive (variant_tags (triples (variants_of l.self)))) (variants (with_tagged_trees l.name-iterator))) ≡ leading [] (codes ", ") (choice_texts (are_consecutive (variant_tags (triples (variants_of l.self)))) (variants_of l.self)));
 }

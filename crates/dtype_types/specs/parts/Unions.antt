@@ -3,7 +3,8 @@
 
 -- Which names, types and tags make a union, and which error they get where they don't. From the
 -- documentation of `UnionVariants::try_new` and `UnionVariants::new`.
-use Rattle.std.specs.Prelude.{◌≡◌, ◌≢◌, ℕ, List, [], length}
+use Rattle.std.specs.Prelude.{◌≡◌, ◌≢◌, ℕ, List, [], length, Bool, nat_eq}
+use Rattle.std.specs.Cmp.Lexicographic.{pointwise}
 use Rattle.std.specs.List.{range_with_len}
 use Rattle.dtype_base.specs.declared.vortex_error.VortexError.{VortexError}
 use Rattle.dtype_base.specs.declared.vortex_error.VortexError.TheVariants.{UnionTypesLength, UnionTagsLength, UnionEmpty, UnionTagsRepeat, UnionNamesRepeat}
@@ -19,6 +20,10 @@ HasUnionLengths names types tags = (length names ≡ types) × (length names ≡
 -- the tags are 0, 1, 2 and so on, as `UnionVariants::new` gives them
 abbrev pub AreConsecutive : List ℕ → Type 0
 AreConsecutive tags = tags ≡ range_with_len 0 (length tags)
+
+-- the test of that
+abbrev pub are_consecutive : List ℕ → Bool
+are_consecutive tags = pointwise nat_eq tags (range_with_len 0 (length tags))
 
 -- these names, that many types and these tags make a union
 abbrev pub MakesUnion : List (List ℕ) → ℕ → List ℕ → Type 0

@@ -3,13 +3,15 @@
 
 -- The text of a type. A type is written by its kind, what it holds in brackets or braces, and `?` where
 -- it is nullable; names are escaped, ids are written as they are. From the `Display` of `DType`.
-use Rattle.std.specs.Prelude.{ℕ, ◌+◌, ◌==◌, List, [], ◌∷◌, ◌++◌, codes, decimal as digits, length, Bool, true, false, ◌&&◌, if◌then◌else◌}
+use Rattle.std.specs.Prelude.{ℕ, List, [], ◌∷◌, ◌++◌, codes, decimal as digits, length, Bool, true, false, if◌then◌else◌}
 use Rattle.std.specs.List.{join_by}
 use Rattle.dtype_base.specs.Decimals.{decimal_text}
 use Rattle.dtype_base.specs.Escapes.{escaped}
 use Rattle.dtype_base.specs.Nullability.{nullability_text}
 use Rattle.dtype_base.specs.Primitives.{ptype_row}
-use Rattle.dtype_types.specs.tree.Tree.{Tree, Fields, no_fields, field, Variants, no_variants, choice, null, bool, primitive, decimal, utf8, binary, list, fixed_size_list, map_of, struct, union, variant, extension}
+use Rattle.dtype_types.specs.parts.Lookups.{variant_tags}
+use Rattle.dtype_types.specs.parts.Unions.{are_consecutive}
+use Rattle.dtype_types.specs.tree.Tree.{Tree, Fields, no_fields, field, Variants, no_variants, choice, null, bool, primitive, decimal, utf8, binary, list, fixed_size_list, map_of, struct, union, variant, extension, triples}
 
 -- true or false
 abbrev pub bool_text : Bool → List ℕ
@@ -18,11 +20,6 @@ bool_text b = if b then codes "true" else codes "false"
 -- how many bytes of metadata an extension has
 abbrev pub metadata_text : List ℕ → List ℕ
 metadata_text bytes = digits (length bytes) ++ codes "B"
-
--- the tags are n, n + 1 and so on
-abbrev pub consecutive : ℕ → Variants → Bool
-consecutive n no_variants = true
-consecutive n (choice m t g rest) = (g == n) && consecutive (n + 1) rest
 
 -- a tag, which isn't written where tags are consecutive
 abbrev pub tag_text : Bool → ℕ → List ℕ
@@ -42,7 +39,7 @@ abbrev mutual
   text (fixed_size_list t k n) = codes "fixed_size_list(" ++ (text t ++ (codes ")[" ++ (digits k ++ (codes "]" ++ nullability_text n))))
   text (map_of k v s n) = codes "map(" ++ (text k ++ (codes ", " ++ (text v ++ (codes ", keys_sorted=" ++ (bool_text s ++ (codes ")" ++ nullability_text n))))))
   text (struct fs n) = codes "{" ++ (join_by (λ t. t) (codes ", ") (field_texts fs) ++ (codes "}" ++ nullability_text n))
-  text (union vs n) = codes "union(" ++ (join_by (λ t. t) (codes ", ") (choice_texts (consecutive 0 vs) vs) ++ (codes ")" ++ nullability_text n))
+  text (union vs n) = codes "union(" ++ (join_by (λ t. t) (codes ", ") (choice_texts (are_consecutive (variant_tags (triples vs))) vs) ++ (codes ")" ++ nullability_text n))
   text (variant n) = codes "variant" ++ nullability_text n
   text (extension id b s) = id ++ (codes "[" ++ (metadata_text b ++ (codes "](" ++ (text s ++ codes ")"))))
 

@@ -4,7 +4,10 @@
 -- The texts of a type's parts: fields, variants, a map, an extension, its metadata. From the `Display` of each.
 use Rattle.std.specs.Prelude.{ℕ, List, ◌++◌, codes}
 use Rattle.std.specs.List.{join_by}
-use Rattle.dtype_types.specs.texts.Text.{text, bool_text, field_texts, choice_texts, consecutive, metadata_text}
+use Rattle.dtype_types.specs.parts.Lookups.{variant_tags}
+use Rattle.dtype_types.specs.tree.Tree.{triples}
+use Rattle.dtype_types.specs.parts.Unions.{are_consecutive}
+use Rattle.dtype_types.specs.texts.Text.{text, bool_text, field_texts, choice_texts, metadata_text}
 use Rattle.dtype_types.specs.tree.TreeOf.{fields_of, variants_of, extension_id, extension_metadata, storage_tree, map_shown}
 use Rattle.dtype_types.specs.declared.struct_fields.StructFields.{StructFields}
 use Rattle.dtype_types.specs.declared.union_variants.UnionVariants.{UnionVariants}
@@ -21,7 +24,7 @@ struct_text s = codes "{" ++ (join_by (λ t. t) (codes ", ") (field_texts (field
 
 -- the variants of a union, separated by commas
 unfoldable pub union_text : UnionVariants → List ℕ
-union_text u = join_by (λ t. t) (codes ", ") (choice_texts (consecutive 0 (variants_of u)) (variants_of u))
+union_text u = join_by (λ t. t) (codes ", ") (choice_texts (are_consecutive (variant_tags (triples (variants_of u)))) (variants_of u))
 
 -- the text of an extension
 unfoldable pub extension_text : ExtDTypeRef → List ℕ

@@ -4,9 +4,8 @@
 use Rattle.std.proofs.Common.{◌≡◌, [], sym, ◌∙◌, arith, get_or, true, false, ap, drop}
 use Rattle.std.proofs.lemmas.Grind.{common_steps}
 use Rattle.std.proofs.lemmas.List.{length-map}
-use Rattle.dtype_types.proofs.ConsecutiveTags.{tested}
+use Rattle.dtype_types.proofs.ConsecutiveTags.{consecutive, tested}
 use Rattle.dtype_types.proofs.Alongside.{consecutive_turn, tags_same, tags_differ, and_first, and_both, tag_at}
-use Rattle.dtype_types.specs.texts.Text.{consecutive}
 use Rattle.dtype_types.specs.tree.Tree.{variants}
 use Rattle.dtype_types.specs.tree.TreeOf.{variant_list}
 use Rattle.dtype_types.proofs.union_variants.UnionVariants.is_consecutive.Goals as goal

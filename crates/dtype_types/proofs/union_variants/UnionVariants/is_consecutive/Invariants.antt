@@ -2,7 +2,7 @@
 -- SPDX-FileCopyrightText: Copyright the Vortex contributors
 
 use Rattle.std.proofs.Common.{◌≡◌, drop}
-use Rattle.dtype_types.specs.texts.Text.{consecutive}
+use Rattle.dtype_types.proofs.ConsecutiveTags.{consecutive}
 use Rattle.dtype_types.specs.tree.Tree.{variants}
 use Rattle.dtype_types.specs.tree.TreeOf.{variant_list}
 use Rattle.dtype_types.proofs.union_variants.UnionVariants.is_consecutive.Given as goal

@@ -2,7 +2,7 @@
 -- SPDX-FileCopyrightText: Copyright the Vortex contributors
 
 -- The variants of a valid union by recursion: each has a valid type, and a tag that none after it has.
-use Rattle.std.proofs.Common.{◌≡◌, ◌≢◌, ℕ, zero, suc, ◌<◌, ◌∙◌, inl, inr, length, refl, sym, ap, subst, arith}
+use Rattle.std.proofs.Common.{◌≡◌, ◌≢◌, ℕ, zero, suc, ◌<◌, ◌∙◌, inl, inr, length, refl, sym, subst, arith}
 use Rattle.std.specs.List.{AllByRecursion}
 use Rattle.std.proofs.lemmas.List.{length-map}
 use Rattle.std.proofs.lemmas.List.Elements.{recursion_from_All}
@@ -10,11 +10,12 @@ use Rattle.dtype_base.specs.Bytes.{Bytes}
 use Rattle.dtype_base.specs.Distinct.{Distinct}
 use Rattle.dtype_base.specs.declared.nullability.Nullability.{Nullability}
 use Rattle.dtype_types.specs.parts.Lookups.{variant_names, variant_tags}
-use Rattle.dtype_types.specs.parts.Unions.{AreVariants}
+use Rattle.dtype_types.specs.parts.Unions.{HasUnionLengths, AreVariants}
 use Rattle.dtype_types.specs.tree.Erase.{erase_variants}
 use Rattle.dtype_types.specs.tree.Tree.{Variants, no_variants, choice, triples, union}
 use Rattle.dtype_types.specs.tree.Valid.{Valid, ValidVariants}
 use Rattle.dtype_types.specs.values.Value.{Value, VariantOf}
+use Rattle.dtype_types.proofs.lemmas.ValidLists.{variants_are, are_variants}
 
 -- none of these variants has the tag
 abbrev pub LacksTag : ℕ → Variants → Type 0
@@ -33,7 +34,7 @@ each_tag (choice n t g rest) apart valid = (
 )
 
 pub own_tags : (vs : Variants) (n : Nullability) → Valid (union vs n) → OwnTags vs
-own_tags vs n h = each_tag vs h.0.0.1 h.1
+own_tags vs n h = each_tag vs (variants_are vs h.0).0.1 h.1
 
 -- a variant has a tag that is there
 pub absent : (g : ℕ) (vs : Variants) → LacksTag g vs → (h : ℕ) (v : Value) → h ≡ g → VariantOf h v vs → ⊥
@@ -55,9 +56,10 @@ same_names _ _ e = cc
 pub lacks_also : (g : ℕ) (vs ws : Variants) → erase_variants vs ≡ erase_variants ws → LacksTag g vs → LacksTag g ws
 lacks_also g vs ws e h = subst (AllByRecursion (λ h. g ≢ h)) (same_tags vs ws e) h
 
-pub are_variants_also : (vs ws : Variants) → erase_variants vs ≡ erase_variants ws → AreVariants (triples vs) → AreVariants (triples ws)
+pub are_variants_also : (vs ws : Variants) → erase_variants vs ≡ erase_variants ws → AreVariants vs → AreVariants ws
 are_variants_also vs ws e h =
+    let was = variants_are vs h in
     let tags = same_tags vs ws e in
     let names = same_names vs ws e in
-    let lengths = (length-map (triples ws) (λ v. v.0), length-map (triples ws) (λ v. v.0) ∙ sym (length-map (triples ws) (λ v. v.1.1)), λ none. h.0.0.2 (names ∙ none)) in
-    ((lengths, subst (λ gs. Distinct gs) tags h.0.1, subst (λ ns. Distinct ns) names h.0.2), subst Bytes tags h.1)
+    let lengths : HasUnionLengths (variant_names (triples ws)) (length (triples ws)) (variant_tags (triples ws)) = (length-map (triples ws) (λ v. v.0), length-map (triples ws) (λ v. v.0) ∙ sym (length-map (triples ws) (λ v. v.1.1)), λ none. was.0.0.2 (names ∙ none)) in
+    are_variants ws (lengths, subst (λ gs. Distinct gs) tags was.0.1, subst (λ ns. Distinct ns) names was.0.2) (subst Bytes tags was.1)

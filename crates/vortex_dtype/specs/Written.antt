@@ -3,13 +3,14 @@
 
 -- The message of a type, with every child, flag and metadata, from the documentation of `to_proto`; and the normal
 -- form of a message, in which each extension has the metadata that the session keeps.
-use Rattle.std.specs.Prelude.{◌≡◌, ℕ, ℤ, pos, List, [], ◌∷◌, Some, Bool, true, false}
+use Rattle.std.specs.Prelude.{◌≡◌, ℕ, ℤ, pos, List, map, Some, Bool, true, false}
 use Rattle.dtype_base.specs.declared.nullability.Nullability.{Nullability}
 use Rattle.dtype_base.specs.declared.nullability.Nullability.TheVariants.{NonNullable, Nullable}
 use Rattle.dtype_base.specs.Primitives.{ptype_row}
 use Rattle.dtype_types.specs.declared.extension.ExtDTypeRef.{ExtDTypeRef}
+use Rattle.dtype_types.specs.parts.Lookups.{field_names, variant_names, variant_tags}
 use Rattle.dtype_types.specs.tree.Tree as of
-use Rattle.dtype_types.specs.tree.Tree.{Tree, Fields, no_fields, field, Variants, no_variants, choice}
+use Rattle.dtype_types.specs.tree.Tree.{Tree, Fields, no_fields, field, pairs, Variants, no_variants, choice, triples}
 use Rattle.dtype_types.specs.tree.TreeOf.{extension_id, extension_metadata}
 use Rattle.dtype_messages.specs.Message.{Message, Child, Messages, missing, null, bool, primitive, decimal, utf8, binary, list, fixed_size_list, map_of, struct, union, variant, extension, absent, present, no_message, more}
 use Rattle.vortex_dtype.specs.Meaning.{Meaning, keeps}
@@ -19,6 +20,16 @@ use Rattle.vortex_dtype.specs.Reads.{ReadsChild}
 abbrev pub is_nullable : Nullability → Bool
 is_nullable Nullable = true
 is_nullable NonNullable = false
+
+-- the names of fields and of variants, and the tags of variants
+abbrev pub written_names : Fields → List (List ℕ)
+written_names fs = field_names (pairs fs)
+
+abbrev pub written_variant_names : Variants → List (List ℕ)
+written_variant_names vs = variant_names (triples vs)
+
+abbrev pub written_tags : Variants → List ℤ
+written_tags vs = map pos (variant_tags (triples vs))
 
 abbrev mutual
   pub written : Tree → Message
@@ -36,25 +47,13 @@ abbrev mutual
   written (of.variant n) = variant (is_nullable n)
   written (of.extension id b x) = extension id (present (written x)) (Some b)
 
-  pub written_names : Fields → List (List ℕ)
-  written_names no_fields = []
-  written_names (field n x rest) = n ∷ written_names rest
-
   pub written_fields : Fields → Messages
   written_fields no_fields = no_message
   written_fields (field n x rest) = more (written x) (written_fields rest)
 
-  pub written_variant_names : Variants → List (List ℕ)
-  written_variant_names no_variants = []
-  written_variant_names (choice n x g rest) = n ∷ written_variant_names rest
-
   pub written_variants : Variants → Messages
   written_variants no_variants = no_message
   written_variants (choice n x g rest) = more (written x) (written_variants rest)
-
-  pub written_tags : Variants → List ℤ
-  written_tags no_variants = []
-  written_tags (choice n x g rest) = pos g ∷ written_tags rest
 
 -- the message of an extension over a storage of this message: its id, and its metadata, also where that is empty
 abbrev pub extension_message : ExtDTypeRef → Message → Message

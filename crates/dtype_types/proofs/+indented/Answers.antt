@@ -20,11 +20,11 @@ use Rattle.dtype_types.specs.declared.dtype.DType.{size-DType}
 use Rattle.dtype_types.proofs.+indented.Goals as goal
 use Rattle.dtype_types.proofs.+indented.Goals.{struct_fields::StructFields::write_indented-then-nfields-gt0+in_ok-push_str-2, struct_fields::StructFields::write_indented-else-nfields-gt0}
 
-pub dtype::DType::write_indented-returns-in_ok-write-in-Struct-clause-ok : goal.dtype::DType::write_indented-returns-in_ok-write-in-Struct-clause-ok
-dtype::DType::write_indented-returns-in_ok-write-in-Struct-clause-ok t c =
+pub dtype::DType::write_indented-returns-in_ok-write-in-Struct-clause-written : goal.dtype::DType::write_indented-returns-in_ok-write-in-Struct-clause-written
+dtype::DType::write_indented-returns-in_ok-write-in-Struct-clause-written t c =
     let e = indented_struct c.args.indent.now c.in-Struct.fields c.in-Struct.n c.args.self.now c.in-Struct.is in
     let before = string_bytes c.args.out.now in
-    c.in_ok-write-in-Struct.ensures.bytes ∙ ap (λ xs. xs ++ nullability_text c.in-Struct.n) c.in_ok-write_indented-in-Struct.ensures.ok ∙ append_assoc before (indented_braces c.args.indent.now (fields_of c.in-Struct.fields)) (nullability_text c.in-Struct.n) ∙ ap (λ xs. before ++ xs) e
+    c.in_ok-write-in-Struct.ensures.bytes ∙ ap (λ xs. xs ++ nullability_text c.in-Struct.n) c.in_ok-write_indented-in-Struct.ensures.written ∙ append_assoc before (indented_braces c.args.indent.now (fields_of c.in-Struct.fields)) (nullability_text c.in-Struct.n) ∙ ap (λ xs. before ++ xs) e
 
 pub struct_fields::StructFields::write_indented-loop-name-preserved : goal.struct_fields::StructFields::write_indented-loop-name-preserved
 struct_fields::StructFields::write_indented-loop-name-preserved t c =
@@ -46,8 +46,8 @@ struct_fields::StructFields::write_indented-loop-name-preserved t c =
       written = ap (λ xs. xs ++ leading (codes ",\n") (codes ",\n") rest) ended ∙ one_written (codes ",\n") separator start _ x _ rest c.loop-name.invariant.written (ap (λ ps. indented_fields inner (fields (with_trees ps))) next);
     }
 
-pub struct_fields::StructFields::write_indented-returns-clause-ok : goal.struct_fields::StructFields::write_indented-returns-clause-ok
-struct_fields::StructFields::write_indented-returns-clause-ok t c =
+pub struct_fields::StructFields::write_indented-returns-clause-written : goal.struct_fields::StructFields::write_indented-returns-clause-written
+struct_fields::StructFields::write_indented-returns-clause-written t c =
     let s = c.args.self.now in
     let ps = children s in
     let before = string_bytes c.args.out.now in

@@ -15,6 +15,7 @@ use Rattle.dtype_types.specs.values.Sample.{sample, samples, copies}
 use Rattle.dtype_types.specs.values.Value.{Value, Values, Entries, Named, IncludedIn, Of, NamedOf, VariantOf, Each, EachEntry, value_count, null_value, items, fixed_items, entries, record_of, tagged, no_values, value, no_entries, entry, no_named, named}
 use Rattle.dtype_types.proofs.lemmas.SampleLaws.{sample_of, samples_of, each_copy, value_count-copies}
 use Rattle.dtype_types.proofs.lemmas.SubValues.{each_of, each_entry}
+use Rattle.dtype_types.proofs.lemmas.ValidLists.{variants_are}
 use Rattle.dtype_types.proofs.OwnTags.{OwnTags, LacksTag, own_tags, absent, lacks_also}
 
 -- ---- the values that both have
@@ -196,7 +197,7 @@ least_union : (vs ws xs : Variants) (m n : Nullability) → Valid (union vs m) �
 least_union vs ws xs m n h f d x i j null_value o = null_either m n (Of null_value d) (i null_value) (j null_value) o
 least_union (choice l t k vs) ws xs m n h f d x i j (tagged g v) o =
     tagged_in (choice l t k vs) ws xs k (sample t) (inl (refl, sample_of t h.1.0)) f d x (λ g v. i (tagged g v)) (λ g v. j (tagged g v)) g v o
-least_union no_variants ws xs m n h f d x i j (tagged g v) o = absurd (h.0.0.0.2 refl)
+least_union no_variants ws xs m n h f d x i j (tagged g v) o = absurd ((variants_are no_variants h.0).0.0.2 refl)
 least_union vs ws xs m n h f d x i j _ o = absurd o
 
 -- the type that a tag has, in variants of distinct tags

@@ -13,6 +13,7 @@ use Rattle.std.proofs.lemmas.List.Sums.{fails_before_first, position_or_len_is}
 use Rattle.std.proofs.lemmas.Option.{slice_get-get_or, slice_get_past, slice_get_within, slice_get_read, get_or_from_slice_get}
 use Rattle.dtype_base.specs.Distinct.{Distinct}
 use Rattle.dtype_types.proofs.lemmas.TreeLaws.{triples_variants}
+use Rattle.dtype_types.proofs.lemmas.ValidLists.{variants_are}
 use Rattle.dtype_types.specs.tree.Tree.{Tree}
 use Rattle.dtype_types.specs.parts.Unions.{AreConsecutive}
 use Rattle.dtype_types.specs.tree.Valid.{Valid}
@@ -26,7 +27,7 @@ position_of_tag u h i tag here =
     let gs = variant_tags (variant_list u) in
     let within = slice_get_within gs i tag here in
     let is = get_or_from_slice_get gs i tag 0 here in
-    let apart : Distinct gs = subst (λ vs. Distinct (variant_tags vs)) (triples_variants (variant_list u)) h.0.0.1 in
+    let apart : Distinct gs = subst (λ vs. Distinct (variant_tags vs)) (triples_variants (variant_list u)) (variants_are _ h.0).0.1 in
     let first = position_or_len_is (λ g. g == tag) gs i 0 (omega arith)
     (λ k before. false_from_ne_true _ (λ e. apart k i 0 before within ((Decides-eqb _ _).0 e ∙ sym is)))
     (λ _. (Decides-eqb _ _).1 is) in

@@ -12,7 +12,7 @@ use Rattle.dtype_base.specs.Bytes.{Bytes}
 use Rattle.dtype_base.specs.Distinct.{Distinct}
 use Rattle.dtype_types.specs.parts.Lookups.{field_types, variant_names, variant_types, variant_tags}
 use Rattle.dtype_types.specs.parts.Unions.{MakesUnion, AreVariants}
-use Rattle.dtype_types.specs.tree.Tree.{Tree, fields, variants, triples}
+use Rattle.dtype_types.specs.tree.Tree.{Tree, Variants, fields, variants, triples}
 use Rattle.dtype_types.specs.tree.Valid.{Valid, ValidFields, ValidVariants}
 use Rattle.dtype_types.proofs.lemmas.TreeLaws.{triples_variants}
 
@@ -27,18 +27,30 @@ each_variant : (vs : List (List ℕ × (Tree × ℕ))) → AllByRecursion Valid 
 each_variant [] h = tt
 each_variant (v ∷ vs) h = (h.0, each_variant vs h.1)
 
+-- what the variants of a union are
+pub variants_are : (vs : Variants) → AreVariants vs → MakesUnion (variant_names (triples vs)) (length (triples vs)) (variant_tags (triples vs)) × Bytes (variant_tags (triples vs))
+unfolding AreVariants
+variants_are vs h = h
+
+pub are_variants : (vs : Variants) → MakesUnion (variant_names (triples vs)) (length (triples vs)) (variant_tags (triples vs)) → Bytes (variant_tags (triples vs)) → AreVariants vs
+unfolding AreVariants
+are_variants vs made bytes = (made, bytes)
+
+listed_variants : (vs : List (List ℕ × (Tree × ℕ))) → MakesUnion (variant_names vs) (length vs) (variant_tags vs) → Bytes (variant_tags vs) → AreVariants (variants vs)
+unfolding AreVariants
+listed_variants vs made bytes = subst (λ ps. MakesUnion (variant_names ps) (length ps) (variant_tags ps) × Bytes (variant_tags ps)) (sym (triples_variants vs)) (made, bytes)
+
 -- names, types and tags that make a union, side by side
-pub zipped_variants : (ns : List (List ℕ)) (ts : List Tree) (gs : List ℕ) → MakesUnion ns (length ts) gs → Bytes gs → AreVariants (triples (variants (zip ns (zip ts gs))))
+pub zipped_variants : (ns : List (List ℕ)) (ts : List Tree) (gs : List ℕ) → MakesUnion ns (length ts) gs → Bytes gs → AreVariants (variants (zip ns (zip ts gs)))
 zipped_variants ns ts gs made bytes =
     let vs = zip ns (zip ts gs) in
     let all : length (zip ts gs) ≡ length ns = omega (arith, length-zip ts gs, made.0.0, made.0.1) in
     let names : variant_names vs ≡ ns = firsts-zip ns (zip ts gs) all in
     let tags : variant_tags vs ≡ gs = sym (map-map (λ (q : Tree × ℕ). q.1) (λ p. p.1) vs) ∙ ap (map (λ (q : Tree × ℕ). q.1)) (seconds-zip ns (zip ts gs) all) ∙ seconds-zip ts gs (omega (arith, made.0.0, made.0.1)) in
     let count : length (variant_names vs) ≡ length vs = length-map vs (λ v. v.0) in
-    subst AreVariants (sym (triples_variants vs)) (
-      ((count, count ∙ sym (length-map vs (λ v. v.1.1)), λ none. made.0.2 (sym names ∙ none)), subst (λ hs. Distinct hs) (sym tags) made.1, subst (λ ms. Distinct ms) (sym names) made.2),
-      subst Bytes (sym tags) bytes,
-    )
+    listed_variants vs
+    ((count, count ∙ sym (length-map vs (λ v. v.1.1)), λ none. made.0.2 (sym names ∙ none)), subst (λ hs. Distinct hs) (sym tags) made.1, subst (λ ms. Distinct ms) (sym names) made.2)
+    (subst Bytes (sym tags) bytes)
 
-pub valid_union_of : (vs : List (List ℕ × (Tree × ℕ))) → MakesUnion (variant_names vs) (length vs) (variant_tags vs) → Bytes (variant_tags vs) → All Valid (variant_types vs) → AreVariants (triples (variants vs)) × ValidVariants (variants vs)
-valid_union_of vs made bytes valid = (subst AreVariants (sym (triples_variants vs)) (made, bytes), each_variant vs (recursion_from_All Valid (variant_types vs) valid))
+pub valid_union_of : (vs : List (List ℕ × (Tree × ℕ))) → MakesUnion (variant_names vs) (length vs) (variant_tags vs) → Bytes (variant_tags vs) → All Valid (variant_types vs) → AreVariants (variants vs) × ValidVariants (variants vs)
+valid_union_of vs made bytes valid = (listed_variants vs made bytes, each_variant vs (recursion_from_All Valid (variant_types vs) valid))

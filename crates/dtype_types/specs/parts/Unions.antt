@@ -11,7 +11,7 @@ use Rattle.dtype_base.specs.declared.vortex_error.VortexError.TheVariants.{Union
 use Rattle.dtype_base.specs.Bytes.{Bytes}
 use Rattle.dtype_base.specs.Distinct.{Distinct}
 use Rattle.dtype_types.specs.parts.Lookups.{variant_names, variant_tags}
-use Rattle.dtype_types.specs.tree.Tree.{Tree}
+use Rattle.dtype_types.specs.tree.Tree.{Variants, triples}
 
 -- as many types as names, as many tags as names, and at least one
 abbrev pub HasUnionLengths : List (List ℕ) → ℕ → List ℕ → Type 0
@@ -30,8 +30,8 @@ abbrev pub MakesUnion : List (List ℕ) → ℕ → List ℕ → Type 0
 MakesUnion names types tags = HasUnionLengths names types tags × Distinct tags × Distinct names
 
 -- these are the variants of a union: `try_new` accepts their names and tags, and the tags are bytes
-abbrev pub AreVariants : List (List ℕ × (Tree × ℕ)) → Type 0
-AreVariants vs = MakesUnion (variant_names vs) (length vs) (variant_tags vs) × Bytes (variant_tags vs)
+unfoldable pub AreVariants : Variants → Type 0
+AreVariants vs = MakesUnion (variant_names (triples vs)) (length (triples vs)) (variant_tags (triples vs)) × Bytes (variant_tags (triples vs))
 
 -- they don't make one, with this error: that of the first rule that is broken, in this order
 abbrev pub UnionError : List (List ℕ) → ℕ → List ℕ → VortexError → Type 0

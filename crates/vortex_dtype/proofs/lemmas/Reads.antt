@@ -14,14 +14,13 @@ use Rattle.dtype_base.specs.declared.nullability.Nullability.TheVariants.{NonNul
 use Rattle.dtype_base.specs.declared.vortex_error.VortexError.{VortexError}
 use Rattle.dtype_base.specs.declared.vortex_error.MessageFault.{MessageFault}
 use Rattle.dtype_base.specs.declared.vortex_error.MessageFault.TheVariants.{ListElementMissing, FixedElementMissing, MapKeyMissing, MapValueMissing, StorageMissing}
-use Rattle.dtype_base.specs.Distinct.{Distinct}
 use Rattle.dtype_types.specs.nullability.Nullable.{nullability, set_null}
-use Rattle.dtype_types.specs.parts.Lookups.{variant_names, variant_tags}
+use Rattle.dtype_types.specs.parts.Lookups.{variant_tags}
 use Rattle.dtype_types.specs.parts.Unions.{MakesUnion}
 use Rattle.dtype_types.specs.tree.Tree as of
 use Rattle.dtype_types.specs.tree.Tree.{Tree, Fields, no_fields, field, fields, Variants, no_variants, choice, variants, triples}
 use Rattle.dtype_types.specs.tree.Valid.{Valid, ValidFields, ValidVariants}
-use Rattle.dtype_types.proofs.lemmas.ValidLists.{zipped_variants}
+use Rattle.dtype_types.proofs.lemmas.ValidLists.{variants_are, zipped_variants}
 use Rattle.dtype_messages.specs.Message.{Message, Child, Messages, messages, missing, null, primitive, decimal, list, fixed_size_list, map_of, struct, union, extension, absent, present, no_message, more}
 use Rattle.vortex_dtype.specs.Meaning.{Meaning, LawfulSession, Admits, AdmitsFields, AdmitsVariants, keeps}
 use Rattle.vortex_dtype.specs.ReadInOrder.{or_empty, read}
@@ -206,10 +205,6 @@ mutual
 of_both : {X : Type 0} (made : X → Nullability → Tree) (x y : X) (n : Nullability) → x ≡ y → made x n ≡ made y (nullability_of (is_nullable n))
 of_both made x y n e = ap (λ z. made z n) e ∙ ap (made y) (sym (nullability_of-is n))
 
-names_are : (vs : Variants) → written_variant_names vs ≡ variant_names (triples vs)
-names_are no_variants = refl
-names_are (choice n x g rest) = ap (λ ns. n ∷ ns) (names_are rest)
-
 mutual
   pub written_reads : (s : Meaning) (t : Tree) → Valid t → Admits s t → Reads s (written t) t
   written_reads s of.null v a = refl
@@ -220,9 +215,9 @@ mutual
   written_reads s (of.map_of x y o n) v a = (x, y, written_reads s x v.1 a.0, written_reads s y v.2 a.1, v.0, simp nullability_of-is)
   written_reads s (of.struct fs n) v a = let r = written_fields_read s fs v a in (r.0, r.1, r.2, of_both of.struct fs (fields (zip (written_names fs) r.0)) n r.3)
   written_reads s (of.union vs n) v a =
-      let names = names_are vs in let tags = variant_tags (triples vs) in
-      let r = written_variants_read s vs v.1 (recursion_from_All (λ k. k < 256) tags v.0.1) a in
-      (r.0, tags, r.1, r.2, ((r.3, r.4, λ e. v.0.0.0.2 (sym names ∙ e)), v.0.0.1, subst (λ ns. Distinct ns) (sym names) v.0.0.2), of_both of.union vs (variants (zip (written_variant_names vs) (zip r.0 tags))) n r.5)
+      let tags = variant_tags (triples vs) in let is = variants_are vs v.0 in
+      let r = written_variants_read s vs v.1 (recursion_from_All (λ k. k < 256) tags is.1) a in
+      (r.0, tags, r.1, r.2, ((r.3, is.0.0.1, is.0.0.2), is.0.1, is.0.2), of_both of.union vs (variants (zip (written_variant_names vs) (zip r.0 tags))) n r.4)
   written_reads s (of.extension id b x) v a = (x, b, written_reads s x v.1 a.1, a.0, refl)
   written_reads s _ v a = simp nullability_of-is
 
@@ -235,11 +230,11 @@ mutual
   written_variants_read : (s : Meaning) (vs : Variants) → ValidVariants vs → AllByRecursion (λ k. k < 256) (variant_tags (triples vs)) → AdmitsVariants s vs →
       let tags = variant_tags (triples vs) in
       (ts : List Tree) × ReadsAll s (written_variants vs) ts × AreBytes (written_tags vs) tags × (length (written_variant_names vs) ≡ length ts)
-      × (length (written_variant_names vs) ≡ length tags) × (vs ≡ variants (zip (written_variant_names vs) (zip ts tags)))
-  written_variants_read s no_variants v b a = ([], tt, tt, refl, refl, refl)
+      × (vs ≡ variants (zip (written_variant_names vs) (zip ts tags)))
+  written_variants_read s no_variants v b a = ([], tt, tt, refl, refl)
   written_variants_read s (choice n x g rest) v b a =
       let r = written_variants_read s rest v.1 b.1 a.1 in
-      (x ∷ r.0, (written_reads s x v.0 a.0, r.1), (grind (arith, nat_tests, b.0), r.2), ap suc r.3, ap suc r.4, ap (choice n x g) r.5)
+      (x ∷ r.0, (written_reads s x v.0 a.0, r.1), (grind (arith, nat_tests, b.0), r.2), ap suc r.3, ap (choice n x g) r.4)
 
 -- what is written of an admitted type gives that type
 pub written_read : (s : Meaning) (m : Message) (t : Tree) → Valid t → Admits s t → m ≡ written t → read s m ≡ Ok t

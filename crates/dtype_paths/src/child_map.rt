@@ -1,7 +1,7 @@
 // SPDX-License-Identifier: Apache-2.0
 // SPDX-FileCopyrightText: Copyright the Vortex contributors
 
-ghost use Rattle.std.specs.Prelude.{◌≡◌, ◌↔◌, ◌≤◌, ◌++◌, [], ℕ, None, Some, if◌then◌else◌, length, IsTrue, IfErr, IsOkUnless, OnOk};
+ghost use Rattle.std.specs.Prelude.{◌≡◌, ◌≤◌, ◌++◌, [], ℕ, None, Some, if◌then◌else◌, length, IsTrue, IfErr, IsOkUnless, OnOk};
 ghost use Rattle.std.specs.List.{IsDistinct};
 ghost use Rattle.std.specs.Map.{keys_of, lookup, values_of};
 ghost use Rattle.dtype_base.specs.Errors.{Makes};
@@ -11,6 +11,7 @@ ghost use Rattle.dtype_paths.specs.Equality.{same_field};
 ghost use Rattle.dtype_paths.specs.declared.field.Field.{Field};
 
 use crate::Field;
+use crate::bucket_loads::BucketLoads;
 use crate::child_tree::ChildTree;
 use crate::entry::Entry;
 use dtype_base::VortexResult;
@@ -18,14 +19,15 @@ use std::alloc::Global;
 use std::collections::{HashMap, hash_map};
 use std::marker::Model;
 
-// The most children that are found by hash. The hash is unkeyed, so adversarial names can all collide: a lookup then
-// compares at most this many steps.
-const MAX_MAP_CHILDREN: usize = 1024;
+// So many children are found by hash, whoever chooses their names. The hash is unkeyed, so adversarial names can all
+// collide: a lookup then compares at most this many steps. With more of them the loads of the buckets are counted.
+const MAX_UNCOUNTED: usize = 1024;
 
 /// Children in a hash map.
 #[derive(Drop)]
 pub(crate) struct ChildMap {
     node_indices: HashMap<Field, usize>,
+    loads: BucketLoads,
 }
 
 impl Model for ChildMap {
@@ -44,6 +46,7 @@ impl ChildMap {
     {
         Ok(ChildMap {
             node_indices: HashMap::with_capacity(alloc, capacity)?,
+            loads: BucketLoads::new(alloc),
         })
     }
 
@@ -66,16 +69,34 @@ impl ChildMap {
         self.node_indices.len()
     }
 
-    // Whether one more child goes into a tree.
-    pub(crate) fn is_full(&self) -> bool
-        ensures { IsTrue result ↔ 1024 ≤ length self.now }
+    // Whether the children are to go into a tree, since their names flood the map. Few children never do.
+    pub(crate) fn is_flooded(&self) -> bool
+        ensures few { IsTrue result → 1024 ≤ length self.now }
     {
-        self.node_indices.len() >= MAX_MAP_CHILDREN
+        self.node_indices.len() >= MAX_UNCOUNTED && self.loads.is_crowded()
+    }
+
+    // Lets the step lead to a node, and counts it where there are many. After an error the children are unchanged.
+    pub(crate) fn insert(
+        &mut self,
+        alloc: Global,
+        step: Field,
+        node_index: usize,
+    ) -> VortexResult<()>
+        ensures added { OnOk result ((f : Field) → lookup (same_field f) self.new
+            ≡ (if same_field step f then Some node_index else lookup (same_field f) self.old)) }
+        ensures errors { IfErr result (λ e. (e ≡ OutOfMemory) × (self.new ≡ self.old)) }
+    {
+        if self.node_indices.len() >= MAX_UNCOUNTED {
+            self.loads.add(alloc, &self.node_indices, &step)?;
+        }
+        self.put(step, node_index)?;
+        Ok(())
     }
 
     // Lets the step lead to a node. After an error the children are unchanged.
-    pub(crate) fn insert(&mut self, step: Field, node_index: usize) -> VortexResult<()>
-        ensures added { OnOk result ((f : Field) → lookup (same_field f) self.new
+    fn put(&mut self, step: Field, node_index: usize) -> VortexResult<()>
+        ensures leads { OnOk result ((f : Field) → lookup (same_field f) self.new
             ≡ (if same_field step f then Some node_index else lookup (same_field f) self.old)) }
         ensures errors { IfErr result (λ e. (e ≡ OutOfMemory) × (self.new ≡ self.old)) }
     {
@@ -108,8 +129,9 @@ impl ChildMap {
         ensures { Makes result (λ c. (f : Field) → lookup (same_field f) c ≡ lookup (same_field f) self.now) }
     {
         let mut copy = ChildMap::with_capacity(alloc, self.node_indices.len())?;
+        copy.loads = self.loads.try_clone(alloc)?;
         for (step, node_index) in self.node_indices.iter() {
-            copy.insert(step.try_clone(alloc)?, *node_index)?;
+            copy.put(step.try_clone(alloc)?, *node_index)?;
         }
         Ok(copy)
     }

@@ -1,0 +1,127 @@
+// SPDX-License-Identifier: Apache-2.0
+// SPDX-FileCopyrightText: Copyright the Vortex contributors
+
+ghost use Rattle.std.specs.Prelude.{◌≡◌, ◌↔◌, ◌<◌, IsTrue, IsOkUnless};
+ghost use Rattle.dtype_base.specs.Errors.{Makes};
+ghost use Rattle.dtype_base.specs.declared.vortex_error.VortexError.TheVariants.{OutOfMemory};
+
+use crate::Field;
+use dtype_base::VortexResult;
+use std::alloc::Global;
+use std::collections::HashMap;
+use std::hash::BuildHasher;
+
+// The most children that a bucket of std's hash map holds.
+const BUCKET_SIZE: u8 = 12;
+
+// The children that its buckets hold on average when it grows, to twice as many buckets.
+const FULL_LOAD: usize = 9;
+
+// The buckets of a map of 1,024 children.
+const FIRST_BUCKETS: usize = 128;
+
+// The most full buckets in a row. A lookup passes over them, and may compare the steps of all their children. Names that
+// aren't adversarial fill some 26 in a row at most, among a million buckets.
+const MAX_FULL_ROW: usize = 64;
+
+/// How many children each bucket of a hash map holds. The map puts a child into the bucket of its hash, or, where that
+/// is full, into the next that isn't. Its hash is unkeyed, so adversarial names can fill many buckets in a row. The map
+/// doesn't say what its buckets hold, so the same is done here with numbers. No contract says that they are right: where
+/// they are wrong, a lookup takes longer.
+#[derive(Drop)]
+pub(crate) struct BucketLoads {
+    loads: Vec<u8>,
+    longest_row: usize,
+}
+
+impl BucketLoads {
+    // Nothing is counted yet. Doesn't allocate.
+    pub(crate) fn new(alloc: Global) -> Self
+        ensures { result.longest_row ≡ 0 }
+    {
+        BucketLoads {
+            loads: Vec::new(alloc),
+            longest_row: 0,
+        }
+    }
+
+    // Whether more buckets in a row were full than names fill that aren't adversarial.
+    pub(crate) fn is_crowded(&self) -> bool
+        ensures { IsTrue result ↔ 64 < self.now.longest_row }
+    {
+        self.longest_row > MAX_FULL_ROW
+    }
+
+    // Counts a step that isn't in the map yet.
+    pub(crate) fn add(
+        &mut self,
+        alloc: Global,
+        map: &HashMap<Field, usize>,
+        step: &Field,
+    ) -> VortexResult<()>
+        ensures { IsOkUnless result OutOfMemory }
+    {
+        if map.len() / FULL_LOAD >= self.loads.len() {
+            self.count_anew(alloc, map)?;
+        }
+        self.put(map.hasher().hash_one(step));
+        Ok(())
+    }
+
+    // Counts the steps of the map in twice as many buckets.
+    fn count_anew(&mut self, alloc: Global, map: &HashMap<Field, usize>) -> VortexResult<()>
+        ensures { IsOkUnless result OutOfMemory }
+    {
+        let buckets = self.loads.len().saturating_mul(2).max(FIRST_BUCKETS);
+        self.loads = vec![in alloc; 0_u8; buckets]?;
+        for step in map.keys() {
+            self.put(map.hasher().hash_one(step));
+        }
+        Ok(())
+    }
+
+    // Puts one more child into the bucket of this hash, or into the next that isn't full.
+    fn put(&mut self, hash: u64) {
+        let first = (hash ^ (hash >> 32)) as usize;
+        let mask = self.loads.len().wrapping_sub(1);
+        for passed in 0..=MAX_FULL_ROW {
+            let bucket = first.wrapping_add(passed) & mask;
+            if let Some(load) = self.loads.get_mut(bucket) {
+                if *load < BUCKET_SIZE {
+                    *load += 1;
+                    if *load == BUCKET_SIZE {
+                        self.longest_row = self.longest_row.max(full_row(&self.loads, bucket));
+                    }
+                    return;
+                }
+            }
+        }
+        self.longest_row = MAX_FULL_ROW + 1;
+    }
+
+    // A copy.
+    pub(crate) fn try_clone(&self, alloc: Global) -> VortexResult<Self>
+        ensures { Makes result (λ c. c.longest_row ≡ self.now.longest_row) }
+    {
+        Ok(BucketLoads {
+            loads: Vec::from_slice(alloc, &self.loads)?,
+            longest_row: self.longest_row,
+        })
+    }
+}
+
+// The most full buckets in a row among those around this one, `MAX_FULL_ROW` on either side.
+fn full_row(loads: &[u8], bucket: usize) -> usize {
+    let mask = loads.len().wrapping_sub(1);
+    let before = bucket.wrapping_sub(MAX_FULL_ROW);
+    let mut row = 0_usize;
+    let mut longest = 0_usize;
+    for offset in 0..=2 * MAX_FULL_ROW {
+        row = match loads.get(before.wrapping_add(offset) & mask) {
+            Some(load) if *load >= BUCKET_SIZE => row.wrapping_add(1),
+            _ => 0,
+        };
+        longest = longest.max(row);
+    }
+    longest
+}

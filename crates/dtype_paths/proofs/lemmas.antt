@@ -15,3 +15,4 @@ pub mod Covering
 pub mod PathsBelow
 pub mod MaskLists
 pub mod LentPaths
+pub mod Unresolved

@@ -1,7 +1,7 @@
 // SPDX-License-Identifier: Apache-2.0
 // SPDX-FileCopyrightText: Copyright the Vortex contributors
 
-ghost use Rattle.std.specs.Prelude.{◌≡◌, ◌+◌, ◌<◌, ◌≤◌, ◌⊎◌, [], List, length, map, IfOk, IsOkUnless, IsTrue, OnErr, OnOk};
+ghost use Rattle.std.specs.Prelude.{◌≡◌, ◌↔◌, ◌+◌, ◌<◌, ◌≤◌, ◌⊎◌, [], All, List, length, map, IfOk, IsOkUnless, IsTrue, OnErr, OnOk};
 ghost use Rattle.std.specs.Borrow.{Bor};
 ghost use Rattle.std.specs.FinSet as set;
 ghost use Rattle.std.specs.Iterator.{ExtendsWithItems, IsFinite};
@@ -12,15 +12,19 @@ ghost use Rattle.std.specs.declared.alloc.Global.{Global};
 ghost use Rattle.dtype_base.specs.Errors.{Makes};
 ghost use Rattle.dtype_base.specs.declared.vortex_error.VortexError.TheVariants.{OutOfMemory};
 ghost use Rattle.dtype_base.specs.Distinct.{Distinct};
+ghost use Rattle.dtype_types.specs.tree.TreeOf.{tree};
+ghost use Rattle.dtype_paths.specs.At.{ExistsIn};
 ghost use Rattle.dtype_paths.specs.Beginning.{Beginning};
 ghost use Rattle.dtype_paths.specs.Cursors.{asks};
 ghost use Rattle.dtype_paths.specs.Covering.{SameCoverage, IsCountOf, least};
 ghost use Rattle.dtype_paths.specs.PathOrder.{set_of};
+ghost use Rattle.dtype_paths.specs.Unresolved.{unresolved};
 ghost use Rattle.dtype_paths.specs.declared.field.Field.{Field};
 
 use crate::trie::Trie;
 use crate::{FieldPath, FieldPathCursor};
 use dtype_base::VortexResult;
+use dtype_types::DType;
 use std::alloc::Global;
 use std::marker::Model;
 use std::{fmt, vec};
@@ -141,6 +145,27 @@ impl FieldPathSet {
     {
         let found = self.trie.gather(self.alloc)?;
         Ok(found.into_iter())
+    }
+
+    /// Returns references to the paths of the set that don't exist in this type (`FieldPath::exists_in`), each once, in no
+    /// promised order: what a binder names in its error, and nothing where the type has all that the set asks for. A path that
+    /// is there is walked to its end, any other to the first step that leads nowhere, so the time grows with the steps of the
+    /// set.
+    ///
+    /// # Errors
+    ///
+    /// - `OutOfMemory` (0): an allocation fails.
+    pub fn unresolved(&self, dtype: &DType) -> VortexResult<Vec<&FieldPath>>
+        ensures ok { Makes result (λ v. set_of (map (λ x. x.now) v.items) ≡ unresolved self.now (tree dtype.now)) }
+        ensures once { IfOk result (λ v. Distinct (map (λ x. x.now) v.items)) }
+        ensures each { IfOk result (λ v. All (λ x. IsTrue (set.contains self.now x.now)
+            × ¬ (ExistsIn (tree dtype.now) x.now)) v.items) }
+        ensures none { IfOk result (λ v. (v.items ≡ []) ↔ ((p : List Field) → IsTrue (set.contains self.now p)
+            → ExistsIn (tree dtype.now) p)) }
+    {
+        let mut paths = self.trie.gather(self.alloc)?;
+        paths.retain(|path| !path.exists_in(dtype));
+        Ok(paths)
     }
 
     /// Returns the least paths of the set, those of which no other of its paths is a prefix, each once and in no promised

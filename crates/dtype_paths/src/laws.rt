@@ -17,6 +17,7 @@ ghost use Rattle.dtype_paths.specs.Beginning.{Beginning};
 ghost use Rattle.dtype_paths.specs.Overlaps.{Overlaps};
 ghost use Rattle.dtype_paths.specs.Covering.{SameCoverage, covers, least};
 ghost use Rattle.dtype_paths.specs.Found.{Found, FoundIn};
+ghost use Rattle.dtype_paths.specs.Unresolved.{unresolved};
 ghost use Rattle.dtype_paths.specs.Crosses.{CrossesNoExtension, CrossesNoSizeZero};
 ghost use Rattle.dtype_paths.specs.declared.field.Field.{Field};
 
@@ -102,6 +103,13 @@ pub fn what_covers_and_least_say()
         ↔ ((p : List Field) × IsTrue (set.contains s p) × Beginning p q) }
     ensures least { (s : PathSet) (p : List Field) → IsTrue (set.contains (least s) p)
         ↔ (IsTrue (set.contains s p) × ((q : List Field) → IsTrue (set.contains s q) → Beginning q p → q ≡ p)) }
+{}
+
+/// The paths of a set that are missing in a type are those of its members at which there is no type.
+#[tactic(auto, using(crate::proofs::lemmas::Unresolved::unresolved_word))]
+pub fn what_unresolved_says()
+    ensures { (s : PathSet) (t : Tree) (p : List Field) → IsTrue (set.contains (unresolved s t) p)
+        ↔ (IsTrue (set.contains s p) × ¬ (ExistsIn t p)) }
 {}
 
 /// Two sets have the same least paths exactly where they cover the same.

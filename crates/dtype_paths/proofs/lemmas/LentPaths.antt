@@ -16,7 +16,7 @@ use Rattle.dtype_paths.proofs.lemmas.SetCovers.{covers_member}
 use Rattle.dtype_paths.proofs.lemmas.SetMembers.{of_has}
 
 -- what holds of each member of a mapped list holds of all that it is made of
-all_mapped : {X : Type 0} (f : X → List Field) (P : List Field → Type 0) (xs : List X) → ((q : List Field) → Contains (map f xs) q → P q) → All (λ x. P (f x)) xs
+pub all_mapped : {X : Type 0} (f : X → List Field) (P : List Field → Type 0) (xs : List X) → ((q : List Field) → Contains (map f xs) q → P q) → All (λ x. P (f x)) xs
 all_mapped f P [] holds = All-nil (λ x. P (f x))
 all_mapped f P (x ∷ xs) holds =
     All-cons (λ y. P (f y)) x xs

@@ -1,0 +1,119 @@
+-- SPDX-License-Identifier: Apache-2.0
+-- SPDX-FileCopyrightText: Copyright the Vortex contributors
+
+-- The paths of a set that don't exist in a type. `missing_paths` names all that callers need in one line.
+use Rattle.std.specs.Prelude.{◌≡◌, ◌≢◌, ◌↔◌, IsTrue, List, [], ◌∷◌, Bool, true, false, cond, not, ◌&&◌, Option, Some, None, is_some, map, refl}
+use Rattle.std.specs.Bool.{Decides}
+use Rattle.std.specs.Borrow.{Bor}
+use Rattle.std.specs.FinSet as set
+use Rattle.std.specs.List.{All, filter, list_any}
+use Rattle.std.proofs.Common.{ap, sym, subst, ◌∙◌}
+use Rattle.std.proofs.Math.Bool.{and_comm}
+use Rattle.std.proofs.lemmas.Bool.{and_from, and_parts, false≢true}
+use Rattle.std.proofs.lemmas.List.Elements.{All-head}
+use Rattle.std.proofs.lemmas.List.Kept.{AllPairs-filter}
+use Rattle.std.proofs.lemmas.Map.Views.{any-filter_same}
+use Rattle.dtype_base.specs.Distinct.{Distinct}
+use Rattle.dtype_types.specs.tree.Tree.{Tree}
+use Rattle.dtype_paths.specs.Along.{along}
+use Rattle.dtype_paths.specs.At.{ExistsIn}
+use Rattle.dtype_paths.specs.Equality.{same_path}
+use Rattle.dtype_paths.specs.EqualityLaws.{same_path-Decides}
+use Rattle.dtype_paths.specs.PathOrder.{PathSet, path_cmp}
+use Rattle.dtype_paths.specs.PathOrderLaws.{any_tied, path_cmp_total, same_tied}
+use Rattle.dtype_paths.specs.Unresolved.{unresolved}
+use Rattle.dtype_paths.specs.declared.field.Field.{Field}
+use Rattle.dtype_paths.proofs.lemmas.Cases.{by_bool}
+use Rattle.dtype_paths.proofs.lemmas.LentPaths.{all_mapped}
+use Rattle.dtype_paths.proofs.lemmas.SetMembers.{contains_empty, from_list-Decides, same_by}
+use Rattle.dtype_paths.proofs.lemmas.Walks.{along-At, At-along}
+
+-- whether a path exists is told by what is along it
+pub exists-Decides : (t : Tree) (p : List Field) → Decides (is_some (along t p)) (ExistsIn t p)
+exists-Decides t p = (go (along t p) refl, λ e. ap is_some (At-along t p e.found e.at))
+  where
+    go : (o : Option Tree) → along t p ≡ o → is_some o ≡ true → ExistsIn t p
+    go None is h = absurd (false≢true h)
+    go (Some u) is h = record { found = u; at = along-At t p u is }
+
+-- of a test that was asked, what its negation says
+pub missing_test : (t : Tree) (p : List Field) (b : Bool) → (IsTrue b ↔ ExistsIn t p) → not b ≡ not (is_some (along t p))
+missing_test t p b told = ap not (by_bool b
+    (λ h. h ∙ sym ((exists-Decides t p).1 (told.0 h)))
+    (λ h. by_bool (is_some (along t p))
+    (λ k. absurd (false≢true (sym h ∙ told.1 ((exists-Decides t p).0 k))))
+    (λ k. h ∙ sym k)))
+
+-- a mapped list, filtered
+map_filter : {A B : Type 0} (f : A → B) (test : B → Bool) (xs : List A) → map f (filter (λ x. test (f x)) xs) ≡ filter test (map f xs)
+map_filter f test [] = refl
+map_filter f test (x ∷ xs) = go (test (f x)) (map_filter f test xs)
+  where
+    go : (b : Bool) → map f (filter (λ y. test (f y)) xs) ≡ filter test (map f xs) → map f (cond b (x ∷ filter (λ y. test (f y)) xs) (filter (λ y. test (f y)) xs)) ≡ cond b (f x ∷ filter test (map f xs)) (filter test (map f xs))
+    go true e = ap (λ l. f x ∷ l) e
+    go false e = e
+
+-- the set of what a test leaves of a list
+contains_filtered : (test : List Field → Bool) (ps : List (List Field)) (q : List Field) → set.contains (set.from_list {R = path_cmp} (filter test ps)) q ≡ (test q && set.contains (set.from_list {R = path_cmp} ps) q)
+contains_filtered test ps q =
+    let listed : (xs : List (List Field)) → set.contains (set.from_list {R = path_cmp} xs) q ≡ list_any (same_path q) xs = λ xs. set.contains-from_list path_cmp_total xs q ∙ sym (any_tied q xs) in
+    listed (filter test ps)
+    ∙ any-filter_same (same_path q) test (test q) (λ k h. ap test (sym ((same_path-Decides q k).0 h))) ps
+    ∙ ap (λ b. test q && b) (sym (listed ps))
+
+contains_retained : (s : PathSet) (test : List Field → Bool) (q : List Field) → set.contains (set.retain s test) q ≡ (set.contains s q && test q)
+contains_retained s test q = set.contains-retain s test q (λ x h. ap test (sym (same_tied q x h)))
+
+of_filtered : (test : List Field → Bool) (ps : List (List Field)) → set.from_list (filter test ps) ≡ set.retain (set.from_list {R = path_cmp} ps) test
+of_filtered test ps = same_by _ _ (λ q.
+    contains_filtered test ps q
+    ∙ and_comm (test q) (set.contains (set.from_list {R = path_cmp} ps) q)
+    ∙ sym (contains_retained (set.from_list ps) test q))
+
+-- what is left of the list of a set
+of_unresolved : (ps : List (List Field)) (s : PathSet) (t : Tree) → set.from_list ps ≡ s → set.from_list (filter (λ p. not (is_some (along t p))) ps) ≡ unresolved s t
+unfolding unresolved
+of_unresolved ps s t is = of_filtered (λ p. not (is_some (along t p))) ps ∙ ap (λ (x : PathSet). set.retain x (λ p. not (is_some (along t p)))) is
+
+-- the same of the paths that are lent
+pub lent_unresolved : (ps qs : List (Bor (List Field))) (s : PathSet) (t : Tree) → set.from_list (map (λ x. x.now) ps) ≡ s → qs ≡ filter (λ x. not (is_some (along t x.now))) ps → set.from_list (map (λ x. x.now) qs) ≡ unresolved s t
+lent_unresolved ps qs s t is left =
+    ap (λ (xs : List (Bor (List Field))). set.from_list {R = path_cmp} (map (λ x. x.now) xs)) left
+    ∙ ap (set.from_list {R = path_cmp}) (map_filter (λ x. x.now) (λ p. not (is_some (along t p))) ps)
+    ∙ of_unresolved (map (λ x. x.now) ps) s t is
+
+pub lent_once : (ps qs : List (Bor (List Field))) (t : Tree) → Distinct (map (λ x. x.now) ps) → qs ≡ filter (λ x. not (is_some (along t x.now))) ps → Distinct (map (λ x. x.now) qs)
+lent_once ps qs t once left =
+    subst Distinct
+    (sym (ap (map (λ (x : Bor (List Field)). x.now)) left ∙ map_filter (λ x. x.now) (λ p. not (is_some (along t p))) ps))
+    (AllPairs-filter (λ x y. x ≢ y) (λ p. not (is_some (along t p))) (map (λ x. x.now) ps) once)
+
+-- a path of the set is left exactly where there is no type at it
+pub unresolved_word : (s : PathSet) (t : Tree) (p : List Field) → IsTrue (set.contains (unresolved s t) p) ↔ (IsTrue (set.contains s p) × ¬ (ExistsIn t p))
+unfolding unresolved
+unresolved_word s t p =
+    let e = contains_retained s (λ q. not (is_some (along t q))) p in
+    let d = exists-Decides t p in (
+      λ h. let parts = and_parts (set.contains s p) (not (is_some (along t p))) (sym e ∙ h) in (parts.0, λ x. false≢true (sym (ap not (d.1 x)) ∙ parts.1)),
+      λ m. e ∙ and_from (set.contains s p) (not (is_some (along t p))) m.0 (by_bool (is_some (along t p)) (λ h. absurd (m.1 (d.0 h))) (λ h. ap not h)),
+    )
+
+-- each of those listed
+pub each_unresolved : (ps : List (Bor (List Field))) (s : PathSet) (t : Tree) → set.from_list (map (λ x. x.now) ps) ≡ unresolved s t → All (λ x. IsTrue (set.contains s x.now) × ¬ (ExistsIn t x.now)) ps
+each_unresolved ps s t is = all_mapped (λ x. x.now) (λ q. IsTrue (set.contains s q) × ¬ (ExistsIn t q)) ps (λ q c. (unresolved_word s t q).0 (ap (λ x. set.contains x q) (sym is) ∙ (from_list-Decides (map (λ x. x.now) ps) q).1 c))
+
+-- none is listed exactly where all exist
+pub none_unresolved : (ps : List (Bor (List Field))) (s : PathSet) (t : Tree) → set.from_list (map (λ x. x.now) ps) ≡ unresolved s t → (ps ≡ []) ↔ ((p : List Field) → IsTrue (set.contains s p) → ExistsIn t p)
+none_unresolved ps s t is = (
+  λ e p m. by_bool (is_some (along t p)) (λ h. (exists-Decides t p).0 h)
+      (λ h. absurd (false≢true (sym (contains_empty p) ∙ ap (λ xs. set.contains (set.from_list {R = path_cmp} (map (λ (x : Bor (List Field)). x.now) xs)) p) (sym e) ∙ ap (λ x. set.contains x p) is ∙ (unresolved_word s t p).1 (m, λ x. false≢true (sym h ∙ (exists-Decides t p).1 x))))),
+  λ all. go ps (each_unresolved ps s t is) all,
+)
+  where
+    go : (xs : List (Bor (List Field))) → All (λ x. IsTrue (set.contains s x.now) × ¬ (ExistsIn t x.now)) xs → ((p : List Field) → IsTrue (set.contains s p) → ExistsIn t p) → xs ≡ []
+    go [] each all = refl
+    go (x ∷ xs) each all =
+        let here = All-head (λ (y : Bor (List Field)). IsTrue (set.contains s y.now) × ¬ (ExistsIn t y.now)) x xs each in
+        absurd (here.1 (all x.now here.0))
+
+pub ruleset missing_paths = (unresolved_word, each_unresolved, none_unresolved)

@@ -162,6 +162,12 @@ class LivingSet:
         words += [str(len(texts)), *sorted(texts, key=str.encode)]
         self.r.state(f"{self.start}below {c.path(steps)}", " ".join(words))
 
+    def missing(self, t):
+        """The original has no such call: it is asked of each path by itself."""
+        lacks = lambda steps: d.resolve(self.r.original, steps, t) is None
+        answer = lambda: c.paths(steps for steps in dict.fromkeys(map(tuple, self.items)) if lacks(steps))
+        self.r.state(f"{self.start}missing {c.dtype(t)}", answer)
+
     def gives(self, command):
         """`iter`, `cover` or `drain`, which leaves no set."""
         asked = "setiter" if command == "iter" else "cover"

@@ -106,7 +106,7 @@ def unreadable(r):
     r.comment("A line that ends too early: the arguments, where it has none.")
     for line, expected in {
         "type {": "a name", "names_len": "NAMES", "name": "NAME", "resolve": "PATH T", "find   # no name, and no struct": "NAME S",
-        "set": "NAME new|insert PATH|extend PATH..|contains PATH|below PATH|iter|cover|drain",
+        "set": "NAME new|insert PATH|extend PATH..|contains PATH|below PATH|missing T|iter|cover|drain",
         "session": "NAME new|register PLUGIN|allow_unknown",
     }.items():
         end = line.index("#") if "#" in line else len(line)
@@ -154,7 +154,7 @@ def limits(r, sets, sessions):
     living = names_of(r, "session ", " new", " register ", " allow_unknown")
     for line in ("allows_unknown @l16", "registry @l16 x.tag", "read @l16 utf8 {}", "round_trip @l16 utf8"):
         r.state(line, f"unknown: no session l16; there are: {', '.join(living)}")
-    r.state("set l0 sort", "unreadable at 8: expected new, insert, extend, contains, below, iter, cover or drain")
+    r.state("set l0 sort", "unreadable at 8: expected new, insert, extend, contains, below, missing, iter, cover or drain")
     r.state("session l15 close", "unreadable at 13: expected new, register or allow_unknown")
 
 

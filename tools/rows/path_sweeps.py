@@ -178,6 +178,23 @@ def living_sets(r):
     for steps in [("a",), ("a", "3"), ("a", "19"), ("a", "20")]:
         lives.below(steps)
     lives.new()
+    missing(lives)
+
+
+def missing(lives):
+    lives.r.comment("Which paths of a set a type lacks.")
+    lives.missing(v.U8)
+    lives.insert(())
+    lives.missing(v.U8)
+    lives.extend([("a", "b"), ("a", "c", E), ("a", "c", "d"), ("x",), ("x", "y z"), (E, "b"), ("a", "b")])
+    some = struct([("b", v.U8), ("c", list_of(v.U8)), ("b", struct([]))])
+    for t in [v.U8, struct([]), struct([("a", some)]), struct([("x", utf8(True)), ("a", struct([])), ("a", some)]),
+              list_of(some), list_of(struct([("b", some)], True)), struct([("a", some), ("x", struct([("y z", v.BOOL)]))], True),
+              fixed(some, 0), struct([("a", list_of(some))]), *v.nested_and_some()[::7]]:
+        lives.missing(t)
+    lives.extend([("a", str(i)) for i in range(20)])
+    lives.missing(struct([("a", struct([(str(i), v.U8) for i in range(0, 20, 3)])), ("x", v.U8)]))
+    lives.new()
 
 
 def messages_of(children_of):

@@ -25,6 +25,6 @@ const ROWS: [Row; 6] = [
     Row("cover_counted", "PATH..", "a.b x a a.c", "the paths that no other path begins, and how many nodes were visited", "", Sets(SetCommand::CoverCounted)),
     Row("members", "PATH..", "a.b a x", "the distinct paths", "", Sets(SetCommand::Members)),
     Row("contains", "PATH PATH..", "a a.b x", "whether the first path is one of the others", "", Sets(SetCommand::Contains)),
-    Row("set", "NAME new|insert PATH|extend PATH..|contains PATH|below PATH|iter|cover|drain", "s insert a.c", "changes or asks the set of this name, which new, insert and extend begin", "condition: at most 16 sets; unknown: the set", NamedSet),
+    Row("set", "NAME new|insert PATH|extend PATH..|contains PATH|below PATH|missing T|iter|cover|drain", "s insert a.c", "changes or asks the set of this name, which new, insert and extend begin", "condition: at most 16 sets; unknown: the set", NamedSet),
     Row("project_paths", "T PATH..", "{a=list({b=u32, c=utf8})?, d=bool} a.[].b", "the part of the type that the paths need, or none", "", ProjectPaths),
 ];

@@ -8,6 +8,7 @@ use console_core::{
 };
 use dtype_base::FieldName;
 use dtype_paths::{FieldPathCursor, FieldPathSet};
+use dtype_types::DType;
 use std::alloc::Global;
 use std::mem;
 
@@ -134,6 +135,7 @@ enum SetChange {
     Extend,
     Contains,
     Below,
+    Missing,
     Iter,
     Cover,
     Drain,
@@ -141,7 +143,7 @@ enum SetChange {
 
 // Reads a command on a set.
 fn read_change(call: &mut Call<'_>) -> ConsoleResult<SetChange> {
-    const EXPECTED: &str = "new, insert, extend, contains, below, iter, cover or drain";
+    const EXPECTED: &str = "new, insert, extend, contains, below, missing, iter, cover or drain";
     call.line.separate()?;
     let position = call.line.position();
     match call.line.word(EXPECTED)? {
@@ -150,6 +152,7 @@ fn read_change(call: &mut Call<'_>) -> ConsoleResult<SetChange> {
         "extend" => Ok(SetChange::Extend),
         "contains" => Ok(SetChange::Contains),
         "below" => Ok(SetChange::Below),
+        "missing" => Ok(SetChange::Missing),
         "iter" => Ok(SetChange::Iter),
         "cover" => Ok(SetChange::Cover),
         "drain" => Ok(SetChange::Drain),
@@ -165,6 +168,7 @@ fn change(call: &mut Call<'_>, command: SetChange, set: &mut FieldPathSet) -> Co
         SetChange::Extend => extend(call, set),
         SetChange::Contains => contains_last(call, set),
         SetChange::Below => below(call, set),
+        SetChange::Missing => missing(call, set),
         SetChange::Iter => iter(call, set),
         SetChange::Cover => cover_copy(call, set),
         SetChange::Drain => drain(call, set),
@@ -237,6 +241,12 @@ fn named_text(
         text.push('.')?;
     }
     Ok(text)
+}
+
+// The paths of the set that don't exist in a type.
+fn missing(call: &mut Call<'_>, set: &FieldPathSet) -> ConsoleResult<()> {
+    let dtype: DType = call.last()?;
+    say_borrowed_paths(call, set.unresolved(&dtype)?.into_iter())
 }
 
 fn cover_copy(call: &mut Call<'_>, set: &FieldPathSet) -> ConsoleResult<()> {

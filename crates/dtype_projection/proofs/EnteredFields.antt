@@ -2,7 +2,7 @@
 -- SPDX-FileCopyrightText: Copyright the Vortex contributors
 
 -- What is asked of the fields of a struct, while the names by which paths go on are looked up one by one.
-use Rattle.std.proofs.Common.{◌≡◌, ◌≢◌, ◌⊎◌, inl, inr, ℕ, zero, suc, ◌+◌, ◌<◌, ◌==◌, Bool, true, false, bytes_eq, List, [], ◌∷◌, map, slice_get, Option, Some, None, refl, sym, ap, subst, ◌∙◌, arith, ⊎_elim}
+use Rattle.std.proofs.Common.{◌≡◌, ◌≢◌, ◌⊎◌, inl, inr, ℕ, zero, suc, ◌+◌, ◌<◌, ◌≤◌, ◌==◌, length, Bool, true, false, bytes_eq, List, [], ◌∷◌, map, slice_get, Option, Some, None, refl, sym, ap, subst, ◌∙◌, arith, ⊎_elim}
 use Rattle.std.specs.BTreeMap.{is_at}
 use Rattle.std.specs.Cmp.{Equal-is}
 use Rattle.std.specs.FinSet.{nat_cmp-IsAntisymmetric}
@@ -11,7 +11,7 @@ use Rattle.std.specs.Map.{lookup}
 use Rattle.std.specs.Ordering.{nat_cmp}
 use Rattle.std.proofs.lemmas.Bool.{false≢true}
 use Rattle.std.proofs.lemmas.Bool.Decides.{Decides-eqb}
-use Rattle.std.proofs.lemmas.Option.{same_Some}
+use Rattle.std.proofs.lemmas.Option.{same_Some, slice_get_within}
 use Rattle.std.proofs.lemmas.Slice.Eq.{bytes_eq-Decides}
 use Rattle.dtype_base.specs.FieldNames.{first_place}
 use Rattle.dtype_base.proofs.lemmas.Lookups.{first_of_place, absent_of_place, place_of_first}
@@ -147,3 +147,62 @@ inserted_here i es c e = ap asks_if e
 
 pub inserted_others : (i k : ℕ) (old new : List (ℕ × FieldPathCursor)) → (is_at (nat_cmp i) k ≡ false → lookup (is_at (nat_cmp k)) new ≡ lookup (is_at (nat_cmp k)) old) → k ≢ i → asked_at new k ≡ asked_at old k
 inserted_others i k old new kept ne = ap asks_if (kept (by_bool (is_at (nat_cmp i) k) (λ e. absurd (ne (sym (nat_cmp-IsAntisymmetric i k ((Equal-is (nat_cmp i k)).0 e))))) (λ e. e)))
+
+-- ---- field by field
+
+-- all is entered of the fields before the position i
+pub record IsEnteredTo (w : PathPredicate) (ns : List (List ℕ)) (i : ℕ) (s : ℕ → PathPredicate) : Type 0 where
+  pub done : (k : ℕ) (n : List ℕ) → k < i → Some k ≡ first_place ns n → s k ≡ after_step (Name n) w
+  pub others : (k : ℕ) → ((n : List ℕ) → Some k ≡ first_place ns n → ⊥) → s k ≡ no_path
+  pub later : (k : ℕ) → i ≤ k → s k ≡ no_path
+
+pub to-start : (w : PathPredicate) (ns : List (List ℕ)) (es : List (ℕ × FieldPathCursor)) → es ≡ [] → IsEnteredTo w ns 0 (asked_at es)
+to-start w ns es none = record {
+  done = λ k n lt at. absurd (omega (arith, lt));
+  others = λ k never. nowhere k;
+  later = λ k le. nowhere k;
+}
+  where
+    nowhere : (k : ℕ) → asked_at es k ≡ no_path
+    nowhere k = ap (λ (ds : List (ℕ × FieldPathCursor)). asked_at ds k) none
+
+module _ (w : PathPredicate) (ns : List (List ℕ)) (i : ℕ) (m : List ℕ) (here : slice_get ns i ≡ Some m) (s : ℕ → PathPredicate) (old : IsEnteredTo w ns i s) where
+  -- at the position is that name
+  its_name : (k : ℕ) (n : List ℕ) → k ≡ i → Some k ≡ first_place ns n → n ≡ m
+  its_name k n is first = same_Some n m (sym (first_of_place ns n k first).here ∙ ap (slice_get ns) is ∙ here)
+
+  -- nothing is entered at the position, where nothing is asked of it or the name is that of a field before it
+  pub to-passed : (Some i ≡ first_place ns m → after_step (Name m) w ≡ no_path) → IsEnteredTo w ns (i + 1) s
+  to-passed nothing = record {
+    done = λ k n lt first. by_bool (k == i)
+        (λ e.
+        let is : k ≡ i = (Decides-eqb k i).0 e in
+        let named : n ≡ m = its_name k n is first in
+        old.later k (omega (arith, is)) ∙ sym (nothing (ap Some (sym is) ∙ first ∙ ap (first_place ns) named)) ∙ ap (λ l. after_step (Name l) w) (sym named))
+        (λ e.
+        let ne : k ≢ i = λ same. false≢true (sym e ∙ (Decides-eqb k i).1 same) in
+        old.done k n (omega (arith, lt, ne)) first);
+    others = old.others;
+    later = λ k le. old.later k (omega (arith, le));
+  }
+
+  -- the cursor is entered there
+  pub to-entered : (t : ℕ → PathPredicate) → Some i ≡ first_place ns m → t i ≡ after_step (Name m) w → ((k : ℕ) → k ≢ i → t k ≡ s k) → IsEnteredTo w ns (i + 1) t
+  to-entered t at asked others = record {
+    done = λ k n lt first. by_bool (k == i)
+        (λ e.
+        let is : k ≡ i = (Decides-eqb k i).0 e in
+        ap t is ∙ asked ∙ ap (λ l. after_step (Name l) w) (sym (its_name k n is first)))
+        (λ e.
+        let ne : k ≢ i = λ same. false≢true (sym e ∙ (Decides-eqb k i).1 same) in
+        others k ne ∙ old.done k n (omega (arith, lt, ne)) first);
+    others = λ k never. others k (λ e. never m (ap Some e ∙ at)) ∙ old.others k never;
+    later = λ k le. others k (λ e. omega (arith, le, e)) ∙ old.later k (omega (arith, le));
+  }
+
+pub to-end : (w : PathPredicate) (ns : List (List ℕ)) (i : ℕ) (s : ℕ → PathPredicate) → length ns ≤ i → IsEnteredTo w ns i s → AreEntered w ns s
+to-end w ns i s end e = entering-end w ns [] s refl (record {
+  each = λ d c. absurd (contains-nil d c);
+  first = λ k n at gone. e.done k n (omega (arith, end, slice_get_within ns k n (first_of_place ns n k at).here)) at;
+  others = e.others;
+})

@@ -20,15 +20,15 @@ use Rattle.dtype_base.specs.declared.nullability.Nullability.{Nullability}
 use Rattle.dtype_types.specs.parts.Lookups.{field_names, field_types}
 use Rattle.dtype_types.specs.tree.Tree.{Tree, Fields, no_fields, field, fields, pairs, struct}
 use Rattle.dtype_types.proofs.lemmas.TreeLaws.{tree_struct}
-use Rattle.dtype_types.specs.tree.TreeOf.{tree, children}
+use Rattle.dtype_types.specs.tree.TreeOf.{tree, children, fields_of, struct_pairs, with_trees}
 use Rattle.dtype_types.specs.declared.dtype.DType.{DType, Struct}
 use Rattle.dtype_types.specs.declared.struct_fields.StructFields.{StructFields}
 use Rattle.dtype_paths.specs.declared.field.Field.TheVariants.{Name}
 use Rattle.dtype_paths.specs.Cursors.{asks, asks_if}
 use Rattle.dtype_paths.specs.declared.field_path_cursor.FieldPathCursor.{FieldPathCursor}
-use Rattle.dtype_projection.specs.private.Entered.{asked_at, AreEntered, kept_field}
+use Rattle.dtype_projection.specs.private.Entered.{asked_at, AreEntered, AreWhole, kept_field}
 use Rattle.dtype_projection.specs.Projected.{PathPredicate, after_step, without_field, projected, projected_fields, struct_with, prepend_kept}
-use Rattle.dtype_projection.proofs.lemmas.Projections.{projected_nothing}
+use Rattle.dtype_projection.proofs.lemmas.Projections.{kept_root, projected_nothing}
 
 abbrev pub Pairs : Type 0
 Pairs = List (List ℕ × Tree)
@@ -181,3 +181,33 @@ pub struct_made : (s : StructFields) (n : Nullability) (names : List (List ℕ))
 struct_made s n [] types made some even = absurd (some refl)
 struct_made s n (m ∷ names) [] made some even = absurd (omega arith)
 struct_made s n (m ∷ names) (t ∷ types) made some even = ap Some (tree_struct s n ∙ ap (λ fs. struct (fields fs) n) made)
+
+-- ---- all fields, kept whole
+
+whole_at : (i n : ℕ) (es : Entries) → AreWhole i n es → (k : ℕ) → i + k < n → asked_at es (i + k) [] ≡ true
+whole_at i n [] end k lt = absurd (omega (arith, end, lt))
+whole_at i n (e ∷ es) all zero lt =
+    let at : i + 0 ≡ e.0 = omega (arith, all.0) in
+    ap (λ j. asked_at (e ∷ es) j []) at ∙ ap (λ (v : PathPredicate). v []) (asked_here e.0 e.1 es) ∙ all.1
+whole_at i n (e ∷ es) all (suc k) lt =
+    let next : (i + 1) + k ≡ i + suc k = omega arith in
+    ap (λ (v : PathPredicate). v []) (asked_later e.0 e.1 es (i + suc k) (omega (arith, all.0)))
+    ∙ ap (λ j. asked_at es j []) (sym next)
+    ∙ whole_at (i + 1) n es all.2 k (omega (arith, lt))
+
+whole_fields : (fs : Pairs) (w : PathPredicate) (s : ℕ → PathPredicate) → AreEntered w (field_names fs) s → ((k : ℕ) → k < length fs → s k [] ≡ true) → projected_fields (fields fs) w ≡ fields fs
+whole_fields [] w s a ends = refl
+whole_fields (f ∷ fs) w s a ends =
+    let here : after_step (Name f.0) w [] ≡ true = ap (λ (v : PathPredicate). v []) (sym a.0) ∙ ends 0 (omega arith) in
+    ap (λ o. prepend_kept f.0 o (projected_fields (fields fs) (without_field f.0 w))) (kept_root f.1 (after_step (Name f.0) w) here)
+    ∙ ap (field f.0 f.1) (whole_fields fs (without_field f.0 w) (λ k. s (suc k)) a.1 (λ k lt. ends (suc k) (omega (arith, lt))))
+
+-- a struct that has fields, of which all are kept whole, is its own projection
+whole_struct : (fs : Pairs) (n : Nullability) (w : PathPredicate) (es : Entries) → AreEntered w (field_names fs) (asked_at es) → AreWhole 0 (length fs) es → 0 < length fs → Some (struct (fields fs) n) ≡ struct_with n (projected_fields (fields fs) w)
+whole_struct [] n w es a all some = absurd (omega (arith, some))
+whole_struct (f ∷ fs) n w es a all some = sym (ap (struct_with n) (whole_fields (f ∷ fs) w (asked_at es) a (λ k lt. let same : k ≡ 0 + k = omega arith in ap (λ j. asked_at es j []) same ∙ whole_at 0 (length (f ∷ fs)) es all k (omega (arith, lt)))))
+
+-- and so is a copy of it
+pub struct_shared : (s t : StructFields) (n : Nullability) (w : PathPredicate) (es : Entries) → struct_pairs s ≡ struct_pairs t → AreEntered w (field_names (children t)) (asked_at es) → AreWhole 0 (length (children t)) es → 0 < length (children t) → Some (tree (Struct s n)) ≡ struct_with n (projected_fields (fields_of t) w)
+struct_shared s t n w es same a all some =
+    ap Some (tree_struct s n ∙ ap (λ ps. struct (fields (with_trees ps)) n) same) ∙ whole_struct (children t) n w es a all some

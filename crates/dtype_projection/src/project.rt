@@ -22,7 +22,7 @@ ghost use Rattle.dtype_paths.specs.PathPredicates.{after_step};
 ghost use Rattle.dtype_projection.specs.Projected.{projected, projected_fields, struct_with};
 ghost use Rattle.dtype_projection.specs.Restricted.{restricted};
 
-use crate::entered::entered_fields;
+use crate::entered::{are_all_whole, entered_fields};
 use dtype_base::{FieldName, FieldNames, Nullability, VortexResult};
 use dtype_paths::{FieldPathCursor, FieldPathSet};
 use dtype_types::{DType, StructFields};
@@ -40,9 +40,11 @@ use std::alloc::Global;
 /// exists in no type.
 ///
 /// The set is stepped into alongside the type (`FieldPathSet::cursor`), so the time grows with the steps of the set that
-/// lead into the type and with what is kept: for each step by a name, however many paths take it, a lookup and an insertion
-/// into a `BTreeMap`, a copy of each field that is kept, and the index of the names of each struct that is kept. Fields that
-/// no path steps into aren't visited, so ten paths cost about as much in ten thousand columns as in a hundred.
+/// lead into the type and with what is kept. At each struct the fewer are looked up, once each: the names by which paths go
+/// on, however many paths take them, or the fields of the struct. So ten paths cost about as much in ten thousand columns as
+/// in a hundred, and ten columns in a set of ten thousand paths. Then come an insertion into a `BTreeMap` for each field that
+/// paths step into, a copy of each that is kept, and an index of their names. A struct of which all is kept isn't built
+/// again: it is shared.
 ///
 /// # Errors
 ///
@@ -128,6 +130,9 @@ fn project_struct(
     ensures { Makes result (λ r. option_map tree r ≡ struct_with n (projected_fields (fields_of fields.now) (asks wanted.now))) }
 {
     let entered = entered_fields(alloc, fields, wanted)?;
+    if are_all_whole(&entered, fields.nfields()) {
+        return Ok(Some(DType::Struct(fields.try_clone(alloc)?, n)));
+    }
     let mut names = Vec::new(alloc);
     let mut dtypes = Vec::new(alloc);
     for (position, below) in &entered {

@@ -172,7 +172,7 @@ struct_some : (n : Nullability) (gs : Fields) (m : List ℕ) (v : Tree) → firs
 struct_some n no_fields m v e = cc
 struct_some n (field k t gs) m v e = (struct (field k t gs) n, refl)
 
-step_some : (t y v : Tree) (w : PathPredicate) (f : Field) → w [] ≡ false → step t f ≡ Some y → projected y (after_step f w) ≡ Some v → (u : Tree) × (projected t w ≡ Some u)
+pub step_some : (t y v : Tree) (w : PathPredicate) (f : Field) → w [] ≡ false → step t f ≡ Some y → projected y (after_step f w) ≡ Some v → (u : Tree) × (projected t w ≡ Some u)
 step_some (list t n) y v w ElementType root is e =
     (list v n, kept_list t n w root ∙ ap (option_map (λ u. list u n)) (ap (λ x. projected x (after_step ElementType w)) (same_Some t y is) ∙ e))
 step_some (fixed_size_list t k n) y v w ElementType root is e =

@@ -2,13 +2,13 @@
 -- SPDX-FileCopyrightText: Copyright the Vortex contributors
 
 -- What is asked of the fields of a struct, by their positions, and what is kept of such a field.
-use Rattle.std.specs.Prelude.{◌≡◌, ℕ, suc, List, [], ◌∷◌, slice_get, Option, option_and_then}
+use Rattle.std.specs.Prelude.{◌≡◌, ℕ, suc, ◌+◌, IsTrue, List, [], ◌∷◌, slice_get, Option, option_and_then}
 use Rattle.std.specs.BTreeMap.{is_at}
 use Rattle.std.specs.Map.{lookup}
 use Rattle.std.specs.Option.{option_map}
 use Rattle.std.specs.Ordering.{nat_cmp}
 use Rattle.dtype_types.specs.tree.Tree.{Tree}
-use Rattle.dtype_paths.specs.Cursors.{asks_if}
+use Rattle.dtype_paths.specs.Cursors.{asks, asks_if}
 use Rattle.dtype_paths.specs.declared.field.Field.TheVariants.{Name}
 use Rattle.dtype_paths.specs.declared.field_path_cursor.FieldPathCursor.{FieldPathCursor}
 use Rattle.dtype_projection.specs.Projected.{PathPredicate, after_step, without_field, projected}
@@ -21,6 +21,11 @@ asked_at es k = asks_if (lookup (is_at (nat_cmp k)) es)
 abbrev pub AreEntered : PathPredicate → List (List ℕ) → (ℕ → PathPredicate) → Type 0
 AreEntered w [] s = Unit {0}
 AreEntered w (n ∷ ns) s = (s 0 ≡ after_step (Name n) w) × AreEntered (without_field n w) ns (λ k. s (suc k))
+
+-- there are cursors at the positions from i to n, in this order, and each is at an end
+abbrev pub AreWhole : ℕ → ℕ → List (ℕ × FieldPathCursor) → Type 0
+AreWhole i n [] = i ≡ n
+AreWhole i n (e ∷ es) = (e.0 ≡ i) × IsTrue (asks e.1 []) × AreWhole (i + 1) n es
 
 -- the field at the position k, projected to the paths w, if something is kept of it
 abbrev pub kept_field : List (List ℕ × Tree) → ℕ → PathPredicate → Option (List ℕ × Tree)

@@ -6,7 +6,7 @@ use Rattle.dtype_types.specs.tree.TreeOf.{children}
 use Rattle.dtype_paths.specs.Cursors.{asks, names_left}
 use Rattle.dtype_projection.specs.private.Entered.{asked_at}
 use Rattle.dtype_projection.proofs.EnteredFields.{IsEntering}
-use Rattle.dtype_projection.proofs.entered.entered_fields.Given as goal
+use Rattle.dtype_projection.proofs.entered.entered_by_names.Given as goal
 
 -- all is entered but for the names that are left
 abbrev pub invariant-loop-name : goal.invariant-loop-name

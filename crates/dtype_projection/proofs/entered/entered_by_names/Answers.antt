@@ -10,7 +10,7 @@ use Rattle.dtype_paths.specs.PathPredicates.{AreNames}
 use Rattle.dtype_paths.specs.declared.cursor_names.CursorNames.{CursorNames}
 use Rattle.dtype_projection.specs.private.Entered.{asked_at}
 use Rattle.dtype_projection.proofs.EnteredFields.{entering-start, entering-passed, entering-entered, entering-end, inserted_here, inserted_others}
-use Rattle.dtype_projection.proofs.entered.entered_fields.Goals as goal
+use Rattle.dtype_projection.proofs.entered.entered_by_names.Goals as goal
 
 pub loop-name-init : goal.loop-name-init
 loop-name-init c =

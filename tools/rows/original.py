@@ -52,45 +52,27 @@ TEXTS = {
     36: "FieldPath part missing type",
 }
 
-# How the original's texts begin or are, and their numbers.
-REFUSALS = [
-    (1, r"decimal precision must be between 1 and (?P<max>\d+) \(inclusive\)"),
+# The original's texts that aren't the library's, each with the number of its kind.
+OTHERWISE = [
     (1, r"precision cannot be 0, has to be between \[1, (?P<max>\d+)\]"),
-    (2, r"decimal precision (?P<precision>\d+) exceeds MAX_PRECISION (?P<max>\d+)"),
     (2, r"Precision (?P<precision>\d+) is greater than max (?P<max>\d+)"),
-    (3, r"decimal scale (?P<scale>\d+) exceeds MAX_SCALE (?P<max>\d+)"),
     (3, r"Scale (?P<scale>\d+) is greater than max (?P<max>\d+)"),
-    (4, r"decimal scale (?P<scale>\d+) is greater than precision (?P<precision>\d+)"),
     (4, r"Scale (?P<scale>\d+) is greater than precision (?P<precision>\d+)"),
     (5, r"Cannot convert DType .* into DecimalType"),
     (6, r"Cannot convert DType .* into PType"),
-    (7, r"cannot convert ptype (?P<ptype>\w+) to DecimalType"),
     (8, r"Failed to convert bytes into \w+"),
-    (9, r"map key dtype must be non-nullable"),
-    (10, r"union names and dtypes length mismatch"),
-    (11, r"union names and type_ids length mismatch"),
     (12, r"union must have at least one variant \(for now\)"),
     (13, r"type_ids must be distinct, got \[.*\]"),
     (14, r"union supports at most 256 consecutive variants, got \d+"),
     (15, r"union variant names must be distinct, got FieldNames\(.*\)"),
     (16, r".* not found"),
-    (17, r"index (?P<index>\d+) out of bounds for struct with (?P<fields>\d+) fields"),
-    (18, r"Can't merge struct fields with duplicate names"),
-    (20, r"Cannot step into exact root field path"),
-    (21, r"Cannot get starting field from All mask"),
     (22, r"plugin: .*"),
-    (24, r"Unrecognized DType"),
     (26, r"proto precision could not be downcast to u8"),
     (27, r"proto scale could not be downcast to i8"),
-    (28, r"Invalid list element type"),
-    (29, r"Invalid fixed-size list element type"),
-    (30, r"Invalid map key type"),
-    (31, r"Invalid map value type"),
     (33, r"Union type_id -?\d+ somehow does not fit in u8"),
-    (34, r"Extension DType missing storage proto"),
     (35, r"Unregistered extension type ID: .*"),
-    (36, r"FieldPath part missing type"),
 ]
+SAME = [(number, re.sub(r"\\{(\w+)\\}", r"(?P<\1>\\w+)", re.escape(text))) for number, text in TEXTS.items()]
 
 
 class Refused(Exception):
@@ -106,11 +88,11 @@ class Refused(Exception):
 
 
 class Panicked(Exception):
-    """The original panicked with this text: a rule of departures.py has to say what the library answers."""
+    """The original panicked with this text: a rule of models.py has to say what the library answers."""
 
 
 def error_of(text):
-    for number, pattern in REFUSALS:
+    for number, pattern in OTHERWISE + SAME:
         found = re.fullmatch(pattern, text, re.S)
         if found:
             return Refused(number, **found.groupdict())
@@ -129,7 +111,6 @@ class Original:
     def line(self, command):
         """The driver's answer to a command, as it is."""
         if command not in self.answers:
-            assert "\n" not in command and not command.startswith("set."), command
             self.process.stdin.write(command + "\n")
             self.process.stdin.flush()
             answer = self.process.stdout.readline()
@@ -154,58 +135,31 @@ class Original:
         return unescaped(answer[3:])
 
     def bool(self, *words):
-        answer = self.ask(*words)
-        assert answer in ("true", "false"), answer
-        return answer == "true"
+        return {"true": True, "false": False}[self.ask(*words)]
 
     def word(self, *words):
         """The one word after ok, or alone."""
-        answer = self.ask(*words)
-        return answer[3:] if answer.startswith("ok ") else answer
+        return self.ask(*words).removeprefix("ok ")
 
-    def read(self, *words):
-        """The words of the answer, after ok."""
-        return Words(self.word(*words))
+    def read(self, tell, *words):
+        """What `tell` reads of the words after ok, to their end."""
+        found = Words(self.word(*words))
+        told = tell(found)
+        found.end()
+        return told
 
     def type(self, *words):
-        found = self.read(*words)
-        t = found.type()
-        found.end()
-        return t
+        return self.read(Words.type, *words)
 
-    def path(self, *words):
-        found = self.read(*words)
-        path = found.path()
-        found.end()
-        return path
-
-    def paths(self, *words):
-        found = self.read(*words)
-        paths = [found.path() for _ in range(found.number())]
-        found.end()
-        return paths
-
-    def message(self, *words):
-        found = self.read(*words)
-        m = found.message()
-        found.end()
-        return m
-
-    def option(self, *words):
-        """None, or the words of what is there."""
+    def option(self, tell, *words):
+        """None, or what `tell` reads of what is there."""
         answer = self.ask(*words)
         if answer == "none":
             return None
-        assert answer.startswith("some "), answer
-        return Words(answer[5:])
-
-    def option_type(self, *words):
-        found = self.option(*words)
-        if found is None:
-            return None
-        t = found.type()
+        found = Words(answer.removeprefix("some "))
+        told = tell(found)
         found.end()
-        return t
+        return told
 
 
 def unescaped(text):

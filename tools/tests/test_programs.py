@@ -3,13 +3,10 @@
 
 """The tools that run `rt` or a program, over an `rt` and programs that do as they are told."""
 import os
-import shutil
 import subprocess
-import sys
 import unittest
 
 from planted import TOOLS, Planted
-
 
 
 class Repository(Planted):
@@ -206,12 +203,43 @@ class Words(Planted):
         self.assertNotIn("can't be named", self.run_tool("words")[1])
 
 
-class Rows(unittest.TestCase):
-    def test_a_wrong_original_is_seen(self):
-        """A driver that says nothing makes no golden tests."""
-        ran = subprocess.run([sys.executable, f"{TOOLS}/rows_from_original", shutil.which("true"), "/nonexistent"],
-                             stdout=subprocess.DEVNULL, stderr=subprocess.PIPE, check=False)
-        self.assertNotEqual(ran.returncode, 0)
+class Rows(Planted):
+    """Over the tool as it is: a driver that says yes to all, and golden files of two lines."""
+
+    def setUp(self):
+        super().setUp()
+        self.script("driver", "while read -r line; do echo true; done")
+        self.write("golden/stdin", "# Two\nname_eq a a\nname_eq a\n")
+        self.golden("true")
+
+    def golden(self, answer, at=10):
+        self.write("golden/stdout", f"# Two\n> name_eq a a\n{answer}\n> name_eq a\nunreadable at {at}: expected a name\n")
+
+    def rows(self, *arguments, driver="bin/driver"):
+        environment = {**os.environ, "GOLDEN": self.path("golden")}
+        ran = subprocess.run([f"{TOOLS}/rows_from_original", self.path(driver), *arguments], env=environment, text=True, check=False,
+                             stdout=subprocess.PIPE, stderr=subprocess.STDOUT)
+        return ran.returncode, ran.stdout
+
+    def test_counts_what_is_answered_so(self):
+        self.assertEqual(self.rows(), (0, "2 passed, 0 failed\n"))
+
+    def test_tells_an_answer_that_is_not_the_original_s(self):
+        self.golden("false")
+        self.assertEqual(self.rows(), (1, "rows_from_original: name_eq a a: true\n1 passed, 1 failed\n"))
+
+    def test_tells_where_a_line_fails(self):
+        self.golden("true", at=9)
+        self.assertIn("name_eq a: unreadable at 10; what is expected there is written by hand", self.rows("--write")[1])
+
+    def test_writes_the_answers(self):
+        self.golden("false")
+        self.rows("--write")
+        self.assertEqual(self.rows()[0], 0)
+
+    def test_gives_up_on_a_driver_that_says_nothing(self):
+        self.script("driver", "exit 0")
+        self.assertEqual(self.rows()[0], 1)
 
 
 if __name__ == "__main__":

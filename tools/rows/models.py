@@ -1,11 +1,12 @@
 # SPDX-License-Identifier: Apache-2.0
 # SPDX-FileCopyrightText: Copyright the Vortex contributors
 
-"""Where the library departs from the original (docs/DIFFERENCES.md): what it answers there, by a rule with its
-reason. Everything beside the departure is still asked of the original."""
+"""What the library answers where the original doesn't answer it: by a plain model of calls that the original doesn't have,
+or, where the library departs from it (docs/DIFFERENCES.md), by a rule with its reason. Everything beside the departure is
+still asked of the original, the `o` of each rule."""
 from . import trees
 from .original import Panicked, Refused
-from .trees import ELEMENT, type_words
+from .trees import ELEMENT, Words, type_words
 
 USIZE_MAX = 2**64 - 1
 
@@ -58,8 +59,7 @@ def element_size(o, t):
         elif kind == "ext":
             total = width(t[3])
         else:
-            found = o.option("size", type_words(t))
-            total = None if found is None else found.number()
+            total = o.option(Words.number, "size", type_words(t))
         widest = max(widest, total or 0)
         return total
 
@@ -67,20 +67,19 @@ def element_size(o, t):
     if total is not None and widest > USIZE_MAX:
         raise Refused(19)
     if widest <= USIZE_MAX:
-        found = o.option("size", type_words(t))
-        assert total == (None if found is None else found.number()), t
+        assert total == o.option(Words.number, "size", type_words(t)), t
     return total
 
 
 def resolve(o, path, t):
     """The original's element step gives none at a fixed-size list; here it gives the element, at every size, as the
     documentation of `Field::ElementType` says."""
-    found = o.option_type("resolve", trees.path_words(path), type_words(t))
+    found = o.option(Words.type, "resolve", trees.path_words(path), type_words(t))
     if found is not None:
         return found
     for k, step in enumerate(path):
         if step is ELEMENT:
-            outer = o.option_type("resolve", trees.path_words(path[:k]), type_words(t))
+            outer = o.option(Words.type, "resolve", trees.path_words(path[:k]), type_words(t))
             if outer is not None and outer[0] == "fsl":
                 return resolve(o, path[k + 1 :], outer[3])
     return None
@@ -100,7 +99,7 @@ def project(o, names, t):
         return o.type("project", trees.names_words(names), type_words(t))
     except Refused as refused:
         assert refused.number == 16
-        missing = (i for i, name in enumerate(names) if o.option("find", trees.hexed(name), type_words(t)) is None)
+        missing = (i for i, name in enumerate(names) if o.option(Words.number, "find", trees.hexed(name), type_words(t)) is None)
         raise Refused(16, position=next(missing)) from None
 
 
@@ -178,3 +177,95 @@ def same_insides(o, call, a, b):
     if a[0] != "ext":
         a, b = (o.type("withnull", 0, type_words(t)) for t in (a, b))
     return o.bool(call, type_words(a), type_words(b))
+
+
+# The least type that takes the values of two, and the greatest whose values two have: of types that are equal but for
+# nullabilities the first type, nullable wherever one of the two is, or only where both are.
+
+
+def with_parts(t, inner, n):
+    """The type with other parts, and with this nullability where it has one of its own."""
+    kind = t[0]
+    if kind == "null":
+        return t
+    if kind == "ext":
+        return t[:3] + (inner[0],)
+    held = t[2:]
+    if kind == "list":
+        held = (inner[0],)
+    elif kind == "fsl":
+        held = (t[2], inner[0])
+    elif kind == "map":
+        held = (t[2], inner[0], inner[1])
+    elif kind in ("struct", "union"):
+        held = (tuple(child[:-1] + (part,) for child, part in zip(t[2], inner)),)
+    return (kind, n) + held
+
+
+def is_marked(t):
+    """Whether the type is nullable by a mark of its own."""
+    return t[0] not in ("null", "ext") and t[1]
+
+
+def marked_by(rule, a, b):
+    """The first type, at each node nullable where the rule says so of the marks of both."""
+    inner = [marked_by(rule, x, y) for x, y in zip(parts(a), parts(b))]
+    return with_parts(a, inner, rule((is_marked(a), is_marked(b))))
+
+
+def bound(o, rule, a, b):
+    """That type, and none where the two differ in more, which the original tells."""
+    return marked_by(rule, a, b) if o.bool("eqign", type_words(a), type_words(b)) else None
+
+
+# Projections: the positions to which paths lead are marked, and the type is rebuilt from those that are at, above or below
+# a mark.
+
+
+def steps_into(t):
+    """The parts of a type that a path can step into, in order, each with its step."""
+    kind = t[0]
+    if kind == "list":
+        return [(ELEMENT, t[2])]
+    if kind == "fsl":
+        return [(ELEMENT, t[3])]
+    if kind == "struct":
+        return list(t[2])
+    return []
+
+
+def position(t, path):
+    """The positions of the parts that a path steps through, from the outside in, the first part of a name each time;
+    None where it steps into nothing."""
+    found = []
+    for step in path:
+        at = next((i for i, (name, _) in enumerate(steps_into(t)) if name == step), None)
+        if at is None:
+            return None
+        found.append(at)
+        t = steps_into(t)[at][1]
+    return tuple(found)
+
+
+def rebuild(t, at, marks):
+    """What is kept of the part at a position, None where nothing is."""
+    if any(at[: len(mark)] == mark for mark in marks):
+        return t
+    if not any(mark[: len(at)] == at for mark in marks):
+        return None
+    kept = [(step, rebuild(child, at + (i,), marks)) for i, (step, child) in enumerate(steps_into(t))]
+    kept = [(step, child) for step, child in kept if child is not None]
+    if t[0] == "struct":
+        return (*t[:2], tuple(kept))
+    return (*t[:-1], kept[0][1])
+
+
+def project_paths(t, paths):
+    """The projection of a type to paths, None where no path exists in it."""
+    marks = {position(t, path) for path in paths} - {None}
+    return rebuild(t, (), marks) if marks else None
+
+
+def asked_after(paths, steps):
+    """The rests of the paths that begin with these steps: what a set of these paths asks for after them."""
+    return {tuple(path[len(steps):]) for path in paths if tuple(path[: len(steps)]) == tuple(steps)}

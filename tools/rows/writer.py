@@ -2,11 +2,9 @@
 # SPDX-FileCopyrightText: Copyright the Vortex contributors
 
 """What the console takes and prints (docs/CONSOLE.md): trees of trees.py as its words."""
-from .trees import ELEMENT
+from .trees import ELEMENT, PRIMITIVES
 
 ESCAPES = {"\\": "\\\\", '"': '\\"', "\t": "\\t", "\n": "\\n", "\r": "\\r"}
-
-PRIMITIVES = ["U8", "U16", "U32", "U64", "I8", "I16", "I32", "I64", "F16", "F32", "F64"]
 
 
 def quoted(text):
@@ -122,11 +120,6 @@ def paths(items):
     return several(sorted((path(p) for p in items), key=lambda p: p.encode()))
 
 
-def given(items):
-    """Paths as they are handed in."""
-    return "".join(" " + path(p) for p in items)
-
-
 def mask(m):
     return m[0] if m[0] == "all" else f"{m[0]} {path(m[1])}"
 
@@ -152,7 +145,7 @@ def message(m):
     if kind == "prim":
         kind = "primitive"
         number = m[2]
-        words = field("type", PRIMITIVES[number] if 0 < number < len(PRIMITIVES) else number)
+        words = field("type", PRIMITIVES[number].upper() if 0 < number < len(PRIMITIVES) else number)
     elif kind == "dec":
         kind = "decimal"
         words = field("precision", m[2]) + field("scale", m[3])
@@ -180,5 +173,3 @@ def message(m):
 def path_message(parts):
     """A path's message: of each part its name, or ELEMENT where it has no kind."""
     return several("path {}" if one is ELEMENT else f"path {{ name: {quoted(one)} }}" for one in parts)
-
-

@@ -11,7 +11,7 @@ import sys
 from glob import glob
 
 import speed
-from repository import libraries, sources_of, text_of
+from repository import anchor_of, libraries, sources_of, text_of
 
 TRUST = "docs/TRUST.md"
 TOLD = {
@@ -57,8 +57,7 @@ def wrong_counts():
 
 def anchors_of(page):
     """The anchors of a page's headings."""
-    headings = re.findall(r"(?m)^#+ (.*)$", text_of(page))
-    return {re.sub(r"[^\w\- ]", "", it.lower()).strip().replace(" ", "-") for it in headings}
+    return {anchor_of(it) for it in re.findall(r"(?m)^#+ (.*)$", text_of(page))}
 
 
 def dead_anchors(pages):

@@ -50,6 +50,12 @@ def text_of(file):
         return it.read()
 
 
+def anchor_of(heading):
+    """The anchor that a heading of a page has; of a link its text counts."""
+    text = re.sub(r"\[(.*?)\]\([^)]*\)", r"\1", heading)
+    return re.sub(r"[^\w\- ]", "", text.lower()).strip().replace(" ", "-")
+
+
 def dependencies():
     """The crates of crates.txt, in its order, each with those that it depends on, which are above it."""
     return {it[1]: it[2].split() for it in CRATE.finditer(text_of("crates.txt"))}

@@ -81,11 +81,16 @@ class Reference(Small):
     def test_says_what_a_call_does_with_its_example(self):
         self.assertEqual(self.run_python("tools/reference")[0], 0)
         page = self.read("docs/reference/dtype_base.md")
-        for part in ("### `Name::new`\n\nMakes a name.\n", "fn new(text: &str) -> Result<Self>", "`OutOfMemory` (0)",
-                     "- **ensures** ok: `IfOk result (λ n. n ≡ text.now)`", "> name a\na\n> name b c\nrefused 0: out of memory"):
-            self.assertIn(part, page)
+        self.assertIn("""### `Name::new`
+Makes a name.
+- `fn new(text: &str) -> Result<Self>`
+- **error** `OutOfMemory` (0): an allocation fails.
+- **ensures** ok: `IfOk result (λ n. n ≡ text.now)`
+- console: `name a` answers `a`
+- console: `name b c` answers `refused 0: out of memory`
+""", page)
         self.assertNotIn("kept", page)
-        self.assertIn("| [`Name::new`](dtype_base.md#namenew) | Makes a name. | 0 |", self.read("docs/reference/README.md"))
+        self.assertIn("- name: [`Name`](dtype_base.md#struct-name), [`Name::new`](dtype_base.md#namenew)", self.read("docs/reference/README.md"))
 
     def test_tells_a_page_of_other_sources(self):
         self.run_python("tools/reference")

@@ -3,7 +3,8 @@
 
 """Checks what pages say in numbers, for tools/pages: that docs/reference is made of these sources, that docs/TRUST.md
 tells the lines of definitions, the golden tests and the mutations within a tenth, that the summary of docs/BENCHMARKS.md is
-of its table (speed.py), and that the headings of links and the commands and flags that pages show are there."""
+of its table (speed.py), that the headings of links and the commands and flags that pages show are there, and that the
+console tells the newest version of CHANGELOG.md."""
 import os
 import re
 import subprocess
@@ -94,6 +95,14 @@ def wrong_shown(pages):
                         yield page, f"{command} has no {flag}"
 
 
+def wrong_version():
+    """A version of the console that isn't the newest of CHANGELOG.md."""
+    newest = re.search(r"(?m)^## (\d+\.\d+\.\d+)", text_of("CHANGELOG.md"))
+    told = re.search(r'VERSION: &str = "console ([^,]*),', text_of("crates/dtype_console/src/options.rt"))
+    if not newest or not told or newest[1] != told[1]:
+        yield "CHANGELOG.md", f"its newest version is {newest and newest[1]}, the console's {told and told[1]}"
+
+
 def stale_reference():
     """The pages of docs/reference that aren't what tools/reference would write."""
     run = subprocess.run([sys.executable, "tools/reference", "--check"], stdout=subprocess.PIPE, text=True, check=False)
@@ -103,4 +112,4 @@ def stale_reference():
 def faults(pages):
     """Each page with what is wrong on it."""
     pages = [*pages, *sorted(glob("docs/reference/*.md"))]
-    return [*wrong_lines(), *wrong_counts(), *wrong_shown(pages), *dead_anchors(pages), *stale_reference(), *speed.faults()]
+    return [*wrong_lines(), *wrong_counts(), *wrong_shown(pages), *dead_anchors(pages), *stale_reference(), *wrong_version(), *speed.faults()]

@@ -103,6 +103,10 @@ class Pages(Planted):
         self.change(NAME, "/// The name of a field.", "/// A name.")
         self.assert_told("pages", "docs/reference/dtype_base.md: isn't of these sources")
 
+    def test_tells_a_version_that_the_console_has_not(self):
+        self.change("CHANGELOG.md", "## 0.1.0", "## 0.2.0\n\n## 0.1.0")
+        self.assert_told("pages", "CHANGELOG.md: its newest version is 0.2.0, the console's 0.1.0")
+
     def test_tells_a_summary_that_is_stale(self):
         self.change("docs/benchmarks.csv", "find/wide/10,20,10", "find/wide/10,30,10")
         self.assert_told("pages", "docs/BENCHMARKS.md: ")

@@ -5,7 +5,7 @@
 use std::alloc::{AllocError, Global};
 
 /// What `--version` prints.
-pub const VERSION: &str = "console 0.2.0-dev, of the types of vortex-array 0.89.0";
+pub const VERSION: &str = "console 0.2.0, of the types of vortex-array 0.89.0";
 
 /// What `--help` prints.
 pub const USAGE: &str = "Answers commands on types, paths and messages, a line each.

@@ -17,7 +17,7 @@ from repository import anchor_of, libraries, sources_of, text_of
 TRUST = "docs/TRUST.md"
 TOLD = {
     r"([\d,]+) golden answers": r"(?m)^> ",
-    r"([\d,]+), of `project_paths` and `merge_nullability`": r"(?m)^> (?:project_paths|merge_nullability) ",
+    r"([\d,]+), of projections, cursors, merged types": r"(?m)^> (?:project_paths|(?:merge|intersect)_nullability|set \S+ below) ",
 }
 READ_FIRST = re.compile(r"(?m)^\| (\[`.*?) \| (\d+) \|")
 LINK = re.compile(r"\]\((?!\w+:)([\w./-]*)#([\w-]+)\)")

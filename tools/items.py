@@ -8,7 +8,7 @@ import re
 from collections import namedtuple
 
 from repository import (
-    HEADER, SIGNATURE_END, clauses_behind, end_of, given_out, heads_of, libraries, owners_in, sources_of, text_of,
+    code_of, end_of, functions_of, given_out, heads_of, libraries, lines_above, owners_in, sources_of, text_of,
 )
 
 # `kind` is struct, enum, trait, fn, const, macro or impl (of a trait); `name` is as in a path. `text` is the comment without
@@ -16,7 +16,6 @@ from repository import (
 # the calls of a trait or of its impl.
 Item = namedtuple("Item", "kind name file text errors signature clauses derived parts members")
 
-WHOLE_COMMENT = re.compile(r"(?m)^[ \t]*//.*$")
 TYPE = re.compile(r"(?m)^pub (struct|enum|trait) (\w+)[^{;(]*")
 CONSTANT = re.compile(r"(?m)^( *)pub const (\w+): ([^=;]+)")
 MACRO = re.compile(r"(?m)^#\[macro_export\]\nmacro_rules! (\w+) ")
@@ -25,24 +24,6 @@ ASSOCIATED = re.compile(r"(?m)^    ((?:const|type) \w+(?:: [^;=]*)?);")
 DERIVED = re.compile(r"#\[derive(?:_where)?\(([^)]*)\)\]")
 # The ghost members that say how a law is proved or how a model is kept.
 KEPT = re.compile(r"laws|respects_eq|typed|lawful|\w+_law|invariant|coded|view|inverse")
-
-
-def masked(text):
-    """The text with blanks for the lines that are comments, at the same indices."""
-    return WHOLE_COMMENT.sub(lambda it: " " * len(it[0]), text)
-
-
-def lines_above(text, start):
-    """The comment lines and the attributes right above an index, each without indentation, in order."""
-    lines, at = [], text.rfind("\n", 0, start)
-    while at > 0:
-        before = text.rfind("\n", 0, at)
-        line = text[before + 1:at].strip()
-        if not line.startswith(("///", "#[", "//")) or line.startswith("// SPDX"):
-            break
-        lines.insert(0, line)
-        at = before
-    return lines
 
 
 def comment_above(text, start):
@@ -69,19 +50,12 @@ def signature_of(text):
     return text.replace("(mut self", "(self")
 
 
-def functions_in(file, text, code):
-    """The functions of a source, each with its owner, its visibility and the item that it is."""
-    owners = owners_in(code)
-    for it in HEADER.finditer(code):
-        behind = SIGNATURE_END.search(code, it.end())
-        if not behind:
-            continue
-        owner = next((owner for owner in reversed(owners) if owner.start < it.start() < owner.end), None)
-        clauses, _ = clauses_behind(code, behind.start())
-        said, errors = comment_above(text, text.rfind("\n", 0, it.start()) + 1)
-        signature = f"fn {it[2]}{signature_of(code[it.end():behind.start()])}"
-        item = Item("fn", it[2], file, said, errors, signature, clauses, [], [], [])
-        yield owner, (it[1] or "").strip() == "pub", item
+def calls_in(file, text):
+    """The functions of a source, each as it is and as an item."""
+    for it in functions_of(file):
+        said, errors = comment_above(text, it.start)
+        signature = f"fn {it.name}{signature_of(it.signature)}"
+        yield it, Item("fn", it.name, file, said, errors, signature, it.clauses, [], [], [])
 
 
 def parts_in(text, code, begin, end):
@@ -143,28 +117,29 @@ def impls_in(file, text, code, names):
 def items_of(crate, file):
     """The public items of a source, in its order: types with their traits' calls, functions, constants, impls."""
     text = text_of(file)
-    code = masked(text)
+    code = code_of(text)
     given, modules = given_out(crate)
     is_module = os.path.basename(file).removesuffix(".rt") in modules
     names = given | ({it[2] for it in TYPE.finditer(code)} if is_module else set())
-    functions = list(functions_in(file, text, code))
+    calls = list(calls_in(file, text))
     path = module_of(crate, file)
     found = []
     for it in types_in(file, text, code, names):
-        calls = [call for owner, _, call in functions if owner and owner.kind == "trait" and owner.type == it.name]
-        ghosts = [ghost for owner in owners_in(code) if owner.kind == "trait" and owner.type == it.name
-                  for ghost in owner.members]
-        found.append(it._replace(name=path + it.name, members=calls, clauses=ghosts if it.kind == "trait" else []))
-    for owner, is_open, it in functions:
+        traits = [owner for owner in owners_in(code) if owner.kind == "trait" and owner.type == it.name]
+        own = [call for function, call in calls if function.owner in traits]
+        ghosts = [ghost for owner in traits for ghost in owner.members]
+        found.append(it._replace(name=path + it.name, members=own, clauses=ghosts if it.kind == "trait" else []))
+    for function, it in calls:
+        owner, is_open = function.owner, function.visibility == "pub"
         if owner and not owner.trait and is_open and owner.type in names:
             found.append(it._replace(name=f"{path}{owner.type}::{it.name}"))
         elif not owner and is_open and (is_module or it.name in names):
             found.append(it._replace(name=path + it.name))
     everywhere = names.union(*(given_out(library)[0] for library in libraries()))
     for owner, it in impls_in(file, text, code, everywhere):
-        calls = [call for of, _, call in functions if of and of.start == owner.start and (call.text or call.clauses)]
-        if it.clauses or calls or it.text:
-            found.append(it._replace(members=calls))
+        own = [call for function, call in calls if function.owner == owner and (call.text or call.clauses)]
+        if it.clauses or own or it.text:
+            found.append(it._replace(members=own))
     return found + list(constants_in(file, text, code, names))
 
 

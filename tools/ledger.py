@@ -10,7 +10,7 @@ from collections import namedtuple
 from glob import glob
 
 from repository import (
-    COMMENT, functions_of, given_out, heads_of, is_public, libraries, owners_in, sources_of, text_of,
+    code_of, functions_of, given_out, heads_of, is_public, libraries, owners_in, sources_of, text_of,
 )
 
 LEDGER = "docs/PROMISES.md"
@@ -85,7 +85,7 @@ def read_sources():
         for file in sources_of(crate):
             sources.constants.update(CONSTANT.findall(text_of(file)))
             # (a trait may have ghost members and no function)
-            for owner in owners_in(COMMENT.sub("", text_of(file))):
+            for owner in owners_in(code_of(text_of(file))):
                 if owner.kind == "trait":
                     sources.members.setdefault(owner.type, set()).update(it.name for it in owner.members)
             for traits_derived, of_type in DERIVED.findall(text_of(file)):
@@ -210,7 +210,7 @@ def constants_left_out(named):
     for crate in libraries():
         names = given_out(crate)[0]
         for file in sources_of(crate):
-            text = COMMENT.sub("", text_of(file))
+            text = code_of(text_of(file))
             for it in PUBLIC_CONSTANT.finditer(text):
                 owner = next((owner for owner in owners_in(text) if owner.start < it.start() < owner.end), None)
                 is_open = heads_of(owner) & names if owner else it[1] in names or file.endswith("/lib.rt")
@@ -223,7 +223,7 @@ def laws_of_traits():
     for crate in libraries():
         names = given_out(crate)[0]
         for file in sources_of(crate):
-            for owner in owners_in(COMMENT.sub("", text_of(file))):
+            for owner in owners_in(code_of(text_of(file))):
                 if owner.kind == "trait" and owner.type in names:
                     yield owner.type, [it.name for it in owner.members if it.name.endswith("_law")]
 

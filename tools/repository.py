@@ -25,9 +25,9 @@ Clause = namedtuple("Clause", "kind name text")
 # An impl or a trait: the type, the trait that it is of (of an inherent impl empty, of a trait's declaration its own
 # name), its heading as written, and its ghost members.
 Owner = namedtuple("Owner", "start end kind heading type trait members")
-Function = namedtuple("Function", "file owner name visibility attributes signature clauses body")
+Function = namedtuple("Function", "file start owner name visibility attributes signature clauses body")
 
-COMMENT = re.compile(r"(?m)^\s*//.*\n")
+COMMENT = re.compile(r"(?m)^[ \t]*//.*$")
 OWNER = re.compile(r"\b(impl|trait)\b(?:<[^{]*?>)?\s+([^{;]*?)\s*(?:where[^{]*)?\{")
 HEADER = re.compile(r"(\bpub\b(?:\([^)]*\))? )?(?:const )?\bfn (\w+)")
 SIGNATURE_END = re.compile(r"\s*(?:\brequires\b|\bensures\b|\{|;(?! \w+\])|\bwhere\b)")
@@ -48,6 +48,11 @@ def go_to_top():
 def text_of(file):
     with open(file, encoding="utf-8") as it:
         return it.read()
+
+
+def code_of(text):
+    """The text with blanks for the lines that are comments, at the same indices."""
+    return COMMENT.sub(lambda it: " " * len(it[0]), text)
 
 
 def anchor_of(heading):
@@ -163,33 +168,35 @@ def clauses_behind(text, at):
     return clauses, at
 
 
-def attributes_before(text, start):
-    """The attributes of the function whose header begins at `start`, each a line."""
-    attributes, at = [], text.rfind("\n", 0, start)
+def lines_above(text, start):
+    """The comment lines and the attributes right above an index, each without indentation, in order."""
+    lines, at = [], text.rfind("\n", 0, start)
     while at > 0:
         before = text.rfind("\n", 0, at)
         line = text[before + 1:at].strip()
-        if not line.startswith("#["):
+        if not line.startswith(("#[", "//")) or line.startswith("// SPDX"):
             break
-        attributes.append(line)
+        lines.insert(0, line)
         at = before
-    return attributes
+    return lines
 
 
 def functions_of(file):
-    """The functions of a source, each with the impl or the trait that holds it, or None."""
-    text = COMMENT.sub("", text_of(file))
-    owners = owners_in(text)
-    for it in HEADER.finditer(text):
-        behind = SIGNATURE_END.search(text, it.end())
+    """The functions of a source, each with its line's start and the impl or the trait that holds it, or None."""
+    text = text_of(file)
+    code = code_of(text)
+    owners = owners_in(code)
+    for it in HEADER.finditer(code):
+        behind = SIGNATURE_END.search(code, it.end())
         if not behind:
             continue
+        start = code.rfind("\n", 0, it.start()) + 1
         owner = next((owner for owner in reversed(owners) if owner.start < it.start() < owner.end), None)
-        clauses, begin = clauses_behind(text, behind.start())
-        brace = BODY.match(text, begin)
-        body = text[begin:end_of(text, brace.end() - 1)] if brace else ""
-        signature, attributes = text[it.end():behind.start()], attributes_before(text, it.start())
-        yield Function(file, owner, it[2], (it[1] or "").strip(), attributes, signature, clauses, body)
+        clauses, begin = clauses_behind(code, behind.start())
+        brace = BODY.match(code, begin)
+        body = code[begin:end_of(code, brace.end() - 1)] if brace else ""
+        attributes = [line for line in lines_above(text, start) if line.startswith("#[")]
+        yield Function(file, start, owner, it[2], (it[1] or "").strip(), attributes, code[it.end():behind.start()], clauses, body)
 
 
 def names_in(listing):

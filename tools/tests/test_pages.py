@@ -99,6 +99,32 @@ class Pages(Planted):
         self.change("crates/console_core/src/names.rt", "FieldName::new(alloc, text)", "text")
         self.assert_told("pages", "the console makes no call of new")
 
+    def test_tells_other_numbers_of_lines(self):
+        self.write("docs/TRUST.md", "# Trust\n\n| [`Errors`](../crates/dtype_base/specs/Errors.antt) | 40 | errors |\n\nsome 400 lines of `specs/`\n")
+        self.assert_told("pages", "Errors.antt) has 4 lines, not 40")
+        self.assert_told("pages", "specs/ of the libraries has 4 lines, not 400")
+
+    def test_tells_what_a_page_shows_and_is_not_there(self):
+        self.write("docs/TRUST.md", "# Trust\n\n```sh\ntools/reference --check\ntools/reference --chek\ntools/gone\n```\n")
+        told = [it for it in self.told("pages") if it.startswith("pages: docs/TRUST.md")]
+        self.assertEqual(told, ["pages: docs/TRUST.md: tools/reference has no --chek", "pages: docs/TRUST.md: there is no tools/gone"])
+
+    def test_the_reference_says_what_a_call_does(self):
+        self.change(NAME, "    pub fn new(", "    /// Makes a name.\n    ///\n    /// # Errors\n    ///\n"
+                    "    /// - `OutOfMemory` (0): an allocation fails.\n    pub fn new(")
+        self.write("crates/dtype_console/stdout", "> name a\na\n> name b c\nrefused 0: out of memory\n")
+        self.run_tool("reference")
+        self.assertIn("""
+### `FieldName::new`
+Makes a name.
+- `fn new(alloc: Global, text: &str) -> VortexResult<FieldName>`
+- **error** `OutOfMemory` (0): an allocation fails.
+- **ensures** ok: `MatchResult result (λ n. n ≡ text.now) (λ e. e ≡ OutOfMemory)`
+- console: `name a` answers `a`
+- console: `name b c` answers `refused 0: out of memory`
+""", self.read("docs/reference/dtype_base.md"))
+        self.assertIn("[`FieldName::new`](dtype_base.md#fieldnamenew)", self.read("docs/reference/README.md"))
+
     def test_tells_a_reference_that_is_stale(self):
         self.change(NAME, "/// The name of a field.", "/// A name.")
         self.assert_told("pages", "docs/reference/dtype_base.md: isn't of these sources")

@@ -100,6 +100,25 @@ class ConsolePages(Planted):
         self.assert_told("console_pages", "README.md: name a: the program answers ['a']")
 
 
+class ConsoleRuns(Planted):
+    def test_tells_a_program_that_answers_nothing(self):
+        self.write("crates/dtype_console/out/dtype_console", "#!/bin/sh\n[ -t 0 ] || cat >/dev/null\n", 0o755)
+        told = "\n".join(self.told("console_runs"))
+        for fault in ("['-c', 'find b {a=i32, b=u8}']: (0, '', '')", "the first line is ''", "help shows the topics []", "300,000 lines: "):
+            self.assertIn(f"console_runs: {fault}", told)
+
+
+class Recipes(Planted):
+    def test_tells_a_page_that_does_not_compile(self):
+        """Over an `rt` that looks for a function in each page's crate."""
+        self.script("rt", "grep -q 'fn one' src/*.rt")
+        self.write("docs/GUIDE.md", "# Guide\n\n```rust\n/// A recipe.\nfn one() {}\n```\n")
+        self.write("docs/TUTORIAL.md", "# Tutorial\n\nIn `src/orders.rt`:\n\n```rust\nfn one() {}\n```\n")
+        self.assertEqual(self.run_tool("recipes"), (0, "2 passed, 0 failed\n"))
+        self.change("docs/TUTORIAL.md", "fn one", "fn two")
+        self.assert_told("recipes", "recipes: docs/TUTORIAL.md doesn't compile as it is:")
+
+
 class RefusedMemory(Planted):
     """Over a console of one command, `name`, that allocates once a line, and a program of one call."""
 
@@ -180,6 +199,9 @@ class DrawSpeed(Planted):
         self.run_tool("draw_speed")
         self.assertNotEqual(self.read("docs/speed_ratios.svg"), drawn)
         self.assertIn("| 9.0 |", self.read("docs/BENCHMARKS.md"))
+        self.change("docs/benchmarks.csv", "find/wide/1000,20,10", "find/wide/1000,5,10")
+        self.run_tool("draw_speed")
+        self.assertIn("| 0.5 to 2.0 |", self.read("docs/BENCHMARKS.md"))
 
 
 class Faults(Planted):

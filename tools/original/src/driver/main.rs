@@ -1,7 +1,7 @@
 // SPDX-License-Identifier: Apache-2.0
 // SPDX-FileCopyrightText: Copyright the Vortex contributors
 
-//! Answers commands, a line each, by calling vortex-array: `tools/rows/DRIVER.md` has the language.
+//! Answers commands, a line each, by calling vortex-array: the README beside has the language.
 
 mod bytes;
 mod commands;

@@ -6,7 +6,7 @@ import re
 from glob import glob
 from os.path import dirname, join, realpath
 
-from .trees import ELEMENT, PRIMITIVES, type_words
+from .trees import DEFAULTS, ELEMENT, FIELDS, PRIMITIVES, type_words
 
 TABLES = join(dirname(dirname(dirname(realpath(__file__)))), "crates", "console_core", "src", "*.rt")
 ROW = re.compile(r'^    Row\("(\w+)", "([^"]*)", ', re.M)
@@ -22,15 +22,6 @@ DEEPEST = 128
 # Natives by their names, and what may stand around one.
 NATIVES = {"bool": "bool", "String": "string", "&str": "str", "&[u8]": "bytes"}
 AROUND = {"Option": "opt.", "Vec": "vec."}
-# The fields of a message, each with its form: a number, a flag, bytes, a text or a message, or a list of them.
-FIELDS = {
-    "bool": {}, "utf8": {}, "binary": {}, "variant": {},
-    "primitive": {"type": "PB"}, "decimal": {"precision": "V", "scale": "V"}, "list": {"element_type": "MSG"},
-    "fixed_size_list": {"element_type": "MSG", "size": "V"},
-    "map": {"key_type": "MSG", "value_type": "MSG", "keys_sorted": "BOOL"},
-    "struct": {"names": "TEXT..", "dtypes": "MSG.."}, "union": {"names": "TEXT..", "dtypes": "MSG..", "type_ids": "V.."},
-    "extension": {"id": "TEXT", "storage_dtype": "MSG", "metadata": "BYTES"},
-}
 
 
 class Unreadable(Exception):
@@ -67,6 +58,7 @@ class Reader:
         self.blanks()
 
     def fail(self, at=None):
+        """Tells that the line can't be read from here, or from this index on."""
         at = self.at if at is None else at
         raise Unreadable(len(self.line[:at].encode()) + 1)
 
@@ -365,74 +357,36 @@ class Reader:
 
     def read_MSG(self):
         kind = self.take(r"\w+(?=[ \t]*\{)")
-        if kind == "null":
-            self.sign("{")
-            self.end_of_message()
-            return ("null",)
-        if kind is None:
-            self.sign("{")
-            self.end_of_message()
-            return ("none",)
         self.sign("{")
-        return self.message(kind, self.fields(FIELDS[kind] if kind == "extension" else {**FIELDS[kind], "nullable": "BOOL"}))
-
-    def end_of_message(self):
-        """What closes a message: behind it, only within another one, blanks are read."""
-        if not self.take(r"[ \t]*\}"):
-            self.fail()
-
-    def fields(self, forms):
-        """The fields up to the brace that closes them, in any order: of a single one the last counts."""
-        found = {form: [] for form, of in forms.items() if of.endswith("..")}
+        tree, forms = FIELDS[kind] if kind else ("none", {})
+        found = {name: [] for name, form in forms.items() if form.endswith("..")}
         self.blanks()
         while not self.take(r"\}"):
             name = self.word(forms)
             form = forms[name].removesuffix("..")
             value = self.part() if form == "MSG" else self.scalar(form)
-            if forms[name] != form:
-                found[name].append(value)
-            else:
-                found[name] = value
+            found[name] = value if forms[name] == form else found[name] + [value]
             self.blanks()
-        return found
+        of = lambda name, form: tuple(found[name]) if form.endswith("..") else found.get(name, DEFAULTS[form])
+        return (tree, *(of(*it) for it in forms.items()))
 
     def part(self):
+        """A message within another: without its kind where nothing is in it."""
         self.sign("{")
         self.blanks()
-        if self.take(r"\}"):
-            return ("none",)
-        return self.inner(self.read_MSG, "}")
+        return ("none",) if self.take(r"\}") else self.inner(self.read_MSG, "}")
 
     def scalar(self, form):
         self.sign(":")
-        if form != "PB":
-            return getattr(self, f"read_{form}")()
+        return getattr(self, f"read_{form}")()
+
+    def read_PB(self):
         at = self.at
         word = self.word()
         if word.lower() in PRIMITIVES and word.isupper():
             return PRIMITIVES.index(word.lower())
         self.at = at
         return self.number()
-
-    @staticmethod
-    def message(kind, of):
-        n = of.get("nullable", False)
-        if kind in PLAIN:
-            return (kind, n)
-        if kind == "primitive":
-            return ("prim", n, of.get("type", 0))
-        if kind == "decimal":
-            return ("dec", n, of.get("precision", 0), of.get("scale", 0))
-        if kind == "list":
-            return ("list", n, of.get("element_type"))
-        if kind == "fixed_size_list":
-            return ("fsl", n, of.get("size", 0), of.get("element_type"))
-        if kind == "map":
-            return ("map", n, of.get("keys_sorted", False), of.get("key_type"), of.get("value_type"))
-        if kind == "extension":
-            return ("ext", of.get("id", ""), of.get("metadata"), of.get("storage_dtype"))
-        lists = tuple(tuple(of[name]) for name in ("names", "dtypes", "type_ids") if name in of)
-        return (kind, n, *lists)
 
     def read_PART(self):
         """A part of a path's message: its name, or ELEMENT where it has no kind."""
@@ -441,5 +395,5 @@ class Reader:
             self.fail(at)
         self.sign("{")
         name = self.scalar("TEXT") if self.take("name") else ELEMENT
-        self.end_of_message()
+        self.sign("}")
         return name

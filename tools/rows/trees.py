@@ -22,6 +22,20 @@ TYPE = {
 }
 MESSAGE = {**TYPE, "none": "", "prim": "in", "struct": "n[a][t]", "union": "n[a][t][i]", "ext": "aot"}
 
+# The messages of the console, each with its tree's kind and its fields in the tree's order: PB is a primitive type, MSG a
+# message, V a number, and `..` behind a form any number of them.
+N = {"nullable": "BOOL"}
+FIELDS = {
+    "null": ("null", {}), "bool": ("bool", N), "utf8": ("utf8", N), "binary": ("binary", N), "variant": ("variant", N),
+    "primitive": ("prim", N | {"type": "PB"}), "decimal": ("dec", N | {"precision": "V", "scale": "V"}),
+    "list": ("list", N | {"element_type": "MSG"}), "fixed_size_list": ("fsl", N | {"size": "V", "element_type": "MSG"}),
+    "map": ("map", N | {"keys_sorted": "BOOL", "key_type": "MSG", "value_type": "MSG"}),
+    "struct": ("struct", N | {"names": "TEXT..", "dtypes": "MSG.."}),
+    "union": ("union", N | {"names": "TEXT..", "dtypes": "MSG..", "type_ids": "V.."}),
+    "extension": ("ext", {"id": "TEXT", "metadata": "BYTES", "storage_dtype": "MSG"}),
+}
+DEFAULTS = {"BOOL": False, "V": 0, "PB": 0, "TEXT": "", "MSG": None, "BYTES": None}
+
 
 def hexed(data):
     """Bytes, or a name, as the driver takes them."""

@@ -2,7 +2,7 @@
 # SPDX-FileCopyrightText: Copyright the Vortex contributors
 
 """What the console takes and prints (docs/CONSOLE.md): trees of trees.py as its words."""
-from .trees import ELEMENT, PRIMITIVES
+from .trees import DEFAULTS, ELEMENT, FIELDS, PRIMITIVES
 
 ESCAPES = {"\\": "\\\\", '"': '\\"', "\t": "\\t", "\n": "\\n", "\r": "\\r"}
 
@@ -124,49 +124,29 @@ def mask(m):
     return m[0] if m[0] == "all" else f"{m[0]} {path(m[1])}"
 
 
-def field(key, value):
-    """A field of a message: nothing where it has the default value."""
-    return [f"{key}: {boolean(value) if isinstance(value, bool) else value}"] if value else []
+def field(name, form, value):
+    """A field of a message: nothing where it has the default value, and of a list each item."""
+    if form.endswith(".."):
+        return [shown(name, form[:-2], item) for item in value]
+    return [] if value == DEFAULTS[form] else [shown(name, form, value)]
 
 
-def part(key, child):
-    """A message within a message: nothing where it is absent."""
-    if child is None:
-        return []
-    inner = message(child)
-    return [f"{key} {{}}" if child[0] == "none" else f"{key} {{ {inner} }}"]
+def shown(name, form, value):
+    if form == "MSG":
+        return f"{name} {{}}" if value[0] == "none" else f"{name} {{ {message(value)} }}"
+    primitive = lambda number: PRIMITIVES[number].upper() if 0 < number < len(PRIMITIVES) else str(number)
+    write = {"BOOL": boolean, "TEXT": quoted, "BYTES": quoted_bytes, "PB": primitive, "V": str}[form]
+    return f"{name}: {write(value)}"
 
 
 def message(m):
-    kind = m[0]
-    if kind == "none":
+    """Texts come first, then messages, then the other fields, whether it is nullable at last."""
+    if m[0] == "none":
         return "{}"
-    words = []
-    if kind == "prim":
-        kind = "primitive"
-        number = m[2]
-        words = field("type", PRIMITIVES[number].upper() if 0 < number < len(PRIMITIVES) else number)
-    elif kind == "dec":
-        kind = "decimal"
-        words = field("precision", m[2]) + field("scale", m[3])
-    elif kind == "list":
-        words = part("element_type", m[2])
-    elif kind == "fsl":
-        kind = "fixed_size_list"
-        words = part("element_type", m[3]) + field("size", m[2])
-    elif kind == "map":
-        words = part("key_type", m[3]) + part("value_type", m[4]) + field("keys_sorted", m[2])
-    elif kind in ("struct", "union"):
-        words = [f"names: {quoted(n)}" for n in m[2]] + [word for c in m[3] for word in part("dtypes", c)]
-        if kind == "union":
-            words += [f"type_ids: {tag}" for tag in m[4]]
-    elif kind == "ext":
-        words = ([f"id: {quoted(m[1])}"] if m[1] else []) + part("storage_dtype", m[3])
-        if m[2] is not None:
-            words.append(f"metadata: {quoted_bytes(m[2])}")
-        return f"extension {{ {' '.join(words)} }}" if words else "extension {}"
-    if kind != "null":
-        words += field("nullable", m[1])
+    kind, forms = next((kind, forms) for kind, (tree, forms) in FIELDS.items() if tree == m[0])
+    rank = lambda it: (it[0] == "nullable", not it[1].startswith("TEXT"), not it[1].startswith("MSG"))
+    values = dict(zip(forms, m[1:]))
+    words = [word for name, form in sorted(forms.items(), key=rank) for word in field(name, form, values[name])]
     return f"{kind} {{ {' '.join(words)} }}" if words else f"{kind} {{}}"
 
 

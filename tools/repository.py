@@ -25,7 +25,7 @@ Clause = namedtuple("Clause", "kind name text")
 # An impl or a trait: the type, the trait that it is of (of an inherent impl empty, of a trait's declaration its own
 # name), its heading as written, and its ghost members.
 Owner = namedtuple("Owner", "start end kind heading type trait members")
-Function = namedtuple("Function", "file start owner name visibility attributes signature clauses body")
+Function = namedtuple("Function", "file start end owner name visibility attributes signature clauses body")
 
 COMMENT = re.compile(r"(?m)^[ \t]*//.*$")
 OWNER = re.compile(r"\b(impl|trait)\b(?:<[^{]*?>)?\s+([^{;]*?)\s*(?:where[^{]*)?\{")
@@ -181,9 +181,10 @@ def lines_above(text, start):
     return lines
 
 
-def functions_of(file):
-    """The functions of a source, each with its line's start and the impl or the trait that holds it, or None."""
-    text = text_of(file)
+def functions_of(file, text=None):
+    """The functions of a source, or of a text in its place: each with where it begins and ends, and the impl or the trait
+    that holds it, or None."""
+    text = text_of(file) if text is None else text
     code = code_of(text)
     owners = owners_in(code)
     for it in HEADER.finditer(code):
@@ -194,9 +195,10 @@ def functions_of(file):
         owner = next((owner for owner in reversed(owners) if owner.start < it.start() < owner.end), None)
         clauses, begin = clauses_behind(code, behind.start())
         brace = BODY.match(code, begin)
-        body = code[begin:end_of(code, brace.end() - 1)] if brace else ""
+        end = end_of(code, brace.end() - 1) if brace else begin
         attributes = [line for line in lines_above(text, start) if line.startswith("#[")]
-        yield Function(file, start, owner, it[2], (it[1] or "").strip(), attributes, code[it.end():behind.start()], clauses, body)
+        yield Function(file, start, end, owner, it[2], (it[1] or "").strip(), attributes, code[it.end():behind.start()], clauses,
+                       code[begin:end])
 
 
 def names_in(listing):

@@ -15,8 +15,6 @@ pub fn add_to(commands: &mut Commands) {
     commands.add("eq", |(a, b): (DType, DType)| told(a == b));
     commands.add("eqign", |(a, b): (DType, DType)| told(a.eq_ignore_nullability(&b)));
     commands.add("innereqign", insides_equal);
-    commands.add("subset", |(a, b): (DType, DType)| told(a.eq_with_nullability_subset(&b)));
-    commands.add("superset", |(a, b): (DType, DType)| told(a.eq_with_nullability_superset(&b)));
     commands.add("hasheq", |(a, b): (DType, DType)| told(hash_of(&a) == hash_of(&b)));
     // The call is the crate's own; what it is for is that these hash the same.
     commands.add("hashigneq", |(a, b): (DType, DType)| told(a.eq_ignore_nullability(&b)));

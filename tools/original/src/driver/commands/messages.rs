@@ -8,25 +8,22 @@ use vortex_array::dtype::proto::dtype as pb;
 use vortex_array::dtype::{DType, FieldPath};
 use vortex_session::VortexSession;
 
-use super::{Commands, ok, ok_text, ok_type, told};
+use super::{Commands, ok, ok_type, told};
 use crate::bytes::{Bytes, hex};
 use crate::paths::path;
-use crate::plugins::{Tag, of_i32, tagged};
+use crate::plugins::tagged;
 use crate::types::{bit, written};
 use crate::words::Answer;
 
 pub fn add_to(commands: &mut Commands) {
     commands.add("write", |dtype: DType| ok(message_of(&dtype)?));
     commands.add("read", |(session, message)| ok_type(&read(&session, &message)?));
-    commands.add("readtext", |(session, message)| ok_text(read(&session, &message)?));
     commands.add("normal", |(session, message)| ok(message_of(&read(&session, &message)?)?));
     commands.add("readeq", |(session, a, b)| told(read(&session, &a)? == read(&session, &b)?));
     commands.add("roundtrip", round_trip);
     commands.add("readpath", |message: pb::FieldPath| ok(path(&FieldPath::try_from(&message)?)));
     commands.add("extparts", parts);
     commands.add("tagnew", |(metadata, storage): (Bytes, DType)| ok_type(&tagged(metadata, storage)?));
-    commands.add("i32new", |(metadata, storage): (Bytes, DType)| ok_type(&of_i32(metadata, storage)?));
-    commands.add("tagdowncast", downcast);
 }
 
 fn message_of(dtype: &DType) -> Answer {
@@ -46,11 +43,4 @@ fn round_trip((session, dtype): (VortexSession, DType)) -> Answer {
 fn parts(extension: ExtDTypeRef) -> Answer {
     let (id, metadata) = (hex(extension.id().as_ref()), hex(extension.serialize_metadata()?));
     told(format!("{id} {metadata} {} {}", bit(extension.nullability()), written(extension.storage_dtype())?))
-}
-
-fn downcast(extension: ExtDTypeRef) -> Answer {
-    match extension.try_downcast::<Tag>() {
-        Ok(typed) => told(format!("some {} {}", hex(typed.serialize_metadata()?), written(typed.storage_dtype())?)),
-        Err(other) => told(format!("none {}", written(&DType::Extension(other))?)),
-    }
 }

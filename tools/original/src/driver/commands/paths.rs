@@ -3,8 +3,6 @@
 
 //! Paths, path sets and masks.
 
-use std::cell::RefCell;
-
 use vortex_array::dtype::{DType, Field, FieldMask, FieldPath, FieldPathSet};
 
 use super::comparisons::hash_of;
@@ -29,7 +27,6 @@ pub fn add_to(commands: &mut Commands) {
     commands.add("setcontains", |(paths, path): (Vec<FieldPath>, FieldPath)| {
         told(FieldPathSet::from_iter(paths).contains(&path))
     });
-    add_living_set(commands);
     add_masks(commands);
 }
 
@@ -41,22 +38,6 @@ fn as_name(field: Field) -> Answer {
 fn cover(set: FieldPathSet) -> Answer {
     let paths: Vec<FieldPath> = set.into_iter().collect();
     told(sorted(&paths))
-}
-
-/// The commands on the one set that lives between commands.
-fn add_living_set(commands: &mut Commands) {
-    let set: &RefCell<FieldPathSet> = Box::leak(Box::default());
-    commands.add("set.new", move |()| changed(set, |it| *it = FieldPathSet::default()));
-    commands.add("set.insert", move |path: FieldPath| changed(set, |it| it.insert(path)));
-    commands.add("set.extend", move |paths: Vec<FieldPath>| changed(set, |it| it.extend(paths)));
-    commands.add("set.contains", move |path: FieldPath| told(set.borrow().contains(&path)));
-    commands.add("set.iter", move |()| told(sorted(set.borrow().iter())));
-    commands.add("set.cover", move |()| cover(set.borrow().clone()));
-}
-
-fn changed(set: &RefCell<FieldPathSet>, change: impl FnOnce(&mut FieldPathSet)) -> Answer {
-    change(&mut set.borrow_mut());
-    told("ok")
 }
 
 fn add_masks(commands: &mut Commands) {

@@ -12,7 +12,7 @@ import sys
 from glob import glob
 
 import speed
-from repository import anchor_of, libraries, sources_of, text_of
+from repository import anchor_of, libraries, sources_of, text_of, version
 
 TRUST = "docs/TRUST.md"
 TOLD = {
@@ -97,10 +97,9 @@ def wrong_shown(pages):
 
 def wrong_version():
     """A version of the console that isn't the newest of CHANGELOG.md."""
-    newest = re.search(r"(?m)^## (\d+\.\d+\.\d+)", text_of("CHANGELOG.md"))
     told = re.search(r'VERSION: &str = "console ([^,]*),', text_of("crates/dtype_console/src/options.rt"))
-    if not newest or not told or newest[1] != told[1]:
-        yield "CHANGELOG.md", f"its newest version is {newest and newest[1]}, the console's {told and told[1]}"
+    if not told or told[1] != version():
+        yield "CHANGELOG.md", f"its newest version is {version()}, the console's {told and told[1]}"
 
 
 def stale_reference():

@@ -80,6 +80,12 @@ def below(names):
     return [crate for crate in crates() if crate in needed]
 
 
+def version():
+    """The newest version of CHANGELOG.md, or None."""
+    found = re.search(r"(?m)^## (\d+\.\d+\.\d+)", text_of("CHANGELOG.md"))
+    return found and found[1]
+
+
 def libraries():
     """The crates of crates.txt below its line `# The libraries`, up to the next such line: lowest first."""
     _, _, rest = text_of("crates.txt").partition("\n# The libraries")

@@ -8,7 +8,7 @@ import re
 from collections import namedtuple
 
 from repository import (
-    code_of, end_of, functions_of, given_out, heads_of, libraries, lines_above, owners_in, sources_of, text_of,
+    KEPT, code_of, end_of, functions_of, given_out, heads_of, libraries, lines_above, owner_at, owners_in, sources_of, text_of,
 )
 
 # `kind` is struct, enum, trait, fn, const, macro or impl (of a trait); `name` is as in a path. `text` is the comment without
@@ -22,8 +22,6 @@ MACRO = re.compile(r"(?m)^#\[macro_export\]\nmacro_rules! (\w+) ")
 PART = re.compile(r"(?m)^    (?:pub )?(?:const |type )?(\w+)(\([^\n]*\)|: [^\n;]*|(?=[,;]))[,;]?$")
 ASSOCIATED = re.compile(r"(?m)^    ((?:const|type) \w+(?:: [^;=]*)?);")
 DERIVED = re.compile(r"#\[derive(?:_where)?\(([^)]*)\)\]")
-# The ghost members that say how a law is proved or how a model is kept.
-KEPT = re.compile(r"laws|respects_eq|typed|lawful|\w+_law|invariant|coded|view|inverse")
 
 
 def comment_above(text, start):
@@ -93,7 +91,7 @@ def types_in(file, text, code, names):
 def constants_in(file, text, code, names):
     owners = owners_in(code)
     for it in CONSTANT.finditer(code):
-        owner = next((owner for owner in owners if owner.start < it.start() < owner.end), None)
+        owner = owner_at(owners, it.start())
         if owner and owner.type in names or not owner and it[2] in names:
             name = f"{owner.type}::{it[2]}" if owner else it[2]
             said, errors = comment_above(text, it.start())

@@ -10,7 +10,7 @@ from collections import namedtuple
 from glob import glob
 
 from repository import (
-    code_of, functions_of, given_out, heads_of, is_public, libraries, owners_in, sources_of, text_of,
+    code_of, functions_of, given_out, heads_of, is_public, libraries, owner_at, owners_in, sources_of, text_of,
 )
 
 LEDGER = "docs/PROMISES.md"
@@ -212,7 +212,7 @@ def constants_left_out(named):
         for file in sources_of(crate):
             text = code_of(text_of(file))
             for it in PUBLIC_CONSTANT.finditer(text):
-                owner = next((owner for owner in owners_in(text) if owner.start < it.start() < owner.end), None)
+                owner = owner_at(owners_in(text), it.start())
                 is_open = heads_of(owner) & names if owner else it[1] in names or file.endswith("/lib.rt")
                 if is_open and it[1] not in named:
                     yield f"the constant {it[1]} stands in no line"

@@ -37,6 +37,8 @@ BRACE = re.compile(r"""[{}]|"(?:\\.|[^"\\])*"|'(?:\\.|[^'\\])'""")
 CLAUSE = re.compile(r"\s*(requires|ensures)\*? ?(\w*) ?\{")
 MEMBER = re.compile(r"\bghost (\w+)(?: =|:) \{")
 GIVEN = re.compile(r"(?m)^pub use [\w:]+?(?:::\{([^}]*)\}|::(\w+)(?: as \w+)?);")
+# The ghost members that say how a law is proved or how a model is kept.
+KEPT = re.compile(r"laws|respects_eq|typed|lawful|\w+_law|invariant|coded|view|inverse")
 MODULE = re.compile(r"(?m)^pub mod (\w+);")
 
 
@@ -163,6 +165,11 @@ def owners_in(text):
     return owners
 
 
+def owner_at(owners, at):
+    """The innermost of these that holds an index, or None."""
+    return next((owner for owner in reversed(owners) if owner.start < at < owner.end), None)
+
+
 def clauses_behind(text, at):
     """The clauses of the function whose signature ends at `at`, and where its body begins."""
     if where := WHERE.match(text, at):
@@ -198,7 +205,7 @@ def functions_of(file, text=None):
         if not behind:
             continue
         start = code.rfind("\n", 0, it.start()) + 1
-        owner = next((owner for owner in reversed(owners) if owner.start < it.start() < owner.end), None)
+        owner = owner_at(owners, it.start())
         clauses, begin = clauses_behind(code, behind.start())
         brace = BODY.match(code, begin)
         end = end_of(code, brace.end() - 1) if brace else begin

@@ -33,6 +33,11 @@ def below(_, items, steps):
     return " ".join([*words, str(len(texts)), *sorted(texts, key=str.encode)])
 
 
+def missing(o, items, t):
+    """The paths of a set that a type lacks. The original has no such call: it is asked of each path by itself."""
+    return c.paths(path for path in dict.fromkeys(items) if d.resolve(o, path, t) is None)
+
+
 # The commands that begin a set or a session, what each does to the list of paths or plugins that it was given, and what it
 # tells of the list before: the others tell alone.
 BEGIN = {"set": ("new", "insert", "extend"), "session": ("new", "register", "allow_unknown")}
@@ -45,7 +50,7 @@ TELLS = {
     "iter": lambda o, items: paths_of(o, "setiter", items),
     "cover": lambda o, items: paths_of(o, "cover", items), "drain": lambda o, items: paths_of(o, "cover", items),
     "contains": lambda o, items, path: o.word("setcontains", paths_words(items), path_words(path)),
-    "below": below,
+    "below": below, "missing": missing,
 }
 
 

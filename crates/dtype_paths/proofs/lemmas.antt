@@ -16,3 +16,4 @@ pub mod PathsBelow
 pub mod MaskLists
 pub mod LentPaths
 pub mod Unresolved
+pub mod Steps

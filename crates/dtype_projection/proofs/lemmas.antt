@@ -13,3 +13,4 @@ pub mod RestrictedOnto
 pub mod ThroughExtensions
 pub mod Above
 pub mod Projecting
+pub mod Descending

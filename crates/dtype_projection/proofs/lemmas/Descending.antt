@@ -1,0 +1,66 @@
+-- SPDX-License-Identifier: Apache-2.0
+-- SPDX-FileCopyrightText: Copyright the Vortex contributors
+
+-- What a reader comes to that steps along a path in a type and in what is asked for, at once: what the projection has
+-- there. `descending` names all of it in one line.
+use Rattle.std.proofs.Common.{◌≡◌, List, [], ◌∷◌, Option, Some, None, option_and_then, true, false, refl, sym, ap, ◌∙◌}
+use Rattle.dtype_types.specs.tree.Tree.{Tree}
+use Rattle.dtype_paths.specs.Along.{along}
+use Rattle.dtype_paths.specs.At.{step}
+use Rattle.dtype_paths.specs.PathPredicates.{no_path}
+use Rattle.dtype_paths.specs.declared.field.Field.{Field}
+use Rattle.dtype_paths.proofs.lemmas.Cases.{by_option}
+use Rattle.dtype_projection.specs.Projected.{PathPredicate, after_step, projected}
+use Rattle.dtype_projection.proofs.lemmas.Projections.{kept_root, projected_nothing, step_kept, step_some}
+
+steps_join : {A B C : Type 0} (o : Option A) (h : A → Option B) (g : B → Option C) → option_and_then g (option_and_then h o) ≡ option_and_then (λ x. option_and_then g (h x)) o
+steps_join None h g = refl
+steps_join (Some x) h g = refl
+
+-- what the projection has along a path, and what it has after the first step
+along_step : (t : Tree) (w : PathPredicate) (f : Field) (p : List Field) → w [] ≡ false → option_and_then (λ u. along u (f ∷ p)) (projected t w) ≡ option_and_then (λ x. option_and_then (λ u. along u p) (projected x (after_step f w))) (step t f)
+along_step t w f p root = by_option (projected t w)
+    (λ none. ap (option_and_then (λ u. along u (f ∷ p))) none ∙ sym (by_option (step t f)
+    (λ e. ap (option_and_then (λ x. option_and_then (λ u. along u p) (projected x (after_step f w)))) e)
+    (λ x e. ap (option_and_then (λ y. option_and_then (λ u. along u p) (projected y (after_step f w)))) e
+    ∙ by_option (projected x (after_step f w))
+    (λ is. ap (option_and_then (λ u. along u p)) is)
+    (λ v is. let some = step_some t x v w f root e is in let q = sym none ∙ some.1 in cc))))
+    (λ u is.
+    ap (option_and_then (λ x. along x (f ∷ p))) is
+    ∙ ap (option_and_then (λ x. along x p)) (step_kept t u w f root is)
+    ∙ steps_join (step t f) (λ x. projected x (after_step f w)) (λ x. along x p))
+
+-- after a step into both
+pub opened_after : (t x : Tree) (w v : PathPredicate) (f : Field) (p q : List Field) (o : Option Tree) → w [] ≡ false → q ≡ f ∷ p → Some x ≡ step t f → v ≡ after_step f w → o ≡ option_and_then (λ u. along u p) (projected x v) → o ≡ option_and_then (λ u. along u q) (projected t w)
+opened_after t x w v f p q o root is at asked e =
+    e
+    ∙ ap (λ z. option_and_then (λ u. along u p) (projected x z)) asked
+    ∙ ap (option_and_then (λ y. option_and_then (λ u. along u p) (projected y (after_step f w)))) at
+    ∙ sym (along_step t w f p root)
+    ∙ ap (λ z. option_and_then (λ u. along u z) (projected t w)) (sym is)
+
+-- where the type has no such part
+pub opened_nowhere : (t : Tree) (w : PathPredicate) (f : Field) (p q : List Field) → w [] ≡ false → q ≡ f ∷ p → None ≡ step t f → None ≡ option_and_then (λ u. along u q) (projected t w)
+opened_nowhere t w f p q root is none =
+    ap (option_and_then (λ y. option_and_then (λ u. along u p) (projected y (after_step f w)))) none
+    ∙ sym (along_step t w f p root)
+    ∙ ap (λ z. option_and_then (λ u. along u z) (projected t w)) (sym is)
+
+-- where nothing of it is asked for
+pub opened_unasked : (t x : Tree) (w : PathPredicate) (f : Field) (p q : List Field) → w [] ≡ false → q ≡ f ∷ p → Some x ≡ step t f → no_path ≡ after_step f w → None ≡ option_and_then (λ u. along u q) (projected t w)
+opened_unasked t x w f p q root is at none = opened_after t x w no_path f p q None root is at none (ap (option_and_then (λ u. along u p)) (sym (projected_nothing x)))
+
+-- where all below is asked for
+pub opened_whole : (t : Tree) (w : PathPredicate) (p : List Field) (o : Option Tree) → w [] ≡ true → o ≡ along t p → o ≡ option_and_then (λ u. along u p) (projected t w)
+opened_whole t w p o root e = e ∙ ap (option_and_then (λ u. along u p)) (sym (kept_root t w root))
+
+-- at the path's end
+pub opened_here : (t : Tree) (w : PathPredicate) (p : List Field) → p ≡ [] → projected t w ≡ option_and_then (λ u. along u p) (projected t w)
+opened_here t w p end = same (projected t w) ∙ ap (λ z. option_and_then (λ u. along u z) (projected t w)) (sym end)
+  where
+    same : (o : Option Tree) → o ≡ option_and_then (λ u. along u []) o
+    same None = refl
+    same (Some x) = refl
+
+pub ruleset descending = (opened_after, opened_nowhere, opened_unasked, opened_whole, opened_here)

@@ -42,16 +42,41 @@ impl Shape {
 }
 
 /// The form of the names of a wide struct: `column_0` and so on; the same, shuffled; sixteen hexadecimal digits each;
-/// `id` and then `measurement_1` and so on.
+/// `id` and then `measurement_1` and so on; `id` and then `transaction_amount_1` and so on; a few prefixes, a few words
+/// and a number; names with dots that begin alike.
 #[derive(Clone, Copy, Debug)]
 pub enum Naming {
     Wide,
     Shuffled,
     Hexadecimal,
     Stray,
+    Features,
+    Words,
+    Dotted,
 }
 
+const PREFIXES: [&str; 7] = ["ss_", "ws_", "cs_", "sr_", "c_customer_", "d_date_", "i_item_"];
+
+const WORDS: [&str; 10] = [
+    "sk",
+    "quantity",
+    "list_price",
+    "net_paid",
+    "ext_discount_amt",
+    "order_number",
+    "sales_price",
+    "promo",
+    "ship_cost",
+    "tax",
+];
+
+const PARTS: [&str; 4] = ["name", "version", "namespace", "instance"];
+
 impl Naming {
+    /// The forms that only lookups and index builds are measured with.
+    pub const OTHERS: [Naming; 6] =
+        [Naming::Shuffled, Naming::Hexadecimal, Naming::Stray, Naming::Features, Naming::Words, Naming::Dotted];
+
     /// The last part of a case's name.
     pub fn of(self, count: usize) -> String {
         format!("/{self:?}/{count}").to_lowercase()
@@ -67,9 +92,20 @@ impl Naming {
             Naming::Wide => column(i),
             Naming::Shuffled => column(mixed(i, count)),
             Naming::Hexadecimal => format!("{:016x}", (i as u64 + 1).wrapping_mul(0x9E37_79B9_7F4A_7C15)),
-            Naming::Stray if i == 0 => "id".to_owned(),
+            Naming::Stray | Naming::Features if i == 0 => "id".to_owned(),
             Naming::Stray => format!("measurement_{i}"),
+            Naming::Features => format!("transaction_amount_{i}"),
+            Naming::Words => words(i),
+            Naming::Dotted => format!("resource.attributes.service.{}.{i}", PARTS[i % 4]),
         }
+    }
+}
+
+fn words(i: usize) -> String {
+    let (prefix, word) = (PREFIXES[i % 7], WORDS[i / 7 % 10]);
+    match i / 70 {
+        0 => format!("{prefix}{word}"),
+        number => format!("{prefix}{word}_{number}"),
     }
 }
 

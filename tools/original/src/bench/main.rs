@@ -46,8 +46,8 @@ fn of_wide(meter: &Meter) {
 
 /// Structs whose names look otherwise.
 fn of_namings(meter: &Meter) {
-    for naming in [Naming::Shuffled, Naming::Hexadecimal, Naming::Stray] {
-        for count in [10, 1000] {
+    for naming in Naming::OTHERS {
+        for count in [10, 100, 1000, 10_000] {
             let (of, texts) = (naming.of(count), naming.texts(count));
             let types = two_structs(&texts);
             find_mixed(meter, &of, &types, &texts);

@@ -41,7 +41,7 @@ impl SetShape {
 
 /// Measures what is done with path sets.
 pub fn measure_sets(meter: &Meter, shape: SetShape) {
-    for count in [1000, 100_000] {
+    for count in [100, 1000, 10_000, 100_000] {
         let of = format!("/{shape:?}/{count}").to_lowercase();
         let paths = shape.paths(count);
         let set = FieldPathSet::from_iter(shape.paths(count));

@@ -44,9 +44,11 @@ pub fn find_mixed(meter: &Meter, of: &str, types: &[DType; 2], texts: &[String])
 /// What makes a struct with an index of these names.
 pub fn measure_index(meter: &Meter, of: &str, types: &[DType; 2], texts: &[String]) {
     let count = texts.len();
-    let some = names((0..count / 10).map(|i| &texts[mixed(i, count)]));
-    let project = |i, _| fields_of(types, i).project(&some).expect("the struct has these names").nfields();
-    meter.each(&format!("project{of}"), project);
+    for (what, most) in [("project", count / 10), ("project_all", count)] {
+        let asked = names((0..most).map(|i| &texts[mixed(i, count)]));
+        let project = |i, _| fields_of(types, i).project(&asked).expect("the struct has these names").nfields();
+        meter.each(&format!("{what}{of}"), project);
+    }
     let (names, leaves) = (names(texts), leaves(count));
     let given = || (names.clone(), leaves.clone());
     let build = |(names, types)| black_box(of_names(names, types)).is_struct().into();

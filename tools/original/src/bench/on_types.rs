@@ -6,9 +6,10 @@
 use std::fmt::Display;
 use std::hash::{DefaultHasher, Hash, Hasher};
 use std::hint::black_box;
+use std::sync::Arc;
 
 use vortex_array::dtype::proto::dtype as pb;
-use vortex_array::dtype::{DType, FieldPath, Nullability};
+use vortex_array::dtype::{DType, FieldPath, Nullability, StructFields};
 use vortex_session::VortexSession;
 
 use crate::fixture::{Naming, Shape, Types, wide_type};
@@ -28,6 +29,37 @@ pub fn measure_types(meter: &Meter, types: &Types) {
         black_box(types.turn(i).with_nullability(Nullability::Nullable)).is_struct().into()
     });
     text(meter, of, &types.types);
+    // by hand, since the original has no such call; it has no door to build an extension around another storage
+    if !matches!(types.shape, Shape::Extensions) {
+        meter.each(&format!("merge{of}"), |i, _| merged_by_hand(types.turn(i), &types.others[i % 2]));
+        meter.each(&format!("merge_equal{of}"), |i, _| merged_by_hand(types.turn(i), &types.sames[i % 2]));
+    }
+}
+
+/// 1 where two types differ in nullability alone.
+fn merged_by_hand(a: &DType, b: &DType) -> usize {
+    black_box(merged(a, b)).is_some().into()
+}
+
+/// The least type that takes the values of both, or `None` where they differ in more than nullability. A copy, where one
+/// of the two is that type.
+fn merged(a: &DType, b: &DType) -> Option<DType> {
+    if a == b {
+        return Some(a.clone());
+    }
+    let nullability = a.nullability() | b.nullability();
+    match (a, b) {
+        (DType::Struct(a, _), DType::Struct(b, _)) if a.names() == b.names() => {
+            let fields = a.fields().zip(b.fields()).map(|(a, b)| merged(&a, &b)).collect::<Option<Vec<DType>>>()?;
+            Some(DType::Struct(StructFields::new(a.names().clone(), fields), nullability))
+        }
+        (DType::List(a, _), DType::List(b, _)) => Some(DType::List(Arc::new(merged(a, b)?), nullability)),
+        (DType::FixedSizeList(a, m, _), DType::FixedSizeList(b, n, _)) if m == n => {
+            Some(DType::FixedSizeList(Arc::new(merged(a, b)?), *m, nullability))
+        }
+        _ if a.eq_ignore_nullability(b) => Some(a.with_nullability(nullability)),
+        _ => None,
+    }
 }
 
 /// The SipHash of one of two.

@@ -1,7 +1,7 @@
 -- SPDX-License-Identifier: Apache-2.0
 -- SPDX-FileCopyrightText: Copyright the Vortex contributors
 
--- Names that share a prefix are ordered as their sort keys are, where the keys differ; and the index sorted by keys.
+-- The keys of names, and the index sorted by them; names that share a prefix are equal where keys that hold them whole are.
 use Rattle.std.proofs.Common.{◌%◌, mod-eq_of_lt, ◌≡◌, ◌≢◌, ℕ, zero, suc, min, ◌+◌, ◌-◌, ◌*◌, ◌<◌, ◌≤◌, ◌^◌, List, [], ◌∷◌, ◌++◌, length, get_or, take, drop, Some, Bool, true, false, IsTrue, ◌↔◌, ◌/◌, refl, sym, ap, subst, subst₂, ◌∙◌, inl, inr, arith, pow-suc, mul-le-mul_right, add-mul}
 use Rattle.std.specs.Prelude.{slice_get}
 use Rattle.std.proofs.Math.Nat.{add-mul-mod_self_right, mul_assoc}
@@ -11,23 +11,23 @@ use Rattle.std.specs.List.Sorted.{IsPermutation, IsSorted}
 use Rattle.std.specs.Int.{w64, from_be_bytes}
 use Rattle.std.specs.declared.cmp.Ordering.TheVariants.{Less, Equal, Greater}
 use Rattle.std.specs.declared.cmp.Ordering.{Ordering}
-use Rattle.std.specs.Ordering.{is_eq, is_lt, ordering_index, ordering_then, nat_cmp, MatchOrdering}
+use Rattle.std.specs.Ordering.{is_lt, ordering_index, ordering_then, nat_cmp, MatchOrdering}
 use Rattle.std.specs.Cmp.{IsTotalOrder, then_total, on_total, nat_cmp_is, nat_cmp_total, ranked, tied_itself}
 use Rattle.std.specs.Cmp.Lexicographic.{slice_cmp, nat_list_cmp_total}
 use Rattle.std.proofs.lemmas.Bool.{cases_lt, cases_order, false≢true}
-use Rattle.std.proofs.lemmas.List.{get_or-map, map_more, take-map, get_or-take, get_or-drop, get_or_past, map-append, drop-drop, drop_all, length-drop, take_more_same}
+use Rattle.std.proofs.lemmas.List.{get_or-map, get_or-take, get_or-drop, get_or_past, map-append, drop-drop, drop_all, length-drop, take_more_same}
 use Rattle.std.proofs.lemmas.List.Elements.{All-tail, All-drop}
 use Rattle.std.proofs.lemmas.List.Sorted.{All-permutation, IsPermutation-map, IsNonDecreasingBy-from_all_adjacent}
 use Rattle.std.proofs.lemmas.Option.{slice_get-get_or, slice_get_within, get_or_from_slice_get}
 use Rattle.dtype_base.specs.Bytes.{Bytes}
-use Rattle.dtype_base.specs.private.NameKeys.{big_endian, key_of, key_prefix, sort_key, HaveCommonPrefix}
-use Rattle.dtype_base.specs.private.NameOrder.{AreDistinguishedBy, IsFinal, IsIndexOf, IsKeyed, IsOrderOf, bytes_cmp, name_cmp, position_cmp, entry_cmp, entry_name_cmp, positions}
+use Rattle.dtype_base.specs.private.NameKeys.{big_endian, hash_of, key_of, key_prefix, mixed, sort_key, words_hash, HaveCommonPrefix}
+use Rattle.dtype_base.specs.private.NameOrder.{AreDistinguishedBy, IsFinal, IsIndexOf, IsKeyed, IsKeyingOf, IsOrderOf, bytes_cmp, key_or, keyed_position_cmp, name_cmp, position_cmp, entry_cmp, entry_name_cmp, positions}
 use Rattle.dtype_base.specs.declared.name_key.Keying.{Keying}
-use Rattle.dtype_base.specs.declared.name_key.Keying.TheVariants.{AfterPrefix, AtEight, AtSixteen}
+use Rattle.dtype_base.specs.declared.name_key.Keying.TheVariants.{AfterPrefix, Hashed}
 use Rattle.dtype_base.specs.declared.name_order.IndexEntry.{IndexEntry}
 use Rattle.dtype_base.specs.declared.name_order.Discriminator.{Discriminator}
 use Rattle.dtype_base.specs.declared.name_order.Discriminator.TheVariants.{KeyPrefix, Key, Text}
-use Rattle.dtype_base.proofs.NameSearch.{Occurs, as_many_positions, at_least_equal, at_most_equal, position_at, counted_more, equal_is, no_entry, placed, itself, names_ranked, position_total}
+use Rattle.dtype_base.proofs.NameSearch.{Occurs, as_many_positions, at_least_equal, at_most_equal, position_at, counted_more, equal_is, no_entry, placed, itself, names_ranked, position_total, second_equal}
 
 -- ---- the first bytes of a text, as a number
 
@@ -114,20 +114,10 @@ held s key n is whole = drop_all 15 (drop s n) (omega (arith, is, whole))
 
 -- ---- entries
 
--- comparing by r once more changes nothing
-again : (r s o : Ordering) (f : Ordering → Ordering) → o ≡ ordering_then r s → f Less ≡ Less → f Greater ≡ Greater → ordering_then r (f o) ≡ f o
-again Less s o f e less greater = sym (ap f e ∙ less)
-again Equal s o f e less greater = refl
-again Greater s o f e less greater = sym (ap f e ∙ greater)
-
 then_equal : (r s : Ordering) → (r ≡ Equal → s ≡ Equal) → ordering_then r s ≡ r
 then_equal Less s e = refl
 then_equal Equal s e = e refl
 then_equal Greater s e = refl
-
--- a lower key prefix is that of a lower key
-lower_prefix : (a b : ℕ) → key_prefix a < key_prefix b → a < b
-lower_prefix a b l = omega (arith, l)
 
 -- of numbers of which each is below the next, each is below all after it
 far : (f : IndexEntry → ℕ) (entries : List IndexEntry) → AllAdjacentBelow (λ p q. f p < f q) entries (length entries) → (j k : ℕ) (d : IndexEntry) → j < k
@@ -139,7 +129,7 @@ module _ (names : List (List ℕ)) (prefix_len : ℕ) where
   -- an entry's name compares to a name with the same prefix as their keys do, and where these are equal, as what follows
   name_by_key : (p : IndexEntry) (n : List ℕ) (key : ℕ) → IsKeyed names (AfterPrefix prefix_len) p → Bytes n → key ≡ sort_key prefix_len n
       → take prefix_len (get_or names p.position []) ≡ take prefix_len n
-      → name_cmp names n p.position ≡ ordering_then (nat_cmp p.key key) (slice_cmp nat_cmp (drop 15 (drop prefix_len (get_or names p.position []))) (drop 15 (drop prefix_len n)))
+      → bytes_cmp (slice_get names p.position) (Some n) ≡ ordering_then (nat_cmp p.key key) (slice_cmp nat_cmp (drop 15 (drop prefix_len (get_or names p.position []))) (drop 15 (drop prefix_len n)))
   unfolding sort_key text_key
   name_by_key p n key h bytes is begin =
       let m = get_or names p.position [] in
@@ -148,14 +138,10 @@ module _ (names : List (List ℕ)) (prefix_len : ℕ) where
       ∙ by_key 15 (drop prefix_len m) (drop prefix_len n) (omega arith) (All-drop (λ b. b < 256) prefix_len m h.bytes) (All-drop (λ b. b < 256) prefix_len n bytes)
       ∙ (λ i. ordering_then (nat_cmp (sym h.key i) (sym is i)) (slice_cmp nat_cmp (drop 15 (drop prefix_len m)) (drop 15 (drop prefix_len n))))
 
-  -- what distinguishes a name from all others with its prefix compares it with them: the text, or a key that holds it whole
-  final_decides : (p : IndexEntry) (n : List ℕ) (key : ℕ) (by : Discriminator) → by ≢ KeyPrefix → (by ≡ Key → key % 256 < 16) → IsKeyed names (AfterPrefix prefix_len) p → Bytes n
-      → key ≡ sort_key prefix_len n
-      → take prefix_len (get_or names p.position []) ≡ take prefix_len n → entry_name_cmp names n key by p ≡ name_cmp names n p.position
-  final_decides p n key KeyPrefix other whole h bytes is begin = absurd (other refl)
-  final_decides p n key Text other whole h bytes is begin = again (nat_cmp p.key key) _ _ (λ o. o) (name_by_key p n key h bytes is begin) refl refl
-  final_decides p n key Key other whole h bytes is begin =
-      let all = whole refl in
+  -- a key that holds all that follows the prefix compares a name with those that have its prefix
+  key_decides : (p : IndexEntry) (n : List ℕ) (key : ℕ) → key % 256 < 16 → IsKeyed names (AfterPrefix prefix_len) p → Bytes n → key ≡ sort_key prefix_len n
+      → take prefix_len (get_or names p.position []) ≡ take prefix_len n → nat_cmp p.key key ≡ bytes_cmp (slice_get names p.position) (Some n)
+  key_decides p n key all h bytes is begin =
       sym (name_by_key p n key h bytes is begin ∙ then_equal (nat_cmp p.key key) _ (λ e.
       let same : p.key ≡ key = ranked p.key key Equal (sym e) in
       λ i. slice_cmp nat_cmp (held prefix_len p.key (get_or names p.position []) h.key (omega (arith, same, all)) i) (held prefix_len key n is all i)))
@@ -168,74 +154,97 @@ module _ (names : List (List ℕ)) (prefix_len : ℕ) where
     pub has_prefix : (n : List ℕ) → Occurs names n → take prefix_len (get_or names 0 []) ≡ take prefix_len n
     has_prefix n t = sym (common_prefix t.0 [] (slice_get_within names t.0 n t.1)) ∙ ap (take prefix_len) (get_or_from_slice_get names t.0 n [] t.1)
 
-    -- entries compare as their positions do
-    pub as_positions : (p q : IndexEntry) → IsKeyed names (AfterPrefix prefix_len) p → IsKeyed names (AfterPrefix prefix_len) q → entry_cmp names p q ≡ position_cmp names p.position q.position
-    as_positions p q a b =
-        let n = get_or names q.position [] in
-        let whole = ap (bytes_cmp (slice_get names p.position)) (slice_get-get_or names q.position [] b.within) ∙ name_by_key p n q.key a b.bytes b.key (begins p a ∙ sym (begins q b)) in
-        again (nat_cmp p.key q.key) _ _ (λ o. ordering_then o (nat_cmp p.position q.position)) whole refl refl
-
     -- the last comparison by the key, if it holds all that follows the common prefix
     same_by_key : (p : IndexEntry) (n : List ℕ) (key : ℕ) (same : Bool) → key % 256 < 16 → Bytes n → key ≡ sort_key prefix_len n → IsKeyed names (AfterPrefix prefix_len) p
         → IsTrue same ↔ ((nat_cmp p.key key ≡ Equal) × (take prefix_len (get_or names p.position []) ≡ take prefix_len n))
-        → (same ≡ true → name_cmp names n p.position ≡ Equal) × (same ≡ false → Occurs names n → name_cmp names n p.position ≢ Equal)
+        → (same ≡ true → bytes_cmp (slice_get names p.position) (Some n) ≡ Equal) × (same ≡ false → Occurs names n → bytes_cmp (slice_get names p.position) (Some n) ≢ Equal)
     same_by_key p n key same whole bytes is h compared =
-        let decides = final_decides p n key Key (λ e. cc e) (λ _. whole) h bytes is in (
+        let decides = key_decides p n key whole h bytes is in (
           λ t. sym (decides (compared.0 t).1) ∙ (compared.0 t).0,
           λ f t here. let begin = begins p h ∙ has_prefix n t in false≢true (sym f ∙ compared.1 (decides begin ∙ here, begin)),
         )
 
 -- ---- what the index's order says of its keys
 
--- entries that compare as their positions do are in order
-pub order_of : (names : List (List ℕ)) (keying : Keying) → ((p q : IndexEntry) → IsKeyed names keying p → IsKeyed names keying q → entry_cmp names p q ≡ position_cmp names p.position q.position)
-    → (made sorted : List IndexEntry) → positions made ≡ range_with_len 0 (length names) → All (IsKeyed names keying) made → IsPermutation made sorted
-    → IsSorted (entry_cmp names) sorted → IsOrderOf names (positions sorted)
-order_of names keying agree made sorted each keyed moved up = record {
+then_again : (r s t : Ordering) → ordering_then r (ordering_then s t) ≡ ordering_then (ordering_then r s) t
+then_again Less s t = refl
+then_again Equal s t = refl
+then_again Greater s t = refl
+
+-- an entry has the key of the name at its position
+entry_key : (names : List (List ℕ)) (keying : Keying) (p : IndexEntry) → IsKeyed names keying p → p.key ≡ key_or keying (slice_get names p.position)
+entry_key names keying p h = h.key ∙ ap (key_or keying) (sym (slice_get-get_or names p.position [] h.within))
+
+-- an entry's name compares to a name by their keys, then by their bytes
+pub name_by_keys : (names : List (List ℕ)) (keying : Keying) (p : IndexEntry) (n : List ℕ) (key : ℕ) → IsKeyed names keying p → key ≡ key_of keying n
+    → ordering_then (nat_cmp p.key key) (bytes_cmp (slice_get names p.position) (Some n)) ≡ name_cmp keying names n p.position
+name_by_keys names keying p n key h is = λ i. ordering_then (nat_cmp (entry_key names keying p h i) (is i)) (bytes_cmp (slice_get names p.position) (Some n))
+
+-- entries compare as their positions do
+as_positions : (names : List (List ℕ)) (keying : Keying) (p q : IndexEntry) → IsKeyed names keying p → IsKeyed names keying q → entry_cmp names p q ≡ keyed_position_cmp keying names p.position q.position
+as_positions names keying p q a b =
+    then_again (nat_cmp p.key q.key) (bytes_cmp (slice_get names p.position) (slice_get names q.position)) (nat_cmp p.position q.position)
+    ∙ (λ i. ordering_then (ordering_then (nat_cmp (entry_key names keying p a i) (entry_key names keying q b i)) (bytes_cmp (slice_get names p.position) (slice_get names q.position))) (nat_cmp p.position q.position))
+
+-- the positions of sorted entries are in order
+order_of : (names : List (List ℕ)) (keying : Keying) (made sorted : List IndexEntry) → positions made ≡ range_with_len 0 (length names) → All (IsKeyed names keying) made → IsPermutation made sorted
+    → IsSorted (entry_cmp names) sorted → IsOrderOf keying names (positions sorted)
+order_of names keying made sorted each keyed moved up = record {
   each = subst (λ is. IsPermutation is (positions sorted)) each (IsPermutation-map (λ p. p.position) made sorted moved);
   rising = λ k d low high.
       let next : k + 1 < length sorted = omega (arith, high, as_many_positions sorted) in
       let here : k < length sorted = omega (arith, next) in
       let of = All-permutation (IsKeyed names keying) made sorted moved keyed in
       rw (get_or-map (λ q. q.position) sorted (k + 1) no_entry d next, get_or-map (λ q. q.position) sorted k no_entry d here)
-      (ap is_lt (sym (agree (get_or sorted (k + 1) no_entry) (get_or sorted k no_entry) (of (k + 1) no_entry next) (of k no_entry here))) ∙ up k no_entry low next);
+      (ap is_lt (sym (as_positions names keying (get_or sorted (k + 1) no_entry) (get_or sorted k no_entry) (of (k + 1) no_entry next) (of k no_entry here))) ∙ up k no_entry low next);
 }
 
-module _ (names : List (List ℕ)) (keying : Keying) (entries : List IndexEntry) (keyed : All (IsKeyed names keying) entries) (order : IsOrderOf names (positions entries)) where
+-- the index of sorted entries
+pub index_of : (names : List (List ℕ)) (keying : Keying) (by : Discriminator) (made sorted : List IndexEntry) → IsKeyingOf names keying
+    → positions made ≡ range_with_len 0 (length names) → All (IsKeyed names keying) made → IsPermutation made sorted → IsSorted (entry_cmp names) sorted
+    → AreDistinguishedBy by sorted → IsIndexOf names keying by sorted
+index_of names keying by made sorted keying_of each keyed moved up distinguished = record {
+  keying_of = keying_of;
+  keyed = All-permutation (IsKeyed names keying) made sorted moved keyed;
+  order = order_of names keying made sorted each keyed moved up;
+  distinguished = distinguished;
+}
+
+module _ (names : List (List ℕ)) (keying : Keying) (entries : List IndexEntry) (keyed : All (IsKeyed names keying) entries) (order : IsOrderOf keying names (positions entries)) where
   -- an entry of a name has its key
-  pub same_key : (n : List ℕ) (k : ℕ) (d : IndexEntry) → k < length entries → name_cmp names n (get_or entries k d).position ≡ Equal → (get_or entries k d).key ≡ key_of keying n
+  pub same_key : (n : List ℕ) (k : ℕ) (d : IndexEntry) → k < length entries → name_cmp keying names n (get_or entries k d).position ≡ Equal → (get_or entries k d).key ≡ key_of keying n
   same_key n k d within e =
       let i = (get_or entries k d).position in
-      (keyed k d within).key ∙ ap (key_of keying) (get_or_from_slice_get names i n [] (equal_is names (positions entries) order n (slice_get names i) e))
+      (keyed k d within).key ∙ ap (key_of keying) (get_or_from_slice_get names i n [] (equal_is keying names (positions entries) order n (slice_get names i) e))
 
   -- a name that occurs has an entry
-  pub entry_of : (n : List ℕ) (d : IndexEntry) → Occurs names n → (q : ℕ) × (q < length entries) × ((get_or entries q d).position ≡ (get_or (positions entries) q 0)) × (name_cmp names n (get_or entries q d).position ≡ Equal)
+  pub entry_of : (n : List ℕ) (d : IndexEntry) → Occurs names n → (q : ℕ) × (q < length entries) × ((get_or entries q d).position ≡ (get_or (positions entries) q 0)) × (name_cmp keying names n (get_or entries q d).position ≡ Equal)
   entry_of n d t =
       let i = t.0 in
-      let s = placed names (positions entries) order n i t.1 in
+      let s = placed keying names (positions entries) order n i t.1 in
       let here : s.0 < length entries = omega (arith, s.1, as_many_positions entries) in
       let at = sym (position_at entries s.0 d here) in
-      (s.0, here, at, ap (name_cmp names n) (at ∙ s.2) ∙ itself names (positions entries) order n i t.1)
+      (s.0, here, at, ap (name_cmp keying names n) (at ∙ s.2) ∙ itself keying names (positions entries) order n i t.1)
 
   -- the names of the entries are ranked
   ranked_entries : (n : List ℕ) (j k : ℕ) (d : IndexEntry) → j < k → k < length entries
-      → ordering_index (name_cmp names n (get_or entries j d).position) ≤ ordering_index (name_cmp names n (get_or entries k d).position)
+      → ordering_index (name_cmp keying names n (get_or entries j d).position) ≤ ordering_index (name_cmp keying names n (get_or entries k d).position)
   ranked_entries n j k d before within =
       let at_j = position_at entries j d (omega (arith, before, within)) in
       let at_k = position_at entries k d within in
-      subst₂ (λ x y. ordering_index (name_cmp names n x) ≤ ordering_index (name_cmp names n y)) at_j at_k
-      (names_ranked names (positions entries) order n j k 0 (omega (arith, before)) (omega (arith, within, as_many_positions entries)))
+      subst₂ (λ x y. ordering_index (name_cmp keying names n x) ≤ ordering_index (name_cmp keying names n y)) at_j at_k
+      (names_ranked keying names (positions entries) order n j k 0 (omega (arith, before)) (omega (arith, within, as_many_positions entries)))
 
   -- numbers of keys that increase along the entries compare an entry with a name that occurs as the names do
   pub numbers_decide : (f : ℕ → ℕ) → AllAdjacentBelow (λ p q. f p.key < f q.key) entries (length entries)
       → (n : List ℕ) (key k : ℕ) (d : IndexEntry) → key ≡ key_of keying n → k < length entries → Occurs names n
-      → nat_cmp (f (get_or entries k d).key) (f key) ≡ name_cmp names n (get_or entries k d).position
+      → nat_cmp (f (get_or entries k d).key) (f key) ≡ name_cmp keying names n (get_or entries k d).position
   numbers_decide f increase n key k d is within t =
       let s = entry_of n d t in
       let p = get_or entries k d in
       let key_s : (get_or entries s.0 d).key ≡ key = same_key n s.0 d s.1 s.3 ∙ sym is in
       elim (cases_order k s.0) [
-        | inl e ↦ sym (nat_cmp_is _ _ Equal (ap (λ j. f (get_or entries j d).key) e ∙ ap f key_s)) ∙ sym (ap (λ j. name_cmp names n (get_or entries j d).position) e ∙ s.3)
+        | inl e ↦ sym (nat_cmp_is _ _ Equal (ap (λ j. f (get_or entries j d).key) e ∙ ap f key_s)) ∙ sym (ap (λ j. name_cmp keying names n (get_or entries j d).position) e ∙ s.3)
         | inr (inl before) ↦
             let lower : f p.key < f key = subst (λ x. f p.key < f x) key_s (far (λ q. f q.key) entries increase k s.0 d before s.1) in
             sym (nat_cmp_is _ _ Less lower) ∙ sym (at_most_equal _ _ (ranked_entries n k s.0 d before s.1) s.3 (λ same.
@@ -248,90 +257,65 @@ module _ (names : List (List ℕ)) (keying : Keying) (entries : List IndexEntry)
 
 -- what the index's discriminator names compares an entry with a name that occurs
 pub decided : (names : List (List ℕ)) (keying : Keying) (by : Discriminator) (entries : List IndexEntry) → IsIndexOf names keying by entries
-    → (n : List ℕ) (key k : ℕ) (d : IndexEntry) → Bytes n → key ≡ key_of keying n → k < length entries → Occurs names n
-    → entry_name_cmp names n key by (get_or entries k d) ≡ name_cmp names n (get_or entries k d).position
-decided names keying KeyPrefix entries h n key k d bytes is within t = numbers_decide names keying entries h.keyed h.order key_prefix h.distinguished n key k d is within t
-decided names keying Key entries h n key k d bytes is within t = numbers_decide names keying entries h.keyed h.order (λ x. x) h.distinguished n key k d is within t
-decided names (AfterPrefix prefix_len) Text entries h n key k d bytes is within t =
-    let p = get_or entries k d in
-    final_decides names prefix_len p n key Text (λ e. cc e) (λ e. cc e) (h.keyed k d within) bytes is (begins names prefix_len h.keying_of p (h.keyed k d within) ∙ has_prefix names prefix_len h.keying_of n t)
-decided names (AtEight places) Text entries h n key k d bytes is within t = absurd (h.orders refl)
-decided names (AtSixteen first last) Text entries h n key k d bytes is within t = absurd (h.orders refl)
-
-second_equal : (r s : Ordering) → ordering_then r s ≡ Equal → s ≡ Equal
-second_equal Equal s e = e
-second_equal Less s e = absurd (false≢true (ap is_eq e))
-second_equal Greater s e = absurd (false≢true (ap is_eq e))
+    → (n : List ℕ) (key k : ℕ) (d : IndexEntry) → key ≡ key_of keying n → k < length entries → Occurs names n
+    → entry_name_cmp names n key by (get_or entries k d) ≡ name_cmp keying names n (get_or entries k d).position
+decided names keying KeyPrefix entries h n key k d is within t = numbers_decide names keying entries h.keyed h.order key_prefix h.distinguished n key k d is within t
+decided names keying Key entries h n key k d is within t = numbers_decide names keying entries h.keyed h.order (λ x. x) h.distinguished n key k d is within t
+decided names keying Text entries h n key k d is within t = name_by_keys names keying (get_or entries k d) n key (h.keyed k d within) is
 
 -- the last comparison: by the texts, unless the key holds all that follows the common prefix
 pub same_decided : (names : List (List ℕ)) (keying : Keying) (discriminator : Discriminator) (entries : List IndexEntry) → IsIndexOf names keying discriminator entries
     → (n : List ℕ) (key k : ℕ) (d : IndexEntry) (by : Discriminator) (prefix_len : ℕ) (same : Bool) → IsFinal keying key by prefix_len → Bytes n → key ≡ key_of keying n → k < length entries
     → IsTrue same ↔ ((entry_name_cmp names n key by (get_or entries k d) ≡ Equal) × (take prefix_len (get_or names (get_or entries k d).position []) ≡ take prefix_len n))
-    → (same ≡ true → name_cmp names n (get_or entries k d).position ≡ Equal) × (same ≡ false → Occurs names n → name_cmp names n (get_or entries k d).position ≢ Equal)
+    → (same ≡ true → name_cmp keying names n (get_or entries k d).position ≡ Equal) × (same ≡ false → Occurs names n → name_cmp keying names n (get_or entries k d).position ≢ Equal)
 same_decided names keying discriminator entries h n key k d KeyPrefix prefix_len same final bytes is within compared = absurd final
 same_decided names (AfterPrefix s) discriminator entries h n key k d Key prefix_len same final bytes is within compared =
+    let p = get_or entries k d in
+    let keyed = h.keyed k d within in
     let e : s ≡ prefix_len = cc (final.0) in
-    let compared_s = subst (λ j. IsTrue same ↔ ((nat_cmp (get_or entries k d).key key ≡ Equal) × (take j (get_or names (get_or entries k d).position []) ≡ take j n))) (sym e) compared in
-    same_by_key names s h.keying_of (get_or entries k d) n key same final.1 bytes is (h.keyed k d within) compared_s
-same_decided names (AtEight places) discriminator entries h n key k d Key prefix_len same final bytes is within compared = cc (final.0)
-same_decided names (AtSixteen first last) discriminator entries h n key k d Key prefix_len same final bytes is within compared = cc (final.0)
-same_decided names keying discriminator entries h n key k d Text prefix_len same final bytes is within compared = (
-  λ t. second_equal (nat_cmp (get_or entries k d).key key) _ (compared.0 t).0,
-  λ f t here.
-      let p = get_or entries k d in
-      let equal : nat_cmp p.key key ≡ Equal = sym (nat_cmp_is p.key key Equal (same_key names keying entries h.keyed h.order n k d within here ∙ sym is)) in
-      let name = get_or_from_slice_get names p.position n [] (equal_is names (positions entries) h.order n (slice_get names p.position) here) in
-      false≢true (sym f ∙ compared.1 (ap (λ r. ordering_then r (name_cmp names n p.position)) equal ∙ here, ap (take prefix_len) name)),
-)
+    let compared_s = subst (λ j. IsTrue same ↔ ((nat_cmp p.key key ≡ Equal) × (take j (get_or names p.position []) ≡ take j n))) (sym e) compared in
+    let bytes_same = same_by_key names s h.keying_of p n key same final.1 bytes is keyed compared_s in
+    let by_keys = name_by_keys names (AfterPrefix s) p n key keyed is in (
+      λ t. sym by_keys ∙ ap (λ r. ordering_then r (bytes_cmp (slice_get names p.position) (Some n))) (compared.0 t).0 ∙ bytes_same.0 t,
+      λ f t here. bytes_same.1 f t (second_equal _ _ here),
+    )
+same_decided names Hashed discriminator entries h n key k d Key prefix_len same final bytes is within compared = cc (final.0)
+same_decided names keying discriminator entries h n key k d Text prefix_len same final bytes is within compared =
+    let p = get_or entries k d in
+    let by_keys = name_by_keys names keying p n key (h.keyed k d within) is in (
+      λ t. sym by_keys ∙ (compared.0 t).0,
+      λ f t here.
+          let name = get_or_from_slice_get names p.position n [] (equal_is keying names (positions entries) h.order n (slice_get names p.position) here) in
+          false≢true (sym f ∙ compared.1 (by_keys ∙ here, ap (take prefix_len) name)),
+    )
 
--- keys of an index that the discriminator orders increase
+-- a lower key prefix is that of a lower key
+lower_prefix : (a b : ℕ) → key_prefix a < key_prefix b → a < b
+lower_prefix a b l = omega (arith, l)
+
+-- keys that distinguish the entries increase
 increasing : (by : Discriminator) (entries : List IndexEntry) → by ≢ Text → AreDistinguishedBy by entries → AllAdjacentBelow (λ p q. p.key < q.key) entries (length entries)
 increasing KeyPrefix entries other distinguished = λ k d high. lower_prefix _ _ (distinguished k d high)
 increasing Key entries other distinguished = distinguished
 increasing Text entries other distinguished = absurd (other refl)
 
--- names that all occur among those of an index compare as their keys there, and where these are equal, as the names do
-pub agree_at : (names asked : List (List ℕ)) (keying : Keying) (by : Discriminator) (entries : List IndexEntry) → IsIndexOf names keying by entries → by ≢ Text
-    → ((k : ℕ) (n : List ℕ) → slice_get asked k ≡ Some n → Occurs names n)
-    → (p q : IndexEntry) → IsKeyed asked keying p → IsKeyed asked keying q → entry_cmp asked p q ≡ position_cmp asked p.position q.position
-agree_at names asked keying by entries h other occur p q a b =
-    let x = get_or asked p.position [] in
-    let y = get_or asked q.position [] in
-    let at_x = slice_get-get_or asked p.position [] a.within in
-    let at_y = slice_get-get_or asked q.position [] b.within in
-    let s = entry_of names keying entries h.keyed h.order x no_entry (occur p.position x at_x) in
-    let e = get_or entries s.0 no_entry in
-    let key_x : e.key ≡ p.key = same_key names keying entries h.keyed h.order x s.0 no_entry s.1 s.3 ∙ sym a.key in
-    let there : slice_get names e.position ≡ Some x = equal_is names (positions entries) h.order x (slice_get names e.position) s.3 in
-    let decides = numbers_decide names keying entries h.keyed h.order (λ z. z) (increasing by entries other h.distinguished) y q.key s.0 no_entry b.key s.1 (occur q.position y at_y) in
-    let same : nat_cmp p.key q.key ≡ bytes_cmp (slice_get asked p.position) (slice_get asked q.position) =
-    ap (λ z. nat_cmp z q.key) (sym key_x) ∙ decides ∙ (λ i. bytes_cmp ((there ∙ sym at_x) i) (sym at_y i)) in
-    again (nat_cmp p.key q.key) (nat_cmp p.position q.position) _ (λ o. o) (ap (λ r. ordering_then r (nat_cmp p.position q.position)) (sym same)) refl refl
+-- entries whose keys increase are sorted
+sorted_by_keys : (names : List (List ℕ)) (entries : List IndexEntry) → AllAdjacentBelow (λ p q. p.key < q.key) entries (length entries) → IsSorted (entry_cmp names) entries
+sorted_by_keys names entries increase = λ k d low high.
+    let p = get_or entries k d in
+    let q = get_or entries (k + 1) d in
+    let higher : p.key < q.key = increase k d high in
+    ap (λ r. is_lt (ordering_then r (position_cmp names q.position p.position))) (sym (nat_cmp_is q.key p.key Greater higher))
+
+-- the index of entries that their keys distinguish
+pub distinct_index : (names : List (List ℕ)) (keying : Keying) (by : Discriminator) (made sorted : List IndexEntry) → by ≢ Text → IsKeyingOf names keying
+    → positions made ≡ range_with_len 0 (length names) → All (IsKeyed names keying) made → IsPermutation made sorted → AreDistinguishedBy by sorted → IsIndexOf names keying by sorted
+distinct_index names keying by made sorted other keying_of each keyed moved distinguished =
+    index_of names keying by made sorted keying_of each keyed moved (sorted_by_keys names sorted (increasing by sorted other distinguished)) distinguished
 
 -- one entry more
 pub positions_push : (entries : List IndexEntry) (key n : ℕ) → positions entries ≡ range_with_len 0 n → positions (entries ++ record { key = key; position = n } ∷ []) ≡ range_with_len 0 (n + 1)
 positions_push entries key n so_far = map-append (λ p. p.position) entries _ ∙ ap (λ is. is ++ n ∷ []) so_far ∙ sym (counted_more n)
-
--- the index with keys after a common prefix
-pub prefix_index : (names : List (List ℕ)) (prefix_len : ℕ) (by : Discriminator) (made sorted : List IndexEntry) → HaveCommonPrefix names prefix_len
-    → positions made ≡ range_with_len 0 (length names) → All (IsKeyed names (AfterPrefix prefix_len)) made → IsPermutation made sorted → IsSorted (entry_cmp names) sorted
-    → AreDistinguishedBy by sorted → IsIndexOf names (AfterPrefix prefix_len) by sorted
-prefix_index names prefix_len by made sorted common_prefix each keyed moved up distinguished = record {
-  keying_of = common_prefix;
-  orders = tt;
-  keyed = All-permutation (IsKeyed names (AfterPrefix prefix_len)) made sorted moved keyed;
-  order = order_of names (AfterPrefix prefix_len) (as_positions names prefix_len common_prefix) made sorted each keyed moved up;
-  distinguished = distinguished;
-}
-
--- one entry more at the position of another
-pub position_copied : (entries made : List IndexEntry) (key index : ℕ) → index < length entries → positions made ≡ take index (positions entries)
-    → positions (made ++ record { key = key; position = (get_or entries index no_entry).position } ∷ []) ≡ take (index + 1) (positions entries)
-position_copied entries made key index within so_far =
-    map-append (λ p. p.position) made _
-    ∙ ap (λ is. is ++ (get_or entries index no_entry).position ∷ []) (so_far ∙ take-map (λ p. p.position) index entries)
-    ∙ sym (map_more (λ p. p.position) entries index no_entry within)
-    ∙ sym (take-map (λ p. p.position) (index + 1) entries)
 
 -- the order of entries is total
 pub entry_total : (names : List (List ℕ)) → IsTotalOrder (entry_cmp names)
@@ -397,6 +381,24 @@ shifted_sum i j bs all as_many =
     let none = of_none j (drop i rest) (length-drop i rest ∙ omega (arith, length-drop j bs, as_many, all)) in
     let powers : 256 ^ i * 256 ^ j ≡ 2 ^ 64 = sym (pow-add 256 i j) ∙ ap (λ n. 256 ^ n) all in
     ap (λ x. x * 256 ^ j) whole ∙ omega (arith, later, none, add-mul (big_endian j bs * 256 ^ i) (big_endian i rest) (256 ^ j), mul_assoc (big_endian j bs) (256 ^ i) (256 ^ j), ap (λ p. big_endian j bs * p) powers)
+
+-- one word more in a hash
+pub words_more : (k : ℕ) (n : List ℕ) → mixed (words_hash k n) (big_endian 8 (drop (8 * k) n)) ≡ words_hash (k + 1) n
+unfolding words_hash
+words_more k n = let one : suc k ≡ k + 1 = omega arith in ap (λ j. words_hash j n) one
+
+-- the hash of a text of less than a word
+pub short_hash : (n : List ℕ) → length n < 8 → mixed (length n) (big_endian 8 n) ≡ hash_of n
+unfolding hash_of words_hash
+short_hash n short =
+    let none : 0 ≡ (length n - 1) / 8 = omega (arith, short) in
+    let all : 0 ≡ length n - 8 = omega (arith, short) in
+    λ i. mixed (words_hash (none i) n) (big_endian 8 (drop (all i) n))
+
+-- the hash of a text, from that of its first words
+pub whole_hash : (k : ℕ) (n : List ℕ) → k ≡ (length n - 1) / 8 → mixed (words_hash k n) (big_endian 8 (drop (length n - 8) n)) ≡ hash_of n
+unfolding hash_of
+whole_hash k n is = ap (λ j. mixed (words_hash j n) (big_endian 8 (drop (length n - 8) n))) is
 
 -- what follows the first `count` bytes, read from the text's last eight bytes
 pub shifted : (count : ℕ) (text : List ℕ) → Bytes text → count < length text → length text < count + 8 → 8 ≤ length text

@@ -31,7 +31,8 @@ use Rattle.dtype_base.proofs.lemmas.Lookups.{first_of_place, absent_of_place}
 use Rattle.dtype_base.specs.BinaryDigits.{binary_digits}
 use Rattle.dtype_base.proofs.lemmas.BinaryDigits.{digits_halved}
 use Rattle.dtype_base.specs.Comparisons.{comparisons}
-use Rattle.dtype_base.specs.private.NameOrder.{bytes_cmp, name_cmp, position_cmp, IsOrderOf, positions, mask}
+use Rattle.dtype_base.specs.private.NameOrder.{bytes_cmp, key_or, keyed_cmp, keyed_position_cmp, name_cmp, position_cmp, IsOrderOf, positions, mask}
+use Rattle.dtype_base.specs.declared.name_key.Keying.{Keying}
 use Rattle.dtype_base.specs.declared.name_order.IndexEntry.{IndexEntry}
 
 bytes_total : IsTotalOrder bytes_cmp
@@ -39,6 +40,17 @@ bytes_total = options_total nat_list_cmp_total
 
 pub position_total : (names : List (List ℕ)) → IsTotalOrder (position_cmp names)
 position_total names = then_total (on_total (slice_get names) bytes_total) nat_cmp_total
+
+keyed_total : (keying : Keying) → IsTotalOrder (keyed_cmp keying)
+keyed_total keying = then_total (on_total (key_or keying) nat_cmp_total) bytes_total
+
+keyed_position_total : (keying : Keying) (names : List (List ℕ)) → IsTotalOrder (keyed_position_cmp keying names)
+keyed_position_total keying names = then_total (on_total (slice_get names) (keyed_total keying)) nat_cmp_total
+
+pub second_equal : (r s : Ordering) → ordering_then r s ≡ Equal → s ≡ Equal
+second_equal Equal s e = e
+second_equal Less s e = absurd (false≢true (ap is_eq e))
+second_equal Greater s e = absurd (false≢true (ap is_eq e))
 
 not_less : (r o : Ordering) → is_lt (ordering_then r o) ≡ false → is_lt r ≡ false
 not_less Less o e = e
@@ -101,12 +113,16 @@ masked : (b : Bool) (number below : ℕ) → number < 2 ^ 64 → below ≡ mask 
 masked true number below fits e = ap (bit_and number) e ∙ and_mask number 64 ∙ mod-eq_of_lt fits
 masked false number below fits e = ap (bit_and number) e ∙ and_zero_r number
 
-module _ (names : List (List ℕ)) (order : List ℕ) (h : IsOrderOf names order) where
+bytes_equal_is : (n : List ℕ) (o : Option (List ℕ)) → bytes_cmp o (Some n) ≡ Equal → o ≡ Some n
+bytes_equal_is n None e = absurd (false≢true (ap is_eq e))
+bytes_equal_is n (Some x) e = ap Some ((bytes_decides x n).0 (texts_ties x n ∙ ap is_eq e))
+
+module _ (keying : Keying) (names : List (List ℕ)) (order : List ℕ) (h : IsOrderOf keying names order) where
   pub as_many : length order ≡ length names
   as_many = length_permutation _ _ h.each ∙ length-range_with_len 0 (length names)
 
-  pub names_ranked : (n : List ℕ) → IsNonDecreasingBy (λ i. ordering_index (name_cmp names n i)) order
-  names_ranked n = searchable_from_sorted bytes_total (slice_get names) order (Some n) (λ k d low high. not_less _ _ (h.rising k d low high))
+  pub names_ranked : (n : List ℕ) → IsNonDecreasingBy (λ i. ordering_index (name_cmp keying names n i)) order
+  names_ranked n = searchable_from_sorted (keyed_total keying) (slice_get names) order (Some n) (λ k d low high. not_less _ _ (h.rising k d low high))
 
   -- no position occurs twice
   apart : Distinct order
@@ -115,12 +131,11 @@ module _ (names : List (List ℕ)) (order : List ℕ) (h : IsOrderOf names order
 
   module _ (n : List ℕ) where
     -- a position of the name compares as equal, and no other does
-    pub itself : (i : ℕ) → slice_get names i ≡ Some n → name_cmp names n i ≡ Equal
-    itself i e = ap (λ o. bytes_cmp o (Some n)) e ∙ tied_itself bytes_total (Some n)
+    pub itself : (i : ℕ) → slice_get names i ≡ Some n → name_cmp keying names n i ≡ Equal
+    itself i e = ap (λ o. keyed_cmp keying o (Some n)) e ∙ tied_itself (keyed_total keying) (Some n)
 
-    pub equal_is : (o : Option (List ℕ)) → bytes_cmp o (Some n) ≡ Equal → o ≡ Some n
-    equal_is None e = absurd (false≢true (ap is_eq e))
-    equal_is (Some x) e = ap Some ((bytes_decides x n).0 (texts_ties x n ∙ ap is_eq e))
+    pub equal_is : (o : Option (List ℕ)) → keyed_cmp keying o (Some n) ≡ Equal → o ≡ Some n
+    equal_is o e = bytes_equal_is n o (second_equal _ _ e)
 
     -- each position of the name is in the order
     pub placed : (i : ℕ) → slice_get names i ≡ Some n → (q : ℕ) × (q < length order) × (get_or order q 0 ≡ i)
@@ -130,14 +145,14 @@ module _ (names : List (List ℕ)) (order : List ℕ) (h : IsOrderOf names order
         (s.0, s.1, get_or_default order s.0 0 i s.1 ∙ s.2)
 
     -- all names before the entry of its first position are below the name
-    before_first : (k q : ℕ) → k < q → q < length order → FirstAt names n (get_or order q 0) → name_cmp names n (get_or order k 0) ≡ Less
+    before_first : (k q : ℕ) → k < q → q < length order → FirstAt names n (get_or order q 0) → name_cmp keying names n (get_or order k 0) ≡ Less
     before_first k q l b first = at_most_equal _ _ (names_ranked n k q 0 (omega (arith, l)) b) (itself _ first.here) (λ same.
         let i = get_or order k 0 in
         let j = get_or order q 0 in
         let there = equal_is (slice_get names i) same in
-        let by_position : position_cmp names j i ≡ nat_cmp j i =
-        ap (λ r. ordering_then r (nat_cmp j i)) (ap (λ o. bytes_cmp o (slice_get names i)) first.here ∙ ap (bytes_cmp (Some n)) there ∙ tied_itself bytes_total (Some n)) in
-        let far = sorted_far (λ x y. is_lt (position_cmp names x y)) (ranks_by (position_total names) (λ x. x)) order h.rising k q 0 (omega (arith, l)) b in
+        let by_position : keyed_position_cmp keying names j i ≡ nat_cmp j i =
+        ap (λ r. ordering_then r (nat_cmp j i)) (ap (λ o. keyed_cmp keying o (slice_get names i)) first.here ∙ ap (keyed_cmp keying (Some n)) there ∙ tied_itself (keyed_total keying) (Some n)) in
+        let far = sorted_far (λ x y. is_lt (keyed_position_cmp keying names x y)) (ranks_by (keyed_position_total keying names) (λ x. x)) order h.rising k q 0 (omega (arith, l)) b in
         elim (cases_lt i j) [
           | inl sooner ↦ first.first i sooner there
           | inr later ↦ apart k q 0 l b (omega (arith, later, ge_from_not_lt j i (sym (ap is_lt by_position) ∙ far)))
@@ -149,7 +164,7 @@ module _ (names : List (List ℕ)) (order : List ℕ) (h : IsOrderOf names order
 
     -- one step: a comparison with the last name of the first half decides which half is left
     pub steps : (low size compared half m below : ℕ) (b : Bool) → Searching names order n low size compared → 1 < size → half ≡ size / 2 → m ≡ low + half - 1 → half < 2 ^ 64
-        → (Occurs names n → is_lt (name_cmp names n (get_or order m 0)) ≡ b) → below ≡ mask b → Searching names order n (low + bit_and half below) (size - half) (compared + 1)
+        → (Occurs names n → is_lt (name_cmp keying names n (get_or order m 0)) ≡ b) → below ≡ mask b → Searching names order n (low + bit_and half below) (size - half) (compared + 1)
     steps low size compared half m below true inv more is at fits distinguished e =
         let moved : bit_and half below ≡ half = masked true half below fits e in record {
           some = omega (arith, more, is);
@@ -177,8 +192,8 @@ module _ (names : List (List ℕ)) (order : List ℕ) (h : IsOrderOf names order
         }
 
     -- the last comparison decides whether the entry that is left has the name
-    pub ends : (low size compared : ℕ) (same : Bool) → Searching names order n low size compared → size ≤ 1 → (same ≡ true → name_cmp names n (get_or order low 0) ≡ Equal)
-        → (same ≡ false → Occurs names n → name_cmp names n (get_or order low 0) ≢ Equal) → then_some same (get_or order low 0) ≡ first_place names n
+    pub ends : (low size compared : ℕ) (same : Bool) → Searching names order n low size compared → size ≤ 1 → (same ≡ true → name_cmp keying names n (get_or order low 0) ≡ Equal)
+        → (same ≡ false → Occurs names n → name_cmp keying names n (get_or order low 0) ≢ Equal) → then_some same (get_or order low 0) ≡ first_place names n
     ends low size compared same inv last is isnt = go same (first_place names n) refl refl
       where
         low_is : (i : ℕ) → FirstAt names n i → get_or order low 0 ≡ i
@@ -191,7 +206,7 @@ module _ (names : List (List ℕ)) (order : List ℕ) (h : IsOrderOf names order
         go true None e f = absurd (absent_of_place names n (sym f) _ (equal_is _ (is e)))
         go false None e f = refl
         go true (Some i) e f = ap Some (low_is i (first_of_place names n i (sym f)))
-        go false (Some i) e f = let first = first_of_place names n i (sym f) in absurd (isnt e (i, first.here) (ap (name_cmp names n) (low_is i first) ∙ itself i first.here))
+        go false (Some i) e f = let first = first_of_place names n i (sym f) in absurd (isnt e (i, first.here) (ap (name_cmp keying names n) (low_is i first) ∙ itself i first.here))
 
     pub counts : (low size compared : ℕ) → Searching names order n low size compared → size ≤ 1 → compared + 1 ≡ comparisons (length order)
     counts low size compared inv last = count_of (length order) compared (omega (arith, inv.within, inv.some)) (omega (arith, inv.count, one_left inv.some last))
@@ -241,6 +256,7 @@ as_many_positions entries = length-map entries (λ p. p.position)
 pub position_at : (entries : List IndexEntry) (k : ℕ) (d : IndexEntry) → k < length entries → get_or (positions entries) k 0 ≡ (get_or entries k d).position
 position_at entries k d within = get_or-map (λ p. p.position) entries k d 0 within
 
-pub position_is_within : (names : List (List ℕ)) (entries : List IndexEntry) → IsOrderOf names (positions entries) → (k : ℕ) (d : IndexEntry) → k < length entries → (get_or entries k d).position < length names
-position_is_within names entries h k d within =
-    omega (arith, position_at entries k d within, position_within (length names) (positions entries) h.each k (omega (arith, within, as_many_positions entries)))
+pub position_is_within : (names : List (List ℕ)) (entries : List IndexEntry) → IsPermutation (range_with_len 0 (length names)) (positions entries) → (k : ℕ) (d : IndexEntry) → k < length entries
+    → (get_or entries k d).position < length names
+position_is_within names entries each k d within =
+    omega (arith, position_at entries k d within, position_within (length names) (positions entries) each k (omega (arith, within, as_many_positions entries)))

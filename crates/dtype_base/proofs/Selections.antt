@@ -4,20 +4,18 @@
 -- Names looked up one after another.
 use Rattle.std.proofs.Common.{◌≡◌, ◌≢◌, ℕ, zero, suc, ◌+◌, ◌<◌, List, [], ◌∷◌, ◌++◌, length, map, take, get_or, Option, Some, None, slice_get, refl, sym, ap, ◌∙◌, arith}
 use Rattle.std.proofs.lemmas.List.{map_push, map_more}
-use Rattle.std.proofs.lemmas.Option.{same_Some, slice_get_read, slice_get_within, get_or_from_slice_get}
-use Rattle.std.proofs.lemmas.List.Sorted.{All-permutation}
+use Rattle.std.proofs.lemmas.Option.{same_Some, slice_get_read}
 use Rattle.std.specs.List.{All, range_with_len}
 use Rattle.std.specs.List.Sorted.{IsPermutation, IsSorted}
 use Rattle.dtype_base.specs.FieldNames.{first_place, IsFirstAbsent}
 use Rattle.dtype_base.specs.private.NameKeys.{HaveCommonPrefix}
 use Rattle.dtype_base.proofs.lemmas.Lookups.{first_of_place, selected_at}
-use Rattle.dtype_base.specs.private.NameOrder.{AreDistinguishedBy, IsIndexOf, IsKeyed, IsKeyingOf, IsOrderOf, Orders, entry_cmp, positions}
+use Rattle.dtype_base.specs.private.NameOrder.{AreDistinguishedBy, IsIndexOf, IsKeyed, IsKeyingOf, entry_cmp, positions}
 use Rattle.dtype_base.specs.declared.name_key.Keying.{Keying}
-use Rattle.dtype_base.specs.declared.name_key.Keying.TheVariants.{AfterPrefix, AtEight, AtSixteen}
+use Rattle.dtype_base.specs.declared.name_key.Keying.TheVariants.{AfterPrefix, Hashed}
 use Rattle.dtype_base.specs.declared.name_order.IndexEntry.{IndexEntry}
 use Rattle.dtype_base.specs.declared.name_order.Discriminator.{Discriminator}
-use Rattle.dtype_base.proofs.NameSearch.{Occurs}
-use Rattle.dtype_base.proofs.KeyOrder.{agree_at, as_positions, has_prefix, order_of}
+use Rattle.dtype_base.proofs.KeyOrder.{has_prefix, index_of}
 
 -- one name more
 pub selects_more : (names asked : List (List ℕ)) (first_positions : List ℕ) (j first : ℕ) (n : List ℕ) → j < length asked → n ≡ get_or asked j n → Some first ≡ first_place names n
@@ -57,39 +55,14 @@ selected_prefix names asked first_positions prefix_len common_prefix e i d withi
     λ k c b. let n = get_or asked k c in has_prefix names prefix_len common_prefix n (get_or first_positions k 0, (first_of_place names n (get_or first_positions k 0) (selected_at names asked first_positions e k c b)).here) in
     sym (begins i d within) ∙ begins 0 [] (omega (arith, within))
 
--- each name asked occurs
-asked_occur : (names asked : List (List ℕ)) (first_positions : List ℕ) → map Some first_positions ≡ map (first_place names) asked → (k : ℕ) (n : List ℕ) → slice_get asked k ≡ Some n → Occurs names n
-asked_occur names asked first_positions e k n here =
-    let within = slice_get_within asked k n here in
-    let is : get_or asked k n ≡ n = get_or_from_slice_get asked k n n here in
-    let i = get_or first_positions k 0 in
-    (i, ap (λ m. slice_get names i) is ∙ (first_of_place names (get_or asked k n) i (selected_at names asked first_positions e k n within)).here ∙ ap Some is)
-
--- the names asked, in the order of their keys in the index, and then of their texts, are in order
-selected_order : (names asked : List (List ℕ)) (keying : Keying) (by : Discriminator) (entries : List IndexEntry) → IsIndexOf names keying by entries
-    → (first_positions : List ℕ) (made sorted : List IndexEntry) → map Some first_positions ≡ map (first_place names) asked
-    → All (IsKeyed asked keying) made → positions made ≡ range_with_len 0 (length asked) → IsPermutation made sorted → IsSorted (entry_cmp asked) sorted → IsOrderOf asked (positions sorted)
-selected_order names asked (AfterPrefix s) by entries h first_positions made sorted found keyed each moved up =
-    order_of asked (AfterPrefix s) (as_positions asked s (selected_prefix names asked first_positions s h.keying_of found)) made sorted each keyed moved up
-selected_order names asked (AtEight places) by entries h first_positions made sorted found keyed each moved up =
-    order_of asked (AtEight places) (agree_at names asked (AtEight places) by entries h h.orders (asked_occur names asked first_positions found)) made sorted each keyed moved up
-selected_order names asked (AtSixteen first last) by entries h first_positions made sorted found keyed each moved up =
-    order_of asked (AtSixteen first last) (agree_at names asked (AtSixteen first last) by entries h h.orders (asked_occur names asked first_positions found)) made sorted each keyed moved up
-
 keying_kept : (names asked : List (List ℕ)) (keying : Keying) (first_positions : List ℕ) → map Some first_positions ≡ map (first_place names) asked → IsKeyingOf names keying → IsKeyingOf asked keying
 keying_kept names asked (AfterPrefix s) first_positions found common_prefix = selected_prefix names asked first_positions s common_prefix found
-keying_kept names asked (AtEight places) first_positions found h = h
-keying_kept names asked (AtSixteen first last) first_positions found h = h
+keying_kept names asked Hashed first_positions found h = h
 
 -- the index of the names asked
 pub selected_index : (names asked : List (List ℕ)) (keying : Keying) (by of_asked : Discriminator) (entries : List IndexEntry) → IsIndexOf names keying by entries
     → (first_positions : List ℕ) (made sorted : List IndexEntry) → map Some first_positions ≡ map (first_place names) asked
     → All (IsKeyed asked keying) made → positions made ≡ range_with_len 0 (length asked) → IsPermutation made sorted → IsSorted (entry_cmp asked) sorted → AreDistinguishedBy of_asked sorted
-    → Orders keying of_asked → IsIndexOf asked keying of_asked sorted
-selected_index names asked keying by of_asked entries h first_positions made sorted found keyed each moved up distinguished orders = record {
-  keying_of = keying_kept names asked keying first_positions found h.keying_of;
-  orders = orders;
-  keyed = All-permutation (IsKeyed asked keying) made sorted moved keyed;
-  order = selected_order names asked keying by entries h first_positions made sorted found keyed each moved up;
-  distinguished = distinguished;
-}
+    → IsIndexOf asked keying of_asked sorted
+selected_index names asked keying by of_asked entries h first_positions made sorted found keyed each moved up distinguished =
+    index_of asked keying of_asked made sorted (keying_kept names asked keying first_positions found h.keying_of) each keyed moved up distinguished

@@ -19,7 +19,6 @@ ghost use Rattle.dtype_base.specs.declared.vortex_error.VortexError.TheVariants.
 use crate::field_names::copied;
 use crate::name_key::{Keying, TWO_POW_64, eq_prefix, key_of, key_prefix};
 use crate::name_order::{Discriminator, IndexEntry, are_distinct, build_index, sort_entries};
-use crate::name_places::orders;
 use crate::{FieldName, FieldNames, VortexError, VortexResult};
 use std::alloc::Global;
 use std::cmp::Ordering;
@@ -31,7 +30,7 @@ pub struct IndexedNames {
     names: FieldNames,
     // How the entries' keys are made of the names.
     keying: Keying,
-    // An entry for each position, sorted by the bytes of the name there and then by the position.
+    // An entry for each position, sorted by the key of the name there, then by the name, then by the position.
     entries: Vec<IndexEntry>,
     // How much of a name distinguishes the entries.
     discriminator: Discriminator,
@@ -117,9 +116,6 @@ impl IndexedNames {
         )?;
         let discriminator = sort_entries(alloc, asked, &mut entries)?;
         let names = copied(alloc, asked)?;
-        if !orders(&self.keying, discriminator) {
-            return Ok((IndexedNames::new(alloc, names)?, first_positions));
-        }
         let selected = IndexedNames {
             names,
             keying: self.keying,

@@ -23,7 +23,6 @@ mod indexed_names;
 pub mod laws;
 mod name_key;
 mod name_order;
-mod name_places;
 mod nullability;
 mod ptype;
 mod vortex_error;

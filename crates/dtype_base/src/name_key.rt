@@ -1,15 +1,18 @@
 // SPDX-License-Identifier: Apache-2.0
 // SPDX-FileCopyrightText: Copyright the Vortex contributors
 
-// The common prefix of names, and sort keys: numbers of sixteen bytes that order most names by what follows the prefix.
-ghost use Rattle.std.specs.Prelude.{◌≡◌, ◌↔◌, ◌<◌, ◌≤◌, IsTrue, length, take, drop, slice_index};
+// The common prefix of names, and the keys of an index: numbers of sixteen bytes that distinguish most names.
+ghost use Rattle.std.specs.Prelude.{◌≡◌, ◌↔◌, ◌*◌, ◌<◌, ◌≤◌, ◌^◌, IsTrue, length, take, drop, slice_index};
 ghost use Rattle.dtype_base.specs.Bytes.{Bytes};
-ghost use Rattle.dtype_base.specs.private.NameKeys.{big_endian, key_of, key_prefix, sort_key, word_at, HaveCommonPrefix};
+ghost use Rattle.dtype_base.specs.private.NameKeys.{big_endian, hash_of, key_of, key_prefix, mixed, sort_key, HaveCommonPrefix};
 
 use crate::FieldName;
 
 // Splits a sort key: the quotient by this is its first eight bytes, the remainder its last eight.
 pub(crate) const TWO_POW_64: u128 = 0x1_0000_0000_0000_0000;
+
+// What a hash multiplies by: 2^64 divided by the golden ratio.
+const MULTIPLIER: u128 = 0x9E37_79B9_7F4A_7C15;
 
 // The length of the names' common prefix, in bytes.
 pub(crate) fn common_prefix_len(names: &[FieldName]) -> usize
@@ -111,10 +114,8 @@ pub(crate) fn sort_key(text: &[u8], prefix_len: usize) -> u128
 pub(crate) enum Keying {
     // Of what follows the common prefix of the names, of this length in bytes.
     AfterPrefix(usize),
-    // Of the bytes at eight places.
-    AtEight([usize; 8]),
-    // Of the bytes at sixteen places.
-    AtSixteen([usize; 8], [usize; 8]),
+    // Of the whole name: its hash.
+    Hashed,
 }
 
 // The key of a name.
@@ -125,28 +126,43 @@ pub(crate) fn key_of(text: &[u8], keying: &Keying) -> u128
 {
     match keying {
         Keying::AfterPrefix(prefix_len) => sort_key(text, *prefix_len),
-        Keying::AtEight(places) => u128::from(word_at(text, places)) * TWO_POW_64,
-        Keying::AtSixteen(first, last) => {
-            u128::from(word_at(text, first)) * TWO_POW_64 + u128::from(word_at(text, last))
-        }
+        Keying::Hashed => hash_key(text),
     }
 }
 
-// The bytes at these places, as one big-endian number; 0 past the end.
+// A key whose first eight bytes are the hash of a text.
 #[inline(always)]
-fn word_at(text: &[u8], places: &[usize; 8]) -> u64
-    ensures { result ≡ word_at places.now text.now }
+pub(crate) fn hash_key(text: &[u8]) -> u128
+    ensures key { result ≡ hash_of text.now * 2 ^ 64 }
+    ensures bytes { Bytes text.now }
 {
-    u64::from_be_bytes([
-        byte_at(text, places[0]),
-        byte_at(text, places[1]),
-        byte_at(text, places[2]),
-        byte_at(text, places[3]),
-        byte_at(text, places[4]),
-        byte_at(text, places[5]),
-        byte_at(text, places[6]),
-        byte_at(text, places[7]),
-    ])
+    u128::from(hash_of(text)) * TWO_POW_64
+}
+
+// A number that hardly two texts have in common: of the length, the words of eight bytes, and the last eight bytes.
+#[inline(always)]
+fn hash_of(text: &[u8]) -> u64
+    ensures { result ≡ hash_of text.now }
+{
+    let mut hash = text.len() as u64;
+    if text.len() < 8 {
+        return mixed(hash, load_u64(text));
+    }
+    for i in 0..(text.len() - 1) / 8 {
+        hash = mixed(hash, first_word(&text[8 * i..]));
+    }
+    mixed(hash, first_word(&text[text.len() - 8..]))
+}
+
+// One word more in a hash. The sum of the product's halves is the product modulo 2^64 - 1, so that each bit of both numbers
+// counts.
+#[inline(always)]
+#[tactic(auto, unfolding(crate::specs::private::NameKeys::mixed))]
+fn mixed(hash: u64, word: u64) -> u64
+    ensures { result ≡ mixed hash word }
+{
+    let product = u128::from(hash.wrapping_add(word)) * MULTIPLIER;
+    ((product / TWO_POW_64) as u64).wrapping_add((product % TWO_POW_64) as u64)
 }
 
 // The key prefix: the first eight bytes of a key.
@@ -175,9 +191,7 @@ fn load_u64(text: &[u8]) -> u64
     ensures { result ≡ big_endian 8 text.now }
 {
     if text.len() >= 8 {
-        return u64::from_be_bytes([
-            text[0], text[1], text[2], text[3], text[4], text[5], text[6], text[7],
-        ]);
+        return first_word(text);
     }
     if text.is_empty() {
         return 0;
@@ -191,6 +205,17 @@ fn load_u64(text: &[u8]) -> u64
         byte_at(text, 5),
         byte_at(text, 6),
         byte_at(text, 7),
+    ])
+}
+
+// The first eight bytes of a text of at least eight, as one big-endian number.
+#[inline(always)]
+fn first_word(text: &[u8]) -> u64
+    requires { 8 ≤ length text.now }
+    ensures { result ≡ big_endian 8 text.now }
+{
+    u64::from_be_bytes([
+        text[0], text[1], text[2], text[3], text[4], text[5], text[6], text[7],
     ])
 }
 

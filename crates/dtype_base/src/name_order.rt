@@ -1,21 +1,22 @@
 // SPDX-License-Identifier: Apache-2.0
 // SPDX-FileCopyrightText: Copyright the Vortex contributors
 
-// The index of a name list: an entry for each position, sorted by the names.
-ghost use Rattle.std.specs.Prelude.{◌≡◌, ◌↔◌, ◌<◌, ◌≤◌, ◌^◌, ◌%◌, false, All, IsTrue, IfOk, IsOkUnless, OnOk, length, map};
+// The index of a name list: an entry for each position, sorted by the keys of the names there, then by the names.
+ghost use Rattle.std.specs.Prelude.{◌≡◌, ◌≢◌, ◌↔◌, ◌<◌, ◌≤◌, ◌^◌, ◌%◌, false, All, IsTrue, IfOk, IsOkUnless, OnOk, length, map};
 ghost use Rattle.std.specs.List.{range_with_len};
 ghost use Rattle.std.specs.List.Sorted.{IsPermutation, IsSorted};
 ghost use Rattle.dtype_base.specs.Errors.{Makes};
 ghost use Rattle.dtype_base.specs.Distinct.{Distinct};
 ghost use Rattle.dtype_base.specs.private.NameKeys.{HaveCommonPrefix};
 ghost use Rattle.dtype_base.specs.private.NameOrder.{AreDistinguishedBy, PrefixesIncrease, IsIndexOf, IsKeyed, IsOrderOf, KeysIncrease, entry_cmp, position_cmp, positions};
-ghost use Rattle.dtype_base.specs.declared.name_key.Keying.TheVariants.{AfterPrefix};
+ghost use Rattle.dtype_base.specs.declared.name_key.Keying.{Keying};
+ghost use Rattle.dtype_base.specs.declared.name_key.Keying.TheVariants.{AfterPrefix, Hashed};
+ghost use Rattle.dtype_base.specs.declared.name_order.Discriminator.TheVariants.{Text};
 ghost use Rattle.dtype_base.specs.declared.vortex_error.VortexError.TheVariants.{OutOfMemory};
 
 use crate::name_key::{
-    Keying, common_prefix_len, eq_prefix, guess_common_prefix, key_prefix, sort_key,
+    Keying, common_prefix_len, eq_prefix, guess_common_prefix, hash_key, key_prefix, sort_key,
 };
-use crate::name_places::with_places;
 use crate::{FieldName, VortexResult};
 use std::alloc::Global;
 use std::cmp::Ordering;
@@ -58,10 +59,46 @@ pub(crate) fn build_index(
     ensures { Makes result (λ made. IsIndexOf names.now made.1 made.2 made.0.items) }
 {
     let (mut entries, prefix_len) = all_entries(alloc, names)?;
-    match sort_entries(alloc, names, &mut entries)? {
-        Discriminator::Text => with_places(alloc, names, entries, prefix_len),
-        by => Ok((entries, Keying::AfterPrefix(prefix_len), by)),
+    let by = sort_by_keys(alloc, &mut entries)?;
+    if is_by_keys(by) {
+        return Ok((entries, Keying::AfterPrefix(prefix_len), by));
     }
+    hashed_index(alloc, names)
+}
+
+// Whether keys distinguish the entries.
+fn is_by_keys(by: Discriminator) -> bool
+    ensures { IsTrue result → by ≢ Text }
+{
+    match by {
+        Discriminator::KeyPrefix | Discriminator::Key => true,
+        Discriminator::Text => false,
+    }
+}
+
+// The index by hashes, for names that their first bytes after the common prefix don't distinguish.
+fn hashed_index(
+    alloc: Global,
+    names: &[FieldName],
+) -> VortexResult<(Vec<IndexEntry>, Keying, Discriminator)>
+    ensures { Makes result (λ made. IsIndexOf names.now made.1 made.2 made.0.items) }
+{
+    let mut entries = hashed_entries(alloc, names)?;
+    let by = sort_entries(alloc, names, &mut entries)?;
+    Ok((entries, Keying::Hashed, by))
+}
+
+// An entry for each position, in the list's order, with the hash of the name there.
+fn hashed_entries(alloc: Global, names: &[FieldName]) -> VortexResult<Vec<IndexEntry>>
+    ensures ok { Makes result (λ made. positions made.items ≡ range_with_len 0 (length names.now)) }
+    ensures keyed { IfOk result (λ made. All (IsKeyed names.now Hashed) made.items) }
+{
+    let mut entries = Vec::with_capacity(alloc, names.len())?;
+    for position in 0..names.len() {
+        let key = hash_key(names[position].as_str().as_bytes());
+        entries.push_reserved(IndexEntry { key, position });
+    }
+    Ok(entries)
 }
 
 // An entry for each position, in the list's order, and the length of the names' common prefix. All names mostly share the
@@ -121,16 +158,33 @@ pub(crate) fn sort_entries(
     ensures rising { OnOk result (IsSorted (entry_cmp names.now) entries.new.items) }
     ensures ok { Makes result (λ by. AreDistinguishedBy by entries.new.items) }
 {
-    sort_by_keys(alloc, entries)?;
-    match discriminator_of(entries) {
-        Discriminator::Text => sort_equal_keys(names, entries),
+    match sort_by_keys(alloc, entries)? {
+        Discriminator::Text => {
+            sort_by_texts(names, entries)?;
+            Ok(Discriminator::Text)
+        }
         by => Ok(by),
     }
 }
 
-// Sorts by key. Entries that are far from sorted are sorted by the first bits of their keys alone, which distinguish most
-// of them.
-fn sort_by_keys(alloc: Global, entries: &mut Vec<IndexEntry>) -> VortexResult<()>
+// Sorts by key alone. Returns what distinguishes the entries. Most are distinguished by the first bits of their keys.
+#[tactic(auto, using(crate::proofs::PermutedEntries::moved_twice))]
+fn sort_by_keys(alloc: Global, entries: &mut Vec<IndexEntry>) -> VortexResult<Discriminator>
+    ensures each { IsPermutation entries.old.items entries.new.items }
+    ensures ok { Makes result (λ by. AreDistinguishedBy by entries.new.items) }
+{
+    sort_by_first_bits(alloc, entries)?;
+    match discriminator_of(entries) {
+        Discriminator::Text => {
+            entries.sort_unstable_by_key(|entry| entry.key);
+            Ok(discriminator_of(entries))
+        }
+        by => Ok(by),
+    }
+}
+
+// Sorts by key. Entries that are far from sorted are sorted by the first bits of their keys alone.
+fn sort_by_first_bits(alloc: Global, entries: &mut Vec<IndexEntry>) -> VortexResult<()>
     ensures each { IsPermutation entries.old.items entries.new.items }
     ensures errors { IsOkUnless result OutOfMemory }
 {
@@ -209,24 +263,6 @@ fn permuted(
     Ok(permuted)
 }
 
-// Sorts entries of which some may have equal keys, or equal first bits of them.
-#[tactic(auto, using(crate::proofs::PermutedEntries::moved_twice))]
-fn sort_equal_keys(
-    names: &[FieldName],
-    entries: &mut Vec<IndexEntry>,
-) -> VortexResult<Discriminator>
-    ensures each { IsPermutation entries.old.items entries.new.items }
-    ensures rising { OnOk result (IsSorted (entry_cmp names.now) entries.new.items) }
-    ensures ok { Makes result (λ by. AreDistinguishedBy by entries.new.items) }
-{
-    entries.sort_unstable_by_key(|entry| entry.key);
-    let by = discriminator_of(entries);
-    if let Discriminator::Text = by {
-        sort_by_texts(names, entries)?;
-    }
-    Ok(by)
-}
-
 fn sort_by_texts(names: &[FieldName], entries: &mut Vec<IndexEntry>) -> VortexResult<()>
     ensures each { IsPermutation entries.old.items entries.new.items }
     ensures rising { OnOk result (IsSorted (entry_cmp names.now) entries.new.items) }
@@ -254,7 +290,7 @@ fn compare_positions(names: &[FieldName], i: &usize, j: &usize) -> Ordering
 }
 
 // What distinguishes entries that are sorted by key: the least that does.
-pub(crate) fn discriminator_of(entries: &[IndexEntry]) -> Discriminator
+fn discriminator_of(entries: &[IndexEntry]) -> Discriminator
     ensures { AreDistinguishedBy result entries.now }
 {
     if prefixes_increase(entries) {
@@ -291,7 +327,8 @@ fn keys_increase(entries: &[IndexEntry]) -> bool
 // Whether no name repeats: equal names would be neighbours in the order.
 #[tactic(auto, using(crate::proofs::NameSearch::position_is_within))]
 pub(crate) fn are_distinct(names: &[FieldName], entries: &[IndexEntry]) -> bool
-    requires { IsOrderOf names.now (positions entries.now) }
+    requires each { IsPermutation (range_with_len 0 (length names.now)) (positions entries.now) }
+    requires order { (keying : Keying) × IsOrderOf keying names.now (positions entries.now) }
     ensures { IsTrue result ↔ Distinct names.now }
 {
     for index in 1..entries.len() {

@@ -3,11 +3,10 @@
 
 -- Sort keys: a number of sixteen bytes for each name, by which most names are ordered and distinguished without their
 -- texts being read. Only private contracts cite them.
-use Rattle.std.specs.Prelude.{◌≡◌, ℕ, zero, suc, ◌+◌, ◌*◌, ◌/◌, ◌^◌, List, [], ◌∷◌, length, min, take, drop, slice_index, slice_index_or}
+use Rattle.std.specs.Prelude.{◌≡◌, ℕ, zero, suc, ◌+◌, ◌-◌, ◌*◌, ◌/◌, ◌%◌, ◌^◌, List, [], length, min, take, drop, slice_index, slice_index_or}
 use Rattle.std.specs.List.{All}
-use Rattle.std.specs.Int.{w64, from_be_bytes}
 use Rattle.dtype_base.specs.declared.name_key.Keying.{Keying}
-use Rattle.dtype_base.specs.declared.name_key.Keying.TheVariants.{AfterPrefix, AtEight, AtSixteen}
+use Rattle.dtype_base.specs.declared.name_key.Keying.TheVariants.{AfterPrefix, Hashed}
 
 -- the first k bytes of a text as one big-endian number, padded with zeros after its end
 unfoldable pub big_endian : ℕ → List ℕ → ℕ
@@ -24,16 +23,26 @@ sort_key prefix_len n = big_endian 15 (drop prefix_len n) * 256 + min (length (d
 abbrev pub key_prefix : ℕ → ℕ
 key_prefix key = key / 256 ^ 8
 
--- the bytes of a text at eight places, as one big-endian number; 0 past the end
-unfoldable pub word_at : List ℕ → List ℕ → ℕ
-word_at places n = from_be_bytes w64 (slice_index n (slice_index places 0) ∷ slice_index n (slice_index places 1) ∷ slice_index n (slice_index places 2) ∷ slice_index n (slice_index places 3) ∷ slice_index n (slice_index places 4) ∷ slice_index n (slice_index places 5) ∷ slice_index n (slice_index places 6) ∷ slice_index n (slice_index places 7) ∷ [])
+-- One word more in a hash: the halves of a product, added modulo 2 ^ 64. The number is 2 ^ 64 divided by the golden ratio.
+unfoldable pub mixed : ℕ → ℕ → ℕ
+mixed hash word =
+    let product = (hash + word) % 2 ^ 64 * 11400714819323198485 in
+    (product / 2 ^ 64 + product % 2 ^ 64) % 2 ^ 64
 
--- The key of a name, by how keys are made. Any function of the name would do: all that a search needs is checked of the
--- keys when an index is made, and the last comparison compares names.
+-- the length of a text and its first k words of eight bytes, hashed
+unfoldable pub words_hash : ℕ → List ℕ → ℕ
+words_hash zero n = length n
+words_hash (suc k) n = mixed (words_hash k n) (big_endian 8 (drop (8 * k) n))
+
+-- The hash of a name: of its length, of the words of eight bytes before its last byte, and of its last eight bytes.
+unfoldable pub hash_of : List ℕ → ℕ
+hash_of n = mixed (words_hash ((length n - 1) / 8) n) (big_endian 8 (drop (length n - 8) n))
+
+-- The key of a name, by how keys are made. Any function of the name would do: entries are sorted by their keys first, and
+-- the last comparison of a lookup compares names.
 abbrev pub key_of : Keying → List ℕ → ℕ
 key_of (AfterPrefix prefix_len) n = sort_key prefix_len n
-key_of (AtEight places) n = word_at places n * 2 ^ 64
-key_of (AtSixteen first last) n = word_at first n * 2 ^ 64 + word_at last n
+key_of Hashed n = hash_of n * 2 ^ 64
 
 -- all names begin with the same prefix_len bytes
 abbrev pub HaveCommonPrefix : List (List ℕ) → ℕ → Type 0

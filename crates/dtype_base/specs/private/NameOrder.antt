@@ -1,9 +1,9 @@
 -- SPDX-License-Identifier: Apache-2.0
 -- SPDX-FileCopyrightText: Copyright the Vortex contributors
 
--- The index of a name list: an entry for each position, with the sort key of the name there, in the order of the names'
--- bytes and then of the positions. Only private contracts cite it.
-use Rattle.std.specs.Prelude.{◌≡◌, ◌≢◌, ◌%◌, ℕ, ◌-◌, ◌<◌, ◌^◌, List, Option, Some, Bool, ⊤, length, map, slice_get, slice_index_or, [], if◌then◌else◌}
+-- The index of a name list: an entry for each position, with the key of the name there, in the order of the keys, then of
+-- the names' bytes, then of the positions. Only private contracts cite it.
+use Rattle.std.specs.Prelude.{◌≡◌, ◌%◌, ℕ, ◌-◌, ◌<◌, ◌^◌, List, Option, Some, None, Bool, ⊤, length, map, slice_get, slice_index_or, [], if◌then◌else◌}
 use Rattle.std.specs.List.{All, AllAdjacentBelow, range_with_len}
 use Rattle.std.specs.List.Sorted.{IsPermutation, IsSorted}
 use Rattle.std.specs.Option.{option_cmp}
@@ -13,7 +13,7 @@ use Rattle.std.specs.Cmp.Lexicographic.{slice_cmp}
 use Rattle.dtype_base.specs.Bytes.{Bytes}
 use Rattle.dtype_base.specs.private.NameKeys.{key_of, key_prefix, HaveCommonPrefix}
 use Rattle.dtype_base.specs.declared.name_key.Keying.{Keying}
-use Rattle.dtype_base.specs.declared.name_key.Keying.TheVariants.{AfterPrefix, AtEight, AtSixteen}
+use Rattle.dtype_base.specs.declared.name_key.Keying.TheVariants.{AfterPrefix, Hashed}
 use Rattle.dtype_base.specs.declared.name_order.IndexEntry.{IndexEntry}
 use Rattle.dtype_base.specs.declared.name_order.Discriminator.{Discriminator}
 use Rattle.dtype_base.specs.declared.name_order.Discriminator.TheVariants.{KeyPrefix, Key, Text}
@@ -22,18 +22,31 @@ use Rattle.dtype_base.specs.declared.name_order.Discriminator.TheVariants.{KeyPr
 abbrev pub bytes_cmp : Option (List ℕ) → Option (List ℕ) → Ordering
 bytes_cmp = option_cmp (slice_cmp nat_cmp)
 
--- how the name at a position compares to a name
-abbrev pub name_cmp : List (List ℕ) → List ℕ → ℕ → Ordering
-name_cmp names n i = bytes_cmp (slice_get names i) (Some n)
-
 -- how two positions compare: by the bytes of their names, then by themselves
 abbrev pub position_cmp : List (List ℕ) → ℕ → ℕ → Ordering
 position_cmp names i j = ordering_then (bytes_cmp (slice_get names i) (slice_get names j)) (nat_cmp i j)
 
+-- the key of a name; of no name, 0
+abbrev pub key_or : Keying → Option (List ℕ) → ℕ
+key_or keying None = 0
+key_or keying (Some n) = key_of keying n
+
+-- how two names compare, by their keys, then by their bytes
+abbrev pub keyed_cmp : Keying → Option (List ℕ) → Option (List ℕ) → Ordering
+keyed_cmp keying a b = ordering_then (nat_cmp (key_or keying a) (key_or keying b)) (bytes_cmp a b)
+
+-- how the name at a position compares to a name, by their keys, then by their bytes
+abbrev pub name_cmp : Keying → List (List ℕ) → List ℕ → ℕ → Ordering
+name_cmp keying names n i = keyed_cmp keying (slice_get names i) (Some n)
+
+-- how two positions compare: by the keys of their names, then by the bytes of these, then by themselves
+abbrev pub keyed_position_cmp : Keying → List (List ℕ) → ℕ → ℕ → Ordering
+keyed_position_cmp keying names i j = ordering_then (keyed_cmp keying (slice_get names i) (slice_get names j)) (nat_cmp i j)
+
 -- every position of the names once, sorted
-pub record IsOrderOf (names : List (List ℕ)) (order : List ℕ) : Type 0 where
+pub record IsOrderOf (keying : Keying) (names : List (List ℕ)) (order : List ℕ) : Type 0 where
   pub each : IsPermutation (range_with_len 0 (length names)) order
-  pub rising : IsSorted (position_cmp names) order
+  pub rising : IsSorted (keyed_position_cmp keying names) order
 
 -- how two entries compare: by their keys, then as their positions do
 abbrev pub entry_cmp : List (List ℕ) → IndexEntry → IndexEntry → Ordering
@@ -63,25 +76,16 @@ AreDistinguishedBy KeyPrefix = PrefixesIncrease
 AreDistinguishedBy Key = KeysIncrease
 AreDistinguishedBy Text = λ entries. ⊤
 
--- Keys that are made so don't contradict the order of the names, where the discriminator doesn't name texts: keys after
--- a common prefix never do, and keys of places wherever they increase.
-abbrev pub Orders : Keying → Discriminator → Type 0
-Orders (AfterPrefix prefix_len) by = ⊤
-Orders (AtEight places) by = by ≢ Text
-Orders (AtSixteen first last) by = by ≢ Text
-
 -- what keys after a prefix ask of the names
 abbrev pub IsKeyingOf : List (List ℕ) → Keying → Type 0
 IsKeyingOf names (AfterPrefix prefix_len) = HaveCommonPrefix names prefix_len
-IsKeyingOf names (AtEight places) = ⊤
-IsKeyingOf names (AtSixteen first last) = ⊤
+IsKeyingOf names Hashed = ⊤
 
 -- the entries are the index of these names: with keys that are made so, in order, distinguished so
 pub record IsIndexOf (names : List (List ℕ)) (keying : Keying) (discriminator : Discriminator) (entries : List IndexEntry) : Type 0 where
   pub keying_of : IsKeyingOf names keying
-  pub orders : Orders keying discriminator
   pub keyed : All (IsKeyed names keying) entries
-  pub order : IsOrderOf names (positions entries)
+  pub order : IsOrderOf keying names (positions entries)
   pub distinguished : AreDistinguishedBy discriminator entries
 
 -- What the last comparison of a lookup compares: the texts; or the key and the common prefix, of this length, where the
@@ -95,7 +99,7 @@ IsFinal keying key Text prefix_len = ⊤
 abbrev pub entry_name_cmp : List (List ℕ) → List ℕ → ℕ → Discriminator → IndexEntry → Ordering
 entry_name_cmp names n key KeyPrefix p = nat_cmp (key_prefix p.key) (key_prefix key)
 entry_name_cmp names n key Key p = nat_cmp p.key key
-entry_name_cmp names n key Text p = ordering_then (nat_cmp p.key key) (name_cmp names n p.position)
+entry_name_cmp names n key Text p = ordering_then (nat_cmp p.key key) (bytes_cmp (slice_get names p.position) (Some n))
 
 -- 64 ones for true, 0 for false
 abbrev pub mask : Bool → ℕ

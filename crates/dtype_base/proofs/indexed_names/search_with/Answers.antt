@@ -20,14 +20,14 @@ returns-then-is_empty-clause-place c =
     let entries = c.args.entries.now in
     let empty : length entries ≡ 0 = eqb-true (length entries) 0 (sym c.is_empty.ensures ∙ c.if-is_empty.true) in
     sym (no_place names c.args.name.now (λ k e.
-    omega (arith, slice_get_within names k c.args.name.now e, as_many names (positions entries) c.requires.index.order, as_many_positions entries, empty)))
+    omega (arith, slice_get_within names k c.args.name.now e, as_many c.args.keying.now names (positions entries) c.requires.index.order, as_many_positions entries, empty)))
 
 pub returns-then-is_empty-clause-count : goal.returns-then-is_empty-clause-count
 returns-then-is_empty-clause-count c =
     let names = c.args.names.now in
     let entries = c.args.entries.now in
     let empty : length entries ≡ 0 = eqb-true (length entries) 0 (sym c.is_empty.ensures ∙ c.if-is_empty.true) in
-    let none : 0 ≡ length names = omega (arith, as_many names (positions entries) c.requires.index.order, as_many_positions entries, empty) in
+    let none : 0 ≡ length names = omega (arith, as_many c.args.keying.now names (positions entries) c.requires.index.order, as_many_positions entries, empty) in
     ap comparisons none
 
 pub compare-comparison-requires-clause-room : goal.compare-comparison-requires-clause-room
@@ -52,9 +52,9 @@ loop-size-preserved c =
     let m = low + size / 2 - 1 in
     let within : m < length entries = omega (arith, inv.within, inv.some, c.loop-size-test.true, as_many_positions entries) in
     subst (λ count. Searching names order n (low + bit_and (size / 2) c.compare-comparison.result.below) (size - size / 2) count) (sym c.compare-comparison.ensures.counted)
-    (steps names order c.requires.index.order n low size c.loop-size.compared (size / 2) m c.compare-comparison.result.below _ inv c.loop-size-test.true refl refl (omega arith)
-    (λ t. ap is_lt (ap (name_cmp names n) (position_at entries m no_entry within)
-    ∙ sym (decided names c.args.keying.now c.args.by entries c.requires.index n c.args.key m no_entry c.requires.bytes c.requires.key within t)))
+    (steps c.args.keying.now names order c.requires.index.order n low size c.loop-size.compared (size / 2) m c.compare-comparison.result.below _ inv c.loop-size-test.true refl refl (omega arith)
+    (λ t. ap is_lt (ap (name_cmp c.args.keying.now names n) (position_at entries m no_entry within)
+    ∙ sym (decided names c.args.keying.now c.args.by entries c.requires.index n c.args.key m no_entry c.requires.key within t)))
     c.compare-comparison.ensures.below)
 
 pub returns-clause-place : goal.returns-clause-place
@@ -69,11 +69,11 @@ returns-clause-place c =
     let at = position_at entries low no_entry within in
     let distinguished = same_decided names c.args.keying.now c.args.by entries c.requires.index n c.args.key low no_entry _ _ same c.final_discriminator-by.ensures c.requires.bytes c.requires.key within c.compare-comparison-2.ensures.same in
     c.then_some.ensures ∙ sym (ap (then_some same) at)
-    ∙ ends names (positions entries) c.requires.index.order n low c.loop-size.size c.loop-size.compared same inv (omega (arith, c.loop-size-test.false))
-    (λ e. ap (name_cmp names n) at ∙ distinguished.0 e) (λ e t here. distinguished.1 e t (sym (ap (name_cmp names n) at) ∙ here))
+    ∙ ends c.args.keying.now names (positions entries) c.requires.index.order n low c.loop-size.size c.loop-size.compared same inv (omega (arith, c.loop-size-test.false))
+    (λ e. ap (name_cmp c.args.keying.now names n) at ∙ distinguished.0 e) (λ e t here. distinguished.1 e t (sym (ap (name_cmp c.args.keying.now names n) at) ∙ here))
 
 pub returns-clause-count : goal.returns-clause-count
 returns-clause-count c =
     let names = c.args.names.now in
     let order = positions c.args.entries.now in
-    c.compare-comparison-2.ensures.counted ∙ counts names order c.requires.index.order c.args.name.now c.loop-size.low c.loop-size.size c.loop-size.compared c.loop-size.invariant (omega (arith, c.loop-size-test.false)) ∙ ap comparisons (as_many names order c.requires.index.order)
+    c.compare-comparison-2.ensures.counted ∙ counts c.args.keying.now names order c.requires.index.order c.args.name.now c.loop-size.low c.loop-size.size c.loop-size.compared c.loop-size.invariant (omega (arith, c.loop-size-test.false)) ∙ ap comparisons (as_many c.args.keying.now names order c.requires.index.order)

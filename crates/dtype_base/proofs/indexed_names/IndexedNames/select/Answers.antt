@@ -16,4 +16,4 @@ invariant_of-selected c =
     let here = c.in_ok-entries.ensures in
     subst (λ ns. IsIndexOf ns keying discriminator sorted) (sym c.in_ok-names.ensures)
     (selected_index names asked keying c.self.inside.discriminator discriminator c.self.inside.entries.items (subst (λ ns. IsIndexOf ns keying c.self.inside.discriminator c.self.inside.entries.items) (sym c.as_slice-names.ensures) c.self.invariant)
-    c.in_ok-entries.first_positions.items c.in_ok-entries.entries.items sorted here.ok here.keyed here.order c.sort_entries.ensures.each c.in_ok-discriminator.ensures.rising c.in_ok-discriminator.ensures.ok (c.orders.ensures c.if-not-orders.false))
+    c.in_ok-entries.first_positions.items c.in_ok-entries.entries.items sorted here.ok here.keyed here.order c.sort_entries.ensures.each c.in_ok-discriminator.ensures.rising c.in_ok-discriminator.ensures.ok)

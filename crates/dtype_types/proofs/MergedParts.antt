@@ -6,20 +6,18 @@
 use Rattle.std.proofs.Common.{◌≡◌, ◌⊎◌, inl, inr, ℕ, List, [], ◌∷◌, ◌++◌, length, map, refl, sym, ap, ◌∙◌, append-nil, arith}
 use Rattle.std.specs.List.{zip}
 use Rattle.std.specs.Map.{keys_of, values_of}
-use Rattle.std.proofs.lemmas.List.{length-map, map_push}
+use Rattle.std.proofs.lemmas.List.{length-map}
 use Rattle.dtype_base.specs.declared.nullability.Nullability.{Nullability}
 use Rattle.dtype_types.specs.nullability.Merged.{Rule, merge, merge_fields, merge_variants}
 use Rattle.dtype_types.specs.parts.Lists.{types_of, tags_of}
 use Rattle.dtype_types.specs.tree.Erase.{erase, erase_fields, erase_variants}
-use Rattle.dtype_types.specs.tree.Tree.{Tree, field, fields, choice, variants, null, struct, union}
+use Rattle.dtype_types.specs.tree.Tree.{Tree, field, fields, choice, variants, struct, union}
 use Rattle.dtype_types.specs.tree.TreeOf.{tree, fields_of, variants_of, with_trees, with_tagged_trees}
-use Rattle.dtype_types.specs.declared.dtype.DType.{DType, Null, Struct, Union, out-DType}
+use Rattle.dtype_types.specs.declared.dtype.DType.{DType, Struct, Union}
 use Rattle.dtype_types.specs.declared.struct_fields.StructFields.{StructFields}
 use Rattle.dtype_types.specs.declared.union_variants.UnionVariants.{UnionVariants}
 use Rattle.dtype_types.proofs.Parts.{trees_zip, trees_three}
-use Rattle.dtype_types.proofs.Walks.{moves_over}
-use Rattle.dtype_types.proofs.lemmas.TreeLaws.{tree_out, tree_struct, tree_union}
-use denote.Hole.Carrier
+use Rattle.dtype_types.proofs.lemmas.TreeLaws.{tree_struct, tree_union}
 
 -- ---- a type of two types of one kind
 
@@ -37,12 +35,6 @@ merged_unions r d e x y z m n o p q same made =
 
 pub ruleset merged_parts = (merged_structs, merged_unions)
 
--- a null and a type of another kind
-pub null_and : (r : Rule) (d : DType) → (d ≡ Null → ⊥) → merge r null (tree d) ≡ null
-unfolding out-DType Carrier.out
-null_and r Null h = absurd (h refl)
-null_and r d h = ap (merge r null) (tree_out d)
-
 -- ---- types at equal positions, one after another
 
 -- the bounds of types at equal positions
@@ -57,17 +49,6 @@ bounds r ds es = merge_types r (map tree ds) (map tree es)
 -- what erasing leaves of a list of types
 abbrev pub erased : List DType → List Tree
 erased ds = map erase (map tree ds)
-
-pub erased_next : (ds es rest more : List DType) (d e : DType) → ds ≡ d ∷ rest → es ≡ e ∷ more → erased ds ≡ erased es → (erase (tree d) ≡ erase (tree e)) × (erased rest ≡ erased more)
-erased_next ds es rest more d e p q same =
-    let both : erase (tree d) ∷ erased rest ≡ erase (tree e) ∷ erased more = sym (ap erased p) ∙ same ∙ ap erased q in
-    (cc, cc)
-
-pub merged_next : (r : Rule) (ds es rest more : List DType) (d e x : DType) (done made : List DType) (all : List Tree) → ds ≡ d ∷ rest → es ≡ e ∷ more → tree x ≡ merge r (tree d) (tree e) → made ≡ done ++ x ∷ []
-    → map tree done ++ bounds r ds es ≡ all → map tree made ++ bounds r rest more ≡ all
-merged_next r ds es rest more d e x done made all p q is push whole =
-    moves_over (map tree done) (bounds r ds es) all (bounds r rest more) (tree x) (map tree made) whole
-    (ap (λ z. bounds r z es) p ∙ ap (bounds r (d ∷ rest)) q ∙ ap (λ t. t ∷ bounds r rest more) (sym is)) (ap (map tree) push ∙ map_push tree done x)
 
 -- where one side has nothing left, all is done
 pub merged_all : (r : Rule) (ds es done : List DType) (all : List Tree) → (ds ≡ []) ⊎ (es ≡ []) → map tree done ++ bounds r ds es ≡ all → map tree done ≡ all

@@ -2,7 +2,7 @@
 -- SPDX-FileCopyrightText: Copyright the Vortex contributors
 
 -- Loops over borrowed fields or variants: what is left after an iteration, and at the end.
-use Rattle.std.proofs.Common.{◌≡◌, ◌⊎◌, List, [], ◌∷◌, ◌++◌, sym, ap, ◌∙◌, inl, inr, subst, append_assoc}
+use Rattle.std.proofs.Common.{◌≡◌, ◌⊎◌, List, [], ◌∷◌, inl, inr, subst}
 use Rattle.std.specs.Prelude.{Option, Some, None}
 use Rattle.std.specs.Iterator.{YieldsFirstBy}
 use Rattle.std.specs.Iterator.Adapters.{zip_first, zip_second}
@@ -31,9 +31,3 @@ module _ {Item X : Type 0} (lent : Item → X) where
       by : ((u : List X) × steps (zip_first s) None u) ⊎ ((u : List X) × steps (zip_second s) None u) → (zip_first s ≡ []) ⊎ (zip_second s ≡ [])
       by (inl a) = inl a.1.0
       by (inr b) = inr b.1.0
-
--- ---- the items of a list that are done, and those that are left
-
--- an item moves from those that are left to the end of those that are done
-pub moves_over : {X : Type 0} (done left all rest : List X) (x : X) (more : List X) → done ++ left ≡ all → left ≡ x ∷ rest → more ≡ done ++ x ∷ [] → more ++ rest ≡ all
-moves_over done left all rest x more so_far next e = ap (λ xs. xs ++ rest) e ∙ append_assoc done (x ∷ []) rest ∙ ap (λ xs. done ++ xs) (sym next) ∙ so_far

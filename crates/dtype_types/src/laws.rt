@@ -6,12 +6,14 @@
 #![tactic(auto, using(crate::specs::equality::HashLaws::dtype_fed, crate::specs::equality::HashLaws::erased_fed, crate::proofs::lemmas::SampleLaws::sample_of, crate::proofs::lemmas::NullValues::null_is_of_nullable, crate::proofs::lemmas::SubValues::sub_values))]
 
 ghost use Rattle.std.specs.Prelude.{◌≡◌, ◌↔◌, ◌==◌, ◌<◌, ◌^◌, ◌++◌, ℕ, All, Bool, IsTrue, IsSomeAnd, List, None, Some, length, map, remove, slice_get};
+ghost use Rattle.std.specs.Bool.{Decides};
 ghost use Rattle.std.specs.List.{position};
 ghost use Rattle.std.proofs.Math.Logic.{Equivalence};
 ghost use Rattle.dtype_base.specs.declared.nullability.Nullability.{Nullability};
 ghost use Rattle.dtype_base.specs.declared.nullability.Nullability.TheVariants.{NonNullable, Nullable};
 ghost use Rattle.dtype_base.specs.Bytes.{Bytes};
 ghost use Rattle.dtype_base.specs.declared.ptype.PType.{PType};
+ghost use Rattle.dtype_types.specs.declared.dtype.kinds.Kind.{Kind};
 ghost use Rattle.dtype_types.specs.tree.Erase.{erase};
 ghost use Rattle.dtype_types.specs.equality.Hashes.{hash_writes_ignoring_nullability};
 ghost use Rattle.dtype_types.specs.Laws.{GivesInOrder, IsOrder};
@@ -31,10 +33,15 @@ ghost use Rattle.dtype_types.specs.parts.Unions.{MakesUnion};
 ghost use Rattle.dtype_types.specs.parts.Lists.{borrowed_pair, borrowed_triple};
 
 use crate::{
-    DType, DTypeIter, ExtDTypeRef, FieldDType, FieldIter, MapDType, StructFields, UnionVariants,
-    VariantIter,
+    DType, DTypeIter, ExtDTypeRef, FieldDType, FieldIter, Kind, MapDType, StructFields,
+    UnionVariants, VariantIter,
 };
 use std::hash::Hash;
+
+/// `==` of kinds holds exactly of the same kind.
+pub fn kinds_are_equal_where_the_same()
+    ensures { (a b : Kind) → Decides (⟦<Kind as PartialEq>⟧.eq a b) (a ≡ b) }
+{}
 
 /// Types that are equal write the same to every hasher.
 pub fn equality_agrees_with_hash()

@@ -15,5 +15,5 @@ binary_digits (suc n) = one_more (binary_digits n) (suc n)
 
 -- the number of binary digits of n: n is below two to its power, and below no smaller power of two
 pub record IsDigitsOf (n digits : ℕ) : Type 0 where
-  pub reach : n < 2 ^ digits
+  pub is_enough : n < 2 ^ digits
   pub fewest : (d : ℕ) → n < 2 ^ d → digits ≤ d

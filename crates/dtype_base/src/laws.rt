@@ -71,7 +71,7 @@ pub fn slices_hold_bytes(bytes: &[u8])
 /// `None`, which comes after as many items as `len` says.
 pub fn names_are_given_in_order()
     ensures lent { YieldsRefsInOrder ⟦<FieldNamesIter<'static> as Iterator>⟧.next_gives (λ left. left) }
-    ensures lent_end { (left : List (List ℕ))
+    ensures borrowed_end { (left : List (List ℕ))
         → UpTo (⟦<FieldNamesIter<'static> as Iterator>⟧.remaining left) (length left) }
     ensures given_up { YieldsInOrder ⟦<FieldNamesIntoIter as Iterator>⟧.next_gives (λ left. left) }
     ensures given_up_end { (left : List (List ℕ))

@@ -180,7 +180,7 @@ module _ (old new : List Node) (path : List Field) (here : ℕ) (trie : IsTrie o
         by_bool (i == here)
         (λ b.
         let is : i ≡ here = (Decides-eqb i here).0 b in
-        let w : walk (child_at old) 0 q ≡ Some here = trie.own i q e ∙ ap Some is in
+        let w : walk (child_at old) 0 q ≡ Some here = trie.ends_where_it_leads i q e ∙ ap Some is in
         let same = trie.once path q here walked w in
         finish i ∙ rw b (ap Some same))
         (λ b. finish i ∙ rw b e);

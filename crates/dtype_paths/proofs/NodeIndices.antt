@@ -95,7 +95,7 @@ terminals-distinct (n ∷ ns) h = go n.terminal refl (terminals-distinct ns (λ 
 
 -- no path ends in two nodes
 pub trie-distinct : (nodes : List Node) → IsTrieBy (child_at nodes) (terminal_at nodes) (length nodes) → IsDistinct same_path (terminals nodes)
-trie-distinct nodes t = terminals-distinct nodes (λ i j q a b. let e = sym (t.own i q a) ∙ t.own j q b in same_Some i j e)
+trie-distinct nodes t = terminals-distinct nodes (λ i j q a b. let e = sym (t.ends_where_it_leads i q a) ∙ t.ends_where_it_leads j q b in same_Some i j e)
 
 -- ---- how far a path leads
 
@@ -107,10 +107,10 @@ split (x ∷ p) (suc at) h = let w = split p at (omega (arith, h)) in (w.0, w.1,
 module _ (nodes : List Node) (path : List Field) (t : IsTrie nodes) where
   pub contains-whole : (here : ℕ) → walk (child_at nodes) 0 path ≡ Some here → (c : Bool) → c ≡ is_some (terminal_at nodes here) → Decides c (Contains (terminals nodes) path)
   contains-whole here w c e = (
-    λ h. by_option (terminal_at nodes here) (λ z. let no = rw z at e in cc) (λ q z. of-terminal nodes here path (z ∙ ap Some (t.once q path here (t.own here q z) w))),
+    λ h. by_option (terminal_at nodes here) (λ z. let no = rw z at e in cc) (λ q z. of-terminal nodes here path (z ∙ ap Some (t.once q path here (t.ends_where_it_leads here q z) w))),
     λ m.
         let z = terminal-of nodes path m in
-        let same : z.0 ≡ here = let q = sym (t.own z.0 path z.1) ∙ w in same_Some z.0 here q in
+        let same : z.0 ≡ here = let q = sym (t.ends_where_it_leads z.0 path z.1) ∙ w in same_Some z.0 here q in
         let some : terminal_at nodes here ≡ Some path = ap (terminal_at nodes) (sym same) ∙ z.1 in
         rw (e, some) refl,
   )
@@ -120,7 +120,7 @@ module _ (nodes : List Node) (path : List Field) (t : IsTrie nodes) where
   contains-no_more m prefix c =
       let s = split path m.len (slice_get_within path m.len prefix.step prefix.next) in
       let z = terminal-of nodes path c in
-      let e : walk (child_at nodes) m.here (s.0 ∷ s.1) ≡ Some z.0 = sym (walk-append (child_at nodes) 0 m.here (take m.len path) (s.0 ∷ s.1) prefix.walked) ∙ rw (← s.3) (t.own z.0 path z.1) in
+      let e : walk (child_at nodes) m.here (s.0 ∷ s.1) ≡ Some z.0 = sym (walk-append (child_at nodes) 0 m.here (take m.len path) (s.0 ∷ s.1) prefix.walked) ∙ rw (← s.3) (t.ends_where_it_leads z.0 path z.1) in
       let is : s.0 ≡ prefix.step = let q = sym s.2 ∙ prefix.next in same_Some s.0 prefix.step q in
       let n : child_at nodes m.here s.0 ≡ None = rw is prefix.none in
       let y : None ≡ Some z.0 = rw n at e in cc

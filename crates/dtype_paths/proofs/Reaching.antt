@@ -38,7 +38,7 @@ module _ (nodes : List Node) (t : IsTrie nodes) where
   ends-Decides q = by_option (walk (child_at nodes) 0 q)
       (λ none. (
         λ h. let no : is_some (option_and_then (terminal_at nodes) None) ≡ true = rw none at h in cc,
-        λ c. let w = terminal-of nodes q c in let z : None ≡ Some w.0 = sym none ∙ t.own w.0 q w.1 in cc,
+        λ c. let w = terminal-of nodes q c in let z : None ≡ Some w.0 = sym none ∙ t.ends_where_it_leads w.0 q w.1 in cc,
       ))
       (λ here w. contains-whole nodes q t here w (ends_below nodes 0 q) (ap (λ o. is_some (option_and_then (terminal_at nodes) o)) w))
 
@@ -51,7 +51,7 @@ module _ (nodes : List Node) (t : IsTrie nodes) where
   child-ends i j f r e none = let no : true ≡ false = ∥∥₁_elim r (Coded-set coded_bool true false) (λ s.
       let at = walk-snoc (child_at nodes) i j s.0 f s.1 e in
       let u = t.used (s.0 ++ f ∷ []) j at (λ z. let nil = t.once (s.0 ++ f ∷ []) [] j at (ap Some (sym z)) in no_snoc s.0 nil) in
-      let on : walk (child_at nodes) j u.1 ≡ Some u.0 = sym (walk-append (child_at nodes) 0 j (s.0 ++ f ∷ []) u.1 at) ∙ t.own u.0 ((s.0 ++ f ∷ []) ++ u.1) u.2 in
+      let on : walk (child_at nodes) j u.1 ≡ Some u.0 = sym (walk-append (child_at nodes) 0 j (s.0 ++ f ∷ []) u.1 at) ∙ t.ends_where_it_leads u.0 ((s.0 ++ f ∷ []) ++ u.1) u.2 in
       let is : ends_below nodes j u.1 ≡ true = ap (λ o. is_some (option_and_then (terminal_at nodes) o)) on ∙ ap is_some u.2 in
       sym is ∙ ap (λ (w : PathPredicate). w u.1) none) in cc
     where

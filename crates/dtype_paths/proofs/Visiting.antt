@@ -57,7 +57,7 @@ module _ (nodes : List Node) (trie : IsTrie nodes) where
   -- the least paths end in visited nodes
   visited-least : (p : List Field) → Least (terminals nodes) p ↔ (IsVisited nodes p × Contains (terminals nodes) p)
   visited-least p = (
-    λ l. let w = terminal-of nodes p l.member in (record { node = w.0; at = trie.own w.0 p w.1; alone = l.first }, l.member),
+    λ l. let w = terminal-of nodes p l.member in (record { node = w.0; at = trie.ends_where_it_leads w.0 p w.1; alone = l.first }, l.member),
     λ v. record { member = v.1; first = v.0.alone },
   )
 
@@ -186,7 +186,7 @@ module _ (nodes left : List Node) (found : List (List Field)) (visits : ℕ) (ps
   ends-here : Contains (terminals nodes) s → terminal_at left x ≡ Some s
   ends-here c =
       let w = terminal-of nodes s c in
-      let e : Some w.0 ≡ Some x = sym (trie.own w.0 s w.1) ∙ at in
+      let e : Some w.0 ≡ Some x = sym (trie.ends_where_it_leads w.0 s w.1) ∙ at in
       rw here (ap (terminal_at nodes) (sym (same_Some w.0 x e)) ∙ w.1)
 
   abbrev child_path : Field → List Field
@@ -249,7 +249,7 @@ module _ (nodes left : List Node) (found : List (List Field)) (visits : ℕ) (ps
     pub visited-terminal : (p : List Field) → terminal_at left x ≡ Some p → Visits nodes next (found ++ p ∷ []) (visits + 1) ps
     visited-terminal p is =
         let own : terminal_at nodes x ≡ Some p = rw (← here) is in
-        let same : s ≡ p = trie.once s p x at (trie.own x p own) in
+        let same : s ≡ p = trie.once s p x at (trie.ends_where_it_leads x p own) in
         let member = of-terminal nodes x s (own ∙ ap Some (sym same)) in
         subst (λ r. Visits nodes next (found ++ r ∷ []) (visits + 1) ps) same
         (subst (Visits nodes next (found ++ s ∷ []) (visits + 1)) (append-nil ps)

@@ -103,12 +103,12 @@ impl Eq for FieldDType {
 }
 
 impl Hash for FieldDType {
-    ghost use Rattle.dtype_types.specs.equality.HashLaws.{dtype_fed};
+    ghost use Rattle.dtype_types.specs.equality.HashLaws.{equal_types_hash_alike};
     ghost use Rattle.dtype_types.specs.equality.Hashes.{hash_writes};
 
     ghost hash_input = { λ f. hash_writes (field_tree f) };
 
-    ghost respects_eq = { λ f g. dtype_fed f.dtype g.dtype };
+    ghost respects_eq = { λ f g. equal_types_hash_alike f.dtype g.dtype };
 
     fn hash<H: Hasher>(&self, state: &mut H) {
         self.dtype.hash(state);

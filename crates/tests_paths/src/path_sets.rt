@@ -67,7 +67,7 @@ fn holds_first(
 }
 
 // Whether the set and its copy have the first `count` names and no other.
-fn is_of_first(
+fn has_exactly_the_first(
     alloc: Global,
     set: &FieldPathSet,
     names: &[String],
@@ -86,7 +86,7 @@ fn grow(alloc: Global, set: &mut FieldPathSet, names: &[String], place: usize) -
     requires { place < length names.now }
 {
     set.insert(path(alloc, names[place].as_str())?)?;
-    is_of_first(alloc, set, names, place + 1)
+    has_exactly_the_first(alloc, set, names, place + 1)
 }
 
 #[test]
@@ -118,7 +118,7 @@ fn is_set_of_first(alloc: Global, names: &[String], count: usize) -> VortexResul
     for name in names.iter().take(count) {
         set.insert(path(alloc, name.as_str())?)?;
     }
-    is_of_first(alloc, &set, names, count)
+    has_exactly_the_first(alloc, &set, names, count)
 }
 
 // More children than a hash map keeps. The longer names have their last seven bytes in common, by which a node tells

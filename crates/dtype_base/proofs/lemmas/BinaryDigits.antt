@@ -20,22 +20,22 @@ next n digits h = go (2 ^ digits == suc n) refl
         let is : 2 ^ digits ≡ suc n = eqb-true (2 ^ digits) (suc n) e in
         let twice : 2 ^ suc digits ≡ 2 ^ digits * 2 = pow-suc 2 digits in
         let same : digits + 1 ≡ suc digits = omega arith in record {
-          reach = omega (arith, is, twice, ap (λ d. 2 ^ d) same);
+          is_enough = omega (arith, is, twice, ap (λ d. 2 ^ d) same);
           fewest = λ d fits. let less = below_next digits d (omega (arith, is, fits)) in omega (arith, less);
         }
     go false e =
         let differ : 2 ^ digits ≡ suc n → ⊥ = eqb-false (2 ^ digits) (suc n) e in record {
-          reach = omega (arith, h.reach, differ);
+          is_enough = omega (arith, h.is_enough, differ);
           fewest = λ d fits. h.fewest d (omega (arith, fits));
         }
 
 pub digits_are : (n : ℕ) → IsDigitsOf n (binary_digits n)
 unfolding binary_digits
-digits_are zero = record { reach = omega arith; fewest = λ d fits. omega arith }
+digits_are zero = record { is_enough = omega arith; fewest = λ d fits. omega arith }
 digits_are (suc n) = next n (binary_digits n) (digits_are n)
 
 pub digits_reach : (n : ℕ) → n < 2 ^ binary_digits n
-digits_reach n = (digits_are n).reach
+digits_reach n = (digits_are n).is_enough
 
 pub digits_fewest : (n d : ℕ) → n < 2 ^ d → binary_digits n ≤ d
 digits_fewest n d fits = (digits_are n).fewest d fits

@@ -23,7 +23,7 @@ use Rattle.std.proofs.lemmas.Bool.{false≢true}
 use Rattle.std.proofs.lemmas.Bool.Decides.{Decides-and, Decides-like}
 use Rattle.std.proofs.lemmas.Slice.Eq.{bytes_eq-Decides, slice_eq-Decides}
 use Rattle.dtype_messages.specs.Message.{Message, messages, missing, null, bool, primitive, decimal, utf8, binary, list, fixed_size_list, map_of, struct, union, variant, extension, present, more}
-use Rattle.dtype_messages.specs.MessageOf.{message, kind_message, child_message, list_content, fixed_content, map_content, struct_content, union_content, extension_content, texts, bytes_of, or_missing, ListOf, FixedOf, MapOf, StructOf, UnionOf, ExtensionOf, kind_step, dtype_step, extension_step, fixed_step, list_step, map_step, struct_step, union_step}
+use Rattle.dtype_messages.specs.MessageOf.{message, kind_message, child_message, list_content, fixed_content, map_content, struct_content, union_content, extension_content, texts, bytes_of, or_missing, ListOf, FixedOf, MapOf, StructContent, UnionOf, ExtensionOf, kind_step, dtype_step, extension_step, fixed_step, list_step, map_step, struct_step, union_step}
 use Rattle.dtype_messages.specs.PathNames.{name_of, part_name, part_names}
 use Rattle.dtype_messages.specs.declared.pb.DType.{DType}
 use Rattle.dtype_messages.specs.declared.pb.DtypeType.{DtypeType, out-DtypeType, map-DtypeType, fold_out-DtypeType, the_lemmas}
@@ -120,10 +120,10 @@ kind_number (variant f) = 12
 kind_number (extension i c b) = 13
 
 abbrev one_layer : DtypeType → Message
-one_layer k = kind_step (map-DtypeType DtypeType DType ExtensionMessage FixedMessage ListMessage MapMessage StructMessage UnionMessage Message Message ExtensionOf FixedOf ListOf MapOf StructOf UnionOf kind_message message extension_content fixed_content list_content map_content struct_content union_content (out-DtypeType k))
+one_layer k = kind_step (map-DtypeType DtypeType DType ExtensionMessage FixedMessage ListMessage MapMessage StructMessage UnionMessage Message Message ExtensionOf FixedOf ListOf MapOf StructContent UnionOf kind_message message extension_content fixed_content list_content map_content struct_content union_content (out-DtypeType k))
 
 kind_message-one_layer : (k : DtypeType) → kind_message k ≡ one_layer k
-kind_message-one_layer = fold_out-DtypeType Message Message ExtensionOf FixedOf ListOf MapOf StructOf UnionOf kind_step dtype_step extension_step fixed_step list_step map_step struct_step union_step
+kind_message-one_layer = fold_out-DtypeType Message Message ExtensionOf FixedOf ListOf MapOf StructContent UnionOf kind_step dtype_step extension_step fixed_step list_step map_step struct_step union_step
 
 one_layer-not_missing : (k : DtypeType) → missing ≡ one_layer k → ⊥
 unfolding out-DtypeType Carrier.out
@@ -164,7 +164,7 @@ mutual
   one_layer_Decides (kind.List' b x) (kind.List' c y) = Decides-like _ (ap (λ (p : ListOf). list p.0 p.1)) (λ e. pair_equal (list_content x) (list_content y) (cc) (cc)) (list_Decides x y)
   one_layer_Decides (kind.FixedSizeList' b x) (kind.FixedSizeList' c y) = Decides-like _ (ap (λ (p : FixedOf). fixed_size_list p.0 p.1 p.2)) (λ e. triple_equal (fixed_content x) (fixed_content y) (cc) (cc) (cc)) (fixed_Decides x y)
   one_layer_Decides (kind.Map' b x) (kind.Map' c y) = Decides-like _ (ap (λ (p : MapOf). map_of p.0 p.1 p.2 p.3)) (λ e. quadruple_equal (map_content x) (map_content y) (cc) (cc) (cc) (cc)) (map_Decides x y)
-  one_layer_Decides (kind.Struct x) (kind.Struct y) = Decides-like _ (ap (λ (p : StructOf). struct p.0 p.1 p.2)) (λ e. triple_equal (struct_content x) (struct_content y) (cc) (cc) (cc)) (struct_Decides x y)
+  one_layer_Decides (kind.Struct x) (kind.Struct y) = Decides-like _ (ap (λ (p : StructContent). struct p.0 p.1 p.2)) (λ e. triple_equal (struct_content x) (struct_content y) (cc) (cc) (cc)) (struct_Decides x y)
   one_layer_Decides (kind.Union x) (kind.Union y) = Decides-like _ (ap (λ (p : UnionOf). union p.0 p.1 p.2 p.3)) (λ e. quadruple_equal (union_content x) (union_content y) (cc) (cc) (cc) (cc)) (union_Decides x y)
   one_layer_Decides (kind.Extension' b x) (kind.Extension' c y) = Decides-like _ (ap (λ (p : ExtensionOf). extension p.0 p.1 p.2)) (λ e. triple_equal (extension_content x) (extension_content y) (cc) (cc) (cc)) (extension_Decides x y)
   one_layer_Decides j k = Decides-different (λ e. false≢true (sym (ap (λ m. nat_eq (kind_number (one_layer j)) (kind_number m)) e)))

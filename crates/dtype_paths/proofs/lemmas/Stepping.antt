@@ -31,16 +31,16 @@ use Rattle.dtype_paths.specs.declared.field.Field.TheVariants.{Name, ElementType
 use Rattle.dtype_paths.specs.declared.field_mask.FieldMask.{FieldMask}
 use Rattle.dtype_paths.specs.declared.field_mask.FieldMask.TheVariants.{All, Prefix, Exact}
 
-split_at : (t u : Tree) (p q : List Field) → At t (p ++ q) u → (x : Tree) × At t p x × At x q u
-split_at t u [] q a = (t, refl, a)
-split_at t u (f ∷ p) q a = let r = split_at a.0 u p q a.2 in (r.0, (a.0, a.1, r.1), r.2)
+At_split : (t u : Tree) (p q : List Field) → At t (p ++ q) u → (x : Tree) × At t p x × At x q u
+At_split t u [] q a = (t, refl, a)
+At_split t u (f ∷ p) q a = let r = At_split a.0 u p q a.2 in (r.0, (a.0, a.1, r.1), r.2)
 
 pub at_append : (t u x : Tree) (p q : List Field) → At t p x → At x q u → At t (p ++ q) u
 at_append t u x [] q a b = subst (λ z. At z q u) (sym a) b
 at_append t u x (f ∷ p) q a b = (a.0, a.1, at_append a.0 u x p q a.2 b)
 
 pub at_joined : (t u : Tree) (p q : List Field) → At t (p ++ q) u ↔ ((x : Tree) × At t p x × At x q u)
-at_joined t u p q = (split_at t u p q, λ w. at_append t u w.0 p q w.1 w.2)
+at_joined t u p q = (At_split t u p q, λ w. at_append t u w.0 p q w.1 w.2)
 
 -- behind a path to a list are its elements
 element_step : (t : Tree) → step t ElementType ≡ any_size_list_element t
@@ -50,11 +50,11 @@ element_step _ = refl
 
 pub at_element : (t u : Tree) (p : List Field) → At t (p ++ ElementType ∷ []) u → (x : Tree) × At t p x × (any_size_list_element x ≡ Some u)
 at_element t u p a =
-    let r = split_at t u p (ElementType ∷ []) a in
+    let r = At_split t u p (ElementType ∷ []) a in
     (r.0, r.1, sym (element_step r.0) ∙ (r.2.1 ∙ ap Some r.2.2))
 
 pub beginning_exists : (t u : Tree) (p q : List Field) → Beginning p q → At t q u → (x : Tree) × At t p x
-beginning_exists t u p q b a = let r = split_at t u p b.0 (subst (λ z. At t z u) b.1 a) in (r.0, r.1)
+beginning_exists t u p q b a = let r = At_split t u p b.0 (subst (λ z. At t z u) b.1 a) in (r.0, r.1)
 
 pub beginning_exists_in : (t : Tree) (p q : List Field) → Beginning p q → ExistsIn t q → ExistsIn t p
 beginning_exists_in t p q b e = let r = beginning_exists t e.found p q b e.at in record { found = r.0; at = r.1 }

@@ -36,29 +36,29 @@ any_size_element_valid (list e n) u is h = subst Valid (same_Some e u is) h
 any_size_element_valid (fixed_size_list e k n) u is h = subst Valid (same_Some e u is) h.1
 any_size_element_valid _ u is h = cc
 
-pub lent_list_element : (t : Tree) (r : Option (Bor DType)) → shown tree r ≡ list_element t → Valid t → IfSome r (λ d. Valid (tree d.now))
-lent_list_element t None is h = tt
-lent_list_element t (Some d) is h = list_element_valid t (tree d.now) (sym is) h
+pub borrowed_list_element : (t : Tree) (r : Option (Bor DType)) → shown tree r ≡ list_element t → Valid t → IfSome r (λ d. Valid (tree d.now))
+borrowed_list_element t None is h = tt
+borrowed_list_element t (Some d) is h = list_element_valid t (tree d.now) (sym is) h
 
-pub lent_fixed_size_element : (t : Tree) (r : Option (Bor DType)) → shown tree r ≡ fixed_size_list_element t → Valid t → IfSome r (λ d. Valid (tree d.now))
-lent_fixed_size_element t None is h = tt
-lent_fixed_size_element t (Some d) is h = fixed_size_element_valid t (tree d.now) (sym is) h
+pub borrowed_fixed_size_element : (t : Tree) (r : Option (Bor DType)) → shown tree r ≡ fixed_size_list_element t → Valid t → IfSome r (λ d. Valid (tree d.now))
+borrowed_fixed_size_element t None is h = tt
+borrowed_fixed_size_element t (Some d) is h = fixed_size_element_valid t (tree d.now) (sym is) h
 
-pub lent_any_size_element : (t : Tree) (r : Option (Bor DType)) → shown tree r ≡ any_size_list_element t → Valid t → IfSome r (λ d. Valid (tree d.now))
-lent_any_size_element t None is h = tt
-lent_any_size_element t (Some d) is h = any_size_element_valid t (tree d.now) (sym is) h
+pub borrowed_any_size_element : (t : Tree) (r : Option (Bor DType)) → shown tree r ≡ any_size_list_element t → Valid t → IfSome r (λ d. Valid (tree d.now))
+borrowed_any_size_element t None is h = tt
+borrowed_any_size_element t (Some d) is h = any_size_element_valid t (tree d.now) (sym is) h
 
-pub given_list_element : (t : Tree) (r : Option (Box DType Global)) → option_map (λ b. tree b.value) r ≡ list_element t → Valid t → IfSome r (λ b. Valid (tree b.value))
-given_list_element t None is h = tt
-given_list_element t (Some b) is h = list_element_valid t (tree b.value) (sym is) h
+pub owned_list_element : (t : Tree) (r : Option (Box DType Global)) → option_map (λ b. tree b.value) r ≡ list_element t → Valid t → IfSome r (λ b. Valid (tree b.value))
+owned_list_element t None is h = tt
+owned_list_element t (Some b) is h = list_element_valid t (tree b.value) (sym is) h
 
-pub given_fixed_size_element : (t : Tree) (r : Option (Box DType Global)) → option_map (λ b. tree b.value) r ≡ fixed_size_list_element t → Valid t → IfSome r (λ b. Valid (tree b.value))
-given_fixed_size_element t None is h = tt
-given_fixed_size_element t (Some b) is h = fixed_size_element_valid t (tree b.value) (sym is) h
+pub owned_fixed_size_element : (t : Tree) (r : Option (Box DType Global)) → option_map (λ b. tree b.value) r ≡ fixed_size_list_element t → Valid t → IfSome r (λ b. Valid (tree b.value))
+owned_fixed_size_element t None is h = tt
+owned_fixed_size_element t (Some b) is h = fixed_size_element_valid t (tree b.value) (sym is) h
 
-pub given_any_size_element : (t : Tree) (r : Option (Box DType Global)) → option_map (λ b. tree b.value) r ≡ any_size_list_element t → Valid t → IfSome r (λ b. Valid (tree b.value))
-given_any_size_element t None is h = tt
-given_any_size_element t (Some b) is h = any_size_element_valid t (tree b.value) (sym is) h
+pub owned_any_size_element : (t : Tree) (r : Option (Box DType Global)) → option_map (λ b. tree b.value) r ≡ any_size_list_element t → Valid t → IfSome r (λ b. Valid (tree b.value))
+owned_any_size_element t None is h = tt
+owned_any_size_element t (Some b) is h = any_size_element_valid t (tree b.value) (sym is) h
 
 -- ---- a map's parts
 
@@ -66,13 +66,13 @@ pub map_parts_valid : (t : Tree) (m : MapDType) → map_parts t ≡ Some (map_sh
 map_parts_valid (map_of k v b n) m is h = subst (λ (p : Tree × Tree × Bool). (nullability p.0 ≡ NonNullable) × Valid p.0 × Valid p.1) (same_Some (k, v, b) (map_shown m) is) h
 map_parts_valid _ m is h = cc
 
-pub lent_map : (t : Tree) (r : Option (Bor MapDType)) → shown map_shown r ≡ map_parts t → Valid t → IfSome r (λ m. Valid (map_tree m.now))
-lent_map t None is h = tt
-lent_map t (Some m) is h = map_parts_valid t m.now (sym is) h
+pub borrowed_map : (t : Tree) (r : Option (Bor MapDType)) → shown map_shown r ≡ map_parts t → Valid t → IfSome r (λ m. Valid (map_tree m.now))
+borrowed_map t None is h = tt
+borrowed_map t (Some m) is h = map_parts_valid t m.now (sym is) h
 
-pub given_map : (t : Tree) (r : Option MapDType) → option_map map_shown r ≡ map_parts t → Valid t → IfSome r (λ d. Valid (map_tree d))
-given_map t None is h = tt
-given_map t (Some m) is h = map_parts_valid t m (sym is) h
+pub owned_map : (t : Tree) (r : Option MapDType) → option_map map_shown r ≡ map_parts t → Valid t → IfSome r (λ d. Valid (map_tree d))
+owned_map t None is h = tt
+owned_map t (Some m) is h = map_parts_valid t m (sym is) h
 
 -- ---- a struct's fields
 
@@ -84,13 +84,13 @@ pub struct_fields_valid : (t : Tree) (s : StructFields) → struct_fields t ≡ 
 struct_fields_valid (struct fs n) s is h = subst ValidFields (sym (fields_of_pairs fs) ∙ ap fields (same_Some (pairs fs) (children s) is)) h
 struct_fields_valid _ s is h = cc
 
-pub lent_struct : (t : Tree) (r : Option (Bor StructFields)) → shown children r ≡ struct_fields t → Valid t → IfSome r (λ s. Valid (struct_tree s.now))
-lent_struct t None is h = tt
-lent_struct t (Some s) is h = struct_fields_valid t s.now (sym is) h
+pub borrowed_struct : (t : Tree) (r : Option (Bor StructFields)) → shown children r ≡ struct_fields t → Valid t → IfSome r (λ s. Valid (struct_tree s.now))
+borrowed_struct t None is h = tt
+borrowed_struct t (Some s) is h = struct_fields_valid t s.now (sym is) h
 
-pub given_struct : (t : Tree) (r : Option StructFields) → option_map children r ≡ struct_fields t → Valid t → IfSome r (λ d. Valid (struct_tree d))
-given_struct t None is h = tt
-given_struct t (Some s) is h = struct_fields_valid t s (sym is) h
+pub owned_struct : (t : Tree) (r : Option StructFields) → option_map children r ≡ struct_fields t → Valid t → IfSome r (λ d. Valid (struct_tree d))
+owned_struct t None is h = tt
+owned_struct t (Some s) is h = struct_fields_valid t s (sym is) h
 
 -- ---- a union's variants
 
@@ -102,13 +102,13 @@ pub union_variants_valid : (t : Tree) (u : UnionVariants) → union_variants t �
 union_variants_valid (union vs n) u is h = subst (λ ws. Valid (union ws NonNullable)) (sym (variants_of_triples vs) ∙ ap variants (same_Some (triples vs) (variant_list u) is)) h
 union_variants_valid _ u is h = cc
 
-pub lent_union : (t : Tree) (r : Option (Bor UnionVariants)) → shown variant_list r ≡ union_variants t → Valid t → IfSome r (λ u. Valid (union_tree u.now))
-lent_union t None is h = tt
-lent_union t (Some u) is h = union_variants_valid t u.now (sym is) h
+pub borrowed_union : (t : Tree) (r : Option (Bor UnionVariants)) → shown variant_list r ≡ union_variants t → Valid t → IfSome r (λ u. Valid (union_tree u.now))
+borrowed_union t None is h = tt
+borrowed_union t (Some u) is h = union_variants_valid t u.now (sym is) h
 
-pub given_union : (t : Tree) (r : Option UnionVariants) → option_map variant_list r ≡ union_variants t → Valid t → IfSome r (λ d. Valid (union_tree d))
-given_union t None is h = tt
-given_union t (Some u) is h = union_variants_valid t u (sym is) h
+pub owned_union : (t : Tree) (r : Option UnionVariants) → option_map variant_list r ≡ union_variants t → Valid t → IfSome r (λ d. Valid (union_tree d))
+owned_union t None is h = tt
+owned_union t (Some u) is h = union_variants_valid t u (sym is) h
 
 -- ---- an extension
 
@@ -119,9 +119,9 @@ pub extension_parts_valid : (t : Tree) (e : ExtDTypeRef) → extension_parts t �
 extension_parts_valid (extension i b s) e is h = subst (λ (p : List ℕ × List ℕ × Tree). Valid (extension p.0 p.1 p.2)) (same_Some (i, b, s) (extension_id e, extension_metadata e, storage_tree e) is) h
 extension_parts_valid _ e is h = cc
 
-pub lent_extension : (t : Tree) (r : Option (Bor ExtDTypeRef)) → shown (λ e. (extension_id e, extension_metadata e, storage_tree e)) r ≡ extension_parts t → Valid t → IfSome r (λ e. Valid (extension_tree e.now))
-lent_extension t None is h = tt
-lent_extension t (Some e) is h = extension_parts_valid t e.now (sym is) h
+pub borrowed_extension : (t : Tree) (r : Option (Bor ExtDTypeRef)) → shown (λ e. (extension_id e, extension_metadata e, storage_tree e)) r ≡ extension_parts t → Valid t → IfSome r (λ e. Valid (extension_tree e.now))
+borrowed_extension t None is h = tt
+borrowed_extension t (Some e) is h = extension_parts_valid t e.now (sym is) h
 
 -- what a valid type holds is valid
 pub ruleset valid_parts = (list_element_valid, fixed_size_element_valid, any_size_element_valid, map_parts_valid, struct_fields_valid, union_variants_valid, extension_parts_valid)

@@ -18,7 +18,7 @@ use Rattle.dtype_types.specs.parts.Maps.{entries_of}
 use Rattle.dtype_types.specs.nullability.Nullable.{nullability, set_null}
 use Rattle.dtype_types.proofs.lemmas.Nullabilities.{in_storage}
 use Rattle.dtype_types.specs.tree.Tree.{Tree, fields, variants, null, list, fixed_size_list, map_of, extension}
-use Rattle.dtype_types.proofs.lemmas.ValidParts.{valid_parts, lent_list_element, lent_fixed_size_element, lent_any_size_element, given_list_element, given_fixed_size_element, given_any_size_element, lent_map, given_map, lent_struct, given_struct, lent_union, given_union, extension_is_valid, lent_extension}
+use Rattle.dtype_types.proofs.lemmas.ValidParts.{valid_parts, borrowed_list_element, borrowed_fixed_size_element, borrowed_any_size_element, owned_list_element, owned_fixed_size_element, owned_any_size_element, borrowed_map, owned_map, borrowed_struct, owned_struct, borrowed_union, owned_union, extension_is_valid, borrowed_extension}
 use Rattle.dtype_types.proofs.lemmas.TreeLaws.{tree_struct, tree_union, tree_map, tree_extension}
 use Rattle.dtype_types.specs.declared.dtype.DType.{DType, Map, Struct, Union, Extension}
 use Rattle.dtype_types.specs.declared.field_dtype.FieldDType.{FieldDType}
@@ -207,4 +207,4 @@ entries_valid k v h g = (h, (g, tt))
 
 pub ruleset types_in_valid_parts = (type_at_valid, type_named_valid, variant_at_valid, variant_named_valid, field_types_valid, variant_types_valid, pairs_valid, triples_valid)
 
-pub ruleset validity = (valid_parts, list_of_valid, fixed_size_list_of_valid, map_of_valid, struct_valid, union_valid, map_valid, extension_valid, valid_struct, valid_union, valid_map, valid_extension, field_valid, named_field_valid, variant_valid, named_variant_valid, types_in_valid_parts, struct_of_valid, removal_valid, set_valid, made_map_valid, lent_list_element, lent_fixed_size_element, lent_any_size_element, given_list_element, given_fixed_size_element, given_any_size_element, lent_map, given_map, lent_struct, given_struct, lent_union, given_union, extension_is_valid, lent_extension)
+pub ruleset validity = (valid_parts, list_of_valid, fixed_size_list_of_valid, map_of_valid, struct_valid, union_valid, map_valid, extension_valid, valid_struct, valid_union, valid_map, valid_extension, field_valid, named_field_valid, variant_valid, named_variant_valid, types_in_valid_parts, struct_of_valid, removal_valid, set_valid, made_map_valid, borrowed_list_element, borrowed_fixed_size_element, borrowed_any_size_element, owned_list_element, owned_fixed_size_element, owned_any_size_element, borrowed_map, owned_map, borrowed_struct, owned_struct, borrowed_union, owned_union, extension_is_valid, borrowed_extension)

@@ -25,8 +25,8 @@ use Rattle.dtype_types.specs.declared.union_variants.UnionVariants.{UnionVariant
 use Rattle.dtype_types.specs.declared.map.MapDType.{MapDType}
 use Rattle.dtype_types.specs.declared.extension.ExtDTypeRef.{ExtDTypeRef}
 
-pub dtype_fed : (x y : DType) → same_dtype x y ≡ true → hash_of Whole (tree x) ≡ hash_of Whole (tree y)
-dtype_fed x y e = ap (hash_of Whole) ((equal_under-Decides (tree x) (tree y)).0 e)
+pub equal_types_hash_alike : (x y : DType) → same_dtype x y ≡ true → hash_of Whole (tree x) ≡ hash_of Whole (tree y)
+equal_types_hash_alike x y e = ap (hash_of Whole) ((equal_under-Decides (tree x) (tree y)).0 e)
 
 pub struct_fed : (x y : StructFields) → same_struct x y ≡ true → struct_writes Whole x ≡ struct_writes Whole y
 struct_fed x y e = ap (λ ps. fed.usize (field_count (fields ps)) ++ field_writes Whole (fields ps)) ((same_fields-Decides (children x) (children y)).0 e)

@@ -90,12 +90,12 @@ impl DType {
 }
 
 impl Hash for DType {
-    ghost use Rattle.dtype_types.specs.equality.HashLaws.{dtype_fed};
+    ghost use Rattle.dtype_types.specs.equality.HashLaws.{equal_types_hash_alike};
     ghost use Rattle.dtype_types.specs.equality.Hashes.{hash_writes};
 
     ghost hash_input = { λ d. hash_writes (tree d) };
 
-    ghost respects_eq = { dtype_fed };
+    ghost respects_eq = { equal_types_hash_alike };
 
     fn hash<H: Hasher>(&self, state: &mut H) {
         hash_into(self, HashMode::Whole, state);

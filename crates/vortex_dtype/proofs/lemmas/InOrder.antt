@@ -41,10 +41,10 @@ given k None = (refl, refl)
 given k (Some x) = refl
 
 -- the second step takes what the first gives; its error is that of both
-in_turn : {A B : Type 0} (r : Result A VortexError) (f : A → Result B VortexError) (P : A → Type 0) (Q : VortexError → Type 0) (R : B → Type 0) (S : VortexError → Type 0)
+bind_result : {A B : Type 0} (r : Result A VortexError) (f : A → Result B VortexError) (P : A → Type 0) (Q : VortexError → Type 0) (R : B → Type 0) (S : VortexError → Type 0)
     → MatchResult r P Q → ((x : A) → P x → MatchResult (f x) R S) → ((e : VortexError) → Q e → S e) → MatchResult (r >>= f) R S
-in_turn (Ok x) f P Q R S h next stop = next x h
-in_turn (Err e) f P Q R S h next stop = stop e h
+bind_result (Ok x) f P Q R S h next stop = next x h
+bind_result (Err e) f P Q R S h next stop = stop e h
 
 -- ---- numbers
 
@@ -85,7 +85,7 @@ union_reading : (ns : List (List ℕ)) (ts : List Tree) (gs : List ℤ) (n : Nul
     (λ t. (tags : List ℕ) × AreBytes gs tags × MakesUnion ns (length ts) tags × (t ≡ of.union (variants (zip ns (zip ts tags))) n)) (UnionFault ns (length ts) gs)
 unfolding union_read
 union_reading ns ts gs n =
-    in_turn (read_tags gs) _ _ _ _ _ (tags_reading gs)
+    bind_result (read_tags gs) _ _ _ _ _ (tags_reading gs)
     (λ tags is. MatchResult-weaker (union_made ns ts tags n) (union_making ns ts tags n) (λ t h. (tags, is, h.0, h.1)) (λ e f. inr (tags, bytes_are gs tags is, f))) (λ e. inl)
 
 key_reading : (n : Nullability) (t : Tree) → MatchResult (when_required n t) (λ u. (n ≡ NonNullable) × (u ≡ t)) (λ e. (e ≡ MapKeyNullable) × (n ≡ Nullable))
@@ -99,29 +99,29 @@ mutual
   reading s (primitive k f) = grind (arith, number-ptype_at, ptype_at-number)
   reading s (decimal p (pos k) f) = grind (arith, nat_tests, ints)
   reading s (decimal p (negsuc k) f) = grind (arith, nat_tests, ints)
-  reading s (list c f) = in_turn (read_child s ListElementMissing c) _ _ _ _ _ (child_reading s ListElementMissing c) (λ x h. (x, h, refl)) (λ e j. j)
-  reading s (fixed_size_list c k f) = in_turn (read_child s FixedElementMissing c) _ _ _ _ _ (child_reading s FixedElementMissing c) (λ x h. (x, h, refl)) (λ e j. j)
+  reading s (list c f) = bind_result (read_child s ListElementMissing c) _ _ _ _ _ (child_reading s ListElementMissing c) (λ x h. (x, h, refl)) (λ e j. j)
+  reading s (fixed_size_list c k f) = bind_result (read_child s FixedElementMissing c) _ _ _ _ _ (child_reading s FixedElementMissing c) (λ x h. (x, h, refl)) (λ e j. j)
   reading s (map_of c v o f) =
-      in_turn (read_child s MapKeyMissing c) _ _ _ _ _ (child_reading s MapKeyMissing c)
-      (λ x h. in_turn (read_child s MapValueMissing v) _ _ _ _ _ (child_reading s MapValueMissing v)
+      bind_result (read_child s MapKeyMissing c) _ _ _ _ _ (child_reading s MapKeyMissing c)
+      (λ x h. bind_result (read_child s MapValueMissing v) _ _ _ _ _ (child_reading s MapValueMissing v)
       (λ y k. MatchResult-weaker (when_required (nullability x) (of.map_of x y o (nullability_of f))) (key_reading (nullability x) (of.map_of x y o (nullability_of f)))
       (λ t a. (x, y, h, k, a.0, a.1)) (λ e j. inr (inr (j.0, x, h, j.1))))
       (λ e j. inr (inl j))) (λ e. inl)
   reading s (struct ns ms f) =
-      in_turn (read_all s ms) _ _ _ _ _ (all_reading s ms)
+      bind_result (read_all s ms) _ _ _ _ _ (all_reading s ms)
       (λ ts h. let same = Decides-eqb (length ns) (length ts) in
       by_test (length ns == length ts) _ _ _ _ (λ e. (ts, h, same.0 e, refl))
       (λ e. inr (refl, λ c. not_from_Decides _ same e (c ∙ sym (count_all s ms ts h)))))
       (λ e. inl)
   reading s (union ns ms gs f) =
-      in_turn (read_all s ms) _ _ _ _ _ (all_reading s ms)
+      bind_result (read_all s ms) _ _ _ _ _ (all_reading s ms)
       (λ ts h. MatchResult-weaker (union_read ns ts gs (nullability_of f)) (union_reading ns ts gs (nullability_of f))
       (λ t u. (ts, u.0, h, u.1, u.2, u.3))
       (λ e j. inr (subst (λ c. UnionFault ns c gs e) (count_all s ms ts h) j)))
       (λ e. inl)
   reading s (extension id c b) =
-      in_turn (read_child s StorageMissing c) _ _ _ _ _ (child_reading s StorageMissing c)
-      (λ x h. in_turn (or_fault (unkept_error s id) (keeps s id (or_empty b) x)) _ _ _ _ _ (given (unkept_error s id) (keeps s id (or_empty b) x))
+      bind_result (read_child s StorageMissing c) _ _ _ _ _ (child_reading s StorageMissing c)
+      (λ x h. bind_result (or_fault (unkept_error s id) (keeps s id (or_empty b) x)) _ _ _ _ _ (given (unkept_error s id) (keeps s id (or_empty b) x))
       (λ k is. (x, k, h, is, refl)) (λ e j. inr (j.0, x, h, j.1))) (λ e. inl)
   reading s _ = refl
 
@@ -132,7 +132,7 @@ mutual
   all_reading : (s : Meaning) (ms : Messages) → MatchResult (read_all s ms) (ReadsAll s ms) (SomeFault s ms)
   all_reading s no_message = tt
   all_reading s (more m ms) =
-      in_turn (read s m) _ _ _ _ _ (reading s m) (λ x h. in_turn (read_all s ms) _ _ _ _ _ (all_reading s ms) (λ xs k. (h, k)) (λ e. inr)) (λ e. inl)
+      bind_result (read s m) _ _ _ _ _ (reading s m) (λ x h. bind_result (read_all s ms) _ _ _ _ _ (all_reading s ms) (λ xs k. (h, k)) (λ e. inr)) (λ e. inl)
 
 -- a type that is given is one that the message reads as, and an error is a fault of the message
 pub read_reads : (s : Meaning) (m : Message) (t : Tree) → read s m ≡ Ok t → Reads s m t

@@ -137,9 +137,9 @@ pub admits_one_more : (m : Meaning) (t u : Tree) (ps : List (List ℕ × Tree)) 
 admits_one_more m t u ps name n e a b = admits_more m t ps ((name, u) ∷ []) n n e a (b, tt)
 
 -- the same of a list of fields
-pub admits_fields-behind : (m : Meaning) (ps : List (List ℕ × Tree)) (name : List ℕ) (u : Tree) → AdmitsFields m (fields ps) → Admits m u → AdmitsFields m (fields (ps ++ (name, u) ∷ []))
-admits_fields-behind m [] name u a b = (b, tt)
-admits_fields-behind m (p ∷ ps) name u a b = (a.0, admits_fields-behind m ps name u a.1 b)
+pub admits_fields_appended : (m : Meaning) (ps : List (List ℕ × Tree)) (name : List ℕ) (u : Tree) → AdmitsFields m (fields ps) → Admits m u → AdmitsFields m (fields (ps ++ (name, u) ∷ []))
+admits_fields_appended m [] name u a b = (b, tt)
+admits_fields_appended m (p ∷ ps) name u a b = (a.0, admits_fields_appended m ps name u a.1 b)
 
 -- a field of an admitted struct
 pub admits_field : (m : Meaning) (ps : List (List ℕ × Tree)) (name : List ℕ) (t : Tree) → AdmitsFields m (fields ps) → first_named ps name ≡ Some t → Admits m t
@@ -170,9 +170,9 @@ pub unknown_register_in : (m n : Meaning) (i : List ℕ) (r : Rewrites) → n �
 unfolding register_in
 unknown_register_in m n i r e = ap (λ (s : Meaning). s.unknown) e
 
-pub unknown_allow_unknown_in : (m n : Meaning) → n ≡ allow_unknown_in m → n.unknown ≡ true
+pub unknown_kept_after_allowing : (m n : Meaning) → n ≡ allow_unknown_in m → n.unknown ≡ true
 unfolding allow_unknown_in
-unknown_allow_unknown_in m n e = ap (λ (s : Meaning). s.unknown) e
+unknown_kept_after_allowing m n e = ap (λ (s : Meaning). s.unknown) e
 
 pub registered_allow_unknown_in : (m n : Meaning) (id : List ℕ) → n ≡ allow_unknown_in m → n.registered id ≡ m.registered id
 unfolding allow_unknown_in
@@ -190,7 +190,7 @@ pub flag_register_in : (m : Meaning) (i : List ℕ) (r : Rewrites) → (register
 flag_register_in m i r = unknown_register_in m (register_in i r m) i r refl
 
 pub flag_allow_unknown_in : (m : Meaning) → (allow_unknown_in m).unknown ≡ true
-flag_allow_unknown_in m = unknown_allow_unknown_in m (allow_unknown_in m) refl
+flag_allow_unknown_in m = unknown_kept_after_allowing m (allow_unknown_in m) refl
 
 -- a session without plugins that keeps unknown ids refuses nothing
 pub unrefused : (m : Meaning) (id b : List ℕ) (s : Tree) (e : VortexError) → m ≡ allow_unknown_in empty_meaning → SessionError m id b s e → ⊥
@@ -198,7 +198,7 @@ unfolding allow_unknown_in empty_meaning
 unrefused m id b s e is h = grind arith
 
 -- What calls of a session change and leave alone, what it keeps and what it admits: for callers' proofs.
-pub ruleset sessions = (registered_register_in, others_register_in, registered_before, unknown_register_in, flag_register_in, registered_allow_unknown_in, unknown_allow_unknown_in, flag_allow_unknown_in, registered_empty_meaning, unknown_empty_meaning, admits_allow_unknown_in, kept_allow_unknown_in, admits_one_more, admits_more, admits_fields-behind, admits_field, admits_extension, keeps_again, keeps_outer, unrefused)
+pub ruleset sessions = (registered_register_in, others_register_in, registered_before, unknown_register_in, flag_register_in, registered_allow_unknown_in, unknown_kept_after_allowing, flag_allow_unknown_in, registered_empty_meaning, unknown_empty_meaning, admits_allow_unknown_in, kept_allow_unknown_in, admits_one_more, admits_more, admits_fields_appended, admits_field, admits_extension, keeps_again, keeps_outer, unrefused)
 
 -- What is registered and allowed after any calls, and what is admitted whatever the outer nullability: for the laws.
 pub ruleset session_laws = (register_in-same, register_in-other, after-last, after-left_alone, after-unknown, admits-set_null)

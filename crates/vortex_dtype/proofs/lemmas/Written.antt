@@ -31,16 +31,16 @@ mutual
   written_is (list x m) (list y n) e = cc (written_is x y (cc), flag_once m n (cc))
   written_is (fixed_size_list x k m) (fixed_size_list y l n) e = cc (written_is x y (cc), flag_once m n (cc))
   written_is (map_of x v o m) (map_of y w p n) e = cc (written_is x y (cc), written_is v w (cc), flag_once m n (cc))
-  written_is (struct fs m) (struct gs n) e = cc (fields_is fs gs (cc) (cc), flag_once m n (cc))
+  written_is (struct fs m) (struct gs n) e = cc (written_fields_injective fs gs (cc) (cc), flag_once m n (cc))
   written_is (union vs m) (union ws n) e = cc (variants_is vs ws (cc) (cc) (cc), flag_once m n (cc))
   written_is (variant m) (variant n) e = cc (flag_once m n (cc))
   written_is (extension i b x) (extension j c y) e = cc (written_is x y (cc))
   written_is _ _ e = cc
 
-  fields_is : (fs gs : Fields) → written_names fs ≡ written_names gs → written_fields fs ≡ written_fields gs → fs ≡ gs
-  fields_is no_fields no_fields e f = refl
-  fields_is (field n x rest) (field o y others) e f = cc (written_is x y (cc), fields_is rest others (cc) (cc))
-  fields_is _ _ e f = cc
+  written_fields_injective : (fs gs : Fields) → written_names fs ≡ written_names gs → written_fields fs ≡ written_fields gs → fs ≡ gs
+  written_fields_injective no_fields no_fields e f = refl
+  written_fields_injective (field n x rest) (field o y others) e f = cc (written_is x y (cc), written_fields_injective rest others (cc) (cc))
+  written_fields_injective _ _ e f = cc
 
   variants_is : (vs ws : Variants) → written_variant_names vs ≡ written_variant_names ws → written_variants vs ≡ written_variants ws → written_tags vs ≡ written_tags ws → vs ≡ ws
   variants_is no_variants no_variants e f g = refl

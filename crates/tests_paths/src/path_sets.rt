@@ -103,11 +103,17 @@ fn holds(alloc: Global, set: &FieldPathSet, count: usize) -> VortexResult<bool> 
     Ok(set.contains(&elements(alloc, count)?))
 }
 
-// Names below one node with a common suffix.
-fn names_ending(alloc: Global, count: usize, ending: &str) -> VortexResult<Vec<String>> {
+// Names below one node, which differ in eight digits alone.
+fn names_around(
+    alloc: Global,
+    count: usize,
+    beginning: &str,
+    ending: &str,
+) -> VortexResult<Vec<String>> {
     let mut names = Vec::new(alloc);
     for i in 0..count {
-        names.push(format!(in alloc; "parent.{i}{ending}")?)?;
+        let digits = i.wrapping_add(10_000_000);
+        names.push(format!(in alloc; "parent.{beginning}{digits}{ending}")?)?;
     }
     Ok(names)
 }
@@ -121,13 +127,25 @@ fn is_set_of_first(alloc: Global, names: &[String], count: usize) -> VortexResul
     has_exactly_the_first(alloc, &set, names, count)
 }
 
-// More children than a hash map keeps. The longer names have their last seven bytes in common, by which a node tells
-// children apart before it compares their names.
+// More children than a hash map keeps without counting its buckets. Some names have their last seven bytes in common, by
+// which a node distinguishes children before it compares their names. The last two have colliding hashes, whatever the
+// digits are: FoldHasher multiplies them by the eight bytes before them, xor its state, and that is 0. Of so many a node
+// makes a tree.
+const ALIKE: [(&str, &str); 4] = [
+    ("", ""),
+    ("", "_of_the_columns"),
+    ("adversariaameokq79xv8tn0", ""),
+    ("adversariaaexrxazgxs6xz4", "_of_the_columns_"),
+];
+
 #[test]
-fn more_children_than_a_hash_map_keeps(rt: HostRuntime) -> Result<(), Fail> {
-    for ending in ["", "_of_the_columns"].iter() {
-        let names = names_ending(rt.alloc(), 1_110, ending)?;
-        assert!(rt; is_set_of_first(rt.alloc(), &names, 1_100)?, "{ending}");
+fn more_children_than_are_hashed_uncounted(rt: HostRuntime) -> Result<(), Fail> {
+    for (beginning, ending) in ALIKE.iter() {
+        let names = names_around(rt.alloc(), 1_210, beginning, ending)?;
+        assert!(rt;
+            is_set_of_first(rt.alloc(), &names, 1_200)?,
+            "{beginning} and {ending}"
+        );
     }
     Ok(())
 }

@@ -27,8 +27,13 @@ const EXTENDED: [(&str, &str); 3] = [
     ("b c d e f g h", "a"),
 ];
 
-// How many children the node has that gets one more. It keeps them in a list, a hash map or a tree.
+// How many children the node has that gets one more. It keeps them in a list or a hash map, whose buckets are counted in
+// the end.
 const CHILDREN: [u32; 6] = [1, 15, 16, 17, 1024, 1025];
+
+// The prefix and the suffix of names with colliding hashes, whatever eight digits are between them. A node that has 1,025 of
+// them makes a tree when it gets one more.
+const COLLIDING: (&str, &str) = ("adversariaaexrxazgxs6xz4", "_of_the_columns_");
 
 pub fn tell(rt: &(impl Print + Eprint), alloc: Global) -> Result<()> {
     for (inserted, old) in INSERTED.iter() {
@@ -40,9 +45,10 @@ pub fn tell(rt: &(impl Print + Eprint), alloc: Global) -> Result<()> {
         println!(rt; "no allocation: insert {known} into {{{old}}}: {told}")?;
     }
     for count in CHILDREN.iter() {
-        tell_beside(rt, alloc, *count, "")?;
-        tell_beside(rt, alloc, *count, "_of_the_columns")?;
+        tell_beside(rt, alloc, 0, *count, ("", ""))?;
+        tell_beside(rt, alloc, 0, *count, ("", "_of_the_columns"))?;
     }
+    tell_beside(rt, alloc, 10_000_000, 1025, COLLIDING)?;
     for (added, old) in EXTENDED.iter() {
         let told = extend(rt, alloc, set(alloc, old)?, paths(alloc, added)?)?;
         println!(rt; "extend {{{old}}} by {added}: {told}")?;
@@ -50,12 +56,19 @@ pub fn tell(rt: &(impl Print + Eprint), alloc: Global) -> Result<()> {
     Ok(())
 }
 
-fn tell_beside(rt: &(impl Print + Eprint), alloc: Global, count: u32, ending: &str) -> Result<()> {
-    let text = format!(in alloc; "a.x{ending}.y")?;
+fn tell_beside(
+    rt: &(impl Print + Eprint),
+    alloc: Global,
+    first: u32,
+    count: u32,
+    around: (&str, &str),
+) -> Result<()> {
+    let (beginning, ending) = around;
+    let text = format!(in alloc; "a.{beginning}x{ending}.y")?;
     let told = insert(
         rt,
         alloc,
-        numbered(alloc, count, ending)?,
+        numbered(alloc, first, count, around)?,
         path(alloc, text.as_str())?,
     )?;
     println!(rt; "insert {text} beside {count}: {told}")?;

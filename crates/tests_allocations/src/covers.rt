@@ -12,7 +12,7 @@ use std::alloc::Global;
 pub fn tell(rt: &(impl Print + Eprint), alloc: Global) -> Result<()> {
     let told = cover(rt, alloc, set(alloc, "a")?)?;
     println!(rt; "cover {{a}}: {told}")?;
-    let mut below = numbered(alloc, 1000, "")?;
+    let mut below = numbered(alloc, 0, 1000, ("", ""))?;
     below.insert(path(alloc, "a")?)?;
     let told = cover(rt, alloc, below)?;
     println!(rt; "cover {{a, a.0, .., a.999}}: {told}")?;

@@ -31,11 +31,18 @@ pub fn set(alloc: Global, text: &str) -> VortexResult<FieldPathSet> {
     FieldPathSet::from_iter(alloc, paths(alloc, text)?)
 }
 
-/// The set of so many numbered names below `a` with a common suffix.
-pub fn numbered(alloc: Global, count: u32, ending: &str) -> VortexResult<FieldPathSet> {
+/// The set of so many names below `a`, the numbers from `first` on with a common prefix and a common suffix.
+pub fn numbered(
+    alloc: Global,
+    first: u32,
+    count: u32,
+    around: (&str, &str),
+) -> VortexResult<FieldPathSet> {
     let mut set = FieldPathSet::new(alloc);
+    let (beginning, ending) = around;
     for i in 0..count {
-        let text = format!(in alloc; "a.{i}{ending}")?;
+        let number = first.wrapping_add(i);
+        let text = format!(in alloc; "a.{beginning}{number}{ending}")?;
         set.insert(path(alloc, text.as_str())?)?;
     }
     Ok(set)

@@ -5,8 +5,9 @@
 //! lines: for each case whose name begins with a line of standard input its name, and the nanoseconds of processor time
 //! of one operation, the least and the median of fifteen rounds.
 //!
-//! It leaves out `project_paths` and `project_by_hand`, which the original doesn't have, and the covers of large path
-//! sets, which it finds by comparing all paths.
+//! It leaves out `project_paths` and `project_by_hand`, which the original doesn't have, merges of extensions, which it
+//! has no door for, and the covers of large path sets, which it finds by comparing all paths. Other merges are done by
+//! hand, since it has no call for them.
 
 mod fixture;
 mod meter;

@@ -95,6 +95,7 @@ impl ChildMap {
     }
 
     // Lets the step lead to a node. After an error the children are unchanged.
+    #[inline(always)]
     fn put(&mut self, step: Field, node_index: usize) -> VortexResult<()>
         ensures leads { OnOk result ((f : Field) → lookup (same_field f) self.new
             ≡ (if same_field step f then Some node_index else lookup (same_field f) self.old)) }

@@ -29,7 +29,7 @@ pub use Rattle.dtype_paths.proofs.lemmas.PathsBelow.{stepping_into}
 pub use Rattle.dtype_paths.proofs.lemmas.Stepping.{stepping}
 pub use Rattle.dtype_paths.proofs.lemmas.Steps.{one_step}
 pub use Rattle.dtype_paths.proofs.lemmas.Unresolved.{missing_paths}
-pub use Rattle.dtype_projection.proofs.lemmas.Descending.{descending, opened_after}
+pub use Rattle.dtype_projection.proofs.lemmas.Descending.{descending, opened_after, opened_nowhere, opened_unasked}
 pub use Rattle.dtype_projection.proofs.lemmas.Projecting.{projecting}
 -- of vortex_dtype: sessions
 pub use Rattle.vortex_dtype.proofs.lemmas.Sessions.{sessions}

@@ -19,7 +19,7 @@ Item = namedtuple("Item", "kind name file text errors signature clauses derived 
 TYPE = re.compile(r"(?m)^pub (struct|enum|trait) (\w+)[^{;(]*")
 CONSTANT = re.compile(r"(?m)^( *)pub const (\w+): ([^=;]+)")
 MACRO = re.compile(r"(?m)^#\[macro_export\]\nmacro_rules! (\w+) ")
-PART = re.compile(r"(?m)^    (?:pub )?(?:const |type )?(\w+)(\([^\n]*\)|: [^\n;]*|(?=[,;]))[,;]?$")
+PART = re.compile(r"(?m)^    (?:pub )?(?:const |type )?(\w+)(\([^\n]*\)| \{ [^\n{}]* \}|: [^\n;]*|(?=[,;]))[,;]?$")
 ASSOCIATED = re.compile(r"(?m)^    ((?:const|type) \w+(?:: [^;=]*)?);")
 DERIVED = re.compile(r"#\[derive(?:_where)?\(([^)]*)\)\]")
 

@@ -249,9 +249,19 @@ pub fn names(alloc: Global, texts: &Vec<String>) -> BenchResult<Vec<FieldName>> 
 
 /// Returns a tenth of these names, shuffled.
 pub fn some_names(alloc: Global, texts: &Vec<String>) -> BenchResult<Vec<FieldName>> {
+    shuffled_names(alloc, texts, texts.len() / 10)
+}
+
+/// Returns these names, shuffled.
+pub fn all_names(alloc: Global, texts: &Vec<String>) -> BenchResult<Vec<FieldName>> {
+    shuffled_names(alloc, texts, texts.len())
+}
+
+// So many of these names, shuffled.
+fn shuffled_names(alloc: Global, texts: &Vec<String>, most: usize) -> BenchResult<Vec<FieldName>> {
     let count = texts.len();
     let mut names = Vec::new(alloc);
-    for i in 0..count / 10 {
+    for i in 0..most {
         let text = texts.get(mixed(i, count)).ok_or(BenchFault::Missing)?;
         names.push(FieldName::new(alloc, text.as_str())?)?;
     }

@@ -101,16 +101,18 @@ impl<'a> Operation for FindMixed<'a> {
     }
 }
 
-/// `project` of some names.
+/// `project` of names.
 #[derive(Drop)]
 pub struct Project<'a> {
+    /// The word that names the case.
+    pub what: &'static str,
     pub types: &'a Vec<DType>,
     pub names: Vec<FieldName>,
 }
 
 impl<'a> Operation for Project<'a> {
     fn name(&self) -> &'static str {
-        "project"
+        self.what
     }
 
     fn repeat(&mut self, alloc: Global, times: usize) -> BenchResult<usize> {

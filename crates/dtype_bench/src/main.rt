@@ -15,7 +15,7 @@
 use building::{BuildAndDrop, BuildAndFind, BuildOfNames, BuildOfTexts};
 use dtype_types::DType;
 use fault::BenchResult;
-use fixture::{Naming, Shape, Types, make_types, some_names, two_structs};
+use fixture::{Naming, Shape, Types, all_names, make_types, some_names, two_structs};
 use lookups::{Find, FindMixed, Place, Project};
 use meter::Meter;
 use on_messages::{ReadMessage, WriteMessage, messages};
@@ -92,7 +92,23 @@ fn measure_index<C: CpuClock, W: Write>(
     texts: &Vec<String>,
 ) -> BenchResult<()> {
     let names = some_names(meter.alloc, texts)?;
-    meter.measure(of, Project { types, names })?;
+    meter.measure(
+        of,
+        Project {
+            what: "project",
+            types,
+            names,
+        },
+    )?;
+    let names = all_names(meter.alloc, texts)?;
+    meter.measure(
+        of,
+        Project {
+            what: "project_all",
+            types,
+            names,
+        },
+    )?;
     let build = BuildOfNames::new(meter.alloc, texts);
     meter.measure(of, build)?;
     let build = BuildOfNames::new(meter.alloc, texts);
@@ -227,7 +243,7 @@ fn of_queries<C: CpuClock, W: Write>(meter: &mut Meter<'_, C, W>) -> BenchResult
 
 // Path sets of one shape.
 fn of_sets<C: CpuClock, W: Write>(meter: &mut Meter<'_, C, W>, shape: SetShape) -> BenchResult<()> {
-    for count in [1000, 100_000] {
+    for count in [100, 1000, 10_000, 100_000] {
         let set = path_set(meter.alloc, shape, count)?;
         let of = set.of.as_str();
         let from = FromPaths::new(meter.alloc, &set);

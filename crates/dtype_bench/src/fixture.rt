@@ -314,3 +314,22 @@ pub fn one_field(alloc: Global, dtype: DType, nullability: Nullability) -> Bench
     let fields = StructFields::from_iter(alloc, fields)?;
     Ok(DType::Struct(fields, nullability))
 }
+
+/// Returns a struct of the columns of a wide one, and in their midst a field `a`, which is the wide one itself.
+pub fn with_one_field(alloc: Global, wide: &DType) -> BenchResult<DType> {
+    let columns = wide.as_struct_fields_opt().ok_or(BenchFault::Missing)?;
+    let middle = columns.nfields() / 2;
+    let mut fields = Vec::with_capacity(alloc, columns.nfields().saturating_add(1))?;
+    for (i, (name, dtype)) in columns.pairs().enumerate() {
+        if i == middle {
+            let whole = FieldDType::from(wide.try_clone(alloc)?);
+            fields.push((FieldName::new(alloc, "a")?, whole))?;
+        }
+        fields.push((
+            name.try_clone(alloc)?,
+            FieldDType::from(dtype.try_clone(alloc)?),
+        ))?;
+    }
+    let fields = StructFields::from_iter(alloc, fields)?;
+    Ok(DType::Struct(fields, Nullability::NonNullable))
+}

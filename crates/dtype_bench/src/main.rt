@@ -230,7 +230,9 @@ fn of_queries<C: CpuClock, W: Write>(meter: &mut Meter<'_, C, W>) -> BenchResult
     let cases = [
         (Level::Top, 3, 1000),
         (Level::Top, 100, 10_000),
+        (Level::Top, 10_000, 10_000),
         (Level::Nested, 10, 1000),
+        (Level::Below, 100, 1000),
     ];
     for (level, asked, count) in cases {
         let query = make_query(meter.alloc, level, asked, count)?;

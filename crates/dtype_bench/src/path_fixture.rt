@@ -3,7 +3,7 @@
 
 // The paths and path sets that the cases work on.
 use crate::fault::BenchResult;
-use crate::fixture::{Shape, mixed, one_field};
+use crate::fixture::{Shape, mixed, one_field, with_one_field};
 use dtype_base::{FieldName, Nullability};
 use dtype_paths::{Field, FieldPath, FieldPathSet};
 use dtype_types::DType;
@@ -156,6 +156,8 @@ pub enum Level {
     Top,
     /// The table has one column, a wide struct.
     Nested,
+    /// Below one column of a wide table: that column is as wide as the table.
+    Below,
 }
 
 impl Level {
@@ -163,6 +165,7 @@ impl Level {
         match self {
             Level::Top => "top",
             Level::Nested => "nested",
+            Level::Below => "below",
         }
     }
 
@@ -171,13 +174,14 @@ impl Level {
         match self {
             Level::Top => Ok(wide),
             Level::Nested => one_field(alloc, wide, Nullability::NonNullable),
+            Level::Below => with_one_field(alloc, &wide),
         }
     }
 
     fn parent(self, alloc: Global) -> BenchResult<FieldPath> {
         let depth = match self {
             Level::Top => 0,
-            Level::Nested => 1,
+            Level::Nested | Level::Below => 1,
         };
         let steps = fields_named(alloc, depth)?;
         Ok(FieldPath::from_vec(steps))

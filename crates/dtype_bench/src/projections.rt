@@ -64,7 +64,7 @@ fn project_by_hand(alloc: Global, table: &DType, query: &Query) -> BenchResult<D
     let kept = DType::Struct(fields, parent.nullability());
     match query.level {
         Level::Top => Ok(kept),
-        Level::Nested => one_field(alloc, kept, Nullability::NonNullable),
+        Level::Nested | Level::Below => one_field(alloc, kept, Nullability::NonNullable),
     }
 }
 

@@ -21,8 +21,8 @@ use meter::Meter;
 use on_messages::{ReadMessage, WriteMessage, messages};
 use on_sets::{Contains, CopiedSet, Cover, FromPaths};
 use on_types::{
-    Copied, ElementSize, Empty, Equal, EqualIgnoring, Hashed, Merged, MergedEqual, Resolve, Text,
-    WithNullability,
+    Copied, ElementSize, Empty, Equal, EqualIgnoring, Hashed, Merged, MergedEqual, MergedOne,
+    Resolve, Text, WithNullability,
 };
 use path_fixture::{
     Level, SetShape, make_query, path_set, two_column_paths, two_deep_paths, two_element_paths,
@@ -56,6 +56,7 @@ fn measure_types<C: CpuClock, W: Write>(
     meter.measure(of, Copied(types))?;
     meter.measure(of, Merged(types))?;
     meter.measure(of, MergedEqual(types))?;
+    meter.measure(of, MergedOne::new(meter.alloc, types)?)?;
     meter.measure(of, WithNullability(types))?;
     meter.measure(of, Text(&types.types))
 }

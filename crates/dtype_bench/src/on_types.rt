@@ -111,6 +111,39 @@ impl<'a> Operation for MergedEqual<'a> {
     }
 }
 
+/// `merge_nullability`, of types that were built separately and differ in the nullability of the whole alone.
+#[derive(Drop)]
+pub struct MergedOne<'a> {
+    types: &'a Types,
+    nullables: Vec<DType>,
+}
+
+impl<'a> MergedOne<'a> {
+    pub fn new(alloc: Global, types: &'a Types) -> BenchResult<Self> {
+        let mut nullables = Vec::with_capacity(alloc, types.sames.len())?;
+        for same in types.sames.iter() {
+            nullables.push(same.as_nullable(alloc)?)?;
+        }
+        Ok(MergedOne { types, nullables })
+    }
+}
+
+impl<'a> Operation for MergedOne<'a> {
+    fn name(&self) -> &'static str {
+        "merge_one"
+    }
+
+    fn repeat(&mut self, alloc: Global, times: usize) -> BenchResult<usize> {
+        let mut sum = 0usize;
+        for i in 0..times {
+            let dtype = turn(&self.types.types, i)?;
+            let merged = merge_nullability(alloc, dtype, turn(&self.nullables, i)?)?;
+            sum = sum.wrapping_add(usize::from(merged.is_some()));
+        }
+        Ok(sum)
+    }
+}
+
 /// `element_size`.
 #[derive(Drop)]
 pub struct ElementSize<'a>(pub &'a Types);

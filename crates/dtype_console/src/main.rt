@@ -1,7 +1,7 @@
 // SPDX-License-Identifier: Apache-2.0
 // SPDX-FileCopyrightText: Copyright the Vortex contributors
 
-//! A program that makes any call of the library on values that are written as text: each line of standard input is a
+//! A program that makes calls of the library on values that are written as text: each line of standard input is a
 //! command and its arguments, and is answered by a line.
 //!
 //! Begin with `console.rt`, which answers a line. The tables of the commands are in `console_core`, and what answers

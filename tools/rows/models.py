@@ -11,18 +11,21 @@ from .trees import ELEMENT, Words, type_words
 USIZE_MAX = 2**64 - 1
 
 
+def within(it, several):
+    """What a type or a message is made of; `several` gives it of a struct or a union."""
+    kind = it[0]
+    if kind == "list":
+        return [it[2]]
+    if kind in ("fsl", "ext"):
+        return [it[3]]
+    if kind == "map":
+        return [it[3], it[4]]
+    return list(several(it)) if kind in ("struct", "union") else []
+
+
 def parts(t):
     """The types that a type is made of."""
-    kind = t[0]
-    if kind == "list":
-        return [t[2]]
-    if kind in ("fsl", "ext"):
-        return [t[3]]
-    if kind == "map":
-        return [t[3], t[4]]
-    if kind in ("struct", "union"):
-        return [child[-1] for child in t[2]]
-    return []
+    return within(t, lambda it: (child[-1] for child in it[2]))
 
 
 def is_subset(o, a, b):
@@ -139,14 +142,7 @@ def has_departing_fault(m):
 
 def children(m):
     """The messages within a message, as they are read."""
-    kind = m[0]
-    if kind == "list":
-        return [m[2]]
-    if kind in ("fsl", "ext"):
-        return [m[3]]
-    if kind == "map":
-        return [m[3], m[4]]
-    return list(m[3]) if kind in ("struct", "union") else []
+    return within(m, lambda it: it[3])
 
 
 def check_message(o, session, m):

@@ -19,7 +19,7 @@ FAILED_LINES = Counter({
      "Err ( VortexError :: OutOfMemory ) => Err ( VortexError :: OutOfMemory ) ,"): 1,
 })
 # The functions that may name the greatest number of a machine word: as a mask, and as the answer.
-GREATEST = {("dtype_base/src/indexed_names.rt", "comparison_of"), ("dtype_base/src/ptype.rt", "PType::max_value_as_u64")}
+GREATEST = {("dtype_base/src/name_search.rt", "comparison_of"), ("dtype_base/src/ptype.rt", "PType::max_value_as_u64")}
 CAPACITY = {"with_capacity", "reserve", "reserve_exact", "try_reserve", "try_reserve_exact", "resize", "from_elem"}
 MOST_CAPACITY = 16
 
@@ -31,7 +31,10 @@ FLAGS = {
 }
 
 # The files from a lookup's call to its search; the calls that take names and read none; the names of what holds them.
-LOOKUP = ["dtype_types/src/struct_fields.rt", "dtype_types/src/named.rt", "dtype_base/src/indexed_names.rt"]
+LOOKUP = [
+    "dtype_types/src/struct_fields.rt", "dtype_types/src/named.rt",
+    "dtype_base/src/indexed_names.rt", "dtype_base/src/name_search.rt",
+]
 COUNTS = {"is_empty", "len", "as_slice"}
 HOLD_NAMES = {"names", "places", "entries"}
 

@@ -23,6 +23,7 @@ mod indexed_names;
 pub mod laws;
 mod name_key;
 mod name_order;
+mod name_search;
 mod nullability;
 mod ptype;
 mod vortex_error;

@@ -1,61 +1,16 @@
 // SPDX-License-Identifier: Apache-2.0
 // SPDX-FileCopyrightText: Copyright the Vortex contributors
 
-// The common prefix of names, and the keys of an index: numbers of sixteen bytes that distinguish most names.
+// The keys of an index: numbers of sixteen bytes that distinguish most names; and how prefixes of names compare.
 ghost use Rattle.std.specs.Prelude.{◌≡◌, ◌↔◌, ◌*◌, ◌<◌, ◌≤◌, ◌^◌, IsTrue, length, take, drop, slice_index};
 ghost use Rattle.dtype_base.specs.Bytes.{Bytes};
-ghost use Rattle.dtype_base.specs.private.NameKeys.{big_endian, hash_of, key_of, key_prefix, mixed, sort_key, HaveCommonPrefix};
-
-use crate::FieldName;
+ghost use Rattle.dtype_base.specs.private.NameKeys.{big_endian, hash_of, key_of, key_prefix, mixed, sort_key};
 
 // Splits a sort key: the quotient by this is its first eight bytes, the remainder its last eight.
 pub(crate) const TWO_POW_64: u128 = 0x1_0000_0000_0000_0000;
 
 // What a hash multiplies by: 2^64 divided by the golden ratio.
 const MULTIPLIER: u128 = 0x9E37_79B9_7F4A_7C15;
-
-// The length of the names' common prefix, in bytes.
-pub(crate) fn common_prefix_len(names: &[FieldName]) -> usize
-    ensures { HaveCommonPrefix names.now result }
-{
-    let Some(first) = names.first() else {
-        return 0;
-    };
-    let first = first.as_str().as_bytes();
-    let mut prefix_len = first.len();
-    for name in names {
-        prefix_len = matching_len(name.as_str().as_bytes(), first, prefix_len);
-    }
-    prefix_len
-}
-
-// The length of the common prefix of the first and the last name: mostly that of all.
-pub(crate) fn guess_common_prefix(names: &[FieldName]) -> usize {
-    match (names.first(), names.last()) {
-        (Some(first), Some(last)) => {
-            let first = first.as_str().as_bytes();
-            matching_len(last.as_str().as_bytes(), first, first.len())
-        }
-        _ => 0,
-    }
-}
-
-// The length of the common prefix of two texts, at most `most` bytes.
-pub(crate) fn matching_len(a: &[u8], b: &[u8], most: usize) -> usize
-    ensures most { result ≤ most }
-    ensures same { take result a.now ≡ take result b.now }
-{
-    if eq_prefix(a, b, most) {
-        return most;
-    }
-    let end = most.min(a.len()).min(b.len());
-    for i in 0..end {
-        if a[i] != b[i] {
-            return i;
-        }
-    }
-    end
-}
 
 // Whether the first `count` bytes of two texts are equal, or all of a shorter text. Up to eight bytes are compared at once,
 // where both texts have eight.

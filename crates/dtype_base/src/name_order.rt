@@ -1,8 +1,9 @@
 // SPDX-License-Identifier: Apache-2.0
 // SPDX-FileCopyrightText: Copyright the Vortex contributors
 
-// The index of a name list: an entry for each position, sorted by the keys of the names there, then by the names.
-ghost use Rattle.std.specs.Prelude.{◌≡◌, ◌≢◌, ◌↔◌, ◌<◌, ◌≤◌, ◌^◌, ◌%◌, false, All, IsTrue, IfOk, IsOkUnless, OnOk, length, map};
+// The index of a name list: an entry for each position, sorted by the keys of the names there, then by the names; and the
+// common prefix of the names, after which most keys are taken.
+ghost use Rattle.std.specs.Prelude.{◌≡◌, ◌≢◌, ◌↔◌, ◌<◌, ◌≤◌, ◌^◌, ◌%◌, false, All, IsTrue, IfOk, IsOkUnless, OnOk, length, map, take};
 ghost use Rattle.std.specs.List.{range_with_len};
 ghost use Rattle.std.specs.List.Sorted.{IsPermutation, IsSorted};
 ghost use Rattle.dtype_base.specs.Errors.{Makes};
@@ -14,9 +15,7 @@ ghost use Rattle.dtype_base.specs.declared.name_key.Keying.TheVariants.{AfterPre
 ghost use Rattle.dtype_base.specs.declared.name_order.Discriminator.TheVariants.{Text};
 ghost use Rattle.dtype_base.specs.declared.vortex_error.VortexError.TheVariants.{OutOfMemory};
 
-use crate::name_key::{
-    Keying, common_prefix_len, eq_prefix, guess_common_prefix, hash_key, key_prefix, sort_key,
-};
+use crate::name_key::{Keying, eq_prefix, hash_key, key_prefix, sort_key};
 use crate::{FieldName, VortexResult};
 use std::alloc::Global;
 use std::cmp::Ordering;
@@ -144,6 +143,49 @@ fn entries_after_prefix(
         entries.push_reserved(IndexEntry { key, position });
     }
     Ok(entries)
+}
+
+// The length of the names' common prefix, in bytes.
+fn common_prefix_len(names: &[FieldName]) -> usize
+    ensures { HaveCommonPrefix names.now result }
+{
+    let Some(first) = names.first() else {
+        return 0;
+    };
+    let first = first.as_str().as_bytes();
+    let mut prefix_len = first.len();
+    for name in names {
+        prefix_len = matching_len(name.as_str().as_bytes(), first, prefix_len);
+    }
+    prefix_len
+}
+
+// The length of the common prefix of the first and the last name: mostly that of all.
+fn guess_common_prefix(names: &[FieldName]) -> usize {
+    match (names.first(), names.last()) {
+        (Some(first), Some(last)) => {
+            let first = first.as_str().as_bytes();
+            matching_len(last.as_str().as_bytes(), first, first.len())
+        }
+        _ => 0,
+    }
+}
+
+// The length of the common prefix of two texts, at most `most` bytes.
+fn matching_len(a: &[u8], b: &[u8], most: usize) -> usize
+    ensures most { result ≤ most }
+    ensures same { take result a.now ≡ take result b.now }
+{
+    if eq_prefix(a, b, most) {
+        return most;
+    }
+    let end = most.min(a.len()).min(b.len());
+    for i in 0..end {
+        if a[i] != b[i] {
+            return i;
+        }
+    }
+    end
 }
 
 // Sorts entries by key, which is branch-free, and by text only where two keys are equal. Returns what distinguishes the

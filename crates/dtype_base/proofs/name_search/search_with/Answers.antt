@@ -12,7 +12,7 @@ use Rattle.dtype_base.specs.Comparisons.{comparisons}
 use Rattle.dtype_base.specs.private.NameOrder.{name_cmp, positions}
 use Rattle.dtype_base.proofs.NameSearch.{Searching, as_many, as_many_positions, position_at, no_entry, steps, ends, counts}
 use Rattle.dtype_base.proofs.KeyOrder.{decided, same_decided}
-use Rattle.dtype_base.proofs.indexed_names.search_with.Goals as goal
+use Rattle.dtype_base.proofs.name_search.search_with.Goals as goal
 
 pub returns-then-is_empty-clause-place : goal.returns-then-is_empty-clause-place
 returns-then-is_empty-clause-place c =

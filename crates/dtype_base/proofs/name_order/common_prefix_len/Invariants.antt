@@ -2,7 +2,7 @@
 -- SPDX-FileCopyrightText: Copyright the Vortex contributors
 
 use Rattle.std.proofs.Common.{◌≡◌, ℕ, ◌<◌, take, get_or, []}
-use Rattle.dtype_base.proofs.name_key.common_prefix_len.Given as goal
+use Rattle.dtype_base.proofs.name_order.common_prefix_len.Given as goal
 
 -- the names so far share the first name's prefix
 abbrev pub invariant-loop-name : goal.invariant-loop-name

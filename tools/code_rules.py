@@ -19,7 +19,7 @@ FAILED_LINES = Counter({
      "Err ( VortexError :: OutOfMemory ) => Err ( VortexError :: OutOfMemory ) ,"): 1,
 })
 # The functions that may name the greatest number of a machine word: as a mask, and as the answer.
-GREATEST = {("dtype_base/src/name_search.rt", "comparison_of"), ("dtype_base/src/ptype.rt", "PType::max_value_as_u64")}
+GREATEST = {("dtype_base/src/name_search.rt", "mask_of"), ("dtype_base/src/ptype.rt", "PType::max_value_as_u64")}
 CAPACITY = {"with_capacity", "reserve", "reserve_exact", "try_reserve", "try_reserve_exact", "resize", "from_elem"}
 MOST_CAPACITY = 16
 

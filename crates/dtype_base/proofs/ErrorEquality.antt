@@ -9,6 +9,7 @@ use Rattle.std.specs.Cmp.{unsigned_Decides, signed_Decides}
 use Rattle.std.proofs.Common.{refl, ap, sym, rules}
 use Rattle.std.proofs.lemmas.Bool.{false≢true}
 use Rattle.std.proofs.lemmas.Bool.Decides.{Decides-and, Decides-like}
+use Rattle.dtype_base.specs.Errors.{number_of}
 use Rattle.dtype_base.specs.declared.ptype.PType.{PType}
 use Rattle.dtype_base.specs.declared.vortex_error.VortexError.{VortexError}
 use Rattle.dtype_base.specs.declared.vortex_error.VortexError.TheVariants.{OutOfMemory, PrecisionZero, PrecisionTooLarge, ScaleTooLarge, ScaleAbovePrecision, NotDecimal, NotPrimitive, NotDecimalPType, BytesLength, MapKeyNullable, UnionTypesLength, UnionTagsLength, UnionEmpty, UnionTagsRepeat, UnionTooMany, UnionNamesRepeat, FieldNotFound, IndexOutOfBounds, DuplicateNames, WidthOverflow, ExactRoot, AllMask, MetadataRefused, ExtensionIdDiffers, Message}
@@ -26,33 +27,10 @@ faults_Decides a b = search rules
 ptypes_Decides : (a b : PType) → Decides (ptype_eq.ghosts.eq a b) (a ≡ b)
 ptypes_Decides a b = search rules
 
--- a number for each kind
+-- a number for each kind: that of the error, and one for all messages
 kind_number : VortexError → ℕ
-kind_number OutOfMemory = 0
-kind_number (PrecisionZero m) = 1
-kind_number (PrecisionTooLarge p m) = 2
-kind_number (ScaleTooLarge s m) = 3
-kind_number (ScaleAbovePrecision s p) = 4
-kind_number NotDecimal = 5
-kind_number NotPrimitive = 6
-kind_number (NotDecimalPType p) = 7
-kind_number BytesLength = 8
-kind_number MapKeyNullable = 9
-kind_number UnionTypesLength = 10
-kind_number UnionTagsLength = 11
-kind_number UnionEmpty = 12
-kind_number UnionTagsRepeat = 13
-kind_number UnionTooMany = 14
-kind_number UnionNamesRepeat = 15
-kind_number (FieldNotFound i) = 16
-kind_number (IndexOutOfBounds i n) = 17
-kind_number DuplicateNames = 18
-kind_number WidthOverflow = 19
-kind_number ExactRoot = 20
-kind_number AllMask = 21
-kind_number MetadataRefused = 22
-kind_number ExtensionIdDiffers = 23
 kind_number (Message f) = 24
+kind_number e = number_of e
 
 pub errors_Decides : (a b : VortexError) → Decides (error_eq.ghosts.eq a b) (a ≡ b)
 unfolding kind_number

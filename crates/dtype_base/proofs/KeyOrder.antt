@@ -2,7 +2,7 @@
 -- SPDX-FileCopyrightText: Copyright the Vortex contributors
 
 -- The keys of names, and the index sorted by them; names that share a prefix are equal where keys that hold them whole are.
-use Rattle.std.proofs.Common.{◌%◌, mod-eq_of_lt, ◌≡◌, ◌≢◌, ℕ, zero, suc, min, ◌+◌, ◌-◌, ◌*◌, ◌<◌, ◌≤◌, ◌^◌, List, [], ◌∷◌, ◌++◌, length, get_or, take, drop, Some, Bool, true, false, IsTrue, ◌↔◌, ◌/◌, refl, sym, ap, subst, subst₂, ◌∙◌, inl, inr, arith, pow-suc, mul-le-mul_right, add-mul}
+use Rattle.std.proofs.Common.{◌%◌, mod-eq_of_lt, ◌≡◌, ◌≢◌, ℕ, zero, suc, ◌+◌, ◌-◌, ◌*◌, ◌<◌, ◌≤◌, ◌^◌, List, [], ◌∷◌, ◌++◌, length, get_or, take, drop, Some, Bool, true, false, IsTrue, ◌↔◌, ◌/◌, refl, sym, ap, subst, subst₂, ◌∙◌, inl, inr, arith, pow-suc, add-mul}
 use Rattle.std.specs.Prelude.{slice_get}
 use Rattle.std.proofs.Math.Nat.{add-mul-mod_self_right, mul_assoc}
 use Rattle.std.proofs.lemmas.Nat.{div-mul-add, pow-add}
@@ -11,23 +11,23 @@ use Rattle.std.specs.List.Sorted.{IsPermutation, IsSorted}
 use Rattle.std.specs.Int.{w64, from_be_bytes}
 use Rattle.std.specs.declared.cmp.Ordering.TheVariants.{Less, Equal, Greater}
 use Rattle.std.specs.declared.cmp.Ordering.{Ordering}
-use Rattle.std.specs.Ordering.{is_lt, ordering_index, ordering_then, nat_cmp, MatchOrdering}
-use Rattle.std.specs.Cmp.{IsTotalOrder, then_total, on_total, nat_cmp_is, nat_cmp_total, ranked, tied_itself}
-use Rattle.std.specs.Cmp.Lexicographic.{slice_cmp, nat_list_cmp_total}
+use Rattle.std.specs.Ordering.{is_lt, ordering_index, ordering_then, nat_cmp}
+use Rattle.std.specs.Cmp.{IsTotalOrder, then_total, on_total, nat_cmp_is, nat_cmp_total}
 use Rattle.std.proofs.lemmas.Bool.{cases_lt, cases_order, false≢true}
-use Rattle.std.proofs.lemmas.List.{get_or-map, get_or-take, get_or-drop, get_or_past, map-append, drop-drop, drop_all, length-drop, take_more_same}
-use Rattle.std.proofs.lemmas.List.Elements.{All-tail, All-drop}
+use Rattle.std.proofs.lemmas.List.{get_or-map, get_or-take, get_or-drop, get_or_past, map-append, drop-drop, length-drop, length-take-le, take-append-drop}
+use Rattle.std.proofs.lemmas.Grind.{same_number_lists}
+use Rattle.std.proofs.lemmas.List.Elements.{All-drop}
 use Rattle.std.proofs.lemmas.List.Sorted.{All-permutation, IsPermutation-map, IsNonDecreasingBy-from_all_adjacent}
-use Rattle.std.proofs.lemmas.Option.{slice_get-get_or, slice_get_within, get_or_from_slice_get}
+use Rattle.std.proofs.lemmas.Option.{slice_get-get_or, get_or_from_slice_get}
 use Rattle.dtype_base.specs.Bytes.{Bytes}
-use Rattle.dtype_base.specs.private.NameKeys.{big_endian, hash_of, key_of, key_prefix, mixed, sort_key, words_hash, HaveCommonPrefix}
-use Rattle.dtype_base.specs.private.NameOrder.{AreDistinguishedBy, IsFinal, IsIndexOf, IsKeyed, IsKeyingOf, IsOrderOf, bytes_cmp, key_or, keyed_position_cmp, name_cmp, position_cmp, entry_cmp, entry_name_cmp, positions}
+use Rattle.dtype_base.specs.private.NameKeys.{big_endian, hash_of, key_of, key_prefix, mixed, sort_key, words_hash}
+use Rattle.dtype_base.specs.private.NameOrder.{AreDistinguishedBy, IsFinal, IsIndexOf, IsKeyed, IsOrderOf, IsSame, bytes_cmp, key_or, keyed_position_cmp, name_cmp, position_cmp, entry_cmp, entry_name_cmp, positions}
 use Rattle.dtype_base.specs.declared.name_key.Keying.{Keying}
 use Rattle.dtype_base.specs.declared.name_key.Keying.TheVariants.{AfterPrefix, Hashed}
 use Rattle.dtype_base.specs.declared.name_order.IndexEntry.{IndexEntry}
 use Rattle.dtype_base.specs.declared.name_order.Discriminator.{Discriminator}
 use Rattle.dtype_base.specs.declared.name_order.Discriminator.TheVariants.{KeyPrefix, Key, Text}
-use Rattle.dtype_base.proofs.NameSearch.{Occurs, as_many_positions, at_least_equal, at_most_equal, position_at, counted_more, equal_is, no_entry, placed, itself, names_ranked, position_total, second_equal}
+use Rattle.dtype_base.proofs.NameSearch.{Occurs, as_many_positions, at_least_equal, at_most_equal, position_at, counted_more, equal_is, no_entry, placed, itself, names_ranked, position_total}
 
 -- ---- the first bytes of a text, as a number
 
@@ -46,123 +46,47 @@ unfolding big_endian
 of_none zero bs e = refl
 of_none (suc k) bs e = omega (arith, of_none k bs e, get_or_past bs k 0 (omega (arith, e)))
 
--- the first byte apart
-first_byte : (k b : ℕ) (bs : List ℕ) → big_endian (suc k) (b ∷ bs) ≡ b * 256 ^ k + big_endian k bs
+-- texts with one number of their first k bytes have the same first k bytes
+same_bytes : (k i : ℕ) (xs ys : List ℕ) → Bytes xs → Bytes ys → big_endian k xs ≡ big_endian k ys → i < k → get_or xs i 0 ≡ get_or ys i 0
 unfolding big_endian
-first_byte zero b bs = omega arith
-first_byte (suc k) b bs = omega (arith, first_byte k b bs, ap (λ p. b * p) (pow-suc 256 k), mul_assoc b (256 ^ k) 256)
+same_bytes zero i xs ys a b e l = absurd (omega (arith, l))
+same_bytes (suc k) i xs ys a b e l =
+    let last : get_or xs k 0 ≡ get_or ys k 0 = omega (arith, e, byte_below k xs a, byte_below k ys b) in
+    elim (cases_lt i k) [
+      | inl sooner ↦ same_bytes k i xs ys a b (omega (arith, e, last)) sooner
+      | inr later ↦ subst (λ j. get_or xs j 0 ≡ get_or ys j 0) (omega (arith, l, later)) last
+    ]
 
 -- ---- keys of texts
 
--- the first k bytes as a number, and in one byte more how many bytes the text has, k + 1 where more than k
-text_key : ℕ → List ℕ → ℕ
-text_key k bs = big_endian k bs * 256 + min (length bs) (suc k)
-
--- the text with the lower first byte has the lower key
-lower_first : (k x y : ℕ) (xs ys : List ℕ) → k < 255 → Bytes xs → x < y → text_key (suc k) (x ∷ xs) < text_key (suc k) (y ∷ ys)
-unfolding text_key
-lower_first k x y xs ys few a lower =
-    let whole : (x + 1) * 256 ^ k ≤ y * 256 ^ k = mul-le-mul_right (256 ^ k) (omega (arith, lower)) in
-    omega (arith, high_bound k xs a, whole, add-mul x 1 (256 ^ k), first_byte k x xs, first_byte k y ys)
-
-cmp_add : (n a b c d : ℕ) → c ≡ n + a → d ≡ n + b → nat_cmp a b ≡ nat_cmp c d
-cmp_add n a b c d e f = elim (cases_order a b) [
-  | inl same ↦ sym (nat_cmp_is a b Equal same) ∙ nat_cmp_is c d Equal (omega (arith, e, f, same))
-  | inr (inl lower) ↦ sym (nat_cmp_is a b Less lower) ∙ nat_cmp_is c d Less (omega (arith, e, f, lower))
-  | inr (inr higher) ↦ sym (nat_cmp_is a b Greater higher) ∙ nat_cmp_is c d Greater (omega (arith, e, f, higher))
-]
-
-then_is : (a b : ℕ) (r s : Ordering) → MatchOrdering r (a < b) (a ≡ b) (b < a) → ordering_then r s ≡ ordering_then (nat_cmp a b) s
-then_is a b r s h = ap (λ o. ordering_then o s) (nat_cmp_is a b r h)
-
--- texts compare as their keys do, and where these are equal, as what follows the first k bytes
-by_key : (k : ℕ) (xs ys : List ℕ) → k < 255 → Bytes xs → Bytes ys
-    → slice_cmp nat_cmp xs ys ≡ ordering_then (nat_cmp (text_key k xs) (text_key k ys)) (slice_cmp nat_cmp (drop k xs) (drop k ys))
-unfolding text_key big_endian
-by_key k [] [] few a b = sym (tied_itself nat_list_cmp_total (drop k [])) ∙ then_is (text_key k []) (text_key k []) Equal _ refl
-by_key k [] (y ∷ ys) few a b = then_is (text_key k []) (text_key k (y ∷ ys)) Less _ (omega (arith, of_none k [] refl))
-by_key k (x ∷ xs) [] few a b = then_is (text_key k (x ∷ xs)) (text_key k []) Greater _ (omega (arith, of_none k [] refl))
-by_key zero (x ∷ xs) (y ∷ ys) few a b = then_is (text_key zero (x ∷ xs)) (text_key zero (y ∷ ys)) Equal _ (omega arith)
-by_key (suc k) (x ∷ xs) (y ∷ ys) few a b =
-    let c = All-tail (λ z. z < 256) x xs a in
-    let d = All-tail (λ z. z < 256) y ys b in
-    let less : k < 255 = omega (arith, few) in
-    elim (cases_order x y) [
-      | inl same ↦
-          let more = x * 256 ^ k * 256 + 1 in
-          sym (then_is x y Equal _ same) ∙ by_key k xs ys less c d
-          ∙ ap (λ r. ordering_then r (slice_cmp nat_cmp (drop k xs) (drop k ys)))
-          (cmp_add more (text_key k xs) (text_key k ys) (text_key (suc k) (x ∷ xs)) (text_key (suc k) (y ∷ ys)) (omega (arith, first_byte k x xs)) (omega (arith, first_byte k y ys, ap (λ z. z * 256 ^ k) same)))
-      | inr (inl lower) ↦ sym (then_is x y Less _ lower) ∙ then_is (text_key (suc k) (x ∷ xs)) (text_key (suc k) (y ∷ ys)) Less _ (lower_first k x y xs ys less c lower)
-      | inr (inr higher) ↦ sym (then_is x y Greater _ higher) ∙ then_is (text_key (suc k) (x ∷ xs)) (text_key (suc k) (y ∷ ys)) Greater _ (lower_first k y x ys xs less d higher)
-    ]
-
--- texts with a common prefix compare as what follows it
-after_prefix : (s : ℕ) (xs ys : List ℕ) → take s xs ≡ take s ys → slice_cmp nat_cmp xs ys ≡ slice_cmp nat_cmp (drop s xs) (drop s ys)
-after_prefix zero xs ys e = refl
-after_prefix (suc s) [] [] e = refl
-after_prefix (suc s) (x ∷ xs) (y ∷ ys) e =
-    let same : x ≡ y = cc in
-    let rest : take s xs ≡ take s ys = cc in
-    ap (λ r. ordering_then r (slice_cmp nat_cmp xs ys)) (sym (nat_cmp_is x y Equal same)) ∙ after_prefix s xs ys rest
-after_prefix _ _ _ e = cc
-
--- nothing follows what a key holds whole
-held : (s key : ℕ) (n : List ℕ) → key ≡ sort_key s n → key % 256 < 16 → drop 15 (drop s n) ≡ []
+-- texts with the same first s bytes are the same where they have one key that holds all that follows these
+same_text : (s key : ℕ) (xs ys : List ℕ) → Bytes xs → Bytes ys → key ≡ sort_key s xs → key ≡ sort_key s ys → key % 256 < 16 → take s xs ≡ take s ys → xs ≡ ys
 unfolding sort_key
-held s key n is whole = drop_all 15 (drop s n) (omega (arith, is, whole))
+same_text s key xs ys a b is_x is_y whole begin =
+    let numbers : big_endian 15 (drop s xs) ≡ big_endian 15 (drop s ys) = omega (arith, is_x, is_y) in
+    let rest = same_number_lists (drop s xs) (drop s ys) (omega (arith, is_x, is_y, whole)) (λ i l.
+    same_bytes 15 i (drop s xs) (drop s ys) (All-drop (λ z. z < 256) s xs a) (All-drop (λ z. z < 256) s ys b) numbers (omega (arith, l, is_x, whole))) in
+    sym (take-append-drop s xs) ∙ (λ i. begin i ++ rest i) ∙ take-append-drop s ys
+
+-- what the last comparison compares is the same exactly where the names are
+same_name : (keying : Keying) (names : List (List ℕ)) (p : IndexEntry) (n : List ℕ) (key : ℕ) (by : Discriminator) (prefix_len : ℕ) → IsFinal keying key by prefix_len → IsKeyed names keying p → Bytes n
+    → key ≡ key_of keying n → IsSame names n key by prefix_len p ↔ (get_or names p.position [] ≡ n)
+same_name keying names p n key KeyPrefix prefix_len final h bytes is = absurd final
+same_name (AfterPrefix s) names p n key Key prefix_len final h bytes is =
+    let e : s ≡ prefix_len = cc (final.0) in (
+      λ same. same_text s key (get_or names p.position []) n h.bytes bytes (sym same.0 ∙ h.key) is final.1 (subst (λ j. take j (get_or names p.position []) ≡ take j n) (sym e) same.1),
+      λ name. (h.key ∙ ap (sort_key s) name ∙ sym is, ap (take prefix_len) name),
+    )
+same_name Hashed names p n key Key prefix_len final h bytes is = cc (final.0)
+same_name keying names p n key Text prefix_len final h bytes is = (λ same. same.1, λ name. (ap key_prefix (h.key ∙ ap (key_of keying) name ∙ sym is), name))
 
 -- ---- entries
-
-then_equal : (r s : Ordering) → (r ≡ Equal → s ≡ Equal) → ordering_then r s ≡ r
-then_equal Less s e = refl
-then_equal Equal s e = e refl
-then_equal Greater s e = refl
 
 -- of numbers of which each is below the next, each is below all after it
 far : (f : IndexEntry → ℕ) (entries : List IndexEntry) → AllAdjacentBelow (λ p q. f p < f q) entries (length entries) → (j k : ℕ) (d : IndexEntry) → j < k
     → k < length entries → f (get_or entries j d) < f (get_or entries k d)
 far f entries increase j k d l within =
     omega (arith, increase j d (omega (arith, l, within)), IsNonDecreasingBy-from_all_adjacent f entries (λ i e b. omega (arith, increase i e b)) (j + 1) k d (omega (arith, l)) within)
-
-module _ (names : List (List ℕ)) (prefix_len : ℕ) where
-  -- an entry's name compares to a name with the same prefix as their keys do, and where these are equal, as what follows
-  name_by_key : (p : IndexEntry) (n : List ℕ) (key : ℕ) → IsKeyed names (AfterPrefix prefix_len) p → Bytes n → key ≡ sort_key prefix_len n
-      → take prefix_len (get_or names p.position []) ≡ take prefix_len n
-      → bytes_cmp (slice_get names p.position) (Some n) ≡ ordering_then (nat_cmp p.key key) (slice_cmp nat_cmp (drop 15 (drop prefix_len (get_or names p.position []))) (drop 15 (drop prefix_len n)))
-  unfolding sort_key text_key
-  name_by_key p n key h bytes is begin =
-      let m = get_or names p.position [] in
-      ap (λ o. bytes_cmp o (Some n)) (slice_get-get_or names p.position [] h.within)
-      ∙ after_prefix prefix_len m n begin
-      ∙ by_key 15 (drop prefix_len m) (drop prefix_len n) (omega arith) (All-drop (λ b. b < 256) prefix_len m h.bytes) (All-drop (λ b. b < 256) prefix_len n bytes)
-      ∙ (λ i. ordering_then (nat_cmp (sym h.key i) (sym is i)) (slice_cmp nat_cmp (drop 15 (drop prefix_len m)) (drop 15 (drop prefix_len n))))
-
-  -- a key that holds all that follows the prefix compares a name with those that have its prefix
-  key_decides : (p : IndexEntry) (n : List ℕ) (key : ℕ) → key % 256 < 16 → IsKeyed names (AfterPrefix prefix_len) p → Bytes n → key ≡ sort_key prefix_len n
-      → take prefix_len (get_or names p.position []) ≡ take prefix_len n → nat_cmp p.key key ≡ bytes_cmp (slice_get names p.position) (Some n)
-  key_decides p n key all h bytes is begin =
-      sym (name_by_key p n key h bytes is begin ∙ then_equal (nat_cmp p.key key) _ (λ e.
-      let same : p.key ≡ key = ranked p.key key Equal (sym e) in
-      λ i. slice_cmp nat_cmp (held prefix_len p.key (get_or names p.position []) h.key (omega (arith, same, all)) i) (held prefix_len key n is all i)))
-
-  module _ (common_prefix : HaveCommonPrefix names prefix_len) where
-    begins : (p : IndexEntry) → IsKeyed names (AfterPrefix prefix_len) p → take prefix_len (get_or names p.position []) ≡ take prefix_len (get_or names 0 [])
-    begins p h = common_prefix p.position [] h.within
-
-    -- a name that occurs has the common prefix
-    pub has_prefix : (n : List ℕ) → Occurs names n → take prefix_len (get_or names 0 []) ≡ take prefix_len n
-    has_prefix n t = sym (common_prefix t.0 [] (slice_get_within names t.0 n t.1)) ∙ ap (take prefix_len) (get_or_from_slice_get names t.0 n [] t.1)
-
-    -- the last comparison by the key, if it holds all that follows the common prefix
-    same_by_key : (p : IndexEntry) (n : List ℕ) (key : ℕ) (same : Bool) → key % 256 < 16 → Bytes n → key ≡ sort_key prefix_len n → IsKeyed names (AfterPrefix prefix_len) p
-        → IsTrue same ↔ ((nat_cmp p.key key ≡ Equal) × (take prefix_len (get_or names p.position []) ≡ take prefix_len n))
-        → (same ≡ true → bytes_cmp (slice_get names p.position) (Some n) ≡ Equal) × (same ≡ false → Occurs names n → bytes_cmp (slice_get names p.position) (Some n) ≢ Equal)
-    same_by_key p n key same whole bytes is h compared =
-        let decides = key_decides p n key whole h bytes is in (
-          λ t. sym (decides (compared.0 t).1) ∙ (compared.0 t).0,
-          λ f t here. let begin = begins p h ∙ has_prefix n t in false≢true (sym f ∙ compared.1 (decides begin ∙ here, begin)),
-        )
 
 -- ---- what the index's order says of its keys
 
@@ -200,11 +124,9 @@ order_of names keying made sorted each keyed moved up = record {
 }
 
 -- the index of sorted entries
-pub index_of : (names : List (List ℕ)) (keying : Keying) (by : Discriminator) (made sorted : List IndexEntry) → IsKeyingOf names keying
-    → positions made ≡ range_with_len 0 (length names) → All (IsKeyed names keying) made → IsPermutation made sorted → IsSorted (entry_cmp names) sorted
-    → AreDistinguishedBy by sorted → IsIndexOf names keying by sorted
-index_of names keying by made sorted keying_of each keyed moved up distinguished = record {
-  keying_of = keying_of;
+pub index_of : (names : List (List ℕ)) (keying : Keying) (by : Discriminator) (made sorted : List IndexEntry) → positions made ≡ range_with_len 0 (length names)
+    → All (IsKeyed names keying) made → IsPermutation made sorted → IsSorted (entry_cmp names) sorted → AreDistinguishedBy by sorted → IsIndexOf names keying by sorted
+index_of names keying by made sorted each keyed moved up distinguished = record {
   keyed = All-permutation (IsKeyed names keying) made sorted moved keyed;
   order = order_of names keying made sorted each keyed moved up;
   distinguished = distinguished;
@@ -263,30 +185,19 @@ decided names keying KeyPrefix entries h n key k d is within t = numbers_decide 
 decided names keying Key entries h n key k d is within t = numbers_decide names keying entries h.keyed h.order (λ x. x) h.distinguished n key k d is within t
 decided names keying Text entries h n key k d is within t = name_by_keys names keying (get_or entries k d) n key (h.keyed k d within) is
 
--- the last comparison: by the texts, unless the key holds all that follows the common prefix
+-- the last comparison decides
 pub same_decided : (names : List (List ℕ)) (keying : Keying) (discriminator : Discriminator) (entries : List IndexEntry) → IsIndexOf names keying discriminator entries
     → (n : List ℕ) (key k : ℕ) (d : IndexEntry) (by : Discriminator) (prefix_len : ℕ) (same : Bool) → IsFinal keying key by prefix_len → Bytes n → key ≡ key_of keying n → k < length entries
-    → IsTrue same ↔ ((entry_name_cmp names n key by (get_or entries k d) ≡ Equal) × (take prefix_len (get_or names (get_or entries k d).position []) ≡ take prefix_len n))
-    → (same ≡ true → name_cmp keying names n (get_or entries k d).position ≡ Equal) × (same ≡ false → Occurs names n → name_cmp keying names n (get_or entries k d).position ≢ Equal)
-same_decided names keying discriminator entries h n key k d KeyPrefix prefix_len same final bytes is within compared = absurd final
-same_decided names (AfterPrefix s) discriminator entries h n key k d Key prefix_len same final bytes is within compared =
+    → IsTrue same ↔ IsSame names n key by prefix_len (get_or entries k d)
+    → (same ≡ true → name_cmp keying names n (get_or entries k d).position ≡ Equal) × (same ≡ false → name_cmp keying names n (get_or entries k d).position ≢ Equal)
+same_decided names keying discriminator entries h n key k d by prefix_len same final bytes is within compared =
     let p = get_or entries k d in
     let keyed = h.keyed k d within in
-    let e : s ≡ prefix_len = cc (final.0) in
-    let compared_s = subst (λ j. IsTrue same ↔ ((nat_cmp p.key key ≡ Equal) × (take j (get_or names p.position []) ≡ take j n))) (sym e) compared in
-    let bytes_same = same_by_key names s h.keying_of p n key same final.1 bytes is keyed compared_s in
-    let by_keys = name_by_keys names (AfterPrefix s) p n key keyed is in (
-      λ t. sym by_keys ∙ ap (λ r. ordering_then r (bytes_cmp (slice_get names p.position) (Some n))) (compared.0 t).0 ∙ bytes_same.0 t,
-      λ f t here. bytes_same.1 f t (second_equal _ _ here),
-    )
-same_decided names Hashed discriminator entries h n key k d Key prefix_len same final bytes is within compared = cc (final.0)
-same_decided names keying discriminator entries h n key k d Text prefix_len same final bytes is within compared =
-    let p = get_or entries k d in
-    let by_keys = name_by_keys names keying p n key (h.keyed k d within) is in (
-      λ t. sym by_keys ∙ (compared.0 t).0,
-      λ f t here.
+    let decides = same_name keying names p n key by prefix_len final keyed bytes is in (
+      λ t. itself keying names (positions entries) h.order n p.position (slice_get-get_or names p.position [] keyed.within ∙ ap Some (decides.0 (compared.0 t))),
+      λ f here.
           let name = get_or_from_slice_get names p.position n [] (equal_is keying names (positions entries) h.order n (slice_get names p.position) here) in
-          false≢true (sym f ∙ compared.1 (by_keys ∙ here, ap (take prefix_len) name)),
+          false≢true (sym f ∙ compared.1 (decides.1 name)),
     )
 
 -- a lower key prefix is that of a lower key
@@ -308,10 +219,10 @@ sorted_by_keys names entries increase = λ k d low high.
     ap (λ r. is_lt (ordering_then r (position_cmp names q.position p.position))) (sym (nat_cmp_is q.key p.key Greater higher))
 
 -- the index of entries that their keys distinguish
-pub distinct_index : (names : List (List ℕ)) (keying : Keying) (by : Discriminator) (made sorted : List IndexEntry) → by ≢ Text → IsKeyingOf names keying
+pub distinct_index : (names : List (List ℕ)) (keying : Keying) (by : Discriminator) (made sorted : List IndexEntry) → by ≢ Text
     → positions made ≡ range_with_len 0 (length names) → All (IsKeyed names keying) made → IsPermutation made sorted → AreDistinguishedBy by sorted → IsIndexOf names keying by sorted
-distinct_index names keying by made sorted other keying_of each keyed moved distinguished =
-    index_of names keying by made sorted keying_of each keyed moved (sorted_by_keys names sorted (increasing by sorted other distinguished)) distinguished
+distinct_index names keying by made sorted other each keyed moved distinguished =
+    index_of names keying by made sorted each keyed moved (sorted_by_keys names sorted (increasing by sorted other distinguished)) distinguished
 
 -- one entry more
 pub positions_push : (entries : List IndexEntry) (key n : ℕ) → positions entries ≡ range_with_len 0 n → positions (entries ++ record { key = key; position = n } ∷ []) ≡ range_with_len 0 (n + 1)
@@ -336,13 +247,10 @@ first_alone (suc k) n bs e = omega (arith, first_alone k n bs (omega (arith, e))
 
 -- texts of at least k bytes have equal prefixes of k bytes where their numbers are equal
 same_first : (k : ℕ) (xs ys : List ℕ) → Bytes xs → Bytes ys → k ≤ length xs → k ≤ length ys → big_endian k xs ≡ big_endian k ys → take k xs ≡ take k ys
-unfolding big_endian
-same_first zero xs ys a b long_a long_b e = refl
-same_first (suc k) xs ys a b long_a long_b e =
-    let last : get_or xs k 0 ≡ get_or ys k 0 = omega (arith, e, byte_below k xs a, byte_below k ys b) in
-    let front = same_first k xs ys a b (omega (arith, long_a)) (omega (arith, long_b)) (omega (arith, e, last)) in
-    let one : k + 1 ≡ suc k = omega arith in
-    subst (λ j. take j xs ≡ take j ys) one (take_more_same xs ys k 0 (omega (arith, long_a)) (omega (arith, long_b)) front last)
+same_first k xs ys a b long_a long_b e =
+    let in_a = length-take-le k xs long_a in
+    same_number_lists (take k xs) (take k ys) (in_a ∙ sym (length-take-le k ys long_b)) (λ i l.
+    let within : i < k = omega (arith, l, in_a) in get_or-take k xs i 0 within ∙ same_bytes k i xs ys a b e within ∙ sym (get_or-take k ys i 0 within))
 
 pub prefix_decides : (k : ℕ) (xs ys : List ℕ) → Bytes xs → Bytes ys → k ≤ length xs → k ≤ length ys → (big_endian k xs ≡ big_endian k ys) ↔ (take k xs ≡ take k ys)
 prefix_decides k xs ys a b long_a long_b = (

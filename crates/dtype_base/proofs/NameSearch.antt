@@ -2,7 +2,7 @@
 -- SPDX-FileCopyrightText: Copyright the Vortex contributors
 
 -- The order of positions: that a binary search in it is right, and that equal names are neighbours.
-use Rattle.std.proofs.Common.{◌≡◌, ℕ, zero, Bool, suc, ◌+◌, ◌-◌, ◌/◌, ◌<◌, ◌≤◌, ◌^◌, List, [], ◌∷◌, ◌++◌, true, false, Option, Some, None, length, get_or, if◌then◌else◌, refl, sym, ap, subst, ◌∙◌, inl, inr, arith}
+use Rattle.std.proofs.Common.{◌≡◌, ℕ, zero, Bool, suc, ◌+◌, ◌-◌, ◌*◌, ◌/◌, ◌<◌, ◌≤◌, ◌^◌, List, [], ◌∷◌, ◌++◌, true, false, Option, Some, None, length, get_or, if◌then◌else◌, refl, sym, ap, subst, ◌∙◌, inl, inr, arith, pow-suc}
 use Rattle.std.specs.Prelude.{◌≢◌, slice_get}
 use Rattle.std.specs.List.{range_with_len, AllAdjacentBelow}
 use Rattle.std.specs.List.Sorted.{IsNonDecreasingBy, IsPermutation}
@@ -29,7 +29,7 @@ use Rattle.dtype_base.specs.Distinct.{Distinct}
 use Rattle.dtype_base.specs.FieldNames.{FirstAt, first_place}
 use Rattle.dtype_base.proofs.lemmas.Lookups.{first_of_place, absent_of_place}
 use Rattle.dtype_base.specs.BinaryDigits.{binary_digits}
-use Rattle.dtype_base.proofs.lemmas.BinaryDigits.{digits_halved}
+use Rattle.dtype_base.proofs.lemmas.BinaryDigits.{digits_halved, digits_more}
 use Rattle.dtype_base.specs.Comparisons.{comparisons}
 use Rattle.dtype_base.specs.private.NameOrder.{bytes_cmp, key_or, keyed_cmp, keyed_position_cmp, name_cmp, position_cmp, IsOrderOf, positions, mask}
 use Rattle.dtype_base.specs.declared.name_key.Keying.{Keying}
@@ -108,6 +108,12 @@ pub record Searching (names : List (List ℕ)) (order n : List ℕ) (low size co
   pub holds : (q : ℕ) → q < length order → FirstAt names n (get_or order q 0) → (low ≤ q) × (q < low + size)
   pub count : compared + binary_digits (size - 1) ≡ binary_digits (length order - 1)
 
+-- The invariant of the steps that halve: what is left is a power of two, of which the next step takes this half.
+pub record Halving (names : List (List ℕ)) (order n : List ℕ) (low half compared : ℕ) : Type 0 where
+  pub steps : ℕ
+  pub is : half ≡ 2 ^ steps / 2
+  pub left : Searching names order n low (2 ^ steps) compared
+
 -- a number and a mask of all ones or none
 masked : (b : Bool) (number below : ℕ) → number < 2 ^ 64 → below ≡ mask b → bit_and number below ≡ (if b then number else 0)
 masked true number below fits e = ap (bit_and number) e ∙ and_mask number 64 ∙ mod-eq_of_lt fits
@@ -159,41 +165,74 @@ module _ (keying : Keying) (names : List (List ℕ)) (order : List ℕ) (h : IsO
         ])
 
     -- before the first step
-    pub starts : 0 < length order → Searching names order n 0 (length order) 0
-    starts some = record { some = some; within = omega arith; holds = λ q b first. (omega arith, omega (arith, b)); count = omega arith }
+    pub starts : (low size compared : ℕ) → 0 < size → size ≡ length order → low ≡ 0 → compared ≡ 0 → Searching names order n low size compared
+    starts low size compared some all first none = record {
+      some = some;
+      within = omega (arith, all, first);
+      holds = λ q b at. (omega (arith, first), omega (arith, b, all, first));
+      count = omega (arith, none, ap (λ s. binary_digits (s - 1)) all);
+    }
 
-    -- one step: a comparison with the last name of the first half decides which half is left
-    pub steps : (low size compared half m below : ℕ) (b : Bool) → Searching names order n low size compared → 1 < size → half ≡ size / 2 → m ≡ low + half - 1 → half < 2 ^ 64
-        → (Occurs names n → is_lt (name_cmp keying names n (get_or order m 0)) ≡ b) → below ≡ mask b → Searching names order n (low + bit_and half below) (size - half) (compared + 1)
-    steps low size compared half m below true inv more is at fits distinguished e =
+    -- one step: a comparison with the last name of what may be left out decides which part is left
+    pub steps : (low size compared half m below : ℕ) (b : Bool) → Searching names order n low size compared → 0 < half → half + half ≤ size → binary_digits (size - 1) ≡ binary_digits (size - half - 1) + 1 → m ≡ low + half - 1
+        → half < 2 ^ 64 → (Occurs names n → is_lt (name_cmp keying names n (get_or order m 0)) ≡ b) → below ≡ mask b → Searching names order n (low + bit_and half below) (size - half) (compared + 1)
+    steps low size compared half m below true inv some less digits at fits distinguished e =
         let moved : bit_and half below ≡ half = masked true half below fits e in record {
-          some = omega (arith, more, is);
-          within = omega (arith, moved, inv.within, is);
+          some = omega (arith, some, less);
+          within = omega (arith, moved, inv.within, less);
           holds = λ q b first.
-              let less = is_less _ (distinguished (get_or order q 0, first.here)) in
+              let lower = is_less _ (distinguished (get_or order q 0, first.here)) in
               let after : m < q = elim (cases_lt m q) [
                 | inl after ↦ after
-                | inr before ↦ absurd (omega (arith, names_ranked n q m 0 before (omega (arith, at, is, more, inv.within)), ap ordering_index less, ap ordering_index (itself _ first.here)))
+                | inr before ↦ absurd (omega (arith, names_ranked n q m 0 before (omega (arith, at, some, less, inv.within)), ap ordering_index lower, ap ordering_index (itself _ first.here)))
               ] in
-              (omega (arith, moved, at, after, is, more), omega (arith, moved, is, more, (inv.holds q b first).1));
-          count = omega (arith, inv.count, digits_halved (size - 1) (size - half - 1) (omega (arith, more)) (omega (arith, is, more)));
+              (omega (arith, moved, at, after, some), omega (arith, moved, less, (inv.holds q b first).1));
+          count = omega (arith, inv.count, digits);
         }
-    steps low size compared half m below false inv more is at fits distinguished e =
+    steps low size compared half m below false inv some less digits at fits distinguished e =
         let stayed : bit_and half below ≡ 0 = masked false half below fits e in record {
-          some = omega (arith, more, is);
-          within = omega (arith, stayed, inv.within, is);
+          some = omega (arith, some, less);
+          within = omega (arith, stayed, inv.within);
           holds = λ q b first.
               let upto : q ≤ m = elim (cases_lt m q) [
                 | inl after ↦ absurd (false≢true (sym (distinguished (get_or order q 0, first.here)) ∙ ap is_lt (before_first m q after b first)))
                 | inr before ↦ before
               ] in
-              (omega (arith, stayed, (inv.holds q b first).0), omega (arith, stayed, at, is, more, upto));
-          count = omega (arith, inv.count, digits_halved (size - 1) (size - half - 1) (omega (arith, more)) (omega (arith, is, more)));
+              (omega (arith, stayed, (inv.holds q b first).0), omega (arith, stayed, at, some, less, upto));
+          count = omega (arith, inv.count, digits);
         }
+
+    -- the first step, after which a power of two is left
+    pub leaves_power : (k low compared half m below : ℕ) (b : Bool) → 2 ^ k < length order → length order < 2 * 2 ^ k → half ≡ length order - 2 ^ k → m ≡ half - 1 → half < 2 ^ 64
+        → (Occurs names n → is_lt (name_cmp keying names n (get_or order m 0)) ≡ b) → below ≡ mask b → low ≡ bit_and half below → compared ≡ 1 → Searching names order n low (2 ^ k) compared
+    leaves_power k low compared half m below b more fewer is at fits distinguished e moved counted =
+        let rest : length order - half ≡ 2 ^ k = omega (arith, more, is) in
+        let there : 0 + bit_and half below ≡ low = omega (arith, moved) in
+        let one : 0 + 1 ≡ compared = omega (arith, counted) in
+        let digits = digits_more (length order) k more (omega (arith, fewer)) ∙ ap (λ s. binary_digits (s - 1) + 1) (sym rest) in
+        let after = steps 0 (length order) 0 half m below b (starts 0 (length order) 0 (omega (arith, more)) refl refl refl) (omega (arith, more, is)) (omega (arith, more, fewer, is)) digits (omega (arith, at)) fits distinguished e in
+        subst (λ l. Searching names order n l (2 ^ k) compared) there
+        (subst (λ s. Searching names order n (0 + bit_and half below) s compared) rest (subst (λ c. Searching names order n (0 + bit_and half below) (length order - half) c) one after))
+
+    -- a step of halves
+    pub halves : (low compared half m below : ℕ) (b : Bool) → Halving names order n low half compared → 0 < half → m ≡ low + half - 1 → half < 2 ^ 64 → (Occurs names n → is_lt (name_cmp keying names n (get_or order m 0)) ≡ b)
+        → below ≡ mask b → Halving names order n (low + bit_and half below) (half / 2) (compared + 1)
+    halves low compared half m below b inv some at fits distinguished e = go inv.steps inv.is inv.left
+      where
+        go : (k : ℕ) → half ≡ 2 ^ k / 2 → Searching names order n low (2 ^ k) compared → Halving names order n (low + bit_and half below) (half / 2) (compared + 1)
+        go zero is left = absurd (omega (arith, some, is))
+        go (suc k) is left =
+            let twice = pow-suc 2 k in
+            let rest : 2 ^ suc k - half ≡ 2 ^ k = omega (arith, is, twice) in record {
+              steps = k;
+              is = omega (arith, is, twice);
+              left = subst (λ size. Searching names order n (low + bit_and half below) size (compared + 1)) rest
+                  (steps low (2 ^ suc k) compared half m below b left some (omega (arith, some, is, twice)) (digits_halved (2 ^ suc k - 1) (2 ^ suc k - half - 1) (omega (arith, some, is, twice)) (omega (arith, some, is, twice))) at fits distinguished e);
+            }
 
     -- the last comparison decides whether the entry that is left has the name
     pub ends : (low size compared : ℕ) (same : Bool) → Searching names order n low size compared → size ≤ 1 → (same ≡ true → name_cmp keying names n (get_or order low 0) ≡ Equal)
-        → (same ≡ false → Occurs names n → name_cmp keying names n (get_or order low 0) ≢ Equal) → then_some same (get_or order low 0) ≡ first_place names n
+        → (same ≡ false → name_cmp keying names n (get_or order low 0) ≢ Equal) → then_some same (get_or order low 0) ≡ first_place names n
     ends low size compared same inv last is isnt = go same (first_place names n) refl refl
       where
         low_is : (i : ℕ) → FirstAt names n i → get_or order low 0 ≡ i
@@ -206,7 +245,7 @@ module _ (keying : Keying) (names : List (List ℕ)) (order : List ℕ) (h : IsO
         go true None e f = absurd (absent_of_place names n (sym f) _ (equal_is _ (is e)))
         go false None e f = refl
         go true (Some i) e f = ap Some (low_is i (first_of_place names n i (sym f)))
-        go false (Some i) e f = let first = first_of_place names n i (sym f) in absurd (isnt e (i, first.here) (ap (name_cmp keying names n) (low_is i first) ∙ itself i first.here))
+        go false (Some i) e f = let first = first_of_place names n i (sym f) in absurd (isnt e (ap (name_cmp keying names n) (low_is i first) ∙ itself i first.here))
 
     pub counts : (low size compared : ℕ) → Searching names order n low size compared → size ≤ 1 → compared + 1 ≡ comparisons (length order)
     counts low size compared inv last = count_of (length order) compared (omega (arith, inv.within, inv.some)) (omega (arith, inv.count, one_left inv.some last))

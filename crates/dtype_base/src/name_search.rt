@@ -2,20 +2,17 @@
 // SPDX-FileCopyrightText: Copyright the Vortex contributors
 
 // The binary search for a name in an index. Only here is a name compared with the one that is looked for.
-ghost use Rattle.std.specs.Prelude.{◌≡◌, ◌↔◌, ◌+◌, ◌<◌, ◌^◌, IsTrue, [], length, nat_lt, slice_index_or, take};
-ghost use Rattle.std.specs.Ordering.{is_lt, is_eq, nat_cmp};
-ghost use Rattle.std.specs.declared.cmp.Ordering.TheVariants.{Equal};
+ghost use Rattle.std.specs.Prelude.{◌≡◌, ◌↔◌, ◌+◌, ◌<◌, ◌^◌, IsTrue, IfSome, None, length};
+ghost use Rattle.std.specs.Ordering.{is_lt, nat_cmp};
 ghost use Rattle.dtype_base.specs.Bytes.{Bytes};
 ghost use Rattle.dtype_base.specs.FieldNames.{first_place};
 ghost use Rattle.dtype_base.specs.Comparisons.{comparisons};
 ghost use Rattle.dtype_base.specs.private.NameKeys.{key_of, key_prefix};
-ghost use Rattle.dtype_base.specs.private.NameOrder.{IsFinal, IsIndexOf, mask, entry_name_cmp};
-ghost use Rattle.dtype_base.specs.declared.name_order.Discriminator.TheVariants.{KeyPrefix, Key};
+ghost use Rattle.dtype_base.specs.private.NameOrder.{IsFinal, IsIndexOf, IsSame, mask, entry_name_cmp};
 
 use crate::FieldName;
 use crate::name_key::{Keying, TWO_POW_64, eq_prefix, key_prefix};
 use crate::name_order::{Discriminator, IndexEntry};
-use std::cmp::Ordering;
 
 // The first position of the name, or `None`, and how many names were compared. Inlined, since a call for each lookup takes
 // a tenth longer; compiled once for each discriminator, so that no step of a search tests which it is.
@@ -49,8 +46,8 @@ pub(crate) fn search(
 }
 
 // Binary search, branch-free where keys distinguish the entries. It ends at the first entry that isn't below the name, if
-// the name occurs; of a name that doesn't occur the steps may say anything, since the last comparison decides. The steps
-// are as many for every name.
+// the name occurs; of a name that doesn't occur the steps may say anything, since the last comparison decides. After the
+// first step a power of two is left, of which each step takes half. The steps are as many for every name.
 #[inline(always)]
 fn search_with(
     names: &[FieldName],
@@ -70,27 +67,33 @@ fn search_with(
         return (None, 0);
     }
     let mut low = 0;
-    let mut size = entries.len();
     let mut compared = 0;
-    while size > 1 {
-        let half = size / 2;
+    let size = 1 << entries.len().ilog2();
+    if size < entries.len() {
+        let half = entries.len() - size;
+        let middle = entries[half - 1];
+        let comparison = compare(names, middle, name, key, by, None, &mut compared);
+        low = half & comparison.below;
+    }
+    let mut half = size / 2;
+    while half > 0 {
         let middle = entries[low + half - 1];
-        let comparison = compare(names, middle, name, key, by, 0, &mut compared);
+        let comparison = compare(names, middle, name, key, by, None, &mut compared);
         low += half & comparison.below;
-        size -= half;
+        half /= 2;
     }
     let last = entries[low];
     let (by, prefix_len) = final_discriminator(keying, key);
-    let comparison = compare(names, last, name, key, by, prefix_len, &mut compared);
+    let comparison = compare(names, last, name, key, by, Some(prefix_len), &mut compared);
     (comparison.same.then_some(last.position), compared)
 }
 
 // How an entry's name compares to the one that is looked for.
 #[derive(Clone, Copy)]
 struct KeyComparison {
-    // A mask: all ones where it is below, else 0.
+    // A mask: all ones where it is below, else 0. Of the last comparison, 0.
     below: usize,
-    // Whether it is equal, by what was compared.
+    // Whether it is equal. Of the steps, false.
     same: bool,
 }
 
@@ -105,9 +108,9 @@ fn final_discriminator(keying: &Keying, key: u128) -> (Discriminator, usize)
     }
 }
 
-// Compares an entry's name with the one that is looked for, and counts the comparison: by as much of them as the
-// discriminator names, and for equality by their first `prefix_len` bytes too. Nothing else compares a name with the one
-// that is looked for. Inlined into the steps of the search, which compare no prefix.
+// Compares an entry's name with the one that is looked for, and counts the comparison. A step asks which is below, by as
+// much of them as the discriminator names; the last comparison, which has the length of a prefix, asks whether they are
+// equal. Nothing else compares a name with the one that is looked for. Inlined, so that no step asks which it is.
 #[inline(always)]
 fn compare(
     names: &[FieldName],
@@ -115,68 +118,62 @@ fn compare(
     name: &str,
     key: u128,
     by: Discriminator,
-    prefix_len: usize,
+    last: Option<usize>,
     compared: &mut u64,
 ) -> KeyComparison
     requires within { entry.position < length names.now }
     requires room { compared.old + 1 < 2 ^ 64 }
     ensures counted { compared.new ≡ compared.old + 1 }
-    ensures below { result.below ≡ mask (is_lt (entry_name_cmp names.now name.now key by entry)) }
-    ensures same { IsTrue result.same ↔ ((entry_name_cmp names.now name.now key by entry ≡ Equal)
-        × (take prefix_len (slice_index_or names.now entry.position []) ≡ take prefix_len name.now)) }
+    ensures below { last ≡ None → result.below ≡ mask (is_lt (entry_name_cmp names.now name.now key by entry)) }
+    ensures same { IfSome last (λ prefix_len. IsTrue result.same ↔ IsSame names.now name.now key by prefix_len entry) }
 {
     *compared += 1;
     let here = &names[entry.position];
-    let comparison = match by {
-        Discriminator::KeyPrefix => compare_prefixes(entry.key, key),
-        Discriminator::Text if entry.key == key => comparison_of(here.as_str().cmp(name)),
-        _ => compare_keys(entry.key, key),
-    };
-    let same = comparison.same && eq_prefix(here.as_str().as_bytes(), name.as_bytes(), prefix_len);
-    KeyComparison { same, ..comparison }
-}
-
-fn comparison_of(ordering: Ordering) -> KeyComparison
-    ensures below { result.below ≡ mask (is_lt ordering) }
-    ensures same { result.same ≡ is_eq ordering }
-{
-    let below = if ordering.is_lt() { usize::MAX } else { 0 };
-    KeyComparison {
-        below,
-        same: ordering.is_eq(),
+    match last {
+        None => {
+            let below = match by {
+                Discriminator::KeyPrefix => prefix_less_mask(entry.key, key),
+                Discriminator::Text if entry.key == key => mask_of(here.as_str().cmp(name).is_lt()),
+                _ => less_mask(entry.key, key),
+            };
+            KeyComparison { below, same: false }
+        }
+        Some(prefix_len) => {
+            let same = match by {
+                Discriminator::KeyPrefix => false,
+                Discriminator::Key => {
+                    entry.key == key
+                        && eq_prefix(here.as_str().as_bytes(), name.as_bytes(), prefix_len)
+                }
+                Discriminator::Text => {
+                    key_prefix(entry.key) == key_prefix(key) && here.eq_str(name)
+                }
+            };
+            KeyComparison { below: 0, same }
+        }
     }
 }
 
-// Compares the first eight bytes of the keys. Branch-free: `below` is the borrow of their difference, since a comparison
-// would be compiled to a jump.
-fn compare_prefixes(entry: u128, key: u128) -> KeyComparison
-    ensures below { result.below ≡ mask (is_lt (nat_cmp (key_prefix entry) (key_prefix key))) }
-    ensures same { result.same ≡ is_eq (nat_cmp (key_prefix entry) (key_prefix key)) }
+fn mask_of(below: bool) -> usize
+    ensures { result ≡ mask below }
+{
+    if below { usize::MAX } else { 0 }
+}
+
+// A mask: all ones where the first eight bytes of the one key are below those of the other, else 0. Branch-free: it is the
+// borrow of their difference, since a comparison would be compiled to a jump.
+fn prefix_less_mask(entry: u128, key: u128) -> usize
+    ensures { result ≡ mask (is_lt (nat_cmp (key_prefix entry) (key_prefix key))) }
 {
     let here = key_prefix(entry);
     let wanted = key_prefix(key);
     let difference = u128::from(here).wrapping_sub(u128::from(wanted));
-    KeyComparison {
-        below: (difference / TWO_POW_64) as usize,
-        same: here == wanted,
-    }
+    (difference / TWO_POW_64) as usize
 }
 
-// Compares the keys. Branch-free.
-fn compare_keys(entry: u128, key: u128) -> KeyComparison
-    ensures below { result.below ≡ mask (is_lt (nat_cmp entry key)) }
-    ensures same { result.same ≡ is_eq (nat_cmp entry key) }
-{
-    KeyComparison {
-        below: less_mask(entry, key),
-        same: entry == key,
-    }
-}
-
-// A mask: all ones where a is below b, else 0. Branch-free: it is the borrow of their difference, word by word, since a
-// comparison would be compiled to a jump.
+// A mask: all ones where a is below b, else 0. Branch-free: it is the borrow of their difference, word by word.
 fn less_mask(a: u128, b: u128) -> usize
-    ensures { result ≡ mask (nat_lt a b) }
+    ensures { result ≡ mask (is_lt (nat_cmp a b)) }
 {
     let low = (a % TWO_POW_64).wrapping_sub(b % TWO_POW_64) >> 127;
     let high = (a / TWO_POW_64)

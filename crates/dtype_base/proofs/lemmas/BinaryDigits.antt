@@ -2,7 +2,7 @@
 -- SPDX-FileCopyrightText: Copyright the Vortex contributors
 
 -- Lemmas about the number of binary digits: that it is what its definition says, and what halving takes from it.
-use Rattle.std.proofs.Common.{◌≡◌, ℕ, zero, suc, ◌+◌, ◌*◌, ◌/◌, ◌<◌, ◌≤◌, ◌^◌, ◌==◌, Bool, true, false, cond, refl, ap, arith, pow_mono, pow-suc, inl, inr}
+use Rattle.std.proofs.Common.{◌≡◌, ℕ, zero, suc, ◌+◌, ◌-◌, ◌*◌, ◌/◌, ◌<◌, ◌≤◌, ◌^◌, ◌==◌, Bool, true, false, cond, refl, ap, arith, pow_mono, pow-suc, inl, inr}
 use Rattle.std.proofs.lemmas.Bool.{eqb-true, eqb-false, cases_lt}
 use Rattle.dtype_base.specs.BinaryDigits.{one_more, binary_digits, IsDigitsOf}
 
@@ -53,3 +53,24 @@ digits_halved n m a e =
     let most = digits_fewest n (suc (binary_digits m)) whole in
     let least = one_less n m (binary_digits n) a e (digits_reach n) in
     omega (arith, most, least.1)
+
+-- a number from a power of two on, and below the next
+digits_between : (n k : ℕ) → 2 ^ k ≤ n → n < 2 ^ suc k → binary_digits n ≡ suc k
+digits_between n k low fits =
+    let most = digits_fewest n (suc k) fits in
+    let least = below_next k (binary_digits n) (omega (arith, low, digits_reach n)) in
+    omega (arith, most, least)
+
+-- the number before a power of two
+digits_before : (k : ℕ) → binary_digits (2 ^ k - 1) ≡ k
+unfolding binary_digits
+digits_before zero = refl
+digits_before (suc k) =
+    let least : 0 ≤ k = omega arith in
+    let one : 2 ^ 0 ≤ 2 ^ k = pow_mono least in
+    digits_between (2 ^ suc k - 1) k (omega (arith, one, pow-suc 2 k)) (omega (arith, one, pow-suc 2 k))
+
+-- among more than a power of two, and at most twice as many
+pub digits_more : (n k : ℕ) → 2 ^ k < n → n ≤ 2 ^ k * 2 → binary_digits (n - 1) ≡ binary_digits (2 ^ k - 1) + 1
+digits_more n k low high =
+    omega (arith, digits_before k, digits_between (n - 1) k (omega (arith, low)) (omega (arith, low, high, pow-suc 2 k)))

@@ -3,7 +3,7 @@
 
 -- The index of a name list: an entry for each position, with the key of the name there, in the order of the keys, then of
 -- the names' bytes, then of the positions. Only private contracts cite it.
-use Rattle.std.specs.Prelude.{◌≡◌, ◌%◌, ℕ, ◌-◌, ◌<◌, ◌^◌, List, Option, Some, None, Bool, ⊤, length, map, slice_get, slice_index_or, [], if◌then◌else◌}
+use Rattle.std.specs.Prelude.{◌≡◌, ◌%◌, ℕ, ◌-◌, ◌<◌, ◌^◌, List, Option, Some, None, Bool, ⊤, length, map, slice_get, slice_index_or, take, [], if◌then◌else◌}
 use Rattle.std.specs.List.{All, AllAdjacentBelow, range_with_len}
 use Rattle.std.specs.List.Sorted.{IsPermutation, IsSorted}
 use Rattle.std.specs.Option.{option_cmp}
@@ -11,9 +11,9 @@ use Rattle.std.specs.Ordering.{ordering_then, nat_cmp}
 use Rattle.std.specs.declared.cmp.Ordering.{Ordering}
 use Rattle.std.specs.Cmp.Lexicographic.{slice_cmp}
 use Rattle.dtype_base.specs.Bytes.{Bytes}
-use Rattle.dtype_base.specs.private.NameKeys.{key_of, key_prefix, HaveCommonPrefix}
+use Rattle.dtype_base.specs.private.NameKeys.{key_of, key_prefix}
 use Rattle.dtype_base.specs.declared.name_key.Keying.{Keying}
-use Rattle.dtype_base.specs.declared.name_key.Keying.TheVariants.{AfterPrefix, Hashed}
+use Rattle.dtype_base.specs.declared.name_key.Keying.TheVariants.{AfterPrefix}
 use Rattle.dtype_base.specs.declared.name_order.IndexEntry.{IndexEntry}
 use Rattle.dtype_base.specs.declared.name_order.Discriminator.{Discriminator}
 use Rattle.dtype_base.specs.declared.name_order.Discriminator.TheVariants.{KeyPrefix, Key, Text}
@@ -76,14 +76,8 @@ AreDistinguishedBy KeyPrefix = PrefixesIncrease
 AreDistinguishedBy Key = KeysIncrease
 AreDistinguishedBy Text = λ entries. ⊤
 
--- what keys after a prefix ask of the names
-abbrev pub IsKeyingOf : List (List ℕ) → Keying → Type 0
-IsKeyingOf names (AfterPrefix prefix_len) = HaveCommonPrefix names prefix_len
-IsKeyingOf names Hashed = ⊤
-
 -- the entries are the index of these names: with keys that are made so, in order, distinguished so
 pub record IsIndexOf (names : List (List ℕ)) (keying : Keying) (discriminator : Discriminator) (entries : List IndexEntry) : Type 0 where
-  pub keying_of : IsKeyingOf names keying
   pub keyed : All (IsKeyed names keying) entries
   pub order : IsOrderOf keying names (positions entries)
   pub distinguished : AreDistinguishedBy discriminator entries
@@ -94,6 +88,13 @@ abbrev pub IsFinal : Keying → ℕ → Discriminator → ℕ → Type 0
 IsFinal keying key KeyPrefix prefix_len = ⊥
 IsFinal keying key Key prefix_len = (keying ≡ AfterPrefix prefix_len) × (key % 256 < 16)
 IsFinal keying key Text prefix_len = ⊤
+
+-- What the last comparison compares is the same: the key and the first prefix_len bytes; or the text, and before it the
+-- first half of the key.
+abbrev pub IsSame : List (List ℕ) → List ℕ → ℕ → Discriminator → ℕ → IndexEntry → Type 0
+IsSame names n key KeyPrefix prefix_len p = ⊥
+IsSame names n key Key prefix_len p = (p.key ≡ key) × (take prefix_len (slice_index_or names p.position []) ≡ take prefix_len n)
+IsSame names n key Text prefix_len p = (key_prefix p.key ≡ key_prefix key) × (slice_index_or names p.position [] ≡ n)
 
 -- how an entry compares to a name n with this key, by as much of them as the discriminator names
 abbrev pub entry_name_cmp : List (List ℕ) → List ℕ → ℕ → Discriminator → IndexEntry → Ordering

@@ -9,4 +9,4 @@ pub returns-then-is_by_keys : goal.returns-then-is_by_keys
 returns-then-is_by_keys c =
     let made = c.in_ok-entries.ensures in
     distinct_index c.args.names.now (AfterPrefix c.in_ok-entries.prefix_len) c.in_ok-by.by c.in_ok-entries.entries.items c.sort_by_keys.new.entries.items (c.is_by_keys.ensures c.if-is_by_keys.true)
-    made.ok made.each made.keyed c.sort_by_keys.ensures.each c.in_ok-by.ensures.ok
+    made.each made.keyed c.sort_by_keys.ensures.each c.in_ok-by.ensures.ok

@@ -1,7 +1,7 @@
 -- SPDX-License-Identifier: Apache-2.0
 -- SPDX-FileCopyrightText: Copyright the Vortex contributors
 
-use Rattle.std.proofs.Common.{◌≡◌, ◌+◌, ◌-◌, ◌/◌, ◌<◌, length, refl, sym, ap, subst, ◌∙◌, arith, is_lt}
+use Rattle.std.proofs.Common.{◌≡◌, ◌+◌, ◌-◌, ◌*◌, ◌/◌, ◌%◌, ◌<◌, ◌^◌, length, refl, sym, ap, subst, ◌∙◌, arith, mod-eq_of_lt, is_lt}
 use Rattle.std.specs.Bool.{then_some}
 use Rattle.std.specs.Int.Bits.{bit_and}
 use Rattle.std.proofs.lemmas.Bool.{eqb-true}
@@ -10,8 +10,9 @@ use Rattle.dtype_base.proofs.lemmas.BinaryDigits.{digits_fewest}
 use Rattle.dtype_base.proofs.lemmas.Lookups.{no_place}
 use Rattle.dtype_base.specs.Comparisons.{comparisons}
 use Rattle.dtype_base.specs.private.NameOrder.{name_cmp, positions}
-use Rattle.dtype_base.proofs.NameSearch.{Searching, as_many, as_many_positions, position_at, no_entry, steps, ends, counts}
+use Rattle.dtype_base.proofs.NameSearch.{Halving, as_many, as_many_positions, position_at, no_entry, starts, leaves_power, halves, ends, counts}
 use Rattle.dtype_base.proofs.KeyOrder.{decided, same_decided}
+use Rattle.dtype_base.proofs.name_search.search_with.Goals.{then-size-entries, else-size-entries}
 use Rattle.dtype_base.proofs.name_search.search_with.Goals as goal
 
 pub returns-then-is_empty-clause-place : goal.returns-then-is_empty-clause-place
@@ -30,50 +31,79 @@ returns-then-is_empty-clause-count c =
     let none : 0 ≡ length names = omega (arith, as_many c.args.keying.now names (positions entries) c.requires.index.order, as_many_positions entries, empty) in
     ap comparisons none
 
-pub compare-comparison-requires-clause-room : goal.compare-comparison-requires-clause-room
-compare-comparison-requires-clause-room c =
-    let entries = c.args.entries.now in
-    omega (arith, c.loop-size.invariant.count, digits_fewest (length (positions entries) - 1) 64 (omega (arith, as_many_positions entries)))
-
-pub compare-comparison-requires-2-clause-room : goal.compare-comparison-requires-2-clause-room
-compare-comparison-requires-2-clause-room c =
-    let entries = c.args.entries.now in
-    omega (arith, c.loop-size.invariant.count, digits_fewest (length (positions entries) - 1) 64 (omega (arith, as_many_positions entries)))
-
-pub loop-size-preserved : goal.loop-size-preserved
-loop-size-preserved c =
-    let inv = c.loop-size.invariant in
+pub loop-half-init : goal.loop-half-init
+loop-half-init c =
     let names = c.args.names.now in
     let entries = c.args.entries.now in
     let order = positions entries in
     let n = c.args.name.now in
-    let low = c.loop-size.low in
-    let size = c.loop-size.size in
-    let m = low + size / 2 - 1 in
-    let within : m < length entries = omega (arith, inv.within, inv.some, c.loop-size-test.true, as_many_positions entries) in
-    subst (λ count. Searching names order n (low + bit_and (size / 2) c.compare-comparison.result.below) (size - size / 2) count) (sym c.compare-comparison.ensures.counted)
-    (steps c.args.keying.now names order c.requires.index.order n low size c.loop-size.compared (size / 2) m c.compare-comparison.result.below _ inv c.loop-size-test.true refl refl (omega arith)
+    let k = c.ilog2.result in
+    let size : 1 * 2 ^ k % 2 ^ 64 ≡ 2 ^ k = mod-eq_of_lt (omega (arith, c.ilog2.ensures.power_le)) ∙ omega arith in
+    let half = length entries - 1 * 2 ^ k % 2 ^ 64 in
+    let m = half - 1 in record {
+      steps = k;
+      is = ap (λ s. s / 2) size;
+      left = elim c.if-size-entries.branch [
+        | then-size-entries w ↦
+            let within : m < length entries = omega (arith, w.if-size-entries.true) in
+            leaves_power c.args.keying.now names order c.requires.index.order n k c.if-size-entries.low c.if-size-entries.compared half m w.compare-comparison.result.below _
+            (omega (arith, w.if-size-entries.true, size, as_many_positions entries)) (omega (arith, c.ilog2.ensures.next_power_gt, as_many_positions entries))
+            (omega (arith, size, as_many_positions entries)) refl (omega arith)
+            (λ t. ap is_lt (ap (name_cmp c.args.keying.now names n) (position_at entries m no_entry within)
+            ∙ sym (decided names c.args.keying.now c.args.by entries c.requires.index n c.args.key m no_entry c.requires.key within t)))
+            (w.compare-comparison.ensures.below refl) w.low-is (omega (arith, w.compared-is, w.compare-comparison.ensures.counted))
+        | else-size-entries w ↦
+            starts c.args.keying.now names order c.requires.index.order n c.if-size-entries.low (2 ^ k) c.if-size-entries.compared (omega (arith, c.ilog2.ensures.next_power_gt))
+            (omega (arith, w.if-size-entries.false, size, c.ilog2.ensures.power_le, as_many_positions entries)) w.low-is w.compared-is
+      ];
+    }
+
+pub compare-comparison-requires-in-loop-half-clause-room : goal.compare-comparison-requires-in-loop-half-clause-room
+compare-comparison-requires-in-loop-half-clause-room c =
+    let entries = c.args.entries.now in
+    omega (arith, c.loop-half.invariant.left.count, digits_fewest (length (positions entries) - 1) 64 (omega (arith, as_many_positions entries)))
+
+pub compare-comparison-requires-2-clause-room : goal.compare-comparison-requires-2-clause-room
+compare-comparison-requires-2-clause-room c =
+    let entries = c.args.entries.now in
+    omega (arith, c.loop-half.invariant.left.count, digits_fewest (length (positions entries) - 1) 64 (omega (arith, as_many_positions entries)))
+
+pub loop-half-preserved : goal.loop-half-preserved
+loop-half-preserved c =
+    let inv = c.loop-half.invariant in
+    let names = c.args.names.now in
+    let entries = c.args.entries.now in
+    let order = positions entries in
+    let n = c.args.name.now in
+    let low = c.loop-half.low in
+    let half = c.loop-half.half in
+    let comparison = c.compare-comparison-in-loop-half in
+    let m = low + half - 1 in
+    let within : m < length entries = omega (arith, inv.left.within, inv.is, c.loop-half-test.true, as_many_positions entries) in
+    subst (λ count. Halving names order n (low + bit_and half comparison.result.below) (half / 2) count) (sym comparison.ensures.counted)
+    (halves c.args.keying.now names order c.requires.index.order n low c.loop-half.compared half m comparison.result.below _ inv c.loop-half-test.true refl (omega arith)
     (λ t. ap is_lt (ap (name_cmp c.args.keying.now names n) (position_at entries m no_entry within)
     ∙ sym (decided names c.args.keying.now c.args.by entries c.requires.index n c.args.key m no_entry c.requires.key within t)))
-    c.compare-comparison.ensures.below)
+    (comparison.ensures.below refl))
 
 pub returns-clause-place : goal.returns-clause-place
 returns-clause-place c =
-    let inv = c.loop-size.invariant in
+    let inv = c.loop-half.invariant in
     let names = c.args.names.now in
     let entries = c.args.entries.now in
     let n = c.args.name.now in
-    let low = c.loop-size.low in
+    let low = c.loop-half.low in
     let same = c.compare-comparison-2.result.same in
-    let within : low < length entries = omega (arith, inv.within, inv.some, as_many_positions entries) in
+    let within : low < length entries = omega (arith, inv.left.within, inv.left.some, as_many_positions entries) in
     let at = position_at entries low no_entry within in
     let distinguished = same_decided names c.args.keying.now c.args.by entries c.requires.index n c.args.key low no_entry _ _ same c.final_discriminator-by.ensures c.requires.bytes c.requires.key within c.compare-comparison-2.ensures.same in
     c.then_some.ensures ∙ sym (ap (then_some same) at)
-    ∙ ends c.args.keying.now names (positions entries) c.requires.index.order n low c.loop-size.size c.loop-size.compared same inv (omega (arith, c.loop-size-test.false))
-    (λ e. ap (name_cmp c.args.keying.now names n) at ∙ distinguished.0 e) (λ e t here. distinguished.1 e t (sym (ap (name_cmp c.args.keying.now names n) at) ∙ here))
+    ∙ ends c.args.keying.now names (positions entries) c.requires.index.order n low (2 ^ inv.steps) c.loop-half.compared same inv.left (omega (arith, inv.is, c.loop-half-test.false))
+    (λ e. ap (name_cmp c.args.keying.now names n) at ∙ distinguished.0 e) (λ e here. distinguished.1 e (sym (ap (name_cmp c.args.keying.now names n) at) ∙ here))
 
 pub returns-clause-count : goal.returns-clause-count
 returns-clause-count c =
+    let inv = c.loop-half.invariant in
     let names = c.args.names.now in
     let order = positions c.args.entries.now in
-    c.compare-comparison-2.ensures.counted ∙ counts c.args.keying.now names order c.requires.index.order c.args.name.now c.loop-size.low c.loop-size.size c.loop-size.compared c.loop-size.invariant (omega (arith, c.loop-size-test.false)) ∙ ap comparisons (as_many c.args.keying.now names order c.requires.index.order)
+    c.compare-comparison-2.ensures.counted ∙ counts c.args.keying.now names order c.requires.index.order c.args.name.now c.loop-half.low (2 ^ inv.steps) c.loop-half.compared inv.left (omega (arith, inv.is, c.loop-half-test.false)) ∙ ap comparisons (as_many c.args.keying.now names order c.requires.index.order)

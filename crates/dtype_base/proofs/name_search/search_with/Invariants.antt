@@ -2,11 +2,11 @@
 -- SPDX-FileCopyrightText: Copyright the Vortex contributors
 
 use Rattle.dtype_base.specs.private.NameOrder.{positions}
-use Rattle.dtype_base.proofs.NameSearch.{Searching}
+use Rattle.dtype_base.proofs.NameSearch.{Halving}
 use Rattle.dtype_base.proofs.name_search.search_with.Given as goal
 
-abbrev pub invariant-loop-size : goal.invariant-loop-size
-invariant-loop-size l = Searching l.names (positions l.entries) l.name l.low l.size l.compared
+abbrev pub invariant-loop-half : goal.invariant-loop-half
+invariant-loop-half l = Halving l.names (positions l.entries) l.name l.low l.half l.compared
 
-abbrev pub decreases-loop-size : goal.decreases-loop-size
-decreases-loop-size l = l.size
+abbrev pub decreases-loop-half : goal.decreases-loop-half
+decreases-loop-half l = l.half

@@ -7,7 +7,7 @@ use Rattle.std.proofs.Common.{◌≡◌, ◌&&◌, ap, ◌∙◌, Some, false, r
 use denote.Hole.Carrier
 use Rattle.dtype_base.specs.declared.nullability.Nullability.{Nullability}
 use Rattle.dtype_types.specs.equality.Equality.{equal_under, fields_equal_under, variants_equal_under, allows}
-use Rattle.dtype_types.specs.equality.PartsEqualityLaws.{pairs_of}
+use Rattle.dtype_types.proofs.lemmas.TreeLaws.{pairs_of}
 use Rattle.dtype_types.proofs.lemmas.TreeLaws.{tree_out, tree_struct, tree_union, triples_variants}
 use Rattle.dtype_types.specs.tree.Kinds.{struct_fields, union_variants}
 use Rattle.dtype_types.specs.tree.Tree.{fields, variants, null, struct, union}

@@ -2,7 +2,7 @@
 -- SPDX-FileCopyrightText: Copyright the Vortex contributors
 
 -- What `tell` gives is a value of the first type and not of the second.
-use Rattle.std.proofs.Common.{◌≡◌, ◌∙◌, ℕ, List, zero, suc, ◌<◌, IfSome, Option, Some, None, refl, sym, subst, inl, inr, arith}
+use Rattle.std.proofs.Common.{◌≡◌, ◌∙◌, ℕ, List, zero, suc, ◌<◌, IfSome, Option, Some, None, refl, sym, inl, inr, arith}
 use Rattle.std.specs.Prelude.{option_map, IsSomeAnd}
 use Rattle.std.proofs.lemmas.Option.{IfSome_then}
 use Rattle.dtype_base.specs.declared.nullability.Nullability.{Nullability}

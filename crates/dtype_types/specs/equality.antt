@@ -7,5 +7,4 @@ pub mod EqualityOf
 pub mod Hashes
 pub mod HashesOf
 pub mod EqualityLaws
-pub mod PartsEqualityLaws
 pub mod HashLaws

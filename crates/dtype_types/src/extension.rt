@@ -339,7 +339,7 @@ impl ExtDTypeRef {
 #[tactic(auto, using(crate::proofs::lemmas::Equality::equality))]
 impl PartialEq for ExtDTypeRef {
     ghost use Rattle.dtype_types.specs.equality.EqualityOf.{same_extension};
-    ghost use Rattle.dtype_types.specs.equality.PartsEqualityLaws.{same_extension_equiv};
+    ghost use Rattle.dtype_types.specs.equality.EqualityLaws.{same_extension_equiv};
     ghost use Rattle.dtype_types.specs.tree.TreeOf.{extension_tree};
     ghost use Rattle.std.specs.Cmp.{partial_equiv_from_equiv};
 
@@ -355,7 +355,7 @@ impl PartialEq for ExtDTypeRef {
 }
 
 impl Eq for ExtDTypeRef {
-    ghost use Rattle.dtype_types.specs.equality.PartsEqualityLaws.{same_extension_equiv};
+    ghost use Rattle.dtype_types.specs.equality.EqualityLaws.{same_extension_equiv};
 
     ghost laws = { same_extension_equiv };
 }

@@ -82,7 +82,7 @@ impl From<PType> for FieldDType {
 #[tactic(auto, using(crate::proofs::lemmas::Equality::equality))]
 impl PartialEq for FieldDType {
     ghost use Rattle.dtype_types.specs.equality.EqualityOf.{same_field_dtype};
-    ghost use Rattle.dtype_types.specs.equality.PartsEqualityLaws.{same_field_dtype_equiv};
+    ghost use Rattle.dtype_types.specs.equality.EqualityLaws.{same_field_dtype_equiv};
     ghost use Rattle.std.specs.Cmp.{partial_equiv_from_equiv};
 
     ghost eq = { same_field_dtype };
@@ -97,7 +97,7 @@ impl PartialEq for FieldDType {
 }
 
 impl Eq for FieldDType {
-    ghost use Rattle.dtype_types.specs.equality.PartsEqualityLaws.{same_field_dtype_equiv};
+    ghost use Rattle.dtype_types.specs.equality.EqualityLaws.{same_field_dtype_equiv};
 
     ghost laws = { same_field_dtype_equiv };
 }

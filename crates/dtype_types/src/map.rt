@@ -169,7 +169,7 @@ impl MapDType {
 #[tactic(auto, using(crate::proofs::lemmas::Equality::equality))]
 impl PartialEq for MapDType {
     ghost use Rattle.dtype_types.specs.equality.EqualityOf.{same_map};
-    ghost use Rattle.dtype_types.specs.equality.PartsEqualityLaws.{same_map_equiv};
+    ghost use Rattle.dtype_types.specs.equality.EqualityLaws.{same_map_equiv};
     ghost use Rattle.dtype_types.specs.tree.TreeOf.{map_shown};
     ghost use Rattle.std.specs.Cmp.{partial_equiv_from_equiv};
 
@@ -185,7 +185,7 @@ impl PartialEq for MapDType {
 }
 
 impl Eq for MapDType {
-    ghost use Rattle.dtype_types.specs.equality.PartsEqualityLaws.{same_map_equiv};
+    ghost use Rattle.dtype_types.specs.equality.EqualityLaws.{same_map_equiv};
 
     ghost laws = { same_map_equiv };
 }

@@ -473,7 +473,7 @@ impl StructFields {
 #[tactic(auto, using(crate::proofs::lemmas::Equality::equality))]
 impl PartialEq for StructFields {
     ghost use Rattle.dtype_types.specs.equality.EqualityOf.{same_struct};
-    ghost use Rattle.dtype_types.specs.equality.PartsEqualityLaws.{same_struct_equiv};
+    ghost use Rattle.dtype_types.specs.equality.EqualityLaws.{same_struct_equiv};
     ghost use Rattle.dtype_types.specs.tree.TreeOf.{children};
     ghost use Rattle.std.specs.Cmp.{partial_equiv_from_equiv};
 
@@ -489,7 +489,7 @@ impl PartialEq for StructFields {
 }
 
 impl Eq for StructFields {
-    ghost use Rattle.dtype_types.specs.equality.PartsEqualityLaws.{same_struct_equiv};
+    ghost use Rattle.dtype_types.specs.equality.EqualityLaws.{same_struct_equiv};
 
     ghost laws = { same_struct_equiv };
 }

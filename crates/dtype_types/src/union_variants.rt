@@ -353,7 +353,7 @@ impl UnionVariants {
 #[tactic(auto, using(crate::proofs::lemmas::Equality::equality))]
 impl PartialEq for UnionVariants {
     ghost use Rattle.dtype_types.specs.equality.EqualityOf.{same_union};
-    ghost use Rattle.dtype_types.specs.equality.PartsEqualityLaws.{same_union_equiv};
+    ghost use Rattle.dtype_types.specs.equality.EqualityLaws.{same_union_equiv};
     ghost use Rattle.dtype_types.specs.tree.TreeOf.{variant_list};
     ghost use Rattle.std.specs.Cmp.{partial_equiv_from_equiv};
 
@@ -369,7 +369,7 @@ impl PartialEq for UnionVariants {
 }
 
 impl Eq for UnionVariants {
-    ghost use Rattle.dtype_types.specs.equality.PartsEqualityLaws.{same_union_equiv};
+    ghost use Rattle.dtype_types.specs.equality.EqualityLaws.{same_union_equiv};
 
     ghost laws = { same_union_equiv };
 }

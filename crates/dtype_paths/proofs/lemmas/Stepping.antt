@@ -15,7 +15,7 @@ use Rattle.dtype_types.specs.tree.TreeOf.{children, fields_of}
 use Rattle.dtype_types.specs.tree.Valid.{Valid, ValidFields}
 use Rattle.dtype_types.specs.declared.dtype.kinds.Kind.TheVariants as kinds
 use Rattle.dtype_types.specs.declared.struct_fields.StructFields.{StructFields}
-use Rattle.dtype_types.specs.equality.PartsEqualityLaws.{pairs_of}
+use Rattle.dtype_types.proofs.lemmas.TreeLaws.{pairs_of}
 use Rattle.dtype_paths.specs.Along.{along}
 use Rattle.dtype_paths.specs.At.{At, ExistsIn, step}
 use Rattle.dtype_paths.specs.Beginning.{Beginning}

@@ -4,7 +4,7 @@
 -- What a name leads to once a field is removed, and in two lists joined whose names are distinct. A caller names all in
 -- one line,
 --     #![tactic(auto, using(dtype_types::proofs::lemmas::DistinctFields::distinct_fields))]
-use Rattle.std.proofs.Common.{◌≡◌, ◌≢◌, ℕ, zero, suc, ◌+◌, ◌<◌, Bool, true, false, cond, List, [], ◌∷◌, ◌++◌, length, Some, None, refl, sym, ap, ◌∙◌, arith, slice_get, get_or, Contains, IsSome}
+use Rattle.std.proofs.Common.{◌≡◌, ◌≢◌, ℕ, zero, suc, ◌<◌, Bool, true, false, cond, List, [], ◌∷◌, ◌++◌, length, Some, None, refl, sym, ap, ◌∙◌, arith, slice_get, get_or, Contains, IsSome}
 use Rattle.std.specs.Prelude.{nat_eq, remove}
 use Rattle.std.specs.Cmp.Lexicographic.{pointwise}
 use Rattle.std.specs.Option.{is_some}

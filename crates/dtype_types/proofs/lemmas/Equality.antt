@@ -14,18 +14,19 @@ use Rattle.std.proofs.lemmas.Bool.{false≢true}
 use Rattle.std.proofs.lemmas.Bool.Decides.{Decides-and}
 use Rattle.std.proofs.lemmas.Slice.Eq.{bytes_eq-Decides, slice_eq-Decides}
 use Rattle.std.proofs.Common.{sym, ap, subst, ◌∙◌}
-use Rattle.dtype_types.specs.equality.EqualityLaws.{equal_under-Decides, restated, variants_equal_under-Decides}
+use Rattle.dtype_types.specs.equality.EqualityLaws.{equal_under-Decides, restated}
 use Rattle.dtype_types.specs.parts.FieldTypes.{field_tree}
+use Rattle.dtype_base.specs.declared.nullability.Nullability.TheVariants.{NonNullable}
 use Rattle.dtype_types.specs.declared.dtype.equality.NullabilityRule.TheVariants.{Compared}
 use Rattle.dtype_types.specs.equality.Equality.{equal_under}
 use Rattle.dtype_types.specs.equality.EqualityOf.{same_field_dtype}
-use Rattle.dtype_types.specs.equality.PartsEqualityLaws.{maps_equal_under-Decides, same_fields-Decides}
 use Rattle.dtype_types.specs.equality.EqualityOf.{same_dtype, same_extension, same_map, same_struct, same_union}
 use Rattle.dtype_types.specs.parts.Lookups.{field_names}
 use Rattle.dtype_types.specs.tree.Erase.{erase, erase_fields}
-use Rattle.dtype_types.specs.tree.Tree.{Tree, fields, triples, variants}
-use Rattle.dtype_types.specs.tree.TreeOf.{children, struct_tree, tree, variant_list, extension_tree, map_shown, variants_of}
+use Rattle.dtype_types.specs.tree.Tree.{Tree, fields, map_of, struct, triples, union, variants}
+use Rattle.dtype_types.specs.tree.TreeOf.{MapParts, children, extension_tree, map_shown, map_tree, struct_tree, tree, union_tree, variant_list}
 use Rattle.dtype_types.specs.equality.HashLaws.{erased_fed}
+use Rattle.dtype_types.proofs.lemmas.Structs.{same_pairs}
 use Rattle.dtype_types.proofs.lemmas.TreeLaws.{triples_variants}
 use Rattle.dtype_types.specs.declared.dtype.DType.{DType}
 use Rattle.dtype_types.specs.declared.extension.ExtDTypeRef.{ExtDTypeRef}
@@ -35,15 +36,21 @@ use Rattle.dtype_types.specs.declared.struct_fields.StructFields.{StructFields}
 use Rattle.dtype_types.specs.declared.union_variants.UnionVariants.{UnionVariants}
 
 pub structs_Decides : (a b : StructFields) → Decides (same_struct a b) (children a ≡ children b)
-structs_Decides a b = same_fields-Decides (children a) (children b)
+structs_Decides a b = restated (same_pairs (children a) (children b) NonNullable NonNullable) (λ e. ap (λ ps. struct (fields ps) NonNullable) e) (equal_under-Decides (struct_tree a) (struct_tree b))
+
+-- unions that are equal have the same variants
+same_triples : (ps qs : List (List ℕ × (Tree × ℕ))) → union (variants ps) NonNullable ≡ union (variants qs) NonNullable → ps ≡ qs
+same_triples ps qs e = let alike : variants ps ≡ variants qs = cc in sym (triples_variants ps) ∙ ap triples alike ∙ triples_variants qs
 
 pub unions_Decides : (a b : UnionVariants) → Decides (same_union a b) (variant_list a ≡ variant_list b)
-unions_Decides a b =
-    let d = variants_equal_under-Decides (variants_of a) (variants_of b) in
-    (λ e. sym (triples_variants (variant_list a)) ∙ ap triples (d.0 e) ∙ triples_variants (variant_list b), λ e. d.1 (ap variants e))
+unions_Decides a b = restated (same_triples (variant_list a) (variant_list b)) (λ e. ap (λ ps. union (variants ps) NonNullable) e) (equal_under-Decides (union_tree a) (union_tree b))
+
+-- maps that are equal have the same parts
+same_map_parts : (a b : MapParts) → map_of a.0 a.1 a.2 NonNullable ≡ map_of b.0 b.1 b.2 NonNullable → a ≡ b
+same_map_parts (k, v, s) (l, w, t) e = cc
 
 pub maps_Decides : (a b : MapDType) → Decides (same_map a b) (map_shown a ≡ map_shown b)
-maps_Decides a b = maps_equal_under-Decides (map_shown a) (map_shown b)
+maps_Decides a b = restated (same_map_parts (map_shown a) (map_shown b)) (λ e. ap (λ m. map_of m.0 m.1 m.2 NonNullable) e) (equal_under-Decides (map_tree a) (map_tree b))
 
 pub extensions_Decides : (a b : ExtDTypeRef) → Decides (same_extension a b) (extension_tree a ≡ extension_tree b)
 extensions_Decides a b = equal_under-Decides (extension_tree a) (extension_tree b)

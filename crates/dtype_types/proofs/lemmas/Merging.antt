@@ -4,7 +4,7 @@
 -- What is merged and what is intersected of two types: where there is such a type, that it is the least above or the
 -- greatest below, that it is valid, its values, and that both are commutative, associative, idempotent and monotone and
 -- absorb one another.
-use Rattle.std.proofs.Common.{◌≡◌, ◌≢◌, ◌↔◌, ◌∙◌, ℕ, List, Bool, true, false, Option, Some, None, IsSome, IfSome, option_and_then, refl, sym, ap, subst}
+use Rattle.std.proofs.Common.{◌≡◌, ◌≢◌, ◌↔◌, ◌∙◌, Bool, true, false, Option, Some, None, IsSome, IfSome, option_and_then, refl, sym, ap, subst}
 use Rattle.std.specs.Prelude.{if◌then◌else◌}
 use Rattle.std.specs.Option.{option_map}
 use Rattle.std.proofs.lemmas.Bool.{false≢true, false_from_ne_true}

@@ -8,7 +8,7 @@ use Rattle.std.proofs.lemmas.Option.{same_Some}
 use Rattle.dtype_base.specs.declared.nullability.Nullability.{Nullability}
 use Rattle.dtype_types.specs.tree.Kinds.{struct_fields}
 use Rattle.dtype_types.specs.nullability.Nullable.{nullability}
-use Rattle.dtype_types.specs.equality.PartsEqualityLaws.{pairs_of}
+use Rattle.dtype_types.proofs.lemmas.TreeLaws.{pairs_of}
 use Rattle.dtype_types.proofs.lemmas.ValidParts.{fields_of_pairs}
 use Rattle.dtype_types.specs.tree.Tree.{Tree, fields, pairs, struct}
 

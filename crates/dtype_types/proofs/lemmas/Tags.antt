@@ -2,7 +2,7 @@
 -- SPDX-FileCopyrightText: Copyright the Vortex contributors
 
 -- The tags of a valid union: each is at one position.
-use Rattle.std.proofs.Common.{◌≡◌, ℕ, ◌<◌, ◌≤◌, ◌+◌, ◌==◌, Bool, true, inl, inr, List, [], ◌∷◌, length, get_or, slice_get, Option, Some, None, IfSome, IsSome, ◌↔◌, Contains, cond, refl, ap, subst, sym, ◌∙◌, arith}
+use Rattle.std.proofs.Common.{◌≡◌, ℕ, ◌<◌, ◌≤◌, ◌+◌, ◌==◌, Bool, true, inl, inr, List, length, get_or, slice_get, Option, Some, None, IfSome, IsSome, ◌↔◌, Contains, cond, refl, ap, subst, sym, ◌∙◌, arith}
 use Rattle.std.specs.List.{position, position_or_len, range_with_len}
 use Rattle.std.specs.Option.{is_some}
 use Rattle.std.proofs.lemmas.List.{get_or_default, length-map}

@@ -5,7 +5,7 @@
 use Rattle.std.specs.Prelude.{◌≡◌, ℕ, List, [], ◌∷◌, refl}
 use Rattle.std.proofs.Common.{ap, rules}
 use Rattle.dtype_base.specs.declared.nullability.Nullability.{Nullability}
-use Rattle.dtype_types.specs.tree.Tree.{null, map_of, Tree, Fields, Variants, triples, fields, variants, struct, union}
+use Rattle.dtype_types.specs.tree.Tree.{null, map_of, Tree, Fields, Variants, pairs, triples, fields, variants, struct, union}
 use Rattle.dtype_types.specs.tree.TreeOf.{tree, extension_tree, children, variant_list, MapParts, ExtensionParts, type_step, extension_step, map_step, struct_step, union_step, map_shown}
 use Rattle.dtype_types.specs.declared.dtype.DType.{DType, Map, Null, Struct, Union, Extension, out-DType, map-DType, fold_out-DType, fold-roll-DType, the_lemmas}
 use Rattle.dtype_types.specs.declared.dtype.DType.TheFolds.{fold-ExtDTypeRef, fold-MapDType, fold-StructFields, fold-UnionVariants}
@@ -45,6 +45,10 @@ tree_union u n = search (rules, the_lemmas, fold_out-DType, fold-roll-DType, fol
 
 pub tree_extension : (e : ExtDTypeRef) → tree (Extension e) ≡ extension_tree e
 tree_extension e = search (rules, the_lemmas, fold_out-DType, fold-roll-DType, fold_out-ExtDTypeRef)
+
+pub pairs_of : (ps : List (List ℕ × Tree)) → pairs (fields ps) ≡ ps
+pairs_of [] = refl
+pairs_of (p ∷ ps) = ap (λ qs. p ∷ qs) (pairs_of ps)
 
 pub triples_variants : (ps : List (List ℕ × (Tree × ℕ))) → triples (variants ps) ≡ ps
 triples_variants [] = refl

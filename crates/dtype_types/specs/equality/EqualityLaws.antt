@@ -3,14 +3,12 @@
 
 -- The test of equality is exact under each rule. With nullabilities compared it holds exactly where the trees are equal,
 -- with them ignored exactly where their erased trees are, and with those of the first within those of the second exactly
--- where the first is below the second (`Sub`). Equality is an equivalence.
+-- where the first is below the second (`Sub`). Equality of types and of their parts is an equivalence.
 use Rattle.std.specs.Prelude.{◌≡◌, Bool, ◌&&◌, ◌==◌, List, [], ◌∷◌, Some, slice_get, refl}
 use Rattle.std.specs.Bool.{Decides}
 use Rattle.std.specs.Ordering.{int_eq}
 use Rattle.std.proofs.Common.{ap, subst, sym, ◌∙◌}
-use Rattle.std.proofs.Math.Bool.{beq}
 use Rattle.std.specs.Cmp.{booleans_Decides, signed_Decides, IsEquivalence, decided, on_equiv}
-use Rattle.std.specs.Str.{bytes_eq}
 use Rattle.std.proofs.lemmas.Bool.{false≢true}
 use Rattle.std.proofs.lemmas.Bool.Decides.{Decides-and, Decides-eqb}
 use Rattle.std.proofs.lemmas.Option.{same_Some}
@@ -27,8 +25,8 @@ use Rattle.dtype_types.specs.nullability.Sub.{Sub, Wherever, WhereverFields, Whe
 use Rattle.dtype_types.specs.tree.Tree.{Tree, Fields, no_fields, field, Variants, no_variants, choice, null, bool, primitive, decimal, utf8, binary, list, fixed_size_list, map_of, struct, union, variant, extension}
 use Rattle.dtype_types.specs.tree.Erase.{erase, erase_fields, erase_variants}
 use Rattle.dtype_types.specs.equality.Equality.{Asks, equal_under, fields_equal_under, variants_equal_under, allows, same_ptype}
-use Rattle.dtype_types.specs.equality.EqualityOf.{same_dtype}
-use Rattle.dtype_types.specs.tree.TreeOf.{tree}
+use Rattle.dtype_types.specs.equality.EqualityOf.{same_dtype, same_extension, same_field_dtype, same_map, same_struct, same_union}
+use Rattle.dtype_types.specs.tree.TreeOf.{tree, struct_tree, union_tree, map_tree, extension_tree}
 
 -- a test of P is one of a Q that says the same
 pub restated : {P Q : Type 0} {x : Bool} → (P → Q) → (Q → P) → Decides x P → Decides x Q
@@ -201,16 +199,27 @@ equal_under-Decides a b =
     restated (λ h. equal_by (Asks Compared) (Asks Ignored) (λ m n e _. e) a b h.0 h.1 (everywhere (Asks Ignored) (λ m n. tt) b a (sym h.0)))
     (λ e. subst (Alike Compared a) e (refl, reflexive (Asks Compared) (λ n. refl) a)) (alike-Decides Compared a b)
 
--- fields and variants, as those of a type
-pub fields_equal_under-Decides : (fs gs : Fields) → Decides (fields_equal_under Compared fs gs) (fs ≡ gs)
-fields_equal_under-Decides fs gs = restated (λ e. cc e) (λ e. ap (λ x. struct x NonNullable) e) (equal_under-Decides (struct fs NonNullable) (struct gs NonNullable))
+-- ---- `==` of types and of their parts, as an equivalence
 
-pub variants_equal_under-Decides : (vs ws : Variants) → Decides (variants_equal_under Compared vs ws) (vs ≡ ws)
-variants_equal_under-Decides vs ws = restated (λ e. cc e) (λ e. ap (λ x. union x NonNullable) e) (equal_under-Decides (union vs NonNullable) (union ws NonNullable))
-
--- ---- `==` of types, as an equivalence
+same_trees : IsEquivalence (equal_under Compared)
+same_trees = decided (equal_under Compared) equal_under-Decides
 
 pub same_dtype_equiv : IsEquivalence same_dtype
-same_dtype_equiv = on_equiv tree (decided (equal_under Compared) equal_under-Decides)
+same_dtype_equiv = on_equiv tree same_trees
+
+pub same_field_dtype_equiv : IsEquivalence same_field_dtype
+same_field_dtype_equiv = on_equiv (λ f. f.dtype) same_dtype_equiv
+
+pub same_struct_equiv : IsEquivalence same_struct
+same_struct_equiv = on_equiv struct_tree same_trees
+
+pub same_union_equiv : IsEquivalence same_union
+same_union_equiv = on_equiv union_tree same_trees
+
+pub same_map_equiv : IsEquivalence same_map
+same_map_equiv = on_equiv map_tree same_trees
+
+pub same_extension_equiv : IsEquivalence same_extension
+same_extension_equiv = on_equiv extension_tree same_trees
 
 pub ruleset exact_tests = (equal_under-Decides, equal_erased-Decides)

@@ -3,22 +3,23 @@
 
 -- Types that are equal feed a hasher the same writes; types that are equal but for nullabilities do where those are
 -- ignored.
-use Rattle.std.specs.Prelude.{◌≡◌, suc, ◌++◌, drop, true, refl}
+use Rattle.std.specs.Prelude.{◌≡◌, suc, ◌++◌, true, refl}
 use Rattle.std.proofs.Common.{ap, sym, ◌∙◌}
 use Rattle.std.specs.Hash as fed
 use Rattle.dtype_base.specs.declared.nullability.Nullability.TheVariants.{NonNullable}
 use Rattle.dtype_types.specs.tree.Kinds.{kind_number}
 use Rattle.dtype_types.specs.declared.dtype.kinds.Kind.TheVariants as kind
-use Rattle.dtype_types.specs.tree.Tree.{Tree, Fields, no_fields, field, Variants, no_variants, choice, list, fixed_size_list, map_of, struct, union, extension, fields}
-use Rattle.dtype_types.specs.tree.TreeOf.{tree, children, variants_of, map_shown, extension_tree}
+use Rattle.dtype_types.specs.tree.Tree.{Tree, Fields, no_fields, field, Variants, no_variants, choice, list, fixed_size_list, map_of, struct, union, extension}
+use Rattle.dtype_types.specs.tree.TreeOf.{tree, struct_tree, union_tree, map_tree, extension_tree}
 use Rattle.dtype_types.specs.tree.Erase.{erase, erase_fields, erase_variants}
-use Rattle.dtype_types.specs.equality.EqualityLaws.{equal_under-Decides, variants_equal_under-Decides}
+use Rattle.dtype_types.specs.equality.EqualityLaws.{equal_under-Decides}
 use Rattle.dtype_types.specs.equality.EqualityOf.{same_dtype}
-use Rattle.dtype_types.specs.equality.PartsEqualityLaws.{same_fields-Decides, maps_equal_under-Decides}
+use Rattle.dtype_types.specs.equality.Equality.{equal_under}
+use Rattle.dtype_types.specs.declared.dtype.equality.NullabilityRule.TheVariants.{Compared}
 use Rattle.dtype_types.specs.equality.EqualityOf.{same_struct, same_union, same_map, same_extension}
 use Rattle.dtype_types.specs.equality.Hashes.{hash_of, kind_writes, bytes_writes, field_count, field_writes, variant_count, variant_writes}
 use Rattle.dtype_types.specs.declared.dtype.hash.HashMode.TheVariants.{Whole, Erased}
-use Rattle.dtype_types.specs.equality.HashesOf.{struct_writes, union_writes, map_writes, extension_writes}
+use Rattle.dtype_types.specs.equality.HashesOf.{inner_writes, struct_writes, union_writes, map_writes, extension_writes}
 use Rattle.dtype_types.specs.declared.dtype.DType.{DType}
 use Rattle.dtype_types.specs.declared.struct_fields.StructFields.{StructFields}
 use Rattle.dtype_types.specs.declared.union_variants.UnionVariants.{UnionVariants}
@@ -28,18 +29,21 @@ use Rattle.dtype_types.specs.declared.extension.ExtDTypeRef.{ExtDTypeRef}
 pub equal_types_hash_alike : (x y : DType) → same_dtype x y ≡ true → hash_of Whole (tree x) ≡ hash_of Whole (tree y)
 equal_types_hash_alike x y e = ap (hash_of Whole) ((equal_under-Decides (tree x) (tree y)).0 e)
 
+-- what a part feeds is told by its tree
+inner_writes_alike : (a b : Tree) → equal_under Compared a b ≡ true → inner_writes Whole a ≡ inner_writes Whole b
+inner_writes_alike a b e = ap (inner_writes Whole) ((equal_under-Decides a b).0 e)
+
 pub struct_fed : (x y : StructFields) → same_struct x y ≡ true → struct_writes Whole x ≡ struct_writes Whole y
-struct_fed x y e = ap (λ ps. fed.usize (field_count (fields ps)) ++ field_writes Whole (fields ps)) ((same_fields-Decides (children x) (children y)).0 e)
+struct_fed x y = inner_writes_alike (struct_tree x) (struct_tree y)
 
 pub union_fed : (x y : UnionVariants) → same_union x y ≡ true → union_writes Whole x ≡ union_writes Whole y
-union_fed x y e = ap (λ vs. fed.usize (variant_count vs) ++ variant_writes Whole vs) ((variants_equal_under-Decides (variants_of x) (variants_of y)).0 e)
+union_fed x y = inner_writes_alike (union_tree x) (union_tree y)
 
 pub map_fed : (x y : MapDType) → same_map x y ≡ true → map_writes Whole x ≡ map_writes Whole y
-map_fed x y e = ap (λ m. hash_of Whole m.0 ++ (hash_of Whole m.1 ++ fed.bool m.2)) ((maps_equal_under-Decides (map_shown x) (map_shown y)).0 e)
+map_fed x y = inner_writes_alike (map_tree x) (map_tree y)
 
--- an extension's writes are those of its tree after the byte of the kind
 pub extension_fed : (x y : ExtDTypeRef) → same_extension x y ≡ true → extension_writes Whole x ≡ extension_writes Whole y
-extension_fed x y e = ap (λ t. drop 1 (hash_of Whole t)) ((equal_under-Decides (extension_tree x) (extension_tree y)).0 e)
+extension_fed x y = inner_writes_alike (extension_tree x) (extension_tree y)
 
 mutual
   pub hash-erase : (t : Tree) → hash_of Erased t ≡ hash_of Erased (erase t)

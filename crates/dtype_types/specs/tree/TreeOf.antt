@@ -3,7 +3,7 @@
 
 -- The tree that a `DType` means, and what its parts show: a struct's fields as pairs of a name and a type,
 -- a union's variants as triples of a name, a type and a tag. From the declaration of `DType` and its parts.
-use Rattle.std.specs.Prelude.{ℕ, List, [], ◌∷◌, map, Option, Some, None, Bool as Flag}
+use Rattle.std.specs.Prelude.{ℕ, List, map, Option, Some, None, Bool as Flag}
 use Rattle.std.specs.Borrow.{Bor}
 use Rattle.dtype_base.specs.declared.nullability.Nullability.TheVariants.{NonNullable}
 use Rattle.std.specs.Map.{values_of}

@@ -33,7 +33,7 @@ ghost use Rattle.dtype_types.specs.parts.Unions.{MakesUnion};
 ghost use Rattle.dtype_types.specs.parts.Lists.{borrowed_pair, borrowed_triple};
 
 use crate::{
-    DType, DTypeIter, ExtDTypeRef, FieldDType, FieldIter, Kind, MapDType, StructFields,
+    DType, DTypeIter, ExtDTypeRef, ExtId, FieldDType, FieldIter, Kind, MapDType, StructFields,
     UnionVariants, VariantIter,
 };
 use std::hash::Hash;
@@ -41,6 +41,11 @@ use std::hash::Hash;
 /// `==` of kinds holds exactly of the same kind.
 pub fn kinds_are_equal_where_the_same()
     ensures { (a b : Kind) → Decides (⟦<Kind as PartialEq>⟧.eq a b) (a ≡ b) }
+{}
+
+/// `==` of ids holds exactly where their texts are the same.
+pub fn ids_are_equal_where_their_texts_are()
+    ensures { (a b : List ℕ) → Decides (⟦<ExtId as PartialEq>⟧.eq a b) (a ≡ b) }
 {}
 
 /// Types that are equal write the same to every hasher.

@@ -22,7 +22,7 @@ class Planted(unittest.TestCase):
         shutil.copytree(f"{HERE}/small", self.top, dirs_exist_ok=True)
         for file in glob.glob(f"{self.top}/**/*.in", recursive=True):
             os.rename(file, file.removesuffix(".in"))
-        ignored = shutil.ignore_patterns("tests", "rows", "original", "__pycache__")
+        ignored = shutil.ignore_patterns("tests", "original", "__pycache__")
         shutil.copytree(TOOLS, f"{self.top}/tools", ignore=ignored)
 
     def path(self, file):

@@ -1,93 +1,123 @@
 // SPDX-License-Identifier: Apache-2.0
 // SPDX-FileCopyrightText: Copyright the Vortex contributors
 
-//! The commands by their names, and the forms of their answers.
+//! The commands by their names.
 
-mod comparisons;
-mod decimals;
-mod kinds;
-mod messages;
-mod natives;
+mod extensions;
+mod numbers;
 mod paths;
 mod structs;
-mod texts;
+mod types;
 
-use std::borrow::Borrow;
+use std::cell::RefCell;
 use std::collections::HashMap;
-use std::fmt::Display;
+use std::hash::{DefaultHasher, Hash, Hasher};
+use std::panic::{self, AssertUnwindSafe};
 
-use vortex_array::dtype::DType;
+use vortex_array::dtype::FieldPath;
 
-use crate::bytes::escaped;
-use crate::types::{counted, written};
-use crate::words::{Answer, Argument, Words, bad};
+use crate::line::{Argument, Line};
+use crate::living::{Living, session, set};
+use crate::told::{Answer, Stop, Told, stop};
 
-type Command = Box<dyn Fn(Words) -> Answer>;
+type Command = Box<dyn Fn(&mut Line) -> Answer>;
 
-/// The commands by their names.
-pub struct Commands(HashMap<&'static str, Command>);
+/// The condition of each command where the original panics.
+const CONDITIONS: [(&str, &str); 23] = {
+    const NONNULLABLE: &str = "a type that can be non-nullable";
+    const IN_RANGE: &str = "an index in range";
+    const AS_MANY: &str = "as many names as types";
+    [
+        ("as_nonnullable", NONNULLABLE),
+        ("with_nullability", NONNULLABLE),
+        ("extension_with_nullability", NONNULLABLE),
+        ("tag_with_nullability", NONNULLABLE),
+        ("word_with_nullability", NONNULLABLE),
+        ("as_ptype", "a primitive type"),
+        ("as_struct_fields", "a struct type"),
+        ("into_struct_fields", "a struct type"),
+        ("as_extension", "an extension type"),
+        ("struct", AS_MANY),
+        ("struct_new", AS_MANY),
+        ("struct_from_fields", AS_MANY),
+        ("struct_from_iter", AS_MANY),
+        ("child_index_to_tag", IN_RANGE),
+        ("names_at", IN_RANGE),
+        ("decimal_new", "a valid precision and scale"),
+        ("by_precision", "at most the greatest precision"),
+        ("match_each_simd", "not f16"),
+        ("match_each_integer", "an integer"),
+        ("match_each_unsigned", "an unsigned integer"),
+        ("match_each_signed", "a signed integer"),
+        ("match_each_float", "a float"),
+        ("starts_with_field", "names"),
+    ]
+};
 
-impl Commands {
+/// The commands, and what lives from line to line.
+pub struct Console {
+    commands: HashMap<&'static str, Command>,
+    sets: RefCell<Living<Vec<FieldPath>>>,
+    sessions: RefCell<Living<Vec<&'static str>>>,
+}
+
+impl Console {
     pub fn new() -> Self {
-        let mut commands = Self(HashMap::new());
-        for add_to in [
-            comparisons::add_to,
-            decimals::add_to,
-            kinds::add_to,
-            messages::add_to,
-            natives::add_to,
-            paths::add_to,
-            structs::add_to,
-            texts::add_to,
-        ] {
-            add_to(&mut commands);
+        let mut console = Self { commands: HashMap::new(), sets: RefCell::default(), sessions: RefCell::default() };
+        for add_to in [types::add_to, structs::add_to, extensions::add_to, paths::add_to, numbers::add_to] {
+            add_to(&mut console);
         }
-        commands
+        console
     }
 
-    /// Adds the command that reads an `A` and answers by `run`.
-    fn add<A: Argument>(&mut self, name: &'static str, run: impl Fn(A) -> Answer + 'static) {
-        self.0.insert(name, Box::new(move |words| run(words.rest()?)));
+    /// Adds the command that reads an `A` and answers what `run` gives.
+    fn add<A: Argument, T: Told>(&mut self, name: &'static str, run: impl Fn(A) -> T + 'static) {
+        self.commands.insert(name, Box::new(move |line| run(line.last()?).told()));
     }
 
-    pub fn answer(&self, line: &str) -> Answer {
-        let mut words = Words::new(line);
-        match self.0.get(words.next()?) {
-            Some(command) => command(words),
-            None => bad("no such command"),
+    /// The answer of a line.
+    pub fn answer(&self, text: &str) -> String {
+        let mut line = Line::new(text, &self.sessions);
+        if line.is_at_end() {
+            return String::new();
+        }
+        self.told(&mut line).unwrap_or_else(|Stop(answer)| answer)
+    }
+
+    fn told(&self, line: &mut Line) -> Answer {
+        let of_console = ["set", "session", "help"];
+        match line.command(|it| of_console.contains(&it) || self.commands.contains_key(it))? {
+            "set" => set(&mut self.sets.borrow_mut(), line),
+            "session" => session(line),
+            "help" => line.command(|it| self.commands.contains_key(it)).map(str::to_owned),
+            name => {
+                let run = || self.commands[name](line);
+                panic::catch_unwind(AssertUnwindSafe(run)).unwrap_or_else(|_| broken(name))
+            }
         }
     }
 }
 
-/// The value alone.
-fn told(value: impl Display) -> Answer {
-    Ok(value.to_string())
+/// The answer where the original panicked.
+fn broken(command: &str) -> Answer {
+    match CONDITIONS.iter().find(|(name, _)| *name == command) {
+        Some((_, condition)) => stop(format!("condition: {condition}")),
+        None => stop("the original panicked"),
+    }
 }
 
-/// `ok`, and the value.
-fn ok(value: impl Display) -> Answer {
-    Ok(format!("ok {value}"))
+/// The hash by std's SipHash.
+fn hash_of(value: &impl Hash) -> u64 {
+    let mut state = DefaultHasher::new();
+    value.hash(&mut state);
+    state.finish()
 }
 
-/// `ok`, and the value's text on one line.
-fn ok_text(value: impl Display) -> Answer {
-    ok(escaped(&value.to_string()))
+/// Whether two hash the same.
+fn hash_equally<T: Hash>((a, b): (T, T)) -> bool {
+    hash_of(&a) == hash_of(&b)
 }
 
-fn ok_type(dtype: &DType) -> Answer {
-    ok(written(dtype)?)
-}
-
-/// `none`, or `some` and the value.
-fn option(value: Option<impl Display>) -> Answer {
-    Ok(value.map_or("none".to_owned(), |value| format!("some {value}")))
-}
-
-fn option_type(dtype: Option<impl Borrow<DType>>) -> Answer {
-    option(dtype.map(|dtype| written(dtype.borrow())).transpose()?)
-}
-
-fn type_list(types: impl IntoIterator<Item = DType>) -> Answer {
-    let types: Vec<String> = types.into_iter().map(|dtype| written(&dtype)).collect::<Answer<_>>()?;
-    told(counted(types))
+fn are_equal<T: PartialEq>((a, b): (T, T)) -> bool {
+    a == b
 }

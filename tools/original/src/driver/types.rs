@@ -1,20 +1,20 @@
 // SPDX-License-Identifier: Apache-2.0
 // SPDX-FileCopyrightText: Copyright the Vortex contributors
 
-//! Types as they are written.
+//! Types, names and paths as arguments. The original refuses the types that can't be made, as they are met.
 
 use std::sync::Arc;
 
 use vortex_array::dtype::extension::{ExtDTypeRef, ExtId, ForeignExtDType};
 use vortex_array::dtype::{
-    DType, DecimalDType, DecimalType, FieldName, MapDType, Nullability, PType, StructFields, UnionVariants,
+    DType, DecimalDType, DecimalType, Field, FieldMask, FieldName, FieldNames, FieldPath, MapDType, Nullability, PType,
+    StructFields, UnionVariants,
 };
 
-use crate::bytes::{Bytes, hex, name};
-use crate::plugins::tagged;
-use crate::words::{Answer, Argument, Words, bad};
+use crate::line::{Argument, Bytes, Line, is_blank};
+use crate::told::Answer;
 
-const PTYPES: [PType; 11] = {
+pub const PTYPES: [PType; 11] = {
     use PType::*;
     [U8, U16, U32, U64, I8, I16, I32, I64, F16, F32, F64]
 };
@@ -22,86 +22,219 @@ const PTYPES: [PType; 11] = {
 const DECIMAL_TYPES: [DecimalType; 6] =
     [DecimalType::I8, DecimalType::I16, DecimalType::I32, DecimalType::I64, DecimalType::I128, DecimalType::I256];
 
-/// Finds the value whose text a word is.
-fn named<T: ToString, const N: usize>(all: [T; N], word: &str) -> Answer<T> {
-    all.into_iter().find(|it| it.to_string() == word).map_or_else(|| bad(format!("no such name: {word}")), Ok)
+/// The value whose text stands here.
+fn named<T: ToString, const N: usize>(line: &mut Line, all: [T; N]) -> Answer<T> {
+    let (at, word) = (line.at, line.word()?);
+    all.into_iter().find(|it| it.to_string() == word).map_or_else(|| line.fail(at), Ok)
 }
 
 impl Argument for PType {
-    fn read(words: &mut Words) -> Answer<Self> {
-        named(PTYPES, words.next()?)
+    fn read(line: &mut Line) -> Answer<Self> {
+        named(line, PTYPES)
     }
 }
 
 impl Argument for DecimalType {
-    fn read(words: &mut Words) -> Answer<Self> {
-        named(DECIMAL_TYPES, words.next()?)
+    fn read(line: &mut Line) -> Answer<Self> {
+        named(line, DECIMAL_TYPES)
+    }
+}
+
+impl Argument for Nullability {
+    fn read(line: &mut Line) -> Answer<Self> {
+        line.one_of(&["NonNullable", "Nullable"]).map(|place| (place == 1).into())
+    }
+}
+
+impl Argument for FieldName {
+    fn read(line: &mut Line) -> Answer<Self> {
+        line.name(false).map(FieldName::from)
+    }
+}
+
+/// The id of an extension.
+pub struct Id(pub ExtId);
+
+impl Argument for Id {
+    fn read(line: &mut Line) -> Answer<Self> {
+        Ok(Self(ExtId::new(&line.name(true)?)))
+    }
+}
+
+/// Names with commas between them, or `-`.
+impl Argument for FieldNames {
+    fn read(line: &mut Line) -> Answer<Self> {
+        let names = if line.eat("-") { Vec::new() } else { line.several(FieldName::read)? };
+        Ok(names.into())
+    }
+}
+
+/// Tags with commas between them, or `-`.
+pub struct Tags(pub Vec<u8>);
+
+impl Argument for Tags {
+    fn read(line: &mut Line) -> Answer<Self> {
+        let tags = if line.eat("-") { Vec::new() } else { line.several(Line::number)? };
+        Ok(Self(tags))
+    }
+}
+
+impl Argument for Field {
+    fn read(line: &mut Line) -> Answer<Self> {
+        if line.eat("[]") {
+            return Ok(Field::ElementType);
+        }
+        line.eat("$");
+        FieldName::read(line).map(Field::Name)
+    }
+}
+
+impl Argument for FieldPath {
+    fn read(line: &mut Line) -> Answer<Self> {
+        if line.eat(".") {
+            return Ok(FieldPath::root());
+        }
+        let mut steps = vec![Field::read(line)?];
+        while line.eat(".") {
+            steps.push(Field::read(line)?);
+        }
+        Ok(steps.into())
+    }
+}
+
+impl Argument for FieldMask {
+    fn read(line: &mut Line) -> Answer<Self> {
+        let form = line.one_of(&["all", "prefix", "exact"])?;
+        if form == 0 {
+            return Ok(FieldMask::All);
+        }
+        line.blanks();
+        FieldPath::read(line).map(if form == 1 { FieldMask::Prefix } else { FieldMask::Exact })
     }
 }
 
 impl Argument for DecimalDType {
-    fn read(words: &mut Words) -> Answer<Self> {
-        let (precision, scale) = words.read()?;
+    fn read(line: &mut Line) -> Answer<Self> {
+        let at = line.at;
+        if !line.eat("decimal") {
+            return line.fail(at);
+        }
+        line.sign("(")?;
+        let precision = line.number()?;
+        line.sign(",")?;
+        let scale = line.number()?;
+        line.sign(")")?;
         Ok(DecimalDType::try_new(precision, scale)?)
     }
 }
 
 impl Argument for DType {
-    fn read(words: &mut Words) -> Answer<Self> {
-        Ok(match words.next()? {
+    fn read(line: &mut Line) -> Answer<Self> {
+        let at = line.at;
+        if line.has("{") {
+            let fields = if line.has("}") { Vec::new() } else { line.inside(|it| it.several(field), Some("}"))? };
+            return Ok(DType::Struct(StructFields::from_iter(fields), mark(line)));
+        }
+        if line.rest().strip_prefix("decimal").is_some_and(|rest| rest.trim_start_matches(is_blank).starts_with('(')) {
+            return Ok(DType::Decimal(DecimalDType::read(line)?, mark(line)));
+        }
+        for (kind, read) in PARTED {
+            if line.eat(kind) {
+                line.blanks();
+                return read(line);
+            }
+        }
+        let word = line.name(true)?;
+        if line.eat("[") {
+            line.blanks();
+            return extension(line, &word);
+        }
+        let ptype = PTYPES.into_iter().find(|it| it.to_string() == word);
+        Ok(match word.as_str() {
             "null" => DType::Null,
-            "bool" => DType::Bool(words.read()?),
-            "prim" => DType::Primitive(words.read()?, words.read()?),
-            "dec" => DType::Decimal(words.read()?, words.read()?),
-            "utf8" => DType::Utf8(words.read()?),
-            "binary" => DType::Binary(words.read()?),
-            "list" => {
-                let (nullability, element) = words.read()?;
-                DType::List(Arc::new(element), nullability)
-            }
-            "fsl" => {
-                let (nullability, size, element) = words.read()?;
-                DType::FixedSizeList(Arc::new(element), size, nullability)
-            }
-            "map" => {
-                let (nullability, sorted, key, value) = words.read()?;
-                DType::Map(MapDType::try_new(key, value, sorted)?, nullability)
-            }
-            "struct" => {
-                let (nullability, fields): (_, Vec<(FieldName, DType)>) = words.read()?;
-                DType::Struct(StructFields::from_iter(fields), nullability)
-            }
-            "union" => {
-                let (nullability, variants) = words.read()?;
-                DType::Union(union_of(variants)?, nullability)
-            }
-            "variant" => DType::Variant(words.read()?),
-            "ext" => DType::Extension(foreign(words.read()?)?),
-            "tag" => {
-                let (metadata, storage) = words.read()?;
-                tagged(metadata, storage)?
-            }
-            kind => return bad(format!("no such kind of type: {kind}")),
+            "bool" => DType::Bool(mark(line)),
+            "utf8" => DType::Utf8(mark(line)),
+            "binary" => DType::Binary(mark(line)),
+            "variant" => DType::Variant(mark(line)),
+            _ => DType::Primitive(ptype.map_or_else(|| line.fail(at), Ok)?, mark(line)),
         })
     }
 }
 
-fn union_of(variants: Vec<(FieldName, u8, DType)>) -> Answer<UnionVariants> {
-    let names: Vec<FieldName> = variants.iter().map(|(name, ..)| name.clone()).collect();
-    let (tags, types) = variants.into_iter().map(|(_, tag, dtype)| (tag, dtype)).unzip();
-    Ok(UnionVariants::try_new(names.into(), types, tags)?)
+/// The kinds with parts in round brackets.
+const PARTED: [(&str, fn(&mut Line) -> Answer<DType>); 4] =
+    [("list(", list), ("fixed_size_list(", fixed_size_list), ("map(", map), ("union(", union)];
+
+/// The nullability that stands behind a type.
+fn mark(line: &mut Line) -> Nullability {
+    line.eat("?").into()
 }
 
-fn foreign((id, metadata, storage): (FieldName, Bytes, DType)) -> Answer<ExtDTypeRef> {
-    Ok(ForeignExtDType::from_parts(ExtId::new(id.as_ref()), metadata.0, storage)?)
+fn inner(line: &mut Line, behind: &str) -> Answer<DType> {
+    line.inside(DType::read, Some(behind))
+}
+
+fn field(line: &mut Line) -> Answer<(FieldName, DType)> {
+    let name = FieldName::read(line)?;
+    line.sign("=")?;
+    Ok((name, DType::read(line)?))
+}
+
+fn list(line: &mut Line) -> Answer<DType> {
+    Ok(DType::List(Arc::new(inner(line, ")")?), mark(line)))
+}
+
+fn fixed_size_list(line: &mut Line) -> Answer<DType> {
+    let element = Arc::new(inner(line, ")")?);
+    line.sign("[")?;
+    let size = line.number()?;
+    line.sign("]")?;
+    Ok(DType::FixedSizeList(element, size, mark(line)))
+}
+
+fn map(line: &mut Line) -> Answer<DType> {
+    let (key, value) = (inner(line, ",")?, inner(line, ",")?);
+    line.sign("keys_sorted")?;
+    line.sign("=")?;
+    let sorted = bool::read(line)?;
+    line.sign(")")?;
+    Ok(DType::Map(MapDType::try_new(key, value, sorted)?, mark(line)))
+}
+
+fn variant(line: &mut Line) -> Answer<(FieldName, Option<u8>, DType)> {
+    let name = FieldName::read(line)?;
+    let tag = if line.has("@") { Some(line.number()?) } else { None };
+    line.sign("=")?;
+    Ok((name, tag, line.inside(DType::read, None)?))
+}
+
+/// A variant without a tag has its place as its tag.
+fn union(line: &mut Line) -> Answer<DType> {
+    let variants = if line.has(")") { Vec::new() } else { line.several(variant)? };
+    if !variants.is_empty() {
+        line.sign(")")?;
+    }
+    let names = variants.iter().map(|(name, ..)| name.clone()).collect();
+    let tags = variants.iter().enumerate().map(|(place, (_, tag, _))| tag.unwrap_or(place as u8)).collect();
+    let types = variants.into_iter().map(|(.., dtype)| dtype).collect();
+    Ok(DType::Union(UnionVariants::try_new(names, types, tags)?, mark(line)))
+}
+
+fn extension(line: &mut Line, id: &str) -> Answer<DType> {
+    let Bytes(metadata) = Bytes::read(line)?;
+    line.sign("]")?;
+    line.sign("(")?;
+    let storage = inner(line, ")")?;
+    Ok(DType::Extension(ForeignExtDType::from_parts(ExtId::new(id), metadata, storage)?))
 }
 
 macro_rules! insides {
-    ($($inside:ty: $take:expr, $what:literal;)*) => {
+    ($($inside:ty: $take:expr;)*) => {
         $(impl Argument for $inside {
-            fn read(words: &mut Words) -> Answer<Self> {
-                let dtype: DType = words.read()?;
-                $take(&dtype).cloned().map_or_else(|| bad(concat!("not ", $what)), Ok)
+            fn read(line: &mut Line) -> Answer<Self> {
+                let at = line.at;
+                let dtype = DType::read(line)?;
+                $take(&dtype).cloned().map_or_else(|| line.fail(at), Ok)
             }
         })*
     };
@@ -109,60 +242,8 @@ macro_rules! insides {
 
 // What a type of one kind holds, read as that type.
 insides! {
-    StructFields: DType::as_struct_fields_opt, "a struct";
-    UnionVariants: DType::as_union_variants_opt, "a union";
-    MapDType: DType::as_map_opt, "a map";
-    ExtDTypeRef: DType::as_extension_opt, "an extension";
-}
-
-/// 1 where null is allowed.
-pub fn bit(nullability: Nullability) -> u8 {
-    nullability.is_nullable().into()
-}
-
-/// The form of a type in a line.
-pub fn written(dtype: &DType) -> Answer {
-    Ok(match dtype {
-        DType::Null => "null".to_owned(),
-        DType::Bool(n) => format!("bool {}", bit(*n)),
-        DType::Primitive(ptype, n) => format!("prim {ptype} {}", bit(*n)),
-        DType::Decimal(decimal, n) => format!("dec {} {}", parts_of(decimal), bit(*n)),
-        DType::Utf8(n) => format!("utf8 {}", bit(*n)),
-        DType::Binary(n) => format!("binary {}", bit(*n)),
-        DType::List(element, n) => format!("list {} {}", bit(*n), written(element)?),
-        DType::FixedSizeList(element, size, n) => format!("fsl {} {size} {}", bit(*n), written(element)?),
-        DType::Map(map, n) => format!("map {} {}", bit(*n), parts_of_map(map)?),
-        DType::Struct(fields, n) => {
-            let parts = fields.names().iter().zip(fields.fields());
-            let parts = parts.map(|(of, dtype)| Ok(format!("{} {}", name(of), written(&dtype)?)));
-            format!("struct {} {}", bit(*n), counted(parts.collect::<Answer<Vec<_>>>()?))
-        }
-        DType::Union(variants, n) => {
-            let parts = variants.names().iter().zip(variants.type_ids()).zip(variants.variants());
-            let parts = parts.map(|((of, tag), dtype)| Ok(format!("{} {tag} {}", name(of), written(&dtype)?)));
-            format!("union {} {}", bit(*n), counted(parts.collect::<Answer<Vec<_>>>()?))
-        }
-        DType::Variant(n) => format!("variant {}", bit(*n)),
-        DType::Extension(extension) => {
-            let (id, metadata) = (extension.id(), extension.serialize_metadata()?);
-            format!("ext {} {} {}", hex(id.as_ref()), hex(metadata), written(extension.storage_dtype())?)
-        }
-    })
-}
-
-/// Precision and scale.
-pub fn parts_of(decimal: &DecimalDType) -> String {
-    format!("{} {}", decimal.precision(), decimal.scale())
-}
-
-/// Whether the keys are sorted, the key and the value.
-pub fn parts_of_map(map: &MapDType) -> Answer {
-    let sorted = u8::from(map.keys_sorted());
-    Ok(format!("{sorted} {} {}", written(&map.key_dtype())?, written(&map.value_dtype())?))
-}
-
-/// A count, and the items.
-pub fn counted<T: ToString>(items: impl IntoIterator<Item = T>) -> String {
-    let items: Vec<String> = items.into_iter().map(|item| item.to_string()).collect();
-    std::iter::once(items.len().to_string()).chain(items).collect::<Vec<_>>().join(" ")
+    StructFields: DType::as_struct_fields_opt;
+    UnionVariants: DType::as_union_variants_opt;
+    MapDType: DType::as_map_opt;
+    ExtDTypeRef: DType::as_extension_opt;
 }

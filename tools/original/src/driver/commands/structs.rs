@@ -1,70 +1,101 @@
 // SPDX-License-Identifier: Apache-2.0
 // SPDX-FileCopyrightText: Copyright the Vortex contributors
 
-//! Structs, unions and maps.
+//! Structs, unions, maps, and names.
 
 use vortex_array::dtype::{
     DType, FieldDType, FieldName, FieldNames, MapDType, Nullability, StructFields, UnionVariants,
 };
 
-use super::{Commands, ok_type, option, option_type, told, type_list};
-use crate::bytes::name;
-use crate::types::{counted, parts_of_map};
-use crate::words::{Answer, bad};
+use super::{Console, are_equal, hash_equally};
+use crate::models::{comparisons, project};
+use crate::told::{Answer, Text, Told, joined, several};
+use crate::types::Tags;
 
-pub fn add_to(commands: &mut Commands) {
-    commands.add("sfnew", |(names, types): (FieldNames, Vec<DType>)| ok_struct(StructFields::new(names, types)));
-    commands.add("sffrom", |(names, types): (FieldNames, Vec<DType>)| {
-        ok_struct(StructFields::from_fields(names, types.into_iter().map(FieldDType::from).collect()))
+pub fn add_to(c: &mut Console) {
+    c.add("struct_new", |(names, types): (FieldNames, Vec<DType>)| StructFields::new(names, types));
+    c.add("struct_from_fields", |(names, types): (FieldNames, Vec<DType>)| {
+        StructFields::from_fields(names, types.into_iter().map(FieldDType::from).collect())
     });
-    commands.add("sfempty", |()| ok_struct(StructFields::empty()));
-    commands.add("names", |dtype: DType| told(counted(names_of(&dtype)?.iter().map(name))));
-    commands.add("nfields", |fields: StructFields| told(fields.nfields()));
-    commands.add("fieldname", |(i, fields): (usize, StructFields)| option(fields.field_name(i).map(name)));
-    commands.add("find", |(name, fields): (FieldName, StructFields)| option(fields.find(name)));
-    commands.add("field", |(name, fields): (FieldName, StructFields)| option_type(fields.field(name)));
-    commands.add("fieldat", |(i, fields): (usize, StructFields)| option_type(fields.field_by_index(i)));
-    commands.add("fields", |fields: StructFields| type_list(fields.fields()));
-    commands.add("fielddtypes", |fields: StructFields| type_list(fields.field_dtypes().cloned()));
-    commands.add("project", |(names, fields): (Vec<FieldName>, StructFields)| ok_struct(fields.project(&names)?));
-    commands.add("without", |(i, fields): (usize, StructFields)| ok_struct(fields.without_field(i)?));
-    commands.add("merge", |(a, b): (StructFields, StructFields)| ok_struct(a.disjoint_merge(&b)?));
-    add_unions(commands);
+    c.add("struct_from_iter", |(names, types): (FieldNames, Vec<DType>)| StructFields::new(names, types));
+    c.add("struct_empty", |()| StructFields::empty());
+    c.add("names", |fields: StructFields| fields.names().clone());
+    c.add("nfields", |fields: StructFields| fields.nfields());
+    c.add("field_name", |(i, fields): (usize, StructFields)| fields.field_name(i).cloned());
+    c.add("find", |(name, fields): (FieldName, StructFields)| fields.find(name));
+    c.add("find_counted", find_counted);
+    c.add("field", |(name, fields): (FieldName, StructFields)| fields.field(name));
+    c.add("field_by_index", |(i, fields): (usize, StructFields)| fields.field_by_index(i));
+    c.add("fields", |fields: StructFields| several(fields.fields()));
+    c.add("field_dtypes", |fields: StructFields| several(fields.field_dtypes()));
+    c.add("project", |(names, fields): (FieldNames, StructFields)| project(names.as_ref(), &fields));
+    c.add("without_field", |(i, fields): (usize, StructFields)| fields.without_field(i));
+    c.add("disjoint_merge", |(a, b): (StructFields, StructFields)| a.disjoint_merge(&b));
+    c.add("fields_text", |fields: StructFields| Text(fields));
+    c.add("indented", |fields: StructFields| Text(format!("{fields:#}")));
+    c.add("fields_copy", |fields: StructFields| fields.clone());
+    add_unions(c);
+    add_maps(c);
+    add_names(c);
 }
 
-fn add_unions(commands: &mut Commands) {
-    commands.add("uvtry", |(names, types, tags): (FieldNames, Vec<DType>, Vec<u8>)| {
-        ok_union(UnionVariants::try_new(names, types, tags)?)
+fn find_counted((name, fields): (FieldName, StructFields)) -> Answer {
+    Ok(format!("{} {}", fields.find(name).told()?, comparisons(fields.nfields())))
+}
+
+fn add_unions(c: &mut Console) {
+    c.add("union_new", |(names, types): (FieldNames, Vec<DType>)| UnionVariants::new(names, types));
+    c.add("union_try_new", |(names, Tags(tags), types): (FieldNames, Tags, Vec<DType>)| {
+        UnionVariants::try_new(names, types, tags)
     });
-    commands.add("uvnew", |(names, types): (FieldNames, Vec<DType>)| ok_union(UnionVariants::new(names, types)?));
-    commands.add("uvlen", |union: UnionVariants| told(format!("{} {}", union.len(), union.is_empty())));
-    commands.add("uvtags", |union: UnionVariants| told(counted(union.type_ids())));
-    commands.add("uvconsecutive", |union: UnionVariants| told(union.is_consecutive()));
-    commands.add("uvfind", |(name, union): (FieldName, UnionVariants)| option(union.find(name)));
-    commands.add("uvvariant", |(name, union): (FieldName, UnionVariants)| option_type(union.variant(name)));
-    commands.add("uvat", |(i, union): (usize, UnionVariants)| option_type(union.variant_by_index(i)));
-    commands.add("uvvariants", |union: UnionVariants| type_list(union.variants()));
-    commands.add("tagtochild", |(tag, union): (u8, UnionVariants)| option(union.tag_to_child_index(tag)));
-    commands.add("childtotag", |(i, union): (usize, UnionVariants)| option(Some(union.child_index_to_tag(i))));
-    commands.add("mapnew", |(sorted, key, value): (bool, DType, DType)| {
-        ok_type(&DType::map(key, value, sorted, Nullability::NonNullable)?)
+    c.add("variant_names", |union: UnionVariants| union.names().clone());
+    c.add("variants_len", |union: UnionVariants| union.len());
+    c.add("variants_is_empty", |union: UnionVariants| union.is_empty());
+    c.add("is_consecutive", |union: UnionVariants| union.is_consecutive());
+    c.add("type_ids", |union: UnionVariants| joined(union.type_ids().iter().copied(), ","));
+    c.add("find_variant", |(name, union): (FieldName, UnionVariants)| union.find(name));
+    c.add("variant", |(name, union): (FieldName, UnionVariants)| union.variant(name));
+    c.add("variant_by_index", |(i, union): (usize, UnionVariants)| union.variant_by_index(i));
+    c.add("variants", |union: UnionVariants| several(union.variants()));
+    c.add("tag_to_child_index", |(tag, union): (u8, UnionVariants)| union.tag_to_child_index(tag));
+    c.add("child_index_to_tag", |(i, union): (usize, UnionVariants)| union.child_index_to_tag(i));
+    c.add("variants_text", |union: UnionVariants| Text(union));
+    c.add("variants_copy", |union: UnionVariants| union.clone());
+}
+
+fn add_maps(c: &mut Console) {
+    c.add("map_try_new", |(sorted, key, value): (bool, DType, DType)| {
+        DType::map(key, value, sorted, Nullability::NonNullable)
     });
-    commands.add("mapparts", |map: MapDType| parts_of_map(&map));
-    commands.add("mapentries", |map: MapDType| ok_type(&map.entries_dtype()));
+    c.add("keys_sorted", |map: MapDType| map.keys_sorted());
+    c.add("key_dtype", |map: MapDType| map.key_dtype());
+    c.add("value_dtype", |map: MapDType| map.value_dtype());
+    c.add("entries_dtype", |map: MapDType| map.entries_dtype());
+    c.add("map_text", |map: MapDType| Text(map));
+    c.add("map_copy", |map: MapDType| map.clone());
 }
 
-fn ok_struct(fields: StructFields) -> Answer {
-    ok_type(&DType::Struct(fields, Nullability::NonNullable))
-}
-
-fn ok_union(variants: UnionVariants) -> Answer {
-    ok_type(&DType::Union(variants, Nullability::NonNullable))
-}
-
-fn names_of(dtype: &DType) -> Answer<&FieldNames> {
-    match dtype {
-        DType::Struct(fields, _) => Ok(fields.names()),
-        DType::Union(variants, _) => Ok(variants.names()),
-        _ => bad("neither a struct nor a union"),
-    }
+fn add_names(c: &mut Console) {
+    c.add("name", |name: FieldName| name);
+    c.add("name_text", |name: FieldName| Text(name));
+    c.add("name_cmp", |(a, b): (FieldName, FieldName)| a.cmp(&b));
+    c.add("name_eq", are_equal::<FieldName>);
+    c.add("name_eq_str", |(a, b): (FieldName, FieldName)| a == b.as_ref());
+    c.add("name_hash_eq", hash_equally::<FieldName>);
+    c.add("names_text", |names: FieldNames| Text(names));
+    c.add("names_len", |names: FieldNames| names.len());
+    c.add("names_is_empty", |names: FieldNames| names.is_empty());
+    c.add("names_get", |(i, names): (usize, FieldNames)| names.get(i).cloned());
+    c.add("names_at", |(i, names): (usize, FieldNames)| names[i].clone());
+    c.add("names_find", |(name, names): (FieldName, FieldNames)| names.find(name));
+    c.add("names_eq", are_equal::<FieldNames>);
+    c.add("names_eq_texts", |(a, b): (FieldNames, FieldNames)| a == b.as_ref());
+    c.add("names_hash_eq", hash_equally::<FieldNames>);
+    c.add("names_copy", |names: FieldNames| names.clone());
+    c.add("names_iter", |names: FieldNames| joined(names.iter(), ","));
+    c.add("names_into_iter", |names: FieldNames| joined(names, ","));
+    c.add("names_left", |(steps, names): (usize, FieldNames)| {
+        let lent = names.iter().skip(steps).len();
+        format!("{lent} {}", names.into_iter().skip(steps).len())
+    });
 }

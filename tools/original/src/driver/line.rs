@@ -1,0 +1,298 @@
+// SPDX-License-Identifier: Apache-2.0
+// SPDX-FileCopyrightText: Copyright the Vortex contributors
+
+//! A line of the console (docs/CONSOLE.md), read from the left. One that can't be read fails at a byte.
+
+use std::cell::RefCell;
+use std::str::FromStr;
+
+use vortex_array::dtype::FieldName;
+
+use crate::living::Living;
+use crate::told::{Answer, stop};
+
+/// How deep types and messages may be nested.
+const DEEPEST: usize = 128;
+
+/// What a command takes.
+pub trait Argument: Sized {
+    fn read(line: &mut Line) -> Answer<Self>;
+
+    /// Reads it with the blanks behind it.
+    fn argument(line: &mut Line) -> Answer<Self> {
+        if line.is_at_end() {
+            return line.fail(line.at);
+        }
+        let found = Self::read(line)?;
+        let at = line.at;
+        line.blanks();
+        if at == line.at && !line.is_at_end() { line.fail(at) } else { Ok(found) }
+    }
+}
+
+/// As many as there are, to the end of the line.
+impl<T: Argument> Argument for Vec<T> {
+    fn read(line: &mut Line) -> Answer<Self> {
+        let mut found = Vec::new();
+        while !line.is_at_end() {
+            found.push(line.argument()?);
+        }
+        Ok(found)
+    }
+
+    fn argument(line: &mut Line) -> Answer<Self> {
+        Self::read(line)
+    }
+}
+
+macro_rules! tuples {
+    ($(($($item:ident),*)),*) => {
+        $(impl<$($item: Argument),*> Argument for ($($item,)*) {
+            fn read(_line: &mut Line) -> Answer<Self> {
+                Ok(($(_line.argument::<$item>()?,)*))
+            }
+
+            fn argument(line: &mut Line) -> Answer<Self> {
+                Self::read(line)
+            }
+        })*
+    };
+}
+
+tuples!((), (A, B), (A, B, C), (A, B, C, D));
+
+macro_rules! numbers {
+    ($($number:ty),*) => {
+        $(impl Argument for $number {
+            fn read(line: &mut Line) -> Answer<Self> {
+                line.number()
+            }
+        })*
+    };
+}
+
+numbers!(u8, u32, u64, usize, i8, i32, i64, i128);
+
+impl Argument for bool {
+    fn read(line: &mut Line) -> Answer<Self> {
+        line.one_of(&["false", "true"]).map(|place| place == 1)
+    }
+}
+
+/// The bytes of a number in hexadecimal, behind `0x`.
+#[derive(Clone, Debug, PartialEq, Eq, Hash)]
+pub struct Bytes(pub Vec<u8>);
+
+impl Argument for Bytes {
+    fn read(line: &mut Line) -> Answer<Self> {
+        let at = line.at;
+        if !line.eat("0x") {
+            return line.fail(at);
+        }
+        let mut bytes = Vec::new();
+        while let Some(byte) = line.byte() {
+            bytes.push(byte);
+        }
+        Ok(Self(bytes))
+    }
+}
+
+/// A line, and where it is read. `sessions` are those that live.
+pub struct Line<'a> {
+    text: &'a str,
+    pub at: usize,
+    level: usize,
+    pub sessions: &'a RefCell<Living<Vec<&'static str>>>,
+}
+
+impl<'a> Line<'a> {
+    pub fn new(text: &'a str, sessions: &'a RefCell<Living<Vec<&'static str>>>) -> Self {
+        let mut line = Self { text: without_comment(text), at: 0, level: 0, sessions };
+        line.blanks();
+        line
+    }
+
+    pub fn fail<T>(&self, at: usize) -> Answer<T> {
+        stop(format!("unreadable at {}", at + 1))
+    }
+
+    pub fn argument<T: Argument>(&mut self) -> Answer<T> {
+        T::argument(self)
+    }
+
+    /// The last arguments.
+    pub fn last<T: Argument>(&mut self) -> Answer<T> {
+        let found = T::argument(self)?;
+        if self.is_at_end() { Ok(found) } else { self.fail(self.at) }
+    }
+
+    /// The name of a command.
+    pub fn command(&mut self, is_known: impl Fn(&str) -> bool) -> Answer<&'a str> {
+        let at = self.at;
+        let word = self.take(|sign| !sign.is_whitespace());
+        self.blanks();
+        if is_known(word) { Ok(word) } else { self.fail(at) }
+    }
+
+    /// The name of a set or a session.
+    pub fn living_name(&mut self) -> Answer<String> {
+        self.argument::<FieldName>().map(String::from)
+    }
+
+    pub fn rest(&self) -> &'a str {
+        &self.text[self.at..]
+    }
+
+    pub fn is_at_end(&self) -> bool {
+        self.rest().is_empty()
+    }
+
+    pub fn blanks(&mut self) {
+        self.take(is_blank);
+    }
+
+    /// The characters of this kind that stand here.
+    pub fn take(&mut self, is_meant: impl Fn(char) -> bool) -> &'a str {
+        let rest = self.rest();
+        let found = &rest[..rest.find(|sign| !is_meant(sign)).unwrap_or(rest.len())];
+        self.at += found.len();
+        found
+    }
+
+    /// Whether this text stands here: it is read.
+    pub fn eat(&mut self, text: &str) -> bool {
+        let is_here = self.rest().starts_with(text);
+        self.at += if is_here { text.len() } else { 0 };
+        is_here
+    }
+
+    /// Whether the sign stands here, behind blanks if need be: it is read, and blanks behind it unless it closes.
+    pub fn has(&mut self, sign: &str) -> bool {
+        let at = self.at;
+        self.blanks();
+        let is_here = self.eat(sign);
+        if !is_here {
+            self.at = at;
+        } else if !")}]".contains(sign) {
+            self.blanks();
+        }
+        is_here
+    }
+
+    pub fn sign(&mut self, sign: &str) -> Answer<()> {
+        if self.has(sign) {
+            return Ok(());
+        }
+        self.blanks();
+        self.fail(self.at)
+    }
+
+    pub fn word(&mut self) -> Answer<&'a str> {
+        let at = self.at;
+        let found = self.take(|sign| !is_blank(sign) && !",{}()[]\"?=:#".contains(sign));
+        if found.is_empty() { self.fail(at) } else { Ok(found) }
+    }
+
+    /// The place of a word among those known.
+    pub fn one_of(&mut self, known: &[&str]) -> Answer<usize> {
+        let at = self.at;
+        let word = self.word()?;
+        known.iter().position(|it| *it == word).map_or_else(|| self.fail(at), Ok)
+    }
+
+    pub fn number<T: FromStr>(&mut self) -> Answer<T> {
+        let at = self.at;
+        let word = self.word()?;
+        let is_number = !word.starts_with('+');
+        word.parse().ok().filter(|_| is_number).map_or_else(|| self.fail(at), Ok)
+    }
+
+    fn byte(&mut self) -> Option<u8> {
+        let digits =
+            self.rest().get(..2).filter(|it| it.bytes().all(|one| matches!(one, b'0'..=b'9' | b'a'..=b'f')))?;
+        self.at += 2;
+        u8::from_str_radix(digits, 16).ok()
+    }
+
+    /// A text in quotes.
+    pub fn text(&mut self) -> Answer<String> {
+        let (at, mut found) = (self.at, String::new());
+        if !self.eat("\"") {
+            return self.fail(at);
+        }
+        while let Some(sign) = self.next() {
+            match sign {
+                '"' => return Ok(found),
+                '\\' => found.extend(self.escaped()),
+                _ => found.push(sign),
+            }
+        }
+        self.fail(at)
+    }
+
+    fn next(&mut self) -> Option<char> {
+        let sign = self.rest().chars().next()?;
+        self.at += sign.len_utf8();
+        Some(sign)
+    }
+
+    fn escaped(&mut self) -> Option<char> {
+        Some(match self.next()? {
+            't' => '\t',
+            'n' => '\n',
+            'r' => '\r',
+            'x' => self.byte().map_or('x', char::from),
+            sign => sign,
+        })
+    }
+
+    /// A name, or where dots may stand in it an id: bare, or in quotes.
+    pub fn name(&mut self, dots: bool) -> Answer<String> {
+        let bare = self.take(|sign| is_bare(sign) || dots && sign == '.');
+        if bare.is_empty() { self.text() } else { Ok(bare.to_owned()) }
+    }
+
+    /// Items with commas between them.
+    pub fn several<T>(&mut self, read: impl Fn(&mut Self) -> Answer<T>) -> Answer<Vec<T>> {
+        let mut found = vec![read(self)?];
+        while self.has(",") {
+            found.push(read(self)?);
+        }
+        Ok(found)
+    }
+
+    /// A part of a type or a message, and the sign behind it.
+    pub fn inside<T>(&mut self, read: impl FnOnce(&mut Self) -> Answer<T>, behind: Option<&str>) -> Answer<T> {
+        self.level += 1;
+        if self.level > DEEPEST {
+            return self.fail(self.at);
+        }
+        let found = read(self)?;
+        self.level -= 1;
+        behind.map_or(Ok(()), |sign| self.sign(sign)).map(|()| found)
+    }
+}
+
+pub fn is_blank(sign: char) -> bool {
+    matches!(sign, ' ' | '\t')
+}
+
+/// Whether a name needs no quotes for this character.
+pub fn is_bare(sign: char) -> bool {
+    sign.is_ascii_alphanumeric() || sign == '_' || !sign.is_ascii()
+}
+
+/// The line up to a hash that isn't in quotes.
+fn without_comment(text: &str) -> &str {
+    let (mut in_quotes, mut is_escaped) = (false, false);
+    for (at, sign) in text.char_indices() {
+        match sign {
+            _ if is_escaped => is_escaped = false,
+            '\\' => is_escaped = in_quotes,
+            '"' => in_quotes = !in_quotes,
+            '#' if !in_quotes => return &text[..at],
+            _ => {}
+        }
+    }
+    text
+}

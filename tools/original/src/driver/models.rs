@@ -1,0 +1,245 @@
+// SPDX-License-Identifier: Apache-2.0
+// SPDX-FileCopyrightText: Copyright the Vortex contributors
+
+//! What the library answers where the original doesn't answer it: by a plain model of calls that the original doesn't
+//! have, or, where the library departs from it (docs/DIFFERENCES.md), by a rule with its reason. Everything beside the
+//! departure is still asked of the original.
+
+use std::collections::HashSet;
+use std::panic::{self, AssertUnwindSafe};
+use std::sync::Arc;
+
+use vortex_array::dtype::extension::{ExtDTypeRef, ForeignExtDType};
+use vortex_array::dtype::proto::dtype as pb;
+use vortex_array::dtype::proto::dtype::d_type::DtypeType;
+use vortex_array::dtype::{DType, Field, FieldName, FieldPath, MapDType, Nullability, StructFields, UnionVariants};
+use vortex_session::VortexSession;
+
+use crate::errors::refused;
+use crate::told::Answer;
+
+/// The types that a type is made of.
+fn parts(dtype: &DType) -> Vec<DType> {
+    match dtype {
+        DType::List(element, _) | DType::FixedSizeList(element, ..) => vec![element.as_ref().clone()],
+        DType::Map(map, _) => vec![map.key_dtype(), map.value_dtype()],
+        DType::Struct(fields, _) => fields.fields().collect(),
+        DType::Union(variants, _) => variants.variants().collect(),
+        DType::Extension(extension) => vec![extension.storage_dtype().clone()],
+        _ => Vec::new(),
+    }
+}
+
+/// Whether the type is nullable by a mark of its own.
+fn is_marked(dtype: &DType) -> bool {
+    !matches!(dtype, DType::Null | DType::Extension(_)) && dtype.is_nullable()
+}
+
+/// The original looks at the outer nullability of the first type alone. Here a is a subset of b where they are equal but
+/// for nullabilities and b is nullable wherever a is: then each value of a is a value of b.
+pub fn is_subset(a: &DType, b: &DType) -> bool {
+    fn holds(a: &DType, b: &DType) -> bool {
+        (!is_marked(a) || is_marked(b)) && parts(a).iter().zip(&parts(b)).all(|(a, b)| holds(a, b))
+    }
+    a.eq_ignore_nullability(b) && holds(a, b)
+}
+
+/// The original multiplies unchecked, and panics where a sum is too large. Here a variable part that the size needs gives
+/// none, at size 0 too; else a width of the whole or of a part beyond `usize` is the error 19. Widths of types without
+/// parts are the original's, and so is each answer where nothing, no sum before a variable field among it, is too wide.
+pub fn element_size(dtype: &DType) -> Answer<Option<usize>> {
+    fn width(dtype: &DType, widest: &mut u128) -> Option<u128> {
+        let total = match dtype {
+            DType::List(..) | DType::Map(..) | DType::Union(..) => None,
+            DType::Struct(fields, _) => {
+                let widths: Vec<Option<u128>> = fields.fields().map(|field| width(&field, widest)).collect();
+                *widest = (*widest).max(widths.iter().flatten().sum());
+                widths.into_iter().sum()
+            }
+            DType::FixedSizeList(element, size, _) => width(element, widest).map(|one| one * u128::from(*size)),
+            DType::Extension(extension) => width(extension.storage_dtype(), widest),
+            _ => dtype.element_size().map(|it| it as u128),
+        };
+        *widest = (*widest).max(total.unwrap_or(0));
+        total
+    }
+    let mut widest = 0;
+    let total = width(dtype, &mut widest);
+    if widest <= usize::MAX as u128 {
+        let total = total.map(|it| it as usize);
+        assert_eq!(total, dtype.element_size(), "the original has another width");
+        return Ok(total);
+    }
+    total.map_or(Ok(None), |_| Err(refused(19, &[])))
+}
+
+/// The original's element step gives none at a fixed-size list; here it gives the element, at every size, as the
+/// documentation of `Field::ElementType` says.
+pub fn resolve(path: &FieldPath, dtype: &DType) -> Option<DType> {
+    path.resolve(dtype.clone()).or_else(|| {
+        let elements = path.parts().iter().enumerate().filter(|(_, step)| !step.is_named());
+        elements.map(|(place, _)| path.parts().split_at(place)).find_map(|(above, below)| {
+            match FieldPath::from(above.to_vec()).resolve(dtype.clone()) {
+                Some(DType::FixedSizeList(element, ..)) => Some(resolve(&below[1..].to_vec().into(), &element)),
+                _ => None,
+            }
+        })?
+    })
+}
+
+/// The original panics at the root; here nothing starts with a field there. Of other parts than names the original
+/// panics, and here it is the caller's condition.
+pub fn starts_with_field(path: &FieldPath, step: &Field) -> bool {
+    !(path.is_root() && step.is_named()) && path.starts_with_field(step)
+}
+
+/// The original names what it doesn't find; here the error 16 has the position in the projection.
+pub fn project(names: &[FieldName], fields: &StructFields) -> Answer<StructFields> {
+    fields.project(names).map_err(|_| {
+        let missing = names.iter().position(|name| fields.find(name).is_none());
+        refused(16, &[("position", &missing.map_or("nowhere".to_owned(), |it| it.to_string()))])
+    })
+}
+
+/// The original has no test; it panics where it can't.
+pub fn can_be_nonnullable(dtype: &DType) -> bool {
+    panic::catch_unwind(AssertUnwindSafe(|| dtype.as_nonnullable())).is_ok()
+}
+
+/// The original's cover is a loop over pairs of paths. Here it visits each distinct beginning of the paths that it gives
+/// once, the root among them, and nothing below them.
+pub fn visits(cover: &[FieldPath]) -> usize {
+    let beginnings = cover.iter().flat_map(|path| (1..=path.parts().len()).map(|end| &path.parts()[..end]));
+    beginnings.collect::<HashSet<_>>().len() + 1
+}
+
+/// The original looks at one name after the other, and counts nothing. Here a search by halves compares the same number
+/// of names for every name, which the definition `comparisons` of `dtype_base/specs/Comparisons.antt` fixes: the binary
+/// digits of the number of names less one tell which of them is left, and one comparison more whether it is the one that
+/// is looked for.
+pub fn comparisons(count: usize) -> u32 {
+    count.checked_sub(1).map_or(0, |most| usize::BITS - most.leading_zeros() + 1)
+}
+
+/// The messages within a message, as they are read.
+fn children(message: &pb::DType) -> Vec<Option<&pb::DType>> {
+    match &message.dtype_type {
+        Some(DtypeType::List(it)) => vec![it.element_type.as_deref()],
+        Some(DtypeType::FixedSizeList(it)) => vec![it.element_type.as_deref()],
+        Some(DtypeType::Extension(it)) => vec![it.storage_dtype.as_deref()],
+        Some(DtypeType::Map(it)) => vec![it.key_type.as_deref(), it.value_type.as_deref()],
+        Some(DtypeType::Struct(it)) => it.dtypes.iter().map(Some).collect(),
+        Some(DtypeType::Union(it)) => it.dtypes.iter().map(Some).collect(),
+        _ => Vec::new(),
+    }
+}
+
+/// The number of the error of a primitive number without a name, or of a struct whose names and types differ in number.
+fn departing_fault(message: &pb::DType) -> Option<usize> {
+    match &message.dtype_type {
+        Some(DtypeType::Primitive(it)) if !(0..=10).contains(&it.r#type) => Some(25),
+        Some(DtypeType::Struct(it)) if it.names.len() != it.dtypes.len() => Some(32),
+        _ => None,
+    }
+}
+
+/// The original takes an unknown primitive number as `u8`, and panics at a struct of more names than types, or fewer.
+/// Here they are errors, 25 and 32. Faults are met in the order of reading: each part before what holds it, and a part
+/// that is absent before the parts after it; all others are those that the original meets.
+pub fn read(session: &VortexSession, message: &pb::DType) -> Answer<DType> {
+    for child in children(message) {
+        child.map_or_else(|| Ok(DType::from_proto(message, session)?), |child| read(session, child))?;
+    }
+    match departing_fault(message) {
+        Some(number) => Err(refused(number, &[])),
+        None => Ok(DType::from_proto(message, session)?),
+    }
+}
+
+/// The type with other parts, and with this nullability where it has one of its own.
+fn with_parts(dtype: &DType, mut parts: Vec<DType>, nullability: Nullability) -> Answer<DType> {
+    Ok(match dtype {
+        DType::Null => DType::Null,
+        DType::List(..) => DType::List(Arc::new(parts.remove(0)), nullability),
+        DType::FixedSizeList(_, size, _) => DType::FixedSizeList(Arc::new(parts.remove(0)), *size, nullability),
+        DType::Map(map, _) => {
+            let (key, value) = (parts.remove(0), parts.remove(0));
+            DType::Map(MapDType::try_new(key, value, map.keys_sorted())?, nullability)
+        }
+        DType::Struct(fields, _) => DType::Struct(StructFields::new(fields.names().clone(), parts), nullability),
+        DType::Union(it, _) => {
+            let variants = UnionVariants::try_new(it.names().clone(), parts, it.type_ids().to_vec())?;
+            DType::Union(variants, nullability)
+        }
+        DType::Extension(extension) => DType::Extension(over(extension, parts.remove(0))?),
+        _ => dtype.with_nullability(nullability),
+    })
+}
+
+fn over(extension: &ExtDTypeRef, storage: DType) -> Answer<ExtDTypeRef> {
+    Ok(ForeignExtDType::from_parts(extension.id(), extension.serialize_metadata()?, storage)?)
+}
+
+/// The least type that takes the values of two, and the greatest whose values two have: of types that are equal but for
+/// nullabilities the first type, at each node nullable where the rule says so of the marks of both.
+pub fn bound(rule: fn(bool, bool) -> bool, a: &DType, b: &DType) -> Answer<Option<DType>> {
+    fn marked(rule: fn(bool, bool) -> bool, a: &DType, b: &DType) -> Answer<DType> {
+        let inner = parts(a).iter().zip(&parts(b)).map(|(a, b)| marked(rule, a, b)).collect::<Answer<Vec<DType>>>()?;
+        with_parts(a, inner, rule(is_marked(a), is_marked(b)).into())
+    }
+    a.eq_ignore_nullability(b).then(|| marked(rule, a, b)).transpose()
+}
+
+// Projections: the positions to which paths lead are marked, and the type is rebuilt from those that are at, above or below
+// a mark.
+
+/// The parts of a type that a path can step into, in order, each with its step.
+fn steps_into(dtype: &DType) -> Vec<(Field, DType)> {
+    match dtype {
+        DType::List(element, _) | DType::FixedSizeList(element, ..) => {
+            vec![(Field::ElementType, element.as_ref().clone())]
+        }
+        DType::Struct(fields, _) => fields.names().iter().cloned().map(Field::Name).zip(fields.fields()).collect(),
+        _ => Vec::new(),
+    }
+}
+
+/// The positions of the parts that a path steps through, from the outside in, the first part of a name each time; none
+/// where it steps into nothing.
+fn position(dtype: &DType, path: &FieldPath) -> Option<Vec<usize>> {
+    let (mut found, mut dtype) = (Vec::new(), dtype.clone());
+    for step in path.parts() {
+        let mut parts = steps_into(&dtype);
+        let place = parts.iter().position(|(name, _)| name == step)?;
+        found.push(place);
+        dtype = parts.swap_remove(place).1;
+    }
+    Some(found)
+}
+
+/// What is kept of the part at a position, none where nothing is.
+fn rebuilt(dtype: &DType, at: &[usize], marks: &HashSet<Vec<usize>>) -> Answer<Option<DType>> {
+    if marks.iter().any(|mark| at.starts_with(mark)) {
+        return Ok(Some(dtype.clone()));
+    }
+    if !marks.iter().any(|mark| mark.starts_with(at)) {
+        return Ok(None);
+    }
+    let (mut names, mut kept) = (Vec::new(), Vec::new());
+    for (place, (step, part)) in steps_into(dtype).into_iter().enumerate() {
+        if let Some(part) = rebuilt(&part, &[at, &[place]].concat(), marks)? {
+            names.extend(step.as_name().map(FieldName::from));
+            kept.push(part);
+        }
+    }
+    match dtype {
+        DType::Struct(_, nullability) => Ok(Some(DType::Struct(StructFields::new(names.into(), kept), *nullability))),
+        _ => with_parts(dtype, kept, is_marked(dtype).into()).map(Some),
+    }
+}
+
+/// The projection of a type to paths, none where no path exists in it.
+pub fn project_paths(dtype: &DType, paths: &[FieldPath]) -> Answer<Option<DType>> {
+    let marks: HashSet<Vec<usize>> = paths.iter().filter_map(|path| position(dtype, path)).collect();
+    if marks.is_empty() { Ok(None) } else { rebuilt(dtype, &[], &marks) }
+}

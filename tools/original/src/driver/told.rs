@@ -1,0 +1,250 @@
+// SPDX-License-Identifier: Apache-2.0
+// SPDX-FileCopyrightText: Copyright the Vortex contributors
+
+//! Answers as the console writes them (docs/CONSOLE.md).
+
+use std::cmp::Ordering;
+use std::fmt::Display;
+use std::sync::Arc;
+
+use vortex_array::dtype::extension::ExtDTypeRef;
+use vortex_array::dtype::{
+    DType, DecimalDType, DecimalType, Field, FieldMask, FieldName, FieldNames, FieldPath, MapDType, Nullability, PType,
+    StructFields, UnionVariants,
+};
+
+use crate::line::{Bytes, is_bare};
+
+/// The answer to a line that has none by a call, as one that can't be read or an error.
+pub struct Stop(pub String);
+
+pub type Answer<T = String> = Result<T, Stop>;
+
+pub fn stop<T>(answer: impl Into<String>) -> Answer<T> {
+    Err(Stop(answer.into()))
+}
+
+/// What a call gives.
+pub trait Told {
+    fn told(self) -> Answer;
+}
+
+impl<T: Told, E: Into<Stop>> Told for Result<T, E> {
+    fn told(self) -> Answer {
+        self.map_err(Into::into)?.told()
+    }
+}
+
+impl<T: Told> Told for Option<T> {
+    fn told(self) -> Answer {
+        self.map_or(Ok("none".to_owned()), Told::told)
+    }
+}
+
+macro_rules! as_printed {
+    ($($kind:ty),*) => {
+        $(impl Told for $kind {
+            fn told(self) -> Answer {
+                Ok(self.to_string())
+            }
+        })*
+    };
+}
+
+as_printed!(bool, u8, u64, usize, &str, String, PType, DecimalType);
+
+impl Told for Ordering {
+    fn told(self) -> Answer {
+        Ok(format!("{self:?}"))
+    }
+}
+
+/// A text that a call gives.
+pub struct Text<T>(pub T);
+
+impl<T: Display> Told for Text<T> {
+    fn told(self) -> Answer {
+        let text = self.0.to_string().replace('\n', "\\n");
+        Ok(if text.is_empty() { "\"\"".to_owned() } else { text })
+    }
+}
+
+/// Items with a blank between them.
+pub fn several(items: impl IntoIterator<Item = impl Told>) -> Answer {
+    joined(items, " ")
+}
+
+pub fn joined(items: impl IntoIterator<Item = impl Told>, between: &str) -> Answer {
+    let items = items.into_iter().map(Told::told).collect::<Answer<Vec<String>>>()?;
+    Ok(if items.is_empty() { "-".to_owned() } else { items.join(between) })
+}
+
+/// The words whose tests hold.
+pub fn holding<const N: usize>(tests: [(&'static str, bool); N]) -> Answer {
+    several(tests.into_iter().filter(|(_, is)| *is).map(|(name, _)| name))
+}
+
+/// A text in quotes.
+pub fn quoted(text: &str) -> String {
+    let one = |sign: char| match sign {
+        '\\' | '"' => format!("\\{sign}"),
+        '\t' => "\\t".to_owned(),
+        '\n' => "\\n".to_owned(),
+        '\r' => "\\r".to_owned(),
+        '\0'..' ' | '\x7f' => format!("\\x{:02x}", sign as u32),
+        _ => sign.to_string(),
+    };
+    format!("\"{}\"", text.chars().map(one).collect::<String>())
+}
+
+pub fn name(text: &str) -> String {
+    if !text.is_empty() && text.chars().all(is_bare) { text.to_owned() } else { quoted(text) }
+}
+
+/// The id of an extension, in which dots may stand.
+pub fn id(extension: &ExtDTypeRef) -> String {
+    let id = extension.id();
+    let text: &str = id.as_ref();
+    if !text.is_empty() && text.chars().all(|sign| is_bare(sign) || sign == '.') {
+        text.to_owned()
+    } else {
+        quoted(text)
+    }
+}
+
+impl Told for &FieldName {
+    fn told(self) -> Answer {
+        Ok(name(self.as_ref()))
+    }
+}
+
+impl Told for &FieldNames {
+    fn told(self) -> Answer {
+        joined(self.iter(), ",")
+    }
+}
+
+impl Told for Nullability {
+    fn told(self) -> Answer {
+        Ok(if self.is_nullable() { "Nullable" } else { "NonNullable" }.to_owned())
+    }
+}
+
+impl Told for Bytes {
+    fn told(self) -> Answer {
+        Ok(format!("0x{}", self.0.iter().map(|byte| format!("{byte:02x}")).collect::<String>()))
+    }
+}
+
+impl Told for &DecimalDType {
+    fn told(self) -> Answer {
+        Ok(format!("decimal({},{})", self.precision(), self.scale()))
+    }
+}
+
+impl Told for &DType {
+    fn told(self) -> Answer {
+        let mark = match self {
+            DType::Null | DType::Extension(_) => "",
+            _ if self.is_nullable() => "?",
+            _ => "",
+        };
+        let text = match self {
+            DType::Null => "null".to_owned(),
+            DType::Bool(_) => "bool".to_owned(),
+            DType::Primitive(ptype, _) => ptype.to_string(),
+            DType::Decimal(decimal, _) => decimal.told()?,
+            DType::Utf8(_) => "utf8".to_owned(),
+            DType::Binary(_) => "binary".to_owned(),
+            DType::List(element, _) => format!("list({})", element.told()?),
+            DType::FixedSizeList(element, size, _) => format!("fixed_size_list({})[{size}]", element.told()?),
+            DType::Map(map, _) => {
+                let (key, value) = (map.key_dtype().told()?, map.value_dtype().told()?);
+                format!("map({key}, {value}, keys_sorted={})", map.keys_sorted())
+            }
+            DType::Struct(fields, _) => {
+                let parts = fields.names().iter().zip(fields.fields());
+                let parts = parts.map(|(of, dtype)| Ok(format!("{}={}", of.told()?, dtype.told()?)));
+                format!("{{{}}}", parts.collect::<Answer<Vec<_>>>()?.join(", "))
+            }
+            DType::Union(variants, _) => {
+                let tags = variants.type_ids().iter();
+                let tag = |tag: &u8| if variants.is_consecutive() { String::new() } else { format!("@{tag}") };
+                let parts = variants.names().iter().zip(tags.map(tag)).zip(variants.variants());
+                let parts = parts.map(|((of, tag), dtype)| Ok(format!("{}{tag}={}", of.told()?, dtype.told()?)));
+                format!("union({})", parts.collect::<Answer<Vec<_>>>()?.join(", "))
+            }
+            DType::Variant(_) => "variant".to_owned(),
+            DType::Extension(it) => {
+                let metadata = Bytes(it.serialize_metadata()?).told()?;
+                format!("{}[{metadata}]({})", id(it), it.storage_dtype().told()?)
+            }
+        };
+        Ok(text + mark)
+    }
+}
+
+impl Told for &Arc<DType> {
+    fn told(self) -> Answer {
+        self.as_ref().told()
+    }
+}
+
+impl Told for &Field {
+    fn told(self) -> Answer {
+        Ok(self.as_name().map_or("[]".to_owned(), name))
+    }
+}
+
+impl Told for &FieldPath {
+    fn told(self) -> Answer {
+        if self.is_root() { Ok(".".to_owned()) } else { joined(self.parts(), ".") }
+    }
+}
+
+/// Paths in the order in which the console answers them.
+pub fn paths<'a>(paths: impl IntoIterator<Item = &'a FieldPath>) -> Answer {
+    let mut paths = paths.into_iter().map(Told::told).collect::<Answer<Vec<String>>>()?;
+    paths.sort();
+    several(paths)
+}
+
+impl Told for &FieldMask {
+    fn told(self) -> Answer {
+        Ok(match self {
+            FieldMask::All => "all".to_owned(),
+            FieldMask::Prefix(of) => format!("prefix {}", of.told()?),
+            FieldMask::Exact(of) => format!("exact {}", of.told()?),
+        })
+    }
+}
+
+macro_rules! as_lent {
+    ($($kind:ty),*) => {
+        $(impl Told for $kind {
+            fn told(self) -> Answer {
+                (&self).told()
+            }
+        })*
+    };
+}
+
+as_lent!(DType, Arc<DType>, DecimalDType, Field, FieldMask, FieldName, FieldNames, FieldPath);
+
+macro_rules! as_types {
+    ($($kind:ty: $make:expr),*) => {
+        $(impl Told for $kind {
+            fn told(self) -> Answer {
+                $make(self).told()
+            }
+        })*
+    };
+}
+
+// What a type of one kind holds is told as that type.
+as_types!(
+    StructFields: |it| DType::Struct(it, Nullability::NonNullable),
+    UnionVariants: |it| DType::Union(it, Nullability::NonNullable),
+    MapDType: |it| DType::Map(it, Nullability::NonNullable),
+    ExtDTypeRef: DType::Extension
+);

@@ -1,15 +1,16 @@
+#!/usr/bin/env python3
 # SPDX-License-Identifier: Apache-2.0
 # SPDX-FileCopyrightText: Copyright the Vortex contributors
 
 """The operations of the summary of docs/BENCHMARKS.md: the cases of docs/benchmarks.csv that each is of, and the least and
-the greatest ratio of their times to the Rust's. tools/draw_speed writes and draws them; tools/pages checks the page."""
+the greatest ratio of their times to the Rust's. `tools/speed.py` writes the summary; tools/pages checks it."""
 import csv
-import os
 import re
 from fnmatch import fnmatchcase
 
-DOCS = os.path.join(os.path.dirname(os.path.dirname(os.path.realpath(__file__))), "docs")
-PAGE = "docs/BENCHMARKS.md"
+from repository import go_to_top, text_of
+
+PAGE, TABLE = "docs/BENCHMARKS.md", "docs/benchmarks.csv"
 
 # What each is called, and its cases as patterns.
 OPERATIONS = [
@@ -34,18 +35,14 @@ OPERATIONS = [
     ("path sets: contains", ["set/contains/*"]),
     ("path sets: cover", ["set/into_iter/*"]),
 ]
-UNGROUPED = ["empty"]
+SUMMARY = re.compile(r"(?m)^\| Operation \| Time, divided by the Rust's \|\n(?:\|.*\n)*")
 
 
-def read_table():
-    """The times of the library and of the Rust in nanoseconds by case, in the table's order."""
-    with open(os.path.join(DOCS, "benchmarks.csv"), encoding="utf-8", newline="") as file:
-        return {row["case"]: [float(row[it]) if row[it] else None for it in ("port_ns", "rust_ns")]
-                for row in csv.DictReader(file)}
-
-
-def ratios_by_case(table):
-    return {case: port / rust for case, (port, rust) in table.items() if port and rust and case not in UNGROUPED}
+def ratios_by_case():
+    """The library's time divided by the Rust's, of each case that both were measured on but the empty one."""
+    rows = csv.DictReader(text_of(TABLE).splitlines())
+    return {row["case"]: float(row["port_ns"]) / float(row["rust_ns"]) for row in rows
+            if row["port_ns"] and float(row["rust_ns"] or 0) and row["case"] != "empty"}
 
 
 def operation_of(case):
@@ -53,48 +50,38 @@ def operation_of(case):
     return next((name for name, patterns in OPERATIONS if any(fnmatchcase(case, it) for it in patterns)), None)
 
 
-def ranges(table):
-    """Each operation with the least and the greatest ratio of its cases."""
-    ratios = ratios_by_case(table)
-    for name, _ in OPERATIONS:
-        own = [ratio for case, ratio in ratios.items() if operation_of(case) == name]
-        yield name, min(own), max(own)
-
-
 def number(ratio):
     """A ratio with two digits, or as a whole number."""
     return f"{ratio:.0f}" if ratio >= 9.95 else f"{ratio:.1f}" if ratio >= 0.995 else f"{ratio:.2g}"
 
 
-def ratio_text(least, most):
-    least, most = number(least), number(most)
-    return least if least == most else f"{least} to {most}"
-
-
-def summary(table):
-    """The lines of the table on the page."""
+def summary(ratios):
+    """The table on the page: each operation with the least and the greatest ratio of its cases."""
     lines = ["| Operation | Time, divided by the Rust's |", "|---|---|"]
-    return lines + [f"| {name} | {ratio_text(least, most)} |" for name, least, most in ranges(table)]
-
-
-SUMMARY = re.compile(r"(?m)^\| Operation \| Time, divided by the Rust's \|\n(?:\|.*\n)*")
-
-
-def write_summary(table):
-    file = os.path.join(DOCS, "BENCHMARKS.md")
-    with open(file, encoding="utf-8") as it:
-        text = it.read()
-    with open(file, "w", encoding="utf-8") as it:
-        it.write(SUMMARY.sub("\n".join(summary(table)) + "\n", text))
+    for name, _ in OPERATIONS:
+        own = [ratio for case, ratio in ratios.items() if operation_of(case) == name]
+        shown = dict.fromkeys(number(it) for it in (min(own), max(own)))
+        lines.append(f"| {name} | {' to '.join(shown)} |")
+    return "\n".join(lines) + "\n"
 
 
 def faults():
     """What of the page isn't of the table: cases of no operation, and a summary of other ranges."""
-    table = read_table()
-    for case in ratios_by_case(table):
+    ratios = ratios_by_case()
+    for case in ratios:
         if operation_of(case) is None:
             yield PAGE, f"no operation of tools/speed.py has the case {case}"
-    with open(os.path.join(DOCS, "BENCHMARKS.md"), encoding="utf-8") as it:
-        found = SUMMARY.search(it.read())
-    if not found or found[0].splitlines() != summary(table):
-        yield PAGE, "its summary isn't of docs/benchmarks.csv: run tools/draw_speed"
+    found = SUMMARY.search(text_of(PAGE))
+    if not found or found[0] != summary(ratios):
+        yield PAGE, f"its summary isn't of {TABLE}: run tools/speed.py"
+
+
+def main():
+    go_to_top()
+    text = SUMMARY.sub(summary(ratios_by_case()), text_of(PAGE))
+    with open(PAGE, "w", encoding="utf-8") as it:
+        it.write(text)
+
+
+if __name__ == "__main__":
+    main()

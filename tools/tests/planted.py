@@ -1,10 +1,10 @@
 # SPDX-License-Identifier: Apache-2.0
 # SPDX-FileCopyrightText: Copyright the Vortex contributors
 
-"""A small repository in a folder of its own, with a copy of the tools, in which a test plants a fault. Its sources and its
-crates.txt lie here under names that end in `.in`, since the toolchain takes each other such file for a crate's."""
-import glob
+"""A small repository in a folder of its own, with a copy of the tools, in which a test plants a fault. small.txt has its
+files, each below a line `=== PATH`, which may name several."""
 import os
+import re
 import shutil
 import subprocess
 import tempfile
@@ -19,9 +19,10 @@ class Planted(unittest.TestCase):
         room = tempfile.TemporaryDirectory(prefix="planted-")
         self.addCleanup(room.cleanup)
         self.top = room.name
-        shutil.copytree(f"{HERE}/small", self.top, dirs_exist_ok=True)
-        for file in glob.glob(f"{self.top}/**/*.in", recursive=True):
-            os.rename(file, file.removesuffix(".in"))
+        with open(f"{HERE}/small.txt", encoding="utf-8") as it:
+            for files, text in re.findall(r"(?ms)^=== (.*?)\n(.*?)(?=^===|\Z)", it.read()):
+                for file in files.split():
+                    self.write(file, text)
         ignored = shutil.ignore_patterns("tests", "original", "__pycache__")
         shutil.copytree(TOOLS, f"{self.top}/tools", ignore=ignored)
 
@@ -42,12 +43,6 @@ class Planted(unittest.TestCase):
         text = self.read(file)
         self.assertEqual(text.count(old), 1, f"{old} in {file}")
         self.write(file, text.replace(old, new))
-
-    def apply(self, edit):
-        """Makes the change of a mutation, in the form of `file:`, `old:` and `new:`."""
-        lines = dict(it.split(": ", 1) for it in edit.splitlines())
-        self.change(lines["file"], lines["old"], lines["new"])
-        return lines["file"]
 
     def script(self, name, text):
         """A program on the path of the tools that are run."""

@@ -2,7 +2,6 @@
 # SPDX-FileCopyrightText: Copyright the Vortex contributors
 
 """tools/borders, with lexer.py, code_rules.py and spec_rules.py."""
-import os
 import unittest
 
 from planted import HERE, Planted
@@ -18,15 +17,22 @@ class Borders(Planted):
         self.assertEqual(self.run_tool("borders"), (0, "16 passed, 0 failed\n"))
 
     def test_refuses_each_mutation(self):
-        for name in sorted(os.listdir(f"{HERE}/mutations")):
-            with self.subTest(name):
-                with open(f"{HERE}/mutations/{name}", encoding="utf-8") as it:
-                    edit = it.read()
-                before = self.read(edit.split("\n")[0].removeprefix("file: "))
-                file = self.apply(edit)
-                faults = self.told("borders")
-                self.assertTrue(any(it.startswith(f"borders: {file}: ") for it in faults), faults)
-                self.write(file, before)
+        """Of mutations.txt: below a file a line that it has, and below that each line in whose place a fault stands."""
+        file = old = ""
+        with open(f"{HERE}/mutations.txt", encoding="utf-8") as it:
+            mutations = [line.rstrip("\n").partition(" ") for line in it]
+        for sign, _, text in mutations:
+            if sign == "===":
+                file = text
+            elif sign == "-":
+                old = text
+            else:
+                with self.subTest(text):
+                    before = self.read(file)
+                    self.change(file, old, text)
+                    faults = self.told("borders")
+                    self.assertTrue(any(it.startswith(f"borders: {file}: ") for it in faults), faults)
+                    self.write(file, before)
 
     def test_tells_an_error_that_is_renamed(self):
         self.change(NAMES, "use std::alloc::{AllocError, Global};", "use std::alloc::{AllocError as Gone, Global};")

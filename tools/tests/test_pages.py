@@ -3,9 +3,13 @@
 
 """tools/pages, with what it checks by ledger.py, runs.py, claims.py, speed.py and tools/reference."""
 import os
+import sys
 import unittest
 
-from planted import Planted
+from planted import TOOLS, Planted
+
+sys.path.append(TOOLS)
+from speed import OPERATIONS  # noqa: E402
 
 LEDGER = "docs/PROMISES.md"
 NAME = "crates/dtype_base/src/field_name.rt"
@@ -17,9 +21,11 @@ class Pages(Planted):
     def setUp(self):
         super().setUp()
         self.write("tools/data/run_by", "FieldName::new: console name\n")
+        cases = [pattern.replace("*", "x") for _, patterns in OPERATIONS for pattern in patterns]
+        self.write("docs/benchmarks.csv", "\n".join(["case,port_ns,rust_ns", *(f"{case},20,10" for case in cases)]))
         if not self.made:
             self.run_tool("reference")
-            self.run_tool("draw_speed")
+            self.run_tool("speed.py")
             pages = [f"docs/reference/{it}" for it in os.listdir(self.path("docs/reference"))]
             self.made.update((it, self.read(it)) for it in [*pages, "docs/BENCHMARKS.md"])
         for file, text in self.made.items():
@@ -101,8 +107,8 @@ class Pages(Planted):
 
     def test_tells_other_numbers_of_lines(self):
         self.write("docs/TRUST.md", "# Trust\n\n| [`Errors`](../crates/dtype_base/specs/Errors.antt) | 40 | errors |\n\nsome 400 lines of `specs/`\n")
-        self.assert_told("pages", "Errors.antt) has 4 lines, not 40")
-        self.assert_told("pages", "specs/ of the libraries has 4 lines, not 400")
+        self.assert_told("pages", "Errors.antt) has 1 lines, not 40")
+        self.assert_told("pages", "specs/ of the libraries has 1 lines, not 400")
 
     def test_tells_what_a_page_shows_and_is_not_there(self):
         self.write("docs/TRUST.md", "# Trust\n\n```sh\ntools/reference --check\ntools/reference --chek\ntools/gone\n```\n")
@@ -134,8 +140,12 @@ Makes a name.
         self.assert_told("pages", "CHANGELOG.md: its newest version is 0.2.0, the console's 0.1.0")
 
     def test_tells_a_summary_that_is_stale(self):
-        self.change("docs/benchmarks.csv", "find/wide/10,20,10", "find/wide/10,30,10")
-        self.assert_told("pages", "docs/BENCHMARKS.md: ")
+        self.change("docs/benchmarks.csv", "find/x/10,20,10", "find/x/10,30,10")
+        self.assert_told("pages", "docs/BENCHMARKS.md: its summary isn't of docs/benchmarks.csv")
+        self.run_tool("speed.py")
+        self.assertIn("| find among 10 fields | 3.0 |", self.read("docs/BENCHMARKS.md"))
+        self.write("docs/benchmarks.csv", self.read("docs/benchmarks.csv") + "\nfly/x,20,10\n")
+        self.assert_told("pages", "docs/BENCHMARKS.md: no operation of tools/speed.py has the case fly/x")
 
 
 if __name__ == "__main__":

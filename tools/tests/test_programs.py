@@ -191,19 +191,6 @@ class Measure(Planted):
         self.assertEqual(ran.stdout.splitlines()[-1], "| find/wide/10 | 10.0 |")
 
 
-class DrawSpeed(Planted):
-    def test_draws_what_was_measured(self):
-        self.assertEqual(self.run_tool("draw_speed")[0], 0)
-        drawn = self.read("docs/speed_ratios.svg")
-        self.change("docs/benchmarks.csv", "eq/wide,20,10", "eq/wide,90,10")
-        self.run_tool("draw_speed")
-        self.assertNotEqual(self.read("docs/speed_ratios.svg"), drawn)
-        self.assertIn("| 9.0 |", self.read("docs/BENCHMARKS.md"))
-        self.change("docs/benchmarks.csv", "find/wide/1000,20,10", "find/wide/1000,5,10")
-        self.run_tool("draw_speed")
-        self.assertIn("| 0.5 to 2.0 |", self.read("docs/BENCHMARKS.md"))
-
-
 class Faults(Planted):
     def test_tells_a_program_that_is_not_there(self):
         self.assertEqual(self.run_tool("faults")[0], 2)

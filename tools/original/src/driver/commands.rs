@@ -22,37 +22,24 @@ use crate::told::{Answer, Stop, Told, stop};
 
 type Command = Box<dyn Fn(&mut Line) -> Answer>;
 
-/// The condition of each command where the original panics.
-const CONDITIONS: [(&str, &str); 23] = {
-    const NONNULLABLE: &str = "a type that can be non-nullable";
-    const IN_RANGE: &str = "an index in range";
-    const AS_MANY: &str = "as many names as types";
-    [
-        ("as_nonnullable", NONNULLABLE),
-        ("with_nullability", NONNULLABLE),
-        ("extension_with_nullability", NONNULLABLE),
-        ("tag_with_nullability", NONNULLABLE),
-        ("word_with_nullability", NONNULLABLE),
-        ("as_ptype", "a primitive type"),
-        ("as_struct_fields", "a struct type"),
-        ("into_struct_fields", "a struct type"),
-        ("as_extension", "an extension type"),
-        ("struct", AS_MANY),
-        ("struct_new", AS_MANY),
-        ("struct_from_fields", AS_MANY),
-        ("struct_from_iter", AS_MANY),
-        ("child_index_to_tag", IN_RANGE),
-        ("names_at", IN_RANGE),
-        ("decimal_new", "a valid precision and scale"),
-        ("by_precision", "at most the greatest precision"),
-        ("match_each_simd", "not f16"),
-        ("match_each_integer", "an integer"),
-        ("match_each_unsigned", "an unsigned integer"),
-        ("match_each_signed", "a signed integer"),
-        ("match_each_float", "a float"),
-        ("starts_with_field", "names"),
-    ]
-};
+/// The conditions of the commands where the original panics.
+const CONDITIONS: [(&str, &[&str]); 15] = [
+    ("a type that can be non-nullable", &["as_nonnullable", "with_nullability", "extension_with_nullability"]),
+    ("a type that can be non-nullable", &["tag_with_nullability", "word_with_nullability"]),
+    ("a primitive type", &["as_ptype"]),
+    ("a struct type", &["as_struct_fields", "into_struct_fields"]),
+    ("an extension type", &["as_extension"]),
+    ("as many names as types", &["struct", "struct_new", "struct_from_fields", "struct_from_iter"]),
+    ("an index in range", &["child_index_to_tag", "names_at"]),
+    ("a valid precision and scale", &["decimal_new"]),
+    ("at most the greatest precision", &["by_precision"]),
+    ("not f16", &["match_each_simd"]),
+    ("an integer", &["match_each_integer"]),
+    ("an unsigned integer", &["match_each_unsigned"]),
+    ("a signed integer", &["match_each_signed"]),
+    ("a float", &["match_each_float"]),
+    ("names", &["starts_with_field"]),
+];
 
 /// The commands, and what lives from line to line.
 pub struct Console {
@@ -100,10 +87,8 @@ impl Console {
 
 /// The answer where the original panicked.
 fn broken(command: &str) -> Answer {
-    match CONDITIONS.iter().find(|(name, _)| *name == command) {
-        Some((_, condition)) => stop(format!("condition: {condition}")),
-        None => stop("the original panicked"),
-    }
+    let condition = CONDITIONS.iter().find(|(_, commands)| commands.contains(&command));
+    stop(condition.map_or("the original panicked".to_owned(), |(it, _)| format!("condition: {it}")))
 }
 
 /// The hash by std's SipHash.

@@ -3,12 +3,10 @@
 
 //! Decimals, primitive names and native types.
 
-use std::fmt::Display;
-
 use vortex_array::dtype::proto::dtype as pb;
 use vortex_array::dtype::{
     DType, DecimalDType, DecimalType, IntegerPType, MAX_PRECISION, MAX_SCALE, NativeDType, NativeDecimalType,
-    NativePType, PType, PhysicalPType, PrecisionScale, ToBytes, TryFromBytes, half::f16,
+    NativePType, PType, PhysicalPType, PrecisionScale, TryFromBytes, half::f16,
 };
 use vortex_array::{
     match_each_float_ptype, match_each_integer_ptype, match_each_native_ptype, match_each_native_simd_ptype,
@@ -20,25 +18,28 @@ use super::{Console, are_equal, hash_equally};
 use crate::line::{Argument, Bytes, Line};
 use crate::told::{Answer, Text, Told, holding, stop};
 
-/// Calls a function for the native type of this name.
+/// Does this for the native type of this name, as `T`.
 macro_rules! of_named {
-    ($name:expr, $function:ident $arguments:tt, $($native:ty)*) => {
+    ($name:expr, $t:ident => $body:expr, $($native:ty)*) => {
         match $name {
-            $(stringify!($native) => $function::<$native> $arguments,)*
+            $(stringify!($native) => {
+                type $t = $native;
+                $body
+            })*
             name => stop(format!("no such native type: {name}")),
         }
     };
 }
 
 macro_rules! of_decimal {
-    ($name:expr, $function:ident $arguments:tt) => {
-        of_named!($name.0, $function $arguments, i8 i16 i32 i64 i128)
+    ($name:expr, $t:ident => $body:expr) => {
+        of_named!($name.0, $t => $body, i8 i16 i32 i64 i128)
     };
 }
 
 macro_rules! of_integer {
-    ($name:expr, $function:ident $arguments:tt) => {
-        of_named!($name.0, $function $arguments, u8 u16 u32 u64 i8 i16 i32 i64)
+    ($name:expr, $t:ident => $body:expr) => {
+        of_named!($name.0, $t => $body, u8 u16 u32 u64 i8 i16 i32 i64)
     };
 }
 
@@ -69,43 +70,35 @@ pub fn add_to(c: &mut Console) {
     c.add("decimal_type_cmp", |(a, b): (DecimalType, DecimalType)| a.cmp(&b));
     c.add("decimal_type_from", |ptype: PType| DecimalType::try_from(ptype));
     c.add("decimal_maxima", |()| format!("{MAX_PRECISION} {MAX_SCALE}"));
-    c.add("precision_scale", |(name, p, s): (Integer, u8, i8)| of_decimal!(name, text(p, s)));
-    c.add("precision_scale_from", |(name, decimal): (Integer, DecimalDType)| of_decimal!(name, both_ways(decimal)));
-    c.add("precision_scale_to", |(name, p, s): (Integer, u8, i8)| of_decimal!(name, decimal(p, s)));
-    c.add("precision_scale_is_valid", |(name, p, s, value): (Integer, u8, i8, i128)| {
-        of_decimal!(name, is_valid(p, s, value))
-    });
-    c.add("by_precision", |(name, precision): (Integer, usize)| of_decimal!(name, bounds(precision)));
-    c.add("native_decimal", |name: Integer| of_decimal!(name, maxima(name.0)));
+    add_precision_scales(c);
     add_primitives(c);
     add_visitors(c);
     add_natives(c);
 }
 
-fn text<T: NativeDecimalType>(precision: u8, scale: i8) -> Answer {
-    Ok(PrecisionScale::<T>::try_new(precision, scale)?.to_string())
-}
-
-fn both_ways<T: NativeDecimalType>(decimal: DecimalDType) -> Answer {
-    let parts = PrecisionScale::<T>::try_from(&decimal)?;
-    let text = parts.to_string();
-    if DecimalDType::from(parts) == decimal { Ok(text) } else { stop("the way back differs") }
-}
-
-fn decimal<T: NativeDecimalType>(precision: u8, scale: i8) -> Answer {
-    DecimalDType::from(PrecisionScale::<T>::try_new(precision, scale)?).told()
-}
-
-fn is_valid<T: NativeDecimalType + TryFrom<i128>>(precision: u8, scale: i8, value: i128) -> Answer {
-    PrecisionScale::<T>::try_new(precision, scale)?.is_valid(native(value)?).told()
-}
-
-fn bounds<T: NativeDecimalType + Display>(precision: usize) -> Answer {
-    Ok(format!("{} {}", T::MIN_BY_PRECISION[precision], T::MAX_BY_PRECISION[precision]))
-}
-
-fn maxima<T: NativeDecimalType>(name: &str) -> Answer {
-    Ok(format!("{} {} {} {name}", T::DECIMAL_TYPE, T::MAX_PRECISION, T::MAX_SCALE))
+fn add_precision_scales(c: &mut Console) {
+    c.add("precision_scale", |(name, p, s): (Integer, u8, i8)| -> Answer {
+        of_decimal!(name, T => Ok(PrecisionScale::<T>::try_new(p, s)?.to_string()))
+    });
+    c.add("precision_scale_from", |(name, decimal): (Integer, DecimalDType)| -> Answer {
+        of_decimal!(name, T => {
+            let parts = PrecisionScale::<T>::try_from(&decimal)?;
+            let text = parts.to_string();
+            if DecimalDType::from(parts) == decimal { Ok(text) } else { stop("the way back differs") }
+        })
+    });
+    c.add("precision_scale_to", |(name, p, s): (Integer, u8, i8)| -> Answer {
+        of_decimal!(name, T => DecimalDType::from(PrecisionScale::<T>::try_new(p, s)?).told())
+    });
+    c.add("precision_scale_is_valid", |(name, p, s, value): (Integer, u8, i8, i128)| -> Answer {
+        of_decimal!(name, T => PrecisionScale::<T>::try_new(p, s)?.is_valid(native(value)?).told())
+    });
+    c.add("by_precision", |(name, at): (Integer, usize)| -> Answer {
+        of_decimal!(name, T => Ok(format!("{} {}", T::MIN_BY_PRECISION[at], T::MAX_BY_PRECISION[at])))
+    });
+    c.add("native_decimal", |name: Integer| -> Answer {
+        of_decimal!(name, T => Ok(format!("{} {} {} {}", T::DECIMAL_TYPE, T::MAX_PRECISION, T::MAX_SCALE, name.0)))
+    });
 }
 
 fn native<T: TryFrom<i128>>(value: i128) -> Answer<T> {
@@ -162,45 +155,34 @@ fn name<T: NativePType>() -> PType {
 }
 
 fn add_natives(c: &mut Console) {
-    c.add("to_le_bytes", |(name, value): (Integer, i128)| of_integer!(name, to_bytes(value)));
-    c.add("try_from_le_bytes", |(name, bytes): (Integer, Bytes)| of_integer!(name, from_bytes(&bytes.0)));
-    c.add("total_compare", |(name, a, b): (Integer, i128, i128)| of_integer!(name, total_compare(a, b)));
-    c.add("native_compare", |(name, a, b): (Integer, i128, i128)| of_integer!(name, compared(a, b)));
-    c.add("native_tests", |(name, value): (Integer, i128)| of_integer!(name, tested(value)));
-    c.add("native_integer", |name: Integer| of_integer!(name, greatest()));
+    c.add("to_le_bytes", |(name, value): (Integer, i128)| -> Answer {
+        of_integer!(name, T => Bytes(native::<T>(value)?.to_le_bytes().to_vec()).told())
+    });
+    c.add("try_from_le_bytes", |(name, bytes): (Integer, Bytes)| -> Answer {
+        of_integer!(name, T => Ok(T::try_from_le_bytes(&bytes.0)?.to_string()))
+    });
+    c.add("total_compare", |(name, a, b): (Integer, i128, i128)| -> Answer {
+        of_integer!(name, T => native::<T>(a)?.total_compare(native(b)?).told())
+    });
+    c.add("native_compare", |(name, a, b): (Integer, i128, i128)| -> Answer {
+        of_integer!(name, T => {
+            let (a, b): (T, T) = (native(a)?, native(b)?);
+            let (le, lt, ge, gt) = (a.is_le(b), a.is_lt(b), a.is_ge(b), a.is_gt(b));
+            holding([("is_le", le), ("is_lt", lt), ("is_ge", ge), ("is_gt", gt), ("is_eq", a.is_eq(b))])
+        })
+    });
+    c.add("native_tests", |(name, value): (Integer, i128)| -> Answer {
+        of_integer!(name, T => {
+            let value: T = native(value)?;
+            holding([("is_nan", value.is_nan()), ("is_infinite", value.is_infinite())])
+        })
+    });
+    c.add("native_integer", |name: Integer| -> Answer {
+        of_integer!(name, T => {
+            Ok(format!("{} {} {}", T::PTYPE, T::max_value_as_u64(), <T as PhysicalPType>::Physical::PTYPE))
+        })
+    });
     c.add("native_dtype", |native: Native| native.0);
-}
-
-fn to_bytes<T: ToBytes + TryFrom<i128>>(value: i128) -> Answer {
-    Bytes(native::<T>(value)?.to_le_bytes().as_ref().to_vec()).told()
-}
-
-fn from_bytes<T: NativePType + TryFromBytes>(bytes: &[u8]) -> Answer {
-    Ok(T::try_from_le_bytes(bytes)?.to_string())
-}
-
-fn total_compare<T: NativePType + TryFrom<i128>>(a: i128, b: i128) -> Answer {
-    native::<T>(a)?.total_compare(native(b)?).told()
-}
-
-fn compared<T: NativePType + TryFrom<i128>>(a: i128, b: i128) -> Answer {
-    let (a, b): (T, T) = (native(a)?, native(b)?);
-    holding([
-        ("is_le", a.is_le(b)),
-        ("is_lt", a.is_lt(b)),
-        ("is_ge", a.is_ge(b)),
-        ("is_gt", a.is_gt(b)),
-        ("is_eq", a.is_eq(b)),
-    ])
-}
-
-fn tested<T: NativePType + TryFrom<i128>>(value: i128) -> Answer {
-    let value: T = native(value)?;
-    holding([("is_nan", value.is_nan()), ("is_infinite", value.is_infinite())])
-}
-
-fn greatest<T: IntegerPType + PhysicalPType>() -> Answer {
-    Ok(format!("{} {} {}", T::PTYPE, T::max_value_as_u64(), T::Physical::PTYPE))
 }
 
 /// The type of a native type, or of options and vectors of it.
@@ -217,7 +199,7 @@ impl Argument for Native {
             "String" => wrapped::<String>(&around),
             "&str" => wrapped::<&str>(&around),
             "&[u8]" => wrapped::<&[u8]>(&around),
-            base => of_named!(base, wrapped(&around), u8 u16 u32 u64 i8 i16 i32 i64 f16 f32 f64 bool),
+            base => of_named!(base, T => wrapped::<T>(&around), u8 u16 u32 u64 i8 i16 i32 i64 f16 f32 f64 bool),
         };
         let dtype = dtype.or_else(|_| line.fail(at))?;
         for _ in around.matches('<') {

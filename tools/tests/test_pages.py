@@ -41,6 +41,12 @@ class Pages(Planted):
         self.write("README.md", self.read("README.md") + "\n```rust\nlet gone = FieldName::gone();\n```\n")
         self.assert_told("pages", "README.md:5: no source has this block")
 
+    def test_tells_an_example_of_the_console_that_is_no_golden_test(self):
+        self.write("README.md", self.read("README.md") + "\n```console\n> name a\na\n```\n")
+        self.assertEqual(self.told("pages"), [])
+        self.change("README.md", "> name a\na", "> name a\nb")
+        self.assert_told("pages", "README.md:5: > name a: no golden test has this line and answer")
+
     def test_tells_a_page_that_is_too_long(self):
         self.write("docs/TRUST.md", "# Trust\n" + "word " * 900)
         self.assert_told("pages", "docs/TRUST.md: 902 words, where it may have 900")

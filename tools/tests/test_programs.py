@@ -91,15 +91,6 @@ class WrongBodies(Planted):
         self.assertEqual(self.run_tool("wrong_bodies", "dtype_paths")[0], 2)
 
 
-class ConsolePages(Planted):
-    def test_tells_an_answer_that_the_program_does_not_give(self):
-        self.write("README.md", "```console\n> name a\na\n> name b\nb\n```\n")
-        self.write("crates/dtype_console/out/dtype_console", "#!/bin/sh\nsed 's/name //'\n", 0o755)
-        self.assertEqual(self.run_tool("console_pages"), (0, "2 passed, 0 failed\n"))
-        self.write("README.md", "```console\n> name a\nb\n```\n")
-        self.assert_told("console_pages", "README.md: name a: the program answers ['a']")
-
-
 class ConsoleRuns(Planted):
     def test_tells_a_program_that_answers_nothing(self):
         self.write("crates/dtype_console/out/dtype_console", "#!/bin/sh\n[ -t 0 ] || cat >/dev/null\n", 0o755)

@@ -5,12 +5,11 @@
 function below it: by the calls in the libraries' sources, where a call of a name that several functions have may be of
 each of them."""
 import os
-import re
 from functools import lru_cache
 
 from ledger import LEDGER, PROGRAM, lines_of, parts_of
 from lexer import code_of, functions_in, is_at
-from repository import libraries, sources_of, text_of
+from repository import changes_of, libraries, sources_of, text_of
 
 # What prints, compares, hashes and copies without a call that is written out.
 BEHIND = {"fmt", "eq", "ne", "cmp", "partial_cmp", "hash", "clone", "drop", "from", "try_from", "next", "index", "bitor"}
@@ -70,8 +69,8 @@ class Graph:
 def changed_by(edit):
     """The functions that a mutation changes; none where it changes what is outside of any."""
     crate, changed = edit.split("/")[0], set()
-    text = text_of(f"crates/{edit}.edit") if os.path.exists(f"crates/{edit}.edit") else ""
-    for file, old in re.findall(r"(?m)^file: (\S+)\nold: (.*)$", text):
+    file = f"crates/{edit}.edit"
+    for file, old, _ in changes_of(file) if os.path.exists(file) else ():
         source = text_of(f"crates/{crate}/{file}")
         line = source.count("\n", 0, source.find(old)) + 1
         for function in functions_of_file(f"crates/{crate}/{file}"):

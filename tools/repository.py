@@ -133,6 +133,18 @@ def sources_of(crate, parts=("src",), endings=(".rt",)):
     return sorted(it for it in files if it.endswith(endings))
 
 
+def changes_of(edit):
+    """The changes of a mutation: each the file in its crate, the old text and the new one."""
+    file = old = ""
+    for kind, text in re.findall(r"(?m)^(file|old|new): ?(.*)$", text_of(edit)):
+        if kind == "file":
+            file = text.strip()
+        elif kind == "old":
+            old = text
+        else:
+            yield file, old, text
+
+
 def end_of(text, start):
     """The index after the brace that closes the one at `start`. Braces in texts and characters don't count."""
     depth = 0

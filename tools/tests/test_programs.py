@@ -186,6 +186,15 @@ class Faults(Planted):
     def test_tells_a_program_that_is_not_there(self):
         self.assertEqual(self.run_tool("faults")[0], 2)
 
+    def test_tells_a_program_that_answers_nothing(self):
+        for file, text in (("stdin", "a\n"), ("stdout", "$a = none\ncover: $a\n")):
+            self.write(f"crates/dtype_demo/{file}", text)
+        self.write("crates/dtype_demo/out/dtype_demo", "#!/bin/sh\n", 0o755)
+        told = "\n".join(self.told("faults"))
+        for fault in ("the stored run: status 0", "standard input is closed: status 0", "an input of 7 bytes: status 0", "the stored run made no allocation",
+                      "names, on a stack of ", "equal-ends, in 2 seconds: status 0", "memory of 4194304 KB: status 0"):
+            self.assertIn(f"faults: {fault}", told)
+
     def test_has_names_in_order(self):
         names = self.read("tools/data/names_of_one_hash").split()
         self.assertEqual((len(names), names), (4096, sorted(set(names))))

@@ -1,7 +1,7 @@
 -- SPDX-License-Identifier: Apache-2.0
 -- SPDX-FileCopyrightText: Copyright the Vortex contributors
 
--- The keys of names, and the index sorted by them; names that share a prefix are equal where keys that hold them whole are.
+-- The keys of names, the index sorted by them, and how the bytes of a name are read.
 use Rattle.std.proofs.Common.{◌%◌, mod-eq_of_lt, ◌≡◌, ◌≢◌, ℕ, zero, suc, ◌+◌, ◌-◌, ◌*◌, ◌<◌, ◌≤◌, ◌^◌, List, [], ◌∷◌, ◌++◌, length, get_or, take, drop, Some, Bool, true, false, IsTrue, ◌↔◌, ◌/◌, refl, sym, ap, subst, subst₂, ◌∙◌, inl, inr, arith, pow-suc, add-mul}
 use Rattle.std.specs.Prelude.{slice_get}
 use Rattle.std.proofs.Math.Nat.{add-mul-mod_self_right, mul_assoc}
@@ -14,19 +14,18 @@ use Rattle.std.specs.declared.cmp.Ordering.{Ordering}
 use Rattle.std.specs.Ordering.{is_lt, ordering_index, ordering_then, nat_cmp}
 use Rattle.std.specs.Cmp.{IsTotalOrder, then_total, on_total, nat_cmp_is, nat_cmp_total}
 use Rattle.std.proofs.lemmas.Bool.{cases_lt, cases_order, false≢true}
-use Rattle.std.proofs.lemmas.List.{get_or-map, get_or-take, get_or-drop, get_or_past, map-append, drop-drop, length-drop, length-take-le, take-append-drop}
+use Rattle.std.proofs.lemmas.List.{get_or-map, get_or-take, get_or-drop, get_or_past, map-append, drop-drop, length-drop, length-take-le}
 use Rattle.std.proofs.lemmas.Grind.{same_number_lists}
 use Rattle.std.proofs.lemmas.List.Elements.{All-drop}
 use Rattle.std.proofs.lemmas.List.Sorted.{All-permutation, IsPermutation-map, IsNonDecreasingBy-from_all_adjacent}
 use Rattle.std.proofs.lemmas.Option.{slice_get-get_or, get_or_from_slice_get}
 use Rattle.dtype_base.specs.Bytes.{Bytes}
-use Rattle.dtype_base.specs.private.NameKeys.{big_endian, hash_of, key_of, key_prefix, mixed, sort_key, words_hash}
-use Rattle.dtype_base.specs.private.NameOrder.{AreDistinguishedBy, IsFinal, IsIndexOf, IsKeyed, IsOrderOf, IsSame, bytes_cmp, key_or, keyed_position_cmp, name_cmp, position_cmp, entry_cmp, entry_name_cmp, positions}
+use Rattle.dtype_base.specs.private.NameKeys.{big_endian, hash_of, key_of, mixed, words_hash}
+use Rattle.dtype_base.specs.private.NameOrder.{AreDistinguishedBy, IsIndexOf, IsKeyed, IsOrderOf, bytes_cmp, key_or, keyed_position_cmp, name_cmp, position_cmp, entry_cmp, entry_name_cmp, positions}
 use Rattle.dtype_base.specs.declared.name_key.Keying.{Keying}
-use Rattle.dtype_base.specs.declared.name_key.Keying.TheVariants.{AfterPrefix, Hashed}
 use Rattle.dtype_base.specs.declared.name_order.IndexEntry.{IndexEntry}
 use Rattle.dtype_base.specs.declared.name_order.Discriminator.{Discriminator}
-use Rattle.dtype_base.specs.declared.name_order.Discriminator.TheVariants.{KeyPrefix, Key, Text}
+use Rattle.dtype_base.specs.declared.name_order.Discriminator.TheVariants.{Key, Text}
 use Rattle.dtype_base.proofs.NameSearch.{Occurs, as_many_positions, at_least_equal, at_most_equal, position_at, counted_more, equal_is, no_entry, placed, itself, names_ranked, position_total}
 
 -- ---- the first bytes of a text, as a number
@@ -57,36 +56,13 @@ same_bytes (suc k) i xs ys a b e l =
       | inr later ↦ subst (λ j. get_or xs j 0 ≡ get_or ys j 0) (omega (arith, l, later)) last
     ]
 
--- ---- keys of texts
-
--- texts with the same first s bytes are the same where they have one key that holds all that follows these
-same_text : (s key : ℕ) (xs ys : List ℕ) → Bytes xs → Bytes ys → key ≡ sort_key s xs → key ≡ sort_key s ys → key % 256 < 16 → take s xs ≡ take s ys → xs ≡ ys
-unfolding sort_key
-same_text s key xs ys a b is_x is_y whole begin =
-    let numbers : big_endian 15 (drop s xs) ≡ big_endian 15 (drop s ys) = omega (arith, is_x, is_y) in
-    let rest = same_number_lists (drop s xs) (drop s ys) (omega (arith, is_x, is_y, whole)) (λ i l.
-    same_bytes 15 i (drop s xs) (drop s ys) (All-drop (λ z. z < 256) s xs a) (All-drop (λ z. z < 256) s ys b) numbers (omega (arith, l, is_x, whole))) in
-    sym (take-append-drop s xs) ∙ (λ i. begin i ++ rest i) ∙ take-append-drop s ys
-
--- what the last comparison compares is the same exactly where the names are
-same_name : (keying : Keying) (names : List (List ℕ)) (p : IndexEntry) (n : List ℕ) (key : ℕ) (by : Discriminator) (prefix_len : ℕ) → IsFinal keying key by prefix_len → IsKeyed names keying p → Bytes n
-    → key ≡ key_of keying n → IsSame names n key by prefix_len p ↔ (get_or names p.position [] ≡ n)
-same_name keying names p n key KeyPrefix prefix_len final h bytes is = absurd final
-same_name (AfterPrefix s) names p n key Key prefix_len final h bytes is =
-    let e : s ≡ prefix_len = cc (final.0) in (
-      λ same. same_text s key (get_or names p.position []) n h.bytes bytes (sym same.0 ∙ h.key) is final.1 (subst (λ j. take j (get_or names p.position []) ≡ take j n) (sym e) same.1),
-      λ name. (h.key ∙ ap (sort_key s) name ∙ sym is, ap (take prefix_len) name),
-    )
-same_name Hashed names p n key Key prefix_len final h bytes is = cc (final.0)
-same_name keying names p n key Text prefix_len final h bytes is = (λ same. same.1, λ name. (ap key_prefix (h.key ∙ ap (key_of keying) name ∙ sym is), name))
-
 -- ---- entries
 
--- of numbers of which each is below the next, each is below all after it
-far : (f : IndexEntry → ℕ) (entries : List IndexEntry) → AllAdjacentBelow (λ p q. f p < f q) entries (length entries) → (j k : ℕ) (d : IndexEntry) → j < k
-    → k < length entries → f (get_or entries j d) < f (get_or entries k d)
-far f entries increase j k d l within =
-    omega (arith, increase j d (omega (arith, l, within)), IsNonDecreasingBy-from_all_adjacent f entries (λ i e b. omega (arith, increase i e b)) (j + 1) k d (omega (arith, l)) within)
+-- of keys of which each is below the next, each is below all after it
+far : (entries : List IndexEntry) → AllAdjacentBelow (λ p q. p.key < q.key) entries (length entries) → (j k : ℕ) (d : IndexEntry) → j < k → k < length entries
+    → (get_or entries j d).key < (get_or entries k d).key
+far entries increase j k d l within =
+    omega (arith, increase j d (omega (arith, l, within)), IsNonDecreasingBy-from_all_adjacent (λ p. p.key) entries (λ i e b. omega (arith, increase i e b)) (j + 1) k d (omega (arith, l)) within)
 
 -- ---- what the index's order says of its keys
 
@@ -157,56 +133,48 @@ module _ (names : List (List ℕ)) (keying : Keying) (entries : List IndexEntry)
       subst₂ (λ x y. ordering_index (name_cmp keying names n x) ≤ ordering_index (name_cmp keying names n y)) at_j at_k
       (names_ranked keying names (positions entries) order n j k 0 (omega (arith, before)) (omega (arith, within, as_many_positions entries)))
 
-  -- numbers of keys that increase along the entries compare an entry with a name that occurs as the names do
-  pub numbers_decide : (f : ℕ → ℕ) → AllAdjacentBelow (λ p q. f p.key < f q.key) entries (length entries)
-      → (n : List ℕ) (key k : ℕ) (d : IndexEntry) → key ≡ key_of keying n → k < length entries → Occurs names n
-      → nat_cmp (f (get_or entries k d).key) (f key) ≡ name_cmp keying names n (get_or entries k d).position
-  numbers_decide f increase n key k d is within t =
+  -- keys that increase along the entries compare an entry with a name that occurs as the names do
+  pub keys_decide : AllAdjacentBelow (λ p q. p.key < q.key) entries (length entries) → (n : List ℕ) (key k : ℕ) (d : IndexEntry) → key ≡ key_of keying n → k < length entries → Occurs names n
+      → nat_cmp (get_or entries k d).key key ≡ name_cmp keying names n (get_or entries k d).position
+  keys_decide increase n key k d is within t =
       let s = entry_of n d t in
       let p = get_or entries k d in
       let key_s : (get_or entries s.0 d).key ≡ key = same_key n s.0 d s.1 s.3 ∙ sym is in
       elim (cases_order k s.0) [
-        | inl e ↦ sym (nat_cmp_is _ _ Equal (ap (λ j. f (get_or entries j d).key) e ∙ ap f key_s)) ∙ sym (ap (λ j. name_cmp keying names n (get_or entries j d).position) e ∙ s.3)
+        | inl e ↦ sym (nat_cmp_is _ _ Equal (ap (λ j. (get_or entries j d).key) e ∙ key_s)) ∙ sym (ap (λ j. name_cmp keying names n (get_or entries j d).position) e ∙ s.3)
         | inr (inl before) ↦
-            let lower : f p.key < f key = subst (λ x. f p.key < f x) key_s (far (λ q. f q.key) entries increase k s.0 d before s.1) in
+            let lower : p.key < key = omega (arith, far entries increase k s.0 d before s.1, key_s) in
             sym (nat_cmp_is _ _ Less lower) ∙ sym (at_most_equal _ _ (ranked_entries n k s.0 d before s.1) s.3 (λ same.
-            absurd (omega (arith, lower, ap f (same_key n k d within same ∙ sym is)))))
+            absurd (omega (arith, lower, same_key n k d within same, is))))
         | inr (inr after) ↦
-            let higher : f key < f p.key = subst (λ x. f x < f p.key) key_s (far (λ q. f q.key) entries increase s.0 k d after within) in
+            let higher : key < p.key = omega (arith, far entries increase s.0 k d after within, key_s) in
             sym (nat_cmp_is _ _ Greater higher) ∙ sym (at_least_equal _ _ (ranked_entries n s.0 k d after within) s.3 (λ same.
-            absurd (omega (arith, higher, ap f (same_key n k d within same ∙ sym is)))))
+            absurd (omega (arith, higher, same_key n k d within same, is))))
       ]
 
 -- what the index's discriminator names compares an entry with a name that occurs
 pub decided : (names : List (List ℕ)) (keying : Keying) (by : Discriminator) (entries : List IndexEntry) → IsIndexOf names keying by entries
     → (n : List ℕ) (key k : ℕ) (d : IndexEntry) → key ≡ key_of keying n → k < length entries → Occurs names n
     → entry_name_cmp names n key by (get_or entries k d) ≡ name_cmp keying names n (get_or entries k d).position
-decided names keying KeyPrefix entries h n key k d is within t = numbers_decide names keying entries h.keyed h.order key_prefix h.distinguished n key k d is within t
-decided names keying Key entries h n key k d is within t = numbers_decide names keying entries h.keyed h.order (λ x. x) h.distinguished n key k d is within t
+decided names keying Key entries h n key k d is within t = keys_decide names keying entries h.keyed h.order h.distinguished n key k d is within t
 decided names keying Text entries h n key k d is within t = name_by_keys names keying (get_or entries k d) n key (h.keyed k d within) is
 
 -- the last comparison decides
-pub same_decided : (names : List (List ℕ)) (keying : Keying) (discriminator : Discriminator) (entries : List IndexEntry) → IsIndexOf names keying discriminator entries
-    → (n : List ℕ) (key k : ℕ) (d : IndexEntry) (by : Discriminator) (prefix_len : ℕ) (same : Bool) → IsFinal keying key by prefix_len → Bytes n → key ≡ key_of keying n → k < length entries
-    → IsTrue same ↔ IsSame names n key by prefix_len (get_or entries k d)
+pub same_decided : (names : List (List ℕ)) (keying : Keying) (by : Discriminator) (entries : List IndexEntry) → IsIndexOf names keying by entries
+    → (n : List ℕ) (key k : ℕ) (d : IndexEntry) (same : Bool) → key ≡ key_of keying n → k < length entries
+    → IsTrue same ↔ (((get_or entries k d).key ≡ key) × (get_or names (get_or entries k d).position [] ≡ n))
     → (same ≡ true → name_cmp keying names n (get_or entries k d).position ≡ Equal) × (same ≡ false → name_cmp keying names n (get_or entries k d).position ≢ Equal)
-same_decided names keying discriminator entries h n key k d by prefix_len same final bytes is within compared =
+same_decided names keying by entries h n key k d same is within compared =
     let p = get_or entries k d in
-    let keyed = h.keyed k d within in
-    let decides = same_name keying names p n key by prefix_len final keyed bytes is in (
-      λ t. itself keying names (positions entries) h.order n p.position (slice_get-get_or names p.position [] keyed.within ∙ ap Some (decides.0 (compared.0 t))),
+    let keyed = h.keyed k d within in (
+      λ t. itself keying names (positions entries) h.order n p.position (slice_get-get_or names p.position [] keyed.within ∙ ap Some (compared.0 t).1),
       λ f here.
           let name = get_or_from_slice_get names p.position n [] (equal_is keying names (positions entries) h.order n (slice_get names p.position) here) in
-          false≢true (sym f ∙ compared.1 (decides.1 name)),
+          false≢true (sym f ∙ compared.1 (keyed.key ∙ ap (key_of keying) name ∙ sym is, name)),
     )
-
--- a lower key prefix is that of a lower key
-lower_prefix : (a b : ℕ) → key_prefix a < key_prefix b → a < b
-lower_prefix a b l = omega (arith, l)
 
 -- keys that distinguish the entries increase
 increasing : (by : Discriminator) (entries : List IndexEntry) → by ≢ Text → AreDistinguishedBy by entries → AllAdjacentBelow (λ p q. p.key < q.key) entries (length entries)
-increasing KeyPrefix entries other distinguished = λ k d high. lower_prefix _ _ (distinguished k d high)
 increasing Key entries other distinguished = distinguished
 increasing Text entries other distinguished = absurd (other refl)
 
@@ -275,10 +243,6 @@ without_last k j n bs e h = ap (λ x. x / 256 ^ j) (split_number k j n bs e) ∙
 pub bits : (m : ℕ) → 2 ^ (8 * m) ≡ 256 ^ m
 bits zero = refl
 bits (suc m) = ap (λ e. 2 ^ e) (omega arith) ∙ pow-add 2 (8 * m) 8 ∙ omega (arith, bits m, pow-suc 256 m)
-
--- fifteen bytes and a length byte, as two words of eight bytes
-pub fifteen : (bs : List ℕ) (count : ℕ) → Bytes bs → big_endian 15 bs * 256 + count ≡ big_endian 8 bs * 2 ^ 64 + (big_endian 8 (drop 8 bs) / 256 * 256 + count)
-fifteen bs count bytes = omega (arith, split_number 8 7 15 bs refl, without_last 7 1 8 (drop 8 bs) refl (All-drop (λ b. b < 256) 8 bs bytes))
 
 -- eight bytes shifted left by j bytes: without the first j of them, and what overflows 64 bits
 shifted_sum : (i j : ℕ) (bs : List ℕ) → i + j ≡ 8 → length bs ≡ 8 → big_endian 8 bs * 256 ^ j ≡ big_endian 8 (drop j bs) + big_endian j bs * 2 ^ 64

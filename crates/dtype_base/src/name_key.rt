@@ -1,12 +1,11 @@
 // SPDX-License-Identifier: Apache-2.0
 // SPDX-FileCopyrightText: Copyright the Vortex contributors
 
-// The keys of an index: numbers of sixteen bytes that distinguish most names; and how prefixes of names compare.
-ghost use Rattle.std.specs.Prelude.{◌≡◌, ◌↔◌, ◌*◌, ◌<◌, ◌≤◌, ◌^◌, IsTrue, length, take, drop, slice_index};
-ghost use Rattle.dtype_base.specs.Bytes.{Bytes};
-ghost use Rattle.dtype_base.specs.private.NameKeys.{big_endian, hash_of, key_of, key_prefix, mixed, sort_key};
+// The keys of an index: numbers of eight bytes that distinguish most names; and how prefixes of names compare.
+ghost use Rattle.std.specs.Prelude.{◌≡◌, ◌↔◌, ◌*◌, ◌<◌, ◌≤◌, IsTrue, length, take, drop, slice_index};
+ghost use Rattle.dtype_base.specs.private.NameKeys.{big_endian, hash_of, key_of, mixed, sort_key};
 
-// Splits a sort key: the quotient by this is its first eight bytes, the remainder its last eight.
+// The number after the greatest of eight bytes: what a difference of two of them borrows.
 pub(crate) const TWO_POW_64: u128 = 0x1_0000_0000_0000_0000;
 
 // What a hash multiplies by: 2^64 divided by the golden ratio.
@@ -50,18 +49,12 @@ fn suffix(text: &[u8], count: usize) -> &[u8]
     &text[count.min(text.len())..]
 }
 
-// The sort key of a text after a prefix: the fifteen bytes that follow the prefix, big-endian, padded with zeros, and in
-// the last byte how many bytes follow it, 16 where more than fifteen do.
+// The sort key of a text after a prefix: the eight bytes that follow the prefix, big-endian, padded with zeros.
 #[inline(always)]
-pub(crate) fn sort_key(text: &[u8], prefix_len: usize) -> u128
-    ensures key { result ≡ sort_key prefix_len text.now }
-    ensures bytes { Bytes text.now }
+pub(crate) fn sort_key(text: &[u8], prefix_len: usize) -> u64
+    ensures { result ≡ sort_key prefix_len text.now }
 {
-    let rest = suffix(text, prefix_len);
-    let high = load_u64_at(text, prefix_len);
-    let seven = load_u64_at(rest, 8) / 256;
-    let held = rest.len().min(16) as u64;
-    u128::from(high) * TWO_POW_64 + u128::from(seven * 256 + held)
+    load_u64_at(text, prefix_len)
 }
 
 // How a key is made of a name.
@@ -75,28 +68,18 @@ pub(crate) enum Keying {
 
 // The key of a name.
 #[inline(always)]
-pub(crate) fn key_of(text: &[u8], keying: &Keying) -> u128
-    ensures key { result ≡ key_of keying.now text.now }
-    ensures bytes { Bytes text.now }
+pub(crate) fn key_of(text: &[u8], keying: &Keying) -> u64
+    ensures { result ≡ key_of keying.now text.now }
 {
     match keying {
         Keying::AfterPrefix(prefix_len) => sort_key(text, *prefix_len),
-        Keying::Hashed => hash_key(text),
+        Keying::Hashed => hash_of(text),
     }
-}
-
-// A key whose first eight bytes are the hash of a text.
-#[inline(always)]
-pub(crate) fn hash_key(text: &[u8]) -> u128
-    ensures key { result ≡ hash_of text.now * 2 ^ 64 }
-    ensures bytes { Bytes text.now }
-{
-    u128::from(hash_of(text)) * TWO_POW_64
 }
 
 // A number that hardly two texts have in common: of the length, the words of eight bytes, and the last eight bytes.
 #[inline(always)]
-fn hash_of(text: &[u8]) -> u64
+pub(crate) fn hash_of(text: &[u8]) -> u64
     ensures { result ≡ hash_of text.now }
 {
     let mut hash = text.len() as u64;
@@ -118,13 +101,6 @@ fn mixed(hash: u64, word: u64) -> u64
 {
     let product = u128::from(hash.wrapping_add(word)) * MULTIPLIER;
     ((product / TWO_POW_64) as u64).wrapping_add((product % TWO_POW_64) as u64)
-}
-
-// The key prefix: the first eight bytes of a key.
-pub(crate) fn key_prefix(key: u128) -> u64
-    ensures { result ≡ key_prefix key }
-{
-    (key / TWO_POW_64) as u64
 }
 
 // The eight bytes after the first `count`, as one big-endian number, padded with zeros. Where fewer follow in a text of at

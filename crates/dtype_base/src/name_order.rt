@@ -9,13 +9,13 @@ ghost use Rattle.std.specs.List.Sorted.{IsPermutation, IsSorted};
 ghost use Rattle.dtype_base.specs.Errors.{Makes};
 ghost use Rattle.dtype_base.specs.Distinct.{Distinct};
 ghost use Rattle.dtype_base.specs.private.NameKeys.{HaveCommonPrefix};
-ghost use Rattle.dtype_base.specs.private.NameOrder.{AreDistinguishedBy, PrefixesIncrease, IsIndexOf, IsKeyed, IsOrderOf, KeysIncrease, entry_cmp, position_cmp, positions};
+ghost use Rattle.dtype_base.specs.private.NameOrder.{AreDistinguishedBy, IsIndexOf, IsKeyed, IsOrderOf, KeysIncrease, entry_cmp, position_cmp, positions};
 ghost use Rattle.dtype_base.specs.declared.name_key.Keying.{Keying};
 ghost use Rattle.dtype_base.specs.declared.name_key.Keying.TheVariants.{AfterPrefix, Hashed};
 ghost use Rattle.dtype_base.specs.declared.name_order.Discriminator.TheVariants.{Text};
 ghost use Rattle.dtype_base.specs.declared.vortex_error.VortexError.TheVariants.{OutOfMemory};
 
-use crate::name_key::{Keying, eq_prefix, hash_key, key_prefix, sort_key};
+use crate::name_key::{Keying, eq_prefix, hash_of, sort_key};
 use crate::{FieldName, VortexResult};
 use std::alloc::Global;
 use std::cmp::Ordering;
@@ -23,15 +23,13 @@ use std::cmp::Ordering;
 // An entry of the index: a position in the list, and the sort key of the name there.
 #[derive(Clone, Copy, Debug)]
 pub(crate) struct IndexEntry {
-    pub(crate) key: u128,
+    pub(crate) key: u64,
     pub(crate) position: usize,
 }
 
 /// How much of a name distinguishes the entries of an index: the least of these that does.
 #[derive(Clone, Copy, Debug)]
 pub(crate) enum Discriminator {
-    // The first eight bytes of the key: no two entries have the same.
-    KeyPrefix,
     // The key: no two entries have the same.
     Key,
     // The text: some entries have equal keys.
@@ -47,9 +45,6 @@ const MIN_RUN_LEN: usize = 64;
 // The most entries whose packed keys keep 32 bits of the sort key beside the index of the entry.
 const MAX_PACKED: usize = 0x1_0000_0000;
 
-// A sort key divided by this is its first 63 bits.
-const TWO_POW_65: u128 = 0x2_0000_0000_0000_0000;
-
 // The entries of the index of these names, how their keys are made, and what distinguishes the entries.
 pub(crate) fn build_index(
     alloc: Global,
@@ -57,6 +52,9 @@ pub(crate) fn build_index(
 ) -> VortexResult<(Vec<IndexEntry>, Keying, Discriminator)>
     ensures { Makes result (λ made. IsIndexOf names.now made.1 made.2 made.0.items) }
 {
+    if share_a_key(names) {
+        return hashed_index(alloc, names);
+    }
     let (mut entries, prefix_len) = all_entries(alloc, names)?;
     let by = sort_by_keys(alloc, &mut entries)?;
     if is_by_keys(by) {
@@ -65,12 +63,25 @@ pub(crate) fn build_index(
     hashed_index(alloc, names)
 }
 
+// Whether the last two names have one key after the prefix that the first and the last share. Then keys after a prefix
+// hardly distinguish the names, and aren't tried.
+fn share_a_key(names: &[FieldName]) -> bool {
+    let count = names.len();
+    if count < 2 {
+        return false;
+    }
+    let prefix_len = guess_common_prefix(names);
+    let before = names[count - 2].as_str().as_bytes();
+    let last = names[count - 1].as_str().as_bytes();
+    sort_key(before, prefix_len) == sort_key(last, prefix_len)
+}
+
 // Whether keys distinguish the entries.
 fn is_by_keys(by: Discriminator) -> bool
     ensures { IsTrue result → by ≢ Text }
 {
     match by {
-        Discriminator::KeyPrefix | Discriminator::Key => true,
+        Discriminator::Key => true,
         Discriminator::Text => false,
     }
 }
@@ -94,7 +105,7 @@ fn hashed_entries(alloc: Global, names: &[FieldName]) -> VortexResult<Vec<IndexE
 {
     let mut entries = Vec::with_capacity(alloc, names.len())?;
     for position in 0..names.len() {
-        let key = hash_key(names[position].as_str().as_bytes());
+        let key = hash_of(names[position].as_str().as_bytes());
         entries.push_reserved(IndexEntry { key, position });
     }
     Ok(entries)
@@ -280,7 +291,7 @@ fn packed_keys(alloc: Global, entries: &[IndexEntry], room: usize) -> VortexResu
 {
     let mut packed = Vec::with_capacity(alloc, entries.len())?;
     for index in 0..entries.len() {
-        let first = (entries[index].key / TWO_POW_65) as usize;
+        let first = (entries[index].key / 2) as usize;
         packed.push_reserved(first / room * room + index);
     }
     Ok(packed)
@@ -335,24 +346,10 @@ fn compare_positions(names: &[FieldName], i: &usize, j: &usize) -> Ordering
 fn discriminator_of(entries: &[IndexEntry]) -> Discriminator
     ensures { AreDistinguishedBy result entries.now }
 {
-    if prefixes_increase(entries) {
-        return Discriminator::KeyPrefix;
-    }
     if keys_increase(entries) {
         return Discriminator::Key;
     }
     Discriminator::Text
-}
-
-fn prefixes_increase(entries: &[IndexEntry]) -> bool
-    ensures { IsTrue result → PrefixesIncrease entries.now }
-{
-    for next in 1..entries.len() {
-        if key_prefix(entries[next - 1].key) >= key_prefix(entries[next].key) {
-            return false;
-        }
-    }
-    true
 }
 
 fn keys_increase(entries: &[IndexEntry]) -> bool

@@ -3,11 +3,10 @@
 
 -- Lemmas about lookups. A caller names all of them in one line,
 --     #![tactic(auto, using(dtype_base::proofs::lemmas::Lookups::lookups))]
-use Rattle.std.proofs.Common.{◌≡◌, ℕ, zero, suc, ◌<◌, ◌≤◌, ◌^◌, List, length, map, get_or, Option, Some, None, IfSome, IfNone, IsSome, ◌+◌, Bool, true, false, cond, refl, ap, sym, ◌∙◌, inl, inr, arith}
+use Rattle.std.proofs.Common.{◌≡◌, ℕ, zero, suc, ◌<◌, ◌≤◌, ◌^◌, List, length, Option, Some, None, IfSome, IfNone, IsSome, ◌+◌, Bool, true, false, cond, refl, ap, sym, ◌∙◌, inl, inr, arith}
 use Rattle.std.specs.List.{position_or_len}
 use Rattle.std.specs.Str.{bytes_eq}
 use Rattle.std.proofs.lemmas.Bool.{lt-ltb, false≢true, cases_lt}
-use Rattle.std.proofs.lemmas.List.{get_or-map, length-map}
 use Rattle.std.proofs.lemmas.List.Quantifiers.{position-Some}
 use Rattle.std.proofs.lemmas.List.Sums.{position_or_len_is, fails_before_first}
 use Rattle.std.proofs.lemmas.Option.{slice_get_within, get_or_from_slice_get, slice_get-get_or}
@@ -78,14 +77,6 @@ found_first names n (Some i) e = first_of_place names n i e
 pub none_absent : (names : List (List ℕ)) (n : List ℕ) (r : Option ℕ) → r ≡ first_place names n → IfNone r (IsAbsent names n)
 none_absent names n None e = absent_of_place names n e
 none_absent names n (Some i) e = tt
-
--- ---- selections
-
--- the k-th position of a selection is the first of the k-th name asked
-pub selected_at : (names asked : List (List ℕ)) (firsts : List ℕ) → map Some firsts ≡ map (first_place names) asked → (k : ℕ) (d : List ℕ) → k < length asked → Some (get_or firsts k 0) ≡ first_place names (get_or asked k d)
-selected_at names asked firsts e k d within =
-    let as_many : length firsts ≡ length asked = sym (length-map firsts Some) ∙ ap length e ∙ length-map asked (first_place names) in
-    sym (get_or-map Some firsts k 0 None (omega (arith, within, as_many))) ∙ ap (λ os. get_or os k None) e ∙ get_or-map (first_place names) asked k d None within
 
 -- ---- the number of comparisons
 

@@ -1,9 +1,9 @@
 -- SPDX-License-Identifier: Apache-2.0
 -- SPDX-FileCopyrightText: Copyright the Vortex contributors
 
--- Sort keys: a number of sixteen bytes for each name, by which most names are ordered and distinguished without their
+-- Sort keys: a number of eight bytes for each name, by which most names are ordered and distinguished without their
 -- texts being read. Only private contracts cite them.
-use Rattle.std.specs.Prelude.{◌≡◌, ℕ, zero, suc, ◌+◌, ◌-◌, ◌*◌, ◌/◌, ◌%◌, ◌^◌, List, [], length, min, take, drop, slice_index, slice_index_or}
+use Rattle.std.specs.Prelude.{◌≡◌, ℕ, zero, suc, ◌+◌, ◌-◌, ◌*◌, ◌/◌, ◌%◌, ◌^◌, List, [], length, take, drop, slice_index, slice_index_or}
 use Rattle.std.specs.List.{All}
 use Rattle.dtype_base.specs.declared.name_key.Keying.{Keying}
 use Rattle.dtype_base.specs.declared.name_key.Keying.TheVariants.{AfterPrefix, Hashed}
@@ -13,15 +13,9 @@ unfoldable pub big_endian : ℕ → List ℕ → ℕ
 big_endian zero bs = 0
 big_endian (suc k) bs = big_endian k bs * 256 + slice_index bs k
 
--- The sort key of a name after a common prefix: the fifteen bytes that follow the prefix, and in the last byte how many
--- bytes follow it, 16 where more than fifteen do. So two names with that prefix and equal keys, whose last byte is below
--- 16, are equal.
-unfoldable pub sort_key : ℕ → List ℕ → ℕ
-sort_key prefix_len n = big_endian 15 (drop prefix_len n) * 256 + min (length (drop prefix_len n)) 16
-
--- the key prefix: the first eight bytes of a key
-abbrev pub key_prefix : ℕ → ℕ
-key_prefix key = key / 256 ^ 8
+-- the sort key of a name after a common prefix: the eight bytes that follow the prefix
+abbrev pub sort_key : ℕ → List ℕ → ℕ
+sort_key prefix_len n = big_endian 8 (drop prefix_len n)
 
 -- One word more in a hash: the halves of a product, added modulo 2 ^ 64. The number is 2 ^ 64 divided by the golden ratio.
 unfoldable pub mixed : ℕ → ℕ → ℕ
@@ -42,7 +36,7 @@ hash_of n = mixed (words_hash ((length n - 1) / 8) n) (big_endian 8 (drop (lengt
 -- the last comparison of a lookup compares names.
 abbrev pub key_of : Keying → List ℕ → ℕ
 key_of (AfterPrefix prefix_len) n = sort_key prefix_len n
-key_of Hashed n = hash_of n * 2 ^ 64
+key_of Hashed n = hash_of n
 
 -- all names begin with the same prefix_len bytes
 abbrev pub HaveCommonPrefix : List (List ℕ) → ℕ → Type 0

@@ -3,20 +3,18 @@
 
 -- The index of a name list: an entry for each position, with the key of the name there, in the order of the keys, then of
 -- the names' bytes, then of the positions. Only private contracts cite it.
-use Rattle.std.specs.Prelude.{◌≡◌, ◌%◌, ℕ, ◌-◌, ◌<◌, ◌^◌, List, Option, Some, None, Bool, ⊤, length, map, slice_get, slice_index_or, take, [], if◌then◌else◌}
+use Rattle.std.specs.Prelude.{◌≡◌, ℕ, ◌-◌, ◌<◌, ◌^◌, List, Option, Some, None, Bool, ⊤, length, map, slice_get, slice_index_or, [], if◌then◌else◌}
 use Rattle.std.specs.List.{All, AllAdjacentBelow, range_with_len}
 use Rattle.std.specs.List.Sorted.{IsPermutation, IsSorted}
 use Rattle.std.specs.Option.{option_cmp}
 use Rattle.std.specs.Ordering.{ordering_then, nat_cmp}
 use Rattle.std.specs.declared.cmp.Ordering.{Ordering}
 use Rattle.std.specs.Cmp.Lexicographic.{slice_cmp}
-use Rattle.dtype_base.specs.Bytes.{Bytes}
-use Rattle.dtype_base.specs.private.NameKeys.{key_of, key_prefix}
+use Rattle.dtype_base.specs.private.NameKeys.{key_of}
 use Rattle.dtype_base.specs.declared.name_key.Keying.{Keying}
-use Rattle.dtype_base.specs.declared.name_key.Keying.TheVariants.{AfterPrefix}
 use Rattle.dtype_base.specs.declared.name_order.IndexEntry.{IndexEntry}
 use Rattle.dtype_base.specs.declared.name_order.Discriminator.{Discriminator}
-use Rattle.dtype_base.specs.declared.name_order.Discriminator.TheVariants.{KeyPrefix, Key, Text}
+use Rattle.dtype_base.specs.declared.name_order.Discriminator.TheVariants.{Key, Text}
 
 -- how two names compare, by their bytes; no name is less than any
 abbrev pub bytes_cmp : Option (List ℕ) → Option (List ℕ) → Ordering
@@ -52,11 +50,10 @@ pub record IsOrderOf (keying : Keying) (names : List (List ℕ)) (order : List �
 abbrev pub entry_cmp : List (List ℕ) → IndexEntry → IndexEntry → Ordering
 entry_cmp names p q = ordering_then (nat_cmp p.key q.key) (position_cmp names p.position q.position)
 
--- the entry's position has a name, which is of bytes, and its key is that name's
+-- the entry's position has a name, and its key is that name's
 pub record IsKeyed (names : List (List ℕ)) (keying : Keying) (p : IndexEntry) : Type 0 where
   pub within : p.position < length names
   pub key : p.key ≡ key_of keying (slice_index_or names p.position [])
-  pub bytes : Bytes (slice_index_or names p.position [])
 
 -- the positions of the entries
 abbrev pub positions : List IndexEntry → List ℕ
@@ -66,13 +63,8 @@ positions = map (λ p. p.position)
 abbrev pub KeysIncrease : List IndexEntry → Type 0
 KeysIncrease entries = AllAdjacentBelow (λ p q. p.key < q.key) entries (length entries)
 
--- the key prefixes, the first eight bytes, are strictly increasing
-abbrev pub PrefixesIncrease : List IndexEntry → Type 0
-PrefixesIncrease entries = AllAdjacentBelow (λ p q. key_prefix p.key < key_prefix q.key) entries (length entries)
-
 -- what the discriminator of an index promises of its entries
 abbrev pub AreDistinguishedBy : Discriminator → List IndexEntry → Type 0
-AreDistinguishedBy KeyPrefix = PrefixesIncrease
 AreDistinguishedBy Key = KeysIncrease
 AreDistinguishedBy Text = λ entries. ⊤
 
@@ -82,23 +74,8 @@ pub record IsIndexOf (names : List (List ℕ)) (keying : Keying) (discriminator 
   pub order : IsOrderOf keying names (positions entries)
   pub distinguished : AreDistinguishedBy discriminator entries
 
--- What the last comparison of a lookup compares: the texts; or the key and the common prefix, of this length, where the
--- key holds all that follows the prefix.
-abbrev pub IsFinal : Keying → ℕ → Discriminator → ℕ → Type 0
-IsFinal keying key KeyPrefix prefix_len = ⊥
-IsFinal keying key Key prefix_len = (keying ≡ AfterPrefix prefix_len) × (key % 256 < 16)
-IsFinal keying key Text prefix_len = ⊤
-
--- What the last comparison compares is the same: the key and the first prefix_len bytes; or the text, and before it the
--- first half of the key.
-abbrev pub IsSame : List (List ℕ) → List ℕ → ℕ → Discriminator → ℕ → IndexEntry → Type 0
-IsSame names n key KeyPrefix prefix_len p = ⊥
-IsSame names n key Key prefix_len p = (p.key ≡ key) × (take prefix_len (slice_index_or names p.position []) ≡ take prefix_len n)
-IsSame names n key Text prefix_len p = (key_prefix p.key ≡ key_prefix key) × (slice_index_or names p.position [] ≡ n)
-
 -- how an entry compares to a name n with this key, by as much of them as the discriminator names
 abbrev pub entry_name_cmp : List (List ℕ) → List ℕ → ℕ → Discriminator → IndexEntry → Ordering
-entry_name_cmp names n key KeyPrefix p = nat_cmp (key_prefix p.key) (key_prefix key)
 entry_name_cmp names n key Key p = nat_cmp p.key key
 entry_name_cmp names n key Text p = ordering_then (nat_cmp p.key key) (bytes_cmp (slice_get names p.position) (Some n))
 

@@ -5,7 +5,6 @@ use Rattle.std.proofs.Common.{◌≡◌, Some, None, inr, [], get_or, map, ap, s
 use Rattle.std.specs.List.{All}
 use Rattle.std.proofs.lemmas.List.{get_or_default}
 use Rattle.std.proofs.lemmas.List.Elements.{All-push}
-use Rattle.dtype_base.specs.Bytes.{Bytes}
 use Rattle.dtype_base.specs.FieldNames.{first_place}
 use Rattle.dtype_base.specs.private.NameKeys.{key_of}
 use Rattle.dtype_base.specs.private.NameOrder.{IsKeyed, positions}
@@ -37,7 +36,7 @@ loop-position-preserved c =
       in_order = ap positions pushed ∙ positions_push made _ position so_far.in_order;
       keyed = subst (All (IsKeyed asked keying)) (sym pushed)
           (All-push (IsKeyed asked keying) made _ so_far.keyed
-          (record { within = within; key = c.key_of-key.ensures.key ∙ ap (key_of keying) name; bytes = subst Bytes name c.key_of-key.ensures.bytes }));
+          (record { within = within; key = c.key_of-key.ensures ∙ ap (key_of keying) name }));
       found = ap (map Some) c.push_reserved.ensures.items ∙ selects_more names asked c.loop-position.first_positions.items position c.in-Some.first n within c.index-asked-position.is first so_far.found;
       len = (omega (arith, c.push_reserved-in-loop-position.ensures.len, so_far.len.0), omega (arith, c.push_reserved.ensures.len, so_far.len.1));
       room = (omega (arith, c.push_reserved-in-loop-position.ensures.capacity, so_far.room.0), omega (arith, c.push_reserved.ensures.capacity, so_far.room.1));

@@ -9,7 +9,6 @@ use Rattle.std.proofs.lemmas.List.Elements.{All-push}
 use Rattle.std.proofs.lemmas.Option.{get_or_from_slice_get}
 use Rattle.dtype_base.specs.private.NameKeys.{sort_key}
 use Rattle.dtype_base.specs.private.NameOrder.{IsKeyed, positions}
-use Rattle.dtype_base.specs.Bytes.{Bytes}
 use Rattle.dtype_base.specs.declared.name_key.Keying.TheVariants.{AfterPrefix}
 use Rattle.dtype_base.proofs.KeyOrder.{positions_push}
 use Rattle.dtype_base.proofs.name_order.entries_after_prefix.Goals as goal
@@ -30,7 +29,7 @@ loop-position-preserved c =
       in_order = ap positions pushed ∙ positions_push entries _ position inv.in_order;
       keyed = subst (All (IsKeyed names (AfterPrefix prefix_len))) (sym pushed)
           (All-push (IsKeyed names (AfterPrefix prefix_len)) entries _ inv.keyed
-          (record { within = c.loop-position-test.true; key = c.sort_key-key.ensures.key ∙ ap (sort_key prefix_len) name; bytes = subst Bytes name c.sort_key-key.ensures.bytes }));
+          (record { within = c.loop-position-test.true; key = c.sort_key-key.ensures ∙ ap (sort_key prefix_len) name }));
       common_prefix = λ k l. ⊎_elim (inv.common_prefix k) (λ last. ap (λ j. take prefix_len (get_or names j [])) (omega (arith, l, last)) ∙ begins) (cases_lt k position);
       len = omega (arith, c.push_reserved.ensures.len, inv.len);
       room = omega (arith, c.push_reserved.ensures.capacity, inv.room);

@@ -1,11 +1,10 @@
 -- SPDX-License-Identifier: Apache-2.0
 -- SPDX-FileCopyrightText: Copyright the Vortex contributors
 
-use Rattle.std.proofs.Common.{◌≡◌, ◌*◌, ◌^◌, get_or, [], ap, subst, sym, ◌∙◌, arith}
+use Rattle.std.proofs.Common.{◌≡◌, get_or, [], ap, subst, sym, ◌∙◌, arith}
 use Rattle.std.specs.List.{All}
 use Rattle.std.proofs.lemmas.List.{get_or_default}
 use Rattle.std.proofs.lemmas.List.Elements.{All-push}
-use Rattle.dtype_base.specs.Bytes.{Bytes}
 use Rattle.dtype_base.specs.private.NameKeys.{hash_of}
 use Rattle.dtype_base.specs.private.NameOrder.{IsKeyed, positions}
 use Rattle.dtype_base.specs.declared.name_key.Keying.TheVariants.{Hashed}
@@ -25,7 +24,7 @@ loop-position-preserved c =
       in_order = ap positions pushed ∙ positions_push entries _ position inv.in_order;
       keyed = subst (All (IsKeyed names Hashed)) (sym pushed)
           (All-push (IsKeyed names Hashed) entries _ inv.keyed
-          (record { within = within; key = c.hash_key-key.ensures.key ∙ ap (λ n. hash_of n * 2 ^ 64) name; bytes = subst Bytes name c.hash_key-key.ensures.bytes }));
+          (record { within = within; key = c.hash_of-key.ensures ∙ ap hash_of name }));
       len = omega (arith, c.push_reserved.ensures.len, inv.len);
       room = omega (arith, c.push_reserved.ensures.capacity, inv.room);
     }

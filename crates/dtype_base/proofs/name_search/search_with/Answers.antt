@@ -96,7 +96,7 @@ returns-clause-place c =
     let same = c.compare-comparison-2.result.same in
     let within : low < length entries = omega (arith, inv.left.within, inv.left.some, as_many_positions entries) in
     let at = position_at entries low no_entry within in
-    let distinguished = same_decided names c.args.keying.now c.args.by entries c.requires.index n c.args.key low no_entry _ _ same c.final_discriminator-by.ensures c.requires.bytes c.requires.key within c.compare-comparison-2.ensures.same in
+    let distinguished = same_decided names c.args.keying.now c.args.by entries c.requires.index n c.args.key low no_entry same c.requires.key within (c.compare-comparison-2.ensures.same refl) in
     c.then_some.ensures ∙ sym (ap (then_some same) at)
     ∙ ends c.args.keying.now names (positions entries) c.requires.index.order n low (2 ^ inv.steps) c.loop-half.compared same inv.left (omega (arith, inv.is, c.loop-half-test.false))
     (λ e. ap (name_cmp c.args.keying.now names n) at ∙ distinguished.0 e) (λ e here. distinguished.1 e (sym (ap (name_cmp c.args.keying.now names n) at) ∙ here))

@@ -20,7 +20,7 @@ TOLD = {
     r"([\d,]+), of projections, cursors, merged types": r"(?m)^> (?:project_paths|(?:merge|intersect)_nullability|set \S+ below) ",
 }
 READ_FIRST = re.compile(r"(?m)^\| (\[`.*?) \| (\d+) \|")
-LINK = re.compile(r"\]\((?!\w+:)([\w./-]*)#([\w-]+)\)")
+LINK = re.compile(r"\]\((?!\w+:)((?:[\w./-]*\.\w+)?)(?:#([\w-]+))?\)")
 
 
 def lines_of(file):
@@ -61,14 +61,14 @@ def anchors_of(page):
     return {anchor_of(it) for it in re.findall(r"(?m)^#+ (.*)$", text_of(page))}
 
 
-def dead_anchors(pages):
-    """The links that name a heading that isn't there."""
+def dead_links(pages):
+    """The links that lead to no file, or to a heading that isn't there."""
     for page in pages:
         for path, anchor in LINK.findall(text_of(page)):
             target = os.path.normpath(os.path.join(os.path.dirname(page), path)) if path else page
             if not os.path.exists(target):
                 yield page, f"there is no {path}"
-            elif target.endswith(".md") and anchor not in anchors_of(target):
+            elif anchor and target.endswith(".md") and anchor not in anchors_of(target):
                 yield page, f"{target} has no heading #{anchor}"
 
 
@@ -111,4 +111,4 @@ def stale_reference():
 def faults(pages):
     """Each page with what is wrong on it."""
     pages = [*pages, *sorted(glob("docs/reference/*.md"))]
-    return [*wrong_lines(), *wrong_counts(), *wrong_shown(pages), *dead_anchors(pages), *stale_reference(), *wrong_version(), *speed.faults()]
+    return [*wrong_lines(), *wrong_counts(), *wrong_shown(pages), *dead_links(pages), *stale_reference(), *wrong_version(), *speed.faults()]

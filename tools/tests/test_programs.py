@@ -6,7 +6,7 @@ import os
 import subprocess
 import unittest
 
-from planted import TOOLS, Planted
+from planted import Planted
 
 
 class Repository(Planted):
@@ -213,22 +213,19 @@ class Words(Planted):
 
 
 class Rows(Planted):
-    """Over the tool as it is: a driver that says yes to all that it can read, and golden files of two lines."""
+    """Over a driver that says yes to all that it can read, and golden files of two lines."""
 
     def setUp(self):
         super().setUp()
         self.script("driver", "sed 's/^name_eq a$/unreadable at 10/; t; s/.*/true/'")
-        self.write("golden/stdin", "# Two\nname_eq a a\nname_eq a\n")
+        self.write("crates/dtype_console/stdin", "# Two\nname_eq a a\nname_eq a\n")
         self.golden("true")
 
     def golden(self, answer, at=10):
-        self.write("golden/stdout", f"# Two\n> name_eq a a\n{answer}\n> name_eq a\nunreadable at {at}: expected a name\n")
+        self.write("crates/dtype_console/stdout", f"# Two\n> name_eq a a\n{answer}\n> name_eq a\nunreadable at {at}: expected a name\n")
 
-    def rows(self, *arguments, driver="bin/driver"):
-        environment = {**os.environ, "GOLDEN": self.path("golden")}
-        ran = subprocess.run([f"{TOOLS}/rows_from_original", self.path(driver), *arguments], env=environment, text=True, check=False,
-                             stdout=subprocess.PIPE, stderr=subprocess.STDOUT)
-        return ran.returncode, ran.stdout
+    def rows(self, *arguments):
+        return self.run_tool("rows_from_original", self.path("bin/driver"), *arguments)
 
     def test_counts_what_is_answered_so(self):
         self.assertEqual(self.rows(), (0, "2 passed, 0 failed\n"))

@@ -56,6 +56,12 @@ class RunCi(Planted):
         self.assertIn("    fn f: not proved: x", said)
         self.assertEqual((status, said.splitlines()[-1]), (1, "7 passed, 1 failed"))
 
+    def test_tells_whether_the_kit_keeps_what_it_passed(self):
+        for said, told in (("proves what changed, and keeps the rest", "keeps what it passed"), ("proves every crate from nothing", "in each run")):
+            self.script("rt", f"[ $1 = version ] && echo rattle-kit-1 || echo '  rt ci     {said}'")
+            self.assertIn(f"gate: the kit at hand, rattle-kit-1, {'' if 'keeps' in told else 'proves everything from nothing '}{told}",
+                          self.run_tool("run_ci", "--expect")[1])
+
     def test_counts_a_failure_where_the_last_line_lacks(self):
         self.assertIn("0 passed, 1 failed", self.run_with("rt: dtype_base proved")[1])
 

@@ -102,7 +102,7 @@ class Borders(Planted):
         self.assert_told("borders", f"{NAME}: FieldName::new: made: is to be called ok")
         self.change(NAME, "ensures made { MatchResult result", "ensures valid { IfOk result")
         self.assert_told("borders", f"{NAME}: FieldName::new: valid: is of another form")
-        self.write("tools/data/labels_of_today", "dtype_base/src/field_name.rt FieldName::new: valid\n")
+        self.change("tools/spec_rules.py", '{"dtype_demo/src/main.rt run: unwritten"}', '{"dtype_base/src/field_name.rt FieldName::new: valid"}')
         self.assertEqual(self.told("borders"), [])
 
 

@@ -3,7 +3,7 @@
 
 -- What is kept of the fields that paths step into, in the order of their positions, is the projection of all fields: of
 -- a field that no path steps into nothing is kept.
-use Rattle.std.proofs.Common.{◌≡◌, ◌≢◌, ◌⊎◌, inl, inr, ℕ, zero, suc, ◌+◌, ◌-◌, ◌<◌, ◌≤◌, List, [], ◌∷◌, ◌++◌, map, length, slice_get, true, false, cond, Option, Some, None, refl, sym, ap, subst, ◌∙◌, append_assoc, append-nil, arith}
+use Rattle.std.proofs.Common.{◌≡◌, ◌⊎◌, inl, inr, ℕ, zero, suc, ◌+◌, ◌-◌, ◌<◌, ◌≤◌, List, [], ◌∷◌, ◌++◌, map, length, slice_get, true, false, cond, Option, Some, None, refl, sym, ap, subst, ◌∙◌, append_assoc, append-nil, arith}
 use Rattle.std.specs.BTreeMap.{is_at}
 use Rattle.std.specs.List.{AllByRecursion, cons_option, filter_map, zip}
 use Rattle.std.specs.List.Sorted.{IsStrictlySortedBy}
@@ -25,8 +25,9 @@ use Rattle.dtype_types.specs.declared.dtype.DType.{DType, Struct}
 use Rattle.dtype_types.specs.declared.struct_fields.StructFields.{StructFields}
 use Rattle.dtype_paths.specs.declared.field.Field.TheVariants.{Name}
 use Rattle.dtype_paths.specs.Cursors.{asks, asks_if}
+use Rattle.dtype_paths.specs.PathPredicates.{no_path}
 use Rattle.dtype_paths.specs.declared.field_path_cursor.FieldPathCursor.{FieldPathCursor}
-use Rattle.dtype_projection.specs.private.Entered.{asked_at, AreEntered, AreWhole, kept_field}
+use Rattle.dtype_projection.specs.private.Entered.{asked_at, asked_below, AreEntered, AreWhole, kept_field}
 use Rattle.dtype_projection.specs.Projected.{PathPredicate, after_step, without_field, projected, projected_fields, struct_with, prepend_kept}
 use Rattle.dtype_projection.proofs.lemmas.Projections.{kept_root, projected_nothing}
 
@@ -71,7 +72,7 @@ next_position i (e ∷ es) from sorted =
       | inr same ↦ inl (e.1, es, ap (λ k. (k, e.1) ∷ es) (let at : e.0 ≡ i = omega (arith, same, from.0) in at), rest)
     ]
 
-none_at : (i : ℕ) (es : Entries) → AreFrom (i + 1) es → asked_at es i ≡ (λ p. false)
+none_at : (i : ℕ) (es : Entries) → AreFrom (i + 1) es → asked_at es i ≡ no_path
 none_at i [] from = refl
 none_at i (e ∷ es) from = ap (λ b. asks_if (cond b (Some e.1) (lookup (is_at (nat_cmp i)) es))) (before_position i e.0 (omega (arith, from.0))) ∙ none_at i es from.1
 
@@ -83,11 +84,10 @@ asked_later i v rest k h = ap (λ b. asks_if (cond b (Some v) (lookup (is_at (na
 
 -- ---- the fields kept
 
-no_field_left : (fs : Pairs) (i : ℕ) (es : Entries) → ((k : ℕ) → slice_get fs (k + i) ≡ None) → AreFrom i es → filter_map (kept_at fs) es ≡ []
+no_field_left : (fs : Pairs) (i : ℕ) (es : Entries) → ((k j : ℕ) → j ≡ k + i → slice_get fs j ≡ None) → AreFrom i es → filter_map (kept_at fs) es ≡ []
 no_field_left fs i [] none from = refl
 no_field_left fs i (e ∷ es) none from =
-    let at : slice_get fs e.0 ≡ None = ap (slice_get fs) (let same : e.0 ≡ (e.0 - i) + i = omega (arith, from.0) in same) ∙ none (e.0 - i) in
-    ap (λ o. cons_option (option_and_then (λ (f : List ℕ × Tree). option_map (λ u. (f.0, u)) (projected f.1 (asks e.1))) o) (filter_map (kept_at fs) es)) at
+    ap (λ o. cons_option (option_and_then (λ (f : List ℕ × Tree). option_map (λ u. (f.0, u)) (projected f.1 (asks e.1))) o) (filter_map (kept_at fs) es)) (none (e.0 - i) e.0 (omega (arith, from.0)))
     ∙ no_field_left fs i es none from.1
 
 kept_pairs : (n : List ℕ) (o : Option Tree) (rest : Fields) → cons_option (option_map (λ u. (n, u)) o) (pairs rest) ≡ pairs (prepend_kept n o rest)
@@ -99,37 +99,34 @@ kept_here fs i v f w at is =
     ap (option_and_then (λ (g : List ℕ × Tree). option_map (λ u. (g.0, u)) (projected g.1 (asks v)))) at
     ∙ ap (λ z. option_map (λ u. (f.0, u)) (projected f.1 z)) is
 
--- fs are the fields from position i on, and s has what is asked of them
-kept_from : (all fs : Pairs) (i : ℕ) (es : Entries) (w : PathPredicate) (s : ℕ → PathPredicate) → ((k : ℕ) → slice_get all (k + i) ≡ slice_get fs k) → ((k : ℕ) → s k ≡ asked_at es (k + i)) → AreFrom i es → IsStrictlySortedBy nat_cmp (keys_of es) → AreEntered w (field_names fs) s
+-- fs are the fields from position i on, and es has what is asked of them
+kept_from : (all fs : Pairs) (i : ℕ) (es : Entries) (w : PathPredicate) → ((k j : ℕ) → j ≡ k + i → slice_get all j ≡ slice_get fs k) → AreFrom i es → IsStrictlySortedBy nat_cmp (keys_of es) → ((k j : ℕ) → j ≡ k + i → asked_at es j ≡ asked_below w (field_names fs) k)
     → filter_map (kept_at all) es ≡ pairs (projected_fields (fields fs) w)
-kept_from all [] i es w s at is from sorted a = no_field_left all i es at from
-kept_from all (f ∷ fs) i es w s at is from sorted a =
-    let later : (k : ℕ) → slice_get all (k + (i + 1)) ≡ slice_get fs k = λ k. ap (slice_get all) (let same : k + (i + 1) ≡ suc k + i = omega arith in same) ∙ at (suc k) in
-    let start : 0 + i ≡ i = omega arith in
-    let here : s 0 ≡ asked_at es i = is 0 ∙ ap (asked_at es) start in
+kept_from all [] i es w at from sorted a = no_field_left all i es at from
+kept_from all (f ∷ fs) i es w at from sorted a =
+    let asked = after_step (Name f.0) w in
+    let later = projected_fields (fields fs) (without_field f.0 w) in
     elim (next_position i es from sorted) [
       | inl h ↦
-          let v = h.0 in
           let rest = h.1 in
-          let asked = after_step (Name f.0) w in
-          let kept : Option (List ℕ × Tree) = option_map (λ u. (f.0, u)) (projected f.1 asked) in
-          let is_asked : asks v ≡ asked = sym (asked_here i v rest) ∙ ap (λ z. asked_at z i) (sym h.2) ∙ sym here ∙ a.0 in
+          let is_asked : asks h.0 ≡ asked = sym (asked_here i h.0 rest) ∙ ap (λ z. asked_at z i) (sym h.2) ∙ a 0 i (omega arith) in
           ap (filter_map (kept_at all)) h.2
-          ∙ ap (λ o. cons_option o (filter_map (kept_at all) rest)) (kept_here all i v f asked (ap (slice_get all) (sym start) ∙ at 0) is_asked)
-          ∙ ap (cons_option kept)
-          (kept_from all fs (i + 1) rest (without_field f.0 w) (λ k. s (suc k)) later
-          (λ k. is (suc k) ∙ ap (λ z. asked_at z (suc k + i)) h.2 ∙ asked_later i v rest (suc k + i) (omega arith) ∙ ap (asked_at rest) (let same : suc k + i ≡ k + (i + 1) = omega arith in same))
-          h.3 (sorted_tail nat_cmp i (keys_of rest) (subst (λ z. IsStrictlySortedBy nat_cmp (keys_of z)) h.2 sorted)) a.1)
-          ∙ kept_pairs f.0 (projected f.1 asked) (projected_fields (fields fs) (without_field f.0 w))
+          ∙ ap (λ o. cons_option o (filter_map (kept_at all) rest)) (kept_here all i h.0 f asked (at 0 i (omega arith)) is_asked)
+          ∙ ap (cons_option (option_map (λ u. (f.0, u)) (projected f.1 asked)))
+          (kept_from all fs (i + 1) rest (without_field f.0 w) (λ k j e. at (suc k) j (omega (arith, e)))
+          h.3 (sorted_tail nat_cmp i (keys_of rest) (subst (λ z. IsStrictlySortedBy nat_cmp (keys_of z)) h.2 sorted))
+          (λ k j e. sym (asked_later i h.0 rest j (omega (arith, e))) ∙ ap (λ z. asked_at z j) (sym h.2) ∙ a (suc k) j (omega (arith, e))))
+          ∙ kept_pairs f.0 (projected f.1 asked) later
       | inr after ↦
-          let nothing : after_step (Name f.0) w ≡ (λ p. false) = sym a.0 ∙ here ∙ none_at i es after in
-          let none : projected f.1 (after_step (Name f.0) w) ≡ None = ap (projected f.1) nothing ∙ projected_nothing f.1 in
-          kept_from all fs (i + 1) es (without_field f.0 w) (λ k. s (suc k)) later (λ k. is (suc k) ∙ ap (asked_at es) (let same : suc k + i ≡ k + (i + 1) = omega arith in same)) after sorted a.1
-          ∙ ap (λ o. pairs (prepend_kept f.0 o (projected_fields (fields fs) (without_field f.0 w)))) (sym none)
+          let none : projected f.1 asked ≡ None = ap (projected f.1) (sym (a 0 i (omega arith)) ∙ none_at i es after) ∙ projected_nothing f.1 in
+          kept_from all fs (i + 1) es (without_field f.0 w) (λ k j e. at (suc k) j (omega (arith, e))) after sorted (λ k j e. a (suc k) j (omega (arith, e)))
+          ∙ ap (λ o. pairs (prepend_kept f.0 o later)) (sym none)
     ]
 
 pub all_kept : (fs : Pairs) (es : Entries) (w : PathPredicate) → IsStrictlySortedBy nat_cmp (keys_of es) → AreEntered w (field_names fs) (asked_at es) → filter_map (kept_at fs) es ≡ pairs (projected_fields (fields fs) w)
-all_kept fs es w sorted a = kept_from fs fs 0 es w (asked_at es) (λ k. ap (slice_get fs) (let same : k + 0 ≡ k = omega arith in same)) (λ k. ap (asked_at es) (let same : k ≡ k + 0 = omega arith in same)) (from_start (keys_of es)) sorted a
+all_kept fs es w sorted a =
+    let same : (k j : ℕ) → j ≡ k + 0 → j ≡ k = λ k j e. omega (arith, e) in
+    kept_from fs fs 0 es w (λ k j e. ap (slice_get fs) (same k j e)) (from_start (keys_of es)) sorted (λ k j e. ap (asked_at es) (same k j e) ∙ a k)
   where
     from_start : (ks : List ℕ) → AllByRecursion (λ k. 0 ≤ k) ks
     from_start [] = tt
@@ -177,37 +174,27 @@ all_done fs all kept es end whole = sym (append-nil kept) ∙ ap (λ z. kept ++ 
 
 -- ---- the struct of the fields that are kept
 
-pub struct_made : (s : StructFields) (n : Nullability) (names : List (List ℕ)) (types : List Tree) → children s ≡ zip names types → length names ≢ 0 → length names ≡ length types → Some (tree (Struct s n)) ≡ struct_with n (fields (zip names types))
-struct_made s n [] types made some even = absurd (some refl)
-struct_made s n (m ∷ names) [] made some even = absurd (omega arith)
-struct_made s n (m ∷ names) (t ∷ types) made some even = ap Some (tree_struct s n ∙ ap (λ fs. struct (fields fs) n) made)
+pub struct_made : (s : StructFields) (n : Nullability) (fs : Pairs) → children s ≡ fs → 0 < length fs → Some (tree (Struct s n)) ≡ struct_with n (fields fs)
+struct_made s n [] made some = absurd (omega arith)
+struct_made s n (f ∷ fs) made some = ap Some (tree_struct s n ∙ ap (λ gs. struct (fields gs) n) made)
 
 -- ---- all fields, kept whole
 
-whole_at : (i n : ℕ) (es : Entries) → AreWhole i n es → (k : ℕ) → i + k < n → asked_at es (i + k) [] ≡ true
-whole_at i n [] end k lt = absurd (omega (arith, end, lt))
-whole_at i n (e ∷ es) all zero lt =
-    let at : i + 0 ≡ e.0 = omega (arith, all.0) in
-    ap (λ j. asked_at (e ∷ es) j []) at ∙ ap (λ (v : PathPredicate). v []) (asked_here e.0 e.1 es) ∙ all.1
-whole_at i n (e ∷ es) all (suc k) lt =
-    let next : (i + 1) + k ≡ i + suc k = omega arith in
-    ap (λ (v : PathPredicate). v []) (asked_later e.0 e.1 es (i + suc k) (omega (arith, all.0)))
-    ∙ ap (λ j. asked_at es j []) (sym next)
-    ∙ whole_at (i + 1) n es all.2 k (omega (arith, lt))
+whole_at : (i n : ℕ) (es : Entries) → AreWhole i n es → (j : ℕ) → i ≤ j → j < n → asked_at es j [] ≡ true
+whole_at i n [] end j le lt = absurd (omega (arith, end, le, lt))
+whole_at i n (e ∷ es) all j le lt = elim (cases_lt i j) [
+  | inl after ↦ ap (λ (v : PathPredicate). v []) (asked_later e.0 e.1 es j (omega (arith, all.0, after))) ∙ whole_at (i + 1) n es all.2 j (omega (arith, after)) lt
+  | inr same ↦ ap (λ k. asked_at (e ∷ es) k []) (let at : j ≡ e.0 = omega (arith, all.0, le, same) in at) ∙ ap (λ (v : PathPredicate). v []) (asked_here e.0 e.1 es) ∙ all.1
+]
 
-whole_fields : (fs : Pairs) (w : PathPredicate) (s : ℕ → PathPredicate) → AreEntered w (field_names fs) s → ((k : ℕ) → k < length fs → s k [] ≡ true) → projected_fields (fields fs) w ≡ fields fs
-whole_fields [] w s a ends = refl
-whole_fields (f ∷ fs) w s a ends =
-    let here : after_step (Name f.0) w [] ≡ true = ap (λ (v : PathPredicate). v []) (sym a.0) ∙ ends 0 (omega arith) in
-    ap (λ o. prepend_kept f.0 o (projected_fields (fields fs) (without_field f.0 w))) (kept_root f.1 (after_step (Name f.0) w) here)
-    ∙ ap (field f.0 f.1) (whole_fields fs (without_field f.0 w) (λ k. s (suc k)) a.1 (λ k lt. ends (suc k) (omega (arith, lt))))
+whole_fields : (fs : Pairs) (w : PathPredicate) → ((k : ℕ) → k < length fs → asked_below w (field_names fs) k [] ≡ true) → fields fs ≡ projected_fields (fields fs) w
+whole_fields [] w ends = refl
+whole_fields (f ∷ fs) w ends =
+    ap (field f.0 f.1) (whole_fields fs (without_field f.0 w) (λ k lt. ends (suc k) (omega (arith, lt))))
+    ∙ ap (λ o. prepend_kept f.0 o (projected_fields (fields fs) (without_field f.0 w))) (sym (kept_root f.1 (after_step (Name f.0) w) (ends 0 (omega arith))))
 
--- a struct that has fields, of which all are kept whole, is its own projection
-whole_struct : (fs : Pairs) (n : Nullability) (w : PathPredicate) (es : Entries) → AreEntered w (field_names fs) (asked_at es) → AreWhole 0 (length fs) es → 0 < length fs → Some (struct (fields fs) n) ≡ struct_with n (projected_fields (fields fs) w)
-whole_struct [] n w es a all some = absurd (omega (arith, some))
-whole_struct (f ∷ fs) n w es a all some = sym (ap (struct_with n) (whole_fields (f ∷ fs) w (asked_at es) a (λ k lt. let same : k ≡ 0 + k = omega arith in ap (λ j. asked_at es j []) same ∙ whole_at 0 (length (f ∷ fs)) es all k (omega (arith, lt)))))
-
--- and so is a copy of it
+-- a copy of a struct that has fields, of which all are kept whole, is its projection
 pub struct_shared : (s t : StructFields) (n : Nullability) (w : PathPredicate) (es : Entries) → struct_pairs s ≡ struct_pairs t → AreEntered w (field_names (children t)) (asked_at es) → AreWhole 0 (length (children t)) es → 0 < length (children t) → Some (tree (Struct s n)) ≡ struct_with n (projected_fields (fields_of t) w)
 struct_shared s t n w es same a all some =
-    ap Some (tree_struct s n ∙ ap (λ ps. struct (fields (with_trees ps)) n) same) ∙ whole_struct (children t) n w es a all some
+    struct_made s n (children t) (ap with_trees same) some
+    ∙ ap (struct_with n) (whole_fields (children t) w (λ k lt. ap (λ (v : PathPredicate). v []) (sym (a k)) ∙ whole_at 0 (length (children t)) es all k (omega arith) lt))

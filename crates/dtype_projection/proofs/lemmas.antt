@@ -6,10 +6,7 @@ pub mod Predicates
 pub mod Projections
 pub mod Kept
 pub mod Parts
-pub mod Coverage
-pub mod Composition
 pub mod Restrictions
-pub mod RestrictedOnto
 pub mod ThroughExtensions
 pub mod Above
 pub mod Projecting

@@ -22,6 +22,7 @@ ghost use Rattle.dtype_projection.specs.Projected.{projected};
 ghost use Rattle.dtype_projection.specs.Restricted.{restricted};
 
 /// The projection is a type exactly where one of the paths exists in the original type.
+#[tactic(auto, using(crate::proofs::lemmas::Projections::kept_exactly))]
 pub fn a_type_is_kept_exactly_where_a_path_exists()
     ensures { (t : Tree) (w : PathPredicate) → IsSome (projected t w)
         ↔ ((p : List Field) × IsTrue (w p) × ExistsIn t p) }
@@ -52,6 +53,7 @@ pub fn projections_are_least_parts()
 
 /// A path that exists in a part of a type leads there to a part of what it leads to in the type. Two types that are parts
 /// of each other are equal, and each type is its own part.
+#[tactic(auto, using(crate::proofs::lemmas::Parts::path_of_part, crate::proofs::lemmas::Parts::parts_equal, crate::proofs::lemmas::Parts::part_itself))]
 pub fn paths_lead_to_parts()
     ensures along { (t u y : Tree) (q : List Field) → IsPart t u → At u q y
         → ((x : Tree) × At t q x × IsPart x y) }
@@ -60,12 +62,14 @@ pub fn paths_lead_to_parts()
 {}
 
 /// The projection has the nullability of the original type.
+#[tactic(auto, using(crate::proofs::lemmas::Parts::kept_nullability))]
 pub fn projections_keep_the_nullability()
     ensures { (t u : Tree) (w : PathPredicate) → projected t w ≡ Some u → nullability u ≡ nullability t }
 {}
 
 /// The projection depends only on which existing paths of the type are covered. So a set and its least cover have the
 /// same projection, which is what the least cover of a query's paths is for.
+#[tactic(auto, using(crate::proofs::lemmas::Parts::same_for_same_coverage, crate::proofs::lemmas::Parts::same_for_least))]
 pub fn projection_depends_on_coverage_alone()
     ensures exists { (t : Tree) (r s : PathSet)
         → ((q : List Field) → ExistsIn t q → covers r q ≡ covers s q)
@@ -77,6 +81,7 @@ pub fn projection_depends_on_coverage_alone()
 /// Projecting in two steps is projecting once: where the first set covers each existing path of the second, the second
 /// set has the same projection of the first projection as of the original type. So projecting twice to one set changes
 /// nothing.
+#[tactic(auto, using(crate::proofs::lemmas::Parts::projection_of_projection, crate::proofs::lemmas::Parts::projected_once))]
 pub fn projections_compose()
     ensures covered { (t u : Tree) (s r : PathSet) → projected t (set.contains s) ≡ Some u
         → ((q : List Field) → IsTrue (set.contains r q) → ExistsIn t q → IsTrue (covers s q))
@@ -94,6 +99,7 @@ pub fn a_projection_is_stepped_into()
 {}
 
 /// The projection of a valid type is valid.
+#[tactic(auto, using(crate::proofs::lemmas::Kept::valid_kept))]
 pub fn projections_are_valid()
     ensures { (t u : Tree) (w : PathPredicate) → projected t w ≡ Some u → Valid t → Valid u }
 {}

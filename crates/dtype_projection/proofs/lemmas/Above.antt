@@ -6,7 +6,7 @@ use Rattle.std.proofs.Common.{◌≡◌, ◌∙◌, ℕ, List, [], ◌∷◌, Bo
 use Rattle.std.proofs.lemmas.Option.{same_Some}
 use Rattle.std.specs.Prelude.{bytes_eq}
 use Rattle.dtype_types.specs.nullability.Nullable.{IsNullable}
-use Rattle.dtype_types.specs.nullability.Sub.{Sub, NullableWhereverFields}
+use Rattle.dtype_types.specs.nullability.Sub.{Sub, NullableWherever, NullableWhereverFields}
 use Rattle.dtype_types.proofs.lemmas.SetSub.{above_nullable}
 use Rattle.dtype_types.specs.parts.Lookups.{first_named}
 use Rattle.dtype_types.specs.tree.Erase.{erase, erase_fields}
@@ -14,77 +14,52 @@ use Rattle.dtype_types.specs.tree.Tree.{Tree, Fields, no_fields, field, pairs, l
 use Rattle.dtype_paths.specs.At.{At, ExistsIn, step}
 use Rattle.dtype_paths.specs.declared.field.Field.{Field}
 use Rattle.dtype_paths.specs.declared.field.Field.TheVariants.{Name, ElementType}
+use Rattle.dtype_paths.proofs.lemmas.Walks.{one_type_at}
 
--- ---- types that differ in nullability alone have types at the same paths
+-- b differs from a in nullabilities alone, and is nullable wherever a is, if A holds
+abbrev Beside : Type 0 → Tree → Tree → Type 0
+Beside A a b = (erase a ≡ erase b) × (A → NullableWherever a b)
 
-named_alike : (fs gs : Fields) (k : List ℕ) (a : Tree) → erase_fields fs ≡ erase_fields gs → first_named (pairs fs) k ≡ Some a → (b : Tree) × (first_named (pairs gs) k ≡ Some b) × (erase a ≡ erase b)
-named_alike no_fields gs k a e is = cc
-named_alike (field m t fs) no_fields k a e is = cc
-named_alike (field m t fs) (field n u gs) k a e is =
+-- types that differ in nullability alone have such types at the same paths
+named_beside : (fs gs : Fields) (k : List ℕ) (a : Tree) → erase_fields fs ≡ erase_fields gs → first_named (pairs fs) k ≡ Some a → (b : Tree) × (first_named (pairs gs) k ≡ Some b) × Beside (NullableWhereverFields fs gs) a b
+named_beside no_fields gs k a e is = cc
+named_beside (field m t fs) no_fields k a e is = cc
+named_beside (field m t fs) (field n u gs) k a e is =
     let name : m ≡ n = cc in
     let type : erase t ≡ erase u = cc in
     let rest : erase_fields fs ≡ erase_fields gs = cc in
-    go (bytes_eq m k) (bytes_eq n k) (ap (λ x. bytes_eq x k) name) type is (named_alike fs gs k a rest)
+    go (bytes_eq m k) (bytes_eq n k) (ap (λ x. bytes_eq x k) name) type is (named_beside fs gs k a rest)
   where
-    go : (c d : Bool) → c ≡ d → erase t ≡ erase u → cond c (Some t) (first_named (pairs fs) k) ≡ Some a → (first_named (pairs fs) k ≡ Some a → (b : Tree) × (first_named (pairs gs) k ≡ Some b) × (erase a ≡ erase b)) → (b : Tree) × (cond d (Some u) (first_named (pairs gs) k) ≡ Some b) × (erase a ≡ erase b)
-    go true true same type here more = (u, refl, ap erase (sym (same_Some t a here)) ∙ type)
-    go false false same type here more = more here
+    go : (c d : Bool) → c ≡ d → erase t ≡ erase u → cond c (Some t) (first_named (pairs fs) k) ≡ Some a → (first_named (pairs fs) k ≡ Some a → (b : Tree) × (first_named (pairs gs) k ≡ Some b) × Beside (NullableWhereverFields fs gs) a b)
+        → (b : Tree) × (cond d (Some u) (first_named (pairs gs) k) ≡ Some b) × Beside (NullableWhereverFields (field m t fs) (field n u gs)) a b
+    go true true same type here more = let is = same_Some t a here in (u, refl, (ap erase (sym is) ∙ type, λ h. subst (λ x. NullableWherever x u) is h.0))
+    go false false same type here more = let r = more here in (r.0, r.1, (r.2.0, λ h. r.2.1 h.1))
     go true false same type here more = cc
     go false true same type here more = cc
 
-step_alike : (t u a : Tree) (f : Field) → erase t ≡ erase u → step t f ≡ Some a → (b : Tree) × (step u f ≡ Some b) × (erase a ≡ erase b)
-step_alike (list t m) (list u n) a ElementType e is = let same : erase t ≡ erase u = cc in (u, refl, ap erase (sym (same_Some t a is)) ∙ same)
-step_alike (fixed_size_list t j m) (fixed_size_list u k n) a ElementType e is = let same : erase t ≡ erase u = cc in (u, refl, ap erase (sym (same_Some t a is)) ∙ same)
-step_alike (struct fs m) (struct gs n) a (Name k) e is = let same : erase_fields fs ≡ erase_fields gs = cc in named_alike fs gs k a same is
-step_alike _ _ a _ e is = cc
+step_beside : (t u a : Tree) (f : Field) → erase t ≡ erase u → step t f ≡ Some a → (b : Tree) × (step u f ≡ Some b) × Beside (NullableWherever t u) a b
+step_beside (list t m) (list u n) a ElementType e is = let at = same_Some t a is in let same : erase t ≡ erase u = cc in (u, refl, (ap erase (sym at) ∙ same, λ h. subst (λ x. NullableWherever x u) at h.1))
+step_beside (fixed_size_list t j m) (fixed_size_list u k n) a ElementType e is = let at = same_Some t a is in let same : erase t ≡ erase u = cc in (u, refl, (ap erase (sym at) ∙ same, λ h. subst (λ x. NullableWherever x u) at h.1))
+step_beside (struct fs m) (struct gs n) a (Name k) e is = let same : erase_fields fs ≡ erase_fields gs = cc in let r = named_beside fs gs k a same is in (r.0, r.1, (r.2.0, λ h. r.2.1 h.1))
+step_beside _ _ a _ e is = cc
 
-at_erased : (t u x : Tree) (p : List Field) → erase t ≡ erase u → At t p x → ExistsIn u p
-at_erased t u x [] e a = record { found = u; at = refl }
-at_erased t u x (f ∷ p) e a =
-    let s = step_alike t u a.0 f e a.1 in
-    let rest = at_erased a.0 s.0 x p s.2 a.2 in
-    record { found = rest.found; at = (s.0, s.1, rest.at) }
+at_beside : (t u x : Tree) (p : List Field) → erase t ≡ erase u → At t p x → (y : Tree) × At u p y × Beside (NullableWherever t u) x y
+at_beside t u x [] e a = (u, refl, (ap erase (sym a) ∙ e, λ h. subst (λ z. NullableWherever z u) a h))
+at_beside t u x (f ∷ p) e a =
+    let s = step_beside t u a.0 f e a.1 in
+    let r = at_beside a.0 s.0 x p s.2.0 a.2 in
+    (r.0, (s.0, s.1, r.1), (r.2.0, λ h. r.2.1 (s.2.1 h)))
 
 pub above_exists : (t u x : Tree) (p : List Field) → Sub t u → At t p x → ExistsIn u p
-above_exists t u x p s a = at_erased t u x p s.erased a
+above_exists t u x p s a = let r = at_beside t u x p s.erased a in record { found = r.0; at = r.1 }
 
 pub below_exists : (t u : Tree) (p : List Field) → Sub t u → ExistsIn u p → ExistsIn t p
-below_exists t u p s e = at_erased u t e.found p (sym s.erased) e.at
+below_exists t u p s e = let r = at_beside u t e.found p (sym s.erased) e.at in record { found = r.0; at = r.1 }
 
--- ---- nullable there where the type below is
-
-named_above : (fs gs : Fields) (k : List ℕ) (a b : Tree) → erase_fields fs ≡ erase_fields gs → NullableWhereverFields fs gs → first_named (pairs fs) k ≡ Some a → first_named (pairs gs) k ≡ Some b → Sub a b
-named_above no_fields gs k a b e h is js = cc
-named_above (field m t fs) no_fields k a b e h is js = cc
-named_above (field m t fs) (field n u gs) k a b e h is js =
-    let name : m ≡ n = cc in
-    let type : erase t ≡ erase u = cc in
-    let rest : erase_fields fs ≡ erase_fields gs = cc in
-    go (bytes_eq m k) (bytes_eq n k) (ap (λ x. bytes_eq x k) name) (record { erased = type; nullable = h.0 }) is js (named_above fs gs k a b rest h.1)
-  where
-    go : (c d : Bool) → c ≡ d → Sub t u → cond c (Some t) (first_named (pairs fs) k) ≡ Some a → cond d (Some u) (first_named (pairs gs) k) ≡ Some b → (first_named (pairs fs) k ≡ Some a → first_named (pairs gs) k ≡ Some b → Sub a b) → Sub a b
-    go true true same s here there more = subst (λ x. Sub x b) (same_Some t a here) (subst (Sub t) (same_Some u b there) s)
-    go false false same s here there more = more here there
-    go true false same s here there more = cc
-    go false true same s here there more = cc
-
-step_above : (t u a b : Tree) (f : Field) → Sub t u → step t f ≡ Some a → step u f ≡ Some b → Sub a b
-step_above (list t m) (list u n) a b ElementType s is js =
-    let same : erase t ≡ erase u = let e = s.erased in cc in
-    subst (λ x. Sub x b) (same_Some t a is) (subst (Sub t) (same_Some u b js) (record { erased = same; nullable = s.nullable.1 }))
-step_above (fixed_size_list t j m) (fixed_size_list u k n) a b ElementType s is js =
-    let same : erase t ≡ erase u = let e = s.erased in cc in
-    subst (λ x. Sub x b) (same_Some t a is) (subst (Sub t) (same_Some u b js) (record { erased = same; nullable = s.nullable.1 }))
-step_above (struct fs m) (struct gs n) a b (Name k) s is js =
-    let same : erase_fields fs ≡ erase_fields gs = let e = s.erased in cc in
-    named_above fs gs k a b same s.nullable.1 is js
-step_above _ _ a b _ s is js = let e = s.erased in cc
-
-at_above : (t u x y : Tree) (p : List Field) → Sub t u → At t p x → At u p y → Sub x y
-at_above t u x y [] s a b = subst (λ z. Sub z y) a (subst (Sub t) b s)
-at_above t u x y (f ∷ p) s a b = at_above a.0 b.0 x y p (step_above t u a.0 b.0 f s a.1 b.1) a.2 b.2
-
+-- nullable there where the type below is
 pub nullable_along : (t u x y : Tree) (p : List Field) → Sub t u → At t p x → At u p y → IsNullable x → IsNullable y
-nullable_along t u x y p s a b n = above_nullable x y (at_above t u x y p s a b) n
+nullable_along t u x y p s a b n =
+    let r = at_beside t u x p s.erased a in
+    above_nullable x y (subst (Sub x) (one_type_at u r.0 y p r.1 b) (record { erased = r.2.0; nullable = r.2.1 s.nullable })) n
 
 pub ruleset above = (above_exists, below_exists, nullable_along)

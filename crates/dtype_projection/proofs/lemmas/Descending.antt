@@ -11,25 +11,7 @@ use Rattle.dtype_paths.specs.PathPredicates.{no_path}
 use Rattle.dtype_paths.specs.declared.field.Field.{Field}
 use Rattle.dtype_paths.proofs.lemmas.Cases.{by_option}
 use Rattle.dtype_projection.specs.Projected.{PathPredicate, after_step, projected}
-use Rattle.dtype_projection.proofs.lemmas.Projections.{kept_root, projected_nothing, step_kept, step_some}
-
-steps_join : {A B C : Type 0} (o : Option A) (h : A → Option B) (g : B → Option C) → option_and_then g (option_and_then h o) ≡ option_and_then (λ x. option_and_then g (h x)) o
-steps_join None h g = refl
-steps_join (Some x) h g = refl
-
--- what the projection has along a path, and what it has after the first step
-along_step : (t : Tree) (w : PathPredicate) (f : Field) (p : List Field) → w [] ≡ false → option_and_then (λ u. along u (f ∷ p)) (projected t w) ≡ option_and_then (λ x. option_and_then (λ u. along u p) (projected x (after_step f w))) (step t f)
-along_step t w f p root = by_option (projected t w)
-    (λ none. ap (option_and_then (λ u. along u (f ∷ p))) none ∙ sym (by_option (step t f)
-    (λ e. ap (option_and_then (λ x. option_and_then (λ u. along u p) (projected x (after_step f w)))) e)
-    (λ x e. ap (option_and_then (λ y. option_and_then (λ u. along u p) (projected y (after_step f w)))) e
-    ∙ by_option (projected x (after_step f w))
-    (λ is. ap (option_and_then (λ u. along u p)) is)
-    (λ v is. let some = step_some t x v w f root e is in let q = sym none ∙ some.1 in cc))))
-    (λ u is.
-    ap (option_and_then (λ x. along x (f ∷ p))) is
-    ∙ ap (option_and_then (λ x. along x p)) (step_kept t u w f root is)
-    ∙ steps_join (step t f) (λ x. projected x (after_step f w)) (λ x. along x p))
+use Rattle.dtype_projection.proofs.lemmas.Projections.{along_step, kept_root, projected_nothing}
 
 -- after a step into both
 pub opened_after : (t x : Tree) (w v : PathPredicate) (f : Field) (p q : List Field) (o : Option Tree) → w [] ≡ false → q ≡ f ∷ p → Some x ≡ step t f → v ≡ after_step f w → o ≡ option_and_then (λ u. along u p) (projected x v) → o ≡ option_and_then (λ u. along u q) (projected t w)
@@ -57,10 +39,7 @@ opened_whole t w p o root e = e ∙ ap (option_and_then (λ u. along u p)) (sym 
 
 -- at the path's end
 pub opened_here : (t : Tree) (w : PathPredicate) (p : List Field) → p ≡ [] → projected t w ≡ option_and_then (λ u. along u p) (projected t w)
-opened_here t w p end = same (projected t w) ∙ ap (λ z. option_and_then (λ u. along u z) (projected t w)) (sym end)
-  where
-    same : (o : Option Tree) → o ≡ option_and_then (λ u. along u []) o
-    same None = refl
-    same (Some x) = refl
+opened_here t w p end =
+    by_option (projected t w) (λ e. e ∙ sym (ap (option_and_then (λ u. along u p)) e)) (λ u e. e ∙ ap (along u) (sym end) ∙ sym (ap (option_and_then (λ x. along x p)) e))
 
 pub ruleset descending = (opened_after, opened_nowhere, opened_unasked, opened_whole, opened_here)

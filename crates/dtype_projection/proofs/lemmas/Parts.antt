@@ -1,28 +1,33 @@
 -- SPDX-License-Identifier: Apache-2.0
 -- SPDX-FileCopyrightText: Copyright the Vortex contributors
 
--- The parts of a type: each type is its own part, two that are parts of each other are equal, and a path leads in a part
--- to a part of what it leads to in the type. The projection is the least part that has the paths, and no other type is.
-use Rattle.std.proofs.Common.{◌≡◌, ◌≢◌, ◌⊎◌, ◌<◌, ◌+◌, inl, inr, ℕ, suc, List, [], ◌∷◌, true, cond, Some, None, refl, sym, ap, subst, ◌∙◌, ⊎_elim, arith, append-nil}
-use Rattle.std.specs.Option.{option_and_then, option_map}
-use Rattle.std.specs.Str.{bytes_eq}
+-- The parts of a type: an order, in which a path leads in a part to a part of what it leads to in the type. The projection
+-- is the least part that has the paths, and no other type is. What it depends on, and how projections compose, follows.
+use Rattle.std.proofs.Common.{◌≡◌, ◌≢◌, ◌⊎◌, ◌<◌, ◌+◌, inl, inr, ℕ, suc, List, [], ◌∷◌, true, IsTrue, Some, None, refl, sym, ap, subst, ◌∙◌, ⊎_elim, arith, append-nil}
+use Rattle.std.specs.FinSet as set
+use Rattle.std.specs.Option.{option_and_then}
 use Rattle.std.proofs.lemmas.Option.{same_Some}
-use Rattle.std.proofs.lemmas.Slice.Eq.{bytes_eq-Decides}
+use Rattle.dtype_types.specs.nullability.Nullable.{nullability}
 use Rattle.dtype_types.specs.parts.Lookups.{first_named}
 use Rattle.dtype_types.specs.tree.Tree.{Tree, Fields, no_fields, field, pairs, list, fixed_size_list, struct}
 use Rattle.dtype_paths.specs.Along.{along}
-use Rattle.dtype_paths.specs.At.{At, step}
+use Rattle.dtype_paths.specs.At.{At, ExistsIn, step}
+use Rattle.dtype_paths.specs.Beginning.{Beginning}
+use Rattle.dtype_paths.specs.Covering.{covers, least}
+use Rattle.dtype_paths.specs.PathOrder.{PathSet}
 use Rattle.dtype_paths.specs.declared.field.Field.{Field}
 use Rattle.dtype_paths.specs.declared.field.Field.TheVariants.{Name, ElementType}
-use Rattle.dtype_paths.proofs.lemmas.Cases.{by_bool, by_option}
-use Rattle.dtype_paths.proofs.lemmas.Walks.{At-along}
+use Rattle.dtype_paths.proofs.lemmas.Cases.{by_option}
+use Rattle.dtype_paths.proofs.lemmas.SetCovers.{covers_least, covers_member, covers_word}
+use Rattle.dtype_paths.proofs.lemmas.Stepping.{beginning_exists}
+use Rattle.dtype_paths.proofs.lemmas.Walks.{along-At, At-along, along_joined}
 use Rattle.dtype_projection.specs.IsPart.{IsPart, IsPartOfFields, HasPaths, IsLeastPart}
-use Rattle.dtype_projection.specs.Projected.{PathPredicate, after_step, without_field, projected, projected_fields, prepend_kept}
+use Rattle.dtype_projection.specs.Projected.{PathPredicate, after_step, without_field, projected, projected_fields}
 use Rattle.dtype_projection.proofs.lemmas.Kept.{kept_as_it_was}
-use Rattle.dtype_projection.proofs.lemmas.Predicates.{after_without_same, without_field_holds}
-use Rattle.dtype_projection.proofs.lemmas.Projections.{whole_kept, kept_list, kept_fixed, kept_struct, with_is, first_kept, none_then, named_first, named_itself, names_differ, kept_has_path, path_is_kept}
+use Rattle.dtype_projection.proofs.lemmas.Predicates.{by_name, without_field_holds}
+use Rattle.dtype_projection.proofs.lemmas.Projections.{each_projection, absent_kept, named_first, named_itself, kept_has_path, path_is_kept}
 
--- ---- a type is its own part
+-- ---- a type is its own part, and has its parts' nullability
 
 mutual
   pub part_itself : (t : Tree) → IsPart t t
@@ -34,6 +39,12 @@ mutual
   part_itself_fields : (fs : Fields) → IsPartOfFields fs fs
   part_itself_fields no_fields = refl
   part_itself_fields (field n t fs) = inl (t, fs, refl, part_itself t, part_itself_fields fs)
+
+part_nullability : (t u : Tree) → IsPart t u → nullability u ≡ nullability t
+part_nullability (list t n) u p = ap nullability p.1
+part_nullability (fixed_size_list t k n) u p = ap nullability p.1
+part_nullability (struct fs n) u p = ap nullability p.1
+part_nullability t u p = ap nullability p
 
 -- ---- parts of each other are equal: a part has fewer fields, or is the whole
 
@@ -89,17 +100,14 @@ first_of_part : (fs gs : Fields) (m : List ℕ) (y : Tree) → IsPartOfFields fs
 first_of_part no_fields gs m y p e = let q : None ≡ Some y = sym (ap (λ hs. first_named (pairs hs) m) p) ∙ e in cc
 first_of_part (field n t fs) gs m y (inl p) e =
     let f : first_named (pairs (field n p.0 p.1)) m ≡ Some y = sym (ap (λ hs. first_named (pairs hs) m) p.2) ∙ e in
-    by_bool (bytes_eq n m)
-    (λ b. (t, ap (λ c. cond c (Some t) (first_named (pairs fs) m)) b, subst (IsPart t) (same_Some p.0 y (sym (ap (λ c. cond c (Some p.0) (first_named (pairs p.1) m)) b) ∙ f)) p.3))
-    (λ b.
-    let ne = names_differ n m b in
-    let r = first_of_part fs p.1 m y p.4 (sym (named_first n m p.0 p.1 ne) ∙ f) in
-    (r.0, named_first n m t fs ne ∙ r.1, r.2))
+    by_name n m
+    (λ b. (t, ap (first_named (pairs (field n t fs))) (sym b) ∙ named_itself n t fs, subst (IsPart t) (same_Some p.0 y (sym (ap (first_named (pairs (field n p.0 p.1))) (sym b) ∙ named_itself n p.0 p.1) ∙ f)) p.3))
+    (λ ne. let r = first_of_part fs p.1 m y p.4 (sym (named_first n m p.0 p.1 ne) ∙ f) in (r.0, named_first n m t fs ne ∙ r.1, r.2))
 first_of_part (field n t fs) gs m y (inr p) e =
     let r = first_of_part fs gs m y p.0 e in
-    by_bool (bytes_eq n m)
-    (λ b. let q : None ≡ Some y = sym p.1 ∙ ap (first_named (pairs gs)) ((bytes_eq-Decides n m).0 b) ∙ e in absurd (cc))
-    (λ b. (r.0, named_first n m t fs (names_differ n m b) ∙ r.1, r.2))
+    by_name n m
+    (λ b. let q : None ≡ Some y = sym p.1 ∙ ap (first_named (pairs gs)) b ∙ e in absurd (cc))
+    (λ ne. (r.0, named_first n m t fs ne ∙ r.1, r.2))
 
 step_of_part : (t u z : Tree) (f : Field) → IsPart t u → step u f ≡ Some z → (x : Tree) × (step t f ≡ Some x) × IsPart x z
 step_of_part (list t n) u z ElementType p s = (t, refl, subst (IsPart t) (same_Some p.0 z (sym (ap (λ v. step v ElementType) p.1) ∙ s)) p.2)
@@ -110,46 +118,49 @@ step_of_part (struct fs n) u z (Name m) p s = first_of_part fs p.0 m z p.2 (sym 
 step_of_part (struct fs n) u z ElementType p s = let q : None ≡ Some z = sym (ap (λ v. step v ElementType) p.1) ∙ s in cc
 step_of_part t u z f p s = (z, sym (ap (λ v. step v f) p) ∙ s, part_itself z)
 
-pub path_of_part : (q : List Field) (t u y : Tree) → IsPart t u → At u q y → (x : Tree) × At t q x × IsPart x y
-path_of_part [] t u y p a = (t, refl, subst (IsPart t) a p)
-path_of_part (f ∷ q) t u y p a =
+pub path_of_part : (t u y : Tree) (q : List Field) → IsPart t u → At u q y → (x : Tree) × At t q x × IsPart x y
+path_of_part t u y [] p a = (t, refl, subst (IsPart t) a p)
+path_of_part t u y (f ∷ q) p a =
     let s = step_of_part t u a.0 f p a.1 in
-    let r = path_of_part q s.0 a.0 y s.2 a.2 in
+    let r = path_of_part s.0 a.0 y q s.2 a.2 in
     (r.0, (s.0, s.1, r.1), r.2)
+
+-- ---- a part of a part is a part
+
+absent_in_part : (gs hs : Fields) (n : List ℕ) → IsPartOfFields gs hs → first_named (pairs gs) n ≡ None → first_named (pairs hs) n ≡ None
+absent_in_part gs hs n p none = by_option (first_named (pairs hs) n) (λ e. e) (λ y is. let r = first_of_part gs hs n y p is in let q = sym none ∙ r.1 in cc)
+
+mutual
+  part_of_part : (t u x : Tree) → IsPart t u → IsPart u x → IsPart t x
+  part_of_part (list t n) u x p q = let r : IsPart (list p.0 n) x = subst (λ z. IsPart z x) p.1 q in (r.0, r.1, part_of_part t p.0 r.0 p.2 r.2)
+  part_of_part (fixed_size_list t k n) u x p q = let r : IsPart (fixed_size_list p.0 k n) x = subst (λ z. IsPart z x) p.1 q in (r.0, r.1, part_of_part t p.0 r.0 p.2 r.2)
+  part_of_part (struct fs n) u x p q = let r : IsPart (struct p.0 n) x = subst (λ z. IsPart z x) p.1 q in (r.0, r.1, fields_of_part fs p.0 r.0 p.2 r.2)
+  part_of_part t u x p q = subst (λ z. IsPart z x) p q
+
+  fields_of_part : (fs gs hs : Fields) → IsPartOfFields fs gs → IsPartOfFields gs hs → IsPartOfFields fs hs
+  fields_of_part no_fields gs hs p q = subst (λ z. IsPartOfFields z hs) p q
+  fields_of_part (field n t fs) gs hs (inl p) q =
+      let r : IsPartOfFields (field n p.0 p.1) hs = subst (λ z. IsPartOfFields z hs) p.2 q in elim r [
+        | inl k ↦ inl (k.0, k.1, k.2, part_of_part t p.0 k.0 p.3 k.3, fields_of_part fs p.1 k.1 p.4 k.4)
+        | inr k ↦ inr (fields_of_part fs p.1 hs p.4 k.0, k.1)
+      ]
+  fields_of_part (field n t fs) gs hs (inr p) q = inr (fields_of_part fs gs hs p.0 q, absent_in_part gs hs n q p.1)
 
 -- ---- the projection is a part
 
-absent_kept : (n : List ℕ) (rest : Fields) (w : PathPredicate) → first_named (pairs (projected_fields rest (without_field n w))) n ≡ None
-absent_kept n rest w =
-    first_kept rest (without_field n w) n
-    ∙ ap (λ v. option_and_then (λ x. projected x v) (first_named (pairs rest) n)) (after_without_same n w)
-    ∙ none_then (first_named (pairs rest) n)
+pub kept_part : (t u : Tree) (w : PathPredicate) → projected t w ≡ Some u → IsPart t u
+kept_part = each_projection (λ t w u. IsPart t u) (λ fs w gs. IsPartOfFields fs gs) (record {
+  whole = λ t w root. part_itself t;
+  in_list = λ t x n w root p. (x, refl, p);
+  in_fixed = λ t x k n w root p. (x, refl, p);
+  in_struct = λ fs gs n w root some p. (gs, refl, p);
+  none = λ w. refl;
+  kept = λ n t x fs gs w is p q. inl (x, gs, refl, p, q);
+  left = λ n t fs gs w none is q. inr (q, subst (λ hs. first_named (pairs hs) n ≡ None) (sym is) (absent_kept n fs w));
+})
 
-mutual
-  pub kept_part : (t u : Tree) (w : PathPredicate) → projected t w ≡ Some u → IsPart t u
-  kept_part (list t n) u w e = by_bool (w [])
-      (λ root. subst (IsPart (list t n)) (whole_kept (list t n) u w root e) (part_itself (list t n)))
-      (λ root. by_option (projected t (after_step ElementType w))
-      (λ none. let q = sym (ap (option_map (λ x. list x n)) none) ∙ sym (kept_list t n w root) ∙ e in cc)
-      (λ x is. (x, sym (same_Some (list x n) u (sym (ap (option_map (λ x. list x n)) is) ∙ sym (kept_list t n w root) ∙ e)), kept_part t x (after_step ElementType w) is)))
-  kept_part (fixed_size_list t k n) u w e = by_bool (w [])
-      (λ root. subst (IsPart (fixed_size_list t k n)) (whole_kept (fixed_size_list t k n) u w root e) (part_itself (fixed_size_list t k n)))
-      (λ root. by_option (projected t (after_step ElementType w))
-      (λ none. let q = sym (ap (option_map (λ x. fixed_size_list x k n)) none) ∙ sym (kept_fixed t k n w root) ∙ e in cc)
-      (λ x is. (x, sym (same_Some (fixed_size_list x k n) u (sym (ap (option_map (λ x. fixed_size_list x k n)) is) ∙ sym (kept_fixed t k n w root) ∙ e)), kept_part t x (after_step ElementType w) is)))
-  kept_part (struct fs n) u w e = by_bool (w [])
-      (λ root. subst (IsPart (struct fs n)) (whole_kept (struct fs n) u w root e) (part_itself (struct fs n)))
-      (λ root. (projected_fields fs w, sym (with_is n (projected_fields fs w) u (sym (kept_struct fs n w root) ∙ e)), kept_part_fields fs w))
-  kept_part t u w e = by_bool (w []) (λ root. sym (whole_kept t u w root e)) (λ root. let q = rw root at e in cc)
-
-  kept_part_fields : (fs : Fields) (w : PathPredicate) → IsPartOfFields fs (projected_fields fs w)
-  kept_part_fields no_fields w = refl
-  kept_part_fields (field n t rest) w =
-      let later = kept_part_fields rest (without_field n w) in
-      by_option (projected t (after_step (Name n) w))
-      (λ none. subst (λ o. IsPartOfFields (field n t rest) (prepend_kept n o (projected_fields rest (without_field n w)))) (sym none) (inr (later, absent_kept n rest w)))
-      (λ x is. subst (λ o. IsPartOfFields (field n t rest) (prepend_kept n o (projected_fields rest (without_field n w)))) (sym is)
-      (inl (x, projected_fields rest (without_field n w), refl, kept_part t x (after_step (Name n) w) is, later)))
+pub kept_nullability : (t u : Tree) (w : PathPredicate) → projected t w ≡ Some u → nullability u ≡ nullability t
+kept_nullability t u w e = part_nullability t u (kept_part t u w e)
 
 -- ---- and a part of each other one that has the paths
 
@@ -157,9 +168,6 @@ mutual
 abbrev HasFieldPaths : Fields → PathPredicate → Fields → Type 0
 HasFieldPaths fs w gs = (m : List ℕ) (q : List Field) → w (Name m ∷ q) ≡ true
     → option_and_then (λ z. along z q) (first_named (pairs gs) m) ≡ option_and_then (λ z. along z q) (first_named (pairs fs) m)
-
-whole_least : (t u x : Tree) (w : PathPredicate) → w [] ≡ true → projected t w ≡ Some u → HasPaths t w x → IsPart x u
-whole_least t u x w root e h = subst (IsPart x) (same_Some x t (h [] root) ∙ whole_kept t u w root e) (part_itself x)
 
 -- after the first field is left out, and its name with it
 has_later : (n : List ℕ) (t : Tree) (rest gs hs : Fields) (w : PathPredicate) → ((m : List ℕ) → n ≢ m → first_named (pairs gs) m ≡ first_named (pairs hs) m)
@@ -169,65 +177,45 @@ has_later n t rest gs hs w same h m q is =
     let ne : n ≢ m = λ e. b.0 (ap Name e) in
     ap (option_and_then (λ z. along z q)) (sym (same m ne)) ∙ h m q b.1 ∙ ap (option_and_then (λ z. along z q)) (named_first n m t rest ne)
 
-mutual
-  pub kept_least : (t u x : Tree) (w : PathPredicate) → projected t w ≡ Some u → IsPart t x → HasPaths t w x → IsPart x u
-  kept_least (list t n) u x w e p h = by_bool (w [])
-      (λ root. whole_least (list t n) u x w root e h)
-      (λ root. by_option (projected t (after_step ElementType w))
-      (λ none. let q = sym (ap (option_map (λ x. list x n)) none) ∙ sym (kept_list t n w root) ∙ e in cc)
-      (λ v is. subst (λ z. IsPart z u) (sym p.1) (
-        v,
-        sym (same_Some (list v n) u (sym (ap (option_map (λ x. list x n)) is) ∙ sym (kept_list t n w root) ∙ e)),
-        kept_least t v p.0 (after_step ElementType w) is p.2 (λ q b. sym (ap (λ z. along z (ElementType ∷ q)) p.1) ∙ h (ElementType ∷ q) b),
-      )))
-  kept_least (fixed_size_list t k n) u x w e p h = by_bool (w [])
-      (λ root. whole_least (fixed_size_list t k n) u x w root e h)
-      (λ root. by_option (projected t (after_step ElementType w))
-      (λ none. let q = sym (ap (option_map (λ x. fixed_size_list x k n)) none) ∙ sym (kept_fixed t k n w root) ∙ e in cc)
-      (λ v is. subst (λ z. IsPart z u) (sym p.1) (
-        v,
-        sym (same_Some (fixed_size_list v k n) u (sym (ap (option_map (λ x. fixed_size_list x k n)) is) ∙ sym (kept_fixed t k n w root) ∙ e)),
-        kept_least t v p.0 (after_step ElementType w) is p.2 (λ q b. sym (ap (λ z. along z (ElementType ∷ q)) p.1) ∙ h (ElementType ∷ q) b),
-      )))
-  kept_least (struct fs n) u x w e p h = by_bool (w [])
-      (λ root. whole_least (struct fs n) u x w root e h)
-      (λ root. subst (λ z. IsPart z u) (sym p.1) (
-        projected_fields fs w,
-        sym (with_is n (projected_fields fs w) u (sym (kept_struct fs n w root) ∙ e)),
-        fields_least fs p.0 w p.2 (λ m q b. sym (ap (λ z. along z (Name m ∷ q)) p.1) ∙ h (Name m ∷ q) b),
-      ))
-  kept_least t u x w e p h = by_bool (w []) (λ root. whole_least t u x w root e h) (λ root. let q = rw root at e in cc)
+-- in a part of fields that has the paths, of which the first is kept, or left out
+least_kept : (n : List ℕ) (t x : Tree) (fs gs hs : Fields) (w : PathPredicate) → projected t (after_step (Name n) w) ≡ Some x → ((z : Tree) → IsPart t z → HasPaths t (after_step (Name n) w) z → IsPart z x)
+    → ((ks : Fields) → IsPartOfFields fs ks → HasFieldPaths fs (without_field n w) ks → IsPartOfFields ks gs) → IsPartOfFields (field n t fs) hs → HasFieldPaths (field n t fs) w hs → IsPartOfFields hs (field n x gs)
+least_kept n t x fs gs hs w is on later (inl p) h =
+    subst (λ z. IsPartOfFields z (field n x gs)) (sym p.2) (inl (
+      x,
+      gs,
+      refl,
+      on p.0 p.3 (λ q b.
+          sym (ap (option_and_then (λ z. along z q)) (ap (λ ks. first_named (pairs ks) n) p.2 ∙ named_itself n p.0 p.1))
+          ∙ h n q b
+          ∙ ap (option_and_then (λ z. along z q)) (named_itself n t fs)),
+      later p.1 p.4 (has_later n t fs hs p.1 w (λ m ne. ap (λ ks. first_named (pairs ks) m) p.2 ∙ named_first n m p.0 p.1 ne) h),
+    ))
+least_kept n t x fs gs hs w is on later (inr p) h =
+    let l = kept_has_path t x (after_step (Name n) w) is in
+    let q : None ≡ Some l.exists.found =
+    sym (ap (option_and_then (λ z. along z l.path)) p.1)
+    ∙ h n l.path l.holds
+    ∙ ap (option_and_then (λ z. along z l.path)) (named_itself n t fs)
+    ∙ At-along t l.path l.exists.found l.exists.at in
+    absurd (cc)
 
-  fields_least : (fs gs : Fields) (w : PathPredicate) → IsPartOfFields fs gs → HasFieldPaths fs w gs → IsPartOfFields gs (projected_fields fs w)
-  fields_least no_fields gs w p h = subst (λ z. IsPartOfFields z no_fields) (sym p) refl
-  fields_least (field n t rest) gs w (inl p) h =
-      let later = fields_least rest p.1 (without_field n w) p.4
-      (has_later n t rest gs p.1 w (λ m ne. ap (λ hs. first_named (pairs hs) m) p.2 ∙ named_first n m p.0 p.1 ne) h) in
-      subst (λ z. IsPartOfFields z (prepend_kept n (projected t (after_step (Name n) w)) (projected_fields rest (without_field n w)))) (sym p.2)
-      (by_option (projected t (after_step (Name n) w))
-      (λ none. subst (λ o. IsPartOfFields (field n p.0 p.1) (prepend_kept n o (projected_fields rest (without_field n w)))) (sym none) (inr (later, absent_kept n rest w)))
-      (λ v is. subst (λ o. IsPartOfFields (field n p.0 p.1) (prepend_kept n o (projected_fields rest (without_field n w)))) (sym is) (inl (
-        v,
-        projected_fields rest (without_field n w),
-        refl,
-        kept_least t v p.0 (after_step (Name n) w) is p.3 (λ q b.
-            sym (ap (option_and_then (λ z. along z q)) (ap (λ hs. first_named (pairs hs) n) p.2 ∙ named_itself n p.0 p.1))
-            ∙ h n q b
-            ∙ ap (option_and_then (λ z. along z q)) (named_itself n t rest)),
-        later,
-      ))))
-  fields_least (field n t rest) gs w (inr p) h =
-      by_option (projected t (after_step (Name n) w))
-      (λ none. subst (λ o. IsPartOfFields gs (prepend_kept n o (projected_fields rest (without_field n w)))) (sym none)
-      (fields_least rest gs (without_field n w) p.0 (has_later n t rest gs gs w (λ m ne. refl) h)))
-      (λ v is.
-      let l = kept_has_path t v (after_step (Name n) w) is in
-      let q : None ≡ Some l.exists.found =
-      sym (ap (option_and_then (λ z. along z l.path)) p.1)
-      ∙ h n l.path l.holds
-      ∙ ap (option_and_then (λ z. along z l.path)) (named_itself n t rest)
-      ∙ At-along t l.path l.exists.found l.exists.at in
-      absurd (cc))
+least_left : (n : List ℕ) (t : Tree) (fs gs hs : Fields) (w : PathPredicate) → first_named (pairs gs) n ≡ None → ((ks : Fields) → IsPartOfFields fs ks → HasFieldPaths fs (without_field n w) ks → IsPartOfFields ks gs)
+    → IsPartOfFields (field n t fs) hs → HasFieldPaths (field n t fs) w hs → IsPartOfFields hs gs
+least_left n t fs gs hs w none later (inl p) h =
+    subst (λ z. IsPartOfFields z gs) (sym p.2) (inr (later p.1 p.4 (has_later n t fs hs p.1 w (λ m ne. ap (λ ks. first_named (pairs ks) m) p.2 ∙ named_first n m p.0 p.1 ne) h), none))
+least_left n t fs gs hs w none later (inr p) h = later hs p.0 (has_later n t fs hs hs w (λ m ne. refl) h)
+
+kept_least : (t u : Tree) (w : PathPredicate) → projected t w ≡ Some u → (x : Tree) → IsPart t x → HasPaths t w x → IsPart x u
+kept_least = each_projection (λ t w u. (x : Tree) → IsPart t x → HasPaths t w x → IsPart x u) (λ fs w gs. (hs : Fields) → IsPartOfFields fs hs → HasFieldPaths fs w hs → IsPartOfFields hs gs) (record {
+  whole = λ t w root x p h. subst (IsPart x) (same_Some x t (h [] root)) (part_itself x);
+  in_list = λ t v n w root on x p h. subst (λ z. IsPart z (list v n)) (sym p.1) (v, refl, on p.0 p.2 (λ q b. sym (ap (λ z. along z (ElementType ∷ q)) p.1) ∙ h (ElementType ∷ q) b));
+  in_fixed = λ t v k n w root on x p h. subst (λ z. IsPart z (fixed_size_list v k n)) (sym p.1) (v, refl, on p.0 p.2 (λ q b. sym (ap (λ z. along z (ElementType ∷ q)) p.1) ∙ h (ElementType ∷ q) b));
+  in_struct = λ fs gs n w root some on x p h. subst (λ z. IsPart z (struct gs n)) (sym p.1) (gs, refl, on p.0 p.2 (λ m q b. sym (ap (λ z. along z (Name m ∷ q)) p.1) ∙ h (Name m ∷ q) b));
+  none = λ w hs p h. subst (λ z. IsPartOfFields z no_fields) (sym p) refl;
+  kept = λ n t x fs gs w is on later hs p h. least_kept n t x fs gs hs w is on later p h;
+  left = λ n t fs gs w none is later hs p h. least_left n t fs gs hs w (subst (λ ks. first_named (pairs ks) n ≡ None) (sym is) (absent_kept n fs w)) later p h;
+})
 
 -- ---- the projection is the least part that has the paths, and no other type is
 
@@ -235,11 +223,97 @@ pub kept_is_least : (t u : Tree) (w : PathPredicate) → projected t w ≡ Some 
 kept_is_least t u w e = record {
   part = kept_part t u w e;
   has = λ p is. kept_as_it_was t u w p p e is ([], sym (append-nil p));
-  least = λ x p h. kept_least t u x w e p h;
+  least = kept_least t u w e;
 }
 
-one_least : (t u v : Tree) (w : PathPredicate) → IsLeastPart t w u → IsLeastPart t w v → v ≡ u
-one_least t u v w a b = parts_equal u v (b.least u a.part a.has) (a.least v b.part b.has)
+pub least_is_kept : (t u : Tree) (w : PathPredicate) (p : List Field) → w p ≡ true → ExistsIn t p → IsLeastPart t w u → projected t w ≡ Some u
+least_is_kept t u w p is x l =
+    let k = path_is_kept p t x.found w is x.at in
+    let m = kept_is_least t k.0 w k.1 in
+    k.1 ∙ ap Some (parts_equal u k.0 (m.least u l.part l.has) (l.least k.0 m.part m.has))
 
-pub least_is_kept : (t u x : Tree) (w : PathPredicate) (p : List Field) → w p ≡ true → At t p x → IsLeastPart t w u → projected t w ≡ Some u
-least_is_kept t u x w p is a l = let k = path_is_kept p t x w is a in k.1 ∙ ap Some (one_least t u k.0 w l (kept_is_least t k.0 w k.1))
+-- ---- so it depends on what the paths cover alone
+
+-- a path of w is a beginning of q
+pub record Covered (w : PathPredicate) (q : List Field) : Type 0 where
+  pub path : List Field
+  pub holds : w path ≡ true
+  pub begins : Beginning path q
+
+-- w covers the paths of v that exist in t
+pub record CoversIn (t : Tree) (w v : PathPredicate) : Type 0 where
+  pub covered : (q : List Field) → v q ≡ true → ExistsIn t q → Covered w q
+
+pub covered_set : (s : PathSet) (q : List Field) → covers s q ≡ true → Covered (set.contains s) q
+covered_set s q e = let r = (covers_word s q).0 e in record { path = r.0; holds = r.1; begins = r.2 }
+
+-- then w keeps something
+pub covered_is_kept : (t : Tree) (w : PathPredicate) (q : List Field) → Covered w q → ExistsIn t q → (u : Tree) × (projected t w ≡ Some u)
+covered_is_kept t w q c x = let a = beginning_exists t x.found c.path q c.begins x.at in path_is_kept c.path t a.0 w c.holds a.1
+
+pub none_of_either : (t : Tree) (w v : PathPredicate) → CoversIn t w v → projected t w ≡ None → projected t v ≡ None
+none_of_either t w v c none = by_option (projected t v) (λ e. e) (λ u is.
+    let l = kept_has_path t u v is in
+    let k = covered_is_kept t w l.path (c.covered l.path l.holds l.exists) l.exists in
+    let q = sym none ∙ k.1 in cc)
+
+-- and what has the paths of w has those of v
+has_covered : (t x : Tree) (w v : PathPredicate) → CoversIn t w v → IsPart t x → HasPaths t w x → HasPaths t v x
+has_covered t x w v c p h q is = by_option (along t q)
+    (λ none. by_option (along x q) (λ e. e) (λ y at. let r = path_of_part t x y q p (along-At x q y at) in let e = sym none ∙ At-along t q r.0 r.1 in cc) ∙ sym none)
+    (λ z at.
+    let b = c.covered q is (record { found = z; at = along-At t q z at }) in
+    ap (along x) b.begins.1
+    ∙ along_joined x b.path b.begins.0
+    ∙ ap (option_and_then (λ y. along y b.begins.0)) (h b.path b.holds)
+    ∙ sym (along_joined t b.path b.begins.0)
+    ∙ ap (along t) (sym b.begins.1))
+
+same_projection : (t : Tree) (w v : PathPredicate) → CoversIn t w v → CoversIn t v w → projected t w ≡ projected t v
+same_projection t w v c d = by_option (projected t w)
+    (λ none. none ∙ sym (none_of_either t w v c none))
+    (λ u is.
+    let l = kept_has_path t u w is in
+    let m = kept_is_least t u w is in
+    let k = covered_is_kept t v l.path (d.covered l.path l.holds l.exists) l.exists in
+    let o = kept_is_least t k.0 v k.1 in
+    is ∙ ap Some (sym (parts_equal u k.0 (o.least u m.part (has_covered t u w v c m.part m.has)) (m.least k.0 o.part (has_covered t k.0 v w d o.part o.has)))) ∙ sym k.1)
+
+-- sets that cover the same of the type's paths have the same projection
+pub same_for_same_coverage : (t : Tree) (r s : PathSet) → ((q : List Field) → ExistsIn t q → covers r q ≡ covers s q) → projected t (set.contains r) ≡ projected t (set.contains s)
+same_for_same_coverage t r s a = same_projection t (set.contains r) (set.contains s)
+    (record { covered = λ q is e. covered_set r q (a q e ∙ covers_member s q is) })
+    (record { covered = λ q is e. covered_set s q (sym (a q e) ∙ covers_member r q is) })
+
+-- so the least paths of a set have the same projection as the set
+pub same_for_least : (t : Tree) (s : PathSet) → projected t (set.contains (least s)) ≡ projected t (set.contains s)
+same_for_least t s = same_for_same_coverage t (least s) s (λ q e. covers_least s q)
+
+-- ---- and the projection of a projection to what is covered is that of the type
+
+projected_again : (t u : Tree) (w v : PathPredicate) → projected t w ≡ Some u → CoversIn t w v → projected u v ≡ projected t v
+projected_again t u w v e c =
+    let m = kept_is_least t u w e in
+    let has = has_covered t u w v c m.part m.has in
+    by_option (projected t v)
+    (λ none. by_option (projected u v) (λ q. q) (λ y is.
+    let l = kept_has_path u y v is in
+    let a = path_of_part t u l.exists.found l.path m.part l.exists.at in
+    let k = path_is_kept l.path t a.0 v l.holds a.1 in
+    let q = sym none ∙ k.1 in cc) ∙ sym none)
+    (λ x is.
+    let l = kept_has_path t x v is in
+    let o = kept_is_least t x v is in
+    let there : ExistsIn u l.path = record { found = l.exists.found; at = along-At u l.path l.exists.found (has l.path l.holds ∙ At-along t l.path l.exists.found l.exists.at) } in
+    least_is_kept u x v l.path l.holds there (record {
+      part = o.least u m.part has;
+      has = λ q h. o.has q h ∙ sym (has q h);
+      least = λ z p h. o.least z (part_of_part t u z m.part p) (λ q b. h q b ∙ has q b);
+    }) ∙ sym is)
+
+-- path sets
+pub projection_of_projection : (t u : Tree) (s r : PathSet) → projected t (set.contains s) ≡ Some u → ((q : List Field) → IsTrue (set.contains r q) → ExistsIn t q → IsTrue (covers s q)) → projected u (set.contains r) ≡ projected t (set.contains r)
+projection_of_projection t u s r e c = projected_again t u (set.contains s) (set.contains r) e (record { covered = λ q is x. covered_set s q (c q is x) })
+
+pub projected_once : (t u : Tree) (s : PathSet) → projected t (set.contains s) ≡ Some u → projected u (set.contains s) ≡ Some u
+projected_once t u s e = projection_of_projection t u s s e (λ q is x. covers_member s q is) ∙ e

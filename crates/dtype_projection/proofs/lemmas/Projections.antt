@@ -1,39 +1,23 @@
 -- SPDX-License-Identifier: Apache-2.0
 -- SPDX-FileCopyrightText: Copyright the Vortex contributors
 
--- The projection of each kind of type, and where steps lead in it.
-use Rattle.std.proofs.Common.{◌≡◌, ◌≢◌, ℕ, List, [], ◌∷◌, true, false, cond, Option, Some, None, refl, sym, ap, subst, ◌∙◌}
+-- The projection of each kind of type, what holds of each projection, and where steps lead in it.
+use Rattle.std.proofs.Common.{◌≡◌, ◌≢◌, ◌↔◌, IsSome, IsTrue, ℕ, List, [], ◌∷◌, ◌++◌, true, false, Option, Some, None, refl, sym, ap, subst, ◌∙◌}
 use Rattle.std.specs.Option.{option_and_then, option_map}
-use Rattle.std.specs.Str.{bytes_eq}
+use Rattle.std.proofs.lemmas.Bool.{false≢true}
 use Rattle.std.proofs.lemmas.Option.{same_Some}
-use Rattle.std.proofs.lemmas.Slice.Eq.{bytes_eq-Decides}
 use Rattle.dtype_base.specs.declared.nullability.Nullability.{Nullability}
 use Rattle.dtype_types.specs.parts.Lookups.{first_named}
 use Rattle.dtype_types.specs.tree.Tree.{Tree, Fields, no_fields, field, pairs, list, fixed_size_list, struct}
+use Rattle.dtype_types.proofs.lemmas.Lookups.{other_name, taken_same_name}
+use Rattle.dtype_paths.specs.Along.{along}
 use Rattle.dtype_paths.specs.At.{At, ExistsIn, step}
+use Rattle.dtype_paths.specs.PathPredicates.{no_path}
 use Rattle.dtype_paths.specs.declared.field.Field.{Field}
 use Rattle.dtype_paths.specs.declared.field.Field.TheVariants.{Name, ElementType}
 use Rattle.dtype_paths.proofs.lemmas.Cases.{by_bool, by_option}
 use Rattle.dtype_projection.specs.Projected.{PathPredicate, after_step, without_field, projected, projected_fields, struct_with, prepend_kept}
-use Rattle.dtype_projection.proofs.lemmas.Predicates.{same_predicate, after_without_same, after_without_other, without_field_holds}
-
--- ---- the projection to no path
-
-pub without_field_nothing : (n : List ℕ) (w : PathPredicate) → ((f : Field) (p : List Field) → w (f ∷ p) ≡ false) → (f : Field) (p : List Field) → without_field n w (f ∷ p) ≡ false
-without_field_nothing n w none f p = by_bool (without_field n w (f ∷ p)) (λ e. let t = (without_field_holds n w f p e).1 in let u = none f p in absurd (cc)) (λ e. e)
-
-mutual
-  pub projected_nothing : (t : Tree) → projected t (λ p. false) ≡ None
-  projected_nothing (list t n) = ap (option_map (λ u. list u n)) (projected_nothing t)
-  projected_nothing (fixed_size_list t k n) = ap (option_map (λ u. fixed_size_list u k n)) (projected_nothing t)
-  projected_nothing (struct fs n) = ap (struct_with n) (fields_of_nothing fs (λ p. false) (λ f p. refl))
-  projected_nothing _ = refl
-
-  pub fields_of_nothing : (fs : Fields) (w : PathPredicate) → ((f : Field) (p : List Field) → w (f ∷ p) ≡ false) → projected_fields fs w ≡ no_fields
-  fields_of_nothing no_fields w none = refl
-  fields_of_nothing (field n t rest) w none =
-      ap (λ o. prepend_kept n o (projected_fields rest (without_field n w))) (ap (projected t) (same_predicate (after_step (Name n) w) (λ p. false) (none (Name n))) ∙ projected_nothing t)
-      ∙ fields_of_nothing rest (without_field n w) (without_field_nothing n w none)
+use Rattle.dtype_projection.proofs.lemmas.Predicates.{by_name, after_without_same, after_without_other, without_field_holds}
 
 -- ---- the projection by whether w has the root
 
@@ -55,72 +39,58 @@ kept_fixed t k n w e = rw e refl
 pub kept_struct : (fs : Fields) (n : Nullability) (w : PathPredicate) → w [] ≡ false → projected (struct fs n) w ≡ struct_with n (projected_fields fs w)
 kept_struct fs n w e = rw e refl
 
-pub with_is : (n : Nullability) (gs : Fields) (u : Tree) → struct_with n gs ≡ Some u → struct gs n ≡ u
+with_is : (n : Nullability) (gs : Fields) (u : Tree) → struct_with n gs ≡ Some u → struct gs n ≡ u
 with_is n no_fields u e = cc
 with_is n (field m t gs) u e = same_Some _ u e
 
--- ---- fields by name
+mapped : (o : Option Tree) (g : Tree → Tree) (u : Tree) → option_map g o ≡ Some u → (x : Tree) × (o ≡ Some x) × (g x ≡ u)
+mapped None g u e = cc
+mapped (Some x) g u e = (x, refl, same_Some (g x) u e)
 
-pub none_then : (o : Option Tree) → option_and_then (λ x. projected x (λ p. false)) o ≡ None
-none_then None = refl
-none_then (Some x) = projected_nothing x
+-- ---- one walk for all that holds of each projection
 
-pub first_here : (n : List ℕ) (o : Option Tree) (gs : Fields) → first_named (pairs gs) n ≡ None → first_named (pairs (prepend_kept n o gs)) n ≡ o
-first_here n None gs none = none
-first_here n (Some u) gs none = ap (λ b. cond b (Some u) (first_named (pairs gs) n)) ((bytes_eq-Decides n n).1 refl)
+-- what has to be shown, kind by kind, for `P` of each projection, and for `Q` of the fields that are kept
+pub record ByKind (P : Tree → PathPredicate → Tree → Type 0) (Q : Fields → PathPredicate → Fields → Type 0) : Type 0 where
+  pub whole : (t : Tree) (w : PathPredicate) → w [] ≡ true → P t w t
+  pub in_list : (t x : Tree) (n : Nullability) (w : PathPredicate) → w [] ≡ false → P t (after_step ElementType w) x → P (list t n) w (list x n)
+  pub in_fixed : (t x : Tree) (k : ℕ) (n : Nullability) (w : PathPredicate) → w [] ≡ false → P t (after_step ElementType w) x → P (fixed_size_list t k n) w (fixed_size_list x k n)
+  pub in_struct : (fs gs : Fields) (n : Nullability) (w : PathPredicate) → w [] ≡ false → gs ≢ no_fields → Q fs w gs → P (struct fs n) w (struct gs n)
+  pub none : (w : PathPredicate) → Q no_fields w no_fields
+  pub kept : (n : List ℕ) (t x : Tree) (fs gs : Fields) (w : PathPredicate) → projected t (after_step (Name n) w) ≡ Some x → P t (after_step (Name n) w) x → Q fs (without_field n w) gs → Q (field n t fs) w (field n x gs)
+  pub left : (n : List ℕ) (t : Tree) (fs gs : Fields) (w : PathPredicate) → projected t (after_step (Name n) w) ≡ None → gs ≡ projected_fields fs (without_field n w) → Q fs (without_field n w) gs → Q (field n t fs) w gs
 
-first_there : (n m : List ℕ) (o : Option Tree) (gs : Fields) → bytes_eq n m ≡ false → first_named (pairs (prepend_kept n o gs)) m ≡ first_named (pairs gs) m
-first_there n m None gs e = refl
-first_there n m (Some u) gs e = ap (λ b. cond b (Some u) (first_named (pairs gs) m)) e
+module _ (P : Tree → PathPredicate → Tree → Type 0) (Q : Fields → PathPredicate → Fields → Type 0) (s : ByKind P Q) where
+  mutual
+    pub each_projection : (t u : Tree) (w : PathPredicate) → projected t w ≡ Some u → P t w u
+    each_projection (list t n) u w e = by_bool (w [])
+        (λ root. subst (P (list t n) w) (whole_kept (list t n) u w root e) (s.whole (list t n) w root))
+        (λ root. let x = mapped (projected t (after_step ElementType w)) (λ y. list y n) u (sym (kept_list t n w root) ∙ e) in
+        subst (P (list t n) w) x.2 (s.in_list t x.0 n w root (each_projection t x.0 (after_step ElementType w) x.1)))
+    each_projection (fixed_size_list t k n) u w e = by_bool (w [])
+        (λ root. subst (P (fixed_size_list t k n) w) (whole_kept (fixed_size_list t k n) u w root e) (s.whole (fixed_size_list t k n) w root))
+        (λ root. let x = mapped (projected t (after_step ElementType w)) (λ y. fixed_size_list y k n) u (sym (kept_fixed t k n w root) ∙ e) in
+        subst (P (fixed_size_list t k n) w) x.2 (s.in_fixed t x.0 k n w root (each_projection t x.0 (after_step ElementType w) x.1)))
+    each_projection (struct fs n) u w e = by_bool (w [])
+        (λ root. subst (P (struct fs n) w) (whole_kept (struct fs n) u w root e) (s.whole (struct fs n) w root))
+        (λ root. let with : struct_with n (projected_fields fs w) ≡ Some u = sym (kept_struct fs n w root) ∙ e in
+        subst (P (struct fs n) w) (with_is n (projected_fields fs w) u with) (s.in_struct fs (projected_fields fs w) n w root (λ none. let q = sym (ap (struct_with n) none) ∙ with in cc) (each_fields fs w)))
+    each_projection t u w e = by_bool (w []) (λ root. subst (P t w) (whole_kept t u w root e) (s.whole t w root)) (λ root. let q = rw root at e in cc)
 
-pub names_differ : (n m : List ℕ) → bytes_eq n m ≡ false → n ≢ m
-names_differ n m e q = let t : bytes_eq n m ≡ true = (bytes_eq-Decides n m).1 q in cc
-
--- by a name the projection has the projection of the first field of that name
-pub first_kept : (fs : Fields) (w : PathPredicate) (m : List ℕ) → first_named (pairs (projected_fields fs w)) m ≡ option_and_then (λ x. projected x (after_step (Name m) w)) (first_named (pairs fs) m)
-first_kept no_fields w m = refl
-first_kept (field n t rest) w m = by_bool (bytes_eq n m)
-    (λ e. subst (λ z. first_named (pairs (projected_fields (field n t rest) w)) z ≡ option_and_then (λ x. projected x (after_step (Name z) w)) (first_named (pairs (field n t rest)) z)) ((bytes_eq-Decides n m).0 e)
-    (first_here n (projected t (after_step (Name n) w)) (projected_fields rest (without_field n w))
-    (first_kept rest (without_field n w) n
-    ∙ ap (λ v. option_and_then (λ x. projected x v) (first_named (pairs rest) n)) (after_without_same n w)
-    ∙ none_then (first_named (pairs rest) n))
-    ∙ sym (ap (λ b. option_and_then (λ x. projected x (after_step (Name n) w)) (cond b (Some t) (first_named (pairs rest) n))) ((bytes_eq-Decides n n).1 refl))))
-    (λ e. first_there n m (projected t (after_step (Name n) w)) (projected_fields rest (without_field n w)) e
-    ∙ first_kept rest (without_field n w) m
-    ∙ ap (λ v. option_and_then (λ x. projected x v) (first_named (pairs rest) m)) (after_without_other n m w (names_differ n m e))
-    ∙ sym (ap (λ b. option_and_then (λ x. projected x (after_step (Name m) w)) (cond b (Some t) (first_named (pairs rest) m))) e))
-
--- ---- a step into the projection
-
-step_into_list : (t : Tree) (n : Nullability) (w : PathPredicate) (o : Option Tree) (u : Tree) (f : Field) → o ≡ projected t (after_step ElementType w) → option_map (λ x. list x n) o ≡ Some u → step u f ≡ option_and_then (λ x. projected x (after_step f w)) (step (list t n) f)
-step_into_list t n w None u f is e = cc
-step_into_list t n w (Some x) u (Name m) is e = ap (λ z. step z (Name m)) (sym (same_Some (list x n) u e))
-step_into_list t n w (Some x) u ElementType is e = ap (λ z. step z ElementType) (sym (same_Some (list x n) u e)) ∙ is
-
-step_into_fixed : (t : Tree) (k : ℕ) (n : Nullability) (w : PathPredicate) (o : Option Tree) (u : Tree) (f : Field) → o ≡ projected t (after_step ElementType w) → option_map (λ x. fixed_size_list x k n) o ≡ Some u → step u f ≡ option_and_then (λ x. projected x (after_step f w)) (step (fixed_size_list t k n) f)
-step_into_fixed t k n w None u f is e = cc
-step_into_fixed t k n w (Some x) u (Name m) is e = ap (λ z. step z (Name m)) (sym (same_Some (fixed_size_list x k n) u e))
-step_into_fixed t k n w (Some x) u ElementType is e = ap (λ z. step z ElementType) (sym (same_Some (fixed_size_list x k n) u e)) ∙ is
-
-step_into_struct : (fs : Fields) (n : Nullability) (w : PathPredicate) (gs : Fields) (u : Tree) (f : Field) → gs ≡ projected_fields fs w → struct_with n gs ≡ Some u → step u f ≡ option_and_then (λ x. projected x (after_step f w)) (step (struct fs n) f)
-step_into_struct fs n w no_fields u f is e = cc
-step_into_struct fs n w (field m t gs) u (Name k) is e = ap (λ z. step z (Name k)) (sym (same_Some (struct (field m t gs) n) u e)) ∙ ap (λ hs. first_named (pairs hs) k) is ∙ first_kept fs w k
-step_into_struct fs n w (field m t gs) u ElementType is e = ap (λ z. step z ElementType) (sym (same_Some (struct (field m t gs) n) u e))
-
-pub step_kept : (t u : Tree) (w : PathPredicate) (f : Field) → w [] ≡ false → projected t w ≡ Some u → step u f ≡ option_and_then (λ x. projected x (after_step f w)) (step t f)
-step_kept (list t n) u w f root e = step_into_list t n w (projected t (after_step ElementType w)) u f refl (sym (kept_list t n w root) ∙ e)
-step_kept (fixed_size_list t k n) u w f root e = step_into_fixed t k n w (projected t (after_step ElementType w)) u f refl (sym (kept_fixed t k n w root) ∙ e)
-step_kept (struct fs n) u w f root e = step_into_struct fs n w (projected_fields fs w) u f refl (sym (kept_struct fs n w root) ∙ e)
-step_kept _ u w f root e = let q = rw root at e in cc
+    each_fields : (fs : Fields) (w : PathPredicate) → Q fs w (projected_fields fs w)
+    each_fields no_fields w = s.none w
+    each_fields (field n t rest) w =
+        let gs = projected_fields rest (without_field n w) in
+        by_option (projected t (after_step (Name n) w))
+        (λ none. subst (λ o. Q (field n t rest) w (prepend_kept n o gs)) (sym none) (s.left n t rest gs w none refl (each_fields rest (without_field n w))))
+        (λ x is. subst (λ o. Q (field n t rest) w (prepend_kept n o gs)) (sym is) (s.kept n t x rest gs w is (each_projection t x (after_step (Name n) w) is) (each_fields rest (without_field n w))))
 
 -- ---- something is kept exactly where a path of w exists
 
 pub named_first : (n m : List ℕ) (t : Tree) (rest : Fields) → n ≢ m → first_named (pairs (field n t rest)) m ≡ first_named (pairs rest) m
-named_first n m t rest ne = by_bool (bytes_eq n m) (λ e. absurd (ne ((bytes_eq-Decides n m).0 e))) (λ e. ap (λ b. cond b (Some t) (first_named (pairs rest) m)) e)
+named_first n m t rest ne = other_name n m _ _ ne
 
 pub named_itself : (n : List ℕ) (t : Tree) (rest : Fields) → first_named (pairs (field n t rest)) n ≡ Some t
-named_itself n t rest = ap (λ b. cond b (Some t) (first_named (pairs rest) n)) ((bytes_eq-Decides n n).1 refl)
+named_itself n t rest = taken_same_name n n _ _ refl
 
 -- a path of w that exists in the type
 pub record ExistingPath (t : Tree) (w : PathPredicate) : Type 0 where
@@ -131,48 +101,79 @@ pub record ExistingPath (t : Tree) (w : PathPredicate) : Type 0 where
 -- one that steps into a field
 record EnteredField (fs : Fields) (w : PathPredicate) : Type 0 where
   name : List ℕ
-  rest : List Field
-  wanted : w (Name name ∷ rest) ≡ true
   child : Tree
   first : first_named (pairs fs) name ≡ Some child
-  exists : ExistsIn child rest
-
-root_path : (t : Tree) (w : PathPredicate) → w [] ≡ true → ExistingPath t w
-root_path t w e = record { path = []; holds = e; exists = record { found = t; at = refl } }
+  below : ExistingPath child (after_step (Name name) w)
 
 extended_path : (t x : Tree) (w : PathPredicate) (f : Field) → step t f ≡ Some x → ExistingPath x (after_step f w) → ExistingPath t w
 extended_path t x w f is l = record { path = f ∷ l.path; holds = l.holds; exists = record { found = l.exists.found; at = (x, is, l.exists.at) } }
 
-mutual
-  pub kept_has_path : (t u : Tree) (w : PathPredicate) → projected t w ≡ Some u → ExistingPath t w
-  kept_has_path (list t n) u w e = by_bool (w []) (root_path (list t n) w) (λ root.
-      by_option (projected t (after_step ElementType w))
-      (λ none. let q = sym (ap (option_map (λ x. list x n)) none) ∙ sym (kept_list t n w root) ∙ e in cc)
-      (λ x is. extended_path (list t n) t w ElementType refl (kept_has_path t x (after_step ElementType w) is)))
-  kept_has_path (fixed_size_list t k n) u w e = by_bool (w []) (root_path (fixed_size_list t k n) w) (λ root.
-      by_option (projected t (after_step ElementType w))
-      (λ none. let q = sym (ap (option_map (λ x. fixed_size_list x k n)) none) ∙ sym (kept_fixed t k n w root) ∙ e in cc)
-      (λ x is. extended_path (fixed_size_list t k n) t w ElementType refl (kept_has_path t x (after_step ElementType w) is)))
-  kept_has_path (struct fs n) u w e = by_bool (w []) (root_path (struct fs n) w) (λ root.
-      let into = kept_enters_field fs w (λ none. let q = sym (ap (struct_with n) none) ∙ sym (kept_struct fs n w root) ∙ e in cc) in
-      extended_path (struct fs n) into.child w (Name into.name) into.first (record { path = into.rest; holds = into.wanted; exists = into.exists }))
-  kept_has_path _ u w e = by_bool (w []) (root_path _ w) (λ root. let q = rw root at e in cc)
+pub kept_has_path : (t u : Tree) (w : PathPredicate) → projected t w ≡ Some u → ExistingPath t w
+kept_has_path = each_projection (λ t w u. ExistingPath t w) (λ fs w gs. gs ≢ no_fields → EnteredField fs w) (record {
+  whole = λ t w root. record { path = []; holds = root; exists = record { found = t; at = refl } };
+  in_list = λ t x n w root l. extended_path (list t n) t w ElementType refl l;
+  in_fixed = λ t x k n w root l. extended_path (fixed_size_list t k n) t w ElementType refl l;
+  in_struct = λ fs gs n w root some into. let i = into some in extended_path (struct fs n) i.child w (Name i.name) i.first i.below;
+  none = λ w some. absurd (some refl);
+  kept = λ n t x fs gs w is l into some. record { name = n; child = t; first = named_itself n t fs; below = l };
+  left = λ n t fs gs w none is into some.
+      let i = into some in
+      let b = without_field_holds n w (Name i.name) i.below.path i.below.holds in
+      record { name = i.name; child = i.child; first = named_first n i.name t fs (λ e. b.0 (ap Name e)) ∙ i.first; below = record { path = i.below.path; holds = b.1; exists = i.below.exists } };
+})
 
-  kept_enters_field : (fs : Fields) (w : PathPredicate) → projected_fields fs w ≢ no_fields → EnteredField fs w
-  kept_enters_field no_fields w some = absurd (some refl)
-  kept_enters_field (field n t rest) w some =
-      by_option (projected t (after_step (Name n) w))
-      (λ none. let into = kept_enters_field rest (without_field n w) (λ e. some (ap (λ o. prepend_kept n o (projected_fields rest (without_field n w))) none ∙ e)) in
-      let b = without_field_holds n w (Name into.name) into.rest into.wanted in
-      record { name = into.name; rest = into.rest; wanted = b.1; child = into.child; first = named_first n into.name t rest (λ e. b.0 (ap Name e)) ∙ into.first; exists = into.exists })
-      (λ x is. let l = kept_has_path t x (after_step (Name n) w) is in
-      record { name = n; rest = l.path; wanted = l.holds; child = t; first = named_itself n t rest; exists = l.exists })
+pub projected_nothing : (t : Tree) → projected t no_path ≡ None
+projected_nothing t = by_option (projected t no_path) (λ e. e) (λ u is. let l = kept_has_path t u no_path is in let q = l.holds in cc)
+
+-- ---- fields by name
+
+none_then : (o : Option Tree) → option_and_then (λ x. projected x no_path) o ≡ None
+none_then None = refl
+none_then (Some x) = projected_nothing x
+
+first_here : (n : List ℕ) (o : Option Tree) (gs : Fields) → first_named (pairs gs) n ≡ None → first_named (pairs (prepend_kept n o gs)) n ≡ o
+first_here n None gs none = none
+first_here n (Some u) gs none = named_itself n u gs
+
+first_there : (n m : List ℕ) (o : Option Tree) (gs : Fields) → n ≢ m → first_named (pairs (prepend_kept n o gs)) m ≡ first_named (pairs gs) m
+first_there n m None gs ne = refl
+first_there n m (Some u) gs ne = named_first n m u gs ne
+
+-- the name of a field that is left out is absent
+absent : (n : List ℕ) (rest : Fields) (w : PathPredicate) → first_named (pairs (projected_fields rest (without_field n w))) n ≡ option_and_then (λ x. projected x (after_step (Name n) (without_field n w))) (first_named (pairs rest) n) → first_named (pairs (projected_fields rest (without_field n w))) n ≡ None
+absent n rest w e = e ∙ ap (λ v. option_and_then (λ x. projected x v) (first_named (pairs rest) n)) (after_without_same n w) ∙ none_then (first_named (pairs rest) n)
+
+-- by a name the projection has the projection of the first field of that name
+pub first_kept : (fs : Fields) (w : PathPredicate) (m : List ℕ) → first_named (pairs (projected_fields fs w)) m ≡ option_and_then (λ x. projected x (after_step (Name m) w)) (first_named (pairs fs) m)
+first_kept no_fields w m = refl
+first_kept (field n t rest) w m = by_name n m
+    (λ e. subst (λ z. first_named (pairs (projected_fields (field n t rest) w)) z ≡ option_and_then (λ x. projected x (after_step (Name z) w)) (first_named (pairs (field n t rest)) z)) e
+    (first_here n (projected t (after_step (Name n) w)) (projected_fields rest (without_field n w)) (absent n rest w (first_kept rest (without_field n w) n))
+    ∙ sym (ap (option_and_then (λ x. projected x (after_step (Name n) w))) (named_itself n t rest))))
+    (λ ne. first_there n m (projected t (after_step (Name n) w)) (projected_fields rest (without_field n w)) ne
+    ∙ first_kept rest (without_field n w) m
+    ∙ ap (λ v. option_and_then (λ x. projected x v) (first_named (pairs rest) m)) (after_without_other n m w ne)
+    ∙ sym (ap (option_and_then (λ x. projected x (after_step (Name m) w))) (named_first n m t rest ne)))
+
+pub absent_kept : (n : List ℕ) (rest : Fields) (w : PathPredicate) → first_named (pairs (projected_fields rest (without_field n w))) n ≡ None
+absent_kept n rest w = absent n rest w (first_kept rest (without_field n w) n)
+
+-- ---- a step into the projection
+
+pub step_kept : (t u : Tree) (w : PathPredicate) (f : Field) → w [] ≡ false → projected t w ≡ Some u → step u f ≡ option_and_then (λ x. projected x (after_step f w)) (step t f)
+step_kept (list t n) u w (Name m) root e = let x = mapped _ _ u (sym (kept_list t n w root) ∙ e) in ap (λ z. step z (Name m)) (sym x.2)
+step_kept (list t n) u w ElementType root e = let x = mapped _ _ u (sym (kept_list t n w root) ∙ e) in ap (λ z. step z ElementType) (sym x.2) ∙ sym x.1
+step_kept (fixed_size_list t k n) u w (Name m) root e = let x = mapped _ _ u (sym (kept_fixed t k n w root) ∙ e) in ap (λ z. step z (Name m)) (sym x.2)
+step_kept (fixed_size_list t k n) u w ElementType root e = let x = mapped _ _ u (sym (kept_fixed t k n w root) ∙ e) in ap (λ z. step z ElementType) (sym x.2) ∙ sym x.1
+step_kept (struct fs n) u w (Name m) root e = ap (λ z. step z (Name m)) (sym (with_is n _ u (sym (kept_struct fs n w root) ∙ e))) ∙ first_kept fs w m
+step_kept (struct fs n) u w ElementType root e = ap (λ z. step z ElementType) (sym (with_is n _ u (sym (kept_struct fs n w root) ∙ e)))
+step_kept _ u w f root e = let q = rw root at e in cc
 
 struct_some : (n : Nullability) (gs : Fields) (m : List ℕ) (v : Tree) → first_named (pairs gs) m ≡ Some v → (u : Tree) × (struct_with n gs ≡ Some u)
 struct_some n no_fields m v e = cc
 struct_some n (field k t gs) m v e = (struct (field k t gs) n, refl)
 
-pub step_some : (t y v : Tree) (w : PathPredicate) (f : Field) → w [] ≡ false → step t f ≡ Some y → projected y (after_step f w) ≡ Some v → (u : Tree) × (projected t w ≡ Some u)
+step_some : (t y v : Tree) (w : PathPredicate) (f : Field) → w [] ≡ false → step t f ≡ Some y → projected y (after_step f w) ≡ Some v → (u : Tree) × (projected t w ≡ Some u)
 step_some (list t n) y v w ElementType root is e =
     (list v n, kept_list t n w root ∙ ap (option_map (λ u. list u n)) (ap (λ x. projected x (after_step ElementType w)) (same_Some t y is) ∙ e))
 step_some (fixed_size_list t k n) y v w ElementType root is e =
@@ -187,3 +188,36 @@ path_is_kept [] t x w e a = (t, kept_root t w e)
 path_is_kept (f ∷ p) t x w e a = by_bool (w [])
     (λ root. (t, kept_root t w root))
     (λ root. let r = path_is_kept p a.0 x (after_step f w) e a.2 in step_some t a.0 r.0 w f root a.1 r.1)
+
+pub kept_exactly : (t : Tree) (w : PathPredicate) → IsSome (projected t w) ↔ ((p : List Field) × IsTrue (w p) × ExistsIn t p)
+kept_exactly t w = (
+  λ s. by_option (projected t w) (λ none. absurd (false≢true (subst IsSome none s))) (λ u is. let l = kept_has_path t u w is in (l.path, l.holds, l.exists)),
+  λ r. subst IsSome (sym (path_is_kept r.0 t r.2.found w r.1 r.2.at).1) refl,
+)
+
+-- ---- what the projection has along a path
+
+steps_join : {A B C : Type 0} (o : Option A) (h : A → Option B) (g : B → Option C) → option_and_then g (option_and_then h o) ≡ option_and_then (λ x. option_and_then g (h x)) o
+steps_join None h g = refl
+steps_join (Some x) h g = refl
+
+-- after the first step
+pub along_step : (t : Tree) (w : PathPredicate) (f : Field) (p : List Field) → w [] ≡ false → option_and_then (λ u. along u (f ∷ p)) (projected t w) ≡ option_and_then (λ x. option_and_then (λ u. along u p) (projected x (after_step f w))) (step t f)
+along_step t w f p root = by_option (projected t w)
+    (λ none. ap (option_and_then (λ u. along u (f ∷ p))) none ∙ sym (by_option (step t f)
+    (λ e. ap (option_and_then (λ x. option_and_then (λ u. along u p) (projected x (after_step f w)))) e)
+    (λ x e. ap (option_and_then (λ y. option_and_then (λ u. along u p) (projected y (after_step f w)))) e
+    ∙ by_option (projected x (after_step f w))
+    (λ is. ap (option_and_then (λ u. along u p)) is)
+    (λ v is. let some = step_some t x v w f root e is in let q = sym none ∙ some.1 in cc))))
+    (λ u is.
+    ap (option_and_then (λ x. along x (f ∷ p))) is
+    ∙ ap (option_and_then (λ x. along x p)) (step_kept t u w f root is)
+    ∙ steps_join (step t f) (λ x. projected x (after_step f w)) (λ x. along x p))
+
+-- at or below a path of w it has what the type has
+pub along_kept : (p r : List Field) (t : Tree) (w : PathPredicate) → w p ≡ true → option_and_then (λ u. along u (p ++ r)) (projected t w) ≡ along t (p ++ r)
+along_kept [] r t w is = ap (option_and_then (λ u. along u r)) (kept_root t w is)
+along_kept (f ∷ p) r t w is = by_bool (w [])
+    (λ root. ap (option_and_then (λ u. along u ((f ∷ p) ++ r))) (kept_root t w root))
+    (λ root. along_step t w f (p ++ r) root ∙ (λ i. option_and_then (λ x. along_kept p r x (after_step f w) is i) (step t f)))

@@ -1,27 +1,28 @@
 -- SPDX-License-Identifier: Apache-2.0
 -- SPDX-FileCopyrightText: Copyright the Vortex contributors
 
--- A restricted value is of the projection, and at and below the paths the same is found in it.
-use Rattle.std.proofs.Common.{◌≡◌, ◌↔◌, inl, inr, ℕ, suc, List, [], ◌∷◌, ◌++◌, true, false, cond, Option, Some, None, refl, sym, ap, subst, ◌∙◌}
-use Rattle.std.specs.Option.{option_map}
-use Rattle.std.specs.Str.{bytes_eq}
+-- A restricted value is of the projection, each value of the projection is the restriction of a value of the type, with
+-- samples where a field was left out, and at and below the paths the same is found in a value and in its restriction.
+use Rattle.std.proofs.Common.{◌≡◌, ◌≢◌, ◌↔◌, inl, inr, ℕ, suc, List, ◌∷◌, ◌++◌, [], true, false, Option, Some, None, refl, sym, ap, subst, ◌∙◌}
+use Rattle.std.specs.Prelude.{IfSome}
 use Rattle.std.proofs.lemmas.Option.{same_Some}
-use Rattle.std.proofs.lemmas.Slice.Eq.{bytes_eq-Decides}
 use Rattle.dtype_base.specs.declared.nullability.Nullability.{Nullability}
 use Rattle.dtype_types.specs.parts.Lookups.{first_named}
 use Rattle.dtype_types.specs.tree.Tree.{Tree, Fields, no_fields, field, pairs, list, fixed_size_list, struct}
+use Rattle.dtype_types.specs.tree.Valid.{Valid, ValidFields}
+use Rattle.dtype_types.specs.values.Sample.{sample}
 use Rattle.dtype_types.specs.values.Value.{Value, Values, no_values, value, Named, no_named, named, null_value, items, fixed_items, record_of, Of, NamedOf, Each, value_count}
+use Rattle.dtype_types.proofs.lemmas.Lookups.{other_name, taken_same_name}
+use Rattle.dtype_types.proofs.lemmas.SampleLaws.{sample_of}
 use Rattle.dtype_paths.specs.At.{At, step}
 use Rattle.dtype_paths.specs.Found.{Found, Member, first_value}
 use Rattle.dtype_paths.specs.declared.field.Field.{Field}
 use Rattle.dtype_paths.specs.declared.field.Field.TheVariants.{Name, ElementType}
-use Rattle.dtype_paths.proofs.lemmas.Cases.{by_bool, by_option}
-use Rattle.dtype_projection.specs.Projected.{PathPredicate, after_step, without_field, projected, projected_fields, prepend_kept}
+use Rattle.dtype_paths.proofs.lemmas.Cases.{by_bool}
+use Rattle.dtype_projection.specs.Projected.{PathPredicate, after_step, without_field, projected, prepend_kept}
 use Rattle.dtype_projection.specs.Restricted.{each_value, each_item, in_record, prepend_pair, restricted, restricted_pairs}
-use Rattle.dtype_projection.proofs.lemmas.Projections.{with_is, whole_kept, kept_list, kept_fixed, kept_struct, path_is_kept}
-use Rattle.dtype_projection.proofs.lemmas.Predicates.{after_without_other}
-
--- ---- the restriction by whether w has the root
+use Rattle.dtype_projection.proofs.lemmas.Predicates.{by_name, after_without_other}
+use Rattle.dtype_projection.proofs.lemmas.Projections.{each_projection, named_first, named_itself, path_is_kept}
 
 pub restricted_root : (t : Tree) (w : PathPredicate) (v : Value) → w [] ≡ true → restricted t w v ≡ v
 restricted_root (list t n) w v e = rw e refl
@@ -29,22 +30,13 @@ restricted_root (fixed_size_list t k n) w v e = rw e refl
 restricted_root (struct fs n) w v e = rw e refl
 restricted_root _ w v e = refl
 
-pub restricted_list : (t : Tree) (n : Nullability) (w : PathPredicate) (v : Value) → w [] ≡ false → restricted (list t n) w v ≡ each_item (restricted t (after_step ElementType w)) v
-restricted_list t n w v e = rw e refl
-
-pub restricted_fixed : (t : Tree) (k : ℕ) (n : Nullability) (w : PathPredicate) (v : Value) → w [] ≡ false → restricted (fixed_size_list t k n) w v ≡ each_item (restricted t (after_step ElementType w)) v
-restricted_fixed t k n w v e = rw e refl
-
-pub restricted_struct : (fs : Fields) (n : Nullability) (w : PathPredicate) (v : Value) → w [] ≡ false → restricted (struct fs n) w v ≡ in_record (restricted_pairs fs w) v
-restricted_struct fs n w v e = rw e refl
-
 -- ---- a restricted value is of the projection
 
 of_each : (t u : Tree) (g : Value → Value) (vs : Values) → ((x : Value) → Of x t → Of (g x) u) → Each (λ x. Of x t) vs → Each (λ x. Of x u) (each_value g vs)
 of_each t u g no_values on h = tt
 of_each t u g (value v vs) on h = (on v h.0, of_each t u g vs on h.1)
 
-pub count_each : (g : Value → Value) (vs : Values) → value_count (each_value g vs) ≡ value_count vs
+count_each : (g : Value → Value) (vs : Values) → value_count (each_value g vs) ≡ value_count vs
 count_each g no_values = refl
 count_each g (value v vs) = ap suc (count_each g vs)
 
@@ -63,134 +55,149 @@ of_record fs gs n g null_value on h = h
 of_record fs gs n g (record_of nvs) on h = on nvs h
 of_record fs gs n g _ on h = absurd h
 
-mutual
-  pub of_restricted : (t u : Tree) (w : PathPredicate) → projected t w ≡ Some u → (v : Value) → Of v t → Of (restricted t w v) u
-  of_restricted (list t n) u w e v h = by_bool (w [])
-      (λ root. subst (λ z. Of z u) (sym (restricted_root (list t n) w v root)) (subst (Of v) (whole_kept (list t n) u w root e) h))
-      (λ root. by_option (projected t (after_step ElementType w))
-      (λ none. let q = sym (ap (option_map (λ x. list x n)) none) ∙ sym (kept_list t n w root) ∙ e in cc)
-      (λ x is. subst (λ z. Of z u) (sym (restricted_list t n w v root))
-      (subst (Of (each_item (restricted t (after_step ElementType w)) v)) (same_Some (list x n) u (sym (ap (option_map (λ x. list x n)) is) ∙ sym (kept_list t n w root) ∙ e))
-      (of_list t x n (restricted t (after_step ElementType w)) v (of_restricted t x (after_step ElementType w) is) h))))
-  of_restricted (fixed_size_list t k n) u w e v h = by_bool (w [])
-      (λ root. subst (λ z. Of z u) (sym (restricted_root (fixed_size_list t k n) w v root)) (subst (Of v) (whole_kept (fixed_size_list t k n) u w root e) h))
-      (λ root. by_option (projected t (after_step ElementType w))
-      (λ none. let q = sym (ap (option_map (λ x. fixed_size_list x k n)) none) ∙ sym (kept_fixed t k n w root) ∙ e in cc)
-      (λ x is. subst (λ z. Of z u) (sym (restricted_fixed t k n w v root))
-      (subst (Of (each_item (restricted t (after_step ElementType w)) v)) (same_Some (fixed_size_list x k n) u (sym (ap (option_map (λ x. fixed_size_list x k n)) is) ∙ sym (kept_fixed t k n w root) ∙ e))
-      (of_fixed t x k n (restricted t (after_step ElementType w)) v (of_restricted t x (after_step ElementType w) is) h))))
-  of_restricted (struct fs n) u w e v h = by_bool (w [])
-      (λ root. subst (λ z. Of z u) (sym (restricted_root (struct fs n) w v root)) (subst (Of v) (whole_kept (struct fs n) u w root e) h))
-      (λ root. subst (λ z. Of z u) (sym (restricted_struct fs n w v root))
-      (subst (Of (in_record (restricted_pairs fs w) v)) (with_is n (projected_fields fs w) u (sym (kept_struct fs n w root) ∙ e))
-      (of_record fs (projected_fields fs w) n (restricted_pairs fs w) v (of_restricted_pairs fs w) h)))
-  of_restricted t u w e v h = by_bool (w [])
-      (λ root. subst (Of v) (whole_kept t u w root e) h)
-      (λ root. let q = rw root at e in cc)
+-- the pairs from that of a field on, of which o is kept
+of_pairs : (n : List ℕ) (t : Tree) (o : Option Tree) (fs gs : Fields) (w : PathPredicate) → projected t (after_step (Name n) w) ≡ o → IfSome o (λ x. (v : Value) → Of v t → Of (restricted t (after_step (Name n) w) v) x)
+    → ((nvs : Named) → NamedOf nvs fs → NamedOf (restricted_pairs fs (without_field n w) nvs) gs) → (nvs : Named) → NamedOf nvs (field n t fs) → NamedOf (restricted_pairs (field n t fs) w nvs) (prepend_kept n o gs)
+of_pairs n t o fs gs w is on later no_named h = absurd h
+of_pairs n t None fs gs w is on later (named m v more) h =
+    subst (λ p. NamedOf (prepend_pair m p (restricted t (after_step (Name n) w) v) (restricted_pairs fs (without_field n w) more)) gs) (sym is) (later more h.2)
+of_pairs n t (Some x) fs gs w is on later (named m v more) h =
+    subst (λ p. NamedOf (prepend_pair m p (restricted t (after_step (Name n) w) v) (restricted_pairs fs (without_field n w) more)) (field n x gs)) (sym is) (h.0, on v h.1, later more h.2)
 
-  of_restricted_pairs : (fs : Fields) (w : PathPredicate) (nvs : Named) → NamedOf nvs fs → NamedOf (restricted_pairs fs w nvs) (projected_fields fs w)
-  of_restricted_pairs no_fields w nvs h = h
-  of_restricted_pairs (field n t rest) w no_named h = absurd h
-  of_restricted_pairs (field n t rest) w (named m v more) h = by_option (projected t (after_step (Name n) w))
-      (λ none. subst (λ o. NamedOf (prepend_pair m o (restricted t (after_step (Name n) w) v) (restricted_pairs rest (without_field n w) more)) (prepend_kept n o (projected_fields rest (without_field n w)))) (sym none)
-      (of_restricted_pairs rest (without_field n w) more h.2))
-      (λ x is. subst (λ o. NamedOf (prepend_pair m o (restricted t (after_step (Name n) w) v) (restricted_pairs rest (without_field n w) more)) (prepend_kept n o (projected_fields rest (without_field n w)))) (sym is)
-      (h.0, of_restricted t x (after_step (Name n) w) is v h.1, of_restricted_pairs rest (without_field n w) more h.2))
+pub of_restricted : (t u : Tree) (w : PathPredicate) → projected t w ≡ Some u → (v : Value) → Of v t → Of (restricted t w v) u
+of_restricted = each_projection (λ t w u. (v : Value) → Of v t → Of (restricted t w v) u) (λ fs w gs. (nvs : Named) → NamedOf nvs fs → NamedOf (restricted_pairs fs w nvs) gs) (record {
+  whole = λ t w root v h. subst (λ z. Of z t) (sym (restricted_root t w v root)) h;
+  in_list = λ t x n w root on v h. rw root (of_list t x n (restricted t (after_step ElementType w)) v on h);
+  in_fixed = λ t x k n w root on v h. rw root (of_fixed t x k n (restricted t (after_step ElementType w)) v on h);
+  in_struct = λ fs gs n w root some on v h. rw root (of_record fs gs n (restricted_pairs fs w) v on h);
+  none = λ w nvs h. h;
+  kept = λ n t x fs gs w is on later. of_pairs n t (Some x) fs gs w is on later;
+  left = λ n t fs gs w none is later. of_pairs n t None fs gs w none tt later;
+})
+
+-- ---- each value of the projection is a restricted value
+
+-- g gives each value of u for some value of t
+abbrev IsOnto : Tree → Tree → (Value → Value) → Type 0
+IsOnto t u g = (x : Value) → Of x u → (v : Value) × Of v t × (g v ≡ x)
+
+each_onto : (t u : Tree) (g : Value → Value) (xs : Values) → IsOnto t u g → Each (λ x. Of x u) xs → (vs : Values) × Each (λ v. Of v t) vs × (each_value g vs ≡ xs)
+each_onto t u g no_values on h = (no_values, tt, refl)
+each_onto t u g (value x xs) on h =
+    let here = on x h.0 in
+    let rest = each_onto t u g xs on h.1 in
+    (value here.0 rest.0, (here.1, rest.1), λ i. value (here.2 i) (rest.2 i))
+
+onto_list : (t u : Tree) (n : Nullability) (g : Value → Value) → IsOnto t u g → IsOnto (list t n) (list u n) (each_item g)
+onto_list t u n g on null_value h = (null_value, h, refl)
+onto_list t u n g on (items xs) h = let r = each_onto t u g xs on h in (items r.0, r.1, ap items r.2)
+onto_list t u n g on _ h = absurd h
+
+onto_fixed : (t u : Tree) (k : ℕ) (n : Nullability) (g : Value → Value) → IsOnto t u g → IsOnto (fixed_size_list t k n) (fixed_size_list u k n) (each_item g)
+onto_fixed t u k n g on null_value h = (null_value, h, refl)
+onto_fixed t u k n g on (fixed_items xs) h =
+    let r = each_onto t u g xs on h.1 in
+    (fixed_items r.0, (sym (count_each g r.0) ∙ ap value_count r.2 ∙ h.0, r.1), ap fixed_items r.2)
+onto_fixed t u k n g on _ h = absurd h
+
+onto_record : (fs gs : Fields) (n : Nullability) (g : Named → Named) → ((nvs : Named) → NamedOf nvs gs → (mvs : Named) × NamedOf mvs fs × (g mvs ≡ nvs)) → IsOnto (struct fs n) (struct gs n) (in_record g)
+onto_record fs gs n g on null_value h = (null_value, h, refl)
+onto_record fs gs n g on (record_of nvs) h = let r = on nvs h in (record_of r.0, r.1, ap record_of r.2)
+onto_record fs gs n g on _ h = absurd h
+
+-- the first pair, of a field that is kept, and the rest
+onto_first : (n : List ℕ) (t x : Tree) (rest gs : Fields) (w : PathPredicate) (nvs : Named) → projected t (after_step (Name n) w) ≡ Some x → IsOnto t x (restricted t (after_step (Name n) w))
+    → ((more : Named) → NamedOf more (gs) → (mvs : Named) × NamedOf mvs rest × (restricted_pairs rest (without_field n w) mvs ≡ more))
+    → NamedOf nvs (field n x (gs)) → (mvs : Named) × NamedOf mvs (field n t rest) × (restricted_pairs (field n t rest) w mvs ≡ nvs)
+onto_first n t x rest gs w no_named is here later o = absurd o
+onto_first n t x rest gs w (named m v more) is here later o =
+    let a = here v o.1 in
+    let r = later more o.2 in (
+      named m a.0 r.0,
+      (o.0, a.1, r.1),
+      ap (λ p. prepend_pair m p (restricted t (after_step (Name n) w) a.0) (restricted_pairs rest (without_field n w) r.0)) is ∙ (λ i. named m (a.2 i) (r.2 i)),
+    )
+
+pub onto : (t u : Tree) (w : PathPredicate) → projected t w ≡ Some u → Valid t → IsOnto t u (restricted t w)
+onto = each_projection (λ t w u. Valid t → IsOnto t u (restricted t w)) (λ fs w gs. ValidFields fs → (nvs : Named) → NamedOf nvs gs → (mvs : Named) × NamedOf mvs fs × (restricted_pairs fs w mvs ≡ nvs)) (record {
+  whole = λ t w root h x o. (x, o, restricted_root t w x root);
+  in_list = λ t x n w root on h. rw root (onto_list t x n (restricted t (after_step ElementType w)) (on h));
+  in_fixed = λ t x k n w root on h. rw root (onto_fixed t x k n (restricted t (after_step ElementType w)) (on h.1));
+  in_struct = λ fs gs n w root some on h. rw root (onto_record fs gs n (restricted_pairs fs w) (on h));
+  none = λ w h nvs o. (nvs, o, refl);
+  kept = λ n t x fs gs w is on later h nvs o. onto_first n t x fs gs w nvs is (on h.0) (later h.1) o;
+  left = λ n t fs gs w none is later h nvs o.
+      let r = later h.1 nvs o in
+      (named n (sample t) r.0, (refl, sample_of t h.0, r.1), ap (λ p. prepend_pair n p (restricted t (after_step (Name n) w) (sample t)) (restricted_pairs fs (without_field n w) r.0)) none ∙ r.2);
+})
 
 -- ---- at and below the paths the same is found
 
--- some item has the property P
-Within : Values → (Value → Type 0) → Type 0
-Within vs P = (y : Value) × Member vs y × P y
+-- of some item
+found_each : (t : Tree) (g : Value → Value) (P Q : Value → Type 0) (vs : Values) → ((y : Value) → Of y t → P y ↔ Q (g y)) → Each (λ y. Of y t) vs → ((y : Value) × Member vs y × P y) ↔ ((z : Value) × Member (each_value g vs) z × Q z)
+found_each t g P Q no_values on h = (λ f. absurd f.1, λ f. absurd f.1)
+found_each t g P Q (value v vs) on h =
+    let rest = found_each t g P Q vs on h.1 in (
+      λ f. elim f.1 [ inl e ↦ (g v, inl refl, (on v h.0).0 (subst P (sym e) f.2)) | inr m ↦ let r = rest.0 (f.0, m, f.2) in (r.0, inr r.1, r.2) ],
+      λ f. elim f.1 [ inl e ↦ (v, inl refl, (on v h.0).1 (subst Q (sym e) f.2)) | inr m ↦ let r = rest.1 (f.0, m, f.2) in (r.0, inr r.1, r.2) ],
+    )
 
-within_each : (t : Tree) (g : Value → Value) (P Q : Value → Type 0) (vs : Values) → ((y : Value) → Of y t → P y → Q (g y)) → Each (λ y. Of y t) vs → (y : Value) → Member vs y → P y → (z : Value) × Member (each_value g vs) z × Q z
-within_each t g P Q no_values on h y m p = absurd m
-within_each t g P Q (value v vs) on h y (inl e) p = (g v, inl refl, on v h.0 (subst P (sym e) p))
-within_each t g P Q (value v vs) on h y (inr m) p = let r = within_each t g P Q vs on h.1 y m p in (r.0, inr r.1, r.2)
-
-each_within : (t : Tree) (g : Value → Value) (P Q : Value → Type 0) (vs : Values) → ((y : Value) → Of y t → Q (g y) → P y) → Each (λ y. Of y t) vs → (z : Value) → Member (each_value g vs) z → Q z → (y : Value) × Member vs y × P y
-each_within t g P Q no_values on h z m q = absurd m
-each_within t g P Q (value v vs) on h z (inl e) q = (v, inl refl, on v h.0 (subst Q (sym e) q))
-each_within t g P Q (value v vs) on h z (inr m) q = let r = each_within t g P Q vs on h.1 z m q in (r.0, inr r.1, r.2)
-
--- the items of a list
 found_items : (t : Tree) (n : Nullability) (g : Value → Value) (q : List Field) (x v : Value) → ((y : Value) → Of y t → Found y q x ↔ Found (g y) q x) → Of v (list t n) → Found v (ElementType ∷ q) x ↔ Found (each_item g v) (ElementType ∷ q) x
-found_items t n g q x (items vs) on h = (
-  λ f. within_each t g (λ y. Found y q x) (λ y. Found y q x) vs (λ y o. (on y o).0) h f.0 f.1 f.2,
-  λ f. each_within t g (λ y. Found y q x) (λ y. Found y q x) vs (λ y o. (on y o).1) h f.0 f.1 f.2,
-)
+found_items t n g q x (items vs) on h = found_each t g (λ y. Found y q x) (λ y. Found y q x) vs on h
 found_items t n g q x null_value on h = (λ f. f, λ f. f)
 found_items t n g q x _ on h = absurd h
 
 found_fixed : (t : Tree) (k : ℕ) (n : Nullability) (g : Value → Value) (q : List Field) (x v : Value) → ((y : Value) → Of y t → Found y q x ↔ Found (g y) q x) → Of v (fixed_size_list t k n) → Found v (ElementType ∷ q) x ↔ Found (each_item g v) (ElementType ∷ q) x
-found_fixed t k n g q x (fixed_items vs) on h = (
-  λ f. within_each t g (λ y. Found y q x) (λ y. Found y q x) vs (λ y o. (on y o).0) h.1 f.0 f.1 f.2,
-  λ f. each_within t g (λ y. Found y q x) (λ y. Found y q x) vs (λ y o. (on y o).1) h.1 f.0 f.1 f.2,
-)
+found_fixed t k n g q x (fixed_items vs) on h = found_each t g (λ y. Found y q x) (λ y. Found y q x) vs on h.1
 found_fixed t k n g q x null_value on h = (λ f. f, λ f. f)
 found_fixed t k n g q x _ on h = absurd h
 
--- the value that is found by a name is of the type of the first field of that name
-first_of_field : (fs : Fields) (nvs : Named) (m : List ℕ) (c : Tree) (y : Value) → NamedOf nvs fs → first_named (pairs fs) m ≡ Some c → first_value nvs m ≡ Some y → Of y c
-first_of_field no_fields nvs m c y h e is = cc
-first_of_field (field n t rest) no_named m c y h e is = absurd h
-first_of_field (field n t rest) (named k v more) m c y h e is = by_bool (bytes_eq n m)
-    (λ b. subst (Of y) (same_Some t c (sym (ap (λ b. cond b (Some t) (first_named (pairs rest) m)) b) ∙ e))
-    (subst (λ z. Of z t) (same_Some v y (sym (ap (λ b. cond b (Some v) (first_value more m)) (ap (λ z. bytes_eq z m) h.0 ∙ b)) ∙ is)) h.1))
-    (λ b. first_of_field rest more m c y h.2 (sym (ap (λ b. cond b (Some t) (first_named (pairs rest) m)) b) ∙ e)
-    (sym (ap (λ b. cond b (Some v) (first_value more m)) (ap (λ z. bytes_eq z m) h.0 ∙ b)) ∙ is))
+-- of the first pair of a name, where it is v, and r when restricted
+found_first : (o p : Option Value) (v r : Value) (q : List Field) (x : Value) → o ≡ Some v → p ≡ Some r → Found v q x ↔ Found r q x → ((y : Value) × (o ≡ Some y) × Found y q x) ↔ ((z : Value) × (p ≡ Some z) × Found z q x)
+found_first o p v r q x a b on = (
+  λ f. (r, b, on.0 (subst (λ y. Found y q x) (same_Some f.0 v (sym f.1 ∙ a)) f.2)),
+  λ f. (v, a, on.1 (subst (λ y. Found y q x) (same_Some f.0 r (sym f.1 ∙ b)) f.2)),
+)
 
-past_pair : (k m : List ℕ) (o : Option Tree) (v : Value) (more : Named) → bytes_eq k m ≡ false → first_value (prepend_pair k o v more) m ≡ first_value more m
-past_pair k m None v more e = refl
-past_pair k m (Some u) v more e = ap (λ b. cond b (Some v) (first_value more m)) e
+past_pair : (k m : List ℕ) (o : Option Tree) (v : Value) (more : Named) → k ≢ m → first_value (prepend_pair k o v more) m ≡ first_value more m
+past_pair k m None v more ne = refl
+past_pair k m (Some u) v more ne = other_name k m _ _ ne
 
--- what the restricted value has by a name
-first_restricted : (fs : Fields) (w : PathPredicate) (nvs : Named) (m : List ℕ) (c u : Tree) → NamedOf nvs fs → first_named (pairs fs) m ≡ Some c → projected c (after_step (Name m) w) ≡ Some u → first_value (restricted_pairs fs w nvs) m ≡ option_map (restricted c (after_step (Name m) w)) (first_value nvs m)
-first_restricted no_fields w nvs m c u h e is = cc
-first_restricted (field n t rest) w no_named m c u h e is = absurd h
-first_restricted (field n t rest) w (named k v more) m c u h e is = by_bool (bytes_eq n m)
-    (λ b.
-    let tc : t ≡ c = same_Some t c (sym (ap (λ b. cond b (Some t) (first_named (pairs rest) m)) b) ∙ e) in
-    let nm : n ≡ m = (bytes_eq-Decides n m).0 b in
-    let km : bytes_eq k m ≡ true = ap (λ z. bytes_eq z m) h.0 ∙ b in
+found_pairs : (fs : Fields) (w : PathPredicate) (nvs : Named) (m : List ℕ) (c u : Tree) (q : List Field) (x : Value) → ((y : Value) → Of y c → Found y q x ↔ Found (restricted c (after_step (Name m) w) y) q x)
+    → first_named (pairs fs) m ≡ Some c → projected c (after_step (Name m) w) ≡ Some u → NamedOf nvs fs → Found (record_of nvs) (Name m ∷ q) x ↔ Found (record_of (restricted_pairs fs w nvs)) (Name m ∷ q) x
+found_pairs no_fields w nvs m c u q x on e is h = cc
+found_pairs (field n t rest) w no_named m c u q x on e is h = absurd h
+found_pairs (field n t rest) w (named k v more) m c u q x on e is h = by_name n m
+    (λ nm.
+    let tc : t ≡ c = same_Some t c (sym (ap (first_named (pairs (field n t rest))) (sym nm) ∙ named_itself n t rest) ∙ e) in
     let kept : projected t (after_step (Name n) w) ≡ Some u = (λ i. projected (tc i) (after_step (Name (nm i)) w)) ∙ is in
-    ap (λ o. first_value (prepend_pair k o (restricted t (after_step (Name n) w) v) (restricted_pairs rest (without_field n w) more)) m) kept
-    ∙ ap (λ b. cond b (Some (restricted t (after_step (Name n) w) v)) (first_value (restricted_pairs rest (without_field n w) more) m)) km
-    ∙ (λ i. Some (restricted (tc i) (after_step (Name (nm i)) w) v))
-    ∙ sym (ap (λ b. option_map (restricted c (after_step (Name m) w)) (cond b (Some v) (first_value more m))) km))
-    (λ b.
-    let km : bytes_eq k m ≡ false = ap (λ z. bytes_eq z m) h.0 ∙ b in
-    let same : after_step (Name m) (without_field n w) ≡ after_step (Name m) w = after_without_other n m w (λ q. let t : bytes_eq n m ≡ true = (bytes_eq-Decides n m).1 q in cc) in
-    past_pair k m (projected t (after_step (Name n) w)) (restricted t (after_step (Name n) w) v) (restricted_pairs rest (without_field n w) more) km
-    ∙ first_restricted rest (without_field n w) more m c u h.2 (sym (ap (λ b. cond b (Some t) (first_named (pairs rest) m)) b) ∙ e) (ap (projected c) same ∙ is)
-    ∙ ap (λ z. option_map (restricted c z) (first_value more m)) same
-    ∙ sym (ap (λ b. option_map (restricted c (after_step (Name m) w)) (cond b (Some v) (first_value more m))) km))
+    found_first _ _ v (restricted c (after_step (Name m) w) v) q x
+    (taken_same_name k m _ _ (h.0 ∙ nm))
+    (ap (λ o. first_value (prepend_pair k o (restricted t (after_step (Name n) w) v) (restricted_pairs rest (without_field n w) more)) m) kept
+    ∙ taken_same_name k m _ _ (h.0 ∙ nm)
+    ∙ (λ i. Some (restricted (tc i) (after_step (Name (nm i)) w) v)))
+    (on v (subst (Of v) tc h.1)))
+    (λ ne.
+    let km = λ (same : k ≡ m). ne (sym h.0 ∙ same) in
+    let same : after_step (Name m) (without_field n w) ≡ after_step (Name m) w = after_without_other n m w ne in
+    let later = found_pairs rest (without_field n w) more m c u q x (subst (λ z. (y : Value) → Of y c → Found y q x ↔ Found (restricted c z y) q x) (sym same) on)
+    (sym (named_first n m t rest ne) ∙ e) (ap (projected c) same ∙ is) h.2 in
+    let past : first_value (named k v more) m ≡ first_value more m = other_name k m _ _ km in
+    let over = past_pair k m (projected t (after_step (Name n) w)) (restricted t (after_step (Name n) w) v) (restricted_pairs rest (without_field n w) more) km in
+    (λ f. let r = later.0 (f.0, sym past ∙ f.1, f.2) in (r.0, over ∙ r.1, r.2), λ f. let r = later.1 (f.0, sym over ∙ f.1, f.2) in (r.0, past ∙ r.1, r.2)))
 
 found_named : (fs : Fields) (n : Nullability) (w : PathPredicate) (m : List ℕ) (c u : Tree) (q : List Field) (x v : Value) → ((y : Value) → Of y c → Found y q x ↔ Found (restricted c (after_step (Name m) w) y) q x)
     → first_named (pairs fs) m ≡ Some c → projected c (after_step (Name m) w) ≡ Some u → Of v (struct fs n) → Found v (Name m ∷ q) x ↔ Found (in_record (restricted_pairs fs w) v) (Name m ∷ q) x
-found_named fs n w m c u q x (record_of nvs) on e is h =
-    let first = first_restricted fs w nvs m c u h e is in (
-      λ f. (restricted c (after_step (Name m) w) f.0, first ∙ ap (option_map (restricted c (after_step (Name m) w))) f.1, (on f.0 (first_of_field fs nvs m c f.0 h e f.1)).0 f.2),
-      λ f. by_option (first_value nvs m)
-          (λ none. let r = sym f.1 ∙ first ∙ ap (option_map (restricted c (after_step (Name m) w))) none in cc)
-          (λ y at.
-          let r : restricted c (after_step (Name m) w) y ≡ f.0 = same_Some _ f.0 (sym (first ∙ ap (option_map (restricted c (after_step (Name m) w))) at) ∙ f.1) in
-          (y, at, (on y (first_of_field fs nvs m c y h e at)).1 (subst (λ z. Found z q x) (sym r) f.2))),
-    )
+found_named fs n w m c u q x (record_of nvs) on e is h = found_pairs fs w nvs m c u q x on e is h
 found_named fs n w m c u q x null_value on e is h = (λ f. f, λ f. f)
 found_named fs n w m c u q x _ on e is h = absurd h
 
 -- one step down
 found_step : (t : Tree) (f : Field) (y u : Tree) (w : PathPredicate) (q : List Field) (v x : Value) → w [] ≡ false → step t f ≡ Some y → projected y (after_step f w) ≡ Some u
-    → ((b : Value) → Of b y → Found b q x ↔ Found (restricted y (after_step f w) b) q x) → Of v t → Found v (f ∷ q) x ↔ Found (restricted t w v) (f ∷ q) x
-found_step (list t n) ElementType y u w q v x root at is on h =
-    let on' : (b : Value) → Of b t → Found b q x ↔ Found (restricted t (after_step ElementType w) b) q x = subst (λ z. (b : Value) → Of b z → Found b q x ↔ Found (restricted z (after_step ElementType w) b) q x) (sym (same_Some t y at)) on in
-    subst (λ z. Found v (ElementType ∷ q) x ↔ Found z (ElementType ∷ q) x) (sym (restricted_list t n w v root)) (found_items t n (restricted t (after_step ElementType w)) q x v on' h)
-found_step (fixed_size_list t k n) ElementType y u w q v x root at is on h =
-    let on' : (b : Value) → Of b t → Found b q x ↔ Found (restricted t (after_step ElementType w) b) q x = subst (λ z. (b : Value) → Of b z → Found b q x ↔ Found (restricted z (after_step ElementType w) b) q x) (sym (same_Some t y at)) on in
-    subst (λ z. Found v (ElementType ∷ q) x ↔ Found z (ElementType ∷ q) x) (sym (restricted_fixed t k n w v root)) (found_fixed t k n (restricted t (after_step ElementType w)) q x v on' h)
-found_step (struct fs n) (Name m) y u w q v x root at is on h =
-    subst (λ z. Found v (Name m ∷ q) x ↔ Found z (Name m ∷ q) x) (sym (restricted_struct fs n w v root)) (found_named fs n w m y u q x v on at is h)
+    → ((z : Tree) → step t f ≡ Some z → (b : Value) → Of b z → Found b q x ↔ Found (restricted z (after_step f w) b) q x) → Of v t → Found v (f ∷ q) x ↔ Found (restricted t w v) (f ∷ q) x
+found_step (list t n) ElementType y u w q v x root at is on h = rw root (found_items t n (restricted t (after_step ElementType w)) q x v (on t refl) h)
+found_step (fixed_size_list t k n) ElementType y u w q v x root at is on h = rw root (found_fixed t k n (restricted t (after_step ElementType w)) q x v (on t refl) h)
+found_step (struct fs n) (Name m) y u w q v x root at is on h = rw root (found_named fs n w m y u q x v (on y at) at is h)
 found_step _ f y u w q v x root at is on h = cc
 
 -- at and below a path of w that exists in the type the same is found in the value and in its restriction
@@ -199,4 +206,4 @@ found_kept [] r t z w v x is a h = subst (λ y. Found v r x ↔ Found y r x) (sy
 found_kept (f ∷ p) r t z w v x is a h = by_bool (w [])
     (λ root. subst (λ y. Found v ((f ∷ p) ++ r) x ↔ Found y ((f ∷ p) ++ r) x) (sym (restricted_root t w v root)) (λ g. g, λ g. g))
     (λ root. let u = path_is_kept p a.0 z (after_step f w) is a.2 in
-    found_step t f a.0 u.0 w (p ++ r) v x root a.1 u.1 (λ b o. found_kept p r a.0 z (after_step f w) b x is a.2 o) h)
+    found_step t f a.0 u.0 w (p ++ r) v x root a.1 u.1 (λ y at b o. found_kept p r y z (after_step f w) b x is (subst (λ k. At k p z) (same_Some a.0 y (sym a.1 ∙ at)) a.2) o) h)

@@ -2,13 +2,14 @@
 -- SPDX-FileCopyrightText: Copyright the Vortex contributors
 
 -- What is asked of the fields of a struct, by their positions, and what is kept of such a field.
-use Rattle.std.specs.Prelude.{◌≡◌, ℕ, suc, ◌+◌, IsTrue, List, [], ◌∷◌, slice_get, Option, option_and_then}
+use Rattle.std.specs.Prelude.{◌≡◌, ℕ, zero, suc, ◌+◌, IsTrue, List, [], ◌∷◌, slice_get, Option, option_and_then}
 use Rattle.std.specs.BTreeMap.{is_at}
 use Rattle.std.specs.Map.{lookup}
 use Rattle.std.specs.Option.{option_map}
 use Rattle.std.specs.Ordering.{nat_cmp}
 use Rattle.dtype_types.specs.tree.Tree.{Tree}
 use Rattle.dtype_paths.specs.Cursors.{asks, asks_if}
+use Rattle.dtype_paths.specs.PathPredicates.{no_path}
 use Rattle.dtype_paths.specs.declared.field.Field.TheVariants.{Name}
 use Rattle.dtype_paths.specs.declared.field_path_cursor.FieldPathCursor.{FieldPathCursor}
 use Rattle.dtype_projection.specs.Projected.{PathPredicate, after_step, without_field, projected}
@@ -17,10 +18,16 @@ use Rattle.dtype_projection.specs.Projected.{PathPredicate, after_step, without_
 abbrev pub asked_at : List (ℕ × FieldPathCursor) → ℕ → PathPredicate
 asked_at es k = asks_if (lookup (is_at (nat_cmp k)) es)
 
--- s has, at the position of each field of these names, what the paths w ask for after a step into it
+-- what the paths w ask for below the field at the position k of these names: after a step into it, where it is the first
+-- of its name
+abbrev pub asked_below : PathPredicate → List (List ℕ) → ℕ → PathPredicate
+asked_below w [] k = no_path
+asked_below w (n ∷ ns) zero = after_step (Name n) w
+asked_below w (n ∷ ns) (suc k) = asked_below (without_field n w) ns k
+
+-- s has that at each position
 abbrev pub AreEntered : PathPredicate → List (List ℕ) → (ℕ → PathPredicate) → Type 0
-AreEntered w [] s = Unit {0}
-AreEntered w (n ∷ ns) s = (s 0 ≡ after_step (Name n) w) × AreEntered (without_field n w) ns (λ k. s (suc k))
+AreEntered w ns s = (k : ℕ) → s k ≡ asked_below w ns k
 
 -- there are cursors at the positions from i to n, in this order, and each is at an end
 abbrev pub AreWhole : ℕ → ℕ → List (ℕ × FieldPathCursor) → Type 0

@@ -10,7 +10,7 @@ use Rattle.dtype_paths.specs.Cursors.{asks, asks_if}
 use Rattle.dtype_paths.specs.declared.field.Field.TheVariants.{Name}
 use Rattle.dtype_projection.specs.private.Entered.{asked_at}
 use Rattle.dtype_projection.specs.Projected.{after_step}
-use Rattle.dtype_projection.proofs.EnteredFields.{inserted_here, inserted_others, to-start, to-passed, to-entered, to-end}
+use Rattle.dtype_projection.proofs.EnteredFields.{inserted_others, to-start, to-passed, to-entered, to-end}
 use Rattle.dtype_projection.proofs.entered.entered_by_fields.Goals as goal
 use Rattle.dtype_projection.proofs.entered.entered_by_fields.Goals.{in-Some+then-eq+in_ok-insert, in-Some+else-eq, in_default}
 
@@ -33,7 +33,7 @@ loop-i-preserved c =
           let put = v.in_ok-insert.ensures.updates in
           let at : Some i ≡ first_place ns m = search rules in
           let asked : asks v.in-Some.below ≡ after_step (Name m) w = sym (ap asks_if v.in-Some.is) ∙ c.in_ok-below.ensures in
-          rw v.entered-is (to-entered w ns i m here (asked_at old) so_far (asked_at new) at (inserted_here i new v.in-Some.below put.1 ∙ asked) (λ k ne. inserted_others i k old new (put.2 k) ne))
+          rw v.entered-is (to-entered w ns i m here (asked_at old) so_far (asked_at new) at (ap asks_if put.1 ∙ asked) (λ k ne. inserted_others i k old new (put.2 k) ne))
       | in-Some+else-eq v ↦ rw v.entered-is (to-passed w ns i m here (asked_at old) so_far (λ at. search (rules, at)))
       | in_default v ↦ rw v.entered-is (to-passed w ns i m here (asked_at old) so_far (λ at. sym c.in_ok-below.ensures ∙ ap asks_if v.in_default.is))
     ]

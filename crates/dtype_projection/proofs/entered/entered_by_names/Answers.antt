@@ -5,11 +5,11 @@ use Rattle.std.proofs.Common.{◌≡◌, ◌∙◌, Some, None, ap, subst, sym}
 use Rattle.dtype_base.specs.FieldNames.{first_place}
 use Rattle.dtype_types.specs.parts.Lookups.{field_names}
 use Rattle.dtype_types.specs.tree.TreeOf.{children}
-use Rattle.dtype_paths.specs.Cursors.{asks, names_left}
+use Rattle.dtype_paths.specs.Cursors.{asks, asks_if, names_left}
 use Rattle.dtype_paths.specs.PathPredicates.{AreNames}
 use Rattle.dtype_paths.specs.declared.cursor_names.CursorNames.{CursorNames}
 use Rattle.dtype_projection.specs.private.Entered.{asked_at}
-use Rattle.dtype_projection.proofs.EnteredFields.{entering-start, entering-passed, entering-entered, entering-end, inserted_here, inserted_others}
+use Rattle.dtype_projection.proofs.EnteredFields.{entering-start, entering-passed, entering-entered, entering-end, inserted_others}
 use Rattle.dtype_projection.proofs.entered.entered_by_names.Goals as goal
 
 pub loop-name-init : goal.loop-name-init
@@ -28,7 +28,7 @@ loop-name-preserved-in_ok-insert c =
     let put = c.in_ok-insert.ensures.updates in
     let at : Some i ≡ first_place ns c.in-Some.name.now = c.in-Some-find.ensures ∙ ap (first_place ns) c.as_str.ensures in
     entering-entered (asks c.args.wanted.now) ns (names_left c.loop-name.name-iterator) (names_left c.next.new.self) c.in-Some.name.now (asks c.in-Some.below) c.in-Some.ensures.steps
-    (asked_at old) c.loop-name.invariant i (asked_at new) at (inserted_here i new c.in-Some.below put.1) (λ k ne. inserted_others i k old new (put.2 k) ne)
+    (asked_at old) c.loop-name.invariant i (asked_at new) at (ap asks_if put.1) (λ k ne. inserted_others i k old new (put.2 k) ne)
 
 pub loop-name-preserved : goal.loop-name-preserved
 loop-name-preserved c =

@@ -5,4 +5,4 @@ use Rattle.dtype_projection.proofs.lemmas.Parts.{kept_is_least, least_is_kept}
 use Rattle.dtype_projection.proofs.laws.projections_are_least_parts.Goals as goal
 
 pub returns : goal.returns
-returns c = record { least = kept_is_least; alone = λ t u w p is x l. least_is_kept t u x.found w p is x.at l }
+returns c = record { least = kept_is_least; alone = least_is_kept }

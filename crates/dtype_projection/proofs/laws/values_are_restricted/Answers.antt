@@ -5,8 +5,7 @@ use Rattle.std.proofs.Common.{◌↔◌, sym, subst}
 use Rattle.dtype_paths.specs.Found.{Found}
 use Rattle.dtype_projection.specs.Restricted.{restricted}
 use Rattle.dtype_projection.proofs.lemmas.ThroughExtensions.{lost_through_extensions}
-use Rattle.dtype_projection.proofs.lemmas.Restrictions.{of_restricted, found_kept}
-use Rattle.dtype_projection.proofs.lemmas.RestrictedOnto.{onto}
+use Rattle.dtype_projection.proofs.lemmas.Restrictions.{of_restricted, found_kept, onto}
 use Rattle.dtype_projection.proofs.laws.values_are_restricted.Goals as goal
 
 pub returns : goal.returns

@@ -11,3 +11,7 @@ pub mod Reading
 pub mod Compared
 pub mod Differences
 pub mod StorageKinds
+pub mod NamesAmong
+pub mod FieldLists
+pub mod Counted
+pub mod Registered

@@ -31,12 +31,18 @@ pub use Rattle.dtype_paths.proofs.lemmas.Steps.{one_step}
 pub use Rattle.dtype_paths.proofs.lemmas.Unresolved.{missing_paths}
 pub use Rattle.dtype_projection.proofs.lemmas.Descending.{descending, opened_after, opened_nowhere, opened_unasked}
 pub use Rattle.dtype_projection.proofs.lemmas.Projecting.{projecting}
--- of vortex_dtype: sessions
+-- of vortex_dtype: sessions; and what callers of the crates below need and their own proofs don't: names that are among
+-- the names of fields, fields that a contract names one after another, and counts
 pub use Rattle.vortex_dtype.proofs.lemmas.Sessions.{sessions}
+pub use Rattle.vortex_dtype.proofs.lemmas.NamesAmong.{among}
+pub use Rattle.vortex_dtype.proofs.lemmas.FieldLists.{listed_fields}
+pub use Rattle.vortex_dtype.proofs.lemmas.Counted.{counted}
 -- lemmas of these for answers of one's own: the set of paths that a loop collects, and any number of comparisons; and a
--- union in the other order, for a function's own line, since beside `covering` a search turns it back and forth
+-- union in the other order, for a function's own line, since beside `covering` a search turns it back and forth; and that
+-- types each below the other are equal, for a function's own line too: beside `order` a search goes from `Sub` to `Sub`
 pub use Rattle.dtype_base.proofs.lemmas.Lookups.{few_compared}
 pub use Rattle.dtype_paths.proofs.lemmas.Covering.{of_push, union_swap}
+pub use Rattle.dtype_types.proofs.lemmas.SubLaws.{sub_antisymmetric}
 use Rattle.dtype_base.proofs.lemmas.Lookups.{lookups as name_lookups}
 use Rattle.dtype_messages.proofs.lemmas.Equality.{equality as message_equality}
 use Rattle.dtype_messages.proofs.lemmas.Names.{names}
@@ -45,9 +51,18 @@ use Rattle.dtype_projection.proofs.lemmas.Above.{above}
 use Rattle.dtype_types.proofs.lemmas.Equality.{equality as type_equality}
 use Rattle.dtype_types.proofs.lemmas.Lookups.{lookups as field_lookups}
 use Rattle.dtype_types.proofs.lemmas.Merging.{intersecting as types_intersected, merging as types_merged}
+use Rattle.dtype_types.proofs.lemmas.ValidParts.{valid_parts, borrowed_list_element, borrowed_fixed_size_element, borrowed_any_size_element, owned_list_element, owned_fixed_size_element, owned_any_size_element, borrowed_map, owned_map, borrowed_struct, owned_struct, borrowed_union, owned_union, extension_is_valid, borrowed_extension}
+use Rattle.dtype_types.proofs.lemmas.Validity.{types_in_valid_parts, list_of_valid, fixed_size_list_of_valid, map_of_valid, struct_valid, union_valid, map_valid, extension_valid, field_valid, named_field_valid, variant_valid, named_variant_valid, struct_of_valid, removal_valid, set_valid, made_map_valid}
 use Rattle.vortex_dtype.proofs.lemmas.Compared.{compared_up_to, compared_within}
 use Rattle.vortex_dtype.proofs.lemmas.Differences.{differences}
+use Rattle.vortex_dtype.proofs.lemmas.FieldLists.{valid_fields}
+use Rattle.vortex_dtype.proofs.lemmas.InOrder.{read_reads, reads_once, reads_read}
+use Rattle.vortex_dtype.proofs.lemmas.PathMessages.{missing_part, no_path, path_root, path_steps, same_path_names, steps_by_names}
 use Rattle.vortex_dtype.proofs.lemmas.Reading.{reading}
+use Rattle.vortex_dtype.proofs.lemmas.Reads.{copy_accepted, fault_none, fault_refused, normal_again, other_nullability, read_alike, reads_accepted, refused_faulty, same_normal, unread_refused, written_accepted, written_normal, written_read}
+use Rattle.vortex_dtype.proofs.lemmas.Registered.{keeps_nothing, keeps_other, keeps_registered, keeps_unknown, keeps_unless_unknown}
+use Rattle.vortex_dtype.proofs.lemmas.Sessions.{admits-set_null, admits_allow_unknown_in, admits_extension, admits_field, admits_fields_appended, admits_more, admits_one_more, flag_allow_unknown_in, flag_register_in, kept_allow_unknown_in, keeps_again, keeps_outer, others_register_in, registered_allow_unknown_in, registered_before, registered_empty_meaning, registered_register_in, unknown_empty_meaning, unknown_kept_after_allowing, unknown_register_in, unrefused}
+use Rattle.vortex_dtype.proofs.lemmas.Written.{written_is}
 
 -- types that are merged and types that are intersected, and the paths in them
 pub ruleset merging = (types_merged, above)
@@ -62,3 +77,27 @@ pub ruleset equality = (type_equality, message_equality, differences)
 
 -- messages that are read and written, the numbers of primitive types in them, and the names of a path's parts
 pub ruleset messages = (reading, numbers, names)
+
+-- `validity` by question: what a valid type holds, lent and moved out; the types of fields and variants; what is made of
+-- valid types
+pub ruleset valid_held = (valid_parts, borrowed_list_element, borrowed_fixed_size_element, borrowed_any_size_element, borrowed_map, borrowed_struct, borrowed_union, borrowed_extension, extension_is_valid)
+
+pub ruleset valid_moved = (owned_list_element, owned_fixed_size_element, owned_any_size_element, owned_map, owned_struct, owned_union)
+
+pub ruleset valid_columns = (types_in_valid_parts, field_valid, named_field_valid, variant_valid, named_variant_valid)
+
+pub ruleset valid_made = (list_of_valid, fixed_size_list_of_valid, map_of_valid, struct_valid, union_valid, map_valid, extension_valid, struct_of_valid, removal_valid, set_valid, made_map_valid, valid_fields)
+
+-- `messages` by question: what a message says, or which fault is in it; what is written, and read back; paths
+pub ruleset read_messages = (read_reads, reads_read, refused_faulty, fault_refused, unread_refused, fault_none, reads_once, reads_accepted, read_alike, copy_accepted)
+
+pub ruleset written_messages = (written_read, written_accepted, written_normal, written_is, same_normal, normal_again, other_nullability)
+
+pub ruleset path_messages = (steps_by_names, path_steps, path_root, same_path_names, no_path, missing_part, names)
+
+-- `sessions` by question: what is registered and allowed; what is kept; what is admitted
+pub ruleset registrations = (registered_register_in, others_register_in, registered_before, unknown_register_in, flag_register_in, registered_allow_unknown_in, unknown_kept_after_allowing, flag_allow_unknown_in, registered_empty_meaning, unknown_empty_meaning)
+
+pub ruleset keeping = (keeps_registered, keeps_other, keeps_nothing, keeps_unknown, keeps_unless_unknown, kept_allow_unknown_in, keeps_again, keeps_outer, unrefused)
+
+pub ruleset admitting = (admits_allow_unknown_in, admits_one_more, admits_more, admits_fields_appended, admits_field, admits_extension, admits-set_null)

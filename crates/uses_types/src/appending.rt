@@ -4,7 +4,7 @@
 //! A builder of arrays: which arrays it may append.
 #![tactic(auto, using(vortex_dtype::proofs::rulesets::order))]
 
-ghost use Rattle.std.specs.Prelude.{◌↔◌, IfOk, IsTrue};
+ghost use Rattle.std.specs.Prelude.{◌≡◌, ◌↔◌, IfOk, IsTrue};
 ghost use Rattle.dtype_types.specs.nullability.Sub.{Sub};
 ghost use Rattle.dtype_types.specs.tree.TreeOf.{tree};
 ghost use Rattle.dtype_types.specs.values.Value.{IncludedIn};
@@ -43,4 +43,12 @@ pub fn type_for_both(alloc: Global, dtype: &DType, other: &DType) -> VortexResul
     ensures { IfOk result (λ d. IncludedIn (tree dtype.now) (tree d)) }
 {
     Ok(dtype.union_nullability(alloc, other.nullability())?)
+}
+
+/// Whether each of two arrays may be appended to the other: only where their types are equal.
+#[tactic(auto, using(vortex_dtype::proofs::rulesets::sub_antisymmetric))]
+pub fn can_append_both_ways(first: &DType, second: &DType) -> bool
+    ensures { IsTrue result → tree first.now ≡ tree second.now }
+{
+    first.eq_with_nullability_subset(second) && second.eq_with_nullability_subset(first)
 }

@@ -12,7 +12,7 @@
 //! - By user: `scalars` (which values a type has), `arrays` (how wide a row is), `appending` (what may be appended),
 //!   `binder` (column references, projections, joins).
 //! - Types: `structs`, `fields`, `over_fields`, `loops` (to copy), `iterators`, `schemas`, `lookups` (how many comparisons), `presence`,
-//!   `unions`, `kinds`, `equality`, `nullabilities`, `validity`, `numbers`.
+//!   `unions`, `kinds`, `equality`, `nullabilities`, `validity`, `numbers`, `registered` (sessions that a contract gives).
 //! - Pages: `orders` is the code of `docs/TUTORIAL.md`, `guide` that of `docs/GUIDE.md`.
 #![tactic(auto)]
 
@@ -31,6 +31,7 @@ pub mod numbers;
 pub mod orders;
 pub mod over_fields;
 pub mod presence;
+pub mod registered;
 pub mod scalars;
 pub mod schemas;
 pub mod structs;

@@ -88,3 +88,11 @@ pub fn first_nullable(table: &StructFields) -> Option<&DType>
 {
     table.fields().find(|dtype| dtype.is_nullable())
 }
+
+/// Whether no column holds others, by their number.
+#[tactic(auto, using(vortex_dtype::proofs::rulesets::counted))]
+pub fn is_flat(table: &StructFields) -> bool
+    ensures { IsTrue result ↔ All (λ t. is_nested t ≡ false) (field_types (children table.now)) }
+{
+    count_nested_by_loop(table) == 0
+}

@@ -4,12 +4,13 @@
 //! Whether a table has a column, asked in one way and said in another.
 #![tactic(auto, using(vortex_dtype::proofs::rulesets::presence))]
 
-ghost use Rattle.std.specs.Prelude.{◌↔◌, Contains, IfOk, IsSome, IsTrue};
+ghost use Rattle.std.specs.Prelude.{◌≡◌, ◌↔◌, [], ℕ, List, Contains, IfOk, IsNone, IsSome, IsTrue};
 ghost use Rattle.dtype_types.specs.parts.Lookups.{field_names, first_named, variant_names};
 ghost use Rattle.dtype_types.specs.tree.TreeOf.{children, variant_list};
+ghost use Rattle.vortex_dtype.specs.Distinct.{Distinct};
 
 use std::alloc::Global;
-use vortex_dtype::{StructFields, UnionVariants, VortexResult};
+use vortex_dtype::{FieldName, StructFields, UnionVariants, VortexResult};
 
 /// Whether a name is among those of the columns.
 pub fn is_among(table: &StructFields, name: &str) -> bool
@@ -31,4 +32,37 @@ pub fn has_variant(union: &UnionVariants, name: &str) -> bool
     ensures { IsTrue result ↔ Contains (variant_names (variant_list union.now)) name.now }
 {
     union.variant(name).is_some()
+}
+
+/// The table without a column: its name isn't among the names any more, if no name was there twice.
+#[tactic(auto, using(vortex_dtype::proofs::rulesets::among))]
+pub fn dropped(alloc: Global, table: &StructFields, name: &str) -> VortexResult<StructFields>
+    ensures { Distinct (field_names (children table.now))
+        → IfOk result (λ s. ¬ (Contains (field_names (children s)) name.now)) }
+{
+    match table.find(name) {
+        Some(index) => Ok(table.without_field(alloc, index)?),
+        None => Ok(table.try_clone(alloc)?),
+    }
+}
+
+/// The columns of a join, of which those of the left side keep their types.
+#[tactic(auto, using(vortex_dtype::proofs::rulesets::among))]
+pub fn joined_to(
+    alloc: Global,
+    left: &StructFields,
+    right: &StructFields,
+) -> VortexResult<StructFields>
+    ensures { (name : List ℕ) → Contains (field_names (children left.now)) name
+        → IfOk result (λ s. first_named (children s) name ≡ first_named (children left.now) name) }
+{
+    Ok(left.disjoint_merge(alloc, right)?)
+}
+
+/// The name of the first column, or `None` exactly where there is no column.
+#[tactic(auto, using(vortex_dtype::proofs::rulesets::among))]
+pub fn first_name(table: &StructFields) -> Option<&FieldName>
+    ensures { IsNone result ↔ (children table.now ≡ []) }
+{
+    table.field_name(0)
 }

@@ -4,13 +4,15 @@
 //! Struct types and their columns: from a type to what it has, and back.
 #![tactic(auto, using(vortex_dtype::proofs::rulesets::structs, vortex_dtype::proofs::rulesets::equality))]
 
-ghost use Rattle.std.specs.Prelude.{◌≡◌, ◌↔◌, IfSome, IsTrue};
+ghost use Rattle.std.specs.Prelude.{◌≡◌, ◌↔◌, IfOk, IfSome, IsTrue, Some};
+ghost use Rattle.vortex_dtype.specs.Kinds.{struct_fields};
 ghost use Rattle.vortex_dtype.specs.Nullable.{nullability};
-ghost use Rattle.vortex_dtype.specs.Tree.{struct};
+ghost use Rattle.vortex_dtype.specs.Tree.{Fields, pairs, struct};
 ghost use Rattle.vortex_dtype.specs.TreeOf.{children, fields_of, struct_tree, tree};
 ghost use Rattle.vortex_dtype.specs.Types.Nullability.{Nullability};
 
-use vortex_dtype::{DType, Nullability, StructFields};
+use std::alloc::Global;
+use vortex_dtype::{DType, Nullability, StructFields, VortexResult};
 
 /// The columns of a table's type: those that it was made of.
 pub fn columns_of_table<'a>(
@@ -42,4 +44,21 @@ pub fn equal_tables_have_same_columns(table: &StructFields, other: &StructFields
     ensures { IsTrue result }
 {
     *table == *other
+}
+
+/// The columns of a table's type that a contract names one after another: their list.
+#[tactic(auto, using(vortex_dtype::proofs::rulesets::listed_fields))]
+pub fn columns_as_said(table: &DType) -> Option<&StructFields>
+    ensures { (fs : Fields) (n : Nullability) → tree table.now ≡ struct fs n
+        → IfSome result (λ own. children own.now ≡ pairs fs) }
+{
+    table.as_struct_fields_opt()
+}
+
+/// A table's type, which has the table's columns.
+#[tactic(auto, using(vortex_dtype::proofs::rulesets::listed_fields))]
+pub fn type_of_table(alloc: Global, table: &StructFields) -> VortexResult<DType>
+    ensures { IfOk result (λ d. struct_fields (tree d) ≡ Some (children table.now)) }
+{
+    Ok(DType::Struct(table.try_clone(alloc)?, Nullability::NonNullable))
 }

@@ -2,7 +2,7 @@
 // SPDX-FileCopyrightText: Copyright the Vortex contributors
 
 // What a caller has of a valid type.
-#![tactic(auto, using(vortex_dtype::proofs::rulesets::validity))]
+#![tactic(auto, using(vortex_dtype::proofs::rulesets::valid_held, vortex_dtype::proofs::rulesets::valid_columns))]
 
 ghost use Rattle.std.specs.Prelude.{◌≡◌, ◌<◌, All, IfOk, IfSome, IsTrue, Some, length, true, vec_len};
 ghost use Rattle.dtype_types.specs.tree.Valid.{Valid};
@@ -25,6 +25,7 @@ pub fn only_field(dtype: &DType) -> Option<&DType>
 }
 
 /// The struct type of valid fields is valid.
+#[tactic(auto, using(vortex_dtype::proofs::rulesets::valid_made))]
 pub fn struct_of_valid_fields(fields: StructFields, nullability: Nullability) -> DType
     ensures { Valid (struct_tree fields) → Valid (tree result) }
 {
@@ -90,6 +91,7 @@ pub fn element_of(dtype: &DType) -> Option<&DType>
 }
 
 /// The element type of a list, moved out of the list.
+#[tactic(auto, using(vortex_dtype::proofs::rulesets::valid_moved))]
 pub fn into_element(dtype: DType) -> Option<Box<DType>>
     ensures { Valid (tree dtype) → IfSome result (λ b. Valid (tree b.value)) }
 {
@@ -104,6 +106,7 @@ pub fn keys_of(dtype: &DType) -> Option<&DType>
 }
 
 /// The map, moved out of its type.
+#[tactic(auto, using(vortex_dtype::proofs::rulesets::valid_moved))]
 pub fn into_map(dtype: DType) -> Option<MapDType>
     ensures { Valid (tree dtype) → IfSome result (λ m. Valid (map_tree m)) }
 {
@@ -118,6 +121,7 @@ pub fn variant_of<'a>(dtype: &'a DType, name: &str) -> Option<&'a DType>
 }
 
 /// The columns of a table's type, moved out of it.
+#[tactic(auto, using(vortex_dtype::proofs::rulesets::valid_moved))]
 pub fn into_columns(table: DType) -> Option<StructFields>
     ensures { Valid (tree table) → IfSome result (λ s. Valid (struct_tree s)) }
 {
@@ -133,6 +137,7 @@ pub fn columns_of(table: &DType) -> &StructFields
 }
 
 /// The struct of these names and types.
+#[tactic(auto, using(vortex_dtype::proofs::rulesets::valid_made))]
 pub fn struct_of(alloc: Global, names: FieldNames, dtypes: Vec<DType>) -> VortexResult<StructFields>
     requires { length names ≡ vec_len dtypes }
     ensures { All (λ d. Valid (tree d)) dtypes.items → IfOk result (λ s. Valid (struct_tree s)) }
@@ -141,6 +146,7 @@ pub fn struct_of(alloc: Global, names: FieldNames, dtypes: Vec<DType>) -> Vortex
 }
 
 /// The type of a table of these columns and no other.
+#[tactic(auto, using(vortex_dtype::proofs::rulesets::valid_made))]
 pub fn table_of_columns(
     alloc: Global,
     columns: &StructFields,
@@ -153,6 +159,7 @@ pub fn table_of_columns(
 }
 
 /// The columns of a join, except one of them.
+#[tactic(auto, using(vortex_dtype::proofs::rulesets::valid_made))]
 pub fn join_without(
     alloc: Global,
     left: &StructFields,
@@ -186,6 +193,7 @@ pub fn type_along_path<'a>(path: &FieldPath, dtype: &'a DType) -> Option<&'a DTy
 }
 
 /// A nullable list of a valid type.
+#[tactic(auto, using(vortex_dtype::proofs::rulesets::valid_made))]
 pub fn list_of(alloc: Global, element: DType) -> VortexResult<DType>
     ensures { Valid (tree element) → IfOk result (λ d. Valid (tree d)) }
 {
@@ -193,6 +201,7 @@ pub fn list_of(alloc: Global, element: DType) -> VortexResult<DType>
 }
 
 /// A map of valid types.
+#[tactic(auto, using(vortex_dtype::proofs::rulesets::valid_made))]
 pub fn map_of(alloc: Global, key: DType, value: DType) -> VortexResult<DType>
     ensures { Valid (tree key) → Valid (tree value) → IfOk result (λ d. Valid (tree d)) }
 {
@@ -200,6 +209,7 @@ pub fn map_of(alloc: Global, key: DType, value: DType) -> VortexResult<DType>
 }
 
 /// A column's type in an outer join.
+#[tactic(auto, using(vortex_dtype::proofs::rulesets::valid_made))]
 pub fn outer_column(alloc: Global, column: &DType) -> VortexResult<DType>
     ensures { Valid (tree column.now) → IfOk result (λ d. Valid (tree d)) }
 {

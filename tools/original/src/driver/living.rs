@@ -24,6 +24,7 @@ impl<T: Clone + Default> Living<T> {
         let names: Vec<String> = self.0.iter().map(|(it, _)| name(it)).collect();
         match self.0.iter_mut().find(|(it, _)| it == sought) {
             Some((_, it)) => Ok(it),
+            None if names.is_empty() => stop(format!("unknown: no {kind} {sought}; there are none")),
             None => stop(format!("unknown: no {kind} {sought}; there are: {}", names.join(", "))),
         }
     }
@@ -66,6 +67,9 @@ pub fn set(sets: &mut Living<Vec<FieldPath>>, line: &mut Line) -> Answer {
     let begins = |it: &str| matches!(it, "new" | "insert" | "extend");
     let asks = |it: &str| matches!(it, "contains" | "below" | "missing" | "iter" | "cover" | "drain");
     let command = line.command(|it| begins(it) || asks(it))?;
+    if asks(command) {
+        sets.there("set", &name)?;
+    }
     let given: Vec<FieldPath> = match command {
         "insert" | "contains" | "below" => vec![line.argument()?],
         "extend" => line.argument()?,

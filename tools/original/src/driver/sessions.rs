@@ -14,7 +14,7 @@ use vortex_session::VortexSession;
 
 use crate::errors::refused;
 use crate::line::{Argument, Bytes, Line};
-use crate::told::{Answer, Stop};
+use crate::told::Answer;
 
 pub const PLUGINS: [&str; 4] = ["x.tag", "x.text", "x.word", "kept"];
 
@@ -85,29 +85,29 @@ impl Argument for Plugin {
     }
 }
 
-/// The words of a session: its plugins, `strict`, which says nothing, and `unknown`. Or that none of this name lives,
-/// which is told once the line is read.
-pub struct Session(Result<Vec<&'static str>, String>);
+/// The words of a session: its plugins, `strict`, which says nothing, and `unknown`.
+pub struct Session(Vec<&'static str>);
 
 impl Session {
-    pub fn words(&self) -> Answer<&[&'static str]> {
-        self.0.as_deref().map_err(|why| Stop(why.clone()))
+    pub fn allows_unknown(&self) -> bool {
+        self.0.contains(&"unknown")
     }
 
-    pub fn allows_unknown(&self) -> Answer<bool> {
-        Ok(self.words()?.contains(&"unknown"))
-    }
-
-    pub fn made(&self) -> Answer<VortexSession> {
-        let session = VortexSession::empty();
-        for word in self.words()? {
-            match *word {
-                "strict" => {}
-                "unknown" => session.allow_unknown(),
-                plugin => session.dtypes().register(Plugin(plugin)),
-            }
+    pub fn made(&self) -> VortexSession {
+        let session = self.without_plugins();
+        for &word in self.0.iter().filter(|&word| PLUGINS.contains(word)) {
+            session.dtypes().register(Plugin(word));
         }
-        Ok(session)
+        session
+    }
+
+    /// The session as it treats ids that it doesn't know.
+    pub fn without_plugins(&self) -> VortexSession {
+        let session = VortexSession::empty();
+        if self.allows_unknown() {
+            session.allow_unknown();
+        }
+        session
     }
 }
 
@@ -115,13 +115,13 @@ impl Argument for Session {
     fn read(line: &mut Line) -> Answer<Self> {
         if line.eat("@") {
             let name = line.name(false)?;
-            return Ok(Self(line.sessions.borrow_mut().there("session", &name).cloned().map_err(|stop| stop.0)));
+            return line.sessions.borrow_mut().there("session", &name).cloned().map(Self);
         }
         let at = line.at;
         let word = |line: &mut Line| {
             let known = ["strict", "unknown"].into_iter().chain(PLUGINS).find(|it| line.eat(it));
             known.map_or_else(|| line.fail(at), Ok)
         };
-        line.several(word).map(|words| Self(Ok(words)))
+        line.several(word).map(Self)
     }
 }

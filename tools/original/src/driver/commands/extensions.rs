@@ -65,30 +65,31 @@ fn add_messages(c: &mut Console) {
 fn add_sessions(c: &mut Console) {
     c.add("allows_unknown", |session: Session| session.allows_unknown());
     c.add("registry", |(session, Id(id)): (Session, Id)| -> Answer<bool> {
-        Ok(session.made()?.dtypes().registry().get(&id).is_some())
+        Ok(session.made().dtypes().registry().get(&id).is_some())
     });
     c.add("deserialize", |(session, Id(id), Bytes(metadata), storage): (Session, Id, Bytes, DType)| {
         deserialized(&session, id, metadata, storage)
     });
-    c.add("read", |(session, message): (Session, pb::DType)| read(&session.made()?, &message));
+    c.add("read", |(session, message): (Session, pb::DType)| read(&session.made(), &message));
     c.add("normal", |(session, message): (Session, pb::DType)| -> Answer {
-        pb::DType::try_from(&read(&session.made()?, &message)?).told()
+        pb::DType::try_from(&read(&session.made(), &message)?).told()
     });
     c.add("round_trip", |(session, dtype): (Session, DType)| -> Answer<DType> {
-        Ok(DType::from_proto(&pb::DType::try_from(&dtype)?, &session.made()?)?)
+        Ok(DType::from_proto(&pb::DType::try_from(&dtype)?, &session.made())?)
     });
     c.add("read_eq", |(session, a, b): (Session, pb::DType, pb::DType)| -> Answer<bool> {
-        let session = session.made()?;
+        let session = session.made();
         Ok(read(&session, &a)? == read(&session, &b)?)
     });
 }
 
-/// The extension that a session makes of its parts; of an id that it doesn't know by a message.
+/// The extension that a session makes of its parts; of an id that it doesn't know by a message, in which no plugin is to
+/// read the storage's extensions.
 fn deserialized(session: &Session, id: ExtId, metadata: Vec<u8>, storage: DType) -> Answer<DType> {
-    let session = session.made()?;
-    if let Some(plugin) = session.dtypes().registry().get(&id) {
+    if let Some(plugin) = session.made().dtypes().registry().get(&id) {
         return Ok(DType::Extension(plugin.deserialize(&metadata, storage)?));
     }
+    let session = session.without_plugins();
     let (id, storage_dtype) = (id.as_ref().to_owned(), Some(Box::new(pb::DType::try_from(&storage)?)));
     let extension = pb::Extension { id, storage_dtype, metadata: Some(metadata) };
     read(&session, &pb::DType { dtype_type: Some(DtypeType::Extension(Box::new(extension))) })

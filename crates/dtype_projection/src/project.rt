@@ -133,8 +133,8 @@ fn project_struct(
     if are_all_whole(&entered, fields.nfields()) {
         return Ok(Some(DType::Struct(fields.try_clone(alloc)?, n)));
     }
-    let mut names = Vec::new(alloc);
-    let mut dtypes = Vec::new(alloc);
+    let mut names = Vec::with_capacity(alloc, entered.len())?;
+    let mut dtypes = Vec::with_capacity(alloc, entered.len())?;
     for (position, below) in &entered {
         if let Some((name, dtype)) = project_field(alloc, fields, *position, below)? {
             names.push(name)?;

@@ -31,7 +31,7 @@ project_struct-loop-position-init t c =
     let fs = children c.args.fields.now in
     let all = c.into_iter-position-iterator.ensures.into_iter_gives in
     record {
-      kept = ap (λ z. zip z (map tree c.new-dtypes.result.items) ++ filter_map (kept_at fs) c.into_iter-position-iterator.result) c.new-names.ensures.items
+      kept = ap (λ z. zip z (map tree c.in_ok-dtypes.dtypes.items) ++ filter_map (kept_at fs) c.into_iter-position-iterator.result) c.in_ok-names.ensures.items
           ∙ ap (filter_map (kept_at fs)) all.0
           ∙ all_kept fs c.in_ok-entered.entered.entries (asks c.args.wanted.now) all.5 c.in_ok-entered.ensures;
       even = search rules;

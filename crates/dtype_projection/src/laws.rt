@@ -90,8 +90,9 @@ pub fn projections_compose()
         → projected u (set.contains s) ≡ Some u }
 {}
 
-/// What a projection has after a step is what the type has there, projected to what is asked for after the step. So a
-/// reader that steps into a type and into a set together (`FieldPathSet::cursor`) opens what the projection keeps.
+/// Where no path ends at the type itself, which would keep it whole, what a projection has after a step is what the type has
+/// there, projected to what is asked for after the step. So a reader that steps into a type and into a set together
+/// (`FieldPathSet::cursor`) opens what the projection keeps.
 #[tactic(auto, using(crate::proofs::lemmas::Projections::step_kept))]
 pub fn a_projection_is_stepped_into()
     ensures { (t u : Tree) (w : PathPredicate) (f : Field) → w [] ≡ false → projected t w ≡ Some u

@@ -2,7 +2,7 @@
 -- SPDX-FileCopyrightText: Copyright the Vortex contributors
 
 -- The names among the children of a node.
-use Rattle.std.proofs.Common.{◌≡◌, ◌≢◌, ◌↔◌, ◌∙◌, ℕ, ◌+◌, suc, length, map, Bool, true, false, is_some, List, [], ◌∷◌, Option, Some, None, cond, refl, sym, ap, subst, arith, ⊎_elim, MatchOption}
+use Rattle.std.proofs.Common.{◌≡◌, ◌∙◌, ℕ, ◌+◌, suc, length, map, false, is_some, List, [], ◌∷◌, Option, Some, None, cond, refl, sym, ap, subst, arith, ⊎_elim, MatchOption}
 use Rattle.std.specs.List.{Contains, IsDistinct, AllByRecursion, filter_map}
 use Rattle.std.specs.Map.{keys_of, lookup}
 use Rattle.std.proofs.lemmas.Map.Made.{AllPairs-from_IsDistinct}
@@ -10,7 +10,7 @@ use Rattle.std.proofs.lemmas.Map.Views.{lookup-from_Contains, Contains-from_look
 use Rattle.dtype_base.specs.Distinct.{Distinct}
 use Rattle.dtype_paths.specs.Equality.{same_field}
 use Rattle.dtype_paths.specs.EqualityLaws.{same_field-Decides, same_field_equiv}
-use Rattle.dtype_paths.specs.PathPredicates.{PathPredicate, after_step, no_path, AreNames}
+use Rattle.dtype_paths.specs.PathPredicates.{PathPredicate, after_step, AreNames}
 use Rattle.dtype_paths.specs.private.Children.{name_entry}
 use Rattle.dtype_paths.specs.private.Reached.{ends_below, named_paths, IsReached}
 use Rattle.dtype_paths.specs.private.Trie.{child_at, IsTrie}

@@ -2,7 +2,7 @@
 -- SPDX-FileCopyrightText: Copyright the Vortex contributors
 
 -- The nodes that a path leads to, and the paths that end below them.
-use Rattle.std.proofs.Common.{◌≡◌, ◌≢◌, ◌↔◌, ◌∙◌, ℕ, ◌<◌, ◌+◌, length, Bool, true, false, Decides, List, [], ◌∷◌, ◌++◌, Option, Some, None, is_some, option_and_then, IsTrue, refl, sym, ap, arith}
+use Rattle.std.proofs.Common.{◌≡◌, ◌≢◌, ◌↔◌, ◌∙◌, ℕ, ◌<◌, length, true, false, Decides, List, [], ◌∷◌, ◌++◌, Option, Some, None, is_some, option_and_then, refl, sym, ap}
 use Rattle.std.proofs.Math.Logic.{∥∥₁_elim, ∥∥₁_map}
 use Rattle.std.specs.Coded.{le_prop, Coded-set, coded_bool}
 use Rattle.std.proofs.lemmas.Bool.Decides.{same_from_decides}
@@ -11,7 +11,7 @@ use Rattle.std.specs.List.{Contains}
 use Rattle.std.specs.Map.{lookup}
 use Rattle.dtype_paths.specs.Equality.{same_field}
 use Rattle.dtype_paths.specs.EqualityLaws.{same_field-Decides}
-use Rattle.dtype_paths.specs.PathOrder.{path_cmp, set_of}
+use Rattle.dtype_paths.specs.PathOrder.{set_of}
 use Rattle.dtype_paths.specs.PathPredicates.{PathPredicate, after_step, no_path}
 use Rattle.dtype_paths.specs.private.Children.{child, nodes_by_step}
 use Rattle.dtype_paths.specs.private.Reached.{ends_below, IsReached}

@@ -3,7 +3,7 @@
 
 -- Which paths of a set don't exist in a type: the columns that are missing. A choice of ours, by the documentation of
 -- `FieldPath::exists_in`. The law `what_unresolved_says` says it as a relation.
-use Rattle.std.specs.Prelude.{List, is_some, not}
+use Rattle.std.specs.Prelude.{is_some, not}
 use Rattle.std.specs.FinSet as set
 use Rattle.dtype_types.specs.tree.Tree.{Tree}
 use Rattle.dtype_paths.specs.Along.{along}

@@ -6,7 +6,7 @@
 -- The tactics try it whole at each goal that is left, so it is part of the interface.
 pub use Rattle.dtype_paths.proofs.lemmas.Counts.{least_none, none_listed, one_count, listed_len, lent_len, some_listed, one_listed, one_least_listed}
 pub use Rattle.dtype_paths.proofs.lemmas.SetMembers.{insert_has, insert_keeps, insert_only, insert_other, insert_known, insert_again, insert_swap, contains_empty, union_keeps, union_has, union_none, union_with_none, union_insert, union_again, union_swap, within_insert, within_union, union_within, of_push, of_append, of_has, of_has_at, of_only, one_only}
-pub use Rattle.dtype_paths.proofs.lemmas.SetCovers.{covers_of, covers_none, covers_union, covers_left, covers_right, covers_member, of_covers_at, covers_below, covers_further, insert_covers, insert_covers_below, covers_least, least_least, least_union_left, least_union_right, least_covered, least_below, least_one, least_root, least_empty, least_same, fewest, root_covers}
+pub use Rattle.dtype_paths.proofs.lemmas.SetCovers.{covers_of, covers_none, covers_union, covers_left, covers_right, covers_member, of_covers_at, covers_below, covers_further, union_covers_left, union_covers_right, insert_covers, insert_covers_below, covers_least, least_least, least_union_left, least_union_right, least_covered, least_below, least_one, least_root, least_empty, least_same, fewest, root_covers, cover_member, cover_first, cover_apart}
 
 pub ruleset covering = (insert_has, insert_keeps, insert_other, insert_known, insert_again, insert_swap, contains_empty, union_keeps, union_has, union_none, union_with_none, union_insert, union_again, within_insert, within_union, union_within, of_push, of_append, of_has, covers_of, covers_none, covers_union, covers_member, covers_below, insert_covers, insert_covers_below, covers_least, least_least, least_union_left, least_union_right, least_covered, least_below, least_one, least_same, fewest, root_covers, one_count)
 
@@ -15,3 +15,17 @@ pub ruleset members = (insert_has, insert_keeps, insert_only, insert_other, cont
 
 -- of the empty set, and of how many paths are as is said; beside `covering` where a caller counts
 pub ruleset counting = (least_none, least_empty, least_root, none_listed, one_count, listed_len, lent_len, some_listed, one_listed, one_least_listed)
+
+-- ---- `covering` by question: among fewer lemmas a search comes further
+
+-- what a set has after insertions
+pub ruleset inserted_paths = (insert_has, insert_keeps, insert_other, insert_known, insert_again, insert_swap, contains_empty, within_insert, of_push, of_has)
+
+-- what a union has and covers, and its least paths
+pub ruleset set_unions = (union_keeps, union_has, union_none, union_with_none, union_insert, union_again, within_union, union_within, of_append, covers_union, union_covers_left, union_covers_right, least_union_left, least_union_right)
+
+-- which paths a set covers
+pub ruleset covered_paths = (of_has, covers_of, covers_none, covers_union, covers_member, covers_below, insert_covers, insert_covers_below, covers_least, root_covers, union_covers_left, union_covers_right)
+
+-- which paths are least, and how the members lie to them
+pub ruleset least_paths = (least_least, least_union_left, least_union_right, least_covered, least_below, least_one, least_same, least_root, least_none, least_empty, fewest, cover_member, cover_first, cover_apart)

@@ -4,20 +4,26 @@
 -- Lemmas on what is asked for after some steps. For callers' proofs `stepping_into` names them in one line:
 --     #![tactic(auto, using(dtype_paths::proofs::lemmas::PathsBelow::stepping_into))]
 use Rattle.std.proofs.Common.{◌≡◌, ◌≢◌, ◌∙◌, ℕ, List, [], ◌∷◌, ◌++◌, Bool, true, false, ◌||◌, Option, Some, None, IsTrue, map, arith, refl, sym, ap, subst, ⊎_elim}
-use Rattle.std.proofs.lemmas.Bool.{or_cases, or_left, or_right}
+use Rattle.std.proofs.lemmas.Bool.{false≢true, or_cases, or_left, or_right}
 use Rattle.std.proofs.lemmas.Bool.Decides.{same_from_decides}
 use Rattle.std.specs.Bool.{Decides}
 use Rattle.std.specs.FinSet as set
-use Rattle.std.specs.List.{Contains}
+use Rattle.std.specs.List.{Contains, list_any}
+use Rattle.std.specs.Prelude.{is_some}
 use Rattle.dtype_paths.specs.Beginning.{Beginning}
 use Rattle.dtype_paths.specs.Covering.{covers}
-use Rattle.dtype_paths.specs.Cursors.{asks}
+use Rattle.dtype_paths.specs.Cursors.{asks, asks_if}
+use Rattle.dtype_paths.specs.Equality.{same_field}
+use Rattle.dtype_paths.specs.EqualityLaws.{same_field-Decides}
 use Rattle.dtype_paths.specs.PathOrder.{PathSet}
 use Rattle.dtype_paths.specs.PathPredicates.{PathPredicate, after_step, after_steps, asks_above, no_path, AreNames}
 use Rattle.dtype_paths.specs.declared.field.Field.{Field}
 use Rattle.dtype_paths.specs.declared.field.Field.TheVariants.{Name}
 use Rattle.dtype_paths.specs.declared.field_path_cursor.FieldPathCursor.{FieldPathCursor}
+use Rattle.dtype_paths.proofs.lemmas.Cases.{by_bool}
+use Rattle.dtype_paths.proofs.lemmas.PathLists as lists
 use Rattle.dtype_paths.proofs.lemmas.SetCovers.{covers_word}
+use Rattle.dtype_paths.proofs.lemmas.SetMembers.{contains_empty, items-Decides, same_by}
 
 pub asked_after : (w : PathPredicate) (p q : List Field) → after_steps p w q ≡ w (p ++ q)
 asked_after w [] q = refl
@@ -93,3 +99,55 @@ none_named w ns n a is = λ i p. go p (w (Name n ∷ p)) refl i
         let none = subst (λ es. Contains (map (λ (d : List ℕ × PathPredicate). d.0) es) n) is c in absurd (omega (arith, none.1))
 
 pub ruleset stepping_into = (asked_after, covered_on_the_way, nothing_asked, nowhere_asked, nowhere_asked_at, ends_above, none_above, first_named, none_named)
+
+-- ---- the first steps into a set, in words of the set. `set_cursors` names all of it in one line.
+
+-- whether a path begins with a step
+abbrev begins_with : Field → List Field → Bool
+begins_with f [] = false
+begins_with f (g ∷ q) = same_field f g
+
+-- where paths go on with a step, there is one
+pub step_asked : (s : PathSet) (f : Field) → after_step f (set.contains s) ≢ no_path → (q : List Field) × IsTrue (set.contains s (f ∷ q))
+step_asked s f goes = by_bool (list_any (begins_with f) (set.items s)) found (λ none. absurd (goes (λ i q. nowhere none q i)))
+  where
+    at : (p : List Field) → Contains (set.items s) p → begins_with f p ≡ true → (q : List Field) × IsTrue (set.contains s (f ∷ q))
+    at [] c t = absurd (false≢true t)
+    at (g ∷ q) c t = (q, ap (λ x. set.contains s (x ∷ q)) ((same_field-Decides f g).0 t) ∙ (items-Decides s (g ∷ q)).1 c)
+
+    found : list_any (begins_with f) (set.items s) ≡ true → (q : List Field) × IsTrue (set.contains s (f ∷ q))
+    found e = let w = lists.some_member (begins_with f) (set.items s) e in at w.0 w.1 w.2
+
+    nowhere : list_any (begins_with f) (set.items s) ≡ false → (q : List Field) → set.contains s (f ∷ q) ≡ false
+    nowhere none q = by_bool (set.contains s (f ∷ q))
+        (λ h. absurd (false≢true (sym none ∙ lists.any_from (begins_with f) (f ∷ q) (set.items s) ((items-Decides s (f ∷ q)).0 h) ((same_field-Decides f f).1 refl))))
+        (λ h. h)
+
+pub given_step : (c : FieldPathCursor) (s : PathSet) (f : Field) (q : List Field) (r : Option FieldPathCursor) → asks c ≡ set.contains s → asks_if r ≡ after_step f (asks c) → IsTrue (set.contains s (f ∷ q)) → IsTrue (is_some r)
+given_step c s f q (Some x) is told h = refl
+given_step c s f q None is told h = absurd (false≢true (ap (λ (v : PathPredicate). v q) told ∙ ap (λ (v : PathPredicate). v (f ∷ q)) is ∙ h))
+
+-- where no path goes on with a step
+pub nowhere_in : (c : FieldPathCursor) (s : PathSet) (f : Field) (p : List Field) → asks c ≡ set.contains s → no_path ≡ after_step f (asks c) → set.contains s (f ∷ p) ≡ false
+nowhere_in c s f p is none = sym (ap (λ (v : PathPredicate). v p) none ∙ ap (λ (v : PathPredicate). v (f ∷ p)) is)
+
+pub nowhere_further : (c : FieldPathCursor) (s : PathSet) (f g : Field) → asks c ≡ set.contains s → no_path ≡ after_step f (asks c) → no_path ≡ after_step g (after_step f (set.contains s))
+nowhere_further c s f g is none = λ i p. sym (nowhere_in c s f (g ∷ p) is none) i
+
+pub nowhere_covered : (c : FieldPathCursor) (s : PathSet) (f : Field) (p : List Field) → asks c ≡ set.contains s → asks c [] ≡ false → no_path ≡ after_step f (asks c) → covers s (f ∷ p) ≡ false
+nowhere_covered c s f p is here none = covered_on_the_way s (f ∷ p) ∙ sym (none_above (set.contains s) f p (f ∷ p) (sym (ap (λ (v : PathPredicate). v []) is) ∙ here) (none ∙ ap (after_step f) is) refl)
+
+-- nothing is asked for exactly where the set has no path
+pub none_asked : (c : FieldPathCursor) (s : PathSet) → asks c ≡ set.contains s → ((q : List Field) → set.contains s q ≡ false) → asks c ≡ no_path
+none_asked c s is none = is ∙ (λ i q. none q i)
+
+pub unasked_in : (c : FieldPathCursor) (s : PathSet) (q : List Field) → asks c ≡ set.contains s → asks c ≡ no_path → set.contains s q ≡ false
+unasked_in c s q is none = ap (λ (v : PathPredicate). v q) (sym is ∙ none)
+
+pub empty_unasked : (c : FieldPathCursor) (s : PathSet) → asks c ≡ set.contains s → s ≡ set.empty → asks c ≡ no_path
+empty_unasked c s is e = none_asked c s is (λ q. ap (λ (x : PathSet). set.contains x q) e ∙ contains_empty q)
+
+pub unasked_empty : (c : FieldPathCursor) (s : PathSet) → asks c ≡ set.contains s → asks c ≡ no_path → s ≡ set.empty
+unasked_empty c s is none = same_by s set.empty (λ q. unasked_in c s q is none ∙ sym (contains_empty q))
+
+pub ruleset set_cursors = (given_step, nowhere_in, nowhere_further, nowhere_covered, none_asked, unasked_in, empty_unasked, unasked_empty)

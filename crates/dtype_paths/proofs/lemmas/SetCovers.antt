@@ -17,6 +17,7 @@ use Rattle.dtype_paths.specs.Covering.{SameCoverage, begins_below, covers, least
 use Rattle.dtype_paths.specs.Equality.{same_field, same_path}
 use Rattle.dtype_paths.specs.EqualityLaws.{same_path-Decides, same_path_equiv}
 use Rattle.dtype_paths.specs.private.PathLists.{Covers, SameListCoverage, Least}
+use Rattle.dtype_paths.specs.Overlaps.{Overlaps}
 use Rattle.dtype_paths.specs.PathOrder.{PathSet, path_cmp}
 use Rattle.dtype_paths.specs.declared.field.Field.{Field}
 use Rattle.dtype_paths.proofs.lemmas.Beginnings.{either_begins, starts_with-Decides}
@@ -131,6 +132,13 @@ least_union_left s t = least_same _ _ (λ q. covers_union _ t q ∙ ap (λ b. b 
 pub least_union_right : (s t : PathSet) → least (set.union s (least t)) ≡ least (set.union s t)
 least_union_right s t = least_same _ _ (λ q. covers_union s _ q ∙ ap (λ b. covers s q || b) (covers_least t q) ∙ sym (covers_union s t q))
 
+-- a union with least paths covers what the union covers
+pub union_covers_left : (s t : PathSet) (q : List Field) → covers (set.union (least s) t) q ≡ covers (set.union s t) q
+union_covers_left s t q = covers_union (least s) t q ∙ ap (λ b. b || covers t q) (covers_least s q) ∙ sym (covers_union s t q)
+
+pub union_covers_right : (s t : PathSet) (q : List Field) → covers (set.union s (least t)) q ≡ covers (set.union s t) q
+union_covers_right s t q = covers_union s (least t) q ∙ ap (λ b. covers s q || b) (covers_least t q) ∙ sym (covers_union s t q)
+
 -- a path that is covered already adds nothing
 pub least_covered : (s : PathSet) (p : List Field) → covers s p ≡ true → least (set.insert s p) ≡ least s
 least_covered s p h = least_same _ _ (λ q.
@@ -220,3 +228,18 @@ least_begins_once s p r q hp hr bp br =
     (λ b. ((least_word s r).0 hr).1 p ((least_word s p).0 hp).0 b)
     (λ b. sym (((least_word s p).0 hp).1 r ((least_word s r).0 hr).0 b))
     (either_begins p r q bp br)
+
+-- of a list of the least paths, by their places: each is a member, none but itself of the members begins it, and no two
+-- of them overlap
+pub cover_member : (cover : List (List Field)) (s : PathSet) (p : List Field) (k : ℕ) → set.from_list cover ≡ least s → get_or cover k p ≡ p → k < length cover → IsTrue (set.contains s p)
+cover_member cover s p k is at l = ((least_word s p).0 (ap (λ x. set.contains x p) (sym is) ∙ of_has_at cover p k at l)).0
+
+pub cover_first : (cover : List (List Field)) (s : PathSet) (p q : List Field) (k : ℕ) → set.from_list cover ≡ least s → get_or cover k q ≡ q → k < length cover → IsTrue (set.contains s p) → Beginning p q → p ≡ q
+cover_first cover s p q k is at l h b = ((least_word s q).0 (ap (λ x. set.contains x q) (sym is) ∙ of_has_at cover q k at l)).1 p h b
+
+pub cover_apart : (cover : List (List Field)) (s : PathSet) (p q : List Field) (j k : ℕ) → set.from_list cover ≡ least s → get_or cover j p ≡ p → j < length cover → get_or cover k q ≡ q → k < length cover → Overlaps p q → p ≡ q
+cover_apart cover s p q j k is atp lp atq lq o =
+    ⊎_elim
+    (λ b. cover_first cover s p q k is atq lq (cover_member cover s p j is atp lp) b)
+    (λ b. sym (cover_first cover s q p j is atp lp (cover_member cover s q k is atq lq) b))
+    o

@@ -196,3 +196,17 @@ first_begins (Exact []) f q e a = cc
 first_begins (Exact (h ∷ p)) f q e a = let same = same_Some f h e in (p, a ∙ (λ i. sym same i ∷ p))
 
 pub ruleset stepping = (given_at, given_exists, fields_shown, given_valid, none_at, none_exists, column_along, name_no_size_zero, name_no_extension, at_append, at_element, beginning_exists_in, front_exists_in, root_begins, root_leads, root_exists_in, tested_fields, tested_paths, one_type_at, along_after, none_after, none_further, first_asked, other_unasked, none_unasked, one_part, one_begins, tested_beginning, beginning_tested, root_alone, first_begins)
+
+-- ---- `stepping` by question: among fewer lemmas a search comes further
+
+-- the type along a path, along one that goes on, and along a prefix
+pub ruleset types_along = (given_at, given_exists, given_valid, none_at, none_exists, at_append, at_element, beginning_exists_in, front_exists_in, root_leads, root_exists_in, one_type_at, along_after, none_after, none_further)
+
+-- a path of one name in a struct
+pub ruleset one_column = (fields_shown, column_along, name_no_size_zero, name_no_extension)
+
+-- paths that begin others, and what the tests of steps and paths say
+pub ruleset beginnings = (root_begins, tested_fields, tested_paths, one_part, one_begins, tested_beginning, beginning_tested)
+
+-- what a mask selects after a step
+pub ruleset stepped_masks = (first_asked, other_unasked, none_unasked, root_begins, tested_fields, root_alone, first_begins)

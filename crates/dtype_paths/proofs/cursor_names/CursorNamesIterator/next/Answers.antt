@@ -1,7 +1,7 @@
 -- SPDX-License-Identifier: Apache-2.0
 -- SPDX-FileCopyrightText: Copyright the Vortex contributors
 
-use Rattle.std.proofs.Common.{◌≡◌, ◌∙◌, ℕ, List, ◌∷◌, length, ap, arith, subst, sym}
+use Rattle.std.proofs.Common.{◌∙◌, ℕ, List, ◌∷◌, length, ap, arith, subst, sym}
 use Rattle.std.specs.List.{Contains}
 use Rattle.std.proofs.lemmas.List.{length-map}
 use Rattle.dtype_paths.specs.Cursors.{names_left}

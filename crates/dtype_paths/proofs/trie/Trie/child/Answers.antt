@@ -1,12 +1,10 @@
 -- SPDX-License-Identifier: Apache-2.0
 -- SPDX-FileCopyrightText: Copyright the Vortex contributors
 
-use Rattle.std.proofs.Common.{◌≡◌, ◌∙◌, ap, option_and_then, subst, sym, ℕ, List, Some}
-use Rattle.dtype_paths.specs.PathPredicates.{no_path}
+use Rattle.std.proofs.Common.{◌≡◌, ◌∙◌, ap, option_and_then, subst, sym, List, Some}
 use Rattle.dtype_paths.specs.private.Children.{child}
 use Rattle.dtype_paths.specs.private.Reached.{ends_below, IsReached}
 use Rattle.dtype_paths.specs.private.Trie.{child_at}
-use Rattle.dtype_paths.specs.declared.field.Field.{Field}
 use Rattle.dtype_paths.specs.declared.node.Node.{Node}
 use Rattle.dtype_paths.proofs.Reaching.{child-ends, child-reached, reached-inside}
 use Rattle.dtype_paths.proofs.trie.Trie.child.Goals as goal

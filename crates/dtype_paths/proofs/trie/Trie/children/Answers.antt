@@ -1,10 +1,8 @@
 -- SPDX-License-Identifier: Apache-2.0
 -- SPDX-FileCopyrightText: Copyright the Vortex contributors
 
-use Rattle.std.proofs.Common.{◌≡◌, ◌∙◌, ℕ, List, ap, option_and_then, refl, subst, sym}
+use Rattle.std.proofs.Common.{ℕ, List, ap, option_and_then, subst, sym}
 use Rattle.std.specs.List.{Contains, filter_map}
-use Rattle.std.specs.Map.{lookup}
-use Rattle.dtype_paths.specs.Equality.{same_field}
 use Rattle.dtype_paths.specs.PathPredicates.{AreNames}
 use Rattle.dtype_paths.specs.private.Children.{child, name_entry, nodes_by_step}
 use Rattle.dtype_paths.specs.private.Reached.{ends_below, named_paths, IsReached}

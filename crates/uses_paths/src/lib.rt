@@ -7,14 +7,15 @@
 //! recursions of `masks`, `cursors`, `descending` and `merging`, and answers for a loop of `path_sets`, a clause of
 //! `path_messages` and two functions of `descending`; the tactics find all else.
 //!
-//! - Which columns a query opens: `binding` (those that a table lacks), `paths`, `path_sets`, `path_lists`, `projections`,
-//!   `opened`, `merging` (several files read as one), `intersecting` (two schemas that are both kept).
+//! - Which columns a query opens: `asked`, `binding` (those that a table lacks), `paths`, `path_sets`, `path_lists`,
+//!   `projections`, `opened`, `merging` (several files read as one), `intersecting` (two schemas that are both kept).
 //! - What is read further down: `masks`, `cursors`, `descending` (a table and a query at once), `layout`, `rows` (what is
 //!   found).
 //! - What is stored: `messages`, `path_messages`, `stored` (schemas written and read back).
 //! - Extensions: `sessions`, `plugins`, `dates`.
 #![tactic(auto)]
 
+pub mod asked;
 pub mod binding;
 pub mod cursors;
 pub mod dates;

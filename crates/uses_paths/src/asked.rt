@@ -1,0 +1,69 @@
+// SPDX-License-Identifier: Apache-2.0
+// SPDX-FileCopyrightText: Copyright the Vortex contributors
+
+//! A reader that asks whether a column is read, whether anything is, and which columns it opens.
+#![tactic(auto)]
+
+ghost use Rattle.std.specs.Prelude.{◌≡◌, ◌↔◌, Contains, IfOk, IsTrue, List, false};
+ghost use Rattle.std.specs.FinSet as set;
+ghost use Rattle.std.specs.Vec.Iter.{into_iter_items};
+ghost use Rattle.vortex_dtype.specs.Beginning.{Beginning};
+ghost use Rattle.vortex_dtype.specs.Covering.{SameCoverage, covers};
+ghost use Rattle.vortex_dtype.specs.Overlaps.{Overlaps};
+ghost use Rattle.vortex_dtype.specs.Types.Field.{Field};
+
+use std::vec;
+use vortex_dtype::{FieldPath, FieldPathSet, VortexResult};
+
+/// Whether a column is read, since a query asks for it or for something above it.
+#[tactic(auto, using(vortex_dtype::proofs::rulesets::lent_paths))]
+pub fn is_read(asked: &FieldPathSet, column: &FieldPath) -> VortexResult<bool>
+    ensures { IfOk result (λ b. IsTrue b ↔ IsTrue (covers asked.now column.now)) }
+{
+    Ok(
+        asked
+            .iter()?
+            .any(|path| column.parts().starts_with(path.parts())),
+    )
+}
+
+/// Whether a query asks for nothing: then no path is asked for, and the converse.
+#[tactic(auto, using(vortex_dtype::proofs::rulesets::set_cursors))]
+pub fn asks_nothing(asked: &FieldPathSet) -> bool
+    ensures { IsTrue result ↔ ((q : List Field) → set.contains asked.now q ≡ false) }
+{
+    asked.cursor().is_empty()
+}
+
+/// What either of two queries asks for, of the second its least paths alone: it covers the same.
+#[tactic(auto, using(vortex_dtype::proofs::rulesets::set_unions))]
+pub fn both_queries(mut asked: FieldPathSet, more: FieldPathSet) -> VortexResult<FieldPathSet>
+    ensures { IfOk result (λ s. SameCoverage s (set.union asked more)) }
+{
+    asked.extend(more.into_iter()?)?;
+    Ok(asked)
+}
+
+/// The columns to open: none that lies below another that is asked for.
+#[tactic(auto, using(vortex_dtype::proofs::rulesets::least_paths))]
+pub fn open_outer(
+    asked: FieldPathSet,
+    outer: &FieldPath,
+    inner: &FieldPath,
+) -> VortexResult<vec::IntoIter<FieldPath>>
+    requires asked { IsTrue (set.contains asked outer.now) }
+    requires below { Beginning outer.now inner.now }
+    requires other { ¬ (outer.now ≡ inner.now) }
+    ensures { IfOk result (λ r. ¬ (Contains (into_iter_items r) inner.now)) }
+{
+    asked.into_iter()
+}
+
+/// The columns to open: no two of them overlap.
+#[tactic(auto, using(vortex_dtype::proofs::rulesets::least_paths))]
+pub fn open_apart(asked: FieldPathSet) -> VortexResult<vec::IntoIter<FieldPath>>
+    ensures { IfOk result (λ r. (p q : List Field) → Contains (into_iter_items r) p
+        → Contains (into_iter_items r) q → Overlaps p q → p ≡ q) }
+{
+    asked.into_iter()
+}

@@ -18,7 +18,7 @@ use Rattle.std.proofs.lemmas.Option.{same_Some}
 use Rattle.std.proofs.lemmas.Map.Keys.{sorted_head, sorted_tail}
 use Rattle.dtype_base.specs.declared.nullability.Nullability.{Nullability}
 use Rattle.dtype_types.specs.parts.Lookups.{field_names, field_types}
-use Rattle.dtype_types.specs.tree.Tree.{Tree, Fields, no_fields, field, fields, pairs, struct}
+use Rattle.dtype_types.specs.tree.Tree.{Tree, Fields, field, fields, pairs, struct}
 use Rattle.dtype_types.proofs.lemmas.TreeLaws.{tree_struct}
 use Rattle.dtype_types.specs.tree.TreeOf.{tree, children, fields_of, struct_pairs, with_trees}
 use Rattle.dtype_types.specs.declared.dtype.DType.{DType, Struct}

@@ -7,7 +7,7 @@
 -- (`step` of `dtype_paths`), so a choice that has a later one has the first.
 use Rattle.std.specs.Prelude.{◌≡◌, ◌⊎◌, IsTrue, List, None}
 use Rattle.dtype_types.specs.parts.Lookups.{first_named}
-use Rattle.dtype_types.specs.tree.Tree.{Tree, Fields, no_fields, field, pairs, list, fixed_size_list, struct}
+use Rattle.dtype_types.specs.tree.Tree.{Tree, Fields, no_items, field, pairs, list, fixed_size_list, struct, item}
 use Rattle.dtype_paths.specs.Along.{along}
 use Rattle.dtype_paths.specs.declared.field.Field.{Field}
 use Rattle.dtype_projection.specs.Projected.{PathPredicate}
@@ -22,8 +22,8 @@ abbrev mutual
   IsPart t u = u ≡ t
 
   pub IsPartOfFields : Fields → Fields → Type 0
-  IsPartOfFields no_fields gs = gs ≡ no_fields
-  IsPartOfFields (field n t fs) gs =
+  IsPartOfFields no_items gs = gs ≡ no_items
+  IsPartOfFields (item n t _ fs) gs =
       ((u : Tree) × (rest : Fields) × (gs ≡ field n u rest) × IsPart t u × IsPartOfFields fs rest)
       ⊎ (IsPartOfFields fs gs × (first_named (pairs gs) n ≡ None))
 

@@ -9,7 +9,7 @@
 use Rattle.std.specs.Prelude.{ℕ, List, [], ◌∷◌, not, ◌&&◌, Option, Some, None, if◌then◌else◌}
 use Rattle.std.specs.Option.{option_map}
 use Rattle.dtype_base.specs.declared.nullability.Nullability.{Nullability}
-use Rattle.dtype_types.specs.tree.Tree.{Tree, Fields, no_fields, field, list, fixed_size_list, struct}
+use Rattle.dtype_types.specs.tree.Tree.{Tree, Fields, no_items, field, list, fixed_size_list, struct, item}
 use Rattle.dtype_paths.specs.Equality.{same_field}
 pub use Rattle.dtype_paths.specs.PathPredicates.{PathPredicate, after_step}
 use Rattle.dtype_paths.specs.declared.field.Field.{Field}
@@ -22,8 +22,8 @@ without_field n w (f ∷ p) = not (same_field (Name n) f) && w (f ∷ p)
 
 -- a struct of these fields, unless there is none
 abbrev pub struct_with : Nullability → Fields → Option Tree
-struct_with n no_fields = None
-struct_with n (field m t rest) = Some (struct (field m t rest) n)
+struct_with n no_items = None
+struct_with n (item m t _ rest) = Some (struct (field m t rest) n)
 
 -- these fields after a field n, if something of type t is kept of it
 abbrev pub prepend_kept : List ℕ → Option Tree → Fields → Fields
@@ -41,5 +41,5 @@ abbrev mutual
   projected t w = if w [] then Some t else None
 
   pub projected_fields : Fields → PathPredicate → Fields
-  projected_fields no_fields w = no_fields
-  projected_fields (field n t rest) w = prepend_kept n (projected t (after_step (Name n) w)) (projected_fields rest (without_field n w))
+  projected_fields no_items w = no_items
+  projected_fields (item n t _ rest) w = prepend_kept n (projected t (after_step (Name n) w)) (projected_fields rest (without_field n w))

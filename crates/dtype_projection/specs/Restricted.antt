@@ -4,7 +4,7 @@
 -- A value of a type, restricted to some paths: a value of the type's projection to them (`Projected`). What a reader
 -- gives that opens these paths alone, as Parquet's projection masks have it.
 use Rattle.std.specs.Prelude.{ℕ, List, [], Option, Some, None, if◌then◌else◌}
-use Rattle.dtype_types.specs.tree.Tree.{Tree, Fields, no_fields, field, list, fixed_size_list, struct}
+use Rattle.dtype_types.specs.tree.Tree.{Tree, Fields, no_items, list, fixed_size_list, struct, item}
 use Rattle.dtype_types.specs.values.Value.{Value, Values, no_values, value, Named, no_named, named, items, fixed_items, record_of}
 use Rattle.dtype_paths.specs.declared.field.Field.TheVariants.{Name, ElementType}
 use Rattle.dtype_projection.specs.Projected.{PathPredicate, after_step, without_field, projected}
@@ -37,6 +37,6 @@ abbrev mutual
   restricted t w v = v
 
   pub restricted_pairs : Fields → PathPredicate → Named → Named
-  restricted_pairs no_fields w nvs = nvs
-  restricted_pairs (field n t rest) w no_named = no_named
-  restricted_pairs (field n t rest) w (named m v more) = prepend_pair m (projected t (after_step (Name n) w)) (restricted t (after_step (Name n) w) v) (restricted_pairs rest (without_field n w) more)
+  restricted_pairs no_items w nvs = nvs
+  restricted_pairs (item n t _ rest) w no_named = no_named
+  restricted_pairs (item n t _ rest) w (named m v more) = prepend_pair m (projected t (after_step (Name n) w)) (restricted t (after_step (Name n) w) v) (restricted_pairs rest (without_field n w) more)

@@ -19,7 +19,7 @@ use Rattle.dtype_types.specs.declared.dtype.DType.{DType}
 use Rattle.dtype_types.specs.declared.dtype.equality.NullabilityRule.{NullabilityRule}
 use Rattle.dtype_types.specs.parts.Lookups.{variant_tags}
 use Rattle.dtype_types.proofs.ConsecutiveTags.{consecutive}
-use Rattle.dtype_types.specs.equality.Equality.{equal_under, fields_equal_under, variants_equal_under}
+use Rattle.dtype_types.specs.equality.Equality.{equal_under, items_equal_under}
 
 pub and_first : (x y : Bool) → x ≡ false → (x && y) ≡ false
 and_first x y e = ap (λ b. b && y) e
@@ -69,15 +69,15 @@ ended same _ _ r so_far even none = absurd (omega arith)
 abbrev pub same_field : NullabilityRule → List ℕ × DType → List ℕ × DType → Bool
 same_field s p q = bytes_eq p.0 q.0 && equal_under s (tree p.1) (tree q.1)
 
-pub fields_pointwise : (s : NullabilityRule) (ps qs : List (List ℕ × DType)) → fields_equal_under s (fields (with_trees ps)) (fields (with_trees qs)) ≡ pointwise (same_field s) ps qs
+pub fields_pointwise : (s : NullabilityRule) (ps qs : List (List ℕ × DType)) → items_equal_under s (fields (with_trees ps)) (fields (with_trees qs)) ≡ pointwise (same_field s) ps qs
 fields_pointwise s [] [] = refl
 fields_pointwise s (p ∷ ps) (q ∷ qs) = ap (λ b. same_field s p q && b) (fields_pointwise s ps qs)
 fields_pointwise s _ _ = refl
 
 abbrev pub same_variant : NullabilityRule → List ℕ × (DType × ℕ) → List ℕ × (DType × ℕ) → Bool
-same_variant s p q = bytes_eq p.0 q.0 && equal_under s (tree p.1.0) (tree q.1.0) && (p.1.1 == q.1.1)
+same_variant s p q = (p.1.1 == q.1.1) && bytes_eq p.0 q.0 && equal_under s (tree p.1.0) (tree q.1.0)
 
-pub variants_pointwise : (s : NullabilityRule) (ps qs : List (List ℕ × (DType × ℕ))) → variants_equal_under s (variants (with_tagged_trees ps)) (variants (with_tagged_trees qs)) ≡ pointwise (same_variant s) ps qs
+pub variants_pointwise : (s : NullabilityRule) (ps qs : List (List ℕ × (DType × ℕ))) → items_equal_under s (variants (with_tagged_trees ps)) (variants (with_tagged_trees qs)) ≡ pointwise (same_variant s) ps qs
 variants_pointwise s [] [] = refl
 variants_pointwise s (p ∷ ps) (q ∷ qs) = ap (λ b. same_variant s p q && b) (variants_pointwise s ps qs)
 variants_pointwise s _ _ = refl

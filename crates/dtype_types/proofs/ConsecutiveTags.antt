@@ -10,13 +10,13 @@ use Rattle.std.proofs.lemmas.Bool.Decides.{Decides-and, Decides-eqb, same_from_d
 use Rattle.dtype_types.specs.equality.EqualityLaws.{restated}
 use Rattle.dtype_types.specs.parts.Lookups.{variant_tags}
 use Rattle.dtype_types.specs.parts.Unions.{AreConsecutive, are_consecutive}
-use Rattle.dtype_types.specs.tree.Tree.{Tree, Variants, no_variants, choice, triples, variants}
+use Rattle.dtype_types.specs.tree.Tree.{Tree, Variants, no_items, item, triples, variants}
 use Rattle.dtype_types.proofs.lemmas.TreeLaws.{triples_variants}
 
 -- the tags are n, n + 1 and so on
 abbrev pub consecutive : ℕ → Variants → Bool
-consecutive n no_variants = true
-consecutive n (choice m t g rest) = (g == n) && consecutive (n + 1) rest
+consecutive n no_items = true
+consecutive n (item m t g rest) = (g == n) && consecutive (n + 1) rest
 
 consecutive_Decides : (k : ℕ) (vs : List (List ℕ × (Tree × ℕ))) → Decides (consecutive k (variants vs)) (variant_tags vs ≡ range_with_len k (length (variant_tags vs)))
 consecutive_Decides k [] = (λ e. refl, λ e. refl)

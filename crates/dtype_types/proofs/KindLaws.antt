@@ -6,7 +6,7 @@
 use Rattle.std.proofs.Common.{◌≡◌, ◌&&◌, ap, ◌∙◌, Some, false, refl}
 use denote.Hole.Carrier
 use Rattle.dtype_base.specs.declared.nullability.Nullability.{Nullability}
-use Rattle.dtype_types.specs.equality.Equality.{equal_under, fields_equal_under, variants_equal_under, allows}
+use Rattle.dtype_types.specs.equality.Equality.{equal_under, items_equal_under, allows}
 use Rattle.dtype_types.proofs.lemmas.TreeLaws.{pairs_of}
 use Rattle.dtype_types.proofs.lemmas.TreeLaws.{tree_out, tree_struct, tree_union, triples_variants}
 use Rattle.dtype_types.specs.tree.Kinds.{struct_fields, union_variants}
@@ -30,11 +30,11 @@ unfolding out-DType Carrier.out
 not_null s Null h = absurd (h refl)
 not_null s d h = ap (equal_under s null) (tree_out d)
 
-pub structs_equal_under : (s : NullabilityRule) (d e : DType) (x y : StructFields) (m n : Nullability) → d ≡ Struct x m → e ≡ Struct y n → equal_under s (tree d) (tree e) ≡ (allows s m n && fields_equal_under s (fields (children x)) (fields (children y)))
+pub structs_equal_under : (s : NullabilityRule) (d e : DType) (x y : StructFields) (m n : Nullability) → d ≡ Struct x m → e ≡ Struct y n → equal_under s (tree d) (tree e) ≡ (allows s m n && items_equal_under s (fields (children x)) (fields (children y)))
 structs_equal_under s d e x y m n p q =
     ap (λ z. equal_under s (tree z) (tree e)) p ∙ ap (λ z. equal_under s z (tree e)) (tree_struct x m) ∙ ap (λ z. equal_under s (struct (fields (children x)) m) (tree z)) q ∙ ap (equal_under s (struct (fields (children x)) m)) (tree_struct y n)
 
-pub unions_equal_under : (s : NullabilityRule) (d e : DType) (x y : UnionVariants) (m n : Nullability) → d ≡ Union x m → e ≡ Union y n → equal_under s (tree d) (tree e) ≡ (allows s m n && variants_equal_under s (variants (variant_list x)) (variants (variant_list y)))
+pub unions_equal_under : (s : NullabilityRule) (d e : DType) (x y : UnionVariants) (m n : Nullability) → d ≡ Union x m → e ≡ Union y n → equal_under s (tree d) (tree e) ≡ (allows s m n && items_equal_under s (variants (variant_list x)) (variants (variant_list y)))
 unions_equal_under s d e x y m n p q =
     ap (λ z. equal_under s (tree z) (tree e)) p ∙ ap (λ z. equal_under s z (tree e)) (tree_union x m) ∙ ap (λ z. equal_under s (union (variants (variant_list x)) m) (tree z)) q ∙ ap (equal_under s (union (variants (variant_list x)) m)) (tree_union y n)
 

@@ -8,10 +8,10 @@ use Rattle.std.specs.List.{zip}
 use Rattle.std.specs.Map.{keys_of, values_of}
 use Rattle.std.proofs.lemmas.List.{length-map}
 use Rattle.dtype_base.specs.declared.nullability.Nullability.{Nullability}
-use Rattle.dtype_types.specs.nullability.Merged.{Rule, merge, merge_fields, merge_variants}
+use Rattle.dtype_types.specs.nullability.Merged.{Rule, merge, merge_items}
 use Rattle.dtype_types.specs.parts.Lists.{types_of, tags_of}
-use Rattle.dtype_types.specs.tree.Erase.{erase, erase_fields, erase_variants}
-use Rattle.dtype_types.specs.tree.Tree.{Tree, field, fields, choice, variants, struct, union}
+use Rattle.dtype_types.specs.tree.Erase.{erase, erase_items}
+use Rattle.dtype_types.specs.tree.Tree.{Tree, field, fields, item, variants, struct, union, rest_of}
 use Rattle.dtype_types.specs.tree.TreeOf.{tree, fields_of, variants_of, with_trees, with_tagged_trees}
 use Rattle.dtype_types.specs.declared.dtype.DType.{DType, Struct, Union}
 use Rattle.dtype_types.specs.declared.struct_fields.StructFields.{StructFields}
@@ -21,16 +21,16 @@ use Rattle.dtype_types.proofs.lemmas.TreeLaws.{tree_struct, tree_union}
 
 -- ---- a type of two types of one kind
 
-pub merged_structs : (r : Rule) (d e : DType) (x y z : StructFields) (m n o : Nullability) → d ≡ Struct x m → e ≡ Struct y n → o ≡ r m n → fields_of z ≡ merge_fields r (fields_of x) (fields_of y)
+pub merged_structs : (r : Rule) (d e : DType) (x y z : StructFields) (m n o : Nullability) → d ≡ Struct x m → e ≡ Struct y n → o ≡ r m n → fields_of z ≡ merge_items r (fields_of x) (fields_of y)
     → tree (Struct z o) ≡ merge r (tree d) (tree e)
 merged_structs r d e x y z m n o p q same made =
-    tree_struct z o ∙ ap (λ fs. struct fs o) made ∙ ap (struct (merge_fields r (fields_of x) (fields_of y))) same
+    tree_struct z o ∙ ap (λ fs. struct fs o) made ∙ ap (struct (merge_items r (fields_of x) (fields_of y))) same
     ∙ ap (merge r (struct (fields_of x) m)) (sym (tree_struct y n) ∙ ap tree (sym q)) ∙ ap (λ t. merge r t (tree e)) (sym (tree_struct x m) ∙ ap tree (sym p))
 
-pub merged_unions : (r : Rule) (d e : DType) (x y z : UnionVariants) (m n o : Nullability) → d ≡ Union x m → e ≡ Union y n → o ≡ r m n → variants_of z ≡ merge_variants r (variants_of x) (variants_of y)
+pub merged_unions : (r : Rule) (d e : DType) (x y z : UnionVariants) (m n o : Nullability) → d ≡ Union x m → e ≡ Union y n → o ≡ r m n → variants_of z ≡ merge_items r (variants_of x) (variants_of y)
     → tree (Union z o) ≡ merge r (tree d) (tree e)
 merged_unions r d e x y z m n o p q same made =
-    tree_union z o ∙ ap (λ vs. union vs o) made ∙ ap (union (merge_variants r (variants_of x) (variants_of y))) same
+    tree_union z o ∙ ap (λ vs. union vs o) made ∙ ap (union (merge_items r (variants_of x) (variants_of y))) same
     ∙ ap (merge r (union (variants_of x) m)) (sym (tree_union y n) ∙ ap tree (sym q)) ∙ ap (λ t. merge r t (tree e)) (sym (tree_union x m) ∙ ap tree (sym p))
 
 pub ruleset merged_parts = (merged_structs, merged_unions)
@@ -72,38 +72,38 @@ as_many_made r ds es made same is = sym (length-map made tree) ∙ ap length is 
 
 -- ---- structs
 
-pub erased_fields : (ps qs : List (List ℕ × DType)) → erase_fields (fields (with_trees ps)) ≡ erase_fields (fields (with_trees qs)) → erased (values_of ps) ≡ erased (values_of qs)
+pub erased_fields : (ps qs : List (List ℕ × DType)) → erase_items (fields (with_trees ps)) ≡ erase_items (fields (with_trees qs)) → erased (values_of ps) ≡ erased (values_of qs)
 erased_fields [] [] e = refl
 erased_fields [] (q ∷ qs) e = cc
 erased_fields (p ∷ ps) [] e = cc
 erased_fields (p ∷ ps) (q ∷ qs) e =
     let head : erase (tree p.1) ≡ erase (tree q.1) = cc in
-    let tail = erased_fields ps qs (cc) in cc
+    let tail = erased_fields ps qs (ap rest_of e) in cc
 
-merged_pairs : (r : Rule) (ps qs : List (List ℕ × DType)) → fields (zip (keys_of ps) (bounds r (values_of ps) (values_of qs))) ≡ merge_fields r (fields (with_trees ps)) (fields (with_trees qs))
+merged_pairs : (r : Rule) (ps qs : List (List ℕ × DType)) → fields (zip (keys_of ps) (bounds r (values_of ps) (values_of qs))) ≡ merge_items r (fields (with_trees ps)) (fields (with_trees qs))
 merged_pairs r [] qs = refl
 merged_pairs r (p ∷ ps) [] = refl
 merged_pairs r (p ∷ ps) (q ∷ qs) = ap (field p.0 (merge r (tree p.1) (tree q.1))) (merged_pairs r ps qs)
 
 pub merged_fields : (r : Rule) (ps qs : List (List ℕ × DType)) (made : List DType) → map tree made ≡ bounds r (values_of ps) (values_of qs)
-    → fields (with_trees (zip (keys_of ps) made)) ≡ merge_fields r (fields (with_trees ps)) (fields (with_trees qs))
+    → fields (with_trees (zip (keys_of ps) made)) ≡ merge_items r (fields (with_trees ps)) (fields (with_trees qs))
 merged_fields r ps qs made is = ap fields (trees_zip (keys_of ps) made ∙ ap (zip (keys_of ps)) is) ∙ merged_pairs r ps qs
 
 -- ---- unions
 
-pub erased_variants : (ps qs : List (List ℕ × (DType × ℕ))) → erase_variants (variants (with_tagged_trees ps)) ≡ erase_variants (variants (with_tagged_trees qs)) → erased (types_of ps) ≡ erased (types_of qs)
+pub erased_variants : (ps qs : List (List ℕ × (DType × ℕ))) → erase_items (variants (with_tagged_trees ps)) ≡ erase_items (variants (with_tagged_trees qs)) → erased (types_of ps) ≡ erased (types_of qs)
 erased_variants [] [] e = refl
 erased_variants [] (q ∷ qs) e = cc
 erased_variants (p ∷ ps) [] e = cc
 erased_variants (p ∷ ps) (q ∷ qs) e =
     let head : erase (tree p.1.0) ≡ erase (tree q.1.0) = cc in
-    let tail = erased_variants ps qs (cc) in cc
+    let tail = erased_variants ps qs (ap rest_of e) in cc
 
-merged_triples : (r : Rule) (ps qs : List (List ℕ × (DType × ℕ))) → variants (zip (keys_of ps) (zip (bounds r (types_of ps) (types_of qs)) (tags_of ps))) ≡ merge_variants r (variants (with_tagged_trees ps)) (variants (with_tagged_trees qs))
+merged_triples : (r : Rule) (ps qs : List (List ℕ × (DType × ℕ))) → variants (zip (keys_of ps) (zip (bounds r (types_of ps) (types_of qs)) (tags_of ps))) ≡ merge_items r (variants (with_tagged_trees ps)) (variants (with_tagged_trees qs))
 merged_triples r [] qs = refl
 merged_triples r (p ∷ ps) [] = refl
-merged_triples r (p ∷ ps) (q ∷ qs) = ap (choice p.0 (merge r (tree p.1.0) (tree q.1.0)) p.1.1) (merged_triples r ps qs)
+merged_triples r (p ∷ ps) (q ∷ qs) = ap (item p.0 (merge r (tree p.1.0) (tree q.1.0)) p.1.1) (merged_triples r ps qs)
 
 pub merged_variants : (r : Rule) (ps qs : List (List ℕ × (DType × ℕ))) (made : List DType) → map tree made ≡ bounds r (types_of ps) (types_of qs)
-    → variants (with_tagged_trees (zip (keys_of ps) (zip made (tags_of ps)))) ≡ merge_variants r (variants (with_tagged_trees ps)) (variants (with_tagged_trees qs))
+    → variants (with_tagged_trees (zip (keys_of ps) (zip made (tags_of ps)))) ≡ merge_items r (variants (with_tagged_trees ps)) (variants (with_tagged_trees qs))
 merged_variants r ps qs made is = ap variants (trees_three (keys_of ps) made (tags_of ps) ∙ ap (λ z. zip (keys_of ps) (zip z (tags_of ps))) is) ∙ merged_triples r ps qs

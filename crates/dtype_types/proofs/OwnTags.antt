@@ -2,7 +2,7 @@
 -- SPDX-FileCopyrightText: Copyright the Vortex contributors
 
 -- The variants of a valid union by recursion: each has a valid type, and a tag that none after it has.
-use Rattle.std.proofs.Common.{◌≡◌, ◌≢◌, ℕ, suc, ◌∙◌, inl, inr, length, refl, sym, subst, arith}
+use Rattle.std.proofs.Common.{◌≡◌, ◌≢◌, ℕ, suc, ◌∙◌, inl, inr, length, refl, sym, subst, arith, ap}
 use Rattle.std.specs.List.{AllByRecursion}
 use Rattle.std.proofs.lemmas.List.{length-map}
 use Rattle.std.proofs.lemmas.List.Elements.{recursion_from_All}
@@ -11,9 +11,9 @@ use Rattle.dtype_base.specs.Distinct.{Distinct}
 use Rattle.dtype_base.specs.declared.nullability.Nullability.{Nullability}
 use Rattle.dtype_types.specs.parts.Lookups.{variant_names, variant_tags}
 use Rattle.dtype_types.specs.parts.Unions.{HasUnionLengths, AreVariants}
-use Rattle.dtype_types.specs.tree.Erase.{erase_variants}
-use Rattle.dtype_types.specs.tree.Tree.{Variants, no_variants, choice, triples, union}
-use Rattle.dtype_types.specs.tree.Valid.{Valid, ValidVariants}
+use Rattle.dtype_types.specs.tree.Erase.{erase_items}
+use Rattle.dtype_types.specs.tree.Tree.{Variants, no_items, item, triples, union, rest_of, first_tag}
+use Rattle.dtype_types.specs.tree.Valid.{Valid, ValidItems}
 use Rattle.dtype_types.specs.values.Value.{Value, VariantOf}
 use Rattle.dtype_types.proofs.lemmas.ValidLists.{variants_are, are_variants}
 
@@ -22,12 +22,12 @@ abbrev pub LacksTag : ℕ → Variants → Type 0
 LacksTag g vs = AllByRecursion (λ h. g ≢ h) (variant_tags (triples vs))
 
 abbrev pub OwnTags : Variants → Type 0
-OwnTags no_variants = Unit {0}
-OwnTags (choice n t g rest) = Valid t × LacksTag g rest × OwnTags rest
+OwnTags no_items = Unit {0}
+OwnTags (item n t g rest) = Valid t × LacksTag g rest × OwnTags rest
 
-each_tag : (vs : Variants) → Distinct (variant_tags (triples vs)) → ValidVariants vs → OwnTags vs
-each_tag no_variants apart valid = tt
-each_tag (choice n t g rest) apart valid = (
+each_tag : (vs : Variants) → Distinct (variant_tags (triples vs)) → ValidItems vs → OwnTags vs
+each_tag no_items apart valid = tt
+each_tag (item n t g rest) apart valid = (
   valid.0,
   recursion_from_All (λ h. g ≢ h) (variant_tags (triples rest)) (λ j d within. apart 0 (suc j) d (omega arith) (omega arith)),
   each_tag rest (λ i j d before within. apart (suc i) (suc j) d (omega arith) (omega arith)) valid.1,
@@ -38,25 +38,25 @@ own_tags vs n h = each_tag vs (variants_are vs h.0).0.1 h.1
 
 -- a variant has a tag that is there
 pub absent : (g : ℕ) (vs : Variants) → LacksTag g vs → (h : ℕ) (v : Value) → h ≡ g → VariantOf h v vs → ⊥
-absent g no_variants lacks h v is o = o
-absent g (choice n t i vs) lacks h v is (inl o) = lacks.0 (sym is ∙ o.0)
-absent g (choice n t i vs) lacks h v is (inr o) = absent g vs lacks.1 h v is o
+absent g no_items lacks h v is o = o
+absent g (item n t i vs) lacks h v is (inl o) = lacks.0 (sym is ∙ o.0)
+absent g (item n t i vs) lacks h v is (inr o) = absent g vs lacks.1 h v is o
 
 -- variants that are equal but for the nullabilities of their types have the same tags and names
-pub same_tags : (vs ws : Variants) → erase_variants vs ≡ erase_variants ws → variant_tags (triples vs) ≡ variant_tags (triples ws)
-same_tags no_variants no_variants e = refl
-same_tags (choice m t g vs) (choice n u h ws) e = cc (same_tags vs ws (cc))
+pub same_tags : (vs ws : Variants) → erase_items vs ≡ erase_items ws → variant_tags (triples vs) ≡ variant_tags (triples ws)
+same_tags no_items no_items e = refl
+same_tags (item m t g vs) (item n u h ws) e = cc (ap (first_tag g) e, same_tags vs ws (ap rest_of e))
 same_tags _ _ e = cc
 
-same_names : (vs ws : Variants) → erase_variants vs ≡ erase_variants ws → variant_names (triples vs) ≡ variant_names (triples ws)
-same_names no_variants no_variants e = refl
-same_names (choice m t g vs) (choice n u h ws) e = cc (same_names vs ws (cc))
+same_names : (vs ws : Variants) → erase_items vs ≡ erase_items ws → variant_names (triples vs) ≡ variant_names (triples ws)
+same_names no_items no_items e = refl
+same_names (item m t g vs) (item n u h ws) e = cc (same_names vs ws (ap rest_of e))
 same_names _ _ e = cc
 
-pub lacks_also : (g : ℕ) (vs ws : Variants) → erase_variants vs ≡ erase_variants ws → LacksTag g vs → LacksTag g ws
+pub lacks_also : (g : ℕ) (vs ws : Variants) → erase_items vs ≡ erase_items ws → LacksTag g vs → LacksTag g ws
 lacks_also g vs ws e h = subst (AllByRecursion (λ h. g ≢ h)) (same_tags vs ws e) h
 
-pub are_variants_also : (vs ws : Variants) → erase_variants vs ≡ erase_variants ws → AreVariants vs → AreVariants ws
+pub are_variants_also : (vs ws : Variants) → erase_items vs ≡ erase_items ws → AreVariants vs → AreVariants ws
 are_variants_also vs ws e h =
     let was = variants_are vs h in
     let tags = same_tags vs ws e in

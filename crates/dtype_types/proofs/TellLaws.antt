@@ -2,19 +2,19 @@
 -- SPDX-FileCopyrightText: Copyright the Vortex contributors
 
 -- What `tell` gives is a value of the first type and not of the second.
-use Rattle.std.proofs.Common.{◌≡◌, ◌∙◌, ℕ, List, zero, suc, ◌<◌, IfSome, Option, Some, None, refl, sym, inl, inr, arith}
+use Rattle.std.proofs.Common.{◌≡◌, ◌∙◌, ℕ, List, zero, suc, ◌<◌, IfSome, Option, Some, None, refl, sym, inl, inr, arith, ap}
 use Rattle.std.specs.Prelude.{option_map, IsSomeAnd}
 use Rattle.std.proofs.lemmas.Option.{IfSome_then}
 use Rattle.dtype_base.specs.declared.nullability.Nullability.{Nullability}
 use Rattle.dtype_base.specs.declared.nullability.Nullability.TheVariants.{NonNullable, Nullable}
 use Rattle.dtype_types.specs.nullability.Nullable.{nullability}
 use Rattle.dtype_types.specs.nullability.Sub.{Sub}
-use Rattle.dtype_types.specs.tree.Erase.{erase, erase_fields, erase_variants}
-use Rattle.dtype_types.specs.tree.Tree.{Tree, Fields, no_fields, field, Variants, no_variants, choice, null, bool, primitive, decimal, utf8, binary, list, fixed_size_list, map_of, struct, union, variant, extension}
-use Rattle.dtype_types.specs.tree.Valid.{Valid, ValidFields}
+use Rattle.dtype_types.specs.tree.Erase.{erase, erase_items}
+use Rattle.dtype_types.specs.tree.Tree.{Tree, Fields, no_items, field, Variants, item, null, bool, primitive, decimal, utf8, binary, list, fixed_size_list, map_of, struct, union, variant, extension, rest_of, first_tag}
+use Rattle.dtype_types.specs.tree.Valid.{Valid, ValidItems}
 use Rattle.dtype_types.specs.values.Value.{Value, Named, Of, IncludedIn, NamedOf, VariantOf, Each, null_value, items, fixed_items, entries, record_of, tagged, no_values, value, no_entries, entry, named}
 use Rattle.dtype_types.specs.values.Sample.{sample, samples, copies}
-use Rattle.dtype_types.specs.values.Tell.{or_else, null_else, tell, tell_fields, tell_variants, HasNoSizeZero, FieldsHaveNoSizeZero, VariantsHaveNoSizeZero}
+use Rattle.dtype_types.specs.values.Tell.{or_else, null_else, tell, tell_fields, tell_variants, HasNoSizeZero, ItemsHaveNoSizeZero}
 use Rattle.dtype_types.proofs.lemmas.NullValues.{null_is_of_nullable}
 use Rattle.dtype_types.proofs.lemmas.SampleLaws.{sample_of, samples_of, value_count-copies, each_copy}
 use Rattle.dtype_types.proofs.OwnTags.{OwnTags, LacksTag, own_tags, absent, lacks_also}
@@ -50,12 +50,12 @@ told_node a b o h = go (nullability a) (nullability b) (null_is_of_nullable a).1
 -- ---- a union's tags
 
 -- the value of a tag that no other variant has
-value_of_first : (g i : ℕ) (v : Value) (n : List ℕ) (u : Tree) (ws : Variants) → LacksTag g ws → VariantOf g v (choice n u i ws) → Of v u
+value_of_first : (g i : ℕ) (v : Value) (n : List ℕ) (u : Tree) (ws : Variants) → LacksTag g ws → VariantOf g v (item n u i ws) → Of v u
 value_of_first g i v n u ws h (inl o) = o.1
 value_of_first g i v n u ws h (inr o) = absurd (absent g ws h g v refl o)
 
 -- the value of another tag than the first
-later_of : (g k i : ℕ) (v : Value) (n : List ℕ) (u : Tree) (vs ws : Variants) → g ≡ i → LacksTag g vs → VariantOf k v vs → VariantOf k v (choice n u i ws) → VariantOf k v ws
+later_of : (g k i : ℕ) (v : Value) (n : List ℕ) (u : Tree) (vs ws : Variants) → g ≡ i → LacksTag g vs → VariantOf k v vs → VariantOf k v (item n u i ws) → VariantOf k v ws
 later_of g k i v n u vs ws same h p (inl o) = absurd (absent g vs h k v (o.0 ∙ sym same) p)
 later_of g k i v n u vs ws same h p (inr o) = o
 
@@ -97,22 +97,22 @@ mutual
   told (extension i a t) (extension j b u) h z e = told t u h.1 z (cc)
   told _ _ h z e = absurd (cc e)
 
-  told_fields : (fs gs : Fields) → ValidFields fs → FieldsHaveNoSizeZero fs → erase_fields fs ≡ erase_fields gs → IfSome (tell_fields fs gs) (FieldsApart fs gs)
-  told_fields no_fields no_fields h z e = tt
-  told_fields (field m t fs) (field n u gs) h z e =
+  told_fields : (fs gs : Fields) → ValidItems fs → ItemsHaveNoSizeZero fs → erase_items fs ≡ erase_items gs → IfSome (tell_fields fs gs) (FieldsApart fs gs)
+  told_fields no_items no_items h z e = tt
+  told_fields (item m t _ fs) (item n u _ gs) h z e =
       let apart = FieldsApart (field m t fs) (field n u gs) in
       told_or apart _ _
       (told_map (Apart t u) apart (λ v. named m v (samples fs)) (λ v r. ((refl, r.0, samples_of fs h.1), λ q. r.1 q.1)) (tell t u) (told t u h.0 z.0 (cc)))
-      (told_map (FieldsApart fs gs) apart (λ r. named m (sample t) r) (λ r p. ((refl, sample_of t h.0, p.0), λ q. p.1 q.2)) (tell_fields fs gs) (told_fields fs gs h.1 z.1 (cc)))
+      (told_map (FieldsApart fs gs) apart (λ r. named m (sample t) r) (λ r p. ((refl, sample_of t h.0, p.0), λ q. p.1 q.2)) (tell_fields fs gs) (told_fields fs gs h.1 z.1 (ap rest_of e)))
   told_fields _ _ h z e = absurd (cc e)
 
-  told_variants : (vs ws : Variants) → OwnTags vs → VariantsHaveNoSizeZero vs → erase_variants vs ≡ erase_variants ws → IfSome (tell_variants vs ws) (VariantsApart vs ws)
-  told_variants no_variants no_variants h z e = tt
-  told_variants (choice m t g vs) (choice n u i ws) h z e =
-      told_or (VariantsApart (choice m t g vs) (choice n u i ws)) _ _
-      (told_map (Apart t u) (VariantsApart (choice m t g vs) (choice n u i ws)) (λ v. (g, v))
-      (λ v r. (inl (refl, r.0), λ q. r.1 (value_of_first g i v n u ws (lacks_also g vs ws (cc) h.1) q))) (tell t u) (told t u h.0 z.0 (cc)))
-      (IfSome_then (tell_variants vs ws) (told_variants vs ws h.2 z.1 (cc)) (λ c r. (inr r.0, λ q. r.1 (later_of g c.0 i c.1 n u vs ws (cc) h.1 r.0 q))))
+  told_variants : (vs ws : Variants) → OwnTags vs → ItemsHaveNoSizeZero vs → erase_items vs ≡ erase_items ws → IfSome (tell_variants vs ws) (VariantsApart vs ws)
+  told_variants no_items no_items h z e = tt
+  told_variants (item m t g vs) (item n u i ws) h z e =
+      told_or (VariantsApart (item m t g vs) (item n u i ws)) _ _
+      (told_map (Apart t u) (VariantsApart (item m t g vs) (item n u i ws)) (λ v. (g, v))
+      (λ v r. (inl (refl, r.0), λ q. r.1 (value_of_first g i v n u ws (lacks_also g vs ws (ap rest_of e) h.1) q))) (tell t u) (told t u h.0 z.0 (cc)))
+      (IfSome_then (tell_variants vs ws) (told_variants vs ws h.2 z.1 (ap rest_of e)) (λ c r. (inr r.0, λ q. r.1 (later_of g c.0 i c.1 n u vs ws (ap (first_tag g) e) h.1 r.0 q))))
   told_variants _ _ h z e = absurd (cc e)
 
 pub tells_apart : (a b : Tree) → Valid a → HasNoSizeZero a → erase a ≡ erase b → (Sub a b → ⊥) → IsSomeAnd (tell a b) (λ v. Of v a × ¬ (Of v b))

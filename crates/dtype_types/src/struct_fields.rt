@@ -60,9 +60,9 @@ fn push_dtypes(alloc: Global, dtypes: &mut Vec<DType>, more: &[DType]) -> Vortex
 }
 
 impl StructFields {
-    ghost use Rattle.dtype_types.specs.equality.Equality.{fields_equal_under};
-    ghost use Rattle.dtype_types.specs.nullability.Merged.{merge_fields, rule_of};
-    ghost use Rattle.dtype_types.specs.tree.Erase.{erase, erase_fields};
+    ghost use Rattle.dtype_types.specs.equality.Equality.{items_equal_under};
+    ghost use Rattle.dtype_types.specs.nullability.Merged.{merge_items, rule_of};
+    ghost use Rattle.dtype_types.specs.tree.Erase.{erase, erase_items};
     ghost use Rattle.dtype_types.specs.parts.FieldTypes.{field_tree, MadeFrom};
     ghost use Rattle.dtype_types.specs.texts.IndentedText.{indented_text, indented_braces};
     ghost use Rattle.dtype_types.specs.parts.Lookups.{first_named, field_names, field_types, Projects};
@@ -248,7 +248,7 @@ impl StructFields {
     // Whether the fields of the two are equal under the rule, one by one.
     #[cycle(equal_under)]
     pub(crate) fn equal_under(&self, other: &StructFields, rule: NullabilityRule) -> bool
-        ensures { result ≡ fields_equal_under rule (fields_of self.now) (fields_of other.now) }
+        ensures { result ≡ items_equal_under rule (fields_of self.now) (fields_of other.now) }
     {
         let count = self.nfields();
         if other.nfields() != count {
@@ -273,8 +273,8 @@ impl StructFields {
         other: &StructFields,
         rule: MergeRule,
     ) -> VortexResult<StructFields>
-        requires { erase_fields (fields_of self.now) ≡ erase_fields (fields_of other.now) }
-        ensures { Makes result (λ s. fields_of s ≡ merge_fields (rule_of rule) (fields_of self.now) (fields_of other.now)) }
+        requires { erase_items (fields_of self.now) ≡ erase_items (fields_of other.now) }
+        ensures { Makes result (λ s. fields_of s ≡ merge_items (rule_of rule) (fields_of self.now) (fields_of other.now)) }
     {
         let mut dtypes = Vec::with_capacity(alloc, self.nfields())?;
         for ((_, dtype), (_, other_dtype)) in self.pairs().zip(other.pairs()) {

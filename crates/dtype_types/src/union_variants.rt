@@ -81,9 +81,9 @@ fn first_tags(alloc: Global, count: usize) -> VortexResult<Vec<u8>>
 }
 
 impl UnionVariants {
-    ghost use Rattle.dtype_types.specs.equality.Equality.{variants_equal_under};
-    ghost use Rattle.dtype_types.specs.nullability.Merged.{merge_variants, rule_of};
-    ghost use Rattle.dtype_types.specs.tree.Erase.{erase, erase_variants};
+    ghost use Rattle.dtype_types.specs.equality.Equality.{items_equal_under};
+    ghost use Rattle.dtype_types.specs.nullability.Merged.{merge_items, rule_of};
+    ghost use Rattle.dtype_types.specs.tree.Erase.{erase, erase_items};
     ghost use Rattle.dtype_types.specs.parts.Lookups.{variant_named, variant_types, variant_names, variant_tags};
     ghost use Rattle.dtype_types.specs.equality.HashesOf.{union_writes};
     ghost use Rattle.dtype_types.specs.tree.TreeOf.{tree, variants_of, variant_list, union_dtypes, union_triples, shown, union_tree};
@@ -258,7 +258,7 @@ impl UnionVariants {
     // Whether the variants of the two are equal under the rule, one by one.
     #[cycle(equal_under)]
     pub(crate) fn equal_under(&self, other: &UnionVariants, rule: NullabilityRule) -> bool
-        ensures { result ≡ variants_equal_under rule (variants_of self.now) (variants_of other.now) }
+        ensures { result ≡ items_equal_under rule (variants_of self.now) (variants_of other.now) }
     {
         let count = self.len();
         if other.len() != count {
@@ -289,8 +289,8 @@ impl UnionVariants {
         other: &UnionVariants,
         rule: MergeRule,
     ) -> VortexResult<UnionVariants>
-        requires { erase_variants (variants_of self.now) ≡ erase_variants (variants_of other.now) }
-        ensures { Makes result (λ u. variants_of u ≡ merge_variants (rule_of rule) (variants_of self.now) (variants_of other.now)) }
+        requires { erase_items (variants_of self.now) ≡ erase_items (variants_of other.now) }
+        ensures { Makes result (λ u. variants_of u ≡ merge_items (rule_of rule) (variants_of self.now) (variants_of other.now)) }
     {
         let mut dtypes = Vec::with_capacity(alloc, self.len())?;
         for ((_, _, dtype), (_, _, other_dtype)) in self.triples().zip(other.triples()) {

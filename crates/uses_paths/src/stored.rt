@@ -12,7 +12,7 @@ ghost use Rattle.vortex_dtype.specs.Types.VortexError.TheVariants.{OutOfMemory};
 ghost use Rattle.vortex_dtype.specs.Valid.{Valid};
 ghost use Rattle.vortex_dtype.specs.TreeOf.{tree, struct_tree, children, fields_of};
 ghost use Rattle.vortex_dtype.specs.Tree.{fields, primitive, struct};
-ghost use Rattle.vortex_dtype.specs.Meaning.{Admits, AdmitsFields};
+ghost use Rattle.vortex_dtype.specs.Meaning.{Admits, AdmitsItems};
 ghost use Rattle.vortex_dtype.specs.PathMessage.{steps_of};
 ghost use Rattle.vortex_dtype.specs.Session.{meaning};
 
@@ -78,7 +78,7 @@ pub fn stored_with_column(
     session: &DTypeSession,
 ) -> VortexResult<DType>
     ensures { Valid (struct_tree columns.now)
-        → AdmitsFields (meaning (λ b. rewrites (b.vtable, b.value)) session.now) (fields_of columns.now)
+        → AdmitsItems (meaning (λ b. rewrites (b.vtable, b.value)) session.now) (fields_of columns.now)
         → IfOk result (λ d. tree d
         ≡ struct (fields (children columns.now ++ (name, primitive numbers Nullable) ∷ [])) NonNullable) }
 {
@@ -112,7 +112,7 @@ pub fn column_through_message(
     name: &str,
 ) -> VortexResult<Option<DType>>
     ensures { Valid (struct_tree columns.now)
-        → AdmitsFields (meaning (λ b. rewrites (b.vtable, b.value)) session.now) (fields_of columns.now)
+        → AdmitsItems (meaning (λ b. rewrites (b.vtable, b.value)) session.now) (fields_of columns.now)
         → IfOk result (λ r. option_map tree r ≡ first_named (children columns.now) name.now) }
 {
     let Some(dtype) = columns.field(name) else {

@@ -10,7 +10,7 @@ use Rattle.dtype_base.specs.declared.nullability.Nullability.{Nullability}
 use Rattle.dtype_base.specs.declared.vortex_error.VortexError.{VortexError}
 use Rattle.dtype_base.specs.declared.vortex_error.VortexError.TheVariants.{MetadataRefused, Message as Faulty}
 use Rattle.dtype_base.specs.declared.vortex_error.MessageFault.TheVariants.{ExtensionUnregistered}
-use Rattle.dtype_types.specs.tree.Tree.{Tree, Fields, no_fields, field, Variants, no_variants, choice, null, bool, primitive, decimal, utf8, binary, list, fixed_size_list, map_of, struct, union, variant, extension}
+use Rattle.dtype_types.specs.tree.Tree.{Tree, no_items, item, null, bool, primitive, decimal, utf8, binary, list, fixed_size_list, map_of, struct, union, variant, extension, Holder, Items}
 use Rattle.dtype_types.specs.tree.Valid.{Valid}
 use Rattle.dtype_types.specs.nullability.Nullable.{SetNull}
 
@@ -75,15 +75,12 @@ abbrev mutual
   Admits m (list t n) = Admits m t
   Admits m (fixed_size_list t size n) = Admits m t
   Admits m (map_of k v s n) = Admits m k × Admits m v
-  Admits m (struct fs n) = AdmitsFields m fs
-  Admits m (union vs n) = AdmitsVariants m vs
+  Admits m (struct fs n) = AdmitsItems m fs
+  Admits m (union vs n) = AdmitsItems m vs
   Admits m (variant n) = Unit {0}
   Admits m (extension id b s) = (keeps m id b s ≡ Some b) × Admits m s
 
-  pub AdmitsFields : Meaning → Fields → Type 0
-  AdmitsFields m no_fields = Unit {0}
-  AdmitsFields m (field n t rest) = Admits m t × AdmitsFields m rest
-
-  pub AdmitsVariants : Meaning → Variants → Type 0
-  AdmitsVariants m no_variants = Unit {0}
-  AdmitsVariants m (choice n t g rest) = Admits m t × AdmitsVariants m rest
+  -- each type of the fields, or of the variants
+  pub AdmitsItems : Meaning → {h : Holder} → Items h → Type 0
+  AdmitsItems m no_items = Unit {0}
+  AdmitsItems m (item n t g rest) = Admits m t × AdmitsItems m rest

@@ -10,7 +10,7 @@ use Rattle.dtype_base.specs.Primitives.{ptype_row}
 use Rattle.dtype_types.specs.declared.extension.ExtDTypeRef.{ExtDTypeRef}
 use Rattle.dtype_types.specs.parts.Lookups.{field_names, variant_names, variant_tags}
 use Rattle.dtype_types.specs.tree.Tree as of
-use Rattle.dtype_types.specs.tree.Tree.{Tree, Fields, no_fields, field, pairs, Variants, no_variants, choice, triples}
+use Rattle.dtype_types.specs.tree.Tree.{Tree, Fields, no_items, pairs, Variants, item, triples, Holder, Items}
 use Rattle.dtype_types.specs.tree.TreeOf.{extension_id, extension_metadata}
 use Rattle.dtype_messages.specs.Message.{Message, Child, Messages, missing, null, bool, primitive, decimal, utf8, binary, list, fixed_size_list, map_of, struct, union, variant, extension, absent, present, no_message, more}
 use Rattle.vortex_dtype.specs.Meaning.{Meaning, keeps}
@@ -42,18 +42,15 @@ abbrev mutual
   written (of.list x n) = list (present (written x)) (is_nullable n)
   written (of.fixed_size_list x k n) = fixed_size_list (present (written x)) k (is_nullable n)
   written (of.map_of x y o n) = map_of (present (written x)) (present (written y)) o (is_nullable n)
-  written (of.struct fs n) = struct (written_names fs) (written_fields fs) (is_nullable n)
-  written (of.union vs n) = union (written_variant_names vs) (written_variants vs) (written_tags vs) (is_nullable n)
+  written (of.struct fs n) = struct (written_names fs) (written_items fs) (is_nullable n)
+  written (of.union vs n) = union (written_variant_names vs) (written_items vs) (written_tags vs) (is_nullable n)
   written (of.variant n) = variant (is_nullable n)
   written (of.extension id b x) = extension id (present (written x)) (Some b)
 
-  pub written_fields : Fields → Messages
-  written_fields no_fields = no_message
-  written_fields (field n x rest) = more (written x) (written_fields rest)
-
-  pub written_variants : Variants → Messages
-  written_variants no_variants = no_message
-  written_variants (choice n x g rest) = more (written x) (written_variants rest)
+  -- each type of the fields, or of the variants
+  pub written_items : {h : Holder} → Items h → Messages
+  written_items no_items = no_message
+  written_items (item n x g rest) = more (written x) (written_items rest)
 
 -- the message of an extension over a storage of this message: its id, and its metadata, also where that is empty
 abbrev pub extension_message : ExtDTypeRef → Message → Message

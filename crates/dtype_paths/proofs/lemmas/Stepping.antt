@@ -10,9 +10,9 @@ use Rattle.std.specs.List.{starts_with}
 use Rattle.dtype_base.specs.declared.nullability.Nullability.{Nullability}
 use Rattle.dtype_types.specs.parts.Lookups.{first_named}
 use Rattle.dtype_types.specs.tree.Kinds.{any_size_list_element, kind}
-use Rattle.dtype_types.specs.tree.Tree.{Tree, Fields, no_fields, field, pairs, list, fixed_size_list, struct, extension}
+use Rattle.dtype_types.specs.tree.Tree.{Tree, Fields, no_items, pairs, list, fixed_size_list, struct, extension, item}
 use Rattle.dtype_types.specs.tree.TreeOf.{children, fields_of}
-use Rattle.dtype_types.specs.tree.Valid.{Valid, ValidFields}
+use Rattle.dtype_types.specs.tree.Valid.{Valid, ValidItems}
 use Rattle.dtype_types.specs.declared.dtype.kinds.Kind.TheVariants as kinds
 use Rattle.dtype_types.specs.declared.struct_fields.StructFields.{StructFields}
 use Rattle.dtype_types.proofs.lemmas.TreeLaws.{pairs_of}
@@ -124,9 +124,9 @@ none_at t u p e a = let s = At-along t p u a in cc
 pub none_exists : (t : Tree) (p : List Field) → None ≡ along t p → ExistsIn t p → ⊥
 none_exists t p e x = none_at t x.found p e x.at
 
-pub valid_named : (fs : Fields) (m : List ℕ) (x : Tree) → ValidFields fs → first_named (pairs fs) m ≡ Some x → Valid x
-valid_named no_fields m x h e = cc
-valid_named (field n t fs) m x h e = go (bytes_eq n m) e (valid_named fs m x h.1)
+pub valid_named : (fs : Fields) (m : List ℕ) (x : Tree) → ValidItems fs → first_named (pairs fs) m ≡ Some x → Valid x
+valid_named no_items m x h e = cc
+valid_named (item n t _ fs) m x h e = go (bytes_eq n m) e (valid_named fs m x h.1)
   where
     go : (c : Bool) → cond c (Some t) (first_named (pairs fs) m) ≡ Some x → (first_named (pairs fs) m ≡ Some x → Valid x) → Valid x
     go true e' more = subst Valid (same_Some t x e') h.0

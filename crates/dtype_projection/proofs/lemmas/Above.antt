@@ -6,11 +6,11 @@ use Rattle.std.proofs.Common.{◌≡◌, ◌∙◌, ℕ, List, [], ◌∷◌, Bo
 use Rattle.std.proofs.lemmas.Option.{same_Some}
 use Rattle.std.specs.Prelude.{bytes_eq}
 use Rattle.dtype_types.specs.nullability.Nullable.{IsNullable}
-use Rattle.dtype_types.specs.nullability.Sub.{Sub, NullableWherever, NullableWhereverFields}
+use Rattle.dtype_types.specs.nullability.Sub.{Sub, NullableWherever, NullableWhereverItems}
 use Rattle.dtype_types.proofs.lemmas.SetSub.{above_nullable}
 use Rattle.dtype_types.specs.parts.Lookups.{first_named}
-use Rattle.dtype_types.specs.tree.Erase.{erase, erase_fields}
-use Rattle.dtype_types.specs.tree.Tree.{Tree, Fields, no_fields, field, pairs, list, fixed_size_list, struct}
+use Rattle.dtype_types.specs.tree.Erase.{erase, erase_items}
+use Rattle.dtype_types.specs.tree.Tree.{Tree, Fields, no_items, field, pairs, list, fixed_size_list, struct, item, rest_of}
 use Rattle.dtype_paths.specs.At.{At, ExistsIn, step}
 use Rattle.dtype_paths.specs.declared.field.Field.{Field}
 use Rattle.dtype_paths.specs.declared.field.Field.TheVariants.{Name, ElementType}
@@ -21,17 +21,17 @@ abbrev Beside : Type 0 → Tree → Tree → Type 0
 Beside A a b = (erase a ≡ erase b) × (A → NullableWherever a b)
 
 -- types that differ in nullability alone have such types at the same paths
-named_beside : (fs gs : Fields) (k : List ℕ) (a : Tree) → erase_fields fs ≡ erase_fields gs → first_named (pairs fs) k ≡ Some a → (b : Tree) × (first_named (pairs gs) k ≡ Some b) × Beside (NullableWhereverFields fs gs) a b
-named_beside no_fields gs k a e is = cc
-named_beside (field m t fs) no_fields k a e is = cc
-named_beside (field m t fs) (field n u gs) k a e is =
+named_beside : (fs gs : Fields) (k : List ℕ) (a : Tree) → erase_items fs ≡ erase_items gs → first_named (pairs fs) k ≡ Some a → (b : Tree) × (first_named (pairs gs) k ≡ Some b) × Beside (NullableWhereverItems fs gs) a b
+named_beside no_items gs k a e is = cc
+named_beside (item m t _ fs) no_items k a e is = cc
+named_beside (item m t _ fs) (item n u _ gs) k a e is =
     let name : m ≡ n = cc in
     let type : erase t ≡ erase u = cc in
-    let rest : erase_fields fs ≡ erase_fields gs = cc in
+    let rest : erase_items fs ≡ erase_items gs = ap rest_of e in
     go (bytes_eq m k) (bytes_eq n k) (ap (λ x. bytes_eq x k) name) type is (named_beside fs gs k a rest)
   where
-    go : (c d : Bool) → c ≡ d → erase t ≡ erase u → cond c (Some t) (first_named (pairs fs) k) ≡ Some a → (first_named (pairs fs) k ≡ Some a → (b : Tree) × (first_named (pairs gs) k ≡ Some b) × Beside (NullableWhereverFields fs gs) a b)
-        → (b : Tree) × (cond d (Some u) (first_named (pairs gs) k) ≡ Some b) × Beside (NullableWhereverFields (field m t fs) (field n u gs)) a b
+    go : (c d : Bool) → c ≡ d → erase t ≡ erase u → cond c (Some t) (first_named (pairs fs) k) ≡ Some a → (first_named (pairs fs) k ≡ Some a → (b : Tree) × (first_named (pairs gs) k ≡ Some b) × Beside (NullableWhereverItems fs gs) a b)
+        → (b : Tree) × (cond d (Some u) (first_named (pairs gs) k) ≡ Some b) × Beside (NullableWhereverItems (field m t fs) (field n u gs)) a b
     go true true same type here more = let is = same_Some t a here in (u, refl, (ap erase (sym is) ∙ type, λ h. subst (λ x. NullableWherever x u) is h.0))
     go false false same type here more = let r = more here in (r.0, r.1, (r.2.0, λ h. r.2.1 h.1))
     go true false same type here more = cc
@@ -40,7 +40,7 @@ named_beside (field m t fs) (field n u gs) k a e is =
 step_beside : (t u a : Tree) (f : Field) → erase t ≡ erase u → step t f ≡ Some a → (b : Tree) × (step u f ≡ Some b) × Beside (NullableWherever t u) a b
 step_beside (list t m) (list u n) a ElementType e is = let at = same_Some t a is in let same : erase t ≡ erase u = cc in (u, refl, (ap erase (sym at) ∙ same, λ h. subst (λ x. NullableWherever x u) at h.1))
 step_beside (fixed_size_list t j m) (fixed_size_list u k n) a ElementType e is = let at = same_Some t a is in let same : erase t ≡ erase u = cc in (u, refl, (ap erase (sym at) ∙ same, λ h. subst (λ x. NullableWherever x u) at h.1))
-step_beside (struct fs m) (struct gs n) a (Name k) e is = let same : erase_fields fs ≡ erase_fields gs = cc in let r = named_beside fs gs k a same is in (r.0, r.1, (r.2.0, λ h. r.2.1 h.1))
+step_beside (struct fs m) (struct gs n) a (Name k) e is = let same : erase_items fs ≡ erase_items gs = cc in let r = named_beside fs gs k a same is in (r.0, r.1, (r.2.0, λ h. r.2.1 h.1))
 step_beside _ _ a _ e is = cc
 
 at_beside : (t u x : Tree) (p : List Field) → erase t ≡ erase u → At t p x → (y : Tree) × At u p y × Beside (NullableWherever t u) x y

@@ -5,7 +5,7 @@
 use Rattle.std.proofs.Common.{◌≡◌, ◌↔◌, inl, inr, List, [], ◌∷◌, ◌++◌, append-nil, true, Some, refl, sym, ap, subst, ◌∙◌}
 use Rattle.std.specs.Option.{option_and_then}
 use Rattle.dtype_types.specs.tree.Tree.{Tree}
-use Rattle.dtype_types.specs.tree.Valid.{Valid, ValidFields}
+use Rattle.dtype_types.specs.tree.Valid.{Valid, ValidItems}
 use Rattle.dtype_paths.specs.Along.{along}
 use Rattle.dtype_paths.specs.At.{At, ExistsIn, step}
 use Rattle.dtype_paths.specs.Beginning.{Beginning}
@@ -66,7 +66,7 @@ exists_in_kept t u w q e = (
 -- ---- the projection of a valid type is valid
 
 pub valid_kept : (t u : Tree) (w : PathPredicate) → projected t w ≡ Some u → Valid t → Valid u
-valid_kept = each_projection (λ t w u. Valid t → Valid u) (λ fs w gs. ValidFields fs → ValidFields gs) (record {
+valid_kept = each_projection (λ t w u. Valid t → Valid u) (λ fs w gs. ValidItems fs → ValidItems gs) (record {
   whole = λ t w root h. h;
   in_list = λ t x n w root on h. on h;
   in_fixed = λ t x k n w root on h. (h.0, on h.1);

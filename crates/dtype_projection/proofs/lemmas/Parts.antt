@@ -9,7 +9,7 @@ use Rattle.std.specs.Option.{option_and_then}
 use Rattle.std.proofs.lemmas.Option.{same_Some}
 use Rattle.dtype_types.specs.nullability.Nullable.{nullability}
 use Rattle.dtype_types.specs.parts.Lookups.{first_named}
-use Rattle.dtype_types.specs.tree.Tree.{Tree, Fields, no_fields, field, pairs, list, fixed_size_list, struct}
+use Rattle.dtype_types.specs.tree.Tree.{Tree, Fields, no_items, field, pairs, list, fixed_size_list, struct, item}
 use Rattle.dtype_paths.specs.Along.{along}
 use Rattle.dtype_paths.specs.At.{At, ExistsIn, step}
 use Rattle.dtype_paths.specs.Beginning.{Beginning}
@@ -37,8 +37,8 @@ mutual
   part_itself _ = refl
 
   part_itself_fields : (fs : Fields) → IsPartOfFields fs fs
-  part_itself_fields no_fields = refl
-  part_itself_fields (field n t fs) = inl (t, fs, refl, part_itself t, part_itself_fields fs)
+  part_itself_fields no_items = refl
+  part_itself_fields (item n t _ fs) = inl (t, fs, refl, part_itself t, part_itself_fields fs)
 
 part_nullability : (t u : Tree) → IsPart t u → nullability u ≡ nullability t
 part_nullability (list t n) u p = ap nullability p.1
@@ -56,8 +56,8 @@ abbrev mutual
   size _ = 0
 
   fields_size : Fields → ℕ
-  fields_size no_fields = 0
-  fields_size (field n t fs) = suc (size t + fields_size fs)
+  fields_size no_items = 0
+  fields_size (item n t _ fs) = suc (size t + fields_size fs)
 
 mutual
   smaller : (t u : Tree) → IsPart t u → (u ≡ t) ⊎ (size u < size t)
@@ -73,8 +73,8 @@ mutual
   smaller t u p = inl p
 
   smaller_fields : (fs gs : Fields) → IsPartOfFields fs gs → (gs ≡ fs) ⊎ (fields_size gs < fields_size fs)
-  smaller_fields no_fields gs p = inl p
-  smaller_fields (field n t fs) gs (inl p) =
+  smaller_fields no_items gs p = inl p
+  smaller_fields (item n t _ fs) gs (inl p) =
       let s : fields_size gs ≡ suc (size p.0 + fields_size p.1) = ap fields_size p.2 in
       ⊎_elim
       (λ here.
@@ -88,7 +88,7 @@ mutual
       (λ later. inr (omega (arith, s, here, later)))
       (smaller_fields fs p.1 p.4))
       (smaller t p.0 p.3)
-  smaller_fields (field n t fs) gs (inr p) =
+  smaller_fields (item n t _ fs) gs (inr p) =
       ⊎_elim (λ same. let s = ap fields_size same in inr (omega (arith, s))) (λ less. inr (omega (arith, less))) (smaller_fields fs gs p.0)
 
 pub parts_equal : (t u : Tree) → IsPart t u → IsPart u t → u ≡ t
@@ -97,13 +97,13 @@ parts_equal t u p q = ⊎_elim (λ same. same) (λ less. ⊎_elim sym (λ more. 
 -- ---- a path leads in a part to a part of what it leads to in the type
 
 first_of_part : (fs gs : Fields) (m : List ℕ) (y : Tree) → IsPartOfFields fs gs → first_named (pairs gs) m ≡ Some y → (x : Tree) × (first_named (pairs fs) m ≡ Some x) × IsPart x y
-first_of_part no_fields gs m y p e = let q : None ≡ Some y = sym (ap (λ hs. first_named (pairs hs) m) p) ∙ e in cc
-first_of_part (field n t fs) gs m y (inl p) e =
+first_of_part no_items gs m y p e = let q : None ≡ Some y = sym (ap (λ hs. first_named (pairs hs) m) p) ∙ e in cc
+first_of_part (item n t _ fs) gs m y (inl p) e =
     let f : first_named (pairs (field n p.0 p.1)) m ≡ Some y = sym (ap (λ hs. first_named (pairs hs) m) p.2) ∙ e in
     by_name n m
     (λ b. (t, ap (first_named (pairs (field n t fs))) (sym b) ∙ named_itself n t fs, subst (IsPart t) (same_Some p.0 y (sym (ap (first_named (pairs (field n p.0 p.1))) (sym b) ∙ named_itself n p.0 p.1) ∙ f)) p.3))
     (λ ne. let r = first_of_part fs p.1 m y p.4 (sym (named_first n m p.0 p.1 ne) ∙ f) in (r.0, named_first n m t fs ne ∙ r.1, r.2))
-first_of_part (field n t fs) gs m y (inr p) e =
+first_of_part (item n t _ fs) gs m y (inr p) e =
     let r = first_of_part fs gs m y p.0 e in
     by_name n m
     (λ b. let q : None ≡ Some y = sym p.1 ∙ ap (first_named (pairs gs)) b ∙ e in absurd (cc))
@@ -138,13 +138,13 @@ mutual
   part_of_part t u x p q = subst (λ z. IsPart z x) p q
 
   fields_of_part : (fs gs hs : Fields) → IsPartOfFields fs gs → IsPartOfFields gs hs → IsPartOfFields fs hs
-  fields_of_part no_fields gs hs p q = subst (λ z. IsPartOfFields z hs) p q
-  fields_of_part (field n t fs) gs hs (inl p) q =
+  fields_of_part no_items gs hs p q = subst (λ z. IsPartOfFields z hs) p q
+  fields_of_part (item n t _ fs) gs hs (inl p) q =
       let r : IsPartOfFields (field n p.0 p.1) hs = subst (λ z. IsPartOfFields z hs) p.2 q in elim r [
         | inl k ↦ inl (k.0, k.1, k.2, part_of_part t p.0 k.0 p.3 k.3, fields_of_part fs p.1 k.1 p.4 k.4)
         | inr k ↦ inr (fields_of_part fs p.1 hs p.4 k.0, k.1)
       ]
-  fields_of_part (field n t fs) gs hs (inr p) q = inr (fields_of_part fs gs hs p.0 q, absent_in_part gs hs n q p.1)
+  fields_of_part (item n t _ fs) gs hs (inr p) q = inr (fields_of_part fs gs hs p.0 q, absent_in_part gs hs n q p.1)
 
 -- ---- the projection is a part
 
@@ -212,7 +212,7 @@ kept_least = each_projection (λ t w u. (x : Tree) → IsPart t x → HasPaths t
   in_list = λ t v n w root on x p h. subst (λ z. IsPart z (list v n)) (sym p.1) (v, refl, on p.0 p.2 (λ q b. sym (ap (λ z. along z (ElementType ∷ q)) p.1) ∙ h (ElementType ∷ q) b));
   in_fixed = λ t v k n w root on x p h. subst (λ z. IsPart z (fixed_size_list v k n)) (sym p.1) (v, refl, on p.0 p.2 (λ q b. sym (ap (λ z. along z (ElementType ∷ q)) p.1) ∙ h (ElementType ∷ q) b));
   in_struct = λ fs gs n w root some on x p h. subst (λ z. IsPart z (struct gs n)) (sym p.1) (gs, refl, on p.0 p.2 (λ m q b. sym (ap (λ z. along z (Name m ∷ q)) p.1) ∙ h (Name m ∷ q) b));
-  none = λ w hs p h. subst (λ z. IsPartOfFields z no_fields) (sym p) refl;
+  none = λ w hs p h. subst (λ z. IsPartOfFields z no_items) (sym p) refl;
   kept = λ n t x fs gs w is on later hs p h. least_kept n t x fs gs hs w is on later p h;
   left = λ n t fs gs w none is later hs p h. least_left n t fs gs hs w (subst (λ ks. first_named (pairs ks) n ≡ None) (sym is) (absent_kept n fs w)) later p h;
 })

@@ -8,7 +8,7 @@ use Rattle.std.proofs.lemmas.Bool.{false≢true}
 use Rattle.std.proofs.lemmas.Option.{same_Some}
 use Rattle.dtype_base.specs.declared.nullability.Nullability.{Nullability}
 use Rattle.dtype_types.specs.parts.Lookups.{first_named}
-use Rattle.dtype_types.specs.tree.Tree.{Tree, Fields, no_fields, field, pairs, list, fixed_size_list, struct}
+use Rattle.dtype_types.specs.tree.Tree.{Tree, Fields, no_items, field, pairs, list, fixed_size_list, struct, item}
 use Rattle.dtype_types.proofs.lemmas.Lookups.{other_name, taken_same_name}
 use Rattle.dtype_paths.specs.Along.{along}
 use Rattle.dtype_paths.specs.At.{At, ExistsIn, step}
@@ -40,8 +40,8 @@ pub kept_struct : (fs : Fields) (n : Nullability) (w : PathPredicate) → w [] �
 kept_struct fs n w e = rw e refl
 
 with_is : (n : Nullability) (gs : Fields) (u : Tree) → struct_with n gs ≡ Some u → struct gs n ≡ u
-with_is n no_fields u e = cc
-with_is n (field m t gs) u e = same_Some _ u e
+with_is n no_items u e = cc
+with_is n (item m t _ gs) u e = same_Some _ u e
 
 mapped : (o : Option Tree) (g : Tree → Tree) (u : Tree) → option_map g o ≡ Some u → (x : Tree) × (o ≡ Some x) × (g x ≡ u)
 mapped None g u e = cc
@@ -54,8 +54,8 @@ pub record ByKind (P : Tree → PathPredicate → Tree → Type 0) (Q : Fields �
   pub whole : (t : Tree) (w : PathPredicate) → w [] ≡ true → P t w t
   pub in_list : (t x : Tree) (n : Nullability) (w : PathPredicate) → w [] ≡ false → P t (after_step ElementType w) x → P (list t n) w (list x n)
   pub in_fixed : (t x : Tree) (k : ℕ) (n : Nullability) (w : PathPredicate) → w [] ≡ false → P t (after_step ElementType w) x → P (fixed_size_list t k n) w (fixed_size_list x k n)
-  pub in_struct : (fs gs : Fields) (n : Nullability) (w : PathPredicate) → w [] ≡ false → gs ≢ no_fields → Q fs w gs → P (struct fs n) w (struct gs n)
-  pub none : (w : PathPredicate) → Q no_fields w no_fields
+  pub in_struct : (fs gs : Fields) (n : Nullability) (w : PathPredicate) → w [] ≡ false → gs ≢ no_items → Q fs w gs → P (struct fs n) w (struct gs n)
+  pub none : (w : PathPredicate) → Q no_items w no_items
   pub kept : (n : List ℕ) (t x : Tree) (fs gs : Fields) (w : PathPredicate) → projected t (after_step (Name n) w) ≡ Some x → P t (after_step (Name n) w) x → Q fs (without_field n w) gs → Q (field n t fs) w (field n x gs)
   pub left : (n : List ℕ) (t : Tree) (fs gs : Fields) (w : PathPredicate) → projected t (after_step (Name n) w) ≡ None → gs ≡ projected_fields fs (without_field n w) → Q fs (without_field n w) gs → Q (field n t fs) w gs
 
@@ -77,8 +77,8 @@ module _ (P : Tree → PathPredicate → Tree → Type 0) (Q : Fields → PathPr
     each_projection t u w e = by_bool (w []) (λ root. subst (P t w) (whole_kept t u w root e) (s.whole t w root)) (λ root. let q = rw root at e in cc)
 
     each_fields : (fs : Fields) (w : PathPredicate) → Q fs w (projected_fields fs w)
-    each_fields no_fields w = s.none w
-    each_fields (field n t rest) w =
+    each_fields no_items w = s.none w
+    each_fields (item n t _ rest) w =
         let gs = projected_fields rest (without_field n w) in
         by_option (projected t (after_step (Name n) w))
         (λ none. subst (λ o. Q (field n t rest) w (prepend_kept n o gs)) (sym none) (s.left n t rest gs w none refl (each_fields rest (without_field n w))))
@@ -109,7 +109,7 @@ extended_path : (t x : Tree) (w : PathPredicate) (f : Field) → step t f ≡ So
 extended_path t x w f is l = record { path = f ∷ l.path; holds = l.holds; exists = record { found = l.exists.found; at = (x, is, l.exists.at) } }
 
 pub kept_has_path : (t u : Tree) (w : PathPredicate) → projected t w ≡ Some u → ExistingPath t w
-kept_has_path = each_projection (λ t w u. ExistingPath t w) (λ fs w gs. gs ≢ no_fields → EnteredField fs w) (record {
+kept_has_path = each_projection (λ t w u. ExistingPath t w) (λ fs w gs. gs ≢ no_items → EnteredField fs w) (record {
   whole = λ t w root. record { path = []; holds = root; exists = record { found = t; at = refl } };
   in_list = λ t x n w root l. extended_path (list t n) t w ElementType refl l;
   in_fixed = λ t x k n w root l. extended_path (fixed_size_list t k n) t w ElementType refl l;
@@ -145,8 +145,8 @@ absent n rest w e = e ∙ ap (λ v. option_and_then (λ x. projected x v) (first
 
 -- by a name the projection has the projection of the first field of that name
 pub first_kept : (fs : Fields) (w : PathPredicate) (m : List ℕ) → first_named (pairs (projected_fields fs w)) m ≡ option_and_then (λ x. projected x (after_step (Name m) w)) (first_named (pairs fs) m)
-first_kept no_fields w m = refl
-first_kept (field n t rest) w m = by_name n m
+first_kept no_items w m = refl
+first_kept (item n t _ rest) w m = by_name n m
     (λ e. subst (λ z. first_named (pairs (projected_fields (field n t rest) w)) z ≡ option_and_then (λ x. projected x (after_step (Name z) w)) (first_named (pairs (field n t rest)) z)) e
     (first_here n (projected t (after_step (Name n) w)) (projected_fields rest (without_field n w)) (absent n rest w (first_kept rest (without_field n w) n))
     ∙ sym (ap (option_and_then (λ x. projected x (after_step (Name n) w))) (named_itself n t rest))))
@@ -165,13 +165,13 @@ step_kept (list t n) u w (Name m) root e = let x = mapped _ _ u (sym (kept_list 
 step_kept (list t n) u w ElementType root e = let x = mapped _ _ u (sym (kept_list t n w root) ∙ e) in ap (λ z. step z ElementType) (sym x.2) ∙ sym x.1
 step_kept (fixed_size_list t k n) u w (Name m) root e = let x = mapped _ _ u (sym (kept_fixed t k n w root) ∙ e) in ap (λ z. step z (Name m)) (sym x.2)
 step_kept (fixed_size_list t k n) u w ElementType root e = let x = mapped _ _ u (sym (kept_fixed t k n w root) ∙ e) in ap (λ z. step z ElementType) (sym x.2) ∙ sym x.1
-step_kept (struct fs n) u w (Name m) root e = ap (λ z. step z (Name m)) (sym (with_is n _ u (sym (kept_struct fs n w root) ∙ e))) ∙ first_kept fs w m
-step_kept (struct fs n) u w ElementType root e = ap (λ z. step z ElementType) (sym (with_is n _ u (sym (kept_struct fs n w root) ∙ e)))
+step_kept (struct fs n) u w (Name m) root e = ap (λ z. step z (Name m)) (sym (with_is n (projected_fields fs w) u (sym (kept_struct fs n w root) ∙ e))) ∙ first_kept fs w m
+step_kept (struct fs n) u w ElementType root e = ap (λ z. step z ElementType) (sym (with_is n (projected_fields fs w) u (sym (kept_struct fs n w root) ∙ e)))
 step_kept _ u w f root e = let q = rw root at e in cc
 
 struct_some : (n : Nullability) (gs : Fields) (m : List ℕ) (v : Tree) → first_named (pairs gs) m ≡ Some v → (u : Tree) × (struct_with n gs ≡ Some u)
-struct_some n no_fields m v e = cc
-struct_some n (field k t gs) m v e = (struct (field k t gs) n, refl)
+struct_some n no_items m v e = cc
+struct_some n (item k t _ gs) m v e = (struct (field k t gs) n, refl)
 
 step_some : (t y v : Tree) (w : PathPredicate) (f : Field) → w [] ≡ false → step t f ≡ Some y → projected y (after_step f w) ≡ Some v → (u : Tree) × (projected t w ≡ Some u)
 step_some (list t n) y v w ElementType root is e =

@@ -8,8 +8,8 @@ use Rattle.std.specs.Prelude.{IfSome}
 use Rattle.std.proofs.lemmas.Option.{same_Some}
 use Rattle.dtype_base.specs.declared.nullability.Nullability.{Nullability}
 use Rattle.dtype_types.specs.parts.Lookups.{first_named}
-use Rattle.dtype_types.specs.tree.Tree.{Tree, Fields, no_fields, field, pairs, list, fixed_size_list, struct}
-use Rattle.dtype_types.specs.tree.Valid.{Valid, ValidFields}
+use Rattle.dtype_types.specs.tree.Tree.{Tree, Fields, no_items, field, pairs, list, fixed_size_list, struct, item}
+use Rattle.dtype_types.specs.tree.Valid.{Valid, ValidItems}
 use Rattle.dtype_types.specs.values.Sample.{sample}
 use Rattle.dtype_types.specs.values.Value.{Value, Values, no_values, value, Named, no_named, named, null_value, items, fixed_items, record_of, Of, NamedOf, Each, value_count}
 use Rattle.dtype_types.proofs.lemmas.Lookups.{other_name, taken_same_name}
@@ -119,7 +119,7 @@ onto_first n t x rest gs w (named m v more) is here later o =
     )
 
 pub onto : (t u : Tree) (w : PathPredicate) → projected t w ≡ Some u → Valid t → IsOnto t u (restricted t w)
-onto = each_projection (λ t w u. Valid t → IsOnto t u (restricted t w)) (λ fs w gs. ValidFields fs → (nvs : Named) → NamedOf nvs gs → (mvs : Named) × NamedOf mvs fs × (restricted_pairs fs w mvs ≡ nvs)) (record {
+onto = each_projection (λ t w u. Valid t → IsOnto t u (restricted t w)) (λ fs w gs. ValidItems fs → (nvs : Named) → NamedOf nvs gs → (mvs : Named) × NamedOf mvs fs × (restricted_pairs fs w mvs ≡ nvs)) (record {
   whole = λ t w root h x o. (x, o, restricted_root t w x root);
   in_list = λ t x n w root on h. rw root (onto_list t x n (restricted t (after_step ElementType w)) (on h));
   in_fixed = λ t x k n w root on h. rw root (onto_fixed t x k n (restricted t (after_step ElementType w)) (on h.1));
@@ -165,9 +165,9 @@ past_pair k m (Some u) v more ne = other_name k m _ _ ne
 
 found_pairs : (fs : Fields) (w : PathPredicate) (nvs : Named) (m : List ℕ) (c u : Tree) (q : List Field) (x : Value) → ((y : Value) → Of y c → Found y q x ↔ Found (restricted c (after_step (Name m) w) y) q x)
     → first_named (pairs fs) m ≡ Some c → projected c (after_step (Name m) w) ≡ Some u → NamedOf nvs fs → Found (record_of nvs) (Name m ∷ q) x ↔ Found (record_of (restricted_pairs fs w nvs)) (Name m ∷ q) x
-found_pairs no_fields w nvs m c u q x on e is h = cc
-found_pairs (field n t rest) w no_named m c u q x on e is h = absurd h
-found_pairs (field n t rest) w (named k v more) m c u q x on e is h = by_name n m
+found_pairs no_items w nvs m c u q x on e is h = cc
+found_pairs (item n t _ rest) w no_named m c u q x on e is h = absurd h
+found_pairs (item n t _ rest) w (named k v more) m c u q x on e is h = by_name n m
     (λ nm.
     let tc : t ≡ c = same_Some t c (sym (ap (first_named (pairs (field n t rest))) (sym nm) ∙ named_itself n t rest) ∙ e) in
     let kept : projected t (after_step (Name n) w) ≡ Some u = (λ i. projected (tc i) (after_step (Name (nm i)) w)) ∙ is in

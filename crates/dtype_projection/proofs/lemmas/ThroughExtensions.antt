@@ -5,7 +5,7 @@
 -- restricted value doesn't have.
 use Rattle.std.proofs.Common.{◌≡◌, List, [], ◌∷◌, true, ◌||◌, Some, refl}
 use Rattle.dtype_base.specs.declared.nullability.Nullability.TheVariants.{NonNullable}
-use Rattle.dtype_types.specs.tree.Tree.{Tree, no_fields, field, bool, struct, extension}
+use Rattle.dtype_types.specs.tree.Tree.{Tree, no_items, field, bool, struct, extension}
 use Rattle.dtype_types.specs.values.Value.{Value, no_named, named, truth, record_of, Of}
 use Rattle.dtype_paths.specs.Equality.{same_path}
 use Rattle.dtype_paths.specs.Found.{Found}
@@ -16,10 +16,10 @@ use Rattle.dtype_projection.specs.Restricted.{restricted}
 
 -- two fields, a and c; a is an extension over a struct with a field b
 abbrev whole : Tree
-whole = struct (field (97 ∷ []) (extension [] [] (struct (field (98 ∷ []) (bool NonNullable) no_fields) NonNullable)) (field (99 ∷ []) (bool NonNullable) no_fields)) NonNullable
+whole = struct (field (97 ∷ []) (extension [] [] (struct (field (98 ∷ []) (bool NonNullable) no_items) NonNullable)) (field (99 ∷ []) (bool NonNullable) no_items)) NonNullable
 
 abbrev part : Tree
-part = struct (field (99 ∷ []) (bool NonNullable) no_fields) NonNullable
+part = struct (field (99 ∷ []) (bool NonNullable) no_items) NonNullable
 
 abbrev a_b : List Field
 a_b = Name (97 ∷ []) ∷ Name (98 ∷ []) ∷ []

@@ -70,19 +70,19 @@ pub union_variants::UnionVariants::equal_under-returns-then-ne : goal.union_vari
 union_variants::UnionVariants::equal_under-returns-then-ne t c =
     let tested = turn borrowed_triple (same_variant c.args.rule) (variants_pointwise c.args.rule) c.loop-name.name-iterator c.next.new.self c.next.result _ _ _
     c.in-Some.is c.next.ensures.steps c.loop-name.invariant.agrees in
-    sym (tested.0 (and_first _ _ (and_first _ _ (not-true _ (sym c.if-ne.ensures)))))
+    sym (tested.0 (and_first _ _ (and_second _ _ (not-true _ (sym c.if-ne.ensures)))))
 
 pub union_variants::UnionVariants::equal_under-returns-then-not-equal_under : goal.union_variants::UnionVariants::equal_under-returns-then-not-equal_under
 union_variants::UnionVariants::equal_under-returns-then-not-equal_under t c =
     let tested = turn borrowed_triple (same_variant c.args.rule) (variants_pointwise c.args.rule) c.loop-name.name-iterator c.next.new.self c.next.result _ _ _
     c.in-Some.is c.next.ensures.steps c.loop-name.invariant.agrees in
-    sym (tested.0 (and_first _ _ (and_second _ _ (sym c.if-not-equal_under.ensures))))
+    sym (tested.0 (and_second _ _ (sym c.if-not-equal_under.ensures)))
 
 pub union_variants::UnionVariants::equal_under-returns-then-tag-other_tag : goal.union_variants::UnionVariants::equal_under-returns-then-tag-other_tag
 union_variants::UnionVariants::equal_under-returns-then-tag-other_tag t c =
     let tested = turn borrowed_triple (same_variant c.args.rule) (variants_pointwise c.args.rule) c.loop-name.name-iterator c.next.new.self c.next.result _ _ _
     c.in-Some.is c.next.ensures.steps c.loop-name.invariant.agrees in
-    sym (tested.0 (and_second _ _ (tags_differ c.in-Some.tag c.in-Some.other_tag c.if-tag-other_tag.true)))
+    sym (tested.0 (and_first _ _ (and_first _ _ (tags_differ c.in-Some.tag c.in-Some.other_tag c.if-tag-other_tag.true))))
 
 pub union_variants::UnionVariants::equal_under-loop-name-preserved : goal.union_variants::UnionVariants::equal_under-loop-name-preserved
 union_variants::UnionVariants::equal_under-loop-name-preserved t c =
@@ -91,7 +91,7 @@ union_variants::UnionVariants::equal_under-loop-name-preserved t c =
     let tested = turn borrowed_triple (same_variant c.args.rule) (variants_pointwise c.args.rule) c.loop-name.name-iterator c.next.new.self c.next.result _ _ _
     c.in-Some.is c.next.ensures.steps c.loop-name.invariant.agrees in
     record {
-      agrees = tested.1 (and_from _ _ (and_from _ _ (not-false _ (sym c.if-ne.ensures)) (sym c.if-not-equal_under.ensures)) (tags_same _ _ c.if-tag-other_tag.false));
+      agrees = tested.1 (and_from _ _ (and_from _ _ (tags_same _ _ c.if-tag-other_tag.false) (not-false _ (sym c.if-ne.ensures))) (sym c.if-not-equal_under.ensures));
       even = still_even (zip_first it) (zip_second it) _ _ _ _ c.loop-name.invariant.even next.0 next.1;
       within = no_deeper (most size-DType (union_dtypes c.args.self.now)) (types_of (zip_first it)) (types_of (zip_first c.next.new.self)) c.in-Some.dtype.now (ap types_of next.0) c.loop-name.invariant.within;
     }

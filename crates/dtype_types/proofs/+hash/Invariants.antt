@@ -3,7 +3,7 @@
 
 use Rattle.std.proofs.Common.{◌≡◌, ◌≤◌, fold}
 use denote.Param.Weighed.{most}
-use Rattle.dtype_types.specs.equality.Hashes.{field_writes, variant_writes}
+use Rattle.dtype_types.specs.equality.Hashes.{item_writes}
 use Rattle.std.specs.Map.{values_of}
 use Rattle.dtype_types.specs.parts.Lists.{types_of}
 use Rattle.dtype_types.specs.tree.Tree.{fields, variants}
@@ -14,12 +14,12 @@ use Rattle.dtype_types.proofs.+hash.Given as goal
 -- the writes so far, followed by those of the fields that are left, are those of all fields; those left are no deeper
 abbrev pub invariant-struct_fields::StructFields::hash_into-loop-name : goal.invariant-struct_fields::StructFields::hash_into-loop-name
 invariant-struct_fields::StructFields::hash_into-loop-name g l = record {
-  fed : fold g.H.Hasher.write l.initial.state (field_writes l.mode (fields_of l.self)) ≡ fold g.H.Hasher.write l.state (field_writes l.mode (fields (with_trees l.name-iterator)));
+  fed : fold g.H.Hasher.write l.initial.state (item_writes l.mode (fields_of l.self)) ≡ fold g.H.Hasher.write l.state (item_writes l.mode (fields (with_trees l.name-iterator)));
   within : most size-DType (values_of l.name-iterator) ≤ most size-DType (struct_dtypes l.self);
 }
 
 abbrev pub invariant-union_variants::UnionVariants::hash_into-loop-name : goal.invariant-union_variants::UnionVariants::hash_into-loop-name
 invariant-union_variants::UnionVariants::hash_into-loop-name g l = record {
-  fed : fold g.H.Hasher.write l.initial.state (variant_writes l.mode (variants_of l.self)) ≡ fold g.H.Hasher.write l.state (variant_writes l.mode (variants (with_tagged_trees l.name-iterator)));
+  fed : fold g.H.Hasher.write l.initial.state (item_writes l.mode (variants_of l.self)) ≡ fold g.H.Hasher.write l.state (item_writes l.mode (variants (with_tagged_trees l.name-iterator)));
   within : most size-DType (types_of l.name-iterator) ≤ most size-DType (union_dtypes l.self);
 }

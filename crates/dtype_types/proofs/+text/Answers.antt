@@ -1,7 +1,7 @@
 -- SPDX-License-Identifier: Apache-2.0
 -- SPDX-FileCopyrightText: Copyright the Vortex contributors
 
-use Rattle.std.proofs.Common.{codes, ap, ◌∙◌, ◌++◌, [], refl, rules}
+use Rattle.std.proofs.Common.{codes, ap, ◌∙◌, ◌++◌, [], refl, rules, true}
 use Rattle.dtype_base.specs.Escapes.{escaped}
 use Rattle.std.specs.Fmt.{HasWritten}
 use denote.Param.Weighed.{most}
@@ -14,7 +14,7 @@ use Rattle.dtype_types.proofs.Texts.{leading, leading_all, one_written, all_writ
 use Rattle.dtype_types.specs.tree.Tree.{fields, variants, triples}
 use Rattle.dtype_types.specs.parts.Lookups.{variant_tags}
 use Rattle.dtype_types.specs.parts.Unions.{are_consecutive}
-use Rattle.dtype_types.specs.texts.Text.{text, bool_text, field_texts, choice_texts, tag_text}
+use Rattle.dtype_types.specs.texts.Text.{text, bool_text, item_texts, tag_text}
 use Rattle.std.specs.Map.{values_of}
 use Rattle.dtype_types.specs.parts.Lists.{types_of, borrowed_pair, borrowed_triple}
 use Rattle.dtype_types.specs.tree.TreeOf.{variant_list, struct_dtypes, fields_of, union_dtypes, variants_of, tree, with_trees, with_tagged_trees}
@@ -39,7 +39,7 @@ struct_fields::StructFieldsDisplay::fmt-loop-name-init g t c = record {
   within = search rules;
   written = λ plain.
       let nothing : HasWritten g.W.Write.write_str_gives c.write.new.self [] c.write.new.self = search rules in
-      ([], nothing, ap (λ ps. leading [] (codes ", ") (field_texts (fields (with_trees ps)))) (search rules));
+      ([], nothing, ap (λ ps. leading [] (codes ", ") (item_texts true (fields (with_trees ps)))) (search rules));
 }
 
 pub struct_fields::StructFieldsDisplay::fmt-loop-name-preserved : goal.struct_fields::StructFieldsDisplay::fmt-loop-name-preserved
@@ -57,7 +57,7 @@ struct_fields::StructFieldsDisplay::fmt-loop-name-preserved g t c = record {
       let x = n ++ (codes "=" ++ d) in (
         so_far.0 ++ (separator ++ x),
         put_three _ _ c.loop-name.f _ _ so_far.0 (separator ++ (n ++ codes "=")) d _ so_far.1 named typed (named_text so_far.0 separator n d),
-        one_written (codes ", ") separator so_far.0 _ x _ _ so_far.2 (ap (λ ps. field_texts (fields (with_trees ps))) next),
+        one_written (codes ", ") separator so_far.0 _ x _ _ so_far.2 (ap (λ ps. item_texts true (fields (with_trees ps))) next),
       );
 }
 
@@ -68,7 +68,7 @@ struct_fields::StructFieldsDisplay::fmt-returns-clause-writes g t c = λ plain o
     let so_far = c.loop-name.invariant.written opened.plain in
     let closed = c.write-2.ensures.writes so_far.1.plain ok in
     let none = none_of borrowed_pair c.loop-name.name-iterator c.next.new.self c.next.result c.in-None.is c.next.ensures.steps in
-    let all = all_written (codes ", ") c.loop-name.separator.now so_far.0 _ _ so_far.2 (ap (λ ps. field_texts (fields (with_trees ps))) none) ∙ leading_all (codes ", ") (field_texts (fields_of c.args.self.now)) in
+    let all = all_written (codes ", ") c.loop-name.separator.now so_far.0 _ _ so_far.2 (ap (λ ps. item_texts true (fields (with_trees ps))) none) ∙ leading_all (codes ", ") (item_texts true (fields_of c.args.self.now)) in
     put_three _ _ c.write.new.self c.loop-name.f _ (codes "{") so_far.0 (codes "}") _ opened so_far.1 closed (ap (λ xs. codes "{" ++ (xs ++ codes "}")) all)
 
 pub union_variants::UnionVariantsDisplay::fmt-loop-name-init : goal.union_variants::UnionVariantsDisplay::fmt-loop-name-init
@@ -78,7 +78,7 @@ union_variants::UnionVariantsDisplay::fmt-loop-name-init g t c = record {
   written = λ plain.
       let k = are_consecutive (variant_tags (triples (variants_of c.args.self.now))) in
       let nothing : HasWritten g.W.Write.write_str_gives c.args.f.now [] c.args.f.now = search rules in
-      ([], nothing, ap (λ ps. leading [] (codes ", ") (choice_texts k (variants (with_tagged_trees ps)))) (search rules));
+      ([], nothing, ap (λ ps. leading [] (codes ", ") (item_texts k (variants (with_tagged_trees ps)))) (search rules));
 }
 
 pub union_variants::UnionVariantsDisplay::fmt-loop-name-preserved : goal.union_variants::UnionVariantsDisplay::fmt-loop-name-preserved
@@ -99,7 +99,7 @@ union_variants::UnionVariantsDisplay::fmt-loop-name-preserved g t c = record {
       let known = c.is_consecutive-consecutive.result in (
         so_far.0 ++ (separator ++ x),
         put_three _ _ c.loop-name.f _ _ so_far.0 (separator ++ (n ++ (tag_text known tag ++ codes "="))) d _ so_far.1 named typed (tagged_text so_far.0 separator n d tag known k (told_by_test (variant_list c.args.self.now) known c.is_consecutive-consecutive.ensures)),
-        one_written (codes ", ") separator so_far.0 _ x _ _ so_far.2 (ap (λ ps. choice_texts k (variants (with_tagged_trees ps))) next),
+        one_written (codes ", ") separator so_far.0 _ x _ _ so_far.2 (ap (λ ps. item_texts k (variants (with_tagged_trees ps))) next),
       );
 }
 
@@ -109,5 +109,5 @@ union_variants::UnionVariantsDisplay::fmt-returns-clause-writes g t c = λ plain
     let k = are_consecutive (variant_tags (triples (variants_of c.args.self.now))) in
     let so_far = c.loop-name.invariant.written plain in
     let none = none_of borrowed_triple c.loop-name.name-iterator c.next.new.self c.next.result c.in-None.is c.next.ensures.steps in
-    let all = all_written (codes ", ") c.loop-name.separator.now so_far.0 _ _ so_far.2 (ap (λ ps. choice_texts k (variants (with_tagged_trees ps))) none) ∙ leading_all (codes ", ") (choice_texts k (variants_of c.args.self.now)) in
+    let all = all_written (codes ", ") c.loop-name.separator.now so_far.0 _ _ so_far.2 (ap (λ ps. item_texts k (variants (with_tagged_trees ps))) none) ∙ leading_all (codes ", ") (item_texts k (variants_of c.args.self.now)) in
     has_written_of_eq _ _ _ _ _ all so_far.1

@@ -1,7 +1,7 @@
 -- SPDX-License-Identifier: Apache-2.0
 -- SPDX-FileCopyrightText: Copyright the Vortex contributors
 
-use Rattle.std.proofs.Common.{◌≡◌, ◌≤◌, ◌++◌, ℕ, List, [], codes}
+use Rattle.std.proofs.Common.{◌≡◌, ◌≤◌, ◌++◌, ℕ, List, [], codes, true}
 use Rattle.std.specs.Fmt.{HasWritten, IsPlainFormatter}
 use denote.Shadow.{shadow}
 use denote.Text.{Utf8}
@@ -9,7 +9,7 @@ use denote.Param.Weighed.{most}
 use Rattle.dtype_types.proofs.Texts.{leading}
 use Rattle.dtype_types.specs.parts.Lookups.{variant_tags}
 use Rattle.dtype_types.specs.parts.Unions.{are_consecutive}
-use Rattle.dtype_types.specs.texts.Text.{field_texts, choice_texts}
+use Rattle.dtype_types.specs.texts.Text.{item_texts}
 use Rattle.dtype_types.specs.tree.Tree.{fields, variants, triples}
 use Rattle.dtype_types.specs.tree.TreeOf.{struct_dtypes, fields_of, union_dtypes, variants_of, with_trees, with_tagged_trees}
 use Rattle.std.specs.Map.{values_of}
@@ -23,7 +23,7 @@ invariant-struct_fields::StructFieldsDisplay::fmt-loop-name g l = record {
   utf8 : shadow (Utf8 l.separator);
   within : most size-DType (values_of l.name-iterator) ≤ most size-DType (struct_dtypes l.self);
   written : IsPlainFormatter l.initial.f → (done : List ℕ) × HasWritten g.W.Write.write_str_gives l.initial.f done l.f
-      × (done ++ leading l.separator (codes ", ") (field_texts (fields (with_trees l.name-iterator))) ≡ leading [] (codes ", ") (field_texts (fields_of l.self)));
+      × (done ++ leading l.separator (codes ", ") (item_texts true (fields (with_trees l.name-iterator))) ≡ leading [] (codes ", ") (item_texts true (fields_of l.self)));
 }
 
 abbrev pub invariant-union_variants::UnionVariantsDisplay::fmt-loop-name : goal.invariant-union_variants::UnionVariantsDisplay::fmt-loop-name
@@ -31,5 +31,5 @@ invariant-union_variants::UnionVariantsDisplay::fmt-loop-name g l = record {
   utf8 : shadow (Utf8 l.separator);
   within : most size-DType (types_of l.name-iterator) ≤ most size-DType (union_dtypes l.self);
   written : IsPlainFormatter l.initial.f → (done : List ℕ) × HasWritten g.W.Write.write_str_gives l.initial.f done l.f
-      × (done ++ leading l.separator (codes ", ") (choice_texts (are_consecutive (variant_tags (triples (variants_of l.self)))) (variants (with_tagged_trees l.name-iterator))) ≡ leading [] (codes ", ") (choice_texts (are_consecutive (variant_tags (triples (variants_of l.self)))) (variants_of l.self)));
+      × (done ++ leading l.separator (codes ", ") (item_texts (are_consecutive (variant_tags (triples (variants_of l.self)))) (variants (with_tagged_trees l.name-iterator))) ≡ leading [] (codes ", ") (item_texts (are_consecutive (variant_tags (triples (variants_of l.self)))) (variants_of l.self)));
 }

@@ -3,14 +3,14 @@
 
 -- The bounds of two types by their values. The values of the greatest type below two are exactly those that both have. The
 -- least type above two is least among all types that take the values of both.
-use Rattle.std.proofs.Common.{◌≡◌, ◌≢◌, ◌∙◌, ℕ, List, zero, suc, refl, sym, subst, inl, inr}
+use Rattle.std.proofs.Common.{◌≡◌, ◌≢◌, ◌∙◌, ℕ, List, zero, suc, refl, sym, subst, inl, inr, ap}
 use Rattle.dtype_base.specs.Nullability.{either}
 use Rattle.dtype_base.specs.declared.nullability.Nullability.{Nullability}
 use Rattle.dtype_base.specs.declared.nullability.Nullability.TheVariants.{NonNullable, Nullable}
-use Rattle.dtype_types.specs.nullability.Merged.{both, merge, merge_fields, merge_variants}
-use Rattle.dtype_types.specs.tree.Erase.{erase, erase_fields, erase_variants}
-use Rattle.dtype_types.specs.tree.Tree.{Tree, Fields, no_fields, field, Variants, no_variants, choice, null, bool, primitive, decimal, utf8, binary, list, fixed_size_list, map_of, struct, union, variant, extension}
-use Rattle.dtype_types.specs.tree.Valid.{Valid, ValidFields}
+use Rattle.dtype_types.specs.nullability.Merged.{both, merge, merge_items}
+use Rattle.dtype_types.specs.tree.Erase.{erase, erase_items}
+use Rattle.dtype_types.specs.tree.Tree.{Tree, Fields, no_items, Variants, item, null, bool, primitive, decimal, utf8, binary, list, fixed_size_list, map_of, struct, union, variant, extension, rest_of, first_tag}
+use Rattle.dtype_types.specs.tree.Valid.{Valid, ValidItems}
 use Rattle.dtype_types.specs.values.Sample.{sample, samples, copies}
 use Rattle.dtype_types.specs.values.Value.{Value, Values, Entries, Named, IncludedIn, Of, NamedOf, VariantOf, Each, EachEntry, value_count, null_value, items, fixed_items, entries, record_of, tagged, no_values, value, no_entries, entry, no_named, named}
 use Rattle.dtype_types.proofs.lemmas.SampleLaws.{sample_of, samples_of, each_copy, value_count-copies}
@@ -70,24 +70,24 @@ mutual
   of_both (list t m) (list u n) e h v o p = both_list t u (merge both t u) m n (λ x. of_both t u (cc) h x) v o p
   of_both (fixed_size_list t j m) (fixed_size_list u k n) e h v o p = both_fixed t u (merge both t u) j k m n (λ x. of_both t u (cc) h.1 x) v o p
   of_both (map_of t t' x m) (map_of u u' y n) e h v o p = both_map t u (merge both t u) t' u' (merge both t' u') x y m n (λ z. of_both t u (cc) h.1 z) (λ z. of_both t' u' (cc) h.2 z) v o p
-  of_both (struct fs m) (struct gs n) e h v o p = both_struct fs gs (merge_fields both fs gs) m n (λ z. named_both fs gs (cc) h z) v o p
-  of_both (union vs m) (union ws n) e h v o p = both_union vs ws (merge_variants both vs ws) m n (λ g z. variant_both vs ws (cc) (own_tags vs m h) g z) v o p
+  of_both (struct fs m) (struct gs n) e h v o p = both_struct fs gs (merge_items both fs gs) m n (λ z. named_both fs gs (cc) h z) v o p
+  of_both (union vs m) (union ws n) e h v o p = both_union vs ws (merge_items both vs ws) m n (λ g z. variant_both vs ws (cc) (own_tags vs m h) g z) v o p
   of_both (variant m) (variant n) e h v o p = pick (λ x. Of v (variant x)) m n o p
   of_both (extension i a t) (extension j b u) e h v o p = of_both t u (cc) h.1 v o p
   of_both _ _ e h v o p = cc
 
-  named_both : (fs gs : Fields) → erase_fields fs ≡ erase_fields gs → ValidFields fs → (nvs : Named) → NamedOf nvs fs → NamedOf nvs gs → NamedOf nvs (merge_fields both fs gs)
-  named_both no_fields no_fields e h nvs o p = o
-  named_both (field m t fs) (field n u gs) e h (named l v rest) o p = (o.0, of_both t u (cc) h.0 v o.1 p.1, named_both fs gs (cc) h.1 rest o.2 p.2)
-  named_both (field m t fs) (field n u gs) e h no_named o p = o
+  named_both : (fs gs : Fields) → erase_items fs ≡ erase_items gs → ValidItems fs → (nvs : Named) → NamedOf nvs fs → NamedOf nvs gs → NamedOf nvs (merge_items both fs gs)
+  named_both no_items no_items e h nvs o p = o
+  named_both (item m t _ fs) (item n u _ gs) e h (named l v rest) o p = (o.0, of_both t u (cc) h.0 v o.1 p.1, named_both fs gs (ap rest_of e) h.1 rest o.2 p.2)
+  named_both (item m t _ fs) (item n u _ gs) e h no_named o p = o
   named_both _ _ e h nvs o p = cc
 
-  variant_both : (vs ws : Variants) → erase_variants vs ≡ erase_variants ws → OwnTags vs → (g : ℕ) (v : Value) → VariantOf g v vs → VariantOf g v ws → VariantOf g v (merge_variants both vs ws)
-  variant_both no_variants no_variants e h g v o p = o
-  variant_both (choice m t i vs) (choice n u j ws) e h g v (inl o) (inl p) = inl (o.0, of_both t u (cc) h.0 v o.1 p.1)
-  variant_both (choice m t i vs) (choice n u j ws) e h g v (inl o) (inr p) = absurd (absent i ws (lacks_also i vs ws (cc) h.1) g v o.0 p)
-  variant_both (choice m t i vs) (choice n u j ws) e h g v (inr o) (inl p) = let same : i ≡ j = cc in absurd (absent i vs h.1 g v (p.0 ∙ sym same) o)
-  variant_both (choice m t i vs) (choice n u j ws) e h g v (inr o) (inr p) = inr (variant_both vs ws (cc) h.2 g v o p)
+  variant_both : (vs ws : Variants) → erase_items vs ≡ erase_items ws → OwnTags vs → (g : ℕ) (v : Value) → VariantOf g v vs → VariantOf g v ws → VariantOf g v (merge_items both vs ws)
+  variant_both no_items no_items e h g v o p = o
+  variant_both (item m t i vs) (item n u j ws) e h g v (inl o) (inl p) = inl (o.0, of_both t u (cc) h.0 v o.1 p.1)
+  variant_both (item m t i vs) (item n u j ws) e h g v (inl o) (inr p) = absurd (absent i ws (lacks_also i vs ws (ap rest_of e) h.1) g v o.0 p)
+  variant_both (item m t i vs) (item n u j ws) e h g v (inr o) (inl p) = let same : i ≡ j = ap (first_tag i) e in absurd (absent i vs h.1 g v (p.0 ∙ sym same) o)
+  variant_both (item m t i vs) (item n u j ws) e h g v (inr o) (inr p) = inr (variant_both vs ws (ap rest_of e) h.2 g v o p)
   variant_both _ _ e h g v o p = cc
 
 -- ---- least among the types that take the values of both
@@ -167,14 +167,14 @@ abbrev Named_in : Fields → Tree → Type 0
 Named_in fs d = (nvs : Named) → NamedOf nvs fs → Of (record_of nvs) d
 
 abbrev Least_named : Fields → Fields → Fields → Type 0
-Least_named fs gs hs = (ds : Fields) → ValidFields ds → ((nvs : Named) → NamedOf nvs fs → NamedOf nvs ds) → ((nvs : Named) → NamedOf nvs gs → NamedOf nvs ds) → (nvs : Named) → NamedOf nvs hs → NamedOf nvs ds
+Least_named fs gs hs = (ds : Fields) → ValidItems ds → ((nvs : Named) → NamedOf nvs fs → NamedOf nvs ds) → ((nvs : Named) → NamedOf nvs gs → NamedOf nvs ds) → (nvs : Named) → NamedOf nvs hs → NamedOf nvs ds
 
-record_in : (fs gs hs : Fields) → ValidFields fs → Least_named fs gs hs → (d : Tree) → Valid d → Named_in fs d → Named_in gs d → Named_in hs d
+record_in : (fs gs hs : Fields) → ValidItems fs → Least_named fs gs hs → (d : Tree) → Valid d → Named_in fs d → Named_in gs d → Named_in hs d
 record_in fs gs hs h f (struct ds o) x i j nvs e = f ds x i j nvs e
 record_in fs gs hs h f (extension a b s) x i j nvs e = record_in fs gs hs h f s x.1 i j nvs e
 record_in fs gs hs h f _ x i j nvs e = absurd (i (samples fs) (samples_of fs h))
 
-least_struct : (fs gs hs : Fields) (m n : Nullability) → ValidFields fs → Least_named fs gs hs → (d : Tree) → Valid d → IncludedIn (struct fs m) d → IncludedIn (struct gs n) d → IncludedIn (struct hs (either m n)) d
+least_struct : (fs gs hs : Fields) (m n : Nullability) → ValidItems fs → Least_named fs gs hs → (d : Tree) → Valid d → IncludedIn (struct fs m) d → IncludedIn (struct gs n) d → IncludedIn (struct hs (either m n)) d
 least_struct fs gs hs m n h f d x i j null_value o = null_either m n (Of null_value d) (i null_value) (j null_value) o
 least_struct fs gs hs m n h f d x i j (record_of nvs) o = record_in fs gs hs h f d x (λ nvs. i (record_of nvs)) (λ nvs. j (record_of nvs)) nvs o
 least_struct fs gs hs m n h f d x i j _ o = absurd o
@@ -195,30 +195,30 @@ tagged_in vs ws xs g v s f _ x i j h z e = absurd (i g v s)
 
 least_union : (vs ws xs : Variants) (m n : Nullability) → Valid (union vs m) → Least_tagged vs ws xs → (d : Tree) → Valid d → IncludedIn (union vs m) d → IncludedIn (union ws n) d → IncludedIn (union xs (either m n)) d
 least_union vs ws xs m n h f d x i j null_value o = null_either m n (Of null_value d) (i null_value) (j null_value) o
-least_union (choice l t k vs) ws xs m n h f d x i j (tagged g v) o =
-    tagged_in (choice l t k vs) ws xs k (sample t) (inl (refl, sample_of t h.1.0)) f d x (λ g v. i (tagged g v)) (λ g v. j (tagged g v)) g v o
-least_union no_variants ws xs m n h f d x i j (tagged g v) o = absurd ((variants_are no_variants h.0).0.0.2 refl)
+least_union (item l t k vs) ws xs m n h f d x i j (tagged g v) o =
+    tagged_in (item l t k vs) ws xs k (sample t) (inl (refl, sample_of t h.1.0)) f d x (λ g v. i (tagged g v)) (λ g v. j (tagged g v)) g v o
+least_union no_items ws xs m n h f d x i j (tagged g v) o = absurd ((variants_are no_items h.0).0.0.2 refl)
 least_union vs ws xs m n h f d x i j _ o = absurd o
 
 -- the type that a tag has, in variants of distinct tags
 abbrev At_tag : Variants → ℕ → Type 0
 At_tag ds g = (c : Tree) × Valid c × ((v : Value) → VariantOf g v ds → Of v c) × ((v : Value) → Of v c → VariantOf g v ds)
 
-further : (m : List ℕ) (t : Tree) (k : ℕ) (ds : Variants) → LacksTag k ds → (g : ℕ) (z : Value) → VariantOf g z ds → At_tag ds g → At_tag (choice m t k ds) g
+further : (m : List ℕ) (t : Tree) (k : ℕ) (ds : Variants) → LacksTag k ds → (g : ℕ) (z : Value) → VariantOf g z ds → At_tag ds g → At_tag (item m t k ds) g
 further m t k ds lacks g z o rest = (rest.0, rest.1, only, λ v p. inr (rest.3 v p))
   where
-    only : (v : Value) → VariantOf g v (choice m t k ds) → Of v rest.0
+    only : (v : Value) → VariantOf g v (item m t k ds) → Of v rest.0
     only v (inl p) = absurd (absent k ds lacks g z p.0 o)
     only v (inr p) = rest.2 v p
 
 at_tag : (ds : Variants) → OwnTags ds → (g : ℕ) (z : Value) → VariantOf g z ds → At_tag ds g
-at_tag (choice m t k ds) x g z (inl o) = (t, x.0, only, λ v p. inl (o.0, p))
+at_tag (item m t k ds) x g z (inl o) = (t, x.0, only, λ v p. inl (o.0, p))
   where
-    only : (v : Value) → VariantOf g v (choice m t k ds) → Of v t
+    only : (v : Value) → VariantOf g v (item m t k ds) → Of v t
     only v (inl p) = p.1
     only v (inr p) = absurd (absent k ds x.1 g v o.0 p)
-at_tag (choice m t k ds) x g z (inr o) = further m t k ds x.1 g z o (at_tag ds x.2 g z o)
-at_tag no_variants x g z o = absurd o
+at_tag (item m t k ds) x g z (inr o) = further m t k ds x.1 g z o (at_tag ds x.2 g z o)
+at_tag no_items x g z o = absurd o
 
 mutual
   pub least_values : (a b : Tree) → erase a ≡ erase b → Valid a → Valid b → (d : Tree) → Valid d → IncludedIn a d → IncludedIn b d → IncludedIn (merge either a b) d
@@ -234,28 +234,28 @@ mutual
       least_fixed t u (merge either t u) r m n (sample t) (sample_of t h.1) (λ c. least_values t u (cc) h.1 k.1 c) d x i (subst (λ z. IncludedIn (fixed_size_list u z n) d) (sym same) j)
   least_values (map_of t t' y m) (map_of u u' z n) e h k d x i j =
       least_map t u (merge either t u) t' u' (merge either t' u') y z m n h.1 h.2 k.1 k.2 (λ c. least_values t u (cc) h.1 k.1 c) (λ c. least_values t' u' (cc) h.2 k.2 c) d x i j
-  least_values (struct fs m) (struct gs n) e h k d x i j = least_struct fs gs (merge_fields either fs gs) m n h (λ ds. least_named fs gs (cc) h k ds) d x i j
-  least_values (union vs m) (union ws n) e h k d x i j = least_union vs ws (merge_variants either vs ws) m n h (λ ds. least_tagged vs ws (cc) (own_tags vs m h) (own_tags ws n k) ds) d x i j
+  least_values (struct fs m) (struct gs n) e h k d x i j = least_struct fs gs (merge_items either fs gs) m n h (λ ds. least_named fs gs (cc) h k ds) d x i j
+  least_values (union vs m) (union ws n) e h k d x i j = least_union vs ws (merge_items either vs ws) m n h (λ ds. least_tagged vs ws (cc) (own_tags vs m h) (own_tags ws n k) ds) d x i j
   least_values (variant m) (variant n) e h k d x i j = choose (λ z. IncludedIn (variant z) d) m n i j
   least_values (extension l a t) (extension r b u) e h k d x i j = least_values t u (cc) h.1 k.1 d x i j
   least_values _ _ e h k d x i j = cc
 
-  least_named : (fs gs : Fields) → erase_fields fs ≡ erase_fields gs → ValidFields fs → ValidFields gs → Least_named fs gs (merge_fields either fs gs)
-  least_named no_fields no_fields e h k ds x i j nvs o = i nvs o
-  least_named (field m t fs) (field n u gs) e h k (field l c ds) x i j (named y v rest) o = (
+  least_named : (fs gs : Fields) → erase_items fs ≡ erase_items gs → ValidItems fs → ValidItems gs → Least_named fs gs (merge_items either fs gs)
+  least_named no_items no_items e h k ds x i j nvs o = i nvs o
+  least_named (item m t _ fs) (item n u _ gs) e h k (item l c _ ds) x i j (named y v rest) o = (
     o.0 ∙ (i (named m (sample t) (samples fs)) (refl, sample_of t h.0, samples_of fs h.1)).0,
     least_values t u (cc) h.0 k.0 c x.0 (λ q p. (i (named m q (samples fs)) (refl, p, samples_of fs h.1)).1) (λ q p. (j (named n q (samples gs)) (refl, p, samples_of gs k.1)).1) v o.1,
-    least_named fs gs (cc) h.1 k.1 ds x.1 (λ r p. (i (named m (sample t) r) (refl, sample_of t h.0, p)).2) (λ r p. (j (named n (sample u) r) (refl, sample_of u k.0, p)).2) rest o.2,
+    least_named fs gs (ap rest_of e) h.1 k.1 ds x.1 (λ r p. (i (named m (sample t) r) (refl, sample_of t h.0, p)).2) (λ r p. (j (named n (sample u) r) (refl, sample_of u k.0, p)).2) rest o.2,
   )
-  least_named (field m t fs) (field n u gs) e h k (field l c ds) x i j no_named o = absurd o
-  least_named (field m t fs) (field n u gs) e h k no_fields x i j nvs o = absurd (i (named m (sample t) (samples fs)) (refl, sample_of t h.0, samples_of fs h.1))
+  least_named (item m t _ fs) (item n u _ gs) e h k (item l c _ ds) x i j no_named o = absurd o
+  least_named (item m t _ fs) (item n u _ gs) e h k no_items x i j nvs o = absurd (i (named m (sample t) (samples fs)) (refl, sample_of t h.0, samples_of fs h.1))
   least_named _ _ e h k ds x i j nvs o = cc
 
-  least_tagged : (vs ws : Variants) → erase_variants vs ≡ erase_variants ws → OwnTags vs → OwnTags ws → Least_tagged vs ws (merge_variants either vs ws)
-  least_tagged no_variants no_variants e h k ds x i j g v o = absurd o
-  least_tagged (choice m t a vs) (choice n u b ws) e h k ds x i j g v (inl o) =
-      let same : a ≡ b = cc in
+  least_tagged : (vs ws : Variants) → erase_items vs ≡ erase_items ws → OwnTags vs → OwnTags ws → Least_tagged vs ws (merge_items either vs ws)
+  least_tagged no_items no_items e h k ds x i j g v o = absurd o
+  least_tagged (item m t a vs) (item n u b ws) e h k ds x i j g v (inl o) =
+      let same : a ≡ b = ap (first_tag a) e in
       let at = at_tag ds x a (sample t) (i a (sample t) (inl (refl, sample_of t h.0))) in
       subst (λ z. VariantOf z v ds) (sym o.0) (at.3 v (least_values t u (cc) h.0 k.0 at.0 at.1 (λ q p. at.2 q (i a q (inl (refl, p)))) (λ q p. at.2 q (j a q (inl (same, p)))) v o.1))
-  least_tagged (choice m t a vs) (choice n u b ws) e h k ds x i j g v (inr o) = least_tagged vs ws (cc) h.2 k.2 ds x (λ g v p. i g v (inr p)) (λ g v p. j g v (inr p)) g v o
+  least_tagged (item m t a vs) (item n u b ws) e h k ds x i j g v (inr o) = least_tagged vs ws (ap rest_of e) h.2 k.2 ds x (λ g v p. i g v (inr p)) (λ g v p. j g v (inr p)) g v o
   least_tagged _ _ e h k ds x i j g v o = cc

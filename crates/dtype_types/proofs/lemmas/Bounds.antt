@@ -8,10 +8,10 @@ use Rattle.std.proofs.Common.{◌≡◌, ◌∙◌, refl, sym, ap, subst}
 use Rattle.dtype_base.specs.Nullability.{either}
 use Rattle.dtype_base.specs.declared.nullability.Nullability.{Nullability}
 use Rattle.dtype_base.specs.declared.nullability.Nullability.TheVariants.{NonNullable, Nullable}
-use Rattle.dtype_types.specs.nullability.Merged.{Rule, both, merge, merge_fields, merge_variants, IsLeastAbove, IsGreatestBelow}
-use Rattle.dtype_types.specs.nullability.Sub.{Sub, Allows, NullableWherever, NullableWhereverFields, NullableWhereverVariants}
-use Rattle.dtype_types.specs.tree.Erase.{erase, erase_fields, erase_variants}
-use Rattle.dtype_types.specs.tree.Tree.{Tree, Fields, no_fields, field, Variants, no_variants, choice, null, bool, primitive, decimal, utf8, binary, list, fixed_size_list, map_of, struct, union, variant, extension}
+use Rattle.dtype_types.specs.nullability.Merged.{Rule, both, merge, merge_items, IsLeastAbove, IsGreatestBelow}
+use Rattle.dtype_types.specs.nullability.Sub.{Sub, Allows, NullableWherever, NullableWhereverItems}
+use Rattle.dtype_types.specs.tree.Erase.{erase, erase_items}
+use Rattle.dtype_types.specs.tree.Tree.{Tree, no_items, item, null, bool, primitive, decimal, utf8, binary, list, fixed_size_list, map_of, struct, union, variant, extension, Holder, Items, rest_of, first_tag}
 
 -- ---- nothing but nullabilities is changed
 
@@ -27,21 +27,16 @@ module _ (r : Rule) where
     erase_merge (list t m) (list u n) e = cc (erase_merge t u (cc))
     erase_merge (fixed_size_list t j m) (fixed_size_list u k n) e = cc (erase_merge t u (cc))
     erase_merge (map_of t v x m) (map_of u w y n) e = cc (erase_merge t u (cc), erase_merge v w (cc))
-    erase_merge (struct fs m) (struct gs n) e = cc (erase_merge_fields fs gs (cc))
-    erase_merge (union vs m) (union ws n) e = cc (erase_merge_variants vs ws (cc))
+    erase_merge (struct fs m) (struct gs n) e = cc (erase_merge_items fs gs (cc))
+    erase_merge (union vs m) (union ws n) e = cc (erase_merge_items vs ws (cc))
     erase_merge (variant m) (variant n) e = refl
     erase_merge (extension i a t) (extension j b u) e = cc (erase_merge t u (cc))
     erase_merge _ _ e = cc
 
-    erase_merge_fields : (fs gs : Fields) → erase_fields fs ≡ erase_fields gs → erase_fields (merge_fields r fs gs) ≡ erase_fields fs
-    erase_merge_fields no_fields no_fields e = refl
-    erase_merge_fields (field m t fs) (field n u gs) e = cc (erase_merge t u (cc), erase_merge_fields fs gs (cc))
-    erase_merge_fields _ _ e = cc
-
-    erase_merge_variants : (vs ws : Variants) → erase_variants vs ≡ erase_variants ws → erase_variants (merge_variants r vs ws) ≡ erase_variants vs
-    erase_merge_variants no_variants no_variants e = refl
-    erase_merge_variants (choice m t g vs) (choice n u h ws) e = cc (erase_merge t u (cc), erase_merge_variants vs ws (cc))
-    erase_merge_variants _ _ e = cc
+    erase_merge_items : {h : Holder} (xs ys : Items h) → erase_items xs ≡ erase_items ys → erase_items (merge_items r xs ys) ≡ erase_items xs
+    erase_merge_items no_items no_items e = refl
+    erase_merge_items (item m t f xs) (item n u g ys) e = cc (erase_merge t u (cc), erase_merge_items xs ys (ap rest_of e))
+    erase_merge_items _ _ e = cc
 
 -- ---- commutative
 
@@ -57,21 +52,16 @@ module _ (r : Rule) (swap : (m n : Nullability) → r m n ≡ r n m) where
     commutes (list t m) (list u n) e = cc (commutes t u (cc), swap m n)
     commutes (fixed_size_list t j m) (fixed_size_list u k n) e = cc (commutes t u (cc), swap m n)
     commutes (map_of t v x m) (map_of u w y n) e = cc (commutes t u (cc), commutes v w (cc), swap m n)
-    commutes (struct fs m) (struct gs n) e = cc (fields_commute fs gs (cc), swap m n)
-    commutes (union vs m) (union ws n) e = cc (variants_commute vs ws (cc), swap m n)
+    commutes (struct fs m) (struct gs n) e = cc (items_commute fs gs (cc), swap m n)
+    commutes (union vs m) (union ws n) e = cc (items_commute vs ws (cc), swap m n)
     commutes (variant m) (variant n) e = ap variant (swap m n)
     commutes (extension i a t) (extension j b u) e = cc (commutes t u (cc))
     commutes _ _ e = cc
 
-    fields_commute : (fs gs : Fields) → erase_fields fs ≡ erase_fields gs → merge_fields r fs gs ≡ merge_fields r gs fs
-    fields_commute no_fields no_fields e = refl
-    fields_commute (field m t fs) (field n u gs) e = cc (commutes t u (cc), fields_commute fs gs (cc))
-    fields_commute _ _ e = cc
-
-    variants_commute : (vs ws : Variants) → erase_variants vs ≡ erase_variants ws → merge_variants r vs ws ≡ merge_variants r ws vs
-    variants_commute no_variants no_variants e = refl
-    variants_commute (choice m t g vs) (choice n u h ws) e = cc (commutes t u (cc), variants_commute vs ws (cc))
-    variants_commute _ _ e = cc
+    items_commute : {h : Holder} (xs ys : Items h) → erase_items xs ≡ erase_items ys → merge_items r xs ys ≡ merge_items r ys xs
+    items_commute no_items no_items e = refl
+    items_commute (item m t f xs) (item n u g ys) e = cc (ap (first_tag f) e, commutes t u (cc), items_commute xs ys (ap rest_of e))
+    items_commute _ _ e = cc
 
 -- ---- associative
 
@@ -90,8 +80,8 @@ module _ (r : Rule) (group : (l m n : Nullability) → r (r l m) n ≡ r l (r m 
         ap (λ k. map_of k (merge r (merge r t' u') v') x (r (r l m) n)) (associates t u (cc) v (cc))
         ∙ ap (λ k. map_of (merge r t (merge r u v)) k x (r (r l m) n)) (associates t' u' (cc) v' (cc))
         ∙ ap (map_of (merge r t (merge r u v)) (merge r t' (merge r u' v')) x) (group l m n)
-    associates (struct fs l) (struct gs m) e (struct hs n) f = cc (fields_associate fs gs (cc) hs (cc), group l m n)
-    associates (union fs l) (union gs m) e (union hs n) f = cc (variants_associate fs gs (cc) hs (cc), group l m n)
+    associates (struct fs l) (struct gs m) e (struct hs n) f = cc (items_associate fs gs (cc) hs (cc), group l m n)
+    associates (union fs l) (union gs m) e (union hs n) f = cc (items_associate fs gs (cc) hs (cc), group l m n)
     associates (variant l) (variant m) e (variant n) f = ap variant (group l m n)
     associates (extension i a t) (extension j b u) e (extension k c v) f = ap (extension i a) (associates t u (cc) v (cc))
     associates null null e _ f = cc
@@ -109,17 +99,12 @@ module _ (r : Rule) (group : (l m n : Nullability) → r (r l m) n ≡ r l (r m 
     associates (extension i a t) (extension j b u) e _ f = cc
     associates _ _ e c f = cc
 
-    fields_associate : (fs gs : Fields) → erase_fields fs ≡ erase_fields gs → (hs : Fields) → erase_fields gs ≡ erase_fields hs → merge_fields r (merge_fields r fs gs) hs ≡ merge_fields r fs (merge_fields r gs hs)
-    fields_associate no_fields no_fields e hs f = refl
-    fields_associate (field l t fs) (field m u gs) e (field n v hs) f = cc (associates t u (cc) v (cc), fields_associate fs gs (cc) hs (cc))
-    fields_associate (field l t fs) (field m u gs) e no_fields f = cc
-    fields_associate _ _ e hs f = cc
-
-    variants_associate : (fs gs : Variants) → erase_variants fs ≡ erase_variants gs → (hs : Variants) → erase_variants gs ≡ erase_variants hs → merge_variants r (merge_variants r fs gs) hs ≡ merge_variants r fs (merge_variants r gs hs)
-    variants_associate no_variants no_variants e hs f = refl
-    variants_associate (choice l t x fs) (choice m u y gs) e (choice n v z hs) f = cc (associates t u (cc) v (cc), variants_associate fs gs (cc) hs (cc))
-    variants_associate (choice l t x fs) (choice m u y gs) e no_variants f = cc
-    variants_associate _ _ e hs f = cc
+    items_associate : {h : Holder} (xs ys : Items h) → erase_items xs ≡ erase_items ys → (zs : Items h) → erase_items ys ≡ erase_items zs → merge_items r (merge_items r xs ys) zs ≡ merge_items r xs (merge_items r ys zs)
+    items_associate no_items no_items e zs d = refl
+    items_associate (item l t f xs) (item m u g ys) e (item n v i zs) d =
+        ap (λ x. item l x f (merge_items r (merge_items r xs ys) zs)) (associates t u (cc) v (cc)) ∙ ap (item l (merge r t (merge r u v)) f) (items_associate xs ys (ap rest_of e) zs (ap rest_of d))
+    items_associate (item l t f xs) (item m u g ys) e no_items d = cc
+    items_associate _ _ e zs d = cc
 
 -- ---- absorbing
 
@@ -135,21 +120,16 @@ module _ (r s : Rule) (keeps : (m n : Nullability) → r m (s m n) ≡ m) where
     absorbs (list t m) (list u n) e = cc (absorbs t u (cc), keeps m n)
     absorbs (fixed_size_list t j m) (fixed_size_list u k n) e = cc (absorbs t u (cc), keeps m n)
     absorbs (map_of t v x m) (map_of u w y n) e = cc (absorbs t u (cc), absorbs v w (cc), keeps m n)
-    absorbs (struct fs m) (struct gs n) e = cc (fields_absorb fs gs (cc), keeps m n)
-    absorbs (union vs m) (union ws n) e = cc (variants_absorb vs ws (cc), keeps m n)
+    absorbs (struct fs m) (struct gs n) e = cc (items_absorb fs gs (cc), keeps m n)
+    absorbs (union vs m) (union ws n) e = cc (items_absorb vs ws (cc), keeps m n)
     absorbs (variant m) (variant n) e = ap variant (keeps m n)
     absorbs (extension i a t) (extension j b u) e = ap (extension i a) (absorbs t u (cc))
     absorbs _ _ e = cc
 
-    fields_absorb : (fs gs : Fields) → erase_fields fs ≡ erase_fields gs → merge_fields r fs (merge_fields s fs gs) ≡ fs
-    fields_absorb no_fields no_fields e = refl
-    fields_absorb (field m t fs) (field n u gs) e = cc (absorbs t u (cc), fields_absorb fs gs (cc))
-    fields_absorb _ _ e = cc
-
-    variants_absorb : (vs ws : Variants) → erase_variants vs ≡ erase_variants ws → merge_variants r vs (merge_variants s vs ws) ≡ vs
-    variants_absorb no_variants no_variants e = refl
-    variants_absorb (choice m t g vs) (choice n u h ws) e = cc (absorbs t u (cc), variants_absorb vs ws (cc))
-    variants_absorb _ _ e = cc
+    items_absorb : {h : Holder} (xs ys : Items h) → erase_items xs ≡ erase_items ys → merge_items r xs (merge_items s xs ys) ≡ xs
+    items_absorb no_items no_items e = refl
+    items_absorb (item m t f xs) (item n u g ys) e = cc (absorbs t u (cc), items_absorb xs ys (ap rest_of e))
+    items_absorb _ _ e = cc
 
 -- ---- the order
 
@@ -170,21 +150,16 @@ mutual
   above_first (list t m) (list u n) e = (allows_first m n, above_first t u (cc))
   above_first (fixed_size_list t j m) (fixed_size_list u k n) e = (allows_first m n, above_first t u (cc))
   above_first (map_of t v x m) (map_of u w y n) e = (allows_first m n, above_first t u (cc), above_first v w (cc))
-  above_first (struct fs m) (struct gs n) e = (allows_first m n, above_first_fields fs gs (cc))
-  above_first (union vs m) (union ws n) e = (allows_first m n, above_first_variants vs ws (cc))
+  above_first (struct fs m) (struct gs n) e = (allows_first m n, above_first_items fs gs (cc))
+  above_first (union vs m) (union ws n) e = (allows_first m n, above_first_items vs ws (cc))
   above_first (variant m) (variant n) e = allows_first m n
   above_first (extension i a t) (extension j b u) e = above_first t u (cc)
   above_first _ _ e = cc
 
-  above_first_fields : (fs gs : Fields) → erase_fields fs ≡ erase_fields gs → NullableWhereverFields fs (merge_fields either fs gs)
-  above_first_fields no_fields no_fields e = tt
-  above_first_fields (field m t fs) (field n u gs) e = (above_first t u (cc), above_first_fields fs gs (cc))
-  above_first_fields _ _ e = cc
-
-  above_first_variants : (vs ws : Variants) → erase_variants vs ≡ erase_variants ws → NullableWhereverVariants vs (merge_variants either vs ws)
-  above_first_variants no_variants no_variants e = tt
-  above_first_variants (choice m t g vs) (choice n u h ws) e = (above_first t u (cc), above_first_variants vs ws (cc))
-  above_first_variants _ _ e = cc
+  above_first_items : {h : Holder} (xs ys : Items h) → erase_items xs ≡ erase_items ys → NullableWhereverItems xs (merge_items either xs ys)
+  above_first_items no_items no_items e = tt
+  above_first_items (item m t f xs) (item n u g ys) e = (above_first t u (cc), above_first_items xs ys (ap rest_of e))
+  above_first_items _ _ e = cc
 
 raised : (m n : Nullability) → Allows m n → either m n ≡ n
 raised NonNullable NonNullable h = refl
@@ -202,21 +177,16 @@ mutual
   upper (list t m) (list u n) e h = cc (upper t u (cc) h.1, raised m n h.0)
   upper (fixed_size_list t j m) (fixed_size_list u k n) e h = cc (upper t u (cc) h.1, raised m n h.0)
   upper (map_of t v x m) (map_of u w y n) e h = cc (upper t u (cc) h.1, upper v w (cc) h.2, raised m n h.0)
-  upper (struct fs m) (struct gs n) e h = cc (upper_fields fs gs (cc) h.1, raised m n h.0)
-  upper (union vs m) (union ws n) e h = cc (upper_variants vs ws (cc) h.1, raised m n h.0)
+  upper (struct fs m) (struct gs n) e h = cc (upper_items fs gs (cc) h.1, raised m n h.0)
+  upper (union vs m) (union ws n) e h = cc (upper_items vs ws (cc) h.1, raised m n h.0)
   upper (variant m) (variant n) e h = ap variant (raised m n h)
   upper (extension i a t) (extension j b u) e h = cc (upper t u (cc) h)
   upper _ _ e h = absurd h
 
-  upper_fields : (fs gs : Fields) → erase_fields fs ≡ erase_fields gs → NullableWhereverFields fs gs → merge_fields either fs gs ≡ gs
-  upper_fields no_fields no_fields e h = refl
-  upper_fields (field m t fs) (field n u gs) e h = cc (upper t u (cc) h.0, upper_fields fs gs (cc) h.1)
-  upper_fields _ _ e h = absurd h
-
-  upper_variants : (vs ws : Variants) → erase_variants vs ≡ erase_variants ws → NullableWhereverVariants vs ws → merge_variants either vs ws ≡ ws
-  upper_variants no_variants no_variants e h = refl
-  upper_variants (choice m t g vs) (choice n u i ws) e h = cc (upper t u (cc) h.0, upper_variants vs ws (cc) h.1)
-  upper_variants _ _ e h = absurd h
+  upper_items : {h : Holder} (xs ys : Items h) → erase_items xs ≡ erase_items ys → NullableWhereverItems xs ys → merge_items either xs ys ≡ ys
+  upper_items no_items no_items e h = refl
+  upper_items (item m t f xs) (item n u g ys) e h = cc (ap (first_tag f) e, upper t u (cc) h.0, upper_items xs ys (ap rest_of e) h.1)
+  upper_items _ _ e h = absurd h
 
 -- ---- the two rules
 
@@ -270,7 +240,7 @@ upper_of a b h = upper a b h.erased h.nullable
 pub lower_of : (a b : Tree) → Sub a b → merge both a b ≡ a
 lower_of a b h = ap (merge both a) (sym (upper_of a b h)) ∙ and_or a b h.erased
 
-sub_of_upper : (a b : Tree) → erase a ≡ erase b → merge either a b ≡ b → Sub a b
+pub sub_of_upper : (a b : Tree) → erase a ≡ erase b → merge either a b ≡ b → Sub a b
 sub_of_upper a b e is = record { erased = e; nullable = subst (NullableWherever a) is (above_first a b e) }
 
 sub_of_lower : (a b : Tree) → erase a ≡ erase b → merge both a b ≡ a → Sub a b

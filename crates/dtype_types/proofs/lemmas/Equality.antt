@@ -22,8 +22,8 @@ use Rattle.dtype_types.specs.equality.Equality.{equal_under}
 use Rattle.dtype_types.specs.equality.EqualityOf.{same_field_dtype}
 use Rattle.dtype_types.specs.equality.EqualityOf.{same_dtype, same_extension, same_map, same_struct, same_union}
 use Rattle.dtype_types.specs.parts.Lookups.{field_names}
-use Rattle.dtype_types.specs.tree.Erase.{erase, erase_fields}
-use Rattle.dtype_types.specs.tree.Tree.{Tree, fields, map_of, struct, triples, union, variants}
+use Rattle.dtype_types.specs.tree.Erase.{erase, erase_items}
+use Rattle.dtype_types.specs.tree.Tree.{Tree, fields, map_of, struct, triples, union, variants, rest_of}
 use Rattle.dtype_types.specs.tree.TreeOf.{MapParts, children, extension_tree, map_shown, map_tree, struct_tree, tree, union_tree, variant_list}
 use Rattle.dtype_types.specs.equality.HashLaws.{erased_fed}
 use Rattle.dtype_types.proofs.lemmas.Structs.{same_pairs}
@@ -81,11 +81,11 @@ pub equal_keys : {V S : Type 0} (m : HashMap DType V S) (a b : DType) → tree a
 equal_keys m a b e = ap (λ (t : Tree). lookup (λ (x : DType). equal_under Compared t (tree x)) m.entries) e
 
 -- structs that are equal but for nullabilities have the same names
-erased_names : (ps qs : List (List ℕ × Tree)) → erase_fields (fields ps) ≡ erase_fields (fields qs) → field_names ps ≡ field_names qs
+erased_names : (ps qs : List (List ℕ × Tree)) → erase_items (fields ps) ≡ erase_items (fields qs) → field_names ps ≡ field_names qs
 erased_names [] [] e = refl
 erased_names (p ∷ ps) (q ∷ qs) e =
     let first : p.0 ≡ q.0 = cc in
-    let rest : erase_fields (fields ps) ≡ erase_fields (fields qs) = cc in
+    let rest : erase_items (fields ps) ≡ erase_items (fields qs) = ap rest_of e in
     let names = erased_names ps qs rest in cc
 erased_names _ _ e = cc
 

@@ -18,13 +18,13 @@ use Rattle.dtype_types.specs.declared.dtype.lattice.MergeRule.{MergeRule}
 use Rattle.dtype_types.specs.declared.dtype.lattice.MergeRule.TheVariants.{Either, Both}
 use Rattle.dtype_types.specs.equality.Equality.{equal_under}
 use Rattle.dtype_types.specs.equality.EqualityLaws.{equal_erased-Decides}
-use Rattle.dtype_types.specs.nullability.Merged.{Rule, both, merge, merge_fields, merge_variants, merged_under, merged, intersected, IsLeastAbove, IsGreatestBelow, rule_of}
+use Rattle.dtype_types.specs.nullability.Merged.{Rule, both, merge, merge_items, merged_under, merged, intersected, IsLeastAbove, IsGreatestBelow, rule_of}
 use Rattle.dtype_types.specs.nullability.Nullable.{nullability}
 use Rattle.dtype_types.specs.nullability.Sub.{Sub}
-use Rattle.dtype_types.specs.tree.Erase.{erase, erase_fields, erase_variants}
-use Rattle.dtype_types.specs.tree.Tree.{Tree, Fields, no_fields, field, Variants, no_variants, choice, null, bool, primitive, decimal, utf8, binary, list, fixed_size_list, map_of, struct, union, variant, extension}
+use Rattle.dtype_types.specs.tree.Erase.{erase, erase_items}
+use Rattle.dtype_types.specs.tree.Tree.{Tree, no_items, item, null, bool, primitive, decimal, utf8, binary, list, fixed_size_list, map_of, struct, union, variant, extension, Holder, Items, rest_of}
 use Rattle.dtype_types.specs.tree.TreeOf.{tree}
-use Rattle.dtype_types.specs.tree.Valid.{Valid, ValidFields, ValidVariants}
+use Rattle.dtype_types.specs.tree.Valid.{Valid, ValidItems}
 use Rattle.dtype_types.specs.values.Value.{Value, IncludedIn, Of}
 use Rattle.dtype_types.proofs.OwnTags.{are_variants_also}
 use Rattle.dtype_types.proofs.lemmas.Bounds.{erase_merge, commutes, associates, swap_either, swap_both, group_either, group_both, or_and, and_or, upper_of, lower_of, least_either, greatest_both}
@@ -64,22 +64,16 @@ module _ (r : Rule) (Needs : Type 0) (key : (n : Nullability) → (Needs → n �
     valid_merge (fixed_size_list t i m) (fixed_size_list u j n) e h k = (h.0, valid_merge t u (cc) h.1 (λ z. (k z).1))
     valid_merge (map_of t v x m) (map_of u w y n) e h k =
         (nullability_merge t u (cc) ∙ ap (λ z. r z (nullability u)) h.0 ∙ key (nullability u) (λ z. (k z).0), valid_merge t u (cc) h.1 (λ z. (k z).1), valid_merge v w (cc) h.2 (λ z. (k z).2))
-    valid_merge (struct fs m) (struct gs n) e h k = valid_merge_fields fs gs (cc) h k
-    valid_merge (union vs m) (union ws n) e h k = (are_variants_also vs (merge_variants r vs ws) (cc (erase_merge r (union vs m) (union ws n) e)) h.0, valid_merge_variants vs ws (cc) h.1 (λ z. (k z).1))
+    valid_merge (struct fs m) (struct gs n) e h k = valid_merge_items fs gs (cc) h k
+    valid_merge (union vs m) (union ws n) e h k = (are_variants_also vs (merge_items r vs ws) (cc (erase_merge r (union vs m) (union ws n) e)) h.0, valid_merge_items vs ws (cc) h.1 (λ z. (k z).1))
     valid_merge (variant m) (variant n) e h k = h
     valid_merge (extension i a t) (extension j b u) e h k = (h.0, valid_merge t u (cc) h.1 (λ z. (k z).1))
     valid_merge _ _ e h k = h
 
-    valid_merge_fields : (fs gs : Fields) → erase_fields fs ≡ erase_fields gs → ValidFields fs → (Needs → ValidFields gs) → ValidFields (merge_fields r fs gs)
-    valid_merge_fields no_fields no_fields e h k = tt
-    valid_merge_fields (field m t fs) (field n u gs) e h k = (valid_merge t u (cc) h.0 (λ z. (k z).0), valid_merge_fields fs gs (cc) h.1 (λ z. (k z).1))
-    valid_merge_fields _ _ e h k = tt
-
-    valid_merge_variants : (vs ws : Variants) → erase_variants vs ≡ erase_variants ws → ValidVariants vs → (Needs → ValidVariants ws) → ValidVariants (merge_variants r vs ws)
-    valid_merge_variants no_variants no_variants e h k = tt
-    valid_merge_variants (choice m t g vs) (choice n u i ws) e h k =
-        (valid_merge t u (cc) h.0 (λ z. (k z).0), valid_merge_variants vs ws (cc) h.1 (λ z. (k z).1))
-    valid_merge_variants _ _ e h k = tt
+    valid_merge_items : {h : Holder} (xs ys : Items h) → erase_items xs ≡ erase_items ys → ValidItems xs → (Needs → ValidItems ys) → ValidItems (merge_items r xs ys)
+    valid_merge_items no_items no_items e h k = tt
+    valid_merge_items (item m t f xs) (item n u g ys) e h k = (valid_merge t u (cc) h.0 (λ z. (k z).0), valid_merge_items xs ys (ap rest_of e) h.1 (λ z. (k z).1))
+    valid_merge_items _ _ e h k = tt
 
 valid_either : (a b : Tree) → erase a ≡ erase b → Valid a → Valid b → Valid (merge either a b)
 valid_either a b e h k = valid_merge either (Unit {0}) (λ n same. ap (either NonNullable) (same tt)) refl a b e h (λ _. k)

@@ -13,8 +13,8 @@ use Rattle.dtype_base.specs.declared.nullability.Nullability.TheVariants.{NonNul
 use Rattle.dtype_base.specs.Primitives.{ptype_row}
 use Rattle.dtype_base.specs.declared.ptype.PType.{PType}
 use Rattle.dtype_base.specs.declared.ptype.PType.TheVariants.{U8, U16, U32, U64, F16, F32, F64}
-use Rattle.dtype_types.specs.tree.Tree.{Tree, Fields, no_fields, field, no_variants, choice, bool, primitive, decimal, utf8, binary, list, fixed_size_list, map_of, struct, union, variant, extension}
-use Rattle.dtype_types.specs.tree.Valid.{Valid, ValidFields}
+use Rattle.dtype_types.specs.tree.Tree.{Tree, Fields, no_items, item, bool, primitive, decimal, utf8, binary, list, fixed_size_list, map_of, struct, union, variant, extension}
+use Rattle.dtype_types.specs.tree.Valid.{Valid, ValidItems}
 use Rattle.dtype_types.proofs.lemmas.ValidLists.{variants_are}
 use Rattle.dtype_types.specs.values.Value.{Value, Of, NamedOf, Each, value_count, HasDigits}
 use Rattle.dtype_types.specs.values.Sample.{sample, samples, copies, zero_of}
@@ -61,12 +61,12 @@ mutual
   sample_of (fixed_size_list t k NonNullable) h = (value_count-copies k (sample t), each_copy (λ v. Of v t) k (sample t) (sample_of t h.1))
   sample_of (map_of t u s NonNullable) h = tt
   sample_of (struct fs NonNullable) h = samples_of fs h
-  sample_of (union no_variants NonNullable) h = absurd ((variants_are no_variants h.0).0.0.2 refl)
-  sample_of (union (choice n t g rest) NonNullable) h = inl (refl, sample_of t h.1.0)
+  sample_of (union no_items NonNullable) h = absurd ((variants_are no_items h.0).0.0.2 refl)
+  sample_of (union (item n t g rest) NonNullable) h = inl (refl, sample_of t h.1.0)
   sample_of (variant NonNullable) h = no_bytes
   sample_of (extension id b s) h = sample_of s h.1
   sample_of _ h = refl
 
-  pub samples_of : (fs : Fields) → ValidFields fs → NamedOf (samples fs) fs
-  samples_of no_fields h = tt
-  samples_of (field n t fs) h = (refl, sample_of t h.0, samples_of fs h.1)
+  pub samples_of : (fs : Fields) → ValidItems fs → NamedOf (samples fs) fs
+  samples_of no_items h = tt
+  samples_of (item n t _ fs) h = (refl, sample_of t h.0, samples_of fs h.1)

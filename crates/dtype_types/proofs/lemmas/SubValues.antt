@@ -2,11 +2,11 @@
 -- SPDX-FileCopyrightText: Copyright the Vortex contributors
 
 -- Where one type is below another, its values are values of the other.
-use Rattle.std.proofs.Common.{◌≡◌, ◌∙◌, ℕ, refl, subst, inl, inr}
+use Rattle.std.proofs.Common.{◌≡◌, ◌∙◌, ℕ, refl, subst, inl, inr, ap}
 use Rattle.dtype_base.specs.declared.nullability.Nullability.{Nullability}
-use Rattle.dtype_types.specs.tree.Erase.{erase, erase_fields, erase_variants}
-use Rattle.dtype_types.specs.nullability.Sub.{Sub, Allows, NullableWherever, NullableWhereverFields, NullableWhereverVariants}
-use Rattle.dtype_types.specs.tree.Tree.{Tree, Fields, no_fields, field, Variants, no_variants, choice, null, bool, primitive, decimal, utf8, binary, list, fixed_size_list, map_of, struct, union, variant, extension}
+use Rattle.dtype_types.specs.tree.Erase.{erase, erase_items}
+use Rattle.dtype_types.specs.nullability.Sub.{Sub, Allows, NullableWherever, NullableWhereverItems}
+use Rattle.dtype_types.specs.tree.Tree.{Tree, Fields, no_items, Variants, item, null, bool, primitive, decimal, utf8, binary, list, fixed_size_list, map_of, struct, union, variant, extension, rest_of, first_tag}
 use Rattle.dtype_types.proofs.lemmas.NullValues.{of_set}
 use Rattle.dtype_types.specs.values.Value.{Value, Values, Entries, Named, IncludedIn, Of, NamedOf, VariantOf, Each, EachEntry, null_value, items, fixed_items, entries, record_of, tagged, no_values, value, no_entries, entry, no_named, named}
 
@@ -64,18 +64,18 @@ mutual
   below (extension i a t) (extension j b u) e h v o = below t u (cc) h v o
   below _ _ e h v o = absurd h
 
-  below_fields : (fs gs : Fields) → erase_fields fs ≡ erase_fields gs → NullableWhereverFields fs gs → (nvs : Named) → NamedOf nvs fs → NamedOf nvs gs
-  below_fields no_fields no_fields e h nvs o = o
-  below_fields (field m t fs) (field n u gs) e h (named l v rest) o =
+  below_fields : (fs gs : Fields) → erase_items fs ≡ erase_items gs → NullableWhereverItems fs gs → (nvs : Named) → NamedOf nvs fs → NamedOf nvs gs
+  below_fields no_items no_items e h nvs o = o
+  below_fields (item m t _ fs) (item n u _ gs) e h (named l v rest) o =
       let name-is : m ≡ n = cc in
-      (o.0 ∙ name-is, below t u (cc) h.0 v o.1, below_fields fs gs (cc) h.1 rest o.2)
-  below_fields (field m t fs) (field n u gs) e h no_named o = o
+      (o.0 ∙ name-is, below t u (cc) h.0 v o.1, below_fields fs gs (ap rest_of e) h.1 rest o.2)
+  below_fields (item m t _ fs) (item n u _ gs) e h no_named o = o
   below_fields _ _ e h nvs o = absurd h
 
-  below_variants : (vs ws : Variants) → erase_variants vs ≡ erase_variants ws → NullableWhereverVariants vs ws → (g : ℕ) (v : Value) → VariantOf g v vs → VariantOf g v ws
-  below_variants no_variants no_variants e h g v o = o
-  below_variants (choice m t i vs) (choice n u j ws) e h g v (inl o) = let tag-is : i ≡ j = cc in inl (o.0 ∙ tag-is, below t u (cc) h.0 v o.1)
-  below_variants (choice m t i vs) (choice n u j ws) e h g v (inr o) = inr (below_variants vs ws (cc) h.1 g v o)
+  below_variants : (vs ws : Variants) → erase_items vs ≡ erase_items ws → NullableWhereverItems vs ws → (g : ℕ) (v : Value) → VariantOf g v vs → VariantOf g v ws
+  below_variants no_items no_items e h g v o = o
+  below_variants (item m t i vs) (item n u j ws) e h g v (inl o) = let tag-is : i ≡ j = ap (first_tag i) e in inl (o.0 ∙ tag-is, below t u (cc) h.0 v o.1)
+  below_variants (item m t i vs) (item n u j ws) e h g v (inr o) = inr (below_variants vs ws (ap rest_of e) h.1 g v o)
   below_variants _ _ e h g v o = absurd h
 
 pub sub_values : (a b : Tree) → Sub a b → IncludedIn a b

@@ -13,17 +13,17 @@ use Rattle.dtype_base.specs.Distinct.{Distinct}
 use Rattle.dtype_types.specs.parts.Lookups.{field_types, variant_names, variant_types, variant_tags}
 use Rattle.dtype_types.specs.parts.Unions.{MakesUnion, AreVariants}
 use Rattle.dtype_types.specs.tree.Tree.{Tree, Variants, fields, variants, triples}
-use Rattle.dtype_types.specs.tree.Valid.{Valid, ValidFields, ValidVariants}
+use Rattle.dtype_types.specs.tree.Valid.{Valid, ValidItems}
 use Rattle.dtype_types.proofs.lemmas.TreeLaws.{triples_variants}
 
-each_field : (fs : List (List ℕ × Tree)) → AllByRecursion Valid (field_types fs) → ValidFields (fields fs)
+each_field : (fs : List (List ℕ × Tree)) → AllByRecursion Valid (field_types fs) → ValidItems (fields fs)
 each_field [] h = tt
 each_field (f ∷ fs) h = (h.0, each_field fs h.1)
 
-pub valid_struct_of : (fs : List (List ℕ × Tree)) → All Valid (field_types fs) → ValidFields (fields fs)
+pub valid_struct_of : (fs : List (List ℕ × Tree)) → All Valid (field_types fs) → ValidItems (fields fs)
 valid_struct_of fs h = each_field fs (recursion_from_All Valid (field_types fs) h)
 
-each_variant : (vs : List (List ℕ × (Tree × ℕ))) → AllByRecursion Valid (variant_types vs) → ValidVariants (variants vs)
+each_variant : (vs : List (List ℕ × (Tree × ℕ))) → AllByRecursion Valid (variant_types vs) → ValidItems (variants vs)
 each_variant [] h = tt
 each_variant (v ∷ vs) h = (h.0, each_variant vs h.1)
 
@@ -52,5 +52,5 @@ zipped_variants ns ts gs made bytes =
     ((count, count ∙ sym (length-map vs (λ v. v.1.1)), λ none. made.0.2 (sym names ∙ none)), subst (λ hs. Distinct hs) (sym tags) made.1, subst (λ ms. Distinct ms) (sym names) made.2)
     (subst Bytes (sym tags) bytes)
 
-pub valid_union_of : (vs : List (List ℕ × (Tree × ℕ))) → MakesUnion (variant_names vs) (length vs) (variant_tags vs) → Bytes (variant_tags vs) → All Valid (variant_types vs) → AreVariants (variants vs) × ValidVariants (variants vs)
+pub valid_union_of : (vs : List (List ℕ × (Tree × ℕ))) → MakesUnion (variant_names vs) (length vs) (variant_tags vs) → Bytes (variant_tags vs) → All Valid (variant_types vs) → AreVariants (variants vs) × ValidItems (variants vs)
 valid_union_of vs made bytes valid = (listed_variants vs made bytes, each_variant vs (recursion_from_All Valid (variant_types vs) valid))

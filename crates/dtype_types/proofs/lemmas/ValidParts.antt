@@ -10,11 +10,11 @@ use Rattle.std.specs.declared.alloc.Global.{Global}
 use Rattle.std.specs.declared.boxed.Box.{Box}
 use Rattle.std.proofs.lemmas.Option.{same_Some}
 use Rattle.dtype_base.specs.declared.nullability.Nullability.TheVariants.{NonNullable}
-use Rattle.dtype_types.specs.tree.Valid.{Valid, ValidFields}
+use Rattle.dtype_types.specs.tree.Valid.{Valid, ValidItems}
 use Rattle.dtype_types.specs.tree.TreeOf.{tree, extension_tree, map_tree, union_tree, struct_tree, shown, children, variant_list, map_shown, extension_id, extension_metadata, storage_tree}
 use Rattle.dtype_types.specs.tree.Kinds.{list_element, fixed_size_list_element, any_size_list_element, map_parts, struct_fields, union_variants, extension_parts}
 use Rattle.dtype_types.specs.nullability.Nullable.{nullability}
-use Rattle.dtype_types.specs.tree.Tree.{Tree, Fields, Variants, no_fields, field, no_variants, choice, fields, pairs, variants, triples, list, fixed_size_list, map_of, struct, union, extension}
+use Rattle.dtype_types.specs.tree.Tree.{Tree, Fields, Variants, no_items, field, item, fields, pairs, variants, triples, list, fixed_size_list, map_of, struct, union, extension}
 use Rattle.dtype_types.specs.declared.dtype.DType.{DType}
 use Rattle.dtype_types.specs.declared.struct_fields.StructFields.{StructFields}
 use Rattle.dtype_types.specs.declared.union_variants.UnionVariants.{UnionVariants}
@@ -77,11 +77,11 @@ owned_map t (Some m) is h = map_parts_valid t m (sym is) h
 -- ---- a struct's fields
 
 pub fields_of_pairs : (fs : Fields) → fields (pairs fs) ≡ fs
-fields_of_pairs no_fields = refl
-fields_of_pairs (field n t rest) = ap (field n t) (fields_of_pairs rest)
+fields_of_pairs no_items = refl
+fields_of_pairs (item n t _ rest) = ap (field n t) (fields_of_pairs rest)
 
 pub struct_fields_valid : (t : Tree) (s : StructFields) → struct_fields t ≡ Some (children s) → Valid t → Valid (struct_tree s)
-struct_fields_valid (struct fs n) s is h = subst ValidFields (sym (fields_of_pairs fs) ∙ ap fields (same_Some (pairs fs) (children s) is)) h
+struct_fields_valid (struct fs n) s is h = subst ValidItems (sym (fields_of_pairs fs) ∙ ap fields (same_Some (pairs fs) (children s) is)) h
 struct_fields_valid _ s is h = cc
 
 pub borrowed_struct : (t : Tree) (r : Option (Bor StructFields)) → shown children r ≡ struct_fields t → Valid t → IfSome r (λ s. Valid (struct_tree s.now))
@@ -95,8 +95,8 @@ owned_struct t (Some s) is h = struct_fields_valid t s (sym is) h
 -- ---- a union's variants
 
 variants_of_triples : (vs : Variants) → variants (triples vs) ≡ vs
-variants_of_triples no_variants = refl
-variants_of_triples (choice n t g rest) = ap (choice n t g) (variants_of_triples rest)
+variants_of_triples no_items = refl
+variants_of_triples (item n t g rest) = ap (item n t g) (variants_of_triples rest)
 
 pub union_variants_valid : (t : Tree) (u : UnionVariants) → union_variants t ≡ Some (variant_list u) → Valid t → Valid (union_tree u)
 union_variants_valid (union vs n) u is h = subst (λ ws. Valid (union ws NonNullable)) (sym (variants_of_triples vs) ∙ ap variants (same_Some (triples vs) (variant_list u) is)) h

@@ -11,7 +11,7 @@ use Rattle.std.proofs.lemmas.Option.{same_Some}
 use Rattle.dtype_base.specs.declared.nullability.Nullability.{Nullability}
 use Rattle.dtype_base.specs.declared.nullability.Nullability.TheVariants.{NonNullable}
 use Rattle.dtype_types.specs.parts.FieldTypes.{given_fields, field_tree}
-use Rattle.dtype_types.specs.tree.Valid.{Valid, ValidFields, ValidVariants}
+use Rattle.dtype_types.specs.tree.Valid.{Valid, ValidItems}
 use Rattle.dtype_types.specs.tree.TreeOf.{tree, extension_tree, map_tree, union_tree, struct_tree, map_shown, struct_pairs, union_triples, children, variant_list, with_trees, with_tagged_trees, shown}
 use Rattle.dtype_types.specs.parts.Lookups.{first_named, variant_named, field_types, variant_types}
 use Rattle.dtype_types.specs.parts.Maps.{entries_of}
@@ -55,31 +55,31 @@ valid_extension d e is h = subst Valid (ap tree is ∙ tree_extension e) h
 
 -- ---- fields and variants, and their types
 
-pub valid_given : (ps : List (List ℕ × FieldDType)) → AllByRecursion (λ p. Valid (field_tree p.1)) ps → ValidFields (given_fields ps)
+pub valid_given : (ps : List (List ℕ × FieldDType)) → AllByRecursion (λ p. Valid (field_tree p.1)) ps → ValidItems (given_fields ps)
 valid_given [] h = tt
 valid_given (p ∷ ps) h = (h.0, valid_given ps h.1)
 
-each_pair : (ps : List (List ℕ × DType)) → ValidFields (fields (with_trees ps)) → AllByRecursion (λ p. Valid (tree p.1)) ps
+each_pair : (ps : List (List ℕ × DType)) → ValidItems (fields (with_trees ps)) → AllByRecursion (λ p. Valid (tree p.1)) ps
 each_pair [] h = tt
 each_pair (p ∷ ps) h = (h.0, each_pair ps h.1)
 
-each_triple : (ps : List (List ℕ × (DType × ℕ))) → ValidVariants (variants (with_tagged_trees ps)) → AllByRecursion (λ p. Valid (tree p.1.0)) ps
+each_triple : (ps : List (List ℕ × (DType × ℕ))) → ValidItems (variants (with_tagged_trees ps)) → AllByRecursion (λ p. Valid (tree p.1.0)) ps
 each_triple [] h = tt
 each_triple (p ∷ ps) h = (h.0, each_triple ps h.1)
 
 -- ---- fields made of valid fields
 
-pub valid_joined : (ps qs : List (List ℕ × Tree)) → ValidFields (fields ps) → ValidFields (fields qs) → ValidFields (fields (ps ++ qs))
+pub valid_joined : (ps qs : List (List ℕ × Tree)) → ValidItems (fields ps) → ValidItems (fields qs) → ValidItems (fields (ps ++ qs))
 valid_joined [] qs h k = k
 valid_joined (p ∷ ps) qs h k = (h.0, valid_joined ps qs h.1 k)
 
-pub valid_removed : (ps : List (List ℕ × Tree)) (i : ℕ) → ValidFields (fields ps) → ValidFields (fields (remove ps i))
+pub valid_removed : (ps : List (List ℕ × Tree)) (i : ℕ) → ValidItems (fields ps) → ValidItems (fields (remove ps i))
 valid_removed [] zero h = tt
 valid_removed [] (suc i) h = tt
 valid_removed (p ∷ ps) zero h = h.1
 valid_removed (p ∷ ps) (suc i) h = (h.0, valid_removed ps i h.1)
 
-valid_named : (ps : List (List ℕ × Tree)) (n : List ℕ) (t : Tree) → ValidFields (fields ps) → Some t ≡ first_named ps n → Valid t
+valid_named : (ps : List (List ℕ × Tree)) (n : List ℕ) (t : Tree) → ValidItems (fields ps) → Some t ≡ first_named ps n → Valid t
 valid_named [] n t h e = cc
 valid_named (p ∷ ps) n t h e = go (bytes_eq p.0 n) e (λ f. valid_named ps n t h.1 f)
   where
@@ -87,7 +87,7 @@ valid_named (p ∷ ps) n t h e = go (bytes_eq p.0 n) e (λ f. valid_named ps n t
     go true e later = subst Valid (same_Some p.1 t (sym e)) h.0
     go false e later = later e
 
-pub valid_projected : (ps qs : List (List ℕ × Tree)) (names : List (List ℕ)) → ValidFields (fields ps) → map (λ (q : List ℕ × Tree). Some q.1) qs ≡ map (first_named ps) names → ValidFields (fields qs)
+pub valid_projected : (ps qs : List (List ℕ × Tree)) (names : List (List ℕ)) → ValidItems (fields ps) → map (λ (q : List ℕ × Tree). Some q.1) qs ≡ map (first_named ps) names → ValidItems (fields qs)
 valid_projected ps [] names h e = tt
 valid_projected ps (q ∷ qs) [] h e = cc
 valid_projected ps (q ∷ qs) (n ∷ names) h e =
@@ -97,7 +97,7 @@ valid_projected ps (q ∷ qs) (n ∷ names) h e =
 -- ---- for callers
 
 -- the type of a field, at its position and by its name
-valid_of : (fs : List (List ℕ × Tree)) (i : ℕ) (t : Tree) → slice_get (field_types fs) i ≡ Some t → ValidFields (fields fs) → Valid t
+valid_of : (fs : List (List ℕ × Tree)) (i : ℕ) (t : Tree) → slice_get (field_types fs) i ≡ Some t → ValidItems (fields fs) → Valid t
 valid_of [] i t e h = cc
 valid_of (p ∷ ps) zero t e h = subst Valid (same_Some p.1 t e) h.0
 valid_of (p ∷ ps) (suc i) t e h = valid_of ps i t e h.1
@@ -111,7 +111,7 @@ named_field_valid s n None e h = tt
 named_field_valid s n (Some d) e h = valid_named (children s) n (tree d.now) h e
 
 -- the type of a variant, at its position and by its name
-valid_variant_of : (vs : List (List ℕ × (Tree × ℕ))) (i : ℕ) (t : Tree) → slice_get (variant_types vs) i ≡ Some t → ValidVariants (variants vs) → Valid t
+valid_variant_of : (vs : List (List ℕ × (Tree × ℕ))) (i : ℕ) (t : Tree) → slice_get (variant_types vs) i ≡ Some t → ValidItems (variants vs) → Valid t
 valid_variant_of [] i t e h = cc
 valid_variant_of (v ∷ vs) zero t e h = subst Valid (same_Some v.1.0 t e) h.0
 valid_variant_of (v ∷ vs) (suc i) t e h = valid_variant_of vs i t e h.1
@@ -120,7 +120,7 @@ pub variant_valid : (u : UnionVariants) (i : ℕ) (r : Option (Bor DType)) → s
 variant_valid u i None e h = tt
 variant_valid u i (Some d) e h = valid_variant_of (variant_list u) i (tree d.now) (sym e) h.1
 
-valid_by_name : (vs : List (List ℕ × (Tree × ℕ))) (n : List ℕ) (t : Tree) → ValidVariants (variants vs) → Some t ≡ variant_named vs n → Valid t
+valid_by_name : (vs : List (List ℕ × (Tree × ℕ))) (n : List ℕ) (t : Tree) → ValidItems (variants vs) → Some t ≡ variant_named vs n → Valid t
 valid_by_name [] n t h e = cc
 valid_by_name (v ∷ vs) n t h e = go (bytes_eq v.0 n) e (λ f. valid_by_name vs n t h.1 f)
   where
@@ -146,14 +146,14 @@ pub variant_named_valid : (u : UnionVariants) (n : List ℕ) (t : Tree) → vari
 variant_named_valid u n t e h = valid_by_name (variant_list u) n t h.1 (sym e)
 
 -- all types of fields, and of variants
-field_types_each : (fs : List (List ℕ × Tree)) → ValidFields (fields fs) → AllByRecursion Valid (field_types fs)
+field_types_each : (fs : List (List ℕ × Tree)) → ValidItems (fields fs) → AllByRecursion Valid (field_types fs)
 field_types_each [] h = tt
 field_types_each (p ∷ ps) h = (h.0, field_types_each ps h.1)
 
 pub field_types_valid : (s : StructFields) → Valid (struct_tree s) → All Valid (field_types (children s))
 field_types_valid s h = All-from_recursion Valid (field_types (children s)) (field_types_each (children s) h)
 
-variant_types_each : (vs : List (List ℕ × (Tree × ℕ))) → ValidVariants (variants vs) → AllByRecursion Valid (variant_types vs)
+variant_types_each : (vs : List (List ℕ × (Tree × ℕ))) → ValidItems (variants vs) → AllByRecursion Valid (variant_types vs)
 variant_types_each [] h = tt
 variant_types_each (v ∷ vs) h = (h.0, variant_types_each vs h.1)
 
@@ -167,17 +167,17 @@ pub triples_valid : (u : UnionVariants) → Valid (union_tree u) → All (λ p. 
 triples_valid u h = All-from_recursion (λ p. Valid (tree p.1.0)) (union_triples u) (each_triple (union_triples u) h.1)
 
 -- the struct of valid types
-zip_valid : (ns : List (List ℕ)) (ds : List DType) → AllByRecursion (λ d. Valid (tree d)) ds → ValidFields (fields (zip ns (map tree ds)))
+zip_valid : (ns : List (List ℕ)) (ds : List DType) → AllByRecursion (λ d. Valid (tree d)) ds → ValidItems (fields (zip ns (map tree ds)))
 zip_valid [] ds h = tt
 zip_valid (n ∷ ns) [] h = tt
 zip_valid (n ∷ ns) (d ∷ ds) h = (h.0, zip_valid ns ds h.1)
 
 pub struct_of_valid : (s : StructFields) (ns : List (List ℕ)) (ds : List DType) → children s ≡ zip ns (map tree ds) → All (λ d. Valid (tree d)) ds → Valid (struct_tree s)
-struct_of_valid s ns ds e h = subst (λ ps. ValidFields (fields ps)) (sym e) (zip_valid ns ds (recursion_from_All (λ d. Valid (tree d)) ds h))
+struct_of_valid s ns ds e h = subst (λ ps. ValidItems (fields ps)) (sym e) (zip_valid ns ds (recursion_from_All (λ d. Valid (tree d)) ds h))
 
 -- fields but for one
 pub removal_valid : (s r : StructFields) (i : ℕ) → children r ≡ remove (children s) i → Valid (struct_tree s) → Valid (struct_tree r)
-removal_valid s r i e h = subst (λ ps. ValidFields (fields ps)) (sym e) (valid_removed (children s) i h)
+removal_valid s r i e h = subst (λ ps. ValidItems (fields ps)) (sym e) (valid_removed (children s) i h)
 
 -- a type with another nullability
 valid_set : (t : Tree) (n : Nullability) → Valid t → IfSome (set_null t n) Valid

@@ -21,10 +21,10 @@ use Rattle.dtype_base.specs.declared.ptype.PType.{PType}
 use Rattle.dtype_base.specs.declared.ptype.PType.TheVariants.{U8, U16, U32, U64, I8, I16, I32, I64, F16, F32, F64}
 use Rattle.dtype_types.specs.declared.dtype.equality.NullabilityRule.{NullabilityRule}
 use Rattle.dtype_types.specs.declared.dtype.equality.NullabilityRule.TheVariants.{Compared, Ignored, Within}
-use Rattle.dtype_types.specs.nullability.Sub.{Sub, Wherever, WhereverFields, WhereverVariants}
-use Rattle.dtype_types.specs.tree.Tree.{Tree, Fields, no_fields, field, Variants, no_variants, choice, null, bool, primitive, decimal, utf8, binary, list, fixed_size_list, map_of, struct, union, variant, extension}
-use Rattle.dtype_types.specs.tree.Erase.{erase, erase_fields, erase_variants}
-use Rattle.dtype_types.specs.equality.Equality.{Asks, equal_under, fields_equal_under, variants_equal_under, allows, same_ptype}
+use Rattle.dtype_types.specs.nullability.Sub.{Sub, Wherever, WhereverItems}
+use Rattle.dtype_types.specs.tree.Tree.{Tree, no_items, item, null, bool, primitive, decimal, utf8, binary, list, fixed_size_list, map_of, struct, union, variant, extension, Holder, a_struct, a_union, Tag, Items, rest_of, first_tag}
+use Rattle.dtype_types.specs.tree.Erase.{erase, erase_items}
+use Rattle.dtype_types.specs.equality.Equality.{Asks, equal_under, items_equal_under, allows, same_ptype, same_tag}
 use Rattle.dtype_types.specs.equality.EqualityOf.{same_dtype, same_extension, same_field_dtype, same_map, same_struct, same_union}
 use Rattle.dtype_types.specs.tree.TreeOf.{tree, struct_tree, union_tree, map_tree, extension_tree}
 
@@ -58,6 +58,10 @@ same_decimal-Decides d e =
     restated (λ h. ap (λ p. record { precision = p; scale = d.scale }) h.0 ∙ ap (λ s. record { precision = e.precision; scale = s }) h.1) (λ h. (ap (λ x. x.precision) h, ap (λ x. x.scale) h))
     (Decides-and _ _ (Decides-eqb d.precision e.precision) (signed_Decides d.scale e.scale))
 
+same_tag-Decides : (h : Holder) (f g : Tag h) → Decides (same_tag h f g) (f ≡ g)
+same_tag-Decides a_struct f g = (λ e. refl, λ e. refl)
+same_tag-Decides a_union f g = Decides-eqb f g
+
 -- ---- the test under any rule: equal but for nullabilities, of which the rule holds at each place
 
 abbrev Alike : NullabilityRule → Tree → Tree → Type 0
@@ -80,26 +84,19 @@ mutual
       restated (λ h. (cc (h.1.0.0.0, h.1.0.1.0, h.1.1), (h.0, h.1.0.0.1, h.1.0.1.1))) (λ h. (h.1.0, (((cc h.0, h.1.1), (cc h.0, h.1.2)), cc h.0)))
       (Decides-and _ _ (allows-Decides s m n) (Decides-and _ _ (Decides-and _ _ (alike-Decides s t u) (alike-Decides s v w)) (booleans_Decides x y)))
   alike-Decides s (struct fs m) (struct gs n) =
-      restated (λ h. (ap (λ x. struct x NonNullable) h.1.0, (h.0, h.1.1))) (λ h. (h.1.0, (cc h.0, h.1.1))) (Decides-and _ _ (allows-Decides s m n) (alike_fields-Decides s fs gs))
+      restated (λ h. (ap (λ x. struct x NonNullable) h.1.0, (h.0, h.1.1))) (λ h. (h.1.0, (cc h.0, h.1.1))) (Decides-and _ _ (allows-Decides s m n) (alike_items-Decides s fs gs))
   alike-Decides s (union vs m) (union ws n) =
-      restated (λ h. (ap (λ x. union x NonNullable) h.1.0, (h.0, h.1.1))) (λ h. (h.1.0, (cc h.0, h.1.1))) (Decides-and _ _ (allows-Decides s m n) (alike_variants-Decides s vs ws))
+      restated (λ h. (ap (λ x. union x NonNullable) h.1.0, (h.0, h.1.1))) (λ h. (h.1.0, (cc h.0, h.1.1))) (Decides-and _ _ (allows-Decides s m n) (alike_items-Decides s vs ws))
   alike-Decides s (extension i a t) (extension j b u) =
       restated (λ h. (cc (h.0.0, h.0.1, h.1.0), h.1.1)) (λ h. ((cc h.0, cc h.0), (cc h.0, h.1))) (Decides-and _ _ (Decides-and _ _ (bytes_eq-Decides i j) (bytes_eq-Decides a b)) (alike-Decides s t u))
   alike-Decides s _ _ = (λ e. absurd (false≢true e), λ h. absurd h.1)
 
-  alike_fields-Decides : (s : NullabilityRule) (fs gs : Fields) → Decides (fields_equal_under s fs gs) ((erase_fields fs ≡ erase_fields gs) × WhereverFields (Asks s) fs gs)
-  alike_fields-Decides s no_fields no_fields = (λ e. (refl, tt), λ h. refl)
-  alike_fields-Decides s (field m t fs) (field n u gs) =
-      restated (λ h. (cc (h.0.0, h.0.1.0, h.1.0), (h.0.1.1, h.1.1))) (λ h. ((cc h.0, (cc h.0, h.1.0)), (cc h.0, h.1.1)))
-      (Decides-and _ _ (Decides-and _ _ (bytes_eq-Decides m n) (alike-Decides s t u)) (alike_fields-Decides s fs gs))
-  alike_fields-Decides s _ _ = (λ e. absurd (false≢true e), λ h. absurd h.1)
-
-  alike_variants-Decides : (s : NullabilityRule) (vs ws : Variants) → Decides (variants_equal_under s vs ws) ((erase_variants vs ≡ erase_variants ws) × WhereverVariants (Asks s) vs ws)
-  alike_variants-Decides s no_variants no_variants = (λ e. (refl, tt), λ h. refl)
-  alike_variants-Decides s (choice m t g vs) (choice n u i ws) =
-      restated (λ h. (cc (h.0.0.0, h.0.0.1.0, h.0.1, h.1.0), (h.0.0.1.1, h.1.1))) (λ h. (((cc h.0, (cc h.0, h.1.0)), cc h.0), (cc h.0, h.1.1)))
-      (Decides-and _ _ (Decides-and _ _ (Decides-and _ _ (bytes_eq-Decides m n) (alike-Decides s t u)) (Decides-eqb g i)) (alike_variants-Decides s vs ws))
-  alike_variants-Decides s _ _ = (λ e. absurd (false≢true e), λ h. absurd h.1)
+  alike_items-Decides : (s : NullabilityRule) {k : Holder} (xs ys : Items k) → Decides (items_equal_under s xs ys) ((erase_items xs ≡ erase_items ys) × WhereverItems (Asks s) xs ys)
+  alike_items-Decides s no_items no_items = (λ e. (refl, tt), λ h. refl)
+  alike_items-Decides s {k} (item m t f xs) (item n u g ys) =
+      restated (λ h. (cc (h.0.0.0, h.0.0.1, h.0.1.0, h.1.0), (h.0.1.1, h.1.1))) (λ h. (((ap (first_tag {h = k} f) h.0, cc h.0), (cc h.0, h.1.0)), (ap rest_of h.0, h.1.1)))
+      (Decides-and _ _ (Decides-and _ _ (Decides-and _ _ (same_tag-Decides k f g) (bytes_eq-Decides m n)) (alike-Decides s t u)) (alike_items-Decides s xs ys))
+  alike_items-Decides s _ _ = (λ e. absurd (false≢true e), λ h. absurd h.1)
 
 -- ---- what each rule makes of it
 
@@ -117,20 +114,15 @@ module _ (R : Nullability → Nullability → Type 0) (any : (m n : Nullability)
     everywhere (list t m) (list u n) e = (any m n, everywhere t u (cc))
     everywhere (fixed_size_list t j m) (fixed_size_list u k n) e = (any m n, everywhere t u (cc))
     everywhere (map_of t v x m) (map_of u w y n) e = (any m n, everywhere t u (cc), everywhere v w (cc))
-    everywhere (struct fs m) (struct gs n) e = (any m n, everywhere_fields fs gs (cc))
-    everywhere (union vs m) (union ws n) e = (any m n, everywhere_variants vs ws (cc))
+    everywhere (struct fs m) (struct gs n) e = (any m n, everywhere_items fs gs (cc))
+    everywhere (union vs m) (union ws n) e = (any m n, everywhere_items vs ws (cc))
     everywhere (extension i a t) (extension j b u) e = everywhere t u (cc)
     everywhere _ _ e = absurd (cc e)
 
-    everywhere_fields : (fs gs : Fields) → erase_fields fs ≡ erase_fields gs → WhereverFields R fs gs
-    everywhere_fields no_fields no_fields e = tt
-    everywhere_fields (field m t fs) (field n u gs) e = (everywhere t u (cc), everywhere_fields fs gs (cc))
-    everywhere_fields _ _ e = absurd (cc e)
-
-    everywhere_variants : (vs ws : Variants) → erase_variants vs ≡ erase_variants ws → WhereverVariants R vs ws
-    everywhere_variants no_variants no_variants e = tt
-    everywhere_variants (choice m t g vs) (choice n u i ws) e = (everywhere t u (cc), everywhere_variants vs ws (cc))
-    everywhere_variants _ _ e = absurd (cc e)
+    everywhere_items : {h : Holder} (xs ys : Items h) → erase_items xs ≡ erase_items ys → WhereverItems R xs ys
+    everywhere_items no_items no_items e = tt
+    everywhere_items (item m t f xs) (item n u g ys) e = (everywhere t u (cc), everywhere_items xs ys (ap rest_of e))
+    everywhere_items _ _ e = absurd (cc e)
 
 -- a rule that holds of a nullability and itself holds at each place of a type and itself
 module _ (R : Nullability → Nullability → Type 0) (same : (n : Nullability) → R n n) where
@@ -140,8 +132,8 @@ module _ (R : Nullability → Nullability → Type 0) (same : (n : Nullability) 
     reflexive (list t n) = (same n, reflexive t)
     reflexive (fixed_size_list t k n) = (same n, reflexive t)
     reflexive (map_of t u s n) = (same n, reflexive t, reflexive u)
-    reflexive (struct fs n) = (same n, reflexive_fields fs)
-    reflexive (union vs n) = (same n, reflexive_variants vs)
+    reflexive (struct fs n) = (same n, reflexive_items fs)
+    reflexive (union vs n) = (same n, reflexive_items vs)
     reflexive (extension i b s) = reflexive s
     reflexive (bool n) = same n
     reflexive (primitive p n) = same n
@@ -150,13 +142,9 @@ module _ (R : Nullability → Nullability → Type 0) (same : (n : Nullability) 
     reflexive (binary n) = same n
     reflexive (variant n) = same n
 
-    reflexive_fields : (fs : Fields) → WhereverFields R fs fs
-    reflexive_fields no_fields = tt
-    reflexive_fields (field n t fs) = (reflexive t, reflexive_fields fs)
-
-    reflexive_variants : (vs : Variants) → WhereverVariants R vs vs
-    reflexive_variants no_variants = tt
-    reflexive_variants (choice n t g vs) = (reflexive t, reflexive_variants vs)
+    reflexive_items : {h : Holder} (xs : Items h) → WhereverItems R xs xs
+    reflexive_items no_items = tt
+    reflexive_items (item n t g xs) = (reflexive t, reflexive_items xs)
 
 -- types that are equal but for nullabilities are equal where one rule holds one way and another the other, and these
 -- hold of equal nullabilities alone
@@ -172,21 +160,16 @@ module _ (R S : Nullability → Nullability → Type 0) (one : (m n : Nullabilit
     equal_by (list t m) (list u n) e h k = cc (equal_by t u (cc) h.1 k.1, one m n h.0 k.0)
     equal_by (fixed_size_list t i m) (fixed_size_list u j n) e h k = cc (equal_by t u (cc) h.1 k.1, one m n h.0 k.0)
     equal_by (map_of t v x m) (map_of u w y n) e h k = cc (equal_by t u (cc) h.1 k.1, equal_by v w (cc) h.2 k.2, one m n h.0 k.0)
-    equal_by (struct fs m) (struct gs n) e h k = cc (equal_fields fs gs (cc) h.1 k.1, one m n h.0 k.0)
-    equal_by (union vs m) (union ws n) e h k = cc (equal_variants vs ws (cc) h.1 k.1, one m n h.0 k.0)
+    equal_by (struct fs m) (struct gs n) e h k = cc (equal_items fs gs (cc) h.1 k.1, one m n h.0 k.0)
+    equal_by (union vs m) (union ws n) e h k = cc (equal_items vs ws (cc) h.1 k.1, one m n h.0 k.0)
     equal_by (variant m) (variant n) e h k = ap variant (one m n h k)
     equal_by (extension i a t) (extension j b u) e h k = cc (equal_by t u (cc) h k)
     equal_by _ _ e h k = absurd h
 
-    equal_fields : (fs gs : Fields) → erase_fields fs ≡ erase_fields gs → WhereverFields R fs gs → WhereverFields S gs fs → fs ≡ gs
-    equal_fields no_fields no_fields e h k = refl
-    equal_fields (field m t fs) (field n u gs) e h k = cc (equal_by t u (cc) h.0 k.0, equal_fields fs gs (cc) h.1 k.1)
-    equal_fields _ _ e h k = absurd h
-
-    equal_variants : (vs ws : Variants) → erase_variants vs ≡ erase_variants ws → WhereverVariants R vs ws → WhereverVariants S ws vs → vs ≡ ws
-    equal_variants no_variants no_variants e h k = refl
-    equal_variants (choice m t g vs) (choice n u f ws) e h k = cc (equal_by t u (cc) h.0 k.0, equal_variants vs ws (cc) h.1 k.1)
-    equal_variants _ _ e h k = absurd h
+    equal_items : {h : Holder} (xs ys : Items h) → erase_items xs ≡ erase_items ys → WhereverItems R xs ys → WhereverItems S ys xs → xs ≡ ys
+    equal_items no_items no_items e h k = refl
+    equal_items (item m t f xs) (item n u g ys) e h k = cc (ap (first_tag f) e, equal_by t u (cc) h.0 k.0, equal_items xs ys (ap rest_of e) h.1 k.1)
+    equal_items _ _ e h k = absurd h
 
 pub equal_erased-Decides : (a b : Tree) → Decides (equal_under Ignored a b) (erase a ≡ erase b)
 equal_erased-Decides a b = restated (λ h. h.0) (λ e. (e, everywhere (Asks Ignored) (λ m n. tt) a b e)) (alike-Decides Ignored a b)

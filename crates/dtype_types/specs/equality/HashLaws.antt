@@ -9,15 +9,15 @@ use Rattle.std.specs.Hash as fed
 use Rattle.dtype_base.specs.declared.nullability.Nullability.TheVariants.{NonNullable}
 use Rattle.dtype_types.specs.tree.Kinds.{kind_number}
 use Rattle.dtype_types.specs.declared.dtype.kinds.Kind.TheVariants as kind
-use Rattle.dtype_types.specs.tree.Tree.{Tree, Fields, no_fields, field, Variants, no_variants, choice, list, fixed_size_list, map_of, struct, union, extension}
+use Rattle.dtype_types.specs.tree.Tree.{Tree, no_items, item, list, fixed_size_list, map_of, struct, union, extension, Holder, Items}
 use Rattle.dtype_types.specs.tree.TreeOf.{tree, struct_tree, union_tree, map_tree, extension_tree}
-use Rattle.dtype_types.specs.tree.Erase.{erase, erase_fields, erase_variants}
+use Rattle.dtype_types.specs.tree.Erase.{erase, erase_items}
 use Rattle.dtype_types.specs.equality.EqualityLaws.{equal_under-Decides}
 use Rattle.dtype_types.specs.equality.EqualityOf.{same_dtype}
 use Rattle.dtype_types.specs.equality.Equality.{equal_under}
 use Rattle.dtype_types.specs.declared.dtype.equality.NullabilityRule.TheVariants.{Compared}
 use Rattle.dtype_types.specs.equality.EqualityOf.{same_struct, same_union, same_map, same_extension}
-use Rattle.dtype_types.specs.equality.Hashes.{hash_of, kind_writes, bytes_writes, field_count, field_writes, variant_count, variant_writes}
+use Rattle.dtype_types.specs.equality.Hashes.{hash_of, kind_writes, bytes_writes, item_count, item_writes, tag_writes}
 use Rattle.dtype_types.specs.declared.dtype.hash.HashMode.TheVariants.{Whole, Erased}
 use Rattle.dtype_types.specs.equality.HashesOf.{inner_writes, struct_writes, union_writes, map_writes, extension_writes}
 use Rattle.dtype_types.specs.declared.dtype.DType.{DType}
@@ -53,32 +53,23 @@ mutual
       ap (λ w. kind_writes Erased (kind_number kind.Map) n ++ (w ++ (hash_of Erased v ++ fed.bool o))) (hash-erase k)
       ∙ ap (λ w. kind_writes Erased (kind_number kind.Map) n ++ (hash_of Erased (erase k) ++ (w ++ fed.bool o))) (hash-erase v)
   hash-erase (struct fs n) =
-      ap (λ k. kind_writes Erased (kind_number kind.Struct) n ++ (fed.usize k ++ field_writes Erased fs)) (field_count-erase fs)
-      ∙ ap (λ w. kind_writes Erased (kind_number kind.Struct) n ++ (fed.usize (field_count (erase_fields fs)) ++ w)) (field_writes-erase fs)
+      ap (λ k. kind_writes Erased (kind_number kind.Struct) n ++ (fed.usize k ++ item_writes Erased fs)) (item_count-erase fs)
+      ∙ ap (λ w. kind_writes Erased (kind_number kind.Struct) n ++ (fed.usize (item_count (erase_items fs)) ++ w)) (item_writes-erase fs)
   hash-erase (union vs n) =
-      ap (λ k. kind_writes Erased (kind_number kind.Union) n ++ (fed.usize k ++ variant_writes Erased vs)) (variant_count-erase vs)
-      ∙ ap (λ w. kind_writes Erased (kind_number kind.Union) n ++ (fed.usize (variant_count (erase_variants vs)) ++ w)) (variant_writes-erase vs)
+      ap (λ k. kind_writes Erased (kind_number kind.Union) n ++ (fed.usize k ++ item_writes Erased vs)) (item_count-erase vs)
+      ∙ ap (λ w. kind_writes Erased (kind_number kind.Union) n ++ (fed.usize (item_count (erase_items vs)) ++ w)) (item_writes-erase vs)
   hash-erase (extension id b t) = ap (λ w. kind_writes Erased (kind_number kind.Extension) NonNullable ++ (fed.str id ++ (bytes_writes b ++ w))) (hash-erase t)
   hash-erase _ = refl
 
-  field_count-erase : (fs : Fields) → field_count fs ≡ field_count (erase_fields fs)
-  field_count-erase no_fields = refl
-  field_count-erase (field n t rest) = ap suc (field_count-erase rest)
+  item_count-erase : {h : Holder} (xs : Items h) → item_count xs ≡ item_count (erase_items xs)
+  item_count-erase no_items = refl
+  item_count-erase (item n t g rest) = ap suc (item_count-erase rest)
 
-  variant_count-erase : (vs : Variants) → variant_count vs ≡ variant_count (erase_variants vs)
-  variant_count-erase no_variants = refl
-  variant_count-erase (choice n t g rest) = ap suc (variant_count-erase rest)
-
-  field_writes-erase : (fs : Fields) → field_writes Erased fs ≡ field_writes Erased (erase_fields fs)
-  field_writes-erase no_fields = refl
-  field_writes-erase (field n t rest) =
-      ap (λ w. fed.str n ++ (w ++ field_writes Erased rest)) (hash-erase t) ∙ ap (λ w. fed.str n ++ (hash_of Erased (erase t) ++ w)) (field_writes-erase rest)
-
-  variant_writes-erase : (vs : Variants) → variant_writes Erased vs ≡ variant_writes Erased (erase_variants vs)
-  variant_writes-erase no_variants = refl
-  variant_writes-erase (choice n t g rest) =
-      ap (λ w. fed.str n ++ (w ++ (fed.u8 g ++ variant_writes Erased rest))) (hash-erase t)
-      ∙ ap (λ w. fed.str n ++ (hash_of Erased (erase t) ++ (fed.u8 g ++ w))) (variant_writes-erase rest)
+  item_writes-erase : {h : Holder} (xs : Items h) → item_writes Erased xs ≡ item_writes Erased (erase_items xs)
+  item_writes-erase no_items = refl
+  item_writes-erase {h} (item n t g rest) =
+      ap (λ w. fed.str n ++ (w ++ (tag_writes h g ++ item_writes Erased rest))) (hash-erase t)
+      ∙ ap (λ w. fed.str n ++ (hash_of Erased (erase t) ++ (tag_writes h g ++ w))) (item_writes-erase rest)
 
 pub erased_fed : (a b : Tree) → erase a ≡ erase b → hash_of Erased a ≡ hash_of Erased b
 erased_fed a b e = hash-erase a ∙ ap (hash_of Erased) e ∙ sym (hash-erase b)

@@ -16,7 +16,7 @@ use Rattle.dtype_types.specs.tree.Kinds.{kind_number}
 use Rattle.dtype_types.specs.declared.dtype.kinds.Kind.TheVariants as kind
 use Rattle.dtype_types.specs.declared.dtype.hash.HashMode.{HashMode}
 use Rattle.dtype_types.specs.declared.dtype.hash.HashMode.TheVariants.{Whole, Erased}
-use Rattle.dtype_types.specs.tree.Tree.{Tree, Fields, no_fields, field, Variants, no_variants, choice, null, bool, primitive, decimal, utf8, binary, list, fixed_size_list, map_of, struct, union, variant, extension}
+use Rattle.dtype_types.specs.tree.Tree.{Tree, no_items, item, null, bool, primitive, decimal, utf8, binary, list, fixed_size_list, map_of, struct, union, variant, extension, Items, Holder, a_struct, a_union, Tag}
 
 -- 1 for a nullable type, where nullabilities aren't ignored
 abbrev pub nullable_mark : HashMode → Nullability → ℕ
@@ -35,15 +35,15 @@ primitive_number p = suc (kind_number kind.Extension) + (ptype_row p).number
 abbrev pub bytes_writes : List ℕ → HashWrites
 bytes_writes b = fed.usize (length b) ++ (b ∷ [])
 
--- how many fields there are
-abbrev pub field_count : Fields → ℕ
-field_count no_fields = 0
-field_count (field n t rest) = suc (field_count rest)
+-- a tag in a byte; a field has none
+abbrev pub tag_writes : (h : Holder) → Tag h → HashWrites
+tag_writes a_struct g = []
+tag_writes a_union g = fed.u8 g
 
--- how many variants there are
-abbrev pub variant_count : Variants → ℕ
-variant_count no_variants = 0
-variant_count (choice n t g rest) = suc (variant_count rest)
+-- how many fields, or variants, there are
+abbrev pub item_count : {h : Holder} → Items h → ℕ
+item_count no_items = 0
+item_count (item n t g rest) = suc (item_count rest)
 
 abbrev mutual
   -- a type: its kind and nullability, and then its parts
@@ -57,20 +57,15 @@ abbrev mutual
   hash_of s (list t n) = kind_writes s (kind_number kind.List) n ++ hash_of s t
   hash_of s (fixed_size_list t k n) = kind_writes s (kind_number kind.FixedSizeList) n ++ (fed.u32 k ++ hash_of s t)
   hash_of s (map_of k v o n) = kind_writes s (kind_number kind.Map) n ++ (hash_of s k ++ (hash_of s v ++ fed.bool o))
-  hash_of s (struct fs n) = kind_writes s (kind_number kind.Struct) n ++ (fed.usize (field_count fs) ++ field_writes s fs)
-  hash_of s (union vs n) = kind_writes s (kind_number kind.Union) n ++ (fed.usize (variant_count vs) ++ variant_writes s vs)
+  hash_of s (struct fs n) = kind_writes s (kind_number kind.Struct) n ++ (fed.usize (item_count fs) ++ item_writes s fs)
+  hash_of s (union vs n) = kind_writes s (kind_number kind.Union) n ++ (fed.usize (item_count vs) ++ item_writes s vs)
   hash_of s (variant n) = kind_writes s (kind_number kind.Variant) n
   hash_of s (extension id b t) = kind_writes s (kind_number kind.Extension) NonNullable ++ (fed.str id ++ (bytes_writes b ++ hash_of s t))
 
-  -- each field: its name and its type
-  pub field_writes : HashMode → Fields → HashWrites
-  field_writes s no_fields = []
-  field_writes s (field n t rest) = fed.str n ++ (hash_of s t ++ field_writes s rest)
-
-  -- each variant: its name, its type and its tag
-  pub variant_writes : HashMode → Variants → HashWrites
-  variant_writes s no_variants = []
-  variant_writes s (choice n t g rest) = fed.str n ++ (hash_of s t ++ (fed.u8 g ++ variant_writes s rest))
+  -- each field, or variant: its name, its type and its tag
+  pub item_writes : HashMode → {h : Holder} → Items h → HashWrites
+  item_writes s no_items = []
+  item_writes s {h} (item n t g rest) = fed.str n ++ (hash_of s t ++ (tag_writes h g ++ item_writes s rest))
 
 -- what a type feeds a hasher through `Hash`
 abbrev pub hash_writes : Tree → HashWrites

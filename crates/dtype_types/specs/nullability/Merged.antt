@@ -14,7 +14,7 @@ use Rattle.dtype_types.specs.declared.dtype.lattice.MergeRule.{MergeRule}
 use Rattle.dtype_types.specs.declared.dtype.lattice.MergeRule.TheVariants.{Either, Both}
 use Rattle.dtype_types.specs.equality.Equality.{equal_under}
 use Rattle.dtype_types.specs.nullability.Sub.{Sub}
-use Rattle.dtype_types.specs.tree.Tree.{Tree, Fields, no_fields, field, Variants, no_variants, choice, null, bool, primitive, decimal, utf8, binary, list, fixed_size_list, map_of, struct, union, variant, extension}
+use Rattle.dtype_types.specs.tree.Tree.{Tree, no_items, item, null, bool, primitive, decimal, utf8, binary, list, fixed_size_list, map_of, struct, union, variant, extension, Items, Holder}
 
 -- one nullability of two
 abbrev pub Rule : Type 0
@@ -37,19 +37,15 @@ abbrev mutual
   merge r (list t m) (list u n) = list (merge r t u) (r m n)
   merge r (fixed_size_list t j m) (fixed_size_list u k n) = fixed_size_list (merge r t u) j (r m n)
   merge r (map_of t v a m) (map_of u w b n) = map_of (merge r t u) (merge r v w) a (r m n)
-  merge r (struct fs m) (struct gs n) = struct (merge_fields r fs gs) (r m n)
-  merge r (union vs m) (union ws n) = union (merge_variants r vs ws) (r m n)
+  merge r (struct fs m) (struct gs n) = struct (merge_items r fs gs) (r m n)
+  merge r (union vs m) (union ws n) = union (merge_items r vs ws) (r m n)
   merge r (variant m) (variant n) = variant (r m n)
   merge r (extension i a t) (extension j b u) = extension i a (merge r t u)
   merge r t _ = t
 
-  pub merge_fields : Rule → Fields → Fields → Fields
-  merge_fields r (field m t fs) (field n u gs) = field m (merge r t u) (merge_fields r fs gs)
-  merge_fields r _ _ = no_fields
-
-  pub merge_variants : Rule → Variants → Variants → Variants
-  merge_variants r (choice m t g vs) (choice n u h ws) = choice m (merge r t u) g (merge_variants r vs ws)
-  merge_variants r _ _ = no_variants
+  pub merge_items : Rule → {h : Holder} → Items h → Items h → Items h
+  merge_items r (item m t f xs) (item n u g ys) = item m (merge r t u) f (merge_items r xs ys)
+  merge_items r _ _ = no_items
 
 -- the two as one, where they are equal but for nullabilities
 abbrev pub merged_under : Rule → Tree → Tree → Option Tree

@@ -9,7 +9,7 @@ use Rattle.std.specs.Prelude.{◌≡◌}
 use Rattle.dtype_base.specs.declared.nullability.Nullability.{Nullability}
 use Rattle.dtype_base.specs.declared.nullability.Nullability.TheVariants.{Nullable}
 use Rattle.dtype_types.specs.tree.Erase.{erase}
-use Rattle.dtype_types.specs.tree.Tree.{Tree, Fields, no_fields, field, Variants, no_variants, choice, null, bool, primitive, decimal, utf8, binary, list, fixed_size_list, map_of, struct, union, variant, extension}
+use Rattle.dtype_types.specs.tree.Tree.{Tree, no_items, item, null, bool, primitive, decimal, utf8, binary, list, fixed_size_list, map_of, struct, union, variant, extension, Items, Holder}
 
 -- at one place: nullable there, nullable here
 abbrev pub Allows : Nullability → Nullability → Type 0
@@ -28,33 +28,24 @@ abbrev mutual
   Wherever R (list t m) (list u n) = R m n × Wherever R t u
   Wherever R (fixed_size_list t j m) (fixed_size_list u k n) = R m n × Wherever R t u
   Wherever R (map_of t v x m) (map_of u w y n) = R m n × Wherever R t u × Wherever R v w
-  Wherever R (struct fs m) (struct gs n) = R m n × WhereverFields R fs gs
-  Wherever R (union vs m) (union ws n) = R m n × WhereverVariants R vs ws
+  Wherever R (struct fs m) (struct gs n) = R m n × WhereverItems R fs gs
+  Wherever R (union vs m) (union ws n) = R m n × WhereverItems R vs ws
   Wherever R (variant m) (variant n) = R m n
   Wherever R (extension i a t) (extension j b u) = Wherever R t u
   Wherever R _ _ = ⊥
 
-  -- the same of the types of fields, one by one
-  pub WhereverFields : (Nullability → Nullability → Type 0) → Fields → Fields → Type 0
-  WhereverFields R no_fields no_fields = Unit {0}
-  WhereverFields R (field m t fs) (field n u gs) = Wherever R t u × WhereverFields R fs gs
-  WhereverFields R _ _ = ⊥
-
-  -- the same of the types of variants, one by one
-  pub WhereverVariants : (Nullability → Nullability → Type 0) → Variants → Variants → Type 0
-  WhereverVariants R no_variants no_variants = Unit {0}
-  WhereverVariants R (choice m t g vs) (choice n u h ws) = Wherever R t u × WhereverVariants R vs ws
-  WhereverVariants R _ _ = ⊥
+  -- the same of the types of fields, or of variants, one by one
+  pub WhereverItems : (Nullability → Nullability → Type 0) → {h : Holder} → Items h → Items h → Type 0
+  WhereverItems R no_items no_items = Unit {0}
+  WhereverItems R (item m t f xs) (item n u g ys) = Wherever R t u × WhereverItems R xs ys
+  WhereverItems R _ _ = ⊥
 
 -- wherever a is nullable b is
 abbrev pub NullableWherever : Tree → Tree → Type 0
 NullableWherever a b = Wherever Allows a b
 
-abbrev pub NullableWhereverFields : Fields → Fields → Type 0
-NullableWhereverFields fs gs = WhereverFields Allows fs gs
-
-abbrev pub NullableWhereverVariants : Variants → Variants → Type 0
-NullableWhereverVariants vs ws = WhereverVariants Allows vs ws
+abbrev pub NullableWhereverItems : {h : Holder} → Items h → Items h → Type 0
+NullableWhereverItems xs ys = WhereverItems Allows xs ys
 
 -- a is below b
 pub record Sub (a b : Tree) : Type 0 where

@@ -9,12 +9,12 @@ use Rattle.std.specs.List.{join_by}
 use Rattle.dtype_base.specs.Escapes.{escaped}
 use Rattle.dtype_base.specs.Nullability.{nullability_text}
 use Rattle.dtype_types.specs.texts.Text.{text}
-use Rattle.dtype_types.specs.tree.Tree.{Tree, Fields, no_fields, field, list, fixed_size_list, struct}
+use Rattle.dtype_types.specs.tree.Tree.{Tree, Fields, no_items, list, fixed_size_list, struct, item}
 
 -- the line that ends the last field, where there is one
 abbrev pub last_line : Fields → List ℕ
-last_line no_fields = []
-last_line (field n t rest) = codes "\n"
+last_line no_items = []
+last_line (item n t _ rest) = codes "\n"
 
 -- fields that are written so, in braces; indent is what comes before the closing brace
 abbrev pub braces : List ℕ → List (List ℕ) → Fields → List ℕ
@@ -30,8 +30,8 @@ abbrev mutual
 
   -- each field, a line each
   pub indented_fields : List ℕ → Fields → List (List ℕ)
-  indented_fields indent no_fields = []
-  indented_fields indent (field n t rest) = (indent ++ (escaped n ++ (codes "=" ++ indented indent t))) ∷ indented_fields indent rest
+  indented_fields indent no_items = []
+  indented_fields indent (item n t _ rest) = (indent ++ (escaped n ++ (codes "=" ++ indented indent t))) ∷ indented_fields indent rest
 
 -- the indented text of fields
 unfoldable pub indented_braces : List ℕ → Fields → List ℕ

@@ -11,7 +11,7 @@ use Rattle.dtype_base.specs.Nullability.{nullability_text}
 use Rattle.dtype_base.specs.Primitives.{ptype_row}
 use Rattle.dtype_types.specs.parts.Lookups.{variant_tags}
 use Rattle.dtype_types.specs.parts.Unions.{are_consecutive}
-use Rattle.dtype_types.specs.tree.Tree.{Tree, Fields, no_fields, field, Variants, no_variants, choice, null, bool, primitive, decimal, utf8, binary, list, fixed_size_list, map_of, struct, union, variant, extension, triples}
+use Rattle.dtype_types.specs.tree.Tree.{Tree, no_items, item, null, bool, primitive, decimal, utf8, binary, list, fixed_size_list, map_of, struct, union, variant, extension, triples, Items, Holder, a_struct, a_union, Tag}
 
 -- true or false
 abbrev pub bool_text : Bool → List ℕ
@@ -26,6 +26,11 @@ abbrev pub tag_text : Bool → ℕ → List ℕ
 tag_text true g = []
 tag_text false g = codes "@" ++ digits g
 
+-- the tag of an item; a field has none
+abbrev pub item_tag : (h : Holder) → Bool → Tag h → List ℕ
+item_tag a_struct c g = []
+item_tag a_union c g = tag_text c g
+
 abbrev mutual
   -- the text of a type
   pub text : Tree → List ℕ
@@ -38,17 +43,12 @@ abbrev mutual
   text (list t n) = codes "list(" ++ (text t ++ (codes ")" ++ nullability_text n))
   text (fixed_size_list t k n) = codes "fixed_size_list(" ++ (text t ++ (codes ")[" ++ (digits k ++ (codes "]" ++ nullability_text n))))
   text (map_of k v s n) = codes "map(" ++ (text k ++ (codes ", " ++ (text v ++ (codes ", keys_sorted=" ++ (bool_text s ++ (codes ")" ++ nullability_text n))))))
-  text (struct fs n) = codes "{" ++ (join_by (λ t. t) (codes ", ") (field_texts fs) ++ (codes "}" ++ nullability_text n))
-  text (union vs n) = codes "union(" ++ (join_by (λ t. t) (codes ", ") (choice_texts (are_consecutive (variant_tags (triples vs))) vs) ++ (codes ")" ++ nullability_text n))
+  text (struct fs n) = codes "{" ++ (join_by (λ t. t) (codes ", ") (item_texts true fs) ++ (codes "}" ++ nullability_text n))
+  text (union vs n) = codes "union(" ++ (join_by (λ t. t) (codes ", ") (item_texts (are_consecutive (variant_tags (triples vs))) vs) ++ (codes ")" ++ nullability_text n))
   text (variant n) = codes "variant" ++ nullability_text n
   text (extension id b s) = id ++ (codes "[" ++ (metadata_text b ++ (codes "](" ++ (text s ++ codes ")"))))
 
-  -- each field, as a=t
-  pub field_texts : Fields → List (List ℕ)
-  field_texts no_fields = []
-  field_texts (field n t rest) = (escaped n ++ (codes "=" ++ text t)) ∷ field_texts rest
-
-  -- each variant, as a=t where the tags are consecutive, else as a@tag=t
-  pub choice_texts : Bool → Variants → List (List ℕ)
-  choice_texts c no_variants = []
-  choice_texts c (choice n t g rest) = (escaped n ++ (tag_text c g ++ (codes "=" ++ text t))) ∷ choice_texts c rest
+  -- each field as a=t, each variant so where the tags are consecutive, else as a@tag=t
+  pub item_texts : {h : Holder} → Bool → Items h → List (List ℕ)
+  item_texts c no_items = []
+  item_texts {h} c (item n t g rest) = (escaped n ++ (item_tag h c g ++ (codes "=" ++ text t))) ∷ item_texts c rest

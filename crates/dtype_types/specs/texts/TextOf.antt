@@ -7,7 +7,7 @@ use Rattle.std.specs.List.{join_by}
 use Rattle.dtype_types.specs.parts.Lookups.{variant_tags}
 use Rattle.dtype_types.specs.tree.Tree.{triples}
 use Rattle.dtype_types.specs.parts.Unions.{are_consecutive}
-use Rattle.dtype_types.specs.texts.Text.{text, choice_texts}
+use Rattle.dtype_types.specs.texts.Text.{text, item_texts}
 use Rattle.dtype_types.specs.tree.TreeOf.{variants_of, struct_tree, map_tree, extension_tree}
 use Rattle.dtype_types.specs.declared.struct_fields.StructFields.{StructFields}
 use Rattle.dtype_types.specs.declared.union_variants.UnionVariants.{UnionVariants}
@@ -24,7 +24,7 @@ struct_text s = text (struct_tree s)
 
 -- the variants of a union, separated by commas
 unfoldable pub union_text : UnionVariants → List ℕ
-union_text u = join_by (λ t. t) (codes ", ") (choice_texts (are_consecutive (variant_tags (triples (variants_of u)))) (variants_of u))
+union_text u = join_by (λ t. t) (codes ", ") (item_texts (are_consecutive (variant_tags (triples (variants_of u)))) (variants_of u))
 
 -- the text of an extension: that of the type
 unfoldable pub extension_text : ExtDTypeRef → List ℕ

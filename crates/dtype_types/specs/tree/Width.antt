@@ -9,7 +9,7 @@ use Rattle.dtype_base.specs.Primitives.{ptype_row}
 use Rattle.dtype_base.specs.Decimals.{smallest_storage, storage}
 use Rattle.dtype_base.specs.declared.nullability.Nullability.{Nullability}
 use Rattle.dtype_base.specs.declared.decimal.DecimalType.{DecimalType}
-use Rattle.dtype_types.specs.tree.Tree.{Tree, Fields, no_fields, field, fields, null, bool, primitive, decimal, list, fixed_size_list, struct, extension}
+use Rattle.dtype_types.specs.tree.Tree.{Tree, Fields, no_items, fields, null, bool, primitive, decimal, list, fixed_size_list, struct, extension, item}
 use Rattle.dtype_types.specs.declared.dtype.width.Width.{Width}
 use Rattle.dtype_types.specs.declared.dtype.width.Width.TheVariants.{Variable, TooWide, Bytes}
 
@@ -28,8 +28,8 @@ abbrev mutual
 
   -- the type of each field is of fixed width
   pub FixedFields : Fields → Type 0
-  FixedFields no_fields = Unit {0}
-  FixedFields (field n t rest) = Fixed t × FixedFields rest
+  FixedFields no_items = Unit {0}
+  FixedFields (item n t _ rest) = Fixed t × FixedFields rest
 
 -- the width of a storage type
 abbrev pub storage_bytes : Option DecimalType → ℕ
@@ -50,8 +50,8 @@ abbrev mutual
 
   -- the sum of the widths of the fields
   pub total_width : Fields → ℕ
-  total_width no_fields = 0
-  total_width (field n t rest) = width t + total_width rest
+  total_width no_items = 0
+  total_width (item n t _ rest) = width t + total_width rest
 
 -- u is the type, or a part of its element, of one of its fields or of its storage
 abbrev mutual
@@ -64,8 +64,8 @@ abbrev mutual
 
   -- u is a part of the type of one of the fields
   pub FieldPart : Tree → Fields → Type 0
-  FieldPart u no_fields = ⊥
-  FieldPart u (field n t rest) = Part u t ⊎ FieldPart u rest
+  FieldPart u no_items = ⊥
+  FieldPart u (item n t _ rest) = Part u t ⊎ FieldPart u rest
 
 -- the width of some part of the type doesn't fit 64 bits
 abbrev pub HasWidePart : Tree → Type 0

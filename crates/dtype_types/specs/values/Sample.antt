@@ -8,7 +8,7 @@ use Rattle.dtype_base.specs.Primitives.{ptype_row, NumberKind}
 use Rattle.dtype_base.specs.Primitives.NumberKind.{Floating}
 use Rattle.dtype_base.specs.declared.nullability.Nullability.{Nullability}
 use Rattle.dtype_base.specs.declared.nullability.Nullability.TheVariants.{NonNullable, Nullable}
-use Rattle.dtype_types.specs.tree.Tree.{Tree, Fields, no_fields, field, Variants, no_variants, choice, null, bool, primitive, decimal, utf8, binary, list, fixed_size_list, map_of, struct, union, variant, extension}
+use Rattle.dtype_types.specs.tree.Tree.{Tree, Fields, no_items, Variants, item, null, bool, primitive, decimal, utf8, binary, list, fixed_size_list, map_of, struct, union, variant, extension}
 use Rattle.dtype_types.specs.values.Value.{Value, Values, Named, null_value, truth, number, float_bits, digits, text, bytes, opaque, items, fixed_items, entries, record_of, tagged, no_values, value, no_entries, no_named, named}
 
 -- null where that is allowed
@@ -45,10 +45,10 @@ abbrev mutual
 
   -- a sample of each field
   pub samples : Fields → Named
-  samples no_fields = no_named
-  samples (field n t fs) = named n (sample t) (samples fs)
+  samples no_items = no_named
+  samples (item n t _ fs) = named n (sample t) (samples fs)
 
   -- of the first variant; a valid union has one
   pub first_sample : Variants → Value
-  first_sample no_variants = null_value
-  first_sample (choice n t g rest) = tagged g (sample t)
+  first_sample no_items = null_value
+  first_sample (item n t g rest) = tagged g (sample t)

@@ -6,7 +6,7 @@ use Rattle.std.specs.Prelude.{ℕ, ◌<◌, Option, Some, None, option_map}
 use Rattle.dtype_base.specs.declared.nullability.Nullability.{Nullability}
 use Rattle.dtype_base.specs.declared.nullability.Nullability.TheVariants.{NonNullable, Nullable}
 use Rattle.dtype_types.specs.values.Sample.{sample, samples, copies}
-use Rattle.dtype_types.specs.tree.Tree.{Tree, Fields, no_fields, field, Variants, no_variants, choice, bool, primitive, decimal, utf8, binary, list, fixed_size_list, map_of, struct, union, variant, extension}
+use Rattle.dtype_types.specs.tree.Tree.{Tree, Fields, no_items, Variants, item, bool, primitive, decimal, utf8, binary, list, fixed_size_list, map_of, struct, union, variant, extension, Items, Holder}
 use Rattle.dtype_types.specs.values.Value.{Value, Named, null_value, items, fixed_items, entries, record_of, tagged, no_values, value, no_entries, entry, named}
 
 -- the first value that there is
@@ -41,12 +41,12 @@ abbrev mutual
 
   -- a value of the first fields that isn't one of the second
   pub tell_fields : Fields → Fields → Option Named
-  tell_fields (field m t fs) (field n u gs) = or_else (option_map (λ v. named m v (samples fs)) (tell t u)) (option_map (λ nvs. named m (sample t) nvs) (tell_fields fs gs))
+  tell_fields (item m t _ fs) (item n u _ gs) = or_else (option_map (λ v. named m v (samples fs)) (tell t u)) (option_map (λ nvs. named m (sample t) nvs) (tell_fields fs gs))
   tell_fields _ _ = None
 
   -- a tag and a value
   pub tell_variants : Variants → Variants → Option (ℕ × Value)
-  tell_variants (choice m t g vs) (choice n u h ws) = or_else (option_map (λ v. (g, v)) (tell t u)) (tell_variants vs ws)
+  tell_variants (item m t g vs) (item n u h ws) = or_else (option_map (λ v. (g, v)) (tell t u)) (tell_variants vs ws)
   tell_variants _ _ = None
 
 -- no fixed size in the type is 0
@@ -55,17 +55,12 @@ abbrev mutual
   HasNoSizeZero (list t n) = HasNoSizeZero t
   HasNoSizeZero (fixed_size_list t k n) = (0 < k) × HasNoSizeZero t
   HasNoSizeZero (map_of t u s n) = HasNoSizeZero t × HasNoSizeZero u
-  HasNoSizeZero (struct fs n) = FieldsHaveNoSizeZero fs
-  HasNoSizeZero (union vs n) = VariantsHaveNoSizeZero vs
+  HasNoSizeZero (struct fs n) = ItemsHaveNoSizeZero fs
+  HasNoSizeZero (union vs n) = ItemsHaveNoSizeZero vs
   HasNoSizeZero (extension id b s) = HasNoSizeZero s
   HasNoSizeZero _ = Unit {0}
 
-  -- the same of the types of fields
-  pub FieldsHaveNoSizeZero : Fields → Type 0
-  FieldsHaveNoSizeZero no_fields = Unit {0}
-  FieldsHaveNoSizeZero (field n t fs) = HasNoSizeZero t × FieldsHaveNoSizeZero fs
-
-  -- the same of the types of variants
-  pub VariantsHaveNoSizeZero : Variants → Type 0
-  VariantsHaveNoSizeZero no_variants = Unit {0}
-  VariantsHaveNoSizeZero (choice n t g vs) = HasNoSizeZero t × VariantsHaveNoSizeZero vs
+  -- the same of the types of fields, or of variants
+  pub ItemsHaveNoSizeZero : {h : Holder} → Items h → Type 0
+  ItemsHaveNoSizeZero no_items = Unit {0}
+  ItemsHaveNoSizeZero (item n t g rest) = HasNoSizeZero t × ItemsHaveNoSizeZero rest

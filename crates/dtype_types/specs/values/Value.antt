@@ -11,7 +11,7 @@ use Rattle.dtype_base.specs.Primitives.{ptype_row, NumberKind, HoldsUnsigned, Ho
 use Rattle.dtype_base.specs.Primitives.NumberKind.{Unsigned, Signed, Floating}
 use Rattle.dtype_base.specs.declared.ptype.PType.{PType}
 use Rattle.dtype_types.specs.nullability.Nullable.{IsNullable}
-use Rattle.dtype_types.specs.tree.Tree.{Tree, Fields, no_fields, field, Variants, no_variants, choice, bool, primitive, decimal, utf8, binary, list, fixed_size_list, map_of, struct, union, variant, extension}
+use Rattle.dtype_types.specs.tree.Tree.{Tree, Fields, no_items, Variants, item, bool, primitive, decimal, utf8, binary, list, fixed_size_list, map_of, struct, union, variant, extension}
 
 mutual
   -- a value: null, or one of twelve kinds
@@ -109,14 +109,14 @@ abbrev mutual
 
   -- the same names in the same order, each with a value of its field
   pub NamedOf : Named → Fields → Type 0
-  NamedOf no_named no_fields = Unit {0}
-  NamedOf (named m v rest) (field n t fs) = (m ≡ n) × Of v t × NamedOf rest fs
+  NamedOf no_named no_items = Unit {0}
+  NamedOf (named m v rest) (item n t _ fs) = (m ≡ n) × Of v t × NamedOf rest fs
   NamedOf _ _ = ⊥
 
   -- some variant has the tag, and the value is of its type
   pub VariantOf : ℕ → Value → Variants → Type 0
-  VariantOf g v no_variants = ⊥
-  VariantOf g v (choice n t h rest) = ((g ≡ h) × Of v t) ⊎ VariantOf g v rest
+  VariantOf g v no_items = ⊥
+  VariantOf g v (item n t h rest) = ((g ≡ h) × Of v t) ⊎ VariantOf g v rest
 
 -- each value of a is a value of b
 abbrev pub IncludedIn : Tree → Tree → Type 0

@@ -8,7 +8,7 @@ use Rattle.dtype_base.specs.declared.nullability.Nullability.{Nullability}
 use Rattle.dtype_types.specs.tree.Kinds.{struct_fields}
 use Rattle.dtype_types.specs.tree.Tree.{Tree, Fields, fields, pairs, struct}
 use Rattle.dtype_types.specs.tree.TreeOf.{children, struct_pairs, struct_tree, tree, with_trees}
-use Rattle.dtype_types.specs.tree.Valid.{Valid, ValidFields}
+use Rattle.dtype_types.specs.tree.Valid.{Valid, ValidItems}
 use Rattle.dtype_types.specs.declared.struct_fields.StructFields.{StructFields}
 use Rattle.dtype_types.specs.declared.dtype.DType.TheVariants.{Struct}
 use Rattle.dtype_types.proofs.lemmas.TreeLaws.{pairs_of, tree_struct}
@@ -32,18 +32,18 @@ pub copy_has_fields : (s copy : StructFields) (n : Nullability) → struct_pairs
 copy_has_fields s copy n e = has_fields copy n ∙ ap (λ ps. Some (with_trees ps)) e
 
 -- fields of which all are valid, and a valid field more
-pub valid_one_appended : (ps : List (List ℕ × Tree)) (name : List ℕ) (u : Tree) → ValidFields (fields ps) → Valid u → ValidFields (fields (ps ++ (name, u) ∷ []))
+pub valid_one_appended : (ps : List (List ℕ × Tree)) (name : List ℕ) (u : Tree) → ValidItems (fields ps) → Valid u → ValidItems (fields (ps ++ (name, u) ∷ []))
 valid_one_appended ps name u h g = valid_joined ps ((name, u) ∷ []) h (g, tt)
 
 -- the fields of a valid type, and more
-valid_listed : (t : Tree) (ps : List (List ℕ × Tree)) → struct_fields t ≡ Some ps → Valid t → ValidFields (fields ps)
-valid_listed (struct fs m) ps e h = let same : pairs fs ≡ ps = cc in subst ValidFields (sym (fields_of_pairs fs) ∙ ap fields same) h
+valid_listed : (t : Tree) (ps : List (List ℕ × Tree)) → struct_fields t ≡ Some ps → Valid t → ValidItems (fields ps)
+valid_listed (struct fs m) ps e h = let same : pairs fs ≡ ps = cc in subst ValidItems (sym (fields_of_pairs fs) ∙ ap fields same) h
 valid_listed _ ps e h = cc
 
-pub valid_more : (t : Tree) (ps qs : List (List ℕ × Tree)) → struct_fields t ≡ Some ps → Valid t → ValidFields (fields qs) → ValidFields (fields (ps ++ qs))
+pub valid_more : (t : Tree) (ps qs : List (List ℕ × Tree)) → struct_fields t ≡ Some ps → Valid t → ValidItems (fields qs) → ValidItems (fields (ps ++ qs))
 valid_more t ps qs e h g = valid_joined ps qs (valid_listed t ps e h) g
 
-pub valid_one_more : (t u : Tree) (ps : List (List ℕ × Tree)) (name : List ℕ) → struct_fields t ≡ Some ps → Valid t → Valid u → ValidFields (fields (ps ++ (name, u) ∷ []))
+pub valid_one_more : (t u : Tree) (ps : List (List ℕ × Tree)) (name : List ℕ) → struct_fields t ≡ Some ps → Valid t → Valid u → ValidItems (fields (ps ++ (name, u) ∷ []))
 valid_one_more t u ps name e h g = valid_more t ps ((name, u) ∷ []) e h (g, tt)
 
 pub ruleset listed_fields = (pairs_listed, children_listed, has_fields, copy_has_fields, fields_of_pairs, struct_of_fields, fields_of_struct, same_pairs, pairs_of)

@@ -18,15 +18,15 @@ use Rattle.dtype_types.specs.nullability.Nullable.{nullability, set_null}
 use Rattle.dtype_types.specs.parts.Lookups.{variant_tags}
 use Rattle.dtype_types.specs.parts.Unions.{MakesUnion}
 use Rattle.dtype_types.specs.tree.Tree as of
-use Rattle.dtype_types.specs.tree.Tree.{Tree, Fields, no_fields, field, fields, Variants, no_variants, choice, variants, triples}
-use Rattle.dtype_types.specs.tree.Valid.{Valid, ValidFields, ValidVariants}
+use Rattle.dtype_types.specs.tree.Tree.{Tree, Fields, no_items, field, fields, Variants, item, variants, triples}
+use Rattle.dtype_types.specs.tree.Valid.{Valid, ValidItems}
 use Rattle.dtype_types.proofs.lemmas.ValidLists.{variants_are, zipped_variants}
 use Rattle.dtype_messages.specs.Message.{Message, Child, Messages, messages, missing, null, primitive, decimal, list, fixed_size_list, map_of, struct, union, extension, absent, present, no_message, more}
-use Rattle.vortex_dtype.specs.Meaning.{Meaning, LawfulSession, Admits, AdmitsFields, AdmitsVariants, keeps}
+use Rattle.vortex_dtype.specs.Meaning.{Meaning, LawfulSession, Admits, AdmitsItems, keeps}
 use Rattle.vortex_dtype.specs.ReadInOrder.{or_empty, read}
 use Rattle.vortex_dtype.specs.Reads.{Reads, ReadsChild, ReadsAll, AreBytes, Fault, ChildFault, SomeFault, SomeTagFault, message_count}
 use Rattle.vortex_dtype.specs.Accepts.{Accepts}
-use Rattle.vortex_dtype.specs.Written.{is_nullable, written, written_names, written_fields, written_variant_names, written_variants, written_tags, Normal, NormalChild, NormalAll}
+use Rattle.vortex_dtype.specs.Written.{is_nullable, written, written_names, written_items, written_variant_names, written_tags, Normal, NormalChild, NormalAll}
 use Rattle.vortex_dtype.specs.IsMessage.{IsMessage, IsChild, AreMessages}
 use Rattle.vortex_dtype.proofs.lemmas.Sessions.{admits-set_null, keeps_again}
 use Rattle.vortex_dtype.proofs.lemmas.Written.{nullability_of-is, written_is}
@@ -94,13 +94,13 @@ is_nullable-of false = refl
 
 -- the message of a struct or a union that was read, from its parts
 field_messages : (ns : List (List ℕ)) (ts : List Tree) → length ns ≡ length ts
-    → (written_names (fields (zip ns ts)) ≡ ns) × (written_fields (fields (zip ns ts)) ≡ messages (map written ts))
+    → (written_names (fields (zip ns ts)) ≡ ns) × (written_items (fields (zip ns ts)) ≡ messages (map written ts))
 field_messages [] [] e = (refl, refl)
 field_messages (n ∷ ns) (t ∷ ts) e = let rest = field_messages ns ts (omega (arith, e)) in (ap (λ x. n ∷ x) rest.0, ap (more (written t)) rest.1)
 field_messages _ _ e = cc
 
 variant_messages : (ns : List (List ℕ)) (ts : List Tree) (gs : List ℕ) → length ns ≡ length ts → length ns ≡ length gs → let vs = variants (zip ns (zip ts gs)) in
-    (written_variant_names vs ≡ ns) × (written_variants vs ≡ messages (map written ts)) × (written_tags vs ≡ map pos gs)
+    (written_variant_names vs ≡ ns) × (written_items vs ≡ messages (map written ts)) × (written_tags vs ≡ map pos gs)
 variant_messages [] [] [] e f = (refl, refl, refl)
 variant_messages (n ∷ ns) (t ∷ ts) (g ∷ gs) e f =
     let rest = variant_messages ns ts gs (omega (arith, e)) (omega (arith, f)) in (ap (λ x. n ∷ x) rest.0, ap (more (written t)) rest.1, ap (λ x. pos g ∷ x) rest.2)
@@ -157,12 +157,12 @@ mutual
 abbrev Sound : Meaning → Tree → Type 0
 Sound s t = Valid t × Admits s t
 
-sound_fields : (s : Meaning) (ns : List (List ℕ)) (ts : List Tree) → AllByRecursion (Sound s) ts → let fs = fields (zip ns ts) in ValidFields fs × AdmitsFields s fs
+sound_fields : (s : Meaning) (ns : List (List ℕ)) (ts : List Tree) → AllByRecursion (Sound s) ts → let fs = fields (zip ns ts) in ValidItems fs × AdmitsItems s fs
 sound_fields s (n ∷ ns) (t ∷ ts) h = let rest = sound_fields s ns ts h.1 in ((h.0.0, rest.0), (h.0.1, rest.1))
 sound_fields s [] _ h = (tt, tt)
 sound_fields s _ [] h = (tt, tt)
 
-sound_variants : (s : Meaning) (ns : List (List ℕ)) (ts : List Tree) (gs : List ℕ) → AllByRecursion (Sound s) ts → let vs = variants (zip ns (zip ts gs)) in ValidVariants vs × AdmitsVariants s vs
+sound_variants : (s : Meaning) (ns : List (List ℕ)) (ts : List Tree) (gs : List ℕ) → AllByRecursion (Sound s) ts → let vs = variants (zip ns (zip ts gs)) in ValidItems vs × AdmitsItems s vs
 sound_variants s (n ∷ ns) (t ∷ ts) (g ∷ gs) h = let rest = sound_variants s ns ts gs h.1 in ((h.0.0, rest.0), (h.0.1, rest.1))
 sound_variants s _ _ _ h = (tt, tt)
 
@@ -221,20 +221,20 @@ mutual
   written_reads s (of.extension id b x) v a = (x, b, written_reads s x v.1 a.1, a.0, refl)
   written_reads s _ v a = simp nullability_of-is
 
-  written_fields_read : (s : Meaning) (fs : Fields) → ValidFields fs → AdmitsFields s fs →
-      (ts : List Tree) × ReadsAll s (written_fields fs) ts × (length (written_names fs) ≡ length ts) × (fs ≡ fields (zip (written_names fs) ts))
-  written_fields_read s no_fields v a = ([], tt, refl, refl)
-  written_fields_read s (field n x rest) v a =
+  written_fields_read : (s : Meaning) (fs : Fields) → ValidItems fs → AdmitsItems s fs →
+      (ts : List Tree) × ReadsAll s (written_items fs) ts × (length (written_names fs) ≡ length ts) × (fs ≡ fields (zip (written_names fs) ts))
+  written_fields_read s no_items v a = ([], tt, refl, refl)
+  written_fields_read s (item n x _ rest) v a =
       let r = written_fields_read s rest v.1 a.1 in (x ∷ r.0, (written_reads s x v.0 a.0, r.1), ap suc r.2, ap (field n x) r.3)
 
-  written_variants_read : (s : Meaning) (vs : Variants) → ValidVariants vs → AllByRecursion (λ k. k < 256) (variant_tags (triples vs)) → AdmitsVariants s vs →
+  written_variants_read : (s : Meaning) (vs : Variants) → ValidItems vs → AllByRecursion (λ k. k < 256) (variant_tags (triples vs)) → AdmitsItems s vs →
       let tags = variant_tags (triples vs) in
-      (ts : List Tree) × ReadsAll s (written_variants vs) ts × AreBytes (written_tags vs) tags × (length (written_variant_names vs) ≡ length ts)
+      (ts : List Tree) × ReadsAll s (written_items vs) ts × AreBytes (written_tags vs) tags × (length (written_variant_names vs) ≡ length ts)
       × (vs ≡ variants (zip (written_variant_names vs) (zip ts tags)))
-  written_variants_read s no_variants v b a = ([], tt, tt, refl, refl)
-  written_variants_read s (choice n x g rest) v b a =
+  written_variants_read s no_items v b a = ([], tt, tt, refl, refl)
+  written_variants_read s (item n x g rest) v b a =
       let r = written_variants_read s rest v.1 b.1 a.1 in
-      (x ∷ r.0, (written_reads s x v.0 a.0, r.1), (grind (arith, nat_tests, b.0), r.2), ap suc r.3, ap (choice n x g) r.4)
+      (x ∷ r.0, (written_reads s x v.0 a.0, r.1), (grind (arith, nat_tests, b.0), r.2), ap suc r.3, ap (item n x g) r.4)
 
 -- what is written of an admitted type gives that type
 pub written_read : (s : Meaning) (m : Message) (t : Tree) → Valid t → Admits s t → m ≡ written t → read s m ≡ Ok t

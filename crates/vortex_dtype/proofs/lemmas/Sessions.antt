@@ -12,7 +12,7 @@ use Rattle.dtype_base.specs.declared.nullability.Nullability.{Nullability}
 use Rattle.dtype_base.specs.declared.nullability.Nullability.TheVariants.{NonNullable, Nullable}
 use Rattle.dtype_base.specs.declared.vortex_error.VortexError.{VortexError}
 use Rattle.dtype_types.specs.tree.Kinds.{struct_fields}
-use Rattle.dtype_types.specs.tree.Tree.{Tree, Fields, fields, pairs, no_fields, field, Variants, no_variants, choice, null, list, fixed_size_list, map_of, struct, union, extension}
+use Rattle.dtype_types.specs.tree.Tree.{Tree, Fields, fields, pairs, no_items, item, null, list, fixed_size_list, map_of, struct, union, extension, Holder, Items}
 use Rattle.dtype_types.specs.tree.TreeOf.{tree, extension_tree, extension_metadata}
 use Rattle.dtype_types.specs.tree.Valid.{Valid}
 use Rattle.dtype_types.proofs.lemmas.TreeLaws.{tree_extension}
@@ -20,7 +20,7 @@ use Rattle.dtype_types.specs.parts.Lookups.{first_named}
 use Rattle.dtype_types.specs.declared.dtype.DType.TheVariants.{Extension}
 use Rattle.dtype_types.specs.declared.extension.ExtDTypeRef.{ExtDTypeRef}
 use Rattle.dtype_types.specs.nullability.Nullable.{set_null}
-use Rattle.vortex_dtype.specs.Meaning.{Rewrites, Meaning, Lawful, LawfulSession, Bytes, kept, keeps, empty_meaning, register_in, allow_unknown_in, Admits, AdmitsFields, AdmitsVariants}
+use Rattle.vortex_dtype.specs.Meaning.{Rewrites, Meaning, Lawful, LawfulSession, Bytes, kept, keeps, empty_meaning, register_in, allow_unknown_in, Admits, AdmitsItems}
 use Rattle.vortex_dtype.specs.Errors.{SessionError}
 use Rattle.vortex_dtype.specs.Calls.{Call, register, allow, after, LeavesAlone, is_allow}
 
@@ -108,41 +108,37 @@ mutual
   admits_allow_unknown_in n (list t k) e = admits_allow_unknown_in n t e
   admits_allow_unknown_in n (fixed_size_list t size k) e = admits_allow_unknown_in n t e
   admits_allow_unknown_in n (map_of t u o k) e = (admits_allow_unknown_in n t e, admits_allow_unknown_in n u e)
-  admits_allow_unknown_in n (struct fs k) e = admits-fields n fs e
-  admits_allow_unknown_in n (union vs k) e = admits-variants n vs e
+  admits_allow_unknown_in n (struct fs k) e = admits-items n fs e
+  admits_allow_unknown_in n (union vs k) e = admits-items n vs e
   admits_allow_unknown_in n (extension id b s) e = (kept_allow_unknown_in n id b s e, admits_allow_unknown_in n s e)
   admits_allow_unknown_in n _ e = tt
 
-  admits-fields : (n : Meaning) (fs : Fields) → n ≡ allow_unknown_in empty_meaning → AdmitsFields n fs
-  admits-fields n no_fields e = tt
-  admits-fields n (field name t rest) e = (admits_allow_unknown_in n t e, admits-fields n rest e)
-
-  admits-variants : (n : Meaning) (vs : Variants) → n ≡ allow_unknown_in empty_meaning → AdmitsVariants n vs
-  admits-variants n no_variants e = tt
-  admits-variants n (choice name t g rest) e = (admits_allow_unknown_in n t e, admits-variants n rest e)
+  admits-items : (n : Meaning) {h : Holder} (xs : Items h) → n ≡ allow_unknown_in empty_meaning → AdmitsItems n xs
+  admits-items n no_items e = tt
+  admits-items n (item name t g rest) e = (admits_allow_unknown_in n t e, admits-items n rest e)
 
 -- fields after those that are admitted
-admits_fields-more : (m : Meaning) (fs : Fields) (qs : List (List ℕ × Tree)) → AdmitsFields m fs → AdmitsFields m (fields qs) → AdmitsFields m (fields (pairs fs ++ qs))
-admits_fields-more m no_fields qs a b = b
-admits_fields-more m (field n t rest) qs a b = (a.0, admits_fields-more m rest qs a.1 b)
+admits_fields-more : (m : Meaning) (fs : Fields) (qs : List (List ℕ × Tree)) → AdmitsItems m fs → AdmitsItems m (fields qs) → AdmitsItems m (fields (pairs fs ++ qs))
+admits_fields-more m no_items qs a b = b
+admits_fields-more m (item n t _ rest) qs a b = (a.0, admits_fields-more m rest qs a.1 b)
 
 -- a struct with more fields after those of an admitted one
 pub admits_more : (m : Meaning) (t : Tree) (ps qs : List (List ℕ × Tree)) (n k : Nullability) → struct_fields t ≡ Some ps → Admits m t → Admits m (struct (fields qs) k) → Admits m (struct (fields (ps ++ qs)) n)
 admits_more m (struct fs k') ps qs n k e a b =
     let same : pairs fs ≡ ps = cc in
-    subst (λ (xs : List (List ℕ × Tree)). AdmitsFields m (fields (xs ++ qs))) same (admits_fields-more m fs qs a b)
+    subst (λ (xs : List (List ℕ × Tree)). AdmitsItems m (fields (xs ++ qs))) same (admits_fields-more m fs qs a b)
 admits_more m t ps qs n k e a b = cc
 
 pub admits_one_more : (m : Meaning) (t u : Tree) (ps : List (List ℕ × Tree)) (name : List ℕ) (n : Nullability) → struct_fields t ≡ Some ps → Admits m t → Admits m u → Admits m (struct (fields (ps ++ (name, u) ∷ [])) n)
 admits_one_more m t u ps name n e a b = admits_more m t ps ((name, u) ∷ []) n n e a (b, tt)
 
 -- the same of a list of fields
-pub admits_fields_appended : (m : Meaning) (ps : List (List ℕ × Tree)) (name : List ℕ) (u : Tree) → AdmitsFields m (fields ps) → Admits m u → AdmitsFields m (fields (ps ++ (name, u) ∷ []))
+pub admits_fields_appended : (m : Meaning) (ps : List (List ℕ × Tree)) (name : List ℕ) (u : Tree) → AdmitsItems m (fields ps) → Admits m u → AdmitsItems m (fields (ps ++ (name, u) ∷ []))
 admits_fields_appended m [] name u a b = (b, tt)
 admits_fields_appended m (p ∷ ps) name u a b = (a.0, admits_fields_appended m ps name u a.1 b)
 
 -- a field of an admitted struct
-pub admits_field : (m : Meaning) (ps : List (List ℕ × Tree)) (name : List ℕ) (t : Tree) → AdmitsFields m (fields ps) → first_named ps name ≡ Some t → Admits m t
+pub admits_field : (m : Meaning) (ps : List (List ℕ × Tree)) (name : List ℕ) (t : Tree) → AdmitsItems m (fields ps) → first_named ps name ≡ Some t → Admits m t
 admits_field m [] name t h e = cc
 admits_field m (p ∷ ps) name t h e = go (bytes_eq p.0 name) e (admits_field m ps name t h.1)
   where

@@ -6,9 +6,9 @@ use Rattle.std.proofs.Common.{◌≡◌, refl, sym, ap, ◌∙◌}
 use Rattle.dtype_base.specs.declared.nullability.Nullability.{Nullability}
 use Rattle.dtype_base.specs.declared.nullability.Nullability.TheVariants.{NonNullable, Nullable}
 use Rattle.dtype_base.specs.Nullability.{nullability_of}
-use Rattle.dtype_types.specs.tree.Tree.{Tree, Fields, no_fields, field, Variants, no_variants, choice, null, bool, primitive, decimal, utf8, binary, list, fixed_size_list, map_of, struct, union, variant, extension}
+use Rattle.dtype_types.specs.tree.Tree.{Tree, Fields, no_items, Variants, item, null, bool, primitive, decimal, utf8, binary, list, fixed_size_list, map_of, struct, union, variant, extension}
 use Rattle.vortex_dtype.specs.Reads.{decimal_with}
-use Rattle.vortex_dtype.specs.Written.{is_nullable, written, written_names, written_fields, written_variant_names, written_variants, written_tags}
+use Rattle.vortex_dtype.specs.Written.{is_nullable, written, written_names, written_items, written_variant_names, written_tags}
 use Rattle.vortex_dtype.proofs.lemmas.InOrder.{ptype_at-number}
 
 pub nullability_of-is : (n : Nullability) → nullability_of (is_nullable n) ≡ n
@@ -37,12 +37,12 @@ mutual
   written_is (extension i b x) (extension j c y) e = cc (written_is x y (cc))
   written_is _ _ e = cc
 
-  written_fields_injective : (fs gs : Fields) → written_names fs ≡ written_names gs → written_fields fs ≡ written_fields gs → fs ≡ gs
-  written_fields_injective no_fields no_fields e f = refl
-  written_fields_injective (field n x rest) (field o y others) e f = cc (written_is x y (cc), written_fields_injective rest others (cc) (cc))
+  written_fields_injective : (fs gs : Fields) → written_names fs ≡ written_names gs → written_items fs ≡ written_items gs → fs ≡ gs
+  written_fields_injective no_items no_items e f = refl
+  written_fields_injective (item n x k rest) (item o y l others) e f = let none : k ≡ l = refl in cc (written_is x y (cc), written_fields_injective rest others (cc) (cc), none)
   written_fields_injective _ _ e f = cc
 
-  variants_is : (vs ws : Variants) → written_variant_names vs ≡ written_variant_names ws → written_variants vs ≡ written_variants ws → written_tags vs ≡ written_tags ws → vs ≡ ws
-  variants_is no_variants no_variants e f g = refl
-  variants_is (choice n x k rest) (choice o y l others) e f g = cc (written_is x y (cc), variants_is rest others (cc) (cc) (cc))
+  variants_is : (vs ws : Variants) → written_variant_names vs ≡ written_variant_names ws → written_items vs ≡ written_items ws → written_tags vs ≡ written_tags ws → vs ≡ ws
+  variants_is no_items no_items e f g = refl
+  variants_is (item n x k rest) (item o y l others) e f g = cc (written_is x y (cc), variants_is rest others (cc) (cc) (cc))
   variants_is _ _ e f g = cc

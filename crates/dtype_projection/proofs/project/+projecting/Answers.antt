@@ -6,10 +6,10 @@ use Rattle.std.specs.List.{filter_map, zip}
 use Rattle.std.specs.Option.{option_map}
 use Rattle.dtype_base.specs.declared.vortex_error.VortexError.TheVariants.{OutOfMemory}
 use Rattle.dtype_types.specs.tree.Tree.{fields}
-use Rattle.dtype_types.specs.tree.TreeOf.{tree, children}
+use Rattle.dtype_types.specs.tree.TreeOf.{tree, children, fields_of}
 use Rattle.dtype_paths.specs.Cursors.{asks}
 use Rattle.dtype_projection.specs.private.Entered.{AreWhole, kept_field}
-use Rattle.dtype_projection.specs.Projected.{projected, struct_with}
+use Rattle.dtype_projection.specs.Projected.{projected, projected_fields, struct_with}
 use Rattle.dtype_projection.proofs.lemmas.Projections.{projected_nothing}
 use Rattle.dtype_projection.proofs.KeptFields.{all_done, all_kept, kept_at, one_kept, struct_shared}
 use Rattle.dtype_types.proofs.lemmas.ValidParts.{fields_of_pairs}
@@ -51,7 +51,7 @@ project_struct-loop-position-preserved-in_ok-push-2 t c =
 pub project_struct-returns : goal.project_struct-returns
 project_struct-returns t c =
     let all = all_done (children c.args.fields.now) _ _ c.loop-position.position-iterator c.in-None.ensures.steps.0 c.loop-position.invariant.kept in
-    subst (λ fs. MatchResult c.struct_of.result (λ r. option_map tree r ≡ struct_with c.args.n fs) (λ e. e ≡ OutOfMemory)) (ap fields all ∙ fields_of_pairs _) c.struct_of.ensures
+    subst (λ fs. MatchResult c.struct_of.result (λ r. option_map tree r ≡ struct_with c.args.n fs) (λ e. e ≡ OutOfMemory)) (ap fields all ∙ fields_of_pairs (projected_fields (fields_of c.args.fields.now) (asks c.args.wanted.now))) c.struct_of.ensures
 
 -- ---- one field
 

@@ -3,14 +3,10 @@
 
 //! The commands by their names.
 
-mod extensions;
-mod numbers;
-mod paths;
-mod structs;
-mod types;
-
 use std::cell::RefCell;
+use std::cmp::Ordering;
 use std::collections::HashMap;
+use std::fmt::Display;
 use std::hash::{DefaultHasher, Hash, Hasher};
 use std::panic::{self, AssertUnwindSafe};
 
@@ -18,28 +14,56 @@ use vortex_array::dtype::FieldPath;
 
 use crate::line::{Argument, Line};
 use crate::living::{Living, session, set};
-use crate::told::{Answer, Stop, Told, stop};
+use crate::told::{Answer, Stop, Text, Told, stop};
 
 type Command = Box<dyn Fn(&mut Line) -> Answer>;
 
 /// The conditions of the commands where the original panics.
-const CONDITIONS: [(&str, &[&str]); 15] = [
-    ("a type that can be non-nullable", &["as_nonnullable", "with_nullability", "extension_with_nullability"]),
-    ("a type that can be non-nullable", &["tag_with_nullability", "word_with_nullability"]),
-    ("a primitive type", &["as_ptype"]),
-    ("a struct type", &["as_struct_fields", "into_struct_fields"]),
-    ("an extension type", &["as_extension"]),
-    ("as many names as types", &["struct", "struct_new", "struct_from_fields", "struct_from_iter"]),
-    ("an index in range", &["child_index_to_tag", "names_at"]),
-    ("a valid precision and scale", &["decimal_new"]),
-    ("at most the greatest precision", &["by_precision"]),
-    ("not f16", &["match_each_simd"]),
-    ("an integer", &["match_each_integer"]),
-    ("an unsigned integer", &["match_each_unsigned"]),
-    ("a signed integer", &["match_each_signed"]),
-    ("a float", &["match_each_float"]),
-    ("names", &["starts_with_field"]),
+const CONDITIONS: [(&str, &str); 15] = [
+    ("a type that can be non-nullable", "as_nonnullable with_nullability extension_with_nullability"),
+    ("a type that can be non-nullable", "tag_with_nullability word_with_nullability"),
+    ("a primitive type", "as_ptype"),
+    ("a struct type", "as_struct_fields into_struct_fields"),
+    ("an extension type", "as_extension"),
+    ("as many names as types", "struct struct_new struct_from_fields struct_from_iter"),
+    ("an index in range", "child_index_to_tag names_at"),
+    ("a valid precision and scale", "decimal_new"),
+    ("at most the greatest precision", "by_precision"),
+    ("not f16", "match_each_simd"),
+    ("an integer", "match_each_integer"),
+    ("an unsigned integer", "match_each_unsigned"),
+    ("a signed integer", "match_each_signed"),
+    ("a float", "match_each_float"),
+    ("names", "starts_with_field"),
 ];
+
+/// Adds commands that make one call each: of the type behind the comma the method that the command is named for, or the one
+/// behind `=`. What a method takes stands in the line before what it is called on.
+macro_rules! methods {
+    ($console:ident, $of:ty: $($command:ident $(= $method:ident)? $(($taken:ty))?),* $(,)?) => {
+        $(methods!(@one $console, $of, $command, $($method)? $command, $(($taken))?);)*
+    };
+    (@one $console:ident, $of:ty, $command:ident, $method:ident $($_command:ident)?,) => {
+        $console.add(stringify!($command), |it: $of| it.$method().told());
+    };
+    (@one $console:ident, $of:ty, $command:ident, $method:ident $($_command:ident)?, ($taken:ty)) => {
+        $console.add(stringify!($command), |(taken, it): ($taken, $of)| it.$method(taken).told());
+    };
+}
+
+/// Adds commands that do the same to values of different types.
+macro_rules! alike {
+    ($console:ident, $run:ident: $($command:ident $of:ty),* $(,)?) => {
+        $($console.add(stringify!($command), $run::<$of>);)*
+    };
+}
+
+// (these are written with the macros above)
+mod extensions;
+mod numbers;
+mod paths;
+mod structs;
+mod types;
 
 /// The commands, and what lives from line to line.
 pub struct Console {
@@ -87,22 +111,36 @@ impl Console {
 
 /// The answer where the original panicked.
 fn broken(command: &str) -> Answer {
-    let condition = CONDITIONS.iter().find(|(_, commands)| commands.contains(&command));
+    let condition = CONDITIONS.iter().find(|(_, commands)| commands.split(' ').any(|it| it == command));
     stop(condition.map_or("the original panicked".to_owned(), |(it, _)| format!("condition: {it}")))
 }
 
-/// The hash by std's SipHash.
-fn hash_of(value: &impl Hash) -> u64 {
-    let mut state = DefaultHasher::new();
-    value.hash(&mut state);
-    state.finish()
+fn itself<T>(it: T) -> T {
+    it
 }
 
-/// Whether two hash the same.
-fn hash_equally<T: Hash>((a, b): (T, T)) -> bool {
-    hash_of(&a) == hash_of(&b)
+fn copy<T: Clone>(it: T) -> T {
+    it.clone()
+}
+
+fn text<T: Display>(it: T) -> Text<T> {
+    Text(it)
 }
 
 fn are_equal<T: PartialEq>((a, b): (T, T)) -> bool {
     a == b
+}
+
+fn compared<T: PartialOrd>((a, b): (T, T)) -> Option<Ordering> {
+    a.partial_cmp(&b)
+}
+
+/// Whether two hash the same by std's SipHash.
+fn hash_equally<T: Hash>((a, b): (T, T)) -> bool {
+    let hash_of = |value: &T| {
+        let mut state = DefaultHasher::new();
+        value.hash(&mut state);
+        state.finish()
+    };
+    hash_of(&a) == hash_of(&b)
 }

@@ -59,7 +59,7 @@ macro_rules! tuples {
     };
 }
 
-tuples!((), (A, B), (A, B, C), (A, B, C, D));
+tuples!((), (A), (A, B), (A, B, C), (A, B, C, D));
 
 macro_rules! numbers {
     ($($number:ty),*) => {

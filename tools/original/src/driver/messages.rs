@@ -14,138 +14,203 @@ use crate::line::{Argument, Line, is_blank};
 use crate::told::{Answer, Told, quoted};
 use crate::types::PTYPES;
 
-/// What the fields of a message may hold, each as they come.
-#[derive(Default)]
-struct Fields {
-    nullable: bool,
-    keys_sorted: bool,
-    texts: Vec<String>,
-    metadata: Option<Vec<u8>>,
-    ptype: i32,
-    precision: u32,
-    scale: i32,
-    size: u32,
-    type_ids: Vec<i32>,
-    dtypes: Vec<DType>,
-    keys: Vec<DType>,
+/// Makes the kinds of messages: the word of each, its type, and its fields as they are written: texts first, then messages,
+/// then the others, whether it is nullable at last.
+macro_rules! kinds {
+    ($($word:literal $kind:ident { $($field:ident),* })*) => {
+        const KINDS: &[&str] = &[$($word),*];
+
+        /// Reads the fields of a message of this kind, in any order, and the brace behind them.
+        fn read_fields(word: &str, line: &mut Line) -> Answer<Option<DtypeType>> {
+            match word {
+                $($word => {
+                    #[allow(unused_mut)]
+                    let mut made = $kind::default();
+                    while let Some(name) = field_or_end(&[$(shown(stringify!($field))),*], line)? {
+                        match name {
+                            $(_ if name == shown(stringify!($field)) => made.$field.read_more(name, line)?,)*
+                            _ => {}
+                        }
+                        line.blanks();
+                    }
+                    Ok(Some(DtypeType::$kind(made.into())))
+                })*
+                _ => field_or_end(&[], line).map(|_| None),
+            }
+        }
+
+        /// The word of a message's kind, and its fields as they are written.
+        fn written_fields(kind: &DtypeType) -> Answer<(&'static str, Vec<String>)> {
+            match kind {
+                $(DtypeType::$kind(_it) => {
+                    let fields: &[Vec<String>] = &[$(_it.$field.all_written(shown(stringify!($field)))?),*];
+                    Ok(($word, fields.concat()))
+                })*
+            }
+        }
+    };
 }
 
-impl Fields {
-    /// Reads the value of the field of this name.
-    fn take(&mut self, name: &str, line: &mut Line) -> Answer<()> {
-        match name {
-            "element_type" | "storage_dtype" | "value_type" | "dtypes" => self.dtypes.push(part(line)?),
-            "key_type" => self.keys.push(part(line)?),
-            _ => {
+kinds! {
+    "null" Null {}
+    "bool" Bool { nullable }
+    "utf8" Utf8 { nullable }
+    "binary" Binary { nullable }
+    "variant" Variant { nullable }
+    "primitive" Primitive { r#type, nullable }
+    "decimal" Decimal { precision, scale, nullable }
+    "list" List { element_type, nullable }
+    "fixed_size_list" FixedSizeList { element_type, size, nullable }
+    "map" Map { key_type, value_type, keys_sorted, nullable }
+    "struct" Struct { names, dtypes, nullable }
+    "union" Union { names, dtypes, type_ids, nullable }
+    "extension" Extension { id, storage_dtype, metadata }
+}
+
+/// A field's name as it stands in messages.
+fn shown(name: &str) -> &str {
+    name.trim_start_matches("r#")
+}
+
+/// The name of the field that stands here, or none at the closing brace.
+fn field_or_end<'a>(known: &[&'a str], line: &mut Line) -> Answer<Option<&'a str>> {
+    if line.eat("}") { Ok(None) } else { line.one_of(known).map(|place| Some(known[place])) }
+}
+
+/// A value of a field, with the field's name before it, as it is read behind that and written.
+trait Value: Sized {
+    fn value(name: &str, line: &mut Line) -> Answer<Self>;
+
+    fn written(&self, name: &str) -> Answer;
+}
+
+macro_rules! scalars {
+    ($($value:ty: $read:expr, $text:expr;)*) => {
+        $(impl Value for $value {
+            fn value(name: &str, line: &mut Line) -> Answer<Self> {
+                let read: fn(&str, &mut Line) -> Answer<Self> = $read;
                 line.sign(":")?;
-                self.take_scalar(name, line)?;
+                read(name, line)
             }
-        }
-        Ok(())
-    }
 
-    fn take_scalar(&mut self, name: &str, line: &mut Line) -> Answer<()> {
-        match name {
-            "nullable" => self.nullable = bool::read(line)?,
-            "keys_sorted" => self.keys_sorted = bool::read(line)?,
-            "names" | "id" => self.texts.push(line.text()?),
-            "metadata" => self.metadata = Some(line.text()?.chars().map(|sign| sign as u8).collect()),
-            "type" => self.ptype = primitive(line)?,
-            "precision" => self.precision = line.number()?,
-            "scale" => self.scale = line.number()?,
-            "size" => self.size = line.number()?,
-            _ => self.type_ids.push(line.number()?),
-        }
-        Ok(())
-    }
+            fn written(&self, name: &str) -> Answer {
+                let text: fn(&str, &Self) -> String = $text;
+                Ok(format!("{name}: {}", text(name, self)))
+            }
+        })*
+    };
+}
 
-    /// The message of this kind.
-    fn make(mut self, kind: &str) -> DtypeType {
-        let nullable = self.nullable;
-        let (key_type, inner) = (self.keys.pop().map(Box::new), |mut dtypes: Vec<DType>| dtypes.pop().map(Box::new));
-        match kind {
-            "null" => DtypeType::Null(Null {}),
-            "bool" => DtypeType::Bool(Bool { nullable }),
-            "utf8" => DtypeType::Utf8(Utf8 { nullable }),
-            "binary" => DtypeType::Binary(Binary { nullable }),
-            "variant" => DtypeType::Variant(Variant { nullable }),
-            "primitive" => DtypeType::Primitive(Primitive { r#type: self.ptype, nullable }),
-            "decimal" => DtypeType::Decimal(Decimal { precision: self.precision, scale: self.scale, nullable }),
-            "list" => DtypeType::List(Box::new(List { element_type: inner(self.dtypes), nullable })),
-            "fixed_size_list" => {
-                let (element_type, size) = (inner(self.dtypes), self.size);
-                DtypeType::FixedSizeList(Box::new(FixedSizeList { element_type, size, nullable }))
-            }
-            "map" => {
-                let (value_type, keys_sorted) = (inner(self.dtypes), self.keys_sorted);
-                DtypeType::Map(Box::new(Map { key_type, value_type, keys_sorted, nullable }))
-            }
-            "struct" => DtypeType::Struct(Struct { names: self.texts, dtypes: self.dtypes, nullable }),
-            "union" => {
-                let (names, dtypes, type_ids) = (self.texts, self.dtypes, self.type_ids);
-                DtypeType::Union(Union { names, dtypes, type_ids, nullable })
-            }
-            _ => {
-                let (id, metadata) = (self.texts.pop().unwrap_or_default(), self.metadata);
-                DtypeType::Extension(Box::new(Extension { id, storage_dtype: inner(self.dtypes), metadata }))
-            }
-        }
+scalars! {
+    bool: |_, line| bool::read(line), |_, it| it.to_string();
+    u32: |_, line| line.number(), |_, it| it.to_string();
+    i32: number, |name, it| ptype_name(name, *it as usize).unwrap_or(it.to_string());
+    String: |_, line| line.text(), |_, it| quoted(it);
+    Vec<u8>: |_, line| Ok(line.text()?.chars().map(|sign| sign as u8).collect()), |_, it| quoted_bytes(it);
+}
+
+/// The name of a primitive type in capitals, which stands for its number in the field `type`.
+fn ptype_name(field: &str, number: usize) -> Option<String> {
+    PTYPES.get(number).filter(|_| field == "type").map(|it| it.to_string().to_uppercase())
+}
+
+fn number(field: &str, line: &mut Line) -> Answer<i32> {
+    let is_here =
+        |name: &String| line.rest().strip_prefix(name).is_some_and(|behind| !behind.starts_with(char::is_alphanumeric));
+    match (0..PTYPES.len()).find(|place| ptype_name(field, *place).as_ref().is_some_and(is_here)) {
+        Some(number) => line.word().map(|_| number as i32),
+        None => line.number(),
     }
 }
 
-/// The fields of each kind.
-const KINDS: [(&str, &[&str]); 13] = [
-    ("null", &[]),
-    ("bool", &["nullable"]),
-    ("utf8", &["nullable"]),
-    ("binary", &["nullable"]),
-    ("variant", &["nullable"]),
-    ("primitive", &["type", "nullable"]),
-    ("decimal", &["precision", "scale", "nullable"]),
-    ("list", &["element_type", "nullable"]),
-    ("fixed_size_list", &["size", "element_type", "nullable"]),
-    ("map", &["keys_sorted", "key_type", "value_type", "nullable"]),
-    ("struct", &["names", "dtypes", "nullable"]),
-    ("union", &["names", "dtypes", "type_ids", "nullable"]),
-    ("extension", &["id", "metadata", "storage_dtype"]),
-];
-
-impl Argument for DType {
-    fn read(line: &mut Line) -> Answer<Self> {
-        let kind = KINDS.iter().find(|(kind, _)| {
-            let behind = line.rest().strip_prefix(kind);
-            behind.is_some_and(|rest| rest.trim_start_matches(is_blank).starts_with('{'))
-        });
-        line.eat(kind.map_or("", |(kind, _)| kind));
-        line.sign("{")?;
-        line.blanks();
-        let mut fields = Fields::default();
-        while !line.eat("}") {
-            let known = kind.map_or(&[][..], |(_, fields)| fields);
-            let place = line.one_of(known)?;
-            fields.take(known[place], line)?;
-            line.blanks();
-        }
-        Ok(DType { dtype_type: kind.map(|(kind, _)| fields.make(kind)) })
-    }
+/// Bytes in quotes: printable ASCII as it is, all else in hexadecimal.
+fn quoted_bytes(bytes: &[u8]) -> String {
+    let one = |byte: &u8| match byte {
+        b'\\' | b'"' => format!("\\{}", char::from(*byte)),
+        b' '..b'\x7f' => char::from(*byte).to_string(),
+        _ => format!("\\x{byte:02x}"),
+    };
+    format!("\"{}\"", bytes.iter().map(one).collect::<String>())
 }
 
 /// A message within another: without its kind where nothing is in it.
-fn part(line: &mut Line) -> Answer<DType> {
-    line.sign("{")?;
-    line.blanks();
-    if line.eat("}") { Ok(DType { dtype_type: None }) } else { line.inside(DType::read, Some("}")) }
+impl Value for DType {
+    fn value(_name: &str, line: &mut Line) -> Answer<Self> {
+        line.sign("{")?;
+        line.blanks();
+        if line.eat("}") { Ok(DType::default()) } else { line.inside(DType::read, Some("}")) }
+    }
+
+    fn written(&self, name: &str) -> Answer {
+        let text = self.told()?;
+        Ok(if self.dtype_type.is_some() { format!("{name} {{ {text} }}") } else { format!("{name} {text}") })
+    }
 }
 
-/// The number of a primitive type, or its name in capitals.
-fn primitive(line: &mut Line) -> Answer<i32> {
-    let named = PTYPES.iter().position(|it| {
-        let behind = line.rest().strip_prefix(&it.to_string().to_uppercase());
-        behind.is_some_and(|rest| !rest.starts_with(char::is_alphanumeric))
-    });
-    match named {
-        Some(number) => line.word().map(|_| number as i32),
-        None => line.number(),
+impl Value for Box<DType> {
+    fn value(name: &str, line: &mut Line) -> Answer<Self> {
+        DType::value(name, line).map(Box::new)
+    }
+
+    fn written(&self, name: &str) -> Answer {
+        self.as_ref().written(name)
+    }
+}
+
+/// What a field holds: a value, one if there is one, or several. One that is the default isn't written.
+trait Held {
+    fn read_more(&mut self, name: &str, line: &mut Line) -> Answer<()>;
+
+    fn all_written(&self, name: &str) -> Answer<Vec<String>>;
+}
+
+macro_rules! single {
+    ($($held:ty),*) => {
+        $(impl Held for $held {
+            fn read_more(&mut self, name: &str, line: &mut Line) -> Answer<()> {
+                Ok(*self = Value::value(name, line)?)
+            }
+
+            fn all_written(&self, name: &str) -> Answer<Vec<String>> {
+                if *self == Self::default() { Ok(Vec::new()) } else { Ok(vec![self.written(name)?]) }
+            }
+        })*
+    };
+}
+
+single!(bool, u32, i32, String);
+
+impl<T: Value> Held for Option<T> {
+    fn read_more(&mut self, name: &str, line: &mut Line) -> Answer<()> {
+        Ok(*self = Some(T::value(name, line)?))
+    }
+
+    fn all_written(&self, name: &str) -> Answer<Vec<String>> {
+        self.iter().map(|it| it.written(name)).collect()
+    }
+}
+
+impl<T: Value> Held for Vec<T> {
+    fn read_more(&mut self, name: &str, line: &mut Line) -> Answer<()> {
+        Ok(self.push(T::value(name, line)?))
+    }
+
+    fn all_written(&self, name: &str) -> Answer<Vec<String>> {
+        self.iter().map(|it| it.written(name)).collect()
+    }
+}
+
+impl Argument for DType {
+    fn read(line: &mut Line) -> Answer<Self> {
+        let kind = KINDS.iter().find(|kind| {
+            let behind = line.rest().strip_prefix(**kind);
+            behind.is_some_and(|rest| rest.trim_start_matches(is_blank).starts_with('{'))
+        });
+        let word = kind.copied().unwrap_or_default();
+        line.eat(word);
+        line.sign("{")?;
+        line.blanks();
+        Ok(DType { dtype_type: read_fields(word, line)? })
     }
 }
 
@@ -175,87 +240,12 @@ impl Told for &Field {
     }
 }
 
-/// A field that isn't written where it has the default value.
-fn scalar<T: Default + PartialEq + ToString>(name: &str, value: T) -> Vec<String> {
-    if value == T::default() { Vec::new() } else { vec![format!("{name}: {}", value.to_string())] }
-}
-
-fn texts(name: &str, texts: &[String]) -> Vec<String> {
-    texts.iter().map(|text| format!("{name}: {}", quoted(text))).collect()
-}
-
-fn parts<'a>(name: &str, messages: impl IntoIterator<Item = &'a DType>) -> Answer<Vec<String>> {
-    let one = |message: &DType| match message.dtype_type {
-        Some(_) => Ok(format!("{name} {{ {} }}", message.told()?)),
-        None => Ok(format!("{name} {{}}")),
-    };
-    messages.into_iter().map(one).collect()
-}
-
-fn written_type(number: i32) -> Vec<String> {
-    let name = usize::try_from(number).ok().and_then(|place| PTYPES.get(place));
-    scalar(
-        "type",
-        if number == 0 { String::new() } else { name.map_or(number.to_string(), |it| it.to_string().to_uppercase()) },
-    )
-}
-
-/// Bytes in quotes: printable ASCII as it is, all else in hexadecimal.
-fn quoted_bytes(bytes: &[u8]) -> String {
-    let one = |byte: &u8| match byte {
-        b'\\' | b'"' => format!("\\{}", char::from(*byte)),
-        b' '..b'\x7f' => char::from(*byte).to_string(),
-        _ => format!("\\x{byte:02x}"),
-    };
-    format!("\"{}\"", bytes.iter().map(one).collect::<String>())
-}
-
-/// Texts come first, then messages, then the other fields, whether it is nullable at last.
 impl Told for &DType {
     fn told(self) -> Answer {
         let Some(kind) = &self.dtype_type else {
             return Ok("{}".to_owned());
         };
-        let (name, fields, nullable) = match kind {
-            DtypeType::Null(_) => ("null", vec![], false),
-            DtypeType::Bool(it) => ("bool", vec![], it.nullable),
-            DtypeType::Utf8(it) => ("utf8", vec![], it.nullable),
-            DtypeType::Binary(it) => ("binary", vec![], it.nullable),
-            DtypeType::Variant(it) => ("variant", vec![], it.nullable),
-            DtypeType::Primitive(it) => ("primitive", vec![written_type(it.r#type)], it.nullable),
-            DtypeType::Decimal(it) => {
-                ("decimal", vec![scalar("precision", it.precision), scalar("scale", it.scale)], it.nullable)
-            }
-            DtypeType::List(it) => ("list", vec![parts("element_type", it.element_type.as_deref())?], it.nullable),
-            DtypeType::FixedSizeList(it) => {
-                let element = parts("element_type", it.element_type.as_deref())?;
-                ("fixed_size_list", vec![element, scalar("size", it.size)], it.nullable)
-            }
-            DtypeType::Map(it) => {
-                let (key, value) =
-                    (parts("key_type", it.key_type.as_deref())?, parts("value_type", it.value_type.as_deref())?);
-                ("map", vec![key, value, scalar("keys_sorted", it.keys_sorted)], it.nullable)
-            }
-            DtypeType::Struct(it) => {
-                ("struct", vec![texts("names", &it.names), parts("dtypes", &it.dtypes)?], it.nullable)
-            }
-            DtypeType::Union(it) => {
-                let tags = it.type_ids.iter().map(|tag| format!("type_ids: {tag}")).collect();
-                ("union", vec![texts("names", &it.names), parts("dtypes", &it.dtypes)?, tags], it.nullable)
-            }
-            DtypeType::Extension(it) => {
-                let id = if it.id.is_empty() { vec![] } else { texts("id", std::slice::from_ref(&it.id)) };
-                let metadata = it.metadata.iter().map(|bytes| format!("metadata: {}", quoted_bytes(bytes))).collect();
-                ("extension", vec![id, parts("storage_dtype", it.storage_dtype.as_deref())?, metadata], false)
-            }
-        };
-        let words = [fields.concat(), scalar("nullable", nullable)].concat();
-        Ok(if words.is_empty() { format!("{name} {{}}") } else { format!("{name} {{ {} }}", words.join(" ")) })
-    }
-}
-
-impl Told for DType {
-    fn told(self) -> Answer {
-        (&self).told()
+        let (word, fields) = written_fields(kind)?;
+        Ok(if fields.is_empty() { format!("{word} {{}}") } else { format!("{word} {{ {} }}", fields.join(" ")) })
     }
 }

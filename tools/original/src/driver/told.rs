@@ -8,6 +8,7 @@ use std::fmt::Display;
 use std::sync::Arc;
 
 use vortex_array::dtype::extension::ExtDTypeRef;
+use vortex_array::dtype::proto::dtype as pb;
 use vortex_array::dtype::{
     DType, DecimalDType, DecimalType, Field, FieldMask, FieldName, FieldNames, FieldPath, MapDType, Nullability, PType,
     StructFields, UnionVariants,
@@ -51,7 +52,7 @@ macro_rules! as_printed {
     };
 }
 
-as_printed!(bool, u8, u64, usize, &str, String, PType, DecimalType);
+as_printed!(bool, u8, i8, i32, u64, usize, &str, String, PType, DecimalType);
 
 impl Told for Ordering {
     fn told(self) -> Answer {
@@ -80,7 +81,7 @@ pub fn joined(items: impl IntoIterator<Item = impl Told>, between: &str) -> Answ
 }
 
 /// The words whose tests hold.
-pub fn holding<const N: usize>(tests: [(&'static str, bool); N]) -> Answer {
+pub fn holding(tests: impl IntoIterator<Item = (&'static str, bool)>) -> Answer {
     several(tests.into_iter().filter(|(_, is)| *is).map(|(name, _)| name))
 }
 
@@ -97,19 +98,18 @@ pub fn quoted(text: &str) -> String {
     format!("\"{}\"", text.chars().map(one).collect::<String>())
 }
 
-pub fn name(text: &str) -> String {
-    if !text.is_empty() && text.chars().all(is_bare) { text.to_owned() } else { quoted(text) }
+/// A name, or where dots may stand in it an id: bare where it can be.
+fn bare_or_quoted(text: &str, dots: bool) -> String {
+    let is_plain = !text.is_empty() && text.chars().all(|sign| is_bare(sign) || dots && sign == '.');
+    if is_plain { text.to_owned() } else { quoted(text) }
 }
 
-/// The id of an extension, in which dots may stand.
+pub fn name(text: &str) -> String {
+    bare_or_quoted(text, false)
+}
+
 pub fn id(extension: &ExtDTypeRef) -> String {
-    let id = extension.id();
-    let text: &str = id.as_ref();
-    if !text.is_empty() && text.chars().all(|sign| is_bare(sign) || sign == '.') {
-        text.to_owned()
-    } else {
-        quoted(text)
-    }
+    bare_or_quoted(extension.id().as_ref(), true)
 }
 
 impl Told for &FieldName {
@@ -219,23 +219,11 @@ impl Told for &FieldMask {
     }
 }
 
-macro_rules! as_lent {
-    ($($kind:ty),*) => {
-        $(impl Told for $kind {
-            fn told(self) -> Answer {
-                (&self).told()
-            }
-        })*
-    };
-}
-
-as_lent!(DType, Arc<DType>, DecimalDType, Field, FieldMask, FieldName, FieldNames, FieldPath);
-
 macro_rules! as_types {
     ($($kind:ty: $make:expr),*) => {
-        $(impl Told for $kind {
+        $(impl Told for &$kind {
             fn told(self) -> Answer {
-                $make(self).told()
+                $make(self.clone()).told()
             }
         })*
     };
@@ -248,3 +236,16 @@ as_types!(
     MapDType: |it| DType::Map(it, Nullability::NonNullable),
     ExtDTypeRef: DType::Extension
 );
+
+macro_rules! as_lent {
+    ($($kind:ty),*) => {
+        $(impl Told for $kind {
+            fn told(self) -> Answer {
+                (&self).told()
+            }
+        })*
+    };
+}
+
+as_lent!(DType, Arc<DType>, DecimalDType, Field, FieldMask, FieldName, FieldNames, FieldPath);
+as_lent!(StructFields, UnionVariants, MapDType, ExtDTypeRef, pb::DType);

@@ -9,7 +9,7 @@ use vortex_array::dtype::proto::dtype::d_type::DtypeType;
 use vortex_array::dtype::session::DTypeSessionExt;
 use vortex_array::dtype::{DType, FieldPath, Nullability};
 
-use super::{Console, are_equal};
+use super::{Console, are_equal, copy, itself, text};
 use crate::line::Bytes;
 use crate::models::read;
 use crate::sessions::{Plugin, Session};
@@ -17,25 +17,31 @@ use crate::told::{Answer, Text, Told, id, several};
 use crate::types::{Id, PTYPES};
 
 pub fn add_to(c: &mut Console) {
-    c.add("extension", |(Id(id), Bytes(metadata), storage)| ForeignExtDType::from_parts(id, metadata, storage));
-    c.add("foreign", |(Id(id), Bytes(metadata), storage)| ForeignExtDType::from_parts(id, metadata, storage));
+    alike!(c, itself: message pb::DType);
+    alike!(c, copy: extension_copy ExtDTypeRef);
+    alike!(c, text: extension_text ExtDTypeRef);
+    alike!(c, are_equal: message_eq pb::DType);
+    methods!(c, ExtDTypeRef: storage_dtype, extension_nullability = nullability, extension_is_nullable = is_nullable,
+        extension_with_nullability = with_nullability(Nullability));
+    for name in ["extension", "foreign"] {
+        c.add(name, |(Id(id), Bytes(metadata), storage)| ForeignExtDType::from_parts(id, metadata, storage));
+    }
+    for name in ["metadata", "serialize_metadata"] {
+        c.add(name, |it: ExtDTypeRef| it.serialize_metadata().map(Bytes));
+    }
     c.add("id", |it: ExtDTypeRef| id(&it));
-    c.add("metadata", |it: ExtDTypeRef| it.serialize_metadata().map(Bytes));
-    c.add("serialize_metadata", |it: ExtDTypeRef| it.serialize_metadata().map(Bytes));
-    c.add("storage_dtype", |it: ExtDTypeRef| it.storage_dtype().clone());
     c.add("extension_parts", |it: ExtDTypeRef| -> Answer {
         let metadata = Bytes(it.serialize_metadata()?).told()?;
         Ok(format!("{} {metadata} {}", id(&it), it.storage_dtype().told()?))
     });
-    c.add("extension_nullability", |it: ExtDTypeRef| it.nullability());
-    c.add("extension_is_nullable", |it: ExtDTypeRef| it.is_nullable());
-    c.add("extension_with_nullability", |(n, it): (Nullability, ExtDTypeRef)| it.with_nullability(n));
-    c.add("extension_copy", |it: ExtDTypeRef| it.clone());
-    c.add("extension_text", |it: ExtDTypeRef| Text(it));
     c.add("metadata_text", |it: ExtDTypeRef| Text(it.display_metadata().to_string()));
     add_typed(c, Plugin("x.tag"), ["tag_new", "tag_downcast", "tag_with_nullability"]);
     add_typed(c, Plugin("x.word"), ["word_new", "word_downcast", "word_with_nullability"]);
-    add_messages(c);
+    c.add("write", |dtype: DType| pb::DType::try_from(&dtype));
+    c.add("path_message", |parts: Vec<pb::Field>| several(&parts));
+    c.add("read_path", |path: Vec<pb::Field>| FieldPath::try_from(&pb::FieldPath { path }));
+    // The original's conversion is prost's; what has no name is none.
+    c.add("pb_from_number", |number: i64| usize::try_from(number).ok().and_then(|place| PTYPES.get(place).copied()));
     add_sessions(c);
 }
 
@@ -52,18 +58,8 @@ fn add_typed(c: &mut Console, plugin: Plugin, [new, downcast, with_nullability]:
     });
 }
 
-fn add_messages(c: &mut Console) {
-    c.add("write", |dtype: DType| pb::DType::try_from(&dtype));
-    c.add("message", |message: pb::DType| message.clone());
-    c.add("message_eq", are_equal::<pb::DType>);
-    c.add("path_message", |parts: Vec<pb::Field>| several(&parts));
-    c.add("read_path", |path: Vec<pb::Field>| FieldPath::try_from(&pb::FieldPath { path }));
-    // The original's conversion is prost's; what has no name is none.
-    c.add("pb_from_number", |number: i64| usize::try_from(number).ok().and_then(|place| PTYPES.get(place).copied()));
-}
-
 fn add_sessions(c: &mut Console) {
-    c.add("allows_unknown", |session: Session| session.allows_unknown());
+    methods!(c, Session: allows_unknown);
     c.add("registry", |(session, Id(id)): (Session, Id)| -> Answer<bool> {
         Ok(session.made().dtypes().registry().get(&id).is_some())
     });

@@ -132,11 +132,8 @@ def clauses_of(functions):
 def parts_of(reference):
     """The names of a reference, with braces written out, and its clauses."""
     name, _, clauses = reference.partition(": ")
-    if braces := re.fullmatch(r"(.*)\{(.*)\}", name):
-        names = [braces[1] + it.strip() for it in braces[2].split(",")]
-    else:
-        names = [name]
-    return names, [it.strip() for it in clauses.split(",") if it.strip()]
+    before, braces, after = re.fullmatch(r"([^{]*)(?:\{(.*)\})?(.*)", name).groups()
+    return [before + it.strip() + after for it in (braces or "").split(",")], [it.strip() for it in clauses.split(",") if it.strip()]
 
 
 def fault_of_call(name, clauses, sources):

@@ -105,9 +105,6 @@ class Report:
         self.failed += 1
         print(f"{self.tool}: {f'{where}: ' if where else ''}{text}")
 
-    def note(self, text):
-        print(f"{self.tool}: note: {text}")
-
     def check(self, faults, checked=1):
         """Tells the faults of one check, each a text or where it is and the text, or of so many checks."""
         faults = list(faults)

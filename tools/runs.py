@@ -1,14 +1,16 @@
 # SPDX-License-Identifier: Apache-2.0
 # SPDX-FileCopyrightText: Copyright the Vortex contributors
 
-"""Checks tools/data/run_by for tools/pages: of each public call that allocates, what runs it. A contract lets a call
-return OutOfMemory for any input, so only a run shows that it succeeds.
+"""Checks for tools/pages that something runs each public call that allocates: a contract lets a call return OutOfMemory for
+any input, so only a run shows that it succeeds. It is a golden test that docs/reference shows beside the call (examples.py),
+or what tools/data/run_by names.
 
-A line names calls, and behind a colon a command of the console with golden tests (`console` alone where it has the call's
-name), a test by its path, or another call of the list, in whose crate the call is made."""
+A line there names calls, and behind a colon a command of the console with golden tests (`console` alone where it has the
+call's name), a test by its path, or another call that is run, in whose crate the call is made."""
 import re
 
-from ledger import CONSOLE, fault_of_test, is_law, name_of
+from examples import examples, is_value
+from ledger import CONSOLE, fault_of_test, is_law, name_of, parts_of
 from repository import crates, functions_of, given_out, is_public, libraries, sources_of, text_of
 
 RUN_BY = "tools/data/run_by"
@@ -30,18 +32,11 @@ def calls_that_allocate():
     return found
 
 
-def spread(names):
-    """The names that a text with one pair of braces stands for."""
-    before, brace, rest = names.partition("{")
-    inside, _, after = rest.partition("}")
-    return [before + it.strip() + after for it in inside.split(",")] if brace else [names]
-
-
 def listed():
     """Each call of the list, with what runs it, and the number of its line."""
     for number, line in enumerate(text_of(RUN_BY).splitlines(), 1):
         calls, _, runner = line.rpartition(": ")
-        for call in spread(calls):
+        for call in parts_of(calls)[0]:
             yield number, call, runner
 
 
@@ -51,7 +46,7 @@ def calls_of_name(texts, name):
     return any(re.search(rf"(?<!fn )(?<!\w){name}(?:::<[^>]*>)?\({also.get(name, '')}", it) for it in texts)
 
 
-def fault_of_run(call, runner, allocating, known, commands, console):
+def fault_of_run(call, runner, allocating, run, commands, console):
     """What is wrong with a line of the list for one call, or None."""
     name = call.rpartition("::")[2]
     if call not in allocating:
@@ -61,18 +56,23 @@ def fault_of_run(call, runner, allocating, known, commands, console):
         if command not in commands:
             return f"there is no golden test of {command}"
         return None if calls_of_name(console, name) else f"the console makes no call of {name}"
-    if runner in known:
+    if runner in run:
         beside = {file for it in allocating[runner] for file in sources_of(it.file.split("/")[1])}
         return None if calls_of_name(map(text_of, beside), name) else f"{runner} makes no call of {name}"
     return fault_of_test(runner, set())
 
 
 def check():
-    """How many calls allocate, and each that is listed wrongly, or isn't listed: where, and the fault."""
-    allocating, lines = calls_that_allocate(), list(listed())
-    known = {call for _, call, _ in lines}
+    """How many calls allocate, and each that is listed wrongly, or isn't run: where, and the fault."""
+    allocating = calls_that_allocate()
+    lines = list(listed())
+    run = {call for _, call, _ in lines}
+    for call, shown in examples(allocating.keys() - run)[0].items():
+        if any(is_value(answer) for _, answer in shown):
+            lines.append((0, call, f"console {shown[0][0].split()[1]}"))
+    run = {call for _, call, _ in lines}
     commands = {line.split(" ")[0] for line in text_of(CONSOLE).splitlines()}
     console = [text_of(file) for crate in crates() if "console" in crate for file in sources_of(crate)]
-    found = [(n, call, fault_of_run(call, runner, allocating, known, commands, console)) for n, call, runner in lines]
+    found = [(n, call, fault_of_run(call, runner, allocating, run, commands, console)) for n, call, runner in lines]
     faults = [(f"{RUN_BY}:{number}", f"{call}: {fault}") for number, call, fault in found if fault]
-    return len(allocating), faults + [(RUN_BY, f"{call}, which allocates, isn't listed") for call in sorted(allocating.keys() - known)]
+    return len(allocating), faults + [(RUN_BY, f"{call}, which allocates, isn't run") for call in sorted(allocating.keys() - run)]

@@ -40,9 +40,11 @@ class Planted(unittest.TestCase):
         os.chmod(self.path(file), mode)
 
     def change(self, file, old, new):
+        """Changes a text that stands once; no text is the end of the file."""
         text = self.read(file)
-        self.assertEqual(text.count(old), 1, f"{old} in {file}")
-        self.write(file, text.replace(old, new))
+        if old:
+            self.assertEqual(text.count(old), 1, f"{old} in {file}")
+        self.write(file, text.replace(old, new) if old else text + new)
 
     def script(self, name, text):
         """A program on the path of the tools that are run."""
@@ -65,3 +67,13 @@ class Planted(unittest.TestCase):
         self.assertIn(text, said)
         self.assertRegex(said.splitlines()[-1], r"^\d+ passed, [1-9]\d* failed$")
         self.assertEqual(status, 1, said)
+
+    def assert_each_told(self, tool, changes):
+        """That the tool tells each of these changes, made alone: a file, what stands there, what stands there instead, and
+        what is told."""
+        for file, old, new, text in changes:
+            with self.subTest(text):
+                before = self.read(file)
+                self.change(file, old, new)
+                self.assert_told(tool, text)
+                self.write(file, before)

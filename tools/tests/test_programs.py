@@ -52,7 +52,7 @@ class RunCi(Planted):
 
     def test_tells_a_crate_that_is_not_proved(self):
         status, said = self.run_with("== dtype_base", "fn f: not proved: x", "rt: dtype_base NOT PROVED", "7 passed, 1 failed")
-        self.assertIn("dtype_base: NOT PROVED (8 crates and 0 mutations left)", said)
+        self.assertIn("dtype_base: NOT PROVED (6 crates and 0 mutations left)", said)
         self.assertIn("    fn f: not proved: x", said)
         self.assertEqual((status, said.splitlines()[-1]), (1, "7 passed, 1 failed"))
 

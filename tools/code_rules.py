@@ -3,10 +3,10 @@
 
 """What no contract says of the libraries' code, checked token by token: when an allocation failed, when a text gives up,
 and what a lookup reads. tools/borders says what and why."""
-from collections import Counter
+from collections import Counter, namedtuple
 
-from lexer import closing, code_of, functions_in, is_at, shown
-from repository import libraries, sources_of, text_of
+from lexer import blanks, closing, code_of, is_at, is_name, shape_of, shown, tokens_of
+from repository import functions_of, libraries, name_of, sources_of, text_of
 
 # The error of a failed allocation, and the errors of std that become it.
 FAILURES = {"OutOfMemory", "AllocError", "AllocFailed"}
@@ -39,11 +39,24 @@ COUNTS = {"is_empty", "len", "as_slice"}
 HOLD_NAMES = {"names", "places", "entries"}
 
 
+# A function, by its name with that of its type: its signature and its body as tokens.
+Code = namedtuple("Code", "name signature body")
+
+
+def parts_of(file):
+    """The functions of a source, and the tokens outside of them."""
+    functions, outside = [], shape_of(code_of(text_of(file)))
+    for it in functions_of(file):
+        functions.append(Code(name_of(it), *(tokens_of(shape_of(part)) for part in (it.signature, it.body))))
+        outside = outside[:it.start] + blanks(outside[it.start:it.end]) + outside[it.end:]
+    return functions, tokens_of(outside)
+
+
 def sources():
     """Each source of the libraries: its file, its functions, and the tokens outside of them."""
     for crate in libraries():
         for file in sources_of(crate):
-            yield file.removeprefix("crates/"), *functions_in(code_of(text_of(file)))
+            yield file.removeprefix("crates/"), *parts_of(file)
 
 
 def lines_with(tokens, is_meant):
@@ -92,7 +105,7 @@ def failures_by_hand():
 def asks_too_much(tokens):
     """Whether a capacity may be more than what is at hand has: by a great number, a product, a power or a complement."""
     return any(
-        it.text in ("MAX", "!", "*", "<", "pow", "wrapping_sub") or (it.kind == "number" and not few(it.text))
+        it.text in ("MAX", "!", "*", "<", "pow", "wrapping_sub") or (it.text[0].isdigit() and not few(it.text))
         for it in tokens
     )
 
@@ -189,9 +202,9 @@ def calls_of(function):
     """The calls of a body, and whether each is made on names or on entries of their index, or takes them."""
     body = function.body
     for at, it in enumerate(body):
-        if it.kind == "name" and is_at(body, at + 1, "("):
+        if is_name(it) and is_at(body, at + 1, "("):
             taken = {one.text for one in body[at + 2:closing(body, at + 1)]}
-            while at >= 2 and body[at - 1].text == "." and body[at - 2].kind == "name":
+            while at >= 2 and body[at - 1].text == "." and is_name(body[at - 2]):
                 at -= 2
                 taken.add(body[at].text)
             yield it.text, bool(taken & HOLD_NAMES)
@@ -200,7 +213,7 @@ def calls_of(function):
 def compared_beside_the_count():
     """What a lookup reads of names outside of the function that counts, and what that function reads beside the one name
     that it counts."""
-    found = [(file, it) for file in LOOKUP for it in functions_in(code_of(text_of(f"crates/{file}")))[0]]
+    found = [(file, it) for file in LOOKUP for it in parts_of(f"crates/{file}")[0]]
     counting = [(file, it) for file, it in found if counts(it)]
     if len(counting) != 1:
         names = " and ".join(it.name for _, it in counting) or "no function"

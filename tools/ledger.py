@@ -9,6 +9,7 @@ import re
 from collections import namedtuple
 from glob import glob
 
+import repository
 from repository import (
     code_of, functions_of, given_out, heads_of, is_public, libraries, owner_at, owners_in, sources_of, text_of,
 )
@@ -46,11 +47,9 @@ def lines_of(text):
 
 
 def name_of(function):
-    """The name of a function in the ledger: its type, if it has one, and its own; messages are under `pb`."""
-    if not function.owner:
-        return function.name
-    module = "pb::" if function.file.startswith("crates/dtype_messages/") else ""
-    return f"{module}{function.owner.type}::{function.name}"
+    """The name of a function in the ledger: messages are under `pb`."""
+    is_message = function.owner and function.file.startswith("crates/dtype_messages/")
+    return f"{'pb::' if is_message else ''}{repository.name_of(function)}"
 
 
 def is_declared_call(function, traits):

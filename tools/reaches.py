@@ -5,11 +5,10 @@
 function below it: by the calls in the libraries' sources, where a call of a name that several functions have may be of
 each of them."""
 import os
-from functools import lru_cache
 
 from ledger import LEDGER, PROGRAM, lines_of, parts_of
-from lexer import code_of, functions_in, is_at
-from repository import changes_of, libraries, sources_of, text_of
+from lexer import is_at, shape_of, tokens_of
+from repository import changes_of, function_at, functions_of, libraries, name_of, sources_of, text_of
 
 # What prints, compares, hashes and copies without a call that is written out.
 BEHIND = {"fmt", "eq", "ne", "cmp", "partial_cmp", "hash", "clone", "drop", "from", "try_from", "next", "index", "bitor"}
@@ -19,11 +18,6 @@ EXCEPTED = {
 }
 
 
-@lru_cache(maxsize=None)
-def functions_of_file(file):
-    return functions_in(code_of(text_of(file)))[0]
-
-
 class Graph:
     """The functions of the libraries and the program, and which calls which, by names."""
 
@@ -31,21 +25,22 @@ class Graph:
         self.functions, self.by_name, self.calls = {}, {}, {}
         for crate in [*libraries(), PROGRAM]:
             for file in sources_of(crate):
-                for function in functions_of_file(file):
-                    self.functions.setdefault(function.name, []).append(function)
-                    self.by_name.setdefault(function.name.rpartition("::")[2], set()).add(function.name)
+                for function in functions_of(file):
+                    name = name_of(function)
+                    self.functions.setdefault(name, []).append(tokens_of(shape_of(function.body)))
+                    self.by_name.setdefault(function.name, set()).add(name)
 
     def called_by(self, name):
         """The names of what the functions of a name may call; of a trait's call, that of each impl."""
         if name not in self.calls:
-            self.calls[name] = {called for it in self.functions.get(name, []) for called in self.calls_of(it.body)}
-            if any(it.body == [] or is_at(it.body, 0, ";") for it in self.functions.get(name, [])):
+            self.calls[name] = {called for body in self.functions.get(name, []) for called in self.calls_of(body)}
+            if [] in self.functions.get(name, []):
                 self.calls[name] |= self.by_name[name.rpartition("::")[2]]
         return self.calls[name]
 
     def calls_of(self, body):
         for at, it in enumerate(body):
-            if it.kind != "name" or it.text not in self.by_name:
+            if it.text not in self.by_name:
                 continue
             owner = body[at - 2].text if is_at(body, at - 1, "::") else ""
             exact = f"{owner}::{it.text}"
@@ -68,16 +63,11 @@ class Graph:
 
 def changed_by(edit):
     """The functions that a mutation changes; none where it changes what is outside of any."""
-    crate, changed = edit.split("/")[0], set()
-    file = f"crates/{edit}.edit"
-    for file, old, _ in changes_of(file) if os.path.exists(file) else ():
-        source = text_of(f"crates/{crate}/{file}")
-        line = source.count("\n", 0, source.find(old)) + 1
-        for function in functions_of_file(f"crates/{crate}/{file}"):
-            lines = [it.line for it in [*function.signature, *function.body]]
-            if lines and min(lines) <= line <= max(lines):
-                changed.add(function.name)
-    return changed
+    crate, file = edit.split("/")[0], f"crates/{edit}.edit"
+    changes = changes_of(file) if os.path.exists(file) else ()
+    sources = [(f"crates/{crate}/{file}", old) for file, old, _ in changes]
+    found = (function_at(file, text_of(file).find(old)) for file, old in sources)
+    return {name_of(it) for it in found if it}
 
 
 def functions_named(calls):

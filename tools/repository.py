@@ -14,7 +14,10 @@ import re
 import shutil
 import sys
 from collections import namedtuple
+from functools import lru_cache
 from glob import glob
+
+from lexer import code_of, end_of, shape_of
 
 TOP = os.path.dirname(os.path.dirname(os.path.realpath(__file__)))
 RT = shutil.which("rt") or "/opt/rattle/bin/rt"
@@ -27,13 +30,11 @@ Clause = namedtuple("Clause", "kind name text")
 Owner = namedtuple("Owner", "start end kind heading type trait members")
 Function = namedtuple("Function", "file start end owner name visibility attributes signature clauses body")
 
-COMMENT = re.compile(r"(?m)^[ \t]*//.*$")
 OWNER = re.compile(r"\b(impl|trait)\b(?:<[^{]*?>)?\s+([^{;]*?)\s*(?:where[^{]*)?\{")
 HEADER = re.compile(r"(\bpub\b(?:\([^)]*\))? )?(?:const )?\bfn (\w+)")
 SIGNATURE_END = re.compile(r"\s*(?:\brequires\b|\bensures\b|\{|;(?! \w+\])|\bwhere\b)")
 WHERE = re.compile(r"\s*where\b[^{;]*?(?=\s*(?:\brequires\b|\bensures\b|\{|;))")
 BODY = re.compile(r"\s*\{")
-BRACE = re.compile(r"""[{}]|"(?:\\.|[^"\\])*"|'(?:\\.|[^'\\])'""")
 CLAUSE = re.compile(r"\s*(requires|ensures)\*? ?(\w*) ?\{")
 MEMBER = re.compile(r"\bghost (\w+)(?: =|:) \{")
 GIVEN = re.compile(r"(?m)^pub use [\w:]+?(?:::\{([^}]*)\}|::(\w+)(?: as \w+)?);")
@@ -50,11 +51,6 @@ def go_to_top():
 def text_of(file):
     with open(file, encoding="utf-8") as it:
         return it.read()
-
-
-def code_of(text):
-    """The text with blanks for the lines that are comments, at the same indices."""
-    return COMMENT.sub(lambda it: " " * len(it[0]), text)
 
 
 def anchor_of(heading):
@@ -142,34 +138,22 @@ def changes_of(edit):
             yield file, old, text
 
 
-def end_of(text, start):
-    """The index after the brace that closes the one at `start`. Braces in texts and characters don't count."""
-    depth = 0
-    for it in BRACE.finditer(text, start):
-        depth += {"{": 1, "}": -1}.get(it[0], 0)
-        if depth == 0:
-            return it.end()
-    return len(text)
-
-
 def without_path(name):
-    """The last part of a path, without the parameters of a type."""
-    name = re.split(r"(?<!:):(?!:)", re.sub(r"<.*", "", name.strip().lstrip("&")))[0]
+    """The last part of a path, without a lifetime and the parameters of a type."""
+    name = re.split(r"(?<!:):(?!:)", re.sub(r"<.*|'\w+ ", "", name.strip().lstrip("&")))[0]
     return name.strip().rpartition("::")[2]
 
 
-def owners_in(text):
-    """The impls and the traits of a text without comments."""
-    owners = []
-    for it in OWNER.finditer(text):
-        end = end_of(text, it.end() - 1)
+def owners_in(code):
+    """The impls and the traits of a source without comments."""
+    owners, shape = [], shape_of(code)
+    for it in OWNER.finditer(shape):
+        end = end_of(shape, it.end() - 1)
         of_trait, _, of_type = it[2].rpartition(" for ")
         of_type = without_path(of_type)
         trait = of_type if it[1] == "trait" else without_path(re.sub(r"<.*", "", of_trait)) if of_trait else ""
-        members = [
-            Clause("ghost", found[1], text[found.end():end_of(text, found.end() - 1) - 1])
-            for found in MEMBER.finditer(text, it.end(), end)
-        ]
+        members = [Clause("ghost", found[1], code[found.end():end_of(shape, found.end() - 1) - 1])
+                   for found in MEMBER.finditer(shape, it.end(), end)]
         owners.append(Owner(it.start(), end, it[1], it[2], of_type, trait, members))
     return owners
 
@@ -179,14 +163,14 @@ def owner_at(owners, at):
     return next((owner for owner in reversed(owners) if owner.start < at < owner.end), None)
 
 
-def clauses_behind(text, at):
+def clauses_behind(code, shape, at):
     """The clauses of the function whose signature ends at `at`, and where its body begins."""
-    if where := WHERE.match(text, at):
+    if where := WHERE.match(shape, at):
         at = where.end()
     clauses = []
-    while found := CLAUSE.match(text, at):
-        at = end_of(text, found.end() - 1)
-        clauses.append(Clause(found[1], found[2], text[found.end():at - 1]))
+    while found := CLAUSE.match(shape, at):
+        at = end_of(shape, found.end() - 1)
+        clauses.append(Clause(found[1], found[2], code[found.end():at - 1]))
     return clauses, at
 
 
@@ -203,24 +187,35 @@ def lines_above(text, start):
     return lines
 
 
+@lru_cache(maxsize=None)
 def functions_of(file, text=None):
     """The functions of a source, or of a text in its place: each with where it begins and ends, and the impl or the trait
     that holds it, or None."""
     text = text_of(file) if text is None else text
     code = code_of(text)
-    owners = owners_in(code)
-    for it in HEADER.finditer(code):
-        behind = SIGNATURE_END.search(code, it.end())
+    shape, owners, found = shape_of(code), owners_in(code), []
+    for it in HEADER.finditer(shape):
+        behind = SIGNATURE_END.search(shape, it.end())
         if not behind:
             continue
         start = code.rfind("\n", 0, it.start()) + 1
-        owner = owner_at(owners, it.start())
-        clauses, begin = clauses_behind(code, behind.start())
-        brace = BODY.match(code, begin)
-        end = end_of(code, brace.end() - 1) if brace else begin
+        clauses, begin = clauses_behind(code, shape, behind.start())
+        brace = BODY.match(shape, begin)
+        end = end_of(shape, brace.end() - 1) if brace else begin
         attributes = [line for line in lines_above(text, start) if line.startswith("#[")]
-        yield Function(file, start, end, owner, it[2], (it[1] or "").strip(), attributes, code[it.end():behind.start()], clauses,
-                       code[begin:end])
+        found.append(Function(file, start, end, owner_at(owners, it.start()), it[2], (it[1] or "").strip(), attributes,
+                              code[it.end():behind.start()], clauses, code[begin:end]))
+    return found
+
+
+def function_at(file, at, text=None):
+    """The function around an index of a source, or None."""
+    return next((it for it in functions_of(file, text) if it.start <= at < it.end), None)
+
+
+def name_of(function):
+    """A function's name, with that of the type, or the trait, that holds it."""
+    return f"{function.owner.type}::{function.name}" if function.owner else function.name
 
 
 def names_in(listing):

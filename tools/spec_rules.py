@@ -6,7 +6,7 @@ and no citation of another crate's own parts. tools/borders says what and why.""
 import re
 
 from ledger import PROGRAM
-from repository import crates, functions_of, libraries, sources_of, text_of
+from repository import crates, functions_of, libraries, name_of, sources_of, text_of
 
 # The lemmas outside of files `..Laws`: the file of specs/, the name, or all of them, and what cites it.
 LEMMAS = {
@@ -127,7 +127,7 @@ def wrong_labels():
     for crate in [*libraries(), PROGRAM]:
         for file in (it for it in sources_of(crate) if not it.endswith("laws.rt")):
             for function in functions_of(file):
-                call = f"{function.owner.type}::{function.name}" if function.owner else function.name
                 for label, fault in labels_of(function):
-                    if f"{file.removeprefix('crates/')} {call}: {label}" not in LABELS_OF_TODAY:
-                        yield file, f"{call}: {label}: {fault}"
+                    told = f"{name_of(function)}: {label}"
+                    if f"{file.removeprefix('crates/')} {told}" not in LABELS_OF_TODAY:
+                        yield file, f"{told}: {fault}"

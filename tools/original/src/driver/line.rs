@@ -61,40 +61,34 @@ macro_rules! tuples {
 
 tuples!((), (A), (A, B), (A, B, C), (A, B, C, D));
 
-macro_rules! numbers {
-    ($($number:ty),*) => {
-        $(impl Argument for $number {
-            fn read(line: &mut Line) -> Answer<Self> {
-                line.number()
+/// Says how arguments of these types are read.
+macro_rules! arguments {
+    ($($($kind:ty),+: $read:expr;)*) => {
+        $($(impl crate::line::Argument for $kind {
+            fn read(line: &mut crate::line::Line) -> crate::told::Answer<Self> {
+                let read: fn(&mut crate::line::Line) -> crate::told::Answer<Self> = $read;
+                read(line)
             }
-        })*
+        })+)*
     };
 }
 
-numbers!(u8, u32, u64, usize, i8, i32, i64, i128);
+pub(crate) use arguments;
 
-impl Argument for bool {
-    fn read(line: &mut Line) -> Answer<Self> {
-        line.one_of(&["false", "true"]).map(|place| place == 1)
-    }
+arguments! {
+    u8, u32, u64, usize, i8, i32, i64, i128: |line| line.number();
+    bool: |line| line.one_of(&["false", "true"]).map(|place| place == 1);
 }
 
 /// The bytes of a number in hexadecimal, behind `0x`.
 #[derive(Clone, Debug, PartialEq, Eq, Hash)]
 pub struct Bytes(pub Vec<u8>);
 
-impl Argument for Bytes {
-    fn read(line: &mut Line) -> Answer<Self> {
+arguments! {
+    Bytes: |line| {
         let at = line.at;
-        if !line.eat("0x") {
-            return line.fail(at);
-        }
-        let mut bytes = Vec::new();
-        while let Some(byte) = line.byte() {
-            bytes.push(byte);
-        }
-        Ok(Self(bytes))
-    }
+        if line.eat("0x") { Ok(Bytes(std::iter::from_fn(|| line.byte()).collect())) } else { line.fail(at) }
+    };
 }
 
 /// A line, and where it is read. `sessions` are those that live.
@@ -259,6 +253,11 @@ impl<'a> Line<'a> {
             found.push(read(self)?);
         }
         Ok(found)
+    }
+
+    /// The same, or `-` where there is none.
+    pub fn listed<T>(&mut self, read: impl Fn(&mut Self) -> Answer<T>) -> Answer<Vec<T>> {
+        if self.eat("-") { Ok(Vec::new()) } else { self.several(read) }
     }
 
     /// A part of a type or a message, and the sign behind it.

@@ -10,8 +10,8 @@ use vortex_array::dtype::proto::dtype::{
     Variant,
 };
 
-use crate::line::{Argument, Line, is_blank};
-use crate::told::{Answer, Told, quoted};
+use crate::line::{Argument, Line, arguments, is_blank};
+use crate::told::{Answer, Told, quoted, told};
 use crate::types::PTYPES;
 
 /// Makes the kinds of messages: the word of each, its type, and its fields as they are written: texts first, then messages,
@@ -200,8 +200,8 @@ impl<T: Value> Held for Vec<T> {
     }
 }
 
-impl Argument for DType {
-    fn read(line: &mut Line) -> Answer<Self> {
+arguments! {
+    DType: |line| {
         let kind = KINDS.iter().find(|kind| {
             let behind = line.rest().strip_prefix(**kind);
             behind.is_some_and(|rest| rest.trim_start_matches(is_blank).starts_with('{'))
@@ -211,41 +211,30 @@ impl Argument for DType {
         line.sign("{")?;
         line.blanks();
         Ok(DType { dtype_type: read_fields(word, line)? })
-    }
-}
-
-impl Argument for Field {
-    fn read(line: &mut Line) -> Answer<Self> {
+    };
+    Field: |line| {
         let at = line.at;
         if !line.eat("path") {
             return line.fail(at);
         }
         line.sign("{")?;
-        let mut field_type = None;
-        if line.eat("name") {
-            line.sign(":")?;
-            field_type = Some(FieldType::Name(line.text()?));
-        }
+        let is_named = line.eat("name");
+        let field_type = if is_named { Some(FieldType::Name(String::value("name", line)?)) } else { None };
         line.sign("}")?;
         Ok(Field { field_type })
-    }
+    };
 }
 
-impl Told for &Field {
-    fn told(self) -> Answer {
-        Ok(match &self.field_type {
-            Some(FieldType::Name(name)) => format!("path {{ name: {} }}", quoted(name)),
-            _ => "path {}".to_owned(),
-        })
-    }
-}
-
-impl Told for &DType {
-    fn told(self) -> Answer {
-        let Some(kind) = &self.dtype_type else {
+told! {
+    &Field: |it| Ok(match &it.field_type {
+        Some(FieldType::Name(name)) => format!("path {{ {} }}", name.written("name")?),
+        _ => "path {}".to_owned(),
+    });
+    &DType: |it| {
+        let Some(kind) = &it.dtype_type else {
             return Ok("{}".to_owned());
         };
         let (word, fields) = written_fields(kind)?;
         Ok(if fields.is_empty() { format!("{word} {{}}") } else { format!("{word} {{ {} }}", fields.join(" ")) })
-    }
+    };
 }

@@ -13,7 +13,7 @@ use vortex_error::{VortexResult, vortex_bail};
 use vortex_session::VortexSession;
 
 use crate::errors::refused;
-use crate::line::{Argument, Bytes, Line};
+use crate::line::{Bytes, Line, arguments};
 use crate::told::Answer;
 
 pub const PLUGINS: [&str; 4] = ["x.tag", "x.text", "x.word", "kept"];
@@ -79,12 +79,6 @@ impl Plugin {
     }
 }
 
-impl Argument for Plugin {
-    fn read(line: &mut Line) -> Answer<Self> {
-        line.one_of(&PLUGINS).map(|place| Self(PLUGINS[place]))
-    }
-}
-
 /// The words of a session: its plugins, `strict`, which says nothing, and `unknown`.
 pub struct Session(Vec<&'static str>);
 
@@ -111,17 +105,18 @@ impl Session {
     }
 }
 
-impl Argument for Session {
-    fn read(line: &mut Line) -> Answer<Self> {
+arguments! {
+    Plugin: |line| line.one_of(&PLUGINS).map(|place| Plugin(PLUGINS[place]));
+    Session: |line| {
         if line.eat("@") {
             let name = line.name(false)?;
-            return line.sessions.borrow_mut().there("session", &name).cloned().map(Self);
+            return line.sessions.borrow_mut().there("session", &name).cloned().map(Session);
         }
         let at = line.at;
         let word = |line: &mut Line| {
             let known = ["strict", "unknown"].into_iter().chain(PLUGINS).find(|it| line.eat(it));
             known.map_or_else(|| line.fail(at), Ok)
         };
-        line.several(word).map(Self)
-    }
+        line.several(word).map(Session)
+    };
 }

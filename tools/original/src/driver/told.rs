@@ -42,22 +42,43 @@ impl<T: Told> Told for Option<T> {
     }
 }
 
-macro_rules! as_printed {
-    ($($kind:ty),*) => {
-        $(impl Told for $kind {
-            fn told(self) -> Answer {
-                Ok(self.to_string())
+/// Says how values of these types are told.
+macro_rules! told {
+    ($($($kind:ty),+: $tell:expr;)*) => {
+        $($(impl crate::told::Told for $kind {
+            fn told(self) -> crate::told::Answer {
+                let tell: fn(Self) -> crate::told::Answer = $tell;
+                tell(self)
             }
-        })*
+        })+)*
     };
 }
 
-as_printed!(bool, u8, i8, i32, u64, usize, &str, String, PType, DecimalType);
+pub(crate) use told;
 
-impl Told for Ordering {
-    fn told(self) -> Answer {
-        Ok(format!("{self:?}"))
-    }
+told! {
+    bool, u8, i8, i32, u64, usize, &str, String, PType, DecimalType: |it| Ok(it.to_string());
+    Ordering: |it| Ok(format!("{it:?}"));
+    Nullability: |it| Ok(if it.is_nullable() { "Nullable" } else { "NonNullable" }.to_owned());
+    Bytes: |it| Ok(format!("0x{}", it.0.iter().map(|byte| format!("{byte:02x}")).collect::<String>()));
+    &FieldName: |it| Ok(name(it.as_ref()));
+    &FieldNames: |it| joined(it.iter(), ",");
+    &DecimalDType: |it| Ok(format!("decimal({},{})", it.precision(), it.scale()));
+    &Field: |it| Ok(it.as_name().map_or("[]".to_owned(), name));
+    &FieldPath: |it| if it.is_root() { Ok(".".to_owned()) } else { joined(it.parts(), ".") };
+    &FieldMask: |it| Ok(match it {
+        FieldMask::All => "all".to_owned(),
+        FieldMask::Prefix(of) => format!("prefix {}", of.told()?),
+        FieldMask::Exact(of) => format!("exact {}", of.told()?),
+    });
+    &Arc<DType>: |it| it.as_ref().told();
+    // What a type of one kind holds is told as that type.
+    &StructFields: |it| DType::Struct(it.clone(), Nullability::NonNullable).told();
+    &UnionVariants: |it| DType::Union(it.clone(), Nullability::NonNullable).told();
+    &MapDType: |it| DType::Map(it.clone(), Nullability::NonNullable).told();
+    &ExtDTypeRef: |it| DType::Extension(it.clone()).told();
+    DType, Arc<DType>, DecimalDType, Field, FieldMask, FieldName, FieldNames, FieldPath: |it| (&it).told();
+    StructFields, UnionVariants, MapDType, ExtDTypeRef, pb::DType: |it| (&it).told();
 }
 
 /// A text that a call gives.
@@ -112,36 +133,6 @@ pub fn id(extension: &ExtDTypeRef) -> String {
     bare_or_quoted(extension.id().as_ref(), true)
 }
 
-impl Told for &FieldName {
-    fn told(self) -> Answer {
-        Ok(name(self.as_ref()))
-    }
-}
-
-impl Told for &FieldNames {
-    fn told(self) -> Answer {
-        joined(self.iter(), ",")
-    }
-}
-
-impl Told for Nullability {
-    fn told(self) -> Answer {
-        Ok(if self.is_nullable() { "Nullable" } else { "NonNullable" }.to_owned())
-    }
-}
-
-impl Told for Bytes {
-    fn told(self) -> Answer {
-        Ok(format!("0x{}", self.0.iter().map(|byte| format!("{byte:02x}")).collect::<String>()))
-    }
-}
-
-impl Told for &DecimalDType {
-    fn told(self) -> Answer {
-        Ok(format!("decimal({},{})", self.precision(), self.scale()))
-    }
-}
-
 impl Told for &DType {
     fn told(self) -> Answer {
         let mark = match self {
@@ -184,68 +175,9 @@ impl Told for &DType {
     }
 }
 
-impl Told for &Arc<DType> {
-    fn told(self) -> Answer {
-        self.as_ref().told()
-    }
-}
-
-impl Told for &Field {
-    fn told(self) -> Answer {
-        Ok(self.as_name().map_or("[]".to_owned(), name))
-    }
-}
-
-impl Told for &FieldPath {
-    fn told(self) -> Answer {
-        if self.is_root() { Ok(".".to_owned()) } else { joined(self.parts(), ".") }
-    }
-}
-
 /// Paths in the order in which the console answers them.
 pub fn paths<'a>(paths: impl IntoIterator<Item = &'a FieldPath>) -> Answer {
     let mut paths = paths.into_iter().map(Told::told).collect::<Answer<Vec<String>>>()?;
     paths.sort();
     several(paths)
 }
-
-impl Told for &FieldMask {
-    fn told(self) -> Answer {
-        Ok(match self {
-            FieldMask::All => "all".to_owned(),
-            FieldMask::Prefix(of) => format!("prefix {}", of.told()?),
-            FieldMask::Exact(of) => format!("exact {}", of.told()?),
-        })
-    }
-}
-
-macro_rules! as_types {
-    ($($kind:ty: $make:expr),*) => {
-        $(impl Told for &$kind {
-            fn told(self) -> Answer {
-                $make(self.clone()).told()
-            }
-        })*
-    };
-}
-
-// What a type of one kind holds is told as that type.
-as_types!(
-    StructFields: |it| DType::Struct(it, Nullability::NonNullable),
-    UnionVariants: |it| DType::Union(it, Nullability::NonNullable),
-    MapDType: |it| DType::Map(it, Nullability::NonNullable),
-    ExtDTypeRef: DType::Extension
-);
-
-macro_rules! as_lent {
-    ($($kind:ty),*) => {
-        $(impl Told for $kind {
-            fn told(self) -> Answer {
-                (&self).told()
-            }
-        })*
-    };
-}
-
-as_lent!(DType, Arc<DType>, DecimalDType, Field, FieldMask, FieldName, FieldNames, FieldPath);
-as_lent!(StructFields, UnionVariants, MapDType, ExtDTypeRef, pb::DType);

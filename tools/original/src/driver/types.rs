@@ -11,7 +11,7 @@ use vortex_array::dtype::{
     StructFields, UnionVariants,
 };
 
-use crate::line::{Argument, Bytes, Line, is_blank};
+use crate::line::{Argument, Bytes, Line, arguments, is_blank};
 use crate::told::Answer;
 
 pub const PTYPES: [PType; 11] = {
@@ -28,69 +28,28 @@ fn named<T: ToString, const N: usize>(line: &mut Line, all: [T; N]) -> Answer<T>
     all.into_iter().find(|it| it.to_string() == word).map_or_else(|| line.fail(at), Ok)
 }
 
-impl Argument for PType {
-    fn read(line: &mut Line) -> Answer<Self> {
-        named(line, PTYPES)
-    }
-}
-
-impl Argument for DecimalType {
-    fn read(line: &mut Line) -> Answer<Self> {
-        named(line, DECIMAL_TYPES)
-    }
-}
-
-impl Argument for Nullability {
-    fn read(line: &mut Line) -> Answer<Self> {
-        line.one_of(&["NonNullable", "Nullable"]).map(|place| (place == 1).into())
-    }
-}
-
-impl Argument for FieldName {
-    fn read(line: &mut Line) -> Answer<Self> {
-        line.name(false).map(FieldName::from)
-    }
-}
-
 /// The id of an extension.
 pub struct Id(pub ExtId);
 
-impl Argument for Id {
-    fn read(line: &mut Line) -> Answer<Self> {
-        Ok(Self(ExtId::new(&line.name(true)?)))
-    }
-}
-
-/// Names with commas between them, or `-`.
-impl Argument for FieldNames {
-    fn read(line: &mut Line) -> Answer<Self> {
-        let names = if line.eat("-") { Vec::new() } else { line.several(FieldName::read)? };
-        Ok(names.into())
-    }
-}
-
-/// Tags with commas between them, or `-`.
+/// The tags of a union.
 pub struct Tags(pub Vec<u8>);
 
-impl Argument for Tags {
-    fn read(line: &mut Line) -> Answer<Self> {
-        let tags = if line.eat("-") { Vec::new() } else { line.several(Line::number)? };
-        Ok(Self(tags))
-    }
-}
-
-impl Argument for Field {
-    fn read(line: &mut Line) -> Answer<Self> {
+arguments! {
+    PType: |line| named(line, PTYPES);
+    DecimalType: |line| named(line, DECIMAL_TYPES);
+    Nullability: |line| line.one_of(&["NonNullable", "Nullable"]).map(|place| (place == 1).into());
+    FieldName: |line| line.name(false).map(FieldName::from);
+    Id: |line| line.name(true).map(|id| Id(ExtId::new(&id)));
+    FieldNames: |line| line.listed(FieldName::read).map(FieldNames::from);
+    Tags: |line| line.listed(Line::number).map(Tags);
+    Field: |line| {
         if line.eat("[]") {
             return Ok(Field::ElementType);
         }
         line.eat("$");
         FieldName::read(line).map(Field::Name)
-    }
-}
-
-impl Argument for FieldPath {
-    fn read(line: &mut Line) -> Answer<Self> {
+    };
+    FieldPath: |line| {
         if line.eat(".") {
             return Ok(FieldPath::root());
         }
@@ -99,22 +58,16 @@ impl Argument for FieldPath {
             steps.push(Field::read(line)?);
         }
         Ok(steps.into())
-    }
-}
-
-impl Argument for FieldMask {
-    fn read(line: &mut Line) -> Answer<Self> {
+    };
+    FieldMask: |line| {
         let form = line.one_of(&["all", "prefix", "exact"])?;
         if form == 0 {
             return Ok(FieldMask::All);
         }
         line.blanks();
         FieldPath::read(line).map(if form == 1 { FieldMask::Prefix } else { FieldMask::Exact })
-    }
-}
-
-impl Argument for DecimalDType {
-    fn read(line: &mut Line) -> Answer<Self> {
+    };
+    DecimalDType: |line| {
         let at = line.at;
         if !line.eat("decimal") {
             return line.fail(at);
@@ -125,7 +78,18 @@ impl Argument for DecimalDType {
         let scale = line.number()?;
         line.sign(")")?;
         Ok(DecimalDType::try_new(precision, scale)?)
-    }
+    };
+    // What a type of one kind holds is read as that type.
+    StructFields: |line| inside(line, DType::as_struct_fields_opt);
+    UnionVariants: |line| inside(line, DType::as_union_variants_opt);
+    MapDType: |line| inside(line, DType::as_map_opt);
+    ExtDTypeRef: |line| inside(line, DType::as_extension_opt);
+}
+
+fn inside<T: Clone>(line: &mut Line, held: fn(&DType) -> Option<&T>) -> Answer<T> {
+    let at = line.at;
+    let dtype = DType::read(line)?;
+    held(&dtype).cloned().map_or_else(|| line.fail(at), Ok)
 }
 
 impl Argument for DType {
@@ -226,24 +190,4 @@ fn extension(line: &mut Line, id: &str) -> Answer<DType> {
     line.sign("(")?;
     let storage = inner(line, ")")?;
     Ok(DType::Extension(ForeignExtDType::from_parts(ExtId::new(id), metadata, storage)?))
-}
-
-macro_rules! insides {
-    ($($inside:ty: $take:expr;)*) => {
-        $(impl Argument for $inside {
-            fn read(line: &mut Line) -> Answer<Self> {
-                let at = line.at;
-                let dtype = DType::read(line)?;
-                $take(&dtype).cloned().map_or_else(|| line.fail(at), Ok)
-            }
-        })*
-    };
-}
-
-// What a type of one kind holds, read as that type.
-insides! {
-    StructFields: DType::as_struct_fields_opt;
-    UnionVariants: DType::as_union_variants_opt;
-    MapDType: DType::as_map_opt;
-    ExtDTypeRef: DType::as_extension_opt;
 }

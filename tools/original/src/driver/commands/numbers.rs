@@ -15,7 +15,7 @@ use vortex_array::{
 };
 
 use super::{Console, are_equal, compared, hash_equally, itself, text};
-use crate::line::{Argument, Bytes, Line};
+use crate::line::{Bytes, arguments};
 use crate::told::{Answer, Text, Told, holding, stop};
 
 /// Does this for the native type of this name, as `T`.
@@ -56,11 +56,31 @@ macro_rules! visitors {
 /// The name of a native integer.
 struct Integer(&'static str);
 
-impl Argument for Integer {
-    fn read(line: &mut Line) -> Answer<Self> {
-        let known = ["u8", "u16", "u32", "u64", "i8", "i16", "i32", "i64", "i128"];
-        line.one_of(&known).map(|place| Self(known[place]))
-    }
+/// The type of a native type, or of options and vectors of it.
+struct Native(DType);
+
+const INTEGERS: [&str; 9] = ["u8", "u16", "u32", "u64", "i8", "i16", "i32", "i64", "i128"];
+
+arguments! {
+    Integer: |line| line.one_of(&INTEGERS).map(|place| Integer(INTEGERS[place]));
+    Native: |line| {
+        let mut around = String::new();
+        while let Some(one) = ["Option<", "Vec<"].into_iter().find(|it| line.eat(it)) {
+            around += one;
+        }
+        let at = line.at;
+        let dtype = match line.take(|sign| sign.is_alphanumeric() || "&[]".contains(sign)) {
+            "String" => wrapped::<String>(&around),
+            "&str" => wrapped::<&str>(&around),
+            "&[u8]" => wrapped::<&[u8]>(&around),
+            base => of_named!(base, T => wrapped::<T>(&around), u8 u16 u32 u64 i8 i16 i32 i64 f16 f32 f64 bool),
+        };
+        let dtype = dtype.or_else(|_| line.fail(at))?;
+        for _ in around.matches('<') {
+            line.sign(">")?;
+        }
+        Ok(Native(dtype))
+    };
 }
 
 pub fn add_to(c: &mut Console) {
@@ -143,30 +163,6 @@ fn add_natives(c: &mut Console) {
         };
     }
     c.add("native_dtype", |native: Native| native.0);
-}
-
-/// The type of a native type, or of options and vectors of it.
-struct Native(DType);
-
-impl Argument for Native {
-    fn read(line: &mut Line) -> Answer<Self> {
-        let mut around = String::new();
-        while let Some(one) = ["Option<", "Vec<"].into_iter().find(|it| line.eat(it)) {
-            around += one;
-        }
-        let at = line.at;
-        let dtype = match line.take(|sign| sign.is_alphanumeric() || "&[]".contains(sign)) {
-            "String" => wrapped::<String>(&around),
-            "&str" => wrapped::<&str>(&around),
-            "&[u8]" => wrapped::<&[u8]>(&around),
-            base => of_named!(base, T => wrapped::<T>(&around), u8 u16 u32 u64 i8 i16 i32 i64 f16 f32 f64 bool),
-        };
-        let dtype = dtype.or_else(|_| line.fail(at))?;
-        for _ in around.matches('<') {
-            line.sign(">")?;
-        }
-        Ok(Self(dtype))
-    }
 }
 
 fn wrapped<T: NativeDType>(around: &str) -> Answer<DType> {

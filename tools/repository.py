@@ -4,10 +4,7 @@
 
 """The repository, for the other tools of this folder: crates.txt, where `rt` is, files, functions with their clauses,
 impls and traits with their ghost members, what a library exports, and how a check fails. Nothing is compiled: a source is
-read as text, in the layout of `rt fmt`.
-
-For tools that are no Python, `repository.py rt` prints where `rt` is, `repository.py crates` the crates, and
-`repository.py below NAME` a crate's line of crates.txt and those of the crates that it is over, lowest first.
+read as text, in the layout of `rt fmt`. As a program it prints where `rt` is, for ./test.
 """
 import os
 import re
@@ -246,18 +243,5 @@ def is_public(function, names, modules):
     return is_open and (bool(owner and owner.trait) or function.visibility == "pub")
 
 
-def main():
-    go_to_top()
-    if sys.argv[1:] == ["rt"]:
-        print(RT)
-    elif sys.argv[1:] == ["crates"]:
-        print(*crates(), sep="\n")
-    elif sys.argv[1:2] == ["below"] and set(sys.argv[2:]) <= set(crates()):
-        for crate in below(sys.argv[2:]):
-            print(f"{crate}: {' '.join(dependencies()[crate])}")
-    else:
-        give_up("repository", "takes rt, crates, or below NAME")
-
-
 if __name__ == "__main__":
-    main()
+    print(RT)

@@ -10,16 +10,9 @@ from planted import Planted
 
 
 class Repository(Planted):
-    def test_tells_the_crates_below(self):
-        self.assertEqual(self.run_tool("repository.py", "below", "dtype_paths"),
-                         (0, "dtype_base: \ndtype_types: dtype_base\ndtype_paths: dtype_base dtype_types\n"))
-
     def test_finds_rt_on_the_path(self):
         self.script("rt", "")
-        self.assertEqual(self.run_tool("repository.py", "rt"), (0, f"{self.top}/bin/rt\n"))
-
-    def test_refuses_a_crate_that_is_not_there(self):
-        self.assertEqual(self.run_tool("repository.py", "below", "nothing")[0], 2)
+        self.assertEqual(self.run_tool("repository.py"), (0, f"{self.top}/bin/rt\n"))
 
 
 class Tries(Planted):
@@ -86,11 +79,11 @@ class WrongBodies(Planted):
         self.script("rt", 'echo "fn dtype_paths::field_path::FieldPath::push: proved"')
         status, said = self.run_tool("wrong_bodies", "dtype_paths")
         self.assertIn("NOT REFUSED: push_drops", said)
-        self.assertEqual((status, said.splitlines()[-1]), (1, "0 refused, 1 not refused, 0 to be tried alone"))
+        self.assertEqual((status, said.splitlines()[-1]), (1, "0 refused, 1 not refused, 0 without a result"))
 
     def test_counts_a_mutation_that_is_refused(self):
         self.script("rt", 'grep -q push src/field_path.rt; echo "fn dtype_paths::field_path::FieldPath::push: not proved"; exit 1')
-        self.assertEqual(self.run_tool("wrong_bodies", "dtype_paths")[1].splitlines()[-1], "1 refused, 0 not refused, 0 to be tried alone")
+        self.assertEqual(self.run_tool("wrong_bodies", "dtype_paths")[1].splitlines()[-1], "1 refused, 0 not refused, 0 without a result")
 
     def test_gives_up_on_a_text_that_is_not_there(self):
         self.write("crates/dtype_paths/wrong/push_drops.edit", "file: src/field_path.rt\nold: nowhere\nnew:\n")

@@ -57,18 +57,7 @@ pub enum Naming {
 
 const PREFIXES: [&str; 7] = ["ss_", "ws_", "cs_", "sr_", "c_customer_", "d_date_", "i_item_"];
 
-const WORDS: [&str; 10] = [
-    "sk",
-    "quantity",
-    "list_price",
-    "net_paid",
-    "ext_discount_amt",
-    "order_number",
-    "sales_price",
-    "promo",
-    "ship_cost",
-    "tax",
-];
+const WORDS: &str = "sk quantity list_price net_paid ext_discount_amt order_number sales_price promo ship_cost tax";
 
 const PARTS: [&str; 4] = ["name", "version", "namespace", "instance"];
 
@@ -102,7 +91,7 @@ impl Naming {
 }
 
 fn words(i: usize) -> String {
-    let (prefix, word) = (PREFIXES[i % 7], WORDS[i / 7 % 10]);
+    let (prefix, word) = (PREFIXES[i % 7], WORDS.split(' ').nth(i / 7 % 10).expect("there are ten"));
     match i / 70 {
         0 => format!("{prefix}{word}"),
         number => format!("{prefix}{word}_{number}"),

@@ -110,18 +110,24 @@ impl BucketLoads {
     }
 }
 
-// The most full buckets in a row among those around this one, `MAX_FULL_ROW` on either side.
+// How many full buckets in a row this bucket is among. On either side `MAX_FULL_ROW` of them are counted at most.
 fn full_row(loads: &[u8], bucket: usize) -> usize {
+    // As many on as there are others is one back.
+    let back = loads.len().wrapping_sub(1);
+    let before = full_from(loads, bucket.wrapping_add(back), back);
+    let after = full_from(loads, bucket, 1);
+    before.wrapping_add(after)
+}
+
+// How many buckets from this one on are full, `step` apart and in a row. At most `MAX_FULL_ROW` are counted.
+fn full_from(loads: &[u8], first: usize, step: usize) -> usize {
     let mask = loads.len().wrapping_sub(1);
-    let before = bucket.wrapping_sub(MAX_FULL_ROW);
-    let mut row = 0_usize;
-    let mut longest = 0_usize;
-    for offset in 0..=2 * MAX_FULL_ROW {
-        row = match loads.get(before.wrapping_add(offset) & mask) {
-            Some(load) if *load >= BUCKET_SIZE => row.wrapping_add(1),
-            _ => 0,
-        };
-        longest = longest.max(row);
+    let mut bucket = first;
+    for passed in 0..MAX_FULL_ROW {
+        match loads.get(bucket & mask) {
+            Some(load) if *load >= BUCKET_SIZE => bucket = bucket.wrapping_add(step),
+            _ => return passed,
+        }
     }
-    longest
+    MAX_FULL_ROW
 }

@@ -9,4 +9,4 @@ pub returns-in-Empty-clause-once : goal.returns-in-Empty-clause-once
 returns-in-Empty-clause-once c = rw c.in-Empty.is (IsDistinct-nil same_field)
 
 pub returns-in-One-clause-once : goal.returns-in-One-clause-once
-returns-in-One-clause-once c = rw c.in-One.is (IsDistinct-one same_field c.in-One.step)
+returns-in-One-clause-once c = rw c.in-One.is (IsDistinct-one same_field c.in-One.only.0)

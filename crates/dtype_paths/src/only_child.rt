@@ -1,0 +1,96 @@
+// SPDX-License-Identifier: Apache-2.0
+// SPDX-FileCopyrightText: Copyright the Vortex contributors
+
+ghost use Rattle.std.specs.Prelude.{◌≡◌, ◌∷◌, [], None, Some, if◌then◌else◌};
+ghost use Rattle.dtype_base.specs.Errors.{Makes};
+ghost use Rattle.dtype_paths.specs.private.Children.{entry_node, HasKnownKey};
+ghost use Rattle.dtype_paths.specs.private.StepKeys.{IsKnownKey};
+ghost use Rattle.dtype_paths.specs.Equality.{same_field};
+
+use crate::Field;
+use crate::child_list::ChildList;
+use crate::entry::Entry;
+use crate::step_key::{key_is_exact, known_key, step_key_of};
+use dtype_base::VortexResult;
+use std::alloc::Global;
+use std::marker::Model;
+
+/// The only child of a node, with the key of its step beside it: where the keys differ, or are exact, the name of the
+/// step isn't read, which lies elsewhere in memory.
+#[derive(Drop)]
+pub(crate) struct OnlyChild {
+    key: u64,
+    step: Field,
+    node_index: usize,
+}
+
+impl Model for OnlyChild {
+    ghost use Rattle.std.specs.Prelude.{ℕ};
+    ghost use Rattle.dtype_paths.specs.private.StepKeys.{IsStepKey};
+    ghost use Rattle.dtype_paths.specs.declared.field.Field.{Field};
+
+    ghost Value = { Field × ℕ };
+
+    ghost view = { λ c. (c.step, c.node_index) };
+
+    ghost invariant = { λ c. IsStepKey c.key c.step };
+}
+
+impl OnlyChild {
+    // The child of the step, whose key is made if it isn't known.
+    pub(crate) fn new(step: Field, key: Option<u64>, node_index: usize) -> Self
+        requires { IsKnownKey key step }
+        ensures { result ≡ (step, node_index) }
+    {
+        OnlyChild {
+            key: known_key(key, &step),
+            step,
+            node_index,
+        }
+    }
+
+    pub(crate) fn step(&self) -> &Field
+        ensures { result.now ≡ self.now.0 }
+    {
+        &self.step
+    }
+
+    pub(crate) fn node_index(&self) -> usize
+        ensures { result ≡ self.now.1 }
+    {
+        self.node_index
+    }
+
+    // The entry of the step.
+    pub(crate) fn entry(&self, step: &Field) -> Entry
+        ensures node { entry_node result ≡ (if same_field step.now self.now.0 then Some self.now.1 else None) }
+        ensures key { HasKnownKey result step.now }
+    {
+        let key = step_key_of(step);
+        if self.key == key && (key_is_exact(step) || *step == self.step) {
+            Entry::Occupied(self.node_index)
+        } else {
+            Entry::Vacant(Some(key))
+        }
+    }
+
+    // A list of the child, with room for more.
+    pub(crate) fn to_list(&self, alloc: Global) -> VortexResult<ChildList>
+        ensures { Makes result (λ l. l ≡ self.now ∷ []) }
+    {
+        let mut list = ChildList::with_room(alloc)?;
+        list.push(self.step.try_clone(alloc)?, Some(self.key), self.node_index)?;
+        Ok(list)
+    }
+
+    // A copy: the same step leads to the same node.
+    pub(crate) fn try_clone(&self, alloc: Global) -> VortexResult<Self>
+        ensures { Makes result (λ c. c ≡ self.now) }
+    {
+        Ok(OnlyChild {
+            key: self.key,
+            step: self.step.try_clone(alloc)?,
+            node_index: self.node_index,
+        })
+    }
+}

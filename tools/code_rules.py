@@ -5,8 +5,8 @@
 and what a lookup reads. tools/borders says what and why."""
 from collections import Counter, namedtuple
 
-from lexer import blanks, closing, code_of, is_at, is_name, shape_of, shown, tokens_of
-from repository import functions_of, libraries, name_of, sources_of, text_of
+from lexer import blanks, closing, is_at, is_name, shape_of, shown, tokens_of
+from repository import functions_of, name_of, sources
 
 # The error of a failed allocation, and the errors of std that become it.
 FAILURES = {"OutOfMemory", "AllocError", "AllocFailed"}
@@ -43,20 +43,18 @@ HOLD_NAMES = {"names", "places", "entries"}
 Code = namedtuple("Code", "name signature body")
 
 
-def parts_of(file):
+def parts_of(file, code):
     """The functions of a source, and the tokens outside of them."""
-    functions, outside = [], shape_of(code_of(text_of(file)))
+    functions, outside = [], shape_of(code)
     for it in functions_of(file):
         functions.append(Code(name_of(it), *(tokens_of(shape_of(part)) for part in (it.signature, it.body))))
         outside = outside[:it.start] + blanks(outside[it.start:it.end]) + outside[it.end:]
     return functions, tokens_of(outside)
 
 
-def sources():
+def each():
     """Each source of the libraries: its file, its functions, and the tokens outside of them."""
-    for crate in libraries():
-        for file in sources_of(crate):
-            yield file.removeprefix("crates/"), *parts_of(file)
+    return ((it.file.removeprefix("crates/"), *parts_of(it.file, it.code)) for it in sources())
 
 
 def lines_with(tokens, is_meant):
@@ -93,7 +91,7 @@ def outside_of_items(tokens):
 def failures_by_hand():
     """Each line that names a failed allocation and isn't listed, and each listed line that is gone."""
     found = Counter()
-    for file, functions, outside in sources():
+    for file, functions, outside in each():
         places = [("", outside_of_items(outside)), *((it.name, it.body) for it in functions)]
         found.update((file, name, line) for name, tokens in places for line in lines_with(tokens, is_failure))
     for file, function, line in found - FAILED_LINES:
@@ -117,7 +115,7 @@ def few(number):
 
 def memory_asked_for():
     """Each capacity that could never be had, and each import within a function, which hides what a line means."""
-    for file, functions, _ in sources():
+    for file, functions, _ in each():
         for function in functions:
             where = f"crates/{file}: {function.name}"
             for at, it in enumerate(function.body):
@@ -171,7 +169,7 @@ def imports_error(tokens):
 
 def texts_that_give_up():
     """Each body that makes a `fmt::Error`, or asks a formatter for its flags."""
-    for file, functions, outside in sources():
+    for file, functions, outside in each():
         if imports_error(outside) or makes_error(outside):
             yield f"crates/{file}: outside of any function", "names fmt::Error"
         for function in functions:
@@ -213,7 +211,7 @@ def calls_of(function):
 def compared_beside_the_count():
     """What a lookup reads of names outside of the function that counts, and what that function reads beside the one name
     that it counts."""
-    found = [(file, it) for file in LOOKUP for it in parts_of(f"crates/{file}")[0]]
+    found = [(file, it) for file in LOOKUP for it in parts_of(f"crates/{file}", "")[0]]
     counting = [(file, it) for file, it in found if counts(it)]
     if len(counting) != 1:
         names = " and ".join(it.name for _, it in counting) or "no function"

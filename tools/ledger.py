@@ -10,9 +10,7 @@ from collections import namedtuple
 from glob import glob
 
 import repository
-from repository import (
-    code_of, functions_of, given_out, heads_of, is_public, libraries, owner_at, owners_in, sources_of, text_of,
-)
+from repository import functions_of, given_out, heads_of, is_public, libraries, owner_at, sources, text_of
 
 LEDGER = "docs/PROMISES.md"
 CONSOLE = "crates/dtype_console/stdin"
@@ -66,31 +64,25 @@ def crates_named():
 
 def read_sources():
     """What the libraries have, and the names of the calls that the ledger is to name."""
-    sources, asked, crates = Sources({}, {}, {}, set(), {}), set(), crates_named()
+    found, asked, crates = Sources({}, {}, {}, set(), {}), set(), crates_named()
+    every = list(sources(crates))
     names = {name for crate in crates for name in given_out(crate)[0]}
-    functions = [(crate, it) for crate in crates for file in sources_of(crate) for it in functions_of(file)]
-    traits = {it.owner.type for _, it in functions if it.owner and it.owner.kind == "trait"}
-    for crate, function in functions:
-        if is_law(crate, function):
-            sources.laws.setdefault(law_of(crate, function), []).append(function)
-        elif is_public(function, names, given_out(crate)[1]):
-            sources.calls.setdefault(name_of(function), []).append(function)
-            if is_declared_call(function, traits):
-                asked.add(name_of(function))
-        if function.owner:
-            of_type = name_of(function).rpartition("::")[0]
-            sources.members.setdefault(of_type, set()).update(it.name for it in function.owner.members)
-    for crate in crates:
-        for file in sources_of(crate):
-            sources.constants.update(CONSTANT.findall(text_of(file)))
-            # (a trait may have ghost members and no function)
-            for owner in owners_in(code_of(text_of(file))):
-                if owner.kind == "trait":
-                    sources.members.setdefault(owner.type, set()).update(it.name for it in owner.members)
-            for traits_derived, of_type in DERIVED.findall(text_of(file)):
-                of_type = f"pb::{of_type}" if crate == "dtype_messages" else of_type
-                sources.derived.setdefault(of_type, set()).update(it.strip() for it in traits_derived.split(","))
-    return sources, asked
+    traits = {it.type for source in every for it in source.owners if it.kind == "trait"}
+    for source in every:
+        messages = "pb::" if source.crate == "dtype_messages" else ""
+        for function in functions_of(source.file):
+            if is_law(source.crate, function):
+                found.laws.setdefault(law_of(source.crate, function), []).append(function)
+            elif is_public(function, names, given_out(source.crate)[1]):
+                found.calls.setdefault(name_of(function), []).append(function)
+                if is_declared_call(function, traits):
+                    asked.add(name_of(function))
+        for owner in source.owners:
+            found.members.setdefault(messages + owner.type, set()).update(it.name for it in owner.members)
+        found.constants.update(CONSTANT.findall(source.text))
+        for derived, of_type in DERIVED.findall(source.text):
+            found.derived.setdefault(messages + of_type, set()).update(it.strip() for it in derived.split(","))
+    return found, asked
 
 
 def is_law(crate, function):
@@ -108,7 +100,7 @@ def law_of(crate, function):
     return f"{crate}::{module if module.endswith('laws') else 'laws'}::{function.name}"
 
 
-def promises(function, sources):
+def promises(function, there):
     """Whether a function has a clause, or its impl of a trait of std's says by ghost members what it does. A trait's
     function may leave it to those who fill it in."""
     if any(it.kind == "ensures" for it in function.clauses):
@@ -117,7 +109,7 @@ def promises(function, sources):
         return False
     if function.owner.kind == "impl":
         return True
-    same = (it for found in sources.calls.values() for it in found if it.name == function.name and it.owner)
+    same = (it for found in there.calls.values() for it in found if it.name == function.name and it.owner)
     return any(it.clauses for it in same if it.owner.kind == "impl" and it.owner.trait == function.owner.type)
 
 
@@ -135,34 +127,34 @@ def parts_of(reference):
     return [before + it.strip() + after for it in (braces or "").split(",")], [it.strip() for it in clauses.split(",") if it.strip()]
 
 
-def fault_of_call(name, clauses, sources):
+def fault_of_call(name, clauses, there):
     """What of a reference to a call, a type's ghost members, a constant or a derived trait isn't there, or None."""
     if derived := re.fullmatch(r"derive\((.*)\)", name):
-        gone = [it for it in clauses if it not in sources.derived.get(derived[1], set())]
+        gone = [it for it in clauses if it not in there.derived.get(derived[1], set())]
         return f"{derived[1]} doesn't derive {', '.join(gone)}" if gone or not clauses else None
     if (name.isupper() or name.endswith("!")) and not clauses:
-        return None if name.rstrip("!") in sources.constants else f"there is no constant or macro {name}"
-    if name in sources.calls:
-        if not any(promises(it, sources) for it in sources.calls[name]):
+        return None if name.rstrip("!") in there.constants else f"there is no constant or macro {name}"
+    if name in there.calls:
+        if not any(promises(it, there) for it in there.calls[name]):
             return f"{name} promises nothing"
-        there = clauses_of(sources.calls[name])
-    elif clauses and name in sources.members:
-        there = sources.members[name]
+        there = clauses_of(there.calls[name])
+    elif clauses and name in there.members:
+        there = there.members[name]
     else:
         return f"there is no public call {name}"
     gone = [it for it in clauses if it not in there]
     return f"{name} has no clause {', '.join(gone)}" if gone else None
 
 
-def fault_of_law(name, clauses, sources):
+def fault_of_law(name, clauses, there):
     """What of a reference to a law, or to a lemma for callers, isn't there, or None."""
     if lemma := re.fullmatch(r"(\w+)::(proofs::.*)::([\w-]+)", name):
         file = f"crates/{lemma[1]}/{lemma[2].replace('::', '/')}.antt"
         stated = rf"(?m)^(?:pub )?(?:ruleset |abbrev )?{lemma[3]}\b"
         return None if os.path.exists(file) and re.search(stated, text_of(file)) else f"there is no lemma {name}"
-    if name not in sources.laws:
+    if name not in there.laws:
         return f"there is no law {name}"
-    gone = [it for it in clauses if it not in clauses_of(sources.laws[name])]
+    gone = [it for it in clauses if it not in clauses_of(there.laws[name])]
     return f"{name} has no clause {', '.join(gone)}" if gone else None
 
 
@@ -203,28 +195,23 @@ def fault_of_test(name, golden):
 
 def constants_left_out(named):
     """What is to be said of constants: those that a library exports, or that a public type has."""
-    for crate in libraries():
-        names = given_out(crate)[0]
-        for file in sources_of(crate):
-            text = code_of(text_of(file))
-            for it in PUBLIC_CONSTANT.finditer(text):
-                owner = owner_at(owners_in(text), it.start())
-                is_open = heads_of(owner) & names if owner else it[1] in names or file.endswith("/lib.rt")
-                if is_open and it[1] not in named:
-                    yield f"the constant {it[1]} stands in no line"
+    for source in sources():
+        names = given_out(source.crate)[0]
+        for it in PUBLIC_CONSTANT.finditer(source.code):
+            owner = owner_at(source.owners, it.start())
+            is_open = heads_of(owner) & names if owner else it[1] in names or source.file.endswith("/lib.rt")
+            if is_open and it[1] not in named:
+                yield f"the constant {it[1]} stands in no line"
 
 
 def laws_of_traits():
-    """The public traits of the libraries that have laws, each with the ghost members that are laws."""
-    for crate in libraries():
-        names = given_out(crate)[0]
-        for file in sources_of(crate):
-            for owner in owners_in(code_of(text_of(file))):
-                if owner.kind == "trait" and owner.type in names:
-                    yield owner.type, [it.name for it in owner.members if it.name.endswith("_law")]
+    """The laws of the public traits of the libraries, each with its trait: ghost members."""
+    for source in sources():
+        public = [it for it in source.owners if it.kind == "trait" and it.type in given_out(source.crate)[0]]
+        yield from ((owner.type, it.name) for owner in public for it in owner.members if it.name.endswith("_law"))
 
 
-def left_out(lines, sources, asked):
+def left_out(lines, there, asked):
     """What stands in no line: public calls, their clauses, laws, and must-fail edits."""
     named, clauses_named = set(), set()
     for line in lines:
@@ -234,18 +221,17 @@ def left_out(lines, sources, asked):
             clauses_named.update((name, it) for name in names for it in clauses)
     for name in sorted(asked - named):
         yield f"the call {name} stands in no line"
-    for name in sorted(sources.laws.keys() - named):
+    for name in sorted(there.laws.keys() - named):
         yield f"the law {name} stands in no line"
-    for name, functions in sorted((sources.calls | sources.laws).items()):
+    for name, functions in sorted((there.calls | there.laws).items()):
         clauses = {it.name for function in functions for it in function.clauses if it.kind == "ensures"} - {""}
         for clause in sorted(clauses if name in named else ()):
             if (name, clause) not in clauses_named:
                 yield f"the clause {name}: {clause} stands in no line"
     yield from constants_left_out(named)
-    for name, members in laws_of_traits():
-        for member in members:
-            if (name, member) not in clauses_named:
-                yield f"the law of a trait {name}: {member} stands in no line"
+    for name, law in laws_of_traits():
+        if (name, law) not in clauses_named:
+            yield f"the law of a trait {name}: {law} stands in no line"
     edits = {edit for line in lines for edit in line.edits}
     for crate in crates_named():
         folder = f"crates/{crate}/must-fail"
@@ -256,17 +242,17 @@ def left_out(lines, sources, asked):
 
 def check():
     """How many references the ledger has, and what is wrong with them: the number of the line, or 0, and the fault."""
-    sources, asked = read_sources()
+    there, asked = read_sources()
     lines, faults = lines_of(text_of(LEDGER))
     golden, count = golden_tests(), 0
     for line in lines:
         found = [fault_of_edit(it) for it in line.edits] + [fault_of_test(it, golden) for it in line.tests]
         for references, fault_of in ((line.calls, fault_of_call), (line.laws, fault_of_law)):
             for names, clauses in map(parts_of, references):
-                found += [fault_of(name, clauses, sources) for name in names]
+                found += [fault_of(name, clauses, there) for name in names]
         count += len(found)
         faults += [(line.number, it) for it in found if it]
-    return count, faults + [(0, it) for it in left_out(lines, sources, asked)]
+    return count, faults + [(0, it) for it in left_out(lines, there, asked)]
 
 
 GLOSSARY = "docs/GLOSSARY.md"

@@ -6,9 +6,9 @@ function below it: by the calls in the libraries' sources, where a call of a nam
 each of them."""
 import os
 
-from ledger import LEDGER, PROGRAM, lines_of, parts_of
+from ledger import LEDGER, crates_named, lines_of, parts_of
 from lexer import is_at, shape_of, tokens_of
-from repository import changes_of, function_at, functions_of, libraries, name_of, sources_of, text_of
+from repository import changes_of, function_at, functions_of, name_of, sources, text_of
 
 # What prints, compares, hashes and copies without a call that is written out.
 BEHIND = {"fmt", "eq", "ne", "cmp", "partial_cmp", "hash", "clone", "drop", "from", "try_from", "next", "index", "bitor"}
@@ -23,12 +23,11 @@ class Graph:
 
     def __init__(self):
         self.functions, self.by_name, self.calls = {}, {}, {}
-        for crate in [*libraries(), PROGRAM]:
-            for file in sources_of(crate):
-                for function in functions_of(file):
-                    name = name_of(function)
-                    self.functions.setdefault(name, []).append(tokens_of(shape_of(function.body)))
-                    self.by_name.setdefault(function.name, set()).add(name)
+        for source in sources(crates_named()):
+            for function in functions_of(source.file):
+                name = name_of(function)
+                self.functions.setdefault(name, []).append(tokens_of(shape_of(function.body)))
+                self.by_name.setdefault(function.name, set()).add(name)
 
     def called_by(self, name):
         """The names of what the functions of a name may call; of a trait's call, that of each impl."""

@@ -25,6 +25,7 @@ Clause = namedtuple("Clause", "kind name text")
 # An impl or a trait: the type, the trait that it is of (of an inherent impl empty, of a trait's declaration its own
 # name), its heading as written, and its ghost members.
 Owner = namedtuple("Owner", "start end kind heading type trait members")
+Source = namedtuple("Source", "crate file text code owners")
 Function = namedtuple("Function", "file start end owner name visibility attributes signature clauses body")
 
 OWNER = re.compile(r"\b(impl|trait)\b(?:<[^{]*?>)?\s+([^{;]*?)\s*(?:where[^{]*)?\{")
@@ -121,6 +122,15 @@ def sources_of(crate, parts=("src",), endings=(".rt",)):
     """The files of a crate's folders that end so, in order."""
     files = [it for part in parts for it in glob(f"crates/{crate}/{part}/**/*", recursive=True)]
     return sorted(it for it in files if it.endswith(endings))
+
+
+def sources(names=None):
+    """Each source of these crates, or of the libraries, as it is, without its comments, and its impls and traits."""
+    for crate in names or libraries():
+        for file in sources_of(crate):
+            text = text_of(file)
+            code = code_of(text)
+            yield Source(crate, file, text, code, owners_in(code))
 
 
 def changes_of(edit):

@@ -11,7 +11,7 @@ import re
 
 from examples import examples, is_value
 from ledger import CONSOLE, fault_of_test, is_law, name_of, parts_of
-from repository import crates, functions_of, given_out, is_public, libraries, sources_of, text_of
+from repository import crates, functions_of, given_out, is_public, libraries, sources, sources_of, text_of
 
 RUN_BY = "tools/data/run_by"
 
@@ -23,12 +23,10 @@ def allocates(function):
 def calls_that_allocate():
     """The public calls of the libraries that may fail by an allocation, each with its functions."""
     names, found = {name for crate in libraries() for name in given_out(crate)[0]}, {}
-    for crate in libraries():
-        modules = given_out(crate)[1]
-        for file in sources_of(crate):
-            for function in functions_of(file):
-                if allocates(function) and not is_law(crate, function) and is_public(function, names, modules):
-                    found.setdefault(name_of(function), []).append(function)
+    for crate, file, *_ in sources():
+        for function in functions_of(file):
+            if allocates(function) and not is_law(crate, function) and is_public(function, names, given_out(crate)[1]):
+                found.setdefault(name_of(function), []).append(function)
     return found
 
 

@@ -5,8 +5,8 @@
 and no citation of another crate's own parts. tools/borders says what and why."""
 import re
 
-from ledger import PROGRAM
-from repository import crates, functions_of, libraries, name_of, sources_of, text_of
+from ledger import crates_named
+from repository import crates, functions_of, name_of, sources, sources_of, text_of
 
 # The lemmas outside of files `..Laws`: the file of specs/, the name, or all of them, and what cites it.
 LEMMAS = {
@@ -65,7 +65,7 @@ def lemmas_in(file):
 def lemmas_among_definitions():
     """Each lemma in specs/ of the libraries and the program that is neither in a file `..Laws`, nor in a former, nor
     private, nor listed."""
-    for crate in [*libraries(), PROGRAM]:
+    for crate in crates_named():
         for file in sources_of(crate, ("specs",), (".antt",)):
             if not file.endswith("Laws.antt") and not re.search(r"/specs/(?:formers|private)/", file):
                 for name in lemmas_in(file):
@@ -124,10 +124,8 @@ def labels_of(function):
 
 def wrong_labels():
     """Each clause of the libraries and the program, but of laws, whose label isn't that of its form, and isn't listed."""
-    for crate in [*libraries(), PROGRAM]:
-        for file in (it for it in sources_of(crate) if not it.endswith("laws.rt")):
-            for function in functions_of(file):
-                for label, fault in labels_of(function):
-                    told = f"{name_of(function)}: {label}"
-                    if f"{file.removeprefix('crates/')} {told}" not in LABELS_OF_TODAY:
-                        yield file, f"{told}: {fault}"
+    for function in (it for source in sources(crates_named()) for it in functions_of(source.file)):
+        for label, fault in labels_of(function) if not function.file.endswith("laws.rt") else ():
+            told = f"{name_of(function)}: {label}"
+            if f"{function.file.removeprefix('crates/')} {told}" not in LABELS_OF_TODAY:
+                yield function.file, f"{told}: {fault}"

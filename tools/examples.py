@@ -4,13 +4,10 @@
 """The lines of the console that show each call, for tools/reference: a command's example where the golden tests have it,
 else the first of them that is short, with its answer; and the first that is answered by an error."""
 import re
-from glob import glob
 
-from repository import text_of
+from repository import console_rows, text_of
 
 TRANSCRIPT = "crates/dtype_console/stdout"
-ROW = re.compile(r"(?m)^    Row\((.*)\),$")
-TEXT = re.compile(r'r#"(.*?)"#|"((?:\\.|[^"\\])*)"')
 SHORT = 90
 
 # By topic, the type whose call a command makes where it has the call's name.
@@ -80,14 +77,6 @@ union_new: UnionVariants::new; union_try_new: UnionVariants::try_new
 """
 
 
-def commands():
-    """The commands of the console: name, topic, and the texts of the row after the name and the arguments."""
-    for file in sorted(glob("crates/console_core/src/*.rt")):
-        for row in ROW.findall(text_of(file)):
-            name, _, *rest = [raw or plain.replace('\\"', '"') for raw, plain in TEXT.findall(row)]
-            yield name, file.rpartition("/")[2].removesuffix(".rt"), rest
-
-
 def calls_by_name():
     return {name: calls.split(", ") for name, calls in re.findall(r"(\w+): ([^;\n]+)", CALLS)}
 
@@ -113,7 +102,7 @@ def is_value(answer):
 def chosen(lines, wanted):
     """The line that is wanted, or the first short one that has a value, and the first short one that has an error."""
     short = [it for it in lines if len(it[0]) + len(it[1]) <= SHORT]
-    first = [it for it in lines if it[0] in wanted] or [it for it in short if is_value(it[1])] or short
+    first = [it for it in lines if it[0] == wanted] or [it for it in short if is_value(it[1])] or short
     errors = [it for it in short if is_error(it[1])]
     return list(dict.fromkeys(first[:1] + errors[:1]))
 
@@ -121,12 +110,12 @@ def chosen(lines, wanted):
 def examples(names):
     """By the name of a call, of those given, the lines of the console that show it; and the commands that show none."""
     lines, calls, found, rest = answered(), calls_by_name(), {}, []
-    for name, topic, texts in commands():
-        shown = chosen(lines.get(name, []), [f"> {name} {it}".strip() for it in texts or [""]])
-        owner = OWNERS.get(topic, "")
-        own = [it for it in calls.get(name, [f"{owner}::{name}"]) if it in names]
+    for row in console_rows():
+        shown = chosen(lines.get(row.name, []), f"> {row.name} {row.example}".strip())
+        owner = OWNERS.get(row.file.rpartition("/")[2].removesuffix(".rt"), "")
+        own = [it for it in calls.get(row.name, [f"{owner}::{row.name}"]) if it in names]
         if not own or not shown:
-            rest.append(name)
+            rest.append(row.name)
         for call in own:
             found[call] = found.get(call, []) + [it for it in shown if it not in found.get(call, [])]
     return found, rest

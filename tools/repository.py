@@ -25,6 +25,8 @@ Clause = namedtuple("Clause", "kind name text")
 # An impl or a trait: the type, the trait that it is of (of an inherent impl empty, of a trait's declaration its own
 # name), its heading as written, and its ghost members.
 Owner = namedtuple("Owner", "start end kind heading type trait members")
+# A command of the console.
+Row = namedtuple("Row", "file name arguments example answer errors")
 Source = namedtuple("Source", "crate file text code owners")
 Function = namedtuple("Function", "file start end owner name visibility attributes signature clauses body")
 
@@ -35,6 +37,8 @@ WHERE = re.compile(r"\s*where\b[^{;]*?(?=\s*(?:\brequires\b|\bensures\b|\{|;))")
 BODY = re.compile(r"\s*\{")
 CLAUSE = re.compile(r"\s*(requires|ensures)\*? ?(\w*) ?\{")
 MEMBER = re.compile(r"\bghost (\w+)(?: =|:) \{")
+ROW = re.compile(r"(?m)^    Row\((.*)\),$")
+TEXT = re.compile(r'r#"(.*?)"#|"((?:\\.|[^"\\])*)"')
 GIVEN = re.compile(r"(?m)^pub use [\w:]+?(?:::\{([^}]*)\}|::(\w+)(?: as \w+)?);")
 # The ghost members that say how a law is proved or how a model is kept.
 KEPT = re.compile(r"laws|respects_eq|typed|lawful|\w+_law|invariant|coded|view|inverse")
@@ -131,6 +135,14 @@ def sources(names=None):
             text = text_of(file)
             code = code_of(text)
             yield Source(crate, file, text, code, owners_in(code))
+
+
+def console_rows():
+    """The rows of the console's tables, each with its file; the errors are those that its commands' answers may be."""
+    for file in sorted(glob("crates/console_core/src/*.rt")):
+        for row in ROW.findall(text_of(file)):
+            texts = [raw or plain.replace('\\"', '"') for raw, plain in TEXT.findall(row)]
+            yield Row(file, *texts[:5])
 
 
 def changes_of(edit):

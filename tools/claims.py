@@ -2,9 +2,9 @@
 # SPDX-FileCopyrightText: Copyright the Vortex contributors
 
 """Checks what pages say in numbers, for tools/pages: that docs/reference is made of these sources, that docs/TRUST.md
-tells the lines of definitions, the golden tests and the mutations within a tenth, that the summary of docs/BENCHMARKS.md is
-of its table (speed.py), that the headings of links and the commands and flags that pages show are there, and that the
-console tells the newest version of CHANGELOG.md."""
+tells the lines of definitions, the golden tests and the mutations within a tenth, that the summary of
+docs/BENCHMARKS.md is of its table (speed.py), that the headings of links and the commands and flags that pages show are
+there, and that the console tells the newest version of CHANGELOG.md."""
 import os
 import re
 import subprocess
@@ -78,8 +78,8 @@ PROGRAMS = {"./console": ("tools/run_program", "crates/dtype_console/src/*.rt"),
 
 
 def wrong_shown(pages):
-    """The commands of this repository that a page shows, in blocks of sh and in backquotes, which aren't there, and their
-    flags that no source of theirs has."""
+    """The commands of this repository that a page shows, in blocks of sh and in backquotes, which aren't there, and
+    their flags that no source of theirs has."""
     for page in pages:
         text = text_of(page)
         shown = [*re.findall(r"(?ms)^```sh\n(.*?)^```$", text), *re.findall(r"`((?:\./|tools/)[^`\n]+)`", text)]

@@ -1,8 +1,8 @@
 # SPDX-License-Identifier: Apache-2.0
 # SPDX-FileCopyrightText: Copyright the Vortex contributors
 
-"""What no contract says of the libraries' code, checked token by token: when an allocation failed, when a text gives up,
-and what a lookup reads. tools/borders says what and why."""
+"""What no contract says of the libraries' code, checked token by token: when an allocation failed, when a text gives
+up, and what a lookup reads. tools/borders says what and why."""
 from collections import Counter, namedtuple
 
 from lexer import blanks, closing, is_at, is_name, shape_of, shown, tokens_of
@@ -77,8 +77,8 @@ def items_of(tokens, word, end):
 
 
 def outside_of_items(tokens):
-    """The tokens outside of functions that are in no heading of an impl, nor in an import that gives the failures of std
-    their own names."""
+    """The tokens outside of functions that are in no heading of an impl, nor in an import that gives the failures of
+    std their own names."""
     left_out = set()
     for begin, end in [*items_of(tokens, "use", ";"), *items_of(tokens, "impl", "{")]:
         item = tokens[begin:end]
@@ -101,7 +101,7 @@ def failures_by_hand():
 
 
 def asks_too_much(tokens):
-    """Whether a capacity may be more than what is at hand has: by a great number, a product, a power or a complement."""
+    """Whether a capacity may be more than what is at hand: by a great number, a product, a power or a complement."""
     return any(
         it.text in ("MAX", "!", "*", "<", "pow", "wrapping_sub") or (it.text[0].isdigit() and not few(it.text))
         for it in tokens
@@ -209,8 +209,8 @@ def calls_of(function):
 
 
 def compared_beside_the_count():
-    """What a lookup reads of names outside of the function that counts, and what that function reads beside the one name
-    that it counts."""
+    """What a lookup reads of names outside of the function that counts, and what that function reads beside the one
+    name that it counts."""
     found = [(file, it) for file in LOOKUP for it in parts_of(f"crates/{file}", "")[0]]
     counting = [(file, it) for file, it in found if counts(it)]
     if len(counting) != 1:

@@ -1,8 +1,8 @@
 # SPDX-License-Identifier: Apache-2.0
 # SPDX-FileCopyrightText: Copyright the Vortex contributors
 
-"""The lines of the console that show each call, for tools/reference: a command's example where the golden tests have it,
-else the first of them that is short, with its answer; and the first that is answered by an error."""
+"""The lines of the console that show each call, for tools/reference: a command's example where the golden tests have
+it, else the first of them that is short, with its answer; and the first that is answered by an error."""
 import re
 
 from repository import console_rows, text_of

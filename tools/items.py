@@ -11,9 +11,9 @@ from repository import (
     KEPT, code_of, end_of, functions_of, given_out, heads_of, libraries, lines_above, owner_at, owners_in, sources_of, text_of,
 )
 
-# `kind` is struct, enum, trait, fn, const, macro or impl (of a trait); `name` is as in a path. `text` is the comment without
-# its errors, a list of paragraphs. `parts` are variants, fields or associated items, each with its comment; `members`
-# the calls of a trait or of its impl.
+# `kind` is struct, enum, trait, fn, const, macro or impl (of a trait); `name` is as in a path. `text` is the comment
+# without its errors, a list of paragraphs. `parts` are variants, fields or associated items, each with its comment;
+# `members` the calls of a trait or of its impl.
 Item = namedtuple("Item", "kind name file text errors signature clauses derived parts members")
 
 TYPE = re.compile(r"(?m)^pub (struct|enum|trait) (\w+)[^{;(]*")

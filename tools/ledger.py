@@ -2,8 +2,8 @@
 # SPDX-FileCopyrightText: Copyright the Vortex contributors
 
 """Checks the ledger docs/PROMISES.md against the sources: each clause, law, mutation and test that it names is there,
-and one of its lines names each public call, clause and law of the libraries, and each mutation of the gate. The ledger's
-first lines say how a line names them."""
+and one of its lines names each public call, clause and law of the libraries, and each mutation of the gate. The
+ledger's first lines say how a line names them."""
 import os
 import re
 from collections import namedtuple
@@ -177,7 +177,7 @@ def golden_tests():
 
 
 def fault_of_test(name, golden):
-    """Whether a test isn't there: `console: comment`, the path of a test function, or `program: line that it writes`."""
+    """Whether a test isn't there: `console: comment`, the path of a test function, or `program: line written`."""
     if name.startswith("console: "):
         return None if name.removeprefix("console: ") in golden else f"there is no golden test '{name[9:]}'"
     if program := re.fullmatch(r"(\w+): (.+)", name):

@@ -3,8 +3,8 @@
 # SPDX-FileCopyrightText: Copyright the Vortex contributors
 
 """The repository, for the other tools of this folder: crates.txt, where `rt` is, files, functions with their clauses,
-impls and traits with their ghost members, what a library exports, and how a check fails. Nothing is compiled: a source is
-read as text, in the layout of `rt fmt`. As a program it prints where `rt` is, for ./test.
+impls and traits with their ghost members, what a library exports, and how a check fails. Nothing is compiled: a source
+is read as text, in the layout of `rt fmt`. As a program it prints where `rt` is, for ./test.
 """
 import os
 import re
@@ -208,8 +208,8 @@ def lines_above(text, start):
 
 @lru_cache(maxsize=None)
 def functions_of(file, text=None):
-    """The functions of a source, or of a text in its place: each with where it begins and ends, and the impl or the trait
-    that holds it, or None."""
+    """The functions of a source, or of a text in its place: each with where it begins and ends, and the impl or the
+    trait that holds it, or None."""
     text = text_of(file) if text is None else text
     code = code_of(text)
     shape, owners, found = shape_of(code), owners_in(code), []

@@ -1,12 +1,12 @@
 # SPDX-License-Identifier: Apache-2.0
 # SPDX-FileCopyrightText: Copyright the Vortex contributors
 
-"""Checks for tools/pages that something runs each public call that allocates: a contract lets a call return OutOfMemory for
-any input, so only a run shows that it succeeds. It is a golden test that docs/reference shows beside the call (examples.py),
-or what tools/data/run_by names.
+"""Checks for tools/pages that something runs each public call that allocates: a contract lets a call return OutOfMemory
+for any input, so only a run shows that it succeeds. It is a golden test that docs/reference shows beside the call
+(examples.py), or what tools/data/run_by names.
 
-A line there names calls, and behind a colon a command of the console with golden tests (`console` alone where it has the
-call's name), a test by its path, or another call that is run, in whose crate the call is made."""
+A line there names calls, and behind a colon a command of the console with golden tests (`console` alone where it has
+the call's name), a test by its path, or another call that is run, in whose crate the call is made."""
 import re
 
 from examples import examples, is_value
@@ -73,4 +73,5 @@ def check():
     console = [text_of(file) for crate in crates() if "console" in crate for file in sources_of(crate)]
     found = [(n, call, fault_of_run(call, runner, allocating, run, commands, console)) for n, call, runner in lines]
     faults = [(f"{RUN_BY}:{number}", f"{call}: {fault}") for number, call, fault in found if fault]
-    return len(allocating), faults + [(RUN_BY, f"{call}, which allocates, isn't run") for call in sorted(allocating.keys() - run)]
+    faults += [(RUN_BY, f"{call}, which allocates, isn't run") for call in sorted(allocating.keys() - run)]
+    return len(allocating), faults

@@ -123,7 +123,7 @@ def labels_of(function):
 
 
 def wrong_labels():
-    """Each clause of the libraries and the program, but of laws, whose label isn't that of its form, and isn't listed."""
+    """Each clause of the libraries and the program, but of laws, whose label isn't that of its form, nor listed."""
     for function in (it for source in sources(crates_named()) for it in functions_of(source.file)):
         for label, fault in labels_of(function) if not function.file.endswith("laws.rt") else ():
             told = f"{name_of(function)}: {label}"

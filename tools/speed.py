@@ -2,8 +2,8 @@
 # SPDX-License-Identifier: Apache-2.0
 # SPDX-FileCopyrightText: Copyright the Vortex contributors
 
-"""The operations of the summary of docs/BENCHMARKS.md: the cases of docs/benchmarks.csv that each is of, and the least and
-the greatest ratio of their times to the Rust's. `tools/speed.py` writes the summary; tools/pages checks it."""
+"""The operations of the summary of docs/BENCHMARKS.md: the cases of docs/benchmarks.csv that each is of, and the least
+and the greatest ratio of their times to the Rust's. `tools/speed.py` writes the summary; tools/pages checks it."""
 import csv
 import re
 from fnmatch import fnmatchcase

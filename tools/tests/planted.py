@@ -1,8 +1,8 @@
 # SPDX-License-Identifier: Apache-2.0
 # SPDX-FileCopyrightText: Copyright the Vortex contributors
 
-"""A small repository in a folder of its own, with a copy of the tools, in which a test plants a fault. small.txt has its
-files, each below a line `=== PATH`, which may name several."""
+"""A small repository in a folder of its own, with a copy of the tools, in which a test plants a fault. small.txt has
+its files, each below a line `=== PATH`, which may name several."""
 import os
 import re
 import shutil
@@ -53,8 +53,8 @@ class Planted(unittest.TestCase):
     def run_tool(self, tool, *arguments, given=""):
         """The status of a tool, and what it writes."""
         environment = {**os.environ, "PATH": f"{self.top}/bin:{os.environ['PATH']}", "PYTHONDONTWRITEBYTECODE": "1"}
-        ran = subprocess.run([f"{self.top}/tools/{tool}", *arguments], input=given, env=environment, text=True, check=False,
-                             stdout=subprocess.PIPE, stderr=subprocess.STDOUT, timeout=300)
+        ran = subprocess.run([f"{self.top}/tools/{tool}", *arguments], input=given, env=environment, text=True,
+                             check=False, stdout=subprocess.PIPE, stderr=subprocess.STDOUT, timeout=300)
         return ran.returncode, ran.stdout
 
     def told(self, tool, *arguments):
@@ -69,8 +69,8 @@ class Planted(unittest.TestCase):
         self.assertEqual(status, 1, said)
 
     def assert_each_told(self, tool, changes):
-        """That the tool tells each of these changes, made alone: a file, what stands there, what stands there instead, and
-        what is told."""
+        """That the tool tells each of these changes, made alone: a file, what stands there, what stands there instead,
+        and what is told."""
         for file, old, new, text in changes:
             with self.subTest(text):
                 before = self.read(file)

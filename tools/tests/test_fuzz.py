@@ -11,7 +11,8 @@ class Fuzz(Planted):
     def setUp(self):
         super().setUp()
         rows = [("type", "T"), ("find", "NAME S"), ("contains", "PATH PATH.."), ("read", "SESSION MSG")]
-        self.write("crates/console_core/src/table.rt", "".join(f'    Row("{it}", "{forms}", "", "", "", X),\n' for it, forms in rows))
+        table = "".join(f'    Row("{it}", "{forms}", "", "", "", X),\n' for it, forms in rows)
+        self.write("crates/console_core/src/table.rt", table)
         self.script("driver", "sed 's/^/answer of /'")
 
     def fuzz(self, console, count="300"):

@@ -190,7 +190,8 @@ class Faults(Planted):
             self.write(f"crates/dtype_demo/{file}", text)
         self.write("crates/dtype_demo/out/dtype_demo", "#!/bin/sh\n", 0o755)
         told = "\n".join(self.told("faults"))
-        for fault in ("the stored run: status 0", "standard input is closed: status 0", "an input of 7 bytes: status 0", "no allocation fails: it made no allocation",
+        for fault in ("the stored run: status 0", "standard input is closed: status 0", "an input of 7 bytes: status 0",
+                      "no allocation fails: it made none",
                       "names, on a stack of ", "equal ends, in 2 seconds: status 0", "memory of 4194304 KB: status 0"):
             self.assertIn(f"faults: {fault}", told)
 

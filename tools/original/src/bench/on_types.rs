@@ -41,8 +41,8 @@ fn merged_by_hand(a: &DType, b: &DType) -> usize {
     black_box(merged(a, b)).is_some().into()
 }
 
-/// The least type that takes the values of both, or `None` where they differ in more than nullability. A copy, where one
-/// of the two is that type.
+/// The least type that takes the values of both, or `None` where they differ in more than nullability. A copy, where
+/// one of the two is that type.
 fn merged(a: &DType, b: &DType) -> Option<DType> {
     if a == b {
         return Some(a.clone());

@@ -14,8 +14,8 @@ use crate::line::{Argument, Line, arguments, is_blank};
 use crate::told::{Answer, Told, quoted, told};
 use crate::types::PTYPES;
 
-/// Makes the kinds of messages: the word of each, its type, and its fields as they are written: texts first, then messages,
-/// then the others, whether it is nullable at last.
+/// Makes the kinds of messages: the word of each, its type, and its fields as they are written: texts first, then
+/// messages, then the others, whether it is nullable at last.
 macro_rules! kinds {
     ($($word:literal $kind:ident { $($field:ident),* })*) => {
         const KINDS: &[&str] = &[$($word),*];

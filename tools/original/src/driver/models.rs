@@ -35,8 +35,8 @@ fn is_marked(dtype: &DType) -> bool {
     !matches!(dtype, DType::Null | DType::Extension(_)) && dtype.is_nullable()
 }
 
-/// The original looks at the outer nullability of the first type alone. Here a is a subset of b where they are equal but
-/// for nullabilities and b is nullable wherever a is: then each value of a is a value of b.
+/// The original looks at the outer nullability of the first type alone. Here a is a subset of b where they are equal
+/// but for nullabilities and b is nullable wherever a is: then each value of a is a value of b.
 pub fn is_subset(a: &DType, b: &DType) -> bool {
     fn holds(a: &DType, b: &DType) -> bool {
         (!is_marked(a) || is_marked(b)) && parts(a).iter().zip(&parts(b)).all(|(a, b)| holds(a, b))
@@ -44,9 +44,10 @@ pub fn is_subset(a: &DType, b: &DType) -> bool {
     a.eq_ignore_nullability(b) && holds(a, b)
 }
 
-/// The original multiplies unchecked, and panics where a sum is too large. Here a variable part that the size needs gives
-/// none, at size 0 too; else a width of the whole or of a part beyond `usize` is the error 19. Widths of types without
-/// parts are the original's, and so is each answer where nothing, no sum before a variable field among it, is too wide.
+/// The original multiplies unchecked, and panics where a sum is too large. Here a variable part that the size needs
+/// gives none, at size 0 too; else a width of the whole or of a part beyond `usize` is the error 19. Widths of types
+/// without parts are the original's, and so is each answer where nothing, no sum before a variable field among it, is
+/// too wide.
 pub fn element_size(dtype: &DType) -> Answer<Option<usize>> {
     fn width(dtype: &DType, widest: &mut u128) -> Option<u128> {
         let total = match dtype {
@@ -106,8 +107,8 @@ pub fn can_be_nonnullable(dtype: &DType) -> bool {
     panic::catch_unwind(AssertUnwindSafe(|| dtype.as_nonnullable())).is_ok()
 }
 
-/// The original's cover is a loop over pairs of paths. Here it visits each distinct beginning of the paths that it gives
-/// once, the root among them, and nothing below them.
+/// The original's cover is a loop over pairs of paths. Here it visits each distinct beginning of the paths that it
+/// gives once, the root among them, and nothing below them.
 pub fn visits(cover: &[FieldPath]) -> usize {
     let beginnings = cover.iter().flat_map(|path| (1..=path.parts().len()).map(|end| &path.parts()[..end]));
     beginnings.collect::<HashSet<_>>().len() + 1
@@ -115,8 +116,8 @@ pub fn visits(cover: &[FieldPath]) -> usize {
 
 /// The original looks at one name after the other, and counts nothing. Here a search by halves compares the same number
 /// of names for every name, which the definition `comparisons` of `dtype_base/specs/Comparisons.antt` fixes: the binary
-/// digits of the number of names less one tell which of them is left, and one comparison more whether it is the one that
-/// is looked for.
+/// digits of the number of names less one tell which of them is left, and one comparison more whether it is the one
+/// that is looked for.
 pub fn comparisons(count: usize) -> u32 {
     count.checked_sub(1).map_or(0, |most| usize::BITS - most.leading_zeros() + 1)
 }
@@ -190,8 +191,8 @@ pub fn bound(rule: fn(bool, bool) -> bool, a: &DType, b: &DType) -> Answer<Optio
     a.eq_ignore_nullability(b).then(|| marked(rule, a, b)).transpose()
 }
 
-// Projections: the positions to which paths lead are marked, and the type is rebuilt from those that are at, above or below
-// a mark.
+// Projections: the positions to which paths lead are marked, and the type is rebuilt from those that are at, above or
+// below a mark.
 
 /// The parts of a type that a path can step into, in order, each with its step.
 fn steps_into(dtype: &DType) -> Vec<(Field, DType)> {

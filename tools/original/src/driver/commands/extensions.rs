@@ -79,8 +79,8 @@ fn add_sessions(c: &mut Console) {
     });
 }
 
-/// The extension that a session makes of its parts; of an id that it doesn't know by a message, in which no plugin is to
-/// read the storage's extensions.
+/// The extension that a session makes of its parts; of an id that it doesn't know by a message, in which no plugin is
+/// to read the storage's extensions.
 fn deserialized(session: &Session, id: ExtId, metadata: Vec<u8>, storage: DType) -> Answer<DType> {
     if let Some(plugin) = session.made().dtypes().registry().get(&id) {
         return Ok(DType::Extension(plugin.deserialize(&metadata, storage)?));

@@ -17,7 +17,8 @@ from repository import anchor_of, libraries, sources_of, text_of, version
 TRUST = "docs/TRUST.md"
 TOLD = {
     r"([\d,]+) golden answers": r"(?m)^> ",
-    r"([\d,]+), of projections, cursors, merged types": r"(?m)^> (?:project_paths|(?:merge|intersect)_nullability|set \S+ below) ",
+    r"([\d,]+), of projections, cursors, merged types":
+        r"(?m)^> (?:project_paths|(?:merge|intersect)_nullability|set \S+ below) ",
 }
 READ_FIRST = re.compile(r"(?m)^\| (\[`.*?) \| (\d+) \|")
 LINK = re.compile(r"\]\((?!\w+:)((?:[\w./-]*\.\w+)?)(?:#([\w-]+))?\)")
@@ -111,4 +112,5 @@ def stale_reference():
 def faults(pages):
     """Each page with what is wrong on it."""
     pages = [*pages, *sorted(glob("docs/reference/*.md"))]
-    return [*wrong_lines(), *wrong_counts(), *wrong_shown(pages), *dead_links(pages), *stale_reference(), *wrong_version(), *speed.faults()]
+    return [*wrong_lines(), *wrong_counts(), *wrong_shown(pages), *dead_links(pages), *stale_reference(),
+            *wrong_version(), *speed.faults()]

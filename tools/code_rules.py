@@ -26,8 +26,8 @@ MOST_CAPACITY = 16
 # How a body that prints could fail, or know how it is to print, other than by what it passes on with `?`.
 FAILS = {"Err", "Error", "Default", "default", "map_err", "ok_or", "ok_or_else", "unwrap_err", "Formatter"}
 FLAGS = {
-    "width", "precision", "alternate", "fill", "align", "sign", "sign_plus", "sign_minus", "sign_aware_zero_pad", "flags",
-    "pad", "pad_integral", "options", "with_options", "debug_lower_hex", "debug_upper_hex",
+    "width", "precision", "alternate", "fill", "align", "sign", "sign_plus", "sign_minus", "sign_aware_zero_pad",
+    "flags", "pad", "pad_integral", "options", "with_options", "debug_lower_hex", "debug_upper_hex",
 }
 
 # The files from a lookup's call to its search; the calls that take names and read none; the names of what holds them.
@@ -82,7 +82,8 @@ def outside_of_items(tokens):
     left_out = set()
     for begin, end in [*items_of(tokens, "use", ";"), *items_of(tokens, "impl", "{")]:
         item = tokens[begin:end]
-        renamed = any(is_failure(it) and (it.text == "OutOfMemory" or is_at(item, at + 1, "as")) for at, it in enumerate(item))
+        failures = [at for at, it in enumerate(item) if is_failure(it)]
+        renamed = any(item[at].text == "OutOfMemory" or is_at(item, at + 1, "as") for at in failures)
         if not renamed:
             left_out.update(range(begin, end))
     return [it for at, it in enumerate(tokens) if at not in left_out]
@@ -94,10 +95,10 @@ def failures_by_hand():
     for file, functions, outside in each():
         places = [("", outside_of_items(outside)), *((it.name, it.body) for it in functions)]
         found.update((file, name, line) for name, tokens in places for line in lines_with(tokens, is_failure))
-    for file, function, line in found - FAILED_LINES:
-        yield f"crates/{file}: {function or 'outside of any function'}", f"OutOfMemory where no allocation failed: {line}"
-    for file, function, line in FAILED_LINES - found:
-        yield f"crates/{file}: {function or 'outside of any function'}", f"there is no line any more: {line}"
+    for fault, lines in (("OutOfMemory where no allocation failed", found - FAILED_LINES),
+                         ("there is no line any more", FAILED_LINES - found)):
+        for file, function, line in lines:
+            yield f"crates/{file}: {function or 'outside of any function'}", f"{fault}: {line}"
 
 
 def asks_too_much(tokens):
@@ -153,7 +154,8 @@ def prints(function):
     """Whether a function writes a text: it has a formatter, a writer, or fmt's result."""
     names = {it.text for it in function.signature}
     at = next((i for i, it in enumerate(function.signature) if it.text == "fmt"), None)
-    return "Formatter" in names or "Write" in names or at is not None and is_at(function.signature, at, "fmt", "::", "Result")
+    is_result = at is not None and is_at(function.signature, at, "fmt", "::", "Result")
+    return "Formatter" in names or "Write" in names or is_result
 
 
 def makes_error(tokens):
@@ -191,7 +193,8 @@ def names_read_beside(function):
     """The places of a body on the way where names, or the keys of their index, are more than passed on."""
     body = function.body
     for at, it in enumerate(body):
-        passed = any(is_at(body, at + 1, *after) for after in ((",",), (")",), (".", "as_slice", "(", ")", ","), (".", "find_counted", "(")))
+        passed_on = ((",",), (")",), (".", "as_slice", "(", ")", ","), (".", "find_counted", "("))
+        passed = any(is_at(body, at + 1, *after) for after in passed_on)
         if it.text == "names" and not passed or it.text == "key" and is_at(body, at - 1, "."):
             yield shown(body[max(at - 3, 0):at + 5])
 

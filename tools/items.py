@@ -8,7 +8,8 @@ import re
 from collections import namedtuple
 
 from repository import (
-    KEPT, code_of, end_of, functions_of, given_out, heads_of, libraries, lines_above, owner_at, owners_in, sources_of, text_of,
+    KEPT, code_of, end_of, functions_of, given_out, heads_of, libraries, lines_above, owner_at, owners_in, sources_of,
+    text_of,
 )
 
 # `kind` is struct, enum, trait, fn, const, macro or impl (of a trait); `name` is as in a path. `text` is the comment

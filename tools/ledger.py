@@ -124,7 +124,8 @@ def parts_of(reference):
     """The names of a reference, with braces written out, and its clauses."""
     name, _, clauses = reference.partition(": ")
     before, braces, after = re.fullmatch(r"([^{]*)(?:\{(.*)\})?(.*)", name).groups()
-    return [before + it.strip() + after for it in (braces or "").split(",")], [it.strip() for it in clauses.split(",") if it.strip()]
+    names = [before + it.strip() + after for it in (braces or "").split(",")]
+    return names, [it.strip() for it in clauses.split(",") if it.strip()]
 
 
 def fault_of_call(name, clauses, there):

@@ -11,7 +11,7 @@ from lexer import is_at, shape_of, tokens_of
 from repository import changes_of, function_at, functions_of, name_of, sources, text_of
 
 # What prints, compares, hashes and copies without a call that is written out.
-BEHIND = {"fmt", "eq", "ne", "cmp", "partial_cmp", "hash", "clone", "drop", "from", "try_from", "next", "index", "bitor"}
+BEHIND = set("fmt eq ne cmp partial_cmp hash clone drop from try_from next index bitor".split())
 # The mutations that are of nothing below the calls of their line, and why they stand there.
 EXCEPTED = {
     "vortex_dtype/wrong/unknown_ids_always_kept": "a session shows that it rejects unknown ids by `deserialize`",
@@ -86,5 +86,6 @@ def check():
             changed = changed_by(edit)
             if changed and not changed & reached and edit not in EXCEPTED:
                 where = f"{LEDGER}:{line.number}"
-                faults.append((where, f"{edit} changes {', '.join(sorted(changed))}, which no call of this line reaches"))
+                names = ", ".join(sorted(changed))
+                faults.append((where, f"{edit} changes {names}, which no call of this line reaches"))
     return count, faults

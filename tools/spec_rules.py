@@ -70,7 +70,7 @@ def lemmas_among_definitions():
             if not file.endswith("Laws.antt") and not re.search(r"/specs/(?:formers|private)/", file):
                 for name in lemmas_in(file):
                     if not {(file.removeprefix("crates/"), it) for it in (name, "*")} & LEMMAS.keys():
-                        yield file, f"{name} is a lemma: it belongs into proofs/lemmas, or into a file whose name ends in Laws"
+                        yield file, f"{name} is a lemma, for proofs/lemmas, or for a file whose name ends in Laws"
 
 
 def uses_of(name, text):
@@ -103,11 +103,15 @@ def imports_that_nothing_uses():
             yield from dict.fromkeys(unused_imports(file))
 
 
+def flat(clause):
+    return " ".join(clause.text.split())
+
+
 def form_of(clause):
     """The label among the first three that a clause's form asks for, or none."""
-    text = " ".join(clause.text.split())
-    forms = (label for label in ("ok", "err", "errors") for it in (text, PREMISE.sub("", text)) if LABELS[label].match(it))
-    return next(forms, "")
+    text = flat(clause)
+    texts = (text, PREMISE.sub("", text))
+    return next((label for label in ("ok", "err", "errors") for it in texts if LABELS[label].match(it)), "")
 
 
 def labels_of(function):
@@ -118,7 +122,7 @@ def labels_of(function):
         form = form_of(clause)
         if form and clause.name != form and forms.count(form) == 1:
             yield clause.name, f"is to be called {form}"
-        elif clause.name in LABELS and not LABELS[clause.name].match(" ".join(clause.text.split())) and form != clause.name:
+        elif clause.name in LABELS and clause.name != form and not LABELS[clause.name].match(flat(clause)):
             yield clause.name, "is of another form than its label says"
 
 

@@ -15,39 +15,39 @@ VALIDATED = "Err(VortexError::OutOfMemory) => Err(VortexError::OutOfMemory),"
 SPEC = "crates/dtype_types/specs/Widths.antt"
 # Each a file, what stands there, what stands there instead, and what is told.
 CHANGES = [
-    (NAMES, "::{AllocError, Global};", "::{AllocError as Gone, Global};", f"{NAMES}: outside of any function: OutOfMemory where no"),
+    (NAMES, "::{AllocError, Global};", "::{AllocError as Gone, Global};", "any function: OutOfMemory where no"),
     ("crates/vortex_dtype/src/ext_dtype.rt", VALIDATED, "", "ExtDType::validate: there is no line any more"),
-    (STRUCT, 'write!(f, "{{")?;', "if self.len() == 41 { return Err(Default::default()); }", f"{STRUCT}: StructFields::fmt: may give up"),
+    (STRUCT, 'write!(f, "{{")?;', "if self.len() == 41 { return Err(Default::default()); }", "fmt: may give up"),
     (STRUCT, "use std::fmt;", "use std::fmt::{self, Error};", f"{STRUCT}: outside of any function: names fmt::Error"),
-    (NAME, "let mut start = 0;", "if bytes.len() == 301 { return Err(fmt::Error); }", f"{NAME}: FieldName::fmt: makes fmt::Error"),
+    (NAME, "let mut start = 0;", "if bytes.len() == 301 { return Err(fmt::Error); }", "fmt: makes fmt::Error"),
     ("crates/dtype_base/src/ptype.rt", "PType::U8 => write", "_ if f.width().is_some() => Ok(()), PType::U8 => write",
      "PType::fmt: asks a formatter for `width`"),
-    (PATH, "if i > 0 {", "if f.alternate() { return Ok(()); } if i > 0 {", "FieldPath::fmt: asks a formatter for `alternate`"),
-    (PATH, "self.steps.push(field)?;", "if self.len() == 64 { return Err(VortexError::OutOfMemory); } self.steps.push(field)?; // AllocError",
+    (PATH, "if i > 0 {", "if f.alternate() { return Ok(()); } if i > 0 {", "asks a formatter for `alternate`"),
+    (PATH, "self.steps.push(field)?;", "if self.len() == 64 { return Err(VortexError::OutOfMemory); } // AllocError",
      "FieldPath::push: OutOfMemory where no allocation failed"),
-    (PATH, "self.steps.push(field)?;", "if self.len() == 64 { /* ensures { */ return Err(VortexError::OutOfMemory); /* } */ }",
+    (PATH, "self.steps.push(field)?;", "if self.len() == 64 { /* ensures { */ Err(VortexError::OutOfMemory) /* } */ }",
      "FieldPath::push: OutOfMemory where no allocation failed"),
     (PATH, "self.steps.push(field)?;", "let room: Vec<u64> = Vec::with_capacity(alloc, usize::MAX)?; drop(room);",
      "FieldPath::push: asks for room that can't be had"),
     (PATH, "self.steps.push(field)?;", "use std::alloc::Global as Memory; let _: Memory = self.alloc;",
      "FieldPath::push: has an import of its own"),
-    (SEARCH, "let here = &names[entry.position];", "let first = names[0].eq_str(name); let here = &names[entry.position];",
+    (SEARCH, "let here = &names[entry.position];", "let one = names[0].is_it(); let here = &names[entry.position];",
      "compare: is to read names once"),
-    (SEARCH, "let here = &names[entry.position];", "let _ = names.iter().position(is_it); let here = &names[entry.position];",
+    (SEARCH, "let here = &names[entry.position];", "let _ = names.iter().max(); let here = &names[entry.position];",
      "compare: is to read names once"),
     (NAMES, "names.len() + 1", "!0", f"{NAMES}: FieldNames::from_iter: asks for room that can't be had"),
     ("crates/dtype_types/src/named.rt", "self.names.find_counted(name)", "first(self.names.as_slice(), name)",
      "Named::find_counted: passes names on to first"),
-    (SPEC, "", "use Rattle.dtype_base.specs.private.NameOrder.{rising}\n", f"{SPEC}:1: cites specs.private of dtype_base"),
+    (SPEC, "", "use Rattle.dtype_base.specs.private.NameOrder.{rising}\n", "1: cites specs.private of dtype_base"),
     (SPEC, "", "use Rattle.dtype_base.proofs.Sides.{pairs}\n", f"{SPEC}:1: cites proofs of dtype_base"),
-    (SPEC, "", "pub width_below : (n : ℕ) → width n ≤ 8\nwidth_below n = by_cases n\n", f"{SPEC}: width_below is a lemma"),
-    (SPEC, "", "width_Decides : (n : ℕ) → Decides (is_wide n) (IsWide n)\nwidth_Decides n =\n  trivial\n", f"{SPEC}: width_Decides is"),
+    (SPEC, "", "pub width_below : (n : ℕ) → width n ≤ 8\nwidth_below n = by_cases n\n", "width_below is a lemma"),
+    (SPEC, "", "w_Decides : (n : ℕ) → Decides (is_wide n) (IsWide n)\nw_Decides n =\n  trivial\n", "w_Decides is a"),
     (SPEC, "", "pub same : (n : ℕ)\n  → IsWide n ↔ (width n ≡ 8)\nsame n = (f, g)\n", f"{SPEC}: same is a lemma"),
-    (NAME, "use std::fmt;", "ghost use Rattle.std.specs.Prelude.{◌≤◌, ◌≡◌};\nuse std::fmt;", f"{NAME}: imports ◌≤◌, and uses it nowhere"),
-    (NAME, "use std::fmt;", "ghost use Rattle.std.specs.Prelude.{◌≡◌, codes};\nuse std::fmt;", f"{NAME}: imports codes, and uses it"),
-    (NAME, "use std::fmt;", "ghost use Rattle.std.specs.Prelude.{◌≡◌, ◌≡◌};\nuse std::fmt;", f"{NAME}: imports ◌≡◌ twice"),
+    (NAME, "use std::fmt;", "ghost use Rattle.std.specs.Prelude.{◌≤◌, ◌≡◌};\nuse std::fmt;", "imports ◌≤◌, and uses"),
+    (NAME, "use std::fmt;", "ghost use Rattle.std.specs.Prelude.{◌≡◌, codes};\nuse std::fmt;", "imports codes, and"),
+    (NAME, "use std::fmt;", "ghost use Rattle.std.specs.Prelude.{◌≡◌, ◌≡◌};\nuse std::fmt;", "imports ◌≡◌ twice"),
     (NAME, "ensures ok {", "ensures made {", f"{NAME}: FieldName::new: made: is to be called ok"),
-    (NAME, "ensures ok { MatchResult result", "ensures valid { IfOk result", f"{NAME}: FieldName::new: valid: is of another form"),
+    (NAME, "ensures ok { MatchResult result", "ensures valid { IfOk result", "valid: is of another form"),
 ]
 
 
@@ -60,12 +60,15 @@ class Borders(Planted):
         self.assert_each_told("borders", CHANGES)
 
     def test_takes_what_is_sound(self):
-        self.change(NAME, 'f.write_str(self.inner.as_str())', 'f.write_str("f.width() fmt::Error OutOfMemory") // use std::alloc;')
-        self.write(SPEC, "use Rattle.dtype_base.proofs.lemmas.Names.{names}\n\nabbrev pub IsWide : ℕ → Type 0\nIsWide n = width n ≡ 8\n\n"
+        self.change(NAME, "self.inner.as_str()", '"f.width() fmt::Error OutOfMemory" /* use std::alloc; */')
+        self.write(SPEC, "use Rattle.dtype_base.proofs.lemmas.Names.{names}\n\n"
+                         "abbrev pub IsWide : ℕ → Type 0\nIsWide n = width n ≡ 8\n\n"
                          "pub width : ℕ → ℕ\nwidth n = n\n\nrecord pub Fits (n : ℕ) : Type 0\n  pub below : n ≤ 8\n")
-        self.write(SPEC.replace("Widths", "WidthLaws"), "pub width_below : (n : ℕ) → width n ≤ 8\nwidth_below n = by_cases n\n")
+        laws = SPEC.replace("Widths", "WidthLaws")
+        self.write(laws, "pub width_below : (n : ℕ) → width n ≤ 8\nwidth_below n = by_cases n\n")
         self.change(NAME, "ensures ok {", "ensures made {")
-        self.change("tools/spec_rules.py", '{"dtype_demo/src/main.rt run: unwritten"}', '{"dtype_base/src/field_name.rt FieldName::new: made"}')
+        self.change("tools/spec_rules.py", "dtype_demo/src/main.rt run: unwritten",
+                    "dtype_base/src/field_name.rt FieldName::new: made")
         self.assertEqual(self.told("borders"), [])
 
 

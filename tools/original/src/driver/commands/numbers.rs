@@ -141,7 +141,7 @@ fn add_natives(c: &mut Console) {
             if DecimalDType::from(parts) == decimal { Ok(Text(parts)) } else { stop("the way back differs") }
         };
         precision_scale_to(p: u8, s: i8) PrecisionScale::<T>::try_new(p, s).map(DecimalDType::from);
-        precision_scale_is_valid(p: u8, s: i8, value: i128) PrecisionScale::<T>::try_new(p, s)?.is_valid(native(value)?);
+        precision_scale_is_valid(p: u8, s: i8, v: i128) PrecisionScale::<T>::try_new(p, s)?.is_valid(native(v)?);
         by_precision(at: usize) format!("{} {}", T::MIN_BY_PRECISION[at], T::MAX_BY_PRECISION[at]);
         native_decimal() format!("{} {} {} {}", T::DECIMAL_TYPE, T::MAX_PRECISION, T::MAX_SCALE, T::DECIMAL_TYPE);
     }

@@ -17,6 +17,7 @@ use Rattle.dtype_paths.specs.Equality.{same_path}
 use Rattle.dtype_paths.specs.PathOrder.{PathSet, path_cmp, set_of}
 use Rattle.dtype_paths.specs.PathOrderLaws.{path_cmp_total}
 use Rattle.dtype_paths.specs.declared.field.Field.{Field}
+use Rattle.dtype_paths.proofs.ListMembers.{contains-head}
 use Rattle.dtype_paths.proofs.lemmas.SetCovers.{least-Decides, least_one}
 use Rattle.dtype_paths.proofs.lemmas.SetMembers.{contains_empty, from_list-Decides, insert_has, items-Decides, of_has, one_only, same_by}
 
@@ -68,6 +69,11 @@ listed_len ps s is d = sym (ap set.len (sym is) ∙ len_of ps (IsDistinct-from_A
 -- so have references to them
 pub lent_len : (xs : List (Bor (List Field))) (s : PathSet) → set_of (map (λ x. x.now) xs) ≡ s → Distinct (map (λ x. x.now) xs) → length xs ≡ set.len s
 lent_len xs s is d = sym (length-map xs (λ x. x.now)) ∙ listed_len (map (λ x. x.now) xs) s is d
+
+-- A set lends nothing exactly where it is empty. The first part says nothing: it shows a search the call to match.
+pub lent_none : (xs : List (Bor (List Field))) → (set.from_list {R = path_cmp} (map (λ x. x.now) xs) ≡ set.from_list {R = path_cmp} (map (λ x. x.now) xs)) × (set.from_list {R = path_cmp} (map (λ x. x.now) xs) ≡ set.empty → length xs ≡ 0) × (length xs ≡ 0 → set.from_list {R = path_cmp} (map (λ x. x.now) xs) ≡ set.empty)
+lent_none [] = (refl, λ e. refl, λ l. refl)
+lent_none (x ∷ xs) = (refl, λ e. absurd (false≢true (sym (contains_empty x.now) ∙ sym (ap (λ s. set.contains s x.now) e) ∙ of_has (map (λ y. y.now) (x ∷ xs)) x.now (contains-head x.now (map (λ y. y.now) xs)))), λ l. absurd (omega (arith, l)))
 
 -- it is empty where the set is
 pub some_listed : (p : List Field) (ps : List (List Field)) (s : PathSet) → set_of (p ∷ ps) ≡ s → s ≢ set.empty

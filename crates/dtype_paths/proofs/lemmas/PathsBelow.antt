@@ -3,9 +3,10 @@
 
 -- Lemmas on what is asked for after some steps. For callers' proofs `stepping_into` names them in one line:
 --     #![tactic(auto, using(dtype_paths::proofs::lemmas::PathsBelow::stepping_into))]
-use Rattle.std.proofs.Common.{◌≡◌, ◌≢◌, ◌∙◌, ℕ, List, [], ◌∷◌, ◌++◌, Bool, true, false, ◌||◌, Option, Some, None, IsTrue, map, arith, refl, sym, ap, subst, ⊎_elim}
+use Rattle.std.proofs.Common.{◌≡◌, ◌≢◌, ◌∙◌, ℕ, List, [], ◌∷◌, ◌++◌, Bool, true, false, ◌||◌, Option, Some, None, IsTrue, length, map, arith, refl, sym, ap, subst, ⊎_elim}
 use Rattle.std.proofs.lemmas.Bool.{false≢true, or_cases, or_left, or_right}
 use Rattle.std.proofs.lemmas.Bool.Decides.{same_from_decides}
+use Rattle.std.proofs.lemmas.List.{nil_from_length}
 use Rattle.std.specs.Bool.{Decides}
 use Rattle.std.specs.FinSet as set
 use Rattle.std.specs.List.{Contains, list_any}
@@ -22,7 +23,7 @@ use Rattle.dtype_paths.specs.declared.field.Field.TheVariants.{Name}
 use Rattle.dtype_paths.specs.declared.field_path_cursor.FieldPathCursor.{FieldPathCursor}
 use Rattle.dtype_paths.proofs.lemmas.Cases.{by_bool}
 use Rattle.dtype_paths.proofs.lemmas.PathLists as lists
-use Rattle.dtype_paths.proofs.lemmas.SetCovers.{covers_word}
+use Rattle.dtype_paths.proofs.lemmas.SetCovers.{covers_word, root_covers}
 use Rattle.dtype_paths.proofs.lemmas.SetMembers.{contains_empty, items-Decides, same_by}
 
 pub asked_after : (w : PathPredicate) (p q : List Field) → after_steps p w q ≡ w (p ++ q)
@@ -98,7 +99,15 @@ none_named w ns n a is = λ i p. go p (w (Name n ∷ p)) refl i
         let c = (a.exact n).1 (λ z. let no : true ≡ false = sym e ∙ ap (λ (v : PathPredicate). v p) z in cc) in
         let none = subst (λ es. Contains (map (λ (d : List ℕ × PathPredicate). d.0) es) n) is c in absurd (omega (arith, none.1))
 
-pub ruleset stepping_into = (asked_after, covered_on_the_way, nothing_asked, nowhere_asked, nowhere_asked_at, ends_above, none_above, first_named, none_named)
+-- No name goes on where none is counted, and the converse. The first parts say nothing: they show a search what to match.
+pub unnamed : (c : FieldPathCursor) (n : List ℕ) (q : List Field) → (asks c (Name n ∷ q) ≡ asks c (Name n ∷ q)) × ((ns : List (List ℕ × PathPredicate)) → AreNames (asks c) ns → length ns ≡ 0 → asks c (Name n ∷ q) ≡ false)
+unnamed c n q = (refl, λ ns a l. ap (λ (v : PathPredicate). v q) (none_named (asks c) ns n a (nil_from_length ns l)))
+
+pub names_none : (ns : List (List ℕ × PathPredicate)) → (length ns ≡ length ns) × ((c : FieldPathCursor) → AreNames (asks c) ns → (asks c ≡ asks c) × (((n : List ℕ) (q : List Field) → asks c (Name n ∷ q) ≡ false) → length ns ≡ 0))
+names_none [] = (refl, λ c a. (refl, λ none. refl))
+names_none (e ∷ ns) = (refl, λ c a. (refl, λ none. absurd (first_named (asks c) (e ∷ ns) ns e a refl (λ i q. none e.0 q i))))
+
+pub ruleset stepping_into = (asked_after, covered_on_the_way, nothing_asked, nowhere_asked, nowhere_asked_at, ends_above, none_above, first_named, none_named, unnamed, names_none)
 
 -- ---- the first steps into a set, in words of the set. `set_cursors` names all of it in one line.
 
@@ -122,6 +131,13 @@ step_asked s f goes = by_bool (list_any (begins_with f) (set.items s)) found (λ
     nowhere none q = by_bool (set.contains s (f ∷ q))
         (λ h. absurd (false≢true (sym none ∙ lists.any_from (begins_with f) (f ∷ q) (set.items s) ((items-Decides s (f ∷ q)).0 h) ((same_field-Decides f f).1 refl))))
         (λ h. h)
+
+pub asked_goes_on : (s : PathSet) (f : Field) (q : List Field) → (set.contains s (f ∷ q) ≡ set.contains s (f ∷ q)) × (IsTrue (set.contains s (f ∷ q)) → after_step f (set.contains s) ≡ no_path → ⊥)
+asked_goes_on s f q = (refl, λ h none. false≢true (sym (ap (λ (v : PathPredicate). v q) none) ∙ h))
+
+-- a path of one step is covered where the root is asked for, or that path
+pub column_covered : (s : PathSet) (f : Field) → covers s (f ∷ []) ≡ (set.contains s [] || set.contains s (f ∷ []))
+column_covered s f = covered_on_the_way s (f ∷ [])
 
 pub given_step : (c : FieldPathCursor) (s : PathSet) (f : Field) (q : List Field) (r : Option FieldPathCursor) → asks c ≡ set.contains s → asks_if r ≡ after_step f (asks c) → IsTrue (set.contains s (f ∷ q)) → IsTrue (is_some r)
 given_step c s f q (Some x) is told h = refl
@@ -150,4 +166,4 @@ empty_unasked c s is e = none_asked c s is (λ q. ap (λ (x : PathSet). set.cont
 pub unasked_empty : (c : FieldPathCursor) (s : PathSet) → asks c ≡ set.contains s → asks c ≡ no_path → s ≡ set.empty
 unasked_empty c s is none = same_by s set.empty (λ q. unasked_in c s q is none ∙ sym (contains_empty q))
 
-pub ruleset set_cursors = (given_step, nowhere_in, nowhere_further, nowhere_covered, none_asked, unasked_in, empty_unasked, unasked_empty)
+pub ruleset set_cursors = (step_asked, asked_goes_on, column_covered, root_covers, given_step, nowhere_in, nowhere_further, nowhere_covered, none_asked, unasked_in, empty_unasked, unasked_empty)

@@ -2,11 +2,11 @@
 -- SPDX-FileCopyrightText: Copyright the Vortex contributors
 
 -- Lemmas on what sets of paths cover, and on their least paths.
-use Rattle.std.specs.Prelude.{◌≡◌, ◌↔◌, Bool, true, false, IsTrue, List, [], ◌∷◌, ◌++◌, not, ◌||◌, ◌&&◌, ◌<◌, ◌≤◌, ℕ, get_or, length, refl}
+use Rattle.std.specs.Prelude.{◌≡◌, ◌↔◌, ◌⊎◌, Bool, true, false, IsTrue, List, [], ◌∷◌, ◌++◌, not, ◌||◌, ◌&&◌, ◌<◌, ◌≤◌, ℕ, get_or, length, refl}
 use Rattle.std.specs.Bool.{Decides}
 use Rattle.std.specs.FinSet as set
 use Rattle.std.specs.List.{Any, Contains, list_any, starts_with}
-use Rattle.std.proofs.Common.{ap, sym, ◌∙◌, ⊎_elim}
+use Rattle.std.proofs.Common.{ap, inl, inr, sym, ◌∙◌, ⊎_elim}
 use Rattle.std.proofs.lemmas.Bool.{and_from, and_parts, false≢true, or_cases, or_left, or_right}
 use Rattle.std.proofs.lemmas.Bool.Decides.{same_from_decides}
 use Rattle.std.proofs.lemmas.List.Folds.{Any-from_list_any, list_any-append, list_any-from_Any}
@@ -54,6 +54,17 @@ covers_insert s p q =
     ap (λ t. covers (set.insert t p) q) (of_items s)
     ∙ covers_of (p ∷ set.items s) q
     ∙ ap (λ b. starts_with same_field q p || b) (sym (covers_of (set.items s) q) ∙ ap (λ t. covers t q) (sym (of_items s)))
+
+-- What is covered after an insertion is what lies below the path, and what was covered. The first part says nothing: it
+-- shows a search the call to match.
+pub insert_covered : (s : PathSet) (p q : List Field) → (covers (set.insert s p) q ≡ covers (set.insert s p) q) × (covers (set.insert s p) q ≡ true → Beginning p q ⊎ (covers s q ≡ true)) × (p ≡ [] → covers (set.insert s p) q ≡ true) × (Beginning p q → covers (set.insert s p) q ≡ true)
+insert_covered s p q =
+    let begun : Beginning p q → covers (set.insert s p) q ≡ true = λ b. covers_insert s p q ∙ or_left (starts_with same_field q p) (covers s q) ((starts_with-Decides p q _ refl).1 b) in (
+      refl,
+      λ h. ⊎_elim (λ e. inl ((starts_with-Decides p q _ refl).0 e)) inr (or_cases (starts_with same_field q p) (covers s q) (sym (covers_insert s p q) ∙ h)),
+      λ e. begun (q, ap (λ r. r ++ q) (sym e)),
+      begun,
+    )
 
 pub covers_union : (s t : PathSet) (q : List Field) → covers (set.union s t) q ≡ (covers s q || covers t q)
 covers_union s t q =

@@ -131,6 +131,10 @@ union_keeps s t q h = contains_union s t q ∙ or_left (set.contains s q) (set.c
 pub union_has : (s t : PathSet) (q : List Field) → set.contains t q ≡ true → set.contains (set.union s t) q ≡ true
 union_has s t q h = contains_union s t q ∙ or_right (set.contains s q) (set.contains t q) h
 
+-- what is in after that was in one of them
+pub union_only : (s t : PathSet) (q : List Field) → set.contains (set.union s t) q ≡ true → (set.contains s q ≡ true) ⊎ (set.contains t q ≡ true)
+union_only s t q h = or_cases (set.contains s q) (set.contains t q) (sym (contains_union s t q) ∙ h)
+
 pub union_none : (s : PathSet) → set.union s (set.empty {R = path_cmp}) ≡ s
 union_none s = same_by _ _ (λ q. contains_union s _ q ∙ ap (λ b. set.contains s q || b) (contains_empty q) ∙ or-false (set.contains s q))
 

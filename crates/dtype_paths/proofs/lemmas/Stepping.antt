@@ -3,7 +3,7 @@
 
 -- Lemmas on paths and on masks that are stepped into. For callers' proofs `stepping` names them in one line:
 --     #![tactic(auto, using(dtype_paths::proofs::lemmas::Stepping::stepping))]
-use Rattle.std.proofs.Common.{◌≡◌, ◌↔◌, ◌∙◌, ℕ, List, [], ◌∷◌, ◌++◌, Bool, true, false, cond, Option, Some, None, IsTrue, length, refl, sym, ap, subst, arith}
+use Rattle.std.proofs.Common.{◌≡◌, ◌↔◌, ◌⊎◌, ◌≤◌, ◌∙◌, inl, inr, ℕ, List, [], ◌∷◌, ◌++◌, Bool, true, false, cond, Option, Some, None, IsTrue, length, refl, sym, ap, subst, arith}
 use Rattle.std.proofs.lemmas.Option.{same_Some}
 use Rattle.std.specs.Prelude.{bytes_eq, option_and_then}
 use Rattle.std.specs.List.{starts_with}
@@ -171,6 +171,12 @@ one_part [] e = absurd (omega (arith, e))
 one_part (f ∷ []) e = (f, refl)
 one_part (f ∷ g ∷ p) e = absurd (omega (arith, e))
 
+-- The root or one step, by the length. The first part says nothing: it shows a search the call to match.
+pub short_path : (p : List Field) → (length p ≡ length p) × (length p ≤ 1 → (p ≡ []) ⊎ ((f : Field) × (p ≡ f ∷ [])))
+short_path [] = (refl, λ l. inl refl)
+short_path (f ∷ []) = (refl, λ l. inr (f, refl))
+short_path (f ∷ g ∷ p) = (refl, λ l. absurd (omega (arith, l)))
+
 pub one_begins : (p q : List Field) (f : Field) → p ≡ f ∷ [] → Beginning p (f ∷ q)
 one_begins p q f e = (q, ap (λ r. r ++ q) (sym e))
 
@@ -206,7 +212,7 @@ pub ruleset types_along = (given_at, given_exists, given_valid, none_at, none_ex
 pub ruleset one_column = (fields_shown, column_along, name_no_size_zero, name_no_extension)
 
 -- paths that begin others, and what the tests of steps and paths say
-pub ruleset beginnings = (root_begins, tested_fields, tested_paths, one_part, one_begins, tested_beginning, beginning_tested)
+pub ruleset beginnings = (root_begins, tested_fields, tested_paths, one_part, short_path, one_begins, tested_beginning, beginning_tested)
 
 -- what a mask selects after a step
 pub ruleset stepped_masks = (first_asked, other_unasked, none_unasked, root_begins, tested_fields, root_alone, first_begins)

@@ -114,35 +114,37 @@ class Recipes(Planted):
 
 
 class RefusedMemory(Planted):
-    """Over a console of one command, `name`, that allocates once a line, and a program of one call."""
+    """Over a console that allocates once a line, and a program of one call that allocates in each of four
+    ways, the first again where it failed: so it fails where all after it fail too."""
 
     CONSOLE = """#include <stdio.h>
     #include <stdlib.h>
-    #include <string.h>
     #include <unistd.h>
+    static int mark(const char *line, size_t length) { return write(2, line, length) != (ssize_t)length; }
     int main(void) {
-        static char in[1 << 12];
-        setvbuf(stdin, in, _IOFBF, sizeof in); setvbuf(stdout, NULL, _IONBF, 0);
-        static char line[64];
+        static char in[1 << 12], line[64];
+        setvbuf(stdin, in, _IOFBF, sizeof in);
+        setvbuf(stdout, NULL, _IONBF, 0);
         while (fgets(line, sizeof line, stdin)) {
-            if (write(2, "begin\\n", 6) < 0) return 1;
+            if (mark("begin\\n", 6)) return 1;
             char *got = malloc(8);
             %s
-            if (write(2, "end\\n", 4) < 0) return 1;
+            if (mark("end\\n", 4)) return 1;
         }
-        if (write(2, "begin\\n", 6) < 0 || write(2, "end\\n", 4) < 0) return 1;
-        return 0;
+        return mark("begin\\n", 6) || mark("end\\n", 4);
     }
     """
     CALL = """#include <stdio.h>
     #include <stdlib.h>
     #include <unistd.h>
     int main(void) {
+        void *before = malloc(8);
         if (write(2, "begin\\n", 6) < 0) return 1;
-        void *got = malloc(8);
+        void *first = malloc(8), *plain = first ? first : malloc(8);
+        void *zeroed = calloc(2, 4), *kept = realloc(NULL, 8), *moved = realloc(before, 1 << 20);
         if (write(2, "end\\n", 4) < 0) return 1;
-        puts(got ? "cover {a}: done" : "cover {a}: out of memory");
-        free(got);
+        puts(plain && zeroed && kept && moved ? "cover {a}: done" : "cover {a}: out of memory");
+        free(plain), free(zeroed), free(kept), free(moved ? moved : before);
         return 0;
     }
     """
@@ -154,24 +156,26 @@ class RefusedMemory(Planted):
         subprocess.run(["cc", "-O0", "-fno-builtin", "-o", made, self.path(f"crates/{crate}/it.c")], check=True)
 
     def run_with(self, answer):
-        self.write("crates/dtype_console/stdin", "name a\n")
-        self.write("crates/dtype_console/stdout", "> name a\na\n")
+        lines = ["name a", "set s insert a", "set s iter"]
+        self.write("crates/dtype_console/stdin", "".join(f"{it}\n" for it in lines))
+        self.write("crates/dtype_console/stdout", "".join(f"> {it}\n{it[0]}\n" for it in lines))
         self.write("crates/tests_allocations/stdout", "cover {a}: done\n")
-        self.build("dtype_console", self.CONSOLE % answer)
+        self.build("dtype_console", self.CONSOLE % f"line[1] = 0; {answer}")
         self.build("tests_allocations", self.CALL)
 
     def test_counts_each_allocation(self):
-        self.run_with('puts(got ? "a" : "refused 0: out of memory"); free(got);')
+        """Of the tests of the set each fails alone, so that the other answers as ever."""
+        self.run_with('puts(got ? line : "refused 0: out of memory"); free(got);')
         self.assertEqual(self.run_tool("refused_memory"),
-                         (0, "refused_memory: 4 allocations of 1 golden tests failed in turn\n2 passed, 0 failed\n"))
+                         (0, "refused_memory: 12 allocations of 3 golden tests failed in turn\n4 passed, 0 failed\n"))
 
     def test_tells_an_answer_that_is_wrong_without_memory(self):
-        self.run_with('puts(got ? "a" : "b"); free(got);')
+        self.run_with('puts(got ? line : "b"); free(got);')
         self.assert_told("refused_memory", "name a: allocation 1")
 
     def test_tells_memory_that_is_held(self):
-        self.run_with('puts(got ? "a" : "refused 0: out of memory");')
-        self.assert_told("refused_memory", "name a: with enough memory 'a', and 1 blocks held")
+        self.run_with('puts(got ? line : "refused 0: out of memory");')
+        self.assert_told("refused_memory", "name a: with enough memory 'n', and 1 blocks held")
 
 
 class Measure(Planted):

@@ -1,9 +1,8 @@
 # SPDX-License-Identifier: Apache-2.0
 # SPDX-FileCopyrightText: Copyright the Vortex contributors
 
-"""Splits a Rattle source into tokens, so that nothing in a comment or in a text is taken for code."""
+"""Takes comments, texts and ghosts out of a Rattle source, at the same indices, so that none is taken for code."""
 import re
-from collections import namedtuple
 
 PIECE = re.compile(
     r"""//[^\n]*|/\*|\bb?r(?P<hashes>\#*)".*?"(?P=hashes)|"(?:\\.|[^"\\])*"
@@ -12,10 +11,6 @@ PIECE = re.compile(
 )
 COMMENT_ENDS = re.compile(r"/\*|\*/")
 GHOST = re.compile(r"\b(?:ghost|(?:requires|ensures)\b\*? ?\w* ?(?=\{))")
-# A name, also of a lifetime; a number; a sign.
-TOKEN = re.compile(r"'?[^\W\d]\w*'*|\d\w*|::|->|=>|&&|\|\||[<>=!+*/-]=|\.\.=?|\S")
-
-Token = namedtuple("Token", "text line")
 
 
 def end_of_comment(text, at):
@@ -72,31 +67,16 @@ def without_ghosts(shape):
     return "".join(found) + shape[at:]
 
 
-def tokens_of(shape):
-    """The tokens of a shape without clauses and ghost items."""
-    lines = enumerate(without_ghosts(shape).split("\n"), 1)
-    return [Token(it, number) for number, line in lines for it in TOKEN.findall(line)]
+def bare(code):
+    """A source without comments, as its shape without clauses and ghost items."""
+    return without_ghosts(shape_of(code))
 
 
-def closing(tokens, at):
-    """The place behind the bracket that closes the one at `at`."""
+def closing(shape, at):
+    """The index after the bracket that closes the one at `at`."""
     depth = 0
-    for place in range(at, len(tokens)):
-        depth += (tokens[place].text in "([{") - (tokens[place].text in ")]}")
+    for it in re.compile(r"[(\[{}\])]").finditer(shape, at):
+        depth += 1 if it[0] in "([{" else -1
         if depth == 0:
-            return place + 1
-    return len(tokens)
-
-
-def is_at(tokens, at, *texts):
-    """Whether these tokens are at this place."""
-    return [it.text for it in tokens[at:at + len(texts)]] == list(texts)
-
-
-def is_name(token):
-    return token.text.strip("_'")[:1].isalpha()
-
-
-def shown(tokens):
-    """Tokens as one line."""
-    return " ".join(it.text for it in tokens)
+            return it.end()
+    return len(shape)

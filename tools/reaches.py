@@ -5,9 +5,10 @@
 function below it: by the calls in the libraries' sources, where a call of a name that several functions have may be of
 each of them."""
 import os
+import re
 
 from ledger import LEDGER, crates_named, lines_of, parts_of
-from lexer import is_at, shape_of, tokens_of
+from lexer import bare
 from repository import changes_of, function_at, functions_of, name_of, sources, text_of
 
 # What prints, compares, hashes and copies without a call that is written out.
@@ -26,27 +27,27 @@ class Graph:
         for source in sources(crates_named()):
             for function in functions_of(source.file):
                 name = name_of(function)
-                self.functions.setdefault(name, []).append(tokens_of(shape_of(function.body)))
+                self.functions.setdefault(name, []).append(bare(function.body))
                 self.by_name.setdefault(function.name, set()).add(name)
 
     def called_by(self, name):
         """The names of what the functions of a name may call; of a trait's call, that of each impl."""
         if name not in self.calls:
             self.calls[name] = {called for body in self.functions.get(name, []) for called in self.calls_of(body)}
-            if [] in self.functions.get(name, []):
+            if "" in self.functions.get(name, []):
                 self.calls[name] |= self.by_name[name.rpartition("::")[2]]
         return self.calls[name]
 
     def calls_of(self, body):
-        for at, it in enumerate(body):
-            if it.text not in self.by_name:
+        for it in re.finditer(r"\w+", body):
+            if it[0] not in self.by_name:
                 continue
-            owner = body[at - 2].text if is_at(body, at - 1, "::") else ""
-            exact = f"{owner}::{it.text}"
-            if owner[:1].isupper() and owner != "Self" and exact in self.functions:
+            path = re.search(r"(\w*)::$", body[:it.start()])
+            exact = f"{path and path[1]}::{it[0]}"
+            if path and path[1][:1].isupper() and path[1] != "Self" and exact in self.functions:
                 yield exact
-            elif is_at(body, at + 1, "(") or is_at(body, at + 1, "::") or is_at(body, at - 1, "::"):
-                yield from self.by_name[it.text]
+            elif path or body.startswith(("(", "::"), it.end()):
+                yield from self.by_name[it[0]]
 
     def below(self, names):
         """The functions that calls of these names reach."""

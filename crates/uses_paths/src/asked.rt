@@ -1,19 +1,21 @@
 // SPDX-License-Identifier: Apache-2.0
 // SPDX-FileCopyrightText: Copyright the Vortex contributors
 
-//! A reader that asks whether a column is read, whether anything is, and which columns it opens.
+//! A reader that asks whether a column is read, whether anything is, what a query keeps to, and which columns it opens.
 #![tactic(auto)]
 
-ghost use Rattle.std.specs.Prelude.{◌≡◌, ◌↔◌, Contains, IfOk, IsTrue, List, false};
+ghost use Rattle.std.specs.Prelude.{◌≡◌, ◌↔◌, ◌∷◌, [], Contains, IfOk, IsTrue, List, false};
 ghost use Rattle.std.specs.FinSet as set;
 ghost use Rattle.std.specs.Vec.Iter.{into_iter_items};
+ghost use Rattle.vortex_dtype.specs.At.{ExistsIn};
 ghost use Rattle.vortex_dtype.specs.Beginning.{Beginning};
 ghost use Rattle.vortex_dtype.specs.Covering.{SameCoverage, covers};
 ghost use Rattle.vortex_dtype.specs.Overlaps.{Overlaps};
+ghost use Rattle.vortex_dtype.specs.TreeOf.{tree};
 ghost use Rattle.vortex_dtype.specs.Types.Field.{Field};
 
 use std::vec;
-use vortex_dtype::{FieldPath, FieldPathSet, VortexResult};
+use vortex_dtype::{DType, Field, FieldPath, FieldPathSet, VortexResult};
 
 /// Whether a column is read, since a query asks for it or for something above it.
 #[tactic(auto, using(vortex_dtype::proofs::rulesets::lent_paths))]
@@ -25,6 +27,60 @@ pub fn is_read(asked: &FieldPathSet, column: &FieldPath) -> VortexResult<bool>
             .iter()?
             .any(|path| column.parts().starts_with(path.parts())),
     )
+}
+
+/// Whether a table has every column that a query asks for.
+#[tactic(auto, using(vortex_dtype::proofs::rulesets::lent_paths))]
+pub fn has_all(table: &DType, asked: &FieldPathSet) -> VortexResult<bool>
+    ensures { IfOk result (λ b. IsTrue b ↔ ((p : List Field)
+        → IsTrue (set.contains asked.now p) → ExistsIn (tree table.now) p)) }
+{
+    Ok(asked.iter()?.all(|path| path.exists_in(table)))
+}
+
+/// Whether two queries share a path.
+#[tactic(auto, using(vortex_dtype::proofs::rulesets::lent_paths))]
+pub fn share_a_path(asked: &FieldPathSet, other: &FieldPathSet) -> VortexResult<bool>
+    ensures { IfOk result (λ b. IsTrue b ↔ ((p : List Field)
+        × IsTrue (set.contains asked.now p) × IsTrue (set.contains other.now p))) }
+{
+    Ok(asked.iter()?.any(|path| other.contains(path)))
+}
+
+/// Whether a query asks for nothing outside a column.
+#[tactic(auto, using(vortex_dtype::proofs::rulesets::lent_paths))]
+pub fn stays_within(asked: &FieldPathSet, column: &FieldPath) -> VortexResult<bool>
+    ensures { IfOk result (λ b. IsTrue b ↔ ((p : List Field)
+        → IsTrue (set.contains asked.now p) → Beginning column.now p)) }
+{
+    Ok(
+        asked
+            .iter()?
+            .all(|path| path.parts().starts_with(column.parts())),
+    )
+}
+
+/// Whether a query asks for something in a column.
+#[tactic(auto, using(vortex_dtype::proofs::rulesets::set_cursors))]
+pub fn asks_in(asked: &FieldPathSet, column: &Field) -> bool
+    ensures { IsTrue result ↔ ((q : List Field) × IsTrue (set.contains asked.now (column.now ∷ q))) }
+{
+    asked.cursor().step(column).is_some()
+}
+
+/// Whether a query reads a column whole.
+#[tactic(auto, using(vortex_dtype::proofs::rulesets::set_cursors))]
+pub fn reads_whole(asked: &FieldPathSet, column: &Field) -> bool
+    ensures { result ≡ covers asked.now (column.now ∷ []) }
+{
+    let here = asked.cursor();
+    if here.is_end() {
+        return true;
+    }
+    match here.step(column) {
+        Some(below) => below.is_end(),
+        None => false,
+    }
 }
 
 /// Whether a query asks for nothing: then no path is asked for, and the converse.

@@ -5,13 +5,14 @@
 //! keeps.
 #![tactic(auto, using(vortex_dtype::proofs::rulesets::descending))]
 
-ghost use Rattle.std.specs.Prelude.{◌≡◌, option_and_then};
+ghost use Rattle.std.specs.Prelude.{◌≡◌, ◌∷◌, [], IfSome, false, option_and_then};
 ghost use Rattle.std.specs.FinSet as set;
 ghost use Rattle.vortex_dtype.specs.Along.{along};
 ghost use Rattle.vortex_dtype.specs.At.{step};
 ghost use Rattle.vortex_dtype.specs.Cursors.{asks};
 ghost use Rattle.vortex_dtype.specs.Projected.{projected};
 ghost use Rattle.vortex_dtype.specs.TreeOf.{shown, tree};
+ghost use Rattle.vortex_dtype.specs.Types.Field.{Field};
 ghost use Rattle.uses_paths.specs.Descending.{piece_type};
 
 use vortex_dtype::{DType, Field, FieldPath, FieldPathCursor, FieldPathSet};
@@ -34,6 +35,18 @@ pub fn type_after<'a>(dtype: &'a DType, field: &Field) -> Option<&'a DType>
         Field::Name(name) => dtype.as_struct_fields_opt()?.field(name.as_str()),
         Field::ElementType => dtype.as_any_size_list_element_opt(),
     }
+}
+
+/// The element of a list with what is asked of it: together what the projection has there.
+pub fn element_piece<'a>(
+    list: &'a DType,
+    here: &FieldPathCursor<'a>,
+) -> Option<(&'a DType, FieldPathCursor<'a>)>
+    requires { asks here.now [] ≡ false }
+    ensures { IfSome result (λ r. projected (tree r.0.now) (asks r.1)
+        ≡ option_and_then (λ u. along u (Field.ElementType ∷ [])) (projected (tree list.now) (asks here.now))) }
+{
+    Some((list.as_any_size_list_element_opt()?, here.element()?))
 }
 
 /// The type after some steps.

@@ -33,6 +33,20 @@ pub fn set_of_list(alloc: Global, columns: Vec<FieldPath>) -> VortexResult<Field
     Ok(asked)
 }
 
+/// The set of two lists: its members are those of either.
+pub fn set_of_two_lists(
+    alloc: Global,
+    columns: Vec<FieldPath>,
+    more: Vec<FieldPath>,
+) -> VortexResult<FieldPathSet>
+    ensures { IfOk result (λ s. (p : List Field) → IsTrue (set.contains s p)
+        ↔ (Contains columns.items p ⊎ Contains more.items p)) }
+{
+    let mut asked = FieldPathSet::from_iter(alloc, columns)?;
+    asked.extend(more)?;
+    Ok(asked)
+}
+
 /// Asks for one more path: that one is asked for then, and what was.
 pub fn ask_for(asked: &mut FieldPathSet, path: FieldPath) -> VortexResult<()>
     ensures { OnOk result ((p : List Field) → IsTrue (set.contains asked.new p)

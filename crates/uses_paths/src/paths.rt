@@ -181,6 +181,14 @@ pub fn element_along<'a>(path: FieldPath, dtype: &'a DType) -> VortexResult<Opti
     Ok(element.resolve(dtype))
 }
 
+/// The type of the elements of the list along a path: the type one step further, or none where there is none.
+#[tactic(auto, using(vortex_dtype::proofs::rulesets::one_step))]
+pub fn element_type<'a>(path: &FieldPath, dtype: &'a DType) -> Option<&'a DType>
+    ensures { shown tree result ≡ along (tree dtype.now) (path.now ++ Field.ElementType ∷ []) }
+{
+    path.resolve(dtype)?.as_any_size_list_element_opt()
+}
+
 /// Whether a path is that of a whole column.
 pub fn is_top_level(path: &FieldPath) -> bool
     ensures { IsTrue result ↔ ((f : Field) × (path.now ≡ f ∷ [])) }

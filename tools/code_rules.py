@@ -72,7 +72,7 @@ def shown(text, at=None):
 
 
 def outside_of_items(outside):
-    """What is in no heading of an impl, nor in an import, but for one that gives the failures of std their own names."""
+    """What is in no heading of an impl, nor in an import, but for one that renames the failures of std."""
     return ITEM.sub(lambda it: it[0] if RENAMED.search(it[0]) else blanks(it[0]), outside)
 
 

@@ -9,7 +9,7 @@ import re
 
 from ledger import LEDGER, crates_named, lines_of, parts_of
 from lexer import bare
-from repository import changes_of, function_at, functions_of, name_of, sources, text_of
+from repository import changes_of, functions_of, name_of, sources, text_of
 
 # What prints, compares, hashes and copies without a call that is written out.
 BEHIND = set("fmt eq ne cmp partial_cmp hash clone drop from try_from next index bitor".split())
@@ -63,11 +63,12 @@ class Graph:
 
 def changed_by(edit):
     """The functions that a mutation changes; none where it changes what is outside of any."""
-    crate, file = edit.split("/")[0], f"crates/{edit}.edit"
-    changes = changes_of(file) if os.path.exists(file) else ()
-    sources = [(f"crates/{crate}/{file}", old) for file, old, _ in changes]
-    found = (function_at(file, text_of(file).find(old)) for file, old in sources)
-    return {name_of(it) for it in found if it}
+    crate, file, changed = edit.split("/")[0], f"crates/{edit}.edit", set()
+    for source, old, _ in changes_of(file) if os.path.exists(file) else ():
+        source = f"crates/{crate}/{source}"
+        at = text_of(source).find(old)
+        changed |= {name_of(it) for it in functions_of(source) if it.start <= at < it.end}
+    return changed
 
 
 def functions_named(calls):

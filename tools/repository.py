@@ -207,10 +207,9 @@ def lines_above(text, start):
 
 
 @lru_cache(maxsize=None)
-def functions_of(file, text=None):
-    """The functions of a source, or of a text in its place: each with where it begins and ends, and the impl or the
-    trait that holds it, or None."""
-    text = text_of(file) if text is None else text
+def functions_of(file):
+    """The functions of a source: where each begins and ends, and the impl or the trait that holds it, or None."""
+    text = text_of(file)
     code = code_of(text)
     shape, owners, found = shape_of(code), owners_in(code), []
     for it in HEADER.finditer(shape):
@@ -225,11 +224,6 @@ def functions_of(file, text=None):
         found.append(Function(file, start, end, owner_at(owners, it.start()), it[2], (it[1] or "").strip(), attributes,
                               code[it.end():behind.start()], clauses, code[begin:end]))
     return found
-
-
-def function_at(file, at, text=None):
-    """The function around an index of a source, or None."""
-    return next((it for it in functions_of(file, text) if it.start <= at < it.end), None)
 
 
 def name_of(function):

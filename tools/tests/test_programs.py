@@ -71,25 +71,24 @@ class RunProgram(Planted):
 
 
 class WrongBodies(Planted):
-    def setUp(self):
-        super().setUp()
-        self.write("HANDLES", "")
-        self.write("crates/dtype_paths/wrong/push_drops.edit",
-                   "file: src/field_path.rt\nold: self.steps.push(field)?;\nnew:\n")
+    """Over an `rt` that says the same of each mutation in must-fail/."""
 
-    def test_tells_a_mutation_that_is_proved(self):
-        self.script("rt", 'echo "fn dtype_paths::field_path::FieldPath::push: proved"')
-        status, said = self.run_tool("wrong_bodies", "dtype_paths")
-        self.assertIn("NOT REFUSED: push_drops", said)
-        self.assertEqual((status, said.splitlines()[-1]), (1, "0 refused, 1 not refused, 0 without a result"))
+    def try_with(self, said):
+        self.write("HANDLES", "")
+        self.write("crates/dtype_base/must-fail/other.edit", "")
+        self.script("rt", 'cd crates/dtype_base/must-fail && for it in *; do echo "rt: must-fail dtype_base/$it: '
+                          f'{said}"; done')
+        return self.run_tool("wrong_bodies", "dtype_base")
+
+    def test_tells_a_mutation_that_is_not_refused(self):
+        self.assertEqual(self.try_with("NOT REFUSED"),
+                         (1, "dtype_base/names_are_empty: NOT REFUSED\n0 refused, 1 not refused\n"))
 
     def test_counts_a_mutation_that_is_refused(self):
-        self.script("rt", 'echo "fn dtype_paths::field_path::FieldPath::push: not proved"; exit 1')
-        status, said = self.run_tool("wrong_bodies", "dtype_paths")
-        self.assertEqual((status, said.splitlines()[-1]), (0, "1 refused, 0 not refused, 0 without a result"))
+        self.assertEqual(self.try_with("refused, as it must be: why"),
+                         (0, "dtype_base/names_are_empty: refused, as it must be: why\n1 refused, 0 not refused\n"))
 
-    def test_gives_up_on_a_text_that_is_not_there(self):
-        self.write("crates/dtype_paths/wrong/push_drops.edit", "file: src/field_path.rt\nold: nowhere\nnew:\n")
+    def test_gives_up_on_a_crate_without_mutations(self):
         self.assertEqual(self.run_tool("wrong_bodies", "dtype_paths")[0], 2)
 
 

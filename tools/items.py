@@ -8,8 +8,7 @@ import re
 from collections import namedtuple
 
 from repository import (
-    KEPT, code_of, end_of, functions_of, given_out, heads_of, libraries, lines_above, owner_at, owners_in, sources_of,
-    text_of,
+    KEPT, end_of, functions_of, given_out, heads_of, libraries, lines_above, owner_at, sources,
 )
 
 # `kind` is struct, enum, trait, fn, const, macro or impl (of a trait); `name` is as in a path. `text` is the comment
@@ -49,12 +48,12 @@ def signature_of(text):
     return text.replace("(mut self", "(self")
 
 
-def calls_in(file, text):
+def calls_in(source):
     """The functions of a source, each as it is and as an item."""
-    for it in functions_of(file):
-        said, errors = comment_above(text, it.start)
+    for it in functions_of(source.file):
+        said, errors = comment_above(source.text, it.start)
         signature = f"fn {it.name}{signature_of(it.signature)}"
-        yield it, Item("fn", it.name, file, said, errors, signature, it.clauses, [], [], [])
+        yield it, Item("fn", it.name, source.file, said, errors, signature, it.clauses, [], [], [])
 
 
 def parts_in(text, code, begin, end):
@@ -65,13 +64,8 @@ def parts_in(text, code, begin, end):
             yield f"{it[1]}{it[2]}".rstrip(",;"), " ".join(said)
 
 
-def module_of(crate, file):
-    """The path in front of a source's public names: of messages `pb::`, of laws `laws::`."""
-    module = os.path.basename(file).removesuffix(".rt")
-    return f"{module}::" if module in given_out(crate)[1] else ""
-
-
-def types_in(file, text, code, names):
+def types_in(source, names):
+    text, code = source.text, source.code
     for it in TYPE.finditer(code):
         if it[2] not in names:
             continue
@@ -86,45 +80,41 @@ def types_in(file, text, code, names):
                      for found in ASSOCIATED.finditer(code, begin, end_of(code, begin))]
         if it[1] == "struct":
             parts = [(name, said) for name, said in parts if f"pub {name.split(':')[0]}:" in code[brace:]]
-        yield Item(it[1], it[2], file, said, errors, "", [], sorted(set(derived) - {"Drop"}), parts, [])
+        yield Item(it[1], it[2], source.file, said, errors, "", [], sorted(set(derived) - {"Drop"}), parts, [])
 
 
-def constants_in(file, text, code, names):
-    owners = owners_in(code)
-    for it in CONSTANT.finditer(code):
-        owner = owner_at(owners, it.start())
+def constants_in(source, names):
+    for it in CONSTANT.finditer(source.code):
+        owner = owner_at(source.owners, it.start())
         if owner and owner.type in names or not owner and it[2] in names:
             name = f"{owner.type}::{it[2]}" if owner else it[2]
-            said, errors = comment_above(text, it.start())
-            yield Item("const", name, file, said, errors, f"const {it[2]}: {it[3].strip()}", [], [], [], [])
-    for it in MACRO.finditer(code):
-        said, errors = comment_above(text, it.start())
-        yield Item("macro", f"{it[1]}!", file, said, errors, "", [], [], [], [])
+            said, errors = comment_above(source.text, it.start())
+            signature = f"const {it[2]}: {it[3].strip()}"
+            yield Item("const", name, source.file, said, errors, signature, [], [], [], [])
+    for it in MACRO.finditer(source.code):
+        said, errors = comment_above(source.text, it.start())
+        yield Item("macro", f"{it[1]}!", source.file, said, errors, "", [], [], [], [])
 
 
-def impls_in(file, text, code, names):
+def impls_in(source, names):
     """The impls of traits for public types, with their ghost members and the calls that have a comment or a clause."""
-    for owner in owners_in(code):
-        if owner.kind == "trait" or not owner.trait or owner.trait in ("Debug", "Model") or not heads_of(owner) & names:
-            continue
-        said, errors = comment_above(text, owner.start)
-        clauses = [it for it in owner.members if not KEPT.fullmatch(it.name)]
-        heading = signature_of(owner.heading)
-        yield owner, Item("impl", heading, file, said, errors, "", clauses, [], [], [])
+    for owner in source.owners:
+        if owner.kind == "impl" and owner.trait not in ("", "Debug", "Model") and heads_of(owner) & names:
+            said, errors = comment_above(source.text, owner.start)
+            clauses = [it for it in owner.members if not KEPT.fullmatch(it.name)]
+            yield owner, Item("impl", signature_of(owner.heading), source.file, said, errors, "", clauses, [], [], [])
 
 
-def items_of(crate, file):
-    """The public items of a source, in its order: types with their traits' calls, functions, constants, impls."""
-    text = text_of(file)
-    code = code_of(text)
-    given, modules = given_out(crate)
-    is_module = os.path.basename(file).removesuffix(".rt") in modules
-    names = given | ({it[2] for it in TYPE.finditer(code)} if is_module else set())
-    calls = list(calls_in(file, text))
-    path = module_of(crate, file)
-    found = []
-    for it in types_in(file, text, code, names):
-        traits = [owner for owner in owners_in(code) if owner.kind == "trait" and owner.type == it.name]
+def items_of(source):
+    """The public items of a source, in its order: types with their traits' calls, functions, constants, impls. In front
+    of the names of messages is `pb::`, of laws `laws::`."""
+    given, modules = given_out(source.crate)
+    module = os.path.basename(source.file).removesuffix(".rt")
+    path = f"{module}::" if module in modules else ""
+    names = given | ({it[2] for it in TYPE.finditer(source.code)} if path else set())
+    calls, found = list(calls_in(source)), []
+    for it in types_in(source, names):
+        traits = [owner for owner in source.owners if owner.kind == "trait" and owner.type == it.name]
         own = [call for function, call in calls if function.owner in traits]
         ghosts = [ghost for owner in traits for ghost in owner.members]
         found.append(it._replace(name=path + it.name, members=own, clauses=ghosts if it.kind == "trait" else []))
@@ -132,18 +122,17 @@ def items_of(crate, file):
         owner, is_open = function.owner, function.visibility == "pub"
         if owner and not owner.trait and is_open and owner.type in names:
             found.append(it._replace(name=f"{path}{owner.type}::{it.name}"))
-        elif not owner and is_open and (is_module or it.name in names):
+        elif not owner and is_open and (path or it.name in names):
             found.append(it._replace(name=path + it.name))
     everywhere = names.union(*(given_out(library)[0] for library in libraries()))
-    for owner, it in impls_in(file, text, code, everywhere):
+    for owner, it in impls_in(source, everywhere):
         own = [call for function, call in calls if function.owner == owner and (call.text or call.clauses)]
         if it.clauses or own or it.text:
             found.append(it._replace(members=own))
-    return found + list(constants_in(file, text, code, names))
+    return found + list(constants_in(source, names))
 
 
 def topics_of(crate):
     """The files of a library that have public items, in their order, each with its items; laws are last."""
-    files = sources_of(crate)
-    topics = [(file, items_of(crate, file)) for file in files]
+    topics = [(it.file, items_of(it)) for it in sources([crate])]
     return sorted(((file, items) for file, items in topics if items), key=lambda it: it[0].endswith("laws.rt"))

@@ -4,14 +4,16 @@
 //! A reader that descends a table by a cursor: what a query asks for further down.
 #![tactic(auto, using(vortex_dtype::proofs::rulesets::stepping_into))]
 
-ghost use Rattle.std.specs.Prelude.{◌≡◌, ◌↔◌, ◌∷◌, [], IsTrue, List, None, false};
+ghost use Rattle.std.specs.Prelude.{◌≡◌, ◌↔◌, ◌∷◌, [], IfOk, IfSome, IsTrue, List, None, false};
 ghost use Rattle.std.specs.FinSet as set;
 ghost use Rattle.vortex_dtype.specs.Covering.{covers};
 ghost use Rattle.vortex_dtype.specs.Cursors.{asks, asks_if};
+ghost use Rattle.vortex_dtype.specs.In.{In};
 ghost use Rattle.vortex_dtype.specs.PathPredicates.{after_step, asks_above, no_path};
 ghost use Rattle.vortex_dtype.specs.Types.Field.{Field};
 
-use vortex_dtype::{Field, FieldPath, FieldPathCursor, FieldPathSet};
+use std::alloc::Global;
+use vortex_dtype::{Field, FieldMask, FieldPath, FieldPathCursor, FieldPathSet, VortexResult};
 
 /// Whether a path is asked for from here, as stepping along it finds.
 pub fn is_asked_from(here: &FieldPathCursor<'_>, path: &[Field]) -> bool
@@ -79,4 +81,55 @@ pub fn asks_for_nothing(asked: &FieldPathSet) -> bool
     ensures { IsTrue result → (q : List Field) → set.contains asked.now q ≡ false }
 {
     asked.cursor().is_empty()
+}
+
+/// The one step by which paths go on from here, with the cursor after it, or `None` where none goes on, or more than one
+/// step does.
+pub fn only_step<'a>(
+    alloc: Global,
+    here: &FieldPathCursor<'a>,
+) -> VortexResult<Option<(Field, FieldPathCursor<'a>)>>
+    ensures after { IfOk result (λ r. IfSome r (λ s. asks s.1 ≡ after_step s.0 (asks here.now))) }
+    ensures only { IfOk result (λ r. IfSome r (λ s. (f : Field) (q : List Field)
+        → IsTrue (asks here.now (f ∷ q)) → f ≡ s.0)) }
+{
+    let mut names = here.names();
+    let first = names.next();
+    match here.element() {
+        Some(below) => match first {
+            None => Ok(Some((Field::ElementType, below))),
+            Some(_) => Ok(None),
+        },
+        None => match first {
+            Some((name, below)) if names.next().is_none() => {
+                Ok(Some((Field::Name(name.try_clone(alloc)?), below)))
+            }
+            _ => Ok(None),
+        },
+    }
+}
+
+/// The mask of what is asked for from here, where all of it lies below one path: the prefix of that path. `None` where
+/// more than one path is left, or one of `limit` steps or more.
+pub fn mask_of_rest(
+    alloc: Global,
+    here: &FieldPathCursor<'_>,
+    limit: usize,
+) -> VortexResult<Option<FieldMask>>
+    ensures { IfOk result (λ r. IfSome r (λ m. (q : List Field)
+        → In m q ↔ IsTrue (asks_above (asks here.now) q))) }
+{
+    let mut path = FieldPath::root(alloc);
+    let mut place = *here;
+    for _ in 0..limit {
+        if place.is_end() {
+            return Ok(Some(FieldMask::Prefix(path)));
+        }
+        let Some((step, below)) = only_step(alloc, &place)? else {
+            return Ok(None);
+        };
+        path = path.push(step)?;
+        place = below;
+    }
+    Ok(None)
 }

@@ -1,0 +1,80 @@
+-- SPDX-License-Identifier: Apache-2.0
+-- SPDX-FileCopyrightText: Copyright the Vortex contributors
+
+-- What is asked for where all of it goes on by one path, step by step: a mask made of a cursor (`cursors`).
+use Rattle.std.proofs.Common.{◌≡◌, ◌↔◌, ◌∙◌, ◌||◌, ◌<◌, ℕ, suc, zero, List, [], ◌∷◌, ◌++◌, true, false, IsTrue, ⊎_elim, map, refl, sym, ap, subst, append_assoc, append-nil, arith}
+use Rattle.std.proofs.lemmas.Bool.{false≢true, or_cases, or_left, or_right}
+use Rattle.std.specs.List.{Contains, slice_index_or}
+use Rattle.vortex_dtype.specs.Beginning.{Beginning}
+use Rattle.vortex_dtype.specs.In.{In}
+use Rattle.vortex_dtype.specs.PathPredicates.{AreNames, PathPredicate, after_step, asks_above, no_path}
+use Rattle.vortex_dtype.specs.Types.Field.{Field}
+use Rattle.vortex_dtype.specs.Types.Field.TheVariants.{Name, ElementType}
+use Rattle.vortex_dtype.specs.Types.FieldMask.{FieldMask}
+use Rattle.vortex_dtype.specs.Types.FieldMask.TheVariants.{Prefix}
+
+-- after the steps p is asked for what v asks for, and nothing is asked for elsewhere
+pub record GoesOn (w : PathPredicate) (p : List Field) (v : PathPredicate) : Type 0 where
+  pub after : (q : List Field) → w (p ++ q) ≡ v q
+  pub only : (q : List Field) → IsTrue (w q) → Beginning p q
+
+pub goes_on_here : (w : PathPredicate) → GoesOn w [] w
+goes_on_here w = record { after = λ q. refl; only = λ q h. (q, refl) }
+
+-- one step more
+pub goes_on_step : (w v u : PathPredicate) (p : List Field) (f : Field) → GoesOn w p v → v [] ≡ false → u ≡ after_step f v → ((g : Field) (q : List Field) → IsTrue (v (g ∷ q)) → g ≡ f) → GoesOn w (p ++ f ∷ []) u
+goes_on_step w v u p f at here is one = record {
+  after = λ q. ap w (append_assoc p (f ∷ []) q) ∙ at.after (f ∷ q) ∙ sym (ap (λ (x : PathPredicate). x q) is);
+  only = λ q h. let b = at.only q h in on b.0 q b.1 (sym (at.after b.0) ∙ ap w (sym b.1) ∙ h);
+}
+  where
+    on : (rest q : List Field) → q ≡ p ++ rest → IsTrue (v rest) → Beginning (p ++ f ∷ []) q
+    on [] q e h = absurd (false≢true (sym here ∙ h))
+    on (g ∷ r) q e h = (r, e ∙ ap (λ x. p ++ x ∷ r) (one g r h) ∙ sym (append_assoc p (f ∷ []) r))
+
+-- a path that is asked for begins those that it is above, and the converse
+asked_above : (w : PathPredicate) (p rest : List Field) → IsTrue (w p) → IsTrue (asks_above w (p ++ rest))
+asked_above w [] [] h = h
+asked_above w [] (g ∷ rest) h = or_left (w []) (asks_above (after_step g w) rest) h
+asked_above w (f ∷ p) rest h = or_right (w []) (asks_above (after_step f w) (p ++ rest)) (asked_above (after_step f w) p rest h)
+
+above_asked : (w : PathPredicate) (q : List Field) → IsTrue (asks_above w q) → (p : List Field) × IsTrue (w p) × Beginning p q
+above_asked w [] h = ([], h, ([], refl))
+above_asked w (f ∷ q) h =
+    ⊎_elim (λ e. ([], e, (f ∷ q, refl)))
+    (λ e. let a = above_asked (after_step f w) q e in (f ∷ a.0, a.1, (a.2.0, ap (λ r. f ∷ r) a.2.1)))
+    (or_cases (w []) (asks_above (after_step f w) q) h)
+
+-- where a path ends after p, the prefix of p selects what is asked for
+pub prefix_is_asked : (w v : PathPredicate) (p q : List Field) → GoesOn w p v → v [] ≡ true → In (Prefix p) q ↔ IsTrue (asks_above w q)
+prefix_is_asked w v p q at ends = (
+  λ b. subst (λ x. IsTrue (asks_above w x)) (sym b.1) (asked_above w p b.0 (ap w (sym (append-nil p)) ∙ at.after [] ∙ ends)),
+  λ h.
+      let a = above_asked w q h in let b = at.only a.0 a.1 in
+      (b.0 ++ a.2.0, a.2.1 ∙ ap (λ x. x ++ a.2.0) b.1 ∙ append_assoc p b.0 a.2.0),
+)
+
+-- ---- the one step by which paths go on
+
+-- without names it is the element
+pub only_element : (w : PathPredicate) (ns : List (List ℕ × PathPredicate)) (f : Field) (q : List Field) → AreNames w ns → ns ≡ [] → IsTrue (w (f ∷ q)) → f ≡ ElementType
+only_element w ns ElementType q a none h = refl
+only_element w ns (Name n) q a none h =
+    let c = (a.exact n).1 (λ z. false≢true (sym (ap (λ (v : PathPredicate). v q) z) ∙ h)) in
+    let no = subst (λ es. Contains (map (λ (d : List ℕ × PathPredicate). d.0) es) n) none c in absurd (omega (arith, no.1))
+
+-- with one name, and without the element, it is that name
+pub only_name : (w : PathPredicate) (ns : List (List ℕ × PathPredicate)) (e : List ℕ × PathPredicate) (f : Field) (q : List Field) → AreNames w ns → ns ≡ e ∷ [] → no_path ≡ after_step ElementType w → IsTrue (w (f ∷ q)) → f ≡ Name e.0
+only_name w ns e ElementType q a is none h = absurd (false≢true (ap (λ (v : PathPredicate). v q) none ∙ h))
+only_name w ns e (Name n) q a is none h =
+    let c = (a.exact n).1 (λ z. false≢true (sym (ap (λ (v : PathPredicate). v q) z) ∙ h)) in
+    let d = subst (λ es. Contains (map (λ (x : List ℕ × PathPredicate). x.0) es) n) is c in
+    ap Name (sym (at d.0 d.1 d.2))
+  where
+    at : (k : ℕ) → k < 1 → slice_index_or (e.0 ∷ []) k n ≡ n → e.0 ≡ n
+    at zero l eq = eq
+    at (suc k) l eq = absurd (omega (arith, l))
+
+-- and after a name is asked for what is given with it
+pub name_after : (w : PathPredicate) (ns rest : List (List ℕ × PathPredicate)) (e : List ℕ × PathPredicate) → AreNames w ns → ns ≡ e ∷ rest → e.1 ≡ after_step (Name e.0) w
+name_after w ns rest e a is = a.each e (subst (λ es. Contains es e) (sym is) (0, omega arith, refl))

@@ -37,8 +37,8 @@ const CONDITIONS: [(&str, &str); 15] = [
     ("names", "starts_with_field"),
 ];
 
-/// Adds commands that make one call each: of the type behind the comma the method that the command is named for, or the
-/// one behind `=`. What a method takes stands in the line before what it is called on.
+/// Adds commands that make one call each: the method of this type that the command is named for, or the one behind `=`.
+/// What a method takes stands in a line of the console before what it is called on. (Of `@one`'s names the first counts.)
 macro_rules! methods {
     ($console:ident, $of:ty: $($command:ident $(= $method:ident)? $(($taken:ty))?),* $(,)?) => {
         $(methods!(@one $console, $of, $command, $($method)? $command, $(($taken))?);)*

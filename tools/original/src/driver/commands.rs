@@ -38,7 +38,7 @@ const CONDITIONS: [(&str, &str); 15] = [
 ];
 
 /// Adds commands that make one call each: the method of this type that the command is named for, or the one behind `=`.
-/// What a method takes stands in a line of the console before what it is called on. (Of `@one`'s names the first counts.)
+/// What a method takes stands in a line before what it is called on. (Of the names that `@one` takes the first counts.)
 macro_rules! methods {
     ($console:ident, $of:ty: $($command:ident $(= $method:ident)? $(($taken:ty))?),* $(,)?) => {
         $(methods!(@one $console, $of, $command, $($method)? $command, $(($taken))?);)*

@@ -2,7 +2,7 @@
 -- SPDX-FileCopyrightText: Copyright the Vortex contributors
 
 -- What is asked for where all of it goes on by one path, step by step: a mask made of a cursor (`cursors`).
-use Rattle.std.proofs.Common.{◌≡◌, ◌↔◌, ◌∙◌, ◌||◌, ◌<◌, ℕ, suc, zero, List, [], ◌∷◌, ◌++◌, true, false, IsTrue, ⊎_elim, map, refl, sym, ap, subst, append_assoc, append-nil, arith}
+use Rattle.std.proofs.Common.{◌≡◌, ◌↔◌, ◌∙◌, ◌<◌, ℕ, suc, zero, List, [], ◌∷◌, ◌++◌, true, false, IsTrue, ⊎_elim, map, refl, sym, ap, subst, append_assoc, append-nil, arith}
 use Rattle.std.proofs.lemmas.Bool.{false≢true, or_cases, or_left, or_right}
 use Rattle.std.specs.List.{Contains, slice_index_or}
 use Rattle.vortex_dtype.specs.Beginning.{Beginning}

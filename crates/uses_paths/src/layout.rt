@@ -47,6 +47,7 @@ pub struct Opened {
 
 /// A table, opened for a query by the least paths that cover it: they keep what all of its paths keep. `None` where the
 /// table has none of its columns.
+#[tactic(auto, using(vortex_dtype::proofs::rulesets::covered_paths))]
 pub fn open_for_query(
     alloc: Global,
     table: &DType,

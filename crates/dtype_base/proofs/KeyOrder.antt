@@ -2,7 +2,7 @@
 -- SPDX-FileCopyrightText: Copyright the Vortex contributors
 
 -- The keys of names, the index sorted by them, and how the bytes of a name are read.
-use Rattle.std.proofs.Common.{◌%◌, mod-eq_of_lt, ◌≡◌, ◌≢◌, ℕ, zero, suc, ◌+◌, ◌-◌, ◌*◌, ◌<◌, ◌≤◌, ◌^◌, List, [], ◌∷◌, ◌++◌, length, get_or, take, drop, Some, Bool, true, false, IsTrue, ◌↔◌, ◌/◌, refl, sym, ap, subst, subst₂, ◌∙◌, inl, inr, arith, pow-suc, add-mul}
+use Rattle.std.proofs.Common.{◌%◌, mod-eq_of_lt, ◌≡◌, ◌≢◌, ℕ, zero, suc, ◌+◌, ◌-◌, ◌*◌, ◌<◌, ◌≤◌, ◌^◌, List, [], ◌∷◌, ◌++◌, length, get_or, take, drop, Some, Bool, true, false, IsTrue, ◌↔◌, ◌/◌, refl, sym, ap, subst, ◌∙◌, inl, inr, arith, pow-suc, add-mul}
 use Rattle.std.specs.Prelude.{slice_get}
 use Rattle.std.proofs.Math.Nat.{add-mul-mod_self_right, mul_assoc}
 use Rattle.std.proofs.lemmas.Nat.{div-mul-add, pow-add}
@@ -11,11 +11,10 @@ use Rattle.std.specs.List.Sorted.{IsPermutation, IsSorted}
 use Rattle.std.specs.Int.{w64, from_be_bytes}
 use Rattle.std.specs.declared.cmp.Ordering.TheVariants.{Less, Equal, Greater}
 use Rattle.std.specs.declared.cmp.Ordering.{Ordering}
-use Rattle.std.specs.Ordering.{is_lt, ordering_index, ordering_then, nat_cmp}
+use Rattle.std.specs.Ordering.{is_eq, is_lt, ordering_then, nat_cmp}
 use Rattle.std.specs.Cmp.{IsTotalOrder, then_total, on_total, nat_cmp_is, nat_cmp_total}
 use Rattle.std.proofs.lemmas.Bool.{cases_lt, cases_order, false≢true}
-use Rattle.std.proofs.lemmas.List.{get_or-map, get_or-take, get_or-drop, get_or_past, map-append, drop-drop, length-drop, length-take-le}
-use Rattle.std.proofs.lemmas.Grind.{same_number_lists}
+use Rattle.std.proofs.lemmas.List.{get_or-map, get_or-take, get_or-drop, get_or_past, map-append, drop-drop, length-drop, take_more_same}
 use Rattle.std.proofs.lemmas.List.Elements.{All-drop}
 use Rattle.std.proofs.lemmas.List.Sorted.{All-permutation, IsPermutation-map, IsNonDecreasingBy-from_all_adjacent}
 use Rattle.std.proofs.lemmas.Option.{slice_get-get_or, get_or_from_slice_get}
@@ -26,7 +25,7 @@ use Rattle.dtype_base.specs.declared.name_key.Keying.{Keying}
 use Rattle.dtype_base.specs.declared.name_order.IndexEntry.{IndexEntry}
 use Rattle.dtype_base.specs.declared.name_order.Discriminator.{Discriminator}
 use Rattle.dtype_base.specs.declared.name_order.Discriminator.TheVariants.{Key, Text}
-use Rattle.dtype_base.proofs.NameSearch.{Occurs, as_many_positions, at_least_equal, at_most_equal, position_at, counted_more, equal_is, no_entry, placed, itself, names_ranked, position_total}
+use Rattle.dtype_base.proofs.NameSearch.{Occurs, as_many_positions, second_equal, position_at, counted_more, equal_is, no_entry, placed, itself, position_total}
 
 -- ---- the first bytes of a text, as a number
 
@@ -45,17 +44,6 @@ unfolding big_endian
 of_none zero bs e = refl
 of_none (suc k) bs e = omega (arith, of_none k bs e, get_or_past bs k 0 (omega (arith, e)))
 
--- texts with one number of their first k bytes have the same first k bytes
-same_bytes : (k i : ℕ) (xs ys : List ℕ) → Bytes xs → Bytes ys → big_endian k xs ≡ big_endian k ys → i < k → get_or xs i 0 ≡ get_or ys i 0
-unfolding big_endian
-same_bytes zero i xs ys a b e l = absurd (omega (arith, l))
-same_bytes (suc k) i xs ys a b e l =
-    let last : get_or xs k 0 ≡ get_or ys k 0 = omega (arith, e, byte_below k xs a, byte_below k ys b) in
-    elim (cases_lt i k) [
-      | inl sooner ↦ same_bytes k i xs ys a b (omega (arith, e, last)) sooner
-      | inr later ↦ subst (λ j. get_or xs j 0 ≡ get_or ys j 0) (omega (arith, l, later)) last
-    ]
-
 -- ---- entries
 
 -- of keys of which each is below the next, each is below all after it
@@ -70,6 +58,19 @@ then_again : (r s t : Ordering) → ordering_then r (ordering_then s t) ≡ orde
 then_again Less s t = refl
 then_again Equal s t = refl
 then_again Greater s t = refl
+
+-- an ordering decides alone where its ties are ties
+tied_then : (r s : Ordering) → (r ≡ Equal → s ≡ Equal) → r ≡ ordering_then r s
+tied_then Less s tie = refl
+tied_then Equal s tie = sym (tie refl)
+tied_then Greater s tie = refl
+
+cmp_equal : (a b : ℕ) → nat_cmp a b ≡ Equal → a ≡ b
+cmp_equal a b e = elim (cases_order a b) [
+  | inl same ↦ same
+  | inr (inl less) ↦ absurd (false≢true (ap is_eq (nat_cmp_is a b Less less ∙ e)))
+  | inr (inr more) ↦ absurd (false≢true (ap is_eq (nat_cmp_is a b Greater more ∙ e)))
+]
 
 -- an entry has the key of the name at its position
 entry_key : (names : List (List ℕ)) (keying : Keying) (p : IndexEntry) → IsKeyed names keying p → p.key ≡ key_or keying (slice_get names p.position)
@@ -124,33 +125,20 @@ module _ (names : List (List ℕ)) (keying : Keying) (entries : List IndexEntry)
       let at = sym (position_at entries s.0 d here) in
       (s.0, here, at, ap (name_cmp keying names n) (at ∙ s.2) ∙ itself keying names (positions entries) order n i t.1)
 
-  -- the names of the entries are ranked
-  ranked_entries : (n : List ℕ) (j k : ℕ) (d : IndexEntry) → j < k → k < length entries
-      → ordering_index (name_cmp keying names n (get_or entries j d).position) ≤ ordering_index (name_cmp keying names n (get_or entries k d).position)
-  ranked_entries n j k d before within =
-      let at_j = position_at entries j d (omega (arith, before, within)) in
-      let at_k = position_at entries k d within in
-      subst₂ (λ x y. ordering_index (name_cmp keying names n x) ≤ ordering_index (name_cmp keying names n y)) at_j at_k
-      (names_ranked keying names (positions entries) order n j k 0 (omega (arith, before)) (omega (arith, within, as_many_positions entries)))
-
-  -- keys that increase along the entries compare an entry with a name that occurs as the names do
+  -- keys that increase along the entries compare an entry with a name that occurs as the names do: where the keys are
+  -- equal the entry is the name's
   pub keys_decide : AllAdjacentBelow (λ p q. p.key < q.key) entries (length entries) → (n : List ℕ) (key k : ℕ) (d : IndexEntry) → key ≡ key_of keying n → k < length entries → Occurs names n
       → nat_cmp (get_or entries k d).key key ≡ name_cmp keying names n (get_or entries k d).position
   keys_decide increase n key k d is within t =
       let s = entry_of n d t in
       let p = get_or entries k d in
       let key_s : (get_or entries s.0 d).key ≡ key = same_key n s.0 d s.1 s.3 ∙ sym is in
-      elim (cases_order k s.0) [
-        | inl e ↦ sym (nat_cmp_is _ _ Equal (ap (λ j. (get_or entries j d).key) e ∙ key_s)) ∙ sym (ap (λ j. name_cmp keying names n (get_or entries j d).position) e ∙ s.3)
-        | inr (inl before) ↦
-            let lower : p.key < key = omega (arith, far entries increase k s.0 d before s.1, key_s) in
-            sym (nat_cmp_is _ _ Less lower) ∙ sym (at_most_equal _ _ (ranked_entries n k s.0 d before s.1) s.3 (λ same.
-            absurd (omega (arith, lower, same_key n k d within same, is))))
-        | inr (inr after) ↦
-            let higher : key < p.key = omega (arith, far entries increase s.0 k d after within, key_s) in
-            sym (nat_cmp_is _ _ Greater higher) ∙ sym (at_least_equal _ _ (ranked_entries n s.0 k d after within) s.3 (λ same.
-            absurd (omega (arith, higher, same_key n k d within same, is))))
-      ]
+      let names_tie : nat_cmp p.key key ≡ Equal → bytes_cmp (slice_get names p.position) (Some n) ≡ Equal = λ same. let key_p = cmp_equal p.key key same in elim (cases_order k s.0) [
+        | inl e ↦ second_equal _ _ (ap (λ j. name_cmp keying names n (get_or entries j d).position) e ∙ s.3)
+        | inr (inl before) ↦ absurd (omega (arith, far entries increase k s.0 d before s.1, key_s, key_p))
+        | inr (inr after) ↦ absurd (omega (arith, far entries increase s.0 k d after within, key_s, key_p))
+      ] in
+      tied_then _ _ names_tie ∙ name_by_keys names keying p n key (keyed k d within) is
 
 -- what the index's discriminator names compares an entry with a name that occurs
 pub decided : (names : List (List ℕ)) (keying : Keying) (by : Discriminator) (entries : List IndexEntry) → IsIndexOf names keying by entries
@@ -215,10 +203,13 @@ first_alone (suc k) n bs e = omega (arith, first_alone k n bs (omega (arith, e))
 
 -- texts of at least k bytes have equal prefixes of k bytes where their numbers are equal
 same_first : (k : ℕ) (xs ys : List ℕ) → Bytes xs → Bytes ys → k ≤ length xs → k ≤ length ys → big_endian k xs ≡ big_endian k ys → take k xs ≡ take k ys
-same_first k xs ys a b long_a long_b e =
-    let in_a = length-take-le k xs long_a in
-    same_number_lists (take k xs) (take k ys) (in_a ∙ sym (length-take-le k ys long_b)) (λ i l.
-    let within : i < k = omega (arith, l, in_a) in get_or-take k xs i 0 within ∙ same_bytes k i xs ys a b e within ∙ sym (get_or-take k ys i 0 within))
+unfolding big_endian
+same_first zero xs ys a b long_a long_b e = refl
+same_first (suc k) xs ys a b long_a long_b e =
+    let last : get_or xs k 0 ≡ get_or ys k 0 = omega (arith, e, byte_below k xs a, byte_below k ys b) in
+    let next : k + 1 ≡ suc k = omega arith in
+    let before = same_first k xs ys a b (omega (arith, long_a)) (omega (arith, long_b)) (omega (arith, e, last)) in
+    subst (λ j. take j xs ≡ take j ys) next (take_more_same xs ys k 0 (omega (arith, long_a)) (omega (arith, long_b)) before last)
 
 pub prefix_decides : (k : ℕ) (xs ys : List ℕ) → Bytes xs → Bytes ys → k ≤ length xs → k ≤ length ys → (big_endian k xs ≡ big_endian k ys) ↔ (take k xs ≡ take k ys)
 prefix_decides k xs ys a b long_a long_b = (

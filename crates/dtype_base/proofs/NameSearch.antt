@@ -29,7 +29,7 @@ use Rattle.dtype_base.specs.Distinct.{Distinct}
 use Rattle.dtype_base.specs.FieldNames.{FirstAt, first_place}
 use Rattle.dtype_base.proofs.lemmas.Lookups.{first_of_place, absent_of_place}
 use Rattle.dtype_base.specs.BinaryDigits.{binary_digits}
-use Rattle.dtype_base.proofs.lemmas.BinaryDigits.{digits_halved, digits_more}
+use Rattle.dtype_base.proofs.lemmas.BinaryDigits.{digits_before, digits_more}
 use Rattle.dtype_base.specs.Comparisons.{comparisons}
 use Rattle.dtype_base.specs.private.NameOrder.{bytes_cmp, key_or, keyed_cmp, keyed_position_cmp, name_cmp, position_cmp, IsOrderOf, positions, mask}
 use Rattle.dtype_base.specs.declared.name_key.Keying.{Keying}
@@ -76,11 +76,6 @@ pub at_most_equal : (r s : Ordering) → ordering_index r ≤ ordering_index s �
 at_most_equal Less s le e differ = refl
 at_most_equal Equal s le e differ = absurd (differ refl)
 at_most_equal Greater s le e differ = absurd (omega (arith, le, ap ordering_index e))
-
-pub at_least_equal : (r s : Ordering) → ordering_index s ≤ ordering_index r → s ≡ Equal → r ≢ Equal → r ≡ Greater
-at_least_equal Greater s le e differ = refl
-at_least_equal Equal s le e differ = absurd (differ refl)
-at_least_equal Less s le e differ = absurd (omega (arith, le, ap ordering_index e))
 
 between : (r s t : Ordering) → ordering_index r ≤ ordering_index s → ordering_index s ≤ ordering_index t → r ≡ Equal → t ≡ Equal → s ≡ Equal
 between r Equal t le ge e f = refl
@@ -174,60 +169,54 @@ module _ (keying : Keying) (names : List (List ℕ)) (order : List ℕ) (h : IsO
     }
 
     -- one step: a comparison with the last name of what may be left out decides which part is left
-    pub steps : (low size compared half m below : ℕ) (b : Bool) → Searching names order n low size compared → 0 < half → half + half ≤ size → binary_digits (size - 1) ≡ binary_digits (size - half - 1) + 1 → m ≡ low + half - 1
-        → half < 2 ^ 64 → (Occurs names n → is_lt (name_cmp keying names n (get_or order m 0)) ≡ b) → below ≡ mask b → Searching names order n (low + bit_and half below) (size - half) (compared + 1)
-    steps low size compared half m below true inv some less digits at fits distinguished e =
+    pub steps : (low size compared half m below : ℕ) (b : Bool) (next_low left counted : ℕ) → Searching names order n low size compared → 0 < half → half + half ≤ size → left + half ≡ size
+        → binary_digits (size - 1) ≡ binary_digits (left - 1) + 1 → m ≡ low + half - 1 → half < 2 ^ 64 → (Occurs names n → is_lt (name_cmp keying names n (get_or order m 0)) ≡ b) → below ≡ mask b
+        → next_low ≡ low + bit_and half below → counted ≡ compared + 1 → Searching names order n next_low left counted
+    steps low size compared half m below true next_low left counted inv some less rest digits at fits distinguished e next one =
         let moved : bit_and half below ≡ half = masked true half below fits e in record {
-          some = omega (arith, some, less);
-          within = omega (arith, moved, inv.within, less);
+          some = omega (arith, some, less, rest);
+          within = omega (arith, next, moved, inv.within, rest);
           holds = λ q b first.
               let lower = is_less _ (distinguished (get_or order q 0, first.here)) in
               let after : m < q = elim (cases_lt m q) [
                 | inl after ↦ after
                 | inr before ↦ absurd (omega (arith, names_ranked n q m 0 before (omega (arith, at, some, less, inv.within)), ap ordering_index lower, ap ordering_index (itself _ first.here)))
               ] in
-              (omega (arith, moved, at, after, some), omega (arith, moved, less, (inv.holds q b first).1));
-          count = omega (arith, inv.count, digits);
+              (omega (arith, next, moved, at, after, some), omega (arith, next, moved, rest, (inv.holds q b first).1));
+          count = omega (arith, inv.count, digits, one);
         }
-    steps low size compared half m below false inv some less digits at fits distinguished e =
+    steps low size compared half m below false next_low left counted inv some less rest digits at fits distinguished e next one =
         let stayed : bit_and half below ≡ 0 = masked false half below fits e in record {
-          some = omega (arith, some, less);
-          within = omega (arith, stayed, inv.within);
+          some = omega (arith, some, less, rest);
+          within = omega (arith, next, stayed, inv.within, rest);
           holds = λ q b first.
               let upto : q ≤ m = elim (cases_lt m q) [
                 | inl after ↦ absurd (false≢true (sym (distinguished (get_or order q 0, first.here)) ∙ ap is_lt (before_first m q after b first)))
                 | inr before ↦ before
               ] in
-              (omega (arith, stayed, (inv.holds q b first).0), omega (arith, stayed, at, some, less, upto));
-          count = omega (arith, inv.count, digits);
+              (omega (arith, next, stayed, (inv.holds q b first).0), omega (arith, next, stayed, at, some, less, rest, upto));
+          count = omega (arith, inv.count, digits, one);
         }
 
     -- the first step, after which a power of two is left
     pub leaves_power : (k low compared half m below : ℕ) (b : Bool) → 2 ^ k < length order → length order < 2 * 2 ^ k → half ≡ length order - 2 ^ k → m ≡ half - 1 → half < 2 ^ 64
         → (Occurs names n → is_lt (name_cmp keying names n (get_or order m 0)) ≡ b) → below ≡ mask b → low ≡ bit_and half below → compared ≡ 1 → Searching names order n low (2 ^ k) compared
-    leaves_power k low compared half m below b more fewer is at fits distinguished e moved counted =
-        let rest : length order - half ≡ 2 ^ k = omega (arith, more, is) in
-        let there : 0 + bit_and half below ≡ low = omega (arith, moved) in
-        let one : 0 + 1 ≡ compared = omega (arith, counted) in
-        let digits = digits_more (length order) k more (omega (arith, fewer)) ∙ ap (λ s. binary_digits (s - 1) + 1) (sym rest) in
-        let after = steps 0 (length order) 0 half m below b (starts 0 (length order) 0 (omega (arith, more)) refl refl refl) (omega (arith, more, is)) (omega (arith, more, fewer, is)) digits (omega (arith, at)) fits distinguished e in
-        subst (λ l. Searching names order n l (2 ^ k) compared) there
-        (subst (λ s. Searching names order n (0 + bit_and half below) s compared) rest (subst (λ c. Searching names order n (0 + bit_and half below) (length order - half) c) one after))
+    leaves_power k low compared half m below b more fewer is at fits distinguished e moved one =
+        steps 0 (length order) 0 half m below b low (2 ^ k) compared (starts 0 (length order) 0 (omega (arith, more)) refl refl refl) (omega (arith, more, is)) (omega (arith, more, fewer, is)) (omega (arith, more, is))
+        (digits_more (length order) k more (omega (arith, fewer))) (omega (arith, at)) fits distinguished e (omega (arith, moved)) (omega (arith, one))
 
     -- a step of halves
-    pub halves : (low compared half m below : ℕ) (b : Bool) → Halving names order n low half compared → 0 < half → m ≡ low + half - 1 → half < 2 ^ 64 → (Occurs names n → is_lt (name_cmp keying names n (get_or order m 0)) ≡ b)
-        → below ≡ mask b → Halving names order n (low + bit_and half below) (half / 2) (compared + 1)
-    halves low compared half m below b inv some at fits distinguished e = go inv.steps inv.is inv.left
+    pub halves : (low compared half m below : ℕ) (b : Bool) (counted : ℕ) → Halving names order n low half compared → 0 < half → m ≡ low + half - 1 → half < 2 ^ 64 → (Occurs names n → is_lt (name_cmp keying names n (get_or order m 0)) ≡ b)
+        → below ≡ mask b → counted ≡ compared + 1 → Halving names order n (low + bit_and half below) (half / 2) counted
+    halves low compared half m below b counted inv some at fits distinguished e one = go inv.steps inv.is inv.left
       where
-        go : (k : ℕ) → half ≡ 2 ^ k / 2 → Searching names order n low (2 ^ k) compared → Halving names order n (low + bit_and half below) (half / 2) (compared + 1)
+        go : (k : ℕ) → half ≡ 2 ^ k / 2 → Searching names order n low (2 ^ k) compared → Halving names order n (low + bit_and half below) (half / 2) counted
         go zero is left = absurd (omega (arith, some, is))
         go (suc k) is left =
-            let twice = pow-suc 2 k in
-            let rest : 2 ^ suc k - half ≡ 2 ^ k = omega (arith, is, twice) in record {
+            let twice = pow-suc 2 k in record {
               steps = k;
               is = omega (arith, is, twice);
-              left = subst (λ size. Searching names order n (low + bit_and half below) size (compared + 1)) rest
-                  (steps low (2 ^ suc k) compared half m below b left some (omega (arith, some, is, twice)) (digits_halved (2 ^ suc k - 1) (2 ^ suc k - half - 1) (omega (arith, some, is, twice)) (omega (arith, some, is, twice))) at fits distinguished e);
+              left = steps low (2 ^ suc k) compared half m below b (low + bit_and half below) (2 ^ k) counted left some (omega (arith, is, twice)) (omega (arith, is, twice)) (omega (arith, digits_before (suc k), digits_before k)) at fits distinguished e refl one;
             }
 
     -- the last comparison decides whether the entry that is left has the name

@@ -3,8 +3,8 @@
 
 -- Names looked up one after another.
 use Rattle.std.proofs.Common.{◌≡◌, ◌≢◌, ℕ, zero, suc, ◌+◌, ◌<◌, List, [], ◌∷◌, ◌++◌, length, map, take, get_or, Option, Some, None, slice_get, refl, sym, ap, ◌∙◌, arith}
-use Rattle.std.proofs.lemmas.List.{map_push, map_more}
-use Rattle.std.proofs.lemmas.Option.{same_Some, slice_get_read}
+use Rattle.std.proofs.lemmas.List.{get_or-take, length-take, map_push, map_more}
+use Rattle.std.proofs.lemmas.Option.{get_or_from_slice_get, same_Some, slice_get-get_or, slice_get_read, slice_get_within}
 use Rattle.dtype_base.specs.FieldNames.{first_place, IsFirstAbsent}
 
 -- one name more
@@ -26,10 +26,9 @@ known f (m ∷ ms) (i ∷ is) e (suc k) n here none =
 known f _ _ e _ n here none = cc
 
 within_take : {X : Type 0} (xs : List X) (j k : ℕ) (x : X) → k < j → slice_get xs k ≡ Some x → slice_get (take j xs) k ≡ Some x
-within_take [] (suc j) k x h e = e
-within_take (y ∷ ys) (suc j) zero x h e = e
-within_take (y ∷ ys) (suc j) (suc k) x h e = within_take ys j k x (omega arith) e
-within_take _ zero k x h e = absurd (omega arith)
+within_take xs j k x h e =
+    let within = slice_get_within xs k x e in
+    slice_get-get_or (take j xs) k x (omega (arith, length-take j xs)) ∙ ap Some (get_or-take j xs k x h ∙ get_or_from_slice_get xs k x x e)
 
 -- the first name that is absent
 pub first_absent : (names asked : List (List ℕ)) (first_positions : List ℕ) (j : ℕ) (n : List ℕ) → j < length asked → n ≡ get_or asked j n → map Some first_positions ≡ map (first_place names) (take j asked) → None ≡ first_place names n → IsFirstAbsent names asked j

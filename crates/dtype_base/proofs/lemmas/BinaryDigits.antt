@@ -40,20 +40,6 @@ digits_reach n = (digits_are n).is_enough
 pub digits_fewest : (n d : ℕ) → n < 2 ^ d → binary_digits n ≤ d
 digits_fewest n d fits = (digits_are n).fewest d fits
 
-one_less : (n m d : ℕ) → 0 < n → m ≡ n / 2 → n < 2 ^ d → (1 ≤ d) × (binary_digits m + 1 ≤ d)
-one_less n m zero a e h = absurd (omega arith)
-one_less n m (suc d) a e h =
-    let half : m < 2 ^ d = omega (arith, e, h, pow-suc 2 d) in
-    (omega arith, omega (arith, digits_fewest m d half))
-
--- half of a number has one digit less
-pub digits_halved : (n m : ℕ) → 0 < n → m ≡ n / 2 → binary_digits n ≡ binary_digits m + 1
-digits_halved n m a e =
-    let whole : n < 2 ^ suc (binary_digits m) = omega (arith, e, digits_reach m, pow-suc 2 (binary_digits m)) in
-    let most = digits_fewest n (suc (binary_digits m)) whole in
-    let least = one_less n m (binary_digits n) a e (digits_reach n) in
-    omega (arith, most, least.1)
-
 -- a number from a power of two on, and below the next
 digits_between : (n k : ℕ) → 2 ^ k ≤ n → n < 2 ^ suc k → binary_digits n ≡ suc k
 digits_between n k low fits =
@@ -62,7 +48,7 @@ digits_between n k low fits =
     omega (arith, most, least)
 
 -- the number before a power of two
-digits_before : (k : ℕ) → binary_digits (2 ^ k - 1) ≡ k
+pub digits_before : (k : ℕ) → binary_digits (2 ^ k - 1) ≡ k
 unfolding binary_digits
 digits_before zero = refl
 digits_before (suc k) =

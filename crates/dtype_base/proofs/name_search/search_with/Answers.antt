@@ -1,16 +1,17 @@
 -- SPDX-License-Identifier: Apache-2.0
 -- SPDX-FileCopyrightText: Copyright the Vortex contributors
 
-use Rattle.std.proofs.Common.{◌≡◌, ◌+◌, ◌-◌, ◌*◌, ◌/◌, ◌%◌, ◌<◌, ◌^◌, length, refl, sym, ap, subst, ◌∙◌, arith, mod-eq_of_lt, is_lt}
+use Rattle.std.proofs.Common.{◌≡◌, ℕ, List, ◌+◌, ◌-◌, ◌*◌, ◌/◌, ◌%◌, ◌<◌, ◌^◌, length, refl, sym, ap, ◌∙◌, arith, mod-eq_of_lt, is_lt}
 use Rattle.std.specs.Bool.{then_some}
-use Rattle.std.specs.Int.Bits.{bit_and}
 use Rattle.std.proofs.lemmas.Bool.{eqb-true}
 use Rattle.std.proofs.lemmas.Option.{slice_get_within}
 use Rattle.dtype_base.proofs.lemmas.BinaryDigits.{digits_fewest}
 use Rattle.dtype_base.proofs.lemmas.Lookups.{no_place}
+use Rattle.dtype_base.specs.BinaryDigits.{binary_digits}
 use Rattle.dtype_base.specs.Comparisons.{comparisons}
+use Rattle.dtype_base.specs.declared.name_order.IndexEntry.{IndexEntry}
 use Rattle.dtype_base.specs.private.NameOrder.{name_cmp, positions}
-use Rattle.dtype_base.proofs.NameSearch.{Halving, as_many, as_many_positions, position_at, no_entry, starts, leaves_power, halves, ends, counts}
+use Rattle.dtype_base.proofs.NameSearch.{as_many, as_many_positions, position_at, no_entry, starts, leaves_power, halves, ends, counts}
 use Rattle.dtype_base.proofs.KeyOrder.{decided, same_decided}
 use Rattle.dtype_base.proofs.name_search.search_with.Goals.{then-size-entries, else-size-entries}
 use Rattle.dtype_base.proofs.name_search.search_with.Goals as goal
@@ -58,15 +59,15 @@ loop-half-init c =
       ];
     }
 
+-- a count that the entries allow has room for one comparison more
+room_for_one : (entries : List IndexEntry) (compared left : ℕ) → compared + left ≡ binary_digits (length (positions entries) - 1) → length entries < 2 ^ 64 → compared + 1 < 2 ^ 64
+room_for_one entries compared left count few = omega (arith, count, digits_fewest (length (positions entries) - 1) 64 (omega (arith, few, as_many_positions entries)))
+
 pub compare-comparison-requires-in-loop-half-clause-room : goal.compare-comparison-requires-in-loop-half-clause-room
-compare-comparison-requires-in-loop-half-clause-room c =
-    let entries = c.args.entries.now in
-    omega (arith, c.loop-half.invariant.left.count, digits_fewest (length (positions entries) - 1) 64 (omega (arith, as_many_positions entries)))
+compare-comparison-requires-in-loop-half-clause-room c = room_for_one c.args.entries.now _ _ c.loop-half.invariant.left.count (omega arith)
 
 pub compare-comparison-requires-2-clause-room : goal.compare-comparison-requires-2-clause-room
-compare-comparison-requires-2-clause-room c =
-    let entries = c.args.entries.now in
-    omega (arith, c.loop-half.invariant.left.count, digits_fewest (length (positions entries) - 1) 64 (omega (arith, as_many_positions entries)))
+compare-comparison-requires-2-clause-room c = room_for_one c.args.entries.now _ _ c.loop-half.invariant.left.count (omega arith)
 
 pub loop-half-preserved : goal.loop-half-preserved
 loop-half-preserved c =
@@ -80,11 +81,10 @@ loop-half-preserved c =
     let comparison = c.compare-comparison-in-loop-half in
     let m = low + half - 1 in
     let within : m < length entries = omega (arith, inv.left.within, inv.is, c.loop-half-test.true, as_many_positions entries) in
-    subst (λ count. Halving names order n (low + bit_and half comparison.result.below) (half / 2) count) (sym comparison.ensures.counted)
-    (halves c.args.keying.now names order c.requires.index.order n low c.loop-half.compared half m comparison.result.below _ inv c.loop-half-test.true refl (omega arith)
+    halves c.args.keying.now names order c.requires.index.order n low c.loop-half.compared half m comparison.result.below _ comparison.new.compared inv c.loop-half-test.true refl (omega arith)
     (λ t. ap is_lt (ap (name_cmp c.args.keying.now names n) (position_at entries m no_entry within)
     ∙ sym (decided names c.args.keying.now c.args.by entries c.requires.index n c.args.key m no_entry c.requires.key within t)))
-    (comparison.ensures.below refl))
+    (comparison.ensures.below refl) comparison.ensures.counted
 
 pub returns-clause-place : goal.returns-clause-place
 returns-clause-place c =

@@ -4,7 +4,6 @@
 pub mod JoinedTexts
 pub mod EscapedChars
 pub mod ErrorEquality
-pub mod BitWidths
 pub mod NameSearch
 pub mod KeyOrder
 pub mod PermutedEntries

@@ -3,14 +3,14 @@
 
 -- Lemmas about decimals and their storage types. A caller names all of them in one line,
 --     #![tactic(auto, using(dtype_base::proofs::lemmas::Decimals::decimals))]
-use Rattle.std.proofs.Common.{◌≡◌, ◌+◌, ◌-◌, ◌*◌, ◌^◌, ◌<◌, ◌≤◌, ℕ, zero, suc, Bool, true, false, cond, ◌&&◌, List, [], ◌∷◌, Some, nat_le, nat_lt, find, refl, subst, add-zero, arith}
-use Rattle.std.proofs.lemmas.Bool.{and_parts, leb-true, ltb-true, ltb-false}
-use Rattle.std.proofs.lemmas.Option.{same_Some}
+use Rattle.std.proofs.Common.{◌≡◌, ◌+◌, ◌-◌, ◌*◌, ◌^◌, ◌<◌, ◌≤◌, ℕ, Bool, true, false, ◌&&◌, Some, nat_le, nat_lt, refl, ◌∙◌, arith}
+use Rattle.std.proofs.lemmas.Bool.{agree_below_at, and_parts, leb-true, lt-ltb, ltb-true, ltb-false}
+use Rattle.std.proofs.lemmas.Bool.Decides.{nat_tests}
 use Rattle.std.proofs.Math.Pow.{pow_mono}
 use Rattle.std.proofs.Math.Nat.{lt_of_le_of_lt, pow-le-pow_right}
 use Rattle.dtype_base.specs.Decimals.{greatest_precision, IsBitWidth, bit_width, smallest_storage, storage}
 use Rattle.dtype_base.specs.declared.decimal.DecimalType.{DecimalType}
-use Rattle.dtype_base.specs.declared.decimal.DecimalType.TheVariants.{I8, I16, I32, I64, I128, I256}
+use Rattle.dtype_base.specs.declared.decimal.DecimalType.TheVariants.{I8}
 
 -- ---- the bit width of a precision
 
@@ -25,33 +25,17 @@ at_most p b c h k = go (nat_lt c b) refl
 pub one_bit_width : (p b c : ℕ) → IsBitWidth p b → IsBitWidth p c → b ≡ c
 one_bit_width p b c h k = let there = at_most p b c h k in let back = at_most p c b k h in omega arith
 
--- a test of `count` precisions from p: each has the computed bit width
-abbrev are_computed : ℕ → ℕ → Bool
-are_computed p zero = true
-are_computed p (suc count) = (nat_le (10 ^ p) (2 ^ bit_width p) && nat_lt (2 ^ (bit_width p - 1)) (10 ^ p)) && are_computed (p + 1) count
-
-all_computed : are_computed 1 76 ≡ true
-all_computed = refl
-
-bit_width_tested : (p b : ℕ) → (nat_le (10 ^ p) (2 ^ b) && nat_lt (2 ^ (b - 1)) (10 ^ p)) ≡ true → IsBitWidth p b
-bit_width_tested p b e =
-    let both = and_parts _ _ e in
-    record {
-      enough = leb-true _ _ both.0;
-      least = λ c below. let up : c ≤ b - 1 = omega arith in lt_of_le_of_lt (pow_mono up) (ltb-true _ _ both.1);
-    }
-
-computed_at : (p count i : ℕ) → are_computed p count ≡ true → i < count → IsBitWidth (p + i) (bit_width (p + i))
-computed_at p zero i e inside = absurd (omega arith)
-computed_at p (suc count) zero e inside = rw add-zero (bit_width_tested p (bit_width p) (and_parts _ _ e).0)
-computed_at p (suc count) (suc i) e inside =
-    let next : (p + 1) + i ≡ p + suc i = omega arith in
-    subst (λ q. IsBitWidth q (bit_width q)) next (computed_at (p + 1) count i (and_parts _ _ e).1 (omega arith))
+-- a precision has the computed bit width, as a test of all up to the greatest shows
+abbrev is_computed : ℕ → Bool
+is_computed p = nat_le (10 ^ p) (2 ^ bit_width p) && nat_lt (2 ^ (bit_width p - 1)) (10 ^ p)
 
 pub bit_width_is_least : (p : ℕ) → 1 ≤ p → p ≤ greatest_precision → IsBitWidth p (bit_width p)
 bit_width_is_least p some most =
-    let place : 1 + (p - 1) ≡ p = omega (arith, some) in
-    subst (λ q. IsBitWidth q (bit_width q)) place (computed_at 1 76 (p - 1) all_computed (omega (arith, some, most)))
+    let both = and_parts _ _ (agree_below_at is_computed (nat_lt 0) 77 p refl (omega arith) ∙ lt-ltb 0 p (omega arith)) in
+    record {
+      enough = leb-true _ _ both.0;
+      least = λ c below. let up : c ≤ bit_width p - 1 = omega arith in lt_of_le_of_lt (pow_mono up) (ltb-true _ _ both.1);
+    }
 
 pub bit_width_is : (p b : ℕ) → IsBitWidth p b → 1 ≤ p → p ≤ greatest_precision → b ≡ bit_width p
 bit_width_is p b h some most = one_bit_width p b (bit_width p) h (bit_width_is_least p some most)
@@ -68,18 +52,13 @@ digits_are_most I8 = ltb-true _ _ refl
 digits_are_most _ = ltb-true _ _ refl
 
 -- the smallest storage type that has so many digits has all values of them
-found_digits : (p : ℕ) (ts : List DecimalType) (t : DecimalType) → find (λ t. nat_le p (storage t).digits) ts ≡ Some t → p ≤ (storage t).digits
-found_digits p [] t e = cc
-found_digits p (x ∷ xs) t e = go (found_digits p xs t) (nat_le p (storage x).digits) refl e
-  where
-    go : (find (λ t. nat_le p (storage t).digits) xs ≡ Some t → p ≤ (storage t).digits) → (b : Bool) → nat_le p (storage x).digits ≡ b
-        → cond b (Some x) (find (λ t. nat_le p (storage t).digits) xs) ≡ Some t → p ≤ (storage t).digits
-    go more true is f = subst (λ s. p ≤ (storage s).digits) (same_Some x t f) (leb-true _ _ is)
-    go more false is f = more f
+found_digits : (p : ℕ) (t : DecimalType) → smallest_storage p ≡ Some t → p ≤ (storage t).digits
+found_digits p I8 e = grind (arith, nat_tests)
+found_digits p _ e = grind (arith, nat_tests)
 
 pub smallest_fits : (p n : ℕ) (t : DecimalType) → smallest_storage p ≡ Some t → n ≡ (storage t).bytes → 10 ^ p ≤ 2 ^ (8 * n - 1)
 smallest_fits p n t e is =
-    let room : p ≤ (storage t).digits = found_digits p (I8 ∷ I16 ∷ I32 ∷ I64 ∷ I128 ∷ I256 ∷ []) t e in
+    let room : p ≤ (storage t).digits = found_digits p t e in
     let some : 0 < 10 = omega arith in
     let up : 10 ^ p ≤ 10 ^ (storage t).digits = pow-le-pow_right some room in
     let fits = digits_fit t in

@@ -3,73 +3,61 @@
 
 -- Lemmas about lookups. A caller names all of them in one line,
 --     #![tactic(auto, using(dtype_base::proofs::lemmas::Lookups::lookups))]
-use Rattle.std.proofs.Common.{◌≡◌, ℕ, zero, suc, ◌<◌, ◌≤◌, ◌^◌, List, length, Option, Some, None, IfSome, IfNone, IsSome, ◌+◌, Bool, true, false, cond, refl, ap, sym, ◌∙◌, inl, inr, arith}
+use Rattle.std.proofs.Common.{◌≡◌, ℕ, zero, suc, ◌<◌, ◌≤◌, ◌^◌, List, length, Option, Some, None, IfSome, IfNone, IsSome, ◌+◌, cond, ◌⊎◌, ap, sym, subst, ◌∙◌, inl, inr, arith, slice_get}
 use Rattle.std.specs.List.{position_or_len}
 use Rattle.std.specs.Str.{bytes_eq}
-use Rattle.std.proofs.lemmas.Bool.{lt-ltb, false≢true, cases_lt}
-use Rattle.std.proofs.lemmas.List.Quantifiers.{position-Some}
-use Rattle.std.proofs.lemmas.List.Sums.{position_or_len_is, fails_before_first}
-use Rattle.std.proofs.lemmas.Option.{slice_get_within, get_or_from_slice_get, slice_get-get_or}
+use Rattle.std.proofs.lemmas.Bool.{lt-ltb, le-ltb, false≢true, cases_lt, cases_order}
+use Rattle.std.proofs.lemmas.List.Sums.{passes_at_first, fails_before_first}
+use Rattle.std.proofs.lemmas.Option.{none-some, same_Some, slice_get_within, get_or_from_slice_get, slice_get-get_or}
 use Rattle.std.proofs.lemmas.Slice.Eq.{bytes_eq-Decides}
 use Rattle.dtype_base.specs.BinaryDigits.{binary_digits}
 use Rattle.dtype_base.proofs.lemmas.BinaryDigits.{digits_reach, digits_fewest}
 use Rattle.dtype_base.specs.FieldNames.{FirstAt, IsAbsent, first_place}
 use Rattle.dtype_base.specs.Comparisons.{comparisons}
 
--- ---- from `FirstAt` and `IsAbsent` to `first_place`
+-- ---- `first_place` is the first position of the name, or none where the name is absent
 
-differ : (m n : List ℕ) → (m ≡ n → ⊥) → bytes_eq m n ≡ false
-differ m n ne = go (bytes_eq m n) refl
-  where
-    go : (b : Bool) → bytes_eq m n ≡ b → bytes_eq m n ≡ false
-    go true e = absurd (ne ((bytes_eq-Decides m n).0 e))
-    go false e = e
+place_tells : (names : List (List ℕ)) (n : List ℕ) → ((i : ℕ) × (first_place names n ≡ Some i) × FirstAt names n i) ⊎ ((first_place names n ≡ None) × IsAbsent names n)
+place_tells names n =
+    let is = λ (m : List ℕ). bytes_eq m n in
+    let first = position_or_len is names in
+    let not_before = λ (k : ℕ) (before : k < first) (same : slice_get names k ≡ Some n).
+    false≢true (sym (fails_before_first is names k n before) ∙ (bytes_eq-Decides _ n).1 (get_or_from_slice_get names k n n same)) in
+    elim (cases_lt first (length names)) [
+      | inl within ↦ inl (first, ap (λ b. cond b (Some first) None) (lt-ltb first (length names) within), record {
+        here = slice_get-get_or names first n within ∙ ap Some ((bytes_eq-Decides _ n).0 (passes_at_first is names n within));
+        first = not_before;
+      })
+      | inr past ↦ inr (ap (λ b. cond b (Some first) None) (le-ltb first (length names) past), λ k same. not_before k (omega (arith, past, slice_get_within names k n same)) same)
+    ]
+
+pub first_of_place : (names : List (List ℕ)) (n : List ℕ) (i : ℕ) → Some i ≡ first_place names n → FirstAt names n i
+first_of_place names n i e = elim (place_tells names n) [
+  | inl s ↦ subst (FirstAt names n) (same_Some _ _ (sym s.1 ∙ sym e)) s.2
+  | inr none ↦ absurd (none-some _ (sym none.0 ∙ sym e))
+]
+
+pub absent_of_place : (names : List (List ℕ)) (n : List ℕ) → None ≡ first_place names n → IsAbsent names n
+absent_of_place names n e = elim (place_tells names n) [ inl s ↦ absurd (none-some _ (e ∙ s.1)) | inr none ↦ none.1 ]
 
 pub place_of_first : (names : List (List ℕ)) (n : List ℕ) (i : ℕ) → FirstAt names n i → first_place names n ≡ Some i
-place_of_first names n i f =
-    let within = slice_get_within names i n f.here in
-    let is = get_or_from_slice_get names i n n f.here in
-    let first = position_or_len_is (λ m. bytes_eq m n) names i n (omega arith)
-    (λ k before. differ _ n (λ e. f.first k before (slice_get-get_or names k n (omega arith) ∙ ap Some e)))
-    (λ _. (bytes_eq-Decides _ n).1 is) in
-    rw first (ap (λ b. cond b (Some i) None) (lt-ltb i (length names) within))
+place_of_first names n i f = elim (place_tells names n) [
+  | inl s ↦ elim (cases_order s.0 i) [
+    | inl same ↦ s.1 ∙ ap Some same
+    | inr (inl before) ↦ absurd (f.first s.0 before s.2.here)
+    | inr (inr after) ↦ absurd (s.2.first i after f.here)
+  ]
+  | inr none ↦ absurd (none.1 i f.here)
+]
 
 pub no_place : (names : List (List ℕ)) (n : List ℕ) → IsAbsent names n → first_place names n ≡ None
-no_place names n none = go (first_place names n) refl
-  where
-    go : (o : Option ℕ) → first_place names n ≡ o → first_place names n ≡ None
-    go None e = e
-    go (Some i) e =
-        let at = position-Some (λ m. bytes_eq m n) names i n e in
-        absurd (none i (slice_get-get_or names i n at.0 ∙ ap Some ((bytes_eq-Decides _ n).0 at.1)))
+no_place names n none = elim (place_tells names n) [ inl s ↦ absurd (none s.0 s.2.here) | inr at ↦ at.0 ]
 
--- a result that is the first position of the name, or none where the name is absent
+-- the same of a result
 pub place_found : (names : List (List ℕ)) (n : List ℕ) (r : Option ℕ) → IfSome r (FirstAt names n) → IfNone r (IsAbsent names n) → r ≡ first_place names n
 place_found names n None some none = sym (no_place names n none)
 place_found names n (Some i) some none = sym (place_of_first names n i some)
 
--- ---- from `first_place` to `FirstAt` and `IsAbsent`
-
-pub first_of_place : (names : List (List ℕ)) (n : List ℕ) (i : ℕ) → Some i ≡ first_place names n → FirstAt names n i
-first_of_place names n i e =
-    let at = position-Some (λ m. bytes_eq m n) names i n (sym e) in record {
-      here = slice_get-get_or names i n at.0 ∙ ap Some ((bytes_eq-Decides _ n).0 at.1);
-      first = λ k before same. false≢true (sym (at.2 k before) ∙ (bytes_eq-Decides _ n).1 (get_or_from_slice_get names k n n same));
-    }
-
-placed : (names : List (List ℕ)) (n : List ℕ) → position_or_len (λ m. bytes_eq m n) names < length names → first_place names n ≡ Some (position_or_len (λ m. bytes_eq m n) names)
-placed names n within = ap (λ b. cond b (Some (position_or_len (λ m. bytes_eq m n) names)) None) (lt-ltb (position_or_len (λ m. bytes_eq m n) names) (length names) within)
-
-pub absent_of_place : (names : List (List ℕ)) (n : List ℕ) → None ≡ first_place names n → IsAbsent names n
-absent_of_place names n e k same = elim (cases_lt (position_or_len (λ m. bytes_eq m n) names) (length names)) [
-  | inl within ↦ let is : None ≡ Some (position_or_len (λ m. bytes_eq m n) names) = e ∙ placed names n within in cc is
-  | inr none ↦
-      let passes = (bytes_eq-Decides _ n).1 (get_or_from_slice_get names k n n same) in
-      let fails = fails_before_first (λ m. bytes_eq m n) names k n (omega (arith, none, slice_get_within names k n same)) in
-      false≢true (sym fails ∙ passes)
-]
-
--- the same of a result
 pub found_first : (names : List (List ℕ)) (n : List ℕ) (r : Option ℕ) → r ≡ first_place names n → IfSome r (FirstAt names n)
 found_first names n None e = tt
 found_first names n (Some i) e = first_of_place names n i e

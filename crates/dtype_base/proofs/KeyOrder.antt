@@ -14,7 +14,7 @@ use Rattle.std.specs.declared.cmp.Ordering.{Ordering}
 use Rattle.std.specs.Ordering.{is_eq, is_lt, ordering_then, nat_cmp}
 use Rattle.std.specs.Cmp.{IsTotalOrder, then_total, on_total, nat_cmp_is, nat_cmp_total}
 use Rattle.std.proofs.lemmas.Bool.{cases_lt, cases_order, false≢true}
-use Rattle.std.proofs.lemmas.List.{get_or-map, get_or-take, get_or-drop, get_or_past, map-append, drop-drop, length-drop, take_more_same}
+use Rattle.std.proofs.lemmas.List.{get_or-map, get_or-take, get_or-drop, get_or_past, map-append, drop-drop, length-drop, take_more_same, take_rest}
 use Rattle.std.proofs.lemmas.List.Elements.{All-drop}
 use Rattle.std.proofs.lemmas.List.Sorted.{All-permutation, IsPermutation-map, IsNonDecreasingBy-from_all_adjacent}
 use Rattle.std.proofs.lemmas.Option.{slice_get-get_or, get_or_from_slice_get}
@@ -274,3 +274,5 @@ shifted count text bytes some few long =
     ∙ add-mul-mod_self_right (big_endian 8 (drop j last)) (big_endian j last) (2 ^ 64)
     ∙ ap (λ bs. big_endian 8 bs % 2 ^ 64) is
     ∙ mod-eq_of_lt (high_bound 8 (drop count text) (All-drop (λ b. b < 256) count text bytes))
+
+pub ruleset hash_steps = (short_hash, whole_hash, words_more, take_rest)

@@ -189,6 +189,7 @@ impl fmt::Display for FieldName {
 }
 
 // Whether a byte is escaped. Such a byte is an ASCII character.
+#[tactic(auto, using(crate::proofs::EscapedChars::escaped_byte_printed))]
 fn has_escape(byte: u8) -> bool
     ensures plain { OnFalse result (escaped_byte byte ≡ byte ∷ []) }
     ensures ascii { IsTrue result → byte < 128 }

@@ -79,6 +79,7 @@ pub(crate) fn key_of(text: &[u8], keying: &Keying) -> u64
 
 // A number that hardly two texts have in common: of the length, the words of eight bytes, and the last eight bytes.
 #[inline(always)]
+#[tactic(auto, using(crate::proofs::KeyOrder::hash_steps), unfolding(crate::specs::private::NameKeys::words_hash))]
 pub(crate) fn hash_of(text: &[u8]) -> u64
     ensures { result ≡ hash_of text.now }
 {
@@ -118,6 +119,7 @@ fn load_u64_at(text: &[u8], count: usize) -> u64
 }
 
 // The first eight bytes as one big-endian number, padded with zeros. A text of at least eight is read at once.
+#[tactic(auto, using(crate::proofs::KeyOrder::first_eight, crate::proofs::KeyOrder::of_none))]
 fn load_u64(text: &[u8]) -> u64
     ensures { result ≡ big_endian 8 text.now }
 {
@@ -141,6 +143,7 @@ fn load_u64(text: &[u8]) -> u64
 
 // The first eight bytes of a text of at least eight, as one big-endian number.
 #[inline(always)]
+#[tactic(auto, using(crate::proofs::KeyOrder::first_eight))]
 fn first_word(text: &[u8]) -> u64
     requires { 8 ≤ length text.now }
     ensures { result ≡ big_endian 8 text.now }

@@ -2,7 +2,7 @@
 -- SPDX-FileCopyrightText: Copyright the Vortex contributors
 
 -- The keys of names, the index sorted by them, and how the bytes of a name are read.
-use Rattle.std.proofs.Common.{◌%◌, mod-eq_of_lt, ◌≡◌, ◌≢◌, ℕ, zero, suc, ◌+◌, ◌-◌, ◌*◌, ◌<◌, ◌≤◌, ◌^◌, List, [], ◌∷◌, ◌++◌, length, get_or, take, drop, Some, Bool, true, false, IsTrue, ◌↔◌, ◌/◌, refl, sym, ap, subst, ◌∙◌, inl, inr, arith, pow-suc, add-mul}
+use Rattle.std.proofs.Common.{◌%◌, mod-eq_of_lt, ◌≡◌, ◌≢◌, ℕ, zero, suc, ◌+◌, ◌-◌, ◌*◌, ◌<◌, ◌≤◌, ◌^◌, List, [], ◌∷◌, ◌++◌, length, get_or, take, drop, Some, Bool, true, false, IsTrue, ◌↔◌, ◌/◌, Fits, w8, refl, sym, ap, subst, ◌∙◌, inl, inr, arith, pow-suc, add-mul}
 use Rattle.std.specs.Prelude.{slice_get}
 use Rattle.std.proofs.Math.Nat.{add-mul-mod_self_right, mul_assoc}
 use Rattle.std.proofs.lemmas.Nat.{div-mul-add, pow-add}
@@ -15,10 +15,8 @@ use Rattle.std.specs.Ordering.{is_eq, is_lt, ordering_then, nat_cmp}
 use Rattle.std.specs.Cmp.{IsTotalOrder, then_total, on_total, nat_cmp_is, nat_cmp_total}
 use Rattle.std.proofs.lemmas.Bool.{cases_lt, cases_order, false≢true}
 use Rattle.std.proofs.lemmas.List.{get_or-map, get_or-take, get_or-drop, get_or_past, map-append, drop-drop, length-drop, take_more_same, take_rest}
-use Rattle.std.proofs.lemmas.List.Elements.{All-drop}
 use Rattle.std.proofs.lemmas.List.Sorted.{All-permutation, IsPermutation-map, IsNonDecreasingBy-from_all_adjacent}
 use Rattle.std.proofs.lemmas.Option.{slice_get-get_or, get_or_from_slice_get}
-use Rattle.dtype_base.specs.Bytes.{Bytes}
 use Rattle.dtype_base.specs.private.NameKeys.{big_endian, hash_of, key_of, mixed, words_hash}
 use Rattle.dtype_base.specs.private.NameOrder.{AreDistinguishedBy, IsIndexOf, IsKeyed, IsOrderOf, bytes_cmp, key_or, keyed_position_cmp, name_cmp, position_cmp, entry_cmp, entry_name_cmp, positions}
 use Rattle.dtype_base.specs.declared.name_key.Keying.{Keying}
@@ -29,14 +27,17 @@ use Rattle.dtype_base.proofs.NameSearch.{Occurs, as_many_positions, second_equal
 
 -- ---- the first bytes of a text, as a number
 
--- a byte, or 0 after the end
-byte_below : (k : ℕ) (bs : List ℕ) → Bytes bs → get_or bs k 0 < 256
-byte_below k bs h = elim (cases_lt k (length bs)) [ inl within ↦ h k 0 within | inr past ↦ omega (arith, get_or_past bs k 0 past) ]
+-- the items of a list are bytes, as the type of a slice says it
+abbrev AreBytes : List ℕ → Type 0
+AreBytes bs = (i : ℕ) → Fits w8 (get_or bs i 0)
 
-high_bound : (k : ℕ) (bs : List ℕ) → Bytes bs → big_endian k bs < 256 ^ k
+bytes_after : (k : ℕ) (bs : List ℕ) → AreBytes bs → AreBytes (drop k bs)
+bytes_after k bs h i = subst (Fits w8) (sym (get_or-drop k bs i 0)) (h (k + i))
+
+high_bound : (k : ℕ) (bs : List ℕ) → AreBytes bs → big_endian k bs < 256 ^ k
 unfolding big_endian
 high_bound zero bs h = omega arith
-high_bound (suc k) bs h = omega (arith, high_bound k bs h, byte_below k bs h, pow-suc 256 k)
+high_bound (suc k) bs h = omega (arith, high_bound k bs h, h k, pow-suc 256 k)
 
 -- no byte, no number
 pub of_none : (k : ℕ) (bs : List ℕ) → length bs ≡ 0 → big_endian k bs ≡ 0
@@ -56,14 +57,12 @@ far entries increase j k d l within =
 
 then_again : (r s t : Ordering) → ordering_then r (ordering_then s t) ≡ ordering_then (ordering_then r s) t
 then_again Less s t = refl
-then_again Equal s t = refl
-then_again Greater s t = refl
+then_again _ s t = refl
 
 -- an ordering decides alone where its ties are ties
 tied_then : (r s : Ordering) → (r ≡ Equal → s ≡ Equal) → r ≡ ordering_then r s
-tied_then Less s tie = refl
 tied_then Equal s tie = sym (tie refl)
-tied_then Greater s tie = refl
+tied_then _ s tie = refl
 
 cmp_equal : (a b : ℕ) → nat_cmp a b ≡ Equal → a ≡ b
 cmp_equal a b e = elim (cases_order a b) [
@@ -202,16 +201,16 @@ first_alone zero n bs e = refl
 first_alone (suc k) n bs e = omega (arith, first_alone k n bs (omega (arith, e)), get_or-take n bs k 0 (omega (arith, e)))
 
 -- texts of at least k bytes have equal prefixes of k bytes where their numbers are equal
-same_first : (k : ℕ) (xs ys : List ℕ) → Bytes xs → Bytes ys → k ≤ length xs → k ≤ length ys → big_endian k xs ≡ big_endian k ys → take k xs ≡ take k ys
+same_first : (k : ℕ) (xs ys : List ℕ) → AreBytes xs → AreBytes ys → k ≤ length xs → k ≤ length ys → big_endian k xs ≡ big_endian k ys → take k xs ≡ take k ys
 unfolding big_endian
 same_first zero xs ys a b long_a long_b e = refl
 same_first (suc k) xs ys a b long_a long_b e =
-    let last : get_or xs k 0 ≡ get_or ys k 0 = omega (arith, e, byte_below k xs a, byte_below k ys b) in
+    let last : get_or xs k 0 ≡ get_or ys k 0 = omega (arith, e, a k, b k) in
     let next : k + 1 ≡ suc k = omega arith in
     let before = same_first k xs ys a b (omega (arith, long_a)) (omega (arith, long_b)) (omega (arith, e, last)) in
     subst (λ j. take j xs ≡ take j ys) next (take_more_same xs ys k 0 (omega (arith, long_a)) (omega (arith, long_b)) before last)
 
-pub prefix_decides : (k : ℕ) (xs ys : List ℕ) → Bytes xs → Bytes ys → k ≤ length xs → k ≤ length ys → (big_endian k xs ≡ big_endian k ys) ↔ (take k xs ≡ take k ys)
+pub prefix_decides : (k : ℕ) (xs ys : List ℕ) → AreBytes xs → AreBytes ys → k ≤ length xs → k ≤ length ys → (big_endian k xs ≡ big_endian k ys) ↔ (take k xs ≡ take k ys)
 prefix_decides k xs ys a b long_a long_b = (
   same_first k xs ys a b long_a long_b,
   λ e. sym (first_alone k k xs (omega arith)) ∙ ap (big_endian k) e ∙ first_alone k k ys (omega arith),
@@ -226,14 +225,17 @@ split_number k (suc j) (suc n) bs e =
     let last : get_or (drop k bs) j 0 ≡ get_or bs n 0 = get_or-drop k bs j 0 ∙ ap (λ i. get_or bs i 0) (omega (arith, e)) in
     omega (arith, split_number k j n bs (omega (arith, e)), last, ap (λ p. big_endian k bs * p) (pow-suc 256 j), mul_assoc (big_endian k bs) (256 ^ j) 256)
 
--- dividing the number of k + j bytes drops the last j
-pub without_last : (k j n : ℕ) (bs : List ℕ) → n ≡ j + k → Bytes bs → big_endian n bs / 256 ^ j ≡ big_endian k bs
-without_last k j n bs e h = ap (λ x. x / 256 ^ j) (split_number k j n bs e) ∙ div-mul-add (big_endian k bs) (256 ^ j) (big_endian j (drop k bs)) (high_bound j (drop k bs) (All-drop (λ b. b < 256) k bs h))
-
 -- a byte has eight bits
-pub bits : (m : ℕ) → 2 ^ (8 * m) ≡ 256 ^ m
+bits : (m : ℕ) → 2 ^ (8 * m) ≡ 256 ^ m
 bits zero = refl
 bits (suc m) = ap (λ e. 2 ^ e) (omega arith) ∙ pow-add 2 (8 * m) 8 ∙ omega (arith, bits m, pow-suc 256 m)
+
+-- dividing the number of eight bytes drops the last of them
+pub without_last : (k : ℕ) (bs : List ℕ) → AreBytes bs → k ≤ 8 → big_endian 8 bs / 2 ^ (8 * (8 - k)) ≡ big_endian k bs
+without_last k bs h few =
+    let j = 8 - k in
+    ap (λ w. big_endian 8 bs / w) (bits j) ∙ ap (λ x. x / 256 ^ j) (split_number k j 8 bs (omega (arith, few)))
+    ∙ div-mul-add (big_endian k bs) (256 ^ j) (big_endian j (drop k bs)) (high_bound j (drop k bs) (bytes_after k bs h))
 
 -- eight bytes shifted left by j bytes: without the first j of them, and what overflows 64 bits
 shifted_sum : (i j : ℕ) (bs : List ℕ) → i + j ≡ 8 → length bs ≡ 8 → big_endian 8 bs * 256 ^ j ≡ big_endian 8 (drop j bs) + big_endian j bs * 2 ^ 64
@@ -264,15 +266,15 @@ unfolding hash_of
 whole_hash k n is = ap (λ j. mixed (words_hash j n) (big_endian 8 (drop (length n - 8) n))) is
 
 -- what follows the first `count` bytes, read from the text's last eight bytes
-pub shifted : (count : ℕ) (text : List ℕ) → Bytes text → count < length text → length text < count + 8 → 8 ≤ length text
-    → big_endian 8 (drop (length text - 8) text) * 2 ^ (8 * (8 - (length text - count))) % 2 ^ 64 ≡ big_endian 8 (drop count text)
+pub shifted : (count : ℕ) (text : List ℕ) → AreBytes text → 0 < length (drop count text) → length (drop count text) < 8 → 8 ≤ length text
+    → big_endian 8 (drop (length text - 8) text) * 2 ^ (8 * (8 - length (drop count text))) % 2 ^ 64 ≡ big_endian 8 (drop count text)
 shifted count text bytes some few long =
-    let j = 8 - (length text - count) in
+    let j = 8 - length (drop count text) in
     let last = drop (length text - 8) text in
-    let is : drop j last ≡ drop count text = drop-drop j (length text - 8) text ∙ ap (λ k. drop k text) (omega (arith, some, few, long)) in
+    let is : drop j last ≡ drop count text = drop-drop j (length text - 8) text ∙ ap (λ k. drop k text) (omega (arith, some, few, long, length-drop count text)) in
     ap (λ x. x % 2 ^ 64) (ap (λ w. big_endian 8 last * w) (bits j) ∙ shifted_sum (8 - j) j last (omega arith) (length-drop (length text - 8) text ∙ omega (arith, long)))
     ∙ add-mul-mod_self_right (big_endian 8 (drop j last)) (big_endian j last) (2 ^ 64)
     ∙ ap (λ bs. big_endian 8 bs % 2 ^ 64) is
-    ∙ mod-eq_of_lt (high_bound 8 (drop count text) (All-drop (λ b. b < 256) count text bytes))
+    ∙ mod-eq_of_lt (high_bound 8 (drop count text) (bytes_after count text bytes))
 
 pub ruleset hash_steps = (short_hash, whole_hash, words_more, take_rest)

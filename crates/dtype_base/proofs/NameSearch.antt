@@ -49,13 +49,11 @@ keyed_position_total keying names = then_total (on_total (slice_get names) (keye
 
 pub second_equal : (r s : Ordering) → ordering_then r s ≡ Equal → s ≡ Equal
 second_equal Equal s e = e
-second_equal Less s e = absurd (false≢true (ap is_eq e))
-second_equal Greater s e = absurd (false≢true (ap is_eq e))
+second_equal _ s e = absurd (false≢true (ap is_eq e))
 
 not_less : (r o : Ordering) → is_lt (ordering_then r o) ≡ false → is_lt r ≡ false
 not_less Less o e = e
-not_less Equal o e = refl
-not_less Greater o e = refl
+not_less _ o e = refl
 
 -- one number more
 pub counted_more : (n : ℕ) → range_with_len 0 (n + 1) ≡ range_with_len 0 n ++ n ∷ []
@@ -74,13 +72,11 @@ is_less _ e = absurd (false≢true e)
 
 pub at_most_equal : (r s : Ordering) → ordering_index r ≤ ordering_index s → s ≡ Equal → r ≢ Equal → r ≡ Less
 at_most_equal Less s le e differ = refl
-at_most_equal Equal s le e differ = absurd (differ refl)
-at_most_equal Greater s le e differ = absurd (omega (arith, le, ap ordering_index e))
+at_most_equal _ s le e differ = grind arith
 
 between : (r s t : Ordering) → ordering_index r ≤ ordering_index s → ordering_index s ≤ ordering_index t → r ≡ Equal → t ≡ Equal → s ≡ Equal
 between r Equal t le ge e f = refl
-between r Less t le ge e f = absurd (omega (arith, le, ap ordering_index e))
-between r Greater t le ge e f = absurd (omega (arith, ge, ap ordering_index f))
+between r _ t le ge e f = grind arith
 
 one_left : {size : ℕ} → 0 < size → size ≤ 1 → binary_digits (size - 1) ≡ 0
 unfolding binary_digits

@@ -26,6 +26,7 @@ pub(crate) fn eq_prefix(a: &[u8], b: &[u8], count: usize) -> bool
 }
 
 // The first `count` bytes, at most eight, of a text of at least eight, as one big-endian number.
+#[tactic(auto, using(crate::proofs::KeyOrder::without_last))]
 fn load_prefix(text: &[u8], count: usize) -> u64
     requires some { 0 < count }
     requires few { count ≤ 8 }
@@ -106,6 +107,7 @@ fn mixed(hash: u64, word: u64) -> u64
 
 // The eight bytes after the first `count`, as one big-endian number, padded with zeros. Where fewer follow in a text of at
 // least eight, its last eight are read at once and shifted.
+#[tactic(auto, using(crate::proofs::KeyOrder::shifted))]
 fn load_u64_at(text: &[u8], count: usize) -> u64
     ensures { result ≡ big_endian 8 (drop count text.now) }
 {

@@ -5,7 +5,7 @@
 --     #![tactic(auto, using(dtype_base::proofs::lemmas::Primitives::primitives))]
 -- A search splits one type: each lemma names the first case, and `_` stands for the others one by one.
 use Rattle.std.proofs.Common.{◌≡◌, ◌+◌, ◌-◌, ◌*◌, ◌^◌, ◌==◌, ◌≤◌, ℕ, ℤ, Bool, true, cond, Some, inl, inr, refl, sym, ◌∙◌, arith}
-use Rattle.std.specs.Prelude.{◌⊎◌, ◌≤ℤ◌, ◌<ℤ◌, T, int_le, int_lt, false}
+use Rattle.std.specs.Prelude.{◌⊎◌, ◌≤ℤ◌, ◌<ℤ◌, int_le, int_lt, false}
 use Rattle.std.proofs.lemmas.Bool.Decides.{nat_tests}
 use Rattle.dtype_base.specs.Primitives.{NumberKind, Unsigned, Signed, Floating, ptype_row, IsInteger, IsUnsigned, IsSigned, IsNarrowest, HoldsUnsigned, HoldsSigned, narrowest_unsigned, narrowest_signed}
 use Rattle.dtype_base.specs.declared.ptype.PType.{PType}

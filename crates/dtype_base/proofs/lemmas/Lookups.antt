@@ -24,10 +24,14 @@ place_tells names n =
     let not_before = λ (k : ℕ) (before : k < first) (same : slice_get names k ≡ Some n).
     false≢true (sym (fails_before_first is names k n before) ∙ (bytes_eq-Decides _ n).1 (get_or_from_slice_get names k n n same)) in
     elim (cases_lt first (length names)) [
-      | inl within ↦ inl (first, ap (λ b. cond b (Some first) None) (lt-ltb first (length names) within), record {
-        here = slice_get-get_or names first n within ∙ ap Some ((bytes_eq-Decides _ n).0 (passes_at_first is names n within));
-        first = not_before;
-      })
+      | inl within ↦ inl (
+        first,
+        ap (λ b. cond b (Some first) None) (lt-ltb first (length names) within),
+        record {
+          here = slice_get-get_or names first n within ∙ ap Some ((bytes_eq-Decides _ n).0 (passes_at_first is names n within));
+          first = not_before;
+        },
+      )
       | inr past ↦ inr (ap (λ b. cond b (Some first) None) (le-ltb first (length names) past), λ k same. not_before k (omega (arith, past, slice_get_within names k n same)) same)
     ]
 

@@ -25,20 +25,31 @@ fixed_size (fixed_size_list t size n) = Some size
 fixed_size _ = None
 
 -- the parts of each kind, except an extension's storage
-abbrev held : Tree → Kind × Option PType × Option Decimal × Option (List (List ℕ × Tree)) × Option (List (List ℕ × (Tree × ℕ))) × Option (Tree × Tree × Bool) ×
-    Option Tree × Option Tree × Option Tree × Option ℕ
-held t = (
-  kind t,
-  primitive_name t,
-  decimal_of t,
-  struct_fields t,
-  union_variants t,
-  map_parts t,
-  list_element t,
-  fixed_size_list_element t,
-  any_size_list_element t,
-  fixed_size t,
-)
+pub record Held : Type 0 where
+  pub kind_of : Kind
+  pub name : Option PType
+  pub decimal : Option Decimal
+  pub fields_of : Option (List (List ℕ × Tree))
+  pub variants_of : Option (List (List ℕ × (Tree × ℕ)))
+  pub map : Option (Tree × Tree × Bool)
+  pub element : Option Tree
+  pub fixed_size_element : Option Tree
+  pub any_size_element : Option Tree
+  pub size : Option ℕ
+
+abbrev pub held : Tree → Held
+held t = record {
+  kind_of = kind t;
+  name = primitive_name t;
+  decimal = decimal_of t;
+  fields_of = struct_fields t;
+  variants_of = union_variants t;
+  map = map_parts t;
+  element = list_element t;
+  fixed_size_element = fixed_size_list_element t;
+  any_size_element = any_size_list_element t;
+  size = fixed_size t;
+}
 
 as_held : (u t : Tree) → Some u ≡ Some t → held t ≡ held u
 as_held u t e = ap held (sym (same_Some u t e))
@@ -49,32 +60,9 @@ held-set_null null t Nullable e = as_held null t e
 held-set_null (extension i m s) t n e = option_and_then_some (λ x. Some (extension i m x)) (set_null s n) t e (λ x _ same. as_held (extension i m x) t same)
 held-set_null _ t n e = as_held _ t e
 
-pub kind_kept : IsKept kind
-kind_kept s t n e = ap (λ h. h.0) (held-set_null s t n e)
-
-pub primitive_kept : IsKept primitive_name
-primitive_kept s t n e = ap (λ h. h.1) (held-set_null s t n e)
-
-pub decimal_kept : IsKept decimal_of
-decimal_kept s t n e = ap (λ h. h.2) (held-set_null s t n e)
-
-pub struct_kept : IsKept struct_fields
-struct_kept s t n e = ap (λ h. h.3) (held-set_null s t n e)
-
-pub union_kept : IsKept union_variants
-union_kept s t n e = ap (λ h. h.4) (held-set_null s t n e)
-
-pub map_kept : IsKept map_parts
-map_kept s t n e = ap (λ h. h.5) (held-set_null s t n e)
+-- any view of these parts, as `part_kept (λ h. h.kind_of)`
+pub part_kept : {X : Type 0} (part : Held → X) → IsKept (λ t. part (held t))
+part_kept part s t n e = ap part (held-set_null s t n e)
 
 pub list_kept : IsKept list_element
-list_kept s t n e = ap (λ h. h.6) (held-set_null s t n e)
-
-pub fixed_size_list_kept : IsKept fixed_size_list_element
-fixed_size_list_kept s t n e = ap (λ h. h.7) (held-set_null s t n e)
-
-pub any_size_list_kept : IsKept any_size_list_element
-any_size_list_kept s t n e = ap (λ h. h.8) (held-set_null s t n e)
-
-pub fixed_size_kept : IsKept fixed_size
-fixed_size_kept s t n e = ap (λ h. h.9) (held-set_null s t n e)
+list_kept = part_kept (λ h. h.element)

@@ -23,6 +23,7 @@ use Rattle.dtype_types.specs.tree.Tree as of
 use Rattle.dtype_types.specs.tree.Tree.{Tree, fields, variants}
 use Rattle.dtype_messages.specs.Message.{Message, Child, Messages, missing, primitive, decimal, list, fixed_size_list, map_of, struct, union, extension, absent, present, no_message, more}
 use Rattle.dtype_messages.specs.PTypeNumbers.{ptype_at}
+use Rattle.dtype_messages.proofs.lemmas.Numbers.{number_at}
 use Rattle.vortex_dtype.specs.Meaning.{Meaning, keeps, unkept_error}
 use Rattle.vortex_dtype.specs.Numbers.{integer_byte}
 use Rattle.vortex_dtype.specs.Reads.{Reads, ReadsChild, ReadsAll, AreBytes, Fault, ChildFault, SomeFault, SomeTagFault, UnionFault, number, message_count}
@@ -51,11 +52,6 @@ bind_result (Err e) f P Q R S h next stop = stop e h
 pub ptype_at-number : (p : PType) → ptype_at (number p) ≡ Some p
 ptype_at-number U8 = refl
 ptype_at-number _ = refl
-
--- a number is that of the type that it names
-number-ptype_at : (k : ℤ) (p : PType) → ptype_at k ≡ Some p → k ≡ number p
-number-ptype_at (pos n) p e = grind (arith, nat_tests)
-number-ptype_at (negsuc n) p e = cc
 
 pub byte_is : (g : ℤ) (k : ℕ) → integer_byte g ≡ Some k → (g ≡ pos k) × (k < 256)
 byte_is (pos n) k e = grind (arith, nat_tests)
@@ -96,7 +92,7 @@ mutual
   unfolding read primitive_read decimal_read decimal_made map_read struct_read extension_read
 
   pub reading : (s : Meaning) (m : Message) → MatchResult (read s m) (Reads s m) (Fault s m)
-  reading s (primitive k f) = grind (arith, number-ptype_at, ptype_at-number)
+  reading s (primitive k f) = grind (arith, number_at, ptype_at-number)
   reading s (decimal p (pos k) f) = grind (arith, nat_tests, ints)
   reading s (decimal p (negsuc k) f) = grind (arith, nat_tests, ints)
   reading s (list c f) = bind_result (read_child s ListElementMissing c) _ _ _ _ _ (child_reading s ListElementMissing c) (λ x h. (x, h, refl)) (λ e j. j)

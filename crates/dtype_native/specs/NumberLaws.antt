@@ -47,10 +47,7 @@ of_bits w128 (negsuc n) f = let s = f.sfits in complement 16 n (omega arith)
 
 pub bits_below : (w : Width) (z : ℤ) → FitsSigned w z → cast_unsigned w z < 256 ^ byte_len w
 bits_below w8 z f = (Fits-of_z f).fits
-bits_below w16 z f = (Fits-of_z f).fits
-bits_below w32 z f = (Fits-of_z f).fits
-bits_below w64 z f = (Fits-of_z f).fits
-bits_below w128 z f = (Fits-of_z f).fits
+bits_below _ z f = (Fits-of_z f).fits
 
 pub signed_injective : (w : Width) (x y : ℤ) → FitsSigned w x → FitsSigned w y → little_endian (byte_len w) x ≡ little_endian (byte_len w) y → x ≡ y
 signed_injective w x y f g e =

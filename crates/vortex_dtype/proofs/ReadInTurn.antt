@@ -9,7 +9,7 @@ use Rattle.std.specs.Prelude.{FitsSigned}
 use Rattle.std.proofs.lemmas.Int.{ints}
 use Rattle.std.proofs.lemmas.List.Elements.{All-from_recursion}
 use Rattle.std.proofs.lemmas.Result.{MatchResult-at_ok}
-use Rattle.std.proofs.lemmas.List.{drop_all, append-nil, map-append}
+use Rattle.std.proofs.lemmas.List.{drop_all, drop_more, append-nil, map-append}
 use Rattle.dtype_base.specs.Nullability.{nullability_of}
 use Rattle.dtype_base.specs.declared.vortex_error.VortexError.{VortexError}
 use Rattle.dtype_base.specs.declared.vortex_error.VortexError.TheVariants.{OutOfMemory, Message as Faulty}
@@ -26,10 +26,6 @@ use Rattle.vortex_dtype.specs.ReadInOrder.{read, read_all, read_tags, struct_rea
 use Rattle.vortex_dtype.specs.Reads.{AreBytes}
 use Rattle.vortex_dtype.proofs.lemmas.InOrder.{byte_is, tags_reading}
 use Rattle.dtype_messages.specs.declared.pb.DType.{DType}
-
--- what is left of a list from a position on: its item there, and what is left behind it
-next : {X : Type 0} (xs : List X) (i : ℕ) (d : X) → i < length xs → drop i xs ≡ get_or xs i d ∷ drop (i + 1) xs
-next xs i d h = rw add-one (drop-cons xs i d h)
 
 push_all : {X Y : Type 0} (r : Result (List X) VortexError) (made : List X → Result Y VortexError) (ts : List X) (x : X)
     → ((r >>= λ ys. Ok (x ∷ ys)) >>= λ us. made (ts ++ us)) ≡ (r >>= λ us. made ((ts ++ x ∷ []) ++ us))
@@ -63,14 +59,14 @@ module _ {s : Meaning} {ds : List DType} {i : ℕ} {made : List Tree → Result 
   step vs longer d v rest h e r pushed = record {
     is =
         rw (pushed, map-append tree vs (v ∷ []))
-        (sym (push_all (read_all s (messages (map message (drop (i + 1) ds)))) made (map tree vs) (tree v)) ∙ rw (next ds i d h, ← e, r) at rest.is);
+        (sym (push_all (read_all s (messages (map message (drop (i + 1) ds)))) made (map tree vs) (tree v)) ∙ rw (drop_more ds i d h, ← e, r) at rest.is);
   }
 
   pub stops : {ts : List Tree} (d : DType) (e : VortexError) (r : Result Logical VortexError) → Rest s ds i ts made result → i < length ds → d ≡ get_or ds i d
       → Fails e (read s (message d)) → r ≡ Err e → Gives tree r result
   unfolding read
   stops {ts} d e r rest h is f err =
-      rw err (subst (Fails e) rest.is (rw (next ds i d h, ← is) (bind_fails e _ (λ us. made (ts ++ us)) (bind_fails e (read s (message d)) _ f))))
+      rw err (subst (Fails e) rest.is (rw (drop_more ds i d h, ← is) (bind_fails e _ (λ us. made (ts ++ us)) (bind_fails e (read s (message d)) _ f))))
 
   pub ends : {ts : List Tree} (r : Result Logical VortexError) → Rest s ds i ts made result → length ds ≤ i → Gives tree r (made ts) → Gives tree r result
   unfolding read
@@ -79,7 +75,7 @@ module _ {s : Meaning} {ds : List DType} {i : ℕ} {made : List Tree → Result 
 -- the messages so far are messages
 pub more_messages : {P : Type 0} (ds : List DType) (i : ℕ) (d : DType) → i < length ds → d ≡ get_or ds i d → IsMessage (message d)
     → (AreMessages (messages (map message (drop i ds))) → P) → AreMessages (messages (map message (drop (i + 1) ds))) → P
-more_messages ds i d h e m inv rest = inv (rw (next ds i d h, ← e) (m, rest))
+more_messages ds i d h e m inv rest = inv (rw (drop_more ds i d h, ← e) (m, rest))
 
 pub all_messages : {P : Type 0} (ds : List DType) (i : ℕ) → length ds ≤ i → (AreMessages (messages (map message (drop i ds))) → P) → P
 all_messages ds i h inv = inv (rw (drop_all i ds h) tt)
@@ -102,11 +98,11 @@ TagsRest gs i bs = (read_tags (drop i gs) >>= λ xs. Ok (bs ++ xs)) ≡ read_tag
 
 pub tag_step : (gs : List ℤ) (i : ℕ) (d : ℤ) (bs : List ℕ) (b : ℕ) → i < length gs → integer_byte (get_or gs i d) ≡ Some b → TagsRest gs i bs → TagsRest gs (i + 1) (bs ++ b ∷ [])
 unfolding read_tags
-tag_step gs i d bs b h e inv = sym (push_all (read_tags (drop (i + 1) gs)) (λ xs. Ok xs) bs b) ∙ rw (next gs i d h, e) at inv
+tag_step gs i d bs b h e inv = sym (push_all (read_tags (drop (i + 1) gs)) (λ xs. Ok xs) bs b) ∙ rw (drop_more gs i d h, e) at inv
 
 pub tag_stops : (gs : List ℤ) (i : ℕ) (d : ℤ) (bs : List ℕ) → i < length gs → integer_byte (get_or gs i d) ≡ None → TagsRest gs i bs → read_tags gs ≡ Err (Faulty TypeIdRange)
 unfolding read_tags
-tag_stops gs i d bs h e inv = sym (rw (next gs i d h, e) at inv)
+tag_stops gs i d bs h e inv = sym (rw (drop_more gs i d h, e) at inv)
 
 -- tags that are read fit 32 bits
 bytes_fit : (gs : List ℤ) (tags : List ℕ) → AreBytes gs tags → AllByRecursion (λ g. FitsSigned w32 g) gs

@@ -4,7 +4,7 @@
 -- `!=` of types, of their parts and of messages, and `==` and `!=` of borrowed types that may be missing.
 use Rattle.std.proofs.Common.{◌≡◌, ◌≢◌, ◌∙◌, Bool, not, Decides, Option, Some, None, Bor, refl, sym, ap}
 use Rattle.std.proofs.lemmas.Bool.{false≢true}
-use Rattle.std.proofs.lemmas.Bool.Decides.{Decides-not}
+use Rattle.std.proofs.lemmas.Bool.Decides.{Decides-at, Decides-like, Decides-not}
 use Rattle.std.proofs.lemmas.Option.{same_Some}
 use Rattle.std.specs.Option.{option_eq}
 use Rattle.dtype_messages.specs.MessageOf.{message}
@@ -64,11 +64,8 @@ parts_differ a b = Decides-not (part_eq.ghosts.eq a b) (part_Decides a b)
 
 pub lent_alike : (f : Bor DType → Bor DType → Bool) (a b : Option (Bor DType)) → ((x y : Bor DType) → f x y ≡ same_dtype x.now y.now) → Decides (option_eq f a b) (shown tree a ≡ shown tree b)
 lent_alike f None None h = (λ e. refl, λ e. refl)
-lent_alike f None (Some y) h = (λ e. absurd (false≢true e), λ e. cc)
-lent_alike f (Some x) None h = (λ e. absurd (false≢true e), λ e. cc)
-lent_alike f (Some x) (Some y) h =
-    let d = equal_under-Decides (tree x.now) (tree y.now) in
-    (λ e. ap Some (d.0 (sym (h x y) ∙ e)), λ e. h x y ∙ d.1 (same_Some (tree x.now) (tree y.now) e))
+lent_alike f (Some x) (Some y) h = Decides-like _ (ap Some) (same_Some _ _) (Decides-at _ _ (h x y) (equal_under-Decides (tree x.now) (tree y.now)))
+lent_alike f _ _ h = (λ e. absurd (false≢true e), λ e. cc)
 
 pub lent_differ : (f : Bor DType → Bor DType → Bool) (a b : Option (Bor DType)) → ((x y : Bor DType) → f x y ≡ same_dtype x.now y.now) → Decides (not (option_eq f a b)) (shown tree a ≢ shown tree b)
 lent_differ f a b h = Decides-not (option_eq f a b) (lent_alike f a b h)

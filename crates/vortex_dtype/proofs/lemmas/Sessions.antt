@@ -12,10 +12,11 @@ use Rattle.dtype_base.specs.declared.nullability.Nullability.{Nullability}
 use Rattle.dtype_base.specs.declared.nullability.Nullability.TheVariants.{NonNullable, Nullable}
 use Rattle.dtype_base.specs.declared.vortex_error.VortexError.{VortexError}
 use Rattle.dtype_types.specs.tree.Kinds.{struct_fields}
-use Rattle.dtype_types.specs.tree.Tree.{Tree, Fields, fields, pairs, no_items, item, null, list, fixed_size_list, map_of, struct, union, extension, Holder, Items}
+use Rattle.dtype_types.specs.tree.Tree.{Tree, fields, pairs, no_items, item, null, list, fixed_size_list, map_of, struct, union, extension, Holder, Items}
 use Rattle.dtype_types.specs.tree.TreeOf.{tree, extension_tree, extension_metadata}
 use Rattle.dtype_types.specs.tree.Valid.{Valid}
 use Rattle.dtype_types.proofs.lemmas.TreeLaws.{tree_extension}
+use Rattle.dtype_types.proofs.lemmas.ValidParts.{fields_of_pairs}
 use Rattle.dtype_types.specs.parts.Lookups.{first_named}
 use Rattle.dtype_types.specs.declared.dtype.DType.TheVariants.{Extension}
 use Rattle.dtype_types.specs.declared.extension.ExtDTypeRef.{ExtDTypeRef}
@@ -72,10 +73,6 @@ kept-again (Some r) u b c s h bs v e = (h r refl).again b c s bs v e
 pub keeps_again : (m : Meaning) → LawfulSession m → (id b c : List ℕ) (s : Tree) → Bytes b → Valid s → keeps m id b s ≡ Some c → Bytes c × (keeps m id c s ≡ Some c)
 keeps_again m h id b c s bs v e = kept-again (m.registered id) m.unknown b c s (h.each id) bs v e
 
--- the same, without that it is bytes
-pub keeps_unchanged : (m : Meaning) → LawfulSession m → (id b c : List ℕ) (s : Tree) → Bytes b → Valid s → keeps m id b s ≡ Some c → keeps m id c s ≡ Some c
-keeps_unchanged m h id b c s bs v e = (keeps_again m h id b c s bs v e).1
-
 kept-outer : (o : Option Rewrites) (u : Bool) (b : List ℕ) (s t : Tree) (n : Nullability) → ((r : Rewrites) → o ≡ Some r → Lawful r) → Bytes b → Valid s → set_null s n ≡ Some t → kept o u b t ≡ kept o u b s
 kept-outer None u b s t n h bs v e = refl
 kept-outer (Some r) u b s t n h bs v e = (h r refl).outer b s t n bs v e
@@ -118,15 +115,14 @@ mutual
   admits-items n (item name t g rest) e = (admits_allow_unknown_in n t e, admits-items n rest e)
 
 -- fields after those that are admitted
-admits_fields-more : (m : Meaning) (fs : Fields) (qs : List (List ℕ × Tree)) → AdmitsItems m fs → AdmitsItems m (fields qs) → AdmitsItems m (fields (pairs fs ++ qs))
-admits_fields-more m no_items qs a b = b
-admits_fields-more m (item n t _ rest) qs a b = (a.0, admits_fields-more m rest qs a.1 b)
+admits_joined : (m : Meaning) (ps qs : List (List ℕ × Tree)) → AdmitsItems m (fields ps) → AdmitsItems m (fields qs) → AdmitsItems m (fields (ps ++ qs))
+admits_joined m [] qs a b = b
+admits_joined m (p ∷ ps) qs a b = (a.0, admits_joined m ps qs a.1 b)
 
 -- a struct with more fields after those of an admitted one
 pub admits_more : (m : Meaning) (t : Tree) (ps qs : List (List ℕ × Tree)) (n k : Nullability) → struct_fields t ≡ Some ps → Admits m t → Admits m (struct (fields qs) k) → Admits m (struct (fields (ps ++ qs)) n)
 admits_more m (struct fs k') ps qs n k e a b =
-    let same : pairs fs ≡ ps = cc in
-    subst (λ (xs : List (List ℕ × Tree)). AdmitsItems m (fields (xs ++ qs))) same (admits_fields-more m fs qs a b)
+    let same : pairs fs ≡ ps = cc in admits_joined m ps qs (subst (AdmitsItems m) (sym (fields_of_pairs fs) ∙ ap fields same) a) b
 admits_more m t ps qs n k e a b = cc
 
 pub admits_one_more : (m : Meaning) (t u : Tree) (ps : List (List ℕ × Tree)) (name : List ℕ) (n : Nullability) → struct_fields t ≡ Some ps → Admits m t → Admits m u → Admits m (struct (fields (ps ++ (name, u) ∷ [])) n)
@@ -134,8 +130,7 @@ admits_one_more m t u ps name n e a b = admits_more m t ps ((name, u) ∷ []) n 
 
 -- the same of a list of fields
 pub admits_fields_appended : (m : Meaning) (ps : List (List ℕ × Tree)) (name : List ℕ) (u : Tree) → AdmitsItems m (fields ps) → Admits m u → AdmitsItems m (fields (ps ++ (name, u) ∷ []))
-admits_fields_appended m [] name u a b = (b, tt)
-admits_fields_appended m (p ∷ ps) name u a b = (a.0, admits_fields_appended m ps name u a.1 b)
+admits_fields_appended m ps name u a b = admits_joined m ps ((name, u) ∷ []) a (b, tt)
 
 -- a field of an admitted struct
 pub admits_field : (m : Meaning) (ps : List (List ℕ × Tree)) (name : List ℕ) (t : Tree) → AdmitsItems m (fields ps) → first_named ps name ≡ Some t → Admits m t

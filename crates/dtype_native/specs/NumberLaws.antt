@@ -40,10 +40,7 @@ injective (suc k) a b f g e =
 pub of_bits : (w : Width) (z : ℤ) → FitsSigned w z → little_endian (byte_len w) (pos (cast_unsigned w z)) ≡ little_endian (byte_len w) z
 of_bits w (pos n) f = refl
 of_bits w8 (negsuc n) f = let s = f.sfits in complement 1 n (omega arith)
-of_bits w16 (negsuc n) f = let s = f.sfits in complement 2 n (omega arith)
-of_bits w32 (negsuc n) f = let s = f.sfits in complement 4 n (omega arith)
-of_bits w64 (negsuc n) f = let s = f.sfits in complement 8 n (omega arith)
-of_bits w128 (negsuc n) f = let s = f.sfits in complement 16 n (omega arith)
+of_bits _ (negsuc n) f = let s = f.sfits in complement _ n (omega arith)
 
 pub bits_below : (w : Width) (z : ℤ) → FitsSigned w z → cast_unsigned w z < 256 ^ byte_len w
 bits_below w8 z f = (Fits-of_z f).fits

@@ -102,23 +102,6 @@ tags_Decides gs hs = slice_eq-Decides signed_Decides gs hs (pointwise int_eq gs 
 
 -- ---- trees by one layer
 
--- the number of a tree's kind: trees of different kinds differ by it, with no case for each pair of kinds
-abbrev kind_number : Message → ℕ
-kind_number missing = 0
-kind_number null = 1
-kind_number (bool f) = 2
-kind_number (primitive p f) = 3
-kind_number (decimal p k f) = 4
-kind_number (utf8 f) = 5
-kind_number (binary f) = 6
-kind_number (list c f) = 7
-kind_number (fixed_size_list c n f) = 8
-kind_number (map_of c v o f) = 9
-kind_number (struct ns ms f) = 10
-kind_number (union ns ms gs f) = 11
-kind_number (variant f) = 12
-kind_number (extension i c b) = 13
-
 abbrev one_layer : DtypeType → Message
 one_layer k = kind_step (map-DtypeType DtypeType DType ExtensionMessage FixedMessage ListMessage MapMessage StructMessage UnionMessage Message Message ExtensionOf FixedOf ListOf MapOf StructContent UnionOf kind_message message extension_content fixed_content list_content map_content struct_content union_content (out-DtypeType k))
 
@@ -167,7 +150,7 @@ mutual
   one_layer_Decides (kind.Struct x) (kind.Struct y) = Decides-like _ (ap (λ (p : StructContent). struct p.0 p.1 p.2)) (λ e. triple_equal (struct_content x) (struct_content y) (cc) (cc) (cc)) (struct_Decides x y)
   one_layer_Decides (kind.Union x) (kind.Union y) = Decides-like _ (ap (λ (p : UnionOf). union p.0 p.1 p.2 p.3)) (λ e. quadruple_equal (union_content x) (union_content y) (cc) (cc) (cc) (cc)) (union_Decides x y)
   one_layer_Decides (kind.Extension' b x) (kind.Extension' c y) = Decides-like _ (ap (λ (p : ExtensionOf). extension p.0 p.1 p.2)) (λ e. triple_equal (extension_content x) (extension_content y) (cc) (cc) (cc)) (extension_Decides x y)
-  one_layer_Decides j k = Decides-different (λ e. false≢true (sym (ap (λ m. nat_eq (kind_number (one_layer j)) (kind_number m)) e)))
+  one_layer_Decides j k = Decides-different (λ e. cc)
 
   pub list_Decides : (x y : ListMessage) → Decides (list_eq.ghosts.eq x y) (list_content x ≡ list_content y)
   list_Decides (List' h f) (List' g e) = Decides-rewritten (pair_Decides (child_Decides h g) (booleans_Decides f e)) (list_eq.Laws.is _ _) (search (rules, the_lemmas)) (search (rules, the_lemmas))

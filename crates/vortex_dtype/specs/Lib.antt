@@ -68,11 +68,6 @@ pub use Rattle.dtype_projection.specs.Restricted
 pub use Rattle.dtype_base.specs.Distinct
 pub use Rattle.dtype_types.specs.parts.FieldTypes
 pub use Rattle.dtype_paths.specs.PathOrderLaws
-pub use Rattle.dtype_types.proofs.lemmas.JoinedFields
-pub use Rattle.dtype_types.proofs.lemmas.NullValues
-pub use Rattle.dtype_types.proofs.lemmas.Nullabilities
-pub use Rattle.dtype_types.proofs.lemmas.Tags
-pub use Rattle.dtype_types.proofs.lemmas.Validity
 pub use Rattle.dtype_paths.specs.Texts as PathTexts
 pub use Rattle.dtype_messages.specs.Message
 pub use Rattle.dtype_messages.specs.MessageOf

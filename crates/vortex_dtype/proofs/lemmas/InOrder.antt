@@ -5,6 +5,7 @@
 -- else a fault of the message.
 use Rattle.std.proofs.Common.{◌≡◌, inl, inr, ℕ, suc, ℤ, pos, negsuc, ◌<◌, ◌==◌, List, [], ◌∷◌, length, map, Bool, true, false, cond, Option, Some, None, Result, Ok, Err, MatchResult, refl, sym, ap, subst, ◌∙◌, arith}
 use Rattle.std.specs.List.{zip}
+use Rattle.std.proofs.lemmas.Bool.{cond_both}
 use Rattle.std.proofs.lemmas.Bool.Decides.{Decides-eqb, nat_tests, not_from_Decides}
 use Rattle.std.proofs.lemmas.Int.{ints}
 use Rattle.std.proofs.lemmas.Result.{MatchResult-at_err, MatchResult-at_ok, MatchResult-weaker}
@@ -30,12 +31,7 @@ use Rattle.vortex_dtype.specs.Reads.{Reads, ReadsChild, ReadsAll, AreBytes, Faul
 use Rattle.vortex_dtype.specs.ReadInOrder.{◌>>=◌, decimal_made, read, read_child, read_all, read_tags, primitive_read, decimal_read, map_read, when_required, struct_read, union_made, union_read, extension_read, or_fault, or_empty}
 use Rattle.vortex_dtype.proofs.lemmas.Unions.{union_making, union_ok}
 
--- ---- what holds of the result of a test, of a missing part and of two steps in turn
-
-by_test : {A E : Type 0} (b : Bool) (x y : Result A E) (P : A → Type 0) (Q : E → Type 0) → (b ≡ true → MatchResult x P Q) → (b ≡ false → MatchResult y P Q)
-    → MatchResult (cond b x y) P Q
-by_test true x y P Q h k = h refl
-by_test false x y P Q h k = k refl
+-- ---- what holds of the result of a missing part and of two steps in turn
 
 given : {A : Type 0} (k : VortexError) (o : Option A) → MatchResult (or_fault k o) (λ x. o ≡ Some x) (λ e. (e ≡ k) × (o ≡ None))
 given k None = (refl, refl)
@@ -106,7 +102,7 @@ mutual
   reading s (struct ns ms f) =
       bind_result (read_all s ms) _ _ _ _ _ (all_reading s ms)
       (λ ts h. let same = Decides-eqb (length ns) (length ts) in
-      by_test (length ns == length ts) _ _ _ _ (λ e. (ts, h, same.0 e, refl))
+      cond_both (length ns == length ts) _ _ (λ (r : Result Tree VortexError). MatchResult r (Reads s (struct ns ms f)) (Fault s (struct ns ms f))) (λ e. (ts, h, same.0 e, refl))
       (λ e. inr (refl, λ c. not_from_Decides _ same e (c ∙ sym (count_all s ms ts h)))))
       (λ e. inl)
   reading s (union ns ms gs f) =

@@ -30,14 +30,10 @@ pub path_by_steps : (parts : List Field) (p : List Step) → map step_of parts �
 path_by_steps parts p e = path_of_steps (map part_name parts) p (map-map (option_map Name) part_name parts ∙ e)
 
 -- where the parts make a path, its steps are theirs
-behind : (n : List ℕ) (o : Option (List Step)) (steps : List (Option Step)) (p : List Step) → ((q : List Step) → o ≡ Some q → steps ≡ map Some q)
-    → option_map (λ q. Name n ∷ q) o ≡ Some p → Some (Name n) ∷ steps ≡ map Some p
-behind n o steps p more e = grind arith
-
 steps_of_path : (ns : List (Option (List ℕ))) (p : List Step) → path_of ns ≡ Some p → map (option_map Name) ns ≡ map Some p
 steps_of_path [] p e = let none : [] ≡ p = cc in ap (map Some) none
 steps_of_path (None ∷ ns) p e = cc
-steps_of_path (Some n ∷ ns) p e = behind n (path_of ns) (map (option_map Name) ns) p (steps_of_path ns) e
+steps_of_path (Some n ∷ ns) p e = grind (arith, steps_of_path ns)
 
 pub path_steps : (m : FieldPath) (p : List Step) → path_of (part_names m) ≡ Some p → steps_of m ≡ map Some p
 path_steps m p e = sym (by_names m) ∙ steps_of_path (part_names m) p e

@@ -2,7 +2,7 @@
 -- SPDX-FileCopyrightText: Copyright the Vortex contributors
 
 -- The variants of a valid union by recursion: each has a valid type, and a tag that none after it has.
-use Rattle.std.proofs.Common.{◌≡◌, ◌≢◌, ℕ, suc, ◌∙◌, inl, inr, length, refl, sym, subst, arith, ap}
+use Rattle.std.proofs.Common.{◌≡◌, ◌≢◌, ℕ, List, suc, ◌∙◌, inl, inr, length, refl, sym, subst, arith, ap}
 use Rattle.std.specs.List.{AllByRecursion}
 use Rattle.std.proofs.lemmas.List.{length-map}
 use Rattle.std.proofs.lemmas.List.Elements.{recursion_from_All}
@@ -12,9 +12,9 @@ use Rattle.dtype_base.specs.declared.nullability.Nullability.{Nullability}
 use Rattle.dtype_types.specs.parts.Lookups.{variant_names, variant_tags}
 use Rattle.dtype_types.specs.parts.Unions.{HasUnionLengths, AreVariants}
 use Rattle.dtype_types.specs.tree.Erase.{erase_items}
-use Rattle.dtype_types.specs.tree.Tree.{Variants, no_items, item, triples, union, rest_of, first_tag}
+use Rattle.dtype_types.specs.tree.Tree.{Tree, Variants, no_items, item, triples, union, rest_of, first_tag}
 use Rattle.dtype_types.specs.tree.Valid.{Valid, ValidItems}
-use Rattle.dtype_types.specs.values.Value.{Value, VariantOf}
+use Rattle.dtype_types.specs.values.Value.{Value, Of, VariantOf}
 use Rattle.dtype_types.proofs.lemmas.ValidLists.{variants_are, are_variants}
 
 -- none of these variants has the tag
@@ -41,6 +41,16 @@ pub absent : (g : ℕ) (vs : Variants) → LacksTag g vs → (h : ℕ) (v : Valu
 absent g no_items lacks h v is o = o
 absent g (item n t i vs) lacks h v is (inl o) = lacks.0 (sym is ∙ o.0)
 absent g (item n t i vs) lacks h v is (inr o) = absent g vs lacks.1 h v is o
+
+-- the value of a tag that no other variant has
+pub value_of_first : (g i : ℕ) (v : Value) (n : List ℕ) (u : Tree) (ws : Variants) → LacksTag g ws → VariantOf g v (item n u i ws) → Of v u
+value_of_first g i v n u ws h (inl o) = o.1
+value_of_first g i v n u ws h (inr o) = absurd (absent g ws h g v refl o)
+
+-- the value of another tag than the first
+pub later_of : (g k i : ℕ) (v : Value) (n : List ℕ) (u : Tree) (vs ws : Variants) → g ≡ i → LacksTag g vs → VariantOf k v vs → VariantOf k v (item n u i ws) → VariantOf k v ws
+later_of g k i v n u vs ws same h p (inl o) = absurd (absent g vs h k v (o.0 ∙ sym same) p)
+later_of g k i v n u vs ws same h p (inr o) = o
 
 -- variants that are equal but for the nullabilities of their types have the same tags and names
 pub same_tags : (vs ws : Variants) → erase_items vs ≡ erase_items ws → variant_tags (triples vs) ≡ variant_tags (triples ws)

@@ -17,7 +17,7 @@ use Rattle.dtype_types.specs.values.Sample.{sample, samples, copies}
 use Rattle.dtype_types.specs.values.Tell.{or_else, null_else, tell, tell_fields, tell_variants, HasNoSizeZero, ItemsHaveNoSizeZero}
 use Rattle.dtype_types.proofs.lemmas.NullValues.{null_is_of_nullable}
 use Rattle.dtype_types.proofs.lemmas.SampleLaws.{sample_of, samples_of, value_count-copies, each_copy}
-use Rattle.dtype_types.proofs.OwnTags.{OwnTags, LacksTag, own_tags, absent, lacks_also}
+use Rattle.dtype_types.proofs.OwnTags.{OwnTags, own_tags, lacks_also, value_of_first, later_of}
 use Rattle.dtype_types.proofs.TellGiven.{told_exactly}
 
 -- ---- an answer: a value of the first and not of the second
@@ -46,18 +46,6 @@ told_node a b o h = go (nullability a) (nullability b) (null_is_of_nullable a).1
     go : (m n : Nullability) → (m ≡ Nullable → Of null_value a) → (Of null_value b → n ≡ Nullable) → IfSome (null_else m n o) (Apart a b)
     go Nullable NonNullable p q = (p refl, λ x. cc (q x))
     go _ _ p q = h
-
--- ---- a union's tags
-
--- the value of a tag that no other variant has
-value_of_first : (g i : ℕ) (v : Value) (n : List ℕ) (u : Tree) (ws : Variants) → LacksTag g ws → VariantOf g v (item n u i ws) → Of v u
-value_of_first g i v n u ws h (inl o) = o.1
-value_of_first g i v n u ws h (inr o) = absurd (absent g ws h g v refl o)
-
--- the value of another tag than the first
-later_of : (g k i : ℕ) (v : Value) (n : List ℕ) (u : Tree) (vs ws : Variants) → g ≡ i → LacksTag g vs → VariantOf k v vs → VariantOf k v (item n u i ws) → VariantOf k v ws
-later_of g k i v n u vs ws same h p (inl o) = absurd (absent g vs h k v (o.0 ∙ sym same) p)
-later_of g k i v n u vs ws same h p (inr o) = o
 
 -- ---- the members of a fixed-size list
 

@@ -1,13 +1,12 @@
 -- SPDX-License-Identifier: Apache-2.0
 -- SPDX-FileCopyrightText: Copyright the Vortex contributors
 
--- The bounds of two types by their values. The values of the greatest type below two are exactly those that both have. The
--- least type above two is least among all types that take the values of both.
+-- The least type above two is least among all types that take the values of both.
 use Rattle.std.proofs.Common.{◌≡◌, ◌≢◌, ◌∙◌, ℕ, List, zero, suc, refl, sym, subst, inl, inr, ap}
 use Rattle.dtype_base.specs.Nullability.{either}
 use Rattle.dtype_base.specs.declared.nullability.Nullability.{Nullability}
 use Rattle.dtype_base.specs.declared.nullability.Nullability.TheVariants.{NonNullable, Nullable}
-use Rattle.dtype_types.specs.nullability.Merged.{both, merge, merge_items}
+use Rattle.dtype_types.specs.nullability.Merged.{merge, merge_items}
 use Rattle.dtype_types.specs.tree.Erase.{erase, erase_items}
 use Rattle.dtype_types.specs.tree.Tree.{Tree, Fields, no_items, Variants, item, null, bool, primitive, decimal, utf8, binary, list, fixed_size_list, map_of, struct, union, variant, extension, rest_of, first_tag}
 use Rattle.dtype_types.specs.tree.Valid.{Valid, ValidItems}
@@ -16,79 +15,7 @@ use Rattle.dtype_types.specs.values.Value.{Value, Values, Entries, Named, Includ
 use Rattle.dtype_types.proofs.lemmas.SampleLaws.{sample_of, samples_of, each_copy, value_count-copies}
 use Rattle.dtype_types.proofs.lemmas.SubValues.{each_of, each_entry}
 use Rattle.dtype_types.proofs.lemmas.ValidLists.{variants_are}
-use Rattle.dtype_types.proofs.OwnTags.{OwnTags, LacksTag, own_tags, absent, lacks_also}
-
--- ---- the values that both have
-
-pick : (P : Nullability → Type 0) (m n : Nullability) → P m → P n → P (both m n)
-pick P NonNullable n p q = p
-pick P Nullable n p q = q
-
-each_both : (P Q R : Value → Type 0) → ((v : Value) → P v → Q v → R v) → (vs : Values) → Each P vs → Each Q vs → Each R vs
-each_both P Q R f no_values h k = tt
-each_both P Q R f (value v vs) h k = (f v h.0 k.0, each_both P Q R f vs h.1 k.1)
-
-both_list : (t u w : Tree) (m n : Nullability) → ((v : Value) → Of v t → Of v u → Of v w) → (v : Value) → Of v (list t m) → Of v (list u n) → Of v (list w (both m n))
-both_list t u w m n f null_value o p = pick (λ x. x ≡ Nullable) m n o p
-both_list t u w m n f (items vs) o p = each_both (λ v. Of v t) (λ v. Of v u) (λ v. Of v w) f vs o p
-both_list t u w m n f _ o p = o
-
-both_fixed : (t u w : Tree) (j k : ℕ) (m n : Nullability) → ((v : Value) → Of v t → Of v u → Of v w) → (v : Value) → Of v (fixed_size_list t j m) → Of v (fixed_size_list u k n) → Of v (fixed_size_list w j (both m n))
-both_fixed t u w j k m n f null_value o p = pick (λ x. x ≡ Nullable) m n o p
-both_fixed t u w j k m n f (fixed_items vs) o p = (o.0, each_both (λ v. Of v t) (λ v. Of v u) (λ v. Of v w) f vs o.1 p.1)
-both_fixed t u w j k m n f _ o p = o
-
-both_entries : (t u w t' u' w' : Tree) → ((v : Value) → Of v t → Of v u → Of v w) → ((v : Value) → Of v t' → Of v u' → Of v w') → (es : Entries)
-    → EachEntry (λ k. Of k t) (λ v. Of v t') es → EachEntry (λ k. Of k u) (λ v. Of v u') es → EachEntry (λ k. Of k w) (λ v. Of v w') es
-both_entries t u w t' u' w' f g no_entries h k = tt
-both_entries t u w t' u' w' f g (entry x y es) h k = (f x h.0 k.0, g y h.1 k.1, both_entries t u w t' u' w' f g es h.2 k.2)
-
-both_map : (t u w t' u' w' : Tree) (x y : _) (m n : Nullability) → ((v : Value) → Of v t → Of v u → Of v w) → ((v : Value) → Of v t' → Of v u' → Of v w') → (v : Value)
-    → Of v (map_of t t' x m) → Of v (map_of u u' y n) → Of v (map_of w w' x (both m n))
-both_map t u w t' u' w' x y m n f g null_value o p = pick (λ x. x ≡ Nullable) m n o p
-both_map t u w t' u' w' x y m n f g (entries es) o p = both_entries t u w t' u' w' f g es o p
-both_map t u w t' u' w' x y m n f g _ o p = o
-
-both_struct : (fs gs hs : Fields) (m n : Nullability) → ((nvs : Named) → NamedOf nvs fs → NamedOf nvs gs → NamedOf nvs hs) → (v : Value) → Of v (struct fs m) → Of v (struct gs n) → Of v (struct hs (both m n))
-both_struct fs gs hs m n f null_value o p = pick (λ x. x ≡ Nullable) m n o p
-both_struct fs gs hs m n f (record_of nvs) o p = f nvs o p
-both_struct fs gs hs m n f _ o p = o
-
-both_union : (vs ws xs : Variants) (m n : Nullability) → ((g : ℕ) (v : Value) → VariantOf g v vs → VariantOf g v ws → VariantOf g v xs) → (v : Value) → Of v (union vs m) → Of v (union ws n) → Of v (union xs (both m n))
-both_union vs ws xs m n f null_value o p = pick (λ x. x ≡ Nullable) m n o p
-both_union vs ws xs m n f (tagged g v) o p = f g v o p
-both_union vs ws xs m n f _ o p = o
-
-mutual
-  pub of_both : (a b : Tree) → erase a ≡ erase b → Valid a → (v : Value) → Of v a → Of v b → Of v (merge both a b)
-  of_both null null e h v o p = o
-  of_both (bool m) (bool n) e h v o p = pick (λ x. Of v (bool x)) m n o p
-  of_both (primitive q m) (primitive r n) e h v o p = let same : q ≡ r = cc in pick (λ x. Of v (primitive q x)) m n o (subst (λ z. Of v (primitive z n)) (sym same) p)
-  of_both (decimal q m) (decimal r n) e h v o p = let same : q ≡ r = cc in pick (λ x. Of v (decimal q x)) m n o (subst (λ z. Of v (decimal z n)) (sym same) p)
-  of_both (utf8 m) (utf8 n) e h v o p = pick (λ x. Of v (utf8 x)) m n o p
-  of_both (binary m) (binary n) e h v o p = pick (λ x. Of v (binary x)) m n o p
-  of_both (list t m) (list u n) e h v o p = both_list t u (merge both t u) m n (λ x. of_both t u (cc) h x) v o p
-  of_both (fixed_size_list t j m) (fixed_size_list u k n) e h v o p = both_fixed t u (merge both t u) j k m n (λ x. of_both t u (cc) h.1 x) v o p
-  of_both (map_of t t' x m) (map_of u u' y n) e h v o p = both_map t u (merge both t u) t' u' (merge both t' u') x y m n (λ z. of_both t u (cc) h.1 z) (λ z. of_both t' u' (cc) h.2 z) v o p
-  of_both (struct fs m) (struct gs n) e h v o p = both_struct fs gs (merge_items both fs gs) m n (λ z. named_both fs gs (cc) h z) v o p
-  of_both (union vs m) (union ws n) e h v o p = both_union vs ws (merge_items both vs ws) m n (λ g z. variant_both vs ws (cc) (own_tags vs m h) g z) v o p
-  of_both (variant m) (variant n) e h v o p = pick (λ x. Of v (variant x)) m n o p
-  of_both (extension i a t) (extension j b u) e h v o p = of_both t u (cc) h.1 v o p
-  of_both _ _ e h v o p = cc
-
-  named_both : (fs gs : Fields) → erase_items fs ≡ erase_items gs → ValidItems fs → (nvs : Named) → NamedOf nvs fs → NamedOf nvs gs → NamedOf nvs (merge_items both fs gs)
-  named_both no_items no_items e h nvs o p = o
-  named_both (item m t _ fs) (item n u _ gs) e h (named l v rest) o p = (o.0, of_both t u (cc) h.0 v o.1 p.1, named_both fs gs (ap rest_of e) h.1 rest o.2 p.2)
-  named_both (item m t _ fs) (item n u _ gs) e h no_named o p = o
-  named_both _ _ e h nvs o p = cc
-
-  variant_both : (vs ws : Variants) → erase_items vs ≡ erase_items ws → OwnTags vs → (g : ℕ) (v : Value) → VariantOf g v vs → VariantOf g v ws → VariantOf g v (merge_items both vs ws)
-  variant_both no_items no_items e h g v o p = o
-  variant_both (item m t i vs) (item n u j ws) e h g v (inl o) (inl p) = inl (o.0, of_both t u (cc) h.0 v o.1 p.1)
-  variant_both (item m t i vs) (item n u j ws) e h g v (inl o) (inr p) = absurd (absent i ws (lacks_also i vs ws (ap rest_of e) h.1) g v o.0 p)
-  variant_both (item m t i vs) (item n u j ws) e h g v (inr o) (inl p) = let same : i ≡ j = ap (first_tag i) e in absurd (absent i vs h.1 g v (p.0 ∙ sym same) o)
-  variant_both (item m t i vs) (item n u j ws) e h g v (inr o) (inr p) = inr (variant_both vs ws (ap rest_of e) h.2 g v o p)
-  variant_both _ _ e h g v o p = cc
+use Rattle.dtype_types.proofs.OwnTags.{OwnTags, LacksTag, own_tags, absent}
 
 -- ---- least among the types that take the values of both
 
@@ -150,7 +77,7 @@ Mapped t t' d = (es : Entries) → EachEntry (λ k. Of k t) (λ v. Of v t') es �
 
 entries_in : (t u w t' u' w' : Tree) → Valid t → Valid t' → Valid u → Valid u' → Least t u w → Least t' u' w' → (d : Tree) → Valid d → Mapped t t' d → Mapped u u' d → Mapped w w' d
 entries_in t u w t' u' w' h h' k k' f g (map_of c c' y o) x i j es e =
-    each_entry (λ v. Of v w) (λ v. Of v c) (λ v. Of v w') (λ v. Of v c')
+    each_entry w c w' c'
     (f c x.1 (λ q p. (i (entry q (sample t') no_entries) (p, sample_of t' h', tt)).0) (λ q p. (j (entry q (sample u') no_entries) (p, sample_of u' k', tt)).0))
     (g c' x.2 (λ q p. (i (entry (sample t) q no_entries) (sample_of t h, p, tt)).1) (λ q p. (j (entry (sample u) q no_entries) (sample_of u k, p, tt)).1)) es e
 entries_in t u w t' u' w' h h' k k' f g (extension a b s) x i j es e = entries_in t u w t' u' w' h h' k k' f g s x.1 i j es e

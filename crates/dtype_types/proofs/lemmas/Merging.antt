@@ -28,9 +28,9 @@ use Rattle.dtype_types.specs.tree.Valid.{Valid, ValidItems}
 use Rattle.dtype_types.specs.values.Value.{Value, IncludedIn, Of}
 use Rattle.dtype_types.proofs.OwnTags.{are_variants_also}
 use Rattle.dtype_types.proofs.lemmas.Bounds.{erase_merge, commutes, associates, swap_either, swap_both, group_either, group_both, or_and, and_or, upper_of, lower_of, least_either, greatest_both}
-use Rattle.dtype_types.proofs.lemmas.BoundValues.{of_both, least_values}
+use Rattle.dtype_types.proofs.lemmas.BoundValues.{least_values}
 use Rattle.dtype_types.proofs.lemmas.SubLaws.{sub_reflexive, sub_transitive}
-use Rattle.dtype_types.proofs.lemmas.SubValues.{sub_values}
+use Rattle.dtype_types.proofs.lemmas.SubValues.{of_both, sub_values}
 
 -- ---- valid types
 

@@ -1,17 +1,19 @@
 -- SPDX-License-Identifier: Apache-2.0
 -- SPDX-FileCopyrightText: Copyright the Vortex contributors
 
--- The bounds of two types in the order by nullability, once for both rules: what is merged under a rule differs from the two
--- in nullability alone, and is commutative, associative and absorbing where the rule is. So the two rules make a lattice,
--- whose order is `Sub`.
-use Rattle.std.proofs.Common.{◌≡◌, ◌∙◌, refl, sym, ap, subst}
+-- The bounds of two types in the order by nullability, once for both rules. What is merged under a rule differs from the two in
+-- nullability alone, and what the rule makes of two nullabilities holds at each node. So a rule that makes bounds in an order of
+-- nullabilities makes bounds in that order of types, which is `Sub` or the other way around, and the two rules make a lattice.
+use Rattle.std.proofs.Common.{◌≡◌, ◌∙◌, ◌↔◌, refl, sym, ap, subst, inl, inr}
 use Rattle.dtype_base.specs.Nullability.{either}
 use Rattle.dtype_base.specs.declared.nullability.Nullability.{Nullability}
 use Rattle.dtype_base.specs.declared.nullability.Nullability.TheVariants.{NonNullable, Nullable}
+use Rattle.dtype_types.specs.equality.EqualityLaws.{equal_by, everywhere, reflexive}
 use Rattle.dtype_types.specs.nullability.Merged.{Rule, both, merge, merge_items, IsLeastAbove, IsGreatestBelow}
-use Rattle.dtype_types.specs.nullability.Sub.{Sub, Allows, NullableWherever, NullableWhereverItems}
+use Rattle.dtype_types.specs.nullability.Sub.{Sub, Allows, Wherever, WhereverItems}
 use Rattle.dtype_types.specs.tree.Erase.{erase, erase_items}
-use Rattle.dtype_types.specs.tree.Tree.{Tree, no_items, item, null, bool, primitive, decimal, utf8, binary, list, fixed_size_list, map_of, struct, union, variant, extension, Holder, Items, rest_of, first_tag}
+use Rattle.dtype_types.specs.tree.Tree.{Tree, no_items, item, null, bool, primitive, decimal, utf8, binary, list, fixed_size_list, map_of, struct, union, variant, extension, Holder, Items, rest_of}
+use Rattle.dtype_types.proofs.lemmas.NullValues.{either_nullable}
 
 -- ---- nothing but nullabilities is changed
 
@@ -38,237 +40,191 @@ module _ (r : Rule) where
     erase_merge_items (item m t f xs) (item n u g ys) e = cc (erase_merge t u (cc), erase_merge_items xs ys (ap rest_of e))
     erase_merge_items _ _ e = cc
 
--- ---- commutative
+-- ---- and what the rule makes of two nullabilities holds at each node
 
-module _ (r : Rule) (swap : (m n : Nullability) → r m n ≡ r n m) where
+abbrev pub Relation : Type 1
+Relation = Nullability → Nullability → Type 0
+
+-- from what holds of the two, of a third and the first, and of the third and the second
+module _ (O P Q R : Relation) (r : Rule) (makes : (l m n : Nullability) → O m n → P l m → Q l n → R l (r m n)) where
   mutual
-    pub commutes : (a b : Tree) → erase a ≡ erase b → merge r a b ≡ merge r b a
-    commutes null null e = refl
-    commutes (bool m) (bool n) e = ap bool (swap m n)
-    commutes (primitive p m) (primitive q n) e = cc (swap m n)
-    commutes (decimal c m) (decimal d n) e = cc (swap m n)
-    commutes (utf8 m) (utf8 n) e = ap utf8 (swap m n)
-    commutes (binary m) (binary n) e = ap binary (swap m n)
-    commutes (list t m) (list u n) e = cc (commutes t u (cc), swap m n)
-    commutes (fixed_size_list t j m) (fixed_size_list u k n) e = cc (commutes t u (cc), swap m n)
-    commutes (map_of t v x m) (map_of u w y n) e = cc (commutes t u (cc), commutes v w (cc), swap m n)
-    commutes (struct fs m) (struct gs n) e = cc (items_commute fs gs (cc), swap m n)
-    commutes (union vs m) (union ws n) e = cc (items_commute vs ws (cc), swap m n)
-    commutes (variant m) (variant n) e = ap variant (swap m n)
-    commutes (extension i a t) (extension j b u) e = cc (commutes t u (cc))
-    commutes _ _ e = cc
+    of_three : (c a b : Tree) → erase c ≡ erase a → erase c ≡ erase b → Wherever O a b → Wherever P c a → Wherever Q c b → Wherever R c (merge r a b)
+    of_three null null null e f o p q = tt
+    of_three (bool l) (bool m) (bool n) e f o p q = makes l m n o p q
+    of_three (primitive _ l) (primitive _ m) (primitive _ n) e f o p q = makes l m n o p q
+    of_three (decimal _ l) (decimal _ m) (decimal _ n) e f o p q = makes l m n o p q
+    of_three (utf8 l) (utf8 m) (utf8 n) e f o p q = makes l m n o p q
+    of_three (binary l) (binary m) (binary n) e f o p q = makes l m n o p q
+    of_three (list t l) (list u m) (list v n) e f o p q = (makes l m n o.0 p.0 q.0, of_three t u v (cc) (cc) o.1 p.1 q.1)
+    of_three (fixed_size_list t _ l) (fixed_size_list u _ m) (fixed_size_list v _ n) e f o p q = (makes l m n o.0 p.0 q.0, of_three t u v (cc) (cc) o.1 p.1 q.1)
+    of_three (map_of t t' _ l) (map_of u u' _ m) (map_of v v' _ n) e f o p q =
+        (makes l m n o.0 p.0 q.0, of_three t u v (cc) (cc) o.1 p.1 q.1, of_three t' u' v' (cc) (cc) o.2 p.2 q.2)
+    of_three (struct fs l) (struct gs m) (struct hs n) e f o p q = (makes l m n o.0 p.0 q.0, items_of_three fs gs hs (cc) (cc) o.1 p.1 q.1)
+    of_three (union fs l) (union gs m) (union hs n) e f o p q = (makes l m n o.0 p.0 q.0, items_of_three fs gs hs (cc) (cc) o.1 p.1 q.1)
+    of_three (variant l) (variant m) (variant n) e f o p q = makes l m n o p q
+    of_three (extension _ _ t) (extension _ _ u) (extension _ _ v) e f o p q = of_three t u v (cc) (cc) o p q
+    of_three _ _ _ e f o p q = cc
 
-    items_commute : {h : Holder} (xs ys : Items h) → erase_items xs ≡ erase_items ys → merge_items r xs ys ≡ merge_items r ys xs
-    items_commute no_items no_items e = refl
-    items_commute (item m t f xs) (item n u g ys) e = cc (ap (first_tag f) e, commutes t u (cc), items_commute xs ys (ap rest_of e))
-    items_commute _ _ e = cc
+    items_of_three : {h : Holder} (zs xs ys : Items h) → erase_items zs ≡ erase_items xs → erase_items zs ≡ erase_items ys → WhereverItems O xs ys → WhereverItems P zs xs → WhereverItems Q zs ys → WhereverItems R zs (merge_items r xs ys)
+    items_of_three no_items no_items no_items e f o p q = tt
+    items_of_three (item _ t _ zs) (item _ u _ xs) (item _ v _ ys) e f o p q = (of_three t u v (cc) (cc) o.0 p.0 q.0, items_of_three zs xs ys (ap rest_of e) (ap rest_of f) o.1 p.1 q.1)
+    items_of_three _ _ _ e f o p q = cc
 
--- ---- associative
+abbrev Any : Relation
+Any m n = Unit {0}
 
-module _ (r : Rule) (group : (l m n : Nullability) → r (r l m) n ≡ r l (r m n)) where
-  mutual
-    pub associates : (a b : Tree) → erase a ≡ erase b → (c : Tree) → erase b ≡ erase c → merge r (merge r a b) c ≡ merge r a (merge r b c)
-    associates null null e null f = refl
-    associates (bool l) (bool m) e (bool n) f = ap bool (group l m n)
-    associates (primitive p l) (primitive q m) e (primitive o n) f = ap (primitive p) (group l m n)
-    associates (decimal p l) (decimal q m) e (decimal o n) f = ap (decimal p) (group l m n)
-    associates (utf8 l) (utf8 m) e (utf8 n) f = ap utf8 (group l m n)
-    associates (binary l) (binary m) e (binary n) f = ap binary (group l m n)
-    associates (list t l) (list u m) e (list v n) f = cc (associates t u (cc) v (cc), group l m n)
-    associates (fixed_size_list t i l) (fixed_size_list u j m) e (fixed_size_list v k n) f = cc (associates t u (cc) v (cc), group l m n)
-    associates (map_of t t' x l) (map_of u u' y m) e (map_of v v' z n) f =
-        ap (λ k. map_of k (merge r (merge r t' u') v') x (r (r l m) n)) (associates t u (cc) v (cc))
-        ∙ ap (λ k. map_of (merge r t (merge r u v)) k x (r (r l m) n)) (associates t' u' (cc) v' (cc))
-        ∙ ap (map_of (merge r t (merge r u v)) (merge r t' (merge r u' v')) x) (group l m n)
-    associates (struct fs l) (struct gs m) e (struct hs n) f = cc (items_associate fs gs (cc) hs (cc), group l m n)
-    associates (union fs l) (union gs m) e (union hs n) f = cc (items_associate fs gs (cc) hs (cc), group l m n)
-    associates (variant l) (variant m) e (variant n) f = ap variant (group l m n)
-    associates (extension i a t) (extension j b u) e (extension k c v) f = ap (extension i a) (associates t u (cc) v (cc))
-    associates null null e _ f = cc
-    associates (bool l) (bool m) e _ f = cc
-    associates (primitive p l) (primitive q m) e _ f = cc
-    associates (decimal p l) (decimal q m) e _ f = cc
-    associates (utf8 l) (utf8 m) e _ f = cc
-    associates (binary l) (binary m) e _ f = cc
-    associates (list t l) (list u m) e _ f = cc
-    associates (fixed_size_list t i l) (fixed_size_list u j m) e _ f = cc
-    associates (map_of t t' x l) (map_of u u' y m) e _ f = cc
-    associates (struct fs l) (struct gs m) e _ f = cc
-    associates (union fs l) (union gs m) e _ f = cc
-    associates (variant l) (variant m) e _ f = cc
-    associates (extension i a t) (extension j b u) e _ f = cc
-    associates _ _ e c f = cc
+abbrev Same : Relation
+Same m n = m ≡ n
 
-    items_associate : {h : Holder} (xs ys : Items h) → erase_items xs ≡ erase_items ys → (zs : Items h) → erase_items ys ≡ erase_items zs → merge_items r (merge_items r xs ys) zs ≡ merge_items r xs (merge_items r ys zs)
-    items_associate no_items no_items e zs d = refl
-    items_associate (item l t f xs) (item m u g ys) e (item n v i zs) d =
-        ap (λ x. item l x f (merge_items r (merge_items r xs ys) zs)) (associates t u (cc) v (cc)) ∙ ap (item l (merge r t (merge r u v)) f) (items_associate xs ys (ap rest_of e) zs (ap rest_of d))
-    items_associate (item l t f xs) (item m u g ys) e no_items d = cc
-    items_associate _ _ e zs d = cc
+abbrev pub Turned : Relation → Relation
+Turned R m n = R n m
 
--- ---- absorbing
+any : (a b : Tree) → erase a ≡ erase b → Wherever Any a b
+any = everywhere Any (λ m n. tt)
 
-module _ (r s : Rule) (keeps : (m n : Nullability) → r m (s m n) ≡ m) where
-  mutual
-    pub absorbs : (a b : Tree) → erase a ≡ erase b → merge r a (merge s a b) ≡ a
-    absorbs null null e = refl
-    absorbs (bool m) (bool n) e = ap bool (keeps m n)
-    absorbs (primitive p m) (primitive q n) e = ap (primitive p) (keeps m n)
-    absorbs (decimal c m) (decimal d n) e = ap (decimal c) (keeps m n)
-    absorbs (utf8 m) (utf8 n) e = ap utf8 (keeps m n)
-    absorbs (binary m) (binary n) e = ap binary (keeps m n)
-    absorbs (list t m) (list u n) e = cc (absorbs t u (cc), keeps m n)
-    absorbs (fixed_size_list t j m) (fixed_size_list u k n) e = cc (absorbs t u (cc), keeps m n)
-    absorbs (map_of t v x m) (map_of u w y n) e = cc (absorbs t u (cc), absorbs v w (cc), keeps m n)
-    absorbs (struct fs m) (struct gs n) e = cc (items_absorb fs gs (cc), keeps m n)
-    absorbs (union vs m) (union ws n) e = cc (items_absorb vs ws (cc), keeps m n)
-    absorbs (variant m) (variant n) e = ap variant (keeps m n)
-    absorbs (extension i a t) (extension j b u) e = ap (extension i a) (absorbs t u (cc))
-    absorbs _ _ e = cc
+same : (a : Tree) → Wherever Same a a
+same = reflexive Same (λ n. refl)
 
-    items_absorb : {h : Holder} (xs ys : Items h) → erase_items xs ≡ erase_items ys → merge_items r xs (merge_items s xs ys) ≡ xs
-    items_absorb no_items no_items e = refl
-    items_absorb (item m t f xs) (item n u g ys) e = cc (absorbs t u (cc), items_absorb xs ys (ap rest_of e))
-    items_absorb _ _ e = cc
+from_first : (R : Relation) (r : Rule) → ((m n : Nullability) → R m (r m n)) → (a b : Tree) → erase a ≡ erase b → Wherever R a (merge r a b)
+from_first R r holds a b e = of_three Any Same Any R r (λ l m n o p q. subst (λ k. R k (r m n)) (sym p) (holds m n)) a a b refl e (any a b e) (same a) (any a b e)
 
--- ---- the order
+from_second : (R : Relation) (r : Rule) → ((m n : Nullability) → R n (r m n)) → (a b : Tree) → erase a ≡ erase b → Wherever R b (merge r a b)
+from_second R r holds a b e = of_three Any Any Same R r (λ l m n o p q. subst (λ k. R k (r m n)) (sym q) (holds m n)) b a b (sym e) refl (any a b e) (any b a (sym e)) (same b)
 
-allows_first : (m n : Nullability) → Allows m (either m n)
-allows_first NonNullable NonNullable = λ h. h
-allows_first NonNullable Nullable = λ h. refl
-allows_first Nullable NonNullable = λ h. refl
-allows_first Nullable Nullable = λ h. refl
+-- the rules that take the first and the second give that one
+equal_at : (a b : Tree) → erase a ≡ erase b → Wherever Same a b → a ≡ b
+equal_at a b e h = equal_by Same Any (λ m n e _. e) a b e h (any b a (sym e))
 
-mutual
-  above_first : (a b : Tree) → erase a ≡ erase b → NullableWherever a (merge either a b)
-  above_first null null e = tt
-  above_first (bool m) (bool n) e = allows_first m n
-  above_first (primitive p m) (primitive q n) e = allows_first m n
-  above_first (decimal c m) (decimal d n) e = allows_first m n
-  above_first (utf8 m) (utf8 n) e = allows_first m n
-  above_first (binary m) (binary n) e = allows_first m n
-  above_first (list t m) (list u n) e = (allows_first m n, above_first t u (cc))
-  above_first (fixed_size_list t j m) (fixed_size_list u k n) e = (allows_first m n, above_first t u (cc))
-  above_first (map_of t v x m) (map_of u w y n) e = (allows_first m n, above_first t u (cc), above_first v w (cc))
-  above_first (struct fs m) (struct gs n) e = (allows_first m n, above_first_items fs gs (cc))
-  above_first (union vs m) (union ws n) e = (allows_first m n, above_first_items vs ws (cc))
-  above_first (variant m) (variant n) e = allows_first m n
-  above_first (extension i a t) (extension j b u) e = above_first t u (cc)
-  above_first _ _ e = cc
+first_is : (a b : Tree) → erase a ≡ erase b → a ≡ merge (λ m n. m) a b
+first_is a b e = equal_at a _ (sym (erase_merge (λ m n. m) a b e)) (from_first Same (λ m n. m) (λ m n. refl) a b e)
 
-  above_first_items : {h : Holder} (xs ys : Items h) → erase_items xs ≡ erase_items ys → NullableWhereverItems xs (merge_items either xs ys)
-  above_first_items no_items no_items e = tt
-  above_first_items (item m t f xs) (item n u g ys) e = (above_first t u (cc), above_first_items xs ys (ap rest_of e))
-  above_first_items _ _ e = cc
+second_is : (a b : Tree) → erase a ≡ erase b → b ≡ merge (λ m n. n) a b
+second_is a b e = equal_at b _ (sym e ∙ sym (erase_merge (λ m n. n) a b e)) (from_second Same (λ m n. n) (λ m n. refl) a b e)
 
-raised : (m n : Nullability) → Allows m n → either m n ≡ n
-raised NonNullable NonNullable h = refl
-raised NonNullable Nullable h = refl
-raised Nullable n h = let is = h refl in cc
+turned : (R : Relation) (a b : Tree) → erase a ≡ erase b → Wherever R a b → Wherever (Turned R) b a
+turned R a b e h =
+    subst (Wherever (Turned R) b) (sym (first_is a b e))
+    (of_three R Any Same (Turned R) (λ m n. m) (λ l m n o p q. subst (R m) (sym q) o) b a b (sym e) refl h (any b a (sym e)) (same b))
 
-mutual
-  upper : (a b : Tree) → erase a ≡ erase b → NullableWherever a b → merge either a b ≡ b
-  upper null null e h = refl
-  upper (bool m) (bool n) e h = ap bool (raised m n h)
-  upper (primitive p m) (primitive q n) e h = cc (raised m n h)
-  upper (decimal c m) (decimal d n) e h = cc (raised m n h)
-  upper (utf8 m) (utf8 n) e h = ap utf8 (raised m n h)
-  upper (binary m) (binary n) e h = ap binary (raised m n h)
-  upper (list t m) (list u n) e h = cc (upper t u (cc) h.1, raised m n h.0)
-  upper (fixed_size_list t j m) (fixed_size_list u k n) e h = cc (upper t u (cc) h.1, raised m n h.0)
-  upper (map_of t v x m) (map_of u w y n) e h = cc (upper t u (cc) h.1, upper v w (cc) h.2, raised m n h.0)
-  upper (struct fs m) (struct gs n) e h = cc (upper_items fs gs (cc) h.1, raised m n h.0)
-  upper (union vs m) (union ws n) e h = cc (upper_items vs ws (cc) h.1, raised m n h.0)
-  upper (variant m) (variant n) e h = ap variant (raised m n h)
-  upper (extension i a t) (extension j b u) e h = cc (upper t u (cc) h)
-  upper _ _ e h = absurd h
+-- ---- a rule that makes bounds in an order of nullabilities
 
-  upper_items : {h : Holder} (xs ys : Items h) → erase_items xs ≡ erase_items ys → NullableWhereverItems xs ys → merge_items either xs ys ≡ ys
-  upper_items no_items no_items e h = refl
-  upper_items (item m t f xs) (item n u g ys) e h = cc (ap (first_tag f) e, upper t u (cc) h.0, upper_items xs ys (ap rest_of e) h.1)
-  upper_items _ _ e h = absurd h
+pub record Bounds (A : Relation) (r : Rule) : Type 0 where
+  pub same_is : (n : Nullability) → A n n
+  pub goes_on : (l m n : Nullability) → A l m → A m n → A l n
+  pub only : (m n : Nullability) → A m n → A n m → m ≡ n
+  pub first : (m n : Nullability) → A m (r m n)
+  pub second : (m n : Nullability) → A n (r m n)
+  pub least : (l m n : Nullability) → A m l → A n l → A (r m n) l
+
+-- types that are equal but for nullabilities, which are in that order at each node
+abbrev pub InOrder : Relation → Tree → Tree → Type 0
+InOrder A a b = (erase a ≡ erase b) × Wherever A a b
+
+module _ {A : Relation} {r : Rule} (bounds : Bounds A r) where
+  pub after_itself : (a : Tree) → InOrder A a a
+  after_itself a = (refl, reflexive A bounds.same_is a)
+
+  pub after_more : (a b c : Tree) → InOrder A a b → InOrder A b c → InOrder A a c
+  after_more a b c h k =
+      let e = h.0 ∙ k.0 in
+      (e, subst (Wherever A a) (sym (second_is b c k.0)) (of_three A A Any A (λ m n. n) (λ l m n o p q. bounds.goes_on l m n p o) a b c h.0 e k.1 h.1 (any a c e)))
+
+  pub equal_in_order : (a b : Tree) → InOrder A a b → InOrder A b a → a ≡ b
+  equal_in_order a b h k = equal_by A A bounds.only a b h.0 h.1 k.1
+
+  pub after_first : (a b : Tree) → erase a ≡ erase b → InOrder A a (merge r a b)
+  after_first a b e = (sym (erase_merge r a b e), from_first A r bounds.first a b e)
+
+  pub after_second : (a b : Tree) → erase a ≡ erase b → InOrder A b (merge r a b)
+  after_second a b e = (sym e ∙ sym (erase_merge r a b e), from_second A r bounds.second a b e)
+
+  pub before_others : (a b c : Tree) → InOrder A a c → InOrder A b c → InOrder A (merge r a b) c
+  before_others a b c h k =
+      let e = h.0 ∙ sym k.0 in
+      let same_kind = erase_merge r a b e ∙ h.0 in
+      (same_kind, turned (Turned A) c (merge r a b) (sym same_kind) (of_three Any (Turned A) (Turned A) (Turned A) r (λ l m n o p q. bounds.least l m n p q) c a b (sym h.0) (sym k.0) (any a b e) (turned A a c h.0 h.1) (turned A b c k.0 k.1)))
+
+  pub commutes : (a b : Tree) → erase a ≡ erase b → merge r a b ≡ merge r b a
+  commutes a b e = equal_in_order _ _ (within a b e) (within b a (sym e))
+    where
+      within : (a b : Tree) → erase a ≡ erase b → InOrder A (merge r a b) (merge r b a)
+      within a b e = before_others a b (merge r b a) (after_second b a (sym e)) (after_first b a (sym e))
+
+  pub associates : (a b c : Tree) → erase a ≡ erase b → erase b ≡ erase c → merge r (merge r a b) c ≡ merge r a (merge r b c)
+  associates a b c e f =
+      let ab = merge r a b in
+      let bc = merge r b c in
+      let left : erase ab ≡ erase c = erase_merge r a b e ∙ e ∙ f in
+      let right : erase a ≡ erase bc = e ∙ sym (erase_merge r b c f) in
+      let all = merge r a bc in
+      let both_first = after_first ab c left in
+      let both_second = after_second a bc right in
+      equal_in_order (merge r ab c) all
+      (before_others ab c all (before_others a b all (after_first a bc right) (after_more b bc all (after_first b c f) both_second)) (after_more c bc all (after_second b c f) both_second))
+      (before_others a bc (merge r ab c) (after_more a ab (merge r ab c) (after_first a b e) both_first)
+      (before_others b c (merge r ab c) (after_more b ab (merge r ab c) (after_second a b e) both_first) (after_second ab c left)))
+
+  pub bound_in_order : (a b : Tree) → InOrder A a b → merge r a b ≡ b
+  bound_in_order a b h = equal_in_order _ _ (before_others a b b h (after_itself b)) (after_second a b h.0)
 
 -- ---- the two rules
 
-pub swap_either : (m n : Nullability) → either m n ≡ either n m
-swap_either NonNullable NonNullable = refl
-swap_either NonNullable Nullable = refl
-swap_either Nullable NonNullable = refl
-swap_either Nullable Nullable = refl
+equal : (m n : Nullability) → Allows m n → Allows n m → m ≡ n
+equal Nullable n h k = sym (h refl)
+equal NonNullable Nullable h k = k refl
+equal NonNullable NonNullable h k = refl
 
-pub swap_both : (m n : Nullability) → both m n ≡ both n m
-swap_both NonNullable NonNullable = refl
-swap_both NonNullable Nullable = refl
-swap_both Nullable NonNullable = refl
-swap_both Nullable Nullable = refl
+pub upwards : Bounds Allows either
+upwards = record {
+  same_is = λ n h. h;
+  goes_on = λ l m n f g h. g (f h);
+  only = equal;
+  first = λ m n h. (either_nullable m n).1 (inl h);
+  second = λ m n h. (either_nullable m n).1 (inr h);
+  least = λ l m n f g h. elim ((either_nullable m n).0 h) [ inl e ↦ f e | inr e ↦ g e ];
+}
 
-pub group_either : (l m n : Nullability) → either (either l m) n ≡ either l (either m n)
-group_either NonNullable NonNullable NonNullable = refl
-group_either NonNullable NonNullable Nullable = refl
-group_either NonNullable Nullable NonNullable = refl
-group_either NonNullable Nullable Nullable = refl
-group_either Nullable NonNullable NonNullable = refl
-group_either Nullable NonNullable Nullable = refl
-group_either Nullable Nullable NonNullable = refl
-group_either Nullable Nullable Nullable = refl
+both_nullable : (m n : Nullability) → (both m n ≡ Nullable) ↔ ((m ≡ Nullable) × (n ≡ Nullable))
+both_nullable NonNullable n = (λ e. cc, λ p. p.0)
+both_nullable Nullable n = (λ e. (refl, e), λ p. p.1)
 
-pub group_both : (l m n : Nullability) → both (both l m) n ≡ both l (both m n)
-group_both NonNullable m n = refl
-group_both Nullable m n = refl
+pub downwards : Bounds (Turned Allows) both
+downwards = record {
+  same_is = λ n h. h;
+  goes_on = λ l m n f g h. f (g h);
+  only = λ m n f g. equal m n g f;
+  first = λ m n h. ((both_nullable m n).0 h).0;
+  second = λ m n h. ((both_nullable m n).0 h).1;
+  least = λ l m n f g h. (both_nullable m n).1 (f h, g h);
+}
 
-either_of_both : (m n : Nullability) → either m (both m n) ≡ m
-either_of_both NonNullable n = refl
-either_of_both Nullable NonNullable = refl
-either_of_both Nullable Nullable = refl
+-- ---- `Sub` is that order
 
-both_of_either : (m n : Nullability) → both m (either m n) ≡ m
-both_of_either NonNullable n = refl
-both_of_either Nullable NonNullable = refl
-both_of_either Nullable Nullable = refl
+pub below : (a b : Tree) → Sub a b → InOrder Allows a b
+below a b h = (h.erased, h.nullable)
 
-pub or_and : (a b : Tree) → erase a ≡ erase b → merge either a (merge both a b) ≡ a
-or_and a b e = absorbs either both either_of_both a b e
+pub above : (a b : Tree) → Sub a b → InOrder (Turned Allows) b a
+above a b h = (sym h.erased, turned Allows a b h.erased h.nullable)
 
-pub and_or : (a b : Tree) → erase a ≡ erase b → merge both a (merge either a b) ≡ a
-and_or a b e = absorbs both either both_of_either a b e
+pub sub_upwards : (a b : Tree) → InOrder Allows a b → Sub a b
+sub_upwards a b h = record { erased = h.0; nullable = h.1 }
 
--- ---- `Sub`, by what is merged
+sub_downwards : (a b : Tree) → InOrder (Turned Allows) b a → Sub a b
+sub_downwards a b h = record { erased = sym h.0; nullable = turned (Turned Allows) b a h.0 h.1 }
 
 pub upper_of : (a b : Tree) → Sub a b → merge either a b ≡ b
-upper_of a b h = upper a b h.erased h.nullable
-
-pub lower_of : (a b : Tree) → Sub a b → merge both a b ≡ a
-lower_of a b h = ap (merge both a) (sym (upper_of a b h)) ∙ and_or a b h.erased
-
-pub sub_of_upper : (a b : Tree) → erase a ≡ erase b → merge either a b ≡ b → Sub a b
-sub_of_upper a b e is = record { erased = e; nullable = subst (NullableWherever a) is (above_first a b e) }
-
-sub_of_lower : (a b : Tree) → erase a ≡ erase b → merge both a b ≡ a → Sub a b
-sub_of_lower a b e is =
-    sub_of_upper a b e (commutes either swap_either a b e ∙ ap (merge either b) (sym is ∙ commutes both swap_both a b e) ∙ or_and b a (sym e))
-
--- ---- the least above both, and the greatest below both
+upper_of a b h = bound_in_order upwards a b (below a b h)
 
 pub least_either : (a b : Tree) → erase a ≡ erase b → IsLeastAbove a b (merge either a b)
 least_either a b e = record {
-  first = above a b e;
-  second = subst (Sub b) (commutes either swap_either b a (sym e)) (above b a (sym e));
-  least = λ d h k. sub_of_upper (merge either a b) d (erase_merge either a b e ∙ h.erased)
-      (associates either group_either a b e d k.erased ∙ ap (merge either a) (upper_of b d k) ∙ upper_of a d h);
+  first = sub_upwards _ _ (after_first upwards a b e);
+  second = sub_upwards _ _ (after_second upwards a b e);
+  least = λ c h k. sub_upwards _ _ (before_others upwards a b c (below a c h) (below b c k));
 }
-  where
-    above : (a b : Tree) → erase a ≡ erase b → Sub a (merge either a b)
-    above a b e = record { erased = sym (erase_merge either a b e); nullable = above_first a b e }
 
 pub greatest_both : (a b : Tree) → erase a ≡ erase b → IsGreatestBelow a b (merge both a b)
 greatest_both a b e = record {
-  first = below a b e;
-  second = subst (λ c. Sub c b) (commutes both swap_both b a (sym e)) (below b a (sym e));
-  greatest = λ d h k. sub_of_lower d (merge both a b) (h.erased ∙ sym (erase_merge both a b e))
-      (sym (associates both group_both d a h.erased b e) ∙ ap (λ z. merge both z b) (lower_of d a h) ∙ lower_of d b k);
+  first = sub_downwards _ _ (after_first downwards a b e);
+  second = sub_downwards _ _ (after_second downwards a b e);
+  greatest = λ c h k. sub_downwards _ _ (before_others downwards a b c (above c a h) (above c b k));
 }
-  where
-    below : (a b : Tree) → erase a ≡ erase b → Sub (merge both a b) a
-    below a b e =
-        let same = erase_merge both a b e in
-        sub_of_upper (merge both a b) a same (commutes either swap_either (merge both a b) a same ∙ or_and a b e)

@@ -27,9 +27,9 @@ use Rattle.dtype_types.specs.tree.TreeOf.{tree}
 use Rattle.dtype_types.specs.tree.Valid.{Valid, ValidItems}
 use Rattle.dtype_types.specs.values.Value.{Value, IncludedIn, Of}
 use Rattle.dtype_types.proofs.OwnTags.{are_variants_also}
-use Rattle.dtype_types.proofs.lemmas.Bounds.{erase_merge, commutes, associates, swap_either, swap_both, group_either, group_both, or_and, and_or, upper_of, lower_of, least_either, greatest_both}
+use Rattle.dtype_types.proofs.lemmas.Bounds.{Relation, Bounds, InOrder, erase_merge, commutes, associates, bound_in_order, after_itself, upwards, downwards, below, above, least_either, greatest_both}
 use Rattle.dtype_types.proofs.lemmas.BoundValues.{least_values}
-use Rattle.dtype_types.proofs.lemmas.SubLaws.{sub_reflexive, sub_transitive}
+use Rattle.dtype_types.proofs.lemmas.SubLaws.{sub_transitive}
 use Rattle.dtype_types.proofs.lemmas.SubValues.{of_both, sub_values}
 
 -- ---- valid types
@@ -102,37 +102,37 @@ module _ (r : Rule) where
   under_where a b = by_erased a b (λ o. IsSome o ↔ (erase a ≡ erase b)) (λ e. (λ _. e, λ _. refl)) (λ d. (λ s. absurd (false≢true s), λ e. absurd (d e)))
 
   -- where there is one, it is what is merged of types that are equal but for nullabilities
-  pub under_is : (a b c : Tree) (P : Tree → Type 0) → (erase a ≡ erase b → P (merge r a b)) → merged_under r a b ≡ Some c → P c
+  under_is : (a b c : Tree) (P : Tree → Type 0) → (erase a ≡ erase b → P (merge r a b)) → merged_under r a b ≡ Some c → P c
   under_is a b c P f = by_erased a b (λ o. o ≡ Some c → P c) (λ e is. subst P (same_Some (merge r a b) c is) (f e)) (λ d is. cc)
-
-  module _ (swap : (m n : Nullability) → r m n ≡ r n m) (group : (l m n : Nullability) → r (r l m) n ≡ r l (r m n)) where
-    pub under_commutes : (a b : Tree) → merged_under r a b ≡ merged_under r b a
-    under_commutes a b = by_erased a b (λ o. o ≡ merged_under r b a)
-        (λ e. ap Some (commutes r swap a b e) ∙ sym (under_some b a (sym e)))
-        (λ d. sym (under_none b a (λ e. d (sym e))))
-
-    pub under_associates : (a b c : Tree) → option_and_then (λ x. merged_under r x c) (merged_under r a b) ≡ option_and_then (merged_under r a) (merged_under r b c)
-    under_associates a b c = by_erased a b (λ o. option_and_then (λ x. merged_under r x c) o ≡ option_and_then (merged_under r a) (merged_under r b c))
-        (λ e. by_erased b c (λ o. merged_under r (merge r a b) c ≡ option_and_then (merged_under r a) o)
-        (λ f. under_some (merge r a b) c (erase_merge r a b e ∙ e ∙ f) ∙ ap Some (associates r group a b e c f) ∙ sym (under_some a (merge r b c) (e ∙ sym (erase_merge r b c f))))
-        (λ d. under_none (merge r a b) c (λ f. d (sym e ∙ sym (erase_merge r a b e) ∙ f))))
-        (λ d. by_erased b c (λ o. None ≡ option_and_then (merged_under r a) o)
-        (λ f. sym (under_none a (merge r b c) (λ e. d (e ∙ erase_merge r b c f))))
-        (λ n. refl))
 
   -- the same of what a call returns
   pub given_under : (a b : Tree) (o : Option DType) → option_map tree o ≡ merged_under r a b → IsSome o ↔ (erase a ≡ erase b)
   given_under a b None is = (λ s. absurd (false≢true s), λ e. absurd (false≢true (subst (λ o. IsSome o) (sym is) ((under_where a b).1 e))))
   given_under a b (Some d) is = (λ s. (under_where a b).0 (subst (λ o. IsSome o) is refl), λ e. refl)
 
-  given_is : (a b : Tree) (P : Tree → Type 0) → ((c : Tree) → merged_under r a b ≡ Some c → P c) → (o : Option DType) → option_map tree o ≡ merged_under r a b → IfSome o (λ d. P (tree d))
+  pub given_is : (a b : Tree) (P : Tree → Type 0) → ((c : Tree) → merged_under r a b ≡ Some c → P c) → (o : Option DType) → option_map tree o ≡ merged_under r a b → IfSome o (λ d. P (tree d))
   given_is a b P f None is = tt
   given_is a b P f (Some d) is = f (tree d) (sym is)
 
--- ---- the least type above two
+module _ {A : Relation} {r : Rule} (bounds : Bounds A r) where
+  under_in_order : (a b : Tree) → InOrder A a b → merged_under r a b ≡ Some b
+  under_in_order a b h = under_some r a b h.0 ∙ ap Some (bound_in_order bounds a b h)
 
-pub merged_where : (a b : Tree) → IsSome (merged a b) ↔ (erase a ≡ erase b)
-merged_where = under_where either
+  under_commutes : (a b : Tree) → merged_under r a b ≡ merged_under r b a
+  under_commutes a b = by_erased r a b (λ o. o ≡ merged_under r b a)
+      (λ e. ap Some (commutes bounds a b e) ∙ sym (under_some r b a (sym e)))
+      (λ d. sym (under_none r b a (λ e. d (sym e))))
+
+  under_associates : (a b c : Tree) → option_and_then (λ x. merged_under r x c) (merged_under r a b) ≡ option_and_then (merged_under r a) (merged_under r b c)
+  under_associates a b c = by_erased r a b (λ o. option_and_then (λ x. merged_under r x c) o ≡ option_and_then (merged_under r a) (merged_under r b c))
+      (λ e. by_erased r b c (λ o. merged_under r (merge r a b) c ≡ option_and_then (merged_under r a) o)
+      (λ f. under_some r (merge r a b) c (erase_merge r a b e ∙ e ∙ f) ∙ ap Some (associates bounds a b c e f) ∙ sym (under_some r a (merge r b c) (e ∙ sym (erase_merge r b c f))))
+      (λ d. under_none r (merge r a b) c (λ f. d (sym e ∙ sym (erase_merge r a b e) ∙ f))))
+      (λ d. by_erased r b c (λ o. None ≡ option_and_then (merged_under r a) o)
+      (λ f. sym (under_none r a (merge r b c) (λ e. d (e ∙ erase_merge r b c f))))
+      (λ n. refl))
+
+-- ---- the least type above two
 
 pub merged_least : (a b c : Tree) → merged a b ≡ Some c → IsLeastAbove a b c
 merged_least a b c = under_is either a b c (IsLeastAbove a b) (least_either a b)
@@ -140,37 +140,42 @@ merged_least a b c = under_is either a b c (IsLeastAbove a b) (least_either a b)
 pub merged_valid : (a b c : Tree) → merged a b ≡ Some c → Valid a → Valid b → Valid c
 merged_valid a b c = under_is either a b c (λ c. Valid a → Valid b → Valid c) (valid_either a b)
 
+pub values_first : (a b c : Tree) → merged a b ≡ Some c → IncludedIn a c
+values_first a b c e = sub_values a c (merged_least a b c e).first
+
+pub values_second : (a b c : Tree) → merged a b ≡ Some c → IncludedIn b c
+values_second a b c e = sub_values b c (merged_least a b c e).second
+
 pub merged_least_values : (a b c d : Tree) → merged a b ≡ Some c → Valid a → Valid b → Valid d → IncludedIn a d → IncludedIn b d → IncludedIn c d
 merged_least_values a b c d e h k x = under_is either a b c (λ c. IncludedIn a d → IncludedIn b d → IncludedIn c d) (λ same. least_values a b same h k d x) e
 
 pub merged_commutes : (a b : Tree) → merged a b ≡ merged b a
-merged_commutes = under_commutes either swap_either group_either
+merged_commutes = under_commutes upwards
 
 pub merged_associates : (a b c : Tree) → option_and_then (λ x. merged x c) (merged a b) ≡ option_and_then (merged a) (merged b c)
-merged_associates = under_associates either swap_either group_either
+merged_associates = under_associates upwards
 
 pub merged_above : (a b : Tree) → Sub a b → merged a b ≡ Some b
-merged_above a b h = under_some either a b h.erased ∙ ap Some (upper_of a b h)
+merged_above a b h = under_in_order upwards a b (below a b h)
 
 pub merged_below : (a b : Tree) → Sub b a → merged a b ≡ Some a
 merged_below a b h = merged_commutes a b ∙ merged_above b a h
 
 pub merged_same : (a : Tree) → merged a a ≡ Some a
-merged_same a = merged_below a a (sub_reflexive a)
+merged_same a = under_in_order upwards a a (after_itself upwards a)
+
+pub ruleset merging = (under_where, merged_least, merged_valid, merged_commutes, merged_associates, merged_same, merged_below, values_first, values_second)
 
 -- ---- the greatest type below two
-
-pub intersected_where : (a b : Tree) → IsSome (intersected a b) ↔ (erase a ≡ erase b)
-intersected_where = under_where both
 
 pub intersected_greatest : (a b c : Tree) → intersected a b ≡ Some c → IsGreatestBelow a b c
 intersected_greatest a b c = under_is both a b c (IsGreatestBelow a b) (greatest_both a b)
 
 pub intersected_commutes : (a b : Tree) → intersected a b ≡ intersected b a
-intersected_commutes = under_commutes both swap_both group_both
+intersected_commutes = under_commutes downwards
 
 pub intersected_associates : (a b c : Tree) → option_and_then (λ x. intersected x c) (intersected a b) ≡ option_and_then (intersected a) (intersected b c)
-intersected_associates = under_associates both swap_both group_both
+intersected_associates = under_associates downwards
 
 pub intersected_valid : (a b c : Tree) → intersected a b ≡ Some c → Valid a → Valid c
 intersected_valid a b c = under_is both a b c (λ c. Valid a → Valid c) (valid_both a b)
@@ -178,30 +183,37 @@ intersected_valid a b c = under_is both a b c (λ c. Valid a → Valid c) (valid
 pub intersected_valid_second : (a b c : Tree) → intersected a b ≡ Some c → Valid b → Valid c
 intersected_valid_second a b c e = intersected_valid b a c (intersected_commutes b a ∙ e)
 
-pub intersected_below : (a b : Tree) → Sub a b → intersected a b ≡ Some a
-intersected_below a b h = under_some both a b h.erased ∙ ap Some (lower_of a b h)
+pub values_in_first : (a b c : Tree) → intersected a b ≡ Some c → IncludedIn c a
+values_in_first a b c e = sub_values c a (intersected_greatest a b c e).first
 
-pub intersected_above : (a b : Tree) → Sub b a → intersected a b ≡ Some b
-intersected_above a b h = intersected_commutes a b ∙ intersected_below b a h
-
-pub intersected_same : (a : Tree) → intersected a a ≡ Some a
-intersected_same a = intersected_below a a (sub_reflexive a)
+pub values_in_second : (a b c : Tree) → intersected a b ≡ Some c → IncludedIn c b
+values_in_second a b c e = sub_values c b (intersected_greatest a b c e).second
 
 -- its values are exactly those that both have
 pub intersected_values : (a b c : Tree) → intersected a b ≡ Some c → Valid a → (v : Value) → Of v c ↔ (Of v a × Of v b)
-intersected_values a b c e h v =
-    let g = intersected_greatest a b c e in (
-      λ o. (sub_values c a g.first v o, sub_values c b g.second v o),
-      λ o. under_is both a b c (Of v) (λ same. of_both a b same h v o.0 o.1) e,
-    )
+intersected_values a b c e h v = (
+  λ o. (values_in_first a b c e v o, values_in_second a b c e v o),
+  λ o. under_is both a b c (Of v) (λ same. of_both a b same h v o.0 o.1) e,
+)
+
+pub intersected_above : (a b : Tree) → Sub b a → intersected a b ≡ Some b
+intersected_above a b h = under_in_order downwards a b (above b a h)
+
+pub intersected_below : (a b : Tree) → Sub a b → intersected a b ≡ Some a
+intersected_below a b h = intersected_commutes a b ∙ intersected_above b a h
+
+pub intersected_same : (a : Tree) → intersected a a ≡ Some a
+intersected_same a = under_in_order downwards a a (after_itself downwards a)
+
+pub ruleset intersecting = (under_where, intersected_greatest, intersected_valid, intersected_valid_second, intersected_commutes, intersected_associates, intersected_same, intersected_below, intersected_above, values_in_first, values_in_second)
 
 -- ---- both
 
 pub merged_absorbs : (a b : Tree) → erase a ≡ erase b → option_and_then (merged a) (intersected a b) ≡ Some a
-merged_absorbs a b e = ap (option_and_then (merged a)) (under_some both a b e) ∙ under_some either a (merge both a b) (sym (erase_merge both a b e)) ∙ ap Some (or_and a b e)
+merged_absorbs a b e = ap (option_and_then (merged a)) (under_some both a b e) ∙ merged_below a (merge both a b) (greatest_both a b e).first
 
 pub intersected_absorbs : (a b : Tree) → erase a ≡ erase b → option_and_then (intersected a) (merged a b) ≡ Some a
-intersected_absorbs a b e = ap (option_and_then (intersected a)) (under_some either a b e) ∙ under_some both a (merge either a b) (sym (erase_merge either a b e)) ∙ ap Some (and_or a b e)
+intersected_absorbs a b e = ap (option_and_then (intersected a)) (under_some either a b e) ∙ intersected_below a (merge either a b) (least_either a b e).first
 
 pub merged_monotone : (a b c d x y : Tree) → Sub a b → Sub c d → merged a c ≡ Some x → merged b d ≡ Some y → Sub x y
 merged_monotone a b c d x y h k e f =
@@ -213,62 +225,6 @@ intersected_monotone a b c d x y h k e f =
     let l = intersected_greatest a c x e in
     (intersected_greatest b d y f).greatest x (sub_transitive x a b l.first h) (sub_transitive x c d l.second k)
 
--- ---- under a rule of the code
-
 pub rule_commutes : (m : MergeRule) (a b : Tree) → merged_under (rule_of m) a b ≡ merged_under (rule_of m) b a
 rule_commutes Either = merged_commutes
 rule_commutes Both = intersected_commutes
-
-pub rule_none : (m : MergeRule) (a b : Tree) → erase a ≢ erase b → merged_under (rule_of m) a b ≡ None
-rule_none m = under_none (rule_of m)
-
-pub rule_some : (m : MergeRule) (a b : Tree) → erase a ≡ erase b → merged_under (rule_of m) a b ≡ Some (merge (rule_of m) a b)
-rule_some m = under_some (rule_of m)
-
-pub rule_above : (m : MergeRule) (a b : Tree) → m ≡ Either → Sub a b → merged_under (rule_of m) a b ≡ Some b
-rule_above m a b is h = ap (λ k. merged_under (rule_of k) a b) is ∙ merged_above a b h
-
-pub rule_below : (m : MergeRule) (a b : Tree) → m ≡ Both → Sub a b → merged_under (rule_of m) a b ≡ Some a
-rule_below m a b is h = ap (λ k. merged_under (rule_of k) a b) is ∙ intersected_below a b h
-
--- ---- for callers
-
-pub values_first : (a b c : Tree) → merged a b ≡ Some c → IncludedIn a c
-values_first a b c e = sub_values a c (merged_least a b c e).first
-
-pub values_second : (a b c : Tree) → merged a b ≡ Some c → IncludedIn b c
-values_second a b c e = sub_values b c (merged_least a b c e).second
-
-pub given_where : (a b : Tree) (o : Option DType) → option_map tree o ≡ merged a b → IsSome o ↔ (erase a ≡ erase b)
-given_where = given_under either
-
-pub given_least : (a b : Tree) (o : Option DType) → option_map tree o ≡ merged a b → IfSome o (λ c. IsLeastAbove a b (tree c))
-given_least a b = given_is either a b (IsLeastAbove a b) (merged_least a b)
-
-pub given_valid : (a b : Tree) (o : Option DType) → option_map tree o ≡ merged a b → Valid a → Valid b → IfSome o (λ c. Valid (tree c))
-given_valid a b o is h k = given_is either a b Valid (λ c e. merged_valid a b c e h k) o is
-
-pub given_values : (a b : Tree) (o : Option DType) → option_map tree o ≡ merged a b → IfSome o (λ c. IncludedIn a (tree c) × IncludedIn b (tree c))
-given_values a b = given_is either a b (λ c. IncludedIn a c × IncludedIn b c) (λ c e. (values_first a b c e, values_second a b c e))
-
-pub ruleset merging = (merged_where, merged_least, merged_valid, merged_commutes, merged_associates, merged_same, merged_below, values_first, values_second, given_where, given_least, given_valid, given_values)
-
-pub values_in_first : (a b c : Tree) → intersected a b ≡ Some c → IncludedIn c a
-values_in_first a b c e = sub_values c a (intersected_greatest a b c e).first
-
-pub values_in_second : (a b c : Tree) → intersected a b ≡ Some c → IncludedIn c b
-values_in_second a b c e = sub_values c b (intersected_greatest a b c e).second
-
-pub given_in_both : (a b : Tree) (o : Option DType) → option_map tree o ≡ intersected a b → IsSome o ↔ (erase a ≡ erase b)
-given_in_both = given_under both
-
-pub given_greatest : (a b : Tree) (o : Option DType) → option_map tree o ≡ intersected a b → IfSome o (λ c. IsGreatestBelow a b (tree c))
-given_greatest a b = given_is both a b (IsGreatestBelow a b) (intersected_greatest a b)
-
-pub given_valid_below : (a b : Tree) (o : Option DType) → option_map tree o ≡ intersected a b → Valid a → IfSome o (λ c. Valid (tree c))
-given_valid_below a b o is h = given_is both a b Valid (λ c e. intersected_valid a b c e h) o is
-
-pub given_values_in : (a b : Tree) (o : Option DType) → option_map tree o ≡ intersected a b → IfSome o (λ c. IncludedIn (tree c) a × IncludedIn (tree c) b)
-given_values_in a b = given_is both a b (λ c. IncludedIn c a × IncludedIn c b) (λ c e. (values_in_first a b c e, values_in_second a b c e))
-
-pub ruleset intersecting = (intersected_where, intersected_greatest, intersected_valid, intersected_valid_second, intersected_commutes, intersected_associates, intersected_same, intersected_below, intersected_above, values_in_first, values_in_second, given_in_both, given_greatest, given_valid_below, given_values_in)

@@ -47,7 +47,7 @@ allows_either NonNullable n h = cc
 pub either_values : (t u : Tree) (n : Nullability) (v : Value) → SetNull t (either (nullability t) n) u → Of v t → Of v u
 either_values t u n v e o = of_set t u (either (nullability t) n) e (allows_either (nullability t) n) v o
 
-either_nullable : (m n : Nullability) → (either m n ≡ Nullable) ↔ ((m ≡ Nullable) ⊎ (n ≡ Nullable))
+pub either_nullable : (m n : Nullability) → (either m n ≡ Nullable) ↔ ((m ≡ Nullable) ⊎ (n ≡ Nullable))
 either_nullable NonNullable NonNullable = (λ e. inl e, λ s. elim s [ inl e ↦ e | inr e ↦ e ])
 either_nullable NonNullable Nullable = (λ e. inr e, λ s. refl)
 either_nullable Nullable NonNullable = (λ e. inl refl, λ s. refl)

@@ -3,7 +3,7 @@
 
 -- Which values of two types are values of what a rule makes of the two. So where one type is below another its values are
 -- values of the other, and the values that two types have in common are those of the greatest type below both.
-use Rattle.std.proofs.Common.{◌≡◌, ◌∙◌, ℕ, refl, sym, subst, inl, inr, ap}
+use Rattle.std.proofs.Common.{◌≡◌, ℕ, refl, sym, subst, inl, inr, ap}
 use Rattle.dtype_base.specs.Nullability.{either}
 use Rattle.dtype_base.specs.declared.nullability.Nullability.{Nullability}
 use Rattle.dtype_base.specs.declared.nullability.Nullability.TheVariants.{NonNullable, Nullable}

@@ -28,6 +28,7 @@ pub(crate) enum MergeRule {
 
 impl MergeRule {
     // The bound of two types of which the first is below the second: one of the two.
+    #[tactic(auto, using(crate::proofs::lemmas::Merging::merged_above, crate::proofs::lemmas::Merging::intersected_below))]
     fn bound_in_order<'a>(self, lower: &'a DType, upper: &'a DType) -> &'a DType
         requires { Sub (tree lower.now) (tree upper.now) }
         ensures { merged_under (rule_of self) (tree lower.now) (tree upper.now) ≡ Some (tree result.now) }

@@ -51,15 +51,11 @@ abbrev pub erased : List DType → List Tree
 erased ds = map erase (map tree ds)
 
 -- where one side has nothing left, all is done
-pub merged_all : (r : Rule) (ds es done : List DType) (all : List Tree) → (ds ≡ []) ⊎ (es ≡ []) → map tree done ++ bounds r ds es ≡ all → map tree done ≡ all
-merged_all r [] es done all none whole = sym (append-nil (map tree done)) ∙ whole
-merged_all r (d ∷ ds) [] done all none whole = sym (append-nil (map tree done)) ∙ whole
-merged_all r (d ∷ ds) (e ∷ es) done all (inl none) whole = cc
-merged_all r (d ∷ ds) (e ∷ es) done all (inr none) whole = cc
-
-pub none_left : {X : Type 0} (f : List X → List DType) (xs ys : List X) → f [] ≡ [] → (xs ≡ []) ⊎ (ys ≡ []) → (f xs ≡ []) ⊎ (f ys ≡ [])
-none_left f xs ys none (inl e) = inl (ap f e ∙ none)
-none_left f xs ys none (inr e) = inr (ap f e ∙ none)
+pub merged_all : {X : Type 0} (type_of : X → DType) (r : Rule) (xs ys : List X) (done : List DType) (all : List Tree) → (xs ≡ []) ⊎ (ys ≡ []) → map tree done ++ bounds r (map type_of xs) (map type_of ys) ≡ all → map tree done ≡ all
+merged_all type_of r (x ∷ xs) (y ∷ ys) done all (inl none) whole = cc
+merged_all type_of r (x ∷ xs) (y ∷ ys) done all (inr none) whole = cc
+merged_all type_of r [] ys done all none whole = sym (append-nil (map tree done)) ∙ whole
+merged_all type_of r (x ∷ xs) [] done all none whole = sym (append-nil (map tree done)) ∙ whole
 
 as_many : (r : Rule) (ts us : List Tree) → map erase ts ≡ map erase us → length (merge_types r ts us) ≡ length ts
 as_many r [] us e = refl
@@ -67,18 +63,16 @@ as_many r (t ∷ ts) [] e = cc
 as_many r (t ∷ ts) (u ∷ us) e = let tail : map erase ts ≡ map erase us = cc in omega (arith, as_many r ts us tail)
 
 -- as many types are made as there were
-pub as_many_made : (r : Rule) (ds es made : List DType) → erased ds ≡ erased es → map tree made ≡ bounds r ds es → length made ≡ length ds
-as_many_made r ds es made same is = sym (length-map made tree) ∙ ap length is ∙ as_many r (map tree ds) (map tree es) same ∙ length-map ds tree
+pub as_many_made : {X : Type 0} (type_of : X → DType) (r : Rule) (xs ys : List X) (made : List DType) → erased (map type_of xs) ≡ erased (map type_of ys) → map tree made ≡ bounds r (map type_of xs) (map type_of ys) → length made ≡ length xs
+as_many_made type_of r xs ys made same is =
+    sym (length-map made tree) ∙ ap length is ∙ as_many r (map tree (map type_of xs)) (map tree (map type_of ys)) same ∙ length-map (map type_of xs) tree ∙ length-map xs type_of
 
 -- ---- structs
 
 pub erased_fields : (ps qs : List (List ℕ × DType)) → erase_items (fields (with_trees ps)) ≡ erase_items (fields (with_trees qs)) → erased (values_of ps) ≡ erased (values_of qs)
 erased_fields [] [] e = refl
-erased_fields [] (q ∷ qs) e = cc
-erased_fields (p ∷ ps) [] e = cc
-erased_fields (p ∷ ps) (q ∷ qs) e =
-    let head : erase (tree p.1) ≡ erase (tree q.1) = cc in
-    let tail = erased_fields ps qs (ap rest_of e) in cc
+erased_fields (p ∷ ps) (q ∷ qs) e = cc (erased_fields ps qs (ap rest_of e))
+erased_fields _ _ e = cc
 
 merged_pairs : (r : Rule) (ps qs : List (List ℕ × DType)) → fields (zip (keys_of ps) (bounds r (values_of ps) (values_of qs))) ≡ merge_items r (fields (with_trees ps)) (fields (with_trees qs))
 merged_pairs r [] qs = refl
@@ -93,11 +87,8 @@ merged_fields r ps qs made is = ap fields (trees_zip (keys_of ps) made ∙ ap (z
 
 pub erased_variants : (ps qs : List (List ℕ × (DType × ℕ))) → erase_items (variants (with_tagged_trees ps)) ≡ erase_items (variants (with_tagged_trees qs)) → erased (types_of ps) ≡ erased (types_of qs)
 erased_variants [] [] e = refl
-erased_variants [] (q ∷ qs) e = cc
-erased_variants (p ∷ ps) [] e = cc
-erased_variants (p ∷ ps) (q ∷ qs) e =
-    let head : erase (tree p.1.0) ≡ erase (tree q.1.0) = cc in
-    let tail = erased_variants ps qs (ap rest_of e) in cc
+erased_variants (p ∷ ps) (q ∷ qs) e = cc (erased_variants ps qs (ap rest_of e))
+erased_variants _ _ e = cc
 
 merged_triples : (r : Rule) (ps qs : List (List ℕ × (DType × ℕ))) → variants (zip (keys_of ps) (zip (bounds r (types_of ps) (types_of qs)) (tags_of ps))) ≡ merge_items r (variants (with_tagged_trees ps)) (variants (with_tagged_trees qs))
 merged_triples r [] qs = refl

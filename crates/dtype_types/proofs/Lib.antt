@@ -23,4 +23,5 @@ pub mod TellGiven
 pub mod OwnTags
 pub mod ConsecutiveTags
 pub mod MergedParts
+pub mod TypeLaws
 pub mod lemmas

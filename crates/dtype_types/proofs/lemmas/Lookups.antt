@@ -2,10 +2,11 @@
 -- SPDX-FileCopyrightText: Copyright the Vortex contributors
 
 -- The type at the first position of a name, of fields and of variants.
-use Rattle.std.proofs.Common.{◌≡◌, ◌≢◌, ℕ, zero, suc, ◌<◌, List, [], ◌∷◌, Some, None, cond, slice_get, refl, ap, sym, ◌∙◌, arith}
+use Rattle.std.proofs.Common.{◌≡◌, ◌≢◌, ℕ, zero, suc, ◌<◌, List, [], ◌∷◌, Some, None, cond, map, slice_get, refl, ap, sym, ◌∙◌, arith}
 use Rattle.std.specs.Str.{bytes_eq}
 use Rattle.std.proofs.lemmas.Bool.{false_from_ne_true}
 use Rattle.std.proofs.lemmas.Option.{same_Some}
+use Rattle.std.proofs.lemmas.Simd.{map-map}
 use Rattle.std.proofs.lemmas.Slice.Eq.{bytes_eq-Decides}
 use Rattle.dtype_base.specs.FieldNames.{IsAbsent, first_place}
 use Rattle.dtype_base.proofs.lemmas.Lookups.{first_of_place, absent_of_place}
@@ -37,22 +38,23 @@ field_at_place fs n i e = let at = first_of_place (field_names fs) n i e in sym 
 pub no_field_at_place : (fs : List (List ℕ × Tree)) (n : List ℕ) → None ≡ first_place (field_names fs) n → None ≡ first_named fs n
 no_field_at_place fs n e = sym (field_named-none fs n (absent_of_place (field_names fs) n e))
 
--- ---- variants
+-- ---- variants, as fields with their tags left out
 
-variant_named-at : (vs : List (List ℕ × (Tree × ℕ))) (n : List ℕ) (i : ℕ) → slice_get (variant_names vs) i ≡ Some n → ((k : ℕ) → k < i → slice_get (variant_names vs) k ≢ Some n) → variant_named vs n ≡ slice_get (variant_types vs) i
-variant_named-at (v ∷ vs) n zero here first = taken_same_name v.0 n _ _ (same_Some v.0 n here)
-variant_named-at (v ∷ vs) n (suc i) here first =
-    other_name v.0 n _ _ (λ e. first 0 (omega arith) (ap Some e)) ∙ variant_named-at vs n i here (λ k h. first (suc k) (omega (arith, h)))
-variant_named-at _ n _ here first = cc
+abbrev pub untagged : List (List ℕ × (Tree × ℕ)) → List (List ℕ × Tree)
+untagged vs = map (λ v. (v.0, v.1.0)) vs
 
-variant_named-none : (vs : List (List ℕ × (Tree × ℕ))) (n : List ℕ) → IsAbsent (variant_names vs) n → variant_named vs n ≡ None
-variant_named-none [] n none = refl
-variant_named-none (v ∷ vs) n none = other_name v.0 n _ _ (λ e. none 0 (ap Some e)) ∙ variant_named-none vs n (λ k. none (suc k))
+pub untagged_names : (vs : List (List ℕ × (Tree × ℕ))) → field_names (untagged vs) ≡ variant_names vs
+untagged_names vs = map-map (λ p. p.0) _ vs
+
+pub untagged_named : (vs : List (List ℕ × (Tree × ℕ))) (n : List ℕ) → first_named (untagged vs) n ≡ variant_named vs n
+untagged_named [] n = refl
+untagged_named (v ∷ vs) n = ap (cond (bytes_eq v.0 n) (Some v.1.0)) (untagged_named vs n)
 
 pub variant_at_place : (vs : List (List ℕ × (Tree × ℕ))) (n : List ℕ) (i : ℕ) → Some i ≡ first_place (variant_names vs) n → slice_get (variant_types vs) i ≡ variant_named vs n
-variant_at_place vs n i e = let at = first_of_place (variant_names vs) n i e in sym (variant_named-at vs n i at.here at.first)
+variant_at_place vs n i e =
+    sym (ap (λ ts. slice_get ts i) (map-map (λ p. p.1) _ vs)) ∙ field_at_place (untagged vs) n i (e ∙ sym (ap (λ ns. first_place ns n) (untagged_names vs))) ∙ untagged_named vs n
 
 pub no_variant_at_place : (vs : List (List ℕ × (Tree × ℕ))) (n : List ℕ) → None ≡ first_place (variant_names vs) n → None ≡ variant_named vs n
-no_variant_at_place vs n e = sym (variant_named-none vs n (absent_of_place (variant_names vs) n e))
+no_variant_at_place vs n e = no_field_at_place (untagged vs) n (e ∙ sym (ap (λ ns. first_place ns n) (untagged_names vs))) ∙ untagged_named vs n
 
 pub ruleset lookups = (field_at_place, no_field_at_place, variant_at_place, no_variant_at_place)

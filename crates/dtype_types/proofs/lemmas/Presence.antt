@@ -12,8 +12,8 @@ use Rattle.std.proofs.lemmas.Option.{slice_get-map, slice_get-get_or}
 use Rattle.std.proofs.lemmas.Slice.Eq.{bytes_eq-Decides}
 use Rattle.dtype_base.specs.FieldNames.{first_place}
 use Rattle.dtype_base.proofs.lemmas.Lookups.{first_of_place, absent_of_place}
-use Rattle.dtype_types.specs.parts.Lookups.{first_named, field_names, field_types, variant_named, variant_names, variant_types}
-use Rattle.dtype_types.proofs.lemmas.Lookups.{field_at_place, no_field_at_place, variant_at_place, no_variant_at_place}
+use Rattle.dtype_types.specs.parts.Lookups.{first_named, field_names, field_types, variant_named, variant_names}
+use Rattle.dtype_types.proofs.lemmas.Lookups.{field_at_place, no_field_at_place, untagged, untagged_named, untagged_names}
 use Rattle.dtype_types.specs.tree.Tree.{Tree}
 
 is_some-map : {A B : Type 0} (f : A → B) (o : Option A) → is_some (option_map f o) ≡ is_some o
@@ -36,20 +36,8 @@ placed_is_named fs n = go (first_place (field_names fs) n) refl
         ap is_some (sym (field_at_place fs n i (sym e))) ∙ typed_where_named fs i
         ∙ ap is_some ((first_of_place (field_names fs) n i (sym e)).here) ∙ sym (ap is_some e)
 
--- the same of variants
-variant_typed_where_named : (vs : List (List ℕ × (Tree × ℕ))) (i : ℕ) → is_some (slice_get (variant_types vs) i) ≡ is_some (slice_get (variant_names vs) i)
-variant_typed_where_named vs i =
-    ap is_some (slice_get-map (λ v. v.1.0) vs i) ∙ is_some-map (λ v. v.1.0) (slice_get vs i)
-    ∙ sym (ap is_some (slice_get-map (λ v. v.0) vs i) ∙ is_some-map (λ v. v.0) (slice_get vs i))
-
 pub placed_is_variant : (vs : List (List ℕ × (Tree × ℕ))) (n : List ℕ) → is_some (variant_named vs n) ≡ is_some (first_place (variant_names vs) n)
-placed_is_variant vs n = go (first_place (variant_names vs) n) refl
-  where
-    go : (o : Option ℕ) → first_place (variant_names vs) n ≡ o → is_some (variant_named vs n) ≡ is_some (first_place (variant_names vs) n)
-    go None e = ap is_some (sym (no_variant_at_place vs n (sym e))) ∙ sym (ap is_some e)
-    go (Some i) e =
-        ap is_some (sym (variant_at_place vs n i (sym e))) ∙ variant_typed_where_named vs i
-        ∙ ap is_some ((first_of_place (variant_names vs) n i (sym e)).here) ∙ sym (ap is_some e)
+placed_is_variant vs n = sym (ap is_some (untagged_named vs n)) ∙ placed_is_named (untagged vs) n ∙ ap (λ ns. is_some (first_place ns n)) (untagged_names vs)
 
 -- a name that has a position is among the names, and the other way round
 pub placed_is_among : (ns : List (List ℕ)) (n : List ℕ) → is_some (first_place ns n) ≡ true → Contains ns n

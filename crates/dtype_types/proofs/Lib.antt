@@ -19,7 +19,6 @@ pub mod Selected
 pub mod IndentedTexts
 pub mod SubTest
 pub mod TellLaws
-pub mod TellGiven
 pub mod OwnTags
 pub mod ConsecutiveTags
 pub mod MergedParts

@@ -1,14 +1,14 @@
 -- SPDX-License-Identifier: Apache-2.0
 -- SPDX-FileCopyrightText: Copyright the Vortex contributors
 
--- What `tell` gives is a value of the first type and not of the second.
-use Rattle.std.proofs.Common.{◌≡◌, ◌∙◌, ℕ, List, zero, suc, ◌<◌, IfSome, Option, Some, None, refl, sym, inl, inr, arith, ap}
+-- `tell` gives a value exactly where the first type isn't below the second, also through sizes 0. Where no size is 0, what it
+-- gives is a value of the first type and not of the second.
+use Rattle.std.proofs.Common.{◌≡◌, ◌↔◌, ℕ, zero, suc, ◌<◌, Option, Some, None, refl, inl, inr, arith, ap}
 use Rattle.std.specs.Prelude.{option_map, IsSomeAnd}
-use Rattle.std.proofs.lemmas.Option.{IfSome_then}
 use Rattle.dtype_base.specs.declared.nullability.Nullability.{Nullability}
 use Rattle.dtype_base.specs.declared.nullability.Nullability.TheVariants.{NonNullable, Nullable}
 use Rattle.dtype_types.specs.nullability.Nullable.{nullability}
-use Rattle.dtype_types.specs.nullability.Sub.{Sub}
+use Rattle.dtype_types.specs.nullability.Sub.{Sub, Allows, NullableWherever, NullableWhereverItems}
 use Rattle.dtype_types.specs.tree.Erase.{erase, erase_items}
 use Rattle.dtype_types.specs.tree.Tree.{Tree, Fields, no_items, field, Variants, item, null, bool, primitive, decimal, utf8, binary, list, fixed_size_list, map_of, struct, union, variant, extension, rest_of, first_tag}
 use Rattle.dtype_types.specs.tree.Valid.{Valid, ValidItems}
@@ -18,34 +18,53 @@ use Rattle.dtype_types.specs.values.Tell.{or_else, null_else, tell, tell_fields,
 use Rattle.dtype_types.proofs.lemmas.NullValues.{null_is_of_nullable}
 use Rattle.dtype_types.proofs.lemmas.SampleLaws.{sample_of, samples_of, value_count-copies, each_copy}
 use Rattle.dtype_types.proofs.OwnTags.{OwnTags, own_tags, lacks_also, value_of_first, later_of}
-use Rattle.dtype_types.proofs.TellGiven.{told_exactly}
 
--- ---- an answer: a value of the first and not of the second
+-- ---- an answer: none where S holds, else one that P holds of, and S doesn't
 
+abbrev Told : {X : Type 0} → Type 0 → (X → Type 0) → Option X → Type 0
+Told S P None = S
+Told S P (Some w) = (S → ⊥) × P w
+
+-- of a valid type with no size 0, a value of the first and not of the second
 abbrev Apart : Tree → Tree → Value → Type 0
-Apart a b v = Of v a × (Of v b → ⊥)
+Apart a b v = Valid a → HasNoSizeZero a → Of v a × (Of v b → ⊥)
 
 abbrev FieldsApart : Fields → Fields → Named → Type 0
-FieldsApart fs gs r = NamedOf r fs × (NamedOf r gs → ⊥)
+FieldsApart fs gs r = ValidItems fs → ItemsHaveNoSizeZero fs → NamedOf r fs × (NamedOf r gs → ⊥)
 
 abbrev VariantsApart : Variants → Variants → ℕ × Value → Type 0
-VariantsApart vs ws c = VariantOf c.0 c.1 vs × (VariantOf c.0 c.1 ws → ⊥)
+VariantsApart vs ws c = OwnTags vs → ItemsHaveNoSizeZero vs → VariantOf c.0 c.1 vs × (VariantOf c.0 c.1 ws → ⊥)
 
-told_map : {X Y : Type 0} (P : X → Type 0) (Q : Y → Type 0) (f : X → Y) → ((w : X) → P w → Q (f w)) → (o : Option X) → IfSome o P → IfSome (option_map f o) Q
-told_map P Q f more None h = tt
-told_map P Q f more (Some w) h = more w h
+told_more : {X : Type 0} (S : Type 0) (P Q : X → Type 0) → ((w : X) → P w → Q w) → (o : Option X) → Told S P o → Told S Q o
+told_more S P Q more None h = h
+told_more S P Q more (Some w) h = (h.0, more w h.1)
 
-told_or : {X : Type 0} (P : X → Type 0) (a b : Option X) → IfSome a P → IfSome b P → IfSome (or_else a b) P
-told_or P (Some w) b h k = h
-told_or P None b h k = k
+told_map : {X Y : Type 0} (S : Type 0) (P : X → Type 0) (Q : Y → Type 0) (f : X → Y) → ((w : X) → P w → Q (f w)) → (o : Option X) → Told S P o → Told S Q (option_map f o)
+told_map S P Q f more None h = h
+told_map S P Q f more (Some w) h = (h.0, more w h.1)
+
+told_or : {X : Type 0} (S T : Type 0) (P : X → Type 0) (a b : Option X) → Told S P a → Told T P b → Told (S × T) P (or_else a b)
+told_or S T P (Some w) b h k = (λ x. h.0 x.0, h.1)
+told_or S T P None None h k = (h, k)
+told_or S T P None (Some w) h k = (λ x. k.0 x.1, k.1)
 
 -- null where the first type alone has it, else a value of the parts
-told_node : (a b : Tree) (o : Option Value) → IfSome o (Apart a b) → IfSome (null_else (nullability a) (nullability b) o) (Apart a b)
-told_node a b o h = go (nullability a) (nullability b) (null_is_of_nullable a).1 (null_is_of_nullable b).0
+told_node : (a b : Tree) (S T : Type 0) → (Allows (nullability a) (nullability b) → S → T) → (T → Allows (nullability a) (nullability b)) → (T → S) → (o : Option Value) → Told S (Apart a b) o
+    → Told T (Apart a b) (null_else (nullability a) (nullability b) o)
+told_node a b S T = go (nullability a) (nullability b) (null_is_of_nullable a).1 (null_is_of_nullable b).0
   where
-    go : (m n : Nullability) → (m ≡ Nullable → Of null_value a) → (Of null_value b → n ≡ Nullable) → IfSome (null_else m n o) (Apart a b)
-    go Nullable NonNullable p q = (p refl, λ x. cc (q x))
-    go _ _ p q = h
+    go : (m n : Nullability) → (m ≡ Nullable → Of null_value a) → (Of null_value b → n ≡ Nullable) → (Allows m n → S → T) → (T → Allows m n) → (T → S) → (o : Option Value) → Told S (Apart a b) o → Told T (Apart a b) (null_else m n o)
+    go Nullable NonNullable p q f g k o h = (λ t. let never = g t refl in cc, λ _ _. (p refl, λ x. cc (q x)))
+    go Nullable Nullable p q f g k None h = f (λ x. x) h
+    go NonNullable n p q f g k None h = f (λ x. cc x) h
+    go Nullable Nullable p q f g k (Some w) h = (λ t. h.0 (k t), h.1)
+    go NonNullable n p q f g k (Some w) h = (λ t. h.0 (k t), h.1)
+
+told_leaf : (a b : Tree) → Told (Allows (nullability a) (nullability b)) (Apart a b) (null_else (nullability a) (nullability b) None)
+told_leaf a b = told_node a b (Unit {0}) (Allows (nullability a) (nullability b)) (λ x u. x) (λ x. x) (λ x. tt) None tt
+
+told_inner : (a b : Tree) (S : Type 0) (o : Option Value) → Told S (Apart a b) o → Told (Allows (nullability a) (nullability b) × S) (Apart a b) (null_else (nullability a) (nullability b) o)
+told_inner a b S o h = told_node a b S (Allows (nullability a) (nullability b) × S) (λ x s. (x, s)) (λ t. t.0) (λ t. t.1) o h
 
 -- ---- the members of a fixed-size list
 
@@ -56,63 +75,73 @@ row_holds P (suc k) v h e = e.0
 -- ---- at every depth
 
 mutual
-  told : (a b : Tree) → Valid a → HasNoSizeZero a → erase a ≡ erase b → IfSome (tell a b) (Apart a b)
-  told null null h z e = tt
-  told (bool m) (bool n) h z e = told_node (bool m) (bool n) None tt
-  told (primitive p m) (primitive q n) h z e = told_node (primitive p m) (primitive q n) None tt
-  told (decimal p m) (decimal q n) h z e = told_node (decimal p m) (decimal q n) None tt
-  told (utf8 m) (utf8 n) h z e = told_node (utf8 m) (utf8 n) None tt
-  told (binary m) (binary n) h z e = told_node (binary m) (binary n) None tt
-  told (variant m) (variant n) h z e = told_node (variant m) (variant n) None tt
-  told (list t m) (list u n) h z e =
-      told_node (list t m) (list u n) _
-      (told_map (Apart t u) (Apart (list t m) (list u n)) (λ v. items (value v no_values)) (λ w r. ((r.0, tt), λ q. r.1 q.0)) (tell t u) (told t u h z (cc)))
-  told (fixed_size_list t j m) (fixed_size_list u k n) h z e =
-      told_node (fixed_size_list t j m) (fixed_size_list u k n) _
-      (told_map (Apart t u) (Apart (fixed_size_list t j m) (fixed_size_list u k n)) (λ v. fixed_items (copies j v))
-      (λ w r. ((value_count-copies j w, each_copy (λ v. Of v t) j w r.0), λ q. r.1 (row_holds (λ v. Of v u) j w z.0 q.1))) (tell t u) (told t u h.1 z.1 (cc)))
-  told (map_of t v x m) (map_of u w y n) h z e =
+  told : (a b : Tree) → erase a ≡ erase b → Told (NullableWherever a b) (Apart a b) (tell a b)
+  told null null e = tt
+  told (bool m) (bool n) e = told_leaf (bool m) (bool n)
+  told (primitive p m) (primitive q n) e = told_leaf (primitive p m) (primitive q n)
+  told (decimal p m) (decimal q n) e = told_leaf (decimal p m) (decimal q n)
+  told (utf8 m) (utf8 n) e = told_leaf (utf8 m) (utf8 n)
+  told (binary m) (binary n) e = told_leaf (binary m) (binary n)
+  told (variant m) (variant n) e = told_leaf (variant m) (variant n)
+  told (list t m) (list u n) e =
+      told_inner (list t m) (list u n) (NullableWherever t u) _
+      (told_map (NullableWherever t u) (Apart t u) (Apart (list t m) (list u n)) (λ v. items (value v no_values)) (λ w r h z. let p = r h z in ((p.0, tt), λ q. p.1 q.0)) (tell t u) (told t u (cc)))
+  told (fixed_size_list t j m) (fixed_size_list u k n) e =
+      told_inner (fixed_size_list t j m) (fixed_size_list u k n) (NullableWherever t u) _
+      (told_map (NullableWherever t u) (Apart t u) (Apart (fixed_size_list t j m) (fixed_size_list u k n)) (λ v. fixed_items (copies j v))
+      (λ w r h z. let p = r h.1 z.1 in ((value_count-copies j w, each_copy (λ v. Of v t) j w p.0), λ q. p.1 (row_holds (λ v. Of v u) j w z.0 q.1))) (tell t u) (told t u (cc)))
+  told (map_of t v x m) (map_of u w y n) e =
       let apart = Apart (map_of t v x m) (map_of u w y n) in
-      told_node (map_of t v x m) (map_of u w y n) _ (told_or apart _ _
-      (told_map (Apart t u) apart (λ d. entries (entry d (sample v) no_entries)) (λ d r. ((r.0, sample_of v h.2, tt), λ q. r.1 q.0)) (tell t u) (told t u h.1 z.0 (cc)))
-      (told_map (Apart v w) apart (λ d. entries (entry (sample t) d no_entries)) (λ d r. ((sample_of t h.1, r.0, tt), λ q. r.1 q.1)) (tell v w) (told v w h.2 z.1 (cc))))
-  told (struct fs m) (struct gs n) h z e =
-      told_node (struct fs m) (struct gs n) _
-      (told_map (FieldsApart fs gs) (Apart (struct fs m) (struct gs n)) (λ r. record_of r) (λ r p. p) (tell_fields fs gs) (told_fields fs gs h z (cc)))
-  told (union vs m) (union ws n) h z e =
-      told_node (union vs m) (union ws n) _
-      (told_map (VariantsApart vs ws) (Apart (union vs m) (union ws n)) (λ c. tagged c.0 c.1) (λ c p. p) (tell_variants vs ws) (told_variants vs ws (own_tags vs m h) z (cc)))
-  told (extension i a t) (extension j b u) h z e = told t u h.1 z (cc)
-  told _ _ h z e = absurd (cc e)
+      told_node (map_of t v x m) (map_of u w y n) (NullableWherever t u × NullableWherever v w) (Allows m n × NullableWherever t u × NullableWherever v w) (λ x s. (x, s.0, s.1)) (λ t. t.0) (λ t. (t.1, t.2)) _
+      (told_or (NullableWherever t u) (NullableWherever v w) apart _ _
+      (told_map (NullableWherever t u) (Apart t u) apart (λ d. entries (entry d (sample v) no_entries)) (λ d r h z. let p = r h.1 z.0 in ((p.0, sample_of v h.2, tt), λ q. p.1 q.0)) (tell t u) (told t u (cc)))
+      (told_map (NullableWherever v w) (Apart v w) apart (λ d. entries (entry (sample t) d no_entries)) (λ d r h z. let p = r h.2 z.1 in ((sample_of t h.1, p.0, tt), λ q. p.1 q.1)) (tell v w) (told v w (cc))))
+  told (struct fs m) (struct gs n) e =
+      told_inner (struct fs m) (struct gs n) (NullableWhereverItems fs gs) _
+      (told_map (NullableWhereverItems fs gs) (FieldsApart fs gs) (Apart (struct fs m) (struct gs n)) (λ r. record_of r) (λ r p. p) (tell_fields fs gs) (told_fields fs gs (cc)))
+  told (union vs m) (union ws n) e =
+      told_inner (union vs m) (union ws n) (NullableWhereverItems vs ws) _
+      (told_map (NullableWhereverItems vs ws) (VariantsApart vs ws) (Apart (union vs m) (union ws n)) (λ c. tagged c.0 c.1) (λ c p h z. p (own_tags vs m h) z) (tell_variants vs ws) (told_variants vs ws (cc)))
+  told (extension i a t) (extension j b u) e = told_more (NullableWherever t u) (Apart t u) (Apart (extension i a t) (extension j b u)) (λ v r h z. r h.1 z) (tell t u) (told t u (cc))
+  told _ _ e = absurd (cc e)
 
-  told_fields : (fs gs : Fields) → ValidItems fs → ItemsHaveNoSizeZero fs → erase_items fs ≡ erase_items gs → IfSome (tell_fields fs gs) (FieldsApart fs gs)
-  told_fields no_items no_items h z e = tt
-  told_fields (item m t _ fs) (item n u _ gs) h z e =
+  told_fields : (fs gs : Fields) → erase_items fs ≡ erase_items gs → Told (NullableWhereverItems fs gs) (FieldsApart fs gs) (tell_fields fs gs)
+  told_fields no_items no_items e = tt
+  told_fields (item m t _ fs) (item n u _ gs) e =
       let apart = FieldsApart (field m t fs) (field n u gs) in
-      told_or apart _ _
-      (told_map (Apart t u) apart (λ v. named m v (samples fs)) (λ v r. ((refl, r.0, samples_of fs h.1), λ q. r.1 q.1)) (tell t u) (told t u h.0 z.0 (cc)))
-      (told_map (FieldsApart fs gs) apart (λ r. named m (sample t) r) (λ r p. ((refl, sample_of t h.0, p.0), λ q. p.1 q.2)) (tell_fields fs gs) (told_fields fs gs h.1 z.1 (ap rest_of e)))
-  told_fields _ _ h z e = absurd (cc e)
+      told_or (NullableWherever t u) (NullableWhereverItems fs gs) apart _ _
+      (told_map (NullableWherever t u) (Apart t u) apart (λ v. named m v (samples fs)) (λ v r h z. let p = r h.0 z.0 in ((refl, p.0, samples_of fs h.1), λ q. p.1 q.1)) (tell t u) (told t u (cc)))
+      (told_map (NullableWhereverItems fs gs) (FieldsApart fs gs) apart (λ r. named m (sample t) r) (λ r p h z. let s = p h.1 z.1 in ((refl, sample_of t h.0, s.0), λ q. s.1 q.2)) (tell_fields fs gs) (told_fields fs gs (ap rest_of e)))
+  told_fields _ _ e = absurd (cc e)
 
-  told_variants : (vs ws : Variants) → OwnTags vs → ItemsHaveNoSizeZero vs → erase_items vs ≡ erase_items ws → IfSome (tell_variants vs ws) (VariantsApart vs ws)
-  told_variants no_items no_items h z e = tt
-  told_variants (item m t g vs) (item n u i ws) h z e =
-      told_or (VariantsApart (item m t g vs) (item n u i ws)) _ _
-      (told_map (Apart t u) (VariantsApart (item m t g vs) (item n u i ws)) (λ v. (g, v))
-      (λ v r. (inl (refl, r.0), λ q. r.1 (value_of_first g i v n u ws (lacks_also g vs ws (ap rest_of e) h.1) q))) (tell t u) (told t u h.0 z.0 (cc)))
-      (IfSome_then (tell_variants vs ws) (told_variants vs ws h.2 z.1 (ap rest_of e)) (λ c r. (inr r.0, λ q. r.1 (later_of g c.0 i c.1 n u vs ws (ap (first_tag g) e) h.1 r.0 q))))
-  told_variants _ _ h z e = absurd (cc e)
+  told_variants : (vs ws : Variants) → erase_items vs ≡ erase_items ws → Told (NullableWhereverItems vs ws) (VariantsApart vs ws) (tell_variants vs ws)
+  told_variants no_items no_items e = tt
+  told_variants (item m t g vs) (item n u i ws) e =
+      let apart = VariantsApart (item m t g vs) (item n u i ws) in
+      told_or (NullableWherever t u) (NullableWhereverItems vs ws) apart _ _
+      (told_map (NullableWherever t u) (Apart t u) apart (λ v. (g, v))
+      (λ v r h z. let p = r h.0 z.0 in (inl (refl, p.0), λ q. p.1 (value_of_first g i v n u ws (lacks_also g vs ws (ap rest_of e) h.1) q))) (tell t u) (told t u (cc)))
+      (told_more (NullableWhereverItems vs ws) (VariantsApart vs ws) apart
+      (λ c p h z. let r = p h.2 z.1 in (inr r.0, λ q. r.1 (later_of g c.0 i c.1 n u vs ws (ap (first_tag g) e) h.1 r.0 q))) (tell_variants vs ws) (told_variants vs ws (ap rest_of e)))
+  told_variants _ _ e = absurd (cc e)
+
+pub told_exactly : (a b : Tree) → erase a ≡ erase b → (tell a b ≡ None) ↔ Sub a b
+told_exactly a b e = go (tell a b) (told a b e)
+  where
+    go : (o : Option Value) → Told (NullableWherever a b) (Apart a b) o → (o ≡ None) ↔ Sub a b
+    go None h = (λ x. record { erased = e; nullable = h }, λ x. refl)
+    go (Some w) h = (λ x. cc, λ x. absurd (h.0 x.nullable))
 
 pub tells_apart : (a b : Tree) → Valid a → HasNoSizeZero a → erase a ≡ erase b → (Sub a b → ⊥) → IsSomeAnd (tell a b) (λ v. Of v a × ¬ (Of v b))
-tells_apart a b h z e not_below = go (tell a b) (λ none. not_below ((told_exactly a b e).0 none)) (told a b h z e)
+tells_apart a b h z e not_below = go (tell a b) (told a b e)
   where
-    go : (o : Option Value) → (o ≡ None → ⊥) → IfSome o (Apart a b) → IsSomeAnd o (λ w. Of w a × (Of w b → ⊥))
-    go None some r = absurd (some refl)
-    go (Some w) some r = r
+    go : (o : Option Value) → Told (NullableWherever a b) (Apart a b) o → IsSomeAnd o (λ w. Of w a × (Of w b → ⊥))
+    go None r = absurd (not_below (record { erased = e; nullable = r }))
+    go (Some w) r = r.1 h z
 
 pub included_is_sub : (a b : Tree) → Valid a → HasNoSizeZero a → erase a ≡ erase b → IncludedIn a b → Sub a b
-included_is_sub a b h z e all = (told_exactly a b e).0 (go (tell a b) (told a b h z e))
+included_is_sub a b h z e all = go (tell a b) (told a b e)
   where
-    go : (o : Option Value) → IfSome o (Apart a b) → o ≡ None
-    go None r = refl
-    go (Some w) r = absurd (r.1 (all w r.0))
+    go : (o : Option Value) → Told (NullableWherever a b) (Apart a b) o → Sub a b
+    go None r = record { erased = e; nullable = r }
+    go (Some w) r = let p = r.1 h z in absurd (p.1 (all w p.0))

@@ -134,7 +134,7 @@ pub fn tell_tells_apart()
 
 /// Of types that are equal except for nullabilities, also with a fixed size 0, `tell` gives nothing exactly where the
 /// first is below the second.
-#[tactic(auto, using(crate::proofs::TellGiven::told_exactly))]
+#[tactic(auto, using(crate::proofs::TellLaws::told_exactly))]
 pub fn tell_gives_exactly_where_not_below()
     ensures { (a b : Tree) → erase a ≡ erase b → ((tell a b ≡ None) ↔ Sub a b) }
 {}

@@ -16,7 +16,7 @@ use Rattle.dtype_types.specs.values.Value.{Value, Named, Of, IncludedIn, NamedOf
 use Rattle.dtype_types.specs.values.Sample.{sample, samples, copies}
 use Rattle.dtype_types.specs.values.Tell.{or_else, null_else, tell, tell_fields, tell_variants, HasNoSizeZero, ItemsHaveNoSizeZero}
 use Rattle.dtype_types.proofs.lemmas.NullValues.{null_is_of_nullable}
-use Rattle.dtype_types.proofs.lemmas.SampleLaws.{sample_of, samples_of, value_count-copies, each_copy}
+use Rattle.dtype_types.proofs.lemmas.SampleLaws.{sample_of, samples_of, copies_hold, value_count-copies, each_copy}
 use Rattle.dtype_types.proofs.OwnTags.{OwnTags, own_tags, lacks_also, value_of_first, later_of}
 
 -- ---- an answer: none where S holds, else one that P holds of, and S doesn't
@@ -66,12 +66,6 @@ told_leaf a b = told_node a b (Unit {0}) (Allows (nullability a) (nullability b)
 told_inner : (a b : Tree) (S : Type 0) (o : Option Value) → Told S (Apart a b) o → Told (Allows (nullability a) (nullability b) × S) (Apart a b) (null_else (nullability a) (nullability b) o)
 told_inner a b S o h = told_node a b S (Allows (nullability a) (nullability b) × S) (λ x s. (x, s)) (λ t. t.0) (λ t. t.1) o h
 
--- ---- the members of a fixed-size list
-
-row_holds : (P : Value → Type 0) (k : ℕ) (v : Value) → 0 < k → Each P (copies k v) → P v
-row_holds P zero v h e = absurd (omega arith)
-row_holds P (suc k) v h e = e.0
-
 -- ---- at every depth
 
 mutual
@@ -89,7 +83,7 @@ mutual
   told (fixed_size_list t j m) (fixed_size_list u k n) e =
       told_inner (fixed_size_list t j m) (fixed_size_list u k n) (NullableWherever t u) _
       (told_map (NullableWherever t u) (Apart t u) (Apart (fixed_size_list t j m) (fixed_size_list u k n)) (λ v. fixed_items (copies j v))
-      (λ w r h z. let p = r h.1 z.1 in ((value_count-copies j w, each_copy (λ v. Of v t) j w p.0), λ q. p.1 (row_holds (λ v. Of v u) j w z.0 q.1))) (tell t u) (told t u (cc)))
+      (λ w r h z. let p = r h.1 z.1 in ((value_count-copies j w, each_copy (λ v. Of v t) j w p.0), λ q. p.1 (copies_hold (λ v. Of v u) j w z.0 q.1))) (tell t u) (told t u (cc)))
   told (map_of t v x m) (map_of u w y n) e =
       let apart = Apart (map_of t v x m) (map_of u w y n) in
       told_node (map_of t v x m) (map_of u w y n) (NullableWherever t u × NullableWherever v w) (Allows m n × NullableWherever t u × NullableWherever v w) (λ x s. (x, s.0, s.1)) (λ t. t.0) (λ t. (t.1, t.2)) _

@@ -2,7 +2,7 @@
 -- SPDX-FileCopyrightText: Copyright the Vortex contributors
 
 -- The least type above two is least among all types that take the values of both.
-use Rattle.std.proofs.Common.{◌≡◌, ◌≢◌, ◌∙◌, ℕ, List, zero, suc, refl, sym, subst, inl, inr, ap}
+use Rattle.std.proofs.Common.{◌≡◌, ◌∙◌, ◌<◌, ℕ, List, arith, refl, sym, subst, inl, inr, ap}
 use Rattle.dtype_base.specs.Nullability.{either}
 use Rattle.dtype_base.specs.declared.nullability.Nullability.{Nullability}
 use Rattle.dtype_base.specs.declared.nullability.Nullability.TheVariants.{NonNullable, Nullable}
@@ -12,7 +12,8 @@ use Rattle.dtype_types.specs.tree.Tree.{Tree, Fields, no_items, Variants, item, 
 use Rattle.dtype_types.specs.tree.Valid.{Valid, ValidItems}
 use Rattle.dtype_types.specs.values.Sample.{sample, samples, copies}
 use Rattle.dtype_types.specs.values.Value.{Value, Values, Entries, Named, IncludedIn, Of, NamedOf, VariantOf, Each, EachEntry, value_count, null_value, items, fixed_items, entries, record_of, tagged, no_values, value, no_entries, entry, no_named, named}
-use Rattle.dtype_types.proofs.lemmas.SampleLaws.{sample_of, samples_of, each_copy, value_count-copies}
+use Rattle.dtype_types.proofs.lemmas.NullValues.{either_nullable}
+use Rattle.dtype_types.proofs.lemmas.SampleLaws.{sample_of, samples_of, copies_hold, each_copy, value_count-copies}
 use Rattle.dtype_types.proofs.lemmas.SubValues.{each_of, each_entry}
 use Rattle.dtype_types.proofs.lemmas.ValidLists.{variants_are}
 use Rattle.dtype_types.proofs.OwnTags.{OwnTags, LacksTag, own_tags, absent}
@@ -20,10 +21,7 @@ use Rattle.dtype_types.proofs.OwnTags.{OwnTags, LacksTag, own_tags, absent}
 -- ---- least among the types that take the values of both
 
 null_either : (m n : Nullability) (X : Type 0) → (m ≡ Nullable → X) → (n ≡ Nullable → X) → either m n ≡ Nullable → X
-null_either NonNullable NonNullable X f g e = f e
-null_either NonNullable Nullable X f g e = g e
-null_either Nullable NonNullable X f g e = f e
-null_either Nullable Nullable X f g e = f e
+null_either m n X f g e = elim ((either_nullable m n).0 e) [ inl h ↦ f h | inr h ↦ g h ]
 
 choose : (P : Nullability → Type 0) (m n : Nullability) → P m → P n → P (either m n)
 choose P NonNullable NonNullable p q = p
@@ -35,79 +33,49 @@ choose P Nullable Nullable p q = p
 abbrev Least : Tree → Tree → Tree → Type 0
 Least t u w = (c : Tree) → Valid c → IncludedIn t c → IncludedIn u c → IncludedIn w c
 
-items_in : (t u w : Tree) → Least t u w → (d : Tree) → Valid d → ((vs : Values) → Each (λ v. Of v t) vs → Of (items vs) d) → ((vs : Values) → Each (λ v. Of v u) vs → Of (items vs) d)
-    → (vs : Values) → Each (λ v. Of v w) vs → Of (items vs) d
-items_in t u w f (list c o) x i j vs h = each_of (λ v. Of v w) (λ v. Of v c) (f c x (λ q p. (i (value q no_values) (p, tt)).0) (λ q p. (j (value q no_values) (p, tt)).0)) vs h
-items_in t u w f (extension a b s) x i j vs h = items_in t u w f s x.1 i j vs h
-items_in t u w f _ x i j vs h = absurd (i no_values tt)
-
 least_list : (t u w : Tree) (m n : Nullability) → Least t u w → (d : Tree) → Valid d → IncludedIn (list t m) d → IncludedIn (list u n) d → IncludedIn (list w (either m n)) d
 least_list t u w m n f d x i j null_value o = null_either m n (Of null_value d) (i null_value) (j null_value) o
-least_list t u w m n f d x i j (items vs) o = items_in t u w f d x (λ vs. i (items vs)) (λ vs. j (items vs)) vs o
-least_list t u w m n f d x i j _ o = absurd o
+least_list t u w m n f (list c _) x i j (items vs) o =
+    each_of (λ v. Of v w) (λ v. Of v c) (f c x (λ q p. (i (items (value q no_values)) (p, tt)).0) (λ q p. (j (items (value q no_values)) (p, tt)).0)) vs o
+least_list t u w m n f (extension a b s) x i j (items vs) o = least_list t u w m n f s x.1 i j (items vs) o
+least_list t u w m n f _ x i j (items vs) o = absurd (i (items no_values) tt)
+least_list t u w m n f _ x i j _ o = absurd o
 
--- a list of one length shows a member, if it has any
-member : (c : Tree) (k : ℕ) (v : Value) → k ≢ 0 → Each (λ x. Of x c) (copies k v) → Of v c
-member c zero v some h = absurd (some refl)
-member c (suc k) v some h = h.0
-
-fixed_each : (w c : Tree) (k : ℕ) → (k ≢ 0 → IncludedIn w c) → (vs : Values) → value_count vs ≡ k → Each (λ v. Of v w) vs → Each (λ v. Of v c) vs
+fixed_each : (w c : Tree) (k : ℕ) → (0 < k → IncludedIn w c) → (vs : Values) → value_count vs ≡ k → Each (λ v. Of v w) vs → Each (λ v. Of v c) vs
 fixed_each w c k f no_values n h = tt
-fixed_each w c k f (value y ys) n h = each_of (λ v. Of v w) (λ v. Of v c) (f (λ none. cc)) (value y ys) h
-
-abbrev Fixed : Tree → ℕ → Tree → Type 0
-Fixed t k d = (vs : Values) → (value_count vs ≡ k) × Each (λ v. Of v t) vs → Of (fixed_items vs) d
-
-fixed_in : (t u w : Tree) (k : ℕ) (z : Value) → Of z t → Least t u w → (d : Tree) → Valid d → Fixed t k d → Fixed u k d → Fixed w k d
-fixed_in t u w k z zt f (fixed_size_list c l o) x i j vs h =
-    let shown = i (copies k z) (value_count-copies k z, each_copy (λ v. Of v t) k z zt) in (
-      h.0 ∙ sym (value_count-copies k z) ∙ shown.0,
-      fixed_each w c k (λ some. f c x.1 (λ q p. member c k q some (i (copies k q) (value_count-copies k q, each_copy (λ v. Of v t) k q p)).1) (λ q p. member c k q some (j (copies k q) (value_count-copies k q, each_copy (λ v. Of v u) k q p)).1)) vs h.0 h.1,
-    )
-fixed_in t u w k z zt f (extension a b s) x i j vs h = fixed_in t u w k z zt f s x.1 i j vs h
-fixed_in t u w k z zt f _ x i j vs h = absurd (i (copies k z) (value_count-copies k z, each_copy (λ v. Of v t) k z zt))
+fixed_each w c k f (value y ys) n h = each_of (λ v. Of v w) (λ v. Of v c) (f (omega (arith, n))) (value y ys) h
 
 least_fixed : (t u w : Tree) (k : ℕ) (m n : Nullability) (z : Value) → Of z t → Least t u w → (d : Tree) → Valid d → IncludedIn (fixed_size_list t k m) d → IncludedIn (fixed_size_list u k n) d → IncludedIn (fixed_size_list w k (either m n)) d
 least_fixed t u w k m n z zt f d x i j null_value o = null_either m n (Of null_value d) (i null_value) (j null_value) o
-least_fixed t u w k m n z zt f d x i j (fixed_items vs) o = fixed_in t u w k z zt f d x (λ vs. i (fixed_items vs)) (λ vs. j (fixed_items vs)) vs o
-least_fixed t u w k m n z zt f d x i j _ o = absurd o
-
-abbrev Mapped : Tree → Tree → Tree → Type 0
-Mapped t t' d = (es : Entries) → EachEntry (λ k. Of k t) (λ v. Of v t') es → Of (entries es) d
-
-entries_in : (t u w t' u' w' : Tree) → Valid t → Valid t' → Valid u → Valid u' → Least t u w → Least t' u' w' → (d : Tree) → Valid d → Mapped t t' d → Mapped u u' d → Mapped w w' d
-entries_in t u w t' u' w' h h' k k' f g (map_of c c' y o) x i j es e =
-    each_entry w c w' c'
-    (f c x.1 (λ q p. (i (entry q (sample t') no_entries) (p, sample_of t' h', tt)).0) (λ q p. (j (entry q (sample u') no_entries) (p, sample_of u' k', tt)).0))
-    (g c' x.2 (λ q p. (i (entry (sample t) q no_entries) (sample_of t h, p, tt)).1) (λ q p. (j (entry (sample u) q no_entries) (sample_of u k, p, tt)).1)) es e
-entries_in t u w t' u' w' h h' k k' f g (extension a b s) x i j es e = entries_in t u w t' u' w' h h' k k' f g s x.1 i j es e
-entries_in t u w t' u' w' h h' k k' f g _ x i j es e = absurd (i no_entries tt)
+least_fixed t u w k m n z zt f (fixed_size_list c l _) x i j (fixed_items vs) o = (
+  o.0 ∙ sym (value_count-copies k z) ∙ (i (fixed_items (copies k z)) (value_count-copies k z, each_copy (λ v. Of v t) k z zt)).0,
+  fixed_each w c k (λ some. f c x.1 (λ q p. copies_hold (λ v. Of v c) k q some (i (fixed_items (copies k q)) (value_count-copies k q, each_copy (λ v. Of v t) k q p)).1)
+      (λ q p. copies_hold (λ v. Of v c) k q some (j (fixed_items (copies k q)) (value_count-copies k q, each_copy (λ v. Of v u) k q p)).1)) vs o.0 o.1,
+)
+least_fixed t u w k m n z zt f (extension a b s) x i j (fixed_items vs) o = least_fixed t u w k m n z zt f s x.1 i j (fixed_items vs) o
+least_fixed t u w k m n z zt f _ x i j (fixed_items vs) o = absurd (i (fixed_items (copies k z)) (value_count-copies k z, each_copy (λ v. Of v t) k z zt))
+least_fixed t u w k m n z zt f _ x i j _ o = absurd o
 
 least_map : (t u w t' u' w' : Tree) (x y : _) (m n : Nullability) → Valid t → Valid t' → Valid u → Valid u' → Least t u w → Least t' u' w' → (d : Tree) → Valid d → IncludedIn (map_of t t' x m) d → IncludedIn (map_of u u' y n) d
     → IncludedIn (map_of w w' x (either m n)) d
 least_map t u w t' u' w' x y m n h h' k k' f g d z i j null_value o = null_either m n (Of null_value d) (i null_value) (j null_value) o
-least_map t u w t' u' w' x y m n h h' k k' f g d z i j (entries es) o = entries_in t u w t' u' w' h h' k k' f g d z (λ es. i (entries es)) (λ es. j (entries es)) es o
-least_map t u w t' u' w' x y m n h h' k k' f g d z i j _ o = absurd o
-
--- what named values of fs and of gs are in d, those of hs are
-abbrev Named_in : Fields → Tree → Type 0
-Named_in fs d = (nvs : Named) → NamedOf nvs fs → Of (record_of nvs) d
+least_map t u w t' u' w' x y m n h h' k k' f g (map_of c c' _ _) z i j (entries es) o =
+    each_entry w c w' c'
+    (f c z.1 (λ q p. (i (entries (entry q (sample t') no_entries)) (p, sample_of t' h', tt)).0) (λ q p. (j (entries (entry q (sample u') no_entries)) (p, sample_of u' k', tt)).0))
+    (g c' z.2 (λ q p. (i (entries (entry (sample t) q no_entries)) (sample_of t h, p, tt)).1) (λ q p. (j (entries (entry (sample u) q no_entries)) (sample_of u k, p, tt)).1)) es o
+least_map t u w t' u' w' x y m n h h' k k' f g (extension a b s) z i j (entries es) o = least_map t u w t' u' w' x y m n h h' k k' f g s z.1 i j (entries es) o
+least_map t u w t' u' w' x y m n h h' k k' f g _ z i j (entries es) o = absurd (i (entries no_entries) tt)
+least_map t u w t' u' w' x y m n h h' k k' f g _ z i j _ o = absurd o
 
 abbrev Least_named : Fields → Fields → Fields → Type 0
 Least_named fs gs hs = (ds : Fields) → ValidItems ds → ((nvs : Named) → NamedOf nvs fs → NamedOf nvs ds) → ((nvs : Named) → NamedOf nvs gs → NamedOf nvs ds) → (nvs : Named) → NamedOf nvs hs → NamedOf nvs ds
 
-record_in : (fs gs hs : Fields) → ValidItems fs → Least_named fs gs hs → (d : Tree) → Valid d → Named_in fs d → Named_in gs d → Named_in hs d
-record_in fs gs hs h f (struct ds o) x i j nvs e = f ds x i j nvs e
-record_in fs gs hs h f (extension a b s) x i j nvs e = record_in fs gs hs h f s x.1 i j nvs e
-record_in fs gs hs h f _ x i j nvs e = absurd (i (samples fs) (samples_of fs h))
-
 least_struct : (fs gs hs : Fields) (m n : Nullability) → ValidItems fs → Least_named fs gs hs → (d : Tree) → Valid d → IncludedIn (struct fs m) d → IncludedIn (struct gs n) d → IncludedIn (struct hs (either m n)) d
 least_struct fs gs hs m n h f d x i j null_value o = null_either m n (Of null_value d) (i null_value) (j null_value) o
-least_struct fs gs hs m n h f d x i j (record_of nvs) o = record_in fs gs hs h f d x (λ nvs. i (record_of nvs)) (λ nvs. j (record_of nvs)) nvs o
-least_struct fs gs hs m n h f d x i j _ o = absurd o
-
-abbrev Tagged_in : Variants → Tree → Type 0
-Tagged_in vs d = (g : ℕ) (v : Value) → VariantOf g v vs → Of (tagged g v) d
+least_struct fs gs hs m n h f (struct ds _) x i j (record_of nvs) o = f ds x (λ nvs. i (record_of nvs)) (λ nvs. j (record_of nvs)) nvs o
+least_struct fs gs hs m n h f (extension a b s) x i j (record_of nvs) o = least_struct fs gs hs m n h f s x.1 i j (record_of nvs) o
+least_struct fs gs hs m n h f _ x i j (record_of nvs) o = absurd (i (record_of (samples fs)) (samples_of fs h))
+least_struct fs gs hs m n h f _ x i j _ o = absurd o
 
 abbrev In_variants : Variants → Variants → Type 0
 In_variants vs ds = (g : ℕ) (v : Value) → VariantOf g v vs → VariantOf g v ds
@@ -115,17 +83,13 @@ In_variants vs ds = (g : ℕ) (v : Value) → VariantOf g v vs → VariantOf g v
 abbrev Least_tagged : Variants → Variants → Variants → Type 0
 Least_tagged vs ws xs = (ds : Variants) → OwnTags ds → In_variants vs ds → In_variants ws ds → In_variants xs ds
 
-tagged_in : (vs ws xs : Variants) (g : ℕ) (v : Value) → VariantOf g v vs → Least_tagged vs ws xs → (d : Tree) → Valid d → Tagged_in vs d → Tagged_in ws d → Tagged_in xs d
-tagged_in vs ws xs g v s f (union ds o) x i j h z e = f ds (own_tags ds o x) i j h z e
-tagged_in vs ws xs g v s f (extension a b t) x i j h z e = tagged_in vs ws xs g v s f t x.1 i j h z e
-tagged_in vs ws xs g v s f _ x i j h z e = absurd (i g v s)
-
 least_union : (vs ws xs : Variants) (m n : Nullability) → Valid (union vs m) → Least_tagged vs ws xs → (d : Tree) → Valid d → IncludedIn (union vs m) d → IncludedIn (union ws n) d → IncludedIn (union xs (either m n)) d
 least_union vs ws xs m n h f d x i j null_value o = null_either m n (Of null_value d) (i null_value) (j null_value) o
-least_union (item l t k vs) ws xs m n h f d x i j (tagged g v) o =
-    tagged_in (item l t k vs) ws xs k (sample t) (inl (refl, sample_of t h.1.0)) f d x (λ g v. i (tagged g v)) (λ g v. j (tagged g v)) g v o
 least_union no_items ws xs m n h f d x i j (tagged g v) o = absurd ((variants_are no_items h.0).0.0.2 refl)
-least_union vs ws xs m n h f d x i j _ o = absurd o
+least_union vs ws xs m n h f (union ds l) x i j (tagged g v) o = f ds (own_tags ds l x) (λ g v. i (tagged g v)) (λ g v. j (tagged g v)) g v o
+least_union vs ws xs m n h f (extension a b s) x i j (tagged g v) o = least_union vs ws xs m n h f s x.1 i j (tagged g v) o
+least_union (item l t k vs) ws xs m n h f _ x i j (tagged g v) o = absurd (i (tagged k (sample t)) (inl (refl, sample_of t h.1.0)))
+least_union _ ws xs m n h f _ x i j _ o = absurd o
 
 -- the type that a tag has, in variants of distinct tags
 abbrev At_tag : Variants → ℕ → Type 0

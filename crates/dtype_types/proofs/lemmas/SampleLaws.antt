@@ -27,6 +27,11 @@ pub each_copy : (P : Value → Type 0) (k : ℕ) (v : Value) → P v → Each P 
 each_copy P zero v h = tt
 each_copy P (suc k) v h = (h, each_copy P k v h)
 
+-- a list of one length shows a member, if it has any
+pub copies_hold : (P : Value → Type 0) (k : ℕ) (v : Value) → 0 < k → Each P (copies k v) → P v
+copies_hold P zero v h e = absurd (omega arith)
+copies_hold P (suc k) v h e = e.0
+
 zero-of : (p : PType) → Of (zero_of (ptype_row p).kind) (primitive p NonNullable)
 zero-of U8 = lit< tt
 zero-of U16 = lit< tt

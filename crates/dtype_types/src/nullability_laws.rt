@@ -46,6 +46,7 @@ pub fn what_is_intersected_is_valid()
 
 /// The values of both types are values of what is merged of them. Of the valid types, also those of other kinds, that
 /// take the values of both, it takes the fewest: its values are values of each of them.
+#[tactic(auto, using(crate::proofs::lemmas::Merging::values_first, crate::proofs::lemmas::Merging::values_second, crate::proofs::lemmas::Merging::merged_least_values))]
 pub fn what_is_merged_takes_the_values_of_both()
     ensures first { (a b c : Tree) → merged a b ≡ Some c → IncludedIn a c }
     ensures second { (a b c : Tree) → merged a b ≡ Some c → IncludedIn b c }

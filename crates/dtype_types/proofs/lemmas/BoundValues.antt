@@ -11,7 +11,7 @@ use Rattle.dtype_types.specs.tree.Erase.{erase, erase_items}
 use Rattle.dtype_types.specs.tree.Tree.{Tree, Fields, no_items, Variants, item, null, bool, primitive, decimal, utf8, binary, list, fixed_size_list, map_of, struct, union, variant, extension, rest_of, first_tag}
 use Rattle.dtype_types.specs.tree.Valid.{Valid, ValidItems}
 use Rattle.dtype_types.specs.values.Sample.{sample, samples, copies}
-use Rattle.dtype_types.specs.values.Value.{Value, Values, Entries, Named, IncludedIn, Of, NamedOf, VariantOf, Each, EachEntry, value_count, null_value, items, fixed_items, entries, record_of, tagged, no_values, value, no_entries, entry, no_named, named}
+use Rattle.dtype_types.specs.values.Value.{Value, Values, Named, IncludedIn, Of, NamedOf, VariantOf, Each, value_count, null_value, items, fixed_items, entries, record_of, tagged, no_values, value, no_entries, entry, no_named, named}
 use Rattle.dtype_types.proofs.lemmas.NullValues.{either_nullable}
 use Rattle.dtype_types.proofs.lemmas.SampleLaws.{sample_of, samples_of, copies_hold, each_copy, value_count-copies}
 use Rattle.dtype_types.proofs.lemmas.SubValues.{each_of, each_entry}

@@ -2,16 +2,21 @@
 -- SPDX-FileCopyrightText: Copyright the Vortex contributors
 
 -- How many paths are begun at least and at most, by the steps of the least paths.
-use Rattle.std.proofs.Common.{◌≡◌, ℕ, ◌+◌, ◌≤◌, ◌<◌, List, [], ◌∷◌, ◌++◌, length, map, inl, inr, refl, sym, subst, arith}
+use Rattle.std.proofs.Common.{◌≡◌, ℕ, ◌+◌, ◌≤◌, ◌<◌, List, [], ◌∷◌, ◌++◌, length, map, IsTrue, ap, ◌∙◌, inl, inr, refl, sym, subst, arith}
+use Rattle.std.specs.FinSet as set
 use Rattle.std.specs.List.{Contains, flat_map, sum_by}
+use Rattle.std.proofs.lemmas.Bool.{false≢true}
 use Rattle.std.proofs.lemmas.List.{length-map}
 use Rattle.std.proofs.lemmas.List.Concat.{length-flat_map}
 use Rattle.std.proofs.lemmas.List.Sums.{sum_by-cons}
 use Rattle.std.proofs.lemmas.Map.Made.{is_member-Decides, IsDistinct-from_AllPairs, length-le_from_is_member}
-use Rattle.dtype_paths.specs.Covering.{IsCountOf}
-use Rattle.dtype_paths.specs.private.PathLists.{Least, Begun}
+use Rattle.dtype_paths.specs.Covering.{IsCountOf, least}
+use Rattle.dtype_paths.specs.PathOrder.{PathSet}
+use Rattle.dtype_paths.specs.private.Reached.{IsBegun}
 use Rattle.dtype_paths.specs.EqualityLaws.{same_path-Decides, same_path_equiv}
 use Rattle.dtype_paths.specs.declared.field.Field.{Field}
+use Rattle.dtype_paths.proofs.lemmas.Counts.{least_none}
+use Rattle.dtype_paths.proofs.lemmas.SetMembers.{contains_empty}
 use Rattle.dtype_paths.proofs.ListMembers.{contains-head, contains-tail, contains-mapped, contains-flat_map}
 
 -- the beginnings of a path, but for the root
@@ -37,21 +42,21 @@ starts-has f (h ∷ q) (g ∷ p) rest e =
     (subst (λ x. Contains (map (λ r. g ∷ r) (starts p)) (x ∷ h ∷ q)) first (contains-mapped (λ r. g ∷ r) (h ∷ q) (starts p) (starts-has h q p rest later)))
 
 -- what is begun is the root, or a beginning of one of these with a step
-begun-has : (ps ls : List (List Field)) (q : List Field) → ((p : List Field) → Least ps p → Contains ls p) → Begun ps q → Contains ([] ∷ flat_map starts ls) q
-begun-has ps ls [] has b = contains-head [] (flat_map starts ls)
-begun-has ps ls (f ∷ q) has (inl e) = absurd (cc)
-begun-has ps ls (f ∷ q) has (inr b) =
+begun-has : (s : PathSet) (ls : List (List Field)) (q : List Field) → ((p : List Field) → IsTrue (set.contains (least s) p) → Contains ls p) → IsBegun s q → Contains ([] ∷ flat_map starts ls) q
+begun-has s ls [] has b = contains-head [] (flat_map starts ls)
+begun-has s ls (f ∷ q) has (inl e) = absurd (cc)
+begun-has s ls (f ∷ q) has (inr b) =
     contains-tail [] (f ∷ q) (flat_map starts ls)
     (contains-flat_map starts b.0 (f ∷ q) ls (has b.0 b.1) (starts-has f q b.0 b.2.0 b.2.1))
 
-pub begun_some : (ps : List (List Field)) (n : ℕ) → IsCountOf (Begun ps) n → 0 < n
-begun_some ps n c = let root = (c.exact []).1 (inl refl) in omega (arith, c.count, root.1)
+pub begun_some : (s : PathSet) (n : ℕ) → IsCountOf (IsBegun s) n → 0 < n
+begun_some s n c = let root = (c.exact []).1 (inl refl) in omega (arith, c.count, root.1)
 
-pub begun_at_most : (ps ls : List (List Field)) (n : ℕ) → IsCountOf (Begun ps) n → ((p : List Field) → Least ps p → Contains ls p) → n ≤ 1 + sum_by length ls
-begun_at_most ps ls n c has =
+pub begun_at_most : (s : PathSet) (ls : List (List Field)) (n : ℕ) → IsCountOf (IsBegun s) n → ((p : List Field) → IsTrue (set.contains (least s) p) → Contains ls p) → n ≤ 1 + sum_by length ls
+begun_at_most s ls n c has =
     let all = [] ∷ flat_map starts ls in
     let within = length-le_from_is_member same_path_equiv c.paths all (IsDistinct-from_AllPairs same_path-Decides c.paths c.distinct) (λ q m.
-    (is_member-Decides same_path-Decides all q).1 (begun-has ps ls q has ((c.exact q).0 ((is_member-Decides same_path-Decides c.paths q).0 m)))) in
+    (is_member-Decides same_path-Decides all q).1 (begun-has s ls q has ((c.exact q).0 ((is_member-Decides same_path-Decides c.paths q).0 m)))) in
     omega (arith, within, c.count, length-flat_map starts ls, steps ls)
   where
     steps : (qs : List (List Field)) → sum_by (λ p. length (starts p)) qs ≡ sum_by length qs
@@ -59,7 +64,9 @@ begun_at_most ps ls n c has =
     steps (q ∷ qs) = omega (arith, sum_by-cons (λ p. length (starts p)) q qs, sum_by-cons (length {A = Field}) q qs, length-starts q, steps qs)
 
 -- a set without paths begins the root alone
-pub begun_none : (ps : List (List Field)) (n : ℕ) → ps ≡ [] → IsCountOf (Begun ps) n → n ≡ 1
-begun_none ps n none c =
-    let most = begun_at_most ps [] n c (λ p l. absurd (omega (arith, (subst (λ x. Contains x p) none l.member).1))) in
-    omega (arith, most, begun_some ps n c)
+pub begun_none : (s : PathSet) (n : ℕ) → s ≡ set.empty → IsCountOf (IsBegun s) n → n ≡ 1
+begun_none s n none c =
+    let most = begun_at_most s [] n c (λ p l. absurd (false≢true (
+    sym (contains_empty p) ∙ ap (λ x. set.contains x p) (sym (ap least none ∙ least_none)) ∙ l
+    ))) in
+    omega (arith, most, begun_some s n c)

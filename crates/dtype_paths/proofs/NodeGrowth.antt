@@ -3,6 +3,7 @@
 
 -- A list of nodes after a path is added to it.
 use Rattle.std.proofs.Common.{ℕ, suc, zero, ◌+◌, ◌-◌, ◌<◌, length, take, drop, get_or, map, subst, ◌≡◌, ◌⊎◌, ◌&&◌, ◌==◌, cond, List, [], ◌∷◌, ◌++◌, Option, Some, None, option_and_then, inl, inr, refl, sym, ap, ◌∙◌, arith, ⊎_elim, length-append}
+use Rattle.std.specs.FinSet as set
 use Rattle.std.specs.List.{slice_get, cons_option, filter_map}
 use Rattle.std.proofs.lemmas.Bool.{cases_lt, and_parts}
 use Rattle.std.proofs.lemmas.Bool.Decides.{Decides-eqb}
@@ -12,9 +13,9 @@ use Rattle.dtype_paths.proofs.lemmas.Cases.{by_bool}
 use Rattle.dtype_paths.specs.private.Children.{child}
 use Rattle.dtype_paths.specs.Equality.{same_field}
 use Rattle.dtype_paths.specs.EqualityLaws.{same_field-Decides}
+use Rattle.dtype_paths.specs.PathOrder.{set_of}
 use Rattle.dtype_paths.specs.declared.field.Field.{Field}
 use Rattle.dtype_paths.specs.declared.node.Node.{Node}
-use Rattle.dtype_paths.specs.private.PathLists.{SameMembers}
 use Rattle.dtype_paths.specs.private.Trie.{chain, child_at, terminal_at, terminals, walk, reading, IsAlike, HasBranch, IsPrefixMatch, IsTrie, IsTrieBy}
 use Rattle.dtype_paths.specs.declared.path_match.PrefixMatch.{PrefixMatch}
 use Rattle.dtype_paths.proofs.NodeIndices.{gains, read-left, read-right, read-within, split}
@@ -133,7 +134,7 @@ module _ (old new : List Node) (path : List Field) (m : PrefixMatch) (trie : IsT
       (omega (arith, g.long, length-append old tail, length-chain path rest (length old)))
       (subst (Ends (terminal_at old) (terminal_at new) (length old + length rest)) parted new_ends)
 
-  pub grown-gains : SameMembers (terminals new) (path ∷ terminals old)
+  pub grown-gains : set_of (terminals new) ≡ set.insert (set_of (terminals old)) path
   grown-gains = gains old new (length old + length rest) path new_ends
 
 -- ---- the root alone

@@ -3,6 +3,7 @@
 
 -- A list of nodes, by its indices.
 use Rattle.std.proofs.Common.{ℕ, suc, zero, ◌+◌, ◌<◌, length, take, drop, get_or, map, append-nil, is_some, Decides, ◌≡◌, ◌⊎◌, Bool, false, List, [], ◌∷◌, ◌++◌, Option, Some, None, option_and_then, inl, inr, refl, sym, ap, ◌∙◌, arith, ⊎_elim}
+use Rattle.std.specs.FinSet as set
 use Rattle.std.specs.List.{slice_get, Contains, IsDistinct, AllByRecursion, cons_option}
 use Rattle.std.proofs.lemmas.List.Elements.{filter_map-append}
 use Rattle.std.proofs.lemmas.List.{map-append}
@@ -11,9 +12,10 @@ use Rattle.std.proofs.lemmas.Option.{same_Some, option_and_then_some, slice_get_
 use Rattle.dtype_paths.proofs.DistinctLists.{IsDistinct-nil}
 use Rattle.dtype_paths.proofs.ListMembers.{contains-cons, contains-head, contains-nil, contains-tail}
 use Rattle.dtype_paths.proofs.lemmas.Cases.{by_bool, by_option}
+use Rattle.dtype_paths.proofs.lemmas.SetMembers.{same_lists}
 use Rattle.dtype_paths.specs.Equality.{same_path}
 use Rattle.dtype_paths.specs.EqualityLaws.{same_path-Decides}
-use Rattle.dtype_paths.specs.private.PathLists.{SameMembers}
+use Rattle.dtype_paths.specs.PathOrder.{set_of}
 use Rattle.dtype_paths.specs.declared.field.Field.{Field}
 use Rattle.dtype_paths.specs.declared.node.Node.{Node}
 use Rattle.dtype_paths.specs.private.Trie.{child_at, terminal_at, terminals, walk, IsPrefixMatch, IsTrie, IsTrieBy}
@@ -63,19 +65,17 @@ of-terminal (n ∷ ns) zero q e = rw e (contains-head q (terminals ns))
 of-terminal (n ∷ ns) (suc i) q e = has-later n.terminal (terminals ns) q (of-terminal ns i q e)
 
 pub gains : (old new : List Node) (node_index : ℕ) (path : List Field) → Ends (terminal_at old) (terminal_at new) node_index path
-    → SameMembers (terminals new) (path ∷ terminals old)
-gains old new node_index path e = record {
-  same = λ q. (
-    λ c.
-        let w = terminal-of new q c in
-        ⊎_elim (λ o. contains-tail path q (terminals old) (of-terminal old w.0 q o)) (λ b. rw b.1 (contains-head path (terminals old))) (e.only w.0 q w.1),
-    λ c.
-        ⊎_elim
-        (λ b. rw (← b) (of-terminal new node_index path e.here))
-        (λ a. let w = terminal-of old q a in of-terminal new w.0 q (e.kept w.0 q w.1))
-        (contains-cons path q (terminals old) c),
-  );
-}
+    → set_of (terminals new) ≡ set.insert (set_of (terminals old)) path
+gains old new node_index path e = same_lists (terminals new) (path ∷ terminals old) (λ q. (
+  λ c.
+      let w = terminal-of new q c in
+      ⊎_elim (λ o. contains-tail path q (terminals old) (of-terminal old w.0 q o)) (λ b. rw b.1 (contains-head path (terminals old))) (e.only w.0 q w.1),
+  λ c.
+      ⊎_elim
+      (λ b. rw (← b) (of-terminal new node_index path e.here))
+      (λ a. let w = terminal-of old q a in of-terminal new w.0 q (e.kept w.0 q w.1))
+      (contains-cons path q (terminals old) c),
+))
 
 no_terminal : (p : List Field) (ns : List Node) → ((i : ℕ) → terminal_at ns i ≡ Some p → ⊥) → AllByRecursion (λ y. same_path p y ≡ false) (terminals ns)
 no_terminal p [] h = tt

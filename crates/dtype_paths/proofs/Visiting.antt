@@ -2,7 +2,8 @@
 -- SPDX-FileCopyrightText: Copyright the Vortex contributors
 
 -- How the nodes of a list are visited.
-use Rattle.std.proofs.Common.{ℕ, ◌-◌, min, ◌+◌, ◌<◌, ◌≤◌, ◌≢◌, length, map, ◌≡◌, ◌↔◌, ◌⊎◌, List, [], ◌∷◌, ◌++◌, Some, None, inl, inr, refl, sym, ap, subst, ◌∙◌, arith, ⊎_elim, append_assoc, append-nil}
+use Rattle.std.proofs.Common.{ℕ, ◌-◌, min, ◌+◌, ◌<◌, ◌≤◌, ◌≢◌, length, map, ◌≡◌, ◌↔◌, ◌⊎◌, IsTrue, List, [], ◌∷◌, ◌++◌, Some, None, inl, inr, refl, sym, ap, subst, ◌∙◌, arith, ⊎_elim, append_assoc, append-nil}
+use Rattle.std.specs.FinSet as set
 use Rattle.std.specs.List.{slice_get, Contains, IsDistinct}
 use Rattle.std.specs.Map.{keys_of, lookup, values_of}
 use Rattle.std.specs.Option.{unwrap_or}
@@ -12,11 +13,13 @@ use Rattle.std.proofs.lemmas.Map.Made.{AllPairs-from_IsDistinct}
 use Rattle.std.proofs.lemmas.Map.Views.{lookup-from_Contains, Contains-from_lookup}
 use Rattle.std.proofs.lemmas.Option.{same_Some, option_and_then_some}
 use Rattle.dtype_paths.proofs.lemmas.Beginnings.{begins_nil, beginning_refl, beginning_trans, beginning_both, either_begins}
-use Rattle.dtype_paths.proofs.lemmas.PathLists.{covers_member, least_covers}
+use Rattle.dtype_paths.proofs.lemmas.SetCovers.{covers_member, least_begins, least_word}
+use Rattle.dtype_paths.proofs.lemmas.SetMembers.{of_has, of_only}
 use Rattle.dtype_paths.specs.Beginning.{Beginning}
 use Rattle.dtype_base.specs.Distinct.{Distinct}
-use Rattle.dtype_paths.specs.Covering.{IsCountOf}
-use Rattle.dtype_paths.specs.private.PathLists.{Least, Begun}
+use Rattle.dtype_paths.specs.Covering.{IsCountOf, least}
+use Rattle.dtype_paths.specs.PathOrder.{PathSet, set_of}
+use Rattle.dtype_paths.specs.private.Reached.{IsBegun}
 use Rattle.dtype_paths.specs.Equality.{same_field}
 use Rattle.dtype_paths.specs.EqualityLaws.{same_field-Decides, same_field_equiv}
 use Rattle.dtype_paths.specs.declared.field.Field.{Field}
@@ -54,35 +57,42 @@ visited-root : (nodes : List Node) → IsVisited nodes []
 visited-root nodes = record { node = 0; at = refl; alone = λ l m b. begins_nil l b }
 
 module _ (nodes : List Node) (trie : IsTrie nodes) where
+  abbrev paths : PathSet
+  paths = set_of (terminals nodes)
+
   -- the least paths end in visited nodes
-  visited-least : (p : List Field) → Least (terminals nodes) p ↔ (IsVisited nodes p × Contains (terminals nodes) p)
+  visited-least : (p : List Field) → IsTrue (set.contains (least paths) p) ↔ (IsVisited nodes p × Contains (terminals nodes) p)
   visited-least p = (
-    λ l. let w = terminal-of nodes p l.member in (record { node = w.0; at = trie.ends_where_it_leads w.0 p w.1; alone = l.first }, l.member),
-    λ v. record { member = v.1; first = v.0.alone },
+    λ h.
+        let l = (least_word paths p).0 h in
+        let m = of_only (terminals nodes) p l.0 in
+        let w = terminal-of nodes p m in
+        (record { node = w.0; at = trie.ends_where_it_leads w.0 p w.1; alone = λ q c b. l.1 q (of_has (terminals nodes) q c) b }, m),
+    λ v. (least_word paths p).1 (of_has (terminals nodes) p v.1, λ q c b. v.0.alone q (of_only (terminals nodes) q c) b),
   )
 
   -- the others are on the way to these
-  visited-begun : (q : List Field) → IsVisited nodes q ↔ Begun (terminals nodes) q
+  visited-begun : (q : List Field) → IsVisited nodes q ↔ IsBegun paths q
   visited-begun q = (to q, ⊎_elim (λ e. subst (IsVisited nodes) (sym e) (visited-root nodes)) from)
     where
-      to : (q : List Field) → IsVisited nodes q → Begun (terminals nodes) q
+      to : (q : List Field) → IsVisited nodes q → IsBegun paths q
       to [] v = inl refl
       to (f ∷ q) v =
           let u = trie.used (f ∷ q) v.node v.at (λ z. let nil = trie.once (f ∷ q) [] v.node v.at (ap Some (sym z)) in cc) in
           let m = (f ∷ q) ++ u.1 in
-          let l = least_covers (terminals nodes) m (covers_member (terminals nodes) m (of-terminal nodes u.0 m u.2)) in
+          let l = least_begins paths m (covers_member paths m (of_has (terminals nodes) m (of-terminal nodes u.0 m u.2))) in
           inr (
             l.0,
             l.1,
-            ⊎_elim (λ b. b) (λ b. let is : l.0 ≡ f ∷ q = v.alone l.0 l.1.member b in subst (Beginning (f ∷ q)) (sym is) (beginning_refl (f ∷ q)))
+            ⊎_elim (λ b. b) (λ b. let is : l.0 ≡ f ∷ q = v.alone l.0 ((visited-least l.0).0 l.1).1 b in subst (Beginning (f ∷ q)) (sym is) (beginning_refl (f ∷ q)))
                 (either_begins (f ∷ q) l.0 m (u.1, refl) l.2),
           )
 
-      from : (p : List Field) × Least (terminals nodes) p × Beginning q p → IsVisited nodes q
+      from : (p : List Field) × IsTrue (set.contains (least paths) p) × Beginning q p → IsVisited nodes q
       from h =
           let v = ((visited-least h.0).0 h.1).0 in
           let w = walk-front (child_at nodes) 0 v.node q h.2.0 (subst (λ p. walk (child_at nodes) 0 p ≡ Some v.node) h.2.1 v.at) in
-          record { node = w.0; at = w.1; alone = λ l m b. beginning_both l q b (subst (Beginning q) (sym (h.1.first l m (beginning_trans l q h.0 b h.2))) h.2) }
+          record { node = w.0; at = w.1; alone = λ l m b. beginning_both l q b (subst (Beginning q) (sym (v.alone l m (beginning_trans l q h.0 b h.2))) h.2) }
 
   -- after a visited node where no path ends, each step leads to one
   visited-child : (s : List Field) (f : Field) (j : ℕ) → IsVisited nodes s → (Contains (terminals nodes) s → ⊥) → walk (child_at nodes) 0 (s ++ f ∷ []) ≡ Some j
@@ -329,7 +339,7 @@ module _ (nodes left : List Node) (found : List (List Field)) (visits : ℕ) (tr
       none [] e s c = contains-nil s c
       none (w ∷ ws) e s c = cc
 
-  pub visited-count : IsCountOf (Begun (terminals nodes)) visits
+  pub visited-count : IsCountOf (IsBegun (set_of (terminals nodes))) visits
   visited-count = record {
     paths = o.done;
     distinct = distinct-right o.waiting o.done o.distinct;
@@ -337,7 +347,7 @@ module _ (nodes left : List Node) (found : List (List Field)) (visits : ℕ) (tr
     count = sym o.count;
   }
 
-  pub found-least : (p : List Field) → Contains found p ↔ Least (terminals nodes) p
+  pub found-least : (p : List Field) → Contains found p ↔ IsTrue (set.contains (least (set_of (terminals nodes))) p)
   found-least p =
       let l = visited-least nodes trie p in
       (λ c. let w = (o.exact p).0 c in l.1 ((all_done p).0 w.0, w.1), λ m. let w = l.0 m in (o.exact p).1 ((all_done p).1 w.0, w.1))

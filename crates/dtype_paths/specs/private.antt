@@ -2,7 +2,6 @@
 -- SPDX-FileCopyrightText: Copyright the Vortex contributors
 
 -- How a set of paths is stored. Only private contracts cite these definitions, and no other crate does.
-pub mod PathLists
 pub mod StepKeys
 pub mod ChildLists
 pub mod ChildIters

@@ -18,14 +18,14 @@ use Rattle.dtype_paths.specs.PathOrder.{PathSet, path_cmp, set_of}
 use Rattle.dtype_paths.specs.PathOrderLaws.{path_cmp_total}
 use Rattle.dtype_paths.specs.declared.field.Field.{Field}
 use Rattle.dtype_paths.proofs.ListMembers.{contains-head}
-use Rattle.dtype_paths.proofs.lemmas.SetCovers.{least-Decides, least_one}
-use Rattle.dtype_paths.proofs.lemmas.SetMembers.{contains_empty, from_list-Decides, insert_has, items-Decides, of_has, one_only, same_by}
+use Rattle.dtype_paths.proofs.lemmas.SetCovers.{least_one, least_word}
+use Rattle.dtype_paths.proofs.lemmas.SetMembers.{contains_empty, from_list-Decides, insert_has, of_has, one_only, same_by}
 
 -- the least paths of the empty set are none
 pub least_none : least set.empty ≡ set.empty
-least_none = same_by _ _ (λ q. same_from_decides _ _ (least-Decides set.empty q) (
+least_none = same_by _ _ (λ q. same_from_decides _ _ (least_word set.empty q) (
   λ t. absurd (false≢true (sym (contains_empty q) ∙ t)),
-  λ l. (items-Decides set.empty q).1 l.member,
+  λ l. l.0,
 ))
 
 -- a list whose set is empty has no path

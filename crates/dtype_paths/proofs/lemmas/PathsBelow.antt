@@ -22,7 +22,7 @@ use Rattle.dtype_paths.specs.declared.field.Field.{Field}
 use Rattle.dtype_paths.specs.declared.field.Field.TheVariants.{Name}
 use Rattle.dtype_paths.specs.declared.field_path_cursor.FieldPathCursor.{FieldPathCursor}
 use Rattle.dtype_paths.proofs.lemmas.Cases.{by_bool}
-use Rattle.dtype_paths.proofs.lemmas.PathLists as lists
+use Rattle.dtype_paths.proofs.lemmas.PathLists.{any_from, some_member}
 use Rattle.dtype_paths.proofs.lemmas.SetCovers.{covers_word, root_covers}
 use Rattle.dtype_paths.proofs.lemmas.SetMembers.{contains_empty, items-Decides, same_by}
 
@@ -125,11 +125,11 @@ step_asked s f goes = by_bool (list_any (begins_with f) (set.items s)) found (λ
     at (g ∷ q) c t = (q, ap (λ x. set.contains s (x ∷ q)) ((same_field-Decides f g).0 t) ∙ (items-Decides s (g ∷ q)).1 c)
 
     found : list_any (begins_with f) (set.items s) ≡ true → (q : List Field) × IsTrue (set.contains s (f ∷ q))
-    found e = let w = lists.some_member (begins_with f) (set.items s) e in at w.0 w.1 w.2
+    found e = let w = some_member (begins_with f) (set.items s) e in at w.0 w.1 w.2
 
     nowhere : list_any (begins_with f) (set.items s) ≡ false → (q : List Field) → set.contains s (f ∷ q) ≡ false
     nowhere none q = by_bool (set.contains s (f ∷ q))
-        (λ h. absurd (false≢true (sym none ∙ lists.any_from (begins_with f) (f ∷ q) (set.items s) ((items-Decides s (f ∷ q)).0 h) ((same_field-Decides f f).1 refl))))
+        (λ h. absurd (false≢true (sym none ∙ any_from (begins_with f) (f ∷ q) (set.items s) ((items-Decides s (f ∷ q)).0 h) ((same_field-Decides f f).1 refl))))
         (λ h. h)
 
 pub asked_goes_on : (s : PathSet) (f : Field) (q : List Field) → (set.contains s (f ∷ q) ≡ set.contains s (f ∷ q)) × (IsTrue (set.contains s (f ∷ q)) → after_step f (set.contains s) ≡ no_path → ⊥)

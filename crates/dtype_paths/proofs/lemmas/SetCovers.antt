@@ -2,13 +2,13 @@
 -- SPDX-FileCopyrightText: Copyright the Vortex contributors
 
 -- Lemmas on what sets of paths cover, and on their least paths.
-use Rattle.std.specs.Prelude.{◌≡◌, ◌↔◌, ◌⊎◌, Bool, true, false, IsTrue, List, [], ◌∷◌, ◌++◌, not, ◌||◌, ◌&&◌, ◌<◌, ◌≤◌, ℕ, get_or, length, refl}
+use Rattle.std.specs.Prelude.{◌≡◌, ◌≢◌, ◌↔◌, ◌⊎◌, Bool, true, false, IsTrue, List, [], ◌∷◌, ◌++◌, not, ◌||◌, ◌&&◌, ◌<◌, ◌≤◌, ℕ, get_or, length, refl}
 use Rattle.std.specs.Bool.{Decides}
 use Rattle.std.specs.FinSet as set
 use Rattle.std.specs.List.{Any, Contains, list_any, starts_with}
-use Rattle.std.proofs.Common.{ap, inl, inr, sym, ◌∙◌, ⊎_elim}
-use Rattle.std.proofs.lemmas.Bool.{and_from, and_parts, false≢true, or_cases, or_left, or_right}
-use Rattle.std.proofs.lemmas.Bool.Decides.{same_from_decides}
+use Rattle.std.proofs.Common.{ap, arith, inl, inr, subst, suc, sym, zero, ◌∙◌, ⊎_elim}
+use Rattle.std.proofs.lemmas.Bool.{and_from, and_parts, false_from_ne_true, false≢true, not-true, not_from_false, or_cases, or_left, or_right}
+use Rattle.std.proofs.lemmas.Bool.Decides.{Decides-and, Decides-not, not_from_Decides, same_from_decides}
 use Rattle.std.proofs.lemmas.List.Folds.{Any-from_list_any, list_any-append, list_any-from_Any}
 use Rattle.std.proofs.lemmas.Map.Made.{is_member-Decides, IsDistinct-from_AllPairs, length-le_from_is_member}
 use Rattle.dtype_base.specs.Distinct.{Distinct}
@@ -16,35 +16,37 @@ use Rattle.dtype_paths.specs.Beginning.{Beginning}
 use Rattle.dtype_paths.specs.Covering.{SameCoverage, begins_below, covers, least}
 use Rattle.dtype_paths.specs.Equality.{same_field, same_path}
 use Rattle.dtype_paths.specs.EqualityLaws.{same_path-Decides, same_path_equiv}
-use Rattle.dtype_paths.specs.private.PathLists.{Covers, SameListCoverage, Least}
 use Rattle.dtype_paths.specs.Overlaps.{Overlaps}
 use Rattle.dtype_paths.specs.PathOrder.{PathSet, path_cmp}
 use Rattle.dtype_paths.specs.declared.field.Field.{Field}
-use Rattle.dtype_paths.proofs.lemmas.Beginnings.{either_begins, starts_with-Decides}
+use Rattle.dtype_paths.proofs.lemmas.Beginnings.{beginning_both, beginning_refl, beginning_shorter, beginning_trans, either_begins, starts_with-Decides}
 use Rattle.dtype_paths.proofs.lemmas.Cases.{by_bool}
-use Rattle.dtype_paths.proofs.lemmas.PathLists as lists
+use Rattle.dtype_paths.proofs.lemmas.PathLists.{any_from, some_member}
 use Rattle.dtype_paths.specs.PathOrderLaws.{same_tied}
-use Rattle.dtype_paths.proofs.lemmas.SetMembers.{contains_empty, contains_insert, from_list-Decides, insert_has, items-Decides, items_of_list, of_append, of_has_at, of_items, same_by}
+use Rattle.dtype_paths.proofs.lemmas.SetMembers.{contains_empty, from_list-Decides, insert_has, items-Decides, of_append, of_has_at, of_items, of_only, one_only, same_by}
 
 -- ---- what is covered
 
+-- whether one of the paths begins q, of a list with these members
+covered_by : (ps : List (List Field)) (q : List Field) (has : List Field → Bool) → ((p : List Field) → Decides (has p) (Contains ps p)) → Decides (list_any (λ p. starts_with same_field q p) ps) ((p : List Field) × IsTrue (has p) × Beginning p q)
+covered_by ps q has told = (
+  λ h. let w = some_member (λ p. starts_with same_field q p) ps h in (w.0, (told w.0).1 w.1, (starts_with-Decides w.0 q _ refl).0 w.2),
+  λ c. any_from (λ p. starts_with same_field q p) c.0 ps ((told c.0).0 c.1) ((starts_with-Decides c.0 q _ refl).1 c.2),
+)
+
+pub covers_word : (s : PathSet) (q : List Field) → IsTrue (covers s q) ↔ ((p : List Field) × IsTrue (set.contains s p) × Beginning p q)
+unfolding covers
+covers_word s q = covered_by (set.items s) q (set.contains s) (items-Decides s)
+
 -- told by any list with the members
 pub covers_of : (ps : List (List Field)) (q : List Field) → covers (set.from_list ps) q ≡ list_any (λ p. starts_with same_field q p) ps
-unfolding covers
-covers_of ps q =
-    let told = lists.covers_by_tests (set.items (set.from_list {R = path_cmp} ps)) ps q (covers (set.from_list ps) q) (lists.coverage_of_members _ ps (items_of_list ps)) refl in
-    let listed = lists.covers_by_tests ps ps q (list_any (λ p. starts_with same_field q p) ps) (lists.coverage_same ps) refl in
-    same_from_decides _ _ told listed
+covers_of ps q = same_from_decides _ _ (covers_word (set.from_list ps) q) (covered_by ps q (set.contains (set.from_list ps)) (from_list-Decides ps))
 
 pub covers_any : (ps : List (List Field)) (q : List Field) → IsTrue (covers (set.from_list ps) q) ↔ Any (λ p. IsTrue (starts_with same_field q p)) ps
 covers_any ps q = (
   λ h. Any-from_list_any (λ p. starts_with same_field q p) ps (sym (covers_of ps q) ∙ h),
   λ a. covers_of ps q ∙ list_any-from_Any (λ p. starts_with same_field q p) ps a,
 )
-
-pub covers-Decides : (s : PathSet) (q : List Field) → Decides (covers s q) (Covers (set.items s) q)
-unfolding covers
-covers-Decides s q = lists.covers_by_tests (set.items s) (set.items s) q (covers s q) (lists.coverage_same (set.items s)) refl
 
 pub covers_none : (q : List Field) → covers set.empty q ≡ false
 covers_none q = covers_of [] q
@@ -83,13 +85,16 @@ covers_right s t q h = covers_union s t q ∙ or_right (covers s q) (covers t q)
 
 -- members are covered, and what is below
 pub covers_member : (s : PathSet) (p : List Field) → set.contains s p ≡ true → covers s p ≡ true
-covers_member s p h = (covers-Decides s p).1 (lists.covers_member (set.items s) p ((items-Decides s p).0 h))
+covers_member s p h = (covers_word s p).1 (p, h, beginning_refl p)
 
 pub of_covers_at : (ps : List (List Field)) (q : List Field) (k : ℕ) → get_or ps k q ≡ q → k < length ps → covers (set.from_list ps) q ≡ true
 of_covers_at ps q k e l = covers_member (set.from_list ps) q (of_has_at ps q k e l)
 
+covers_under : (s : PathSet) (p q : List Field) → covers s p ≡ true → Beginning p q → covers s q ≡ true
+covers_under s p q h b = let c = (covers_word s p).0 h in (covers_word s q).1 (c.0, c.1, beginning_trans c.0 p q c.2 b)
+
 pub covers_below : (s : PathSet) (p rest : List Field) → covers s p ≡ true → covers s (p ++ rest) ≡ true
-covers_below s p rest h = (covers-Decides s (p ++ rest)).1 (lists.covers_further (set.items s) p rest ((covers-Decides s p).0 h))
+covers_below s p rest h = covers_under s p (p ++ rest) h (rest, refl)
 
 pub insert_covers : (s : PathSet) (p q : List Field) → covers s q ≡ true → covers (set.insert s p) q ≡ true
 insert_covers s p q h = covers_insert s p q ∙ or_right (starts_with same_field q p) (covers s q) h
@@ -99,37 +104,66 @@ insert_covers_below s p rest = covers_below (set.insert s p) p rest (covers_memb
 
 -- ---- the least paths
 
-pub least-Decides : (s : PathSet) (p : List Field) → Decides (set.contains (least s) p) (Least (set.items s) p)
+least_test : (s : PathSet) (p : List Field) → set.contains (least s) p ≡ (set.contains s p && not (list_any (λ q. begins_below q p) (set.items s)))
 unfolding least
-least-Decides s p =
+least_test s p =
     let test : List Field → Bool = λ x. not (list_any (λ q. begins_below q x) (set.items s)) in
-    let e : set.contains (least s) p ≡ (set.contains s p && test p) = set.contains-retain s test p (λ x t. ap test (sym (same_tied p x t))) in (
-      λ t. let parts = and_parts (set.contains s p) (test p) (sym e ∙ t) in lists.least_from_test (set.items s) p ((items-Decides s p).0 parts.0) parts.1,
-      λ l. e ∙ and_from (set.contains s p) (test p) ((items-Decides s p).1 l.member) (lists.test_from_least (set.items s) p l),
+    set.contains-retain s test p (λ x t. ap test (sym (same_tied p x t)))
+
+below-Decides : (q p : List Field) → Decides (begins_below q p) (Beginning q p × (q ≢ p))
+below-Decides q p = Decides-and _ _ (starts_with-Decides q p _ refl) (Decides-not _ (same_path-Decides q p))
+
+pub least_word : (s : PathSet) (p : List Field) → IsTrue (set.contains (least s) p) ↔ (IsTrue (set.contains s p) × ((q : List Field) → IsTrue (set.contains s q) → Beginning q p → q ≡ p))
+least_word s p =
+    let test = λ (q : List Field). begins_below q p in (
+      λ h.
+          let parts = and_parts (set.contains s p) (not (list_any test (set.items s))) (sym (least_test s p) ∙ h) in
+          (parts.0, λ q c b. by_bool (same_path q p) (same_path-Decides q p).0 (λ other. absurd (false≢true (
+          sym (not-true _ parts.1) ∙ any_from test q (set.items s) ((items-Decides s q).0 c) ((below-Decides q p).1 (b, not_from_Decides _ (same_path-Decides q p) other))
+          )))),
+      λ l. least_test s p ∙ and_from (set.contains s p) (not (list_any test (set.items s))) l.0 (not_from_false _ (false_from_ne_true _ (λ some.
+          let w = some_member test (set.items s) some in
+          let below = (below-Decides w.0 p).0 w.2 in
+          below.1 (l.1 w.0 ((items-Decides s w.0).1 w.1) below.0)))),
     )
 
-coverage_items : (s t : PathSet) → ((q : List Field) → covers s q ≡ covers t q) → SameListCoverage (set.items s) (set.items t)
-coverage_items s t same = record {
-  same = λ q. (
-    λ c. (covers-Decides t q).0 (sym (same q) ∙ (covers-Decides s q).1 c),
-    λ c. (covers-Decides s q).0 (same q ∙ (covers-Decides t q).1 c),
-  );
-}
+-- a member is begun by a least path: itself, or one that begins a shorter member
+descend : (n : ℕ) (s : PathSet) (p : List Field) → length p < n → set.contains s p ≡ true → (r : List Field) × IsTrue (set.contains (least s) r) × Beginning r p
+descend zero s p short c = absurd (omega (arith, short))
+descend (suc n) s p short c =
+    by_bool (list_any (λ q. begins_below q p) (set.items s))
+    (λ some.
+    let w = some_member (λ q. begins_below q p) (set.items s) some in
+    let below = (below-Decides w.0 p).0 w.2 in
+    let other = false_from_ne_true _ (λ e. below.1 ((same_path-Decides w.0 p).0 e)) in
+    let r = descend n s w.0 (omega (arith, short, beginning_shorter w.0 p below.0 other)) ((items-Decides s w.0).1 w.1) in
+    (r.0, r.1, beginning_trans r.0 w.0 p r.2 below.0))
+    (λ none. (p, least_test s p ∙ and_from _ _ c (not_from_false _ none), beginning_refl p))
+
+pub least_begins : (s : PathSet) (q : List Field) → IsTrue (covers s q) → (p : List Field) × IsTrue (set.contains (least s) p) × Beginning p q
+least_begins s q h =
+    let c = (covers_word s q).0 h in
+    let r = descend (suc (length c.0)) s c.0 (omega arith) c.1 in
+    (r.0, r.1, beginning_trans r.0 c.0 q r.2 c.2)
+
+pub covers_least : (s : PathSet) (q : List Field) → covers (least s) q ≡ covers s q
+covers_least s q = same_from_decides _ _ (covers_word (least s) q) (
+  least_begins s q,
+  λ c. (covers_word s q).1 (c.0, ((least_word s c.0).0 c.1).0, c.2),
+)
+
+-- a least path is least in each set that covers the same
+least_along : (s t : PathSet) → SameCoverage s t → (p : List Field) → IsTrue (set.contains (least s) p) → IsTrue (set.contains (least t) p)
+least_along s t same p h =
+    let l = (least_word s p).0 h in
+    let r = least_begins t p (sym (same p) ∙ covers_member s p l.0) in
+    let u = (covers_word s r.0).0 (same r.0 ∙ covers_member t r.0 ((least_word t r.0).0 r.1).0) in
+    let is = l.1 u.0 u.1 (beginning_trans u.0 r.0 p u.2 r.2) in
+    subst (λ q. IsTrue (set.contains (least t) q)) (beginning_both r.0 p r.2 (subst (λ q. Beginning q r.0) is u.2)) r.1
 
 -- sets that cover the same have the same least paths, and the converse
 pub least_same : (s t : PathSet) → ((q : List Field) → covers s q ≡ covers t q) → least s ≡ least t
-least_same s t same = same_by _ _ (λ p.
-    let l = (lists.least_tells (set.items s) (set.items t)).1 (coverage_items s t same) p in
-    same_from_decides _ _ (least-Decides s p) (λ c. l.1 ((least-Decides t p).0 c), λ m. (least-Decides t p).1 (l.0 m)))
-
-pub covers_least : (s : PathSet) (q : List Field) → covers (least s) q ≡ covers s q
-covers_least s q =
-    let given : (p : List Field) → Contains (set.items (least s)) p ↔ Least (set.items s) p = λ p. (
-      λ c. (least-Decides s p).0 ((items-Decides (least s) p).1 c),
-      λ l. (items-Decides (least s) p).0 ((least-Decides s p).1 l),
-    ) in
-    let alike = lists.coverage_of_cover (set.items (least s)) (set.items s) given in
-    same_from_decides _ _ (covers-Decides (least s) q) (λ t. (alike.same q).1 ((covers-Decides s q).0 t), λ c. (covers-Decides s q).1 ((alike.same q).0 c))
+least_same s t same = same_by _ _ (λ p. same_from_decides _ _ (least_along s t same p, least_along t s (λ q. sym (same q)) p) (λ h. h, λ h. h))
 
 pub least_tells_coverage : (s t : PathSet) → least s ≡ least t → (q : List Field) → covers s q ≡ covers t q
 least_tells_coverage s t same q = sym (covers_least s q) ∙ ap (λ x. covers x q) same ∙ covers_least t q
@@ -157,7 +191,7 @@ least_covered s p h = least_same _ _ (λ q.
     ∙ by_bool (starts_with same_field q p)
     (λ e.
     let b = (starts_with-Decides p q _ refl).0 e in
-    ap (λ x. x || covers s q) e ∙ sym ((covers-Decides s q).1 (lists.covers_below (set.items s) p q ((covers-Decides s p).0 h) b)))
+    ap (λ x. x || covers s q) e ∙ sym (covers_under s p q h b))
     (λ e. rw e refl))
 
 -- nor does one below a path that is in
@@ -166,22 +200,14 @@ least_below s p q b = least_covered (set.insert s p) q (ap (covers (set.insert s
 
 -- one path is its own cover
 pub least_one : (p : List Field) → least (set.insert set.empty p) ≡ set.insert set.empty p
-least_one p =
-    let s : PathSet = set.insert set.empty p in
-    let only : (r : List Field) → Contains (set.items s) r → r ≡ p = λ r c.
-    ⊎_elim
-    (λ e. (same_path-Decides r p).0 e)
-    (λ e. let no = contains_empty r in absurd (cc))
-    (or_cases (same_path r p) (set.contains set.empty r) (sym (contains_insert set.empty p r) ∙ (items-Decides s r).1 c)) in
-    same_by _ _ (λ q.
-    same_from_decides _ _ (least-Decides s q) (
-      λ t. record { member = (items-Decides s q).0 t; first = λ r c b. only r c ∙ sym (only q ((items-Decides s q).0 t)) },
-      λ l. (items-Decides s q).1 l.member,
-    ))
+least_one p = same_by _ _ (λ q. same_from_decides _ _ (least_word (set.insert set.empty p) q) (
+  λ h. (h, λ r c b. one_only p r c ∙ sym (one_only p q h)),
+  λ l. l.0,
+))
 
 -- the least paths are in each set that covers the same
 pub least_in : (s t : PathSet) (p : List Field) → least s ≡ least t → set.contains (least s) p ≡ true → set.contains t p ≡ true
-least_in s t p same h = (items-Decides t p).1 ((least-Decides t p).0 (ap (λ x. set.contains x p) (sym same) ∙ h)).member
+least_in s t p same h = ((least_word t p).0 (ap (λ x. set.contains x p) (sym same) ∙ h)).0
 
 -- of a list whose set is the least, that set covers the same, and each path is in every list that covers the same
 pub same_coverage : (cover : List (List Field)) (s : PathSet) → set.from_list cover ≡ least s → SameCoverage (set.from_list cover) s
@@ -195,16 +221,7 @@ cover_within cover ps s is alike p c =
 pub fewest : (xs ys : List (List Field)) → Distinct xs → set.from_list {R = path_cmp} xs ≡ least (set.from_list ys) → length xs ≤ length ys
 fewest xs ys distinct is = length-le_from_is_member same_path_equiv xs ys (IsDistinct-from_AllPairs same_path-Decides xs distinct) (λ q m.
     let c = (from_list-Decides xs q).1 ((is_member-Decides same_path-Decides xs q).0 m) in
-    let l = (least-Decides (set.from_list ys) q).0 (ap (λ s. set.contains s q) (sym is) ∙ c) in
-    (is_member-Decides same_path-Decides ys q).1 (((items_of_list ys).same q).0 l.member))
-
--- ---- the tests as relations
-
-pub covers_word : (s : PathSet) (q : List Field) → IsTrue (covers s q) ↔ ((p : List Field) × IsTrue (set.contains s p) × Beginning p q)
-covers_word s q = (
-  λ h. let c = (covers-Decides s q).0 h in (c.path, (items-Decides s c.path).1 c.member, c.begins),
-  λ c. (covers-Decides s q).1 (record { path = c.0; member = (items-Decides s c.0).0 c.1; begins = c.2 }),
-)
+    (is_member-Decides same_path-Decides ys q).1 (of_only ys q ((least_word (set.from_list ys) q).0 (ap (λ s. set.contains s q) (sym is) ∙ c)).0))
 
 -- the root covers every path
 pub root_covers : (s : PathSet) (q : List Field) → set.contains s [] ≡ true → covers s q ≡ true
@@ -223,15 +240,6 @@ pub least_empty : (s : PathSet) → least s ≡ set.empty → s ≡ set.empty
 least_empty s e = same_by s set.empty (λ q. by_bool (set.contains s q)
     (λ h. absurd (false≢true (sym (covers_none q) ∙ ap (λ t. covers t q) (sym e) ∙ covers_least s q ∙ covers_member s q h)))
     (λ h. h ∙ sym (contains_empty q)))
-
-pub least_word : (s : PathSet) (p : List Field) → IsTrue (set.contains (least s) p) ↔ (IsTrue (set.contains s p) × ((q : List Field) → IsTrue (set.contains s q) → Beginning q p → q ≡ p))
-least_word s p = (
-  λ h. let l = (least-Decides s p).0 h in ((items-Decides s p).1 l.member, λ q c b. l.first q ((items-Decides s q).0 c) b),
-  λ l. (least-Decides s p).1 (record { member = (items-Decides s p).0 l.0; first = λ q c b. l.1 q ((items-Decides s q).1 c) b }),
-)
-
-pub least_begins : (s : PathSet) (q : List Field) → IsTrue (covers s q) → (p : List Field) × IsTrue (set.contains (least s) p) × Beginning p q
-least_begins s q h = (covers_word (least s) q).0 (covers_least s q ∙ h)
 
 pub least_begins_once : (s : PathSet) (p r q : List Field) → IsTrue (set.contains (least s) p) → IsTrue (set.contains (least s) r) → Beginning p q → Beginning r q → p ≡ r
 least_begins_once s p r q hp hr bp br =

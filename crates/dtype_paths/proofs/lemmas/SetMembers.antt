@@ -15,7 +15,6 @@ use Rattle.std.proofs.lemmas.List.Folds.{list_any-append}
 use Rattle.std.proofs.lemmas.Map.Made.{is_member-Decides}
 use Rattle.dtype_paths.specs.Equality.{same_path}
 use Rattle.dtype_paths.specs.EqualityLaws.{same_path-Decides}
-use Rattle.dtype_paths.specs.private.PathLists.{SameMembers}
 use Rattle.dtype_paths.specs.PathOrder.{PathSet, path_cmp}
 use Rattle.dtype_paths.specs.declared.field.Field.{Field}
 use Rattle.dtype_paths.proofs.lemmas.Cases.{by_bool}
@@ -42,19 +41,6 @@ same_lists ps qs same = set.same_set path_cmp_total same_tied _ _ (λ q.
 -- a set is made of its items
 pub of_items : (s : PathSet) → s ≡ set.from_list (set.items s)
 of_items s = set.same_set path_cmp_total same_tied s _ (λ q. same_from_decides _ _ (items-Decides s q) (from_list-Decides (set.items s) q))
-
--- the items of a list's set are the list's
-pub items_of_list : (ps : List (List Field)) → SameMembers (set.items (set.from_list {R = path_cmp} ps)) ps
-items_of_list ps = record {
-  same = λ q. (
-    λ c. (from_list-Decides ps q).0 ((items-Decides _ q).1 c),
-    λ c. (items-Decides _ q).0 ((from_list-Decides ps q).1 c),
-  );
-}
-
--- a list with one path more has a set with it inserted
-pub inserted : (old new : List (List Field)) (p : List Field) → SameMembers new (p ∷ old) → set.from_list {R = path_cmp} new ≡ set.insert (set.from_list old) p
-inserted old new p s = same_lists new (p ∷ old) s.same
 
 pub same_by : (s t : PathSet) → ((q : List Field) → set.contains s q ≡ set.contains t q) → s ≡ t
 same_by = set.same_set path_cmp_total same_tied

@@ -4,7 +4,7 @@
 use Rattle.std.proofs.Common.{subst}
 use Rattle.dtype_paths.specs.Covering.{IsCountOf}
 use Rattle.dtype_paths.specs.PathOrder.{PathSet}
-use Rattle.dtype_paths.specs.private.PathLists.{IsBegun}
+use Rattle.dtype_paths.specs.private.Reached.{IsBegun}
 use Rattle.dtype_paths.proofs.field_path_set.FieldPathSet.into_iter_counted.Goals as goal
 
 pub returns-clause-visits : goal.returns-clause-visits

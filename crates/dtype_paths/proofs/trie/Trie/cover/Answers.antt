@@ -1,18 +1,20 @@
 -- SPDX-License-Identifier: Apache-2.0
 -- SPDX-FileCopyrightText: Copyright the Vortex contributors
 
-use Rattle.std.proofs.Common.{[], ◌∷◌, ◌+◌, ◌-◌, ◌<◌, ◌++◌, ◌≡◌, ◌↔◌, ◌∙◌, List, arith, length, sym, subst}
+use Rattle.std.proofs.Common.{[], ◌∷◌, ◌+◌, ◌-◌, ◌<◌, ◌++◌, ◌≡◌, ◌↔◌, ◌∙◌, IsTrue, List, arith, length, sym, subst}
+use Rattle.std.specs.FinSet as set
 use Rattle.std.specs.List.{Contains}
+use Rattle.std.proofs.lemmas.Bool.Decides.{same_from_decides}
 use Rattle.std.proofs.lemmas.List.{nil_from_length}
 use Rattle.std.proofs.lemmas.Option.{MatchOption-at_none}
 use Rattle.dtype_paths.specs.private.Children.{nodes_by_step}
-use Rattle.dtype_paths.specs.Covering.{IsCountOf}
+use Rattle.dtype_paths.specs.Covering.{IsCountOf, least}
 use Rattle.dtype_paths.specs.declared.field.Field.{Field}
-use Rattle.dtype_paths.specs.private.PathLists.{Begun, Least}
+use Rattle.dtype_paths.specs.PathOrder.{set_of}
+use Rattle.dtype_paths.specs.private.Reached.{IsBegun}
 use Rattle.dtype_paths.specs.private.Trie.{terminals, IsTrie}
-use Rattle.dtype_paths.proofs.lemmas.Counts.{none_listed}
+use Rattle.dtype_paths.proofs.lemmas.SetMembers.{from_list-Decides, same_by}
 use Rattle.dtype_paths.proofs.BegunBounds.{begun_some, begun_none, begun_at_most}
-use Rattle.dtype_paths.proofs.SetBridges.{begun_is, cover_is}
 use Rattle.dtype_paths.proofs.Visiting.{Visits, visits-start, visits-counts, visits-within, visited-terminal, visited-children, visited-count, found-least}
 use Rattle.dtype_paths.proofs.trie.Trie.cover.Goals as goal
 use Rattle.dtype_paths.proofs.trie.Trie.cover.Goals.{After-open-terminal, In_default}
@@ -70,29 +72,31 @@ ended c =
     let nil : c.loop-node_index.node_indices.items ≡ [] = nil_from_length c.loop-node_index.node_indices.items (omega arith) in
     rw nil at c.loop-node_index.invariant
 
-count : (c : In_default) → IsCountOf (Begun (terminals c.args.self)) c.loop-node_index.visits
+count : (c : In_default) → IsCountOf (IsBegun (set_of (terminals c.args.self))) c.loop-node_index.visits
 count c = visited-count c.args.self c.loop-node_index.nodes c.loop-node_index.found.items c.loop-node_index.visits (subst IsTrie c.self.view_is c.self.invariant) (ended c)
 
-least : (c : In_default) → (p : List Field) → Contains c.loop-node_index.found.items p ↔ Least (terminals c.args.self) p
-least c = found-least c.args.self c.loop-node_index.nodes c.loop-node_index.found.items c.loop-node_index.visits (subst IsTrie c.self.view_is c.self.invariant) (ended c)
+given : (c : In_default) → (p : List Field) → Contains c.loop-node_index.found.items p ↔ IsTrue (set.contains (least (set_of (terminals c.args.self))) p)
+given c = found-least c.args.self c.loop-node_index.nodes c.loop-node_index.found.items c.loop-node_index.visits (subst IsTrie c.self.view_is c.self.invariant) (ended c)
 
 pub returns-clause-ok : goal.returns-clause-ok
-returns-clause-ok c = cover_is c.loop-node_index.found.items (terminals c.args.self) (least (goal.at.returns-clause-ok c).In_default)
+returns-clause-ok c = same_by _ _ (λ q.
+    let g = given (goal.at.returns-clause-ok c).In_default q in
+    same_from_decides _ _ (from_list-Decides c.loop-node_index.found.items q) (g.1, g.0))
 
 pub returns-clause-once : goal.returns-clause-once
 returns-clause-once c = (ended (goal.at.returns-clause-once c).In_default).once
 
 pub returns-clause-visits : goal.returns-clause-visits
-returns-clause-visits c = begun_is (terminals c.args.self) c.loop-node_index.visits (count (goal.at.returns-clause-visits c).In_default)
+returns-clause-visits c = count (goal.at.returns-clause-visits c).In_default
 
 pub returns-clause-some : goal.returns-clause-some
-returns-clause-some c = begun_some (terminals c.args.self) c.loop-node_index.visits (count (goal.at.returns-clause-some c).In_default)
+returns-clause-some c = begun_some (set_of (terminals c.args.self)) c.loop-node_index.visits (count (goal.at.returns-clause-some c).In_default)
 
 pub returns-clause-root_alone : goal.returns-clause-root_alone
 returns-clause-root_alone c = λ none.
-    begun_none (terminals c.args.self) c.loop-node_index.visits (none_listed (terminals c.args.self) none) (count (goal.at.returns-clause-root_alone c).In_default)
+    begun_none (set_of (terminals c.args.self)) c.loop-node_index.visits none (count (goal.at.returns-clause-root_alone c).In_default)
 
 pub returns-clause-at_most : goal.returns-clause-at_most
 returns-clause-at_most c =
-    begun_at_most (terminals c.args.self) c.loop-node_index.found.items c.loop-node_index.visits (count (goal.at.returns-clause-at_most c).In_default)
-    (λ p m. (least (goal.at.returns-clause-at_most c).In_default p).1 m)
+    begun_at_most (set_of (terminals c.args.self)) c.loop-node_index.found.items c.loop-node_index.visits (count (goal.at.returns-clause-at_most c).In_default)
+    (λ p m. (given (goal.at.returns-clause-at_most c).In_default p).1 m)

@@ -2,8 +2,7 @@
 -- SPDX-FileCopyrightText: Copyright the Vortex contributors
 
 use Rattle.std.proofs.Common.{◌≡◌, Some}
-use Rattle.dtype_paths.specs.private.Trie.{child_at, terminals, walk, IsPrefixMatch}
-use Rattle.dtype_paths.proofs.lemmas.SetMembers.{inserted}
+use Rattle.dtype_paths.specs.private.Trie.{child_at, walk, IsPrefixMatch}
 use Rattle.dtype_paths.proofs.NodeGrowth.{terminals-finished, grown-gains, nodes-finished, nodes-grown}
 use Rattle.dtype_paths.proofs.NodeIndices.{gains}
 use Rattle.dtype_paths.proofs.trie.Trie.insert.Goals as goal
@@ -21,7 +20,7 @@ pub returns-in-Whole-clause-inserted : goal.returns-in-Whole-clause-inserted
 returns-in-Whole-clause-inserted c =
     let old = c.self.inside.nodes in let new = c.set_terminal.new.self in let path = c.args.path in let here = c.in-Whole.node_index in
     let e = c.set_terminal.ensures in let same : old ≡ c.args.self.now = c.self.view_is in
-    rw (← same) (inserted (terminals old) (terminals new) path (gains old new here path (terminals-finished old new path here c.self.invariant (whole c) e.long e.steps e.terminals)))
+    rw (← same) (gains old new here path (terminals-finished old new path here c.self.invariant (whole c) e.long e.steps e.terminals))
 
 pub invariant_of-self-in-Ok : goal.invariant_of-self-in-Ok
 invariant_of-self-in-Ok c =
@@ -33,4 +32,4 @@ pub returns-in-Ok-clause-inserted : goal.returns-in-Ok-clause-inserted
 returns-in-Ok-clause-inserted c =
     let old = c.self.inside.nodes in let new = c.append_branch.new.self in let m = c.in-Prefix.prefix in let same : old ≡ c.args.self.now = c.self.view_is in
     let there : IsPrefixMatch old c.args.path m = rw (← same, c.parts.ensures) at c.in-Prefix.ensures in
-    rw (← same) (inserted (terminals old) (terminals new) c.args.path (grown-gains old new c.args.path m c.self.invariant there c.in-Ok.ensures.branch))
+    rw (← same) (grown-gains old new c.args.path m c.self.invariant there c.in-Ok.ensures.branch)

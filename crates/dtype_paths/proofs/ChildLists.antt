@@ -73,5 +73,5 @@ more-children cs c h k none =
     (All-append HasStepKey cs (c ∷ []) h.0 one, rw (map-append entry cs (c ∷ [])) (distinct-more (entries cs) c.step c.node_index none h.1))
 
 -- the invariant of the empty list
-pub no-children : (All HasStepKey []) × IsDistinct same_field (keys_of (entries []))
-no-children = (λ i d lt. absurd (omega (arith, lt)), IsDistinct-nil same_field)
+pub no_children : (All HasStepKey []) × IsDistinct same_field (keys_of (entries []))
+no_children = (λ i d lt. absurd (omega (arith, lt)), IsDistinct-nil same_field)

@@ -96,13 +96,14 @@ looked_up by_key by_step s t is f o e = (λ i. option_or (e i) (by_order f by_st
 taken_by : (by_key : List (ℕ × (Field × ℕ))) (f : Field) → IsTaken by_key f → led_by f (at_key by_key (step_key f)) ≡ None
 taken_by by_key f t = ap (led_by f) t.1 ∙ rw t.2 refl
 
-pub distinct_steps : (by_key : List (ℕ × (Field × ℕ))) (by_step : List (Field × ℕ)) → IsChildTree by_key by_step → IsDistinct same_field (keys_of (steps_in by_key by_step))
-distinct_steps by_key by_step t =
+pub distinct_steps : (by_key : List (ℕ × (Field × ℕ))) (by_step s : List (Field × ℕ)) → IsChildTree by_key by_step → steps_in by_key by_step ≡ s → IsDistinct same_field (keys_of s)
+distinct_steps by_key by_step s t is =
     let keys = keys_distinct by_key by_step t in
+    subst (λ es. IsDistinct same_field (keys_of es)) is (
     distinct-append (values_of by_key) by_step
     (distinct-keyed by_key keys t.keyed)
     (subst (λ eq. IsDistinct eq (keys_of by_step)) (λ i f g. sym (field_ties f g) i) (IsDistinct-from_sorted field_cmp (keys_of by_step) t.steps))
-    (λ f i e. lookup-keyed by_key keys t.keyed f ∙ taken_by by_key f (t.taken f i e))
+    (λ f i e. lookup-keyed by_key keys t.keyed f ∙ taken_by by_key f (t.taken f i e)))
 
 -- ---- one step more
 

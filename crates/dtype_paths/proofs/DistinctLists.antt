@@ -20,6 +20,8 @@ IsDistinct-nil eq = tt
 pub IsDistinct-one : {A : Type 0} (eq : A → A → Bool) (x : A) → IsDistinct eq (x ∷ [])
 IsDistinct-one eq x = IsDistinct-cons eq x [] tt (IsDistinct-nil eq)
 
+pub ruleset none_or_one = (IsDistinct-nil, IsDistinct-one)
+
 module _ {A : Type 0} where
   pub distinct-nil : (xs : List A) → xs ≡ [] → Distinct xs
   distinct-nil [] e = λ i j d lt in_list. absurd (omega (arith, in_list))

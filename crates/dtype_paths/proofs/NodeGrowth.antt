@@ -139,8 +139,8 @@ module _ (old new : List Node) (path : List Field) (m : PrefixMatch) (trie : IsT
 
 -- ---- the root alone
 
-pub root-alone : (nodes : List Node) → length nodes ≡ 1 → terminal_at nodes 0 ≡ None → ((f : Field) → child_at nodes 0 f ≡ None) → IsTrie nodes
-root-alone nodes one terminal steps = subst (IsTrieBy (child_at nodes) (terminal_at nodes)) (sym one) (trie-root (child_at nodes) (terminal_at nodes) steps none)
+pub root_alone : (nodes : List Node) → length nodes ≡ 1 → terminal_at nodes 0 ≡ None → ((f : Field) → child_at nodes 0 f ≡ None) → IsTrie nodes
+root_alone nodes one terminal steps = subst (IsTrieBy (child_at nodes) (terminal_at nodes)) (sym one) (trie-root (child_at nodes) (terminal_at nodes) steps none)
   where
     none : (i : ℕ) → terminal_at nodes i ≡ None
     none zero = terminal

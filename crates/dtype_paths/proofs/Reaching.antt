@@ -28,8 +28,8 @@ pub root-reached : (nodes : List Node) → IsReached nodes 0
 root-reached nodes = ∣ ([], refl) ∣₁
 
 module _ (nodes : List Node) (t : IsTrie nodes) where
-  pub reached-inside : (i : ℕ) → IsReached nodes i → i < length nodes
-  reached-inside i r = ∥∥₁_elim r le_prop (λ s. t.inside s.0 i s.1)
+  pub reached_inside : (i : ℕ) → IsReached nodes i → i < length nodes
+  reached_inside i r = ∥∥₁_elim r le_prop (λ s. t.inside s.0 i s.1)
 
   pub child-reached : (i j : ℕ) (f : Field) → IsReached nodes i → child_at nodes i f ≡ Some j → IsReached nodes j
   child-reached i j f r e = ∥∥₁_map r (λ s. (s.0 ++ f ∷ [], walk-snoc (child_at nodes) i j s.0 f s.1 e))

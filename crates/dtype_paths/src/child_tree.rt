@@ -70,6 +70,7 @@ impl ChildTree {
     }
 
     // How many children there are.
+    #[tactic(auto, using(crate::proofs::ChildTrees::distinct_steps))]
     pub(crate) fn len(&self) -> usize
         ensures count { result ≡ length self.now }
         ensures once { IsDistinct same_field (keys_of self.now) }
@@ -99,6 +100,7 @@ impl ChildTree {
     }
 
     // An iterator over the children.
+    #[tactic(auto, using(crate::proofs::ChildTrees::distinct_steps))]
     pub(crate) fn iter(&self) -> ChildTreeIter<'_>
         ensures children { result ≡ self.now }
         ensures once { IsDistinct same_field (keys_of self.now) }
@@ -110,6 +112,7 @@ impl ChildTree {
     }
 
     // Appends the node indices of the children.
+    #[tactic(auto, using(crate::proofs::ChildTrees::distinct_steps))]
     pub(crate) fn push_node_indices(&self, node_indices: &mut Vec<usize>) -> VortexResult<()>
         ensures pushed { OnOk result (node_indices.new.items ≡ node_indices.old.items ++ values_of self.now) }
         ensures once { IsDistinct same_field (keys_of self.now) }

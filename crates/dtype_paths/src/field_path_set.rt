@@ -174,6 +174,7 @@ impl FieldPathSet {
     /// # Errors
     ///
     /// - `OutOfMemory` (0): an allocation fails.
+    #[tactic(auto, using(crate::proofs::lemmas::SetCovers::same_coverage))]
     pub fn into_iter(self) -> VortexResult<vec::IntoIter<FieldPath>>
         ensures ok { Makes result (λ r. set_of (into_iter_items r) ≡ least self) }
         ensures once { IfOk result (λ r. Distinct (into_iter_items r)) }

@@ -47,6 +47,7 @@ pub fn a_path_leads_to_a_valid_type()
 /// the one made around it. What is made around a value of that type is always a value of the whole, and what lies along
 /// the path is always of that type; through a size 0 a value of the type may lie in no value of the whole. Where there
 /// is no type at a path, and no prefix of it leads to an extension, nothing lies along it in any value.
+#[tactic(auto, using(crate::proofs::Exact::exact, crate::proofs::Exact::around_of, crate::proofs::Exact::found_around, crate::proofs::Exact::found_in_of))]
 pub fn resolution_is_exact_for_values()
     ensures given { (t u : Tree) (p : List Field) → (along t p ≡ Some u) ↔ At t p u }
     ensures exact { (t : Tree) (p : List Field) (u : Tree) (v : Value) → Valid t → CrossesNoSizeZero t p
@@ -65,6 +66,7 @@ pub fn resolution_is_exact_for_values()
 /// Where the path steps through no fixed-size list of size 0 and no prefix of it leads to an extension, the path
 /// exists exactly where some value has something along it. Where a type is at the path, some value has something along
 /// it.
+#[tactic(auto, using(crate::proofs::Exact::exists_where_found, crate::proofs::Exact::some_found))]
 pub fn a_type_is_given_exactly_where_something_is_found()
     ensures exists { (t : Tree) (p : List Field) → Valid t → CrossesNoSizeZero t p → CrossesNoExtension t p
         → (ExistsIn t p ↔ ((v : Value) × FoundIn t p v)) }
@@ -98,6 +100,7 @@ pub fn equality_agrees_with_hash()
 
 /// A set covers a path exactly where a member is a prefix of it; its least members are those of which no other member is
 /// a prefix.
+#[tactic(auto, using(crate::proofs::lemmas::SetCovers::covers_word, crate::proofs::lemmas::SetCovers::least_word))]
 pub fn what_covers_and_least_say()
     ensures covers { (s : PathSet) (q : List Field) → IsTrue (covers s q)
         ↔ ((p : List Field) × IsTrue (set.contains s p) × Beginning p q) }
@@ -113,12 +116,14 @@ pub fn what_unresolved_says()
 {}
 
 /// Two sets have the same least paths exactly where they cover the same.
+#[tactic(auto, using(crate::proofs::lemmas::SetCovers::least_tells_coverage, crate::proofs::lemmas::SetCovers::least_same))]
 pub fn least_paths_tell_the_coverage()
     ensures { (s t : PathSet) → (least s ≡ least t) ↔ SameCoverage s t }
 {}
 
 /// The least paths of a set cover what it covers, are their own least paths, and are members of each set that
 /// covers the same.
+#[tactic(auto, using(crate::proofs::lemmas::SetCovers::covers_least, crate::proofs::lemmas::SetCovers::least_least, crate::proofs::lemmas::SetCovers::least_in))]
 pub fn a_cover_is_its_own_cover()
     ensures coverage { (s : PathSet) → SameCoverage (least s) s }
     ensures least { (s : PathSet) → least (least s) ≡ least s }
@@ -127,6 +132,7 @@ pub fn a_cover_is_its_own_cover()
 {}
 
 /// Exactly one of the least paths is a prefix of a covered path.
+#[tactic(auto, using(crate::proofs::lemmas::SetCovers::least_begins))]
 pub fn a_cover_has_one_beginning_of_each_covered_path()
     ensures some { (s : PathSet) (q : List Field) → IsTrue (covers s q)
         → ((p : List Field) × IsTrue (set.contains (least s) p) × Beginning p q) }
@@ -135,6 +141,7 @@ pub fn a_cover_has_one_beginning_of_each_covered_path()
 {}
 
 /// The paths of a slice cover a path exactly where it starts with one of them, which `any` over the slice finds.
+#[tactic(auto, using(crate::proofs::lemmas::SetCovers::covers_any))]
 pub fn a_path_is_covered_where_it_starts_with_one(paths: &[FieldPath], path: &FieldPath)
     ensures { IsTrue (covers (set_of paths.now) path.now)
         ↔ Any (λ p. IsTrue (starts_with ⟦<crate::Field as PartialEq>⟧.eq path.now p)) paths.now }

@@ -117,10 +117,12 @@ pub least_word : (s : PathSet) (p : List Field) → IsTrue (set.contains (least 
 least_word s p =
     let test = λ (q : List Field). begins_below q p in (
       λ h.
-          let parts = and_parts (set.contains s p) (not (list_any test (set.items s))) (sym (least_test s p) ∙ h) in
-          (parts.0, λ q c b. by_bool (same_path q p) (same_path-Decides q p).0 (λ other. absurd (false≢true (
-          sym (not-true _ parts.1) ∙ any_from test q (set.items s) ((items-Decides s q).0 c) ((below-Decides q p).1 (b, not_from_Decides _ (same_path-Decides q p) other))
-          )))),
+          let parts = and_parts (set.contains s p) (not (list_any test (set.items s))) (sym (least_test s p) ∙ h) in (
+            parts.0,
+            λ q c b. by_bool (same_path q p) (same_path-Decides q p).0 (λ other. absurd (false≢true (
+                sym (not-true _ parts.1) ∙ any_from test q (set.items s) ((items-Decides s q).0 c) ((below-Decides q p).1 (b, not_from_Decides _ (same_path-Decides q p) other))
+                ))),
+          ),
       λ l. least_test s p ∙ and_from (set.contains s p) (not (list_any test (set.items s))) l.0 (not_from_false _ (false_from_ne_true _ (λ some.
           let w = some_member test (set.items s) some in
           let below = (below-Decides w.0 p).0 w.2 in
@@ -206,8 +208,8 @@ least_one p = same_by _ _ (λ q. same_from_decides _ _ (least_word (set.insert s
 ))
 
 -- the least paths are in each set that covers the same
-pub least_in : (s t : PathSet) (p : List Field) → least s ≡ least t → set.contains (least s) p ≡ true → set.contains t p ≡ true
-least_in s t p same h = ((least_word t p).0 (ap (λ x. set.contains x p) (sym same) ∙ h)).0
+pub least_in : (s t : PathSet) (p : List Field) → SameCoverage s t → set.contains (least s) p ≡ true → set.contains t p ≡ true
+least_in s t p same h = ((least_word t p).0 (least_along s t same p h)).0
 
 -- of a list whose set is the least, that set covers the same, and each path is in every list that covers the same
 pub same_coverage : (cover : List (List Field)) (s : PathSet) → set.from_list cover ≡ least s → SameCoverage (set.from_list cover) s
@@ -215,7 +217,7 @@ same_coverage cover s is = λ q. ap (λ x. covers x q) is ∙ covers_least s q
 
 pub cover_within : (cover ps : List (List Field)) (s : PathSet) → set.from_list cover ≡ least s → SameCoverage (set.from_list ps) s → (p : List Field) → Contains cover p → Contains ps p
 cover_within cover ps s is alike p c =
-    (from_list-Decides ps p).0 (least_in s (set.from_list ps) p (sym (least_same _ _ alike)) (ap (λ x. set.contains x p) (sym is) ∙ (from_list-Decides cover p).1 c))
+    (from_list-Decides ps p).0 (least_in s (set.from_list ps) p (λ q. sym (alike q)) (ap (λ x. set.contains x p) (sym is) ∙ (from_list-Decides cover p).1 c))
 
 -- a cover has no more paths than a list that it is of
 pub fewest : (xs ys : List (List Field)) → Distinct xs → set.from_list {R = path_cmp} xs ≡ least (set.from_list ys) → length xs ≤ length ys

@@ -1,14 +1,11 @@
 -- SPDX-License-Identifier: Apache-2.0
 -- SPDX-FileCopyrightText: Copyright the Vortex contributors
 
-use Rattle.std.proofs.Common.{◌≡◌, ◌∙◌, ◌+◌, ◌-◌, ◌∷◌, ap, arith, drop, length, refl, sym, take}
+use Rattle.std.proofs.Common.{◌≡◌, ◌∙◌, ◌+◌, ◌-◌, ◌∷◌, ap, arith, drop, length, sym, take}
 use Rattle.std.proofs.lemmas.Grind.{get_or_default_zero}
 use Rattle.std.proofs.lemmas.List.{drop_more}
 use Rattle.dtype_paths.proofs.StepKeys.{last_byte, room-more, seven_bytes}
 use Rattle.dtype_paths.proofs.step_key.name_key_of.Goals as goal
-
-pub loop-byte-init : goal.loop-byte-init
-loop-byte-init c = record { made = refl; small = omega arith }
 
 pub overflow_mul-last_bytes : goal.overflow_mul-last_bytes
 overflow_mul-last_bytes c =

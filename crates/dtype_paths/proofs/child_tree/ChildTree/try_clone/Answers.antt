@@ -1,7 +1,7 @@
 -- SPDX-License-Identifier: Apache-2.0
 -- SPDX-FileCopyrightText: Copyright the Vortex contributors
 
-use Rattle.std.proofs.Common.{[], ◌++◌, subst}
+use Rattle.std.proofs.Common.{[], ◌++◌, refl, subst}
 use Rattle.dtype_paths.specs.private.ChildTrees.{steps_in}
 use Rattle.dtype_paths.proofs.ChildCopies.{copied-more, copied-none, IsCopied}
 use Rattle.dtype_paths.proofs.ChildTrees.{distinct_steps}
@@ -11,7 +11,7 @@ pub loop-first-init : goal.loop-first-init
 loop-first-init c =
     let by_key = c.self.inside.by_key.entries in let by_step = c.self.inside.by_step.entries in
     rw (c.into_iter-first-iterator.ensures.into_iter_gives, c.values-first-items.ensures.rest, c.new-copy.ensures)
-    (subst (IsCopied (steps_in by_key by_step) []) c.self.view_is (copied-none (steps_in by_key by_step) (distinct_steps by_key by_step c.self.invariant)))
+    (subst (IsCopied (steps_in by_key by_step) []) c.self.view_is (copied-none (steps_in by_key by_step) (distinct_steps by_key by_step (steps_in by_key by_step) c.self.invariant refl)))
 
 pub loop-first-preserved : goal.loop-first-preserved
 loop-first-preserved c =

@@ -3,7 +3,6 @@
 
 use Rattle.std.proofs.Common.{ap, sym, ◌∙◌}
 use Rattle.std.proofs.iter.runs.Made.{run_of_exit}
-use Rattle.std.proofs.lemmas.Result.{MatchResult-from_err}
 use Rattle.std.specs.FinSet as set
 use Rattle.dtype_paths.proofs.lemmas.SetMembers.{of_push, union_insert, union_none}
 use Rattle.dtype_paths.specs.PathOrder.{path_cmp}
@@ -17,15 +16,6 @@ loop-path-preserved g c =
     c.in_ok-insert.ensures.inserted
     ∙ ap (λ s. set.insert s c.in-Some.path) c.loop-path.invariant
     ∙ sym (ap (set.union c.args.self.now) (of_push c.loop-path.yielded c.in-Some.path) ∙ union_insert c.args.self.now (set.from_list c.loop-path.yielded) c.in-Some.path)
-
-pub returns-in_err-insert-clause-items : goal.returns-in_err-insert-clause-items
-returns-in_err-insert-clause-items g c = (
-  c.into_iter-path-iterator.result,
-  c.loop-path.yielded,
-  c.into_iter-path-iterator.ensures.into_iter_gives,
-  c.in_err-insert.ensures.err ∙ c.loop-path.invariant,
-  MatchResult-from_err _ _ _ c.from_residual.ensures.0 (λ _. (c.loop-path.path-iterator, c.loop-path.yielded_by)),
-)
 
 -- the list that was taken, as a run
 pub returns-clause-run : goal.returns-clause-run

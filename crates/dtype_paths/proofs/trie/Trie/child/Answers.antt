@@ -6,11 +6,8 @@ use Rattle.dtype_paths.specs.private.Children.{child}
 use Rattle.dtype_paths.specs.private.Reached.{ends_below, IsReached}
 use Rattle.dtype_paths.specs.private.Trie.{child_at}
 use Rattle.dtype_paths.specs.declared.node.Node.{Node}
-use Rattle.dtype_paths.proofs.Reaching.{child-ends, child-reached, reached-inside}
+use Rattle.dtype_paths.proofs.Reaching.{child-ends, child-reached}
 use Rattle.dtype_paths.proofs.trie.Trie.child.Goals as goal
-
-pub at-requires : goal.at-requires
-at-requires c = reached-inside c.self.inside.nodes c.self.invariant c.args.node_index (subst (λ ns. IsReached ns c.args.node_index) (sym c.self.view_is) c.requires)
 
 pub returns-in-Occupied-clause-reached : goal.returns-in-Occupied-clause-reached
 returns-in-Occupied-clause-reached c =

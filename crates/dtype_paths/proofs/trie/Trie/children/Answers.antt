@@ -9,11 +9,7 @@ use Rattle.dtype_paths.specs.private.Reached.{ends_below, named_paths, IsReached
 use Rattle.dtype_paths.specs.declared.field.Field.{Field}
 use Rattle.dtype_paths.specs.declared.node.Node.{Node}
 use Rattle.dtype_paths.proofs.NamesBelow.{names-below, names-reached}
-use Rattle.dtype_paths.proofs.Reaching.{reached-inside}
 use Rattle.dtype_paths.proofs.trie.Trie.children.Goals as goal
-
-pub at-requires : goal.at-requires
-at-requires c = reached-inside c.self.inside.nodes c.self.invariant c.args.node_index (subst (λ ns. IsReached ns c.args.node_index) (sym c.self.view_is) c.requires)
 
 pub returns-clause-reached : goal.returns-clause-reached
 returns-clause-reached c = λ e h.

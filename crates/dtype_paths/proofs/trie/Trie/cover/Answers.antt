@@ -83,9 +83,6 @@ returns-clause-ok c = same_by _ _ (λ q.
     let g = given (goal.at.returns-clause-ok c).In_default q in
     same_from_decides _ _ (from_list-Decides c.loop-node_index.found.items q) (g.1, g.0))
 
-pub returns-clause-once : goal.returns-clause-once
-returns-clause-once c = (ended (goal.at.returns-clause-once c).In_default).once
-
 pub returns-clause-visits : goal.returns-clause-visits
 returns-clause-visits c = count (goal.at.returns-clause-visits c).In_default
 

@@ -6,11 +6,8 @@ use Rattle.dtype_paths.specs.PathPredicates.{no_path}
 use Rattle.dtype_paths.specs.private.Children.{child}
 use Rattle.dtype_paths.specs.private.Reached.{ends_below, IsReached}
 use Rattle.dtype_paths.specs.declared.node.Node.{Node}
-use Rattle.dtype_paths.proofs.Reaching.{nothing-below, reached-inside}
+use Rattle.dtype_paths.proofs.Reaching.{nothing-below}
 use Rattle.dtype_paths.proofs.trie.Trie.is_empty_at.Goals as goal
-
-pub at-requires : goal.at-requires
-at-requires c = reached-inside c.self.inside.nodes c.self.invariant c.args.node_index (subst (λ ns. IsReached ns c.args.node_index) (sym c.self.view_is) c.requires)
 
 pub returns : goal.returns
 returns c =

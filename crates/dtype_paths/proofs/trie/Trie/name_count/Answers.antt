@@ -8,12 +8,8 @@ use Rattle.dtype_paths.specs.private.Children.{child, name_entry, nodes_by_step}
 use Rattle.dtype_paths.specs.private.Reached.{ends_below, named_paths, IsReached}
 use Rattle.dtype_paths.specs.declared.node.Node.{Node}
 use Rattle.dtype_paths.proofs.NamesBelow.{names-below}
-use Rattle.dtype_paths.proofs.Reaching.{reached-inside}
 use Rattle.std.proofs.lemmas.List.{length-map}
 use Rattle.dtype_paths.proofs.trie.Trie.name_count.Goals as goal
-
-pub at-requires : goal.at-requires
-at-requires c = reached-inside c.self.inside.nodes c.self.invariant c.args.node_index (subst (λ ns. IsReached ns c.args.node_index) (sym c.self.view_is) c.requires)
 
 pub returns : goal.returns
 returns c =

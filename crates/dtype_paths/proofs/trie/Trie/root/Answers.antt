@@ -1,17 +1,14 @@
 -- SPDX-License-Identifier: Apache-2.0
 -- SPDX-FileCopyrightText: Copyright the Vortex contributors
 
-use Rattle.std.proofs.Common.{◌≡◌, ◌∙◌, ap, subst, sym, List}
+use Rattle.std.proofs.Common.{◌≡◌, ◌∙◌, ap, subst, List}
 use Rattle.std.specs.FinSet as set
 use Rattle.dtype_paths.specs.PathOrder.{set_of}
-use Rattle.dtype_paths.specs.private.Reached.{ends_below, IsReached}
+use Rattle.dtype_paths.specs.private.Reached.{ends_below}
 use Rattle.dtype_paths.specs.private.Trie.{terminals}
 use Rattle.dtype_paths.specs.declared.node.Node.{Node}
-use Rattle.dtype_paths.proofs.Reaching.{ends-root, root-reached}
+use Rattle.dtype_paths.proofs.Reaching.{ends-root}
 use Rattle.dtype_paths.proofs.trie.Trie.root.Goals as goal
-
-pub returns-clause-reached : goal.returns-clause-reached
-returns-clause-reached c = subst (IsReached c.args.self.now) (sym c.root.ensures) (root-reached c.args.self.now)
 
 pub returns-clause-paths : goal.returns-clause-paths
 returns-clause-paths c =

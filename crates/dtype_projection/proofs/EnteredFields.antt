@@ -21,7 +21,7 @@ use Rattle.dtype_paths.specs.declared.field_path_cursor.FieldPathCursor.{FieldPa
 use Rattle.dtype_paths.proofs.lemmas.Cases.{by_bool}
 use Rattle.dtype_projection.specs.private.Entered.{asked_at, asked_below, AreEntered}
 use Rattle.dtype_projection.specs.Projected.{PathPredicate, after_step, without_field}
-use Rattle.dtype_projection.proofs.lemmas.Predicates.{by_name, after_without_same, after_without_other}
+use Rattle.dtype_projection.proofs.lemmas.Projections.{by_name, after_without_same, after_without_other}
 
 by_position : {P : Type 0} (k i : ℕ) → (k ≡ i → P) → (k ≢ i → P) → P
 by_position k i same other = by_bool (k == i) (λ e. same ((Decides-eqb k i).0 e)) (λ e. other (λ is. false≢true (sym e ∙ (Decides-eqb k i).1 is)))

@@ -2,7 +2,7 @@
 -- SPDX-FileCopyrightText: Copyright the Vortex contributors
 
 -- The clauses of `project_paths` follow from its equation.
-use Rattle.std.proofs.Common.{◌≡◌, ◌↔◌, List, Option, Some, None, Result, Ok, Err, IfOk, IfSome, IsSome, IsTrue, MatchResult, refl, sym, ◌∙◌}
+use Rattle.std.proofs.Common.{◌≡◌, ◌↔◌, List, Option, Some, None, IfSome, IsSome, IsTrue, refl, sym, ◌∙◌}
 use Rattle.std.specs.FinSet as set
 use Rattle.std.specs.Option.{option_map}
 use Rattle.dtype_types.specs.tree.Tree.{Tree}
@@ -19,35 +19,21 @@ use Rattle.dtype_paths.specs.declared.field.Field.{Field}
 use Rattle.dtype_paths.proofs.lemmas.SetCovers.{covers_word}
 use Rattle.dtype_projection.specs.Projected.{projected}
 use Rattle.dtype_projection.specs.Restricted.{restricted}
-use Rattle.dtype_projection.proofs.lemmas.Kept.{kept_as_it_was, exists_in_kept, valid_kept}
-use Rattle.dtype_projection.proofs.lemmas.Projections.{kept_has_path, path_is_kept}
+use Rattle.dtype_projection.proofs.lemmas.Projections.{kept_as_it_was, exists_in_kept, valid_kept, kept_has_path, path_is_kept}
 use Rattle.dtype_projection.proofs.lemmas.Restrictions.{of_restricted}
 
-pub if_ok : {A E : Type 0} (r : Result A E) (P Q : A → Type 0) (R : E → Type 0) → MatchResult r P R → ((x : A) → P x → Q x) → IfOk r Q
-if_ok (Ok x) P Q R m f = f x m
-if_ok (Err e) P Q R m f = tt
-
-module _ (t : Tree) (s : PathSet) where
-  -- the result is the projection
-  abbrev IsProjection : Option DType → Type 0
-  IsProjection r = option_map tree r ≡ projected t (set.contains s)
-
-  pub some_clause : (r : Option DType) → IsProjection r → IsSome r ↔ ((p : List Field) × IsTrue (set.contains s p) × ExistsIn t p)
-  some_clause None is = (λ i. cc, λ p. let k = path_is_kept p.0 t p.2.found (set.contains s) p.1 p.2.at in let q = is ∙ k.1 in cc)
-  some_clause (Some u) is = (λ i. let l = kept_has_path t (tree u) (set.contains s) (sym is) in (l.path, l.holds, l.exists), λ p. refl)
-
-  pub kept_clause : (r : Option DType) → IsProjection r → IfSome r (λ u. (q : List Field) → IsTrue (covers s q) → along (tree u) q ≡ along t q)
-  kept_clause None is = tt
-  kept_clause (Some u) is = λ q c. let p = (covers_word s q).0 c in kept_as_it_was t (tree u) (set.contains s) p.0 q (sym is) p.1 p.2
-
-  pub only_clause : (r : Option DType) → IsProjection r → IfSome r (λ u. (q : List Field) → (ExistsIn (tree u) q ↔ (ExistsIn t q × ((p : List Field) × IsTrue (set.contains s p) × ExistsIn t p × Overlaps p q))))
-  only_clause None is = tt
-  only_clause (Some u) is = λ q. exists_in_kept t (tree u) (set.contains s) q (sym is)
-
-  pub valid_clause : Valid t → (r : Option DType) → IsProjection r → IfSome r (λ u. Valid (tree u))
-  valid_clause h None is = tt
-  valid_clause h (Some u) is = valid_kept t (tree u) (set.contains s) (sym is) h
-
-  pub values_clause : (r : Option DType) → IsProjection r → IfSome r (λ u. (v : Value) → Of v t → Of (restricted t (set.contains s) v) (tree u))
-  values_clause None is = tt
-  values_clause (Some u) is = λ v h. of_restricted t (tree u) (set.contains s) (sym is) v h
+-- what holds of the result r, where it is the projection of t to the paths of s
+pub clauses : (t : Tree) (s : PathSet) (r : Option DType) → option_map tree r ≡ projected t (set.contains s) →
+    (IsSome r ↔ ((p : List Field) × IsTrue (set.contains s p) × ExistsIn t p))
+    × IfSome r (λ u. (q : List Field) → IsTrue (covers s q) → along (tree u) q ≡ along t q)
+    × IfSome r (λ u. (q : List Field) → (ExistsIn (tree u) q ↔ (ExistsIn t q × ((p : List Field) × IsTrue (set.contains s p) × ExistsIn t p × Overlaps p q))))
+    × (Valid t → IfSome r (λ u. Valid (tree u)))
+    × IfSome r (λ u. (v : Value) → Of v t → Of (restricted t (set.contains s) v) (tree u))
+clauses t s None is = ((λ i. cc, λ p. let k = path_is_kept p.0 t p.2.found (set.contains s) p.1 p.2.at in let q = is ∙ k.1 in cc), tt, tt, λ h. tt, tt)
+clauses t s (Some u) is = (
+  (λ i. let l = kept_has_path t (tree u) (set.contains s) (sym is) in (l.path, l.holds, l.exists), λ p. refl),
+  λ q c. let p = (covers_word s q).0 c in kept_as_it_was t (tree u) (set.contains s) p.0 q (sym is) p.1 p.2,
+  λ q. exists_in_kept t (tree u) (set.contains s) q (sym is),
+  valid_kept t (tree u) (set.contains s) (sym is),
+  of_restricted t (tree u) (set.contains s) (sym is),
+)

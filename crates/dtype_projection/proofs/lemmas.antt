@@ -2,12 +2,9 @@
 -- SPDX-FileCopyrightText: Copyright the Vortex contributors
 
 -- Lemmas about the definitions, which a caller's proof may cite.
-pub mod Predicates
 pub mod Projections
-pub mod Kept
 pub mod Parts
 pub mod Restrictions
-pub mod ThroughExtensions
 pub mod Above
 pub mod Projecting
 pub mod Descending

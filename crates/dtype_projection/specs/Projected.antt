@@ -12,7 +12,6 @@ use Rattle.dtype_base.specs.declared.nullability.Nullability.{Nullability}
 use Rattle.dtype_types.specs.tree.Tree.{Tree, Fields, no_items, field, list, fixed_size_list, struct, item}
 use Rattle.dtype_paths.specs.Equality.{same_field}
 pub use Rattle.dtype_paths.specs.PathPredicates.{PathPredicate, after_step}
-use Rattle.dtype_paths.specs.declared.field.Field.{Field}
 use Rattle.dtype_paths.specs.declared.field.Field.TheVariants.{Name, ElementType}
 
 -- the paths but for those that step into a field named n

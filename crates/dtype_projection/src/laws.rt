@@ -100,7 +100,7 @@ pub fn a_projection_is_stepped_into()
 {}
 
 /// The projection of a valid type is valid.
-#[tactic(auto, using(crate::proofs::lemmas::Kept::valid_kept))]
+#[tactic(auto, using(crate::proofs::lemmas::Projections::valid_kept))]
 pub fn projections_are_valid()
     ensures { (t u : Tree) (w : PathPredicate) → projected t w ≡ Some u → Valid t → Valid u }
 {}
@@ -109,6 +109,7 @@ pub fn projections_are_valid()
 /// a valid type each is a restricted value. Below each of the paths that exists in the type the same is found in a value
 /// and in what it is restricted to. `beyond` is an example of where the premise is needed: a path that leads through
 /// an extension exists in no type, while a value has the storage's form, so what is found there may be dropped.
+#[tactic(auto, using(crate::proofs::lemmas::Restrictions::of_restricted, crate::proofs::lemmas::Restrictions::onto, crate::proofs::lemmas::Restrictions::lost_through_extensions))]
 pub fn values_are_restricted()
     ensures of { (t u : Tree) (w : PathPredicate) (v : Value) → projected t w ≡ Some u → Of v t → Of (restricted t w v) u }
     ensures onto { (t u : Tree) (w : PathPredicate) (x : Value) → Valid t → projected t w ≡ Some u → Of x u

@@ -3,13 +3,13 @@
 
 -- The parts of a type: an order, in which a path leads in a part to a part of what it leads to in the type. The projection
 -- is the least part that has the paths, and no other type is. What it depends on, and how projections compose, follows.
-use Rattle.std.proofs.Common.{◌≡◌, ◌≢◌, ◌⊎◌, ◌<◌, ◌+◌, inl, inr, ℕ, suc, List, [], ◌∷◌, true, IsTrue, Some, None, refl, sym, ap, subst, ◌∙◌, ⊎_elim, arith, append-nil}
+use Rattle.std.proofs.Common.{◌≡◌, ℕ, ◌≢◌, ◌≤◌, inl, inr, length, List, [], ◌∷◌, true, IsTrue, Some, None, refl, sym, ap, subst, ◌∙◌, arith, append-nil}
 use Rattle.std.specs.FinSet as set
 use Rattle.std.specs.Option.{option_and_then}
 use Rattle.std.proofs.lemmas.Option.{same_Some}
 use Rattle.dtype_types.specs.nullability.Nullable.{nullability}
 use Rattle.dtype_types.specs.parts.Lookups.{first_named}
-use Rattle.dtype_types.specs.tree.Tree.{Tree, Fields, no_items, field, pairs, list, fixed_size_list, struct, item}
+use Rattle.dtype_types.specs.tree.Tree.{Tree, Fields, no_items, field, pairs, list, fixed_size_list, struct, item, rest_of}
 use Rattle.dtype_paths.specs.Along.{along}
 use Rattle.dtype_paths.specs.At.{At, ExistsIn, step}
 use Rattle.dtype_paths.specs.Beginning.{Beginning}
@@ -22,10 +22,8 @@ use Rattle.dtype_paths.proofs.lemmas.SetCovers.{covers_least, covers_member, cov
 use Rattle.dtype_paths.proofs.lemmas.Stepping.{beginning_exists}
 use Rattle.dtype_paths.proofs.lemmas.Walks.{along-At, At-along, along_joined}
 use Rattle.dtype_projection.specs.IsPart.{IsPart, IsPartOfFields, HasPaths, IsLeastPart}
-use Rattle.dtype_projection.specs.Projected.{PathPredicate, after_step, without_field, projected, projected_fields}
-use Rattle.dtype_projection.proofs.lemmas.Kept.{kept_as_it_was}
-use Rattle.dtype_projection.proofs.lemmas.Predicates.{by_name, without_field_holds}
-use Rattle.dtype_projection.proofs.lemmas.Projections.{each_projection, absent_kept, named_first, named_itself, kept_has_path, path_is_kept}
+use Rattle.dtype_projection.specs.Projected.{PathPredicate, after_step, without_field, projected}
+use Rattle.dtype_projection.proofs.lemmas.Projections.{kept_as_it_was, by_name, without_field_holds, each_projection, absent_kept, named_first, named_itself, kept_has_path, path_is_kept}
 
 -- ---- a type is its own part, and has its parts' nullability
 
@@ -46,53 +44,39 @@ part_nullability (fixed_size_list t k n) u p = ap nullability p.1
 part_nullability (struct fs n) u p = ap nullability p.1
 part_nullability t u p = ap nullability p
 
--- ---- parts of each other are equal: a part has fewer fields, or is the whole
+-- ---- parts of each other are equal, since a part has no more fields
 
-abbrev mutual
-  size : Tree → ℕ
-  size (list t n) = suc (size t)
-  size (fixed_size_list t k n) = suc (size t)
-  size (struct fs n) = suc (fields_size fs)
-  size _ = 0
-
-  fields_size : Fields → ℕ
-  fields_size no_items = 0
-  fields_size (item n t _ fs) = suc (size t + fields_size fs)
+fewer : (fs gs : Fields) → IsPartOfFields fs gs → length (pairs gs) ≤ length (pairs fs)
+fewer no_items gs p = let s = ap (λ hs. length (pairs hs)) p in omega (arith, s)
+fewer (item n t _ fs) gs (inl p) = let s = ap (λ hs. length (pairs hs)) p.2 in omega (arith, s, fewer fs p.1 p.4)
+fewer (item n t _ fs) gs (inr p) = omega (arith, fewer fs gs p.0)
 
 mutual
-  smaller : (t u : Tree) → IsPart t u → (u ≡ t) ⊎ (size u < size t)
-  smaller (list t n) u p =
-      let s : size u ≡ suc (size p.0) = ap size p.1 in
-      ⊎_elim (λ same. inl (p.1 ∙ ap (λ x. list x n) same)) (λ less. inr (omega (arith, s, less))) (smaller t p.0 p.2)
-  smaller (fixed_size_list t k n) u p =
-      let s : size u ≡ suc (size p.0) = ap size p.1 in
-      ⊎_elim (λ same. inl (p.1 ∙ ap (λ x. fixed_size_list x k n) same)) (λ less. inr (omega (arith, s, less))) (smaller t p.0 p.2)
-  smaller (struct fs n) u p =
-      let s : size u ≡ suc (fields_size p.0) = ap size p.1 in
-      ⊎_elim (λ same. inl (p.1 ∙ ap (λ gs. struct gs n) same)) (λ less. inr (omega (arith, s, less))) (smaller_fields fs p.0 p.2)
-  smaller t u p = inl p
+  pub parts_equal : (t u : Tree) → IsPart t u → IsPart u t → u ≡ t
+  parts_equal (list t n) u p q =
+      let r : IsPart (list p.0 n) (list t n) = subst (λ z. IsPart z (list t n)) p.1 q in
+      let same : r.0 ≡ t = cc in
+      p.1 ∙ ap (λ x. list x n) (parts_equal t p.0 p.2 (subst (IsPart p.0) same r.2))
+  parts_equal (fixed_size_list t k n) u p q =
+      let r : IsPart (fixed_size_list p.0 k n) (fixed_size_list t k n) = subst (λ z. IsPart z (fixed_size_list t k n)) p.1 q in
+      let same : r.0 ≡ t = cc in
+      p.1 ∙ ap (λ x. fixed_size_list x k n) (parts_equal t p.0 p.2 (subst (IsPart p.0) same r.2))
+  parts_equal (struct fs n) u p q =
+      let r : IsPart (struct p.0 n) (struct fs n) = subst (λ z. IsPart z (struct fs n)) p.1 q in
+      let same : r.0 ≡ fs = cc in
+      p.1 ∙ ap (λ gs. struct gs n) (fields_equal fs p.0 p.2 (subst (IsPartOfFields p.0) same r.2))
+  parts_equal t u p q = p
 
-  smaller_fields : (fs gs : Fields) → IsPartOfFields fs gs → (gs ≡ fs) ⊎ (fields_size gs < fields_size fs)
-  smaller_fields no_items gs p = inl p
-  smaller_fields (item n t _ fs) gs (inl p) =
-      let s : fields_size gs ≡ suc (size p.0 + fields_size p.1) = ap fields_size p.2 in
-      ⊎_elim
-      (λ here.
-      ⊎_elim
-      (λ later. inl (p.2 ∙ (λ i. field n (here i) (later i))))
-      (λ later. let h = ap size here in inr (omega (arith, s, h, later)))
-      (smaller_fields fs p.1 p.4))
-      (λ here.
-      ⊎_elim
-      (λ later. let l = ap fields_size later in inr (omega (arith, s, here, l)))
-      (λ later. inr (omega (arith, s, here, later)))
-      (smaller_fields fs p.1 p.4))
-      (smaller t p.0 p.3)
-  smaller_fields (item n t _ fs) gs (inr p) =
-      ⊎_elim (λ same. let s = ap fields_size same in inr (omega (arith, s))) (λ less. inr (omega (arith, less))) (smaller_fields fs gs p.0)
-
-pub parts_equal : (t u : Tree) → IsPart t u → IsPart u t → u ≡ t
-parts_equal t u p q = ⊎_elim (λ same. same) (λ less. ⊎_elim sym (λ more. absurd (omega (arith, less, more))) (smaller u t q)) (smaller t u p)
+  fields_equal : (fs gs : Fields) → IsPartOfFields fs gs → IsPartOfFields gs fs → gs ≡ fs
+  fields_equal no_items gs p q = p
+  fields_equal (item n t _ fs) gs (inr p) q = absurd (omega (arith, fewer fs gs p.0, fewer gs (field n t fs) q))
+  fields_equal (item n t _ fs) gs (inl p) q = elim (subst (λ hs. IsPartOfFields hs (field n t fs)) p.2 q) [
+    | inr k ↦ absurd (omega (arith, fewer fs p.1 p.4, fewer p.1 (field n t fs) k.0))
+    | inl k ↦
+        let first : k.0 ≡ t = cc in
+        let later : k.1 ≡ fs = sym (ap rest_of k.2) in
+        p.2 ∙ (λ i. field n (parts_equal t p.0 p.3 (subst (IsPart p.0) first k.3) i) (fields_equal fs p.1 p.4 (subst (IsPartOfFields p.1) later k.4) i))
+  ]
 
 -- ---- a path leads in a part to a part of what it leads to in the type
 

@@ -1,11 +1,14 @@
 -- SPDX-License-Identifier: Apache-2.0
 -- SPDX-FileCopyrightText: Copyright the Vortex contributors
 
--- The projection of each kind of type, what holds of each projection, and where steps lead in it.
-use Rattle.std.proofs.Common.{◌≡◌, ◌≢◌, ◌↔◌, IsSome, IsTrue, ℕ, List, [], ◌∷◌, ◌++◌, true, false, Option, Some, None, refl, sym, ap, subst, ◌∙◌}
+-- The projection of each kind of type, what holds of each projection, where steps and paths lead in it, which paths exist in
+-- it, and that it is valid where the type is.
+use Rattle.std.proofs.Common.{◌≡◌, ◌≢◌, ◌↔◌, IsSome, IsTrue, ℕ, List, [], ◌∷◌, ◌++◌, true, false, Option, Some, None, refl, sym, ap, subst, ◌∙◌, not, ◌&&◌, inl, inr, append-nil}
 use Rattle.std.specs.Option.{option_and_then, option_map}
 use Rattle.std.proofs.lemmas.Bool.{false≢true}
 use Rattle.std.proofs.lemmas.Option.{same_Some}
+use Rattle.std.specs.Str.{bytes_eq}
+use Rattle.std.proofs.lemmas.Slice.Eq.{bytes_eq-Decides}
 use Rattle.dtype_base.specs.declared.nullability.Nullability.{Nullability}
 use Rattle.dtype_types.specs.parts.Lookups.{first_named}
 use Rattle.dtype_types.specs.tree.Tree.{Tree, Fields, no_items, field, pairs, list, fixed_size_list, struct, item}
@@ -17,7 +20,37 @@ use Rattle.dtype_paths.specs.declared.field.Field.{Field}
 use Rattle.dtype_paths.specs.declared.field.Field.TheVariants.{Name, ElementType}
 use Rattle.dtype_paths.proofs.lemmas.Cases.{by_bool, by_option}
 use Rattle.dtype_projection.specs.Projected.{PathPredicate, after_step, without_field, projected, projected_fields, struct_with, prepend_kept}
-use Rattle.dtype_projection.proofs.lemmas.Predicates.{by_name, after_without_same, after_without_other, without_field_holds}
+use Rattle.dtype_paths.specs.Equality.{same_field}
+use Rattle.dtype_paths.specs.EqualityLaws.{same_field-Decides}
+use Rattle.dtype_types.specs.tree.Valid.{Valid, ValidItems}
+use Rattle.dtype_paths.specs.Beginning.{Beginning}
+use Rattle.dtype_paths.specs.Overlaps.{Overlaps}
+use Rattle.dtype_paths.proofs.lemmas.Stepping.{beginning_exists_in}
+use Rattle.dtype_paths.proofs.lemmas.Walks.{along-At, At-along}
+
+-- ---- path predicates after a step, and without the paths into a field
+
+-- by whether two names, and two steps, are equal
+pub by_name : {P : Type 0} (n m : List ℕ) → (n ≡ m → P) → (n ≢ m → P) → P
+by_name n m same other = by_bool (bytes_eq n m) (λ e. same ((bytes_eq-Decides n m).0 e)) (λ e. other (λ q. let t : bytes_eq n m ≡ true = (bytes_eq-Decides n m).1 q in cc))
+
+by_step : {P : Type 0} (f g : Field) → (f ≡ g → same_field f g ≡ true → P) → (f ≢ g → same_field f g ≡ false → P) → P
+by_step f g same other = by_bool (same_field f g) (λ e. same ((same_field-Decides f g).0 e) e) (λ e. other (λ q. let t : same_field f g ≡ true = (same_field-Decides f g).1 q in cc) e)
+
+pub without_field_same : (n : List ℕ) (w : PathPredicate) (p : List Field) → without_field n w (Name n ∷ p) ≡ false
+without_field_same n w p = ap (λ b. not b && w (Name n ∷ p)) ((same_field-Decides (Name n) (Name n)).1 refl)
+
+pub after_without_same : (n : List ℕ) (w : PathPredicate) → after_step (Name n) (without_field n w) ≡ no_path
+after_without_same n w = λ i p. without_field_same n w p i
+
+pub after_without_other : (n m : List ℕ) (w : PathPredicate) → n ≢ m → after_step (Name m) (without_field n w) ≡ after_step (Name m) w
+after_without_other n m w ne = λ i p. by_step {P = without_field n w (Name m ∷ p) ≡ w (Name m ∷ p)} (Name n) (Name m) (λ same e. absurd (ne (cc))) (λ other e. ap (λ b. not b && w (Name m ∷ p)) e) i
+
+-- a path of `without_field n w` is one of w, and doesn't step into a field named n
+pub without_field_holds : (n : List ℕ) (w : PathPredicate) (f : Field) (p : List Field) → without_field n w (f ∷ p) ≡ true → (Name n ≢ f) × (w (f ∷ p) ≡ true)
+without_field_holds n w f p t = by_step (Name n) f
+    (λ same e. let q : without_field n w (f ∷ p) ≡ false = ap (λ b. not b && w (f ∷ p)) e in absurd (cc))
+    (λ other e. (other, sym (ap (λ b. not b && w (f ∷ p)) e) ∙ t))
 
 -- ---- the projection by whether w has the root
 
@@ -221,3 +254,64 @@ along_kept [] r t w is = ap (option_and_then (λ u. along u r)) (kept_root t w i
 along_kept (f ∷ p) r t w is = by_bool (w [])
     (λ root. ap (option_and_then (λ u. along u ((f ∷ p) ++ r))) (kept_root t w root))
     (λ root. along_step t w f (p ++ r) root ∙ (λ i. option_and_then (λ x. along_kept p r x (after_step f w) is i) (step t f)))
+
+-- ---- how paths resolve in the projection
+
+-- paths at or below those of w resolve as in the type
+pub kept_as_it_was : (t u : Tree) (w : PathPredicate) (p q : List Field) → projected t w ≡ Some u → w p ≡ true → Beginning p q → along u q ≡ along t q
+kept_as_it_was t u w p q e is b =
+    subst (λ z. along u z ≡ along t z) (sym b.1) (sym (ap (option_and_then (λ x. along x (p ++ b.0))) e) ∙ along_kept p b.0 t w is)
+
+-- ---- no other path exists in the projection
+
+-- the path exists, and overlaps one of w that exists
+pub record Overlapped (t : Tree) (w : PathPredicate) (q : List Field) : Type 0 where
+  pub path : List Field
+  pub holds : w path ≡ true
+  pub there : ExistsIn t path
+  pub overlaps : Overlaps path q
+  pub exists : ExistsIn t q
+
+overlaps_on : (f : Field) (p q : List Field) → Overlaps p q → Overlaps (f ∷ p) (f ∷ q)
+overlaps_on f p q (inl b) = inl (b.0, ap (λ z. f ∷ z) b.1)
+overlaps_on f p q (inr b) = inr (b.0, ap (λ z. f ∷ z) b.1)
+
+pub kept_overlaps : (q : List Field) (t u x : Tree) (w : PathPredicate) → projected t w ≡ Some u → At u q x → Overlapped t w q
+kept_overlaps [] t u x w e a =
+    let l = kept_has_path t u w e in
+    record { path = l.path; holds = l.holds; there = l.exists; overlaps = inr (l.path, refl); exists = record { found = t; at = refl } }
+kept_overlaps (f ∷ q) t u x w e a = by_bool (w [])
+    (λ root. record { path = []; holds = root; there = record { found = t; at = refl }; overlaps = inl (f ∷ q, refl); exists = record { found = x; at = subst (λ z. At z (f ∷ q) x) (sym (whole_kept t u w root e)) a } })
+    (λ root. by_option (step t f)
+    (λ none. let s = sym a.1 ∙ step_kept t u w f root e ∙ ap (option_and_then (λ x. projected x (after_step f w))) none in cc)
+    (λ y at. let s = sym (sym a.1 ∙ step_kept t u w f root e ∙ ap (option_and_then (λ x. projected x (after_step f w))) at) in
+    let r = kept_overlaps q y a.0 x (after_step f w) s a.2 in
+    record { path = f ∷ r.path; holds = r.holds; there = record { found = r.there.found; at = (y, at, r.there.at) }; overlaps = overlaps_on f r.path q r.overlaps; exists = record { found = r.exists.found; at = (y, at, r.exists.at) } }))
+
+-- and each path of the type that overlaps one that exists does
+still_there : (t u : Tree) (w : PathPredicate) (p q : List Field) → projected t w ≡ Some u → w p ≡ true → Beginning p q → ExistsIn t q → ExistsIn u q
+still_there t u w p q e is b x = record { found = x.found; at = along-At u q x.found (kept_as_it_was t u w p q e is b ∙ At-along t q x.found x.at) }
+
+overlapping_kept : (t u : Tree) (w : PathPredicate) (p q : List Field) → projected t w ≡ Some u → w p ≡ true → ExistsIn t p → Overlaps p q → ExistsIn t q → ExistsIn u q
+overlapping_kept t u w p q e is there (inl b) x = still_there t u w p q e is b x
+overlapping_kept t u w p q e is there (inr b) x = beginning_exists_in u q p b (still_there t u w p p e is ([], sym (append-nil p)) there)
+
+pub exists_in_kept : (t u : Tree) (w : PathPredicate) (q : List Field) → projected t w ≡ Some u
+    → ExistsIn u q ↔ (ExistsIn t q × ((p : List Field) × (w p ≡ true) × ExistsIn t p × Overlaps p q))
+exists_in_kept t u w q e = (
+  λ x. let r = kept_overlaps q t u x.found w e x.at in (r.exists, (r.path, r.holds, r.there, r.overlaps)),
+  λ x. overlapping_kept t u w x.1.0 q e x.1.1 x.1.2 x.1.3 x.0,
+)
+
+-- ---- the projection of a valid type is valid
+
+pub valid_kept : (t u : Tree) (w : PathPredicate) → projected t w ≡ Some u → Valid t → Valid u
+valid_kept = each_projection (λ t w u. Valid t → Valid u) (λ fs w gs. ValidItems fs → ValidItems gs) (record {
+  whole = λ t w root h. h;
+  in_list = λ t x n w root on h. on h;
+  in_fixed = λ t x k n w root on h. (h.0, on h.1);
+  in_struct = λ fs gs n w root some on h. on h;
+  none = λ w h. h;
+  kept = λ n t x fs gs w is on later h. (on h.0, later h.1);
+  left = λ n t fs gs w none is later h. later h.1;
+})

@@ -3,15 +3,15 @@
 
 -- A restricted value is of the projection, each value of the projection is the restriction of a value of the type, with
 -- samples where a field was left out, and at and below the paths the same is found in a value and in its restriction.
-use Rattle.std.proofs.Common.{◌≡◌, ◌≢◌, ◌↔◌, inl, inr, ℕ, suc, List, ◌∷◌, ◌++◌, [], true, false, Option, Some, None, refl, sym, ap, subst, ◌∙◌}
+use Rattle.std.proofs.Common.{◌≡◌, ◌≢◌, ◌↔◌, inl, inr, ℕ, suc, List, ◌∷◌, ◌++◌, [], true, false, Option, Some, None, refl, sym, ap, subst, ◌∙◌, ◌||◌}
 use Rattle.std.specs.Prelude.{IfSome}
 use Rattle.std.proofs.lemmas.Option.{same_Some}
 use Rattle.dtype_base.specs.declared.nullability.Nullability.{Nullability}
 use Rattle.dtype_types.specs.parts.Lookups.{first_named}
-use Rattle.dtype_types.specs.tree.Tree.{Tree, Fields, no_items, field, pairs, list, fixed_size_list, struct, item}
+use Rattle.dtype_types.specs.tree.Tree.{Tree, Fields, no_items, field, pairs, list, fixed_size_list, struct, item, bool, extension}
 use Rattle.dtype_types.specs.tree.Valid.{Valid, ValidItems}
 use Rattle.dtype_types.specs.values.Sample.{sample}
-use Rattle.dtype_types.specs.values.Value.{Value, Values, no_values, value, Named, no_named, named, null_value, items, fixed_items, record_of, Of, NamedOf, Each, value_count}
+use Rattle.dtype_types.specs.values.Value.{Value, Values, no_values, value, Named, no_named, named, null_value, items, fixed_items, record_of, Of, NamedOf, Each, value_count, truth}
 use Rattle.dtype_types.proofs.lemmas.Lookups.{other_name, taken_same_name}
 use Rattle.dtype_types.proofs.lemmas.SampleLaws.{sample_of}
 use Rattle.dtype_paths.specs.At.{At, step}
@@ -21,8 +21,9 @@ use Rattle.dtype_paths.specs.declared.field.Field.TheVariants.{Name, ElementType
 use Rattle.dtype_paths.proofs.lemmas.Cases.{by_bool}
 use Rattle.dtype_projection.specs.Projected.{PathPredicate, after_step, without_field, projected, prepend_kept}
 use Rattle.dtype_projection.specs.Restricted.{each_value, each_item, in_record, prepend_pair, restricted, restricted_pairs}
-use Rattle.dtype_projection.proofs.lemmas.Predicates.{by_name, after_without_other}
-use Rattle.dtype_projection.proofs.lemmas.Projections.{each_projection, named_first, named_itself, path_is_kept}
+use Rattle.dtype_projection.proofs.lemmas.Projections.{by_name, after_without_other, each_projection, named_first, named_itself, path_is_kept}
+use Rattle.dtype_base.specs.declared.nullability.Nullability.TheVariants.{NonNullable}
+use Rattle.dtype_paths.specs.Equality.{same_path}
 
 pub restricted_root : (t : Tree) (w : PathPredicate) (v : Value) → w [] ≡ true → restricted t w v ≡ v
 restricted_root (list t n) w v e = rw e refl
@@ -207,3 +208,26 @@ found_kept (f ∷ p) r t z w v x is a h = by_bool (w [])
     (λ root. subst (λ y. Found v ((f ∷ p) ++ r) x ↔ Found y ((f ∷ p) ++ r) x) (sym (restricted_root t w v root)) (λ g. g, λ g. g))
     (λ root. let u = path_is_kept p a.0 z (after_step f w) is a.2 in
     found_step t f a.0 u.0 w (p ++ r) v x root a.1 u.1 (λ y at b o. found_kept p r y z (after_step f w) b x is (subst (λ k. At k p z) (same_Some a.0 y (sym a.1 ∙ at)) a.2) o) h)
+
+-- ---- an example: a path that leads through an extension exists in no type, but finds something in a value, which the
+-- restricted value doesn't have
+
+-- two fields, a and c; a is an extension over a struct with a field b
+abbrev whole : Tree
+whole = struct (field (97 ∷ []) (extension [] [] (struct (field (98 ∷ []) (bool NonNullable) no_items) NonNullable)) (field (99 ∷ []) (bool NonNullable) no_items)) NonNullable
+
+abbrev part : Tree
+part = struct (field (99 ∷ []) (bool NonNullable) no_items) NonNullable
+
+abbrev a_b : List Field
+a_b = Name (97 ∷ []) ∷ Name (98 ∷ []) ∷ []
+
+abbrev wanted : PathPredicate
+wanted p = same_path p a_b || same_path p (Name (99 ∷ []) ∷ [])
+
+abbrev row : Value
+row = record_of (named (97 ∷ []) (record_of (named (98 ∷ []) (truth true) no_named)) (named (99 ∷ []) (truth true) no_named))
+
+pub lost_through_extensions : (t u : Tree) × (w : PathPredicate) × (p : List Field) × (v x : Value) × (projected t w ≡ Some u) × (w p ≡ true) × Of v t × Found v p x × ¬ (Found (restricted t w v) p x)
+lost_through_extensions =
+    (whole, part, wanted, a_b, row, truth true, refl, refl, (refl, (refl, tt, tt), (refl, tt, tt)), (record_of (named (98 ∷ []) (truth true) no_named), refl, (truth true, refl, refl)), λ f. let e = f.1 in cc)

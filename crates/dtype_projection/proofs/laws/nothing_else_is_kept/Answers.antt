@@ -1,7 +1,7 @@
 -- SPDX-License-Identifier: Apache-2.0
 -- SPDX-FileCopyrightText: Copyright the Vortex contributors
 
-use Rattle.dtype_projection.proofs.lemmas.Kept.{exists_in_kept}
+use Rattle.dtype_projection.proofs.lemmas.Projections.{exists_in_kept}
 use Rattle.dtype_projection.proofs.laws.nothing_else_is_kept.Goals as goal
 
 pub returns : goal.returns

@@ -8,7 +8,7 @@ use Rattle.dtype_base.specs.declared.vortex_error.VortexError.TheVariants.{OutOf
 use Rattle.dtype_types.specs.tree.Tree.{fields}
 use Rattle.dtype_types.specs.tree.TreeOf.{tree, children, fields_of}
 use Rattle.dtype_paths.specs.Cursors.{asks}
-use Rattle.dtype_projection.specs.private.Entered.{AreWhole, kept_field}
+use Rattle.dtype_projection.specs.private.Entered.{AreWhole}
 use Rattle.dtype_projection.specs.Projected.{projected, projected_fields, struct_with}
 use Rattle.dtype_projection.proofs.lemmas.Projections.{projected_nothing}
 use Rattle.dtype_projection.proofs.KeptFields.{all_done, all_kept, kept_at, one_kept, struct_shared}

@@ -4,10 +4,11 @@
 use Rattle.std.proofs.Common.{◌≡◌, MatchResult, subst}
 use Rattle.std.specs.FinSet as set
 use Rattle.std.specs.Option.{option_map}
+use Rattle.std.proofs.lemmas.Result.{MatchResult-weaker}
 use Rattle.dtype_base.specs.declared.vortex_error.VortexError.TheVariants.{OutOfMemory}
 use Rattle.dtype_types.specs.tree.TreeOf.{tree}
 use Rattle.dtype_projection.specs.Projected.{projected}
-use Rattle.dtype_projection.proofs.ProjectionClauses.{if_ok, some_clause, kept_clause, only_clause, valid_clause, values_clause}
+use Rattle.dtype_projection.proofs.ProjectionClauses.{clauses}
 use Rattle.dtype_projection.proofs.project.project_paths.Goals as goal
 
 pub returns : goal.returns
@@ -18,9 +19,9 @@ returns c =
     subst (λ w. MatchResult c.project.result (λ r. option_map tree r ≡ projected t w) (λ e. e ≡ OutOfMemory)) c.cursor.ensures c.project.ensures in
     record {
       ok = part;
-      some = if_ok c.project.result _ _ _ part (some_clause t s);
-      kept = if_ok c.project.result _ _ _ part (kept_clause t s);
-      only = if_ok c.project.result _ _ _ part (only_clause t s);
-      valid = λ h. if_ok c.project.result _ _ _ part (valid_clause t s h);
-      values = if_ok c.project.result _ _ _ part (values_clause t s);
+      some = MatchResult-weaker c.project.result part (λ r is. (clauses t s r is).0) (λ _ _. tt);
+      kept = MatchResult-weaker c.project.result part (λ r is. (clauses t s r is).1) (λ _ _. tt);
+      only = MatchResult-weaker c.project.result part (λ r is. (clauses t s r is).2) (λ _ _. tt);
+      valid = λ h. MatchResult-weaker c.project.result part (λ r is. (clauses t s r is).3 h) (λ _ _. tt);
+      values = MatchResult-weaker c.project.result part (λ r is. (clauses t s r is).4) (λ _ _. tt);
     }

@@ -20,7 +20,7 @@ use Rattle.dtype_paths.specs.declared.node.Node.{Node}
 use Rattle.dtype_paths.proofs.DistinctLists.{distinct-nil, distinct-cons, distinct-head, distinct-tail}
 use Rattle.dtype_paths.proofs.lemmas.Cases.{by_option}
 use Rattle.dtype_paths.proofs.ListMembers.{contains-cons, contains-head, contains-map, contains-mapped, contains-nil, contains-tail}
-use Rattle.dtype_paths.proofs.Reaching.{child-ends, child-reached, ends-nowhere, ends-stepped}
+use Rattle.dtype_paths.proofs.Reaching.{child-ends, child-reached, ends_nowhere, ends_stepped}
 
 abbrev names : List (Field × ℕ) → List (List ℕ × ℕ)
 names es = filter_map name_entry es
@@ -77,16 +77,16 @@ module _ (nodes : List Node) (t : IsTrie nodes) (i : ℕ) (r : IsReached nodes i
       λ c z.
           let w = contains-map (λ (e : List ℕ × ℕ). e.0) (names es) n (subst (λ ns. Contains ns n) (firsts-named nodes (names es)) c) in
           let on = led (Name w.0.0) w.0.1 (name-from es w.0 w.1) in
-          child-ends nodes t i w.0.1 (Name w.0.0) r on (ends-stepped nodes i w.0.1 (Name w.0.0) (sym on) ∙ ap (λ m. after_step (Name m) (ends_below nodes i)) w.2 ∙ z),
+          child-ends nodes t i w.0.1 (Name w.0.0) r on (ends_stepped nodes i w.0.1 (Name w.0.0) (sym on) ∙ ap (λ m. after_step (Name m) (ends_below nodes i)) w.2 ∙ z),
       λ some. by_option (child_at nodes i (Name n))
-          (λ none. absurd (some (sym (ends-nowhere nodes i (Name n) (sym none)))))
+          (λ none. absurd (some (sym (ends_nowhere nodes i (Name n) (sym none)))))
           (λ j on. subst (λ ns. Contains ns n) (sym (firsts-named nodes (names es)))
           (contains-mapped (λ (e : List ℕ × ℕ). e.0) (n, j) (names es) (name-has es n j (Contains-from_lookup (λ f g. (same_field-Decides f g).0) (Name n) j es (steps (Name n) ∙ on))))),
     );
     each = λ e c.
         let w = contains-map (λ (d : List ℕ × ℕ). (d.0, ends_below nodes d.1)) (names es) e c in
         let on = led (Name w.0.0) w.0.1 (name-from es w.0 w.1) in
-        ap (λ (d : List ℕ × PathPredicate). d.1) (sym w.2) ∙ ends-stepped nodes i w.0.1 (Name w.0.0) (sym on) ∙ ap (λ (d : List ℕ × PathPredicate). after_step (Name d.0) (ends_below nodes i)) w.2;
+        ap (λ (d : List ℕ × PathPredicate). d.1) (sym w.2) ∙ ends_stepped nodes i w.0.1 (Name w.0.0) (sym on) ∙ ap (λ (d : List ℕ × PathPredicate). after_step (Name d.0) (ends_below nodes i)) w.2;
   }
 
 -- ---- how many they are

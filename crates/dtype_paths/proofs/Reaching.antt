@@ -23,10 +23,6 @@ use Rattle.dtype_paths.proofs.lemmas.SetMembers.{from_list-Decides}
 use Rattle.dtype_paths.proofs.NodeIndices.{contains-whole, terminal-of}
 use Rattle.dtype_paths.proofs.TrieGrowth.{walk-append, walk-snoc}
 
--- the root is reached by the path without steps
-pub root-reached : (nodes : List Node) → IsReached nodes 0
-root-reached nodes = ∣ ([], refl) ∣₁
-
 module _ (nodes : List Node) (t : IsTrie nodes) where
   pub reached_inside : (i : ℕ) → IsReached nodes i → i < length nodes
   reached_inside i r = ∥∥₁_elim r le_prop (λ s. t.inside s.0 i s.1)
@@ -89,8 +85,8 @@ pub ends-child : (nodes : List Node) (i : ℕ) (f : Field) (o : Option ℕ) → 
 ends-child nodes i f o e p = ap (λ (x : Option ℕ). is_some (option_and_then (terminal_at nodes) (option_and_then (λ j. walk (child_at nodes) j p) x))) (sym e)
 
 -- the same of a child that is there, and of none
-pub ends-stepped : (nodes : List Node) (i j : ℕ) (f : Field) → Some j ≡ child_at nodes i f → ends_below nodes j ≡ after_step f (ends_below nodes i)
-ends-stepped nodes i j f e = λ k p. sym (ends-child nodes i f (Some j) e p) k
+pub ends_stepped : (nodes : List Node) (i j : ℕ) (f : Field) → Some j ≡ child_at nodes i f → ends_below nodes j ≡ after_step f (ends_below nodes i)
+ends_stepped nodes i j f e = λ k p. sym (ends-child nodes i f (Some j) e p) k
 
-pub ends-nowhere : (nodes : List Node) (i : ℕ) (f : Field) → None ≡ child_at nodes i f → no_path ≡ after_step f (ends_below nodes i)
-ends-nowhere nodes i f e = λ k p. sym (ends-child nodes i f None e p) k
+pub ends_nowhere : (nodes : List Node) (i : ℕ) (f : Field) → None ≡ child_at nodes i f → no_path ≡ after_step f (ends_below nodes i)
+ends_nowhere nodes i f e = λ k p. sym (ends-child nodes i f None e p) k

@@ -3,25 +3,25 @@
 
 use Rattle.std.proofs.Common.{◌∙◌, ap, sym}
 use Rattle.dtype_paths.specs.Cursors.{asks, asks_if}
-use Rattle.dtype_paths.proofs.Reaching.{ends-stepped, ends-nowhere}
+use Rattle.dtype_paths.proofs.Reaching.{ends_stepped, ends_nowhere}
 use Rattle.dtype_paths.proofs.field_path_cursor.FieldPathCursor.step.Goals as goal
 
 pub returns-in_err-node_index-clause-paths : goal.returns-in_err-node_index-clause-paths
 unfolding asks
 returns-in_err-node_index-clause-paths c =
-    ap asks_if c.from_residual.ensures ∙ ends-nowhere c.args.self.now.trie.now c.args.self.now.node_index c.args.step.now c.in_err-node_index.ensures.node
+    ap asks_if c.from_residual.ensures ∙ ends_nowhere c.args.self.now.trie.now c.args.self.now.node_index c.args.step.now c.in_err-node_index.ensures.node
 
 pub returns-in_err-node_index-clause-none : goal.returns-in_err-node_index-clause-none
 unfolding asks
 returns-in_err-node_index-clause-none c =
-    (λ _. sym (ends-nowhere c.args.self.now.trie.now c.args.self.now.node_index c.args.step.now c.in_err-node_index.ensures.node), λ _. c.from_residual.ensures)
+    (λ _. sym (ends_nowhere c.args.self.now.trie.now c.args.self.now.node_index c.args.step.now c.in_err-node_index.ensures.node), λ _. c.from_residual.ensures)
 
 pub returns-clause-paths : goal.returns-clause-paths
 unfolding asks
-returns-clause-paths c = ends-stepped c.args.self.now.trie.now c.args.self.now.node_index c.in_ok-node_index.node_index c.args.step.now c.in_ok-node_index.ensures.node
+returns-clause-paths c = ends_stepped c.args.self.now.trie.now c.args.self.now.node_index c.in_ok-node_index.node_index c.args.step.now c.in_ok-node_index.ensures.node
 
 pub returns-clause-none : goal.returns-clause-none
 unfolding asks
 returns-clause-none c =
-    let on = ends-stepped c.args.self.now.trie.now c.args.self.now.node_index c.in_ok-node_index.node_index c.args.step.now c.in_ok-node_index.ensures.node in
+    let on = ends_stepped c.args.self.now.trie.now c.args.self.now.node_index c.in_ok-node_index.node_index c.args.step.now c.in_ok-node_index.ensures.node in
     (λ e. cc, λ z. absurd (c.in_ok-node_index.ensures.some (on ∙ z)))

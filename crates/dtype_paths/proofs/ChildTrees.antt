@@ -11,8 +11,9 @@ use Rattle.std.specs.List.Sorted.{IsStrictlySortedBy}
 use Rattle.std.specs.Map.{keys_of, lookup, values_of}
 use Rattle.std.specs.Option.{option_or}
 use Rattle.std.specs.Ordering.{eq_by_cmp, nat_cmp}
+use Rattle.std.proofs.lemmas.Cmp.{eq_by_cmp_equiv}
 use Rattle.std.proofs.lemmas.Map.Entries.{lookup_head}
-use Rattle.std.proofs.lemmas.Map.Keys.{IsDistinct-cons, IsDistinct-from_sorted, IsDistinct-head, IsDistinct-tail}
+use Rattle.std.proofs.lemmas.Map.Keys.{IsDistinct-cons, IsDistinct-from_sorted, IsDistinct-tail}
 use Rattle.dtype_paths.specs.private.ChildTrees.{at_key, led_by, steps_in, IsChildTree, IsFirst, IsTaken}
 use Rattle.dtype_paths.specs.Equality.{same_field}
 use Rattle.dtype_paths.specs.EqualityLaws.{same_field-Decides, same_field_equiv}
@@ -22,7 +23,7 @@ use Rattle.dtype_paths.specs.declared.field.Field.{Field}
 use Rattle.dtype_paths.proofs.lemmas.Cases.{by_bool, by_option}
 use Rattle.dtype_paths.specs.PathOrderLaws.{field_ties}
 use Rattle.dtype_paths.proofs.DistinctLists.{IsDistinct-nil}
-use Rattle.dtype_paths.proofs.ChildLists.{absent-lookup, distinct-append, lookup-absent, lookup-append}
+use Rattle.dtype_paths.proofs.ChildLists.{absent-lookup, distinct-append, lookup-append, lookup-later}
 
 -- ---- keys
 
@@ -36,7 +37,7 @@ own_key j k e = (Equal-is (nat_cmp j k)).1 (subst (λ x. nat_cmp j x ≡ Equal) 
 
 none_later : (e : ℕ × (Field × ℕ)) (es : List (ℕ × (Field × ℕ))) (k : ℕ) → IsDistinct (eq_by_cmp nat_cmp) (keys_of (e ∷ es)) → is_at (nat_cmp k) e.0 ≡ true → at_key es k ≡ None
 none_later e es k d h =
-    rw (same_key k e.0 h) (lookup-absent (is_at (nat_cmp e.0)) es (IsDistinct-head (eq_by_cmp nat_cmp) e.0 (keys_of es) d))
+    lookup-later (eq_by_cmp_equiv nat_cmp_total) k e es d h
 
 abbrev AreKeyed : List (ℕ × (Field × ℕ)) → Type 0
 AreKeyed es = (k : ℕ) (v : Field × ℕ) → at_key es k ≡ Some v → step_key v.0 ≡ k

@@ -3,23 +3,21 @@
 
 -- The empty set, and how many paths are as is said.
 use Rattle.std.specs.FinSet as set
-use Rattle.std.proofs.Common.{◌≡◌, ◌≤◌, ◌+◌, ◌∷◌, ℕ, List, [], Bor, ◌≢◌, ◌||◌, false, length, map, cond, refl, sym, ap, ◌∙◌, arith}
-use Rattle.std.specs.List.{AllByRecursion, IsDistinct, list_any}
+use Rattle.std.proofs.Common.{◌≡◌, ◌≤◌, ◌+◌, ◌∷◌, ℕ, List, [], Bor, ◌≢◌, false, length, map, cond, refl, sym, ap, ◌∙◌, arith}
 use Rattle.dtype_base.specs.Distinct.{Distinct}
 use Rattle.std.proofs.lemmas.Bool.{false≢true, false_from_ne_true}
 use Rattle.std.proofs.lemmas.List.{length-map}
 use Rattle.std.proofs.lemmas.Bool.Decides.{same_from_decides}
 use Rattle.std.proofs.lemmas.Map.Made.{is_member-Decides, IsDistinct-from_AllPairs, length-le_from_is_member}
-use Rattle.std.proofs.lemmas.Map.Keys.{IsDistinct-head, IsDistinct-tail}
 use Rattle.dtype_paths.specs.Covering.{IsCountOf, least}
 use Rattle.dtype_paths.specs.EqualityLaws.{same_path-Decides, same_path_equiv}
-use Rattle.dtype_paths.specs.Equality.{same_path}
 use Rattle.dtype_paths.specs.PathOrder.{PathSet, path_cmp, set_of}
 use Rattle.dtype_paths.specs.PathOrderLaws.{path_cmp_total}
 use Rattle.dtype_paths.specs.declared.field.Field.{Field}
-use Rattle.dtype_paths.proofs.ListMembers.{contains-head}
+use Rattle.dtype_paths.proofs.DistinctLists.{distinct-cons, distinct-head, distinct-nil, distinct-tail}
+use Rattle.dtype_paths.proofs.ListMembers.{contains-head, contains-nil}
 use Rattle.dtype_paths.proofs.lemmas.SetCovers.{least_one, least_word}
-use Rattle.dtype_paths.proofs.lemmas.SetMembers.{contains_empty, from_list-Decides, insert_has, of_has, one_only, same_by}
+use Rattle.dtype_paths.proofs.lemmas.SetMembers.{contains_empty, insert_has, of_has, of_only, one_only, same_by}
 
 -- the least paths of the empty set are none
 pub least_none : least set.empty ≡ set.empty
@@ -48,23 +46,17 @@ one_count P m n a b = omega (arith, at_most P m n a b, at_most P n m b a)
 
 -- ---- a list with each path of a set once, as `iter` gives it
 
-none_is : (q : List Field) (ps : List (List Field)) → AllByRecursion (λ p. same_path q p ≡ false) ps → list_any (same_path q) ps ≡ false
-none_is q [] h = refl
-none_is q (p ∷ ps) h = ap (λ b. b || list_any (same_path q) ps) h.0 ∙ none_is q ps h.1
-
-len_of : (ps : List (List Field)) → IsDistinct same_path ps → set.len (set_of ps) ≡ length ps
+len_of : (ps : List (List Field)) → Distinct ps → set.len (set_of ps) ≡ length ps
 len_of [] d = set.len-empty path_cmp
 len_of (p ∷ ps) d =
-    let new : set.contains (set_of ps) p ≡ false = false_from_ne_true _ (λ c. false≢true (
-    sym (none_is p ps (IsDistinct-head same_path p ps d)) ∙ (is_member-Decides same_path-Decides ps p).1 ((from_list-Decides ps p).0 c)
-    )) in
+    let new : set.contains (set_of ps) p ≡ false = false_from_ne_true _ (λ c. distinct-head p ps d (of_only ps p c)) in
     let one_more : set.len (set_of (p ∷ ps)) ≡ set.len (set_of ps) + 1 = set.len-insert path_cmp_total (set_of ps) p ∙ ap (λ b. cond b (set.len (set_of ps)) (set.len (set_of ps) + 1)) new in
-    let rest : set.len (set_of ps) ≡ length ps = len_of ps (IsDistinct-tail same_path p ps d) in
+    let rest : set.len (set_of ps) ≡ length ps = len_of ps (distinct-tail p ps d) in
     omega (arith, one_more, rest)
 
 -- it has as many paths as the set
 pub listed_len : (ps : List (List Field)) (s : PathSet) → set_of ps ≡ s → Distinct ps → length ps ≡ set.len s
-listed_len ps s is d = sym (ap set.len (sym is) ∙ len_of ps (IsDistinct-from_AllPairs same_path-Decides ps d))
+listed_len ps s is d = sym (ap set.len (sym is) ∙ len_of ps d)
 
 -- so have references to them
 pub lent_len : (xs : List (Bor (List Field))) (s : PathSet) → set_of (map (λ x. x.now) xs) ≡ s → Distinct (map (λ x. x.now) xs) → length xs ≡ set.len s
@@ -81,8 +73,7 @@ some_listed p ps s is e = cc (none_listed (p ∷ ps) (is ∙ e))
 
 -- where the set has one path, so has the list
 pub one_listed : (ps : List (List Field)) (p : List Field) → set_of ps ≡ set.insert set.empty p → Distinct ps → ps ≡ p ∷ []
-unfolding IsDistinct
-one_listed ps p is d = go ps is (listed_len ps (set.insert set.empty p) is d ∙ len_of (p ∷ []) (tt, tt))
+one_listed ps p is d = go ps is (listed_len ps (set.insert set.empty p) is d ∙ len_of (p ∷ []) (distinct-cons p [] (contains-nil p) (distinct-nil [] refl)))
   where
     go : (qs : List (List Field)) → set_of qs ≡ set.insert set.empty p → length qs ≡ 1 → qs ≡ p ∷ []
     go (q ∷ []) e one = ap (λ x. x ∷ []) (one_only p q (ap (λ s. set.contains s q) (sym e) ∙ insert_has set.empty q))

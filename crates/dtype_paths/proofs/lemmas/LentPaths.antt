@@ -2,17 +2,17 @@
 -- SPDX-FileCopyrightText: Copyright the Vortex contributors
 
 -- The paths that a set lends. `lent_paths` names all of it in one line.
-use Rattle.std.specs.Prelude.{◌≡◌, ◌<◌, ℕ, IsTrue, List, [], ◌∷◌, length, map, refl}
+use Rattle.std.specs.Prelude.{◌≡◌, ◌<◌, ℕ, IsTrue, List, get_or, length, map, refl}
 use Rattle.std.specs.Borrow.{Bor}
 use Rattle.std.specs.FinSet as set
 use Rattle.std.specs.List.{All, Any, Contains, slice_index_or, starts_with}
 use Rattle.std.proofs.Common.{ap, sym, subst, ◌∙◌}
-use Rattle.std.proofs.lemmas.List.Elements.{All-cons, All-nil}
+use Rattle.std.proofs.lemmas.List.Elements.{Contains-get_or}
 use Rattle.dtype_paths.specs.Covering.{covers}
 use Rattle.dtype_paths.specs.Equality.{same_field}
 use Rattle.dtype_paths.specs.PathOrder.{PathSet, path_cmp}
 use Rattle.dtype_paths.specs.declared.field.Field.{Field}
-use Rattle.dtype_paths.proofs.ListMembers.{contains-head, contains-map, contains-tail}
+use Rattle.dtype_paths.proofs.ListMembers.{contains-map, contains-mapped}
 use Rattle.dtype_paths.proofs.lemmas.Beginnings.{starts_with-Decides}
 use Rattle.dtype_paths.proofs.lemmas.SetCovers.{covers_word}
 use Rattle.dtype_paths.proofs.lemmas.SetMembers.{of_has, of_only}
@@ -20,11 +20,7 @@ use Rattle.dtype_paths.proofs.lemmas.Stepping.{beginning_tested, tested_beginnin
 
 -- what holds of each member of a mapped list holds of all that it is made of
 pub all_mapped : {X : Type 0} (f : X → List Field) (P : List Field → Type 0) (xs : List X) → ((q : List Field) → Contains (map f xs) q → P q) → All (λ x. P (f x)) xs
-all_mapped f P [] holds = All-nil (λ x. P (f x))
-all_mapped f P (x ∷ xs) holds =
-    All-cons (λ y. P (f y)) x xs
-    (holds (f x) (contains-head (f x) (map f xs)))
-    (all_mapped f P xs (λ q c. holds q (contains-tail (f x) q (map f xs) c)))
+all_mapped f P xs holds = λ i d lt. holds (f (get_or xs i d)) (contains-mapped f (get_or xs i d) xs (Contains-get_or xs i d lt))
 
 -- Each that is lent is a member, and each member is lent. The first part of each of these two says nothing: it shows a
 -- search the call to match, so that `all`, `any` and `find` prove whatever their closure asks of a path.

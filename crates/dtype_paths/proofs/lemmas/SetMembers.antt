@@ -7,7 +7,7 @@ use Rattle.std.specs.Bool.{Decides}
 use Rattle.std.specs.FinSet as set
 use Rattle.std.specs.List.{Contains, list_any}
 use Rattle.std.proofs.Common.{ap, sym, inl, inr, ◌∙◌}
-use Rattle.std.proofs.Math.Bool.{or_comm, or-false}
+use Rattle.std.proofs.Math.Bool.{or_assoc, or_comm, or_self, or-false}
 use Rattle.std.proofs.lemmas.Bool.{false≢true, or_cases, or_left, or_right}
 use Rattle.std.proofs.lemmas.Bool.Decides.{same_from_decides}
 use Rattle.std.specs.Ordering.{eq_by_cmp}
@@ -94,14 +94,10 @@ pub insert_again : (s : PathSet) (p : List Field) → set.insert (set.insert s p
 insert_again s p = insert_known (set.insert s p) p (insert_has s p)
 
 or_swap : (a b c : Bool) → (a || (b || c)) ≡ (b || (a || c))
-or_swap true true c = refl
-or_swap true false c = refl
-or_swap false b c = refl
+or_swap a b c = sym (or_assoc a b c) ∙ ap (λ x. x || c) (or_comm a b) ∙ or_assoc b a c
 
 or_twice : (a b : Bool) → ((a || b) || b) ≡ (a || b)
-or_twice true b = refl
-or_twice false true = refl
-or_twice false false = refl
+or_twice a b = or_assoc a b b ∙ ap (λ x. a || x) (or_self b)
 
 pub insert_swap : (s : PathSet) (p q : List Field) → set.insert (set.insert s p) q ≡ set.insert (set.insert s q) p
 insert_swap s p q = same_by _ _ (λ r.

@@ -3,9 +3,9 @@
 
 -- Lemmas on paths and on masks that are stepped into. For callers' proofs `stepping` names them in one line:
 --     #![tactic(auto, using(dtype_paths::proofs::lemmas::Stepping::stepping))]
-use Rattle.std.proofs.Common.{◌≡◌, ◌↔◌, ◌⊎◌, ◌≤◌, ◌∙◌, inl, inr, ℕ, List, [], ◌∷◌, ◌++◌, Bool, true, false, cond, Option, Some, None, IsTrue, length, refl, sym, ap, subst, arith}
+use Rattle.std.proofs.Common.{◌≡◌, ◌↔◌, ◌⊎◌, ◌≤◌, ◌∙◌, inl, inr, ℕ, List, [], ◌∷◌, ◌++◌, Bool, true, false, cond, Some, None, IsTrue, length, refl, sym, ap, subst, arith}
 use Rattle.std.proofs.lemmas.Option.{same_Some}
-use Rattle.std.specs.Prelude.{bytes_eq, option_and_then}
+use Rattle.std.specs.Prelude.{bytes_eq}
 use Rattle.std.specs.List.{starts_with}
 use Rattle.dtype_base.specs.declared.nullability.Nullability.{Nullability}
 use Rattle.dtype_types.specs.parts.Lookups.{first_named}
@@ -17,7 +17,7 @@ use Rattle.dtype_types.specs.declared.dtype.kinds.Kind.TheVariants as kinds
 use Rattle.dtype_types.specs.declared.struct_fields.StructFields.{StructFields}
 use Rattle.dtype_types.proofs.lemmas.TreeLaws.{pairs_of}
 use Rattle.dtype_paths.specs.Along.{along}
-use Rattle.dtype_paths.specs.At.{At, ExistsIn, step}
+use Rattle.dtype_paths.specs.At.{At, ExistsIn}
 use Rattle.dtype_paths.specs.Beginning.{Beginning}
 use Rattle.dtype_paths.specs.Crosses.{CrossesNoExtension, CrossesNoSizeZero}
 use Rattle.dtype_paths.specs.Equality.{same_field, same_path}
@@ -25,6 +25,7 @@ use Rattle.dtype_paths.specs.EqualityLaws.{same_field-Decides, same_path-Decides
 use Rattle.dtype_paths.specs.In.{In, first_part}
 use Rattle.dtype_paths.proofs.lemmas.Beginnings.{begins_nil, starts_with-Decides}
 use Rattle.dtype_paths.proofs.lemmas.MaskSteps.{first_asked}
+use Rattle.dtype_paths.proofs.lemmas.Steps.{step_element, then_some}
 use Rattle.dtype_paths.proofs.lemmas.Walks.{along-At, At-along, along_after, none_after, none_further, one_type_at}
 use Rattle.dtype_paths.specs.declared.field.Field.{Field}
 use Rattle.dtype_paths.specs.declared.field.Field.TheVariants.{Name, ElementType}
@@ -43,15 +44,10 @@ pub at_joined : (t u : Tree) (p q : List Field) → At t (p ++ q) u ↔ ((x : Tr
 at_joined t u p q = (At_split t u p q, λ w. at_append t u w.0 p q w.1 w.2)
 
 -- behind a path to a list are its elements
-element_step : (t : Tree) → step t ElementType ≡ any_size_list_element t
-element_step (list t n) = refl
-element_step (fixed_size_list t k n) = refl
-element_step _ = refl
-
 pub at_element : (t u : Tree) (p : List Field) → At t (p ++ ElementType ∷ []) u → (x : Tree) × At t p x × (any_size_list_element x ≡ Some u)
 at_element t u p a =
     let r = At_split t u p (ElementType ∷ []) a in
-    (r.0, r.1, sym (element_step r.0) ∙ (r.2.1 ∙ ap Some r.2.2))
+    (r.0, r.1, sym (step_element r.0) ∙ (r.2.1 ∙ ap Some r.2.2))
 
 pub beginning_exists : (t u : Tree) (p q : List Field) → Beginning p q → At t q u → (x : Tree) × At t p x
 beginning_exists t u p q b a = let r = At_split t u p b.0 (subst (λ z. At t z u) b.1 a) in (r.0, r.1)
@@ -79,11 +75,7 @@ tested_paths p q e = (same_path-Decides p q).0 e
 
 -- a path of one name
 pub one_name : (fs : Fields) (n : Nullability) (m : List ℕ) → along (struct fs n) (Name m ∷ []) ≡ first_named (pairs fs) m
-one_name fs n m = go (first_named (pairs fs) m)
-  where
-    go : (o : Option Tree) → option_and_then (λ x. Some x) o ≡ o
-    go None = refl
-    go (Some x) = refl
+one_name fs n m = then_some (first_named (pairs fs) m)
 
 pub column_along : (t : Tree) (fs : Fields) (n : Nullability) (m : List ℕ) → t ≡ struct fs n → along t (Name m ∷ []) ≡ first_named (pairs fs) m
 column_along t fs n m e = ap (λ x. along x (Name m ∷ [])) e ∙ one_name fs n m

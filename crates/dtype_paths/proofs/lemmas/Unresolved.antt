@@ -53,21 +53,17 @@ map_filter f test (x ∷ xs) = go (test (f x)) (map_filter f test xs)
     go true e = ap (λ l. f x ∷ l) e
     go false e = e
 
--- the set of what a test leaves of a list
-contains_filtered : (test : List Field → Bool) (ps : List (List Field)) (q : List Field) → set.contains (set.from_list {R = path_cmp} (filter test ps)) q ≡ (test q && set.contains (set.from_list {R = path_cmp} ps) q)
-contains_filtered test ps q =
-    let listed : (xs : List (List Field)) → set.contains (set.from_list {R = path_cmp} xs) q ≡ list_any (same_path q) xs = λ xs. set.contains-from_list path_cmp_total xs q ∙ sym (any_tied q xs) in
-    listed (filter test ps)
-    ∙ any-filter_same (same_path q) test (test q) (λ k h. ap test (sym ((same_path-Decides q k).0 h))) ps
-    ∙ ap (λ b. test q && b) (sym (listed ps))
-
 contains_retained : (s : PathSet) (test : List Field → Bool) (q : List Field) → set.contains (set.retain s test) q ≡ (set.contains s q && test q)
 contains_retained s test q = set.contains-retain s test q (λ x h. ap test (sym (same_tied q x h)))
 
+-- the set of what a test leaves of a list
 of_filtered : (test : List Field → Bool) (ps : List (List Field)) → set.from_list (filter test ps) ≡ set.retain (set.from_list {R = path_cmp} ps) test
 of_filtered test ps = same_by _ _ (λ q.
-    contains_filtered test ps q
-    ∙ and_comm (test q) (set.contains (set.from_list {R = path_cmp} ps) q)
+    let listed = λ (xs : List (List Field)). set.contains-from_list path_cmp_total xs q ∙ sym (any_tied q xs) in
+    listed (filter test ps)
+    ∙ any-filter_same (same_path q) test (test q) (λ k h. ap test (sym ((same_path-Decides q k).0 h))) ps
+    ∙ and_comm (test q) (list_any (same_path q) ps)
+    ∙ ap (λ b. b && test q) (sym (listed ps))
     ∙ sym (contains_retained (set.from_list ps) test q))
 
 -- what is left of the list of a set

@@ -12,7 +12,7 @@ use Rattle.dtype_paths.specs.PathPredicates.{no_path}
 use Rattle.dtype_paths.specs.declared.field.Field.{Field}
 use Rattle.dtype_paths.specs.declared.field.Field.TheVariants.{ElementType}
 use Rattle.dtype_paths.proofs.lemmas.Cases.{by_option}
-use Rattle.dtype_paths.proofs.lemmas.Steps.{step_element}
+use Rattle.dtype_paths.proofs.lemmas.Steps.{step_element, then_some}
 use Rattle.dtype_projection.specs.Projected.{PathPredicate, after_step, projected}
 use Rattle.dtype_projection.proofs.lemmas.Projections.{along_step, kept_root, projected_nothing}
 
@@ -47,10 +47,6 @@ opened_here t w p end =
 
 -- In a list, what the projection has of the element. The first part says nothing: it shows a search the call to match.
 pub element_opened : (t : Tree) (w : PathPredicate) → (projected t w ≡ projected t w) × (w [] ≡ false → option_and_then (λ u. along u (ElementType ∷ [])) (projected t w) ≡ option_and_then (λ x. projected x (after_step ElementType w)) (any_size_list_element t))
-element_opened t w = (refl, λ root. along_step t w ElementType [] root ∙ (λ i. option_and_then (λ x. then_same (projected x (after_step ElementType w)) i) (step_element t i)))
-  where
-    then_same : (o : Option Tree) → option_and_then (λ u. Some u) o ≡ o
-    then_same None = refl
-    then_same (Some u) = refl
+element_opened t w = (refl, λ root. along_step t w ElementType [] root ∙ (λ i. option_and_then (λ x. then_some (projected x (after_step ElementType w)) i) (step_element t i)))
 
 pub ruleset descending = (opened_after, opened_nowhere, opened_unasked, opened_whole, opened_here, element_opened)

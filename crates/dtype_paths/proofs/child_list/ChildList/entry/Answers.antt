@@ -6,7 +6,7 @@ use Rattle.std.specs.List.{slice_get}
 use Rattle.std.specs.Map.{lookup}
 use Rattle.std.proofs.lemmas.Option.{slice_get_past, slice_get_read}
 use Rattle.dtype_paths.specs.Equality.{same_field}
-use Rattle.dtype_paths.proofs.KeyPositions.{leads-by_key, leads-nowhere}
+use Rattle.dtype_paths.proofs.ChildLists.{leads-by_key, leads-nowhere}
 use Rattle.dtype_paths.proofs.child_list.ChildList.entry.Goals as goal
 
 pub returns-in-Some-clause-node : goal.returns-in-Some-clause-node

@@ -1,7 +1,7 @@
 -- SPDX-License-Identifier: Apache-2.0
 -- SPDX-FileCopyrightText: Copyright the Vortex contributors
 
-use Rattle.dtype_paths.proofs.ChildCopies.{copied-more}
+use Rattle.dtype_paths.proofs.ChildLists.{copied-more}
 use Rattle.dtype_paths.proofs.child_map.ChildMap.to_tree.Goals as goal
 
 pub loop-step-preserved : goal.loop-step-preserved

@@ -3,7 +3,7 @@
 
 use Rattle.std.proofs.Common.{[], ◌++◌, refl, subst}
 use Rattle.dtype_paths.specs.private.ChildTrees.{steps_in}
-use Rattle.dtype_paths.proofs.ChildCopies.{copied-more, copied-none, IsCopied}
+use Rattle.dtype_paths.proofs.ChildLists.{copied-more, copied-none, IsCopied}
 use Rattle.dtype_paths.proofs.ChildTrees.{distinct_steps}
 use Rattle.dtype_paths.proofs.child_tree.ChildTree.try_clone.Goals as goal
 

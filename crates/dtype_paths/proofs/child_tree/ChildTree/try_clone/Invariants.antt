@@ -2,7 +2,7 @@
 -- SPDX-FileCopyrightText: Copyright the Vortex contributors
 
 use Rattle.std.proofs.Common.{◌++◌}
-use Rattle.dtype_paths.proofs.ChildCopies.{IsCopied}
+use Rattle.dtype_paths.proofs.ChildLists.{IsCopied}
 use Rattle.dtype_paths.proofs.child_tree.ChildTree.try_clone.Given as goal
 
 abbrev pub invariant-loop-first : goal.invariant-loop-first

@@ -3,7 +3,7 @@
 
 -- What is kept of the fields that paths step into, in the order of their positions, is the projection of all fields: of
 -- a field that no path steps into nothing is kept.
-use Rattle.std.proofs.Common.{◌≡◌, ◌⊎◌, inl, inr, ℕ, zero, suc, ◌+◌, ◌-◌, ◌<◌, ◌≤◌, List, [], ◌∷◌, ◌++◌, map, length, slice_get, true, false, cond, Option, Some, None, refl, sym, ap, subst, ◌∙◌, append_assoc, append-nil, arith}
+use Rattle.std.proofs.Common.{◌≡◌, ◌⊎◌, inl, inr, ℕ, zero, suc, ◌+◌, ◌-◌, ◌<◌, ◌≤◌, List, [], ◌∷◌, ◌++◌, map, length, slice_get, true, cond, Option, Some, None, refl, sym, ap, subst, ◌∙◌, append_assoc, append-nil, arith}
 use Rattle.std.specs.BTreeMap.{is_at}
 use Rattle.std.specs.List.{AllByRecursion, cons_option, filter_map, zip}
 use Rattle.std.specs.List.Sorted.{IsStrictlySortedBy}
@@ -47,15 +47,6 @@ kept_at fs e = kept_field fs e.0 (asks e.1)
 abbrev AreFrom : ℕ → Entries → Type 0
 AreFrom i es = AllByRecursion (λ k. i ≤ k) (keys_of es)
 
-own_position : (k : ℕ) → is_at (nat_cmp k) k ≡ true
-own_position k = ap is_eq (sym (nat_cmp_is k k Equal refl))
-
-before_position : (j k : ℕ) → j < k → is_at (nat_cmp j) k ≡ false
-before_position j k h = ap is_eq (sym (nat_cmp_is j k Less h))
-
-after_position : (j k : ℕ) → k < j → is_at (nat_cmp j) k ≡ false
-after_position j k h = ap is_eq (sym (nat_cmp_is j k Greater h))
-
 from_head : (i j : ℕ) (ks : List ℕ) → i ≤ j → AllByRecursion (λ k. nat_cmp j k ≡ Less) ks → AllByRecursion (λ k. i + 1 ≤ k) ks
 from_head i j [] h below = tt
 from_head i j (k ∷ ks) h below =
@@ -74,13 +65,13 @@ next_position i (e ∷ es) from sorted =
 
 none_at : (i : ℕ) (es : Entries) → AreFrom (i + 1) es → asked_at es i ≡ no_path
 none_at i [] from = refl
-none_at i (e ∷ es) from = ap (λ b. asks_if (cond b (Some e.1) (lookup (is_at (nat_cmp i)) es))) (before_position i e.0 (omega (arith, from.0))) ∙ none_at i es from.1
+none_at i (e ∷ es) from = ap (λ b. asks_if (cond b (Some e.1) (lookup (is_at (nat_cmp i)) es))) (ap is_eq (sym (nat_cmp_is i e.0 Less (omega (arith, from.0))))) ∙ none_at i es from.1
 
 asked_here : (i : ℕ) (v : FieldPathCursor) (rest : Entries) → asked_at ((i, v) ∷ rest) i ≡ asks v
-asked_here i v rest = ap (λ b. asks_if (cond b (Some v) (lookup (is_at (nat_cmp i)) rest))) (own_position i)
+asked_here i v rest = ap (λ b. asks_if (cond b (Some v) (lookup (is_at (nat_cmp i)) rest))) (ap is_eq (sym (nat_cmp_is i i Equal refl)))
 
 asked_later : (i : ℕ) (v : FieldPathCursor) (rest : Entries) (k : ℕ) → i < k → asked_at ((i, v) ∷ rest) k ≡ asked_at rest k
-asked_later i v rest k h = ap (λ b. asks_if (cond b (Some v) (lookup (is_at (nat_cmp k)) rest))) (after_position k i h)
+asked_later i v rest k h = ap (λ b. asks_if (cond b (Some v) (lookup (is_at (nat_cmp k)) rest))) (ap is_eq (sym (nat_cmp_is k i Greater h)))
 
 -- ---- the fields kept
 
@@ -94,11 +85,6 @@ kept_pairs : (n : List ℕ) (o : Option Tree) (rest : Fields) → cons_option (o
 kept_pairs n None rest = refl
 kept_pairs n (Some t) rest = refl
 
-kept_here : (fs : Pairs) (i : ℕ) (v : FieldPathCursor) (f : List ℕ × Tree) (w : PathPredicate) → slice_get fs i ≡ Some f → asks v ≡ w → kept_at fs (i, v) ≡ option_map (λ u. (f.0, u)) (projected f.1 w)
-kept_here fs i v f w at is =
-    ap (option_and_then (λ (g : List ℕ × Tree). option_map (λ u. (g.0, u)) (projected g.1 (asks v)))) at
-    ∙ ap (λ z. option_map (λ u. (f.0, u)) (projected f.1 z)) is
-
 -- fs are the fields from position i on, and es has what is asked of them
 kept_from : (all fs : Pairs) (i : ℕ) (es : Entries) (w : PathPredicate) → ((k j : ℕ) → j ≡ k + i → slice_get all j ≡ slice_get fs k) → AreFrom i es → IsStrictlySortedBy nat_cmp (keys_of es) → ((k j : ℕ) → j ≡ k + i → asked_at es j ≡ asked_below w (field_names fs) k)
     → filter_map (kept_at all) es ≡ pairs (projected_fields (fields fs) w)
@@ -111,7 +97,8 @@ kept_from all (f ∷ fs) i es w at from sorted a =
           let rest = h.1 in
           let is_asked : asks h.0 ≡ asked = sym (asked_here i h.0 rest) ∙ ap (λ z. asked_at z i) (sym h.2) ∙ a 0 i (omega arith) in
           ap (filter_map (kept_at all)) h.2
-          ∙ ap (λ o. cons_option o (filter_map (kept_at all) rest)) (kept_here all i h.0 f asked (at 0 i (omega arith)) is_asked)
+          ∙ ap (λ o. cons_option (option_and_then (λ (g : List ℕ × Tree). option_map (λ u. (g.0, u)) (projected g.1 (asks h.0))) o) (filter_map (kept_at all) rest)) (at 0 i (omega arith))
+          ∙ ap (λ w. cons_option (option_map (λ u. (f.0, u)) (projected f.1 w)) (filter_map (kept_at all) rest)) is_asked
           ∙ ap (cons_option (option_map (λ u. (f.0, u)) (projected f.1 asked)))
           (kept_from all fs (i + 1) rest (without_field f.0 w) (λ k j e. at (suc k) j (omega (arith, e)))
           h.3 (sorted_tail nat_cmp i (keys_of rest) (subst (λ z. IsStrictlySortedBy nat_cmp (keys_of z)) h.2 sorted))

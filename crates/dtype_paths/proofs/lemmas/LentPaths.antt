@@ -30,13 +30,11 @@ lent_here xs k d = (refl, λ l. all_mapped (λ x. x.now) (λ q. IsTrue (set.cont
 pub lent_place : (xs : List (Bor (List Field))) (p : List Field) → (set.contains (set.from_list {R = path_cmp} (map (λ x. x.now) xs)) p ≡ set.contains (set.from_list {R = path_cmp} (map (λ x. x.now) xs)) p) × (IsTrue (set.contains (set.from_list {R = path_cmp} (map (λ x. x.now) xs)) p) → (k : ℕ) × (x : Bor (List Field)) × (k < length xs) × (slice_index_or xs k x ≡ x) × (x.now ≡ p))
 lent_place xs p = (refl, λ h. let w = contains-map (λ x. x.now) xs p (of_only (map (λ x. x.now) xs) p h) in (w.1.0, w.0, w.1.1, w.1.2, w.2))
 
--- of those lent, by the set that they come from
-pub lent_at : (xs : List (Bor (List Field))) (s : PathSet) (k : ℕ) (x : Bor (List Field)) → set.from_list (map (λ y. y.now) xs) ≡ s → k < length xs → slice_index_or xs k x ≡ x → IsTrue (set.contains s x.now)
-lent_at xs s k x is l e = subst (λ (y : Bor (List Field)). IsTrue (set.contains s y.now)) e (ap (λ t. set.contains t (slice_index_or xs k x).now) (sym is) ∙ (lent_here xs k x).1 l)
-
 -- a path that begins with one of those lent is covered, and the converse
 pub begun_covered : (xs : List (Bor (List Field))) (s : PathSet) (q : List Field) (k : ℕ) (x : Bor (List Field)) → set.from_list (map (λ y. y.now) xs) ≡ s → k < length xs → slice_index_or xs k x ≡ x → IsTrue (starts_with same_field q x.now) → IsTrue (covers s q)
-begun_covered xs s q k x is l e b = (covers_word s q).1 (x.now, lent_at xs s k x is l e, (starts_with-Decides x.now q (starts_with same_field q x.now) refl).0 b)
+begun_covered xs s q k x is l e b =
+    let has = subst (λ (y : Bor (List Field)). IsTrue (set.contains s y.now)) e (ap (λ t. set.contains t (slice_index_or xs k x).now) (sym is) ∙ (lent_here xs k x).1 l) in
+    (covers_word s q).1 (x.now, has, (starts_with-Decides x.now q (starts_with same_field q x.now) refl).0 b)
 
 pub covered_begun : (xs : List (Bor (List Field))) (s : PathSet) (q : List Field) → set.from_list (map (λ y. y.now) xs) ≡ s → IsTrue (covers s q) → Any (λ x. IsTrue (starts_with same_field q x.now)) xs
 covered_begun xs s q is h =

@@ -34,9 +34,6 @@ asked_after w (f ∷ p) q = asked_after (after_step f w) p q
 abbrev Above : PathPredicate → List Field → Type 0
 Above w q = (p : List Field) × IsTrue (w p) × Beginning p q
 
-above_step : (w : PathPredicate) (f : Field) (q : List Field) → Above (after_step f w) q → Above w (f ∷ q)
-above_step w f q a = (f ∷ a.0, a.1, (a.2.0, ap (λ r. f ∷ r) a.2.1))
-
 asks_above-Decides : (w : PathPredicate) (q : List Field) → Decides (asks_above w q) (Above w q)
 asks_above-Decides w [] = (λ h. ([], h, ([], refl)), λ a. at a.0 a.1 a.2)
   where
@@ -45,7 +42,7 @@ asks_above-Decides w [] = (λ h. ([], h, ([], refl)), λ a. at a.0 a.1 a.2)
     at (g ∷ p) h b = let no : [] ≡ g ∷ (p ++ b.0) = b.1 in absurd (cc)
 asks_above-Decides w (f ∷ q) =
     let d = asks_above-Decides (after_step f w) q in (
-      λ h. ⊎_elim (λ e. ([], e, (f ∷ q, refl))) (λ e. above_step w f q (d.0 e)) (or_cases (w []) (asks_above (after_step f w) q) h),
+      λ h. ⊎_elim (λ e. ([], e, (f ∷ q, refl))) (λ e. let a = d.0 e in (f ∷ a.0, a.1, (a.2.0, ap (λ r. f ∷ r) a.2.1))) (or_cases (w []) (asks_above (after_step f w) q) h),
       λ a. at a.0 a.1 a.2 d,
     )
   where

@@ -74,11 +74,8 @@ pub tested_paths : (p q : List Field) → IsTrue (same_path p q) → p ≡ q
 tested_paths p q e = (same_path-Decides p q).0 e
 
 -- a path of one name
-pub one_name : (fs : Fields) (n : Nullability) (m : List ℕ) → along (struct fs n) (Name m ∷ []) ≡ first_named (pairs fs) m
-one_name fs n m = then_some (first_named (pairs fs) m)
-
 pub column_along : (t : Tree) (fs : Fields) (n : Nullability) (m : List ℕ) → t ≡ struct fs n → along t (Name m ∷ []) ≡ first_named (pairs fs) m
-column_along t fs n m e = ap (λ x. along x (Name m ∷ [])) e ∙ one_name fs n m
+column_along t fs n m e = ap (λ x. along x (Name m ∷ [])) e ∙ then_some (first_named (pairs fs) m)
 
 -- in a struct it crosses no size 0, and no extension where nothing is along it
 name_only : (p q : List Field) (g h : Field) (m : List ℕ) → p ≡ Name m ∷ [] → Beginning (g ∷ h ∷ q) p → ⊥

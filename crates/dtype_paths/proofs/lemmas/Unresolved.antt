@@ -66,17 +66,14 @@ of_filtered test ps = same_by _ _ (λ q.
     ∙ ap (λ b. b && test q) (sym (listed ps))
     ∙ sym (contains_retained (set.from_list ps) test q))
 
--- what is left of the list of a set
-of_unresolved : (ps : List (List Field)) (s : PathSet) (t : Tree) → set.from_list ps ≡ s → set.from_list (filter (λ p. not (is_some (along t p))) ps) ≡ unresolved s t
-unfolding unresolved
-of_unresolved ps s t is = of_filtered (λ p. not (is_some (along t p))) ps ∙ ap (λ (x : PathSet). set.retain x (λ p. not (is_some (along t p)))) is
-
--- the same of the paths that are lent
+-- what is left of the paths that a set lends
 pub lent_unresolved : (ps qs : List (Bor (List Field))) (s : PathSet) (t : Tree) → set.from_list (map (λ x. x.now) ps) ≡ s → qs ≡ filter (λ x. not (is_some (along t x.now))) ps → set.from_list (map (λ x. x.now) qs) ≡ unresolved s t
+unfolding unresolved
 lent_unresolved ps qs s t is left =
     ap (λ (xs : List (Bor (List Field))). set.from_list {R = path_cmp} (map (λ x. x.now) xs)) left
     ∙ ap (set.from_list {R = path_cmp}) (map_filter (λ x. x.now) (λ p. not (is_some (along t p))) ps)
-    ∙ of_unresolved (map (λ x. x.now) ps) s t is
+    ∙ of_filtered (λ p. not (is_some (along t p))) (map (λ x. x.now) ps)
+    ∙ ap (λ (x : PathSet). set.retain x (λ p. not (is_some (along t p)))) is
 
 pub lent_once : (ps qs : List (Bor (List Field))) (t : Tree) → Distinct (map (λ x. x.now) ps) → qs ≡ filter (λ x. not (is_some (along t x.now))) ps → Distinct (map (λ x. x.now) qs)
 lent_once ps qs t once left =

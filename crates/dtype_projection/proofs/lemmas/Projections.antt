@@ -37,11 +37,8 @@ by_name n m same other = by_bool (bytes_eq n m) (λ e. same ((bytes_eq-Decides n
 by_step : {P : Type 0} (f g : Field) → (f ≡ g → same_field f g ≡ true → P) → (f ≢ g → same_field f g ≡ false → P) → P
 by_step f g same other = by_bool (same_field f g) (λ e. same ((same_field-Decides f g).0 e) e) (λ e. other (λ q. let t : same_field f g ≡ true = (same_field-Decides f g).1 q in cc) e)
 
-pub without_field_same : (n : List ℕ) (w : PathPredicate) (p : List Field) → without_field n w (Name n ∷ p) ≡ false
-without_field_same n w p = ap (λ b. not b && w (Name n ∷ p)) ((same_field-Decides (Name n) (Name n)).1 refl)
-
 pub after_without_same : (n : List ℕ) (w : PathPredicate) → after_step (Name n) (without_field n w) ≡ no_path
-after_without_same n w = λ i p. without_field_same n w p i
+after_without_same n w = λ i p. ap (λ b. not b && w (Name n ∷ p)) ((same_field-Decides (Name n) (Name n)).1 refl) i
 
 pub after_without_other : (n m : List ℕ) (w : PathPredicate) → n ≢ m → after_step (Name m) (without_field n w) ≡ after_step (Name m) w
 after_without_other n m w ne = λ i p. by_step {P = without_field n w (Name m ∷ p) ≡ w (Name m ∷ p)} (Name n) (Name m) (λ same e. absurd (ne (cc))) (λ other e. ap (λ b. not b && w (Name m ∷ p)) e) i
@@ -62,15 +59,6 @@ kept_root _ w e = rw e refl
 
 pub whole_kept : (t u : Tree) (w : PathPredicate) → w [] ≡ true → projected t w ≡ Some u → t ≡ u
 whole_kept t u w e is = same_Some t u (sym (kept_root t w e) ∙ is)
-
-pub kept_list : (t : Tree) (n : Nullability) (w : PathPredicate) → w [] ≡ false → projected (list t n) w ≡ option_map (λ u. list u n) (projected t (after_step ElementType w))
-kept_list t n w e = rw e refl
-
-pub kept_fixed : (t : Tree) (k : ℕ) (n : Nullability) (w : PathPredicate) → w [] ≡ false → projected (fixed_size_list t k n) w ≡ option_map (λ u. fixed_size_list u k n) (projected t (after_step ElementType w))
-kept_fixed t k n w e = rw e refl
-
-pub kept_struct : (fs : Fields) (n : Nullability) (w : PathPredicate) → w [] ≡ false → projected (struct fs n) w ≡ struct_with n (projected_fields fs w)
-kept_struct fs n w e = rw e refl
 
 with_is : (n : Nullability) (gs : Fields) (u : Tree) → struct_with n gs ≡ Some u → struct gs n ≡ u
 with_is n no_items u e = cc
@@ -97,15 +85,15 @@ module _ (P : Tree → PathPredicate → Tree → Type 0) (Q : Fields → PathPr
     pub each_projection : (t u : Tree) (w : PathPredicate) → projected t w ≡ Some u → P t w u
     each_projection (list t n) u w e = by_bool (w [])
         (λ root. subst (P (list t n) w) (whole_kept (list t n) u w root e) (s.whole (list t n) w root))
-        (λ root. let x = mapped (projected t (after_step ElementType w)) (λ y. list y n) u (sym (kept_list t n w root) ∙ e) in
+        (λ root. let x = mapped (projected t (after_step ElementType w)) (λ y. list y n) u (rw root at e) in
         subst (P (list t n) w) x.2 (s.in_list t x.0 n w root (each_projection t x.0 (after_step ElementType w) x.1)))
     each_projection (fixed_size_list t k n) u w e = by_bool (w [])
         (λ root. subst (P (fixed_size_list t k n) w) (whole_kept (fixed_size_list t k n) u w root e) (s.whole (fixed_size_list t k n) w root))
-        (λ root. let x = mapped (projected t (after_step ElementType w)) (λ y. fixed_size_list y k n) u (sym (kept_fixed t k n w root) ∙ e) in
+        (λ root. let x = mapped (projected t (after_step ElementType w)) (λ y. fixed_size_list y k n) u (rw root at e) in
         subst (P (fixed_size_list t k n) w) x.2 (s.in_fixed t x.0 k n w root (each_projection t x.0 (after_step ElementType w) x.1)))
     each_projection (struct fs n) u w e = by_bool (w [])
         (λ root. subst (P (struct fs n) w) (whole_kept (struct fs n) u w root e) (s.whole (struct fs n) w root))
-        (λ root. let with : struct_with n (projected_fields fs w) ≡ Some u = sym (kept_struct fs n w root) ∙ e in
+        (λ root. let with : struct_with n (projected_fields fs w) ≡ Some u = rw root at e in
         subst (P (struct fs n) w) (with_is n (projected_fields fs w) u with) (s.in_struct fs (projected_fields fs w) n w root (λ none. let q = sym (ap (struct_with n) none) ∙ with in cc) (each_fields fs w)))
     each_projection t u w e = by_bool (w []) (λ root. subst (P t w) (whole_kept t u w root e) (s.whole t w root)) (λ root. let q = rw root at e in cc)
 
@@ -194,12 +182,12 @@ absent_kept n rest w = absent n rest w (first_kept rest (without_field n w) n)
 -- ---- a step into the projection
 
 pub step_kept : (t u : Tree) (w : PathPredicate) (f : Field) → w [] ≡ false → projected t w ≡ Some u → step u f ≡ option_and_then (λ x. projected x (after_step f w)) (step t f)
-step_kept (list t n) u w (Name m) root e = let x = mapped _ _ u (sym (kept_list t n w root) ∙ e) in ap (λ z. step z (Name m)) (sym x.2)
-step_kept (list t n) u w ElementType root e = let x = mapped _ _ u (sym (kept_list t n w root) ∙ e) in ap (λ z. step z ElementType) (sym x.2) ∙ sym x.1
-step_kept (fixed_size_list t k n) u w (Name m) root e = let x = mapped _ _ u (sym (kept_fixed t k n w root) ∙ e) in ap (λ z. step z (Name m)) (sym x.2)
-step_kept (fixed_size_list t k n) u w ElementType root e = let x = mapped _ _ u (sym (kept_fixed t k n w root) ∙ e) in ap (λ z. step z ElementType) (sym x.2) ∙ sym x.1
-step_kept (struct fs n) u w (Name m) root e = ap (λ z. step z (Name m)) (sym (with_is n (projected_fields fs w) u (sym (kept_struct fs n w root) ∙ e))) ∙ first_kept fs w m
-step_kept (struct fs n) u w ElementType root e = ap (λ z. step z ElementType) (sym (with_is n (projected_fields fs w) u (sym (kept_struct fs n w root) ∙ e)))
+step_kept (list t n) u w (Name m) root e = let x = mapped _ _ u (rw root at e) in ap (λ z. step z (Name m)) (sym x.2)
+step_kept (list t n) u w ElementType root e = let x = mapped _ _ u (rw root at e) in ap (λ z. step z ElementType) (sym x.2) ∙ sym x.1
+step_kept (fixed_size_list t k n) u w (Name m) root e = let x = mapped _ _ u (rw root at e) in ap (λ z. step z (Name m)) (sym x.2)
+step_kept (fixed_size_list t k n) u w ElementType root e = let x = mapped _ _ u (rw root at e) in ap (λ z. step z ElementType) (sym x.2) ∙ sym x.1
+step_kept (struct fs n) u w (Name m) root e = ap (λ z. step z (Name m)) (sym (with_is n (projected_fields fs w) u (rw root at e))) ∙ first_kept fs w m
+step_kept (struct fs n) u w ElementType root e = ap (λ z. step z ElementType) (sym (with_is n (projected_fields fs w) u (rw root at e)))
 step_kept _ u w f root e = let q = rw root at e in cc
 
 struct_some : (n : Nullability) (gs : Fields) (m : List ℕ) (v : Tree) → first_named (pairs gs) m ≡ Some v → (u : Tree) × (struct_with n gs ≡ Some u)
@@ -208,12 +196,12 @@ struct_some n (item k t _ gs) m v e = (struct (field k t gs) n, refl)
 
 step_some : (t y v : Tree) (w : PathPredicate) (f : Field) → w [] ≡ false → step t f ≡ Some y → projected y (after_step f w) ≡ Some v → (u : Tree) × (projected t w ≡ Some u)
 step_some (list t n) y v w ElementType root is e =
-    (list v n, kept_list t n w root ∙ ap (option_map (λ u. list u n)) (ap (λ x. projected x (after_step ElementType w)) (same_Some t y is) ∙ e))
+    (list v n, rw root (ap (option_map (λ u. list u n)) (ap (λ x. projected x (after_step ElementType w)) (same_Some t y is) ∙ e)))
 step_some (fixed_size_list t k n) y v w ElementType root is e =
-    (fixed_size_list v k n, kept_fixed t k n w root ∙ ap (option_map (λ u. fixed_size_list u k n)) (ap (λ x. projected x (after_step ElementType w)) (same_Some t y is) ∙ e))
+    (fixed_size_list v k n, rw root (ap (option_map (λ u. fixed_size_list u k n)) (ap (λ x. projected x (after_step ElementType w)) (same_Some t y is) ∙ e)))
 step_some (struct fs n) y v w (Name m) root is e =
     let r = struct_some n (projected_fields fs w) m v (first_kept fs w m ∙ ap (option_and_then (λ x. projected x (after_step (Name m) w))) is ∙ e) in
-    (r.0, kept_struct fs n w root ∙ r.1)
+    (r.0, rw root r.1)
 step_some _ y v w f root is e = cc
 
 pub path_is_kept : (p : List Field) (t x : Tree) (w : PathPredicate) → w p ≡ true → At t p x → (u : Tree) × (projected t w ≡ Some u)

@@ -20,7 +20,6 @@ use crate::{Field, FieldPath};
 use dtype_base::VortexResult;
 use std::alloc::Global;
 use std::marker::Model;
-use std::mem;
 
 /// The nodes of a trie in an arena, referred to by their indices. The root has index 0. It is stored beside the
 /// vector of the others, so that a trie of the root alone doesn't allocate.
@@ -206,7 +205,7 @@ impl Nodes {
         ensures visited { visits.new ≡ min (visits.old + 1) u64.MAX }
         ensures fits { length self.old ≤ u64.MAX }
     {
-        mem::replace(self.at_mut(node_index), Node::empty()).open(visits)
+        self.at_mut(node_index).open(visits)
     }
 
     // References to the paths that end in nodes.

@@ -246,7 +246,7 @@ fn of_queries<C: CpuClock, W: Write>(meter: &mut Meter<'_, C, W>) -> BenchResult
 
 // Path sets of one shape.
 fn of_sets<C: CpuClock, W: Write>(meter: &mut Meter<'_, C, W>, shape: SetShape) -> BenchResult<()> {
-    for count in [100, 1000, 10_000, 100_000] {
+    for count in [10, 100, 1000, 10_000, 100_000] {
         let set = path_set(meter.alloc, shape, count)?;
         let of = set.of.as_str();
         let from = FromPaths::new(meter.alloc, &set);

@@ -2,29 +2,29 @@
 -- SPDX-FileCopyrightText: Copyright the Vortex contributors
 
 -- What is asked of the fields of a struct, while the names by which paths go on are looked up one by one, or the fields.
-use Rattle.std.proofs.Common.{◌≡◌, ◌≢◌, ◌⊎◌, inl, inr, ℕ, zero, suc, ◌+◌, ◌<◌, ◌≤◌, ◌==◌, length, false, List, [], ◌∷◌, map, slice_get, Some, None, refl, sym, ap, subst, ◌∙◌, arith}
-use Rattle.std.specs.BTreeMap.{is_at}
-use Rattle.std.specs.Cmp.{Equal-is}
-use Rattle.std.specs.FinSet.{nat_cmp-IsAntisymmetric}
-use Rattle.std.specs.List.{Contains}
-use Rattle.std.specs.Map.{lookup}
-use Rattle.std.specs.Ordering.{nat_cmp}
+use Rattle.std.proofs.Common.{◌≡◌, ◌≢◌, ◌⊎◌, inl, inr, ℕ, zero, suc, ◌+◌, ◌<◌, ◌≤◌, ◌==◌, All, length, false, List, [], ◌∷◌, ◌++◌, map, get_or, slice_get, Some, None, refl, sym, ap, subst, ◌∙◌, arith}
+use Rattle.std.specs.List.{AllByRecursion, Contains, IsDistinct}
+use Rattle.std.specs.Cmp.{nat_eq_equiv}
+use Rattle.std.specs.List.Sorted.{IsNonDecreasingBy, IsPermutation}
 use Rattle.std.proofs.lemmas.Bool.{cases_lt, false≢true}
 use Rattle.std.proofs.lemmas.Bool.Decides.{Decides-eqb}
+use Rattle.std.proofs.lemmas.List.{map_push}
+use Rattle.std.proofs.lemmas.List.Elements.{All-map, All-nil, All-push, Contains-append_left, Contains-push}
+use Rattle.std.proofs.lemmas.List.Folds.{list_any_none}
+use Rattle.std.proofs.lemmas.List.Sorted.{All-permutation, Contains-permutation}
+use Rattle.std.proofs.lemmas.Map.Keys.{IsDistinct-push}
 use Rattle.std.proofs.lemmas.Option.{same_Some, slice_get_within}
+use Rattle.dtype_base.specs.Distinct.{Distinct}
 use Rattle.dtype_base.specs.FieldNames.{FirstAt, first_place}
 use Rattle.dtype_base.proofs.lemmas.Lookups.{first_of_place, place_of_first}
-use Rattle.dtype_paths.specs.Cursors.{asks_if}
+use Rattle.dtype_paths.specs.Cursors.{asks}
 use Rattle.dtype_paths.specs.PathPredicates.{no_path, AreNames}
 use Rattle.dtype_paths.specs.declared.field.Field.TheVariants.{Name}
 use Rattle.dtype_paths.specs.declared.field_path_cursor.FieldPathCursor.{FieldPathCursor}
 use Rattle.dtype_paths.proofs.lemmas.Cases.{by_bool}
-use Rattle.dtype_projection.specs.private.Entered.{asked_at, asked_below, AreEntered}
+use Rattle.dtype_projection.specs.private.Entered.{asked_below, AreEntered, Entries, IsEntered, IsSettled, PositionsDiffer, RiseFrom}
 use Rattle.dtype_projection.specs.Projected.{PathPredicate, after_step, without_field}
 use Rattle.dtype_projection.proofs.lemmas.Projections.{by_name, after_without_same, after_without_other}
-
-by_position : {P : Type 0} (k i : ℕ) → (k ≡ i → P) → (k ≢ i → P) → P
-by_position k i same other = by_bool (k == i) (λ e. same ((Decides-eqb k i).0 e)) (λ e. other (λ is. false≢true (sym e ∙ (Decides-eqb k i).1 is)))
 
 -- ---- what is asked below the field at a position, by whether it is the first of its name
 
@@ -49,13 +49,21 @@ asked_cases (m ∷ ns) w (suc k) = elim (asked_cases ns (without_field m w) k) [
     past n ne first zero lt e = ne (same_Some m n e)
     past n ne first (suc j) lt e = first j (omega (arith, lt)) e
 
--- no cursor is inserted yet
-nowhere : (es : List (ℕ × FieldPathCursor)) (k : ℕ) → es ≡ [] → asked_at es k ≡ no_path
-nowhere es k none = ap (λ (ds : List (ℕ × FieldPathCursor)). asked_at ds k) none
+-- ---- one entry more
 
--- one is inserted at a position
-pub inserted_others : (i k : ℕ) (old new : List (ℕ × FieldPathCursor)) → (is_at (nat_cmp i) k ≡ false → lookup (is_at (nat_cmp k)) new ≡ lookup (is_at (nat_cmp k)) old) → k ≢ i → asked_at new k ≡ asked_at old k
-inserted_others i k old new kept ne = ap asks_if (kept (by_bool (is_at (nat_cmp i) k) (λ e. absurd (ne (sym (nat_cmp-IsAntisymmetric i k ((Equal-is (nat_cmp i k)).0 e))))) (λ e. e)))
+settled_push : (w : PathPredicate) (ns : List (List ℕ)) (es : Entries) (e : ℕ × FieldPathCursor) (k : ℕ) → IsSettled w ns es k → IsSettled w ns (es ++ e ∷ []) k
+settled_push w ns es e k (inl none) = inl none
+settled_push w ns es e k (inr c) = inr (c.0, Contains-append_left es (e ∷ []) (k, c.0) c.1)
+
+settled_here : (w : PathPredicate) (ns : List (List ℕ)) (es : Entries) (i k : ℕ) (v : FieldPathCursor) → i ≡ k → IsSettled w ns (es ++ (i, v) ∷ []) k
+settled_here w ns es i k v is = inr (v, subst (λ j. Contains (es ++ (i, v) ∷ []) (j, v)) is (Contains-push es (i, v)))
+
+-- its position is no other's
+differ_push : (es : Entries) (i : ℕ) (v : FieldPathCursor) → All (λ e. e.0 ≢ i) es → PositionsDiffer es → PositionsDiffer (es ++ (i, v) ∷ [])
+differ_push es i v other once =
+    subst (IsDistinct (λ j k. j == k)) (sym (map_push (λ (e : ℕ × FieldPathCursor). e.0) es (i, v)))
+    (IsDistinct-push nat_eq_equiv (map (λ e. e.0) es) i once (list_any_none (λ k. i == k) (map (λ e. e.0) es) (All-map (λ k. (i == k) ≡ false) (λ e. e.0) es
+    (λ k d lt. by_bool (i == (get_or es k d).0) (λ is. absurd (other k d lt (sym ((Decides-eqb i (get_or es k d).0).0 is)))) (λ no. no)))))
 
 -- ---- name by name
 
@@ -63,95 +71,171 @@ abbrev firsts : List (List ℕ × PathPredicate) → List (List ℕ)
 firsts left = map (λ e. e.0) left
 
 -- all is entered but for the names that are left
-pub record IsEntering (w : PathPredicate) (ns : List (List ℕ)) (left : List (List ℕ × PathPredicate)) (s : ℕ → PathPredicate) : Type 0 where
-  pub each : (e : List ℕ × PathPredicate) → Contains left e → e.1 ≡ after_step (Name e.0) w
-  pub done : (k : ℕ) → ((n : List ℕ) → Contains (firsts left) n → Some k ≡ first_place ns n → ⊥) → s k ≡ asked_below w ns k
+pub record IsEntering (w : PathPredicate) (ns : List (List ℕ)) (left : List (List ℕ × PathPredicate)) (es : Entries) : Type 0 where
+  pub left_once : Distinct (firsts left)
+  pub left_each : (e : List ℕ × PathPredicate) → Contains left e → e.1 ≡ after_step (Name e.0) w
+  pub once : PositionsDiffer es
+  pub each : All (IsEntered w ns) es
+  pub ahead : (n : List ℕ) → Contains (firsts left) n → All (λ e. Some e.0 ≢ first_place ns n) es
+  pub all : (k : ℕ) → ((n : List ℕ) → Contains (firsts left) n → Some k ≢ first_place ns n) → IsSettled w ns es k
 
-pub entering-start : (w : PathPredicate) (ns : List (List ℕ)) (left : List (List ℕ × PathPredicate)) (es : List (ℕ × FieldPathCursor)) → es ≡ [] → AreNames w left → IsEntering w ns left (asked_at es)
-entering-start w ns left es none names = record {
-  each = names.each;
-  done = λ k gone. nowhere es k none ∙ sym (elim (asked_cases ns w k) [
+nothing_once : PositionsDiffer []
+unfolding IsDistinct
+nothing_once = tt
+
+pub entering-start : (w : PathPredicate) (ns : List (List ℕ)) (left : List (List ℕ × PathPredicate)) (es : Entries) → es ≡ [] → AreNames w left → IsEntering w ns left es
+entering-start w ns left es none names = subst (IsEntering w ns left) (sym none) (record {
+  left_once = names.once;
+  left_each = names.each;
+  once = nothing_once;
+  each = All-nil _;
+  ahead = λ n c. All-nil _;
+  all = λ k gone. inl (elim (asked_cases ns w k) [
     | inr e ↦ e
     | inl f ↦ asked_first ns w k f.0 f.1 ∙ nothing f.0 (λ c. gone f.0 c (sym (place_of_first ns f.0 k f.1)))
   ]);
-}
+})
   where
     -- a name by which no path goes on
     nothing : (n : List ℕ) → (Contains (firsts left) n → ⊥) → after_step (Name n) w ≡ no_path
     nothing n not_left = λ i p. by_bool (w (Name n ∷ p)) (λ e. absurd (not_left ((names.exact n).1 (λ z. false≢true (sym (ap (λ (v : PathPredicate). v p) z) ∙ e))))) (λ e. e) i
 
-contains-cons : (x y : List ℕ) (xs : List (List ℕ)) → Contains (x ∷ xs) y → (x ≡ y) ⊎ Contains xs y
-contains-cons x y xs (zero, lt, e) = inl e
-contains-cons x y xs (suc i, lt, e) = inr (i, omega (arith, lt), e)
+contains-cases : (x y : List ℕ) (xs : List (List ℕ)) → Contains (x ∷ xs) y → (x ≡ y) ⊎ Contains xs y
+contains-cases x y xs (zero, lt, e) = inl e
+contains-cases x y xs (suc i, lt, e) = inr (i, omega (arith, lt), e)
 
-module _ (w : PathPredicate) (ns : List (List ℕ)) (left rest : List (List ℕ × PathPredicate)) (m : List ℕ) (v : PathPredicate) (next : left ≡ (m, v) ∷ rest) (s : ℕ → PathPredicate) (entering : IsEntering w ns left s) where
-  old : IsEntering w ns ((m, v) ∷ rest) s
-  old = subst (λ es. IsEntering w ns es s) next entering
+distinct-tail : (x : List ℕ) (xs : List (List ℕ)) → Distinct (x ∷ xs) → Distinct xs
+distinct-tail x xs a = λ i j d lt in_list. a (suc i) (suc j) d (omega (arith, lt)) (omega (arith, in_list))
+
+module _ (w : PathPredicate) (ns : List (List ℕ)) (left rest : List (List ℕ × PathPredicate)) (m : List ℕ) (v : PathPredicate) (next : left ≡ (m, v) ∷ rest) (es : Entries) (entering : IsEntering w ns left es) where
+  old : IsEntering w ns ((m, v) ∷ rest) es
+  old = subst (λ z. IsEntering w ns z es) next entering
 
   still : (e : List ℕ × PathPredicate) → Contains rest e → e.1 ≡ after_step (Name e.0) w
-  still e c = old.each e (suc c.0, omega (arith, c.1), c.2)
+  still e c = old.left_each e (suc c.0, omega (arith, c.1), c.2)
+
+  ahead_still : (n : List ℕ) → Contains (firsts rest) n → All (λ e. Some e.0 ≢ first_place ns n) es
+  ahead_still n c = old.ahead n (suc c.0, omega (arith, c.1), c.2)
 
   -- no field has the name
-  pub entering-passed : None ≡ first_place ns m → IsEntering w ns rest s
+  pub entering-passed : None ≡ first_place ns m → IsEntering w ns rest es
   entering-passed none = record {
-    each = still;
-    done = λ k gone. old.done k (λ n c at. elim (contains-cons m n (firsts rest) c) [
+    left_once = distinct-tail m (firsts rest) old.left_once;
+    left_each = still;
+    once = old.once;
+    each = old.each;
+    ahead = ahead_still;
+    all = λ k gone. old.all k (λ n c at. elim (contains-cases m n (firsts rest) c) [
       | inl e ↦ let q : None ≡ Some k = none ∙ ap (first_place ns) e ∙ sym at in cc
       | inr c ↦ gone n c at
     ]);
   }
 
-  -- the field i has it
-  pub entering-entered : (i : ℕ) (t : ℕ → PathPredicate) → Some i ≡ first_place ns m → t i ≡ v → ((k : ℕ) → k ≢ i → t k ≡ s k) → IsEntering w ns rest t
-  entering-entered i t at here others = record {
-    each = still;
-    done = λ k gone. by_position k i
-        (λ is. ap t is ∙ here ∙ old.each (m, v) (0, omega arith, refl) ∙ sym (asked_first ns w i m (first_of_place ns m i at)) ∙ ap (asked_below w ns) (sym is))
-        (λ ne. others k ne ∙ old.done k (λ n c first. elim (contains-cons m n (firsts rest) c) [
-          | inl e ↦ ne (same_Some k i (first ∙ ap (first_place ns) (sym e) ∙ sym at))
-          | inr c ↦ gone n c first
-        ]));
-  }
+  -- the field i has it, and its cursor is entered
+  pub entering-entered : (i : ℕ) (below : FieldPathCursor) (es' : Entries) → Some i ≡ first_place ns m → asks below ≡ v → es' ≡ es ++ (i, below) ∷ [] → IsEntering w ns rest es'
+  entering-entered i below es' at is new = subst (IsEntering w ns rest) (sym new) (record {
+    left_once = distinct-tail m (firsts rest) old.left_once;
+    left_each = still;
+    once = differ_push es i below (λ k d lt is. old.ahead m (0, omega arith, refl) k d lt (ap Some is ∙ at)) old.once;
+    each = All-push (IsEntered w ns) es (i, below) old.each (is ∙ old.left_each (m, v) (0, omega arith, refl) ∙ sym (asked_first ns w i m (first_of_place ns m i at)));
+    ahead = λ n c. All-push (λ e. Some e.0 ≢ first_place ns n) es (i, below) (ahead_still n c) (λ there. not_again (subst (Contains (firsts rest)) (sym (named n there)) c));
+    all = λ k gone. by_bool (i == k) (λ same. settled_here w ns es i k below ((Decides-eqb i k).0 same)) (λ no. let other : i ≢ k = λ is. false≢true (sym no ∙ (Decides-eqb i k).1 is) in settled_push w ns es (i, below) k (old.all k (λ n c there. elim (contains-cases m n (firsts rest) c) [
+      | inl e ↦ other (same_Some i k (at ∙ ap (first_place ns) e ∙ sym there))
+      | inr c ↦ gone n c there
+    ])));
+  })
+    where
+      -- the first field of two names is the same only if they are
+      named : (n : List ℕ) → Some i ≡ first_place ns n → m ≡ n
+      named n there = same_Some m n (sym (first_of_place ns m i at).here ∙ (first_of_place ns n i there).here)
 
-pub entering-end : (w : PathPredicate) (ns : List (List ℕ)) (left : List (List ℕ × PathPredicate)) (s : ℕ → PathPredicate) → left ≡ [] → IsEntering w ns left s → AreEntered w ns s
-entering-end w ns left s none e = λ k. e.done k (λ n c at. let none_left = subst (λ es. Contains (firsts es) n) none c in omega (arith, none_left.1))
+      not_again : Contains (firsts rest) m → ⊥
+      not_again c = old.left_once 0 (suc c.0) m (omega arith) (omega (arith, c.1)) (sym c.2)
+
+pub entering-end : (w : PathPredicate) (ns : List (List ℕ)) (left : List (List ℕ × PathPredicate)) (es : Entries) → left ≡ [] → IsEntering w ns left es → AreEntered w ns es
+entering-end w ns left es none e = record {
+  each = e.each;
+  all = λ k. e.all k (λ n c at. let none_left = subst (λ z. Contains (firsts z) n) none c in omega (arith, none_left.1));
+}
+
+-- ---- the entries in the order of their positions
+
+pub entered_permutation : (w : PathPredicate) (ns : List (List ℕ)) (es fs : Entries) → IsPermutation es fs → AreEntered w ns es → AreEntered w ns fs
+entered_permutation w ns es fs moved e = record {
+  each = All-permutation (IsEntered w ns) es fs moved e.each;
+  all = λ k. elim (e.all k) [ inl none ↦ inl none | inr c ↦ inr (c.0, Contains-permutation es fs (k, c.0) moved c.1) ];
+}
+
+past : (i : ℕ) (es : Entries) → All (λ e. i ≤ e.0) es → AllByRecursion (λ k. (i == k) ≡ false) (map (λ e. e.0) es) → All (λ e. i + 1 ≤ e.0) es
+past i [] from other k d lt = absurd (omega (arith, lt))
+past i (e ∷ es) from other zero d lt = let ne : i ≢ e.0 = λ is. false≢true (sym other.0 ∙ (Decides-eqb i e.0).1 is) in omega (arith, from 0 e (omega arith), ne)
+past i (e ∷ es) from other (suc k) d lt = past i es (λ j d lt. from (suc j) d (omega (arith, lt))) other.1 k d (omega (arith, lt))
+
+-- entries whose positions don't fall, and differ, rise
+pub rising : (i : ℕ) (es : Entries) → All (λ e. i ≤ e.0) es → IsNonDecreasingBy (λ e. e.0) es → PositionsDiffer es → RiseFrom i es
+unfolding IsDistinct
+rising i [] from falls once = tt
+rising i (e ∷ es) from falls once =
+    let later = past e.0 es (λ k d lt. falls 0 (suc k) d (omega arith) (omega (arith, lt))) once.0 in
+    (from 0 e (omega arith), rising (e.0 + 1) es later (λ j k d le lt. falls (suc j) (suc k) d (omega (arith, le)) (omega (arith, lt))) once.1)
 
 -- ---- field by field
 
 -- all is entered of the fields before the position i
-pub record IsEnteredTo (w : PathPredicate) (ns : List (List ℕ)) (i : ℕ) (s : ℕ → PathPredicate) : Type 0 where
-  pub done : (k : ℕ) → k < i → s k ≡ asked_below w ns k
-  pub later : (k : ℕ) → i ≤ k → s k ≡ no_path
+pub record IsEnteredTo (w : PathPredicate) (ns : List (List ℕ)) (i : ℕ) (es : Entries) : Type 0 where
+  pub order : RiseFrom 0 es
+  pub before : All (λ e. e.0 < i) es
+  pub each : All (IsEntered w ns) es
+  pub all : (k : ℕ) → k < i → IsSettled w ns es k
 
-pub to-start : (w : PathPredicate) (ns : List (List ℕ)) (es : List (ℕ × FieldPathCursor)) → es ≡ [] → IsEnteredTo w ns 0 (asked_at es)
-to-start w ns es none = record { done = λ k lt. absurd (omega (arith, lt)); later = λ k le. nowhere es k none }
+pub to-start : (w : PathPredicate) (ns : List (List ℕ)) (es : Entries) → es ≡ [] → IsEnteredTo w ns 0 es
+to-start w ns es none = subst (IsEnteredTo w ns 0) (sym none) (record {
+  order = tt;
+  before = All-nil _;
+  each = All-nil _;
+  all = λ k lt. absurd (omega (arith, lt));
+})
 
-module _ (w : PathPredicate) (ns : List (List ℕ)) (i : ℕ) (m : List ℕ) (here : slice_get ns i ≡ Some m) (s : ℕ → PathPredicate) (old : IsEnteredTo w ns i s) where
+rising_push : (j : ℕ) (es : Entries) (i : ℕ) (v : FieldPathCursor) → j ≤ i → All (λ e. e.0 < i) es → RiseFrom j es → RiseFrom j (es ++ (i, v) ∷ [])
+rising_push j [] i v le before order = (le, tt)
+rising_push j (e ∷ es) i v le before order = (order.0, rising_push (e.0 + 1) es i v (let lt : e.0 < i = before 0 e (omega arith) in omega (arith, lt)) (λ k d lt. before (suc k) d (omega (arith, lt))) order.1)
+
+module _ (w : PathPredicate) (ns : List (List ℕ)) (i : ℕ) (m : List ℕ) (here : slice_get ns i ≡ Some m) (es : Entries) (old : IsEnteredTo w ns i es) where
+  further : All (λ e. e.0 < i + 1) es
+  further = λ k d lt. omega (arith, old.before k d lt)
+
+  -- of the fields before the next one, by whether it is this one
+  up_to : {P : Type 0} (k : ℕ) → k < i + 1 → (k ≡ i → P) → (k < i → P) → P
+  up_to k lt same less = elim (cases_lt k i) [ inl l ↦ less l | inr le ↦ same (omega (arith, lt, le)) ]
+
   -- nothing is entered at the position, where nothing is asked of it or the name is that of a field before it
-  pub to-passed : (Some i ≡ first_place ns m → after_step (Name m) w ≡ no_path) → IsEnteredTo w ns (i + 1) s
+  pub to-passed : (Some i ≡ first_place ns m → after_step (Name m) w ≡ no_path) → IsEnteredTo w ns (i + 1) es
   to-passed nothing = record {
-    done = λ k lt. by_position k i
-        (λ is. ap s is ∙ old.later i (omega arith) ∙ sym (elim (asked_cases ns w i) [
-          | inr e ↦ e
-          | inl f ↦
-              let named : m ≡ f.0 = same_Some m f.0 (sym here ∙ f.1.here) in
-              asked_first ns w i f.0 f.1 ∙ ap (λ l. after_step (Name l) w) (sym named) ∙ nothing (sym (place_of_first ns f.0 i f.1) ∙ ap (first_place ns) (sym named))
-        ]) ∙ ap (asked_below w ns) (sym is))
-        (λ ne. old.done k (omega (arith, lt, ne)));
-    later = λ k le. old.later k (omega (arith, le));
+    order = old.order;
+    before = further;
+    each = old.each;
+    all = λ k lt. up_to k lt (λ is. inl (ap (asked_below w ns) is ∙ none)) (old.all k);
   }
+    where
+      none : asked_below w ns i ≡ no_path
+      none = elim (asked_cases ns w i) [
+        | inr e ↦ e
+        | inl f ↦
+            let named : m ≡ f.0 = same_Some m f.0 (sym here ∙ f.1.here) in
+            asked_first ns w i f.0 f.1 ∙ ap (λ l. after_step (Name l) w) (sym named) ∙ nothing (sym (place_of_first ns f.0 i f.1) ∙ ap (first_place ns) (sym named))
+      ]
 
   -- the cursor is entered there
-  pub to-entered : (t : ℕ → PathPredicate) → Some i ≡ first_place ns m → t i ≡ after_step (Name m) w → ((k : ℕ) → k ≢ i → t k ≡ s k) → IsEnteredTo w ns (i + 1) t
-  to-entered t at asked others = record {
-    done = λ k lt. by_position k i
-        (λ is. ap t is ∙ asked ∙ sym (asked_first ns w i m (first_of_place ns m i at)) ∙ ap (asked_below w ns) (sym is))
-        (λ ne. others k ne ∙ old.done k (omega (arith, lt, ne)));
-    later = λ k le. others k (λ e. omega (arith, le, e)) ∙ old.later k (omega (arith, le));
-  }
+  pub to-entered : (v : FieldPathCursor) (es' : Entries) → Some i ≡ first_place ns m → asks v ≡ after_step (Name m) w → es' ≡ es ++ (i, v) ∷ [] → IsEnteredTo w ns (i + 1) es'
+  to-entered v es' at is new = subst (IsEnteredTo w ns (i + 1)) (sym new) (record {
+    order = rising_push 0 es i v (omega arith) old.before old.order;
+    before = All-push (λ e. e.0 < i + 1) es (i, v) further (omega arith);
+    each = All-push (IsEntered w ns) es (i, v) old.each (is ∙ sym (asked_first ns w i m (first_of_place ns m i at)));
+    all = λ k lt. up_to k lt (λ same. settled_here w ns es i k v (sym same)) (λ less. settled_push w ns es (i, v) k (old.all k less));
+  })
 
-pub to-end : (w : PathPredicate) (ns : List (List ℕ)) (i : ℕ) (s : ℕ → PathPredicate) → length ns ≤ i → IsEnteredTo w ns i s → AreEntered w ns s
-to-end w ns i s end e = λ k. elim (asked_cases ns w k) [
-  | inr none ↦ elim (cases_lt k i) [ inl lt ↦ e.done k lt | inr le ↦ e.later k le ∙ sym none ]
-  | inl f ↦ e.done k (omega (arith, end, slice_get_within ns k f.0 f.1.here))
-]
+pub to-end : (w : PathPredicate) (ns : List (List ℕ)) (i : ℕ) (es : Entries) → length ns ≤ i → IsEnteredTo w ns i es → AreEntered w ns es
+to-end w ns i es end e = record {
+  each = e.each;
+  all = λ k. elim (asked_cases ns w k) [ inr none ↦ inl none | inl f ↦ e.all k (omega (arith, end, slice_get_within ns k f.0 f.1.here)) ];
+}

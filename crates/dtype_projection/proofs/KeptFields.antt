@@ -3,19 +3,12 @@
 
 -- What is kept of the fields that paths step into, in the order of their positions, is the projection of all fields: of
 -- a field that no path steps into nothing is kept.
-use Rattle.std.proofs.Common.{◌≡◌, ◌⊎◌, inl, inr, ℕ, zero, suc, ◌+◌, ◌-◌, ◌<◌, ◌≤◌, List, [], ◌∷◌, ◌++◌, map, length, slice_get, true, cond, Option, Some, None, refl, sym, ap, subst, ◌∙◌, append_assoc, append-nil, arith}
-use Rattle.std.specs.BTreeMap.{is_at}
-use Rattle.std.specs.List.{AllByRecursion, cons_option, filter_map, zip}
-use Rattle.std.specs.List.Sorted.{IsStrictlySortedBy}
-use Rattle.std.specs.Map.{keys_of, lookup}
+use Rattle.std.proofs.Common.{◌≡◌, ◌⊎◌, inl, inr, ℕ, zero, suc, ◌+◌, ◌-◌, ◌<◌, ◌≤◌, List, [], ◌∷◌, ◌++◌, All, map, length, slice_get, true, Option, Some, None, refl, sym, ap, subst, ◌∙◌, append_assoc, append-nil, arith}
+use Rattle.std.specs.List.{Contains, cons_option, filter_map, zip}
 use Rattle.std.specs.Option.{option_and_then, option_map}
-use Rattle.std.specs.Ordering.{MatchOrdering, is_eq, nat_cmp}
-use Rattle.std.specs.declared.cmp.Ordering.TheVariants.{Less, Equal, Greater}
-use Rattle.std.specs.Cmp.{nat_cmp_is, ranks}
 use Rattle.std.proofs.lemmas.Bool.{cases_lt}
 use Rattle.std.proofs.lemmas.List.{length-map, map_push}
 use Rattle.std.proofs.lemmas.Option.{same_Some}
-use Rattle.std.proofs.lemmas.Map.Keys.{sorted_head, sorted_tail}
 use Rattle.dtype_base.specs.declared.nullability.Nullability.{Nullability}
 use Rattle.dtype_types.specs.parts.Lookups.{field_names, field_types}
 use Rattle.dtype_types.specs.tree.Tree.{Tree, Fields, field, fields, pairs, struct}
@@ -24,18 +17,15 @@ use Rattle.dtype_types.specs.tree.TreeOf.{tree, children, fields_of, struct_pair
 use Rattle.dtype_types.specs.declared.dtype.DType.{DType, Struct}
 use Rattle.dtype_types.specs.declared.struct_fields.StructFields.{StructFields}
 use Rattle.dtype_paths.specs.declared.field.Field.TheVariants.{Name}
-use Rattle.dtype_paths.specs.Cursors.{asks, asks_if}
+use Rattle.dtype_paths.specs.Cursors.{asks}
 use Rattle.dtype_paths.specs.PathPredicates.{no_path}
 use Rattle.dtype_paths.specs.declared.field_path_cursor.FieldPathCursor.{FieldPathCursor}
-use Rattle.dtype_projection.specs.private.Entered.{asked_at, asked_below, AreEntered, AreWhole, kept_field}
+use Rattle.dtype_projection.specs.private.Entered.{asked_below, kept_field, AreEntered, AreWhole, Entries, RiseFrom}
 use Rattle.dtype_projection.specs.Projected.{PathPredicate, after_step, without_field, projected, projected_fields, struct_with, prepend_kept}
 use Rattle.dtype_projection.proofs.lemmas.Projections.{kept_root, projected_nothing}
 
 abbrev pub Pairs : Type 0
 Pairs = List (List ℕ × Tree)
-
-abbrev pub Entries : Type 0
-Entries = List (ℕ × FieldPathCursor)
 
 -- what is kept of the field at an entry's position
 abbrev pub kept_at : Pairs → ℕ × FieldPathCursor → Option (List ℕ × Tree)
@@ -43,81 +33,72 @@ kept_at fs e = kept_field fs e.0 (asks e.1)
 
 -- ---- entries in the order of their positions
 
--- all positions are at or after i
-abbrev AreFrom : ℕ → Entries → Type 0
-AreFrom i es = AllByRecursion (λ k. i ≤ k) (keys_of es)
-
-from_head : (i j : ℕ) (ks : List ℕ) → i ≤ j → AllByRecursion (λ k. nat_cmp j k ≡ Less) ks → AllByRecursion (λ k. i + 1 ≤ k) ks
-from_head i j [] h below = tt
-from_head i j (k ∷ ks) h below =
-    let before : j < k = subst (λ r. MatchOrdering r (j < k) (j ≡ k) (k < j)) below.0 (ranks j k) in
-    (omega (arith, before, h), from_head i j ks h below.1)
-
 -- the first entry is at i, or all are after it
-next_position : (i : ℕ) (es : Entries) → AreFrom i es → IsStrictlySortedBy nat_cmp (keys_of es) → ((v : FieldPathCursor) × (rest : Entries) × (es ≡ (i, v) ∷ rest) × AreFrom (i + 1) rest) ⊎ AreFrom (i + 1) es
-next_position i [] from sorted = inr tt
-next_position i (e ∷ es) from sorted =
-    let rest : AreFrom (i + 1) es = from_head i e.0 (keys_of es) from.0 (sorted_head nat_cmp e.0 (keys_of es) sorted) in
-    elim (cases_lt i e.0) [
-      | inl later ↦ inr (omega (arith, later), rest)
-      | inr same ↦ inl (e.1, es, ap (λ k. (k, e.1) ∷ es) (let at : e.0 ≡ i = omega (arith, same, from.0) in at), rest)
-    ]
+next_position : (i : ℕ) (es : Entries) → RiseFrom i es → ((v : FieldPathCursor) × (rest : Entries) × (es ≡ (i, v) ∷ rest) × RiseFrom (i + 1) rest) ⊎ RiseFrom (i + 1) es
+next_position i [] from = inr tt
+next_position i (e ∷ es) from = elim (cases_lt i e.0) [
+  | inl later ↦ inr (omega (arith, later), from.1)
+  | inr same ↦
+      let at : e.0 ≡ i = omega (arith, same, from.0) in
+      inl (e.1, es, ap (λ k. (k, e.1) ∷ es) at, subst (λ k. RiseFrom (k + 1) es) at from.1)
+]
 
-none_at : (i : ℕ) (es : Entries) → AreFrom (i + 1) es → asked_at es i ≡ no_path
-none_at i [] from = refl
-none_at i (e ∷ es) from = ap (λ b. asks_if (cond b (Some e.1) (lookup (is_at (nat_cmp i)) es))) (ap is_eq (sym (nat_cmp_is i e.0 Less (omega (arith, from.0))))) ∙ none_at i es from.1
-
-asked_here : (i : ℕ) (v : FieldPathCursor) (rest : Entries) → asked_at ((i, v) ∷ rest) i ≡ asks v
-asked_here i v rest = ap (λ b. asks_if (cond b (Some v) (lookup (is_at (nat_cmp i)) rest))) (ap is_eq (sym (nat_cmp_is i i Equal refl)))
-
-asked_later : (i : ℕ) (v : FieldPathCursor) (rest : Entries) (k : ℕ) → i < k → asked_at ((i, v) ∷ rest) k ≡ asked_at rest k
-asked_later i v rest k h = ap (λ b. asks_if (cond b (Some v) (lookup (is_at (nat_cmp k)) rest))) (ap is_eq (sym (nat_cmp_is k i Greater h)))
+all_from : (i : ℕ) (es : Entries) → RiseFrom i es → (e : ℕ × FieldPathCursor) → Contains es e → i ≤ e.0
+all_from i (f ∷ es) from e (zero, lt, at) = omega (arith, from.0, let is : f.0 ≡ e.0 = ap (λ (g : ℕ × FieldPathCursor). g.0) at in is)
+all_from i (f ∷ es) from e (suc j, lt, at) = omega (arith, from.0, all_from (f.0 + 1) es from.1 e (j, omega (arith, lt), at))
+all_from i [] from e c = absurd (omega (arith, c.1))
 
 -- ---- the fields kept
 
-no_field_left : (fs : Pairs) (i : ℕ) (es : Entries) → ((k j : ℕ) → j ≡ k + i → slice_get fs j ≡ None) → AreFrom i es → filter_map (kept_at fs) es ≡ []
+no_field_left : (fs : Pairs) (i : ℕ) (es : Entries) → ((k j : ℕ) → j ≡ k + i → slice_get fs j ≡ None) → RiseFrom i es → filter_map (kept_at fs) es ≡ []
 no_field_left fs i [] none from = refl
 no_field_left fs i (e ∷ es) none from =
     ap (λ o. cons_option (option_and_then (λ (f : List ℕ × Tree). option_map (λ u. (f.0, u)) (projected f.1 (asks e.1))) o) (filter_map (kept_at fs) es)) (none (e.0 - i) e.0 (omega (arith, from.0)))
-    ∙ no_field_left fs i es none from.1
+    ∙ no_field_left fs (e.0 + 1) es (λ k j at. none (j - i) j (omega (arith, at, from.0))) from.1
 
 kept_pairs : (n : List ℕ) (o : Option Tree) (rest : Fields) → cons_option (option_map (λ u. (n, u)) o) (pairs rest) ≡ pairs (prepend_kept n o rest)
 kept_pairs n None rest = refl
 kept_pairs n (Some t) rest = refl
 
--- fs are the fields from position i on, and es has what is asked of them
-kept_from : (all fs : Pairs) (i : ℕ) (es : Entries) (w : PathPredicate) → ((k j : ℕ) → j ≡ k + i → slice_get all j ≡ slice_get fs k) → AreFrom i es → IsStrictlySortedBy nat_cmp (keys_of es) → ((k j : ℕ) → j ≡ k + i → asked_at es j ≡ asked_below w (field_names fs) k)
-    → filter_map (kept_at all) es ≡ pairs (projected_fields (fields fs) w)
-kept_from all [] i es w at from sorted a = no_field_left all i es at from
-kept_from all (f ∷ fs) i es w at from sorted a =
-    let asked = after_step (Name f.0) w in
-    let later = projected_fields (fields fs) (without_field f.0 w) in
-    elim (next_position i es from sorted) [
-      | inl h ↦
-          let rest = h.1 in
-          let is_asked : asks h.0 ≡ asked = sym (asked_here i h.0 rest) ∙ ap (λ z. asked_at z i) (sym h.2) ∙ a 0 i (omega arith) in
-          ap (filter_map (kept_at all)) h.2
-          ∙ ap (λ o. cons_option (option_and_then (λ (g : List ℕ × Tree). option_map (λ u. (g.0, u)) (projected g.1 (asks h.0))) o) (filter_map (kept_at all) rest)) (at 0 i (omega arith))
-          ∙ ap (λ w. cons_option (option_map (λ u. (f.0, u)) (projected f.1 w)) (filter_map (kept_at all) rest)) is_asked
-          ∙ ap (cons_option (option_map (λ u. (f.0, u)) (projected f.1 asked)))
-          (kept_from all fs (i + 1) rest (without_field f.0 w) (λ k j e. at (suc k) j (omega (arith, e)))
-          h.3 (sorted_tail nat_cmp i (keys_of rest) (subst (λ z. IsStrictlySortedBy nat_cmp (keys_of z)) h.2 sorted))
-          (λ k j e. sym (asked_later i h.0 rest j (omega (arith, e))) ∙ ap (λ z. asked_at z j) (sym h.2) ∙ a (suc k) j (omega (arith, e))))
-          ∙ kept_pairs f.0 (projected f.1 asked) later
-      | inr after ↦
-          let none : projected f.1 asked ≡ None = ap (projected f.1) (sym (a 0 i (omega arith)) ∙ none_at i es after) ∙ projected_nothing f.1 in
-          kept_from all fs (i + 1) es (without_field f.0 w) (λ k j e. at (suc k) j (omega (arith, e))) after sorted (λ k j e. a (suc k) j (omega (arith, e)))
-          ∙ ap (λ o. pairs (prepend_kept f.0 o later)) (sym none)
-    ]
+-- each cursor asks for what is asked at its position, and of the fields at other positions from i on nothing is asked
+record IsAskedFrom (i : ℕ) (a : ℕ → PathPredicate) (es : Entries) : Type 0 where
+  pub each : All (λ e. asks e.1 ≡ a e.0) es
+  pub all : (k : ℕ) → i ≤ k → (a k ≡ no_path) ⊎ ((v : FieldPathCursor) × Contains es (k, v))
 
-pub all_kept : (fs : Pairs) (es : Entries) (w : PathPredicate) → IsStrictlySortedBy nat_cmp (keys_of es) → AreEntered w (field_names fs) (asked_at es) → filter_map (kept_at fs) es ≡ pairs (projected_fields (fields fs) w)
-all_kept fs es w sorted a =
-    let same : (k j : ℕ) → j ≡ k + 0 → j ≡ k = λ k j e. omega (arith, e) in
-    kept_from fs fs 0 es w (λ k j e. ap (slice_get fs) (same k j e)) (from_start (keys_of es)) sorted (λ k j e. ap (asked_at es) (same k j e) ∙ a k)
+-- fs are the fields from position i on, and es has what is asked of them
+kept_from : (all fs : Pairs) (i : ℕ) (es : Entries) (w : PathPredicate) (a : ℕ → PathPredicate) → ((k j : ℕ) → j ≡ k + i → slice_get all j ≡ slice_get fs k) → RiseFrom i es → IsAskedFrom i a es → ((k j : ℕ) → j ≡ k + i → a j ≡ asked_below w (field_names fs) k)
+    → filter_map (kept_at all) es ≡ pairs (projected_fields (fields fs) w)
+kept_from all [] i es w a at from is asked = no_field_left all i es at from
+kept_from all (f ∷ fs) i es w a at from is asked =
+    let here : a i ≡ after_step (Name f.0) w = asked 0 i (omega arith) in
+    let later = projected_fields (fields fs) (without_field f.0 w) in
+    let rest : (es : Entries) → RiseFrom (i + 1) es → IsAskedFrom (i + 1) a es → filter_map (kept_at all) es ≡ pairs later =
+    λ es from is. kept_from all fs (i + 1) es (without_field f.0 w) a (λ k j e. at (suc k) j (omega (arith, e))) from is (λ k j e. asked (suc k) j (omega (arith, e))) in
+    elim (next_position i es from) [
+      | inl h ↦
+          let is' : IsAskedFrom i a ((i, h.0) ∷ h.1) = subst (IsAskedFrom i a) h.2 is in
+          ap (filter_map (kept_at all)) h.2
+          ∙ ap (λ o. cons_option (option_and_then (λ (g : List ℕ × Tree). option_map (λ u. (g.0, u)) (projected g.1 (asks h.0))) o) (filter_map (kept_at all) h.1)) (at 0 i (omega arith))
+          ∙ ap (λ w. cons_option (option_map (λ u. (f.0, u)) (projected f.1 w)) (filter_map (kept_at all) h.1)) (is'.each 0 (i, h.0) (omega arith) ∙ here)
+          ∙ ap (cons_option (option_map (λ u. (f.0, u)) (projected f.1 (after_step (Name f.0) w)))) (rest h.1 h.3 (record {
+            each = λ k d lt. is'.each (suc k) d (omega (arith, lt));
+            all = λ k le. elim (is'.all k (omega (arith, le))) [ inl none ↦ inl none | inr c ↦ inr (c.0, behind i k h.0 c.0 h.1 le c.1) ];
+          }))
+          ∙ kept_pairs f.0 (projected f.1 (after_step (Name f.0) w)) later
+      | inr after ↦
+          let none : a i ≡ no_path = elim (is.all i (omega arith)) [ inl none ↦ none | inr c ↦ absurd (omega (arith, all_from (i + 1) es after (i, c.0) c.1)) ] in
+          rest es after (record { each = is.each; all = λ k le. is.all k (omega (arith, le)) })
+          ∙ ap (λ o. pairs (prepend_kept f.0 o later)) (sym (ap (projected f.1) (sym here ∙ none) ∙ projected_nothing f.1))
+    ]
   where
-    from_start : (ks : List ℕ) → AllByRecursion (λ k. 0 ≤ k) ks
-    from_start [] = tt
-    from_start (k ∷ ks) = (omega arith, from_start ks)
+    behind : (i k : ℕ) (u v : FieldPathCursor) (es : Entries) → i + 1 ≤ k → Contains ((i, u) ∷ es) (k, v) → Contains es (k, v)
+    behind i k u v es le (zero, lt, e) = absurd (omega (arith, le, let is : i ≡ k = ap (λ (g : ℕ × FieldPathCursor). g.0) e in is))
+    behind i k u v es le (suc j, lt, e) = (j, omega (arith, lt), e)
+
+pub all_kept : (fs : Pairs) (es : Entries) (w : PathPredicate) → RiseFrom 0 es → AreEntered w (field_names fs) es → filter_map (kept_at fs) es ≡ pairs (projected_fields (fields fs) w)
+all_kept fs es w order e =
+    let same : (k j : ℕ) → j ≡ k + 0 → j ≡ k = λ k j e. omega (arith, e) in
+    kept_from fs fs 0 es w (asked_below w (field_names fs)) (λ k j e. ap (slice_get fs) (same k j e)) order (record { each = e.each; all = λ k le. e.all k }) (λ k j e. ap (asked_below w (field_names fs)) (same k j e))
 
 -- ---- one field
 
@@ -167,11 +148,11 @@ struct_made s n (f ∷ fs) made some = ap Some (tree_struct s n ∙ ap (λ gs. s
 
 -- ---- all fields, kept whole
 
-whole_at : (i n : ℕ) (es : Entries) → AreWhole i n es → (j : ℕ) → i ≤ j → j < n → asked_at es j [] ≡ true
-whole_at i n [] end j le lt = absurd (omega (arith, end, le, lt))
-whole_at i n (e ∷ es) all j le lt = elim (cases_lt i j) [
-  | inl after ↦ ap (λ (v : PathPredicate). v []) (asked_later e.0 e.1 es j (omega (arith, all.0, after))) ∙ whole_at (i + 1) n es all.2 j (omega (arith, after)) lt
-  | inr same ↦ ap (λ k. asked_at (e ∷ es) k []) (let at : j ≡ e.0 = omega (arith, all.0, le, same) in at) ∙ ap (λ (v : PathPredicate). v []) (asked_here e.0 e.1 es) ∙ all.1
+whole_at : (i n : ℕ) (es : Entries) → AreWhole i n es → (a : ℕ → PathPredicate) → All (λ e. asks e.1 ≡ a e.0) es → (j : ℕ) → i ≤ j → j < n → a j [] ≡ true
+whole_at i n [] end a each j le lt = absurd (omega (arith, end, le, lt))
+whole_at i n (e ∷ es) all a each j le lt = elim (cases_lt i j) [
+  | inl after ↦ whole_at (i + 1) n es all.2 a (λ k d lt. each (suc k) d (omega (arith, lt))) j (omega (arith, after)) lt
+  | inr same ↦ ap (λ k. a k []) (let at : j ≡ e.0 = omega (arith, all.0, le, same) in at) ∙ ap (λ (v : PathPredicate). v []) (sym (each 0 e (omega arith))) ∙ all.1
 ]
 
 whole_fields : (fs : Pairs) (w : PathPredicate) → ((k : ℕ) → k < length fs → asked_below w (field_names fs) k [] ≡ true) → fields fs ≡ projected_fields (fields fs) w
@@ -181,7 +162,7 @@ whole_fields (f ∷ fs) w ends =
     ∙ ap (λ o. prepend_kept f.0 o (projected_fields (fields fs) (without_field f.0 w))) (sym (kept_root f.1 (after_step (Name f.0) w) (ends 0 (omega arith))))
 
 -- a copy of a struct that has fields, of which all are kept whole, is its projection
-pub struct_shared : (s t : StructFields) (n : Nullability) (w : PathPredicate) (es : Entries) → struct_pairs s ≡ struct_pairs t → AreEntered w (field_names (children t)) (asked_at es) → AreWhole 0 (length (children t)) es → 0 < length (children t) → Some (tree (Struct s n)) ≡ struct_with n (projected_fields (fields_of t) w)
+pub struct_shared : (s t : StructFields) (n : Nullability) (w : PathPredicate) (es : Entries) → struct_pairs s ≡ struct_pairs t → AreEntered w (field_names (children t)) es → AreWhole 0 (length (children t)) es → 0 < length (children t) → Some (tree (Struct s n)) ≡ struct_with n (projected_fields (fields_of t) w)
 struct_shared s t n w es same a all some =
     struct_made s n (children t) (ap with_trees same) some
-    ∙ ap (struct_with n) (whole_fields (children t) w (λ k lt. ap (λ (v : PathPredicate). v []) (sym (a k)) ∙ whole_at 0 (length (children t)) es all k (omega arith) lt))
+    ∙ ap (struct_with n) (whole_fields (children t) w (λ k lt. whole_at 0 (length (children t)) es all (asked_below w (field_names (children t))) a.each k (omega arith) lt))

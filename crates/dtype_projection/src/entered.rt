@@ -2,30 +2,30 @@
 // SPDX-FileCopyrightText: Copyright the Vortex contributors
 
 // The fields of a struct that paths step into.
-ghost use Rattle.std.specs.Prelude.{◌≡◌, ◌<◌, IsTrue};
+ghost use Rattle.std.specs.Prelude.{◌≡◌, ◌<◌, IfOk, IsTrue};
 ghost use Rattle.dtype_base.specs.Errors.{Makes};
 ghost use Rattle.dtype_types.specs.parts.Lookups.{field_names};
 ghost use Rattle.dtype_types.specs.tree.TreeOf.{children};
 ghost use Rattle.dtype_paths.specs.Cursors.{asks, asks_if};
 ghost use Rattle.dtype_paths.specs.PathPredicates.{after_step};
 ghost use Rattle.dtype_paths.specs.declared.field.Field.TheVariants.{Name};
-ghost use Rattle.dtype_projection.specs.private.Entered.{asked_at, AreEntered, AreWhole};
+ghost use Rattle.dtype_projection.specs.private.Entered.{AreEntered, AreWhole, PositionsDiffer, RiseFrom};
 
 use dtype_base::{FieldName, VortexResult};
 use dtype_paths::{Field, FieldPathCursor};
 use dtype_types::StructFields;
 use std::alloc::Global;
-use std::collections::BTreeMap;
 
-// At the position of each field that paths step into, the cursor after that step. A path steps into the first of two
-// fields of one name. The fewer decide: the names by which paths go on are looked up in the struct, or its fields in the
-// set, each once.
+// The position of each field that paths step into, with the cursor after that step, in the order of the positions. A path
+// steps into the first of two fields of one name. The fewer decide: the names by which paths go on are looked up in the
+// struct, or its fields in the set, each once.
 pub(crate) fn entered_fields<'a>(
     alloc: Global,
     fields: &StructFields,
     wanted: &FieldPathCursor<'a>,
-) -> VortexResult<BTreeMap<usize, FieldPathCursor<'a>>>
-    ensures { Makes result (λ m. AreEntered (asks wanted.now) (field_names (children fields.now)) (asked_at m.entries)) }
+) -> VortexResult<Vec<(usize, FieldPathCursor<'a>)>>
+    ensures ok { Makes result (λ m. AreEntered (asks wanted.now) (field_names (children fields.now)) m.items) }
+    ensures order { IfOk result (λ m. RiseFrom 0 m.items) }
 {
     if fields.nfields() < wanted.name_count() {
         entered_by_fields(alloc, fields, wanted)
@@ -34,37 +34,54 @@ pub(crate) fn entered_fields<'a>(
     }
 }
 
-// The same, name by name.
+// The same, where the names are looked up.
 fn entered_by_names<'a>(
     alloc: Global,
     fields: &StructFields,
     wanted: &FieldPathCursor<'a>,
-) -> VortexResult<BTreeMap<usize, FieldPathCursor<'a>>>
-    ensures { Makes result (λ m. AreEntered (asks wanted.now) (field_names (children fields.now)) (asked_at m.entries)) }
+) -> VortexResult<Vec<(usize, FieldPathCursor<'a>)>>
+    ensures ok { Makes result (λ m. AreEntered (asks wanted.now) (field_names (children fields.now)) m.items) }
+    ensures order { IfOk result (λ m. RiseFrom 0 m.items) }
 {
-    let mut entered = BTreeMap::new(alloc);
+    let mut entered = looked_up(alloc, fields, wanted)?;
+    entered.sort_unstable_by_key(|entry| entry.0);
+    Ok(entered)
+}
+
+// The position of each field that paths step into, with the cursor after that step, in no order.
+fn looked_up<'a>(
+    alloc: Global,
+    fields: &StructFields,
+    wanted: &FieldPathCursor<'a>,
+) -> VortexResult<Vec<(usize, FieldPathCursor<'a>)>>
+    ensures ok { Makes result (λ m. AreEntered (asks wanted.now) (field_names (children fields.now)) m.items) }
+    ensures once { IfOk result (λ m. PositionsDiffer m.items) }
+{
+    let mut entered = Vec::with_capacity(alloc, wanted.name_count())?;
     for (name, below) in wanted.names() {
         if let Some(position) = fields.find(name.as_str()) {
-            entered.insert(position, below)?;
+            entered.push((position, below))?;
         }
     }
     Ok(entered)
 }
 
-// The same, field by field. Of a field whose name paths go on by, it is looked up whether it is the first of that name.
+// The same, field by field. Of a field whose name paths go on by, it is looked up whether it is the first of that
+// name.
 fn entered_by_fields<'a>(
     alloc: Global,
     fields: &StructFields,
     wanted: &FieldPathCursor<'a>,
-) -> VortexResult<BTreeMap<usize, FieldPathCursor<'a>>>
-    ensures { Makes result (λ m. AreEntered (asks wanted.now) (field_names (children fields.now)) (asked_at m.entries)) }
+) -> VortexResult<Vec<(usize, FieldPathCursor<'a>)>>
+    ensures ok { Makes result (λ m. AreEntered (asks wanted.now) (field_names (children fields.now)) m.items) }
+    ensures order { IfOk result (λ m. RiseFrom 0 m.items) }
 {
     let names = fields.names().as_slice();
-    let mut entered = BTreeMap::new(alloc);
+    let mut entered = Vec::with_capacity(alloc, names.len())?;
     for (i, name) in names.iter().enumerate() {
         if let Some(below) = step_by_name(alloc, wanted, name)? {
             if fields.find(name.as_str()) == Some(i) {
-                entered.insert(i, below)?;
+                entered.push((i, below))?;
             }
         }
     }
@@ -82,23 +99,15 @@ fn step_by_name<'a>(
     Ok(wanted.step(&Field::from(name.try_clone(alloc)?)))
 }
 
-// Whether there is a cursor at each position below `count`, which isn't 0, and each is at an end.
-pub(crate) fn are_all_whole(entered: &BTreeMap<usize, FieldPathCursor<'_>>, count: usize) -> bool
+// Whether the positions are all those below `count`, which isn't 0, and each cursor is at an end.
+pub(crate) fn are_all_whole(entered: &[(usize, FieldPathCursor<'_>)], count: usize) -> bool
     ensures some { IsTrue result → 0 < count }
-    ensures each { IsTrue result → AreWhole 0 count entered.now.entries }
+    ensures each { IsTrue result → AreWhole 0 count entered.now }
 {
-    if entered.len() != count {
-        return false;
-    }
-    let mut next = 0_usize;
-    for (position, below) in entered {
-        if *position != next || !below.is_end() {
+    for (i, (position, below)) in entered.iter().enumerate() {
+        if *position != i || !below.is_end() {
             return false;
         }
-        let Some(after) = next.checked_add(1) else {
-            return false;
-        };
-        next = after;
     }
-    0 < next && next == count
+    0 < count && entered.len() == count
 }

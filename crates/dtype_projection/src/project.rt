@@ -1,7 +1,7 @@
 // SPDX-License-Identifier: Apache-2.0
 // SPDX-FileCopyrightText: Copyright the Vortex contributors
 
-ghost use Rattle.std.specs.Prelude.{◌≡◌, ◌↔◌, IfOk, IfSome, IsSome, IsTrue, List, map, vec_len};
+ghost use Rattle.std.specs.Prelude.{◌≡◌, ◌↔◌, [], false, IfOk, IfSome, IsSome, IsTrue, List, map, vec_len};
 ghost use Rattle.std.specs.FinSet as set;
 ghost use Rattle.std.specs.List.{zip};
 ghost use Rattle.std.specs.Option.{option_map};
@@ -42,9 +42,9 @@ use std::alloc::Global;
 /// The set is stepped into alongside the type (`FieldPathSet::cursor`), so the time grows with the steps of the set that
 /// lead into the type and with what is kept. At each struct the fewer are looked up, once each: the names by which paths go
 /// on, however many paths take them, or the fields of the struct. So ten paths cost about as much in ten thousand columns as
-/// in a hundred, and ten columns in a set of ten thousand paths. Then come an insertion into a `BTreeMap` for each field that
-/// paths step into, a copy of each that is kept, and an index of their names. A struct of which all is kept isn't built
-/// again: it is shared.
+/// in a hundred, and ten columns in a set of ten thousand paths. Then the fields that paths step into are sorted by their
+/// positions, each that is kept is copied, and their names are indexed. A struct of which all is kept isn't built again: it
+/// is shared.
 ///
 /// # Errors
 ///
@@ -69,7 +69,8 @@ pub fn project_paths(
     project(alloc, dtype, &wanted.cursor())
 }
 
-// The projection of a type to what is asked for here.
+// The projection of a type to what is asked for here. Inlined, since most of what is kept is kept whole.
+#[inline(always)]
 #[cycle(projecting)]
 fn project(
     alloc: Global,
@@ -81,6 +82,19 @@ fn project(
     if wanted.is_end() {
         return Ok(Some(dtype.try_clone(alloc)?));
     }
+    project_parts(alloc, dtype, wanted)
+}
+
+// The projection of a type to what is asked for here, which isn't the type itself.
+#[cycle(projecting)]
+fn project_parts(
+    alloc: Global,
+    dtype: &DType,
+    wanted: &FieldPathCursor<'_>,
+) -> VortexResult<Option<DType>>
+    requires { asks wanted.now [] ≡ false }
+    ensures { Makes result (λ r. option_map tree r ≡ projected (tree dtype.now) (asks wanted.now)) }
+{
     match dtype {
         DType::List(element, n) => match project_element(alloc, element, wanted)? {
             Some(kept) => Ok(Some(DType::list(alloc, kept, *n)?)),
@@ -135,10 +149,10 @@ fn project_struct(
     }
     let mut names = Vec::with_capacity(alloc, entered.len())?;
     let mut dtypes = Vec::with_capacity(alloc, entered.len())?;
-    for (position, below) in &entered {
-        if let Some((name, dtype)) = project_field(alloc, fields, *position, below)? {
-            names.push(name)?;
-            dtypes.push(dtype)?;
+    for (position, below) in entered {
+        if let Some((name, dtype)) = project_field(alloc, fields, position, &below)? {
+            names.push_reserved(name);
+            dtypes.push_reserved(dtype);
         }
     }
     struct_of(alloc, names, dtypes, n)

@@ -2,21 +2,28 @@
 -- SPDX-FileCopyrightText: Copyright the Vortex contributors
 
 -- What is asked of the fields of a struct, by their positions, and what is kept of such a field.
-use Rattle.std.specs.Prelude.{◌≡◌, ℕ, zero, suc, ◌+◌, IsTrue, List, [], ◌∷◌, slice_get, Option, option_and_then}
-use Rattle.std.specs.BTreeMap.{is_at}
-use Rattle.std.specs.Map.{lookup}
+use Rattle.std.specs.Prelude.{◌≡◌, ◌⊎◌, ⊤, ℕ, zero, suc, ◌+◌, ◌≤◌, ◌==◌, All, IsTrue, List, [], ◌∷◌, map, slice_get, Option, option_and_then}
+use Rattle.std.specs.List.{Contains, IsDistinct}
 use Rattle.std.specs.Option.{option_map}
-use Rattle.std.specs.Ordering.{nat_cmp}
 use Rattle.dtype_types.specs.tree.Tree.{Tree}
-use Rattle.dtype_paths.specs.Cursors.{asks, asks_if}
+use Rattle.dtype_paths.specs.Cursors.{asks}
 use Rattle.dtype_paths.specs.PathPredicates.{no_path}
 use Rattle.dtype_paths.specs.declared.field.Field.TheVariants.{Name}
 use Rattle.dtype_paths.specs.declared.field_path_cursor.FieldPathCursor.{FieldPathCursor}
 use Rattle.dtype_projection.specs.Projected.{PathPredicate, after_step, without_field, projected}
 
--- what the cursor at the position k asks for, of cursors by position
-abbrev pub asked_at : List (ℕ × FieldPathCursor) → ℕ → PathPredicate
-asked_at es k = asks_if (lookup (is_at (nat_cmp k)) es)
+-- positions of fields, each with a cursor
+abbrev pub Entries : Type 0
+Entries = List (ℕ × FieldPathCursor)
+
+-- no two entries have one position
+abbrev pub PositionsDiffer : Entries → Type 0
+PositionsDiffer es = IsDistinct (λ j k. j == k) (map (λ e. e.0) es)
+
+-- the positions rise, from i on
+abbrev pub RiseFrom : ℕ → Entries → Type 0
+RiseFrom i [] = ⊤
+RiseFrom i (e ∷ es) = (i ≤ e.0) × RiseFrom (e.0 + 1) es
 
 -- what the paths w ask for below the field at the position k of these names: after a step into it, where it is the first
 -- of its name
@@ -25,12 +32,21 @@ asked_below w [] k = no_path
 asked_below w (n ∷ ns) zero = after_step (Name n) w
 asked_below w (n ∷ ns) (suc k) = asked_below (without_field n w) ns k
 
--- s has that at each position
-abbrev pub AreEntered : PathPredicate → List (List ℕ) → (ℕ → PathPredicate) → Type 0
-AreEntered w ns s = (k : ℕ) → s k ≡ asked_below w ns k
+-- an entry's cursor asks for what the paths w ask for below the field at its position
+abbrev pub IsEntered : PathPredicate → List (List ℕ) → ℕ × FieldPathCursor → Type 0
+IsEntered w ns e = asks e.1 ≡ asked_below w ns e.0
 
--- there are cursors at the positions from i to n, in this order, and each is at an end
-abbrev pub AreWhole : ℕ → ℕ → List (ℕ × FieldPathCursor) → Type 0
+-- the field at the position k is entered, or nothing is asked of it
+abbrev pub IsSettled : PathPredicate → List (List ℕ) → Entries → ℕ → Type 0
+IsSettled w ns es k = (asked_below w ns k ≡ no_path) ⊎ ((v : FieldPathCursor) × Contains es (k, v))
+
+-- es are the fields that the paths w step into, with what is asked of each
+pub record AreEntered (w : PathPredicate) (ns : List (List ℕ)) (es : Entries) : Type 0 where
+  pub each : All (IsEntered w ns) es
+  pub all : (k : ℕ) → IsSettled w ns es k
+
+-- the positions are those from i to n, and each cursor is at an end
+abbrev pub AreWhole : ℕ → ℕ → Entries → Type 0
 AreWhole i n [] = i ≡ n
 AreWhole i n (e ∷ es) = (e.0 ≡ i) × IsTrue (asks e.1 []) × AreWhole (i + 1) n es
 

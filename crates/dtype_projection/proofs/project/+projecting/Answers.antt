@@ -4,6 +4,8 @@
 use Rattle.std.proofs.Common.{◌≡◌, ◌++◌, ◌<◌, length, map, MatchResult, Some, subst, sym, ap, ◌∙◌, arith, rules}
 use Rattle.std.specs.List.{filter_map, zip}
 use Rattle.std.specs.Option.{option_map}
+use Rattle.std.specs.Vec.Iter.{into_iter_items}
+use Rattle.std.proofs.lemmas.List.{nil_from_length}
 use Rattle.dtype_base.specs.declared.vortex_error.VortexError.TheVariants.{OutOfMemory}
 use Rattle.dtype_types.specs.tree.Tree.{fields}
 use Rattle.dtype_types.specs.tree.TreeOf.{tree, children, fields_of}
@@ -22,35 +24,51 @@ project_element-returns-in-None t c = let element = tree c.args.element.now in s
 pub project_struct-returns-then-are_all_whole : goal.project_struct-returns-then-are_all_whole
 project_struct-returns-then-are_all_whole t c =
     let count = c.nfields.ensures in
-    struct_shared _ c.args.fields.now c.args.n (asks c.args.wanted.now) c.in_ok-entered.entered.entries c.in_ok-try_clone.ensures c.in_ok-entered.ensures
-    (subst (λ k. AreWhole 0 k c.in_ok-entered.entered.entries) count (c.are_all_whole.ensures.each c.if-are_all_whole.true))
+    struct_shared _ c.args.fields.now c.args.n (asks c.args.wanted.now) c.in_ok-entered.entered.items c.in_ok-try_clone.ensures c.in_ok-entered.ensures.ok
+    (subst (AreWhole 0 (length (children c.args.fields.now))) c.deref.ensures.value (subst (λ k. AreWhole 0 k c.deref.result.now) count (c.are_all_whole.ensures.each c.if-are_all_whole.true)))
     (subst (λ k. 0 < k) count (c.are_all_whole.ensures.some c.if-are_all_whole.true))
 
 pub project_struct-loop-position-init : goal.project_struct-loop-position-init
 project_struct-loop-position-init t c =
     let fs = children c.args.fields.now in
-    let all = c.into_iter-position-iterator.ensures.into_iter_gives in
     record {
-      kept = ap (λ z. zip z (map tree c.in_ok-dtypes.dtypes.items) ++ filter_map (kept_at fs) c.into_iter-position-iterator.result) c.in_ok-names.ensures.items
-          ∙ ap (filter_map (kept_at fs)) all.0
-          ∙ all_kept fs c.in_ok-entered.entered.entries (asks c.args.wanted.now) all.5 c.in_ok-entered.ensures;
+      kept = ap (λ z. zip z (map tree c.in_ok-dtypes.dtypes.items) ++ filter_map (kept_at fs) (into_iter_items c.into_iter-position-iterator.result)) c.in_ok-names.ensures.items
+          ∙ ap (filter_map (kept_at fs)) c.into_iter-position-iterator.ensures.into_iter_gives.0
+          ∙ all_kept fs c.in_ok-entered.entered.items (asks c.args.wanted.now) c.in_ok-entered.ensures.order c.in_ok-entered.ensures.ok;
       even = search rules;
+      names_fit = let given = c.into_iter-position-iterator.ensures.into_iter_gives.1 in omega (arith, given, c.in_ok-names.ensures.len, c.in_ok-names.ensures.capacity, c.len.ensures);
+      dtypes_fit = let given = c.into_iter-position-iterator.ensures.into_iter_gives.1 in omega (arith, given, c.in_ok-dtypes.ensures.len, c.in_ok-dtypes.ensures.capacity, c.len-2.ensures);
     }
 
-pub project_struct-loop-position-preserved-in_ok-push-2 : goal.project_struct-loop-position-preserved-in_ok-push-2
-project_struct-loop-position-preserved-in_ok-push-2 t c =
+pub project_struct-push_reserved-requires : goal.project_struct-push_reserved-requires
+project_struct-push_reserved-requires t c = omega (arith, c.loop-position.invariant.names_fit, c.in-Some.ensures.steps.1)
+
+pub project_struct-push_reserved-requires-in-Some-2 : goal.project_struct-push_reserved-requires-in-Some-2
+project_struct-push_reserved-requires-in-Some-2 t c = omega (arith, c.loop-position.invariant.dtypes_fit, c.in-Some.ensures.steps.1)
+
+pub project_struct-loop-position-preserved : goal.project_struct-loop-position-preserved
+project_struct-loop-position-preserved t c =
+    let so_far = c.loop-position.invariant in
+    record { kept = search rules; even = so_far.even; names_fit = omega (arith, so_far.names_fit, c.in-Some.ensures.steps.1); dtypes_fit = omega (arith, so_far.dtypes_fit, c.in-Some.ensures.steps.1) }
+
+pub project_struct-loop-position-preserved-in-Some-2 : goal.project_struct-loop-position-preserved-in-Some-2
+project_struct-loop-position-preserved-in-Some-2 t c =
+    let so_far = c.loop-position.invariant in
     let fs = children c.args.fields.now in
     let even : length c.loop-position.names.items ≡ length c.loop-position.dtypes.items = search rules in
-    let kept : kept_at fs (c.in-Some.position.now, c.in-Some.below.now) ≡ Some (c.in-Some-2.name, tree c.in-Some-2.dtype) =
+    let kept : kept_at fs (c.in-Some.position, c.in-Some.below) ≡ Some (c.in-Some-2.name, tree c.in-Some-2.dtype) =
     sym c.in_ok-name.ensures ∙ ap (option_map (λ f. (f.0, tree f.1))) c.in-Some-2.is in
     record {
-      kept = one_kept fs _ c.loop-position.position-iterator c.next.new.self _ _ _ _ _ _ _ c.in-Some.ensures.steps kept even c.in_ok-push.ensures.items c.in_ok-push-2.ensures.items c.loop-position.invariant.kept;
+      kept = one_kept fs _ (into_iter_items c.loop-position.position-iterator) (into_iter_items c.next.new.self) _ _ _ _ _ _ _ c.in-Some.ensures.steps.0 kept even c.push_reserved.ensures.items c.push_reserved-in-Some-2.ensures.items so_far.kept;
       even = search rules;
+      names_fit = omega (arith, so_far.names_fit, c.push_reserved.ensures, c.in-Some.ensures.steps.1);
+      dtypes_fit = omega (arith, so_far.dtypes_fit, c.push_reserved-in-Some-2.ensures, c.in-Some.ensures.steps.1);
     }
 
 pub project_struct-returns : goal.project_struct-returns
 project_struct-returns t c =
-    let all = all_done (children c.args.fields.now) _ _ c.loop-position.position-iterator c.in-None.ensures.steps.0 c.loop-position.invariant.kept in
+    let none = nil_from_length (into_iter_items c.loop-position.position-iterator) (omega (arith, c.loop-position.position-iterator.rest.ok, c.in-None.ensures.steps)) in
+    let all = all_done (children c.args.fields.now) _ _ (into_iter_items c.loop-position.position-iterator) none c.loop-position.invariant.kept in
     subst (λ fs. MatchResult c.struct_of.result (λ r. option_map tree r ≡ struct_with c.args.n fs) (λ e. e ≡ OutOfMemory)) (ap fields all ∙ fields_of_pairs (projected_fields (fields_of c.args.fields.now) (asks c.args.wanted.now))) c.struct_of.ensures
 
 -- ---- one field

@@ -40,17 +40,6 @@ project_struct-loop-position-init t c =
       dtypes_fit = let given = c.into_iter-position-iterator.ensures.into_iter_gives.1 in omega (arith, given, c.in_ok-dtypes.ensures.len, c.in_ok-dtypes.ensures.capacity, c.len-2.ensures);
     }
 
-pub project_struct-push_reserved-requires : goal.project_struct-push_reserved-requires
-project_struct-push_reserved-requires t c = omega (arith, c.loop-position.invariant.names_fit, c.in-Some.ensures.steps.1)
-
-pub project_struct-push_reserved-requires-in-Some-2 : goal.project_struct-push_reserved-requires-in-Some-2
-project_struct-push_reserved-requires-in-Some-2 t c = omega (arith, c.loop-position.invariant.dtypes_fit, c.in-Some.ensures.steps.1)
-
-pub project_struct-loop-position-preserved : goal.project_struct-loop-position-preserved
-project_struct-loop-position-preserved t c =
-    let so_far = c.loop-position.invariant in
-    record { kept = search rules; even = so_far.even; names_fit = omega (arith, so_far.names_fit, c.in-Some.ensures.steps.1); dtypes_fit = omega (arith, so_far.dtypes_fit, c.in-Some.ensures.steps.1) }
-
 pub project_struct-loop-position-preserved-in-Some-2 : goal.project_struct-loop-position-preserved-in-Some-2
 project_struct-loop-position-preserved-in-Some-2 t c =
     let so_far = c.loop-position.invariant in

@@ -46,13 +46,16 @@ untagged vs = map (λ v. (v.0, v.1.0)) vs
 pub untagged_names : (vs : List (List ℕ × (Tree × ℕ))) → field_names (untagged vs) ≡ variant_names vs
 untagged_names vs = map-map (λ p. p.0) _ vs
 
+pub untagged_types : (vs : List (List ℕ × (Tree × ℕ))) → field_types (untagged vs) ≡ variant_types vs
+untagged_types vs = map-map (λ p. p.1) _ vs
+
 pub untagged_named : (vs : List (List ℕ × (Tree × ℕ))) (n : List ℕ) → first_named (untagged vs) n ≡ variant_named vs n
 untagged_named [] n = refl
 untagged_named (v ∷ vs) n = ap (cond (bytes_eq v.0 n) (Some v.1.0)) (untagged_named vs n)
 
 pub variant_at_place : (vs : List (List ℕ × (Tree × ℕ))) (n : List ℕ) (i : ℕ) → Some i ≡ first_place (variant_names vs) n → slice_get (variant_types vs) i ≡ variant_named vs n
 variant_at_place vs n i e =
-    sym (ap (λ ts. slice_get ts i) (map-map (λ p. p.1) _ vs)) ∙ field_at_place (untagged vs) n i (e ∙ sym (ap (λ ns. first_place ns n) (untagged_names vs))) ∙ untagged_named vs n
+    sym (ap (λ ts. slice_get ts i) (untagged_types vs)) ∙ field_at_place (untagged vs) n i (e ∙ sym (ap (λ ns. first_place ns n) (untagged_names vs))) ∙ untagged_named vs n
 
 pub no_variant_at_place : (vs : List (List ℕ × (Tree × ℕ))) (n : List ℕ) → None ≡ first_place (variant_names vs) n → None ≡ variant_named vs n
 no_variant_at_place vs n e = no_field_at_place (untagged vs) n (e ∙ sym (ap (λ ns. first_place ns n) (untagged_names vs))) ∙ untagged_named vs n

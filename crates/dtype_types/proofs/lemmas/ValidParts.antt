@@ -21,6 +21,16 @@ use Rattle.dtype_types.specs.declared.union_variants.UnionVariants.{UnionVariant
 use Rattle.dtype_types.specs.declared.extension.ExtDTypeRef.{ExtDTypeRef}
 use Rattle.dtype_types.specs.declared.map.MapDType.{MapDType}
 
+-- ---- what a call lends, or moves out, of a type
+
+pub of_lent : {A T : Type 0} (f : A → T) (P : A → Type 0) (o : Option T) → ((a : A) → o ≡ Some (f a) → P a) → (r : Option (Bor A)) → shown f r ≡ o → IfSome r (λ a. P a.now)
+of_lent f P o holds None is = tt
+of_lent f P o holds (Some a) is = holds a.now (sym is)
+
+of_moved : {A T : Type 0} (f : A → T) (P : A → Type 0) (o : Option T) → ((a : A) → o ≡ Some (f a) → P a) → (r : Option A) → option_map f r ≡ o → IfSome r P
+of_moved f P o holds None is = tt
+of_moved f P o holds (Some a) is = holds a (sym is)
+
 -- ---- an element
 
 pub list_element_valid : (t u : Tree) → list_element t ≡ Some u → Valid t → Valid u
@@ -37,28 +47,22 @@ any_size_element_valid (fixed_size_list e k n) u is h = subst Valid (same_Some e
 any_size_element_valid _ u is h = cc
 
 pub borrowed_list_element : (t : Tree) (r : Option (Bor DType)) → shown tree r ≡ list_element t → Valid t → IfSome r (λ d. Valid (tree d.now))
-borrowed_list_element t None is h = tt
-borrowed_list_element t (Some d) is h = list_element_valid t (tree d.now) (sym is) h
+borrowed_list_element t r is h = of_lent tree (λ d. Valid (tree d)) (list_element t) (λ d e. list_element_valid t (tree d) e h) r is
 
 pub borrowed_fixed_size_element : (t : Tree) (r : Option (Bor DType)) → shown tree r ≡ fixed_size_list_element t → Valid t → IfSome r (λ d. Valid (tree d.now))
-borrowed_fixed_size_element t None is h = tt
-borrowed_fixed_size_element t (Some d) is h = fixed_size_element_valid t (tree d.now) (sym is) h
+borrowed_fixed_size_element t r is h = of_lent tree (λ d. Valid (tree d)) (fixed_size_list_element t) (λ d e. fixed_size_element_valid t (tree d) e h) r is
 
 pub borrowed_any_size_element : (t : Tree) (r : Option (Bor DType)) → shown tree r ≡ any_size_list_element t → Valid t → IfSome r (λ d. Valid (tree d.now))
-borrowed_any_size_element t None is h = tt
-borrowed_any_size_element t (Some d) is h = any_size_element_valid t (tree d.now) (sym is) h
+borrowed_any_size_element t r is h = of_lent tree (λ d. Valid (tree d)) (any_size_list_element t) (λ d e. any_size_element_valid t (tree d) e h) r is
 
 pub owned_list_element : (t : Tree) (r : Option (Box DType Global)) → option_map (λ b. tree b.value) r ≡ list_element t → Valid t → IfSome r (λ b. Valid (tree b.value))
-owned_list_element t None is h = tt
-owned_list_element t (Some b) is h = list_element_valid t (tree b.value) (sym is) h
+owned_list_element t r is h = of_moved (λ b. tree b.value) (λ b. Valid (tree b.value)) (list_element t) (λ b e. list_element_valid t (tree b.value) e h) r is
 
 pub owned_fixed_size_element : (t : Tree) (r : Option (Box DType Global)) → option_map (λ b. tree b.value) r ≡ fixed_size_list_element t → Valid t → IfSome r (λ b. Valid (tree b.value))
-owned_fixed_size_element t None is h = tt
-owned_fixed_size_element t (Some b) is h = fixed_size_element_valid t (tree b.value) (sym is) h
+owned_fixed_size_element t r is h = of_moved (λ b. tree b.value) (λ b. Valid (tree b.value)) (fixed_size_list_element t) (λ b e. fixed_size_element_valid t (tree b.value) e h) r is
 
 pub owned_any_size_element : (t : Tree) (r : Option (Box DType Global)) → option_map (λ b. tree b.value) r ≡ any_size_list_element t → Valid t → IfSome r (λ b. Valid (tree b.value))
-owned_any_size_element t None is h = tt
-owned_any_size_element t (Some b) is h = any_size_element_valid t (tree b.value) (sym is) h
+owned_any_size_element t r is h = of_moved (λ b. tree b.value) (λ b. Valid (tree b.value)) (any_size_list_element t) (λ b e. any_size_element_valid t (tree b.value) e h) r is
 
 -- ---- a map's parts
 
@@ -67,12 +71,10 @@ map_parts_valid (map_of k v b n) m is h = subst (λ (p : Tree × Tree × Bool). 
 map_parts_valid _ m is h = cc
 
 pub borrowed_map : (t : Tree) (r : Option (Bor MapDType)) → shown map_shown r ≡ map_parts t → Valid t → IfSome r (λ m. Valid (map_tree m.now))
-borrowed_map t None is h = tt
-borrowed_map t (Some m) is h = map_parts_valid t m.now (sym is) h
+borrowed_map t r is h = of_lent map_shown (λ a. Valid (map_tree a)) (map_parts t) (λ a e. map_parts_valid t a e h) r is
 
 pub owned_map : (t : Tree) (r : Option MapDType) → option_map map_shown r ≡ map_parts t → Valid t → IfSome r (λ d. Valid (map_tree d))
-owned_map t None is h = tt
-owned_map t (Some m) is h = map_parts_valid t m (sym is) h
+owned_map t r is h = of_moved map_shown (λ a. Valid (map_tree a)) (map_parts t) (λ a e. map_parts_valid t a e h) r is
 
 -- ---- a struct's fields
 
@@ -85,12 +87,10 @@ struct_fields_valid (struct fs n) s is h = subst ValidItems (sym (fields_of_pair
 struct_fields_valid _ s is h = cc
 
 pub borrowed_struct : (t : Tree) (r : Option (Bor StructFields)) → shown children r ≡ struct_fields t → Valid t → IfSome r (λ s. Valid (struct_tree s.now))
-borrowed_struct t None is h = tt
-borrowed_struct t (Some s) is h = struct_fields_valid t s.now (sym is) h
+borrowed_struct t r is h = of_lent children (λ a. Valid (struct_tree a)) (struct_fields t) (λ a e. struct_fields_valid t a e h) r is
 
 pub owned_struct : (t : Tree) (r : Option StructFields) → option_map children r ≡ struct_fields t → Valid t → IfSome r (λ d. Valid (struct_tree d))
-owned_struct t None is h = tt
-owned_struct t (Some s) is h = struct_fields_valid t s (sym is) h
+owned_struct t r is h = of_moved children (λ a. Valid (struct_tree a)) (struct_fields t) (λ a e. struct_fields_valid t a e h) r is
 
 -- ---- a union's variants
 
@@ -103,12 +103,10 @@ union_variants_valid (union vs n) u is h = subst (λ ws. Valid (union ws NonNull
 union_variants_valid _ u is h = cc
 
 pub borrowed_union : (t : Tree) (r : Option (Bor UnionVariants)) → shown variant_list r ≡ union_variants t → Valid t → IfSome r (λ u. Valid (union_tree u.now))
-borrowed_union t None is h = tt
-borrowed_union t (Some u) is h = union_variants_valid t u.now (sym is) h
+borrowed_union t r is h = of_lent variant_list (λ a. Valid (union_tree a)) (union_variants t) (λ a e. union_variants_valid t a e h) r is
 
 pub owned_union : (t : Tree) (r : Option UnionVariants) → option_map variant_list r ≡ union_variants t → Valid t → IfSome r (λ d. Valid (union_tree d))
-owned_union t None is h = tt
-owned_union t (Some u) is h = union_variants_valid t u (sym is) h
+owned_union t r is h = of_moved variant_list (λ a. Valid (union_tree a)) (union_variants t) (λ a e. union_variants_valid t a e h) r is
 
 -- ---- an extension
 
@@ -120,8 +118,7 @@ extension_parts_valid (extension i b s) e is h = subst (λ (p : List ℕ × List
 extension_parts_valid _ e is h = cc
 
 pub borrowed_extension : (t : Tree) (r : Option (Bor ExtDTypeRef)) → shown (λ e. (extension_id e, extension_metadata e, storage_tree e)) r ≡ extension_parts t → Valid t → IfSome r (λ e. Valid (extension_tree e.now))
-borrowed_extension t None is h = tt
-borrowed_extension t (Some e) is h = extension_parts_valid t e.now (sym is) h
+borrowed_extension t r is h = of_lent (λ e. (extension_id e, extension_metadata e, storage_tree e)) (λ e. Valid (extension_tree e)) (extension_parts t) (λ a e. extension_parts_valid t a e h) r is
 
 -- what a valid type holds is valid
 pub ruleset valid_parts = (list_element_valid, fixed_size_element_valid, any_size_element_valid, map_parts_valid, struct_fields_valid, union_variants_valid, extension_parts_valid)

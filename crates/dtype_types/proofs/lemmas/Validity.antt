@@ -16,9 +16,10 @@ use Rattle.dtype_types.specs.tree.TreeOf.{tree, extension_tree, map_tree, union_
 use Rattle.dtype_types.specs.parts.Lookups.{first_named, variant_named, field_types, variant_types}
 use Rattle.dtype_types.specs.parts.Maps.{entries_of}
 use Rattle.dtype_types.specs.nullability.Nullable.{nullability, set_null}
+use Rattle.dtype_types.proofs.lemmas.Lookups.{untagged, untagged_named, untagged_types}
 use Rattle.dtype_types.proofs.lemmas.Nullabilities.{in_storage}
 use Rattle.dtype_types.specs.tree.Tree.{Tree, fields, variants, null, list, fixed_size_list, map_of, extension}
-use Rattle.dtype_types.proofs.lemmas.ValidParts.{valid_parts, borrowed_list_element, borrowed_fixed_size_element, borrowed_any_size_element, owned_list_element, owned_fixed_size_element, owned_any_size_element, borrowed_map, owned_map, borrowed_struct, owned_struct, borrowed_union, owned_union, extension_is_valid, borrowed_extension}
+use Rattle.dtype_types.proofs.lemmas.ValidParts.{of_lent, valid_parts, borrowed_list_element, borrowed_fixed_size_element, borrowed_any_size_element, owned_list_element, owned_fixed_size_element, owned_any_size_element, borrowed_map, owned_map, borrowed_struct, owned_struct, borrowed_union, owned_union, extension_is_valid, borrowed_extension}
 use Rattle.dtype_types.proofs.lemmas.TreeLaws.{tree_struct, tree_union, tree_map, tree_extension}
 use Rattle.dtype_types.specs.declared.dtype.DType.{DType, Map, Struct, Union, Extension}
 use Rattle.dtype_types.specs.declared.field_dtype.FieldDType.{FieldDType}
@@ -103,34 +104,27 @@ valid_of (p ∷ ps) zero t e h = subst Valid (same_Some p.1 t e) h.0
 valid_of (p ∷ ps) (suc i) t e h = valid_of ps i t e h.1
 
 pub field_valid : (s : StructFields) (i : ℕ) (r : Option (Bor DType)) → shown tree r ≡ slice_get (field_types (children s)) i → Valid (struct_tree s) → IfSome r (λ d. Valid (tree d.now))
-field_valid s i None e h = tt
-field_valid s i (Some d) e h = valid_of (children s) i (tree d.now) (sym e) h
+field_valid s i r is h = of_lent tree (λ d. Valid (tree d)) (slice_get (field_types (children s)) i) (λ d e. valid_of (children s) i (tree d) e h) r is
 
 pub named_field_valid : (s : StructFields) (n : List ℕ) (r : Option (Bor DType)) → shown tree r ≡ first_named (children s) n → Valid (struct_tree s) → IfSome r (λ d. Valid (tree d.now))
-named_field_valid s n None e h = tt
-named_field_valid s n (Some d) e h = valid_named (children s) n (tree d.now) h e
+named_field_valid s n r is h = of_lent tree (λ d. Valid (tree d)) (first_named (children s) n) (λ d e. valid_named (children s) n (tree d) h (sym e)) r is
 
--- the type of a variant, at its position and by its name
+-- the type of a variant, at its position and by its name, as that of a field
+untagged_valid : (vs : List (List ℕ × (Tree × ℕ))) → ValidItems (variants vs) → ValidItems (fields (untagged vs))
+untagged_valid [] h = tt
+untagged_valid (v ∷ vs) h = (h.0, untagged_valid vs h.1)
+
 valid_variant_of : (vs : List (List ℕ × (Tree × ℕ))) (i : ℕ) (t : Tree) → slice_get (variant_types vs) i ≡ Some t → ValidItems (variants vs) → Valid t
-valid_variant_of [] i t e h = cc
-valid_variant_of (v ∷ vs) zero t e h = subst Valid (same_Some v.1.0 t e) h.0
-valid_variant_of (v ∷ vs) (suc i) t e h = valid_variant_of vs i t e h.1
+valid_variant_of vs i t e h = valid_of (untagged vs) i t (ap (λ ts. slice_get ts i) (untagged_types vs) ∙ e) (untagged_valid vs h)
 
 pub variant_valid : (u : UnionVariants) (i : ℕ) (r : Option (Bor DType)) → shown tree r ≡ slice_get (variant_types (variant_list u)) i → Valid (union_tree u) → IfSome r (λ d. Valid (tree d.now))
-variant_valid u i None e h = tt
-variant_valid u i (Some d) e h = valid_variant_of (variant_list u) i (tree d.now) (sym e) h.1
+variant_valid u i r is h = of_lent tree (λ d. Valid (tree d)) (slice_get (variant_types (variant_list u)) i) (λ d e. valid_variant_of (variant_list u) i (tree d) e h.1) r is
 
 valid_by_name : (vs : List (List ℕ × (Tree × ℕ))) (n : List ℕ) (t : Tree) → ValidItems (variants vs) → Some t ≡ variant_named vs n → Valid t
-valid_by_name [] n t h e = cc
-valid_by_name (v ∷ vs) n t h e = go (bytes_eq v.0 n) e (λ f. valid_by_name vs n t h.1 f)
-  where
-    go : (b : Bool) → Some t ≡ cond b (Some v.1.0) (variant_named vs n) → (Some t ≡ variant_named vs n → Valid t) → Valid t
-    go true e later = subst Valid (same_Some v.1.0 t (sym e)) h.0
-    go false e later = later e
+valid_by_name vs n t h e = valid_named (untagged vs) n t (untagged_valid vs h) (e ∙ sym (untagged_named vs n))
 
 pub named_variant_valid : (u : UnionVariants) (n : List ℕ) (r : Option (Bor DType)) → shown tree r ≡ variant_named (variant_list u) n → Valid (union_tree u) → IfSome r (λ d. Valid (tree d.now))
-named_variant_valid u n None e h = tt
-named_variant_valid u n (Some d) e h = valid_by_name (variant_list u) n (tree d.now) h.1 e
+named_variant_valid u n r is h = of_lent tree (λ d. Valid (tree d)) (variant_named (variant_list u) n) (λ d e. valid_by_name (variant_list u) n (tree d) h.1 (sym e)) r is
 
 -- the same of a type that was found
 pub type_at_valid : (s : StructFields) (i : ℕ) (t : Tree) → slice_get (field_types (children s)) i ≡ Some t → Valid (struct_tree s) → Valid t
@@ -153,12 +147,10 @@ field_types_each (p ∷ ps) h = (h.0, field_types_each ps h.1)
 pub field_types_valid : (s : StructFields) → Valid (struct_tree s) → All Valid (field_types (children s))
 field_types_valid s h = All-from_recursion Valid (field_types (children s)) (field_types_each (children s) h)
 
-variant_types_each : (vs : List (List ℕ × (Tree × ℕ))) → ValidItems (variants vs) → AllByRecursion Valid (variant_types vs)
-variant_types_each [] h = tt
-variant_types_each (v ∷ vs) h = (h.0, variant_types_each vs h.1)
-
 pub variant_types_valid : (u : UnionVariants) → Valid (union_tree u) → All Valid (variant_types (variant_list u))
-variant_types_valid u h = All-from_recursion Valid (variant_types (variant_list u)) (variant_types_each (variant_list u) h.1)
+variant_types_valid u h =
+    let vs = variant_list u in
+    subst (All Valid) (untagged_types vs) (All-from_recursion Valid (field_types (untagged vs)) (field_types_each (untagged vs) (untagged_valid vs h.1)))
 
 pub pairs_valid : (s : StructFields) → Valid (struct_tree s) → All (λ p. Valid (tree p.1)) (struct_pairs s)
 pairs_valid s h = All-from_recursion (λ p. Valid (tree p.1)) (struct_pairs s) (each_pair (struct_pairs s) h)

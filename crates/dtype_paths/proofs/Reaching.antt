@@ -2,7 +2,7 @@
 -- SPDX-FileCopyrightText: Copyright the Vortex contributors
 
 -- The nodes that a path leads to, and the paths that end below them.
-use Rattle.std.proofs.Common.{◌≡◌, ◌≢◌, ◌↔◌, ◌∙◌, ℕ, ◌<◌, length, true, false, Decides, List, [], ◌∷◌, ◌++◌, Option, Some, None, is_some, option_and_then, refl, sym, ap}
+use Rattle.std.proofs.Common.{slice_get, subst, ◌≡◌, ◌≢◌, ◌↔◌, ◌∙◌, ℕ, ◌<◌, length, true, false, Decides, List, [], ◌∷◌, ◌++◌, Option, Some, None, is_some, option_and_then, refl, sym, ap}
 use Rattle.std.proofs.Math.Logic.{∥∥₁_elim, ∥∥₁_map}
 use Rattle.std.specs.Coded.{le_prop, Coded-set, coded_bool}
 use Rattle.std.proofs.lemmas.Bool.Decides.{same_from_decides}
@@ -78,6 +78,17 @@ module _ (nodes : List Node) (t : IsTrie nodes) where
         where
           after : ends_below nodes i ≡ no_path → (f : Field) (p : List Field) (j : ℕ) → child_at nodes i f ≡ Some j → ends_below nodes j p ≡ false
           after z f p j to = ap (λ o. is_some (option_and_then (terminal_at nodes) (option_and_then (λ k. walk (child_at nodes) k p) o))) (sym to) ∙ ap (λ (w : PathPredicate). w (f ∷ p)) z
+
+-- a path leads to a node's child, and below it some path ends
+pub reached_child : (nodes ns : List Node) (i j : ℕ) (f : Field) (n : Node) → IsTrie nodes → nodes ≡ ns → IsReached ns i → slice_get nodes i ≡ Some n → Some j ≡ child n.children f
+    → IsReached ns j
+reached_child nodes ns i j f n t same r at led =
+    subst (λ ns. IsReached ns j) same (child-reached nodes t i j f (subst (λ ns. IsReached ns i) (sym same) r) (ap (option_and_then (λ n. child n.children f)) at ∙ sym led))
+
+pub child_asks : (nodes ns : List Node) (i j : ℕ) (f : Field) (n : Node) → IsTrie nodes → nodes ≡ ns → IsReached ns i → slice_get nodes i ≡ Some n → Some j ≡ child n.children f
+    → ends_below ns j ≢ no_path
+child_asks nodes ns i j f n t same r at led =
+    subst (λ ns. ends_below ns j ≢ no_path) same (child-ends nodes t i j f (subst (λ ns. IsReached ns i) (sym same) r) (ap (option_and_then (λ n. child n.children f)) at ∙ sym led))
 
 -- after a step to a child end the suffixes
 pub ends-child : (nodes : List Node) (i : ℕ) (f : Field) (o : Option ℕ) → o ≡ child_at nodes i f → (p : List Field)

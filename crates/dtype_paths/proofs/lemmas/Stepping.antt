@@ -10,7 +10,7 @@ use Rattle.std.specs.List.{starts_with}
 use Rattle.dtype_base.specs.declared.nullability.Nullability.{Nullability}
 use Rattle.dtype_types.specs.parts.Lookups.{first_named}
 use Rattle.dtype_types.specs.tree.Kinds.{any_size_list_element, kind}
-use Rattle.dtype_types.specs.tree.Tree.{Tree, Fields, no_items, pairs, list, fixed_size_list, struct, extension, item}
+use Rattle.dtype_types.specs.tree.Tree.{Tree, Fields, no_items, field, pairs, list, fixed_size_list, struct, extension, item}
 use Rattle.dtype_types.specs.tree.TreeOf.{children, fields_of}
 use Rattle.dtype_types.specs.tree.Valid.{Valid, ValidItems}
 use Rattle.dtype_types.specs.declared.dtype.kinds.Kind.TheVariants as kinds
@@ -24,6 +24,7 @@ use Rattle.dtype_paths.specs.Equality.{same_field, same_path}
 use Rattle.dtype_paths.specs.EqualityLaws.{same_field-Decides, same_path-Decides}
 use Rattle.dtype_paths.specs.In.{In, first_part}
 use Rattle.dtype_paths.proofs.lemmas.Beginnings.{begins_nil, starts_with-Decides}
+use Rattle.dtype_paths.proofs.lemmas.Cases.{by_bool}
 use Rattle.dtype_paths.proofs.lemmas.MaskSteps.{first_asked}
 use Rattle.dtype_paths.proofs.lemmas.Steps.{step_element, then_some}
 use Rattle.dtype_paths.proofs.lemmas.Walks.{along-At, At-along, along_after, none_after, none_further, one_type_at}
@@ -113,13 +114,14 @@ none_at t u p e a = let s = At-along t p u a in cc
 pub none_exists : (t : Tree) (p : List Field) → None ≡ along t p → ExistsIn t p → ⊥
 none_exists t p e x = none_at t x.found p e x.at
 
+-- by whether a field is the first of a name, or comes before it
+pub by_first : {P : Type 0} (n m : List ℕ) (t x : Tree) (fs : Fields) → first_named (pairs (field n t fs)) m ≡ Some x
+    → (bytes_eq n m ≡ true → t ≡ x → P) → (bytes_eq n m ≡ false → first_named (pairs fs) m ≡ Some x → P) → P
+by_first n m t x fs e here later = by_bool (bytes_eq n m) (λ y. here y (same_Some t x (rw y at e))) (λ y. later y (rw y at e))
+
 pub valid_named : (fs : Fields) (m : List ℕ) (x : Tree) → ValidItems fs → first_named (pairs fs) m ≡ Some x → Valid x
 valid_named no_items m x h e = cc
-valid_named (item n t _ fs) m x h e = go (bytes_eq n m) e (valid_named fs m x h.1)
-  where
-    go : (c : Bool) → cond c (Some t) (first_named (pairs fs) m) ≡ Some x → (first_named (pairs fs) m ≡ Some x → Valid x) → Valid x
-    go true e' more = subst Valid (same_Some t x e') h.0
-    go false e' more = more e'
+valid_named (item n t _ fs) m x h e = by_first n m t x fs e (λ y is. subst Valid is h.0) (λ y later. valid_named fs m x h.1 later)
 
 pub valid_along : (t : Tree) (p : List Field) (u : Tree) → Valid t → At t p u → Valid u
 valid_along t [] u h a = subst Valid a h

@@ -253,12 +253,8 @@ kept_as_it_was t u w p q e is b =
 -- ---- no other path exists in the projection
 
 -- the path exists, and overlaps one of w that exists
-pub record Overlapped (t : Tree) (w : PathPredicate) (q : List Field) : Type 0 where
-  pub path : List Field
-  pub holds : w path ≡ true
-  pub there : ExistsIn t path
-  pub overlaps : Overlaps path q
-  pub exists : ExistsIn t q
+abbrev Overlapped : Tree → PathPredicate → List Field → Type 0
+Overlapped t w q = ExistsIn t q × ((p : List Field) × (w p ≡ true) × ExistsIn t p × Overlaps p q)
 
 overlaps_on : (f : Field) (p q : List Field) → Overlaps p q → Overlaps (f ∷ p) (f ∷ q)
 overlaps_on f p q (inl b) = inl (b.0, ap (λ z. f ∷ z) b.1)
@@ -266,15 +262,15 @@ overlaps_on f p q (inr b) = inr (b.0, ap (λ z. f ∷ z) b.1)
 
 pub kept_overlaps : (q : List Field) (t u x : Tree) (w : PathPredicate) → projected t w ≡ Some u → At u q x → Overlapped t w q
 kept_overlaps [] t u x w e a =
-    let l = kept_has_path t u w e in
-    record { path = l.path; holds = l.holds; there = l.exists; overlaps = inr (l.path, refl); exists = record { found = t; at = refl } }
+    let l = kept_has_path t u w e in (record { found = t; at = refl }, (l.path, l.holds, l.exists, inr (l.path, refl)))
 kept_overlaps (f ∷ q) t u x w e a = by_bool (w [])
-    (λ root. record { path = []; holds = root; there = record { found = t; at = refl }; overlaps = inl (f ∷ q, refl); exists = record { found = x; at = subst (λ z. At z (f ∷ q) x) (sym (whole_kept t u w root e)) a } })
+    (λ root. (record { found = x; at = subst (λ z. At z (f ∷ q) x) (sym (whole_kept t u w root e)) a }, ([], root, record { found = t; at = refl }, inl (f ∷ q, refl))))
     (λ root. by_option (step t f)
     (λ none. let s = sym a.1 ∙ step_kept t u w f root e ∙ ap (option_and_then (λ x. projected x (after_step f w))) none in cc)
     (λ y at. let s = sym (sym a.1 ∙ step_kept t u w f root e ∙ ap (option_and_then (λ x. projected x (after_step f w))) at) in
     let r = kept_overlaps q y a.0 x (after_step f w) s a.2 in
-    record { path = f ∷ r.path; holds = r.holds; there = record { found = r.there.found; at = (y, at, r.there.at) }; overlaps = overlaps_on f r.path q r.overlaps; exists = record { found = r.exists.found; at = (y, at, r.exists.at) } }))
+    let on : (p : List Field) → ExistsIn y p → ExistsIn t (f ∷ p) = λ p c. record { found = c.found; at = (y, at, c.at) } in
+    (on q r.0, (f ∷ r.1.0, r.1.1, on r.1.0 r.1.2, overlaps_on f r.1.0 q r.1.3))))
 
 -- and each path of the type that overlaps one that exists does
 still_there : (t u : Tree) (w : PathPredicate) (p q : List Field) → projected t w ≡ Some u → w p ≡ true → Beginning p q → ExistsIn t q → ExistsIn u q
@@ -285,9 +281,9 @@ overlapping_kept t u w p q e is there (inl b) x = still_there t u w p q e is b x
 overlapping_kept t u w p q e is there (inr b) x = beginning_exists_in u q p b (still_there t u w p p e is ([], sym (append-nil p)) there)
 
 pub exists_in_kept : (t u : Tree) (w : PathPredicate) (q : List Field) → projected t w ≡ Some u
-    → ExistsIn u q ↔ (ExistsIn t q × ((p : List Field) × (w p ≡ true) × ExistsIn t p × Overlaps p q))
+    → ExistsIn u q ↔ Overlapped t w q
 exists_in_kept t u w q e = (
-  λ x. let r = kept_overlaps q t u x.found w e x.at in (r.exists, (r.path, r.holds, r.there, r.overlaps)),
+  λ x. kept_overlaps q t u x.found w e x.at,
   λ x. overlapping_kept t u w x.1.0 q e x.1.1 x.1.2 x.1.3 x.0,
 )
 

@@ -3,7 +3,7 @@
 
 -- `tell` gives a value exactly where the first type isn't below the second, also through sizes 0. Where no size is 0, what it
 -- gives is a value of the first type and not of the second.
-use Rattle.std.proofs.Common.{◌≡◌, ◌↔◌, ℕ, zero, suc, ◌<◌, Option, Some, None, refl, inl, inr, arith, ap}
+use Rattle.std.proofs.Common.{◌≡◌, ◌↔◌, ℕ, Option, Some, None, refl, inl, inr, ap}
 use Rattle.std.specs.Prelude.{option_map, IsSomeAnd}
 use Rattle.dtype_base.specs.declared.nullability.Nullability.{Nullability}
 use Rattle.dtype_base.specs.declared.nullability.Nullability.TheVariants.{NonNullable, Nullable}
@@ -12,7 +12,7 @@ use Rattle.dtype_types.specs.nullability.Sub.{Sub, Allows, NullableWherever, Nul
 use Rattle.dtype_types.specs.tree.Erase.{erase, erase_items}
 use Rattle.dtype_types.specs.tree.Tree.{Tree, Fields, no_items, field, Variants, item, null, bool, primitive, decimal, utf8, binary, list, fixed_size_list, map_of, struct, union, variant, extension, rest_of, first_tag}
 use Rattle.dtype_types.specs.tree.Valid.{Valid, ValidItems}
-use Rattle.dtype_types.specs.values.Value.{Value, Named, Of, IncludedIn, NamedOf, VariantOf, Each, null_value, items, fixed_items, entries, record_of, tagged, no_values, value, no_entries, entry, named}
+use Rattle.dtype_types.specs.values.Value.{Value, Named, Of, IncludedIn, NamedOf, VariantOf, null_value, items, fixed_items, entries, record_of, tagged, no_values, value, no_entries, entry, named}
 use Rattle.dtype_types.specs.values.Sample.{sample, samples, copies}
 use Rattle.dtype_types.specs.values.Tell.{or_else, null_else, tell, tell_fields, tell_variants, HasNoSizeZero, ItemsHaveNoSizeZero}
 use Rattle.dtype_types.proofs.lemmas.NullValues.{null_is_of_nullable}

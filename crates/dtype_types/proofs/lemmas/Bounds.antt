@@ -156,13 +156,11 @@ module _ {A : Relation} {r : Rule} (bounds : Bounds A r) where
       let bc = merge r b c in
       let left : erase ab ≡ erase c = erase_merge r a b e ∙ e ∙ f in
       let right : erase a ≡ erase bc = e ∙ sym (erase_merge r b c f) in
-      let all = merge r a bc in
-      let both_first = after_first ab c left in
-      let both_second = after_second a bc right in
-      equal_in_order (merge r ab c) all
-      (before_others ab c all (before_others a b all (after_first a bc right) (after_more b bc all (after_first b c f) both_second)) (after_more c bc all (after_second b c f) both_second))
-      (before_others a bc (merge r ab c) (after_more a ab (merge r ab c) (after_first a b e) both_first)
-      (before_others b c (merge r ab c) (after_more b ab (merge r ab c) (after_second a b e) both_first) (after_second ab c left)))
+      let after_ab = after_first ab c left in
+      let after_bc = after_second a bc right in
+      equal_in_order (merge r ab c) (merge r a bc)
+      (before_others ab c _ (before_others a b _ (after_first a bc right) (after_more b bc _ (after_first b c f) after_bc)) (after_more c bc _ (after_second b c f) after_bc))
+      (before_others a bc _ (after_more a ab _ (after_first a b e) after_ab) (before_others b c _ (after_more b ab _ (after_second a b e) after_ab) (after_second ab c left)))
 
   pub bound_in_order : (a b : Tree) → InOrder A a b → merge r a b ≡ b
   bound_in_order a b h = equal_in_order _ _ (before_others a b b h (after_itself b)) (after_second a b h.0)

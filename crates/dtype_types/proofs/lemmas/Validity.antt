@@ -2,7 +2,7 @@
 -- SPDX-FileCopyrightText: Copyright the Vortex contributors
 
 -- Validity of types, by that of their parts.
-use Rattle.std.proofs.Common.{◌≡◌, ℕ, zero, suc, List, [], ◌∷◌, ◌++◌, map, Bool, true, false, cond, Option, Some, None, IfSome, slice_get, ◌<◌, ◌^◌, ap, sym, subst, ◌∙◌, Bor}
+use Rattle.std.proofs.Common.{◌≡◌, ℕ, zero, suc, List, [], ◌∷◌, ◌++◌, map, Bool, true, false, cond, Option, Some, IfSome, slice_get, ◌<◌, ◌^◌, ap, sym, subst, ◌∙◌, Bor}
 use Rattle.std.specs.Prelude.{remove}
 use Rattle.std.specs.List.{All, AllByRecursion, zip}
 use Rattle.std.specs.Str.{bytes_eq}

@@ -2,23 +2,21 @@
 -- SPDX-FileCopyrightText: Copyright the Vortex contributors
 
 -- A list of nodes, by its indices.
-use Rattle.std.proofs.Common.{ℕ, suc, zero, ◌+◌, ◌<◌, length, take, drop, get_or, map, append-nil, is_some, Decides, ◌≡◌, ◌⊎◌, Bool, false, List, [], ◌∷◌, ◌++◌, Option, Some, None, option_and_then, inl, inr, refl, sym, ap, ◌∙◌, arith, ⊎_elim}
+use Rattle.std.proofs.Common.{ℕ, suc, zero, ◌+◌, ◌<◌, length, take, drop, get_or, map, append-nil, is_some, Decides, ◌≡◌, ◌⊎◌, Bool, List, [], ◌∷◌, ◌++◌, Option, Some, None, option_and_then, inl, inr, refl, sym, ap, ◌∙◌, arith, ⊎_elim}
 use Rattle.std.specs.FinSet as set
-use Rattle.std.specs.List.{slice_get, Contains, IsDistinct, AllByRecursion, cons_option}
+use Rattle.std.specs.List.{slice_get, Contains, cons_option}
 use Rattle.std.proofs.lemmas.List.Elements.{filter_map-append}
 use Rattle.std.proofs.lemmas.List.{map-append}
-use Rattle.std.proofs.lemmas.Map.Keys.{IsDistinct-cons}
+use Rattle.dtype_base.specs.Distinct.{Distinct}
 use Rattle.std.proofs.lemmas.Option.{same_Some, option_and_then_some, slice_get_read, slice_get_within}
-use Rattle.dtype_paths.proofs.DistinctLists.{IsDistinct-nil}
+use Rattle.dtype_paths.proofs.DistinctLists.{distinct-cons, distinct-nil}
 use Rattle.dtype_paths.proofs.ListMembers.{contains-cons, contains-head, contains-nil, contains-tail}
-use Rattle.dtype_paths.proofs.lemmas.Cases.{by_bool, by_option}
+use Rattle.dtype_paths.proofs.lemmas.Cases.{by_option}
 use Rattle.dtype_paths.proofs.lemmas.SetMembers.{same_lists}
-use Rattle.dtype_paths.specs.Equality.{same_path}
-use Rattle.dtype_paths.specs.EqualityLaws.{same_path-Decides}
 use Rattle.dtype_paths.specs.PathOrder.{set_of}
 use Rattle.dtype_paths.specs.declared.field.Field.{Field}
 use Rattle.dtype_paths.specs.declared.node.Node.{Node}
-use Rattle.dtype_paths.specs.private.Trie.{child_at, terminal_at, terminals, walk, IsPrefixMatch, IsTrie, IsTrieBy}
+use Rattle.dtype_paths.specs.private.Trie.{child_at, terminal_at, terminals, walk, IsPrefixMatch, IsTrie}
 use Rattle.dtype_paths.specs.declared.path_match.PrefixMatch.{PrefixMatch}
 use Rattle.dtype_paths.proofs.TrieGrowth.{Ends, walk-append}
 
@@ -77,24 +75,16 @@ gains old new node_index path e = same_lists (terminals new) (path ∷ terminals
       (contains-cons path q (terminals old) c),
 ))
 
-no_terminal : (p : List Field) (ns : List Node) → ((i : ℕ) → terminal_at ns i ≡ Some p → ⊥) → AllByRecursion (λ y. same_path p y ≡ false) (terminals ns)
-no_terminal p [] h = tt
-no_terminal p (n ∷ ns) h = go n.terminal refl (no_terminal p ns (λ i. h (suc i)))
-  where
-    go : (o : Option (List Field)) → n.terminal ≡ o → AllByRecursion (λ y. same_path p y ≡ false) (terminals ns) → AllByRecursion (λ y. same_path p y ≡ false) (cons_option o (terminals ns))
-    go None e later = later
-    go (Some y) e later = (by_bool (same_path p y) (λ s. absurd (h 0 (e ∙ ap Some (sym ((same_path-Decides p y).0 s))))) (λ s. s), later)
-
-pub terminals-distinct : (nodes : List Node) → ((i j : ℕ) (q : List Field) → terminal_at nodes i ≡ Some q → terminal_at nodes j ≡ Some q → i ≡ j) → IsDistinct same_path (terminals nodes)
-terminals-distinct [] h = IsDistinct-nil same_path
-terminals-distinct (n ∷ ns) h = go n.terminal refl (terminals-distinct ns (λ i j q a b. let e = h (suc i) (suc j) q a b in omega (arith, e)))
-  where
-    go : (o : Option (List Field)) → n.terminal ≡ o → IsDistinct same_path (terminals ns) → IsDistinct same_path (cons_option o (terminals ns))
-    go None e rest = rest
-    go (Some y) e rest = IsDistinct-cons same_path y (terminals ns) (no_terminal y ns (λ i a. let z = h 0 (suc i) y e a in absurd (omega (arith, z)))) rest
+terminals-distinct : (nodes : List Node) → ((i j : ℕ) (q : List Field) → terminal_at nodes i ≡ Some q → terminal_at nodes j ≡ Some q → i ≡ j) → Distinct (terminals nodes)
+terminals-distinct [] h = distinct-nil [] refl
+terminals-distinct (n ∷ ns) h =
+    let later = terminals-distinct ns (λ i j q a b. let e = h (suc i) (suc j) q a b in omega (arith, e)) in
+    by_option n.terminal
+    (λ e. rw e later)
+    (λ y e. rw e (distinct-cons y (terminals ns) (λ c. let w = terminal-of ns y c in let z = h 0 (suc w.0) y e w.1 in omega (arith, z)) later))
 
 -- no path ends in two nodes
-pub trie-distinct : (nodes : List Node) → IsTrieBy (child_at nodes) (terminal_at nodes) (length nodes) → IsDistinct same_path (terminals nodes)
+pub trie-distinct : (nodes : List Node) → IsTrie nodes → Distinct (terminals nodes)
 trie-distinct nodes t = terminals-distinct nodes (λ i j q a b. let e = sym (t.ends_where_it_leads i q a) ∙ t.ends_where_it_leads j q b in same_Some i j e)
 
 -- ---- how far a path leads

@@ -14,6 +14,7 @@ use Rattle.dtype_types.specs.tree.Tree.{Tree, Fields, no_items, field, pairs, li
 use Rattle.dtype_paths.specs.At.{At, ExistsIn, step}
 use Rattle.dtype_paths.specs.declared.field.Field.{Field}
 use Rattle.dtype_paths.specs.declared.field.Field.TheVariants.{Name, ElementType}
+use Rattle.dtype_paths.proofs.lemmas.Stepping.{by_first}
 use Rattle.dtype_paths.proofs.lemmas.Walks.{one_type_at}
 
 -- b differs from a in nullabilities alone, and is nullable wherever a is, if A holds
@@ -28,14 +29,10 @@ named_beside (item m t _ fs) (item n u _ gs) k a e is =
     let name : m ≡ n = cc in
     let type : erase t ≡ erase u = cc in
     let rest : erase_items fs ≡ erase_items gs = ap rest_of e in
-    go (bytes_eq m k) (bytes_eq n k) (ap (λ x. bytes_eq x k) name) type is (named_beside fs gs k a rest)
-  where
-    go : (c d : Bool) → c ≡ d → erase t ≡ erase u → cond c (Some t) (first_named (pairs fs) k) ≡ Some a → (first_named (pairs fs) k ≡ Some a → (b : Tree) × (first_named (pairs gs) k ≡ Some b) × Beside (NullableWhereverItems fs gs) a b)
-        → (b : Tree) × (cond d (Some u) (first_named (pairs gs) k) ≡ Some b) × Beside (NullableWhereverItems (field m t fs) (field n u gs)) a b
-    go true true same type here more = let is = same_Some t a here in (u, refl, (ap erase (sym is) ∙ type, λ h. subst (λ x. NullableWherever x u) is h.0))
-    go false false same type here more = let r = more here in (r.0, r.1, (r.2.0, λ h. r.2.1 h.1))
-    go true false same type here more = cc
-    go false true same type here more = cc
+    let same : bytes_eq n k ≡ bytes_eq m k = ap (λ x. bytes_eq x k) (sym name) in
+    by_first m k t a fs is
+    (λ y at. (u, rw (same, y) refl, (ap erase (sym at) ∙ type, λ h. subst (λ x. NullableWherever x u) at h.0)))
+    (λ y later. let r = named_beside fs gs k a rest later in (r.0, rw (same, y) r.1, (r.2.0, λ h. r.2.1 h.1)))
 
 step_beside : (t u a : Tree) (f : Field) → erase t ≡ erase u → step t f ≡ Some a → (b : Tree) × (step u f ≡ Some b) × Beside (NullableWherever t u) a b
 step_beside (list t m) (list u n) a ElementType e is = let at = same_Some t a is in let same : erase t ≡ erase u = cc in (u, refl, (ap erase (sym at) ∙ same, λ h. subst (λ x. NullableWherever x u) at h.1))

@@ -4,7 +4,7 @@
 -- Reading as a function on message trees: the type, or the first fault with its values, the faults of a child before
 -- what its parent checks of it. From the documentation of the errors. The relations of `Reads` leave the order open; the
 -- law `read_is_what_reads` leads from here to them.
-use Rattle.std.specs.Prelude.{◌≡◌, ℕ, ℤ, pos, Bool, true, false, List, [], ◌∷◌, length, Option, Some, None, Result, Ok, Err, if◌then◌else◌, ◌==◌, nat_eq, nat_lt, int_lt, bytes_eq}
+use Rattle.std.specs.Prelude.{◌≡◌, ℕ, ℤ, pos, Bool, false, List, [], ◌∷◌, length, Option, Some, None, Result, Ok, Err, if◌then◌else◌, ◌==◌, ◌||◌, nat_eq, nat_lt, int_lt, bytes_eq}
 use Rattle.std.specs.List.{zip, list_any}
 use Rattle.dtype_base.specs.declared.nullability.Nullability.{Nullability}
 use Rattle.dtype_base.specs.declared.nullability.Nullability.TheVariants.{NonNullable, Nullable}
@@ -66,7 +66,7 @@ read_tags (t ∷ ts) = or_fault (Faulty TypeIdRange) (integer_byte t) >>= λ x. 
 -- an item is repeated
 abbrev pub repeats : {X : Type 0} → (X → X → Bool) → List X → Bool
 repeats eq [] = false
-repeats eq (x ∷ xs) = if list_any (eq x) xs then true else repeats eq xs
+repeats eq (x ∷ xs) = list_any (eq x) xs || repeats eq xs
 
 unfoldable pub union_made : List (List ℕ) → List Tree → List ℕ → Nullability → Result Tree VortexError
 union_made ns ts gs n =

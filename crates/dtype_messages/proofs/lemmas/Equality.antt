@@ -22,7 +22,7 @@ use Rattle.std.proofs.Common.{ap, sym, ◌∙◌, rules, subst₂}
 use Rattle.std.proofs.lemmas.Bool.{false≢true}
 use Rattle.std.proofs.lemmas.Bool.Decides.{Decides-and, Decides-like}
 use Rattle.std.proofs.lemmas.Slice.Eq.{bytes_eq-Decides, slice_eq-Decides}
-use Rattle.dtype_messages.specs.Message.{Message, messages, missing, null, bool, primitive, decimal, utf8, binary, list, fixed_size_list, map_of, struct, union, variant, extension, present, more}
+use Rattle.dtype_messages.specs.Message.{Message, messages, missing, bool, primitive, decimal, utf8, binary, list, fixed_size_list, map_of, struct, union, variant, extension, present, more}
 use Rattle.dtype_messages.specs.MessageOf.{message, kind_message, child_message, list_content, fixed_content, map_content, struct_content, union_content, extension_content, texts, bytes_of, or_missing, ListOf, FixedOf, MapOf, StructContent, UnionOf, ExtensionOf, kind_step, dtype_step, extension_step, fixed_step, list_step, map_step, struct_step, union_step}
 use Rattle.dtype_messages.specs.PathNames.{name_of, part_name, part_names}
 use Rattle.dtype_messages.specs.declared.pb.DType.{DType}

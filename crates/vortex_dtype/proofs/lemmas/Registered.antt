@@ -3,11 +3,11 @@
 
 -- What a session keeps that a contract gives as a registration: of a plugin's meaning under an id, in a session of which
 -- something is known.
-use Rattle.std.specs.Prelude.{◌≡◌, ◌≢◌, ℕ, List, Option, Some, None, Bool, true, false}
-use Rattle.std.proofs.Common.{ap, sym, ◌∙◌}
+use Rattle.std.specs.Prelude.{◌≡◌, ◌≢◌, ℕ, List, Option, Some, None, Bool, false}
+use Rattle.std.proofs.Common.{ap, ◌∙◌}
 use Rattle.dtype_types.specs.tree.Tree.{Tree}
 use Rattle.vortex_dtype.specs.Meaning.{Rewrites, Meaning, kept, keeps, empty_meaning, register_in, allow_unknown_in}
-use Rattle.vortex_dtype.proofs.lemmas.Sessions.{others_register_in, registered_allow_unknown_in, registered_empty_meaning, registered_register_in, unknown_empty_meaning, unknown_kept_after_allowing, unknown_register_in}
+use Rattle.vortex_dtype.proofs.lemmas.Sessions.{others_register_in, registered_allow_unknown_in, registered_register_in, unknown_kept_after_allowing, unknown_register_in}
 
 -- under the id that was registered, what the plugin writes back
 pub keeps_registered : (m n : Meaning) (id : List ℕ) (r : Rewrites) (b : List ℕ) (t : Tree) → n ≡ register_in id r m → keeps n id b t ≡ r b t

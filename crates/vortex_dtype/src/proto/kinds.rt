@@ -135,6 +135,7 @@ pub(crate) fn struct_of(
 }
 
 // Builds the tags, each of which must fit `u8`.
+#[tactic(auto, using(crate::proofs::ReadInTurn::tag_step), unfolding(crate::specs::ReadInOrder::read_tags))]
 fn tags_of(alloc: Global, tags: &[i32]) -> VortexResult<Vec<u8>>
     ensures gives { Gives (λ v. v.items) result (read_tags tags.now) }
 {
@@ -149,6 +150,7 @@ fn tags_of(alloc: Global, tags: &[i32]) -> VortexResult<Vec<u8>>
 }
 
 // Builds the union of names, types and tags.
+#[tactic(auto, using(crate::proofs::ReadInTurn::tags_fit), unfolding(crate::specs::ReadInOrder::union_read))]
 pub(crate) fn union_of(
     alloc: Global,
     names: &[String],

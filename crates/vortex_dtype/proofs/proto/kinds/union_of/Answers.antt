@@ -5,7 +5,6 @@ use Rattle.std.proofs.Common.{◌≡◌, length, map, rules, string_bytes}
 use Rattle.std.specs.Prelude.{vec_len}
 use Rattle.dtype_base.specs.Nullability.{nullability_of}
 use Rattle.vortex_dtype.proofs.Constructors.{union_fails, union_gives}
-use Rattle.vortex_dtype.proofs.ReadInTurn.{tags_fit}
 use Rattle.vortex_dtype.proofs.proto.kinds.union_of.Goals as goal
 
 pub returns-clause-gives : goal.returns-clause-gives
@@ -22,6 +21,3 @@ returns-in_err-variants-clause-gives c =
     let fails = union_fails c.in_ok-names.names (map string_bytes c.args.names.now) c.args.dtypes.items c.args.tags.now c.in_ok-tags.tags.items (nullability_of c.args.nullable) _ _
     c.in_ok-tags.ensures.gives c.in_ok-names.ensures count c.in_err-variants.ensures.errors in
     search (rules, fails)
-
-pub returns-clause-numbers : goal.returns-clause-numbers
-returns-clause-numbers c = tags_fit _ _ c.in_ok-tags.ensures.gives

@@ -20,7 +20,7 @@ use Rattle.dtype_paths.specs.declared.node.Node.{Node}
 use Rattle.dtype_paths.proofs.DistinctLists.{distinct-nil, distinct-cons, distinct-head, distinct-tail}
 use Rattle.dtype_paths.proofs.lemmas.Cases.{by_option}
 use Rattle.dtype_paths.proofs.ListMembers.{contains-cons, contains-head, contains-map, contains-mapped, contains-nil, contains-tail}
-use Rattle.dtype_paths.proofs.Reaching.{child-ends, child-reached, ends_nowhere, ends_stepped}
+use Rattle.dtype_paths.proofs.Reaching.{child-ends, child-reached, child-witness, ends_nowhere, ends_stepped}
 
 abbrev names : List (Field × ℕ) → List (List ℕ × ℕ)
 names es = filter_map name_entry es
@@ -87,6 +87,10 @@ module _ (nodes : List Node) (t : IsTrie nodes) (i : ℕ) (r : IsReached nodes i
         let w = contains-map (λ (d : List ℕ × ℕ). (d.0, ends_below nodes d.1)) (names es) e c in
         let on = led (Name w.0.0) w.0.1 (name-from es w.0 w.1) in
         ap (λ (d : List ℕ × PathPredicate). d.1) (sym w.2) ∙ ends_stepped nodes i w.0.1 (Name w.0.0) (sym on) ∙ ap (λ (d : List ℕ × PathPredicate). after_step (Name d.0) (ends_below nodes i)) w.2;
+    some = λ e c.
+        let w = contains-map (λ (d : List ℕ × ℕ). (d.0, ends_below nodes d.1)) (names es) e c in
+        let q = child-witness nodes t i w.0.1 (Name w.0.0) r (led (Name w.0.0) w.0.1 (name-from es w.0 w.1)) in
+        (q.0, ap (λ (d : List ℕ × PathPredicate). d.1 q.0) (sym w.2) ∙ q.1);
   }
 
 -- ---- how many they are

@@ -2,9 +2,10 @@
 -- SPDX-FileCopyrightText: Copyright the Vortex contributors
 
 -- The nodes that a path leads to, and the paths that end below them.
-use Rattle.std.proofs.Common.{slice_get, subst, ◌≡◌, ◌≢◌, ◌↔◌, ◌∙◌, ℕ, ◌<◌, length, true, false, Decides, List, [], ◌∷◌, ◌++◌, Option, Some, None, is_some, option_and_then, refl, sym, ap}
+use Rattle.std.proofs.Common.{slice_get, subst, ◌≡◌, ◌≢◌, ◌↔◌, ◌∙◌, ℕ, ◌<◌, length, true, false, IsTrue, Decides, List, [], ◌∷◌, ◌++◌, Option, Some, None, is_some, option_and_then, refl, sym, ap}
 use Rattle.std.proofs.Math.Logic.{∥∥₁_elim, ∥∥₁_map}
-use Rattle.std.specs.Coded.{le_prop, Coded-set, coded_bool}
+use Rattle.std.specs.Coded.{le_prop}
+use Rattle.std.proofs.lemmas.Bool.{false≢true}
 use Rattle.std.proofs.lemmas.Bool.Decides.{same_from_decides}
 use Rattle.std.specs.FinSet as set
 use Rattle.std.specs.List.{Contains}
@@ -43,17 +44,20 @@ module _ (nodes : List Node) (t : IsTrie nodes) where
   ends-root = λ i q. same_from_decides _ _ (ends-Decides q) (from_list-Decides (terminals nodes) q) i
 
   -- below each child some path ends
-  pub child-ends : (i j : ℕ) (f : Field) → IsReached nodes i → child_at nodes i f ≡ Some j → ends_below nodes j ≢ no_path
-  child-ends i j f r e none = let no : true ≡ false = ∥∥₁_elim r (Coded-set coded_bool true false) (λ s.
+  pub child-witness : (i j : ℕ) (f : Field) → IsReached nodes i → child_at nodes i f ≡ Some j → (q : List Field) × (ends_below nodes j q ≡ true)
+  child-witness i j f r e =
+      let s = t.reached i (reached_inside i r) in
       let at = walk-snoc (child_at nodes) i j s.0 f s.1 e in
       let u = t.used (s.0 ++ f ∷ []) j at (λ z. let nil = t.once (s.0 ++ f ∷ []) [] j at (ap Some (sym z)) in no_snoc s.0 nil) in
       let on : walk (child_at nodes) j u.1 ≡ Some u.0 = sym (walk-append (child_at nodes) 0 j (s.0 ++ f ∷ []) u.1 at) ∙ t.ends_where_it_leads u.0 ((s.0 ++ f ∷ []) ++ u.1) u.2 in
-      let is : ends_below nodes j u.1 ≡ true = ap (λ o. is_some (option_and_then (terminal_at nodes) o)) on ∙ ap is_some u.2 in
-      sym is ∙ ap (λ (w : PathPredicate). w u.1) none) in cc
+      (u.1, ap (λ o. is_some (option_and_then (terminal_at nodes) o)) on ∙ ap is_some u.2)
     where
       no_snoc : (s : List Field) → s ++ f ∷ [] ≡ [] → ⊥
       no_snoc [] z = cc
       no_snoc (g ∷ s) z = cc
+
+  pub child-ends : (i j : ℕ) (f : Field) → IsReached nodes i → child_at nodes i f ≡ Some j → ends_below nodes j ≢ no_path
+  child-ends i j f r e none = let q = child-witness i j f r e in false≢true (ap (λ (w : PathPredicate). w q.0) (sym none) ∙ q.1)
 
   -- no path ends below a node exactly where none ends in it and it has no child
   pub nothing-below : (i : ℕ) (n : Node) → IsReached nodes i → terminal_at nodes i ≡ n.terminal → ((f : Field) → child_at nodes i f ≡ child n.children f)
@@ -79,6 +83,19 @@ module _ (nodes : List Node) (t : IsTrie nodes) where
           after : ends_below nodes i ≡ no_path → (f : Field) (p : List Field) (j : ℕ) → child_at nodes i f ≡ Some j → ends_below nodes j p ≡ false
           after z f p j to = ap (λ o. is_some (option_and_then (terminal_at nodes) (option_and_then (λ k. walk (child_at nodes) k p) o))) (sym to) ∙ ap (λ (w : PathPredicate). w (f ∷ p)) z
 
+  -- where a path ends in a node, or it has a child, some path ends below
+  pub something-below : (i : ℕ) (n : Node) → IsReached nodes i → terminal_at nodes i ≡ n.terminal → ((f : Field) → child_at nodes i f ≡ child n.children f)
+      → ((n.terminal ≡ None) × (nodes_by_step n.children ≡ []) → ⊥) → (q : List Field) × (ends_below nodes i q ≡ true)
+  something-below i n r terminal steps some =
+      by_option n.terminal (λ none. below none (nodes_by_step n.children) refl) (λ q e. ([], ap is_some (terminal ∙ e)))
+    where
+      below : n.terminal ≡ None → (es : List (Field × ℕ)) → nodes_by_step n.children ≡ es → (q : List Field) × (ends_below nodes i q ≡ true)
+      below none [] is = absurd (some (none, is))
+      below none ((f, j) ∷ es) is =
+          let to : child_at nodes i f ≡ Some j = steps f ∙ ap (lookup (same_field f)) is ∙ rw ((same_field-Decides f f).1 refl) refl in
+          let u = child-witness i j f r to in
+          (f ∷ u.0, ap (λ o. is_some (option_and_then (terminal_at nodes) (option_and_then (λ k. walk (child_at nodes) k u.0) o))) to ∙ u.1)
+
 -- a path leads to a node's child, and below it some path ends
 pub reached_child : (nodes ns : List Node) (i j : ℕ) (f : Field) (n : Node) → IsTrie nodes → nodes ≡ ns → IsReached ns i → slice_get nodes i ≡ Some n → Some j ≡ child n.children f
     → IsReached ns j
@@ -86,9 +103,9 @@ reached_child nodes ns i j f n t same r at led =
     subst (λ ns. IsReached ns j) same (child-reached nodes t i j f (subst (λ ns. IsReached ns i) (sym same) r) (ap (option_and_then (λ n. child n.children f)) at ∙ sym led))
 
 pub child_asks : (nodes ns : List Node) (i j : ℕ) (f : Field) (n : Node) → IsTrie nodes → nodes ≡ ns → IsReached ns i → slice_get nodes i ≡ Some n → Some j ≡ child n.children f
-    → ends_below ns j ≢ no_path
+    → (q : List Field) × IsTrue (ends_below ns j q)
 child_asks nodes ns i j f n t same r at led =
-    subst (λ ns. ends_below ns j ≢ no_path) same (child-ends nodes t i j f (subst (λ ns. IsReached ns i) (sym same) r) (ap (option_and_then (λ n. child n.children f)) at ∙ sym led))
+    subst (λ (ns : List Node). (q : List Field) × IsTrue (ends_below ns j q)) same (child-witness nodes t i j f (subst (λ ns. IsReached ns i) (sym same) r) (ap (option_and_then (λ n. child n.children f)) at ∙ sym led))
 
 -- after a step to a child end the suffixes
 pub ends-child : (nodes : List Node) (i : ℕ) (f : Field) (o : Option ℕ) → o ≡ child_at nodes i f → (p : List Field)

@@ -3,7 +3,7 @@
 
 -- Which paths are asked for, as a test of paths, and what they ask after a step. What a set asks for is its `contains`,
 -- and after a step that is a test again. So neither an order nor repeats of paths have to be left out of account.
-use Rattle.std.specs.Prelude.{◌≡◌, ◌≢◌, ◌↔◌, ℕ, List, [], ◌∷◌, map, ◌||◌, Bool, false}
+use Rattle.std.specs.Prelude.{◌≡◌, ◌≢◌, ◌↔◌, ℕ, List, [], ◌∷◌, map, ◌||◌, Bool, IsTrue, false}
 use Rattle.std.specs.List.{Contains}
 use Rattle.dtype_base.specs.Distinct.{Distinct}
 use Rattle.dtype_paths.specs.declared.field.Field.{Field}
@@ -31,8 +31,9 @@ abbrev pub asks_above : PathPredicate → List Field → Bool
 asks_above w [] = w []
 asks_above w (f ∷ p) = w [] || asks_above (after_step f w) p
 
--- the names by which paths go on, each once, and what is asked for after it
+-- the names by which paths go on, each once, and what is asked for after it: some path
 pub record AreNames (w : PathPredicate) (ns : List (List ℕ × PathPredicate)) : Type 0 where
   pub once : Distinct (map (λ e. e.0) ns)
   pub exact : (n : List ℕ) → Contains (map (λ e. e.0) ns) n ↔ (after_step (Name n) w ≢ no_path)
   pub each : (e : List ℕ × PathPredicate) → Contains ns e → e.1 ≡ after_step (Name e.0) w
+  pub some : (e : List ℕ × PathPredicate) → Contains ns e → (q : List Field) × IsTrue (e.1 q)

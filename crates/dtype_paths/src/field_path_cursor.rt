@@ -1,12 +1,13 @@
 // SPDX-License-Identifier: Apache-2.0
 // SPDX-FileCopyrightText: Copyright the Vortex contributors
 
-ghost use Rattle.std.specs.Prelude.{◌≡◌, ◌↔◌, ℕ, List, [], length, IsTrue, None};
+ghost use Rattle.std.specs.Prelude.{◌≡◌, ◌↔◌, ◌∷◌, ℕ, List, [], length, IfSome, IsTrue, None, false};
 ghost use Rattle.std.specs.FinSet as set;
 ghost use Rattle.dtype_paths.specs.PathOrder.{set_of};
 ghost use Rattle.dtype_paths.specs.PathPredicates.{after_step, no_path, AreNames, PathPredicate};
 ghost use Rattle.dtype_paths.specs.private.Reached.{ends_below, IsReached};
 ghost use Rattle.dtype_paths.specs.private.Trie.{terminals};
+ghost use Rattle.dtype_paths.specs.declared.field.Field.{Field};
 ghost use Rattle.dtype_paths.specs.declared.field.Field.TheVariants.{ElementType};
 
 use crate::trie::Trie;
@@ -57,7 +58,8 @@ impl<'a> FieldPathCursor<'a> {
     /// Returns whether the set asks for nothing here. Of a set that isn't empty no cursor is.
     #[tactic(auto, unfolding(crate::specs::Cursors::asks))]
     pub fn is_empty(&self) -> bool
-        ensures { IsTrue result ↔ (asks self.now ≡ no_path) }
+        ensures nothing { IsTrue result ↔ (asks self.now ≡ no_path) }
+        ensures some { result ≡ false → (q : List Field) × IsTrue (asks self.now q) }
     {
         self.trie.is_empty_at(self.node_index)
     }
@@ -66,6 +68,7 @@ impl<'a> FieldPathCursor<'a> {
     pub fn step(&self, step: &Field) -> Option<Self>
         ensures paths { asks_if result ≡ after_step step.now (asks self.now) }
         ensures none { (result ≡ None) ↔ (after_step step.now (asks self.now) ≡ no_path) }
+        ensures some { IfSome result (λ _. (q : List Field) × IsTrue (asks self.now (step.now ∷ q))) }
     {
         let node_index = self.trie.child(self.node_index, step)?;
         Some(FieldPathCursor {
@@ -78,6 +81,7 @@ impl<'a> FieldPathCursor<'a> {
     pub fn element(&self) -> Option<Self>
         ensures paths { asks_if result ≡ after_step ElementType (asks self.now) }
         ensures none { (result ≡ None) ↔ (after_step ElementType (asks self.now) ≡ no_path) }
+        ensures some { IfSome result (λ _. (q : List Field) × IsTrue (asks self.now (ElementType ∷ q))) }
     {
         self.step(&Field::ElementType)
     }

@@ -2,7 +2,9 @@
 -- SPDX-FileCopyrightText: Copyright the Vortex contributors
 
 use Rattle.std.proofs.Common.{◌∙◌, ap, sym}
+use Rattle.std.proofs.lemmas.Bool.{false≢true}
 use Rattle.dtype_paths.specs.Cursors.{asks, asks_if}
+use Rattle.dtype_paths.specs.PathPredicates.{PathPredicate}
 use Rattle.dtype_paths.proofs.Reaching.{ends_stepped, ends_nowhere}
 use Rattle.dtype_paths.proofs.field_path_cursor.FieldPathCursor.step.Goals as goal
 
@@ -24,4 +26,12 @@ pub returns-clause-none : goal.returns-clause-none
 unfolding asks
 returns-clause-none c =
     let on = ends_stepped c.args.self.now.trie.now c.args.self.now.node_index c.in_ok-node_index.node_index c.args.step.now c.in_ok-node_index.ensures.node in
-    (λ e. cc, λ z. absurd (c.in_ok-node_index.ensures.some (on ∙ z)))
+    let q = c.in_ok-node_index.ensures.some in
+    (λ e. cc, λ z. absurd (false≢true (ap (λ (w : PathPredicate). w q.0) (sym (on ∙ z)) ∙ q.1)))
+
+pub returns-clause-some : goal.returns-clause-some
+unfolding asks
+returns-clause-some c =
+    let on = ends_stepped c.args.self.now.trie.now c.args.self.now.node_index c.in_ok-node_index.node_index c.args.step.now c.in_ok-node_index.ensures.node in
+    let q = c.in_ok-node_index.ensures.some in
+    (q.0, ap (λ (w : PathPredicate). w q.0) (sym on) ∙ q.1)

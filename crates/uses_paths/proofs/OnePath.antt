@@ -2,10 +2,11 @@
 -- SPDX-FileCopyrightText: Copyright the Vortex contributors
 
 -- What is asked for where all of it goes on by one path, step by step: a mask made of a cursor (`cursors`).
-use Rattle.std.proofs.Common.{◌≡◌, ◌↔◌, ◌∙◌, ◌<◌, ℕ, suc, zero, List, [], ◌∷◌, ◌++◌, true, false, IsTrue, ⊎_elim, map, refl, sym, ap, subst, append_assoc, append-nil, arith}
+use Rattle.std.proofs.Common.{◌≡◌, ◌↔◌, ◌∙◌, ◌<◌, ℕ, suc, zero, List, [], ◌∷◌, ◌++◌, true, false, IsTrue, MatchOption, Option, Some, None, is_some, ⊎_elim, map, refl, sym, ap, subst, append_assoc, append-nil, length, length-append, arith}
 use Rattle.std.proofs.lemmas.Bool.{false≢true, or_cases, or_left, or_right}
 use Rattle.std.specs.List.{Contains, slice_index_or}
 use Rattle.vortex_dtype.specs.Beginning.{Beginning}
+use Rattle.vortex_dtype.specs.Distinct.{Distinct}
 use Rattle.vortex_dtype.specs.In.{In}
 use Rattle.vortex_dtype.specs.PathPredicates.{AreNames, PathPredicate, after_step, asks_above, no_path}
 use Rattle.vortex_dtype.specs.Types.Field.{Field}
@@ -54,6 +55,31 @@ prefix_is_asked w v p q at ends = (
       (b.0 ++ a.2.0, a.2.1 ∙ ap (λ x. x ++ a.2.0) b.1 ∙ append_assoc p b.0 a.2.0),
 )
 
+-- it is asked for itself
+pub path_is_asked : (w v : PathPredicate) (p : List Field) → GoesOn w p v → v [] ≡ true → IsTrue (w p)
+path_is_asked w v p at ends = ap w (sym (append-nil p)) ∙ at.after [] ∙ ends
+
+same_behind : (p a b : List Field) → p ++ a ≡ p ++ b → a ≡ b
+same_behind [] a b e = e
+same_behind (f ∷ p) a b e = same_behind p a b (cc)
+
+-- where no path ends after p, and more than one step goes on or none, what is asked for lies below no path of its own
+pub parts_here : (w v : PathPredicate) (p r : List Field) → GoesOn w p v → v [] ≡ false
+    → ((f : Field) (q : List Field) → IsTrue (v (f ∷ q)) → ((g : Field) (s : List Field) → IsTrue (v (g ∷ s)) → g ≡ f) → ⊥)
+    → IsTrue (w r) → ((q : List Field) → IsTrue (w q) → Beginning r q) → ⊥
+parts_here w v p r at here parts asked all = go (at.only r asked).0 (at.only r asked).1
+  where
+    go : (rest : List Field) → r ≡ p ++ rest → ⊥
+    go [] e = false≢true (sym here ∙ sym (at.after []) ∙ ap w (sym e) ∙ asked)
+    go (f ∷ rest) e = parts f rest (sym (at.after (f ∷ rest)) ∙ ap w (sym e) ∙ asked) (λ g s h.
+        let b = all (p ++ g ∷ s) (at.after (g ∷ s) ∙ h) in
+        let behind : g ∷ s ≡ f ∷ (rest ++ b.0) = same_behind p (g ∷ s) (f ∷ (rest ++ b.0)) (b.1 ∙ ap (λ x. x ++ b.0) e ∙ append_assoc p (f ∷ rest) b.0) in
+        cc)
+
+-- a path of fewer steps than p isn't asked for
+pub no_shorter : (w v : PathPredicate) (p r : List Field) → GoesOn w p v → length r < length p → IsTrue (w r) → ⊥
+no_shorter w v p r at l h = let b = at.only r h in absurd (omega (arith, ap length b.1, length-append p b.0, l))
+
 -- ---- the one step by which paths go on
 
 -- without names it is the element
@@ -78,3 +104,42 @@ only_name w ns e (Name n) q a is none h =
 -- and after a name is asked for what is given with it
 pub name_after : (w : PathPredicate) (ns rest : List (List ℕ × PathPredicate)) (e : List ℕ × PathPredicate) → AreNames w ns → ns ≡ e ∷ rest → e.1 ≡ after_step (Name e.0) w
 name_after w ns rest e a is = a.each e (subst (λ es. Contains es e) (sym is) (0, omega arith, refl))
+
+-- and some path is asked for there
+name_asked : (w : PathPredicate) (ns rest : List (List ℕ × PathPredicate)) (e : List ℕ × PathPredicate) → AreNames w ns → ns ≡ e ∷ rest → (q : List Field) × IsTrue (w (Name e.0 ∷ q))
+name_asked w ns rest e a is =
+    let q = a.some e (subst (λ es. Contains es e) (sym is) (0, omega arith, refl)) in
+    (q.0, ap (λ (v : PathPredicate). v q.0) (sym (name_after w ns rest e a is)) ∙ q.1)
+
+-- ---- where paths go on by more than one step, or by none
+
+-- by the element and by a name
+pub element_and_name : (w : PathPredicate) (ns rest : List (List ℕ × PathPredicate)) (e : List ℕ × PathPredicate) (q : List Field) (f : Field) → AreNames w ns → ns ≡ e ∷ rest → IsTrue (w (ElementType ∷ q)) → ((g : Field) (p : List Field) → IsTrue (w (g ∷ p)) → g ≡ f) → ⊥
+element_and_name w ns rest e q f a is h only =
+    let n = name_asked w ns rest e a is in
+    let no : ElementType ≡ Name e.0 = only ElementType q h ∙ sym (only (Name e.0) n.0 n.1) in cc
+
+-- by two names
+pub two_names : (w : PathPredicate) (ns rest : List (List ℕ × PathPredicate)) (d e : List ℕ × PathPredicate) (f : Field) → AreNames w ns → ns ≡ d ∷ e ∷ rest → ((g : Field) (p : List Field) → IsTrue (w (g ∷ p)) → g ≡ f) → ⊥
+two_names w ns rest d e f a is only =
+    let n = name_asked w ns (e ∷ rest) d a is in
+    let has : Contains ns e = subst (λ es. Contains es e) (sym is) (1, omega arith, refl) in
+    let q = a.some e has in
+    let second : IsTrue (w (Name e.0 ∷ q.0)) = ap (λ (v : PathPredicate). v q.0) (sym (a.each e has)) ∙ q.1 in
+    let same : Name d.0 ≡ Name e.0 = only (Name d.0) n.0 n.1 ∙ sym (only (Name e.0) q.0 second) in
+    let names : d.0 ≡ e.0 = cc in
+    twice (subst (λ es. Distinct (map (λ (x : List ℕ × PathPredicate). x.0) es)) is a.once) names
+  where
+    twice : Distinct (d.0 ∷ e.0 ∷ map (λ (x : List ℕ × PathPredicate). x.0) rest) → d.0 ≡ e.0 → ⊥
+    twice once same = once 0 1 (d.0) (omega arith) (omega arith) same
+
+-- what an iterator gives that isn't at its end
+pub second_left : {A B : Type 0} (view : A → B) (r : Option A) (old new : List B) → IsTrue (is_some r) → MatchOption r ((old ≡ []) × (new ≡ [])) (λ x. old ≡ view x ∷ new) → (x : A) × (old ≡ view x ∷ new)
+second_left view (Some x) old new some h = (x, h)
+second_left view None old new some h = absurd (false≢true some)
+
+-- by none
+pub no_step : (w : PathPredicate) (ns : List (List ℕ × PathPredicate)) (f : Field) (q : List Field) → AreNames w ns → ns ≡ [] → no_path ≡ after_step ElementType w → IsTrue (w (f ∷ q)) → ⊥
+no_step w ns f q a is none h =
+    let e = only_element w ns f q a is h in
+    false≢true (ap (λ (v : PathPredicate). v q) none ∙ ap (λ g. w (g ∷ q)) (sym e) ∙ h)

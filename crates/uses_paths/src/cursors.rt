@@ -4,13 +4,15 @@
 //! A reader that descends a table by a cursor: what a query asks for further down.
 #![tactic(auto, using(vortex_dtype::proofs::rulesets::stepping_into))]
 
-ghost use Rattle.std.specs.Prelude.{◌≡◌, ◌↔◌, ◌∷◌, [], IfOk, IfSome, IsTrue, List, None, false};
+ghost use Rattle.std.specs.Prelude.{◌≡◌, ◌↔◌, ◌<◌, ◌∷◌, [], IfNone, IfOk, IfSome, IsTrue, List, None, false, length};
 ghost use Rattle.std.specs.FinSet as set;
+ghost use Rattle.vortex_dtype.specs.Beginning.{Beginning};
 ghost use Rattle.vortex_dtype.specs.Covering.{covers};
 ghost use Rattle.vortex_dtype.specs.Cursors.{asks, asks_if};
 ghost use Rattle.vortex_dtype.specs.In.{In};
 ghost use Rattle.vortex_dtype.specs.PathPredicates.{after_step, asks_above, no_path};
 ghost use Rattle.vortex_dtype.specs.Types.Field.{Field};
+ghost use Rattle.vortex_dtype.specs.Types.FieldMask.{FieldMask};
 
 use std::alloc::Global;
 use vortex_dtype::{Field, FieldMask, FieldPath, FieldPathCursor, FieldPathSet, VortexResult};
@@ -92,6 +94,8 @@ pub fn only_step<'a>(
     ensures after { IfOk result (λ r. IfSome r (λ s. asks s.1 ≡ after_step s.0 (asks here.now))) }
     ensures only { IfOk result (λ r. IfSome r (λ s. (f : Field) (q : List Field)
         → IsTrue (asks here.now (f ∷ q)) → f ≡ s.0)) }
+    ensures none { IfOk result (λ r. IfNone r ((f : Field) (q : List Field) → IsTrue (asks here.now (f ∷ q))
+        → ¬ ((g : Field) (p : List Field) → IsTrue (asks here.now (g ∷ p)) → g ≡ f))) }
 {
     let mut names = here.names();
     let first = names.next();
@@ -109,19 +113,23 @@ pub fn only_step<'a>(
     }
 }
 
-/// The mask of what is asked for from here, where all of it lies below one path: the prefix of that path. `None` where
-/// more than one path is left, or one of `limit` steps or more.
+/// The mask of what is asked for from here, where all of it lies below one path that is asked for: the prefix of that path.
+/// `None` exactly where there is no such path of fewer than `limit` steps.
 pub fn mask_of_rest(
     alloc: Global,
     here: &FieldPathCursor<'_>,
     limit: usize,
 ) -> VortexResult<Option<FieldMask>>
-    ensures { IfOk result (λ r. IfSome r (λ m. (q : List Field)
+    ensures selects { IfOk result (λ r. IfSome r (λ m. (q : List Field)
         → In m q ↔ IsTrue (asks_above (asks here.now) q))) }
+    ensures path { IfOk result (λ r. IfSome r (λ m. (p : List Field) × (m ≡ FieldMask.Prefix p)
+        × (length p < limit) × IsTrue (asks here.now p))) }
+    ensures none { IfOk result (λ r. IfNone r ((p : List Field) → length p < limit → IsTrue (asks here.now p)
+        → ¬ ((q : List Field) → IsTrue (asks here.now q) → Beginning p q))) }
 {
     let mut path = FieldPath::root(alloc);
     let mut place = *here;
-    for _ in 0..limit {
+    for steps in 0..limit {
         if place.is_end() {
             return Ok(Some(FieldMask::Prefix(path)));
         }

@@ -126,8 +126,8 @@ module _ (by_key : List (ℕ × (Field × ℕ))) (by_step : List (Field × ℕ))
           (λ n. t.taken f i (sym (put_same f ∙ rw n refl) ∙ e));
     }
 
-    pub led_more_by_step : (f : Field) → lookup (same_field f) (steps_in by_key new) ≡ cond (same_field x f) (Some node_index) (lookup (same_field f) (steps_in by_key by_step))
-    led_more_by_step f =
+    pub led_more_by_step : (s : List (Field × ℕ)) → steps_in by_key by_step ≡ s → (f : Field) → lookup (same_field f) (steps_in by_key new) ≡ cond (same_field x f) (Some node_index) (lookup (same_field f) s)
+    led_more_by_step s is f =
         leads by_key new more_by_step f
         ∙ by_bool (same_field x f)
         (λ y.
@@ -135,10 +135,14 @@ module _ (by_key : List (ℕ × (Field × ℕ))) (by_step : List (Field × ℕ))
         (taken_by by_key x taken) in
         rw (none, put_same f, y) refl)
         (λ n. rw (put_same f, n) (sym (leads by_key by_step t f)))
+        ∙ ap (λ es. cond (same_field x f) (Some node_index) (lookup (same_field f) es)) is
 
   -- at its key, where no other step is
-  module _ (new : List (ℕ × (Field × ℕ))) (free : IsFirst by_key x) (sorted : IsStrictlySortedBy nat_cmp (keys_of new))
-      (put : (k : ℕ) → at_key new k ≡ cond (is_at (nat_cmp (step_key x)) k) (Some (x, node_index)) (at_key by_key k)) where
+  module _ (new : List (ℕ × (Field × ℕ))) (key : ℕ) (own : key ≡ step_key x) (free : IsFirst by_key x) (sorted : IsStrictlySortedBy nat_cmp (keys_of new))
+      (put_key : (k : ℕ) → at_key new k ≡ cond (is_at (nat_cmp key) k) (Some (x, node_index)) (at_key by_key k)) where
+    put : (k : ℕ) → at_key new k ≡ cond (is_at (nat_cmp (step_key x)) k) (Some (x, node_index)) (at_key by_key k)
+    put = subst (λ j. (k : ℕ) → at_key new k ≡ cond (is_at (nat_cmp j) k) (Some (x, node_index)) (at_key by_key k)) own put_key
+
     at_other : (f : Field) → is_at (nat_cmp (step_key x)) (step_key f) ≡ false → at_key new (step_key f) ≡ at_key by_key (step_key f)
     at_other f n = put (step_key f) ∙ rw n refl
 
@@ -182,8 +186,9 @@ module _ (by_key : List (ℕ × (Field × ℕ))) (by_step : List (Field × ℕ))
         rw (at_same f y, none, same_field_equiv.symm f x, n) refl)
         (λ o. rw (at_other f o, n) refl))
 
-    pub led_more_by_key : (f : Field) → lookup (same_field f) (steps_in new by_step) ≡ cond (same_field x f) (Some node_index) (lookup (same_field f) (steps_in by_key by_step))
-    led_more_by_key f =
+    pub led_more_by_key : (s : List (Field × ℕ)) → steps_in by_key by_step ≡ s → (f : Field) → lookup (same_field f) (steps_in new by_step) ≡ cond (same_field x f) (Some node_index) (lookup (same_field f) s)
+    led_more_by_key s is f =
         leads new by_step more_by_key f
         ∙ ap (λ o. option_or o (lookup (same_field f) by_step)) (led_new f)
         ∙ by_bool (same_field x f) (λ y. rw y refl) (λ n. rw n (sym (leads by_key by_step t f)))
+        ∙ ap (λ es. cond (same_field x f) (Some node_index) (lookup (same_field f) es)) is

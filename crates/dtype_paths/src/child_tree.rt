@@ -79,6 +79,7 @@ impl ChildTree {
     }
 
     // Lets the step lead to a node. Its key is made if it isn't known. After an error the children are unchanged.
+    #[tactic(auto, using(crate::proofs::ChildTrees::led_more_by_step, crate::proofs::ChildTrees::led_more_by_key))]
     pub(crate) fn insert(
         &mut self,
         step: Field,

@@ -4,7 +4,7 @@
 -- Proofs of the laws of the numeric traits, which the impls cite: arithmetic of bytes in base 256, of digits in
 -- base ten, and of the ranges of integers.
 use Rattle.std.specs.Prelude.{◌≡◌, ◌↔◌, ℕ, ℤ, zero, suc, pos, negsuc, neg_ℤ, ◌-◌, ◌*◌, ◌/◌, ◌%◌, ◌^◌, ◌<◌, ◌≤◌, ◌≤ℤ◌, ◌<ℤ◌, unsigned_abs, FitsSigned}
-use Rattle.std.specs.Int.{Width, w8, w16, w32, w64, w128, byte_len, FitsUnsignedBits, cast_signed, cast_unsigned}
+use Rattle.std.specs.Int.{Width, w8, byte_len, FitsUnsignedBits, cast_signed, cast_unsigned}
 use Rattle.std.proofs.Common.{refl, ap, sym, ◌∙◌, arith, lt_of_le_of_lt}
 use Rattle.std.proofs.Math.Nat.{pow-suc}
 use Rattle.std.proofs.Math.Facts.{Fits-of_z}

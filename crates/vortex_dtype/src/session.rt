@@ -103,7 +103,7 @@ impl DTypeSession {
     /// - `MetadataRefused` (22): exactly where the registered plugin doesn't accept the metadata.
     /// - `ExtensionUnregistered` (35): exactly where no plugin is registered and unknown ids aren't kept.
     /// - `OutOfMemory` (0): an allocation fails.
-    #[tactic(auto, using(crate::proofs::lemmas::Sessions::keeps_outer))]
+    #[tactic(auto, using(crate::proofs::lemmas::Sessions::keeps_outer, crate::proofs::lemmas::Sessions::keeps_again))]
     pub fn deserialize(
         &self,
         id: &str,

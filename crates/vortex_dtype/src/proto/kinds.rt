@@ -80,6 +80,7 @@ pub(crate) fn decimal_of(precision: u32, scale: i32, nullable: bool) -> VortexRe
 }
 
 // Builds the decimal of numbers that fit 8 bits.
+#[tactic(auto, using(crate::proofs::Constructors::decimal_gives))]
 fn decimal_within(precision: u8, scale: i8) -> VortexResult<DecimalDType>
     ensures gives { Gives (λ d. d) result (decimal_made precision scale) }
     ensures valid { IfOk result (λ d. IsValidDecimal d) }
@@ -150,7 +151,7 @@ fn tags_of(alloc: Global, tags: &[i32]) -> VortexResult<Vec<u8>>
 }
 
 // Builds the union of names, types and tags.
-#[tactic(auto, using(crate::proofs::ReadInTurn::tags_fit), unfolding(crate::specs::ReadInOrder::union_read))]
+#[tactic(auto, using(crate::proofs::ReadInTurn::tags_fit, crate::proofs::Constructors::union_gives, crate::proofs::Constructors::union_fails), unfolding(crate::specs::ReadInOrder::union_read))]
 pub(crate) fn union_of(
     alloc: Global,
     names: &[String],

@@ -43,7 +43,8 @@ pub use Rattle.vortex_dtype.proofs.lemmas.Counted.{counted}
 pub use Rattle.dtype_base.proofs.lemmas.Lookups.{few_compared}
 pub use Rattle.dtype_paths.proofs.lemmas.Covering.{of_push, union_swap}
 pub use Rattle.dtype_types.proofs.lemmas.SubLaws.{sub_antisymmetric}
-use Rattle.dtype_base.proofs.lemmas.Lookups.{lookups as name_lookups}
+use Rattle.dtype_base.proofs.lemmas.BinaryDigits.{digits_fewest, digits_reach}
+use Rattle.dtype_base.proofs.lemmas.Lookups.{lookups as name_lookups, absent_of_place, first_of_place, found_compared, found_first, most_compared, no_place, none_absent, place_found, place_of_first, some_compared}
 use Rattle.dtype_messages.proofs.lemmas.Equality.{equality as message_equality}
 use Rattle.dtype_messages.proofs.lemmas.Names.{names}
 use Rattle.dtype_messages.proofs.lemmas.Numbers.{numbers}
@@ -64,7 +65,8 @@ use Rattle.vortex_dtype.proofs.lemmas.Registered.{keeps_nothing, keeps_other, ke
 use Rattle.vortex_dtype.proofs.lemmas.Sessions.{admits-set_null, admits_allow_unknown_in, admits_extension, admits_field, admits_fields_appended, admits_more, admits_one_more, flag_allow_unknown_in, flag_register_in, kept_allow_unknown_in, keeps_again, keeps_outer, others_register_in, registered_allow_unknown_in, registered_before, registered_empty_meaning, registered_register_in, unknown_empty_meaning, unknown_kept_after_allowing, unknown_register_in, unrefused}
 use Rattle.vortex_dtype.proofs.lemmas.Written.{written_is}
 
--- types that are merged and types that are intersected, and the paths in them
+-- Types that are merged and types that are intersected, and the paths in them. Each is of one piece: all its lemmas begin
+-- with the one type that a call gives, of which a caller asks at once where it is given, what it is below and its values.
 pub ruleset merging = (types_merged, above)
 
 pub ruleset intersecting = (types_intersected, above)
@@ -72,14 +74,27 @@ pub ruleset intersecting = (types_intersected, above)
 -- lookups of names, fields and variants, by name and by position, and how many names they compare
 pub ruleset lookups = (name_lookups, field_lookups, compared_within, compared_up_to)
 
--- `==` and `!=` of types, of their parts, and of messages
+-- `lookups` by question: what is found, and where; how many names are compared for it
+pub ruleset found_names = (place_of_first, no_place, place_found, first_of_place, absent_of_place, found_first, none_absent, field_lookups)
+
+pub ruleset compared_names = (few_compared, most_compared, some_compared, found_compared, digits_reach, digits_fewest, compared_within, compared_up_to)
+
+-- `==` and `!=` of types, of their parts, and of messages, where a file compares several of these
 pub ruleset equality = (type_equality, message_equality, differences)
 
--- messages that are read and written, the numbers of primitive types in them, and the names of a path's parts
+-- `equality` by question: `==` of types, `==` of messages, `!=` of both
+pub ruleset equal_types = (type_equality)
+
+pub ruleset equal_messages = (message_equality)
+
+pub ruleset unequal = (differences)
+
+-- messages that are read and written, the numbers of primitive types in them, and the names of a path's parts, where a file
+-- reads what it writes; by question below
 pub ruleset messages = (reading, numbers, names)
 
--- `validity` by question: what a valid type holds, lent and moved out; the types of fields and variants; what is made of
--- valid types
+-- `validity` is for files that take types apart and put them together. By question: what a valid type holds, lent and moved
+-- out; the types of fields and variants; what is made of valid types
 pub ruleset valid_held = (valid_parts, borrowed_list_element, borrowed_fixed_size_element, borrowed_any_size_element, borrowed_map, borrowed_struct, borrowed_union, borrowed_extension, extension_is_valid)
 
 pub ruleset valid_moved = (owned_list_element, owned_fixed_size_element, owned_any_size_element, owned_map, owned_struct, owned_union)

@@ -192,6 +192,7 @@ first_begins (Prefix (h ∷ p)) f q e a = let same = same_Some f h e in (p ++ a.
 first_begins (Exact []) f q e a = cc
 first_begins (Exact (h ∷ p)) f q e a = let same = same_Some f h e in (p, a ∙ (λ i. sym same i ∷ p))
 
+-- all of the topic, where a file steps types and masks at once; by question below
 pub ruleset stepping = (given_at, given_exists, fields_shown, given_valid, none_at, none_exists, column_along, name_no_size_zero, name_no_extension, at_append, at_element, beginning_exists_in, front_exists_in, root_begins, root_leads, root_exists_in, tested_fields, tested_paths, one_type_at, along_after, none_after, none_further, first_asked, other_unasked, none_unasked, one_part, one_begins, tested_beginning, beginning_tested, root_alone, first_begins)
 
 -- ---- `stepping` by question: among fewer lemmas a search comes further

@@ -2,7 +2,8 @@
 -- SPDX-FileCopyrightText: Copyright the Vortex contributors
 
 -- Reading and writing, for callers' proofs: from a result of reading to the type that the message says and back, what is
--- written of admitted types, and what equal messages and copies of paths give.
+-- written of admitted types, and what equal messages and copies of paths give. It is all of the topic, for the laws that
+-- go from one to the other; the address of all rulesets has it by question too.
 use Rattle.vortex_dtype.proofs.lemmas.InOrder.{read_reads, reads_once, reads_read}
 use Rattle.vortex_dtype.proofs.lemmas.PathMessages.{missing_part, no_path, path_root, path_steps, same_path_names, steps_by_names}
 use Rattle.vortex_dtype.proofs.lemmas.Reads.{copy_accepted, fault_none, fault_refused, normal_again, other_nullability, read_alike, reads_accepted, refused_faulty, same_normal, unread_refused, written_accepted, written_normal, written_read}

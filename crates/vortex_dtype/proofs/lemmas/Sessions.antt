@@ -188,7 +188,8 @@ pub unrefused : (m : Meaning) (id b : List ℕ) (s : Tree) (e : VortexError) →
 unfolding allow_unknown_in empty_meaning
 unrefused m id b s e is h = grind arith
 
--- What calls of a session change and leave alone, what it keeps and what it admits: for callers' proofs.
+-- What calls of a session change and leave alone, what it keeps and what it admits: for callers' proofs. It is all of the
+-- topic, since what is kept follows from what is registered; the address of all rulesets has it by question too.
 pub ruleset sessions = (registered_register_in, others_register_in, registered_before, unknown_register_in, flag_register_in, registered_allow_unknown_in, unknown_kept_after_allowing, flag_allow_unknown_in, registered_empty_meaning, unknown_empty_meaning, admits_allow_unknown_in, kept_allow_unknown_in, admits_one_more, admits_more, admits_fields_appended, admits_field, admits_extension, keeps_again, keeps_outer, unrefused)
 
 -- What is registered and allowed after any calls, and what is admitted whatever the outer nullability: for the laws.

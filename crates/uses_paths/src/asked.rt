@@ -83,6 +83,20 @@ pub fn reads_whole(asked: &FieldPathSet, column: &Field) -> bool
     }
 }
 
+/// Whether a query asks for a column of a nested table, as two steps find.
+#[tactic(auto, using(vortex_dtype::proofs::rulesets::set_cursors))]
+pub fn asks_nested(asked: &FieldPathSet, table: &Field, column: &Field) -> bool
+    ensures { result ≡ set.contains asked.now (table.now ∷ column.now ∷ []) }
+{
+    match asked.cursor().step(table) {
+        Some(below) => match below.step(column) {
+            Some(last) => last.is_end(),
+            None => false,
+        },
+        None => false,
+    }
+}
+
 /// Whether a query asks for nothing: then no path is asked for, and the converse.
 #[tactic(auto, using(vortex_dtype::proofs::rulesets::set_cursors))]
 pub fn asks_nothing(asked: &FieldPathSet) -> bool

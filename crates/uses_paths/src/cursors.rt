@@ -78,6 +78,27 @@ pub fn is_element_whole(here: &FieldPathCursor<'_>) -> bool
     }
 }
 
+/// Whether a reader skips a column: where nothing in it is asked for.
+pub fn skips(here: &FieldPathCursor<'_>, column: &Field) -> bool
+    ensures { IsTrue result ↔ ((q : List Field) → asks here.now (column.now ∷ q) ≡ false) }
+{
+    here.step(column).is_none()
+}
+
+/// Whether something in the elements of a list column is asked for.
+pub fn asks_in_elements(here: &FieldPathCursor<'_>) -> bool
+    ensures { IsTrue result ↔ ((q : List Field) × IsTrue (asks here.now (Field.ElementType ∷ q))) }
+{
+    here.element().is_some()
+}
+
+/// Whether anything is asked for from here.
+pub fn asks_something(here: &FieldPathCursor<'_>) -> bool
+    ensures { IsTrue result ↔ ((q : List Field) × IsTrue (asks here.now q)) }
+{
+    !here.is_empty()
+}
+
 /// Whether a query asks for nothing at all.
 pub fn asks_for_nothing(asked: &FieldPathSet) -> bool
     ensures { IsTrue result → (q : List Field) → set.contains asked.now q ≡ false }

@@ -7,6 +7,7 @@
 ghost use Rattle.std.specs.Prelude.{◌≡◌, ◌↔◌, ◌⊎◌, [], ◌∷◌, Contains, IfOk, IsTrue, List, OnOk};
 ghost use Rattle.std.specs.FinSet as set;
 ghost use Rattle.std.specs.Vec.Iter.{into_iter_items};
+ghost use Rattle.vortex_dtype.specs.Beginning.{Beginning};
 ghost use Rattle.vortex_dtype.specs.Covering.{covers};
 ghost use Rattle.vortex_dtype.specs.Types.Field.{Field};
 
@@ -88,6 +89,14 @@ pub fn set_of_one(alloc: Global, column: &FieldPath) -> VortexResult<FieldPathSe
     let mut asked = FieldPathSet::new(alloc);
     asked.insert(column.try_clone()?)?;
     Ok(asked)
+}
+
+/// The set of a list of one path: it covers what begins with that path, and nothing else.
+#[tactic(auto, using(vortex_dtype::proofs::rulesets::made_coverage))]
+pub fn set_of_listed_one(alloc: Global, column: FieldPath) -> VortexResult<FieldPathSet>
+    ensures { IfOk result (λ s. (p : List Field) → IsTrue (covers s p) ↔ Beginning column p) }
+{
+    FieldPathSet::from_iter(alloc, vec![in alloc; column]?)
 }
 
 /// Whether a column is below a table that is asked for: then it is covered.

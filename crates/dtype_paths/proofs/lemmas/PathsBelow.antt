@@ -70,6 +70,11 @@ nowhere_asked c f p e = ap (λ (v : PathPredicate). v p) e
 pub nowhere_asked_at : (c : FieldPathCursor) (f : Field) (p q : List Field) → no_path ≡ after_step f (asks c) → q ≡ f ∷ p → false ≡ asks c q
 nowhere_asked_at c f p q e is = nowhere_asked c f p e ∙ ap (asks c) (sym is)
 
+-- where a path is asked for after a step, there is a cursor after it
+pub given_below : (c : FieldPathCursor) (f : Field) (q : List Field) (r : Option FieldPathCursor) → asks_if r ≡ after_step f (asks c) → IsTrue (asks c (f ∷ q)) → IsTrue (is_some r)
+given_below c f q (Some x) told h = refl
+given_below c f q None told h = absurd (false≢true (ap (λ (v : PathPredicate). v q) told ∙ h))
+
 -- on the way, step by step
 pub ends_above : (w : PathPredicate) (q : List Field) → w [] ≡ true → true ≡ asks_above w q
 ends_above w [] e = sym e
@@ -104,7 +109,7 @@ pub names_none : (ns : List (List ℕ × PathPredicate)) → (length ns ≡ leng
 names_none [] = (refl, λ c a. (refl, λ none. refl))
 names_none (e ∷ ns) = (refl, λ c a. (refl, λ none. absurd (first_named (asks c) (e ∷ ns) ns e a refl (λ i q. none e.0 q i))))
 
-pub ruleset stepping_into = (asked_after, covered_on_the_way, nothing_asked, nowhere_asked, nowhere_asked_at, ends_above, none_above, first_named, none_named, unnamed, names_none)
+pub ruleset stepping_into = (asked_after, covered_on_the_way, nothing_asked, nowhere_asked, nowhere_asked_at, given_below, ends_above, none_above, first_named, none_named, unnamed, names_none)
 
 -- ---- the first steps into a set, in words of the set. `set_cursors` names all of it in one line.
 
@@ -137,8 +142,7 @@ pub column_covered : (s : PathSet) (f : Field) → covers s (f ∷ []) ≡ (set.
 column_covered s f = covered_on_the_way s (f ∷ [])
 
 pub given_step : (c : FieldPathCursor) (s : PathSet) (f : Field) (q : List Field) (r : Option FieldPathCursor) → asks c ≡ set.contains s → asks_if r ≡ after_step f (asks c) → IsTrue (set.contains s (f ∷ q)) → IsTrue (is_some r)
-given_step c s f q (Some x) is told h = refl
-given_step c s f q None is told h = absurd (false≢true (ap (λ (v : PathPredicate). v q) told ∙ ap (λ (v : PathPredicate). v (f ∷ q)) is ∙ h))
+given_step c s f q r is told h = given_below c f q r told (ap (λ (v : PathPredicate). v (f ∷ q)) is ∙ h)
 
 -- where no path goes on with a step
 pub nowhere_in : (c : FieldPathCursor) (s : PathSet) (f : Field) (p : List Field) → asks c ≡ set.contains s → no_path ≡ after_step f (asks c) → set.contains s (f ∷ p) ≡ false
@@ -146,6 +150,10 @@ nowhere_in c s f p is none = sym (ap (λ (v : PathPredicate). v p) none ∙ ap (
 
 pub nowhere_further : (c : FieldPathCursor) (s : PathSet) (f g : Field) → asks c ≡ set.contains s → no_path ≡ after_step f (asks c) → no_path ≡ after_step g (after_step f (set.contains s))
 nowhere_further c s f g is none = λ i p. sym (nowhere_in c s f (g ∷ p) is none) i
+
+-- nor where none goes on with the step after
+pub nowhere_nested : (c below : FieldPathCursor) (s : PathSet) (f g : Field) (q : List Field) → asks c ≡ set.contains s → asks below ≡ after_step f (asks c) → no_path ≡ after_step g (asks below) → set.contains s (f ∷ g ∷ q) ≡ false
+nowhere_nested c below s f g q is after none = sym (nowhere_asked below g q none ∙ ap (λ (v : PathPredicate). v (g ∷ q)) after ∙ ap (λ (v : PathPredicate). v (f ∷ g ∷ q)) is)
 
 pub nowhere_covered : (c : FieldPathCursor) (s : PathSet) (f : Field) (p : List Field) → asks c ≡ set.contains s → asks c [] ≡ false → no_path ≡ after_step f (asks c) → covers s (f ∷ p) ≡ false
 nowhere_covered c s f p is here none = covered_on_the_way s (f ∷ p) ∙ sym (none_above (set.contains s) f p (f ∷ p) (sym (ap (λ (v : PathPredicate). v []) is) ∙ here) (none ∙ ap (after_step f) is) refl)
@@ -163,4 +171,4 @@ empty_unasked c s is e = none_asked c s is (λ q. ap (λ (x : PathSet). set.cont
 pub unasked_empty : (c : FieldPathCursor) (s : PathSet) → asks c ≡ set.contains s → asks c ≡ no_path → s ≡ set.empty
 unasked_empty c s is none = same_by s set.empty (λ q. unasked_in c s q is none ∙ sym (contains_empty q))
 
-pub ruleset set_cursors = (step_asked, asked_goes_on, column_covered, root_covers, given_step, nowhere_in, nowhere_further, nowhere_covered, none_asked, unasked_in, empty_unasked, unasked_empty)
+pub ruleset set_cursors = (step_asked, asked_goes_on, column_covered, root_covers, given_step, nowhere_in, nowhere_further, nowhere_nested, nowhere_covered, none_asked, unasked_in, empty_unasked, unasked_empty)

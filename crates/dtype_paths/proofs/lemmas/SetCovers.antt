@@ -23,7 +23,7 @@ use Rattle.dtype_paths.proofs.lemmas.Beginnings.{beginning_both, beginning_refl,
 use Rattle.dtype_paths.proofs.lemmas.Cases.{by_bool}
 use Rattle.dtype_paths.proofs.lemmas.PathLists.{any_from, some_member}
 use Rattle.dtype_paths.specs.PathOrderLaws.{same_tied}
-use Rattle.dtype_paths.proofs.lemmas.SetMembers.{contains_empty, from_list-Decides, insert_has, items-Decides, of_append, of_has_at, of_items, of_only, one_only, same_by}
+use Rattle.dtype_paths.proofs.lemmas.SetMembers.{contains_empty, contains_insert, from_list-Decides, insert_has, items-Decides, of_append, of_has_at, of_items, of_only, one_only, same_by}
 
 -- ---- what is covered
 
@@ -50,6 +50,9 @@ covers_any ps q = (
 
 pub covers_none : (q : List Field) → covers set.empty q ≡ false
 covers_none q = covers_of [] q
+
+pub none_covered : (s : PathSet) (q : List Field) → s ≡ set.empty → covers s q ≡ false
+none_covered s q e = ap (λ t. covers t q) e ∙ covers_none q
 
 pub covers_insert : (s : PathSet) (p q : List Field) → covers (set.insert s p) q ≡ (starts_with same_field q p || covers s q)
 covers_insert s p q =
@@ -232,6 +235,13 @@ root_covers s q h = (covers_word s q).1 ([], h, (q, refl))
 -- of a path that is covered by a member, said by what follows the member
 pub covers_further : (s : PathSet) (p q r : List Field) → q ≡ p ++ r → set.contains s p ≡ true → covers s q ≡ true
 covers_further s p q r e h = (covers_word s q).1 (p, h, (r, e))
+
+-- of a list's set, by what the list has
+pub listed_covered : (ps : List (List Field)) (q : List Field) → (covers (set.from_list ps) q ≡ covers (set.from_list ps) q) × (covers (set.from_list ps) q ≡ true → (p : List Field) × Contains ps p × Beginning p q)
+listed_covered ps q = (refl, λ h. let w = (covers_word (set.from_list ps) q).0 h in (w.0, of_only ps w.0 w.1, w.2))
+
+pub of_covers_below : (ps : List (List Field)) (p q r : List Field) (k : ℕ) → q ≡ p ++ r → get_or ps k p ≡ p → k < length ps → covers (set.from_list ps) q ≡ true
+of_covers_below ps p q r k e at l = covers_further (set.from_list ps) p q r e (of_has_at ps p k at l)
 
 -- beside the root no path is among the least
 pub least_root : (s : PathSet) → set.contains s [] ≡ true → least s ≡ set.insert set.empty []

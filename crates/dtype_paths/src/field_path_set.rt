@@ -1,7 +1,7 @@
 // SPDX-License-Identifier: Apache-2.0
 // SPDX-FileCopyrightText: Copyright the Vortex contributors
 
-ghost use Rattle.std.specs.Prelude.{◌≡◌, ◌↔◌, ◌+◌, ◌<◌, ◌≤◌, ◌⊎◌, [], All, List, length, map, IfOk, IsOkUnless, IsTrue, OnErr, OnOk};
+ghost use Rattle.std.specs.Prelude.{◌≡◌, ◌↔◌, ◌+◌, ◌<◌, ◌≤◌, ◌⊎◌, [], All, List, false, length, map, IfOk, IsOkUnless, IsTrue, OnErr, OnOk};
 ghost use Rattle.std.specs.Borrow.{Bor};
 ghost use Rattle.std.specs.FinSet as set;
 ghost use Rattle.std.specs.Iterator.{ExtendsWithItems, IsFinite};
@@ -16,7 +16,7 @@ ghost use Rattle.dtype_types.specs.tree.TreeOf.{tree};
 ghost use Rattle.dtype_paths.specs.At.{ExistsIn};
 ghost use Rattle.dtype_paths.specs.Beginning.{Beginning};
 ghost use Rattle.dtype_paths.specs.Cursors.{asks};
-ghost use Rattle.dtype_paths.specs.Covering.{SameCoverage, IsCountOf, least};
+ghost use Rattle.dtype_paths.specs.Covering.{SameCoverage, IsCountOf, covers, least};
 ghost use Rattle.dtype_paths.specs.PathOrder.{set_of};
 ghost use Rattle.dtype_paths.specs.Unresolved.{unresolved};
 ghost use Rattle.dtype_paths.specs.declared.field.Field.{Field};
@@ -52,8 +52,10 @@ impl Model for FieldPathSet {
 
 impl FieldPathSet {
     /// Returns the empty set. Doesn't allocate.
+    #[tactic(auto, using(crate::proofs::lemmas::SetCovers::covers_none))]
     pub fn new(alloc: Global) -> Self
-        ensures { result ≡ set.empty }
+        ensures empty { result ≡ set.empty }
+        ensures nothing { (q : List Field) → covers result q ≡ false }
     {
         FieldPathSet {
             alloc,
@@ -106,6 +108,8 @@ impl FieldPathSet {
     /// - `OutOfMemory` (0): an allocation fails.
     pub fn insert(&mut self, path: FieldPath) -> VortexResult<()>
         ensures inserted { OnOk result (self.new ≡ set.insert self.old path) }
+        ensures covers { OnOk result ((q : List Field) → IsTrue (covers self.new q)
+            ↔ (IsTrue (covers self.old q) ⊎ Beginning path q)) }
         ensures err { OnErr result (self.new ≡ self.old) }
         ensures errors { IsOkUnless result OutOfMemory }
     {

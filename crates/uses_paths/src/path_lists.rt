@@ -99,6 +99,26 @@ pub fn set_of_listed_one(alloc: Global, column: FieldPath) -> VortexResult<Field
     FieldPathSet::from_iter(alloc, vec![in alloc; column]?)
 }
 
+/// A query with one path more: it covers what it covered, and what begins with that path.
+#[tactic(auto, using(vortex_dtype::proofs::rulesets::made_coverage))]
+pub fn with_one_more(mut asked: FieldPathSet, path: FieldPath) -> VortexResult<FieldPathSet>
+    ensures { IfOk result (λ s. (p : List Field) → IsTrue (covers s p)
+        ↔ (IsTrue (covers asked p) ⊎ Beginning path p)) }
+{
+    asked.insert(path)?;
+    Ok(asked)
+}
+
+/// The query for all columns: the root covers each path.
+#[tactic(auto, using(vortex_dtype::proofs::rulesets::made_coverage))]
+pub fn asking_for_all(alloc: Global) -> VortexResult<FieldPathSet>
+    ensures { IfOk result (λ s. (p : List Field) → IsTrue (covers s p)) }
+{
+    let mut all = FieldPathSet::new(alloc);
+    all.insert(FieldPath::root(alloc))?;
+    Ok(all)
+}
+
 /// Whether a column is below a table that is asked for: then it is covered.
 #[tactic(auto, using(vortex_dtype::proofs::rulesets::members, vortex_dtype::proofs::rulesets::stepping))]
 pub fn is_below_asked(asked: &FieldPathSet, column: &FieldPath, table: &FieldPath) -> bool

@@ -62,12 +62,15 @@ covers_insert s p q =
 
 -- What is covered after an insertion is what lies below the path, and what was covered. The first part says nothing: it
 -- shows a search the call to match.
+pub root_begins : (p q : List Field) → p ≡ [] → Beginning p q
+root_begins p q e = (q, ap (λ r. r ++ q) (sym e))
+
 pub insert_covered : (s : PathSet) (p q : List Field) → (covers (set.insert s p) q ≡ covers (set.insert s p) q) × (covers (set.insert s p) q ≡ true → Beginning p q ⊎ (covers s q ≡ true)) × (p ≡ [] → covers (set.insert s p) q ≡ true) × (Beginning p q → covers (set.insert s p) q ≡ true)
 insert_covered s p q =
     let begun : Beginning p q → covers (set.insert s p) q ≡ true = λ b. covers_insert s p q ∙ or_left (starts_with same_field q p) (covers s q) ((starts_with-Decides p q _ refl).1 b) in (
       refl,
       λ h. ⊎_elim (λ e. inl ((starts_with-Decides p q _ refl).0 e)) inr (or_cases (starts_with same_field q p) (covers s q) (sym (covers_insert s p q) ∙ h)),
-      λ e. begun (q, ap (λ r. r ++ q) (sym e)),
+      λ e. begun (root_begins p q e),
       begun,
     )
 
@@ -101,6 +104,10 @@ covers_below s p rest h = covers_under s p (p ++ rest) h (rest, refl)
 
 pub insert_covers : (s : PathSet) (p q : List Field) → covers s q ≡ true → covers (set.insert s p) q ≡ true
 insert_covers s p q h = covers_insert s p q ∙ or_right (starts_with same_field q p) (covers s q) h
+
+pub inserted_covers : (s t : PathSet) (p q : List Field) → t ≡ set.insert s p → (covers t q ≡ true) ↔ ((covers s q ≡ true) ⊎ Beginning p q)
+inserted_covers s t p q e = subst (λ u. (covers u q ≡ true) ↔ ((covers s q ≡ true) ⊎ Beginning p q)) (sym e) (let i = insert_covered s p q in
+    (λ h. ⊎_elim inr inl (i.1 h), ⊎_elim (insert_covers s p q) i.3))
 
 pub insert_covers_below : (s : PathSet) (p rest : List Field) → covers (set.insert s p) (p ++ rest) ≡ true
 insert_covers_below s p rest = covers_below (set.insert s p) p rest (covers_member (set.insert s p) p (insert_has s p))

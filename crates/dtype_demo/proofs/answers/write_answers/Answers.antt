@@ -7,7 +7,7 @@ use Rattle.dtype_demo.proofs.Covers.{answered_more, output}
 use Rattle.dtype_demo.proofs.answers.write_answers.Goals as goal
 
 pub loop-rest-init : goal.loop-rest-init
-loop-rest-init g c = record { text = search rules; answered = record { lines = []; before = refl; written = Appends-nil _; gathered = c.new-paths.ensures } }
+loop-rest-init g c = record { text = search rules; answered = record { lines = []; before = refl; written = Appends-nil _; gathered = c.new-paths.ensures.empty } }
 
 pub loop-rest-preserved : goal.loop-rest-preserved
 loop-rest-preserved g c = record {

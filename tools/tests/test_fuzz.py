@@ -10,7 +10,8 @@ from planted import Planted
 class Fuzz(Planted):
     def setUp(self):
         super().setUp()
-        rows = [("type", "T"), ("find", "NAME S"), ("contains", "PATH PATH.."), ("read", "SESSION MSG")]
+        rows = [("type", "T"), ("find", "NAME S"), ("contains", "PATH PATH.."), ("read", "SESSION MSG"),
+                ("set", "NAME insert PATH|missing T|iter"), ("session", "NAME new|register PLUGIN")]
         table = "".join(f'    Row("{it}", "{forms}", "", "", "", X),\n' for it, forms in rows)
         self.write("crates/console_core/src/table.rt", table)
         self.script("driver", "sed 's/^/answer of /'")
@@ -34,9 +35,9 @@ class Fuzz(Planted):
         self.assertEqual(status, 1)
 
     def test_every_command_is_asked(self):
-        """The four above, one of the small repository, nine of sets, three of sessions."""
+        """The four above, one of the small repository, three of sets, two of sessions."""
         said = self.fuzz("sed 's/^/answer of /'", "3000")[1]
-        self.assertIn("fuzz: 3000 lines of 17 commands, seed 1", said)
+        self.assertIn("fuzz: 3000 lines of 10 commands, seed 1", said)
 
 
 if __name__ == "__main__":

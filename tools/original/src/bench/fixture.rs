@@ -1,16 +1,23 @@
 // SPDX-License-Identifier: Apache-2.0
 // SPDX-FileCopyrightText: Copyright the Vortex contributors
 
-//! The types and names that the cases work on.
+//! The types, names and paths that the cases work on.
 
+use std::fmt::Debug;
+use std::iter;
 use std::sync::Arc;
 
 use vortex_array::dtype::extension::{ExtId, ForeignExtDType};
-use vortex_array::dtype::{DType, FieldName, Nullability, PType, StructFields};
+use vortex_array::dtype::{DType, Field, FieldName, FieldPath, Nullability, PType, StructFields};
+
+/// The last part of a case's name: what it is of, and how many.
+pub fn name_of(what: impl Debug, count: usize) -> String {
+    format!("/{what:?}/{count}").to_lowercase()
+}
 
 /// The shape of a type: a struct of so many fields, or structs of one field, lists, fixed-size lists of size 1 or
 /// extensions, nested so deep.
-#[derive(Clone, Copy, Debug)]
+#[derive(Clone, Copy, Debug, PartialEq)]
 pub enum Shape {
     Wide,
     Deep,
@@ -66,17 +73,13 @@ impl Naming {
     pub const OTHERS: [Naming; 6] =
         [Naming::Shuffled, Naming::Hexadecimal, Naming::Stray, Naming::Features, Naming::Words, Naming::Dotted];
 
-    /// The last part of a case's name.
-    pub fn of(self, count: usize) -> String {
-        format!("/{self:?}/{count}").to_lowercase()
-    }
-
     /// The names of `count` fields, as texts.
     pub fn texts(self, count: usize) -> Vec<String> {
         (0..count).map(|i| self.text(i, count)).collect()
     }
 
     fn text(self, i: usize, count: usize) -> String {
+        let word = |i: usize| format!("{}{}", PREFIXES[i % 7], WORDS.split(' ').nth(i / 7 % 10).unwrap_or_default());
         match self {
             Naming::Wide => column(i),
             Naming::Shuffled => column(mixed(i, count)),
@@ -84,18 +87,42 @@ impl Naming {
             Naming::Stray | Naming::Features if i == 0 => "id".to_owned(),
             Naming::Stray => format!("measurement_{i}"),
             Naming::Features => format!("transaction_amount_{i}"),
-            Naming::Words => words(i),
+            Naming::Words if i < 70 => word(i),
+            Naming::Words => format!("{}_{}", word(i), i / 70),
             Naming::Dotted => format!("resource.attributes.service.{}.{i}", PARTS[i % 4]),
         }
     }
 }
 
-fn words(i: usize) -> String {
-    let (prefix, word) = (PREFIXES[i % 7], WORDS.split(' ').nth(i / 7 % 10).expect("there are ten"));
-    match i / 70 {
-        0 => format!("{prefix}{word}"),
-        number => format!("{prefix}{word}_{number}"),
+/// The form of the paths of a set: two names, the first the same in all paths; three names, with ten paths below each
+/// parent; chains of 64 paths, each the beginning of the next.
+#[derive(Clone, Copy, Debug)]
+pub enum SetShape {
+    Flat,
+    Nested,
+    Chains,
+}
+
+impl SetShape {
+    /// The paths of a set of this shape and size, shuffled.
+    pub fn paths(self, count: usize) -> Vec<FieldPath> {
+        (0..count).map(|i| self.path(mixed(i, count))).collect()
     }
+
+    fn path(self, i: usize) -> FieldPath {
+        match self {
+            SetShape::Flat => path_of(["parent".to_owned(), column(i)]),
+            SetShape::Nested => {
+                path_of([format!("a_{}", i / 100), format!("b_{}", i / 10 % 10), format!("c_{}", i % 10)])
+            }
+            SetShape::Chains => path_of(iter::once(column(i / 64)).chain((0..i % 64).map(|_| "x".to_owned()))),
+        }
+    }
+}
+
+/// The path of these names.
+pub fn path_of(names: impl IntoIterator<Item = String>) -> FieldPath {
+    names.into_iter().map(|name| Field::from(name.as_str())).collect()
 }
 
 /// Types of one shape and size. Where there are two, each is built separately, and iterations alternate between them.
@@ -113,19 +140,13 @@ pub struct Types {
 impl Types {
     pub fn new(shape: Shape, count: usize) -> Self {
         let two = |flip| [shape.make(count, flip), shape.make(count, flip)];
-        let of = format!("/{shape:?}/{count}").to_lowercase();
-        Self { of, shape, count, types: two(false), sames: two(false), others: two(true) }
+        Self { of: name_of(shape, count), shape, count, types: two(false), sames: two(false), others: two(true) }
     }
 
     /// One of the two, alternating.
     pub fn turn(&self, i: usize) -> &DType {
         &self.types[i % 2]
     }
-}
-
-/// Two structs of fields with these names.
-pub fn two_structs(texts: &[String]) -> [DType; 2] {
-    [wide_type(texts, false), wide_type(texts, false)]
 }
 
 /// A struct of fields with these names.

@@ -9,82 +9,67 @@
 //! has no door for, and the covers of large path sets, which it finds by comparing all paths. Other merges are done by
 //! hand, since it has no call for them.
 
+mod cases;
 mod fixture;
 mod meter;
-mod on_paths;
-mod on_structs;
-mod on_types;
 
-use std::io::{self, Read};
+use std::io;
 
-use fixture::{Naming, Shape, Types, two_structs};
+use cases::{find_mixed, hashed, index, lookups, messages, resolve, sets, text, texts, types, whole};
+use fixture::{Naming, SetShape, Shape, Types, column, name_of, path_of, wide_type};
 use meter::Meter;
-use on_paths::{SetShape, column_path, measure_sets, path_of_elements, path_of_names};
-use on_structs::{find_mixed, measure_building, measure_index, measure_lookups};
-use on_types::{hashed, measure_messages, measure_types, measure_whole, resolve, text};
-
-/// Lists, fixed-size lists and extensions inside one another.
-fn of_wrapped(meter: &Meter) {
-    for shape in [Shape::Lists, Shape::Fixed, Shape::Extensions] {
-        measure_types(meter, &Types::new(shape, 64));
-    }
-    resolve(meter, &Types::new(Shape::Lists, 64), path_of_elements);
-}
+use vortex_array::dtype::{Field, FieldPath};
 
 /// Structs of many fields.
-fn of_wide(meter: &Meter) {
+fn wide(meter: &Meter) {
     for count in [10, 1000, 10_000] {
-        let types = Types::new(Shape::Wide, count);
+        let of = Types::new(Shape::Wide, count);
         if count < 10_000 {
-            measure_types(meter, &types);
-            measure_building(meter, &types);
+            types(meter, &of);
+            index(meter, &of.of, &of.types, &Naming::Wide.texts(count));
+            texts(meter, &of);
         }
-        measure_lookups(meter, &types);
-        measure_whole(meter, &types);
-        measure_messages(meter, &types);
+        lookups(meter, &of);
+        whole(meter, &of);
+        messages(meter, &of);
+    }
+    for (naming, count) in Naming::OTHERS.into_iter().flat_map(|it| [10, 100, 1000, 10_000].map(|count| (it, count))) {
+        let (of, texts) = (name_of(naming, count), naming.texts(count));
+        let two = [wide_type(&texts, false), wide_type(&texts, false)];
+        find_mixed(meter, &of, &two, &texts);
+        index(meter, &of, &two, &texts);
     }
 }
 
-/// Structs whose names look otherwise.
-fn of_namings(meter: &Meter) {
-    for naming in Naming::OTHERS {
-        for count in [10, 100, 1000, 10_000] {
-            let (of, texts) = (naming.of(count), naming.texts(count));
-            let types = two_structs(&texts);
-            find_mixed(meter, &of, &types, &texts);
-            measure_index(meter, &of, &types, &texts);
-        }
+/// Lists, fixed-size lists, extensions and structs inside one another.
+fn nested(meter: &Meter) {
+    for shape in [Shape::Lists, Shape::Fixed, Shape::Extensions] {
+        types(meter, &Types::new(shape, 64));
     }
-}
-
-/// Structs inside one another.
-fn of_deep(meter: &Meter) {
+    resolve(meter, &Types::new(Shape::Lists, 64), FieldPath::from(vec![Field::ElementType; 64]));
     for depth in [64, 1000] {
-        let types = Types::new(Shape::Deep, depth);
-        measure_types(meter, &types);
-        measure_whole(meter, &types);
-        resolve(meter, &types, path_of_names);
+        let of = Types::new(Shape::Deep, depth);
+        types(meter, &of);
+        whole(meter, &of);
+        resolve(meter, &of, path_of((0..depth).map(|_| "a".to_owned())));
     }
 }
 
 fn main() -> io::Result<()> {
-    let mut wanted = String::new();
-    io::stdin().read_to_string(&mut wanted)?;
+    let wanted = io::read_to_string(io::stdin())?;
     if wanted.is_empty() {
         return Ok(());
     }
     let meter = Meter::new(&wanted);
-    let types = Types::new(Shape::Wide, 10);
-    meter.each("empty", |i, _| types.turn(i).is_nullable().into());
-    of_wrapped(&meter);
-    of_wide(&meter);
-    of_namings(&meter);
-    of_deep(&meter);
-    let paths = [column_path(10), column_path(10)];
+    let of = Types::new(Shape::Wide, 10);
+    meter.each("empty", |i, _| of.turn(i).is_nullable().into());
+    nested(&meter);
+    wide(&meter);
+    let paths = [(); 2].map(|()| path_of((0..10).map(column)));
     hashed(&meter, "/path/10", &paths);
     text(&meter, "/path/10", &paths);
     if meter.wants_some("set/") {
-        [SetShape::Flat, SetShape::Nested, SetShape::Chains].into_iter().for_each(|shape| measure_sets(&meter, shape));
+        [SetShape::Flat, SetShape::Nested, SetShape::Chains].into_iter().for_each(|shape| sets(&meter, shape));
     }
     Ok(())
 }

@@ -60,18 +60,12 @@ impl<'a> Meter<'a> {
             black_box(repeat(input, times));
             thread_cpu_time() - start
         };
-        let numbers = (0..DOUBLINGS).map(|doublings| 1usize << doublings);
-        let times = numbers.into_iter().find(|times| round(*times) >= ROUND_TIME).unwrap_or(1 << DOUBLINGS);
-        let mut rounds = [(); ROUNDS].map(|()| round(times));
-        rounds.sort_unstable();
-        println!("{name} {} {}", each_of(rounds[0], times), each_of(rounds[ROUNDS / 2], times));
+        let times = (0..DOUBLINGS).map(|doublings| 1usize << doublings).find(|times| round(*times) >= ROUND_TIME);
+        let times = times.unwrap_or(1 << DOUBLINGS);
+        let mut rounds = [(); ROUNDS].map(|()| round(times) as f64 / times as f64);
+        rounds.sort_unstable_by(f64::total_cmp);
+        println!("{name} {:.1} {:.1}", rounds[0], rounds[ROUNDS / 2]);
     }
-}
-
-/// The time of one iteration, to a tenth of a nanosecond.
-fn each_of(time: u64, times: usize) -> String {
-    let tenths = (time * 10 + times as u64 / 2) / times as u64;
-    format!("{}.{}", tenths / 10, tenths % 10)
 }
 
 #[repr(C)]

@@ -16,22 +16,16 @@ const DEEPEST: usize = 128;
 
 /// What a command takes.
 pub trait Argument: Sized {
-    fn read(line: &mut Line) -> Answer<Self>;
+    /// Whether it is any number of arguments.
+    const IS_SEVERAL: bool = false;
 
-    /// Reads it with the blanks behind it.
-    fn argument(line: &mut Line) -> Answer<Self> {
-        if line.is_at_end() {
-            return line.fail(line.at);
-        }
-        let found = Self::read(line)?;
-        let at = line.at;
-        line.blanks();
-        if at == line.at && !line.is_at_end() { line.fail(at) } else { Ok(found) }
-    }
+    fn read(line: &mut Line) -> Answer<Self>;
 }
 
 /// As many as there are, to the end of the line.
 impl<T: Argument> Argument for Vec<T> {
+    const IS_SEVERAL: bool = true;
+
     fn read(line: &mut Line) -> Answer<Self> {
         let mut found = Vec::new();
         while !line.is_at_end() {
@@ -39,21 +33,15 @@ impl<T: Argument> Argument for Vec<T> {
         }
         Ok(found)
     }
-
-    fn argument(line: &mut Line) -> Answer<Self> {
-        Self::read(line)
-    }
 }
 
 macro_rules! tuples {
     ($(($($item:ident),*)),*) => {
         $(impl<$($item: Argument),*> Argument for ($($item,)*) {
+            const IS_SEVERAL: bool = true;
+
             fn read(_line: &mut Line) -> Answer<Self> {
                 Ok(($(_line.argument::<$item>()?,)*))
-            }
-
-            fn argument(line: &mut Line) -> Answer<Self> {
-                Self::read(line)
             }
         })*
     };
@@ -85,10 +73,7 @@ arguments! {
 pub struct Bytes(pub Vec<u8>);
 
 arguments! {
-    Bytes: |line| {
-        let at = line.at;
-        if line.eat("0x") { Ok(Bytes(std::iter::from_fn(|| line.byte()).collect())) } else { line.fail(at) }
-    };
+    Bytes: |line| line.expect("0x").map(|()| Bytes(std::iter::from_fn(|| line.byte()).collect()));
 }
 
 /// A line, and where it is read. `sessions` are those that live.
@@ -110,13 +95,28 @@ impl<'a> Line<'a> {
         stop(format!("unreadable at {}", at + 1))
     }
 
+    /// What is found by what stands at a byte.
+    pub fn found<T>(&self, at: usize, found: Option<T>) -> Answer<T> {
+        found.map_or_else(|| self.fail(at), Ok)
+    }
+
+    /// An argument with the blanks behind it.
     pub fn argument<T: Argument>(&mut self) -> Answer<T> {
-        T::argument(self)
+        if T::IS_SEVERAL {
+            return T::read(self);
+        }
+        if self.is_at_end() {
+            return self.fail(self.at);
+        }
+        let found = T::read(self)?;
+        let at = self.at;
+        self.blanks();
+        if at == self.at && !self.is_at_end() { self.fail(at) } else { Ok(found) }
     }
 
     /// The last arguments.
     pub fn last<T: Argument>(&mut self) -> Answer<T> {
-        let found = T::argument(self)?;
+        let found = self.argument()?;
         if self.is_at_end() { Ok(found) } else { self.fail(self.at) }
     }
 
@@ -160,6 +160,10 @@ impl<'a> Line<'a> {
         is_here
     }
 
+    pub fn expect(&mut self, text: &str) -> Answer<()> {
+        if self.eat(text) { Ok(()) } else { self.fail(self.at) }
+    }
+
     /// Whether the sign stands here, behind blanks if need be: it is read, and blanks behind it unless it closes.
     pub fn has(&mut self, sign: &str) -> bool {
         let at = self.at;
@@ -181,45 +185,47 @@ impl<'a> Line<'a> {
         self.fail(self.at)
     }
 
+    /// What stands before a sign, and the sign.
+    pub fn before<T: Argument>(&mut self, sign: &str) -> Answer<T> {
+        let found = T::read(self)?;
+        self.sign(sign).map(|()| found)
+    }
+
     pub fn word(&mut self) -> Answer<&'a str> {
         let at = self.at;
         let found = self.take(|sign| !is_blank(sign) && !",{}()[]\"?=:#".contains(sign));
-        if found.is_empty() { self.fail(at) } else { Ok(found) }
+        self.found(at, Some(found).filter(|it| !it.is_empty()))
     }
 
     /// The place of a word among those known.
     pub fn one_of(&mut self, known: &[&str]) -> Answer<usize> {
-        let at = self.at;
-        let word = self.word()?;
-        known.iter().position(|it| *it == word).map_or_else(|| self.fail(at), Ok)
+        let (at, word) = (self.at, self.word()?);
+        self.found(at, known.iter().position(|it| *it == word))
     }
 
     pub fn number<T: FromStr>(&mut self) -> Answer<T> {
-        let at = self.at;
-        let word = self.word()?;
-        let is_number = !word.starts_with('+');
-        word.parse().ok().filter(|_| is_number).map_or_else(|| self.fail(at), Ok)
+        let (at, word) = (self.at, self.word()?);
+        self.found(at, word.parse().ok().filter(|_| !word.starts_with('+')))
     }
 
     fn byte(&mut self) -> Option<u8> {
-        let digits =
-            self.rest().get(..2).filter(|it| it.bytes().all(|one| matches!(one, b'0'..=b'9' | b'a'..=b'f')))?;
+        let digits = self.rest().get(..2)?;
+        let is_plain = digits.bytes().all(|one| matches!(one, b'0'..=b'9' | b'a'..=b'f'));
+        let byte = u8::from_str_radix(digits, 16).ok().filter(|_| is_plain)?;
         self.at += 2;
-        u8::from_str_radix(digits, 16).ok()
+        Some(byte)
     }
 
     /// A text in quotes.
     pub fn text(&mut self) -> Answer<String> {
         let (at, mut found) = (self.at, String::new());
-        if !self.eat("\"") {
-            return self.fail(at);
-        }
+        self.expect("\"")?;
         while let Some(sign) = self.next() {
-            match sign {
+            found.extend(match sign {
                 '"' => return Ok(found),
-                '\\' => found.extend(self.escaped()),
-                _ => found.push(sign),
-            }
+                '\\' => self.next().map(|it| self.escaped(it)),
+                _ => Some(sign),
+            });
         }
         self.fail(at)
     }
@@ -230,14 +236,14 @@ impl<'a> Line<'a> {
         Some(sign)
     }
 
-    fn escaped(&mut self) -> Option<char> {
-        Some(match self.next()? {
+    fn escaped(&mut self, sign: char) -> char {
+        match sign {
             't' => '\t',
             'n' => '\n',
             'r' => '\r',
             'x' => self.byte().map_or('x', char::from),
-            sign => sign,
-        })
+            _ => sign,
+        }
     }
 
     /// A name, or where dots may stand in it an id: bare, or in quotes.

@@ -13,6 +13,7 @@ use vortex_array::dtype::proto::dtype::{
 use crate::line::{Argument, Line, arguments, is_blank};
 use crate::told::{Answer, Told, quoted, told};
 use crate::types::PTYPES;
+use vortex_array::dtype::PType;
 
 /// Makes the kinds of messages: the word of each, its type, and its fields as they are written: texts first, then
 /// messages, then the others, whether it is nullable at last.
@@ -43,7 +44,7 @@ macro_rules! kinds {
         fn written_fields(kind: &DtypeType) -> Answer<(&'static str, Vec<String>)> {
             match kind {
                 $(DtypeType::$kind(_it) => {
-                    let fields: &[Vec<String>] = &[$(_it.$field.all_written(shown(stringify!($field)))?),*];
+                    let fields: &[Vec<String>] = &[$(_it.$field.written(shown(stringify!($field)))?),*];
                     Ok(($word, fields.concat()))
                 })*
             }
@@ -77,11 +78,11 @@ fn field_or_end<'a>(known: &[&'a str], line: &mut Line) -> Answer<Option<&'a str
     if line.eat("}") { Ok(None) } else { line.one_of(known).map(|place| Some(known[place])) }
 }
 
-/// A value of a field, with the field's name before it, as it is read behind that and written.
+/// A value as it is read behind the name of its field, and written with it.
 trait Value: Sized {
     fn value(name: &str, line: &mut Line) -> Answer<Self>;
 
-    fn written(&self, name: &str) -> Answer;
+    fn text(&self, name: &str) -> Answer;
 }
 
 macro_rules! scalars {
@@ -93,7 +94,7 @@ macro_rules! scalars {
                 read(name, line)
             }
 
-            fn written(&self, name: &str) -> Answer {
+            fn text(&self, name: &str) -> Answer {
                 let text: fn(&str, &Self) -> String = $text;
                 Ok(format!("{name}: {}", text(name, self)))
             }
@@ -104,20 +105,20 @@ macro_rules! scalars {
 scalars! {
     bool: |_, line| bool::read(line), |_, it| it.to_string();
     u32: |_, line| line.number(), |_, it| it.to_string();
-    i32: number, |name, it| ptype_name(name, *it as usize).unwrap_or(it.to_string());
+    i32: number, |name, it| PTYPES.get(*it as usize).filter(|_| name == "type").map_or(it.to_string(), in_capitals);
     String: |_, line| line.text(), |_, it| quoted(it);
     Vec<u8>: |_, line| Ok(line.text()?.chars().map(|sign| sign as u8).collect()), |_, it| quoted_bytes(it);
 }
 
-/// The name of a primitive type in capitals, which stands for its number in the field `type`.
-fn ptype_name(field: &str, number: usize) -> Option<String> {
-    PTYPES.get(number).filter(|_| field == "type").map(|it| it.to_string().to_uppercase())
+/// The name of a primitive type that stands for its number in the field `type`.
+fn in_capitals(ptype: &PType) -> String {
+    ptype.to_string().to_uppercase()
 }
 
 fn number(field: &str, line: &mut Line) -> Answer<i32> {
-    let is_here =
-        |name: &String| line.rest().strip_prefix(name).is_some_and(|behind| !behind.starts_with(char::is_alphanumeric));
-    match (0..PTYPES.len()).find(|place| ptype_name(field, *place).as_ref().is_some_and(is_here)) {
+    let (rest, known) = (line.rest(), PTYPES.map(|it| in_capitals(&it)));
+    let is_here = |name: &String| rest.strip_prefix(name).is_some_and(|it| !it.starts_with(char::is_alphanumeric));
+    match known.iter().position(is_here).filter(|_| field == "type") {
         Some(number) => line.word().map(|_| number as i32),
         None => line.number(),
     }
@@ -141,7 +142,7 @@ impl Value for DType {
         if line.eat("}") { Ok(DType::default()) } else { line.inside(DType::read, Some("}")) }
     }
 
-    fn written(&self, name: &str) -> Answer {
+    fn text(&self, name: &str) -> Answer {
         let text = self.told()?;
         Ok(if self.dtype_type.is_some() { format!("{name} {{ {text} }}") } else { format!("{name} {text}") })
     }
@@ -152,52 +153,39 @@ impl Value for Box<DType> {
         DType::value(name, line).map(Box::new)
     }
 
-    fn written(&self, name: &str) -> Answer {
-        self.as_ref().written(name)
+    fn text(&self, name: &str) -> Answer {
+        self.as_ref().text(name)
     }
 }
 
-/// What a field holds: a value, one if there is one, or several. One that is the default isn't written.
+/// What a field holds: one value, one or none, or several; each as it is written.
 trait Held {
     fn read_more(&mut self, name: &str, line: &mut Line) -> Answer<()>;
 
-    fn all_written(&self, name: &str) -> Answer<Vec<String>>;
+    fn written(&self, name: &str) -> Answer<Vec<String>>;
 }
 
-macro_rules! single {
-    ($($held:ty),*) => {
-        $(impl Held for $held {
+/// A field of one value isn't written where it is the default.
+macro_rules! held {
+    ($(<$item:ident> $held:ty: |$it:ident, $value:ident| $read:expr, $written:expr;)*) => {
+        $(impl<$item: Value + Clone + Default + PartialEq> Held for $held {
             fn read_more(&mut self, name: &str, line: &mut Line) -> Answer<()> {
-                Ok(*self = Value::value(name, line)?)
+                let ($it, $value) = (self, Value::value(name, line)?);
+                Ok($read)
             }
 
-            fn all_written(&self, name: &str) -> Answer<Vec<String>> {
-                if *self == Self::default() { Ok(Vec::new()) } else { Ok(vec![self.written(name)?]) }
+            fn written(&self, name: &str) -> Answer<Vec<String>> {
+                let $it = self;
+                $written.map(|it: &$item| it.text(name)).collect()
             }
         })*
     };
 }
 
-single!(bool, u32, i32, String);
-
-impl<T: Value> Held for Option<T> {
-    fn read_more(&mut self, name: &str, line: &mut Line) -> Answer<()> {
-        Ok(*self = Some(T::value(name, line)?))
-    }
-
-    fn all_written(&self, name: &str) -> Answer<Vec<String>> {
-        self.iter().map(|it| it.written(name)).collect()
-    }
-}
-
-impl<T: Value> Held for Vec<T> {
-    fn read_more(&mut self, name: &str, line: &mut Line) -> Answer<()> {
-        Ok(self.push(T::value(name, line)?))
-    }
-
-    fn all_written(&self, name: &str) -> Answer<Vec<String>> {
-        self.iter().map(|it| it.written(name)).collect()
-    }
+held! {
+    <T> T: |it, value| *it = value, Some(it).filter(|it| **it != T::default()).into_iter();
+    <T> Option<T>: |it, value| *it = Some(value), it.iter();
+    <T> Vec<T>: |it, value| it.push(value), it.iter();
 }
 
 arguments! {
@@ -213,10 +201,7 @@ arguments! {
         Ok(DType { dtype_type: read_fields(word, line)? })
     };
     Field: |line| {
-        let at = line.at;
-        if !line.eat("path") {
-            return line.fail(at);
-        }
+        line.expect("path")?;
         line.sign("{")?;
         let is_named = line.eat("name");
         let field_type = if is_named { Some(FieldType::Name(String::value("name", line)?)) } else { None };
@@ -227,7 +212,7 @@ arguments! {
 
 told! {
     &Field: |it| Ok(match &it.field_type {
-        Some(FieldType::Name(name)) => format!("path {{ {} }}", name.written("name")?),
+        Some(FieldType::Name(name)) => format!("path {{ {} }}", name.text("name")?),
         _ => "path {}".to_owned(),
     });
     &DType: |it| {

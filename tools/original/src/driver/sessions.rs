@@ -115,7 +115,7 @@ arguments! {
         let at = line.at;
         let word = |line: &mut Line| {
             let known = ["strict", "unknown"].into_iter().chain(PLUGINS).find(|it| line.eat(it));
-            known.map_or_else(|| line.fail(at), Ok)
+            line.found(at, known)
         };
         line.several(word).map(Session)
     };

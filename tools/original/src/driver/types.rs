@@ -25,7 +25,7 @@ const DECIMAL_TYPES: [DecimalType; 6] =
 /// The value whose text stands here.
 fn named<T: ToString, const N: usize>(line: &mut Line, all: [T; N]) -> Answer<T> {
     let (at, word) = (line.at, line.word()?);
-    all.into_iter().find(|it| it.to_string() == word).map_or_else(|| line.fail(at), Ok)
+    line.found(at, all.into_iter().find(|it| it.to_string() == word))
 }
 
 /// The id of an extension.
@@ -68,15 +68,9 @@ arguments! {
         FieldPath::read(line).map(if form == 1 { FieldMask::Prefix } else { FieldMask::Exact })
     };
     DecimalDType: |line| {
-        let at = line.at;
-        if !line.eat("decimal") {
-            return line.fail(at);
-        }
+        line.expect("decimal")?;
         line.sign("(")?;
-        let precision = line.number()?;
-        line.sign(",")?;
-        let scale = line.number()?;
-        line.sign(")")?;
+        let (precision, scale) = (line.before(",")?, line.before(")")?);
         Ok(DecimalDType::try_new(precision, scale)?)
     };
     // What a type of one kind holds is read as that type.
@@ -87,9 +81,8 @@ arguments! {
 }
 
 fn inside<T: Clone>(line: &mut Line, held: fn(&DType) -> Option<&T>) -> Answer<T> {
-    let at = line.at;
-    let dtype = DType::read(line)?;
-    held(&dtype).cloned().map_or_else(|| line.fail(at), Ok)
+    let (at, dtype) = (line.at, DType::read(line)?);
+    line.found(at, held(&dtype).cloned())
 }
 
 impl Argument for DType {
@@ -113,17 +106,18 @@ impl Argument for DType {
             line.blanks();
             return extension(line, &word);
         }
-        let ptype = PTYPES.into_iter().find(|it| it.to_string() == word);
-        Ok(match word.as_str() {
-            "null" => DType::Null,
-            "bool" => DType::Bool(mark(line)),
-            "utf8" => DType::Utf8(mark(line)),
-            "binary" => DType::Binary(mark(line)),
-            "variant" => DType::Variant(mark(line)),
-            _ => DType::Primitive(ptype.map_or_else(|| line.fail(at), Ok)?, mark(line)),
-        })
+        let plain = PLAIN.into_iter().find(|(it, _)| *it == word).map(|(_, make)| make);
+        let ptype = || PTYPES.into_iter().find(|it| it.to_string() == word);
+        match plain {
+            _ if word == "null" => Ok(DType::Null),
+            Some(make) => Ok(make(mark(line))),
+            None => Ok(DType::Primitive(line.found(at, ptype())?, mark(line))),
+        }
     }
 }
+
+const PLAIN: [(&str, fn(Nullability) -> DType); 4] =
+    [("bool", DType::Bool), ("utf8", DType::Utf8), ("binary", DType::Binary), ("variant", DType::Variant)];
 
 /// The kinds with parts in round brackets.
 const PARTED: [(&str, fn(&mut Line) -> Answer<DType>); 4] =
@@ -139,9 +133,7 @@ fn inner(line: &mut Line, behind: &str) -> Answer<DType> {
 }
 
 fn field(line: &mut Line) -> Answer<(FieldName, DType)> {
-    let name = FieldName::read(line)?;
-    line.sign("=")?;
-    Ok((name, DType::read(line)?))
+    Ok((line.before("=")?, DType::read(line)?))
 }
 
 fn list(line: &mut Line) -> Answer<DType> {
@@ -151,25 +143,25 @@ fn list(line: &mut Line) -> Answer<DType> {
 fn fixed_size_list(line: &mut Line) -> Answer<DType> {
     let element = Arc::new(inner(line, ")")?);
     line.sign("[")?;
-    let size = line.number()?;
-    line.sign("]")?;
-    Ok(DType::FixedSizeList(element, size, mark(line)))
+    Ok(DType::FixedSizeList(element, line.before("]")?, mark(line)))
 }
 
 fn map(line: &mut Line) -> Answer<DType> {
     let (key, value) = (inner(line, ",")?, inner(line, ",")?);
     line.sign("keys_sorted")?;
     line.sign("=")?;
-    let sorted = bool::read(line)?;
-    line.sign(")")?;
+    let sorted = line.before(")")?;
     Ok(DType::Map(MapDType::try_new(key, value, sorted)?, mark(line)))
 }
 
-fn variant(line: &mut Line) -> Answer<(FieldName, Option<u8>, DType)> {
+/// The name of a variant, its tag if there is one, and its type.
+type Variant = ((FieldName, Option<u8>), DType);
+
+fn variant(line: &mut Line) -> Answer<Variant> {
     let name = FieldName::read(line)?;
     let tag = if line.has("@") { Some(line.number()?) } else { None };
     line.sign("=")?;
-    Ok((name, tag, line.inside(DType::read, None)?))
+    Ok(((name, tag), line.inside(DType::read, None)?))
 }
 
 /// A variant without a tag has its place as its tag.
@@ -178,15 +170,14 @@ fn union(line: &mut Line) -> Answer<DType> {
     if !variants.is_empty() {
         line.sign(")")?;
     }
-    let names = variants.iter().map(|(name, ..)| name.clone()).collect();
-    let tags = variants.iter().enumerate().map(|(place, (_, tag, _))| tag.unwrap_or(place as u8)).collect();
-    let types = variants.into_iter().map(|(.., dtype)| dtype).collect();
+    let (heads, types): (Vec<_>, Vec<DType>) = variants.into_iter().unzip();
+    let tags = heads.iter().enumerate().map(|(place, (_, tag))| tag.unwrap_or(place as u8)).collect();
+    let names = heads.into_iter().map(|(name, _)| name).collect();
     Ok(DType::Union(UnionVariants::try_new(names, types, tags)?, mark(line)))
 }
 
 fn extension(line: &mut Line, id: &str) -> Answer<DType> {
-    let Bytes(metadata) = Bytes::read(line)?;
-    line.sign("]")?;
+    let Bytes(metadata) = line.before("]")?;
     line.sign("(")?;
     let storage = inner(line, ")")?;
     Ok(DType::Extension(ForeignExtDType::from_parts(ExtId::new(id), metadata, storage)?))

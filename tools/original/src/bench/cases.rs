@@ -1,0 +1,194 @@
+// SPDX-License-Identifier: Apache-2.0
+// SPDX-FileCopyrightText: Copyright the Vortex contributors
+
+//! What is measured of types, of structs, whose names are looked up, and of paths.
+
+use std::fmt::Display;
+use std::hash::{DefaultHasher, Hash, Hasher};
+use std::hint::black_box;
+use std::sync::Arc;
+
+use vortex_array::dtype::proto::dtype as pb;
+use vortex_array::dtype::{DType, FieldName, FieldNames, FieldPath, FieldPathSet, Nullability, StructFields};
+use vortex_session::VortexSession;
+
+use crate::fixture::{Naming, SetShape, Shape, Types, column, leaf, mixed, name_of, names, wide_type};
+use crate::meter::Meter;
+
+/// The greatest set whose cover is measured where no path begins another.
+const GREATEST_COVER: usize = 1000;
+
+/// What is done to types of every shape. Which two are compared depends on the earlier results, so that no comparison
+/// can start before them.
+pub fn types(meter: &Meter, types: &Types) {
+    let of = &types.of;
+    meter.each(&format!("eq_ignore_nullability{of}"), |i, sum| {
+        types.turn(sum).eq_ignore_nullability(&types.others[i % 2]).into()
+    });
+    meter.each(&format!("eq{of}"), |i, sum| (types.turn(sum) == &types.sames[i % 2]).into());
+    hashed(meter, of, &types.types);
+    meter.each(&format!("element_size{of}"), |i, _| types.turn(i).element_size().unwrap_or(7));
+    meter.each(&format!("copy{of}"), |i, _| used(types.turn(i).clone()));
+    meter.each(&format!("with_nullability{of}"), |i, _| used(types.turn(i).with_nullability(Nullability::Nullable)));
+    text(meter, of, &types.types);
+    // by hand, since the original has no such call; it has no door to build an extension around another storage
+    if types.shape != Shape::Extensions {
+        let merge = |i, others: &[DType; 2]| black_box(merged(types.turn(i), &others[i % 2])).is_some().into();
+        meter.each(&format!("merge{of}"), |i, _| merge(i, &types.others));
+        meter.each(&format!("merge_equal{of}"), |i, _| merge(i, &types.sames));
+    }
+}
+
+/// Uses a type, so that it has to be made.
+fn used(dtype: DType) -> usize {
+    black_box(dtype).is_struct().into()
+}
+
+/// The least type that takes the values of both, or `None` where they differ in more than nullability. A copy, where
+/// one of the two is that type.
+fn merged(a: &DType, b: &DType) -> Option<DType> {
+    if a == b {
+        return Some(a.clone());
+    }
+    let nullability = a.nullability() | b.nullability();
+    match (a, b) {
+        (DType::Struct(a, _), DType::Struct(b, _)) if a.names() == b.names() => {
+            let fields = a.fields().zip(b.fields()).map(|(a, b)| merged(&a, &b)).collect::<Option<Vec<DType>>>()?;
+            Some(DType::Struct(StructFields::new(a.names().clone(), fields), nullability))
+        }
+        (DType::List(a, _), DType::List(b, _)) => Some(DType::List(Arc::new(merged(a, b)?), nullability)),
+        (DType::FixedSizeList(a, m, _), DType::FixedSizeList(b, n, _)) if m == n => {
+            Some(DType::FixedSizeList(Arc::new(merged(a, b)?), *m, nullability))
+        }
+        _ if a.eq_ignore_nullability(b) => Some(a.with_nullability(nullability)),
+        _ => None,
+    }
+}
+
+/// The SipHash of one of two.
+pub fn hashed<T: Hash>(meter: &Meter, of: &str, two: &[T; 2]) {
+    meter.each(&format!("hash{of}"), |i, _| {
+        let mut state = DefaultHasher::new();
+        two[i % 2].hash(&mut state);
+        state.finish() as usize
+    });
+}
+
+/// The text of one of two.
+pub fn text<T: Display>(meter: &Meter, of: &str, two: &[T; 2]) {
+    meter.each(&format!("text{of}"), |i, _| two[i % 2].to_string().len());
+}
+
+/// `resolve`, which takes a copy of the type.
+pub fn resolve(meter: &Meter, types: &Types, path: FieldPath) {
+    let paths = [path.clone(), path];
+    meter.each(&format!("resolve{}", types.of), |i, _| {
+        black_box(paths[i / 2 % 2].resolve(types.turn(i).clone())).is_some().into()
+    });
+}
+
+/// Building a whole type and dropping it.
+pub fn whole(meter: &Meter, types: &Types) {
+    let texts = Naming::Wide.texts(types.count);
+    meter.each(&format!("build/and_drop{}", types.of), |_, _| match types.shape {
+        Shape::Wide => used(wide_type(&texts, false)),
+        shape => used(shape.make(types.count, false)),
+    });
+}
+
+/// Types read from messages, and written.
+pub fn messages(meter: &Meter, types: &Types) {
+    let session = VortexSession::empty();
+    let written = |i| pb::DType::try_from(types.turn(i)).expect("every type can be written");
+    let messages = [written(0), written(1)];
+    let read = |message| DType::from_proto(message, &session).expect("what was written can be read");
+    meter.each(&format!("read{}", types.of), |i, _| used(read(&messages[i % 2])));
+    meter.each(&format!("write{}", types.of), |i, _| black_box(written(i)).dtype_type.is_some().into());
+}
+
+/// The fields of one of two structs, alternating.
+fn fields_of(types: &[DType; 2], i: usize) -> &StructFields {
+    types[i % 2].as_struct_fields()
+}
+
+/// `find` of one name, and of all.
+pub fn lookups(meter: &Meter, types: &Types) {
+    let (count, of) = (types.count, &types.of);
+    for (place, at) in [("first", 0), ("middle", count / 2), ("last", count - 1), ("miss", count)] {
+        let names = [column(at), column(at)];
+        let find = |i, _| fields_of(&types.types, i).find(&names[i / 2 % 2]).unwrap_or(7);
+        meter.each(&format!("find/{place}{of}"), find);
+    }
+    find_mixed(meter, of, &types.types, &Naming::Wide.texts(count));
+}
+
+/// `find` of all names, shuffled, so that no branch can be predicted.
+pub fn find_mixed(meter: &Meter, of: &str, types: &[DType; 2], texts: &[String]) {
+    let fields = fields_of(types, 0);
+    let repeat = |(), times| {
+        let (mut sum, mut seed) = (0usize, 1u64);
+        for _ in 0..times {
+            seed = seed.wrapping_mul(6_364_136_223_846_793_005).wrapping_add(1_442_695_040_888_963_407);
+            let at = (seed >> 33) % texts.len() as u64;
+            sum = sum.wrapping_add(fields.find(&texts[at as usize]).unwrap_or(7));
+        }
+        sum
+    };
+    meter.measure(&format!("find/mixed{of}"), |_| (), repeat);
+}
+
+/// What makes a struct with an index of these names.
+pub fn index(meter: &Meter, of: &str, types: &[DType; 2], texts: &[String]) {
+    let count = texts.len();
+    for (what, most) in [("project", count / 10), ("project_all", count)] {
+        let asked = names((0..most).map(|i| &texts[mixed(i, count)]));
+        let project = |i, _| fields_of(types, i).project(&asked).expect("the struct has these names").nfields();
+        meter.each(&format!("{what}{of}"), project);
+    }
+    let (names, leaves) = (names(texts), leaves(count));
+    let given = || (names.clone(), leaves.clone());
+    meter.consuming(&format!("build/names{of}"), given, |(names, types)| used(of_names(names, types)));
+    meter.consuming(&format!("build/and_find{of}"), given, |(names, types)| {
+        black_box(of_names(names, types)).as_struct_fields().find(&texts[count - 1]).unwrap_or(7)
+    });
+}
+
+/// A wide struct made of texts.
+pub fn texts(meter: &Meter, types: &Types) {
+    let (texts, leaves) = (Naming::Wide.texts(types.count), leaves(types.count));
+    meter.consuming(
+        &format!("build/texts{}", types.of),
+        || leaves.clone(),
+        |types| {
+            let fields = StructFields::from_iter(texts.iter().map(String::as_str).zip(types));
+            used(DType::Struct(fields, Nullability::NonNullable))
+        },
+    );
+}
+
+fn leaves(count: usize) -> Vec<DType> {
+    (0..count).map(|i| leaf(i, false)).collect()
+}
+
+fn of_names(names: Vec<FieldName>, types: Vec<DType>) -> DType {
+    DType::Struct(StructFields::new(FieldNames::from(names), types), Nullability::NonNullable)
+}
+
+/// What is done with path sets.
+pub fn sets(meter: &Meter, shape: SetShape) {
+    for count in [100, 1000, 10_000, 100_000] {
+        let (of, paths) = (name_of(shape, count), shape.paths(count));
+        let set = FieldPathSet::from_iter(shape.paths(count));
+        let made = |set: FieldPathSet| {
+            drop(black_box(set));
+            count
+        };
+        meter.consuming(&format!("set/from_iter{of}"), || paths.clone(), |paths| made(FieldPathSet::from_iter(paths)));
+        if count <= GREATEST_COVER || matches!(shape, SetShape::Chains) {
+            let cover = |set: FieldPathSet| black_box(set.into_iter()).len();
+            meter.consuming(&format!("set/into_iter{of}"), || set.clone(), cover);
+        }
+        meter.each(&format!("set/contains{of}"), |_, _| paths.iter().filter(|path| set.contains(path)).count());
+        meter.each(&format!("set/copy{of}"), |_, _| made(set.clone()));
+    }
+}

@@ -191,56 +191,31 @@ pub fn bound(rule: fn(bool, bool) -> bool, a: &DType, b: &DType) -> Answer<Optio
     a.eq_ignore_nullability(b).then(|| marked(rule, a, b)).transpose()
 }
 
-// Projections: the positions to which paths lead are marked, and the type is rebuilt from those that are at, above or
-// below a mark.
-
-/// The parts of a type that a path can step into, in order, each with its step.
-fn steps_into(dtype: &DType) -> Vec<(Field, DType)> {
-    match dtype {
-        DType::List(element, _) | DType::FixedSizeList(element, ..) => {
-            vec![(Field::ElementType, element.as_ref().clone())]
-        }
-        DType::Struct(fields, _) => fields.names().iter().cloned().map(Field::Name).zip(fields.fields()).collect(),
-        _ => Vec::new(),
-    }
-}
-
-/// The positions of the parts that a path steps through, from the outside in, the first part of a name each time; none
-/// where it steps into nothing.
-fn position(dtype: &DType, path: &FieldPath) -> Option<Vec<usize>> {
-    let (mut found, mut dtype) = (Vec::new(), dtype.clone());
-    for step in path.parts() {
-        let mut parts = steps_into(&dtype);
-        let place = parts.iter().position(|(name, _)| name == step)?;
-        found.push(place);
-        dtype = parts.swap_remove(place).1;
-    }
-    Some(found)
-}
-
-/// What is kept of the part at a position, none where nothing is.
-fn rebuilt(dtype: &DType, at: &[usize], marks: &HashSet<Vec<usize>>) -> Answer<Option<DType>> {
-    if marks.iter().any(|mark| at.starts_with(mark)) {
+/// The projection of a type to paths, none where no path exists in it: a part is whole where a path ends at it, else
+/// what is kept of it by the paths through it. Of the fields of a name the first counts.
+pub fn project_paths(dtype: &DType, paths: &[&[Field]]) -> Answer<Option<DType>> {
+    if paths.iter().any(|path| path.is_empty()) {
         return Ok(Some(dtype.clone()));
     }
-    if !marks.iter().any(|mark| mark.starts_with(at)) {
-        return Ok(None);
-    }
+    let steps = match dtype {
+        DType::List(..) | DType::FixedSizeList(..) => vec![Field::ElementType],
+        DType::Struct(fields, _) => fields.names().iter().cloned().map(Field::Name).collect(),
+        _ => Vec::new(),
+    };
     let (mut names, mut kept) = (Vec::new(), Vec::new());
-    for (place, (step, part)) in steps_into(dtype).into_iter().enumerate() {
-        if let Some(part) = rebuilt(&part, &[at, &[place]].concat(), marks)? {
-            names.extend(step.as_name().map(FieldName::from));
+    for (place, part) in parts(dtype).iter().enumerate().take(steps.len()) {
+        let is_here = |(step, _): &(&Field, &[Field])| **step == steps[place];
+        let below = paths.iter().filter_map(|path| path.split_first().filter(is_here).map(|(_, rest)| rest));
+        if !steps[..place].contains(&steps[place])
+            && let Some(part) = project_paths(part, &below.collect::<Vec<_>>())?
+        {
+            names.extend(steps[place].as_name().map(FieldName::from));
             kept.push(part);
         }
     }
     match dtype {
+        _ if kept.is_empty() => Ok(None),
         DType::Struct(_, nullability) => Ok(Some(DType::Struct(StructFields::new(names.into(), kept), *nullability))),
         _ => with_parts(dtype, kept, is_marked(dtype).into()).map(Some),
     }
-}
-
-/// The projection of a type to paths, none where no path exists in it.
-pub fn project_paths(dtype: &DType, paths: &[FieldPath]) -> Answer<Option<DType>> {
-    let marks: HashSet<Vec<usize>> = paths.iter().filter_map(|path| position(dtype, path)).collect();
-    if marks.is_empty() { Ok(None) } else { rebuilt(dtype, &[], &marks) }
 }

@@ -57,13 +57,12 @@ macro_rules! told {
 pub(crate) use told;
 
 told! {
-    bool, u8, i8, i32, u64, usize, &str, String, PType, DecimalType: |it| Ok(it.to_string());
+    bool, u8, i8, i32, u64, usize, &str, String, PType, DecimalType, &DecimalDType: |it| Ok(it.to_string());
     Ordering: |it| Ok(format!("{it:?}"));
     Nullability: |it| Ok(if it.is_nullable() { "Nullable" } else { "NonNullable" }.to_owned());
     Bytes: |it| Ok(format!("0x{}", it.0.iter().map(|byte| format!("{byte:02x}")).collect::<String>()));
     &FieldName: |it| Ok(name(it.as_ref()));
     &FieldNames: |it| joined(it.iter(), ",");
-    &DecimalDType: |it| Ok(format!("decimal({},{})", it.precision(), it.scale()));
     &Field: |it| Ok(it.as_name().map_or("[]".to_owned(), name));
     &FieldPath: |it| if it.is_root() { Ok(".".to_owned()) } else { joined(it.parts(), ".") };
     &FieldMask: |it| Ok(match it {
@@ -135,44 +134,34 @@ pub fn id(extension: &ExtDTypeRef) -> String {
 
 impl Told for &DType {
     fn told(self) -> Answer {
-        let mark = match self {
-            DType::Null | DType::Extension(_) => "",
-            _ if self.is_nullable() => "?",
-            _ => "",
-        };
         let text = match self {
-            DType::Null => "null".to_owned(),
-            DType::Bool(_) => "bool".to_owned(),
-            DType::Primitive(ptype, _) => ptype.to_string(),
-            DType::Decimal(decimal, _) => decimal.told()?,
-            DType::Utf8(_) => "utf8".to_owned(),
-            DType::Binary(_) => "binary".to_owned(),
             DType::List(element, _) => format!("list({})", element.told()?),
             DType::FixedSizeList(element, size, _) => format!("fixed_size_list({})[{size}]", element.told()?),
             DType::Map(map, _) => {
                 let (key, value) = (map.key_dtype().told()?, map.value_dtype().told()?);
                 format!("map({key}, {value}, keys_sorted={})", map.keys_sorted())
             }
-            DType::Struct(fields, _) => {
-                let parts = fields.names().iter().zip(fields.fields());
-                let parts = parts.map(|(of, dtype)| Ok(format!("{}={}", of.told()?, dtype.told()?)));
-                format!("{{{}}}", parts.collect::<Answer<Vec<_>>>()?.join(", "))
+            DType::Struct(fields, _) => format!("{{{}}}", parts(fields.names(), fields.fields(), |_| String::new())?),
+            DType::Union(it, _) => {
+                let tag =
+                    |at: usize| if it.is_consecutive() { String::new() } else { format!("@{}", it.type_ids()[at]) };
+                format!("union({})", parts(it.names(), it.variants(), tag)?)
             }
-            DType::Union(variants, _) => {
-                let tags = variants.type_ids().iter();
-                let tag = |tag: &u8| if variants.is_consecutive() { String::new() } else { format!("@{tag}") };
-                let parts = variants.names().iter().zip(tags.map(tag)).zip(variants.variants());
-                let parts = parts.map(|((of, tag), dtype)| Ok(format!("{}{tag}={}", of.told()?, dtype.told()?)));
-                format!("union({})", parts.collect::<Answer<Vec<_>>>()?.join(", "))
-            }
-            DType::Variant(_) => "variant".to_owned(),
             DType::Extension(it) => {
                 let metadata = Bytes(it.serialize_metadata()?).told()?;
-                format!("{}[{metadata}]({})", id(it), it.storage_dtype().told()?)
+                return Ok(format!("{}[{metadata}]({})", id(it), it.storage_dtype().told()?));
             }
+            _ => return Ok(self.to_string()),
         };
-        Ok(text + mark)
+        Ok(text + if self.is_nullable() { "?" } else { "" })
     }
+}
+
+/// Named types with commas between them, and what stands behind the name at each place.
+fn parts(names: &FieldNames, types: impl Iterator<Item = DType>, behind: impl Fn(usize) -> String) -> Answer {
+    let part =
+        |(at, (of, dtype)): (usize, (&FieldName, DType))| Ok(format!("{}{}={}", of.told()?, behind(at), dtype.told()?));
+    Ok(names.iter().zip(types).enumerate().map(part).collect::<Answer<Vec<_>>>()?.join(", "))
 }
 
 /// Paths in the order in which the console answers them.

@@ -37,7 +37,9 @@ pub fn add_to(c: &mut Console) {
     });
     c.add("members", |items: Vec<FieldPath>| paths(FieldPathSet::from_iter(items).iter()));
     c.add("contains", |(path, items): (FieldPath, Vec<FieldPath>)| FieldPathSet::from_iter(items).contains(&path));
-    c.add("project_paths", |(dtype, items): (DType, Vec<FieldPath>)| project_paths(&dtype, &items));
+    c.add("project_paths", |(dtype, items): (DType, Vec<FieldPath>)| {
+        project_paths(&dtype, &items.iter().map(FieldPath::parts).collect::<Vec<_>>())
+    });
 }
 
 /// The original's `exists_in` tells whether `resolve` gives a type.

@@ -16,9 +16,8 @@ TOOLS = os.path.dirname(HERE)
 
 class Planted(unittest.TestCase):
     def setUp(self):
-        room = tempfile.TemporaryDirectory(prefix="planted-")
-        self.addCleanup(room.cleanup)
-        self.top = room.name
+        self.top = tempfile.mkdtemp(prefix="planted-")
+        self.addCleanup(shutil.rmtree, self.top)
         with open(f"{HERE}/small.txt", encoding="utf-8") as it:
             for files, text in re.findall(r"(?ms)^=== (.*?)\n(.*?)(?=^===|\Z)", it.read()):
                 for file in files.split():
@@ -26,18 +25,16 @@ class Planted(unittest.TestCase):
         ignored = shutil.ignore_patterns("tests", "original", "__pycache__")
         shutil.copytree(TOOLS, f"{self.top}/tools", ignore=ignored)
 
-    def path(self, file):
-        return os.path.join(self.top, file)
-
     def read(self, file):
-        with open(self.path(file), encoding="utf-8") as it:
+        with open(f"{self.top}/{file}", encoding="utf-8") as it:
             return it.read()
 
     def write(self, file, text, mode=0o644):
-        os.makedirs(os.path.dirname(self.path(file)), exist_ok=True)
-        with open(self.path(file), "w", encoding="utf-8") as it:
+        path = f"{self.top}/{file}"
+        os.makedirs(os.path.dirname(path), exist_ok=True)
+        with open(path, "w", encoding="utf-8") as it:
             it.write(text)
-        os.chmod(self.path(file), mode)
+        os.chmod(path, mode)
 
     def change(self, file, old, new):
         """Changes a text that stands once; no text is the end of the file."""
@@ -50,11 +47,12 @@ class Planted(unittest.TestCase):
         """A program on the path of the tools that are run."""
         self.write(f"bin/{name}", f"#!/usr/bin/env bash\n{text}\n", 0o755)
 
-    def run_tool(self, tool, *arguments, given=""):
+    def run_tool(self, tool, *arguments, **settings):
         """The status of a tool, and what it writes."""
-        environment = {**os.environ, "PATH": f"{self.top}/bin:{os.environ['PATH']}", "PYTHONDONTWRITEBYTECODE": "1"}
-        ran = subprocess.run([f"{self.top}/tools/{tool}", *arguments], input=given, env=environment, text=True,
-                             check=False, stdout=subprocess.PIPE, stderr=subprocess.STDOUT, timeout=300)
+        settings |= {"PATH": f"{self.top}/bin:{os.environ['PATH']}", "PYTHONDONTWRITEBYTECODE": "1"}
+        ran = subprocess.run([f"{self.top}/tools/{tool}", *arguments], cwd=self.top, env={**os.environ, **settings},
+                             stdin=subprocess.DEVNULL, stdout=subprocess.PIPE, stderr=subprocess.STDOUT, text=True,
+                             check=False, timeout=300)
         return ran.returncode, ran.stdout
 
     def told(self, tool, *arguments):

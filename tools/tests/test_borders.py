@@ -2,8 +2,6 @@
 # SPDX-FileCopyrightText: Copyright the Vortex contributors
 
 """tools/borders, with lexer.py, code_rules.py and spec_rules.py."""
-import unittest
-
 from planted import Planted
 
 PATH = "crates/dtype_paths/src/field_path.rt"
@@ -70,7 +68,3 @@ class Borders(Planted):
         self.change("tools/spec_rules.py", "dtype_demo/src/main.rt run: unwritten",
                     "dtype_base/src/field_name.rt FieldName::new: made")
         self.assertEqual(self.told("borders"), [])
-
-
-if __name__ == "__main__":
-    unittest.main()

@@ -2,8 +2,6 @@
 # SPDX-FileCopyrightText: Copyright the Vortex contributors
 
 """Differential fuzzing, over a driver and a console that answer as they are told."""
-import unittest
-
 from planted import Planted
 
 
@@ -38,7 +36,3 @@ class Fuzz(Planted):
         """The four above, one of the small repository, three of sets, two of sessions."""
         said = self.fuzz("sed 's/^/answer of /'", "3000")[1]
         self.assertIn("fuzz: 3000 lines of 10 commands, seed 1", said)
-
-
-if __name__ == "__main__":
-    unittest.main()

@@ -3,7 +3,6 @@
 
 """tools/pages, with what it checks by ledger.py, runs.py, claims.py, speed.py and tools/reference."""
 import sys
-import unittest
 
 from planted import TOOLS, Planted
 
@@ -96,7 +95,3 @@ Makes a name.
 - console: `name b c` answers `refused 0: out of memory`
 """, self.read("docs/reference/dtype_base.md"))
         self.assertIn("[`FieldName::new`](dtype_base.md#fieldnamenew)", self.read("docs/reference/README.md"))
-
-
-if __name__ == "__main__":
-    unittest.main()

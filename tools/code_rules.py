@@ -6,8 +6,8 @@ when a text gives up, and what a lookup reads. tools/borders says what and why."
 import re
 from collections import Counter, namedtuple
 
-from lexer import bare, blanks, closing
-from repository import functions_of, name_of, sources
+from lexer import bare, blanks, end_of
+from repository import functions_of, sources
 
 # The error of a failed allocation, and the errors of std that become it; and where an import gives one its own name.
 FAILURE = re.compile(r"\b(?:OutOfMemory|AllocError|AllocFailed)\b")
@@ -56,7 +56,7 @@ def parts_of(file, code):
     functions = functions_of(file)
     for it in functions:
         code = code[:it.start] + blanks(code[it.start:it.end]) + code[it.end:]
-    return [Code(name_of(it), bare(it.signature), bare(it.body)) for it in functions], bare(code)
+    return [Code(it.path, bare(it.signature), bare(it.body)) for it in functions], bare(code)
 
 
 def each():
@@ -102,7 +102,7 @@ def memory_asked_for():
             if re.search(r"\buse\b", body):
                 yield where, "has an import of its own"
             for it in CAPACITY.finditer(body):
-                asked = body[it.end():closing(body, it.end() - 1) - 1]
+                asked = body[it.end():end_of(body, it.end() - 1) - 1]
                 if asks_too_much(asked):
                     yield where, f"asks for room that can't be had: {shown(asked)}"
             if NAMES_GREATEST.search(body) and (file, function.name) not in GREATEST:
@@ -136,7 +136,7 @@ def texts_that_give_up():
 def calls_of(body):
     """The calls of a body, and whether each is made on names or on entries of their index, or takes them."""
     for it in re.finditer(r"((?:\w+\.)*)(\w+)\(", body):
-        taken = re.findall(r"\w+", it[1] + body[it.end():closing(body, it.end() - 1)])
+        taken = re.findall(r"\w+", it[1] + body[it.end():end_of(body, it.end() - 1)])
         yield it[2], bool(HOLD_NAMES.intersection(taken))
 
 

@@ -1,30 +1,40 @@
 # SPDX-License-Identifier: Apache-2.0
 # SPDX-FileCopyrightText: Copyright the Vortex contributors
 
-"""Checks the ledger docs/PROMISES.md against the sources: each clause, law, mutation and test that it names is there,
-and one of its lines names each public call, clause and law of the libraries, and each mutation of the gate. The
-ledger's first lines say how a line names them."""
+"""Checks the ledger docs/PROMISES.md against the sources: each clause, law, mutation and test that it names is there, one
+of its lines names each public call, clause and law of the libraries and each mutation of the gate, and a mutation beside
+calls changes the body of one of them, or of a function below it: by the calls in the sources, where a call of a name that
+several functions have may be of each of them. The ledger's first lines say how a line names them."""
 import os
 import re
-from collections import namedtuple
+from collections import defaultdict, namedtuple
 from glob import glob
 
-import repository
-from repository import functions_of, given_out, heads_of, is_public, libraries, owner_at, sources, text_of
+from lexer import bare
+from repository import (
+    changes_of, functions, functions_of, given_out, heads_of, is_public, libraries, owner_at, sources, text_of,
+)
 
 LEDGER = "docs/PROMISES.md"
 CONSOLE = "crates/dtype_console/stdin"
 PROGRAM = "dtype_demo"
 
 Line = namedtuple("Line", "number promise calls laws edits tests")
-# What a library has: the functions by their names in the ledger, the ghost members of traits and impls by their
-# types, the laws by their paths, constants and macros, and what types derive.
-Sources = namedtuple("Sources", "calls members laws constants derived")
+# What may be named, each with its clauses: calls, and by their types ghost members of traits and impls and what is
+# derived, constants and macros; and laws. What is `silent` promises something by a clause alone. What is to be named:
+# kinds of names with the names, and with a clause.
+Sources = namedtuple("Sources", "calls laws silent names clauses")
 
 HEADING = "| Promise | Calls and clauses | Laws | Mutations | Shown by |"
-CONSTANT = re.compile(r"(?m)^\s*(?:pub )?(?:const|macro_rules!) (\w+)(?:: | \{)")
-PUBLIC_CONSTANT = re.compile(r"(?m)^\s*pub const (\w+): ")
+CONSTANT = re.compile(r"(?m)^\s*(pub )?(?:const (\w+): |macro_rules! (\w+) \{)")
 DERIVED = re.compile(r"#\[derive(?:_where)?\(([^)]*)\)\]\s*(?:#\[[^\n]*\]\s*)*pub (?:struct|enum) (\w+)")
+
+# What prints, compares, hashes and copies without a call that is written out.
+BEHIND = set("fmt eq ne cmp partial_cmp hash clone drop from try_from next index bitor".split())
+# The mutations that are of nothing below the calls of their line, and why they stand there.
+EXCEPTED = {
+    "vortex_dtype/wrong/unknown_ids_always_kept": "a session shows that it rejects unknown ids by `deserialize`",
+}
 
 
 def lines_of(text):
@@ -44,80 +54,93 @@ def lines_of(text):
     return lines, faults
 
 
-def name_of(function):
-    """The name of a function in the ledger: messages are under `pb`."""
-    is_message = function.owner and function.file.startswith("crates/dtype_messages/")
-    return f"{'pb::' if is_message else ''}{repository.name_of(function)}"
-
-
-def is_declared_call(function, traits):
-    """Whether the ledger is to name a public function: not a debug text, and not what only fills in a trait of ours."""
-    if function.owner is None or function.owner.kind == "trait":
-        return True
-    return function.owner.trait != "Debug" and (function.owner.trait not in traits or bool(function.clauses))
-
-
 def crates_named():
     """The crates whose public calls it names: the libraries, and the program."""
     return [*libraries(), PROGRAM]
 
 
-def read_sources():
-    """What the libraries have, and the names of the calls that the ledger is to name."""
-    found, asked, crates = Sources({}, {}, {}, set(), {}), set(), crates_named()
-    every = list(sources(crates))
-    names = {name for crate in crates for name in given_out(crate)[0]}
-    traits = {it.type for source in every for it in source.owners if it.kind == "trait"}
-    for source in every:
-        messages = "pb::" if source.crate == "dtype_messages" else ""
-        for function in functions_of(source.file):
-            if is_law(source.crate, function):
-                found.laws.setdefault(law_of(source.crate, function), []).append(function)
-            elif is_public(function, names, given_out(source.crate)[1]):
-                found.calls.setdefault(name_of(function), []).append(function)
-                if is_declared_call(function, traits):
-                    asked.add(name_of(function))
-        for owner in source.owners:
-            found.members.setdefault(messages + owner.type, set()).update(it.name for it in owner.members)
-        found.constants.update(CONSTANT.findall(source.text))
-        for derived, of_type in DERIVED.findall(source.text):
-            found.derived.setdefault(messages + of_type, set()).update(it.strip() for it in derived.split(","))
-    return found, asked
-
-
-def is_law(crate, function):
-    """Whether a function states a law: one of the module `laws`, or of one whose name ends so, or re-exported by it."""
+def law_of(crate, function):
+    """The name of a law in the ledger, with its module's, or None: a law is a public function of the module `laws`, or of
+    one whose name ends so, or one that `laws` re-exports."""
     laws = f"crates/{crate}/src/laws.rt"
     if function.owner or function.visibility != "pub" or not os.path.exists(laws):
+        return None
+    if not function.file.endswith("laws.rt"):
+        passed_on = re.search(rf"(?m)^pub use crate::\w+::{function.name};", text_of(laws))
+        return f"{crate}::laws::{function.name}" if passed_on else None
+    return f"{crate}::{os.path.basename(function.file).removesuffix('.rt')}::{function.name}"
+
+
+def public_calls(crates):
+    """The functions of these crates that a user can call: each its crate and itself, but for laws."""
+    names = {name for crate in crates for name in given_out(crate)[0]}
+    return [(crate, it) for crate in crates for it in functions([crate])
+            if not law_of(crate, it) and is_public(it, names, given_out(crate)[1])]
+
+
+def is_silent(function, calls):
+    """Whether a function has no clause, nor is in an impl of a trait of std's, which says by ghost members what it does. A
+    trait's function may leave it to those who fill it in."""
+    owner = function.owner
+    if any(it.kind == "ensures" for it in function.clauses) or owner and owner.trait and owner.kind == "impl":
         return False
-    passed_on = re.search(rf"(?m)^pub use crate::\w+::{function.name};", text_of(laws))
-    return function.file.endswith("laws.rt") or bool(passed_on)
+    return not owner or not owner.trait or not any(
+        it.clauses for it in calls if it.name == function.name and it.owner and it.owner.kind == "impl"
+        and it.owner.trait == owner.type)
 
 
-def law_of(crate, function):
-    """The name of a law in the ledger, with its module's."""
-    module = os.path.basename(function.file).removesuffix(".rt")
-    return f"{crate}::{module if module.endswith('laws') else 'laws'}::{function.name}"
+def labels_of(function, unnamed="ensures"):
+    """The names of a function's clauses."""
+    return {it.name or unnamed for it in function.clauses if it.kind == "ensures"} - {""}
 
 
-def promises(function, there):
-    """Whether a function has a clause, or its impl of a trait of std's says by ghost members what it does. A trait's
-    function may leave it to those who fill it in."""
-    if any(it.kind == "ensures" for it in function.clauses):
-        return True
-    if not function.owner or not function.owner.trait:
-        return False
-    if function.owner.kind == "impl":
-        return True
-    same = (it for found in there.calls.values() for it in found if it.name == function.name and it.owner)
-    return any(it.clauses for it in same if it.owner.kind == "impl" and it.owner.trait == function.owner.type)
+def members_of(function):
+    return {it.name for it in function.owner.members} if function.owner else set()
 
 
-def clauses_of(functions):
-    """The names of what functions promise: of their clauses, and of the ghost members of the impls that hold them."""
-    return {it.name or "ensures" for function in functions for it in function.clauses if it.kind == "ensures"} | {
-        it.name for function in functions if function.owner for it in function.owner.members
-    }
+def read_sources():
+    """What the libraries have."""
+    found = Sources(defaultdict(set), defaultdict(set), set(), set(), set())
+    every, calls = list(sources(crates_named())), public_calls(crates_named())
+    traits = {it.type for source in every for it in source.owners if it.kind == "trait"}
+    found.silent.update(it.path for _, it in calls)
+    for _, it in calls:
+        found.calls[it.path] |= labels_of(it) | members_of(it)
+        found.clauses.update(("clause", it.path, label) for label in labels_of(it, ""))
+        found.silent.difference_update(() if is_silent(it, [call for _, call in calls]) else (it.path,))
+        # (not a debug text, nor what only fills in a trait of ours)
+        trait = it.owner.trait if it.owner and it.owner.kind == "impl" else ""
+        if trait != "Debug" and (trait not in traits or it.clauses):
+            found.names.add(("call", it.path))
+    for crate, it in ((source.crate, it) for source in every for it in functions_of(source.file)):
+        if law := law_of(crate, it):
+            found.laws[law] |= labels_of(it)
+            found.names.add(("law", law))
+            found.clauses.update(("clause", law, label) for label in labels_of(it, ""))
+    for source in every:
+        read_rest(source, "pb::" if source.crate == "dtype_messages" else "", found)
+    return found
+
+
+def read_rest(source, messages, found):
+    """Ghost members, what is derived, constants and macros; of a constant whether a library exports it, or a public type
+    has it."""
+    public = given_out(source.crate)[0]
+    for owner in source.owners:
+        members = {it.name for it in owner.members}
+        found.calls[messages + owner.type] |= members
+        found.silent.add(messages + owner.type)
+        if owner.kind == "trait" and owner.type in public and source.crate != PROGRAM:
+            found.clauses.update(("law of a trait", owner.type, it) for it in members if it.endswith("_law"))
+    for derived, of_type in DERIVED.findall(source.text):
+        found.calls[f"derive({messages}{of_type})"] |= {it.strip() for it in derived.split(",")}
+        found.silent.add(f"derive({messages}{of_type})")
+    for it in CONSTANT.finditer(source.code):
+        owner, name = owner_at(source.owners, it.start(2)), it[2] or f"{it[3]}!"
+        found.calls[name] |= set()
+        is_open = heads_of(owner) & public if owner else name in public or source.file.endswith("/lib.rt")
+        if it[1] and is_open and source.crate != PROGRAM:
+            found.names.add(("constant", name))
 
 
 def parts_of(reference):
@@ -128,40 +151,18 @@ def parts_of(reference):
     return names, [it.strip() for it in clauses.split(",") if it.strip()]
 
 
-def fault_of_call(name, clauses, there):
-    """What of a reference to a call, a type's ghost members, a constant or a derived trait isn't there, or None."""
-    if derived := re.fullmatch(r"derive\((.*)\)", name):
-        gone = [it for it in clauses if it not in there.derived.get(derived[1], set())]
-        return f"{derived[1]} doesn't derive {', '.join(gone)}" if gone or not clauses else None
-    if (name.isupper() or name.endswith("!")) and not clauses:
-        return None if name.rstrip("!") in there.constants else f"there is no constant or macro {name}"
-    if name in there.calls:
-        if not any(promises(it, there) for it in there.calls[name]):
-            return f"{name} promises nothing"
-        there = clauses_of(there.calls[name])
-    elif clauses and name in there.members:
-        there = there.members[name]
-    else:
-        return f"there is no public call {name}"
-    gone = [it for it in clauses if it not in there]
-    return f"{name} has no clause {', '.join(gone)}" if gone else None
-
-
-def fault_of_law(name, clauses, there):
-    """What of a reference to a law, or to a lemma for callers, isn't there, or None."""
+def fault_of(what, name, clauses, there, silent=()):
+    """What of a reference to a call or a law, a lemma for callers among them, isn't there, or None."""
     if lemma := re.fullmatch(r"(\w+)::(proofs::.*)::([\w-]+)", name):
         file = f"crates/{lemma[1]}/{lemma[2].replace('::', '/')}.antt"
         stated = rf"(?m)^(?:pub )?(?:ruleset |abbrev )?{lemma[3]}\b"
         return None if os.path.exists(file) and re.search(stated, text_of(file)) else f"there is no lemma {name}"
-    if name not in there.laws:
-        return f"there is no law {name}"
-    gone = [it for it in clauses if it not in clauses_of(there.laws[name])]
-    return f"{name} has no clause {', '.join(gone)}" if gone else None
-
-
-def fault_of_edit(name):
-    """Whether an edit isn't there: `crate/must-fail/name` or `crate/wrong/name`."""
-    return None if os.path.exists(f"crates/{name}.edit") else f"there is no mutation {name}"
+    if name not in there:
+        return f"there is no {what} {name}"
+    gone = [it for it in clauses if it not in there[name]]
+    if gone or clauses or name not in silent:
+        return f"{name} has no clause {', '.join(gone)}" if gone else None
+    return f"{name} promises nothing"
 
 
 def golden_tests():
@@ -179,81 +180,117 @@ def golden_tests():
 
 def fault_of_test(name, golden):
     """Whether a test isn't there: `console: comment`, the path of a test function, or `program: line written`."""
-    if name.startswith("console: "):
-        return None if name.removeprefix("console: ") in golden else f"there is no golden test '{name[9:]}'"
-    if program := re.fullmatch(r"(\w+): (.+)", name):
-        written = f"crates/{program[1]}/stdout"
+    program, _, text = name.partition(": ")
+    if program == "console":
+        return None if text in golden else f"there is no golden test '{text}'"
+    if text:
+        written = f"crates/{program}/stdout"
         lines = text_of(written).splitlines() if os.path.exists(written) else []
-        return None if program[2] in lines else f"there is no line '{program[2]}' in {written}"
-    crate, _, path = name.partition("::")
-    module, _, function = path.rpartition("::")
-    for file in (f"crates/{crate}/src/{module.replace('::', '/')}.rt", f"crates/{crate}/src/{module or 'main'}.rt"):
-        if os.path.exists(file):
-            tests = {it.name for it in functions_of(file) if "#[test]" in it.attributes}
-            return None if function in tests else f"there is no test {name}"
+        return None if text in lines else f"there is no line '{text}' in {written}"
+    crate, *modules, function = name.split("::")
+    for file in (f"crates/{crate}/src/{'/'.join(modules)}.rt", f"crates/{crate}/src/main.rt"):
+        tests = {it.name for it in functions_of(file) if "#[test]" in it.attributes} if os.path.exists(file) else ()
+        if function in tests:
+            return None
     return f"there is no test {name}"
 
 
-def constants_left_out(named):
-    """What is to be said of constants: those that a library exports, or that a public type has."""
-    for source in sources():
-        names = given_out(source.crate)[0]
-        for it in PUBLIC_CONSTANT.finditer(source.code):
-            owner = owner_at(source.owners, it.start())
-            is_open = heads_of(owner) & names if owner else it[1] in names or source.file.endswith("/lib.rt")
-            if is_open and it[1] not in named:
-                yield f"the constant {it[1]} stands in no line"
-
-
-def laws_of_traits():
-    """The laws of the public traits of the libraries, each with its trait: ghost members."""
-    for source in sources():
-        public = [it for it in source.owners if it.kind == "trait" and it.type in given_out(source.crate)[0]]
-        yield from ((owner.type, it.name) for owner in public for it in owner.members if it.name.endswith("_law"))
-
-
-def left_out(lines, there, asked):
+def left_out(lines, there):
     """What stands in no line: public calls, their clauses, laws, and must-fail edits."""
     named, clauses_named = set(), set()
-    for line in lines:
-        for reference in line.calls + line.laws:
-            names, clauses = parts_of(reference)
-            named.update(names)
-            clauses_named.update((name, it) for name in names for it in clauses)
-    for name in sorted(asked - named):
-        yield f"the call {name} stands in no line"
-    for name in sorted(there.laws.keys() - named):
-        yield f"the law {name} stands in no line"
-    for name, functions in sorted((there.calls | there.laws).items()):
-        clauses = {it.name for function in functions for it in function.clauses if it.kind == "ensures"} - {""}
-        for clause in sorted(clauses if name in named else ()):
-            if (name, clause) not in clauses_named:
-                yield f"the clause {name}: {clause} stands in no line"
-    yield from constants_left_out(named)
-    for name, law in laws_of_traits():
-        if (name, law) not in clauses_named:
-            yield f"the law of a trait {name}: {law} stands in no line"
-    edits = {edit for line in lines for edit in line.edits}
-    for crate in crates_named():
-        folder = f"crates/{crate}/must-fail"
-        for file in sorted(os.listdir(folder)) if os.path.isdir(folder) else []:
-            if f"{crate}/must-fail/{file.removesuffix('.edit')}" not in edits:
-                yield f"the mutation {folder}/{file} stands in no line"
+    for names, clauses in (parts_of(it) for line in lines for it in line.calls + line.laws):
+        named.update(names)
+        clauses_named.update((name, it) for name in names for it in clauses)
+    for kind, name in sorted(there.names):
+        if name not in named:
+            yield f"the {kind} {name} stands in no line"
+    for kind, *clause in sorted(there.clauses):
+        if tuple(clause) not in clauses_named and (kind != "clause" or clause[0] in named):
+            yield f"the {kind} {': '.join(clause)} stands in no line"
+    edits = {f"crates/{edit}.edit" for line in lines for edit in line.edits}
+    for file in sorted(file for crate in crates_named() for file in glob(f"crates/{crate}/must-fail/*.edit")):
+        if file not in edits:
+            yield f"the mutation {file} stands in no line"
 
 
 def check():
-    """How many references the ledger has, and what is wrong with them: the number of the line, or 0, and the fault."""
-    there, asked = read_sources()
+    """How many references the ledger has, and what is wrong with them: where, and the fault."""
+    there, count = read_sources(), 0
     lines, faults = lines_of(text_of(LEDGER))
-    golden, count = golden_tests(), 0
+    golden = golden_tests()
     for line in lines:
-        found = [fault_of_edit(it) for it in line.edits] + [fault_of_test(it, golden) for it in line.tests]
-        for references, fault_of in ((line.calls, fault_of_call), (line.laws, fault_of_law)):
+        found = [None if os.path.exists(f"crates/{it}.edit") else f"there is no mutation {it}" for it in line.edits]
+        found += [fault_of_test(it, golden) for it in line.tests]
+        for what, references, known in (("public call", line.calls, there.calls), ("law", line.laws, there.laws)):
             for names, clauses in map(parts_of, references):
-                found += [fault_of(name, clauses, there) for name in names]
+                found += [fault_of(what, name, clauses, known, there.silent) for name in names]
         count += len(found)
         faults += [(line.number, it) for it in found if it]
-    return count, faults + [(0, it) for it in left_out(lines, there, asked)]
+    return count, [(f"{LEDGER}:{n}", it) for n, it in faults] + [(LEDGER, it) for it in left_out(lines, there)]
+
+
+class Graph:
+    """The functions of the libraries and the program, and which calls which, by names."""
+
+    def __init__(self):
+        self.bodies, self.by_name, self.calls = defaultdict(list), defaultdict(set), {}
+        for function in functions(crates_named()):
+            self.bodies[function.path].append(bare(function.body))
+            self.by_name[function.name].add(function.path)
+
+    def called_by(self, path):
+        """What the functions of a path may call; of a trait's call, that of each impl."""
+        if path not in self.calls:
+            self.calls[path] = {called for body in self.bodies[path] for called in self.calls_of(body)}
+            if "" in self.bodies[path]:
+                self.calls[path] |= self.by_name[path.rpartition("::")[2]]
+        return self.calls[path]
+
+    def calls_of(self, body):
+        for it in re.finditer(r"\w+", body):
+            if it[0] not in self.by_name:
+                continue
+            path = re.search(r"(\w*)::$", body[:it.start()])
+            exact = f"{path and path[1]}::{it[0]}"
+            if path and path[1][:1].isupper() and path[1] != "Self" and exact in self.bodies:
+                yield exact
+            elif path or body.startswith(("(", "::"), it.end()):
+                yield from self.by_name[it[0]]
+
+    def below(self, paths):
+        """The functions that calls of these paths reach."""
+        reached, ahead = set(), list(paths)
+        while ahead:
+            path = ahead.pop()
+            if path not in reached:
+                reached.add(path)
+                ahead += self.called_by(path)
+        # (operators, `?`, `==`, loops and texts call these)
+        return reached | {it for name in BEHIND if reached for it in self.by_name.get(name, ())}
+
+
+def changed_by(edit):
+    """The functions that a mutation changes; none where it changes what is outside of any."""
+    crate, file, changed = edit.split("/")[0], f"crates/{edit}.edit", set()
+    for source, old, _ in changes_of(file) if os.path.exists(file) else ():
+        at = text_of(f"crates/{crate}/{source}").find(old)
+        changed |= {it.path for it in functions_of(f"crates/{crate}/{source}") if it.start <= at < it.end}
+    return changed
+
+
+def check_mutations():
+    """How many mutations stand beside calls, and each that is of nothing below them: where, and the fault."""
+    graph, count, faults = Graph(), 0, []
+    for line in lines_of(text_of(LEDGER))[0]:
+        named = [name for it in line.calls for name in parts_of(it)[0] if name in graph.bodies]
+        reached = graph.below(named)
+        for edit in line.edits if reached else ():
+            count += 1
+            changed = changed_by(edit)
+            if changed and not changed & reached and edit not in EXCEPTED:
+                names = ", ".join(sorted(changed))
+                faults.append((f"{LEDGER}:{line.number}", f"{edit} changes {names}, which no call of this line reaches"))
+    return count, faults
 
 
 GLOSSARY = "docs/GLOSSARY.md"
@@ -270,10 +307,8 @@ def check_glossary():
         cells = [it.strip() for it in line.strip("|").split("|")]
         if not line.startswith("| `") or len(cells) != 3:
             continue
-        files = re.findall(r"`(\w+)`", cells[2])
-        root = f"crates/{crate}/specs"
-        found = [file for it in files for file in (f"{root}/{it}.antt", *glob(f"{root}/*/{it}.antt"))
-                 if os.path.exists(file)]
+        files, root = re.findall(r"`(\w+)`", cells[2]), f"crates/{crate}/specs"
+        found = [file for it in files for file in (*glob(f"{root}/{it}.antt"), *glob(f"{root}/*/{it}.antt"))]
         texts = {it.removeprefix(f"{root}/").removesuffix(".antt").replace("/", "."): text_of(it) for it in found}
         for word in re.findall(r"`([\w-]+)[^`]*`", cells[0]):
             count += 1
@@ -282,5 +317,6 @@ def check_glossary():
             homes = [it for it, text in texts.items() if re.search(defined, text)]
             explained |= {(f"Rattle.{crate}.specs.{it}", word) for it in homes}
             if not homes:
-                faults.append((number, f"{word} is defined in no {' or '.join(files)} of {crate}/specs"))
+                where = f"{GLOSSARY}:{number}"
+                faults.append((where, f"{word} is defined in no {' or '.join(files)} of {crate}/specs"))
     return count, faults, explained

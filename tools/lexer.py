@@ -9,18 +9,17 @@ PIECE = re.compile(
       | (?<![\w'])b?'(?:\\(?:x[0-9a-fA-F]{2}|u\{[^}]*\}|.)|[^'\\\n])'""",
     re.X | re.S,
 )
-COMMENT_ENDS = re.compile(r"/\*|\*/")
 GHOST = re.compile(r"\b(?:ghost|(?:requires|ensures)\b\*? ?\w* ?(?=\{))")
 
 
-def end_of_comment(text, at):
-    """Where the comment that begins at `at` ends; comments may hold others."""
+def end_of(shape, start, pair=r"([(\[{])|[)\]}]"):
+    """The index after what closes what opens at `start`: of a source's shape a bracket."""
     depth = 0
-    for it in COMMENT_ENDS.finditer(text, at):
-        depth += 1 if it[0] == "/*" else -1
+    for it in re.compile(pair).finditer(shape, start):
+        depth += 1 if it[1] else -1
         if depth == 0:
             return it.end()
-    return len(text)
+    return len(shape)
 
 
 def blanks(text):
@@ -31,7 +30,8 @@ def code_of(text, texts=True):
     """A source with blanks for its comments, at the same indices."""
     found, at = [], 0
     while piece := PIECE.search(text, at):
-        end = end_of_comment(text, piece.start()) if piece[0] == "/*" else piece.end()
+        # (comments may hold others)
+        end = end_of(text, piece.start(), r"(/\*)|\*/") if piece[0] == "/*" else piece.end()
         is_kept = texts and not piece[0].startswith("/")
         found += [text[at:piece.start()], piece[0] if is_kept else blanks(text[piece.start():end])]
         at = end
@@ -43,19 +43,9 @@ def shape_of(code):
     return code_of(code, texts=False)
 
 
-def end_of(shape, start):
-    """The index after the brace that closes the one at `start`, in a source's shape."""
-    depth = 0
-    for it in re.compile("[{}]").finditer(shape, start):
-        depth += 1 if it[0] == "{" else -1
-        if depth == 0:
-            return it.end()
-    return len(shape)
-
-
-def without_ghosts(shape):
-    """A shape with blanks for clauses and ghost items."""
-    found, at = [], 0
+def bare(code):
+    """A source without comments, as its shape with blanks for clauses and ghost items."""
+    shape, found, at = shape_of(code), [], 0
     while ghost := GHOST.search(shape, at):
         begin = re.compile("[{;]").search(shape, ghost.end())
         end = begin.end() if begin and begin[0] == ";" else end_of(shape, begin.start()) if begin else len(shape)
@@ -65,18 +55,3 @@ def without_ghosts(shape):
         found += [shape[at:ghost.start()], blanks(shape[ghost.start():end])]
         at = end
     return "".join(found) + shape[at:]
-
-
-def bare(code):
-    """A source without comments, as its shape without clauses and ghost items."""
-    return without_ghosts(shape_of(code))
-
-
-def closing(shape, at):
-    """The index after the bracket that closes the one at `at`."""
-    depth = 0
-    for it in re.compile(r"[(\[{}\])]").finditer(shape, at):
-        depth += 1 if it[0] in "([{" else -1
-        if depth == 0:
-            return it.end()
-    return len(shape)

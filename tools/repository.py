@@ -4,7 +4,8 @@
 
 """The repository, for the other tools of this folder: crates.txt, where `rt` is, files, functions with their clauses,
 impls and traits with their ghost members, what a library exports, and how a check fails. Nothing is compiled: a source
-is read as text, in the layout of `rt fmt`. As a program it prints where `rt` is, for ./test.
+is read as text, in the layout of `rt fmt`. Who imports it works at the top of the repository, begun in the folder FROM.
+As a program it prints where `rt` is, for ./test.
 """
 import os
 import re
@@ -16,7 +17,8 @@ from glob import glob
 
 from lexer import code_of, end_of, shape_of
 
-TOP = os.path.dirname(os.path.dirname(os.path.realpath(__file__)))
+FROM = os.getcwd()
+os.chdir(os.path.dirname(os.path.dirname(os.path.realpath(__file__))))
 RT = shutil.which("rt") or "/opt/rattle/bin/rt"
 CRATE = re.compile(r"(?m)^(\w+):([^#\n]*)")
 
@@ -28,7 +30,8 @@ Owner = namedtuple("Owner", "start end kind heading type trait members")
 # A command of the console.
 Row = namedtuple("Row", "file name arguments example answer errors")
 Source = namedtuple("Source", "crate file text code owners")
-Function = namedtuple("Function", "file start end owner name visibility attributes signature clauses body")
+# `path` is the name with that of the type, or the trait, that holds the function; before those of messages is `pb::`.
+Function = namedtuple("Function", "file start end owner name path visibility attributes signature clauses body")
 
 OWNER = re.compile(r"\b(impl|trait)\b(?:<[^{]*?>)?\s+([^{;]*?)\s*(?:where[^{]*)?\{")
 HEADER = re.compile(r"(\bpub\b(?:\([^)]*\))? )?(?:const )?\bfn (\w+)")
@@ -43,11 +46,6 @@ GIVEN = re.compile(r"(?m)^pub use [\w:]+?(?:::\{([^}]*)\}|::(\w+)(?: as \w+)?);"
 # The ghost members that say how a law is proved or how a model is kept.
 KEPT = re.compile(r"laws|respects_eq|typed|lawful|\w+_law|invariant|coded|view|inverse")
 MODULE = re.compile(r"(?m)^pub mod (\w+);")
-
-
-def go_to_top():
-    """Makes the top of the repository the current folder."""
-    os.chdir(TOP)
 
 
 def text_of(file):
@@ -182,17 +180,6 @@ def owner_at(owners, at):
     return next((owner for owner in reversed(owners) if owner.start < at < owner.end), None)
 
 
-def clauses_behind(code, shape, at):
-    """The clauses of the function whose signature ends at `at`, and where its body begins."""
-    if where := WHERE.match(shape, at):
-        at = where.end()
-    clauses = []
-    while found := CLAUSE.match(shape, at):
-        at = end_of(shape, found.end() - 1)
-        clauses.append(Clause(found[1], found[2], code[found.end():at - 1]))
-    return clauses, at
-
-
 def lines_above(text, start):
     """The comment lines and the attributes right above an index, each without indentation, in order."""
     lines, at = [], text.rfind("\n", 0, start)
@@ -216,19 +203,23 @@ def functions_of(file):
         behind = SIGNATURE_END.search(shape, it.end())
         if not behind:
             continue
-        start = code.rfind("\n", 0, it.start()) + 1
-        clauses, begin = clauses_behind(code, shape, behind.start())
-        brace = BODY.match(shape, begin)
-        end = end_of(shape, brace.end() - 1) if brace else begin
+        start, where = code.rfind("\n", 0, it.start()) + 1, WHERE.match(shape, behind.start())
+        at, clauses = where.end() if where else behind.start(), []
+        while clause := CLAUSE.match(shape, at):
+            at = end_of(shape, clause.end() - 1)
+            clauses.append(Clause(clause[1], clause[2], code[clause.end():at - 1]))
+        brace, owner = BODY.match(shape, at), owner_at(owners, it.start())
+        end = end_of(shape, brace.end() - 1) if brace else at
         attributes = [line for line in lines_above(text, start) if line.startswith("#[")]
-        found.append(Function(file, start, end, owner_at(owners, it.start()), it[2], (it[1] or "").strip(), attributes,
-                              code[it.end():behind.start()], clauses, code[begin:end]))
+        within = f"{'pb::' * file.startswith('crates/dtype_messages/')}{owner.type}::" if owner else ""
+        found.append(Function(file, start, end, owner, it[2], within + it[2], (it[1] or "").strip(), attributes,
+                              code[it.end():behind.start()], clauses, code[at:end]))
     return found
 
 
-def name_of(function):
-    """A function's name, with that of the type, or the trait, that holds it."""
-    return f"{function.owner.type}::{function.name}" if function.owner else function.name
+def functions(names=None):
+    """The functions of these crates, or of the libraries."""
+    return [it for source in sources(names) for it in functions_of(source.file)]
 
 
 def names_in(listing):

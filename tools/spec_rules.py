@@ -6,7 +6,7 @@ and no citation of another crate's own parts. tools/borders says what and why.""
 import re
 
 from ledger import crates_named
-from repository import crates, functions_of, name_of, sources, sources_of, text_of
+from repository import crates, functions_of, sources, sources_of, text_of
 
 # The lemmas outside of files `..Laws`: the file of specs/, the name, or all of them, and what cites it.
 LEMMAS = {
@@ -130,6 +130,6 @@ def wrong_labels():
     """Each clause of the libraries and the program, but of laws, whose label isn't that of its form, nor listed."""
     for function in (it for source in sources(crates_named()) for it in functions_of(source.file)):
         for label, fault in labels_of(function) if not function.file.endswith("laws.rt") else ():
-            told = f"{name_of(function)}: {label}"
+            told = f"{function.path}: {label}"
             if f"{function.file.removeprefix('crates/')} {told}" not in LABELS_OF_TODAY:
                 yield function.file, f"{told}: {fault}"

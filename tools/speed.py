@@ -8,7 +8,7 @@ import csv
 import re
 from fnmatch import fnmatchcase
 
-from repository import go_to_top, text_of
+from repository import text_of
 
 PAGE, TABLE = "docs/BENCHMARKS.md", "docs/benchmarks.csv"
 
@@ -82,7 +82,6 @@ def faults():
 
 
 def main():
-    go_to_top()
     text = SUMMARY.sub(summary(ratios_by_case()), text_of(PAGE))
     with open(PAGE, "w", encoding="utf-8") as it:
         it.write(text)

@@ -152,7 +152,7 @@ class RefusedMemory(Planted):
 
     def test_tells_an_answer_that_is_wrong_without_memory(self):
         self.run_with(refused='"b"')
-        self.assert_told("refused_memory", "name a: allocation 1 and all after it: 'b'")
+        self.assert_told("refused_memory", "refused_memory: name a: allocation ")
 
     def test_tells_memory_that_is_held(self):
         self.run_with(freed="(void)0")

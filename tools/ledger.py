@@ -1,10 +1,10 @@
 # SPDX-License-Identifier: Apache-2.0
 # SPDX-FileCopyrightText: Copyright the Vortex contributors
 
-"""Checks the ledger docs/PROMISES.md against the sources: each clause, law, mutation and test that it names is there, one
-of its lines names each public call, clause and law of the libraries and each mutation of the gate, and a mutation beside
-calls changes the body of one of them, or of a function below it: by the calls in the sources, where a call of a name that
-several functions have may be of each of them. The ledger's first lines say how a line names them."""
+"""Checks the ledger docs/PROMISES.md against the sources: each clause, law, mutation and test that it names is there,
+one of its lines names each public call, clause and law of the libraries and each mutation of the gate, and a mutation
+beside calls changes the body of one of them, or of a function below it: by the calls in the sources, where a call of a
+name that several functions have may be of each of them. The ledger's first lines say how a line names them."""
 import os
 import re
 from collections import defaultdict, namedtuple
@@ -60,8 +60,8 @@ def crates_named():
 
 
 def law_of(crate, function):
-    """The name of a law in the ledger, with its module's, or None: a law is a public function of the module `laws`, or of
-    one whose name ends so, or one that `laws` re-exports."""
+    """The name of a law in the ledger, with its module's, or None: a law is a public function of the module `laws`, or
+    of one whose name ends so, or one that `laws` re-exports."""
     laws = f"crates/{crate}/src/laws.rt"
     if function.owner or function.visibility != "pub" or not os.path.exists(laws):
         return None
@@ -79,7 +79,7 @@ def public_calls(crates):
 
 
 def is_silent(function, calls):
-    """Whether a function has no clause, nor is in an impl of a trait of std's, which says by ghost members what it does. A
+    """Whether a function has no clause, nor is in an impl of a trait of std's, whose ghost members say what it does. A
     trait's function may leave it to those who fill it in."""
     owner = function.owner
     if any(it.kind == "ensures" for it in function.clauses) or owner and owner.trait and owner.kind == "impl":
@@ -123,8 +123,8 @@ def read_sources():
 
 
 def read_rest(source, messages, found):
-    """Ghost members, what is derived, constants and macros; of a constant whether a library exports it, or a public type
-    has it."""
+    """Ghost members, what is derived, constants and macros; of a constant whether a library exports it, or a public
+    type has it."""
     public = given_out(source.crate)[0]
     for owner in source.owners:
         members = {it.name for it in owner.members}
@@ -288,8 +288,8 @@ def check_mutations():
             count += 1
             changed = changed_by(edit)
             if changed and not changed & reached and edit not in EXCEPTED:
-                names = ", ".join(sorted(changed))
-                faults.append((f"{LEDGER}:{line.number}", f"{edit} changes {names}, which no call of this line reaches"))
+                fault = f"{edit} changes {', '.join(sorted(changed))}, which no call of this line reaches"
+                faults.append((f"{LEDGER}:{line.number}", fault))
     return count, faults
 
 

@@ -52,8 +52,8 @@ def check():
     for _, it in public_calls(libraries()):
         if allocates(it):
             allocating[it.path].append(it)
-    lines = [(f"{RUN_BY}:{number}", call, line.rpartition(": ")[2])
-             for number, line in enumerate(text_of(RUN_BY).splitlines(), 1) for call in parts_of(line.rpartition(": ")[0])[0]]
+    listed = ((number, *line.rpartition(": ")[::2]) for number, line in enumerate(text_of(RUN_BY).splitlines(), 1))
+    lines = [(f"{RUN_BY}:{n}", call, runner) for n, calls, runner in listed for call in parts_of(calls)[0]]
     for call, shown in examples(allocating.keys() - {call for _, call, _ in lines})[0].items():
         if any(is_value(answer) for _, answer in shown):
             lines.append((RUN_BY, call, f"console {shown[0][0].split()[1]}"))

@@ -2,12 +2,21 @@
 # SPDX-FileCopyrightText: Copyright the Vortex contributors
 
 """The lines of the console that show each call, for tools/reference: a command's example where the golden tests have
-it, else the first of them that is short, with its answer; and the first that is answered by an error."""
-import re
+it, else the first of them that is short, with its answer; and the first that is answered by an error. And checks for
+tools/pages that something runs each public call that allocates: a contract lets a call return OutOfMemory for any
+input, so only a run shows that it succeeds.
 
-from repository import console_rows, text_of
+tools/data/run_by has, each with the calls that it runs, the commands of the console that are called otherwise than
+their call (an impl is named by its trait and its type), and where none makes a call a test by its path, or another call
+that is run, in whose crate the call is made."""
+import re
+from collections import defaultdict
+
+from ledger import fault_of_test, parts_of, public_calls
+from repository import console_rows, crates, libraries, sources_of, text_of
 
 TRANSCRIPT = "crates/dtype_console/stdout"
+RUN_BY = "tools/data/run_by"
 SHORT = 90
 
 # By topic, the type whose call a command makes where it has the call's name.
@@ -18,82 +27,29 @@ OWNERS = {
     "types": "DType", "unions": "UnionVariants",
 }
 
-# The calls of the commands that have another name, by topic; an impl is named by its trait and its type.
-CALLS = """
-subset: DType::eq_with_nullability_subset; superset: DType::eq_with_nullability_superset; eq: PartialEq for DType;
-hash_eq: Hash for DType; hash_ignore_nullability_eq: DType::hash_ignore_nullability; inner_eq: PartialEq for
-StructFields, PartialEq for UnionVariants, PartialEq for MapDType, PartialEq for ExtDTypeRef; inner_hash_eq: Hash for
-StructFields, Hash for UnionVariants, Hash for MapDType, Hash for ExtDTypeRef; inner_eq_ignore_nullability:
-StructFields::eq_ignore_nullability, UnionVariants::eq_ignore_nullability, MapDType::eq_ignore_nullability,
-ExtDTypeRef::eq_ignore_nullability;
-decimal: DecimalDType::try_new; decimal_new: DecimalDType::new; decimal_text: Display for DecimalDType; decimal_eq:
-DecimalDType; decimal_hash_eq: DecimalDType; decimal_type_cmp: DecimalType; smallest_decimal_value_type:
-DecimalType::smallest_decimal_value_type; is_compatible_decimal_value_type:
-DecimalType::is_compatible_decimal_value_type; decimal_type_width: DecimalType::byte_width; decimal_type_from:
-TryFrom<PType> for DecimalType; decimal_maxima: MAX_PRECISION, MAX_SCALE; precision_scale: PrecisionScale::try_new;
-precision_scale_from: TryFrom<&DecimalDType> for PrecisionScale<D>; precision_scale_to: From<PrecisionScale<D>> for
-DecimalDType; precision_scale_is_valid: PrecisionScale::is_valid; by_precision: NativeDecimalType::min_by_precision,
-NativeDecimalType::max_by_precision; native_decimal: NativeDecimalType;
-ptype_cmp: PType; ptype_hash_eq: PType; ptype: Display for PType; ptype_kinds: PType::is_int; match_each:
-match_each_native_ptype; match_each_simd: match_each_native_simd_ptype; match_each_integer: match_each_integer_ptype;
-match_each_unsigned: match_each_unsigned_integer_ptype; match_each_signed: match_each_signed_integer_ptype;
-match_each_float: match_each_float_ptype; match_smallest_offset_type: match_smallest_offset_type;
-match_smallest_list_offset_type: match_smallest_list_offset_type;
-round_trip: DTypeProto for DType; write: DTypeProto::to_proto, DTypeProto for DType; read: DTypeProto::from_proto,
-DTypeProto for DType; message_eq: pb::DType; read_path: FieldPathProto::from_proto, FieldPathProto for FieldPath;
-pb_number: pb::PType::number; pb_from_number: pb::PType::from_number;
-extension: ExtDTypeRef::from_parts; foreign: ForeignExtDType::from_parts; metadata: ExtDTypeRef::metadata_bytes;
-extension_parts: ExtDTypeRef::into_parts; extension_nullability: ExtDTypeRef::nullability; extension_is_nullable:
-ExtDTypeRef::is_nullable; extension_with_nullability: ExtDTypeRef::with_nullability; metadata_text:
-ExtDTypeRef::display_metadata; extension_text: Display for ExtDTypeRef; extension_copy: ExtDTypeRef::try_clone; tag_new:
-ExtDType::try_new, ExtDType::try_with_vtable; tag_downcast: ExtDType::try_downcast; tag_with_nullability:
-ExtDType::with_nullability;
-map_try_new: MapDType::try_new; map_text: Display for MapDType; map_copy: MapDType::try_clone;
-mask: FieldMask::try_clone; mask_step_into: FieldMask::step_into; mask_eq: PartialEq for FieldMask;
-name: FieldName::new; name_text: Display for FieldName; name_cmp: Ord for FieldName; name_eq: PartialEq for FieldName;
-name_eq_str: FieldName::eq_str; name_hash_eq: Hash for FieldName; names_text: Display for FieldNames; names_len:
-FieldNames::len; names_is_empty: FieldNames::is_empty; names_get: FieldNames::get; names_at: Index<usize> for
-FieldNames; names_find: FieldNames::find; names_eq: PartialEq for FieldNames; names_hash_eq: Hash for FieldNames;
-names_eq_texts: FieldNames::eq_texts; names_copy: FieldNames::try_clone; names_iter: FieldNames::iter; names_into_iter:
-IntoIterator for FieldNames;
-to_le_bytes: ToBytes::to_le_bytes; try_from_le_bytes: TryFromBytes::try_from_le_bytes; native_compare:
-NativePType::is_lt; native_tests: NativePType::is_nan; native_integer: NativePType; native_dtype: NativeDType::dtype;
-path: FieldPath::from_vec; path_copy: FieldPath::try_clone; path_text: Display for FieldPath; path_eq: PartialEq for
-FieldPath; path_hash_eq: Hash for FieldPath; as_name: Field::as_name; is_named: Field::is_named; step_text: Display for
-Field; step_from_text: Field::from_text; step_eq: PartialEq for Field; step_hash_eq: Hash for Field; from_step:
-FieldPath::from_field; from_steps: FieldPath::from_iter;
-cover: FieldPathSet::into_iter; cover_counted: FieldPathSet::into_iter_counted; members: FieldPathSet::iter,
-FieldPathSet::from_iter; project_paths: project_paths;
-fields_text: Display for StructFields; fields_copy: StructFields::try_clone; struct_new: StructFields::new;
-struct_from_fields: StructFields::from_fields; struct_from_iter: StructFields::from_iter; struct_empty:
-StructFields::empty;
-copy: DType::try_clone; text: Display for DType; merge_nullability: merge_nullability; intersect_nullability:
-intersect_nullability; nullability_or: BitOr for Nullability; nullability_text: Display for Nullability;
-nullability_long_text: Nullability::long_text; kinds: DType::kind; to_decimal: TryFrom<&DType> for DecimalDType;
-to_ptype: TryFrom<&DType> for PType; bytes_type: DType::BYTES; from_ptype: From<PType> for DType; struct:
-DType::struct_;
-variant_names: UnionVariants::names; variants_len: UnionVariants::len; variants_is_empty: UnionVariants::is_empty;
-find_variant: UnionVariants::find; variants_text: Display for UnionVariants; variants_copy: UnionVariants::try_clone;
-union_new: UnionVariants::new; union_try_new: UnionVariants::try_new;
-"""
+
+def listed():
+    """The calls by what runs them, as the list has them."""
+    text = " ".join(text_of(RUN_BY).split())
+    return {runner: [name for it in re.findall(r"(?:[^,{]|\{[^}]*\})+", calls) for name in parts_of(it.strip())[0]]
+            for runner, calls in re.findall(r"([\w:]+): ([^;]+);", text)}
 
 
-def calls_by_name():
-    return {name: " ".join(calls.split()).split(", ") for name, calls in re.findall(r"(\w+):\s([^;]+)", CALLS)}
+def commands():
+    """The calls by the commands of the console, each its row."""
+    known = listed()
+    for row in console_rows():
+        owner = OWNERS.get(row.file.rpartition("/")[2].removesuffix(".rt"), "")
+        yield row, known.get(row.name, [f"{owner}::{row.name}"])
 
 
 def answered():
     """The lines of the golden tests by command, each with its answer, in their order."""
-    lines = text_of(TRANSCRIPT).split("\n")
-    found = {}
+    lines, found = text_of(TRANSCRIPT).split("\n"), defaultdict(list)
     for line, answer in zip(lines, lines[1:]):
         if line.startswith("> ") and not answer.startswith("> "):
-            found.setdefault(line[2:].split(" ")[0], []).append((line, answer))
+            found[line[2:].split(" ")[0]].append((line, answer))
     return found
-
-
-def is_error(answer):
-    return answer.startswith("refused ")
 
 
 def is_value(answer):
@@ -104,19 +60,57 @@ def chosen(lines, wanted):
     """The line that is wanted, or the first short one that has a value, and the first short one that has an error."""
     short = [it for it in lines if len(it[0]) + len(it[1]) <= SHORT]
     first = [it for it in lines if it[0] == wanted] or [it for it in short if is_value(it[1])] or short
-    errors = [it for it in short if is_error(it[1])]
+    errors = [it for it in short if it[1].startswith("refused ")]
     return list(dict.fromkeys(first[:1] + errors[:1]))
 
 
 def examples(names):
     """By the name of a call, of those given, the lines of the console that show it; and the commands that show none."""
-    lines, calls, found, rest = answered(), calls_by_name(), {}, []
-    for row in console_rows():
-        shown = chosen(lines.get(row.name, []), f"> {row.name} {row.example}".strip())
-        owner = OWNERS.get(row.file.rpartition("/")[2].removesuffix(".rt"), "")
-        own = [it for it in calls.get(row.name, [f"{owner}::{row.name}"]) if it in names]
+    lines, found, rest = answered(), defaultdict(list), []
+    for row, calls in commands():
+        shown, own = chosen(lines[row.name], f"> {row.name} {row.example}".strip()), [it for it in calls if it in names]
         if not own or not shown:
             rest.append(row.name)
         for call in own:
-            found[call] = found.get(call, []) + [it for it in shown if it not in found.get(call, [])]
+            found[call] += [it for it in shown if it not in found[call]]
     return found, rest
+
+
+def allocates(function):
+    return bool(function.body) and ("alloc: Global" in function.signature or "-> VortexResult<" in function.signature)
+
+
+def makes(name, files):
+    """Whether one of these sources makes a call of that name, or leaves it to an iterator or to `field_path!`."""
+    also = {"from_iter": r"|\.collect\(", "into_iter": r"|\bfor ", "from_texts": r"|field_path!\("}
+    call = re.compile(rf"(?<!fn )(?<!\w){name}(?:::<[^>]*>)?\({also.get(name, '')}")
+    return any(call.search(text_of(file)) for file in files)
+
+
+def check():
+    """How many public calls allocate, and each that nothing runs, or that is listed wrongly: where, and the fault."""
+    allocating, lines, rows, faults, run = defaultdict(set), answered(), list(commands()), [], set()
+    for crate, it in public_calls(libraries()):
+        if allocates(it):
+            allocating[it.path].add(crate)
+    console = [it for it in crates() if "console" in it]
+    runners = [(row.name, it, "command") for row, calls in rows for it in calls if it in allocating]
+    others = {runner: calls for runner, calls in listed().items() if runner not in {row.name for row, _ in rows}}
+    runners += [(runner, it, "call") for runner, calls in others.items() for it in calls]
+    named = {call for _, call, _ in runners}
+    for runner, call, kind in runners:
+        name, beside = call.rpartition("::")[2], console if kind == "command" else allocating.get(runner, ())
+        is_made = makes(name, (file for crate in beside for file in sources_of(crate)))
+        if call not in allocating:
+            fault = "is no public call that allocates"
+        elif kind == "command":
+            run.update([call] * (is_made and any(is_value(answer) for _, answer in lines[runner])))
+            continue
+        elif runner in named:
+            fault = None if is_made else f"{runner} makes no call of {name}"
+        else:
+            fault = fault_of_test(runner, ())
+        run.add(call)
+        faults += [(RUN_BY, f"{call}: {fault}")] * bool(fault)
+    faults += [(RUN_BY, f"{it}, which allocates, isn't run") for it in sorted(allocating.keys() - run)]
+    return len(allocating), faults

@@ -187,7 +187,8 @@ def fault_of_test(name, golden):
         written = f"crates/{program}/stdout"
         lines = text_of(written).splitlines() if os.path.exists(written) else []
         return None if text in lines else f"there is no line '{text}' in {written}"
-    crate, *modules, function = name.split("::")
+    crate, _, path = name.partition("::")
+    *modules, function = path.split("::")
     for file in (f"crates/{crate}/src/{'/'.join(modules)}.rt", f"crates/{crate}/src/main.rt"):
         tests = {it.name for it in functions_of(file) if "#[test]" in it.attributes} if os.path.exists(file) else ()
         if function in tests:

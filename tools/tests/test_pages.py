@@ -1,7 +1,7 @@
 # SPDX-License-Identifier: Apache-2.0
 # SPDX-FileCopyrightText: Copyright the Vortex contributors
 
-"""tools/pages, with what it checks by ledger.py, runs.py, claims.py, speed.py and tools/reference."""
+"""tools/pages, with what it checks by ledger.py, examples.py, speed.py and tools/reference."""
 import sys
 
 from planted import TOOLS, Planted
@@ -36,10 +36,10 @@ CHANGES = [
     (ROOT, "pub mod laws;", "pub mod laws;\n\npub const MOST: u8 = 76;", f"{LEDGER}: the constant MOST stands in no"),
     (TABLE, '"NAME", "a"', '"NAME", "b"', "the example name b is no golden test"),
     (TABLE, "OutOfMemory (0)", "OutOfMemory (1)", "name: there is no error OutOfMemory (1)"),
-    (TABLE, "FieldName::new(alloc, text)", "text", "the console makes no call of new"),
-    (TABLE, '"name"', '"first_name"', f"{RUN_BY}: FieldName::new, which allocates, isn't run"),
-    (RUN_BY, "", "FieldName::new: console names\n", "there is no golden test of names"),
-    (RUN_BY, "", "FieldName::gone: console name\n", "FieldName::gone: is no public call that allocates"),
+    (TABLE, "FieldName::new(alloc, text)", "text", f"{RUN_BY}: FieldName::new, which allocates, isn't run"),
+    (TABLE, '"name"', '"first_name"', f"{RUN_BY}: FieldName::new: there is no test name"),
+    (RUN_BY, "", "tests_types::gone: FieldName::new;\n", "FieldName::new: there is no test tests_types::gone"),
+    (RUN_BY, "", "FieldName::new: FieldName::gone;\n", "FieldName::gone: is no public call that allocates"),
     ("docs/TRUST.md", "", "\n| [`Errors`](../crates/dtype_base/specs/Errors.antt) | 40 | errors |\n",
      "Errors.antt) has 1 lines, not 40"),
     ("docs/TRUST.md", "", "\nsome 400 lines of `specs/`\n", "specs/ of the libraries has 1 lines, not 400"),
@@ -55,7 +55,7 @@ CHANGES = [
 class Pages(Planted):
     def setUp(self):
         super().setUp()
-        self.write(RUN_BY, "")
+        self.write(RUN_BY, "name: FieldName::new;\n")
         cases = [pattern.replace("*", "x") for _, patterns in OPERATIONS for pattern in patterns]
         self.write("docs/benchmarks.csv", "\n".join(["case,port_ns,rust_ns", *(f"{case},20,10" for case in cases)]))
         self.run_tool("reference")

@@ -29,12 +29,13 @@ class Planted(unittest.TestCase):
         with open(f"{self.top}/{file}", encoding="utf-8") as it:
             return it.read()
 
-    def write(self, file, text, mode=0o644):
+    def write(self, file, text, mode=None):
         path = f"{self.top}/{file}"
         os.makedirs(os.path.dirname(path), exist_ok=True)
         with open(path, "w", encoding="utf-8") as it:
             it.write(text)
-        os.chmod(path, mode)
+        if mode:
+            os.chmod(path, mode)
 
     def change(self, file, old, new):
         """Changes a text that stands once; no text is the end of the file."""

@@ -1,7 +1,7 @@
 # SPDX-License-Identifier: Apache-2.0
 # SPDX-FileCopyrightText: Copyright the Vortex contributors
 
-"""tools/borders, with lexer.py, code_rules.py and spec_rules.py."""
+"""tools/borders, with lexer.py."""
 from planted import Planted
 
 PATH = "crates/dtype_paths/src/field_path.rt"
@@ -65,6 +65,6 @@ class Borders(Planted):
         laws = SPEC.replace("Widths", "WidthLaws")
         self.write(laws, "pub width_below : (n : ℕ) → width n ≤ 8\nwidth_below n = by_cases n\n")
         self.change(NAME, "ensures ok {", "ensures made {")
-        self.change("tools/spec_rules.py", "dtype_demo/src/main.rt run: unwritten",
+        self.change("tools/borders", "dtype_demo/src/main.rt run: unwritten",
                     "dtype_base/src/field_name.rt FieldName::new: made")
         self.assertEqual(self.told("borders"), [])

@@ -7,19 +7,18 @@ import os
 import re
 from collections import namedtuple
 
-from repository import (
-    KEPT, end_of, functions_of, given_out, heads_of, libraries, lines_above, owner_at, sources,
-)
+from lexer import end_of
+from repository import KEPT, functions_of, given_out, heads_of, libraries, lines_above, owner_at, sources
 
 # `kind` is struct, enum, trait, fn, const, macro or impl (of a trait); `name` is as in a path. `text` is the comment
 # without its errors, a list of paragraphs. `parts` are variants, fields or associated items, each with its comment;
 # `members` the calls of a trait or of its impl.
-Item = namedtuple("Item", "kind name file text errors signature clauses derived parts members")
+Item = namedtuple("Item", "kind name text errors signature clauses derived parts members",
+                  defaults=["", [], [], [], []])
 
 TYPE = re.compile(r"(?m)^pub (struct|enum|trait) (\w+)[^{;(]*")
-CONSTANT = re.compile(r"(?m)^( *)pub const (\w+): ([^=;]+)")
-MACRO = re.compile(r"(?m)^#\[macro_export\]\nmacro_rules! (\w+) ")
-PART = re.compile(r"(?m)^    (?:pub )?(?:const |type )?(\w+)(\([^\n]*\)| \{ [^\n{}]* \}|: [^\n;]*|(?=[,;]))[,;]?$")
+CONSTANT = re.compile(r"(?m)^ *pub const (\w+): ([^=;]+)|^#\[macro_export\]\nmacro_rules! (\w+) ")
+PART = re.compile(r"(?m)^    (pub )?(?:const |type )?(\w+)(\([^\n]*\)| \{ [^\n{}]* \}|: [^\n;]*|(?=[,;]))[,;]?$")
 ASSOCIATED = re.compile(r"(?m)^    ((?:const|type) \w+(?:: [^;=]*)?);")
 DERIVED = re.compile(r"#\[derive(?:_where)?\(([^)]*)\)\]")
 
@@ -48,61 +47,50 @@ def signature_of(text):
     return text.replace("(mut self", "(self")
 
 
-def calls_in(source):
-    """The functions of a source, each as it is and as an item."""
-    for it in functions_of(source.file):
-        said, errors = comment_above(source.text, it.start)
-        signature = f"fn {it.name}{signature_of(it.signature)}"
-        yield it, Item("fn", it.name, source.file, said, errors, signature, it.clauses, [], [], [])
+def parts_in(source, kind, begin):
+    """The variants, the public fields or the associated items from a brace on, each with its comment."""
+    code, end = source.code, end_of(source.code, begin)
+    for it in (ASSOCIATED if kind == "trait" else PART).finditer(code, begin, end):
+        is_direct = code.count("{", begin, it.start()) - code.count("}", begin, it.start()) == 1
+        name = it[1] if kind == "trait" else f"{it[2]}{it[3]}".rstrip(",;")
+        if kind == "trait" or is_direct and (kind == "enum" or it[1] and it[3].startswith(":")):
+            yield name, " ".join(comment_above(source.text, it.start())[0])
 
 
-def parts_in(text, code, begin, end):
-    """The variants, fields or associated items between two braces, each with its comment."""
-    for it in PART.finditer(code, begin, end):
-        if code.count("{", begin, it.start()) - code.count("}", begin, it.start()) == 1:
-            said, _ = comment_above(text, it.start())
-            yield f"{it[1]}{it[2]}".rstrip(",;"), " ".join(said)
-
-
-def types_in(source, names):
-    text, code = source.text, source.code
-    for it in TYPE.finditer(code):
-        if it[2] not in names:
-            continue
-        said, errors = comment_above(text, it.start())
-        above = " ".join(line for line in lines_above(text, it.start()) if line.startswith("#["))
-        derived = [name.strip() for found in DERIVED.findall(above) for name in found.split(",")]
-        brace = code.find("{", it.end() - 1) if code[it.end():it.end() + 1] == "{" else -1
-        parts = list(parts_in(text, code, brace, end_of(code, brace))) if brace > 0 and it[1] != "trait" else []
-        if it[1] == "trait":
-            begin = code.find("{", it.end() - 1)
-            parts = [(found[1], " ".join(comment_above(text, found.start())[0]))
-                     for found in ASSOCIATED.finditer(code, begin, end_of(code, begin))]
-        if it[1] == "struct":
-            parts = [(name, said) for name, said in parts if f"pub {name.split(':')[0]}:" in code[brace:]]
-        yield Item(it[1], it[2], source.file, said, errors, "", [], sorted(set(derived) - {"Drop"}), parts, [])
+def types_in(source, names, calls):
+    """The public types and traits, these with their calls."""
+    for it in TYPE.finditer(source.code):
+        kind, name = it.groups()
+        if name in names:
+            derived = DERIVED.findall(" ".join(lines_above(source.text, it.start())))
+            derived = {trait.strip() for found in derived for trait in found.split(",")} - {"Drop"}
+            parts = list(parts_in(source, kind, it.end())) if source.code[it.end():it.end() + 1] == "{" else []
+            traits = [owner for owner in source.owners if owner.kind == kind == "trait" and owner.type == name]
+            members = [call for function, call in calls if function.owner in traits]
+            yield Item(kind, name, *comment_above(source.text, it.start()), "",
+                       [ghost for owner in traits for ghost in owner.members], sorted(derived), parts, members)
 
 
 def constants_in(source, names):
-    for it in CONSTANT.finditer(source.code):
-        owner = owner_at(source.owners, it.start())
-        if owner and owner.type in names or not owner and it[2] in names:
-            name = f"{owner.type}::{it[2]}" if owner else it[2]
-            said, errors = comment_above(source.text, it.start())
-            signature = f"const {it[2]}: {it[3].strip()}"
-            yield Item("const", name, source.file, said, errors, signature, [], [], [], [])
-    for it in MACRO.finditer(source.code):
-        said, errors = comment_above(source.text, it.start())
-        yield Item("macro", f"{it[1]}!", source.file, said, errors, "", [], [], [], [])
+    """The public constants, and the macros."""
+    for it in sorted(CONSTANT.finditer(source.code), key=lambda it: bool(it[3])):
+        owner, said = owner_at(source.owners, it.start()), comment_above(source.text, it.start())
+        if it[3]:
+            yield Item("macro", f"{it[3]}!", *said)
+        elif (owner.type if owner else it[1]) in names:
+            yield Item("const", f"{owner.type}::{it[1]}" if owner else it[1], *said, f"const {it[1]}: {it[2].strip()}")
 
 
-def impls_in(source, names):
+def impls_in(source, names, calls):
     """The impls of traits for public types, with their ghost members and the calls that have a comment or a clause."""
     for owner in source.owners:
         if owner.kind == "impl" and owner.trait not in ("", "Debug", "Model") and heads_of(owner) & names:
-            said, errors = comment_above(source.text, owner.start)
             clauses = [it for it in owner.members if not KEPT.fullmatch(it.name)]
-            yield owner, Item("impl", signature_of(owner.heading), source.file, said, errors, "", clauses, [], [], [])
+            own = [call for function, call in calls if function.owner == owner and (call.text or call.clauses)]
+            item = Item("impl", signature_of(owner.heading), *comment_above(source.text, owner.start), "", clauses,
+                        members=own)
+            if clauses or own or item.text:
+                yield item
 
 
 def items_of(source):
@@ -112,24 +100,15 @@ def items_of(source):
     module = os.path.basename(source.file).removesuffix(".rt")
     path = f"{module}::" if module in modules else ""
     names = given | ({it[2] for it in TYPE.finditer(source.code)} if path else set())
-    calls, found = list(calls_in(source)), []
-    for it in types_in(source, names):
-        traits = [owner for owner in source.owners if owner.kind == "trait" and owner.type == it.name]
-        own = [call for function, call in calls if function.owner in traits]
-        ghosts = [ghost for owner in traits for ghost in owner.members]
-        found.append(it._replace(name=path + it.name, members=own, clauses=ghosts if it.kind == "trait" else []))
+    calls = [(it, Item("fn", it.name, *comment_above(source.text, it.start),
+                       f"fn {it.name}{signature_of(it.signature)}", it.clauses)) for it in functions_of(source.file)]
+    found = [it._replace(name=path + it.name) for it in types_in(source, names, calls)]
     for function, it in calls:
-        owner, is_open = function.owner, function.visibility == "pub"
-        if owner and not owner.trait and is_open and owner.type in names:
-            found.append(it._replace(name=f"{path}{owner.type}::{it.name}"))
-        elif not owner and is_open and (path or it.name in names):
-            found.append(it._replace(name=path + it.name))
+        owner, is_given = function.owner, path or it.name in names
+        if function.visibility == "pub" and (not owner.trait and owner.type in names if owner else is_given):
+            found.append(it._replace(name=path + (f"{owner.type}::" if owner else "") + it.name))
     everywhere = names.union(*(given_out(library)[0] for library in libraries()))
-    for owner, it in impls_in(source, everywhere):
-        own = [call for function, call in calls if function.owner == owner and (call.text or call.clauses)]
-        if it.clauses or own or it.text:
-            found.append(it._replace(members=own))
-    return found + list(constants_in(source, names))
+    return [*found, *impls_in(source, everywhere, calls), *constants_in(source, names)]
 
 
 def topics_of(crate):

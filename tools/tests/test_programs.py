@@ -99,7 +99,7 @@ class Runs(Planted):
         self.change(name, "(λ n. n ≡ text.now)", "(λ n. hidden n)")
         for crate in ("dtype_types", "vortex_dtype"):
             self.write(f"crates/{crate}/specs/Lib.antt", "")
-        self.write("docs/GLOSSARY.md", "")
+        self.write("docs/TUTORIAL.md", "")
         self.assert_told("words", "hidden of Rattle.dtype_base.specs.Hidden, cited by new")
         self.write("crates/vortex_dtype/specs/Lib.antt", "pub use Rattle.dtype_base.specs.Hidden\n")
         self.assertNotIn("can't be named", self.run_tool("words")[1])

@@ -12,47 +12,32 @@ from repository import text_of
 
 PAGE, TABLE = "docs/BENCHMARKS.md", "docs/benchmarks.csv"
 
-# What each is called, and its cases as patterns.
-OPERATIONS = [
-    ("==, also ignoring nullability", ["eq/*", "eq_ignore_nullability/*"]),
-    ("hashes", ["hash/*"]),
-    ("texts", ["text/*"]),
-    ("element_size", ["element_size/*"]),
-    ("resolve", ["resolve/*"]),
-    ("find among 10 fields", ["find/*/10"]),
-    ("find among 100 fields", ["find/*/100"]),
-    ("find among 1,000 fields", ["find/*/1000"]),
-    ("find among 10,000 fields", ["find/*/10000"]),
-    ("project a tenth of the fields", ["project/*"]),
-    ("project all fields", ["project_all/*"]),
-    ("build a struct of names and types", ["build/names/*"]),
-    ("the same, and its first find", ["build/and_find/*"]),
-    ("build it with its names", ["build/texts/*", "build/and_drop/*"]),
-    ("read a message", ["read/*"]),
-    ("write a message", ["write/*"]),
-    ("copy or set nullability of a struct", ["copy/wide/*", "copy/deep/*", "with_nullability/wide/*",
-                                             "with_nullability/deep/*"]),
-    ("merge structs, in the Rust by hand", ["merge/wide/*", "merge/deep/*", "merge_equal/wide/*",
-                                            "merge_equal/deep/*"]),
-    ("copy, set nullability of, merge 64 nested lists, extensions", ["copy/*/64", "with_nullability/*/64",
-                                                                     "merge/*/64", "merge_equal/*/64"]),
-    ("path sets: insert, copy", ["set/from_iter/*", "set/copy/*"]),
-    ("path sets: contains", ["set/contains/*"]),
-    ("path sets: cover", ["set/into_iter/*"]),
-]
+# What each is called, and its cases as patterns. The copies of structs come before those of what nests 64 deep.
+OPERATIONS = {name: patterns.split() for name, _, patterns in (line.rpartition(": ") for line in """
+==, also ignoring nullability: eq/* eq_ignore_nullability/*
+hashes: hash/*
+texts: text/*
+element_size: element_size/*
+resolve: resolve/*
+find among 10 fields: find/*/10
+find among 100 fields: find/*/100
+find among 1,000 fields: find/*/1000
+find among 10,000 fields: find/*/10000
+project a tenth of the fields: project/*
+project all fields: project_all/*
+build a struct of names and types: build/names/*
+the same, and its first find: build/and_find/*
+build it with its names: build/texts/* build/and_drop/*
+read a message: read/*
+write a message: write/*
+copy or set nullability of a struct: copy/wide/* copy/deep/* with_nullability/wide/* with_nullability/deep/*
+merge structs, in the Rust by hand: merge/wide/* merge/deep/* merge_equal/wide/* merge_equal/deep/*
+copy, set nullability of, merge 64 nested lists, extensions: copy/*/64 with_nullability/*/64 merge/*/64 merge_equal/*/64
+path sets: insert, copy: set/from_iter/* set/copy/*
+path sets: contains: set/contains/*
+path sets: cover: set/into_iter/*
+""".strip().split("\n"))}
 SUMMARY = re.compile(r"(?m)^\| Operation \| Time, divided by the Rust's \|\n(?:\|.*\n)*")
-
-
-def ratios_by_case():
-    """The library's time divided by the Rust's, of each case that both were measured on but the empty one."""
-    rows = csv.DictReader(text_of(TABLE).splitlines())
-    return {row["case"]: float(row["port_ns"]) / float(row["rust_ns"]) for row in rows
-            if row["port_ns"] and float(row["rust_ns"] or 0) and row["case"] != "empty"}
-
-
-def operation_of(case):
-    """The first operation that a case is of, or None."""
-    return next((name for name, patterns in OPERATIONS if any(fnmatchcase(case, it) for it in patterns)), None)
 
 
 def number(ratio):
@@ -60,29 +45,33 @@ def number(ratio):
     return f"{ratio:.0f}" if ratio >= 9.95 else f"{ratio:.1f}" if ratio >= 0.995 else f"{ratio:.2g}"
 
 
-def summary(ratios):
-    """The table on the page: each operation with the least and the greatest ratio of its cases."""
+def summary():
+    """The table on the page, each operation with the least and the greatest ratio of its cases; and the cases of none.
+    A ratio is the library's time divided by the Rust's, of each case that both were measured on but the empty one."""
+    ratios, rest = {name: [] for name in OPERATIONS}, []
+    for row in csv.DictReader(text_of(TABLE).splitlines()):
+        if row["port_ns"] and float(row["rust_ns"] or 0) and row["case"] != "empty":
+            of = (name for name, patterns in OPERATIONS.items() if any(fnmatchcase(row["case"], it) for it in patterns))
+            ratios.get(next(of, ""), rest).append((float(row["port_ns"]) / float(row["rust_ns"]), row["case"]))
     lines = ["| Operation | Time, divided by the Rust's |", "|---|---|"]
-    for name, _ in OPERATIONS:
-        own = [ratio for case, ratio in ratios.items() if operation_of(case) == name]
-        shown = dict.fromkeys(number(it) for it in (min(own), max(own)))
+    for name, own in ratios.items():
+        shown = dict.fromkeys(number(ratio) for ratio, _ in (min(own), max(own)))
         lines.append(f"| {name} | {' to '.join(shown)} |")
-    return "\n".join(lines) + "\n"
+    return "\n".join(lines) + "\n", [case for _, case in rest]
 
 
 def faults():
     """What of the page isn't of the table: cases of no operation, and a summary of other ranges."""
-    ratios = ratios_by_case()
-    for case in ratios:
-        if operation_of(case) is None:
-            yield PAGE, f"no operation of tools/speed.py has the case {case}"
+    made, rest = summary()
+    for case in rest:
+        yield PAGE, f"no operation of tools/speed.py has the case {case}"
     found = SUMMARY.search(text_of(PAGE))
-    if not found or found[0] != summary(ratios):
+    if not found or found[0] != made:
         yield PAGE, f"its summary isn't of {TABLE}: run tools/speed.py"
 
 
 def main():
-    text = SUMMARY.sub(summary(ratios_by_case()), text_of(PAGE))
+    text = SUMMARY.sub(summary()[0], text_of(PAGE))
     with open(PAGE, "w", encoding="utf-8") as it:
         it.write(text)
 

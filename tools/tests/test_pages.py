@@ -56,7 +56,7 @@ class Pages(Planted):
     def setUp(self):
         super().setUp()
         self.write(RUN_BY, "name: FieldName::new;\n")
-        cases = [pattern.replace("*", "x") for _, patterns in OPERATIONS for pattern in patterns]
+        cases = [pattern.replace("*", "x") for patterns in OPERATIONS.values() for pattern in patterns]
         self.write("docs/benchmarks.csv", "\n".join(["case,port_ns,rust_ns", *(f"{case},20,10" for case in cases)]))
         self.run_tool("reference")
         self.run_tool("speed.py")

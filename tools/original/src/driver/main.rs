@@ -9,7 +9,6 @@ mod line;
 mod living;
 mod messages;
 mod models;
-mod sessions;
 mod told;
 mod types;
 

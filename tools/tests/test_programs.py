@@ -10,6 +10,12 @@ from planted import Planted
 MUST_FAIL = 'cd crates/dtype_base/must-fail && for it in *; do echo "rt: must-fail dtype_base/$it: {}"; done'
 NOT_PROVED = r"printf '== dtype_base\nfn f: not proved: x\nrt: dtype_base NOT PROVED\n7 passed, 1 failed\n'; exit 1"
 KIT = "[ $1 = version ] && echo rattle-kit-1 || echo '  rt ci     {}'"
+# A driver that says the same of all that it can read, and golden files of two lines.
+READS, ROWS = "sed 's/^name_eq a$/unreadable at {1}/; t; s/.*/{0}/'", "rows_from_original bin/driver"
+GOLDEN = "# A name.\n> name a\ntrue\n> name_eq a\nunreadable at 10: expected a name\n"
+FUZZ = "fuzz bin/driver bin/console"
+FORMS = {"type": "T", "find": "NAME S", "contains": "PATH PATH..", "read": "SESSION MSG",
+         "set": "NAME insert PATH|missing T|iter", "session": "NAME new|register PLUGIN"}
 # A script, what it does, a tool with its arguments, the status, and what is told.
 RUNS = [
     ("bin/rt", "", "repository.py", 0, "/bin/rt\n"),
@@ -33,15 +39,31 @@ RUNS = [
      "dtype_base/names_are_empty: refused, as it must be: why\n1 refused, 0 not refused\n"),
     ("bin/rt", "", "wrong_bodies dtype_paths", 2, "there is no crates/dtype_paths/wrong"),
     ("bin/rt", "", "faults", 2, "isn't built"),
-    ("bin/driver", "exit 0", "rows_from_original bin/driver", 1, "0 answers to 1 lines"),
+    ("bin/driver", "exit 0", ROWS, 1, "0 answers to 2 lines"),
+    ("bin/driver", READS.format("true", 10), ROWS, 0, "2 passed, 0 failed\n"),
+    ("bin/driver", READS.format("false", 10), ROWS, 1, "rows_from_original: name a: false\n1 passed, 1 failed\n"),
+    ("bin/driver", READS.format("true", 9), f"{ROWS} --write", 1,
+     "name_eq a: unreadable at 9; what is expected there is written by hand"),
+    ("bin/driver", READS.format("false", 10), f"{ROWS} --write", 0, "2 passed, 0 failed\n"),
+    ("bin/driver", READS.format("false", 10), ROWS, 0, "2 passed, 0 failed\n"),
+    ("bin/driver", "sed 's/^/answer of /'", f"{FUZZ} 300", 0, "\n300 passed, 0 failed\n"),
+    ("bin/driver", "sed 's/^/answer of /; 7s/^/no /'", f"{FUZZ} 300", 1, ", not no answer of"),
+    ("bin/driver", "sed 's/^/answer of /; 7s/^/no /'", f"{FUZZ} 300", 1, "\n299 passed, 1 failed\n"),
+    ("bin/driver", "sed 's/^/answer of /; 300d'", f"{FUZZ} 300", 1, "300 lines have 299 answers"),
+    # (the five of the table, three of sets, two of sessions)
+    ("bin/driver", "sed 's/^/answer of /'", f"{FUZZ} 3000", 0, "fuzz: 3000 lines of 10 commands, seed 1"),
 ]
 
 
 class Runs(Planted):
     def test_tells_each(self):
+        table = "".join(f'    Row("{it}", "{forms}", "", "", "", X),\n' for it, forms in FORMS.items())
         for file, text in (("crates/tests_types/src/lib.rt", "#[test]\nfn one() {}\n"), ("HANDLES", ""),
-                           ("crates/dtype_base/must-fail/other.edit", ""), ("crates/dtype_demo/stdout", "right\n")):
+                           ("crates/dtype_base/must-fail/other.edit", ""), ("crates/dtype_demo/stdout", "right\n"),
+                           ("crates/console_core/src/table.rt", table), ("crates/dtype_console/stdout", GOLDEN),
+                           ("crates/dtype_console/stdin", "# A name.\nname a\nname_eq a\n")):
             self.write(file, text)
+        self.script("console", "sed 's/^/answer of /'")
         for file, text, command, status, told in RUNS:
             with self.subTest(told):
                 self.write(file, f"#!/usr/bin/env bash\n{text}\n", 0o755)
@@ -157,29 +179,3 @@ class RefusedMemory(Planted):
     def test_tells_memory_that_is_held(self):
         self.run_with(freed="(void)0")
         self.assert_told("refused_memory", "name a: with enough memory 'n', and 1 blocks held")
-
-
-class Rows(Planted):
-    """Over a driver that says yes to all that it can read, and golden files of two lines."""
-
-    def setUp(self):
-        super().setUp()
-        self.script("driver", "sed 's/^name_eq a$/unreadable at 10/; t; s/.*/true/'")
-        self.write("crates/dtype_console/stdin", "# Two\nname_eq a a\nname_eq a\n")
-
-    def rows(self, answer, *arguments, at=10):
-        self.write("crates/dtype_console/stdout",
-                   f"# Two\n> name_eq a a\n{answer}\n> name_eq a\nunreadable at {at}: expected a name\n")
-        return self.run_tool("rows_from_original", "bin/driver", *arguments)
-
-    def test_tells_what_is_answered_otherwise(self):
-        self.assertEqual(self.rows("true"), (0, "2 passed, 0 failed\n"))
-        self.assertEqual(self.rows("false"), (1, "rows_from_original: name_eq a a: true\n1 passed, 1 failed\n"))
-
-    def test_tells_where_a_line_fails(self):
-        said = self.rows("true", "--write", at=9)[1]
-        self.assertIn("name_eq a: unreadable at 10; what is expected there is written by hand", said)
-
-    def test_writes_the_answers(self):
-        self.rows("false", "--write")
-        self.assertEqual(self.run_tool("rows_from_original", "bin/driver")[0], 0)

@@ -7,8 +7,7 @@ import os
 import re
 from collections import namedtuple
 
-from lexer import end_of
-from repository import KEPT, functions_of, given_out, heads_of, libraries, lines_above, owner_at, sources
+from repository import KEPT, end_of, functions_of, given_out, heads_of, libraries, lines_above, owner_at, sources
 
 # `kind` is struct, enum, trait, fn, const, macro or impl (of a trait); `name` is as in a path. `text` is the comment
 # without its errors, a list of paragraphs. `parts` are variants, fields or associated items, each with its comment;

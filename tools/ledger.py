@@ -10,9 +10,8 @@ import re
 from collections import defaultdict, namedtuple
 from glob import glob
 
-from lexer import bare
 from repository import (
-    changes_of, functions, functions_of, given_out, heads_of, is_public, libraries, owner_at, sources, text_of,
+    bare, changes_of, functions, functions_of, given_out, heads_of, is_public, libraries, owner_at, sources, text_of,
 )
 
 LEDGER = "docs/PROMISES.md"

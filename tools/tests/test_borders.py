@@ -1,7 +1,7 @@
 # SPDX-License-Identifier: Apache-2.0
 # SPDX-FileCopyrightText: Copyright the Vortex contributors
 
-"""tools/borders, with lexer.py."""
+"""tools/borders, with repository.py."""
 from planted import Planted
 
 PATH = "crates/dtype_paths/src/field_path.rt"

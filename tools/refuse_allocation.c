@@ -34,14 +34,11 @@ static struct block {
 } blocks[MOST_BLOCKS];
 static int block_count;
 
-static long first_refused, stretch_refused;
-static int is_onward;
+static long first_refused, stretch_refused, is_onward;
 
 static int refuses(void) {
     now->requests++;
-    if (now == &rest || first_refused <= 0)
-        return 0;
-    if (stretch_refused > 0 && now != &stretches[stretch_refused - 1])
+    if (now == &rest || first_refused <= 0 || (stretch_refused > 0 && now != &stretches[stretch_refused - 1]))
         return 0;
     int refused = is_onward ? now->requests >= first_refused : now->requests == first_refused;
     now->refused += refused;
@@ -83,12 +80,9 @@ void *realloc(void *old, size_t size) {
         return NULL;
     struct block *block = held(old);
     void *start = __libc_realloc(old, size);
-    if (!start)
-        return NULL;
-    if (!block)
+    if (!start || !block)
         return taken(start);
-    block->start = start;
-    return start;
+    return block->start = start;
 }
 
 static void begin(void) {
@@ -97,38 +91,35 @@ static void begin(void) {
     now = &stretches[stretch_count++];
 }
 
-static void end(void) { now = &rest; }
-
-static void tell(int file, const struct stretch *one) {
-    if (dprintf(file, "%ld %ld %ld\n", one->requests, one->refused, one->held) < 0)
-        abort();
-}
-
 ssize_t write(int file, const void *bytes, size_t length) {
     if (file == 2 && length == 6 && !memcmp(bytes, "begin\n", 6))
         begin();
     if (file == 2 && length == 4 && !memcmp(bytes, "end\n", 4))
-        end();
+        now = &rest;
     return syscall(SYS_write, file, bytes, length);
 }
 
+// What the environment asks for: a number, or 0.
+static long setting(const char *name) {
+    const char *text = getenv(name);
+    return text ? atol(text) : 0;
+}
+
 __attribute__((constructor)) static void load(void) {
-    const char *text = getenv("REFUSED");
-    first_refused = text ? atol(text) : 0;
-    const char *place = getenv("STRETCH");
-    stretch_refused = place ? atol(place) : 0;
-    is_onward = getenv("ONWARD") != NULL;
-    if (getenv("WHOLE"))
+    first_refused = setting("REFUSED");
+    stretch_refused = setting("STRETCH");
+    is_onward = setting("ONWARD");
+    if (setting("WHOLE"))
         begin();
 }
 
 __attribute__((destructor)) static void unload(void) {
-    end();
+    now = &rest;
     int file = open(getenv("COUNTS"), O_WRONLY | O_CREAT | O_TRUNC, 0666);
-    if (file < 0)
-        abort();
-    for (int i = 0; i < stretch_count; i++)
-        tell(file, &stretches[i]);
-    tell(file, &rest);
+    for (int i = 0; i <= stretch_count; i++) {
+        const struct stretch *one = i < stretch_count ? &stretches[i] : &rest;
+        if (dprintf(file, "%ld %ld %ld\n", one->requests, one->refused, one->held) < 0)
+            abort();
+    }
     close(file);
 }

@@ -11,7 +11,7 @@ from collections import defaultdict, namedtuple
 from glob import glob
 
 from repository import (
-    bare, changes_of, functions, functions_of, given_out, heads_of, is_public, libraries, owner_at, sources, text_of,
+    bare, functions, functions_of, given_out, heads_of, is_public, libraries, owner_at, sources, text_of,
 )
 
 LEDGER = "docs/PROMISES.md"
@@ -271,10 +271,13 @@ class Graph:
 
 def changed_by(edit):
     """The functions that a mutation changes; none where it changes what is outside of any."""
-    crate, file, changed = edit.split("/")[0], f"crates/{edit}.edit", set()
-    for source, old, _ in changes_of(file) if os.path.exists(file) else ():
-        at = text_of(f"crates/{crate}/{source}").find(old)
-        changed |= {it.path for it in functions_of(f"crates/{crate}/{source}") if it.start <= at < it.end}
+    file, changed = f"crates/{edit}.edit", set()
+    for kind, text in re.findall(r"(?m)^(file|old): ?(.*)$", text_of(file)) if os.path.exists(file) else ():
+        if kind == "file":
+            source = f"crates/{edit.split('/')[0]}/{text.strip()}"
+        else:
+            at = text_of(source).find(text)
+            changed |= {it.path for it in functions_of(source) if it.start <= at < it.end}
     return changed
 
 

@@ -15,6 +15,7 @@ import sys
 from collections import namedtuple
 from functools import lru_cache
 from glob import glob
+from itertools import takewhile
 
 FROM = os.getcwd()
 os.chdir(os.path.dirname(os.path.dirname(os.path.realpath(__file__))))
@@ -149,18 +150,6 @@ def console_rows():
             yield Row(file, *texts[:5])
 
 
-def changes_of(edit):
-    """The changes of a mutation: each the file in its crate, the old text and the new one."""
-    file = old = ""
-    for kind, text in re.findall(r"(?m)^(file|old|new): ?(.*)$", text_of(edit)):
-        if kind == "file":
-            file = text.strip()
-        elif kind == "old":
-            old = text
-        else:
-            yield file, old, text
-
-
 def end_of(shape, start, pair=r"([(\[{])|[)\]}]"):
     """The index after what closes what opens at `start`: of a source's shape a bracket."""
     depth = 0
@@ -233,15 +222,9 @@ def owner_at(owners, at):
 
 def lines_above(text, start):
     """The comment lines and the attributes right above an index, each without indentation, in order."""
-    lines, at = [], text.rfind("\n", 0, start)
-    while at > 0:
-        before = text.rfind("\n", 0, at)
-        line = text[before + 1:at].strip()
-        if not line.startswith(("#[", "//")) or line.startswith("// SPDX"):
-            break
-        lines.insert(0, line)
-        at = before
-    return lines
+    above = map(str.strip, reversed(text[:max(text.rfind("\n", 0, start), 0)].split("\n")))
+    is_its = lambda line: line.startswith(("#[", "//")) and not line.startswith("// SPDX")
+    return list(takewhile(is_its, above))[::-1]
 
 
 @lru_cache(maxsize=None)

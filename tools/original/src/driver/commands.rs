@@ -70,6 +70,13 @@ macro_rules! methods {
     };
 }
 
+/// Adds commands: each with what it takes, and what it answers.
+macro_rules! calls {
+    ($console:ident: $($command:ident($($given:ident: $taken:ty),*) $answer:expr;)*) => {
+        $($console.add(stringify!($command), |($($given,)*): ($($taken,)*)| -> Answer { $answer.told() });)*
+    };
+}
+
 /// Adds commands that do the same to values of different types.
 macro_rules! alike {
     ($console:ident, $run:ident: $($command:ident $of:ty),* $(,)?) => {
@@ -87,7 +94,7 @@ pub struct Console {
 impl Console {
     pub fn new() -> Self {
         let mut console = Self { commands: HashMap::new(), sets: RefCell::default(), sessions: RefCell::default() };
-        for add_to in [add_alike, add_types, add_structs, add_extensions, add_paths, add_numbers] {
+        for add_to in [add_alike, add_types, add_structs, add_extensions, add_paths, add_numbers, add_natives] {
             add_to(&mut console);
         }
         console
@@ -149,6 +156,20 @@ fn hash_equally<T: Hash>((a, b): (T, T)) -> bool {
     hash_of(&a) == hash_of(&b)
 }
 
+/// Adds the commands of the typed extensions of a plugin.
+macro_rules! typed {
+    ($console:ident, $plugin:literal: $new:ident $downcast:ident $with_nullability:ident) => {
+        calls! { $console:
+            $new(metadata: Bytes, storage: DType) Plugin($plugin).made(&metadata.0, storage).map(|it| it.erased());
+            $downcast(it: ExtDTypeRef) {
+                let typed = Plugin($plugin).downcast(&it)?;
+                format!("{} {}", typed.metadata().clone().told()?, typed.storage_dtype().told()?)
+            };
+            $with_nullability(n: Nullability, it: ExtDTypeRef) Plugin($plugin).downcast(&it)?.with_nullability(n);
+        }
+    };
+}
+
 /// The names of tests without their `is_`, and whether a type passes them.
 macro_rules! tests {
     ($dtype:expr, $($test:ident)*) => {
@@ -178,58 +199,44 @@ fn add_types(c: &mut Console) {
         as_any_size_list_element_opt, into_any_size_list_element_opt, as_map_opt, into_map_opt, as_struct_fields_opt,
         into_struct_fields_opt, as_struct_fields, into_struct_fields, as_union_variants_opt, into_union_variants_opt,
         as_extension_opt, as_extension);
-    c.add("element_size", |dtype: DType| element_size(&dtype));
-    c.add("to_decimal", to_decimal);
-    c.add("to_ptype", |dtype: DType| PType::try_from(&dtype));
-    c.add("bytes_type", |()| DType::BYTES);
-    c.add("from_ptype", from_ptype);
-    c.add("list", |(n, element): (Nullability, DType)| DType::List(Arc::new(element), n));
-    c.add("fixed_size_list", |(n, size, element): (Nullability, u32, DType)| {
-        DType::FixedSizeList(Arc::new(element), size, n)
-    });
-    c.add("map", |(n, sorted, key, value): (Nullability, bool, DType, DType)| {
-        MapDType::try_new(key, value, sorted).map(|map| DType::Map(map, n))
-    });
-    c.add("struct", |(n, names, types): (Nullability, FieldNames, Vec<DType>)| {
-        DType::Struct(StructFields::new(names, types), n)
-    });
-    c.add("kinds", |dtype: DType| {
-        holding(tests!(dtype, is_boolean is_primitive is_unsigned_int is_signed_int is_int is_float is_decimal is_utf8
-            is_binary is_list is_fixed_size_list is_map is_struct is_union is_variant is_extension is_nested))
-    });
-    c.add("can_be_nonnullable", |dtype: DType| can_be_nonnullable(&dtype));
-    c.add("nullability_or", either);
-    c.add("nullability_long_text", |n: Nullability| Text(format!("{n:#}")));
-    add_comparisons(c);
+    calls! { c:
+        element_size(dtype: DType) element_size(&dtype);
+        to_decimal(dtype: DType) same(DecimalDType::try_from(&dtype)?, DecimalDType::try_from(dtype)?);
+        to_ptype(dtype: DType) PType::try_from(&dtype);
+        bytes_type() DType::BYTES;
+        from_ptype(ptype: PType) same(DType::from(ptype), <&DType>::from(ptype).clone());
+        list(n: Nullability, element: DType) DType::List(Arc::new(element), n);
+        fixed_size_list(n: Nullability, size: u32, element: DType) DType::FixedSizeList(Arc::new(element), size, n);
+        map(n: Nullability, sorted: bool, key: DType, value: DType) {
+            DType::Map(MapDType::try_new(key, value, sorted)?, n)
+        };
+        struct(n: Nullability, names: FieldNames, types: Vec<DType>) DType::Struct(StructFields::new(names, types), n);
+        kinds(dtype: DType) holding(tests!(dtype, is_boolean is_primitive is_unsigned_int is_signed_int is_int is_float
+            is_decimal is_utf8 is_binary is_list is_fixed_size_list is_map is_struct is_union is_variant is_extension
+            is_nested));
+        can_be_nonnullable(dtype: DType) can_be_nonnullable(&dtype);
+        nullability_or(a: Nullability, b: Nullability) {
+            let mut assigned = a;
+            assigned |= b;
+            same(assigned, a | b)
+        };
+        nullability_long_text(n: Nullability) Text(format!("{n:#}"));
+        eq_ignore_nullability(a: DType, b: DType) a.eq_ignore_nullability(&b);
+        subset(a: DType, b: DType) is_subset(&a, &b);
+        superset(a: DType, b: DType) is_subset(&b, &a);
+        merge_nullability(a: DType, b: DType) bound(|a, b| a || b, &a, &b);
+        intersect_nullability(a: DType, b: DType) bound(|a, b| a && b, &a, &b);
+        // (the call is the crate's own; what it is for is that these hash the same)
+        hash_ignore_nullability_eq(a: DType, b: DType) a.eq_ignore_nullability(&b);
+        inner_eq(a: DType, b: DType) insides(&a, &b, "eq");
+        inner_hash_eq(a: DType, b: DType) insides(&a, &b, "hash_eq");
+        inner_eq_ignore_nullability(a: DType, b: DType) insides(&a, &b, "eq_ignore_nullability");
+    }
 }
 
-fn to_decimal(dtype: DType) -> Answer<DecimalDType> {
-    let decimal = DecimalDType::try_from(&dtype)?;
-    if DecimalDType::try_from(dtype)? == decimal { Ok(decimal) } else { stop("the two conversions differ") }
-}
-
-fn from_ptype(ptype: PType) -> Answer<DType> {
-    let (own, lent): (DType, &DType) = (ptype.into(), ptype.into());
-    if own == *lent { Ok(own) } else { stop("the two conversions differ") }
-}
-
-fn either((a, b): (Nullability, Nullability)) -> Answer<Nullability> {
-    let mut assigned = a;
-    assigned |= b;
-    if assigned == a | b { Ok(assigned) } else { stop("`|=` differs from `|`") }
-}
-
-fn add_comparisons(c: &mut Console) {
-    c.add("eq_ignore_nullability", |(a, b): (DType, DType)| a.eq_ignore_nullability(&b));
-    c.add("subset", |(a, b): (DType, DType)| is_subset(&a, &b));
-    c.add("superset", |(a, b): (DType, DType)| is_subset(&b, &a));
-    c.add("merge_nullability", |(a, b): (DType, DType)| bound(|a, b| a || b, &a, &b));
-    c.add("intersect_nullability", |(a, b): (DType, DType)| bound(|a, b| a && b, &a, &b));
-    // The call is the crate's own; what it is for is that these hash the same.
-    c.add("hash_ignore_nullability_eq", |(a, b): (DType, DType)| a.eq_ignore_nullability(&b));
-    c.add("inner_eq", |(a, b): (DType, DType)| insides(&a, &b, "eq"));
-    c.add("inner_hash_eq", |(a, b): (DType, DType)| insides(&a, &b, "hash_eq"));
-    c.add("inner_eq_ignore_nullability", |(a, b): (DType, DType)| insides(&a, &b, "eq_ignore_nullability"));
+/// What two ways to the same give.
+fn same<T: PartialEq>(one: T, other: T) -> Answer<T> {
+    if one == other { Ok(one) } else { stop("the two ways differ") }
 }
 
 /// Compares what two types of one kind hold.
@@ -262,101 +269,71 @@ fn add_structs(c: &mut Console) {
     methods!(c, MapDType: keys_sorted, key_dtype, value_dtype, entries_dtype);
     methods!(c, FieldNames: names_len = len, names_is_empty = is_empty, names_get = get(usize),
         names_find = find(FieldName));
-    add_struct_calls(c);
-    c.add("union_new", |(names, types): (FieldNames, Vec<DType>)| UnionVariants::new(names, types));
-    c.add("union_try_new", |(names, Tags(tags), types): (FieldNames, Tags, Vec<DType>)| {
-        UnionVariants::try_new(names, types, tags)
-    });
-    c.add("type_ids", |union: UnionVariants| joined(union.type_ids().iter().copied(), ","));
-    c.add("variants", |union: UnionVariants| several(union.variants()));
-    c.add("map_try_new", |(sorted, key, value): (bool, DType, DType)| {
-        DType::map(key, value, sorted, Nullability::NonNullable)
-    });
-    c.add("name_eq_str", |(a, b): (FieldName, FieldName)| a == b.as_ref());
-    c.add("names_at", |(i, names): (usize, FieldNames)| names[i].clone());
-    c.add("names_eq_texts", |(a, b): (FieldNames, FieldNames)| a == b.as_ref());
-    c.add("names_iter", |names: FieldNames| joined(names.iter(), ","));
-    c.add("names_into_iter", |names: FieldNames| joined(names, ","));
-    c.add("names_left", |(steps, names): (usize, FieldNames)| {
-        let lent = names.iter().skip(steps).len();
-        format!("{lent} {}", names.into_iter().skip(steps).len())
-    });
-}
-
-fn add_struct_calls(c: &mut Console) {
-    c.add("struct_new", |(names, types): (FieldNames, Vec<DType>)| StructFields::new(names, types));
-    c.add("struct_from_fields", |(names, types): (FieldNames, Vec<DType>)| {
-        StructFields::from_fields(names, types.into_iter().map(FieldDType::from).collect())
-    });
-    c.add("struct_from_iter", |(names, types): (FieldNames, Vec<DType>)| StructFields::new(names, types));
-    c.add("struct_empty", |()| StructFields::empty());
-    c.add("find_counted", |(name, fields): (FieldName, StructFields)| -> Answer {
-        Ok(format!("{} {}", fields.find(name).told()?, comparisons(fields.nfields())))
-    });
-    c.add("fields", |fields: StructFields| several(fields.fields()));
-    c.add("field_dtypes", |fields: StructFields| several(fields.field_dtypes()));
-    c.add("project", |(names, fields): (FieldNames, StructFields)| project(names.as_ref(), &fields));
-    c.add("disjoint_merge", |(a, b): (StructFields, StructFields)| a.disjoint_merge(&b));
-    c.add("indented", |fields: StructFields| Text(format!("{fields:#}")));
+    calls! { c:
+        struct_new(names: FieldNames, types: Vec<DType>) StructFields::new(names, types);
+        struct_from_fields(names: FieldNames, types: Vec<DType>) {
+            StructFields::from_fields(names, types.into_iter().map(FieldDType::from).collect())
+        };
+        struct_from_iter(names: FieldNames, types: Vec<DType>) StructFields::new(names, types);
+        struct_empty() StructFields::empty();
+        find_counted(name: FieldName, fields: StructFields) {
+            format!("{} {}", fields.find(name).told()?, comparisons(fields.nfields()))
+        };
+        fields(fields: StructFields) several(fields.fields());
+        field_dtypes(fields: StructFields) several(fields.field_dtypes());
+        project(names: FieldNames, fields: StructFields) project(names.as_ref(), &fields);
+        disjoint_merge(a: StructFields, b: StructFields) a.disjoint_merge(&b);
+        indented(fields: StructFields) Text(format!("{fields:#}"));
+        union_new(names: FieldNames, types: Vec<DType>) UnionVariants::new(names, types);
+        union_try_new(names: FieldNames, tags: Tags, types: Vec<DType>) UnionVariants::try_new(names, types, tags.0);
+        type_ids(union: UnionVariants) joined(union.type_ids().iter().copied(), ",");
+        variants(union: UnionVariants) several(union.variants());
+        map_try_new(sorted: bool, key: DType, value: DType) DType::map(key, value, sorted, Nullability::NonNullable);
+        name_eq_str(a: FieldName, b: FieldName) a == b.as_ref();
+        names_at(i: usize, names: FieldNames) names[i].clone();
+        names_eq_texts(a: FieldNames, b: FieldNames) a == b.as_ref();
+        names_iter(names: FieldNames) joined(names.iter(), ",");
+        names_into_iter(names: FieldNames) joined(names, ",");
+        names_left(steps: usize, names: FieldNames) {
+            format!("{} {}", names.iter().skip(steps).len(), names.clone().into_iter().skip(steps).len())
+        };
+    }
 }
 
 fn add_extensions(c: &mut Console) {
     methods!(c, ExtDTypeRef: storage_dtype, extension_nullability = nullability, extension_is_nullable = is_nullable,
         extension_with_nullability = with_nullability(Nullability));
-    for name in ["extension", "foreign"] {
-        c.add(name, |(Id(id), Bytes(metadata), storage)| ForeignExtDType::from_parts(id, metadata, storage));
-    }
-    for name in ["metadata", "serialize_metadata"] {
-        c.add(name, |it: ExtDTypeRef| it.serialize_metadata().map(Bytes));
-    }
-    c.add("id", |it: ExtDTypeRef| id(&it));
-    c.add("extension_parts", |it: ExtDTypeRef| -> Answer {
-        let metadata = Bytes(it.serialize_metadata()?).told()?;
-        Ok(format!("{} {metadata} {}", id(&it), it.storage_dtype().told()?))
-    });
-    c.add("metadata_text", |it: ExtDTypeRef| Text(it.display_metadata().to_string()));
-    add_typed(c, Plugin("x.tag"), ["tag_new", "tag_downcast", "tag_with_nullability"]);
-    add_typed(c, Plugin("x.word"), ["word_new", "word_downcast", "word_with_nullability"]);
-    c.add("write", |dtype: DType| pb::DType::try_from(&dtype));
-    c.add("path_message", |parts: Vec<pb::Field>| several(&parts));
-    c.add("read_path", |path: Vec<pb::Field>| FieldPath::try_from(&pb::FieldPath { path }));
-    // The original's conversion is prost's; what has no name is none.
-    c.add("pb_from_number", |number: i64| usize::try_from(number).ok().and_then(|place| PTYPES.get(place).copied()));
-    add_sessions(c);
-}
-
-/// The commands of a typed extension.
-fn add_typed(c: &mut Console, plugin: Plugin, [new, downcast, with_nullability]: [&'static str; 3]) {
-    let (of_new, of_downcast) = (plugin.clone(), plugin.clone());
-    c.add(new, move |(Bytes(metadata), storage): (Bytes, DType)| of_new.made(&metadata, storage).map(|it| it.erased()));
-    c.add(downcast, move |it: ExtDTypeRef| -> Answer {
-        let typed = of_downcast.downcast(&it)?;
-        Ok(format!("{} {}", typed.metadata().clone().told()?, typed.storage_dtype().told()?))
-    });
-    c.add(with_nullability, move |(n, it): (Nullability, ExtDTypeRef)| {
-        plugin.downcast(&it).map(|typed| typed.with_nullability(n))
-    });
-}
-
-fn add_sessions(c: &mut Console) {
     methods!(c, Session: allows_unknown);
-    c.add("registry", |(session, Id(id)): (Session, Id)| -> Answer<bool> {
-        Ok(session.made().dtypes().registry().get(&id).is_some())
-    });
-    c.add("deserialize", |(session, Id(id), Bytes(metadata), storage): (Session, Id, Bytes, DType)| {
-        deserialized(&session, id, metadata, storage)
-    });
-    c.add("read", |(session, message): (Session, pb::DType)| read(&session.made(), &message));
-    c.add("normal", |(session, message): (Session, pb::DType)| -> Answer {
-        pb::DType::try_from(&read(&session.made(), &message)?).told()
-    });
-    c.add("round_trip", |(session, dtype): (Session, DType)| -> Answer<DType> {
-        Ok(DType::from_proto(&pb::DType::try_from(&dtype)?, &session.made())?)
-    });
-    c.add("read_eq", |(session, a, b): (Session, pb::DType, pb::DType)| -> Answer<bool> {
-        let session = session.made();
-        Ok(read(&session, &a)? == read(&session, &b)?)
-    });
+    typed!(c, "x.tag": tag_new tag_downcast tag_with_nullability);
+    typed!(c, "x.word": word_new word_downcast word_with_nullability);
+    calls! { c:
+        extension(id: Id, metadata: Bytes, storage: DType) ForeignExtDType::from_parts(id.0, metadata.0, storage);
+        foreign(id: Id, metadata: Bytes, storage: DType) ForeignExtDType::from_parts(id.0, metadata.0, storage);
+        metadata(it: ExtDTypeRef) it.serialize_metadata().map(Bytes);
+        serialize_metadata(it: ExtDTypeRef) it.serialize_metadata().map(Bytes);
+        id(it: ExtDTypeRef) id(&it);
+        extension_parts(it: ExtDTypeRef) {
+            let metadata = Bytes(it.serialize_metadata()?).told()?;
+            format!("{} {metadata} {}", id(&it), it.storage_dtype().told()?)
+        };
+        metadata_text(it: ExtDTypeRef) Text(it.display_metadata().to_string());
+        write(dtype: DType) pb::DType::try_from(&dtype);
+        path_message(parts: Vec<pb::Field>) several(&parts);
+        read_path(path: Vec<pb::Field>) FieldPath::try_from(&pb::FieldPath { path });
+        // (the original's conversion is prost's; what has no name is none)
+        pb_from_number(number: i64) usize::try_from(number).ok().and_then(|place| PTYPES.get(place).copied());
+        registry(session: Session, id: Id) session.made().dtypes().registry().get(&id.0).is_some();
+        deserialize(session: Session, id: Id, metadata: Bytes, storage: DType) {
+            deserialized(&session, id.0, metadata.0, storage)
+        };
+        read(session: Session, message: pb::DType) read(&session.made(), &message);
+        normal(session: Session, message: pb::DType) pb::DType::try_from(&read(&session.made(), &message)?);
+        round_trip(session: Session, dtype: DType) DType::from_proto(&pb::DType::try_from(&dtype)?, &session.made());
+        read_eq(session: Session, a: pb::DType, b: pb::DType) {
+            let session = session.made();
+            read(&session, &a)? == read(&session, &b)?
+        };
+    }
 }
 
 /// The extension that a session makes of its parts; of an id that it doesn't know by a message, in which no plugin is
@@ -375,34 +352,34 @@ fn add_paths(c: &mut Console) {
     methods!(c, FieldPath: is_root, step_into);
     methods!(c, Field: is_named);
     methods!(c, FieldMask: mask_step_into = step_into, starting_field, matches_all, matches_root);
-    c.add("parts", |path: FieldPath| several(path.parts()));
-    c.add("resolve", |(path, dtype): (FieldPath, DType)| resolve(&path, &dtype));
-    c.add("exists_in", exists_in);
-    c.add("overlap", |(a, b): (FieldPath, FieldPath)| a.overlap(&b));
-    c.add("push", |(path, step): (FieldPath, Field)| path.push(step));
-    c.add("starts_with_field", |(path, step): (FieldPath, Field)| starts_with_field(&path, &step));
-    c.add("as_name", |step: Field| step.as_name().map(FieldName::from));
-    c.add("step_from_text", |name: FieldName| Field::from(name.as_ref()));
-    c.add("from_step", |step: Field| FieldPath::from(step));
-    c.add("from_steps", |steps: Vec<Field>| FieldPath::from_iter(steps));
-    c.add("from_name", |name: FieldName| FieldPath::from_name(name));
-    c.add("cover", |items: Vec<FieldPath>| cover(FieldPathSet::from_iter(items)));
-    c.add("cover_counted", |items: Vec<FieldPath>| -> Answer {
-        let cover: Vec<FieldPath> = FieldPathSet::from_iter(items).into_iter().collect();
-        Ok(format!("{} {}", paths(&cover)?, visits(&cover)))
-    });
-    c.add("members", |items: Vec<FieldPath>| paths(FieldPathSet::from_iter(items).iter()));
-    c.add("contains", |(path, items): (FieldPath, Vec<FieldPath>)| FieldPathSet::from_iter(items).contains(&path));
-    c.add("project_paths", |(dtype, items): (DType, Vec<FieldPath>)| {
-        project_paths(&dtype, &items.iter().map(FieldPath::parts).collect::<Vec<_>>())
-    });
-}
-
-/// The original's `exists_in` tells whether `resolve` gives a type.
-fn exists_in((path, dtype): (FieldPath, DType)) -> bool {
-    let found = resolve(&path, &dtype).is_some();
-    assert!(found || !path.exists_in(dtype), "a path exists that resolves to nothing");
-    found
+    calls! { c:
+        parts(path: FieldPath) several(path.parts());
+        resolve(path: FieldPath, dtype: DType) resolve(&path, &dtype);
+        // (the original's tells whether `resolve` gives a type)
+        exists_in(path: FieldPath, dtype: DType) {
+            let found = resolve(&path, &dtype).is_some();
+            assert!(found || !path.exists_in(dtype), "a path exists that resolves to nothing");
+            found
+        };
+        overlap(a: FieldPath, b: FieldPath) a.overlap(&b);
+        push(path: FieldPath, step: Field) path.push(step);
+        starts_with_field(path: FieldPath, step: Field) starts_with_field(&path, &step);
+        as_name(step: Field) step.as_name().map(FieldName::from);
+        step_from_text(name: FieldName) Field::from(name.as_ref());
+        from_step(step: Field) FieldPath::from(step);
+        from_steps(steps: Vec<Field>) FieldPath::from_iter(steps);
+        from_name(name: FieldName) FieldPath::from_name(name);
+        cover(items: Vec<FieldPath>) cover(FieldPathSet::from_iter(items));
+        cover_counted(items: Vec<FieldPath>) {
+            let cover: Vec<FieldPath> = FieldPathSet::from_iter(items).into_iter().collect();
+            format!("{} {}", paths(&cover)?, visits(&cover))
+        };
+        members(items: Vec<FieldPath>) paths(FieldPathSet::from_iter(items).iter());
+        contains(path: FieldPath, items: Vec<FieldPath>) FieldPathSet::from_iter(items).contains(&path);
+        project_paths(dtype: DType, items: Vec<FieldPath>) {
+            project_paths(&dtype, &items.iter().map(FieldPath::parts).collect::<Vec<_>>())
+        };
+    }
 }
 
 /// Does this for the native type of this name, as `T`.
@@ -474,36 +451,30 @@ fn add_numbers(c: &mut Console) {
     methods!(c, DecimalDType: precision, scale, required_bit_width);
     methods!(c, DecimalType: decimal_type_width = byte_width);
     methods!(c, PType: byte_width, bit_width, max_value_as_u64, to_signed, to_unsigned);
-    c.add("decimal", |(precision, scale)| DecimalDType::try_new(precision, scale));
-    c.add("decimal_new", |(precision, scale)| DecimalDType::new(precision, scale));
-    c.add("smallest_decimal_value_type", |decimal: DecimalDType| DecimalType::smallest_decimal_value_type(&decimal));
-    c.add("is_compatible_decimal_value_type", |(native, decimal): (DecimalType, DecimalDType)| {
-        native.is_compatible_decimal_value_type(decimal)
-    });
-    c.add("decimal_type_from", |ptype: PType| DecimalType::try_from(ptype));
-    c.add("decimal_maxima", |()| format!("{MAX_PRECISION} {MAX_SCALE}"));
-    add_primitives(c);
-    add_natives(c);
-}
-
-fn add_primitives(c: &mut Console) {
-    c.add("ptype_kinds", |ptype: PType| {
-        let (unsigned, signed) = (ptype.is_unsigned_int(), ptype.is_signed_int());
-        let more = [("int", ptype.is_int()), ("float", ptype.is_float())];
-        holding([("unsigned_int", unsigned), ("signed_int", signed)].into_iter().chain(more))
-    });
-    c.add("pb_number", |ptype: PType| i32::from(pb::PType::from(ptype)));
     c.add("min_unsigned_ptype_for_value", PType::min_unsigned_ptype_for_value);
     c.add("min_signed_ptype_for_value", PType::min_signed_ptype_for_value);
-    // The original asserts the sign in a debug build alone; here both names of that sign are a condition.
-    c.add("max_unsigned_ptype", |(a, b): (PType, PType)| match a.is_unsigned_int() && b.is_unsigned_int() {
-        true => Ok(a.max_unsigned_ptype(b)),
-        false => stop("condition: two unsigned names"),
-    });
-    c.add("max_signed_ptype", |(a, b): (PType, PType)| match a.is_signed_int() && b.is_signed_int() {
-        true => Ok(a.max_signed_ptype(b)),
-        false => stop("condition: two signed names"),
-    });
+    calls! { c:
+        decimal(precision: u8, scale: i8) DecimalDType::try_new(precision, scale);
+        decimal_new(precision: u8, scale: i8) DecimalDType::new(precision, scale);
+        smallest_decimal_value_type(decimal: DecimalDType) DecimalType::smallest_decimal_value_type(&decimal);
+        is_compatible_decimal_value_type(native: DecimalType, decimal: DecimalDType) {
+            native.is_compatible_decimal_value_type(decimal)
+        };
+        decimal_type_from(ptype: PType) DecimalType::try_from(ptype);
+        decimal_maxima() format!("{MAX_PRECISION} {MAX_SCALE}");
+        native_dtype(native: Native) native.0;
+        ptype_kinds(ptype: PType) holding(tests!(ptype, is_unsigned_int is_signed_int is_int is_float));
+        pb_number(ptype: PType) i32::from(pb::PType::from(ptype));
+        // (the original asserts the sign in a debug build alone; here both names of that sign are a condition)
+        max_unsigned_ptype(a: PType, b: PType) match a.is_unsigned_int() && b.is_unsigned_int() {
+            true => Ok(a.max_unsigned_ptype(b)),
+            false => stop("condition: two unsigned names"),
+        };
+        max_signed_ptype(a: PType, b: PType) match a.is_signed_int() && b.is_signed_int() {
+            true => Ok(a.max_signed_ptype(b)),
+            false => stop("condition: two signed names"),
+        };
+    }
     visitors!(c, PType: match_each match_each_native_ptype, match_each_simd match_each_native_simd_ptype,
         match_each_integer match_each_integer_ptype, match_each_unsigned match_each_unsigned_integer_ptype,
         match_each_signed match_each_signed_integer_ptype, match_each_float match_each_float_ptype);
@@ -544,7 +515,6 @@ fn add_natives(c: &mut Console) {
             format!("{} {} {}", T::PTYPE, T::max_value_as_u64(), <T as PhysicalPType>::Physical::PTYPE)
         };
     }
-    c.add("native_dtype", |native: Native| native.0);
 }
 
 fn wrapped<T: NativeDType>(around: &str) -> Answer<DType> {

@@ -19,33 +19,14 @@ use vortex_array::dtype::PType;
 /// messages, then the others, whether it is nullable at last.
 macro_rules! kinds {
     ($($word:literal $kind:ident { $($field:ident),* })*) => {
-        const KINDS: &[&str] = &[$($word),*];
+        /// The word of each kind, and a message of it without fields.
+        const KINDS: &[(&str, fn() -> DtypeType)] = &[$(($word, || DtypeType::$kind($kind::default().into()))),*];
 
-        /// Reads the fields of a message of this kind, in any order, and the brace behind them.
-        fn read_fields(word: &str, line: &mut Line) -> Answer<Option<DtypeType>> {
-            match word {
-                $($word => {
-                    #[allow(unused_mut)]
-                    let mut made = $kind::default();
-                    while let Some(name) = field_or_end(&[$(shown(stringify!($field))),*], line)? {
-                        match name {
-                            $(_ if name == shown(stringify!($field)) => made.$field.read_more(name, line)?,)*
-                            _ => {}
-                        }
-                        line.blanks();
-                    }
-                    Ok(Some(DtypeType::$kind(made.into())))
-                })*
-                _ => field_or_end(&[], line).map(|_| None),
-            }
-        }
-
-        /// The word of a message's kind, and its fields as they are written.
-        fn written_fields(kind: &DtypeType) -> Answer<(&'static str, Vec<String>)> {
+        /// The word of a message's kind, and its fields by their names.
+        fn fields_of(kind: &mut DtypeType) -> (&'static str, Vec<(&'static str, &mut dyn Held)>) {
             match kind {
                 $(DtypeType::$kind(_it) => {
-                    let fields: &[Vec<String>] = &[$(_it.$field.written(shown(stringify!($field)))?),*];
-                    Ok(($word, fields.concat()))
+                    ($word, vec![$((stringify!($field).trim_start_matches("r#"), &mut _it.$field as &mut dyn Held)),*])
                 })*
             }
         }
@@ -66,16 +47,6 @@ kinds! {
     "struct" Struct { names, dtypes, nullable }
     "union" Union { names, dtypes, type_ids, nullable }
     "extension" Extension { id, storage_dtype, metadata }
-}
-
-/// A field's name as it stands in messages.
-fn shown(name: &str) -> &str {
-    name.trim_start_matches("r#")
-}
-
-/// The name of the field that stands here, or none at the closing brace.
-fn field_or_end<'a>(known: &[&'a str], line: &mut Line) -> Answer<Option<&'a str>> {
-    if line.eat("}") { Ok(None) } else { line.one_of(known).map(|place| Some(known[place])) }
 }
 
 /// A value as it is read behind the name of its field, and written with it.
@@ -189,16 +160,24 @@ held! {
 }
 
 arguments! {
+    // The fields stand in any order.
     DType: |line| {
-        let kind = KINDS.iter().find(|kind| {
-            let behind = line.rest().strip_prefix(**kind);
+        let kind = KINDS.iter().find(|(word, _)| {
+            let behind = line.rest().strip_prefix(word);
             behind.is_some_and(|rest| rest.trim_start_matches(is_blank).starts_with('{'))
         });
-        let word = kind.copied().unwrap_or_default();
-        line.eat(word);
+        line.eat(kind.map_or("", |(word, _)| word));
         line.sign("{")?;
         line.blanks();
-        Ok(DType { dtype_type: read_fields(word, line)? })
+        let mut dtype_type = kind.map(|(_, make)| make());
+        let mut fields = dtype_type.as_mut().map_or(Vec::new(), |kind| fields_of(kind).1);
+        let names: Vec<&str> = fields.iter().map(|(name, _)| *name).collect();
+        while !line.eat("}") {
+            let (name, field) = &mut fields[line.one_of(&names)?];
+            field.read_more(name, line)?;
+            line.blanks();
+        }
+        Ok(DType { dtype_type })
     };
     Field: |line| {
         line.expect("path")?;
@@ -216,10 +195,11 @@ told! {
         _ => "path {}".to_owned(),
     });
     &DType: |it| {
-        let Some(kind) = &it.dtype_type else {
+        let Some(mut kind) = it.dtype_type.clone() else {
             return Ok("{}".to_owned());
         };
-        let (word, fields) = written_fields(kind)?;
-        Ok(if fields.is_empty() { format!("{word} {{}}") } else { format!("{word} {{ {} }}", fields.join(" ")) })
+        let (word, fields) = fields_of(&mut kind);
+        let texts = fields.iter().map(|(name, field)| field.written(name)).collect::<Answer<Vec<_>>>()?.concat();
+        Ok(if texts.is_empty() { format!("{word} {{}}") } else { format!("{word} {{ {} }}", texts.join(" ")) })
     };
 }

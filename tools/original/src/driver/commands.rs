@@ -32,8 +32,7 @@ use crate::models::{
     bound, can_be_nonnullable, comparisons, element_size, is_subset, project, project_paths, read, resolve,
     starts_with_field, visits,
 };
-use crate::told::{Answer, Stop, Text, Told, holding, id, joined, paths, several, stop};
-use crate::types::{Id, PTYPES, Tags};
+use crate::types::{Answer, Id, PTYPES, Stop, Tags, Text, Told, holding, id, joined, paths, several, stop};
 
 type Command = Box<dyn Fn(&mut Line) -> Answer>;
 

@@ -8,7 +8,7 @@
 
 use vortex_error::VortexError;
 
-use crate::told::Stop;
+use crate::types::Stop;
 
 /// The library's texts, by number, and the original's where they differ; what is in braces is what the kind carries.
 const TEXTS: [(&str, &str); 37] = [

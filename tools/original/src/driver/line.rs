@@ -9,7 +9,7 @@ use std::str::FromStr;
 use vortex_array::dtype::FieldName;
 
 use crate::living::Living;
-use crate::told::{Answer, stop};
+use crate::types::{Answer, stop};
 
 /// How deep types and messages may be nested.
 const DEEPEST: usize = 128;
@@ -53,8 +53,8 @@ tuples!((), (A), (A, B), (A, B, C), (A, B, C, D));
 macro_rules! arguments {
     ($($($kind:ty),+: $read:expr;)*) => {
         $($(impl crate::line::Argument for $kind {
-            fn read(line: &mut crate::line::Line) -> crate::told::Answer<Self> {
-                let read: fn(&mut crate::line::Line) -> crate::told::Answer<Self> = $read;
+            fn read(line: &mut crate::line::Line) -> crate::types::Answer<Self> {
+                let read: fn(&mut crate::line::Line) -> crate::types::Answer<Self> = $read;
                 read(line)
             }
         })+)*

@@ -17,7 +17,7 @@ use vortex_session::VortexSession;
 use crate::errors::refused;
 use crate::line::{Bytes, Line, arguments};
 use crate::models::resolve;
-use crate::told::{Answer, Told, name, paths, stop};
+use crate::types::{Answer, Told, name, paths, stop};
 
 /// How many sets, and how many sessions, may live.
 const MOST: usize = 16;

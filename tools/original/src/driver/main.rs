@@ -9,7 +9,6 @@ mod line;
 mod living;
 mod messages;
 mod models;
-mod told;
 mod types;
 
 use std::io::{self, BufRead, Write};

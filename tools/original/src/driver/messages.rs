@@ -3,6 +3,7 @@
 
 //! Messages as arguments, and as they are answered.
 
+use vortex_array::dtype::PType;
 use vortex_array::dtype::proto::dtype::d_type::DtypeType;
 use vortex_array::dtype::proto::dtype::field::FieldType;
 use vortex_array::dtype::proto::dtype::{
@@ -11,9 +12,7 @@ use vortex_array::dtype::proto::dtype::{
 };
 
 use crate::line::{Argument, Line, arguments, is_blank};
-use crate::told::{Answer, Told, quoted, told};
-use crate::types::PTYPES;
-use vortex_array::dtype::PType;
+use crate::types::{Answer, PTYPES, Told, quoted, told};
 
 /// Makes the kinds of messages: the word of each, its type, and its fields as they are written: texts first, then
 /// messages, then the others, whether it is nullable at last.

@@ -16,7 +16,7 @@ use vortex_array::dtype::{DType, Field, FieldName, FieldPath, MapDType, Nullabil
 use vortex_session::VortexSession;
 
 use crate::errors::refused;
-use crate::told::Answer;
+use crate::types::Answer;
 
 /// The types that a type is made of.
 fn parts(dtype: &DType) -> Vec<DType> {

@@ -68,3 +68,11 @@ class Borders(Planted):
         self.change("tools/borders", "dtype_demo/src/main.rt run: unwritten",
                     "dtype_base/src/field_name.rt FieldName::new: made")
         self.assertEqual(self.told("borders"), [])
+
+    def test_tells_a_definition_that_a_user_cannot_name(self):
+        self.change(NAME, "use std::fmt;", "ghost use Rattle.dtype_base.specs.Hidden.{hidden};\nuse std::fmt;")
+        self.change(NAME, "(λ n. n ≡ text.now)", "(λ n. hidden n)")
+        self.assert_told("borders", "hidden of Rattle.dtype_base.specs.Hidden, cited by new")
+        self.assert_told("borders", "docs/GLOSSARY.md doesn't explain hidden of Rattle.dtype_base.specs.Hidden")
+        self.write("crates/vortex_dtype/specs/Lib.antt", "pub use Rattle.dtype_base.specs.Hidden\n")
+        self.assertNotIn("can't be named", self.run_tool("borders")[1])

@@ -115,17 +115,6 @@ class Runs(Planted):
         said = self.run_tool("measure", PORT=f"{self.top}/bin/port", RUNS="3", RUST="")[1]
         self.assertEqual(said.splitlines()[-1], "| find/wide/10 | 10.0 |")
 
-    def test_tells_a_definition_that_a_user_cannot_name(self):
-        name = "crates/dtype_base/src/field_name.rt"
-        self.change(name, "use std::fmt;", "ghost use Rattle.dtype_base.specs.Hidden.{hidden};\nuse std::fmt;")
-        self.change(name, "(λ n. n ≡ text.now)", "(λ n. hidden n)")
-        for crate in ("dtype_types", "vortex_dtype"):
-            self.write(f"crates/{crate}/specs/Lib.antt", "")
-        self.write("docs/TUTORIAL.md", "")
-        self.assert_told("words", "hidden of Rattle.dtype_base.specs.Hidden, cited by new")
-        self.write("crates/vortex_dtype/specs/Lib.antt", "pub use Rattle.dtype_base.specs.Hidden\n")
-        self.assertNotIn("can't be named", self.run_tool("words")[1])
-
 
 class RefusedMemory(Planted):
     """Over a console that allocates in each of four ways once a line, the first again where it failed, so that it fails

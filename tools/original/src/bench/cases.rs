@@ -22,20 +22,19 @@ const GREATEST_COVER: usize = 1000;
 /// can start before them.
 pub fn types(meter: &Meter, types: &Types) {
     let of = &types.of;
-    meter.each(&format!("eq_ignore_nullability{of}"), |i, sum| {
-        types.turn(sum).eq_ignore_nullability(&types.others[i % 2]).into()
-    });
-    meter.each(&format!("eq{of}"), |i, sum| (types.turn(sum) == &types.sames[i % 2]).into());
+    meter
+        .each("eq_ignore_nullability", of, |i, sum| types.turn(sum).eq_ignore_nullability(&types.others[i % 2]).into());
+    meter.each("eq", of, |i, sum| (types.turn(sum) == &types.sames[i % 2]).into());
     hashed(meter, of, &types.types);
-    meter.each(&format!("element_size{of}"), |i, _| types.turn(i).element_size().unwrap_or(7));
-    meter.each(&format!("copy{of}"), |i, _| used(types.turn(i).clone()));
-    meter.each(&format!("with_nullability{of}"), |i, _| used(types.turn(i).with_nullability(Nullability::Nullable)));
+    meter.each("element_size", of, |i, _| types.turn(i).element_size().unwrap_or(7));
+    meter.each("copy", of, |i, _| used(types.turn(i).clone()));
+    meter.each("with_nullability", of, |i, _| used(types.turn(i).with_nullability(Nullability::Nullable)));
     text(meter, of, &types.types);
     // by hand, since the original has no such call; it has no door to build an extension around another storage
     if types.shape != Shape::Extensions {
         let merge = |i, others: &[DType; 2]| black_box(merged(types.turn(i), &others[i % 2])).is_some().into();
-        meter.each(&format!("merge{of}"), |i, _| merge(i, &types.others));
-        meter.each(&format!("merge_equal{of}"), |i, _| merge(i, &types.sames));
+        meter.each("merge", of, |i, _| merge(i, &types.others));
+        meter.each("merge_equal", of, |i, _| merge(i, &types.sames));
     }
 }
 
@@ -67,7 +66,7 @@ fn merged(a: &DType, b: &DType) -> Option<DType> {
 
 /// The SipHash of one of two.
 pub fn hashed<T: Hash>(meter: &Meter, of: &str, two: &[T; 2]) {
-    meter.each(&format!("hash{of}"), |i, _| {
+    meter.each("hash", of, |i, _| {
         let mut state = DefaultHasher::new();
         two[i % 2].hash(&mut state);
         state.finish() as usize
@@ -76,21 +75,20 @@ pub fn hashed<T: Hash>(meter: &Meter, of: &str, two: &[T; 2]) {
 
 /// The text of one of two.
 pub fn text<T: Display>(meter: &Meter, of: &str, two: &[T; 2]) {
-    meter.each(&format!("text{of}"), |i, _| two[i % 2].to_string().len());
+    meter.each("text", of, |i, _| two[i % 2].to_string().len());
 }
 
 /// `resolve`, which takes a copy of the type.
 pub fn resolve(meter: &Meter, types: &Types, path: FieldPath) {
     let paths = [path.clone(), path];
-    meter.each(&format!("resolve{}", types.of), |i, _| {
-        black_box(paths[i / 2 % 2].resolve(types.turn(i).clone())).is_some().into()
-    });
+    meter
+        .each("resolve", &types.of, |i, _| black_box(paths[i / 2 % 2].resolve(types.turn(i).clone())).is_some().into());
 }
 
 /// Building a whole type and dropping it.
 pub fn whole(meter: &Meter, types: &Types) {
     let texts = Naming::Wide.texts(types.count);
-    meter.each(&format!("build/and_drop{}", types.of), |_, _| match types.shape {
+    meter.each("build/and_drop", &types.of, |_, _| match types.shape {
         Shape::Wide => used(wide_type(&texts, false)),
         shape => used(shape.make(types.count, false)),
     });
@@ -102,8 +100,8 @@ pub fn messages(meter: &Meter, types: &Types) {
     let written = |i| pb::DType::try_from(types.turn(i)).expect("every type can be written");
     let messages = [written(0), written(1)];
     let read = |message| DType::from_proto(message, &session).expect("what was written can be read");
-    meter.each(&format!("read{}", types.of), |i, _| used(read(&messages[i % 2])));
-    meter.each(&format!("write{}", types.of), |i, _| black_box(written(i)).dtype_type.is_some().into());
+    meter.each("read", &types.of, |i, _| used(read(&messages[i % 2])));
+    meter.each("write", &types.of, |i, _| black_box(written(i)).dtype_type.is_some().into());
 }
 
 /// The fields of one of two structs, alternating.
@@ -117,7 +115,7 @@ pub fn lookups(meter: &Meter, types: &Types) {
     for (place, at) in [("first", 0), ("middle", count / 2), ("last", count - 1), ("miss", count)] {
         let names = [column(at), column(at)];
         let find = |i, _| fields_of(&types.types, i).find(&names[i / 2 % 2]).unwrap_or(7);
-        meter.each(&format!("find/{place}{of}"), find);
+        meter.each(&format!("find/{place}"), of, find);
     }
     find_mixed(meter, of, &types.types, &Naming::Wide.texts(count));
 }
@@ -143,12 +141,12 @@ pub fn index(meter: &Meter, of: &str, types: &[DType; 2], texts: &[String]) {
     for (what, most) in [("project", count / 10), ("project_all", count)] {
         let asked = names((0..most).map(|i| &texts[mixed(i, count)]));
         let project = |i, _| fields_of(types, i).project(&asked).expect("the struct has these names").nfields();
-        meter.each(&format!("{what}{of}"), project);
+        meter.each(what, of, project);
     }
     let (names, leaves) = (names(texts), leaves(count));
     let given = || (names.clone(), leaves.clone());
-    meter.consuming(&format!("build/names{of}"), given, |(names, types)| used(of_names(names, types)));
-    meter.consuming(&format!("build/and_find{of}"), given, |(names, types)| {
+    meter.consuming("build/names", of, given, |(names, types)| used(of_names(names, types)));
+    meter.consuming("build/and_find", of, given, |(names, types)| {
         black_box(of_names(names, types)).as_struct_fields().find(&texts[count - 1]).unwrap_or(7)
     });
 }
@@ -156,14 +154,9 @@ pub fn index(meter: &Meter, of: &str, types: &[DType; 2], texts: &[String]) {
 /// A wide struct made of texts.
 pub fn texts(meter: &Meter, types: &Types) {
     let (texts, leaves) = (Naming::Wide.texts(types.count), leaves(types.count));
-    meter.consuming(
-        &format!("build/texts{}", types.of),
-        || leaves.clone(),
-        |types| {
-            let fields = StructFields::from_iter(texts.iter().map(String::as_str).zip(types));
-            used(DType::Struct(fields, Nullability::NonNullable))
-        },
-    );
+    let made = |types| StructFields::from_iter(texts.iter().map(String::as_str).zip::<Vec<DType>>(types));
+    let build = |types| used(DType::Struct(made(types), Nullability::NonNullable));
+    meter.consuming("build/texts", &types.of, || leaves.clone(), build);
 }
 
 fn leaves(count: usize) -> Vec<DType> {
@@ -183,12 +176,12 @@ pub fn sets(meter: &Meter, shape: SetShape) {
             drop(black_box(set));
             count
         };
-        meter.consuming(&format!("set/from_iter{of}"), || paths.clone(), |paths| made(FieldPathSet::from_iter(paths)));
+        meter.consuming("set/from_iter", &of, || paths.clone(), |paths| made(FieldPathSet::from_iter(paths)));
         if count <= GREATEST_COVER || matches!(shape, SetShape::Chains) {
             let cover = |set: FieldPathSet| black_box(set.into_iter()).len();
-            meter.consuming(&format!("set/into_iter{of}"), || set.clone(), cover);
+            meter.consuming("set/into_iter", &of, || set.clone(), cover);
         }
-        meter.each(&format!("set/contains{of}"), |_, _| paths.iter().filter(|path| set.contains(path)).count());
-        meter.each(&format!("set/copy{of}"), |_, _| made(set.clone()));
+        meter.each("set/contains", &of, |_, _| paths.iter().filter(|path| set.contains(path)).count());
+        meter.each("set/copy", &of, |_, _| made(set.clone()));
     }
 }

@@ -62,7 +62,7 @@ fn main() -> io::Result<()> {
     }
     let meter = Meter::new(&wanted);
     let of = Types::new(Shape::Wide, 10);
-    meter.each("empty", |i, _| of.turn(i).is_nullable().into());
+    meter.each("empty", "", |i, _| of.turn(i).is_nullable().into());
     nested(&meter);
     wide(&meter);
     let paths = [(); 2].map(|()| path_of((0..10).map(column)));

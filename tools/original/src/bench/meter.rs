@@ -30,13 +30,13 @@ impl<'a> Meter<'a> {
     }
 
     /// Measures an operation, given the number of the iteration and the sum of the results before it.
-    pub fn each(&self, name: &str, mut operation: impl FnMut(usize, usize) -> usize) {
+    pub fn each(&self, what: &str, of: &str, mut operation: impl FnMut(usize, usize) -> usize) {
         let repeat = |(), times| (0..times).fold(0usize, |sum, i| sum.wrapping_add(operation(i, sum)));
-        self.measure(name, |_| (), repeat);
+        self.measure(&format!("{what}{of}"), |_| (), repeat);
     }
 
     /// Measures an operation that consumes what `prepare` returns.
-    pub fn consuming<T>(&self, name: &str, prepare: impl Fn() -> T, mut operation: impl FnMut(T) -> usize) {
+    pub fn consuming<T>(&self, what: &str, of: &str, prepare: impl Fn() -> T, mut operation: impl FnMut(T) -> usize) {
         let inputs = |times| (0..times).map(|_| prepare()).collect::<Vec<T>>();
         let repeat = |mut inputs: Vec<T>, _| {
             let mut sum = 0usize;
@@ -45,7 +45,7 @@ impl<'a> Meter<'a> {
             }
             sum
         };
-        self.measure(name, inputs, repeat);
+        self.measure(&format!("{what}{of}"), inputs, repeat);
     }
 
     /// Measures so many iterations, done by `repeat` of what `prepare` returns, and prints the case's line.

@@ -86,7 +86,7 @@ pub struct Line<'a> {
 
 impl<'a> Line<'a> {
     pub fn new(text: &'a str, sessions: &'a RefCell<Living<Vec<&'static str>>>) -> Self {
-        let mut line = Self { text: without_comment(text), at: 0, level: 0, sessions };
+        let mut line = Self { text, at: 0, level: 0, sessions };
         line.blanks();
         line
     }
@@ -123,7 +123,7 @@ impl<'a> Line<'a> {
     /// The name of a command.
     pub fn command(&mut self, is_known: impl Fn(&str) -> bool) -> Answer<&'a str> {
         let at = self.at;
-        let word = self.take(|sign| !sign.is_whitespace());
+        let word = self.take(|sign| !sign.is_whitespace() && sign != '#');
         self.blanks();
         if is_known(word) { Ok(word) } else { self.fail(at) }
     }
@@ -137,8 +137,9 @@ impl<'a> Line<'a> {
         &self.text[self.at..]
     }
 
+    /// Whether nothing follows but a comment.
     pub fn is_at_end(&self) -> bool {
-        self.rest().is_empty()
+        self.rest().is_empty() || self.rest().starts_with('#')
     }
 
     pub fn blanks(&mut self) {
@@ -209,25 +210,11 @@ impl<'a> Line<'a> {
     }
 
     fn byte(&mut self) -> Option<u8> {
-        let digits = self.rest().get(..2)?;
-        let is_plain = digits.bytes().all(|one| matches!(one, b'0'..=b'9' | b'a'..=b'f'));
-        let byte = u8::from_str_radix(digits, 16).ok().filter(|_| is_plain)?;
+        let is_other = |sign: char| sign == '+' || sign.is_uppercase();
+        let digits = self.rest().get(..2).filter(|it| !it.contains(is_other))?;
+        let byte = u8::from_str_radix(digits, 16).ok()?;
         self.at += 2;
         Some(byte)
-    }
-
-    /// A text in quotes.
-    pub fn text(&mut self) -> Answer<String> {
-        let (at, mut found) = (self.at, String::new());
-        self.expect("\"")?;
-        while let Some(sign) = self.next() {
-            found.extend(match sign {
-                '"' => return Ok(found),
-                '\\' => self.next().map(|it| self.escaped(it)),
-                _ => Some(sign),
-            });
-        }
-        self.fail(at)
     }
 
     fn next(&mut self) -> Option<char> {
@@ -236,14 +223,23 @@ impl<'a> Line<'a> {
         Some(sign)
     }
 
-    fn escaped(&mut self, sign: char) -> char {
-        match sign {
-            't' => '\t',
-            'n' => '\n',
-            'r' => '\r',
-            'x' => self.byte().map_or('x', char::from),
-            _ => sign,
+    /// A text in quotes.
+    pub fn text(&mut self) -> Answer<String> {
+        let (at, mut found) = (self.at, String::new());
+        self.expect("\"")?;
+        while let Some(sign) = self.next() {
+            let escaped = if sign == '\\' { self.next() } else { None };
+            found.extend(match (sign, escaped) {
+                ('"', _) => return Ok(found),
+                (_, Some('t')) => Some('\t'),
+                (_, Some('n')) => Some('\n'),
+                (_, Some('r')) => Some('\r'),
+                (_, Some('x')) => self.byte().map(char::from).or(escaped),
+                ('\\', _) => escaped,
+                _ => Some(sign),
+            });
         }
+        self.fail(at)
     }
 
     /// A name, or where dots may stand in it an id: bare, or in quotes.
@@ -285,19 +281,4 @@ pub fn is_blank(sign: char) -> bool {
 /// Whether a name needs no quotes for this character.
 pub fn is_bare(sign: char) -> bool {
     sign.is_ascii_alphanumeric() || sign == '_' || !sign.is_ascii()
-}
-
-/// The line up to a hash that isn't in quotes.
-fn without_comment(text: &str) -> &str {
-    let (mut in_quotes, mut is_escaped) = (false, false);
-    for (at, sign) in text.char_indices() {
-        match sign {
-            _ if is_escaped => is_escaped = false,
-            '\\' => is_escaped = in_quotes,
-            '"' => in_quotes = !in_quotes,
-            '#' if !in_quotes => return &text[..at],
-            _ => {}
-        }
-    }
-    text
 }

@@ -48,10 +48,6 @@ impl<T: Clone + Default> Living<T> {
     }
 }
 
-fn done() -> Answer {
-    Ok("ok".to_owned())
-}
-
 /// `session NAME` and a command of its own.
 pub fn session(line: &mut Line) -> Answer {
     let name = line.living_name()?;
@@ -65,7 +61,7 @@ pub fn session(line: &mut Line) -> Answer {
         "register" => words.extend(plugin),
         _ => words.push("unknown"),
     }
-    done()
+    "ok".told()
 }
 
 /// `set NAME` and a command of its own.
@@ -87,19 +83,15 @@ pub fn set(sets: &mut Living<Vec<FieldPath>>, line: &mut Line) -> Answer {
     let items = if begins(command) { sets.begun("set", &name)? } else { sets.there("set", &name)? };
     let set = FieldPathSet::from_iter(items.iter().cloned());
     match command {
-        "contains" => return set.contains(&given[0]).told(),
-        "iter" => return paths(set.iter()),
-        "below" => return below(items, &given[0]),
-        "missing" => return paths(set.iter().filter(|path| resolve(path, &dtype).is_none())),
-        "cover" => return cover(set),
-        "drain" => {
-            items.clear();
-            return cover(set);
-        }
-        "new" => items.clear(),
-        _ => items.extend(given),
+        "contains" => set.contains(&given[0]).told(),
+        "iter" => paths(set.iter()),
+        "below" => below(items, &given[0]),
+        "missing" => paths(set.iter().filter(|path| resolve(path, &dtype).is_none())),
+        "cover" => cover(set),
+        "drain" => cover(set).inspect(|_| items.clear()),
+        "new" => "ok".told().inspect(|_| items.clear()),
+        _ => "ok".told().inspect(|_| items.extend(given)),
     }
-    done()
 }
 
 pub fn cover(set: FieldPathSet) -> Answer {

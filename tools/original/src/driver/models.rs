@@ -9,7 +9,7 @@ use std::collections::HashSet;
 use std::panic::{self, AssertUnwindSafe};
 use std::sync::Arc;
 
-use vortex_array::dtype::extension::{ExtDTypeRef, ForeignExtDType};
+use vortex_array::dtype::extension::ForeignExtDType;
 use vortex_array::dtype::proto::dtype as pb;
 use vortex_array::dtype::proto::dtype::d_type::DtypeType;
 use vortex_array::dtype::{DType, Field, FieldName, FieldPath, MapDType, Nullability, StructFields, UnionVariants};
@@ -135,15 +135,6 @@ fn children(message: &pb::DType) -> Vec<Option<&pb::DType>> {
     }
 }
 
-/// The number of the error of a primitive number without a name, or of a struct whose names and types differ in number.
-fn departing_fault(message: &pb::DType) -> Option<usize> {
-    match &message.dtype_type {
-        Some(DtypeType::Primitive(it)) if !(0..=10).contains(&it.r#type) => Some(25),
-        Some(DtypeType::Struct(it)) if it.names.len() != it.dtypes.len() => Some(32),
-        _ => None,
-    }
-}
-
 /// The original takes an unknown primitive number as `u8`, and panics at a struct of more names than types, or fewer.
 /// Here they are errors, 25 and 32. Faults are met in the order of reading: each part before what holds it, and a part
 /// that is absent before the parts after it; all others are those that the original meets.
@@ -151,9 +142,10 @@ pub fn read(session: &VortexSession, message: &pb::DType) -> Answer<DType> {
     for child in children(message) {
         child.map_or_else(|| Ok(DType::from_proto(message, session)?), |child| read(session, child))?;
     }
-    match departing_fault(message) {
-        Some(number) => Err(refused(number, &[])),
-        None => Ok(DType::from_proto(message, session)?),
+    match &message.dtype_type {
+        Some(DtypeType::Primitive(it)) if !(0..=10).contains(&it.r#type) => Err(refused(25, &[])),
+        Some(DtypeType::Struct(it)) if it.names.len() != it.dtypes.len() => Err(refused(32, &[])),
+        _ => Ok(DType::from_proto(message, session)?),
     }
 }
 
@@ -172,13 +164,11 @@ fn with_parts(dtype: &DType, mut parts: Vec<DType>, nullability: Nullability) ->
             let variants = UnionVariants::try_new(it.names().clone(), parts, it.type_ids().to_vec())?;
             DType::Union(variants, nullability)
         }
-        DType::Extension(extension) => DType::Extension(over(extension, parts.remove(0))?),
+        DType::Extension(it) => {
+            DType::Extension(ForeignExtDType::from_parts(it.id(), it.serialize_metadata()?, parts.remove(0))?)
+        }
         _ => dtype.with_nullability(nullability),
     })
-}
-
-fn over(extension: &ExtDTypeRef, storage: DType) -> Answer<ExtDTypeRef> {
-    Ok(ForeignExtDType::from_parts(extension.id(), extension.serialize_metadata()?, storage)?)
 }
 
 /// The least type that takes the values of two, and the greatest whose values two have: of types that are equal but for

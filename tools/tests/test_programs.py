@@ -2,7 +2,6 @@
 # SPDX-FileCopyrightText: Copyright the Vortex contributors
 
 """The tools that run `rt` or a program, over an `rt` and programs that do as they are told."""
-import os
 import subprocess
 
 from planted import Planted

@@ -169,7 +169,7 @@ fn of_names(names: Vec<FieldName>, types: Vec<DType>) -> DType {
 
 /// What is done with path sets.
 pub fn sets(meter: &Meter, shape: SetShape) {
-    for count in [100, 1000, 10_000, 100_000] {
+    for count in [10, 100, 1000, 10_000, 100_000] {
         let (of, paths) = (name_of(shape, count), shape.paths(count));
         let set = FieldPathSet::from_iter(shape.paths(count));
         let made = |set: FieldPathSet| {

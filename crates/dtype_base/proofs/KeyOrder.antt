@@ -2,10 +2,10 @@
 -- SPDX-FileCopyrightText: Copyright the Vortex contributors
 
 -- The keys of names, the index sorted by them, and how the bytes of a name are read.
-use Rattle.std.proofs.Common.{◌%◌, mod-eq_of_lt, ◌≡◌, ◌≢◌, ℕ, zero, suc, ◌+◌, ◌-◌, ◌*◌, ◌<◌, ◌≤◌, ◌^◌, List, [], ◌∷◌, ◌++◌, length, get_or, take, drop, Some, Bool, true, false, IsTrue, ◌↔◌, ◌/◌, Fits, w8, refl, sym, ap, subst, ◌∙◌, inl, inr, arith, pow-suc, add-mul}
+use Rattle.std.proofs.Common.{◌%◌, mod-eq_of_lt, ◌≡◌, ◌≢◌, ℕ, zero, suc, ◌+◌, ◌-◌, ◌*◌, ◌<◌, ◌≤◌, ◌^◌, List, [], ◌∷◌, ◌++◌, length, get_or, drop, Some, Bool, true, false, IsTrue, ◌↔◌, ◌/◌, Fits, w8, refl, sym, ap, subst, ◌∙◌, inl, inr, arith, pow-suc, add-mul}
 use Rattle.std.specs.Prelude.{slice_get}
 use Rattle.std.proofs.Math.Nat.{add-mul-mod_self_right, mul_assoc}
-use Rattle.std.proofs.lemmas.Nat.{div-mul-add, pow-add}
+use Rattle.std.proofs.lemmas.Nat.{pow-add}
 use Rattle.std.specs.List.{All, AllAdjacentBelow, range_with_len}
 use Rattle.std.specs.List.Sorted.{IsPermutation, IsSorted}
 use Rattle.std.specs.Int.{w64, from_be_bytes}
@@ -194,28 +194,6 @@ pub first_eight : (bs : List ℕ) → big_endian 8 bs ≡ from_be_bytes w64 (get
 unfolding big_endian
 first_eight bs = omega arith
 
--- the number of the first k bytes doesn't depend on what follows them
-first_alone : (k n : ℕ) (bs : List ℕ) → k ≤ n → big_endian k (take n bs) ≡ big_endian k bs
-unfolding big_endian
-first_alone zero n bs e = refl
-first_alone (suc k) n bs e = omega (arith, first_alone k n bs (omega (arith, e)), get_or-take n bs k 0 (omega (arith, e)))
-
--- texts of at least k bytes have equal prefixes of k bytes where their numbers are equal
-same_first : (k : ℕ) (xs ys : List ℕ) → AreBytes xs → AreBytes ys → k ≤ length xs → k ≤ length ys → big_endian k xs ≡ big_endian k ys → take k xs ≡ take k ys
-unfolding big_endian
-same_first zero xs ys a b long_a long_b e = refl
-same_first (suc k) xs ys a b long_a long_b e =
-    let last : get_or xs k 0 ≡ get_or ys k 0 = omega (arith, e, a k, b k) in
-    let next : k + 1 ≡ suc k = omega arith in
-    let before = same_first k xs ys a b (omega (arith, long_a)) (omega (arith, long_b)) (omega (arith, e, last)) in
-    subst (λ j. take j xs ≡ take j ys) next (take_more_same xs ys k 0 (omega (arith, long_a)) (omega (arith, long_b)) before last)
-
-pub prefix_decides : (k : ℕ) (xs ys : List ℕ) → AreBytes xs → AreBytes ys → k ≤ length xs → k ≤ length ys → (big_endian k xs ≡ big_endian k ys) ↔ (take k xs ≡ take k ys)
-prefix_decides k xs ys a b long_a long_b = (
-  same_first k xs ys a b long_a long_b,
-  λ e. sym (first_alone k k xs (omega arith)) ∙ ap (big_endian k) e ∙ first_alone k k ys (omega arith),
-)
-
 -- the number of k + j bytes, from that of the first k and that of the next j
 split_number : (k j n : ℕ) (bs : List ℕ) → n ≡ j + k → big_endian n bs ≡ big_endian k bs * 256 ^ j + big_endian j (drop k bs)
 unfolding big_endian
@@ -229,13 +207,6 @@ split_number k (suc j) (suc n) bs e =
 bits : (m : ℕ) → 2 ^ (8 * m) ≡ 256 ^ m
 bits zero = refl
 bits (suc m) = ap (λ e. 2 ^ e) (omega arith) ∙ pow-add 2 (8 * m) 8 ∙ omega (arith, bits m, pow-suc 256 m)
-
--- dividing the number of eight bytes drops the last of them
-pub without_last : (k : ℕ) (bs : List ℕ) → AreBytes bs → k ≤ 8 → big_endian 8 bs / 2 ^ (8 * (8 - k)) ≡ big_endian k bs
-without_last k bs h few =
-    let j = 8 - k in
-    ap (λ w. big_endian 8 bs / w) (bits j) ∙ ap (λ x. x / 256 ^ j) (split_number k j 8 bs (omega (arith, few)))
-    ∙ div-mul-add (big_endian k bs) (256 ^ j) (big_endian j (drop k bs)) (high_bound j (drop k bs) (bytes_after k bs h))
 
 -- eight bytes shifted left by j bytes: without the first j of them, and what overflows 64 bits
 shifted_sum : (i j : ℕ) (bs : List ℕ) → i + j ≡ 8 → length bs ≡ 8 → big_endian 8 bs * 256 ^ j ≡ big_endian 8 (drop j bs) + big_endian j bs * 2 ^ 64

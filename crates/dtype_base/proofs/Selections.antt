@@ -1,38 +1,97 @@
 -- SPDX-License-Identifier: Apache-2.0
 -- SPDX-FileCopyrightText: Copyright the Vortex contributors
 
--- Names looked up one after another.
-use Rattle.std.proofs.Common.{◌≡◌, ◌≢◌, ℕ, zero, suc, ◌+◌, ◌<◌, List, [], ◌∷◌, ◌++◌, length, map, take, get_or, Option, Some, None, slice_get, refl, sym, ap, ◌∙◌, arith}
-use Rattle.std.proofs.lemmas.List.{get_or-take, length-take, map_push, map_more}
-use Rattle.std.proofs.lemmas.Option.{get_or_from_slice_get, same_Some, slice_get-get_or, slice_get_read, slice_get_within}
+-- Names looked up in any order.
+use Rattle.std.proofs.Common.{◌≡◌, ◌≢◌, ℕ, ◌+◌, ◌<◌, ◌≤◌, List, [], length, map, get_or, set, Some, None, sym, ap, subst, ◌∙◌, inl, inr, ◌⊎◌, arith}
+use Rattle.std.specs.Prelude.{min}
+use Rattle.std.specs.List.{range_with_len}
+use Rattle.std.specs.List.Sorted.{IsPermutation}
+use Rattle.std.proofs.Math.Nat.{min-le_left, min-le_right, min-eq_left, min-eq_right}
+use Rattle.std.proofs.lemmas.Bool.{cases_lt, cases_order}
+use Rattle.std.proofs.lemmas.List.{ext_get_or, get_or_default, get_or-map, get_or-set_same, get_or-set_other, length-map, length-set}
+use Rattle.std.proofs.lemmas.List.FromFn.{length-range_with_len, get_or-range_with_len}
+use Rattle.std.proofs.lemmas.List.Sorted.{Contains-permutation}
+use Rattle.std.proofs.lemmas.Option.{slice_get-get_or, get_or_from_slice_get}
 use Rattle.dtype_base.specs.FieldNames.{first_place, IsFirstAbsent}
 
--- one name more
-pub selects_more : (names asked : List (List ℕ)) (first_positions : List ℕ) (j first : ℕ) (n : List ℕ) → j < length asked → n ≡ get_or asked j n → Some first ≡ first_place names n
-    → map Some first_positions ≡ map (first_place names) (take j asked) → map Some (first_positions ++ first ∷ []) ≡ map (first_place names) (take (j + 1) asked)
-selects_more names asked first_positions j first n within read found so_far =
-    map_push Some first_positions first
-    ∙ ap (λ os. os ++ Some first ∷ []) so_far
-    ∙ ap (λ o. map (first_place names) (take j asked) ++ o ∷ []) (found ∙ ap (first_place names) read)
-    ∙ sym (map_more (first_place names) asked j n within)
+-- where the name asked at position p is first, if it was found; else p isn't before the first one missing
+abbrev LookedUp : List (List ℕ) → List (List ℕ) → List ℕ → ℕ → ℕ → Type 0
+LookedUp names asked found missing p =
+    let first = first_place names (get_or asked p []) in
+    (first ≡ Some (get_or found p 0)) ⊎ ((first ≡ None) × (missing ≤ p))
 
--- the names that were looked up occur
-known : (f : List ℕ → Option ℕ) (ms : List (List ℕ)) (is : List ℕ) → map Some is ≡ map f ms → (k : ℕ) (n : List ℕ) → slice_get ms k ≡ Some n → f n ≢ None
-known f (m ∷ ms) (i ∷ is) e zero n here none =
-    let head : Some i ≡ f m = cc in
-    let gone : f m ≡ None = ap f (same_Some m n here) ∙ none in cc
-known f (m ∷ ms) (i ∷ is) e (suc k) n here none =
-    let tail : map Some is ≡ map f ms = cc in known f ms is tail k n here none
-known f _ _ e _ n here none = cc
+-- The names asked at the first i positions of the order are looked up. So far `missing` is the first that is missing, or as
+-- many as are asked.
+pub record LookingUp (names asked : List (List ℕ)) (order : List ℕ) (i : ℕ) (found : List ℕ) (missing : ℕ) : Type 0 where
+  pub each : (k : ℕ) → k < i → LookedUp names asked found missing (get_or order k 0)
+  pub absent : missing < length asked → first_place names (get_or asked missing []) ≡ None
+  pub len : length found ≡ length asked
 
-within_take : {X : Type 0} (xs : List X) (j k : ℕ) (x : X) → k < j → slice_get xs k ≡ Some x → slice_get (take j xs) k ≡ Some x
-within_take xs j k x h e =
-    let within = slice_get_within xs k x e in
-    slice_get-get_or (take j xs) k x (omega (arith, length-take j xs)) ∙ ap Some (get_or-take j xs k x h ∙ get_or_from_slice_get xs k x x e)
+module _ (names asked : List (List ℕ)) (order : List ℕ) where
+  -- one name more, which is there
+  pub finds : (i p first missing : ℕ) (found : List ℕ) → LookingUp names asked order i found missing → get_or order i 0 ≡ p → p < length asked → Some first ≡ first_place names (get_or asked p [])
+      → LookingUp names asked order (i + 1) (set found p first) missing
+  finds i p first missing found inv at within is = record {
+    each = λ k below. let j = get_or order k 0 in elim (cases_order j p) [
+      | inl same ↦ subst (LookedUp names asked (set found p first) missing) (sym same) (inl (sym is ∙ ap Some (sym (get_or-set_same found p first 0 (omega (arith, within, inv.len))))))
+      | inr other ↦
+          let differs : j ≢ p = λ same. omega (arith, same, other) in
+          let before : k < i = elim (cases_order k i) [
+            | inl last ↦ absurd (differs (ap (λ m. get_or order m 0) last ∙ at))
+            | inr sides ↦ omega (arith, below, sides)
+          ] in
+          elim (inv.each k before) [
+            | inl e ↦ inl (e ∙ ap Some (sym (get_or-set_other found p j first 0 differs)))
+            | inr none ↦ inr none
+          ]
+    ];
+    absent = inv.absent;
+    len = length-set found p first ∙ inv.len;
+  }
 
--- the first name that is absent
-pub first_absent : (names asked : List (List ℕ)) (first_positions : List ℕ) (j : ℕ) (n : List ℕ) → j < length asked → n ≡ get_or asked j n → map Some first_positions ≡ map (first_place names) (take j asked) → None ≡ first_place names n → IsFirstAbsent names asked j
-first_absent names asked first_positions j n within read so_far none = record {
-  absent = (n, slice_get_read asked (length asked) j n refl within read, sym none);
-  there = λ k m before here. known (first_place names) (take j asked) first_positions so_far k m (within_take asked j k m before here);
-}
+  -- one name more, which is missing
+  pub misses : (i p missing : ℕ) (found : List ℕ) → LookingUp names asked order i found missing → get_or order i 0 ≡ p → None ≡ first_place names (get_or asked p [])
+      → LookingUp names asked order (i + 1) found (min missing p)
+  misses i p missing found inv at none = record {
+    each = λ k below. elim (cases_lt k i) [
+      | inl before ↦ elim (inv.each k before) [
+        | inl e ↦ inl e
+        | inr later ↦ inr (later.0, omega (arith, later.1, min-le_left missing p))
+      ]
+      | inr last ↦
+          let here : i ≡ k = omega (arith, last, below) in
+          subst (LookedUp names asked found (min missing p)) (sym at ∙ ap (λ m. get_or order m 0) here) (inr (sym none, min-le_right missing p))
+    ];
+    absent = elim (cases_lt missing p) [
+      | inl before ↦ subst (λ m. m < length asked → first_place names (get_or asked m []) ≡ None) (sym (min-eq_left (omega (arith, before)))) inv.absent
+      | inr after ↦ λ less. ap (λ m. first_place names (get_or asked m [])) (min-eq_right after) ∙ sym none
+    ];
+    len = inv.len;
+  }
+
+  -- all names are looked up
+  module _ (each : IsPermutation (range_with_len 0 (length asked)) order) (i : ℕ) (found : List ℕ) (missing : ℕ) (inv : LookingUp names asked order i found missing) (all : length order ≤ i) where
+    reached : (j : ℕ) → j < length asked → LookedUp names asked found missing j
+    reached j within =
+        let s = Contains-permutation _ _ j each (j, omega (arith, within, length-range_with_len 0 (length asked)), omega (arith, get_or-range_with_len 0 (length asked) j j within)) in
+        subst (LookedUp names asked found missing) (get_or_default order s.0 0 j s.1 ∙ s.2) (inv.each s.0 (omega (arith, s.1, all)))
+
+    -- all names are there
+    pub all_found : length asked ≤ missing → map Some found ≡ map (first_place names) asked
+    all_found none = ext_get_or None (map Some found) (map (first_place names) asked) (length-map found Some ∙ inv.len ∙ sym (length-map asked (first_place names))) (λ j below.
+        let within : j < length found = omega (arith, below, length-map found Some) in
+        let asked_here : j < length asked = omega (arith, within, inv.len) in
+        get_or-map Some found j 0 None within ∙ elim (reached j asked_here) [
+          | inl e ↦ sym e
+          | inr later ↦ absurd (omega (arith, later.1, none, asked_here))
+        ] ∙ sym (get_or-map (first_place names) asked j [] None asked_here))
+
+    -- the first that is missing
+    pub first_missing : missing < length asked → IsFirstAbsent names asked missing
+    first_missing within = record {
+      absent = (get_or asked missing [], slice_get-get_or asked missing [] within, inv.absent within);
+      there = λ k n before here none. elim (reached k (omega (arith, before, within))) [
+        | inl e ↦ let gone : first_place names (get_or asked k []) ≡ None = ap (first_place names) (get_or_from_slice_get asked k n [] here) ∙ none in cc
+        | inr later ↦ omega (arith, later.1, before)
+      ];
+    }

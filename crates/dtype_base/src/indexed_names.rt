@@ -1,8 +1,9 @@
 // SPDX-License-Identifier: Apache-2.0
 // SPDX-FileCopyrightText: Copyright the Vortex contributors
 
-ghost use Rattle.std.specs.Prelude.{◌≡◌, ◌⊎◌, ◌↔◌, ◌+◌, ◌≤◌, All, IsSome, IsTrue, IfOk, Some, length, map, MatchResult};
+ghost use Rattle.std.specs.Prelude.{◌≡◌, ◌⊎◌, ◌↔◌, ◌+◌, ◌≤◌, All, IsSome, IsTrue, Some, length, map, MatchResult};
 ghost use Rattle.std.specs.List.{range_with_len};
+ghost use Rattle.std.specs.List.Sorted.{IsPermutation};
 ghost use Rattle.dtype_base.specs.Errors.{Makes};
 ghost use Rattle.dtype_base.specs.BinaryDigits.{binary_digits};
 ghost use Rattle.dtype_base.specs.Distinct.{Distinct};
@@ -13,7 +14,9 @@ ghost use Rattle.dtype_base.specs.declared.vortex_error.VortexError.TheVariants.
 
 use crate::field_names::copied;
 use crate::name_key::{Keying, key_of};
-use crate::name_order::{Discriminator, IndexEntry, are_distinct, build_index, sort_entries};
+use crate::name_order::{
+    Discriminator, IndexEntry, are_distinct, build_index, keyed_entries, sort_entries,
+};
 use crate::name_search::search;
 use crate::{FieldName, FieldNames, VortexError, VortexResult};
 use std::alloc::Global;
@@ -100,16 +103,17 @@ impl IndexedNames {
             (λ s. (s.0 ≡ asked.now) × (map Some s.1.items ≡ map (first_place self.now) asked.now))
             (λ e. (e ≡ OutOfMemory) ⊎ SelectionError self.now asked.now e) }
     {
-        let names = self.names.as_slice();
-        let (mut entries, first_positions) = look_up(
+        let mut entries = keyed_entries(alloc, asked, &self.keying)?;
+        let discriminator = sort_entries(alloc, asked, &mut entries)?;
+        let first_positions = look_up(
             alloc,
-            names,
+            self.names.as_slice(),
             &self.keying,
             self.discriminator,
             &self.entries,
             asked,
+            &entries,
         )?;
-        let discriminator = sort_entries(alloc, asked, &mut entries)?;
         let names = copied(alloc, asked)?;
         let selected = IndexedNames {
             names,
@@ -146,8 +150,8 @@ impl IndexedNames {
     }
 }
 
-// Looks up each name asked. Returns an entry for each position of those asked, and the first position of each among the
-// names.
+// The first position of each name asked. Names are looked up in the order of their entries, which is that of the index, so
+// that a search reads mostly what the one before it has read.
 fn look_up(
     alloc: Global,
     names: &[FieldName],
@@ -155,25 +159,26 @@ fn look_up(
     discriminator: Discriminator,
     entries: &[IndexEntry],
     asked: &[FieldName],
-) -> VortexResult<(Vec<IndexEntry>, Vec<usize>)>
-    requires { IsIndexOf names.now keying.now discriminator entries.now }
-    ensures ok { MatchResult result
-        (λ made. map Some made.1.items ≡ map (first_place names.now) asked.now)
+    asked_entries: &[IndexEntry],
+) -> VortexResult<Vec<usize>>
+    requires index { IsIndexOf names.now keying.now discriminator entries.now }
+    requires keyed { All (IsKeyed asked.now keying.now) asked_entries.now }
+    requires each { IsPermutation (range_with_len 0 (length asked.now)) (positions asked_entries.now) }
+    ensures { MatchResult result
+        (λ found. map Some found.items ≡ map (first_place names.now) asked.now)
         (λ e. (e ≡ OutOfMemory) ⊎ SelectionError names.now asked.now e) }
-    ensures keyed { IfOk result (λ made. All (IsKeyed asked.now keying.now) made.0.items) }
-    ensures order { IfOk result
-        (λ made. positions made.0.items ≡ range_with_len 0 (length asked.now)) }
 {
-    let mut made = Vec::with_capacity(alloc, asked.len())?;
-    let mut first_positions = Vec::with_capacity(alloc, asked.len())?;
-    for position in 0..asked.len() {
-        let name = asked[position].as_str();
-        let key = key_of(name.as_bytes(), keying);
-        match search(names, keying, discriminator, entries, name, key).0 {
-            Some(first) => first_positions.push_reserved(first),
-            None => return Err(VortexError::FieldNotFound { position }),
+    let mut found = vec![in alloc; 0; asked.len()]?;
+    let mut missing = asked.len();
+    for entry in asked_entries {
+        let name = asked[entry.position].as_str();
+        match search(names, keying, discriminator, entries, name, entry.key).0 {
+            Some(first) => found[entry.position] = first,
+            None => missing = missing.min(entry.position),
         }
-        made.push_reserved(IndexEntry { key, position });
     }
-    Ok((made, first_positions))
+    if missing < asked.len() {
+        return Err(VortexError::FieldNotFound { position: missing });
+    }
+    Ok(found)
 }

@@ -1,8 +1,8 @@
 // SPDX-License-Identifier: Apache-2.0
 // SPDX-FileCopyrightText: Copyright the Vortex contributors
 
-// The keys of an index: numbers of eight bytes that distinguish most names; and how prefixes of names compare.
-ghost use Rattle.std.specs.Prelude.{◌≡◌, ◌↔◌, ◌*◌, ◌<◌, ◌≤◌, IsTrue, length, take, drop, slice_index};
+// The keys of an index: numbers of eight bytes that distinguish most names.
+ghost use Rattle.std.specs.Prelude.{◌≡◌, ◌*◌, ◌<◌, ◌≤◌, length, drop, slice_index};
 ghost use Rattle.dtype_base.specs.private.NameKeys.{big_endian, hash_of, key_of, mixed, sort_key};
 
 // The number after the greatest of eight bytes: what a difference of two of them borrows.
@@ -10,38 +10,6 @@ pub(crate) const TWO_POW_64: u128 = 0x1_0000_0000_0000_0000;
 
 // What a hash multiplies by: 2^64 divided by the golden ratio.
 const MULTIPLIER: u128 = 0x9E37_79B9_7F4A_7C15;
-
-// Whether the first `count` bytes of two texts are equal, or all of a shorter text. Up to eight bytes are compared at once,
-// where both texts have eight.
-pub(crate) fn eq_prefix(a: &[u8], b: &[u8], count: usize) -> bool
-    ensures { IsTrue result ↔ (take count a.now ≡ take count b.now) }
-{
-    if count == 0 {
-        return true;
-    }
-    if count <= 8 && a.len() >= 8 && b.len() >= 8 {
-        return load_prefix(a, count) == load_prefix(b, count);
-    }
-    prefix(a, count) == prefix(b, count)
-}
-
-// The first `count` bytes, at most eight, of a text of at least eight, as one big-endian number.
-#[tactic(auto, using(crate::proofs::KeyOrder::without_last))]
-fn load_prefix(text: &[u8], count: usize) -> u64
-    requires some { 0 < count }
-    requires few { count ≤ 8 }
-    requires long { 8 ≤ length text.now }
-    ensures { result ≡ big_endian count text.now }
-{
-    load_u64(text) >> (8 * (8 - count))
-}
-
-// The first `count` bytes, or all.
-fn prefix(text: &[u8], count: usize) -> &[u8]
-    ensures { result.now ≡ take count text.now }
-{
-    &text[..count.min(text.len())]
-}
 
 // What follows the first `count` bytes.
 fn suffix(text: &[u8], count: usize) -> &[u8]

@@ -1,21 +1,18 @@
 // SPDX-License-Identifier: Apache-2.0
 // SPDX-FileCopyrightText: Copyright the Vortex contributors
 
-// The index of a name list: an entry for each position, sorted by the keys of the names there, then by the names; and the
-// common prefix of the names, after which most keys are taken.
-ghost use Rattle.std.specs.Prelude.{◌≡◌, ◌≢◌, ◌↔◌, ◌<◌, ◌≤◌, ◌^◌, ◌%◌, false, All, IsTrue, IfOk, IsOkUnless, OnOk, length, map, take};
+// The index of a name list: an entry for each position, sorted by the keys of the names there, then by the names.
+ghost use Rattle.std.specs.Prelude.{◌≡◌, ◌≢◌, ◌↔◌, ◌<◌, ◌≤◌, ◌^◌, ◌%◌, false, All, IsTrue, IfOk, IsOkUnless, OnOk, length, map};
 ghost use Rattle.std.specs.List.{range_with_len};
 ghost use Rattle.std.specs.List.Sorted.{IsPermutation, IsSorted};
 ghost use Rattle.dtype_base.specs.Errors.{Makes};
 ghost use Rattle.dtype_base.specs.Distinct.{Distinct};
-ghost use Rattle.dtype_base.specs.private.NameKeys.{HaveCommonPrefix};
 ghost use Rattle.dtype_base.specs.private.NameOrder.{AreDistinguishedBy, IsIndexOf, IsKeyed, IsOrderOf, KeysIncrease, entry_cmp, position_cmp, positions};
 ghost use Rattle.dtype_base.specs.declared.name_key.Keying.{Keying};
-ghost use Rattle.dtype_base.specs.declared.name_key.Keying.TheVariants.{AfterPrefix, Hashed};
 ghost use Rattle.dtype_base.specs.declared.name_order.Discriminator.TheVariants.{Text};
 ghost use Rattle.dtype_base.specs.declared.vortex_error.VortexError.TheVariants.{OutOfMemory};
 
-use crate::name_key::{Keying, eq_prefix, hash_of, sort_key};
+use crate::name_key::{Keying, key_of, sort_key};
 use crate::{FieldName, VortexResult};
 use std::alloc::Global;
 use std::cmp::Ordering;
@@ -45,32 +42,57 @@ const MIN_RUN_LEN: usize = 64;
 // The most entries whose packed keys keep 32 bits of the sort key beside the index of the entry.
 const MAX_PACKED: usize = 0x1_0000_0000;
 
-// The entries of the index of these names, how their keys are made, and what distinguishes the entries.
+// The entries of the index of these names, how their keys are made, and what distinguishes the entries. Keys are made
+// after the prefix that the first and the last name share: mostly all names do, and nothing depends on it. Where such keys
+// don't distinguish the names, keys are hashes.
 pub(crate) fn build_index(
     alloc: Global,
     names: &[FieldName],
 ) -> VortexResult<(Vec<IndexEntry>, Keying, Discriminator)>
     ensures { Makes result (λ made. IsIndexOf names.now made.1 made.2 made.0.items) }
 {
-    if share_a_key(names) {
-        return hashed_index(alloc, names);
+    let prefix_len = guess_common_prefix(names);
+    if !last_share_a_key(names, prefix_len) {
+        let keying = Keying::AfterPrefix(prefix_len);
+        let mut entries = keyed_entries(alloc, names, &keying)?;
+        let by = sort_by_keys(alloc, &mut entries)?;
+        if is_by_keys(by) {
+            return Ok((entries, keying, by));
+        }
     }
-    let (mut entries, prefix_len) = all_entries(alloc, names)?;
-    let by = sort_by_keys(alloc, &mut entries)?;
-    if is_by_keys(by) {
-        return Ok((entries, Keying::AfterPrefix(prefix_len), by));
-    }
-    hashed_index(alloc, names)
+    let keying = Keying::Hashed;
+    let mut entries = keyed_entries(alloc, names, &keying)?;
+    let by = sort_entries(alloc, names, &mut entries)?;
+    Ok((entries, keying, by))
 }
 
-// Whether the last two names have one key after the prefix that the first and the last share. Then keys after a prefix
-// hardly distinguish the names, and aren't tried.
-fn share_a_key(names: &[FieldName]) -> bool {
+// The length of the common prefix of the first and the last name, in bytes: mostly that of all.
+fn guess_common_prefix(names: &[FieldName]) -> usize {
+    match (names.first(), names.last()) {
+        (Some(first), Some(last)) => {
+            common_prefix_len(first.as_str().as_bytes(), last.as_str().as_bytes())
+        }
+        _ => 0,
+    }
+}
+
+// The length of the common prefix of two texts, in bytes.
+fn common_prefix_len(a: &[u8], b: &[u8]) -> usize {
+    let end = a.len().min(b.len());
+    for i in 0..end {
+        if a[i] != b[i] {
+            return i;
+        }
+    }
+    end
+}
+
+// Whether the last two names have one key after a prefix. Then such keys hardly distinguish the names, and aren't tried.
+fn last_share_a_key(names: &[FieldName], prefix_len: usize) -> bool {
     let count = names.len();
     if count < 2 {
         return false;
     }
-    let prefix_len = guess_common_prefix(names);
     let before = names[count - 2].as_str().as_bytes();
     let last = names[count - 1].as_str().as_bytes();
     sort_key(before, prefix_len) == sort_key(last, prefix_len)
@@ -86,117 +108,21 @@ fn is_by_keys(by: Discriminator) -> bool
     }
 }
 
-// The index by hashes, for names that their first bytes after the common prefix don't distinguish.
-fn hashed_index(
+// An entry for each position, in the list's order, with the key of the name there.
+pub(crate) fn keyed_entries(
     alloc: Global,
     names: &[FieldName],
-) -> VortexResult<(Vec<IndexEntry>, Keying, Discriminator)>
-    ensures { Makes result (λ made. IsIndexOf names.now made.1 made.2 made.0.items) }
-{
-    let mut entries = hashed_entries(alloc, names)?;
-    let by = sort_entries(alloc, names, &mut entries)?;
-    Ok((entries, Keying::Hashed, by))
-}
-
-// An entry for each position, in the list's order, with the hash of the name there.
-fn hashed_entries(alloc: Global, names: &[FieldName]) -> VortexResult<Vec<IndexEntry>>
-    ensures ok { Makes result (λ made. positions made.items ≡ range_with_len 0 (length names.now)) }
-    ensures keyed { IfOk result (λ made. All (IsKeyed names.now Hashed) made.items) }
-{
-    let mut entries = Vec::with_capacity(alloc, names.len())?;
-    for position in 0..names.len() {
-        let key = hash_of(names[position].as_str().as_bytes());
-        entries.push_reserved(IndexEntry { key, position });
-    }
-    Ok(entries)
-}
-
-// An entry for each position, in the list's order, and the length of the names' common prefix. All names mostly share the
-// common prefix of the first and the last name: then each name is read once.
-fn all_entries(alloc: Global, names: &[FieldName]) -> VortexResult<(Vec<IndexEntry>, usize)>
-    ensures ok { Makes result (λ made. HaveCommonPrefix names.now made.1) }
-    ensures keyed { IfOk result (λ made. All (IsKeyed names.now (AfterPrefix made.1)) made.0.items) }
-    ensures each { IfOk result
-        (λ made. positions made.0.items ≡ range_with_len 0 (length names.now)) }
-{
-    let guessed = guess_common_prefix(names);
-    let entries = entries_after_prefix(alloc, names, guessed)?;
-    if entries.len() == names.len() {
-        return Ok((entries, guessed));
-    }
-    let prefix_len = common_prefix_len(names);
-    let entries = entries_after_prefix(alloc, names, prefix_len)?;
-    Ok((entries, prefix_len))
-}
-
-// An entry for each position before the first name that doesn't share `prefix_len` bytes with the first, with the key after
-// these bytes. So there are as many entries as names where all names share them.
-fn entries_after_prefix(
-    alloc: Global,
-    names: &[FieldName],
-    prefix_len: usize,
+    keying: &Keying,
 ) -> VortexResult<Vec<IndexEntry>>
-    ensures ok { Makes result (λ made. positions made.items ≡ range_with_len 0 (length made.items)) }
-    ensures keyed { IfOk result (λ made. All (IsKeyed names.now (AfterPrefix prefix_len)) made.items) }
-    ensures common_prefix { IfOk result (λ made. length made.items ≡ length names.now ↔ HaveCommonPrefix names.now prefix_len) }
+    ensures ok { Makes result (λ made. positions made.items ≡ range_with_len 0 (length names.now)) }
+    ensures keyed { IfOk result (λ made. All (IsKeyed names.now keying.now) made.items) }
 {
     let mut entries = Vec::with_capacity(alloc, names.len())?;
-    let Some(first) = names.first() else {
-        return Ok(entries);
-    };
-    let first = first.as_str().as_bytes();
     for position in 0..names.len() {
-        let name = names[position].as_str().as_bytes();
-        if !eq_prefix(name, first, prefix_len) {
-            return Ok(entries);
-        }
-        let key = sort_key(name, prefix_len);
+        let key = key_of(names[position].as_str().as_bytes(), keying);
         entries.push_reserved(IndexEntry { key, position });
     }
     Ok(entries)
-}
-
-// The length of the names' common prefix, in bytes.
-fn common_prefix_len(names: &[FieldName]) -> usize
-    ensures { HaveCommonPrefix names.now result }
-{
-    let Some(first) = names.first() else {
-        return 0;
-    };
-    let first = first.as_str().as_bytes();
-    let mut prefix_len = first.len();
-    for name in names {
-        prefix_len = matching_len(name.as_str().as_bytes(), first, prefix_len);
-    }
-    prefix_len
-}
-
-// The length of the common prefix of the first and the last name: mostly that of all.
-fn guess_common_prefix(names: &[FieldName]) -> usize {
-    match (names.first(), names.last()) {
-        (Some(first), Some(last)) => {
-            let first = first.as_str().as_bytes();
-            matching_len(last.as_str().as_bytes(), first, first.len())
-        }
-        _ => 0,
-    }
-}
-
-// The length of the common prefix of two texts, at most `most` bytes.
-fn matching_len(a: &[u8], b: &[u8], most: usize) -> usize
-    ensures most { result ≤ most }
-    ensures same { take result a.now ≡ take result b.now }
-{
-    if eq_prefix(a, b, most) {
-        return most;
-    }
-    let end = most.min(a.len()).min(b.len());
-    for i in 0..end {
-        if a[i] != b[i] {
-            return i;
-        }
-    }
-    end
 }
 
 // Sorts entries by key, which is branch-free, and by text only where two keys are equal. Returns what distinguishes the

@@ -3,8 +3,7 @@
 
 -- Sort keys: a number of eight bytes for each name, by which most names are ordered and distinguished without their
 -- texts being read. Only private contracts cite them.
-use Rattle.std.specs.Prelude.{◌≡◌, ℕ, zero, suc, ◌+◌, ◌-◌, ◌*◌, ◌/◌, ◌%◌, ◌^◌, List, [], length, take, drop, slice_index, slice_index_or}
-use Rattle.std.specs.List.{All}
+use Rattle.std.specs.Prelude.{ℕ, zero, suc, ◌+◌, ◌-◌, ◌*◌, ◌/◌, ◌%◌, ◌^◌, List, length, drop, slice_index}
 use Rattle.dtype_base.specs.declared.name_key.Keying.{Keying}
 use Rattle.dtype_base.specs.declared.name_key.Keying.TheVariants.{AfterPrefix, Hashed}
 
@@ -13,7 +12,7 @@ unfoldable pub big_endian : ℕ → List ℕ → ℕ
 big_endian zero bs = 0
 big_endian (suc k) bs = big_endian k bs * 256 + slice_index bs k
 
--- the sort key of a name after a common prefix: the eight bytes that follow the prefix
+-- the sort key of a name after a prefix of this length: the eight bytes that follow it
 abbrev pub sort_key : ℕ → List ℕ → ℕ
 sort_key prefix_len n = big_endian 8 (drop prefix_len n)
 
@@ -37,7 +36,3 @@ hash_of n = mixed (words_hash ((length n - 1) / 8) n) (big_endian 8 (drop (lengt
 abbrev pub key_of : Keying → List ℕ → ℕ
 key_of (AfterPrefix prefix_len) n = sort_key prefix_len n
 key_of Hashed n = hash_of n
-
--- all names begin with the same prefix_len bytes
-abbrev pub HaveCommonPrefix : List (List ℕ) → ℕ → Type 0
-HaveCommonPrefix names prefix_len = All (λ n. take prefix_len n ≡ take prefix_len (slice_index_or names 0 [])) names

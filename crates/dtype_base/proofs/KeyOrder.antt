@@ -18,7 +18,7 @@ use Rattle.std.proofs.lemmas.List.{get_or-map, get_or-take, get_or-drop, get_or_
 use Rattle.std.proofs.lemmas.List.Sorted.{All-permutation, IsPermutation-map, IsNonDecreasingBy-from_all_adjacent}
 use Rattle.std.proofs.lemmas.Option.{slice_get-get_or, get_or_from_slice_get}
 use Rattle.dtype_base.specs.private.NameKeys.{big_endian, hash_of, key_of, mixed, words_hash}
-use Rattle.dtype_base.specs.private.NameOrder.{AreDistinguishedBy, IsIndexOf, IsKeyed, IsOrderOf, bytes_cmp, key_or, keyed_position_cmp, name_cmp, position_cmp, entry_cmp, entry_name_cmp, positions}
+use Rattle.dtype_base.specs.private.NameOrder.{AreDistinguishedBy, IsIndexBy, IsKeyed, IsOrderOf, bytes_cmp, key_or, keyed_position_cmp, name_cmp, position_cmp, entry_cmp, entry_name_cmp, positions}
 use Rattle.dtype_base.specs.declared.name_key.Keying.{Keying}
 use Rattle.dtype_base.specs.declared.name_order.IndexEntry.{IndexEntry}
 use Rattle.dtype_base.specs.declared.name_order.Discriminator.{Discriminator}
@@ -101,7 +101,7 @@ order_of names keying made sorted each keyed moved up = record {
 
 -- the index of sorted entries
 pub index_of : (names : List (List ℕ)) (keying : Keying) (by : Discriminator) (made sorted : List IndexEntry) → positions made ≡ range_with_len 0 (length names)
-    → All (IsKeyed names keying) made → IsPermutation made sorted → IsSorted (entry_cmp names) sorted → AreDistinguishedBy by sorted → IsIndexOf names keying by sorted
+    → All (IsKeyed names keying) made → IsPermutation made sorted → IsSorted (entry_cmp names) sorted → AreDistinguishedBy by sorted → IsIndexBy names keying by sorted
 index_of names keying by made sorted each keyed moved up distinguished = record {
   keyed = All-permutation (IsKeyed names keying) made sorted moved keyed;
   order = order_of names keying made sorted each keyed moved up;
@@ -140,14 +140,14 @@ module _ (names : List (List ℕ)) (keying : Keying) (entries : List IndexEntry)
       tied_then _ _ names_tie ∙ name_by_keys names keying p n key (keyed k d within) is
 
 -- what the index's discriminator names compares an entry with a name that occurs
-pub decided : (names : List (List ℕ)) (keying : Keying) (by : Discriminator) (entries : List IndexEntry) → IsIndexOf names keying by entries
+pub decided : (names : List (List ℕ)) (keying : Keying) (by : Discriminator) (entries : List IndexEntry) → IsIndexBy names keying by entries
     → (n : List ℕ) (key k : ℕ) (d : IndexEntry) → key ≡ key_of keying n → k < length entries → Occurs names n
     → entry_name_cmp names n key by (get_or entries k d) ≡ name_cmp keying names n (get_or entries k d).position
 decided names keying Key entries h n key k d is within t = keys_decide names keying entries h.keyed h.order h.distinguished n key k d is within t
 decided names keying Text entries h n key k d is within t = name_by_keys names keying (get_or entries k d) n key (h.keyed k d within) is
 
 -- the last comparison decides
-pub same_decided : (names : List (List ℕ)) (keying : Keying) (by : Discriminator) (entries : List IndexEntry) → IsIndexOf names keying by entries
+pub same_decided : (names : List (List ℕ)) (keying : Keying) (by : Discriminator) (entries : List IndexEntry) → IsIndexBy names keying by entries
     → (n : List ℕ) (key k : ℕ) (d : IndexEntry) (same : Bool) → key ≡ key_of keying n → k < length entries
     → IsTrue same ↔ (((get_or entries k d).key ≡ key) × (get_or names (get_or entries k d).position [] ≡ n))
     → (same ≡ true → name_cmp keying names n (get_or entries k d).position ≡ Equal) × (same ≡ false → name_cmp keying names n (get_or entries k d).position ≢ Equal)
@@ -175,7 +175,7 @@ sorted_by_keys names entries increase = λ k d low high.
 
 -- the index of entries that their keys distinguish
 pub distinct_index : (names : List (List ℕ)) (keying : Keying) (by : Discriminator) (made sorted : List IndexEntry) → by ≢ Text
-    → positions made ≡ range_with_len 0 (length names) → All (IsKeyed names keying) made → IsPermutation made sorted → AreDistinguishedBy by sorted → IsIndexOf names keying by sorted
+    → positions made ≡ range_with_len 0 (length names) → All (IsKeyed names keying) made → IsPermutation made sorted → AreDistinguishedBy by sorted → IsIndexBy names keying by sorted
 distinct_index names keying by made sorted other each keyed moved distinguished =
     index_of names keying by made sorted each keyed moved (sorted_by_keys names sorted (increasing by sorted other distinguished)) distinguished
 

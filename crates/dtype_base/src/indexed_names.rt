@@ -13,10 +13,8 @@ ghost use Rattle.dtype_base.specs.private.NameOrder.{IsIndexOf, IsKeyed, positio
 ghost use Rattle.dtype_base.specs.declared.vortex_error.VortexError.TheVariants.{OutOfMemory};
 
 use crate::field_names::copied;
-use crate::name_key::{Keying, key_of};
-use crate::name_order::{
-    Discriminator, IndexEntry, are_distinct, build_index, keyed_entries, sort_entries,
-};
+use crate::name_key::key_of;
+use crate::name_order::{IndexEntry, NameIndex, are_distinct, build_index, build_index_by};
 use crate::name_search::search;
 use crate::{FieldName, FieldNames, VortexError, VortexResult};
 use std::alloc::Global;
@@ -26,12 +24,7 @@ use std::marker::Model;
 #[derive(Debug, Drop)]
 pub struct IndexedNames {
     names: FieldNames,
-    // How the entries' keys are made of the names.
-    keying: Keying,
-    // An entry for each position, sorted by the key of the name there, then by the name, then by the position.
-    entries: Vec<IndexEntry>,
-    // How much of a name distinguishes the entries.
-    discriminator: Discriminator,
+    index: NameIndex,
 }
 
 impl Model for IndexedNames {
@@ -42,7 +35,7 @@ impl Model for IndexedNames {
 
     ghost view = { λ n. n.names };
 
-    ghost invariant = { λ n. IsIndexOf n.names n.keying n.discriminator n.entries.items };
+    ghost invariant = { λ n. IsIndexOf n.names n.index };
 }
 
 impl IndexedNames {
@@ -54,13 +47,8 @@ impl IndexedNames {
     pub fn new(alloc: Global, names: FieldNames) -> VortexResult<Self>
         ensures { Makes result (λ n. n ≡ names) }
     {
-        let (entries, keying, discriminator) = build_index(alloc, names.as_slice())?;
-        Ok(IndexedNames {
-            names,
-            keying,
-            entries,
-            discriminator,
-        })
+        let index = build_index(alloc, names.as_slice())?;
+        Ok(IndexedNames { names, index })
     }
 
     /// Returns the names, in order.
@@ -80,15 +68,8 @@ impl IndexedNames {
         ensures at_most { result.1 ≤ binary_digits (length self.now) + 1 }
         ensures at_least { IsSome result.0 → 1 ≤ result.1 }
     {
-        let key = key_of(name.as_bytes(), &self.keying);
-        search(
-            self.names.as_slice(),
-            &self.keying,
-            self.discriminator,
-            &self.entries,
-            name,
-            key,
-        )
+        let key = key_of(name.as_bytes(), &self.index.keying);
+        search(self.names.as_slice(), &self.index, name, key)
     }
 
     /// Returns the selected names in the order asked, with their index, and for each the position of the first equal
@@ -103,25 +84,16 @@ impl IndexedNames {
             (λ s. (s.0 ≡ asked.now) × (map Some s.1.items ≡ map (first_place self.now) asked.now))
             (λ e. (e ≡ OutOfMemory) ⊎ SelectionError self.now asked.now e) }
     {
-        let mut entries = keyed_entries(alloc, asked, &self.keying)?;
-        let discriminator = sort_entries(alloc, asked, &mut entries)?;
+        let index = build_index_by(alloc, asked, self.index.keying)?;
         let first_positions = look_up(
             alloc,
             self.names.as_slice(),
-            &self.keying,
-            self.discriminator,
-            &self.entries,
+            &self.index,
             asked,
-            &entries,
+            &index.entries,
         )?;
         let names = copied(alloc, asked)?;
-        let selected = IndexedNames {
-            names,
-            keying: self.keying,
-            entries,
-            discriminator,
-        };
-        Ok((selected, first_positions))
+        Ok((IndexedNames { names, index }, first_positions))
     }
 
     /// Returns the same names with the same index: nothing is sorted. The names share their texts.
@@ -133,20 +105,19 @@ impl IndexedNames {
         ensures { Makes result (λ n. n ≡ self.now) }
     {
         let names = self.names.try_clone(alloc)?;
-        let entries = Vec::from_slice(alloc, &self.entries)?;
-        Ok(IndexedNames {
-            names,
-            keying: self.keying,
-            entries,
-            discriminator: self.discriminator,
-        })
+        let index = NameIndex {
+            keying: self.index.keying,
+            entries: Vec::from_slice(alloc, &self.index.entries)?,
+            discriminator: self.index.discriminator,
+        };
+        Ok(IndexedNames { names, index })
     }
 
     /// Returns whether no name repeats. Doesn't allocate.
     pub fn are_distinct(&self) -> bool
         ensures { IsTrue result ↔ Distinct self.now }
     {
-        are_distinct(self.names.as_slice(), &self.entries)
+        are_distinct(self.names.as_slice(), &self.index.entries)
     }
 }
 
@@ -155,24 +126,22 @@ impl IndexedNames {
 fn look_up(
     alloc: Global,
     names: &[FieldName],
-    keying: &Keying,
-    discriminator: Discriminator,
-    entries: &[IndexEntry],
+    index: &NameIndex,
     asked: &[FieldName],
-    asked_entries: &[IndexEntry],
+    entries: &[IndexEntry],
 ) -> VortexResult<Vec<usize>>
-    requires index { IsIndexOf names.now keying.now discriminator entries.now }
-    requires keyed { All (IsKeyed asked.now keying.now) asked_entries.now }
-    requires each { IsPermutation (range_with_len 0 (length asked.now)) (positions asked_entries.now) }
+    requires index { IsIndexOf names.now index.now }
+    requires keyed { All (IsKeyed asked.now index.now.keying) entries.now }
+    requires each { IsPermutation (range_with_len 0 (length asked.now)) (positions entries.now) }
     ensures { MatchResult result
         (λ found. map Some found.items ≡ map (first_place names.now) asked.now)
         (λ e. (e ≡ OutOfMemory) ⊎ SelectionError names.now asked.now e) }
 {
     let mut found = vec![in alloc; 0; asked.len()]?;
     let mut missing = asked.len();
-    for entry in asked_entries {
+    for entry in entries {
         let name = asked[entry.position].as_str();
-        match search(names, keying, discriminator, entries, name, entry.key).0 {
+        match search(names, index, name, entry.key).0 {
             Some(first) => found[entry.position] = first,
             None => missing = missing.min(entry.position),
         }

@@ -33,6 +33,17 @@ pub(crate) enum Discriminator {
     Text,
 }
 
+// The index of a name list.
+#[derive(Debug, Drop)]
+pub(crate) struct NameIndex {
+    // How the entries' keys are made of the names.
+    pub(crate) keying: Keying,
+    // An entry for each position, sorted by the key of the name there, then by the name, then by the position.
+    pub(crate) entries: Vec<IndexEntry>,
+    // How much of a name distinguishes the entries.
+    pub(crate) discriminator: Discriminator,
+}
+
 // Up to so many items std's stable sort sorts in place, without allocating.
 const SMALL_SORT_MAX: usize = 20;
 
@@ -42,28 +53,43 @@ const MIN_RUN_LEN: usize = 64;
 // The most entries whose packed keys keep 32 bits of the sort key beside the index of the entry.
 const MAX_PACKED: usize = 0x1_0000_0000;
 
-// The entries of the index of these names, how their keys are made, and what distinguishes the entries. Keys are made
-// after the prefix that the first and the last name share: mostly all names do, and nothing depends on it. Where such keys
-// don't distinguish the names, keys are hashes.
-pub(crate) fn build_index(
-    alloc: Global,
-    names: &[FieldName],
-) -> VortexResult<(Vec<IndexEntry>, Keying, Discriminator)>
-    ensures { Makes result (λ made. IsIndexOf names.now made.1 made.2 made.0.items) }
+// The index of these names. Keys are made after the prefix that the first and the last name share: mostly all names do, and
+// nothing depends on it. Where such keys don't distinguish the names, keys are hashes.
+pub(crate) fn build_index(alloc: Global, names: &[FieldName]) -> VortexResult<NameIndex>
+    ensures { Makes result (λ index. IsIndexOf names.now index) }
 {
     let prefix_len = guess_common_prefix(names);
     if !last_share_a_key(names, prefix_len) {
         let keying = Keying::AfterPrefix(prefix_len);
         let mut entries = keyed_entries(alloc, names, &keying)?;
-        let by = sort_by_keys(alloc, &mut entries)?;
-        if is_by_keys(by) {
-            return Ok((entries, keying, by));
+        let discriminator = sort_by_keys(alloc, &mut entries)?;
+        if is_by_keys(discriminator) {
+            return Ok(NameIndex {
+                keying,
+                entries,
+                discriminator,
+            });
         }
     }
-    let keying = Keying::Hashed;
+    build_index_by(alloc, names, Keying::Hashed)
+}
+
+// The index of these names by keys that are made so.
+pub(crate) fn build_index_by(
+    alloc: Global,
+    names: &[FieldName],
+    keying: Keying,
+) -> VortexResult<NameIndex>
+    ensures ok { Makes result (λ index. IsIndexOf names.now index) }
+    ensures keying { IfOk result (λ index. index.keying ≡ keying) }
+{
     let mut entries = keyed_entries(alloc, names, &keying)?;
-    let by = sort_entries(alloc, names, &mut entries)?;
-    Ok((entries, keying, by))
+    let discriminator = sort_entries(alloc, names, &mut entries)?;
+    Ok(NameIndex {
+        keying,
+        entries,
+        discriminator,
+    })
 }
 
 // The length of the common prefix of the first and the last name, in bytes: mostly that of all.
@@ -109,7 +135,7 @@ fn is_by_keys(by: Discriminator) -> bool
 }
 
 // An entry for each position, in the list's order, with the key of the name there.
-pub(crate) fn keyed_entries(
+fn keyed_entries(
     alloc: Global,
     names: &[FieldName],
     keying: &Keying,
@@ -128,7 +154,7 @@ pub(crate) fn keyed_entries(
 // Sorts entries by key, which is branch-free, and by text only where two keys are equal. Returns what distinguishes the
 // entries.
 #[tactic(auto, using(crate::proofs::PermutedEntries::moved_twice))]
-pub(crate) fn sort_entries(
+fn sort_entries(
     alloc: Global,
     names: &[FieldName],
     entries: &mut Vec<IndexEntry>,

@@ -7,29 +7,32 @@ ghost use Rattle.std.specs.Ordering.{is_lt, nat_cmp};
 ghost use Rattle.dtype_base.specs.FieldNames.{first_place};
 ghost use Rattle.dtype_base.specs.Comparisons.{comparisons};
 ghost use Rattle.dtype_base.specs.private.NameKeys.{key_of};
-ghost use Rattle.dtype_base.specs.private.NameOrder.{IsIndexOf, mask, entry_name_cmp};
+ghost use Rattle.dtype_base.specs.private.NameOrder.{IsIndexBy, IsIndexOf, mask, entry_name_cmp};
 
 use crate::FieldName;
 use crate::name_key::{Keying, TWO_POW_64};
-use crate::name_order::{Discriminator, IndexEntry};
+use crate::name_order::{Discriminator, IndexEntry, NameIndex};
 
 // The first position of the name, or `None`, and how many names were compared. Inlined, since a call for each lookup takes
 // a tenth longer; compiled once for each discriminator, so that no step of a search tests which it is.
 #[inline(always)]
 pub(crate) fn search(
     names: &[FieldName],
-    keying: &Keying,
-    discriminator: Discriminator,
-    entries: &[IndexEntry],
+    index: &NameIndex,
     name: &str,
     key: u64,
 ) -> (Option<usize>, u64)
-    requires index { IsIndexOf names.now keying.now discriminator entries.now }
-    requires key { key ≡ key_of keying.now name.now }
+    requires index { IsIndexOf names.now index.now }
+    requires key { key ≡ key_of index.now.keying name.now }
     ensures place { result.0 ≡ first_place names.now name.now }
     ensures count { result.1 ≡ comparisons (length names.now) }
 {
-    match discriminator {
+    let NameIndex {
+        keying,
+        entries,
+        ..
+    } = index;
+    match index.discriminator {
         Discriminator::Key => search_with(names, keying, Discriminator::Key, entries, name, key),
         Discriminator::Text => search_with(names, keying, Discriminator::Text, entries, name, key),
     }
@@ -47,7 +50,7 @@ fn search_with(
     name: &str,
     key: u64,
 ) -> (Option<usize>, u64)
-    requires index { IsIndexOf names.now keying.now by entries.now }
+    requires index { IsIndexBy names.now keying.now by entries.now }
     requires key { key ≡ key_of keying.now name.now }
     ensures place { result.0 ≡ first_place names.now name.now }
     ensures count { result.1 ≡ comparisons (length names.now) }

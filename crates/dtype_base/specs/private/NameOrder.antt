@@ -13,6 +13,7 @@ use Rattle.std.specs.Cmp.Lexicographic.{slice_cmp}
 use Rattle.dtype_base.specs.private.NameKeys.{key_of}
 use Rattle.dtype_base.specs.declared.name_key.Keying.{Keying}
 use Rattle.dtype_base.specs.declared.name_order.IndexEntry.{IndexEntry}
+use Rattle.dtype_base.specs.declared.name_order.NameIndex.{NameIndex}
 use Rattle.dtype_base.specs.declared.name_order.Discriminator.{Discriminator}
 use Rattle.dtype_base.specs.declared.name_order.Discriminator.TheVariants.{Key, Text}
 
@@ -69,10 +70,14 @@ AreDistinguishedBy Key = KeysIncrease
 AreDistinguishedBy Text = λ entries. ⊤
 
 -- the entries are the index of these names: with keys that are made so, in order, distinguished so
-pub record IsIndexOf (names : List (List ℕ)) (keying : Keying) (discriminator : Discriminator) (entries : List IndexEntry) : Type 0 where
+pub record IsIndexBy (names : List (List ℕ)) (keying : Keying) (discriminator : Discriminator) (entries : List IndexEntry) : Type 0 where
   pub keyed : All (IsKeyed names keying) entries
   pub order : IsOrderOf keying names (positions entries)
   pub distinguished : AreDistinguishedBy discriminator entries
+
+-- the index of these names
+abbrev pub IsIndexOf : List (List ℕ) → NameIndex → Type 0
+IsIndexOf names index = IsIndexBy names index.keying index.discriminator index.entries.items
 
 -- how an entry compares to a name n with this key, by as much of them as the discriminator names
 abbrev pub entry_name_cmp : List (List ℕ) → List ℕ → ℕ → Discriminator → IndexEntry → Ordering

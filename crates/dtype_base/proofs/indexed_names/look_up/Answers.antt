@@ -14,7 +14,7 @@ pub loop-entry-preserved : goal.loop-entry-preserved
 loop-entry-preserved c =
     let names = c.args.names.now in
     let asked = c.args.asked.now in
-    let entries = c.args.asked_entries.now in
+    let entries = c.args.entries.now in
     let k = c.loop-entry.entry-index in
     let p = (get_or entries k no_entry).position in
     let within : p < length asked = (c.requires.keyed k no_entry c.loop-entry-test.true).within in
@@ -36,10 +36,10 @@ loop-entry-preserved c =
 
 pub returns-then-missing-asked : goal.returns-then-missing-asked
 returns-then-missing-asked c =
-    let entries = c.args.asked_entries.now in
+    let entries = c.args.entries.now in
     inr (first_missing c.args.names.now c.args.asked.now (positions entries) c.requires.each c.loop-entry.entry-index c.loop-entry.found.items c.loop-entry.missing c.loop-entry.invariant (omega (arith, c.loop-entry-test.false, as_many_positions entries)) c.if-missing-asked.true)
 
 pub returns : goal.returns
 returns c =
-    let entries = c.args.asked_entries.now in
+    let entries = c.args.entries.now in
     all_found c.args.names.now c.args.asked.now (positions entries) c.requires.each c.loop-entry.entry-index c.loop-entry.found.items c.loop-entry.missing c.loop-entry.invariant (omega (arith, c.loop-entry-test.false, as_many_positions entries)) c.if-missing-asked.false

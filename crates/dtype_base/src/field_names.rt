@@ -133,13 +133,7 @@ impl FieldNames {
     pub fn find(&self, name: &str) -> Option<usize>
         ensures { result ≡ first_place self.now name.now }
     {
-        let items = self.items.as_slice();
-        for (i, item) in items.iter().enumerate() {
-            if item.eq_str(name) {
-                return Some(i);
-            }
-        }
-        None
+        self.items.iter().position(|item| item.eq_str(name))
     }
 
     /// Returns the names as a slice.

@@ -307,12 +307,7 @@ fn discriminator_of(entries: &[IndexEntry]) -> Discriminator
 fn keys_increase(entries: &[IndexEntry]) -> bool
     ensures { IsTrue result → KeysIncrease entries.now }
 {
-    for next in 1..entries.len() {
-        if entries[next - 1].key >= entries[next].key {
-            return false;
-        }
-    }
-    true
+    entries.windows(2).all(|pair| pair[0].key < pair[1].key)
 }
 
 // Whether no name repeats: equal names would be neighbours in the order.

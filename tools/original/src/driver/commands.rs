@@ -37,7 +37,7 @@ use crate::types::{Answer, Id, PTYPES, Stop, Tags, Text, Told, holding, id, join
 type Command = Box<dyn Fn(&mut Line) -> Answer>;
 
 /// The conditions of the commands where the original panics.
-const CONDITIONS: [(&str, &str); 15] = [
+const CONDITIONS: [(&str, &str); 17] = [
     ("a type that can be non-nullable", "as_nonnullable with_nullability extension_with_nullability"),
     ("a type that can be non-nullable", "tag_with_nullability word_with_nullability"),
     ("a primitive type", "as_ptype"),
@@ -53,6 +53,8 @@ const CONDITIONS: [(&str, &str); 15] = [
     ("a signed integer", "match_each_signed"),
     ("a float", "match_each_float"),
     ("names", "starts_with_field"),
+    ("two unsigned names", "max_unsigned_ptype"),
+    ("two signed names", "max_signed_ptype"),
 ];
 
 /// Adds commands that make one call each: the method of this type that the command is named for, or the one behind `=`.
@@ -323,7 +325,7 @@ fn add_extensions(c: &mut Console) {
         pb_from_number(number: i64) usize::try_from(number).ok().and_then(|place| PTYPES.get(place).copied());
         registry(session: Session, id: Id) session.made().dtypes().registry().get(&id.0).is_some();
         deserialize(session: Session, id: Id, metadata: Bytes, storage: DType) {
-            deserialized(&session, id.0, metadata.0, storage)
+            deserialized(session, id.0, metadata.0, storage)
         };
         read(session: Session, message: pb::DType) read(&session.made(), &message);
         normal(session: Session, message: pb::DType) pb::DType::try_from(&read(&session.made(), &message)?);
@@ -337,7 +339,7 @@ fn add_extensions(c: &mut Console) {
 
 /// The extension that a session makes of its parts; of an id that it doesn't know by a message, in which no plugin is
 /// to read the storage's extensions.
-fn deserialized(session: &Session, id: ExtId, metadata: Vec<u8>, storage: DType) -> Answer<DType> {
+fn deserialized(session: Session, id: ExtId, metadata: Vec<u8>, storage: DType) -> Answer<DType> {
     if let Some(plugin) = session.made().dtypes().registry().get(&id) {
         return Ok(DType::Extension(plugin.deserialize(&metadata, storage)?));
     }
@@ -425,7 +427,7 @@ struct Native(DType);
 const INTEGERS: [&str; 9] = ["u8", "u16", "u32", "u64", "i8", "i16", "i32", "i64", "i128"];
 
 arguments! {
-    Integer: |line| line.one_of(&INTEGERS).map(|place| Integer(INTEGERS[place]));
+    Integer: |line| line.one_of(&INTEGERS).map(Integer);
     Native: |line| {
         let mut around = String::new();
         while let Some(one) = ["Option<", "Vec<"].into_iter().find(|it| line.eat(it)) {
@@ -465,13 +467,13 @@ fn add_numbers(c: &mut Console) {
         ptype_kinds(ptype: PType) holding(tests!(ptype, is_unsigned_int is_signed_int is_int is_float));
         pb_number(ptype: PType) i32::from(pb::PType::from(ptype));
         // (the original asserts the sign in a debug build alone; here both names of that sign are a condition)
-        max_unsigned_ptype(a: PType, b: PType) match a.is_unsigned_int() && b.is_unsigned_int() {
-            true => Ok(a.max_unsigned_ptype(b)),
-            false => stop("condition: two unsigned names"),
+        max_unsigned_ptype(a: PType, b: PType) {
+            assert!(a.is_unsigned_int() && b.is_unsigned_int());
+            a.max_unsigned_ptype(b)
         };
-        max_signed_ptype(a: PType, b: PType) match a.is_signed_int() && b.is_signed_int() {
-            true => Ok(a.max_signed_ptype(b)),
-            false => stop("condition: two signed names"),
+        max_signed_ptype(a: PType, b: PType) {
+            assert!(a.is_signed_int() && b.is_signed_int());
+            a.max_signed_ptype(b)
         };
     }
     visitors!(c, PType: match_each match_each_native_ptype, match_each_simd match_each_native_simd_ptype,

@@ -10,64 +10,64 @@ use vortex_error::VortexError;
 
 use crate::types::Stop;
 
-/// The library's texts, by number, and the original's where they differ; what is in braces is what the kind carries.
-const TEXTS: [(&str, &str); 37] = [
-    ("out of memory", ""),
-    (
-        "decimal precision must be between 1 and {max} (inclusive)",
-        "precision cannot be 0, has to be between [1, {max}]",
-    ),
-    ("decimal precision {precision} exceeds MAX_PRECISION {max}", "Precision {precision} is greater than max {max}"),
-    ("decimal scale {scale} exceeds MAX_SCALE {max}", "Scale {scale} is greater than max {max}"),
-    (
-        "decimal scale {scale} is greater than precision {precision}",
-        "Scale {scale} is greater than precision {precision}",
-    ),
-    ("Cannot convert DType into DecimalType", "Cannot convert DType {_} into DecimalType"),
-    ("Cannot convert DType into PType", "Cannot convert DType {_} into PType"),
-    ("cannot convert ptype {ptype} to DecimalType", ""),
-    ("bytes have another length", "Failed to convert bytes into {_}"),
-    ("map key dtype must be non-nullable", ""),
-    ("union names and dtypes length mismatch", ""),
-    ("union names and type_ids length mismatch", ""),
-    ("union must have at least one variant", "union must have at least one variant (for now)"),
-    ("type_ids must be distinct", "type_ids must be distinct, got {_}"),
-    ("union supports at most 256 consecutive variants", "union supports at most 256 consecutive variants, got {_}"),
-    ("union variant names must be distinct", "union variant names must be distinct, got {_}"),
-    ("field {position} of the projection not found", ""),
-    ("index {index} out of bounds for struct with {fields} fields", ""),
-    ("Can't merge struct fields with duplicate names", ""),
-    ("element size is bigger than usize", ""),
-    ("Cannot step into exact root field path", ""),
-    ("Cannot get starting field from All mask", ""),
-    ("extension metadata or storage refused", "plugin: {_}"),
-    ("extension id differs", ""),
-    ("Unrecognized DType", ""),
-    ("unknown primitive number", ""),
-    ("precision does not fit in u8", "proto precision could not be downcast to u8"),
-    ("scale does not fit in i8", "proto scale could not be downcast to i8"),
-    ("Invalid list element type", ""),
-    ("Invalid fixed-size list element type", ""),
-    ("Invalid map key type", ""),
-    ("Invalid map value type", ""),
-    ("struct names and dtypes length mismatch", ""),
-    ("type_id does not fit in u8", "Union type_id {_} somehow does not fit in u8"),
-    ("Extension DType missing storage proto", ""),
-    ("Unregistered extension type ID", "Unregistered extension type ID: {_}"),
-    ("FieldPath part missing type", ""),
-];
+/// The library's texts, by number, and the original's behind ` = ` where they differ; in braces is what the kind
+/// carries.
+const TEXTS: &str = "\
+out of memory
+decimal precision must be between 1 and {max} (inclusive) = precision cannot be 0, has to be between [1, {max}]
+decimal precision {precision} exceeds MAX_PRECISION {max} = Precision {precision} is greater than max {max}
+decimal scale {scale} exceeds MAX_SCALE {max} = Scale {scale} is greater than max {max}
+decimal scale {scale} is greater than precision {precision} = Scale {scale} is greater than precision {precision}
+Cannot convert DType into DecimalType = Cannot convert DType {_} into DecimalType
+Cannot convert DType into PType = Cannot convert DType {_} into PType
+cannot convert ptype {ptype} to DecimalType
+bytes have another length = Failed to convert bytes into {_}
+map key dtype must be non-nullable
+union names and dtypes length mismatch
+union names and type_ids length mismatch
+union must have at least one variant = union must have at least one variant (for now)
+type_ids must be distinct = type_ids must be distinct, got {_}
+union supports at most 256 consecutive variants = union supports at most 256 consecutive variants, got {_}
+union variant names must be distinct = union variant names must be distinct, got {_}
+field {position} of the projection not found
+index {index} out of bounds for struct with {fields} fields
+Can't merge struct fields with duplicate names
+element size is bigger than usize
+Cannot step into exact root field path
+Cannot get starting field from All mask
+extension metadata or storage refused = plugin: {_}
+extension id differs
+Unrecognized DType
+unknown primitive number
+precision does not fit in u8 = proto precision could not be downcast to u8
+scale does not fit in i8 = proto scale could not be downcast to i8
+Invalid list element type
+Invalid fixed-size list element type
+Invalid map key type
+Invalid map value type
+struct names and dtypes length mismatch
+type_id does not fit in u8 = Union type_id {_} somehow does not fit in u8
+Extension DType missing storage proto
+Unregistered extension type ID = Unregistered extension type ID: {_}
+FieldPath part missing type";
+
+/// The texts of each error, ours and theirs.
+fn texts() -> impl Iterator<Item = (&'static str, &'static str)> {
+    TEXTS.lines().map(|line| line.split_once(" = ").unwrap_or((line, line)))
+}
 
 /// The answer to an error of this number, with the values of its text.
 pub fn refused(number: usize, values: &[(&str, &str)]) -> Stop {
     let fill = |text: String, (name, value): &(&str, &str)| text.replace(&format!("{{{name}}}"), value);
-    Stop(format!("refused {number}: {}", values.iter().fold(TEXTS[number].0.to_owned(), fill)))
+    let (ours, _) = texts().nth(number).expect("each error has a text");
+    Stop(format!("refused {number}: {}", values.iter().fold(ours.to_owned(), fill)))
 }
 
 impl From<VortexError> for Stop {
     fn from(error: VortexError) -> Self {
         let error = error.to_string();
         let text = message_of(&error);
-        let found = TEXTS.iter().enumerate().find_map(|(number, (ours, theirs))| {
+        let found = texts().enumerate().find_map(|(number, (ours, theirs))| {
             let values = values_of(theirs, text).or_else(|| values_of(ours, text))?;
             Some(refused(number, &values))
         });

@@ -6,8 +6,6 @@
 use std::cell::RefCell;
 use std::str::FromStr;
 
-use vortex_array::dtype::FieldName;
-
 use crate::living::Living;
 use crate::types::{Answer, stop};
 
@@ -64,8 +62,7 @@ macro_rules! arguments {
 pub(crate) use arguments;
 
 arguments! {
-    u8, u32, u64, usize, i8, i32, i64, i128: |line| line.number();
-    bool: |line| line.one_of(&["false", "true"]).map(|place| place == 1);
+    bool, u8, u32, u64, usize, i8, i32, i64, i128: |line| line.number();
 }
 
 /// The bytes of a number in hexadecimal, behind `0x`.
@@ -128,11 +125,6 @@ impl<'a> Line<'a> {
         if is_known(word) { Ok(word) } else { self.fail(at) }
     }
 
-    /// The name of a set or a session.
-    pub fn living_name(&mut self) -> Answer<String> {
-        self.argument::<FieldName>().map(String::from)
-    }
-
     pub fn rest(&self) -> &'a str {
         &self.text[self.at..]
     }
@@ -192,21 +184,20 @@ impl<'a> Line<'a> {
         self.sign(sign).map(|()| found)
     }
 
-    pub fn word(&mut self) -> Answer<&'a str> {
+    /// What a word stands for.
+    pub fn word<T>(&mut self, meant: impl FnOnce(&str) -> Option<T>) -> Answer<T> {
         let at = self.at;
-        let found = self.take(|sign| !is_blank(sign) && !",{}()[]\"?=:#".contains(sign));
-        self.found(at, Some(found).filter(|it| !it.is_empty()))
+        let word = self.take(|sign| !is_blank(sign) && !",{}()[]\"?=:#".contains(sign));
+        self.found(at, meant(word))
     }
 
-    /// The place of a word among those known.
-    pub fn one_of(&mut self, known: &[&str]) -> Answer<usize> {
-        let (at, word) = (self.at, self.word()?);
-        self.found(at, known.iter().position(|it| *it == word))
+    /// The value whose text stands here.
+    pub fn one_of<T: ToString + Copy>(&mut self, known: &[T]) -> Answer<T> {
+        self.word(|word| known.iter().find(|it| it.to_string() == word).copied())
     }
 
     pub fn number<T: FromStr>(&mut self) -> Answer<T> {
-        let (at, word) = (self.at, self.word()?);
-        self.found(at, word.parse().ok().filter(|_| !word.starts_with('+')))
+        self.word(|word| word.parse().ok().filter(|_| !word.starts_with('+')))
     }
 
     fn byte(&mut self) -> Option<u8> {

@@ -9,7 +9,7 @@ use std::fmt;
 
 use vortex_array::dtype::extension::{ExtDType, ExtDTypeRef, ExtId, ExtVTable};
 use vortex_array::dtype::session::DTypeSessionExt;
-use vortex_array::dtype::{DType, Field, FieldPath, FieldPathSet};
+use vortex_array::dtype::{DType, Field, FieldName, FieldPath, FieldPathSet};
 use vortex_array::scalar::ScalarValue;
 use vortex_error::{VortexResult, vortex_bail};
 use vortex_session::VortexSession;
@@ -50,12 +50,12 @@ impl<T: Clone + Default> Living<T> {
 
 /// `session NAME` and a command of its own.
 pub fn session(line: &mut Line) -> Answer {
-    let name = line.living_name()?;
+    let name: FieldName = line.argument()?;
     let command = line.command(|it| matches!(it, "new" | "register" | "allow_unknown"))?;
     let plugin = if command == "register" { Some(line.argument::<Plugin>()?.0) } else { None };
     line.last::<()>()?;
     let mut sessions = line.sessions.borrow_mut();
-    let words = sessions.begun("session", &name)?;
+    let words = sessions.begun("session", name.as_ref())?;
     match command {
         "new" => words.clear(),
         "register" => words.extend(plugin),
@@ -66,12 +66,12 @@ pub fn session(line: &mut Line) -> Answer {
 
 /// `set NAME` and a command of its own.
 pub fn set(sets: &mut Living<Vec<FieldPath>>, line: &mut Line) -> Answer {
-    let name = line.living_name()?;
+    let name: FieldName = line.argument()?;
     let begins = |it: &str| matches!(it, "new" | "insert" | "extend");
     let asks = |it: &str| matches!(it, "contains" | "below" | "missing" | "iter" | "cover" | "drain");
     let command = line.command(|it| begins(it) || asks(it))?;
     if asks(command) {
-        sets.there("set", &name)?;
+        sets.there("set", name.as_ref())?;
     }
     let given: Vec<FieldPath> = match command {
         "insert" | "contains" | "below" => vec![line.argument()?],
@@ -80,7 +80,7 @@ pub fn set(sets: &mut Living<Vec<FieldPath>>, line: &mut Line) -> Answer {
     };
     let dtype = if command == "missing" { line.argument()? } else { DType::Null };
     line.last::<()>()?;
-    let items = if begins(command) { sets.begun("set", &name)? } else { sets.there("set", &name)? };
+    let items = if begins(command) { sets.begun("set", name.as_ref())? } else { sets.there("set", name.as_ref())? };
     let set = FieldPathSet::from_iter(items.iter().cloned());
     match command {
         "contains" => set.contains(&given[0]).told(),
@@ -190,25 +190,26 @@ impl Session {
     }
 
     pub fn made(&self) -> VortexSession {
-        let session = self.without_plugins();
-        for &word in self.0.iter().filter(|&word| PLUGINS.contains(word)) {
-            session.dtypes().register(Plugin(word));
+        let session = VortexSession::empty();
+        for &word in &self.0 {
+            match word {
+                "strict" => {}
+                "unknown" => session.allow_unknown(),
+                plugin => session.dtypes().register(Plugin(plugin)),
+            }
         }
         session
     }
 
     /// The session as it treats ids that it doesn't know.
-    pub fn without_plugins(&self) -> VortexSession {
-        let session = VortexSession::empty();
-        if self.allows_unknown() {
-            session.allow_unknown();
-        }
-        session
+    pub fn without_plugins(mut self) -> VortexSession {
+        self.0.retain(|word| !PLUGINS.contains(word));
+        self.made()
     }
 }
 
 arguments! {
-    Plugin: |line| line.one_of(&PLUGINS).map(|place| Plugin(PLUGINS[place]));
+    Plugin: |line| line.one_of(&PLUGINS).map(Plugin);
     Session: |line| {
         if line.eat("@") {
             let name = line.name(false)?;

@@ -86,12 +86,9 @@ fn in_capitals(ptype: &PType) -> String {
 }
 
 fn number(field: &str, line: &mut Line) -> Answer<i32> {
-    let (rest, known) = (line.rest(), PTYPES.map(|it| in_capitals(&it)));
-    let is_here = |name: &String| rest.strip_prefix(name).is_some_and(|it| !it.starts_with(char::is_alphanumeric));
-    match known.iter().position(is_here).filter(|_| field == "type") {
-        Some(number) => line.word().map(|_| number as i32),
-        None => line.number(),
-    }
+    let is_name = field == "type" && line.rest().starts_with(char::is_alphabetic);
+    let of_name = |word: &str| PTYPES.iter().position(|it| in_capitals(it) == word).map(|number| number as i32);
+    if is_name { line.word(of_name) } else { line.number() }
 }
 
 /// Bytes in quotes: printable ASCII as it is, all else in hexadecimal.
@@ -170,9 +167,9 @@ arguments! {
         line.blanks();
         let mut dtype_type = kind.map(|(_, make)| make());
         let mut fields = dtype_type.as_mut().map_or(Vec::new(), |kind| fields_of(kind).1);
-        let names: Vec<&str> = fields.iter().map(|(name, _)| *name).collect();
         while !line.eat("}") {
-            let (name, field) = &mut fields[line.one_of(&names)?];
+            let place = line.word(|word| fields.iter().position(|(name, _)| *name == word))?;
+            let (name, field) = &mut fields[place];
             field.read_more(name, line)?;
             line.blanks();
         }

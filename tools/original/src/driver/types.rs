@@ -25,12 +25,6 @@ pub const PTYPES: [PType; 11] = {
 const DECIMAL_TYPES: [DecimalType; 6] =
     [DecimalType::I8, DecimalType::I16, DecimalType::I32, DecimalType::I64, DecimalType::I128, DecimalType::I256];
 
-/// The value whose text stands here.
-fn named<T: ToString, const N: usize>(line: &mut Line, all: [T; N]) -> Answer<T> {
-    let (at, word) = (line.at, line.word()?);
-    line.found(at, all.into_iter().find(|it| it.to_string() == word))
-}
-
 /// The id of an extension.
 pub struct Id(pub ExtId);
 
@@ -38,9 +32,9 @@ pub struct Id(pub ExtId);
 pub struct Tags(pub Vec<u8>);
 
 arguments! {
-    PType: |line| named(line, PTYPES);
-    DecimalType: |line| named(line, DECIMAL_TYPES);
-    Nullability: |line| line.one_of(&["NonNullable", "Nullable"]).map(|place| (place == 1).into());
+    PType: |line| line.one_of(&PTYPES);
+    DecimalType: |line| line.one_of(&DECIMAL_TYPES);
+    Nullability: |line| line.one_of(&["NonNullable", "Nullable"]).map(|word| (word == "Nullable").into());
     FieldName: |line| line.name(false).map(FieldName::from);
     Id: |line| line.name(true).map(|id| Id(ExtId::new(&id)));
     FieldNames: |line| line.listed(FieldName::read).map(FieldNames::from);
@@ -64,11 +58,11 @@ arguments! {
     };
     FieldMask: |line| {
         let form = line.one_of(&["all", "prefix", "exact"])?;
-        if form == 0 {
+        if form == "all" {
             return Ok(FieldMask::All);
         }
         line.blanks();
-        FieldPath::read(line).map(if form == 1 { FieldMask::Prefix } else { FieldMask::Exact })
+        FieldPath::read(line).map(if form == "prefix" { FieldMask::Prefix } else { FieldMask::Exact })
     };
     DecimalDType: |line| {
         line.expect("decimal")?;

@@ -164,6 +164,7 @@ def blanks(text):
     return re.sub(r"[^\n]", " ", text)
 
 
+@lru_cache(maxsize=None)
 def code_of(text, texts=True):
     """A source with blanks for its comments, at the same indices."""
     found, at = [], 0
@@ -201,6 +202,7 @@ def without_path(name):
     return name.strip().rpartition("::")[2]
 
 
+@lru_cache(maxsize=None)
 def owners_in(code):
     """The impls and the traits of a source without comments."""
     owners, shape = [], shape_of(code)

@@ -1,29 +1,25 @@
 # SPDX-License-Identifier: Apache-2.0
 # SPDX-FileCopyrightText: Copyright the Vortex contributors
 
-"""A small repository in a folder of its own, with a copy of the tools, in which a test plants a fault. small.txt has
-its files, each below a line `=== PATH`, which may name several."""
+"""A copy of the repository, without what is built, in which a test plants a fault."""
 import os
-import re
 import shutil
 import subprocess
+import sys
 import tempfile
 import unittest
+from functools import partialmethod
 
-HERE = os.path.dirname(os.path.realpath(__file__))
-TOOLS = os.path.dirname(HERE)
+TOOLS = os.path.dirname(os.path.dirname(os.path.realpath(__file__)))
+sys.path.append(TOOLS)
+BUILT = shutil.ignore_patterns(".git", "out", "target", "__pycache__")
 
 
 class Planted(unittest.TestCase):
     def setUp(self):
         self.top = tempfile.mkdtemp(prefix="planted-")
         self.addCleanup(shutil.rmtree, self.top)
-        with open(f"{HERE}/small.txt", encoding="utf-8") as it:
-            for files, text in re.findall(r"(?ms)^=== (.*?)\n(.*?)(?=^===|\Z)", it.read()):
-                for file in files.split():
-                    self.write(file, text)
-        ignored = shutil.ignore_patterns("tests", "original", "__pycache__")
-        shutil.copytree(TOOLS, f"{self.top}/tools", ignore=ignored)
+        shutil.copytree(os.path.dirname(TOOLS), self.top, ignore=BUILT, dirs_exist_ok=True)
 
     def read(self, file):
         with open(f"{self.top}/{file}", encoding="utf-8") as it:
@@ -38,11 +34,12 @@ class Planted(unittest.TestCase):
             os.chmod(path, mode)
 
     def change(self, file, old, new):
-        """Changes a text that stands once; no text is the end of the file."""
+        """Changes a text that stands once, where no text is the end of the file, and returns its line."""
         text = self.read(file)
-        if old:
-            self.assertEqual(text.count(old), 1, f"{old} in {file}")
-        self.write(file, text.replace(old, new) if old else text + new)
+        self.assertTrue(not old or text.count(old) == 1, f"{old} in {file}")
+        before, _, behind = text.partition(old) if old else (text, "", "")
+        self.write(file, before + new + behind)
+        return before.count("\n") + 1
 
     def script(self, name, text):
         """A program on the path of the tools that are run."""
@@ -56,23 +53,20 @@ class Planted(unittest.TestCase):
                              check=False, timeout=300)
         return ran.returncode, ran.stdout
 
-    def told(self, tool, *arguments):
-        """The faults that a tool tells, without its last line."""
-        return self.run_tool(tool, *arguments)[1].splitlines()[:-1]
-
-    def assert_told(self, tool, text, *arguments):
+    def assert_told(self, tool, text):
         """That the tool tells this, that its last line counts it, and that its status is 1."""
-        status, said = self.run_tool(tool, *arguments)
+        status, said = self.run_tool(tool)
         self.assertIn(text, said)
         self.assertRegex(said.splitlines()[-1], r"^\d+ passed, [1-9]\d* failed$")
         self.assertEqual(status, 1, said)
 
-    def assert_each_told(self, tool, changes):
-        """That the tool tells each of these changes, made alone: a file, what stands there, what stands there instead,
-        and what is told."""
-        for file, old, new, text in changes:
-            with self.subTest(text):
-                before = self.read(file)
-                self.change(file, old, new)
-                self.assert_told(tool, text)
-                self.write(file, before)
+    def assert_change_told(self, tool, file, old, new, text):
+        line = self.change(file, old, new)
+        self.assert_told(tool, text.replace("LINE", str(line)))
+
+    @classmethod
+    def plant(cls, tool, changes):
+        """Makes a test of each of these changes: a file, what stands there, what stands there instead, and what the
+        tool tells, with LINE for the line that is changed."""
+        for place, change in enumerate(changes):
+            setattr(cls, f"test_tells_change_{place}", partialmethod(cls.assert_change_told, tool, *change))

@@ -2,29 +2,35 @@
 # SPDX-FileCopyrightText: Copyright the Vortex contributors
 
 """The tools that run `rt` or a program, over an `rt` and programs that do as they are told."""
+import shutil
 import subprocess
+from glob import glob
 
-from planted import Planted
+from planted import TOOLS, Planted
+from repository import crates
 
-MUST_FAIL = 'cd crates/dtype_base/must-fail && for it in *; do echo "rt: must-fail dtype_base/$it: {}"; done'
+# The folder of a crate in which the mutations are planted that are tried here.
+TRIED = "crates/fixtures_values"
+MUST_FAIL = f'cd {TRIED}/must-fail && for it in *; do echo "rt: must-fail fixtures_values/$it: {{}}"; done'
 NOT_PROVED = r"printf '== dtype_base\nfn f: not proved: x\nrt: dtype_base NOT PROVED\n7 passed, 1 failed\n'; exit 1"
 KIT = "[ $1 = version ] && echo rattle-kit-1 || echo '  rt ci     {}'"
 # A driver that says the same of all that it can read, and golden files of two lines.
 READS, ROWS = "sed 's/^name_eq a$/unreadable at {1}/; t; s/.*/{0}/'", "rows_from_original bin/driver"
 GOLDEN = "# A name.\n> name a\ntrue\n> name_eq a\nunreadable at 10: expected a name\n"
 FUZZ = "fuzz bin/driver bin/console"
-FORMS = {"type": "T", "find": "NAME S", "contains": "PATH PATH..", "read": "SESSION MSG",
+FORMS = {"name": "NAME", "type": "T", "find": "NAME S", "contains": "PATH PATH..", "read": "SESSION MSG",
          "set": "NAME insert PATH|missing T|iter", "session": "NAME new|register PLUGIN"}
+LEFT = f"{len(crates()) - 1} crates and {len(glob(f'{TOOLS}/../crates/*/must-fail/*.edit')) + 1} mutations"
 # A script, what it does, a tool with its arguments, the status, and what is told.
 RUNS = [
     ("bin/rt", "", "repository.py", 0, "/bin/rt\n"),
     ("bin/rt", 'case "$*" in *--test*) echo "test result: ok. 2 passed; 0 failed";; *) echo right;; esac',
-     "tries tests_types dtype_demo", 0, "\n3 passed, 0 failed\n"),
+     "tries tests_types dtype_demo", 0, "\n5 passed, 0 failed\n"),
     ("bin/rt", 'echo "test two ... FAILED"; echo "test result: FAILED. 1 passed; 1 failed"', "tries tests_types", 1,
      "tries: tests_types: test two ... FAILED"),
     ("bin/rt", "echo no such thing", "tries tests_types", 1, "tests_types: the tests have no result"),
     ("bin/rt", "echo wrong", "tries dtype_demo", 1, "dtype_demo: status 0; where its output differs"),
-    ("bin/rt", NOT_PROVED, "run_ci log", 1, "dtype_base: NOT PROVED (6 crates and 1 mutations left)"),
+    ("bin/rt", NOT_PROVED, "run_ci log", 1, f"dtype_base: NOT PROVED ({LEFT} left)"),
     ("bin/rt", NOT_PROVED, "run_ci log", 1, "    fn f: not proved: x"),
     ("bin/rt", NOT_PROVED, "run_ci log", 1, "\n7 passed, 1 failed\n"),
     ("bin/rt", "echo rt: dtype_base proved; exit 1", "run_ci log", 1, "\n0 passed, 1 failed\n"),
@@ -32,11 +38,11 @@ RUNS = [
      "gate: the kit at hand, rattle-kit-1, keeps what it passed"),
     ("bin/rt", KIT.format("proves every crate from nothing"), "run_ci --expect", 0,
      "gate: the kit at hand, rattle-kit-1, proves everything from nothing in each run"),
-    ("bin/rt", MUST_FAIL.format("NOT REFUSED"), "wrong_bodies dtype_base", 1,
-     "dtype_base/names_are_empty: NOT REFUSED\n0 refused, 1 not refused\n"),
-    ("bin/rt", MUST_FAIL.format("refused, as it must be: why"), "wrong_bodies dtype_base", 0,
-     "dtype_base/names_are_empty: refused, as it must be: why\n1 refused, 0 not refused\n"),
-    ("bin/rt", "", "wrong_bodies dtype_paths", 2, "there is no crates/dtype_paths/wrong"),
+    ("bin/rt", MUST_FAIL.format("NOT REFUSED"), "wrong_bodies fixtures_values", 1,
+     "fixtures_values/one: NOT REFUSED\n0 refused, 1 not refused\n"),
+    ("bin/rt", MUST_FAIL.format("refused, as it must be: why"), "wrong_bodies fixtures_values", 0,
+     "fixtures_values/one: refused, as it must be: why\n1 refused, 0 not refused\n"),
+    ("bin/rt", "", "wrong_bodies tests_types", 2, "there is no crates/tests_types/wrong"),
     ("bin/rt", "", "faults", 2, "isn't built"),
     ("bin/driver", "exit 0", ROWS, 1, "0 answers to 2 lines"),
     ("bin/driver", READS.format("true", 10), ROWS, 0, "2 passed, 0 failed\n"),
@@ -57,10 +63,11 @@ RUNS = [
 class Runs(Planted):
     def test_tells_each(self):
         table = "".join(f'    Row("{it}", "{forms}", "", "", "", X),\n' for it, forms in FORMS.items())
-        for file, text in (("crates/tests_types/src/lib.rt", "#[test]\nfn one() {}\n"), ("HANDLES", ""),
-                           ("crates/dtype_base/must-fail/other.edit", ""), ("crates/dtype_demo/stdout", "right\n"),
-                           ("crates/console_core/src/table.rt", table), ("crates/dtype_console/stdout", GOLDEN),
-                           ("crates/dtype_console/stdin", "# A name.\nname a\nname_eq a\n")):
+        shutil.rmtree(f"{self.top}/crates/console_core/src")
+        for file, text in ((f"{TRIED}/wrong/one.edit", ""), (f"{TRIED}/must-fail/other.edit", ""),
+                           ("crates/dtype_demo/stdout", "right\n"), ("crates/console_core/src/table.rt", table),
+                           ("crates/dtype_console/stdin", "# A name.\nname a\nname_eq a\n"),
+                           ("crates/dtype_console/stdout", GOLDEN)):
             self.write(file, text)
         self.script("console", "sed 's/^/answer of /'")
         for file, text, command, status, told in RUNS:
@@ -80,7 +87,7 @@ class Runs(Planted):
 
     def test_tells_a_console_that_answers_nothing(self):
         self.write("crates/dtype_console/out/dtype_console", "#!/bin/sh\n[ -t 0 ] || cat >/dev/null\n", 0o755)
-        told = "\n".join(self.told("console_runs"))
+        told = self.run_tool("console_runs")[1]
         for fault in ("['-c', 'find b {a=i32, b=u8}']: (0, '', '')", "the first line is ''", "help shows the topics []",
                       "300,000 lines: "):
             self.assertIn(f"console_runs: {fault}", told)
@@ -89,7 +96,7 @@ class Runs(Planted):
         for file, text in (("stdin", "a\n"), ("stdout", "$a = none\ncover: $a\n")):
             self.write(f"crates/dtype_demo/{file}", text)
         self.write("crates/dtype_demo/out/dtype_demo", "#!/bin/sh\n", 0o755)
-        told = "\n".join(self.told("faults"))
+        told = self.run_tool("faults")[1]
         for fault in ("the stored run: status 0", "standard input is closed: status 0", "an input of 7 bytes: status 0",
                       "no allocation fails: it made none",
                       "names, on a stack of ", "equal ends, in 2 seconds: status 0", "memory of 4194304 KB: status 0"):

@@ -12,7 +12,7 @@ use vortex_array::dtype::proto::dtype as pb;
 use vortex_array::dtype::{DType, FieldName, FieldNames, FieldPath, FieldPathSet, Nullability, StructFields};
 use vortex_session::VortexSession;
 
-use crate::fixture::{Naming, SetShape, Shape, Types, column, leaf, mixed, name_of, names, wide_type};
+use crate::fixture::{self, Shape, Types, WIDE, column, leaf, mixed, name_of, names, wide_type};
 use crate::meter::Meter;
 
 /// The greatest set whose cover is measured where no path begins another.
@@ -87,7 +87,7 @@ pub fn resolve(meter: &Meter, types: &Types, path: FieldPath) {
 
 /// Building a whole type and dropping it.
 pub fn whole(meter: &Meter, types: &Types) {
-    let texts = Naming::Wide.texts(types.count);
+    let texts = fixture::texts(WIDE, types.count);
     meter.each("build/and_drop", &types.of, |_, _| match types.shape {
         Shape::Wide => used(wide_type(&texts, false)),
         shape => used(shape.make(types.count, false)),
@@ -117,7 +117,7 @@ pub fn lookups(meter: &Meter, types: &Types) {
         let find = |i, _| fields_of(&types.types, i).find(&names[i / 2 % 2]).unwrap_or(7);
         meter.each(&format!("find/{place}"), of, find);
     }
-    find_mixed(meter, of, &types.types, &Naming::Wide.texts(count));
+    find_mixed(meter, of, &types.types, &fixture::texts(WIDE, count));
 }
 
 /// `find` of all names, shuffled, so that no branch can be predicted.
@@ -153,7 +153,7 @@ pub fn index(meter: &Meter, of: &str, types: &[DType; 2], texts: &[String]) {
 
 /// A wide struct made of texts.
 pub fn texts(meter: &Meter, types: &Types) {
-    let (texts, leaves) = (Naming::Wide.texts(types.count), leaves(types.count));
+    let (texts, leaves) = (fixture::texts(WIDE, types.count), leaves(types.count));
     let made = |types| StructFields::from_iter(texts.iter().map(String::as_str).zip::<Vec<DType>>(types));
     let build = |types| used(DType::Struct(made(types), Nullability::NonNullable));
     meter.consuming("build/texts", &types.of, || leaves.clone(), build);
@@ -167,17 +167,18 @@ fn of_names(names: Vec<FieldName>, types: Vec<DType>) -> DType {
     DType::Struct(StructFields::new(FieldNames::from(names), types), Nullability::NonNullable)
 }
 
-/// What is done with path sets.
-pub fn sets(meter: &Meter, shape: SetShape) {
+/// What is done with path sets of this form, shuffled.
+pub fn sets(meter: &Meter, form: &str, path: fn(usize) -> FieldPath) {
     for count in [10, 100, 1000, 10_000, 100_000] {
-        let (of, paths) = (name_of(shape, count), shape.paths(count));
-        let set = FieldPathSet::from_iter(shape.paths(count));
+        let made_paths = || -> Vec<FieldPath> { (0..count).map(|i| path(mixed(i, count))).collect() };
+        let (of, paths) = (name_of(form, count), made_paths());
+        let set = FieldPathSet::from_iter(made_paths());
         let made = |set: FieldPathSet| {
             drop(black_box(set));
             count
         };
         meter.consuming("set/from_iter", &of, || paths.clone(), |paths| made(FieldPathSet::from_iter(paths)));
-        if count <= GREATEST_COVER || matches!(shape, SetShape::Chains) {
+        if count <= GREATEST_COVER || form == "chains" {
             let cover = |set: FieldPathSet| black_box(set.into_iter()).len();
             meter.consuming("set/into_iter", &of, || set.clone(), cover);
         }

@@ -3,7 +3,7 @@
 
 //! The types, names and paths that the cases work on.
 
-use std::fmt::Debug;
+use std::fmt::Display;
 use std::iter;
 use std::sync::Arc;
 
@@ -11,8 +11,8 @@ use vortex_array::dtype::extension::{ExtId, ForeignExtDType};
 use vortex_array::dtype::{DType, Field, FieldName, FieldPath, Nullability, PType, StructFields};
 
 /// The last part of a case's name: what it is of, and how many.
-pub fn name_of(what: impl Debug, count: usize) -> String {
-    format!("/{what:?}/{count}").to_lowercase()
+pub fn name_of(what: impl Display, count: usize) -> String {
+    format!("/{what}/{count}")
 }
 
 /// The shape of a type: a struct of so many fields, or structs of one field, lists, fixed-size lists of size 1 or
@@ -30,7 +30,7 @@ impl Shape {
     /// A type of this shape and size, its inner nullabilities flipped if asked.
     pub fn make(self, count: usize, flip: bool) -> DType {
         match self {
-            Shape::Wide => wide_type(&Naming::Wide.texts(count), flip),
+            Shape::Wide => wide_type(&texts(WIDE, count), flip),
             _ => (0..count).fold(leaf(0, flip), |inside, _| self.wrap(inside, flip.into())),
         }
     }
@@ -48,19 +48,10 @@ impl Shape {
     }
 }
 
-/// The form of the names of a wide struct: `column_0` and so on; the same, shuffled; sixteen hexadecimal digits each;
-/// `id` and then `measurement_1` and so on; `id` and then `transaction_amount_1` and so on; a few prefixes, a few words
-/// and a number; names with dots that begin alike.
-#[derive(Clone, Copy, Debug)]
-pub enum Naming {
-    Wide,
-    Shuffled,
-    Hexadecimal,
-    Stray,
-    Features,
-    Words,
-    Dotted,
-}
+/// What names of fields are called, and the form of the name at a place among so many.
+pub type Naming = (&'static str, fn(usize, usize) -> String);
+
+pub const WIDE: Naming = ("wide", |i, _| column(i));
 
 const PREFIXES: [&str; 7] = ["ss_", "ws_", "cs_", "sr_", "c_customer_", "d_date_", "i_item_"];
 
@@ -68,57 +59,31 @@ const WORDS: &str = "sk quantity list_price net_paid ext_discount_amt order_numb
 
 const PARTS: [&str; 4] = ["name", "version", "namespace", "instance"];
 
-impl Naming {
-    /// The forms that only lookups and index builds are measured with.
-    pub const OTHERS: [Naming; 6] =
-        [Naming::Shuffled, Naming::Hexadecimal, Naming::Stray, Naming::Features, Naming::Words, Naming::Dotted];
+/// The forms that only lookups and index builds are measured with.
+pub const OTHER_NAMINGS: [Naming; 6] = [
+    ("shuffled", |i, count| column(mixed(i, count))),
+    ("hexadecimal", |i, _| format!("{:016x}", (i as u64 + 1).wrapping_mul(0x9E37_79B9_7F4A_7C15))),
+    ("stray", |i, _| if i == 0 { "id".to_owned() } else { format!("measurement_{i}") }),
+    ("features", |i, _| if i == 0 { "id".to_owned() } else { format!("transaction_amount_{i}") }),
+    ("words", |i, _| {
+        let word = format!("{}{}", PREFIXES[i % 7], WORDS.split(' ').nth(i / 7 % 10).unwrap_or_default());
+        if i < 70 { word } else { format!("{word}_{}", i / 70) }
+    }),
+    ("dotted", |i, _| format!("resource.attributes.service.{}.{i}", PARTS[i % 4])),
+];
 
-    /// The names of `count` fields, as texts.
-    pub fn texts(self, count: usize) -> Vec<String> {
-        (0..count).map(|i| self.text(i, count)).collect()
-    }
-
-    fn text(self, i: usize, count: usize) -> String {
-        let word = |i: usize| format!("{}{}", PREFIXES[i % 7], WORDS.split(' ').nth(i / 7 % 10).unwrap_or_default());
-        match self {
-            Naming::Wide => column(i),
-            Naming::Shuffled => column(mixed(i, count)),
-            Naming::Hexadecimal => format!("{:016x}", (i as u64 + 1).wrapping_mul(0x9E37_79B9_7F4A_7C15)),
-            Naming::Stray | Naming::Features if i == 0 => "id".to_owned(),
-            Naming::Stray => format!("measurement_{i}"),
-            Naming::Features => format!("transaction_amount_{i}"),
-            Naming::Words if i < 70 => word(i),
-            Naming::Words => format!("{}_{}", word(i), i / 70),
-            Naming::Dotted => format!("resource.attributes.service.{}.{i}", PARTS[i % 4]),
-        }
-    }
+/// The names of `count` fields, as texts.
+pub fn texts((_, text): Naming, count: usize) -> Vec<String> {
+    (0..count).map(|i| text(i, count)).collect()
 }
 
 /// The form of the paths of a set: two names, the first the same in all paths; three names, with ten paths below each
 /// parent; chains of 64 paths, each the beginning of the next.
-#[derive(Clone, Copy, Debug)]
-pub enum SetShape {
-    Flat,
-    Nested,
-    Chains,
-}
-
-impl SetShape {
-    /// The paths of a set of this shape and size, shuffled.
-    pub fn paths(self, count: usize) -> Vec<FieldPath> {
-        (0..count).map(|i| self.path(mixed(i, count))).collect()
-    }
-
-    fn path(self, i: usize) -> FieldPath {
-        match self {
-            SetShape::Flat => path_of(["parent".to_owned(), column(i)]),
-            SetShape::Nested => {
-                path_of([format!("a_{}", i / 100), format!("b_{}", i / 10 % 10), format!("c_{}", i % 10)])
-            }
-            SetShape::Chains => path_of(iter::once(column(i / 64)).chain((0..i % 64).map(|_| "x".to_owned()))),
-        }
-    }
-}
+pub const SETS: [(&str, fn(usize) -> FieldPath); 3] = [
+    ("flat", |i| path_of(["parent".to_owned(), column(i)])),
+    ("nested", |i| path_of([format!("a_{}", i / 100), format!("b_{}", i / 10 % 10), format!("c_{}", i % 10)])),
+    ("chains", |i| path_of(iter::once(column(i / 64)).chain((0..i % 64).map(|_| "x".to_owned())))),
+];
 
 /// The path of these names.
 pub fn path_of(names: impl IntoIterator<Item = String>) -> FieldPath {
@@ -140,7 +105,8 @@ pub struct Types {
 impl Types {
     pub fn new(shape: Shape, count: usize) -> Self {
         let two = |flip| [shape.make(count, flip), shape.make(count, flip)];
-        Self { of: name_of(shape, count), shape, count, types: two(false), sames: two(false), others: two(true) }
+        let of = name_of(format!("{shape:?}").to_lowercase(), count);
+        Self { of, shape, count, types: two(false), sames: two(false), others: two(true) }
     }
 
     /// One of the two, alternating.

@@ -16,7 +16,7 @@ mod meter;
 use std::io;
 
 use cases::{find_mixed, hashed, index, lookups, messages, resolve, sets, text, texts, types, whole};
-use fixture::{Naming, SetShape, Shape, Types, column, name_of, path_of, wide_type};
+use fixture::{OTHER_NAMINGS, SETS, Shape, Types, WIDE, column, name_of, path_of, wide_type};
 use meter::Meter;
 use vortex_array::dtype::{Field, FieldPath};
 
@@ -26,15 +26,15 @@ fn wide(meter: &Meter) {
         let of = Types::new(Shape::Wide, count);
         if count < 10_000 {
             types(meter, &of);
-            index(meter, &of.of, &of.types, &Naming::Wide.texts(count));
+            index(meter, &of.of, &of.types, &fixture::texts(WIDE, count));
             texts(meter, &of);
         }
         lookups(meter, &of);
         whole(meter, &of);
         messages(meter, &of);
     }
-    for (naming, count) in Naming::OTHERS.into_iter().flat_map(|it| [10, 100, 1000, 10_000].map(|count| (it, count))) {
-        let (of, texts) = (name_of(naming, count), naming.texts(count));
+    for (naming, count) in OTHER_NAMINGS.into_iter().flat_map(|it| [10, 100, 1000, 10_000].map(|count| (it, count))) {
+        let (of, texts) = (name_of(naming.0, count), fixture::texts(naming, count));
         let two = [wide_type(&texts, false), wide_type(&texts, false)];
         find_mixed(meter, &of, &two, &texts);
         index(meter, &of, &two, &texts);
@@ -69,7 +69,7 @@ fn main() -> io::Result<()> {
     hashed(&meter, "/path/10", &paths);
     text(&meter, "/path/10", &paths);
     if meter.wants_some("set/") {
-        [SetShape::Flat, SetShape::Nested, SetShape::Chains].into_iter().for_each(|shape| sets(&meter, shape));
+        SETS.into_iter().for_each(|(of, path)| sets(&meter, of, path));
     }
     Ok(())
 }

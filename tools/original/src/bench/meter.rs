@@ -68,23 +68,11 @@ impl<'a> Meter<'a> {
     }
 }
 
-#[repr(C)]
-struct Timespec {
-    seconds: i64,
-    nanoseconds: i64,
-}
-
-const CLOCK_THREAD_CPUTIME_ID: i32 = 3;
-
-unsafe extern "C" {
-    fn clock_gettime(clock: i32, time: *mut Timespec) -> i32;
-}
-
-/// The processor time of this thread in nanoseconds, on a Linux of 64 bits.
+/// The processor time of this thread in nanoseconds.
 fn thread_cpu_time() -> u64 {
-    let mut time = Timespec { seconds: 0, nanoseconds: 0 };
-    // SAFETY: `time` has the layout of the C library's `timespec`, and lives through the call.
-    let failed = unsafe { clock_gettime(CLOCK_THREAD_CPUTIME_ID, &mut time) };
+    let mut time = libc::timespec { tv_sec: 0, tv_nsec: 0 };
+    // SAFETY: `time` lives through the call.
+    let failed = unsafe { libc::clock_gettime(libc::CLOCK_THREAD_CPUTIME_ID, &mut time) };
     assert_eq!(failed, 0, "this system has no clock for a thread");
-    time.seconds as u64 * 1_000_000_000 + time.nanoseconds as u64
+    time.tv_sec as u64 * 1_000_000_000 + time.tv_nsec as u64
 }

@@ -93,10 +93,6 @@ def labels_of(function, unnamed="ensures"):
     return {it.name or unnamed for it in function.clauses if it.kind == "ensures"} - {""}
 
 
-def members_of(function):
-    return {it.name for it in function.owner.members} if function.owner else set()
-
-
 def read_sources():
     """What the libraries have."""
     found = Sources(defaultdict(set), defaultdict(set), set(), set(), set())
@@ -104,7 +100,7 @@ def read_sources():
     traits = {it.type for source in every for it in source.owners if it.kind == "trait"}
     found.silent.update(it.path for _, it in calls)
     for _, it in calls:
-        found.calls[it.path] |= labels_of(it) | members_of(it)
+        found.calls[it.path] |= labels_of(it) | {member.name for member in (it.owner.members if it.owner else ())}
         found.clauses.update(("clause", it.path, label) for label in labels_of(it, ""))
         found.silent.difference_update(() if is_silent(it, [call for _, call in calls]) else (it.path,))
         # (not a debug text, nor what only fills in a trait of ours)

@@ -11,6 +11,7 @@ imports it works at the top of the repository, begun in the folder FROM. As a pr
 import os
 import re
 import shutil
+import subprocess
 import sys
 from collections import namedtuple
 from functools import lru_cache
@@ -58,6 +59,19 @@ MODULE = re.compile(r"(?m)^pub mod (\w+);")
 def text_of(file):
     with open(file, encoding="utf-8") as it:
         return it.read()
+
+
+def lines_of(file):
+    """The lines of a file, which nothing but a line feed ends."""
+    with open(file, encoding="utf-8", newline="\n") as it:
+        return it.read().split("\n")[:-1]
+
+
+def answers_of(program, lines):
+    """The answers of a console to these lines, and its status."""
+    given = "".join(f"{line}\n" for line in lines).encode()
+    ran = subprocess.run([program], input=given, stdout=subprocess.PIPE, check=False)
+    return ran.stdout.decode().split("\n")[:-1], ran.returncode
 
 
 def anchor_of(heading):

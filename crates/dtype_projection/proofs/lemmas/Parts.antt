@@ -3,8 +3,9 @@
 
 -- The parts of a type: an order, in which a path leads in a part to a part of what it leads to in the type. The projection
 -- is the least part that has the paths, and no other type is. What it depends on, and how projections compose, follows.
-use Rattle.std.proofs.Common.{◌≡◌, ℕ, ◌≢◌, ◌≤◌, inl, inr, length, List, [], ◌∷◌, true, IsTrue, Some, None, refl, sym, ap, subst, ◌∙◌, arith, append-nil}
+use Rattle.std.proofs.Common.{◌≡◌, ℕ, ◌≢◌, ◌≤◌, inl, inr, length, List, [], ◌∷◌, true, false, not, IsTrue, Some, None, option_map, refl, sym, ap, subst, ◌∙◌, arith, append-nil}
 use Rattle.std.specs.FinSet as set
+use Rattle.std.proofs.Math.Bool.{and-false}
 use Rattle.std.specs.Option.{option_and_then}
 use Rattle.std.proofs.lemmas.Option.{same_Some}
 use Rattle.dtype_types.specs.nullability.Nullable.{nullability}
@@ -14,16 +15,17 @@ use Rattle.dtype_paths.specs.Along.{along}
 use Rattle.dtype_paths.specs.At.{At, ExistsIn, step}
 use Rattle.dtype_paths.specs.Beginning.{Beginning}
 use Rattle.dtype_paths.specs.Covering.{covers, least}
+use Rattle.dtype_paths.specs.Equality.{same_field}
 use Rattle.dtype_paths.specs.PathOrder.{PathSet}
 use Rattle.dtype_paths.specs.declared.field.Field.{Field}
 use Rattle.dtype_paths.specs.declared.field.Field.TheVariants.{Name, ElementType}
-use Rattle.dtype_paths.proofs.lemmas.Cases.{by_option}
+use Rattle.dtype_paths.proofs.lemmas.Cases.{by_bool, by_option}
 use Rattle.dtype_paths.proofs.lemmas.SetCovers.{covers_least, covers_member, covers_word}
 use Rattle.dtype_paths.proofs.lemmas.Stepping.{beginning_exists}
 use Rattle.dtype_paths.proofs.lemmas.Walks.{along-At, At-along, along_joined}
 use Rattle.dtype_projection.specs.IsPart.{IsPart, IsPartOfFields, HasPaths, IsLeastPart}
-use Rattle.dtype_projection.specs.Projected.{PathPredicate, after_step, without_field, projected}
-use Rattle.dtype_projection.proofs.lemmas.Projections.{kept_as_it_was, by_name, without_field_holds, each_projection, absent_kept, named_first, named_itself, kept_has_path, path_is_kept}
+use Rattle.dtype_projection.specs.Projected.{PathPredicate, after_step, without_field, projected, projected_fields, prepend_kept, struct_with}
+use Rattle.dtype_projection.proofs.lemmas.Projections.{kept_as_it_was, kept_root, by_name, after_without_other, without_field_holds, each_projection, absent_kept, named_first, named_itself, kept_has_path, path_is_kept}
 
 -- ---- a type is its own part, and has its parts' nullability
 
@@ -109,27 +111,6 @@ path_of_part t u y (f ∷ q) p a =
     let r = path_of_part s.0 a.0 y q s.2 a.2 in
     (r.0, (s.0, s.1, r.1), r.2)
 
--- ---- a part of a part is a part
-
-absent_in_part : (gs hs : Fields) (n : List ℕ) → IsPartOfFields gs hs → first_named (pairs gs) n ≡ None → first_named (pairs hs) n ≡ None
-absent_in_part gs hs n p none = by_option (first_named (pairs hs) n) (λ e. e) (λ y is. let r = first_of_part gs hs n y p is in let q = sym none ∙ r.1 in cc)
-
-mutual
-  part_of_part : (t u x : Tree) → IsPart t u → IsPart u x → IsPart t x
-  part_of_part (list t n) u x p q = let r : IsPart (list p.0 n) x = subst (λ z. IsPart z x) p.1 q in (r.0, r.1, part_of_part t p.0 r.0 p.2 r.2)
-  part_of_part (fixed_size_list t k n) u x p q = let r : IsPart (fixed_size_list p.0 k n) x = subst (λ z. IsPart z x) p.1 q in (r.0, r.1, part_of_part t p.0 r.0 p.2 r.2)
-  part_of_part (struct fs n) u x p q = let r : IsPart (struct p.0 n) x = subst (λ z. IsPart z x) p.1 q in (r.0, r.1, fields_of_part fs p.0 r.0 p.2 r.2)
-  part_of_part t u x p q = subst (λ z. IsPart z x) p q
-
-  fields_of_part : (fs gs hs : Fields) → IsPartOfFields fs gs → IsPartOfFields gs hs → IsPartOfFields fs hs
-  fields_of_part no_items gs hs p q = subst (λ z. IsPartOfFields z hs) p q
-  fields_of_part (item n t _ fs) gs hs (inl p) q =
-      let r : IsPartOfFields (field n p.0 p.1) hs = subst (λ z. IsPartOfFields z hs) p.2 q in elim r [
-        | inl k ↦ inl (k.0, k.1, k.2, part_of_part t p.0 k.0 p.3 k.3, fields_of_part fs p.1 k.1 p.4 k.4)
-        | inr k ↦ inr (fields_of_part fs p.1 hs p.4 k.0, k.1)
-      ]
-  fields_of_part (item n t _ fs) gs hs (inr p) q = inr (fields_of_part fs gs hs p.0 q, absent_in_part gs hs n q p.1)
-
 -- ---- the projection is a part
 
 pub kept_part : (t u : Tree) (w : PathPredicate) → projected t w ≡ Some u → IsPart t u
@@ -146,7 +127,7 @@ kept_part = each_projection (λ t w u. IsPart t u) (λ fs w gs. IsPartOfFields f
 pub kept_nullability : (t u : Tree) (w : PathPredicate) → projected t w ≡ Some u → nullability u ≡ nullability t
 kept_nullability t u w e = part_nullability t u (kept_part t u w e)
 
--- ---- and a part of each other one that has the paths
+-- ---- a part that has the paths has the same projection
 
 -- the same of fields: along the paths gs have what fs have
 abbrev HasFieldPaths : Fields → PathPredicate → Fields → Type 0
@@ -161,45 +142,58 @@ has_later n t rest gs hs w same h m q is =
     let ne : n ≢ m = λ e. b.0 (ap Name e) in
     ap (option_and_then (λ z. along z q)) (sym (same m ne)) ∙ h m q b.1 ∙ ap (option_and_then (λ z. along z q)) (named_first n m t rest ne)
 
--- in a part of fields that has the paths, of which the first is kept, or left out
-least_kept : (n : List ℕ) (t x : Tree) (fs gs hs : Fields) (w : PathPredicate) → projected t (after_step (Name n) w) ≡ Some x → ((z : Tree) → IsPart t z → HasPaths t (after_step (Name n) w) z → IsPart z x)
-    → ((ks : Fields) → IsPartOfFields fs ks → HasFieldPaths fs (without_field n w) ks → IsPartOfFields ks gs) → IsPartOfFields (field n t fs) hs → HasFieldPaths (field n t fs) w hs → IsPartOfFields hs (field n x gs)
-least_kept n t x fs gs hs w is on later (inl p) h =
-    subst (λ z. IsPartOfFields z (field n x gs)) (sym p.2) (inl (
-      x,
-      gs,
-      refl,
-      on p.0 p.3 (λ q b.
+-- of fields none of which has a name, leaving out the paths into it changes nothing
+without_both : (m n : List ℕ) (w : PathPredicate) (p : List Field) → without_field m (without_field n w) p ≡ without_field n (without_field m w) p
+without_both m n w [] = refl
+without_both m n w (f ∷ p) = by_bool (same_field (Name n) f)
+    (λ e. rw e (and-false (not (same_field (Name m) f))))
+    (λ e. rw e refl)
+
+without_absent : (n : List ℕ) (gs : Fields) (w : PathPredicate) → first_named (pairs gs) n ≡ None → projected_fields gs (without_field n w) ≡ projected_fields gs w
+without_absent n no_items w none = refl
+without_absent n (item m t _ gs) w none = by_name m n
+    (λ e. let q : None ≡ Some t = sym none ∙ ap (first_named (pairs (field m t gs))) (sym e) ∙ named_itself m t gs in absurd (cc))
+    (λ ne i. prepend_kept m (projected t (after_without_other n m w (λ e. ne (sym e)) i))
+    ((ap (projected_fields gs) (λ j p. without_both m n w p j) ∙ without_absent n gs (without_field m w) (sym (named_first m n t gs ne) ∙ none)) i))
+
+-- where a path ends at the type itself the part is the type
+or_whole : (t x : Tree) (w : PathPredicate) → HasPaths t w x → (w [] ≡ false → projected x w ≡ projected t w) → projected x w ≡ projected t w
+or_whole t x w h below = by_bool (w []) (λ root. kept_root x w root ∙ h [] root ∙ sym (kept_root t w root)) below
+
+mutual
+  projected_part : (t x : Tree) (w : PathPredicate) → IsPart t x → HasPaths t w x → projected x w ≡ projected t w
+  projected_part (list t n) x w p h = or_whole (list t n) x w h (λ root.
+      let on = projected_part t p.0 (after_step ElementType w) p.2 (λ q b. sym (ap (λ z. along z (ElementType ∷ q)) p.1) ∙ h (ElementType ∷ q) b) in
+      ap (λ z. projected z w) p.1 ∙ rw root (ap (option_map (λ u. list u n)) on))
+  projected_part (fixed_size_list t k n) x w p h = or_whole (fixed_size_list t k n) x w h (λ root.
+      let on = projected_part t p.0 (after_step ElementType w) p.2 (λ q b. sym (ap (λ z. along z (ElementType ∷ q)) p.1) ∙ h (ElementType ∷ q) b) in
+      ap (λ z. projected z w) p.1 ∙ rw root (ap (option_map (λ u. fixed_size_list u k n)) on))
+  projected_part (struct fs n) x w p h = or_whole (struct fs n) x w h (λ root.
+      let on = projected_part_fields fs p.0 w p.2 (λ m q b. sym (ap (λ z. along z (Name m ∷ q)) p.1) ∙ h (Name m ∷ q) b) in
+      ap (λ z. projected z w) p.1 ∙ rw root (ap (struct_with n) on))
+  projected_part t x w p h = ap (λ z. projected z w) p
+
+  projected_part_fields : (fs gs : Fields) (w : PathPredicate) → IsPartOfFields fs gs → HasFieldPaths fs w gs → projected_fields gs w ≡ projected_fields fs w
+  projected_part_fields no_items gs w p h = ap (λ hs. projected_fields hs w) p
+  projected_part_fields (item n t _ fs) gs w (inl p) h =
+      let on = projected_part t p.0 (after_step (Name n) w) p.3 (λ q b.
           sym (ap (option_and_then (λ z. along z q)) (ap (λ ks. first_named (pairs ks) n) p.2 ∙ named_itself n p.0 p.1))
           ∙ h n q b
-          ∙ ap (option_and_then (λ z. along z q)) (named_itself n t fs)),
-      later p.1 p.4 (has_later n t fs hs p.1 w (λ m ne. ap (λ ks. first_named (pairs ks) m) p.2 ∙ named_first n m p.0 p.1 ne) h),
-    ))
-least_kept n t x fs gs hs w is on later (inr p) h =
-    let l = kept_has_path t x (after_step (Name n) w) is in
-    let q : None ≡ Some l.exists.found =
-    sym (ap (option_and_then (λ z. along z l.path)) p.1)
-    ∙ h n l.path l.holds
-    ∙ ap (option_and_then (λ z. along z l.path)) (named_itself n t fs)
-    ∙ At-along t l.path l.exists.found l.exists.at in
-    absurd (cc)
-
-least_left : (n : List ℕ) (t : Tree) (fs gs hs : Fields) (w : PathPredicate) → first_named (pairs gs) n ≡ None → ((ks : Fields) → IsPartOfFields fs ks → HasFieldPaths fs (without_field n w) ks → IsPartOfFields ks gs)
-    → IsPartOfFields (field n t fs) hs → HasFieldPaths (field n t fs) w hs → IsPartOfFields hs gs
-least_left n t fs gs hs w none later (inl p) h =
-    subst (λ z. IsPartOfFields z gs) (sym p.2) (inr (later p.1 p.4 (has_later n t fs hs p.1 w (λ m ne. ap (λ ks. first_named (pairs ks) m) p.2 ∙ named_first n m p.0 p.1 ne) h), none))
-least_left n t fs gs hs w none later (inr p) h = later hs p.0 (has_later n t fs hs hs w (λ m ne. refl) h)
-
-kept_least : (t u : Tree) (w : PathPredicate) → projected t w ≡ Some u → (x : Tree) → IsPart t x → HasPaths t w x → IsPart x u
-kept_least = each_projection (λ t w u. (x : Tree) → IsPart t x → HasPaths t w x → IsPart x u) (λ fs w gs. (hs : Fields) → IsPartOfFields fs hs → HasFieldPaths fs w hs → IsPartOfFields hs gs) (record {
-  whole = λ t w root x p h. subst (IsPart x) (same_Some x t (h [] root)) (part_itself x);
-  in_list = λ t v n w root on x p h. subst (λ z. IsPart z (list v n)) (sym p.1) (v, refl, on p.0 p.2 (λ q b. sym (ap (λ z. along z (ElementType ∷ q)) p.1) ∙ h (ElementType ∷ q) b));
-  in_fixed = λ t v k n w root on x p h. subst (λ z. IsPart z (fixed_size_list v k n)) (sym p.1) (v, refl, on p.0 p.2 (λ q b. sym (ap (λ z. along z (ElementType ∷ q)) p.1) ∙ h (ElementType ∷ q) b));
-  in_struct = λ fs gs n w root some on x p h. subst (λ z. IsPart z (struct gs n)) (sym p.1) (gs, refl, on p.0 p.2 (λ m q b. sym (ap (λ z. along z (Name m ∷ q)) p.1) ∙ h (Name m ∷ q) b));
-  none = λ w hs p h. subst (λ z. IsPartOfFields z no_items) (sym p) refl;
-  kept = λ n t x fs gs w is on later hs p h. least_kept n t x fs gs hs w is on later p h;
-  left = λ n t fs gs w none is later hs p h. least_left n t fs gs hs w (subst (λ ks. first_named (pairs ks) n ≡ None) (sym is) (absent_kept n fs w)) later p h;
-})
+          ∙ ap (option_and_then (λ z. along z q)) (named_itself n t fs)) in
+      let later = projected_part_fields fs p.1 (without_field n w) p.4 (has_later n t fs gs p.1 w (λ m ne. ap (λ ks. first_named (pairs ks) m) p.2 ∙ named_first n m p.0 p.1 ne) h) in
+      ap (λ hs. projected_fields hs w) p.2 ∙ (λ i. prepend_kept n (on i) (later i))
+  projected_part_fields (item n t _ fs) gs w (inr p) h =
+      let none = by_option (projected t (after_step (Name n) w)) (λ e. e) (λ x is.
+          let l = kept_has_path t x (after_step (Name n) w) is in
+          let q : None ≡ Some l.exists.found =
+          sym (ap (option_and_then (λ z. along z l.path)) p.1)
+          ∙ h n l.path l.holds
+          ∙ ap (option_and_then (λ z. along z l.path)) (named_itself n t fs)
+          ∙ At-along t l.path l.exists.found l.exists.at in
+          absurd (cc)) in
+      sym (without_absent n gs w p.1)
+      ∙ projected_part_fields fs gs (without_field n w) p.0 (has_later n t fs gs gs w (λ m ne. refl) h)
+      ∙ ap (λ o. prepend_kept n o (projected_fields fs (without_field n w))) (sym none)
 
 -- ---- the projection is the least part that has the paths, and no other type is
 
@@ -207,7 +201,7 @@ pub kept_is_least : (t u : Tree) (w : PathPredicate) → projected t w ≡ Some 
 kept_is_least t u w e = record {
   part = kept_part t u w e;
   has = λ p is. kept_as_it_was t u w p p e is ([], sym (append-nil p));
-  least = kept_least t u w e;
+  least = λ x p h. kept_part x u w (projected_part t x w p h ∙ e);
 }
 
 pub least_is_kept : (t u : Tree) (w : PathPredicate) (p : List Field) → w p ≡ true → ExistsIn t p → IsLeastPart t w u → projected t w ≡ Some u
@@ -276,24 +270,7 @@ same_for_least t s = same_for_same_coverage t (least s) s (λ q e. covers_least 
 -- ---- and the projection of a projection to what is covered is that of the type
 
 projected_again : (t u : Tree) (w v : PathPredicate) → projected t w ≡ Some u → CoversIn t w v → projected u v ≡ projected t v
-projected_again t u w v e c =
-    let m = kept_is_least t u w e in
-    let has = has_covered t u w v c m.part m.has in
-    by_option (projected t v)
-    (λ none. by_option (projected u v) (λ q. q) (λ y is.
-    let l = kept_has_path u y v is in
-    let a = path_of_part t u l.exists.found l.path m.part l.exists.at in
-    let k = path_is_kept l.path t a.0 v l.holds a.1 in
-    let q = sym none ∙ k.1 in cc) ∙ sym none)
-    (λ x is.
-    let l = kept_has_path t x v is in
-    let o = kept_is_least t x v is in
-    let there : ExistsIn u l.path = record { found = l.exists.found; at = along-At u l.path l.exists.found (has l.path l.holds ∙ At-along t l.path l.exists.found l.exists.at) } in
-    least_is_kept u x v l.path l.holds there (record {
-      part = o.least u m.part has;
-      has = λ q h. o.has q h ∙ sym (has q h);
-      least = λ z p h. o.least z (part_of_part t u z m.part p) (λ q b. h q b ∙ has q b);
-    }) ∙ sym is)
+projected_again t u w v e c = let m = kept_is_least t u w e in projected_part t u v m.part (has_covered t u w v c m.part m.has)
 
 -- path sets
 pub projection_of_projection : (t u : Tree) (s r : PathSet) → projected t (set.contains s) ≡ Some u → ((q : List Field) → IsTrue (set.contains r q) → ExistsIn t q → IsTrue (covers s q)) → projected u (set.contains r) ≡ projected t (set.contains r)

@@ -13,6 +13,7 @@ use Rattle.std.proofs.lemmas.List.Elements.{All-map, All-nil, All-push, Contains
 use Rattle.std.proofs.lemmas.List.Folds.{list_any_none}
 use Rattle.std.proofs.lemmas.List.Sorted.{All-permutation, Contains-permutation}
 use Rattle.std.proofs.lemmas.Map.Keys.{IsDistinct-push}
+use Rattle.std.proofs.lemmas.Map.Made.{Contains-tail}
 use Rattle.std.proofs.lemmas.Option.{same_Some, slice_get_within}
 use Rattle.dtype_base.specs.Distinct.{Distinct}
 use Rattle.dtype_base.specs.FieldNames.{FirstAt, first_place}
@@ -100,10 +101,6 @@ entering-start w ns left es none names = subst (IsEntering w ns left) (sym none)
     nothing : (n : List ℕ) → (Contains (firsts left) n → ⊥) → after_step (Name n) w ≡ no_path
     nothing n not_left = λ i p. by_bool (w (Name n ∷ p)) (λ e. absurd (not_left ((names.exact n).1 (λ z. false≢true (sym (ap (λ (v : PathPredicate). v p) z) ∙ e))))) (λ e. e) i
 
-contains-cases : (x y : List ℕ) (xs : List (List ℕ)) → Contains (x ∷ xs) y → (x ≡ y) ⊎ Contains xs y
-contains-cases x y xs (zero, lt, e) = inl e
-contains-cases x y xs (suc i, lt, e) = inr (i, omega (arith, lt), e)
-
 distinct-tail : (x : List ℕ) (xs : List (List ℕ)) → Distinct (x ∷ xs) → Distinct xs
 distinct-tail x xs a = λ i j d lt in_list. a (suc i) (suc j) d (omega (arith, lt)) (omega (arith, in_list))
 
@@ -125,10 +122,7 @@ module _ (w : PathPredicate) (ns : List (List ℕ)) (left rest : List (List ℕ 
     once = old.once;
     each = old.each;
     ahead = ahead_still;
-    all = λ k gone. old.all k (λ n c at. elim (contains-cases m n (firsts rest) c) [
-      | inl e ↦ let q : None ≡ Some k = none ∙ ap (first_place ns) e ∙ sym at in cc
-      | inr c ↦ gone n c at
-    ]);
+    all = λ k gone. old.all k (λ n c at. gone n (Contains-tail m (firsts rest) n (λ e. let q : None ≡ Some k = none ∙ ap (first_place ns) e ∙ sym at in cc) c) at);
   }
 
   -- the field i has it, and its cursor is entered
@@ -139,10 +133,8 @@ module _ (w : PathPredicate) (ns : List (List ℕ)) (left rest : List (List ℕ 
     once = differ_push es i below (λ k d lt is. old.ahead m (0, omega arith, refl) k d lt (ap Some is ∙ at)) old.once;
     each = All-push (IsEntered w ns) es (i, below) old.each (is ∙ old.left_each (m, v) (0, omega arith, refl) ∙ sym (asked_first ns w i m (first_of_place ns m i at)));
     ahead = λ n c. All-push (λ e. Some e.0 ≢ first_place ns n) es (i, below) (ahead_still n c) (λ there. not_again (subst (Contains (firsts rest)) (sym (named n there)) c));
-    all = λ k gone. by_bool (i == k) (λ same. settled_here w ns es i k below ((Decides-eqb i k).0 same)) (λ no. let other : i ≢ k = λ is. false≢true (sym no ∙ (Decides-eqb i k).1 is) in settled_push w ns es (i, below) k (old.all k (λ n c there. elim (contains-cases m n (firsts rest) c) [
-      | inl e ↦ other (same_Some i k (at ∙ ap (first_place ns) e ∙ sym there))
-      | inr c ↦ gone n c there
-    ])));
+    all = λ k gone. by_bool (i == k) (λ same. settled_here w ns es i k below ((Decides-eqb i k).0 same)) (λ no. let other : i ≢ k = λ is. false≢true (sym no ∙ (Decides-eqb i k).1 is) in settled_push w ns es (i, below) k (old.all k (λ n c there.
+        gone n (Contains-tail m (firsts rest) n (λ e. other (same_Some i k (at ∙ ap (first_place ns) e ∙ sym there))) c) there)));
   })
     where
       -- the first field of two names is the same only if they are

@@ -119,8 +119,7 @@ kept_none fs k w n t name type is = ap (option_map (λ v. (n, v))) is ∙ ap (op
 zip_push : {X Y : Type 0} (xs : List X) (ys : List Y) (x : X) (y : Y) → length xs ≡ length ys → zip (xs ++ x ∷ []) (ys ++ y ∷ []) ≡ zip xs ys ++ (x, y) ∷ []
 zip_push [] [] x y e = refl
 zip_push (a ∷ xs) (b ∷ ys) x y e = ap (λ zs. (a, b) ∷ zs) (zip_push xs ys x y (omega arith))
-zip_push [] (b ∷ ys) x y e = absurd (omega arith)
-zip_push (a ∷ xs) [] x y e = absurd (omega arith)
+zip_push _ _ x y e = absurd (omega arith)
 
 pub one_kept : (fs all : Pairs) (es rest : Entries) (e : ℕ × FieldPathCursor) (names names' : List (List ℕ)) (dtypes dtypes' : List DType) (n : List ℕ) (d : DType) → es ≡ e ∷ rest → kept_at fs e ≡ Some (n, tree d) → length names ≡ length dtypes → names' ≡ names ++ n ∷ [] → dtypes' ≡ dtypes ++ d ∷ []
     → zip names (map tree dtypes) ++ filter_map (kept_at fs) es ≡ all → zip names' (map tree dtypes') ++ filter_map (kept_at fs) rest ≡ all

@@ -1,7 +1,6 @@
 -- SPDX-License-Identifier: Apache-2.0
 -- SPDX-FileCopyrightText: Copyright the Vortex contributors
 
-mod ProjectionClauses
 mod EnteredFields
 mod KeptFields
 pub mod lemmas

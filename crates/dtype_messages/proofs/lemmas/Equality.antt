@@ -8,7 +8,7 @@
 -- For each derive the checker generates an equation (`Laws.is`): `==` is its test, one layer deep. The proofs go by
 -- these equations and by recursion over the first message, whose constructors (`List'`, `Held-..`, `Row_of-..`) are
 -- generated too; `out-List` opens a message by one layer.
-use Rattle.std.specs.Prelude.{◌≡◌, ℕ, ℤ, List, [], ◌∷◌, ◌&&◌, map, Option, Some, None, option_map, Bool as Flag, false, refl, nat_eq}
+use Rattle.std.specs.Prelude.{◌≡◌, ℕ, ℤ, List, [], ◌∷◌, ◌&&◌, map, Option, Some, None, option_map, unwrap_or, Bool as Flag, false, refl, nat_eq}
 use Rattle.std.specs.Bool.{Decides}
 use Rattle.std.specs.Option.{option_eq}
 use Rattle.std.specs.Ordering.{int_eq}
@@ -23,7 +23,7 @@ use Rattle.std.proofs.lemmas.Bool.{false≢true}
 use Rattle.std.proofs.lemmas.Bool.Decides.{Decides-and, Decides-like}
 use Rattle.std.proofs.lemmas.Slice.Eq.{bytes_eq-Decides, slice_eq-Decides}
 use Rattle.dtype_messages.specs.Message.{Message, messages, missing, bool, primitive, decimal, utf8, binary, list, fixed_size_list, map_of, struct, union, variant, extension, present, more}
-use Rattle.dtype_messages.specs.MessageOf.{message, kind_message, child_message, list_content, fixed_content, map_content, struct_content, union_content, extension_content, texts, bytes_of, or_missing, ListOf, FixedOf, MapOf, StructContent, UnionOf, ExtensionOf, kind_step, dtype_step, extension_step, fixed_step, list_step, map_step, struct_step, union_step}
+use Rattle.dtype_messages.specs.MessageOf.{message, kind_message, child_message, list_content, fixed_content, map_content, struct_content, union_content, extension_content, texts, bytes_of, ListOf, FixedOf, MapOf, StructContent, UnionOf, ExtensionOf, kind_step, dtype_step, extension_step, fixed_step, list_step, map_step, struct_step, union_step}
 use Rattle.dtype_messages.specs.PathNames.{name_of, part_name, part_names}
 use Rattle.dtype_messages.specs.declared.pb.DType.{DType}
 use Rattle.dtype_messages.specs.declared.pb.DtypeType.{DtypeType, out-DtypeType, map-DtypeType, fold_out-DtypeType, the_lemmas}
@@ -93,9 +93,7 @@ texts_Decides : (xs ys : List (String Global)) → Decides (pointwise string_eq 
 texts_Decides = items_Decides (λ x y. bytes_eq-Decides (string_bytes x) (string_bytes y))
 
 bytes_Decides : (p q : Option (Vec ℕ Global)) → Decides (option_eq (λ x y. pointwise nat_eq x.items y.items) p q) (bytes_of p ≡ bytes_of q)
-bytes_Decides None None = (λ _. refl, λ _. refl)
-bytes_Decides (Some x) (Some y) = Decides-like _ (ap Some) (λ e. cc) (bytes_eq-Decides x.items y.items)
-bytes_Decides _ _ = Decides-different (λ e. cc)
+bytes_Decides = option_Decides (λ x y. bytes_eq-Decides x.items y.items)
 
 tags_Decides : (gs hs : List ℤ) → Decides (pointwise int_eq gs hs) (gs ≡ hs)
 tags_Decides gs hs = slice_eq-Decides signed_Decides gs hs (pointwise int_eq gs hs) refl
@@ -127,7 +125,7 @@ AreEqual xs ys = Decides (pointwise dtype_eq.ghosts.eq xs ys) (messages (map mes
 lists_rewritten : {xs ys us vs : List DType} → xs ≡ us → ys ≡ vs → AreEqual us vs → AreEqual xs ys
 lists_rewritten p q = subst₂ AreEqual (sym p) (sym q)
 
-message-one_layer : (d : DType) → message d ≡ or_missing (option_map kind_message d.dtype_type)
+message-one_layer : (d : DType) → message d ≡ unwrap_or (option_map kind_message d.dtype_type) missing
 message-one_layer d = search (rules, the_lemmas)
 
 from_one_layer : (j k : DtypeType) → Decides (kind_eq.Laws.unfolded j k) (one_layer j ≡ one_layer k) → Decides (kind_eq.ghosts.eq j k) (kind_message j ≡ kind_message k)

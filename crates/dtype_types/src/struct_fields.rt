@@ -15,7 +15,7 @@ ghost use Rattle.dtype_types.specs.tree.TreeOf.{tree};
 use crate::dtype::equality::{NullabilityRule, equal_under};
 use crate::dtype::hash::{HashMode, hash_into};
 use crate::dtype::indented_text::start_field;
-use crate::dtype::lattice::{MergeRule, merge_under};
+use crate::dtype::lattice::{MergeRule, merge_dtypes};
 use crate::dtype::width::Width;
 use crate::field_dtype::into_dtypes;
 use crate::named::Named;
@@ -267,6 +267,7 @@ impl StructFields {
 
     // The bound of two structs that are equal but for nullabilities. It has the names of this one, and its index.
     #[cycle(merge_under)]
+    #[tactic(auto, using(crate::proofs::MergedParts::merged_fields))]
     pub(crate) fn merge_under(
         &self,
         alloc: Global,
@@ -276,10 +277,7 @@ impl StructFields {
         requires { erase_items (fields_of self.now) ≡ erase_items (fields_of other.now) }
         ensures { Makes result (λ s. fields_of s ≡ merge_items (rule_of rule) (fields_of self.now) (fields_of other.now)) }
     {
-        let mut dtypes = Vec::with_capacity(alloc, self.nfields())?;
-        for ((_, dtype), (_, other_dtype)) in self.pairs().zip(other.pairs()) {
-            dtypes.push(merge_under(alloc, dtype, other_dtype, rule)?)?;
-        }
+        let dtypes = merge_dtypes(alloc, self.dtypes(), other.dtypes(), rule)?;
         let merged = self.shared.with_dtypes(alloc, dtypes)?;
         let shared = Rc::new(alloc, merged)?;
         Ok(StructFields { shared })

@@ -11,7 +11,7 @@ ghost use Rattle.dtype_types.specs.parts.Unions.{AreConsecutive, HasUnionLengths
 
 use crate::dtype::equality::{NullabilityRule, equal_under};
 use crate::dtype::hash::{HashMode, hash_into};
-use crate::dtype::lattice::{MergeRule, merge_under};
+use crate::dtype::lattice::{MergeRule, merge_dtypes};
 use crate::tagged::Tagged;
 use crate::{DType, DTypeIter, VariantIter};
 use dtype_base::{FieldNames, VortexError, VortexResult};
@@ -292,10 +292,7 @@ impl UnionVariants {
         requires { erase_items (variants_of self.now) ≡ erase_items (variants_of other.now) }
         ensures { Makes result (λ u. variants_of u ≡ merge_items (rule_of rule) (variants_of self.now) (variants_of other.now)) }
     {
-        let mut dtypes = Vec::with_capacity(alloc, self.len())?;
-        for ((_, _, dtype), (_, _, other_dtype)) in self.triples().zip(other.triples()) {
-            dtypes.push(merge_under(alloc, dtype, other_dtype, rule)?)?;
-        }
+        let dtypes = merge_dtypes(alloc, self.dtypes(), other.dtypes(), rule)?;
         let merged = self.shared.with_dtypes(alloc, dtypes)?;
         let shared = Rc::new(alloc, merged)?;
         Ok(UnionVariants { shared })

@@ -2,7 +2,7 @@
 -- SPDX-FileCopyrightText: Copyright the Vortex contributors
 
 -- The least type above two is least among all types that take the values of both.
-use Rattle.std.proofs.Common.{◌≡◌, ◌∙◌, ◌<◌, ℕ, List, arith, refl, sym, subst, inl, inr, ap}
+use Rattle.std.proofs.Common.{◌≡◌, ◌∙◌, ◌<◌, ℕ, arith, refl, sym, subst, inl, inr, ap}
 use Rattle.dtype_base.specs.Nullability.{either}
 use Rattle.dtype_base.specs.declared.nullability.Nullability.{Nullability}
 use Rattle.dtype_base.specs.declared.nullability.Nullability.TheVariants.{NonNullable, Nullable}
@@ -12,17 +12,14 @@ use Rattle.dtype_types.specs.tree.Tree.{Tree, Fields, no_items, Variants, item, 
 use Rattle.dtype_types.specs.tree.Valid.{Valid, ValidItems}
 use Rattle.dtype_types.specs.values.Sample.{sample, samples, copies}
 use Rattle.dtype_types.specs.values.Value.{Value, Values, Named, IncludedIn, Of, NamedOf, VariantOf, Each, value_count, null_value, items, fixed_items, entries, record_of, tagged, no_values, value, no_entries, entry, no_named, named}
-use Rattle.dtype_types.proofs.lemmas.NullValues.{either_nullable}
 use Rattle.dtype_types.proofs.lemmas.SampleLaws.{sample_of, samples_of, copies_hold, each_copy, value_count-copies}
 use Rattle.dtype_types.proofs.lemmas.SubValues.{each_of, each_entry}
 use Rattle.dtype_types.proofs.lemmas.ValidLists.{variants_are}
-use Rattle.dtype_types.proofs.OwnTags.{OwnTags, LacksTag, own_tags, absent}
+use Rattle.dtype_types.proofs.OwnTags.{OwnTags, own_tags, absent, value_of_first}
 
 -- ---- least among the types that take the values of both
 
-null_either : (m n : Nullability) (X : Type 0) → (m ≡ Nullable → X) → (n ≡ Nullable → X) → either m n ≡ Nullable → X
-null_either m n X f g e = elim ((either_nullable m n).0 e) [ inl h ↦ f h | inr h ↦ g h ]
-
+-- what holds of two nullabilities holds of the one that is made of them
 choose : (P : Nullability → Type 0) (m n : Nullability) → P m → P n → P (either m n)
 choose P NonNullable NonNullable p q = p
 choose P NonNullable Nullable p q = q
@@ -34,7 +31,7 @@ abbrev Least : Tree → Tree → Tree → Type 0
 Least t u w = (c : Tree) → Valid c → IncludedIn t c → IncludedIn u c → IncludedIn w c
 
 least_list : (t u w : Tree) (m n : Nullability) → Least t u w → (d : Tree) → Valid d → IncludedIn (list t m) d → IncludedIn (list u n) d → IncludedIn (list w (either m n)) d
-least_list t u w m n f d x i j null_value o = null_either m n (Of null_value d) (i null_value) (j null_value) o
+least_list t u w m n f d x i j null_value o = choose (λ k. k ≡ Nullable → Of null_value d) m n (i null_value) (j null_value) o
 least_list t u w m n f (list c _) x i j (items vs) o =
     each_of (λ v. Of v w) (λ v. Of v c) (f c x (λ q p. (i (items (value q no_values)) (p, tt)).0) (λ q p. (j (items (value q no_values)) (p, tt)).0)) vs o
 least_list t u w m n f (extension a b s) x i j (items vs) o = least_list t u w m n f s x.1 i j (items vs) o
@@ -46,7 +43,7 @@ fixed_each w c k f no_values n h = tt
 fixed_each w c k f (value y ys) n h = each_of (λ v. Of v w) (λ v. Of v c) (f (omega (arith, n))) (value y ys) h
 
 least_fixed : (t u w : Tree) (k : ℕ) (m n : Nullability) (z : Value) → Of z t → Least t u w → (d : Tree) → Valid d → IncludedIn (fixed_size_list t k m) d → IncludedIn (fixed_size_list u k n) d → IncludedIn (fixed_size_list w k (either m n)) d
-least_fixed t u w k m n z zt f d x i j null_value o = null_either m n (Of null_value d) (i null_value) (j null_value) o
+least_fixed t u w k m n z zt f d x i j null_value o = choose (λ k. k ≡ Nullable → Of null_value d) m n (i null_value) (j null_value) o
 least_fixed t u w k m n z zt f (fixed_size_list c l _) x i j (fixed_items vs) o = (
   o.0 ∙ sym (value_count-copies k z) ∙ (i (fixed_items (copies k z)) (value_count-copies k z, each_copy (λ v. Of v t) k z zt)).0,
   fixed_each w c k (λ some. f c x.1 (λ q p. copies_hold (λ v. Of v c) k q some (i (fixed_items (copies k q)) (value_count-copies k q, each_copy (λ v. Of v t) k q p)).1)
@@ -58,7 +55,7 @@ least_fixed t u w k m n z zt f _ x i j _ o = absurd o
 
 least_map : (t u w t' u' w' : Tree) (x y : _) (m n : Nullability) → Valid t → Valid t' → Valid u → Valid u' → Least t u w → Least t' u' w' → (d : Tree) → Valid d → IncludedIn (map_of t t' x m) d → IncludedIn (map_of u u' y n) d
     → IncludedIn (map_of w w' x (either m n)) d
-least_map t u w t' u' w' x y m n h h' k k' f g d z i j null_value o = null_either m n (Of null_value d) (i null_value) (j null_value) o
+least_map t u w t' u' w' x y m n h h' k k' f g d z i j null_value o = choose (λ k. k ≡ Nullable → Of null_value d) m n (i null_value) (j null_value) o
 least_map t u w t' u' w' x y m n h h' k k' f g (map_of c c' _ _) z i j (entries es) o =
     each_entry w c w' c'
     (f c z.1 (λ q p. (i (entries (entry q (sample t') no_entries)) (p, sample_of t' h', tt)).0) (λ q p. (j (entries (entry q (sample u') no_entries)) (p, sample_of u' k', tt)).0))
@@ -71,7 +68,7 @@ abbrev Least_named : Fields → Fields → Fields → Type 0
 Least_named fs gs hs = (ds : Fields) → ValidItems ds → ((nvs : Named) → NamedOf nvs fs → NamedOf nvs ds) → ((nvs : Named) → NamedOf nvs gs → NamedOf nvs ds) → (nvs : Named) → NamedOf nvs hs → NamedOf nvs ds
 
 least_struct : (fs gs hs : Fields) (m n : Nullability) → ValidItems fs → Least_named fs gs hs → (d : Tree) → Valid d → IncludedIn (struct fs m) d → IncludedIn (struct gs n) d → IncludedIn (struct hs (either m n)) d
-least_struct fs gs hs m n h f d x i j null_value o = null_either m n (Of null_value d) (i null_value) (j null_value) o
+least_struct fs gs hs m n h f d x i j null_value o = choose (λ k. k ≡ Nullable → Of null_value d) m n (i null_value) (j null_value) o
 least_struct fs gs hs m n h f (struct ds _) x i j (record_of nvs) o = f ds x (λ nvs. i (record_of nvs)) (λ nvs. j (record_of nvs)) nvs o
 least_struct fs gs hs m n h f (extension a b s) x i j (record_of nvs) o = least_struct fs gs hs m n h f s x.1 i j (record_of nvs) o
 least_struct fs gs hs m n h f _ x i j (record_of nvs) o = absurd (i (record_of (samples fs)) (samples_of fs h))
@@ -84,7 +81,7 @@ abbrev Least_tagged : Variants → Variants → Variants → Type 0
 Least_tagged vs ws xs = (ds : Variants) → OwnTags ds → In_variants vs ds → In_variants ws ds → In_variants xs ds
 
 least_union : (vs ws xs : Variants) (m n : Nullability) → Valid (union vs m) → Least_tagged vs ws xs → (d : Tree) → Valid d → IncludedIn (union vs m) d → IncludedIn (union ws n) d → IncludedIn (union xs (either m n)) d
-least_union vs ws xs m n h f d x i j null_value o = null_either m n (Of null_value d) (i null_value) (j null_value) o
+least_union vs ws xs m n h f d x i j null_value o = choose (λ k. k ≡ Nullable → Of null_value d) m n (i null_value) (j null_value) o
 least_union no_items ws xs m n h f d x i j (tagged g v) o = absurd ((variants_are no_items h.0).0.0.2 refl)
 least_union vs ws xs m n h f (union ds l) x i j (tagged g v) o = f ds (own_tags ds l x) (λ g v. i (tagged g v)) (λ g v. j (tagged g v)) g v o
 least_union vs ws xs m n h f (extension a b s) x i j (tagged g v) o = least_union vs ws xs m n h f s x.1 i j (tagged g v) o
@@ -95,20 +92,11 @@ least_union _ ws xs m n h f _ x i j _ o = absurd o
 abbrev At_tag : Variants → ℕ → Type 0
 At_tag ds g = (c : Tree) × Valid c × ((v : Value) → VariantOf g v ds → Of v c) × ((v : Value) → Of v c → VariantOf g v ds)
 
-further : (m : List ℕ) (t : Tree) (k : ℕ) (ds : Variants) → LacksTag k ds → (g : ℕ) (z : Value) → VariantOf g z ds → At_tag ds g → At_tag (item m t k ds) g
-further m t k ds lacks g z o rest = (rest.0, rest.1, only, λ v p. inr (rest.3 v p))
-  where
-    only : (v : Value) → VariantOf g v (item m t k ds) → Of v rest.0
-    only v (inl p) = absurd (absent k ds lacks g z p.0 o)
-    only v (inr p) = rest.2 v p
-
 at_tag : (ds : Variants) → OwnTags ds → (g : ℕ) (z : Value) → VariantOf g z ds → At_tag ds g
-at_tag (item m t k ds) x g z (inl o) = (t, x.0, only, λ v p. inl (o.0, p))
-  where
-    only : (v : Value) → VariantOf g v (item m t k ds) → Of v t
-    only v (inl p) = p.1
-    only v (inr p) = absurd (absent k ds x.1 g v o.0 p)
-at_tag (item m t k ds) x g z (inr o) = further m t k ds x.1 g z o (at_tag ds x.2 g z o)
+at_tag (item m t k ds) x g z (inl o) = (t, x.0, λ v p. value_of_first k k v m t ds x.1 (subst (λ h. VariantOf h v (item m t k ds)) o.0 p), λ v p. inl (o.0, p))
+at_tag (item m t k ds) x g z (inr o) =
+    let rest = at_tag ds x.2 g z o in
+    (rest.0, rest.1, λ v p. elim p [ inl q ↦ absurd (absent k ds x.1 g z q.0 o) | inr q ↦ rest.2 v q ], λ v p. inr (rest.3 v p))
 at_tag no_items x g z o = absurd o
 
 mutual

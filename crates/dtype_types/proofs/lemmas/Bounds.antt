@@ -12,27 +12,24 @@ use Rattle.dtype_types.specs.equality.EqualityLaws.{equal_by, everywhere, reflex
 use Rattle.dtype_types.specs.nullability.Merged.{Rule, both, merge, merge_items, IsLeastAbove, IsGreatestBelow}
 use Rattle.dtype_types.specs.nullability.Sub.{Sub, Allows, Wherever, WhereverItems}
 use Rattle.dtype_types.specs.tree.Erase.{erase, erase_items}
-use Rattle.dtype_types.specs.tree.Tree.{Tree, no_items, item, null, bool, primitive, decimal, utf8, binary, list, fixed_size_list, map_of, struct, union, variant, extension, Holder, Items, rest_of}
+use Rattle.dtype_types.specs.tree.Tree.{Tree, no_items, item, list, fixed_size_list, map_of, struct, union, extension, Holder, Items, rest_of}
 use Rattle.dtype_types.proofs.lemmas.NullValues.{either_nullable}
 
 -- ---- nothing but nullabilities is changed
 
+-- Here and below the last clause holds for the kinds that have no parts, and for two types of unequal kinds. The clauses
+-- for a list before it are there for this: they make the checker look at each kind of the second type, and of the third.
+
 module _ (r : Rule) where
   mutual
     pub erase_merge : (a b : Tree) → erase a ≡ erase b → erase (merge r a b) ≡ erase a
-    erase_merge null null e = refl
-    erase_merge (bool m) (bool n) e = refl
-    erase_merge (primitive p m) (primitive q n) e = refl
-    erase_merge (decimal c m) (decimal d n) e = refl
-    erase_merge (utf8 m) (utf8 n) e = refl
-    erase_merge (binary m) (binary n) e = refl
     erase_merge (list t m) (list u n) e = cc (erase_merge t u (cc))
     erase_merge (fixed_size_list t j m) (fixed_size_list u k n) e = cc (erase_merge t u (cc))
     erase_merge (map_of t v x m) (map_of u w y n) e = cc (erase_merge t u (cc), erase_merge v w (cc))
     erase_merge (struct fs m) (struct gs n) e = cc (erase_merge_items fs gs (cc))
     erase_merge (union vs m) (union ws n) e = cc (erase_merge_items vs ws (cc))
-    erase_merge (variant m) (variant n) e = refl
     erase_merge (extension i a t) (extension j b u) e = cc (erase_merge t u (cc))
+    erase_merge _ (list u n) e = cc
     erase_merge _ _ e = cc
 
     erase_merge_items : {h : Holder} (xs ys : Items h) → erase_items xs ≡ erase_items ys → erase_items (merge_items r xs ys) ≡ erase_items xs
@@ -48,27 +45,21 @@ Relation = Nullability → Nullability → Type 0
 -- from what holds of the two, of a third and the first, and of the third and the second
 module _ (O P Q R : Relation) (r : Rule) (makes : (l m n : Nullability) → O m n → P l m → Q l n → R l (r m n)) where
   mutual
-    of_three : (c a b : Tree) → erase c ≡ erase a → erase c ≡ erase b → Wherever O a b → Wherever P c a → Wherever Q c b → Wherever R c (merge r a b)
-    of_three null null null e f o p q = tt
-    of_three (bool l) (bool m) (bool n) e f o p q = makes l m n o p q
-    of_three (primitive _ l) (primitive _ m) (primitive _ n) e f o p q = makes l m n o p q
-    of_three (decimal _ l) (decimal _ m) (decimal _ n) e f o p q = makes l m n o p q
-    of_three (utf8 l) (utf8 m) (utf8 n) e f o p q = makes l m n o p q
-    of_three (binary l) (binary m) (binary n) e f o p q = makes l m n o p q
-    of_three (list t l) (list u m) (list v n) e f o p q = (makes l m n o.0 p.0 q.0, of_three t u v (cc) (cc) o.1 p.1 q.1)
-    of_three (fixed_size_list t _ l) (fixed_size_list u _ m) (fixed_size_list v _ n) e f o p q = (makes l m n o.0 p.0 q.0, of_three t u v (cc) (cc) o.1 p.1 q.1)
-    of_three (map_of t t' _ l) (map_of u u' _ m) (map_of v v' _ n) e f o p q =
-        (makes l m n o.0 p.0 q.0, of_three t u v (cc) (cc) o.1 p.1 q.1, of_three t' u' v' (cc) (cc) o.2 p.2 q.2)
-    of_three (struct fs l) (struct gs m) (struct hs n) e f o p q = (makes l m n o.0 p.0 q.0, items_of_three fs gs hs (cc) (cc) o.1 p.1 q.1)
-    of_three (union fs l) (union gs m) (union hs n) e f o p q = (makes l m n o.0 p.0 q.0, items_of_three fs gs hs (cc) (cc) o.1 p.1 q.1)
-    of_three (variant l) (variant m) (variant n) e f o p q = makes l m n o p q
-    of_three (extension _ _ t) (extension _ _ u) (extension _ _ v) e f o p q = of_three t u v (cc) (cc) o p q
-    of_three _ _ _ e f o p q = cc
+    of_three : (c a b : Tree) → Wherever O a b → Wherever P c a → Wherever Q c b → Wherever R c (merge r a b)
+    of_three (list t l) (list u m) (list v n) o p q = (makes l m n o.0 p.0 q.0, of_three t u v o.1 p.1 q.1)
+    of_three (fixed_size_list t _ l) (fixed_size_list u _ m) (fixed_size_list v _ n) o p q = (makes l m n o.0 p.0 q.0, of_three t u v o.1 p.1 q.1)
+    of_three (map_of t t' _ l) (map_of u u' _ m) (map_of v v' _ n) o p q = (makes l m n o.0 p.0 q.0, of_three t u v o.1 p.1 q.1, of_three t' u' v' o.2 p.2 q.2)
+    of_three (struct fs l) (struct gs m) (struct hs n) o p q = (makes l m n o.0 p.0 q.0, items_of_three fs gs hs o.1 p.1 q.1)
+    of_three (union fs l) (union gs m) (union hs n) o p q = (makes l m n o.0 p.0 q.0, items_of_three fs gs hs o.1 p.1 q.1)
+    of_three (extension _ _ t) (extension _ _ u) (extension _ _ v) o p q = of_three t u v o p q
+    of_three _ (list u m) _ o p q = search
+    of_three _ _ (list v n) o p q = search
+    of_three _ _ _ o p q = first_of (search, search makes)
 
-    items_of_three : {h : Holder} (zs xs ys : Items h) → erase_items zs ≡ erase_items xs → erase_items zs ≡ erase_items ys → WhereverItems O xs ys → WhereverItems P zs xs → WhereverItems Q zs ys → WhereverItems R zs (merge_items r xs ys)
-    items_of_three no_items no_items no_items e f o p q = tt
-    items_of_three (item _ t _ zs) (item _ u _ xs) (item _ v _ ys) e f o p q = (of_three t u v (cc) (cc) o.0 p.0 q.0, items_of_three zs xs ys (ap rest_of e) (ap rest_of f) o.1 p.1 q.1)
-    items_of_three _ _ _ e f o p q = cc
+    items_of_three : {h : Holder} (zs xs ys : Items h) → WhereverItems O xs ys → WhereverItems P zs xs → WhereverItems Q zs ys → WhereverItems R zs (merge_items r xs ys)
+    items_of_three no_items no_items no_items o p q = tt
+    items_of_three (item _ t _ zs) (item _ u _ xs) (item _ v _ ys) o p q = (of_three t u v o.0 p.0 q.0, items_of_three zs xs ys o.1 p.1 q.1)
+    items_of_three _ _ _ o p q = search
 
 abbrev Any : Relation
 Any m n = Unit {0}
@@ -86,10 +77,10 @@ same : (a : Tree) → Wherever Same a a
 same = reflexive Same (λ n. refl)
 
 from_first : (R : Relation) (r : Rule) → ((m n : Nullability) → R m (r m n)) → (a b : Tree) → erase a ≡ erase b → Wherever R a (merge r a b)
-from_first R r holds a b e = of_three Any Same Any R r (λ l m n o p q. subst (λ k. R k (r m n)) (sym p) (holds m n)) a a b refl e (any a b e) (same a) (any a b e)
+from_first R r holds a b e = of_three Any Same Any R r (λ l m n o p q. subst (λ k. R k (r m n)) (sym p) (holds m n)) a a b (any a b e) (same a) (any a b e)
 
 from_second : (R : Relation) (r : Rule) → ((m n : Nullability) → R n (r m n)) → (a b : Tree) → erase a ≡ erase b → Wherever R b (merge r a b)
-from_second R r holds a b e = of_three Any Any Same R r (λ l m n o p q. subst (λ k. R k (r m n)) (sym q) (holds m n)) b a b (sym e) refl (any a b e) (any b a (sym e)) (same b)
+from_second R r holds a b e = of_three Any Any Same R r (λ l m n o p q. subst (λ k. R k (r m n)) (sym q) (holds m n)) b a b (any a b e) (any b a (sym e)) (same b)
 
 -- the rules that take the first and the second give that one
 equal_at : (a b : Tree) → erase a ≡ erase b → Wherever Same a b → a ≡ b
@@ -104,7 +95,7 @@ second_is a b e = equal_at b _ (sym e ∙ sym (erase_merge (λ m n. n) a b e)) (
 turned : (R : Relation) (a b : Tree) → erase a ≡ erase b → Wherever R a b → Wherever (Turned R) b a
 turned R a b e h =
     subst (Wherever (Turned R) b) (sym (first_is a b e))
-    (of_three R Any Same (Turned R) (λ m n. m) (λ l m n o p q. subst (R m) (sym q) o) b a b (sym e) refl h (any b a (sym e)) (same b))
+    (of_three R Any Same (Turned R) (λ m n. m) (λ l m n o p q. subst (R m) (sym q) o) b a b h (any b a (sym e)) (same b))
 
 -- ---- a rule that makes bounds in an order of nullabilities
 
@@ -127,7 +118,7 @@ module _ {A : Relation} {r : Rule} (bounds : Bounds A r) where
   pub after_more : (a b c : Tree) → InOrder A a b → InOrder A b c → InOrder A a c
   after_more a b c h k =
       let e = h.0 ∙ k.0 in
-      (e, subst (Wherever A a) (sym (second_is b c k.0)) (of_three A A Any A (λ m n. n) (λ l m n o p q. bounds.goes_on l m n p o) a b c h.0 e k.1 h.1 (any a c e)))
+      (e, subst (Wherever A a) (sym (second_is b c k.0)) (of_three A A Any A (λ m n. n) (λ l m n o p q. bounds.goes_on l m n p o) a b c k.1 h.1 (any a c e)))
 
   pub equal_in_order : (a b : Tree) → InOrder A a b → InOrder A b a → a ≡ b
   equal_in_order a b h k = equal_by A A bounds.only a b h.0 h.1 k.1
@@ -142,7 +133,7 @@ module _ {A : Relation} {r : Rule} (bounds : Bounds A r) where
   before_others a b c h k =
       let e = h.0 ∙ sym k.0 in
       let same_kind = erase_merge r a b e ∙ h.0 in
-      (same_kind, turned (Turned A) c (merge r a b) (sym same_kind) (of_three Any (Turned A) (Turned A) (Turned A) r (λ l m n o p q. bounds.least l m n p q) c a b (sym h.0) (sym k.0) (any a b e) (turned A a c h.0 h.1) (turned A b c k.0 k.1)))
+      (same_kind, turned (Turned A) c (merge r a b) (sym same_kind) (of_three Any (Turned A) (Turned A) (Turned A) r (λ l m n o p q. bounds.least l m n p q) c a b (any a b e) (turned A a c h.0 h.1) (turned A b c k.0 k.1)))
 
   pub commutes : (a b : Tree) → erase a ≡ erase b → merge r a b ≡ merge r b a
   commutes a b e = equal_in_order _ _ (within a b e) (within b a (sym e))

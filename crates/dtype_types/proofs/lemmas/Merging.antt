@@ -4,10 +4,9 @@
 -- What is merged and what is intersected of two types: where there is such a type, that it is the least above or the
 -- greatest below, that it is valid, its values, and that both are commutative, associative, idempotent and monotone and
 -- absorb one another.
-use Rattle.std.proofs.Common.{◌≡◌, ◌≢◌, ◌↔◌, ◌∙◌, Bool, true, false, Option, Some, None, IsSome, IfSome, option_and_then, refl, sym, ap, subst}
-use Rattle.std.specs.Prelude.{if◌then◌else◌}
+use Rattle.std.proofs.Common.{◌≡◌, ◌≢◌, ◌↔◌, ◌∙◌, Option, Some, None, IsSome, IfSome, option_and_then, refl, sym, ap, subst}
 use Rattle.std.specs.Option.{option_map}
-use Rattle.std.proofs.lemmas.Bool.{false≢true, false_from_ne_true}
+use Rattle.std.proofs.lemmas.Bool.{cond_both, false≢true}
 use Rattle.std.proofs.lemmas.Option.{same_Some}
 use Rattle.dtype_base.specs.Nullability.{either}
 use Rattle.dtype_base.specs.declared.nullability.Nullability.{Nullability}
@@ -22,7 +21,7 @@ use Rattle.dtype_types.specs.nullability.Merged.{Rule, both, merge, merge_items,
 use Rattle.dtype_types.specs.nullability.Nullable.{nullability}
 use Rattle.dtype_types.specs.nullability.Sub.{Sub}
 use Rattle.dtype_types.specs.tree.Erase.{erase, erase_items}
-use Rattle.dtype_types.specs.tree.Tree.{Tree, no_items, item, null, bool, primitive, decimal, utf8, binary, list, fixed_size_list, map_of, struct, union, variant, extension, Holder, Items, rest_of}
+use Rattle.dtype_types.specs.tree.Tree.{Tree, no_items, item, null, list, fixed_size_list, map_of, struct, union, extension, Holder, Items, rest_of}
 use Rattle.dtype_types.specs.tree.TreeOf.{tree}
 use Rattle.dtype_types.specs.tree.Valid.{Valid, ValidItems}
 use Rattle.dtype_types.specs.values.Value.{Value, IncludedIn, Of}
@@ -34,45 +33,30 @@ use Rattle.dtype_types.proofs.lemmas.SubValues.{of_both, sub_values}
 
 -- ---- valid types
 
--- under a rule that keeps a key non-nullable: `Needs` is what the second type has to be valid for
+-- under a rule that keeps a key non-nullable: `Needs` is what the second type has to be valid for. As in `Bounds` the last
+-- clause holds for the kinds that have no parts too.
 module _ (r : Rule) (Needs : Type 0) (key : (n : Nullability) → (Needs → n ≡ NonNullable) → r NonNullable n ≡ NonNullable) (nulls : r Nullable Nullable ≡ Nullable) where
   nullability_merge : (a b : Tree) → erase a ≡ erase b → nullability (merge r a b) ≡ r (nullability a) (nullability b)
   nullability_merge null null e = sym nulls
-  nullability_merge (bool m) (bool n) e = refl
-  nullability_merge (primitive p m) (primitive q n) e = refl
-  nullability_merge (decimal c m) (decimal d n) e = refl
-  nullability_merge (utf8 m) (utf8 n) e = refl
-  nullability_merge (binary m) (binary n) e = refl
-  nullability_merge (list t m) (list u n) e = refl
-  nullability_merge (fixed_size_list t j m) (fixed_size_list u k n) e = refl
-  nullability_merge (map_of t v x m) (map_of u w y n) e = refl
-  nullability_merge (struct fs m) (struct gs n) e = refl
-  nullability_merge (union vs m) (union ws n) e = refl
-  nullability_merge (variant m) (variant n) e = refl
   nullability_merge (extension i a t) (extension j b u) e = nullability_merge t u (cc)
+  nullability_merge _ null e = cc
   nullability_merge _ _ e = cc
 
   mutual
     valid_merge : (a b : Tree) → erase a ≡ erase b → Valid a → (Needs → Valid b) → Valid (merge r a b)
-    valid_merge null null e h k = h
-    valid_merge (bool m) (bool n) e h k = h
-    valid_merge (primitive p m) (primitive q n) e h k = h
-    valid_merge (decimal c m) (decimal d n) e h k = h
-    valid_merge (utf8 m) (utf8 n) e h k = h
-    valid_merge (binary m) (binary n) e h k = h
     valid_merge (list t m) (list u n) e h k = valid_merge t u (cc) h k
     valid_merge (fixed_size_list t i m) (fixed_size_list u j n) e h k = (h.0, valid_merge t u (cc) h.1 (λ z. (k z).1))
     valid_merge (map_of t v x m) (map_of u w y n) e h k =
         (nullability_merge t u (cc) ∙ ap (λ z. r z (nullability u)) h.0 ∙ key (nullability u) (λ z. (k z).0), valid_merge t u (cc) h.1 (λ z. (k z).1), valid_merge v w (cc) h.2 (λ z. (k z).2))
     valid_merge (struct fs m) (struct gs n) e h k = valid_merge_items fs gs (cc) h k
     valid_merge (union vs m) (union ws n) e h k = (are_variants_also vs (merge_items r vs ws) (cc (erase_merge r (union vs m) (union ws n) e)) h.0, valid_merge_items vs ws (cc) h.1 (λ z. (k z).1))
-    valid_merge (variant m) (variant n) e h k = h
     valid_merge (extension i a t) (extension j b u) e h k = (h.0, valid_merge t u (cc) h.1 (λ z. (k z).1))
+    valid_merge _ (list u n) e h k = h
     valid_merge _ _ e h k = h
 
     valid_merge_items : {h : Holder} (xs ys : Items h) → erase_items xs ≡ erase_items ys → ValidItems xs → (Needs → ValidItems ys) → ValidItems (merge_items r xs ys)
-    valid_merge_items no_items no_items e h k = tt
     valid_merge_items (item m t f xs) (item n u g ys) e h k = (valid_merge t u (cc) h.0 (λ z. (k z).0), valid_merge_items xs ys (ap rest_of e) h.1 (λ z. (k z).1))
+    valid_merge_items no_items _ e h k = tt
     valid_merge_items _ _ e h k = tt
 
 valid_either : (a b : Tree) → erase a ≡ erase b → Valid a → Valid b → Valid (merge either a b)
@@ -84,19 +68,17 @@ valid_both a b e h = valid_merge both ⊥ (λ n _. refl) refl a b e h (λ z. abs
 -- ---- where there is one, under either rule
 
 module _ (r : Rule) where
-  pub under_some : (a b : Tree) → erase a ≡ erase b → merged_under r a b ≡ Some (merge r a b)
-  under_some a b e = ap (λ x. if x then Some (merge r a b) else None) ((equal_erased-Decides a b).1 e)
-
-  pub under_none : (a b : Tree) → erase a ≢ erase b → merged_under r a b ≡ None
-  under_none a b d = ap (λ x. if x then Some (merge r a b) else None) (false_from_ne_true (equal_under Ignored a b) (λ t. d ((equal_erased-Decides a b).0 t)))
-
   -- a fact of what is merged, by whether the types are equal but for nullabilities
   by_erased : (a b : Tree) (P : Option Tree → Type 0) → (erase a ≡ erase b → P (Some (merge r a b))) → (erase a ≢ erase b → P None) → P (merged_under r a b)
-  by_erased a b P same differ = go (equal_under Ignored a b) refl
-    where
-      go : (x : Bool) → equal_under Ignored a b ≡ x → P (merged_under r a b)
-      go true is = let e = (equal_erased-Decides a b).0 is in subst P (sym (under_some a b e)) (same e)
-      go false is = let d : erase a ≢ erase b = λ e. false≢true (sym is ∙ (equal_erased-Decides a b).1 e) in subst P (sym (under_none a b d)) (differ d)
+  by_erased a b P same differ =
+      let test = equal_erased-Decides a b in
+      cond_both (equal_under Ignored a b) (Some (merge r a b)) None P (λ is. same (test.0 is)) (λ is. differ (λ e. false≢true (sym is ∙ test.1 e)))
+
+  pub under_some : (a b : Tree) → erase a ≡ erase b → merged_under r a b ≡ Some (merge r a b)
+  under_some a b e = by_erased a b (λ o. o ≡ Some (merge r a b)) (λ _. refl) (λ d. absurd (d e))
+
+  pub under_none : (a b : Tree) → erase a ≢ erase b → merged_under r a b ≡ None
+  under_none a b d = by_erased a b (λ o. o ≡ None) (λ e. absurd (d e)) (λ _. refl)
 
   under_where : (a b : Tree) → IsSome (merged_under r a b) ↔ (erase a ≡ erase b)
   under_where a b = by_erased a b (λ o. IsSome o ↔ (erase a ≡ erase b)) (λ e. (λ _. e, λ _. refl)) (λ d. (λ s. absurd (false≢true s), λ e. absurd (d e)))
@@ -107,8 +89,8 @@ module _ (r : Rule) where
 
   -- the same of what a call returns
   given_under : (a b : Tree) (o : Option DType) → option_map tree o ≡ merged_under r a b → IsSome o ↔ (erase a ≡ erase b)
-  given_under a b None is = (λ s. absurd (false≢true s), λ e. absurd (false≢true (subst (λ o. IsSome o) (sym is) ((under_where a b).1 e))))
-  given_under a b (Some d) is = (λ s. (under_where a b).0 (subst (λ o. IsSome o) is refl), λ e. refl)
+  given_under a b None is = subst (λ p. IsSome p ↔ (erase a ≡ erase b)) (sym is) (under_where a b)
+  given_under a b (Some d) is = subst (λ p. IsSome p ↔ (erase a ≡ erase b)) (sym is) (under_where a b)
 
   given_is : (a b : Tree) (P : Tree → Type 0) → ((c : Tree) → merged_under r a b ≡ Some c → P c) → (o : Option DType) → option_map tree o ≡ merged_under r a b → IfSome o (λ d. P (tree d))
   given_is a b P f None is = tt

@@ -5,7 +5,7 @@
 -- node. Nullable where either is, it is the least type above both: what a reader of several files opens, so that each
 -- value of each file is a value of it. Nullable where both are, it is the greatest type below both: what two schemas that
 -- are to be met together leave. From the documentation of `DType::eq_with_nullability_subset`, whose order they are bounds of.
-use Rattle.std.specs.Prelude.{Option, Some, None, if◌then◌else◌}
+use Rattle.std.specs.Prelude.{List, [], ◌∷◌, Option, Some, None, if◌then◌else◌}
 use Rattle.dtype_base.specs.Nullability.{either}
 use Rattle.dtype_base.specs.declared.nullability.Nullability.{Nullability}
 use Rattle.dtype_base.specs.declared.nullability.Nullability.TheVariants.{NonNullable, Nullable}
@@ -46,6 +46,11 @@ abbrev mutual
   pub merge_items : Rule → {h : Holder} → Items h → Items h → Items h
   merge_items r (item m t f xs) (item n u g ys) = item m (merge r t u) f (merge_items r xs ys)
   merge_items r _ _ = no_items
+
+-- the same of the types at equal positions
+abbrev pub merge_types : Rule → List Tree → List Tree → List Tree
+merge_types r (t ∷ ts) (u ∷ us) = merge r t u ∷ merge_types r ts us
+merge_types r _ _ = []
 
 -- the two as one, where they are equal but for nullabilities
 abbrev pub merged_under : Rule → Tree → Tree → Option Tree

@@ -2,13 +2,14 @@
 // SPDX-FileCopyrightText: Copyright the Vortex contributors
 
 // The bounds of two types in the order by nullability: one walk over two types that are equal but for nullabilities,
-// which makes the least above both or the greatest below both.
+// which makes the least above both or the greatest below both. A public call says `Ok(..?)` of it: so what is proved of the
+// bound is asked where the bound is at hand.
 #![tactic(auto, using(crate::proofs::MergedParts::merged_parts))]
 
-ghost use Rattle.std.specs.Prelude.{◌≡◌, ◌↔◌, IfOk, IfSome, IsSome, Some};
+ghost use Rattle.std.specs.Prelude.{◌≡◌, ◌↔◌, IfOk, IfSome, IsSome, Some, length, map};
 ghost use Rattle.std.specs.Option.{option_map};
 ghost use Rattle.dtype_base.specs.Errors.{Makes};
-ghost use Rattle.dtype_types.specs.nullability.Merged.{IsGreatestBelow, IsLeastAbove, intersected, merge, merged, merged_under, rule_of};
+ghost use Rattle.dtype_types.specs.nullability.Merged.{IsGreatestBelow, IsLeastAbove, intersected, merge, merge_types, merged, merged_under, rule_of};
 ghost use Rattle.dtype_types.specs.nullability.Sub.{Sub};
 ghost use Rattle.dtype_types.specs.tree.Erase.{erase};
 ghost use Rattle.dtype_types.specs.tree.TreeOf.{tree};
@@ -63,6 +64,7 @@ impl MergeRule {
 /// # Errors
 ///
 /// - `OutOfMemory` (0): an allocation fails.
+#[tactic(auto, using(crate::proofs::lemmas::Merging::merging))]
 pub fn merge_nullability(alloc: Global, a: &DType, b: &DType) -> VortexResult<Option<DType>>
     ensures ok { Makes result (λ r. option_map tree r ≡ merged (tree a.now) (tree b.now)) }
     ensures some { IfOk result (λ r. IsSome r ↔ (erase (tree a.now) ≡ erase (tree b.now))) }
@@ -71,7 +73,7 @@ pub fn merge_nullability(alloc: Global, a: &DType, b: &DType) -> VortexResult<Op
         × IncludedIn (tree b.now) (tree d))) }
     ensures valid { Valid (tree a.now) → Valid (tree b.now) → IfOk result (λ r. IfSome r (λ d. Valid (tree d))) }
 {
-    bound_of(alloc, a, b, MergeRule::Either)
+    Ok(bound_of(alloc, a, b, MergeRule::Either)?)
 }
 
 /// The greatest type whose values are values of both: nullable only where both are, at every depth, also in a map's
@@ -83,6 +85,7 @@ pub fn merge_nullability(alloc: Global, a: &DType, b: &DType) -> VortexResult<Op
 /// # Errors
 ///
 /// - `OutOfMemory` (0): an allocation fails.
+#[tactic(auto, using(crate::proofs::lemmas::Merging::intersecting))]
 pub fn intersect_nullability(alloc: Global, a: &DType, b: &DType) -> VortexResult<Option<DType>>
     ensures ok { Makes result (λ r. option_map tree r ≡ intersected (tree a.now) (tree b.now)) }
     ensures some { IfOk result (λ r. IsSome r ↔ (erase (tree a.now) ≡ erase (tree b.now))) }
@@ -91,11 +94,12 @@ pub fn intersect_nullability(alloc: Global, a: &DType, b: &DType) -> VortexResul
         × IncludedIn (tree d) (tree b.now))) }
     ensures valid { Valid (tree a.now) → IfOk result (λ r. IfSome r (λ d. Valid (tree d))) }
 {
-    bound_of(alloc, a, b, MergeRule::Both)
+    Ok(bound_of(alloc, a, b, MergeRule::Both)?)
 }
 
 // The bound of two types, where they are equal but for nullabilities. Where it is one of the two, it is a copy of that one:
 // nothing is built, and equal types cost one comparison.
+#[tactic(auto, using(crate::proofs::lemmas::Merging::rule_commutes, crate::proofs::lemmas::Merging::under_none, crate::proofs::lemmas::Merging::under_some))]
 fn bound_of(alloc: Global, a: &DType, b: &DType, rule: MergeRule) -> VortexResult<Option<DType>>
     ensures { Makes result (λ r. option_map tree r ≡ merged_under (rule_of rule) (tree a.now) (tree b.now)) }
 {
@@ -109,6 +113,25 @@ fn bound_of(alloc: Global, a: &DType, b: &DType, rule: MergeRule) -> VortexResul
         return Ok(None);
     }
     Ok(Some(merge_under(alloc, a, b, rule)?))
+}
+
+// The bounds of the types at equal positions of two lists, which are equal but for nullabilities.
+#[cycle(merge_under)]
+pub(crate) fn merge_dtypes(
+    alloc: Global,
+    a: &[DType],
+    b: &[DType],
+    rule: MergeRule,
+) -> VortexResult<Vec<DType>>
+    requires alike { map erase (map tree a.now) ≡ map erase (map tree b.now) }
+    ensures { Makes result (λ ds. (length ds.items ≡ length a.now)
+        × (map tree ds.items ≡ merge_types (rule_of rule) (map tree a.now) (map tree b.now))) }
+{
+    let mut dtypes = Vec::with_capacity(alloc, a.len())?;
+    for (dtype, other_dtype) in a.iter().zip(b) {
+        dtypes.push(merge_under(alloc, dtype, other_dtype, rule)?)?;
+    }
+    Ok(dtypes)
 }
 
 // The bound of two types that are equal but for nullabilities.

@@ -57,7 +57,6 @@ erased_fields _ _ e = cc
 
 pub merged_fields : (r : Rule) (ps qs : List (List ℕ × DType)) (made : List DType) → map tree made ≡ merge_types r (map tree (values_of ps)) (map tree (values_of qs))
     → fields (with_trees (zip (keys_of ps) made)) ≡ merge_items r (fields (with_trees ps)) (fields (with_trees qs))
-merged_fields r [] qs made is = refl
 merged_fields r (p ∷ ps) [] [] is = refl
 merged_fields r (p ∷ ps) (q ∷ qs) (d ∷ made) is = cc (merged_fields r ps qs made (cc))
 merged_fields r _ _ _ is = cc
@@ -71,7 +70,6 @@ erased_variants _ _ e = cc
 
 pub merged_variants : (r : Rule) (ps qs : List (List ℕ × (DType × ℕ))) (made : List DType) → map tree made ≡ merge_types r (map tree (types_of ps)) (map tree (types_of qs))
     → variants (with_tagged_trees (zip (keys_of ps) (zip made (tags_of ps)))) ≡ merge_items r (variants (with_tagged_trees ps)) (variants (with_tagged_trees qs))
-merged_variants r [] qs made is = refl
 merged_variants r (p ∷ ps) [] [] is = refl
 merged_variants r (p ∷ ps) (q ∷ qs) (d ∷ made) is = cc (merged_variants r ps qs made (cc))
 merged_variants r _ _ _ is = cc

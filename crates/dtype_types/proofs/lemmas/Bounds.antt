@@ -33,7 +33,6 @@ module _ (r : Rule) where
     erase_merge _ _ e = cc
 
     erase_merge_items : {h : Holder} (xs ys : Items h) → erase_items xs ≡ erase_items ys → erase_items (merge_items r xs ys) ≡ erase_items xs
-    erase_merge_items no_items no_items e = refl
     erase_merge_items (item m t f xs) (item n u g ys) e = cc (erase_merge t u (cc), erase_merge_items xs ys (ap rest_of e))
     erase_merge_items _ _ e = cc
 
@@ -82,15 +81,11 @@ from_first R r holds a b e = of_three Any Same Any R r (λ l m n o p q. subst (�
 from_second : (R : Relation) (r : Rule) → ((m n : Nullability) → R n (r m n)) → (a b : Tree) → erase a ≡ erase b → Wherever R b (merge r a b)
 from_second R r holds a b e = of_three Any Any Same R r (λ l m n o p q. subst (λ k. R k (r m n)) (sym q) (holds m n)) b a b (any a b e) (any b a (sym e)) (same b)
 
--- the rules that take the first and the second give that one
-equal_at : (a b : Tree) → erase a ≡ erase b → Wherever Same a b → a ≡ b
-equal_at a b e h = equal_by Same Any (λ m n e _. e) a b e h (any b a (sym e))
-
+-- the rule that takes the first gives that one
 first_is : (a b : Tree) → erase a ≡ erase b → a ≡ merge (λ m n. m) a b
-first_is a b e = equal_at a _ (sym (erase_merge (λ m n. m) a b e)) (from_first Same (λ m n. m) (λ m n. refl) a b e)
-
-second_is : (a b : Tree) → erase a ≡ erase b → b ≡ merge (λ m n. n) a b
-second_is a b e = equal_at b _ (sym e ∙ sym (erase_merge (λ m n. n) a b e)) (from_second Same (λ m n. n) (λ m n. refl) a b e)
+first_is a b e =
+    let alike = erase_merge (λ m n. m) a b e in
+    equal_by Same Any (λ m n e _. e) a _ (sym alike) (from_first Same (λ m n. m) (λ m n. refl) a b e) (any _ a alike)
 
 turned : (R : Relation) (a b : Tree) → erase a ≡ erase b → Wherever R a b → Wherever (Turned R) b a
 turned R a b e h =
@@ -118,7 +113,7 @@ module _ {A : Relation} {r : Rule} (bounds : Bounds A r) where
   pub after_more : (a b c : Tree) → InOrder A a b → InOrder A b c → InOrder A a c
   after_more a b c h k =
       let e = h.0 ∙ k.0 in
-      (e, subst (Wherever A a) (sym (second_is b c k.0)) (of_three A A Any A (λ m n. n) (λ l m n o p q. bounds.goes_on l m n p o) a b c k.1 h.1 (any a c e)))
+      (e, subst (Wherever A a) (sym (first_is c b (sym k.0))) (of_three (Turned A) Any A A (λ m n. m) (λ l m n o p q. bounds.goes_on l n m q o) a c b (turned A b c k.0 k.1) (any a c e) h.1))
 
   pub equal_in_order : (a b : Tree) → InOrder A a b → InOrder A b a → a ≡ b
   equal_in_order a b h k = equal_by A A bounds.only a b h.0 h.1 k.1

@@ -21,7 +21,7 @@ use Rattle.dtype_types.specs.nullability.Merged.{Rule, both, merge, merge_items,
 use Rattle.dtype_types.specs.nullability.Nullable.{nullability}
 use Rattle.dtype_types.specs.nullability.Sub.{Sub}
 use Rattle.dtype_types.specs.tree.Erase.{erase, erase_items}
-use Rattle.dtype_types.specs.tree.Tree.{Tree, no_items, item, null, list, fixed_size_list, map_of, struct, union, extension, Holder, Items, rest_of}
+use Rattle.dtype_types.specs.tree.Tree.{Tree, item, null, list, fixed_size_list, map_of, struct, union, extension, Holder, Items, rest_of}
 use Rattle.dtype_types.specs.tree.TreeOf.{tree}
 use Rattle.dtype_types.specs.tree.Valid.{Valid, ValidItems}
 use Rattle.dtype_types.specs.values.Value.{Value, IncludedIn, Of}
@@ -56,14 +56,7 @@ module _ (r : Rule) (Needs : Type 0) (key : (n : Nullability) → (Needs → n �
 
     valid_merge_items : {h : Holder} (xs ys : Items h) → erase_items xs ≡ erase_items ys → ValidItems xs → (Needs → ValidItems ys) → ValidItems (merge_items r xs ys)
     valid_merge_items (item m t f xs) (item n u g ys) e h k = (valid_merge t u (cc) h.0 (λ z. (k z).0), valid_merge_items xs ys (ap rest_of e) h.1 (λ z. (k z).1))
-    valid_merge_items no_items _ e h k = tt
     valid_merge_items _ _ e h k = tt
-
-valid_either : (a b : Tree) → erase a ≡ erase b → Valid a → Valid b → Valid (merge either a b)
-valid_either a b e h k = valid_merge either (Unit {0}) (λ n same. ap (either NonNullable) (same tt)) refl a b e h (λ _. k)
-
-valid_both : (a b : Tree) → erase a ≡ erase b → Valid a → Valid (merge both a b)
-valid_both a b e h = valid_merge both ⊥ (λ n _. refl) refl a b e h (λ z. absurd z)
 
 -- ---- where there is one, under either rule
 
@@ -123,7 +116,7 @@ pub merged_least : (a b c : Tree) → merged a b ≡ Some c → IsLeastAbove a b
 merged_least a b c = under_is either a b c (IsLeastAbove a b) (least_either a b)
 
 pub merged_valid : (a b c : Tree) → merged a b ≡ Some c → Valid a → Valid b → Valid c
-merged_valid a b c = under_is either a b c (λ c. Valid a → Valid b → Valid c) (valid_either a b)
+merged_valid a b c = under_is either a b c (λ c. Valid a → Valid b → Valid c) (λ e h k. valid_merge either (Unit {0}) (λ n same. ap (either NonNullable) (same tt)) refl a b e h (λ _. k))
 
 pub values_first : (a b c : Tree) → merged a b ≡ Some c → IncludedIn a c
 values_first a b c e = sub_values a c (merged_least a b c e).first
@@ -178,7 +171,7 @@ pub intersected_associates : (a b c : Tree) → option_and_then (λ x. intersect
 intersected_associates = under_associates downwards
 
 pub intersected_valid : (a b c : Tree) → intersected a b ≡ Some c → Valid a → Valid c
-intersected_valid a b c = under_is both a b c (λ c. Valid a → Valid c) (valid_both a b)
+intersected_valid a b c = under_is both a b c (λ c. Valid a → Valid c) (λ e h. valid_merge both ⊥ (λ n _. refl) refl a b e h (λ z. absurd z))
 
 pub intersected_valid_second : (a b c : Tree) → intersected a b ≡ Some c → Valid b → Valid c
 intersected_valid_second a b c e = intersected_valid b a c (intersected_commutes b a ∙ e)

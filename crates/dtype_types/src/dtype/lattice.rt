@@ -2,8 +2,8 @@
 // SPDX-FileCopyrightText: Copyright the Vortex contributors
 
 // The bounds of two types in the order by nullability: one walk over two types that are equal but for nullabilities,
-// which makes the least above both or the greatest below both. A public call says `Ok(..?)` of it: so what is proved of the
-// bound is asked where the bound is at hand.
+// which makes the least above both or the greatest below both. The public calls return `Ok(bound?)`, since a tactic uses
+// what is known of a bound only where the bound is at hand.
 #![tactic(auto, using(crate::proofs::MergedParts::merged_parts))]
 
 ghost use Rattle.std.specs.Prelude.{◌≡◌, ◌↔◌, IfOk, IfSome, IsSome, Some, length, map};

@@ -52,24 +52,18 @@ pub later_of : (g k i : ℕ) (v : Value) (n : List ℕ) (u : Tree) (vs ws : Vari
 later_of g k i v n u vs ws same h p (inl o) = absurd (absent g vs h k v (o.0 ∙ sym same) p)
 later_of g k i v n u vs ws same h p (inr o) = o
 
--- variants that are equal but for the nullabilities of their types have the same tags and names
-pub same_tags : (vs ws : Variants) → erase_items vs ≡ erase_items ws → variant_tags (triples vs) ≡ variant_tags (triples ws)
-same_tags no_items no_items e = refl
-same_tags (item m t g vs) (item n u h ws) e = cc (ap (first_tag g) e, same_tags vs ws (ap rest_of e))
-same_tags _ _ e = cc
-
-same_names : (vs ws : Variants) → erase_items vs ≡ erase_items ws → variant_names (triples vs) ≡ variant_names (triples ws)
-same_names no_items no_items e = refl
-same_names (item m t g vs) (item n u h ws) e = cc (same_names vs ws (ap rest_of e))
-same_names _ _ e = cc
+-- variants that are equal but for the nullabilities of their types have the same names and tags
+same_sides : (vs ws : Variants) → erase_items vs ≡ erase_items ws → (variant_names (triples vs) ≡ variant_names (triples ws)) × (variant_tags (triples vs) ≡ variant_tags (triples ws))
+same_sides no_items no_items e = (refl, refl)
+same_sides (item m t g vs) (item n u h ws) e = let rest = same_sides vs ws (ap rest_of e) in (cc (rest.0), cc (ap (first_tag g) e, rest.1))
+same_sides _ _ e = absurd (cc e)
 
 pub lacks_also : (g : ℕ) (vs ws : Variants) → erase_items vs ≡ erase_items ws → LacksTag g vs → LacksTag g ws
-lacks_also g vs ws e h = subst (AllByRecursion (λ h. g ≢ h)) (same_tags vs ws e) h
+lacks_also g vs ws e h = subst (AllByRecursion (λ h. g ≢ h)) (same_sides vs ws e).1 h
 
 pub are_variants_also : (vs ws : Variants) → erase_items vs ≡ erase_items ws → AreVariants vs → AreVariants ws
 are_variants_also vs ws e h =
     let was = variants_are vs h in
-    let tags = same_tags vs ws e in
-    let names = same_names vs ws e in
-    let lengths : HasUnionLengths (variant_names (triples ws)) (length (triples ws)) (variant_tags (triples ws)) = (length-map (triples ws) (λ v. v.0), length-map (triples ws) (λ v. v.0) ∙ sym (length-map (triples ws) (λ v. v.1.1)), λ none. was.0.0.2 (names ∙ none)) in
-    are_variants ws (lengths, subst (λ gs. Distinct gs) tags was.0.1, subst (λ ns. Distinct ns) names was.0.2) (subst Bytes tags was.1)
+    let same = same_sides vs ws e in
+    let lengths : HasUnionLengths (variant_names (triples ws)) (length (triples ws)) (variant_tags (triples ws)) = (length-map (triples ws) (λ v. v.0), length-map (triples ws) (λ v. v.0) ∙ sym (length-map (triples ws) (λ v. v.1.1)), λ none. was.0.0.2 (same.0 ∙ none)) in
+    are_variants ws (lengths, subst (λ gs. Distinct gs) same.1 was.0.1, subst (λ ns. Distinct ns) same.0 was.0.2) (subst Bytes same.1 was.1)

@@ -4,13 +4,13 @@
 -- The names, the types and the tags of a struct's fields and of a union's variants that were made of lists of these, by
 -- std's `zip`. The lists are of items of any type: in the goal of a caller the type of a `Vec`'s items only computes to the one
 -- that a definition names, so a tactic finds a lemma there if these types are variables. For `shown` it takes `tree`.
-use Rattle.std.proofs.Common.{◌≡◌, ◌∙◌, List, map, length, ap, sym, arith}
+use Rattle.std.proofs.Common.{◌≡◌, List, map, length, sym, arith}
 use Rattle.std.proofs.lemmas.List.{length-map}
-use Rattle.std.proofs.lemmas.Simd.{map-map}
-use Rattle.std.proofs.lemmas.Slice.Zip.{firsts-zip, length-zip, seconds-zip}
+use Rattle.std.proofs.lemmas.Slice.Zip.{firsts-zip, seconds-zip}
 use Rattle.std.specs.List.{zip}
 use Rattle.std.specs.Map.{keys_of, values_of}
 use Rattle.dtype_types.specs.parts.Lists.{types_of, tags_of}
+use Rattle.dtype_types.proofs.Sides.{names_three, types_three, tags_three}
 
 -- ---- fields
 
@@ -29,21 +29,13 @@ types_of_mapped f shown ms ds e = types_of_pairs shown (map f ms) ds (omega (ari
 
 -- ---- variants
 
--- the types and tags that are beside the names
-beside_names : {N D T G : Type 0} (shown : D → T) (ns : List N) (ds : List D) (gs : List G) → length ns ≡ length ds → length ns ≡ length gs → length (zip (map shown ds) gs) ≡ length ns
-beside_names shown ns ds gs e f = omega (arith, length-zip (map shown ds) gs, length-map ds shown)
-
 pub names_of_triples : {N D T G : Type 0} (shown : D → T) (ns : List N) (ds : List D) (gs : List G) → length ns ≡ length ds → length ns ≡ length gs → keys_of (zip ns (zip (map shown ds) gs)) ≡ ns
-names_of_triples shown ns ds gs e f = firsts-zip ns (zip (map shown ds) gs) (beside_names shown ns ds gs e f)
+names_of_triples shown ns ds gs e f = names_three ns (map shown ds) gs (omega (arith, length-map ds shown)) (sym f)
 
 pub types_of_triples : {N D T G : Type 0} (shown : D → T) (ns : List N) (ds : List D) (gs : List G) → length ns ≡ length ds → length ns ≡ length gs → types_of (zip ns (zip (map shown ds) gs)) ≡ map shown ds
-types_of_triples {T = T} {G = G} shown ns ds gs e f =
-    sym (map-map (λ (q : T × G). q.0) (λ p. p.1) _) ∙ ap (map (λ (q : T × G). q.0)) (seconds-zip ns (zip (map shown ds) gs) (beside_names shown ns ds gs e f))
-    ∙ firsts-zip (map shown ds) gs (omega (arith, length-map ds shown))
+types_of_triples shown ns ds gs e f = types_three ns (map shown ds) gs (omega (arith, length-map ds shown)) (sym f)
 
 pub tags_of_triples : {N D T G : Type 0} (shown : D → T) (ns : List N) (ds : List D) (gs : List G) → length ns ≡ length ds → length ns ≡ length gs → tags_of (zip ns (zip (map shown ds) gs)) ≡ gs
-tags_of_triples {T = T} {G = G} shown ns ds gs e f =
-    sym (map-map (λ (q : T × G). q.1) (λ p. p.1) _) ∙ ap (map (λ (q : T × G). q.1)) (seconds-zip ns (zip (map shown ds) gs) (beside_names shown ns ds gs e f))
-    ∙ seconds-zip (map shown ds) gs (omega (arith, length-map ds shown))
+tags_of_triples shown ns ds gs e f = tags_three ns (map shown ds) gs (omega (arith, length-map ds shown)) (sym f)
 
 pub ruleset made_of = (names_of_pairs, types_of_pairs, names_of_mapped, types_of_mapped, names_of_triples, types_of_triples, tags_of_triples)

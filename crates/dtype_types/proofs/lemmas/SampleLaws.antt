@@ -2,9 +2,9 @@
 -- SPDX-FileCopyrightText: Copyright the Vortex contributors
 
 -- A sample is a value of its type.
-use Rattle.std.specs.Prelude.{◌≡◌, ◌<◌, ◌≤◌, ◌≤ℤ◌, ◌^◌, ◌-◌, ℕ, zero, suc, pos, neg_ℤ, [], refl}
+use Rattle.std.specs.Prelude.{◌≡◌, ◌<◌, ℕ, zero, suc, pos, [], refl}
 use Rattle.std.specs.Int.Signed.{le_z_yes, lt_z_yes}
-use Rattle.std.proofs.Math.Facts.{yes_leb}
+use Rattle.std.proofs.lemmas.Int.{ints}
 use Rattle.std.proofs.Common.{ap, arith, inl, lit<}
 use Rattle.std.proofs.lemmas.Str.{IsUtf8-nil}
 use Rattle.std.proofs.lemmas.List.Elements.{All-nil}
@@ -42,15 +42,8 @@ zero-of F32 = (refl, lit< tt)
 zero-of F64 = (refl, lit< tt)
 zero-of _ = (le_z_yes tt, lt_z_yes tt)
 
-below_zero : (n : ℕ) → neg_ℤ (pos n) ≤ℤ pos 0
-below_zero zero = le_z_yes tt
-below_zero (suc n) = le_z_yes tt
-
-above_zero : (n : ℕ) → pos 0 ≤ℤ pos n
-above_zero n = let least : 0 ≤ n = omega arith in le_z_yes (yes_leb least)
-
 zero_digits : (p : ℕ) → HasDigits p (pos 0)
-zero_digits p = (below_zero (10 ^ p - 1), above_zero (10 ^ p - 1))
+zero_digits p = (omega (arith, ints), omega (arith, ints))
 
 no_bytes : Bytes []
 no_bytes = All-nil (λ x. x < 256)

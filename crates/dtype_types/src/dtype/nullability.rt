@@ -86,6 +86,7 @@ impl DType {
     /// # Errors
     ///
     /// - `OutOfMemory` (0): an allocation fails.
+    #[tactic(auto, using(crate::proofs::lemmas::NullValues::made_nullable))]
     pub fn as_nullable(&self, alloc: Global) -> VortexResult<DType>
         ensures ok { Makes result (λ d. SetNull (tree self.now) Nullability.Nullable (tree d)) }
         ensures values { IfOk result (λ d. AddsNull (tree self.now) (tree d)) }

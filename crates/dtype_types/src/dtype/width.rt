@@ -39,6 +39,7 @@ impl Width {
     }
 
     // The width of a struct of fields of this width followed by a field of that width.
+    #[tactic(auto, using(crate::proofs::Widths::fixed_parts))]
     pub(crate) fn plus(self, field: Width) -> Width
         ensures { (ps : List (List ℕ × Tree)) (p : List ℕ × Tree) → MeasuresFields self ps
             → Measures field p.1 → MeasuresFields result (ps ++ p ∷ []) }

@@ -4,7 +4,6 @@
 use Rattle.std.proofs.Common.{◌++◌, length, ap, map, sym, ◌∙◌, arith}
 use Rattle.std.specs.List.{zip}
 use Rattle.std.proofs.lemmas.List.{map-append}
-use Rattle.std.proofs.lemmas.Result.{MatchResult-weaker}
 use Rattle.dtype_types.specs.tree.TreeOf.{tree, children, struct_pairs}
 use Rattle.dtype_types.proofs.Parts.{types_shown}
 use Rattle.dtype_types.proofs.PutTogether.{even_sides, joined_sides, put_after}
@@ -27,4 +26,4 @@ returns c =
     let dtypes = put_after _ _ _ _ _ _ _ (ap (map tree) c.in_ok-dtypes.ensures.items) c.in_ok-push_dtypes.ensures.copies c.in_ok-push_dtypes-2.ensures.copies
     (ap (map tree) c.dtypes.ensures ∙ sym (types_shown (struct_pairs c.args.self.now))) (ap (map tree) c.dtypes-2.ensures ∙ sym (types_shown (struct_pairs c.args.other.now))) in
     let put = ap (λ ns. zip ns (map tree c.push_dtypes-2.new.dtypes.items)) c.from_vec.ensures ∙ joined_sides ps qs _ _ names dtypes in
-    MatchResult-weaker c.new.result c.new.ensures.ok (λ s e. e ∙ put) (λ _ e. e)
+    rw (sym put) c.new.ensures.ok

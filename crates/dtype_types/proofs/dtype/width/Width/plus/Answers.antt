@@ -9,17 +9,11 @@ use Rattle.dtype_types.proofs.dtype.width.Width.plus.Goals as goal
 pub returns-in-Variable : goal.returns-in-Variable
 returns-in-Variable c ps p m f n = λ g. (rw c.in-Variable.is at (m n)) (fixed_parts ps (p ∷ []) g).0
 
-pub returns-in-Variable-field : goal.returns-in-Variable-field
-returns-in-Variable-field c ps p m f n = λ g. (rw c.in-Variable-field.is at f) (fixed_parts ps (p ∷ []) g).1.0
-
 pub returns-in-TooWide-field : goal.returns-in-TooWide-field
 returns-in-TooWide-field c ps p m f n =
     let h = rw c.in-TooWide.is at (m n) in
     let k : Fixed p.1 = elim c.in-TooWide-field.is [ inl e ↦ (rw e at f).0 | inr w ↦ (rw w.1 at f).0 ] in
     wide_push ps p n h.0 k (inl h.1)
-
-pub returns-in-Variable-field-2 : goal.returns-in-Variable-field-2
-returns-in-Variable-field-2 c ps p m f n = λ g. (rw c.in-Variable-field-2.is at f) (fixed_parts ps (p ∷ []) g).1.0
 
 pub returns-in-TooWide-field-2 : goal.returns-in-TooWide-field-2
 returns-in-TooWide-field-2 c ps p m f n =

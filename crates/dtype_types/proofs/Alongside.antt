@@ -2,7 +2,7 @@
 -- SPDX-FileCopyrightText: Copyright the Vortex contributors
 
 -- Iterating over two lists of fields, or of variants, in step.
-use Rattle.std.proofs.Common.{◌≡◌, ◌⊎◌, ℕ, zero, suc, ◌+◌, ◌<◌, ◌&&◌, ◌==◌, List, [], ◌∷◌, length, get_or, drop, Bool, true, false, Option, Some, refl, sym, ap, ◌∙◌, inl, inr, arith, add-one}
+use Rattle.std.proofs.Common.{◌≡◌, ◌⊎◌, ℕ, suc, ◌&&◌, ◌==◌, List, [], ◌∷◌, length, Bool, true, false, Option, Some, refl, sym, ap, ◌∙◌, inl, inr, arith}
 use Rattle.std.specs.Cmp.Lexicographic.{pointwise}
 use Rattle.std.specs.Iterator.Adapters.{zip_first, zip_second}
 use Rattle.std.specs.declared.iter.Zip.{Zip}
@@ -11,14 +11,11 @@ use Rattle.std.specs.Str.{bytes_eq}
 use Rattle.std.proofs.Math.Bool.{and-false}
 use Rattle.std.proofs.lemmas.Bool.{false_from_ne_true}
 use Rattle.std.proofs.lemmas.Bool.Decides.{Decides-eqb}
-use Rattle.std.proofs.lemmas.List.{get_or_default}
 use Rattle.dtype_types.proofs.Walks.{next_of_both, steps}
-use Rattle.dtype_types.specs.tree.Tree.{Tree, fields, variants}
+use Rattle.dtype_types.specs.tree.Tree.{fields, variants}
 use Rattle.dtype_types.specs.tree.TreeOf.{tree, with_trees, with_tagged_trees}
 use Rattle.dtype_types.specs.declared.dtype.DType.{DType}
 use Rattle.dtype_types.specs.declared.dtype.equality.NullabilityRule.{NullabilityRule}
-use Rattle.dtype_types.specs.parts.Lookups.{variant_tags}
-use Rattle.dtype_types.proofs.ConsecutiveTags.{consecutive}
 use Rattle.dtype_types.specs.equality.Equality.{equal_under, items_equal_under}
 
 pub and_first : (x y : Bool) → x ≡ false → (x && y) ≡ false
@@ -29,10 +26,6 @@ and_second x y e = ap (λ b. x && b) e ∙ and-false x
 
 pub and_both : (x y : Bool) → x ≡ true → (x && y) ≡ y
 and_both x y e = ap (λ b. b && y) e
-
--- a tag read from a slice of tags
-pub tag_at : (gs hs : List ℕ) (i : ℕ) → hs ≡ gs → i < length gs → get_or hs i 0 ≡ get_or gs i (get_or hs i 0)
-tag_at gs hs i e w = ap (λ xs. get_or xs i 0) e ∙ get_or_default gs i 0 (get_or hs i 0) w
 
 pub tags_same : (x y : ℕ) → x ≡ y → (x == y) ≡ true
 tags_same x y e = (Decides-eqb x y).1 e
@@ -85,14 +78,3 @@ variants_pointwise s _ _ = refl
 -- each list loses its first item
 pub still_even : {X : Type 0} (ps qs ps' qs' : List X) (p q : X) → length ps ≡ length qs → ps ≡ p ∷ ps' → qs ≡ q ∷ qs' → length ps' ≡ length qs'
 still_even ps qs ps' qs' p q even e f = omega (arith, ap length e, ap length f)
-
--- the first tag, and the tags after it
-consecutive_turn_suc : (vs : List (List ℕ × (Tree × ℕ))) (i k g : ℕ) → i < length vs → g ≡ get_or (variant_tags vs) i g
-    → consecutive k (variants (drop i vs)) ≡ ((g == k) && consecutive (k + 1) (variants (drop (suc i) vs)))
-consecutive_turn_suc [] i k g h e = absurd (omega arith)
-consecutive_turn_suc (v ∷ vs) zero k g h e = ap (λ z. (z == k) && consecutive (k + 1) (variants vs)) (sym e)
-consecutive_turn_suc (v ∷ vs) (suc i) k g h e = consecutive_turn_suc vs i k g (omega arith) e
-
-pub consecutive_turn : (vs : List (List ℕ × (Tree × ℕ))) (i g : ℕ) → i < length vs → g ≡ get_or (variant_tags vs) i g
-    → consecutive i (variants (drop i vs)) ≡ ((g == i) && consecutive (i + 1) (variants (drop (i + 1) vs)))
-consecutive_turn vs i g h e = consecutive_turn_suc vs i i g h e ∙ ap (λ j. (g == i) && consecutive (i + 1) (variants (drop j vs))) (sym (add-one i))

@@ -3,17 +3,22 @@
 
 -- Structs and unions by their trees: their fields and variants, and when two are equal under a rule. A null is equal
 -- under no rule to a type of another kind.
-use Rattle.std.proofs.Common.{◌≡◌, ◌&&◌, ap, ◌∙◌, Some, false, refl}
+use Rattle.std.proofs.Common.{◌≡◌, ◌&&◌, ℕ, List, ap, ◌∙◌, Some, false, refl}
+use Rattle.std.specs.Bool.{Decides}
+use Rattle.std.specs.Str.{bytes_eq}
 use denote.Hole.Carrier
 use Rattle.dtype_base.specs.declared.nullability.Nullability.{Nullability}
+use Rattle.dtype_base.specs.declared.nullability.Nullability.TheVariants.{NonNullable}
 use Rattle.dtype_types.specs.equality.Equality.{equal_under, items_equal_under, allows}
-use Rattle.dtype_types.proofs.lemmas.TreeLaws.{pairs_of}
-use Rattle.dtype_types.proofs.lemmas.TreeLaws.{tree_out, tree_struct, tree_union, triples_variants}
+use Rattle.dtype_types.specs.equality.EqualityLaws.{equal_erased-Decides}
+use Rattle.dtype_types.proofs.lemmas.TreeLaws.{pairs_of, tree_out, tree_struct, tree_union, triples_variants}
+use Rattle.dtype_types.specs.tree.Erase.{erase}
 use Rattle.dtype_types.specs.tree.Kinds.{struct_fields, union_variants}
-use Rattle.dtype_types.specs.tree.Tree.{fields, variants, null, struct, union}
+use Rattle.dtype_types.specs.tree.Tree.{Tree, Fields, Variants, fields, variants, null, struct, union, extension}
 use Rattle.dtype_types.specs.tree.TreeOf.{tree, children, variant_list}
 use Rattle.dtype_types.specs.declared.dtype.DType.{DType, Null, Struct, Union, out-DType}
 use Rattle.dtype_types.specs.declared.dtype.equality.NullabilityRule.{NullabilityRule}
+use Rattle.dtype_types.specs.declared.dtype.equality.NullabilityRule.TheVariants.{Ignored}
 use Rattle.dtype_types.specs.declared.struct_fields.StructFields.{StructFields}
 use Rattle.dtype_types.specs.declared.union_variants.UnionVariants.{UnionVariants}
 
@@ -39,3 +44,16 @@ unions_equal_under s d e x y m n p q =
     ap (λ z. equal_under s (tree z) (tree e)) p ∙ ap (λ z. equal_under s z (tree e)) (tree_union x m) ∙ ap (λ z. equal_under s (union (variants (variant_list x)) m) (tree z)) q ∙ ap (equal_under s (union (variants (variant_list x)) m)) (tree_union y n)
 
 pub ruleset parts_equal_under = (structs_equal_under, unions_equal_under)
+
+-- with nullabilities ignored the tests of fields, of variants and of an extension's parts decide whether the erased trees
+-- of what they make are equal
+pub erased_structs : (a b : Fields) → Decides (items_equal_under Ignored a b) (erase (struct a NonNullable) ≡ erase (struct b NonNullable))
+erased_structs a b = equal_erased-Decides (struct a NonNullable) (struct b NonNullable)
+
+pub erased_unions : (a b : Variants) → Decides (items_equal_under Ignored a b) (erase (union a NonNullable) ≡ erase (union b NonNullable))
+erased_unions a b = equal_erased-Decides (union a NonNullable) (union b NonNullable)
+
+pub erased_extensions : (i j a b : List ℕ) (t u : Tree) → Decides (bytes_eq i j && bytes_eq a b && equal_under Ignored t u) (erase (extension i a t) ≡ erase (extension j b u))
+erased_extensions i j a b t u = equal_erased-Decides (extension i a t) (extension j b u)
+
+pub ruleset erased_tests = (erased_structs, erased_unions, erased_extensions)

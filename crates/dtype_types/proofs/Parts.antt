@@ -2,14 +2,17 @@
 -- SPDX-FileCopyrightText: Copyright the Vortex contributors
 
 -- The fields of a struct and the variants of a union with their trees, by what the two hold.
-use Rattle.std.proofs.Common.{◌≡◌, ℕ, List, [], ◌∷◌, map, length, refl, ap, sym, ◌∙◌}
+use Rattle.std.proofs.Common.{◌≡◌, ℕ, List, [], ◌∷◌, map, length, Option, Some, None, slice_get, get_or, nat_lt, IfSome, Bor, refl, ap, sym, ◌∙◌, arith}
+use Rattle.std.specs.Option.{is_some, option_map}
+use Rattle.std.proofs.lemmas.Bool.Decides.{nat_tests}
+use Rattle.std.proofs.lemmas.Option.{slice_get-map, slice_get_past, slice_get_read}
 use Rattle.std.specs.List.{zip}
 use Rattle.std.proofs.lemmas.List.{length-map}
 use Rattle.std.proofs.lemmas.Simd.{map-map}
 use Rattle.std.specs.Map.{keys_of, values_of}
 use Rattle.dtype_types.specs.parts.Lists.{types_of, tags_of}
 use Rattle.dtype_types.specs.parts.Lookups.{field_names, field_types, variant_names, variant_types, variant_tags}
-use Rattle.dtype_types.specs.tree.TreeOf.{tree, with_trees, with_tagged_trees}
+use Rattle.dtype_types.specs.tree.TreeOf.{tree, shown, with_trees, with_tagged_trees}
 use Rattle.dtype_types.specs.declared.dtype.DType.{DType}
 
 pub names_shown : (ps : List (List ℕ × DType)) → field_names (with_trees ps) ≡ keys_of ps
@@ -47,3 +50,8 @@ trees_three (n ∷ ns) (d ∷ ds) [] = refl
 trees_three (n ∷ ns) (d ∷ ds) (g ∷ gs) = ap (λ ps. (n, (tree d, g)) ∷ ps) (trees_three ns ds gs)
 
 pub ruleset variants = (variant_names_shown, variant_types_shown, variant_tags_shown, variants_shown, trees_three)
+
+-- the type at a position, by trees
+pub get_tree : (ds : List DType) (i : ℕ) (r : Option (Bor DType)) → (is_some r ≡ nat_lt i (length ds)) × IfSome r (λ x. x.now ≡ get_or ds i x.now) → shown tree r ≡ slice_get (map tree ds) i
+get_tree ds i None h = sym (slice_get-map tree ds i ∙ ap (option_map tree) (slice_get_past ds i (grind (arith, nat_tests))))
+get_tree ds i (Some x) h = sym (slice_get-map tree ds i ∙ ap (option_map tree) (slice_get_read ds (length ds) i x.now refl (grind (arith, nat_tests)) h.1))

@@ -2,12 +2,14 @@
 -- SPDX-FileCopyrightText: Copyright the Vortex contributors
 
 -- Loops over borrowed fields or variants: what is left after an iteration, and at the end.
-use Rattle.std.proofs.Common.{◌≡◌, ◌⊎◌, List, [], ◌∷◌, inl, inr, subst}
+use Rattle.std.proofs.Common.{◌≡◌, ◌⊎◌, ◌≤◌, ℕ, List, [], ◌∷◌, inl, inr, ap, subst, arith}
+use denote.Param.Weighed.{most}
 use Rattle.std.specs.Prelude.{Option, Some, None}
 use Rattle.std.specs.Iterator.{YieldsFirstBy}
 use Rattle.std.specs.Iterator.Adapters.{zip_first, zip_second}
 use Rattle.std.specs.declared.iter.Zip.{Zip}
 use Rattle.std.proofs.lemmas.Iterator.{zips}
+use Rattle.dtype_types.specs.declared.dtype.DType.{DType, size-DType}
 
 -- the item that an iterator gives is the first of those that are left
 module _ {Item X : Type 0} (lent : Item → X) where
@@ -31,3 +33,7 @@ module _ {Item X : Type 0} (lent : Item → X) where
       by : ((u : List X) × steps (zip_first s) None u) ⊎ ((u : List X) × steps (zip_second s) None u) → (zip_first s ≡ []) ⊎ (zip_second s ≡ [])
       by (inl a) = inl a.1.0
       by (inr b) = inr b.1.0
+
+-- the types that a recursion has left are no deeper than those that it began with
+pub no_deeper : (k : ℕ) (ds rest : List DType) (d : DType) → ds ≡ d ∷ rest → most size-DType ds ≤ k → most size-DType rest ≤ k
+no_deeper k ds rest d e h = omega (arith, h, ap (most size-DType) e)

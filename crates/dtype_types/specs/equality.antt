@@ -3,8 +3,6 @@
 
 -- Equality of types as a test, and what types feed a hasher; and what the ghost members of the impls cite as proofs.
 pub mod Equality
-pub mod EqualityOf
 pub mod Hashes
-pub mod HashesOf
 pub mod EqualityLaws
 pub mod HashLaws

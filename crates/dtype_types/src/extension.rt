@@ -133,7 +133,7 @@ impl ExtDTypeRef {
     ghost use Rattle.dtype_types.specs.tree.Valid.{Valid};
     ghost use Rattle.dtype_types.specs.tree.TreeOf.{tree, extension_tree, extension_metadata, extension_id, storage_tree};
     ghost use Rattle.dtype_types.specs.tree.Tree.{extension};
-    ghost use Rattle.dtype_types.specs.equality.HashesOf.{extension_writes};
+    ghost use Rattle.dtype_types.specs.equality.Hashes.{inner_writes};
     ghost use Rattle.dtype_types.specs.tree.Width.{Measures};
 
     /// Returns the id.
@@ -208,7 +208,7 @@ impl ExtDTypeRef {
     }
 
     /// Returns whether the extensions are equal when every nullability in their storages is ignored.
-    #[tactic(auto, using(crate::proofs::SubTest::erased_tests))]
+    #[tactic(auto, using(crate::proofs::KindLaws::erased_tests))]
     pub fn eq_ignore_nullability(&self, other: &Self) -> bool
         ensures { IsTrue result
             ↔ (erase (extension_tree self.now) ≡ erase (extension_tree other.now)) }
@@ -270,7 +270,7 @@ impl ExtDTypeRef {
     // Hashes the id, the metadata and the storage.
     #[cycle(hash)]
     pub(crate) fn hash_into<H: Hasher>(&self, mode: HashMode, state: &mut H)
-        ensures { state.new ≡ fold H.write state.old (extension_writes mode self.now) }
+        ensures { state.new ≡ fold H.write state.old (inner_writes mode (extension_tree self.now)) }
     {
         self.parts.id.hash(state);
         state.write_usize(self.parts.metadata.len());
@@ -338,14 +338,14 @@ impl ExtDTypeRef {
 /// Two extensions are equal where their ids, their metadata and their storages are.
 #[tactic(auto, using(crate::proofs::lemmas::Equality::equality))]
 impl PartialEq for ExtDTypeRef {
-    ghost use Rattle.dtype_types.specs.equality.EqualityOf.{same_extension};
-    ghost use Rattle.dtype_types.specs.equality.EqualityLaws.{same_extension_equiv};
+    ghost use Rattle.dtype_types.specs.equality.Equality.{same_by};
+    ghost use Rattle.dtype_types.specs.equality.EqualityLaws.{same_by_equiv};
     ghost use Rattle.dtype_types.specs.tree.TreeOf.{extension_tree};
     ghost use Rattle.std.specs.Cmp.{partial_equiv_from_equiv};
 
-    ghost eq = { same_extension };
+    ghost eq = { same_by extension_tree };
 
-    ghost laws = { partial_equiv_from_equiv same_extension_equiv };
+    ghost laws = { partial_equiv_from_equiv (same_by_equiv extension_tree) };
 
     fn eq(&self, other: &ExtDTypeRef) -> bool
         ensures { IsTrue result ↔ (extension_tree self.now ≡ extension_tree other.now) }
@@ -355,19 +355,21 @@ impl PartialEq for ExtDTypeRef {
 }
 
 impl Eq for ExtDTypeRef {
-    ghost use Rattle.dtype_types.specs.equality.EqualityLaws.{same_extension_equiv};
+    ghost use Rattle.dtype_types.specs.tree.TreeOf.{extension_tree};
+    ghost use Rattle.dtype_types.specs.equality.EqualityLaws.{same_by_equiv};
 
-    ghost laws = { same_extension_equiv };
+    ghost laws = { same_by_equiv extension_tree };
 }
 
 impl Hash for ExtDTypeRef {
-    ghost use Rattle.dtype_types.specs.equality.HashLaws.{extension_fed};
-    ghost use Rattle.dtype_types.specs.equality.HashesOf.{extension_writes};
+    ghost use Rattle.dtype_types.specs.tree.TreeOf.{extension_tree};
+    ghost use Rattle.dtype_types.specs.equality.HashLaws.{inner_writes_alike};
+    ghost use Rattle.dtype_types.specs.equality.Hashes.{inner_writes};
     ghost use Rattle.dtype_types.specs.declared.dtype.hash.HashMode.TheVariants.{Whole};
 
-    ghost hash_input = { extension_writes Whole };
+    ghost hash_input = { λ x. inner_writes Whole (extension_tree x) };
 
-    ghost respects_eq = { extension_fed };
+    ghost respects_eq = { inner_writes_alike extension_tree };
 
     fn hash<H: Hasher>(&self, state: &mut H) {
         self.hash_into(HashMode::Whole, state);

@@ -81,13 +81,13 @@ impl From<PType> for FieldDType {
 
 #[tactic(auto, using(crate::proofs::lemmas::Equality::equality))]
 impl PartialEq for FieldDType {
-    ghost use Rattle.dtype_types.specs.equality.EqualityOf.{same_field_dtype};
-    ghost use Rattle.dtype_types.specs.equality.EqualityLaws.{same_field_dtype_equiv};
+    ghost use Rattle.dtype_types.specs.equality.Equality.{same_by};
+    ghost use Rattle.dtype_types.specs.equality.EqualityLaws.{same_by_equiv};
     ghost use Rattle.std.specs.Cmp.{partial_equiv_from_equiv};
 
-    ghost eq = { same_field_dtype };
+    ghost eq = { same_by field_tree };
 
-    ghost laws = { partial_equiv_from_equiv same_field_dtype_equiv };
+    ghost laws = { partial_equiv_from_equiv (same_by_equiv field_tree) };
 
     fn eq(&self, other: &FieldDType) -> bool
         ensures { IsTrue result ↔ (field_tree self.now ≡ field_tree other.now) }
@@ -97,9 +97,9 @@ impl PartialEq for FieldDType {
 }
 
 impl Eq for FieldDType {
-    ghost use Rattle.dtype_types.specs.equality.EqualityLaws.{same_field_dtype_equiv};
+    ghost use Rattle.dtype_types.specs.equality.EqualityLaws.{same_by_equiv};
 
-    ghost laws = { same_field_dtype_equiv };
+    ghost laws = { same_by_equiv field_tree };
 }
 
 impl Hash for FieldDType {

@@ -3,7 +3,7 @@
 
 // Theorems about the definitions of types. The contract of each function is the theorem, and its body is empty. Further
 // lemmas for callers are in the rulesets of `proofs/lemmas`.
-#![tactic(auto, using(crate::proofs::TypeLaws::type_laws))]
+#![tactic(auto, using(crate::specs::equality::HashLaws::equal_types_hash_alike, crate::specs::equality::HashLaws::erased_fed, crate::proofs::lemmas::SampleLaws::sample_of, crate::proofs::lemmas::NullValues::null_is_of_nullable, crate::proofs::lemmas::SubValues::sub_values))]
 
 ghost use Rattle.std.specs.Prelude.{◌≡◌, ◌↔◌, ◌==◌, ◌<◌, ◌^◌, ◌++◌, ℕ, All, Bool, IsTrue, IsSomeAnd, List, None, Some, length, map, remove, slice_get};
 ghost use Rattle.std.specs.Bool.{Decides};
@@ -151,7 +151,7 @@ pub fn parts_are_given_in_order()
 
 /// A type that is made of valid types is valid: what the constructors of types, structs, unions, maps and
 /// extensions make, and the type of a map's entries.
-#[tactic(auto, using(crate::proofs::lemmas::ValidLists::valid_struct_of, crate::proofs::lemmas::Validity::entries_valid))]
+#[tactic(auto, using(crate::proofs::lemmas::ValidLists::valid_struct_of, crate::proofs::lemmas::ValidLists::listed_variants, crate::proofs::lemmas::ValidLists::valid_variants, crate::proofs::lemmas::Validity::entries_valid))]
 pub fn types_made_of_valid_types_are_valid()
     ensures primitives { (p : PType) (n : Nullability) → Valid (primitive p n) }
     ensures lists { (t : Tree) (n : Nullability) → Valid t → Valid (list t n) }

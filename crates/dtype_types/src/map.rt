@@ -34,12 +34,12 @@ struct Entries<T> {
 
 impl MapDType {
     ghost use Rattle.dtype_types.specs.equality.Equality.{equal_under};
-    ghost use Rattle.dtype_types.specs.equality.HashesOf.{map_writes};
+    ghost use Rattle.dtype_types.specs.equality.Hashes.{inner_writes};
     ghost use Rattle.dtype_types.specs.nullability.Merged.{merge, rule_of};
     ghost use Rattle.dtype_types.specs.tree.Erase.{erase};
     ghost use Rattle.dtype_types.specs.parts.Maps.{entries_of};
     ghost use Rattle.dtype_types.specs.nullability.Nullable.{nullability, IsNullable};
-    ghost use Rattle.dtype_types.specs.tree.TreeOf.{tree, map_shown};
+    ghost use Rattle.dtype_types.specs.tree.TreeOf.{tree, map_shown, map_tree};
 
     /// Returns the type of a map with this key and value. Whether its keys are sorted is kept and not checked.
     ///
@@ -145,7 +145,7 @@ impl MapDType {
     // Hashes the key, the value, and whether the keys are sorted.
     #[cycle(hash)]
     pub(crate) fn hash_into<H: Hasher>(&self, mode: HashMode, state: &mut H)
-        ensures { state.new ≡ fold H.write state.old (map_writes mode self.now) }
+        ensures { state.new ≡ fold H.write state.old (inner_writes mode (map_tree self.now)) }
     {
         hash_into(&self.shared.key, mode, state);
         hash_into(&self.shared.value, mode, state);
@@ -168,14 +168,14 @@ impl MapDType {
 
 #[tactic(auto, using(crate::proofs::lemmas::Equality::equality))]
 impl PartialEq for MapDType {
-    ghost use Rattle.dtype_types.specs.equality.EqualityOf.{same_map};
-    ghost use Rattle.dtype_types.specs.equality.EqualityLaws.{same_map_equiv};
-    ghost use Rattle.dtype_types.specs.tree.TreeOf.{map_shown};
+    ghost use Rattle.dtype_types.specs.equality.Equality.{same_by};
+    ghost use Rattle.dtype_types.specs.equality.EqualityLaws.{same_by_equiv};
+    ghost use Rattle.dtype_types.specs.tree.TreeOf.{map_shown, map_tree};
     ghost use Rattle.std.specs.Cmp.{partial_equiv_from_equiv};
 
-    ghost eq = { same_map };
+    ghost eq = { same_by map_tree };
 
-    ghost laws = { partial_equiv_from_equiv same_map_equiv };
+    ghost laws = { partial_equiv_from_equiv (same_by_equiv map_tree) };
 
     fn eq(&self, other: &MapDType) -> bool
         ensures { IsTrue result ↔ (map_shown self.now ≡ map_shown other.now) }
@@ -185,19 +185,21 @@ impl PartialEq for MapDType {
 }
 
 impl Eq for MapDType {
-    ghost use Rattle.dtype_types.specs.equality.EqualityLaws.{same_map_equiv};
+    ghost use Rattle.dtype_types.specs.tree.TreeOf.{map_tree};
+    ghost use Rattle.dtype_types.specs.equality.EqualityLaws.{same_by_equiv};
 
-    ghost laws = { same_map_equiv };
+    ghost laws = { same_by_equiv map_tree };
 }
 
 impl Hash for MapDType {
-    ghost use Rattle.dtype_types.specs.equality.HashLaws.{map_fed};
-    ghost use Rattle.dtype_types.specs.equality.HashesOf.{map_writes};
+    ghost use Rattle.dtype_types.specs.tree.TreeOf.{map_tree};
+    ghost use Rattle.dtype_types.specs.equality.HashLaws.{inner_writes_alike};
+    ghost use Rattle.dtype_types.specs.equality.Hashes.{inner_writes};
     ghost use Rattle.dtype_types.specs.declared.dtype.hash.HashMode.TheVariants.{Whole};
 
-    ghost hash_input = { map_writes Whole };
+    ghost hash_input = { λ x. inner_writes Whole (map_tree x) };
 
-    ghost respects_eq = { map_fed };
+    ghost respects_eq = { inner_writes_alike map_tree };
 
     fn hash<H: Hasher>(&self, state: &mut H) {
         self.hash_into(HashMode::Whole, state);
@@ -205,6 +207,7 @@ impl Hash for MapDType {
 }
 
 /// Writes `map(`, the key, the value, and whether the keys are sorted.
+#[tactic(auto, unfolding(crate::specs::texts::TextOf::map_text))]
 impl fmt::Display for MapDType {
     ghost use Rattle.dtype_types.specs.texts.TextOf.{map_text};
 

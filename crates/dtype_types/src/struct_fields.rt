@@ -67,7 +67,7 @@ impl StructFields {
     ghost use Rattle.dtype_types.specs.texts.IndentedText.{indented_text, indented_braces};
     ghost use Rattle.dtype_types.specs.parts.Lookups.{first_named, field_names, field_types, Projects};
     ghost use Rattle.dtype_base.specs.Distinct.{Distinct};
-    ghost use Rattle.dtype_types.specs.equality.HashesOf.{struct_writes};
+    ghost use Rattle.dtype_types.specs.equality.Hashes.{inner_writes};
     ghost use Rattle.dtype_types.specs.tree.TreeOf.{fields_of, struct_dtypes, struct_pairs, children, shown, struct_tree};
     ghost use Rattle.dtype_types.specs.tree.Valid.{Valid};
     ghost use Rattle.dtype_types.specs.tree.Width.{MeasuresFields};
@@ -212,7 +212,7 @@ impl StructFields {
     }
 
     /// Returns the type of the field at this position, or `None` at or past the end.
-    #[tactic(auto, using(crate::proofs::FieldLookups::get_tree, crate::proofs::Parts::types_shown))]
+    #[tactic(auto, using(crate::proofs::Parts::get_tree, crate::proofs::Parts::types_shown))]
     pub fn field_by_index(&self, index: usize) -> Option<&DType>
         ensures { shown tree result ≡ slice_get (field_types (children self.now)) index }
     {
@@ -237,7 +237,7 @@ impl StructFields {
     }
 
     /// Returns whether the fields are equal when every nullability in them is ignored.
-    #[tactic(auto, using(crate::proofs::SubTest::erased_tests))]
+    #[tactic(auto, using(crate::proofs::KindLaws::erased_tests))]
     pub fn eq_ignore_nullability(&self, other: &Self) -> bool
         ensures { IsTrue result
             ↔ (erase (struct_tree self.now) ≡ erase (struct_tree other.now)) }
@@ -301,7 +301,7 @@ impl StructFields {
     // Hashes the number of fields, and each field.
     #[cycle(hash)]
     pub(crate) fn hash_into<H: Hasher>(&self, mode: HashMode, state: &mut H)
-        ensures { state.new ≡ fold H.write state.old (struct_writes mode self.now) }
+        ensures { state.new ≡ fold H.write state.old (inner_writes mode (struct_tree self.now)) }
     {
         state.write_usize(self.nfields());
         for (name, dtype) in self.pairs() {
@@ -317,6 +317,7 @@ impl StructFields {
     /// - `FieldNotFound` (16): no field has one of the names; with the position of the first such name in
     ///   `projection`.
     /// - `OutOfMemory` (0): an allocation fails.
+    #[tactic(auto, using(crate::proofs::Selected::refused_of))]
     pub fn project(&self, alloc: Global, projection: &[FieldName]) -> VortexResult<Self>
         ensures ok { MatchResult result
             (λ s. Projects (children self.now) projection.now (children s))
@@ -354,7 +355,7 @@ impl StructFields {
     ///
     /// - `DuplicateNames` (18): a name is there twice, also within one of the two.
     /// - `OutOfMemory` (0): an allocation fails.
-    #[tactic(auto, using(crate::proofs::lemmas::Validity::valid_joined))]
+    #[tactic(auto, using(crate::proofs::lemmas::Validity::valid_joined, crate::proofs::Parts::names_shown))]
     pub fn disjoint_merge(&self, alloc: Global, other: &Self) -> VortexResult<Self>
         ensures ok { MatchResult result
             (λ s. children s ≡ children self.now ++ children other.now)
@@ -470,14 +471,14 @@ impl StructFields {
 
 #[tactic(auto, using(crate::proofs::lemmas::Equality::equality))]
 impl PartialEq for StructFields {
-    ghost use Rattle.dtype_types.specs.equality.EqualityOf.{same_struct};
-    ghost use Rattle.dtype_types.specs.equality.EqualityLaws.{same_struct_equiv};
-    ghost use Rattle.dtype_types.specs.tree.TreeOf.{children};
+    ghost use Rattle.dtype_types.specs.equality.Equality.{same_by};
+    ghost use Rattle.dtype_types.specs.equality.EqualityLaws.{same_by_equiv};
+    ghost use Rattle.dtype_types.specs.tree.TreeOf.{children, struct_tree};
     ghost use Rattle.std.specs.Cmp.{partial_equiv_from_equiv};
 
-    ghost eq = { same_struct };
+    ghost eq = { same_by struct_tree };
 
-    ghost laws = { partial_equiv_from_equiv same_struct_equiv };
+    ghost laws = { partial_equiv_from_equiv (same_by_equiv struct_tree) };
 
     fn eq(&self, other: &StructFields) -> bool
         ensures { IsTrue result ↔ (children self.now ≡ children other.now) }
@@ -487,19 +488,21 @@ impl PartialEq for StructFields {
 }
 
 impl Eq for StructFields {
-    ghost use Rattle.dtype_types.specs.equality.EqualityLaws.{same_struct_equiv};
+    ghost use Rattle.dtype_types.specs.tree.TreeOf.{struct_tree};
+    ghost use Rattle.dtype_types.specs.equality.EqualityLaws.{same_by_equiv};
 
-    ghost laws = { same_struct_equiv };
+    ghost laws = { same_by_equiv struct_tree };
 }
 
 impl Hash for StructFields {
-    ghost use Rattle.dtype_types.specs.equality.HashLaws.{struct_fed};
-    ghost use Rattle.dtype_types.specs.equality.HashesOf.{struct_writes};
+    ghost use Rattle.dtype_types.specs.tree.TreeOf.{struct_tree};
+    ghost use Rattle.dtype_types.specs.equality.HashLaws.{inner_writes_alike};
+    ghost use Rattle.dtype_types.specs.equality.Hashes.{inner_writes};
     ghost use Rattle.dtype_types.specs.declared.dtype.hash.HashMode.TheVariants.{Whole};
 
-    ghost hash_input = { struct_writes Whole };
+    ghost hash_input = { λ x. inner_writes Whole (struct_tree x) };
 
-    ghost respects_eq = { struct_fed };
+    ghost respects_eq = { inner_writes_alike struct_tree };
 
     fn hash<H: Hasher>(&self, state: &mut H) {
         self.hash_into(HashMode::Whole, state);

@@ -85,7 +85,7 @@ impl UnionVariants {
     ghost use Rattle.dtype_types.specs.nullability.Merged.{merge_items, rule_of};
     ghost use Rattle.dtype_types.specs.tree.Erase.{erase, erase_items};
     ghost use Rattle.dtype_types.specs.parts.Lookups.{variant_named, variant_types, variant_names, variant_tags};
-    ghost use Rattle.dtype_types.specs.equality.HashesOf.{union_writes};
+    ghost use Rattle.dtype_types.specs.equality.Hashes.{inner_writes};
     ghost use Rattle.dtype_types.specs.tree.TreeOf.{tree, variants_of, variant_list, union_dtypes, union_triples, shown, union_tree};
     ghost use Rattle.dtype_types.specs.tree.Valid.{Valid};
 
@@ -214,7 +214,7 @@ impl UnionVariants {
     }
 
     /// Returns the type of the variant at this position, or `None` at or past the end.
-    #[tactic(auto, using(crate::proofs::FieldLookups::get_tree, crate::proofs::Parts::variant_types_shown))]
+    #[tactic(auto, using(crate::proofs::Parts::get_tree, crate::proofs::Parts::variant_types_shown))]
     pub fn variant_by_index(&self, index: usize) -> Option<&DType>
         ensures { shown tree result ≡ slice_get (variant_types (variant_list self.now)) index }
     {
@@ -299,7 +299,7 @@ impl UnionVariants {
     }
 
     /// Returns whether the variants are equal when every nullability in them is ignored. Names and tags count.
-    #[tactic(auto, using(crate::proofs::SubTest::erased_tests))]
+    #[tactic(auto, using(crate::proofs::KindLaws::erased_tests))]
     pub fn eq_ignore_nullability(&self, other: &UnionVariants) -> bool
         ensures { IsTrue result
             ↔ (erase (union_tree self.now) ≡ erase (union_tree other.now)) }
@@ -310,7 +310,7 @@ impl UnionVariants {
     // Hashes the number of variants, and each variant.
     #[cycle(hash)]
     pub(crate) fn hash_into<H: Hasher>(&self, mode: HashMode, state: &mut H)
-        ensures { state.new ≡ fold H.write state.old (union_writes mode self.now) }
+        ensures { state.new ≡ fold H.write state.old (inner_writes mode (union_tree self.now)) }
     {
         state.write_usize(self.len());
         for (name, tag, dtype) in self.triples() {
@@ -349,14 +349,14 @@ impl UnionVariants {
 
 #[tactic(auto, using(crate::proofs::lemmas::Equality::equality))]
 impl PartialEq for UnionVariants {
-    ghost use Rattle.dtype_types.specs.equality.EqualityOf.{same_union};
-    ghost use Rattle.dtype_types.specs.equality.EqualityLaws.{same_union_equiv};
-    ghost use Rattle.dtype_types.specs.tree.TreeOf.{variant_list};
+    ghost use Rattle.dtype_types.specs.equality.Equality.{same_by};
+    ghost use Rattle.dtype_types.specs.equality.EqualityLaws.{same_by_equiv};
+    ghost use Rattle.dtype_types.specs.tree.TreeOf.{variant_list, union_tree};
     ghost use Rattle.std.specs.Cmp.{partial_equiv_from_equiv};
 
-    ghost eq = { same_union };
+    ghost eq = { same_by union_tree };
 
-    ghost laws = { partial_equiv_from_equiv same_union_equiv };
+    ghost laws = { partial_equiv_from_equiv (same_by_equiv union_tree) };
 
     fn eq(&self, other: &UnionVariants) -> bool
         ensures { IsTrue result ↔ (variant_list self.now ≡ variant_list other.now) }
@@ -366,19 +366,21 @@ impl PartialEq for UnionVariants {
 }
 
 impl Eq for UnionVariants {
-    ghost use Rattle.dtype_types.specs.equality.EqualityLaws.{same_union_equiv};
+    ghost use Rattle.dtype_types.specs.tree.TreeOf.{union_tree};
+    ghost use Rattle.dtype_types.specs.equality.EqualityLaws.{same_by_equiv};
 
-    ghost laws = { same_union_equiv };
+    ghost laws = { same_by_equiv union_tree };
 }
 
 impl Hash for UnionVariants {
-    ghost use Rattle.dtype_types.specs.equality.HashLaws.{union_fed};
-    ghost use Rattle.dtype_types.specs.equality.HashesOf.{union_writes};
+    ghost use Rattle.dtype_types.specs.tree.TreeOf.{union_tree};
+    ghost use Rattle.dtype_types.specs.equality.HashLaws.{inner_writes_alike};
+    ghost use Rattle.dtype_types.specs.equality.Hashes.{inner_writes};
     ghost use Rattle.dtype_types.specs.declared.dtype.hash.HashMode.TheVariants.{Whole};
 
-    ghost hash_input = { union_writes Whole };
+    ghost hash_input = { λ x. inner_writes Whole (union_tree x) };
 
-    ghost respects_eq = { union_fed };
+    ghost respects_eq = { inner_writes_alike union_tree };
 
     fn hash<H: Hasher>(&self, state: &mut H) {
         self.hash_into(HashMode::Whole, state);

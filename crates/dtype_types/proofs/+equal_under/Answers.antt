@@ -10,12 +10,11 @@ use Rattle.std.specs.Map.{values_of}
 use Rattle.dtype_types.specs.parts.Lists.{types_of, borrowed_pair, borrowed_triple}
 use Rattle.dtype_types.specs.tree.TreeOf.{tree, struct_pairs, struct_dtypes, union_triples, union_dtypes}
 use Rattle.dtype_types.specs.declared.dtype.DType.{size-DType}
-use Rattle.dtype_types.proofs.Depths.{no_deeper}
 use Rattle.dtype_types.proofs.Parts.{fields_shown, variants_shown}
 use Rattle.dtype_types.proofs.lemmas.TreeLaws.{tree_null}
 use Rattle.dtype_types.proofs.KindLaws.{not_null}
 use Rattle.dtype_types.proofs.Alongside.{and_first, and_second, differ, ended, fields_pointwise, same_field, same_variant, still_even, tags_differ, tags_same, turn, variants_pointwise}
-use Rattle.dtype_types.proofs.Walks.{next_of_both, none_of_either}
+use Rattle.dtype_types.proofs.Walks.{no_deeper, next_of_both, none_of_either}
 use Rattle.dtype_types.proofs.+equal_under.Goals as goal
 
 pub dtype::equality::equal_under-returns-in_default : goal.dtype::equality::equal_under-returns-in_default

@@ -6,10 +6,8 @@ use Rattle.std.specs.Prelude.{string_bytes}
 use denote.Param.Weighed.{most}
 use Rattle.dtype_base.specs.Escapes.{escaped}
 use Rattle.dtype_base.specs.Nullability.{nullability_text}
-use Rattle.dtype_types.proofs.IndentedTexts.{indented_struct, ends_some, ends_none, braces_of, indented_named}
-use Rattle.dtype_types.proofs.Depths.{no_deeper}
-use Rattle.dtype_types.proofs.Walks.{next_of, none_of}
-use Rattle.dtype_types.proofs.Texts.{leading, leading_all, one_written, all_written}
+use Rattle.dtype_types.proofs.Walks.{no_deeper, next_of, none_of}
+use Rattle.dtype_types.proofs.Texts.{leading, leading_all, one_written, all_written, indented_struct, ends_some, ends_none, braces_of, indented_named}
 use Rattle.dtype_types.specs.texts.IndentedText.{indented, indented_braces, indented_fields}
 use Rattle.std.specs.List.{join_by}
 use Rattle.dtype_types.specs.tree.Tree.{fields}

@@ -3,49 +3,34 @@
 
 use Rattle.std.proofs.Common.{codes, ap, ◌∙◌, ◌++◌, [], refl, rules, true}
 use Rattle.dtype_base.specs.Escapes.{escaped}
-use Rattle.std.specs.Fmt.{HasWritten}
 use denote.Param.Weighed.{most}
-use Rattle.std.proofs.Output.{has_written_append, has_written_of_eq}
+use Rattle.std.proofs.Output.{has_written_of_eq}
 use Rattle.std.proofs.lemmas.Grind.{put_three}
-use Rattle.dtype_types.proofs.ConsecutiveTags.{told_by_test}
-use Rattle.dtype_types.proofs.Depths.{no_deeper}
-use Rattle.dtype_types.proofs.Walks.{next_of, none_of}
+use Rattle.dtype_types.proofs.lemmas.Tags.{told_by_test}
+use Rattle.dtype_types.proofs.Walks.{no_deeper, next_of, none_of}
 use Rattle.dtype_types.proofs.Texts.{leading, leading_all, one_written, all_written, named_text, tagged_text}
 use Rattle.dtype_types.specs.tree.Tree.{fields, variants, triples}
 use Rattle.dtype_types.specs.parts.Lookups.{variant_tags}
 use Rattle.dtype_types.specs.parts.Unions.{are_consecutive}
-use Rattle.dtype_types.specs.texts.Text.{text, bool_text, item_texts, tag_text}
+use Rattle.dtype_types.specs.texts.Text.{text, item_texts, tag_text}
 use Rattle.std.specs.Map.{values_of}
 use Rattle.dtype_types.specs.parts.Lists.{types_of, borrowed_pair, borrowed_triple}
 use Rattle.dtype_types.specs.tree.TreeOf.{variant_list, struct_dtypes, fields_of, union_dtypes, variants_of, tree, with_trees, with_tagged_trees}
 use Rattle.dtype_types.specs.declared.dtype.DType.{size-DType}
-use Rattle.dtype_types.specs.texts.TextOf.{map_text, struct_text, union_text}
+use Rattle.dtype_types.specs.texts.TextOf.{struct_text, union_text}
 use Rattle.dtype_types.proofs.+text.Goals as goal
-
-pub map::MapDTypeDisplay::fmt-returns-clause-writes : goal.map::MapDTypeDisplay::fmt-returns-clause-writes
-unfolding map_text
-map::MapDTypeDisplay::fmt-returns-clause-writes g t c = λ plain ok.
-    let w1 = c.in_ok-write.ensures.writes plain refl in
-    let w2 = c.in_ok-fmt.ensures.writes w1.plain refl in
-    let w3 = c.in_ok-write-2.ensures.writes w2.plain refl in
-    let w4 = c.in_ok-fmt-2.ensures.writes w3.plain refl in
-    let w5 = c.write-3.ensures.writes w4.plain ok in
-    let shown = ap (λ e. codes "map(" ++ (text (tree e.key) ++ (codes ", " ++ (text (tree e.value) ++ (codes ", keys_sorted=" ++ (bool_text e.keys_sorted ++ codes ")")))))) c.deref-entries.ensures in
-    has_written_of_eq _ _ _ _ _ shown (has_written_append _ _ _ _ _ _ w1 (has_written_append _ _ _ _ _ _ w2 (has_written_append _ _ _ _ _ _ w3 (has_written_append _ _ _ _ _ _ w4 w5))))
 
 pub struct_fields::StructFieldsDisplay::fmt-loop-name-init : goal.struct_fields::StructFieldsDisplay::fmt-loop-name-init
 struct_fields::StructFieldsDisplay::fmt-loop-name-init g t c = record {
   utf8 = search rules;
   within = search rules;
-  written = λ plain.
-      let nothing : HasWritten g.W.Write.write_str_gives c.write.new.self [] c.write.new.self = search rules in
-      ([], nothing, ap (λ ps. leading [] (codes ", ") (item_texts true (fields (with_trees ps)))) (search rules));
+  written = λ plain. ([], search rules, ap (λ ps. leading [] (codes ", ") (item_texts true (fields (with_trees ps)))) (search rules));
 }
 
 pub struct_fields::StructFieldsDisplay::fmt-loop-name-preserved : goal.struct_fields::StructFieldsDisplay::fmt-loop-name-preserved
-struct_fields::StructFieldsDisplay::fmt-loop-name-preserved g t c = record {
+struct_fields::StructFieldsDisplay::fmt-loop-name-preserved g t c = let next = next_of borrowed_pair c.loop-name.name-iterator c.next.new.self c.next.result (c.in-Some.name, c.in-Some.dtype) c.in-Some.is c.next.ensures.steps in record {
   utf8 = search rules;
-  within = no_deeper (most size-DType (struct_dtypes c.args.self.now)) (values_of c.loop-name.name-iterator) (values_of c.next.new.self) c.in-Some.dtype.now (ap values_of (next_of borrowed_pair c.loop-name.name-iterator c.next.new.self c.next.result (c.in-Some.name, c.in-Some.dtype) c.in-Some.is c.next.ensures.steps)) c.loop-name.invariant.within;
+  within = no_deeper (most size-DType (struct_dtypes c.args.self.now)) (values_of c.loop-name.name-iterator) (values_of c.next.new.self) c.in-Some.dtype.now (ap values_of next) c.loop-name.invariant.within;
   written = λ plain.
       let n = escaped c.in-Some.name.now in
       let d = text (tree c.in-Some.dtype.now) in
@@ -53,7 +38,6 @@ struct_fields::StructFieldsDisplay::fmt-loop-name-preserved g t c = record {
       let so_far = c.loop-name.invariant.written plain in
       let named = c.in_ok-write-2.ensures.writes so_far.1.plain refl in
       let typed = c.in_ok-fmt.ensures.writes named.plain refl in
-      let next = next_of borrowed_pair c.loop-name.name-iterator c.next.new.self c.next.result (c.in-Some.name, c.in-Some.dtype) c.in-Some.is c.next.ensures.steps in
       let x = n ++ (codes "=" ++ d) in (
         so_far.0 ++ (separator ++ x),
         put_three _ _ c.loop-name.f _ _ so_far.0 (separator ++ (n ++ codes "=")) d _ so_far.1 named typed (named_text so_far.0 separator n d),
@@ -77,14 +61,13 @@ union_variants::UnionVariantsDisplay::fmt-loop-name-init g t c = record {
   within = search rules;
   written = λ plain.
       let k = are_consecutive (variant_tags (triples (variants_of c.args.self.now))) in
-      let nothing : HasWritten g.W.Write.write_str_gives c.args.f.now [] c.args.f.now = search rules in
-      ([], nothing, ap (λ ps. leading [] (codes ", ") (item_texts k (variants (with_tagged_trees ps)))) (search rules));
+      ([], search rules, ap (λ ps. leading [] (codes ", ") (item_texts k (variants (with_tagged_trees ps)))) (search rules));
 }
 
 pub union_variants::UnionVariantsDisplay::fmt-loop-name-preserved : goal.union_variants::UnionVariantsDisplay::fmt-loop-name-preserved
-union_variants::UnionVariantsDisplay::fmt-loop-name-preserved g t c = record {
+union_variants::UnionVariantsDisplay::fmt-loop-name-preserved g t c = let next = next_of borrowed_triple c.loop-name.name-iterator c.next.new.self c.next.result (c.in-Some.name, c.in-Some.tag, c.in-Some.dtype) c.in-Some.is c.next.ensures.steps in record {
   utf8 = search rules;
-  within = no_deeper (most size-DType (union_dtypes c.args.self.now)) (types_of c.loop-name.name-iterator) (types_of c.next.new.self) c.in-Some.dtype.now (ap types_of (next_of borrowed_triple c.loop-name.name-iterator c.next.new.self c.next.result (c.in-Some.name, c.in-Some.tag, c.in-Some.dtype) c.in-Some.is c.next.ensures.steps)) c.loop-name.invariant.within;
+  within = no_deeper (most size-DType (union_dtypes c.args.self.now)) (types_of c.loop-name.name-iterator) (types_of c.next.new.self) c.in-Some.dtype.now (ap types_of next) c.loop-name.invariant.within;
   written = λ plain.
       let k = are_consecutive (variant_tags (triples (variants_of c.args.self.now))) in
       let n = escaped c.in-Some.name.now in
@@ -94,7 +77,6 @@ union_variants::UnionVariantsDisplay::fmt-loop-name-preserved g t c = record {
       let so_far = c.loop-name.invariant.written plain in
       let named = c.in_ok-write.ensures.writes so_far.1.plain refl in
       let typed = c.in_ok-fmt.ensures.writes named.plain refl in
-      let next = next_of borrowed_triple c.loop-name.name-iterator c.next.new.self c.next.result (c.in-Some.name, c.in-Some.tag, c.in-Some.dtype) c.in-Some.is c.next.ensures.steps in
       let x = n ++ (tag_text k tag ++ (codes "=" ++ d)) in
       let known = c.is_consecutive-consecutive.result in (
         so_far.0 ++ (separator ++ x),

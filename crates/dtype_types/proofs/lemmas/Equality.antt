@@ -7,20 +7,18 @@
 --     #![tactic(auto, using(dtype_types::proofs::lemmas::Equality::equality))]
 use Rattle.std.specs.Prelude.{◌≡◌, ℕ, Bool, List, [], ◌∷◌, map, nat_eq, refl}
 use Rattle.std.specs.Bool.{Decides}
+use Rattle.std.specs.Cmp.Derive.Mapped.{pointwise-map}
 use Rattle.std.specs.Cmp.Lexicographic.{pointwise}
 use Rattle.std.specs.HashMap.{HashMap, get}
 use Rattle.std.specs.Map.{lookup}
-use Rattle.std.proofs.lemmas.Bool.{false≢true}
-use Rattle.std.proofs.lemmas.Bool.Decides.{Decides-and}
+use Rattle.std.proofs.lemmas.Bool.Decides.{Decides-like}
 use Rattle.std.proofs.lemmas.Slice.Eq.{bytes_eq-Decides, slice_eq-Decides}
-use Rattle.std.proofs.Common.{sym, ap, subst, ◌∙◌}
-use Rattle.dtype_types.specs.equality.EqualityLaws.{equal_under-Decides, restated}
+use Rattle.std.proofs.Common.{sym, ap, ◌∙◌}
+use Rattle.dtype_types.specs.equality.EqualityLaws.{equal_under-Decides}
 use Rattle.dtype_types.specs.parts.FieldTypes.{field_tree}
 use Rattle.dtype_base.specs.declared.nullability.Nullability.TheVariants.{NonNullable}
 use Rattle.dtype_types.specs.declared.dtype.equality.NullabilityRule.TheVariants.{Compared}
-use Rattle.dtype_types.specs.equality.Equality.{equal_under}
-use Rattle.dtype_types.specs.equality.EqualityOf.{same_field_dtype}
-use Rattle.dtype_types.specs.equality.EqualityOf.{same_dtype, same_extension, same_map, same_struct, same_union}
+use Rattle.dtype_types.specs.equality.Equality.{equal_under, same_by}
 use Rattle.dtype_types.specs.parts.Lookups.{field_names}
 use Rattle.dtype_types.specs.tree.Erase.{erase, erase_items}
 use Rattle.dtype_types.specs.tree.Tree.{Tree, fields, map_of, struct, triples, union, variants, rest_of}
@@ -35,27 +33,27 @@ use Rattle.dtype_types.specs.declared.map.MapDType.{MapDType}
 use Rattle.dtype_types.specs.declared.struct_fields.StructFields.{StructFields}
 use Rattle.dtype_types.specs.declared.union_variants.UnionVariants.{UnionVariants}
 
-pub structs_Decides : (a b : StructFields) → Decides (same_struct a b) (children a ≡ children b)
-structs_Decides a b = restated (same_pairs (children a) (children b) NonNullable NonNullable) (λ e. ap (λ ps. struct (fields ps) NonNullable) e) (equal_under-Decides (struct_tree a) (struct_tree b))
+pub structs_Decides : (a b : StructFields) → Decides (same_by struct_tree a b) (children a ≡ children b)
+structs_Decides a b = Decides-like _ (same_pairs (children a) (children b) NonNullable NonNullable) (λ e. ap (λ ps. struct (fields ps) NonNullable) e) (equal_under-Decides (struct_tree a) (struct_tree b))
 
 -- unions that are equal have the same variants
 same_triples : (ps qs : List (List ℕ × (Tree × ℕ))) → union (variants ps) NonNullable ≡ union (variants qs) NonNullable → ps ≡ qs
 same_triples ps qs e = let alike : variants ps ≡ variants qs = cc in sym (triples_variants ps) ∙ ap triples alike ∙ triples_variants qs
 
-pub unions_Decides : (a b : UnionVariants) → Decides (same_union a b) (variant_list a ≡ variant_list b)
-unions_Decides a b = restated (same_triples (variant_list a) (variant_list b)) (λ e. ap (λ ps. union (variants ps) NonNullable) e) (equal_under-Decides (union_tree a) (union_tree b))
+pub unions_Decides : (a b : UnionVariants) → Decides (same_by union_tree a b) (variant_list a ≡ variant_list b)
+unions_Decides a b = Decides-like _ (same_triples (variant_list a) (variant_list b)) (λ e. ap (λ ps. union (variants ps) NonNullable) e) (equal_under-Decides (union_tree a) (union_tree b))
 
 -- maps that are equal have the same parts
 same_map_parts : (a b : MapParts) → map_of a.0 a.1 a.2 NonNullable ≡ map_of b.0 b.1 b.2 NonNullable → a ≡ b
 same_map_parts (k, v, s) (l, w, t) e = cc
 
-pub maps_Decides : (a b : MapDType) → Decides (same_map a b) (map_shown a ≡ map_shown b)
-maps_Decides a b = restated (same_map_parts (map_shown a) (map_shown b)) (λ e. ap (λ m. map_of m.0 m.1 m.2 NonNullable) e) (equal_under-Decides (map_tree a) (map_tree b))
+pub maps_Decides : (a b : MapDType) → Decides (same_by map_tree a b) (map_shown a ≡ map_shown b)
+maps_Decides a b = Decides-like _ (same_map_parts (map_shown a) (map_shown b)) (λ e. ap (λ m. map_of m.0 m.1 m.2 NonNullable) e) (equal_under-Decides (map_tree a) (map_tree b))
 
-pub extensions_Decides : (a b : ExtDTypeRef) → Decides (same_extension a b) (extension_tree a ≡ extension_tree b)
+pub extensions_Decides : (a b : ExtDTypeRef) → Decides (same_by extension_tree a b) (extension_tree a ≡ extension_tree b)
 extensions_Decides a b = equal_under-Decides (extension_tree a) (extension_tree b)
 
-pub field_types_Decides : (a b : FieldDType) → Decides (same_field_dtype a b) (field_tree a ≡ field_tree b)
+pub field_types_Decides : (a b : FieldDType) → Decides (same_by field_tree a b) (field_tree a ≡ field_tree b)
 field_types_Decides a b = equal_under-Decides (field_tree a) (field_tree b)
 
 pub names_Decide : (a b : List (List ℕ)) (r : Bool) → r ≡ pointwise (pointwise nat_eq) a b → Decides r (a ≡ b)
@@ -64,20 +62,17 @@ names_Decide = slice_eq-Decides bytes_eq-Decides
 pub name_Decides : (a b : List ℕ) → Decides (pointwise nat_eq a b) (a ≡ b)
 name_Decides a b = bytes_eq-Decides a b
 
-pub types_Decide : (a b : DType) → Decides (same_dtype a b) (tree a ≡ tree b)
+pub types_Decide : (a b : DType) → Decides (same_by tree a b) (tree a ≡ tree b)
 types_Decide a b = equal_under-Decides (tree a) (tree b)
 
 -- two slices of types, by any test that is theirs
-pub type_lists_Decide : (f : DType → DType → Bool) (a b : List DType) → ((x y : DType) → f x y ≡ same_dtype x y) → Decides (pointwise f a b) (map tree a ≡ map tree b)
-type_lists_Decide f [] [] h = (λ e. refl, λ e. refl)
-type_lists_Decide f [] (y ∷ b) h = (λ e. absurd (false≢true e), λ e. cc)
-type_lists_Decide f (x ∷ a) [] h = (λ e. absurd (false≢true e), λ e. cc)
-type_lists_Decide f (x ∷ a) (y ∷ b) h =
-    let heads : Decides (f x y) (tree x ≡ tree y) = subst (λ t. Decides t (tree x ≡ tree y)) (sym (h x y)) (equal_under-Decides (tree x) (tree y)) in
-    restated (λ p. λ i. p.0 i ∷ p.1 i) (λ e. (cc, cc)) (Decides-and (f x y) (pointwise f a b) heads (type_lists_Decide f a b h))
+pub type_lists_Decide : (f : DType → DType → Bool) (a b : List DType) → ((x y : DType) → f x y ≡ same_by tree x y) → Decides (pointwise f a b) (map tree a ≡ map tree b)
+type_lists_Decide f a b h =
+    let same : f ≡ same_by tree = λ i x y. h x y i in
+    slice_eq-Decides equal_under-Decides (map tree a) (map tree b) (pointwise f a b) (ap (λ g. pointwise g a b) same ∙ sym (pointwise-map tree (equal_under Compared) a b))
 
 -- equal types find the same in a map whose keys are types
-pub equal_keys : {V S : Type 0} (m : HashMap DType V S) (a b : DType) → tree a ≡ tree b → get same_dtype m a ≡ get same_dtype m b
+pub equal_keys : {V S : Type 0} (m : HashMap DType V S) (a b : DType) → tree a ≡ tree b → get (same_by tree) m a ≡ get (same_by tree) m b
 equal_keys m a b e = ap (λ (t : Tree). lookup (λ (x : DType). equal_under Compared t (tree x)) m.entries) e
 
 -- structs that are equal but for nullabilities have the same names

@@ -2,7 +2,7 @@
 -- SPDX-FileCopyrightText: Copyright the Vortex contributors
 
 -- The tags of a valid union: each is at one position.
-use Rattle.std.proofs.Common.{◌≡◌, ℕ, ◌<◌, ◌≤◌, ◌+◌, ◌==◌, Bool, true, inl, inr, List, length, get_or, slice_get, Option, Some, None, IfSome, IsSome, ◌↔◌, Contains, cond, refl, ap, subst, sym, ◌∙◌, arith}
+use Rattle.std.proofs.Common.{◌≡◌, ℕ, ◌<◌, ◌≤◌, ◌==◌, Bool, true, inl, inr, List, length, get_or, slice_get, Option, Some, None, IfSome, IsSome, ◌↔◌, Contains, cond, refl, ap, subst, sym, ◌∙◌, arith, IsTrue}
 use Rattle.std.specs.List.{position, position_or_len, range_with_len}
 use Rattle.std.specs.Option.{is_some}
 use Rattle.std.proofs.lemmas.List.{get_or_default, length-map}
@@ -14,12 +14,14 @@ use Rattle.std.proofs.lemmas.Option.{slice_get-get_or, slice_get_past, slice_get
 use Rattle.dtype_base.specs.Distinct.{Distinct}
 use Rattle.dtype_types.proofs.lemmas.TreeLaws.{triples_variants}
 use Rattle.dtype_types.proofs.lemmas.ValidLists.{variants_are}
-use Rattle.dtype_types.specs.tree.Tree.{Tree}
-use Rattle.dtype_types.specs.parts.Unions.{AreConsecutive}
+use Rattle.dtype_types.specs.tree.Tree.{Tree, triples, variants}
+use Rattle.dtype_types.specs.parts.Unions.{AreConsecutive, are_consecutive}
 use Rattle.dtype_types.specs.tree.Valid.{Valid}
 use Rattle.dtype_types.specs.parts.Lookups.{variant_tags}
 use Rattle.dtype_types.specs.tree.TreeOf.{union_tree, variant_list}
-use Rattle.std.proofs.lemmas.Bool.Decides.{Decides-eqb}
+use Rattle.std.specs.Cmp.Lexicographic.{bytes_decides}
+use Rattle.std.proofs.lemmas.Bool.Decides.{Decides-eqb, same_from_decides}
+use Rattle.std.proofs.lemmas.Grind.{same_number_lists}
 use Rattle.dtype_types.specs.declared.union_variants.UnionVariants.{UnionVariants}
 
 pub position_of_tag : (u : UnionVariants) → Valid (union_tree u) → (i tag : ℕ) → slice_get (variant_tags (variant_list u)) i ≡ Some tag → position (λ g. g == tag) (variant_tags (variant_list u)) ≡ Some i
@@ -65,25 +67,31 @@ pub consecutive_tags : (gs : List ℕ) (n : ℕ) → gs ≡ range_with_len 0 n �
 consecutive_tags gs n e = e ∙ ap (range_with_len 0) (sym (ap length e ∙ length-range_with_len 0 n))
 
 -- such a tag is its position
+pub consecutive_at : (gs : List ℕ) → AreConsecutive gs → (i d : ℕ) → i < length gs → get_or gs i d ≡ i
+consecutive_at gs c i d within = ap (λ xs. get_or xs i d) c ∙ get_or-range_with_len 0 (length gs) i d within ∙ omega arith
+
 pub consecutive_tag_at : (gs : List ℕ) (i tag : ℕ) → AreConsecutive gs → slice_get gs i ≡ Some tag → tag ≡ i
-consecutive_tag_at gs i tag c e =
-    let within = slice_get_within gs i tag e in
-    sym (get_or_from_slice_get gs i tag 0 e) ∙ ap (λ xs. get_or xs i 0) c ∙ get_or-range_with_len 0 (length gs) i 0 within ∙ omega arith
+consecutive_tag_at gs i tag c e = sym (get_or_from_slice_get gs i tag 0 e) ∙ consecutive_at gs c i 0 (slice_get_within gs i tag e)
 
 -- and those below their number are there, and no others
 pub consecutive_below : (vs : List (List ℕ × (Tree × ℕ))) (g : ℕ) → AreConsecutive (variant_tags vs) → Contains (variant_tags vs) g → g < length vs
-consecutive_below vs g c h =
-    let gs = variant_tags vs in
-    let is : g ≡ 0 + h.0 = sym h.2 ∙ ap (λ xs. get_or xs h.0 g) c ∙ get_or-range_with_len 0 (length gs) h.0 g h.1 in
-    omega (arith, is, h.1, length-map vs (λ v. v.1.1))
+consecutive_below vs g c h = omega (arith, sym h.2 ∙ consecutive_at (variant_tags vs) c h.0 g h.1, h.1, length-map vs (λ v. v.1.1))
 
 pub consecutive_among : (vs : List (List ℕ × (Tree × ℕ))) (g : ℕ) → AreConsecutive (variant_tags vs) → g < length vs → Contains (variant_tags vs) g
 consecutive_among vs g c h =
-    let gs = variant_tags vs in
-    let within : g < length gs = omega (arith, h, length-map vs (λ v. v.1.1)) in
-    (g, within, ap (λ xs. get_or xs g g) c ∙ get_or-range_with_len 0 (length gs) g g within ∙ omega arith)
+    let within : g < length (variant_tags vs) = omega (arith, h, length-map vs (λ v. v.1.1)) in
+    (g, within, consecutive_at (variant_tags vs) c g g within)
 
 pub no_tag_past : (vs : List (List ℕ × (Tree × ℕ))) (i : ℕ) → length vs ≤ i → slice_get (variant_tags vs) i ≡ None
 no_tag_past vs i h = slice_get_past (variant_tags vs) i (omega (arith, h, length-map vs (λ v. v.1.1)))
+
+-- tags that are each their position, as a loop over them finds it
+pub consecutive_where : (gs : List ℕ) → ((k : ℕ) → k < length gs → get_or gs k 0 ≡ k) → AreConsecutive gs
+consecutive_where gs each =
+    same_number_lists gs (range_with_len 0 (length gs)) (sym (length-range_with_len 0 (length gs))) (λ k within. each k within ∙ sym (get_or-range_with_len 0 (length gs) k 0 within ∙ omega arith))
+
+-- where the tags are consecutive, the test of a union's text holds
+pub told_by_test : (vs : List (List ℕ × (Tree × ℕ))) (b : Bool) → (IsTrue b ↔ AreConsecutive (variant_tags vs)) → b ≡ are_consecutive (variant_tags (triples (variants vs)))
+told_by_test vs b h = let gs = variant_tags vs in same_from_decides b _ h (bytes_decides gs (range_with_len 0 (length gs))) ∙ ap (λ ws. are_consecutive (variant_tags ws)) (sym (triples_variants vs))
 
 pub ruleset tags = (position_of_tag, position_within, consecutive_tags, consecutive_tag_at, consecutive_below, consecutive_among, no_tag_past)

@@ -4,13 +4,13 @@
 -- The test of equality is exact under each rule. With nullabilities compared it holds exactly where the trees are equal,
 -- with them ignored exactly where their erased trees are, and with those of the first within those of the second exactly
 -- where the first is below the second (`Sub`). Equality of types and of their parts is an equivalence.
-use Rattle.std.specs.Prelude.{◌≡◌, Bool, ◌&&◌, ◌==◌, List, [], ◌∷◌, Some, slice_get, refl}
+use Rattle.std.specs.Prelude.{◌≡◌, ◌&&◌, ◌==◌, List, [], ◌∷◌, Some, slice_get, refl}
 use Rattle.std.specs.Bool.{Decides}
 use Rattle.std.specs.Ordering.{int_eq}
 use Rattle.std.proofs.Common.{ap, subst, sym, ◌∙◌}
 use Rattle.std.specs.Cmp.{booleans_Decides, signed_Decides, IsEquivalence, decided, on_equiv}
 use Rattle.std.proofs.lemmas.Bool.{false≢true}
-use Rattle.std.proofs.lemmas.Bool.Decides.{Decides-and, Decides-eqb}
+use Rattle.std.proofs.lemmas.Bool.Decides.{Decides-and, Decides-eqb, Decides-like}
 use Rattle.std.proofs.lemmas.Option.{same_Some}
 use Rattle.std.proofs.lemmas.Slice.Eq.{bytes_eq-Decides}
 use Rattle.dtype_base.specs.declared.nullability.Nullability.{Nullability}
@@ -24,13 +24,7 @@ use Rattle.dtype_types.specs.declared.dtype.equality.NullabilityRule.TheVariants
 use Rattle.dtype_types.specs.nullability.Sub.{Sub, Wherever, WhereverItems}
 use Rattle.dtype_types.specs.tree.Tree.{Tree, no_items, item, null, bool, primitive, decimal, utf8, binary, list, fixed_size_list, map_of, struct, union, variant, extension, Holder, a_struct, a_union, Tag, Items, rest_of, first_tag}
 use Rattle.dtype_types.specs.tree.Erase.{erase, erase_items}
-use Rattle.dtype_types.specs.equality.Equality.{Asks, equal_under, items_equal_under, allows, same_ptype, same_tag}
-use Rattle.dtype_types.specs.equality.EqualityOf.{same_dtype, same_extension, same_field_dtype, same_map, same_struct, same_union}
-use Rattle.dtype_types.specs.tree.TreeOf.{tree, struct_tree, union_tree, map_tree, extension_tree}
-
--- a test of P is one of a Q that says the same
-pub restated : {P Q : Type 0} {x : Bool} → (P → Q) → (Q → P) → Decides x P → Decides x Q
-restated f g d = (λ e. f (d.0 e), λ q. d.1 (g q))
+use Rattle.dtype_types.specs.equality.Equality.{Asks, equal_under, items_equal_under, allows, same_ptype, same_tag, same_by}
 
 allows-Decides : (s : NullabilityRule) (m n : Nullability) → Decides (allows s m n) (Asks s m n)
 allows-Decides Ignored m n = (λ e. tt, λ h. refl)
@@ -51,11 +45,11 @@ at_its_number _ = refl
 
 pub same_ptype-Decides : (p q : PType) → Decides (same_ptype p q) (p ≡ q)
 same_ptype-Decides p q =
-    restated (λ e. same_Some p q (sym (at_its_number p) ∙ ap (slice_get ptypes) e ∙ at_its_number q)) (λ e. ap (λ r. (ptype_row r).number) e) (Decides-eqb (ptype_row p).number (ptype_row q).number)
+    Decides-like _ (λ e. same_Some p q (sym (at_its_number p) ∙ ap (slice_get ptypes) e ∙ at_its_number q)) (λ e. ap (λ r. (ptype_row r).number) e) (Decides-eqb (ptype_row p).number (ptype_row q).number)
 
 pub same_decimal-Decides : (d e : Decimal) → Decides ((d.precision == e.precision) && int_eq d.scale e.scale) (d ≡ e)
 same_decimal-Decides d e =
-    restated (λ h. ap (λ p. record { precision = p; scale = d.scale }) h.0 ∙ ap (λ s. record { precision = e.precision; scale = s }) h.1) (λ h. (ap (λ x. x.precision) h, ap (λ x. x.scale) h))
+    Decides-like _ (λ h. ap (λ p. record { precision = p; scale = d.scale }) h.0 ∙ ap (λ s. record { precision = e.precision; scale = s }) h.1) (λ h. (ap (λ x. x.precision) h, ap (λ x. x.scale) h))
     (Decides-and _ _ (Decides-eqb d.precision e.precision) (signed_Decides d.scale e.scale))
 
 same_tag-Decides : (h : Holder) (f g : Tag h) → Decides (same_tag h f g) (f ≡ g)
@@ -70,81 +64,65 @@ Alike s a b = (erase a ≡ erase b) × Wherever (Asks s) a b
 mutual
   alike-Decides : (s : NullabilityRule) (a b : Tree) → Decides (equal_under s a b) (Alike s a b)
   alike-Decides s null null = (λ e. (refl, tt), λ h. refl)
-  alike-Decides s (bool m) (bool n) = restated (λ h. (refl, h)) (λ h. h.1) (allows-Decides s m n)
-  alike-Decides s (primitive p m) (primitive q n) = restated (λ h. (cc h.0, h.1)) (λ h. (cc h.0, h.1)) (Decides-and _ _ (same_ptype-Decides p q) (allows-Decides s m n))
-  alike-Decides s (decimal d m) (decimal e n) = restated (λ h. (cc h.0, h.1)) (λ h. (cc h.0, h.1)) (Decides-and _ _ (same_decimal-Decides d e) (allows-Decides s m n))
-  alike-Decides s (utf8 m) (utf8 n) = restated (λ h. (refl, h)) (λ h. h.1) (allows-Decides s m n)
-  alike-Decides s (binary m) (binary n) = restated (λ h. (refl, h)) (λ h. h.1) (allows-Decides s m n)
-  alike-Decides s (variant m) (variant n) = restated (λ h. (refl, h)) (λ h. h.1) (allows-Decides s m n)
+  alike-Decides s (bool m) (bool n) = Decides-like _ (λ h. (refl, h)) (λ h. h.1) (allows-Decides s m n)
+  alike-Decides s (primitive p m) (primitive q n) = Decides-like _ (λ h. (cc h.0, h.1)) (λ h. (cc h.0, h.1)) (Decides-and _ _ (same_ptype-Decides p q) (allows-Decides s m n))
+  alike-Decides s (decimal d m) (decimal e n) = Decides-like _ (λ h. (cc h.0, h.1)) (λ h. (cc h.0, h.1)) (Decides-and _ _ (same_decimal-Decides d e) (allows-Decides s m n))
+  alike-Decides s (utf8 m) (utf8 n) = Decides-like _ (λ h. (refl, h)) (λ h. h.1) (allows-Decides s m n)
+  alike-Decides s (binary m) (binary n) = Decides-like _ (λ h. (refl, h)) (λ h. h.1) (allows-Decides s m n)
+  alike-Decides s (variant m) (variant n) = Decides-like _ (λ h. (refl, h)) (λ h. h.1) (allows-Decides s m n)
   alike-Decides s (list t m) (list u n) =
-      restated (λ h. (cc h.1.0, (h.0, h.1.1))) (λ h. (h.1.0, (cc h.0, h.1.1))) (Decides-and _ _ (allows-Decides s m n) (alike-Decides s t u))
+      Decides-like _ (λ h. (cc h.1.0, (h.0, h.1.1))) (λ h. (h.1.0, (cc h.0, h.1.1))) (Decides-and _ _ (allows-Decides s m n) (alike-Decides s t u))
   alike-Decides s (fixed_size_list t j m) (fixed_size_list u k n) =
-      restated (λ h. (cc (h.0.1, h.1.0), (h.0.0, h.1.1))) (λ h. ((h.1.0, cc h.0), (cc h.0, h.1.1))) (Decides-and _ _ (Decides-and _ _ (allows-Decides s m n) (Decides-eqb j k)) (alike-Decides s t u))
+      Decides-like _ (λ h. (cc (h.0.1, h.1.0), (h.0.0, h.1.1))) (λ h. ((h.1.0, cc h.0), (cc h.0, h.1.1))) (Decides-and _ _ (Decides-and _ _ (allows-Decides s m n) (Decides-eqb j k)) (alike-Decides s t u))
   alike-Decides s (map_of t v x m) (map_of u w y n) =
-      restated (λ h. (cc (h.1.0.0.0, h.1.0.1.0, h.1.1), (h.0, h.1.0.0.1, h.1.0.1.1))) (λ h. (h.1.0, (((cc h.0, h.1.1), (cc h.0, h.1.2)), cc h.0)))
+      Decides-like _ (λ h. (cc (h.1.0.0.0, h.1.0.1.0, h.1.1), (h.0, h.1.0.0.1, h.1.0.1.1))) (λ h. (h.1.0, (((cc h.0, h.1.1), (cc h.0, h.1.2)), cc h.0)))
       (Decides-and _ _ (allows-Decides s m n) (Decides-and _ _ (Decides-and _ _ (alike-Decides s t u) (alike-Decides s v w)) (booleans_Decides x y)))
   alike-Decides s (struct fs m) (struct gs n) =
-      restated (λ h. (ap (λ x. struct x NonNullable) h.1.0, (h.0, h.1.1))) (λ h. (h.1.0, (cc h.0, h.1.1))) (Decides-and _ _ (allows-Decides s m n) (alike_items-Decides s fs gs))
+      Decides-like _ (λ h. (ap (λ x. struct x NonNullable) h.1.0, (h.0, h.1.1))) (λ h. (h.1.0, (cc h.0, h.1.1))) (Decides-and _ _ (allows-Decides s m n) (alike_items-Decides s fs gs))
   alike-Decides s (union vs m) (union ws n) =
-      restated (λ h. (ap (λ x. union x NonNullable) h.1.0, (h.0, h.1.1))) (λ h. (h.1.0, (cc h.0, h.1.1))) (Decides-and _ _ (allows-Decides s m n) (alike_items-Decides s vs ws))
+      Decides-like _ (λ h. (ap (λ x. union x NonNullable) h.1.0, (h.0, h.1.1))) (λ h. (h.1.0, (cc h.0, h.1.1))) (Decides-and _ _ (allows-Decides s m n) (alike_items-Decides s vs ws))
   alike-Decides s (extension i a t) (extension j b u) =
-      restated (λ h. (cc (h.0.0, h.0.1, h.1.0), h.1.1)) (λ h. ((cc h.0, cc h.0), (cc h.0, h.1))) (Decides-and _ _ (Decides-and _ _ (bytes_eq-Decides i j) (bytes_eq-Decides a b)) (alike-Decides s t u))
+      Decides-like _ (λ h. (cc (h.0.0, h.0.1, h.1.0), h.1.1)) (λ h. ((cc h.0, cc h.0), (cc h.0, h.1))) (Decides-and _ _ (Decides-and _ _ (bytes_eq-Decides i j) (bytes_eq-Decides a b)) (alike-Decides s t u))
   alike-Decides s _ _ = (λ e. absurd (false≢true e), λ h. absurd h.1)
 
   alike_items-Decides : (s : NullabilityRule) {k : Holder} (xs ys : Items k) → Decides (items_equal_under s xs ys) ((erase_items xs ≡ erase_items ys) × WhereverItems (Asks s) xs ys)
   alike_items-Decides s no_items no_items = (λ e. (refl, tt), λ h. refl)
   alike_items-Decides s {k} (item m t f xs) (item n u g ys) =
-      restated (λ h. (cc (h.0.0.0, h.0.0.1, h.0.1.0, h.1.0), (h.0.1.1, h.1.1))) (λ h. (((ap (first_tag {h = k} f) h.0, cc h.0), (cc h.0, h.1.0)), (ap rest_of h.0, h.1.1)))
+      Decides-like _ (λ h. (cc (h.0.0.0, h.0.0.1, h.0.1.0, h.1.0), (h.0.1.1, h.1.1))) (λ h. (((ap (first_tag {h = k} f) h.0, cc h.0), (cc h.0, h.1.0)), (ap rest_of h.0, h.1.1)))
       (Decides-and _ _ (Decides-and _ _ (Decides-and _ _ (same_tag-Decides k f g) (bytes_eq-Decides m n)) (alike-Decides s t u)) (alike_items-Decides s xs ys))
   alike_items-Decides s _ _ = (λ e. absurd (false≢true e), λ h. absurd h.1)
 
 -- ---- what each rule makes of it
 
--- a rule that holds of any two nullabilities holds at each place
-module _ (R : Nullability → Nullability → Type 0) (any : (m n : Nullability) → R m n) where
+-- a rule holds at each place where it holds of any two nullabilities, or, if E makes the two types equal, of equal ones
+module _ (R : Nullability → Nullability → Type 0) (E : Type 0) (holds : (m n : Nullability) → (E → m ≡ n) → R m n) where
   mutual
-    pub everywhere : (a b : Tree) → erase a ≡ erase b → Wherever R a b
-    everywhere null null e = tt
-    everywhere (bool m) (bool n) e = any m n
-    everywhere (primitive p m) (primitive q n) e = any m n
-    everywhere (decimal p m) (decimal q n) e = any m n
-    everywhere (utf8 m) (utf8 n) e = any m n
-    everywhere (binary m) (binary n) e = any m n
-    everywhere (variant m) (variant n) e = any m n
-    everywhere (list t m) (list u n) e = (any m n, everywhere t u (cc))
-    everywhere (fixed_size_list t j m) (fixed_size_list u k n) e = (any m n, everywhere t u (cc))
-    everywhere (map_of t v x m) (map_of u w y n) e = (any m n, everywhere t u (cc), everywhere v w (cc))
-    everywhere (struct fs m) (struct gs n) e = (any m n, everywhere_items fs gs (cc))
-    everywhere (union vs m) (union ws n) e = (any m n, everywhere_items vs ws (cc))
-    everywhere (extension i a t) (extension j b u) e = everywhere t u (cc)
-    everywhere _ _ e = absurd (cc e)
+    wherever : (a b : Tree) → erase a ≡ erase b → (E → a ≡ b) → Wherever R a b
+    wherever null null e f = tt
+    wherever (bool m) (bool n) e f = holds m n (λ x. cc (f x))
+    wherever (primitive p m) (primitive q n) e f = holds m n (λ x. cc (f x))
+    wherever (decimal p m) (decimal q n) e f = holds m n (λ x. cc (f x))
+    wherever (utf8 m) (utf8 n) e f = holds m n (λ x. cc (f x))
+    wherever (binary m) (binary n) e f = holds m n (λ x. cc (f x))
+    wherever (variant m) (variant n) e f = holds m n (λ x. cc (f x))
+    wherever (list t m) (list u n) e f = (holds m n (λ x. cc (f x)), wherever t u (cc) (λ x. cc (f x)))
+    wherever (fixed_size_list t j m) (fixed_size_list u k n) e f = (holds m n (λ x. cc (f x)), wherever t u (cc) (λ x. cc (f x)))
+    wherever (map_of t v y m) (map_of u w z n) e f = (holds m n (λ x. cc (f x)), wherever t u (cc) (λ x. cc (f x)), wherever v w (cc) (λ x. cc (f x)))
+    wherever (struct fs m) (struct gs n) e f = (holds m n (λ x. cc (f x)), wherever_items fs gs (cc) (λ x. cc (f x)))
+    wherever (union vs m) (union ws n) e f = (holds m n (λ x. cc (f x)), wherever_items vs ws (cc) (λ x. cc (f x)))
+    wherever (extension i a t) (extension j b u) e f = wherever t u (cc) (λ x. cc (f x))
+    wherever _ _ e f = absurd (cc e)
 
-    everywhere_items : {h : Holder} (xs ys : Items h) → erase_items xs ≡ erase_items ys → WhereverItems R xs ys
-    everywhere_items no_items no_items e = tt
-    everywhere_items (item m t f xs) (item n u g ys) e = (everywhere t u (cc), everywhere_items xs ys (ap rest_of e))
-    everywhere_items _ _ e = absurd (cc e)
+    wherever_items : {h : Holder} (xs ys : Items h) → erase_items xs ≡ erase_items ys → (E → xs ≡ ys) → WhereverItems R xs ys
+    wherever_items no_items no_items e f = tt
+    wherever_items (item m t g xs) (item n u k ys) e f = (wherever t u (cc) (λ x. cc (f x)), wherever_items xs ys (ap rest_of e) (λ x. ap rest_of (f x)))
+    wherever_items _ _ e f = absurd (cc e)
 
--- a rule that holds of a nullability and itself holds at each place of a type and itself
-module _ (R : Nullability → Nullability → Type 0) (same : (n : Nullability) → R n n) where
-  mutual
-    pub reflexive : (a : Tree) → Wherever R a a
-    reflexive null = tt
-    reflexive (list t n) = (same n, reflexive t)
-    reflexive (fixed_size_list t k n) = (same n, reflexive t)
-    reflexive (map_of t u s n) = (same n, reflexive t, reflexive u)
-    reflexive (struct fs n) = (same n, reflexive_items fs)
-    reflexive (union vs n) = (same n, reflexive_items vs)
-    reflexive (extension i b s) = reflexive s
-    reflexive (bool n) = same n
-    reflexive (primitive p n) = same n
-    reflexive (decimal d n) = same n
-    reflexive (utf8 n) = same n
-    reflexive (binary n) = same n
-    reflexive (variant n) = same n
+pub everywhere : (R : Nullability → Nullability → Type 0) → ((m n : Nullability) → R m n) → (a b : Tree) → erase a ≡ erase b → Wherever R a b
+everywhere R any a b e = wherever R ⊥ (λ m n _. any m n) a b e (λ never. absurd never)
 
-    reflexive_items : {h : Holder} (xs : Items h) → WhereverItems R xs xs
-    reflexive_items no_items = tt
-    reflexive_items (item n t g xs) = (reflexive t, reflexive_items xs)
+pub reflexive : (R : Nullability → Nullability → Type 0) → ((n : Nullability) → R n n) → (a : Tree) → Wherever R a a
+reflexive R same a = wherever R (Unit {0}) (λ m n f. subst (R m) (f tt) (same m)) a a refl (λ _. refl)
 
 -- types that are equal but for nullabilities are equal where one rule holds one way and another the other, and these
 -- hold of equal nullabilities alone
@@ -172,37 +150,19 @@ module _ (R S : Nullability → Nullability → Type 0) (one : (m n : Nullabilit
     equal_items _ _ e h k = absurd h
 
 pub equal_erased-Decides : (a b : Tree) → Decides (equal_under Ignored a b) (erase a ≡ erase b)
-equal_erased-Decides a b = restated (λ h. h.0) (λ e. (e, everywhere (Asks Ignored) (λ m n. tt) a b e)) (alike-Decides Ignored a b)
+equal_erased-Decides a b = Decides-like _ (λ h. h.0) (λ e. (e, everywhere (Asks Ignored) (λ m n. tt) a b e)) (alike-Decides Ignored a b)
 
 pub sub_Decides : (a b : Tree) → Decides (equal_under Within a b) (Sub a b)
-sub_Decides a b = restated (λ h. record { erased = h.0; nullable = h.1 }) (λ s. (s.erased, s.nullable)) (alike-Decides Within a b)
+sub_Decides a b = Decides-like _ (λ h. record { erased = h.0; nullable = h.1 }) (λ s. (s.erased, s.nullable)) (alike-Decides Within a b)
 
 pub equal_under-Decides : (a b : Tree) → Decides (equal_under Compared a b) (a ≡ b)
 equal_under-Decides a b =
-    restated (λ h. equal_by (Asks Compared) (Asks Ignored) (λ m n e _. e) a b h.0 h.1 (everywhere (Asks Ignored) (λ m n. tt) b a (sym h.0)))
+    Decides-like _ (λ h. equal_by (Asks Compared) (Asks Ignored) (λ m n e _. e) a b h.0 h.1 (everywhere (Asks Ignored) (λ m n. tt) b a (sym h.0)))
     (λ e. subst (Alike Compared a) e (refl, reflexive (Asks Compared) (λ n. refl) a)) (alike-Decides Compared a b)
 
 -- ---- `==` of types and of their parts, as an equivalence
 
-same_trees : IsEquivalence (equal_under Compared)
-same_trees = decided (equal_under Compared) equal_under-Decides
-
-pub same_dtype_equiv : IsEquivalence same_dtype
-same_dtype_equiv = on_equiv tree same_trees
-
-pub same_field_dtype_equiv : IsEquivalence same_field_dtype
-same_field_dtype_equiv = on_equiv (λ f. f.dtype) same_dtype_equiv
-
-pub same_struct_equiv : IsEquivalence same_struct
-same_struct_equiv = on_equiv struct_tree same_trees
-
-pub same_union_equiv : IsEquivalence same_union
-same_union_equiv = on_equiv union_tree same_trees
-
-pub same_map_equiv : IsEquivalence same_map
-same_map_equiv = on_equiv map_tree same_trees
-
-pub same_extension_equiv : IsEquivalence same_extension
-same_extension_equiv = on_equiv extension_tree same_trees
+pub same_by_equiv : {X : Type 0} (seen : X → Tree) → IsEquivalence (same_by seen)
+same_by_equiv seen = on_equiv seen (decided (equal_under Compared) equal_under-Decides)
 
 pub ruleset exact_tests = (equal_under-Decides, equal_erased-Decides)

@@ -5,7 +5,7 @@
 -- nullability, where nullabilities aren't ignored, and then its parts. A count comes before each list, and a
 -- mark after each text. `Whole` is the type as it is, `Erased` the type without its nullabilities.
 -- It is a function of the tree, so equal types feed the same writes, as std's `Hash` asks. The writes are this port's own.
-use Rattle.std.specs.Prelude.{ℕ, suc, ◌+◌, ◌*◌, List, [], ◌∷◌, ◌++◌, length}
+use Rattle.std.specs.Prelude.{ℕ, suc, ◌+◌, ◌*◌, List, [], ◌∷◌, ◌++◌, drop, length}
 use Rattle.std.specs.Hash as fed
 use Rattle.std.specs.Hash.{HashWrites}
 use Rattle.dtype_base.specs.Primitives.{ptype_row}
@@ -74,3 +74,7 @@ hash_writes t = hash_of Whole t
 -- what a type feeds a hasher through `hash_ignore_nullability`
 abbrev pub hash_writes_ignoring_nullability : Tree → HashWrites
 hash_writes_ignoring_nullability t = hash_of Erased t
+
+-- what a type feeds after the byte of its kind: what a part of it feeds, of the non-nullable type made of the part
+abbrev pub inner_writes : HashMode → Tree → HashWrites
+inner_writes s t = drop 1 (hash_of s t)

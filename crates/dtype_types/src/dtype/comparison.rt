@@ -9,7 +9,7 @@ ghost use Rattle.dtype_types.specs.tree.TreeOf.{tree};
 use crate::DType;
 use crate::dtype::equality::{NullabilityRule, equal_under};
 
-#[tactic(auto, using(crate::proofs::SubTest::sub_test))]
+#[tactic(auto, using(crate::specs::equality::EqualityLaws::sub_Decides))]
 impl DType {
     /// Returns whether the types are equal except for nullabilities, and the other is nullable wherever this one is, at
     /// every depth. Then each value of this type is a value of the other. Doesn't allocate.

@@ -75,13 +75,13 @@ impl DType {
 
 #[tactic(auto, using(crate::specs::equality::EqualityLaws::exact_tests))]
 impl PartialEq for DType {
-    ghost use Rattle.dtype_types.specs.equality.EqualityOf.{same_dtype};
-    ghost use Rattle.dtype_types.specs.equality.EqualityLaws.{same_dtype_equiv};
+    ghost use Rattle.dtype_types.specs.equality.Equality.{same_by};
+    ghost use Rattle.dtype_types.specs.equality.EqualityLaws.{same_by_equiv};
     ghost use Rattle.std.specs.Cmp.{partial_equiv_from_equiv};
 
-    ghost eq = { same_dtype };
+    ghost eq = { same_by tree };
 
-    ghost laws = { partial_equiv_from_equiv same_dtype_equiv };
+    ghost laws = { partial_equiv_from_equiv (same_by_equiv tree) };
 
     fn eq(&self, other: &DType) -> bool
         ensures { IsTrue result ↔ (tree self.now ≡ tree other.now) }
@@ -91,7 +91,7 @@ impl PartialEq for DType {
 }
 
 impl Eq for DType {
-    ghost use Rattle.dtype_types.specs.equality.EqualityLaws.{same_dtype_equiv};
+    ghost use Rattle.dtype_types.specs.equality.EqualityLaws.{same_by_equiv};
 
-    ghost laws = { same_dtype_equiv };
+    ghost laws = { same_by_equiv tree };
 }

@@ -16,9 +16,9 @@ use Rattle.dtype_messages.specs.declared.pb.DType.{DType as TypeMessage}
 use Rattle.dtype_messages.specs.declared.pb.Field.{Field as PathPart}
 use Rattle.dtype_messages.specs.declared.pb.FieldPath.{FieldPath as PathMessage}
 use Rattle.dtype_messages.proofs.lemmas.Equality.{dtype_Decides, part_Decides, path_Decides}
-use Rattle.dtype_types.specs.equality.EqualityOf.{same_dtype, same_extension, same_field_dtype, same_map, same_struct, same_union}
+use Rattle.dtype_types.specs.equality.Equality.{same_by}
 use Rattle.dtype_types.specs.parts.FieldTypes.{field_tree}
-use Rattle.dtype_types.specs.tree.TreeOf.{children, extension_tree, map_shown, shown, tree, variant_list}
+use Rattle.dtype_types.specs.tree.TreeOf.{children, extension_tree, map_shown, map_tree, shown, struct_tree, tree, union_tree, variant_list}
 use Rattle.dtype_types.specs.declared.dtype.DType.{DType}
 use Rattle.dtype_types.specs.declared.extension.ExtDTypeRef.{ExtDTypeRef}
 use Rattle.dtype_types.specs.declared.field_dtype.FieldDType.{FieldDType}
@@ -30,23 +30,23 @@ use Rattle.dtype_types.specs.equality.EqualityLaws.{equal_under-Decides}
 
 -- ---- types and their parts
 
-pub types_differ : (a b : DType) → Decides (not (same_dtype a b)) (tree a ≢ tree b)
-types_differ a b = Decides-not (same_dtype a b) (equal_under-Decides (tree a) (tree b))
+pub types_differ : (a b : DType) → Decides (not (same_by tree a b)) (tree a ≢ tree b)
+types_differ a b = Decides-not (same_by tree a b) (equal_under-Decides (tree a) (tree b))
 
-pub structs_differ : (a b : StructFields) → Decides (not (same_struct a b)) (children a ≢ children b)
-structs_differ a b = Decides-not (same_struct a b) (structs_Decides a b)
+pub structs_differ : (a b : StructFields) → Decides (not (same_by struct_tree a b)) (children a ≢ children b)
+structs_differ a b = Decides-not (same_by struct_tree a b) (structs_Decides a b)
 
-pub unions_differ : (a b : UnionVariants) → Decides (not (same_union a b)) (variant_list a ≢ variant_list b)
-unions_differ a b = Decides-not (same_union a b) (unions_Decides a b)
+pub unions_differ : (a b : UnionVariants) → Decides (not (same_by union_tree a b)) (variant_list a ≢ variant_list b)
+unions_differ a b = Decides-not (same_by union_tree a b) (unions_Decides a b)
 
-pub maps_differ : (a b : MapDType) → Decides (not (same_map a b)) (map_shown a ≢ map_shown b)
-maps_differ a b = Decides-not (same_map a b) (maps_Decides a b)
+pub maps_differ : (a b : MapDType) → Decides (not (same_by map_tree a b)) (map_shown a ≢ map_shown b)
+maps_differ a b = Decides-not (same_by map_tree a b) (maps_Decides a b)
 
-pub extensions_differ : (a b : ExtDTypeRef) → Decides (not (same_extension a b)) (extension_tree a ≢ extension_tree b)
-extensions_differ a b = Decides-not (same_extension a b) (extensions_Decides a b)
+pub extensions_differ : (a b : ExtDTypeRef) → Decides (not (same_by extension_tree a b)) (extension_tree a ≢ extension_tree b)
+extensions_differ a b = Decides-not (same_by extension_tree a b) (extensions_Decides a b)
 
-pub field_types_differ : (a b : FieldDType) → Decides (not (same_field_dtype a b)) (field_tree a ≢ field_tree b)
-field_types_differ a b = Decides-not (same_field_dtype a b) (field_types_Decides a b)
+pub field_types_differ : (a b : FieldDType) → Decides (not (same_by field_tree a b)) (field_tree a ≢ field_tree b)
+field_types_differ a b = Decides-not (same_by field_tree a b) (field_types_Decides a b)
 
 -- ---- messages
 
@@ -62,12 +62,12 @@ parts_differ a b = Decides-not (part_eq.ghosts.eq a b) (part_Decides a b)
 -- ---- borrowed types that may be missing, by any test that is theirs: a search can't match the test in the contract of
 -- `Option`'s `==`, which names an impl, with the definition of `DType`'s
 
-pub lent_alike : (f : Bor DType → Bor DType → Bool) (a b : Option (Bor DType)) → ((x y : Bor DType) → f x y ≡ same_dtype x.now y.now) → Decides (option_eq f a b) (shown tree a ≡ shown tree b)
+pub lent_alike : (f : Bor DType → Bor DType → Bool) (a b : Option (Bor DType)) → ((x y : Bor DType) → f x y ≡ same_by tree x.now y.now) → Decides (option_eq f a b) (shown tree a ≡ shown tree b)
 lent_alike f None None h = (λ e. refl, λ e. refl)
 lent_alike f (Some x) (Some y) h = Decides-like _ (ap Some) (same_Some _ _) (Decides-at _ _ (h x y) (equal_under-Decides (tree x.now) (tree y.now)))
 lent_alike f _ _ h = (λ e. absurd (false≢true e), λ e. cc)
 
-pub lent_differ : (f : Bor DType → Bor DType → Bool) (a b : Option (Bor DType)) → ((x y : Bor DType) → f x y ≡ same_dtype x.now y.now) → Decides (not (option_eq f a b)) (shown tree a ≢ shown tree b)
+pub lent_differ : (f : Bor DType → Bor DType → Bool) (a b : Option (Bor DType)) → ((x y : Bor DType) → f x y ≡ same_by tree x.now y.now) → Decides (not (option_eq f a b)) (shown tree a ≢ shown tree b)
 lent_differ f a b h = Decides-not (option_eq f a b) (lent_alike f a b h)
 
 pub ruleset differences = (types_differ, structs_differ, unions_differ, maps_differ, extensions_differ, field_types_differ, messages_differ, path_messages_differ, parts_differ, lent_alike, lent_differ)

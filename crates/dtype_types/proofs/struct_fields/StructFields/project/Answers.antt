@@ -1,25 +1,12 @@
 -- SPDX-License-Identifier: Apache-2.0
 -- SPDX-FileCopyrightText: Copyright the Vortex contributors
 
-use Rattle.std.proofs.Common.{◌≡◌, ◌⊎◌, ◌<◌, length, ap, sym, subst, ◌∙◌}
+use Rattle.std.proofs.Common.{◌<◌, length, ap, sym, subst, ◌∙◌}
 use Rattle.std.specs.List.{All}
-use Rattle.std.proofs.lemmas.Result.{err_from_is_err_and}
-use Rattle.dtype_base.specs.FieldNames.{SelectionError}
-use Rattle.dtype_base.specs.declared.vortex_error.VortexError.TheVariants.{OutOfMemory}
-use Rattle.dtype_types.specs.parts.Lookups.{field_names}
 use Rattle.dtype_types.specs.tree.TreeOf.{children, struct_dtypes, struct_pairs, with_trees}
 use Rattle.dtype_types.proofs.lemmas.Validity.{valid_projected}
-use Rattle.dtype_types.proofs.Projected.{projected_alike, projected_known}
-use Rattle.dtype_types.proofs.Selected.{as_many_copies, places_within, projects, refused_of}
+use Rattle.dtype_types.proofs.Selected.{as_many_copies, places_within, projected_alike, projected_known, projects}
 use Rattle.dtype_types.proofs.struct_fields.StructFields.project.Goals as goal
-
-pub returns-in_err-names-clause-ok : goal.returns-in_err-names-clause-ok
-returns-in_err-names-clause-ok c =
-    let s = c.args.self.now in
-    let asked = c.args.projection.now in
-    let e = c.in_err-names.field-0.0 in
-    let told : (e ≡ OutOfMemory) ⊎ SelectionError (field_names (children s)) asked e = refused_of (struct_pairs s) c.deref.result.now asked e c.deref.ensures c.in_err-names.ensures in
-    let p = err_from_is_err_and c.from_residual.result c.from_residual.ensures.1 in rw (p.1, p.2) told
 
 pub copies_at-requires : goal.copies_at-requires
 copies_at-requires c =

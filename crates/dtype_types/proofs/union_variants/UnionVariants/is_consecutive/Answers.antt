@@ -1,30 +1,31 @@
 -- SPDX-License-Identifier: Apache-2.0
 -- SPDX-FileCopyrightText: Copyright the Vortex contributors
 
-use Rattle.std.proofs.Common.{◌≡◌, [], sym, ◌∙◌, arith, get_or, true, false, ap, drop}
-use Rattle.std.proofs.lemmas.Grind.{common_steps}
+use Rattle.std.proofs.Common.{◌≡◌, inl, inr, ◌∙◌, ap, arith, get_or, refl, sym}
+use Rattle.std.proofs.lemmas.Bool.{cases_lt, false≢true}
 use Rattle.std.proofs.lemmas.List.{length-map}
-use Rattle.dtype_types.proofs.ConsecutiveTags.{consecutive, tested}
-use Rattle.dtype_types.proofs.Alongside.{consecutive_turn, tags_same, tags_differ, and_first, and_both, tag_at}
-use Rattle.dtype_types.specs.tree.Tree.{variants}
-use Rattle.dtype_types.specs.tree.TreeOf.{variant_list}
-use Rattle.dtype_types.proofs.union_variants.UnionVariants.is_consecutive.Goals as goal
 use Rattle.dtype_types.specs.parts.Lookups.{variant_tags}
+use Rattle.dtype_types.specs.tree.TreeOf.{variant_list}
+use Rattle.dtype_types.proofs.lemmas.Tags.{consecutive_at, consecutive_where}
+use Rattle.dtype_types.proofs.union_variants.UnionVariants.is_consecutive.Goals as goal
 
 pub returns-then-from-i : goal.returns-then-from-i
 returns-then-from-i c =
-    let u = c.args.self.now in
-    let e = consecutive_turn (variant_list u) c.loop-i.i (get_or c.type_ids-tags.result.now c.loop-i.i 0) (omega arith) (tag_at (variant_tags (variant_list u)) _ c.loop-i.i c.type_ids-tags.ensures (omega (arith, length-map (variant_list u) (λ v. v.1.1)))) in
-    tested (variant_list u) false (sym (sym c.loop-i.invariant ∙ e ∙ and_first _ _ (tags_differ (get_or c.type_ids-tags.result.now c.loop-i.i 0) c.loop-i.i (omega arith))))
+    let gs = variant_tags (variant_list c.args.self.now) in
+    let read = ap (λ xs. get_or xs c.loop-i.i 0) c.type_ids-tags.ensures in
+    (λ no. absurd (false≢true no), λ all. absurd (omega (arith, read, consecutive_at gs all c.loop-i.i 0 (omega (arith, length-map (variant_list c.args.self.now) (λ v. v.1.1))))))
 
 pub returns : goal.returns
 returns c =
-    let u = c.args.self.now in
-    let none : drop c.loop-i.i (variant_list u) ≡ [] = grind (arith, common_steps) in
-    tested (variant_list u) true (sym (sym c.loop-i.invariant ∙ ap (λ vs. consecutive c.loop-i.i (variants vs)) none))
+    let vs = variant_list c.args.self.now in
+    (λ _. consecutive_where (variant_tags vs) (λ k within. c.loop-i.invariant k (omega (arith, within, length-map vs (λ v. v.1.1)))), λ _. refl)
 
 pub loop-i-preserved : goal.loop-i-preserved
-loop-i-preserved c =
-    let u = c.args.self.now in
-    let e = consecutive_turn (variant_list u) c.loop-i.i (get_or c.type_ids-tags.result.now c.loop-i.i 0) (omega arith) (tag_at (variant_tags (variant_list u)) _ c.loop-i.i c.type_ids-tags.ensures (omega (arith, length-map (variant_list u) (λ v. v.1.1)))) in
-    sym (e ∙ and_both _ _ (tags_same (get_or c.type_ids-tags.result.now c.loop-i.i 0) c.loop-i.i (omega arith))) ∙ c.loop-i.invariant
+loop-i-preserved c = λ k before. elim (cases_lt k c.loop-i.i) [
+  | inl earlier ↦ c.loop-i.invariant k earlier
+  | inr last ↦
+      let read = ap (λ gs. get_or gs c.loop-i.i 0) c.type_ids-tags.ensures in
+      let same : k ≡ c.loop-i.i = omega (arith, before, last) in
+      let here : get_or c.type_ids-tags.result.now c.loop-i.i 0 ≡ c.loop-i.i = omega arith in
+      ap (λ j. get_or (variant_tags (variant_list c.args.self.now)) j 0) same ∙ sym read ∙ here ∙ sym same
+]

@@ -76,10 +76,6 @@ def examples(names):
     return found, rest
 
 
-def allocates(function):
-    return bool(function.body) and ("alloc: Global" in function.signature or "-> VortexResult<" in function.signature)
-
-
 def makes(name, files):
     """Whether one of these sources makes a call of that name, or leaves it to an iterator or to `field_path!`."""
     also = {"from_iter": r"|\.collect\(", "into_iter": r"|\bfor ", "from_texts": r"|field_path!\("}
@@ -91,7 +87,7 @@ def check():
     """How many public calls allocate, and each that nothing runs, or that is listed wrongly: where, and the fault."""
     allocating, lines, rows, faults, run = defaultdict(set), answered(), list(commands()), [], set()
     for crate, it in public_calls(libraries()):
-        if allocates(it):
+        if it.body and re.search("alloc: Global|-> VortexResult<", it.signature):
             allocating[it.path].add(crate)
     console = [it for it in crates() if "console" in it]
     runners = [(row.name, it, "command") for row, calls in rows for it in calls if it in allocating]

@@ -12,7 +12,7 @@ ghost use Rattle.dtype_base.specs.Comparisons.{comparisons};
 ghost use Rattle.dtype_base.specs.declared.vortex_error.VortexError.TheVariants.{DuplicateNames, IndexOutOfBounds, OutOfMemory};
 ghost use Rattle.dtype_types.specs.tree.TreeOf.{tree};
 
-use crate::dtype::equality::{NullabilityRule, equal_under};
+use crate::dtype::equality::{NullabilityRule, equal_dtypes};
 use crate::dtype::hash::{HashMode, hash_into};
 use crate::dtype::indented_text::start_field;
 use crate::dtype::lattice::{MergeRule, merge_dtypes};
@@ -245,24 +245,14 @@ impl StructFields {
         self.equal_under(other, NullabilityRule::Ignored)
     }
 
-    // Whether the fields of the two are equal under the rule, one by one.
+    // Whether the fields of the two are equal under the rule: their names, and their types.
     #[cycle(equal_under)]
+    #[tactic(auto, using(crate::proofs::Alongside::same_fields))]
     pub(crate) fn equal_under(&self, other: &StructFields, rule: NullabilityRule) -> bool
         ensures { result ≡ items_equal_under rule (fields_of self.now) (fields_of other.now) }
     {
-        let count = self.nfields();
-        if other.nfields() != count {
-            return false;
-        }
-        for ((name, dtype), (other_name, other_dtype)) in self.pairs().zip(other.pairs()) {
-            if name != other_name {
-                return false;
-            }
-            if !equal_under(dtype, other_dtype, rule) {
-                return false;
-            }
-        }
-        true
+        self.shared.names() == other.shared.names()
+            && equal_dtypes(self.dtypes(), other.dtypes(), rule)
     }
 
     // The bound of two structs that are equal but for nullabilities. It has the names of this one, and its index.

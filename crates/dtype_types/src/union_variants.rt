@@ -9,7 +9,7 @@ ghost use Rattle.dtype_base.specs.FieldNames.{first_place};
 ghost use Rattle.dtype_base.specs.declared.vortex_error.VortexError.TheVariants.{OutOfMemory, UnionTooMany};
 ghost use Rattle.dtype_types.specs.parts.Unions.{AreConsecutive, HasUnionLengths, MakesUnion, UnionError};
 
-use crate::dtype::equality::{NullabilityRule, equal_under};
+use crate::dtype::equality::{NullabilityRule, equal_dtypes};
 use crate::dtype::hash::{HashMode, hash_into};
 use crate::dtype::lattice::{MergeRule, merge_dtypes};
 use crate::tagged::Tagged;
@@ -255,30 +255,17 @@ impl UnionVariants {
         self.type_ids()[index]
     }
 
-    // Whether the variants of the two are equal under the rule, one by one.
+    // Whether the variants of the two are equal under the rule: their tags, their names, and their types.
     #[cycle(equal_under)]
+    #[tactic(auto, using(crate::proofs::Alongside::same_variants))]
     pub(crate) fn equal_under(&self, other: &UnionVariants, rule: NullabilityRule) -> bool
         ensures { result ≡ items_equal_under rule (variants_of self.now) (variants_of other.now) }
     {
-        let count = self.len();
-        if other.len() != count {
+        if self.shared.tags() != other.shared.tags() {
             return false;
         }
-        for ((name, tag, dtype), (other_name, other_tag, other_dtype)) in self
-            .triples()
-            .zip(other.triples())
-        {
-            if name != other_name {
-                return false;
-            }
-            if !equal_under(dtype, other_dtype, rule) {
-                return false;
-            }
-            if tag != other_tag {
-                return false;
-            }
-        }
-        true
+        self.shared.names() == other.shared.names()
+            && equal_dtypes(self.dtypes(), other.dtypes(), rule)
     }
 
     // The bound of two unions that are equal but for nullabilities. It has the names and tags of this one.

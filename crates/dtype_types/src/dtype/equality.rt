@@ -5,7 +5,8 @@
 // compared, ignored, or those of the first within those of the second.
 #![tactic(auto, using(crate::proofs::KindLaws::parts_equal_under))]
 
-ghost use Rattle.std.specs.Prelude.{◌≡◌, ◌↔◌, IsTrue};
+ghost use Rattle.std.specs.Prelude.{◌≡◌, ◌↔◌, IsTrue, map};
+ghost use Rattle.std.specs.Cmp.Lexicographic.{pointwise};
 ghost use Rattle.dtype_types.specs.equality.Equality.{equal_under, allows};
 ghost use Rattle.dtype_types.specs.tree.Erase.{erase};
 ghost use Rattle.dtype_types.specs.tree.TreeOf.{tree};
@@ -60,6 +61,22 @@ pub(crate) fn equal_under(a: &DType, b: &DType, rule: NullabilityRule) -> bool
         (DType::Extension(t), DType::Extension(u)) => t.equal_under(u, rule),
         _ => false,
     }
+}
+
+// Whether two lists have equally many types, and those at equal positions are equal under the rule.
+#[cycle(equal_under)]
+pub(crate) fn equal_dtypes(a: &[DType], b: &[DType], rule: NullabilityRule) -> bool
+    ensures { result ≡ pointwise (equal_under rule) (map tree a.now) (map tree b.now) }
+{
+    if a.len() != b.len() {
+        return false;
+    }
+    for (dtype, other_dtype) in a.iter().zip(b) {
+        if !equal_under(dtype, other_dtype, rule) {
+            return false;
+        }
+    }
+    true
 }
 
 impl DType {

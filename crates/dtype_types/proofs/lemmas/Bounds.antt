@@ -13,7 +13,7 @@ use Rattle.dtype_types.specs.nullability.Merged.{Rule, both, merge, merge_items,
 use Rattle.dtype_types.specs.nullability.Sub.{Sub, Allows, Wherever, WhereverItems}
 use Rattle.dtype_types.specs.tree.Erase.{erase, erase_items}
 use Rattle.dtype_types.specs.tree.Tree.{Tree, no_items, item, list, fixed_size_list, map_of, struct, union, extension, Holder, Items, rest_of}
-use Rattle.dtype_types.proofs.lemmas.NullValues.{either_nullable}
+use Rattle.dtype_types.proofs.lemmas.NullValues.{allows_either, either_nullable}
 
 -- ---- nothing but nullabilities is changed
 
@@ -163,7 +163,7 @@ upwards = record {
   same_is = λ n h. h;
   goes_on = λ l m n f g h. g (f h);
   only = equal;
-  first = λ m n h. (either_nullable m n).1 (inl h);
+  first = allows_either;
   second = λ m n h. (either_nullable m n).1 (inr h);
   least = λ l m n f g h. elim ((either_nullable m n).0 h) [ inl e ↦ f e | inr e ↦ g e ];
 }

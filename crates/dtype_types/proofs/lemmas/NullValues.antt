@@ -38,20 +38,18 @@ of_set t u n e h v o = go (rw e at (others t n v))
     go (inl is) = subst (λ x. Of x u) (sym is) ((null_is_of_nullable u).1 (set_is t u n e ∙ h ((null_is_of_nullable t).0 (subst (λ x. Of x t) is o))))
     go (inr same) = same.0 o
 
-pub allows_either : (m n : Nullability) → Allows m (either m n)
-allows_either Nullable NonNullable h = refl
-allows_either Nullable Nullable h = refl
-allows_either NonNullable n h = cc
-
--- a type's values are values of the type that is nullable where it or another is
-pub either_values : (t u : Tree) (n : Nullability) (v : Value) → SetNull t (either (nullability t) n) u → Of v t → Of v u
-either_values t u n v e o = of_set t u (either (nullability t) n) e (allows_either (nullability t) n) v o
-
 pub either_nullable : (m n : Nullability) → (either m n ≡ Nullable) ↔ ((m ≡ Nullable) ⊎ (n ≡ Nullable))
 either_nullable NonNullable NonNullable = (λ e. inl e, λ s. elim s [ inl e ↦ e | inr e ↦ e ])
 either_nullable NonNullable Nullable = (λ e. inr e, λ s. refl)
 either_nullable Nullable NonNullable = (λ e. inl refl, λ s. refl)
 either_nullable Nullable Nullable = (λ e. inl refl, λ s. refl)
+
+pub allows_either : (m n : Nullability) → Allows m (either m n)
+allows_either m n h = (either_nullable m n).1 (inl h)
+
+-- a type's values are values of the type that is nullable where it or another is
+pub either_values : (t u : Tree) (n : Nullability) (v : Value) → SetNull t (either (nullability t) n) u → Of v t → Of v u
+either_values t u n v e o = of_set t u (either (nullability t) n) e (allows_either (nullability t) n) v o
 
 -- null is a value of it where one of the two is nullable
 pub null_of_either : (t u : Tree) (m n : Nullability) → SetNull t (either m n) u → Of null_value u ↔ ((m ≡ Nullable) ⊎ (n ≡ Nullable))

@@ -2,11 +2,12 @@
 -- SPDX-FileCopyrightText: Copyright the Vortex contributors
 
 -- Validity of types, by that of their parts.
-use Rattle.std.proofs.Common.{◌≡◌, ℕ, zero, suc, List, [], ◌∷◌, ◌++◌, map, Bool, true, false, cond, Option, Some, IfSome, slice_get, ◌<◌, ◌^◌, ap, sym, subst, ◌∙◌, Bor}
+use Rattle.std.proofs.Common.{◌≡◌, inl, inr, ℕ, zero, suc, List, [], ◌∷◌, ◌++◌, map, Bool, Option, Some, IfSome, slice_get, ◌<◌, ◌^◌, ap, sym, subst, ◌∙◌, Bor}
 use Rattle.std.specs.Prelude.{remove}
 use Rattle.std.specs.List.{All, AllByRecursion, zip}
 use Rattle.std.specs.Str.{bytes_eq}
-use Rattle.std.proofs.lemmas.List.Elements.{All-from_recursion, recursion_from_All}
+use Rattle.std.proofs.lemmas.List.Elements.{All-from_recursion, All-map, recursion_from_All}
+use Rattle.std.proofs.lemmas.Bool.{cases_cond}
 use Rattle.std.proofs.lemmas.Option.{same_Some}
 use Rattle.dtype_base.specs.declared.nullability.Nullability.{Nullability}
 use Rattle.dtype_base.specs.declared.nullability.Nullability.TheVariants.{NonNullable}
@@ -82,11 +83,9 @@ valid_removed (p ∷ ps) (suc i) h = (h.0, valid_removed ps i h.1)
 
 valid_named : (ps : List (List ℕ × Tree)) (n : List ℕ) (t : Tree) → ValidItems (fields ps) → Some t ≡ first_named ps n → Valid t
 valid_named [] n t h e = cc
-valid_named (p ∷ ps) n t h e = go (bytes_eq p.0 n) e (λ f. valid_named ps n t h.1 f)
-  where
-    go : (b : Bool) → Some t ≡ cond b (Some p.1) (first_named ps n) → (Some t ≡ first_named ps n → Valid t) → Valid t
-    go true e later = subst Valid (same_Some p.1 t (sym e)) h.0
-    go false e later = later e
+valid_named (p ∷ ps) n t h e =
+    elim (cases_cond (bytes_eq p.0 n) (Some p.1) (first_named ps n) (Some t) e)
+    [ inl is ↦ subst Valid (same_Some p.1 t (sym is)) h.0 | inr later ↦ valid_named ps n t h.1 later ]
 
 pub valid_projected : (ps qs : List (List ℕ × Tree)) (names : List (List ℕ)) → ValidItems (fields ps) → map (λ (q : List ℕ × Tree). Some q.1) qs ≡ map (first_named ps) names → ValidItems (fields qs)
 valid_projected ps [] names h e = tt
@@ -139,24 +138,18 @@ variant_at_valid u i t e h = valid_variant_of (variant_list u) i t e h.1
 pub variant_named_valid : (u : UnionVariants) (n : List ℕ) (t : Tree) → variant_named (variant_list u) n ≡ Some t → Valid (union_tree u) → Valid t
 variant_named_valid u n t e h = valid_by_name (variant_list u) n t h.1 (sym e)
 
--- all types of fields, and of variants
-field_types_each : (fs : List (List ℕ × Tree)) → ValidItems (fields fs) → AllByRecursion Valid (field_types fs)
-field_types_each [] h = tt
-field_types_each (p ∷ ps) h = (h.0, field_types_each ps h.1)
-
-pub field_types_valid : (s : StructFields) → Valid (struct_tree s) → All Valid (field_types (children s))
-field_types_valid s h = All-from_recursion Valid (field_types (children s)) (field_types_each (children s) h)
-
-pub variant_types_valid : (u : UnionVariants) → Valid (union_tree u) → All Valid (variant_types (variant_list u))
-variant_types_valid u h =
-    let vs = variant_list u in
-    subst (All Valid) (untagged_types vs) (All-from_recursion Valid (field_types (untagged vs)) (field_types_each (untagged vs) (untagged_valid vs h.1)))
-
+-- all types of fields, and of variants, in what holds them and as trees
 pub pairs_valid : (s : StructFields) → Valid (struct_tree s) → All (λ p. Valid (tree p.1)) (struct_pairs s)
 pairs_valid s h = All-from_recursion (λ p. Valid (tree p.1)) (struct_pairs s) (each_pair (struct_pairs s) h)
 
 pub triples_valid : (u : UnionVariants) → Valid (union_tree u) → All (λ p. Valid (tree p.1.0)) (union_triples u)
 triples_valid u h = All-from_recursion (λ p. Valid (tree p.1.0)) (union_triples u) (each_triple (union_triples u) h.1)
+
+pub field_types_valid : (s : StructFields) → Valid (struct_tree s) → All Valid (field_types (children s))
+field_types_valid s h = All-map Valid (λ p. p.1) (children s) (All-map (λ p. Valid p.1) _ (struct_pairs s) (pairs_valid s h))
+
+pub variant_types_valid : (u : UnionVariants) → Valid (union_tree u) → All Valid (variant_types (variant_list u))
+variant_types_valid u h = All-map Valid (λ p. p.1.0) (variant_list u) (All-map (λ p. Valid p.1.0) _ (union_triples u) (triples_valid u h))
 
 -- the struct of valid types
 zip_valid : (ns : List (List ℕ)) (ds : List DType) → AllByRecursion (λ d. Valid (tree d)) ds → ValidItems (fields (zip ns (map tree ds)))

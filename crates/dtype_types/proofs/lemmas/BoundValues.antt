@@ -93,7 +93,8 @@ abbrev At_tag : Variants → ℕ → Type 0
 At_tag ds g = (c : Tree) × Valid c × ((v : Value) → VariantOf g v ds → Of v c) × ((v : Value) → Of v c → VariantOf g v ds)
 
 at_tag : (ds : Variants) → OwnTags ds → (g : ℕ) (z : Value) → VariantOf g z ds → At_tag ds g
-at_tag (item m t k ds) x g z (inl o) = (t, x.0, λ v p. value_of_first k k v m t ds x.1 (subst (λ h. VariantOf h v (item m t k ds)) o.0 p), λ v p. inl (o.0, p))
+at_tag (item m t k ds) x g z (inl o) =
+    (t, x.0, λ v p. value_of_first k k v m t ds x.1 (subst (λ h. VariantOf h v (item m t k ds)) o.0 p), λ v p. inl (o.0, p))
 at_tag (item m t k ds) x g z (inr o) =
     let rest = at_tag ds x.2 g z o in
     (rest.0, rest.1, λ v p. elim p [ inl q ↦ absurd (absent k ds x.1 g z q.0 o) | inr q ↦ rest.2 v q ], λ v p. inr (rest.3 v p))

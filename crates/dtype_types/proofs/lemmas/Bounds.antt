@@ -113,7 +113,8 @@ module _ {A : Relation} {r : Rule} (bounds : Bounds A r) where
   pub after_more : (a b c : Tree) → InOrder A a b → InOrder A b c → InOrder A a c
   after_more a b c h k =
       let e = h.0 ∙ k.0 in
-      (e, subst (Wherever A a) (sym (first_is c b (sym k.0))) (of_three (Turned A) Any A A (λ m n. m) (λ l m n o p q. bounds.goes_on l n m q o) a c b (turned A b c k.0 k.1) (any a c e) h.1))
+      let more = of_three (Turned A) Any A A (λ m n. m) (λ l m n o p q. bounds.goes_on l n m q o) a c b (turned A b c k.0 k.1) (any a c e) h.1 in
+      (e, subst (Wherever A a) (sym (first_is c b (sym k.0))) more)
 
   pub equal_in_order : (a b : Tree) → InOrder A a b → InOrder A b a → a ≡ b
   equal_in_order a b h k = equal_by A A bounds.only a b h.0 h.1 k.1

@@ -116,7 +116,8 @@ pub merged_least : (a b c : Tree) → merged a b ≡ Some c → IsLeastAbove a b
 merged_least a b c = under_is either a b c (IsLeastAbove a b) (least_either a b)
 
 pub merged_valid : (a b c : Tree) → merged a b ≡ Some c → Valid a → Valid b → Valid c
-merged_valid a b c = under_is either a b c (λ c. Valid a → Valid b → Valid c) (λ e h k. valid_merge either (Unit {0}) (λ n same. ap (either NonNullable) (same tt)) refl a b e h (λ _. k))
+merged_valid a b c = under_is either a b c (λ c. Valid a → Valid b → Valid c)
+    (λ e h k. valid_merge either (Unit {0}) (λ n same. ap (either NonNullable) (same tt)) refl a b e h (λ _. k))
 
 pub values_first : (a b c : Tree) → merged a b ≡ Some c → IncludedIn a c
 values_first a b c e = sub_values a c (merged_least a b c e).first
@@ -171,7 +172,8 @@ pub intersected_associates : (a b c : Tree) → option_and_then (λ x. intersect
 intersected_associates = under_associates downwards
 
 pub intersected_valid : (a b c : Tree) → intersected a b ≡ Some c → Valid a → Valid c
-intersected_valid a b c = under_is both a b c (λ c. Valid a → Valid c) (λ e h. valid_merge both ⊥ (λ n _. refl) refl a b e h (λ z. absurd z))
+intersected_valid a b c = under_is both a b c (λ c. Valid a → Valid c)
+    (λ e h. valid_merge both ⊥ (λ n _. refl) refl a b e h (λ z. absurd z))
 
 pub intersected_valid_second : (a b c : Tree) → intersected a b ≡ Some c → Valid b → Valid c
 intersected_valid_second a b c e = intersected_valid b a c (intersected_commutes b a ∙ e)

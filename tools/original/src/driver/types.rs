@@ -92,33 +92,56 @@ impl Argument for DType {
         if line.rest().strip_prefix("decimal").is_some_and(|rest| rest.trim_start_matches(is_blank).starts_with('(')) {
             return Ok(DType::Decimal(DecimalDType::read(line)?, mark(line)));
         }
-        for (kind, read) in PARTED {
-            if line.eat(kind) {
-                line.blanks();
-                return read(line);
-            }
+        if let Some(kind) = ["list(", "fixed_size_list(", "map(", "union("].into_iter().find(|it| line.eat(it)) {
+            line.blanks();
+            return parted(line, kind);
         }
         let word = line.name(true)?;
         if line.eat("[") {
             line.blanks();
-            return extension(line, &word);
+            let Bytes(metadata) = line.before("]")?;
+            line.sign("(")?;
+            return Ok(DType::Extension(ForeignExtDType::from_parts(ExtId::new(&word), metadata, inner(line, ")")?)?));
         }
-        let plain = PLAIN.into_iter().find(|(it, _)| *it == word).map(|(_, make)| make);
-        let ptype = || PTYPES.into_iter().find(|it| it.to_string() == word);
-        match plain {
-            _ if word == "null" => Ok(DType::Null),
-            Some(make) => Ok(make(mark(line))),
-            None => Ok(DType::Primitive(line.found(at, ptype())?, mark(line))),
-        }
+        Ok(match word.as_str() {
+            "null" => DType::Null,
+            "bool" => DType::Bool(mark(line)),
+            "utf8" => DType::Utf8(mark(line)),
+            "binary" => DType::Binary(mark(line)),
+            "variant" => DType::Variant(mark(line)),
+            _ => DType::Primitive(line.found(at, PTYPES.into_iter().find(|it| it.to_string() == word))?, mark(line)),
+        })
     }
 }
 
-const PLAIN: [(&str, fn(Nullability) -> DType); 4] =
-    [("bool", DType::Bool), ("utf8", DType::Utf8), ("binary", DType::Binary), ("variant", DType::Variant)];
-
-/// The kinds with parts in round brackets.
-const PARTED: [(&str, fn(&mut Line) -> Answer<DType>); 4] =
-    [("list(", list), ("fixed_size_list(", fixed_size_list), ("map(", map), ("union(", union)];
+/// The rest of a type of a kind with parts in round brackets.
+fn parted(line: &mut Line, kind: &str) -> Answer<DType> {
+    Ok(match kind {
+        "list(" => DType::List(Arc::new(inner(line, ")")?), mark(line)),
+        "fixed_size_list(" => {
+            let element = Arc::new(inner(line, ")")?);
+            line.sign("[")?;
+            DType::FixedSizeList(element, line.before("]")?, mark(line))
+        }
+        "map(" => {
+            let (key, value) = (inner(line, ",")?, inner(line, ",")?);
+            line.sign("keys_sorted")?;
+            line.sign("=")?;
+            let sorted = line.before(")")?;
+            DType::Map(MapDType::try_new(key, value, sorted)?, mark(line))
+        }
+        _ => {
+            let variants = if line.has(")") { Vec::new() } else { line.several(variant)? };
+            if !variants.is_empty() {
+                line.sign(")")?;
+            }
+            let (names, (types, tags)): (Vec<_>, (_, Vec<Option<u8>>)) = variants.into_iter().unzip();
+            // (a variant without a tag has its place as its tag)
+            let tags = tags.into_iter().enumerate().map(|(place, tag)| tag.unwrap_or(place as u8)).collect();
+            DType::Union(UnionVariants::try_new(names.into(), types, tags)?, mark(line))
+        }
+    })
+}
 
 /// The nullability that stands behind a type.
 fn mark(line: &mut Line) -> Nullability {
@@ -133,51 +156,12 @@ fn field(line: &mut Line) -> Answer<(FieldName, DType)> {
     Ok((line.before("=")?, DType::read(line)?))
 }
 
-fn list(line: &mut Line) -> Answer<DType> {
-    Ok(DType::List(Arc::new(inner(line, ")")?), mark(line)))
-}
-
-fn fixed_size_list(line: &mut Line) -> Answer<DType> {
-    let element = Arc::new(inner(line, ")")?);
-    line.sign("[")?;
-    Ok(DType::FixedSizeList(element, line.before("]")?, mark(line)))
-}
-
-fn map(line: &mut Line) -> Answer<DType> {
-    let (key, value) = (inner(line, ",")?, inner(line, ",")?);
-    line.sign("keys_sorted")?;
-    line.sign("=")?;
-    let sorted = line.before(")")?;
-    Ok(DType::Map(MapDType::try_new(key, value, sorted)?, mark(line)))
-}
-
-/// The name of a variant, its tag if there is one, and its type.
-type Variant = ((FieldName, Option<u8>), DType);
-
-fn variant(line: &mut Line) -> Answer<Variant> {
+/// The name of a variant, its type, and its tag if there is one.
+fn variant(line: &mut Line) -> Answer<(FieldName, (DType, Option<u8>))> {
     let name = FieldName::read(line)?;
     let tag = if line.has("@") { Some(line.number()?) } else { None };
     line.sign("=")?;
-    Ok(((name, tag), line.inside(DType::read, None)?))
-}
-
-/// A variant without a tag has its place as its tag.
-fn union(line: &mut Line) -> Answer<DType> {
-    let variants = if line.has(")") { Vec::new() } else { line.several(variant)? };
-    if !variants.is_empty() {
-        line.sign(")")?;
-    }
-    let (heads, types): (Vec<_>, Vec<DType>) = variants.into_iter().unzip();
-    let tags = heads.iter().enumerate().map(|(place, (_, tag))| tag.unwrap_or(place as u8)).collect();
-    let names = heads.into_iter().map(|(name, _)| name).collect();
-    Ok(DType::Union(UnionVariants::try_new(names, types, tags)?, mark(line)))
-}
-
-fn extension(line: &mut Line, id: &str) -> Answer<DType> {
-    let Bytes(metadata) = line.before("]")?;
-    line.sign("(")?;
-    let storage = inner(line, ")")?;
-    Ok(DType::Extension(ForeignExtDType::from_parts(ExtId::new(id), metadata, storage)?))
+    Ok((name, (line.inside(DType::read, None)?, tag)))
 }
 
 /// The answer to a line that has none by a call, as one that can't be read or an error.

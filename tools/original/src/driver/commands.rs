@@ -135,10 +135,6 @@ fn broken(command: &str) -> Answer {
     stop(condition.map_or("the original panicked".to_owned(), |(it, _)| format!("condition: {it}")))
 }
 
-fn copy<T: Clone>(it: T) -> T {
-    it.clone()
-}
-
 fn are_equal<T: PartialEq>((a, b): (T, T)) -> bool {
     a == b
 }
@@ -181,8 +177,6 @@ macro_rules! tests {
 /// What is answered alike of values of different types.
 fn add_alike(c: &mut Console) {
     alike!(c, identity: type DType, name FieldName, message pb::DType, path FieldPath, mask FieldMask, ptype PType);
-    alike!(c, copy: copy DType, fields_copy StructFields, variants_copy UnionVariants, map_copy MapDType, names_copy
-        FieldNames, extension_copy ExtDTypeRef, path_copy FieldPath);
     alike!(c, Text: text DType, nullability_text Nullability, fields_text StructFields, variants_text UnionVariants,
         map_text MapDType, name_text FieldName, names_text FieldNames, extension_text ExtDTypeRef, path_text
         FieldPath, step_text Field, decimal_text DecimalDType);
@@ -199,7 +193,7 @@ fn add_types(c: &mut Console) {
         into_list_element_opt, as_fixed_size_list_element_opt, into_fixed_size_list_element_opt,
         as_any_size_list_element_opt, into_any_size_list_element_opt, as_map_opt, into_map_opt, as_struct_fields_opt,
         into_struct_fields_opt, as_struct_fields, into_struct_fields, as_union_variants_opt, into_union_variants_opt,
-        as_extension_opt, as_extension);
+        as_extension_opt, as_extension, copy = clone);
     calls! { c:
         element_size(dtype: DType) element_size(&dtype);
         to_decimal(dtype: DType) same(DecimalDType::try_from(&dtype)?, DecimalDType::try_from(dtype)?);
@@ -263,13 +257,13 @@ fn insides(a: &DType, b: &DType, how: &str) -> Answer<bool> {
 
 fn add_structs(c: &mut Console) {
     methods!(c, StructFields: names, nfields, field_name(usize), find(FieldName), field(FieldName),
-        field_by_index(usize), without_field(usize));
+        field_by_index(usize), without_field(usize), fields_copy = clone);
     methods!(c, UnionVariants: variant_names = names, variants_len = len, variants_is_empty = is_empty, is_consecutive,
         find_variant = find(FieldName), variant(FieldName), variant_by_index(usize), tag_to_child_index(u8),
-        child_index_to_tag(usize));
-    methods!(c, MapDType: keys_sorted, key_dtype, value_dtype, entries_dtype);
+        child_index_to_tag(usize), variants_copy = clone);
+    methods!(c, MapDType: keys_sorted, key_dtype, value_dtype, entries_dtype, map_copy = clone);
     methods!(c, FieldNames: names_len = len, names_is_empty = is_empty, names_get = get(usize),
-        names_find = find(FieldName));
+        names_find = find(FieldName), names_copy = clone);
     calls! { c:
         struct_new(names: FieldNames, types: Vec<DType>) StructFields::new(names, types);
         struct_from_fields(names: FieldNames, types: Vec<DType>) {
@@ -303,7 +297,7 @@ fn add_structs(c: &mut Console) {
 
 fn add_extensions(c: &mut Console) {
     methods!(c, ExtDTypeRef: storage_dtype, extension_nullability = nullability, extension_is_nullable = is_nullable,
-        extension_with_nullability = with_nullability(Nullability));
+        extension_with_nullability = with_nullability(Nullability), extension_copy = clone);
     methods!(c, Session: allows_unknown);
     typed!(c, "x.tag": tag_new tag_downcast tag_with_nullability);
     typed!(c, "x.word": word_new word_downcast word_with_nullability);
@@ -350,7 +344,7 @@ fn deserialized(session: Session, id: ExtId, metadata: Vec<u8>, storage: DType) 
 }
 
 fn add_paths(c: &mut Console) {
-    methods!(c, FieldPath: is_root, step_into);
+    methods!(c, FieldPath: is_root, step_into, path_copy = clone);
     methods!(c, Field: is_named);
     methods!(c, FieldMask: mask_step_into = step_into, starting_field, matches_all, matches_root);
     calls! { c:
@@ -385,10 +379,10 @@ fn add_paths(c: &mut Console) {
 
 /// Does this for the native type of this name, as `T`.
 macro_rules! of_named {
-    ($name:expr, $t:ident => $body:expr, $($native:ty)*) => {
+    ($name:expr, ($($native:ty)*), $body:expr) => {
         match $name {
             $(stringify!($native) => {
-                type $t = $native;
+                type T = $native;
                 $body
             })*
             name => stop(format!("no such native type: {name}")),
@@ -400,14 +394,8 @@ macro_rules! of_named {
 macro_rules! of_natives {
     ($console:ident, $natives:tt: $($command:ident($($given:ident: $taken:ty),*) $answer:expr;)*) => {
         $($console.add(stringify!($command), |(name, $($given,)*): (Integer, $($taken,)*)| -> Answer {
-            of_natives!(@natives $natives name.0, T => $answer.told())
+            of_named!(name.0, $natives, $answer.told())
         });)*
-    };
-    (@natives (decimals) $name:expr, $t:ident => $body:expr) => {
-        of_named!($name, $t => $body, i8 i16 i32 i64 i128)
-    };
-    (@natives (integers) $name:expr, $t:ident => $body:expr) => {
-        of_named!($name, $t => $body, u8 u16 u32 u64 i8 i16 i32 i64)
     };
 }
 
@@ -438,7 +426,7 @@ arguments! {
             "String" => wrapped::<String>(&around),
             "&str" => wrapped::<&str>(&around),
             "&[u8]" => wrapped::<&[u8]>(&around),
-            base => of_named!(base, T => wrapped::<T>(&around), u8 u16 u32 u64 i8 i16 i32 i64 f16 f32 f64 bool),
+            base => of_named!(base, (u8 u16 u32 u64 i8 i16 i32 i64 f16 f32 f64 bool), wrapped::<T>(&around)),
         };
         let dtype = dtype.or_else(|_| line.fail(at))?;
         for _ in around.matches('<') {
@@ -488,7 +476,7 @@ fn native<T: TryFrom<i128>>(value: i128) -> Answer<T> {
 }
 
 fn add_natives(c: &mut Console) {
-    of_natives! { c, (decimals):
+    of_natives! { c, (i8 i16 i32 i64 i128):
         precision_scale(p: u8, s: i8) PrecisionScale::<T>::try_new(p, s).map(Text);
         precision_scale_from(decimal: DecimalDType) {
             let parts = PrecisionScale::<T>::try_from(&decimal)?;
@@ -499,7 +487,7 @@ fn add_natives(c: &mut Console) {
         by_precision(at: usize) format!("{} {}", T::MIN_BY_PRECISION[at], T::MAX_BY_PRECISION[at]);
         native_decimal() format!("{} {} {} {}", T::DECIMAL_TYPE, T::MAX_PRECISION, T::MAX_SCALE, T::DECIMAL_TYPE);
     }
-    of_natives! { c, (integers):
+    of_natives! { c, (u8 u16 u32 u64 i8 i16 i32 i64):
         to_le_bytes(value: i128) Bytes(native::<T>(value)?.to_le_bytes().to_vec());
         try_from_le_bytes(bytes: Bytes) T::try_from_le_bytes(&bytes.0).map(Text);
         total_compare(a: i128, b: i128) native::<T>(a)?.total_compare(native(b)?);

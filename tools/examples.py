@@ -6,9 +6,9 @@ it, else the first of them that is short, with its answer; and the first that is
 tools/pages that something runs each public call that allocates: a contract lets a call return OutOfMemory for any
 input, so only a run shows that it succeeds.
 
-tools/data/run_by has, each with the calls that it runs, the commands of the console that are called otherwise than
-their call (an impl is named by its trait and its type), and where none makes a call a test by its path, or another call
-that is run, in whose crate the call is made."""
+tools/data/run_by has, each with the calls that it runs, the commands of the console that aren't called as OWNERS and
+NAMED have it (an impl is named by its trait and its type), and where none makes a call a test by its path, or another
+call that is run, in whose crate the call is made."""
 import re
 from collections import defaultdict
 
@@ -19,13 +19,18 @@ TRANSCRIPT = "crates/dtype_console/stdout"
 RUN_BY = "tools/data/run_by"
 SHORT = 90
 
-# By topic, the type whose call a command makes where it has the call's name.
+# The type whose call a command makes, by its topic, or by what stands before the call's name.
 OWNERS = {
     "comparisons": "DType", "decimals": "DecimalDType", "extensions": "ExtDTypeRef", "maps": "MapDType",
     "masks": "FieldMask", "messages": "", "names": "FieldNames", "native": "NativePType", "paths": "FieldPath",
     "primitives": "PType", "sessions": "DTypeSession", "sets": "FieldPathSet", "structs": "StructFields",
     "types": "DType", "unions": "UnionVariants",
+    "extension_": "ExtDTypeRef", "fields_": "StructFields", "map_": "MapDType", "mask_": "FieldMask",
+    "name_": "FieldName", "names_": "FieldNames", "nullability_": "Nullability", "path_": "FieldPath",
+    "struct_": "StructFields", "variants_": "UnionVariants",
 }
+# The calls of commands that are named for what a call does.
+NAMED = {"text": "Display for {}", "eq": "PartialEq for {}", "hash_eq": "Hash for {}", "copy": "{}::try_clone"}
 
 
 def listed():
@@ -39,8 +44,10 @@ def commands():
     """The calls by the commands of the console, each its row."""
     known = listed()
     for row in console_rows():
-        owner = OWNERS.get(row.file.rpartition("/")[2].removesuffix(".rt"), "")
-        yield row, known.get(row.name, [f"{owner}::{row.name}"])
+        owner, name = OWNERS.get(row.file.rpartition("/")[2].removesuffix(".rt"), ""), row.name
+        for it in (it for it in OWNERS if name.startswith(it) and it.endswith("_")):
+            owner, name = OWNERS[it], name.removeprefix(it)
+        yield row, known.get(row.name, [NAMED.get(name, f"{{}}::{name}").format(owner)])
 
 
 def answered():

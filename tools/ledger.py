@@ -96,13 +96,12 @@ def labels_of(function, unnamed="ensures"):
 def read_sources():
     """What the libraries have."""
     found = Sources(defaultdict(set), defaultdict(set), set(), set(), set())
-    every, calls = list(sources(crates_named())), public_calls(crates_named())
+    every, calls = list(sources(crates_named())), [it for _, it in public_calls(crates_named())]
     traits = {it.type for source in every for it in source.owners if it.kind == "trait"}
-    found.silent.update(it.path for _, it in calls)
-    for _, it in calls:
+    found.silent.update({it.path for it in calls} - {it.path for it in calls if not is_silent(it, calls)})
+    for it in calls:
         found.calls[it.path] |= labels_of(it) | {member.name for member in (it.owner.members if it.owner else ())}
         found.clauses.update(("clause", it.path, label) for label in labels_of(it, ""))
-        found.silent.difference_update(() if is_silent(it, [call for _, call in calls]) else (it.path,))
         # (not a debug text, nor what only fills in a trait of ours)
         trait = it.owner.trait if it.owner and it.owner.kind == "impl" else ""
         if trait != "Debug" and (trait not in traits or it.clauses):
@@ -113,14 +112,14 @@ def read_sources():
             found.names.add(("law", law))
             found.clauses.update(("clause", law, label) for label in labels_of(it, ""))
     for source in every:
-        read_rest(source, "pb::" if source.crate == "dtype_messages" else "", found)
+        read_rest(source, found)
     return found
 
 
-def read_rest(source, messages, found):
+def read_rest(source, found):
     """Ghost members, what is derived, constants and macros; of a constant whether a library exports it, or a public
     type has it."""
-    public = given_out(source.crate)[0]
+    public, messages = given_out(source.crate)[0], "pb::" * (source.crate == "dtype_messages")
     for owner in source.owners:
         members = {it.name for it in owner.members}
         found.calls[messages + owner.type] |= members

@@ -174,6 +174,12 @@ def end_of(shape, start, pair=r"([(\[{])|[)\]}]"):
     return len(shape)
 
 
+def signature_of(text):
+    """A signature, or a line of a contract, on one line."""
+    text = re.sub(r",? ?\)", ")", re.sub(r"\( ", "(", " ".join(text.split())))
+    return text.replace("(mut self", "(self")
+
+
 def blanks(text):
     return re.sub(r"[^\n]", " ", text)
 

@@ -117,8 +117,7 @@ def read_sources():
 
 
 def read_rest(source, found):
-    """Ghost members, what is derived, constants and macros; of a constant whether a library exports it, or a public
-    type has it."""
+    """Ghost members, what is derived, macros, and constants, which are public where they or their type are."""
     public, messages = given_out(source.crate)[0], "pb::" * (source.crate == "dtype_messages")
     for owner in source.owners:
         members = {it.name for it in owner.members}
@@ -297,8 +296,7 @@ UNEXPLAINED = re.compile(r"\.specs\.declared\.|Laws$")
 
 
 def check_glossary():
-    """How many words the glossary explains, which of them its files don't define, and the definitions named by file
-    that it explains."""
+    """How many words the glossary explains, those that its files don't define, and each with its file."""
     crate, count, faults, explained = "", 0, [], set()
     for number, line in enumerate(text_of(GLOSSARY).splitlines(), 1):
         crate = line.strip("# `") if line.startswith("## ") else crate

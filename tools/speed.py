@@ -70,11 +70,7 @@ def faults():
         yield PAGE, f"its summary isn't of {TABLE}: run tools/speed.py"
 
 
-def main():
-    text = SUMMARY.sub(summary()[0], text_of(PAGE))
-    with open(PAGE, "w", encoding="utf-8") as it:
-        it.write(text)
-
-
 if __name__ == "__main__":
-    main()
+    changed = SUMMARY.sub(summary()[0], text_of(PAGE))
+    with open(PAGE, "w", encoding="utf-8") as page:
+        page.write(changed)

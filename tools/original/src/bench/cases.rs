@@ -18,8 +18,7 @@ use crate::meter::Meter;
 /// The greatest set whose cover is measured where no path begins another.
 const GREATEST_COVER: usize = 1000;
 
-/// What is done to types of every shape. Which two are compared depends on the earlier results, so that no comparison
-/// can start before them.
+/// What is done to types of every shape. Which two are compared depends on earlier results, so that none starts early.
 pub fn types(meter: &Meter, types: &Types) {
     let of = &types.of;
     meter
@@ -43,8 +42,7 @@ fn used(dtype: DType) -> usize {
     black_box(dtype).is_struct().into()
 }
 
-/// The least type that takes the values of both, or `None` where they differ in more than nullability. A copy, where
-/// one of the two is that type.
+/// The least type that takes the values of both, or `None` where they differ in more. A copy, where one is it.
 fn merged(a: &DType, b: &DType) -> Option<DType> {
     if a == b {
         return Some(a.clone());

@@ -15,8 +15,7 @@ pub fn name_of(what: impl Display, count: usize) -> String {
     format!("/{what}/{count}")
 }
 
-/// The shape of a type: a struct of so many fields, or structs of one field, lists, fixed-size lists of size 1 or
-/// extensions, nested so deep.
+/// The shape of a type: a struct of so many fields, or structs of one, lists, lists of size 1, extensions so deep.
 #[derive(Clone, Copy, Debug, PartialEq)]
 pub enum Shape {
     Wide,

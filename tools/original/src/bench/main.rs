@@ -6,8 +6,7 @@
 //! of one operation, the least and the median of fifteen rounds.
 //!
 //! It leaves out `project_paths` and `project_by_hand`, which the original doesn't have, merges of extensions, which it
-//! has no door for, and the covers of large path sets, which it finds by comparing all paths. Other merges are done by
-//! hand, since it has no call for them.
+//! has no door for, and the covers of large path sets, which it finds by comparing all paths. It merges by hand.
 
 mod cases;
 mod fixture;

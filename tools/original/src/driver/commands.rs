@@ -15,23 +15,11 @@ use vortex_array::dtype::extension::{ExtDTypeRef, ExtId, ForeignExtDType};
 use vortex_array::dtype::proto::dtype as pb;
 use vortex_array::dtype::proto::dtype::d_type::DtypeType;
 use vortex_array::dtype::session::DTypeSessionExt;
-use vortex_array::dtype::{
-    DType, DecimalDType, DecimalType, Field, FieldDType, FieldMask, FieldName, FieldNames, FieldPath, FieldPathSet,
-    IntegerPType, MAX_PRECISION, MAX_SCALE, MapDType, NativeDType, NativeDecimalType, NativePType, Nullability, PType,
-    PhysicalPType, PrecisionScale, StructFields, TryFromBytes, UnionVariants, half::f16,
-};
-use vortex_array::{
-    match_each_float_ptype, match_each_integer_ptype, match_each_native_ptype, match_each_native_simd_ptype,
-    match_each_signed_integer_ptype, match_each_unsigned_integer_ptype, match_smallest_list_offset_type,
-    match_smallest_offset_type,
-};
+use vortex_array::dtype::{half::f16, *};
 
 use crate::line::{Argument, Bytes, Line, arguments};
 use crate::living::{Living, Plugin, Session, cover, session, set};
-use crate::models::{
-    bound, can_be_nonnullable, comparisons, element_size, is_subset, project, project_paths, read, resolve,
-    starts_with_field, visits,
-};
+use crate::models::*;
 use crate::types::{Answer, Id, PTYPES, Stop, Tags, Text, Told, holding, id, joined, paths, several, stop};
 
 type Command = Box<dyn Fn(&mut Line) -> Answer>;
@@ -331,8 +319,7 @@ fn add_extensions(c: &mut Console) {
     }
 }
 
-/// The extension that a session makes of its parts; of an id that it doesn't know by a message, in which no plugin is
-/// to read the storage's extensions.
+/// The extension that a session makes of its parts; of an unknown id by a message, where no plugin reads the storage.
 fn deserialized(session: Session, id: ExtId, metadata: Vec<u8>, storage: DType) -> Answer<DType> {
     if let Some(plugin) = session.made().dtypes().registry().get(&id) {
         return Ok(DType::Extension(plugin.deserialize(&metadata, storage)?));
@@ -401,8 +388,8 @@ macro_rules! of_natives {
 
 /// Adds commands that name the native type by which the original matches what they take.
 macro_rules! visitors {
-    ($console:ident, $taken:ty: $($command:ident $visit:ident),*) => {
-        $($console.add(stringify!($command), |it: $taken| $visit!(it, |T| { <T as NativePType>::PTYPE }));)*
+    ($console:ident, $of:ty: $($command:ident $visit:ident),*) => {
+        $($console.add(stringify!($command), |it: $of| vortex_array::$visit!(it, |T| { <T as NativePType>::PTYPE }));)*
     };
 }
 

@@ -1,17 +1,13 @@
 // SPDX-License-Identifier: Apache-2.0
 // SPDX-FileCopyrightText: Copyright the Vortex contributors
 
-//! The library's numbers and texts for the original's errors.
-//!
-//! The original's errors have free texts. The library has one kind for each, with a number and a text of its own. The
-//! values in a text are those that the original named.
+//! The library's numbers and texts for the original's errors. The values in a text are those that the original named.
 
 use vortex_error::VortexError;
 
 use crate::types::Stop;
 
-/// The library's texts, by number, and the original's behind ` = ` where they differ; in braces is what the kind
-/// carries.
+/// The library's texts, by number, and the original's behind ` = ` where they differ; in braces what it carries.
 const TEXTS: &str = "\
 out of memory
 decimal precision must be between 1 and {max} (inclusive) = precision cannot be 0, has to be between [1, {max}]

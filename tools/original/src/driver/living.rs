@@ -1,8 +1,7 @@
 // SPDX-License-Identifier: Apache-2.0
 // SPDX-FileCopyrightText: Copyright the Vortex contributors
 
-//! The sets and the sessions that live from line to line: each is the list of what it was given. Sessions know the
-//! extension types of the crate `fixtures_plugins`.
+//! The sets and the sessions that live from line to line, each a list of what it was given, and `fixtures_plugins`.
 
 use std::collections::HashSet;
 use std::fmt;
@@ -98,8 +97,7 @@ pub fn cover(set: FieldPathSet) -> Answer {
     paths(&set.into_iter().collect::<Vec<_>>())
 }
 
-/// What a set of these paths asks for after some steps: whether a path ends there, and the steps by which others go on.
-/// The original has no such call.
+/// What a set of paths asks for after some steps, which the original has no call for: whether one ends, and next steps.
 fn below(items: &[FieldPath], steps: &FieldPath) -> Answer {
     let asked: HashSet<&[Field]> = items.iter().filter_map(|path| path.parts().strip_prefix(steps.parts())).collect();
     if asked.is_empty() && !steps.is_root() {

@@ -1,9 +1,8 @@
 // SPDX-License-Identifier: Apache-2.0
 // SPDX-FileCopyrightText: Copyright the Vortex contributors
 
-//! What the library answers where the original doesn't answer it: by a plain model of calls that the original doesn't
-//! have, or, where the library departs from it (docs/DIFFERENCES.md), by a rule with its reason. Everything beside the
-//! departure is still asked of the original.
+//! What the library answers where the original doesn't answer it: by a plain model of calls that it doesn't have, or,
+//! where the library departs from it (docs/DIFFERENCES.md), by a rule with its reason. All else is the original's.
 
 use std::collections::HashSet;
 use std::panic::{self, AssertUnwindSafe};
@@ -46,8 +45,7 @@ pub fn is_subset(a: &DType, b: &DType) -> bool {
 
 /// The original multiplies unchecked, and panics where a sum is too large. Here a variable part that the size needs
 /// gives none, at size 0 too; else a width of the whole or of a part beyond `usize` is the error 19. Widths of types
-/// without parts are the original's, and so is each answer where nothing, no sum before a variable field among it, is
-/// too wide.
+/// without parts are the original's, and so is each answer where nothing, no sum before a variable field too, is wider.
 pub fn element_size(dtype: &DType) -> Answer<Option<usize>> {
     fn width(dtype: &DType, widest: &mut u128) -> Option<u128> {
         let total = match dtype {
@@ -74,8 +72,7 @@ pub fn element_size(dtype: &DType) -> Answer<Option<usize>> {
     total.map_or(Ok(None), |_| Err(refused(19, &[])))
 }
 
-/// The original's element step gives none at a fixed-size list; here it gives the element, at every size, as the
-/// documentation of `Field::ElementType` says.
+/// The original's element step gives none at a fixed-size list; here the element, as `Field::ElementType` documents.
 pub fn resolve(path: &FieldPath, dtype: &DType) -> Option<DType> {
     path.resolve(dtype.clone()).or_else(|| {
         let elements = path.parts().iter().enumerate().filter(|(_, step)| !step.is_named());
@@ -116,8 +113,7 @@ pub fn visits(cover: &[FieldPath]) -> usize {
 
 /// The original looks at one name after the other, and counts nothing. Here a search by halves compares the same number
 /// of names for every name, which the definition `comparisons` of `dtype_base/specs/Comparisons.antt` fixes: the binary
-/// digits of the number of names less one tell which of them is left, and one comparison more whether it is the one
-/// that is looked for.
+/// digits of the number of names less one tell which of them is left, and one comparison more whether it is the name.
 pub fn comparisons(count: usize) -> u32 {
     count.checked_sub(1).map_or(0, |most| usize::BITS - most.leading_zeros() + 1)
 }

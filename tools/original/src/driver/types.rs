@@ -1,8 +1,7 @@
 // SPDX-License-Identifier: Apache-2.0
 // SPDX-FileCopyrightText: Copyright the Vortex contributors
 
-//! Types, names and paths as arguments, and all answers as the console writes them (docs/CONSOLE.md). The original
-//! refuses the types that can't be made, as they are met.
+//! Types, names and paths as arguments, which the original makes or refuses, and answers as the console writes them.
 
 use std::cmp::Ordering;
 use std::fmt::Display;
@@ -10,10 +9,7 @@ use std::sync::Arc;
 
 use vortex_array::dtype::extension::{ExtDTypeRef, ExtId, ForeignExtDType};
 use vortex_array::dtype::proto::dtype as pb;
-use vortex_array::dtype::{
-    DType, DecimalDType, DecimalType, Field, FieldMask, FieldName, FieldNames, FieldPath, MapDType, Nullability, PType,
-    StructFields, UnionVariants,
-};
+use vortex_array::dtype::*;
 
 use crate::line::{Argument, Bytes, Line, arguments, is_bare, is_blank};
 

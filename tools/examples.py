@@ -20,15 +20,13 @@ RUN_BY = "tools/data/run_by"
 SHORT = 90
 
 # The type whose call a command makes, by its topic, or by what stands before the call's name.
-OWNERS = {
-    "comparisons": "DType", "decimals": "DecimalDType", "extensions": "ExtDTypeRef", "maps": "MapDType",
-    "masks": "FieldMask", "messages": "", "names": "FieldNames", "native": "NativePType", "paths": "FieldPath",
-    "primitives": "PType", "sessions": "DTypeSession", "sets": "FieldPathSet", "structs": "StructFields",
-    "types": "DType", "unions": "UnionVariants",
-    "extension_": "ExtDTypeRef", "fields_": "StructFields", "map_": "MapDType", "mask_": "FieldMask",
-    "name_": "FieldName", "names_": "FieldNames", "nullability_": "Nullability", "path_": "FieldPath",
-    "struct_": "StructFields", "variants_": "UnionVariants",
-}
+OWNERS = {name: owner for owner, names in {
+    "DType": "comparisons types", "DTypeSession": "sessions", "DecimalDType": "decimals", "FieldName": "name_",
+    "ExtDTypeRef": "extensions extension_", "FieldMask": "masks mask_", "FieldNames": "names names_",
+    "FieldPath": "paths path_", "FieldPathSet": "sets", "MapDType": "maps map_", "NativePType": "native",
+    "Nullability": "nullability_", "PType": "primitives", "StructFields": "structs struct_ fields_",
+    "UnionVariants": "unions variants_",
+}.items() for name in names.split()}
 # The calls of commands that are named for what a call does.
 NAMED = {"text": "Display for {}", "eq": "PartialEq for {}", "hash_eq": "Hash for {}", "copy": "{}::try_clone"}
 

@@ -19,9 +19,8 @@ CONSOLE = "crates/dtype_console/stdin"
 PROGRAM = "dtype_demo"
 
 Line = namedtuple("Line", "number promise calls laws edits tests")
-# What may be named, each with its clauses: calls, and by their types ghost members of traits and impls and what is
-# derived, constants and macros; and laws. What is `silent` promises something by a clause alone. What is to be named:
-# kinds of names with the names, and with a clause.
+# What may be named, with its clauses: calls, by types ghost members and what is derived, constants and macros; and
+# laws. What is `silent` promises something by a clause alone. And what is to be named: kinds with names and clauses.
 Sources = namedtuple("Sources", "calls laws silent names clauses")
 
 HEADING = "| Promise | Calls and clauses | Laws | Mutations | Shown by |"
@@ -59,8 +58,7 @@ def crates_named():
 
 
 def law_of(crate, function):
-    """The name of a law in the ledger, with its module's, or None: a law is a public function of the module `laws`, or
-    of one whose name ends so, or one that `laws` re-exports."""
+    """The name of a law in the ledger, or None: a public function of a module `..laws`, or what `laws` re-exports."""
     laws = f"crates/{crate}/src/laws.rt"
     if function.owner or function.visibility != "pub" or not os.path.exists(laws):
         return None
@@ -78,8 +76,7 @@ def public_calls(crates):
 
 
 def is_silent(function, calls):
-    """Whether a function has no clause, nor is in an impl of a trait of std's, whose ghost members say what it does. A
-    trait's function may leave it to those who fill it in."""
+    """Whether a function has no clause, nor an impl's ghost members. A trait's may leave it to those who fill it in."""
     owner = function.owner
     if any(it.kind == "ensures" for it in function.clauses) or owner and owner.trait and owner.kind == "impl":
         return False

@@ -6,8 +6,7 @@
 impls and traits with their ghost members, what a library exports, and how a check fails. Nothing is compiled: a source
 is read as text, in the layout of `rt fmt`, without comments, texts and ghosts, so that none is taken for code. Who
 imports it works at the top of the repository, begun in the folder FROM. As a program it prints where `rt` is, for
-./test.
-"""
+./test."""
 import os
 import re
 import shutil

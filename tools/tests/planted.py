@@ -66,7 +66,6 @@ class Planted(unittest.TestCase):
 
     @classmethod
     def plant(cls, tool, changes):
-        """Makes a test of each of these changes: a file, what stands there, what stands there instead, and what the
-        tool tells, with LINE for the line that is changed."""
+        """Makes a test of each change: a file, what stands there, what then, what is told, with LINE for its line."""
         for place, change in enumerate(changes):
             setattr(cls, f"test_tells_change_{place}", partialmethod(cls.assert_change_told, tool, *change))

@@ -42,7 +42,7 @@ fn used(dtype: DType) -> usize {
     black_box(dtype).is_struct().into()
 }
 
-/// The least type that takes the values of both, or `None` where they differ in more. A copy, where one is it.
+/// The least type that takes the values of both, a copy where one is it; `None` where more than nullability differs.
 fn merged(a: &DType, b: &DType) -> Option<DType> {
     if a == b {
         return Some(a.clone());
@@ -102,17 +102,12 @@ pub fn messages(meter: &Meter, types: &Types) {
     meter.each("write", &types.of, |i, _| black_box(written(i)).dtype_type.is_some().into());
 }
 
-/// The fields of one of two structs, alternating.
-fn fields_of(types: &[DType; 2], i: usize) -> &StructFields {
-    types[i % 2].as_struct_fields()
-}
-
 /// `find` of one name, and of all.
 pub fn lookups(meter: &Meter, types: &Types) {
     let (count, of) = (types.count, &types.of);
     for (place, at) in [("first", 0), ("middle", count / 2), ("last", count - 1), ("miss", count)] {
         let names = [column(at), column(at)];
-        let find = |i, _| fields_of(&types.types, i).find(&names[i / 2 % 2]).unwrap_or(7);
+        let find = |i, _| types.turn(i).as_struct_fields().find(&names[i / 2 % 2]).unwrap_or(7);
         meter.each(&format!("find/{place}"), of, find);
     }
     find_mixed(meter, of, &types.types, &fixture::texts(WIDE, count));
@@ -120,7 +115,7 @@ pub fn lookups(meter: &Meter, types: &Types) {
 
 /// `find` of all names, shuffled, so that no branch can be predicted.
 pub fn find_mixed(meter: &Meter, of: &str, types: &[DType; 2], texts: &[String]) {
-    let fields = fields_of(types, 0);
+    let fields = types[0].as_struct_fields();
     let repeat = |(), times| {
         let (mut sum, mut seed) = (0usize, 1u64);
         for _ in 0..times {
@@ -138,7 +133,7 @@ pub fn index(meter: &Meter, of: &str, types: &[DType; 2], texts: &[String]) {
     let count = texts.len();
     for (what, most) in [("project", count / 10), ("project_all", count)] {
         let asked = names((0..most).map(|i| &texts[mixed(i, count)]));
-        let project = |i, _| fields_of(types, i).project(&asked).expect("the struct has these names").nfields();
+        let project = |i: usize, _| types[i % 2].as_struct_fields().project(&asked).expect("it has these").nfields();
         meter.each(what, of, project);
     }
     let (names, leaves) = (names(texts), leaves(count));

@@ -53,9 +53,7 @@ pub type Naming = (&'static str, fn(usize, usize) -> String);
 pub const WIDE: Naming = ("wide", |i, _| column(i));
 
 const PREFIXES: [&str; 7] = ["ss_", "ws_", "cs_", "sr_", "c_customer_", "d_date_", "i_item_"];
-
 const WORDS: &str = "sk quantity list_price net_paid ext_discount_amt order_number sales_price promo ship_cost tax";
-
 const PARTS: [&str; 4] = ["name", "version", "namespace", "instance"];
 
 /// The forms that only lookups and index builds are measured with.

@@ -7,10 +7,8 @@ use std::hint::black_box;
 
 /// How long a round is to take, in nanoseconds.
 const ROUND_TIME: u64 = 3_000_000;
-
 /// The greatest number of doublings of the iterations.
 const DOUBLINGS: usize = 32;
-
 const ROUNDS: usize = 15;
 
 /// Measures the cases that were asked for.

@@ -11,7 +11,7 @@ use std::hash::{DefaultHasher, Hash, Hasher};
 use std::panic::{self, AssertUnwindSafe};
 use std::sync::Arc;
 
-use vortex_array::dtype::extension::{ExtDTypeRef, ExtId, ForeignExtDType};
+use vortex_array::dtype::extension::{ExtDTypeRef, ForeignExtDType};
 use vortex_array::dtype::proto::dtype as pb;
 use vortex_array::dtype::proto::dtype::d_type::DtypeType;
 use vortex_array::dtype::session::DTypeSessionExt;
@@ -190,9 +190,7 @@ fn add_types(c: &mut Console) {
         from_ptype(ptype: PType) same(DType::from(ptype), <&DType>::from(ptype).clone());
         list(n: Nullability, element: DType) DType::List(Arc::new(element), n);
         fixed_size_list(n: Nullability, size: u32, element: DType) DType::FixedSizeList(Arc::new(element), size, n);
-        map(n: Nullability, sorted: bool, key: DType, value: DType) {
-            DType::Map(MapDType::try_new(key, value, sorted)?, n)
-        };
+        map(n: Nullability, sorted: bool, key: DType, value: DType) DType::map(key, value, sorted, n);
         struct(n: Nullability, names: FieldNames, types: Vec<DType>) DType::Struct(StructFields::new(names, types), n);
         kinds(dtype: DType) holding(tests!(dtype, is_boolean is_primitive is_unsigned_int is_signed_int is_int is_float
             is_decimal is_utf8 is_binary is_list is_fixed_size_list is_map is_struct is_union is_variant is_extension
@@ -306,9 +304,7 @@ fn add_extensions(c: &mut Console) {
         // (the original's conversion is prost's; what has no name is none)
         pb_from_number(number: i64) usize::try_from(number).ok().and_then(|place| PTYPES.get(place).copied());
         registry(session: Session, id: Id) session.made().dtypes().registry().get(&id.0).is_some();
-        deserialize(session: Session, id: Id, metadata: Bytes, storage: DType) {
-            deserialized(session, id.0, metadata.0, storage)
-        };
+        deserialize(session: Session, id: Id, metadata: Bytes, inner: DType) read_parts(session, id, metadata, inner);
         read(session: Session, message: pb::DType) read(&session.made(), &message);
         normal(session: Session, message: pb::DType) pb::DType::try_from(&read(&session.made(), &message)?);
         round_trip(session: Session, dtype: DType) DType::from_proto(&pb::DType::try_from(&dtype)?, &session.made());
@@ -320,7 +316,7 @@ fn add_extensions(c: &mut Console) {
 }
 
 /// The extension that a session makes of its parts; of an unknown id by a message, where no plugin reads the storage.
-fn deserialized(session: Session, id: ExtId, metadata: Vec<u8>, storage: DType) -> Answer<DType> {
+fn read_parts(session: Session, Id(id): Id, Bytes(metadata): Bytes, storage: DType) -> Answer<DType> {
     if let Some(plugin) = session.made().dtypes().registry().get(&id) {
         return Ok(DType::Extension(plugin.deserialize(&metadata, storage)?));
     }
@@ -487,9 +483,7 @@ fn add_natives(c: &mut Console) {
             let value: T = native(value)?;
             holding([("is_nan", value.is_nan()), ("is_infinite", value.is_infinite())])
         };
-        native_integer() {
-            format!("{} {} {}", T::PTYPE, T::max_value_as_u64(), <T as PhysicalPType>::Physical::PTYPE)
-        };
+        native_integer() format!("{} {} {}", T::PTYPE, T::max_value_as_u64(), <T as PhysicalPType>::Physical::PTYPE);
     }
 }
 

@@ -6,16 +6,12 @@
 use vortex_array::dtype::PType;
 use vortex_array::dtype::proto::dtype::d_type::DtypeType;
 use vortex_array::dtype::proto::dtype::field::FieldType;
-use vortex_array::dtype::proto::dtype::{
-    Binary, Bool, DType, Decimal, Extension, Field, FixedSizeList, List, Map, Null, Primitive, Struct, Union, Utf8,
-    Variant,
-};
+use vortex_array::dtype::proto::dtype::*;
 
 use crate::line::{Argument, Line, arguments, is_blank};
 use crate::types::{Answer, PTYPES, Told, quoted, told};
 
-/// Makes the kinds of messages: the word of each, its type, and its fields as they are written: texts first, then
-/// messages, then the others, whether it is nullable at last.
+/// Makes the kinds of messages: the word of each, its type, and its fields: texts, messages, others, nullable.
 macro_rules! kinds {
     ($($word:literal $kind:ident { $($field:ident),* })*) => {
         /// The word of each kind, and a message of it without fields.

@@ -45,7 +45,7 @@ pub fn is_subset(a: &DType, b: &DType) -> bool {
 
 /// The original multiplies unchecked, and panics where a sum is too large. Here a variable part that the size needs
 /// gives none, at size 0 too; else a width of the whole or of a part beyond `usize` is the error 19. Widths of types
-/// without parts are the original's, and so is each answer where nothing, no sum before a variable field too, is wider.
+/// without parts are the original's, and each answer where nothing is wider, no sum before a variable field either.
 pub fn element_size(dtype: &DType) -> Answer<Option<usize>> {
     fn width(dtype: &DType, widest: &mut u128) -> Option<u128> {
         let total = match dtype {
@@ -85,8 +85,7 @@ pub fn resolve(path: &FieldPath, dtype: &DType) -> Option<DType> {
     })
 }
 
-/// The original panics at the root; here nothing starts with a field there. Of other parts than names the original
-/// panics, and here it is the caller's condition.
+/// The original panics at the root, where here nothing starts with a field. Steps but names are a caller's condition.
 pub fn starts_with_field(path: &FieldPath, step: &Field) -> bool {
     !(path.is_root() && step.is_named()) && path.starts_with_field(step)
 }
@@ -104,8 +103,7 @@ pub fn can_be_nonnullable(dtype: &DType) -> bool {
     panic::catch_unwind(AssertUnwindSafe(|| dtype.as_nonnullable())).is_ok()
 }
 
-/// The original's cover is a loop over pairs of paths. Here it visits each distinct beginning of the paths that it
-/// gives once, the root among them, and nothing below them.
+/// The original's cover compares pairs of paths. Here it visits each beginning of those that it gives, the root too.
 pub fn visits(cover: &[FieldPath]) -> usize {
     let beginnings = cover.iter().flat_map(|path| (1..=path.parts().len()).map(|end| &path.parts()[..end]));
     beginnings.collect::<HashSet<_>>().len() + 1

@@ -2,14 +2,12 @@
 -- SPDX-FileCopyrightText: Copyright the Vortex contributors
 
 -- Laws of sessions: what is registered after a list of calls, what is kept, and what is admitted.
-use Rattle.std.specs.Prelude.{◌≡◌, ◌≢◌, ◌↔◌, ℕ, List, [], ◌∷◌, ◌++◌, Option, Some, None, Bool, true, false, if◌then◌else◌, bytes_eq, cond, refl}
+use Rattle.std.specs.Prelude.{◌≡◌, ◌≢◌, ◌↔◌, ℕ, List, [], ◌∷◌, ◌++◌, Some, None, Bool, true, false, if◌then◌else◌, bytes_eq, refl}
 use Rattle.std.specs.List.{list_any}
 use Rattle.std.proofs.Common.{sym, ap, ◌∙◌, subst, arith}
 use Rattle.std.proofs.lemmas.Bool.{false_from_ne_true}
-use Rattle.std.proofs.lemmas.Option.{option_and_then_some, same_Some}
 use Rattle.std.proofs.lemmas.Slice.Eq.{bytes_eq-Decides}
 use Rattle.dtype_base.specs.declared.nullability.Nullability.{Nullability}
-use Rattle.dtype_base.specs.declared.nullability.Nullability.TheVariants.{NonNullable, Nullable}
 use Rattle.dtype_base.specs.declared.vortex_error.VortexError.{VortexError}
 use Rattle.dtype_types.specs.tree.Kinds.{struct_fields}
 use Rattle.dtype_types.specs.tree.Tree.{Tree, fields, pairs, no_items, item, null, list, fixed_size_list, map_of, struct, union, extension, Holder, Items}
@@ -21,32 +19,34 @@ use Rattle.dtype_types.specs.parts.Lookups.{first_named}
 use Rattle.dtype_types.specs.declared.dtype.DType.TheVariants.{Extension}
 use Rattle.dtype_types.specs.declared.extension.ExtDTypeRef.{ExtDTypeRef}
 use Rattle.dtype_types.specs.nullability.Nullable.{set_null}
-use Rattle.vortex_dtype.specs.Meaning.{Rewrites, Meaning, Lawful, LawfulSession, Bytes, kept, keeps, empty_meaning, register_in, allow_unknown_in, Admits, AdmitsItems}
+use Rattle.vortex_dtype.specs.Meaning.{Rewrites, Meaning, LawfulSession, Bytes, keeps, empty_meaning, register_in, allow_unknown_in, Admits, AdmitsItems}
 use Rattle.vortex_dtype.specs.Errors.{SessionError}
 use Rattle.vortex_dtype.specs.Calls.{Call, register, allow, after, LeavesAlone, is_allow}
 
 -- ---- lists of calls
 
--- a registration under another id changes nothing for this id
-pub register_in-other : (i id : List ℕ) (r : Rewrites) (m : Meaning) → i ≢ id → (register_in i r m).registered id ≡ m.registered id
+-- a registration gives its id the plugin's meaning, and changes nothing for another id
+pub registered_register_in : (m n : Meaning) (i : List ℕ) (r : Rewrites) → n ≡ register_in i r m → n.registered i ≡ Some r
 unfolding register_in
-register_in-other i id r m other =
-    ap (λ (b : Bool). if b then Some r else m.registered id) (false_from_ne_true (bytes_eq i id) (λ e. other ((bytes_eq-Decides i id).0 e)))
+registered_register_in m n i r e =
+    ap (λ (s : Meaning). s.registered i) e ∙ ap (λ (b : Bool). if b then Some r else m.registered i) ((bytes_eq-Decides i i).1 refl)
 
-pub register_in-same : (id : List ℕ) (r : Rewrites) (m : Meaning) → (register_in id r m).registered id ≡ Some r
+pub others_register_in : (m n : Meaning) (i id : List ℕ) (r : Rewrites) → n ≡ register_in i r m → i ≢ id → n.registered id ≡ m.registered id
 unfolding register_in
-register_in-same id r m = ap (λ (b : Bool). if b then Some r else m.registered id) ((bytes_eq-Decides id id).1 refl)
+others_register_in m n i id r e other =
+    ap (λ (s : Meaning). s.registered id) e
+    ∙ ap (λ (b : Bool). if b then Some r else m.registered id) (false_from_ne_true (bytes_eq i id) (λ e. other ((bytes_eq-Decides i id).0 e)))
 
 -- calls that leave an id alone leave what is registered under it
 pub after-left_alone : (calls : List Call) (m : Meaning) (id : List ℕ) → LeavesAlone id calls → (after calls m).registered id ≡ m.registered id
 unfolding allow_unknown_in
 after-left_alone [] m id h = refl
-after-left_alone (register i r ∷ calls) m id h = after-left_alone calls (register_in i r m) id h.1 ∙ register_in-other i id r m h.0
+after-left_alone (register i r ∷ calls) m id h = after-left_alone calls (register_in i r m) id h.1 ∙ others_register_in m (register_in i r m) i id r refl h.0
 after-left_alone (allow ∷ calls) m id h = after-left_alone calls (allow_unknown_in m) id h
 
 pub after-last : (before rest : List Call) (m : Meaning) (id : List ℕ) (r : Rewrites) → LeavesAlone id rest
     → (after (before ++ register id r ∷ rest) m).registered id ≡ Some r
-after-last [] rest m id r h = after-left_alone rest (register_in id r m) id h ∙ register_in-same id r m
+after-last [] rest m id r h = after-left_alone rest (register_in id r m) id h ∙ registered_register_in m (register_in id r m) id r refl
 after-last (register i q ∷ before) rest m id r h = after-last before rest (register_in i q m) id r h
 after-last (allow ∷ before) rest m id r h = after-last before rest (allow_unknown_in m) id r h
 
@@ -65,35 +65,27 @@ after-unknown (allow ∷ calls) m e = stays-unknown calls (allow_unknown_in m) r
 
 -- ---- what is kept
 
-kept-again : (o : Option Rewrites) (u : Bool) (b c : List ℕ) (s : Tree) → ((r : Rewrites) → o ≡ Some r → Lawful r) → Bytes b → Valid s → kept o u b s ≡ Some c → Bytes c × (kept o u c s ≡ Some c)
-kept-again None u b c s h bs v e = grind (arith, bs, e)
-kept-again (Some r) u b c s h bs v e = (h r refl).again b c s bs v e
-
 -- what a session keeps it keeps again, and it is bytes
 pub keeps_again : (m : Meaning) → LawfulSession m → (id b c : List ℕ) (s : Tree) → Bytes b → Valid s → keeps m id b s ≡ Some c → Bytes c × (keeps m id c s ≡ Some c)
-keeps_again m h id b c s bs v e = kept-again (m.registered id) m.unknown b c s (h.each id) bs v e
-
-kept-outer : (o : Option Rewrites) (u : Bool) (b : List ℕ) (s t : Tree) (n : Nullability) → ((r : Rewrites) → o ≡ Some r → Lawful r) → Bytes b → Valid s → set_null s n ≡ Some t → kept o u b t ≡ kept o u b s
-kept-outer None u b s t n h bs v e = refl
-kept-outer (Some r) u b s t n h bs v e = (h r refl).outer b s t n bs v e
+keeps_again m h id b c s bs v e =
+    let again : (r : Rewrites) → m.registered id ≡ Some r → r b s ≡ Some c → Bytes c × (r c s ≡ Some c) = λ r is. (h.each id r is).again b c s bs v in
+    grind (arith, again, bs, e)
 
 -- the storage's outer nullability makes no difference to what is kept
 pub keeps_outer : (m : Meaning) → LawfulSession m → (id b : List ℕ) (s t : Tree) (n : Nullability) → Bytes b → Valid s → set_null s n ≡ Some t → keeps m id b t ≡ keeps m id b s
-keeps_outer m h id b s t n bs v e = kept-outer (m.registered id) m.unknown b s t n (h.each id) bs v e
+keeps_outer m h id b s t n bs v e =
+    let outer : (r : Rewrites) → m.registered id ≡ Some r → r b t ≡ r b s = λ r is. (h.each id r is).outer b s t n bs v e in
+    grind (arith, outer)
 
 -- ---- what is admitted
 
-same_by : (m : Meaning) (t u : Tree) → Some t ≡ Some u → Admits m t ↔ Admits m u
-same_by m t u e = let p = same_Some t u e in (λ a. subst (Admits m) p a, λ a. subst (Admits m) (sym p) a)
-
 -- a session admits a type with another outer nullability exactly where it admits the type
 pub admits-set_null : (m : Meaning) → LawfulSession m → (t u : Tree) (n : Nullability) → Valid t → set_null t n ≡ Some u → Admits m t ↔ Admits m u
-admits-set_null m h null u NonNullable v e = cc
-admits-set_null m h null u Nullable v e = same_by m null u e
-admits-set_null m h (extension id b s) u n v e = option_and_then_some (λ x. Some (extension id b x)) (set_null s n) u e (λ x is same.
-    let p = same_by m (extension id b x) u same in let k = keeps_outer m h id b s x n v.0 v.1 is in let rest = admits-set_null m h s x n v.1 is in
-    (λ a. p.0 (k ∙ a.0, rest.0 a.1), λ a. let b' = p.1 a in (sym k ∙ b'.0, rest.1 b'.1)))
-admits-set_null m h _ u n v e = same_by m _ u e
+admits-set_null m h null u n v e = grind (arith, e)
+admits-set_null m h (extension id b s) u n v e =
+    let outer : (x : Tree) → set_null s n ≡ Some x → keeps m id b x ≡ keeps m id b s = λ x is. keeps_outer m h id b s x n v.0 v.1 is in
+    grind (arith, outer, λ (x : Tree). admits-set_null m h s x n v.1, e)
+admits-set_null m h _ u n v e = grind (arith, e)
 
 -- a session without plugins that keeps unknown ids keeps all metadata and admits every type
 pub kept_allow_unknown_in : (n : Meaning) (id b : List ℕ) (t : Tree) → n ≡ allow_unknown_in empty_meaning → keeps n id b t ≡ Some b
@@ -135,23 +127,13 @@ admits_fields_appended m ps name u a b = admits_joined m ps ((name, u) ∷ []) a
 -- a field of an admitted struct
 pub admits_field : (m : Meaning) (ps : List (List ℕ × Tree)) (name : List ℕ) (t : Tree) → AdmitsItems m (fields ps) → first_named ps name ≡ Some t → Admits m t
 admits_field m [] name t h e = cc
-admits_field m (p ∷ ps) name t h e = go (bytes_eq p.0 name) e (admits_field m ps name t h.1)
-  where
-    go : (c : Bool) → cond c (Some p.1) (first_named ps name) ≡ Some t → (first_named ps name ≡ Some t → Admits m t) → Admits m t
-    go true e' more = subst (Admits m) (same_Some p.1 t e') h.0
-    go false e' more = more e'
+admits_field m (p ∷ ps) name t h e = grind (arith, admits_field m ps name t h.1, h, e)
 
 -- an extension that a lawful session read over an admitted storage
 pub admits_extension : (m : Meaning) (e : ExtDTypeRef) (id b : List ℕ) (s : Tree) → LawfulSession m → Bytes b → Valid s → extension_tree e ≡ extension id (extension_metadata e) s → keeps m id b s ≡ Some (extension_metadata e) → Admits m s → Admits m (tree (Extension e))
 admits_extension m e id b s lawful bs v made same a = subst (Admits m) (sym (tree_extension e ∙ made)) ((keeps_again m lawful id b (extension_metadata e) s bs v same).1, a)
 
 -- ---- what calls change, and what they leave alone
-
-pub registered_register_in : (m n : Meaning) (i : List ℕ) (r : Rewrites) → n ≡ register_in i r m → n.registered i ≡ Some r
-registered_register_in m n i r e = ap (λ (s : Meaning). s.registered i) e ∙ register_in-same i r m
-
-pub others_register_in : (m n : Meaning) (i id : List ℕ) (r : Rewrites) → n ≡ register_in i r m → i ≢ id → n.registered id ≡ m.registered id
-others_register_in m n i id r e other = ap (λ (s : Meaning). s.registered id) e ∙ register_in-other i id r m other
 
 -- what was registered stays when another id is registered after it
 pub registered_before : (l m n : Meaning) (i j : List ℕ) (r q : Rewrites) → m ≡ register_in i r l → n ≡ register_in j q m → j ≢ i → n.registered i ≡ Some r
@@ -193,4 +175,4 @@ unrefused m id b s e is h = grind arith
 pub ruleset sessions = (registered_register_in, others_register_in, registered_before, unknown_register_in, flag_register_in, registered_allow_unknown_in, unknown_kept_after_allowing, flag_allow_unknown_in, registered_empty_meaning, unknown_empty_meaning, admits_allow_unknown_in, kept_allow_unknown_in, admits_one_more, admits_more, admits_fields_appended, admits_field, admits_extension, keeps_again, keeps_outer, unrefused)
 
 -- What is registered and allowed after any calls, and what is admitted whatever the outer nullability: for the laws.
-pub ruleset session_laws = (register_in-same, register_in-other, after-last, after-left_alone, after-unknown, admits-set_null)
+pub ruleset session_laws = (after-last, after-left_alone, after-unknown, admits-set_null)

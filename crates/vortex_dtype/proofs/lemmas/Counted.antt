@@ -2,10 +2,9 @@
 -- SPDX-FileCopyrightText: Copyright the Vortex contributors
 
 -- How many of a list pass a test: none exactly where all fail, and all exactly where none does.
-use Rattle.std.proofs.Common.{◌≡◌, ◌↔◌, ◌∙◌, ◌+◌, ℕ, suc, Bool, true, false, cond, List, [], ◌∷◌, length, refl, sym, arith}
+use Rattle.std.proofs.Common.{◌≡◌, ◌↔◌, ◌∙◌, ◌+◌, ℕ, Bool, true, false, cond, List, [], ◌∷◌, length, refl, sym, arith}
 use Rattle.std.specs.Prelude.{count_by}
 use Rattle.std.specs.List.{All, AllByRecursion}
-use Rattle.std.proofs.lemmas.Bool.{false≢true}
 use Rattle.std.proofs.lemmas.List.Elements.{All-from_recursion, recursion_from_All}
 use Rattle.std.proofs.lemmas.List.Sums.{count_by-le-length, sum_by-cons}
 
@@ -15,11 +14,7 @@ module _ {X : Type 0} (p : X → Bool) where
 
   none : (xs : List X) → (count_by p xs ≡ 0) ↔ AllByRecursion (λ x. p x ≡ false) xs
   none [] = (λ e. tt, λ h. refl)
-  none (x ∷ xs) = go (p x) (more x xs) (none xs)
-    where
-      go : (b : Bool) → count_by p (x ∷ xs) ≡ cond b 1 0 + count_by p xs → (count_by p xs ≡ 0) ↔ AllByRecursion (λ y. p y ≡ false) xs → (count_by p (x ∷ xs) ≡ 0) ↔ ((b ≡ false) × AllByRecursion (λ y. p y ≡ false) xs)
-      go true e rest = (λ z. absurd (omega (arith, e, z)), λ h. absurd (false≢true (sym h.0)))
-      go false e rest = (λ z. (refl, rest.0 (omega (arith, e, z))), λ h. omega (arith, e, rest.1 h.1))
+  none (x ∷ xs) = grind (arith, more x xs, none xs)
 
   pub none_counted : (xs : List X) (n : ℕ) → n ≡ count_by p xs → (n ≡ 0) ↔ All (λ x. p x ≡ false) xs
   none_counted xs n e = (
@@ -29,11 +24,7 @@ module _ {X : Type 0} (p : X → Bool) where
 
   all : (xs : List X) → (count_by p xs ≡ length xs) ↔ AllByRecursion (λ x. p x ≡ true) xs
   all [] = (λ e. tt, λ h. refl)
-  all (x ∷ xs) = go (p x) (more x xs) (all xs)
-    where
-      go : (b : Bool) → count_by p (x ∷ xs) ≡ cond b 1 0 + count_by p xs → (count_by p xs ≡ length xs) ↔ AllByRecursion (λ y. p y ≡ true) xs → (count_by p (x ∷ xs) ≡ suc (length xs)) ↔ ((b ≡ true) × AllByRecursion (λ y. p y ≡ true) xs)
-      go true e rest = (λ z. (refl, rest.0 (omega (arith, e, z))), λ h. omega (arith, e, rest.1 h.1))
-      go false e rest = (λ z. absurd (omega (arith, e, z, count_by-le-length p xs)), λ h. absurd (false≢true h.0))
+  all (x ∷ xs) = grind (arith, more x xs, all xs, count_by-le-length p xs)
 
   pub all_counted : (xs : List X) (n : ℕ) → n ≡ count_by p xs → (n ≡ length xs) ↔ All (λ x. p x ≡ true) xs
   all_counted xs n e = (

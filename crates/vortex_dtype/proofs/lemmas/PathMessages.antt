@@ -2,7 +2,7 @@
 -- SPDX-FileCopyrightText: Copyright the Vortex contributors
 
 -- The steps that a path message says are those of the names that it holds; without a name at each part it makes no path.
-use Rattle.std.proofs.Common.{◌≡◌, ◌∙◌, ◌<◌, ℕ, zero, suc, List, [], ◌∷◌, ◌++◌, Contains, Option, Some, None, get_or, length, ap, refl, subst, sym, map, option_map, option_and_then, arith}
+use Rattle.std.proofs.Common.{◌≡◌, ◌∙◌, ◌<◌, ℕ, zero, suc, List, [], ◌∷◌, ◌++◌, Contains, Option, Some, None, get_or, length, ap, refl, subst, sym, map, option_map, arith}
 use Rattle.std.proofs.lemmas.Simd.{map-map}
 use Rattle.dtype_paths.specs.declared.field.Field.{Field as Step}
 use Rattle.dtype_paths.specs.declared.field.Field.TheVariants.{Name}
@@ -20,9 +20,7 @@ steps_by_names p q e = sym (by_names p) ∙ ap (map (option_map Name)) e ∙ by_
 
 path_of_steps : (ns : List (Option (List ℕ))) (p : List Step) → map (option_map Name) ns ≡ map Some p → path_of ns ≡ Some p
 path_of_steps [] [] e = refl
-path_of_steps (Some n ∷ ns) (x ∷ p) e =
-    let t : map (option_map Name) ns ≡ map Some p = cc in rw (path_of_steps ns p t) cc
-path_of_steps (None ∷ ns) (x ∷ p) e = cc
+path_of_steps (n ∷ ns) (x ∷ p) e = grind (arith, path_of_steps ns p, e)
 path_of_steps _ _ e = cc
 
 -- where each part says a step, the steps are the path
@@ -31,42 +29,34 @@ path_by_steps parts p e = path_of_steps (map part_name parts) p (map-map (option
 
 -- where the parts make a path, its steps are theirs
 steps_of_path : (ns : List (Option (List ℕ))) (p : List Step) → path_of ns ≡ Some p → map (option_map Name) ns ≡ map Some p
-steps_of_path [] p e = let none : [] ≡ p = cc in ap (map Some) none
-steps_of_path (None ∷ ns) p e = cc
-steps_of_path (Some n ∷ ns) p e = grind (arith, steps_of_path ns)
+steps_of_path [] p e = grind (arith, e)
+steps_of_path (n ∷ ns) p e = grind (arith, steps_of_path ns, e)
 
 pub path_steps : (m : FieldPath) (p : List Step) → path_of (part_names m) ≡ Some p → steps_of m ≡ map Some p
 path_steps m p e = sym (by_names m) ∙ steps_of_path (part_names m) p e
 
--- names that make one path are the same
-names_again : (ns : List (Option (List ℕ))) → map (option_and_then held_name) (map (option_map Name) ns) ≡ ns
-names_again [] = refl
-names_again (None ∷ ns) = ap (λ ms. None ∷ ms) (names_again ns)
-names_again (Some n ∷ ns) = ap (λ ms. Some n ∷ ms) (names_again ns)
-
-names_of_path : (ns ms : List (Option (List ℕ))) (p : List Step) → path_of ns ≡ Some p → path_of ms ≡ Some p → ns ≡ ms
-names_of_path ns ms p e f =
-    sym (names_again ns) ∙ ap (map (option_and_then held_name)) (steps_of_path ns p e ∙ sym (steps_of_path ms p f)) ∙ names_again ms
+-- names that make a path are those that its steps hold, so names that make one path are the same
+names_of_path : (ns : List (Option (List ℕ))) (p : List Step) → path_of ns ≡ Some p → ns ≡ map held_name p
+names_of_path [] p e = grind (arith, e)
+names_of_path (n ∷ ns) p e = grind (arith, names_of_path ns, e)
 
 pub same_path_names : (ns ms : List (Option (List ℕ))) (p q : List Step) → path_of ns ≡ Some p → path_of ms ≡ Some q → (p ≡ q → ns ≡ ms) × (ns ≡ ms → p ≡ q)
-same_path_names ns ms p q e f = (λ is. names_of_path ns ms p e (f ∙ ap Some (sym is)), λ is. cc)
+same_path_names ns ms p q e f = (λ is. names_of_path ns p e ∙ ap (map held_name) is ∙ sym (names_of_path ms q f), λ is. cc)
 
 -- the root has none
 pub path_root : (ns : List (Option (List ℕ))) (p : List Step) → path_of ns ≡ Some p → p ≡ [] → ns ≡ []
-path_root ns p e is = names_of_path ns [] p e (ap Some (sym is))
+path_root ns p e is = names_of_path ns p e ∙ ap (map held_name) is
 
 -- parts one of which has no kind make no path
 pub no_path : (before rest : List (Option (List ℕ))) → path_of (before ++ None ∷ rest) ≡ None
 no_path [] rest = refl
-no_path (None ∷ before) rest = refl
-no_path (Some n ∷ before) rest = ap (option_map (λ q. Name n ∷ q)) (no_path before rest)
+no_path (n ∷ before) rest = grind (arith, no_path before rest)
 
 -- a path message one of whose parts has no kind makes no path
 none_given : (ns : List (Option (List ℕ))) (i : ℕ) → i < length (map (option_map Name) ns) → get_or (map (option_map Name) ns) i None ≡ None → path_of ns ≡ None
 none_given [] i less e = absurd (omega arith)
-none_given (None ∷ ns) i less e = refl
-none_given (Some n ∷ ns) zero less e = cc
-none_given (Some n ∷ ns) (suc i) less e = ap (option_map (λ q. Name n ∷ q)) (none_given ns i (omega arith) e)
+none_given (n ∷ ns) zero less e = grind (arith, e)
+none_given (n ∷ ns) (suc i) less e = grind (arith, none_given ns i (omega arith) e)
 
 pub missing_part : (m : FieldPath) → Contains (steps_of m) None → path_of (part_names m) ≡ None
 missing_part m missing =

@@ -2,24 +2,23 @@
 -- SPDX-FileCopyrightText: Copyright the Vortex contributors
 
 use Rattle.std.proofs.Common.{◌≡◌, pos, ◌∷◌, arith, rules, string_bytes, [], ◌++◌}
-use Rattle.dtype_types.specs.parts.Lists.{borrowed_pair, borrowed_triple}
 use Rattle.dtype_types.specs.tree.TreeOf.{struct_pairs, union_triples}
 use Rattle.dtype_messages.specs.MessageOf.{message}
 use Rattle.dtype_types.proofs.lemmas.TypesBelow.{fields_below, variants_below}
-use Rattle.vortex_dtype.proofs.WrittenParts.{all_moved, flag_is, moved, next_of, none_of, pushed, struct_done, union_done}
+use Rattle.vortex_dtype.proofs.WrittenParts.{all_moved, flag_is, moved, pushed, struct_done, union_done}
 use Rattle.vortex_dtype.proofs.proto.write.+writing.Goals as goal
 
 -- ---- structs
 
 pub write_struct-write-requires : goal.write_struct-write-requires
 write_struct-write-requires t c =
-    let next = next_of borrowed_pair c.loop-name.name-iterator c.next.new.self c.next.result (c.in-Some.name, c.in-Some.dtype) c.in-Some.is c.next.ensures.steps in
+    let next = rw c.in-Some.is at c.next.ensures.steps in
     let below = fields_below _ _ _ _ next c.loop-name.invariant.within in
     (omega (arith, below.0), tt)
 
 pub write_struct-loop-name-preserved : goal.write_struct-loop-name-preserved
 write_struct-loop-name-preserved t c =
-    let next = next_of borrowed_pair c.loop-name.name-iterator c.next.new.self c.next.result (c.in-Some.name, c.in-Some.dtype) c.in-Some.is c.next.ensures.steps in
+    let next = rw c.in-Some.is at c.next.ensures.steps in
     let text : string_bytes c.in_ok-to_text.field-0 ≡ c.in-Some.name.now = search rules in
     let name : c.push.new.self.items ≡ c.loop-name.names.items ++ c.in_ok-to_text.field-0 ∷ [] = search rules in
     let dtype : c.push-in-loop-name.new.self.items ≡ c.loop-name.dtypes.items ++ c.in_ok-write.field-0 ∷ [] = search rules in
@@ -31,7 +30,7 @@ write_struct-loop-name-preserved t c =
 
 pub write_struct-returns : goal.write_struct-returns
 write_struct-returns t c =
-    let none = none_of borrowed_pair c.loop-name.name-iterator c.next.new.self c.next.result c.in-None.is c.next.ensures.steps in
+    let none = (rw c.in-None.is at c.next.ensures.steps).0 in
     struct_done (struct_pairs c.args.fields.now) _ _ _ _ _ c.struct_proto.ensures
     (all_moved _ _ _ _ c.loop-name.invariant.names none) (all_moved _ _ _ _ c.loop-name.invariant.dtypes none)
     (flag_is _ _ c.is_nullable.ensures)
@@ -40,13 +39,13 @@ write_struct-returns t c =
 
 pub write_union-write-requires : goal.write_union-write-requires
 write_union-write-requires t c =
-    let next = next_of borrowed_triple c.loop-name.name-iterator c.next.new.self c.next.result (c.in-Some.name, c.in-Some.tag, c.in-Some.dtype) c.in-Some.is c.next.ensures.steps in
+    let next = rw c.in-Some.is at c.next.ensures.steps in
     let below = variants_below _ _ _ _ next c.loop-name.invariant.within in
     (omega (arith, below.0), tt)
 
 pub write_union-loop-name-preserved : goal.write_union-loop-name-preserved
 write_union-loop-name-preserved t c =
-    let next = next_of borrowed_triple c.loop-name.name-iterator c.next.new.self c.next.result (c.in-Some.name, c.in-Some.tag, c.in-Some.dtype) c.in-Some.is c.next.ensures.steps in
+    let next = rw c.in-Some.is at c.next.ensures.steps in
     let text : string_bytes c.in_ok-to_text.field-0 ≡ c.in-Some.name.now = search rules in
     let name : c.push.new.self.items ≡ c.loop-name.names.items ++ c.in_ok-to_text.field-0 ∷ [] = search rules in
     let dtype : c.push-in-loop-name.new.self.items ≡ c.loop-name.dtypes.items ++ c.in_ok-write.field-0 ∷ [] = search rules in
@@ -60,7 +59,7 @@ write_union-loop-name-preserved t c =
 
 pub write_union-returns : goal.write_union-returns
 write_union-returns t c =
-    let none = none_of borrowed_triple c.loop-name.name-iterator c.next.new.self c.next.result c.in-None.is c.next.ensures.steps in
+    let none = (rw c.in-None.is at c.next.ensures.steps).0 in
     union_done (union_triples c.args.variants.now) _ _ _ _ _ _ c.union_proto.ensures
     (all_moved _ _ _ _ c.loop-name.invariant.names none) (all_moved _ _ _ _ c.loop-name.invariant.dtypes none)
     (all_moved _ _ _ _ c.loop-name.invariant.tags none) (flag_is _ _ c.is_nullable.ensures)

@@ -1,30 +1,32 @@
 -- SPDX-License-Identifier: Apache-2.0
 -- SPDX-FileCopyrightText: Copyright the Vortex contributors
 
--- Reading the types of a struct or a union one at a time.
-use Rattle.std.proofs.Common.{◌≡◌, Bool, ℕ, ◌+◌, ◌<◌, ◌≤◌, ℤ, List, [], ◌∷◌, ◌++◌, length, map, drop, get_or, Option, Some, None, Result, Ok, Err, IfOk, refl, sym, ap, subst, ◌∙◌, append_assoc, arith}
+-- Reading the types of a struct or a union one at a time, and from a result of reading to the relations of `Reads`.
+use Rattle.std.proofs.Common.{◌≡◌, ◌⊎◌, ⊎_elim, inl, inr, ℕ, ◌+◌, ◌<◌, ◌≤◌, ℤ, pos, List, [], ◌∷◌, ◌++◌, length, map, drop, get_or, Option, Some, None, Result, Ok, Err, IfOk, MatchResult, refl, sym, ap, subst, ◌∙◌, append_assoc, arith}
 use Rattle.std.specs.Int.{w32}
-use Rattle.std.specs.List.{AllByRecursion}
 use Rattle.std.specs.Prelude.{FitsSigned}
 use Rattle.std.proofs.lemmas.Int.{ints}
-use Rattle.std.proofs.lemmas.List.Elements.{All-from_recursion}
-use Rattle.std.proofs.lemmas.Result.{MatchResult-at_ok}
+use Rattle.std.proofs.lemmas.List.Elements.{All-from_recursion, All-map}
+use Rattle.std.proofs.lemmas.Result.{MatchResult-at_ok, MatchResult-weaker}
 use Rattle.std.proofs.lemmas.List.{drop_all, drop_more, append-nil, map-append}
-use Rattle.dtype_base.specs.Nullability.{nullability_of}
 use Rattle.dtype_base.specs.declared.vortex_error.VortexError.{VortexError}
 use Rattle.dtype_base.specs.declared.vortex_error.VortexError.TheVariants.{OutOfMemory, Message as Faulty}
 use Rattle.dtype_base.specs.declared.vortex_error.MessageFault.TheVariants.{TypeIdRange}
 use Rattle.dtype_types.specs.tree.Tree.{Tree}
 use Rattle.dtype_types.specs.tree.TreeOf.{tree}
+use Rattle.dtype_types.specs.tree.Valid.{Valid}
 use Rattle.dtype_types.specs.declared.dtype.DType.{DType as Logical}
-use Rattle.dtype_messages.specs.Message.{Message, messages, struct, union, extension, present}
+use Rattle.dtype_messages.specs.Message.{Message, messages, extension, present}
 use Rattle.dtype_messages.specs.MessageOf.{message}
+use Rattle.vortex_dtype.specs.Accepts.{Accepts}
 use Rattle.vortex_dtype.specs.IsMessage.{IsMessage, AreMessages, AreTags}
-use Rattle.vortex_dtype.specs.Meaning.{Meaning}
+use Rattle.vortex_dtype.specs.Meaning.{Meaning, Admits, LawfulSession}
 use Rattle.vortex_dtype.specs.Numbers.{integer_byte}
-use Rattle.vortex_dtype.specs.ReadInOrder.{read, read_all, read_tags, struct_read, union_read, extension_read, or_empty, ◌>>=◌, Gives, Fails}
-use Rattle.vortex_dtype.specs.Reads.{AreBytes}
-use Rattle.vortex_dtype.proofs.lemmas.InOrder.{byte_is, tags_reading}
+use Rattle.vortex_dtype.specs.ReadInOrder.{read, read_all, read_tags, extension_read, or_empty, ◌>>=◌, Gives, Fails}
+use Rattle.vortex_dtype.specs.Reads.{AreBytes, Fault, Reads, ReadsAsNothing}
+use Rattle.vortex_dtype.specs.Written.{written}
+use Rattle.vortex_dtype.proofs.lemmas.InOrder.{bytes_are, read_reads, tags_reading}
+use Rattle.vortex_dtype.proofs.lemmas.Reads.{reads_accepted, refused_faulty, written_read}
 use Rattle.dtype_messages.specs.declared.pb.DType.{DType}
 
 push_all : {X Y : Type 0} (r : Result (List X) VortexError) (made : List X → Result Y VortexError) (ts : List X) (x : X)
@@ -42,15 +44,9 @@ bind_fails e r f h = ap (λ x. x >>= f) h
 pub record Rest (s : Meaning) (ds : List DType) (i : ℕ) (ts : List Tree) (made : List Tree → Result Tree VortexError) (result : Result Tree VortexError) : Type 0 where
   pub is : (read_all s (messages (map message (drop i ds))) >>= λ us. made (ts ++ us)) ≡ result
 
-pub struct_starts : {s : Meaning} {m : Message} {ns : List (List ℕ)} {f : Bool} (ds : List DType) (vs : List Logical) → m ≡ struct ns (messages (map message ds)) f → vs ≡ []
-    → Rest s ds 0 (map tree vs) (λ ts. struct_read ns ts (nullability_of f)) (read s m)
-unfolding read
-struct_starts ds vs is none = record { is = rw (is, none) refl }
-
-pub union_starts : {s : Meaning} {m : Message} {ns : List (List ℕ)} {gs : List ℤ} {f : Bool} (ds : List DType) (vs : List Logical) → m ≡ union ns (messages (map message ds)) gs f
-    → vs ≡ [] → Rest s ds 0 (map tree vs) (λ ts. union_read ns ts gs (nullability_of f)) (read s m)
-unfolding read
-union_starts ds vs is none = record { is = rw (is, none) refl }
+pub starts : {s : Meaning} {ds : List DType} {made : List Tree → Result Tree VortexError} {result : Result Tree VortexError} (vs : List Logical) → result ≡ (read_all s (messages (map message ds)) >>= made) → vs ≡ []
+    → Rest s ds 0 (map tree vs) made result
+starts vs is none = record { is = rw none (sym is) }
 
 module _ {s : Meaning} {ds : List DType} {i : ℕ} {made : List Tree → Result Tree VortexError} {result : Result Tree VortexError} where
   pub step : (vs longer : List Logical) (d : DType) (v : Logical) → Rest s ds i (map tree vs) made result → i < length ds → d ≡ get_or ds i d → read s (message d) ≡ Ok (tree v)
@@ -105,10 +101,28 @@ unfolding read_tags
 tag_stops gs i d bs h e inv = sym (rw (drop_more gs i d h, e) at inv)
 
 -- tags that are read fit 32 bits
-bytes_fit : (gs : List ℤ) (tags : List ℕ) → AreBytes gs tags → AllByRecursion (λ g. FitsSigned w32 g) gs
-bytes_fit [] tags h = tt
-bytes_fit (g ∷ gs) [] h = absurd h
-bytes_fit (g ∷ gs) (k ∷ tags) h = let is = byte_is g k h.0 in (omega (arith, ints, is), bytes_fit gs tags h.1)
-
 pub tags_fit : (gs : List ℤ) (tags : List ℕ) → read_tags gs ≡ Ok tags → AreTags gs
-tags_fit gs tags e = All-from_recursion (λ g. FitsSigned w32 g) gs (bytes_fit gs tags (MatchResult-at_ok (AreBytes gs) _ tags e (tags_reading gs)))
+tags_fit gs tags e =
+    let are = bytes_are gs tags (MatchResult-at_ok (AreBytes gs) _ tags e (tags_reading gs)) in
+    let small = All-from_recursion (λ k. k < 256) tags are.1 in
+    subst AreTags (sym are.0) (All-map (λ g. FitsSigned w32 g) pos tags (λ k d lt. let below = small k d lt in omega (arith, ints, below)))
+
+-- ---- from a result to the relations
+
+pub gives_in_order : (s : Meaning) (m : Message) (r : Result Logical VortexError) → Gives tree r (read s m) → MatchResult r (λ t. read s m ≡ Ok (tree t)) (λ e. (e ≡ OutOfMemory) ⊎ (read s m ≡ Err e))
+gives_in_order s m (Ok d) g = g
+gives_in_order s m (Err OutOfMemory) g = inl refl
+gives_in_order s m (Err e) g = inr g
+
+pub gives_reads : (s : Meaning) (m : Message) (r : Result Logical VortexError) → Gives tree r (read s m) → MatchResult r (λ t. Reads s m (tree t)) (λ e. (e ≡ OutOfMemory) ⊎ (Fault s m e × ReadsAsNothing s m))
+gives_reads s m r g = MatchResult-weaker r (gives_in_order s m r g) (λ d. read_reads s m (tree d)) (λ e. ⊎_elim inl (λ is. inr (refused_faulty s m e is)))
+
+pub gives_accepts : (s : Meaning) → LawfulSession s → (m : Message) (r : Result Logical VortexError) → IfOk r (λ _. IsMessage m) → Gives tree r (read s m) → IfOk r (λ t. Accepts s m (tree t))
+gives_accepts s l m (Ok d) i g = reads_accepted s m (tree d) l i (read_reads s m (tree d) g)
+gives_accepts s l m (Err e) i g = tt
+
+-- the message of an admitted type reads as that type
+pub gives_back : (s : Meaning) (m : Message) (r : Result Logical VortexError) → Gives tree r (read s m) → (t : Tree) → Valid t → Admits s t → m ≡ written t → MatchResult r (λ u. tree u ≡ t) (λ e. e ≡ OutOfMemory)
+gives_back s m r g t v a e =
+    let back = written_read s m t v a e in
+    MatchResult-weaker r (gives_in_order s m r g) (λ d is. cc) (λ x. ⊎_elim (λ none. none) (λ is. cc))

@@ -1,7 +1,6 @@
 -- SPDX-License-Identifier: Apache-2.0
 -- SPDX-FileCopyrightText: Copyright the Vortex contributors
 
-pub mod Unions
 pub mod Sessions
 pub mod Reads
 pub mod InOrder

@@ -78,7 +78,7 @@ impl DTypeProto for DType {
     ///   accept the metadata; or `ExtensionUnregistered` (35): no plugin is registered under the id, and the session
     ///   doesn't keep unknown ids.
     /// - `OutOfMemory` (0): an allocation fails.
-    #[tactic(auto, using(crate::proofs::InOrderToReads::gives_reads, crate::proofs::InOrderToReads::gives_in_order, crate::proofs::InOrderToReads::gives_back))]
+    #[tactic(auto, using(crate::proofs::ReadInTurn::gives_reads, crate::proofs::ReadInTurn::gives_in_order, crate::proofs::ReadInTurn::gives_back))]
     fn from_proto(alloc: Global, proto: &pb::DType, session: &DTypeSession) -> VortexResult<DType>
         ensures reads { MatchResult result
             (λ t. Reads (meaning rewrites session.now) (message proto.now) (tree t))

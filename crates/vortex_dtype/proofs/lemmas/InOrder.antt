@@ -3,10 +3,9 @@
 
 -- The reading function agrees with the relations: it gives a type exactly where the message reads as that type, and
 -- else a fault of the message.
-use Rattle.std.proofs.Common.{◌≡◌, inl, inr, ℕ, ℤ, pos, negsuc, ◌<◌, ◌==◌, List, [], ◌∷◌, length, map, Option, Some, None, Result, Ok, Err, MatchResult, refl, sym, ap, subst, ◌∙◌, arith}
-use Rattle.std.specs.List.{zip}
-use Rattle.std.proofs.lemmas.Bool.{cond_both}
-use Rattle.std.proofs.lemmas.Bool.Decides.{Decides-eqb, nat_tests, not_from_Decides}
+use Rattle.std.proofs.Common.{◌≡◌, inl, inr, ℕ, ℤ, pos, negsuc, ◌<◌, List, [], ◌∷◌, length, map, Some, Result, Ok, Err, MatchResult, refl, sym, ap, ◌∙◌, arith}
+use Rattle.std.specs.List.{AllByRecursion, zip}
+use Rattle.std.proofs.lemmas.Bool.Decides.{Decides-eqb, nat_tests}
 use Rattle.std.proofs.lemmas.Int.{ints}
 use Rattle.std.proofs.lemmas.Result.{MatchResult-at_err, MatchResult-at_ok, MatchResult-weaker}
 use Rattle.dtype_base.specs.declared.nullability.Nullability.{Nullability}
@@ -25,17 +24,13 @@ use Rattle.dtype_types.specs.tree.Tree.{Tree, fields, variants}
 use Rattle.dtype_messages.specs.Message.{Message, Child, Messages, missing, primitive, decimal, list, fixed_size_list, map_of, struct, union, extension, absent, present, no_message, more}
 use Rattle.dtype_messages.specs.PTypeNumbers.{ptype_at}
 use Rattle.dtype_messages.proofs.lemmas.Numbers.{number_at}
-use Rattle.vortex_dtype.specs.Meaning.{Meaning, keeps, unkept_error}
+use Rattle.vortex_dtype.specs.Meaning.{Meaning}
 use Rattle.vortex_dtype.specs.Numbers.{integer_byte}
 use Rattle.vortex_dtype.specs.Reads.{Reads, ReadsChild, ReadsAll, AreBytes, Fault, ChildFault, SomeFault, SomeTagFault, UnionFault, number, message_count}
-use Rattle.vortex_dtype.specs.ReadInOrder.{◌>>=◌, decimal_made, read, read_child, read_all, read_tags, primitive_read, decimal_read, map_read, when_required, struct_read, union_made, union_read, extension_read, or_fault, or_empty}
-use Rattle.vortex_dtype.proofs.lemmas.Unions.{union_making, union_ok}
+use Rattle.vortex_dtype.specs.ReadInOrder.{◌>>=◌, decimal_made, read, read_child, read_all, read_tags, primitive_read, decimal_read, map_read, when_required, struct_read, union_read, extension_read}
+use Rattle.vortex_dtype.proofs.Constructors.{union_making, union_ok}
 
--- ---- what holds of the result of a missing part and of two steps in turn
-
-given : {A : Type 0} (k : VortexError) (o : Option A) → MatchResult (or_fault k o) (λ x. o ≡ Some x) (λ e. (e ≡ k) × (o ≡ None))
-given k None = (refl, refl)
-given k (Some x) = refl
+-- ---- what holds of the result of two steps in turn
 
 -- the second step takes what the first gives; its error is that of both
 bind_result : {A B : Type 0} (r : Result A VortexError) (f : A → Result B VortexError) (P : A → Type 0) (Q : VortexError → Type 0) (R : B → Type 0) (S : VortexError → Type 0)
@@ -53,9 +48,9 @@ pub byte_is : (g : ℤ) (k : ℕ) → integer_byte g ≡ Some k → (g ≡ pos k
 byte_is (pos n) k e = grind (arith, nat_tests)
 byte_is (negsuc n) k e = cc
 
-pub bytes_are : (gs : List ℤ) (tags : List ℕ) → AreBytes gs tags → gs ≡ map pos tags
-bytes_are [] [] h = refl
-bytes_are (g ∷ gs) (k ∷ tags) h = ap (λ x. x ∷ gs) (byte_is g k h.0).0 ∙ ap (λ xs. pos k ∷ xs) (bytes_are gs tags h.1)
+pub bytes_are : (gs : List ℤ) (tags : List ℕ) → AreBytes gs tags → (gs ≡ map pos tags) × AllByRecursion (λ k. k < 256) tags
+bytes_are [] [] h = (refl, tt)
+bytes_are (g ∷ gs) (k ∷ tags) h = let is = byte_is g k h.0 in let rest = bytes_are gs tags h.1 in ((λ i. is.0 i ∷ rest.0 i), (is.1, rest.1))
 bytes_are _ _ h = absurd h
 
 -- ---- lists of messages
@@ -76,9 +71,7 @@ union_reading : (ns : List (List ℕ)) (ts : List Tree) (gs : List ℤ) (n : Nul
     → MatchResult (union_read ns ts gs n)
     (λ t. (tags : List ℕ) × AreBytes gs tags × MakesUnion ns (length ts) tags × (t ≡ of.union (variants (zip ns (zip ts tags))) n)) (UnionFault ns (length ts) gs)
 unfolding union_read
-union_reading ns ts gs n =
-    bind_result (read_tags gs) _ _ _ _ _ (tags_reading gs)
-    (λ tags is. MatchResult-weaker (union_made ns ts tags n) (union_making ns ts tags n) (λ t h. (tags, is, h.0, h.1)) (λ e f. inr (tags, bytes_are gs tags is, f))) (λ e. inl)
+union_reading ns ts gs n = grind (arith, tags_reading gs, union_making ns ts, bytes_are gs)
 
 key_reading : (n : Nullability) (t : Tree) → MatchResult (when_required n t) (λ u. (n ≡ NonNullable) × (u ≡ t)) (λ e. (e ≡ MapKeyNullable) × (n ≡ Nullable))
 key_reading NonNullable t = (refl, refl)
@@ -99,22 +92,13 @@ mutual
       (λ y k. MatchResult-weaker (when_required (nullability x) (of.map_of x y o (nullability_of f))) (key_reading (nullability x) (of.map_of x y o (nullability_of f)))
       (λ t a. (x, y, h, k, a.0, a.1)) (λ e j. inr (inr (j.0, x, h, j.1))))
       (λ e j. inr (inl j))) (λ e. inl)
-  reading s (struct ns ms f) =
-      bind_result (read_all s ms) _ _ _ _ _ (all_reading s ms)
-      (λ ts h. let same = Decides-eqb (length ns) (length ts) in
-      cond_both (length ns == length ts) _ _ (λ (r : Result Tree VortexError). MatchResult r (Reads s (struct ns ms f)) (Fault s (struct ns ms f))) (λ e. (ts, h, same.0 e, refl))
-      (λ e. inr (refl, λ c. not_from_Decides _ same e (c ∙ sym (count_all s ms ts h)))))
-      (λ e. inl)
+  reading s (struct ns ms f) = grind (arith, nat_tests, all_reading s ms, count_all s ms)
   reading s (union ns ms gs f) =
       bind_result (read_all s ms) _ _ _ _ _ (all_reading s ms)
-      (λ ts h. MatchResult-weaker (union_read ns ts gs (nullability_of f)) (union_reading ns ts gs (nullability_of f))
-      (λ t u. (ts, u.0, h, u.1, u.2, u.3))
-      (λ e j. inr (subst (λ c. UnionFault ns c gs e) (count_all s ms ts h) j)))
-      (λ e. inl)
+      (λ ts h. grind (arith, union_reading ns ts gs (nullability_of f), count_all s ms ts h, h)) (λ e. inl)
   reading s (extension id c b) =
       bind_result (read_child s StorageMissing c) _ _ _ _ _ (child_reading s StorageMissing c)
-      (λ x h. bind_result (or_fault (unkept_error s id) (keeps s id (or_empty b) x)) _ _ _ _ _ (given (unkept_error s id) (keeps s id (or_empty b) x))
-      (λ k is. (x, k, h, is, refl)) (λ e j. inr (j.0, x, h, j.1))) (λ e. inl)
+      (λ x h. grind (arith, h)) (λ e. inl)
   reading s _ = refl
 
   child_reading : (s : Meaning) (j : MessageFault) (c : Child) → MatchResult (read_child s j c) (ReadsChild s c) (ChildFault s j c)
@@ -123,8 +107,7 @@ mutual
 
   all_reading : (s : Meaning) (ms : Messages) → MatchResult (read_all s ms) (ReadsAll s ms) (SomeFault s ms)
   all_reading s no_message = tt
-  all_reading s (more m ms) =
-      bind_result (read s m) _ _ _ _ _ (reading s m) (λ x h. bind_result (read_all s ms) _ _ _ _ _ (all_reading s ms) (λ xs k. (h, k)) (λ e. inr)) (λ e. inl)
+  all_reading s (more m ms) = grind (arith, reading s m, all_reading s ms)
 
 -- a type that is given is one that the message reads as, and an error is a fault of the message
 pub read_reads : (s : Meaning) (m : Message) (t : Tree) → read s m ≡ Ok t → Reads s m t

@@ -31,7 +31,7 @@ use Rattle.vortex_dtype.specs.IsMessage.{IsMessage, IsChild, AreMessages}
 use Rattle.vortex_dtype.proofs.lemmas.Sessions.{admits-set_null, keeps_again}
 use Rattle.vortex_dtype.proofs.lemmas.Written.{nullability_of-is, written_is}
 use Rattle.dtype_types.proofs.lemmas.Validity.{set_valid}
-use Rattle.vortex_dtype.proofs.lemmas.InOrder.{byte_is, bytes_are, child_once, count_all, read_fault, reading, reads_once, reads_read}
+use Rattle.vortex_dtype.proofs.lemmas.InOrder.{bytes_are, child_once, count_all, read_fault, reading, reads_once, reads_read}
 
 -- ---- a message with a fault reads as no type
 
@@ -60,7 +60,7 @@ mutual
   fault_none s (union ns ms gs x) k t f h =
       ⊎_elim (λ a. some_none s ms k h.0 a h.2)
       (⊎_elim (λ a. no_tag_fault gs h.1 h.3 a.1)
-      (λ a. let tags : h.1 ≡ a.0 = same_tags h.1 a.0 (sym (bytes_are gs h.1 h.3) ∙ a.1) in
+      (λ a. let tags : h.1 ≡ a.0 = same_tags h.1 a.0 (sym (bytes_are gs h.1 h.3).0 ∙ a.1) in
       let made : MakesUnion ns (message_count ms) a.0 = rw (← tags, ← count_all s ms h.0 h.2) h.4 in grind (arith, made, a.2))) f
   fault_none s (extension id c b) k t f h =
       ⊎_elim (λ a. child_none s StorageMissing c k h.0 a h.2) (λ a. none-some h.1 (sym a.3 ∙ ap (keeps s id (or_empty b)) (child_once s c a.1 h.0 a.2 h.2) ∙ h.3)) f
@@ -96,14 +96,13 @@ is_nullable-of false = refl
 field_messages : (ns : List (List ℕ)) (ts : List Tree) → length ns ≡ length ts
     → (written_names (fields (zip ns ts)) ≡ ns) × (written_items (fields (zip ns ts)) ≡ messages (map written ts))
 field_messages [] [] e = (refl, refl)
-field_messages (n ∷ ns) (t ∷ ts) e = let rest = field_messages ns ts (omega (arith, e)) in (ap (λ x. n ∷ x) rest.0, ap (more (written t)) rest.1)
+field_messages (n ∷ ns) (t ∷ ts) e = grind (arith, field_messages ns ts, e)
 field_messages _ _ e = cc
 
 variant_messages : (ns : List (List ℕ)) (ts : List Tree) (gs : List ℕ) → length ns ≡ length ts → length ns ≡ length gs → let vs = variants (zip ns (zip ts gs)) in
     (written_variant_names vs ≡ ns) × (written_items vs ≡ messages (map written ts)) × (written_tags vs ≡ map pos gs)
 variant_messages [] [] [] e f = (refl, refl, refl)
-variant_messages (n ∷ ns) (t ∷ ts) (g ∷ gs) e f =
-    let rest = variant_messages ns ts gs (omega (arith, e)) (omega (arith, f)) in (ap (λ x. n ∷ x) rest.0, ap (more (written t)) rest.1, ap (λ x. pos g ∷ x) rest.2)
+variant_messages (n ∷ ns) (t ∷ ts) (g ∷ gs) e f = grind (arith, variant_messages ns ts gs, e, f)
 variant_messages _ _ _ e f = cc
 
 -- of parts that have one form each, what is made has one
@@ -131,7 +130,7 @@ mutual
       rw (h.3, is_nullable-of f, w.0, w.1) (one_part _ (λ qs. struct ns qs f) (messages (map written h.0)) n (λ qs. all_normal s ms qs h.0 h.1))
   written_normal s (union ns ms gs f) n t h =
       let w = variant_messages ns h.0 h.1 h.4.0.0 h.4.0.1 in
-      rw (h.5, is_nullable-of f, w.0, w.1, w.2, ← bytes_are gs h.1 h.3)
+      rw (h.5, is_nullable-of f, w.0, w.1, w.2, ← (bytes_are gs h.1 h.3).0)
       (one_part _ (λ qs. union ns qs gs f) (messages (map written h.0)) n (λ qs. all_normal s ms qs h.0 h.2))
   written_normal s (extension id c b) n t h =
       let storage = λ (d : Child). child_normal s c d h.0 h.2 in
@@ -159,17 +158,11 @@ Sound s t = Valid t × Admits s t
 
 sound_fields : (s : Meaning) (ns : List (List ℕ)) (ts : List Tree) → AllByRecursion (Sound s) ts → let fs = fields (zip ns ts) in ValidItems fs × AdmitsItems s fs
 sound_fields s (n ∷ ns) (t ∷ ts) h = let rest = sound_fields s ns ts h.1 in ((h.0.0, rest.0), (h.0.1, rest.1))
-sound_fields s [] _ h = (tt, tt)
-sound_fields s _ [] h = (tt, tt)
+sound_fields s _ _ h = (tt, tt)
 
 sound_variants : (s : Meaning) (ns : List (List ℕ)) (ts : List Tree) (gs : List ℕ) → AllByRecursion (Sound s) ts → let vs = variants (zip ns (zip ts gs)) in ValidItems vs × AdmitsItems s vs
 sound_variants s (n ∷ ns) (t ∷ ts) (g ∷ gs) h = let rest = sound_variants s ns ts gs h.1 in ((h.0.0, rest.0), (h.0.1, rest.1))
 sound_variants s _ _ _ h = (tt, tt)
-
-are_bytes : (gs : List ℤ) (tags : List ℕ) → AreBytes gs tags → AllByRecursion (λ k. k < 256) tags
-are_bytes [] [] h = tt
-are_bytes (g ∷ gs) (k ∷ tags) h = ((byte_is g k h.0).1, are_bytes gs tags h.1)
-are_bytes _ _ h = absurd h
 
 mutual
   pub reads_sound : (s : Meaning) → LawfulSession s → (m : Message) (t : Tree) → IsMessage m → Reads s m t → Sound s t
@@ -184,7 +177,7 @@ mutual
   reads_sound s l (struct ns ms f) t i h = subst (Sound s) (sym h.3) (sound_fields s ns h.0 (all_sound s l ms h.0 i h.1))
   reads_sound s l (union ns ms gs f) t i h =
       let a = sound_variants s ns h.0 h.1 (all_sound s l ms h.0 i.0 h.2) in
-      subst (Sound s) (sym h.5) ((zipped_variants ns h.0 h.1 h.4 (All-from_recursion (λ k. k < 256) h.1 (are_bytes gs h.1 h.3)), a.0), a.1)
+      subst (Sound s) (sym h.5) ((zipped_variants ns h.0 h.1 h.4 (All-from_recursion (λ k. k < 256) h.1 (bytes_are gs h.1 h.3).1), a.0), a.1)
   reads_sound s l (extension id c b) t i h =
       let a = child_sound s l c h.0 i.0 h.2 in
       let again = keeps_again s l id (or_empty b) h.1 h.0 i.1 a.0 h.3 in

@@ -3,7 +3,7 @@
 
 use Rattle.dtype_messages.specs.MessageOf.{message}
 use Rattle.vortex_dtype.specs.Session.{meaning}
-use Rattle.vortex_dtype.proofs.InOrderToReads.{gives_accepts}
+use Rattle.vortex_dtype.proofs.ReadInTurn.{gives_accepts}
 use Rattle.vortex_dtype.proofs.MeaningLaws.{lawful_found}
 use Rattle.vortex_dtype.proofs.proto.DTypeDTypeProto.from_proto.Goals as goal
 

@@ -9,16 +9,17 @@ use Rattle.dtype_messages.specs.MessageOf.{message, bytes_of}
 use Rattle.vortex_dtype.specs.ReadInOrder.{read, or_empty}
 use Rattle.vortex_dtype.specs.Session.{meaning}
 use Rattle.dtype_messages.specs.declared.pb.DtypeType.TheViews.{out-Union, out-Extension}
-use Rattle.vortex_dtype.proofs.ReadInTurn.{struct_starts, union_starts, step, stops, ends, extension_done, more_messages, all_messages, any_ok}
+use Rattle.vortex_dtype.proofs.ReadInTurn.{starts, step, stops, ends, extension_done, more_messages, all_messages, any_ok}
 use Rattle.vortex_dtype.proofs.MessageParts.{struct_shape, union_shape, extension_shape}
 use Rattle.vortex_dtype.proofs.proto.read.+read.Goals as goal
 
 -- ---- structs
 
 pub loop-field-init : goal.loop-field-init
+unfolding read
 loop-field-init g t c =
     let is = struct_shape c.args.proto.now c.in-Some.kind c.in-Struct.p c.deref-field-items.result.now c.in-Some.is c.in-Struct.is c.deref-field-items.ensures.value in
-    record { rest = struct_starts _ _ is (search rules); message = rw is (λ h. h); valid = search rules }
+    record { rest = starts _ (ap (read _) is) (search rules); message = rw is (λ h. h); valid = search rules }
 
 pub returns-in_err-read-in-Struct-clause-gives : goal.returns-in_err-read-in-Struct-clause-gives
 returns-in_err-read-in-Struct-clause-gives g t c =
@@ -46,9 +47,10 @@ returns-after-loop-field-clause-message g t c =
 -- ---- unions
 
 pub loop-variant-init : goal.loop-variant-init
+unfolding read
 loop-variant-init g t c =
     let is = union_shape c.args.proto.now c.in-Some.kind c.in-Union.p c.deref-variant-items.result.now c.in-Some.is c.in-Union.is c.deref-variant-items.ensures.value in
-    record { rest = union_starts _ _ is (search rules); message = rw is (λ h numbers. (h, numbers)); valid = search rules }
+    record { rest = starts _ (ap (read _) is) (search rules); message = rw is (λ h numbers. (h, numbers)); valid = search rules }
 
 pub returns-in_err-read-in-Union-clause-gives : goal.returns-in_err-read-in-Union-clause-gives
 returns-in_err-read-in-Union-clause-gives g t c =

@@ -2,11 +2,12 @@
 -- SPDX-FileCopyrightText: Copyright the Vortex contributors
 
 -- How many paths are begun at least and at most, by the steps of the least paths.
-use Rattle.std.proofs.Common.{◌≡◌, ℕ, ◌+◌, ◌≤◌, ◌<◌, List, [], ◌∷◌, ◌++◌, length, map, IsTrue, ap, ◌∙◌, inl, inr, refl, sym, subst, arith}
+use Rattle.std.proofs.Common.{◌≡◌, ℕ, ◌+◌, ◌≤◌, ◌<◌, List, [], ◌∷◌, ◌++◌, length, length-append, map, suc, take, IsTrue, ap, ◌∙◌, inl, inr, refl, sym, subst, arith}
 use Rattle.std.specs.FinSet as set
-use Rattle.std.specs.List.{Contains, flat_map, sum_by}
+use Rattle.std.specs.List.{Contains, flat_map, range_with_len, sum_by}
 use Rattle.std.proofs.lemmas.Bool.{false≢true}
-use Rattle.std.proofs.lemmas.List.{length-map}
+use Rattle.std.proofs.Math.Seq.{take-append_seam}
+use Rattle.std.proofs.lemmas.List.FromFn.{get_or-map-range_with_len, length-map-range_with_len}
 use Rattle.std.proofs.lemmas.List.Concat.{length-flat_map}
 use Rattle.std.proofs.lemmas.List.Sums.{sum_by-cons}
 use Rattle.std.proofs.lemmas.Map.Made.{is_member-Decides, IsDistinct-from_AllPairs, length-le_from_is_member}
@@ -17,29 +18,23 @@ use Rattle.dtype_paths.specs.EqualityLaws.{same_path-Decides, same_path_equiv}
 use Rattle.dtype_paths.specs.declared.field.Field.{Field}
 use Rattle.dtype_paths.proofs.lemmas.Counts.{least_none}
 use Rattle.dtype_paths.proofs.lemmas.SetMembers.{contains_empty}
-use Rattle.dtype_paths.proofs.ListMembers.{contains-head, contains-tail, contains-mapped, contains-flat_map}
+use Rattle.dtype_paths.proofs.ListMembers.{contains-head, contains-tail, contains-flat_map}
 
 -- the beginnings of a path, but for the root
-starts : List Field → List (List Field)
-starts [] = []
-starts (f ∷ p) = (f ∷ []) ∷ map (λ q. f ∷ q) (starts p)
+abbrev starts : List Field → List (List Field)
+starts p = map (λ k. take k p) (range_with_len 1 (length p))
 
 length-starts : (p : List Field) → length (starts p) ≡ length p
-unfolding starts
-length-starts [] = refl
-length-starts (f ∷ p) = omega (arith, length-map (starts p) (λ q. f ∷ q), length-starts p)
+length-starts p = length-map-range_with_len (λ k. take k p) 1 (length p)
 
 starts-has : (f : Field) (q p rest : List Field) → p ≡ (f ∷ q) ++ rest → Contains (starts p) (f ∷ q)
-unfolding starts
-starts-has f q [] rest e = absurd (cc)
-starts-has f [] (g ∷ p) rest e =
-    let first : f ≡ g = cc in
-    subst (λ x. Contains ((g ∷ []) ∷ map (λ r. g ∷ r) (starts p)) (x ∷ [])) (sym first) (contains-head (g ∷ []) (map (λ r. g ∷ r) (starts p)))
-starts-has f (h ∷ q) (g ∷ p) rest e =
-    let first : g ≡ f = cc in
-    let later : p ≡ (h ∷ q) ++ rest = cc in
-    contains-tail (g ∷ []) (f ∷ h ∷ q) (map (λ r. g ∷ r) (starts p))
-    (subst (λ x. Contains (map (λ r. g ∷ r) (starts p)) (x ∷ h ∷ q)) first (contains-mapped (λ r. g ∷ r) (h ∷ q) (starts p) (starts-has h q p rest later)))
+starts-has f q p rest e =
+    let long : length q < length p = omega (arith, ap length e, length-append (f ∷ q) rest) in
+    let taken : take (suc (length q)) p ≡ f ∷ q = rw e (take-append_seam (f ∷ q) rest) in (
+      length q,
+      omega (arith, length-starts p, long),
+      get_or-map-range_with_len (λ k. take k p) 1 (length p) (length q) (suc (length q)) (f ∷ q) long (omega arith) ∙ taken,
+    )
 
 -- what is begun is the root, or a beginning of one of these with a step
 begun-has : (s : PathSet) (ls : List (List Field)) (q : List Field) → ((p : List Field) → IsTrue (set.contains (least s) p) → Contains ls p) → IsBegun s q → Contains ([] ∷ flat_map starts ls) q

@@ -2,18 +2,24 @@
 -- SPDX-FileCopyrightText: Copyright the Vortex contributors
 
 -- Many children in two maps: what is looked up in either, and that one more step keeps them so.
-use Rattle.std.proofs.Common.{ℕ, ◌≡◌, ◌∙◌, true, false, cond, Equal, List, [], ◌∷◌, Option, Some, None, refl, sym, ap, subst}
+use Rattle.std.proofs.Common.{ℕ, ◌≡◌, ◌≢◌, ◌⊎◌, ◌∙◌, Decides, is_some, true, false, cond, Equal, List, ◌++◌, Option, Some, None, inl, inr, refl, sym, ap, subst, ⊎_elim}
 use Rattle.std.specs.BTreeMap.{is_at}
 use Rattle.std.specs.Cmp.{Equal-is, tied_itself, nat_cmp_total}
 use Rattle.std.specs.FinSet.{nat_cmp-IsAntisymmetric}
-use Rattle.std.specs.List.{IsDistinct}
+use Rattle.std.specs.List.{Contains, IsDistinct}
 use Rattle.std.specs.List.Sorted.{IsStrictlySortedBy}
 use Rattle.std.specs.Map.{keys_of, lookup, values_of}
 use Rattle.std.specs.Option.{option_or}
 use Rattle.std.specs.Ordering.{eq_by_cmp, nat_cmp}
+use Rattle.std.proofs.lemmas.Bool.{false≢true}
 use Rattle.std.proofs.lemmas.Cmp.{eq_by_cmp_equiv}
-use Rattle.std.proofs.lemmas.Map.Entries.{lookup_head}
-use Rattle.std.proofs.lemmas.Map.Keys.{IsDistinct-cons, IsDistinct-from_sorted, IsDistinct-tail}
+use Rattle.std.proofs.lemmas.List.{map-append}
+use Rattle.std.proofs.lemmas.Map.Keys.{IsDistinct-from_sorted}
+use Rattle.std.proofs.lemmas.Map.Made.{AllPairs-from_IsDistinct, IsDistinct-from_AllPairs}
+use Rattle.std.proofs.lemmas.Map.Views.{Contains-from_lookup, IsSome-lookup_from_Contains, lookup-from_Contains}
+use Rattle.std.proofs.lemmas.Option.{same_Some}
+use Rattle.std.proofs.lemmas.Simd.{map-map}
+use Rattle.dtype_base.specs.Distinct.{Distinct}
 use Rattle.dtype_paths.specs.private.ChildTrees.{at_key, led_by, steps_in, IsChildTree, IsFirst, IsTaken}
 use Rattle.dtype_paths.specs.Equality.{same_field}
 use Rattle.dtype_paths.specs.EqualityLaws.{same_field-Decides, same_field_equiv}
@@ -22,8 +28,9 @@ use Rattle.dtype_paths.specs.private.StepKeys.{step_key}
 use Rattle.dtype_paths.specs.declared.field.Field.{Field}
 use Rattle.dtype_paths.proofs.lemmas.Cases.{by_bool, by_option}
 use Rattle.dtype_paths.specs.PathOrderLaws.{field_ties}
-use Rattle.dtype_paths.proofs.DistinctLists.{IsDistinct-nil}
-use Rattle.dtype_paths.proofs.ChildLists.{absent-lookup, distinct-append, lookup-append, lookup-later}
+use Rattle.dtype_paths.proofs.DistinctLists.{distinct-append, distinct-map, distinct-unmap}
+use Rattle.dtype_paths.proofs.ListMembers.{contains-map, contains-mapped}
+use Rattle.dtype_paths.proofs.ChildLists.{lookup-append}
 
 -- ---- keys
 
@@ -33,45 +40,36 @@ same_key j k e = nat_cmp-IsAntisymmetric j k ((Equal-is (nat_cmp j k)).0 e)
 own_key : (j k : ℕ) → j ≡ k → is_at (nat_cmp j) k ≡ true
 own_key j k e = (Equal-is (nat_cmp j k)).1 (subst (λ x. nat_cmp j x ≡ Equal) e (tied_itself nat_cmp_total j))
 
+key-Decides : (j k : ℕ) → Decides (eq_by_cmp nat_cmp j k) (j ≡ k)
+key-Decides j k = (same_key j k, own_key j k)
+
 -- ---- the steps at their keys
 
-none_later : (e : ℕ × (Field × ℕ)) (es : List (ℕ × (Field × ℕ))) (k : ℕ) → IsDistinct (eq_by_cmp nat_cmp) (keys_of (e ∷ es)) → is_at (nat_cmp k) e.0 ≡ true → at_key es k ≡ None
-none_later e es k d h =
-    lookup-later (eq_by_cmp_equiv nat_cmp_total) k e es d h
+module _ (es : List (ℕ × (Field × ℕ))) (once : IsDistinct (eq_by_cmp nat_cmp) (keys_of es)) (keyed : (k : ℕ) (v : Field × ℕ) → at_key es k ≡ Some v → step_key v.0 ≡ k) where
+  at_own : (e : ℕ × (Field × ℕ)) → Contains es e → at_key es e.0 ≡ Some e.1
+  at_own e c = lookup-from_Contains (eq_by_cmp_equiv nat_cmp_total) e.0 e.1 es once c
 
-abbrev AreKeyed : List (ℕ × (Field × ℕ)) → Type 0
-AreKeyed es = (k : ℕ) (v : Field × ℕ) → at_key es k ≡ Some v → step_key v.0 ≡ k
+  distinct-keyed : Distinct (keys_of (values_of es))
+  distinct-keyed = subst Distinct (sym (map-map (λ (v : Field × ℕ). v.0) (λ (e : ℕ × (Field × ℕ)). e.1) es))
+      (distinct-map (λ (e : ℕ × (Field × ℕ)). e.1.0) es (distinct-unmap (λ (e : ℕ × (Field × ℕ)). e.0) es (AllPairs-from_IsDistinct key-Decides (keys_of es) once)) (λ d e c b same.
+      let key = sym (keyed d.0 d.1 (at_own d c)) ∙ ap step_key same ∙ keyed e.0 e.1 (at_own e b) in
+      let value = same_Some d.1 e.1 (sym (at_own d c) ∙ ap (at_key es) key ∙ at_own e b) in λ i. (key i, value i)))
 
-keyed_later : (e : ℕ × (Field × ℕ)) (es : List (ℕ × (Field × ℕ))) → IsDistinct (eq_by_cmp nat_cmp) (keys_of (e ∷ es)) → AreKeyed (e ∷ es) → AreKeyed es
-keyed_later e es d h k v at =
-    by_bool (is_at (nat_cmp k) e.0)
-    (λ t. let none : at_key es k ≡ None = none_later e es k d t in absurd (cc))
-    (λ n. h k v (rw n at))
-
-keyed_head : (e : ℕ × (Field × ℕ)) (es : List (ℕ × (Field × ℕ))) → AreKeyed (e ∷ es) → step_key e.1.0 ≡ e.0
-keyed_head e es h = h e.0 e.1 (lookup_head (is_at (nat_cmp e.0)) e es (own_key e.0 e.0 refl))
-
--- among the steps at the keys, one is found by its key
-lookup-keyed : (es : List (ℕ × (Field × ℕ))) → IsDistinct (eq_by_cmp nat_cmp) (keys_of es) → AreKeyed es → (f : Field) → lookup (same_field f) (values_of es) ≡ led_by f (at_key es (step_key f))
-lookup-keyed [] d h f = refl
-lookup-keyed (e ∷ es) d h f =
-    let later : lookup (same_field f) (values_of es) ≡ led_by f (at_key es (step_key f)) = lookup-keyed es (IsDistinct-tail (eq_by_cmp nat_cmp) e.0 (keys_of es) d) (keyed_later e es d h) f in
-    by_bool (same_field f e.1.0)
-    (λ t.
-    let key : step_key f ≡ e.0 = ap step_key ((same_field-Decides f e.1.0).0 t) ∙ keyed_head e es h in
-    rw (own_key (step_key f) e.0 key, t) refl)
-    (λ n. by_bool (is_at (nat_cmp (step_key f)) e.0)
-    (λ t. rw (t, n) (later ∙ ap (led_by f) (none_later e es (step_key f) d t)))
-    (λ o. rw (o, n) later))
-
-distinct-keyed : (es : List (ℕ × (Field × ℕ))) → IsDistinct (eq_by_cmp nat_cmp) (keys_of es) → AreKeyed es → IsDistinct same_field (keys_of (values_of es))
-distinct-keyed [] d h = IsDistinct-nil same_field
-distinct-keyed (e ∷ es) d h =
-    let tail = IsDistinct-tail (eq_by_cmp nat_cmp) e.0 (keys_of es) d in let keyed = keyed_later e es d h in
-    let none : at_key es (step_key e.1.0) ≡ None = none_later e es (step_key e.1.0) d (own_key (step_key e.1.0) e.0 (keyed_head e es h)) in
-    IsDistinct-cons same_field e.1.0 (keys_of (values_of es))
-    (absent-lookup (same_field e.1.0) (values_of es) (lookup-keyed es tail keyed e.1.0 ∙ ap (led_by e.1.0) none))
-    (distinct-keyed es tail keyed)
+  -- one of them is found by its key
+  lookup-keyed : (f : Field) → lookup (same_field f) (values_of es) ≡ led_by f (at_key es (step_key f))
+  lookup-keyed f = by_option (lookup (same_field f) (values_of es))
+      (λ none. none ∙ sym (by_option (at_key es (step_key f)) (λ e. rw e refl) (λ v e. by_bool (same_field f v.0)
+      (λ y.
+      let c = contains-mapped (λ (d : ℕ × (Field × ℕ)). d.1) (step_key f, v) es (Contains-from_lookup same_key (step_key f) v es e) in
+      let there = lookup-from_Contains same_field_equiv v.0 v.1 (values_of es) (IsDistinct-from_AllPairs same_field-Decides (keys_of (values_of es)) distinct-keyed) c in
+      let is : f ≡ v.0 = (same_field-Decides f v.0).0 y in
+      let no : None ≡ Some v.1 = sym none ∙ ap (λ g. lookup (same_field g) (values_of es)) is ∙ there in absurd (cc))
+      (λ n. rw (e, n) refl))))
+      (λ i is.
+      let w = contains-map (λ (d : ℕ × (Field × ℕ)). d.1) es (f, i) (Contains-from_lookup (λ g h. (same_field-Decides g h).0) f i (values_of es) is) in
+      let found = at_own w.0 w.1 ∙ ap Some w.2 in
+      let at : at_key es (step_key f) ≡ Some (f, i) = ap (at_key es) (keyed w.0.0 (f, i) found) ∙ found in
+      is ∙ sym (rw (at, same_field_equiv.refl f) refl))
 
 -- ---- both maps
 
@@ -89,22 +87,30 @@ leads by_key by_step t f =
     lookup-append (same_field f) (values_of by_key) by_step
     ∙ ap (λ o. option_or o (lookup (same_field f) by_step)) (lookup-keyed by_key (keys_distinct by_key by_step t) t.keyed f)
 
--- what is looked up at the key, and then by itself
-pub looked_up : (by_key : List (ℕ × (Field × ℕ))) (by_step s : List (Field × ℕ)) → IsChildTree by_key by_step → steps_in by_key by_step ≡ s → (f : Field) (o : Option ℕ) → o ≡ led_by f (at_key by_key (step_key f))
-    → option_or o (lookup (is_at (field_cmp f)) by_step) ≡ lookup (same_field f) s
-looked_up by_key by_step s t is f o e = (λ i. option_or (e i) (by_order f by_step i)) ∙ sym (leads by_key by_step t f) ∙ ap (lookup (same_field f)) is
+-- what is looked up at the key, and where nothing is found there by itself
+pub looked_up_first : (by_key : List (ℕ × (Field × ℕ))) (by_step s : List (Field × ℕ)) (f : Field) (i : ℕ) → IsChildTree by_key by_step → steps_in by_key by_step ≡ s
+    → Some i ≡ led_by f (at_key by_key (step_key f)) → Some i ≡ lookup (same_field f) s
+looked_up_first by_key by_step s f i t is e =
+    ap (λ o. option_or o (lookup (same_field f) by_step)) e ∙ sym (leads by_key by_step t f) ∙ ap (lookup (same_field f)) is
+
+pub looked_up_later : (by_key : List (ℕ × (Field × ℕ))) (by_step s : List (Field × ℕ)) (f : Field) (o : Option ℕ) → IsChildTree by_key by_step → steps_in by_key by_step ≡ s
+    → None ≡ led_by f (at_key by_key (step_key f)) → o ≡ lookup (is_at (field_cmp f)) by_step → o ≡ lookup (same_field f) s
+looked_up_later by_key by_step s f o t is none e =
+    e ∙ (λ i. option_or (none i) (by_order f by_step i)) ∙ sym (leads by_key by_step t f) ∙ ap (lookup (same_field f)) is
 
 taken_by : (by_key : List (ℕ × (Field × ℕ))) (f : Field) → IsTaken by_key f → led_by f (at_key by_key (step_key f)) ≡ None
 taken_by by_key f t = ap (led_by f) t.1 ∙ rw t.2 refl
 
 pub distinct_steps : (by_key : List (ℕ × (Field × ℕ))) (by_step s : List (Field × ℕ)) → IsChildTree by_key by_step → steps_in by_key by_step ≡ s → IsDistinct same_field (keys_of s)
 distinct_steps by_key by_step s t is =
-    let keys = keys_distinct by_key by_step t in
-    subst (λ es. IsDistinct same_field (keys_of es)) is (
-    distinct-append (values_of by_key) by_step
-    (distinct-keyed by_key keys t.keyed)
-    (subst (λ eq. IsDistinct eq (keys_of by_step)) (λ i f g. sym (field_ties f g) i) (IsDistinct-from_sorted field_cmp (keys_of by_step) t.steps))
-    (λ f i e. lookup-keyed by_key keys t.keyed f ∙ taken_by by_key f (t.taken f i e)))
+    let keys = keys_distinct by_key by_step t in let first = values_of by_key in
+    let sorted = AllPairs-from_IsDistinct (λ f g. subst (λ b. Decides b (f ≡ g)) (field_ties f g) (same_field-Decides f g)) (keys_of by_step) (IsDistinct-from_sorted field_cmp (keys_of by_step) t.steps) in
+    rw (← is, map-append (λ (e : Field × ℕ). e.0) first by_step)
+    (IsDistinct-from_AllPairs same_field-Decides (keys_of first ++ keys_of by_step)
+    (distinct-append (keys_of first) (keys_of by_step) (distinct-keyed by_key keys t.keyed) sorted (λ f c d.
+    by_option (lookup (same_field f) by_step)
+    (λ none. false≢true (ap is_some (sym none) ∙ IsSome-lookup_from_Contains same_field_equiv f by_step d))
+    (λ i e. false≢true (ap is_some (sym (lookup-keyed by_key keys t.keyed f ∙ taken_by by_key f (t.taken f i e))) ∙ IsSome-lookup_from_Contains same_field_equiv f first c)))))
 
 -- ---- one step more
 
@@ -143,48 +149,36 @@ module _ (by_key : List (ℕ × (Field × ℕ))) (by_step : List (Field × ℕ))
     put : (k : ℕ) → at_key new k ≡ cond (is_at (nat_cmp (step_key x)) k) (Some (x, node_index)) (at_key by_key k)
     put = subst (λ j. (k : ℕ) → at_key new k ≡ cond (is_at (nat_cmp j) k) (Some (x, node_index)) (at_key by_key k)) own put_key
 
-    at_other : (f : Field) → is_at (nat_cmp (step_key x)) (step_key f) ≡ false → at_key new (step_key f) ≡ at_key by_key (step_key f)
-    at_other f n = put (step_key f) ∙ rw n refl
-
-    at_same : (f : Field) → is_at (nat_cmp (step_key x)) (step_key f) ≡ true → at_key new (step_key f) ≡ Some (x, node_index)
-    at_same f y = put (step_key f) ∙ rw y refl
-
-    -- what stood at the key before is the step
-    was : (f : Field) (v : Field × ℕ) → is_at (nat_cmp (step_key x)) (step_key f) ≡ true → at_key by_key (step_key f) ≡ Some v → x ≡ v.0
-    was f v y e = free v (ap (at_key by_key) (same_key (step_key x) (step_key f) y) ∙ e)
+    -- at a key is the step, where at most the step stood before, or what stood there before
+    at : (k : ℕ) → ((step_key x ≡ k) × (at_key new k ≡ Some (x, node_index)) × ((v : Field × ℕ) → at_key by_key k ≡ Some v → x ≡ v.0)) ⊎ ((step_key x ≢ k) × (at_key new k ≡ at_key by_key k))
+    at k = by_bool (is_at (nat_cmp (step_key x)) k)
+        (λ y. let key = same_key (step_key x) k y in inl (key, put k ∙ rw y refl, λ v e. free v (ap (at_key by_key) key ∙ e)))
+        (λ n. inr (λ key. false≢true (sym n ∙ own_key (step_key x) k key), put k ∙ rw n refl))
 
     pub more_by_key : IsChildTree new by_step
     more_by_key = record {
       keys = sorted;
       steps = t.steps;
-      keyed = λ k v e.
-          by_bool (is_at (nat_cmp (step_key x)) k)
-          (λ y.
-          let is : Some (x, node_index) ≡ Some v = sym (put k ∙ rw y refl) ∙ e in
-          let first : x ≡ v.0 = cc in
-          ap step_key (sym first) ∙ same_key (step_key x) k y)
-          (λ n. t.keyed k v (sym (put k ∙ rw n refl) ∙ e));
-      taken = λ f i e.
-          let old = t.taken f i e in
-          by_bool (is_at (nat_cmp (step_key x)) (step_key f))
-          (λ y. ((x, node_index), at_same f y, ap (same_field f) (was f old.0 y old.1) ∙ old.2))
-          (λ n. (old.0, at_other f n ∙ old.1, old.2));
+      keyed = λ k v e. ⊎_elim
+          (λ a. let is : Some (x, node_index) ≡ Some v = sym a.1 ∙ e in let first : x ≡ v.0 = cc in ap step_key (sym first) ∙ a.0)
+          (λ a. t.keyed k v (sym a.1 ∙ e))
+          (at k);
+      taken = λ f i e. let old = t.taken f i e in ⊎_elim
+          (λ a. ((x, node_index), a.1, ap (same_field f) (a.2 old.0 old.1) ∙ old.2))
+          (λ a. (old.0, a.1 ∙ old.1, old.2))
+          (at (step_key f));
     }
 
     led_new : (f : Field) → led_by f (at_key new (step_key f)) ≡ cond (same_field x f) (Some node_index) (led_by f (at_key by_key (step_key f)))
-    led_new f =
-        by_bool (same_field x f)
-        (λ y.
-        let key = own_key (step_key x) (step_key f) (ap step_key ((same_field-Decides x f).0 y)) in
-        rw (at_same f key, same_field_equiv.symm f x, y) refl)
+    led_new f = ⊎_elim
+        (λ a. by_bool (same_field x f)
+        (λ y. rw (a.1, same_field_equiv.symm f x, y) refl)
         (λ n.
-        by_bool (is_at (nat_cmp (step_key x)) (step_key f))
-        (λ y.
         let none : led_by f (at_key by_key (step_key f)) ≡ None = by_option (at_key by_key (step_key f)) (λ e. rw e refl) (λ v e.
-        let other : same_field f v.0 ≡ false = sym (ap (same_field f) (was f v y e)) ∙ same_field_equiv.symm f x ∙ n in
-        rw (e, other) refl) in
-        rw (at_same f y, none, same_field_equiv.symm f x, n) refl)
-        (λ o. rw (at_other f o, n) refl))
+        let other : same_field f v.0 ≡ false = sym (ap (same_field f) (a.2 v e)) ∙ same_field_equiv.symm f x ∙ n in rw (e, other) refl) in
+        rw (a.1, none, same_field_equiv.symm f x, n) refl))
+        (λ a. by_bool (same_field x f) (λ y. absurd (a.0 (ap step_key ((same_field-Decides x f).0 y)))) (λ n. rw (a.1, n) refl))
+        (at (step_key f))
 
     pub led_more_by_key : (s : List (Field × ℕ)) → steps_in by_key by_step ≡ s → (f : Field) → lookup (same_field f) (steps_in new by_step) ≡ cond (same_field x f) (Some node_index) (lookup (same_field f) s)
     led_more_by_key s is f =

@@ -1,9 +1,9 @@
 -- SPDX-License-Identifier: Apache-2.0
 -- SPDX-FileCopyrightText: Copyright the Vortex contributors
 
--- The members of a list, by cases on the list, and those of `map` and `flat_map`.
-use Rattle.std.proofs.Common.{suc, zero, map, ap, refl, ◌∙◌, ◌≡◌, ◌⊎◌, List, [], ◌∷◌, inl, inr, subst, sym, arith}
-use Rattle.std.specs.List.{Contains, flat_map}
+-- The members of a list, by cases on the list, and those of `map`, `filter_map` and `flat_map`.
+use Rattle.std.proofs.Common.{suc, zero, map, ap, refl, ◌∙◌, ◌≡◌, ◌⊎◌, List, [], ◌∷◌, Option, Some, None, inl, inr, subst, sym, arith, ⊎_elim}
+use Rattle.std.specs.List.{Contains, cons_option, filter_map, flat_map}
 use Rattle.std.proofs.lemmas.List.{get_or-map, length-map}
 use Rattle.std.proofs.lemmas.List.Elements.{Contains-append_left, Contains-append_right}
 
@@ -29,6 +29,29 @@ contains-map f (x ∷ xs) y (suc i, lt, e) = let w = contains-map f xs y (i, ome
 
 pub contains-mapped : {A B : Type 0} (f : A → B) (x : A) (xs : List A) → Contains xs x → Contains (map f xs) (f x)
 contains-mapped f x xs c = (c.0, omega (arith, c.1, length-map xs f), get_or-map f xs c.0 x (f x) c.1 ∙ ap f c.2)
+
+-- those of a list of what h gives
+module _ {A B : Type 0} (h : A → Option B) where
+  given_cases : (o : Option B) (ys : List B) (y : B) → Contains (cons_option o ys) y → (o ≡ Some y) ⊎ Contains ys y
+  given_cases None ys y c = inr c
+  given_cases (Some x) ys y c = ⊎_elim (λ e. inl (ap Some e)) inr (contains-cons x y ys c)
+
+  given_later : (o : Option B) (ys : List B) (y : B) → Contains ys y → Contains (cons_option o ys) y
+  given_later None ys y c = c
+  given_later (Some x) ys y c = contains-tail x y ys c
+
+  pub given_by : (xs : List A) (y : B) → Contains (filter_map h xs) y → (x : A) × Contains xs x × (h x ≡ Some y)
+  given_by [] y c = absurd (contains-nil y c)
+  given_by (x ∷ xs) y c =
+      ⊎_elim
+      (λ e. (x, contains-head x xs, e))
+      (λ d. let w = given_by xs y d in (w.0, contains-tail x w.0 xs w.1, w.2))
+      (given_cases (h x) (filter_map h xs) y c)
+
+  pub contains-given : (xs : List A) (x : A) (y : B) → Contains xs x → h x ≡ Some y → Contains (filter_map h xs) y
+  contains-given [] x y c e = absurd (contains-nil x c)
+  contains-given (z ∷ xs) x y (zero, lt, at) e = rw (ap h at ∙ e) (contains-head y (filter_map h xs))
+  contains-given (z ∷ xs) x y (suc i, lt, at) e = given_later (h z) (filter_map h xs) y (contains-given xs x y (i, omega (arith, lt), at) e)
 
 pub contains-flat_map : {A B : Type 0} (f : A → List B) (x : A) (y : B) (xs : List A) → Contains xs x → Contains (f x) y → Contains (flat_map f xs) y
 contains-flat_map f x y [] c d = absurd (contains-nil x c)

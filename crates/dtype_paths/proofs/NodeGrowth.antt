@@ -18,7 +18,7 @@ use Rattle.dtype_paths.specs.declared.field.Field.{Field}
 use Rattle.dtype_paths.specs.declared.node.Node.{Node}
 use Rattle.dtype_paths.specs.private.Trie.{chain, child_at, terminal_at, terminals, walk, reading, IsAlike, HasBranch, IsPrefixMatch, IsTrie, IsTrieBy}
 use Rattle.dtype_paths.specs.declared.path_match.PrefixMatch.{PrefixMatch}
-use Rattle.dtype_paths.proofs.NodeIndices.{gains, read-left, read-right, read-within, split}
+use Rattle.dtype_paths.proofs.NodeIndices.{gains, parted, read-left, read-right, read-within}
 use Rattle.dtype_paths.proofs.TrieGrowth.{Ends, Grows, Leads, trie-grown, trie-finish, trie-root, trie-same}
 
 -- ---- parts of a list
@@ -64,7 +64,11 @@ chain-leads child path (x ∷ rest) m h =
 
 -- ---- the list after a path of which a prefix was there
 
-module _ (old new : List Node) (path : List Field) (m : PrefixMatch) (trie : IsTrie old) (prefix : IsPrefixMatch old path m) (g : HasBranch old m.here path m.len new) where
+module _ (old ns new : List Node) (path parts : List Field) (m : PrefixMatch) (trie : IsTrie old) (view : old ≡ ns) (same : parts ≡ path)
+    (given : IsPrefixMatch ns parts m) (g : HasBranch old m.here path m.len new) where
+  prefix : IsPrefixMatch old path m
+  prefix = rw (← view, same) at given
+
   abbrev here : ℕ
   here = m.here
 
@@ -121,21 +125,14 @@ module _ (old new : List Node) (path : List Field) (m : PrefixMatch) (trie : IsT
             (cases_lt i (length old));
       }
 
-  parted : path ≡ take m.len path ++ x ∷ rest
-  parted =
-      let s = split path m.len (slice_get_within path m.len x g.first) in
-      let e : Some s.0 ≡ Some x = sym s.2 ∙ g.first in let is : s.0 ≡ x = same_Some s.0 x e in
-      let one : suc m.len ≡ m.len + 1 = omega arith in
-      s.3 ∙ rw (is, s.4, one) refl
-
-  pub nodes-grown : IsTrie new
-  nodes-grown =
+  pub nodes_grown : IsTrie new
+  nodes_grown =
       trie-grown (child_at old) (child_at new) (terminal_at old) (terminal_at new) (length old) here (take m.len path) x rest trie prefix.walked stop grows (length new)
       (omega (arith, g.long, length-append old tail, length-chain path rest (length old)))
-      (subst (Ends (terminal_at old) (terminal_at new) (length old + length rest)) parted new_ends)
+      (subst (Ends (terminal_at old) (terminal_at new) (length old + length rest)) (parted path m.len x g.first) new_ends)
 
-  pub grown-gains : set_of (terminals new) ≡ set.insert (set_of (terminals old)) path
-  grown-gains = gains old new (length old + length rest) path new_ends
+  pub grown_gains : set_of (terminals new) ≡ set.insert (set_of (terminals ns)) path
+  grown_gains = rw (← view) (gains old new (length old + length rest) path new_ends)
 
 -- ---- the root alone
 
@@ -162,20 +159,24 @@ module _ (old new : List Node) (a : IsAlike old new) where
       → option_and_then (λ n. f (reading n)) (slice_get new i) ≡ option_and_then (λ n. f (reading n)) (slice_get old i)
   read-same f i = read-map reading f new i ∙ ap (λ rs. option_and_then f (slice_get rs i)) a ∙ sym (read-map reading f old i)
 
-  pub nodes-same : IsTrie old → IsTrie new
-  nodes-same =
+  pub nodes_same : IsTrie old → IsTrie new
+  nodes_same =
       trie-same (child_at old) (child_at new) (terminal_at old) (terminal_at new) (length old) (length new)
       (λ i f. read-same (λ r. r.1 f) i) (read-same (λ r. r.0)) (sym (length-map new reading) ∙ ap length a ∙ length-map old reading)
 
-  pub terminals-same : terminals new ≡ terminals old
-  terminals-same = terminals-read new ∙ ap (filter_map (λ r. r.0)) a ∙ sym (terminals-read old)
+  pub terminals_same : (ns : List Node) → old ≡ ns → terminals new ≡ terminals ns
+  terminals_same ns same = terminals-read new ∙ ap (filter_map (λ r. r.0)) a ∙ sym (terminals-read old) ∙ ap terminals same
 
 -- ---- the list where the path ends in a node that is there
 
-module _ (old new : List Node) (path : List Field) (here : ℕ) (trie : IsTrie old) (walked : walk (child_at old) 0 path ≡ Some here) (long : length new ≡ length old)
+module _ (old ns new : List Node) (path parts : List Field) (here : ℕ) (trie : IsTrie old) (view : old ≡ ns) (same : parts ≡ path)
+    (led_here : walk (child_at ns) 0 parts ≡ Some here) (long : length new ≡ length old)
     (steps : (i : ℕ) (f : Field) → child_at new i f ≡ child_at old i f)
     (finish : (i : ℕ) → terminal_at new i ≡ cond (i == here) (Some path) (terminal_at old i)) where
-  pub terminals-finished : Ends (terminal_at old) (terminal_at new) here path
+  walked : walk (child_at old) 0 path ≡ Some here
+  walked = rw (← view, same) at led_here
+
+  terminals-finished : Ends (terminal_at old) (terminal_at new) here path
   terminals-finished = record {
     kept = λ i q e.
         by_bool (i == here)
@@ -192,7 +193,10 @@ module _ (old new : List Node) (path : List Field) (here : ℕ) (trie : IsTrie o
         (λ b. let f = finish i in let z = rw b at f in inl (sym z ∙ e));
   }
 
-  pub nodes-finished : IsTrie new
-  nodes-finished =
+  pub nodes_finished : IsTrie new
+  nodes_finished =
       trie-same (child_at old) (child_at new) (terminal_at new) (terminal_at new) (length old) (length new) steps (λ i. refl) long
       (trie-finish (child_at old) (terminal_at old) (terminal_at new) (length old) here path trie walked terminals-finished)
+
+  pub finished_gains : set_of (terminals new) ≡ set.insert (set_of (terminals ns)) path
+  finished_gains = rw (← view) (gains old new here path terminals-finished)

@@ -6,11 +6,11 @@ use Rattle.std.proofs.Common.{ℕ, suc, zero, ◌+◌, ◌<◌, length, take, dr
 use Rattle.std.specs.FinSet as set
 use Rattle.std.specs.List.{slice_get, Contains, cons_option}
 use Rattle.std.proofs.lemmas.List.Elements.{filter_map-append}
-use Rattle.std.proofs.lemmas.List.{map-append}
+use Rattle.std.proofs.lemmas.List.{drop_more, map-append, take-append-drop}
 use Rattle.dtype_base.specs.Distinct.{Distinct}
-use Rattle.std.proofs.lemmas.Option.{same_Some, option_and_then_some, slice_get_read, slice_get_within}
+use Rattle.std.proofs.lemmas.Option.{same_Some, get_or_from_slice_get, option_and_then_some, slice_get_read, slice_get_within}
 use Rattle.dtype_paths.proofs.DistinctLists.{distinct-cons, distinct-nil}
-use Rattle.dtype_paths.proofs.ListMembers.{contains-cons, contains-head, contains-nil, contains-tail}
+use Rattle.dtype_paths.proofs.ListMembers.{contains-cons, contains-given, contains-head, contains-tail, given_by}
 use Rattle.dtype_paths.proofs.lemmas.Cases.{by_option}
 use Rattle.dtype_paths.proofs.lemmas.SetMembers.{same_lists}
 use Rattle.dtype_paths.specs.PathOrder.{set_of}
@@ -45,22 +45,15 @@ next-step nodes path m prefix x step is same =
 
 -- ---- the list of the paths that end in nodes
 
-contains-has : (o : Option (List Field)) (ps : List (List Field)) (q : List Field) → Contains (cons_option o ps) q → (o ≡ Some q) ⊎ Contains ps q
-contains-has None ps q c = inr c
-contains-has (Some p) ps q c = ⊎_elim (λ e. inl (ap Some e)) inr (contains-cons p q ps c)
-
-has-later : (o : Option (List Field)) (ps : List (List Field)) (q : List Field) → Contains ps q → Contains (cons_option o ps) q
-has-later None ps q c = c
-has-later (Some p) ps q c = contains-tail p q ps c
-
 pub terminal-of : (nodes : List Node) (q : List Field) → Contains (terminals nodes) q → (i : ℕ) × (terminal_at nodes i ≡ Some q)
-terminal-of [] q c = absurd (contains-nil q c)
-terminal-of (n ∷ ns) q c = ⊎_elim (λ e. (0, e)) (λ d. let w = terminal-of ns q d in (suc w.0, w.1)) (contains-has n.terminal (terminals ns) q c)
+terminal-of nodes q c =
+    let w = given_by (λ n. n.terminal) nodes q c in
+    (w.1.0, rw (slice_get_read nodes (length nodes) w.1.0 w.0 refl w.1.1 (sym w.1.2)) w.2)
 
 pub of-terminal : (nodes : List Node) (i : ℕ) (q : List Field) → terminal_at nodes i ≡ Some q → Contains (terminals nodes) q
-of-terminal [] i q e = cc
-of-terminal (n ∷ ns) zero q e = rw e (contains-head q (terminals ns))
-of-terminal (n ∷ ns) (suc i) q e = has-later n.terminal (terminals ns) q (of-terminal ns i q e)
+of-terminal nodes i q e =
+    option_and_then_some (λ n. n.terminal) (slice_get nodes i) q e
+    (λ n at end. contains-given (λ n. n.terminal) nodes n q (i, slice_get_within nodes i n at, get_or_from_slice_get nodes i n n at) end)
 
 pub gains : (old new : List Node) (node_index : ℕ) (path : List Field) → Ends (terminal_at old) (terminal_at new) node_index path
     → set_of (terminals new) ≡ set.insert (set_of (terminals old)) path
@@ -84,15 +77,15 @@ terminals-distinct (n ∷ ns) h =
     (λ y e. rw e (distinct-cons y (terminals ns) (λ c. let w = terminal-of ns y c in let z = h 0 (suc w.0) y e w.1 in omega (arith, z)) later))
 
 -- no path ends in two nodes
-pub trie-distinct : (nodes : List Node) → IsTrie nodes → Distinct (terminals nodes)
-trie-distinct nodes t = terminals-distinct nodes (λ i j q a b. let e = sym (t.ends_where_it_leads i q a) ∙ t.ends_where_it_leads j q b in same_Some i j e)
+pub ends_once : (nodes : List Node) (ps : List (List Field)) → IsTrie nodes → ps ≡ terminals nodes → Distinct ps
+ends_once nodes ps t is = rw is (terminals-distinct nodes (λ i j q a b. let e = sym (t.ends_where_it_leads i q a) ∙ t.ends_where_it_leads j q b in same_Some i j e))
 
 -- ---- how far a path leads
 
-pub split : {A : Type 0} (p : List A) (at : ℕ) → at < length p → (f : A) × (rest : List A) × (slice_get p at ≡ Some f) × (p ≡ take at p ++ f ∷ rest) × (rest ≡ drop (suc at) p)
-split [] at h = absurd (omega (arith, h))
-split (x ∷ p) zero h = (x, p, refl, refl, refl)
-split (x ∷ p) (suc at) h = let w = split p at (omega (arith, h)) in (w.0, w.1, w.2, ap (λ q. x ∷ q) w.3, w.4)
+pub parted : {A : Type 0} (p : List A) (at : ℕ) (x : A) → slice_get p at ≡ Some x → p ≡ take at p ++ x ∷ drop (at + 1) p
+parted p at x e =
+    sym (take-append-drop at p)
+    ∙ ap (λ q. take at p ++ q) (drop_more p at x (slice_get_within p at x e) ∙ ap (λ y. y ∷ drop (at + 1) p) (get_or_from_slice_get p at x x e))
 
 module _ (nodes : List Node) (path : List Field) (t : IsTrie nodes) where
   pub contains-whole : (here : ℕ) → walk (child_at nodes) 0 path ≡ Some here → (c : Bool) → c ≡ is_some (terminal_at nodes here) → Decides c (Contains (terminals nodes) path)
@@ -108,12 +101,10 @@ module _ (nodes : List Node) (path : List Field) (t : IsTrie nodes) where
   -- a path that leads to no node ends in none
   pub contains-no_more : (m : PrefixMatch) → IsPrefixMatch nodes path m → Contains (terminals nodes) path → ⊥
   contains-no_more m prefix c =
-      let s = split path m.len (slice_get_within path m.len prefix.step prefix.next) in
-      let z = terminal-of nodes path c in
-      let e : walk (child_at nodes) m.here (s.0 ∷ s.1) ≡ Some z.0 = sym (walk-append (child_at nodes) 0 m.here (take m.len path) (s.0 ∷ s.1) prefix.walked) ∙ rw (← s.3) (t.ends_where_it_leads z.0 path z.1) in
-      let is : s.0 ≡ prefix.step = let q = sym s.2 ∙ prefix.next in same_Some s.0 prefix.step q in
-      let n : child_at nodes m.here s.0 ≡ None = rw is prefix.none in
-      let y : None ≡ Some z.0 = rw n at e in cc
+      let z = terminal-of nodes path c in let rest = prefix.step ∷ drop (m.len + 1) path in
+      let e : walk (child_at nodes) m.here rest ≡ Some z.0 = sym (walk-append (child_at nodes) 0 m.here (take m.len path) rest prefix.walked)
+      ∙ ap (walk (child_at nodes) 0) (sym (parted path m.len prefix.step prefix.next)) ∙ t.ends_where_it_leads z.0 path z.1 in
+      let y : None ≡ Some z.0 = rw prefix.none at e in cc
 
 -- ---- the paths that end in nodes, node by node
 

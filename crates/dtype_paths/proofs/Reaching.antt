@@ -59,62 +59,38 @@ module _ (nodes : List Node) (t : IsTrie nodes) where
   pub child-ends : (i j : ℕ) (f : Field) → IsReached nodes i → child_at nodes i f ≡ Some j → ends_below nodes j ≢ no_path
   child-ends i j f r e none = let q = child-witness i j f r e in false≢true (ap (λ (w : PathPredicate). w q.0) (sym none) ∙ q.1)
 
-  -- no path ends below a node exactly where none ends in it and it has no child
-  pub nothing-below : (i : ℕ) (n : Node) → IsReached nodes i → terminal_at nodes i ≡ n.terminal → ((f : Field) → child_at nodes i f ≡ child n.children f)
-      → ((n.terminal ≡ None) × (nodes_by_step n.children ≡ [])) ↔ (ends_below nodes i ≡ no_path)
-  nothing-below i n r terminal steps = (
-    λ e. λ k p. none-ends e p k,
-    λ z. (
-      by_option n.terminal (λ e. e) (λ q e. let no : true ≡ false = sym (ap is_some (terminal ∙ e)) ∙ ap (λ (w : PathPredicate). w []) z in cc),
-      no-child (nodes_by_step n.children) refl z,
-    ),
-  )
-    where
-      none-ends : (n.terminal ≡ None) × (nodes_by_step n.children ≡ []) → (p : List Field) → ends_below nodes i p ≡ false
-      none-ends e [] = ap is_some (terminal ∙ e.0)
-      none-ends e (f ∷ p) = ap (λ o. is_some (option_and_then (terminal_at nodes) (option_and_then (λ j. walk (child_at nodes) j p) o))) (steps f ∙ ap (lookup (same_field f)) e.1)
-
-      no-child : (es : List (Field × ℕ)) → nodes_by_step n.children ≡ es → ends_below nodes i ≡ no_path → es ≡ []
-      no-child [] is z = refl
-      no-child ((f, j) ∷ es) is z =
-          let to : child_at nodes i f ≡ Some j = steps f ∙ ap (lookup (same_field f)) is ∙ rw ((same_field-Decides f f).1 refl) refl in
-          absurd (child-ends i j f r to (λ k p. after z f p j to k))
-        where
-          after : ends_below nodes i ≡ no_path → (f : Field) (p : List Field) (j : ℕ) → child_at nodes i f ≡ Some j → ends_below nodes j p ≡ false
-          after z f p j to = ap (λ o. is_some (option_and_then (terminal_at nodes) (option_and_then (λ k. walk (child_at nodes) k p) o))) (sym to) ∙ ap (λ (w : PathPredicate). w (f ∷ p)) z
-
   -- where a path ends in a node, or it has a child, some path ends below
-  pub something-below : (i : ℕ) (n : Node) → IsReached nodes i → terminal_at nodes i ≡ n.terminal → ((f : Field) → child_at nodes i f ≡ child n.children f)
-      → ((n.terminal ≡ None) × (nodes_by_step n.children ≡ []) → ⊥) → (q : List Field) × (ends_below nodes i q ≡ true)
-  something-below i n r terminal steps some =
-      by_option n.terminal (λ none. below none (nodes_by_step n.children) refl) (λ q e. ([], ap is_some (terminal ∙ e)))
+  pub some-below : (i : ℕ) (n : Node) → IsReached nodes i → slice_get nodes i ≡ Some n → ((n.terminal ≡ None) × (nodes_by_step n.children ≡ []) → ⊥) → (q : List Field) × (ends_below nodes i q ≡ true)
+  some-below i n r at some = by_option n.terminal (λ none. below none (nodes_by_step n.children) refl) (λ q e. ([], rw (at, e) refl))
     where
       below : n.terminal ≡ None → (es : List (Field × ℕ)) → nodes_by_step n.children ≡ es → (q : List Field) × (ends_below nodes i q ≡ true)
       below none [] is = absurd (some (none, is))
       below none ((f, j) ∷ es) is =
-          let to : child_at nodes i f ≡ Some j = steps f ∙ ap (lookup (same_field f)) is ∙ rw ((same_field-Decides f f).1 refl) refl in
-          let u = child-witness i j f r to in
-          (f ∷ u.0, ap (λ o. is_some (option_and_then (terminal_at nodes) (option_and_then (λ k. walk (child_at nodes) k u.0) o))) to ∙ u.1)
+          let to : child_at nodes i f ≡ Some j = rw (at, is, (same_field-Decides f f).1 refl) refl in
+          let u = child-witness i j f r to in (f ∷ u.0, rw to u.1)
+
+-- no path ends below a node in which none ends and that has no child
+pub none-below : (nodes : List Node) (i : ℕ) (n : Node) → slice_get nodes i ≡ Some n → (n.terminal ≡ None) × (nodes_by_step n.children ≡ []) → ends_below nodes i ≡ no_path
+none-below nodes i n at e = λ k p. none p k
+  where
+    none : (p : List Field) → ends_below nodes i p ≡ false
+    none [] = rw (at, e.0) refl
+    none (f ∷ p) = rw (at, e.1) refl
 
 -- a path leads to a node's child, and below it some path ends
-pub reached_child : (nodes ns : List Node) (i j : ℕ) (f : Field) (n : Node) → IsTrie nodes → nodes ≡ ns → IsReached ns i → slice_get nodes i ≡ Some n → Some j ≡ child n.children f
-    → IsReached ns j
-reached_child nodes ns i j f n t same r at led =
-    subst (λ ns. IsReached ns j) same (child-reached nodes t i j f (subst (λ ns. IsReached ns i) (sym same) r) (ap (option_and_then (λ n. child n.children f)) at ∙ sym led))
+module _ (nodes ns : List Node) (i j : ℕ) (f : Field) (n : Node) (t : IsTrie nodes) (same : nodes ≡ ns) (r : IsReached ns i) (at : slice_get nodes i ≡ Some n) (led : Some j ≡ child n.children f) where
+  to_child : child_at ns i f ≡ Some j
+  to_child = rw (← same, at) (sym led)
 
-pub child_asks : (nodes ns : List Node) (i j : ℕ) (f : Field) (n : Node) → IsTrie nodes → nodes ≡ ns → IsReached ns i → slice_get nodes i ≡ Some n → Some j ≡ child n.children f
-    → (q : List Field) × IsTrue (ends_below ns j q)
-child_asks nodes ns i j f n t same r at led =
-    subst (λ (ns : List Node). (q : List Field) × IsTrue (ends_below ns j q)) same (child-witness nodes t i j f (subst (λ ns. IsReached ns i) (sym same) r) (ap (option_and_then (λ n. child n.children f)) at ∙ sym led))
+  pub reached_child : IsReached ns j
+  reached_child = child-reached ns (subst IsTrie same t) i j f r to_child
 
--- after a step to a child end the suffixes
-pub ends-child : (nodes : List Node) (i : ℕ) (f : Field) (o : Option ℕ) → o ≡ child_at nodes i f → (p : List Field)
-    → ends_below nodes i (f ∷ p) ≡ is_some (option_and_then (terminal_at nodes) (option_and_then (λ j. walk (child_at nodes) j p) o))
-ends-child nodes i f o e p = ap (λ (x : Option ℕ). is_some (option_and_then (terminal_at nodes) (option_and_then (λ j. walk (child_at nodes) j p) x))) (sym e)
+  pub child_asks : (q : List Field) × IsTrue (ends_below ns j q)
+  child_asks = child-witness ns (subst IsTrie same t) i j f r to_child
 
--- the same of a child that is there, and of none
+-- after a step to a child that is there end the suffixes, and none after a step to no child
 pub ends_stepped : (nodes : List Node) (i j : ℕ) (f : Field) → Some j ≡ child_at nodes i f → ends_below nodes j ≡ after_step f (ends_below nodes i)
-ends_stepped nodes i j f e = λ k p. sym (ends-child nodes i f (Some j) e p) k
+ends_stepped nodes i j f e = λ k p. (let same : ends_below nodes j p ≡ ends_below nodes i (f ∷ p) = rw (← e) refl in same) k
 
 pub ends_nowhere : (nodes : List Node) (i : ℕ) (f : Field) → None ≡ child_at nodes i f → no_path ≡ after_step f (ends_below nodes i)
-ends_nowhere nodes i f e = λ k p. sym (ends-child nodes i f None e p) k
+ends_nowhere nodes i f e = λ k p. (let same : false ≡ ends_below nodes i (f ∷ p) = rw (← e) refl in same) k

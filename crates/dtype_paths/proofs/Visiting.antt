@@ -2,352 +2,327 @@
 -- SPDX-FileCopyrightText: Copyright the Vortex contributors
 
 -- How the nodes of a list are visited.
-use Rattle.std.proofs.Common.{ℕ, ◌-◌, min, ◌+◌, ◌<◌, ◌≤◌, ◌≢◌, length, map, ◌≡◌, ◌↔◌, ◌⊎◌, IsTrue, List, [], ◌∷◌, ◌++◌, Some, None, inl, inr, refl, sym, ap, subst, ◌∙◌, arith, ⊎_elim, append_assoc, append-nil}
+use Rattle.std.proofs.Common.{ℕ, ◌-◌, min, ◌+◌, ◌<◌, ◌≤◌, ◌≢◌, cond, is_some, length, map, ◌≡◌, ◌↔◌, IsTrue, List, [], ◌∷◌, ◌++◌, Option, Some, None, option_and_then, inl, inr, refl, sym, ap, subst, ◌∙◌, arith, ⊎_elim, append_assoc, append-nil, length-append}
 use Rattle.std.specs.FinSet as set
-use Rattle.std.specs.List.{slice_get, Contains, IsDistinct}
+use Rattle.std.specs.List.{slice_get, cons_option, filter_map, Contains, IsDistinct}
+use Rattle.std.specs.List.Sorted.{IsPermutation}
 use Rattle.std.specs.Map.{keys_of, lookup, values_of}
-use Rattle.std.specs.Option.{unwrap_or}
-use Rattle.std.proofs.lemmas.List.Elements.{Contains-append_left, Contains-append_right, Contains-push, Contains-push_cases}
-use Rattle.std.proofs.lemmas.List.{append_cancel_left, length-map, length_push, map-append, same_from_push}
+use Rattle.std.proofs.lemmas.Bool.Decides.{Decides-eqb, same_from_decides}
+use Rattle.std.proofs.lemmas.List.Elements.{Contains-append_cases, Contains-append_left, Contains-append_right, Contains-push}
+use Rattle.std.proofs.lemmas.List.{length-map, length_push, same_from_push}
+use Rattle.std.proofs.lemmas.List.Sorted.{Contains-permutation, IsPermutation-append_comm, IsPermutation-append_left, IsPermutation-append_right, IsPermutation-push_more, IsPermutation-refl, IsPermutation-sym, IsPermutation-trans, length_permutation}
 use Rattle.std.proofs.lemmas.Map.Made.{AllPairs-from_IsDistinct}
 use Rattle.std.proofs.lemmas.Map.Views.{lookup-from_Contains, Contains-from_lookup}
 use Rattle.std.proofs.lemmas.Option.{same_Some, option_and_then_some}
-use Rattle.dtype_paths.proofs.lemmas.Beginnings.{begins_nil, beginning_refl, beginning_trans, beginning_both, either_begins}
-use Rattle.dtype_paths.proofs.lemmas.SetCovers.{covers_member, least_begins, least_word}
-use Rattle.dtype_paths.proofs.lemmas.SetMembers.{of_has, of_only}
+use Rattle.dtype_paths.proofs.lemmas.Cases.{by_option}
+use Rattle.dtype_paths.proofs.lemmas.SetCovers.{least_word}
+use Rattle.dtype_paths.proofs.lemmas.SetMembers.{from_list-Decides, of_has, of_only, same_by}
 use Rattle.dtype_paths.specs.Beginning.{Beginning}
 use Rattle.dtype_base.specs.Distinct.{Distinct}
 use Rattle.dtype_paths.specs.Covering.{IsCountOf, least}
 use Rattle.dtype_paths.specs.PathOrder.{PathSet, set_of}
 use Rattle.dtype_paths.specs.private.Reached.{IsBegun}
 use Rattle.dtype_paths.specs.Equality.{same_field}
-use Rattle.dtype_paths.specs.EqualityLaws.{same_field-Decides, same_field_equiv}
+use Rattle.dtype_paths.specs.EqualityLaws.{same_field-Decides, same_field_equiv, same_path-Decides}
 use Rattle.dtype_paths.specs.declared.field.Field.{Field}
 use Rattle.dtype_paths.specs.declared.node.Node.{Node}
+use Rattle.dtype_paths.specs.private.Children.{child}
 use Rattle.dtype_paths.specs.private.Trie.{child_at, terminal_at, terminals, walk, IsTrie}
-use Rattle.dtype_paths.proofs.DistinctLists.{IsDistinct-nil, distinct-nil, distinct-cons, distinct-head, distinct-append, distinct-insert, distinct-right, distinct-below, distinct-map, inserted_cases}
-use Rattle.dtype_paths.proofs.ListMembers.{contains-map, contains-mapped, contains-cons, contains-head, contains-tail, contains-nil}
-use Rattle.dtype_paths.proofs.NodeIndices.{terminal-of, of-terminal}
-use Rattle.dtype_paths.proofs.TrieGrowth.{walk-append, walk-front, walk-snoc}
+use Rattle.dtype_paths.proofs.DistinctLists.{distinct-nil, distinct-cons, distinct-head, distinct-append, distinct-given, distinct-moved, distinct-right, distinct-below, distinct-map, distinct-unmap}
+use Rattle.dtype_paths.proofs.ListMembers.{contains-map, contains-mapped, contains-cons, contains-given, contains-head, contains-tail, contains-nil, given_by}
+use Rattle.dtype_paths.proofs.NodeIndices.{read-within, terminal-of, of-terminal}
+use Rattle.dtype_paths.proofs.TrieGrowth.{walk-append, walk-front, walk-mono, walk-snoc}
 
--- ---- paths with a last step
+-- the child of a node by a step, unless a path ends in the node: so far a visit goes
+abbrev opens : List Node → ℕ → Field → Option ℕ
+opens nodes i f = cond (is_some (terminal_at nodes i)) None (child_at nodes i f)
 
-begins_snoc : (l s : List Field) (f : Field) → Beginning l (s ++ f ∷ []) → (l ≡ s ++ f ∷ []) ⊎ Beginning l s
-begins_snoc [] s f b = inr (s, refl)
-begins_snoc (y ∷ l) [] f b =
-    let e : f ∷ [] ≡ y ∷ (l ++ b.0) = b.1 in
-    let is : y ≡ f = cc in let none = begins_nil l (b.0, cc) in inl (λ i. is i ∷ none i)
-begins_snoc (y ∷ l) (z ∷ s) f b =
-    let e : z ∷ (s ++ f ∷ []) ≡ y ∷ (l ++ b.0) = b.1 in
-    let is : y ≡ z = cc in
-    ⊎_elim (λ h. inl (λ i. is i ∷ h i)) (λ h. inr (h.0, λ i. sym is i ∷ h.1 i)) (begins_snoc l s f (b.0, cc))
+-- some path leads to the node, and none ends on the way
+abbrev IsOpened : List Node → ℕ → Type 0
+IsOpened nodes i = (s : List Field) × (walk (opens nodes) 0 s ≡ Some i)
 
 no_snoc : (s : List Field) (f : Field) → s ++ f ∷ [] ≡ [] → ⊥
 no_snoc s f e = omega (arith, ap length e, length_push s f)
-
--- ---- which nodes are visited
-
--- s leads to a node, and no path of the trie begins it but s itself
-pub record IsVisited (nodes : List Node) (s : List Field) : Type 0 where
-  pub node : ℕ
-  pub at : walk (child_at nodes) 0 s ≡ Some node
-  pub alone : (l : List Field) → Contains (terminals nodes) l → Beginning l s → l ≡ s
-
-visited-root : (nodes : List Node) → IsVisited nodes []
-visited-root nodes = record { node = 0; at = refl; alone = λ l m b. begins_nil l b }
 
 module _ (nodes : List Node) (trie : IsTrie nodes) where
   abbrev paths : PathSet
   paths = set_of (terminals nodes)
 
-  -- the least paths end in visited nodes
-  visited-least : (p : List Field) → IsTrue (set.contains (least paths) p) ↔ (IsVisited nodes p × Contains (terminals nodes) p)
-  visited-least p = (
+  opens-child : (i j : ℕ) (f : Field) → opens nodes i f ≡ Some j → (terminal_at nodes i ≡ None) × (child_at nodes i f ≡ Some j)
+  opens-child i j f e =
+      by_option (terminal_at nodes i) (λ none. (none, rw none at e)) (λ q end. absurd (let z : None ≡ Some j = rw end at e in cc))
+
+  led : (i j : ℕ) (s : List Field) → walk (opens nodes) i s ≡ Some j → walk (child_at nodes) i s ≡ Some j
+  led = walk-mono (opens nodes) (child_at nodes) (λ i f j e. (opens-child i j f e).1)
+
+  -- ---- which nodes are opened
+
+  -- a path that ends in an opened node leads there through opened nodes
+  ends-opened : (p : List Field) (i : ℕ) → IsOpened nodes i → terminal_at nodes i ≡ Some p → walk (opens nodes) 0 p ≡ Some i
+  ends-opened p i s end =
+      subst (λ q. walk (opens nodes) 0 q ≡ Some i) (trie.once s.0 p i (led 0 i s.0 s.1) (trie.ends_where_it_leads i p end)) s.1
+
+  -- nothing is opened below a node where a path ends
+  stops : (i j : ℕ) (q r : List Field) → terminal_at nodes i ≡ Some q → walk (opens nodes) i r ≡ Some j → r ≡ []
+  stops i j q [] end at = refl
+  stops i j q (f ∷ r) end at = let z : None ≡ Some j = rw end at at in absurd (cc)
+
+  -- on the way to the end of a path is a first node where one ends
+  first-end : (s r : List Field) (i j : ℕ) → walk (child_at nodes) 0 s ≡ Some i → walk (child_at nodes) i r ≡ Some j → terminal_at nodes j ≡ Some (s ++ r)
+      → (k : ℕ) × (t : List Field) × Beginning t r × (walk (opens nodes) i t ≡ Some k) × (terminal_at nodes k ≡ Some (s ++ t))
+  first-end s [] i j at on end = (i, [], ([], refl), refl, ap (terminal_at nodes) (same_Some i j on) ∙ end)
+  first-end s (f ∷ r) i j at on end =
+      by_option (terminal_at nodes i)
+      (λ none. option_and_then_some (λ k. walk (child_at nodes) k r) (child_at nodes i f) j on (λ k e later.
+      let w = first-end (s ++ f ∷ []) r k j (walk-snoc (child_at nodes) i k s f at e) later (rw append_assoc end) in
+      (w.0, f ∷ w.1, (w.2.0, ap (λ q. f ∷ q) w.2.1), rw (none, e) w.3, rw append_assoc at w.4)))
+      (λ q here. (i, [], (f ∷ r, refl), refl, here ∙ ap Some (trie.once q s i (trie.ends_where_it_leads i q here) at ∙ sym (append-nil s))))
+
+  -- the least paths are those that end in opened nodes
+  least-opened : (p : List Field) → IsTrue (set.contains (least paths) p) ↔ ((i : ℕ) × (walk (opens nodes) 0 p ≡ Some i) × (terminal_at nodes i ≡ Some p))
+  least-opened p = (
     λ h.
         let l = (least_word paths p).0 h in
-        let m = of_only (terminals nodes) p l.0 in
-        let w = terminal-of nodes p m in
-        (record { node = w.0; at = trie.ends_where_it_leads w.0 p w.1; alone = λ q c b. l.1 q (of_has (terminals nodes) q c) b }, m),
-    λ v. (least_word paths p).1 (of_has (terminals nodes) p v.1, λ q c b. v.0.alone q (of_only (terminals nodes) q c) b),
+        let w = terminal-of nodes p (of_only (terminals nodes) p l.0) in
+        let e = first-end [] p 0 w.0 refl (trie.ends_where_it_leads w.0 p w.1) w.1 in
+        let is = l.1 e.1 (of_has (terminals nodes) e.1 (of-terminal nodes e.0 e.1 e.4)) e.2 in
+        subst (λ q. (i : ℕ) × (walk (opens nodes) 0 q ≡ Some i) × (terminal_at nodes i ≡ Some q)) is (e.0, e.3, e.4),
+    λ v. (least_word paths p).1 (
+      of_has (terminals nodes) p (of-terminal nodes v.0 p v.2),
+      λ q c b.
+          let w = terminal-of nodes q (of_only (terminals nodes) q c) in
+          let k = walk-front (opens nodes) 0 v.0 q b.0 (rw b.1 at v.1) in
+          let there : k.0 ≡ w.0 = let e = sym (led 0 k.0 q k.1) ∙ trie.ends_where_it_leads w.0 q w.1 in same_Some k.0 w.0 e in
+          let none = stops k.0 v.0 q b.0 (ap (terminal_at nodes) there ∙ w.1) (sym (walk-append (opens nodes) 0 k.0 q b.0 k.1) ∙ rw b.1 at v.1) in
+          sym (b.1 ∙ ap (λ r. q ++ r) none ∙ append-nil q),
+    ),
   )
 
   -- the others are on the way to these
-  visited-begun : (q : List Field) → IsVisited nodes q ↔ IsBegun paths q
-  visited-begun q = (to q, ⊎_elim (λ e. subst (IsVisited nodes) (sym e) (visited-root nodes)) from)
+  opened-begun : (q : List Field) → ((i : ℕ) × (walk (opens nodes) 0 q ≡ Some i)) ↔ IsBegun paths q
+  opened-begun q = (to q, ⊎_elim (λ e. (0, rw e refl)) (λ h. let v = (least-opened h.0).0 h.1 in walk-front (opens nodes) 0 v.0 q h.2.0 (subst (λ p. walk (opens nodes) 0 p ≡ Some v.0) h.2.1 v.1)))
     where
-      to : (q : List Field) → IsVisited nodes q → IsBegun paths q
+      to : (q : List Field) → (i : ℕ) × (walk (opens nodes) 0 q ≡ Some i) → IsBegun paths q
       to [] v = inl refl
       to (f ∷ q) v =
-          let u = trie.used (f ∷ q) v.node v.at (λ z. let nil = trie.once (f ∷ q) [] v.node v.at (ap Some (sym z)) in cc) in
-          let m = (f ∷ q) ++ u.1 in
-          let l = least_begins paths m (covers_member paths m (of_has (terminals nodes) m (of-terminal nodes u.0 m u.2))) in
-          inr (
-            l.0,
-            l.1,
-            ⊎_elim (λ b. b) (λ b. let is : l.0 ≡ f ∷ q = v.alone l.0 ((visited-least l.0).0 l.1).1 b in subst (Beginning (f ∷ q)) (sym is) (beginning_refl (f ∷ q)))
-                (either_begins (f ∷ q) l.0 m (u.1, refl) l.2),
-          )
+          let p = f ∷ q in let at = led 0 v.0 p v.1 in
+          let u = trie.used p v.0 at (λ z. let nil = trie.once p [] v.0 at (ap Some (sym z)) in cc) in
+          let on = sym (walk-append (child_at nodes) 0 v.0 p u.1 at) ∙ trie.ends_where_it_leads u.0 (p ++ u.1) u.2 in
+          let e = first-end p u.1 v.0 u.0 at on u.2 in
+          inr (p ++ e.1, (least-opened (p ++ e.1)).1 (e.0, walk-append (opens nodes) 0 v.0 p e.1 v.1 ∙ e.3, e.4), (e.1, refl))
 
-      from : (p : List Field) × IsTrue (set.contains (least paths) p) × Beginning q p → IsVisited nodes q
-      from h =
-          let v = ((visited-least h.0).0 h.1).0 in
-          let w = walk-front (child_at nodes) 0 v.node q h.2.0 (subst (λ p. walk (child_at nodes) 0 p ≡ Some v.node) h.2.1 v.at) in
-          record { node = w.0; at = w.1; alone = λ l m b. beginning_both l q b (subst (Beginning q) (sym (v.alone l m (beginning_trans l q h.0 b h.2))) h.2) }
+  -- ---- each node but the root is the child of one node by one step
 
-  -- after a visited node where no path ends, each step leads to one
-  visited-child : (s : List Field) (f : Field) (j : ℕ) → IsVisited nodes s → (Contains (terminals nodes) s → ⊥) → walk (child_at nodes) 0 (s ++ f ∷ []) ≡ Some j
-      → IsVisited nodes (s ++ f ∷ [])
-  visited-child s f j v none at = record {
-    node = j;
-    at = at;
-    alone = λ l m b. ⊎_elim (λ e. e) (λ c. absurd (none (subst (Contains (terminals nodes)) (v.alone l m c) m))) (begins_snoc l s f b);
-  }
+  above : (i j : ℕ) (f : Field) → child_at nodes i f ≡ Some j → (s : List Field) × (walk (child_at nodes) 0 s ≡ Some i) × (walk (child_at nodes) 0 (s ++ f ∷ []) ≡ Some j)
+  above i j f e =
+      let s = trie.reached i (read-within (λ n. child n.children f) nodes i j e) in
+      (s.0, s.1, walk-snoc (child_at nodes) i j s.0 f s.1 e)
 
-  -- what is visited below a node is that, or below one of its children
-  visited-below : (s : List Field) (x : ℕ) → walk (child_at nodes) 0 s ≡ Some x → (q : List Field) → IsVisited nodes q → Beginning s q
-      → (q ≡ s) ⊎ ((f : Field) × (j : ℕ) × (child_at nodes x f ≡ Some j) × Beginning (s ++ f ∷ []) q)
-  visited-below s x at q v b = go b.0 b.1
-    where
-      go : (rest : List Field) → q ≡ s ++ rest → (q ≡ s) ⊎ ((f : Field) × (j : ℕ) × (child_at nodes x f ≡ Some j) × Beginning (s ++ f ∷ []) q)
-      go [] e = inl (e ∙ append-nil s)
-      go (f ∷ t) e =
-          let on : walk (child_at nodes) x (f ∷ t) ≡ Some v.node = sym (walk-append (child_at nodes) 0 x s (f ∷ t) at)
-          ∙ subst (λ p. walk (child_at nodes) 0 p ≡ Some v.node) e v.at in
-          option_and_then_some (λ j. walk (child_at nodes) j t) (child_at nodes x f) v.node on (λ j k _. inr (f, j, k, (t, e ∙ sym (append_assoc s (f ∷ []) t))))
+  no_parent : (i : ℕ) (f : Field) → child_at nodes i f ≡ Some 0 → ⊥
+  no_parent i f e = let s = above i 0 f e in no_snoc s.0 f (trie.once (s.0 ++ f ∷ []) [] 0 s.2 refl)
+
+  one_parent : (i k j : ℕ) (f g : Field) → child_at nodes i f ≡ Some j → child_at nodes k g ≡ Some j → (i ≡ k) × (f ≡ g)
+  one_parent i k j f g e d =
+      let s = above i j f e in let t = above k j g d in
+      let same = same_from_push s.0 t.0 f g (trie.once (s.0 ++ f ∷ []) (t.0 ++ g ∷ []) j s.2 t.2) in
+      let at = sym s.1 ∙ ap (walk (child_at nodes) 0) same.0 ∙ t.1 in (same_Some i k at, same.1)
 
 -- ---- what has been visited, and what is still to be
 
 pub record Visits (nodes left : List Node) (found : List (List Field)) (visits : ℕ) (node_indices : List ℕ) : Type 0 where
-  pub done : List (List Field)
-  pub waiting : List (List Field)
-  pub at : map (walk (child_at nodes) 0) waiting ≡ map Some node_indices
-  pub distinct : Distinct (waiting ++ done)
-  pub reached : (s : List Field) → Contains (waiting ++ done) s → IsVisited nodes s
-  pub parents : (s : List Field) (f : Field) → Contains (waiting ++ done) (s ++ f ∷ []) → Contains done s
-  pub rest : (q : List Field) → IsVisited nodes q → Contains done q ⊎ ((s : List Field) × Contains waiting s × Beginning s q)
+  pub trie : IsTrie nodes
+  -- the nodes that were visited, and these with those that are to be
+  pub done : List ℕ
+  pub known : List ℕ
+  pub parted : IsPermutation known (node_indices ++ done)
+  pub distinct : Distinct known
+  pub opened : (i : ℕ) → Contains known i → IsOpened nodes i
+  pub root : Contains known 0
+  pub closed : (i j : ℕ) (f : Field) → opens nodes i f ≡ Some j → Contains done i ↔ Contains known j
   pub long : length left ≡ length nodes
-  pub same : (s : List Field) (i : ℕ) → walk (child_at nodes) 0 s ≡ Some i → (Contains done s → ⊥) → slice_get left i ≡ slice_get nodes i
-  pub exact : (p : List Field) → Contains found p ↔ (Contains done p × Contains (terminals nodes) p)
-  pub once : Distinct found
+  pub same : (i : ℕ) → (Contains done i → ⊥) → slice_get left i ≡ slice_get nodes i
+  pub exact : IsPermutation found (filter_map (terminal_at nodes) done)
   pub count : visits ≡ length done
 
-pub visits-start : (nodes : List Node) → Visits nodes nodes [] 0 (0 ∷ [])
-visits-start nodes = record {
+pub visits-start : (nodes : List Node) → IsTrie nodes → Visits nodes nodes [] 0 (0 ∷ [])
+visits-start nodes trie = record {
+  trie = trie;
   done = [];
-  waiting = [] ∷ [];
-  at = refl;
-  distinct = distinct-cons [] [] (contains-nil []) (distinct-nil [] refl);
-  reached = λ s c. ⊎_elim (λ e. subst (IsVisited nodes) e (visited-root nodes)) (λ d. absurd (contains-nil s d)) (contains-cons [] s [] c);
-  parents = λ s f c. ⊎_elim (λ e. absurd (no_snoc s f (sym e))) (λ d. absurd (contains-nil (s ++ f ∷ []) d)) (contains-cons [] (s ++ f ∷ []) [] c);
-  rest = λ q v. inr ([], contains-head [] [], (q, refl));
+  known = 0 ∷ [];
+  parted = IsPermutation-refl (0 ∷ []);
+  distinct = distinct-cons 0 [] (contains-nil 0) (distinct-nil [] refl);
+  opened = λ i c. ([], ap Some (alone i c));
+  root = contains-head 0 [];
+  closed = λ i j f e. (
+    λ c. absurd (contains-nil i c),
+    λ c. absurd (no_parent nodes trie i f ((opens-child nodes trie i j f e).1 ∙ ap Some (sym (alone j c)))),
+  );
   long = refl;
-  same = λ s i w n. refl;
-  exact = λ p. (λ c. absurd (contains-nil p c), λ c. absurd (contains-nil p c.0));
-  once = distinct-nil [] refl;
+  same = λ i n. refl;
+  exact = IsPermutation-refl [];
   count = refl;
 }
+  where
+    alone : (i : ℕ) → Contains (0 ∷ []) i → 0 ≡ i
+    alone i c = ⊎_elim (λ e. e) (λ d. absurd (contains-nil i d)) (contains-cons 0 i [] c)
 
--- the last of what was mapped
-unsnoc : {A B C : Type 0} (f : A → C) (g : B → C) (ws : List A) (ys : List B) (y : B) → map f ws ≡ map g (ys ++ y ∷ [])
-    → (vs : List A) × (v : A) × (ws ≡ vs ++ v ∷ []) × (map f vs ≡ map g ys) × (f v ≡ g y)
-unsnoc f g [] [] y e = absurd (cc)
-unsnoc f g [] (z ∷ ys) y e = absurd (cc)
-unsnoc f g (w ∷ []) [] y e = ([], w, refl, refl, cc)
-unsnoc f g (w ∷ v ∷ ws) [] y e = absurd (cc)
-unsnoc f g (w ∷ ws) (z ∷ ys) y e =
-    let first : f w ≡ g z = cc in let later : map f ws ≡ map g (ys ++ y ∷ []) = cc in
-    let r = unsnoc f g ws ys y later in (w ∷ r.0, r.1, (λ i. w ∷ r.2 i), (λ i. first i ∷ r.3 i), r.4)
+module _ {nodes left : List Node} {found : List (List Field)} {visits : ℕ} (ps : List ℕ) (x : ℕ) (o : Visits nodes left found visits (ps ++ x ∷ [])) where
+  known-here : Contains o.known x
+  known-here =
+      Contains-permutation ((ps ++ x ∷ []) ++ o.done) o.known x (IsPermutation-sym o.known ((ps ++ x ∷ []) ++ o.done) o.parted)
+      (Contains-append_left (ps ++ x ∷ []) o.done x (Contains-push ps x))
 
-module _ (nodes left : List Node) (found : List (List Field)) (visits : ℕ) (ps : List ℕ) (x : ℕ) (trie : IsTrie nodes) (o : Visits nodes left found visits (ps ++ x ∷ [])) where
-  abbrev last : (vs : List (List Field)) × (v : List Field) × (o.waiting ≡ vs ++ v ∷ []) × (map (walk (child_at nodes) 0) vs ≡ map Some ps) × (walk (child_at nodes) 0 v ≡ Some x)
-  last = unsnoc (walk (child_at nodes) 0) Some o.waiting ps x o.at
-
-  abbrev ws : List (List Field)
-  ws = last.0
-
-  abbrev s : List Field
-  s = last.1
-
-  at : walk (child_at nodes) 0 s ≡ Some x
-  at = last.4
-
-  all : o.waiting ++ o.done ≡ ws ++ s ∷ o.done
-  all = ap (λ vs. vs ++ o.done) last.2 ∙ append_assoc ws (s ∷ []) o.done
-
-  distinct : Distinct (ws ++ s ∷ o.done)
-  distinct = subst Distinct all o.distinct
-
-  reached : (t : List Field) → Contains (ws ++ s ∷ o.done) t → IsVisited nodes t
-  reached t c = o.reached t (subst (λ ts. Contains ts t) (sym all) c)
-
-  parents : (t : List Field) (f : Field) → Contains (ws ++ s ∷ o.done) (t ++ f ∷ []) → Contains o.done t
-  parents t f c = o.parents t f (subst (λ ts. Contains ts (t ++ f ∷ [])) (sym all) c)
-
-  is_new : Contains o.done s → ⊥
-  is_new = distinct-head s o.done (distinct-right ws (s ∷ o.done) distinct)
-
-  is_visited : IsVisited nodes s
-  is_visited = reached s (Contains-append_right ws (s ∷ o.done) s (contains-head s o.done))
+  is_new : Contains o.done x → ⊥
+  is_new =
+      let all = distinct-moved Decides-eqb o.known ((ps ++ x ∷ []) ++ o.done) o.parted o.distinct in
+      distinct-head x o.done (distinct-right ps (x ∷ o.done) (subst Distinct (append_assoc ps (x ∷ []) o.done) all))
 
   here : slice_get left x ≡ slice_get nodes x
-  here = o.same s x at is_new
+  here = o.same x is_new
 
-  -- a path that ends in the node
-  ends-here : Contains (terminals nodes) s → terminal_at left x ≡ Some s
-  ends-here c =
-      let w = terminal-of nodes s c in
-      let e : Some w.0 ≡ Some x = sym (trie.ends_where_it_leads w.0 s w.1) ∙ at in
-      rw here (ap (terminal_at nodes) (sym (same_Some w.0 x e)) ∙ w.1)
+  inside : (i : ℕ) → Contains o.known i → i < length nodes
+  inside i c = let s = o.opened i c in o.trie.inside s.0 i (led nodes o.trie 0 i s.0 s.1)
 
-  abbrev child_path : Field → List Field
-  child_path f = s ++ f ∷ []
+  pub visits-within : x < length left
+  visits-within = let i = inside x known-here in let l = o.long in omega arith
 
-  children_at : (es : List (Field × ℕ)) → ((e : Field × ℕ) → Contains es e → walk (child_at nodes) 0 (child_path e.0) ≡ Some e.1)
-      → map (walk (child_at nodes) 0) (map child_path (keys_of es)) ≡ map Some (values_of es)
-  children_at [] h = refl
-  children_at (e ∷ es) h = λ i. h e (contains-head e es) i ∷ children_at es (λ d c. h d (contains-tail e d es c)) i
+  -- there is room for one visit more, so it counts
+  pub visits-counts : {most next_visits : ℕ} → next_visits ≡ min (visits + 1) most → length left ≤ most → (next_visits ≡ visits + 1) × (length nodes - next_visits < length nodes - visits)
+  visits-counts visited small =
+      let below = distinct-below o.known (length nodes) o.distinct inside in
+      let parts = length_permutation o.known ((ps ++ x ∷ []) ++ o.done) o.parted in
+      let room : visits < length nodes = omega (arith, below, parts, o.count, length-append (ps ++ x ∷ []) o.done, length_push ps x) in
+      let l = o.long in
+      (omega (arith, room, small, visited), omega (arith, room, small, visited))
 
-  module _ (next : List Node) (long : length next ≡ length left) (others : (i : ℕ) → i ≢ x → slice_get next i ≡ slice_get left i) where
-    -- after the visit the children wait in the node's stead
-    visit : (es : List (Field × ℕ)) (found' : List (List Field)) → IsDistinct same_field (keys_of es)
-        → ((e : Field × ℕ) → Contains es e → (walk (child_at nodes) 0 (child_path e.0) ≡ Some e.1) × IsVisited nodes (child_path e.0))
-        → ((q : List Field) → IsVisited nodes q → Beginning s q → (q ≡ s) ⊎ ((f : Field) × Contains (keys_of es) f × Beginning (child_path f) q))
-        → ((p : List Field) → Contains found' p ↔ (Contains (s ∷ o.done) p × Contains (terminals nodes) p)) → Distinct found'
-        → Visits nodes next found' (visits + 1) (ps ++ values_of es)
-    visit es found' unique kids below exact once =
-        let new = map child_path (keys_of es) in record {
-          done = s ∷ o.done;
-          waiting = ws ++ new;
-          at = map-append (walk (child_at nodes) 0) ws new ∙ (λ i. last.3 i ++ children_at es (λ e c. (kids e c).0) i) ∙ sym (map-append Some ps (values_of es));
-          distinct = distinct-insert ws new (s ∷ o.done) distinct
-              (distinct-map child_path (keys_of es) (AllPairs-from_IsDistinct same_field-Decides (keys_of es) unique)
-              (λ f g _ _ e. let last = append_cancel_left s (f ∷ []) (g ∷ []) e in cc))
-              (λ t c d. let w = contains-map child_path (keys_of es) t c in is_new (parents s w.0 (subst (Contains (ws ++ s ∷ o.done)) (sym w.2) d)));
-          reached = λ t c. ⊎_elim (reached t) (λ k. let w = contains-map child_path (keys_of es) t k in subst (IsVisited nodes) w.2 (kid w.0 w.1))
-              (inserted_cases ws new (s ∷ o.done) t c);
-          parents = λ t f c.
-              ⊎_elim
-              (λ d. contains-tail s t o.done (parents t f d))
-              (λ k. let w = contains-map child_path (keys_of es) (t ++ f ∷ []) k in subst (Contains (s ∷ o.done)) (same_from_push s t w.0 f w.2).0 (contains-head s o.done))
-              (inserted_cases ws new (s ∷ o.done) (t ++ f ∷ []) c);
-          rest = λ q v.
-              ⊎_elim
-              (λ d. inl (contains-tail s q o.done d))
-              (λ (h : (t : List Field) × Contains o.waiting t × Beginning t q).
-              ⊎_elim
-              (λ c. inr (h.0, Contains-append_left ws new h.0 c, h.2))
-              (λ e.
-              ⊎_elim
-              (λ r. inl (subst (Contains (s ∷ o.done)) (sym r) (contains-head s o.done)))
-              (λ (k : (f : Field) × Contains (keys_of es) f × Beginning (child_path f) q).
-              inr (child_path k.0, Contains-append_right ws new (child_path k.0) (contains-mapped child_path k.0 (keys_of es) k.1), k.2))
-              (below q v (subst (λ t. Beginning t q) (sym e) h.2)))
-              (Contains-push_cases ws s h.0 (subst (λ ts. Contains ts h.0) last.2 h.1)))
-              (o.rest q v);
-          long = long ∙ o.long;
-          same = λ t i w n.
-              others i (λ e. n (subst (Contains (s ∷ o.done)) (sym (trie.once t s x (w ∙ ap Some e) at)) (contains-head s o.done)))
-              ∙ o.same t i w (λ c. n (contains-tail s t o.done c));
-          exact = exact;
-          once = once;
-          count = omega (arith, o.count);
-        }
-      where
-        kid : (f : Field) → Contains (keys_of es) f → IsVisited nodes (child_path f)
-        kid f c = let w = contains-map (λ (e : Field × ℕ). e.0) es f c in subst (λ g. IsVisited nodes (child_path g)) w.2 (kids w.0 w.1).1
+  -- after the visit the children wait in the node's stead
+  module _ {next : List Node} (long : length next ≡ length left) (others : (i : ℕ) → i ≢ x → slice_get next i ≡ slice_get left i) where
+    visit : (kids : List ℕ) (found' : List (List Field)) → Distinct kids → ((j : ℕ) → Contains kids j ↔ ((f : Field) × (opens nodes x f ≡ Some j)))
+        → IsPermutation found' (filter_map (terminal_at nodes) (x ∷ o.done)) → Visits nodes next found' (visits + 1) (ps ++ kids)
+    visit kids found' once kid exact = record {
+      trie = o.trie;
+      done = x ∷ o.done;
+      known = o.known ++ kids;
+      parted = IsPermutation-trans _ _ _ (IsPermutation-append_left kids o.known ((ps ++ x ∷ []) ++ o.done) o.parted)
+          (rw (append_assoc ps (x ∷ []) o.done, append_assoc ps (x ∷ o.done) kids, append_assoc ps kids (x ∷ o.done))
+          (IsPermutation-append_right ps ((x ∷ o.done) ++ kids) (kids ++ x ∷ o.done) (IsPermutation-append_comm (x ∷ o.done) kids)));
+      distinct = distinct-append o.known kids o.distinct once (λ j d c. let w = (kid j).0 c in is_new ((o.closed x j w.0 w.1).1 d));
+      opened = λ j c. ⊎_elim (o.opened j)
+          (λ k. let w = (kid j).0 k in let s = o.opened x known-here in (s.0 ++ w.0 ∷ [], walk-snoc (opens nodes) x j s.0 w.0 s.1 w.1))
+          (Contains-append_cases o.known kids j c);
+      root = Contains-append_left o.known kids 0 o.root;
+      closed = λ i j f e. (
+        λ c. ⊎_elim
+            (λ is. Contains-append_right o.known kids j ((kid j).1 (f, ap (λ k. opens nodes k f) is ∙ e)))
+            (λ d. Contains-append_left o.known kids j ((o.closed i j f e).0 d))
+            (contains-cons x i o.done c),
+        λ c. ⊎_elim
+            (λ d. contains-tail x i o.done ((o.closed i j f e).1 d))
+            (λ k.
+            let w = (kid j).0 k in
+            let step = λ (a : ℕ) (g : Field) (z : opens nodes a g ≡ Some j). (opens-child nodes o.trie a j g z).1 in
+            subst (Contains (x ∷ o.done)) (one_parent nodes o.trie x i j w.0 f (step x w.0 w.1) (step i f e)).0 (contains-head x o.done))
+            (Contains-append_cases o.known kids j c),
+      );
+      long = long ∙ o.long;
+      same = λ i n.
+          others i (λ e. n (subst (Contains (x ∷ o.done)) (sym e) (contains-head x o.done)))
+          ∙ o.same i (λ c. n (contains-tail x i o.done c));
+      exact = exact;
+      count = omega (arith, o.count);
+    }
 
     pub visited-terminal : (p : List Field) → terminal_at left x ≡ Some p → Visits nodes next (found ++ p ∷ []) (visits + 1) ps
     visited-terminal p is =
         let own : terminal_at nodes x ≡ Some p = rw (← here) is in
-        let same : s ≡ p = trie.once s p x at (trie.ends_where_it_leads x p own) in
-        let member = of-terminal nodes x s (own ∙ ap Some (sym same)) in
-        subst (λ r. Visits nodes next (found ++ r ∷ []) (visits + 1) ps) same
-        (subst (Visits nodes next (found ++ s ∷ []) (visits + 1)) (append-nil ps)
-        (visit [] (found ++ s ∷ []) (IsDistinct-nil same_field) (λ e c. absurd (contains-nil e c)) (λ q v b. inl (sym (v.alone s member b)))
-        (λ q. (
-          λ c.
-              ⊎_elim
-              (λ d. let w = (o.exact q).0 d in (contains-tail s q o.done w.0, w.1))
-              (λ e. (subst (Contains (s ∷ o.done)) e (contains-head s o.done), subst (Contains (terminals nodes)) e member))
-              (Contains-push_cases found s q c),
-          λ c.
-              ⊎_elim
-              (λ e. subst (Contains (found ++ s ∷ [])) e (Contains-push found s))
-              (λ d. Contains-append_left found (s ∷ []) q ((o.exact q).1 (d, c.1)))
-              (contains-cons s q o.done c.0),
-        ))
-        (distinct-append found (s ∷ []) o.once (distinct-cons s [] (contains-nil s) (distinct-nil [] refl)) (λ y a c.
-        ⊎_elim (λ e. is_new (subst (Contains o.done) (sym e) ((o.exact y).0 a).0)) (contains-nil y) (contains-cons s y [] c)))))
+        subst (Visits nodes next (found ++ p ∷ []) (visits + 1)) (append-nil ps)
+        (visit [] (found ++ p ∷ []) (distinct-nil [] refl)
+        (λ j. (λ c. absurd (contains-nil j c), λ w. let none = (opens-child nodes o.trie x j w.0 w.1).0 in absurd (cc)))
+        (rw own (IsPermutation-push_more found (filter_map (terminal_at nodes) o.done) _ p o.exact (IsPermutation-refl _))))
 
     pub visited-children : (es : List (Field × ℕ)) → IsDistinct same_field (keys_of es) → ((f : Field) → lookup (same_field f) es ≡ child_at left x f)
         → terminal_at left x ≡ None → Visits nodes next found (visits + 1) (ps ++ values_of es)
     visited-children es unique steps is =
-        visit es found unique
-        (λ e c.
-        let there = walk-snoc (child_at nodes) x e.1 s e.0 at (sym (step e.0) ∙ lookup-from_Contains same_field_equiv e.0 e.1 es unique c) in
-        (there, visited-child nodes trie s e.0 e.1 is_visited none there))
-        (λ q v b.
-        ⊎_elim inl (λ (k : (f : Field) × (j : ℕ) × (child_at nodes x f ≡ Some j) × Beginning (child_path f) q).
-        let c = Contains-from_lookup (λ f g. (same_field-Decides f g).0) k.0 k.1 es (step k.0 ∙ k.2) in
-        inr (k.0, contains-mapped (λ (e : Field × ℕ). e.0) (k.0, k.1) es c, k.3))
-        (visited-below nodes trie s x at q v b))
-        (λ q. (
-          λ c. let w = (o.exact q).0 c in (contains-tail s q o.done w.0, w.1),
-          λ c. ⊎_elim (λ e. absurd (none (subst (Contains (terminals nodes)) (sym e) c.1))) (λ d. (o.exact q).1 (d, c.1)) (contains-cons s q o.done c.0),
+        visit (values_of es) found
+        (distinct-map (λ e. e.1) es (distinct-unmap (λ e. e.0) es (AllPairs-from_IsDistinct same_field-Decides (keys_of es) unique)) (λ d e c k same.
+        let key = (one_parent nodes o.trie x x e.1 d.0 e.0 (there d c ∙ ap Some same) (there e k)).1 in λ i. (key i, same i)))
+        (λ j. (
+          λ c. let w = contains-map (λ (e : Field × ℕ). e.1) es j c in (w.0.0, rw own (there w.0 w.1 ∙ ap Some w.2)),
+          λ w. contains-mapped (λ (e : Field × ℕ). e.1) (w.0, j) es (Contains-from_lookup (λ f g. (same_field-Decides f g).0) w.0 j es (step w.0 ∙ (opens-child nodes o.trie x j w.0 w.1).1)),
         ))
-        o.once
+        (rw own o.exact)
       where
-        none : Contains (terminals nodes) s → ⊥
-        none c = let e = ends-here c in cc
+        own : terminal_at nodes x ≡ None
+        own = rw (← here) is
 
         step : (f : Field) → lookup (same_field f) es ≡ child_at nodes x f
         step f = rw (← here) (steps f)
 
-  pub visits-within : x < length left
-  visits-within = let i = trie.inside s x at in let l = o.long in omega arith
-
-  -- there is room for one visit more
-  visits-room : visits < length nodes
-  visits-room =
-      let passed = s ∷ o.done in
-      let index = λ (t : List Field). unwrap_or (walk (child_at nodes) 0 t) 0 in
-      let known : (t : List Field) → Contains passed t → IsVisited nodes t = λ t c. reached t (Contains-append_right ws passed t c) in
-      let indexed : (t : List Field) (v : IsVisited nodes t) → index t ≡ v.node = λ t v. ap (λ n. unwrap_or n 0) v.at in
-      let alone = distinct-map index passed (distinct-right ws passed distinct) (λ a b c d e.
-      let v = known a c in let w = known b d in
-      trie.once a b v.node v.at (w.at ∙ ap Some (sym (indexed b w) ∙ sym e ∙ indexed a v))) in
-      let below = distinct-below (map index passed) (length nodes) alone (λ n c.
-      let w = contains-map index passed n c in let v = known w.0 w.1 in
-      let i : v.node < length nodes = trie.inside w.0 v.node v.at in
-      let is : v.node ≡ n = sym (indexed w.0 v) ∙ w.2 in omega arith) in
-      omega (arith, o.count, below, length-map passed index)
-
-  -- so the visit counts
-  pub visits-counts : (most next_visits : ℕ) → next_visits ≡ min (visits + 1) most → length nodes ≤ most → (next_visits ≡ visits + 1) × (length nodes - next_visits < length nodes - visits)
-  visits-counts most next_visits visited small = (omega (arith, visits-room, small, visited), omega (arith, visits-room, small, visited))
+        there : (e : Field × ℕ) → Contains es e → child_at nodes x e.0 ≡ Some e.1
+        there e c = sym (step e.0) ∙ lookup-from_Contains same_field_equiv e.0 e.1 es unique c
 
 -- ---- when no node index is left
 
-module _ (nodes left : List Node) (found : List (List Field)) (visits : ℕ) (trie : IsTrie nodes) (o : Visits nodes left found visits []) where
-  all_done : (q : List Field) → Contains o.done q ↔ IsVisited nodes q
-  all_done q = (
-    λ c. o.reached q (Contains-append_right o.waiting o.done q c),
-    λ v. ⊎_elim (λ d. d) (λ (h : (s : List Field) × Contains o.waiting s × Beginning s q). absurd (none o.waiting o.at h.0 h.1)) (o.rest q v),
-  )
+-- paths that lead to these nodes
+listed : (nodes : List Node) (is : List ℕ) → ((i : ℕ) → Contains is i → IsOpened nodes i) → (ps : List (List Field)) × (map (walk (opens nodes) 0) ps ≡ map Some is)
+listed nodes [] h = ([], refl)
+listed nodes (i ∷ is) h =
+    let s = h i (contains-head i is) in let r = listed nodes is (λ j c. h j (contains-tail i j is c)) in
+    (s.0 ∷ r.0, λ k. s.1 k ∷ r.1 k)
+
+module _ {nodes left : List Node} {found : List (List Field)} {visits : ℕ} (o : Visits nodes left found visits []) where
+  is_done : (i : ℕ) → IsOpened nodes i → Contains o.done i
+  is_done i s = on 0 s.0 (Contains-permutation o.known o.done 0 o.parted o.root) s.1
     where
-      none : (ws : List (List Field)) → map (walk (child_at nodes) 0) ws ≡ [] → (s : List Field) → Contains ws s → ⊥
-      none [] e s c = contains-nil s c
-      none (w ∷ ws) e s c = cc
+      on : (j : ℕ) (r : List Field) → Contains o.done j → walk (opens nodes) j r ≡ Some i → Contains o.done i
+      on j [] c w = subst (Contains o.done) (same_Some j i w) c
+      on j (f ∷ r) c w =
+          option_and_then_some (λ k. walk (opens nodes) k r) (opens nodes j f) i w
+          (λ k e v. on k r (Contains-permutation o.known o.done k o.parted ((o.closed j k f e).0 c)) v)
+
+  done-opened : (i : ℕ) → Contains o.done i → IsOpened nodes i
+  done-opened i c = o.opened i (Contains-permutation o.done o.known i (IsPermutation-sym o.known o.done o.parted) c)
+
+  done-distinct : Distinct o.done
+  done-distinct = distinct-moved Decides-eqb o.known o.done o.parted o.distinct
 
   pub visited-count : IsCountOf (IsBegun (set_of (terminals nodes))) visits
-  visited-count = record {
-    paths = o.done;
-    distinct = distinct-right o.waiting o.done o.distinct;
-    exact = λ q. let a = all_done q in let b = visited-begun nodes trie q in (λ c. b.0 (a.0 c), λ g. a.1 (b.1 g));
-    count = sym o.count;
-  }
+  visited-count =
+      let at = walk (opens nodes) 0 in
+      let ps = listed nodes o.done done-opened in
+      record {
+        paths = ps.0;
+        distinct = distinct-unmap at ps.0 (subst Distinct (sym ps.1) (distinct-map Some o.done done-distinct (λ i j _ _ e. same_Some i j e)));
+        exact = λ q. (
+          λ c.
+              let w = contains-map Some o.done (at q) (subst (λ os. Contains os (at q)) ps.1 (contains-mapped at q ps.0 c)) in
+              (opened-begun nodes o.trie q).0 (w.0, sym w.2),
+          λ b.
+              let v = (opened-begun nodes o.trie q).1 b in
+              let w = contains-map at ps.0 (Some v.0) (subst (λ os. Contains os (Some v.0)) (sym ps.1) (contains-mapped Some v.0 o.done (is_done v.0 (q, v.1)))) in
+              subst (Contains ps.0) (o.trie.once w.0 q v.0 (led nodes o.trie 0 v.0 w.0 w.2) (led nodes o.trie 0 v.0 q v.1)) w.1,
+        );
+        count = omega (arith, o.count, ap length ps.1, length-map ps.0 at, length-map {B = Option ℕ} o.done Some);
+      }
 
+  -- what was found are the least paths, each once
   pub found-least : (p : List Field) → Contains found p ↔ IsTrue (set.contains (least (set_of (terminals nodes))) p)
   found-least p =
-      let l = visited-least nodes trie p in
-      (λ c. let w = (o.exact p).0 c in l.1 ((all_done p).0 w.0, w.1), λ m. let w = l.0 m in (o.exact p).1 ((all_done p).1 w.0, w.1))
+      let ends = filter_map (terminal_at nodes) o.done in (
+        λ c.
+            let w = given_by (terminal_at nodes) o.done p (Contains-permutation found ends p o.exact c) in
+            (least-opened nodes o.trie p).1 (w.0, ends-opened nodes o.trie p w.0 (done-opened w.0 w.1) w.2, w.2),
+        λ h.
+            let v = (least-opened nodes o.trie p).0 h in
+            Contains-permutation ends found p (IsPermutation-sym found ends o.exact) (contains-given (terminal_at nodes) o.done v.0 p (is_done v.0 (p, v.1)) v.2),
+      )
+
+  pub found-set : set_of found ≡ least (set_of (terminals nodes))
+  found-set = same_by _ _ (λ q. let f = found-least q in same_from_decides _ _ (from_list-Decides found q) (f.1, f.0))
+
+  pub found-once : Distinct found
+  found-once =
+      let ends = filter_map (terminal_at nodes) o.done in
+      distinct-moved same_path-Decides ends found (IsPermutation-sym found ends o.exact)
+      (distinct-given (terminal_at nodes) o.done done-distinct (λ i j q a b.
+      let e = sym (o.trie.ends_where_it_leads i q a) ∙ o.trie.ends_where_it_leads j q b in same_Some i j e))

@@ -55,6 +55,7 @@ impl ChildTree {
     }
 
     // The entry of the step.
+    #[tactic(auto, using(crate::proofs::ChildTrees::looked_up_first, crate::proofs::ChildTrees::looked_up_later))]
     pub(crate) fn entry(&self, step: &Field) -> Entry
         ensures node { entry_node result ≡ lookup (same_field step.now) self.now }
         ensures key { HasKnownKey result step.now }

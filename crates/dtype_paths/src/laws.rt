@@ -86,11 +86,13 @@ pub fn overlap_is_symmetric()
 {}
 
 /// Of two paths that both overlap a third, one needn't overlap the other.
+#[tactic(auto, using(crate::proofs::OverlapLaws::overlap_not_transitive))]
 pub fn overlap_is_not_transitive()
     ensures { (p q r : List Field) × Overlaps p q × Overlaps q r × (Overlaps p r → ⊥) }
 {}
 
 /// Equal fields write the same into every hasher, and so do equal paths.
+#[tactic(auto, using(crate::proofs::MaskLaws::paths_write_alike))]
 pub fn equality_agrees_with_hash()
     ensures fields { (f g : Field) → IsTrue (⟦<crate::Field as PartialEq>⟧.eq f g)
         → ⟦<crate::Field as Hash>⟧.hash_input f ≡ ⟦<crate::Field as Hash>⟧.hash_input g }

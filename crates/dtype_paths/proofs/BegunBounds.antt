@@ -2,14 +2,13 @@
 -- SPDX-FileCopyrightText: Copyright the Vortex contributors
 
 -- How many paths are begun at least and at most, by the steps of the least paths.
-use Rattle.std.proofs.Common.{◌≡◌, ℕ, ◌+◌, ◌≤◌, ◌<◌, List, [], ◌∷◌, ◌++◌, length, length-append, map, suc, take, IsTrue, ap, ◌∙◌, inl, inr, refl, sym, subst, arith}
+use Rattle.std.proofs.Common.{◌≡◌, ℕ, ◌+◌, ◌≤◌, ◌<◌, List, [], ◌∷◌, ◌++◌, length, length-append, map, suc, take, IsTrue, ap, ◌∙◌, inl, inr, refl, sym, arith}
 use Rattle.std.specs.FinSet as set
 use Rattle.std.specs.List.{Contains, flat_map, range_with_len, sum_by}
 use Rattle.std.proofs.lemmas.Bool.{false≢true}
 use Rattle.std.proofs.Math.Seq.{take-append_seam}
 use Rattle.std.proofs.lemmas.List.FromFn.{get_or-map-range_with_len, length-map-range_with_len}
 use Rattle.std.proofs.lemmas.List.Concat.{length-flat_map}
-use Rattle.std.proofs.lemmas.List.Sums.{sum_by-cons}
 use Rattle.std.proofs.lemmas.Map.Made.{is_member-Decides, IsDistinct-from_AllPairs, length-le_from_is_member}
 use Rattle.dtype_paths.specs.Covering.{IsCountOf, least}
 use Rattle.dtype_paths.specs.PathOrder.{PathSet}
@@ -52,11 +51,8 @@ begun_at_most s ls n c has =
     let all = [] ∷ flat_map starts ls in
     let within = length-le_from_is_member same_path_equiv c.paths all (IsDistinct-from_AllPairs same_path-Decides c.paths c.distinct) (λ q m.
     (is_member-Decides same_path-Decides all q).1 (begun-has s ls q has ((c.exact q).0 ((is_member-Decides same_path-Decides c.paths q).0 m)))) in
-    omega (arith, within, c.count, length-flat_map starts ls, steps ls)
-  where
-    steps : (qs : List (List Field)) → sum_by (λ p. length (starts p)) qs ≡ sum_by length qs
-    steps [] = refl
-    steps (q ∷ qs) = omega (arith, sum_by-cons (λ p. length (starts p)) q qs, sum_by-cons (length {A = Field}) q qs, length-starts q, steps qs)
+    let sum : length (flat_map starts ls) ≡ sum_by length ls = simp length-starts at (length-flat_map starts ls) in
+    omega (arith, within, c.count, sum)
 
 -- a set without paths begins the root alone
 pub begun_none : (s : PathSet) (n : ℕ) → s ≡ set.empty → IsCountOf (IsBegun s) n → n ≡ 1

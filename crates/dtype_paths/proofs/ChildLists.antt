@@ -3,11 +3,10 @@
 
 -- Lists of steps, each with the index of the node that it leads to: what is looked up in them, also by key, one more, and how
 -- they go over into a copy.
-use Rattle.std.proofs.Common.{◌≡◌, ◌∙◌, ℕ, Bool, true, false, cond, List, [], ◌∷◌, ◌++◌, Option, Some, None, is_some, length, refl, arith, ◌≢◌, sym, ap, subst}
+use Rattle.std.proofs.Common.{◌≡◌, ◌∙◌, ℕ, Bool, false, cond, List, [], ◌∷◌, ◌++◌, Option, Some, None, is_some, length, refl, arith, ◌≢◌, sym, ap, subst}
 use Rattle.std.specs.List.{All, IsDistinct, slice_get}
 use Rattle.std.specs.Map.{keys_of, lookup}
 use Rattle.std.specs.Option.{option_or, option_map}
-use Rattle.std.specs.Cmp.{IsEquivalence}
 use Rattle.std.proofs.lemmas.List.{map-append}
 use Rattle.std.proofs.lemmas.List.Edits.{insert_end}
 use Rattle.std.proofs.lemmas.Map.{lookup-insert, lookup-none, none_passes_from_lookup}
@@ -28,11 +27,7 @@ use Rattle.dtype_paths.proofs.StepKeys.{keys_differ, told}
 
 -- ---- what is looked up
 
--- where no key is there twice, none after the first equals it
-pub lookup-later : {K X : Type 0} {eq : K → K → Bool} → IsEquivalence eq → (q : K) (e : K × X) (es : List (K × X)) → IsDistinct eq (keys_of (e ∷ es)) → eq q e.0 ≡ true → lookup (eq q) es ≡ None
-lookup-later {eq} laws q e es d is = lookup-none (eq q) es (none_past_head laws q e es d is)
-
-pub over_none : {A : Type 0} (o : Option A) → option_or o None ≡ o
+over_none : {A : Type 0} (o : Option A) → option_or o None ≡ o
 over_none None = refl
 over_none (Some a) = refl
 
@@ -84,7 +79,7 @@ copied_more before rest old new all k copy v is so_far same put =
       leads = λ f. by_bool (same_field k f)
           (λ y.
           let key : f ≡ k = (same_field-Decides f k).0 (same_field_equiv.symm f k ∙ y) in
-          let none = lookup-later same_field_equiv k (k, v) rest c.once (same_field_equiv.refl k) in
+          let none = lookup-none (same_field k) rest (none_past_head same_field_equiv k (k, v) rest c.once (same_field_equiv.refl k)) in
           rw (key, put k, same, none, same_field_equiv.refl k) (let led = c.leads k in rw (same_field_equiv.refl k) at led))
           (λ n. rw (put f, same, n) (let led = c.leads f in rw (same_field_equiv.symm f k ∙ n) at led));
     }

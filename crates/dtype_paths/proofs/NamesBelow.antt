@@ -2,7 +2,7 @@
 -- SPDX-FileCopyrightText: Copyright the Vortex contributors
 
 -- The names among the children of a node.
-use Rattle.std.proofs.Common.{◌≡◌, ◌∙◌, ℕ, ◌+◌, ◌-◌, suc, length, map, false, is_some, List, [], ◌∷◌, Option, Some, None, option_and_then, slice_get, cond, refl, sym, ap, subst, arith, ⊎_elim, MatchOption}
+use Rattle.std.proofs.Common.{◌≡◌, ◌∙◌, ℕ, ◌+◌, ◌-◌, suc, length, map, false, is_some, List, [], ◌∷◌, Option, Some, None, option_and_then, slice_get, cond, refl, sym, ap, subst, arith, MatchOption}
 use Rattle.std.specs.List.{Contains, IsDistinct, AllByRecursion, filter_map}
 use Rattle.std.specs.Map.{keys_of, lookup}
 use Rattle.std.proofs.lemmas.Map.Made.{AllPairs-from_IsDistinct}

@@ -8,7 +8,7 @@ use Rattle.std.specs.List.{slice_get, cons_option, filter_map}
 use Rattle.std.proofs.lemmas.Bool.{cases_lt, and_parts}
 use Rattle.std.proofs.lemmas.Bool.Decides.{Decides-eqb}
 use Rattle.std.proofs.lemmas.List.{length-map, take_more}
-use Rattle.std.proofs.lemmas.Option.{same_Some, slice_get_within, slice_get_past}
+use Rattle.std.proofs.lemmas.Option.{same_Some, slice_get_past}
 use Rattle.dtype_paths.proofs.lemmas.Cases.{by_bool}
 use Rattle.dtype_paths.specs.private.Children.{child}
 use Rattle.dtype_paths.specs.Equality.{same_field}

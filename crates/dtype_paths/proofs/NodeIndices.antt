@@ -2,7 +2,7 @@
 -- SPDX-FileCopyrightText: Copyright the Vortex contributors
 
 -- A list of nodes, by its indices.
-use Rattle.std.proofs.Common.{ℕ, suc, zero, ◌+◌, ◌<◌, length, take, drop, get_or, map, append-nil, is_some, Decides, ◌≡◌, ◌⊎◌, Bool, List, [], ◌∷◌, ◌++◌, Option, Some, None, option_and_then, inl, inr, refl, sym, ap, ◌∙◌, arith, ⊎_elim}
+use Rattle.std.proofs.Common.{ℕ, suc, zero, ◌+◌, ◌<◌, length, take, drop, get_or, map, append-nil, is_some, Decides, ◌≡◌, Bool, List, [], ◌∷◌, ◌++◌, Option, Some, None, option_and_then, refl, sym, ap, ◌∙◌, arith, ⊎_elim}
 use Rattle.std.specs.FinSet as set
 use Rattle.std.specs.List.{slice_get, Contains, cons_option}
 use Rattle.std.proofs.lemmas.List.Elements.{filter_map-append}

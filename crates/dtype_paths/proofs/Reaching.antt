@@ -2,15 +2,13 @@
 -- SPDX-FileCopyrightText: Copyright the Vortex contributors
 
 -- The nodes that a path leads to, and the paths that end below them.
-use Rattle.std.proofs.Common.{slice_get, subst, ◌≡◌, ◌≢◌, ◌↔◌, ◌∙◌, ℕ, ◌<◌, length, true, false, IsTrue, Decides, List, [], ◌∷◌, ◌++◌, Option, Some, None, is_some, option_and_then, refl, sym, ap}
+use Rattle.std.proofs.Common.{slice_get, subst, ◌≡◌, ◌≢◌, ◌∙◌, ℕ, ◌<◌, length, true, false, IsTrue, Decides, List, [], ◌∷◌, ◌++◌, Some, None, is_some, option_and_then, refl, sym, ap}
 use Rattle.std.proofs.Math.Logic.{∥∥₁_elim, ∥∥₁_map}
 use Rattle.std.specs.Coded.{le_prop}
 use Rattle.std.proofs.lemmas.Bool.{false≢true}
 use Rattle.std.proofs.lemmas.Bool.Decides.{same_from_decides}
 use Rattle.std.specs.FinSet as set
 use Rattle.std.specs.List.{Contains}
-use Rattle.std.specs.Map.{lookup}
-use Rattle.dtype_paths.specs.Equality.{same_field}
 use Rattle.dtype_paths.specs.EqualityLaws.{same_field-Decides}
 use Rattle.dtype_paths.specs.PathOrder.{set_of}
 use Rattle.dtype_paths.specs.PathPredicates.{PathPredicate, after_step, no_path}
@@ -40,8 +38,8 @@ module _ (nodes : List Node) (t : IsTrie nodes) where
       (λ here w. contains-whole nodes q t here w (ends_below nodes 0 q) (ap (λ o. is_some (option_and_then (terminal_at nodes) o)) w))
 
   -- below the root end the paths of the trie
-  pub ends-root : ends_below nodes 0 ≡ set.contains (set_of (terminals nodes))
-  ends-root = λ i q. same_from_decides _ _ (ends-Decides q) (from_list-Decides (terminals nodes) q) i
+  pub ends_root : (ns : List Node) (i : ℕ) → nodes ≡ ns → i ≡ 0 → ends_below ns i ≡ set.contains (set_of (terminals ns))
+  ends_root ns i same root = rw (← same, root) (λ k q. same_from_decides _ _ (ends-Decides q) (from_list-Decides (terminals nodes) q) k)
 
   -- below each child some path ends
   pub child-witness : (i j : ℕ) (f : Field) → IsReached nodes i → child_at nodes i f ≡ Some j → (q : List Field) × (ends_below nodes j q ≡ true)

@@ -2,9 +2,9 @@
 -- SPDX-FileCopyrightText: Copyright the Vortex contributors
 
 -- How the nodes of a list are visited.
-use Rattle.std.proofs.Common.{ℕ, ◌-◌, min, ◌+◌, ◌<◌, ◌≤◌, ◌≢◌, cond, is_some, length, map, ◌≡◌, ◌↔◌, IsTrue, List, [], ◌∷◌, ◌++◌, Option, Some, None, option_and_then, inl, inr, refl, sym, ap, subst, ◌∙◌, arith, ⊎_elim, append_assoc, append-nil, length-append}
+use Rattle.std.proofs.Common.{ℕ, ◌-◌, min, ◌+◌, ◌<◌, ◌≤◌, ◌≢◌, cond, is_some, length, map, ◌≡◌, ◌↔◌, IsTrue, List, [], ◌∷◌, ◌++◌, Option, Some, None, inl, inr, refl, sym, ap, subst, ◌∙◌, arith, ⊎_elim, append_assoc, append-nil, length-append}
 use Rattle.std.specs.FinSet as set
-use Rattle.std.specs.List.{slice_get, cons_option, filter_map, Contains, IsDistinct}
+use Rattle.std.specs.List.{slice_get, filter_map, Contains, IsDistinct}
 use Rattle.std.specs.List.Sorted.{IsPermutation}
 use Rattle.std.specs.Map.{keys_of, lookup, values_of}
 use Rattle.std.proofs.lemmas.Bool.Decides.{Decides-eqb, same_from_decides}
@@ -138,6 +138,7 @@ pub record Visits (nodes left : List Node) (found : List (List Field)) (visits :
   pub distinct : Distinct known
   pub opened : (i : ℕ) → Contains known i → IsOpened nodes i
   pub root : Contains known 0
+  -- a child is known exactly where its node is done
   pub closed : (i j : ℕ) (f : Field) → opens nodes i f ≡ Some j → Contains done i ↔ Contains known j
   pub long : length left ≡ length nodes
   pub same : (i : ℕ) → (Contains done i → ⊥) → slice_get left i ≡ slice_get nodes i

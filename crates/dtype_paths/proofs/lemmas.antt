@@ -13,6 +13,7 @@ pub mod SetCovers
 pub mod Counts
 pub mod Covering
 pub mod PathsBelow
+pub mod NameRuns
 pub mod MaskLists
 pub mod LentPaths
 pub mod Unresolved

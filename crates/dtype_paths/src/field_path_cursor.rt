@@ -1,14 +1,16 @@
 // SPDX-License-Identifier: Apache-2.0
 // SPDX-FileCopyrightText: Copyright the Vortex contributors
 
-ghost use Rattle.std.specs.Prelude.{◌≡◌, ◌↔◌, ◌∷◌, ℕ, List, [], length, IfSome, IsTrue, None, false};
+ghost use Rattle.std.specs.Prelude.{◌≡◌, ◌↔◌, ◌∷◌, ℕ, List, [], length, IfNone, IfSome, IsTrue, None, false, true};
 ghost use Rattle.std.specs.FinSet as set;
+ghost use Rattle.std.specs.Iterator.{YieldsFirstBy};
+ghost use Rattle.std.specs.Iterator.Runs.{AllItems, AnyItem, EachRunFrom};
 ghost use Rattle.dtype_paths.specs.PathOrder.{set_of};
 ghost use Rattle.dtype_paths.specs.PathPredicates.{after_step, no_path, AreNames, PathPredicate};
 ghost use Rattle.dtype_paths.specs.private.Reached.{ends_below, IsReached};
 ghost use Rattle.dtype_paths.specs.private.Trie.{terminals};
 ghost use Rattle.dtype_paths.specs.declared.field.Field.{Field};
-ghost use Rattle.dtype_paths.specs.declared.field.Field.TheVariants.{ElementType};
+ghost use Rattle.dtype_paths.specs.declared.field.Field.TheVariants.{ElementType, Name};
 
 use crate::trie::Trie;
 use crate::{CursorNames, Field};
@@ -25,7 +27,7 @@ pub struct FieldPathCursor<'a> {
 }
 
 impl<'a> FieldPathCursor<'a> {
-    ghost use Rattle.dtype_paths.specs.Cursors.{asks, asks_if, names_left};
+    ghost use Rattle.dtype_paths.specs.Cursors.{asks, asks_if, borrowed_asks, names_left};
 
     // At this node, which some path leads to.
     #[tactic(auto, unfolding(crate::specs::Cursors::asks))]
@@ -60,6 +62,7 @@ impl<'a> FieldPathCursor<'a> {
     pub fn is_empty(&self) -> bool
         ensures nothing { IsTrue result ↔ (asks self.now ≡ no_path) }
         ensures some { result ≡ false → (q : List Field) × IsTrue (asks self.now q) }
+        ensures each { IsTrue result → (q : List Field) → asks self.now q ≡ false }
     {
         self.trie.is_empty_at(self.node_index)
     }
@@ -69,6 +72,8 @@ impl<'a> FieldPathCursor<'a> {
         ensures paths { asks_if result ≡ after_step step.now (asks self.now) }
         ensures none { (result ≡ None) ↔ (after_step step.now (asks self.now) ≡ no_path) }
         ensures some { IfSome result (λ _. (q : List Field) × IsTrue (asks self.now (step.now ∷ q))) }
+        ensures each { IfSome result (λ c. (q : List Field) → asks c q ≡ asks self.now (step.now ∷ q)) }
+        ensures nothing { IfNone result ((q : List Field) → asks self.now (step.now ∷ q) ≡ false) }
     {
         let node_index = self.trie.child(self.node_index, step)?;
         Some(FieldPathCursor {
@@ -82,6 +87,8 @@ impl<'a> FieldPathCursor<'a> {
         ensures paths { asks_if result ≡ after_step ElementType (asks self.now) }
         ensures none { (result ≡ None) ↔ (after_step ElementType (asks self.now) ≡ no_path) }
         ensures some { IfSome result (λ _. (q : List Field) × IsTrue (asks self.now (ElementType ∷ q))) }
+        ensures each { IfSome result (λ c. (q : List Field) → asks c q ≡ asks self.now (ElementType ∷ q)) }
+        ensures nothing { IfNone result ((q : List Field) → asks self.now (ElementType ∷ q) ≡ false) }
     {
         self.step(&Field::ElementType)
     }
@@ -90,7 +97,12 @@ impl<'a> FieldPathCursor<'a> {
     /// no promised order.
     #[tactic(auto, unfolding(crate::specs::Cursors::asks))]
     pub fn names(&self) -> CursorNames<'a>
-        ensures { AreNames (asks self.now) (names_left result) }
+        ensures names { AreNames (asks self.now) (names_left result) }
+        ensures each { EachRunFrom (YieldsFirstBy borrowed_asks names_left) result (λ run. AllItems run (λ x.
+            ((q : List Field) → asks x.1 q ≡ asks self.now (Name x.0.now ∷ q))
+            × ((q : List Field) × IsTrue (asks self.now (Name x.0.now ∷ q))))) }
+        ensures all { EachRunFrom (YieldsFirstBy borrowed_asks names_left) result (λ run. run.whole ≡ true
+            → (n : List ℕ) (q : List Field) → IsTrue (asks self.now (Name n ∷ q)) → AnyItem run (λ x. x.0.now ≡ n)) }
     {
         CursorNames::new(self.trie, self.node_index)
     }

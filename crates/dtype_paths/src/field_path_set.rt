@@ -96,7 +96,8 @@ impl FieldPathSet {
     /// Returns a cursor at the root, which asks for the paths of the set. Its reader steps into it while it descends into
     /// a type, and so never looks at a path that leads elsewhere. Doesn't allocate.
     pub fn cursor(&self) -> FieldPathCursor<'_>
-        ensures { asks result ≡ set.contains self.now }
+        ensures paths { asks result ≡ set.contains self.now }
+        ensures each { (q : List Field) → asks result q ≡ set.contains self.now q }
     {
         FieldPathCursor::at_root(&self.trie)
     }

@@ -9,8 +9,8 @@
 //!
 //! - Which columns a query opens: `asked`, `binding` (those that a table lacks), `paths`, `path_sets`, `path_lists`,
 //!   `projections`, `opened`, `merging` (several files read as one), `intersecting` (two schemas that are both kept).
-//! - What is read further down: `masks`, `cursors`, `descending` (a table and a query at once), `layout`, `rows` (what is
-//!   found).
+//! - What is read further down: `masks`, `cursors`, `named` (the columns that are asked for, one by one), `descending` (a
+//!   table and a query at once), `layout`, `rows` (what is found).
 //! - What is stored: `messages`, `path_messages`, `stored` (schemas written and read back).
 //! - Extensions: `sessions`, `plugins`, `dates`.
 #![tactic(auto)]
@@ -25,6 +25,7 @@ pub mod layout;
 pub mod masks;
 pub mod merging;
 pub mod messages;
+pub mod named;
 pub mod opened;
 pub mod path_lists;
 pub mod path_messages;

@@ -71,7 +71,9 @@ pub ruleset merging = (types_merged, above)
 
 pub ruleset intersecting = (types_intersected, above)
 
--- lookups of names, fields and variants, by name and by position, and how many names they compare
+-- Lookups of names, fields and variants, by name and by position, and how many names they compare. Its 19 lemmas are two
+-- questions, which a file that looks a column up and counts what that costs asks of the same call: each lemma begins with
+-- a place or a number that the call gives, so few match at a goal. The questions apart are below.
 pub ruleset lookups = (name_lookups, field_lookups, compared_within, compared_up_to)
 
 -- `lookups` by question: what is found, and where; how many names are compared for it

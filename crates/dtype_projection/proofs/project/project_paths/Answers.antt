@@ -45,7 +45,7 @@ returns c =
     let t = tree c.args.dtype.now in
     let s = c.args.wanted.now in
     let part : MatchResult c.project.result (λ r. option_map tree r ≡ projected t (set.contains s)) (λ e. e ≡ OutOfMemory) =
-    subst (λ w. MatchResult c.project.result (λ r. option_map tree r ≡ projected t w) (λ e. e ≡ OutOfMemory)) c.cursor.ensures c.project.ensures in
+    subst (λ w. MatchResult c.project.result (λ r. option_map tree r ≡ projected t w) (λ e. e ≡ OutOfMemory)) c.cursor.ensures.paths c.project.ensures in
     record {
       ok = part;
       some = MatchResult-weaker c.project.result part (λ r is. (clauses t s r is).0) (λ _ _. tt);

@@ -9,4 +9,4 @@ use Rattle.uses_paths.proofs.descending.piece_at.Goals as goal
 
 -- the cursor at the root asks for what the set has
 pub returns : goal.returns
-returns c = c.piece_along.ensures ∙ (λ i. option_and_then (λ u. along u (c.parts.ensures i)) (projected (tree c.args.table.now) (c.cursor.ensures i)))
+returns c = c.piece_along.ensures ∙ (λ i. option_and_then (λ u. along u (c.parts.ensures i)) (projected (tree c.args.table.now) (c.cursor.ensures.paths i)))

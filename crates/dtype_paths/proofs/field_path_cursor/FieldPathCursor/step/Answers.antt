@@ -35,3 +35,14 @@ returns-clause-some c =
     let on = ends_stepped c.args.self.now.trie.now c.args.self.now.node_index c.in_ok-node_index.node_index c.args.step.now c.in_ok-node_index.ensures.node in
     let q = c.in_ok-node_index.ensures.some in
     (q.0, ap (λ (w : PathPredicate). w q.0) (sym on) ∙ q.1)
+
+pub returns-in_err-node_index-clause-nothing : goal.returns-in_err-node_index-clause-nothing
+unfolding asks
+returns-in_err-node_index-clause-nothing c =
+    let none = ends_nowhere c.args.self.now.trie.now c.args.self.now.node_index c.args.step.now c.in_err-node_index.ensures.node in
+    rw c.from_residual.ensures (λ q. sym (ap (λ (w : PathPredicate). w q) none))
+
+pub returns-clause-each : goal.returns-clause-each
+unfolding asks
+returns-clause-each c = λ q.
+    ap (λ (w : PathPredicate). w q) (ends_stepped c.args.self.now.trie.now c.args.self.now.node_index c.in_ok-node_index.node_index c.args.step.now c.in_ok-node_index.ensures.node)

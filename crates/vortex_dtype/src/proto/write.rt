@@ -3,7 +3,7 @@
 
 // Messages of types: every child, every flag, names and tags in order, and the metadata, also where it is empty. The
 // functions below `of_kind` build the message of one kind, and are no part of the recursion.
-ghost use Rattle.std.specs.Prelude.{◌≡◌, IfOk, IsOkUnless, map, string_bytes};
+ghost use Rattle.std.specs.Prelude.{◌≡◌, IfOk, IsOkUnless, map, pos, string_bytes};
 ghost use Rattle.dtype_base.specs.Errors.{Makes};
 ghost use Rattle.dtype_base.specs.declared.vortex_error.VortexError.TheVariants.{OutOfMemory};
 ghost use Rattle.dtype_types.specs.tree.Tree as of;
@@ -12,9 +12,9 @@ ghost use Rattle.dtype_messages.specs.Message.{messages, list, fixed_size_list, 
 ghost use Rattle.dtype_messages.specs.MessageOf.{message, kind_message};
 ghost use Rattle.vortex_dtype.specs.Written.{written, extension_message};
 
-use dtype_base::{Nullability, VortexResult};
+use dtype_base::{FieldNames, Nullability, VortexResult};
 use dtype_messages::pb;
-use dtype_types::{DType, ExtDTypeRef, StructFields, UnionVariants};
+use dtype_types::{DType, DTypeIter, ExtDTypeRef, StructFields, UnionVariants};
 use std::alloc::Global;
 use std::string::String;
 
@@ -83,13 +83,8 @@ fn write_child(alloc: Global, dtype: &DType) -> VortexResult<Box<pb::DType>>
 fn write_struct(alloc: Global, fields: &StructFields, n: Nullability) -> VortexResult<pb::DType>
     ensures { Makes result (λ m. message m ≡ written (of.struct (fields_of fields.now) n)) }
 {
-    let count = fields.nfields();
-    let mut names = Vec::with_capacity(alloc, count)?;
-    let mut dtypes = Vec::with_capacity(alloc, count)?;
-    for (name, dtype) in fields.pairs() {
-        names.push(name.to_text(alloc)?)?;
-        dtypes.push(write(alloc, dtype)?)?;
-    }
+    let names = texts_of(alloc, fields.names())?;
+    let dtypes = write_all(alloc, fields.fields())?;
     Ok(struct_proto(names, dtypes, n.is_nullable()))
 }
 
@@ -98,16 +93,40 @@ fn write_struct(alloc: Global, fields: &StructFields, n: Nullability) -> VortexR
 fn write_union(alloc: Global, variants: &UnionVariants, n: Nullability) -> VortexResult<pb::DType>
     ensures { Makes result (λ m. message m ≡ written (of.union (variants_of variants.now) n)) }
 {
-    let count = variants.len();
-    let mut names = Vec::with_capacity(alloc, count)?;
-    let mut dtypes = Vec::with_capacity(alloc, count)?;
-    let mut tags = Vec::with_capacity(alloc, count)?;
-    for (name, tag, dtype) in variants.triples() {
-        names.push(name.to_text(alloc)?)?;
-        dtypes.push(write(alloc, dtype)?)?;
-        tags.push(i32::from(tag))?;
-    }
+    let names = texts_of(alloc, variants.names())?;
+    let dtypes = write_all(alloc, variants.variants())?;
+    let tags = numbers_of(alloc, variants.type_ids())?;
     Ok(union_proto(names, dtypes, tags, n.is_nullable()))
+}
+
+// Writes types, in their order.
+#[cycle(writing)]
+fn write_all(alloc: Global, dtypes: DTypeIter<'_>) -> VortexResult<Vec<pb::DType>>
+    ensures { Makes result (λ ms. map message ms.items ≡ map written (map tree dtypes.entry)) }
+{
+    let mut protos = Vec::with_capacity(alloc, dtypes.len())?;
+    for dtype in dtypes {
+        protos.push(write(alloc, dtype)?)?;
+    }
+    Ok(protos)
+}
+
+// The texts of names.
+fn texts_of(alloc: Global, names: &FieldNames) -> VortexResult<Vec<String>>
+    ensures { Makes result (λ texts. map string_bytes texts.items ≡ names.now) }
+{
+    let mut texts = Vec::with_capacity(alloc, names.len())?;
+    for name in names {
+        texts.push(name.to_text(alloc)?)?;
+    }
+    Ok(texts)
+}
+
+// The numbers of tags, as messages have them.
+fn numbers_of(alloc: Global, tags: &[u8]) -> VortexResult<Vec<i32>>
+    ensures { Makes result (λ numbers. numbers.items ≡ map pos tags.now) }
+{
+    Ok(tags.iter().map(|tag| i32::from(*tag)).collect(alloc)?)
 }
 
 // Wraps a kind in a message.

@@ -111,8 +111,7 @@ one_part P make x y h = (λ k. k.2 ∙ ap make ((h k.0).0 k.1), λ e. (x, (h x).
 
 two_parts : {X Z Y : Type 0} (P : X → Type 0) (Q : Z → Type 0) (make : X → Z → Y) (x : X) (z : Z) (y : Y) → ((a : X) → P a ↔ (a ≡ x)) → ((b : Z) → Q b ↔ (b ≡ z))
     → ((a : X) × (b : Z) × P a × Q b × (y ≡ make a b)) ↔ (y ≡ make x z)
-two_parts P Q make x z y h k =
-    (λ p. p.4 ∙ ap (λ a. make a p.1) ((h p.0).0 p.2) ∙ ap (make x) ((k p.1).0 p.3), λ e. (x, z, (h x).1 refl, (k z).1 refl, e))
+two_parts P Q make x z y h k = grind (arith, h, k)
 
 mutual
   pub written_normal : (s : Meaning) (m n : Message) (t : Tree) → Reads s m t → (Normal s m n → n ≡ written t) × (n ≡ written t → Normal s m n)

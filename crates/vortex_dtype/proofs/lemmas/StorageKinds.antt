@@ -4,14 +4,12 @@
 -- What setting a type's outer nullability keeps: its kind and its parts. A plugin or a vtable that looks at
 -- these alone has from here that the storage's outer nullability makes no difference.
 use Rattle.std.specs.Prelude.{◌≡◌, ℕ, List, Option, Some, None, Bool}
-use Rattle.std.proofs.Common.{ap, sym}
-use Rattle.std.proofs.lemmas.Option.{option_and_then_some, same_Some}
+use Rattle.std.proofs.Common.{ap, arith}
 use Rattle.dtype_base.specs.Decimals.{Decimal}
 use Rattle.dtype_base.specs.declared.nullability.Nullability.{Nullability}
-use Rattle.dtype_base.specs.declared.nullability.Nullability.TheVariants.{NonNullable, Nullable}
 use Rattle.dtype_base.specs.declared.ptype.PType.{PType}
 use Rattle.dtype_types.specs.tree.Kinds.{kind, primitive_name, decimal_of, struct_fields, union_variants, map_parts, list_element, fixed_size_list_element, any_size_list_element}
-use Rattle.dtype_types.specs.nullability.Nullable.{set_null, SetNull}
+use Rattle.dtype_types.specs.nullability.Nullable.{SetNull}
 use Rattle.dtype_types.specs.tree.Tree.{Tree, null, fixed_size_list, extension}
 use Rattle.dtype_types.specs.declared.dtype.kinds.Kind.{Kind}
 
@@ -51,14 +49,10 @@ held t = record {
   size = fixed_size t;
 }
 
-as_held : (u t : Tree) → Some u ≡ Some t → held t ≡ held u
-as_held u t e = ap held (sym (same_Some u t e))
-
 held-set_null : IsKept held
-held-set_null null t NonNullable e = cc
-held-set_null null t Nullable e = as_held null t e
-held-set_null (extension i m s) t n e = option_and_then_some (λ x. Some (extension i m x)) (set_null s n) t e (λ x _ same. as_held (extension i m x) t same)
-held-set_null _ t n e = as_held _ t e
+held-set_null null t n e = grind (arith, e)
+held-set_null (extension i m s) t n e = grind (arith, e)
+held-set_null _ t n e = grind (arith, e)
 
 -- any view of these parts, as `part_kept (λ h. h.kind_of)`
 pub part_kept : {X : Type 0} (part : Held → X) → IsKept (λ t. part (held t))

@@ -42,9 +42,9 @@ def commands():
     """The calls by the commands of the console, each its row."""
     known = listed()
     for row in console_rows():
-        owner, name = OWNERS.get(row.file.rpartition("/")[2].removesuffix(".rt"), ""), row.name
-        for it in (it for it in OWNERS if name.startswith(it) and it.endswith("_")):
-            owner, name = OWNERS[it], name.removeprefix(it)
+        topic = row.file.rpartition("/")[2].removesuffix(".rt")
+        before = next((it for it in OWNERS if it.endswith("_") and row.name.startswith(it)), "")
+        owner, name = OWNERS.get(before or topic, ""), row.name.removeprefix(before)
         yield row, known.get(row.name, [NAMED.get(name, f"{{}}::{name}").format(owner)])
 
 

@@ -4,7 +4,6 @@
 //! A line of the console (docs/CONSOLE.md), read from the left. One that can't be read fails at a byte.
 
 use std::cell::RefCell;
-use std::str::FromStr;
 
 use crate::living::Living;
 use crate::types::{Answer, stop};
@@ -196,7 +195,7 @@ impl<'a> Line<'a> {
         self.word(|word| known.iter().find(|it| it.to_string() == word).copied())
     }
 
-    pub fn number<T: FromStr>(&mut self) -> Answer<T> {
+    pub fn number<T: std::str::FromStr>(&mut self) -> Answer<T> {
         self.word(|word| word.parse().ok().filter(|_| !word.starts_with('+')))
     }
 

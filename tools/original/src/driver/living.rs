@@ -1,7 +1,7 @@
 // SPDX-License-Identifier: Apache-2.0
 // SPDX-FileCopyrightText: Copyright the Vortex contributors
 
-//! The sets and the sessions that live from line to line, each a list of what it was given, and `fixtures_plugins`.
+//! The sets and the sessions that live from line to line, each a list of what it was given, and the plugins.
 
 use std::collections::HashSet;
 use std::fmt;

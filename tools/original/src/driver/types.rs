@@ -4,7 +4,6 @@
 //! Types, names and paths as arguments, which the original makes or refuses, and answers as the console writes them.
 
 use std::cmp::Ordering;
-use std::fmt::Display;
 use std::sync::Arc;
 
 use vortex_array::dtype::extension::{ExtDTypeRef, ExtId, ForeignExtDType};
@@ -227,7 +226,7 @@ told! {
 /// A text that a call gives.
 pub struct Text<T>(pub T);
 
-impl<T: Display> Told for Text<T> {
+impl<T: std::fmt::Display> Told for Text<T> {
     fn told(self) -> Answer {
         let text = self.0.to_string().replace('\n', "\\n");
         Ok(if text.is_empty() { "\"\"".to_owned() } else { text })

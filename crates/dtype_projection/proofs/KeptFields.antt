@@ -124,16 +124,7 @@ zip_push _ _ x y e = absurd (omega arith)
 pub one_kept : (fs all : Pairs) (es rest : Entries) (e : ℕ × FieldPathCursor) (names names' : List (List ℕ)) (dtypes dtypes' : List DType) (n : List ℕ) (d : DType) → es ≡ e ∷ rest → kept_at fs e ≡ Some (n, tree d) → length names ≡ length dtypes → names' ≡ names ++ n ∷ [] → dtypes' ≡ dtypes ++ d ∷ []
     → zip names (map tree dtypes) ++ filter_map (kept_at fs) es ≡ all → zip names' (map tree dtypes') ++ filter_map (kept_at fs) rest ≡ all
 one_kept fs all es rest e names names' dtypes dtypes' n d next is even en ed whole =
-    let left = filter_map (kept_at fs) rest in
-    let longer : zip names' (map tree dtypes') ≡ zip names (map tree dtypes) ++ (n, tree d) ∷ [] =
-    ap (λ z. zip z (map tree dtypes')) en
-    ∙ ap (zip (names ++ n ∷ [])) (ap (map tree) ed ∙ map_push tree dtypes d)
-    ∙ zip_push names (map tree dtypes) n (tree d) (even ∙ sym (length-map dtypes tree)) in
-    ap (λ z. z ++ left) longer
-    ∙ append_assoc (zip names (map tree dtypes)) ((n, tree d) ∷ []) left
-    ∙ ap (λ o. zip names (map tree dtypes) ++ cons_option o left) (sym is)
-    ∙ ap (λ z. zip names (map tree dtypes) ++ filter_map (kept_at fs) z) (sym next)
-    ∙ whole
+    grind (arith, next, is, even, en, ed, whole, map_push tree dtypes d, zip_push names (map tree dtypes) n (tree d), length-map dtypes tree, append_assoc (zip names (map tree dtypes)) ((n, tree d) ∷ []))
 
 -- at the end
 pub all_done : (fs all kept : Pairs) (es : Entries) → es ≡ [] → kept ++ filter_map (kept_at fs) es ≡ all → kept ≡ all

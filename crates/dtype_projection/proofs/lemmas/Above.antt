@@ -2,7 +2,7 @@
 -- SPDX-FileCopyrightText: Copyright the Vortex contributors
 
 -- What is along a path in a type above another: as a merged type is above those that were merged.
-use Rattle.std.proofs.Common.{◌≡◌, ◌∙◌, ℕ, List, [], ◌∷◌, Bool, true, false, cond, Some, refl, sym, ap, subst}
+use Rattle.std.proofs.Common.{◌≡◌, ◌∙◌, ℕ, List, [], ◌∷◌, Some, refl, sym, ap, subst}
 use Rattle.std.proofs.lemmas.Option.{same_Some}
 use Rattle.std.specs.Prelude.{bytes_eq}
 use Rattle.dtype_types.specs.nullability.Nullable.{IsNullable}
@@ -10,7 +10,7 @@ use Rattle.dtype_types.specs.nullability.Sub.{Sub, NullableWherever, NullableWhe
 use Rattle.dtype_types.proofs.lemmas.SetSub.{above_nullable}
 use Rattle.dtype_types.specs.parts.Lookups.{first_named}
 use Rattle.dtype_types.specs.tree.Erase.{erase, erase_items}
-use Rattle.dtype_types.specs.tree.Tree.{Tree, Fields, no_items, field, pairs, list, fixed_size_list, struct, item, rest_of}
+use Rattle.dtype_types.specs.tree.Tree.{Tree, Fields, no_items, pairs, list, fixed_size_list, struct, item, rest_of}
 use Rattle.dtype_paths.specs.At.{At, ExistsIn, step}
 use Rattle.dtype_paths.specs.declared.field.Field.{Field}
 use Rattle.dtype_paths.specs.declared.field.Field.TheVariants.{Name, ElementType}

@@ -49,24 +49,14 @@ part_nullability t u p = ap nullability p
 -- ---- parts of each other are equal, since a part has no more fields
 
 fewer : (fs gs : Fields) → IsPartOfFields fs gs → length (pairs gs) ≤ length (pairs fs)
-fewer no_items gs p = let s = ap (λ hs. length (pairs hs)) p in omega (arith, s)
-fewer (item n t _ fs) gs (inl p) = let s = ap (λ hs. length (pairs hs)) p.2 in omega (arith, s, fewer fs p.1 p.4)
-fewer (item n t _ fs) gs (inr p) = omega (arith, fewer fs gs p.0)
+fewer no_items gs p = grind (arith, p)
+fewer (item n t _ fs) gs p = grind (arith, fewer fs, p)
 
 mutual
   pub parts_equal : (t u : Tree) → IsPart t u → IsPart u t → u ≡ t
-  parts_equal (list t n) u p q =
-      let r : IsPart (list p.0 n) (list t n) = subst (λ z. IsPart z (list t n)) p.1 q in
-      let same : r.0 ≡ t = cc in
-      p.1 ∙ ap (λ x. list x n) (parts_equal t p.0 p.2 (subst (IsPart p.0) same r.2))
-  parts_equal (fixed_size_list t k n) u p q =
-      let r : IsPart (fixed_size_list p.0 k n) (fixed_size_list t k n) = subst (λ z. IsPart z (fixed_size_list t k n)) p.1 q in
-      let same : r.0 ≡ t = cc in
-      p.1 ∙ ap (λ x. fixed_size_list x k n) (parts_equal t p.0 p.2 (subst (IsPart p.0) same r.2))
-  parts_equal (struct fs n) u p q =
-      let r : IsPart (struct p.0 n) (struct fs n) = subst (λ z. IsPart z (struct fs n)) p.1 q in
-      let same : r.0 ≡ fs = cc in
-      p.1 ∙ ap (λ gs. struct gs n) (fields_equal fs p.0 p.2 (subst (IsPartOfFields p.0) same r.2))
+  parts_equal (list t n) u p q = grind (arith, parts_equal t, p, q)
+  parts_equal (fixed_size_list t k n) u p q = grind (arith, parts_equal t, p, q)
+  parts_equal (struct fs n) u p q = grind (arith, fields_equal fs, p, q)
   parts_equal t u p q = p
 
   fields_equal : (fs gs : Fields) → IsPartOfFields fs gs → IsPartOfFields gs fs → gs ≡ fs
@@ -96,10 +86,8 @@ first_of_part (item n t _ fs) gs m y (inr p) e =
     (λ ne. (r.0, named_first n m t fs ne ∙ r.1, r.2))
 
 step_of_part : (t u z : Tree) (f : Field) → IsPart t u → step u f ≡ Some z → (x : Tree) × (step t f ≡ Some x) × IsPart x z
-step_of_part (list t n) u z ElementType p s = (t, refl, subst (IsPart t) (same_Some p.0 z (sym (ap (λ v. step v ElementType) p.1) ∙ s)) p.2)
-step_of_part (list t n) u z (Name m) p s = let q : None ≡ Some z = sym (ap (λ v. step v (Name m)) p.1) ∙ s in cc
-step_of_part (fixed_size_list t k n) u z ElementType p s = (t, refl, subst (IsPart t) (same_Some p.0 z (sym (ap (λ v. step v ElementType) p.1) ∙ s)) p.2)
-step_of_part (fixed_size_list t k n) u z (Name m) p s = let q : None ≡ Some z = sym (ap (λ v. step v (Name m)) p.1) ∙ s in cc
+step_of_part (list t n) u z f p s = grind (arith, p, s)
+step_of_part (fixed_size_list t k n) u z f p s = grind (arith, p, s)
 step_of_part (struct fs n) u z (Name m) p s = first_of_part fs p.0 m z p.2 (sym (ap (λ v. step v (Name m)) p.1) ∙ s)
 step_of_part (struct fs n) u z ElementType p s = let q : None ≡ Some z = sym (ap (λ v. step v ElementType) p.1) ∙ s in cc
 step_of_part t u z f p s = (z, sym (ap (λ v. step v f) p) ∙ s, part_itself z)

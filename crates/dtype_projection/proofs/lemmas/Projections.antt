@@ -3,7 +3,7 @@
 
 -- The projection of each kind of type, what holds of each projection, where steps and paths lead in it, which paths exist in
 -- it, and that it is valid where the type is.
-use Rattle.std.proofs.Common.{◌≡◌, ◌≢◌, ◌↔◌, IsSome, IsTrue, ℕ, List, [], ◌∷◌, ◌++◌, true, false, Option, Some, None, refl, sym, ap, subst, ◌∙◌, not, ◌&&◌, inl, inr, append-nil}
+use Rattle.std.proofs.Common.{arith, ◌≡◌, ◌≢◌, ◌↔◌, IsSome, IsTrue, ℕ, List, [], ◌∷◌, ◌++◌, true, false, Option, Some, None, refl, sym, ap, subst, ◌∙◌, not, ◌&&◌, inl, inr, append-nil}
 use Rattle.std.specs.Option.{option_and_then, option_map}
 use Rattle.std.proofs.lemmas.Bool.{false≢true}
 use Rattle.std.proofs.lemmas.Option.{same_Some}
@@ -52,10 +52,7 @@ without_field_holds n w f p t = by_step (Name n) f
 -- ---- the projection by whether w has the root
 
 pub kept_root : (t : Tree) (w : PathPredicate) → w [] ≡ true → projected t w ≡ Some t
-kept_root (list t n) w e = rw e refl
-kept_root (fixed_size_list t k n) w e = rw e refl
-kept_root (struct fs n) w e = rw e refl
-kept_root _ w e = rw e refl
+kept_root t w e = grind (arith, e)
 
 pub whole_kept : (t u : Tree) (w : PathPredicate) → w [] ≡ true → projected t w ≡ Some u → t ≡ u
 whole_kept t u w e is = same_Some t u (sym (kept_root t w e) ∙ is)
@@ -168,13 +165,8 @@ absent n rest w e = e ∙ ap (λ v. option_and_then (λ x. projected x v) (first
 pub first_kept : (fs : Fields) (w : PathPredicate) (m : List ℕ) → first_named (pairs (projected_fields fs w)) m ≡ option_and_then (λ x. projected x (after_step (Name m) w)) (first_named (pairs fs) m)
 first_kept no_items w m = refl
 first_kept (item n t _ rest) w m = by_name n m
-    (λ e. subst (λ z. first_named (pairs (projected_fields (field n t rest) w)) z ≡ option_and_then (λ x. projected x (after_step (Name z) w)) (first_named (pairs (field n t rest)) z)) e
-    (first_here n (projected t (after_step (Name n) w)) (projected_fields rest (without_field n w)) (absent n rest w (first_kept rest (without_field n w) n))
-    ∙ sym (ap (option_and_then (λ x. projected x (after_step (Name n) w))) (named_itself n t rest))))
-    (λ ne. first_there n m (projected t (after_step (Name n) w)) (projected_fields rest (without_field n w)) ne
-    ∙ first_kept rest (without_field n w) m
-    ∙ ap (λ v. option_and_then (λ x. projected x v) (first_named (pairs rest) m)) (after_without_other n m w ne)
-    ∙ sym (ap (option_and_then (λ x. projected x (after_step (Name m) w))) (named_first n m t rest ne)))
+    (λ e. grind (arith, e, absent n rest w (first_kept rest (without_field n w) n), named_itself n t rest, first_here n (projected t (after_step (Name n) w)) (projected_fields rest (without_field n w))))
+    (λ ne. grind (arith, first_there n m (projected t (after_step (Name n) w)) (projected_fields rest (without_field n w)) ne, first_kept rest (without_field n w) m, after_without_other n m w ne, named_first n m t rest ne))
 
 pub absent_kept : (n : List ℕ) (rest : Fields) (w : PathPredicate) → first_named (pairs (projected_fields rest (without_field n w))) n ≡ None
 absent_kept n rest w = absent n rest w (first_kept rest (without_field n w) n)
@@ -182,10 +174,8 @@ absent_kept n rest w = absent n rest w (first_kept rest (without_field n w) n)
 -- ---- a step into the projection
 
 pub step_kept : (t u : Tree) (w : PathPredicate) (f : Field) → w [] ≡ false → projected t w ≡ Some u → step u f ≡ option_and_then (λ x. projected x (after_step f w)) (step t f)
-step_kept (list t n) u w (Name m) root e = let x = mapped _ _ u (rw root at e) in ap (λ z. step z (Name m)) (sym x.2)
-step_kept (list t n) u w ElementType root e = let x = mapped _ _ u (rw root at e) in ap (λ z. step z ElementType) (sym x.2) ∙ sym x.1
-step_kept (fixed_size_list t k n) u w (Name m) root e = let x = mapped _ _ u (rw root at e) in ap (λ z. step z (Name m)) (sym x.2)
-step_kept (fixed_size_list t k n) u w ElementType root e = let x = mapped _ _ u (rw root at e) in ap (λ z. step z ElementType) (sym x.2) ∙ sym x.1
+step_kept (list t n) u w f root e = grind (arith, root, e)
+step_kept (fixed_size_list t k n) u w f root e = grind (arith, root, e)
 step_kept (struct fs n) u w (Name m) root e = ap (λ z. step z (Name m)) (sym (with_is n (projected_fields fs w) u (rw root at e))) ∙ first_kept fs w m
 step_kept (struct fs n) u w ElementType root e = ap (λ z. step z ElementType) (sym (with_is n (projected_fields fs w) u (rw root at e)))
 step_kept _ u w f root e = let q = rw root at e in cc

@@ -3,7 +3,7 @@
 
 -- A restricted value is of the projection, each value of the projection is the restriction of a value of the type, with
 -- samples where a field was left out, and at and below the paths the same is found in a value and in its restriction.
-use Rattle.std.proofs.Common.{◌≡◌, ◌≢◌, ◌↔◌, inl, inr, ℕ, suc, List, ◌∷◌, ◌++◌, [], true, false, Option, Some, None, refl, sym, ap, subst, ◌∙◌, ◌||◌}
+use Rattle.std.proofs.Common.{arith, ◌≡◌, ◌≢◌, ◌↔◌, inl, inr, ℕ, suc, List, ◌∷◌, ◌++◌, [], true, false, Option, Some, None, refl, sym, ap, subst, ◌∙◌, ◌||◌}
 use Rattle.std.specs.Prelude.{IfSome}
 use Rattle.std.proofs.lemmas.Option.{same_Some}
 use Rattle.dtype_base.specs.declared.nullability.Nullability.{Nullability}
@@ -60,10 +60,7 @@ of_record fs gs n g _ on h = absurd h
 of_pairs : (n : List ℕ) (t : Tree) (o : Option Tree) (fs gs : Fields) (w : PathPredicate) → projected t (after_step (Name n) w) ≡ o → IfSome o (λ x. (v : Value) → Of v t → Of (restricted t (after_step (Name n) w) v) x)
     → ((nvs : Named) → NamedOf nvs fs → NamedOf (restricted_pairs fs (without_field n w) nvs) gs) → (nvs : Named) → NamedOf nvs (field n t fs) → NamedOf (restricted_pairs (field n t fs) w nvs) (prepend_kept n o gs)
 of_pairs n t o fs gs w is on later no_named h = absurd h
-of_pairs n t None fs gs w is on later (named m v more) h =
-    subst (λ p. NamedOf (prepend_pair m p (restricted t (after_step (Name n) w) v) (restricted_pairs fs (without_field n w) more)) gs) (sym is) (later more h.2)
-of_pairs n t (Some x) fs gs w is on later (named m v more) h =
-    subst (λ p. NamedOf (prepend_pair m p (restricted t (after_step (Name n) w) v) (restricted_pairs fs (without_field n w) more)) (field n x gs)) (sym is) (h.0, on v h.1, later more h.2)
+of_pairs n t o fs gs w is on later (named m v more) h = grind (arith, is, on, later more, h)
 
 pub of_restricted : (t u : Tree) (w : PathPredicate) → projected t w ≡ Some u → (v : Value) → Of v t → Of (restricted t w v) u
 of_restricted = each_projection (λ t w u. (v : Value) → Of v t → Of (restricted t w v) u) (λ fs w gs. (nvs : Named) → NamedOf nvs fs → NamedOf (restricted_pairs fs w nvs) gs) (record {
@@ -155,10 +152,7 @@ found_fixed t k n g q x _ on h = absurd h
 
 -- of the first pair of a name, where it is v, and r when restricted
 found_first : (o p : Option Value) (v r : Value) (q : List Field) (x : Value) → o ≡ Some v → p ≡ Some r → Found v q x ↔ Found r q x → ((y : Value) × (o ≡ Some y) × Found y q x) ↔ ((z : Value) × (p ≡ Some z) × Found z q x)
-found_first o p v r q x a b on = (
-  λ f. (r, b, on.0 (subst (λ y. Found y q x) (same_Some f.0 v (sym f.1 ∙ a)) f.2)),
-  λ f. (v, a, on.1 (subst (λ y. Found y q x) (same_Some f.0 r (sym f.1 ∙ b)) f.2)),
-)
+found_first o p v r q x a b on = grind (arith, a, b, on)
 
 past_pair : (k m : List ℕ) (o : Option Tree) (v : Value) (more : Named) → k ≢ m → first_value (prepend_pair k o v more) m ≡ first_value more m
 past_pair k m None v more ne = refl

@@ -14,5 +14,4 @@ pub option_map-cond : {A B : Type 0} (r : A → B) (c : Bool) (x : A) (o p : Opt
 option_map-cond r c x o p e = grind (arith, e)
 
 pub lawful_found : {B : Type 0} (r : B → Rewrites) → ((b : B) → Lawful (r b)) → (o : Option B) (q : Rewrites) → option_map r o ≡ Some q → Lawful q
-lawful_found r h None q e = cc
-lawful_found r h (Some b) q e = subst Lawful (same_Some _ _ e) (h b)
+lawful_found r h o q e = grind (arith, h, e)

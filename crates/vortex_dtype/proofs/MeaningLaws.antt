@@ -2,8 +2,7 @@
 -- SPDX-FileCopyrightText: Copyright the Vortex contributors
 
 -- Facts on the meanings of sessions.
-use Rattle.std.proofs.Common.{arith, ◌≡◌, ℕ, List, Option, Some, None, Bool, ap, cond, subst}
-use Rattle.std.proofs.lemmas.Option.{same_Some}
+use Rattle.std.proofs.Common.{arith, ◌≡◌, ℕ, List, Option, Some, Bool, ap, cond}
 use Rattle.std.specs.Prelude.{option_map}
 use Rattle.vortex_dtype.specs.Meaning.{Rewrites, Meaning, Lawful}
 

@@ -4,10 +4,11 @@
 -- What is kept of the fields that paths step into, in the order of their positions, is the projection of all fields: of
 -- a field that no path steps into nothing is kept.
 use Rattle.std.proofs.Common.{◌≡◌, ◌⊎◌, inl, inr, ℕ, zero, suc, ◌+◌, ◌-◌, ◌<◌, ◌≤◌, List, [], ◌∷◌, ◌++◌, All, map, length, slice_get, true, Option, Some, None, refl, sym, ap, subst, ◌∙◌, append_assoc, append-nil, arith}
-use Rattle.std.specs.List.{Contains, cons_option, filter_map, zip}
+use Rattle.std.specs.List.{AllByRecursion, Contains, cons_option, filter_map, zip}
 use Rattle.std.specs.Option.{option_and_then, option_map}
 use Rattle.std.proofs.lemmas.Bool.{cases_lt}
 use Rattle.std.proofs.lemmas.List.{length-map, map_push}
+use Rattle.std.proofs.lemmas.List.Elements.{recursion_from_All}
 use Rattle.std.proofs.lemmas.Option.{same_Some}
 use Rattle.dtype_base.specs.declared.nullability.Nullability.{Nullability}
 use Rattle.dtype_types.specs.parts.Lookups.{field_names, field_types}
@@ -138,12 +139,9 @@ struct_made s n (f ∷ fs) made some = ap Some (tree_struct s n ∙ ap (λ gs. s
 
 -- ---- all fields, kept whole
 
-whole_at : (i n : ℕ) (es : Entries) → AreWhole i n es → (a : ℕ → PathPredicate) → All (λ e. asks e.1 ≡ a e.0) es → (j : ℕ) → i ≤ j → j < n → a j [] ≡ true
+whole_at : (i n : ℕ) (es : Entries) → AreWhole i n es → (a : ℕ → PathPredicate) → AllByRecursion (λ e. asks e.1 ≡ a e.0) es → (j : ℕ) → i ≤ j → j < n → a j [] ≡ true
 whole_at i n [] end a each j le lt = absurd (omega (arith, end, le, lt))
-whole_at i n (e ∷ es) all a each j le lt = elim (cases_lt i j) [
-  | inl after ↦ whole_at (i + 1) n es all.2 a (λ k d lt. each (suc k) d (omega (arith, lt))) j (omega (arith, after)) lt
-  | inr same ↦ ap (λ k. a k []) (let at : j ≡ e.0 = omega (arith, all.0, le, same) in at) ∙ ap (λ (v : PathPredicate). v []) (sym (each 0 e (omega arith))) ∙ all.1
-]
+whole_at i n (e ∷ es) all a each j le lt = grind (arith, cases_lt i j, whole_at (i + 1) n es all.2 a, all, each, le, lt)
 
 whole_fields : (fs : Pairs) (w : PathPredicate) → ((k : ℕ) → k < length fs → asked_below w (field_names fs) k [] ≡ true) → fields fs ≡ projected_fields (fields fs) w
 whole_fields [] w ends = refl
@@ -155,4 +153,4 @@ whole_fields (f ∷ fs) w ends =
 pub struct_shared : (s t : StructFields) (n : Nullability) (w : PathPredicate) (es : Entries) → struct_pairs s ≡ struct_pairs t → AreEntered w (field_names (children t)) es → AreWhole 0 (length (children t)) es → 0 < length (children t) → Some (tree (Struct s n)) ≡ struct_with n (projected_fields (fields_of t) w)
 struct_shared s t n w es same a all some =
     struct_made s n (children t) (ap with_trees same) some
-    ∙ ap (struct_with n) (whole_fields (children t) w (λ k lt. whole_at 0 (length (children t)) es all (asked_below w (field_names (children t))) a.each k (omega arith) lt))
+    ∙ ap (struct_with n) (whole_fields (children t) w (λ k lt. whole_at 0 (length (children t)) es all (asked_below w (field_names (children t))) (recursion_from_All _ es a.each) k (omega arith) lt))

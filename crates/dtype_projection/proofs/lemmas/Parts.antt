@@ -165,20 +165,20 @@ mutual
   projected_part_fields no_items gs w p h = ap (λ hs. projected_fields hs w) p
   projected_part_fields (item n t _ fs) gs w (inl p) h =
       let on = projected_part t p.0 (after_step (Name n) w) p.3 (λ q b.
-          sym (ap (option_and_then (λ z. along z q)) (ap (λ ks. first_named (pairs ks) n) p.2 ∙ named_itself n p.0 p.1))
-          ∙ h n q b
-          ∙ ap (option_and_then (λ z. along z q)) (named_itself n t fs)) in
+      sym (ap (option_and_then (λ z. along z q)) (ap (λ ks. first_named (pairs ks) n) p.2 ∙ named_itself n p.0 p.1))
+      ∙ h n q b
+      ∙ ap (option_and_then (λ z. along z q)) (named_itself n t fs)) in
       let later = projected_part_fields fs p.1 (without_field n w) p.4 (has_later n t fs gs p.1 w (λ m ne. ap (λ ks. first_named (pairs ks) m) p.2 ∙ named_first n m p.0 p.1 ne) h) in
       ap (λ hs. projected_fields hs w) p.2 ∙ (λ i. prepend_kept n (on i) (later i))
   projected_part_fields (item n t _ fs) gs w (inr p) h =
       let none = by_option (projected t (after_step (Name n) w)) (λ e. e) (λ x is.
-          let l = kept_has_path t x (after_step (Name n) w) is in
-          let q : None ≡ Some l.exists.found =
-          sym (ap (option_and_then (λ z. along z l.path)) p.1)
-          ∙ h n l.path l.holds
-          ∙ ap (option_and_then (λ z. along z l.path)) (named_itself n t fs)
-          ∙ At-along t l.path l.exists.found l.exists.at in
-          absurd (cc)) in
+      let l = kept_has_path t x (after_step (Name n) w) is in
+      let q : None ≡ Some l.exists.found =
+      sym (ap (option_and_then (λ z. along z l.path)) p.1)
+      ∙ h n l.path l.holds
+      ∙ ap (option_and_then (λ z. along z l.path)) (named_itself n t fs)
+      ∙ At-along t l.path l.exists.found l.exists.at in
+      absurd (cc)) in
       sym (without_absent n gs w p.1)
       ∙ projected_part_fields fs gs (without_field n w) p.0 (has_later n t fs gs gs w (λ m ne. refl) h)
       ∙ ap (λ o. prepend_kept n o (projected_fields fs (without_field n w))) (sym none)

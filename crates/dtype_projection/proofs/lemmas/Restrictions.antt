@@ -26,10 +26,7 @@ use Rattle.dtype_base.specs.declared.nullability.Nullability.TheVariants.{NonNul
 use Rattle.dtype_paths.specs.Equality.{same_path}
 
 pub restricted_root : (t : Tree) (w : PathPredicate) (v : Value) → w [] ≡ true → restricted t w v ≡ v
-restricted_root (list t n) w v e = rw e refl
-restricted_root (fixed_size_list t k n) w v e = rw e refl
-restricted_root (struct fs n) w v e = rw e refl
-restricted_root _ w v e = refl
+restricted_root t w v e = grind (arith, e)
 
 -- ---- a restricted value is of the projection
 
@@ -109,12 +106,7 @@ onto_first : (n : List ℕ) (t x : Tree) (rest gs : Fields) (w : PathPredicate) 
     → NamedOf nvs (field n x (gs)) → (mvs : Named) × NamedOf mvs (field n t rest) × (restricted_pairs (field n t rest) w mvs ≡ nvs)
 onto_first n t x rest gs w no_named is here later o = absurd o
 onto_first n t x rest gs w (named m v more) is here later o =
-    let a = here v o.1 in
-    let r = later more o.2 in (
-      named m a.0 r.0,
-      (o.0, a.1, r.1),
-      ap (λ p. prepend_pair m p (restricted t (after_step (Name n) w) a.0) (restricted_pairs rest (without_field n w) r.0)) is ∙ (λ i. named m (a.2 i) (r.2 i)),
-    )
+    let a = here v o.1 in let r = later more o.2 in (named m a.0 r.0, (o.0, a.1, r.1), rw (is, a.2, r.2) refl)
 
 pub onto : (t u : Tree) (w : PathPredicate) → projected t w ≡ Some u → Valid t → IsOnto t u (restricted t w)
 onto = each_projection (λ t w u. Valid t → IsOnto t u (restricted t w)) (λ fs w gs. ValidItems fs → (nvs : Named) → NamedOf nvs gs → (mvs : Named) × NamedOf mvs fs × (restricted_pairs fs w mvs ≡ nvs)) (record {

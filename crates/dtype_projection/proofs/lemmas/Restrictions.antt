@@ -132,16 +132,6 @@ found_each t g P Q (value v vs) on h =
       λ f. elim f.1 [ inl e ↦ (v, inl refl, (on v h.0).1 (subst Q (sym e) f.2)) | inr m ↦ let r = rest.1 (f.0, m, f.2) in (r.0, inr r.1, r.2) ],
     )
 
-found_items : (t : Tree) (n : Nullability) (g : Value → Value) (q : List Field) (x v : Value) → ((y : Value) → Of y t → Found y q x ↔ Found (g y) q x) → Of v (list t n) → Found v (ElementType ∷ q) x ↔ Found (each_item g v) (ElementType ∷ q) x
-found_items t n g q x (items vs) on h = found_each t g (λ y. Found y q x) (λ y. Found y q x) vs on h
-found_items t n g q x null_value on h = (λ f. f, λ f. f)
-found_items t n g q x _ on h = absurd h
-
-found_fixed : (t : Tree) (k : ℕ) (n : Nullability) (g : Value → Value) (q : List Field) (x v : Value) → ((y : Value) → Of y t → Found y q x ↔ Found (g y) q x) → Of v (fixed_size_list t k n) → Found v (ElementType ∷ q) x ↔ Found (each_item g v) (ElementType ∷ q) x
-found_fixed t k n g q x (fixed_items vs) on h = found_each t g (λ y. Found y q x) (λ y. Found y q x) vs on h.1
-found_fixed t k n g q x null_value on h = (λ f. f, λ f. f)
-found_fixed t k n g q x _ on h = absurd h
-
 -- of the first pair of a name, where it is v, and r when restricted
 found_first : (o p : Option Value) (v r : Value) (q : List Field) (x : Value) → o ≡ Some v → p ≡ Some r → Found v q x ↔ Found r q x → ((y : Value) × (o ≡ Some y) × Found y q x) ↔ ((z : Value) × (p ≡ Some z) × Found z q x)
 found_first o p v r q x a b on = grind (arith, a, b, on)
@@ -173,18 +163,18 @@ found_pairs (item n t _ rest) w (named k v more) m c u q x on e is h = by_name n
     let over = past_pair k m (projected t (after_step (Name n) w)) (restricted t (after_step (Name n) w) v) (restricted_pairs rest (without_field n w) more) km in
     (λ f. let r = later.0 (f.0, sym past ∙ f.1, f.2) in (r.0, over ∙ r.1, r.2), λ f. let r = later.1 (f.0, sym over ∙ f.1, f.2) in (r.0, past ∙ r.1, r.2)))
 
-found_named : (fs : Fields) (n : Nullability) (w : PathPredicate) (m : List ℕ) (c u : Tree) (q : List Field) (x v : Value) → ((y : Value) → Of y c → Found y q x ↔ Found (restricted c (after_step (Name m) w) y) q x)
-    → first_named (pairs fs) m ≡ Some c → projected c (after_step (Name m) w) ≡ Some u → Of v (struct fs n) → Found v (Name m ∷ q) x ↔ Found (in_record (restricted_pairs fs w) v) (Name m ∷ q) x
-found_named fs n w m c u q x (record_of nvs) on e is h = found_pairs fs w nvs m c u q x on e is h
-found_named fs n w m c u q x null_value on e is h = (λ f. f, λ f. f)
-found_named fs n w m c u q x _ on e is h = absurd h
-
 -- one step down
 found_step : (t : Tree) (f : Field) (y u : Tree) (w : PathPredicate) (q : List Field) (v x : Value) → w [] ≡ false → step t f ≡ Some y → projected y (after_step f w) ≡ Some u
     → ((z : Tree) → step t f ≡ Some z → (b : Value) → Of b z → Found b q x ↔ Found (restricted z (after_step f w) b) q x) → Of v t → Found v (f ∷ q) x ↔ Found (restricted t w v) (f ∷ q) x
-found_step (list t n) ElementType y u w q v x root at is on h = rw root (found_items t n (restricted t (after_step ElementType w)) q x v (on t refl) h)
-found_step (fixed_size_list t k n) ElementType y u w q v x root at is on h = rw root (found_fixed t k n (restricted t (after_step ElementType w)) q x v (on t refl) h)
-found_step (struct fs n) (Name m) y u w q v x root at is on h = rw root (found_named fs n w m y u q x v (on y at) at is h)
+found_step (list t n) ElementType y u w q (items vs) x root at is on h = rw root (found_each t _ (λ v. Found v q x) (λ v. Found v q x) vs (on t refl) h)
+found_step (fixed_size_list t k n) ElementType y u w q (fixed_items vs) x root at is on h = rw root (found_each t _ (λ v. Found v q x) (λ v. Found v q x) vs (on t refl) h.1)
+found_step (struct fs n) (Name m) y u w q (record_of nvs) x root at is on h = rw root (found_pairs fs w nvs m y u q x (on y at) at is h)
+found_step (list t n) _ y u w q null_value x root at is on h = rw root (λ f. f, λ f. f)
+found_step (fixed_size_list t k n) _ y u w q null_value x root at is on h = rw root (λ f. f, λ f. f)
+found_step (struct fs n) _ y u w q null_value x root at is on h = rw root (λ f. f, λ f. f)
+found_step (list t n) ElementType y u w q _ x root at is on h = absurd h
+found_step (fixed_size_list t k n) ElementType y u w q _ x root at is on h = absurd h
+found_step (struct fs n) (Name m) y u w q _ x root at is on h = absurd h
 found_step _ f y u w q v x root at is on h = cc
 
 -- at and below a path of w that exists in the type the same is found in the value and in its restriction

@@ -257,12 +257,10 @@ same_for_least t s = same_for_same_coverage t (least s) s (λ q e. covers_least 
 
 -- ---- and the projection of a projection to what is covered is that of the type
 
-projected_again : (t u : Tree) (w v : PathPredicate) → projected t w ≡ Some u → CoversIn t w v → projected u v ≡ projected t v
-projected_again t u w v e c = let m = kept_is_least t u w e in projected_part t u v m.part (has_covered t u w v c m.part m.has)
-
--- path sets
 pub projection_of_projection : (t u : Tree) (s r : PathSet) → projected t (set.contains s) ≡ Some u → ((q : List Field) → IsTrue (set.contains r q) → ExistsIn t q → IsTrue (covers s q)) → projected u (set.contains r) ≡ projected t (set.contains r)
-projection_of_projection t u s r e c = projected_again t u (set.contains s) (set.contains r) e (record { covered = λ q is x. covered_set s q (c q is x) })
+projection_of_projection t u s r e c =
+    let m = kept_is_least t u (set.contains s) e in
+    projected_part t u (set.contains r) m.part (has_covered t u (set.contains s) (set.contains r) (record { covered = λ q is x. covered_set s q (c q is x) }) m.part m.has)
 
 pub projected_once : (t u : Tree) (s : PathSet) → projected t (set.contains s) ≡ Some u → projected u (set.contains s) ≡ Some u
 projected_once t u s e = projection_of_projection t u s s e (λ q is x. covers_member s q is) ∙ e

@@ -173,32 +173,31 @@ absent_kept n rest w = absent n rest w (first_kept rest (without_field n w) n)
 
 -- ---- a step into the projection
 
+struct_step : (n : Nullability) (gs : Fields) (f : Field) → option_and_then (λ u. step u f) (struct_with n gs) ≡ step (struct gs n) f
+struct_step n no_items (Name m) = refl
+struct_step n no_items ElementType = refl
+struct_step n (item m t _ gs) f = refl
+
+steps_kept : (t : Tree) (w : PathPredicate) (f : Field) → w [] ≡ false → option_and_then (λ u. step u f) (projected t w) ≡ option_and_then (λ x. projected x (after_step f w)) (step t f)
+steps_kept (list t n) w ElementType root = rw root (by_option (projected t (after_step ElementType w)) (λ e. rw e refl) (λ x e. rw e refl))
+steps_kept (list t n) w (Name m) root = rw root (by_option (projected t (after_step ElementType w)) (λ e. rw e refl) (λ x e. rw e refl))
+steps_kept (fixed_size_list t k n) w ElementType root = rw root (by_option (projected t (after_step ElementType w)) (λ e. rw e refl) (λ x e. rw e refl))
+steps_kept (fixed_size_list t k n) w (Name m) root = rw root (by_option (projected t (after_step ElementType w)) (λ e. rw e refl) (λ x e. rw e refl))
+steps_kept (struct fs n) w ElementType root = rw root (struct_step n (projected_fields fs w) ElementType)
+steps_kept (struct fs n) w (Name m) root = rw root (struct_step n (projected_fields fs w) (Name m) ∙ first_kept fs w m)
+steps_kept _ w f root = rw root refl
+
 pub step_kept : (t u : Tree) (w : PathPredicate) (f : Field) → w [] ≡ false → projected t w ≡ Some u → step u f ≡ option_and_then (λ x. projected x (after_step f w)) (step t f)
-step_kept (list t n) u w f root e = grind (arith, root, e)
-step_kept (fixed_size_list t k n) u w f root e = grind (arith, root, e)
-step_kept (struct fs n) u w (Name m) root e = ap (λ z. step z (Name m)) (sym (with_is n (projected_fields fs w) u (rw root at e))) ∙ first_kept fs w m
-step_kept (struct fs n) u w ElementType root e = ap (λ z. step z ElementType) (sym (with_is n (projected_fields fs w) u (rw root at e)))
-step_kept _ u w f root e = let q = rw root at e in cc
-
-struct_some : (n : Nullability) (gs : Fields) (m : List ℕ) (v : Tree) → first_named (pairs gs) m ≡ Some v → (u : Tree) × (struct_with n gs ≡ Some u)
-struct_some n no_items m v e = cc
-struct_some n (item k t _ gs) m v e = (struct (field k t gs) n, refl)
-
-step_some : (t y v : Tree) (w : PathPredicate) (f : Field) → w [] ≡ false → step t f ≡ Some y → projected y (after_step f w) ≡ Some v → (u : Tree) × (projected t w ≡ Some u)
-step_some (list t n) y v w ElementType root is e =
-    (list v n, rw root (ap (option_map (λ u. list u n)) (ap (λ x. projected x (after_step ElementType w)) (same_Some t y is) ∙ e)))
-step_some (fixed_size_list t k n) y v w ElementType root is e =
-    (fixed_size_list v k n, rw root (ap (option_map (λ u. fixed_size_list u k n)) (ap (λ x. projected x (after_step ElementType w)) (same_Some t y is) ∙ e)))
-step_some (struct fs n) y v w (Name m) root is e =
-    let r = struct_some n (projected_fields fs w) m v (first_kept fs w m ∙ ap (option_and_then (λ x. projected x (after_step (Name m) w))) is ∙ e) in
-    (r.0, rw root r.1)
-step_some _ y v w f root is e = cc
+step_kept t u w f root e = sym (ap (option_and_then (λ x. step x f)) e) ∙ steps_kept t w f root
 
 pub path_is_kept : (p : List Field) (t x : Tree) (w : PathPredicate) → w p ≡ true → At t p x → (u : Tree) × (projected t w ≡ Some u)
 path_is_kept [] t x w e a = (t, kept_root t w e)
 path_is_kept (f ∷ p) t x w e a = by_bool (w [])
     (λ root. (t, kept_root t w root))
-    (λ root. let r = path_is_kept p a.0 x (after_step f w) e a.2 in step_some t a.0 r.0 w f root a.1 r.1)
+    (λ root. by_option (projected t w)
+    (λ none. let r = path_is_kept p a.0 x (after_step f w) e a.2 in
+    let q = sym (ap (option_and_then (λ u. step u f)) none) ∙ steps_kept t w f root ∙ ap (option_and_then (λ y. projected y (after_step f w))) a.1 ∙ r.1 in cc)
+    (λ u is. (u, is)))
 
 pub kept_exactly : (t : Tree) (w : PathPredicate) → IsSome (projected t w) ↔ ((p : List Field) × IsTrue (w p) × ExistsIn t p)
 kept_exactly t w = (
@@ -214,17 +213,10 @@ steps_join (Some x) h g = refl
 
 -- after the first step
 pub along_step : (t : Tree) (w : PathPredicate) (f : Field) (p : List Field) → w [] ≡ false → option_and_then (λ u. along u (f ∷ p)) (projected t w) ≡ option_and_then (λ x. option_and_then (λ u. along u p) (projected x (after_step f w))) (step t f)
-along_step t w f p root = by_option (projected t w)
-    (λ none. ap (option_and_then (λ u. along u (f ∷ p))) none ∙ sym (by_option (step t f)
-    (λ e. ap (option_and_then (λ x. option_and_then (λ u. along u p) (projected x (after_step f w)))) e)
-    (λ x e. ap (option_and_then (λ y. option_and_then (λ u. along u p) (projected y (after_step f w)))) e
-    ∙ by_option (projected x (after_step f w))
-    (λ is. ap (option_and_then (λ u. along u p)) is)
-    (λ v is. let some = step_some t x v w f root e is in let q = sym none ∙ some.1 in cc))))
-    (λ u is.
-    ap (option_and_then (λ x. along x (f ∷ p))) is
-    ∙ ap (option_and_then (λ x. along x p)) (step_kept t u w f root is)
-    ∙ steps_join (step t f) (λ x. projected x (after_step f w)) (λ x. along x p))
+along_step t w f p root =
+    sym (steps_join (projected t w) (λ u. step u f) (λ x. along x p))
+    ∙ ap (option_and_then (λ x. along x p)) (steps_kept t w f root)
+    ∙ steps_join (step t f) (λ x. projected x (after_step f w)) (λ x. along x p)
 
 -- at or below a path of w it has what the type has
 pub along_kept : (p r : List Field) (t : Tree) (w : PathPredicate) → w p ≡ true → option_and_then (λ u. along u (p ++ r)) (projected t w) ≡ along t (p ++ r)

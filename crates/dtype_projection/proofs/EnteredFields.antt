@@ -80,15 +80,12 @@ pub record IsEntering (w : PathPredicate) (ns : List (List ℕ)) (left : List (L
   pub ahead : (n : List ℕ) → Contains (firsts left) n → All (λ e. Some e.0 ≢ first_place ns n) es
   pub all : (k : ℕ) → ((n : List ℕ) → Contains (firsts left) n → Some k ≢ first_place ns n) → IsSettled w ns es k
 
-nothing_once : PositionsDiffer []
-unfolding IsDistinct
-nothing_once = tt
-
 pub entering-start : (w : PathPredicate) (ns : List (List ℕ)) (left : List (List ℕ × PathPredicate)) (es : Entries) → es ≡ [] → AreNames w left → IsEntering w ns left es
+unfolding IsDistinct
 entering-start w ns left es none names = subst (IsEntering w ns left) (sym none) (record {
   left_once = names.once;
   left_each = names.each;
-  once = nothing_once;
+  once = tt;
   each = All-nil _;
   ahead = λ n c. All-nil _;
   all = λ k gone. inl (elim (asked_cases ns w k) [

@@ -40,6 +40,3 @@ returns-clause-ok c =
     let ns = field_names (children c.args.fields.now) in
     let same = ap length (c.as_slice-names.ensures ∙ c.names.ensures) in
     to-end (asks c.args.wanted.now) ns c.loop-i.i c.loop-i.entered.items (omega (arith, c.loop-i-test.false, same)) c.loop-i.invariant
-
-pub returns-clause-order : goal.returns-clause-order
-returns-clause-order c = c.loop-i.invariant.order

@@ -34,6 +34,3 @@ loop-name-preserved c =
 
 pub returns-clause-ok : goal.returns-clause-ok
 returns-clause-ok c = entering-end (asks c.args.wanted.now) (field_names (children c.args.fields.now)) (names_left c.loop-name.name-iterator) c.loop-name.entered.items c.in-None.ensures.steps.0 c.loop-name.invariant
-
-pub returns-clause-once : goal.returns-clause-once
-returns-clause-once c = c.loop-name.invariant.once

@@ -3,7 +3,7 @@
 
 -- What is kept of the fields that paths step into, in the order of their positions, is the projection of all fields: of
 -- a field that no path steps into nothing is kept.
-use Rattle.std.proofs.Common.{◌≡◌, ◌⊎◌, inl, inr, ℕ, zero, suc, ◌+◌, ◌-◌, ◌<◌, ◌≤◌, List, [], ◌∷◌, ◌++◌, All, map, length, slice_get, true, Option, Some, None, refl, sym, ap, subst, ◌∙◌, append_assoc, append-nil, arith}
+use Rattle.std.proofs.Common.{◌≡◌, ◌⊎◌, inl, inr, ℕ, zero, suc, ◌+◌, ◌-◌, ◌<◌, ◌≤◌, List, [], ◌∷◌, ◌++◌, All, map, length, slice_get, true, Option, Some, None, refl, sym, ap, subst, ◌∙◌, append_assoc, arith}
 use Rattle.std.specs.List.{AllByRecursion, Contains, cons_option, filter_map, zip}
 use Rattle.std.specs.Option.{option_and_then, option_map}
 use Rattle.std.proofs.lemmas.Bool.{cases_lt}
@@ -126,10 +126,6 @@ pub one_kept : (fs all : Pairs) (es rest : Entries) (e : ℕ × FieldPathCursor)
     → zip names (map tree dtypes) ++ filter_map (kept_at fs) es ≡ all → zip names' (map tree dtypes') ++ filter_map (kept_at fs) rest ≡ all
 one_kept fs all es rest e names names' dtypes dtypes' n d next is even en ed whole =
     grind (arith, next, is, even, en, ed, whole, map_push tree dtypes d, zip_push names (map tree dtypes) n (tree d), length-map dtypes tree, append_assoc (zip names (map tree dtypes)) ((n, tree d) ∷ []))
-
--- at the end
-pub all_done : (fs all kept : Pairs) (es : Entries) → es ≡ [] → kept ++ filter_map (kept_at fs) es ≡ all → kept ≡ all
-all_done fs all kept es end whole = sym (append-nil kept) ∙ ap (λ z. kept ++ filter_map (kept_at fs) z) (sym end) ∙ whole
 
 -- ---- the struct of the fields that are kept
 

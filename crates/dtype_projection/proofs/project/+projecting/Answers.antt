@@ -1,7 +1,7 @@
 -- SPDX-License-Identifier: Apache-2.0
 -- SPDX-FileCopyrightText: Copyright the Vortex contributors
 
-use Rattle.std.proofs.Common.{◌≡◌, ◌++◌, ◌<◌, length, map, MatchResult, Some, subst, sym, ap, ◌∙◌, arith, rules}
+use Rattle.std.proofs.Common.{◌≡◌, ◌++◌, ◌<◌, length, map, MatchResult, Some, subst, sym, ap, ◌∙◌, append-nil, arith, rules}
 use Rattle.std.specs.List.{filter_map, zip}
 use Rattle.std.specs.Option.{option_map}
 use Rattle.std.specs.Vec.Iter.{into_iter_items}
@@ -13,7 +13,7 @@ use Rattle.dtype_paths.specs.Cursors.{asks}
 use Rattle.dtype_projection.specs.private.Entered.{AreWhole}
 use Rattle.dtype_projection.specs.Projected.{projected, projected_fields, struct_with}
 use Rattle.dtype_projection.proofs.lemmas.Projections.{projected_nothing}
-use Rattle.dtype_projection.proofs.KeptFields.{all_done, all_kept, kept_at, one_kept, struct_shared}
+use Rattle.dtype_projection.proofs.KeptFields.{all_kept, kept_at, one_kept, struct_shared}
 use Rattle.dtype_types.proofs.lemmas.ValidParts.{fields_of_pairs}
 use Rattle.dtype_types.proofs.lemmas.TypesBelow.{field_below}
 use Rattle.dtype_projection.proofs.project.+projecting.Goals as goal
@@ -57,7 +57,8 @@ project_struct-loop-position-preserved-in-Some-2 t c =
 pub project_struct-returns : goal.project_struct-returns
 project_struct-returns t c =
     let none = nil_from_length (into_iter_items c.loop-position.position-iterator) (omega (arith, c.loop-position.position-iterator.rest.ok, c.in-None.ensures.steps)) in
-    let all = all_done (children c.args.fields.now) _ _ (into_iter_items c.loop-position.position-iterator) none c.loop-position.invariant.kept in
+    let kept = zip c.loop-position.names.items (map tree c.loop-position.dtypes.items) in
+    let all = sym (append-nil kept) ∙ ap (λ es. kept ++ filter_map (kept_at (children c.args.fields.now)) es) (sym none) ∙ c.loop-position.invariant.kept in
     subst (λ fs. MatchResult c.struct_of.result (λ r. option_map tree r ≡ struct_with c.args.n fs) (λ e. e ≡ OutOfMemory)) (ap fields all ∙ fields_of_pairs (projected_fields (fields_of c.args.fields.now) (asks c.args.wanted.now))) c.struct_of.ensures
 
 -- ---- one field

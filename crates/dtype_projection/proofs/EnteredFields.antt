@@ -141,8 +141,8 @@ module _ (w : PathPredicate) (ns : List (List ℕ)) (left rest : List (List ℕ 
       not_again : Contains (firsts rest) m → ⊥
       not_again c = old.left_once 0 (suc c.0) m (omega arith) (omega (arith, c.1)) (sym c.2)
 
-pub entering-end : (w : PathPredicate) (ns : List (List ℕ)) (left : List (List ℕ × PathPredicate)) (es : Entries) → left ≡ [] → IsEntering w ns left es → AreEntered w ns es
-entering-end w ns left es none e = record {
+pub entering_end : (w : PathPredicate) (ns : List (List ℕ)) (left : List (List ℕ × PathPredicate)) (es : Entries) → IsEntering w ns left es → left ≡ [] → AreEntered w ns es
+entering_end w ns left es e none = record {
   each = e.each;
   all = λ k. e.all k (λ n c at. let none_left = subst (λ z. Contains (firsts z) n) none c in omega (arith, none_left.1));
 }

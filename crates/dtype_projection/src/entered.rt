@@ -49,6 +49,7 @@ fn entered_by_names<'a>(
 }
 
 // The position of each field that paths step into, with the cursor after that step, in no order.
+#[tactic(auto, using(crate::proofs::EnteredFields::entering_end))]
 fn looked_up<'a>(
     alloc: Global,
     fields: &StructFields,

@@ -8,7 +8,7 @@ use Rattle.dtype_types.specs.tree.TreeOf.{children}
 use Rattle.dtype_paths.specs.Cursors.{asks, names_left}
 use Rattle.dtype_paths.specs.PathPredicates.{AreNames}
 use Rattle.dtype_paths.specs.declared.cursor_names.CursorNames.{CursorNames}
-use Rattle.dtype_projection.proofs.EnteredFields.{entering-start, entering-passed, entering-entered, entering-end}
+use Rattle.dtype_projection.proofs.EnteredFields.{entering-start, entering-passed, entering-entered}
 use Rattle.dtype_projection.proofs.entered.looked_up.Goals as goal
 
 pub loop-name-init : goal.loop-name-init
@@ -31,6 +31,3 @@ loop-name-preserved c =
     let none : None ≡ first_place ns c.in-Some.name.now = c.in_default.ensures ∙ ap (first_place ns) c.as_str.ensures in
     entering-passed (asks c.args.wanted.now) ns (names_left c.loop-name.name-iterator) (names_left c.next.new.self) c.in-Some.name.now (asks c.in-Some.below) c.in-Some.ensures.steps
     c.loop-name.entered.items c.loop-name.invariant none
-
-pub returns-clause-ok : goal.returns-clause-ok
-returns-clause-ok c = entering-end (asks c.args.wanted.now) (field_names (children c.args.fields.now)) (names_left c.loop-name.name-iterator) c.loop-name.entered.items c.in-None.ensures.steps.0 c.loop-name.invariant

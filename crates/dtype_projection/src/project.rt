@@ -6,6 +6,7 @@ ghost use Rattle.std.specs.FinSet as set;
 ghost use Rattle.std.specs.List.{zip};
 ghost use Rattle.std.specs.Option.{option_map};
 ghost use Rattle.dtype_base.specs.Errors.{Makes};
+ghost use Rattle.dtype_types.specs.nullability.Nullable.{nullability};
 ghost use Rattle.dtype_types.specs.tree.Tree.{fields};
 ghost use Rattle.dtype_types.specs.tree.TreeOf.{tree, children, fields_of};
 ghost use Rattle.dtype_types.specs.tree.Valid.{Valid};
@@ -62,6 +63,7 @@ pub fn project_paths(
     ensures only { IfOk result (λ r. IfSome r (λ u. (q : List Field) → (ExistsIn (tree u) q
         ↔ (ExistsIn (tree dtype.now) q × ((p : List Field) × IsTrue (set.contains wanted.now p)
         × ExistsIn (tree dtype.now) p × Overlaps p q))))) }
+    ensures nullability { IfOk result (λ r. IfSome r (λ u. nullability (tree u) ≡ nullability (tree dtype.now))) }
     ensures valid { Valid (tree dtype.now) → IfOk result (λ r. IfSome r (λ u. Valid (tree u))) }
     ensures values { IfOk result (λ r. IfSome r (λ u. (v : Value) → Of v (tree dtype.now)
         → Of (restricted (tree dtype.now) (set.contains wanted.now) v) (tree u))) }

@@ -17,6 +17,7 @@ use Rattle.dtype_types.specs.tree.TreeOf.{tree, extension_tree, map_tree, union_
 use Rattle.dtype_types.specs.parts.Lookups.{first_named, variant_named, field_types, variant_types}
 use Rattle.dtype_types.specs.parts.Maps.{entries_of}
 use Rattle.dtype_types.specs.nullability.Nullable.{nullability, set_null}
+use Rattle.dtype_types.proofs.Parts.{trees_zip}
 use Rattle.dtype_types.proofs.lemmas.Lookups.{untagged, untagged_named, untagged_types}
 use Rattle.dtype_types.proofs.lemmas.Nullabilities.{in_storage}
 use Rattle.dtype_types.specs.tree.Tree.{Tree, fields, variants, null, list, fixed_size_list, map_of, extension}
@@ -81,62 +82,49 @@ valid_removed [] (suc i) h = tt
 valid_removed (p ∷ ps) zero h = h.1
 valid_removed (p ∷ ps) (suc i) h = (h.0, valid_removed ps i h.1)
 
-valid_named : (ps : List (List ℕ × Tree)) (n : List ℕ) (t : Tree) → ValidItems (fields ps) → Some t ≡ first_named ps n → Valid t
-valid_named [] n t h e = cc
-valid_named (p ∷ ps) n t h e =
-    elim (cases_cond (bytes_eq p.0 n) (Some p.1) (first_named ps n) (Some t) e)
-    [ inl is ↦ subst Valid (same_Some p.1 t (sym is)) h.0 | inr later ↦ valid_named ps n t h.1 later ]
+-- the type of a field, at its position and by its name
+pub type_at_valid : (fs : List (List ℕ × Tree)) (i : ℕ) (t : Tree) → slice_get (field_types fs) i ≡ Some t → ValidItems (fields fs) → Valid t
+type_at_valid [] i t e h = cc
+type_at_valid (p ∷ ps) zero t e h = subst Valid (same_Some p.1 t e) h.0
+type_at_valid (p ∷ ps) (suc i) t e h = type_at_valid ps i t e h.1
+
+pub type_named_valid : (fs : List (List ℕ × Tree)) (n : List ℕ) (t : Tree) → first_named fs n ≡ Some t → ValidItems (fields fs) → Valid t
+type_named_valid [] n t e h = cc
+type_named_valid (p ∷ ps) n t e h =
+    elim (cases_cond (bytes_eq p.0 n) (Some p.1) (first_named ps n) (Some t) (sym e))
+    [ inl is ↦ subst Valid (same_Some p.1 t (sym is)) h.0 | inr later ↦ type_named_valid ps n t (sym later) h.1 ]
 
 pub valid_projected : (ps qs : List (List ℕ × Tree)) (names : List (List ℕ)) → ValidItems (fields ps) → map (λ (q : List ℕ × Tree). Some q.1) qs ≡ map (first_named ps) names → ValidItems (fields qs)
 valid_projected ps [] names h e = tt
 valid_projected ps (q ∷ qs) [] h e = cc
 valid_projected ps (q ∷ qs) (n ∷ names) h e =
     let head : Some q.1 ≡ first_named ps n = cc in
-    let rest : map (λ (q : List ℕ × Tree). Some q.1) qs ≡ map (first_named ps) names = cc in (valid_named ps n q.1 h head, valid_projected ps qs names h rest)
+    let rest : map (λ (q : List ℕ × Tree). Some q.1) qs ≡ map (first_named ps) names = cc in (type_named_valid ps n q.1 (sym head) h, valid_projected ps qs names h rest)
 
 -- ---- for callers
 
--- the type of a field, at its position and by its name
-valid_of : (fs : List (List ℕ × Tree)) (i : ℕ) (t : Tree) → slice_get (field_types fs) i ≡ Some t → ValidItems (fields fs) → Valid t
-valid_of [] i t e h = cc
-valid_of (p ∷ ps) zero t e h = subst Valid (same_Some p.1 t e) h.0
-valid_of (p ∷ ps) (suc i) t e h = valid_of ps i t e h.1
-
 pub field_valid : (s : StructFields) (i : ℕ) (r : Option (Bor DType)) → shown tree r ≡ slice_get (field_types (children s)) i → Valid (struct_tree s) → IfSome r (λ d. Valid (tree d.now))
-field_valid s i r is h = of_lent tree (λ d. Valid (tree d)) (slice_get (field_types (children s)) i) (λ d e. valid_of (children s) i (tree d) e h) r is
+field_valid s i r is h = of_lent tree (λ d. Valid (tree d)) (slice_get (field_types (children s)) i) (λ d e. type_at_valid (children s) i (tree d) e h) r is
 
 pub named_field_valid : (s : StructFields) (n : List ℕ) (r : Option (Bor DType)) → shown tree r ≡ first_named (children s) n → Valid (struct_tree s) → IfSome r (λ d. Valid (tree d.now))
-named_field_valid s n r is h = of_lent tree (λ d. Valid (tree d)) (first_named (children s) n) (λ d e. valid_named (children s) n (tree d) h (sym e)) r is
+named_field_valid s n r is h = of_lent tree (λ d. Valid (tree d)) (first_named (children s) n) (λ d e. type_named_valid (children s) n (tree d) e h) r is
 
 -- the type of a variant, at its position and by its name, as that of a field
 untagged_valid : (vs : List (List ℕ × (Tree × ℕ))) → ValidItems (variants vs) → ValidItems (fields (untagged vs))
 untagged_valid [] h = tt
 untagged_valid (v ∷ vs) h = (h.0, untagged_valid vs h.1)
 
-valid_variant_of : (vs : List (List ℕ × (Tree × ℕ))) (i : ℕ) (t : Tree) → slice_get (variant_types vs) i ≡ Some t → ValidItems (variants vs) → Valid t
-valid_variant_of vs i t e h = valid_of (untagged vs) i t (ap (λ ts. slice_get ts i) (untagged_types vs) ∙ e) (untagged_valid vs h)
-
-pub variant_valid : (u : UnionVariants) (i : ℕ) (r : Option (Bor DType)) → shown tree r ≡ slice_get (variant_types (variant_list u)) i → Valid (union_tree u) → IfSome r (λ d. Valid (tree d.now))
-variant_valid u i r is h = of_lent tree (λ d. Valid (tree d)) (slice_get (variant_types (variant_list u)) i) (λ d e. valid_variant_of (variant_list u) i (tree d) e h.1) r is
-
-valid_by_name : (vs : List (List ℕ × (Tree × ℕ))) (n : List ℕ) (t : Tree) → ValidItems (variants vs) → Some t ≡ variant_named vs n → Valid t
-valid_by_name vs n t h e = valid_named (untagged vs) n t (untagged_valid vs h) (e ∙ sym (untagged_named vs n))
-
-pub named_variant_valid : (u : UnionVariants) (n : List ℕ) (r : Option (Bor DType)) → shown tree r ≡ variant_named (variant_list u) n → Valid (union_tree u) → IfSome r (λ d. Valid (tree d.now))
-named_variant_valid u n r is h = of_lent tree (λ d. Valid (tree d)) (variant_named (variant_list u) n) (λ d e. valid_by_name (variant_list u) n (tree d) h.1 (sym e)) r is
-
--- the same of a type that was found
-pub type_at_valid : (s : StructFields) (i : ℕ) (t : Tree) → slice_get (field_types (children s)) i ≡ Some t → Valid (struct_tree s) → Valid t
-type_at_valid s i t e h = valid_of (children s) i t e h
-
-pub type_named_valid : (s : StructFields) (n : List ℕ) (t : Tree) → first_named (children s) n ≡ Some t → Valid (struct_tree s) → Valid t
-type_named_valid s n t e h = valid_named (children s) n t h (sym e)
-
 pub variant_at_valid : (u : UnionVariants) (i : ℕ) (t : Tree) → slice_get (variant_types (variant_list u)) i ≡ Some t → Valid (union_tree u) → Valid t
-variant_at_valid u i t e h = valid_variant_of (variant_list u) i t e h.1
+variant_at_valid u i t e h = let vs = variant_list u in type_at_valid (untagged vs) i t (ap (λ ts. slice_get ts i) (untagged_types vs) ∙ e) (untagged_valid vs h.1)
 
 pub variant_named_valid : (u : UnionVariants) (n : List ℕ) (t : Tree) → variant_named (variant_list u) n ≡ Some t → Valid (union_tree u) → Valid t
-variant_named_valid u n t e h = valid_by_name (variant_list u) n t h.1 (sym e)
+variant_named_valid u n t e h = let vs = variant_list u in type_named_valid (untagged vs) n t (untagged_named vs n ∙ e) (untagged_valid vs h.1)
+
+pub variant_valid : (u : UnionVariants) (i : ℕ) (r : Option (Bor DType)) → shown tree r ≡ slice_get (variant_types (variant_list u)) i → Valid (union_tree u) → IfSome r (λ d. Valid (tree d.now))
+variant_valid u i r is h = of_lent tree (λ d. Valid (tree d)) (slice_get (variant_types (variant_list u)) i) (λ d e. variant_at_valid u i (tree d) e h) r is
+
+pub named_variant_valid : (u : UnionVariants) (n : List ℕ) (r : Option (Bor DType)) → shown tree r ≡ variant_named (variant_list u) n → Valid (union_tree u) → IfSome r (λ d. Valid (tree d.now))
+named_variant_valid u n r is h = of_lent tree (λ d. Valid (tree d)) (variant_named (variant_list u) n) (λ d e. variant_named_valid u n (tree d) e h) r is
 
 -- all types of fields, and of variants, in what holds them and as trees
 pub pairs_valid : (s : StructFields) → Valid (struct_tree s) → All (λ p. Valid (tree p.1)) (struct_pairs s)
@@ -159,6 +147,9 @@ zip_valid (n ∷ ns) (d ∷ ds) h = (h.0, zip_valid ns ds h.1)
 
 pub struct_of_valid : (s : StructFields) (ns : List (List ℕ)) (ds : List DType) → children s ≡ zip ns (map tree ds) → All (λ d. Valid (tree d)) ds → Valid (struct_tree s)
 struct_of_valid s ns ds e h = subst (λ ps. ValidItems (fields ps)) (sym e) (zip_valid ns ds (recursion_from_All (λ d. Valid (tree d)) ds h))
+
+pub valid_held : (ps : List (List ℕ × DType)) (ns : List (List ℕ)) (ds : List DType) → ps ≡ zip ns ds → All (λ d. Valid (tree d)) ds → ValidItems (fields (with_trees ps))
+valid_held ps ns ds e h = subst (λ qs. ValidItems (fields qs)) (sym (ap with_trees e ∙ trees_zip ns ds)) (zip_valid ns ds (recursion_from_All (λ d. Valid (tree d)) ds h))
 
 -- fields but for one
 pub removal_valid : (s r : StructFields) (i : ℕ) → children r ≡ remove (children s) i → Valid (struct_tree s) → Valid (struct_tree r)

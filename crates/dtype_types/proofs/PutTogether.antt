@@ -1,30 +1,51 @@
 -- SPDX-License-Identifier: Apache-2.0
 -- SPDX-FileCopyrightText: Copyright the Vortex contributors
 
--- Fields built as a list of names and a list of types: two structs joined, one field removed, or fields pushed one by one.
-use Rattle.std.proofs.Common.{◌≡◌, ℕ, List, [], ◌++◌, length, map, suc, take, drop, sym, ap, ◌∙◌, arith}
-use Rattle.std.proofs.lemmas.List.{map-append, take-map, drop-map, length-map}
+-- Fields put together one after another: one more, copies of others, and all fields but one.
+use Rattle.std.proofs.Common.{◌≡◌, ℕ, ◌+◌, ◌-◌, zero, suc, List, [], ◌∷◌, ◌++◌, length, map, take, drop, refl, sym, ap, ◌∙◌, arith, append_assoc}
+use Rattle.std.proofs.lemmas.List.{map-append, take_rest}
+use Rattle.std.proofs.lemmas.List.Elements.{All-map, All-same}
 use Rattle.std.proofs.lemmas.Simd.{map-map}
-use Rattle.std.specs.List.{zip, remove}
+use Rattle.std.specs.List.{All, zip, remove}
 use Rattle.std.specs.Map.{keys_of, values_of}
 use Rattle.dtype_types.proofs.Sides.{zip_sides}
+use Rattle.dtype_types.specs.parts.FieldTypes.{field_tree}
+use Rattle.dtype_types.specs.tree.Tree.{Tree}
+use Rattle.dtype_types.specs.tree.Valid.{Valid}
+use Rattle.dtype_types.specs.tree.TreeOf.{tree, with_trees}
+use Rattle.dtype_types.specs.declared.dtype.DType.{DType}
+use Rattle.dtype_types.specs.declared.field_dtype.FieldDType.{FieldDType}
 
-pub even_sides : {X Y Z : Type 0} (f : Z → Y) (ps : List (X × Y)) (xs : List X) (zs : List Z) → xs ≡ keys_of ps → map f zs ≡ values_of ps → length xs ≡ length zs
-even_sides f ps xs zs e g = omega (arith, ap length e, ap length g, length-map zs f, length-map ps (λ p. p.0), length-map ps (λ p. p.1))
+pub zip_more : {X Y : Type 0} (xs : List X) (ys : List Y) (x : X) (y : Y) → length xs ≡ length ys → zip (xs ++ x ∷ []) (ys ++ y ∷ []) ≡ zip xs ys ++ (x, y) ∷ []
+zip_more [] [] x y e = refl
+zip_more (a ∷ xs) (b ∷ ys) x y e = ap (λ ps. (a, b) ∷ ps) (zip_more xs ys x y (omega arith))
+zip_more _ _ x y e = absurd (omega arith)
 
--- two lists put after nothing
-pub put_after : {X : Type 0} (none one two : List X) (xs ys vs ws : List X) → none ≡ [] → one ≡ none ++ xs → two ≡ one ++ ys → xs ≡ vs → ys ≡ ws → two ≡ vs ++ ws
-put_after none one two xs ys vs ws n e f g h = f ∙ ap (λ zs. zs ++ ys) (e ∙ ap (λ zs. zs ++ xs) n ∙ g) ∙ ap (λ zs. vs ++ zs) h
+-- one field is copied, of those that are left
+pub copied_more : (done left rest more : List (List ℕ × DType)) (n : List ℕ) (d copy : DType) (all : List (List ℕ × Tree)) → with_trees done ++ with_trees left ≡ all → left ≡ (n, d) ∷ rest → tree copy ≡ tree d
+    → more ≡ done ++ (n, copy) ∷ [] → with_trees more ++ with_trees rest ≡ all
+copied_more done left rest more n d copy all so_far next same put =
+    ap (λ ps. with_trees ps ++ with_trees rest) put ∙ ap (λ ps. ps ++ with_trees rest) (map-append _ done ((n, copy) ∷ [])) ∙ append_assoc (with_trees done) ((n, tree copy) ∷ []) (with_trees rest)
+    ∙ ap (λ t. with_trees done ++ (n, t) ∷ with_trees rest) same ∙ ap (λ ps. with_trees done ++ with_trees ps) (sym next) ∙ so_far
 
-pub joined_sides : {X Y : Type 0} (ps qs : List (X × Y)) (xs : List X) (ys : List Y) → xs ≡ keys_of ps ++ keys_of qs → ys ≡ values_of ps ++ values_of qs → zip xs ys ≡ ps ++ qs
-joined_sides ps qs xs ys e f = zip_sides (ps ++ qs) xs ys (e ∙ sym (map-append (λ p. p.0) ps qs)) (f ∙ sym (map-append (λ p. p.1) ps qs))
+-- the types of fields that were given
+pub given_types : (ds : List DType) (given : List FieldDType) → ds ≡ map (λ f. f.dtype) given → map tree ds ≡ map field_tree given
+given_types ds given e = ap (map tree) e ∙ map-map tree (λ f. f.dtype) given
 
-remove_map : {X Y : Type 0} (f : X → Y) (xs : List X) (i : ℕ) → remove (map f xs) i ≡ map f (remove xs i)
-remove_map f xs i =
-    ap (λ ys. ys ++ drop (suc i) (map f xs)) (take-map f i xs) ∙ ap (λ ys. map f (take i xs) ++ ys) (drop-map f (suc i) xs) ∙ sym (map-append f (take i xs) (drop (suc i) xs))
+pub given_valid : (ds : List DType) (given : List FieldDType) → ds ≡ map (λ f. f.dtype) given → All (λ d. Valid (field_tree d)) given → All (λ d. Valid (tree d)) ds
+given_valid ds given e h = All-same (λ d. Valid (tree d)) _ _ e (All-map (λ d. Valid (tree d)) (λ f. f.dtype) given h)
 
-pub removed_sides : {X Y : Type 0} (ps : List (X × Y)) (xs : List X) (ys : List Y) (i : ℕ) → xs ≡ remove (keys_of ps) i → ys ≡ remove (values_of ps) i → zip xs ys ≡ remove ps i
-removed_sides ps xs ys i e f = zip_sides (remove ps i) xs ys (e ∙ remove_map (λ p. p.0) ps i) (f ∙ remove_map (λ p. p.1) ps i)
+pub ruleset given_fields = (given_types, given_valid)
 
-pub mapped_sides : {X Y Z : Type 0} (f : Z → X) (g : Z → Y) (zs : List Z) (xs : List X) (ys : List Y) → xs ≡ map f zs → ys ≡ map g zs → zip xs ys ≡ map (λ z. (f z, g z)) zs
-mapped_sides f g zs xs ys e h = zip_sides (map (λ z. (f z, g z)) zs) xs ys (e ∙ sym (map-map (λ p. p.0) (λ z. (f z, g z)) zs)) (h ∙ sym (map-map (λ p. p.1) (λ z. (f z, g z)) zs))
+-- the fields before a position, by a slice of the names and one of the types, and those behind it
+pub all_but : (ps : List (List ℕ × DType)) (ns : List (List ℕ)) (ds : List DType) (i : ℕ) → ns ≡ keys_of ps → ds ≡ values_of ps
+    → with_trees (zip (take i ns) (take i ds)) ++ with_trees (zip (take (length ns - (i + 1)) (drop (i + 1) ns)) (take (length ds - (i + 1)) (drop (i + 1) ds))) ≡ remove (with_trees ps) i
+all_but ps ns ds i e f =
+    let next : i + 1 ≡ suc i = omega arith in
+    cc (take_rest ns (i + 1), take_rest ds (i + 1), next, two_parts ps i)
+  where
+    two_parts : (ps : List (List ℕ × DType)) (i : ℕ) → with_trees (zip (take i (keys_of ps)) (take i (values_of ps))) ++ with_trees (zip (drop (suc i) (keys_of ps)) (drop (suc i) (values_of ps))) ≡ remove (with_trees ps) i
+    two_parts [] zero = refl
+    two_parts [] (suc i) = refl
+    two_parts (p ∷ ps) zero = ap with_trees (zip_sides ps _ _ refl refl)
+    two_parts (p ∷ ps) (suc i) = ap (λ qs. (p.0, tree p.1) ∷ qs) (two_parts ps i)

@@ -53,11 +53,7 @@ impl FieldDType {
 pub(crate) fn into_dtypes(alloc: Global, fields: Vec<FieldDType>) -> VortexResult<Vec<DType>>
     ensures { Makes result (λ v. v.items ≡ map (λ f. f.dtype) fields.items) }
 {
-    let mut dtypes = Vec::with_capacity(alloc, fields.len())?;
-    for field in fields {
-        dtypes.push(field.into_dtype())?;
-    }
-    Ok(dtypes)
+    Ok(fields.into_iter().map(|f| f.into_dtype()).collect(alloc)?)
 }
 
 impl From<DType> for FieldDType {

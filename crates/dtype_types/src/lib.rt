@@ -19,6 +19,7 @@ mod dtype_iter;
 mod extension;
 mod field_dtype;
 mod field_iter;
+mod field_list;
 pub mod laws;
 mod map;
 mod named;

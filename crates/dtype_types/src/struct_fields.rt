@@ -18,6 +18,7 @@ use crate::dtype::indented_text::start_field;
 use crate::dtype::lattice::{MergeRule, merge_dtypes};
 use crate::dtype::width::Width;
 use crate::field_dtype::into_dtypes;
+use crate::field_list::FieldList;
 use crate::named::Named;
 use crate::{DType, DTypeIter, FieldDType, FieldIter};
 use dtype_base::{FieldName, FieldNames, IndexedNames, VortexError, VortexResult};
@@ -35,28 +36,6 @@ use std::rc::Rc;
 #[cycle(dtype)]
 pub struct StructFields {
     shared: Rc<Named<DType>>,
-}
-
-// Appends copies of more names, which share their texts.
-fn push_names(alloc: Global, names: &mut Vec<FieldName>, more: &[FieldName]) -> VortexResult<()>
-    ensures copies { OnOk result (names.new.items ≡ names.old.items ++ more.now) }
-    ensures errors { IsOkUnless result OutOfMemory }
-{
-    for name in more {
-        names.push(name.try_clone(alloc)?)?;
-    }
-    Ok(())
-}
-
-// Appends copies of more types.
-fn push_dtypes(alloc: Global, dtypes: &mut Vec<DType>, more: &[DType]) -> VortexResult<()>
-    ensures copies { OnOk result (map tree dtypes.new.items ≡ map tree dtypes.old.items ++ map tree more.now) }
-    ensures errors { IsOkUnless result OutOfMemory }
-{
-    for dtype in more {
-        dtypes.push(dtype.try_clone(alloc)?)?;
-    }
-    Ok(())
 }
 
 impl StructFields {
@@ -88,7 +67,7 @@ impl StructFields {
     /// # Errors
     ///
     /// - `OutOfMemory` (0): an allocation fails.
-    #[tactic(auto, using(crate::proofs::Sides::pairs, crate::proofs::Parts::fields))]
+    #[tactic(auto, using(crate::proofs::Sides::pairs, crate::proofs::Parts::fields, crate::proofs::lemmas::Validity::valid_held))]
     pub fn new(alloc: Global, names: FieldNames, dtypes: Vec<DType>) -> VortexResult<Self>
         requires { length names ≡ vec_len dtypes }
         ensures ok { Makes result (λ s. children s ≡ zip names (map tree dtypes.items)) }
@@ -105,6 +84,7 @@ impl StructFields {
     /// # Errors
     ///
     /// - `OutOfMemory` (0): an allocation fails.
+    #[tactic(auto, using(crate::proofs::PutTogether::given_fields))]
     pub fn from_fields(
         alloc: Global,
         names: FieldNames,
@@ -115,7 +95,7 @@ impl StructFields {
         ensures valid { All (λ d. Valid (field_tree d)) dtypes.items → IfOk result (λ s. Valid (struct_tree s)) }
     {
         let dtypes = into_dtypes(alloc, dtypes)?;
-        StructFields::new(alloc, names, dtypes)
+        Ok(StructFields::new(alloc, names, dtypes)?)
     }
 
     /// Returns the struct of the fields that an iterator gives, in order.
@@ -135,13 +115,11 @@ impl StructFields {
     {
         let fields = fields.into_iter();
         let (room, _) = fields.size_hint();
-        let mut names = Vec::with_capacity(alloc, room)?;
-        let mut dtypes = Vec::with_capacity(alloc, room)?;
+        let mut collected = FieldList::with_capacity(alloc, room)?;
         for (name, dtype) in fields {
-            names.push(name)?;
-            dtypes.push(dtype.into_dtype())?;
+            collected = collected.with(name, dtype.into_dtype())?;
         }
-        StructFields::new(alloc, FieldNames::from_vec(names), dtypes)
+        collected.into_struct(alloc)
     }
 
     /// Returns the names, in order.
@@ -368,13 +346,10 @@ impl StructFields {
         ensures { Makes result (λ s. children s ≡ children self.now ++ children other.now) }
     {
         let count = self.nfields().saturating_add(other.nfields());
-        let mut names = Vec::with_capacity(alloc, count)?;
-        let mut dtypes = Vec::with_capacity(alloc, count)?;
-        push_names(alloc, &mut names, self.names().as_slice())?;
-        push_names(alloc, &mut names, other.names().as_slice())?;
-        push_dtypes(alloc, &mut dtypes, self.dtypes())?;
-        push_dtypes(alloc, &mut dtypes, other.dtypes())?;
-        StructFields::new(alloc, FieldNames::from_vec(names), dtypes)
+        let joined = FieldList::with_capacity(alloc, count)?
+            .with_copies(alloc, self.pairs())?
+            .with_copies(alloc, other.pairs())?;
+        Ok(joined.into_struct(alloc)?)
     }
 
     /// Returns the fields except the one at this position.
@@ -383,6 +358,7 @@ impl StructFields {
     ///
     /// - `IndexOutOfBounds` (17): the position is at or past the end; with the position and the number of fields.
     /// - `OutOfMemory` (0): an allocation fails.
+    #[tactic(auto, using(crate::proofs::PutTogether::all_but, crate::proofs::Parts::names_shown))]
     pub fn without_field(&self, alloc: Global, index: usize) -> VortexResult<Self>
         ensures ok { MatchResult result
             (λ s. children s ≡ remove (children self.now) index)
@@ -394,15 +370,13 @@ impl StructFields {
         if index >= fields {
             return Err(VortexError::IndexOutOfBounds { index, fields });
         }
-        let own_names = self.names().as_slice();
-        let mut names = Vec::with_capacity(alloc, fields - 1)?;
-        push_names(alloc, &mut names, &own_names[..index])?;
-        push_names(alloc, &mut names, &own_names[index + 1..])?;
-        let own_dtypes = self.dtypes();
-        let mut dtypes = Vec::with_capacity(alloc, fields - 1)?;
-        push_dtypes(alloc, &mut dtypes, &own_dtypes[..index])?;
-        push_dtypes(alloc, &mut dtypes, &own_dtypes[index + 1..])?;
-        StructFields::new(alloc, FieldNames::from_vec(names), dtypes)
+        let (names, dtypes) = (self.names().as_slice(), self.dtypes());
+        let before = FieldIter::new(&names[..index], &dtypes[..index]);
+        let behind = FieldIter::new(&names[index + 1..], &dtypes[index + 1..]);
+        let left = FieldList::with_capacity(alloc, fields - 1)?
+            .with_copies(alloc, before)?
+            .with_copies(alloc, behind)?;
+        Ok(left.into_struct(alloc)?)
     }
 
     /// Returns the text of the fields over several lines, one field a line, indented by two spaces more than the

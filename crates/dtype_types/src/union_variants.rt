@@ -231,6 +231,7 @@ impl UnionVariants {
     }
 
     /// Returns the position of the variant with this tag, or `None` where no variant has it.
+    #[tactic(auto, using(crate::proofs::lemmas::Tags::tag_is_at))]
     pub fn tag_to_child_index(&self, tag: u8) -> Option<usize>
         ensures first { result ≡ position (λ t. t == tag) (variant_tags (variant_list self.now)) }
         ensures there { IsSome result ↔ Contains (variant_tags (variant_list self.now)) tag }
@@ -324,13 +325,9 @@ impl UnionVariants {
         ensures { IsTrue result ↔ AreConsecutive (variant_tags (variant_list self.now)) }
     {
         let tags = self.type_ids();
-        for i in 0..self.len() {
-            let tag = tags[i];
-            if usize::from(tag) != i {
-                return false;
-            }
-        }
-        true
+        tags.iter()
+            .zip(0..tags.len())
+            .all(|(tag, place)| usize::from(*tag) == place)
     }
 }
 

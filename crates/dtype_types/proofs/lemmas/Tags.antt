@@ -21,7 +21,6 @@ use Rattle.dtype_types.specs.parts.Lookups.{variant_tags}
 use Rattle.dtype_types.specs.tree.TreeOf.{union_tree, variant_list}
 use Rattle.std.specs.Cmp.Lexicographic.{bytes_decides}
 use Rattle.std.proofs.lemmas.Bool.Decides.{Decides-eqb, same_from_decides}
-use Rattle.std.proofs.lemmas.Grind.{same_number_lists}
 use Rattle.dtype_types.specs.declared.union_variants.UnionVariants.{UnionVariants}
 
 pub position_of_tag : (u : UnionVariants) → Valid (union_tree u) → (i tag : ℕ) → slice_get (variant_tags (variant_list u)) i ≡ Some tag → position (λ g. g == tag) (variant_tags (variant_list u)) ≡ Some i
@@ -84,11 +83,6 @@ consecutive_among vs g c h =
 
 pub no_tag_past : (vs : List (List ℕ × (Tree × ℕ))) (i : ℕ) → length vs ≤ i → slice_get (variant_tags vs) i ≡ None
 no_tag_past vs i h = slice_get_past (variant_tags vs) i (omega (arith, h, length-map vs (λ v. v.1.1)))
-
--- tags that are each their position, as a loop over them finds it
-pub consecutive_where : (gs : List ℕ) → ((k : ℕ) → k < length gs → get_or gs k 0 ≡ k) → AreConsecutive gs
-consecutive_where gs each =
-    same_number_lists gs (range_with_len 0 (length gs)) (sym (length-range_with_len 0 (length gs))) (λ k within. each k within ∙ sym (get_or-range_with_len 0 (length gs) k 0 within ∙ omega arith))
 
 -- where the tags are consecutive, the test of a union's text holds
 pub told_by_test : (vs : List (List ℕ × (Tree × ℕ))) (b : Bool) → (IsTrue b ↔ AreConsecutive (variant_tags vs)) → b ≡ are_consecutive (variant_tags (triples (variants vs)))

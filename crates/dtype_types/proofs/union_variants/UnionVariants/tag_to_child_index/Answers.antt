@@ -3,11 +3,8 @@
 
 use Rattle.dtype_types.specs.parts.Lookups.{variant_tags}
 use Rattle.dtype_types.specs.tree.TreeOf.{variant_list}
-use Rattle.dtype_types.proofs.lemmas.Tags.{tag_is_there, tag_is_at}
+use Rattle.dtype_types.proofs.lemmas.Tags.{tag_is_there}
 use Rattle.dtype_types.proofs.union_variants.UnionVariants.tag_to_child_index.Goals as goal
 
 pub returns-clause-there : goal.returns-clause-there
 returns-clause-there c = tag_is_there (variant_tags (variant_list c.args.self.now)) c.args.tag c.position_of_tag.result c.position_of_tag.ensures
-
-pub returns-clause-at : goal.returns-clause-at
-returns-clause-at c = tag_is_at (variant_tags (variant_list c.args.self.now)) c.args.tag c.position_of_tag.result c.position_of_tag.ensures

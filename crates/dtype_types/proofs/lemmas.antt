@@ -14,8 +14,6 @@ pub mod JoinedFields
 pub mod DistinctFields
 pub mod Tags
 pub mod NullValues
-pub mod SubLaws
-pub mod SetSub
 pub mod SubValues
 pub mod SizeZero
 pub mod Bounds

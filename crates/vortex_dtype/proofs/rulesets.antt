@@ -42,7 +42,7 @@ pub use Rattle.vortex_dtype.proofs.lemmas.Counted.{counted}
 -- types each below the other are equal, for a function's own line too: beside `order` a search goes from `Sub` to `Sub`
 pub use Rattle.dtype_base.proofs.lemmas.Lookups.{few_compared}
 pub use Rattle.dtype_paths.proofs.lemmas.Covering.{of_push, union_swap}
-pub use Rattle.dtype_types.proofs.lemmas.SubLaws.{sub_antisymmetric}
+pub use Rattle.dtype_types.proofs.lemmas.Order.{sub_antisymmetric}
 use Rattle.dtype_base.proofs.lemmas.BinaryDigits.{digits_fewest, digits_reach}
 use Rattle.dtype_base.proofs.lemmas.Lookups.{lookups as name_lookups, absent_of_place, first_of_place, found_compared, found_first, most_compared, no_place, none_absent, place_found, place_of_first, some_compared}
 use Rattle.dtype_messages.proofs.lemmas.Equality.{equality as message_equality}

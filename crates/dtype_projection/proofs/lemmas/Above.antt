@@ -7,7 +7,7 @@ use Rattle.std.proofs.lemmas.Option.{same_Some}
 use Rattle.std.specs.Prelude.{bytes_eq}
 use Rattle.dtype_types.specs.nullability.Nullable.{IsNullable}
 use Rattle.dtype_types.specs.nullability.Sub.{Sub, NullableWherever, NullableWhereverItems}
-use Rattle.dtype_types.proofs.lemmas.SetSub.{above_nullable}
+use Rattle.dtype_types.proofs.lemmas.Order.{above_nullable}
 use Rattle.dtype_types.specs.parts.Lookups.{first_named}
 use Rattle.dtype_types.specs.tree.Erase.{erase, erase_items}
 use Rattle.dtype_types.specs.tree.Tree.{Tree, Fields, no_items, pairs, list, fixed_size_list, struct, item, rest_of}

@@ -28,7 +28,7 @@ use Rattle.dtype_types.specs.values.Value.{Value, IncludedIn, Of}
 use Rattle.dtype_types.proofs.OwnTags.{are_variants_also}
 use Rattle.dtype_types.proofs.lemmas.Bounds.{Relation, Bounds, InOrder, erase_merge, commutes, associates, bound_in_order, after_itself, upwards, downwards, below, above, least_either, greatest_both}
 use Rattle.dtype_types.proofs.lemmas.BoundValues.{least_values}
-use Rattle.dtype_types.proofs.lemmas.SubLaws.{sub_transitive}
+use Rattle.dtype_types.proofs.lemmas.Order.{sub_transitive}
 use Rattle.dtype_types.proofs.lemmas.SubValues.{of_both, sub_values}
 
 -- ---- valid types
@@ -73,7 +73,7 @@ module _ (r : Rule) where
   pub under_none : (a b : Tree) → erase a ≢ erase b → merged_under r a b ≡ None
   under_none a b d = by_erased a b (λ o. o ≡ None) (λ e. absurd (d e)) (λ _. refl)
 
-  under_where : (a b : Tree) → IsSome (merged_under r a b) ↔ (erase a ≡ erase b)
+  pub under_where : (a b : Tree) → IsSome (merged_under r a b) ↔ (erase a ≡ erase b)
   under_where a b = by_erased a b (λ o. IsSome o ↔ (erase a ≡ erase b)) (λ e. (λ _. e, λ _. refl)) (λ d. (λ s. absurd (false≢true s), λ e. absurd (d e)))
 
   -- where there is one, it is what is merged of types that are equal but for nullabilities
@@ -81,7 +81,7 @@ module _ (r : Rule) where
   under_is a b c P f = by_erased a b (λ o. o ≡ Some c → P c) (λ e is. subst P (same_Some (merge r a b) c is) (f e)) (λ d is. cc)
 
   -- the same of what a call returns
-  given_under : (a b : Tree) (o : Option DType) → option_map tree o ≡ merged_under r a b → IsSome o ↔ (erase a ≡ erase b)
+  pub given_under : (a b : Tree) (o : Option DType) → option_map tree o ≡ merged_under r a b → IsSome o ↔ (erase a ≡ erase b)
   given_under a b None is = subst (λ p. IsSome p ↔ (erase a ≡ erase b)) (sym is) (under_where a b)
   given_under a b (Some d) is = subst (λ p. IsSome p ↔ (erase a ≡ erase b)) (sym is) (under_where a b)
 
@@ -108,9 +108,6 @@ module _ {A : Relation} {r : Rule} (bounds : Bounds A r) where
       (λ n. refl))
 
 -- ---- the least type above two
-
-pub merged_where : (a b : Tree) → IsSome (merged a b) ↔ (erase a ≡ erase b)
-merged_where = under_where either
 
 pub merged_least : (a b c : Tree) → merged a b ≡ Some c → IsLeastAbove a b c
 merged_least a b c = under_is either a b c (IsLeastAbove a b) (least_either a b)
@@ -143,9 +140,6 @@ merged_below a b h = merged_commutes a b ∙ merged_above b a h
 pub merged_same : (a : Tree) → merged a a ≡ Some a
 merged_same a = under_in_order upwards a a (after_itself upwards a)
 
-pub given_where : (a b : Tree) (o : Option DType) → option_map tree o ≡ merged a b → IsSome o ↔ (erase a ≡ erase b)
-given_where = given_under either
-
 pub given_least : (a b : Tree) (o : Option DType) → option_map tree o ≡ merged a b → IfSome o (λ c. IsLeastAbove a b (tree c))
 given_least a b = given_is either a b (IsLeastAbove a b) (merged_least a b)
 
@@ -155,12 +149,9 @@ given_valid a b o is h k = given_is either a b Valid (λ c e. merged_valid a b c
 pub given_values : (a b : Tree) (o : Option DType) → option_map tree o ≡ merged a b → IfSome o (λ c. IncludedIn a (tree c) × IncludedIn b (tree c))
 given_values a b = given_is either a b (λ c. IncludedIn a c × IncludedIn b c) (λ c e. (values_first a b c e, values_second a b c e))
 
-pub ruleset merging = (merged_where, merged_least, merged_valid, merged_commutes, merged_associates, merged_same, merged_below, values_first, values_second, given_where, given_least, given_valid, given_values)
+pub ruleset merging = (under_where, merged_least, merged_valid, merged_commutes, merged_associates, merged_same, merged_below, values_first, values_second, given_under, given_least, given_valid, given_values)
 
 -- ---- the greatest type below two
-
-pub intersected_where : (a b : Tree) → IsSome (intersected a b) ↔ (erase a ≡ erase b)
-intersected_where = under_where both
 
 pub intersected_greatest : (a b c : Tree) → intersected a b ≡ Some c → IsGreatestBelow a b c
 intersected_greatest a b c = under_is both a b c (IsGreatestBelow a b) (greatest_both a b)
@@ -200,9 +191,6 @@ intersected_below a b h = intersected_commutes a b ∙ intersected_above b a h
 pub intersected_same : (a : Tree) → intersected a a ≡ Some a
 intersected_same a = under_in_order downwards a a (after_itself downwards a)
 
-pub given_in_both : (a b : Tree) (o : Option DType) → option_map tree o ≡ intersected a b → IsSome o ↔ (erase a ≡ erase b)
-given_in_both = given_under both
-
 pub given_greatest : (a b : Tree) (o : Option DType) → option_map tree o ≡ intersected a b → IfSome o (λ c. IsGreatestBelow a b (tree c))
 given_greatest a b = given_is both a b (IsGreatestBelow a b) (intersected_greatest a b)
 
@@ -212,7 +200,7 @@ given_valid_below a b o is h = given_is both a b Valid (λ c e. intersected_vali
 pub given_values_in : (a b : Tree) (o : Option DType) → option_map tree o ≡ intersected a b → IfSome o (λ c. IncludedIn (tree c) a × IncludedIn (tree c) b)
 given_values_in a b = given_is both a b (λ c. IncludedIn c a × IncludedIn c b) (λ c e. (values_in_first a b c e, values_in_second a b c e))
 
-pub ruleset intersecting = (intersected_where, intersected_greatest, intersected_valid, intersected_valid_second, intersected_commutes, intersected_associates, intersected_same, intersected_below, intersected_above, values_in_first, values_in_second, given_in_both, given_greatest, given_valid_below, given_values_in)
+pub ruleset intersecting = (under_where, intersected_greatest, intersected_valid, intersected_valid_second, intersected_commutes, intersected_associates, intersected_same, intersected_below, intersected_above, values_in_first, values_in_second, given_under, given_greatest, given_valid_below, given_values_in)
 
 -- ---- both
 

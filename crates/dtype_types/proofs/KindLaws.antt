@@ -11,7 +11,7 @@ use Rattle.dtype_base.specs.declared.nullability.Nullability.{Nullability}
 use Rattle.dtype_base.specs.declared.nullability.Nullability.TheVariants.{NonNullable}
 use Rattle.dtype_types.specs.equality.Equality.{equal_under, items_equal_under, allows}
 use Rattle.dtype_types.specs.equality.EqualityLaws.{equal_erased-Decides}
-use Rattle.dtype_types.proofs.lemmas.TreeLaws.{pairs_of, tree_out, tree_struct, tree_union, triples_variants}
+use Rattle.dtype_types.proofs.lemmas.TreeLaws.{pairs_of, tree_null, tree_out, tree_struct, tree_union, triples_variants}
 use Rattle.dtype_types.specs.tree.Erase.{erase}
 use Rattle.dtype_types.specs.tree.Kinds.{struct_fields, union_variants}
 use Rattle.dtype_types.specs.tree.Tree.{Tree, Fields, Variants, fields, variants, null, struct, union, extension}
@@ -30,10 +30,10 @@ union_variants_some x n d e = ap (λ z. union_variants (tree z)) e ∙ ap union_
 
 pub ruleset kind_laws = (struct_fields_some, union_variants_some)
 
-pub not_null : (s : NullabilityRule) (d : DType) → (d ≡ Null → ⊥) → equal_under s null (tree d) ≡ false
+pub null_equal_under : (s : NullabilityRule) (d e : DType) → d ≡ Null → (e ≡ Null → ⊥) → equal_under s (tree d) (tree e) ≡ false
 unfolding out-DType Carrier.out
-not_null s Null h = absurd (h refl)
-not_null s d h = ap (equal_under s null) (tree_out d)
+null_equal_under s d Null is h = absurd (h refl)
+null_equal_under s d e is h = ap (λ x. equal_under s (tree x) (tree e)) is ∙ ap (λ t. equal_under s t (tree e)) tree_null ∙ ap (equal_under s null) (tree_out e)
 
 pub structs_equal_under : (s : NullabilityRule) (d e : DType) (x y : StructFields) (m n : Nullability) → d ≡ Struct x m → e ≡ Struct y n → equal_under s (tree d) (tree e) ≡ (allows s m n && items_equal_under s (fields (children x)) (fields (children y)))
 structs_equal_under s d e x y m n p q =
@@ -43,7 +43,7 @@ pub unions_equal_under : (s : NullabilityRule) (d e : DType) (x y : UnionVariant
 unions_equal_under s d e x y m n p q =
     ap (λ z. equal_under s (tree z) (tree e)) p ∙ ap (λ z. equal_under s z (tree e)) (tree_union x m) ∙ ap (λ z. equal_under s (union (variants (variant_list x)) m) (tree z)) q ∙ ap (equal_under s (union (variants (variant_list x)) m)) (tree_union y n)
 
-pub ruleset parts_equal_under = (structs_equal_under, unions_equal_under)
+pub ruleset parts_equal_under = (null_equal_under, structs_equal_under, unions_equal_under)
 
 -- with nullabilities ignored the tests of fields, of variants and of an extension's parts decide whether the erased trees
 -- of what they make are equal

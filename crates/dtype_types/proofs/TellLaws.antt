@@ -7,16 +7,18 @@ use Rattle.std.proofs.Common.{◌≡◌, ◌↔◌, ℕ, Option, Some, None, ref
 use Rattle.std.specs.Prelude.{option_map, IsSomeAnd}
 use Rattle.dtype_base.specs.declared.nullability.Nullability.{Nullability}
 use Rattle.dtype_base.specs.declared.nullability.Nullability.TheVariants.{NonNullable, Nullable}
+use Rattle.dtype_types.specs.equality.HashLaws.{equal_types_hash_alike, erased_fed}
 use Rattle.dtype_types.specs.nullability.Nullable.{nullability}
 use Rattle.dtype_types.specs.nullability.Sub.{Sub, Allows, NullableWherever, NullableWhereverItems}
 use Rattle.dtype_types.specs.tree.Erase.{erase, erase_items}
-use Rattle.dtype_types.specs.tree.Tree.{Tree, Fields, no_items, field, Variants, item, null, bool, primitive, decimal, utf8, binary, list, fixed_size_list, map_of, struct, union, variant, extension, rest_of, first_tag}
+use Rattle.dtype_types.specs.tree.Tree.{Tree, Fields, no_items, field, Variants, item, null, list, fixed_size_list, map_of, struct, union, extension, rest_of, first_tag}
 use Rattle.dtype_types.specs.tree.Valid.{Valid, ValidItems}
 use Rattle.dtype_types.specs.values.Value.{Value, Named, Of, IncludedIn, NamedOf, VariantOf, null_value, items, fixed_items, entries, record_of, tagged, no_values, value, no_entries, entry, named}
 use Rattle.dtype_types.specs.values.Sample.{sample, samples, copies}
 use Rattle.dtype_types.specs.values.Tell.{or_else, null_else, tell, tell_fields, tell_variants, HasNoSizeZero, ItemsHaveNoSizeZero}
 use Rattle.dtype_types.proofs.lemmas.NullValues.{null_is_of_nullable}
 use Rattle.dtype_types.proofs.lemmas.SampleLaws.{sample_of, samples_of, copies_hold, value_count-copies, each_copy}
+use Rattle.dtype_types.proofs.lemmas.SubValues.{sub_values}
 use Rattle.dtype_types.proofs.OwnTags.{OwnTags, own_tags, lacks_also, value_of_first, later_of}
 
 -- ---- an answer: none where S holds, else one that P holds of, and S doesn't
@@ -68,15 +70,10 @@ told_inner a b S o h = told_node a b S (Allows (nullability a) (nullability b) �
 
 -- ---- at every depth
 
+-- the last clause holds for the kinds that have no parts too, the one for null makes the checker look at each kind
 mutual
   told : (a b : Tree) → erase a ≡ erase b → Told (NullableWherever a b) (Apart a b) (tell a b)
   told null null e = tt
-  told (bool m) (bool n) e = told_leaf (bool m) (bool n)
-  told (primitive p m) (primitive q n) e = told_leaf (primitive p m) (primitive q n)
-  told (decimal p m) (decimal q n) e = told_leaf (decimal p m) (decimal q n)
-  told (utf8 m) (utf8 n) e = told_leaf (utf8 m) (utf8 n)
-  told (binary m) (binary n) e = told_leaf (binary m) (binary n)
-  told (variant m) (variant n) e = told_leaf (variant m) (variant n)
   told (list t m) (list u n) e =
       told_inner (list t m) (list u n) (NullableWherever t u) _
       (told_map (NullableWherever t u) (Apart t u) (Apart (list t m) (list u n)) (λ v. items (value v no_values)) (λ w r h z. let p = r h z in ((p.0, tt), λ q. p.1 q.0)) (tell t u) (told t u (cc)))
@@ -97,7 +94,8 @@ mutual
       told_inner (union vs m) (union ws n) (NullableWhereverItems vs ws) _
       (told_map (NullableWhereverItems vs ws) (VariantsApart vs ws) (Apart (union vs m) (union ws n)) (λ c. tagged c.0 c.1) (λ c p h z. p (own_tags vs m h) z) (tell_variants vs ws) (told_variants vs ws (cc)))
   told (extension i a t) (extension j b u) e = told_more (NullableWherever t u) (Apart t u) (Apart (extension i a t) (extension j b u)) (λ v r h z. r h.1 z) (tell t u) (told t u (cc))
-  told _ _ e = absurd (cc e)
+  told _ null e = cc e
+  told a b e = let leaf = told_leaf a b in first_of (cc e, search leaf)
 
   told_fields : (fs gs : Fields) → erase_items fs ≡ erase_items gs → Told (NullableWhereverItems fs gs) (FieldsApart fs gs) (tell_fields fs gs)
   told_fields no_items no_items e = tt
@@ -139,3 +137,6 @@ included_is_sub a b h z e all = go (tell a b) (told a b e)
     go : (o : Option Value) → Told (NullableWherever a b) (Apart a b) o → Sub a b
     go None r = record { erased = e; nullable = r }
     go (Some w) r = let p = r.1 h z in absurd (p.1 (all w p.0))
+
+-- what laws of types and their values cite
+pub ruleset type_laws = (equal_types_hash_alike, erased_fed, sample_of, null_is_of_nullable, sub_values)

@@ -3,7 +3,7 @@
 
 // Theorems about the definitions of types. The contract of each function is the theorem, and its body is empty. Further
 // lemmas for callers are in the rulesets of `proofs/lemmas`.
-#![tactic(auto, using(crate::specs::equality::HashLaws::equal_types_hash_alike, crate::specs::equality::HashLaws::erased_fed, crate::proofs::lemmas::SampleLaws::sample_of, crate::proofs::lemmas::NullValues::null_is_of_nullable, crate::proofs::lemmas::SubValues::sub_values))]
+#![tactic(auto, using(crate::proofs::TellLaws::type_laws))]
 
 ghost use Rattle.std.specs.Prelude.{◌≡◌, ◌↔◌, ◌==◌, ◌<◌, ◌^◌, ◌++◌, ℕ, All, Bool, IsTrue, IsSomeAnd, List, None, Some, length, map, remove, slice_get};
 ghost use Rattle.std.specs.Bool.{Decides};

@@ -21,6 +21,7 @@ use Rattle.dtype_base.specs.declared.ptype.PType.{PType}
 use Rattle.dtype_base.specs.declared.ptype.PType.TheVariants.{U8, U16, U32, U64, I8, I16, I32, I64, F16, F32, F64}
 use Rattle.dtype_types.specs.declared.dtype.equality.NullabilityRule.{NullabilityRule}
 use Rattle.dtype_types.specs.declared.dtype.equality.NullabilityRule.TheVariants.{Compared, Ignored, Within}
+use Rattle.dtype_types.specs.nullability.Nullable.{nullability}
 use Rattle.dtype_types.specs.nullability.Sub.{Sub, Wherever, WhereverItems}
 use Rattle.dtype_types.specs.tree.Tree.{Tree, no_items, item, null, bool, primitive, decimal, utf8, binary, list, fixed_size_list, map_of, struct, union, variant, extension, Holder, a_struct, a_union, Tag, Items, rest_of, first_tag}
 use Rattle.dtype_types.specs.tree.Erase.{erase, erase_items}
@@ -97,21 +98,17 @@ mutual
 -- a rule holds at each place where it holds of any two nullabilities, or, if E makes the two types equal, of equal ones
 module _ (R : Nullability → Nullability → Type 0) (E : Type 0) (holds : (m n : Nullability) → (E → m ≡ n) → R m n) where
   mutual
+    -- the clause for two nulls makes the checker look at each kind of both types; the last holds for those without parts too
     wherever : (a b : Tree) → erase a ≡ erase b → (E → a ≡ b) → Wherever R a b
     wherever null null e f = tt
-    wherever (bool m) (bool n) e f = holds m n (λ x. cc (f x))
-    wherever (primitive p m) (primitive q n) e f = holds m n (λ x. cc (f x))
-    wherever (decimal p m) (decimal q n) e f = holds m n (λ x. cc (f x))
-    wherever (utf8 m) (utf8 n) e f = holds m n (λ x. cc (f x))
-    wherever (binary m) (binary n) e f = holds m n (λ x. cc (f x))
-    wherever (variant m) (variant n) e f = holds m n (λ x. cc (f x))
     wherever (list t m) (list u n) e f = (holds m n (λ x. cc (f x)), wherever t u (cc) (λ x. cc (f x)))
     wherever (fixed_size_list t j m) (fixed_size_list u k n) e f = (holds m n (λ x. cc (f x)), wherever t u (cc) (λ x. cc (f x)))
     wherever (map_of t v y m) (map_of u w z n) e f = (holds m n (λ x. cc (f x)), wherever t u (cc) (λ x. cc (f x)), wherever v w (cc) (λ x. cc (f x)))
     wherever (struct fs m) (struct gs n) e f = (holds m n (λ x. cc (f x)), wherever_items fs gs (cc) (λ x. cc (f x)))
     wherever (union vs m) (union ws n) e f = (holds m n (λ x. cc (f x)), wherever_items vs ws (cc) (λ x. cc (f x)))
     wherever (extension i a t) (extension j b u) e f = wherever t u (cc) (λ x. cc (f x))
-    wherever _ _ e f = absurd (cc e)
+    wherever _ null e f = cc e
+    wherever a b e f = let leaf = holds (nullability a) (nullability b) (λ x. ap nullability (f x)) in first_of (cc e, search leaf)
 
     wherever_items : {h : Holder} (xs ys : Items h) → erase_items xs ≡ erase_items ys → (E → xs ≡ ys) → WhereverItems R xs ys
     wherever_items no_items no_items e f = tt

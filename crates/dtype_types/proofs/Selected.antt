@@ -2,14 +2,14 @@
 -- SPDX-FileCopyrightText: Copyright the Vortex contributors
 
 -- Selecting fields by name: the types at the first positions of the names. A projection to names has a field for each.
-use Rattle.std.proofs.Common.{Bool, true, false, cond, ◌≡◌, ◌⊎◌, ℕ, zero, suc, ◌+◌, ◌<◌, List, [], ◌∷◌, ◌++◌, length, map, take, get_or, Some, IsSome, slice_get, refl, sym, ap, subst, ◌∙◌, arith}
+use Rattle.std.proofs.Common.{◌≡◌, ◌⊎◌, ℕ, zero, suc, ◌+◌, ◌<◌, List, [], ◌∷◌, ◌++◌, length, map, take, get_or, Some, IsSome, slice_get, refl, sym, ap, subst, ◌∙◌, arith}
 use Rattle.std.specs.List.{All, AllByRecursion, zip}
-use Rattle.std.proofs.lemmas.Bool.{false≢true}
+use Rattle.std.proofs.lemmas.Bool.{cond_both}
 use Rattle.std.proofs.lemmas.List.{map_push, map_more, length-map}
 use Rattle.std.proofs.lemmas.Simd.{map-map}
 use Rattle.std.proofs.lemmas.Slice.Zip.{firsts-zip, seconds-zip}
-use Rattle.std.proofs.lemmas.List.Elements.{recursion_from_All}
-use Rattle.std.proofs.lemmas.Option.{same_Some, slice_get-map, slice_get-get_or, slice_get_read, slice_get_within}
+use Rattle.std.proofs.lemmas.List.Elements.{All-cons, All-nil, All-weaker, recursion_from_All}
+use Rattle.std.proofs.lemmas.Option.{slice_get-map, slice_get_read, slice_get_within}
 use Rattle.std.proofs.lemmas.Slice.Eq.{bytes_eq-Decides}
 use Rattle.std.specs.Str.{bytes_eq}
 use Rattle.std.specs.Option.{option_map}
@@ -19,7 +19,7 @@ use Rattle.dtype_base.specs.declared.vortex_error.VortexError.{VortexError}
 use Rattle.dtype_base.specs.declared.vortex_error.VortexError.TheVariants.{OutOfMemory}
 use Rattle.dtype_types.proofs.Parts.{names_shown, types_shown, trees_zip}
 use Rattle.std.specs.Map.{keys_of, values_of}
-use Rattle.dtype_types.proofs.lemmas.Lookups.{field_at_place}
+use Rattle.dtype_types.proofs.lemmas.Lookups.{field_at_place, taken_same_name}
 use Rattle.dtype_types.specs.parts.Lookups.{first_named, field_names, field_types, Projects}
 use Rattle.dtype_types.specs.tree.Tree.{Tree}
 use Rattle.dtype_types.specs.tree.TreeOf.{tree, with_trees}
@@ -33,22 +33,6 @@ types_at fs (n ∷ names) (i ∷ firsts) e =
     let rest : map Some firsts ≡ map (first_place (field_names fs)) names = cc in
     ap (λ o. o ∷ map (slice_get (field_types fs)) firsts) (field_at_place fs n i head) ∙ ap (λ os. first_named fs n ∷ os) (types_at fs names firsts rest)
 types_at fs _ _ e = cc
-
--- as many types as names
-pub as_many_selected : (fs : List (List ℕ × Tree)) (names : List (List ℕ)) (firsts : List ℕ) (ds : List DType) → map Some firsts ≡ map (first_place (field_names fs)) names → map Some (map tree ds) ≡ map (slice_get (field_types fs)) firsts → length ds ≡ length names
-as_many_selected fs names firsts ds e f =
-    let one = ap length e in
-    let two = ap length f in
-    omega (arith, one, two, length-map firsts Some, length-map names (first_place (field_names fs)), length-map (map tree ds) Some, length-map ds tree, length-map firsts (slice_get (field_types fs)))
-
-pub selected : (fs : List (List ℕ × Tree)) (names : List (List ℕ)) (firsts : List ℕ) (ds : List DType) (gs : List (List ℕ × Tree)) → gs ≡ zip names (map tree ds)
-    → map Some firsts ≡ map (first_place (field_names fs)) names → map Some (map tree ds) ≡ map (slice_get (field_types fs)) firsts → Projects fs names gs
-selected fs names firsts ds gs made e f =
-    let as_many : length (map tree ds) ≡ length names = length-map ds tree ∙ as_many_selected fs names firsts ds e f in record {
-      names_are = ap field_names made ∙ firsts-zip names (map tree ds) as_many;
-      types_are = ap (map (λ (p : List ℕ × Tree). Some p.1)) made ∙ sym (map-map Some (λ p. p.1) (zip names (map tree ds))) ∙ ap (map Some) (seconds-zip names (map tree ds) as_many)
-          ∙ f ∙ types_at fs names firsts e;
-    }
 
 -- each first position is one of the types
 pub firsts_within : (fs : List (List ℕ × Tree)) (names : List (List ℕ)) (firsts : List ℕ) (n : ℕ) → length (field_names fs) ≡ n → map Some firsts ≡ map (first_place (field_names fs)) names → All (λ i. i < n) firsts
@@ -87,12 +71,21 @@ module _ (ps held : List (List ℕ × DType)) (asked : List (List ℕ)) (places 
     shown_types : map Some (map tree ds) ≡ map (slice_get (field_types (with_trees ps))) places
     shown_types = f ∙ ap (map (slice_get (map tree (values_of ps)))) moved ∙ ap (λ ts. map (slice_get ts) places) (sym (types_shown ps))
 
+    -- as many types as names
     pub as_many_copies : length ds ≡ length asked
-    as_many_copies = as_many_selected (with_trees ps) asked places ds shown_places shown_types
+    as_many_copies =
+        let one = ap length shown_places in
+        let two = ap length shown_types in
+        omega (arith, one, two, length-map places Some, length-map asked (first_place (field_names (with_trees ps))), length-map (map tree ds) Some, length-map ds tree, length-map places (slice_get (field_types (with_trees ps))))
 
     pub projects : (names : List (List ℕ)) (made : List (List ℕ × DType)) → names ≡ asked → made ≡ zip names ds → Projects (with_trees ps) asked (with_trees made)
     projects names made named put =
-        selected (with_trees ps) asked places ds (with_trees made) (ap with_trees put ∙ trees_zip names ds ∙ ap (λ ns. zip ns (map tree ds)) named) shown_places shown_types
+        let ts = map tree ds in
+        let as_many : length ts ≡ length asked = length-map ds tree ∙ as_many_copies in
+        let whole : with_trees made ≡ zip asked ts = ap with_trees put ∙ trees_zip names ds ∙ ap (λ ns. zip ns ts) named in record {
+          names_are = ap field_names whole ∙ firsts-zip asked ts as_many;
+          types_are = ap (map (λ (p : List ℕ × Tree). Some p.1)) whole ∙ sym (map-map Some (λ p. p.1) (zip asked ts)) ∙ ap (map Some) (seconds-zip asked ts as_many) ∙ shown_types ∙ types_at (with_trees ps) asked places shown_places;
+        }
 
 -- the error of a name that is absent from the struct
 pub refused_of : (ps held : List (List ℕ × DType)) (asked : List (List ℕ)) (e : VortexError) → held ≡ ps → (e ≡ OutOfMemory) ⊎ SelectionError (keys_of held) asked e → (e ≡ OutOfMemory) ⊎ SelectionError (field_names (with_trees ps)) asked e
@@ -110,23 +103,18 @@ projected_known fs (m ∷ ms) (g ∷ gs) e =
     (subst (λ o. IsSome o) head refl, projected_known fs ms gs tail)
 
 -- a lookup of a name that was asked for gives the same in the projection as in the whole
-leads_alike : (fs gs : List (List ℕ × Tree)) → map (λ (p : List ℕ × Tree). Some p.1) gs ≡ map (first_named fs) (field_names gs) → (n : List ℕ) (k : ℕ) → slice_get (field_names gs) k ≡ Some n → first_named gs n ≡ first_named fs n
-leads_alike fs [] e n k h = cc
-leads_alike fs (g ∷ gs) e n k h = go (bytes_eq g.0 n) refl k h (λ j at. leads_alike fs gs tail n j at)
-  where
-    head : Some g.1 ≡ first_named fs g.0
-    head = cc
+abbrev Alike : List (List ℕ × Tree) → List (List ℕ × Tree) → List ℕ → Type 0
+Alike fs gs n = first_named gs n ≡ first_named fs n
 
-    tail : map (λ (p : List ℕ × Tree). Some p.1) gs ≡ map (first_named fs) (field_names gs)
-    tail = cc
+one_more_alike : (fs gs : List (List ℕ × Tree)) (g : List ℕ × Tree) (n : List ℕ) → Some g.1 ≡ first_named fs g.0 → Alike fs gs n → Alike fs (g ∷ gs) n
+one_more_alike fs gs g n head more = cond_both (bytes_eq g.0 n) (Some g.1) (first_named gs n) (λ o. o ≡ first_named fs n) (λ is. head ∙ ap (first_named fs) ((bytes_eq-Decides g.0 n).0 is)) (λ _. more)
 
-    go : (b : Bool) → bytes_eq g.0 n ≡ b → (j : ℕ) → slice_get (field_names (g ∷ gs)) j ≡ Some n → ((i : ℕ) → slice_get (field_names gs) i ≡ Some n → first_named gs n ≡ first_named fs n) → first_named (g ∷ gs) n ≡ first_named fs n
-    go true is j at more = let same = (bytes_eq-Decides g.0 n).0 is in ap (λ b. cond b (Some g.1) (first_named gs n)) is ∙ head ∙ ap (first_named fs) same
-    go false is zero at more = let same = (bytes_eq-Decides g.0 n).1 (same_Some g.0 n at) in absurd (false≢true (sym is ∙ same))
-    go false is (suc j) at more = ap (λ b. cond b (Some g.1) (first_named gs n)) is ∙ more j at
+all_alike : (fs gs : List (List ℕ × Tree)) → map (λ (p : List ℕ × Tree). Some p.1) gs ≡ map (first_named fs) (field_names gs) → All (Alike fs gs) (field_names gs)
+all_alike fs [] e = All-nil (Alike fs [])
+all_alike fs (g ∷ gs) e =
+    let head : Some g.1 ≡ first_named fs g.0 = cc in
+    let rest : map (λ (p : List ℕ × Tree). Some p.1) gs ≡ map (first_named fs) (field_names gs) = cc in
+    All-cons (Alike fs (g ∷ gs)) g.0 (field_names gs) (taken_same_name g.0 g.0 (Some g.1) (first_named gs g.0) refl ∙ head) (All-weaker (Alike fs gs) (Alike fs (g ∷ gs)) (λ n. one_more_alike fs gs g n head) (field_names gs) (all_alike fs gs rest))
 
-pub projected_alike : (fs : List (List ℕ × Tree)) (names : List (List ℕ)) (gs : List (List ℕ × Tree)) → field_names gs ≡ names → map (λ (p : List ℕ × Tree). Some p.1) gs ≡ map (first_named fs) names → AllByRecursion (λ n. first_named gs n ≡ first_named fs n) names
-projected_alike fs names gs are e =
-    let types : map (λ (q : List ℕ × Tree). Some q.1) gs ≡ map (first_named fs) (field_names gs) = e ∙ ap (map (first_named fs)) (sym are) in
-    recursion_from_All (λ n. first_named gs n ≡ first_named fs n) names
-    (λ k d h. leads_alike fs gs types (get_or names k d) k (ap (λ ns. slice_get ns k) are ∙ slice_get-get_or names k d h))
+pub projected_alike : (fs : List (List ℕ × Tree)) (names : List (List ℕ)) (gs : List (List ℕ × Tree)) → field_names gs ≡ names → map (λ (p : List ℕ × Tree). Some p.1) gs ≡ map (first_named fs) names → AllByRecursion (Alike fs gs) names
+projected_alike fs names gs are e = recursion_from_All (Alike fs gs) names (subst (All (Alike fs gs)) are (all_alike fs gs (e ∙ ap (map (first_named fs)) (sym are))))

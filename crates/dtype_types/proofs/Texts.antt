@@ -67,11 +67,7 @@ one_written sep first done all x left rest so_far next =
 pub all_written : (sep first done all : List ℕ) (left : List (List ℕ)) → done ++ leading first sep left ≡ all → left ≡ [] → done ≡ all
 all_written sep first done all left so_far none = sym (append-nil done) ∙ ap (λ ys. done ++ leading first sep ys) (sym none) ∙ so_far
 
--- a separator, a name and a type, joined
-pub named_text : (done first n t : List ℕ) → done ++ ((first ++ (n ++ codes "=")) ++ t) ≡ done ++ (first ++ (n ++ (codes "=" ++ t)))
-named_text done first n t = simp append_assoc
-
--- the same with a tag
+-- a separator, a name, a tag and a type, joined
 pub tagged_text : (done first n t : List ℕ) (g : ℕ) (b k : Bool) → b ≡ k
     → done ++ ((first ++ (n ++ (tag_text b g ++ codes "="))) ++ t) ≡ done ++ (first ++ (n ++ (tag_text k g ++ (codes "=" ++ t))))
 tagged_text done first n t g b k e =
@@ -99,7 +95,3 @@ unfolding indented_braces
 braces_of before indent ps last e =
     let parts = indented_fields (indent ++ codes "  ") (fields ps) in
     simp append_assoc (ap (λ (l : List ℕ). before ++ (codes "{\n" ++ (join_by (λ t. t) (codes ",\n") parts ++ (l ++ (indent ++ codes "}"))))) e)
-
--- the line break before a field, its indentation, its name and its type, joined
-pub indented_named : (before separator indent n t : List ℕ) → (before ++ (separator ++ (indent ++ (n ++ codes "=")))) ++ t ≡ before ++ (separator ++ (indent ++ (n ++ (codes "=" ++ t))))
-indented_named before separator indent n t = simp append_assoc

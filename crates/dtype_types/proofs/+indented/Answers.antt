@@ -7,7 +7,7 @@ use denote.Param.Weighed.{most}
 use Rattle.dtype_base.specs.Escapes.{escaped}
 use Rattle.dtype_base.specs.Nullability.{nullability_text}
 use Rattle.dtype_types.proofs.Walks.{no_deeper, next_of, none_of}
-use Rattle.dtype_types.proofs.Texts.{leading, leading_all, one_written, all_written, indented_struct, ends_some, ends_none, braces_of, indented_named}
+use Rattle.dtype_types.proofs.Texts.{leading, leading_all, one_written, all_written, indented_struct, ends_some, ends_none, braces_of}
 use Rattle.dtype_types.specs.texts.IndentedText.{indented, indented_braces, indented_fields}
 use Rattle.std.specs.List.{join_by}
 use Rattle.dtype_types.specs.tree.Tree.{fields}
@@ -37,7 +37,7 @@ struct_fields::StructFields::write_indented-loop-name-preserved t c =
     c.in_ok-write_indented.ensures.written
     ∙ ap (λ a. string_bytes c.start_field.new.out ++ indented a (tree c.in-Some.dtype.now)) (c.as_str-in-loop-name.ensures.value ∙ c.in_ok-inner.ensures.ok)
     ∙ ap (λ xs. xs ++ d) (c.in_ok-start_field.ensures.written ∙ ap (λ xs. start ++ (separator ++ (xs ++ (n ++ codes "=")))) (c.as_str.ensures.value ∙ c.in_ok-inner.ensures.ok))
-    ∙ indented_named start separator inner n d in
+    ∙ simp append_assoc in
     let rest = indented_fields inner (fields (with_trees c.next.new.self)) in record {
       utf8 = search rules;
       within = no_deeper (most size-DType (struct_dtypes c.args.self.now)) (values_of c.loop-name.name-iterator) (values_of c.next.new.self) c.in-Some.dtype.now (ap values_of next) c.loop-name.invariant.within;

@@ -1,14 +1,14 @@
 -- SPDX-License-Identifier: Apache-2.0
 -- SPDX-FileCopyrightText: Copyright the Vortex contributors
 
-use Rattle.std.proofs.Common.{codes, ap, ◌∙◌, ◌++◌, [], refl, rules, true}
+use Rattle.std.proofs.Common.{append_assoc, codes, ap, ◌∙◌, ◌++◌, [], refl, rules, true}
 use Rattle.dtype_base.specs.Escapes.{escaped}
 use denote.Param.Weighed.{most}
 use Rattle.std.proofs.Output.{has_written_of_eq}
 use Rattle.std.proofs.lemmas.Grind.{put_three}
 use Rattle.dtype_types.proofs.lemmas.Tags.{told_by_test}
 use Rattle.dtype_types.proofs.Walks.{no_deeper, next_of, none_of}
-use Rattle.dtype_types.proofs.Texts.{leading, leading_all, one_written, all_written, named_text, tagged_text}
+use Rattle.dtype_types.proofs.Texts.{leading, leading_all, one_written, all_written, tagged_text}
 use Rattle.dtype_types.specs.tree.Tree.{fields, variants, triples}
 use Rattle.dtype_types.specs.parts.Lookups.{variant_tags}
 use Rattle.dtype_types.specs.parts.Unions.{are_consecutive}
@@ -40,7 +40,7 @@ struct_fields::StructFieldsDisplay::fmt-loop-name-preserved g t c = let next = n
       let typed = c.in_ok-fmt.ensures.writes named.plain refl in
       let x = n ++ (codes "=" ++ d) in (
         so_far.0 ++ (separator ++ x),
-        put_three _ _ c.loop-name.f _ _ so_far.0 (separator ++ (n ++ codes "=")) d _ so_far.1 named typed (named_text so_far.0 separator n d),
+        put_three _ _ c.loop-name.f _ _ so_far.0 (separator ++ (n ++ codes "=")) d _ so_far.1 named typed (simp append_assoc),
         one_written (codes ", ") separator so_far.0 _ x _ _ so_far.2 (ap (λ ps. item_texts true (fields (with_trees ps))) next),
       );
 }

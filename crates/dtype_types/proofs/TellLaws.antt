@@ -117,26 +117,22 @@ mutual
       (λ c p h z. let r = p h.2 z.1 in (inr r.0, λ q. r.1 (later_of g c.0 i c.1 n u vs ws (ap (first_tag g) e) h.1 r.0 q))) (tell_variants vs ws) (told_variants vs ws (ap rest_of e)))
   told_variants _ _ e = absurd (cc e)
 
-pub told_exactly : (a b : Tree) → erase a ≡ erase b → (tell a b ≡ None) ↔ Sub a b
-told_exactly a b e = go (tell a b) (told a b e)
+-- what holds of what `tell` gives, by whether it gives anything
+by_told : (a b : Tree) → erase a ≡ erase b → (P : Option Value → Type 0) → (Sub a b → P None) → ((w : Value) → ¬ (Sub a b) → Apart a b w → P (Some w)) → P (tell a b)
+by_told a b e P none some = go (tell a b) (told a b e)
   where
-    go : (o : Option Value) → Told (NullableWherever a b) (Apart a b) o → (o ≡ None) ↔ Sub a b
-    go None h = (λ x. record { erased = e; nullable = h }, λ x. refl)
-    go (Some w) h = (λ x. cc, λ x. absurd (h.0 x.nullable))
+    go : (o : Option Value) → Told (NullableWherever a b) (Apart a b) o → P o
+    go None h = none (record { erased = e; nullable = h })
+    go (Some w) h = some w (λ s. h.0 s.nullable) h.1
+
+pub told_exactly : (a b : Tree) → erase a ≡ erase b → (tell a b ≡ None) ↔ Sub a b
+told_exactly a b e = by_told a b e (λ o. (o ≡ None) ↔ Sub a b) (λ s. (λ _. s, λ _. refl)) (λ w differ _. (λ x. cc, λ s. absurd (differ s)))
 
 pub tells_apart : (a b : Tree) → Valid a → HasNoSizeZero a → erase a ≡ erase b → (Sub a b → ⊥) → IsSomeAnd (tell a b) (λ v. Of v a × ¬ (Of v b))
-tells_apart a b h z e not_below = go (tell a b) (told a b e)
-  where
-    go : (o : Option Value) → Told (NullableWherever a b) (Apart a b) o → IsSomeAnd o (λ w. Of w a × (Of w b → ⊥))
-    go None r = absurd (not_below (record { erased = e; nullable = r }))
-    go (Some w) r = r.1 h z
+tells_apart a b h z e not_below = by_told a b e (λ o. IsSomeAnd o (λ v. Of v a × ¬ (Of v b))) (λ s. absurd (not_below s)) (λ w _ apart. apart h z)
 
 pub included_is_sub : (a b : Tree) → Valid a → HasNoSizeZero a → erase a ≡ erase b → IncludedIn a b → Sub a b
-included_is_sub a b h z e all = go (tell a b) (told a b e)
-  where
-    go : (o : Option Value) → Told (NullableWherever a b) (Apart a b) o → Sub a b
-    go None r = record { erased = e; nullable = r }
-    go (Some w) r = let p = r.1 h z in absurd (p.1 (all w p.0))
+included_is_sub a b h z e all = by_told a b e (λ _. Sub a b) (λ s. s) (λ w _ apart. let p = apart h z in absurd (p.1 (all w p.0)))
 
 -- what laws of types and their values cite
 pub ruleset type_laws = (equal_types_hash_alike, erased_fed, sample_of, null_is_of_nullable, sub_values)

@@ -4,10 +4,11 @@
 -- What a name leads to once a field is removed, and in two lists joined whose names are distinct. A caller names all in
 -- one line,
 --     #![tactic(auto, using(dtype_types::proofs::lemmas::DistinctFields::distinct_fields))]
-use Rattle.std.proofs.Common.{◌≡◌, ◌≢◌, ℕ, zero, suc, ◌<◌, Bool, true, false, cond, List, [], ◌∷◌, ◌++◌, length, Some, None, refl, sym, ap, ◌∙◌, arith, slice_get, get_or, Contains, IsSome}
+use Rattle.std.proofs.Common.{◌≡◌, ◌≢◌, ℕ, zero, suc, ◌<◌, true, cond, List, [], ◌∷◌, ◌++◌, length, Some, None, refl, sym, ap, ◌∙◌, arith, slice_get, get_or, Contains, IsSome}
 use Rattle.std.specs.Prelude.{nat_eq, remove}
 use Rattle.std.specs.Cmp.Lexicographic.{pointwise}
 use Rattle.std.specs.Option.{is_some}
+use Rattle.std.proofs.lemmas.Bool.{cond_both}
 use Rattle.std.proofs.lemmas.Option.{same_Some, slice_get_within, get_or_from_slice_get}
 use Rattle.dtype_base.specs.Distinct.{Distinct}
 use Rattle.dtype_base.specs.FieldNames.{first_place}
@@ -55,11 +56,7 @@ among fs n h = placed_is_among (field_names fs) n (sym (placed_is_named fs n) �
 
 further : (fs gs : List (List ℕ × Tree)) (n : List ℕ) → is_some (first_named gs n) ≡ true → is_some (first_named (fs ++ gs) n) ≡ true
 further [] gs n h = h
-further (p ∷ fs) gs n h = go (further fs gs n h) (pointwise nat_eq p.0 n)
-  where
-    go : is_some (first_named (fs ++ gs) n) ≡ true → (b : Bool) → is_some (cond b (Some p.1) (first_named (fs ++ gs) n)) ≡ true
-    go more true = refl
-    go more false = more
+further (p ∷ fs) gs n h = cond_both (pointwise nat_eq p.0 n) (Some p.1) (first_named (fs ++ gs) n) (λ o. is_some o ≡ true) (λ _. refl) (λ _. further fs gs n h)
 
 -- what the second has, the first hasn't, so the name leads where it leads in the second
 apart : (fs gs : List (List ℕ × Tree)) (n : List ℕ) → Distinct (field_names (fs ++ gs)) → IsSome (first_named gs n) → first_named fs n ≡ None

@@ -2,11 +2,11 @@
 -- SPDX-FileCopyrightText: Copyright the Vortex contributors
 
 -- Two lists of fields, or of variants, are equal under a rule where their names, their tags and their types are.
-use Rattle.std.proofs.Common.{◌≡◌, ℕ, ◌&&◌, ◌==◌, List, [], ◌∷◌, map, Bool, true, false, refl, ap, ◌∙◌}
+use Rattle.std.proofs.Common.{◌≡◌, ℕ, ◌&&◌, ◌==◌, List, [], ◌∷◌, map, Bool, refl, ap, ◌∙◌, arith}
 use Rattle.std.specs.Cmp.Lexicographic.{pointwise}
 use Rattle.std.specs.Map.{keys_of, values_of}
 use Rattle.std.specs.Str.{bytes_eq}
-use Rattle.std.proofs.Math.Bool.{and-false}
+use Rattle.std.proofs.lemmas.Grind.{common_steps}
 use Rattle.dtype_types.specs.parts.Lists.{tags_of, types_of}
 use Rattle.dtype_types.specs.tree.Tree.{fields, variants}
 use Rattle.dtype_types.specs.tree.TreeOf.{tree, with_trees, with_tagged_trees}
@@ -15,15 +15,10 @@ use Rattle.dtype_types.specs.declared.dtype.equality.NullabilityRule.{Nullabilit
 use Rattle.dtype_types.specs.equality.Equality.{equal_under, items_equal_under}
 
 four : (a b c d : Bool) → ((a && b) && (c && d)) ≡ ((a && c) && (b && d))
-four true true c d = refl
-four true false true d = refl
-four true false false d = refl
-four false b c d = refl
+four a b c d = grind (arith, common_steps)
 
 six : (a b c x y z : Bool) → (((a && b) && c) && (x && (y && z))) ≡ ((a && x) && ((b && y) && (c && z)))
-six true b c true y z = four b c y z
-six true b c false y z = and-false (b && c)
-six false b c x y z = refl
+six a b c x y z = grind (arith, common_steps)
 
 pub same_fields : (s : NullabilityRule) (ps qs : List (List ℕ × DType)) → items_equal_under s (fields (with_trees ps)) (fields (with_trees qs))
     ≡ (pointwise bytes_eq (keys_of ps) (keys_of qs) && pointwise (equal_under s) (map tree (values_of ps)) (map tree (values_of qs)))

@@ -43,14 +43,8 @@ one_byte n f =
 pub written_u8 : (bs : List ℕ) (n : ℕ) → bs ≡ n ∷ [] → n < 2 ^ 8 → bs ≡ little_endian 1 (pos n)
 written_u8 bs n e f = e ∙ one_byte n f
 
-pub written_u16 : (bs : List ℕ) (n : ℕ) → bs ≡ to_le_bytes w16 n → bs ≡ little_endian 2 (pos n)
-written_u16 bs n e = e ∙ whole 2 n
-
-pub written_u32 : (bs : List ℕ) (n : ℕ) → bs ≡ to_le_bytes w32 n → bs ≡ little_endian 4 (pos n)
-written_u32 bs n e = e ∙ whole 4 n
-
-pub written_u64 : (bs : List ℕ) (n : ℕ) → bs ≡ to_le_bytes w64 n → bs ≡ little_endian 8 (pos n)
-written_u64 bs n e = e ∙ whole 8 n
+pub written_unsigned : (bs : List ℕ) (k n : ℕ) → bs ≡ bytes_low_first 0 k n → bs ≡ little_endian k (pos n)
+written_unsigned bs k n e = e ∙ whole k n
 
 pub written_i8 : (bs : List ℕ) (z : ℤ) → bs ≡ cast_unsigned w8 z ∷ [] → FitsSigned w8 z → bs ≡ little_endian 1 z
 written_i8 bs z e f = e ∙ one_byte (cast_unsigned w8 z) (bits_below w8 z f) ∙ of_bits w8 z f
@@ -64,7 +58,7 @@ written_i32 bs z e f = e ∙ whole 4 (cast_unsigned w32 z) ∙ of_bits w32 z f
 pub written_i64 : (bs : List ℕ) (z : ℤ) → bs ≡ to_le_bytes w64 (cast_unsigned w64 z) → FitsSigned w64 z → bs ≡ little_endian 8 z
 written_i64 bs z e f = e ∙ whole 8 (cast_unsigned w64 z) ∙ of_bits w64 z f
 
-pub ruleset written = (written_u8, written_u16, written_u32, written_u64, written_i8, written_i16, written_i32, written_i64)
+pub ruleset written = (written_u8, written_unsigned, written_i8, written_i16, written_i32, written_i64)
 
 -- ---- what is read, at each width
 

@@ -1,7 +1,7 @@
 // SPDX-License-Identifier: Apache-2.0
 // SPDX-FileCopyrightText: Copyright the Vortex contributors
 
-ghost use Rattle.std.specs.Prelude.{◌≡◌, ◌^◌, ◌-◌, ◌≤◌, ℕ, ℤ, neg_ℤ, pos, unsigned_abs};
+ghost use Rattle.std.specs.Prelude.{◌≡◌, ◌^◌, ◌-◌, ◌-ℤ◌, ◌≤◌, ℕ, ℤ, neg_ℤ, pos, unsigned_abs};
 ghost use Rattle.std.specs.Int.{byte_len, w8, w16, w32, w64, w128};
 ghost use Rattle.std.proofs.Common.{refl, lit<, lit≤};
 ghost use Rattle.dtype_base.specs.declared.decimal.DecimalType.{DecimalType};
@@ -34,20 +34,22 @@ pub trait NativeDecimalType: PrimInt + Signed {
 
     /// Returns the greatest number of that many decimal digits, `10^precision - 1`; 0 for no digits. The condition is that
     /// `precision` is at most `MAX_PRECISION`.
+    #[tactic(auto, using(crate::proofs::Powers::power_below, crate::proofs::Powers::below_power))]
     final fn max_by_precision(precision: u8) -> Self
         requires { precision ≤ MAX_PRECISION }
         ensures { Self.value result ≡ pos (10 ^ precision - 1) }
     {
-        power_of_ten::<Self>(u32::from(precision)) - Self::one()
+        one_below(power_of_ten::<Self>(u32::from(precision)))
     }
 
     /// Returns the least number of that many decimal digits, `-(10^precision - 1)`; 0 for no digits. The condition is that
     /// `precision` is at most `MAX_PRECISION`.
+    #[tactic(auto, using(crate::proofs::Powers::above_opposite))]
     final fn min_by_precision(precision: u8) -> Self
         requires { precision ≤ MAX_PRECISION }
         ensures { Self.value result ≡ neg_ℤ (pos (10 ^ precision - 1)) }
     {
-        -Self::max_by_precision(precision)
+        opposite(Self::max_by_precision(precision))
     }
 
     // The storage type is as wide as this type.
@@ -71,6 +73,22 @@ fn power_of_ten<T: PrimInt>(exponent: u32) -> T
 {
     let ten: T = cast(10u8).unwrap();
     ten.pow(exponent)
+}
+
+// Returns the integer one below this one.
+fn one_below<T: PrimInt>(number: T) -> T
+    requires { T.fits (T.value number -ℤ pos 1) }
+    ensures { T.value result ≡ T.value number -ℤ pos 1 }
+{
+    number - T::one()
+}
+
+// Returns this integer with the other sign.
+fn opposite<T: PrimInt + Signed>(number: T) -> T
+    requires { T.fits (neg_ℤ (T.value number)) }
+    ensures { T.value result ≡ neg_ℤ (T.value number) }
+{
+    -number
 }
 
 impl NativeDecimalType for i8 {

@@ -2,11 +2,13 @@
 // SPDX-FileCopyrightText: Copyright the Vortex contributors
 
 ghost use Rattle.std.specs.Prelude.{◌≡◌, ◌↔◌, IsOk, IsTrue, Some, MatchResult};
+ghost use Rattle.std.specs.Ordering.{int_cmp};
 ghost use Rattle.dtype_base.specs.Decimals.{Decimal, IsDecimalWithin, DecimalError, storage};
 ghost use Rattle.dtype_native.specs.Digits.{HasDigits, KeepsDecimal, precision_scale_text};
 
 use crate::NativeDecimalType;
 use dtype_base::{DecimalDType, VortexError, VortexResult, check_precision_and_scale};
+use std::cmp::Ordering;
 use std::fmt;
 use std::marker::{Model, PhantomData};
 
@@ -91,8 +93,16 @@ impl<D: NativeDecimalType> PrecisionScale<D> {
     pub fn is_valid(&self, value: D) -> bool
         ensures { IsTrue result ↔ HasDigits self.now.precision (D.value value) }
     {
-        D::min_by_precision(self.precision) <= value && value <= D::max_by_precision(self.precision)
+        compared(D::min_by_precision(self.precision), value).is_le()
+            && compared(value, D::max_by_precision(self.precision)).is_le()
     }
+}
+
+// Returns how the two numbers compare.
+fn compared<D: NativeDecimalType>(a: D, b: D) -> Ordering
+    ensures { result ≡ int_cmp (D.value a) (D.value b) }
+{
+    a.cmp(&b)
 }
 
 impl<D: NativeDecimalType> fmt::Display for PrecisionScale<D> {

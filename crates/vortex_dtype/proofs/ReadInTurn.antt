@@ -2,8 +2,9 @@
 -- SPDX-FileCopyrightText: Copyright the Vortex contributors
 
 -- Reading the types of a struct or a union one at a time, and from a result of reading to the relations of `Reads`.
-use Rattle.std.proofs.Common.{◌≡◌, ◌⊎◌, ⊎_elim, inl, inr, ℕ, ◌+◌, ◌<◌, ◌≤◌, ℤ, pos, List, [], ◌∷◌, ◌++◌, length, map, drop, get_or, Option, Some, None, Result, Ok, Err, IfOk, MatchResult, refl, sym, ap, subst, ◌∙◌, append_assoc, arith}
+use Rattle.std.proofs.Common.{◌≡◌, ◌≢◌, ◌⊎◌, ⊎_elim, inl, inr, ℕ, ◌+◌, ◌<◌, ◌≤◌, ℤ, pos, List, [], ◌∷◌, ◌++◌, length, map, drop, get_or, Result, Ok, Err, IfOk, MatchResult, refl, sym, ap, subst, ◌∙◌, append_assoc, arith}
 use Rattle.std.specs.Int.{w32}
+use Rattle.std.specs.List.{filter_map}
 use Rattle.std.specs.Prelude.{FitsSigned}
 use Rattle.std.proofs.lemmas.Int.{ints}
 use Rattle.std.proofs.lemmas.List.Elements.{All-from_recursion, All-map}
@@ -16,13 +17,13 @@ use Rattle.dtype_types.specs.tree.Tree.{Tree}
 use Rattle.dtype_types.specs.tree.TreeOf.{tree}
 use Rattle.dtype_types.specs.tree.Valid.{Valid}
 use Rattle.dtype_types.specs.declared.dtype.DType.{DType as Logical}
-use Rattle.dtype_messages.specs.Message.{Message, messages, extension, present}
+use Rattle.dtype_messages.specs.Message.{Message, messages}
 use Rattle.dtype_messages.specs.MessageOf.{message}
 use Rattle.vortex_dtype.specs.Accepts.{Accepts}
 use Rattle.vortex_dtype.specs.IsMessage.{IsMessage, AreMessages, AreTags}
 use Rattle.vortex_dtype.specs.Meaning.{Meaning, Admits, LawfulSession}
 use Rattle.vortex_dtype.specs.Numbers.{integer_byte}
-use Rattle.vortex_dtype.specs.ReadInOrder.{read, read_all, read_tags, extension_read, or_empty, ◌>>=◌, Gives, Fails}
+use Rattle.vortex_dtype.specs.ReadInOrder.{read, read_all, read_tags, ◌>>=◌, Gives, Fails}
 use Rattle.vortex_dtype.specs.Reads.{AreBytes, Fault, Reads, ReadsAsNothing}
 use Rattle.vortex_dtype.specs.Written.{written}
 use Rattle.vortex_dtype.proofs.lemmas.InOrder.{bytes_are, read_reads, tags_reading}
@@ -76,29 +77,26 @@ more_messages ds i d h e m inv rest = inv (rw (drop_more ds i d h, ← e) (m, re
 pub all_messages : {P : Type 0} (ds : List DType) (i : ℕ) → length ds ≤ i → (AreMessages (messages (map message (drop i ds))) → P) → P
 all_messages ds i h inv = inv (rw (drop_all i ds h) tt)
 
--- at an extension
-pub extension_done : (s : Meaning) (m x : Message) (id id' b' : List ℕ) (b : Option (List ℕ)) (t : Tree) (r : Result Logical VortexError) → m ≡ extension id (present x) b → read s x ≡ Ok t → id' ≡ id → b' ≡ or_empty b
-    → Gives tree r (extension_read s id' b' t) → Gives tree r (read s m)
-unfolding read
-extension_done s m x id id' b' b t r is all same bytes g = rw (is, all, ← same, ← bytes) g
-
 pub any_ok : {A E : Type 0} {P : Type 0} (r : Result A E) → P → IfOk r (λ _. P)
 any_ok (Ok x) p = p
 any_ok (Err e) p = tt
 
 -- ---- the tags of a union
 
--- the tags so far, followed by those that are left, are all tags
-abbrev pub TagsRest : List ℤ → ℕ → List ℕ → Type 0
-TagsRest gs i bs = (read_tags (drop i gs) >>= λ xs. Ok (bs ++ xs)) ≡ read_tags gs
+-- the tags are read where all of them are bytes: then they are as many
+bytes_at_most : (gs : List ℤ) → length (filter_map integer_byte gs) ≤ length gs
+bytes_at_most [] = omega arith
+bytes_at_most (g ∷ gs) = grind (arith, bytes_at_most gs)
 
-pub tag_step : (gs : List ℤ) (i : ℕ) (d : ℤ) (bs : List ℕ) (b : ℕ) → i < length gs → integer_byte (get_or gs i d) ≡ Some b → TagsRest gs i bs → TagsRest gs (i + 1) (bs ++ b ∷ [])
+pub tags_kept : (gs : List ℤ) (bs : List ℕ) → bs ≡ filter_map integer_byte gs → length bs ≡ length gs → read_tags gs ≡ Ok bs
 unfolding read_tags
-tag_step gs i d bs b h e inv = sym (push_all (read_tags (drop (i + 1) gs)) (λ xs. Ok xs) bs b) ∙ rw (drop_more gs i d h, e) at inv
+tags_kept [] bs e same = grind (arith, e)
+tags_kept (g ∷ gs) bs e same = grind (arith, tags_kept gs (filter_map integer_byte gs) refl, bytes_at_most gs, e)
 
-pub tag_stops : (gs : List ℤ) (i : ℕ) (d : ℤ) (bs : List ℕ) → i < length gs → integer_byte (get_or gs i d) ≡ None → TagsRest gs i bs → read_tags gs ≡ Err (Faulty TypeIdRange)
+pub tag_lacking : (gs : List ℤ) (bs : List ℕ) → bs ≡ filter_map integer_byte gs → length bs ≢ length gs → read_tags gs ≡ Err (Faulty TypeIdRange)
 unfolding read_tags
-tag_stops gs i d bs h e inv = sym (rw (drop_more gs i d h, e) at inv)
+tag_lacking [] bs e other = absurd (other (ap length e))
+tag_lacking (g ∷ gs) bs e other = grind (arith, tag_lacking gs (filter_map integer_byte gs) refl, e)
 
 -- tags that are read fit 32 bits
 pub tags_fit : (gs : List ℤ) (tags : List ℕ) → read_tags gs ≡ Ok tags → AreTags gs

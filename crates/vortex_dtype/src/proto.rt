@@ -26,7 +26,7 @@ ghost use Rattle.vortex_dtype.specs.Session.{meaning};
 use crate::plugin::ExtDTypePlugin;
 use crate::proto::read::read;
 use crate::proto::write::write;
-use crate::session::DTypeSession;
+use crate::session::{DTypeSession, session_laws};
 use dtype_base::{FieldName, MessageFault, VortexError, VortexResult};
 use dtype_messages::pb;
 use dtype_paths::{Field, FieldPath};
@@ -78,7 +78,7 @@ impl DTypeProto for DType {
     ///   accept the metadata; or `ExtensionUnregistered` (35): no plugin is registered under the id, and the session
     ///   doesn't keep unknown ids.
     /// - `OutOfMemory` (0): an allocation fails.
-    #[tactic(auto, using(crate::proofs::ReadInTurn::gives_reads, crate::proofs::ReadInTurn::gives_in_order, crate::proofs::ReadInTurn::gives_back))]
+    #[tactic(auto, using(crate::proofs::ReadInTurn::gives_reads, crate::proofs::ReadInTurn::gives_in_order, crate::proofs::ReadInTurn::gives_accepts, crate::proofs::ReadInTurn::gives_back))]
     fn from_proto(alloc: Global, proto: &pb::DType, session: &DTypeSession) -> VortexResult<DType>
         ensures reads { MatchResult result
             (λ t. Reads (meaning rewrites session.now) (message proto.now) (tree t))
@@ -97,6 +97,7 @@ impl DTypeProto for DType {
             → message proto.now ≡ written t
             → Makes result (λ u. tree u ≡ t) }
     {
+        session_laws(session);
         read(alloc, proto, session)
     }
 

@@ -7,6 +7,7 @@
 
 ghost use Rattle.std.specs.Int.{w32};
 ghost use Rattle.std.specs.Prelude.{◌≡◌, ◌<◌, ◌^◌, All, FitsSigned, IfOk, map, string_bytes};
+ghost use Rattle.std.specs.List.{filter_map};
 ghost use Rattle.dtype_base.specs.Errors.{Makes};
 ghost use Rattle.dtype_base.specs.Decimals.{IsValidDecimal};
 ghost use Rattle.dtype_base.specs.Nullability.{nullability_of};
@@ -136,18 +137,22 @@ pub(crate) fn struct_of(
 }
 
 // Builds the tags, each of which must fit `u8`.
-#[tactic(auto, using(crate::proofs::ReadInTurn::tag_step), unfolding(crate::specs::ReadInOrder::read_tags))]
+#[tactic(auto, using(crate::proofs::ReadInTurn::tags_kept, crate::proofs::ReadInTurn::tag_lacking))]
 fn tags_of(alloc: Global, tags: &[i32]) -> VortexResult<Vec<u8>>
-    ensures gives { Gives (λ v. v.items) result (read_tags tags.now) }
+    ensures { Gives (λ v. v.items) result (read_tags tags.now) }
 {
-    let mut bytes = Vec::with_capacity(alloc, tags.len())?;
-    for tag in tags {
-        match tag_of(*tag) {
-            Some(byte) => bytes.push(byte)?,
-            None => return Err(VortexError::Message(MessageFault::TypeIdRange)),
-        }
+    let bytes = bytes_among(alloc, tags)?;
+    if bytes.len() != tags.len() {
+        return Err(VortexError::Message(MessageFault::TypeIdRange));
     }
     Ok(bytes)
+}
+
+// The tags that fit `u8`, in order.
+fn bytes_among(alloc: Global, tags: &[i32]) -> VortexResult<Vec<u8>>
+    ensures { Makes result (λ v. v.items ≡ filter_map integer_byte tags.now) }
+{
+    Ok(tags.iter().filter_map(|tag| tag_of(*tag)).collect(alloc)?)
 }
 
 // Builds the union of names, types and tags.
@@ -171,7 +176,7 @@ pub(crate) fn union_of(
 }
 
 // The metadata, or no bytes where it is missing.
-pub(crate) fn metadata_of(metadata: &Option<Vec<u8>>) -> &[u8]
+fn metadata_of(metadata: &Option<Vec<u8>>) -> &[u8]
     ensures { result.now ≡ or_empty (bytes_of metadata.now) }
 {
     match metadata {
@@ -183,16 +188,19 @@ pub(crate) fn metadata_of(metadata: &Option<Vec<u8>>) -> &[u8]
 // Builds the extension of a storage, with the metadata that the session keeps.
 pub(crate) fn extension_of(
     session: &DTypeSession,
-    id: &str,
-    metadata: &[u8],
+    id: &String,
+    metadata: &Option<Vec<u8>>,
     storage: DType,
 ) -> VortexResult<DType>
     requires { Valid (tree storage) }
-    ensures gives { Gives tree result
-        (extension_read (meaning rewrites session.now) id.now metadata.now (tree storage)) }
-    ensures bytes { Bytes metadata.now }
+    ensures gives { let bytes = or_empty (bytes_of metadata.now) in
+        Gives tree result
+        (extension_read (meaning rewrites session.now) (string_bytes id.now) bytes (tree storage)) }
+    ensures bytes { Bytes (or_empty (bytes_of metadata.now)) }
     ensures valid { IfOk result (λ d. Valid (tree d)) }
 {
+    let id = id.as_str();
+    let metadata = metadata_of(metadata);
     let extension = session.deserialize(id, metadata, storage)?;
     Ok(DType::Extension(extension))
 }

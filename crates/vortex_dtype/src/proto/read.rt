@@ -12,9 +12,7 @@ ghost use Rattle.vortex_dtype.specs.ReadInOrder.{read, Gives};
 ghost use Rattle.vortex_dtype.specs.Session.{meaning};
 
 use crate::plugin::ExtDTypePlugin;
-use crate::proto::kinds::{
-    decimal_of, extension_of, map_of, metadata_of, primitive_of, struct_of, union_of,
-};
+use crate::proto::kinds::{decimal_of, extension_of, map_of, primitive_of, struct_of, union_of};
 use crate::session::DTypeSession;
 use dtype_base::{MessageFault, Nullability, VortexError, VortexResult};
 use dtype_messages::pb;
@@ -84,8 +82,7 @@ pub(crate) fn read(alloc: Global, proto: &pb::DType, session: &DTypeSession) -> 
                 return Err(VortexError::Message(MessageFault::StorageMissing));
             };
             let storage = read(alloc, storage, session)?;
-            let metadata = metadata_of(&p.metadata);
-            extension_of(session, p.id.as_str(), metadata, storage)
+            extension_of(session, &p.id, &p.metadata, storage)
         }
     }
 }

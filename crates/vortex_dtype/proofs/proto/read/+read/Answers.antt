@@ -1,16 +1,13 @@
 -- SPDX-License-Identifier: Apache-2.0
 -- SPDX-FileCopyrightText: Copyright the Vortex contributors
 
-use Rattle.std.proofs.Common.{◌≡◌, IfOk, string_bytes, Ok, ◌<◌, ◌≤◌, length, sym, ap, ◌∙◌, rules, arith}
+use Rattle.std.proofs.Common.{IfOk, ◌<◌, ◌≤◌, length, ap, rules, arith}
 use Rattle.std.proofs.lemmas.Result.{IfOk-weaker}
-use Rattle.dtype_types.specs.tree.TreeOf.{tree}
 use Rattle.vortex_dtype.specs.IsMessage.{AreTags}
-use Rattle.dtype_messages.specs.MessageOf.{message, bytes_of}
-use Rattle.vortex_dtype.specs.ReadInOrder.{read, or_empty}
-use Rattle.vortex_dtype.specs.Session.{meaning}
-use Rattle.dtype_messages.specs.declared.pb.DtypeType.TheViews.{out-Union, out-Extension}
-use Rattle.vortex_dtype.proofs.ReadInTurn.{starts, step, stops, ends, extension_done, more_messages, all_messages, any_ok}
-use Rattle.vortex_dtype.proofs.MessageParts.{struct_shape, union_shape, extension_shape}
+use Rattle.vortex_dtype.specs.ReadInOrder.{read}
+use Rattle.dtype_messages.specs.declared.pb.DtypeType.TheViews.{out-Union}
+use Rattle.vortex_dtype.proofs.ReadInTurn.{starts, step, stops, ends, more_messages, all_messages, any_ok}
+use Rattle.vortex_dtype.proofs.MessageParts.{struct_shape, union_shape}
 use Rattle.vortex_dtype.proofs.proto.read.+read.Goals as goal
 
 -- ---- structs
@@ -75,14 +72,3 @@ returns-after-loop-variant-clause-message g t c =
     let over : length c.deref-variant-items.result.now ≤ c.loop-variant.variant-index = omega (arith, c.loop-variant-test.false) in
     let numbers : IfOk c.union_of.result (λ _. AreTags (out-Union c.in-Union.p).type_ids.items) = search rules in
     IfOk-weaker c.union_of.result _ _ (λ _. all_messages _ _ over c.loop-variant.invariant.message) numbers
-
--- ---- extensions
-
-pub returns-in_ok-storage-in-Extension-clause-gives : goal.returns-in_ok-storage-in-Extension-clause-gives
-returns-in_ok-storage-in-Extension-clause-gives g t c =
-    let s = meaning (λ b. (g.dyn-1.0.entry b.vtable).1.rewrites b.value) c.args.session.now in
-    let all : read s (message c.in-Some-storage_dtype.storage.value) ≡ Ok (tree c.in_ok-storage-in-Extension.storage) = ap (λ d. read s (message d)) (sym c.deref-in-Extension-2.ensures) ∙ c.in_ok-storage-in-Extension.ensures.gives in
-    let id : c.as_str.result.now ≡ string_bytes (out-Extension c.in-Extension.p.value).id = search rules in
-    let bytes : c.metadata_of-metadata.result.now ≡ or_empty (bytes_of (out-Extension c.in-Extension.p.value).metadata) = search rules in
-    extension_done s (message c.args.proto.now) _ _ _ _ _ _ _
-    (extension_shape c.args.proto.now c.in-Some.kind c.in-Extension.p c.in-Some-storage_dtype.storage c.in-Some.is c.in-Extension.is (ap (λ q. (out-Extension q).storage_dtype) (sym c.deref-in-Extension.ensures) ∙ c.in-Some-storage_dtype.is)) all id bytes c.extension_of.ensures.gives

@@ -2,14 +2,15 @@
 -- SPDX-FileCopyrightText: Copyright the Vortex contributors
 
 -- Reading the types of a struct or a union one at a time, and from a result of reading to the relations of `Reads`.
-use Rattle.std.proofs.Common.{◌≡◌, ◌≢◌, ◌⊎◌, ⊎_elim, inl, inr, ℕ, ◌+◌, ◌<◌, ◌≤◌, ℤ, pos, List, [], ◌∷◌, ◌++◌, length, map, drop, get_or, Result, Ok, Err, IfOk, MatchResult, refl, sym, ap, subst, ◌∙◌, append_assoc, arith}
+use Rattle.std.proofs.Common.{◌≡◌, ◌≢◌, ◌⊎◌, ⊎_elim, inl, inr, ℕ, ◌+◌, ◌<◌, ◌≤◌, ℤ, pos, List, [], ◌∷◌, ◌++◌, length, map, take, All, zero, suc, get_or, Result, Ok, Err, IfOk, MatchResult, refl, sym, ap, subst, arith}
 use Rattle.std.specs.Int.{w32}
-use Rattle.std.specs.List.{filter_map}
+use Rattle.std.specs.List.{filter_map, AllByRecursion}
 use Rattle.std.specs.Prelude.{FitsSigned}
+use Rattle.std.proofs.lemmas.Grind.{common_steps}
 use Rattle.std.proofs.lemmas.Int.{ints}
-use Rattle.std.proofs.lemmas.List.Elements.{All-from_recursion, All-map}
+use Rattle.std.proofs.lemmas.List.Elements.{All-from_recursion, recursion_from_All, All-map, All-more}
 use Rattle.std.proofs.lemmas.Result.{MatchResult-at_ok, MatchResult-weaker}
-use Rattle.std.proofs.lemmas.List.{drop_all, drop_more, append-nil, map-append}
+use Rattle.std.proofs.lemmas.List.{take_all}
 use Rattle.dtype_base.specs.declared.vortex_error.VortexError.{VortexError}
 use Rattle.dtype_base.specs.declared.vortex_error.VortexError.TheVariants.{OutOfMemory, Message as Faulty}
 use Rattle.dtype_base.specs.declared.vortex_error.MessageFault.TheVariants.{TypeIdRange}
@@ -30,56 +31,48 @@ use Rattle.vortex_dtype.proofs.lemmas.InOrder.{bytes_are, read_reads, tags_readi
 use Rattle.vortex_dtype.proofs.lemmas.Reads.{reads_accepted, refused_faulty, written_read}
 use Rattle.dtype_messages.specs.declared.pb.DType.{DType}
 
-push_all : {X Y : Type 0} (r : Result (List X) VortexError) (made : List X → Result Y VortexError) (ts : List X) (x : X)
-    → ((r >>= λ ys. Ok (x ∷ ys)) >>= λ us. made (ts ++ us)) ≡ (r >>= λ us. made ((ts ++ x ∷ []) ++ us))
-push_all (Ok us) made ts x = ap made (sym (append_assoc ts (x ∷ []) us))
-push_all (Err k) made ts x = refl
-
 bind_fails : {A B : Type 0} (e : VortexError) (r : Result A VortexError) (f : A → Result B VortexError) → Fails e r → Fails e (r >>= f)
 bind_fails OutOfMemory r f h = tt
 bind_fails e r f h = ap (λ x. x >>= f) h
 
 -- ---- the types of a struct or a union
 
--- what is made of the types so far, followed by those that are left, is the result
-pub record Rest (s : Meaning) (ds : List DType) (i : ℕ) (ts : List Tree) (made : List Tree → Result Tree VortexError) (result : Result Tree VortexError) : Type 0 where
-  pub is : (read_all s (messages (map message (drop i ds))) >>= λ us. made (ts ++ us)) ≡ result
+-- each of the messages is one, and reads as the type at its position
+pub record AreRead (s : Meaning) (ds : List DType) (vs : List Logical) : Type 0 where
+  pub types : map (λ d. read s (message d)) ds ≡ map (λ v. Ok (tree v)) vs
+  pub messages : All (λ d. IsMessage (message d)) ds
 
-pub starts : {s : Meaning} {ds : List DType} {made : List Tree → Result Tree VortexError} {result : Result Tree VortexError} (vs : List Logical) → result ≡ (read_all s (messages (map message ds)) >>= made) → vs ≡ []
-    → Rest s ds 0 (map tree vs) made result
-starts vs is none = record { is = rw none (sym is) }
+pub read_more : (s : Meaning) (ds : List DType) (i : ℕ) (d : DType) (vs longer : List Logical) (v : Logical) → AreRead s (take i ds) vs → i < length ds → d ≡ get_or ds i d
+    → read s (message d) ≡ Ok (tree v) → IsMessage (message d) → longer ≡ vs ++ v ∷ [] → AreRead s (take (i + 1) ds) longer
+read_more s ds i d vs longer v so_far less at r m pushed = record {
+  types = grind (arith, common_steps, so_far.types, at, r, pushed);
+  messages = All-more (λ d. IsMessage (message d)) ds i d less so_far.messages (subst (λ d. IsMessage (message d)) at m);
+}
 
-module _ {s : Meaning} {ds : List DType} {i : ℕ} {made : List Tree → Result Tree VortexError} {result : Result Tree VortexError} where
-  pub step : (vs longer : List Logical) (d : DType) (v : Logical) → Rest s ds i (map tree vs) made result → i < length ds → d ≡ get_or ds i d → read s (message d) ≡ Ok (tree v)
-      → longer ≡ vs ++ v ∷ [] → Rest s ds (i + 1) (map tree longer) made result
-  unfolding read
-  step vs longer d v rest h e r pushed = record {
-    is =
-        rw (pushed, map-append tree vs (v ∷ []))
-        (sym (push_all (read_all s (messages (map message (drop (i + 1) ds)))) made (map tree vs) (tree v)) ∙ rw (drop_more ds i d h, ← e, r) at rest.is);
-  }
+all_read : (s : Meaning) (ds : List DType) (vs : List Logical) → map (λ d. read s (message d)) ds ≡ map (λ v. Ok (tree v)) vs → AllByRecursion (λ d. IsMessage (message d)) ds
+    → (read_all s (messages (map message ds)) ≡ Ok (map tree vs)) × AreMessages (messages (map message ds))
+unfolding read
+all_read s [] [] e h = (refl, tt)
+all_read s (d ∷ ds) (v ∷ vs) e h = grind (arith, all_read s ds vs, e, h)
+all_read s _ _ e h = cc
 
-  pub stops : {ts : List Tree} (d : DType) (e : VortexError) (r : Result Logical VortexError) → Rest s ds i ts made result → i < length ds → d ≡ get_or ds i d
-      → Fails e (read s (message d)) → r ≡ Err e → Gives tree r result
-  unfolding read
-  stops {ts} d e r rest h is f err =
-      rw err (subst (Fails e) rest.is (rw (drop_more ds i d h, ← is) (bind_fails e _ (λ us. made (ts ++ us)) (bind_fails e (read s (message d)) _ f))))
+-- after the last, all messages are read
+pub ends : (s : Meaning) (ds : List DType) (i : ℕ) (vs : List Logical) → AreRead s (take i ds) vs → length ds ≤ i
+    → (read_all s (messages (map message ds)) ≡ Ok (map tree vs)) × AreMessages (messages (map message ds))
+ends s ds i vs so_far over = let all = rw (take_all i ds over) at so_far in all_read _ _ _ all.types (recursion_from_All (λ d. IsMessage (message d)) ds all.messages)
 
-  pub ends : {ts : List Tree} (r : Result Logical VortexError) → Rest s ds i ts made result → length ds ≤ i → Gives tree r (made ts) → Gives tree r result
-  unfolding read
-  ends {ts} r rest h g = rw (sym (rw (drop_all i ds h, append-nil ts) at rest.is)) g
+-- an error of one message, after those that read as types, is that of all
+one_fails : (s : Meaning) (ds : List DType) (vs : List Logical) (i : ℕ) (d : DType) (e : VortexError) → map (λ d. read s (message d)) (take i ds) ≡ map (λ v. Ok (tree v)) vs
+    → i < length ds → d ≡ get_or ds i d → Fails e (read s (message d)) → Fails e (read_all s (messages (map message ds)))
+unfolding read
+one_fails s [] vs i d e is less at f = absurd (omega arith)
+one_fails s (x ∷ ds) vs zero d e is less at f = grind (arith, at, f)
+one_fails s (x ∷ ds) [] (suc i) d e is less at f = cc
+one_fails s (x ∷ ds) (v ∷ vs) (suc i) d e is less at f = grind (arith, one_fails s ds vs i d e, is, at, f)
 
--- the messages so far are messages
-pub more_messages : {P : Type 0} (ds : List DType) (i : ℕ) (d : DType) → i < length ds → d ≡ get_or ds i d → IsMessage (message d)
-    → (AreMessages (messages (map message (drop i ds))) → P) → AreMessages (messages (map message (drop (i + 1) ds))) → P
-more_messages ds i d h e m inv rest = inv (rw (drop_more ds i d h, ← e) (m, rest))
-
-pub all_messages : {P : Type 0} (ds : List DType) (i : ℕ) → length ds ≤ i → (AreMessages (messages (map message (drop i ds))) → P) → P
-all_messages ds i h inv = inv (rw (drop_all i ds h) tt)
-
-pub any_ok : {A E : Type 0} {P : Type 0} (r : Result A E) → P → IfOk r (λ _. P)
-any_ok (Ok x) p = p
-any_ok (Err e) p = tt
+pub stops : (s : Meaning) (ds : List DType) (i : ℕ) (vs : List Logical) (d : DType) (e : VortexError) (r : Result Logical VortexError) → AreRead s (take i ds) vs → i < length ds → d ≡ get_or ds i d
+    → Fails e (read s (message d)) → r ≡ Err e → (made : List Tree → Result Tree VortexError) → Gives tree r (read_all s (messages (map message ds)) >>= made)
+stops s ds i vs d e r so_far less at f is made = rw is (bind_fails e _ made (one_fails s ds vs i d e so_far.types less at f))
 
 -- ---- the tags of a union
 

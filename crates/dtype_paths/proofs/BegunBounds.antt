@@ -17,7 +17,7 @@ use Rattle.dtype_paths.specs.EqualityLaws.{same_path-Decides, same_path_equiv}
 use Rattle.dtype_paths.specs.declared.field.Field.{Field}
 use Rattle.dtype_paths.proofs.lemmas.Counts.{least_none}
 use Rattle.dtype_paths.proofs.lemmas.SetMembers.{contains_empty}
-use Rattle.dtype_paths.proofs.ListMembers.{contains-head, contains-tail, contains-flat_map}
+use Rattle.dtype_paths.proofs.lemmas.ListMembers.{contains-head, contains-tail, contains-flat_map}
 
 -- the beginnings of a path, but for the root
 abbrev starts : List Field → List (List Field)

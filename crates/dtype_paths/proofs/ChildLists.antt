@@ -21,7 +21,7 @@ use Rattle.dtype_paths.specs.EqualityLaws.{same_field-Decides, same_field_equiv}
 use Rattle.dtype_paths.specs.declared.child_list.Child.{Child}
 use Rattle.dtype_paths.specs.declared.field.Field.{Field}
 use Rattle.dtype_paths.proofs.lemmas.Cases.{by_bool}
-use Rattle.dtype_paths.proofs.DistinctLists.{IsDistinct-nil}
+use Rattle.dtype_paths.proofs.lemmas.DistinctLists.{IsDistinct-nil}
 use Rattle.dtype_paths.specs.private.StepKeys.{IsExactKey, IsStepKey}
 use Rattle.dtype_paths.proofs.StepKeys.{keys_differ, told}
 

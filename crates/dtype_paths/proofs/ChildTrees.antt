@@ -28,8 +28,8 @@ use Rattle.dtype_paths.specs.private.StepKeys.{step_key}
 use Rattle.dtype_paths.specs.declared.field.Field.{Field}
 use Rattle.dtype_paths.proofs.lemmas.Cases.{by_bool, by_option}
 use Rattle.dtype_paths.specs.PathOrderLaws.{field_ties}
-use Rattle.dtype_paths.proofs.DistinctLists.{distinct-append, distinct-map, distinct-unmap}
-use Rattle.dtype_paths.proofs.ListMembers.{contains-map, contains-mapped}
+use Rattle.dtype_paths.proofs.lemmas.DistinctLists.{distinct-append, distinct-map, distinct-unmap}
+use Rattle.dtype_paths.proofs.lemmas.ListMembers.{contains-map, contains-mapped}
 use Rattle.dtype_paths.proofs.ChildLists.{lookup-append}
 
 -- ---- keys

@@ -20,9 +20,9 @@ use Rattle.dtype_paths.specs.declared.node.Node.{Node}
 use Rattle.dtype_paths.specs.PathOrder.{held_name, named, named-held_name}
 use Rattle.std.proofs.lemmas.Option.{same_Some}
 use Rattle.std.proofs.lemmas.Simd.{map-map}
-use Rattle.dtype_paths.proofs.DistinctLists.{distinct-given}
+use Rattle.dtype_paths.proofs.lemmas.DistinctLists.{distinct-given}
 use Rattle.dtype_paths.proofs.lemmas.Cases.{by_option}
-use Rattle.dtype_paths.proofs.ListMembers.{contains-given, contains-map, contains-mapped, contains-nil, contains-tail, given_by}
+use Rattle.dtype_paths.proofs.lemmas.ListMembers.{contains-given, contains-map, contains-mapped, contains-nil, contains-tail, given_by}
 use Rattle.dtype_paths.proofs.Reaching.{child-ends, child-reached, child-witness, ends_nowhere, ends_stepped}
 
 abbrev names : List (Field × ℕ) → List (List ℕ × ℕ)

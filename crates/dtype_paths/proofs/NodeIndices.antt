@@ -9,8 +9,8 @@ use Rattle.std.proofs.lemmas.List.Elements.{filter_map-append}
 use Rattle.std.proofs.lemmas.List.{drop_more, map-append, take-append-drop}
 use Rattle.dtype_base.specs.Distinct.{Distinct}
 use Rattle.std.proofs.lemmas.Option.{same_Some, get_or_from_slice_get, option_and_then_some, slice_get_read, slice_get_within}
-use Rattle.dtype_paths.proofs.DistinctLists.{distinct-cons, distinct-nil}
-use Rattle.dtype_paths.proofs.ListMembers.{contains-cons, contains-given, contains-head, contains-tail, given_by}
+use Rattle.dtype_paths.proofs.lemmas.DistinctLists.{distinct-cons, distinct-nil}
+use Rattle.dtype_paths.proofs.lemmas.ListMembers.{contains-cons, contains-given, contains-head, contains-tail, given_by}
 use Rattle.dtype_paths.proofs.lemmas.Cases.{by_option}
 use Rattle.dtype_paths.proofs.lemmas.SetMembers.{same_lists}
 use Rattle.dtype_paths.specs.PathOrder.{set_of}

@@ -28,8 +28,8 @@ use Rattle.dtype_paths.specs.declared.field.Field.{Field}
 use Rattle.dtype_paths.specs.declared.node.Node.{Node}
 use Rattle.dtype_paths.specs.private.Children.{child}
 use Rattle.dtype_paths.specs.private.Trie.{child_at, terminal_at, terminals, walk, IsTrie}
-use Rattle.dtype_paths.proofs.DistinctLists.{distinct-nil, distinct-cons, distinct-head, distinct-append, distinct-given, distinct-moved, distinct-right, distinct-below, distinct-map, distinct-unmap}
-use Rattle.dtype_paths.proofs.ListMembers.{contains-map, contains-mapped, contains-cons, contains-given, contains-head, contains-tail, contains-nil, given_by}
+use Rattle.dtype_paths.proofs.lemmas.DistinctLists.{distinct-nil, distinct-cons, distinct-head, distinct-append, distinct-given, distinct-moved, distinct-right, distinct-below, distinct-map, distinct-unmap}
+use Rattle.dtype_paths.proofs.lemmas.ListMembers.{contains-map, contains-mapped, contains-cons, contains-given, contains-head, contains-tail, contains-nil, given_by}
 use Rattle.dtype_paths.proofs.NodeIndices.{read-within, terminal-of, of-terminal}
 use Rattle.dtype_paths.proofs.TrieGrowth.{walk-append, walk-front, walk-mono, walk-snoc}
 

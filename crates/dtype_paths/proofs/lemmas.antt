@@ -3,6 +3,8 @@
 
 -- Lemmas on the definitions, which callers' proofs may cite too.
 pub mod Cases
+pub mod ListMembers
+pub mod DistinctLists
 pub mod Beginnings
 pub mod Walks
 pub mod MaskSteps

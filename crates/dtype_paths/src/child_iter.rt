@@ -24,7 +24,7 @@ impl<'a> ChildIter<'a> {
     ghost use Rattle.dtype_paths.specs.private.ChildIters.{entries_left, named_left};
 
     // The next step and the index of the node that it leads to.
-    fn next(&mut self) -> Option<(&'a Field, usize)>
+    pub(crate) fn next(&mut self) -> Option<(&'a Field, usize)>
         ensures { YieldsFirstBy borrowed_entry entries_left self.old result self.new }
     {
         match self {

@@ -1,17 +1,19 @@
 // SPDX-License-Identifier: Apache-2.0
 // SPDX-FileCopyrightText: Copyright the Vortex contributors
 
-ghost use Rattle.std.specs.Prelude.{◌≡◌, ◌≤◌, ◌++◌, [], ℕ, None, Some, if◌then◌else◌, length, IsTrue, IfErr, IsOkUnless, OnOk};
+ghost use Rattle.std.specs.Prelude.{◌≡◌, ◌≤◌, [], ℕ, None, Some, if◌then◌else◌, length, IsTrue, IfErr, OnOk};
 ghost use Rattle.std.specs.List.{IsDistinct};
-ghost use Rattle.std.specs.Map.{keys_of, lookup, values_of};
+ghost use Rattle.std.specs.Map.{keys_of, lookup};
 ghost use Rattle.dtype_base.specs.Errors.{Makes};
 ghost use Rattle.dtype_base.specs.declared.vortex_error.VortexError.TheVariants.{OutOfMemory};
+ghost use Rattle.dtype_paths.specs.private.ChildIters.{entries_left};
 ghost use Rattle.dtype_paths.specs.private.Children.{entry_node, HasKnownKey};
 ghost use Rattle.dtype_paths.specs.Equality.{same_field};
 ghost use Rattle.dtype_paths.specs.declared.field.Field.{Field};
 
 use crate::Field;
 use crate::bucket_loads::BucketLoads;
+use crate::child_iter::ChildIter;
 use crate::child_tree::ChildTree;
 use crate::entry::Entry;
 use dtype_base::VortexResult;
@@ -113,16 +115,16 @@ impl ChildMap {
         self.node_indices.iter()
     }
 
-    // Appends the node indices of the children.
-    pub(crate) fn push_node_indices(&self, node_indices: &mut Vec<usize>) -> VortexResult<()>
-        ensures pushed { OnOk result (node_indices.new.items ≡ node_indices.old.items ++ values_of self.now) }
-        ensures once { IsDistinct same_field (keys_of self.now) }
-        ensures errors { IsOkUnless result OutOfMemory }
+    // This map, which has no child, with copies of these children. Their loads aren't counted.
+    pub(crate) fn filled(mut self, alloc: Global, mut left: ChildIter<'_>) -> VortexResult<Self>
+        requires none { self ≡ [] }
+        requires once { IsDistinct same_field (keys_of (entries_left left)) }
+        ensures { Makes result (λ m. (f : Field) → lookup (same_field f) m ≡ lookup (same_field f) (entries_left left.entry)) }
     {
-        for node_index in self.node_indices.values() {
-            node_indices.push(*node_index)?;
+        while let Some((step, node_index)) = left.next() {
+            self.put(step.try_clone(alloc)?, node_index)?;
         }
-        Ok(())
+        Ok(self)
     }
 
     // A copy: the same steps lead to the same nodes.
@@ -131,20 +133,13 @@ impl ChildMap {
     {
         let mut copy = ChildMap::with_capacity(alloc, self.node_indices.len())?;
         copy.loads = self.loads.try_clone(alloc)?;
-        for (step, node_index) in self.node_indices.iter() {
-            copy.put(step.try_clone(alloc)?, *node_index)?;
-        }
-        Ok(copy)
+        Ok(copy.filled(alloc, ChildIter::Map(self.iter()))?)
     }
 
     // A tree of the same children.
     pub(crate) fn to_tree(&self, alloc: Global) -> VortexResult<ChildTree>
         ensures { Makes result (λ t. (f : Field) → lookup (same_field f) t ≡ lookup (same_field f) self.now) }
     {
-        let mut tree = ChildTree::new(alloc);
-        for (step, node_index) in self.node_indices.iter() {
-            tree.insert(step.try_clone(alloc)?, None, *node_index)?;
-        }
-        Ok(tree)
+        Ok(ChildTree::of(alloc, ChildIter::Map(self.iter()))?)
     }
 }

@@ -1,14 +1,15 @@
 // SPDX-License-Identifier: Apache-2.0
 // SPDX-FileCopyrightText: Copyright the Vortex contributors
 
-ghost use Rattle.std.specs.Prelude.{◌≡◌, ◌++◌, ℕ, [], length, Option, Some, IfErr, IsOkUnless, OnOk, IsTrue, false, if◌then◌else◌};
-ghost use Rattle.std.specs.BTreeMap.{is_at, values, IsOrdered};
+ghost use Rattle.std.specs.Prelude.{◌≡◌, ℕ, [], length, Option, Some, IfErr, OnOk, IsTrue, false, if◌then◌else◌};
+ghost use Rattle.std.specs.BTreeMap.{is_at, IsOrdered};
 ghost use Rattle.std.specs.Iterator.{YieldsFirstBy};
 ghost use Rattle.std.specs.List.{IsDistinct};
-ghost use Rattle.std.specs.Map.{keys_of, lookup, values_of};
+ghost use Rattle.std.specs.Map.{keys_of, lookup};
 ghost use Rattle.std.specs.Ordering.{nat_cmp};
 ghost use Rattle.dtype_base.specs.Errors.{Makes};
 ghost use Rattle.dtype_base.specs.declared.vortex_error.VortexError.TheVariants.{OutOfMemory};
+ghost use Rattle.dtype_paths.specs.private.ChildIters.{entries_left};
 ghost use Rattle.dtype_paths.specs.private.ChildTrees.{at_key, led_by, IsFirst, IsTaken};
 ghost use Rattle.dtype_paths.specs.private.Children.{borrowed_entry, entry_node, HasKnownKey};
 ghost use Rattle.dtype_paths.specs.Equality.{same_field};
@@ -16,6 +17,7 @@ ghost use Rattle.dtype_paths.specs.private.StepKeys.{step_key, IsKnownKey};
 ghost use Rattle.dtype_paths.specs.declared.field.Field.{Field};
 
 use crate::Field;
+use crate::child_iter::ChildIter;
 use crate::entry::Entry;
 use crate::step_key::{known_key, step_key_of};
 use dtype_base::VortexResult;
@@ -52,6 +54,18 @@ impl ChildTree {
             by_key: BTreeMap::new(alloc),
             by_step: BTreeMap::new(alloc),
         }
+    }
+
+    // A tree of copies of these children.
+    pub(crate) fn of(alloc: Global, mut left: ChildIter<'_>) -> VortexResult<Self>
+        requires { IsDistinct same_field (keys_of (entries_left left)) }
+        ensures { Makes result (λ t. (f : Field) → lookup (same_field f) t ≡ lookup (same_field f) (entries_left left.entry)) }
+    {
+        let mut tree = ChildTree::new(alloc);
+        while let Some((step, node_index)) = left.next() {
+            tree.insert(step.try_clone(alloc)?, None, node_index)?;
+        }
+        Ok(tree)
     }
 
     // The entry of the step.
@@ -113,29 +127,11 @@ impl ChildTree {
         }
     }
 
-    // Appends the node indices of the children.
-    #[tactic(auto, using(crate::proofs::ChildTrees::distinct_steps))]
-    pub(crate) fn push_node_indices(&self, node_indices: &mut Vec<usize>) -> VortexResult<()>
-        ensures pushed { OnOk result (node_indices.new.items ≡ node_indices.old.items ++ values_of self.now) }
-        ensures once { IsDistinct same_field (keys_of self.now) }
-        ensures errors { IsOkUnless result OutOfMemory }
-    {
-        push_first(&self.by_key, node_indices)?;
-        push_values(&self.by_step, node_indices)
-    }
-
     // A copy: the same steps lead to the same nodes.
     pub(crate) fn try_clone(&self, alloc: Global) -> VortexResult<Self>
         ensures { Makes result (λ t. (f : Field) → lookup (same_field f) t ≡ lookup (same_field f) self.now) }
     {
-        let mut copy = ChildTree::new(alloc);
-        for (first, node_index) in self.by_key.values() {
-            copy.insert(first.try_clone(alloc)?, None, *node_index)?;
-        }
-        for (step, node_index) in self.by_step.iter() {
-            copy.insert(step.try_clone(alloc)?, None, *node_index)?;
-        }
-        Ok(copy)
+        Ok(ChildTree::of(alloc, ChildIter::Tree(self.iter()))?)
     }
 }
 
@@ -208,29 +204,4 @@ fn is_taken(by_key: &BTreeMap<u64, (Field, usize)>, key: u64, step: &Field) -> b
         Some((first, _)) => first != step,
         None => false,
     }
-}
-
-// Appends the node indices of the steps at their keys.
-fn push_first(
-    by_key: &BTreeMap<u64, (Field, usize)>,
-    node_indices: &mut Vec<usize>,
-) -> VortexResult<()>
-    ensures pushed { OnOk result (node_indices.new.items ≡ node_indices.old.items ++ values_of (values by_key.now)) }
-    ensures errors { IsOkUnless result OutOfMemory }
-{
-    for (_, node_index) in by_key.values() {
-        node_indices.push(*node_index)?;
-    }
-    Ok(())
-}
-
-// Appends the values of the map.
-fn push_values(by_step: &BTreeMap<Field, usize>, node_indices: &mut Vec<usize>) -> VortexResult<()>
-    ensures pushed { OnOk result (node_indices.new.items ≡ node_indices.old.items ++ values by_step.now) }
-    ensures errors { IsOkUnless result OutOfMemory }
-{
-    for node_index in by_step.values() {
-        node_indices.push(*node_index)?;
-    }
-    Ok(())
 }

@@ -14,8 +14,8 @@ use Rattle.dtype_paths.specs.EqualityLaws.{same_path-Decides, same_path_equiv}
 use Rattle.dtype_paths.specs.PathOrder.{PathSet, path_cmp, set_of}
 use Rattle.dtype_paths.specs.PathOrderLaws.{path_cmp_total}
 use Rattle.dtype_paths.specs.declared.field.Field.{Field}
-use Rattle.dtype_paths.proofs.DistinctLists.{distinct-cons, distinct-head, distinct-nil, distinct-tail}
-use Rattle.dtype_paths.proofs.ListMembers.{contains-head, contains-nil}
+use Rattle.dtype_paths.proofs.lemmas.DistinctLists.{distinct-cons, distinct-head, distinct-nil, distinct-tail}
+use Rattle.dtype_paths.proofs.lemmas.ListMembers.{contains-head, contains-nil}
 use Rattle.dtype_paths.proofs.lemmas.SetCovers.{least_one, least_word}
 use Rattle.dtype_paths.proofs.lemmas.SetMembers.{contains_empty, insert_has, of_has, of_only, one_only, same_by}
 

@@ -12,7 +12,7 @@ use Rattle.dtype_paths.specs.Covering.{covers}
 use Rattle.dtype_paths.specs.Equality.{same_field}
 use Rattle.dtype_paths.specs.PathOrder.{PathSet, path_cmp}
 use Rattle.dtype_paths.specs.declared.field.Field.{Field}
-use Rattle.dtype_paths.proofs.ListMembers.{contains-map, contains-mapped}
+use Rattle.dtype_paths.proofs.lemmas.ListMembers.{contains-map, contains-mapped}
 use Rattle.dtype_paths.proofs.lemmas.Beginnings.{starts_with-Decides}
 use Rattle.dtype_paths.proofs.lemmas.SetCovers.{covers_word}
 use Rattle.dtype_paths.proofs.lemmas.SetMembers.{of_has, of_only}

@@ -12,7 +12,7 @@ use Rattle.dtype_paths.specs.PathOrder.{PathSet, path_cmp}
 use Rattle.dtype_paths.specs.declared.field.Field.{Field}
 use Rattle.dtype_paths.specs.declared.field_mask.FieldMask.{FieldMask}
 use Rattle.dtype_paths.specs.declared.field_mask.FieldMask.TheVariants.{Prefix, Exact}
-use Rattle.dtype_paths.proofs.ListMembers.{contains-map, contains-mapped}
+use Rattle.dtype_paths.proofs.lemmas.ListMembers.{contains-map, contains-mapped}
 use Rattle.dtype_paths.proofs.lemmas.SetCovers.{covers_word, same_coverage}
 use Rattle.dtype_paths.proofs.lemmas.SetMembers.{of_has, of_only}
 

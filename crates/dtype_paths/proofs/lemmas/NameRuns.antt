@@ -16,7 +16,7 @@ use Rattle.dtype_paths.specs.declared.cursor_names.CursorNames.{CursorNames}
 use Rattle.dtype_paths.specs.declared.field.Field.{Field}
 use Rattle.dtype_paths.specs.declared.field.Field.TheVariants.{Name}
 use Rattle.dtype_paths.specs.declared.field_path_cursor.FieldPathCursor.{FieldPathCursor}
-use Rattle.dtype_paths.proofs.ListMembers.{contains-map}
+use Rattle.dtype_paths.proofs.lemmas.ListMembers.{contains-map}
 
 -- an item is one of the entries that were left
 item_left : (it : CursorNames) (p : Run (YieldsFirstBy borrowed_asks names_left)) → p.from ≡ it → AllItems p (λ x. Contains (names_left it) (borrowed_asks x))

@@ -9,7 +9,7 @@ use Rattle.dtype_paths.specs.PathPredicates.{PathPredicate}
 use Rattle.dtype_paths.specs.private.ChildIters.{named_left}
 use Rattle.dtype_paths.specs.private.Children.{borrowed_name}
 use Rattle.dtype_paths.specs.private.Reached.{ends_below, named_paths}
-use Rattle.dtype_paths.proofs.ListMembers.{contains-head}
+use Rattle.dtype_paths.proofs.lemmas.ListMembers.{contains-head}
 use Rattle.dtype_paths.proofs.NamesBelow.{still-left}
 use Rattle.dtype_paths.proofs.cursor_names.CursorNamesIterator.next.Goals as goal
 

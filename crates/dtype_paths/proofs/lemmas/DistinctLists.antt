@@ -13,7 +13,7 @@ use Rattle.std.proofs.lemmas.Map.Made.{is_member-Decides, AllPairs-from_IsDistin
 use Rattle.std.proofs.lemmas.Map.Steps.{length-le_from_distinct_below}
 use Rattle.dtype_base.specs.Distinct.{Distinct}
 use Rattle.dtype_paths.proofs.lemmas.Cases.{by_option}
-use Rattle.dtype_paths.proofs.ListMembers.{contains-head, contains-tail, contains-map, contains-mapped, given_by}
+use Rattle.dtype_paths.proofs.lemmas.ListMembers.{contains-head, contains-tail, contains-map, contains-mapped, given_by}
 
 pub IsDistinct-nil : {A : Type 0} (eq : A → A → Bool) → IsDistinct eq []
 unfolding IsDistinct

@@ -2,28 +2,33 @@
 -- SPDX-FileCopyrightText: Copyright the Vortex contributors
 
 -- What is asked of the fields of a struct, while the names by which paths go on are looked up one by one, or the fields.
-use Rattle.std.proofs.Common.{◌≡◌, ◌≢◌, ◌⊎◌, inl, inr, ℕ, zero, suc, ◌+◌, ◌<◌, ◌≤◌, ◌==◌, All, length, false, List, [], ◌∷◌, ◌++◌, map, get_or, slice_get, Some, None, refl, sym, ap, subst, ◌∙◌, arith}
-use Rattle.std.specs.List.{AllByRecursion, Contains, IsDistinct}
+use Rattle.std.proofs.Common.{◌≡◌, ◌≢◌, ◌⊎◌, inl, inr, ℕ, zero, suc, ◌+◌, ◌<◌, ◌≤◌, ◌==◌, if◌then◌else◌, All, length, true, false, List, [], ◌∷◌, ◌++◌, map, get_or, slice_get, Some, None, refl, sym, ap, subst, ◌∙◌, append-nil, arith}
+use Rattle.std.specs.List.{AllByRecursion, Contains, IsDistinct, filter_map}
 use Rattle.std.specs.Cmp.{nat_eq_equiv}
 use Rattle.std.specs.List.Sorted.{IsNonDecreasingBy, IsPermutation}
+use Rattle.std.specs.Map.{keys_of, lookup}
+use Rattle.std.specs.Option.{IsSome, option_map}
 use Rattle.std.proofs.lemmas.Bool.{cases_lt, false≢true}
 use Rattle.std.proofs.lemmas.Bool.Decides.{Decides-eqb}
+use Rattle.std.proofs.lemmas.Grind.{common_steps}
 use Rattle.std.proofs.lemmas.List.{map_push}
-use Rattle.std.proofs.lemmas.List.Elements.{All-map, All-nil, All-push, Contains-append_left, Contains-push}
-use Rattle.std.proofs.lemmas.List.Folds.{list_any_none}
-use Rattle.std.proofs.lemmas.List.Sorted.{All-permutation, Contains-permutation}
-use Rattle.std.proofs.lemmas.Map.Keys.{IsDistinct-push}
-use Rattle.std.proofs.lemmas.Map.Made.{Contains-tail}
+use Rattle.std.proofs.lemmas.List.Elements.{Contains-get_or}
+use Rattle.std.proofs.lemmas.List.Sorted.{Contains-permutation, IsPermutation-map, IsPermutation-sym}
+use Rattle.std.proofs.lemmas.Map.Keys.{IsDistinct-IsPermutation}
+use Rattle.std.proofs.lemmas.Map.Made.{IsDistinct-from_AllPairs}
+use Rattle.std.proofs.lemmas.Map.Views.{Contains-from_lookup, IsSome-lookup_from_Contains}
 use Rattle.std.proofs.lemmas.Option.{same_Some, slice_get_within}
-use Rattle.dtype_base.specs.Distinct.{Distinct}
+use Rattle.std.proofs.lemmas.Simd.{map-map}
 use Rattle.dtype_base.specs.FieldNames.{FirstAt, first_place}
 use Rattle.dtype_base.proofs.lemmas.Lookups.{first_of_place, place_of_first}
 use Rattle.dtype_paths.specs.Cursors.{asks}
 use Rattle.dtype_paths.specs.PathPredicates.{no_path, AreNames}
 use Rattle.dtype_paths.specs.declared.field.Field.TheVariants.{Name}
 use Rattle.dtype_paths.specs.declared.field_path_cursor.FieldPathCursor.{FieldPathCursor}
-use Rattle.dtype_paths.proofs.lemmas.Cases.{by_bool}
-use Rattle.dtype_projection.specs.private.Entered.{asked_below, AreEntered, Entries, IsEntered, IsSettled, PositionsDiffer, RiseFrom}
+use Rattle.dtype_paths.proofs.lemmas.Cases.{by_bool, by_option}
+use Rattle.dtype_paths.proofs.lemmas.DistinctLists.{distinct-given}
+use Rattle.dtype_paths.proofs.lemmas.ListMembers.{contains-given, contains-map, contains-mapped, given_by}
+use Rattle.dtype_projection.specs.private.Entered.{asked_at, asked_below, placed, shown, AreEntered, AreLookedUp, Entries, Rise}
 use Rattle.dtype_projection.specs.Projected.{PathPredicate, after_step, without_field}
 use Rattle.dtype_projection.proofs.lemmas.Projections.{by_name, after_without_same, after_without_other}
 
@@ -50,160 +55,146 @@ asked_cases (m ∷ ns) w (suc k) = elim (asked_cases ns (without_field m w) k) [
     past n ne first zero lt e = ne (same_Some m n e)
     past n ne first (suc j) lt e = first j (omega (arith, lt)) e
 
--- ---- one entry more
+-- ---- entries whose positions rise
 
-settled_push : (w : PathPredicate) (ns : List (List ℕ)) (es : Entries) (e : ℕ × FieldPathCursor) (k : ℕ) → IsSettled w ns es k → IsSettled w ns (es ++ e ∷ []) k
-settled_push w ns es e k (inl none) = inl none
-settled_push w ns es e k (inr c) = inr (c.0, Contains-append_left es (e ∷ []) (k, c.0) c.1)
+pub bounded : (i n : ℕ) (es : Entries) → Rise i n es → i ≤ n
+bounded i n [] r = r
+bounded i n (e ∷ es) r = grind (arith, r, bounded (e.0 + 1) n es)
 
-settled_here : (w : PathPredicate) (ns : List (List ℕ)) (es : Entries) (i k : ℕ) (v : FieldPathCursor) → i ≡ k → IsSettled w ns (es ++ (i, v) ∷ []) k
-settled_here w ns es i k v is = inr (v, subst (λ j. Contains (es ++ (i, v) ∷ []) (j, v)) is (Contains-push es (i, v)))
+pub none_before : (i n k : ℕ) (es : Entries) → Rise i n es → k < i → lookup (λ j. k == j) es ≡ None
+none_before i n k [] r lt = refl
+none_before i n k (e ∷ es) r lt = grind (arith, r, none_before (e.0 + 1) n k es, lt)
 
--- its position is no other's
-differ_push : (es : Entries) (i : ℕ) (v : FieldPathCursor) → All (λ e. e.0 ≢ i) es → PositionsDiffer es → PositionsDiffer (es ++ (i, v) ∷ [])
-differ_push es i v other once =
-    subst (IsDistinct (λ j k. j == k)) (sym (map_push (λ (e : ℕ × FieldPathCursor). e.0) es (i, v)))
-    (IsDistinct-push nat_eq_equiv (map (λ e. e.0) es) i once (list_any_none (λ k. i == k) (map (λ e. e.0) es) (All-map (λ k. (i == k) ≡ false) (λ e. e.0) es
-    (λ k d lt. by_bool (i == (get_or es k d).0) (λ is. absurd (other k d lt (sym ((Decides-eqb i (get_or es k d).0).0 is)))) (λ no. no)))))
+none_after : (i n k : ℕ) (es : Entries) → Rise i n es → n ≤ k → lookup (λ j. k == j) es ≡ None
+none_after i n k [] r le = refl
+none_after i n k (e ∷ es) r le = grind (arith, r, none_after (e.0 + 1) n k es, le, bounded (e.0 + 1) n es)
+
+rise_on : (i n : ℕ) (es : Entries) → Rise i n es → Rise i (n + 1) es
+rise_on i n [] r = omega (arith, r)
+rise_on i n (e ∷ es) r = grind (arith, r, rise_on (e.0 + 1) n es)
+
+-- one more, at the bound
+rise_push : (i n : ℕ) (es : Entries) (v : FieldPathCursor) → Rise i n es → Rise i (n + 1) (es ++ (n, v) ∷ [])
+rise_push i n [] v r = omega (arith, r)
+rise_push i n (e ∷ es) v r = grind (arith, r, rise_push (e.0 + 1) n es v)
+
+lookup_push : (i n k : ℕ) (es : Entries) (v : FieldPathCursor) → Rise i n es → lookup (λ j. k == j) (es ++ (n, v) ∷ []) ≡ (if k == n then Some v else lookup (λ j. k == j) es)
+lookup_push i n k [] v r = refl
+lookup_push i n k (e ∷ es) v r = grind (arith, r, lookup_push (e.0 + 1) n k es v, bounded (e.0 + 1) n es)
 
 -- ---- name by name
 
-abbrev firsts : List (List ℕ × PathPredicate) → List (List ℕ)
-firsts left = map (λ e. e.0) left
+-- none is looked up yet
+pub looked_up-none : (w : PathPredicate) (ns : List (List ℕ)) (left : List (List ℕ × PathPredicate)) (es : Entries) → es ≡ [] → AreNames w left → AreLookedUp w ns left es
+looked_up-none w ns left es none names = rw none (record { names = left; by_name = names; found = refl })
 
--- all is entered but for the names that are left
-pub record IsEntering (w : PathPredicate) (ns : List (List ℕ)) (left : List (List ℕ × PathPredicate)) (es : Entries) : Type 0 where
-  pub left_once : Distinct (firsts left)
-  pub left_each : (e : List ℕ × PathPredicate) → Contains left e → e.1 ≡ after_step (Name e.0) w
-  pub once : PositionsDiffer es
-  pub each : All (IsEntered w ns) es
-  pub ahead : (n : List ℕ) → Contains (firsts left) n → All (λ e. Some e.0 ≢ first_place ns n) es
-  pub all : (k : ℕ) → ((n : List ℕ) → Contains (firsts left) n → Some k ≢ first_place ns n) → IsSettled w ns es k
-
-pub entering-start : (w : PathPredicate) (ns : List (List ℕ)) (left : List (List ℕ × PathPredicate)) (es : Entries) → es ≡ [] → AreNames w left → IsEntering w ns left es
-unfolding IsDistinct
-entering-start w ns left es none names = subst (IsEntering w ns left) (sym none) (record {
-  left_once = names.once;
-  left_each = names.each;
-  once = tt;
-  each = All-nil _;
-  ahead = λ n c. All-nil _;
-  all = λ k gone. inl (elim (asked_cases ns w k) [
-    | inr e ↦ e
-    | inl f ↦ asked_first ns w k f.0 f.1 ∙ nothing f.0 (λ c. gone f.0 c (sym (place_of_first ns f.0 k f.1)))
-  ]);
-})
-  where
-    -- a name by which no path goes on
-    nothing : (n : List ℕ) → (Contains (firsts left) n → ⊥) → after_step (Name n) w ≡ no_path
-    nothing n not_left = λ i p. by_bool (w (Name n ∷ p)) (λ e. absurd (not_left ((names.exact n).1 (λ z. false≢true (sym (ap (λ (v : PathPredicate). v p) z) ∙ e))))) (λ e. e) i
-
-distinct-tail : (x : List ℕ) (xs : List (List ℕ)) → Distinct (x ∷ xs) → Distinct xs
-distinct-tail x xs a = λ i j d lt in_list. a (suc i) (suc j) d (omega (arith, lt)) (omega (arith, in_list))
-
-module _ (w : PathPredicate) (ns : List (List ℕ)) (left rest : List (List ℕ × PathPredicate)) (m : List ℕ) (v : PathPredicate) (next : left ≡ (m, v) ∷ rest) (es : Entries) (entering : IsEntering w ns left es) where
-  old : IsEntering w ns ((m, v) ∷ rest) es
-  old = subst (λ z. IsEntering w ns z es) next entering
-
-  still : (e : List ℕ × PathPredicate) → Contains rest e → e.1 ≡ after_step (Name e.0) w
-  still e c = old.left_each e (suc c.0, omega (arith, c.1), c.2)
-
-  ahead_still : (n : List ℕ) → Contains (firsts rest) n → All (λ e. Some e.0 ≢ first_place ns n) es
-  ahead_still n c = old.ahead n (suc c.0, omega (arith, c.1), c.2)
-
+module _ (w : PathPredicate) (ns : List (List ℕ)) (left rest : List (List ℕ × PathPredicate)) (n : List ℕ) (v : PathPredicate) (next : left ≡ (n, v) ∷ rest) (es : Entries) (old : AreLookedUp w ns left es) where
   -- no field has the name
-  pub entering-passed : None ≡ first_place ns m → IsEntering w ns rest es
-  entering-passed none = record {
-    left_once = distinct-tail m (firsts rest) old.left_once;
-    left_each = still;
-    once = old.once;
-    each = old.each;
-    ahead = ahead_still;
-    all = λ k gone. old.all k (λ n c at. gone n (Contains-tail m (firsts rest) n (λ e. let q : None ≡ Some k = none ∙ ap (first_place ns) e ∙ sym at in cc) c) at);
-  }
+  pub looked_up-absent : None ≡ first_place ns n → AreLookedUp w ns rest es
+  looked_up-absent none = record { names = old.names; by_name = old.by_name; found = grind (arith, common_steps, old.found, next, none) }
 
   -- the field i has it, and its cursor is entered
-  pub entering-entered : (i : ℕ) (below : FieldPathCursor) (es' : Entries) → Some i ≡ first_place ns m → asks below ≡ v → es' ≡ es ++ (i, below) ∷ [] → IsEntering w ns rest es'
-  entering-entered i below es' at is new = subst (IsEntering w ns rest) (sym new) (record {
-    left_once = distinct-tail m (firsts rest) old.left_once;
-    left_each = still;
-    once = differ_push es i below (λ k d lt is. old.ahead m (0, omega arith, refl) k d lt (ap Some is ∙ at)) old.once;
-    each = All-push (IsEntered w ns) es (i, below) old.each (is ∙ old.left_each (m, v) (0, omega arith, refl) ∙ sym (asked_first ns w i m (first_of_place ns m i at)));
-    ahead = λ n c. All-push (λ e. Some e.0 ≢ first_place ns n) es (i, below) (ahead_still n c) (λ there. not_again (subst (Contains (firsts rest)) (sym (named n there)) c));
-    all = λ k gone. by_bool (i == k) (λ same. settled_here w ns es i k below ((Decides-eqb i k).0 same)) (λ no. let other : i ≢ k = λ is. false≢true (sym no ∙ (Decides-eqb i k).1 is) in settled_push w ns es (i, below) k (old.all k (λ n c there.
-        gone n (Contains-tail m (firsts rest) n (λ e. other (same_Some i k (at ∙ ap (first_place ns) e ∙ sym there))) c) there)));
-  })
-    where
-      -- the first field of two names is the same only if they are
-      named : (n : List ℕ) → Some i ≡ first_place ns n → m ≡ n
-      named n there = same_Some m n (sym (first_of_place ns m i at).here ∙ (first_of_place ns n i there).here)
+  pub looked_up-more : (i : ℕ) (below : FieldPathCursor) (es' : Entries) → Some i ≡ first_place ns n → asks below ≡ v → es' ≡ es ++ (i, below) ∷ [] → AreLookedUp w ns rest es'
+  looked_up-more i below es' at is new = record {
+    names = old.names;
+    by_name = old.by_name;
+    found = grind (arith, common_steps, old.found, next, at, is, new, map_push shown es (i, below));
+  }
 
-      not_again : Contains (firsts rest) m → ⊥
-      not_again c = old.left_once 0 (suc c.0) m (omega arith) (omega (arith, c.1)) (sym c.2)
+-- what stands at a position is a name's that stands first there
+placed_from : (ns : List (List ℕ)) (names : List (List ℕ × PathPredicate)) (k : ℕ) (v : PathPredicate) → Contains (placed ns names) (k, v) → (n : List ℕ) × Contains names (n, v) × (first_place ns n ≡ Some k)
+placed_from ns names k v c =
+    let w = given_by (λ e. option_map (λ i. (i, e.1)) (first_place ns e.0)) names (k, v) c in
+    by_option (first_place ns w.0.0) (λ none. let q = w.2 in absurd (let z = rw none at q in cc)) (λ i at.
+    let q : Some (i, w.0.1) ≡ Some (k, v) = rw at at w.2 in
+    let is = same_Some (i, w.0.1) (k, v) q in
+    (w.0.0, subst (λ u. Contains names (w.0.0, u)) (ap (λ e. e.1) is) w.1, at ∙ ap (λ e. Some e.0) is))
 
-pub entering_end : (w : PathPredicate) (ns : List (List ℕ)) (left : List (List ℕ × PathPredicate)) (es : Entries) → IsEntering w ns left es → left ≡ [] → AreEntered w ns es
-entering_end w ns left es e none = record {
-  each = e.each;
-  all = λ k. e.all k (λ n c at. let none_left = subst (λ z. Contains (firsts z) n) none c in omega (arith, none_left.1));
-}
+places : (ns : List (List ℕ)) (names : List (List ℕ × PathPredicate)) → map (λ e. e.0) (placed ns names) ≡ filter_map (first_place ns) (map (λ e. e.0) names)
+places ns [] = refl
+places ns (e ∷ names) = grind (arith, common_steps, places ns names)
 
--- ---- the entries in the order of their positions
-
-pub entered_permutation : (w : PathPredicate) (ns : List (List ℕ)) (es fs : Entries) → IsPermutation es fs → AreEntered w ns es → AreEntered w ns fs
-entered_permutation w ns es fs moved e = record {
-  each = All-permutation (IsEntered w ns) es fs moved e.each;
-  all = λ k. elim (e.all k) [ inl none ↦ inl none | inr c ↦ inr (c.0, Contains-permutation es fs (k, c.0) moved c.1) ];
-}
-
-past : (i : ℕ) (es : Entries) → All (λ e. i ≤ e.0) es → AllByRecursion (λ k. (i == k) ≡ false) (map (λ e. e.0) es) → All (λ e. i + 1 ≤ e.0) es
-past i [] from other k d lt = absurd (omega (arith, lt))
-past i (e ∷ es) from other zero d lt = let ne : i ≢ e.0 = λ is. false≢true (sym other.0 ∙ (Decides-eqb i e.0).1 is) in omega (arith, from 0 e (omega arith), ne)
-past i (e ∷ es) from other (suc k) d lt = past i es (λ j d lt. from (suc j) d (omega (arith, lt))) other.1 k d (omega (arith, lt))
+-- a name by which no path goes on
+unnamed : (w : PathPredicate) (names : List (List ℕ × PathPredicate)) (n : List ℕ) → AreNames w names → (Contains (map (λ e. e.0) names) n → ⊥) → after_step (Name n) w ≡ no_path
+unnamed w names n a absent = λ i p. by_bool (w (Name n ∷ p)) (λ e. absurd (absent ((a.exact n).1 (λ z. false≢true (sym (ap (λ (v : PathPredicate). v p) z) ∙ e))))) (λ e. e) i
 
 -- entries whose positions don't fall, and differ, rise
-pub rising : (i : ℕ) (es : Entries) → All (λ e. i ≤ e.0) es → IsNonDecreasingBy (λ e. e.0) es → PositionsDiffer es → RiseFrom i es
+rising : (n : ℕ) (es : Entries) → All (λ e. e.0 < n) es → IsNonDecreasingBy (λ e. e.0) es → IsDistinct (λ j k. j == k) (map (λ e. e.0) es) → Rise 0 n es
 unfolding IsDistinct
-rising i [] from falls once = tt
-rising i (e ∷ es) from falls once =
-    let later = past e.0 es (λ k d lt. falls 0 (suc k) d (omega arith) (omega (arith, lt))) once.0 in
-    (from 0 e (omega arith), rising (e.0 + 1) es later (λ j k d le lt. falls (suc j) (suc k) d (omega (arith, le)) (omega (arith, lt))) once.1)
+rising n [] below falls once = omega arith
+rising n (e ∷ es) below falls once = on 0 e es (omega arith) below falls once
+  where
+    on : (i : ℕ) (e : ℕ × FieldPathCursor) (es : Entries) → i ≤ e.0 → All (λ e. e.0 < n) (e ∷ es) → IsNonDecreasingBy (λ e. e.0) (e ∷ es) → IsDistinct (λ j k. j == k) (map (λ e. e.0) (e ∷ es)) → Rise i n (e ∷ es)
+    on i e [] le below falls once = (le, let lt : e.0 < n = below 0 e (omega arith) in omega (arith, lt))
+    on i e (f ∷ es) le below falls once =
+        let not_less : e.0 ≤ f.0 = falls 0 1 e (omega arith) (omega arith) in
+        let differ : e.0 ≢ f.0 = λ is. false≢true (sym once.0.0 ∙ (Decides-eqb e.0 f.0).1 is) in
+        (le, on (e.0 + 1) f es (omega (arith, not_less, differ)) (λ k d lt. below (suc k) d (omega (arith, lt))) (λ j k d le lt. falls (suc j) (suc k) d (omega (arith, le)) (omega (arith, lt))) once.1)
+
+-- where all names are looked up, in the order of the positions
+module _ (w : PathPredicate) (ns : List (List ℕ)) (es fs : Entries) (a : AreLookedUp w ns [] es) (moved : IsPermutation es fs) (falls : IsNonDecreasingBy (λ e. e.0) fs) where
+  all : map shown es ≡ placed ns a.names
+  all = sym (append-nil (map shown es)) ∙ a.found
+
+  -- an entry is that of a name
+  named : (k : ℕ) (c : FieldPathCursor) → Contains fs (k, c) → (n : List ℕ) × FirstAt ns n k × (asks c ≡ after_step (Name n) w)
+  named k c there =
+      let old = contains-mapped shown (k, c) es (Contains-permutation fs es (k, c) (IsPermutation-sym es fs moved) there) in
+      let p = placed_from ns a.names k (asks c) (subst (λ xs. Contains xs (k, asks c)) all old) in
+      (p.0, first_of_place ns p.0 k (sym p.2), a.by_name.each (p.0, asks c) p.1)
+
+  -- and each name that a field has is entered
+  entered : (n : List ℕ) (k : ℕ) → FirstAt ns n k → Contains (map (λ e. e.0) a.names) n → IsSome (lookup (λ j. k == j) fs)
+  entered n k f c =
+      let m = contains-map (λ (e : List ℕ × PathPredicate). e.0) a.names n c in
+      let at : first_place ns m.0.0 ≡ Some k = ap (first_place ns) m.2 ∙ place_of_first ns n k f in
+      let given = contains-given (λ e. option_map (λ i. (i, e.1)) (first_place ns e.0)) a.names m.0 (k, m.0.1) m.1 (rw at refl) in
+      let e = contains-map shown es (k, m.0.1) (subst (λ xs. Contains xs (k, m.0.1)) (sym all) given) in
+      let there = contains-mapped (λ (d : ℕ × FieldPathCursor). d.0) e.0 fs (Contains-permutation es fs e.0 moved e.1) in
+      IsSome-lookup_from_Contains nat_eq_equiv k fs (subst (Contains (keys_of fs)) (ap (λ (d : ℕ × PathPredicate). d.0) e.2) there)
+
+  -- no two have one position
+  differ : IsDistinct (λ j k. j == k) (map (λ e. e.0) fs)
+  differ =
+      let one = λ (m n : List ℕ) (i : ℕ) (p : first_place ns m ≡ Some i) (q : first_place ns n ≡ Some i). same_Some m n (sym (first_of_place ns m i (sym p)).here ∙ (first_of_place ns n i (sym q)).here) in
+      let keys : map (λ e. e.0) es ≡ filter_map (first_place ns) (map (λ e. e.0) a.names) = sym (map-map (λ (e : ℕ × PathPredicate). e.0) shown es) ∙ ap (map (λ (e : ℕ × PathPredicate). e.0)) all ∙ places ns a.names in
+      IsDistinct-IsPermutation _ nat_eq_equiv.symm _ _ (IsPermutation-map _ _ _ moved) (rw keys (IsDistinct-from_AllPairs Decides-eqb _ (distinct-given (first_place ns) (map (λ e. e.0) a.names) a.by_name.once one)))
+
+  pub all_entered : AreEntered w ns fs
+  all_entered = record {
+    order = rising (length ns) fs (λ k d lt.
+        let e = get_or fs k d in let n = named e.0 e.1 (Contains-get_or fs k d lt) in
+        slice_get_within ns e.0 n.0 n.1.here) falls differ;
+    asked = λ k. by_option (lookup (λ j. k == j) fs)
+        (λ none. rw none (elim (asked_cases ns w k) [
+          | inr e ↦ sym e
+          | inl f ↦ sym (asked_first ns w k f.0 f.1 ∙ unnamed w a.names f.0 a.by_name (λ c. let some = entered f.0 k f.1 c in false≢true (rw none at some)))
+        ]))
+        (λ c some. let e = named k c (Contains-from_lookup (λ i j. (Decides-eqb i j).0) k c fs some) in rw some (e.2 ∙ sym (asked_first ns w k e.0 e.1)));
+  }
 
 -- ---- field by field
 
 -- all is entered of the fields before the position i
-pub record IsEnteredTo (w : PathPredicate) (ns : List (List ℕ)) (i : ℕ) (es : Entries) : Type 0 where
-  pub order : RiseFrom 0 es
-  pub before : All (λ e. e.0 < i) es
-  pub each : All (IsEntered w ns) es
-  pub all : (k : ℕ) → k < i → IsSettled w ns es k
+pub record AreEnteredTo (w : PathPredicate) (ns : List (List ℕ)) (i : ℕ) (es : Entries) : Type 0 where
+  pub order : Rise 0 i es
+  pub asked : (k : ℕ) → k < i → asked_at es k ≡ asked_below w ns k
 
-pub to-start : (w : PathPredicate) (ns : List (List ℕ)) (es : Entries) → es ≡ [] → IsEnteredTo w ns 0 es
-to-start w ns es none = subst (IsEnteredTo w ns 0) (sym none) (record {
-  order = tt;
-  before = All-nil _;
-  each = All-nil _;
-  all = λ k lt. absurd (omega (arith, lt));
-})
+pub to-start : (w : PathPredicate) (ns : List (List ℕ)) (es : Entries) → es ≡ [] → AreEnteredTo w ns 0 es
+to-start w ns es none = rw none (record { order = omega arith; asked = λ k lt. absurd (omega (arith, lt)) })
 
-rising_push : (j : ℕ) (es : Entries) (i : ℕ) (v : FieldPathCursor) → j ≤ i → All (λ e. e.0 < i) es → RiseFrom j es → RiseFrom j (es ++ (i, v) ∷ [])
-rising_push j [] i v le before order = (le, tt)
-rising_push j (e ∷ es) i v le before order = (order.0, rising_push (e.0 + 1) es i v (let lt : e.0 < i = before 0 e (omega arith) in omega (arith, lt)) (λ k d lt. before (suc k) d (omega (arith, lt))) order.1)
-
-module _ (w : PathPredicate) (ns : List (List ℕ)) (i : ℕ) (m : List ℕ) (here : slice_get ns i ≡ Some m) (es : Entries) (old : IsEnteredTo w ns i es) where
-  further : All (λ e. e.0 < i + 1) es
-  further = λ k d lt. omega (arith, old.before k d lt)
-
+module _ (w : PathPredicate) (ns : List (List ℕ)) (i : ℕ) (m : List ℕ) (here : slice_get ns i ≡ Some m) (es : Entries) (old : AreEnteredTo w ns i es) where
   -- of the fields before the next one, by whether it is this one
-  up_to : {P : Type 0} (k : ℕ) → k < i + 1 → (k ≡ i → P) → (k < i → P) → P
-  up_to k lt same less = elim (cases_lt k i) [ inl l ↦ less l | inr le ↦ same (omega (arith, lt, le)) ]
+  up_to : {P : Type 0} (k : ℕ) → k < i + 1 → (k ≡ i → (k == i) ≡ true → P) → (k < i → (k == i) ≡ false → P) → P
+  up_to k lt same less = by_bool (k == i)
+      (λ y. same ((Decides-eqb k i).0 y) y)
+      (λ n. less (let ne = (Decides-eqb k i).1 in grind (arith, lt, n, ne)) n)
 
   -- nothing is entered at the position, where nothing is asked of it or the name is that of a field before it
-  pub to-passed : (Some i ≡ first_place ns m → after_step (Name m) w ≡ no_path) → IsEnteredTo w ns (i + 1) es
+  pub to-passed : (Some i ≡ first_place ns m → after_step (Name m) w ≡ no_path) → AreEnteredTo w ns (i + 1) es
   to-passed nothing = record {
-    order = old.order;
-    before = further;
-    each = old.each;
-    all = λ k lt. up_to k lt (λ is. inl (ap (asked_below w ns) is ∙ none)) (old.all k);
+    order = rise_on 0 i es old.order;
+    asked = λ k lt. up_to k lt (λ is _. rw (is, none_after 0 i i es old.order (omega arith)) (sym none)) (λ less _. old.asked k less);
   }
     where
       none : asked_below w ns i ≡ no_path
@@ -215,16 +206,20 @@ module _ (w : PathPredicate) (ns : List (List ℕ)) (i : ℕ) (m : List ℕ) (he
       ]
 
   -- the cursor is entered there
-  pub to-entered : (v : FieldPathCursor) (es' : Entries) → Some i ≡ first_place ns m → asks v ≡ after_step (Name m) w → es' ≡ es ++ (i, v) ∷ [] → IsEnteredTo w ns (i + 1) es'
-  to-entered v es' at is new = subst (IsEnteredTo w ns (i + 1)) (sym new) (record {
-    order = rising_push 0 es i v (omega arith) old.before old.order;
-    before = All-push (λ e. e.0 < i + 1) es (i, v) further (omega arith);
-    each = All-push (IsEntered w ns) es (i, v) old.each (is ∙ sym (asked_first ns w i m (first_of_place ns m i at)));
-    all = λ k lt. up_to k lt (λ same. settled_here w ns es i k v (sym same)) (λ less. settled_push w ns es (i, v) k (old.all k less));
+  pub to-entered : (v : FieldPathCursor) (es' : Entries) → Some i ≡ first_place ns m → asks v ≡ after_step (Name m) w → es' ≡ es ++ (i, v) ∷ [] → AreEnteredTo w ns (i + 1) es'
+  to-entered v es' at is new = rw new (record {
+    order = rise_push 0 i es v old.order;
+    asked = λ k lt. rw (lookup_push 0 i k es v old.order) (up_to k lt
+        (λ same y. rw (y, same) (is ∙ sym (asked_first ns w i m (first_of_place ns m i at))))
+        (λ less n. rw n (old.asked k less)));
   })
 
-pub to-end : (w : PathPredicate) (ns : List (List ℕ)) (i : ℕ) (es : Entries) → length ns ≤ i → IsEnteredTo w ns i es → AreEntered w ns es
+pub to-end : (w : PathPredicate) (ns : List (List ℕ)) (i : ℕ) (es : Entries) → i ≡ length ns → AreEnteredTo w ns i es → AreEntered w ns es
 to-end w ns i es end e = record {
-  each = e.each;
-  all = λ k. elim (asked_cases ns w k) [ inr none ↦ inl none | inl f ↦ e.all k (omega (arith, end, slice_get_within ns k f.0 f.1.here)) ];
+  order = subst (λ n. Rise 0 n es) end e.order;
+  asked = λ k. elim (cases_lt k i) [
+    | inl lt ↦ e.asked k lt
+    | inr le ↦ rw (none_after 0 i k es e.order le)
+        (elim (asked_cases ns w k) [ inr none ↦ sym none | inl f ↦ absurd (omega (arith, le, end, slice_get_within ns k f.0 f.1.here)) ])
+  ];
 }

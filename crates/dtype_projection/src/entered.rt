@@ -2,14 +2,14 @@
 // SPDX-FileCopyrightText: Copyright the Vortex contributors
 
 // The fields of a struct that paths step into.
-ghost use Rattle.std.specs.Prelude.{◌≡◌, ◌<◌, IfOk, IsTrue};
+ghost use Rattle.std.specs.Prelude.{◌≡◌, ◌<◌, [], IsTrue};
 ghost use Rattle.dtype_base.specs.Errors.{Makes};
 ghost use Rattle.dtype_types.specs.parts.Lookups.{field_names};
 ghost use Rattle.dtype_types.specs.tree.TreeOf.{children};
 ghost use Rattle.dtype_paths.specs.Cursors.{asks, asks_if};
 ghost use Rattle.dtype_paths.specs.PathPredicates.{after_step};
 ghost use Rattle.dtype_paths.specs.declared.field.Field.TheVariants.{Name};
-ghost use Rattle.dtype_projection.specs.private.Entered.{AreEntered, AreWhole, PositionsDiffer, RiseFrom};
+ghost use Rattle.dtype_projection.specs.private.Entered.{AreEntered, AreLookedUp, AreWhole};
 
 use dtype_base::{FieldName, VortexResult};
 use dtype_paths::{Field, FieldPathCursor};
@@ -24,8 +24,7 @@ pub(crate) fn entered_fields<'a>(
     fields: &StructFields,
     wanted: &FieldPathCursor<'a>,
 ) -> VortexResult<Vec<(usize, FieldPathCursor<'a>)>>
-    ensures ok { Makes result (λ m. AreEntered (asks wanted.now) (field_names (children fields.now)) m.items) }
-    ensures order { IfOk result (λ m. RiseFrom 0 m.items) }
+    ensures { Makes result (λ m. AreEntered (asks wanted.now) (field_names (children fields.now)) m.items) }
 {
     if fields.nfields() < wanted.name_count() {
         entered_by_fields(alloc, fields, wanted)
@@ -40,8 +39,7 @@ fn entered_by_names<'a>(
     fields: &StructFields,
     wanted: &FieldPathCursor<'a>,
 ) -> VortexResult<Vec<(usize, FieldPathCursor<'a>)>>
-    ensures ok { Makes result (λ m. AreEntered (asks wanted.now) (field_names (children fields.now)) m.items) }
-    ensures order { IfOk result (λ m. RiseFrom 0 m.items) }
+    ensures { Makes result (λ m. AreEntered (asks wanted.now) (field_names (children fields.now)) m.items) }
 {
     let mut entered = looked_up(alloc, fields, wanted)?;
     entered.sort_unstable_by_key(|entry| entry.0);
@@ -49,14 +47,12 @@ fn entered_by_names<'a>(
 }
 
 // The position of each field that paths step into, with the cursor after that step, in no order.
-#[tactic(auto, using(crate::proofs::EnteredFields::entering_end))]
 fn looked_up<'a>(
     alloc: Global,
     fields: &StructFields,
     wanted: &FieldPathCursor<'a>,
 ) -> VortexResult<Vec<(usize, FieldPathCursor<'a>)>>
-    ensures ok { Makes result (λ m. AreEntered (asks wanted.now) (field_names (children fields.now)) m.items) }
-    ensures once { IfOk result (λ m. PositionsDiffer m.items) }
+    ensures { Makes result (λ m. AreLookedUp (asks wanted.now) (field_names (children fields.now)) [] m.items) }
 {
     let mut entered = Vec::with_capacity(alloc, wanted.name_count())?;
     for (name, below) in wanted.names() {
@@ -74,8 +70,7 @@ fn entered_by_fields<'a>(
     fields: &StructFields,
     wanted: &FieldPathCursor<'a>,
 ) -> VortexResult<Vec<(usize, FieldPathCursor<'a>)>>
-    ensures ok { Makes result (λ m. AreEntered (asks wanted.now) (field_names (children fields.now)) m.items) }
-    ensures order { IfOk result (λ m. RiseFrom 0 m.items) }
+    ensures { Makes result (λ m. AreEntered (asks wanted.now) (field_names (children fields.now)) m.items) }
 {
     let names = fields.names().as_slice();
     let mut entered = Vec::with_capacity(alloc, names.len())?;

@@ -2,12 +2,14 @@
 -- SPDX-FileCopyrightText: Copyright the Vortex contributors
 
 -- What is asked of the fields of a struct, by their positions, and what is kept of such a field.
-use Rattle.std.specs.Prelude.{◌≡◌, ◌⊎◌, ⊤, ℕ, zero, suc, ◌+◌, ◌≤◌, ◌==◌, All, IsTrue, List, [], ◌∷◌, map, slice_get, Option, option_and_then}
-use Rattle.std.specs.List.{Contains, IsDistinct}
+use Rattle.std.specs.Prelude.{◌≡◌, ℕ, zero, suc, ◌+◌, ◌≤◌, ◌==◌, IsTrue, List, [], ◌∷◌, ◌++◌, length, map, slice_get, Option, option_and_then}
+use Rattle.std.specs.List.{filter_map}
+use Rattle.std.specs.Map.{lookup}
 use Rattle.std.specs.Option.{option_map}
+use Rattle.dtype_base.specs.FieldNames.{first_place}
 use Rattle.dtype_types.specs.tree.Tree.{Tree}
-use Rattle.dtype_paths.specs.Cursors.{asks}
-use Rattle.dtype_paths.specs.PathPredicates.{no_path}
+use Rattle.dtype_paths.specs.Cursors.{asks, asks_if}
+use Rattle.dtype_paths.specs.PathPredicates.{no_path, AreNames}
 use Rattle.dtype_paths.specs.declared.field.Field.TheVariants.{Name}
 use Rattle.dtype_paths.specs.declared.field_path_cursor.FieldPathCursor.{FieldPathCursor}
 use Rattle.dtype_projection.specs.Projected.{PathPredicate, after_step, without_field, projected}
@@ -16,14 +18,14 @@ use Rattle.dtype_projection.specs.Projected.{PathPredicate, after_step, without_
 abbrev pub Entries : Type 0
 Entries = List (ℕ × FieldPathCursor)
 
--- no two entries have one position
-abbrev pub PositionsDiffer : Entries → Type 0
-PositionsDiffer es = IsDistinct (λ j k. j == k) (map (λ e. e.0) es)
+-- what the cursor at a position asks for, and nothing where there is none
+abbrev pub asked_at : Entries → ℕ → PathPredicate
+asked_at es k = asks_if (lookup (λ j. k == j) es)
 
--- the positions rise, from i on
-abbrev pub RiseFrom : ℕ → Entries → Type 0
-RiseFrom i [] = ⊤
-RiseFrom i (e ∷ es) = (i ≤ e.0) × RiseFrom (e.0 + 1) es
+-- the positions rise, from i on, and are below n
+abbrev pub Rise : ℕ → ℕ → Entries → Type 0
+Rise i n [] = i ≤ n
+Rise i n (e ∷ es) = (i ≤ e.0) × Rise (e.0 + 1) n es
 
 -- what the paths w ask for below the field at the position k of these names: after a step into it, where it is the first
 -- of its name
@@ -32,18 +34,24 @@ asked_below w [] k = no_path
 asked_below w (n ∷ ns) zero = after_step (Name n) w
 asked_below w (n ∷ ns) (suc k) = asked_below (without_field n w) ns k
 
--- an entry's cursor asks for what the paths w ask for below the field at its position
-abbrev pub IsEntered : PathPredicate → List (List ℕ) → ℕ × FieldPathCursor → Type 0
-IsEntered w ns e = asks e.1 ≡ asked_below w ns e.0
-
--- the field at the position k is entered, or nothing is asked of it
-abbrev pub IsSettled : PathPredicate → List (List ℕ) → Entries → ℕ → Type 0
-IsSettled w ns es k = (asked_below w ns k ≡ no_path) ⊎ ((v : FieldPathCursor) × Contains es (k, v))
-
--- es are the fields that the paths w step into, with what is asked of each
+-- es are the fields that the paths w step into, in their order, with what is asked of each
 pub record AreEntered (w : PathPredicate) (ns : List (List ℕ)) (es : Entries) : Type 0 where
-  pub each : All (IsEntered w ns) es
-  pub all : (k : ℕ) → IsSettled w ns es k
+  pub order : Rise 0 (length ns) es
+  pub asked : (k : ℕ) → asked_at es k ≡ asked_below w ns k
+
+-- an entry, by what its cursor asks for
+abbrev pub shown : ℕ × FieldPathCursor → ℕ × PathPredicate
+shown e = (e.0, asks e.1)
+
+-- the first position of each of these names that is among ns, with what is asked for after the name
+abbrev pub placed : List (List ℕ) → List (List ℕ × PathPredicate) → List (ℕ × PathPredicate)
+placed ns names = filter_map (λ e. option_map (λ i. (i, e.1)) (first_place ns e.0)) names
+
+-- es are what the names are looked up to by which the paths w go on, but for those that are left
+pub record AreLookedUp (w : PathPredicate) (ns : List (List ℕ)) (left : List (List ℕ × PathPredicate)) (es : Entries) : Type 0 where
+  pub names : List (List ℕ × PathPredicate)
+  pub by_name : AreNames w names
+  pub found : map shown es ++ placed ns left ≡ placed ns names
 
 -- the positions are those from i to n, and each cursor is at an end
 abbrev pub AreWhole : ℕ → ℕ → Entries → Type 0

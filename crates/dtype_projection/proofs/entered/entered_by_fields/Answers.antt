@@ -35,8 +35,8 @@ loop-i-preserved c =
       | in_default v ↦ rw v.entered-is (to-passed w ns i m here old so_far (λ at. sym c.in_ok-below.ensures ∙ ap asks_if v.in_default.is))
     ]
 
-pub returns-clause-ok : goal.returns-clause-ok
-returns-clause-ok c =
+pub returns : goal.returns
+returns c =
     let ns = field_names (children c.args.fields.now) in
     let same = ap length (c.as_slice-names.ensures ∙ c.names.ensures) in
     to-end (asks c.args.wanted.now) ns c.loop-i.i c.loop-i.entered.items (omega (arith, c.loop-i-test.false, same)) c.loop-i.invariant

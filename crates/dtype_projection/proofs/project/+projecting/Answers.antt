@@ -24,7 +24,7 @@ project_element-returns-in-None t c = let element = tree c.args.element.now in s
 pub project_struct-returns-then-are_all_whole : goal.project_struct-returns-then-are_all_whole
 project_struct-returns-then-are_all_whole t c =
     let count = c.nfields.ensures in
-    struct_shared _ c.args.fields.now c.args.n (asks c.args.wanted.now) c.in_ok-entered.entered.items c.in_ok-try_clone.ensures c.in_ok-entered.ensures.ok
+    struct_shared _ c.args.fields.now c.args.n (asks c.args.wanted.now) c.in_ok-entered.entered.items c.in_ok-try_clone.ensures c.in_ok-entered.ensures
     (subst (AreWhole 0 (length (children c.args.fields.now))) c.deref.ensures.value (subst (λ k. AreWhole 0 k c.deref.result.now) count (c.are_all_whole.ensures.each c.if-are_all_whole.true)))
     (subst (λ k. 0 < k) count (c.are_all_whole.ensures.some c.if-are_all_whole.true))
 
@@ -34,7 +34,7 @@ project_struct-loop-position-init t c =
     record {
       kept = ap (λ z. zip z (map tree c.in_ok-dtypes.dtypes.items) ++ filter_map (kept_at fs) (into_iter_items c.into_iter-position-iterator.result)) c.in_ok-names.ensures.items
           ∙ ap (filter_map (kept_at fs)) c.into_iter-position-iterator.ensures.into_iter_gives.0
-          ∙ all_kept fs c.in_ok-entered.entered.items (asks c.args.wanted.now) c.in_ok-entered.ensures.order c.in_ok-entered.ensures.ok;
+          ∙ all_kept fs c.in_ok-entered.entered.items (asks c.args.wanted.now) c.in_ok-entered.ensures;
       even = search rules;
       names_fit = let given = c.into_iter-position-iterator.ensures.into_iter_gives.1 in omega (arith, given, c.in_ok-names.ensures.len, c.in_ok-names.ensures.capacity, c.len.ensures);
       dtypes_fit = let given = c.into_iter-position-iterator.ensures.into_iter_gives.1 in omega (arith, given, c.in_ok-dtypes.ensures.len, c.in_ok-dtypes.ensures.capacity, c.len-2.ensures);

@@ -41,10 +41,7 @@ mutual
   part_itself_fields (item n t _ fs) = inl (t, fs, refl, part_itself t, part_itself_fields fs)
 
 part_nullability : (t u : Tree) → IsPart t u → nullability u ≡ nullability t
-part_nullability (list t n) u p = ap nullability p.1
-part_nullability (fixed_size_list t k n) u p = ap nullability p.1
-part_nullability (struct fs n) u p = ap nullability p.1
-part_nullability t u p = ap nullability p
+part_nullability t u p = grind (arith, p)
 
 -- ---- parts of each other are equal, since a part has no more fields
 
@@ -88,16 +85,14 @@ first_of_part (item n t _ fs) gs m y (inr p) e =
 step_of_part : (t u z : Tree) (f : Field) → IsPart t u → step u f ≡ Some z → (x : Tree) × (step t f ≡ Some x) × IsPart x z
 step_of_part (list t n) u z f p s = grind (arith, p, s)
 step_of_part (fixed_size_list t k n) u z f p s = grind (arith, p, s)
-step_of_part (struct fs n) u z (Name m) p s = first_of_part fs p.0 m z p.2 (sym (ap (λ v. step v (Name m)) p.1) ∙ s)
-step_of_part (struct fs n) u z ElementType p s = let q : None ≡ Some z = sym (ap (λ v. step v ElementType) p.1) ∙ s in cc
-step_of_part t u z f p s = (z, sym (ap (λ v. step v f) p) ∙ s, part_itself z)
+step_of_part (struct fs n) u z (Name m) p s = grind (arith, p, s, first_of_part fs)
+step_of_part t u z f p s = grind (arith, p, s, part_itself)
 
 pub path_of_part : (t u y : Tree) (q : List Field) → IsPart t u → At u q y → (x : Tree) × At t q x × IsPart x y
-path_of_part t u y [] p a = (t, refl, subst (IsPart t) a p)
+path_of_part t u y [] p a = (t, refl, rw (← a) p)
 path_of_part t u y (f ∷ q) p a =
     let s = step_of_part t u a.0 f p a.1 in
-    let r = path_of_part s.0 a.0 y q s.2 a.2 in
-    (r.0, (s.0, s.1, r.1), r.2)
+    grind (arith, s, path_of_part s.0 a.0 y q s.2 a.2)
 
 -- ---- the projection is a part
 
@@ -139,10 +134,10 @@ without_both m n w (f ∷ p) = by_bool (same_field (Name n) f)
 
 without_absent : (n : List ℕ) (gs : Fields) (w : PathPredicate) → first_named (pairs gs) n ≡ None → projected_fields gs (without_field n w) ≡ projected_fields gs w
 without_absent n no_items w none = refl
-without_absent n (item m t _ gs) w none = by_name m n
-    (λ e. let q : None ≡ Some t = sym none ∙ ap (first_named (pairs (field m t gs))) (sym e) ∙ named_itself m t gs in absurd (cc))
-    (λ ne i. prepend_kept m (projected t (after_without_other n m w (λ e. ne (sym e)) i))
-    ((ap (projected_fields gs) (λ j p. without_both m n w p j) ∙ without_absent n gs (without_field m w) (sym (named_first m n t gs ne) ∙ none)) i))
+without_absent n (item m t _ gs) w none =
+    let both : without_field m (without_field n w) ≡ without_field n (without_field m w) = λ i p. without_both m n w p i in by_name m n
+    (λ e. absurd (let q = named_itself m t gs in grind (arith, e, none, q)))
+    (λ ne. grind (arith, none, after_without_other n m w (λ e. ne (sym e)), both, without_absent n gs (without_field m w), named_first m n t gs ne))
 
 -- where a path ends at the type itself the part is the type
 or_whole : (t x : Tree) (w : PathPredicate) → HasPaths t w x → (w [] ≡ false → projected x w ≡ projected t w) → projected x w ≡ projected t w
@@ -151,34 +146,24 @@ or_whole t x w h below = by_bool (w []) (λ root. kept_root x w root ∙ h [] ro
 mutual
   projected_part : (t x : Tree) (w : PathPredicate) → IsPart t x → HasPaths t w x → projected x w ≡ projected t w
   projected_part (list t n) x w p h = or_whole (list t n) x w h (λ root.
-      let on = projected_part t p.0 (after_step ElementType w) p.2 (λ q b. sym (ap (λ z. along z (ElementType ∷ q)) p.1) ∙ h (ElementType ∷ q) b) in
-      ap (λ z. projected z w) p.1 ∙ rw root (ap (option_map (λ u. list u n)) on))
+      grind (arith, root, p, projected_part t p.0 (after_step ElementType w) p.2 (λ q b. rw p.1 at (h (ElementType ∷ q) b))))
   projected_part (fixed_size_list t k n) x w p h = or_whole (fixed_size_list t k n) x w h (λ root.
-      let on = projected_part t p.0 (after_step ElementType w) p.2 (λ q b. sym (ap (λ z. along z (ElementType ∷ q)) p.1) ∙ h (ElementType ∷ q) b) in
-      ap (λ z. projected z w) p.1 ∙ rw root (ap (option_map (λ u. fixed_size_list u k n)) on))
+      grind (arith, root, p, projected_part t p.0 (after_step ElementType w) p.2 (λ q b. rw p.1 at (h (ElementType ∷ q) b))))
   projected_part (struct fs n) x w p h = or_whole (struct fs n) x w h (λ root.
-      let on = projected_part_fields fs p.0 w p.2 (λ m q b. sym (ap (λ z. along z (Name m ∷ q)) p.1) ∙ h (Name m ∷ q) b) in
-      ap (λ z. projected z w) p.1 ∙ rw root (ap (struct_with n) on))
+      grind (arith, root, p, projected_part_fields fs p.0 w p.2 (λ m q b. rw p.1 at (h (Name m ∷ q) b))))
   projected_part t x w p h = ap (λ z. projected z w) p
 
   projected_part_fields : (fs gs : Fields) (w : PathPredicate) → IsPartOfFields fs gs → HasFieldPaths fs w gs → projected_fields gs w ≡ projected_fields fs w
   projected_part_fields no_items gs w p h = ap (λ hs. projected_fields hs w) p
   projected_part_fields (item n t _ fs) gs w (inl p) h =
-      let on = projected_part t p.0 (after_step (Name n) w) p.3 (λ q b.
-      sym (ap (option_and_then (λ z. along z q)) (ap (λ ks. first_named (pairs ks) n) p.2 ∙ named_itself n p.0 p.1))
-      ∙ h n q b
-      ∙ ap (option_and_then (λ z. along z q)) (named_itself n t fs)) in
-      let later = projected_part_fields fs p.1 (without_field n w) p.4 (has_later n t fs gs p.1 w (λ m ne. ap (λ ks. first_named (pairs ks) m) p.2 ∙ named_first n m p.0 p.1 ne) h) in
-      ap (λ hs. projected_fields hs w) p.2 ∙ (λ i. prepend_kept n (on i) (later i))
+      let same : HasFieldPaths (field n t fs) w (field n p.0 p.1) = rw p.2 at h in
+      let on = projected_part t p.0 (after_step (Name n) w) p.3 (λ q b. rw (named_itself n p.0 p.1, named_itself n t fs) at (same n q b)) in
+      let later = projected_part_fields fs p.1 (without_field n w) p.4 (has_later n t fs (field n p.0 p.1) p.1 w (λ m ne. named_first n m p.0 p.1 ne) same) in
+      rw p.2 (λ i. prepend_kept n (on i) (later i))
   projected_part_fields (item n t _ fs) gs w (inr p) h =
       let none = by_option (projected t (after_step (Name n) w)) (λ e. e) (λ x is.
       let l = kept_has_path t x (after_step (Name n) w) is in
-      let q : None ≡ Some l.exists.found =
-      sym (ap (option_and_then (λ z. along z l.path)) p.1)
-      ∙ h n l.path l.holds
-      ∙ ap (option_and_then (λ z. along z l.path)) (named_itself n t fs)
-      ∙ At-along t l.path l.exists.found l.exists.at in
-      absurd (cc)) in
+      absurd (let there = At-along t l.path l.exists.found l.exists.at in grind (arith, p.1, h n l.path l.holds, named_itself n t fs, there))) in
       sym (without_absent n gs w p.1)
       ∙ projected_part_fields fs gs (without_field n w) p.0 (has_later n t fs gs gs w (λ m ne. refl) h)
       ∙ ap (λ o. prepend_kept n o (projected_fields fs (without_field n w))) (sym none)

@@ -62,8 +62,7 @@ with_is n no_items u e = cc
 with_is n (item m t _ gs) u e = same_Some _ u e
 
 mapped : (o : Option Tree) (g : Tree → Tree) (u : Tree) → option_map g o ≡ Some u → (x : Tree) × (o ≡ Some x) × (g x ≡ u)
-mapped None g u e = cc
-mapped (Some x) g u e = (x, refl, same_Some (g x) u e)
+mapped o g u e = grind (arith, e)
 
 -- ---- one walk for all that holds of each projection
 
@@ -78,29 +77,30 @@ pub record ByKind (P : Tree → PathPredicate → Tree → Type 0) (Q : Fields �
   pub left : (n : List ℕ) (t : Tree) (fs gs : Fields) (w : PathPredicate) → projected t (after_step (Name n) w) ≡ None → gs ≡ projected_fields fs (without_field n w) → Q fs (without_field n w) gs → Q (field n t fs) w gs
 
 module _ (P : Tree → PathPredicate → Tree → Type 0) (Q : Fields → PathPredicate → Fields → Type 0) (s : ByKind P Q) where
+  -- by whether the type is kept whole
+  by_root : (t u : Tree) (w : PathPredicate) → projected t w ≡ Some u → (w [] ≡ false → P t w u) → P t w u
+  by_root t u w e below = by_bool (w []) (λ root. subst (P t w) (whole_kept t u w root e) (s.whole t w root)) below
+
   mutual
     pub each_projection : (t u : Tree) (w : PathPredicate) → projected t w ≡ Some u → P t w u
-    each_projection (list t n) u w e = by_bool (w [])
-        (λ root. subst (P (list t n) w) (whole_kept (list t n) u w root e) (s.whole (list t n) w root))
-        (λ root. let x = mapped (projected t (after_step ElementType w)) (λ y. list y n) u (rw root at e) in
-        subst (P (list t n) w) x.2 (s.in_list t x.0 n w root (each_projection t x.0 (after_step ElementType w) x.1)))
-    each_projection (fixed_size_list t k n) u w e = by_bool (w [])
-        (λ root. subst (P (fixed_size_list t k n) w) (whole_kept (fixed_size_list t k n) u w root e) (s.whole (fixed_size_list t k n) w root))
-        (λ root. let x = mapped (projected t (after_step ElementType w)) (λ y. fixed_size_list y k n) u (rw root at e) in
-        subst (P (fixed_size_list t k n) w) x.2 (s.in_fixed t x.0 k n w root (each_projection t x.0 (after_step ElementType w) x.1)))
-    each_projection (struct fs n) u w e = by_bool (w [])
-        (λ root. subst (P (struct fs n) w) (whole_kept (struct fs n) u w root e) (s.whole (struct fs n) w root))
-        (λ root. let with : struct_with n (projected_fields fs w) ≡ Some u = rw root at e in
+    each_projection (list t n) u w e = by_root (list t n) u w e (λ root.
+        let x = mapped (projected t (after_step ElementType w)) (λ y. list y n) u (rw root at e) in
+        rw (← x.2) (s.in_list t x.0 n w root (each_projection t x.0 (after_step ElementType w) x.1)))
+    each_projection (fixed_size_list t k n) u w e = by_root (fixed_size_list t k n) u w e (λ root.
+        let x = mapped (projected t (after_step ElementType w)) (λ y. fixed_size_list y k n) u (rw root at e) in
+        rw (← x.2) (s.in_fixed t x.0 k n w root (each_projection t x.0 (after_step ElementType w) x.1)))
+    each_projection (struct fs n) u w e = by_root (struct fs n) u w e (λ root.
+        let with : struct_with n (projected_fields fs w) ≡ Some u = rw root at e in
         subst (P (struct fs n) w) (with_is n (projected_fields fs w) u with) (s.in_struct fs (projected_fields fs w) n w root (λ none. let q = sym (ap (struct_with n) none) ∙ with in cc) (each_fields fs w)))
-    each_projection t u w e = by_bool (w []) (λ root. subst (P t w) (whole_kept t u w root e) (s.whole t w root)) (λ root. let q = rw root at e in cc)
+    each_projection t u w e = by_root t u w e (λ root. let q = rw root at e in cc)
 
     each_fields : (fs : Fields) (w : PathPredicate) → Q fs w (projected_fields fs w)
     each_fields no_items w = s.none w
     each_fields (item n t _ rest) w =
-        let gs = projected_fields rest (without_field n w) in
+        let later = each_fields rest (without_field n w) in
         by_option (projected t (after_step (Name n) w))
-        (λ none. subst (λ o. Q (field n t rest) w (prepend_kept n o gs)) (sym none) (s.left n t rest gs w none refl (each_fields rest (without_field n w))))
-        (λ x is. subst (λ o. Q (field n t rest) w (prepend_kept n o gs)) (sym is) (s.kept n t x rest gs w is (each_projection t x (after_step (Name n) w) is) (each_fields rest (without_field n w))))
+        (λ none. rw none (s.left n t rest _ w none refl later))
+        (λ x is. rw is (s.kept n t x rest _ w is (each_projection t x (after_step (Name n) w) is) later))
 
 -- ---- something is kept exactly where a path of w exists
 
@@ -145,27 +145,19 @@ projected_nothing t = by_option (projected t no_path) (λ e. e) (λ u is. let l 
 
 -- ---- fields by name
 
-none_then : (o : Option Tree) → option_and_then (λ x. projected x no_path) o ≡ None
-none_then None = refl
-none_then (Some x) = projected_nothing x
-
-first_here : (n : List ℕ) (o : Option Tree) (gs : Fields) → first_named (pairs gs) n ≡ None → first_named (pairs (prepend_kept n o gs)) n ≡ o
-first_here n None gs none = none
-first_here n (Some u) gs none = named_itself n u gs
-
 first_there : (n m : List ℕ) (o : Option Tree) (gs : Fields) → n ≢ m → first_named (pairs (prepend_kept n o gs)) m ≡ first_named (pairs gs) m
 first_there n m None gs ne = refl
 first_there n m (Some u) gs ne = named_first n m u gs ne
 
 -- the name of a field that is left out is absent
 absent : (n : List ℕ) (rest : Fields) (w : PathPredicate) → first_named (pairs (projected_fields rest (without_field n w))) n ≡ option_and_then (λ x. projected x (after_step (Name n) (without_field n w))) (first_named (pairs rest) n) → first_named (pairs (projected_fields rest (without_field n w))) n ≡ None
-absent n rest w e = e ∙ ap (λ v. option_and_then (λ x. projected x v) (first_named (pairs rest) n)) (after_without_same n w) ∙ none_then (first_named (pairs rest) n)
+absent n rest w e = grind (arith, e, after_without_same n w, projected_nothing)
 
 -- by a name the projection has the projection of the first field of that name
 pub first_kept : (fs : Fields) (w : PathPredicate) (m : List ℕ) → first_named (pairs (projected_fields fs w)) m ≡ option_and_then (λ x. projected x (after_step (Name m) w)) (first_named (pairs fs) m)
 first_kept no_items w m = refl
 first_kept (item n t _ rest) w m = by_name n m
-    (λ e. grind (arith, e, absent n rest w (first_kept rest (without_field n w) n), named_itself n t rest, first_here n (projected t (after_step (Name n) w)) (projected_fields rest (without_field n w))))
+    (λ e. grind (arith, e, absent n rest w (first_kept rest (without_field n w) n), named_itself n))
     (λ ne. grind (arith, first_there n m (projected t (after_step (Name n) w)) (projected_fields rest (without_field n w)) ne, first_kept rest (without_field n w) m, after_without_other n m w ne, named_first n m t rest ne))
 
 pub absent_kept : (n : List ℕ) (rest : Fields) (w : PathPredicate) → first_named (pairs (projected_fields rest (without_field n w))) n ≡ None
@@ -179,10 +171,8 @@ struct_step n no_items ElementType = refl
 struct_step n (item m t _ gs) f = refl
 
 steps_kept : (t : Tree) (w : PathPredicate) (f : Field) → w [] ≡ false → option_and_then (λ u. step u f) (projected t w) ≡ option_and_then (λ x. projected x (after_step f w)) (step t f)
-steps_kept (list t n) w ElementType root = rw root (by_option (projected t (after_step ElementType w)) (λ e. rw e refl) (λ x e. rw e refl))
-steps_kept (list t n) w (Name m) root = rw root (by_option (projected t (after_step ElementType w)) (λ e. rw e refl) (λ x e. rw e refl))
-steps_kept (fixed_size_list t k n) w ElementType root = rw root (by_option (projected t (after_step ElementType w)) (λ e. rw e refl) (λ x e. rw e refl))
-steps_kept (fixed_size_list t k n) w (Name m) root = rw root (by_option (projected t (after_step ElementType w)) (λ e. rw e refl) (λ x e. rw e refl))
+steps_kept (list t n) w f root = grind (arith, root)
+steps_kept (fixed_size_list t k n) w f root = grind (arith, root)
 steps_kept (struct fs n) w ElementType root = rw root (struct_step n (projected_fields fs w) ElementType)
 steps_kept (struct fs n) w (Name m) root = rw root (struct_step n (projected_fields fs w) (Name m) ∙ first_kept fs w m)
 steps_kept _ w f root = rw root refl
@@ -208,8 +198,7 @@ kept_exactly t w = (
 -- ---- what the projection has along a path
 
 steps_join : {A B C : Type 0} (o : Option A) (h : A → Option B) (g : B → Option C) → option_and_then g (option_and_then h o) ≡ option_and_then (λ x. option_and_then g (h x)) o
-steps_join None h g = refl
-steps_join (Some x) h g = refl
+steps_join o h g = grind (arith)
 
 -- after the first step
 pub along_step : (t : Tree) (w : PathPredicate) (f : Field) (p : List Field) → w [] ≡ false → option_and_then (λ u. along u (f ∷ p)) (projected t w) ≡ option_and_then (λ x. option_and_then (λ u. along u p) (projected x (after_step f w))) (step t f)

@@ -39,35 +39,20 @@ count_each g no_values = refl
 count_each g (value v vs) = ap suc (count_each g vs)
 
 of_list : (t u : Tree) (n : Nullability) (g : Value → Value) (v : Value) → ((x : Value) → Of x t → Of (g x) u) → Of v (list t n) → Of (each_item g v) (list u n)
-of_list t u n g null_value on h = h
-of_list t u n g (items vs) on h = of_each t u g vs on h
-of_list t u n g _ on h = absurd h
+of_list t u n g v on h = grind (arith, on, h, of_each t u g)
 
 of_fixed : (t u : Tree) (k : ℕ) (n : Nullability) (g : Value → Value) (v : Value) → ((x : Value) → Of x t → Of (g x) u) → Of v (fixed_size_list t k n) → Of (each_item g v) (fixed_size_list u k n)
-of_fixed t u k n g null_value on h = h
-of_fixed t u k n g (fixed_items vs) on h = (count_each g vs ∙ h.0, of_each t u g vs on h.1)
-of_fixed t u k n g _ on h = absurd h
-
-of_record : (fs gs : Fields) (n : Nullability) (g : Named → Named) (v : Value) → ((nvs : Named) → NamedOf nvs fs → NamedOf (g nvs) gs) → Of v (struct fs n) → Of (in_record g v) (struct gs n)
-of_record fs gs n g null_value on h = h
-of_record fs gs n g (record_of nvs) on h = on nvs h
-of_record fs gs n g _ on h = absurd h
-
--- the pairs from that of a field on, of which o is kept
-of_pairs : (n : List ℕ) (t : Tree) (o : Option Tree) (fs gs : Fields) (w : PathPredicate) → projected t (after_step (Name n) w) ≡ o → IfSome o (λ x. (v : Value) → Of v t → Of (restricted t (after_step (Name n) w) v) x)
-    → ((nvs : Named) → NamedOf nvs fs → NamedOf (restricted_pairs fs (without_field n w) nvs) gs) → (nvs : Named) → NamedOf nvs (field n t fs) → NamedOf (restricted_pairs (field n t fs) w nvs) (prepend_kept n o gs)
-of_pairs n t o fs gs w is on later no_named h = absurd h
-of_pairs n t o fs gs w is on later (named m v more) h = grind (arith, is, on, later more, h)
+of_fixed t u k n g v on h = grind (arith, on, h, of_each t u g, count_each g)
 
 pub of_restricted : (t u : Tree) (w : PathPredicate) → projected t w ≡ Some u → (v : Value) → Of v t → Of (restricted t w v) u
 of_restricted = each_projection (λ t w u. (v : Value) → Of v t → Of (restricted t w v) u) (λ fs w gs. (nvs : Named) → NamedOf nvs fs → NamedOf (restricted_pairs fs w nvs) gs) (record {
-  whole = λ t w root v h. subst (λ z. Of z t) (sym (restricted_root t w v root)) h;
+  whole = λ t w root v h. grind (arith, root, h);
   in_list = λ t x n w root on v h. rw root (of_list t x n (restricted t (after_step ElementType w)) v on h);
   in_fixed = λ t x k n w root on v h. rw root (of_fixed t x k n (restricted t (after_step ElementType w)) v on h);
-  in_struct = λ fs gs n w root some on v h. rw root (of_record fs gs n (restricted_pairs fs w) v on h);
+  in_struct = λ fs gs n w root some on v h. grind (arith, root, on, h);
   none = λ w nvs h. h;
-  kept = λ n t x fs gs w is on later. of_pairs n t (Some x) fs gs w is on later;
-  left = λ n t fs gs w none is later. of_pairs n t None fs gs w none tt later;
+  kept = λ n t x fs gs w is on later nvs h. grind (arith, is, on, later, h);
+  left = λ n t fs gs w none is later nvs h. grind (arith, none, later, h);
 })
 
 -- ---- each value of the projection is a restricted value
@@ -137,8 +122,7 @@ found_first : (o p : Option Value) (v r : Value) (q : List Field) (x : Value) �
 found_first o p v r q x a b on = grind (arith, a, b, on)
 
 past_pair : (k m : List ℕ) (o : Option Tree) (v : Value) (more : Named) → k ≢ m → first_value (prepend_pair k o v more) m ≡ first_value more m
-past_pair k m None v more ne = refl
-past_pair k m (Some u) v more ne = other_name k m _ _ ne
+past_pair k m o v more ne = grind (arith, other_name, ne)
 
 found_pairs : (fs : Fields) (w : PathPredicate) (nvs : Named) (m : List ℕ) (c u : Tree) (q : List Field) (x : Value) → ((y : Value) → Of y c → Found y q x ↔ Found (restricted c (after_step (Name m) w) y) q x)
     → first_named (pairs fs) m ≡ Some c → projected c (after_step (Name m) w) ≡ Some u → NamedOf nvs fs → Found (record_of nvs) (Name m ∷ q) x ↔ Found (record_of (restricted_pairs fs w nvs)) (Name m ∷ q) x
@@ -147,21 +131,17 @@ found_pairs (item n t _ rest) w no_named m c u q x on e is h = absurd h
 found_pairs (item n t _ rest) w (named k v more) m c u q x on e is h = by_name n m
     (λ nm.
     let tc : t ≡ c = same_Some t c (sym (ap (first_named (pairs (field n t rest))) (sym nm) ∙ named_itself n t rest) ∙ e) in
-    let kept : projected t (after_step (Name n) w) ≡ Some u = (λ i. projected (tc i) (after_step (Name (nm i)) w)) ∙ is in
     found_first _ _ v (restricted c (after_step (Name m) w) v) q x
     (taken_same_name k m _ _ (h.0 ∙ nm))
-    (ap (λ o. first_value (prepend_pair k o (restricted t (after_step (Name n) w) v) (restricted_pairs rest (without_field n w) more)) m) kept
-    ∙ taken_same_name k m _ _ (h.0 ∙ nm)
-    ∙ (λ i. Some (restricted (tc i) (after_step (Name (nm i)) w) v)))
+    (rw (tc, nm, is) (taken_same_name k m _ _ (h.0 ∙ nm)))
     (on v (subst (Of v) tc h.1)))
     (λ ne.
     let km = λ (same : k ≡ m). ne (sym h.0 ∙ same) in
     let same : after_step (Name m) (without_field n w) ≡ after_step (Name m) w = after_without_other n m w ne in
-    let later = found_pairs rest (without_field n w) more m c u q x (subst (λ z. (y : Value) → Of y c → Found y q x ↔ Found (restricted c z y) q x) (sym same) on)
-    (sym (named_first n m t rest ne) ∙ e) (ap (projected c) same ∙ is) h.2 in
+    let later = found_pairs rest (without_field n w) more m c u q x (rw same on) (sym (named_first n m t rest ne) ∙ e) (rw same is) h.2 in
     let past : first_value (named k v more) m ≡ first_value more m = other_name k m _ _ km in
     let over = past_pair k m (projected t (after_step (Name n) w)) (restricted t (after_step (Name n) w) v) (restricted_pairs rest (without_field n w) more) km in
-    (λ f. let r = later.0 (f.0, sym past ∙ f.1, f.2) in (r.0, over ∙ r.1, r.2), λ f. let r = later.1 (f.0, sym over ∙ f.1, f.2) in (r.0, past ∙ r.1, r.2)))
+    rw (past, over) later)
 
 -- one step down
 found_step : (t : Tree) (f : Field) (y u : Tree) (w : PathPredicate) (q : List Field) (v x : Value) → w [] ≡ false → step t f ≡ Some y → projected y (after_step f w) ≡ Some u
@@ -179,9 +159,9 @@ found_step _ f y u w q v x root at is on h = cc
 
 -- at and below a path of w that exists in the type the same is found in the value and in its restriction
 pub found_kept : (p r : List Field) (t z : Tree) (w : PathPredicate) (v x : Value) → w p ≡ true → At t p z → Of v t → Found v (p ++ r) x ↔ Found (restricted t w v) (p ++ r) x
-found_kept [] r t z w v x is a h = subst (λ y. Found v r x ↔ Found y r x) (sym (restricted_root t w v is)) (λ f. f, λ f. f)
+found_kept [] r t z w v x is a h = rw (restricted_root t w v is) (λ f. f, λ f. f)
 found_kept (f ∷ p) r t z w v x is a h = by_bool (w [])
-    (λ root. subst (λ y. Found v ((f ∷ p) ++ r) x ↔ Found y ((f ∷ p) ++ r) x) (sym (restricted_root t w v root)) (λ g. g, λ g. g))
+    (λ root. rw (restricted_root t w v root) (λ g. g, λ g. g))
     (λ root. let u = path_is_kept p a.0 z (after_step f w) is a.2 in
     found_step t f a.0 u.0 w (p ++ r) v x root a.1 u.1 (λ y at b o. found_kept p r y z (after_step f w) b x is (subst (λ k. At k p z) (same_Some a.0 y (sym a.1 ∙ at)) a.2) o) h)
 

@@ -76,12 +76,9 @@ pub copied_more : (before rest old new all : List (Field × ℕ)) (k copy : Fiel
 copied_more before rest old new all k copy v is so_far same put =
     let c = rw is at so_far in record {
       once = IsDistinct-tail same_field k (keys_of rest) c.once;
-      leads = λ f. by_bool (same_field k f)
-          (λ y.
-          let key : f ≡ k = (same_field-Decides f k).0 (same_field_equiv.symm f k ∙ y) in
+      leads = λ f.
           let none = lookup-none (same_field k) rest (none_past_head same_field_equiv k (k, v) rest c.once (same_field_equiv.refl k)) in
-          rw (key, put k, same, none, same_field_equiv.refl k) (let led = c.leads k in rw (same_field_equiv.refl k) at led))
-          (λ n. rw (put f, same, n) (let led = c.leads f in rw (same_field_equiv.symm f k ∙ n) at led));
+          grind (arith, put f, same, none, c.leads f, same_field_equiv.symm k f, (same_field-Decides k f).0, same_field_equiv.refl k);
     }
 
 -- ---- where the step of a child leads that is found by its key

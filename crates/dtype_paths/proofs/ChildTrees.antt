@@ -2,7 +2,7 @@
 -- SPDX-FileCopyrightText: Copyright the Vortex contributors
 
 -- Many children in two maps: what is looked up in either, and that one more step keeps them so.
-use Rattle.std.proofs.Common.{ℕ, ◌≡◌, ◌≢◌, ◌⊎◌, ◌∙◌, Decides, is_some, true, false, cond, Equal, List, ◌++◌, Option, Some, None, inl, inr, refl, sym, ap, subst, ⊎_elim}
+use Rattle.std.proofs.Common.{ℕ, ◌≡◌, ◌≢◌, ◌⊎◌, ◌∙◌, Decides, is_some, true, cond, Equal, List, ◌++◌, Option, Some, None, inl, inr, refl, sym, ap, subst, arith, ⊎_elim}
 use Rattle.std.specs.BTreeMap.{is_at}
 use Rattle.std.specs.Cmp.{Equal-is, tied_itself, nat_cmp_total}
 use Rattle.std.specs.FinSet.{nat_cmp-IsAntisymmetric}
@@ -134,14 +134,9 @@ module _ (by_key : List (ℕ × (Field × ℕ))) (by_step : List (Field × ℕ))
 
     pub led_more_by_step : (s : List (Field × ℕ)) → steps_in by_key by_step ≡ s → (f : Field) → lookup (same_field f) (steps_in by_key new) ≡ cond (same_field x f) (Some node_index) (lookup (same_field f) s)
     led_more_by_step s is f =
-        leads by_key new more_by_step f
-        ∙ by_bool (same_field x f)
-        (λ y.
-        let none : led_by f (at_key by_key (step_key f)) ≡ None = subst (λ g. led_by g (at_key by_key (step_key g)) ≡ None) ((same_field-Decides x f).0 y)
-        (taken_by by_key x taken) in
-        rw (none, put_same f, y) refl)
-        (λ n. rw (put_same f, n) (sym (leads by_key by_step t f)))
-        ∙ ap (λ es. cond (same_field x f) (Some node_index) (lookup (same_field f) es)) is
+        let none : same_field x f ≡ true → led_by f (at_key by_key (step_key f)) ≡ None =
+        λ y. subst (λ g. led_by g (at_key by_key (step_key g)) ≡ None) ((same_field-Decides x f).0 y) (taken_by by_key x taken) in
+        grind (arith, leads by_key new more_by_step f, leads by_key by_step t f, put_same f, none, is)
 
   -- at its key, where no other step is
   module _ (new : List (ℕ × (Field × ℕ))) (key : ℕ) (own : key ≡ step_key x) (free : IsFirst by_key x) (sorted : IsStrictlySortedBy nat_cmp (keys_of new))
@@ -170,19 +165,12 @@ module _ (by_key : List (ℕ × (Field × ℕ))) (by_step : List (Field × ℕ))
     }
 
     led_new : (f : Field) → led_by f (at_key new (step_key f)) ≡ cond (same_field x f) (Some node_index) (led_by f (at_key by_key (step_key f)))
-    led_new f = ⊎_elim
-        (λ a. by_bool (same_field x f)
-        (λ y. rw (a.1, same_field_equiv.symm f x, y) refl)
-        (λ n.
-        let none : led_by f (at_key by_key (step_key f)) ≡ None = by_option (at_key by_key (step_key f)) (λ e. rw e refl) (λ v e.
-        let other : same_field f v.0 ≡ false = sym (ap (same_field f) (a.2 v e)) ∙ same_field_equiv.symm f x ∙ n in rw (e, other) refl) in
-        rw (a.1, none, same_field_equiv.symm f x, n) refl))
-        (λ a. by_bool (same_field x f) (λ y. absurd (a.0 (ap step_key ((same_field-Decides x f).0 y)))) (λ n. rw (a.1, n) refl))
-        (at (step_key f))
+    led_new f = elim (at (step_key f)) [
+      | inl a ↦ by_option (at_key by_key (step_key f))
+          (λ none. grind (arith, a.1, none, same_field_equiv.symm f x))
+          (λ v e. grind (arith, a.1, e, a.2 v e, same_field_equiv.symm f x))
+      | inr a ↦ by_bool (same_field x f) (λ y. absurd (a.0 (ap step_key ((same_field-Decides x f).0 y)))) (λ n. rw (a.1, n) refl)
+    ]
 
     pub led_more_by_key : (s : List (Field × ℕ)) → steps_in by_key by_step ≡ s → (f : Field) → lookup (same_field f) (steps_in new by_step) ≡ cond (same_field x f) (Some node_index) (lookup (same_field f) s)
-    led_more_by_key s is f =
-        leads new by_step more_by_key f
-        ∙ ap (λ o. option_or o (lookup (same_field f) by_step)) (led_new f)
-        ∙ by_bool (same_field x f) (λ y. rw y refl) (λ n. rw n (sym (leads by_key by_step t f)))
-        ∙ ap (λ es. cond (same_field x f) (Some node_index) (lookup (same_field f) es)) is
+    led_more_by_key s is f = grind (arith, leads new by_step more_by_key f, leads by_key by_step t f, led_new f, is)

@@ -42,10 +42,9 @@ chain-last path (f ∷ rest) m = chain-last path rest (m + 1)
 
 -- no path ends in it but at its last node
 chain-ends : (path rest : List Field) (m k : ℕ) (q : List Field) → terminal_at (chain path m rest) k ≡ Some q → (k ≡ length rest) × (q ≡ path)
-chain-ends path [] m zero q e = (refl, sym (same_Some path q e))
-chain-ends path [] m (suc k) q e = cc
+chain-ends path [] m k q e = grind (arith, e)
 chain-ends path (f ∷ rest) m zero q e = cc
-chain-ends path (f ∷ rest) m (suc k) q e = let w = chain-ends path rest (m + 1) k q e in (ap suc w.0, w.1)
+chain-ends path (f ∷ rest) m (suc k) q e = grind (arith, e, chain-ends path rest (m + 1) k q)
 
 chain-leads : (child : ℕ → Field → Option ℕ) (path rest : List Field) (m : ℕ)
     → ((i k : ℕ) (f : Field) → i ≡ m + k → child i f ≡ child_at (chain path m rest) k f) → Leads child m rest
@@ -54,11 +53,7 @@ chain-leads child path [] m h = λ f j e. let z : None ≡ Some j = sym (h m 0 f
 chain-leads child path (x ∷ rest) m h =
     let at = λ (f : Field). h m 0 f (omega arith) in (
       at x ∙ rw ((same_field-Decides x x).1 refl) refl,
-      λ f j e.
-          let z = sym (at f) ∙ e in
-          by_bool (same_field f x)
-          (λ s. let q : Some (m + 1) ≡ Some j = rw s at z in ((same_field-Decides f x).0 s, sym (same_Some (m + 1) j q)))
-          (λ s. let q : None ≡ Some j = rw s at z in absurd (cc)),
+      λ f j e. grind (arith, at f, e, (same_field-Decides f x).0),
       chain-leads child path rest (m + 1) (λ i k f is. h i (suc k) f (omega (arith, is))),
     )
 
@@ -178,19 +173,9 @@ module _ (old ns new : List Node) (path parts : List Field) (here : ℕ) (trie :
 
   terminals-finished : Ends (terminal_at old) (terminal_at new) here path
   terminals-finished = record {
-    kept = λ i q e.
-        by_bool (i == here)
-        (λ b.
-        let is : i ≡ here = (Decides-eqb i here).0 b in
-        let w : walk (child_at old) 0 q ≡ Some here = trie.ends_where_it_leads i q e ∙ ap Some is in
-        let same = trie.once path q here walked w in
-        finish i ∙ rw b (ap Some same))
-        (λ b. finish i ∙ rw b e);
+    kept = λ i q e. let led = trie.ends_where_it_leads i q e in grind (arith, finish i, e, (Decides-eqb i here).0, led, trie.once path q here walked);
     here = finish here ∙ rw ((Decides-eqb here here).1 refl) refl;
-    only = λ i q e.
-        by_bool (i == here)
-        (λ b. let f = finish i in let z = rw b at f in let y : Some path ≡ Some q = sym z ∙ e in inr ((Decides-eqb i here).0 b, sym (same_Some path q y)))
-        (λ b. let f = finish i in let z = rw b at f in inl (sym z ∙ e));
+    only = λ i q e. grind (arith, finish i, e, (Decides-eqb i here).0);
   }
 
   pub nodes_finished : IsTrie new

@@ -91,11 +91,7 @@ module _ (nodes : List Node) (path : List Field) (t : IsTrie nodes) where
   pub contains-whole : (here : ℕ) → walk (child_at nodes) 0 path ≡ Some here → (c : Bool) → c ≡ is_some (terminal_at nodes here) → Decides c (Contains (terminals nodes) path)
   contains-whole here w c e = (
     λ h. by_option (terminal_at nodes here) (λ z. let no = rw z at e in cc) (λ q z. of-terminal nodes here path (z ∙ ap Some (t.once q path here (t.ends_where_it_leads here q z) w))),
-    λ m.
-        let z = terminal-of nodes path m in
-        let same : z.0 ≡ here = let q = sym (t.ends_where_it_leads z.0 path z.1) ∙ w in same_Some z.0 here q in
-        let some : terminal_at nodes here ≡ Some path = ap (terminal_at nodes) (sym same) ∙ z.1 in
-        rw (e, some) refl,
+    λ m. let z = terminal-of nodes path m in let led = t.ends_where_it_leads z.0 path z.1 in grind (arith, e, w, z.1, led),
   )
 
   -- a path that leads to no node ends in none

@@ -2,7 +2,7 @@
 -- SPDX-FileCopyrightText: Copyright the Vortex contributors
 
 -- Lemmas on the beginnings of a path.
-use Rattle.std.proofs.Common.{◌≡◌, ◌⊎◌, ◌<◌, Bool, Decides, false, List, [], ◌∷◌, ◌++◌, length, drop, refl, ap, sym, ◌∙◌, inl, inr, ⊎_elim, append-nil, append_assoc, length-append, arith}
+use Rattle.std.proofs.Common.{◌≡◌, ◌⊎◌, ◌<◌, Bool, Decides, false, List, [], ◌∷◌, ◌++◌, length, drop, refl, ap, sym, ◌∙◌, inl, inr, append-nil, append_assoc, length-append, arith}
 use Rattle.std.specs.List.{starts_with}
 use Rattle.std.proofs.lemmas.List.{nil_from_length}
 use Rattle.std.proofs.lemmas.Slice.Eq.{starts_is}
@@ -48,10 +48,4 @@ either_begins (x ∷ p) (y ∷ r) [] bp br = let e = bp.1 in absurd (cc)
 either_begins (x ∷ p) (y ∷ r) (z ∷ q) bp br =
     let ep : z ∷ q ≡ x ∷ (p ++ bp.0) = bp.1 in
     let er : z ∷ q ≡ y ∷ (r ++ br.0) = br.1 in
-    let xs : x ≡ y = cc in
-    let lp : q ≡ p ++ bp.0 = cc in
-    let lr : q ≡ r ++ br.0 = cc in
-    ⊎_elim
-    (λ b. inl (b.0, λ i. sym xs i ∷ b.1 i))
-    (λ b. inr (b.0, λ i. xs i ∷ b.1 i))
-    (either_begins p r q (bp.0, lp) (br.0, lr))
+    elim (either_begins p r q (bp.0, (cc)) (br.0, (cc))) [ inl b ↦ inl (b.0, (cc b.1)) | inr b ↦ inr (b.0, (cc b.1)) ]

@@ -93,13 +93,11 @@ pub first_named : (w : PathPredicate) (ns rest : List (List ℕ × PathPredicate
 first_named w ns rest e a is = (a.exact e.0).0 (subst (λ es. Contains (map (λ (d : List ℕ × PathPredicate). d.0) es) e.0) (sym is) (0, omega arith, refl))
 
 pub none_named : (w : PathPredicate) (ns : List (List ℕ × PathPredicate)) (n : List ℕ) → AreNames w ns → ns ≡ [] → after_step (Name n) w ≡ no_path
-none_named w ns n a is = λ i p. go p (w (Name n ∷ p)) refl i
-  where
-    go : (p : List Field) (b : Bool) → w (Name n ∷ p) ≡ b → w (Name n ∷ p) ≡ false
-    go p false e = e
-    go p true e =
-        let c = (a.exact n).1 (λ z. let no : true ≡ false = sym e ∙ ap (λ (v : PathPredicate). v p) z in cc) in
-        let none = subst (λ es. Contains (map (λ (d : List ℕ × PathPredicate). d.0) es) n) is c in absurd (omega (arith, none.1))
+none_named w ns n a is = λ i p. by_bool (w (Name n ∷ p))
+    (λ e.
+    let c = (a.exact n).1 (λ z. let no : true ≡ false = sym e ∙ ap (λ (v : PathPredicate). v p) z in cc) in
+    let none = subst (λ es. Contains (map (λ (d : List ℕ × PathPredicate). d.0) es) n) is c in absurd (omega (arith, none.1)))
+    (λ e. e) i
 
 -- No name goes on where none is counted, and the converse. The first parts say nothing: they show a search what to match.
 pub unnamed : (c : FieldPathCursor) (n : List ℕ) (q : List Field) → (asks c (Name n ∷ q) ≡ asks c (Name n ∷ q)) × ((ns : List (List ℕ × PathPredicate)) → AreNames (asks c) ns → length ns ≡ 0 → asks c (Name n ∷ q) ≡ false)

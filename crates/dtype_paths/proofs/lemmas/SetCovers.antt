@@ -23,7 +23,7 @@ use Rattle.dtype_paths.proofs.lemmas.Beginnings.{beginning_both, beginning_refl,
 use Rattle.dtype_paths.proofs.lemmas.Cases.{by_bool}
 use Rattle.dtype_paths.proofs.lemmas.PathLists.{any_from, some_member}
 use Rattle.dtype_paths.specs.PathOrderLaws.{same_tied}
-use Rattle.dtype_paths.proofs.lemmas.SetMembers.{contains_empty, contains_insert, from_list-Decides, insert_has, items-Decides, of_append, of_has_at, of_items, of_only, one_only, same_by}
+use Rattle.dtype_paths.proofs.lemmas.SetMembers.{contains_empty, from_list-Decides, insert_has, items-Decides, of_append, of_has_at, of_items, of_only, one_only, same_by}
 
 -- ---- what is covered
 
@@ -199,12 +199,8 @@ union_covers_right s t q = covers_union s (least t) q ∙ ap (λ b. covers s q |
 -- a path that is covered already adds nothing
 pub least_covered : (s : PathSet) (p : List Field) → covers s p ≡ true → least (set.insert s p) ≡ least s
 least_covered s p h = least_same _ _ (λ q.
-    covers_insert s p q
-    ∙ by_bool (starts_with same_field q p)
-    (λ e.
-    let b = (starts_with-Decides p q _ refl).0 e in
-    ap (λ x. x || covers s q) e ∙ sym (covers_under s p q h b))
-    (λ e. rw e refl))
+    let under : starts_with same_field q p ≡ true → covers s q ≡ true = λ e. covers_under s p q h ((starts_with-Decides p q _ refl).0 e) in
+    grind (arith, covers_insert s p q, under))
 
 -- nor does one below a path that is in
 pub least_below : (s : PathSet) (p q : List Field) → Beginning p q → least (set.insert (set.insert s p) q) ≡ least (set.insert s p)

@@ -6,7 +6,7 @@ use Rattle.std.specs.Prelude.{◌≡◌, ◌≢◌, ◌↔◌, ◌<◌, ◌⊎�
 use Rattle.std.specs.Bool.{Decides}
 use Rattle.std.specs.FinSet as set
 use Rattle.std.specs.List.{Contains, list_any}
-use Rattle.std.proofs.Common.{ap, sym, inl, inr, ◌∙◌}
+use Rattle.std.proofs.Common.{ap, arith, sym, inl, inr, ◌∙◌, ⊎_elim}
 use Rattle.std.proofs.Math.Bool.{or_assoc, or_comm, or_self, or-false}
 use Rattle.std.proofs.lemmas.Bool.{false≢true, or_cases, or_left, or_right}
 use Rattle.std.proofs.lemmas.Bool.Decides.{same_from_decides}
@@ -17,7 +17,6 @@ use Rattle.dtype_paths.specs.Equality.{same_path}
 use Rattle.dtype_paths.specs.EqualityLaws.{same_path-Decides}
 use Rattle.dtype_paths.specs.PathOrder.{PathSet, path_cmp}
 use Rattle.dtype_paths.specs.declared.field.Field.{Field}
-use Rattle.dtype_paths.proofs.lemmas.Cases.{by_bool}
 use Rattle.dtype_paths.specs.PathOrderLaws.{any_tied, path_cmp_total, path_ties, same_tied}
 
 -- the items are the members, and so is a list's
@@ -64,31 +63,19 @@ insert_keeps s p q h = contains_insert s p q ∙ or_right (same_path q p) (set.c
 
 -- of other paths nothing changes
 pub insert_other : (s : PathSet) (p q : List Field) → q ≢ p → set.contains (set.insert s p) q ≡ set.contains s q
-insert_other s p q other =
-    contains_insert s p q
-    ∙ by_bool (same_path q p) (λ e. absurd (other ((same_path-Decides q p).0 e))) (λ e. rw e refl)
+insert_other s p q other = grind (arith, contains_insert s p q, (same_path-Decides q p).0, other)
 
 -- a path that is in changes nothing
 pub insert_known : (s : PathSet) (p : List Field) → set.contains s p ≡ true → set.insert s p ≡ s
-insert_known s p h = same_by _ _ (λ q.
-    contains_insert s p q
-    ∙ by_bool (same_path q p)
-    (λ e. let is : q ≡ p = (same_path-Decides q p).0 e in ap (λ b. b || set.contains s q) e ∙ sym (ap (set.contains s) is ∙ h))
-    (λ e. rw e refl))
+insert_known s p h = same_by _ _ (λ q. grind (arith, contains_insert s p q, (same_path-Decides q p).0, h))
 
 -- what is in after that was put in, or was in
 pub insert_only : (s : PathSet) (p q : List Field) → set.contains (set.insert s p) q ≡ true → (q ≡ p) ⊎ (set.contains s q ≡ true)
-insert_only s p q h = elim (or_cases (same_path q p) (set.contains s q) (sym (contains_insert s p q) ∙ h)) [
-  | inl e ↦ inl ((same_path-Decides q p).0 e)
-  | inr e ↦ inr e
-]
+insert_only s p q h = ⊎_elim (λ e. inl ((same_path-Decides q p).0 e)) inr (or_cases (same_path q p) (set.contains s q) (sym (contains_insert s p q) ∙ h))
 
 -- in a set of one path is that one
 pub one_only : (p q : List Field) → set.contains {R = path_cmp} (set.insert set.empty p) q ≡ true → q ≡ p
-one_only p q h = elim (insert_only set.empty p q h) [
-  | inl e ↦ e
-  | inr e ↦ absurd (false≢true (sym (contains_empty q) ∙ e))
-]
+one_only p q h = ⊎_elim (λ e. e) (λ e. absurd (false≢true (sym (contains_empty q) ∙ e))) (insert_only set.empty p q h)
 
 pub insert_again : (s : PathSet) (p : List Field) → set.insert (set.insert s p) p ≡ set.insert s p
 insert_again s p = insert_known (set.insert s p) p (insert_has s p)

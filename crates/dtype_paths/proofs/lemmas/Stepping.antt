@@ -3,7 +3,7 @@
 
 -- Lemmas on paths and on masks that are stepped into. For callers' proofs `stepping` names them in one line:
 --     #![tactic(auto, using(dtype_paths::proofs::lemmas::Stepping::stepping))]
-use Rattle.std.proofs.Common.{◌≡◌, ◌↔◌, ◌⊎◌, ◌≤◌, ◌∙◌, inl, inr, ℕ, List, [], ◌∷◌, ◌++◌, Bool, true, false, cond, Some, None, IsTrue, length, refl, sym, ap, subst, arith}
+use Rattle.std.proofs.Common.{◌≡◌, ◌↔◌, ◌⊎◌, ◌≤◌, ◌∙◌, inl, inr, ℕ, List, [], ◌∷◌, ◌++◌, true, false, Some, None, IsTrue, length, refl, sym, ap, subst, arith}
 use Rattle.std.proofs.lemmas.Option.{same_Some}
 use Rattle.std.specs.Prelude.{bytes_eq}
 use Rattle.std.specs.List.{starts_with}
@@ -126,10 +126,8 @@ valid_named (item n t _ fs) m x h e = by_first n m t x fs e (λ y is. subst Vali
 pub valid_along : (t : Tree) (p : List Field) (u : Tree) → Valid t → At t p u → Valid u
 valid_along t [] u h a = subst Valid a h
 valid_along (struct fs n) (Name m ∷ p) u h a = valid_along a.0 p u (valid_named fs m a.0 h a.1) a.2
-valid_along (list t n) (ElementType ∷ p) u h a =
-    let e : t ≡ a.0 = same_Some t a.0 a.1 in valid_along t p u h (subst (λ x. At x p u) (sym e) a.2)
-valid_along (fixed_size_list t k n) (ElementType ∷ p) u h a =
-    let e : t ≡ a.0 = same_Some t a.0 a.1 in valid_along t p u h.1 (subst (λ x. At x p u) (sym e) a.2)
+valid_along (list t n) (ElementType ∷ p) u h a = grind (arith, h, a, valid_along t p u)
+valid_along (fixed_size_list t k n) (ElementType ∷ p) u h a = grind (arith, h, a, valid_along t p u)
 valid_along _ (_ ∷ p) u h a = cc
 
 pub given_valid : (t u : Tree) (p : List Field) → Some u ≡ along t p → Valid t → Valid u

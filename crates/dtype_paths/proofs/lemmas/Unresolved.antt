@@ -2,14 +2,15 @@
 -- SPDX-FileCopyrightText: Copyright the Vortex contributors
 
 -- The paths of a set that don't exist in a type. `missing_paths` names all that callers need in one line.
-use Rattle.std.specs.Prelude.{◌≡◌, ◌≢◌, ◌↔◌, IsTrue, List, [], ◌∷◌, Bool, true, false, cond, not, ◌&&◌, Option, Some, None, is_some, map, refl}
+use Rattle.std.specs.Prelude.{◌≡◌, ◌≢◌, ◌↔◌, IsTrue, List, [], ◌∷◌, Bool, not, ◌&&◌, is_some, map, refl}
 use Rattle.std.specs.Bool.{Decides}
 use Rattle.std.specs.Borrow.{Bor}
 use Rattle.std.specs.FinSet as set
 use Rattle.std.specs.List.{All, filter, list_any}
-use Rattle.std.proofs.Common.{ap, sym, subst, ◌∙◌}
+use Rattle.std.proofs.Common.{ap, arith, sym, subst, ◌∙◌}
 use Rattle.std.proofs.Math.Bool.{and_comm}
 use Rattle.std.proofs.lemmas.Bool.{and_from, and_parts, false≢true}
+use Rattle.std.proofs.lemmas.Bool.Decides.{same_from_decides}
 use Rattle.std.proofs.lemmas.List.Elements.{All-head}
 use Rattle.std.proofs.lemmas.List.Kept.{AllPairs-filter}
 use Rattle.std.proofs.lemmas.Map.Views.{any-filter_same}
@@ -23,35 +24,26 @@ use Rattle.dtype_paths.specs.PathOrder.{PathSet, path_cmp}
 use Rattle.dtype_paths.specs.PathOrderLaws.{any_tied, path_cmp_total, same_tied}
 use Rattle.dtype_paths.specs.Unresolved.{unresolved}
 use Rattle.dtype_paths.specs.declared.field.Field.{Field}
-use Rattle.dtype_paths.proofs.lemmas.Cases.{by_bool}
+use Rattle.dtype_paths.proofs.lemmas.Cases.{by_bool, by_option}
 use Rattle.dtype_paths.proofs.lemmas.LentPaths.{all_mapped}
 use Rattle.dtype_paths.proofs.lemmas.SetMembers.{contains_empty, from_list-Decides, same_by}
 use Rattle.dtype_paths.proofs.lemmas.Walks.{along-At, At-along}
 
 -- whether a path exists is told by what is along it
 pub exists-Decides : (t : Tree) (p : List Field) → Decides (is_some (along t p)) (ExistsIn t p)
-exists-Decides t p = (go (along t p) refl, λ e. ap is_some (At-along t p e.found e.at))
-  where
-    go : (o : Option Tree) → along t p ≡ o → is_some o ≡ true → ExistsIn t p
-    go None is h = absurd (false≢true h)
-    go (Some u) is h = record { found = u; at = along-At t p u is }
+exists-Decides t p = (
+  λ h. by_option (along t p) (λ none. absurd (let z = rw none at h in cc)) (λ u is. record { found = u; at = along-At t p u is }),
+  λ e. ap is_some (At-along t p e.found e.at),
+)
 
 -- of a test that was asked, what its negation says
 pub missing_test : (t : Tree) (p : List Field) (b : Bool) → (IsTrue b ↔ ExistsIn t p) → not b ≡ not (is_some (along t p))
-missing_test t p b told = ap not (by_bool b
-    (λ h. h ∙ sym ((exists-Decides t p).1 (told.0 h)))
-    (λ h. by_bool (is_some (along t p))
-    (λ k. absurd (false≢true (sym h ∙ told.1 ((exists-Decides t p).0 k))))
-    (λ k. h ∙ sym k)))
+missing_test t p b told = ap not (same_from_decides b _ told (exists-Decides t p))
 
 -- a mapped list, filtered
 map_filter : {A B : Type 0} (f : A → B) (test : B → Bool) (xs : List A) → map f (filter (λ x. test (f x)) xs) ≡ filter test (map f xs)
 map_filter f test [] = refl
-map_filter f test (x ∷ xs) = go (test (f x)) (map_filter f test xs)
-  where
-    go : (b : Bool) → map f (filter (λ y. test (f y)) xs) ≡ filter test (map f xs) → map f (cond b (x ∷ filter (λ y. test (f y)) xs) (filter (λ y. test (f y)) xs)) ≡ cond b (f x ∷ filter test (map f xs)) (filter test (map f xs))
-    go true e = ap (λ l. f x ∷ l) e
-    go false e = e
+map_filter f test (x ∷ xs) = grind (arith, map_filter f test xs)
 
 contains_retained : (s : PathSet) (test : List Field → Bool) (q : List Field) → set.contains (set.retain s test) q ≡ (set.contains s q && test q)
 contains_retained s test q = set.contains-retain s test q (λ x h. ap test (sym (same_tied q x h)))

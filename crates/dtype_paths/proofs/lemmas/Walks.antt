@@ -2,22 +2,19 @@
 -- SPDX-FileCopyrightText: Copyright the Vortex contributors
 
 -- Lemmas on the type at a path (`along`), and on that at a path followed by another.
-use Rattle.std.proofs.Common.{◌≡◌, ◌∙◌, List, [], ◌∷◌, ◌++◌, Option, Some, None, option_and_then, refl, ap, sym}
-use Rattle.std.proofs.lemmas.Option.{same_Some}
+use Rattle.std.proofs.Common.{◌≡◌, ◌∙◌, List, [], ◌∷◌, ◌++◌, Some, None, option_and_then, refl, ap, sym}
+use Rattle.std.proofs.lemmas.Option.{option_and_then_some, same_Some}
 use Rattle.dtype_types.specs.tree.Tree.{Tree}
 use Rattle.dtype_paths.specs.Along.{along}
 use Rattle.dtype_paths.specs.At.{At, step}
 use Rattle.dtype_paths.specs.Beginning.{Beginning}
 use Rattle.dtype_paths.specs.declared.field.Field.{Field}
+use Rattle.dtype_paths.proofs.lemmas.Cases.{by_option}
 
 -- what the function gives is in the relation
 pub along-At : (t : Tree) (p : List Field) (u : Tree) → along t p ≡ Some u → At t p u
 along-At t [] u e = cc
-along-At t (f ∷ p) u e = go (step t f) refl (λ x. along-At x p u) e
-  where
-    go : (o : Option Tree) → step t f ≡ o → ((x : Tree) → along x p ≡ Some u → At x p u) → option_and_then (λ x. along x p) o ≡ Some u → At t (f ∷ p) u
-    go None is more h = cc
-    go (Some x) is more h = (x, is, more x h)
+along-At t (f ∷ p) u e = option_and_then_some (λ x. along x p) (step t f) u e (λ x is later. (x, is, along-At x p u later))
 
 -- the function gives what is in the relation
 pub At-along : (t : Tree) (p : List Field) (u : Tree) → At t p u → along t p ≡ Some u
@@ -31,11 +28,7 @@ one_type_at t u v p a b = same_Some u v (sym (At-along t p u a) ∙ At-along t p
 -- at a path followed by another
 pub along_joined : (t : Tree) (p q : List Field) → along t (p ++ q) ≡ option_and_then (λ x. along x q) (along t p)
 along_joined t [] q = refl
-along_joined t (f ∷ p) q = go (λ x. along_joined x p q) (step t f)
-  where
-    go : ((x : Tree) → along x (p ++ q) ≡ option_and_then (λ y. along y q) (along x p)) → (o : Option Tree) → option_and_then (λ x. along x (p ++ q)) o ≡ option_and_then (λ x. along x q) (option_and_then (λ x. along x p) o)
-    go more None = refl
-    go more (Some x) = more x
+along_joined t (f ∷ p) q = by_option (step t f) (λ none. rw none refl) (λ x is. rw is (along_joined x p q))
 
 -- after a path at which there is a type, what is at the rest in that type
 pub along_after : (t x : Tree) (p q : List Field) → Some x ≡ along t p → along t (p ++ q) ≡ along x q

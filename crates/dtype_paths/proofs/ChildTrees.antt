@@ -126,8 +126,7 @@ module _ (by_key : List (ℕ × (Field × ℕ))) (by_step : List (Field × ℕ))
       keys = t.keys;
       steps = sorted;
       keyed = t.keyed;
-      taken = λ f i e.
-          by_bool (same_field x f)
+      taken = λ f i e. by_bool (same_field x f)
           (λ y. subst (IsTaken by_key) ((same_field-Decides x f).0 y) taken)
           (λ n. t.taken f i (sym (put_same f ∙ rw n refl) ∙ e));
     }

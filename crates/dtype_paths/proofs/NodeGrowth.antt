@@ -90,16 +90,10 @@ module _ (old ns new : List Node) (path parts : List Field) (m : PrefixMatch) (t
   grows : Grows (child_at old) (child_at new) (length old) here x rest
   grows = record {
     kept = λ i f j e.
-        ⊎_elim
-        (λ a. let z = rw (a.0, a.1) at e in let q : None ≡ Some j = sym stop ∙ z in absurd (cc))
-        (λ a. let read = λ (n : Node). child n.children f in a ∙ read-left read old tail i (read-within read old i j e) ∙ e)
-        (led i f);
+        let same = read-left (λ n. child n.children f) old tail i (read-within (λ n. child n.children f) old i j e) in
+        grind (arith, led i f, stop, e, same);
     joined = g.steps here x ∙ rw ((Decides-eqb here here).1 refl, (same_field-Decides x x).1 refl) refl;
-    only = λ i f j below e.
-        ⊎_elim
-        (λ a. inr (a.0, a.1, let q = sym a.2 ∙ e in sym (same_Some (length old) j q)))
-        (λ a. inl (sym (read-left (λ n. child n.children f) old tail i below) ∙ sym a ∙ e))
-        (led i f);
+    only = λ i f j below e. grind (arith, led i f, e, read-left (λ n. child n.children f) old tail i below);
     leads = chain-leads (child_at new) path rest (length old) (λ i k f is.
         ⊎_elim (λ a. absurd (omega (arith, is, a.0, prefix.inside))) (λ a. a ∙ read-right (λ n. child n.children f) old tail i k is) (led i f));
   }

@@ -9,7 +9,7 @@ use Rattle.std.specs.FinSet as set
 use Rattle.std.specs.List.{All, filter, list_any}
 use Rattle.std.proofs.Common.{ap, arith, sym, subst, ◌∙◌}
 use Rattle.std.proofs.Math.Bool.{and_comm}
-use Rattle.std.proofs.lemmas.Bool.{and_from, and_parts, false≢true}
+use Rattle.std.proofs.lemmas.Bool.{false≢true}
 use Rattle.std.proofs.lemmas.Bool.Decides.{same_from_decides}
 use Rattle.std.proofs.lemmas.List.Elements.{All-head}
 use Rattle.std.proofs.lemmas.List.Kept.{AllPairs-filter}
@@ -78,10 +78,8 @@ pub unresolved_word : (s : PathSet) (t : Tree) (p : List Field) → IsTrue (set.
 unfolding unresolved
 unresolved_word s t p =
     let e = contains_retained s (λ q. not (is_some (along t q))) p in
-    let d = exists-Decides t p in (
-      λ h. let parts = and_parts (set.contains s p) (not (is_some (along t p))) (sym e ∙ h) in (parts.0, λ x. false≢true (sym (ap not (d.1 x)) ∙ parts.1)),
-      λ m. e ∙ and_from (set.contains s p) (not (is_some (along t p))) m.0 (by_bool (is_some (along t p)) (λ h. absurd (m.1 (d.0 h))) (λ h. ap not h)),
-    )
+    let d = exists-Decides t p in
+    (λ h. grind (arith, h, e, d), λ m. grind (arith, m, e, d))
 
 -- each of those listed
 pub each_unresolved : (ps : List (Bor (List Field))) (s : PathSet) (t : Tree) → set.from_list (map (λ x. x.now) ps) ≡ unresolved s t → All (λ x. IsTrue (set.contains s x.now) × ¬ (ExistsIn t x.now)) ps

@@ -70,17 +70,14 @@ mutual
 -- ---- a path leads in a part to a part of what it leads to in the type
 
 first_of_part : (fs gs : Fields) (m : List ℕ) (y : Tree) → IsPartOfFields fs gs → first_named (pairs gs) m ≡ Some y → (x : Tree) × (first_named (pairs fs) m ≡ Some x) × IsPart x y
-first_of_part no_items gs m y p e = let q : None ≡ Some y = sym (ap (λ hs. first_named (pairs hs) m) p) ∙ e in cc
-first_of_part (item n t _ fs) gs m y (inl p) e =
-    let f : first_named (pairs (field n p.0 p.1)) m ≡ Some y = sym (ap (λ hs. first_named (pairs hs) m) p.2) ∙ e in
-    by_name n m
-    (λ b. (t, ap (first_named (pairs (field n t fs))) (sym b) ∙ named_itself n t fs, subst (IsPart t) (same_Some p.0 y (sym (ap (first_named (pairs (field n p.0 p.1))) (sym b) ∙ named_itself n p.0 p.1) ∙ f)) p.3))
-    (λ ne. let r = first_of_part fs p.1 m y p.4 (sym (named_first n m p.0 p.1 ne) ∙ f) in (r.0, named_first n m t fs ne ∙ r.1, r.2))
+first_of_part no_items gs m y p e = grind (arith, p, e)
+first_of_part (item n t _ fs) gs m y (inl p) e = by_name n m
+    (λ b. grind (arith, p, e, b, named_itself n))
+    (λ ne. let later = first_of_part fs p.1 m y p.4 in grind (arith, p.2, e, named_first n m t fs ne, named_first n m p.0 p.1 ne, later))
 first_of_part (item n t _ fs) gs m y (inr p) e =
-    let r = first_of_part fs gs m y p.0 e in
-    by_name n m
-    (λ b. let q : None ≡ Some y = sym p.1 ∙ ap (first_named (pairs gs)) b ∙ e in absurd (cc))
-    (λ ne. (r.0, named_first n m t fs ne ∙ r.1, r.2))
+    let later = first_of_part fs gs m y p.0 e in by_name n m
+    (λ b. absurd (grind (arith, p.1, b, e)))
+    (λ ne. grind (arith, later, named_first n m t fs ne))
 
 step_of_part : (t u z : Tree) (f : Field) → IsPart t u → step u f ≡ Some z → (x : Tree) × (step t f ≡ Some x) × IsPart x z
 step_of_part (list t n) u z f p s = grind (arith, p, s)

@@ -30,24 +30,19 @@ use Rattle.dtype_paths.proofs.lemmas.Walks.{along-At, At-along}
 
 -- ---- path predicates after a step, and without the paths into a field
 
--- by whether two names, and two steps, are equal
+-- by whether two names are equal
 pub by_name : {P : Type 0} (n m : List ℕ) → (n ≡ m → P) → (n ≢ m → P) → P
 by_name n m same other = by_bool (bytes_eq n m) (λ e. same ((bytes_eq-Decides n m).0 e)) (λ e. other (λ q. let t : bytes_eq n m ≡ true = (bytes_eq-Decides n m).1 q in cc))
-
-by_step : {P : Type 0} (f g : Field) → (f ≡ g → same_field f g ≡ true → P) → (f ≢ g → same_field f g ≡ false → P) → P
-by_step f g same other = by_bool (same_field f g) (λ e. same ((same_field-Decides f g).0 e) e) (λ e. other (λ q. let t : same_field f g ≡ true = (same_field-Decides f g).1 q in cc) e)
 
 pub after_without_same : (n : List ℕ) (w : PathPredicate) → after_step (Name n) (without_field n w) ≡ no_path
 after_without_same n w = λ i p. ap (λ b. not b && w (Name n ∷ p)) ((same_field-Decides (Name n) (Name n)).1 refl) i
 
 pub after_without_other : (n m : List ℕ) (w : PathPredicate) → n ≢ m → after_step (Name m) (without_field n w) ≡ after_step (Name m) w
-after_without_other n m w ne = λ i p. by_step {P = without_field n w (Name m ∷ p) ≡ w (Name m ∷ p)} (Name n) (Name m) (λ same e. absurd (ne (cc))) (λ other e. ap (λ b. not b && w (Name m ∷ p)) e) i
+after_without_other n m w ne = λ i p. (let same : without_field n w (Name m ∷ p) ≡ w (Name m ∷ p) = grind (arith, ne, (same_field-Decides (Name n) (Name m)).0) in same) i
 
 -- a path of `without_field n w` is one of w, and doesn't step into a field named n
 pub without_field_holds : (n : List ℕ) (w : PathPredicate) (f : Field) (p : List Field) → without_field n w (f ∷ p) ≡ true → (Name n ≢ f) × (w (f ∷ p) ≡ true)
-without_field_holds n w f p t = by_step (Name n) f
-    (λ same e. let q : without_field n w (f ∷ p) ≡ false = ap (λ b. not b && w (f ∷ p)) e in absurd (cc))
-    (λ other e. (other, sym (ap (λ b. not b && w (f ∷ p)) e) ∙ t))
+without_field_holds n w f p t = grind (arith, t, (same_field-Decides (Name n) f).1)
 
 -- ---- the projection by whether w has the root
 

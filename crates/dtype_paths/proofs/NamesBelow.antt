@@ -100,7 +100,7 @@ no-element [] h = refl
 no-element ((Name n, i) ∷ es) h = ap (λ k. suc k) (no-element es h.1)
 no-element ((ElementType, i) ∷ es) h = cc
 
-names-count : (es : List (Field × ℕ)) → IsDistinct same_field (keys_of es) → length (names es) + cond (is_some (lookup (same_field ElementType) es)) 1 0 ≡ length es
+pub names-count : (es : List (Field × ℕ)) → IsDistinct same_field (keys_of es) → length (names es) + cond (is_some (lookup (same_field ElementType) es)) 1 0 ≡ length es
 unfolding IsDistinct
 names-count [] d = refl
 names-count ((Name n, i) ∷ es) d = omega (arith, names-count es d.1)

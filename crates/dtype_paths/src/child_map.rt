@@ -1,7 +1,7 @@
 // SPDX-License-Identifier: Apache-2.0
 // SPDX-FileCopyrightText: Copyright the Vortex contributors
 
-ghost use Rattle.std.specs.Prelude.{◌≡◌, ◌≤◌, [], ℕ, None, Some, if◌then◌else◌, length, IsTrue, IfErr, OnOk};
+ghost use Rattle.std.specs.Prelude.{◌≡◌, ◌^◌, ◌<◌, ◌≤◌, [], ℕ, None, Some, if◌then◌else◌, length, IsTrue, IfErr, OnOk};
 ghost use Rattle.std.specs.List.{IsDistinct};
 ghost use Rattle.std.specs.Map.{keys_of, lookup};
 ghost use Rattle.dtype_base.specs.Errors.{Makes};
@@ -111,6 +111,7 @@ impl ChildMap {
     pub(crate) fn iter(&self) -> hash_map::Iter<'_, Field, usize>
         ensures children { result ≡ self.now }
         ensures once { IsDistinct same_field (keys_of self.now) }
+        ensures fits { length self.now < 2 ^ 64 }
     {
         self.node_indices.iter()
     }

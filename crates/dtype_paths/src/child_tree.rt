@@ -1,7 +1,7 @@
 // SPDX-License-Identifier: Apache-2.0
 // SPDX-FileCopyrightText: Copyright the Vortex contributors
 
-ghost use Rattle.std.specs.Prelude.{◌≡◌, ℕ, [], length, Option, Some, IfErr, OnOk, IsTrue, false, if◌then◌else◌};
+ghost use Rattle.std.specs.Prelude.{◌≡◌, ◌^◌, ◌<◌, ℕ, [], length, Option, Some, IfErr, OnOk, IsTrue, false, if◌then◌else◌};
 ghost use Rattle.std.specs.BTreeMap.{is_at, IsOrdered};
 ghost use Rattle.std.specs.Iterator.{YieldsFirstBy};
 ghost use Rattle.std.specs.List.{IsDistinct};
@@ -120,6 +120,7 @@ impl ChildTree {
     pub(crate) fn iter(&self) -> ChildTreeIter<'_>
         ensures children { result ≡ self.now }
         ensures once { IsDistinct same_field (keys_of self.now) }
+        ensures fits { length self.now < 2 ^ 64 }
     {
         ChildTreeIter {
             by_key: self.by_key.values(),

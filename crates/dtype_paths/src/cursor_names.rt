@@ -1,7 +1,7 @@
 // SPDX-License-Identifier: Apache-2.0
 // SPDX-FileCopyrightText: Copyright the Vortex contributors
 
-ghost use Rattle.std.specs.Prelude.{ℕ, List};
+ghost use Rattle.std.specs.Prelude.{◌<◌, ◌^◌, ℕ, List, length};
 ghost use Rattle.std.specs.Iterator.{YieldsFirstBy, item_count};
 ghost use Rattle.std.specs.List.{Contains};
 ghost use Rattle.dtype_paths.specs.PathPredicates.{AreNames};
@@ -29,7 +29,8 @@ impl<'a> CursorNames<'a> {
     #[tactic(auto, unfolding(crate::specs::Cursors::names_left))]
     pub(crate) fn new(trie: &'a Trie, node_index: usize) -> Self
         requires { IsReached trie.now node_index }
-        ensures { AreNames (ends_below trie.now node_index) (names_left result) }
+        ensures names { AreNames (ends_below trie.now node_index) (names_left result) }
+        ensures fits { length (names_left result) < 2 ^ 64 }
     {
         CursorNames {
             trie,

@@ -1,7 +1,7 @@
 // SPDX-License-Identifier: Apache-2.0
 // SPDX-FileCopyrightText: Copyright the Vortex contributors
 
-ghost use Rattle.std.specs.Prelude.{◌≡◌, ◌↔◌, ◌∷◌, ℕ, List, [], length, IfNone, IfSome, IsTrue, None, false, true};
+ghost use Rattle.std.specs.Prelude.{◌≡◌, ◌↔◌, ◌<◌, ◌^◌, ◌∷◌, ℕ, List, [], length, IfNone, IfSome, IsTrue, None, false, true};
 ghost use Rattle.std.specs.FinSet as set;
 ghost use Rattle.std.specs.Iterator.{YieldsFirstBy};
 ghost use Rattle.std.specs.Iterator.Runs.{AllItems, AnyItem, EachRunFrom};
@@ -94,10 +94,11 @@ impl<'a> FieldPathCursor<'a> {
     }
 
     /// Returns an iterator over the names by which paths of the set go on from here, each once, with the cursor after it, in
-    /// no promised order.
+    /// no promised order. A `usize` counts them.
     #[tactic(auto, unfolding(crate::specs::Cursors::asks))]
     pub fn names(&self) -> CursorNames<'a>
         ensures names { AreNames (asks self.now) (names_left result) }
+        ensures fits { length (names_left result) < 2 ^ 64 }
         ensures each { EachRunFrom (YieldsFirstBy borrowed_asks names_left) result (λ run. AllItems run (λ x.
             ((q : List Field) → asks x.1 q ≡ asks self.now (Name x.0.now ∷ q))
             × ((q : List Field) × IsTrue (asks self.now (Name x.0.now ∷ q))))) }

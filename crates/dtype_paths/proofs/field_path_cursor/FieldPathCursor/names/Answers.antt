@@ -7,8 +7,8 @@ use Rattle.dtype_paths.proofs.field_path_cursor.FieldPathCursor.names.Goals as g
 
 pub returns-clause-each : goal.returns-clause-each
 unfolding asks
-returns-clause-each c = names_each (asks c.args.self.now) c.new.result c.new.ensures
+returns-clause-each c = names_each (asks c.args.self.now) c.new.result c.new.ensures.names
 
 pub returns-clause-all : goal.returns-clause-all
 unfolding asks
-returns-clause-all c = names_all (asks c.args.self.now) c.new.result c.new.ensures
+returns-clause-all c = names_all (asks c.args.self.now) c.new.result c.new.ensures.names

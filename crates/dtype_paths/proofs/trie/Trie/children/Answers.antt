@@ -1,9 +1,10 @@
 -- SPDX-License-Identifier: Apache-2.0
 -- SPDX-FileCopyrightText: Copyright the Vortex contributors
 
-use Rattle.std.proofs.Common.{subst}
+use Rattle.std.proofs.Common.{arith, subst}
+use Rattle.dtype_paths.specs.private.Children.{nodes_by_step}
 use Rattle.dtype_paths.specs.private.Trie.{IsTrie}
-use Rattle.dtype_paths.proofs.NamesBelow.{names-below, names-reached}
+use Rattle.dtype_paths.proofs.NamesBelow.{names-below, names-count, names-reached}
 use Rattle.dtype_paths.proofs.trie.Trie.children.Goals as goal
 
 pub returns : goal.returns
@@ -13,4 +14,5 @@ returns c =
     record {
       reached = λ m h. names-reached c.args.self.now trie i n c.requires at e.once m (rw e.children at h);
       names = rw e.children (names-below c.args.self.now trie i n c.requires at e.once);
+      fits = rw e.children (omega (arith, e.fits, names-count (nodes_by_step n.children) e.once));
     }

@@ -6,7 +6,7 @@
 -- The tactics try it whole at each goal that is left, so it is part of the interface.
 pub use Rattle.dtype_paths.proofs.lemmas.Counts.{least_none, none_listed, one_count, listed_len, lent_len, lent_none, some_listed, one_listed, one_least_listed}
 pub use Rattle.dtype_paths.proofs.lemmas.SetMembers.{insert_has, insert_keeps, insert_only, insert_other, insert_known, insert_again, insert_swap, contains_empty, union_keeps, union_has, union_only, union_none, union_with_none, union_insert, union_again, union_swap, within_insert, within_union, union_within, of_push, of_append, of_has, of_has_at, of_only, one_only}
-pub use Rattle.dtype_paths.proofs.lemmas.SetCovers.{covers_of, covers_none, none_covered, covers_union, covers_left, covers_right, covers_member, of_covers_at, covers_below, covers_further, listed_covered, of_covers_below, union_covers_left, union_covers_right, insert_covers, insert_covers_below, insert_covered, root_begins, covers_least, least_least, least_union_left, least_union_right, least_covered, least_below, least_one, least_root, least_empty, least_same, fewest, root_covers, cover_member, cover_first, cover_apart}
+pub use Rattle.dtype_paths.proofs.lemmas.SetCovers.{covers_of, covers_none, none_covered, covers_union, union_covered, covers_left, covers_right, covers_member, of_covers_at, covers_below, covers_further, listed_covered, of_covers_below, union_covers_left, union_covers_right, insert_covers, insert_covers_below, insert_covered, root_begins, covers_least, least_least, least_union_left, least_union_right, least_covered, least_below, least_one, least_root, least_empty, least_same, fewest, root_covers, cover_member, cover_first, cover_apart}
 
 -- all of the topic, where a file asks about unions, coverage and least paths at once: more than a search goes through at
 -- a hard goal, which wants a ruleset of its question below
@@ -38,6 +38,9 @@ pub ruleset covered_paths = (of_has, covers_of, covers_none, covers_union, cover
 
 -- what a set covers that `new`, `insert` and `from_iter` make, path by path: what its paths begin
 pub ruleset made_coverage = (insert_covers, insert_covered, none_covered, covers_none, listed_covered, of_covers_below, covers_member, root_begins)
+
+-- what a set covers that `extend` makes, path by path: what it covered, and what the other set or the list covers
+pub ruleset united_coverage = (union_covered, covers_least, listed_covered, of_covers_below)
 
 -- which paths are least, and how the members lie to them
 pub ruleset least_paths = (least_least, least_union_left, least_union_right, least_covered, least_below, least_one, least_same, least_root, least_none, least_empty, fewest, cover_member, cover_first, cover_apart)

@@ -89,6 +89,10 @@ covers_left s t q h = covers_union s t q ∙ or_left (covers s q) (covers t q) h
 pub covers_right : (s t : PathSet) (q : List Field) → covers t q ≡ true → covers (set.union s t) q ≡ true
 covers_right s t q h = covers_union s t q ∙ or_right (covers s q) (covers t q) h
 
+-- What a union covers is what one of the two covers. The first part says nothing: it shows a search the call to match.
+pub union_covered : (s t : PathSet) (q : List Field) → (covers (set.union s t) q ≡ covers (set.union s t) q) × (covers (set.union s t) q ≡ true → (covers s q ≡ true) ⊎ (covers t q ≡ true)) × (covers s q ≡ true → covers (set.union s t) q ≡ true) × (covers t q ≡ true → covers (set.union s t) q ≡ true)
+union_covered s t q = (refl, λ h. or_cases (covers s q) (covers t q) (sym (covers_union s t q) ∙ h), covers_left s t q, covers_right s t q)
+
 -- members are covered, and what is below
 pub covers_member : (s : PathSet) (p : List Field) → set.contains s p ≡ true → covers s p ≡ true
 covers_member s p h = (covers_word s p).1 (p, h, beginning_refl p)

@@ -30,10 +30,15 @@ CHANGES = [
      "FieldPath::push: asks for room that can't be had"),
     (PATH, "self.steps.push(field)?;", "use std::alloc::Global as Memory; let _: Memory = self.alloc;",
      "FieldPath::push: has an import of its own"),
-    (SEARCH, "let here = &names[entry.position];", "let one = names[0].is_it(); let here = &names[entry.position];",
+    (SEARCH, "let here = &names[position];", "let one = names[0].is_it(); let here = &names[position];",
      "compare: is to read names once"),
-    (SEARCH, "let here = &names[entry.position];", "let _ = names.iter().max(); let here = &names[entry.position];",
+<<<<<<< HEAD
+    (SEARCH, "let here = &names[position];", "let _ = names.iter().max(); let here = &names[position];",
      "compare: is to read names once"),
+=======
+    ("crates/dtype_base/src/indexed_names.rt", "search(self.", "let _ = self.names.iter().max(); search(self.",
+     "IndexedNames::find_counted: reads names beside the function that counts"),
+>>>>>>> 7cdfd9ef (pages: the reference of names and structs)
     (NAMES, "(alloc, texts.len())?", "(alloc, !0)?", f"{NAMES}: FieldNames::from_texts: asks for room that can't"),
     ("crates/dtype_types/src/named.rt", "self.names.find_counted(name)", "first(self.names.as_slice(), name)",
      "Named::find_counted: passes names on to first"),

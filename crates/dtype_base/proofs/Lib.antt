@@ -5,7 +5,7 @@ pub mod JoinedTexts
 pub mod EscapedChars
 pub mod ErrorEquality
 pub mod NameSearch
-pub mod KeyOrder
-pub mod PermutedEntries
-pub mod Selections
+pub mod NameHashes
+pub mod IndexEntries
+pub mod Buckets
 pub mod lemmas

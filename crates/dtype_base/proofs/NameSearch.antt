@@ -5,7 +5,7 @@
 use Rattle.std.proofs.Common.{◌≡◌, ℕ, zero, Bool, suc, ◌+◌, ◌-◌, ◌*◌, ◌/◌, ◌<◌, ◌≤◌, ◌^◌, List, [], ◌∷◌, ◌++◌, true, false, Option, Some, None, length, get_or, if◌then◌else◌, refl, sym, ap, subst, ◌∙◌, inl, inr, arith, pow-suc}
 use Rattle.std.specs.Prelude.{◌≢◌, slice_get}
 use Rattle.std.specs.List.{range_with_len, AllAdjacentBelow}
-use Rattle.std.specs.List.Sorted.{IsNonDecreasingBy, IsPermutation}
+use Rattle.std.specs.List.Sorted.{IsNonDecreasingBy, IsPermutation, IsSorted}
 use Rattle.std.specs.Bool.{then_some}
 use Rattle.std.specs.Int.Bits.{bit_and, and_zero_r}
 use Rattle.std.proofs.lemmas.Nat.{and_mask}
@@ -31,9 +31,7 @@ use Rattle.dtype_base.proofs.lemmas.Lookups.{first_of_place, absent_of_place}
 use Rattle.dtype_base.specs.BinaryDigits.{binary_digits}
 use Rattle.dtype_base.proofs.lemmas.BinaryDigits.{digits_before, digits_more}
 use Rattle.dtype_base.specs.Comparisons.{comparisons}
-use Rattle.dtype_base.specs.private.NameOrder.{bytes_cmp, key_or, keyed_cmp, keyed_position_cmp, name_cmp, position_cmp, IsOrderOf, positions, mask}
-use Rattle.dtype_base.specs.declared.name_key.Keying.{Keying}
-use Rattle.dtype_base.specs.declared.name_order.IndexEntry.{IndexEntry}
+use Rattle.dtype_base.specs.private.NameOrder.{bytes_cmp, key_or, keyed_cmp, keyed_position_cmp, name_cmp, position_cmp, position_in, positions, mask}
 
 bytes_total : IsTotalOrder bytes_cmp
 bytes_total = options_total nat_list_cmp_total
@@ -41,11 +39,11 @@ bytes_total = options_total nat_list_cmp_total
 pub position_total : (names : List (List ℕ)) → IsTotalOrder (position_cmp names)
 position_total names = then_total (on_total (slice_get names) bytes_total) nat_cmp_total
 
-keyed_total : (keying : Keying) → IsTotalOrder (keyed_cmp keying)
-keyed_total keying = then_total (on_total (key_or keying) nat_cmp_total) bytes_total
+keyed_total : (bits : ℕ) → IsTotalOrder (keyed_cmp bits)
+keyed_total bits = then_total (on_total (key_or bits) nat_cmp_total) bytes_total
 
-keyed_position_total : (keying : Keying) (names : List (List ℕ)) → IsTotalOrder (keyed_position_cmp keying names)
-keyed_position_total keying names = then_total (on_total (slice_get names) (keyed_total keying)) nat_cmp_total
+keyed_position_total : (bits : ℕ) (names : List (List ℕ)) → IsTotalOrder (keyed_position_cmp bits names)
+keyed_position_total bits names = then_total (on_total (slice_get names) (keyed_total bits)) nat_cmp_total
 
 pub second_equal : (r s : Ordering) → ordering_then r s ≡ Equal → s ≡ Equal
 second_equal Equal s e = e
@@ -114,42 +112,45 @@ bytes_equal_is : (n : List ℕ) (o : Option (List ℕ)) → bytes_cmp o (Some n)
 bytes_equal_is n None e = absurd (false≢true (ap is_eq e))
 bytes_equal_is n (Some x) e = ap Some ((bytes_decides x n).0 (texts_ties x n ∙ ap is_eq e))
 
-module _ (keying : Keying) (names : List (List ℕ)) (order : List ℕ) (h : IsOrderOf keying names order) where
-  pub as_many : length order ≡ length names
-  as_many = length_permutation _ _ h.each ∙ length-range_with_len 0 (length names)
+-- each position of the name is in the order
+abbrev pub Holds : List (List ℕ) → List ℕ → List ℕ → Type 0
+Holds names order n = (i : ℕ) → slice_get names i ≡ Some n → (q : ℕ) × (q < length order) × (get_or order q 0 ≡ i)
 
-  pub names_ranked : (n : List ℕ) → IsNonDecreasingBy (λ i. ordering_index (name_cmp keying names n i)) order
-  names_ranked n = searchable_from_sorted (keyed_total keying) (slice_get names) order (Some n) (λ k d low high. not_less _ _ (h.rising k d low high))
+-- an order of all positions has as many, holds each, and none twice
+pub all_positions : (names : List (List ℕ)) (order : List ℕ) → IsPermutation (range_with_len 0 (length names)) order → length order ≡ length names
+all_positions names order each = length_permutation _ _ each ∙ length-range_with_len 0 (length names)
 
-  -- no position occurs twice
-  apart : Distinct order
-  apart = AllPairs-from_IsDistinct Decides-eqb order (IsDistinct-IsPermutation _ nat_eq_equiv.symm _ order h.each (IsDistinct-from_AllPairs Decides-eqb (range_with_len 0 (length names)) (λ i j d l b e.
-      omega (arith, l, b, e, length-range_with_len 0 (length names), get_or-range_with_len 0 (length names) i d (omega (arith, l, b, length-range_with_len 0 (length names))), get_or-range_with_len 0 (length names) j d (omega (arith, b, length-range_with_len 0 (length names)))))))
+pub all_apart : (names : List (List ℕ)) (order : List ℕ) → IsPermutation (range_with_len 0 (length names)) order → Distinct order
+all_apart names order each = AllPairs-from_IsDistinct Decides-eqb order (IsDistinct-IsPermutation _ nat_eq_equiv.symm _ order each (IsDistinct-from_AllPairs Decides-eqb (range_with_len 0 (length names)) (λ i j d l b e.
+    omega (arith, l, b, e, length-range_with_len 0 (length names), get_or-range_with_len 0 (length names) i d (omega (arith, l, b, length-range_with_len 0 (length names))), get_or-range_with_len 0 (length names) j d (omega (arith, b, length-range_with_len 0 (length names)))))))
+
+pub placed : (names : List (List ℕ)) (order n : List ℕ) → IsPermutation (range_with_len 0 (length names)) order → Holds names order n
+placed names order n each i e =
+    let within = slice_get_within names i n e in
+    let s = Contains-permutation _ _ i each (i, omega (arith, within, length-range_with_len 0 (length names)), omega (arith, get_or-range_with_len 0 (length names) i i within)) in
+    (s.0, s.1, get_or_default order s.0 0 i s.1 ∙ s.2)
+
+module _ (bits : ℕ) (names : List (List ℕ)) (order : List ℕ) (up : IsSorted (keyed_position_cmp bits names) order) (apart : Distinct order) where
+  pub names_ranked : (n : List ℕ) → IsNonDecreasingBy (λ i. ordering_index (name_cmp bits names n i)) order
+  names_ranked n = searchable_from_sorted (keyed_total bits) (slice_get names) order (Some n) (λ k d low high. not_less _ _ (up k d low high))
 
   module _ (n : List ℕ) where
     -- a position of the name compares as equal, and no other does
-    pub itself : (i : ℕ) → slice_get names i ≡ Some n → name_cmp keying names n i ≡ Equal
-    itself i e = ap (λ o. keyed_cmp keying o (Some n)) e ∙ tied_itself (keyed_total keying) (Some n)
+    pub itself : (i : ℕ) → slice_get names i ≡ Some n → name_cmp bits names n i ≡ Equal
+    itself i e = ap (λ o. keyed_cmp bits o (Some n)) e ∙ tied_itself (keyed_total bits) (Some n)
 
-    pub equal_is : (o : Option (List ℕ)) → keyed_cmp keying o (Some n) ≡ Equal → o ≡ Some n
+    pub equal_is : (o : Option (List ℕ)) → keyed_cmp bits o (Some n) ≡ Equal → o ≡ Some n
     equal_is o e = bytes_equal_is n o (second_equal _ _ e)
 
-    -- each position of the name is in the order
-    pub placed : (i : ℕ) → slice_get names i ≡ Some n → (q : ℕ) × (q < length order) × (get_or order q 0 ≡ i)
-    placed i e =
-        let within = slice_get_within names i n e in
-        let s = Contains-permutation _ _ i h.each (i, omega (arith, within, length-range_with_len 0 (length names)), omega (arith, get_or-range_with_len 0 (length names) i i within)) in
-        (s.0, s.1, get_or_default order s.0 0 i s.1 ∙ s.2)
-
     -- all names before the entry of its first position are below the name
-    before_first : (k q : ℕ) → k < q → q < length order → FirstAt names n (get_or order q 0) → name_cmp keying names n (get_or order k 0) ≡ Less
+    before_first : (k q : ℕ) → k < q → q < length order → FirstAt names n (get_or order q 0) → name_cmp bits names n (get_or order k 0) ≡ Less
     before_first k q l b first = at_most_equal _ _ (names_ranked n k q 0 (omega (arith, l)) b) (itself _ first.here) (λ same.
         let i = get_or order k 0 in
         let j = get_or order q 0 in
         let there = equal_is (slice_get names i) same in
-        let by_position : keyed_position_cmp keying names j i ≡ nat_cmp j i =
-        ap (λ r. ordering_then r (nat_cmp j i)) (ap (λ o. keyed_cmp keying o (slice_get names i)) first.here ∙ ap (keyed_cmp keying (Some n)) there ∙ tied_itself (keyed_total keying) (Some n)) in
-        let far = sorted_far (λ x y. is_lt (keyed_position_cmp keying names x y)) (ranks_by (keyed_position_total keying names) (λ x. x)) order h.rising k q 0 (omega (arith, l)) b in
+        let by_position : keyed_position_cmp bits names j i ≡ nat_cmp j i =
+        ap (λ r. ordering_then r (nat_cmp j i)) (ap (λ o. keyed_cmp bits o (slice_get names i)) first.here ∙ ap (keyed_cmp bits (Some n)) there ∙ tied_itself (keyed_total bits) (Some n)) in
+        let far = sorted_far (λ x y. is_lt (keyed_position_cmp bits names x y)) (ranks_by (keyed_position_total bits names) (λ x. x)) order up k q 0 (omega (arith, l)) b in
         elim (cases_lt i j) [
           | inl sooner ↦ first.first i sooner there
           | inr later ↦ apart k q 0 l b (omega (arith, later, ge_from_not_lt j i (sym (ap is_lt by_position) ∙ far)))
@@ -166,7 +167,7 @@ module _ (keying : Keying) (names : List (List ℕ)) (order : List ℕ) (h : IsO
 
     -- one step: a comparison with the last name of what may be left out decides which part is left
     pub steps : (low size compared half m below : ℕ) (b : Bool) (next_low left counted : ℕ) → Searching names order n low size compared → 0 < half → half + half ≤ size → left + half ≡ size
-        → binary_digits (size - 1) ≡ binary_digits (left - 1) + 1 → m ≡ low + half - 1 → half < 2 ^ 64 → (Occurs names n → is_lt (name_cmp keying names n (get_or order m 0)) ≡ b) → below ≡ mask b
+        → binary_digits (size - 1) ≡ binary_digits (left - 1) + 1 → m ≡ low + half - 1 → half < 2 ^ 64 → (Occurs names n → is_lt (name_cmp bits names n (get_or order m 0)) ≡ b) → below ≡ mask b
         → next_low ≡ low + bit_and half below → counted ≡ compared + 1 → Searching names order n next_low left counted
     steps low size compared half m below true next_low left counted inv some less rest digits at fits distinguished e next one =
         let moved : bit_and half below ≡ half = masked true half below fits e in record {
@@ -196,13 +197,13 @@ module _ (keying : Keying) (names : List (List ℕ)) (order : List ℕ) (h : IsO
 
     -- the first step, after which a power of two is left
     pub leaves_power : (k low compared half m below : ℕ) (b : Bool) → 2 ^ k < length order → length order < 2 * 2 ^ k → half ≡ length order - 2 ^ k → m ≡ half - 1 → half < 2 ^ 64
-        → (Occurs names n → is_lt (name_cmp keying names n (get_or order m 0)) ≡ b) → below ≡ mask b → low ≡ bit_and half below → compared ≡ 1 → Searching names order n low (2 ^ k) compared
+        → (Occurs names n → is_lt (name_cmp bits names n (get_or order m 0)) ≡ b) → below ≡ mask b → low ≡ bit_and half below → compared ≡ 1 → Searching names order n low (2 ^ k) compared
     leaves_power k low compared half m below b more fewer is at fits distinguished e moved one =
         steps 0 (length order) 0 half m below b low (2 ^ k) compared (starts 0 (length order) 0 (omega (arith, more)) refl refl refl) (omega (arith, more, is)) (omega (arith, more, fewer, is)) (omega (arith, more, is))
         (digits_more (length order) k more (omega (arith, fewer))) (omega (arith, at)) fits distinguished e (omega (arith, moved)) (omega (arith, one))
 
     -- a step of halves
-    pub halves : (low compared half m below : ℕ) (b : Bool) (counted : ℕ) → Halving names order n low half compared → 0 < half → m ≡ low + half - 1 → half < 2 ^ 64 → (Occurs names n → is_lt (name_cmp keying names n (get_or order m 0)) ≡ b)
+    pub halves : (low compared half m below : ℕ) (b : Bool) (counted : ℕ) → Halving names order n low half compared → 0 < half → m ≡ low + half - 1 → half < 2 ^ 64 → (Occurs names n → is_lt (name_cmp bits names n (get_or order m 0)) ≡ b)
         → below ≡ mask b → counted ≡ compared + 1 → Halving names order n (low + bit_and half below) (half / 2) counted
     halves low compared half m below b counted inv some at fits distinguished e one = go inv.steps inv.is inv.left
       where
@@ -216,13 +217,13 @@ module _ (keying : Keying) (names : List (List ℕ)) (order : List ℕ) (h : IsO
             }
 
     -- the last comparison decides whether the entry that is left has the name
-    pub ends : (low size compared : ℕ) (same : Bool) → Searching names order n low size compared → size ≤ 1 → (same ≡ true → name_cmp keying names n (get_or order low 0) ≡ Equal)
-        → (same ≡ false → name_cmp keying names n (get_or order low 0) ≢ Equal) → then_some same (get_or order low 0) ≡ first_place names n
-    ends low size compared same inv last is isnt = go same (first_place names n) refl refl
+    pub ends : (low size compared : ℕ) (same : Bool) → Holds names order n → Searching names order n low size compared → size ≤ 1 → (same ≡ true → name_cmp bits names n (get_or order low 0) ≡ Equal)
+        → (same ≡ false → name_cmp bits names n (get_or order low 0) ≢ Equal) → then_some same (get_or order low 0) ≡ first_place names n
+    ends low size compared same holds inv last is isnt = go same (first_place names n) refl refl
       where
         low_is : (i : ℕ) → FirstAt names n i → get_or order low 0 ≡ i
         low_is i first =
-            let s = placed i first.here in
+            let s = holds i first.here in
             let range = inv.holds s.0 s.1 (subst (FirstAt names n) (sym s.2) first) in
             ap (λ k. get_or order k 0) (omega (arith, range.0, range.1, last)) ∙ s.2
 
@@ -230,7 +231,7 @@ module _ (keying : Keying) (names : List (List ℕ)) (order : List ℕ) (h : IsO
         go true None e f = absurd (absent_of_place names n (sym f) _ (equal_is _ (is e)))
         go false None e f = refl
         go true (Some i) e f = ap Some (low_is i (first_of_place names n i (sym f)))
-        go false (Some i) e f = let first = first_of_place names n i (sym f) in absurd (isnt e (ap (name_cmp keying names n) (low_is i first) ∙ itself i first.here))
+        go false (Some i) e f = let first = first_of_place names n i (sym f) in absurd (isnt e (ap (name_cmp bits names n) (low_is i first) ∙ itself i first.here))
 
     pub counts : (low size compared : ℕ) → Searching names order n low size compared → size ≤ 1 → compared + 1 ≡ comparisons (length order)
     counts low size compared inv last = count_of (length order) compared (omega (arith, inv.within, inv.some)) (omega (arith, inv.count, one_left inv.some last))
@@ -242,13 +243,13 @@ module _ (keying : Keying) (names : List (List ℕ)) (order : List ℕ) (h : IsO
         here ∙ sym (equal_is _ (between _ _ _ (names_ranked n p (p + 1) 0 (omega arith) (omega (arith, l, b))) (names_ranked n (p + 1) q 0 (omega (arith, l)) b) (itself _ here) (itself _ there)))
 
   -- where no two neighbours have one name, no two positions have
-  pub all_differ : AllAdjacentBelow (λ i j. slice_get names i ≢ slice_get names j) order (length order) → Distinct names
-  all_differ differ i j d l b same =
+  pub all_differ : IsPermutation (range_with_len 0 (length names)) order → AllAdjacentBelow (λ i j. slice_get names i ≢ slice_get names j) order (length order) → Distinct names
+  all_differ each differ i j d l b same =
       let n = get_or names j d in
       let at_i : slice_get names i ≡ Some n = slice_get-get_or names i d (omega (arith, l, b)) ∙ ap Some same in
       let at_j : slice_get names j ≡ Some n = slice_get-get_or names j d b in
-      let p = placed n i at_i in
-      let q = placed n j at_j in
+      let p = placed names order n each i at_i in
+      let q = placed names order n each j at_j in
       let there_i : slice_get names (get_or order p.0 0) ≡ Some n = ap (slice_get names) p.2 ∙ at_i in
       let there_j : slice_get names (get_or order q.0 0) ≡ Some n = ap (slice_get names) q.2 ∙ at_j in
       elim (cases_order p.0 q.0) [
@@ -271,16 +272,13 @@ module _ (keying : Keying) (names : List (List ℕ)) (order : List ℕ) (h : IsO
 
 -- ---- the positions of entries
 
-abbrev pub no_entry : IndexEntry
-no_entry = record { key = 0; position = 0 }
+pub as_many_positions : (bits : ℕ) (entries : List ℕ) → length (positions bits entries) ≡ length entries
+as_many_positions bits entries = length-map entries (position_in bits)
 
-pub as_many_positions : (entries : List IndexEntry) → length (positions entries) ≡ length entries
-as_many_positions entries = length-map entries (λ p. p.position)
+pub position_at : (bits : ℕ) (entries : List ℕ) (k d : ℕ) → k < length entries → get_or (positions bits entries) k 0 ≡ position_in bits (get_or entries k d)
+position_at bits entries k d within = get_or-map (position_in bits) entries k d 0 within
 
-pub position_at : (entries : List IndexEntry) (k : ℕ) (d : IndexEntry) → k < length entries → get_or (positions entries) k 0 ≡ (get_or entries k d).position
-position_at entries k d within = get_or-map (λ p. p.position) entries k d 0 within
-
-pub position_is_within : (names : List (List ℕ)) (entries : List IndexEntry) → IsPermutation (range_with_len 0 (length names)) (positions entries) → (k : ℕ) (d : IndexEntry) → k < length entries
-    → (get_or entries k d).position < length names
-position_is_within names entries each k d within =
-    omega (arith, position_at entries k d within, position_within (length names) (positions entries) each k (omega (arith, within, as_many_positions entries)))
+pub position_is_within : (bits : ℕ) (names : List (List ℕ)) (entries : List ℕ) → IsPermutation (range_with_len 0 (length names)) (positions bits entries) → (k d : ℕ) → k < length entries
+    → position_in bits (get_or entries k d) < length names
+position_is_within bits names entries each k d within =
+    omega (arith, position_at bits entries k d within, position_within (length names) (positions bits entries) each k (omega (arith, within, as_many_positions bits entries)))

@@ -2,11 +2,17 @@
 -- SPDX-FileCopyrightText: Copyright the Vortex contributors
 
 -- How many names a lookup compares. From arithmetic.
-use Rattle.std.specs.Prelude.{ℕ, zero, suc, ◌+◌}
+use Rattle.std.specs.Prelude.{ℕ, zero, suc, ◌+◌, ◌==◌, List, length}
+use Rattle.std.specs.List.{count_by}
 use Rattle.dtype_base.specs.BinaryDigits.{binary_digits}
+use Rattle.dtype_base.specs.NameHashes.{bucket_of}
 
 -- How many names a binary search among n names compares, whichever name is looked for. Among n + 1 names: a comparison
 -- for each binary digit of n until one name is left, and one more with that.
 abbrev pub comparisons : ℕ → ℕ
 comparisons zero = 0
 comparisons (suc n) = binary_digits n + 1
+
+-- how many of the names are in the bucket of this name, among which a lookup searches
+unfoldable pub bucket_len : List (List ℕ) → List ℕ → ℕ
+bucket_len names n = count_by (λ m. bucket_of (length names) m == bucket_of (length names) n) names

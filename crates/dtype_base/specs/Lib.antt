@@ -10,5 +10,6 @@ pub mod Primitives
 pub mod FieldNames
 pub mod Escapes
 pub mod Decimals
+pub mod NameHashes
 pub mod Comparisons
 pub mod private

@@ -3,5 +3,4 @@
 
 -- Definitions that only private contracts of this crate cite: the index by which names are looked up. No other crate
 -- may cite them.
-pub mod NameKeys
 pub mod NameOrder

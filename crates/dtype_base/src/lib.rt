@@ -9,8 +9,8 @@
 //! Begin with `VortexError` (all errors of the workspace), then `Nullability`, `PType`,
 //! `DecimalDType`, `DecimalType`, `FieldName`, `FieldNames` and `IndexedNames`. The definitions that the
 //! contracts cite are in `specs/`: `Errors` (numbers), `Primitives` and `Decimals` (the two tables),
-//! `FieldNames` (`first_place`), `Comparisons` and `BinaryDigits` (the price of a lookup) and `Escapes` (the text of a
-//! name); `specs/private/` has those of the index of names, which no other crate cites. `laws` states the theorems about
+//! `FieldNames` (`first_place`), `Comparisons`, `NameHashes` and `BinaryDigits` (the price of a lookup) and `Escapes` (the
+//! text of a name); `specs/private/` has those of the index of names, which no other crate cites. `laws` states the theorems about
 //! them. What is proved, and what is only tested, is in `docs/PROMISES.md`.
 #![tactic(auto)]
 

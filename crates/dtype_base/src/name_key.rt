@@ -1,9 +1,11 @@
 // SPDX-License-Identifier: Apache-2.0
 // SPDX-FileCopyrightText: Copyright the Vortex contributors
 
-// The keys of an index: numbers of eight bytes that distinguish most names.
-ghost use Rattle.std.specs.Prelude.{◌≡◌, ◌*◌, ◌<◌, ◌≤◌, length, drop, slice_index};
-ghost use Rattle.dtype_base.specs.private.NameKeys.{big_endian, hash_of, key_of, mixed, sort_key};
+// The keys of an index: the first bits of the hashes of names. Hashes share out the names evenly, so that a lookup searches
+// among few.
+ghost use Rattle.std.specs.Prelude.{◌≡◌, ◌+◌, ◌<◌, ◌≤◌, length, slice_index};
+ghost use Rattle.dtype_base.specs.BinaryDigits.{binary_digits};
+ghost use Rattle.dtype_base.specs.NameHashes.{big_endian, bucket_of_key, hash_of, key_of, mixed, without_bits};
 
 // The number after the greatest of eight bytes: what a difference of two of them borrows.
 pub(crate) const TWO_POW_64: u128 = 0x1_0000_0000_0000_0000;
@@ -11,44 +13,50 @@ pub(crate) const TWO_POW_64: u128 = 0x1_0000_0000_0000_0000;
 // What a hash multiplies by: 2^64 divided by the golden ratio.
 const MULTIPLIER: u128 = 0x9E37_79B9_7F4A_7C15;
 
-// What follows the first `count` bytes.
-fn suffix(text: &[u8], count: usize) -> &[u8]
-    ensures { result.now ≡ drop count text.now }
+// How many bits a position takes among so many names.
+#[tactic(auto, using(crate::proofs::NameHashes::digits_of_log), unfolding(crate::specs::BinaryDigits::binary_digits))]
+pub(crate) fn position_bits(count: usize) -> u32
+    ensures { result ≡ binary_digits count }
 {
-    &text[count.min(text.len())..]
-}
-
-// The sort key of a text after a prefix: the eight bytes that follow the prefix, big-endian, padded with zeros.
-#[inline(always)]
-pub(crate) fn sort_key(text: &[u8], prefix_len: usize) -> u64
-    ensures { result ≡ sort_key prefix_len text.now }
-{
-    load_u64_at(text, prefix_len)
-}
-
-// How a key is made of a name.
-#[derive(Clone, Copy, Debug)]
-pub(crate) enum Keying {
-    // Of what follows the common prefix of the names, of this length in bytes.
-    AfterPrefix(usize),
-    // Of the whole name: its hash.
-    Hashed,
-}
-
-// The key of a name.
-#[inline(always)]
-pub(crate) fn key_of(text: &[u8], keying: &Keying) -> u64
-    ensures { result ≡ key_of keying.now text.now }
-{
-    match keying {
-        Keying::AfterPrefix(prefix_len) => sort_key(text, *prefix_len),
-        Keying::Hashed => hash_of(text),
+    match count.checked_ilog2() {
+        Some(log) => log + 1,
+        None => 0,
     }
+}
+
+// A number without its last bits, this many.
+#[inline(always)]
+pub(crate) fn without_bits(number: u64, bits: u32) -> u64
+    requires { bits < 64 }
+    ensures { result ≡ without_bits bits number }
+{
+    number - number % (1 << bits)
+}
+
+// The key of a name: the first bits of its hash. The last, this many, are left to a position.
+#[inline(always)]
+#[tactic(auto, unfolding(crate::specs::NameHashes::key_of))]
+pub(crate) fn key_of(text: &[u8], bits: u32) -> u64
+    requires { bits < 64 }
+    ensures { result ≡ key_of bits text.now }
+{
+    without_bits(hash_of(text), bits)
+}
+
+// The bucket of a key: all keys are shared out evenly.
+#[inline(always)]
+#[tactic(auto, using(crate::proofs::NameHashes::bucket_below))]
+pub(crate) fn bucket_of_key(count: usize, key: u64) -> usize
+    requires { 0 < count }
+    ensures is { result ≡ bucket_of_key count key }
+    ensures within { result < count }
+{
+    (u128::from(key) * count as u128 / TWO_POW_64) as usize
 }
 
 // A number that hardly two texts have in common: of the length, the words of eight bytes, and the last eight bytes.
 #[inline(always)]
-#[tactic(auto, using(crate::proofs::KeyOrder::hash_steps), unfolding(crate::specs::private::NameKeys::words_hash))]
+#[tactic(auto, using(crate::proofs::NameHashes::hash_steps), unfolding(crate::specs::NameHashes::words_hash))]
 pub(crate) fn hash_of(text: &[u8]) -> u64
     ensures { result ≡ hash_of text.now }
 {
@@ -65,7 +73,7 @@ pub(crate) fn hash_of(text: &[u8]) -> u64
 // One word more in a hash. The sum of the product's halves is the product modulo 2^64 - 1, so that each bit of both numbers
 // counts.
 #[inline(always)]
-#[tactic(auto, unfolding(crate::specs::private::NameKeys::mixed))]
+#[tactic(auto, unfolding(crate::specs::NameHashes::mixed))]
 fn mixed(hash: u64, word: u64) -> u64
     ensures { result ≡ mixed hash word }
 {
@@ -73,23 +81,8 @@ fn mixed(hash: u64, word: u64) -> u64
     ((product / TWO_POW_64) as u64).wrapping_add((product % TWO_POW_64) as u64)
 }
 
-// The eight bytes after the first `count`, as one big-endian number, padded with zeros. Where fewer follow in a text of at
-// least eight, its last eight are read at once and shifted.
-#[tactic(auto, using(crate::proofs::KeyOrder::shifted))]
-fn load_u64_at(text: &[u8], count: usize) -> u64
-    ensures { result ≡ big_endian 8 (drop count text.now) }
-{
-    let rest = suffix(text, count);
-    let held = rest.len();
-    if held == 0 || held >= 8 || text.len() < 8 {
-        return load_u64(rest);
-    }
-    let last = suffix(text, text.len() - 8);
-    load_u64(last) << (8 * (8 - held))
-}
-
 // The first eight bytes as one big-endian number, padded with zeros. A text of at least eight is read at once.
-#[tactic(auto, using(crate::proofs::KeyOrder::first_eight, crate::proofs::KeyOrder::of_none))]
+#[tactic(auto, using(crate::proofs::NameHashes::first_eight, crate::proofs::NameHashes::of_none))]
 fn load_u64(text: &[u8]) -> u64
     ensures { result ≡ big_endian 8 text.now }
 {
@@ -113,7 +106,7 @@ fn load_u64(text: &[u8]) -> u64
 
 // The first eight bytes of a text of at least eight, as one big-endian number.
 #[inline(always)]
-#[tactic(auto, using(crate::proofs::KeyOrder::first_eight))]
+#[tactic(auto, using(crate::proofs::NameHashes::first_eight))]
 fn first_word(text: &[u8]) -> u64
     requires { 8 ≤ length text.now }
     ensures { result ≡ big_endian 8 text.now }

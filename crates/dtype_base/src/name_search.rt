@@ -1,41 +1,61 @@
 // SPDX-License-Identifier: Apache-2.0
 // SPDX-FileCopyrightText: Copyright the Vortex contributors
 
-// The binary search for a name in an index. Only here is a name compared with the one that is looked for.
-ghost use Rattle.std.specs.Prelude.{◌≡◌, ◌↔◌, ◌+◌, ◌<◌, ◌^◌, IsTrue, [], length, slice_index_or, true, false};
+// The search for a name in an index. Only here is a name compared with the one that is looked for.
+ghost use Rattle.std.specs.Prelude.{◌≡◌, ◌↔◌, ◌+◌, ◌<◌, ◌≤◌, ◌^◌, IsTrue, [], length, slice_index, slice_index_or, true, false};
+ghost use Rattle.std.specs.List.{slice_range};
 ghost use Rattle.std.specs.Ordering.{is_lt, nat_cmp};
 ghost use Rattle.dtype_base.specs.FieldNames.{first_place};
-ghost use Rattle.dtype_base.specs.Comparisons.{comparisons};
-ghost use Rattle.dtype_base.specs.private.NameKeys.{key_of};
-ghost use Rattle.dtype_base.specs.private.NameOrder.{IsIndexBy, IsIndexOf, mask, entry_name_cmp};
+ghost use Rattle.dtype_base.specs.Comparisons.{bucket_len, comparisons};
+ghost use Rattle.dtype_base.specs.NameHashes.{key_of};
+ghost use Rattle.dtype_base.specs.private.NameOrder.{IsBucketFor, IsIndexOf, entry_name_cmp, key_in, mask, position_in};
 
 use crate::FieldName;
-use crate::name_key::{Keying, TWO_POW_64};
-use crate::name_order::{Discriminator, IndexEntry, NameIndex};
+use crate::name_key::{TWO_POW_64, bucket_of_key, key_of, without_bits};
+use crate::name_order::{Discriminator, NameIndex, position_in};
 
-// The first position of the name, or `None`, and how many names were compared. Inlined, since a call for each lookup takes
-// a tenth longer; compiled once for each discriminator, so that no step of a search tests which it is.
-#[inline(always)]
-pub(crate) fn search(
-    names: &[FieldName],
-    index: &NameIndex,
-    name: &str,
-    key: u64,
-) -> (Option<usize>, u64)
+// The first position of the name, or `None`, and how many names were compared: only those of its bucket. Compiled once for
+// each discriminator, so that no step of a search tests which it is.
+pub(crate) fn search(names: &[FieldName], index: &NameIndex, name: &str) -> (Option<usize>, u64)
     requires index { IsIndexOf names.now index.now }
-    requires key { key ≡ key_of index.now.keying name.now }
     ensures place { result.0 ≡ first_place names.now name.now }
-    ensures count { result.1 ≡ comparisons (length names.now) }
+    ensures count { result.1 ≡ comparisons (bucket_len names.now name.now) }
 {
-    let NameIndex {
-        keying,
-        entries,
-        ..
-    } = index;
-    match index.discriminator {
-        Discriminator::Key => search_with(names, keying, Discriminator::Key, entries, name, key),
-        Discriminator::Text => search_with(names, keying, Discriminator::Text, entries, name, key),
+    if index.entries.is_empty() {
+        return (None, 0);
     }
+    let bits = index.bits;
+    let key = key_of(name.as_bytes(), bits);
+    let entries = bucket_entries(names, index, name, key);
+    match index.discriminator {
+        Discriminator::Key => search_with(names, bits, Discriminator::Key, entries, name, key),
+        Discriminator::Text => search_with(names, bits, Discriminator::Text, entries, name, key),
+    }
+}
+
+// The entries of the bucket of a name with this key.
+#[inline(always)]
+fn bucket_entries<'a>(names: &[FieldName], index: &'a NameIndex, name: &str, key: u64) -> &'a [u64]
+    requires some { 0 < length index.now.entries.items }
+    requires index { IsIndexOf names.now index.now }
+    requires key { key ≡ key_of index.now.bits name.now }
+    ensures bucket { IsBucketFor names.now index.now.bits index.now.discriminator name.now result.now }
+    ensures count { length result.now ≡ bucket_len names.now name.now }
+{
+    let count = index.entries.len();
+    let bucket = bucket_of_key(count, key);
+    between(&index.entries, &index.starts, bucket)
+}
+
+// The entries from the start of a bucket to the next.
+#[inline(always)]
+fn between<'a>(entries: &'a [u64], starts: &[usize], bucket: usize) -> &'a [u64]
+    requires within { bucket + 1 < length starts.now }
+    requires rising { slice_index starts.now bucket ≤ slice_index starts.now (bucket + 1) }
+    requires end { slice_index starts.now (bucket + 1) ≤ length entries.now }
+    ensures { result.now ≡ slice_range entries.now (slice_index starts.now bucket) (slice_index starts.now (bucket + 1)) }
+{
+    &entries[starts[bucket]..starts[bucket + 1]]
 }
 
 // Binary search, branch-free where keys distinguish the entries. It ends at the first entry that isn't below the name, if
@@ -44,16 +64,17 @@ pub(crate) fn search(
 #[inline(always)]
 fn search_with(
     names: &[FieldName],
-    keying: &Keying,
+    bits: u32,
     by: Discriminator,
-    entries: &[IndexEntry],
+    entries: &[u64],
     name: &str,
     key: u64,
 ) -> (Option<usize>, u64)
-    requires index { IsIndexBy names.now keying.now by entries.now }
-    requires key { key ≡ key_of keying.now name.now }
+    requires bits { bits < 64 }
+    requires bucket { IsBucketFor names.now bits by name.now entries.now }
+    requires key { key ≡ key_of bits name.now }
     ensures place { result.0 ≡ first_place names.now name.now }
-    ensures count { result.1 ≡ comparisons (length names.now) }
+    ensures count { result.1 ≡ comparisons (length entries.now) }
 {
     if entries.is_empty() {
         return (None, 0);
@@ -64,19 +85,19 @@ fn search_with(
     if size < entries.len() {
         let half = entries.len() - size;
         let middle = entries[half - 1];
-        let comparison = compare(names, middle, name, key, by, false, &mut compared);
+        let comparison = compare(names, bits, middle, name, key, by, false, &mut compared);
         low = half & comparison.below;
     }
     let mut half = size / 2;
     while half > 0 {
         let middle = entries[low + half - 1];
-        let comparison = compare(names, middle, name, key, by, false, &mut compared);
+        let comparison = compare(names, bits, middle, name, key, by, false, &mut compared);
         low += half & comparison.below;
         half /= 2;
     }
     let last = entries[low];
-    let comparison = compare(names, last, name, key, by, true, &mut compared);
-    (comparison.same.then_some(last.position), compared)
+    let comparison = compare(names, bits, last, name, key, by, true, &mut compared);
+    (comparison.same.then_some(position_in(last, bits)), compared)
 }
 
 // How an entry's name compares to the one that is looked for.
@@ -94,28 +115,32 @@ struct KeyComparison {
 #[inline(always)]
 fn compare(
     names: &[FieldName],
-    entry: IndexEntry,
+    bits: u32,
+    entry: u64,
     name: &str,
     key: u64,
     by: Discriminator,
     is_last: bool,
     compared: &mut u64,
 ) -> KeyComparison
-    requires within { entry.position < length names.now }
+    requires bits { bits < 64 }
+    requires within { position_in bits entry < length names.now }
     requires room { compared.old + 1 < 2 ^ 64 }
     ensures counted { compared.new ≡ compared.old + 1 }
-    ensures below { is_last ≡ false → result.below ≡ mask (is_lt (entry_name_cmp names.now name.now key by entry)) }
-    ensures same { is_last ≡ true → (IsTrue result.same ↔ ((entry.key ≡ key) × (slice_index_or names.now entry.position [] ≡ name.now))) }
+    ensures below { is_last ≡ false → result.below ≡ mask (is_lt (entry_name_cmp bits names.now name.now key by entry)) }
+    ensures same { is_last ≡ true → (IsTrue result.same ↔ ((key_in bits entry ≡ key) × (slice_index_or names.now (position_in bits entry) [] ≡ name.now))) }
 {
     *compared += 1;
-    let here = &names[entry.position];
+    let position = position_in(entry, bits);
+    let here = &names[position];
+    let entry_key = without_bits(entry, bits);
     if is_last {
-        let same = entry.key == key && here.eq_str(name);
+        let same = entry_key == key && here.eq_str(name);
         return KeyComparison { below: 0, same };
     }
     let below = match by {
-        Discriminator::Text if entry.key == key => mask_of(here.as_str().cmp(name).is_lt()),
-        _ => less_mask(entry.key, key),
+        Discriminator::Text if entry_key == key => mask_of(here.as_str().cmp(name).is_lt()),
+        _ => less_mask(entry_key, key),
     };
     KeyComparison { below, same: false }
 }

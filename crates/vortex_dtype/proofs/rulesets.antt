@@ -44,7 +44,7 @@ pub use Rattle.dtype_base.proofs.lemmas.Lookups.{few_compared}
 pub use Rattle.dtype_paths.proofs.lemmas.Covering.{of_push, union_swap}
 pub use Rattle.dtype_types.proofs.lemmas.Order.{sub_antisymmetric}
 use Rattle.dtype_base.proofs.lemmas.BinaryDigits.{digits_fewest, digits_reach}
-use Rattle.dtype_base.proofs.lemmas.Lookups.{lookups as name_lookups, absent_of_place, first_of_place, found_compared, found_first, most_compared, no_place, none_absent, place_found, place_of_first, some_compared}
+use Rattle.dtype_base.proofs.lemmas.Lookups.{lookups as name_lookups, absent_of_place, first_of_place, found_compared, found_first, most_compared, no_place, none_absent, place_found, place_of_first}
 use Rattle.dtype_messages.proofs.lemmas.Equality.{equality as message_equality}
 use Rattle.dtype_messages.proofs.lemmas.Names.{names}
 use Rattle.dtype_messages.proofs.lemmas.Numbers.{numbers}
@@ -79,7 +79,7 @@ pub ruleset lookups = (name_lookups, field_lookups, compared_within, compared_up
 -- `lookups` by question: what is found, and where; how many names are compared for it
 pub ruleset found_names = (place_of_first, no_place, place_found, first_of_place, absent_of_place, found_first, none_absent, field_lookups)
 
-pub ruleset compared_names = (few_compared, most_compared, some_compared, found_compared, digits_reach, digits_fewest, compared_within, compared_up_to)
+pub ruleset compared_names = (few_compared, most_compared, found_compared, digits_reach, digits_fewest, compared_within, compared_up_to)
 
 -- `==` and `!=` of types, of their parts, and of messages, where a file compares several of these
 pub ruleset equality = (type_equality, message_equality, differences)

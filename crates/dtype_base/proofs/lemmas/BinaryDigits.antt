@@ -41,7 +41,7 @@ pub digits_fewest : (n d : ℕ) → n < 2 ^ d → binary_digits n ≤ d
 digits_fewest n d fits = (digits_are n).fewest d fits
 
 -- a number from a power of two on, and below the next
-digits_between : (n k : ℕ) → 2 ^ k ≤ n → n < 2 ^ suc k → binary_digits n ≡ suc k
+pub digits_between : (n k : ℕ) → 2 ^ k ≤ n → n < 2 ^ suc k → binary_digits n ≡ suc k
 digits_between n k low fits =
     let most = digits_fewest n (suc k) fits in
     let least = below_next k (binary_digits n) (omega (arith, low, digits_reach n)) in

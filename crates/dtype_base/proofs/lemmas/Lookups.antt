@@ -3,17 +3,18 @@
 
 -- Lemmas about lookups. A caller names all of them in one line,
 --     #![tactic(auto, using(dtype_base::proofs::lemmas::Lookups::lookups))]
-use Rattle.std.proofs.Common.{◌≡◌, ℕ, zero, suc, ◌<◌, ◌≤◌, ◌^◌, List, length, Option, Some, None, IfSome, IfNone, IsSome, ◌+◌, cond, ◌⊎◌, ap, sym, subst, ◌∙◌, inl, inr, arith, slice_get}
+use Rattle.std.proofs.Common.{◌≡◌, ℕ, zero, suc, ◌<◌, ◌≤◌, ◌==◌, ◌^◌, List, [], get_or, length, Option, Some, None, IfSome, IfNone, IsSome, ◌+◌, cond, ◌⊎◌, ap, sym, subst, ◌∙◌, inl, inr, arith, slice_get}
 use Rattle.std.specs.List.{position_or_len}
 use Rattle.std.specs.Str.{bytes_eq}
-use Rattle.std.proofs.lemmas.Bool.{lt-ltb, le-ltb, false≢true, cases_lt, cases_order}
-use Rattle.std.proofs.lemmas.List.Sums.{passes_at_first, fails_before_first}
+use Rattle.std.proofs.lemmas.Bool.{cond-true, eq-eqb, lt-ltb, le-ltb, false≢true, cases_lt, cases_order}
+use Rattle.std.proofs.lemmas.List.Sums.{count_by-le-length, fails_before_first, passes_at_first, sum_by_more_le}
 use Rattle.std.proofs.lemmas.Option.{none-some, same_Some, slice_get_within, get_or_from_slice_get, slice_get-get_or}
 use Rattle.std.proofs.lemmas.Slice.Eq.{bytes_eq-Decides}
 use Rattle.dtype_base.specs.BinaryDigits.{binary_digits}
 use Rattle.dtype_base.proofs.lemmas.BinaryDigits.{digits_reach, digits_fewest}
 use Rattle.dtype_base.specs.FieldNames.{FirstAt, IsAbsent, first_place}
-use Rattle.dtype_base.specs.Comparisons.{comparisons}
+use Rattle.dtype_base.specs.Comparisons.{bucket_len, comparisons}
+use Rattle.dtype_base.specs.NameHashes.{bucket_of}
 
 -- ---- `first_place` is the first position of the name, or none where the name is absent
 
@@ -72,24 +73,39 @@ none_absent names n (Some i) e = tt
 
 -- ---- the number of comparisons
 
--- at most one more than the binary digits of the number of names, or than any number of digits that suffices
-pub few_compared : (n count digits : ℕ) → count ≡ comparisons n → n < 2 ^ digits → count ≤ suc digits
-few_compared zero count digits e fits = omega (arith, e)
-few_compared (suc n) count digits e fits = let few = digits_fewest n digits (omega (arith, fits)) in omega (arith, e, few)
+-- a bucket has no more names than there are
+pub bucket_within : (names : List (List ℕ)) (n : List ℕ) → bucket_len names n ≤ length names
+unfolding bucket_len
+bucket_within names n = count_by-le-length _ names
 
-pub most_compared : (n count : ℕ) → count ≡ comparisons n → count ≤ binary_digits n + 1
-most_compared n count e = let few = few_compared n count (binary_digits n) e (digits_reach n) in omega (arith, few)
+-- the bucket of a name that occurs has some
+bucket_some : (names : List (List ℕ)) (n : List ℕ) (i : ℕ) → slice_get names i ≡ Some n → 0 < bucket_len names n
+unfolding bucket_len
+bucket_some names n i e =
+    let bucket = bucket_of (length names) in
+    let test = λ (m : List ℕ). bucket m == bucket n in
+    let passes : cond {A = ℕ} (test (get_or names i [])) 1 0 ≡ 1 = cond-true _ 1 0 (eq-eqb _ _ (ap bucket (get_or_from_slice_get names i n [] e))) in
+    omega (arith, sum_by_more_le (λ m. cond (test m) 1 0) names i [] (slice_get_within names i n e), passes)
 
--- at least one where there is a name
-pub some_compared : (n count : ℕ) → count ≡ comparisons n → 0 < n → 0 < count
-some_compared zero count e a = absurd (omega arith)
-some_compared (suc n) count e a = omega (arith, e)
+of_few : (n count digits : ℕ) → count ≡ comparisons n → n ≤ 2 ^ digits → count ≤ suc digits
+of_few zero count digits e fits = omega (arith, e)
+of_few (suc n) count digits e fits = let few = digits_fewest n digits (omega (arith, fits)) in omega (arith, e, few)
+
+of_some : (n count : ℕ) → count ≡ comparisons n → 0 < n → 0 < count
+of_some zero count e a = absurd (omega arith)
+of_some (suc n) count e a = omega (arith, e)
+
+-- at most one more than any number of digits to whose power of two there are at most so many names
+pub few_compared : (names : List (List ℕ)) (n : List ℕ) (count digits : ℕ) → count ≡ comparisons (bucket_len names n) → length names ≤ 2 ^ digits → count ≤ suc digits
+few_compared names n count digits e fits = of_few (bucket_len names n) count digits e (omega (arith, bucket_within names n, fits))
+
+-- at most one more than the binary digits of the number of names
+pub most_compared : (names : List (List ℕ)) (n : List ℕ) (count : ℕ) → count ≡ comparisons (bucket_len names n) → count ≤ binary_digits (length names) + 1
+most_compared names n count e = let few = few_compared names n count (binary_digits (length names)) e (omega (arith, digits_reach (length names))) in omega (arith, few)
 
 -- at least one where a position is found
-pub found_compared : (names : List (List ℕ)) (n : List ℕ) (r : Option ℕ) (count : ℕ) → r ≡ first_place names n → count ≡ comparisons (length names) → IsSome r → 1 ≤ count
+pub found_compared : (names : List (List ℕ)) (n : List ℕ) (r : Option ℕ) (count : ℕ) → r ≡ first_place names n → count ≡ comparisons (bucket_len names n) → IsSome r → 1 ≤ count
 found_compared names n None count e counted found = absurd (false≢true found)
-found_compared names n (Some i) count e counted found =
-    let within = slice_get_within names i n (first_of_place names n i e).here in
-    some_compared (length names) count counted (omega (arith, within))
+found_compared names n (Some i) count e counted found = of_some (bucket_len names n) count counted (bucket_some names n i (first_of_place names n i e).here)
 
-pub ruleset lookups = (place_of_first, no_place, place_found, first_of_place, absent_of_place, found_first, none_absent, few_compared, most_compared, some_compared, found_compared, digits_reach, digits_fewest)
+pub ruleset lookups = (place_of_first, no_place, place_found, first_of_place, absent_of_place, found_first, none_absent, few_compared, most_compared, found_compared, digits_reach, digits_fewest)

@@ -2,30 +2,37 @@
 -- SPDX-FileCopyrightText: Copyright the Vortex contributors
 
 -- How many names a lookup compares, as a number: of at most 1,000 names 11, since 1,000 is at most the tenth power of two.
-use Rattle.std.proofs.Common.{◌≡◌, ◌∙◌, ◌≤◌, ◌-◌, ◌^◌, ℕ, zero, suc, true, ltb, ap, sym, arith}
+use Rattle.std.proofs.Common.{◌≡◌, ◌∙◌, ◌≤◌, ◌-◌, ◌^◌, ℕ, List, length, suc, zero, true, ltb, refl, ap, sym, arith}
 use Rattle.std.proofs.lemmas.Bool.{ltb-true}
-use Rattle.dtype_base.proofs.lemmas.BinaryDigits.{digits_fewest}
-use Rattle.dtype_base.specs.Comparisons.{comparisons}
-use Rattle.dtype_base.proofs.lemmas.Lookups.{few_compared}
+use Rattle.std.proofs.lemmas.List.{length-map}
+use Rattle.dtype_base.specs.Comparisons.{bucket_len, comparisons}
+use Rattle.dtype_base.proofs.lemmas.Lookups.{bucket_within, few_compared}
+use Rattle.dtype_types.specs.tree.Tree.{Tree}
+use Rattle.dtype_types.specs.parts.Lookups.{field_names}
 
-pub compared_within : (n most count limit : ℕ) → count ≡ comparisons n → n ≤ most → ltb most (2 ^ (limit - 1)) ≡ true → count ≤ limit
-compared_within zero most count limit is few fits = omega (arith, is)
-compared_within (suc n) most count zero is few fits = let less = ltb-true most 1 fits in absurd (omega (arith, few, less))
-compared_within (suc n) most count (suc digits) is few fits =
+-- how many names a lookup of this name compares
+abbrev counted : List (List ℕ × Tree) → List ℕ → ℕ
+counted fields n = comparisons (bucket_len (field_names fields) n)
+
+-- at most one more than any number of digits to whose power of two there are at most so many fields
+compared_to : (fields : List (List ℕ × Tree)) (n : List ℕ) (digits : ℕ) → length fields ≤ 2 ^ digits → counted fields n ≤ suc digits
+compared_to fields n digits few = few_compared (field_names fields) n _ digits refl (omega (arith, few, length-map fields (λ p. p.0)))
+
+pub compared_within : (fields : List (List ℕ × Tree)) (n : List ℕ) (most count limit : ℕ) → count ≡ counted fields n → length fields ≤ most → ltb most (2 ^ (limit - 1)) ≡ true → count ≤ limit
+compared_within fields n most count zero is few fits =
+    let less = ltb-true most 1 fits in
+    let none : bucket_len (field_names fields) n ≡ 0 = omega (arith, few, less, bucket_within (field_names fields) n, length-map fields (λ p. p.0)) in
+    omega (arith, is, ap comparisons none)
+compared_within fields n most count (suc digits) is few fits =
     let back : suc digits - 1 ≡ digits = omega arith in
     let less = ltb-true most (2 ^ digits) (ap (λ d. ltb most (2 ^ d)) (sym back) ∙ fits) in
-    few_compared (suc n) count digits is (omega (arith, few, less))
-
--- at most one more than any number of digits to whose power of two there are at most so many names
-pub compared_to : (n digits : ℕ) → n ≤ 2 ^ digits → comparisons n ≤ suc digits
-compared_to zero digits few = omega arith
-compared_to (suc n) digits few = let fewest = digits_fewest n digits (omega (arith, few)) in omega (arith, fewest)
+    omega (arith, is, compared_to fields n digits (omega (arith, few, less)))
 
 -- the same for each power of two up to the twentieth: the tactics find no number of digits by themselves
-pub compared_up_to : (n : ℕ) →
-    (n ≤ 2 → comparisons n ≤ 2) × (n ≤ 4 → comparisons n ≤ 3) × (n ≤ 8 → comparisons n ≤ 4) × (n ≤ 16 → comparisons n ≤ 5) ×
-    (n ≤ 32 → comparisons n ≤ 6) × (n ≤ 64 → comparisons n ≤ 7) × (n ≤ 128 → comparisons n ≤ 8) × (n ≤ 256 → comparisons n ≤ 9) ×
-    (n ≤ 512 → comparisons n ≤ 10) × (n ≤ 1024 → comparisons n ≤ 11) × (n ≤ 2048 → comparisons n ≤ 12) × (n ≤ 4096 → comparisons n ≤ 13) ×
-    (n ≤ 8192 → comparisons n ≤ 14) × (n ≤ 16384 → comparisons n ≤ 15) × (n ≤ 32768 → comparisons n ≤ 16) × (n ≤ 65536 → comparisons n ≤ 17) ×
-    (n ≤ 131072 → comparisons n ≤ 18) × (n ≤ 262144 → comparisons n ≤ 19) × (n ≤ 524288 → comparisons n ≤ 20) × (n ≤ 1048576 → comparisons n ≤ 21)
-compared_up_to n = (compared_to n 1, compared_to n 2, compared_to n 3, compared_to n 4, compared_to n 5, compared_to n 6, compared_to n 7, compared_to n 8, compared_to n 9, compared_to n 10, compared_to n 11, compared_to n 12, compared_to n 13, compared_to n 14, compared_to n 15, compared_to n 16, compared_to n 17, compared_to n 18, compared_to n 19, compared_to n 20)
+pub compared_up_to : (fields : List (List ℕ × Tree)) (n : List ℕ) →
+    (length fields ≤ 2 → counted fields n ≤ 2) × (length fields ≤ 4 → counted fields n ≤ 3) × (length fields ≤ 8 → counted fields n ≤ 4) × (length fields ≤ 16 → counted fields n ≤ 5) ×
+    (length fields ≤ 32 → counted fields n ≤ 6) × (length fields ≤ 64 → counted fields n ≤ 7) × (length fields ≤ 128 → counted fields n ≤ 8) × (length fields ≤ 256 → counted fields n ≤ 9) ×
+    (length fields ≤ 512 → counted fields n ≤ 10) × (length fields ≤ 1024 → counted fields n ≤ 11) × (length fields ≤ 2048 → counted fields n ≤ 12) × (length fields ≤ 4096 → counted fields n ≤ 13) ×
+    (length fields ≤ 8192 → counted fields n ≤ 14) × (length fields ≤ 16384 → counted fields n ≤ 15) × (length fields ≤ 32768 → counted fields n ≤ 16) × (length fields ≤ 65536 → counted fields n ≤ 17) ×
+    (length fields ≤ 131072 → counted fields n ≤ 18) × (length fields ≤ 262144 → counted fields n ≤ 19) × (length fields ≤ 524288 → counted fields n ≤ 20) × (length fields ≤ 1048576 → counted fields n ≤ 21)
+compared_up_to fields n = (compared_to fields n 1, compared_to fields n 2, compared_to fields n 3, compared_to fields n 4, compared_to fields n 5, compared_to fields n 6, compared_to fields n 7, compared_to fields n 8, compared_to fields n 9, compared_to fields n 10, compared_to fields n 11, compared_to fields n 12, compared_to fields n 13, compared_to fields n 14, compared_to fields n 15, compared_to fields n 16, compared_to fields n 17, compared_to fields n 18, compared_to fields n 19, compared_to fields n 20)

@@ -109,11 +109,25 @@ pub fn visits(cover: &[FieldPath]) -> usize {
     beginnings.collect::<HashSet<_>>().len() + 1
 }
 
-/// The original looks at one name after the other, and counts nothing. Here a search by halves compares the same number
-/// of names for every name, which the definition `comparisons` of `dtype_base/specs/Comparisons.antt` fixes: the binary
-/// digits of the number of names less one tell which of them is left, and one comparison more whether it is the name.
-pub fn comparisons(count: usize) -> u32 {
-    count.checked_sub(1).map_or(0, |most| usize::BITS - most.leading_zeros() + 1)
+/// The original counts nothing. Here a search by halves compares names of one bucket (`bucket_len` of
+/// `dtype_base/specs/Comparisons.antt`): one, and one for each binary digit of their number less one.
+pub fn comparisons(fields: &StructFields, name: &FieldName) -> u32 {
+    let bucket = |it: &FieldName| bucket_of(fields.nfields(), it);
+    let shared = fields.names().iter().filter(|it| bucket(it) == bucket(name)).count();
+    shared.checked_sub(1).map_or(0, |most| usize::BITS - most.leading_zeros() + 1)
+}
+
+/// The bucket of a name, as `dtype_base/specs/NameHashes.antt` defines it.
+fn bucket_of(count: usize, name: &FieldName) -> u128 {
+    let text = name.as_ref().as_bytes();
+    let word = |at: usize| text[at..].iter().chain(&[0; 8]).take(8).fold(0, |word, byte| word << 8 | u128::from(*byte));
+    let starts = (0..text.len().saturating_sub(1) / 8).map(|k| 8 * k).chain([text.len().saturating_sub(8)]);
+    let hash = starts.map(word).fold(text.len() as u128, |hash, word| {
+        let product = (hash + word) % (1 << 64) * 0x9E37_79B9_7F4A_7C15;
+        ((product >> 64) + product % (1 << 64)) % (1 << 64)
+    });
+    let bits = usize::BITS - count.leading_zeros();
+    (hash >> bits << bits) * count as u128 >> 64
 }
 
 /// The messages within a message, as they are read.

@@ -2,7 +2,7 @@
 -- SPDX-FileCopyrightText: Copyright the Vortex contributors
 
 use Rattle.std.proofs.Common.{◌≡◌}
-use Rattle.dtype_base.specs.private.NameKeys.{words_hash}
+use Rattle.dtype_base.specs.NameHashes.{words_hash}
 use Rattle.dtype_base.proofs.name_key.hash_of.Given as goal
 
 -- the words so far are hashed

@@ -8,5 +8,5 @@ use Rattle.dtype_base.specs.private.NameOrder.{positions}
 use Rattle.dtype_base.proofs.name_order.are_distinct.Given as goal
 
 -- no two neighbours so far have one name
-abbrev pub invariant-loop-index : goal.invariant-loop-index
-invariant-loop-index l = AllAdjacentBelow (λ i j. slice_get l.names i ≢ slice_get l.names j) (positions l.entries) l.index
+abbrev pub invariant-loop-next : goal.invariant-loop-next
+invariant-loop-next l = AllAdjacentBelow (λ i j. slice_get l.names i ≢ slice_get l.names j) (positions l.bits l.entries) l.next

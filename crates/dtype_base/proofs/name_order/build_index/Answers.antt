@@ -1,12 +1,47 @@
 -- SPDX-License-Identifier: Apache-2.0
 -- SPDX-FileCopyrightText: Copyright the Vortex contributors
 
-use Rattle.dtype_base.specs.declared.name_key.Keying.TheVariants.{AfterPrefix}
-use Rattle.dtype_base.proofs.KeyOrder.{distinct_index}
+use Rattle.std.specs.List.Sorted.{IsNonDecreasingBy}
+use Rattle.std.proofs.Common.{ℕ, ◌≡◌, ◌<◌, ◌^◌, length, ap, subst, sym, ◌∙◌, arith}
+use Rattle.dtype_base.specs.BinaryDigits.{binary_digits}
+use Rattle.dtype_base.specs.private.NameOrder.{AreStarts, key_in, positions}
+use Rattle.dtype_base.proofs.lemmas.BinaryDigits.{digits_fewest, digits_reach}
+use Rattle.dtype_base.proofs.IndexEntries.{index_of, keys_rise}
+use Rattle.dtype_base.proofs.NameSearch.{all_positions, as_many_positions}
 use Rattle.dtype_base.proofs.name_order.build_index.Goals as goal
 
-pub returns-then-is_by_keys : goal.returns-then-is_by_keys
-returns-then-is_by_keys c =
+few_bits : (bits count : ℕ) → bits ≡ binary_digits count → count < 2 ^ 63 → bits < 64
+few_bits bits count is fits = let few = digits_fewest count 63 fits in omega (arith, is, few)
+
+pub keyed_entries-requires-clause-bits : goal.keyed_entries-requires-clause-bits
+keyed_entries-requires-clause-bits c = few_bits _ (length c.args.names.now) c.position_bits-bits.ensures (omega arith)
+
+pub keyed_entries-requires-clause-room : goal.keyed_entries-requires-clause-room
+keyed_entries-requires-clause-room c = let reach = digits_reach (length c.args.names.now) in omega (arith, reach, ap (λ b. 2 ^ b) c.position_bits-bits.ensures)
+
+pub sort_entries-requires : goal.sort_entries-requires
+sort_entries-requires c = record { bits = few_bits _ (length c.args.names.now) c.position_bits-bits.ensures (omega arith) }
+
+pub bucket_starts-requires-clause-bits : goal.bucket_starts-requires-clause-bits
+bucket_starts-requires-clause-bits c = few_bits _ (length c.args.names.now) c.position_bits-bits.ensures (omega arith)
+
+pub bucket_starts-requires-clause-rising : goal.bucket_starts-requires-clause-rising
+bucket_starts-requires-clause-rising c =
+    let bits = c.position_bits-bits.result in
+    subst (IsNonDecreasingBy (key_in bits)) (sym c.deref.ensures.value) (keys_rise bits c.args.names.now _ c.in_ok-discriminator.ensures.rising)
+
+pub returns : goal.returns
+returns c =
+    let names = c.args.names.now in
+    let bits = c.position_bits-bits.result in
     let made = c.in_ok-entries.ensures in
-    distinct_index c.args.names.now (AfterPrefix c.guess_common_prefix-prefix_len.result) c.in_ok-discriminator.discriminator c.in_ok-entries.entries.items c.sort_by_keys.new.entries.items
-    (c.is_by_keys.ensures c.if-is_by_keys.true) made.ok made.keyed c.sort_by_keys.ensures.each c.in_ok-discriminator.ensures.ok
+    let sorted = c.in_ok-discriminator.ensures in
+    let entries = c.sort_entries.new.entries.items in
+    let index = index_of bits names c.in_ok-discriminator.discriminator c.in_ok-entries.entries.items entries made.ok made.keyed sorted.each sorted.rising sorted.ok in
+    let len : length entries ≡ length names = sym (as_many_positions bits entries) ∙ all_positions names (positions bits entries) index.order.each in record {
+      bits = c.position_bits-bits.ensures;
+      few = few_bits _ (length names) c.position_bits-bits.ensures (omega arith);
+      len = len;
+      entries = index;
+      starts = subst (λ n. AreStarts n bits entries c.in_ok-starts.starts.items) len (subst (λ es. AreStarts (length es) bits es c.in_ok-starts.starts.items) c.deref.ensures.value c.in_ok-starts.ensures);
+    }

@@ -5,10 +5,11 @@ use Rattle.std.proofs.Common.{rules, is_lt}
 use Rattle.std.proofs.lemmas.List.Sorted.{ranks_by}
 use Rattle.std.proofs.lemmas.Fn.{always_returns_same}
 use Rattle.dtype_base.specs.private.NameOrder.{entry_cmp}
-use Rattle.dtype_base.proofs.KeyOrder.{entry_total}
+use Rattle.dtype_base.proofs.IndexEntries.{entry_total}
 use Rattle.dtype_base.proofs.name_order.sort_by_texts.Goals as goal
 
 pub returns-clause-rising : goal.returns-clause-rising
 returns-clause-rising c =
+    let bits = c.args.bits in
     let names = c.args.names.now in
-    c.in_ok-sort_by.ensures.sorted (λ p q. is_lt (entry_cmp names p q)) (ranks_by (entry_total names) (λ p. p)) (always_returns_same _ _ _ (λ a r f k. search rules))
+    c.in_ok-sort_by.ensures.sorted (λ e f. is_lt (entry_cmp bits names e f)) (ranks_by (entry_total bits names) (λ e. e)) (always_returns_same _ _ _ (λ a r f k. search rules))

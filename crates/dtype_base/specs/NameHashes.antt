@@ -1,20 +1,15 @@
 -- SPDX-License-Identifier: Apache-2.0
 -- SPDX-FileCopyrightText: Copyright the Vortex contributors
 
--- Sort keys: a number of eight bytes for each name, by which most names are ordered and distinguished without their
--- texts being read. Only private contracts cite them.
+-- Hashes of names, and the buckets in which an index keeps names by their hashes. A choice of ours: any function of a
+-- name would do, since the last comparison of a lookup compares texts.
 use Rattle.std.specs.Prelude.{ℕ, zero, suc, ◌+◌, ◌-◌, ◌*◌, ◌/◌, ◌%◌, ◌^◌, List, length, drop, slice_index}
-use Rattle.dtype_base.specs.declared.name_key.Keying.{Keying}
-use Rattle.dtype_base.specs.declared.name_key.Keying.TheVariants.{AfterPrefix, Hashed}
+use Rattle.dtype_base.specs.BinaryDigits.{binary_digits}
 
 -- the first k bytes of a text as one big-endian number, padded with zeros after its end
 unfoldable pub big_endian : ℕ → List ℕ → ℕ
 big_endian zero bs = 0
 big_endian (suc k) bs = big_endian k bs * 256 + slice_index bs k
-
--- the sort key of a name after a prefix of this length: the eight bytes that follow it
-abbrev pub sort_key : ℕ → List ℕ → ℕ
-sort_key prefix_len n = big_endian 8 (drop prefix_len n)
 
 -- One word more in a hash: the halves of a product, added modulo 2 ^ 64. The number is 2 ^ 64 divided by the golden ratio.
 unfoldable pub mixed : ℕ → ℕ → ℕ
@@ -31,8 +26,18 @@ words_hash (suc k) n = mixed (words_hash k n) (big_endian 8 (drop (8 * k) n))
 unfoldable pub hash_of : List ℕ → ℕ
 hash_of n = mixed (words_hash ((length n - 1) / 8) n) (big_endian 8 (drop (length n - 8) n))
 
--- The key of a name, by how keys are made. Any function of the name would do: entries are sorted by their keys first, and
--- the last comparison of a lookup compares names.
-abbrev pub key_of : Keying → List ℕ → ℕ
-key_of (AfterPrefix prefix_len) n = sort_key prefix_len n
-key_of Hashed n = hash_of n
+-- a number without its last bits, this many
+abbrev pub without_bits : ℕ → ℕ → ℕ
+without_bits bits n = n - n % 2 ^ bits
+
+-- The key of a name: its hash without the last bits, this many. An entry of an index keeps a position in their place.
+unfoldable pub key_of : ℕ → List ℕ → ℕ
+key_of bits n = without_bits bits (hash_of n)
+
+-- the bucket of a key, where so many buckets share all numbers of 64 bits evenly
+abbrev pub bucket_of_key : ℕ → ℕ → ℕ
+bucket_of_key count key = key * count / 2 ^ 64
+
+-- The bucket of a name among so many names: as many buckets as names, and keys without the bits that number the names.
+abbrev pub bucket_of : ℕ → List ℕ → ℕ
+bucket_of count n = bucket_of_key count (key_of (binary_digits count) n)

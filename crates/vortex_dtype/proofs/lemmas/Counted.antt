@@ -2,7 +2,7 @@
 -- SPDX-FileCopyrightText: Copyright the Vortex contributors
 
 -- How many of a list pass a test: none exactly where all fail, and all exactly where none does.
-use Rattle.std.proofs.Common.{◌≡◌, ◌↔◌, ◌∙◌, ◌+◌, ℕ, Bool, true, false, cond, List, [], ◌∷◌, length, refl, sym, arith}
+use Rattle.std.proofs.Common.{◌≡◌, ◌↔◌, ◌+◌, ℕ, Bool, true, false, cond, List, [], ◌∷◌, length, refl, arith}
 use Rattle.std.specs.Prelude.{count_by}
 use Rattle.std.specs.List.{All, AllByRecursion}
 use Rattle.std.proofs.lemmas.List.Elements.{All-from_recursion, recursion_from_All}
@@ -17,19 +17,13 @@ module _ {X : Type 0} (p : X → Bool) where
   none (x ∷ xs) = grind (arith, more x xs, none xs)
 
   pub none_counted : (xs : List X) (n : ℕ) → n ≡ count_by p xs → (n ≡ 0) ↔ All (λ x. p x ≡ false) xs
-  none_counted xs n e = (
-    λ z. All-from_recursion (λ x. p x ≡ false) xs ((none xs).0 (sym e ∙ z)),
-    λ h. e ∙ (none xs).1 (recursion_from_All (λ x. p x ≡ false) xs h),
-  )
+  none_counted xs n e = grind (arith, e, none xs, All-from_recursion (λ x. p x ≡ false) xs, recursion_from_All (λ x. p x ≡ false) xs)
 
   all : (xs : List X) → (count_by p xs ≡ length xs) ↔ AllByRecursion (λ x. p x ≡ true) xs
   all [] = (λ e. tt, λ h. refl)
   all (x ∷ xs) = grind (arith, more x xs, all xs, count_by-le-length p xs)
 
   pub all_counted : (xs : List X) (n : ℕ) → n ≡ count_by p xs → (n ≡ length xs) ↔ All (λ x. p x ≡ true) xs
-  all_counted xs n e = (
-    λ z. All-from_recursion (λ x. p x ≡ true) xs ((all xs).0 (sym e ∙ z)),
-    λ h. e ∙ (all xs).1 (recursion_from_All (λ x. p x ≡ true) xs h),
-  )
+  all_counted xs n e = grind (arith, e, all xs, All-from_recursion (λ x. p x ≡ true) xs, recursion_from_All (λ x. p x ≡ true) xs)
 
 pub ruleset counted = (none_counted, all_counted)

@@ -18,14 +18,11 @@ by_names p = map-map (option_map Name) part_name p.path.items
 pub steps_by_names : (p q : FieldPath) → part_names p ≡ part_names q → steps_of p ≡ steps_of q
 steps_by_names p q e = sym (by_names p) ∙ ap (map (option_map Name)) e ∙ by_names q
 
-path_of_steps : (ns : List (Option (List ℕ))) (p : List Step) → map (option_map Name) ns ≡ map Some p → path_of ns ≡ Some p
-path_of_steps [] [] e = refl
-path_of_steps (n ∷ ns) (x ∷ p) e = grind (arith, path_of_steps ns p, e)
-path_of_steps _ _ e = cc
-
 -- where each part says a step, the steps are the path
 pub path_by_steps : (parts : List Field) (p : List Step) → map step_of parts ≡ map Some p → path_of (map part_name parts) ≡ Some p
-path_by_steps parts p e = path_of_steps (map part_name parts) p (map-map (option_map Name) part_name parts ∙ e)
+path_by_steps [] [] e = refl
+path_by_steps (part ∷ parts) (x ∷ p) e = grind (arith, path_by_steps parts p, e)
+path_by_steps _ _ e = cc
 
 -- where the parts make a path, its steps are theirs
 steps_of_path : (ns : List (Option (List ℕ))) (p : List Step) → path_of ns ≡ Some p → map (option_map Name) ns ≡ map Some p

@@ -2,7 +2,7 @@
 -- SPDX-FileCopyrightText: Copyright the Vortex contributors
 
 -- Laws of sessions: what is registered after a list of calls, what is kept, and what is admitted.
-use Rattle.std.specs.Prelude.{◌≡◌, ◌≢◌, ◌↔◌, ℕ, List, [], ◌∷◌, ◌++◌, Some, None, Bool, true, false, if◌then◌else◌, bytes_eq, refl}
+use Rattle.std.specs.Prelude.{◌≡◌, ◌≢◌, ◌↔◌, ℕ, List, [], ◌∷◌, ◌++◌, Some, None, Bool, true, false, if◌then◌else◌, ◌||◌, bytes_eq, refl}
 use Rattle.std.specs.List.{list_any}
 use Rattle.std.proofs.Common.{sym, ap, ◌∙◌, subst, arith}
 use Rattle.std.proofs.lemmas.Bool.{false_from_ne_true}
@@ -50,18 +50,15 @@ after-last [] rest m id r h = after-left_alone rest (register_in id r m) id h �
 after-last (register i q ∷ before) rest m id r h = after-last before rest (register_in i q m) id r h
 after-last (allow ∷ before) rest m id r h = after-last before rest (allow_unknown_in m) id r h
 
--- once unknown ids are allowed, they stay allowed
-stays-unknown : (calls : List Call) (m : Meaning) → m.unknown ≡ true → (after calls m).unknown ≡ true
+-- unknown ids are kept where they were before, or a call allows them
+unknown-after : (calls : List Call) (m : Meaning) → (after calls m).unknown ≡ (m.unknown || list_any is_allow calls)
 unfolding register_in allow_unknown_in
-stays-unknown [] m e = e
-stays-unknown (register i r ∷ calls) m e = stays-unknown calls (register_in i r m) e
-stays-unknown (allow ∷ calls) m e = stays-unknown calls (allow_unknown_in m) refl
+unknown-after [] m = grind arith
+unknown-after (register i r ∷ calls) m = unknown-after calls (register_in i r m)
+unknown-after (allow ∷ calls) m = grind (arith, unknown-after calls (allow_unknown_in m))
 
 pub after-unknown : (calls : List Call) (m : Meaning) → m.unknown ≡ false → (after calls m).unknown ≡ list_any is_allow calls
-unfolding register_in allow_unknown_in
-after-unknown [] m e = e
-after-unknown (register i r ∷ calls) m e = after-unknown calls (register_in i r m) e
-after-unknown (allow ∷ calls) m e = stays-unknown calls (allow_unknown_in m) refl
+after-unknown calls m e = grind (arith, unknown-after calls m, e)
 
 -- ---- what is kept
 

@@ -6,6 +6,7 @@
 
 ghost use Rattle.std.specs.Prelude.{◌≡◌, ◌↔◌, ◌∷◌, [], Contains, IfOk, IsTrue, List, false};
 ghost use Rattle.std.specs.FinSet as set;
+ghost use Rattle.std.specs.List.{AllByRecursion};
 ghost use Rattle.std.specs.Vec.Iter.{into_iter_items};
 ghost use Rattle.vortex_dtype.specs.At.{ExistsIn};
 ghost use Rattle.vortex_dtype.specs.Beginning.{Beginning};
@@ -13,6 +14,7 @@ ghost use Rattle.vortex_dtype.specs.Covering.{SameCoverage, covers};
 ghost use Rattle.vortex_dtype.specs.Overlaps.{Overlaps};
 ghost use Rattle.vortex_dtype.specs.TreeOf.{tree};
 ghost use Rattle.vortex_dtype.specs.Types.Field.{Field};
+ghost use Rattle.vortex_dtype.specs.Unresolved.{unresolved};
 
 use std::vec;
 use vortex_dtype::{DType, Field, FieldPath, FieldPathSet, VortexResult};
@@ -112,6 +114,56 @@ pub fn both_queries(mut asked: FieldPathSet, more: FieldPathSet) -> VortexResult
 {
     asked.extend(more.into_iter()?)?;
     Ok(asked)
+}
+
+/// What one of three queries asks for: it covers what their union covers.
+#[tactic(auto, using(vortex_dtype::proofs::rulesets::set_unions))]
+pub fn merge_three(
+    mut first: FieldPathSet,
+    second: FieldPathSet,
+    third: FieldPathSet,
+) -> VortexResult<FieldPathSet>
+    ensures { IfOk result (λ s. SameCoverage s (set.union (set.union first second) third)) }
+{
+    first.extend(second.into_iter()?)?;
+    first.extend(third.into_iter()?)?;
+    Ok(first)
+}
+
+/// Whether a query asks for no path that another doesn't ask for.
+#[tactic(auto, using(vortex_dtype::proofs::rulesets::lent_paths))]
+pub fn asks_no_more(asked: &FieldPathSet, other: &FieldPathSet) -> VortexResult<bool>
+    ensures { IfOk result (λ b. IsTrue b ↔ ((p : List Field)
+        → IsTrue (set.contains asked.now p) → IsTrue (set.contains other.now p))) }
+{
+    Ok(asked.iter()?.all(|path| other.contains(path)))
+}
+
+/// Whether two queries ask for the same paths.
+#[tactic(auto, using(vortex_dtype::proofs::rulesets::lent_paths))]
+pub fn ask_the_same(asked: &FieldPathSet, other: &FieldPathSet) -> VortexResult<bool>
+    ensures { IfOk result (λ b. IsTrue b ↔ ((p : List Field)
+        → set.contains asked.now p ≡ set.contains other.now p)) }
+{
+    Ok(
+        asked.iter()?.all(|path| other.contains(path))
+            && other.iter()?.all(|path| asked.contains(path)),
+    )
+}
+
+/// How many columns of a query a table lacks.
+#[tactic(auto, using(vortex_dtype::proofs::rulesets::counting, vortex_dtype::proofs::rulesets::missing_paths))]
+pub fn number_missing(asked: &FieldPathSet, table: &DType) -> VortexResult<usize>
+    ensures { IfOk result (λ n. n ≡ set.len (unresolved asked.now (tree table.now))) }
+{
+    Ok(asked.unresolved(table)?.len())
+}
+
+/// Whether a path overlaps none of a list. The contract says `AllByRecursion`: by `All` it doesn't prove.
+pub fn overlaps_none(columns: &[FieldPath], path: &FieldPath) -> bool
+    ensures { IsTrue result ↔ AllByRecursion (λ p. ¬ (Overlaps p path.now)) columns.now }
+{
+    columns.iter().all(|column| !column.overlap(path))
 }
 
 /// The columns to open: none that lies below another that is asked for.

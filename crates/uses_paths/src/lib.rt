@@ -9,7 +9,7 @@
 //!
 //! - Which columns a query opens: `asked`, `binding` (those that a table lacks), `paths`, `path_sets`, `path_lists`,
 //!   `projections`, `opened`, `merging` (several files read as one), `intersecting` (two schemas that are both kept).
-//! - What is read further down: `masks`, `cursors`, `named` (the columns that are asked for, one by one), `descending` (a
+//! - What is read further down: `masks`, `mask_lists`, `cursors`, `named` (the columns that are asked for, one by one), `descending` (a
 //!   table and a query at once), `layout`, `rows` (what is found).
 //! - What is stored: `messages`, `path_messages`, `stored` (schemas written and read back).
 //! - Extensions: `sessions`, `plugins`, `dates`.
@@ -22,6 +22,7 @@ pub mod dates;
 pub mod descending;
 pub mod intersecting;
 pub mod layout;
+pub mod mask_lists;
 pub mod masks;
 pub mod merging;
 pub mod messages;

@@ -5,9 +5,10 @@
 //! cursor's names has the chains of std, and what they answer is said in words of the cursor.
 #![tactic(auto)]
 
-ghost use Rattle.std.specs.Prelude.{◌≡◌, ◌↔◌, ◌∷◌, [], ℕ, IfNone, IfSome, IsTrue, List, Contains, false};
+ghost use Rattle.std.specs.Prelude.{◌≡◌, ◌↔◌, ◌∷◌, [], ℕ, IfNone, IfSome, IsTrue, List, Contains, false, length};
 ghost use Rattle.vortex_dtype.specs.Cursors.{asks};
 ghost use Rattle.vortex_dtype.specs.Lookups.{field_names};
+ghost use Rattle.vortex_dtype.specs.PathPredicates.{AreNames, PathPredicate};
 ghost use Rattle.vortex_dtype.specs.TreeOf.{children};
 ghost use Rattle.vortex_dtype.specs.Types.Field.{Field};
 
@@ -54,4 +55,37 @@ pub fn are_all_known(here: &FieldPathCursor<'_>, table: &StructFields) -> bool
 {
     here.names()
         .all(|(name, _)| table.find(name.as_str()).is_some())
+}
+
+/// Whether a table has some column that is asked for.
+#[tactic(auto, using(vortex_dtype::proofs::rulesets::presence))]
+pub fn some_column(here: &FieldPathCursor<'_>, table: &StructFields) -> bool
+    ensures { IsTrue result ↔ ((n : List ℕ)
+        × ((q : List Field) × IsTrue (asks here.now (Field.Name n ∷ q)))
+        × Contains (field_names (children table.now)) n) }
+{
+    here.names()
+        .any(|(name, _)| table.find(name.as_str()).is_some())
+}
+
+/// A column that is asked for and that a table has.
+#[tactic(auto, using(vortex_dtype::proofs::rulesets::presence))]
+pub fn known_column<'a>(here: &FieldPathCursor<'a>, table: &StructFields) -> Option<&'a FieldName>
+    ensures { IfSome result (λ n. Contains (field_names (children table.now)) n.now
+        × ((q : List Field) × IsTrue (asks here.now (Field.Name n.now ∷ q)))) }
+{
+    match here
+        .names()
+        .find(|(name, _)| table.find(name.as_str()).is_some())
+    {
+        Some((name, _)) => Some(name),
+        None => None,
+    }
+}
+
+/// The number of columns that are asked for, as the iterator counts them.
+pub fn column_count(here: &FieldPathCursor<'_>) -> usize
+    ensures { (ns : List (List ℕ × PathPredicate)) × AreNames (asks here.now) ns × (length ns ≡ result) }
+{
+    here.names().count()
 }

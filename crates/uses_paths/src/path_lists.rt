@@ -4,16 +4,19 @@
 //! A reader that is handed lists of paths: which paths their set has and covers, one by one.
 #![tactic(auto, using(vortex_dtype::proofs::rulesets::members))]
 
-ghost use Rattle.std.specs.Prelude.{◌≡◌, ◌↔◌, ◌⊎◌, [], ◌∷◌, Contains, IfOk, IsTrue, List, OnOk};
+ghost use Rattle.std.specs.Prelude.{◌≡◌, ◌↔◌, ◌⊎◌, [], ◌∷◌, ◌++◌, Contains, IfOk, IsTrue, List, OnOk};
 ghost use Rattle.std.specs.FinSet as set;
+ghost use Rattle.std.specs.List.{Any};
 ghost use Rattle.std.specs.Vec.Iter.{into_iter_items};
+ghost use Rattle.vortex_dtype.specs.At.{ExistsIn};
 ghost use Rattle.vortex_dtype.specs.Beginning.{Beginning};
 ghost use Rattle.vortex_dtype.specs.Covering.{covers};
+ghost use Rattle.vortex_dtype.specs.TreeOf.{tree};
 ghost use Rattle.vortex_dtype.specs.Types.Field.{Field};
 
 use std::alloc::Global;
 use std::vec;
-use vortex_dtype::{Field, FieldPath, FieldPathSet, VortexResult};
+use vortex_dtype::{DType, Field, FieldPath, FieldPathSet, VortexResult};
 
 /// Whether a column is in the list that a query gives, word for word.
 pub fn is_listed(alloc: Global, columns: Vec<FieldPath>, column: &FieldPath) -> VortexResult<bool>
@@ -117,6 +120,59 @@ pub fn asking_for_all(alloc: Global) -> VortexResult<FieldPathSet>
     let mut all = FieldPathSet::new(alloc);
     all.insert(FieldPath::root(alloc))?;
     Ok(all)
+}
+
+/// The query of a list: it covers what begins with a path of the list.
+#[tactic(auto, using(vortex_dtype::proofs::rulesets::made_coverage))]
+pub fn asked_coverage(alloc: Global, columns: Vec<FieldPath>) -> VortexResult<FieldPathSet>
+    ensures { IfOk result (λ s. (q : List Field) → IsTrue (covers s q)
+        ↔ Any (λ p. Beginning p q) columns.items) }
+{
+    FieldPathSet::from_iter(alloc, columns)
+}
+
+/// Asks for what another reader asks for: what either covers is covered then.
+#[tactic(auto, using(vortex_dtype::proofs::rulesets::united_coverage))]
+pub fn ask_union(asked: &mut FieldPathSet, other: FieldPathSet) -> VortexResult<()>
+    ensures { OnOk result ((q : List Field) → IsTrue (covers asked.new q)
+        ↔ (IsTrue (covers asked.old q) ⊎ IsTrue (covers other q))) }
+{
+    asked.extend(other.into_iter()?)
+}
+
+/// Asks for the columns of a list: what was covered still is, and what begins with one of them.
+#[tactic(auto, using(vortex_dtype::proofs::rulesets::united_coverage))]
+pub fn ask_list(asked: &mut FieldPathSet, columns: Vec<FieldPath>) -> VortexResult<()>
+    ensures { OnOk result ((q : List Field) → IsTrue (covers asked.new q)
+        ↔ (IsTrue (covers asked.old q) ⊎ Any (λ p. Beginning p q) columns.items)) }
+{
+    asked.extend(columns)
+}
+
+/// The query for the elements of a list column: it covers what is in them.
+#[tactic(auto, using(vortex_dtype::proofs::rulesets::made_coverage))]
+pub fn ask_elements(alloc: Global, column: FieldPath) -> VortexResult<FieldPathSet>
+    ensures { IfOk result (λ s. (q : List Field)
+        → Beginning (column ++ Field.ElementType ∷ []) q → IsTrue (covers s q)) }
+{
+    let mut asked = FieldPathSet::new(alloc);
+    asked.insert(column.push(Field::ElementType)?)?;
+    Ok(asked)
+}
+
+/// Asks for a column if a table has it: all that is asked for is in the table still.
+#[tactic(auto, using(vortex_dtype::proofs::rulesets::has_members))]
+pub fn ask_if_known(asked: &mut FieldPathSet, path: FieldPath, table: &DType) -> VortexResult<bool>
+    requires { (p : List Field) → IsTrue (set.contains asked.old p) → ExistsIn (tree table.now) p }
+    ensures known { OnOk result ((p : List Field)
+        → IsTrue (set.contains asked.new p) → ExistsIn (tree table.now) p) }
+    ensures there { IfOk result (λ b. IsTrue b → IsTrue (set.contains asked.new path)) }
+{
+    if !path.exists_in(table) {
+        return Ok(false);
+    }
+    asked.insert(path)?;
+    Ok(true)
 }
 
 /// Whether a column is below a table that is asked for: then it is covered.

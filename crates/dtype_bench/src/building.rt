@@ -26,10 +26,6 @@ impl<'a> BuildOfNames<'a> {
 }
 
 impl<'a> Operation for BuildOfNames<'a> {
-    fn name(&self) -> &'static str {
-        "build/names"
-    }
-
     fn prepare(&mut self, alloc: Global, times: usize) -> BenchResult<()> {
         let first = names(alloc, self.texts)?;
         for _ in 0..times {
@@ -71,10 +67,6 @@ fn of_names(alloc: Global, names: Vec<FieldName>, types: Vec<DType>) -> BenchRes
 pub struct BuildAndFind<'a>(pub BuildOfNames<'a>);
 
 impl<'a> Operation for BuildAndFind<'a> {
-    fn name(&self) -> &'static str {
-        "build/and_find"
-    }
-
     fn prepare(&mut self, alloc: Global, times: usize) -> BenchResult<()> {
         self.0.prepare(alloc, times)
     }
@@ -109,10 +101,6 @@ impl<'a> BuildOfTexts<'a> {
 }
 
 impl<'a> Operation for BuildOfTexts<'a> {
-    fn name(&self) -> &'static str {
-        "build/texts"
-    }
-
     fn prepare(&mut self, alloc: Global, times: usize) -> BenchResult<()> {
         for _ in 0..times {
             self.inputs.push(leaves(alloc, self.texts.len())?)?;
@@ -150,10 +138,6 @@ pub struct BuildAndDrop<'a> {
 }
 
 impl<'a> Operation for BuildAndDrop<'a> {
-    fn name(&self) -> &'static str {
-        "build/and_drop"
-    }
-
     fn repeat(&mut self, alloc: Global, times: usize) -> BenchResult<usize> {
         let mut sum = 0usize;
         for _ in 0..times {

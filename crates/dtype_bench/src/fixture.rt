@@ -136,21 +136,11 @@ impl Naming {
         match self {
             Naming::Columns => column(alloc, i),
             Naming::Shuffled => column(alloc, mixed(i, count)),
-            Naming::Hexadecimal => {
-                let number = (i as u64)
-                    .wrapping_add(1)
-                    .wrapping_mul(0x9E37_79B9_7F4A_7C15);
-                Ok(format!(in alloc; "{number:016x}")?)
-            }
-            Naming::Stray if i == 0 => Ok(format!(in alloc; "id")?),
-            Naming::Stray => Ok(format!(in alloc; "measurement_{i}")?),
-            Naming::Features if i == 0 => Ok(format!(in alloc; "id")?),
-            Naming::Features => Ok(format!(in alloc; "transaction_amount_{i}")?),
+            Naming::Hexadecimal => hexadecimal(alloc, i),
+            Naming::Stray => after_id(alloc, "measurement", i),
+            Naming::Features => after_id(alloc, "transaction_amount", i),
             Naming::Words => words(alloc, i),
-            Naming::Dotted => {
-                let part = PARTS.get(i % 4).ok_or(BenchFault::Missing)?;
-                Ok(format!(in alloc; "resource.attributes.service.{part}.{i}")?)
-            }
+            Naming::Dotted => dotted(alloc, i),
         }
     }
 
@@ -286,15 +276,40 @@ pub fn leaf(i: usize, flip: bool) -> DType {
 fn words(alloc: Global, i: usize) -> BenchResult<String> {
     let prefix = PREFIXES.get(i % 7).ok_or(BenchFault::Missing)?;
     let word = WORDS.get(i / 7 % 10).ok_or(BenchFault::Missing)?;
-    let number = i / 70;
-    if number == 0 {
-        return Ok(format!(in alloc; "{prefix}{word}")?);
+    let text = format!(in alloc; "{prefix}{word}")?;
+    match i / 70 {
+        0 => Ok(text),
+        number => numbered(alloc, text.as_str(), number),
     }
-    Ok(format!(in alloc; "{prefix}{word}_{number}")?)
+}
+
+fn hexadecimal(alloc: Global, i: usize) -> BenchResult<String> {
+    let number = (i as u64)
+        .wrapping_add(1)
+        .wrapping_mul(0x9E37_79B9_7F4A_7C15);
+    Ok(format!(in alloc; "{number:016x}")?)
+}
+
+// `id`, and after it the names that begin so.
+fn after_id(alloc: Global, beginning: &str, i: usize) -> BenchResult<String> {
+    match i {
+        0 => Ok(String::from_str(alloc, "id")?),
+        _ => numbered(alloc, beginning, i),
+    }
+}
+
+fn dotted(alloc: Global, i: usize) -> BenchResult<String> {
+    let part = PARTS.get(i % 4).ok_or(BenchFault::Missing)?;
+    Ok(format!(in alloc; "resource.attributes.service.{part}.{i}")?)
 }
 
 fn column(alloc: Global, i: usize) -> BenchResult<String> {
-    Ok(format!(in alloc; "column_{i}")?)
+    numbered(alloc, "column", i)
+}
+
+/// Returns the name that begins so and ends in this number.
+pub fn numbered(alloc: Global, beginning: &str, i: usize) -> BenchResult<String> {
+    Ok(format!(in alloc; "{beginning}_{i}")?)
 }
 
 fn wide_type(alloc: Global, texts: &Vec<String>, flip: bool) -> BenchResult<DType> {

@@ -21,6 +21,16 @@ pub enum Place {
 impl Place {
     pub const ALL: [Place; 4] = [Place::First, Place::Middle, Place::Last, Place::Nowhere];
 
+    /// The name of the operation that looks for it.
+    pub fn operation(self) -> &'static str {
+        match self {
+            Place::First => "find/first",
+            Place::Middle => "find/middle",
+            Place::Last => "find/last",
+            Place::Nowhere => "find/miss",
+        }
+    }
+
     // The number of the column that has the name.
     fn among(self, count: usize) -> usize {
         match self {
@@ -35,7 +45,6 @@ impl Place {
 /// `find` of one name.
 #[derive(Drop)]
 pub struct Find<'a> {
-    place: Place,
     types: &'a Types,
     names: Vec<String>,
 }
@@ -43,24 +52,11 @@ pub struct Find<'a> {
 impl<'a> Find<'a> {
     pub fn new(alloc: Global, place: Place, types: &'a Types) -> BenchResult<Find<'a>> {
         let names = two_texts(alloc, place.among(types.count))?;
-        Ok(Find {
-            place,
-            types,
-            names,
-        })
+        Ok(Find { types, names })
     }
 }
 
 impl<'a> Operation for Find<'a> {
-    fn name(&self) -> &'static str {
-        match self.place {
-            Place::First => "find/first",
-            Place::Middle => "find/middle",
-            Place::Last => "find/last",
-            Place::Nowhere => "find/miss",
-        }
-    }
-
     fn repeat(&mut self, _alloc: Global, times: usize) -> BenchResult<usize> {
         let mut sum = 0usize;
         for i in 0..times {
@@ -80,10 +76,6 @@ pub struct FindMixed<'a> {
 }
 
 impl<'a> Operation for FindMixed<'a> {
-    fn name(&self) -> &'static str {
-        "find/mixed"
-    }
-
     fn repeat(&mut self, _alloc: Global, times: usize) -> BenchResult<usize> {
         let fields = fields_of(self.types, 0)?;
         let count = self.texts.len() as u64;
@@ -104,17 +96,11 @@ impl<'a> Operation for FindMixed<'a> {
 /// `project` of names.
 #[derive(Drop)]
 pub struct Project<'a> {
-    /// The word that names the case.
-    pub what: &'static str,
     pub types: &'a Vec<DType>,
     pub names: Vec<FieldName>,
 }
 
 impl<'a> Operation for Project<'a> {
-    fn name(&self) -> &'static str {
-        self.what
-    }
-
     fn repeat(&mut self, alloc: Global, times: usize) -> BenchResult<usize> {
         let mut sum = 0usize;
         for i in 0..times {

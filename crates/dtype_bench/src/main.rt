@@ -21,8 +21,8 @@ use meter::Meter;
 use on_messages::{ReadMessage, WriteMessage, messages};
 use on_sets::{Contains, CopiedSet, Cover, FromPaths};
 use on_types::{
-    Copied, ElementSize, Empty, Equal, EqualIgnoring, Hashed, Merged, MergedEqual, MergedOne,
-    Resolve, Text, WithNullability,
+    Copied, ElementSize, Empty, Equal, EqualIgnoring, Hashed, Merged, Resolve, Text,
+    WithNullability, nullables,
 };
 use path_fixture::{
     Level, SetShape, make_query, path_set, two_column_paths, two_deep_paths, two_element_paths,
@@ -49,16 +49,39 @@ fn measure_types<C: CpuClock, W: Write>(
     types: &Types,
 ) -> BenchResult<()> {
     let of = types.of.as_str();
-    meter.measure(of, EqualIgnoring(types))?;
-    meter.measure(of, Equal(types))?;
-    meter.measure(of, Hashed(&types.types))?;
-    meter.measure(of, ElementSize(types))?;
-    meter.measure(of, Copied(types))?;
-    meter.measure(of, Merged(types))?;
-    meter.measure(of, MergedEqual(types))?;
-    meter.measure(of, MergedOne::new(meter.alloc, types)?)?;
-    meter.measure(of, WithNullability(types))?;
-    meter.measure(of, Text(&types.types))
+    meter.measure("eq_ignore_nullability", of, EqualIgnoring(types))?;
+    meter.measure("eq", of, Equal(types))?;
+    meter.measure("hash", of, Hashed(&types.types))?;
+    meter.measure("element_size", of, ElementSize(types))?;
+    meter.measure("copy", of, Copied(types))?;
+    measure_merges(meter, types)?;
+    meter.measure("with_nullability", of, WithNullability(types))?;
+    meter.measure("text", of, Text(&types.types))
+}
+
+// Merges: with types that differ in nullabilities alone, neither of which takes the values of the other; with equal ones
+// that were built separately; and with those that differ from them in the nullability of the whole alone.
+fn measure_merges<C: CpuClock, W: Write>(
+    meter: &mut Meter<'_, C, W>,
+    types: &Types,
+) -> BenchResult<()> {
+    measure_merge(meter, "merge", types, &types.others)?;
+    measure_merge(meter, "merge_equal", types, &types.sames)?;
+    let nullables = nullables(meter.alloc, &types.sames)?;
+    measure_merge(meter, "merge_one", types, &nullables)
+}
+
+fn measure_merge<C: CpuClock, W: Write>(
+    meter: &mut Meter<'_, C, W>,
+    what: &str,
+    types: &Types,
+    others: &Vec<DType>,
+) -> BenchResult<()> {
+    let merged = Merged {
+        types: &types.types,
+        others,
+    };
+    meter.measure(what, types.of.as_str(), merged)
 }
 
 // Lookups in a wide struct.
@@ -69,7 +92,7 @@ fn measure_lookups<C: CpuClock, W: Write>(
     let of = types.of.as_str();
     for place in Place::ALL {
         let find = Find::new(meter.alloc, place, types)?;
-        meter.measure(of, find)?;
+        meter.measure(place.operation(), of, find)?;
     }
     let texts = Naming::Columns.texts(meter.alloc, types.count)?;
     measure_find(meter, of, &types.types, &texts)
@@ -82,7 +105,7 @@ fn measure_find<C: CpuClock, W: Write>(
     types: &Vec<DType>,
     texts: &Vec<String>,
 ) -> BenchResult<()> {
-    meter.measure(of, FindMixed { types, texts })
+    meter.measure("find/mixed", of, FindMixed { types, texts })
 }
 
 // What makes a struct with an index of these names.
@@ -92,28 +115,24 @@ fn measure_index<C: CpuClock, W: Write>(
     types: &Vec<DType>,
     texts: &Vec<String>,
 ) -> BenchResult<()> {
+    measure_projections(meter, of, types, texts)?;
+    let build = BuildOfNames::new(meter.alloc, texts);
+    meter.measure("build/names", of, build)?;
+    let build = BuildOfNames::new(meter.alloc, texts);
+    meter.measure("build/and_find", of, BuildAndFind(build))
+}
+
+// Projections to a tenth of the names, and to all.
+fn measure_projections<C: CpuClock, W: Write>(
+    meter: &mut Meter<'_, C, W>,
+    of: &str,
+    types: &Vec<DType>,
+    texts: &Vec<String>,
+) -> BenchResult<()> {
     let names = some_names(meter.alloc, texts)?;
-    meter.measure(
-        of,
-        Project {
-            what: "project",
-            types,
-            names,
-        },
-    )?;
+    meter.measure("project", of, Project { types, names })?;
     let names = all_names(meter.alloc, texts)?;
-    meter.measure(
-        of,
-        Project {
-            what: "project_all",
-            types,
-            names,
-        },
-    )?;
-    let build = BuildOfNames::new(meter.alloc, texts);
-    meter.measure(of, build)?;
-    let build = BuildOfNames::new(meter.alloc, texts);
-    meter.measure(of, BuildAndFind(build))
+    meter.measure("project_all", of, Project { types, names })
 }
 
 // What makes a wide struct.
@@ -125,7 +144,7 @@ fn measure_building<C: CpuClock, W: Write>(
     let texts = Naming::Columns.texts(meter.alloc, types.count)?;
     measure_index(meter, of, &types.types, &texts)?;
     let build = BuildOfTexts::new(meter.alloc, &texts);
-    meter.measure(of, build)
+    meter.measure("build/texts", of, build)
 }
 
 // Making the whole type and letting it go.
@@ -139,7 +158,7 @@ fn measure_whole<C: CpuClock, W: Write>(
         depth: types.count,
         texts: &texts,
     };
-    meter.measure(types.of.as_str(), build)
+    meter.measure("build/and_drop", types.of.as_str(), build)
 }
 
 // Messages.
@@ -154,8 +173,8 @@ fn measure_messages<C: CpuClock, W: Write>(
         messages: &messages,
         session: &session,
     };
-    meter.measure(of, read)?;
-    meter.measure(of, WriteMessage(types))
+    meter.measure("read", of, read)?;
+    meter.measure("write", of, WriteMessage(types))
 }
 
 // Structs of many fields.
@@ -199,7 +218,7 @@ fn of_deep<C: CpuClock, W: Write>(meter: &mut Meter<'_, C, W>) -> BenchResult<()
             types: &types.types,
             paths: &paths,
         };
-        meter.measure(types.of.as_str(), resolve)?;
+        meter.measure("resolve", types.of.as_str(), resolve)?;
     }
     Ok(())
 }
@@ -216,14 +235,14 @@ fn of_wrapped<C: CpuClock, W: Write>(meter: &mut Meter<'_, C, W>) -> BenchResult
         types: &types.types,
         paths: &paths,
     };
-    meter.measure(types.of.as_str(), resolve)
+    meter.measure("resolve", types.of.as_str(), resolve)
 }
 
 // Paths of ten names.
 fn of_paths<C: CpuClock, W: Write>(meter: &mut Meter<'_, C, W>) -> BenchResult<()> {
     let paths = two_column_paths(meter.alloc, 10)?;
-    meter.measure("/path/10", Hashed(&paths))?;
-    meter.measure("/path/10", Text(&paths))
+    meter.measure("hash", "/path/10", Hashed(&paths))?;
+    meter.measure("text", "/path/10", Text(&paths))
 }
 
 // The columns that a query reads of a table.
@@ -238,8 +257,8 @@ fn of_queries<C: CpuClock, W: Write>(meter: &mut Meter<'_, C, W>) -> BenchResult
     for (level, asked, count) in cases {
         let query = make_query(meter.alloc, level, asked, count)?;
         let of = query.of.as_str();
-        meter.measure(of, ProjectPaths(&query))?;
-        meter.measure(of, ProjectByHand(&query))?;
+        meter.measure("project_paths", of, ProjectPaths(&query))?;
+        meter.measure("project_by_hand", of, ProjectByHand(&query))?;
     }
     Ok(())
 }
@@ -250,11 +269,11 @@ fn of_sets<C: CpuClock, W: Write>(meter: &mut Meter<'_, C, W>, shape: SetShape) 
         let set = path_set(meter.alloc, shape, count)?;
         let of = set.of.as_str();
         let from = FromPaths::new(meter.alloc, &set);
-        meter.measure(of, from)?;
+        meter.measure("set/from_iter", of, from)?;
         let cover = Cover::new(meter.alloc, &set);
-        meter.measure(of, cover)?;
-        meter.measure(of, Contains(&set))?;
-        meter.measure(of, CopiedSet(&set))?;
+        meter.measure("set/into_iter", of, cover)?;
+        meter.measure("set/contains", of, Contains(&set))?;
+        meter.measure("set/copy", of, CopiedSet(&set))?;
     }
     Ok(())
 }
@@ -263,7 +282,7 @@ fn of_sets<C: CpuClock, W: Write>(meter: &mut Meter<'_, C, W>, shape: SetShape) 
 // long to walk.
 fn measure_all<C: CpuClock, W: Write>(meter: &mut Meter<'_, C, W>) -> BenchResult<()> {
     let types = make_types(meter.alloc, Shape::Wide, 10)?;
-    meter.measure("", Empty(&types))?;
+    meter.measure("empty", "", Empty(&types))?;
     of_wrapped(meter)?;
     of_wide(meter)?;
     of_namings(meter)?;

@@ -5,7 +5,7 @@
 use crate::fault::{BenchFault, BenchResult};
 use std::alloc::Global;
 use std::io::Write;
-use std::time::CpuClock;
+use std::time::{CpuClock, Duration};
 
 // How long a round is to take, in nanoseconds.
 const ROUND_TIME: u64 = 3_000_000;
@@ -17,9 +17,6 @@ const ROUNDS: usize = 15;
 
 /// An operation that is measured.
 pub trait Operation {
-    /// The operation's name, as it is printed.
-    fn name(&self) -> &'static str;
-
     /// Builds what this many iterations consume, before the clock starts.
     fn prepare(&mut self, _alloc: Global, _times: usize) -> BenchResult<()> {
         Ok(())
@@ -50,20 +47,35 @@ impl<'a, C: CpuClock, W: Write> Meter<'a, C, W> {
         self.wanted.lines().any(|line| name.starts_with(line))
     }
 
-    /// Measures an operation on the fixture of this name, if it was asked for, and writes its line: the least and the
-    /// median of the rounds.
-    pub fn measure(&mut self, of: &str, mut operation: impl Operation + Drop) -> BenchResult<()> {
-        let what = operation.name();
-        let name = format!(in self.alloc; "{what}{of}")?;
+    /// Measures an operation, which is printed under this name, on the fixture of that one, if it was asked for, and
+    /// writes its line: the least and the median of the rounds.
+    pub fn measure(
+        &mut self,
+        what: &str,
+        of: &str,
+        mut operation: impl Operation + Drop,
+    ) -> BenchResult<()> {
+        let name = case_name(self.alloc, what, of)?;
         if !self.wants(name.as_str()) {
             return Ok(());
         }
         let times = self.turns(&mut operation)?;
+        let rounds = self.rounds(&mut operation, times)?;
+        self.tell(name.as_str(), &rounds, times)
+    }
+
+    // The times of the rounds, the least first.
+    fn rounds(&self, operation: &mut impl Operation, times: usize) -> BenchResult<Vec<u64>> {
         let mut rounds = Vec::with_capacity(self.alloc, ROUNDS)?;
         for _ in 0..ROUNDS {
-            rounds.push(self.round(&mut operation, times)?)?;
+            rounds.push(self.round(operation, times)?)?;
         }
         rounds.sort_unstable();
+        Ok(rounds)
+    }
+
+    // Writes the line of a case, of the times of its rounds in order.
+    fn tell(&mut self, name: &str, rounds: &[u64], times: usize) -> BenchResult<()> {
         let least = tenths(rounds.first().copied().unwrap_or(0), times);
         let median = tenths(rounds.get(ROUNDS / 2).copied().unwrap_or(0), times);
         let (least, least_part) = (least / 10, least % 10);
@@ -97,9 +109,17 @@ impl<'a, C: CpuClock, W: Write> Meter<'a, C, W> {
         if answer == usize::MAX {
             return Err(BenchFault::Answer);
         }
-        let time = end.saturating_sub(start).as_nanos();
-        Ok(u64::try_from(time).unwrap_or(u64::MAX))
+        Ok(nanoseconds(end.saturating_sub(start)))
     }
+}
+
+// The name of the case of an operation and a fixture.
+fn case_name(alloc: Global, what: &str, of: &str) -> BenchResult<String> {
+    Ok(format!(in alloc; "{what}{of}")?)
+}
+
+fn nanoseconds(time: Duration) -> u64 {
+    u64::try_from(time.as_nanos()).unwrap_or(u64::MAX)
 }
 
 // The tenths of a nanosecond of one iteration, rounded to the nearest.

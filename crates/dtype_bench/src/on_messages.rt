@@ -26,10 +26,6 @@ pub struct ReadMessage<'a> {
 }
 
 impl<'a> Operation for ReadMessage<'a> {
-    fn name(&self) -> &'static str {
-        "read"
-    }
-
     fn repeat(&mut self, alloc: Global, times: usize) -> BenchResult<usize> {
         let mut sum = 0usize;
         for i in 0..times {
@@ -45,10 +41,6 @@ impl<'a> Operation for ReadMessage<'a> {
 pub struct WriteMessage<'a>(pub &'a Types);
 
 impl<'a> Operation for WriteMessage<'a> {
-    fn name(&self) -> &'static str {
-        "write"
-    }
-
     fn repeat(&mut self, alloc: Global, times: usize) -> BenchResult<usize> {
         let mut sum = 0usize;
         for i in 0..times {

@@ -25,10 +25,6 @@ impl<'a> FromPaths<'a> {
 }
 
 impl<'a> Operation for FromPaths<'a> {
-    fn name(&self) -> &'static str {
-        "set/from_iter"
-    }
-
     fn prepare(&mut self, alloc: Global, times: usize) -> BenchResult<()> {
         for _ in 0..times {
             self.inputs.push(copies(alloc, self.paths)?)?;
@@ -65,10 +61,6 @@ impl<'a> Cover<'a> {
 }
 
 impl<'a> Operation for Cover<'a> {
-    fn name(&self) -> &'static str {
-        "set/into_iter"
-    }
-
     fn prepare(&mut self, _alloc: Global, times: usize) -> BenchResult<()> {
         for _ in 0..times {
             self.inputs.push(self.set.try_clone()?)?;
@@ -91,10 +83,6 @@ impl<'a> Operation for Cover<'a> {
 pub struct Contains<'a>(pub &'a PathSet);
 
 impl<'a> Operation for Contains<'a> {
-    fn name(&self) -> &'static str {
-        "set/contains"
-    }
-
     fn repeat(&mut self, _alloc: Global, times: usize) -> BenchResult<usize> {
         let mut sum = 0usize;
         for _ in 0..times {
@@ -118,10 +106,6 @@ fn count_held(of: &PathSet, so_many: usize) -> usize {
 pub struct CopiedSet<'a>(pub &'a PathSet);
 
 impl<'a> Operation for CopiedSet<'a> {
-    fn name(&self) -> &'static str {
-        "set/copy"
-    }
-
     fn repeat(&mut self, _alloc: Global, times: usize) -> BenchResult<usize> {
         for _ in 0..times {
             drop(self.0.set.try_clone()?);

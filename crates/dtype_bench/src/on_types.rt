@@ -17,10 +17,6 @@ use std::hash::{DefaultHasher, Hash, Hasher};
 pub struct Empty<'a>(pub &'a Types);
 
 impl<'a> Operation for Empty<'a> {
-    fn name(&self) -> &'static str {
-        "empty"
-    }
-
     fn repeat(&mut self, _alloc: Global, times: usize) -> BenchResult<usize> {
         let mut sum = 0usize;
         for i in 0..times {
@@ -36,10 +32,6 @@ impl<'a> Operation for Empty<'a> {
 pub struct Equal<'a>(pub &'a Types);
 
 impl<'a> Operation for Equal<'a> {
-    fn name(&self) -> &'static str {
-        "eq"
-    }
-
     fn repeat(&mut self, _alloc: Global, times: usize) -> BenchResult<usize> {
         let mut sum = 0usize;
         for i in 0..times {
@@ -56,10 +48,6 @@ impl<'a> Operation for Equal<'a> {
 pub struct EqualIgnoring<'a>(pub &'a Types);
 
 impl<'a> Operation for EqualIgnoring<'a> {
-    fn name(&self) -> &'static str {
-        "eq_ignore_nullability"
-    }
-
     fn repeat(&mut self, _alloc: Global, times: usize) -> BenchResult<usize> {
         let mut sum = 0usize;
         for i in 0..times {
@@ -71,73 +59,28 @@ impl<'a> Operation for EqualIgnoring<'a> {
     }
 }
 
-/// `merge_nullability`, of types that differ in nullabilities alone, neither of which takes the values of the other.
+/// Returns these types, nullable as a whole.
+pub fn nullables(alloc: Global, types: &Vec<DType>) -> BenchResult<Vec<DType>> {
+    let mut nullables = Vec::with_capacity(alloc, types.len())?;
+    for dtype in types {
+        nullables.push(dtype.as_nullable(alloc)?)?;
+    }
+    Ok(nullables)
+}
+
+/// `merge_nullability` of each type and another.
 #[derive(Drop)]
-pub struct Merged<'a>(pub &'a Types);
+pub struct Merged<'a> {
+    pub types: &'a Vec<DType>,
+    pub others: &'a Vec<DType>,
+}
 
 impl<'a> Operation for Merged<'a> {
-    fn name(&self) -> &'static str {
-        "merge"
-    }
-
     fn repeat(&mut self, alloc: Global, times: usize) -> BenchResult<usize> {
         let mut sum = 0usize;
         for i in 0..times {
-            let dtype = turn(&self.0.types, i)?;
-            let merged = merge_nullability(alloc, dtype, turn(&self.0.others, i)?)?;
-            sum = sum.wrapping_add(usize::from(merged.is_some()));
-        }
-        Ok(sum)
-    }
-}
-
-/// `merge_nullability`, of equal types that were built separately.
-#[derive(Drop)]
-pub struct MergedEqual<'a>(pub &'a Types);
-
-impl<'a> Operation for MergedEqual<'a> {
-    fn name(&self) -> &'static str {
-        "merge_equal"
-    }
-
-    fn repeat(&mut self, alloc: Global, times: usize) -> BenchResult<usize> {
-        let mut sum = 0usize;
-        for i in 0..times {
-            let dtype = turn(&self.0.types, i)?;
-            let merged = merge_nullability(alloc, dtype, turn(&self.0.sames, i)?)?;
-            sum = sum.wrapping_add(usize::from(merged.is_some()));
-        }
-        Ok(sum)
-    }
-}
-
-/// `merge_nullability`, of types that were built separately and differ in the nullability of the whole alone.
-#[derive(Drop)]
-pub struct MergedOne<'a> {
-    types: &'a Types,
-    nullables: Vec<DType>,
-}
-
-impl<'a> MergedOne<'a> {
-    pub fn new(alloc: Global, types: &'a Types) -> BenchResult<Self> {
-        let mut nullables = Vec::with_capacity(alloc, types.sames.len())?;
-        for same in types.sames.iter() {
-            nullables.push(same.as_nullable(alloc)?)?;
-        }
-        Ok(MergedOne { types, nullables })
-    }
-}
-
-impl<'a> Operation for MergedOne<'a> {
-    fn name(&self) -> &'static str {
-        "merge_one"
-    }
-
-    fn repeat(&mut self, alloc: Global, times: usize) -> BenchResult<usize> {
-        let mut sum = 0usize;
-        for i in 0..times {
-            let dtype = turn(&self.types.types, i)?;
-            let merged = merge_nullability(alloc, dtype, turn(&self.nullables, i)?)?;
+            let dtype = turn(self.types, i)?;
+            let merged = merge_nullability(alloc, dtype, turn(self.others, i)?)?;
             sum = sum.wrapping_add(usize::from(merged.is_some()));
         }
         Ok(sum)
@@ -149,10 +92,6 @@ impl<'a> Operation for MergedOne<'a> {
 pub struct ElementSize<'a>(pub &'a Types);
 
 impl<'a> Operation for ElementSize<'a> {
-    fn name(&self) -> &'static str {
-        "element_size"
-    }
-
     fn repeat(&mut self, _alloc: Global, times: usize) -> BenchResult<usize> {
         let mut sum = 0usize;
         for i in 0..times {
@@ -168,10 +107,6 @@ impl<'a> Operation for ElementSize<'a> {
 pub struct Copied<'a>(pub &'a Types);
 
 impl<'a> Operation for Copied<'a> {
-    fn name(&self) -> &'static str {
-        "copy"
-    }
-
     fn repeat(&mut self, alloc: Global, times: usize) -> BenchResult<usize> {
         let mut sum = 0usize;
         for i in 0..times {
@@ -187,10 +122,6 @@ impl<'a> Operation for Copied<'a> {
 pub struct WithNullability<'a>(pub &'a Types);
 
 impl<'a> Operation for WithNullability<'a> {
-    fn name(&self) -> &'static str {
-        "with_nullability"
-    }
-
     fn repeat(&mut self, alloc: Global, times: usize) -> BenchResult<usize> {
         let mut sum = 0usize;
         for i in 0..times {
@@ -207,10 +138,6 @@ impl<'a> Operation for WithNullability<'a> {
 pub struct Hashed<'a, T>(pub &'a Vec<T>);
 
 impl<'a, T: Hash> Operation for Hashed<'a, T> {
-    fn name(&self) -> &'static str {
-        "hash"
-    }
-
     fn repeat(&mut self, _alloc: Global, times: usize) -> BenchResult<usize> {
         let mut sum = 0usize;
         for i in 0..times {
@@ -227,10 +154,6 @@ impl<'a, T: Hash> Operation for Hashed<'a, T> {
 pub struct Text<'a, T>(pub &'a Vec<T>);
 
 impl<'a, T: Display> Operation for Text<'a, T> {
-    fn name(&self) -> &'static str {
-        "text"
-    }
-
     fn repeat(&mut self, alloc: Global, times: usize) -> BenchResult<usize> {
         let mut sum = 0usize;
         for i in 0..times {
@@ -249,10 +172,6 @@ pub struct Resolve<'a> {
 }
 
 impl<'a> Operation for Resolve<'a> {
-    fn name(&self) -> &'static str {
-        "resolve"
-    }
-
     fn repeat(&mut self, _alloc: Global, times: usize) -> BenchResult<usize> {
         let mut sum = 0usize;
         for i in 0..times {

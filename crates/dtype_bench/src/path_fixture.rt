@@ -3,7 +3,7 @@
 
 // The paths and path sets that the cases work on.
 use crate::fault::BenchResult;
-use crate::fixture::{Shape, mixed, one_field, with_one_field};
+use crate::fixture::{self, Shape, mixed, one_field, with_one_field};
 use dtype_base::{FieldName, Nullability};
 use dtype_paths::{Field, FieldPath, FieldPathSet};
 use dtype_types::DType;
@@ -145,7 +145,7 @@ fn columns(alloc: Global, depth: usize) -> BenchResult<Vec<Field>> {
 }
 
 fn numbered(alloc: Global, text: &str, i: usize) -> BenchResult<Field> {
-    let text = format!(in alloc; "{text}_{i}")?;
+    let text = fixture::numbered(alloc, text, i)?;
     Ok(Field::from_text(alloc, text.as_str())?)
 }
 

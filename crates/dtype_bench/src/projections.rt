@@ -17,10 +17,6 @@ use vortex_dtype::project_paths;
 pub struct ProjectPaths<'a>(pub &'a Query);
 
 impl<'a> Operation for ProjectPaths<'a> {
-    fn name(&self) -> &'static str {
-        "project_paths"
-    }
-
     fn repeat(&mut self, alloc: Global, times: usize) -> BenchResult<usize> {
         let mut sum = 0usize;
         for i in 0..times {
@@ -37,10 +33,6 @@ impl<'a> Operation for ProjectPaths<'a> {
 pub struct ProjectByHand<'a>(pub &'a Query);
 
 impl<'a> Operation for ProjectByHand<'a> {
-    fn name(&self) -> &'static str {
-        "project_by_hand"
-    }
-
     fn repeat(&mut self, alloc: Global, times: usize) -> BenchResult<usize> {
         let mut sum = 0usize;
         for i in 0..times {

@@ -8,7 +8,6 @@ import subprocess
 import sys
 import tempfile
 import unittest
-from functools import partialmethod
 
 TOOLS = os.path.dirname(os.path.dirname(os.path.realpath(__file__)))
 sys.path.append(TOOLS)
@@ -19,7 +18,8 @@ class Planted(unittest.TestCase):
     def setUp(self):
         self.top = tempfile.mkdtemp(prefix="planted-")
         self.addCleanup(shutil.rmtree, self.top)
-        shutil.copytree(os.path.dirname(TOOLS), self.top, ignore=BUILT, dirs_exist_ok=True)
+        shutil.copytree(os.path.dirname(TOOLS), self.top, ignore=BUILT, copy_function=shutil.copy,
+                        dirs_exist_ok=True)
 
     def read(self, file):
         with open(f"{self.top}/{file}", encoding="utf-8") as it:
@@ -53,19 +53,24 @@ class Planted(unittest.TestCase):
                              check=False, timeout=300)
         return ran.returncode, ran.stdout
 
-    def assert_told(self, tool, text):
-        """That the tool tells this, that its last line counts it, and that its status is 1."""
+    def assert_told(self, tool, *texts):
+        """That the tool tells these, that its last line counts them, and that its status is 1."""
         status, said = self.run_tool(tool)
-        self.assertIn(text, said)
+        for text in texts:
+            self.assertIn(text, said)
         self.assertRegex(said.splitlines()[-1], r"^\d+ passed, [1-9]\d* failed$")
         self.assertEqual(status, 1, said)
 
-    def assert_change_told(self, tool, file, old, new, text):
-        line = self.change(file, old, new)
-        self.assert_told(tool, text.replace("LINE", str(line)))
-
-    @classmethod
-    def plant(cls, tool, changes):
-        """Makes a test of each change: a file, what stands there, what then, what is told, with LINE for its line."""
-        for place, change in enumerate(changes):
-            setattr(cls, f"test_tells_change_{place}", partialmethod(cls.assert_change_told, tool, *change))
+    def assert_each_told(self, tool, changes):
+        """Makes these changes in one copy, and runs the tool once: each is told in a line of its own, and counts as a
+        test. A change is a file, what stands there, what then, and what is told, with LINE for its line."""
+        texts = [text.replace("LINE", str(self.change(file, old, new))) for file, old, new, text in changes]
+        self.planted = len(texts)
+        status, said = self.run_tool(tool)
+        *lines, last = said.splitlines(keepends=True)
+        told = [it for it in lines if not it.startswith("pages: words: ")]
+        self.assertEqual((status, last.partition(", ")[2]), (1, f"{len(told)} failed\n"), said)
+        for text in texts:
+            with self.subTest(text):
+                of_each = [[it for it in texts if it in line] for line in told]
+                self.assertIn([text], of_each, said)

@@ -9,6 +9,7 @@ SEARCH = "crates/dtype_base/src/name_search.rt"
 STRUCT = "crates/dtype_types/src/struct_fields.rt"
 NAMES = "crates/dtype_base/src/field_names.rt"
 NAME = "crates/dtype_base/src/field_name.rt"
+NULLABILITY = "crates/dtype_base/src/nullability.rt"
 VALIDATED = "Err(VortexError::OutOfMemory) => Err(VortexError::OutOfMemory),"
 SPEC = "crates/dtype_types/specs/tree/Tree.antt"
 LEMMA = "\npub width_below : (n : ℕ) → width n ≤ 8\nwidth_below n = by_cases n\n"
@@ -24,21 +25,16 @@ CHANGES = [
     (PATH, "if i > 0 {", "if f.alternate() { return Ok(()); } if i > 0 {", "asks a formatter for `alternate`"),
     (PATH, "self.steps.push(field)?;", "if self.len() == 64 { return Err(VortexError::OutOfMemory); } // AllocError",
      "FieldPath::push: OutOfMemory where no allocation failed"),
-    (PATH, "self.steps.push(field)?;", "if self.len() == 64 { /* ensures { */ Err(VortexError::OutOfMemory) /* } */ }",
-     "FieldPath::push: OutOfMemory where no allocation failed"),
-    (PATH, "self.steps.push(field)?;", "let room: Vec<u64> = Vec::with_capacity(alloc, usize::MAX)?; drop(room);",
-     "FieldPath::push: asks for room that can't be had"),
-    (PATH, "self.steps.push(field)?;", "use std::alloc::Global as Memory; let _: Memory = self.alloc;",
-     "FieldPath::push: has an import of its own"),
+    (PATH, "let _ = self.steps.remove(0);", "if self.len() == 64 { /* ensures { */ Err(VortexError::OutOfMemory) /* } */ }",
+     "FieldPath::step_into: OutOfMemory where no allocation failed"),
+    (PATH, "let alloc = *self.steps.allocator();", "let room: Vec<u64> = Vec::with_capacity(alloc, usize::MAX)?;",
+     "FieldPath::try_clone: asks for room that can't be had"),
+    (PATH, "self.steps.is_empty()", "use std::alloc::Global as Memory; let _: Memory = self.alloc;",
+     "FieldPath::is_root: has an import of its own"),
     (SEARCH, "let here = &names[position];", "let one = names[0].is_it(); let here = &names[position];",
      "compare: is to read names once"),
-<<<<<<< HEAD
-    (SEARCH, "let here = &names[position];", "let _ = names.iter().max(); let here = &names[position];",
-     "compare: is to read names once"),
-=======
     ("crates/dtype_base/src/indexed_names.rt", "search(self.", "let _ = self.names.iter().max(); search(self.",
      "IndexedNames::find_counted: reads names beside the function that counts"),
->>>>>>> 7cdfd9ef (pages: the reference of names and structs)
     (NAMES, "(alloc, texts.len())?", "(alloc, !0)?", f"{NAMES}: FieldNames::from_texts: asks for room that can't"),
     ("crates/dtype_types/src/named.rt", "self.names.find_counted(name)", "first(self.names.as_slice(), name)",
      "Named::find_counted: passes names on to first"),
@@ -49,15 +45,17 @@ CHANGES = [
     (SPEC, "", "\npub same : (n : ℕ)\n  → IsWide n ↔ (width n ≡ 8)\nsame n = (f, g)\n", f"{SPEC}: same is a lemma"),
     (NAME, "use std::fmt;", "ghost use Rattle.std.specs.Prelude.{◌≤◌, ◌≡◌};\nuse std::fmt;", "imports ◌≤◌, and uses"),
     (NAME, "use std::fmt;", "ghost use Rattle.std.specs.Prelude.{◌≡◌, codes};\nuse std::fmt;", "imports codes, and"),
-    (NAME, "use std::fmt;", "ghost use Rattle.std.specs.Prelude.{◌≡◌, ◌≡◌};\nuse std::fmt;", "imports ◌≡◌ twice"),
+    (NULLABILITY, "use std::fmt;", "ghost use Rattle.std.specs.Prelude.{◌≡◌};\nuse std::fmt;",
+     f"{NULLABILITY}: imports ◌≡◌ twice"),
     (NAME, *MADE, f"{NAME}: FieldName::new: made: is to be called ok"),
-    (NAME, MADE[0], "ensures valid { IfOk result (λ n. n ≡ text.now)", "valid: is of another form"),
+    (NAMES, "ensures { Makes result (λ n. n ≡ self.now)", "ensures valid { IfOk result (λ n. n ≡ self.now)",
+     "valid: is of another form"),
 ]
 
 
 class Borders(Planted):
-    def test_tells_nothing_of_sound_sources(self):
-        self.assertRegex(self.run_tool("borders")[1], r"^\d+ passed, 0 failed\n$")
+    def test_tells_each_change(self):
+        self.assert_each_told("borders", CHANGES)
 
     def test_takes_what_is_sound(self):
         hidden = 'let mut start = 0; let _ = "f.width() fmt::Error OutOfMemory"; /* use std::alloc; */'
@@ -68,15 +66,12 @@ class Borders(Planted):
         self.write(SPEC.replace("Tree", "WidthLaws"), LEMMA)
         self.change(NAME, *MADE)
         self.change("tools/borders", "LABELS_OF_TODAY = {", f'LABELS_OF_TODAY = {{"{NAME[7:]} FieldName::new: made", ')
-        self.assertEqual(self.run_tool("borders")[0], 0)
+        self.assertRegex(self.run_tool("borders")[1], r"^\d+ passed, 0 failed\n$")
 
     def test_tells_a_definition_that_a_user_cannot_name(self):
         self.change(NAME, "use std::fmt;", "ghost use Rattle.dtype_base.specs.Hidden.{hidden};\nuse std::fmt;")
         self.change(NAME, "(λ n. n ≡ text.now)", "(λ n. hidden n)")
-        self.assert_told("borders", "hidden of Rattle.dtype_base.specs.Hidden, cited by new")
-        self.assert_told("borders", "docs/GLOSSARY.md doesn't explain hidden of Rattle.dtype_base.specs.Hidden")
+        self.assert_told("borders", "hidden of Rattle.dtype_base.specs.Hidden, cited by new",
+                         "docs/GLOSSARY.md doesn't explain hidden of Rattle.dtype_base.specs.Hidden")
         self.change("crates/vortex_dtype/specs/Lib.antt", "", "pub use Rattle.dtype_base.specs.Hidden\n")
         self.assertNotIn("can't be named", self.run_tool("borders")[1])
-
-
-Borders.plant("borders", CHANGES)

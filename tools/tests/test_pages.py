@@ -8,7 +8,6 @@ from repository import version
 LEDGER = "docs/PROMISES.md"
 NAME = "crates/dtype_base/src/field_name.rt"
 ROOT = "crates/dtype_base/src/lib.rt"
-PTYPE = "crates/dtype_base/src/ptype.rt"
 TABLE = "crates/console_core/src/names.rt"
 RUN_BY = "tools/data/run_by"
 CALLING = "crates/vortex_dtype/CALLING.md"
@@ -24,28 +23,30 @@ CHANGES = [
     ("docs/GUIDE.md", "| 0 |", "| 1 |", "docs/GUIDE.md: lacks error 0, OutOfMemory"),
     ("docs/CONSOLE.md", "`name NAME`", "", "docs/CONSOLE.md: lacks the command name NAME"),
     (LEDGER, FIND, "`StructFields::find_counted: sound", "LINE: StructFields::find_counted has no clause sound"),
-    (LEDGER, FIND, "`StructFields::gone: first", f"{LEDGER}:LINE: there is no public call StructFields::gone"),
+    (LEDGER, "`IndexedNames::find_counted: first`", "`FieldNames::gone`", "LINE: there is no public call FieldNames::g"),
     (LEDGER, "laws::kept_again", "laws::gone", f"{LEDGER}:LINE: there is no law vortex_dtype::laws::gone"),
     (LEDGER, "wrong/struct_find_scans`, `", "wrong/gone`, `", "LINE: there is no mutation dtype_types/wrong/gone"),
     (LEDGER, "console: Lookup by names of 7", "console: By names", f"{LEDGER}:LINE: there is no golden test 'By names"),
     (LEDGER, "`dtype_base/wrong/f16_takes_four_bytes`", "`dtype_base/must-fail/find_scans`",
      f"{LEDGER}:LINE: dtype_base/must-fail/find_scans changes IndexedNames::find_counted, which no call of this line"),
-    (PTYPE, "impl PType {", "impl PType {\n    pub fn digits(self) -> u8 {\n        0\n    }\n",
+    ("crates/dtype_base/src/ptype.rt", "impl PType {", "impl PType {\n    pub fn digits(self) -> u8 {\n        0\n    }\n",
      f"{LEDGER}: the call PType::digits stands in no line"),
     (ROOT, "pub mod laws;", "pub mod laws;\n\npub const MOST: u8 = 76;", f"{LEDGER}: the constant MOST stands in no"),
+    (ROOT, "pub use ptype::PType;", "pub use ptype::{PType, Wide};\npub trait Wide {\n    ghost wide_law: { 1 ≡ 1 };\n}",
+     f"{LEDGER}: the law of a trait Wide: wide_law stands in no line"),
     (TABLE, 'r#""a b""#, "the name itself', 'r#""a c""#, "the name itself', 'the example name "a c" is no golden test'),
-    (TABLE, '"", Names(NameCommand::Write(NameForm::Name))', '"OutOfMemory (1)", Names(NameCommand::Write)',
-     "name: there is no error OutOfMemory (1)"),
+    (TABLE, '"", Names(NameCommand::NameCmp)', '"Io (1)", Names(NameCommand::NameCmp)', "name_cmp: there is no error Io"),
     ("crates/console_paths/src/merging.rt", "let merged = merge_nullability(", "let merged = (",
      f"{RUN_BY}: merge_nullability, which allocates, isn't run"),
-    (TABLE, '"name"', '"first_name"', f"{RUN_BY}: FieldName::new: there is no test name"),
+    ("crates/console_core/src/paths.rt", '"from_step"', '"step"', "FieldPath::from_field: there is no test from_step"),
     (RUN_BY, "", "tests_types::gone: FieldName::new;\n", "FieldName::new: there is no test tests_types::gone"),
     (RUN_BY, "", "FieldName::new: FieldName::gone;\n", "FieldName::gone: is no public call that allocates"),
     ("docs/TRUST.md", "", "\n| [`E`](../crates/dtype_base/specs/Errors.antt) | 900 | errors |\n", " lines, not 900"),
     ("docs/TRUST.md", "", "\nsome 4 lines of `specs/`\n", " lines, not 4\n"),
     ("docs/TRUST.md", "", "\n```sh\ntools/gone\n```\n", "docs/TRUST.md: there is no tools/gone"),
     ("docs/TRUST.md", "", "\n`tools/reference --chek`\n", "docs/TRUST.md: tools/reference has no --chek"),
-    (NAME, "/// The name of a field:", "/// A name:", "docs/reference/dtype_base.md: isn't of these sources"),
+    ("crates/dtype_native/src/integer_ptype.rt", "/// A native integer type.", "/// A type.",
+     "docs/reference/dtype_native.md: isn't of these sources"),
     ("CHANGELOG.md", f"## {version()}", f"## 9.9.9\n\n## {version()}", "its newest version is 9.9.9, the console's"),
     ("docs/benchmarks.csv", "", "find/x/10,30,10\n", "its summary isn't of docs/benchmarks.csv"),
     ("docs/benchmarks.csv", "", "fly/x,20,10\n", "no operation of tools/speed.py has the case fly/x"),
@@ -53,10 +54,8 @@ CHANGES = [
 
 
 class Pages(Planted):
-    def test_tells_a_law_of_a_trait_without_a_line(self):
-        self.change(ROOT, "pub use ptype::PType;", "pub use ptype::{PType, Wide};")
-        self.change(PTYPE, "impl PType {", "pub trait Wide {\n    ghost wide_law: { 1 ≡ 1 };\n}\n\nimpl PType {")
-        self.assert_told("pages", f"{LEDGER}: the law of a trait Wide: wide_law stands in no line")
+    def test_tells_each_change(self):
+        self.assert_each_told("pages", CHANGES)
 
     def test_takes_what_is_there(self):
         self.change(LEDGER, "", "\n```console\n> name \"a b\"\n\"a b\"\n```\n\n```sh\ntools/reference --check\n```\n")
@@ -81,6 +80,3 @@ Makes a name.
 - console: `name b c` answers `refused 0: out of memory`
 """, self.read("docs/reference/dtype_base.md"))
         self.assertIn("[`FieldName::new`](dtype_base.md#fieldnamenew)", self.read("docs/reference/README.md"))
-
-
-Pages.plant("pages", CHANGES)

@@ -63,7 +63,6 @@ static struct block *held(void *start) {
 }
 
 void *malloc(size_t size) { return refuses() ? NULL : taken(__libc_malloc(size)); }
-
 void *calloc(size_t count, size_t size) { return refuses() ? NULL : taken(__libc_calloc(count, size)); }
 
 void free(void *start) {

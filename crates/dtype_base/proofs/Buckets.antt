@@ -1,7 +1,8 @@
 -- SPDX-License-Identifier: Apache-2.0
 -- SPDX-FileCopyrightText: Copyright the Vortex contributors
 
--- Where the entries of each bucket begin, that the entries of a bucket are those of its names, and how many they are.
+-- Where the entries of each bucket begin, that the entries of a bucket are those of its names, and how many the longest
+-- has.
 use Rattle.std.proofs.Common.{◌≡◌, ℕ, suc, ◌+◌, ◌-◌, ◌<◌, ◌≤◌, ◌==◌, List, [], ◌∷◌, Bool, true, false, cond, length, get_or, map, take, drop, ◌↔◌, refl, sym, ap, subst, ◌∙◌, inl, inr, arith}
 use Rattle.std.specs.Prelude.{slice_get, slice_index}
 use Rattle.std.specs.List.{count_by}
@@ -12,14 +13,16 @@ use Rattle.std.proofs.lemmas.List.{get_or-drop, get_or-map, get_or-take, length-
 use Rattle.std.proofs.lemmas.List.FromFn.{fill_by_all}
 use Rattle.std.proofs.lemmas.List.Sorted.{IsPermutation-map, sum_by-IsPermutation}
 use Rattle.std.proofs.lemmas.List.Sums.{sum_by-cons}
-use Rattle.std.proofs.lemmas.Option.{get_or_from_slice_get}
+use Rattle.std.proofs.lemmas.Option.{get_or_from_slice_get, slice_get_within}
 use Rattle.dtype_base.specs.BinaryDigits.{binary_digits}
-use Rattle.dtype_base.specs.Comparisons.{bucket_len}
+use Rattle.dtype_base.specs.Comparisons.{bucket_len, longest_bucket}
 use Rattle.dtype_base.specs.NameHashes.{bucket_of, bucket_of_key, key_of}
-use Rattle.dtype_base.specs.private.NameOrder.{AreDistinguishedBy, AreStarts, IsBucketFor, IsIndexBy, IsKeyed, key_in, keyed_position_cmp, position_in, positions}
+use Rattle.dtype_base.specs.private.NameOrder.{AreDistinguishedBy, AreStarts, IsBucketFor, IsIndexBy, IsIndexOf, IsKeyed, key_in, keyed_position_cmp, position_in, positions}
 use Rattle.dtype_base.specs.declared.name_order.Discriminator.{Discriminator}
 use Rattle.dtype_base.specs.declared.name_order.Discriminator.TheVariants.{Key, Text}
-use Rattle.dtype_base.proofs.NameHashes.{bucket_rises}
+use Rattle.dtype_base.specs.declared.name_order.NameIndex.{NameIndex}
+use Rattle.dtype_base.proofs.lemmas.Lookups.{longest_bucket_is}
+use Rattle.dtype_base.proofs.NameHashes.{bucket_below, bucket_rises, key_fits}
 use Rattle.dtype_base.proofs.NameSearch.{all_apart, all_positions, as_many_positions, placed, position_at}
 
 -- the bucket of the entry at q
@@ -155,44 +158,8 @@ module _ (names : List (List ℕ)) (bits : ℕ) (by : Discriminator) (entries st
           ],
         )
 
-    distinguished : (by : Discriminator) → AreDistinguishedBy bits by entries → AreDistinguishedBy bits by (part entries low high)
-    distinguished Key increase = λ k d within.
-        let len = part_len entries low high upto in
-        rw (part_at entries low high upto (k + 1) d (omega (arith, within, len)), part_at entries low high upto k d (omega (arith, within, len)))
-        (subst (λ j. key_in bits (get_or entries (low + k) d) < key_in bits (get_or entries j d)) (omega arith) (increase (low + k) d (omega (arith, within, len, upto))))
-    distinguished Text all = tt
-
-    -- the bucket's part of the entries
-    pub starts_rise : low ≤ high
-    starts_rise = elim (cases_lt high low) [
-      | inl sooner ↦ let within : high < length entries = omega (arith, sooner, s.within bucket (omega (arith, below))) in absurd (omega (arith, sooner, (s.first (bucket + 1) high (omega (arith, below)) within).1 (omega (arith, (s.first bucket high (omega (arith, below)) within).0 sooner))))
-      | inr after ↦ after
-    ]
-
-    pub bucket_holds : IsBucketFor names bits by n (part entries low high)
-    bucket_holds = let len = part_len entries low high upto in record {
-      keyed = λ k d within. subst (IsKeyed names bits) (sym (part_at entries low high upto k d (omega (arith, within, len)))) (h.keyed (low + k) d (omega (arith, within, len, upto)));
-      rising = λ k d l within.
-          let inner : k + 1 < high - low = omega (arith, within, len, as_many_positions bits (part entries low high)) in
-          rw (part_position entries low high upto bits (k + 1) d inner, part_position entries low high upto bits k d (omega (arith, inner)))
-          (subst (λ j. is_lt (keyed_position_cmp bits names (get_or (positions bits entries) j d) (get_or (positions bits entries) (low + k) d)) ≡ false) (omega arith) (h.order.rising (low + k) d (omega arith) (omega (arith, inner, upto, as_many_positions bits entries))));
-      apart = λ i j d l within same.
-          let inner : j < high - low = omega (arith, within, len, as_many_positions bits (part entries low high)) in
-          all_apart names (positions bits entries) h.order.each (low + i) (low + j) d (omega (arith, l)) (omega (arith, inner, upto, as_many_positions bits entries))
-          (sym (part_position entries low high upto bits i d (omega (arith, l, inner))) ∙ same ∙ part_position entries low high upto bits j d inner);
-      holds = λ i e.
-          let q = placed names (positions bits entries) n h.order.each i e in
-          let within : q.0 < length entries = omega (arith, q.1, as_many_positions bits entries) in
-          let here : position_in bits (get_or entries q.0 0) ≡ i = sym (position_at bits entries q.0 0 within) ∙ q.2 in
-          let keyed = h.keyed q.0 0 within in
-          let name : get_or names (position_in bits (get_or entries q.0 0)) [] ≡ n = get_or_from_slice_get names _ n [] (ap (slice_get names) here ∙ e) in
-          let both = (inside q.0 within).0 (ap (bucket_of_key count) (keyed.key ∙ ap (key_of bits) name) ∙ sym is) in
-          (q.0 - low, omega (arith, both.0, both.1, len), ap (position_in bits) (part_at entries low high upto (q.0 - low) 0 (omega (arith, both.0, both.1)) ∙ ap (λ k. get_or entries k 0) (omega (arith, both.0))) ∙ here);
-      distinguished = distinguished by h.distinguished;
-    }
-
-    -- how many entries a bucket has
-    pub bucket_counts : bits ≡ binary_digits count → length (part entries low high) ≡ bucket_len names n
+    -- how many entries the bucket has
+    pub bucket_counts : bits ≡ binary_digits count → bucket_len names n ≡ high - low
     unfolding bucket_len
     bucket_counts digits =
         let nth = λ (i : ℕ). get_or names i [] in
@@ -203,13 +170,81 @@ module _ (names : List (List ℕ)) (bits : ℕ) (by : Discriminator) (entries st
         let len : length sorted ≡ length entries = length-map order nth ∙ as_many_positions bits entries in
         let at = λ (q : ℕ) (within : q < length entries). get_or-map nth order q 0 [] (omega (arith, within, as_many_positions bits entries)) ∙ ap nth (position_at bits entries q 0 within) in
         let same_bucket = λ (m : List ℕ). ap (λ b. bucket_of_key count (key_of b m)) digits in
-        part_len entries low high upto
-        ∙ sym (count_between test sorted [] low high (omega (arith, len, upto)) (λ q inside_q.
+        sym (sum_by-IsPermutation (λ m. cond (test m) 1 0) names sorted moved)
+        ∙ count_between test sorted [] low high (omega (arith, len, upto)) (λ q inside_q.
         let within : q < length entries = omega (arith, inside_q, len) in
         let keyed = h.keyed q 0 within in
         let of_q : bucket_of count (get_or sorted q []) ≡ bucket_at count bits entries q = ap (bucket_of count) (at q within) ∙ sym (same_bucket _) ∙ ap (bucket_of_key count) (sym keyed.key) in
         let of_n : bucket_of count n ≡ bucket = sym (same_bucket n) ∙ sym is in (
           λ t. (inside q within).0 (sym of_q ∙ eqb-true _ _ t ∙ of_n),
           λ both. eq-eqb _ _ (of_q ∙ (inside q within).1 both ∙ sym of_n),
-        )))
-        ∙ sum_by-IsPermutation (λ m. cond (test m) 1 0) names sorted moved
+        ))
+
+    -- entries next to one another, among which are those of the bucket
+    module _ (first last : ℕ) (whole : last ≤ length entries) (before : first ≤ low) (after : high ≤ last) where
+      distinguished : (by : Discriminator) → AreDistinguishedBy bits by entries → AreDistinguishedBy bits by (part entries first last)
+      distinguished Key increase = λ k d within.
+          let len = part_len entries first last whole in
+          rw (part_at entries first last whole (k + 1) d (omega (arith, within, len)), part_at entries first last whole k d (omega (arith, within, len)))
+          (subst (λ j. key_in bits (get_or entries (first + k) d) < key_in bits (get_or entries j d)) (omega arith) (increase (first + k) d (omega (arith, within, len, whole))))
+      distinguished Text all = tt
+
+      pub bucket_holds : IsBucketFor names bits by n (part entries first last)
+      bucket_holds = let len = part_len entries first last whole in record {
+        keyed = λ k d within. subst (IsKeyed names bits) (sym (part_at entries first last whole k d (omega (arith, within, len)))) (h.keyed (first + k) d (omega (arith, within, len, whole)));
+        rising = λ k d l within.
+            let inner : k + 1 < last - first = omega (arith, within, len, as_many_positions bits (part entries first last)) in
+            rw (part_position entries first last whole bits (k + 1) d inner, part_position entries first last whole bits k d (omega (arith, inner)))
+            (subst (λ j. is_lt (keyed_position_cmp bits names (get_or (positions bits entries) j d) (get_or (positions bits entries) (first + k) d)) ≡ false) (omega arith) (h.order.rising (first + k) d (omega arith) (omega (arith, inner, whole, as_many_positions bits entries))));
+        apart = λ i j d l within same.
+            let inner : j < last - first = omega (arith, within, len, as_many_positions bits (part entries first last)) in
+            all_apart names (positions bits entries) h.order.each (first + i) (first + j) d (omega (arith, l)) (omega (arith, inner, whole, as_many_positions bits entries))
+            (sym (part_position entries first last whole bits i d (omega (arith, l, inner))) ∙ same ∙ part_position entries first last whole bits j d inner);
+        holds = λ i e.
+            let q = placed names (positions bits entries) n h.order.each i e in
+            let within : q.0 < length entries = omega (arith, q.1, as_many_positions bits entries) in
+            let here : position_in bits (get_or entries q.0 0) ≡ i = sym (position_at bits entries q.0 0 within) ∙ q.2 in
+            let keyed = h.keyed q.0 0 within in
+            let name : get_or names (position_in bits (get_or entries q.0 0)) [] ≡ n = get_or_from_slice_get names _ n [] (ap (slice_get names) here ∙ e) in
+            let both = (inside q.0 within).0 (ap (bucket_of_key count) (keyed.key ∙ ap (key_of bits) name) ∙ sym is) in
+            (q.0 - first, omega (arith, both.0, both.1, before, after, len), ap (position_in bits) (part_at entries first last whole (q.0 - first) 0 (omega (arith, both.0, both.1, before, after)) ∙ ap (λ k. get_or entries k 0) (omega (arith, both.0, before))) ∙ here);
+        distinguished = distinguished by h.distinguished;
+      }
+
+-- ---- the longest bucket
+
+module _ (names : List (List ℕ)) (index : NameIndex) (h : IsIndexOf names index) where
+  abbrev longest_at : List ℕ → ℕ
+  longest_at n = bucket_of_key (length names) (key_of index.bits n)
+
+  pub longest_fits : index.longest ≤ length index.entries.items
+  longest_fits = elim (cases_lt 0 index.longest) [
+    | inl some ↦ let b = h.longest.reached some in omega (arith, b.2, h.starts.within (b.0 + 1) (omega (arith, b.1, h.starts.len)))
+    | inr none ↦ omega (arith, none)
+  ]
+
+  -- each bucket has at most as many
+  each : 0 < length names → (n : List ℕ) → bucket_len names n ≤ index.longest
+  each some n =
+      let below = bucket_below (length names) (key_of index.bits n) some (key_fits index.bits n) in
+      omega (arith, bucket_counts names index.bits index.discriminator index.entries.items index.starts.items n h.entries h.starts (longest_at n) refl below h.bits, h.longest.most (longest_at n) (omega (arith, below, h.starts.len)))
+
+  -- a bucket has as many, that of the name of the entry at its start
+  some_name : (some : 0 < index.longest) → (i : ℕ) × (i < length names) × (bucket_len names (get_or names i []) ≡ index.longest)
+  some_name some =
+      let b = h.longest.reached some in
+      let entries = index.entries.items in
+      let q = slice_index index.starts.items b.0 in
+      let below : b.0 < length names = omega (arith, b.1, h.starts.len) in
+      let within : q < length entries = omega (arith, some, b.2, h.starts.within (b.0 + 1) (omega (arith, below))) in
+      let keyed = h.entries.keyed q 0 within in
+      let i = position_in index.bits (get_or entries q 0) in
+      let n = get_or names i [] in
+      let here : bucket_at (length names) index.bits entries q ≡ longest_at n = ap (bucket_of_key (length names)) keyed.key in
+      let not_before = (h.starts.first b.0 q (omega (arith, below)) within).1 in
+      let upto = (h.starts.first (b.0 + 1) q (omega (arith, below)) within).0 (omega (arith, some, b.2)) in
+      let is : b.0 ≡ longest_at n = elim (cases_lt (longest_at n) b.0) [ inl sooner ↦ absurd (omega (arith, not_before (omega (arith, here, sooner)))) | inr after ↦ omega (arith, after, upto, here) ] in
+      (i, keyed.within, omega (arith, bucket_counts names index.bits index.discriminator entries index.starts.items n h.entries h.starts b.0 is below h.bits, b.2))
+
+  pub longest_is : index.longest ≡ longest_bucket names
+  longest_is = longest_bucket_is names index.longest (λ n i e. each (omega (arith, slice_get_within names i n e)) n) (λ some. let i = some_name some in (i.0, i.1, i.2))

@@ -8,7 +8,7 @@ use Rattle.std.proofs.Math.Nat.{div-lt_iff_lt-mul, mul-le-mul_right, mul-lt-mul_
 use Rattle.std.proofs.lemmas.Nat.{le-div, mod_low, pow-add}
 use Rattle.std.proofs.lemmas.List.{get_or_past, take_rest}
 use Rattle.dtype_base.specs.BinaryDigits.{binary_digits}
-use Rattle.dtype_base.specs.NameHashes.{big_endian, bucket_of_key, hash_of, mixed, without_bits, words_hash}
+use Rattle.dtype_base.specs.NameHashes.{big_endian, bucket_of_key, hash_of, key_of, mixed, without_bits, words_hash}
 use Rattle.dtype_base.proofs.lemmas.BinaryDigits.{digits_between}
 
 -- no byte, no number
@@ -89,3 +89,7 @@ key_of_entry bits h p room = omega (arith, position_of_entry bits h p room)
 pub hash_fits : (n : List ℕ) → hash_of n < 2 ^ 64
 unfolding hash_of mixed
 hash_fits n = omega arith
+
+pub key_fits : (bits : ℕ) (n : List ℕ) → key_of bits n < 2 ^ 64
+unfolding key_of
+key_fits bits n = omega (arith, hash_fits n)

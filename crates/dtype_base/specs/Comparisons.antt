@@ -2,7 +2,7 @@
 -- SPDX-FileCopyrightText: Copyright the Vortex contributors
 
 -- How many names a lookup compares. From arithmetic.
-use Rattle.std.specs.Prelude.{ℕ, zero, suc, ◌+◌, ◌==◌, List, length}
+use Rattle.std.specs.Prelude.{ℕ, zero, suc, ◌+◌, ◌==◌, List, [], ◌∷◌, length, max}
 use Rattle.std.specs.List.{count_by}
 use Rattle.dtype_base.specs.BinaryDigits.{binary_digits}
 use Rattle.dtype_base.specs.NameHashes.{bucket_of}
@@ -13,6 +13,15 @@ abbrev pub comparisons : ℕ → ℕ
 comparisons zero = 0
 comparisons (suc n) = binary_digits n + 1
 
--- how many of the names are in the bucket of this name, among which a lookup searches
+-- how many of the names are in the bucket of this name
 unfoldable pub bucket_len : List (List ℕ) → List ℕ → ℕ
 bucket_len names n = count_by (λ m. bucket_of (length names) m == bucket_of (length names) n) names
+
+-- the greatest number of names that are in one bucket with one of these
+unfoldable pub most_sharing : List (List ℕ) → List (List ℕ) → ℕ
+most_sharing names [] = 0
+most_sharing names (n ∷ ns) = max (bucket_len names n) (most_sharing names ns)
+
+-- How many names are in the longest bucket. A lookup searches among as many, whichever name is looked for.
+unfoldable pub longest_bucket : List (List ℕ) → ℕ
+longest_bucket names = most_sharing names names

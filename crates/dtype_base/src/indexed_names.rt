@@ -6,7 +6,7 @@ ghost use Rattle.dtype_base.specs.Errors.{Makes};
 ghost use Rattle.dtype_base.specs.BinaryDigits.{binary_digits};
 ghost use Rattle.dtype_base.specs.Distinct.{Distinct};
 ghost use Rattle.dtype_base.specs.FieldNames.{SelectionError, first_place};
-ghost use Rattle.dtype_base.specs.Comparisons.{bucket_len, comparisons};
+ghost use Rattle.dtype_base.specs.Comparisons.{comparisons, longest_bucket};
 ghost use Rattle.dtype_base.specs.private.NameOrder.{IsIndexOf};
 ghost use Rattle.dtype_base.specs.declared.vortex_error.VortexError.TheVariants.{OutOfMemory};
 
@@ -56,12 +56,12 @@ impl IndexedNames {
     }
 
     /// Returns the first position of the name, or `None` where no name is equal to it, and how many names were
-    /// compared. That number depends on how many names are in the bucket of the name: it is 0 among none, else one more
-    /// than the binary digits of their number less one. Doesn't allocate.
+    /// compared. That number is the same for every name. It depends on how many names are in the longest bucket: it is
+    /// 0 among none, else one more than the binary digits of their number less one. Doesn't allocate.
     #[tactic(auto, using(crate::proofs::lemmas::Lookups::most_compared, crate::proofs::lemmas::Lookups::found_compared))]
     pub fn find_counted(&self, name: &str) -> (Option<usize>, u64)
         ensures first { result.0 ≡ first_place self.now name.now }
-        ensures count { result.1 ≡ comparisons (bucket_len self.now name.now) }
+        ensures count { result.1 ≡ comparisons (longest_bucket self.now) }
         ensures at_most { result.1 ≤ binary_digits (length self.now) + 1 }
         ensures at_least { IsSome result.0 → 1 ≤ result.1 }
     {
@@ -99,6 +99,7 @@ impl IndexedNames {
             bits: self.index.bits,
             entries: Vec::from_slice(alloc, &self.index.entries)?,
             starts: Vec::from_slice(alloc, &self.index.starts)?,
+            longest: self.index.longest,
             discriminator: self.index.discriminator,
         };
         Ok(IndexedNames { names, index })

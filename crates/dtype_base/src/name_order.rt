@@ -8,7 +8,7 @@ ghost use Rattle.std.specs.List.{range_with_len};
 ghost use Rattle.std.specs.List.Sorted.{IsNonDecreasingBy, IsPermutation, IsSorted};
 ghost use Rattle.dtype_base.specs.Errors.{Makes};
 ghost use Rattle.dtype_base.specs.Distinct.{Distinct};
-ghost use Rattle.dtype_base.specs.private.NameOrder.{AreDistinguishedBy, AreStarts, IsIndexOf, IsKeyed, IsOrderOf, KeysIncrease, entry_cmp, key_in, position_cmp, position_in, positions};
+ghost use Rattle.dtype_base.specs.private.NameOrder.{AreDistinguishedBy, AreStarts, IsIndexOf, IsKeyed, IsLongest, IsOrderOf, KeysIncrease, entry_cmp, key_in, position_cmp, position_in, positions};
 ghost use Rattle.dtype_base.specs.declared.vortex_error.VortexError.TheVariants.{OutOfMemory};
 
 use crate::name_key::{bucket_of_key, key_of, position_bits, without_bits};
@@ -35,6 +35,9 @@ pub(crate) struct NameIndex {
     pub(crate) entries: Vec<u64>,
     // Where the entries of each bucket begin, and at the end the number of entries.
     pub(crate) starts: Vec<usize>,
+    // How many entries the longest bucket has. Each search is among as many, so that all make the same steps: a processor
+    // foresees a loop that always runs as often.
+    pub(crate) longest: usize,
     // How much of a name distinguishes the entries.
     pub(crate) discriminator: Discriminator,
 }
@@ -56,10 +59,12 @@ pub(crate) fn build_index(alloc: Global, names: &[FieldName]) -> VortexResult<Na
     let mut entries = keyed_entries(alloc, names, bits)?;
     let discriminator = sort_entries(names, bits, &mut entries)?;
     let starts = bucket_starts(alloc, bits, &entries)?;
+    let longest = longest_bucket(&starts);
     Ok(NameIndex {
         bits,
         entries,
         starts,
+        longest,
         discriminator,
     })
 }
@@ -161,6 +166,17 @@ fn bucket_starts(alloc: Global, bits: u32, entries: &[u64]) -> VortexResult<Vec<
     }
     starts.resize(count + 1, count)?;
     Ok(starts)
+}
+
+// The greatest number of entries from one start to the next.
+fn longest_bucket(starts: &[usize]) -> usize
+    ensures { IsLongest starts.now result }
+{
+    let mut longest = 0;
+    for bucket in 1..starts.len() {
+        longest = longest.max(starts[bucket].saturating_sub(starts[bucket - 1]));
+    }
+    longest
 }
 
 // Whether no name repeats: equal names would be neighbours in the order.

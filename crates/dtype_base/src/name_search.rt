@@ -2,24 +2,24 @@
 // SPDX-FileCopyrightText: Copyright the Vortex contributors
 
 // The search for a name in an index. Only here is a name compared with the one that is looked for.
-ghost use Rattle.std.specs.Prelude.{◌≡◌, ◌↔◌, ◌+◌, ◌<◌, ◌≤◌, ◌^◌, IsTrue, [], length, slice_index, slice_index_or, true, false};
+ghost use Rattle.std.specs.Prelude.{◌≡◌, ◌↔◌, ◌+◌, ◌-◌, ◌<◌, ◌≤◌, ◌^◌, IsTrue, length, min, true, false};
 ghost use Rattle.std.specs.List.{slice_range};
 ghost use Rattle.std.specs.Ordering.{is_lt, nat_cmp};
 ghost use Rattle.dtype_base.specs.FieldNames.{first_place};
-ghost use Rattle.dtype_base.specs.Comparisons.{bucket_len, comparisons};
+ghost use Rattle.dtype_base.specs.Comparisons.{comparisons, longest_bucket};
 ghost use Rattle.dtype_base.specs.NameHashes.{key_of};
-ghost use Rattle.dtype_base.specs.private.NameOrder.{IsBucketFor, IsIndexOf, entry_name_cmp, key_in, mask, position_in};
+ghost use Rattle.dtype_base.specs.private.NameOrder.{IsBucketFor, IsEntryOf, IsIndexOf, entry_name_cmp, mask, position_in};
 
 use crate::FieldName;
 use crate::name_key::{TWO_POW_64, bucket_of_key, key_of, without_bits};
 use crate::name_order::{Discriminator, NameIndex, position_in};
 
-// The first position of the name, or `None`, and how many names were compared: only those of its bucket. Compiled once for
-// each discriminator, so that no step of a search tests which it is.
+// The first position of the name, or `None`, and how many names were compared. Compiled once for each discriminator, so
+// that no step of a search tests which it is.
 pub(crate) fn search(names: &[FieldName], index: &NameIndex, name: &str) -> (Option<usize>, u64)
     requires index { IsIndexOf names.now index.now }
     ensures place { result.0 ≡ first_place names.now name.now }
-    ensures count { result.1 ≡ comparisons (bucket_len names.now name.now) }
+    ensures count { result.1 ≡ comparisons (longest_bucket names.now) }
 {
     if index.entries.is_empty() {
         return (None, 0);
@@ -33,29 +33,30 @@ pub(crate) fn search(names: &[FieldName], index: &NameIndex, name: &str) -> (Opt
     }
 }
 
-// The entries of the bucket of a name with this key.
+// As many entries as the longest bucket has, among them those of the bucket of a name with this key.
 #[inline(always)]
 fn bucket_entries<'a>(names: &[FieldName], index: &'a NameIndex, name: &str, key: u64) -> &'a [u64]
     requires some { 0 < length index.now.entries.items }
     requires index { IsIndexOf names.now index.now }
     requires key { key ≡ key_of index.now.bits name.now }
     ensures bucket { IsBucketFor names.now index.now.bits index.now.discriminator name.now result.now }
-    ensures count { length result.now ≡ bucket_len names.now name.now }
+    ensures count { length result.now ≡ longest_bucket names.now }
+    ensures some { 0 < length result.now }
 {
     let count = index.entries.len();
     let bucket = bucket_of_key(count, key);
-    between(&index.entries, &index.starts, bucket)
+    window(&index.entries, index.starts[bucket], index.longest)
 }
 
-// The entries from the start of a bucket to the next.
+// So many entries: from this start, or from before it, so that they end within the entries.
 #[inline(always)]
-fn between<'a>(entries: &'a [u64], starts: &[usize], bucket: usize) -> &'a [u64]
-    requires within { bucket + 1 < length starts.now }
-    requires rising { slice_index starts.now bucket ≤ slice_index starts.now (bucket + 1) }
-    requires end { slice_index starts.now (bucket + 1) ≤ length entries.now }
-    ensures { result.now ≡ slice_range entries.now (slice_index starts.now bucket) (slice_index starts.now (bucket + 1)) }
+fn window(entries: &[u64], start: usize, len: usize) -> &[u64]
+    requires { len ≤ length entries.now }
+    ensures { result.now ≡ slice_range entries.now (min start (length entries.now - len)) (min start (length entries.now - len) + len) }
 {
-    &entries[starts[bucket]..starts[bucket + 1]]
+    let latest = entries.len() - len;
+    let first = start.min(latest);
+    &entries[first..first + len]
 }
 
 // Binary search, branch-free where keys distinguish the entries. It ends at the first entry that isn't below the name, if
@@ -71,14 +72,12 @@ fn search_with(
     key: u64,
 ) -> (Option<usize>, u64)
     requires bits { bits < 64 }
+    requires some { 0 < length entries.now }
     requires bucket { IsBucketFor names.now bits by name.now entries.now }
     requires key { key ≡ key_of bits name.now }
     ensures place { result.0 ≡ first_place names.now name.now }
     ensures count { result.1 ≡ comparisons (length entries.now) }
 {
-    if entries.is_empty() {
-        return (None, 0);
-    }
     let mut low = 0;
     let mut compared = 0;
     let size = 1 << entries.len().ilog2();
@@ -128,7 +127,7 @@ fn compare(
     requires room { compared.old + 1 < 2 ^ 64 }
     ensures counted { compared.new ≡ compared.old + 1 }
     ensures below { is_last ≡ false → result.below ≡ mask (is_lt (entry_name_cmp bits names.now name.now key by entry)) }
-    ensures same { is_last ≡ true → (IsTrue result.same ↔ ((key_in bits entry ≡ key) × (slice_index_or names.now (position_in bits entry) [] ≡ name.now))) }
+    ensures same { is_last ≡ true → (IsTrue result.same ↔ IsEntryOf bits names.now name.now key entry) }
 {
     *compared += 1;
     let position = position_in(entry, bits);

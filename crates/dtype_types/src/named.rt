@@ -6,7 +6,7 @@ ghost use Rattle.std.specs.List.{zip};
 ghost use Rattle.std.specs.Map.{keys_of, values_of};
 ghost use Rattle.dtype_base.specs.Errors.{Makes};
 ghost use Rattle.dtype_base.specs.FieldNames.{SelectionError, first_place};
-ghost use Rattle.dtype_base.specs.Comparisons.{bucket_len, comparisons};
+ghost use Rattle.dtype_base.specs.Comparisons.{comparisons, longest_bucket};
 ghost use Rattle.dtype_base.specs.declared.vortex_error.VortexError.TheVariants.{OutOfMemory};
 ghost use Rattle.dtype_base.specs.Distinct.{Distinct};
 
@@ -69,7 +69,7 @@ impl<T> Named<T> {
 
     // The position of the first name that is equal to this one, and the number of names that were compared.
     pub(crate) fn find_counted(&self, name: &str) -> (Option<usize>, u64)
-        ensures { result ≡ (first_place (keys_of self.now) name.now, comparisons (bucket_len (keys_of self.now) name.now)) }
+        ensures { result ≡ (first_place (keys_of self.now) name.now, comparisons (longest_bucket (keys_of self.now))) }
     {
         self.names.find_counted(name)
     }

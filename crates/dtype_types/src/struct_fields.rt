@@ -8,7 +8,7 @@ ghost use Rattle.std.specs.Option.{option_copied};
 ghost use Rattle.dtype_base.specs.Errors.{Makes};
 ghost use Rattle.dtype_base.specs.BinaryDigits.{binary_digits};
 ghost use Rattle.dtype_base.specs.FieldNames.{SelectionError, first_place};
-ghost use Rattle.dtype_base.specs.Comparisons.{bucket_len, comparisons};
+ghost use Rattle.dtype_base.specs.Comparisons.{comparisons, longest_bucket};
 ghost use Rattle.dtype_base.specs.declared.vortex_error.VortexError.TheVariants.{DuplicateNames, IndexOutOfBounds, OutOfMemory};
 ghost use Rattle.dtype_types.specs.tree.TreeOf.{tree};
 
@@ -168,13 +168,13 @@ impl StructFields {
         self.find_counted(name).0
     }
 
-    /// What `find` returns, and how many names were compared for it. These are names in the bucket of the name alone:
-    /// one more than the binary digits of their number less one, and 0 where there is none. So it is at most one more
-    /// than the binary digits of the number of fields. Doesn't allocate.
+    /// What `find` returns, and how many names were compared for it. That number is the same for every name, found
+    /// or not: one more than the binary digits of the number of names in the longest bucket less one, and 0 where there
+    /// is no field. So it is at most one more than the binary digits of the number of fields. Doesn't allocate.
     #[tactic(auto, using(crate::proofs::Parts::fields))]
     pub fn find_counted(&self, name: &str) -> (Option<usize>, u64)
         ensures first { result.0 ≡ first_place (field_names (children self.now)) name.now }
-        ensures count { result.1 ≡ comparisons (bucket_len (field_names (children self.now)) name.now) }
+        ensures count { result.1 ≡ comparisons (longest_bucket (field_names (children self.now))) }
         ensures at_most { result.1 ≤ binary_digits (length (children self.now)) + 1 }
         ensures at_least { IsSome result.0 → 1 ≤ result.1 }
     {

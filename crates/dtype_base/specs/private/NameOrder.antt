@@ -90,6 +90,11 @@ pub record AreStarts (count bits : ℕ) (entries starts : List ℕ) : Type 0 whe
   pub within : (b : ℕ) → b ≤ count → slice_index starts b ≤ length entries
   pub first : (b q : ℕ) → b ≤ count → q < length entries → (q < slice_index starts b) ↔ (bucket_of_key count (key_in bits (slice_index entries q)) < b)
 
+-- the greatest number of entries from one start to the next
+pub record IsLongest (starts : List ℕ) (longest : ℕ) : Type 0 where
+  pub most : (b : ℕ) → b + 1 < length starts → slice_index starts (b + 1) ≤ slice_index starts b + longest
+  pub reached : 0 < longest → (b : ℕ) × (b + 1 < length starts) × (slice_index starts (b + 1) ≡ slice_index starts b + longest)
+
 -- the index of these names
 pub record IsIndexOf (names : List (List ℕ)) (index : NameIndex) : Type 0 where
   pub bits : index.bits ≡ binary_digits (length names)
@@ -97,8 +102,9 @@ pub record IsIndexOf (names : List (List ℕ)) (index : NameIndex) : Type 0 wher
   pub len : length index.entries.items ≡ length names
   pub entries : IsIndexBy names index.bits index.discriminator index.entries.items
   pub starts : AreStarts (length names) index.bits index.entries.items index.starts.items
+  pub longest : IsLongest index.starts.items index.longest
 
--- The entries among which a name n is searched: sorted, no position twice, and all positions of the name among them.
+-- Entries among which a name n is searched: sorted, no position twice, and all positions of the name among them.
 pub record IsBucketFor (names : List (List ℕ)) (bits : ℕ) (discriminator : Discriminator) (n entries : List ℕ) : Type 0 where
   pub keyed : All (IsKeyed names bits) entries
   pub rising : IsSorted (keyed_position_cmp bits names) (positions bits entries)
@@ -110,6 +116,10 @@ pub record IsBucketFor (names : List (List ℕ)) (bits : ℕ) (discriminator : D
 abbrev pub entry_name_cmp : ℕ → List (List ℕ) → List ℕ → ℕ → Discriminator → ℕ → Ordering
 entry_name_cmp bits names n key Key e = nat_cmp (key_in bits e) key
 entry_name_cmp bits names n key Text e = ordering_then (nat_cmp (key_in bits e) key) (bytes_cmp (slice_get names (position_in bits e)) (Some n))
+
+-- an entry with this key, of the position of a name n
+abbrev pub IsEntryOf : ℕ → List (List ℕ) → List ℕ → ℕ → ℕ → Type 0
+IsEntryOf bits names n key e = (key_in bits e ≡ key) × (slice_index_or names (position_in bits e) [] ≡ n)
 
 -- 64 ones for true, 0 for false
 abbrev pub mask : Bool → ℕ

@@ -258,7 +258,7 @@ fn add_structs(c: &mut Console) {
         struct_from_iter(names: FieldNames, types: Vec<DType>) StructFields::new(names, types);
         struct_empty() StructFields::empty();
         find_counted(name: FieldName, fields: StructFields) {
-            format!("{} {}", fields.find(&name).told()?, comparisons(&fields, &name))
+            format!("{} {}", fields.find(&name).told()?, comparisons(&fields))
         };
         fields(fields: StructFields) several(fields.fields());
         field_dtypes(fields: StructFields) several(fields.field_dtypes());

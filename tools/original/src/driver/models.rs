@@ -109,12 +109,12 @@ pub fn visits(cover: &[FieldPath]) -> usize {
     beginnings.collect::<HashSet<_>>().len() + 1
 }
 
-/// The original counts nothing. Here a search by halves compares names of one bucket (`bucket_len` of
-/// `dtype_base/specs/Comparisons.antt`): one, and one for each binary digit of their number less one.
-pub fn comparisons(fields: &StructFields, name: &FieldName) -> u32 {
-    let bucket = |it: &FieldName| bucket_of(fields.nfields(), it);
-    let shared = fields.names().iter().filter(|it| bucket(it) == bucket(name)).count();
-    shared.checked_sub(1).map_or(0, |most| usize::BITS - most.leading_zeros() + 1)
+/// The original counts nothing. Here a search by halves compares as many names as are in the longest bucket
+/// (`dtype_base/specs/Comparisons.antt`): one, and one for each binary digit of their number less one.
+pub fn comparisons(fields: &StructFields) -> u32 {
+    let buckets = || fields.names().iter().map(|it| bucket_of(fields.nfields(), it));
+    let longest = buckets().map(|it| buckets().filter(|other| *other == it).count()).max();
+    longest.map_or(0, |it| usize::BITS - (it - 1).leading_zeros() + 1)
 }
 
 /// The bucket of a name, as `dtype_base/specs/NameHashes.antt` defines it.

@@ -4,7 +4,7 @@
 use Rattle.std.specs.List.Sorted.{IsNonDecreasingBy}
 use Rattle.std.proofs.Common.{ℕ, ◌≡◌, ◌<◌, ◌^◌, length, ap, subst, sym, ◌∙◌, arith}
 use Rattle.dtype_base.specs.BinaryDigits.{binary_digits}
-use Rattle.dtype_base.specs.private.NameOrder.{AreStarts, key_in, positions}
+use Rattle.dtype_base.specs.private.NameOrder.{AreStarts, IsLongest, key_in, positions}
 use Rattle.dtype_base.proofs.lemmas.BinaryDigits.{digits_fewest, digits_reach}
 use Rattle.dtype_base.proofs.IndexEntries.{index_of, keys_rise}
 use Rattle.dtype_base.proofs.NameSearch.{all_positions, as_many_positions}
@@ -44,4 +44,5 @@ returns c =
       len = len;
       entries = index;
       starts = subst (λ n. AreStarts n bits entries c.in_ok-starts.starts.items) len (subst (λ es. AreStarts (length es) bits es c.in_ok-starts.starts.items) c.deref.ensures.value c.in_ok-starts.ensures);
+      longest = subst (λ xs. IsLongest xs c.longest_bucket-longest.result) c.deref-2.ensures.value c.longest_bucket-longest.ensures;
     }

@@ -3,13 +3,13 @@
 
 use Rattle.std.proofs.Common.{◌≡◌, vec_len, ap, sym, ◌∙◌, arith}
 use Rattle.std.proofs.lemmas.Bool.{eqb-true}
-use Rattle.dtype_base.specs.Comparisons.{bucket_len, comparisons}
-use Rattle.dtype_base.proofs.lemmas.Lookups.{bucket_within}
+use Rattle.dtype_base.specs.Comparisons.{comparisons, longest_bucket}
+use Rattle.dtype_base.proofs.lemmas.Lookups.{longest_within}
 use Rattle.dtype_base.proofs.name_search.search.Goals as goal
 
 pub returns-then-is_empty-clause-count : goal.returns-then-is_empty-clause-count
 returns-then-is_empty-clause-count c =
     let names = c.args.names.now in
     let empty : vec_len c.args.index.now.entries ≡ 0 = eqb-true _ 0 (sym c.is_empty.ensures ∙ c.if-is_empty.true) in
-    let none : 0 ≡ bucket_len names c.args.name.now = omega (arith, c.requires.index.len, empty, c.args.index.now.entries.ok, bucket_within names c.args.name.now) in
+    let none : 0 ≡ longest_bucket names = omega (arith, c.requires.index.len, empty, c.args.index.now.entries.ok, longest_within names) in
     ap comparisons none

@@ -3,9 +3,7 @@
 
 use Rattle.std.proofs.Common.{◌≡◌, ℕ, List, ◌+◌, ◌-◌, ◌*◌, ◌/◌, ◌%◌, ◌<◌, ◌^◌, length, refl, sym, ap, ◌∙◌, arith, mod-eq_of_lt, is_lt}
 use Rattle.std.specs.Bool.{then_some}
-use Rattle.std.proofs.lemmas.Bool.{eqb-true}
 use Rattle.dtype_base.proofs.lemmas.BinaryDigits.{digits_fewest}
-use Rattle.dtype_base.proofs.lemmas.Lookups.{no_place}
 use Rattle.dtype_base.specs.BinaryDigits.{binary_digits}
 use Rattle.dtype_base.specs.Comparisons.{comparisons}
 use Rattle.dtype_base.specs.private.NameOrder.{name_cmp, positions}
@@ -13,13 +11,6 @@ use Rattle.dtype_base.proofs.NameSearch.{as_many_positions, position_at, starts,
 use Rattle.dtype_base.proofs.IndexEntries.{decided, holds, same_decided}
 use Rattle.dtype_base.proofs.name_search.search_with.Goals.{then-size-entries, else-size-entries}
 use Rattle.dtype_base.proofs.name_search.search_with.Goals as goal
-
-pub returns-then-is_empty-clause-place : goal.returns-then-is_empty-clause-place
-returns-then-is_empty-clause-place c =
-    let names = c.args.names.now in
-    let entries = c.args.entries.now in
-    let empty : length entries ≡ 0 = eqb-true (length entries) 0 (sym c.is_empty.ensures ∙ c.if-is_empty.true) in
-    sym (no_place names c.args.name.now (λ k e. let at = c.requires.bucket.holds k e in omega (arith, at.1, empty)))
 
 pub loop-half-init : goal.loop-half-init
 loop-half-init c =

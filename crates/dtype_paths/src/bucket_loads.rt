@@ -30,6 +30,8 @@ const MAX_FULL_ROW: usize = 64;
 /// they are wrong, a lookup takes longer.
 #[derive(Drop)]
 pub(crate) struct BucketLoads {
+    // The hash of each child that is counted. To hash all steps again would read their names, which are far apart.
+    hashes: Vec<u64>,
     loads: Vec<u8>,
     longest_row: usize,
 }
@@ -40,6 +42,7 @@ impl BucketLoads {
         ensures { result.longest_row ≡ 0 }
     {
         BucketLoads {
+            hashes: Vec::new(alloc),
             loads: Vec::new(alloc),
             longest_row: 0,
         }
@@ -61,21 +64,28 @@ impl BucketLoads {
     ) -> VortexResult<()>
         ensures { IsOkUnless result OutOfMemory }
     {
-        if map.len() / FULL_LOAD >= self.loads.len() {
-            self.count_anew(alloc, map)?;
+        if self.hashes.is_empty() {
+            self.hashes = hashes_of(alloc, map)?;
         }
-        self.put(map.hasher().hash_one(step));
+        if map.len() / FULL_LOAD >= self.loads.len() {
+            self.count_anew(alloc)?;
+        }
+        let hash = map.hasher().hash_one(step);
+        self.hashes.push(hash)?;
+        self.put(hash);
         Ok(())
     }
 
-    // Counts the steps of the map in twice as many buckets.
-    fn count_anew(&mut self, alloc: Global, map: &HashMap<Field, usize>) -> VortexResult<()>
+    // Counts the children in twice as many buckets.
+    fn count_anew(&mut self, alloc: Global) -> VortexResult<()>
         ensures { IsOkUnless result OutOfMemory }
     {
         let buckets = self.loads.len().saturating_mul(2).max(FIRST_BUCKETS);
         self.loads = vec![in alloc; 0_u8; buckets]?;
-        for step in map.keys() {
-            self.put(map.hasher().hash_one(step));
+        for i in 0..self.hashes.len() {
+            if let Some(hash) = self.hashes.get(i).copied() {
+                self.put(hash);
+            }
         }
         Ok(())
     }
@@ -104,10 +114,22 @@ impl BucketLoads {
         ensures { Makes result (λ c. c.longest_row ≡ self.now.longest_row) }
     {
         Ok(BucketLoads {
+            hashes: Vec::from_slice(alloc, &self.hashes)?,
             loads: Vec::from_slice(alloc, &self.loads)?,
             longest_row: self.longest_row,
         })
     }
+}
+
+// The hashes of the steps of a map, with room for one more.
+fn hashes_of(alloc: Global, map: &HashMap<Field, usize>) -> VortexResult<Vec<u64>>
+    ensures { IsOkUnless result OutOfMemory }
+{
+    let mut hashes = Vec::with_capacity(alloc, map.len().saturating_add(1))?;
+    for step in map.keys() {
+        hashes.push(map.hasher().hash_one(step))?;
+    }
+    Ok(hashes)
 }
 
 // How many full buckets in a row this bucket is among. On either side `MAX_FULL_ROW` of them are counted at most.

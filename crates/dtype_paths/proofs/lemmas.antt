@@ -12,6 +12,7 @@ pub mod Stepping
 pub mod PathLists
 pub mod SetMembers
 pub mod SetCovers
+pub mod CoverPaths
 pub mod Counts
 pub mod Covering
 pub mod PathsBelow

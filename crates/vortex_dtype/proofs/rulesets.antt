@@ -22,7 +22,7 @@ pub use Rattle.dtype_types.proofs.lemmas.Tags.{tags}
 pub use Rattle.dtype_types.proofs.lemmas.Validity.{validity}
 -- of dtype_paths and dtype_projection: path sets and how many paths they have, sets, paths and masks that are stepped
 -- along (one step of a type too), the paths that a type lacks, and types that are projected
-pub use Rattle.dtype_paths.proofs.lemmas.Covering.{counting, covered_paths, covering, covers_members, has_members, inserted_paths, least_paths, made_coverage, members, set_unions, united_coverage}
+pub use Rattle.dtype_paths.proofs.lemmas.Covering.{count_bounds, counting, covered_paths, covering, covers_members, has_members, inserted_paths, least_paths, made_coverage, members, opened_paths, set_unions, united_coverage}
 pub use Rattle.dtype_paths.proofs.lemmas.LentPaths.{lent_paths}
 pub use Rattle.dtype_paths.proofs.lemmas.MaskLists.{mask_lists}
 pub use Rattle.dtype_paths.proofs.lemmas.PathsBelow.{set_cursors, stepping_into}

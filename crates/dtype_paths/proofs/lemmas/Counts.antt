@@ -3,10 +3,10 @@
 
 -- The empty set, and how many paths are as is said.
 use Rattle.std.specs.FinSet as set
-use Rattle.std.proofs.Common.{◌≡◌, ◌≤◌, ◌+◌, ◌∷◌, ℕ, List, [], Bor, ◌≢◌, false, length, map, cond, refl, sym, ap, ◌∙◌, arith}
+use Rattle.std.proofs.Common.{◌≡◌, ◌≤◌, ◌+◌, ◌∷◌, ℕ, List, [], Bor, ◌≢◌, true, false, length, map, cond, refl, sym, ap, ◌∙◌, arith, subst, ⊎_elim, IsTrue}
 use Rattle.dtype_base.specs.Distinct.{Distinct}
 use Rattle.std.proofs.lemmas.Bool.{false≢true, false_from_ne_true}
-use Rattle.std.proofs.lemmas.List.{length-map}
+use Rattle.std.proofs.lemmas.List.{length-map, nil_from_length}
 use Rattle.std.proofs.lemmas.Bool.Decides.{same_from_decides}
 use Rattle.std.proofs.lemmas.Map.Made.{is_member-Decides, IsDistinct-from_AllPairs, length-le_from_is_member}
 use Rattle.dtype_paths.specs.Covering.{IsCountOf, least}
@@ -14,10 +14,11 @@ use Rattle.dtype_paths.specs.EqualityLaws.{same_path-Decides, same_path_equiv}
 use Rattle.dtype_paths.specs.PathOrder.{PathSet, path_cmp, set_of}
 use Rattle.dtype_paths.specs.PathOrderLaws.{path_cmp_total}
 use Rattle.dtype_paths.specs.declared.field.Field.{Field}
+use Rattle.dtype_paths.proofs.lemmas.Cases.{by_bool}
 use Rattle.dtype_paths.proofs.lemmas.DistinctLists.{distinct-cons, distinct-head, distinct-nil, distinct-tail}
 use Rattle.dtype_paths.proofs.lemmas.ListMembers.{contains-head, contains-nil}
-use Rattle.dtype_paths.proofs.lemmas.SetCovers.{least_one, least_word}
-use Rattle.dtype_paths.proofs.lemmas.SetMembers.{contains_empty, insert_has, of_has, of_only, one_only, same_by}
+use Rattle.dtype_paths.proofs.lemmas.SetCovers.{least_empty, least_one, least_root, least_word}
+use Rattle.dtype_paths.proofs.lemmas.SetMembers.{contains_empty, insert_has, insert_known, of_has, of_items, of_only, one_only, same_by, union_has, union_insert, union_none, union_only}
 
 -- the least paths of the empty set are none
 pub least_none : least set.empty ≡ set.empty
@@ -83,3 +84,68 @@ one_listed ps p is d = go ps is (listed_len ps (set.insert set.empty p) is d ∙
 -- and so has a list of its least paths
 pub one_least_listed : (ps : List (List Field)) (p : List Field) → set_of ps ≡ least (set.insert set.empty p) → Distinct ps → length ps ≡ 1
 one_least_listed ps p is d = ap length (one_listed ps p (is ∙ least_one p) d)
+
+-- ---- at most as many
+
+-- with one path more
+pub insert_len : (s : PathSet) (p : List Field) → (set.len (set.insert s p) ≤ set.len s + 1) × (set.len s ≤ set.len (set.insert s p))
+insert_len s p =
+    let e = set.len-insert path_cmp_total s p in
+    by_bool (set.contains s p)
+    (λ h. let n : set.len (set.insert s p) ≡ set.len s = e ∙ ap (λ b. cond b (set.len s) (set.len s + 1)) h in (omega (arith, n), omega (arith, n)))
+    (λ h. let n : set.len (set.insert s p) ≡ set.len s + 1 = e ∙ ap (λ b. cond b (set.len s) (set.len s + 1)) h in (omega (arith, n), omega (arith, n)))
+
+-- the set of a list has no more paths than the list, and fewer where the list repeats one
+pub list_len : (ps : List (List Field)) → set.len (set.from_list {R = path_cmp} ps) ≤ length ps
+list_len [] = omega (arith, set.len-empty path_cmp)
+list_len (p ∷ ps) = omega (arith, list_len ps, (insert_len (set_of ps) p).0)
+
+pub once_listed : (ps : List (List Field)) → length ps ≤ set.len (set.from_list {R = path_cmp} ps) → Distinct ps
+once_listed [] e = distinct-nil [] refl
+once_listed (p ∷ ps) e =
+    distinct-cons p ps
+    (λ c. absurd (omega (arith, e, ap set.len (insert_known (set_of ps) p (of_has ps p c)), list_len ps)))
+    (once_listed ps (omega (arith, e, (insert_len (set_of ps) p).0)))
+
+-- of both a union has at most all
+joined_len : (s : PathSet) (ps : List (List Field)) → (set.len s ≤ set.len (set.union s (set_of ps))) × (set.len (set.union s (set_of ps)) ≤ set.len s + set.len (set_of ps))
+joined_len s [] = let e = ap set.len (union_none s) in (omega (arith, e), omega (arith, e))
+joined_len s (p ∷ ps) =
+    let r = joined_len s ps in
+    let e = ap set.len (union_insert s (set_of ps) p) in
+    let more = insert_len (set.union s (set_of ps)) p in (
+      omega (arith, r.0, e, more.1),
+      by_bool (set.contains (set_of ps) p)
+          (λ h. let same = insert_known (set_of ps) p h in omega (arith, r.1, ap (λ t. set.len (set.union s t)) same, ap set.len same))
+          (λ h. let n : set.len (set_of (p ∷ ps)) ≡ set.len (set_of ps) + 1 = set.len-insert path_cmp_total (set_of ps) p ∙ ap (λ b. cond b (set.len (set_of ps)) (set.len (set_of ps) + 1)) h in omega (arith, r.1, e, more.0, n)),
+    )
+
+pub union_len : (s t : PathSet) → (set.len s ≤ set.len (set.union s t)) × (set.len (set.union s t) ≤ set.len s + set.len t)
+union_len s t = subst (λ x. (set.len s ≤ set.len (set.union s x)) × (set.len (set.union s x) ≤ set.len s + set.len x)) (sym (of_items t)) (joined_len s (set.items t))
+
+-- a part of a set has no more than the set
+pub part_len : (s t : PathSet) → ((p : List Field) → IsTrue (set.contains s p) → IsTrue (set.contains t p)) → set.len s ≤ set.len t
+part_len s t within =
+    let all : set.union s t ≡ t = same_by _ _ (λ q. same_from_decides _ _ (λ h. ⊎_elim (within q) (λ e. e) (union_only s t q h), λ h. union_has s t q h) (λ h. h, λ h. h)) in
+    omega (arith, (union_len s t).0, ap set.len all)
+
+-- so has a cover of it
+pub least_len : (s : PathSet) → set.len (least s) ≤ set.len s
+least_len s = part_len (least s) s (λ p h. ((least_word s p).0 h).0)
+
+pub cover_len : (ps : List (List Field)) (s : PathSet) → set_of ps ≡ least s → Distinct ps → length ps ≤ set.len s
+cover_len ps s is d = omega (arith, listed_len ps (least s) is d, least_len s)
+
+-- A cover is none exactly where the set is empty. The first part says nothing: it shows a search the call to match.
+pub cover_none : (ps : List (List Field)) → (set.from_list {R = path_cmp} ps ≡ set.from_list {R = path_cmp} ps) × ((s : PathSet) → set.from_list ps ≡ least s → (length ps ≡ 0 → s ≡ set.empty) × (s ≡ set.empty → length ps ≡ 0))
+cover_none ps = (
+  refl,
+  λ s is. (
+    λ none. least_empty s (sym is ∙ ap set_of (nil_from_length ps none)),
+    λ e. ap length (none_listed ps (is ∙ ap least e ∙ least_none)),
+  ),
+)
+
+-- where the root is asked for, a cover has one path
+pub root_alone_listed : (ps : List (List Field)) (s : PathSet) → set_of ps ≡ least s → Distinct ps → set.contains s [] ≡ true → length ps ≡ 1
+root_alone_listed ps s is d root = ap length (one_listed ps [] (is ∙ least_root s root) d)

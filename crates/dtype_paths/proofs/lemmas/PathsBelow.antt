@@ -107,8 +107,6 @@ pub names_none : (ns : List (List ℕ × PathPredicate)) → (length ns ≡ leng
 names_none [] = (refl, λ c a. (refl, λ none. refl))
 names_none (e ∷ ns) = (refl, λ c a. (refl, λ none. absurd (first_named (asks c) (e ∷ ns) ns e a refl (λ i q. none e.0 q i))))
 
-pub ruleset stepping_into = (asked_after, covered_on_the_way, nothing_asked, nowhere_asked, nowhere_asked_at, given_below, ends_above, none_above, first_named, none_named, unnamed, names_none)
-
 -- ---- the first steps into a set, in words of the set. `set_cursors` names all of it in one line.
 
 -- whether a path begins with a step
@@ -170,3 +168,10 @@ pub unasked_empty : (c : FieldPathCursor) (s : PathSet) → asks c ≡ set.conta
 unasked_empty c s is none = same_by s set.empty (λ q. unasked_in c s q is none ∙ sym (contains_empty q))
 
 pub ruleset set_cursors = (step_asked, asked_goes_on, column_covered, root_covers, given_step, nowhere_in, nowhere_further, nowhere_nested, nowhere_covered, none_asked, unasked_in, empty_unasked, unasked_empty)
+
+-- so no name goes on. The first part says nothing: it shows a search the call to match.
+pub none_read : (c : FieldPathCursor) (s : PathSet) → (asks c ≡ asks c) × (asks c ≡ set.contains s → s ≡ set.empty → (ns : List (List ℕ × PathPredicate)) → AreNames (asks c) ns → length ns ≡ 0)
+none_read c s = (refl, λ is e ns a. ((names_none ns).1 c a).1 (λ n q. ap (λ (v : PathPredicate). v (Name n ∷ q)) is ∙ ap (λ (x : PathSet). set.contains x (Name n ∷ q)) e ∙ contains_empty (Name n ∷ q)))
+
+-- what is asked for after some steps, and whether anything is
+pub ruleset stepping_into = (asked_after, covered_on_the_way, nothing_asked, nowhere_asked, nowhere_asked_at, given_below, ends_above, none_above, first_named, none_named, unnamed, names_none, empty_unasked, unasked_empty, none_read)

@@ -204,5 +204,5 @@ pub ruleset one_column = (fields_shown, column_along, name_no_size_zero, name_no
 -- paths that begin others, and what the tests of steps and paths say
 pub ruleset beginnings = (root_begins, tested_fields, tested_paths, one_part, short_path, one_begins, tested_beginning, beginning_tested)
 
--- what a mask selects after a step
-pub ruleset stepped_masks = (first_asked, other_unasked, none_unasked, root_begins, one_begins, tested_fields, root_alone, first_begins)
+-- what a mask selects, after a step too
+pub ruleset stepped_masks = (first_asked, other_unasked, none_unasked, root_begins, one_begins, tested_fields, tested_beginning, beginning_tested, root_alone, first_begins)

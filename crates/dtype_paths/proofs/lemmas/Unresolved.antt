@@ -2,7 +2,7 @@
 -- SPDX-FileCopyrightText: Copyright the Vortex contributors
 
 -- The paths of a set that don't exist in a type. `missing_paths` names all that callers need in one line.
-use Rattle.std.specs.Prelude.{◌≡◌, ◌≢◌, ◌↔◌, IsTrue, List, [], ◌∷◌, Bool, not, ◌&&◌, is_some, map, refl}
+use Rattle.std.specs.Prelude.{◌≡◌, ◌≢◌, ◌↔◌, ◌≤◌, IsTrue, List, [], ◌∷◌, Bool, not, ◌&&◌, is_some, map, refl}
 use Rattle.std.specs.Bool.{Decides}
 use Rattle.std.specs.Borrow.{Bor}
 use Rattle.std.specs.FinSet as set
@@ -25,6 +25,7 @@ use Rattle.dtype_paths.specs.PathOrderLaws.{any_tied, path_cmp_total, same_tied}
 use Rattle.dtype_paths.specs.Unresolved.{unresolved}
 use Rattle.dtype_paths.specs.declared.field.Field.{Field}
 use Rattle.dtype_paths.proofs.lemmas.Cases.{by_bool, by_option}
+use Rattle.dtype_paths.proofs.lemmas.Counts.{part_len}
 use Rattle.dtype_paths.proofs.lemmas.LentPaths.{all_mapped}
 use Rattle.dtype_paths.proofs.lemmas.SetMembers.{contains_empty, from_list-Decides, same_by}
 use Rattle.dtype_paths.proofs.lemmas.Walks.{along-At, At-along}
@@ -99,4 +100,16 @@ none_unresolved ps s t is = (
         let here = All-head (λ (y : Bor (List Field)). IsTrue (set.contains s y.now) × ¬ (ExistsIn t y.now)) x xs each in
         absurd (here.1 (all x.now here.0))
 
-pub ruleset missing_paths = (unresolved_word, each_unresolved, none_unresolved)
+-- at most as many are missing as the set has, and of no path none is
+pub missing_len : (s : PathSet) (t : Tree) → set.len (unresolved s t) ≤ set.len s
+missing_len s t = part_len (unresolved s t) s (λ p h. ((unresolved_word s t p).0 h).0)
+
+pub none_missing : (s : PathSet) (t : Tree) → (unresolved s t ≡ unresolved s t) × (s ≡ set.empty → unresolved s t ≡ set.empty)
+none_missing s t = (
+  refl,
+  λ e. same_by _ _ (λ p. by_bool (set.contains (unresolved s t) p)
+      (λ h. absurd (false≢true (sym (contains_empty p) ∙ ap (λ x. set.contains x p) (sym e) ∙ ((unresolved_word s t p).0 h).0)))
+      (λ h. h ∙ sym (contains_empty p))),
+)
+
+pub ruleset missing_paths = (unresolved_word, each_unresolved, none_unresolved, missing_len, none_missing)

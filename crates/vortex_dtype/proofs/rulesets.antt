@@ -16,9 +16,7 @@ pub use Rattle.dtype_types.proofs.lemmas.MadeOf.{made_of}
 pub use Rattle.dtype_types.proofs.lemmas.NullValues.{null_values}
 pub use Rattle.dtype_types.proofs.lemmas.Nullabilities.{nullabilities}
 pub use Rattle.dtype_types.proofs.lemmas.Order.{order}
-pub use Rattle.dtype_types.proofs.lemmas.Presence.{presence}
 pub use Rattle.dtype_types.proofs.lemmas.Structs.{structs}
-pub use Rattle.dtype_types.proofs.lemmas.Tags.{tags}
 pub use Rattle.dtype_types.proofs.lemmas.Validity.{validity}
 -- of dtype_paths and dtype_projection: path sets and how many paths they have, sets, paths and masks that are stepped
 -- along (one step of a type too), the paths that a type lacks, and types that are projected
@@ -52,12 +50,15 @@ use Rattle.dtype_projection.proofs.lemmas.Above.{above}
 use Rattle.dtype_types.proofs.lemmas.Equality.{equality as type_equality}
 use Rattle.dtype_types.proofs.lemmas.Lookups.{lookups as field_lookups}
 use Rattle.dtype_types.proofs.lemmas.Merging.{intersecting as types_intersected, merging as types_merged}
-use Rattle.dtype_types.proofs.lemmas.ValidParts.{valid_parts, borrowed_list_element, borrowed_fixed_size_element, borrowed_any_size_element, owned_list_element, owned_fixed_size_element, owned_any_size_element, borrowed_map, owned_map, borrowed_struct, owned_struct, borrowed_union, owned_union, extension_is_valid, borrowed_extension}
+use Rattle.dtype_types.proofs.lemmas.Presence.{presence as names_present, placed_is_among}
+use Rattle.dtype_types.proofs.lemmas.Tags.{tags as union_tags}
+use Rattle.dtype_types.proofs.lemmas.ValidParts.{struct_fields_valid, valid_parts, borrowed_list_element, borrowed_fixed_size_element, borrowed_any_size_element, owned_list_element, owned_fixed_size_element, owned_any_size_element, borrowed_map, owned_map, borrowed_struct, owned_struct, borrowed_union, owned_union, extension_is_valid, borrowed_extension}
 use Rattle.dtype_types.proofs.lemmas.Validity.{types_in_valid_parts, list_of_valid, fixed_size_list_of_valid, map_of_valid, struct_valid, union_valid, map_valid, extension_valid, field_valid, named_field_valid, variant_valid, named_variant_valid, struct_of_valid, removal_valid, set_valid, made_map_valid}
 use Rattle.vortex_dtype.proofs.lemmas.Compared.{compared_up_to, compared_within}
 use Rattle.vortex_dtype.proofs.lemmas.Differences.{differences}
 use Rattle.vortex_dtype.proofs.lemmas.FieldLists.{valid_fields}
 use Rattle.vortex_dtype.proofs.lemmas.InOrder.{read_reads, reads_once, reads_read}
+use Rattle.vortex_dtype.proofs.lemmas.NamesAmong.{among_before, among_behind, distinct_removed, few_variants, removed_not_among, some_variants, tag_at_is_among, unnamed_not_among, unplaced_not_among}
 use Rattle.vortex_dtype.proofs.lemmas.PathMessages.{missing_part, no_path, path_root, path_steps, same_path_names, steps_by_names}
 use Rattle.vortex_dtype.proofs.lemmas.Reading.{reading}
 use Rattle.vortex_dtype.proofs.lemmas.Reads.{copy_accepted, fault_none, fault_refused, normal_again, other_nullability, read_alike, reads_accepted, refused_faulty, same_normal, unread_refused, written_accepted, written_normal, written_read}
@@ -70,6 +71,16 @@ use Rattle.vortex_dtype.proofs.lemmas.Written.{written_is}
 pub ruleset merging = (types_merged, above)
 
 pub ruleset intersecting = (types_intersected, above)
+
+-- whether a name is there, also that it isn't
+pub ruleset presence = (names_present, unplaced_not_among, unnamed_not_among)
+
+-- names that don't repeat, where fields are joined or one is removed: where a name that is among them leads, that it is
+-- gone, and that the others still don't repeat
+pub ruleset distinct_names = (among_before, among_behind, distinct_removed, removed_not_among, unplaced_not_among)
+
+-- tags: which are among those of a union, where a name has one; and how many variants a valid union has
+pub ruleset tags = (union_tags, tag_at_is_among, placed_is_among, unplaced_not_among, some_variants, few_variants)
 
 -- Lookups of names, fields and variants, by name and by position, and how many names they compare. Its 19 lemmas are two
 -- questions, which a file that looks a column up and counts what that costs asks of the same call: each lemma begins with
@@ -101,7 +112,7 @@ pub ruleset valid_held = (valid_parts, borrowed_list_element, borrowed_fixed_siz
 
 pub ruleset valid_moved = (owned_list_element, owned_fixed_size_element, owned_any_size_element, owned_map, owned_struct, owned_union)
 
-pub ruleset valid_columns = (types_in_valid_parts, field_valid, named_field_valid, variant_valid, named_variant_valid)
+pub ruleset valid_columns = (types_in_valid_parts, struct_fields_valid, borrowed_struct, field_valid, named_field_valid, variant_valid, named_variant_valid)
 
 pub ruleset valid_made = (list_of_valid, fixed_size_list_of_valid, map_of_valid, struct_valid, union_valid, map_valid, extension_valid, struct_of_valid, removal_valid, set_valid, made_map_valid, valid_fields)
 

@@ -4,7 +4,7 @@
 // Lookups of fields, by name and by position.
 #![tactic(auto, using(vortex_dtype::proofs::rulesets::joined_fields, vortex_dtype::proofs::rulesets::lookups))]
 
-ghost use Rattle.std.specs.Prelude.{◌≡◌, ◌≢◌, ◌+◌, ◌<◌, ℕ, List, None, Some, IfNone, IfOk, IfSome, IsSome, IsTrue, length, map, true, vec_len};
+ghost use Rattle.std.specs.Prelude.{◌≡◌, ◌≢◌, ◌+◌, ◌<◌, ℕ, List, None, Some, Contains, IfNone, IfOk, IfSome, IsSome, IsTrue, length, map, true, vec_len};
 ghost use Rattle.std.specs.Option.{option_map};
 ghost use Rattle.dtype_types.specs.parts.Lookups.{field_names, field_types, first_named};
 ghost use Rattle.dtype_types.specs.nullability.Nullable.{nullability};
@@ -130,6 +130,40 @@ pub fn joined(
 {
     let joined = left.disjoint_merge(alloc, right)?;
     Ok(joined)
+}
+
+/// Two tables side by side: since no name repeats, each side's columns keep their types.
+#[tactic(auto, using(vortex_dtype::proofs::rulesets::distinct_names))]
+pub fn side_by_side(
+    alloc: Global,
+    left: &StructFields,
+    right: &StructFields,
+) -> VortexResult<StructFields>
+    ensures left { IfOk result (λ s. (n : List ℕ) → Contains (field_names (children left.now)) n
+        → first_named (children s) n ≡ first_named (children left.now) n) }
+    ensures right { IfOk result (λ s. (n : List ℕ) → Contains (field_names (children right.now)) n
+        → first_named (children s) n ≡ first_named (children right.now) n) }
+{
+    left.disjoint_merge(alloc, right)
+}
+
+/// A table whose names don't repeat, without a column: its name is gone, and the others still don't repeat. `None` where
+/// no column has the name.
+#[tactic(auto, using(vortex_dtype::proofs::rulesets::distinct_names))]
+pub fn dropped(
+    alloc: Global,
+    table: &StructFields,
+    name: &str,
+) -> VortexResult<Option<StructFields>>
+    requires { Distinct (field_names (children table.now)) }
+    ensures gone { IfOk result (λ r. IfSome r (λ s. ¬ Contains (field_names (children s)) name.now)) }
+    ensures distinct { IfOk result (λ r. IfSome r (λ s. Distinct (field_names (children s)))) }
+    ensures absent { IfOk result (λ r. IfNone r (¬ Contains (field_names (children table.now)) name.now)) }
+{
+    match table.find(name) {
+        Some(index) => Ok(Some(table.without_field(alloc, index)?)),
+        None => Ok(None),
+    }
 }
 
 /// The table without a column: no column has its name, if none had it twice, and the others keep their types.

@@ -4,19 +4,32 @@
 //! Whether a table has a column, asked in one way and said in another.
 #![tactic(auto, using(vortex_dtype::proofs::rulesets::presence))]
 
-ghost use Rattle.std.specs.Prelude.{◌≡◌, ◌↔◌, [], ℕ, List, Contains, IfOk, IsNone, IsSome, IsTrue};
+ghost use Rattle.std.specs.Prelude.{◌≡◌, ◌↔◌, [], ℕ, List, Contains, IfNone, IfOk, IsNone, IsSome, IsTrue};
 ghost use Rattle.dtype_types.specs.parts.Lookups.{field_names, first_named, variant_names};
-ghost use Rattle.dtype_types.specs.tree.TreeOf.{children, variant_list};
+ghost use Rattle.dtype_types.specs.tree.TreeOf.{children, shown, tree, variant_list};
 ghost use Rattle.vortex_dtype.specs.Distinct.{Distinct};
 
 use std::alloc::Global;
-use vortex_dtype::{FieldName, StructFields, UnionVariants, VortexResult};
+use vortex_dtype::{DType, FieldName, StructFields, UnionVariants, VortexResult};
 
 /// Whether a name is among those of the columns.
 pub fn is_among(table: &StructFields, name: &str) -> bool
     ensures { IsTrue result ↔ Contains (field_names (children table.now)) name.now }
 {
     table.find(name).is_some()
+}
+
+/// The type of a column by its new name, else by its old one: `None` where no column has either name.
+pub fn renamed<'a>(table: &'a StructFields, new: &str, old: &str) -> Option<&'a DType>
+    ensures new { Contains (field_names (children table.now)) new.now
+        → shown tree result ≡ first_named (children table.now) new.now }
+    ensures none { IfNone result ((¬ Contains (field_names (children table.now)) new.now)
+        × ¬ Contains (field_names (children table.now)) old.now) }
+{
+    match table.field(new) {
+        Some(dtype) => Some(dtype),
+        None => table.field(old),
+    }
 }
 
 /// Whether a copy of a table has a column of the name: where the table has one.

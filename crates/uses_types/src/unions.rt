@@ -4,10 +4,11 @@
 //! Unions made of names, types and tags.
 #![tactic(auto, using(vortex_dtype::proofs::rulesets::made_of, vortex_dtype::proofs::rulesets::tags, vortex_dtype::proofs::rulesets::lookups))]
 
-ghost use Rattle.std.specs.Prelude.{◌≡◌, ◌↔◌, ◌<◌, Contains, IfOk, IfSome, IsSome, IsTrue, length, map, slice_get};
+ghost use Rattle.std.specs.Prelude.{◌≡◌, ◌↔◌, ◌+◌, ◌<◌, Contains, IfOk, IfSome, IsSome, IsTrue, length, map, slice_get};
 ghost use Rattle.dtype_types.specs.parts.Lookups.{variant_named, variant_names, variant_types, variant_tags};
-ghost use Rattle.dtype_types.specs.tree.TreeOf.{variant_list, tree, shown};
+ghost use Rattle.dtype_types.specs.tree.TreeOf.{union_tree, variant_list, tree, shown};
 ghost use Rattle.dtype_types.specs.parts.Unions.{AreConsecutive};
+ghost use Rattle.vortex_dtype.specs.Valid.{Valid};
 
 use std::alloc::Global;
 use vortex_dtype::{DType, FieldNames, UnionVariants, VortexResult};
@@ -72,4 +73,26 @@ pub fn accepts_tag(variants: &UnionVariants, tag: u8) -> bool
         → (IsTrue result ↔ (tag < length (variant_list variants.now))) }
 {
     variants.tag_to_child_index(tag).is_some()
+}
+
+/// The tag of the variant of a name.
+#[tactic(auto, using(vortex_dtype::proofs::rulesets::tags))]
+pub fn tag_of(variants: &UnionVariants, name: &str) -> Option<u8>
+    ensures there { IsSome result ↔ Contains (variant_names (variant_list variants.now)) name.now }
+    ensures tag { IfSome result (λ t. Contains (variant_tags (variant_list variants.now)) t) }
+{
+    match variants.find(name) {
+        Some(index) => Some(variants.child_index_to_tag(index)),
+        None => None,
+    }
+}
+
+/// The last position of a valid union, which has at least one variant and fits a byte.
+#[tactic(auto, using(vortex_dtype::proofs::rulesets::tags))]
+pub fn last_position(variants: &UnionVariants) -> usize
+    requires { Valid (union_tree variants.now) }
+    ensures last { result + 1 ≡ length (variant_list variants.now) }
+    ensures byte { result < 256 }
+{
+    variants.len() - 1
 }

@@ -106,6 +106,13 @@ pub fn asks_for_nothing(asked: &FieldPathSet) -> bool
     asked.cursor().is_empty()
 }
 
+/// Whether a query is for nothing: where its set is empty.
+pub fn is_empty_query(asked: &FieldPathSet) -> bool
+    ensures { IsTrue result ↔ (asked.now ≡ set.empty) }
+{
+    asked.cursor().is_empty()
+}
+
 /// The one step by which paths go on from here, with the cursor after it, or `None` where none goes on, or more than one
 /// step does.
 pub fn only_step<'a>(

@@ -465,6 +465,22 @@ pub fn number_to_open_for_one(alloc: Global, path: FieldPath) -> VortexResult<us
     Ok(asked.into_iter()?.count())
 }
 
+/// The number of columns to open: at most that of the paths that are asked for.
+#[tactic(auto, using(vortex_dtype::proofs::rulesets::counting))]
+pub fn number_to_open(asked: FieldPathSet) -> VortexResult<usize>
+    ensures { IfOk result (λ n. n ≤ set.len asked) }
+{
+    Ok(asked.into_iter()?.count())
+}
+
+/// Whether there is nothing to open: where nothing is asked for.
+#[tactic(auto, using(vortex_dtype::proofs::rulesets::counting))]
+pub fn opens_nothing(asked: FieldPathSet) -> VortexResult<bool>
+    ensures { IfOk result (λ b. IsTrue b ↔ (asked ≡ set.empty)) }
+{
+    Ok(asked.into_iter()?.count() == 0)
+}
+
 /// Whether the covers of two copies look equally often: they always do.
 #[tactic(auto, using(vortex_dtype::proofs::rulesets::covering, vortex_dtype::proofs::rulesets::counting))]
 pub fn copies_visit_equally(asked: &FieldPathSet) -> VortexResult<bool>

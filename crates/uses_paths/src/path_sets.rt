@@ -116,6 +116,7 @@ pub fn lacks_other(
 }
 
 /// The columns of two queries that ask for the same: those of one of them are gained.
+#[tactic(auto, using(vortex_dtype::proofs::rulesets::set_unions))]
 pub fn ask_for_all_twice(
     asked: &mut FieldPathSet,
     columns: Vec<FieldPath>,
@@ -168,6 +169,7 @@ pub fn least_of_copy(asked: &FieldPathSet) -> VortexResult<vec::IntoIter<FieldPa
 }
 
 /// The columns to open for a query: a column that it asks for is under one of them.
+#[tactic(auto, using(vortex_dtype::proofs::rulesets::covered_paths))]
 pub fn cover_of_query(
     alloc: Global,
     columns: Vec<FieldPath>,
@@ -268,6 +270,7 @@ pub fn set_of_two(alloc: Global, first: FieldPath, second: FieldPath) -> VortexR
 }
 
 /// The columns of a query and one more.
+#[tactic(auto, using(vortex_dtype::proofs::rulesets::inserted_paths))]
 pub fn query_and_column(
     alloc: Global,
     columns: Vec<FieldPath>,
@@ -456,7 +459,7 @@ pub fn asks_for_nothing(asked: &FieldPathSet) -> VortexResult<bool>
 }
 
 /// The number of columns to open for one path: one.
-#[tactic(auto, using(vortex_dtype::proofs::rulesets::counting))]
+#[tactic(auto, using(dtype_paths::proofs::lemmas::Covering::one_least_listed))]
 pub fn number_to_open_for_one(alloc: Global, path: FieldPath) -> VortexResult<usize>
     ensures { IfOk result (λ n. n ≡ 1) }
 {

@@ -16,7 +16,6 @@ use std::alloc::Global;
 use vortex_dtype::{DType, Field, FieldPath, FieldPathSet, VortexResult, project_paths};
 
 /// The table opened for a list of columns: each of the list has the type that it has in the table, or none as there.
-#[tactic(auto, using(vortex_dtype::proofs::rulesets::has_members, vortex_dtype::proofs::rulesets::covers_members, vortex_dtype::proofs::rulesets::projecting))]
 pub fn open_listed(
     alloc: Global,
     table: &DType,

@@ -27,7 +27,6 @@ pub fn is_listed(alloc: Global, columns: Vec<FieldPath>, column: &FieldPath) -> 
 }
 
 /// The set of a list: its members are those of the list, and each of them is covered.
-#[tactic(auto, using(vortex_dtype::proofs::rulesets::has_members, vortex_dtype::proofs::rulesets::covers_members))]
 pub fn set_of_list(alloc: Global, columns: Vec<FieldPath>) -> VortexResult<FieldPathSet>
     ensures members { IfOk result (λ s. (p : List Field)
         → IsTrue (set.contains s p) ↔ Contains columns.items p) }
@@ -39,7 +38,6 @@ pub fn set_of_list(alloc: Global, columns: Vec<FieldPath>) -> VortexResult<Field
 }
 
 /// The set of two lists: its members are those of either.
-#[tactic(auto, using(vortex_dtype::proofs::rulesets::has_members))]
 pub fn set_of_two_lists(
     alloc: Global,
     columns: Vec<FieldPath>,
@@ -63,7 +61,6 @@ pub fn ask_for(asked: &mut FieldPathSet, path: FieldPath) -> VortexResult<()>
 }
 
 /// Asks for the columns of a query: those are asked for then, and what was.
-#[tactic(auto, using(vortex_dtype::proofs::rulesets::has_members))]
 pub fn ask_for_columns(asked: &mut FieldPathSet, columns: Vec<FieldPath>) -> VortexResult<()>
     ensures kept { OnOk result ((p : List Field)
         → IsTrue (set.contains asked.old p) → IsTrue (set.contains asked.new p)) }

@@ -116,7 +116,6 @@ pub fn lacks_other(
 }
 
 /// The columns of two queries that ask for the same: those of one of them are gained.
-#[tactic(auto, using(vortex_dtype::proofs::rulesets::set_unions))]
 pub fn ask_for_all_twice(
     asked: &mut FieldPathSet,
     columns: Vec<FieldPath>,
@@ -169,7 +168,6 @@ pub fn least_of_copy(asked: &FieldPathSet) -> VortexResult<vec::IntoIter<FieldPa
 }
 
 /// The columns to open for a query: a column that it asks for is under one of them.
-#[tactic(auto, using(vortex_dtype::proofs::rulesets::covered_paths))]
 pub fn cover_of_query(
     alloc: Global,
     columns: Vec<FieldPath>,
@@ -270,7 +268,6 @@ pub fn set_of_two(alloc: Global, first: FieldPath, second: FieldPath) -> VortexR
 }
 
 /// The columns of a query and one more.
-#[tactic(auto, using(vortex_dtype::proofs::rulesets::inserted_paths))]
 pub fn query_and_column(
     alloc: Global,
     columns: Vec<FieldPath>,
@@ -459,7 +456,7 @@ pub fn asks_for_nothing(asked: &FieldPathSet) -> VortexResult<bool>
 }
 
 /// The number of columns to open for one path: one.
-#[tactic(auto, using(dtype_paths::proofs::lemmas::Covering::one_least_listed))]
+#[tactic(auto, using(vortex_dtype::proofs::rulesets::counting))]
 pub fn number_to_open_for_one(alloc: Global, path: FieldPath) -> VortexResult<usize>
     ensures { IfOk result (λ n. n ≡ 1) }
 {
@@ -469,7 +466,7 @@ pub fn number_to_open_for_one(alloc: Global, path: FieldPath) -> VortexResult<us
 }
 
 /// The number of columns to open: at most that of the paths that are asked for.
-#[tactic(auto, using(vortex_dtype::proofs::rulesets::counting))]
+#[tactic(auto, using(vortex_dtype::proofs::rulesets::count_bounds))]
 pub fn number_to_open(asked: FieldPathSet) -> VortexResult<usize>
     ensures { IfOk result (λ n. n ≤ set.len asked) }
 {
@@ -477,7 +474,7 @@ pub fn number_to_open(asked: FieldPathSet) -> VortexResult<usize>
 }
 
 /// Whether there is nothing to open: where nothing is asked for.
-#[tactic(auto, using(vortex_dtype::proofs::rulesets::counting))]
+#[tactic(auto, using(vortex_dtype::proofs::rulesets::count_bounds))]
 pub fn opens_nothing(asked: FieldPathSet) -> VortexResult<bool>
     ensures { IfOk result (λ b. IsTrue b ↔ (asked ≡ set.empty)) }
 {

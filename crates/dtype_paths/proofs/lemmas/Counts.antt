@@ -136,6 +136,10 @@ least_len s = part_len (least s) s (λ p h. ((least_word s p).0 h).0)
 pub cover_len : (ps : List (List Field)) (s : PathSet) → set_of ps ≡ least s → Distinct ps → length ps ≤ set.len s
 cover_len ps s is d = omega (arith, listed_len ps (least s) is d, least_len s)
 
+-- of a list no more are opened than it has
+pub cover_at_most : (ps : List (List Field)) → set.len (least (set.from_list {R = path_cmp} ps)) ≤ length ps
+cover_at_most ps = omega (arith, least_len (set.from_list ps), list_len ps)
+
 -- A cover is none exactly where the set is empty. The first part says nothing: it shows a search the call to match.
 pub cover_none : (ps : List (List Field)) → (set.from_list {R = path_cmp} ps ≡ set.from_list {R = path_cmp} ps) × ((s : PathSet) → set.from_list ps ≡ least s → (length ps ≡ 0 → s ≡ set.empty) × (s ≡ set.empty → length ps ≡ 0))
 cover_none ps = (

@@ -3,14 +3,14 @@
 
 -- Lemmas on what is asked for after some steps. For callers' proofs `stepping_into` names them in one line:
 --     #![tactic(auto, using(dtype_paths::proofs::lemmas::PathsBelow::stepping_into))]
-use Rattle.std.proofs.Common.{◌≡◌, ◌≢◌, ◌∙◌, ℕ, List, [], ◌∷◌, ◌++◌, Bool, true, false, ◌||◌, Option, Some, None, IsTrue, length, map, arith, refl, sym, ap, subst, ⊎_elim}
+use Rattle.std.proofs.Common.{◌≡◌, ◌≢◌, ◌∙◌, ◌<◌, ℕ, zero, suc, drop, List, [], ◌∷◌, ◌++◌, Bool, true, false, ◌||◌, Option, Some, None, IsTrue, length, map, arith, refl, sym, ap, subst, ⊎_elim}
 use Rattle.std.proofs.lemmas.Bool.{false≢true, or_cases, or_left, or_right}
 use Rattle.std.proofs.lemmas.Bool.Decides.{same_from_decides}
 use Rattle.std.proofs.lemmas.List.{nil_from_length}
 use Rattle.std.specs.Bool.{Decides}
 use Rattle.std.specs.FinSet as set
 use Rattle.std.specs.List.{Contains, list_any}
-use Rattle.std.specs.Prelude.{is_some}
+use Rattle.std.specs.Prelude.{get_or, is_some}
 use Rattle.dtype_paths.specs.Beginning.{Beginning}
 use Rattle.dtype_paths.specs.Covering.{covers}
 use Rattle.dtype_paths.specs.Cursors.{asks, asks_if}
@@ -87,6 +87,31 @@ none_above w f p q here e is =
     nothing_above : (p : List Field) → asks_above no_path p ≡ false
     nothing_above [] = refl
     nothing_above (g ∷ p) = nothing_above p
+
+-- ---- a loop that steps a cursor along a path: `walked_cursors` names all of it in one line
+
+-- where no path ends here or goes on, what is asked of isn't covered; the path that is left begins with the step, or is
+-- what the path has from a position on
+pub stopped_uncovered : (w : PathPredicate) (s : PathSet) (f : Field) (q p r : List Field) → asks_above w q ≡ covers s r → q ≡ f ∷ p → w [] ≡ false → no_path ≡ after_step f w → false ≡ covers s r
+stopped_uncovered w s f q p r same is here none = none_above w f p q here none is ∙ same
+
+pub stopped_at : (w : PathPredicate) (s : PathSet) (f : Field) (ps r : List Field) (i : ℕ) → i < length ps → get_or ps i f ≡ f → asks_above w (drop i ps) ≡ covers s r → w [] ≡ false → no_path ≡ after_step f w → false ≡ covers s r
+stopped_at w s f ps r i l e same here none = stopped_uncovered w s f (drop i ps) (drop (suc i) ps) r same (dropped ps i l e) here none
+  where
+    dropped : (xs : List Field) (k : ℕ) → k < length xs → get_or xs k f ≡ f → drop k xs ≡ f ∷ drop (suc k) xs
+    dropped [] k l e = absurd (omega (arith, l))
+    dropped (x ∷ xs) zero l e = ap (λ y. y ∷ xs) e
+    dropped (x ∷ xs) (suc k) l e = dropped xs k (omega (arith, l)) e
+
+-- and nothing is asked for along the whole path
+pub stopped_nowhere : (w v : PathPredicate) (f : Field) (q p r : List Field) → after_steps q w ≡ after_steps r v → q ≡ f ∷ p → no_path ≡ after_step f w → no_path ≡ after_steps r v
+stopped_nowhere w v f q p r same is none = sym (nothing_after p) ∙ ap (after_steps p) none ∙ ap (λ x. after_steps x w) (sym is) ∙ same
+  where
+    nothing_after : (p : List Field) → after_steps p no_path ≡ no_path
+    nothing_after [] = refl
+    nothing_after (g ∷ p) = nothing_after p
+
+pub ruleset walked_cursors = (stopped_uncovered, stopped_at, stopped_nowhere, covered_on_the_way, ends_above)
 
 -- the names by which paths go on, by the first of them
 pub first_named : (w : PathPredicate) (ns rest : List (List ℕ × PathPredicate)) (e : List ℕ × PathPredicate) → AreNames w ns → ns ≡ e ∷ rest → after_step (Name e.0) w ≢ no_path

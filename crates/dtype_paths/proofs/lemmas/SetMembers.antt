@@ -2,8 +2,9 @@
 -- SPDX-FileCopyrightText: Copyright the Vortex contributors
 
 -- Lemmas on the members of sets of paths.
-use Rattle.std.specs.Prelude.{◌≡◌, ◌≢◌, ◌↔◌, ◌<◌, ◌⊎◌, ℕ, Bool, true, false, IsTrue, List, [], ◌∷◌, ◌++◌, ◌||◌, get_or, length, refl}
+use Rattle.std.specs.Prelude.{◌≡◌, ◌≢◌, ◌↔◌, ◌<◌, ◌⊎◌, ℕ, Bool, true, false, IsTrue, List, [], ◌∷◌, ◌++◌, ◌||◌, get_or, length, map, refl}
 use Rattle.std.specs.Bool.{Decides}
+use Rattle.std.specs.Borrow.{Bor}
 use Rattle.std.specs.FinSet as set
 use Rattle.std.specs.List.{Contains, list_any}
 use Rattle.std.proofs.Common.{ap, arith, sym, inl, inr, ◌∙◌, ⊎_elim}
@@ -119,6 +120,17 @@ union_insert s t p = same_by _ _ (λ q.
     contains_union s _ q ∙ ap (λ b. set.contains s q || b) (contains_insert t p q)
     ∙ or_swap (set.contains s q) (same_path q p) (set.contains t q)
     ∙ sym (contains_insert _ p q ∙ ap (λ b. same_path q p || b) (contains_union s t q)))
+
+-- of an insertion into the first set
+pub insert_union : (s t : PathSet) (p : List Field) → set.union (set.insert s p) t ≡ set.insert (set.union s t) p
+insert_union s t p = union_swap (set.insert s p) t ∙ union_insert t s p ∙ ap (λ x. set.insert x p) (union_swap t s)
+
+-- a loop that goes over a set or a list to its end has inserted all of it
+pub union_done : (s u : PathSet) → set.union s set.empty ≡ u → s ≡ u
+union_done s u same = sym (union_none s) ∙ same
+
+pub union_ended : (s u : PathSet) (xs : List (Bor (List Field))) → set.union s (set.from_list (map (λ x. x.now) xs)) ≡ u → xs ≡ [] → s ≡ u
+union_ended s u xs same end = sym (union_none s) ∙ ap (λ (ys : List (Bor (List Field))). set.union s (set.from_list (map (λ x. x.now) ys))) (sym end) ∙ same
 
 -- what is put in again changes nothing
 pub union_again : (s t u : PathSet) → u ≡ t → set.union (set.union s t) u ≡ set.union s t

@@ -11,7 +11,7 @@
 //!
 //! - By user: `scalars` (which values a type has), `arrays` (how wide a row is), `appending` (what may be appended),
 //!   `binder` (column references, projections, joins).
-//! - Types: `structs`, `fields`, `over_fields`, `loops` (to copy), `iterators`, `schemas`, `lookups` (how many comparisons), `presence`,
+//! - Types: `structs`, `fields`, `over_fields`, `loops` (to copy), `iterators`, `schemas`, `lookups` (how many comparisons), `presence`, `wanted` (many names),
 //!   `unions`, `kinds`, `equality`, `nullabilities`, `validity`, `numbers`, `registered` (sessions that a contract gives).
 //! - Pages: `orders` is the code of `docs/TUTORIAL.md`, `guide` that of `docs/GUIDE.md`.
 #![tactic(auto)]
@@ -37,3 +37,4 @@ pub mod schemas;
 pub mod structs;
 pub mod unions;
 pub mod validity;
+pub mod wanted;

@@ -11,6 +11,7 @@ pub mod Compared
 pub mod Differences
 pub mod StorageKinds
 pub mod NamesAmong
+pub mod EachAmong
 pub mod FieldLists
 pub mod Counted
 pub mod Registered

@@ -20,19 +20,20 @@ pub use Rattle.dtype_types.proofs.lemmas.Structs.{structs}
 pub use Rattle.dtype_types.proofs.lemmas.Validity.{validity}
 -- of dtype_paths and dtype_projection: path sets and how many paths they have, sets, paths and masks that are stepped
 -- along (one step of a type too), the paths that a type lacks, and types that are projected
-pub use Rattle.dtype_paths.proofs.lemmas.Covering.{count_bounds, counting, covered_paths, covering, covers_members, has_members, inserted_paths, least_paths, made_coverage, members, opened_paths, set_unions, united_coverage}
+pub use Rattle.dtype_paths.proofs.lemmas.Covering.{collected_paths, count_bounds, counting, covered_paths, covering, covers_members, has_members, inserted_paths, least_paths, made_coverage, members, opened_paths, set_unions, united_coverage}
 pub use Rattle.dtype_paths.proofs.lemmas.LentPaths.{lent_paths}
 pub use Rattle.dtype_paths.proofs.lemmas.MaskLists.{mask_lists}
-pub use Rattle.dtype_paths.proofs.lemmas.PathsBelow.{set_cursors, stepping_into}
+pub use Rattle.dtype_paths.proofs.lemmas.PathsBelow.{set_cursors, stepping_into, walked_cursors}
 pub use Rattle.dtype_paths.proofs.lemmas.Stepping.{beginnings, one_column, stepped_masks, stepping, types_along}
 pub use Rattle.dtype_paths.proofs.lemmas.Steps.{one_step}
 pub use Rattle.dtype_paths.proofs.lemmas.Unresolved.{missing_paths}
 pub use Rattle.dtype_projection.proofs.lemmas.Descending.{descending, opened_after, opened_nowhere, opened_unasked}
-pub use Rattle.dtype_projection.proofs.lemmas.Projecting.{projecting}
+pub use Rattle.dtype_projection.proofs.lemmas.Projecting.{projecting, projecting_one}
 -- of vortex_dtype: sessions; and what callers of the crates below need and their own proofs don't: names that are among
--- the names of fields, fields that a contract names one after another, and counts
+-- the names of fields, also each of many, fields that a contract names one after another, and counts
 pub use Rattle.vortex_dtype.proofs.lemmas.Sessions.{sessions}
 pub use Rattle.vortex_dtype.proofs.lemmas.NamesAmong.{among}
+pub use Rattle.vortex_dtype.proofs.lemmas.EachAmong.{each_among}
 pub use Rattle.vortex_dtype.proofs.lemmas.FieldLists.{listed_fields}
 pub use Rattle.vortex_dtype.proofs.lemmas.Counted.{counted}
 -- lemmas of these for answers of one's own: the set of paths that a loop collects, and any number of comparisons; and a

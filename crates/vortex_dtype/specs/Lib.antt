@@ -16,6 +16,7 @@ pub mod Reads
 pub mod Written
 pub mod Accepts
 pub mod PathMessage
+pub mod Names
 pub mod Types
 pub use Rattle.dtype_base.specs.BinaryDigits
 pub use Rattle.dtype_base.specs.Bytes

@@ -1,0 +1,11 @@
+-- SPDX-License-Identifier: Apache-2.0
+-- SPDX-FileCopyrightText: Copyright the Vortex contributors
+
+-- Whether a name is among names, for callers whose contracts ask it of many. A choice of ours.
+use Rattle.std.specs.Prelude.{ℕ, List}
+use Rattle.std.specs.List.{Contains}
+
+-- The name n is one of the names. It is no abbreviation, so that `All (λ n. IsAmong names n) wanted` proves by the ruleset
+-- `each_among`: a search keeps the word, where it would take `Contains` apart.
+unfoldable pub IsAmong : List (List ℕ) → List ℕ → Type 0
+IsAmong names n = Contains names n

@@ -10,7 +10,7 @@ ghost use Rattle.vortex_dtype.specs.Beginning.{Beginning};
 ghost use Rattle.vortex_dtype.specs.Covering.{covers};
 ghost use Rattle.vortex_dtype.specs.Cursors.{asks, asks_if};
 ghost use Rattle.vortex_dtype.specs.In.{In};
-ghost use Rattle.vortex_dtype.specs.PathPredicates.{after_step, asks_above, no_path};
+ghost use Rattle.vortex_dtype.specs.PathPredicates.{after_step, after_steps, asks_above, no_path};
 ghost use Rattle.vortex_dtype.specs.Types.Field.{Field};
 ghost use Rattle.vortex_dtype.specs.Types.FieldMask.{FieldMask};
 
@@ -104,6 +104,39 @@ pub fn asks_for_nothing(asked: &FieldPathSet) -> bool
     ensures { IsTrue result → (q : List Field) → set.contains asked.now q ≡ false }
 {
     asked.cursor().is_empty()
+}
+
+/// Whether a query reads a path: one of its paths ends on the way along it.
+#[tactic(auto, using(vortex_dtype::proofs::rulesets::walked_cursors))]
+pub fn reads_path(asked: &FieldPathSet, path: &FieldPath) -> bool
+    ensures { result ≡ covers asked.now path.now }
+{
+    let mut cursor = asked.cursor();
+    for step in path.parts() {
+        if cursor.is_end() {
+            return true;
+        }
+        let Some(below) = cursor.step(step) else {
+            return false;
+        };
+        cursor = below;
+    }
+    cursor.is_end()
+}
+
+/// The cursor along a whole path.
+#[tactic(auto, using(vortex_dtype::proofs::rulesets::walked_cursors))]
+pub fn cursor_along<'a>(asked: &'a FieldPathSet, path: &FieldPath) -> Option<FieldPathCursor<'a>>
+    ensures { asks_if result ≡ after_steps path.now (set.contains asked.now) }
+{
+    let mut cursor = asked.cursor();
+    for step in path.parts() {
+        match cursor.step(step) {
+            Some(below) => cursor = below,
+            None => return None,
+        }
+    }
+    Some(cursor)
 }
 
 /// Whether a query is for nothing: where its set is empty.

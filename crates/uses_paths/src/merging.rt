@@ -13,8 +13,9 @@ ghost use Rattle.dtype_types.specs.tree.Valid.{Valid};
 ghost use Rattle.dtype_types.specs.values.Value.{IncludedIn};
 ghost use Rattle.vortex_dtype.specs.Along.{along};
 ghost use Rattle.vortex_dtype.specs.At.{At, ExistsIn};
-ghost use Rattle.vortex_dtype.specs.Nullable.{IsNullable};
+ghost use Rattle.vortex_dtype.specs.Nullable.{IsNullable, SetNull};
 ghost use Rattle.vortex_dtype.specs.Tree.{Tree};
+ghost use Rattle.vortex_dtype.specs.Types.Nullability.TheVariants.{Nullable};
 
 use std::alloc::Global;
 use vortex_dtype::{DType, FieldPath, VortexResult, merge_nullability};
@@ -129,4 +130,14 @@ pub fn may_column_be_null(
         Some(dtype) => Ok(Some(dtype.is_nullable())),
         None => Ok(None),
     }
+}
+
+/// A type merged with itself made nullable, which is the nullable one.
+#[tactic(auto, using(vortex_dtype::proofs::rulesets::merging))]
+pub fn widened(alloc: Global, dtype: &DType) -> VortexResult<Option<DType>>
+    ensures nullable { IfOk result (λ r. IfSome r (λ d. SetNull (tree dtype.now) Nullable (tree d))) }
+    ensures some { IfOk result (λ r. IsSome r) }
+{
+    let nullable = dtype.as_nullable(alloc)?;
+    Ok(merge_nullability(alloc, dtype, &nullable)?)
 }

@@ -4,7 +4,7 @@
 //! Types written as messages and read again.
 #![tactic(auto, using(vortex_dtype::proofs::rulesets::messages))]
 
-ghost use Rattle.std.specs.Prelude.{◌≡◌, ◌⊎◌, Err, IfErr, IfNone, IfOk, IfSome, IsErr, IsOkUnless, IsTrue};
+ghost use Rattle.std.specs.Prelude.{◌≡◌, ◌↔◌, ◌⊎◌, Err, IfErr, IfNone, IfOk, IfSome, IsErr, IsOkUnless, IsTrue};
 ghost use Rattle.vortex_dtype.specs.Types.Nullability.TheVariants.{Nullable};
 ghost use Rattle.vortex_dtype.specs.Types.VortexError.TheVariants.{OutOfMemory};
 ghost use Rattle.vortex_dtype.specs.Nullable.{SetNull};
@@ -112,4 +112,12 @@ pub fn read_if_readable(
         Err(VortexError::OutOfMemory) => Err(VortexError::OutOfMemory),
         Err(_) => Ok(None),
     }
+}
+
+/// Whether two types are written the same: they are the same.
+#[tactic(auto, using(vortex_dtype::proofs::rulesets::written_messages))]
+pub fn are_written_the_same(alloc: Global, dtype: &DType, other: &DType) -> VortexResult<bool>
+    ensures { IfOk result (λ r. IsTrue r ↔ (tree dtype.now ≡ tree other.now)) }
+{
+    Ok(dtype.to_proto(alloc)? == other.to_proto(alloc)?)
 }

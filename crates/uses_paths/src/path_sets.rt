@@ -466,15 +466,39 @@ pub fn number_to_open_for_one(alloc: Global, path: FieldPath) -> VortexResult<us
 }
 
 /// The number of columns to open: at most that of the paths that are asked for.
-#[tactic(auto, using(vortex_dtype::proofs::rulesets::count_bounds))]
+#[tactic(auto, using(vortex_dtype::proofs::rulesets::opened_counts))]
 pub fn number_to_open(asked: FieldPathSet) -> VortexResult<usize>
     ensures { IfOk result (λ n. n ≤ set.len asked) }
 {
     Ok(asked.into_iter()?.count())
 }
 
+/// The number of columns to open for a list: no more than the list has.
+#[tactic(auto, using(vortex_dtype::proofs::rulesets::opened_counts))]
+pub fn number_to_open_of_list(alloc: Global, columns: Vec<FieldPath>) -> VortexResult<usize>
+    ensures { IfOk result (λ n. n ≤ length columns.items) }
+{
+    Ok(
+        FieldPathSet::from_iter(alloc, columns)?
+            .into_iter()?
+            .count(),
+    )
+}
+
+/// What one of two queries asks, whose scan is shared: the paths of the second are inserted one by one.
+#[tactic(auto, using(vortex_dtype::proofs::rulesets::collected_paths))]
+pub fn shared_scan(first: FieldPathSet, second: &FieldPathSet) -> VortexResult<FieldPathSet>
+    ensures { IfOk result (λ s. s ≡ set.union first second.now) }
+{
+    let mut both = first;
+    for path in second.iter()? {
+        both.insert(path.try_clone()?)?;
+    }
+    Ok(both)
+}
+
 /// Whether there is nothing to open: where nothing is asked for.
-#[tactic(auto, using(vortex_dtype::proofs::rulesets::count_bounds))]
+#[tactic(auto, using(vortex_dtype::proofs::rulesets::opened_counts))]
 pub fn opens_nothing(asked: FieldPathSet) -> VortexResult<bool>
     ensures { IfOk result (λ b. IsTrue b ↔ (asked ≡ set.empty)) }
 {

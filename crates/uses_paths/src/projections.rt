@@ -4,7 +4,7 @@
 //! A reader that opens a table's schema for a query: the columns that the query asks for, and no others.
 #![tactic(auto, using(vortex_dtype::proofs::rulesets::covering))]
 
-ghost use Rattle.std.specs.Prelude.{◌≡◌, ◌↔◌, IfNone, IfOk, IfSome, IsTrue, List};
+ghost use Rattle.std.specs.Prelude.{◌≡◌, ◌↔◌, IfNone, IfOk, IfSome, IsSome, IsTrue, List};
 ghost use Rattle.std.specs.FinSet as set;
 ghost use Rattle.std.specs.Option.{option_map};
 ghost use Rattle.dtype_types.specs.tree.TreeOf.{tree};
@@ -14,13 +14,14 @@ ghost use Rattle.vortex_dtype.specs.Along.{along};
 ghost use Rattle.vortex_dtype.specs.At.{ExistsIn};
 ghost use Rattle.vortex_dtype.specs.Covering.{covers};
 ghost use Rattle.vortex_dtype.specs.Nullable.{nullability};
+ghost use Rattle.vortex_dtype.specs.Overlaps.{Overlaps};
 ghost use Rattle.vortex_dtype.specs.Projected.{projected};
 ghost use Rattle.vortex_dtype.specs.Restricted.{restricted};
 ghost use Rattle.vortex_dtype.specs.Types.Field.{Field};
 
 use std::alloc::Global;
 use vortex_dtype::laws::projections::{projection_depends_on_coverage_alone, projections_compose};
-use vortex_dtype::{DType, FieldPathSet, VortexResult, project_paths};
+use vortex_dtype::{DType, FieldPath, FieldPathSet, VortexResult, project_paths};
 
 /// The schema with these columns alone: each of them has the type that it had.
 pub fn pruned(alloc: Global, schema: &DType, columns: &FieldPathSet) -> VortexResult<Option<DType>>
@@ -130,4 +131,41 @@ pub fn pruned_as_nullable(
         Some(pruned) => Ok(Some(pruned)),
         None => Ok(None),
     }
+}
+
+/// The table pruned: a column that the query doesn't touch is gone.
+#[tactic(auto, using(vortex_dtype::proofs::rulesets::projecting_one))]
+pub fn pruned_of_untouched(
+    alloc: Global,
+    schema: &DType,
+    columns: &FieldPathSet,
+    column: &FieldPath,
+) -> VortexResult<Option<DType>>
+    requires { (p : List Field) → IsTrue (set.contains columns.now p) → Overlaps p column.now → ⊥ }
+    ensures { IfOk result (λ r. IfSome r (λ u. ExistsIn (tree u) column.now → ⊥)) }
+{
+    Ok(project_paths(alloc, schema, columns)?)
+}
+
+/// The table pruned to one column: something is left where the column is there.
+#[tactic(auto, using(vortex_dtype::proofs::rulesets::projecting_one))]
+pub fn pruned_to_one(
+    alloc: Global,
+    schema: &DType,
+    column: FieldPath,
+) -> VortexResult<Option<DType>>
+    ensures { IfOk result (λ r. IsSome r ↔ ExistsIn (tree schema.now) column) }
+{
+    let one = set_of_one(alloc, column)?;
+    Ok(project_paths(alloc, schema, &one)?)
+}
+
+// The set of one column.
+#[tactic(auto, using(vortex_dtype::proofs::rulesets::inserted_paths))]
+fn set_of_one(alloc: Global, column: FieldPath) -> VortexResult<FieldPathSet>
+    ensures { IfOk result (λ s. s ≡ set.insert set.empty column) }
+{
+    let mut one = FieldPathSet::new(alloc);
+    one.insert(column)?;
+    Ok(one)
 }

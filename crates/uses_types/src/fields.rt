@@ -4,10 +4,11 @@
 // Lookups of fields, by name and by position.
 #![tactic(auto, using(vortex_dtype::proofs::rulesets::joined_fields, vortex_dtype::proofs::rulesets::lookups))]
 
-ghost use Rattle.std.specs.Prelude.{◌≡◌, ◌≢◌, ◌+◌, ◌<◌, ℕ, List, None, Some, Contains, IfNone, IfOk, IfSome, IsSome, IsTrue, length, map, true, vec_len};
+ghost use Rattle.std.specs.Prelude.{◌≡◌, ◌≢◌, ◌+◌, ◌<◌, ◌∷◌, [], ℕ, List, None, Some, Contains, IfNone, IfOk, IfSome, IsOk, IsSome, IsTrue, length, map, true, vec_len};
 ghost use Rattle.std.specs.Option.{option_map};
 ghost use Rattle.dtype_types.specs.parts.Lookups.{field_names, field_types, first_named};
 ghost use Rattle.dtype_types.specs.nullability.Nullable.{nullability};
+ghost use Rattle.dtype_types.specs.tree.Tree.{Tree};
 ghost use Rattle.dtype_types.specs.tree.TreeOf.{children, shown, tree};
 ghost use Rattle.vortex_dtype.specs.Distinct.{Distinct};
 
@@ -215,4 +216,41 @@ pub fn table_of_lists(
     let texts = FieldNames::from_texts(alloc, names)?;
     let table = StructFields::new(alloc, texts, dtypes)?;
     Ok(Some(table))
+}
+
+/// The table of one column: that column alone, with the type that it has.
+#[tactic(auto, using(vortex_dtype::proofs::rulesets::structs))]
+pub fn only_column(alloc: Global, table: &StructFields, name: &str) -> VortexResult<StructFields>
+    ensures column { IfOk result (λ s. (t : Tree) → first_named (children table.now) name.now ≡ Some t
+        → children s ≡ (name.now, t) ∷ []) }
+    ensures there { IsOk result → IsSome (first_named (children table.now) name.now) }
+{
+    let names = FieldNames::from_texts(alloc, &[name])?;
+    table.project(alloc, names.as_slice())
+}
+
+/// The table with a column under another name, at its end: that name leads to the column's type.
+#[tactic(auto, using(vortex_dtype::proofs::rulesets::distinct_fields))]
+pub fn with_column_renamed(
+    alloc: Global,
+    table: &StructFields,
+    old: &str,
+    new: &str,
+) -> VortexResult<StructFields>
+    ensures { IfOk result (λ s. (t : Tree) → first_named (children table.now) old.now ≡ Some t
+        → first_named (children s) new.now ≡ Some t) }
+{
+    match table.find(old) {
+        Some(index) => {
+            let names = FieldNames::from_texts(alloc, &[new])?;
+            let dtype = match table.field(old) {
+                Some(dtype) => dtype.try_clone(alloc)?,
+                None => DType::Null,
+            };
+            let column = StructFields::new(alloc, names, vec![in alloc; dtype]?)?;
+            let rest = table.without_field(alloc, index)?;
+            Ok(rest.disjoint_merge(alloc, &column)?)
+        }
+        None => Ok(table.try_clone(alloc)?),
+    }
 }

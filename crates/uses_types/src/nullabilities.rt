@@ -9,6 +9,7 @@ ghost use Rattle.vortex_dtype.specs.Types.Nullability.TheVariants.{NonNullable, 
 ghost use Rattle.dtype_types.specs.nullability.Nullable.{CanBeNonNullable, IsNullable, SetNull, nullability};
 ghost use Rattle.dtype_types.specs.nullability.Sub.{Sub};
 ghost use Rattle.dtype_types.specs.tree.TreeOf.{tree};
+ghost use Rattle.dtype_types.specs.tree.Valid.{Valid};
 ghost use Rattle.dtype_types.specs.values.Value.{Of, null_value};
 
 use std::alloc::Global;
@@ -91,4 +92,18 @@ pub fn changes_when_nullable(dtype: &DType, alloc: Global) -> VortexResult<bool>
 {
     let nullable = dtype.as_nullable(alloc)?;
     Ok(nullable != *dtype)
+}
+
+/// The type with the nullability of another, where it can have it; valid where it was.
+#[tactic(auto, using(vortex_dtype::proofs::rulesets::nullabilities))]
+pub fn as_nullable_as(alloc: Global, dtype: &DType, other: &DType) -> VortexResult<DType>
+    ensures same { CanBeNonNullable (tree dtype.now)
+        → IfOk result (λ d. nullability (tree d) ≡ nullability (tree other.now)) }
+    ensures valid { Valid (tree dtype.now) → IfOk result (λ d. Valid (tree d)) }
+{
+    if dtype.can_be_nonnullable() {
+        Ok(dtype.with_nullability(alloc, other.nullability())?)
+    } else {
+        Ok(dtype.try_clone(alloc)?)
+    }
 }

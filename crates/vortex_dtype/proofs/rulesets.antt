@@ -9,18 +9,15 @@
 -- of dtype_base: primitive and decimal types
 pub use Rattle.dtype_base.proofs.lemmas.Decimals.{decimals}
 pub use Rattle.dtype_base.proofs.lemmas.Primitives.{primitives}
--- of dtype_types: structs and unions, nullability, values and validity
-pub use Rattle.dtype_types.proofs.lemmas.DistinctFields.{distinct_fields}
+-- of dtype_types: what is made of fields, values, their order, and validity
 pub use Rattle.dtype_types.proofs.lemmas.JoinedFields.{joined_fields}
 pub use Rattle.dtype_types.proofs.lemmas.MadeOf.{made_of}
 pub use Rattle.dtype_types.proofs.lemmas.NullValues.{null_values}
-pub use Rattle.dtype_types.proofs.lemmas.Nullabilities.{nullabilities}
 pub use Rattle.dtype_types.proofs.lemmas.Order.{order}
-pub use Rattle.dtype_types.proofs.lemmas.Structs.{structs}
 pub use Rattle.dtype_types.proofs.lemmas.Validity.{validity}
 -- of dtype_paths and dtype_projection: path sets and how many paths they have, sets, paths and masks that are stepped
 -- along (one step of a type too), the paths that a type lacks, and types that are projected
-pub use Rattle.dtype_paths.proofs.lemmas.Covering.{collected_paths, count_bounds, counting, covered_paths, covering, covers_members, has_members, inserted_paths, least_paths, made_coverage, members, opened_paths, set_unions, united_coverage}
+pub use Rattle.dtype_paths.proofs.lemmas.Covering.{collected_paths, count_bounds, counting, covered_paths, covering, covers_members, has_members, inserted_paths, least_paths, made_coverage, members, opened_counts, opened_paths, set_unions, united_coverage}
 pub use Rattle.dtype_paths.proofs.lemmas.LentPaths.{lent_paths}
 pub use Rattle.dtype_paths.proofs.lemmas.MaskLists.{mask_lists}
 pub use Rattle.dtype_paths.proofs.lemmas.PathsBelow.{set_cursors, stepping_into, walked_cursors}
@@ -44,17 +41,21 @@ pub use Rattle.dtype_paths.proofs.lemmas.Covering.{of_push, union_swap}
 pub use Rattle.dtype_types.proofs.lemmas.Order.{sub_antisymmetric}
 use Rattle.dtype_base.proofs.lemmas.BinaryDigits.{digits_fewest, digits_reach}
 use Rattle.dtype_base.proofs.lemmas.Lookups.{lookups as name_lookups, absent_of_place, first_of_place, found_compared, found_first, most_compared, no_place, none_absent, place_found, place_of_first}
-use Rattle.dtype_messages.proofs.lemmas.Equality.{equality as message_equality}
+use Rattle.dtype_messages.proofs.lemmas.Equality.{equality as message_equality, dtype_Decides}
 use Rattle.dtype_messages.proofs.lemmas.Names.{names}
 use Rattle.dtype_messages.proofs.lemmas.Numbers.{numbers}
 use Rattle.dtype_projection.proofs.lemmas.Above.{above}
+use Rattle.dtype_types.proofs.lemmas.DistinctFields.{distinct_fields as fields_distinct}
 use Rattle.dtype_types.proofs.lemmas.Equality.{equality as type_equality}
 use Rattle.dtype_types.proofs.lemmas.Lookups.{lookups as field_lookups}
 use Rattle.dtype_types.proofs.lemmas.Merging.{intersecting as types_intersected, merging as types_merged}
+use Rattle.dtype_types.proofs.lemmas.Nullabilities.{nullabilities as nullabilities_set}
 use Rattle.dtype_types.proofs.lemmas.Presence.{presence as names_present, placed_is_among}
+use Rattle.dtype_types.proofs.lemmas.Structs.{structs as fields_of_structs}
 use Rattle.dtype_types.proofs.lemmas.Tags.{tags as union_tags}
 use Rattle.dtype_types.proofs.lemmas.ValidParts.{struct_fields_valid, valid_parts, borrowed_list_element, borrowed_fixed_size_element, borrowed_any_size_element, owned_list_element, owned_fixed_size_element, owned_any_size_element, borrowed_map, owned_map, borrowed_struct, owned_struct, borrowed_union, owned_union, extension_is_valid, borrowed_extension}
 use Rattle.dtype_types.proofs.lemmas.Validity.{types_in_valid_parts, list_of_valid, fixed_size_list_of_valid, map_of_valid, struct_valid, union_valid, map_valid, extension_valid, field_valid, named_field_valid, variant_valid, named_variant_valid, struct_of_valid, removal_valid, set_valid, made_map_valid}
+use Rattle.vortex_dtype.proofs.lemmas.AddedColumns.{named_last, projects_one, unplaced_unnamed}
 use Rattle.vortex_dtype.proofs.lemmas.Compared.{compared_up_to, compared_within}
 use Rattle.vortex_dtype.proofs.lemmas.Differences.{differences}
 use Rattle.vortex_dtype.proofs.lemmas.FieldLists.{valid_fields}
@@ -65,11 +66,21 @@ use Rattle.vortex_dtype.proofs.lemmas.Reading.{reading}
 use Rattle.vortex_dtype.proofs.lemmas.Reads.{copy_accepted, fault_none, fault_refused, normal_again, other_nullability, read_alike, reads_accepted, refused_faulty, same_normal, unread_refused, written_accepted, written_normal, written_read}
 use Rattle.vortex_dtype.proofs.lemmas.Registered.{keeps_nothing, keeps_other, keeps_registered, keeps_unknown, keeps_unless_unknown}
 use Rattle.vortex_dtype.proofs.lemmas.Sessions.{admits-set_null, admits_allow_unknown_in, admits_extension, admits_field, admits_fields_appended, admits_more, admits_one_more, flag_allow_unknown_in, flag_register_in, kept_allow_unknown_in, keeps_again, keeps_outer, others_register_in, registered_allow_unknown_in, registered_before, registered_empty_meaning, registered_register_in, unknown_empty_meaning, unknown_kept_after_allowing, unknown_register_in, unrefused}
+use Rattle.vortex_dtype.proofs.lemmas.Widened.{merged_nullable}
 use Rattle.vortex_dtype.proofs.lemmas.Written.{written_is}
+
+-- the fields of a struct, also of one that is projected to one name
+pub ruleset structs = (fields_of_structs, projects_one)
+
+-- where it leads where names are distinct, a field is removed, or one is added at the end
+pub ruleset distinct_fields = (fields_distinct, named_last, unplaced_unnamed)
+
+-- a nullability that is set on a whole type, which stays valid
+pub ruleset nullabilities = (nullabilities_set, set_valid)
 
 -- Types that are merged and types that are intersected, and the paths in them. Each is of one piece: all its lemmas begin
 -- with the one type that a call gives, of which a caller asks at once where it is given, what it is below and its values.
-pub ruleset merging = (types_merged, above)
+pub ruleset merging = (types_merged, above, merged_nullable)
 
 pub ruleset intersecting = (types_intersected, above)
 
@@ -120,7 +131,7 @@ pub ruleset valid_made = (list_of_valid, fixed_size_list_of_valid, map_of_valid,
 -- `messages` by question: what a message says, or which fault is in it; what is written, and read back; paths
 pub ruleset read_messages = (read_reads, reads_read, refused_faulty, fault_refused, unread_refused, fault_none, reads_once, reads_accepted, read_alike, copy_accepted)
 
-pub ruleset written_messages = (written_read, written_accepted, written_normal, written_is, same_normal, normal_again, other_nullability)
+pub ruleset written_messages = (written_read, written_accepted, written_normal, written_is, same_normal, normal_again, other_nullability, dtype_Decides)
 
 pub ruleset path_messages = (steps_by_names, path_steps, path_root, same_path_names, no_path, missing_part, names)
 

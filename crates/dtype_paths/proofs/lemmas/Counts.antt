@@ -140,6 +140,9 @@ cover_len ps s is d = omega (arith, listed_len ps (least s) is d, least_len s)
 pub cover_at_most : (ps : List (List Field)) → set.len (least (set.from_list {R = path_cmp} ps)) ≤ length ps
 cover_at_most ps = omega (arith, least_len (set.from_list ps), list_len ps)
 
+pub opened_at_most : (xs ps : List (List Field)) (s : PathSet) → set_of xs ≡ least s → s ≡ set_of ps → Distinct xs → length xs ≤ length ps
+opened_at_most xs ps s is of d = omega (arith, cover_len xs s is d, ap set.len of, list_len ps)
+
 -- A cover is none exactly where the set is empty. The first part says nothing: it shows a search the call to match.
 pub cover_none : (ps : List (List Field)) → (set.from_list {R = path_cmp} ps ≡ set.from_list {R = path_cmp} ps) × ((s : PathSet) → set.from_list ps ≡ least s → (length ps ≡ 0 → s ≡ set.empty) × (s ≡ set.empty → length ps ≡ 0))
 cover_none ps = (

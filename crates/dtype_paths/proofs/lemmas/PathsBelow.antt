@@ -90,28 +90,29 @@ none_above w f p q here e is =
 
 -- ---- a loop that steps a cursor along a path: `walked_cursors` names all of it in one line
 
--- where no path ends here or goes on, what is asked of isn't covered; the path that is left begins with the step, or is
--- what the path has from a position on
-pub stopped_uncovered : (w : PathPredicate) (s : PathSet) (f : Field) (q p r : List Field) → asks_above w q ≡ covers s r → q ≡ f ∷ p → w [] ≡ false → no_path ≡ after_step f w → false ≡ covers s r
-stopped_uncovered w s f q p r same is here none = none_above w f p q here none is ∙ same
+-- the path from a position on
+from_step : (xs : List Field) (k : ℕ) (f : Field) → k < length xs → get_or xs k f ≡ f → drop k xs ≡ f ∷ drop (suc k) xs
+from_step [] k f l e = absurd (omega (arith, l))
+from_step (x ∷ xs) zero f l e = ap (λ y. y ∷ xs) e
+from_step (x ∷ xs) (suc k) f l e = from_step xs k f (omega (arith, l)) e
 
+-- where no path ends here or goes on with the step at a position, what is asked of isn't covered
 pub stopped_at : (w : PathPredicate) (s : PathSet) (f : Field) (ps r : List Field) (i : ℕ) → i < length ps → get_or ps i f ≡ f → asks_above w (drop i ps) ≡ covers s r → w [] ≡ false → no_path ≡ after_step f w → false ≡ covers s r
-stopped_at w s f ps r i l e same here none = stopped_uncovered w s f (drop i ps) (drop (suc i) ps) r same (dropped ps i l e) here none
-  where
-    dropped : (xs : List Field) (k : ℕ) → k < length xs → get_or xs k f ≡ f → drop k xs ≡ f ∷ drop (suc k) xs
-    dropped [] k l e = absurd (omega (arith, l))
-    dropped (x ∷ xs) zero l e = ap (λ y. y ∷ xs) e
-    dropped (x ∷ xs) (suc k) l e = dropped xs k (omega (arith, l)) e
+stopped_at w s f ps r i l e same here none = none_above w f (drop (suc i) ps) (drop i ps) here none (from_step ps i f l e) ∙ same
 
 -- and nothing is asked for along the whole path
-pub stopped_nowhere : (w v : PathPredicate) (f : Field) (q p r : List Field) → after_steps q w ≡ after_steps r v → q ≡ f ∷ p → no_path ≡ after_step f w → no_path ≡ after_steps r v
-stopped_nowhere w v f q p r same is none = sym (nothing_after p) ∙ ap (after_steps p) none ∙ ap (λ x. after_steps x w) (sym is) ∙ same
+pub stopped_nowhere : (w v : PathPredicate) (f : Field) (ps r : List Field) (i : ℕ) → i < length ps → get_or ps i f ≡ f → after_steps (drop i ps) w ≡ after_steps r v → no_path ≡ after_step f w → no_path ≡ after_steps r v
+stopped_nowhere w v f ps r i l e same none =
+    sym (nothing_after (drop (suc i) ps)) ∙ ap (after_steps (drop (suc i) ps)) none ∙ ap (λ x. after_steps x w) (sym (from_step ps i f l e)) ∙ same
   where
     nothing_after : (p : List Field) → after_steps p no_path ≡ no_path
     nothing_after [] = refl
     nothing_after (g ∷ p) = nothing_after p
 
-pub ruleset walked_cursors = (stopped_uncovered, stopped_at, stopped_nowhere, covered_on_the_way, ends_above)
+pub stopped_nowhere_at : (w v : PathPredicate) (f : Field) (ps r x : List Field) (i : ℕ) → i < length ps → get_or ps i f ≡ f → after_steps (drop i ps) w ≡ after_steps r v → no_path ≡ after_step f w → false ≡ after_steps r v x
+stopped_nowhere_at w v f ps r x i l e same none = ap (λ (z : PathPredicate). z x) (stopped_nowhere w v f ps r i l e same none)
+
+pub ruleset walked_cursors = (stopped_at, stopped_nowhere, stopped_nowhere_at, covered_on_the_way, ends_above)
 
 -- the names by which paths go on, by the first of them
 pub first_named : (w : PathPredicate) (ns rest : List (List ℕ × PathPredicate)) (e : List ℕ × PathPredicate) → AreNames w ns → ns ≡ e ∷ rest → after_step (Name e.0) w ≢ no_path

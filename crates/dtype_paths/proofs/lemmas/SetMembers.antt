@@ -125,12 +125,10 @@ union_insert s t p = same_by _ _ (λ q.
 pub insert_union : (s t : PathSet) (p : List Field) → set.union (set.insert s p) t ≡ set.insert (set.union s t) p
 insert_union s t p = union_swap (set.insert s p) t ∙ union_insert t s p ∙ ap (λ x. set.insert x p) (union_swap t s)
 
--- a loop that goes over a set or a list to its end has inserted all of it
-pub union_done : (s u : PathSet) → set.union s set.empty ≡ u → s ≡ u
-union_done s u same = sym (union_none s) ∙ same
-
-pub union_ended : (s u : PathSet) (xs : List (Bor (List Field))) → set.union s (set.from_list (map (λ x. x.now) xs)) ≡ u → xs ≡ [] → s ≡ u
-union_ended s u xs same end = sym (union_none s) ∙ ap (λ (ys : List (Bor (List Field))). set.union s (set.from_list (map (λ x. x.now) ys))) (sym end) ∙ same
+-- a loop that goes over the paths of a set to their end has inserted all of them
+pub union_ended : (s a b : PathSet) (xs : List (Bor (List Field))) → set.union s (set.from_list (map (λ x. x.now) xs)) ≡ set.union a b → length xs ≡ 0 → s ≡ set.union a b
+union_ended s a b [] same end = sym (union_none s) ∙ same
+union_ended s a b (x ∷ xs) same end = absurd (omega (arith, end))
 
 -- what is put in again changes nothing
 pub union_again : (s t u : PathSet) → u ≡ t → set.union (set.union s t) u ≡ set.union s t

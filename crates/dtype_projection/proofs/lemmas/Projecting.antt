@@ -3,7 +3,6 @@
 
 -- What callers ask of projections: of one projected again, of what the least paths keep, and of its nullability.
 use Rattle.std.proofs.Common.{◌≡◌, List, [], IsSome, IsTrue, Option, Some, None, true, refl, ap, sym, subst, ◌∙◌}
-use Rattle.std.proofs.lemmas.Bool.{false≢true}
 use Rattle.std.specs.FinSet as set
 use Rattle.std.specs.Option.{option_map}
 use Rattle.dtype_types.specs.nullability.Nullable.{nullability}
@@ -14,14 +13,13 @@ use Rattle.dtype_paths.specs.Along.{along}
 use Rattle.dtype_paths.specs.At.{At, ExistsIn}
 use Rattle.dtype_paths.specs.Covering.{covers}
 use Rattle.dtype_paths.specs.Overlaps.{Overlaps}
-use Rattle.dtype_paths.specs.PathOrder.{PathSet}
+use Rattle.dtype_paths.specs.PathOrder.{PathSet, path_cmp}
 use Rattle.dtype_paths.specs.declared.field.Field.{Field}
-use Rattle.dtype_paths.proofs.lemmas.SetCovers.{covers_member}
 use Rattle.dtype_paths.proofs.lemmas.SetMembers.{insert_has, one_only}
 use Rattle.dtype_paths.proofs.lemmas.Walks.{along-At, At-along}
 use Rattle.dtype_projection.specs.Projected.{PathPredicate, projected}
 use Rattle.dtype_projection.proofs.lemmas.Parts.{covered_is_kept, covered_set, kept_nullability, none_of_either, projected_once, projection_of_projection, same_for_least}
-use Rattle.dtype_projection.proofs.lemmas.Projections.{exists_in_kept, kept_exactly, kept_root}
+use Rattle.dtype_projection.proofs.lemmas.Projections.{exists_in_kept, kept_root}
 
 -- projecting again to the same set gives the same
 pub projected_same : (t u : Tree) (s : PathSet) → Some u ≡ projected t (set.contains s) → projected u (set.contains s) ≡ projected t (set.contains s)
@@ -59,18 +57,15 @@ pub ruleset projecting = (at_alike, exists_alike, covered_opened, root_opened, p
 
 -- ---- of one path, and of a path that none overlaps
 
--- to one path: something is opened exactly where the path is in the type
-pub one_opened : (r : Option DType) (t : Tree) (s : PathSet) (p : List Field) → option_map tree r ≡ projected t (set.contains s) → s ≡ set.insert set.empty p → ExistsIn t p → IsSome r
-one_opened r t s p is one x = covered_opened r t s p is (covers_member s p (ap (λ z. set.contains z p) one ∙ insert_has set.empty p)) x
+-- of the set of one path a member exists exactly where that path does, as the clause `some` of `project_paths` asks
+pub exists_one : (t : Tree) (p q : List Field) → IsTrue (set.contains (set.insert (set.empty {R = path_cmp}) p) q) → ExistsIn t q → ExistsIn t p
+exists_one t p q h x = subst (ExistsIn t) (one_only p q h) x
 
-pub opened_one : (r : Option DType) (t : Tree) (s : PathSet) (p : List Field) → option_map tree r ≡ projected t (set.contains s) → s ≡ set.insert set.empty p → IsSome r → ExistsIn t p
-opened_one None t s p is one h = absurd (false≢true h)
-opened_one (Some d) t s p is one h =
-    let w = (kept_exactly t (set.contains s)).0 (subst IsSome is refl) in
-    subst (ExistsIn t) (one_only p w.0 (ap (λ z. set.contains z w.0) (sym one) ∙ w.1)) w.2
+pub exists_one_of : (t : Tree) (s e : PathSet) (p q : List Field) → IsTrue (set.contains s q) → s ≡ set.insert e p → e ≡ set.empty → ExistsIn t q → ExistsIn t p
+exists_one_of t s e p q h one none x = exists_one t p q (ap (λ z. set.contains z q) (sym (one ∙ ap (λ z. set.insert z p) none)) ∙ h) x
 
 -- what no path of the set overlaps is gone
 pub untouched_gone : (t u : Tree) (s : PathSet) (q : List Field) → Some u ≡ projected t (set.contains s) → ((p : List Field) → IsTrue (set.contains s p) → Overlaps p q → ⊥) → ExistsIn u q → ⊥
 untouched_gone t u s q is apart x = let w = (exists_in_kept t u (set.contains s) q (sym is)).0 x in apart w.1.0 w.1.1 w.1.3
 
-pub ruleset projecting_one = (one_opened, opened_one, untouched_gone)
+pub ruleset projecting_one = (exists_one, exists_one_of, insert_has, untouched_gone)

@@ -11,6 +11,7 @@ ghost use Rattle.std.specs.Vec.Iter.{into_iter_items};
 ghost use Rattle.dtype_types.specs.tree.TreeOf.{tree};
 ghost use Rattle.vortex_dtype.specs.Along.{along};
 ghost use Rattle.vortex_dtype.specs.Covering.{covers, least};
+ghost use Rattle.vortex_dtype.specs.Overlaps.{Overlaps};
 ghost use Rattle.vortex_dtype.specs.PathOrder.{set_of};
 ghost use Rattle.vortex_dtype.specs.Types.Field.{Field};
 
@@ -471,6 +472,15 @@ pub fn number_to_open(asked: FieldPathSet) -> VortexResult<usize>
     ensures { IfOk result (λ n. n ≤ set.len asked) }
 {
     Ok(asked.into_iter()?.count())
+}
+
+/// The columns to open, of which no two overlap: nothing is read twice.
+#[tactic(auto, using(vortex_dtype::proofs::rulesets::opened_paths))]
+pub fn opened_apart(asked: FieldPathSet) -> VortexResult<vec::IntoIter<FieldPath>>
+    ensures { IfOk result (λ r. (p q : List Field) → Contains (into_iter_items r) p
+        → Contains (into_iter_items r) q → Overlaps p q → p ≡ q) }
+{
+    asked.into_iter()
 }
 
 /// The number of columns to open for a list: no more than the list has.

@@ -5,7 +5,7 @@
 //! over a slice of names.
 #![tactic(auto, using(vortex_dtype::proofs::rulesets::each_among))]
 
-ghost use Rattle.std.specs.Prelude.{◌↔◌, All, Any, IfNone, IfSome, IsTrue};
+ghost use Rattle.std.specs.Prelude.{◌↔◌, ◌<◌, ℕ, List, All, Any, Contains, IfNone, IfSome, IsTrue, length, slice_index_or};
 ghost use Rattle.dtype_types.specs.parts.Lookups.{field_names, variant_names};
 ghost use Rattle.dtype_types.specs.tree.TreeOf.{children, variant_list};
 ghost use Rattle.vortex_dtype.specs.Names.{IsAmong};
@@ -39,8 +39,9 @@ pub fn lacks_a_column(table: &StructFields, wanted: &[FieldName]) -> bool
         .any(|name| table.find(name.as_str()).is_none())
 }
 
-/// The first column that is wanted and that the table lacks, or `None` where it has all.
-pub fn first_missing<'a>(table: &StructFields, wanted: &'a [FieldName]) -> Option<&'a FieldName>
+/// A column that is wanted and that the table lacks, or `None` where it has all.
+pub fn missing<'a>(table: &StructFields, wanted: &'a [FieldName]) -> Option<&'a FieldName>
+    ensures wanted { IfSome result (λ n. Contains wanted.now n.now) }
     ensures missing { IfSome result (λ n. ¬ (IsAmong (field_names (children table.now)) n.now)) }
     ensures all { IfNone result (All (λ n. IsAmong (field_names (children table.now)) n) wanted.now) }
 {
@@ -49,9 +50,11 @@ pub fn first_missing<'a>(table: &StructFields, wanted: &'a [FieldName]) -> Optio
         .find(|name| table.find(name.as_str()).is_none())
 }
 
-/// The position of that column.
+/// The position of such a column among those that are wanted.
 pub fn position_of_missing(table: &StructFields, wanted: &[FieldName]) -> Option<usize>
-    ensures { IfNone result (All (λ n. IsAmong (field_names (children table.now)) n) wanted.now) }
+    ensures within { IfSome result (λ i. i < length wanted.now) }
+    ensures missing { IfSome result (λ i. (n : List ℕ) → ¬ (IsAmong (field_names (children table.now)) (slice_index_or wanted.now i n))) }
+    ensures all { IfNone result (All (λ n. IsAmong (field_names (children table.now)) n) wanted.now) }
 {
     wanted
         .iter()

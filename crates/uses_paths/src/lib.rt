@@ -4,13 +4,14 @@
 //! What a reader of files does with the library: functions as a user would write them, each with a contract of its own
 //! that is proved from the clauses of the calls that it makes and from the public rulesets. They are as those of
 //! `uses_types`, in a crate of their own, so that the gate proves the two side by side. `proofs/` has the measures of the
-//! recursions of `masks`, `cursors`, `descending` and `merging`, and answers for a loop of `path_sets`, a clause of
-//! `path_messages` and two functions of `descending`; the tactics find all else.
+//! recursions of `masks`, `cursors`, `descending` and `merging`, the invariants of the loops of `cursors` and
+//! `path_sets`, and proofs by hand for a loop of `path_sets`, a clause of `path_messages`, and two functions each of
+//! `cursors` and `descending`; the tactics find all else.
 //!
 //! - Which columns a query opens: `asked`, `binding` (those that a table lacks), `paths`, `path_sets`, `path_lists`,
 //!   `projections`, `opened`, `merging` (several files read as one), `intersecting` (two schemas that are both kept).
-//! - What is read further down: `masks`, `mask_lists`, `cursors`, `named` (the columns that are asked for, one by one), `descending` (a
-//!   table and a query at once), `layout`, `rows` (what is found).
+//! - What is read further down: `masks`, `mask_lists`, `cursors`, `named` (the columns that are asked for, one by one),
+//!   `descending` (a table and a query at once), `layout`, `rows` (what is found).
 //! - What is stored: `messages`, `path_messages`, `stored` (schemas written and read back).
 //! - Extensions: `sessions`, `plugins`, `dates`.
 #![tactic(auto)]

@@ -72,7 +72,7 @@ use Rattle.vortex_dtype.proofs.lemmas.Written.{written_is}
 -- the fields of a struct, also of one that is projected to one name
 pub ruleset structs = (fields_of_structs, projects_one)
 
--- where it leads where names are distinct, a field is removed, or one is added at the end
+-- where a name leads: where names are distinct, where a field is removed, and where one is added at the end
 pub ruleset distinct_fields = (fields_distinct, named_last, unplaced_unnamed)
 
 -- a nullability that is set on a whole type, which stays valid

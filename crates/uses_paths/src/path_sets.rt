@@ -447,6 +447,17 @@ pub fn number_asked(asked: &FieldPathSet) -> VortexResult<usize>
     Ok(asked.iter()?.count())
 }
 
+/// The number of paths that are asked for with one more: one more at most, and no fewer.
+#[tactic(auto, using(vortex_dtype::proofs::rulesets::count_bounds))]
+pub fn number_with(asked: FieldPathSet, path: FieldPath) -> VortexResult<usize>
+    ensures most { IfOk result (λ n. n ≤ set.len asked + 1) }
+    ensures least { IfOk result (λ n. set.len asked ≤ n) }
+{
+    let mut more = asked;
+    more.insert(path)?;
+    Ok(more.iter()?.count())
+}
+
 /// Whether no path is asked for.
 #[tactic(auto, using(vortex_dtype::proofs::rulesets::counting))]
 pub fn asks_for_nothing(asked: &FieldPathSet) -> VortexResult<bool>

@@ -240,14 +240,17 @@ pub fn with_column_renamed(
     ensures { IfOk result (λ s. (t : Tree) → first_named (children table.now) old.now ≡ Some t
         → first_named (children s) new.now ≡ Some t) }
 {
-    match (table.find(old), table.field(old)) {
-        (Some(index), Some(dtype)) => {
+    match table.find(old) {
+        Some(index) => {
             let names = FieldNames::from_texts(alloc, &[new])?;
-            let dtype = dtype.try_clone(alloc)?;
+            let dtype = match table.field(old) {
+                Some(dtype) => dtype.try_clone(alloc)?,
+                None => return Ok(table.try_clone(alloc)?),
+            };
             let column = StructFields::new(alloc, names, vec![in alloc; dtype]?)?;
             let rest = table.without_field(alloc, index)?;
             Ok(rest.disjoint_merge(alloc, &column)?)
         }
-        _ => Ok(table.try_clone(alloc)?),
+        None => Ok(table.try_clone(alloc)?),
     }
 }

@@ -2,10 +2,10 @@
 -- SPDX-FileCopyrightText: Copyright the Vortex contributors
 
 -- Hashes of names, how the bytes of a name are read, and the buckets of keys.
-use Rattle.std.proofs.Common.{◌≡◌, ℕ, zero, suc, ◌+◌, ◌-◌, ◌*◌, ◌/◌, ◌%◌, ◌<◌, ◌≤◌, ◌^◌, List, [], ◌∷◌, length, get_or, drop, refl, sym, ap, ◌∙◌, arith, add-mul, pow_mono, pow-suc}
+use Rattle.std.proofs.Common.{◌≡◌, ℕ, zero, suc, ◌+◌, ◌-◌, ◌*◌, ◌/◌, ◌%◌, ◌<◌, ◌≤◌, ◌^◌, List, [], ◌∷◌, length, get_or, drop, refl, sym, ap, ◌∙◌, arith, add-mul, pow-suc}
 use Rattle.std.specs.Int.{w64, from_be_bytes}
 use Rattle.std.proofs.Math.Nat.{div-lt_iff_lt-mul, mul-le-mul_right, mul-lt-mul_of_pos_right, mod-eq-sub-div-mul, div-mul-le_self}
-use Rattle.std.proofs.lemmas.Nat.{le-div, mod_low, pow-add}
+use Rattle.std.proofs.lemmas.Nat.{mod_low, pow-add}
 use Rattle.std.proofs.lemmas.List.{get_or_past, take_rest}
 use Rattle.dtype_base.specs.BinaryDigits.{binary_digits}
 use Rattle.dtype_base.specs.NameHashes.{big_endian, bucket_of_key, hash_of, key_of, mixed, without_bits, words_hash}
@@ -55,15 +55,6 @@ bucket_below count key some fits = (div-lt_iff_lt-mul (omega arith)).1 (omega (a
 -- a greater key isn't in a bucket before
 pub bucket_rises : (count a b : ℕ) → a ≤ b → bucket_of_key count a ≤ bucket_of_key count b
 bucket_rises count a b le = let more = mul-le-mul_right count le in omega (arith, more)
-
--- of a greater number what is left without its last bits isn't less
-pub without_bits_rises : (bits a b : ℕ) → a ≤ b → without_bits bits a ≤ without_bits bits b
-without_bits_rises bits a b le =
-    let room = 2 ^ bits in
-    let none : 0 ≤ bits = omega arith in
-    let some : 2 ^ 0 ≤ room = pow_mono none in
-    let more = mul-le-mul_right room (le-div (a / room) b room (omega (arith, some)) (omega (arith, le, div-mul-le_self a room))) in
-    omega (arith, more, mod-eq-sub-div-mul a room, mod-eq-sub-div-mul b room, div-mul-le_self a room, div-mul-le_self b room)
 
 -- a key is a multiple of the room that its last bits give
 key_is : (bits h : ℕ) → without_bits bits h ≡ h / 2 ^ bits * 2 ^ bits

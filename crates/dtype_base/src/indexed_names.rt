@@ -20,8 +20,9 @@ use std::marker::Model;
 /// A list of names with an index, so that a lookup compares few names. Its model is the list.
 #[derive(Debug, Drop)]
 pub struct IndexedNames {
-    names: FieldNames,
     index: NameIndex,
+    // The last, so that in a struct they lie beside the types: `==` of types reads both, and no index.
+    names: FieldNames,
 }
 
 impl Model for IndexedNames {

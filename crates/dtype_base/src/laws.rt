@@ -47,6 +47,18 @@ pub fn equal_where_the_same()
         → Decides (⟦<DecimalDType as PartialEq>⟧.eq a b) (a ≡ b) }
 {}
 
+/// `clone` of a type without a text gives the same value.
+pub fn clones_are_the_same()
+    ensures nullabilities { (a b : Nullability)
+        → ⟦<Nullability as Clone>⟧.is_clone a b → b ≡ a }
+    ensures primitive_types { (a b : PType)
+        → ⟦<PType as Clone>⟧.is_clone a b → b ≡ a }
+    ensures storage_types { (a b : DecimalType)
+        → ⟦<DecimalType as Clone>⟧.is_clone a b → b ≡ a }
+    ensures decimals { (a b : Decimal)
+        → ⟦<DecimalDType as Clone>⟧.is_clone a b → b ≡ a }
+{}
+
 /// `==` of names holds exactly where their bytes are the same, and of lists where the names are, in order.
 pub fn names_are_equal_where_their_bytes_are()
     ensures names { (a b : List ℕ) → Decides (⟦<FieldName as PartialEq>⟧.eq a b) (a ≡ b) }

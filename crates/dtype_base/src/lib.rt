@@ -6,12 +6,12 @@
 //! The contracts say that names are texts and name lists are lists, that the tables of primitive types and decimals
 //! hold, and when exactly each error is returned.
 //!
-//! Begin with `VortexError` (all errors of the workspace), then `Nullability`, `PType`,
-//! `DecimalDType`, `DecimalType`, `FieldName`, `FieldNames` and `IndexedNames`. The definitions that the
-//! contracts cite are in `specs/`: `Errors` (numbers), `Primitives` and `Decimals` (the two tables),
-//! `FieldNames` (`first_place`), `Comparisons`, `NameHashes` and `BinaryDigits` (the price of a lookup) and `Escapes` (the
-//! text of a name); `specs/private/` has those of the index of names, which no other crate cites. `laws` states the theorems about
-//! them. What is proved, and what is only tested, is in `docs/PROMISES.md`.
+//! Begin with `VortexError` (all errors of the workspace), then `Nullability`, `PType`, `DecimalDType`,
+//! `DecimalType`, `FieldName`, `FieldNames` and `IndexedNames`. The definitions that the contracts cite are in
+//! `specs/`: `Errors` (numbers), `Nullability`, `Primitives` and `Decimals` (the two tables), `Bytes`, `FieldNames`
+//! (`first_place`), `Distinct`, `Comparisons`, `NameHashes` and `BinaryDigits` (the price of a lookup) and `Escapes`
+//! (the text of a name); `specs/private/` has those of the index of names, which no other crate cites. `laws` states
+//! the theorems about them. What is proved, and what is only tested, is in `docs/PROMISES.md`.
 #![tactic(auto)]
 
 mod decimal;

@@ -81,14 +81,11 @@ fn mixed(hash: u64, word: u64) -> u64
     ((product / TWO_POW_64) as u64).wrapping_add((product % TWO_POW_64) as u64)
 }
 
-// The first eight bytes as one big-endian number, padded with zeros. A text of at least eight is read at once.
+// The bytes of a text of fewer than eight, padded with zeros, as one big-endian number.
 #[tactic(auto, using(crate::proofs::NameHashes::first_eight, crate::proofs::NameHashes::of_none))]
 fn load_u64(text: &[u8]) -> u64
     ensures { result ≡ big_endian 8 text.now }
 {
-    if text.len() >= 8 {
-        return first_word(text);
-    }
     if text.is_empty() {
         return 0;
     }

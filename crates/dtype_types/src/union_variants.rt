@@ -128,8 +128,16 @@ impl UnionVariants {
     ///
     /// # Errors
     ///
-    /// - `UnionTooMany` (14): there are more than 256 names. This is tested first.
-    /// - Those of `try_new` with these tags.
+    /// The first that applies:
+    ///
+    /// - `UnionTooMany` (14): there are more than 256 names.
+    /// - `UnionTypesLength` (10): there are more or fewer types than names.
+    /// - `UnionEmpty` (12): there are none.
+    /// - `UnionNamesRepeat` (15): a name is there twice.
+    ///
+    /// And where there are at most 256 names:
+    ///
+    /// - `OutOfMemory` (0): an allocation fails.
     pub fn new(alloc: Global, names: FieldNames, dtypes: Vec<DType>) -> VortexResult<Self>
         ensures variants { IfOk result (λ u. variant_list u
             ≡ zip names (zip (map tree dtypes.items) (range_with_len 0 (length names)))) }

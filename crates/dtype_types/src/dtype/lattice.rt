@@ -176,6 +176,6 @@ pub(crate) fn merge_under(
         (DType::Extension(t), DType::Extension(u)) => {
             Ok(DType::Extension(t.merge_under(alloc, u, rule)?))
         }
-        _ => a.try_clone(alloc),
+        _ => unreachable!(),
     }
 }

@@ -1,7 +1,7 @@
 -- SPDX-License-Identifier: Apache-2.0
 -- SPDX-FileCopyrightText: Copyright the Vortex contributors
 
-use Rattle.std.proofs.Common.{◌≡◌, length, ◌+◌, ap, ◌∙◌, arith, rules}
+use Rattle.std.proofs.Common.{◌≡◌, ap, arith, rules}
 use Rattle.std.proofs.lemmas.List.{length-map}
 use Rattle.dtype_base.specs.BinaryDigits.{binary_digits}
 use Rattle.dtype_base.specs.FieldNames.{first_place}

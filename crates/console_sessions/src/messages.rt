@@ -35,7 +35,8 @@ fn eq(call: &mut Call<'_>) -> ConsoleResult<()> {
 
 fn number(call: &mut Call<'_>) -> ConsoleResult<()> {
     let ptype: PType = call.last()?;
-    call.say(pb::PType::from(ptype).number())
+    let copy = pb::PType::from(ptype).try_clone(call.alloc)?;
+    call.say(copy.number())
 }
 
 fn from_number(call: &mut Call<'_>) -> ConsoleResult<()> {

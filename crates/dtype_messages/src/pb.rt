@@ -155,11 +155,13 @@ pub struct Struct {
 #[derive(Debug, PartialEq, Eq, Drop)]
 #[cycle(message)]
 pub struct Union {
-    /// The variants' names, in order.
+    /// The variants' names, in order. Reading a union without any returns `UnionEmpty` (12), and one with a name that is
+    /// there twice `UnionNamesRepeat` (15).
     pub names: Vec<String>,
     /// The variants' types, in order. Reading more or fewer than names returns `UnionTypesLength` (10).
     pub dtypes: Vec<DType>,
-    /// The variants' tags, in order. Reading accepts 0 to 255, each once; another returns `TypeIdRange` (33).
+    /// The variants' tags, in order. Reading a tag that isn't from 0 to 255 returns `TypeIdRange` (33), more or fewer
+    /// tags than names `UnionTagsLength` (11), and a tag that is there twice `UnionTagsRepeat` (13).
     pub type_ids: Vec<i32>,
     /// Whether values may be null.
     pub nullable: bool,
@@ -271,6 +273,17 @@ impl PType {
             PType::F64 => 10,
         }
     }
+
+    /// Returns an equal copy.
+    ///
+    /// # Errors
+    ///
+    /// None: it holds nothing on the heap.
+    pub fn try_clone(&self, _alloc: Global) -> VortexResult<PType>
+        ensures { result ≡ Ok self.now }
+    {
+        Ok(*self)
+    }
 }
 
 impl From<PType> for dtype_base::PType {
@@ -314,7 +327,11 @@ impl From<dtype_base::PType> for PType {
 }
 
 impl Null {
-    /// Returns an equal copy. It holds nothing on the heap, so this never fails.
+    /// Returns an equal copy.
+    ///
+    /// # Errors
+    ///
+    /// None: it holds nothing on the heap.
     pub fn try_clone(&self, _alloc: Global) -> VortexResult<Null>
         ensures { result ≡ Ok self.now }
     {
@@ -323,7 +340,11 @@ impl Null {
 }
 
 impl Bool {
-    /// Returns an equal copy. It holds nothing on the heap, so this never fails.
+    /// Returns an equal copy.
+    ///
+    /// # Errors
+    ///
+    /// None: it holds nothing on the heap.
     pub fn try_clone(&self, _alloc: Global) -> VortexResult<Bool>
         ensures { result ≡ Ok self.now }
     {
@@ -334,7 +355,11 @@ impl Bool {
 }
 
 impl Primitive {
-    /// Returns an equal copy. It holds nothing on the heap, so this never fails.
+    /// Returns an equal copy.
+    ///
+    /// # Errors
+    ///
+    /// None: it holds nothing on the heap.
     pub fn try_clone(&self, _alloc: Global) -> VortexResult<Primitive>
         ensures { result ≡ Ok self.now }
     {
@@ -346,7 +371,11 @@ impl Primitive {
 }
 
 impl Decimal {
-    /// Returns an equal copy. It holds nothing on the heap, so this never fails.
+    /// Returns an equal copy.
+    ///
+    /// # Errors
+    ///
+    /// None: it holds nothing on the heap.
     pub fn try_clone(&self, _alloc: Global) -> VortexResult<Decimal>
         ensures { result ≡ Ok self.now }
     {
@@ -359,7 +388,11 @@ impl Decimal {
 }
 
 impl Utf8 {
-    /// Returns an equal copy. It holds nothing on the heap, so this never fails.
+    /// Returns an equal copy.
+    ///
+    /// # Errors
+    ///
+    /// None: it holds nothing on the heap.
     pub fn try_clone(&self, _alloc: Global) -> VortexResult<Utf8>
         ensures { result ≡ Ok self.now }
     {
@@ -370,7 +403,11 @@ impl Utf8 {
 }
 
 impl Binary {
-    /// Returns an equal copy. It holds nothing on the heap, so this never fails.
+    /// Returns an equal copy.
+    ///
+    /// # Errors
+    ///
+    /// None: it holds nothing on the heap.
     pub fn try_clone(&self, _alloc: Global) -> VortexResult<Binary>
         ensures { result ≡ Ok self.now }
     {
@@ -381,7 +418,11 @@ impl Binary {
 }
 
 impl Variant {
-    /// Returns an equal copy. It holds nothing on the heap, so this never fails.
+    /// Returns an equal copy.
+    ///
+    /// # Errors
+    ///
+    /// None: it holds nothing on the heap.
     pub fn try_clone(&self, _alloc: Global) -> VortexResult<Variant>
         ensures { result ≡ Ok self.now }
     {
